@@ -1,16 +1,5 @@
 // The sinks in memory.
-ghost use Rattle.std.specs.Prelude.{
-  ◌≡◌,
-  ◌<◌,
-  [],
-  None,
-  Some,
-  Contains,
-  IfOk,
-  IsErr,
-  OnErr,
-  length,
-};
+ghost use Rattle.std.specs.Prelude.{◌≡◌, ◌<◌, [], None, Some, Contains, IfOk, IsErr, OnErr, length};
 ghost use Rattle.std.specs.Io.{WritesAtMost};
 ghost use Rattle.std.specs.Io.KnownBytes.{WriteAppends};
 ghost use Rattle.ufs_io.specs.Causes.{HasCause, raised};

@@ -1,20 +1,5 @@
 // The sources in memory.
-ghost use Rattle.std.specs.Prelude.{
-  ◌≡◌,
-  ◌-◌,
-  ◌≤◌,
-  ◌++◌,
-  ◌↔◌,
-  Some,
-  Contains,
-  IfOk,
-  IsErr,
-  OnErr,
-  drop,
-  length,
-  min,
-  take,
-};
+ghost use Rattle.std.specs.Prelude.{◌≡◌, ◌-◌, ◌≤◌, ◌++◌, ◌↔◌, Some, Contains, IfOk, IsErr, OnErr, drop, length, min, take};
 ghost use Rattle.std.specs.Io.{ReadsAtMost};
 ghost use Rattle.std.specs.Io.KnownBytes.{ReadConsumes};
 ghost use Rattle.ufs_io.specs.Causes.{HasCause, raised};
