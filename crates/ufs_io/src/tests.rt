@@ -10,7 +10,7 @@ use std::rt::Clock as SystemClock;
 use std::test::Fail;
 use std::time::Duration;
 
-// A reader that gives two bytes a call at most, and fails at its second call.
+// A reader of bytes in memory that fails at its second call.
 #[derive(Drop)]
 struct StumblingReader<'a> {
     rest: &'a [u8],
