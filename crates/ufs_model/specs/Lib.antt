@@ -5,6 +5,7 @@ pub mod Paths
 pub mod PosixTree
 pub mod Posix
 pub mod Start
+pub mod PathEntries
 pub mod Holders
 pub mod Parts
 pub mod History

@@ -1,0 +1,8 @@
+use Rattle.ufs_model.specs.Order.{path_cmp}
+use Rattle.ufs_model.specs.PathEntries.{pairs_of}
+use Rattle.ufs_model.proofs.SeenLemmas.{path_total, path_same}
+use Rattle.ufs_model.proofs.RisingLemmas.{entries-rising}
+use Rattle.ufs_model.proofs.path_tree.PathTree.from_vec.Goals as goal
+
+pub returns-clause-entries : goal.returns-clause-entries
+returns-clause-entries c = entries-rising path_cmp path_total path_same (pairs_of c.args.entries.items) c.requires
