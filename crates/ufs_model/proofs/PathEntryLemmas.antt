@@ -12,7 +12,7 @@ use Rattle.ufs_model.proofs.SeenLemmas.{path_total}
 use Rattle.ufs_model.proofs.RisingLemmas.{rises, rises_on}
 
 -- the entries from a place on
-from_place : (es : List PathEntry) (i : ℕ) (d : PathEntry) → i < length es → drop i es ≡ get_or es i d ∷ drop (i + 1) es
+pub from_place : (es : List PathEntry) (i : ℕ) (d : PathEntry) → i < length es → drop i es ≡ get_or es i d ∷ drop (i + 1) es
 from_place es i d h = drop-cons es i d h ∙ ap (λ k. get_or es i d ∷ drop k es) (sym (add-one i))
 
 neighbours : (es : List PathEntry) (i j : ℕ) (d e : PathEntry) → i ≡ j + 1 → i < length es → are_rising (drop j es) ≡ (is_lt (path_cmp (get_or es j d).path (get_or es i e).path) && are_rising (drop i es))

@@ -17,12 +17,13 @@ use Rattle.std.specs.FinMap.Entries.{below_all}
 use Rattle.ufs_model.specs.Order.{path_cmp, fd_cmp}
 use Rattle.ufs_model.specs.declared.data.Desc.{Desc}
 use Rattle.ufs_model.specs.Paths.{IsWhole, parent_of}
-use Rattle.ufs_model.specs.PosixTree.{PosixTree, IsNamespace, IsTree, is_node_of, is_desc_of, is_dir, is_live, stands, has_dir, root, root_alone}
+use Rattle.ufs_model.specs.Placed.{IsOneEach}
+use Rattle.ufs_model.specs.PosixTree.{IsNamespace, IsTree, is_node_of, is_desc_of, is_dir, is_live, stands, has_dir, root, root_alone}
 use Rattle.ufs_model.specs.Holders.{Counts, count_at, holders, IsCounted}
 use Rattle.ufs_model.specs.declared.data.Node.TheVariants.{File}
 use Rattle.ufs_model.specs.declared.data.PathNode.{PathNode}
 use Rattle.ufs_model.specs.declared.data.PathNode.TheVariants as path_node
-use Rattle.ufs_model.specs.Start.{PathNodes, IsPathTree, path_root, start_of, is_path_dir, node_from, next_after, bytes_onto, paths_from, bytes_from, next_from}
+use Rattle.ufs_model.specs.Start.{PathNodes, IsPathTree, path_root, start_from, start_of, is_path_dir, node_from, next_after, bytes_onto, paths_from, bytes_from, next_from}
 
 abbrev pub Pairs : Type 0
 Pairs = List (List ℕ × PathNode)
@@ -44,6 +45,10 @@ onto-append n (path_node.File bytes) xs ys = refl
 pub bytes_from-push : (n : ℕ) (es : Pairs) (e : List ℕ × PathNode) → bytes_from n (es ++ e ∷ []) ≡ bytes_from n es ++ bytes_onto (next_from n es) e.1 []
 bytes_from-push n [] e = refl
 bytes_from-push n (x ∷ es) e = ap (bytes_onto n x.1) (bytes_from-push (next_after n x.1) es e) ∙ onto-append n x.1 _ _
+
+pub next_from-append : (n : ℕ) (es fs : Pairs) → next_from n (es ++ fs) ≡ next_from (next_from n es) fs
+next_from-append n [] fs = refl
+next_from-append n (x ∷ es) fs = next_from-append (next_after n x.1) es fs
 
 -- ---- the paths are the same, and so is what stands there
 
@@ -96,7 +101,7 @@ within_once : (n m f : ℕ) → n + 1 ≤ m → cond (eqb n f) 1 0 + cond (is_wi
 unfolding is_within
 within_once n m f h = grind (arith, nat_tests)
 
-tie : (f n : ℕ) → eq_by_cmp nat_cmp f n ≡ eqb n f
+pub tie : (f n : ℕ) → eq_by_cmp nat_cmp f n ≡ eqb n f
 tie f n = grind (arith, nat_tests)
 
 pub next_rises : (n : ℕ) (es : Pairs) → n ≤ next_from n es
@@ -173,7 +178,7 @@ start_is_tree nodes tree = record {
 }
 
 -- one path names each file
-pub start_counted : (nodes : PathNodes) (counts : Counts) → ((f : ℕ) → count_at counts f ≡ cond (ltb f (start_of nodes).next) 1 0) → IsCounted (start_of nodes).paths (start_of nodes).fds counts
+pub start_counted : (nodes : PathNodes) (counts : Counts) → IsOneEach counts (start_of nodes).next → IsCounted (start_of nodes).paths (start_of nodes).fds counts
 start_counted nodes counts once f =
     once f
     ∙ ap (λ b. cond b 1 0) (sym (within_zero (start_of nodes).next f))
@@ -215,6 +220,3 @@ root_entries = entries-insert path_total map.empty root path_node.Dir ∙ ap (ma
 
 pub start_of-root : start_of path_root ≡ root_alone
 start_of-root = ap start_from root_entries
-  where
-    start_from : Pairs → PosixTree
-    start_from es = record { paths = map.from_entries (paths_from 0 es); bytes = map.from_entries (bytes_from 0 es); fds = map.empty; next = next_from 0 es }

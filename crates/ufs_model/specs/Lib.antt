@@ -8,5 +8,6 @@ pub mod Start
 pub mod PathEntries
 pub mod Holders
 pub mod Parts
+pub mod Placed
 pub mod History
 pub mod Laws

@@ -53,10 +53,14 @@ abbrev pub next_from : ℕ → List (List ℕ × PathNode) → ℕ
 next_from next [] = next
 next_from next (e ∷ es) = next_from (next_after next e.1) es
 
-abbrev pub start_of : PathNodes → PosixTree
-start_of nodes = record {
-  paths = map.from_entries (paths_from 0 (map.entries nodes));
-  bytes = map.from_entries (bytes_from 0 (map.entries nodes));
+-- the tree of paths that are given in rising order
+abbrev pub start_from : List (List ℕ × PathNode) → PosixTree
+start_from es = record {
+  paths = map.from_entries (paths_from 0 es);
+  bytes = map.from_entries (bytes_from 0 es);
   fds = map.empty;
-  next = next_from 0 (map.entries nodes);
+  next = next_from 0 es;
 }
+
+abbrev pub start_of : PathNodes → PosixTree
+start_of nodes = start_from (map.entries nodes)

@@ -1,0 +1,27 @@
+use Rattle.std.proofs.Common.{◌≡◌, ap, sym, subst, ◌∙◌}
+use Rattle.std.specs.FinMap as map
+use Rattle.ufs_model.specs.Parts.{tree_of, IsSound}
+use Rattle.ufs_model.specs.Holders.{IsCounted}
+use Rattle.ufs_model.specs.Placed.{IsOneEach}
+use Rattle.ufs_model.specs.PosixTree.{PosixTree, IsTree}
+use Rattle.ufs_model.specs.Start.{start_from, start_of}
+use Rattle.ufs_model.proofs.StartLemmas.{start_is_tree, start_counted}
+use Rattle.ufs_model.proofs.tree.Tree.start.Goals as goal
+use Rattle.ufs_model.proofs.tree.Tree.start.Goals.{In_ok-parts}
+
+-- the maps are those of the tree
+started : (c : In_ok-parts) → tree_of c.in_ok-parts.parts ≡ start_of c.args.paths.now
+started c = c.in_ok-parts.ensures.tree ∙ ap start_from c.as_slice.ensures.entries
+
+is_tree : (c : In_ok-parts) → IsTree (tree_of c.in_ok-parts.parts)
+is_tree c = subst (λ (t : PosixTree). IsTree t) (sym (started c)) (start_is_tree c.args.paths.now c.requires.paths)
+
+pub invariant_of-result : goal.invariant_of-result
+invariant_of-result c = record {
+  tree = is_tree c;
+  counted = subst (λ (t : PosixTree). IsCounted t.paths t.fds c.in_ok-parts.parts.counts) (sym (started c))
+    (start_counted c.args.paths.now c.in_ok-parts.parts.counts (subst (λ (t : PosixTree). IsOneEach c.in_ok-parts.parts.counts t.next) (started c) c.in_ok-parts.ensures.counts));
+}
+
+pub returns-clause-tree : goal.returns-clause-tree
+returns-clause-tree c = is_tree c
