@@ -82,7 +82,7 @@ dirs-paths_from q n (e ∷ es) =
 
 -- ---- the numbers that are given: each from the first to the next, once
 
-pub is_within : ℕ → ℕ → ℕ → Bool
+unfoldable pub is_within : ℕ → ℕ → ℕ → Bool
 is_within n m f = leb n f && ltb f m
 
 pub within_zero : (m f : ℕ) → is_within 0 m f ≡ ltb f m

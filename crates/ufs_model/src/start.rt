@@ -4,7 +4,7 @@ ghost use Rattle.ufs_model.specs.Parts.{tree_of};
 ghost use Rattle.ufs_model.specs.PathEntries.{pairs_of, are_rising};
 ghost use Rattle.ufs_model.specs.Placed.{with_path, IsOneEach};
 ghost use Rattle.ufs_model.specs.PosixTree.{IsTree};
-ghost use Rattle.ufs_model.specs.Start.{IsPathTree, start_from, start_of, next_after};
+ghost use Rattle.ufs_model.specs.Start.{IsPathTree, HasContents, IsNumberedByPath, start_from, start_of, next_after};
 
 use crate::Memory;
 use crate::data::{Node, PathEntry, PathNode};
@@ -64,6 +64,8 @@ impl Tree {
         requires files { (start_of paths.now).next ≤ 2 ^ 31 }
         ensures start { IfOk result (λ tree. tree ≡ start_of paths.now) }
         ensures tree { IfOk result (λ tree. IsTree tree) }
+        ensures contents { IfOk result (λ tree. HasContents tree paths.now) }
+        ensures numbers { IfOk result (λ tree. IsNumberedByPath tree) }
     {
         let parts = numbered(alloc, paths.as_slice())?;
         Ok(Tree { parts })

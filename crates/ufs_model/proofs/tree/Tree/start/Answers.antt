@@ -4,8 +4,9 @@ use Rattle.ufs_model.specs.Parts.{tree_of, IsSound}
 use Rattle.ufs_model.specs.Holders.{IsCounted}
 use Rattle.ufs_model.specs.Placed.{IsOneEach}
 use Rattle.ufs_model.specs.PosixTree.{PosixTree, IsTree}
-use Rattle.ufs_model.specs.Start.{start_from, start_of}
+use Rattle.ufs_model.specs.Start.{HasContents, IsNumberedByPath, start_from, start_of}
 use Rattle.ufs_model.proofs.StartLemmas.{start_is_tree, start_counted}
+use Rattle.ufs_model.proofs.ContentLemmas.{start_has_contents, start_is_numbered}
 use Rattle.ufs_model.proofs.tree.Tree.start.Goals as goal
 use Rattle.ufs_model.proofs.tree.Tree.start.Goals.{In_ok-parts}
 
@@ -25,3 +26,9 @@ invariant_of-result c = record {
 
 pub returns-clause-tree : goal.returns-clause-tree
 returns-clause-tree c = is_tree c
+
+pub returns-clause-contents : goal.returns-clause-contents
+returns-clause-contents c = subst (λ (t : PosixTree). HasContents t c.args.paths.now) (sym (started c)) (start_has_contents c.args.paths.now)
+
+pub returns-clause-numbers : goal.returns-clause-numbers
+returns-clause-numbers c = subst (λ (t : PosixTree). IsNumberedByPath t) (sym (started c)) (start_is_numbered c.args.paths.now)
