@@ -58,8 +58,8 @@ module _ (es : List PathEntry) (i : ℕ) (d : PathEntry) (below : i < length es)
   next_fits t is =
       let e : List ℕ × PathNode = ((get_or es i d).path, (get_or es i d).node) in
       subst (λ (all : Pairs). next_after t.next e.1 ≤ (start_from all).next) divided
-        (subst (λ (u : PosixTree). next_after u.next e.1 ≤ (start_from (pairs_of (take i es) ++ e ∷ pairs_of (drop (i + 1) es))).next) (sym is)
-          (numbers_fit (pairs_of (take i es)) e (pairs_of (drop (i + 1) es))))
+      (subst (λ (u : PosixTree). next_after u.next e.1 ≤ (start_from (pairs_of (take i es) ++ e ∷ pairs_of (drop (i + 1) es))).next) (sym is)
+      (numbers_fit (pairs_of (take i es)) e (pairs_of (drop (i + 1) es))))
 
   pub next_placed : (t t' : PosixTree) → are_rising es ≡ true → t ≡ start_from (pairs_of (take i es)) → t' ≡ with_path t (get_or es i d).path (get_or es i d).node → t' ≡ start_from (pairs_of (take (i + 1) es))
   next_placed t t' rising is placed =

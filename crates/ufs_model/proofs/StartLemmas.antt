@@ -1,8 +1,8 @@
 -- The tree that a session begins with, a path at a time, and that it is a tree.
-use Rattle.ufs_model.proofs.SeenLemmas.{path_total, path_same, fd_total, entries-empty}
-use Rattle.ufs_model.proofs.RisingLemmas.{entries-rising, entries-rise, find-earlier}
-use Rattle.std.proofs.Common.{◌≡◌, ℕ, ◌+◌, ◌≤◌, ◌<◌, List, [], ◌∷◌, ◌++◌, Bool, true, false, cond, ◌&&◌, ◌||◌, eqb, ltb, leb, Some, None, Option, ap, sym, refl, subst, ◌∙◌, arith, add-zero}
-use Rattle.std.proofs.lemmas.Bool.{and_parts, ltb-true, le-ltb}
+use Rattle.ufs_model.proofs.SeenLemmas.{path_total, path_same, entries-empty}
+use Rattle.ufs_model.proofs.RisingLemmas.{entries-rising, entries-rise}
+use Rattle.std.proofs.Common.{◌≡◌, ℕ, ◌+◌, ◌≤◌, List, [], ◌∷◌, ◌++◌, Bool, true, false, cond, ◌&&◌, ◌||◌, eqb, ltb, leb, Some, Option, ap, sym, refl, subst, ◌∙◌, arith, add-zero}
+use Rattle.std.proofs.lemmas.Bool.{ltb-true}
 use Rattle.std.proofs.lemmas.Bool.Decides.{nat_tests}
 use Rattle.std.proofs.lemmas.List.Sums.{sum_by-cons}
 use Rattle.std.specs.Prelude.{is_some}
@@ -12,14 +12,14 @@ use Rattle.std.specs.List.{AllByRecursion, list_any, count_by}
 use Rattle.std.specs.declared.cmp.Ordering.TheVariants.{Less, Equal, Greater}
 use Rattle.std.specs.Map.{keys_of, values_of}
 use Rattle.std.specs.FinMap as map
-use Rattle.std.specs.FinMap.{find, is_sorted, get-entries, get-from_entries, entries-insert, IsAntisymmetric, nat_cmp-IsAntisymmetric, from_entries_push}
+use Rattle.std.specs.FinMap.{find, is_sorted, get-entries, get-from_entries, entries-insert}
 use Rattle.std.specs.FinMap.Entries.{below_all}
 use Rattle.ufs_model.specs.Order.{path_cmp, fd_cmp}
 use Rattle.ufs_model.specs.declared.data.Desc.{Desc}
 use Rattle.ufs_model.specs.Paths.{IsWhole, parent_of}
 use Rattle.ufs_model.specs.Placed.{IsOneEach}
 use Rattle.ufs_model.specs.PosixTree.{IsNamespace, IsTree, is_node_of, is_desc_of, is_dir, is_live, stands, has_dir, root, root_alone}
-use Rattle.ufs_model.specs.Holders.{Counts, count_at, holders, IsCounted}
+use Rattle.ufs_model.specs.Holders.{Counts, IsCounted}
 use Rattle.ufs_model.specs.declared.data.Node.TheVariants.{File}
 use Rattle.ufs_model.specs.declared.data.PathNode.{PathNode}
 use Rattle.ufs_model.specs.declared.data.PathNode.TheVariants as path_node
@@ -172,7 +172,7 @@ live-start nodes f =
 pub start_is_tree : (nodes : PathNodes) → IsPathTree nodes → IsTree (start_of nodes)
 start_is_tree nodes tree = record {
   namespace = subst (λ (s : List ℕ → Bool). IsNamespace s (has_dir (start_of nodes).paths)) (λ i q. stands-start nodes q i)
-    (subst (λ (d : List ℕ → Bool). IsNamespace (λ path. is_some (map.get nodes path)) d) (λ i q. dirs-start nodes q i) tree);
+      (subst (λ (d : List ℕ → Bool). IsNamespace (λ path. is_some (map.get nodes path)) d) (λ i q. dirs-start nodes q i) tree);
   live = λ f. held-start nodes f ∙ live-start nodes f;
   numbered = λ f held. ltb-true f _ (sym (held-start nodes f) ∙ held);
 }

@@ -29,13 +29,11 @@ fn file(alloc: Global, path: &[u8], bytes: &[u8]) -> Result<PathEntry, Memory>
 }
 
 fn some_paths(alloc: Global) -> Result<Vec<PathEntry>, Memory>
-    ensures {
-        IfOk result (λ v. pairs_of v.items ≡ (codes "/", path_node.Dir)
-            ∷ (codes "/a", path_node.Dir)
-            ∷ (codes "/a/f", path_node.File (codes "abc"))
-            ∷ (codes "/g", path_node.File [])
-            ∷ [])
-    }
+    ensures { IfOk result (λ v. pairs_of v.items ≡ (codes "/", path_node.Dir)
+        ∷ (codes "/a", path_node.Dir)
+        ∷ (codes "/a/f", path_node.File (codes "abc"))
+        ∷ (codes "/g", path_node.File [])
+        ∷ []) }
 {
     let mut entries = Vec::new(alloc);
     entries.push(dir(alloc, b"/")?)?;

@@ -1,9 +1,7 @@
-use Rattle.std.proofs.Common.{ap, sym, subst, ◌∙◌, ◌≤◌, ◌^◌, arith, ◌≡◌, get_or, ◌+◌, take, take_all, length}
-use Rattle.std.specs.FinMap as map
+use Rattle.std.proofs.Common.{ap, sym, subst, ◌∙◌, ◌≤◌, arith}
 use Rattle.ufs_model.specs.Parts.{tree_of}
 use Rattle.ufs_model.specs.PathEntries.{pairs_of}
 use Rattle.ufs_model.specs.Placed.{with_path}
-use Rattle.ufs_model.specs.PosixTree.{PosixTree}
 use Rattle.ufs_model.specs.Start.{start_from, next_after}
 use Rattle.ufs_model.specs.declared.data.PathEntry.{PathEntry}
 use Rattle.ufs_model.proofs.PlacedLemmas.{next_fits, next_placed, none_yet}
@@ -30,6 +28,6 @@ loop-entry-preserved c =
     let i = c.loop-entry.entry-index in
     record {
       tree = next_placed es i c.entry-item.result c.loop-entry-test.true (tree_of c.loop-entry.parts) (tree_of c.place.new.parts) c.requires.rising c.loop-entry.invariant.tree
-        (c.in_ok-place.ensures.tree ∙ ap (λ (e : PathEntry). with_path (tree_of c.loop-entry.parts) e.path e.node) c.entry-item.is);
+          (c.in_ok-place.ensures.tree ∙ ap (λ (e : PathEntry). with_path (tree_of c.loop-entry.parts) e.path e.node) c.entry-item.is);
       counts = c.in_ok-place.ensures.counts;
     }

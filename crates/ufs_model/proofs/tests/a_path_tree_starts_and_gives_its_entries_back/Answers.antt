@@ -11,10 +11,15 @@ some_pairs = (codes "/", path_node.Dir) ∷ (codes "/a", path_node.Dir) ∷ (cod
 some_tree : IsPathTree (map.from_entries some_pairs)
 unfolding some_pairs
 some_tree = path_tree_of some_pairs refl (
+  (record { spelled = refl; allowed = refl }, refl),
+  (
     (record { spelled = refl; allowed = refl }, refl),
-    ((record { spelled = refl; allowed = refl }, refl),
-    ((record { spelled = refl; allowed = refl }, refl),
-    ((record { spelled = refl; allowed = refl }, refl), tt))))
+    (
+      (record { spelled = refl; allowed = refl }, refl),
+      ((record { spelled = refl; allowed = refl }, refl), tt),
+    ),
+  ),
+)
 
 pub start-requires-clause-paths : goal.start-requires-clause-paths
 unfolding some_pairs

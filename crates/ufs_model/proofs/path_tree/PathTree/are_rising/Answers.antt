@@ -1,6 +1,4 @@
-use Rattle.std.proofs.Common.{◌≡◌, ◌-◌, ap, sym, ◌∙◌, arith, true, false, get_or}
-use Rattle.std.specs.Ordering.{is_ge}
-use Rattle.ufs_model.specs.Order.{path_cmp}
+use Rattle.std.proofs.Common.{sym, ◌∙◌}
 use Rattle.ufs_model.proofs.PathEntryLemmas.{rising_more, rising_no_more, rising_last}
 use Rattle.ufs_model.proofs.path_tree.PathTree.are_rising.Goals as goal
 

@@ -1,6 +1,5 @@
 use Rattle.std.proofs.Common.{◌≡◌, ap, sym, subst, ◌∙◌}
-use Rattle.std.specs.FinMap as map
-use Rattle.ufs_model.specs.Parts.{tree_of, IsSound}
+use Rattle.ufs_model.specs.Parts.{tree_of}
 use Rattle.ufs_model.specs.Holders.{IsCounted}
 use Rattle.ufs_model.specs.Placed.{IsOneEach}
 use Rattle.ufs_model.specs.PosixTree.{PosixTree, IsTree}
@@ -21,7 +20,7 @@ pub invariant_of-result : goal.invariant_of-result
 invariant_of-result c = record {
   tree = is_tree c;
   counted = subst (λ (t : PosixTree). IsCounted t.paths t.fds c.in_ok-parts.parts.counts) (sym (started c))
-    (start_counted c.args.paths.now c.in_ok-parts.parts.counts (subst (λ (t : PosixTree). IsOneEach c.in_ok-parts.parts.counts t.next) (started c) c.in_ok-parts.ensures.counts));
+      (start_counted c.args.paths.now c.in_ok-parts.parts.counts (subst (λ (t : PosixTree). IsOneEach c.in_ok-parts.parts.counts t.next) (started c) c.in_ok-parts.ensures.counts));
 }
 
 pub returns-clause-tree : goal.returns-clause-tree
