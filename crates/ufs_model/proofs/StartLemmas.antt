@@ -1,9 +1,10 @@
 -- The tree that a session begins with, a path at a time, and that it is a tree.
 use Rattle.ufs_model.proofs.SeenLemmas.{path_total, path_same, entries-empty}
 use Rattle.ufs_model.proofs.RisingLemmas.{entries-rising, entries-rise}
-use Rattle.std.proofs.Common.{◌≡◌, ℕ, ◌+◌, ◌≤◌, List, [], ◌∷◌, ◌++◌, Bool, true, false, cond, ◌&&◌, ◌||◌, eqb, ltb, leb, Some, Option, ap, sym, refl, subst, ◌∙◌, arith, add-zero}
+use Rattle.std.proofs.Common.{◌≡◌, ℕ, ◌+◌, ◌≤◌, List, [], ◌∷◌, ◌++◌, Bool, true, false, cond, ◌&&◌, ◌||◌, eqb, ltb, leb, Some, Option, ap, sym, refl, subst, ◌∙◌, arith, add-zero, length}
 use Rattle.std.proofs.lemmas.Bool.{ltb-true}
 use Rattle.std.proofs.lemmas.Bool.Decides.{nat_tests}
+use Rattle.std.proofs.lemmas.List.{length-map}
 use Rattle.std.proofs.lemmas.List.Sums.{sum_by-cons}
 use Rattle.std.specs.Prelude.{is_some}
 use Rattle.std.specs.Ordering.{nat_cmp, is_lt, is_eq, eq_by_cmp}
@@ -21,6 +22,8 @@ use Rattle.ufs_model.specs.Placed.{IsOneEach}
 use Rattle.ufs_model.specs.PosixTree.{IsNamespace, IsTree, is_node_of, is_desc_of, is_dir, is_live, stands, has_dir, root, root_alone}
 use Rattle.ufs_model.specs.Holders.{Counts, IsCounted}
 use Rattle.ufs_model.specs.declared.data.Node.TheVariants.{File}
+use Rattle.ufs_model.specs.PathEntries.{pairs_of}
+use Rattle.ufs_model.specs.declared.data.PathEntry.{PathEntry}
 use Rattle.ufs_model.specs.declared.data.PathNode.{PathNode}
 use Rattle.ufs_model.specs.declared.data.PathNode.TheVariants as path_node
 use Rattle.ufs_model.specs.Start.{PathNodes, IsPathTree, path_root, start_from, start_of, is_path_dir, node_from, next_after, bytes_onto, paths_from, bytes_from, next_from}
@@ -108,6 +111,18 @@ pub next_rises : (n : ℕ) (es : Pairs) → n ≤ next_from n es
 next_rises n [] = omega arith
 next_rises n ((p, path_node.Dir) ∷ es) = next_rises n es
 next_rises n ((p, path_node.File bytes) ∷ es) = omega (arith, next_rises (n + 1) es)
+
+few_files : (n : ℕ) (es : Pairs) → next_from n es ≤ n + length es
+few_files n [] = omega arith
+few_files n ((p, path_node.Dir) ∷ es) = omega (arith, few_files n es)
+few_files n ((p, path_node.File bytes) ∷ es) = omega (arith, few_files (n + 1) es)
+
+-- there are no more files than paths
+pub files_of : (entries : List PathEntry) (nodes : PathNodes) → pairs_of entries ≡ map.entries nodes → (start_of nodes).next ≤ length entries
+files_of entries nodes is =
+    let all : next_from 0 (pairs_of entries) ≤ length entries =
+    omega (arith, few_files 0 (pairs_of entries), length-map {B = List ℕ × PathNode} entries (λ (e : PathEntry). (e.path, e.node))) in
+    subst (λ (es : Pairs). next_from 0 es ≤ length entries) is all
 
 pub live-paths_from : (f n : ℕ) (es : Pairs) → list_any (is_node_of f) (values_of (paths_from n es)) ≡ is_within n (next_from n es) f
 live-paths_from f n [] = within_none n f

@@ -1,5 +1,5 @@
 // A tree of paths that isn't numbered yet.
-ghost use Rattle.std.specs.Prelude.{◌≡◌, IsTrue, IfOk};
+ghost use Rattle.std.specs.Prelude.{◌≡◌, ◌≤◌, IsTrue, IfOk, length, vec_len};
 ghost use Rattle.std.specs.FinMap as map;
 ghost use Rattle.ufs_model.specs.PathEntries.{pairs_of, are_rising, nodes_of};
 ghost use Rattle.ufs_model.specs.PosixTree.{root_alone};
@@ -69,6 +69,7 @@ impl PathTree {
         requires { IsTrue (are_rising entries.items) }
         ensures nodes { result ≡ nodes_of entries.items }
         ensures entries { map.entries result ≡ pairs_of entries.items }
+        ensures files { (start_of result).next ≤ vec_len entries }
     {
         PathTree { entries }
     }
@@ -85,6 +86,7 @@ impl PathTree {
     pub fn as_slice(&self) -> &[PathEntry]
         ensures entries { pairs_of result.now ≡ map.entries self.now }
         ensures rising { IsTrue (are_rising result.now) }
+        ensures files { (start_of self.now).next ≤ length result.now }
     {
         self.entries.as_slice()
     }
