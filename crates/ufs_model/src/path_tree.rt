@@ -64,7 +64,7 @@ impl PathTree {
         true
     }
 
-    /// Takes no memory. `are_rising` is the test.
+    /// From entries by rising path, which `are_rising` tests. Takes no memory.
     pub fn from_vec(entries: Vec<PathEntry>) -> Self
         requires { IsTrue (are_rising entries.items) }
         ensures nodes { result ≡ nodes_of entries.items }
@@ -74,7 +74,7 @@ impl PathTree {
         PathTree { entries }
     }
 
-    /// By rising path. Takes no memory.
+    /// The entries by rising path. Takes no memory.
     pub fn into_vec(self) -> Vec<PathEntry>
         ensures entries { pairs_of result.items ≡ map.entries self }
         ensures rising { IsTrue (are_rising result.items) }
@@ -82,7 +82,7 @@ impl PathTree {
         self.entries
     }
 
-    /// By rising path.
+    /// The entries by rising path.
     pub fn as_slice(&self) -> &[PathEntry]
         ensures entries { pairs_of result.now ≡ map.entries self.now }
         ensures rising { IsTrue (are_rising result.now) }

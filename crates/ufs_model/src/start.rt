@@ -19,7 +19,8 @@ use std::alloc::Global;
 fn place(parts: &mut Parts, entry: &PathEntry) -> Result<(), Memory>
     requires files { next_after parts.old.next entry.now.node ≤ 2 ^ 31 }
     requires counts { IsOneEach parts.old.counts parts.old.next }
-    ensures tree { OnOk result (tree_of parts.new ≡ with_path (tree_of parts.old) entry.now.path entry.now.node) }
+    ensures tree { OnOk result
+        (tree_of parts.new ≡ with_path (tree_of parts.old) entry.now.path entry.now.node) }
     ensures counts { OnOk result (IsOneEach parts.new.counts parts.new.next) }
 {
     let path = entry.path.as_slice().to_vec(parts.alloc)?;
@@ -37,6 +38,7 @@ fn place(parts: &mut Parts, entry: &PathEntry) -> Result<(), Memory>
     Ok(())
 }
 
+// The maps of the tree of these entries.
 fn numbered(alloc: Global, entries: &[PathEntry]) -> Result<Parts, Memory>
     requires rising { IsTrue (are_rising entries.now) }
     requires files { (start_from (pairs_of entries.now)).next ≤ 2 ^ 31 }
