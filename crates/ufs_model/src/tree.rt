@@ -11,7 +11,7 @@ use std::marker::Model;
 /// A tree of directories and files, with what each client has open in it.
 #[derive(Drop)]
 pub struct Tree {
-    parts: Parts,
+    pub(crate) parts: Parts,
 }
 
 impl Model for Tree {

@@ -1,0 +1,16 @@
+use Rattle.std.proofs.Common.{sym, ◌∙◌}
+use Rattle.ufs_model.proofs.PathEntryLemmas.{rising_more, rising_no_more, rising_last}
+use Rattle.ufs_model.proofs.path_tree.PathTree.are_rising.Goals as goal
+
+pub loop-i-preserved : goal.loop-i-preserved
+loop-i-preserved c =
+    c.loop-i.invariant
+    ∙ rising_more c.args.entries.now c.loop-i.i c.index-entries-i.result c.index-entries-i-in-loop-i.result c.loop-i.auto.i c.loop-i-test.true (cc)
+
+pub returns-then-is_ge : goal.returns-then-is_ge
+returns-then-is_ge c =
+    sym (c.loop-i.invariant
+    ∙ rising_no_more c.args.entries.now c.loop-i.i c.index-entries-i.result c.index-entries-i-in-loop-i.result c.loop-i.auto.i c.loop-i-test.true (cc))
+
+pub returns : goal.returns
+returns c = sym (c.loop-i.invariant ∙ rising_last c.args.entries.now c.loop-i.i c.loop-i-test.false)
