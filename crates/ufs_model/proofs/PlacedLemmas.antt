@@ -19,7 +19,7 @@ use Rattle.ufs_model.specs.declared.data.PathNode.{PathNode}
 use Rattle.ufs_model.specs.declared.data.PathNode.TheVariants as path_node
 use Rattle.ufs_model.proofs.SeenLemmas.{path_total, path_same}
 use Rattle.ufs_model.proofs.RisingLemmas.{find-earlier}
-use Rattle.ufs_model.proofs.PathEntryLemmas.{from_place}
+use Rattle.ufs_model.proofs.KeyLemmas.{from_place}
 use Rattle.ufs_model.proofs.StartLemmas.{Pairs, paths_from-push, bytes_from-push, next_from-push, next_from-append, next_rises, stands-paths_from, held-bytes_from, within_zero, tie}
 
 unfound : {X : Type 0} (o : Option X) → is_some o ≡ false → o ≡ None

@@ -1,4 +1,4 @@
-use Rattle.std.proofs.Common.{◌≡◌, ◌≤◌, sym, arith, length}
+use Rattle.std.proofs.Common.{◌≤◌, sym, arith, length}
 use Rattle.ufs_model.specs.Order.{path_cmp}
 use Rattle.ufs_model.specs.PathEntries.{pairs_of, nodes_of}
 use Rattle.ufs_model.specs.Start.{start_of}
