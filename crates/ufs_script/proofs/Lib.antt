@@ -1,1 +1,4 @@
 pub mod WordLemmas
+pub mod RequestLemmas
+pub mod BreakLemmas
+pub mod SpellingLemmas

@@ -1,5 +1,5 @@
 -- The canonical spelling of requests, and the law that reading it gives them back.
-use Rattle.std.specs.Prelude.{ℕ, ◌≡◌, ◌<◌, ◌≤◌, ◌^◌, List, [], ◌∷◌, ◌++◌, Bool, true, false, ◌||◌, length, Ok, IsTrue, codes}
+use Rattle.std.specs.Prelude.{ℕ, ◌≡◌, ◌<◌, ◌≤◌, ◌^◌, List, [], ◌∷◌, ◌++◌, Bool, true, false, ◌||◌, length, map, Ok, IsTrue, codes}
 use Rattle.std.specs.List.{AllByRecursion}
 use Rattle.std.specs.Fmt.{decimal}
 use Rattle.hex.specs.Hex.{encode_lower, IsBytes}
@@ -22,19 +22,20 @@ mode_text false false = []
 -- the line of a request, without its line end
 abbrev pub request_text : Op → List ℕ
 request_text (op.Mkdir path) = codes "mkdir " ++ path
-request_text (op.OpenFile path read write creat excl trunc append) = codes "open " ++ path ++ 32 ∷ mode_text read write ++ codes " creat"
-request_text (op.Read fd n) = codes "read " ++ decimal fd ++ 32 ∷ decimal n
-request_text (op.Write fd bytes) = codes "write " ++ decimal fd ++ 32 ∷ data_text bytes
+request_text (op.OpenFile path read write creat excl trunc append) = codes "open " ++ (path ++ 32 ∷ (mode_text read write ++ codes " creat"))
+request_text (op.Read fd n) = codes "read " ++ (decimal fd ++ 32 ∷ decimal n)
+request_text (op.Write fd bytes) = codes "write " ++ (decimal fd ++ 32 ∷ data_text bytes)
 request_text (op.Close fd) = codes "close " ++ decimal fd
 request_text _ = []
 
-abbrev pub requests_text : List Op → List ℕ
-requests_text [] = []
-requests_text (request ∷ requests) = request_text request ++ 10 ∷ requests_text requests
+-- each line with byte 10 behind it
+abbrev pub lines_text : List (List ℕ) → List ℕ
+lines_text [] = []
+lines_text (line ∷ lines) = line ++ 10 ∷ lines_text lines
 
 -- the script of one client with these requests
 abbrev pub script_text : List Op → List ℕ
-script_text requests = codes "client 0\n" ++ requests_text requests ++ codes "end\n"
+script_text requests = lines_text (codes "client 0" ∷ map request_text requests ++ codes "end" ∷ [])
 
 -- A script's numbers have at most 18 digits, and its files are opened for reading, writing or both.
 abbrev pub IsSpellable : Op → Type 0

@@ -5,5 +5,4 @@ ghost use Rattle.ufs_script.specs.Spelling.{PrintedIsRead};
 /// read again stay the same.
 pub fn printing_and_reading()
     ensures { PrintedIsRead }
-{
-}
+{}

@@ -72,14 +72,23 @@ fn put_reply(alloc: Global, line: &mut Vec<u8>, reply: &Reply) -> Result<(), All
             put_data(alloc, line, bytes.as_slice())
         }
         Reply::IsFile { size } => put_number(alloc, line, b"file ".as_slice(), *size),
-        Reply::IsDir { entries } => put_number(alloc, line, b"dir ".as_slice(), u64::from(*entries)),
+        Reply::IsDir { entries } => put_number(
+            alloc,
+            line,
+            b"dir ".as_slice(),
+            u64::from(*entries),
+        ),
         Reply::Names(names) => {
             let names = names.as_slice();
             put_number(alloc, line, b"names ".as_slice(), names.len() as u64)?;
             put_names(line, names)
         }
         Reply::Refused(errno) => put_text(line, b"err ".as_slice(), errno.name().as_bytes()),
-        Reply::Excused(excuse) => put_text(line, b"err ".as_slice(), excuse_name(*excuse).as_bytes()),
+        Reply::Excused(excuse) => put_text(
+            line,
+            b"err ".as_slice(),
+            excuse_name(*excuse).as_bytes(),
+        ),
     }
 }
 

@@ -8,7 +8,7 @@ use crate::fault::ScriptFault;
 use crate::lists::{OpList, OpLists, WordList};
 use crate::request::request;
 use crate::words::pieces;
-use std::alloc::Global;
+use std::alloc::{AllocError, Global};
 use ufs_model::Op;
 
 /// What a script asks for: each client's requests, how many workers serve them, and in which order
@@ -61,7 +61,7 @@ fn requests(alloc: Global, lines: &[&[u8]]) -> Result<Vec<Op>, ScriptFault>
 }
 
 // The script of one client.
-fn one_client(alloc: Global, ops: OpList) -> Result<Script, ScriptFault>
+fn one_client(alloc: Global, ops: OpList) -> Result<Script, AllocError>
     ensures { IfOk result (λ script. script ≡ one_client ops) }
 {
     let mut lists = Vec::new(alloc);
@@ -87,7 +87,7 @@ fn body(alloc: Global, lines: &[&[u8]]) -> Result<Script, ScriptFault>
     if ops.len() > MAX_REQUESTS {
         return Err(NOT_BUILT);
     }
-    one_client(alloc, OpList::from_vec(ops))
+    Ok(one_client(alloc, OpList::from_vec(ops))?)
 }
 
 /// The script that a text is, or its first break.
