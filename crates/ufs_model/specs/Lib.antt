@@ -1,7 +1,11 @@
 pub mod Order
 pub mod Seen
+pub mod ErrnoName
 pub mod Paths
 pub mod PosixTree
 pub mod Posix
-pub mod Legal
-pub mod ErrnoName
+pub mod Start
+pub mod Holders
+pub mod Parts
+pub mod History
+pub mod Laws

@@ -3,7 +3,7 @@ use Rattle.std.specs.Prelude.{ℕ, ◌+◌, ◌-◌, List, [], ◌∷◌, ◌++�
 use Rattle.std.specs.List.{list_any}
 use Rattle.std.specs.FinMap as map
 use Rattle.ufs_model.specs.Paths.{components, text_refusal, whole_path, is_plain, first_of, refused_if}
-use Rattle.ufs_model.specs.PosixTree.{PosixTree, Paths, Files, Fds}
+use Rattle.ufs_model.specs.PosixTree.{PosixTree, Paths, Files, Fds, desc_at, is_live}
 use Rattle.ufs_model.specs.declared.data.Op.{Op}
 use Rattle.ufs_model.specs.declared.data.Op.TheVariants as op
 use Rattle.ufs_model.specs.declared.data.Reply.{Reply}
@@ -114,7 +114,7 @@ abbrev pub moved : Desc → ℕ → Desc
 moved d at = record d { at = at }
 
 abbrev pub read_fd : PosixTree → ℕ → ℕ → ℕ → PosixTree × Reply
-read_fd t client fd n = by_desc (map.get t.fds (client, fd))
+read_fd t client fd n = by_desc (desc_at t client fd)
   where
     by_file : Desc → Option ℕ → PosixTree × Reply
     by_file d None = refuse t Eisdir
@@ -143,7 +143,7 @@ write_at t client fd data' d f =
     else (with_fd (record t { bytes = map.insert t.bytes f (put_at old at data') }) client fd (moved d end), Count (length data'))
 
 abbrev pub write_fd : PosixTree → ℕ → ℕ → List ℕ → PosixTree × Reply
-write_fd t client fd data' = by_desc (map.get t.fds (client, fd))
+write_fd t client fd data' = by_desc (desc_at t client fd)
   where
     by_file : Desc → Option ℕ → PosixTree × Reply
     by_file d None = refuse t Ebadf
@@ -155,25 +155,13 @@ write_fd t client fd data' = by_desc (map.get t.fds (client, fd))
 
 -- ---- close
 
-abbrev pub names_file : ℕ → Option ℕ → Bool
-names_file f None = false
-names_file f (Some g) = g == f
-
-abbrev pub is_node_of : ℕ → Node → Bool
-is_node_of f Dir = false
-is_node_of f (File g) = g == f
-
--- a path or a descriptor names the file
-abbrev pub is_live : Paths → Fds → ℕ → Bool
-is_live paths fds f = list_any (is_node_of f) (map.values paths) || list_any (λ d. names_file f d.file) (map.values fds)
-
 -- a file that is live no more leaves the bytes
 abbrev pub forget : PosixTree → Option ℕ → PosixTree
 forget t None = t
 forget t (Some f) = if is_live t.paths t.fds f then t else record t { bytes = map.remove t.bytes f }
 
 abbrev pub close_fd : PosixTree → ℕ → ℕ → PosixTree × Reply
-close_fd t client fd = by_desc (map.get t.fds (client, fd))
+close_fd t client fd = by_desc (desc_at t client fd)
   where
     by_desc : Option Desc → PosixTree × Reply
     by_desc None = refuse t Ebadf
@@ -188,10 +176,11 @@ posix t client (op.OpenFile path read write creat excl trunc append) =
 posix t client (op.Read fd n) = read_fd t client fd n
 posix t client (op.Write fd data') = write_fd t client fd data'
 posix t client (op.Close fd) = close_fd t client fd
--- the others come later
+-- a request that isn't built has no reply of its own: `IsBuilt` keeps it out of every history
 posix t client _ = refuse t Einval
 
--- the five requests, in the form that the first script has
+-- The requests that are built, in the form that they have today: a path is a slash and one component, and a
+-- file is opened with `creat` alone.
 abbrev pub IsBuilt : Op → Type 0
 IsBuilt (op.Mkdir path) = IsTrue (is_plain path)
 IsBuilt (op.OpenFile path read write creat excl trunc append) = IsTrue (is_plain path) × IsTrue (creat && not excl && not trunc && not append)

@@ -172,3 +172,17 @@ pub enum Node {
     Dir,
     File(u32),
 }
+
+/// What stands at a path of a tree that isn't numbered.
+#[derive(Drop)]
+pub enum PathNode {
+    Dir,
+    File(Bytes),
+}
+
+/// A whole path and what stands there.
+#[derive(Drop)]
+pub struct PathEntry {
+    pub path: Bytes,
+    pub node: PathNode,
+}

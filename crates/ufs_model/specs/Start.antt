@@ -1,0 +1,62 @@
+-- The tree that a session begins with: a tree of paths, its files numbered by rising path, and nothing open.
+use Rattle.std.specs.Prelude.{ℕ, ◌+◌, List, [], ◌∷◌, Bool, true, false, Option, Some, None, is_some}
+use Rattle.std.specs.FinMap as map
+use Rattle.ufs_model.specs.Order.{path_cmp}
+use Rattle.ufs_model.specs.PosixTree.{PosixTree, IsNamespace}
+use Rattle.ufs_model.specs.declared.data.Node.{Node}
+use Rattle.ufs_model.specs.declared.data.Node.TheVariants.{Dir, File}
+use Rattle.ufs_model.specs.declared.data.PathNode.{PathNode}
+use Rattle.ufs_model.specs.declared.data.PathNode.TheVariants as path_node
+
+-- whole paths, each a directory or a file's bytes
+abbrev pub PathNodes : Type 0
+PathNodes = map.FinMap path_cmp PathNode
+
+abbrev pub is_path_dir : Option PathNode → Bool
+is_path_dir None = false
+is_path_dir (Some path_node.Dir) = true
+is_path_dir (Some (path_node.File bytes)) = false
+
+-- the root and each parent are directories
+abbrev pub IsPathTree : PathNodes → Type 0
+IsPathTree nodes = IsNamespace (λ path. is_some (map.get nodes path)) (λ path. is_path_dir (map.get nodes path))
+
+-- the root alone
+abbrev pub path_root : PathNodes
+path_root = map.insert map.empty (47 ∷ []) path_node.Dir
+
+-- what stands there in a tree, if the next file has that number
+abbrev pub node_from : ℕ → PathNode → Node
+node_from next path_node.Dir = Dir
+node_from next (path_node.File bytes) = File next
+
+-- the number of the file after it
+abbrev pub next_after : ℕ → PathNode → ℕ
+next_after next path_node.Dir = next
+next_after next (path_node.File bytes) = next + 1
+
+-- its bytes before those of others
+abbrev pub bytes_onto : ℕ → PathNode → List (ℕ × List ℕ) → List (ℕ × List ℕ)
+bytes_onto next path_node.Dir more = more
+bytes_onto next (path_node.File bytes) more = (next, bytes) ∷ more
+
+-- paths and their nodes in rising order, the files numbered from a number on
+abbrev pub paths_from : ℕ → List (List ℕ × PathNode) → List (List ℕ × Node)
+paths_from next [] = []
+paths_from next (e ∷ es) = (e.0, node_from next e.1) ∷ paths_from (next_after next e.1) es
+
+abbrev pub bytes_from : ℕ → List (List ℕ × PathNode) → List (ℕ × List ℕ)
+bytes_from next [] = []
+bytes_from next (e ∷ es) = bytes_onto next e.1 (bytes_from (next_after next e.1) es)
+
+abbrev pub next_from : ℕ → List (List ℕ × PathNode) → ℕ
+next_from next [] = next
+next_from next (e ∷ es) = next_from (next_after next e.1) es
+
+abbrev pub start_of : PathNodes → PosixTree
+start_of nodes = record {
+  paths = map.from_entries (paths_from 0 (map.entries nodes));
+  bytes = map.from_entries (bytes_from 0 (map.entries nodes));
+  fds = map.empty;
+  next = next_from 0 (map.entries nodes);
+}
