@@ -8,6 +8,7 @@ use Rattle.ufs_model.specs.declared.data.Excuse.{Excuse}
 use Rattle.ufs_model.specs.declared.data.Excuse.TheVariants as excuse
 use Rattle.ufs_model.specs.declared.data.Entry.{Entry}
 use Rattle.ufs_model.specs.ErrnoName.{errno_name}
+use Rattle.ufs_model.specs.History.{entries_of}
 use Rattle.ufs_script.specs.Spelling.{data_text}
 
 abbrev pub excuse_text : Excuse → List ℕ
@@ -42,10 +43,6 @@ line_text client seq r = decimal client ++ 46 ∷ decimal seq ++ 32 ∷ reply_te
 abbrev pub lines_of : List Entry → List ℕ
 lines_of [] = []
 lines_of (entry ∷ entries) = line_text entry.client entry.seq entry.reply ++ lines_of entries
-
--- the entries of one client
-abbrev pub entries_of : ℕ → List Entry → List Entry
-entries_of client history = filter (λ entry. entry.client == client) history
 
 -- the lines of so many clients, client by client in order
 abbrev pub output_of : ℕ → List Entry → List ℕ
