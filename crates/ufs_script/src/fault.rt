@@ -32,6 +32,9 @@ pub enum ScriptFault {
     Memory,
 }
 
+/// The one break that is answered in this form.
+pub const NOT_BUILT: ScriptFault = ScriptFault::NotBuilt { line: 0 };
+
 impl From<AllocError> for ScriptFault {
     ghost use Rattle.std.specs.Prelude.{◌≡◌};
     ghost use Rattle.ufs_script.specs.declared.fault.ScriptFault.TheVariants as fault;

@@ -8,6 +8,8 @@ mod output;
 mod reading;
 mod request;
 mod script;
+#[cfg(test)]
+mod tests;
 mod words;
 
 pub use fault::ScriptFault;

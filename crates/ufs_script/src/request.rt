@@ -3,12 +3,10 @@ ghost use Rattle.std.specs.Prelude.{◌≡◌, ◌⊎◌, IfOk, IfErr, map};
 ghost use Rattle.ufs_model.specs.Posix.{IsBuilt};
 ghost use Rattle.ufs_script.specs.Requests.{mode_of, request_of, request_of_two, request_of_three, request_of_four, words_of};
 
-use crate::fault::ScriptFault;
+use crate::fault::{NOT_BUILT, ScriptFault};
 use crate::words::{data, is_plain, number, pieces};
 use std::alloc::{AllocError, Global};
 use ufs_model::{Bytes, Op};
-
-const NOT_BUILT: ScriptFault = ScriptFault::NotBuilt { line: 0 };
 
 fn path_of(alloc: Global, path: &[u8]) -> Result<Bytes, AllocError>
     ensures { IfOk result (λ bytes. bytes ≡ path.now) }
@@ -16,6 +14,7 @@ fn path_of(alloc: Global, path: &[u8]) -> Result<Bytes, AllocError>
     Ok(Bytes::from_vec(path.to_vec(alloc)?))
 }
 
+// How a file is opened: for reading, for writing.
 fn mode(word: &[u8]) -> Option<(bool, bool)>
     ensures { result ≡ mode_of word.now }
 {
@@ -135,6 +134,6 @@ pub fn request(alloc: Global, line: &[u8]) -> Result<Op, ScriptFault>
     ensures err { IfErr result (λ e. (e ≡ ScriptFault.Memory) ⊎ (request_of (words_of line.now) ≡ Err e)) }
     ensures built { IfOk result IsBuilt }
 {
-    let words = pieces(alloc, line, 32)?;
+    let words = pieces(alloc, line, b' ')?;
     by_words(alloc, words.as_slice())
 }

@@ -4,7 +4,7 @@ ghost use Rattle.std.specs.List.{AllByRecursion};
 ghost use Rattle.ufs_model.specs.Posix.{IsBuilt};
 ghost use Rattle.ufs_script.specs.Script.{requests_of, body_of, script_of, is_end, one_client};
 
-use crate::fault::ScriptFault;
+use crate::fault::{NOT_BUILT, ScriptFault};
 use crate::lists::{OpList, OpLists, WordList};
 use crate::request::request;
 use crate::words::pieces;
@@ -28,8 +28,6 @@ pub const MAX_SCRIPT: usize = 16_777_216;
 
 /// The greatest number of a client's requests.
 const MAX_REQUESTS: usize = 65_536;
-
-const NOT_BUILT: ScriptFault = ScriptFault::NotBuilt { line: 0 };
 
 fn is_end(line: &[u8], last: &[u8]) -> bool
     ensures { result ≡ is_end line.now last.now }
@@ -98,6 +96,6 @@ pub fn parse(alloc: Global, text: &[u8]) -> Result<Script, ScriptFault>
     if text.len() > MAX_SCRIPT {
         return Err(NOT_BUILT);
     }
-    let lines = pieces(alloc, text, 10)?;
+    let lines = pieces(alloc, text, b'\n')?;
     body(alloc, lines.as_slice())
 }
