@@ -1,0 +1,6 @@
+pub mod Words
+pub mod Requests
+pub mod Script
+pub mod Reading
+pub mod Spelling
+pub mod Output

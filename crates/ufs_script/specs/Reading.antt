@@ -1,0 +1,19 @@
+-- What a reading of a script took of its source, and what it read.
+use Rattle.std.specs.Prelude.{ℕ, ◌≡◌, ◌<◌, ◌⊎◌, List, length, Option, Ok, Err}
+use Rattle.std.specs.Io.KnownBytes.{Consumes, IsAtEnd}
+use Rattle.ufs_script.specs.Script.{script_of, max_script}
+use Rattle.ufs_script.specs.declared.script.Script.{Script}
+use Rattle.ufs_script.specs.declared.fault.ScriptFault.{ScriptFault}
+
+-- this text was read, to the source's end or past the greatest length
+pub record HasRead (old new : Option (List ℕ)) (text : List ℕ) : Type 0 where
+  pub taken : Consumes old new text
+  pub ended : IsAtEnd new ⊎ (max_script < length text)
+
+-- the source was read to its end or past the greatest length, and its bytes are this script
+abbrev pub ReadsScript : Option (List ℕ) → Option (List ℕ) → Script → Type 0
+ReadsScript old new script = (text : List ℕ) × HasRead old new text × (script_of text ≡ Ok script)
+
+-- the same, and its bytes break so
+abbrev pub ReadsBreak : Option (List ℕ) → Option (List ℕ) → ScriptFault → Type 0
+ReadsBreak old new fault = (text : List ℕ) × HasRead old new text × (script_of text ≡ Err fault)

@@ -1,0 +1,139 @@
+// Lists in a script. Each is made from a `Vec` and gives it back without taking memory.
+ghost use Rattle.std.specs.Prelude.{◌≡◌, ◌≤◌, length};
+ghost use Rattle.std.specs.List.{AllByRecursion};
+ghost use Rattle.ufs_model.specs.Posix.{IsBuilt};
+
+use std::marker::Model;
+use ufs_model::{Bytes, Op};
+
+/// The requests of a client, in order: at most 65,536, each of a form that can be served.
+#[derive(Drop)]
+pub struct OpList {
+    ops: Vec<Op>,
+}
+
+impl Model for OpList {
+    ghost use Rattle.std.specs.Prelude.{List, length, ◌≤◌};
+    ghost use Rattle.std.specs.List.{AllByRecursion};
+    ghost use Rattle.ufs_model.specs.declared.data.Op.{Op};
+    ghost use Rattle.ufs_model.specs.Posix.{IsBuilt};
+
+    ghost Value = { List Op };
+
+    ghost view = { λ l. l.ops.items };
+
+    ghost invariant = { λ l. AllByRecursion IsBuilt l.ops.items × (length l.ops.items ≤ 65536) };
+}
+
+impl OpList {
+    pub fn from_vec(ops: Vec<Op>) -> Self
+        requires built { AllByRecursion IsBuilt ops.items }
+        requires few { length ops.items ≤ 65536 }
+        ensures { result ≡ ops.items }
+    {
+        OpList { ops }
+    }
+
+    pub fn into_vec(self) -> Vec<Op>
+        ensures value { result.items ≡ self }
+        ensures built { AllByRecursion IsBuilt self }
+        ensures few { length self ≤ 65536 }
+    {
+        self.ops
+    }
+
+    pub fn as_slice(&self) -> &[Op]
+        ensures value { result.now ≡ self.now }
+        ensures built { AllByRecursion IsBuilt self.now }
+        ensures few { length self.now ≤ 65536 }
+    {
+        self.ops.as_slice()
+    }
+}
+
+/// The clients' requests, by the clients' numbers.
+#[derive(Drop)]
+pub struct OpLists {
+    lists: Vec<OpList>,
+}
+
+impl Model for OpLists {
+    ghost use Rattle.std.specs.Prelude.{List};
+    ghost use Rattle.ufs_script.specs.declared.lists.OpList.{OpList};
+
+    ghost Value = { List OpList };
+
+    ghost view = { λ l. l.lists.items };
+}
+
+impl OpLists {
+    pub fn from_vec(lists: Vec<OpList>) -> Self
+        ensures { result ≡ lists.items }
+    {
+        OpLists { lists }
+    }
+
+    pub fn into_vec(self) -> Vec<OpList>
+        ensures { result.items ≡ self }
+    {
+        self.lists
+    }
+
+    pub fn as_slice(&self) -> &[OpList]
+        ensures { result.now ≡ self.now }
+    {
+        self.lists.as_slice()
+    }
+}
+
+/// What gets the next turn.
+#[derive(Drop)]
+pub enum ScheduleWord {
+    /// One turn of a client.
+    Client(u8),
+    /// One turn of a worker, counted from 1.
+    Worker(u8),
+    /// One turn of the primary.
+    Primary,
+    /// The clock moves so many ticks, at least 1.
+    Ticks(u16),
+    /// An order that the file at the path goes to a worker, or to the primary, which is 0.
+    Move { path: Bytes, to: u8 },
+    /// One plan of the load manager.
+    Plan,
+}
+
+/// Schedule words, in order.
+#[derive(Drop)]
+pub struct WordList {
+    words: Vec<ScheduleWord>,
+}
+
+impl Model for WordList {
+    ghost use Rattle.std.specs.Prelude.{List};
+    ghost use Rattle.ufs_script.specs.declared.lists.ScheduleWord.{ScheduleWord};
+
+    ghost Value = { List ScheduleWord };
+
+    ghost view = { λ l. l.words.items };
+}
+
+impl WordList {
+    pub fn from_vec(words: Vec<ScheduleWord>) -> Self
+        ensures { result ≡ words.items }
+    {
+        WordList { words }
+    }
+
+    pub fn into_vec(self) -> Vec<ScheduleWord>
+        ensures { result.items ≡ self }
+    {
+        self.words
+    }
+
+    pub fn as_slice(&self) -> &[ScheduleWord]
+        ensures { result.now ≡ self.now }
+    {
+        self.words.as_slice()
+    }
+}

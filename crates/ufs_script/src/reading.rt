@@ -1,0 +1,58 @@
+// The reading of a script from a source.
+ghost use Rattle.std.specs.Prelude.{◌≡◌, ◌≢◌, ℕ, ◌≤◌, [], IfOk, IfErr, length};
+ghost use Rattle.ufs_io.specs.Causes.{Rose};
+ghost use Rattle.ufs_script.specs.Script.{IsAnswered, IsOutside};
+ghost use Rattle.ufs_script.specs.Reading.{HasRead, ReadsScript, ReadsBreak};
+
+use crate::fault::ScriptFault;
+use crate::script::{MAX_SCRIPT, Script, parse};
+use std::alloc::Global;
+use ufs_io::Source;
+
+// The number of reads that suffices: each but the last gives a byte, and one byte past the greatest
+// length is enough.
+const MAX_READS: u32 = 16_777_218;
+
+// Reads to the source's end, or past the greatest length of a script.
+fn read_all<S: Source>(alloc: Global, source: &mut S) -> Result<Vec<u8>, ScriptFault>
+    ensures later { S.faults source.old ≤ S.faults source.new }
+    ensures cause { result ≡ Err ScriptFault.Source → Rose (S.faults source.old) (S.faults source.new) }
+    ensures counted { result ≢ Err ScriptFault.Source → S.faults source.new ≡ S.faults source.old }
+    ensures outside { IfErr result IsOutside }
+    ensures text { IfOk result (λ text. HasRead (S.left source.old) (S.left source.new) text.items) }
+{
+    let mut text = Vec::new(alloc);
+    let mut buf = [0u8; 4096];
+    for _turn in 0..MAX_READS {
+        let count = match source.read(&mut buf) {
+            Ok(count) => count,
+            Err(_) => return Err(ScriptFault::Source),
+        };
+        if count == 0 {
+            return Ok(text);
+        }
+        text.extend_from_slice(&buf[..count])?;
+        if text.len() > MAX_SCRIPT {
+            return Ok(text);
+        }
+    }
+    unreachable!()
+}
+
+/// Reads a script, to the source's end or past the greatest length of a script, 16,777,216 bytes,
+/// by at most 16,777,218 reads.
+///
+/// In this form a text that is off the form, or too long, is `NotBuilt` with line 0.
+pub fn read_script<S: Source>(alloc: Global, source: &mut S) -> Result<Script, ScriptFault>
+    ensures later { S.faults source.old ≤ S.faults source.new }
+    ensures cause { result ≡ Err ScriptFault.Source → Rose (S.faults source.old) (S.faults source.new) }
+    ensures counted { result ≢ Err ScriptFault.Source → S.faults source.new ≡ S.faults source.old }
+    ensures script { IfOk result (λ script. ReadsScript (S.left source.old) (S.left source.new) script) }
+    ensures not_built { (line : ℕ) → result ≡ Err (ScriptFault.NotBuilt line) →
+        ReadsBreak (S.left source.old) (S.left source.new) (ScriptFault.NotBuilt line) }
+    ensures answered { IfErr result IsAnswered }
+    ensures one_client { IfOk result (λ script. (length script.clients ≡ 1) × (script.workers ≡ 1) × (script.words ≡ [])) }
+{
+    let text = read_all(alloc, source)?;
+    parse(alloc, text.as_slice())
+}
