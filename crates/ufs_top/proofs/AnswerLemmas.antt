@@ -1,0 +1,74 @@
+-- How the answer of a part is that of the whole.
+use Rattle.std.proofs.Common.{◌≡◌, inl, inr, ℕ, List, [], ◌∷◌, ◌++◌, Option, ap, sym, subst, refl, ◌∙◌, length, length-append, arith}
+use Rattle.std.specs.Io.KnownBytes.{Appends}
+use Rattle.ufs_io.specs.Causes.{Rose}
+use Rattle.ufs_model.specs.PosixTree.{root_alone}
+use Rattle.ufs_model.specs.History.{IsLegal, IsInOrder, IsComplete}
+use Rattle.ufs_model.specs.declared.data.Op.{Op}
+use Rattle.ufs_model.specs.declared.data.Entry.{Entry}
+use Rattle.ufs_script.specs.Output.{output_of}
+use Rattle.ufs_script.specs.Reading.{ReadsScript}
+use Rattle.ufs_script.specs.declared.script.Script.{Script}
+use Rattle.ufs_top.specs.declared.ending.Ending.{Ending}
+use Rattle.ufs_top.specs.declared.ending.Ending.TheVariants.{Done, Usage, NotBuilt, OutOfMemory, SourceFault}
+use Rattle.ufs_top.specs.Served.{IsHistoryOf}
+use Rattle.ufs_top.specs.Endings.{IsAnswer, IsLastLine, EndsPrinting, EndsServing, EndsPlay}
+use Rattle.ufs_top.proofs.WriteLemmas.{appends_both, front_behind}
+
+-- what is allowed there is allowed here
+pub answer_map : (E F : Ending → List ℕ → Type 0) (old new : Option (List ℕ)) (before now status : ℕ) → ((ending : Ending) (text : List ℕ) → E ending text → F ending text)
+    → IsAnswer E old new before now status → IsAnswer F old new before now status
+answer_map E F old new before now status f a = record {
+  whole = λ n. let w = a.whole n in (w.0, w.1, w.2, f w.0 w.1 w.3, w.4);
+  told = a.told;
+  rose = a.rose;
+  cut = λ n. let w = a.cut n in (w.0, w.1, w.2, f w.0 w.1 w.3, w.4, w.5);
+}
+
+-- the last line, after a front that was written
+pub answer_after : (wanted : Ending) (line front : List ℕ) (E : Ending → List ℕ → Type 0) (old mid new : Option (List ℕ)) (before between now status : ℕ)
+    → Appends old mid front → between ≡ before → ((text : List ℕ) → IsLastLine wanted wanted text → E wanted (front ++ text))
+    → IsAnswer (IsLastLine wanted) mid new between now status → IsAnswer E old new before now status
+answer_after wanted line front E old mid new before between now status wrote same f a = record {
+  whole = λ n.
+      let w = a.whole n in
+      (w.0, front ++ w.1, w.2, subst (λ (e : Ending). E e (front ++ w.1)) (sym w.3.0) (f w.1 (refl, w.3.1)), appends_both old mid new front w.1 wrote w.4);
+  told = λ n. a.told n ∙ same;
+  rose = λ n. subst (λ (k : ℕ). Rose k now) same (a.rose n);
+  cut = λ n.
+      let w = a.cut n in
+      (w.0, front ++ w.1, front ++ w.2, subst (λ (e : Ending). E e (front ++ w.1)) (sym w.3.0) (f w.1 (refl, w.3.1)), front_behind front w.2 w.1 w.4, appends_both old mid new front w.2 wrote w.5);
+}
+
+-- one client's requests, alone
+pub only_client : (clients rest : List (List Op)) (requests : List Op) → clients ≡ rest ++ requests ∷ [] → length clients ≡ 1 → clients ≡ requests ∷ []
+only_client clients [] requests is one = is
+only_client clients (r ∷ rest) requests is one = absurd (omega (arith, ap length is, length-append (r ∷ rest) (requests ∷ [])))
+
+pub history_of : (script : Script) (requests : List Op) (history : List Entry) → script.clients ≡ requests ∷ [] → IsLegal root_alone history → IsInOrder (requests ∷ []) history → IsComplete (requests ∷ []) history → IsHistoryOf script history
+history_of script requests history is legal ordered complete = record {
+  legal = legal;
+  ordered = subst (λ (c : List (List Op)). IsInOrder c history) (sym is) ordered;
+  complete = subst (λ (c : List (List Op)). IsComplete c history) (sym is) complete;
+}
+
+-- a history that is printed is the script's
+pub served_by : (script : Script) (history : List Entry) → length script.clients ≡ 1 → IsHistoryOf script history → (ending : Ending) (text : List ℕ) → EndsPrinting history ending text → EndsServing script ending text
+served_by script history one is Done text e = (history, is, e ∙ sym (ap (λ (n : ℕ). output_of n history) one))
+served_by script history one is Usage text e = absurd e
+served_by script history one is NotBuilt text e = absurd e
+served_by script history one is OutOfMemory text e = (e.0, inr (history, is, (e.1.0, e.1.1 ∙ sym (ap (λ (n : ℕ). output_of n history) one))), e.2)
+served_by script history one is SourceFault text e = absurd e
+
+-- a script that is served was read
+pub read_and_served : (old new : Option (List ℕ)) (before now : ℕ) (script : Script) → ReadsScript old new script → (ending : Ending) (text : List ℕ) → EndsServing script ending text → EndsPlay old new before now ending text
+read_and_served old new before now script read Done text e = (script, e.0, record { read = read; history_is = e.1 }, e.2)
+read_and_served old new before now script read Usage text e = absurd e
+read_and_served old new before now script read NotBuilt text e = absurd e
+read_and_served old new before now script read OutOfMemory text e =
+    (e.0, elim e.1 [ inl none ↦ inl none | inr some ↦ inr (script, some.0, record { read = read; history_is = some.1 }, some.2) ], e.2)
+read_and_served old new before now script read SourceFault text e = absurd e
+
+-- there was no memory before the first line
+pub no_memory : (old new : Option (List ℕ)) (before now : ℕ) (ending : Ending) (text : List ℕ) → IsLastLine OutOfMemory ending text → EndsPlay old new before now ending text
+no_memory old new before now ending text e = subst (λ (x : Ending). EndsPlay old new before now x text) (sym e.0) ([], inl refl, e.1)

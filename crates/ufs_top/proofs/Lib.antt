@@ -1,0 +1,5 @@
+pub mod ServeLemmas
+pub mod WordLemmas
+pub mod WriteLemmas
+pub mod PrintLemmas
+pub mod AnswerLemmas

@@ -1,0 +1,18 @@
+use Rattle.std.proofs.Common.{ap, List, ℕ, ◌++◌, subst}
+use Rattle.ufs_model.specs.declared.data.Entry.{Entry}
+use Rattle.ufs_script.specs.Output.{output_of}
+use Rattle.ufs_top.specs.Texts.{memory_line}
+use Rattle.ufs_top.specs.Endings.{EndsPrinting}
+use Rattle.ufs_top.specs.declared.ending.Ending.TheVariants.{OutOfMemory}
+use Rattle.ufs_top.proofs.AnswerLemmas.{answer_after}
+use Rattle.ufs_top.proofs.WriteLemmas.{GotFront}
+use Rattle.ufs_top.proofs.quiet.print_history.Goals as goal
+
+pub returns-in-Err-Memory : goal.returns-in-Err-Memory
+returns-in-Err-Memory g c =
+    let held = g.K.Sink.held in
+    let faults = g.K.Sink.faults in
+    let got = subst (λ (h : List Entry). GotFront (held c.args.sink.now) (held c.print.new.sink) (output_of 1 h)) c.as_slice.ensures c.in-Err-Memory.ensures.err in
+    answer_after OutOfMemory memory_line got.0 (EndsPrinting c.args.history.now) (held c.args.sink.now) (held c.print.new.sink) (held c.finish.new.sink)
+    (faults c.args.sink.now) (faults c.print.new.sink) (faults c.finish.new.sink) c.finish.result
+    got.2 (c.in-Err-Memory.ensures.told (λ e. cc)) (λ text last. (got.0, got.1, ap (λ (t : List ℕ). got.0 ++ t) last.1)) c.finish.ensures

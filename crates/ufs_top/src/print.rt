@@ -1,0 +1,90 @@
+// Writing the reply lines of a history, client by client.
+ghost use Rattle.std.specs.Prelude.{◌≡◌, ◌≢◌, List, ℕ, OnOk, OnErr};
+ghost use Rattle.std.specs.Io.KnownBytes.{Appends};
+ghost use Rattle.ufs_io.specs.Causes.{Rose};
+ghost use Rattle.ufs_model.specs.History.{entries_of};
+ghost use Rattle.ufs_script.specs.Output.{line_text, lines_of, output_of};
+ghost use Rattle.ufs_top.specs.Texts.{IsFront};
+
+use crate::write::write_all;
+use std::alloc::Global;
+use ufs_io::{Failed, Sink};
+use ufs_model::{Entry, Memory};
+use ufs_script::reply_line;
+
+/// Why lines weren't all written.
+#[derive(Clone, Copy, Debug, PartialEq, Eq)]
+pub enum PrintFault {
+    Memory,
+    Sink,
+}
+
+impl From<Memory> for PrintFault {
+    ghost use Rattle.std.specs.Prelude.{◌≡◌};
+    ghost use Rattle.ufs_top.specs.declared.print.PrintFault.TheVariants as fault;
+
+    ghost from_gives = { λ _ e. e ≡ fault.Memory };
+
+    fn from(_: Memory) -> Self {
+        PrintFault::Memory
+    }
+}
+
+impl From<Failed> for PrintFault {
+    ghost use Rattle.std.specs.Prelude.{◌≡◌};
+    ghost use Rattle.ufs_top.specs.declared.print.PrintFault.TheVariants as fault;
+
+    ghost from_gives = { λ _ e. e ≡ fault.Sink };
+
+    fn from(_: Failed) -> Self {
+        PrintFault::Sink
+    }
+}
+
+fn print_entry<K: Sink>(alloc: Global, sink: &mut K, entry: &Entry) -> Result<(), PrintFault>
+    ensures rose { result ≡ Err PrintFault.Sink → Rose (K.faults sink.old) (K.faults sink.new) }
+    ensures told { result ≢ Err PrintFault.Sink → K.faults sink.new ≡ K.faults sink.old }
+    ensures ok { OnOk result (Appends (K.held sink.old) (K.held sink.new) (line_text entry.now.client entry.now.seq entry.now.reply)) }
+    ensures err { OnErr result ((front : List ℕ) × IsFront front (line_text entry.now.client entry.now.seq entry.now.reply) × Appends (K.held sink.old) (K.held sink.new) front) }
+{
+    let line = reply_line(alloc, entry.client, entry.seq, &entry.reply)?;
+    write_all(sink, line.as_slice())?;
+    Ok(())
+}
+
+fn print_client<K: Sink>(
+    alloc: Global,
+    sink: &mut K,
+    client: u8,
+    history: &[Entry],
+) -> Result<(), PrintFault>
+    ensures rose { result ≡ Err PrintFault.Sink → Rose (K.faults sink.old) (K.faults sink.new) }
+    ensures told { result ≢ Err PrintFault.Sink → K.faults sink.new ≡ K.faults sink.old }
+    ensures ok { OnOk result (Appends (K.held sink.old) (K.held sink.new) (lines_of (entries_of client history.now))) }
+    ensures err { OnErr result ((front : List ℕ) × IsFront front (lines_of (entries_of client history.now)) × Appends (K.held sink.old) (K.held sink.new) front) }
+{
+    for entry in history {
+        if entry.client == client {
+            print_entry(alloc, sink, entry)?;
+        }
+    }
+    Ok(())
+}
+
+/// Writes the reply lines of so many clients, or a front of them.
+pub fn print<K: Sink>(
+    alloc: Global,
+    sink: &mut K,
+    clients: u8,
+    history: &[Entry],
+) -> Result<(), PrintFault>
+    ensures rose { result ≡ Err PrintFault.Sink → Rose (K.faults sink.old) (K.faults sink.new) }
+    ensures told { result ≢ Err PrintFault.Sink → K.faults sink.new ≡ K.faults sink.old }
+    ensures ok { OnOk result (Appends (K.held sink.old) (K.held sink.new) (output_of clients history.now)) }
+    ensures err { OnErr result ((front : List ℕ) × IsFront front (output_of clients history.now) × Appends (K.held sink.old) (K.held sink.new) front) }
+{
+    for client in 0..clients {
+        print_client(alloc, sink, client, history)?;
+    }
+    Ok(())
+}
