@@ -5,7 +5,9 @@ pub mod Paths
 pub mod PosixTree
 pub mod Posix
 pub mod Start
+pub mod PathEntries
 pub mod Holders
 pub mod Parts
+pub mod Placed
 pub mod History
 pub mod Laws

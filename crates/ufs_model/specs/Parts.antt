@@ -1,5 +1,4 @@
 -- The tree that the maps of a program stand for.
-use Rattle.std.specs.Prelude.{ℕ}
 use Rattle.ufs_model.specs.PosixTree.{PosixTree, IsTree}
 use Rattle.ufs_model.specs.Holders.{IsCounted}
 use Rattle.ufs_model.specs.declared.parts.Parts.{Parts}

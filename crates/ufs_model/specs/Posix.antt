@@ -1,6 +1,5 @@
 -- The file calls: which tree and which reply a request of a client gives.
 use Rattle.std.specs.Prelude.{ℕ, ◌+◌, ◌-◌, List, [], ◌∷◌, ◌++◌, Bool, true, false, ◌==◌, ◌||◌, ◌&&◌, not, nat_lt, length, take, drop, replicate, if◌then◌else◌, Option, Some, None, is_some, unwrap_or, IsTrue, ◌≤◌, zero, suc}
-use Rattle.std.specs.List.{list_any}
 use Rattle.std.specs.FinMap as map
 use Rattle.ufs_model.specs.Paths.{components, text_refusal, whole_path, is_plain, first_of, refused_if}
 use Rattle.ufs_model.specs.PosixTree.{PosixTree, Paths, Files, Fds, desc_at, is_live}
@@ -48,6 +47,9 @@ make_dir paths path = make (path_refusal paths path) (node_at paths path)
     make None (Some n) = (paths, Refused Eexist)
     make None None = (map.insert paths (whole_path (components path)) Dir, Done)
 
+abbrev pub mkdir : PosixTree → List ℕ → PosixTree × Reply
+mkdir t path = let made = make_dir t.paths path in (record t { paths = made.0 }, made.1)
+
 -- ---- descriptors
 
 abbrev pub free_from : Fds → ℕ → ℕ → ℕ → Option ℕ
@@ -82,9 +84,13 @@ desc_of m file = record { file = file; at = 0; read = m.read; write = m.write; a
 abbrev pub with_fd : PosixTree → ℕ → ℕ → Desc → PosixTree
 with_fd t client fd desc = record t { fds = map.insert t.fds (client, fd) desc }
 
+-- a new file with no bytes
+abbrev pub with_file : PosixTree → List ℕ → PosixTree
+with_file t path = record t { paths = map.insert t.paths (whole_path (components path)) (File t.next); bytes = map.insert t.bytes t.next []; next = t.next + 1 }
+
 abbrev pub open_node : PosixTree → ℕ → List ℕ → Mode → ℕ → Option Node → PosixTree × Reply
 open_node t client path m fd None =
-    if m.creat then (with_fd (record t { paths = map.insert t.paths (whole_path (components path)) (File t.next); bytes = map.insert t.bytes t.next []; next = t.next + 1 }) client fd (desc_of m (Some t.next)), Fd fd)
+    if m.creat then (with_fd (with_file t path) client fd (desc_of m (Some t.next)), Fd fd)
     else refuse t Enoent
 open_node t client path m fd (Some Dir) =
     if m.creat && m.excl then refuse t Eexist
@@ -170,7 +176,7 @@ close_fd t client fd = by_desc (desc_at t client fd)
 -- ---- all requests
 
 abbrev pub posix : PosixTree → ℕ → Op → PosixTree × Reply
-posix t client (op.Mkdir path) = let made = make_dir t.paths path in (record t { paths = made.0 }, made.1)
+posix t client (op.Mkdir path) = mkdir t path
 posix t client (op.OpenFile path read write creat excl trunc append) =
     open_path t client path (record { read = read; write = write; creat = creat; excl = excl; trunc = trunc; append = append })
 posix t client (op.Read fd n) = read_fd t client fd n

@@ -1,8 +1,10 @@
 -- The tree that a session begins with: a tree of paths, its files numbered by rising path, and nothing open.
-use Rattle.std.specs.Prelude.{ℕ, ◌+◌, List, [], ◌∷◌, Bool, true, false, Option, Some, None, is_some}
+use Rattle.std.specs.Prelude.{ℕ, ◌+◌, ◌<◌, ◌≡◌, List, [], ◌∷◌, Bool, true, false, Option, Some, None, is_some}
+use Rattle.std.specs.Option.{option_map}
+use Rattle.std.specs.declared.cmp.Ordering.TheVariants.{Less}
 use Rattle.std.specs.FinMap as map
 use Rattle.ufs_model.specs.Order.{path_cmp}
-use Rattle.ufs_model.specs.PosixTree.{PosixTree, IsNamespace}
+use Rattle.ufs_model.specs.PosixTree.{PosixTree, Files, IsNamespace}
 use Rattle.ufs_model.specs.declared.data.Node.{Node}
 use Rattle.ufs_model.specs.declared.data.Node.TheVariants.{Dir, File}
 use Rattle.ufs_model.specs.declared.data.PathNode.{PathNode}
@@ -53,10 +55,28 @@ abbrev pub next_from : ℕ → List (List ℕ × PathNode) → ℕ
 next_from next [] = next
 next_from next (e ∷ es) = next_from (next_after next e.1) es
 
-abbrev pub start_of : PathNodes → PosixTree
-start_of nodes = record {
-  paths = map.from_entries (paths_from 0 (map.entries nodes));
-  bytes = map.from_entries (bytes_from 0 (map.entries nodes));
+-- the tree of paths that are given in rising order
+abbrev pub start_from : List (List ℕ × PathNode) → PosixTree
+start_from es = record {
+  paths = map.from_entries (paths_from 0 es);
+  bytes = map.from_entries (bytes_from 0 es);
   fds = map.empty;
-  next = next_from 0 (map.entries nodes);
+  next = next_from 0 es;
 }
+
+abbrev pub start_of : PathNodes → PosixTree
+start_of nodes = start_from (map.entries nodes)
+
+-- what stands at a path of a tree, with a file's bytes in place of its number
+abbrev pub content_of : Files → Option Node → Option PathNode
+content_of bytes None = None
+content_of bytes (Some Dir) = Some path_node.Dir
+content_of bytes (Some (File f)) = option_map path_node.File (map.get bytes f)
+
+-- the tree has these paths, with these bytes
+abbrev pub HasContents : PosixTree → PathNodes → Type 0
+HasContents t nodes = (path : List ℕ) → content_of t.bytes (map.get t.paths path) ≡ map.get nodes path
+
+-- files have numbers in the order of their paths
+abbrev pub IsNumberedByPath : PosixTree → Type 0
+IsNumberedByPath t = (p q : List ℕ) (f g : ℕ) → map.get t.paths p ≡ Some (File f) → map.get t.paths q ≡ Some (File g) → path_cmp p q ≡ Less → f < g

@@ -1,4 +1,4 @@
-use Rattle.std.proofs.Common.{ap, ◌∙◌, sym, ◌≡◌, rules}
+use Rattle.std.proofs.Common.{◌∙◌, sym, ◌≡◌, rules}
 use Rattle.ufs_model.proofs.TreeLemmas.{make_dir-there, make_dir-new}
 use Rattle.ufs_model.proofs.parts.make_dir.Goals as goal
 

@@ -1,0 +1,20 @@
+use Rattle.std.proofs.Common.{List, [], ◌∷◌, ◌++◌, ap, sym, subst, ◌∙◌}
+use Rattle.ufs_model.specs.History.{IsLegal, IsInOrder, tree_after}
+use Rattle.ufs_model.specs.declared.data.Entry.{Entry}
+use Rattle.ufs_model.proofs.HistoryLemmas.{legal-push, tree_after-push, order-push}
+use Rattle.ufs_model.proofs.lists.EntryList.push.Goals as goal
+
+pub returns-clause-legal : goal.returns-clause-legal
+returns-clause-legal c = λ start legal next.
+    let is = c.in_ok-push.ensures.items ∙ ap (λ (l : List Entry). l ++ c.args.entry ∷ []) c.self.view_is in
+    subst (λ (l : List Entry). IsLegal start l) (sym is) (legal-push start c.args.self.now c.args.entry legal next)
+
+pub returns-clause-after : goal.returns-clause-after
+returns-clause-after c = λ start.
+    let is = c.in_ok-push.ensures.items ∙ ap (λ (l : List Entry). l ++ c.args.entry ∷ []) c.self.view_is in
+    ap (tree_after start) is ∙ tree_after-push start c.args.self.now c.args.entry
+
+pub returns-clause-order : goal.returns-clause-order
+returns-clause-order c = λ clients ordered next.
+    let is = c.in_ok-push.ensures.items ∙ ap (λ (l : List Entry). l ++ c.args.entry ∷ []) c.self.view_is in
+    subst (λ (l : List Entry). IsInOrder clients l) (sym is) (order-push clients c.args.self.now c.args.entry ordered next)
