@@ -1,5 +1,5 @@
 -- The only break of this form is a text that isn't read yet.
-use Rattle.std.proofs.Common.{◌≡◌, ℕ, List, [], ◌∷◌, length, refl, cond, Bool, true, false, Result, Ok, Err, Option, Some, None, leb, sym, ◌⊎◌, inl, inr, subst}
+use Rattle.std.proofs.Common.{◌≡◌, ℕ, List, [], ◌∷◌, length, refl, cond, Bool, true, false, Result, Ok, Err, Option, Some, None, leb, sym, inl, inr, subst}
 use Rattle.std.specs.Prelude.{IfErr}
 use Rattle.std.specs.Str.{bytes_eq}
 use Rattle.std.specs.List.{slice_split}

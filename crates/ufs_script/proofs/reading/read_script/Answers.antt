@@ -1,8 +1,6 @@
-use Rattle.std.proofs.Common.{◌≡◌, ◌⊎◌, Err}
 use Rattle.std.proofs.lemmas.Result.{IfErr-at_err, MatchResult-weaker}
 use Rattle.ufs_script.specs.Requests.{IsFaultOf}
 use Rattle.ufs_script.specs.Script.{script_of}
-use Rattle.ufs_script.specs.declared.fault.ScriptFault.TheVariants as fault
 use Rattle.ufs_script.proofs.BreakLemmas.{break_answered, never_source}
 use Rattle.ufs_script.proofs.reading.read_script.Goals as goal
 
