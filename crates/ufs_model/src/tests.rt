@@ -3,7 +3,10 @@ ghost use Rattle.std.specs.Prelude.{◌≡◌, [], ◌∷◌, IfOk, codes};
 ghost use Rattle.ufs_model.specs.PathEntries.{pairs_of};
 ghost use Rattle.ufs_model.specs.declared.data.PathNode.TheVariants as path_node;
 
-use crate::{Bytes, Memory, PathEntry, PathNode, PathTree, Tree};
+use crate::{
+    Actor, Bytes, Entry, EntryList, Errno, Memory, NameList, Op, PathEntry, PathNode, PathTree,
+    Reply, Tree,
+};
 use std::alloc::Global;
 use std::test::Fail;
 
@@ -65,5 +68,56 @@ fn a_path_tree_starts_and_gives_its_entries_back(rt: HostRuntime) -> Result<(), 
     for (entry, name) in back.iter().zip(names) {
         assert_eq!(rt; entry.path.as_slice(), name.as_bytes());
     }
+    Ok(())
+}
+
+#[test]
+fn a_file_is_written_and_read(rt: HostRuntime) -> Result<(), Fail> {
+    let alloc = rt.alloc();
+    let mut tree = Tree::start(alloc, &PathTree::root_alone(alloc)?)?;
+    let open = Op::OpenFile {
+        path: Bytes::from_vec(b"/f".to_vec(alloc)?),
+        read: true,
+        write: true,
+        creat: true,
+        excl: false,
+        trunc: false,
+        append: false,
+    };
+    let reply = tree.step(2, &open)?;
+    assert!(rt; matches!(&reply, Reply::Fd(3)));
+    let bytes = Bytes::from_vec(b"ab".to_vec(alloc)?);
+    let reply = tree.step(2, &Op::Write { fd: 3, bytes })?;
+    assert!(rt; matches!(&reply, Reply::Count(2)));
+    let reply = tree.step(2, &open)?;
+    assert!(rt; matches!(&reply, Reply::Fd(4)));
+    let reply = tree.step(2, &Op::Read { fd: 4, n: 9 })?;
+    let Reply::Got(bytes) = reply else {
+        panic!(rt; "no bytes");
+    };
+    assert_eq!(rt; bytes.as_slice(), b"ab".as_slice());
+    Ok(())
+}
+
+#[test]
+fn lists_take_what_they_are_given(rt: HostRuntime) -> Result<(), Fail> {
+    let alloc = rt.alloc();
+    let names = vec![in alloc;
+        Bytes::from_vec(b"a".to_vec(alloc)?),
+        Bytes::from_vec(b"b".to_vec(alloc)?),
+    ]?;
+    assert!(rt; NameList::are_rising(names.as_slice()));
+    let names = NameList::from_vec(names);
+    assert_eq!(rt; names.as_slice().len(), 2);
+    let mut history = EntryList::new(alloc);
+    history.push(Entry {
+        ticket: 0,
+        client: 1,
+        seq: 0,
+        by: Actor::Primary,
+        op: Op::Close { fd: 3 },
+        reply: Reply::Refused(Errno::Ebadf),
+    })?;
+    assert_eq!(rt; history.as_slice().len(), 1);
     Ok(())
 }
