@@ -1,5 +1,5 @@
 -- The only break of this form is a text that isn't read yet.
-use Rattle.std.proofs.Common.{◌≡◌, ℕ, List, [], ◌∷◌, length, refl, cond, Bool, true, false, Result, Ok, Err, Option, Some, None, leb, sym, ◌⊎◌, inl, inr, subst}
+use Rattle.std.proofs.Common.{◌≡◌, ℕ, List, [], ◌∷◌, length, refl, cond, Bool, true, false, Result, Ok, Err, Option, Some, None, leb, sym, inl, inr, subst}
 use Rattle.std.specs.Prelude.{IfErr}
 use Rattle.std.specs.Str.{bytes_eq}
 use Rattle.std.specs.List.{slice_split}
@@ -9,7 +9,7 @@ use Rattle.ufs_model.specs.declared.data.Op.{Op}
 use Rattle.ufs_script.specs.declared.fault.ScriptFault.{ScriptFault}
 use Rattle.ufs_script.specs.declared.fault.ScriptFault.TheVariants as fault
 use Rattle.ufs_script.specs.Words.{number_of, at_most, data_of}
-use Rattle.ufs_script.specs.Requests.{request_of, request_of_two, request_of_three, request_of_four, close_of, read_of, write_of, open_with, mode_of, words_of, not_built}
+use Rattle.ufs_script.specs.Requests.{request_of, request_of_two, request_of_three, request_of_four, close_of, read_of, write_of, open_with, mode_of, words_of, not_built, IsFaultOf}
 use Rattle.ufs_script.specs.Script.{requests_of, onto, is_end, with_requests, body_of, script_of, IsAnswered}
 
 abbrev Only : {A : Type 0} → Result A ScriptFault → Type 0
@@ -80,11 +80,11 @@ pub script_break : (text : List ℕ) (f : ScriptFault) → script_of text ≡ Er
 script_break text f h =
     IfErr-at_err (λ e. e ≡ not_built) h (choose (leb (length text) 16777216) _ _ (body_only (slice_split _ text)) refl)
 
--- what a text's parsing may answer in place of a script
-pub break_answered : (text : List ℕ) (f : ScriptFault) → (f ≡ fault.Memory) ⊎ (script_of text ≡ Err f) → IsAnswered f
+-- of the faults of a parsing: those that are answered, and never the source's
+pub break_answered : (text : List ℕ) (f : ScriptFault) → IsFaultOf (script_of text) f → IsAnswered f
 break_answered text f (inl memory) = subst IsAnswered (sym memory) tt
 break_answered text f (inr h) = subst IsAnswered (sym (script_break text f h)) refl
 
-pub never_source : (text : List ℕ) → (fault.Source ≡ fault.Memory) ⊎ (script_of text ≡ Err fault.Source) → ⊥
+pub never_source : (text : List ℕ) → IsFaultOf (script_of text) fault.Source → ⊥
 never_source text (inl memory) = cc memory
 never_source text (inr h) = cc (script_break text fault.Source h)

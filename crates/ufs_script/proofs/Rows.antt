@@ -1,5 +1,5 @@
 -- A few scripts and lines, worked by computation.
-use Rattle.std.proofs.Common.{◌≡◌, ℕ, List, [], ◌∷◌, ◌++◌, Ok, Err, Some, None, true, false, refl}
+use Rattle.std.proofs.Common.{◌≡◌, [], ◌∷◌, Ok, Err, true, false, refl}
 use Rattle.std.specs.Prelude.{codes}
 use Rattle.std.specs.Fmt.{digits}
 use Rattle.hex.specs.Hex.{encode_with}
@@ -8,7 +8,6 @@ use Rattle.ufs_model.specs.declared.data.Op.TheVariants as op
 use Rattle.ufs_model.specs.declared.data.Reply.TheVariants as reply
 use Rattle.ufs_script.specs.Requests.{not_built}
 use Rattle.ufs_script.specs.Script.{script_of, one_client}
-use Rattle.ufs_script.specs.Spelling.{script_text}
 use Rattle.ufs_script.specs.Output.{line_text}
 
 no_request : script_of (codes "client 0\nend\n") ≡ Ok (one_client [])

@@ -1,5 +1,5 @@
 -- Which request a line of a script stands for.
-use Rattle.std.specs.Prelude.{ℕ, List, [], ◌∷◌, Bool, true, false, ◌==◌, if◌then◌else◌, Option, Some, None, Result, Ok, Err, codes}
+use Rattle.std.specs.Prelude.{ℕ, ◌≡◌, ◌⊎◌, List, [], ◌∷◌, Bool, true, false, ◌==◌, if◌then◌else◌, Option, Some, None, Result, Ok, Err, codes}
 use Rattle.std.specs.List.{slice_split}
 use Rattle.std.specs.Str.{bytes_eq}
 use Rattle.ufs_model.specs.Paths.{is_plain}
@@ -12,6 +12,10 @@ use Rattle.ufs_script.specs.declared.fault.ScriptFault.TheVariants as fault
 -- the one break of this form: the text is of a form that isn't read yet
 abbrev pub not_built : ScriptFault
 not_built = fault.NotBuilt 0
+
+-- the faults of a reading that gives this: want of memory, and its break
+abbrev pub IsFaultOf : {A : Type 0} → Result A ScriptFault → ScriptFault → Type 0
+IsFaultOf given f = (f ≡ fault.Memory) ⊎ (given ≡ Err f)
 
 abbrev pub mkdir_of : List ℕ → Result Op ScriptFault
 mkdir_of path = if is_plain path then Ok (op.Mkdir path) else Err not_built

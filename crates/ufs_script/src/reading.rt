@@ -16,8 +16,10 @@ const MAX_READS: u32 = 16_777_218;
 // Reads to the source's end, or past the greatest length of a script.
 fn read_all<S: Source>(alloc: Global, source: &mut S) -> Result<Vec<u8>, ScriptFault>
     ensures later { S.faults source.old ≤ S.faults source.new }
-    ensures cause { result ≡ Err ScriptFault.Source → Rose (S.faults source.old) (S.faults source.new) }
-    ensures counted { result ≢ Err ScriptFault.Source → S.faults source.new ≡ S.faults source.old }
+    ensures cause { result ≡ Err ScriptFault.Source →
+        Rose (S.faults source.old) (S.faults source.new) }
+    ensures counted { result ≢ Err ScriptFault.Source →
+        S.faults source.new ≡ S.faults source.old }
     ensures outside { IfErr result IsOutside }
     ensures text { IfOk result (λ text. HasRead (S.left source.old) (S.left source.new) text.items) }
 {
@@ -45,13 +47,17 @@ fn read_all<S: Source>(alloc: Global, source: &mut S) -> Result<Vec<u8>, ScriptF
 /// In this form a text that is off the form, or too long, is `NotBuilt` with line 0.
 pub fn read_script<S: Source>(alloc: Global, source: &mut S) -> Result<Script, ScriptFault>
     ensures later { S.faults source.old ≤ S.faults source.new }
-    ensures cause { result ≡ Err ScriptFault.Source → Rose (S.faults source.old) (S.faults source.new) }
-    ensures counted { result ≢ Err ScriptFault.Source → S.faults source.new ≡ S.faults source.old }
-    ensures script { IfOk result (λ script. ReadsScript (S.left source.old) (S.left source.new) script) }
+    ensures cause { result ≡ Err ScriptFault.Source →
+        Rose (S.faults source.old) (S.faults source.new) }
+    ensures counted { result ≢ Err ScriptFault.Source →
+        S.faults source.new ≡ S.faults source.old }
+    ensures script { IfOk result (ReadsScript (S.left source.old) (S.left source.new)) }
     ensures not_built { (line : ℕ) → result ≡ Err (ScriptFault.NotBuilt line) →
         ReadsBreak (S.left source.old) (S.left source.new) (ScriptFault.NotBuilt line) }
     ensures answered { IfErr result IsAnswered }
-    ensures one_client { IfOk result (λ script. (length script.clients ≡ 1) × (script.workers ≡ 1) × (script.words ≡ [])) }
+    ensures clients { IfOk result (λ script. length script.clients ≡ 1) }
+    ensures workers { IfOk result (λ script. script.workers ≡ 1) }
+    ensures words { IfOk result (λ script. script.words ≡ []) }
 {
     let text = read_all(alloc, source)?;
     parse(alloc, text.as_slice())

@@ -1,7 +1,7 @@
 // The request that a line stands for.
-ghost use Rattle.std.specs.Prelude.{◌≡◌, ◌⊎◌, IfOk, IfErr, map};
+ghost use Rattle.std.specs.Prelude.{◌≡◌, IfOk, IfErr, map};
 ghost use Rattle.ufs_model.specs.Posix.{IsBuilt};
-ghost use Rattle.ufs_script.specs.Requests.{mode_of, request_of, request_of_two, request_of_three, request_of_four, words_of};
+ghost use Rattle.ufs_script.specs.Requests.{IsFaultOf, mode_of, request_of, request_of_two, request_of_three, request_of_four, words_of};
 
 use crate::fault::{NOT_BUILT, ScriptFault};
 use crate::words::{data, is_plain, number, pieces};
@@ -31,7 +31,7 @@ fn mode(word: &[u8]) -> Option<(bool, bool)>
 
 fn two(alloc: Global, verb: &[u8], a: &[u8]) -> Result<Op, ScriptFault>
     ensures ok { IfOk result (λ op. request_of_two verb.now a.now ≡ Ok op) }
-    ensures err { IfErr result (λ e. (e ≡ ScriptFault.Memory) ⊎ (request_of_two verb.now a.now ≡ Err e)) }
+    ensures err { IfErr result (IsFaultOf (request_of_two verb.now a.now)) }
     ensures built { IfOk result IsBuilt }
 {
     if verb == b"mkdir".as_slice() {
@@ -53,7 +53,7 @@ fn two(alloc: Global, verb: &[u8], a: &[u8]) -> Result<Op, ScriptFault>
 
 fn three(alloc: Global, verb: &[u8], a: &[u8], b: &[u8]) -> Result<Op, ScriptFault>
     ensures ok { IfOk result (λ op. request_of_three verb.now a.now b.now ≡ Ok op) }
-    ensures err { IfErr result (λ e. (e ≡ ScriptFault.Memory) ⊎ (request_of_three verb.now a.now b.now ≡ Err e)) }
+    ensures err { IfErr result (IsFaultOf (request_of_three verb.now a.now b.now)) }
     ensures built { IfOk result IsBuilt }
 {
     if verb == b"read".as_slice() {
@@ -85,7 +85,7 @@ fn three(alloc: Global, verb: &[u8], a: &[u8], b: &[u8]) -> Result<Op, ScriptFau
 
 fn four(alloc: Global, verb: &[u8], a: &[u8], b: &[u8], c: &[u8]) -> Result<Op, ScriptFault>
     ensures ok { IfOk result (λ op. request_of_four verb.now a.now b.now c.now ≡ Ok op) }
-    ensures err { IfErr result (λ e. (e ≡ ScriptFault.Memory) ⊎ (request_of_four verb.now a.now b.now c.now ≡ Err e)) }
+    ensures err { IfErr result (IsFaultOf (request_of_four verb.now a.now b.now c.now)) }
     ensures built { IfOk result IsBuilt }
 {
     if verb != b"open".as_slice() || c != b"creat".as_slice() {
@@ -110,7 +110,7 @@ fn four(alloc: Global, verb: &[u8], a: &[u8], b: &[u8], c: &[u8]) -> Result<Op, 
 
 fn by_words(alloc: Global, words: &[&[u8]]) -> Result<Op, ScriptFault>
     ensures ok { IfOk result (λ op. request_of (map (λ w. w.now) words.now) ≡ Ok op) }
-    ensures err { IfErr result (λ e. (e ≡ ScriptFault.Memory) ⊎ (request_of (map (λ w. w.now) words.now) ≡ Err e)) }
+    ensures err { IfErr result (IsFaultOf (request_of (map (λ w. w.now) words.now))) }
     ensures built { IfOk result IsBuilt }
 {
     let count = words.len();
@@ -131,7 +131,7 @@ fn by_words(alloc: Global, words: &[&[u8]]) -> Result<Op, ScriptFault>
 /// The request of a line, which has no line end.
 pub fn request(alloc: Global, line: &[u8]) -> Result<Op, ScriptFault>
     ensures ok { IfOk result (λ op. request_of (words_of line.now) ≡ Ok op) }
-    ensures err { IfErr result (λ e. (e ≡ ScriptFault.Memory) ⊎ (request_of (words_of line.now) ≡ Err e)) }
+    ensures err { IfErr result (IsFaultOf (request_of (words_of line.now))) }
     ensures built { IfOk result IsBuilt }
 {
     let words = pieces(alloc, line, b' ')?;

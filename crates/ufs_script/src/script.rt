@@ -1,7 +1,8 @@
 // A whole script, from its text.
-ghost use Rattle.std.specs.Prelude.{◌≡◌, ◌⊎◌, ◌≤◌, IfOk, IfErr, map, length};
+ghost use Rattle.std.specs.Prelude.{◌≡◌, ◌≤◌, IfOk, IfErr, map, length};
 ghost use Rattle.std.specs.List.{AllByRecursion};
 ghost use Rattle.ufs_model.specs.Posix.{IsBuilt};
+ghost use Rattle.ufs_script.specs.Requests.{IsFaultOf};
 ghost use Rattle.ufs_script.specs.Script.{requests_of, body_of, script_of, is_end, one_client};
 
 use crate::fault::{NOT_BUILT, ScriptFault};
@@ -38,7 +39,7 @@ fn is_end(line: &[u8], last: &[u8]) -> bool
 // The requests of all lines but the first, of which the last two are `end` and nothing.
 fn requests(alloc: Global, lines: &[&[u8]]) -> Result<Vec<Op>, ScriptFault>
     ensures ok { IfOk result (λ ops. requests_of (map (λ l. l.now) lines.now) ≡ Ok ops.items) }
-    ensures err { IfErr result (λ e. (e ≡ ScriptFault.Memory) ⊎ (requests_of (map (λ l. l.now) lines.now) ≡ Err e)) }
+    ensures err { IfErr result (IsFaultOf (requests_of (map (λ l. l.now) lines.now))) }
     ensures built { IfOk result (λ ops. AllByRecursion IsBuilt ops.items) }
 {
     let size = lines.len();
@@ -73,7 +74,7 @@ fn one_client(alloc: Global, ops: OpList) -> Result<Script, AllocError>
 
 fn body(alloc: Global, lines: &[&[u8]]) -> Result<Script, ScriptFault>
     ensures ok { IfOk result (λ script. body_of (map (λ l. l.now) lines.now) ≡ Ok script) }
-    ensures err { IfErr result (λ e. (e ≡ ScriptFault.Memory) ⊎ (body_of (map (λ l. l.now) lines.now) ≡ Err e)) }
+    ensures err { IfErr result (IsFaultOf (body_of (map (λ l. l.now) lines.now))) }
 {
     let [first, rest @ ..] = lines else {
         return Err(NOT_BUILT);
@@ -91,7 +92,7 @@ fn body(alloc: Global, lines: &[&[u8]]) -> Result<Script, ScriptFault>
 /// The script that a text is, or its first break.
 pub fn parse(alloc: Global, text: &[u8]) -> Result<Script, ScriptFault>
     ensures ok { IfOk result (λ script. script_of text.now ≡ Ok script) }
-    ensures err { IfErr result (λ e. (e ≡ ScriptFault.Memory) ⊎ (script_of text.now ≡ Err e)) }
+    ensures err { IfErr result (IsFaultOf (script_of text.now)) }
 {
     if text.len() > MAX_SCRIPT {
         return Err(NOT_BUILT);

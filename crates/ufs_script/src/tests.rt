@@ -84,6 +84,7 @@ fn some_bytes(alloc: Global, text: &str) -> Result<Bytes, Fail> {
 fn replies_have_their_lines(rt: HostRuntime) -> Result<(), Fail> {
     let alloc = rt.alloc();
     let names = vec![in alloc; some_bytes(alloc, "a")?, some_bytes(alloc, "bc")?]?;
+    assert!(rt; NameList::are_rising(names.as_slice()));
     let rows = [
         (Reply::Done, "0.7 ok\n"),
         (Reply::Fd(66), "0.7 fd 66\n"),
