@@ -10,20 +10,41 @@ mod tests;
 mod write;
 
 pub use ending::Ending;
+use quiet::finish;
 pub use quiet::quiet;
+use std::env::Env;
 use std::process::ExitCode;
 use std::{env, io};
 use ufs_io::{StreamSink, StreamSource};
 
-fn main(rt: HostRuntime) -> io::Result<ExitCode> {
+// The words of the command line behind the program's name. One that isn't text is no word of a command.
+fn command_words<R: Env + AllocGlobal>(rt: &R) -> Result<Vec<String>, Ending> {
+    let all = match env::args(rt) {
+        Ok(all) => all,
+        Err(e) => {
+            return Err(match e.kind() {
+                io::ErrorKind::InvalidData => Ending::Usage,
+                _ => Ending::OutOfMemory,
+            });
+        }
+    };
     let mut words = Vec::new(rt.alloc());
-    for (place, word) in env::args(&rt)?.enumerate() {
-        if place > 0 {
-            words.push(word)?;
+    for (place, word) in all.enumerate() {
+        if place > 0 && words.push(word).is_err() {
+            return Err(Ending::OutOfMemory);
         }
     }
-    let mut source = StreamSource::new(rt.reader());
+    Ok(words)
+}
+
+fn main(rt: HostRuntime) -> ExitCode {
     let mut sink = StreamSink::new(io::writer(&rt));
-    let status = quiet(rt.alloc(), &words, &mut source, &mut sink);
-    Ok(ExitCode::from(status))
+    let status = match command_words(&rt) {
+        Ok(words) => {
+            let mut source = StreamSource::new(rt.reader());
+            quiet(rt.alloc(), &words, &mut source, &mut sink)
+        }
+        Err(ending) => finish(&mut sink, ending),
+    };
+    ExitCode::from(status)
 }

@@ -28,8 +28,8 @@ fn is_play(words: &Vec<String>) -> bool
     words.len() == 1 && words[0].as_str() == "play"
 }
 
-// Writes the line of an ending.
-fn finish<K: Sink>(sink: &mut K, ending: Ending) -> u8
+/// Writes the line of an ending.
+pub fn finish<K: Sink>(sink: &mut K, ending: Ending) -> u8
     ensures { IsAnswer (IsLastLine ending) (K.held sink.old) (K.held sink.new) (K.faults sink.old) (K.faults sink.new) result }
 {
     match write_all(sink, ending.last_line()) {
