@@ -1,0 +1,17 @@
+//! A disk of sectors: what a read gives, what a crash at any moment may leave, and when a call fails.
+#![tactic(auto)]
+
+mod disk;
+
+mod medium;
+mod memory;
+
+mod plain;
+mod ranges;
+
+pub use disk::{Disk, Fault, SECTOR};
+
+pub use medium::{Call, Medium, Request};
+pub use memory::MemoryDisk;
+
+pub use plain::PlainDisk;
