@@ -35,3 +35,8 @@ module _ (old new : Moments) (same : new ≡ old) where
 
   pub still_whole : (size : ℕ) → IsWhole size old.state → IsWhole size new.state
   still_whole size whole = subst (λ (m : Moments). IsWhole size m.state) (sym same) whole
+
+-- what holds after any failure
+pub on_err : {T E : Type 0} (result : Result T E) (P : Type 0) → P → OnErr result P
+on_err (Ok x) P p = tt
+on_err (Err e) P p = p

@@ -2,16 +2,14 @@
 #![tactic(auto)]
 
 mod disk;
-
+mod fuse;
 mod medium;
 mod memory;
-
 mod plain;
 mod ranges;
 
 pub use disk::{Disk, Fault, SECTOR};
-
+pub use fuse::FuseDisk;
 pub use medium::{Call, Medium, Request};
 pub use memory::MemoryDisk;
-
 pub use plain::PlainDisk;

@@ -75,35 +75,40 @@ impl Medium {
         })
     }
 
-    /// Reads some sectors, where `passes` says so.
-    pub fn read(&mut self, passes: bool, sector: u32, buf: &mut [u8]) -> Result<(), Fault>
+    /// Reads some sectors, unless it is to fail.
+    pub fn read(&mut self, fails: bool, sector: u32, buf: &mut [u8]) -> Result<(), Fault>
         requires { IsRange self.old.sectors sector (length buf.old) }
         ensures bytes { OnOk result (buf.new ≡ bytes_from (reads (medium_moments self.old)) sector (length buf.old / 512)) }
+        ensures buf { OnErr result (buf.new ≡ buf.old) }
+        ensures same { medium_moments self.new ≡ medium_moments self.old }
         ensures content { reads (medium_moments self.new) ≡ reads (medium_moments self.old) }
         ensures crash { LeavesOnly true (IsImage (medium_moments self.old).state) (medium_moments self.old) (medium_moments self.new) }
         ensures sectors { self.new.sectors ≡ self.old.sectors }
         ensures first { self.new.first ≡ self.old.first }
-        ensures noted { Notes (IsTrue passes) (passes ≡ false) (λ request. request ≡ Request.Read sector (length buf.old)) self.old.calls.items self.new.calls.items result }
+        ensures rises { OnErr result (self.new.faults ≡ min (self.old.faults + 1) (2 ^ 64 - 1)) }
+        ensures noted { Notes (fails ≡ false) (IsTrue fails) (λ request. request ≡ Request.Read sector (length buf.old)) self.old.calls.items self.new.calls.items result }
         ensures cause { HasCause self.old.faults self.new.faults result }
     {
         let request = Request::Read {
             sector,
             bytes: buf.len(),
         };
-        note(&mut self.calls, &mut self.faults, passes, request)?;
+        note(&mut self.calls, &mut self.faults, fails, request)?;
         copy_out(&self.bytes, SECTOR * sector as usize, buf);
         Ok(())
     }
 
-    /// Writes some sectors, where `passes` says so.
-    pub fn write(&mut self, passes: bool, sector: u32, bytes: &[u8]) -> Result<(), Fault>
+    /// Writes some sectors, unless it is to fail.
+    pub fn write(&mut self, fails: bool, sector: u32, bytes: &[u8]) -> Result<(), Fault>
         requires { IsRange self.old.sectors sector (length bytes.now) }
         ensures ok { OnOk result (reads (medium_moments self.new) ≡ put_all sector (sectors_of bytes.now) (reads (medium_moments self.old))) }
-        ensures err { OnErr result (reads (medium_moments self.new) ≡ reads (medium_moments self.old)) }
+        ensures err { OnErr result (medium_moments self.new ≡ medium_moments self.old) }
+        ensures content { Mixes (reads (medium_moments self.old)) (put_all sector (sectors_of bytes.now) (reads (medium_moments self.old))) (reads (medium_moments self.new)) }
         ensures crash { LeavesOnly true (IsMixedFrom sector (sectors_of bytes.now) (medium_moments self.old).state) (medium_moments self.old) (medium_moments self.new) }
         ensures sectors { self.new.sectors ≡ self.old.sectors }
         ensures first { self.new.first ≡ self.old.first }
-        ensures noted { Notes (IsTrue passes) (passes ≡ false) (IsWrite sector bytes.now) self.old.calls.items self.new.calls.items result }
+        ensures rises { OnErr result (self.new.faults ≡ min (self.old.faults + 1) (2 ^ 64 - 1)) }
+        ensures noted { Notes (fails ≡ false) (IsTrue fails) (IsWrite sector bytes.now) self.old.calls.items self.new.calls.items result }
         ensures cause { HasCause self.old.faults self.new.faults result }
     {
         let at = SECTOR * sector as usize;
@@ -120,26 +125,28 @@ impl Medium {
             sector,
             bytes: copy,
         };
-        note(&mut self.calls, &mut self.faults, passes, request)?;
+        note(&mut self.calls, &mut self.faults, fails, request)?;
         cover(&mut self.covered, sector, was);
         overwrite(&mut self.bytes, at, bytes);
         Ok(())
     }
 
-    /// Waits until all is on the medium for good, where `passes` says so.
-    pub fn barrier(&mut self, passes: bool) -> Result<(), Fault>
+    /// Waits until all is on the medium for good, unless it is to fail.
+    pub fn barrier(&mut self, fails: bool) -> Result<(), Fault>
         ensures ok { OnOk result (IsSettled (medium_moments self.new).state) }
+        ensures err { OnErr result (medium_moments self.new ≡ medium_moments self.old) }
         ensures content { reads (medium_moments self.new) ≡ reads (medium_moments self.old) }
         ensures crash { LeavesOnly true (IsImage (medium_moments self.old).state) (medium_moments self.old) (medium_moments self.new) }
         ensures sectors { self.new.sectors ≡ self.old.sectors }
         ensures first { self.new.first ≡ self.old.first }
-        ensures noted { Notes (IsTrue passes) (passes ≡ false) (λ request. request ≡ Request.Barrier) self.old.calls.items self.new.calls.items result }
+        ensures rises { OnErr result (self.new.faults ≡ min (self.old.faults + 1) (2 ^ 64 - 1)) }
+        ensures noted { Notes (fails ≡ false) (IsTrue fails) (λ request. request ≡ Request.Barrier) self.old.calls.items self.new.calls.items result }
         ensures cause { HasCause self.old.faults self.new.faults result }
     {
         note(
             &mut self.calls,
             &mut self.faults,
-            passes,
+            fails,
             Request::Barrier,
         )?;
         self.covered = Vec::new(self.alloc);
@@ -219,15 +226,17 @@ fn fault(faults: &mut u64) -> Fault
 fn note(
     calls: &mut Vec<Call>,
     faults: &mut u64,
-    passes: bool,
+    fails: bool,
     request: Request,
 ) -> Result<(), Fault>
-    ensures may { OnOk result (IsTrue passes) }
+    ensures may { OnOk result (fails ≡ false) }
     ensures ok { OnOk result (calls.new.items ≡ calls.old.items ++ record { request = request; passed = true } ∷ []) }
-    ensures err { OnErr result ((calls.new.items ≡ calls.old.items) ⊎ ((passes ≡ false) × (calls.new.items ≡ calls.old.items ++ record { request = request; passed = false } ∷ []))) }
+    ensures err { OnErr result ((calls.new.items ≡ calls.old.items) ⊎ (IsTrue fails × (calls.new.items ≡ calls.old.items ++ record { request = request; passed = false } ∷ []))) }
+    ensures rises { OnErr result (faults.new ≡ min (faults.old + 1) (2 ^ 64 - 1)) }
     ensures cause { HasCause faults.old faults.new result }
 {
-    if calls.push(Call { request, passed: passes }).is_err() || !passes {
+    let passed = !fails;
+    if calls.push(Call { request, passed }).is_err() || fails {
         return Err(fault(faults));
     }
     Ok(())

@@ -1,11 +1,12 @@
 // A disk in memory, of whose calls those with given numbers fail.
-ghost use Rattle.std.specs.Prelude.{◌≡◌, ◌*◌, ◌/◌, [], ◌∷◌, ◌^◌, length, true, IsTrue, IfOk, OnOk, OnErr, Contains};
+ghost use Rattle.std.specs.Prelude.{◌≡◌, ◌*◌, ◌/◌, ◌+◌, ◌-◌, ◌^◌, [], length, min, true, false, IsTrue, IfOk, OnOk, OnErr, Contains};
 ghost use Rattle.ufs_disk.specs.Disk.{IsImage, IsRange, IsSettled, IsMixedFrom, Mixes, sectors_of, put_all, bytes_from};
 ghost use Rattle.ufs_disk.specs.Moments.{LeavesOnly, reads};
 ghost use Rattle.ufs_disk.specs.Faults.{HasCause};
 ghost use Rattle.ufs_disk.specs.Bytes.{begun, image_of};
 ghost use Rattle.ufs_disk.specs.Calls.{Notes, IsWrite, picked};
 ghost use Rattle.ufs_disk.specs.Medium.{medium_moments};
+ghost use Rattle.ufs_disk.specs.declared.medium.Request.{Request};
 
 use crate::{Disk, Fault, Medium};
 use std::alloc::{AllocError, Global};
@@ -49,12 +50,12 @@ impl MemoryDisk {
         self.medium.crash(pick)
     }
 
-    // Whether the next call passes.
-    fn passes(&self) -> bool
-        ensures yes { result ≡ true → ¬ Contains self.now.fails.items (length self.now.medium.calls.items) }
-        ensures no { result ≡ false → Contains self.now.fails.items (length self.now.medium.calls.items) }
+    // Whether the next call fails.
+    fn must_fail(&self) -> bool
+        ensures yes { IsTrue result → Contains self.now.fails.items (length self.now.medium.calls.items) }
+        ensures no { result ≡ false → ¬ Contains self.now.fails.items (length self.now.medium.calls.items) }
     {
-        !self.fails.contains(&(self.medium.calls.len() as u64))
+        is_listed(&self.fails, self.medium.calls.len() as u64)
     }
 }
 
@@ -77,18 +78,61 @@ impl Disk for MemoryDisk {
         self.medium.sectors
     }
 
-    fn read(&mut self, sector: u32, buf: &mut [u8]) -> Result<(), Fault> {
-        let passes = self.passes();
-        self.medium.read(passes, sector, buf)
+    fn read(&mut self, sector: u32, buf: &mut [u8]) -> Result<(), Fault>
+        requires { IsRange self.old.medium.sectors sector (length buf.old) }
+        ensures bytes { OnOk result (buf.new ≡ bytes_from (reads (medium_moments self.old.medium)) sector (length buf.old / 512)) }
+        ensures buf { OnErr result (buf.new ≡ buf.old) }
+        ensures content { reads (medium_moments self.new.medium) ≡ reads (medium_moments self.old.medium) }
+        ensures crash { LeavesOnly true (IsImage (medium_moments self.old.medium).state) (medium_moments self.old.medium) (medium_moments self.new.medium) }
+        ensures noted { Notes (¬ Contains self.old.fails.items (length self.old.medium.calls.items)) (Contains self.old.fails.items (length self.old.medium.calls.items))
+            (λ request. request ≡ Request.Read sector (length buf.old)) self.old.medium.calls.items self.new.medium.calls.items result }
+        ensures rises { OnErr result (self.new.medium.faults ≡ min (self.old.medium.faults + 1) (2 ^ 64 - 1)) }
+        ensures fails { self.new.fails ≡ self.old.fails }
+        ensures size { self.new.medium.sectors ≡ self.old.medium.sectors }
+        ensures cause { HasCause self.old.medium.faults self.new.medium.faults result }
+    {
+        let fails = self.must_fail();
+        self.medium.read(fails, sector, buf)
     }
 
-    fn write(&mut self, sector: u32, bytes: &[u8]) -> Result<(), Fault> {
-        let passes = self.passes();
-        self.medium.write(passes, sector, bytes)
+    fn write(&mut self, sector: u32, bytes: &[u8]) -> Result<(), Fault>
+        requires { IsRange self.old.medium.sectors sector (length bytes.now) }
+        ensures ok { OnOk result (reads (medium_moments self.new.medium) ≡ put_all sector (sectors_of bytes.now) (reads (medium_moments self.old.medium))) }
+        ensures err { OnErr result (medium_moments self.new.medium ≡ medium_moments self.old.medium) }
+        ensures content { Mixes (reads (medium_moments self.old.medium)) (put_all sector (sectors_of bytes.now) (reads (medium_moments self.old.medium))) (reads (medium_moments self.new.medium)) }
+        ensures crash { LeavesOnly true (IsMixedFrom sector (sectors_of bytes.now) (medium_moments self.old.medium).state) (medium_moments self.old.medium) (medium_moments self.new.medium) }
+        ensures noted { Notes (¬ Contains self.old.fails.items (length self.old.medium.calls.items)) (Contains self.old.fails.items (length self.old.medium.calls.items))
+            (IsWrite sector bytes.now) self.old.medium.calls.items self.new.medium.calls.items result }
+        ensures rises { OnErr result (self.new.medium.faults ≡ min (self.old.medium.faults + 1) (2 ^ 64 - 1)) }
+        ensures fails { self.new.fails ≡ self.old.fails }
+        ensures size { self.new.medium.sectors ≡ self.old.medium.sectors }
+        ensures cause { HasCause self.old.medium.faults self.new.medium.faults result }
+    {
+        let fails = self.must_fail();
+        self.medium.write(fails, sector, bytes)
     }
 
-    fn barrier(&mut self) -> Result<(), Fault> {
-        let passes = self.passes();
-        self.medium.barrier(passes)
+    fn barrier(&mut self) -> Result<(), Fault>
+        ensures ok { OnOk result (IsSettled (medium_moments self.new.medium).state) }
+        ensures err { OnErr result (medium_moments self.new.medium ≡ medium_moments self.old.medium) }
+        ensures content { reads (medium_moments self.new.medium) ≡ reads (medium_moments self.old.medium) }
+        ensures crash { LeavesOnly true (IsImage (medium_moments self.old.medium).state) (medium_moments self.old.medium) (medium_moments self.new.medium) }
+        ensures noted { Notes (¬ Contains self.old.fails.items (length self.old.medium.calls.items)) (Contains self.old.fails.items (length self.old.medium.calls.items))
+            (λ request. request ≡ Request.Barrier) self.old.medium.calls.items self.new.medium.calls.items result }
+        ensures rises { OnErr result (self.new.medium.faults ≡ min (self.old.medium.faults + 1) (2 ^ 64 - 1)) }
+        ensures fails { self.new.fails ≡ self.old.fails }
+        ensures size { self.new.medium.sectors ≡ self.old.medium.sectors }
+        ensures cause { HasCause self.old.medium.faults self.new.medium.faults result }
+    {
+        let fails = self.must_fail();
+        self.medium.barrier(fails)
     }
+}
+
+// Whether a call's number is in the list.
+fn is_listed(fails: &[u64], call: u64) -> bool
+    ensures yes { IsTrue result → Contains fails.now call }
+    ensures no { result ≡ false → ¬ Contains fails.now call }
+{
+    fails.contains(&call)
 }

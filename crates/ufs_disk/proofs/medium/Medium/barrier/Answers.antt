@@ -8,7 +8,7 @@ use Rattle.ufs_disk.specs.declared.medium.Request.TheVariants.{Barrier}
 use Rattle.ufs_disk.proofs.Runs.{stays}
 use Rattle.ufs_disk.proofs.Kept.{settled_whole}
 use Rattle.ufs_disk.proofs.Written.{settled_leaves_only}
-use Rattle.ufs_disk.proofs.Noted.{after_passed, after_failed, still_held, still_whole}
+use Rattle.ufs_disk.proofs.Noted.{on_err, after_passed, after_failed, still_held, still_whole}
 use Rattle.ufs_disk.proofs.medium.Medium.barrier.Goals as goal
 
 pub invariant_of-self : goal.invariant_of-self
@@ -52,3 +52,6 @@ returns-clause-crash c =
     let old = c.args.self.now.calls.items in
     let is = after_passed m old c.note.new.calls.items Barrier c.in_ok-note.ensures.ok in
     subst (LeavesOnly true (IsImage (after_calls old m).state) (after_calls old m)) (sym is) (settled_leaves_only (after_calls old m))
+
+pub returns-in_err-note-clause-err : goal.returns-in_err-note-clause-err
+returns-in_err-note-clause-err c = on_err _ _ (after_failed (begun c.args.self.now.first.items) c.args.self.now.calls.items c.note.new.calls.items Barrier _ c.in_err-note.ensures.err)

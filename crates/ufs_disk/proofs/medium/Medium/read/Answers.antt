@@ -44,3 +44,11 @@ returns-clause-crash c =
     let old = c.args.self.now.calls.items in
     stays true (IsImage (after_calls old m).state) (after_calls old m) (after_calls c.note.new.calls.items m)
     (after_passed m old c.note.new.calls.items (Read c.args.sector (length c.args.buf.now)) c.in_ok-note.ensures.ok) (λ image left. left)
+
+pub returns-in_err-note-clause-same : goal.returns-in_err-note-clause-same
+returns-in_err-note-clause-same c =
+    after_failed (begun c.args.self.now.first.items) c.args.self.now.calls.items c.note.new.calls.items (Read c.args.sector (length c.args.buf.now)) _ c.in_err-note.ensures.err
+
+pub returns-clause-same : goal.returns-clause-same
+returns-clause-same c =
+    after_passed (begun c.args.self.now.first.items) c.args.self.now.calls.items c.note.new.calls.items (Read c.args.sector (length c.args.buf.now)) c.in_ok-note.ensures.ok

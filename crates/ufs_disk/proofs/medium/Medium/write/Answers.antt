@@ -6,13 +6,13 @@ use Rattle.ufs_disk.specs.Calls.{after_calls, written}
 use Rattle.ufs_disk.specs.Pending.{held_state}
 use Rattle.ufs_disk.specs.Whole.{pieces_whole}
 use Rattle.ufs_disk.specs.declared.medium.Request.TheVariants.{Write}
-use Rattle.ufs_disk.proofs.Images.{unmixed}
+use Rattle.ufs_disk.proofs.Images.{unmixed, mixes_all}
 use Rattle.ufs_disk.proofs.Flat.{length-pieces}
 use Rattle.ufs_disk.proofs.Runs.{started, stays}
 use Rattle.ufs_disk.proofs.Written.{written_leaves, reads_written}
 use Rattle.ufs_disk.proofs.Kept.{written_whole}
 use Rattle.ufs_disk.proofs.Held.{held_written}
-use Rattle.ufs_disk.proofs.Noted.{after_passed, after_failed, still_held, still_whole}
+use Rattle.ufs_disk.proofs.Noted.{on_err, after_passed, after_failed, still_held, still_whole}
 use Rattle.ufs_disk.proofs.medium.Medium.write.Goals as goal
 
 pub returns-in_default-clause-crash : goal.returns-in_default-clause-crash
@@ -93,3 +93,16 @@ returns-clause-crash c =
     let copied : c.in-Ok.copy.items ≡ c.args.bytes.now = search rules in
     let is = after_write (after_calls old m) (after_calls new m) c.in-Ok.copy.items c.args.bytes.now c.args.sector (after_passed m old new (Write c.args.sector c.in-Ok.copy) c.in_ok-note.ensures.ok) copied in
     subst (LeavesOnly true (IsMixedFrom c.args.sector ps (after_calls old m).state) (after_calls old m)) (sym is) (written_leaves ps c.args.sector (after_calls old m))
+
+pub returns-in_err-note-clause-err : goal.returns-in_err-note-clause-err
+returns-in_err-note-clause-err c = on_err _ _
+    (after_failed (begun c.args.self.now.first.items) c.args.self.now.calls.items c.note.new.calls.items (Write c.args.sector c.in-Ok.copy) _ c.in_err-note.ensures.err)
+
+pub returns-clause-content : goal.returns-clause-content
+returns-clause-content c =
+    let m = begun c.args.self.now.first.items in
+    let old = c.args.self.now.calls.items in
+    let new = c.note.new.calls.items in
+    let copied : c.in-Ok.copy.items ≡ c.args.bytes.now = search rules in
+    let is = after_write (after_calls old m) (after_calls new m) c.in-Ok.copy.items c.args.bytes.now c.args.sector (after_passed m old new (Write c.args.sector c.in-Ok.copy) c.in_ok-note.ensures.ok) copied in
+    mixes_all _ _ _ (ap reads is ∙ reads_written (sectors_of c.args.bytes.now) c.args.sector (after_calls old m))
