@@ -5,9 +5,6 @@ use Rattle.std.proofs.lemmas.List.{append-nil}
 use Rattle.ufs_disk.specs.Disk.{State, Image, IsImage, Leaves}
 use Rattle.ufs_disk.specs.Moments.{Moments, all, Passes, LeavesOnly}
 
-pub unkept : IsTrue false → ⊥
-unkept is = cc
-
 pub all_append : {X : Type 0} (P : X → Type 0) (xs ys : List X) → AllByRecursion P xs → AllByRecursion P ys → AllByRecursion P (xs ++ ys)
 all_append P [] ys left right = right
 all_append P (x ∷ xs) ys left right = (left.0, all_append P xs ys left.1 right)

@@ -2,6 +2,7 @@
 #![tactic(auto)]
 
 mod disk;
+mod file;
 mod fuse;
 mod medium;
 mod memory;
@@ -9,6 +10,7 @@ mod plain;
 mod ranges;
 
 pub use disk::{Disk, Fault, SECTOR};
+pub use file::{FILE_SECTORS, FileDisk};
 pub use fuse::FuseDisk;
 pub use medium::{Call, Medium, Request};
 pub use memory::MemoryDisk;

@@ -3,7 +3,7 @@ use Rattle.ufs_disk.specs.Disk.{Image, put_all, sectors_of}
 use Rattle.ufs_disk.specs.Bytes.{image_of, settled_on}
 use Rattle.ufs_disk.proofs.Flat.{image_overwritten}
 use Rattle.ufs_disk.proofs.Images.{mixes_all, only_image, unmixed, seen_is_image}
-use Rattle.ufs_disk.proofs.Runs.{unkept}
+use Rattle.ufs_disk.specs.Props.{untrue}
 use Rattle.ufs_disk.proofs.plain.PlainDiskDisk.write.Goals as goal
 
 put_now : (now bytes new : List ℕ) (sector sectors : ℕ) → length now ≡ 512 * sectors → length bytes % 512 ≡ 0 → sector + length bytes / 512 ≤ sectors
@@ -32,5 +32,5 @@ returns-clause-crash c told =
         left = seen_is_image (settled_on old);
         mixed = mixes_all old (put_all c.args.sector ps old) image (only_image (image_of c.overwrite.new.all.items) image left ∙ is);
       };
-      between = λ kept. absurd (unkept kept);
+      between = λ kept. absurd (untrue kept);
     }
