@@ -6,3 +6,4 @@ pub mod Kept
 pub mod Held
 pub mod Noted
 pub mod Picked
+pub mod Zeros

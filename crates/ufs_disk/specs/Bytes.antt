@@ -1,5 +1,5 @@
 -- A whole disk as one list of bytes.
-use Rattle.std.specs.Prelude.{◌<◌, ℕ, ◌*◌, List, [], take, drop, slice_index}
+use Rattle.std.specs.Prelude.{◌≡◌, ◌<◌, ℕ, ◌*◌, List, [], take, drop, slice_index}
 use Rattle.ufs_disk.specs.Disk.{State, Image, Cell}
 use Rattle.ufs_disk.specs.Moments.{Moments}
 
@@ -17,3 +17,7 @@ begun bytes = record { earlier = []; state = settled_on (image_of bytes) }
 -- each is below 256
 abbrev pub AreBytes : List ℕ → Type 0
 AreBytes bytes = (k : ℕ) → slice_index bytes k < 256
+
+-- each is 0
+abbrev pub AreZeros : List ℕ → Type 0
+AreZeros bytes = (k : ℕ) → slice_index bytes k ≡ 0

@@ -8,6 +8,8 @@ mod medium;
 mod memory;
 mod plain;
 mod ranges;
+#[cfg(test)]
+mod tests;
 
 pub use disk::{Disk, Fault, SECTOR};
 pub use file::{FILE_SECTORS, FileDisk};

@@ -18,7 +18,8 @@ pub struct PlainDisk {
 }
 
 impl PlainDisk {
-    ghost use Rattle.std.specs.Prelude.{IfOk, replicate};
+    ghost use Rattle.std.specs.Prelude.{IfOk};
+    ghost use Rattle.ufs_disk.specs.Bytes.{AreZeros};
 
     /// A disk with these bytes.
     pub fn new(sectors: u32, bytes: Vec<u8>) -> PlainDisk
@@ -32,9 +33,12 @@ impl PlainDisk {
     /// A disk of zeros. It takes the time of clearing its memory.
     pub fn zeros(alloc: Global, sectors: u32) -> Result<PlainDisk, AllocError>
         ensures sectors { IfOk result (λ disk. disk.sectors ≡ sectors) }
-        ensures bytes { IfOk result (λ disk. disk.bytes.items ≡ replicate (512 * sectors) 0) }
+        ensures bytes { IfOk result (λ disk. AreZeros disk.bytes.items) }
     {
-        let bytes = vec![in alloc; 0u8; SECTOR * sectors as usize]?;
+        let mut bytes = Vec::with_capacity(alloc, SECTOR * sectors as usize)?;
+        for _sector in 0..sectors {
+            bytes.extend_from_slice(&[0; SECTOR])?;
+        }
         Ok(PlainDisk { sectors, bytes })
     }
 }
