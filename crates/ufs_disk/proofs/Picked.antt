@@ -64,6 +64,6 @@ module _ (size : ℕ) (st : State) (whole : IsWhole size st) where
   picked_is_image pick sector = elim (cases_lt sector size) [
     | inl lt ↦ subst (λ (k : ℕ). IsAmong (possible (st k)) (image_of (picked st pick 0 size) sector)) (omega arith) (picked_within size pick 0 sector (omega arith) lt)
     | inr ge ↦
-      let none : image_of (picked st pick 0 size) sector ≡ [] = ap (take 512) (drop_all (512 * sector) (picked st pick 0 size) (omega (arith, length-picked size pick 0 (omega arith)))) in
-      subst (λ (l : List (List ℕ)). IsAmong l (image_of (picked st pick 0 size) sector)) (sym (whole.beyond sector (omega arith))) (inl none)
+        let none : image_of (picked st pick 0 size) sector ≡ [] = ap (take 512) (drop_all (512 * sector) (picked st pick 0 size) (omega (arith, length-picked size pick 0 (omega arith)))) in
+        subst (λ (l : List (List ℕ)). IsAmong l (image_of (picked st pick 0 size) sector)) (sym (whole.beyond sector (omega arith))) (inl none)
   ]

@@ -79,6 +79,10 @@ abbrev pub put_all : ℕ → List (List ℕ) → Image → Image
 put_all sector [] image = image
 put_all sector (piece ∷ rest) image = put_all (sector + 1) rest (put sector piece image)
 
+-- an image with these whole sectors of bytes from one on
+abbrev pub overwritten : ℕ → List ℕ → Image → Image
+overwritten sector bytes image = put_all sector (sectors_of bytes) image
+
 -- each sector has the content of the one or of the other
 abbrev pub Mixes : Image → Image → Image → Type 0
 Mixes one other image = (sector : ℕ) → (image sector ≡ one sector) ⊎ (image sector ≡ other sector)
@@ -88,3 +92,7 @@ pub record IsMixedFrom (sector : ℕ) (pieces : List (List ℕ)) (state : State)
   pub before : Image
   pub left : IsImage state before
   pub mixed : Mixes before (put_all sector pieces before) image
+
+-- an image of the state with some of these whole sectors of bytes written
+abbrev pub IsPartlyWritten : ℕ → List ℕ → State → Image → Type 0
+IsPartlyWritten sector bytes state image = IsMixedFrom sector (sectors_of bytes) state image

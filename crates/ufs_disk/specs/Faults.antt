@@ -1,5 +1,5 @@
 -- When a call of a disk may fail.
-use Rattle.std.specs.Prelude.{◌≡◌, ◌≤◌, ℕ, ◌+◌, ◌-◌, ◌^◌, min, Result, OnOk, IfErr}
+use Rattle.std.specs.Prelude.{◌≡◌, ◌≤◌, ℕ, ◌+◌, ◌-◌, ◌^◌, min, Result, OnOk, OnErr, IfErr}
 use Rattle.ufs_disk.specs.declared.disk.Fault.{Fault}
 
 -- the count rose, or stands at its end
@@ -10,5 +10,5 @@ Rose before now = min (before + 1) (2 ^ 64 - 1) ≤ now
 pub record HasCause {T : Type 0} (before now : ℕ) (result : Result T Fault) : Type 0 where
   pub later : before ≤ now
   pub passed : OnOk result (now ≡ before)
-  pub rose : IfErr result (λ fault. Rose before now)
+  pub rose : OnErr result (Rose before now)
   pub number : IfErr result (λ fault. fault.number ≡ now)

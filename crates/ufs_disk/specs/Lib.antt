@@ -7,3 +7,4 @@ pub mod Calls
 pub mod Medium
 pub mod Whole
 pub mod Props
+pub mod File

@@ -10,13 +10,17 @@ pub struct Fault {
     pub number: u64,
 }
 
-/// A disk of sectors of 512 bytes. A sector is written whole or not at all. Until a barrier succeeds, a crash leaves
-/// each sector, independently, with what it had at the last such barrier or with any content that a write gave it
-/// since.
+/// A disk of sectors of 512 bytes. A sector is written whole or not at all. Until a barrier
+/// succeeds, a crash leaves each sector, independently, with what it had at the last such barrier
+/// or with any content that a write gave it since.
 ///
-/// A call takes a range of sectors inside the disk: at least one sector and at most 4,096 bytes.
+/// A call takes a range of sectors inside the disk: at least one sector, at most 4,096 bytes.
+///
+/// Every call may fail, and then the disk's count of faults rose in it. The count never falls. At
+/// 2^64 - 1 it stands still.
 pub trait Disk {
-    ghost use Rattle.ufs_disk.specs.Disk.{IsImage, IsRange, IsSettled, IsWhole, IsMixedFrom, Mixes, sectors_of, put_all, bytes_from};
+    ghost use Rattle.ufs_disk.specs.Disk.{IsImage, IsPartlyWritten, IsRange, IsSettled, IsWhole};
+    ghost use Rattle.ufs_disk.specs.Disk.{Mixes, bytes_from, overwritten};
     ghost use Rattle.ufs_disk.specs.Moments.{Moments, LeavesOnly, reads};
     ghost use Rattle.ufs_disk.specs.Faults.{HasCause};
 
@@ -42,22 +46,28 @@ pub trait Disk {
     /// Reads the sectors from `sector` on that fill `buf`. After a fault `buf` may hold anything.
     fn read(&mut self, sector: u32, buf: &mut [u8]) -> Result<(), Fault>
         requires { IsRange (size self.old) sector (length buf.old) }
-        ensures bytes { IsTrue tells → OnOk result (buf.new ≡ bytes_from (reads (moments self.old)) sector (length buf.old / 512)) }
+        ensures bytes { IsTrue tells → OnOk result
+            (buf.new ≡ bytes_from (reads (moments self.old)) sector (length buf.old / 512)) }
         ensures content { IsTrue tells → reads (moments self.new) ≡ reads (moments self.old) }
 
         // At no moment of the call a crash leaves what it might not have left before.
-        ensures crash { IsTrue tells → LeavesOnly keeps (IsImage (moments self.old).state) (moments self.old) (moments self.new) }
+        ensures crash { IsTrue tells → LeavesOnly keeps (IsImage (moments self.old).state)
+            (moments self.old) (moments self.new) }
         ensures size { size self.new ≡ size self.old }
         ensures cause { HasCause (faults self.old) (faults self.new) result };
 
     /// Writes the sectors from `sector` on. After a fault each of them has its new content or not.
     fn write(&mut self, sector: u32, bytes: &[u8]) -> Result<(), Fault>
         requires { IsRange (size self.old) sector (length bytes.now) }
-        ensures ok { IsTrue tells → OnOk result (reads (moments self.new) ≡ put_all sector (sectors_of bytes.now) (reads (moments self.old))) }
-        ensures content { IsTrue tells → Mixes (reads (moments self.old)) (put_all sector (sectors_of bytes.now) (reads (moments self.old))) (reads (moments self.new)) }
+        ensures ok { IsTrue tells → OnOk result
+            (reads (moments self.new) ≡ overwritten sector bytes.now (reads (moments self.old))) }
+        ensures content { IsTrue tells → Mixes (reads (moments self.old))
+            (overwritten sector bytes.now (reads (moments self.old))) (reads (moments self.new)) }
 
-        // At each moment of the call a crash leaves what it might have left before, with some of the sectors written.
-        ensures crash { IsTrue tells → LeavesOnly keeps (IsMixedFrom sector (sectors_of bytes.now) (moments self.old).state) (moments self.old) (moments self.new) }
+        // At each moment of the call a crash leaves what it might have left before, with some of
+        // the sectors written.
+        ensures crash { IsTrue tells → LeavesOnly keeps (IsPartlyWritten sector bytes.now (moments self.old).state)
+            (moments self.old) (moments self.new) }
         ensures size { size self.new ≡ size self.old }
         ensures cause { HasCause (faults self.old) (faults self.new) result };
 
@@ -65,7 +75,8 @@ pub trait Disk {
     fn barrier(&mut self) -> Result<(), Fault>
         ensures ok { IsTrue tells → OnOk result (IsSettled (moments self.new).state) }
         ensures content { IsTrue tells → reads (moments self.new) ≡ reads (moments self.old) }
-        ensures crash { IsTrue tells → LeavesOnly keeps (IsImage (moments self.old).state) (moments self.old) (moments self.new) }
+        ensures crash { IsTrue tells → LeavesOnly keeps (IsImage (moments self.old).state)
+            (moments self.old) (moments self.new) }
         ensures size { size self.new ≡ size self.old }
         ensures cause { HasCause (faults self.old) (faults self.new) result };
 

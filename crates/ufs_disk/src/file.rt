@@ -13,8 +13,8 @@ use std::os::unix::fs::FileExt;
 /// The sectors of a disk over a file: 256 MiB.
 pub const FILE_SECTORS: u32 = 524_288;
 
-/// A disk of `FILE_SECTORS` sectors over a file. Past the file's end it reads zeros. Contracts aren't told what it
-/// holds. Each error of the system is a fault.
+/// A disk of `FILE_SECTORS` sectors over a file. Past the file's end it reads zeros. Contracts
+/// aren't told what it holds. Each error of the system is a fault.
 #[derive(Drop)]
 pub struct FileDisk {
     file: Option<File>,
@@ -22,8 +22,10 @@ pub struct FileDisk {
 }
 
 impl FileDisk {
-    /// The disk over the file of that path, which is made where it is missing. Where it can't be opened, every call of
-    /// the disk fails.
+    ghost use Rattle.ufs_disk.specs.File.{is_open};
+
+    /// The disk over the file of that path, which is made where it is missing. Where it can't be
+    /// opened, every call of the disk fails.
     pub fn open<R: Files<File = File>>(files: &R, path: &str) -> FileDisk
         ensures { result.faults ≡ 0 }
     {
@@ -38,6 +40,7 @@ impl FileDisk {
     // Passes on whether a call was done, and counts a fault.
     fn told(&mut self, done: bool) -> Result<(), Fault>
         ensures done { OnOk result (IsTrue done) }
+        ensures kept { is_open self.new ≡ is_open self.old }
         ensures cause { HasCause self.old.faults self.new.faults result }
     {
         if done {
@@ -74,6 +77,9 @@ fn fill(file: &File, at: u64, buf: &mut [u8]) -> io::Result<()>
 }
 
 impl Disk for FileDisk {
+    ghost use Rattle.ufs_disk.specs.Disk.{IsRange};
+    ghost use Rattle.ufs_disk.specs.File.{is_open};
+
     ghost tells = { false };
 
     ghost keeps = { false };
@@ -92,7 +98,12 @@ impl Disk for FileDisk {
         FILE_SECTORS
     }
 
-    fn read(&mut self, sector: u32, buf: &mut [u8]) -> Result<(), Fault> {
+    fn read(&mut self, sector: u32, buf: &mut [u8]) -> Result<(), Fault>
+        requires { IsRange 524288 sector (length buf.old) }
+        ensures open { OnOk result (IsTrue (is_open self.old)) }
+        ensures kept { is_open self.new ≡ is_open self.old }
+        ensures cause { HasCause self.old.faults self.new.faults result }
+    {
         let done = match &self.file {
             Some(file) => fill(file, offset(sector), buf).is_ok(),
             None => false,
@@ -100,7 +111,12 @@ impl Disk for FileDisk {
         self.told(done)
     }
 
-    fn write(&mut self, sector: u32, bytes: &[u8]) -> Result<(), Fault> {
+    fn write(&mut self, sector: u32, bytes: &[u8]) -> Result<(), Fault>
+        requires { IsRange 524288 sector (length bytes.now) }
+        ensures open { OnOk result (IsTrue (is_open self.old)) }
+        ensures kept { is_open self.new ≡ is_open self.old }
+        ensures cause { HasCause self.old.faults self.new.faults result }
+    {
         let done = match &self.file {
             Some(file) => file.write_all_at(bytes, offset(sector)).is_ok(),
             None => false,
@@ -108,7 +124,11 @@ impl Disk for FileDisk {
         self.told(done)
     }
 
-    fn barrier(&mut self) -> Result<(), Fault> {
+    fn barrier(&mut self) -> Result<(), Fault>
+        ensures open { OnOk result (IsTrue (is_open self.old)) }
+        ensures kept { is_open self.new ≡ is_open self.old }
+        ensures cause { HasCause self.old.faults self.new.faults result }
+    {
         let done = match &self.file {
             Some(file) => file.sync_all().is_ok(),
             None => false,

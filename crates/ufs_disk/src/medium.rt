@@ -1,9 +1,11 @@
 // Sectors in memory, with a list of all calls: what the memory disk and the fuse disk have in common.
-ghost use Rattle.std.specs.Prelude.{◌≡◌, ◌⊎◌, ◌≤◌, ◌<◌, ◌*◌, ◌^◌, [], ◌∷◌, ◌++◌, ◌+◌, ◌-◌, ◌/◌, length, take, drop, min, true, false, IsTrue, IfOk, OnOk, OnErr, ℕ, List, vec_len, vec_capacity};
-ghost use Rattle.ufs_disk.specs.Disk.{Image, State, IsImage, IsRange, IsSettled, IsWhole, IsMixedFrom, Mixes, possible, sectors_of, put_all, bytes_from};
-ghost use Rattle.ufs_disk.specs.Moments.{LeavesOnly, reads, all};
+ghost use Rattle.std.specs.Prelude.{◌≡◌, ◌⊎◌, ◌≤◌, ◌<◌, ◌*◌, ◌^◌, ◌+◌, ◌-◌, ◌/◌};
+ghost use Rattle.std.specs.Prelude.{[], ◌∷◌, ◌++◌, length, min, true, false, IsTrue, IfOk, OnOk, OnErr};
+ghost use Rattle.std.specs.Prelude.{vec_len, vec_capacity};
+ghost use Rattle.ufs_disk.specs.Disk.{IsImage, IsPartlyWritten, IsRange, IsSettled, IsWhole, Mixes, bytes_from, overwritten, possible};
+ghost use Rattle.ufs_disk.specs.Moments.{LeavesOnly};
 ghost use Rattle.ufs_disk.specs.Faults.{HasCause};
-ghost use Rattle.ufs_disk.specs.Bytes.{image_of, begun, AreBytes};
+ghost use Rattle.ufs_disk.specs.Bytes.{image_of, begun};
 ghost use Rattle.ufs_disk.specs.Pending.{held_state, covered_by};
 ghost use Rattle.ufs_disk.specs.Calls.{Notes, IsWrite, after_calls, picked};
 ghost use Rattle.ufs_disk.specs.Props.{same_state_prop, whole_prop};
@@ -34,8 +36,9 @@ pub(crate) struct Covered {
     pub bytes: Vec<u8>,
 }
 
-/// Sectors in memory, with a list of all calls. Beside its bytes it has those that it held at first and those that
-/// were written, for the list, and what writes covered since the last barrier, for a crash.
+/// Sectors in memory, with a list of all calls. Beside its bytes it has those that it held at first
+/// and those that were written, for the list, and what writes covered since the last barrier, for a
+/// crash.
 #[derive(Drop)]
 pub struct Medium {
     alloc: Global,
@@ -47,12 +50,13 @@ pub struct Medium {
     pub faults: u64,
     ghost in_range: { sectors < 2 ^ 32 },
     ghost sized: { length bytes.items ≡ 512 * sectors },
-    ghost held: { held_state bytes.items covered.items ≡ (after_calls calls.items (begun first.items)).state } by { same_state_prop _ _ },
+    ghost held: { held_state bytes.items covered.items
+        ≡ (after_calls calls.items (begun first.items)).state } by { same_state_prop _ _ },
     ghost whole: { IsWhole sectors (after_calls calls.items (begun first.items)).state } by { whole_prop _ _ },
 }
 
 impl Medium {
-    ghost use Rattle.ufs_disk.specs.Medium.{medium_moments};
+    ghost use Rattle.ufs_disk.specs.Medium.{medium_moments, medium_reads, medium_state};
     ghost use Rattle.ufs_disk.specs.declared.medium.Request.{Request};
 
     /// A medium with these bytes, all of them on it for good.
@@ -78,15 +82,19 @@ impl Medium {
     /// Reads some sectors, unless it is to fail.
     pub fn read(&mut self, fails: bool, sector: u32, buf: &mut [u8]) -> Result<(), Fault>
         requires { IsRange self.old.sectors sector (length buf.old) }
-        ensures bytes { OnOk result (buf.new ≡ bytes_from (reads (medium_moments self.old)) sector (length buf.old / 512)) }
+        ensures bytes { OnOk result
+            (buf.new ≡ bytes_from (medium_reads self.old) sector (length buf.old / 512)) }
         ensures buf { OnErr result (buf.new ≡ buf.old) }
         ensures same { medium_moments self.new ≡ medium_moments self.old }
-        ensures content { reads (medium_moments self.new) ≡ reads (medium_moments self.old) }
-        ensures crash { LeavesOnly true (IsImage (medium_moments self.old).state) (medium_moments self.old) (medium_moments self.new) }
+        ensures content { medium_reads self.new ≡ medium_reads self.old }
+        ensures crash { LeavesOnly true (IsImage (medium_state self.old))
+            (medium_moments self.old) (medium_moments self.new) }
         ensures sectors { self.new.sectors ≡ self.old.sectors }
         ensures first { self.new.first ≡ self.old.first }
         ensures rises { OnErr result (self.new.faults ≡ min (self.old.faults + 1) (2 ^ 64 - 1)) }
-        ensures noted { Notes (fails ≡ false) (IsTrue fails) (λ request. request ≡ Request.Read sector (length buf.old)) self.old.calls.items self.new.calls.items result }
+        ensures noted { Notes (fails ≡ false) (IsTrue fails)
+            (λ request. request ≡ Request.Read sector (length buf.old))
+            self.old.calls.items self.new.calls.items result }
         ensures cause { HasCause self.old.faults self.new.faults result }
     {
         let request = Request::Read {
@@ -101,14 +109,19 @@ impl Medium {
     /// Writes some sectors, unless it is to fail.
     pub fn write(&mut self, fails: bool, sector: u32, bytes: &[u8]) -> Result<(), Fault>
         requires { IsRange self.old.sectors sector (length bytes.now) }
-        ensures ok { OnOk result (reads (medium_moments self.new) ≡ put_all sector (sectors_of bytes.now) (reads (medium_moments self.old))) }
+        ensures ok { OnOk result
+            (medium_reads self.new ≡ overwritten sector bytes.now (medium_reads self.old)) }
         ensures err { OnErr result (medium_moments self.new ≡ medium_moments self.old) }
-        ensures content { Mixes (reads (medium_moments self.old)) (put_all sector (sectors_of bytes.now) (reads (medium_moments self.old))) (reads (medium_moments self.new)) }
-        ensures crash { LeavesOnly true (IsMixedFrom sector (sectors_of bytes.now) (medium_moments self.old).state) (medium_moments self.old) (medium_moments self.new) }
+        ensures content { Mixes (medium_reads self.old)
+            (overwritten sector bytes.now (medium_reads self.old)) (medium_reads self.new) }
+        ensures crash { LeavesOnly true (IsPartlyWritten sector bytes.now (medium_state self.old))
+            (medium_moments self.old) (medium_moments self.new) }
         ensures sectors { self.new.sectors ≡ self.old.sectors }
         ensures first { self.new.first ≡ self.old.first }
         ensures rises { OnErr result (self.new.faults ≡ min (self.old.faults + 1) (2 ^ 64 - 1)) }
-        ensures noted { Notes (fails ≡ false) (IsTrue fails) (IsWrite sector bytes.now) self.old.calls.items self.new.calls.items result }
+        ensures noted { Notes (fails ≡ false) (IsTrue fails)
+            (IsWrite sector bytes.now)
+            self.old.calls.items self.new.calls.items result }
         ensures cause { HasCause self.old.faults self.new.faults result }
     {
         let at = SECTOR * sector as usize;
@@ -133,32 +146,31 @@ impl Medium {
 
     /// Waits until all is on the medium for good, unless it is to fail.
     pub fn barrier(&mut self, fails: bool) -> Result<(), Fault>
-        ensures ok { OnOk result (IsSettled (medium_moments self.new).state) }
+        ensures ok { OnOk result (IsSettled (medium_state self.new)) }
         ensures err { OnErr result (medium_moments self.new ≡ medium_moments self.old) }
-        ensures content { reads (medium_moments self.new) ≡ reads (medium_moments self.old) }
-        ensures crash { LeavesOnly true (IsImage (medium_moments self.old).state) (medium_moments self.old) (medium_moments self.new) }
+        ensures content { medium_reads self.new ≡ medium_reads self.old }
+        ensures crash { LeavesOnly true (IsImage (medium_state self.old))
+            (medium_moments self.old) (medium_moments self.new) }
         ensures sectors { self.new.sectors ≡ self.old.sectors }
         ensures first { self.new.first ≡ self.old.first }
         ensures rises { OnErr result (self.new.faults ≡ min (self.old.faults + 1) (2 ^ 64 - 1)) }
-        ensures noted { Notes (fails ≡ false) (IsTrue fails) (λ request. request ≡ Request.Barrier) self.old.calls.items self.new.calls.items result }
+        ensures noted { Notes (fails ≡ false) (IsTrue fails)
+            (λ request. request ≡ Request.Barrier)
+            self.old.calls.items self.new.calls.items result }
         ensures cause { HasCause self.old.faults self.new.faults result }
     {
-        note(
-            &mut self.calls,
-            &mut self.faults,
-            fails,
-            Request::Barrier,
-        )?;
+        note(&mut self.calls, &mut self.faults, fails, Request::Barrier)?;
         self.covered = Vec::new(self.alloc);
         Ok(())
     }
 
-    /// The image that `pick` names, of those that a crash now may leave: in rising sector order it takes of the
-    /// sector's possible contents, oldest first, the one numbered `pick` modulo their number, and goes on with
-    /// `pick` divided by it.
+    /// The image that `pick` names, of those that a crash now may leave: in rising sector order it
+    /// takes of the sector's possible contents, oldest first, the one numbered `pick` modulo their
+    /// number, and goes on with `pick` divided by it.
     pub fn crash(self, pick: u64) -> Result<Vec<u8>, AllocError>
-        ensures picked { IfOk result (λ image. image.items ≡ picked (medium_moments self).state pick 0 self.sectors) }
-        ensures image { IfOk result (λ image. IsImage (medium_moments self).state (image_of image.items)) }
+        ensures picked { IfOk result
+            (λ image. image.items ≡ picked (medium_state self) pick 0 self.sectors) }
+        ensures image { IfOk result (λ image. IsImage (medium_state self) (image_of image.items)) }
     {
         let mut image = Vec::new(self.alloc);
         let mut left = pick;
@@ -174,7 +186,7 @@ impl Medium {
     // What a crash may leave in a sector, oldest first.
     fn contents(&self, sector: u32) -> Result<Vec<[u8; SECTOR]>, AllocError>
         requires { sector < self.now.sectors }
-        ensures { IfOk result (λ contents. contents.items ≡ possible ((medium_moments self.now).state sector)) }
+        ensures { IfOk result (λ contents. contents.items ≡ possible (medium_state self.now sector)) }
     {
         let mut contents = Vec::new(self.alloc);
         for covered in &self.covered {
@@ -191,7 +203,8 @@ fn push_covered(
     sector: u32,
     covered: &Covered,
 ) -> Result<(), AllocError>
-    ensures { OnOk result (contents.new.items ≡ contents.old.items ++ covered_by sector covered.now) }
+    ensures { OnOk result
+        (contents.new.items ≡ contents.old.items ++ covered_by sector covered.now) }
 {
     if sector >= covered.sector
         && ((sector - covered.sector) as usize) < covered.bytes.len() / SECTOR
@@ -223,15 +236,12 @@ fn fault(faults: &mut u64) -> Fault
 }
 
 // Notes a call, if there is memory for it, and says whether it passes.
-fn note(
-    calls: &mut Vec<Call>,
-    faults: &mut u64,
-    fails: bool,
-    request: Request,
-) -> Result<(), Fault>
+fn note(calls: &mut Vec<Call>, faults: &mut u64, fails: bool, request: Request) -> Result<(), Fault>
     ensures may { OnOk result (fails ≡ false) }
-    ensures ok { OnOk result (calls.new.items ≡ calls.old.items ++ record { request = request; passed = true } ∷ []) }
-    ensures err { OnErr result ((calls.new.items ≡ calls.old.items) ⊎ (IsTrue fails × (calls.new.items ≡ calls.old.items ++ record { request = request; passed = false } ∷ []))) }
+    ensures ok { OnOk result
+        (calls.new.items ≡ calls.old.items ++ record { request = request; passed = true } ∷ []) }
+    ensures err { OnErr result ((calls.new.items ≡ calls.old.items)
+        ⊎ (IsTrue fails × (calls.new.items ≡ calls.old.items ++ record { request = request; passed = false } ∷ []))) }
     ensures rises { OnErr result (faults.new ≡ min (faults.old + 1) (2 ^ 64 - 1)) }
     ensures cause { HasCause faults.old faults.new result }
 {

@@ -31,7 +31,12 @@ pub(crate) fn whole_copy(alloc: Global, all: &[u8]) -> Result<Vec<u8>, AllocErro
 }
 
 // A copy of so many bytes.
-pub(crate) fn copy_of(alloc: Global, all: &[u8], at: usize, len: usize) -> Result<Vec<u8>, AllocError>
+pub(crate) fn copy_of(
+    alloc: Global,
+    all: &[u8],
+    at: usize,
+    len: usize,
+) -> Result<Vec<u8>, AllocError>
     requires { at + len ≤ length all.now }
     ensures { IfOk result (λ copy. copy.items ≡ take len (drop at all.now)) }
 {

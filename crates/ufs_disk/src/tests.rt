@@ -50,6 +50,11 @@ const CRASHES: [(&[Step], &[u64], &[(u64, [u8; 3])]); 6] = [
     ),
 ];
 
+// Threads hand disks to one another.
+fn sent<T: Send>(disk: T) -> T {
+    disk
+}
+
 // Takes a step on a disk of three sectors, and says whether it passed.
 fn take<R: Abort, D: Disk>(rt: &R, disk: &mut D, step: Step) -> bool {
     match step {
@@ -118,7 +123,7 @@ fn each_numbered_call_fails(rt: HostRuntime) -> Result<(), Fail> {
         (&[2, 0], [Some(1), None, Some(2)]),
     ];
     for (fails, want) in &rows {
-        let mut disk = memory(rt.alloc(), fails)?;
+        let mut disk = sent(memory(rt.alloc(), fails)?);
         assert_eq!(rt; calls(&rt, &mut disk), *want);
         assert_eq!(rt; disk.medium.calls.len(), 3);
     }
@@ -135,9 +140,12 @@ fn a_fuse_fails_every_call_from_its_end_on(rt: HostRuntime) -> Result<(), Fail> 
     ];
     for (passes, want, left) in rows {
         let zeros = vec![in rt.alloc(); 0u8; 3 * SECTOR]?;
-        let mut disk = FuseDisk::new(rt.alloc(), 3, zeros, passes)?;
+        let mut disk = sent(FuseDisk::new(rt.alloc(), 3, zeros, passes)?);
         assert_eq!(rt; calls(&rt, &mut disk), want);
-        assert!(rt; is_filled(disk.crash(0)?.as_slice(), [left, 0, 0]), "after {passes}");
+        assert!(rt;
+            is_filled(disk.crash(0)?.as_slice(), [left, 0, 0]),
+            "after {passes}"
+        );
     }
     Ok(())
 }
@@ -146,7 +154,9 @@ fn a_fuse_fails_every_call_from_its_end_on(rt: HostRuntime) -> Result<(), Fail> 
 fn keeps_nines<R: Abort, D: Disk>(rt: &R, disk: &mut D, sector: u32) -> bool {
     assert!(rt; sector < disk.sectors());
     let mut buf = [1; SECTOR];
-    disk.write(sector, &[9; SECTOR]).is_ok() && disk.read(sector, &mut buf).is_ok() && is_all(&buf, 9)
+    disk.write(sector, &[9; SECTOR]).is_ok()
+        && disk.read(sector, &mut buf).is_ok()
+        && is_all(&buf, 9)
 }
 
 fn is_all(bytes: &[u8], byte: u8) -> bool {
@@ -164,7 +174,7 @@ fn a_plain_disk_of_256_mebibytes_is_zeros(rt: HostRuntime) -> Result<(), Fail> {
     let mut disk = PlainDisk::zeros(rt.alloc(), FILE_SECTORS)?;
     assert!(rt; keeps_nines(&rt, &mut disk, FILE_SECTORS - 1));
     assert!(rt; reads(&rt, &mut disk, FILE_SECTORS - 2, 0));
-    let mut one = PlainDisk::new(1, vec![in rt.alloc(); 3u8; SECTOR]?);
+    let mut one = sent(PlainDisk::new(1, vec![in rt.alloc(); 3u8; SECTOR]?));
     assert!(rt; reads(&rt, &mut one, 0, 3));
     assert_eq!(rt; calls(&rt, &mut one), [None, None, None]);
     Ok(())
@@ -185,7 +195,7 @@ fn a_file_reads_zeros_past_its_end(rt: HostRuntime) -> Result<(), Fail> {
     std::fs::remove_file(&rt, path)?;
 
     // A file can't be made in a folder that is missing.
-    let mut none = FileDisk::open(&rt, "ufs_disk_missing/disk.img");
+    let mut none = sent(FileDisk::open(&rt, "ufs_disk_missing/disk.img"));
     assert_eq!(rt; calls(&rt, &mut none), [Some(1), Some(2), Some(3)]);
     Ok(())
 }
