@@ -1,9 +1,8 @@
 -- Sectors as parts of one list of bytes.
-use Rattle.std.proofs.Common.{◌≡◌, ◌≢◌, ◌⊎◌, inl, inr, ⊎_elim, ℕ, zero, suc, ◌+◌, ◌-◌, ◌*◌, ◌/◌, ◌%◌, ◌≤◌, ◌<◌, List, [], ◌∷◌, ◌++◌, length, take, drop, get_or, refl, sym, ◌∙◌, ap, subst, arith, rules, append_assoc, length-append, length-drop, take-append-drop}
-use Rattle.std.proofs.lemmas.List.{append-nil, drop-drop, take_at, take_all, drop_all, drop_at, take-append-le, drop-append-le, length-take-le, drop-take, take-take}
-use Rattle.std.proofs.lemmas.Grind.{common_steps}
-use Rattle.std.proofs.lemmas.Bool.{cases_lt, cases_eq}
-use Rattle.ufs_disk.specs.Disk.{Image, put, put_all, pieces, bytes_from}
+use Rattle.std.proofs.Common.{◌≡◌, inl, inr, ℕ, zero, suc, ◌+◌, ◌-◌, ◌*◌, ◌≤◌, ◌<◌, List, [], ◌++◌, length, take, drop, get_or, refl, sym, ◌∙◌, ap, arith, length-drop, take-append-drop}
+use Rattle.std.proofs.lemmas.List.{drop-drop, drop_at, take-append-le, drop-append-le, length-take-le, drop-take, take-take}
+use Rattle.std.proofs.lemmas.Bool.{cases_lt}
+use Rattle.ufs_disk.specs.Disk.{Image, put_all, pieces, bytes_from}
 use Rattle.ufs_disk.specs.Bytes.{image_of}
 use Rattle.ufs_disk.proofs.Images.{put_all_below, put_all_above, put_all_within}
 

@@ -1,12 +1,11 @@
 -- One call more of a disk in memory.
-use Rattle.std.proofs.Common.{◌≡◌, ◌⊎◌, inl, inr, ⊎_elim, ℕ, Bool, true, false, List, [], ◌∷◌, ◌++◌, refl, sym, ◌∙◌, ap, subst}
+use Rattle.std.proofs.Common.{◌≡◌, ◌⊎◌, inl, inr, ⊎_elim, ℕ, true, false, List, [], ◌∷◌, ◌++◌, refl, sym, ◌∙◌, ap, subst}
 use Rattle.std.specs.Prelude.{Result, Ok, Err, OnOk, OnErr}
-use Rattle.ufs_disk.specs.Disk.{State, Image, IsImage, Leaves, IsMixedFrom, IsWhole, sectors_of}
-use Rattle.ufs_disk.specs.Moments.{Moments, LeavesOnly}
+use Rattle.ufs_disk.specs.Disk.{State, IsWhole}
+use Rattle.ufs_disk.specs.Moments.{Moments}
 use Rattle.ufs_disk.specs.Calls.{after_call, after_request, after_calls}
 use Rattle.ufs_disk.specs.declared.medium.Request.{Request}
 use Rattle.ufs_disk.specs.declared.medium.Call.{Call}
-use Rattle.ufs_disk.proofs.Runs.{stays}
 
 pub after_push : (calls : List Call) (call : Call) (m : Moments) → after_calls (calls ++ call ∷ []) m ≡ after_call call (after_calls calls m)
 after_push [] call m = refl

@@ -1,6 +1,6 @@
 -- What the calls of a disk in memory do. This is the disk's model in full: each moment follows from the calls that passed.
-use Rattle.std.specs.Prelude.{◌≡◌, ◌⊎◌, ℕ, zero, suc, ◌+◌, ◌%◌, ◌/◌, Bool, true, false, List, [], ◌∷◌, ◌++◌, length, if◌then◌else◌, ◌==◌, slice_index_or, Result, OnOk, OnErr}
-use Rattle.ufs_disk.specs.Disk.{Cell, State, possible, seen, sectors_of}
+use Rattle.std.specs.Prelude.{◌≡◌, ◌⊎◌, ℕ, zero, suc, ◌+◌, ◌%◌, ◌/◌, true, false, List, [], ◌∷◌, ◌++◌, length, if◌then◌else◌, ◌==◌, slice_index_or, Result, OnOk, OnErr}
+use Rattle.ufs_disk.specs.Disk.{State, possible, seen, sectors_of}
 use Rattle.ufs_disk.specs.Moments.{Moments, moved}
 use Rattle.ufs_disk.specs.declared.disk.Fault.{Fault}
 use Rattle.ufs_disk.specs.declared.medium.Request.{Request}

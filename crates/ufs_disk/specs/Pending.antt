@@ -1,6 +1,6 @@
 -- The contents that writes have covered since the last barrier.
-use Rattle.std.specs.Prelude.{ℕ, ◌+◌, ◌-◌, ◌*◌, ◌/◌, List, [], ◌∷◌, ◌++◌, length, take, drop, if◌then◌else◌, nat_le, nat_lt, ◌&&◌}
-use Rattle.ufs_disk.specs.Disk.{Cell, State}
+use Rattle.std.specs.Prelude.{ℕ, ◌-◌, ◌*◌, ◌/◌, List, [], ◌∷◌, ◌++◌, length, take, drop, if◌then◌else◌, nat_le, nat_lt, ◌&&◌}
+use Rattle.ufs_disk.specs.Disk.{State}
 use Rattle.ufs_disk.specs.Bytes.{image_of}
 use Rattle.ufs_disk.specs.declared.medium.Covered.{Covered}
 

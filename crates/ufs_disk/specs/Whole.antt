@@ -1,9 +1,9 @@
 -- That each content of a disk is 512 bytes, and how it stays so.
-use Rattle.std.specs.Prelude.{◌≡◌, ◌⊎◌, ◌≤◌, ◌<◌, ℕ, zero, suc, ◌+◌, ◌-◌, ◌*◌, ◌/◌, List, [], ◌∷◌, ◌++◌, length, take, drop, slice_index}
+use Rattle.std.specs.Prelude.{◌≡◌, ◌≤◌, ℕ, zero, suc, ◌+◌, ◌*◌, List, [], ◌∷◌, length, take, drop}
 use Rattle.std.specs.List.{AllByRecursion}
-use Rattle.std.proofs.Common.{get_or, lit<, inl, inr, ⊎_elim, refl, sym, ◌∙◌, ap, subst, arith, rules, length-drop}
-use Rattle.std.proofs.lemmas.List.{length-take-le, drop_all, take_all}
-use Rattle.ufs_disk.specs.Disk.{Cell, State, IsAmong, IsSector, IsWhole, possible, pieces}
+use Rattle.std.proofs.Common.{lit<, ⊎_elim, sym, ap, subst, arith, length-drop}
+use Rattle.std.proofs.lemmas.List.{length-take-le, drop_all}
+use Rattle.ufs_disk.specs.Disk.{IsSector, IsWhole, pieces}
 use Rattle.ufs_disk.specs.Bytes.{AreBytes, image_of, settled_on}
 
 -- a part of some bytes

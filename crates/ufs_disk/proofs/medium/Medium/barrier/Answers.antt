@@ -1,6 +1,6 @@
-use Rattle.std.proofs.Common.{◌≡◌, true, refl, sym, ◌∙◌, ap, subst, rules}
-use Rattle.ufs_disk.specs.Disk.{IsImage, IsWhole}
-use Rattle.ufs_disk.specs.Moments.{Moments, LeavesOnly, moved}
+use Rattle.std.proofs.Common.{◌≡◌, true, sym, ◌∙◌, ap, subst}
+use Rattle.ufs_disk.specs.Disk.{IsImage}
+use Rattle.ufs_disk.specs.Moments.{LeavesOnly, moved}
 use Rattle.ufs_disk.specs.Bytes.{begun}
 use Rattle.ufs_disk.specs.Calls.{after_calls, settled}
 use Rattle.ufs_disk.specs.Pending.{held_state}

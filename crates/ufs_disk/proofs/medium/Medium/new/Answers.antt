@@ -1,7 +1,6 @@
-use Rattle.std.proofs.Common.{◌≡◌, ◌*◌, length, refl, sym, ◌∙◌, ap, List, [], ℕ, rules}
-use Rattle.ufs_disk.specs.Bytes.{image_of, AreBytes}
+use Rattle.std.proofs.Common.{◌≡◌, ap, [], rules}
+use Rattle.ufs_disk.specs.Bytes.{AreBytes}
 use Rattle.ufs_disk.specs.Whole.{begun_whole}
-use Rattle.ufs_disk.specs.Moments.{Moments}
 use Rattle.ufs_disk.specs.Bytes.{begun}
 use Rattle.ufs_disk.specs.Calls.{after_calls}
 use Rattle.ufs_disk.specs.Pending.{held_state}

@@ -1,9 +1,7 @@
-use Rattle.std.proofs.Common.{◌≡◌, ◌⊎◌, ◌∷◌, ◌++◌, ⊎_elim, ◌*◌, ◌/◌, true, false, take, drop, length, refl, sym, ◌∙◌, ap, subst, arith, rules}
-use Rattle.ufs_disk.specs.Disk.{Image, IsImage, bytes_from, seen}
-use Rattle.ufs_disk.specs.Moments.{Moments}
-use Rattle.ufs_disk.specs.Bytes.{begun, image_of}
+use Rattle.std.proofs.Common.{◌≡◌, ⊎_elim, ◌*◌, ◌/◌, true, take, drop, length, sym, ◌∙◌, ap, arith, rules}
+use Rattle.ufs_disk.specs.Disk.{IsImage, bytes_from, seen}
+use Rattle.ufs_disk.specs.Bytes.{begun}
 use Rattle.ufs_disk.specs.Calls.{after_calls}
-use Rattle.ufs_disk.specs.Medium.{medium_moments}
 use Rattle.ufs_disk.specs.declared.medium.Request.TheVariants.{Read}
 use Rattle.ufs_disk.proofs.Flat.{read_flat}
 use Rattle.ufs_disk.proofs.Runs.{stays}

@@ -1,5 +1,5 @@
-use Rattle.std.proofs.Common.{◌≡◌, ◌∷◌, [], ◌++◌, ◌+◌, ◌≤◌, ℕ, List, ◌*◌, ◌/◌, true, take, drop, refl, sym, ◌∙◌, ap, subst, length, arith, rules}
-use Rattle.ufs_disk.specs.Disk.{IsMixedFrom, sectors_of, put_all}
+use Rattle.std.proofs.Common.{◌≡◌, ◌∷◌, [], ◌++◌, ◌+◌, ◌≤◌, ℕ, List, ◌*◌, ◌/◌, true, take, drop, sym, ◌∙◌, ap, subst, length, arith, rules}
+use Rattle.ufs_disk.specs.Disk.{IsMixedFrom, sectors_of}
 use Rattle.ufs_disk.specs.Moments.{Moments, LeavesOnly, reads}
 use Rattle.ufs_disk.specs.Bytes.{begun, AreBytes}
 use Rattle.ufs_disk.specs.Calls.{after_calls, written}

@@ -1,5 +1,5 @@
-use Rattle.std.proofs.Common.{◌≡◌, ℕ, List, ◌++◌, take, drop, ◌%◌, ◌+◌, ◌*◌, ◌/◌, ◌≤◌, inl, refl, length, sym, ◌∙◌, ap, arith}
-use Rattle.ufs_disk.specs.Disk.{Image, put_all, sectors_of}
+use Rattle.std.proofs.Common.{◌≡◌, ℕ, List, ◌++◌, take, drop, ◌%◌, ◌+◌, ◌*◌, ◌/◌, ◌≤◌, length, ◌∙◌, ap, arith}
+use Rattle.ufs_disk.specs.Disk.{put_all, sectors_of}
 use Rattle.ufs_disk.specs.Bytes.{image_of, settled_on}
 use Rattle.ufs_disk.proofs.Flat.{image_overwritten}
 use Rattle.ufs_disk.proofs.Images.{mixes_all, only_image, unmixed, seen_is_image}
