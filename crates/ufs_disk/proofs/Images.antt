@@ -128,6 +128,10 @@ mixes_one s p d image mixed = ⊎_elim
 pub unmixed : (s : ℕ) (ps : List (List ℕ)) (state : State) → Leaves (IsMixedFrom s ps state) state
 unmixed s ps state image left = record { before = image; left = left; mixed = mixes_none image (put_all s ps image) }
 
+-- a write after a call that left no more than before
+pub mixed_fewer : (s : ℕ) (ps : List (List ℕ)) (old mid : State) → Leaves (IsImage old) mid → (image : Image) → IsMixedFrom s ps mid image → IsMixedFrom s ps old image
+mixed_fewer s ps old mid fewer image from = record { before = from.before; left = fewer from.before from.left; mixed = from.mixed }
+
 -- one sector is one piece
 pub one_piece : (bytes : List ℕ) → length bytes ≡ 512 → sectors_of bytes ≡ bytes ∷ []
 one_piece bytes is =

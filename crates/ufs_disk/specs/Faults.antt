@@ -6,7 +6,8 @@ use Rattle.ufs_disk.specs.declared.disk.Fault.{Fault}
 abbrev pub Rose : ℕ → ℕ → Type 0
 Rose before now = min (before + 1) (2 ^ 64 - 1) ≤ now
 
--- The count never falls, a call that passes leaves it, and a fault comes only where it rose in this call and has it as its number.
+-- The count never falls, a call that passes leaves it, and a fault comes only where it rose in this call and has it
+-- as its number.
 pub record HasCause {T : Type 0} (before now : ℕ) (result : Result T Fault) : Type 0 where
   pub later : before ≤ now
   pub passed : OnOk result (now ≡ before)

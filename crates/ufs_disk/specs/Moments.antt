@@ -30,8 +30,8 @@ pub record Passes (P : State → Type 0) (old new : Moments) : Type 0 where
   pub whole : all new ≡ all old ++ inside
   pub each : AllByRecursion P inside
 
--- At each moment from the old one to the new one, both included, a crash leaves only images that have P.
--- Of a disk that keeps no moments this is known of the two alone.
+-- At each moment from the old one to the new one, both included, a crash leaves only images that have P. Of a disk
+-- that keeps no moments this is known of the two alone.
 pub record LeavesOnly (keeps : Bool) (P : Image → Type 0) (old new : Moments) : Type 0 where
   pub before : Leaves P old.state
   pub after : Leaves P new.state

@@ -66,7 +66,8 @@ pub trait Disk {
 
         // At each moment of the call a crash leaves what it might have left before, with some of
         // the sectors written.
-        ensures crash { IsTrue tells → LeavesOnly keeps (IsPartlyWritten sector bytes.now (moments self.old).state)
+        ensures crash { IsTrue tells → LeavesOnly keeps
+            (IsPartlyWritten sector bytes.now (moments self.old).state)
             (moments self.old) (moments self.new) }
         ensures size { size self.new ≡ size self.old }
         ensures cause { HasCause (faults self.old) (faults self.new) result };

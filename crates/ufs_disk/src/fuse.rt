@@ -91,7 +91,8 @@ impl Disk for FuseDisk {
         ensures content { medium_reads self.new.medium ≡ medium_reads self.old.medium }
         ensures crash { LeavesOnly true (IsImage (medium_state self.old.medium))
             (medium_moments self.old.medium) (medium_moments self.new.medium) }
-        ensures noted { Notes (next_call self.old.medium < self.old.passes) (self.old.passes ≤ next_call self.old.medium)
+        ensures noted { Notes (next_call self.old.medium < self.old.passes)
+            (self.old.passes ≤ next_call self.old.medium)
             (λ request. request ≡ Request.Read sector (length buf.old))
             self.old.medium.calls.items self.new.medium.calls.items result }
         ensures rises { OnErr result
@@ -108,14 +109,18 @@ impl Disk for FuseDisk {
     fn write(&mut self, sector: u32, bytes: &[u8]) -> Result<(), Fault>
         requires { IsRange self.old.medium.sectors sector (length bytes.now) }
         ensures ok { OnOk result
-            (medium_reads self.new.medium ≡ overwritten sector bytes.now (medium_reads self.old.medium)) }
+            (medium_reads self.new.medium
+            ≡ overwritten sector bytes.now (medium_reads self.old.medium)) }
         ensures err { OnErr result
             (medium_moments self.new.medium ≡ medium_moments self.old.medium) }
         ensures content { Mixes (medium_reads self.old.medium)
-            (overwritten sector bytes.now (medium_reads self.old.medium)) (medium_reads self.new.medium) }
-        ensures crash { LeavesOnly true (IsPartlyWritten sector bytes.now (medium_state self.old.medium))
+            (overwritten sector bytes.now (medium_reads self.old.medium))
+            (medium_reads self.new.medium) }
+        ensures crash { LeavesOnly true
+            (IsPartlyWritten sector bytes.now (medium_state self.old.medium))
             (medium_moments self.old.medium) (medium_moments self.new.medium) }
-        ensures noted { Notes (next_call self.old.medium < self.old.passes) (self.old.passes ≤ next_call self.old.medium)
+        ensures noted { Notes (next_call self.old.medium < self.old.passes)
+            (self.old.passes ≤ next_call self.old.medium)
             (IsWrite sector bytes.now)
             self.old.medium.calls.items self.new.medium.calls.items result }
         ensures rises { OnErr result
@@ -136,7 +141,8 @@ impl Disk for FuseDisk {
         ensures content { medium_reads self.new.medium ≡ medium_reads self.old.medium }
         ensures crash { LeavesOnly true (IsImage (medium_state self.old.medium))
             (medium_moments self.old.medium) (medium_moments self.new.medium) }
-        ensures noted { Notes (next_call self.old.medium < self.old.passes) (self.old.passes ≤ next_call self.old.medium)
+        ensures noted { Notes (next_call self.old.medium < self.old.passes)
+            (self.old.passes ≤ next_call self.old.medium)
             (λ request. request ≡ Request.Barrier)
             self.old.medium.calls.items self.new.medium.calls.items result }
         ensures rises { OnErr result

@@ -10,6 +10,8 @@ mod plain;
 mod ranges;
 #[cfg(test)]
 mod tests;
+#[cfg(test)]
+mod torn;
 
 pub use disk::{Disk, Fault, SECTOR};
 pub use file::{FILE_SECTORS, FileDisk};

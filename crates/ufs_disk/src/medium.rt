@@ -52,7 +52,8 @@ pub struct Medium {
     ghost sized: { length bytes.items ≡ 512 * sectors },
     ghost held: { held_state bytes.items covered.items
         ≡ (after_calls calls.items (begun first.items)).state } by { same_state_prop _ _ },
-    ghost whole: { IsWhole sectors (after_calls calls.items (begun first.items)).state } by { whole_prop _ _ },
+    ghost whole: { IsWhole sectors
+        (after_calls calls.items (begun first.items)).state } by { whole_prop _ _ },
 }
 
 impl Medium {
@@ -217,7 +218,8 @@ fn push_covered(
 // Notes what a write covers, in the room that was reserved.
 fn cover(covered: &mut Vec<Covered>, sector: u32, bytes: Vec<u8>)
     requires { vec_len covered.old < vec_capacity covered.old }
-    ensures { covered.new.items ≡ covered.old.items ++ record { sector = sector; bytes = bytes } ∷ [] }
+    ensures { covered.new.items
+        ≡ covered.old.items ++ record { sector = sector; bytes = bytes } ∷ [] }
 {
     match covered.push(Covered { sector, bytes }) {
         Ok(()) => {}
@@ -241,7 +243,8 @@ fn note(calls: &mut Vec<Call>, faults: &mut u64, fails: bool, request: Request) 
     ensures ok { OnOk result
         (calls.new.items ≡ calls.old.items ++ record { request = request; passed = true } ∷ []) }
     ensures err { OnErr result ((calls.new.items ≡ calls.old.items)
-        ⊎ (IsTrue fails × (calls.new.items ≡ calls.old.items ++ record { request = request; passed = false } ∷ []))) }
+        ⊎ (IsTrue fails × (calls.new.items
+        ≡ calls.old.items ++ record { request = request; passed = false } ∷ []))) }
     ensures rises { OnErr result (faults.new ≡ min (faults.old + 1) (2 ^ 64 - 1)) }
     ensures cause { HasCause faults.old faults.new result }
 {

@@ -110,12 +110,15 @@ impl Disk for MemoryDisk {
     fn write(&mut self, sector: u32, bytes: &[u8]) -> Result<(), Fault>
         requires { IsRange self.old.medium.sectors sector (length bytes.now) }
         ensures ok { OnOk result
-            (medium_reads self.new.medium ≡ overwritten sector bytes.now (medium_reads self.old.medium)) }
+            (medium_reads self.new.medium
+            ≡ overwritten sector bytes.now (medium_reads self.old.medium)) }
         ensures err { OnErr result
             (medium_moments self.new.medium ≡ medium_moments self.old.medium) }
         ensures content { Mixes (medium_reads self.old.medium)
-            (overwritten sector bytes.now (medium_reads self.old.medium)) (medium_reads self.new.medium) }
-        ensures crash { LeavesOnly true (IsPartlyWritten sector bytes.now (medium_state self.old.medium))
+            (overwritten sector bytes.now (medium_reads self.old.medium))
+            (medium_reads self.new.medium) }
+        ensures crash { LeavesOnly true
+            (IsPartlyWritten sector bytes.now (medium_state self.old.medium))
             (medium_moments self.old.medium) (medium_moments self.new.medium) }
         ensures noted { Notes (¬ Contains self.old.fails.items (next_call self.old.medium))
             (Contains self.old.fails.items (next_call self.old.medium))

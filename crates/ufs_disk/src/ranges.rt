@@ -17,7 +17,8 @@ pub(crate) fn copy_out(all: &[u8], at: usize, buf: &mut [u8])
 pub(crate) fn overwrite(all: &mut Vec<u8>, at: usize, bytes: &[u8])
     requires { at + length bytes.now ≤ length all.old.items }
     ensures len { length all.new.items ≡ length all.old.items }
-    ensures bytes { all.new.items ≡ take at all.old.items ++ (bytes.now ++ drop (at + length bytes.now) all.old.items) }
+    ensures bytes { all.new.items ≡ take at all.old.items
+        ++ (bytes.now ++ drop (at + length bytes.now) all.old.items) }
 {
     all[at..at + bytes.len()].copy_from_slice(bytes);
 }

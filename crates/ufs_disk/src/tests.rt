@@ -1,6 +1,7 @@
 // What no clause says: that calls succeed, and that the definitions mean what people mean.
 ghost use Rattle.std.specs.Prelude.{◌≡◌, IfOk};
 
+use crate::torn::TornDisk;
 use crate::{Disk, FILE_SECTORS, FileDisk, FuseDisk, MemoryDisk, PlainDisk, SECTOR};
 use std::alloc::Global;
 use std::process::Abort;
@@ -167,6 +168,17 @@ fn reads<R: Abort, D: Disk>(rt: &R, disk: &mut D, sector: u32, byte: u8) -> bool
     assert!(rt; sector < disk.sectors());
     let mut buf = [1; SECTOR];
     disk.read(sector, &mut buf).is_ok() && is_all(&buf, byte)
+}
+
+#[test]
+fn a_failed_write_may_have_written(rt: HostRuntime) -> Result<(), Fail> {
+    let mut disk = TornDisk {
+        disk: PlainDisk::zeros(rt.alloc(), 3)?,
+        faults: 0,
+    };
+    assert!(rt; disk.sectors() == 3 && disk.write(0, &[7; 2 * SECTOR]).is_err());
+    assert!(rt; reads(&rt, &mut disk, 0, 7) && reads(&rt, &mut disk, 1, 0));
+    Ok(())
 }
 
 #[test]
