@@ -1,0 +1,10 @@
+pub mod Disk
+pub mod Moments
+pub mod Faults
+pub mod Bytes
+pub mod Pending
+pub mod Calls
+pub mod Medium
+pub mod Whole
+pub mod Props
+pub mod File

@@ -1,0 +1,89 @@
+// The trait and its one error.
+ghost use Rattle.std.specs.Prelude.{◌≡◌, ◌<◌, ◌^◌, ◌/◌, ℕ, Bool, IsTrue, List, length, OnOk};
+
+/// The bytes of a sector.
+pub const SECTOR: usize = 512;
+
+/// A call of a disk failed. The number is the disk's count of faults after that call.
+#[derive(Clone, Copy, Debug, PartialEq, Eq)]
+pub struct Fault {
+    pub number: u64,
+}
+
+/// A disk of sectors of 512 bytes. A sector is written whole or not at all. Until a barrier
+/// succeeds, a crash leaves each sector, independently, with what it had at the last such barrier
+/// or with any content that a write gave it since.
+///
+/// A call takes a range of sectors inside the disk: at least one sector, at most 4,096 bytes.
+///
+/// Every call may fail, and then the disk's count of faults rose in it. The count never falls. At
+/// 2^64 - 1 it stands still.
+pub trait Disk {
+    ghost use Rattle.ufs_disk.specs.Disk.{IsImage, IsPartlyWritten, IsRange, IsSettled, IsWhole};
+    ghost use Rattle.ufs_disk.specs.Disk.{Mixes, bytes_from, overwritten};
+    ghost use Rattle.ufs_disk.specs.Moments.{Moments, LeavesOnly, reads};
+    ghost use Rattle.ufs_disk.specs.Faults.{HasCause};
+
+    /// Whether contracts are told what it holds and what a crash may leave.
+    ghost tells: { Bool };
+
+    /// Whether `moments` has each state that it was in, and not only the one that it is in.
+    ghost keeps: { Bool };
+
+    /// How many sectors it has.
+    ghost size: { Self → ℕ };
+
+    /// What it holds and what a crash may leave, now and at each moment before.
+    ghost moments: { Self → Moments };
+
+    /// How many of its calls have failed.
+    ghost faults: { Self → ℕ };
+
+    /// How many sectors it has.
+    fn sectors(&self) -> u32
+        ensures { result ≡ size self.now };
+
+    /// Reads the sectors from `sector` on that fill `buf`. After a fault `buf` may hold anything.
+    fn read(&mut self, sector: u32, buf: &mut [u8]) -> Result<(), Fault>
+        requires { IsRange (size self.old) sector (length buf.old) }
+        ensures bytes { IsTrue tells → OnOk result
+            (buf.new ≡ bytes_from (reads (moments self.old)) sector (length buf.old / 512)) }
+        ensures content { IsTrue tells → reads (moments self.new) ≡ reads (moments self.old) }
+
+        // At no moment of the call a crash leaves what it might not have left before.
+        ensures crash { IsTrue tells → LeavesOnly keeps (IsImage (moments self.old).state)
+            (moments self.old) (moments self.new) }
+        ensures size { size self.new ≡ size self.old }
+        ensures cause { HasCause (faults self.old) (faults self.new) result };
+
+    /// Writes the sectors from `sector` on. After a fault each of them has its new content or not.
+    fn write(&mut self, sector: u32, bytes: &[u8]) -> Result<(), Fault>
+        requires { IsRange (size self.old) sector (length bytes.now) }
+        ensures ok { IsTrue tells → OnOk result
+            (reads (moments self.new) ≡ overwritten sector bytes.now (reads (moments self.old))) }
+        ensures content { IsTrue tells → Mixes (reads (moments self.old))
+            (overwritten sector bytes.now (reads (moments self.old))) (reads (moments self.new)) }
+
+        // At each moment of the call a crash leaves what it might have left before, with some of
+        // the sectors written.
+        ensures crash { IsTrue tells → LeavesOnly keeps
+            (IsPartlyWritten sector bytes.now (moments self.old).state)
+            (moments self.old) (moments self.new) }
+        ensures size { size self.new ≡ size self.old }
+        ensures cause { HasCause (faults self.old) (faults self.new) result };
+
+    /// Waits until all that was written is on the disk for good.
+    fn barrier(&mut self) -> Result<(), Fault>
+        ensures ok { IsTrue tells → OnOk result (IsSettled (moments self.new).state) }
+        ensures content { IsTrue tells → reads (moments self.new) ≡ reads (moments self.old) }
+        ensures crash { IsTrue tells → LeavesOnly keeps (IsImage (moments self.old).state)
+            (moments self.old) (moments self.new) }
+        ensures size { size self.new ≡ size self.old }
+        ensures cause { HasCause (faults self.old) (faults self.new) result };
+
+    /// Its sectors' numbers are `u32`.
+    ghost small: { (disk : Self) → size disk < 2 ^ 32 };
+
+    /// Whatever a crash leaves in a sector is 512 bytes.
+    ghost whole: { IsTrue tells → (disk : Self) → IsWhole (size disk) (moments disk).state };
+}
