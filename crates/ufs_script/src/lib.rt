@@ -18,3 +18,4 @@ pub use lists::{OpList, OpLists, ScheduleWord, WordList};
 pub use output::reply_line;
 pub use reading::read_script;
 pub use script::Script;
+pub use words::number;

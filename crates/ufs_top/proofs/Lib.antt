@@ -3,3 +3,4 @@ pub mod WordLemmas
 pub mod WriteLemmas
 pub mod PrintLemmas
 pub mod AnswerLemmas
+pub mod OptionLemmas

@@ -7,11 +7,14 @@ mod quiet;
 mod serve;
 #[cfg(test)]
 mod tests;
+mod words;
 mod write;
+
 
 pub use ending::Ending;
 use quiet::finish;
 pub use quiet::quiet;
+pub use words::{Command, Options, image_of, read_command};
 use std::env::Env;
 use std::process::ExitCode;
 use std::{env, io};
