@@ -1,21 +1,29 @@
 -- How a command ends where the sink doesn't fail: why, and what it has written.
-use Rattle.std.specs.Prelude.{ℕ, ◌≡◌, ◌≢◌, ◌⊎◌, List, [], ◌++◌, Option}
+use Rattle.std.specs.Prelude.{ℕ, ◌≡◌, ◌≢◌, ◌<◌, ◌≤◌, ◌⊎◌, List, [], ◌++◌, Option, Some, None}
 use Rattle.std.specs.Io.KnownBytes.{Appends}
 use Rattle.ufs_io.specs.Causes.{Rose}
+use Rattle.ufs_layout.specs.Areas.{geometry_refusal, sector_count}
+use Rattle.ufs_layout.specs.declared.geometry.Geometry.{Geometry}
 use Rattle.ufs_model.specs.declared.data.Entry.{Entry}
+use Rattle.ufs_recover.specs.Faults.{RoseTo}
+use Rattle.ufs_script.specs.Output.{output_of}
 use Rattle.ufs_script.specs.Reading.{ReadsBreak}
 use Rattle.ufs_script.specs.declared.script.Script.{Script}
 use Rattle.ufs_script.specs.declared.fault.ScriptFault.TheVariants as fault
 use Rattle.ufs_top.specs.declared.ending.Ending.{Ending}
-use Rattle.ufs_top.specs.declared.ending.Ending.TheVariants.{Done, Usage, NotBuilt, OutOfMemory, SourceFault}
-use Rattle.ufs_top.specs.Texts.{IsPlay, IsFront, usage_line, not_built_line, memory_line, source_line}
+use Rattle.ufs_top.specs.declared.ending.Ending.TheVariants.{Done, Usage, BadGeometry, NotBuilt, TooSmall, DeviceFault, OutOfMemory, SourceFault}
+use Rattle.ufs_top.specs.declared.words.Command.{Command}
+use Rattle.ufs_top.specs.declared.words.Command.TheVariants as command
+use Rattle.ufs_top.specs.Texts.{IsFront, usage_line, bad_geometry_line, not_built_line, too_small_line, device_line, memory_line, source_line, made_line}
 use Rattle.ufs_top.specs.Served.{IsServed, IsHistoryOf, replies_text}
-use Rattle.ufs_script.specs.Output.{output_of}
 
 abbrev pub status_of : Ending → ℕ
 status_of Done = 0
 status_of Usage = 1
+status_of (BadGeometry bad) = 1
 status_of NotBuilt = 2
+status_of TooSmall = 3
+status_of (DeviceFault number) = 4
 status_of OutOfMemory = 5
 status_of SourceFault = 6
 
@@ -27,17 +35,26 @@ sink_status = 7
 abbrev pub last_line_of : Ending → List ℕ
 last_line_of Done = []
 last_line_of Usage = usage_line
+last_line_of (BadGeometry bad) = bad_geometry_line bad
 last_line_of NotBuilt = not_built_line
+last_line_of TooSmall = too_small_line
+last_line_of (DeviceFault number) = device_line number
 last_line_of OutOfMemory = memory_line
 last_line_of SourceFault = source_line
+
+-- ---- what a script ends with
 
 -- nothing was written yet, or a front of a served script's reply lines
 abbrev pub IsReplyFront : Option (List ℕ) → Option (List ℕ) → List ℕ → Type 0
 IsReplyFront old new front = (front ≡ []) ⊎ ((script : Script) × (history : List Entry) × IsServed old new script history × IsFront front (replies_text script history))
 
--- one ending with its last line alone
-abbrev pub IsLastLine : Ending → Ending → List ℕ → Type 0
-IsLastLine wanted ending text = (ending ≡ wanted) × (text ≡ last_line_of wanted)
+-- one ending with these bytes
+abbrev pub IsLine : Ending → List ℕ → Ending → List ℕ → Type 0
+IsLine wanted line ending text = (ending ≡ wanted) × (text ≡ line)
+
+-- the same, or there is no memory for the line
+abbrev pub IsLineOrMemory : Ending → List ℕ → Ending → List ℕ → Type 0
+IsLineOrMemory wanted line ending text = IsLine wanted line ending text ⊎ IsLine OutOfMemory memory_line ending text
 
 -- a history of one client is written whole, or memory runs out on the way
 abbrev pub EndsPrinting : List Entry → Ending → List ℕ → Type 0
@@ -55,14 +72,43 @@ EndsServing script _ text = ⊥
 -- with this text.
 abbrev pub EndsPlay : Option (List ℕ) → Option (List ℕ) → ℕ → ℕ → Ending → List ℕ → Type 0
 EndsPlay old new before now Done text = (script : Script) × (history : List Entry) × IsServed old new script history × (text ≡ replies_text script history)
-EndsPlay old new before now Usage text = ⊥
 EndsPlay old new before now NotBuilt text = ReadsBreak old new (fault.NotBuilt 0) × (text ≡ not_built_line)
 EndsPlay old new before now OutOfMemory text = (front : List ℕ) × IsReplyFront old new front × (text ≡ front ++ memory_line)
 EndsPlay old new before now SourceFault text = Rose before now × (text ≡ source_line)
+EndsPlay old new before now _ text = ⊥
 
--- the same for any words: `play` alone is played, and all others are no command
-abbrev pub Ends : List (List ℕ) → Option (List ℕ) → Option (List ℕ) → ℕ → ℕ → Ending → List ℕ → Type 0
-Ends words old new before now ending text = (IsPlay words × EndsPlay old new before now ending text) ⊎ ((¬ (IsPlay words)) × (ending ≡ Usage) × (text ≡ usage_line))
+-- ---- what formatting ends with
+
+-- How many sectors the disk has, and its counts of faults before and after, allow `mkfs` this ending with this text.
+abbrev pub EndsMkfs : Geometry → ℕ → ℕ → ℕ → Ending → List ℕ → Type 0
+EndsMkfs g sectors before now Done text = (geometry_refusal g ≡ None) × (sector_count g ≤ sectors) × (text ≡ made_line g)
+EndsMkfs g sectors before now (BadGeometry bad) text = (geometry_refusal g ≡ Some bad) × (text ≡ bad_geometry_line bad)
+EndsMkfs g sectors before now TooSmall text = (geometry_refusal g ≡ None) × (sectors < sector_count g) × (text ≡ too_small_line)
+EndsMkfs g sectors before now (DeviceFault number) text = RoseTo before now number × (text ≡ device_line number)
+EndsMkfs g sectors before now OutOfMemory text = text ≡ memory_line
+EndsMkfs g sectors before now _ text = ⊥
+
+-- ---- what any words end with
+
+-- what a call saw of the source and of the disk
+pub record Seen : Type 0 where
+  -- the bytes that the source had left, where it tells
+  pub left_before : Option (List ℕ)
+  pub left_after : Option (List ℕ)
+  -- the counts of faults
+  pub source_before : ℕ
+  pub source_after : ℕ
+  pub disk_before : ℕ
+  pub disk_after : ℕ
+  -- how many sectors the disk has
+  pub sectors : ℕ
+
+-- What a call saw allows a command this ending with this text.
+abbrev pub Ends : Option Command → Seen → Ending → List ℕ → Type 0
+Ends None seen ending text = IsLine Usage usage_line ending text
+Ends (Some command.NotBuilt) seen ending text = IsLine NotBuilt not_built_line ending text
+Ends (Some command.Play) seen ending text = EndsPlay seen.left_before seen.left_after seen.source_before seen.source_after ending text
+Ends (Some (command.Mkfs blocks inodes journal)) seen ending text = EndsMkfs (record { blocks = blocks; inodes = inodes; journal = journal }) seen.sectors seen.disk_before seen.disk_after ending text
 
 -- A status, and what the sink got: the whole text of an ending that is allowed, or with the sink's fault a front of it.
 pub record IsAnswer (allowed : Ending → List ℕ → Type 0) (old new : Option (List ℕ)) (before now : ℕ) (status : ℕ) : Type 0 where

@@ -1,9 +1,9 @@
--- The commands, and the lines that a command writes besides replies.
-use Rattle.std.specs.Prelude.{ℕ, List, [], ◌∷◌, ◌++◌, ◌≡◌, codes}
-
--- the one list of words that is a command
-abbrev pub IsPlay : List (List ℕ) → Type 0
-IsPlay words = words ≡ codes "play" ∷ []
+-- The lines that a command writes besides replies.
+use Rattle.std.specs.Prelude.{ℕ, List, [], ◌∷◌, ◌++◌, ◌-◌, ◌≡◌, codes}
+use Rattle.std.specs.Fmt.{decimal}
+use Rattle.ufs_layout.specs.Areas.{first_of_data, refusal_number}
+use Rattle.ufs_layout.specs.declared.geometry.Geometry.{Geometry}
+use Rattle.ufs_layout.specs.declared.geometry.BadGeometry.{BadGeometry}
 
 abbrev pub line : List ℕ → List ℕ
 line text = text ++ 10 ∷ []
@@ -11,14 +11,28 @@ line text = text ++ 10 ∷ []
 abbrev pub usage_line : List ℕ
 usage_line = line (codes "usage: ufs COMMAND [WORDS]")
 
+abbrev pub bad_geometry_line : BadGeometry → List ℕ
+bad_geometry_line bad = line (codes "ufs: bad geometry " ++ decimal (refusal_number bad))
+
 abbrev pub not_built_line : List ℕ
 not_built_line = line (codes "ufs: line 0: NotBuilt")
+
+-- a disk that is too small is told as a fifth bad geometry
+abbrev pub too_small_line : List ℕ
+too_small_line = line (codes "ufs: image: BadGeometry 5")
+
+abbrev pub device_line : ℕ → List ℕ
+device_line fault = line (codes "ufs: device fault " ++ decimal fault)
 
 abbrev pub memory_line : List ℕ
 memory_line = line (codes "ufs: out of memory")
 
 abbrev pub source_line : List ℕ
 source_line = line (codes "ufs: source fault")
+
+-- blocks, inodes, journal sectors and data blocks
+abbrev pub made_line : Geometry → List ℕ
+made_line g = line (codes "made " ++ decimal g.blocks ++ 32 ∷ decimal g.inodes ++ 32 ∷ decimal g.journal ++ 32 ∷ decimal (g.blocks - first_of_data g))
 
 -- the first of these bytes is the front of the second
 abbrev pub IsFront : List ℕ → List ℕ → Type 0
