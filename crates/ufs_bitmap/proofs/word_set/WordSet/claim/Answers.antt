@@ -1,0 +1,18 @@
+use Rattle.std.proofs.Common.{rules, ◌≡◌, ◌≢◌, ◌+◌, ◌*◌, ◌<◌, ◌≤◌, ◌↔◌, ℕ, Bool, true, false, length, IfOk, IfSome, IfNone, IsNone, IsTrue, slice_index, ◌-◌, ◌/◌, ◌%◌, nat_eq, nat_lt, List, [], ◌∷◌, ◌++◌, slice_index_or, bit_and, bit_or, Fits, w8, w32, w64, Bor, MutBor}
+use Rattle.std.specs.FinSet as set
+use Rattle.ufs_extent.specs.declared.Run.{Run}
+use Rattle.ufs_extent.specs.Runs.{IsRun, end_of}
+use Rattle.ufs_bitmap.specs.Blocks.{HoldsAll, HoldsNone, IsLowestRun, run_set}
+use Rattle.ufs_bitmap.proofs.word_set.WordSet.claim.Goals as goal
+
+-- src/word_set.rt:134:9
+pub loop-block-init : goal.loop-block-init
+loop-block-init c = ?
+
+-- src/word_set.rt:135:13
+pub remove-requires : goal.remove-requires
+remove-requires c = ?
+
+-- src/word_set.rt:134:9
+pub loop-block-preserved : goal.loop-block-preserved
+loop-block-preserved c = ?

@@ -1,0 +1,14 @@
+use Rattle.std.proofs.Common.{rules, ◌≡◌, ◌≢◌, ◌+◌, ◌*◌, ◌<◌, ◌≤◌, ◌↔◌, ℕ, Bool, true, false, length, IfOk, IfSome, IfNone, IsNone, IsTrue, slice_index, ◌-◌, ◌/◌, ◌%◌, nat_eq, nat_lt, List, [], ◌∷◌, ◌++◌, slice_index_or, bit_and, bit_or, Fits, w8, w32, w64, Bor, MutBor}
+use Rattle.std.specs.FinSet as set
+use Rattle.ufs_extent.specs.declared.Run.{Run}
+use Rattle.ufs_extent.specs.Runs.{IsRun, end_of}
+use Rattle.ufs_bitmap.specs.Blocks.{HoldsAll, HoldsNone, IsLowestRun, run_set}
+use Rattle.ufs_bitmap.proofs.word_set.WordSet.contains.Goals as goal
+
+-- src/word_set.rt:56:5
+pub returns-in-Some-clause-value : goal.returns-in-Some-clause-value
+returns-in-Some-clause-value c = ?
+
+-- src/word_set.rt:56:5
+pub returns-in-None-clause-value : goal.returns-in-None-clause-value
+returns-in-None-clause-value c = ?

@@ -1,0 +1,14 @@
+use Rattle.std.proofs.Common.{rules, ◌≡◌, ◌≢◌, ◌+◌, ◌*◌, ◌<◌, ◌≤◌, ◌↔◌, ℕ, Bool, true, false, length, IfOk, IfSome, IfNone, IsNone, IsTrue, slice_index, ◌-◌, ◌/◌, ◌%◌, nat_eq, nat_lt, List, [], ◌∷◌, ◌++◌, slice_index_or, bit_and, bit_or, Fits, w8, w32, w64, Bor, MutBor}
+use Rattle.std.specs.FinSet as set
+use Rattle.ufs_extent.specs.declared.Run.{Run}
+use Rattle.ufs_extent.specs.Runs.{IsRun, end_of}
+use Rattle.ufs_bitmap.specs.Blocks.{HoldsAll, HoldsNone, IsLowestRun, run_set}
+use Rattle.ufs_bitmap.proofs.word_set.WordSet.make.Goals as goal
+
+-- src/word_set.rt:43:9
+pub invariant_of-result : goal.invariant_of-result
+invariant_of-result c = ?
+
+-- src/word_set.rt:38:5
+pub returns-clause-blocks : goal.returns-clause-blocks
+returns-clause-blocks c = ?
