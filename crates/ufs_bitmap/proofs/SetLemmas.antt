@@ -172,3 +172,24 @@ len-from_list (k ∷ ks) = omega (arith, len-from_list ks, len-insert_le (set.fr
 -- no block: the empty set
 pub empty_from_none : (s : BlockSet) → ((q : ℕ) → set.contains s q ≡ false) → s ≡ set.empty
 empty_from_none s none = same_blocks _ _ (λ q. none q ∙ sym (has-empty q))
+
+-- ---- where the blocks of a changed set lie
+or_cases : (x y : Bool) → (x || y) ≡ true → (x ≡ true) ⊎ (y ≡ true)
+or_cases true y h = inl refl
+or_cases false y h = inr h
+
+pub has-run_set : (r : Run) (q : ℕ) → set.contains (run_set r) q ≡ true → (r.start ≤ q) × (q < end_of r)
+has-run_set r q h = between_tells r.start (end_of r) q (sym (has-blocks_from r.start r.length q) ∙ h)
+
+pub union_cases : (s : BlockSet) (r : Run) (q : ℕ) → set.contains (set.union s (run_set r)) q ≡ true → (set.contains s q ≡ true) ⊎ ((r.start ≤ q) × (q < end_of r))
+union_cases s r q h =
+    ⊎_elim (λ (e : set.contains s q ≡ true). inl e) (λ (e : set.contains (run_set r) q ≡ true). inr (has-run_set r q e))
+    (or_cases (set.contains s q) (set.contains (run_set r) q) (sym (has-union s (run_set r) q) ∙ h))
+
+pub difference_from : (s t : BlockSet) (q : ℕ) → set.contains (set.difference s t) q ≡ true → set.contains s q ≡ true
+difference_from s t q h = and_left (set.contains s q) (not (set.contains t q)) (sym (has-difference s t q) ∙ h)
+
+pub has-blocks_between : (a e q : ℕ) → set.contains (set.from_list {R = nat_cmp} (blocks_from a (e - a))) q ≡ true → (a ≤ q) × (q < e)
+has-blocks_between a e q h =
+    let (l, u) = between_tells a (a + (e - a)) q (sym (has-blocks_from a (e - a) q) ∙ h) in
+    (l, omega (arith, l, u))

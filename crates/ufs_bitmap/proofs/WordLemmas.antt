@@ -7,12 +7,12 @@ use Rattle.std.specs.FinSet as set
 use Rattle.std.proofs.lemmas.Bool.{true≢false, ne_eqb, eqb-true}
 use Rattle.std.proofs.lemmas.Bool.Decides.{eqb_tells, leb_tells, nat_tests}
 use Rattle.std.proofs.lemmas.Nat.Bits.{bit_at_set_same, bit_at_set_other, bit_at_clear_same, bit_at_clear_other, bit_at-zero, bit_at-trailing_zeros, bit_at-lt, shr_and_one}
-use Rattle.std.proofs.lemmas.List.{get_or-set_same, get_or-set_other, get_or_past}
+use Rattle.std.proofs.lemmas.List.{get_or-set_same, get_or-set_other, get_or_past, get_or-replicate}
 use Rattle.std.proofs.lemmas.List.Sums.{length-filter, count_by-le-length}
 use Rattle.ufs_extent.proofs.RunLemmas.{length-blocks_from}
 use Rattle.ufs_extent.specs.Runs.{blocks_from}
 use Rattle.ufs_bitmap.specs.Blocks.{BlockSet}
-use Rattle.ufs_bitmap.specs.Words.{is_set, members_of}
+use Rattle.ufs_bitmap.specs.Words.{is_set, members_of, Members}
 use Rattle.ufs_bitmap.proofs.SetLemmas.{same_blocks, has-insert, has-remove, has-empty, between, between_in, between_above, between_none, between_first, between_not, and-true, and-false, len-from_list, empty_from_none}
 
 -- ---- a filtered stretch of blocks
@@ -56,7 +56,7 @@ has-filter p a (suc n) q =
     ∙ ap (λ (b : Bool). p q && b) (between_first a n q)
 
 -- ---- the set of words
-past_end : (ws : List ℕ) (q : ℕ) → 64 * length ws ≤ q → is_set ws q ≡ false
+pub past_end : (ws : List ℕ) (q : ℕ) → 64 * length ws ≤ q → is_set ws q ≡ false
 past_end ws q h =
     let k : length ws ≤ q / 64 = omega arith in
     ap (λ (w : ℕ). eqb (bit_at w (q % 64)) 1) (get_or_past ws (q / 64) 0 k) ∙ ap (λ (b : ℕ). eqb b 1) (bit_at-zero (q % 64))
@@ -193,3 +193,20 @@ module _ (ws : List ℕ) (low : ℕ) (fits : get_or ws low 0 < 2 ^ 64) (some : g
           ∙ ap (λ (d : ℕ). eqb d 1) (bits_of.2 (q % 64) less))
       (λ (e : (leb low (q / 64) ≡ false) × (q / 64 < low)). has-members ws q ∙ no_bit ws q (zeros (q / 64) e.1))
       (leb_tells low (q / 64))
+
+pub zeros_below : (ws : List ℕ) (low high : ℕ) → ((i : ℕ) → i < low → get_or ws i 0 ≡ 0) → ((i : ℕ) → low ≤ i → i < high → get_or ws i 0 ≡ 0) → (i : ℕ) → i < high → get_or ws i 0 ≡ 0
+zeros_below ws low high first then i h =
+    ⊎_elim (λ (e : (leb low i ≡ true) × (low ≤ i)). then i e.1 h) (λ (e : (leb low i ≡ false) × (i < low)). first i e.1) (leb_tells low i)
+
+pub same_members : (m n : ℕ) (s t : BlockSet) → m ≡ n → s ≡ t → (let a : Members = record { limit = m; blocks = s } in let b : Members = record { limit = n; blocks = t } in a ≡ b)
+same_members m n s t e f = λ i. record { limit = e i; blocks = f i }
+
+-- a block of the set lies in no word that is known to be 0
+pub low_le : (ws : List ℕ) (low b : ℕ) → ((i : ℕ) → i < low → get_or ws i 0 ≡ 0) → set.contains (members_of ws) b ≡ true → low ≤ b / 64
+low_le ws low b zeros there =
+    ⊎_elim (λ (e : (leb low (b / 64) ≡ true) × (low ≤ b / 64)). e.1)
+    (λ (e : (leb low (b / 64) ≡ false) × (b / 64 < low)). absurd (true≢false (sym there ∙ has-members ws b ∙ no_bit ws b (zeros (b / 64) e.1))))
+    (leb_tells low (b / 64))
+
+pub get_or-zeros : (n i : ℕ) → i < n → get_or (replicate {A = ℕ} n 0) i 0 ≡ 0
+get_or-zeros n i h = get_or-replicate n i 0 0 h

@@ -1,10 +1,10 @@
 // The free blocks of the data area.
-ghost use Rattle.std.specs.Prelude.{◌≡◌, ◌+◌, ◌*◌, ◌-◌, ◌/◌, ◌%◌, ◌<◌, ◌≤◌, ◌↔◌, ℕ, true, false, length, IfOk, IfSome, IfNone, IsNone, IsTrue, slice_index};
+ghost use Rattle.std.specs.Prelude.{◌≡◌, ◌+◌, ◌*◌, ◌-◌, ◌/◌, ◌%◌, ◌<◌, ◌≤◌, ◌↔◌, ◌&&◌, if◌then◌else◌, ℕ, true, length, IfOk, IfSome, IfNone, IsNone, IsTrue};
 ghost use Rattle.std.specs.Int.{bit_at};
 ghost use Rattle.std.specs.FinSet as set;
 ghost use Rattle.ufs_extent.specs.Runs.{IsRun, blocks_from};
 ghost use Rattle.ufs_bitmap.specs.Blocks.{HoldsAll, HoldsNone, IsLowestRun, run_set};
-ghost use Rattle.ufs_bitmap.specs.Space.{Space, IsInside, HasBits};
+ghost use Rattle.ufs_bitmap.specs.Space.{Space, IsInside, HasBits, is_between, is_clear, used_bit};
 
 use crate::word_set::WordSet;
 use std::alloc::Global;
@@ -37,17 +37,11 @@ impl Model for Bitmap {
 impl Bitmap {
     /// Each block from `first` up to `blocks` is free.
     pub fn all_free(alloc: Global, first: u32, blocks: u32) -> Result<Bitmap, Memory>
-        requires order { first ≤ blocks }
-        requires small { blocks ≤ 65536 }
+        requires { blocks ≤ 65536 }
         ensures { IfOk result (λ m. m ≡ record { first = first; blocks = blocks; free = set.from_list (blocks_from first (blocks - first)) }) }
     {
         let mut free = WordSet::make(alloc, blocks.div_ceil(64) as usize)?;
-        if first < blocks {
-            free.give(Run {
-                start: first,
-                length: blocks - first,
-            });
-        }
+        free.insert_all(first, blocks);
         Ok(Bitmap {
             first,
             blocks,
@@ -101,5 +95,60 @@ impl Bitmap {
         ensures { self.new ≡ record self.old { free = set.difference self.old.free (run_set run) } }
     {
         self.free.claim(run);
+    }
+
+    /// Fills `bytes` with the bitmap's bytes from byte `from` on, as they stand on the disk: bit b mod 8 of byte b / 8,
+    /// least bit first, is 1 where block b is used. Takes no memory.
+    pub fn put_bytes(&self, from: u32, bytes: &mut [u8])
+        requires { from + length bytes.old ≤ 8192 }
+        ensures { HasBits self.now from bytes.new }
+    {
+        for (at, byte) in bytes.iter_mut().enumerate() {
+            *byte = self.used_byte(from + at as u32);
+        }
+    }
+
+    /// The bitmap whose bytes these are, as far as the blocks from `first` up to `blocks` go.
+    pub fn from_bytes(
+        alloc: Global,
+        first: u32,
+        blocks: u32,
+        bytes: &[u8],
+    ) -> Result<Bitmap, Memory>
+        requires small { blocks ≤ 65536 }
+        requires long { blocks ≤ 8 * length bytes.now }
+        ensures range { IfOk result (λ m. (m.first ≡ first) × (m.blocks ≡ blocks)) }
+        ensures free { IfOk result (λ m. (b : ℕ) → set.contains m.free b ≡ (is_between first blocks b && is_clear bytes.now b)) }
+    {
+        let mut free = WordSet::make(alloc, blocks.div_ceil(64) as usize)?;
+        for block in first..blocks {
+            if (bytes[block as usize / 8] >> (block % 8)) & 1 == 0 {
+                free.insert(block);
+            }
+        }
+        Ok(Bitmap {
+            first,
+            blocks,
+            free,
+        })
+    }
+
+    fn used_byte(&self, at: u32) -> u8
+        requires { at < 8192 }
+        ensures { (i : ℕ) → i < 8 → bit_at result i ≡ used_bit self.now (8 * at + i) }
+    {
+        let mut byte = 0;
+        for bit in 0..8 {
+            if self.is_used(8 * at + bit) {
+                byte |= 1 << bit;
+            }
+        }
+        byte
+    }
+
+    fn is_used(&self, block: u32) -> bool
+        ensures { (if result then 1 else 0) ≡ used_bit self.now block }
+    {
+        block < self.blocks && !self.free.contains(block)
     }
 }

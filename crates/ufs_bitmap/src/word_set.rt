@@ -1,8 +1,8 @@
 // A set of blocks below 65,536, one bit a block.
-ghost use Rattle.std.specs.Prelude.{◌≡◌, ◌≢◌, ◌+◌, ◌*◌, ◌<◌, ◌≤◌, ◌↔◌, ℕ, Bool, true, false, length, IfOk, IfSome, IfNone, IsNone, IsTrue, slice_index};
+ghost use Rattle.std.specs.Prelude.{◌≡◌, ◌≢◌, ◌+◌, ◌-◌, ◌*◌, ◌<◌, ◌≤◌, ◌↔◌, ℕ, Bool, true, false, length, IfOk, IfSome, IfNone, IsNone, IsTrue, slice_index};
 ghost use Rattle.std.specs.FinSet as set;
 ghost use Rattle.ufs_extent.specs.declared.Run.{Run};
-ghost use Rattle.ufs_extent.specs.Runs.{IsRun, end_of};
+ghost use Rattle.ufs_extent.specs.Runs.{IsRun, blocks_from, end_of};
 ghost use Rattle.ufs_bitmap.specs.Blocks.{HoldsAll, HoldsNone, IsLowestRun, run_set};
 
 use std::alloc::{AllocError, Global};
@@ -89,6 +89,7 @@ impl WordSet {
         ensures same { self.new ≡ self.old }
         ensures held { IfSome result (λ b. set.contains self.old.blocks b ≡ true) }
         ensures lowest { IfSome result (λ b. (q : ℕ) → q < b → set.contains self.old.blocks q ≡ false) }
+        ensures small { IfSome result (λ b. b < 65536) }
         ensures none { IfNone result (self.old.blocks ≡ set.empty) }
     {
         self.low = first_word(self.words.as_slice(), self.low);
@@ -115,15 +116,24 @@ impl WordSet {
         Some(Run { start, length })
     }
 
+    /// The blocks from `first` up to `end` come in.
+    pub(crate) fn insert_all(&mut self, first: u32, end: u32)
+        requires inside { end ≤ self.old.limit }
+        requires absent { (b : ℕ) → first ≤ b → b < end → set.contains self.old.blocks b ≡ false }
+        ensures { self.new ≡ record self.old { blocks = set.union self.old.blocks (set.from_list (blocks_from first (end - first))) } }
+    {
+        for block in first..end {
+            self.insert(block);
+        }
+    }
+
     pub(crate) fn give(&mut self, run: Run)
         requires run { IsRun run }
         requires inside { end_of run ≤ self.old.limit }
         requires absent { HoldsNone self.old.blocks run }
         ensures { self.new ≡ record self.old { blocks = set.union self.old.blocks (run_set run) } }
     {
-        for block in run.start..run.start + run.length {
-            self.insert(block);
-        }
+        self.insert_all(run.start, run.start + run.length);
     }
 
     pub(crate) fn claim(&mut self, run: Run)

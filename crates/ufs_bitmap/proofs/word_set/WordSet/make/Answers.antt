@@ -1,14 +1,23 @@
-use Rattle.std.proofs.Common.{rules, ◌≡◌, ◌≢◌, ◌+◌, ◌*◌, ◌<◌, ◌≤◌, ◌↔◌, ℕ, Bool, true, false, length, IfOk, IfSome, IfNone, IsNone, IsTrue, slice_index, ◌-◌, ◌/◌, ◌%◌, nat_eq, nat_lt, List, [], ◌∷◌, ◌++◌, slice_index_or, bit_and, bit_or, Fits, w8, w32, w64, Bor, MutBor}
+use Rattle.std.proofs.Common.{◌≡◌, ℕ, ◌<◌, List, length, get_or, ap, sym, ◌∙◌, arith}
+use Rattle.std.proofs.lemmas.List.{length-replicate}
+use Rattle.std.specs.Prelude.{replicate}
+use Rattle.std.specs.Ordering.{nat_cmp}
 use Rattle.std.specs.FinSet as set
-use Rattle.ufs_extent.specs.declared.Run.{Run}
-use Rattle.ufs_extent.specs.Runs.{IsRun, end_of}
-use Rattle.ufs_bitmap.specs.Blocks.{HoldsAll, HoldsNone, IsLowestRun, run_set}
+use Rattle.ufs_bitmap.specs.Blocks.{BlockSet}
+use Rattle.ufs_bitmap.proofs.WordLemmas.{members-zeros, get_or-zeros}
 use Rattle.ufs_bitmap.proofs.word_set.WordSet.make.Goals as goal
 
--- src/word_set.rt:43:9
-pub invariant_of-result : goal.invariant_of-result
-invariant_of-result c = ?
-
--- src/word_set.rt:38:5
 pub returns-clause-blocks : goal.returns-clause-blocks
-returns-clause-blocks c = ?
+returns-clause-blocks c =
+    let is = c.in_ok-vec.ensures.items_if_clones_equal (λ y e. e) in
+    members-zeros c.in_ok-vec.field-0.items
+    (λ i h. ap (λ (ws : List ℕ). get_or ws i 0) is ∙ get_or-zeros c.args.words i (omega (arith, h, ap (λ (ws : List ℕ). length ws) is, length-replicate {A = ℕ} c.args.words 0)))
+
+pub invariant_of-result : goal.invariant_of-result
+invariant_of-result c =
+    let is = c.in_ok-vec.ensures.items_if_clones_equal (λ y e. e) in
+    let many : length c.in_ok-vec.field-0.items ≡ c.args.words = ap (λ (ws : List ℕ). length ws) is ∙ length-replicate {A = ℕ} c.args.words 0 in
+    (sym (ap (λ (s : BlockSet). set.len s) (returns-clause-blocks c) ∙ set.len-empty nat_cmp),
+      omega (arith, many),
+      omega (arith, many),
+      λ i h. ap (λ (ws : List ℕ). get_or ws i 0) is ∙ get_or-zeros c.args.words i h)
