@@ -193,3 +193,54 @@ pub has-blocks_between : (a e q : ℕ) → set.contains (set.from_list {R = nat_
 has-blocks_between a e q h =
     let (l, u) = between_tells a (a + (e - a)) q (sym (has-blocks_from a (e - a) q) ∙ h) in
     (l, omega (arith, l, u))
+
+-- ---- a set that grows by one block after another, of those that pass a test
+between_empty : (a q : ℕ) → between a a q ≡ false
+between_empty a q = grind (arith, nat_tests)
+
+between_empty_below : (a f q : ℕ) → f < a → between a f q ≡ false
+between_empty_below a f q h = grind (arith, nat_tests)
+
+between_other : (a e q : ℕ) → q ≢ e → between a e q ≡ between a (e + 1) q
+between_other a e q ne = grind (arith, nat_tests)
+
+between_same_end : (a e f q : ℕ) → a ≤ e → e - a ≡ f - a → between a e q ≡ between a f q
+between_same_end a e f q h k = ⊎_elim
+    (λ (w : (leb a f ≡ true) × (a ≤ f)). let same : e ≡ f = omega (arith, h, k, w.1) in ap (λ (n : ℕ). between a n q) same)
+    (λ (w : (leb a f ≡ false) × (f < a)). let same : e ≡ a = omega (arith, h, k, w.1) in ap (λ (n : ℕ). between a n q) same ∙ between_empty a q ∙ sym (between_empty_below a f q w.1))
+    (leb_tells a f)
+
+no_matter : (x y z : Bool) → z ≡ false → (x && z) ≡ (y && z)
+no_matter x y true h = absurd (true≢false h)
+no_matter x y false h = sym (and-false x) ∙ and-false y
+
+abbrev pub IsPicked : BlockSet → (ℕ → Bool) → ℕ → ℕ → Type 0
+IsPicked s test a e = (q : ℕ) → set.contains s q ≡ (between a e q && test q)
+
+pub picked_none : (test : ℕ → Bool) (a : ℕ) → IsPicked set.empty test a a
+picked_none test a q = has-empty q ∙ sym (ap (λ (b : Bool). b && test q) (between_empty a q))
+
+pub picked_one : (s : BlockSet) (test : ℕ → Bool) (a e : ℕ) → a ≤ e → test e ≡ true → IsPicked s test a e → IsPicked (set.insert s e) test a (e + 1)
+picked_one s test a e h pass old q = has-insert s e q ∙ ⊎_elim same other (eqb_tells q e) where
+  same : (eqb q e ≡ true) × (q ≡ e) → (eqb q e || set.contains s q) ≡ (between a (e + 1) q && test q)
+  same w =
+      ap (λ (b : Bool). b || set.contains s q) w.0
+      ∙ sym (ap (λ (b : Bool). b && test q) (between_in a (e + 1) q (omega (arith, h, w.1)) (omega (arith, w.1))) ∙ ap test w.1 ∙ pass)
+
+  other : (eqb q e ≡ false) × (q ≢ e) → (eqb q e || set.contains s q) ≡ (between a (e + 1) q && test q)
+  other w =
+      ap (λ (b : Bool). b || set.contains s q) w.0 ∙ old q ∙ ap (λ (b : Bool). b && test q) (between_other a e q w.1)
+
+pub picked_not : (s : BlockSet) (test : ℕ → Bool) (a e : ℕ) → test e ≡ false → IsPicked s test a e → IsPicked s test a (e + 1)
+picked_not s test a e fails old q = old q ∙ ⊎_elim same other (eqb_tells q e) where
+  same : (eqb q e ≡ true) × (q ≡ e) → (between a e q && test q) ≡ (between a (e + 1) q && test q)
+  same w = no_matter (between a e q) (between a (e + 1) q) (test q) (ap test w.1 ∙ fails)
+
+  other : (eqb q e ≡ false) × (q ≢ e) → (between a e q && test q) ≡ (between a (e + 1) q && test q)
+  other w = ap (λ (b : Bool). b && test q) (between_other a e q w.1)
+
+pub picked_all : (s : BlockSet) (test : ℕ → Bool) (a e f : ℕ) → a ≤ e → e - a ≡ f - a → IsPicked s test a e → IsPicked s test a f
+picked_all s test a e f h k old q = old q ∙ ap (λ (b : Bool). b && test q) (between_same_end a e f q h k)
+
+pub picked_between : (s : BlockSet) (test : ℕ → Bool) (a e : ℕ) → IsPicked s test a e → (q : ℕ) → set.contains s q ≡ true → (a ≤ q) × (q < e)
+picked_between s test a e old q h = between_tells a e q (and_left (between a e q) (test q) (sym (old q) ∙ h))
