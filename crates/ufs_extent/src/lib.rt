@@ -1,12 +1,14 @@
 //! Runs of blocks: where the blocks of a file or a directory lie, in order.
 #![tactic(auto)]
 
+ghost use Rattle.std.specs.Prelude.{◌↔◌, IsTrue};
+
 mod file_runs;
 mod run_list;
 
 pub use file_runs::Extents;
 pub use run_list::Runs;
-use std::alloc::AllocError;
+use std::alloc::{AllocError, AllocFailed};
 
 /// How many extents an inode has room for.
 pub const MAX_EXTENTS: usize = 56;
@@ -22,12 +24,30 @@ pub struct Run {
     pub length: u32,
 }
 
+impl Run {
+    ghost use Rattle.ufs_extent.specs.Runs.{IsRun};
+
+    /// Whether the run is one that calls take.
+    pub fn is_valid(&self) -> bool
+        ensures { IsTrue result ↔ IsRun self.now }
+    {
+        let Run { start, length } = *self;
+        length >= 1 && length <= MAX_BLOCKS && start <= MAX_BLOCKS - length
+    }
+}
+
 /// Memory ran out.
 #[derive(Clone, Copy, Debug, PartialEq, Eq)]
 pub struct Memory;
 
 impl From<AllocError> for Memory {
     fn from(_error: AllocError) -> Memory {
+        Memory
+    }
+}
+
+impl<T: Drop> From<AllocFailed<T>> for Memory {
+    fn from(_error: AllocFailed<T>) -> Memory {
         Memory
     }
 }

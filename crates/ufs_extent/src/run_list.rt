@@ -3,7 +3,7 @@ ghost use Rattle.std.specs.Prelude.{◌≡◌, [], ◌∷◌, ◌++◌, All, OnO
 ghost use Rattle.ufs_extent.specs.Runs.{IsRun};
 
 use crate::{Memory, Run};
-use std::alloc::{AllocFailed, Global};
+use std::alloc::Global;
 use std::marker::Model;
 
 /// Runs in order.
@@ -56,10 +56,8 @@ impl Runs {
         ensures ok { OnOk result (self.new ≡ self.old ++ run ∷ []) }
         ensures err { OnErr result (self.new ≡ self.old) }
     {
-        match self.runs.push(run) {
-            Ok(()) => Ok(()),
-            Err(AllocFailed { value: _ }) => Err(Memory),
-        }
+        self.runs.push(run)?;
+        Ok(())
     }
 
     pub fn as_slice(&self) -> &[Run]

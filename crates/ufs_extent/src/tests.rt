@@ -110,6 +110,20 @@ fn the_fifty_seventh_run_is_refused(rt: HostRuntime) -> Result<(), Fail> {
 }
 
 #[test]
+fn a_run_has_a_block_below_65536(rt: HostRuntime) {
+    for (start, length, valid) in [
+        (0, 0, false),
+        (0, 1, true),
+        (65_535, 1, true),
+        (65_536, 0, false),
+        (65_535, 2, false),
+        (1, u32::MAX, false),
+    ] {
+        assert_eq!(rt; Run { start, length }.is_valid(), valid, "{start} {length}");
+    }
+}
+
+#[test]
 fn a_list_of_runs(rt: HostRuntime) -> Result<(), Memory> {
     let mut runs = Runs::new(rt.alloc());
     for run in FILE {
