@@ -1,14 +1,13 @@
 -- Sets of blocks: what they have after a run came or went.
 use Rattle.std.proofs.Common.{◌≡◌, ◌≢◌, ℕ, zero, suc, ◌+◌, ◌-◌, ◌<◌, ◌≤◌, eqb, ltb, leb, Bool, true, false, not, ◌&&◌, ◌||◌, cond, List, [], ◌∷◌, length, refl, sym, ap, ◌∙◌, arith, inl, inr, ⊎_elim, ◌⊎◌}
-use Rattle.std.specs.Prelude.{filter}
-use Rattle.std.specs.Ordering.{nat_cmp, eq_by_cmp}
+use Rattle.std.specs.Ordering.{nat_cmp}
 use Rattle.std.specs.Cmp.{nat_cmp_total, unsigned_tied}
 use Rattle.std.specs.FinSet as set
 use Rattle.std.proofs.lemmas.Bool.{true≢false, leb-true, ltb-true}
 use Rattle.std.proofs.lemmas.Bool.Decides.{eqb_tells, leb_tells, nat_tests}
 use Rattle.ufs_extent.specs.declared.Run.{Run}
-use Rattle.ufs_extent.specs.Runs.{IsRun, blocks_from, blocks_in, end_of}
-use Rattle.ufs_bitmap.specs.Blocks.{BlockSet, run_set, HoldsAll, HoldsNone, IsLowestRun}
+use Rattle.ufs_extent.specs.Runs.{blocks_from, end_of}
+use Rattle.ufs_bitmap.specs.Blocks.{BlockSet, run_set, HoldsAll, HoldsNone}
 
 pub same_blocks : (s t : BlockSet) → ((q : ℕ) → set.contains s q ≡ set.contains t q) → s ≡ t
 same_blocks = set.same_set nat_cmp_total set.nat_cmp-IsAntisymmetric
@@ -244,3 +243,32 @@ picked_all s test a e f h k old q = old q ∙ ap (λ (b : Bool). b && test q) (b
 
 pub picked_between : (s : BlockSet) (test : ℕ → Bool) (a e : ℕ) → IsPicked s test a e → (q : ℕ) → set.contains s q ≡ true → (a ≤ q) × (q < e)
 picked_between s test a e old q h = between_tells a e q (and_left (between a e q) (test q) (sym (old q) ∙ h))
+
+-- ---- how many blocks a set has after a run came or went
+len_after : (n : ℕ) → suc n ≡ n + 1
+len_after n = omega arith
+
+len-union_first : (s : BlockSet) (a n : ℕ) → ((b : ℕ) → a ≤ b → b < a + n → set.contains s b ≡ false) → set.len (set.union s (first_blocks a n)) ≡ set.len s + n
+len-union_first s a zero none = let e : set.len s ≡ set.len (set.union s (first_blocks a 0)) = ap (λ (t : BlockSet). set.len t) (union_none s a) in omega (arith, e)
+len-union_first s a (suc n) none =
+    let before : set.len (set.union s (first_blocks a n)) ≡ set.len s + n = len-union_first s a n (λ b l h. none b l (omega (arith, h))) in
+    let more : set.len (set.union s (first_blocks a (n + 1))) ≡ set.len (set.union s (first_blocks a n)) + 1 =
+    ap (λ (t : BlockSet). set.len t) (union_more s a n)
+    ∙ len-insert_new (set.union s (first_blocks a n)) (a + n) (not_yet_in s a n (none (a + n) (omega arith) (omega arith))) in
+    ap (λ (k : ℕ). set.len (set.union s (first_blocks a k))) (len_after n) ∙ more ∙ ap (λ (k : ℕ). k + 1) before ∙ omega arith
+
+pub len-union_run : (s : BlockSet) (r : Run) → HoldsNone s r → set.len (set.union s (run_set r)) ≡ set.len s + r.length
+len-union_run s r none = len-union_first s r.start r.length none
+
+len-difference_first : (s : BlockSet) (a n : ℕ) → ((b : ℕ) → a ≤ b → b < a + n → set.contains s b ≡ true) → set.len (set.difference s (first_blocks a n)) + n ≡ set.len s
+len-difference_first s a zero all = let e : set.len s ≡ set.len (set.difference s (first_blocks a 0)) = ap (λ (t : BlockSet). set.len t) (difference_none s a) in omega (arith, e)
+len-difference_first s a (suc n) all =
+    let before : set.len (set.difference s (first_blocks a n)) + n ≡ set.len s = len-difference_first s a n (λ b l h. all b l (omega (arith, h))) in
+    let there : set.contains (set.difference s (first_blocks a n)) (a + n) ≡ true = not_yet_out s a n ∙ all (a + n) (omega arith) (omega arith) in
+    let some : 1 ≤ set.len (set.difference s (first_blocks a n)) = len_some (set.difference s (first_blocks a n)) (a + n) there in
+    let less : set.len (set.difference s (first_blocks a (n + 1))) ≡ set.len (set.difference s (first_blocks a n)) - 1 =
+    ap (λ (t : BlockSet). set.len t) (difference_more s a n) ∙ len-remove_there (set.difference s (first_blocks a n)) (a + n) there in
+    ap (λ (k : ℕ). set.len (set.difference s (first_blocks a k)) + suc n) (len_after n) ∙ omega (arith, before, some, less)
+
+pub len-difference_run : (s : BlockSet) (r : Run) → HoldsAll s r → set.len (set.difference s (run_set r)) + r.length ≡ set.len s
+len-difference_run s r all = len-difference_first s r.start r.length all

@@ -1,19 +1,19 @@
 -- Words of 64 bits as the set of the blocks whose bit is 1.
-use Rattle.std.proofs.Common.{◌≡◌, ◌≢◌, ℕ, zero, suc, ◌+◌, ◌-◌, ◌*◌, ◌/◌, ◌%◌, ◌^◌, ◌<◌, ◌≤◌, eqb, ltb, leb, Bool, true, false, not, ◌&&◌, ◌||◌, cond, List, [], ◌∷◌, length, get_or, set as put, refl, sym, ap, ◌∙◌, arith, inl, inr, ⊎_elim, ◌⊎◌, eq-eqb}
+use Rattle.std.proofs.Common.{◌≡◌, ◌≢◌, ℕ, zero, suc, ◌+◌, ◌*◌, ◌/◌, ◌%◌, ◌^◌, ◌<◌, ◌≤◌, eqb, leb, Bool, true, false, not, ◌&&◌, ◌||◌, cond, List, ◌∷◌, length, get_or, set as put, refl, sym, ap, ◌∙◌, arith, ⊎_elim, eq-eqb}
 use Rattle.std.specs.Prelude.{filter, bit_or, bit_and, replicate}
 use Rattle.std.specs.Int.{bit_at, bit_not, w64, trailing_zeros}
 use Rattle.std.specs.Ordering.{nat_cmp}
 use Rattle.std.specs.FinSet as set
-use Rattle.std.proofs.lemmas.Bool.{true≢false, ne_eqb, eqb-true}
-use Rattle.std.proofs.lemmas.Bool.Decides.{eqb_tells, leb_tells, nat_tests}
-use Rattle.std.proofs.lemmas.Nat.Bits.{bit_at_set_same, bit_at_set_other, bit_at_clear_same, bit_at_clear_other, bit_at-zero, bit_at-trailing_zeros, bit_at-lt, shr_and_one}
+use Rattle.std.proofs.lemmas.Bool.{true≢false, ne_eqb}
+use Rattle.std.proofs.lemmas.Bool.Decides.{eqb_tells, leb_tells}
+use Rattle.std.proofs.lemmas.Nat.Bits.{bit_at_set_same, bit_at_set_other, bit_at_clear_same, bit_at_clear_other, bit_at-zero, bit_at-trailing_zeros}
 use Rattle.std.proofs.lemmas.List.{get_or-set_same, get_or-set_other, get_or_past, get_or-replicate}
 use Rattle.std.proofs.lemmas.List.Sums.{length-filter, count_by-le-length}
 use Rattle.ufs_extent.proofs.RunLemmas.{length-blocks_from}
 use Rattle.ufs_extent.specs.Runs.{blocks_from}
 use Rattle.ufs_bitmap.specs.Blocks.{BlockSet}
 use Rattle.ufs_bitmap.specs.Words.{is_set, members_of, Members}
-use Rattle.ufs_bitmap.proofs.SetLemmas.{same_blocks, has-insert, has-remove, has-empty, between, between_in, between_above, between_none, between_first, between_not, and-true, and-false, len-from_list, empty_from_none}
+use Rattle.ufs_bitmap.proofs.SetLemmas.{same_blocks, has-insert, has-remove, has-empty, between, between_none, between_first, between_not, and-true, and-false, len-from_list, empty_from_none}
 
 -- ---- a filtered stretch of blocks
 abbrev picked : (ℕ → Bool) → List ℕ → BlockSet
@@ -115,9 +115,9 @@ module _ (ws : List ℕ) (b : ℕ) (inside : b < 64 * length ws) where
   by_place v q A itself near far =
       ⊎_elim (λ (e : (eqb q b ≡ true) × (q ≡ b)). itself e.1)
       (λ (n : (eqb q b ≡ false) × (q ≢ b)).
-          ⊎_elim (λ (e : (eqb (q / 64) (b / 64) ≡ true) × (q / 64 ≡ b / 64)). near n.1 e.1 (λ m. n.1 (omega (arith, e.1, m))))
-          (λ (e : (eqb (q / 64) (b / 64) ≡ false) × (q / 64 ≢ b / 64)). far n.1 e.1)
-          (eqb_tells (q / 64) (b / 64)))
+      ⊎_elim (λ (e : (eqb (q / 64) (b / 64) ≡ true) × (q / 64 ≡ b / 64)). near n.1 e.1 (λ m. n.1 (omega (arith, e.1, m))))
+      (λ (e : (eqb (q / 64) (b / 64) ≡ false) × (q / 64 ≢ b / 64)). far n.1 e.1)
+      (eqb_tells (q / 64) (b / 64)))
       (eqb_tells q b)
 
   abbrev pub with_bit : List ℕ
@@ -185,12 +185,12 @@ module _ (ws : List ℕ) (low : ℕ) (fits : get_or ws low 0 < 2 ^ 64) (some : g
   none_below q h =
       ⊎_elim
       (λ (e : (leb low (q / 64) ≡ true) × (low ≤ q / 64)).
-          let small = bits_of.0 in
-          let same : q / 64 ≡ low = omega (arith, e.1, h, small) in
-          let less : q % 64 < trailing_zeros w64 (get_or ws low 0) = omega (arith, e.1, h, small) in
-          has-members ws q
-          ∙ ap (λ (k : ℕ). eqb (bit_at (get_or ws k 0) (q % 64)) 1) same
-          ∙ ap (λ (d : ℕ). eqb d 1) (bits_of.2 (q % 64) less))
+      let small = bits_of.0 in
+      let same : q / 64 ≡ low = omega (arith, e.1, h, small) in
+      let less : q % 64 < trailing_zeros w64 (get_or ws low 0) = omega (arith, e.1, h, small) in
+      has-members ws q
+      ∙ ap (λ (k : ℕ). eqb (bit_at (get_or ws k 0) (q % 64)) 1) same
+      ∙ ap (λ (d : ℕ). eqb d 1) (bits_of.2 (q % 64) less))
       (λ (e : (leb low (q / 64) ≡ false) × (q / 64 < low)). has-members ws q ∙ no_bit ws q (zeros (q / 64) e.1))
       (leb_tells low (q / 64))
 

@@ -59,7 +59,7 @@ impl Bitmap {
     pub fn is_free(&self, block: u32) -> bool
         requires first { self.now.first ≤ block }
         requires last { block < self.now.blocks }
-        ensures { IsTrue result ↔ (set.contains self.now.free block ≡ true) }
+        ensures { result ≡ set.contains self.now.free block }
     {
         self.free.contains(block)
     }
@@ -72,6 +72,8 @@ impl Bitmap {
         ensures lowest { IfSome result (IsLowestRun self.old.free want) }
         ensures taken { IfSome result (λ r. self.new ≡ record self.old { free = set.difference self.old.free (run_set r) }) }
         ensures none { IsNone result ↔ (self.old.free ≡ set.empty) }
+        ensures first { self.new.first ≡ self.old.first }
+        ensures blocks { self.new.blocks ≡ self.old.blocks }
         ensures same { IfNone result (self.new ≡ self.old) }
     {
         self.free.take_run(want)
@@ -117,7 +119,8 @@ impl Bitmap {
     ) -> Result<Bitmap, Memory>
         requires small { blocks ≤ 65536 }
         requires long { blocks ≤ 8 * length bytes.now }
-        ensures range { IfOk result (λ m. (m.first ≡ first) × (m.blocks ≡ blocks)) }
+        ensures first { IfOk result (λ m. m.first ≡ first) }
+        ensures blocks { IfOk result (λ m. m.blocks ≡ blocks) }
         ensures free { IfOk result (λ m. (b : ℕ) → set.contains m.free b ≡ (is_between first blocks b && is_clear bytes.now b)) }
     {
         let mut free = WordSet::make(alloc, blocks.div_ceil(64) as usize)?;

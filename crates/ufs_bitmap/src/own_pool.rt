@@ -48,6 +48,13 @@ impl Pool {
         self.blocks.count()
     }
 
+    /// Whether the pool has the block.
+    pub fn contains(&self, block: u32) -> bool
+        ensures { result ≡ set.contains self.now block }
+    {
+        self.blocks.contains(block)
+    }
+
     /// Takes out the lowest block and those that follow it, at most `want` of them. Takes no memory.
     pub fn take(&mut self, want: u32) -> Option<Run>
         requires { 1 ≤ want }

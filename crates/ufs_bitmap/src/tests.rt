@@ -1,3 +1,5 @@
+ghost use Rattle.std.specs.Prelude.{◌≡◌, ◌≤◌};
+
 use crate::{Bitmap, Pool};
 use std::test::Fail;
 use ufs_extent::Run;
@@ -5,17 +7,17 @@ use ufs_extent::Run;
 #[test]
 fn takes_the_lowest_and_what_follows_it(rt: HostRuntime) -> Result<(), Fail> {
     let mut bitmap = Bitmap::all_free(rt.alloc(), 14, 18)?;
+    assert!(rt; bitmap.is_free(16));
     bitmap.claim(Run {
         start: 16,
         length: 1,
     });
     assert_eq!(rt; bitmap.count(), 3);
     assert!(rt; bitmap.is_free(15) && !bitmap.is_free(16));
-    for (want, run) in [(3, (14, 2)), (3, (17, 1))] {
-        let found = bitmap.take_run(want).map(|run| (run.start, run.length));
-        assert_eq!(rt; found, Some(run));
-    }
-    assert_eq!(rt; bitmap.take_run(1), None);
+    assert_eq!(rt; taken(&mut bitmap, 3), Some((14, 2)));
+    assert_eq!(rt; taken(&mut bitmap, 3), Some((17, 1)));
+    assert_eq!(rt; taken(&mut bitmap, 1), None);
+    assert!(rt; !bitmap.is_free(15));
     bitmap.give(Run {
         start: 15,
         length: 1,
@@ -28,6 +30,7 @@ fn takes_the_lowest_and_what_follows_it(rt: HostRuntime) -> Result<(), Fail> {
 fn bytes_of_a_disk(rt: HostRuntime) -> Result<(), Fail> {
     // Blocks 0 to 10 are before the range, 13 is used, and 20 is past the end.
     let mut bitmap = Bitmap::all_free(rt.alloc(), 11, 20)?;
+    assert!(rt; bitmap.is_free(13));
     bitmap.claim(Run {
         start: 13,
         length: 1,
@@ -47,10 +50,19 @@ fn bytes_of_a_disk(rt: HostRuntime) -> Result<(), Fail> {
 #[test]
 fn a_pool_takes_and_gives(rt: HostRuntime) -> Result<(), Fail> {
     let mut pool = Pool::make(rt.alloc())?;
-    for (start, length) in [(65_000, 536), (64, 1), (63, 1)] {
-        pool.give(Run { start, length });
+    pool.give(Run {
+        start: 65_000,
+        length: 536,
+    });
+    for block in [64, 63] {
+        assert!(rt; !pool.contains(block));
+        pool.give(Run {
+            start: block,
+            length: 1,
+        });
     }
     assert_eq!(rt; pool.count(), 538);
+    assert!(rt; pool.contains(65_535) && !pool.contains(65));
     for (want, run) in [(70, (63, 2)), (500, (65_000, 500)), (500, (65_500, 36))] {
         let found = pool.take(want).map(|run| (run.start, run.length));
         assert_eq!(rt; found, Some(run));
@@ -71,7 +83,7 @@ fn a_walk_agrees_with_a_plain_set(rt: HostRuntime) -> Result<(), Fail> {
         if bitmap.is_free(block) {
             assert!(rt; free[block as usize]);
             let want = 1 + (seed >> 24) % 9;
-            let found = bitmap.take_run(want).map(|run| (run.start, run.length));
+            let found = taken(&mut bitmap, want);
             assert_eq!(rt; found, lowest(&free, want));
             let (start, length) = found.ok_or("none")?;
             for taken in start..start.saturating_add(length) {
@@ -85,19 +97,28 @@ fn a_walk_agrees_with_a_plain_set(rt: HostRuntime) -> Result<(), Fail> {
             });
             free[block as usize] = true;
         }
-        assert_eq!(rt; bitmap.count() as usize, free.iter().filter(|free| **free).count());
+        assert_eq!(rt;
+            bitmap.count() as usize,
+            free.iter().filter(|free| **free).count()
+        );
     }
     Ok(())
 }
 
+fn taken(bitmap: &mut Bitmap, want: u32) -> Option<(u32, u32)>
+    requires { 1 ≤ want }
+    ensures first { bitmap.new.first ≡ bitmap.old.first }
+    ensures blocks { bitmap.new.blocks ≡ bitmap.old.blocks }
+{
+    bitmap.take_run(want).map(|run| (run.start, run.length))
+}
+
 fn lowest(free: &[bool; 200], want: u32) -> Option<(u32, u32)> {
     let first = free.iter().position(|free| *free)?;
-    let mut length = 0;
-    for free in &free[first..] {
-        if !*free || length == want {
-            break;
+    for end in first..200 {
+        if !free[end] || end - first == want as usize {
+            return Some((first as u32, (end - first) as u32));
         }
-        length += 1;
     }
-    Some((first as u32, length))
+    Some((first as u32, 200 - first as u32))
 }

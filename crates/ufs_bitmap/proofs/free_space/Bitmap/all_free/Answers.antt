@@ -1,9 +1,8 @@
-use Rattle.std.proofs.Common.{◌≡◌, ℕ, ◌-◌, ◌/◌, ◌*◌, ◌+◌, ap, sym, ◌∙◌, arith}
+use Rattle.std.proofs.Common.{◌≡◌, ◌-◌, ap, sym, ◌∙◌, arith}
 use Rattle.std.specs.FinSet as set
 use Rattle.ufs_extent.specs.Runs.{blocks_from}
 use Rattle.ufs_bitmap.specs.Blocks.{BlockSet}
 use Rattle.ufs_bitmap.specs.Words.{Members}
-use Rattle.ufs_bitmap.specs.Space.{Space}
 use Rattle.ufs_bitmap.proofs.SetLemmas.{has-empty, empty_union, has-blocks_between}
 use Rattle.ufs_bitmap.proofs.free_space.Bitmap.all_free.Goals as goal
 
@@ -18,10 +17,11 @@ all_in c =
 
 pub invariant_of-result : goal.invariant_of-result
 invariant_of-result c =
-    let limit_is = ap (λ (m : Members). m.limit) c.insert_all.ensures in
-    (c.requires,
+    let limit_is = ap (λ (m : Members). m.limit) c.insert_all.ensures in (
+      c.requires,
       omega (arith, limit_is, c.in_ok-free.ensures.limit, c.div_ceil.ensures),
-      λ b h. has-blocks_between c.args.first c.args.blocks b (ap (λ (s : BlockSet). set.contains s b) (sym (all_in c)) ∙ h))
+      λ b h. has-blocks_between c.args.first c.args.blocks b (ap (λ (s : BlockSet). set.contains s b) (sym (all_in c)) ∙ h),
+    )
 
 pub returns : goal.returns
 returns c = λ i. record { first = c.args.first; blocks = c.args.blocks; free = all_in c i }

@@ -1,11 +1,11 @@
-use Rattle.std.proofs.Common.{◌≡◌, ℕ, ◌+◌, ◌/◌, ◌%◌, ◌≤◌, ◌-◌, ◌&&◌, true, false, eqb, eq-eqb, get_or, ap, sym, ◌∙◌, arith}
+use Rattle.std.proofs.Common.{◌≡◌, ℕ, ◌/◌, ◌%◌, ◌≤◌, ◌-◌, true, false, eq-eqb, get_or, ap, sym, ◌∙◌, arith}
 use Rattle.std.specs.Int.{bit_at}
 use Rattle.std.specs.FinSet as set
 use Rattle.std.proofs.lemmas.Bool.{ne_eqb}
 use Rattle.std.proofs.lemmas.Nat.Bits.{shr_and_one}
 use Rattle.ufs_bitmap.specs.Blocks.{BlockSet}
 use Rattle.ufs_bitmap.specs.Words.{Members}
-use Rattle.ufs_bitmap.specs.Space.{is_between, is_clear}
+use Rattle.ufs_bitmap.specs.Space.{is_clear}
 use Rattle.ufs_bitmap.proofs.SetLemmas.{IsPicked, picked_none, picked_one, picked_not, picked_all, picked_between}
 use Rattle.ufs_bitmap.proofs.free_space.Bitmap.from_bytes.Goals as goal
 use Rattle.ufs_bitmap.proofs.free_space.Bitmap.from_bytes.Goals.{then-bytes-block-eq0, else-bytes-block-eq0}
@@ -14,7 +14,7 @@ pub loop-block-init : goal.loop-block-init
 loop-block-init c = record {
   room = omega (arith, c.in_ok-free.ensures.limit, c.div_ceil.ensures);
   not_past = omega arith;
-  so_far = λ b. ap (λ (s : BlockSet). set.contains s b) c.in_ok-free.ensures.blocks ∙ picked_none (is_clear c.args.bytes.now) c.args.first b
+  so_far = λ b. ap (λ (s : BlockSet). set.contains s b) c.in_ok-free.ensures.blocks ∙ picked_none (is_clear c.args.bytes.now) c.args.first b;
 }
 
 pub loop-block-preserved : goal.loop-block-preserved
@@ -35,7 +35,7 @@ loop-block-preserved c =
         | else-bytes-block-eq0 w ↦ λ b.
             let fails : test e ≡ false = ne_eqb (bit_at (get_or c.args.bytes.now (e / 8) 0) (e % 8)) 0 (λ z. w.if-bytes-block-eq0.false (shr_and_one (get_or c.args.bytes.now (e / 8) 0) (e % 8) ∙ z)) in
             ap (λ (m : Members). set.contains m.blocks b) w.free-is ∙ picked_not c.loop-block.free.blocks test c.args.first e fails c.loop-block.invariant.so_far b
-      ]
+      ];
     }
 
 -- all blocks of the range have been looked at

@@ -7,5 +7,5 @@ abbrev pub invariant-loop-block : goal.invariant-loop-block
 invariant-loop-block l = record {
   room : l.blocks ≤ l.free.limit;
   not_past : l.block - l.first ≤ l.blocks - l.first;
-  so_far : (b : ℕ) → set.contains l.free.blocks b ≡ (is_between l.first l.block b && is_clear l.bytes b)
+  so_far : (b : ℕ) → set.contains l.free.blocks b ≡ (is_between l.first l.block b && is_clear l.bytes b);
 }

@@ -38,9 +38,9 @@ loop-bit-preserved c =
       done = λ i h.
           ⊎_elim
           (λ (e : (leb b i ≡ true) × (b ≤ i)).
-              let same : i ≡ b = omega (arith, e.1, h) in
-              ap (λ (k : ℕ). bit_at c.if-is_used.byte k) same ∙ this_bit c ∙ ap (λ (k : ℕ). used_bit c.args.self.now (8 * c.args.at + k)) (sym same))
+          let same : i ≡ b = omega (arith, e.1, h) in
+          ap (λ (k : ℕ). bit_at c.if-is_used.byte k) same ∙ this_bit c ∙ ap (λ (k : ℕ). used_bit c.args.self.now (8 * c.args.at + k)) (sym same))
           (λ (e : (leb b i ≡ false) × (i < b)). other_bits c i (omega (arith, e.1)) ∙ c.loop-bit.invariant.done i e.1)
           (leb_tells b i);
-      open_still = λ i h. other_bits c i (omega (arith, h)) ∙ c.loop-bit.invariant.open_still i (omega (arith, h))
+      open_still = λ i h. other_bits c i (omega (arith, h)) ∙ c.loop-bit.invariant.open_still i (omega (arith, h));
     }

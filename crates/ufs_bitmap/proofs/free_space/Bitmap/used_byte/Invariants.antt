@@ -6,5 +6,5 @@ use Rattle.ufs_bitmap.proofs.free_space.Bitmap.used_byte.Given as goal
 abbrev pub invariant-loop-bit : goal.invariant-loop-bit
 invariant-loop-bit l = record {
   done : (i : ℕ) → i < l.bit → bit_at l.byte i ≡ used_bit l.self (8 * l.at + i);
-  open_still : (i : ℕ) → l.bit ≤ i → bit_at l.byte i ≡ 0
+  open_still : (i : ℕ) → l.bit ≤ i → bit_at l.byte i ≡ 0;
 }

@@ -1,7 +1,6 @@
 use Rattle.std.proofs.Common.{◌≡◌, ℕ, ◌+◌, ◌-◌, true, ap, sym, ◌∙◌, arith}
 use Rattle.std.specs.FinSet as set
 use Rattle.ufs_extent.specs.Runs.{blocks_from}
-use Rattle.ufs_bitmap.specs.Blocks.{BlockSet}
 use Rattle.ufs_bitmap.specs.Words.{Members}
 use Rattle.ufs_bitmap.proofs.SetLemmas.{difference_none, difference_more, not_yet_out}
 use Rattle.ufs_bitmap.proofs.word_set.WordSet.claim.Goals as goal
@@ -31,5 +30,7 @@ loop-block-preserved c =
     let f : b - a + 1 ≡ b + 1 - a = omega arith in
     c.remove.ensures
     ∙ ap (λ (m : Members). let r : Members = record m { blocks = set.remove m.blocks b } in r) c.loop-block.invariant
-    ∙ (λ i. record c.args.self.now { blocks = (sym (difference_more s a (b - a) ∙ ap (λ (k : ℕ). set.remove (set.difference s (set.from_list (blocks_from a (b - a)))) k) e)
-        ∙ ap (λ (n : ℕ). set.difference s (set.from_list (blocks_from a n))) f) i })
+    ∙ (λ i. record c.args.self.now {
+      blocks = (sym (difference_more s a (b - a) ∙ ap (λ (k : ℕ). set.remove (set.difference s (set.from_list (blocks_from a (b - a)))) k) e)
+          ∙ ap (λ (n : ℕ). set.difference s (set.from_list (blocks_from a n))) f) i;
+    })

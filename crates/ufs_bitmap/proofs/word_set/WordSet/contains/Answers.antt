@@ -1,9 +1,9 @@
-use Rattle.std.proofs.Common.{◌≡◌, ℕ, ◌/◌, ◌%◌, ◌<◌, ◌≤◌, ◌*◌, List, eqb, length, get_or, ap, sym, ◌∙◌, arith}
+use Rattle.std.proofs.Common.{ℕ, ◌/◌, ◌%◌, ◌<◌, ◌≤◌, ◌*◌, List, eqb, length, get_or, ap, sym, ◌∙◌, arith}
 use Rattle.std.specs.Int.{bit_at}
 use Rattle.std.specs.FinSet as set
 use Rattle.std.proofs.lemmas.List.{get_or_read}
 use Rattle.std.proofs.lemmas.Nat.Bits.{shr_and_one}
-use Rattle.ufs_bitmap.specs.Words.{Members, is_set, members_of}
+use Rattle.ufs_bitmap.specs.Words.{Members}
 use Rattle.ufs_bitmap.proofs.WordLemmas.{has-members, past_end}
 use Rattle.ufs_bitmap.proofs.word_set.WordSet.contains.Goals as goal
 

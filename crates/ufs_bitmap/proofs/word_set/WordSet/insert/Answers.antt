@@ -1,4 +1,4 @@
-use Rattle.std.proofs.Common.{◌≡◌, ◌≢◌, ℕ, ◌+◌, ◌*◌, ◌/◌, ◌%◌, ◌^◌, ◌<◌, ◌≤◌, List, false, length, get_or, set as put, ap, sym, ◌∙◌, arith, length-set}
+use Rattle.std.proofs.Common.{◌≡◌, ◌≢◌, ℕ, ◌+◌, ◌*◌, ◌/◌, ◌%◌, ◌^◌, ◌<◌, List, false, length, get_or, set as put, ap, sym, ◌∙◌, arith, length-set}
 use Rattle.std.specs.Prelude.{bit_or}
 use Rattle.std.specs.FinSet as set
 use Rattle.std.proofs.lemmas.List.{get_or_read, get_or-set_other}
@@ -22,15 +22,16 @@ invariant_of-self c =
     let here : b / 64 < length xs = omega (arith, inside) in
     let read : c.index_mut.result.now ≡ get_or xs (b / 64) 0 = get_or_read xs (b / 64) c.index_mut.result.now here c.index_mut.ensures.value 0 in
     let changed : put xs (b / 64) v ≡ with_bit xs b inside = ap (λ (w : ℕ). put xs (b / 64) (bit_or w (1 * 2 ^ (b % 64) % 2 ^ 64))) read in
-    let low = c.min-self-inside.ensures in
-    (ap (λ (n : ℕ). n + 1) c.self.invariant.0
-      ∙ sym (ap (λ (ws : List ℕ). set.len (members_of ws)) changed ∙ ap (λ (s : BlockSet). set.len s) (members-with_bit xs b inside) ∙ len-insert_new (members_of xs) b absent),
+    let low = c.min-self-inside.ensures in (
+      ap (λ (n : ℕ). n + 1) c.self.invariant.0
+          ∙ sym (ap (λ (ws : List ℕ). set.len (members_of ws)) changed ∙ ap (λ (s : BlockSet). set.len s) (members-with_bit xs b inside) ∙ len-insert_new (members_of xs) b absent),
       omega (arith, length-set xs (b / 64) v, c.self.invariant.1),
       omega (arith, length-set xs (b / 64) v, low, c.self.invariant.2),
       λ i h.
-        let other : i ≢ b / 64 = omega (arith, h, low) in
-        let below : i < c.self.inside.low = omega (arith, h, low) in
-        get_or-set_other xs (b / 64) i v 0 other ∙ c.self.invariant.3 i below)
+          let other : i ≢ b / 64 = omega (arith, h, low) in
+          let below : i < c.self.inside.low = omega (arith, h, low) in
+          get_or-set_other xs (b / 64) i v 0 other ∙ c.self.invariant.3 i below,
+    )
 
 pub returns : goal.returns
 returns c =

@@ -1,7 +1,6 @@
 use Rattle.std.proofs.Common.{◌≡◌, ℕ, ◌+◌, ◌-◌, false, ap, sym, ◌∙◌, arith}
 use Rattle.std.specs.FinSet as set
 use Rattle.ufs_extent.specs.Runs.{blocks_from}
-use Rattle.ufs_bitmap.specs.Blocks.{BlockSet}
 use Rattle.ufs_bitmap.specs.Words.{Members}
 use Rattle.ufs_bitmap.proofs.SetLemmas.{union_none, union_more, not_yet_in}
 use Rattle.ufs_bitmap.proofs.word_set.WordSet.insert_all.Goals as goal
@@ -29,11 +28,16 @@ loop-block-preserved c =
     let b : ℕ = c.loop-block.block in
     let e : a + (b - a) ≡ b = omega arith in
     let f : b - a + 1 ≡ b + 1 - a = omega arith in
-    record { not_past = omega arith; so_far =
-    c.insert.ensures
-    ∙ ap (λ (m : Members). let r : Members = record m { blocks = set.insert m.blocks b } in r) c.loop-block.invariant.so_far
-    ∙ (λ i. record c.args.self.now { blocks = (sym (union_more s a (b - a) ∙ ap (λ (k : ℕ). set.insert (set.union s (set.from_list (blocks_from a (b - a)))) k) e)
-        ∙ ap (λ (n : ℕ). set.union s (set.from_list (blocks_from a n))) f) i }) }
+    record {
+      not_past = omega arith;
+      so_far =
+          c.insert.ensures
+          ∙ ap (λ (m : Members). let r : Members = record m { blocks = set.insert m.blocks b } in r) c.loop-block.invariant.so_far
+          ∙ (λ i. record c.args.self.now {
+            blocks = (sym (union_more s a (b - a) ∙ ap (λ (k : ℕ). set.insert (set.union s (set.from_list (blocks_from a (b - a)))) k) e)
+                ∙ ap (λ (n : ℕ). set.union s (set.from_list (blocks_from a n))) f) i;
+          });
+    }
 
 pub returns : goal.returns
 returns c =

@@ -6,5 +6,5 @@ use Rattle.ufs_bitmap.proofs.word_set.WordSet.insert_all.Given as goal
 abbrev pub invariant-loop-block : goal.invariant-loop-block
 invariant-loop-block l = record {
   so_far : l.self ≡ record l.initial.self { blocks = set.union l.initial.self.blocks (set.from_list (blocks_from l.first (l.block - l.first))) };
-  not_past : l.block - l.first ≤ l.end - l.first
+  not_past : l.block - l.first ≤ l.end - l.first;
 }

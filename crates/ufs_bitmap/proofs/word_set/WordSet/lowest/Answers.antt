@@ -1,4 +1,4 @@
-use Rattle.std.proofs.Common.{◌≡◌, ◌≢◌, ℕ, ◌+◌, ◌*◌, ◌^◌, ◌<◌, ◌≤◌, List, true, false, length, get_or, ap, sym, subst, ◌∙◌, arith}
+use Rattle.std.proofs.Common.{◌≡◌, ◌≢◌, ℕ, ◌+◌, ◌*◌, ◌^◌, ◌<◌, List, length, get_or, ap, sym, subst, ◌∙◌, arith}
 use Rattle.std.specs.Int.{trailing_zeros, w64}
 use Rattle.std.specs.FinSet as set
 use Rattle.std.proofs.lemmas.List.{get_or_read}
@@ -11,8 +11,8 @@ returns-then-self-len-clause-none c =
     let xs = c.self.inside.words.items in
     let first = c.first_word-self-inside in
     let zeros : (i : ℕ) → i < length xs → get_or xs i 0 ≡ 0 =
-        zeros_below xs c.self.inside.low (length xs) c.self.invariant.3
-        (λ i l h. ap (λ (ws : List ℕ). get_or ws i 0) (sym c.as_slice.ensures.value) ∙ first.ensures.passed i l (omega (arith, h, c.if-self-len.true, c.len.ensures))) in
+    zeros_below xs c.self.inside.low (length xs) c.self.invariant.3
+    (λ i l h. ap (λ (ws : List ℕ). get_or ws i 0) (sym c.as_slice.ensures.value) ∙ first.ensures.passed i l (omega (arith, h, c.if-self-len.true, c.len.ensures))) in
     ap (λ (m : Members). m.blocks) (sym c.self.view_is) ∙ members-zeros xs zeros
 
 pub returns-clause-held : goal.returns-clause-held
@@ -21,7 +21,7 @@ returns-clause-held c =
     let first = c.first_word-self-inside in
     let same : (i : ℕ) → get_or xs i 0 ≡ get_or c.as_slice.result.now i 0 = λ i. ap (λ (ws : List ℕ). get_or ws i 0) (sym c.as_slice.ensures.value) in
     let zeros : (i : ℕ) → i < first.result → get_or xs i 0 ≡ 0 =
-        zeros_below xs c.self.inside.low first.result c.self.invariant.3 (λ i l h. same i ∙ first.ensures.passed i l h) in
+    zeros_below xs c.self.inside.low first.result c.self.invariant.3 (λ i l h. same i ∙ first.ensures.passed i l h) in
     let inside : first.result < length xs = omega (arith, c.if-self-len.false, c.len.ensures, first.ensures.within, ap (λ (ws : List ℕ). length ws) c.as_slice.ensures.value) in
     let read : c.index.result.now ≡ get_or xs first.result 0 = get_or_read xs first.result c.index.result.now inside c.index.ensures 0 in
     let fits : get_or xs first.result 0 < 2 ^ 64 = omega (arith, read) in
@@ -37,7 +37,7 @@ returns-clause-lowest c q h =
     let first = c.first_word-self-inside in
     let same : (i : ℕ) → get_or xs i 0 ≡ get_or c.as_slice.result.now i 0 = λ i. ap (λ (ws : List ℕ). get_or ws i 0) (sym c.as_slice.ensures.value) in
     let zeros : (i : ℕ) → i < first.result → get_or xs i 0 ≡ 0 =
-        zeros_below xs c.self.inside.low first.result c.self.invariant.3 (λ i l h. same i ∙ first.ensures.passed i l h) in
+    zeros_below xs c.self.inside.low first.result c.self.invariant.3 (λ i l h. same i ∙ first.ensures.passed i l h) in
     let inside : first.result < length xs = omega (arith, c.if-self-len.false, c.len.ensures, first.ensures.within, ap (λ (ws : List ℕ). length ws) c.as_slice.ensures.value) in
     let read : c.index.result.now ≡ get_or xs first.result 0 = get_or_read xs first.result c.index.result.now inside c.index.ensures 0 in
     let fits : get_or xs first.result 0 < 2 ^ 64 = omega (arith, read) in

@@ -27,15 +27,16 @@ invariant_of-self c =
     let v : ℕ = bit_and c.index_mut.result.now (bit_not w64 (1 * 2 ^ (b % 64) % 2 ^ 64)) in
     let here : b / 64 < length xs = omega (arith, inside) in
     let read : c.index_mut.result.now ≡ get_or xs (b / 64) 0 = get_or_read xs (b / 64) c.index_mut.result.now here c.index_mut.ensures.value 0 in
-    let changed : put xs (b / 64) v ≡ without_bit xs b inside = ap (λ (w : ℕ). put xs (b / 64) (bit_and w (bit_not w64 (1 * 2 ^ (b % 64) % 2 ^ 64)))) read in
-    (ap (λ (n : ℕ). n - 1) c.self.invariant.0
-      ∙ sym (ap (λ (ws : List ℕ). set.len (members_of ws)) changed ∙ ap (λ (s : BlockSet). set.len s) (members-without_bit xs b inside) ∙ len-remove_there (members_of xs) b there),
+    let changed : put xs (b / 64) v ≡ without_bit xs b inside = ap (λ (w : ℕ). put xs (b / 64) (bit_and w (bit_not w64 (1 * 2 ^ (b % 64) % 2 ^ 64)))) read in (
+      ap (λ (n : ℕ). n - 1) c.self.invariant.0
+          ∙ sym (ap (λ (ws : List ℕ). set.len (members_of ws)) changed ∙ ap (λ (s : BlockSet). set.len s) (members-without_bit xs b inside) ∙ len-remove_there (members_of xs) b there),
       omega (arith, length-set xs (b / 64) v, c.self.invariant.1),
       omega (arith, length-set xs (b / 64) v, c.self.invariant.2),
       λ i h.
-        let from : c.self.inside.low ≤ b / 64 = low_le xs c.self.inside.low b c.self.invariant.3 there in
-        let other : i ≢ b / 64 = omega (arith, h, from) in
-        get_or-set_other xs (b / 64) i v 0 other ∙ c.self.invariant.3 i h)
+          let from : c.self.inside.low ≤ b / 64 = low_le xs c.self.inside.low b c.self.invariant.3 there in
+          let other : i ≢ b / 64 = omega (arith, h, from) in
+          get_or-set_other xs (b / 64) i v 0 other ∙ c.self.invariant.3 i h,
+    )
 
 pub returns : goal.returns
 returns c =

@@ -2,8 +2,7 @@ use Rattle.std.proofs.Common.{◌≡◌, ℕ, ◌+◌, ◌<◌, ◌≤◌, leb, 
 use Rattle.std.specs.FinSet as set
 use Rattle.std.proofs.lemmas.Bool.{true≢false}
 use Rattle.std.proofs.lemmas.Bool.Decides.{leb_tells}
-use Rattle.ufs_extent.specs.Runs.{blocks_from}
-use Rattle.ufs_bitmap.specs.Blocks.{BlockSet, IsLowestRun}
+use Rattle.ufs_bitmap.specs.Blocks.{BlockSet}
 use Rattle.ufs_bitmap.specs.Words.{Members}
 use Rattle.ufs_bitmap.proofs.SetLemmas.{difference_none, difference_more, not_yet_out, has-empty}
 use Rattle.ufs_bitmap.proofs.word_set.WordSet.take_run.Goals as goal
@@ -13,7 +12,7 @@ loop-length-init c = record {
   taken = λ i. record c.lowest.new.self { blocks = difference_none c.lowest.new.self.blocks c.in_ok-start.start i };
   held = λ b l h. absurd (omega (arith, l, h));
   at_most = omega arith;
-  small = omega (arith, c.in_ok-start.ensures.small)
+  small = omega (arith, c.in_ok-start.ensures.small);
 }
 
 pub loop-length-preserved : goal.loop-length-preserved
@@ -22,7 +21,7 @@ loop-length-preserved c =
     let a : ℕ = c.in_ok-start.start in
     let n : ℕ = c.loop-length.length in
     let there : set.contains s (a + n) ≡ true =
-        sym (not_yet_out s a n) ∙ ap (λ (m : Members). set.contains m.blocks (a + n)) (sym c.loop-length.invariant.taken) ∙ sym c.if-contains.ensures.value in
+    sym (not_yet_out s a n) ∙ ap (λ (m : Members). set.contains m.blocks (a + n)) (sym c.loop-length.invariant.taken) ∙ sym c.if-contains.ensures.value in
     record {
       taken =
           c.remove.ensures
@@ -33,7 +32,7 @@ loop-length-preserved c =
           (λ (e : (leb (a + n) b ≡ false) × (b < a + n)). c.loop-length.invariant.held b l e.1)
           (leb_tells (a + n) b);
       at_most = omega arith;
-      small = omega (arith, c.contains.ensures.small, c.if-contains.ensures.limit)
+      small = omega (arith, c.contains.ensures.small, c.if-contains.ensures.limit);
     }
 
 -- the block behind the run isn't in the set
@@ -45,13 +44,14 @@ stops c =
 
 pub returns-else-contains-clause-run : goal.returns-else-contains-clause-run
 returns-else-contains-clause-run c =
-    let same : c.lowest.new.self ≡ c.args.self.now = c.in_ok-start.ensures.same in
-    (⊎_elim (λ (e : (leb 1 c.loop-length.length ≡ true) × (1 ≤ c.loop-length.length)). e.1)
-      (λ (e : (leb 1 c.loop-length.length ≡ false) × (c.loop-length.length < 1)).
+    let same : c.lowest.new.self ≡ c.args.self.now = c.in_ok-start.ensures.same in (
+      ⊎_elim (λ (e : (leb 1 c.loop-length.length ≡ true) × (1 ≤ c.loop-length.length)). e.1)
+          (λ (e : (leb 1 c.loop-length.length ≡ false) × (c.loop-length.length < 1)).
           let first : c.in_ok-start.start + c.loop-length.length ≡ c.in_ok-start.start = omega (arith, e.1) in
           absurd (true≢false (sym c.in_ok-start.ensures.held ∙ ap (λ (m : Members). set.contains m.blocks c.in_ok-start.start) (sym same) ∙ ap (λ (k : ℕ). set.contains c.lowest.new.self.blocks k) (sym first) ∙ stops c)))
-      (leb_tells 1 c.loop-length.length),
-      c.loop-length.invariant.small)
+          (leb_tells 1 c.loop-length.length),
+      c.loop-length.invariant.small,
+    )
 
 pub returns-else-contains-clause-lowest : goal.returns-else-contains-clause-lowest
 returns-else-contains-clause-lowest c =
@@ -60,7 +60,7 @@ returns-else-contains-clause-lowest c =
       held = λ b l h. ap (λ (m : Members). set.contains m.blocks b) (sym same) ∙ c.loop-length.invariant.held b l h;
       lowest = c.in_ok-start.ensures.lowest;
       at_most = c.loop-length.invariant.at_most;
-      goes_on = λ h. ap (λ (m : Members). set.contains m.blocks (c.in_ok-start.start + c.loop-length.length)) (sym same) ∙ stops c
+      goes_on = λ h. ap (λ (m : Members). set.contains m.blocks (c.in_ok-start.start + c.loop-length.length)) (sym same) ∙ stops c;
     }
 
 pub returns-else-contains-clause-none : goal.returns-else-contains-clause-none

@@ -8,7 +8,7 @@ invariant-loop-length l = record {
   taken : l.self ≡ record l.initial.self { blocks = set.difference l.initial.self.blocks (set.from_list (blocks_from l.start l.length)) };
   held : (b : ℕ) → l.start ≤ b → b < l.start + l.length → set.contains l.initial.self.blocks b ≡ true;
   at_most : l.length ≤ l.want;
-  small : l.start + l.length ≤ 65536
+  small : l.start + l.length ≤ 65536;
 }
 
 abbrev pub decreases-loop-length : goal.decreases-loop-length
