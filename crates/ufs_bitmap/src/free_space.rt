@@ -1,5 +1,5 @@
 // The free blocks of the data area.
-ghost use Rattle.std.specs.Prelude.{◌≡◌, ◌+◌, ◌*◌, ◌-◌, ◌/◌, ◌%◌, ◌<◌, ◌≤◌, ◌↔◌, ◌&&◌, if◌then◌else◌, ℕ, true, length, IfOk, IfSome, IfNone, IsNone, IsTrue};
+ghost use Rattle.std.specs.Prelude.{◌≡◌, ◌+◌, ◌*◌, ◌-◌, ◌/◌, ◌%◌, ◌<◌, ◌≤◌, ◌↔◌, ◌&&◌, if◌then◌else◌, ℕ, true, length, IfOk, IfSome, IfNone, IsNone};
 ghost use Rattle.std.specs.Int.{bit_at};
 ghost use Rattle.std.specs.FinSet as set;
 ghost use Rattle.ufs_extent.specs.Runs.{IsRun, blocks_from};
@@ -22,7 +22,6 @@ pub struct Bitmap {
 impl Model for Bitmap {
     ghost use Rattle.std.specs.Prelude.{◌≡◌, ◌≤◌, ◌<◌, ℕ, true};
     ghost use Rattle.std.specs.FinSet as set;
-    ghost use Rattle.std.specs.Coded.{Coded};
     ghost use Rattle.ufs_bitmap.specs.Space.{Space, space_code};
 
     ghost Value = { Space };

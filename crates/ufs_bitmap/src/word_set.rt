@@ -1,5 +1,5 @@
 // A set of blocks below 65,536, one bit a block.
-ghost use Rattle.std.specs.Prelude.{◌≡◌, ◌≢◌, ◌+◌, ◌-◌, ◌*◌, ◌<◌, ◌≤◌, ◌↔◌, ℕ, Bool, true, false, length, IfOk, IfSome, IfNone, IsNone, IsTrue, slice_index};
+ghost use Rattle.std.specs.Prelude.{◌≡◌, ◌≢◌, ◌+◌, ◌-◌, ◌*◌, ◌<◌, ◌≤◌, ◌↔◌, ℕ, true, false, length, IfOk, IfSome, IfNone, IsNone, IsTrue, slice_index};
 ghost use Rattle.std.specs.FinSet as set;
 ghost use Rattle.ufs_extent.specs.declared.Run.{Run};
 ghost use Rattle.ufs_extent.specs.Runs.{IsRun, blocks_from, end_of};
@@ -21,7 +21,6 @@ pub(crate) struct WordSet {
 impl Model for WordSet {
     ghost use Rattle.std.specs.Prelude.{◌≡◌, ◌<◌, ◌≤◌, ◌*◌, ℕ, length, slice_index};
     ghost use Rattle.std.specs.FinSet as set;
-    ghost use Rattle.std.specs.Coded.{Coded, code_by, coded×, coded_ℕ};
     ghost use Rattle.ufs_bitmap.specs.Words.{Members, members_of, members_code};
 
     ghost Value = { Members };

@@ -1,5 +1,5 @@
 // The runs that the blocks of a file or a directory lie in.
-ghost use Rattle.std.specs.Prelude.{◌≡◌, ◌≢◌, ◌+◌, ◌<◌, ◌≤◌, ◌^◌, ◌↔◌, [], ◌∷◌, ◌++◌, length, take, drop, All, Some, None, IfOk, OnOk, OnErr, IsErr, IfSome, IfNone, slice_get};
+ghost use Rattle.std.specs.Prelude.{◌≡◌, ◌≢◌, ◌+◌, ◌<◌, ◌≤◌, ◌↔◌, [], ◌∷◌, ◌++◌, length, take, drop, All, Some, None, IfOk, OnOk, OnErr, IsErr, IfSome, IfNone, slice_get};
 ghost use Rattle.ufs_extent.specs.declared.Run.{Run};
 ghost use Rattle.ufs_extent.specs.Places.{IsPlace, block_count, front_of, without_first};
 ghost use Rattle.ufs_extent.specs.Runs.{IsRun, blocks_in, blocks_of, next_block, appended, appended_all, first_runs, last_runs};
