@@ -5,7 +5,7 @@ ghost use Rattle.ufs_extent.specs.declared.Run.{Run};
 ghost use Rattle.ufs_extent.specs.Runs.{IsRun, blocks_from, end_of};
 ghost use Rattle.ufs_bitmap.specs.Blocks.{HoldsAll, HoldsNone, IsLowestRun, run_set};
 
-use std::alloc::{AllocError, Global};
+use std::alloc::Global;
 use std::marker::Model;
 use ufs_extent::{Memory, Run};
 
