@@ -1,0 +1,17 @@
+//! The layout of an image: its areas, the one spelling of each form, what an image stands for, and its damage.
+#![tactic(auto)]
+
+mod bytes;
+mod dentry;
+mod geometry;
+mod header;
+mod inode;
+mod records;
+mod superblock;
+
+pub use dentry::Dentry;
+pub use geometry::{BadGeometry, Geometry};
+pub use header::{Header, get_header, put_header};
+pub use inode::{Extent, Inode};
+pub use records::{Committed, CommittedList, ExtentList, LogRecord, Records};
+pub use superblock::{Super, get_super, put_super};
