@@ -10,7 +10,7 @@ use Rattle.std.proofs.lemmas.Slice.Eq.{bytes_eq-Decides}
 use Rattle.std.proofs.lemmas.Bool.Decides.{same_from_decides, Decides-eqb, nat_tests}
 use Rattle.byteorder.specs.Endian.{little_from, little_number, little_bytes}
 use Rattle.byteorder.specs.Numbers.{little_from-cons, little_number-reads_back, little_from-take, length-bytes_low_first}
-use Rattle.ufs_layout.specs.Words.{number_at, byte_at, is_zeros, IsBytes}
+use Rattle.ufs_layout.specs.Words.{number_at, byte_at, filled_to, is_zeros, IsBytes}
 
 -- a byte of a number is one lower in the number without its lowest byte
 digit_at-suc : (i x : ℕ) → digit_at (suc i) x ≡ digit_at i (x / 256)
@@ -59,7 +59,7 @@ bytes_eq-front (b ∷ p) (c ∷ q) x y same = ap (λ t. b == c && t) (bytes_eq-f
     and_assoc true b c = refl
     and_assoc false b c = refl
 
-IsBytes-drop : (at : ℕ) (bs : List ℕ) → IsBytes bs → IsBytes (drop at bs)
+pub IsBytes-drop : (at : ℕ) (bs : List ℕ) → IsBytes bs → IsBytes (drop at bs)
 IsBytes-drop at bs is i = rw (get_or-drop at bs i 0) (is (at + i))
 
 -- ---- the pieces of a form
@@ -125,3 +125,10 @@ number-compared n v at bs x small fits is =
       (λ e. ap (little_bytes n) ((Decides-eqb v (number_at n at bs)).0 e) ∙ back),
       (λ e. (Decides-eqb v (number_at n at bs)).1 (sym (number-back n v small) ∙ ap (little_number n) e ∙ little_from-take 0 n n (drop at bs) (omega arith))),
     )
+
+-- A front of the bytes and zeros behind it.
+pub filled-compared : (n size : ℕ) (ys : List ℕ) → length ys ≡ size → n ≤ size → bytes_eq (filled_to size (take n ys)) ys ≡ is_zeros (drop n ys)
+filled-compared n size ys sized fits =
+    ap (bytes_eq (filled_to size (take n ys))) (sym (take-append-drop n ys))
+    ∙ bytes_eq-append (take n ys) (replicate (size - length (take n ys)) 0) (drop n ys)
+    ∙ zeros-compared (size - length (take n ys)) (drop n ys) (omega (arith, length-drop n ys, length-take-le n ys (omega arith)))

@@ -1,3 +1,6 @@
 pub mod Compared
 pub mod Spelled
 pub mod HeadForms
+pub mod Extents
+pub mod InodeForms
+pub mod DentryForms

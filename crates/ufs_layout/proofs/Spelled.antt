@@ -1,5 +1,6 @@
 -- A decode answers a value exactly where the bytes are its spelling.
-use Rattle.std.proofs.Common.{◌≡◌, ℕ, List, Some, Bool, true, false, refl, ap, sym, ◌∙◌, subst, ◌&&◌, Option, arith}
+use Rattle.std.proofs.Common.{◌≡◌, ℕ, List, Some, None, Bool, true, false, refl, ap, sym, ◌∙◌, subst, ◌&&◌, Option, arith}
+use Rattle.std.specs.Prelude.{IfSome, IsTrue}
 use Rattle.std.specs.Str.{bytes_eq}
 use Rattle.std.proofs.lemmas.Slice.Eq.{bytes_eq-Decides}
 use Rattle.ufs_layout.specs.Words.{spelled, some_if}
@@ -20,11 +21,16 @@ pub spelled-at : {X : Type 0} (fields : List ℕ → X) (spelling : X → List �
     → bytes ≡ spelling v → fields (spelling v) ≡ v → is_form v ≡ true → spelled fields spelling is_form bytes ≡ Some v
 spelled-at fields spelling is_form v bytes are back it = ap (spelled fields spelling is_form) are ∙ spelled-spelling fields spelling is_form v back it
 
-some_if-some : {X : Type 0} (b : Bool) (x v : X) → some_if b x ≡ Some v → (b ≡ true) × (x ≡ v)
+-- What a test lets through.
+pub some_if-some : {X : Type 0} (b : Bool) (x v : X) → some_if b x ≡ Some v → (b ≡ true) × (x ≡ v)
 some_if-some true x v e = grind (arith, e)
 some_if-some false x v e = grind (arith, e)
 
-both : (a b : Bool) → a && b ≡ true → (a ≡ true) × (b ≡ true)
+pub some_if-none : {X : Type 0} (b : Bool) (x : X) → some_if b x ≡ None → b ≡ false
+some_if-none true x e = grind (arith, e)
+some_if-none false x e = refl
+
+pub both : (a b : Bool) → a && b ≡ true → (a ≡ true) × (b ≡ true)
 both true true e = (refl, refl)
 both true false e = grind (arith, e)
 both false b e = grind (arith, e)
@@ -45,3 +51,12 @@ spelled-decoded fields spelling is_form bytes v h e out is_v is_h is_e is_out =
 -- The last of three tests decides where the first two hold.
 pub last_of_three : (a b c r : Bool) → a ≡ true → b ≡ true → r ≡ c → r ≡ (a && (b && c))
 last_of_three a b c r is_a is_b is_r = rw (is_a, is_b) is_r
+
+-- So what a decode answers is spelled by the bytes, and is on its form.
+pub decoded-spelling : {X : Type 0} (fields : List ℕ → X) (spelling : X → List ℕ) (is_form : X → Bool) (bytes : List ℕ) (out : Option X) → out ≡ spelled fields spelling is_form bytes → IfSome out (λ v. bytes ≡ spelling v)
+decoded-spelling fields spelling is_form bytes None is = tt
+decoded-spelling fields spelling is_form bytes (Some v) is = (spelled-some fields spelling is_form bytes v (sym is)).0
+
+pub decoded-form : {X : Type 0} (fields : List ℕ → X) (spelling : X → List ℕ) (is_form : X → Bool) (bytes : List ℕ) (out : Option X) → out ≡ spelled fields spelling is_form bytes → IfSome out (λ v. IsTrue (is_form v))
+decoded-form fields spelling is_form bytes None is = tt
+decoded-form fields spelling is_form bytes (Some v) is = (spelled-some fields spelling is_form bytes v (sym is)).1

@@ -1,7 +1,7 @@
 -- The one spelling of an inode.
-use Rattle.std.specs.Prelude.{ℕ, zero, suc, List, [], ◌∷◌, ◌++◌, length, drop, replicate, Bool, ◌==◌, ◌&&◌, ◌||◌, not, nat_le, if◌then◌else◌, Option, map, flat_map}
+use Rattle.std.specs.Prelude.{ℕ, zero, suc, ◌<◌, ◌^◌, List, [], ◌∷◌, ◌++◌, length, drop, replicate, Bool, ◌==◌, ◌&&◌, ◌||◌, not, nat_le, if◌then◌else◌, Option, flat_map}
 use Rattle.std.specs.List.{list_all}
-use Rattle.ufs_layout.specs.Words.{number_at, byte_at, filled_to, pieces, spelled}
+use Rattle.ufs_layout.specs.Words.{number_at, byte_at, filled_to, spelled}
 use Rattle.byteorder.specs.Endian.{little_bytes}
 use Rattle.ufs_layout.specs.declared.inode.Extent.{Extent}
 
@@ -39,12 +39,18 @@ abbrev pub is_inode : InodeForm → Bool
 is_inode i = nat_le i.kind 2 && (nat_le (length i.extents) 56 && (list_all is_extent i.extents
     && (is_used i || length i.extents == 0 && i.size == 0)))
 
+-- The numbers of an extent have 32 bits.
+pub record FitsExtent (e : Extent) : Type 0 where
+  pub start : e.start < 2 ^ 32
+  pub length : e.length < 2 ^ 32
+
 abbrev pub extent_fields : List ℕ → Extent
 extent_fields bytes = record { start = number_at 4 0 bytes; length = number_at 4 4 bytes }
 
--- so many extents
+-- so many extents, 8 bytes each
 abbrev pub extents_at : ℕ → List ℕ → List Extent
-extents_at count bytes = map extent_fields (pieces count 8 bytes)
+extents_at zero bytes = []
+extents_at (suc count) bytes = extent_fields bytes ∷ extents_at count (drop 8 bytes)
 
 abbrev pub inode_fields : List ℕ → InodeForm
 inode_fields bytes = record {

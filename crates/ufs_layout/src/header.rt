@@ -1,5 +1,5 @@
 // The head of a journal sector.
-ghost use Rattle.std.specs.Prelude.{◌≡◌, length, IsTrue, Some, drop, ◌==◌, ◌&&◌};
+ghost use Rattle.std.specs.Prelude.{◌≡◌, length, IsTrue, IfSome, Some, drop, ◌==◌, ◌&&◌};
 ghost use Rattle.ufs_layout.specs.JournalHead.{header_bytes, header_fields, header_of, is_header};
 ghost use Rattle.ufs_layout.specs.Words.{byte_at, is_zeros};
 
@@ -60,7 +60,9 @@ fn is_spelled(head: &[u8]) -> bool
 /// The value whose one spelling the bytes are; `None` where they are none's.
 pub fn get_header(head: &[u8]) -> Option<Header>
     requires { length head.now ≡ 24 }
-    ensures { result ≡ header_of head.now }
+    ensures value { result ≡ header_of head.now }
+    ensures spelling { IfSome result (λ v. head.now ≡ header_bytes v) }
+    ensures form { IfSome result (λ v. IsTrue (is_header v)) }
 {
     let value = fields(head);
     found(is_form(&value), is_spelled(head), value)

@@ -1,11 +1,11 @@
 // Inodes and their extents.
-ghost use Rattle.std.specs.Prelude.{◌≡◌, ◌*◌, ◌+◌, ◌≤◌, ◌++◌, ◌∷◌, ◌&&◌, ◌==◌, length, take, drop, replicate, flat_map, IsTrue, Some, nat_le};
-ghost use Rattle.std.specs.List.{list_all};
+ghost use Rattle.std.specs.Prelude.{◌≡◌, ◌*◌, ◌+◌, ◌≤◌, ◌++◌, ◌∷◌, ◌&&◌, ◌==◌, ◌||◌, length, take, drop, replicate, flat_map, IsTrue, IfSome, Some, nat_le, not};
+ghost use Rattle.std.specs.List.{list_all, AllByRecursion};
 ghost use Rattle.ufs_layout.specs.Words.{number_at, is_zeros, padded, filled_to, some_if};
-ghost use Rattle.ufs_layout.specs.InodeForm.{extent_bytes, extent_fields, extents_at, is_extent, inode_bytes, inode_head, inode_of, is_inode, no_extent, links_of_kind};
+ghost use Rattle.ufs_layout.specs.InodeForm.{extent_bytes, extent_fields, extents_at, is_extent, FitsExtent, inode_bytes, inode_of, is_inode, no_extent, links_of_kind};
 ghost use Rattle.byteorder.specs.Endian.{little_bytes};
 
-use crate::bytes::{clear, has_only_zeros, put, put_u16, put_u32, put_u64, u16_at, u32_at, u64_at};
+use crate::bytes::{clear, found, has_only_zeros, put, put_u16, put_u32, put_u64, u16_at, u32_at, u64_at};
 use std::marker::Model;
 
 const NO_EXTENT: Extent = Extent {
@@ -49,21 +49,26 @@ impl Model for Inode {
     ghost inverse_ok = { λ a h i. record { kind = a.kind; count = count_of-take no_extent 56 a.count a.extents h i; extents = padded-take no_extent 56 a.count a.extents h i; size = a.size; number = a.number } };
 }
 
-fn put_extent(place: &mut [u8], extent: &Extent)
-    requires { length place.old ≡ 8 }
-    ensures { place.new ≡ extent_bytes extent.now }
+fn put_extent(sector: &mut [u8], at: usize, extent: &Extent)
+    requires { at + 8 ≤ length sector.old }
+    ensures spelling { sector.new ≡ take at sector.old ++ extent_bytes extent.now ++ drop (at + 8) sector.old }
+    ensures in_range { FitsExtent extent.now }
 {
-    put_u32(place, 0, extent.start);
-    put_u32(place, 4, extent.length);
+    let Extent { start, length } = *extent;
+    let mut piece = [0; 8];
+    put_u32(&mut piece, 0, start);
+    put_u32(&mut piece, 4, length);
+    put(sector, at, &piece);
 }
 
-// Writes the used extents to the front.
-fn put_extents(area: &mut [u8], extents: &[Extent])
-    requires { 8 * length extents.now ≤ length area.old }
-    ensures { area.new ≡ flat_map extent_bytes extents.now ++ drop (8 * length extents.now) area.old }
+// Writes extents in a row from this place on.
+fn put_extents(sector: &mut [u8], at: usize, extents: &[Extent])
+    requires { at + 8 * length extents.now ≤ length sector.old }
+    ensures spelling { sector.new ≡ take at sector.old ++ flat_map extent_bytes extents.now ++ drop (at + 8 * length extents.now) sector.old }
+    ensures in_range { AllByRecursion FitsExtent extents.now }
 {
     for (i, extent) in extents.iter().enumerate() {
-        put_extent(&mut area[8 * i..8 * i + 8], extent);
+        put_extent(sector, at + 8 * i, extent);
     }
 }
 
@@ -110,4 +115,73 @@ fn read_extents(area: &[u8], count: usize) -> Option<[Extent; 56]>
         extents[i] = extent;
     }
     Some(extents)
+}
+
+// What is asked of the numbers of an inode, its extents aside.
+fn is_form(kind: u8, count: u8, size: u64) -> bool
+    ensures { result ≡ (nat_le kind 2 && (not (kind == 0) || count == 0 && size == 0)) }
+{
+    kind <= 2 && (kind != 0 || count == 0 && size == 0)
+}
+
+// The bytes that no field reads are as they have to be.
+fn is_spelled(sector: &[u8], kind: u8, count: u8) -> bool
+    requires sized { length sector.now ≡ 512 }
+    requires few { count ≤ 56 }
+    ensures { result ≡ ((links_of_kind kind == number_at 2 2 sector.now && is_zeros (take 4 (drop 4 sector.now))) && (is_zeros (take 40 (drop 24 sector.now)) && is_zeros (drop (64 + 8 * count) sector.now))) }
+{
+    has_head_spelled(sector, kind) && has_rest_spelled(sector, count)
+}
+
+fn has_head_spelled(sector: &[u8], kind: u8) -> bool
+    requires { length sector.now ≡ 512 }
+    ensures { result ≡ (links_of_kind kind == number_at 2 2 sector.now && is_zeros (take 4 (drop 4 sector.now))) }
+{
+    links(kind) == u16_at(sector, 2) && has_only_zeros(&sector[4..8])
+}
+
+fn has_rest_spelled(sector: &[u8], count: u8) -> bool
+    requires sized { length sector.now ≡ 512 }
+    requires few { count ≤ 56 }
+    ensures { result ≡ (is_zeros (take 40 (drop 24 sector.now)) && is_zeros (drop (64 + 8 * count) sector.now)) }
+{
+    has_only_zeros(&sector[24..64]) && has_only_zeros(&sector[64 + 8 * usize::from(count)..])
+}
+
+/// Writes the one spelling of an inode.
+pub fn put_inode(sector: &mut [u8], value: &Inode)
+    requires sized { length sector.old ≡ 512 }
+    requires form { IsTrue (is_inode value.now) }
+    ensures spelling { sector.new ≡ inode_bytes value.now }
+    ensures read_back { inode_of sector.new ≡ Some value.now }
+{
+    clear(sector);
+    put_head(&mut sector[..64], value.kind, value.count, value.size, value.number);
+    put_extents(sector, 64, &value.extents[..usize::from(value.count)]);
+}
+
+/// The inode whose one spelling the sector is; `None` where it is none's.
+pub fn get_inode(sector: &[u8]) -> Option<Inode>
+    requires { length sector.now ≡ 512 }
+    ensures value { result ≡ inode_of sector.now }
+    ensures spelling { IfSome result (λ v. sector.now ≡ inode_bytes v) }
+    ensures form { IfSome result (λ v. IsTrue (is_inode v)) }
+{
+    let kind = sector[0];
+    let count = sector[1];
+    if count > 56 {
+        return None;
+    }
+    let Some(extents) = read_extents(&sector[64..], usize::from(count)) else {
+        return None;
+    };
+    let size = u64_at(sector, 8);
+    let value = Inode {
+        kind,
+        count,
+        extents,
+        size,
+        number: u64_at(sector, 16),
+    };
+    found(is_form(kind, count, size), is_spelled(sector, kind, count), value)
 }

@@ -9,9 +9,9 @@ mod inode;
 mod records;
 mod superblock;
 
-pub use dentry::Dentry;
+pub use dentry::{Dentry, get_dentry, put_dentry};
 pub use geometry::{BadGeometry, Geometry};
 pub use header::{Header, get_header, put_header};
-pub use inode::{Extent, Inode};
+pub use inode::{Extent, Inode, get_inode, put_inode};
 pub use records::{Committed, CommittedList, ExtentList, LogRecord, Records};
 pub use superblock::{Super, get_super, put_super};

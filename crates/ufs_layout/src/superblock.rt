@@ -1,5 +1,5 @@
 // The superblock.
-ghost use Rattle.std.specs.Prelude.{◌≡◌, ◌≤◌, ◌++◌, ◌∷◌, [], length, IsTrue, Some, take, drop, nat_le, ◌&&◌};
+ghost use Rattle.std.specs.Prelude.{◌≡◌, ◌≤◌, ◌++◌, ◌∷◌, [], length, IsTrue, IfSome, Some, take, drop, nat_le, ◌&&◌};
 ghost use Rattle.ufs_layout.specs.Superblock.{super_bytes, super_fields, super_of, is_super, clean_byte, magic};
 ghost use Rattle.ufs_layout.specs.Words.{byte_at, is_zeros, filled_to};
 ghost use Rattle.std.specs.Str.{bytes_eq};
@@ -124,7 +124,9 @@ fn is_spelled(sector: &[u8]) -> bool
 /// The superblock of version 1 whose one spelling the sector is; `None` where it is none's.
 pub fn get_super(sector: &[u8]) -> Option<Super>
     requires { length sector.now ≡ 512 }
-    ensures { result ≡ super_of 1 sector.now }
+    ensures value { result ≡ super_of 1 sector.now }
+    ensures spelling { IfSome result (λ v. sector.now ≡ super_bytes v) }
+    ensures form { IfSome result (λ v. IsTrue (is_super 1 v)) }
 {
     let value = fields(sector);
     found(is_form(&value), is_spelled(sector), value)
