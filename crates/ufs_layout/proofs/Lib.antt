@@ -4,3 +4,8 @@ pub mod HeadForms
 pub mod Extents
 pub mod InodeForms
 pub mod DentryForms
+pub mod Ranges
+pub mod NewBitmap
+pub mod NewImage
+mod SpelledOnce
+mod Vectors

@@ -81,13 +81,16 @@ abbrev pub is_off : Geometry → ℕ → List FoundSector → FoundSector → Bo
 is_off g next all f =
     is_repeated all f || lacks_records all f || is_behind_commit all f || is_old next f || shares_number all f || leaves_range g f
 
--- the lowest sector of the superblock's epoch that is off
-abbrev pub bad_sector : Geometry → Super → Image → Option ℕ
-bad_sector g s image =
-    let read = sectors_of_epoch g s.epoch image in
+-- the lowest of these sectors that is off
+abbrev pub first_bad : Geometry → ℕ → Image → List ReadSector → Option ℕ
+first_bad g next image read =
     let all = well_spelled read in
     let overkept_sectors = overkept g (transactions all) image in
     find (λ sector.
       list_any (λ (r : ReadSector). r.0 == sector && is_misspelled r) read
-      || list_any (λ (f : FoundSector). f.0 == sector && is_off g s.next all f) all
+      || list_any (λ (f : FoundSector). f.0 == sector && is_off g next all f) all
       || list_any (λ o. o == sector) overkept_sectors) (journal_sectors g)
+
+-- the lowest sector of the superblock's epoch that is off
+abbrev pub bad_sector : Geometry → Super → Image → Option ℕ
+bad_sector g s image = first_bad g s.next image (sectors_of_epoch g s.epoch image)

@@ -117,11 +117,13 @@ name_damage g image dirs =
     ++ flat_map (λ (d : Dir). map (λ (n : NamedSlot). NameTwice d.inode n.0) (filter (is_name_twice d) (names_of d))) dirs
     ++ map TwoNames (filter (has_two_names dirs) (all_inodes g))
 
+-- of the nodes that can be read
+abbrev pub node_damage : Geometry → Image → List Node → List Damage
+node_damage g image nodes = block_damage g nodes ++ name_damage g image (dirs_of image nodes)
+
 -- all kinds but that of the bitmap
 abbrev pub tree_damage : Geometry → Image → List Damage
-tree_damage g image =
-    let nodes = sound_nodes g image in
-    inode_damage g image ++ block_damage g nodes ++ name_damage g image (dirs_of image nodes)
+tree_damage g image = inode_damage g image ++ node_damage g image (sound_nodes g image)
 
 -- The bitmap has a meaning on a clean image alone.
 abbrev pub bitmap_damage : Bool → Geometry → Image → List Damage
@@ -144,5 +146,8 @@ blamed (TwoNames inode) = Some inode
 blamed (BitmapDiffers block) = None
 
 -- the lowest inode that a damage of the tree is told of
+abbrev pub lowest_blamed : Geometry → List Damage → Option ℕ
+lowest_blamed g damages = let blames = filter_map blamed damages in find (λ inode. list_any (λ b. b == inode) blames) (all_inodes g)
+
 abbrev pub bad_tree : Geometry → Image → Option ℕ
-bad_tree g image = let blames = filter_map blamed (tree_damage g image) in find (λ inode. list_any (λ b. b == inode) blames) (all_inodes g)
+bad_tree g image = lowest_blamed g (tree_damage g image)

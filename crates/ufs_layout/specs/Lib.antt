@@ -17,3 +17,4 @@ pub mod Volume
 pub mod Opens
 pub mod Proper
 pub mod Formatted
+pub mod Laws

@@ -12,12 +12,12 @@ use Rattle.ufs_layout.specs.declared.inode.Extent.{Extent}
 -- ---- inodes
 
 -- off its form, or the root and no directory
+abbrev pub is_bad_form : ℕ → Option InodeForm → Bool
+is_bad_form inode None = true
+is_bad_form inode (Some form) = inode == 1 && not (form.kind == 2)
+
 abbrev pub is_bad_inode : Geometry → Image → ℕ → Bool
-is_bad_inode g image inode = bad (inode_at g image inode)
-  where
-    bad : Option InodeForm → Bool
-    bad None = true
-    bad (Some form) = inode == 1 && not (form.kind == 2)
+is_bad_inode g image inode = is_bad_form inode (inode_at g image inode)
 
 abbrev pub leaves_data : Geometry → Extent → Bool
 leaves_data g e = not (nat_le (first_of_data g) e.start && nat_le (e.start + e.length) g.blocks)
@@ -30,12 +30,14 @@ is_bad_extent g image inode = not (is_bad_inode g image inode) && list_any (leav
 abbrev pub Node : Type 0
 Node = ℕ × InodeForm
 
--- the used inodes that are neither, by rising number
+-- a used inode that is neither
+abbrev pub sound_node : Geometry → Image → ℕ → Option Node
+sound_node g image inode =
+    some_if (not (is_bad_inode g image inode) && (not (is_bad_extent g image inode) && is_used (form_at g image inode))) (inode, form_at g image inode)
+
+-- those inodes, by rising number
 abbrev pub sound_nodes : Geometry → Image → List Node
-sound_nodes g image = filter_map sound (all_inodes g)
-  where
-    sound : ℕ → Option Node
-    sound inode = some_if (not (is_bad_inode g image inode) && (not (is_bad_extent g image inode) && is_used (form_at g image inode))) (inode, form_at g image inode)
+sound_nodes g image = filter_map (sound_node g image) (all_inodes g)
 
 -- ---- blocks
 

@@ -36,15 +36,16 @@ node_bytes image form = if form.kind == 2 then None else Some (file_bytes image 
 abbrev pub names_in : Image → ℕ → InodeForm → List NamedSlot
 names_in image inode form = names_of (record { inode = inode; slots = if form.kind == 2 then slots_of image form else [] })
 
+-- a name below this path, and what stands deeper
+abbrev pub entry_and_below : (List ℕ → ℕ → List PathEntry) → Geometry → Image → List ℕ → NamedSlot → List PathEntry
+entry_and_below deeper g image path n =
+    let at = path ++ 47 ∷ n.1.name in
+    (at, node_bytes image (form_at g image n.1.inode)) ∷ deeper at n.1.inode
+
 -- What stands below a directory with this path, at most so deep; the root's path is empty here.
 abbrev pub below : ℕ → Geometry → Image → List ℕ → ℕ → List PathEntry
 below zero g image path inode = []
-below (suc depth) g image path inode = flat_map (with_below (below depth g image)) (names_in image inode (form_at g image inode))
-  where
-    with_below : (List ℕ → ℕ → List PathEntry) → NamedSlot → List PathEntry
-    with_below deeper n =
-        let at = path ++ 47 ∷ n.1.name in
-        (at, node_bytes image (form_at g image n.1.inode)) ∷ deeper at n.1.inode
+below (suc depth) g image path inode = flat_map (entry_and_below (below depth g image) g image path) (names_in image inode (form_at g image inode))
 
 abbrev pub root_entry : PathEntry
 root_entry = (47 ∷ [], None)
@@ -53,37 +54,38 @@ root_entry = (47 ∷ [], None)
 abbrev pub walked : Volume → List PathEntry
 walked v = root_entry ∷ below v.geometry.inodes v.geometry v.image [] 1
 
+-- by the lowest inode that a damage is told of
+abbrev pub by_damage : Volume → Option ℕ → Result (List PathEntry) Refusal
+by_damage v None = Ok (walked v)
+by_damage v (Some inode) = Err (BadTree inode)
+
+abbrev pub entries_of : Result Volume Refusal → Result (List PathEntry) Refusal
+entries_of (Ok v) = by_damage v (bad_tree v.geometry v.image)
+entries_of (Err refusal) = Err refusal
+
 -- whole paths and what stands at each, or why there is no tree
 abbrev pub entries : ℕ → Image → Result (List PathEntry) Refusal
-entries sectors image = of_volume (volume sectors image)
-  where
-    of_tree : Volume → Option ℕ → Result (List PathEntry) Refusal
-    of_tree v None = Ok (walked v)
-    of_tree v (Some inode) = Err (BadTree inode)
+entries sectors image = entries_of (volume sectors image)
 
-    of_volume : Result Volume Refusal → Result (List PathEntry) Refusal
-    of_volume (Ok v) = of_tree v (bad_tree v.geometry v.image)
-    of_volume (Err refusal) = Err refusal
+abbrev pub tree_of : Result (List PathEntry) Refusal → Result ImageTree Refusal
+tree_of (Ok paths) = Ok (from_entries paths)
+tree_of (Err refusal) = Err refusal
 
 -- the tree, or why there is none
 abbrev pub opens : ℕ → Image → Result ImageTree Refusal
-opens sectors image = as_tree (entries sectors image)
-  where
-    as_tree : Result (List PathEntry) Refusal → Result ImageTree Refusal
-    as_tree (Ok paths) = Ok (from_entries paths)
-    as_tree (Err refusal) = Err refusal
+opens sectors image = tree_of (entries sectors image)
 
 -- the tree with the root alone
 abbrev pub root_tree : ImageTree
 root_tree = from_entries (root_entry ∷ [])
 
+abbrev pub damage_in : Result Volume Refusal → Result (List Damage) Refusal
+damage_in (Ok v) = Ok (damage_of v)
+damage_in (Err refusal) = Err refusal
+
 -- the list of damage, or why the image isn't looked at
 abbrev pub damage_list : ℕ → Image → Result (List Damage) Refusal
-damage_list sectors image = of_volume (volume sectors image)
-  where
-    of_volume : Result Volume Refusal → Result (List Damage) Refusal
-    of_volume (Ok v) = Ok (damage_of v)
-    of_volume (Err refusal) = Err refusal
+damage_list sectors image = damage_in (volume sectors image)
 
 -- the same of a list of sectors
 abbrev pub opens_list : List (List ℕ) → Result ImageTree Refusal

@@ -63,17 +63,19 @@ pub record Volume : Type 0 where
 abbrev pub volume_of : Super → Image → Volume
 volume_of s image = let g = geometry_of s in record { head = s; geometry = g; image = folded g (committed g s.epoch image) image }
 
+-- by the lowest sector of the journal that is off
+abbrev pub by_journal : Image → Option ℕ → Result Volume Refusal
+by_journal image None = Ok (volume_of (head_of image) image)
+by_journal image (Some sector) = Err (BadRecord sector)
+
+-- by what the superblock is refused for
+abbrev pub by_head : Image → Option Refusal → Result Volume Refusal
+by_head image None = by_journal image (bad_sector (geometry_of (head_of image)) (head_of image) image)
+by_head image (Some refusal) = Err refusal
+
 -- the superblock first, and then the journal
 abbrev pub volume : ℕ → Image → Result Volume Refusal
-volume sectors image = by_head (head_refusal sectors image)
-  where
-    by_sector : Option ℕ → Result Volume Refusal
-    by_sector None = Ok (volume_of (head_of image) image)
-    by_sector (Some sector) = Err (BadRecord sector)
-
-    by_head : Option Refusal → Result Volume Refusal
-    by_head None = by_sector (bad_sector (geometry_of (head_of image)) (head_of image) image)
-    by_head (Some refusal) = Err refusal
+volume sectors image = by_head image (head_refusal sectors image)
 
 -- the list of damage of a folded image
 abbrev pub damage_of : Volume → List Damage

@@ -6,6 +6,7 @@ mod dentry;
 mod geometry;
 mod header;
 mod inode;
+mod laws;
 mod records;
 mod superblock;
 
@@ -13,5 +14,6 @@ pub use dentry::{Dentry, get_dentry, put_dentry};
 pub use geometry::{BadGeometry, Geometry};
 pub use header::{Header, get_header, put_header};
 pub use inode::{Extent, Inode, get_inode, put_inode};
+pub use laws::{empty_fold_law, new_image_law};
 pub use records::{Committed, CommittedList, ExtentList, LogRecord, Records};
 pub use superblock::{Super, get_super, put_super};
