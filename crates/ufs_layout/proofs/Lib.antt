@@ -9,3 +9,5 @@ pub mod NewBitmap
 pub mod NewImage
 mod SpelledOnce
 mod Vectors
+pub mod RecordForms
+pub mod RecordsRead

@@ -1,8 +1,9 @@
 -- The one spelling of a journal record, and of a list of them.
-use Rattle.std.specs.Prelude.{ℕ, zero, suc, ◌+◌, ◌*◌, List, [], ◌∷◌, ◌++◌, length, take, drop, Bool, true, ◌==◌, ◌&&◌, nat_le, if◌then◌else◌, Option, Some, None, flat_map}
-use Rattle.std.specs.List.{list_all}
-use Rattle.ufs_layout.specs.Words.{number_at, byte_at, spelled}
-use Rattle.ufs_layout.specs.InodeForm.{extent_bytes, extents_at, is_extent}
+use Rattle.std.specs.Prelude.{ℕ, zero, suc, ◌+◌, ◌*◌, ◌<◌, ◌≤◌, ◌^◌, List, [], ◌∷◌, ◌++◌, length, take, drop, Bool, true, ◌==◌, ◌&&◌, nat_le, if◌then◌else◌, Option, Some, None, flat_map}
+use Rattle.std.specs.List.{list_all, AllByRecursion}
+use Rattle.std.specs.Str.{bytes_eq}
+use Rattle.ufs_layout.specs.Words.{number_at, byte_at, some_if, spelled}
+use Rattle.ufs_layout.specs.InodeForm.{extent_bytes, extents_at, is_extent, FitsExtent}
 use Rattle.ufs_layout.specs.DentryForm.{dentry_bytes, dentry_fields, is_dentry}
 use Rattle.byteorder.specs.Endian.{little_bytes}
 use Rattle.ufs_layout.specs.declared.records.LogRecord.{LogRecord}
@@ -20,6 +21,12 @@ abbrev pub is_record : LogRecord → Bool
 is_record (Delta inode kind size keep extents) = (nat_le 1 kind && nat_le kind 2) && (nat_le (keep + length extents) 56 && list_all is_extent extents)
 is_record (Place sector slot dentry) = nat_le slot 7 && is_dentry dentry
 is_record (Free inode) = true
+
+-- The numbers of a record are in the ranges of their types.
+abbrev pub FitsRecord : LogRecord → Type 0
+FitsRecord (Delta inode kind size keep extents) = (inode < 2 ^ 32) × (size < 2 ^ 64) × AllByRecursion FitsExtent extents
+FitsRecord (Place sector slot dentry) = (sector < 2 ^ 32) × (dentry.inode < 2 ^ 32) × (length dentry.name ≤ 58)
+FitsRecord (Free inode) = inode < 2 ^ 32
 
 abbrev pub records_bytes : List LogRecord → List ℕ
 records_bytes records = flat_map record_bytes records
@@ -51,3 +58,11 @@ record_fields (suc most) bytes = and_more (record_fields most) (first_record byt
 -- the records whose spelling the bytes are
 abbrev pub records_of : List ℕ → Option (List LogRecord)
 records_of bytes = spelled (record_fields (length bytes)) records_bytes (list_all is_record) bytes
+
+-- The record that begins the bytes, where it is well spelled.
+abbrev pub leading_record : List ℕ → Option LogRecord
+leading_record bytes = spelled_in (first_record bytes)
+  where
+    spelled_in : Option (LogRecord × List ℕ) → Option LogRecord
+    spelled_in None = None
+    spelled_in (Some r) = some_if (is_record r.0 && bytes_eq (record_bytes r.0 ++ r.1) bytes) r.0

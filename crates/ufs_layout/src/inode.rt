@@ -62,7 +62,7 @@ fn put_extent(sector: &mut [u8], at: usize, extent: &Extent)
 }
 
 // Writes extents in a row from this place on.
-fn put_extents(sector: &mut [u8], at: usize, extents: &[Extent])
+pub fn put_extents(sector: &mut [u8], at: usize, extents: &[Extent])
     requires { at + 8 * length extents.now ≤ length sector.old }
     ensures spelling { sector.new ≡ take at sector.old ++ flat_map extent_bytes extents.now ++ drop (at + 8 * length extents.now) sector.old }
     ensures in_range { AllByRecursion FitsExtent extents.now }

@@ -7,6 +7,7 @@ mod geometry;
 mod header;
 mod inode;
 mod laws;
+mod record_codec;
 mod records;
 mod superblock;
 
@@ -15,5 +16,6 @@ pub use geometry::{BadGeometry, Geometry};
 pub use header::{Header, get_header, put_header};
 pub use inode::{Extent, Inode, get_inode, put_inode};
 pub use laws::{empty_fold_law, new_image_law};
+pub use record_codec::{count_fitting, put_records, record_length};
 pub use records::{Committed, CommittedList, ExtentList, LogRecord, Records};
 pub use superblock::{Super, get_super, put_super};
