@@ -84,14 +84,14 @@ super-compared bs sized is =
     ap (bytes_eq (magic ++ from_version)) (sym (take-append-drop 8 bs))
     ∙ bytes_eq-front magic (take 8 bs) from_version (drop 8 bs) (sym (length-take-le 8 bs (omega arith)))
     ∙ ap (λ t. bytes_eq magic (take 8 bs) && t) (
-      number-there 4 8 bs from_blocks (omega arith) is
-      ∙ number-there 4 12 bs from_inodes (omega arith) is
-      ∙ number-there 4 16 bs from_journal (omega arith) is
-      ∙ number-there 4 20 bs from_epoch (omega arith) is
-      ∙ number-there 8 24 bs from_next (omega arith) is
-      ∙ number-there 8 32 bs from_clean (omega arith) is
-      ∙ byte-compared (clean_byte (byte_at 40 bs == 1)) 40 bs (replicate 471 0) (omega arith)
-      ∙ (λ i. flag-compared (byte_at 40 bs) i && zeros-compared 471 (drop 41 bs) (omega (arith, length-drop 41 bs)) i))
+    number-there 4 8 bs from_blocks (omega arith) is
+    ∙ number-there 4 12 bs from_inodes (omega arith) is
+    ∙ number-there 4 16 bs from_journal (omega arith) is
+    ∙ number-there 4 20 bs from_epoch (omega arith) is
+    ∙ number-there 8 24 bs from_next (omega arith) is
+    ∙ number-there 8 32 bs from_clean (omega arith) is
+    ∙ byte-compared (clean_byte (byte_at 40 bs == 1)) 40 bs (replicate 471 0) (omega arith)
+    ∙ (λ i. flag-compared (byte_at 40 bs) i && zeros-compared 471 (drop 41 bs) (omega (arith, length-drop 41 bs)) i))
   where
     from_clean : List ℕ
     from_clean = clean_byte (byte_at 40 bs == 1) ∷ replicate 471 0

@@ -71,11 +71,11 @@ inode-compared bs sized is few =
     ∙ byte-there 1 bs from_links (omega arith)
     ∙ number-compared 2 (links_of_kind (byte_at 0 bs)) 2 bs from_gap (links-small (byte_at 0 bs)) (omega arith) is
     ∙ ap (λ t. links_of_kind (byte_at 0 bs) == number_at 2 2 bs && t) (zero_run-compared 4 4 bs from_size (omega arith)
-      ∙ ap (λ t. is_zeros (take 4 (drop 4 bs)) && t) (number-there 8 8 bs from_number (omega arith) is
-        ∙ number-there 8 16 bs from_zeros (omega arith) is
-        ∙ zero_run-compared 40 24 bs from_extents (omega arith)
-        ∙ ap (λ t. is_zeros (take 40 (drop 24 bs)) && t) (extents-compared (byte_at 1 bs) 448 (drop 64 bs) (omega (arith, length-drop 64 bs)) (omega arith) (IsBytes-drop 64 bs is)
-          ∙ ap is_zeros (drop-drop (8 * byte_at 1 bs) 64 bs))))
+    ∙ ap (λ t. is_zeros (take 4 (drop 4 bs)) && t) (number-there 8 8 bs from_number (omega arith) is
+    ∙ number-there 8 16 bs from_zeros (omega arith) is
+    ∙ zero_run-compared 40 24 bs from_extents (omega arith)
+    ∙ ap (λ t. is_zeros (take 40 (drop 24 bs)) && t) (extents-compared (byte_at 1 bs) 448 (drop 64 bs) (omega (arith, length-drop 64 bs)) (omega arith) (IsBytes-drop 64 bs is)
+    ∙ ap is_zeros (drop-drop (8 * byte_at 1 bs) 64 bs))))
     ∙ and_assoc (links_of_kind (byte_at 0 bs) == number_at 2 2 bs) (is_zeros (take 4 (drop 4 bs))) (is_zeros (take 40 (drop 24 bs)) && is_zeros (drop (64 + 8 * byte_at 1 bs) bs))
   where
     es : List Extent

@@ -11,3 +11,5 @@ mod SpelledOnce
 mod Vectors
 pub mod RecordForms
 pub mod RecordsRead
+pub mod Leading
+pub mod RecordList

@@ -141,7 +141,7 @@ sound_new g image is new =
 
     free : (n : ℕ) → 2 ≤ n → n < 2 + (g.inodes - 1) → sound_node g image n ≡ None
     free n from under = λ i. some_if (not (good_form g image new n (omega arith) (omega (arith, is.least_inodes)) i)
-      && (not (good_extents g image new n (omega arith) (omega (arith, is.least_inodes)) i) && is_used (unwrap_or (free_there g image new n (omega arith) (omega (arith, is.least_inodes)) i) (free_inode 0)))) (n, form_at g image n)
+        && (not (good_extents g image new n (omega arith) (omega (arith, is.least_inodes)) i) && is_used (unwrap_or (free_there g image new n (omega arith) (omega (arith, is.least_inodes)) i) (free_inode 0)))) (n, form_at g image n)
 
     rest : filter_map (sound_node g image) (range_with_len 2 (g.inodes - 1)) ≡ []
     rest = filter_map-none (sound_node g image) 2 (g.inodes - 1) free
@@ -205,14 +205,14 @@ damage_new sectors g image is new room = ap damage_in (volume_new sectors g imag
 
 pub proper_new : (sectors : ℕ) (g : Geometry) (image : Image) → IsGeometry g → IsFormatted g image → sector_count g ≤ sectors → IsProperImage sectors image
 proper_new sectors g image is new room = subst (λ v. MatchResult v (IsProperVolume image) (λ _. ⊥)) (sym (volume_new sectors g image is new room)) (record {
-    has_tree = no_bad_tree g image is new;
-    none_later = list_all-range (λ s. not (nat_lt 1 (epoch_in (image s)))) (8 * first_of_journal g) g.journal (λ s from under. ap (λ e. not (nat_lt 1 e)) (no_epoch s from under));
-    if_clean = λ _. record {
-      no_entry = list_all-range (λ s. not (epoch_in (image s) == 1)) (8 * first_of_journal g) g.journal (λ s from under. ap (λ e. not (e == 1)) (no_epoch s from under));
-      numbers_below = list_all-range (λ i. nat_lt (form_at g image i).number 1) 1 g.inodes numbers;
-      undamaged = undamaged g image is new;
-    };
-  })
+  has_tree = no_bad_tree g image is new;
+  none_later = list_all-range (λ s. not (nat_lt 1 (epoch_in (image s)))) (8 * first_of_journal g) g.journal (λ s from under. ap (λ e. not (nat_lt 1 e)) (no_epoch s from under));
+  if_clean = λ _. record {
+    no_entry = list_all-range (λ s. not (epoch_in (image s) == 1)) (8 * first_of_journal g) g.journal (λ s from under. ap (λ e. not (e == 1)) (no_epoch s from under));
+    numbers_below = list_all-range (λ i. nat_lt (form_at g image i).number 1) 1 g.inodes numbers;
+    undamaged = undamaged g image is new;
+  };
+})
   where
     no_epoch : (s : ℕ) → 8 * first_of_journal g ≤ s → s < 8 * first_of_journal g + g.journal → epoch_in (image s) ≡ 0
     no_epoch s from under =

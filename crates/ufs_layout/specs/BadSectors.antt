@@ -87,9 +87,9 @@ first_bad g next image read =
     let all = well_spelled read in
     let overkept_sectors = overkept g (transactions all) image in
     find (λ sector.
-      list_any (λ (r : ReadSector). r.0 == sector && is_misspelled r) read
-      || list_any (λ (f : FoundSector). f.0 == sector && is_off g next all f) all
-      || list_any (λ o. o == sector) overkept_sectors) (journal_sectors g)
+    list_any (λ (r : ReadSector). r.0 == sector && is_misspelled r) read
+    || list_any (λ (f : FoundSector). f.0 == sector && is_off g next all f) all
+    || list_any (λ o. o == sector) overkept_sectors) (journal_sectors g)
 
 -- the lowest sector of the superblock's epoch that is off
 abbrev pub bad_sector : Geometry → Super → Image → Option ℕ

@@ -31,19 +31,19 @@ FitsRecord (Free inode) = inode < 2 ^ 32
 abbrev pub records_bytes : List LogRecord → List ℕ
 records_bytes records = flat_map record_bytes records
 
--- the record that begins the bytes, be it well spelled or not, and the bytes behind it
+-- the record that begins the bytes by its tag, be it well spelled or not, and the bytes behind it
+abbrev pub record_by_tag : List ℕ → ℕ → Option (LogRecord × List ℕ)
+record_by_tag bytes zero = None
+record_by_tag bytes (suc zero) = Some (
+  Delta (number_at 4 1 bytes) (byte_at 5 bytes) (number_at 8 6 bytes) (byte_at 14 bytes) (extents_at (byte_at 15 bytes) (drop 16 bytes)),
+  drop (16 + 8 * byte_at 15 bytes) bytes,
+)
+record_by_tag bytes (suc (suc zero)) = Some (Place (number_at 4 1 bytes) (byte_at 5 bytes) (dentry_fields (take 64 (drop 6 bytes))), drop 70 bytes)
+record_by_tag bytes (suc (suc (suc zero))) = Some (Free (number_at 4 1 bytes), drop 5 bytes)
+record_by_tag bytes (suc (suc (suc (suc n)))) = None
+
 abbrev pub first_record : List ℕ → Option (LogRecord × List ℕ)
-first_record bytes = by_tag (byte_at 0 bytes)
-  where
-    by_tag : ℕ → Option (LogRecord × List ℕ)
-    by_tag zero = None
-    by_tag (suc zero) = Some (
-      Delta (number_at 4 1 bytes) (byte_at 5 bytes) (number_at 8 6 bytes) (byte_at 14 bytes) (extents_at (byte_at 15 bytes) (drop 16 bytes)),
-      drop (16 + 8 * byte_at 15 bytes) bytes,
-    )
-    by_tag (suc (suc zero)) = Some (Place (number_at 4 1 bytes) (byte_at 5 bytes) (dentry_fields (take 64 (drop 6 bytes))), drop 70 bytes)
-    by_tag (suc (suc (suc zero))) = Some (Free (number_at 4 1 bytes), drop 5 bytes)
-    by_tag (suc (suc (suc (suc n)))) = None
+first_record bytes = record_by_tag bytes (byte_at 0 bytes)
 
 -- the first record, and those that are read behind it
 abbrev pub and_more : (List ℕ → List LogRecord) → Option (LogRecord × List ℕ) → List LogRecord
@@ -59,10 +59,11 @@ record_fields (suc most) bytes = and_more (record_fields most) (first_record byt
 abbrev pub records_of : List ℕ → Option (List LogRecord)
 records_of bytes = spelled (record_fields (length bytes)) records_bytes (list_all is_record) bytes
 
--- The record that begins the bytes, where it is well spelled.
+-- the record of these two, where the bytes are its spelling and those behind it
+abbrev pub spelled_in : List ℕ → Option (LogRecord × List ℕ) → Option LogRecord
+spelled_in bytes None = None
+spelled_in bytes (Some r) = some_if (is_record r.0 && bytes_eq (record_bytes r.0 ++ r.1) bytes) r.0
+
+-- the record that begins the bytes, where it is well spelled
 abbrev pub leading_record : List ℕ → Option LogRecord
-leading_record bytes = spelled_in (first_record bytes)
-  where
-    spelled_in : Option (LogRecord × List ℕ) → Option LogRecord
-    spelled_in None = None
-    spelled_in (Some r) = some_if (is_record r.0 && bytes_eq (record_bytes r.0 ++ r.1) bytes) r.0
+leading_record bytes = spelled_in bytes (first_record bytes)

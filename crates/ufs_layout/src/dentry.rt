@@ -33,6 +33,29 @@ impl Model for Dentry {
     ghost inverse_ok = { λ a h i. record { inode = a.inode; kind = a.kind; length = count_of-take 0 58 a.length a.name h i; name = padded-take 0 58 a.length a.name h i } };
 }
 
+impl Dentry {
+    /// Takes a name of at most 58 bytes.
+    pub fn from_name(inode: u32, kind: u8, name: &[u8]) -> Dentry
+        requires { length name.now ≤ 58 }
+        ensures { result ≡ record { inode = inode; kind = kind; name = name.now } }
+    {
+        let mut field = [0; 58];
+        put(&mut field, 0, name);
+        Dentry {
+            inode,
+            kind,
+            length: name.len() as u8,
+            name: field,
+        }
+    }
+
+    pub fn name_bytes(&self) -> &[u8]
+        ensures { result.now ≡ self.now.name }
+    {
+        &self.name[..usize::from(self.length)]
+    }
+}
+
 /// Writes the one spelling of a dentry.
 pub fn put_dentry(slot: &mut [u8], value: &Dentry)
     requires sized { length slot.old ≡ 64 }
@@ -83,5 +106,9 @@ pub fn get_dentry(slot: &[u8]) -> Option<Dentry>
         length: count,
         name: read_name(&slot[6..], usize::from(count)),
     };
-    found(is_form(inode, kind, count), has_only_zeros(&slot[end..]), value)
+    found(
+        is_form(inode, kind, count),
+        has_only_zeros(&slot[end..]),
+        value,
+    )
 }

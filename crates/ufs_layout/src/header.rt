@@ -3,7 +3,9 @@ ghost use Rattle.std.specs.Prelude.{◌≡◌, length, IsTrue, IfSome, Some, dro
 ghost use Rattle.ufs_layout.specs.JournalHead.{header_bytes, header_fields, header_of, is_header};
 ghost use Rattle.ufs_layout.specs.Words.{byte_at, is_zeros};
 
-use crate::bytes::{clear, found, has_only_zeros, put_u16, put_u32, put_u64, u16_at, u32_at, u64_at};
+use crate::bytes::{
+    clear, found, has_only_zeros, put_u16, put_u32, put_u64, u16_at, u32_at, u64_at,
+};
 
 /// The head of a journal sector, 24 bytes. The kind is 1 for records and 2 for a commit, whose index is
 /// the number of its record sectors; `used` is the number of content bytes, at most 488.

@@ -5,7 +5,9 @@ ghost use Rattle.ufs_layout.specs.Words.{number_at, is_zeros, padded, filled_to,
 ghost use Rattle.ufs_layout.specs.InodeForm.{extent_bytes, extent_fields, extents_at, is_extent, FitsExtent, inode_bytes, inode_of, is_inode, no_extent, links_of_kind};
 ghost use Rattle.byteorder.specs.Endian.{little_bytes};
 
-use crate::bytes::{clear, found, has_only_zeros, put, put_u16, put_u32, put_u64, u16_at, u32_at, u64_at};
+use crate::bytes::{
+    clear, found, has_only_zeros, put, put_u16, put_u32, put_u64, u16_at, u32_at, u64_at,
+};
 use std::marker::Model;
 
 const NO_EXTENT: Extent = Extent {
@@ -49,6 +51,30 @@ impl Model for Inode {
     ghost inverse_ok = { λ a h i. record { kind = a.kind; count = count_of-take no_extent 56 a.count a.extents h i; extents = padded-take no_extent 56 a.count a.extents h i; size = a.size; number = a.number } };
 }
 
+impl Inode {
+    /// Takes at most 56 extents.
+    pub fn from_extents(kind: u8, extents: &[Extent], size: u64, number: u64) -> Inode
+        requires { length extents.now ≤ 56 }
+        ensures { result ≡ record { kind = kind; extents = extents.now; size = size; number = number } }
+    {
+        let mut places = [NO_EXTENT; 56];
+        places[..extents.len()].copy_from_slice(extents);
+        Inode {
+            kind,
+            count: extents.len() as u8,
+            extents: places,
+            size,
+            number,
+        }
+    }
+
+    pub fn used_extents(&self) -> &[Extent]
+        ensures { result.now ≡ self.now.extents }
+    {
+        &self.extents[..usize::from(self.count)]
+    }
+}
+
 fn put_extent(sector: &mut [u8], at: usize, extent: &Extent)
     requires { at + 8 ≤ length sector.old }
     ensures spelling { sector.new ≡ take at sector.old ++ extent_bytes extent.now ++ drop (at + 8) sector.old }
@@ -90,7 +116,7 @@ fn links(kind: u8) -> u16
     if kind == 0 { 0 } else { 1 }
 }
 
-fn extent_at(area: &[u8], at: usize) -> Extent
+pub fn extent_at(area: &[u8], at: usize) -> Extent
     requires { at + 8 ≤ length area.now }
     ensures { result ≡ extent_fields (drop at area.now) }
 {
@@ -156,7 +182,13 @@ pub fn put_inode(sector: &mut [u8], value: &Inode)
     ensures read_back { inode_of sector.new ≡ Some value.now }
 {
     clear(sector);
-    put_head(&mut sector[..64], value.kind, value.count, value.size, value.number);
+    put_head(
+        &mut sector[..64],
+        value.kind,
+        value.count,
+        value.size,
+        value.number,
+    );
     put_extents(sector, 64, &value.extents[..usize::from(value.count)]);
 }
 
@@ -183,5 +215,9 @@ pub fn get_inode(sector: &[u8]) -> Option<Inode>
         size,
         number: u64_at(sector, 16),
     };
-    found(is_form(kind, count, size), is_spelled(sector, kind, count), value)
+    found(
+        is_form(kind, count, size),
+        is_spelled(sector, kind, count),
+        value,
+    )
 }

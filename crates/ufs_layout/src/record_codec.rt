@@ -33,7 +33,15 @@ fn put_delta_head(head: &mut [u8], inode: u32, kind: u8, size: u64, keep: u8, co
     put(head, 14, &[keep, count]);
 }
 
-fn put_delta(content: &mut [u8], at: usize, inode: u32, kind: u8, size: u64, keep: u8, extents: &[Extent])
+fn put_delta(
+    content: &mut [u8],
+    at: usize,
+    inode: u32,
+    kind: u8,
+    size: u64,
+    keep: u8,
+    extents: &[Extent],
+)
     requires few { length extents.now ≤ 56 }
     requires room { at + (16 + 8 * length extents.now) ≤ length content.old }
     ensures spelling { content.new ≡ take at content.old ++ (1 ∷ little_bytes 4 inode ++ kind ∷ little_bytes 8 size ++ keep ∷ length extents.now ∷ flat_map extent_bytes extents.now) ++ drop (at + (16 + 8 * length extents.now)) content.old }

@@ -60,7 +60,9 @@ pub enum LogRecord {
         dentry: Dentry,
     },
     /// The inode is free.
-    Free { inode: u32 },
+    Free {
+        inode: u32,
+    },
 }
 
 /// A list of records, in their order.

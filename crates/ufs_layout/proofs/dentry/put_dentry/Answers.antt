@@ -17,6 +17,6 @@ returns c =
     record {
       spelling = are;
       read_back =
-        spelled-at dentry_fields dentry_bytes is_dentry c.args.value.now c.put-2.new.bytes are
-        (subst (λ (d : DentryForm). dentry_fields (dentry_bytes d) ≡ d) c.value.view_is (dentry-back seen (omega arith))) c.requires.form;
+          spelled-at dentry_fields dentry_bytes is_dentry c.args.value.now c.put-2.new.bytes are
+          (subst (λ (d : DentryForm). dentry_fields (dentry_bytes d) ≡ d) c.value.view_is (dentry-back seen (omega arith))) c.requires.form;
     }

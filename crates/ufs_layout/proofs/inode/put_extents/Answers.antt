@@ -22,7 +22,7 @@ loop-i-preserved c =
     let next = take_more c.args.extents.now c.loop-i.i _ c.loop-i-test.true in
     record {
       written =
-        more c.args.at c.loop-i.i c.args.sector.now c.loop-i.sector c.put_extent.new.sector c.args.extents.now _ c.loop-i-test.true (omega arith) c.loop-i.invariant.written c.put_extent.ensures.spelling
-        ∙ ap (λ es. take c.args.at c.args.sector.now ++ flat_map extent_bytes es ++ drop (c.args.at + 8 * (c.loop-i.i + 1)) c.args.sector.now) (sym next);
+          more c.args.at c.loop-i.i c.args.sector.now c.loop-i.sector c.put_extent.new.sector c.args.extents.now _ c.loop-i-test.true (omega arith) c.loop-i.invariant.written c.put_extent.ensures.spelling
+          ∙ ap (λ es. take c.args.at c.args.sector.now ++ flat_map extent_bytes es ++ drop (c.args.at + 8 * (c.loop-i.i + 1)) c.args.sector.now) (sym next);
       in_range = subst (AllByRecursion FitsExtent) (sym next) (AllByRecursion-push FitsExtent (take c.loop-i.i c.args.extents.now) _ c.loop-i.invariant.in_range c.put_extent.ensures.in_range);
     }

@@ -15,9 +15,9 @@ returns c =
     let seen : InodeForm = record { kind = c.value.inside.kind; extents = es; size = c.value.inside.size; number = c.value.inside.number } in
     let count : length es ≡ c.value.inside.count = count_of-take no_extent 56 c.value.inside.count c.value.inside.extents c.value.invariant in
     let laid = inode-laid c.put_head.new.head c.clear.new.bytes c.put_extents.new.sector es (ap length c.put_head.ensures) (c.clear.ensures ∙ ap (λ n. replicate n 0) c.requires.sized)
-      (subst (λ n. c.put_extents.new.sector ≡ take 64 (c.put_head.new.head ++ drop 64 c.clear.new.bytes) ++ flat_map extent_bytes (take n c.value.inside.extents) ++ drop (64 + 8 * length (take n c.value.inside.extents)) (c.put_head.new.head ++ drop 64 c.clear.new.bytes)) c.from.ensures c.put_extents.ensures.spelling) in
+    (subst (λ n. c.put_extents.new.sector ≡ take 64 (c.put_head.new.head ++ drop 64 c.clear.new.bytes) ++ flat_map extent_bytes (take n c.value.inside.extents) ++ drop (64 + 8 * length (take n c.value.inside.extents)) (c.put_head.new.head ++ drop 64 c.clear.new.bytes)) c.from.ensures c.put_extents.ensures.spelling) in
     let head : c.put_head.new.head ≡ filled_to 64 (c.value.inside.kind ∷ length es ∷ little_bytes 2 (links_of_kind c.value.inside.kind) ++ replicate 4 0 ++ little_bytes 8 c.value.inside.size ++ little_bytes 8 c.value.inside.number)
-      = c.put_head.ensures ∙ ap (λ n. filled_to 64 (c.value.inside.kind ∷ n ∷ little_bytes 2 (links_of_kind c.value.inside.kind) ++ replicate 4 0 ++ little_bytes 8 c.value.inside.size ++ little_bytes 8 c.value.inside.number)) (sym count) in
+    = c.put_head.ensures ∙ ap (λ n. filled_to 64 (c.value.inside.kind ∷ n ∷ little_bytes 2 (links_of_kind c.value.inside.kind) ++ replicate 4 0 ++ little_bytes 8 c.value.inside.size ++ little_bytes 8 c.value.inside.number)) (sym count) in
     let are_seen : c.put_extents.new.sector ≡ inode_bytes seen = laid ∙ ap (λ h. h ++ filled_to 448 (flat_map extent_bytes es)) head in
     let are : c.put_extents.new.sector ≡ inode_bytes c.args.value.now = are_seen ∙ ap inode_bytes c.value.view_is in
     let in_range : AllByRecursion FitsExtent es = subst (λ n. AllByRecursion FitsExtent (take n c.value.inside.extents)) c.from.ensures c.put_extents.ensures.in_range in

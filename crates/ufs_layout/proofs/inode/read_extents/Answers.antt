@@ -15,8 +15,8 @@ loop-i-preserved c =
     let more : extents_at (c.loop-i.i + 1) c.args.area.now ≡ _ = ap (λ n. extents_at n c.args.area.now) (add-one c.loop-i.i) ∙ extents_at-suc c.loop-i.i c.args.area.now in
     record {
       taken =
-        ap (λ es. set es c.loop-i.i c.extent_at-extent.result) c.loop-i.invariant.taken
-        ∙ padded-push no_extent 56 c.loop-i.i (extents_at c.loop-i.i c.args.area.now) c.extent_at-extent.result (length-extents_at c.loop-i.i c.args.area.now) (omega arith)
-        ∙ ap (padded no_extent 56) (ap (λ e. extents_at c.loop-i.i c.args.area.now ++ e ∷ []) c.extent_at-extent.ensures ∙ sym more);
+          ap (λ es. set es c.loop-i.i c.extent_at-extent.result) c.loop-i.invariant.taken
+          ∙ padded-push no_extent 56 c.loop-i.i (extents_at c.loop-i.i c.args.area.now) c.extent_at-extent.result (length-extents_at c.loop-i.i c.args.area.now) (omega arith)
+          ∙ ap (padded no_extent 56) (ap (λ e. extents_at c.loop-i.i c.args.area.now ++ e ∷ []) c.extent_at-extent.ensures ∙ sym more);
       used = ap (list_all is_extent) more ∙ list_all-push is_extent (extents_at c.loop-i.i c.args.area.now) _ c.loop-i.invariant.used (ap is_extent (sym c.extent_at-extent.ensures) ∙ grind arith);
     }

@@ -17,15 +17,15 @@ put_record-at-requires-clause-room c =
 pub loop-record-preserved : goal.loop-record-preserved
 loop-record-preserved c =
     let next = take_more c.args.records.now c.loop-record.record-index c.record-item.result c.loop-record-test.true
-      ∙ ap (λ r. take c.loop-record.record-index c.args.records.now ++ r ∷ []) (sym c.record-item.is) in
+    ∙ ap (λ r. take c.loop-record.record-index c.args.records.now ++ r ∷ []) (sym c.record-item.is) in
     record {
       place =
-        c.put_record-at.ensures.end ∙ ap (λ n. n + length (record_bytes c.record-item.result)) c.loop-record.invariant.place
-        ∙ sym (length-more (take c.loop-record.record-index c.args.records.now) c.record-item.result) ∙ ap (λ rs. length (records_bytes rs)) (sym next);
+          c.put_record-at.ensures.end ∙ ap (λ n. n + length (record_bytes c.record-item.result)) c.loop-record.invariant.place
+          ∙ sym (length-more (take c.loop-record.record-index c.args.records.now) c.record-item.result) ∙ ap (λ rs. length (records_bytes rs)) (sym next);
       written =
-        next-record c.loop-record.at c.args.content.now c.loop-record.content c.put_record-at.new.content (take c.loop-record.record-index c.args.records.now) c.record-item.result
-        c.loop-record.invariant.place c.loop-record.invariant.written c.put_record-at.ensures.spelling
-        ∙ (λ i. records_bytes (sym next i) ++ drop (sym c.put_record-at.ensures.end i) c.args.content.now);
+          next-record c.loop-record.at c.args.content.now c.loop-record.content c.put_record-at.new.content (take c.loop-record.record-index c.args.records.now) c.record-item.result
+          c.loop-record.invariant.place c.loop-record.invariant.written c.put_record-at.ensures.spelling
+          ∙ (λ i. records_bytes (sym next i) ++ drop (sym c.put_record-at.ensures.end i) c.args.content.now);
       in_range = subst (AllByRecursion FitsRecord) (sym next) (AllByRecursion-push FitsRecord (take c.loop-record.record-index c.args.records.now) c.record-item.result c.loop-record.invariant.in_range c.put_record-at.ensures.in_range);
     }
 

@@ -7,8 +7,8 @@ use Rattle.ufs_layout.proofs.superblock.get_super.Goals as goal
 pub returns : goal.returns
 returns c =
     let value : c.found.result ≡ super_of 1 c.args.sector.now =
-      spelled-decoded super_fields super_bytes (is_super 1) c.args.sector.now c.fields-value.result c.is_form.result c.is_spelled.result c.found.result
-      c.fields-value.ensures c.is_form.ensures (c.is_spelled.ensures ∙ sym (super-compared c.args.sector.now c.requires (search rules))) c.found.ensures in
+    spelled-decoded super_fields super_bytes (is_super 1) c.args.sector.now c.fields-value.result c.is_form.result c.is_spelled.result c.found.result
+    c.fields-value.ensures c.is_form.ensures (c.is_spelled.ensures ∙ sym (super-compared c.args.sector.now c.requires (search rules))) c.found.ensures in
     record {
       value = value;
       spelling = decoded-spelling super_fields super_bytes (is_super 1) c.args.sector.now c.found.result value;

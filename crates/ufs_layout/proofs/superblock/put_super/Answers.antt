@@ -11,6 +11,6 @@ returns c =
     record {
       spelling = are;
       read_back =
-        spelled-at super_fields super_bytes (is_super 1) c.args.value.now c.lay.new.sector are
-        (super-back c.args.value.now (record { version = omega arith; blocks = omega arith; inodes = omega arith; journal = omega arith; epoch = omega arith; next = omega arith })) c.requires.form;
+          spelled-at super_fields super_bytes (is_super 1) c.args.value.now c.lay.new.sector are
+          (super-back c.args.value.now (record { version = omega arith; blocks = omega arith; inodes = omega arith; journal = omega arith; epoch = omega arith; next = omega arith })) c.requires.form;
     }
