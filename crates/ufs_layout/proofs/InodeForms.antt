@@ -1,16 +1,15 @@
 -- Inodes: read back, and compared with their bytes.
-use Rattle.std.proofs.Common.{ℕ, suc, ◌≡◌, ◌+◌, ◌-◌, ◌*◌, ◌<◌, ◌≤◌, ◌^◌, List, [], ◌∷◌, ◌++◌, length, take, drop, replicate, Bool, true, false, Option, Some, None, ◌&&◌, ◌||◌, refl, sym, ap, ◌∙◌, subst, arith}
+use Rattle.std.proofs.Common.{ℕ, ◌≡◌, ◌+◌, ◌-◌, ◌*◌, ◌<◌, ◌≤◌, ◌^◌, List, ◌∷◌, ◌++◌, length, take, drop, replicate, Bool, true, false, Option, None, ◌&&◌, ◌||◌, refl, sym, ap, ◌∙◌, arith}
 use Rattle.std.specs.Prelude.{◌==◌, nat_le, not, if◌then◌else◌}
 use Rattle.std.specs.List.{list_all, flat_map, AllByRecursion}
 use Rattle.std.specs.Str.{bytes_eq}
 use Rattle.std.proofs.lemmas.Bool.Decides.{nat_tests}
-use Rattle.std.proofs.lemmas.List.{drop-drop, drop_at, take_at, drop-replicate, append_assoc, length-append, length-drop}
+use Rattle.std.proofs.lemmas.List.{drop-drop, drop_at, take_at, drop-replicate, append_assoc, length-drop}
 use Rattle.byteorder.specs.Endian.{little_bytes}
 use Rattle.ufs_layout.specs.Words.{number_at, byte_at, padded, filled_to, is_zeros, some_if, IsBytes}
 use Rattle.ufs_layout.specs.InodeForm.{InodeForm, inode_bytes, inode_fields, inode_of, is_inode, links_of_kind, extent_bytes, extents_at, is_extent, no_extent, FitsExtent}
 use Rattle.ufs_layout.specs.declared.inode.Extent.{Extent}
 use Rattle.ufs_layout.proofs.Compared.{IsBytes-drop, number-back, number-there, number-compared, byte-there, zero_run-compared}
-use Rattle.ufs_layout.proofs.Spelled.{spelled-spelling}
 use Rattle.ufs_layout.proofs.Extents.{length-extents, length-extents_at, extents-back, extents-compared, take-padded}
 
 -- what the types of the fields give

@@ -1,26 +1,26 @@
 -- A new image stands for the root alone, and nothing in it is damaged.
-use Rattle.std.proofs.Common.{ℕ, zero, suc, ◌≡◌, ◌+◌, ◌-◌, ◌*◌, ◌/◌, ◌%◌, ◌^◌, ◌<◌, ◌≤◌, ◌⊎◌, inl, inr, List, [], ◌∷◌, ◌++◌, Bool, true, false, Option, Some, None, ◌&&◌, ◌||◌, length, take, refl, sym, ap, ◌∙◌, subst, arith}
-use Rattle.std.specs.Prelude.{◌==◌, nat_lt, nat_le, not, if◌then◌else◌, IsTrue, filter, map, flat_map, Ok, Result, MatchResult}
-use Rattle.std.specs.List.{range_with_len, find, filter_map, list_all, list_any, cons_option}
+use Rattle.std.proofs.Common.{ℕ, zero, suc, ◌≡◌, ◌+◌, ◌-◌, ◌*◌, ◌/◌, ◌%◌, ◌^◌, ◌<◌, ◌≤◌, List, [], ◌∷◌, ◌++◌, Bool, true, false, Option, Some, None, ◌&&◌, ◌||◌, take, refl, sym, ap, ◌∙◌, subst, arith}
+use Rattle.std.specs.Prelude.{◌==◌, nat_lt, not, if◌then◌else◌, map, flat_map, Ok, MatchResult}
+use Rattle.std.specs.List.{range_with_len, filter_map, list_any, cons_option}
 use Rattle.std.specs.FinMap.{from_entries}
 use Rattle.std.proofs.lemmas.Bool.Decides.{nat_tests}
 use Rattle.std.specs.Prelude.{is_none, option_map, unwrap_or}
 use Rattle.std.specs.Str.{bytes_eq}
 use Rattle.ufs_layout.specs.Words.{byte_at, some_if, first_of, refused_if}
-use Rattle.ufs_layout.specs.Areas.{IsGeometry, geometry_refusal, refusal_number, first_of_data, bitmap_blocks, sector_of_inode, first_of_journal, journal_sectors, all_inodes, sector_count}
+use Rattle.ufs_layout.specs.Areas.{IsGeometry, geometry_refusal, refusal_number, first_of_data, bitmap_blocks, sector_of_inode, first_of_journal, sector_count}
 use Rattle.ufs_layout.specs.Superblock.{magic, super_bytes, super_fields, super_of, is_super, geometry_of}
-use Rattle.ufs_layout.specs.InodeForm.{InodeForm, inode_bytes, inode_of, is_inode, inode_fields, is_used, free_inode}
+use Rattle.ufs_layout.specs.InodeForm.{InodeForm, inode_bytes, is_inode, inode_fields, is_used, free_inode}
 use Rattle.ufs_layout.specs.Images.{Image, inode_at, form_at}
 use Rattle.ufs_layout.specs.JournalSector.{journal_of}
 use Rattle.ufs_layout.specs.Fold.{folded}
 use Rattle.ufs_layout.specs.Journal.{ReadSector, epoch_in, sectors_of_epoch, well_spelled, transactions, committed_of, committed}
 use Rattle.ufs_layout.specs.BadSectors.{first_bad, bad_sector}
 use Rattle.ufs_layout.specs.Nodes.{is_bad_form, is_bad_inode, is_bad_extent, leaves_data, sound_node, sound_nodes, is_taken, dirs_of}
-use Rattle.ufs_layout.specs.Damage.{Damage, BadInode, BadExtent, TwoNames, BitmapDiffers, shared_block, has_two_names, same_bool, is_marked, differing, all_bits, damage, tree_damage, node_damage, inode_damage, bitmap_damage, bad_tree, lowest_blamed}
+use Rattle.ufs_layout.specs.Damage.{BadInode, BadExtent, TwoNames, BitmapDiffers, shared_block, has_two_names, same_bool, is_marked, differing, all_bits, damage, tree_damage, node_damage, inode_damage, bad_tree, lowest_blamed}
 use Rattle.ufs_layout.specs.Volume.{Refusal, NoSuperblock, BadVersion, BadGeometry, lacks_magic, has_other_version, is_off_form, bad_geometry, is_too_small, Volume, head_of, head_refusal, by_head, by_journal, volume, volume_of}
 use Rattle.ufs_layout.specs.Opens.{entry_and_below, names_in, below, walked, by_damage, entries_of, tree_of, damage_in, opens, root_entry, root_tree, damage_list}
-use Rattle.ufs_layout.specs.Proper.{IsProperImage, IsProperVolume, IsProperClean}
-use Rattle.ufs_layout.specs.Formatted.{IsFormatted, new_super, new_root, empty_sector, bitmap_below}
+use Rattle.ufs_layout.specs.Proper.{IsProperImage, IsProperVolume}
+use Rattle.ufs_layout.specs.Formatted.{IsFormatted, new_super, new_root}
 use Rattle.ufs_layout.specs.declared.geometry.Geometry.{Geometry}
 use Rattle.ufs_layout.specs.declared.superblock.Super.{Super}
 use Rattle.ufs_layout.proofs.Spelled.{spelled-at}

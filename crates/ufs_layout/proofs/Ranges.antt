@@ -1,6 +1,6 @@
 -- Tests over a range of numbers that none, or the first alone, passes.
-use Rattle.std.proofs.Common.{ℕ, zero, suc, ◌≡◌, ◌+◌, ◌<◌, ◌≤◌, List, [], ◌∷◌, Bool, true, false, Option, Some, None, refl, ap, ◌∙◌, arith}
-use Rattle.std.specs.Prelude.{◌&&◌, IsTrue, filter}
+use Rattle.std.proofs.Common.{ℕ, zero, suc, ◌≡◌, ◌+◌, ◌<◌, ◌≤◌, [], Bool, true, false, Option, None, refl, ap, ◌∙◌, arith}
+use Rattle.std.specs.Prelude.{IsTrue, filter}
 use Rattle.std.specs.List.{range_with_len, find, filter_map, list_all}
 use Rattle.ufs_layout.proofs.Spelled.{both}
 

@@ -1,20 +1,17 @@
 -- Records are read back from their spelling, and a content is read record by record.
-use Rattle.std.proofs.Common.{ℕ, zero, suc, ◌≡◌, ◌+◌, ◌-◌, ◌*◌, ◌<◌, ◌≤◌, ◌^◌, List, [], ◌∷◌, ◌++◌, length, take, drop, replicate, Bool, true, false, Option, Some, None, ◌&&◌, refl, sym, ap, ◌∙◌, subst, arith}
-use Rattle.std.specs.Prelude.{flat_map, option_map, IsTrue}
+use Rattle.std.proofs.Common.{ℕ, zero, suc, ◌≡◌, ◌+◌, ◌*◌, ◌<◌, ◌≤◌, ◌^◌, List, [], ◌∷◌, ◌++◌, length, drop, Some, refl, ap, ◌∙◌, arith}
+use Rattle.std.specs.Prelude.{IsTrue}
 use Rattle.std.specs.List.{list_all, AllByRecursion}
-use Rattle.std.specs.Str.{bytes_eq}
-use Rattle.std.proofs.Math.Seq.{take-append_seam}
-use Rattle.std.proofs.lemmas.List.{drop_at, take_at, length-append, length-drop}
-use Rattle.ufs_layout.specs.Words.{some_if}
-use Rattle.ufs_layout.specs.InodeForm.{extent_bytes, FitsExtent}
+use Rattle.std.proofs.lemmas.List.{drop_at, take_at, length-append}
+use Rattle.ufs_layout.specs.InodeForm.{FitsExtent}
 use Rattle.ufs_layout.specs.DentryForm.{DentryForm, dentry_bytes, dentry_fields}
-use Rattle.ufs_layout.specs.Records.{FitsRecord, record_bytes, records_bytes, first_record, and_more, record_fields, is_record, records_of, leading_record}
+use Rattle.ufs_layout.specs.Records.{FitsRecord, record_bytes, records_bytes, first_record, and_more, record_fields, is_record, records_of}
 use Rattle.ufs_layout.specs.declared.inode.Extent.{Extent}
 use Rattle.ufs_layout.specs.declared.records.LogRecord.{LogRecord}
 use Rattle.ufs_layout.specs.declared.records.LogRecord.TheVariants.{Delta, Place, Free}
-use Rattle.ufs_layout.proofs.Compared.{number-back, bytes_eq-append}
+use Rattle.ufs_layout.proofs.Compared.{number-back}
 use Rattle.ufs_layout.proofs.Spelled.{spelled-spelling}
-use Rattle.ufs_layout.proofs.Extents.{extents-back, length-extents}
+use Rattle.ufs_layout.proofs.Extents.{extents-back}
 use Rattle.ufs_layout.proofs.DentryForms.{dentry-back}
 use Rattle.ufs_layout.proofs.RecordForms.{length-delta, length-dentry, length-place}
 

@@ -1,6 +1,6 @@
 -- Spellings of the image with 256 blocks, 32 inodes and 64 journal sectors, computed.
 use Rattle.std.proofs.Common.{◌≡◌, [], ◌∷◌, ◌++◌, Some, None, refl}
-use Rattle.std.specs.Prelude.{replicate, codes, true}
+use Rattle.std.specs.Prelude.{replicate, codes}
 use Rattle.ufs_layout.specs.Areas.{first_of_data, sector_of_inode}
 use Rattle.ufs_layout.specs.Superblock.{super_bytes, super_of}
 use Rattle.ufs_layout.specs.DentryForm.{dentry_of, free_slot}

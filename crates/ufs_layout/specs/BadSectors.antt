@@ -1,5 +1,5 @@
 -- Why a sector of the journal is off, each reason by its name, and the lowest such sector.
-use Rattle.std.specs.Prelude.{ℕ, List, [], ◌∷◌, ◌++◌, length, Bool, false, ◌==◌, ◌&&◌, ◌||◌, not, nat_lt, if◌then◌else◌, Option, Some, None, is_none, is_some}
+use Rattle.std.specs.Prelude.{ℕ, List, [], ◌∷◌, ◌++◌, length, Bool, false, ◌==◌, ◌&&◌, ◌||◌, not, nat_lt, if◌then◌else◌, Option, Some, None, is_none}
 use Rattle.std.specs.List.{list_any, find, range_with_len}
 use Rattle.ufs_layout.specs.Areas.{journal_sectors}
 use Rattle.ufs_layout.specs.Images.{Image, form_at}

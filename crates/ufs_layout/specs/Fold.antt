@@ -1,5 +1,5 @@
 -- The committed records, folded over the sectors of an image.
-use Rattle.std.specs.Prelude.{ℕ, List, [], ◌∷◌, ◌++◌, length, take, Bool, false, ◌&&◌, nat_lt, if◌then◌else◌}
+use Rattle.std.specs.Prelude.{ℕ, List, [], ◌∷◌, ◌++◌, take, Bool, nat_lt, if◌then◌else◌}
 use Rattle.ufs_layout.specs.Areas.{sector_of_inode, is_inode_number, is_data_sector}
 use Rattle.ufs_layout.specs.InodeForm.{InodeForm, inode_bytes, free_inode}
 use Rattle.ufs_layout.specs.declared.inode.Extent.{Extent}

@@ -1,5 +1,5 @@
 -- The one spelling of the head of a journal sector.
-use Rattle.std.specs.Prelude.{ℕ, List, [], ◌∷◌, ◌++◌, Bool, ◌&&◌, nat_le, Option}
+use Rattle.std.specs.Prelude.{ℕ, List, ◌∷◌, ◌++◌, Bool, ◌&&◌, nat_le, Option}
 use Rattle.ufs_layout.specs.Words.{number_at, byte_at, filled_to, spelled}
 use Rattle.byteorder.specs.Endian.{little_bytes}
 use Rattle.ufs_layout.specs.declared.header.Header.{Header}

@@ -1,5 +1,5 @@
 -- The inodes of an image that can be read, their blocks, and the names in their directories.
-use Rattle.std.specs.Prelude.{ℕ, ◌+◌, ◌*◌, List, map, filter, filter_map, flat_map, length, Bool, true, ◌==◌, ◌&&◌, not, nat_lt, nat_le, if◌then◌else◌, Option, Some, None}
+use Rattle.std.specs.Prelude.{ℕ, ◌+◌, List, map, filter, filter_map, flat_map, Bool, true, ◌==◌, ◌&&◌, not, nat_lt, nat_le, if◌then◌else◌, Option, Some, None}
 use Rattle.std.specs.List.{list_any, range_with_len, enumerate_from}
 use Rattle.ufs_layout.specs.Words.{pieces, some_if}
 use Rattle.ufs_layout.specs.Areas.{all_inodes, first_of_data, sectors_of_block, is_inode_number}

@@ -1,5 +1,5 @@
 -- A padded list is given back by its front.
-use Rattle.std.specs.Prelude.{ℕ, ◌≡◌, ◌-◌, List, ◌++◌, length, take, drop, replicate}
+use Rattle.std.specs.Prelude.{ℕ, ◌≡◌, ◌-◌, List, ◌++◌, take, replicate}
 use Rattle.std.proofs.Common.{arith, ◌∙◌, sym, ap}
 use Rattle.std.proofs.lemmas.List.{length-take-le, take-append-drop}
 use Rattle.ufs_layout.specs.Words.{padded, IsPadded, count_of}

@@ -10,7 +10,6 @@ use Rattle.ufs_layout.specs.BadSectors.{bad_sector}
 use Rattle.ufs_layout.specs.Fold.{folded}
 use Rattle.ufs_layout.specs.Damage.{Damage, damage}
 use Rattle.ufs_layout.specs.declared.geometry.Geometry.{Geometry}
-use Rattle.ufs_layout.specs.declared.geometry.BadGeometry.{BadGeometry as Bad}
 use Rattle.ufs_layout.specs.declared.superblock.Super.{Super}
 
 -- why an image stands for no tree

@@ -1,8 +1,8 @@
 -- Words of all forms: numbers and zeros among bytes, the value that bytes spell, the first refusal.
-use Rattle.std.specs.Prelude.{ℕ, zero, suc, ◌+◌, ◌-◌, ◌<◌, ◌≤◌, List, [], ◌∷◌, ◌++◌, length, take, drop, replicate, slice_index, Bool, ◌==◌, nat_le, if◌then◌else◌, Option, Some, None, ◌&&◌, ◌≡◌}
+use Rattle.std.specs.Prelude.{ℕ, zero, suc, ◌-◌, ◌<◌, ◌≤◌, List, [], ◌∷◌, ◌++◌, length, take, drop, replicate, slice_index, Bool, ◌==◌, nat_le, if◌then◌else◌, Option, Some, None, ◌&&◌, ◌≡◌}
 use Rattle.std.specs.List.{list_all}
 use Rattle.std.specs.Str.{bytes_eq}
-use Rattle.byteorder.specs.Endian.{little_bytes, little_number}
+use Rattle.byteorder.specs.Endian.{little_number}
 
 -- the little-endian number of so many bytes that stands at this place
 abbrev pub number_at : ℕ → ℕ → List ℕ → ℕ

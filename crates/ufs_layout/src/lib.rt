@@ -22,4 +22,4 @@ pub use laws::{empty_fold_law, new_image_law};
 pub use record_codec::{count_fitting, put_records, record_length};
 pub use record_decode::get_records;
 pub use records::{Committed, CommittedList, ExtentList, LogRecord, Records};
-pub use superblock::{Super, get_super, put_super};
+pub use superblock::{Super, get_super, put_super, super_version};

@@ -11,11 +11,11 @@ use crate::inode::put_extents;
 use crate::{Dentry, Extent, LogRecord, put_dentry};
 
 /// The number of bytes of a record's spelling.
-pub fn record_length(record: &LogRecord) -> usize
-    requires { IsTrue (is_record record.now) }
-    ensures { result ≡ length (record_bytes record.now) }
+pub fn record_length(value: &LogRecord) -> usize
+    requires { IsTrue (is_record value.now) }
+    ensures { result ≡ length (record_bytes value.now) }
 {
-    match record {
+    match value {
         LogRecord::Delta { extents, .. } => 16 + 8 * extents.as_slice().len(),
         LogRecord::Place { .. } => 70,
         LogRecord::Free { .. } => 5,
@@ -88,15 +88,15 @@ fn put_free(content: &mut [u8], at: usize, inode: u32)
 }
 
 // Writes a record's spelling from this place on, and gives the place behind it.
-fn put_record(content: &mut [u8], at: usize, record: &LogRecord) -> usize
-    requires form { IsTrue (is_record record.now) }
-    requires room { at + length (record_bytes record.now) ≤ length content.old }
-    ensures spelling { content.new ≡ take at content.old ++ record_bytes record.now ++ drop (at + length (record_bytes record.now)) content.old }
-    ensures end { result ≡ at + length (record_bytes record.now) }
-    ensures in_range { FitsRecord record.now }
+fn put_record(content: &mut [u8], at: usize, value: &LogRecord) -> usize
+    requires form { IsTrue (is_record value.now) }
+    requires room { at + length (record_bytes value.now) ≤ length content.old }
+    ensures spelling { content.new ≡ take at content.old ++ record_bytes value.now ++ drop (at + length (record_bytes value.now)) content.old }
+    ensures end { result ≡ at + length (record_bytes value.now) }
+    ensures in_range { FitsRecord value.now }
 {
-    let length = record_length(record);
-    match record {
+    let length = record_length(value);
+    match value {
         LogRecord::Delta {
             inode,
             kind,

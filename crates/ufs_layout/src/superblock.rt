@@ -1,7 +1,7 @@
 // The superblock.
 ghost use Rattle.std.specs.Prelude.{◌≡◌, ◌≤◌, ◌++◌, ◌∷◌, [], length, IsTrue, IfSome, Some, take, drop, nat_le, ◌&&◌};
 ghost use Rattle.ufs_layout.specs.Superblock.{super_bytes, super_fields, super_of, is_super, clean_byte, magic};
-ghost use Rattle.ufs_layout.specs.Words.{byte_at, is_zeros, filled_to};
+ghost use Rattle.ufs_layout.specs.Words.{byte_at, is_zeros, filled_to, some_if};
 ghost use Rattle.std.specs.Str.{bytes_eq};
 ghost use Rattle.byteorder.specs.Endian.{little_bytes};
 
@@ -106,6 +106,18 @@ fn has_magic(sector: &[u8]) -> bool
     ensures { result ≡ bytes_eq magic (take 8 sector.now) }
 {
     b"uFSIMG01".as_slice() == &sector[..8]
+}
+
+/// The version of a sector that begins with the 8 bytes of a superblock, be the rest what it may.
+pub fn super_version(sector: &[u8]) -> Option<u32>
+    requires { length sector.now ≡ 512 }
+    ensures { result ≡ some_if (bytes_eq magic (take 8 sector.now)) (super_fields sector.now).version }
+{
+    if has_magic(sector) {
+        Some(u32_at(sector, 8))
+    } else {
+        None
+    }
 }
 
 fn is_flag(byte: u8) -> bool

@@ -2,7 +2,7 @@
 use crate::{
     Committed, CommittedList, Dentry, Extent, ExtentList, Geometry, Header, Inode, LogRecord,
     Records, Super, count_fitting, get_dentry, get_header, get_inode, get_records, get_super,
-    put_dentry, put_header, put_inode, put_records, put_super,
+    put_dentry, put_header, put_inode, put_records, put_super, super_version,
 };
 use std::alloc::AllocError;
 
@@ -63,6 +63,7 @@ fn superblock_of_a_small_image(rt: HostRuntime) {
     assert!(rt; get_super(&sector) == Some(value));
     sector[511] = 1;
     assert!(rt; get_super(&sector).is_none());
+    assert!(rt; super_version(&sector) == Some(1));
 }
 
 #[test]

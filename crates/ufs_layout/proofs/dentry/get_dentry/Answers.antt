@@ -1,4 +1,4 @@
-use Rattle.std.proofs.Common.{rules, ◌≡◌, ◌+◌, ◌&&◌, take, drop, sym, ap, ◌∙◌, arith}
+use Rattle.std.proofs.Common.{rules, ◌≡◌, ◌+◌, ◌&&◌, take, drop, ap, ◌∙◌, arith}
 use Rattle.std.proofs.lemmas.List.{take_rest}
 use Rattle.ufs_layout.specs.Words.{byte_at, is_zeros, padded, some_if}
 use Rattle.ufs_layout.specs.DentryForm.{dentry_bytes, dentry_fields, dentry_of, is_dentry}

@@ -1,6 +1,5 @@
-use Rattle.std.proofs.Common.{◌≡◌, List, ◌∷◌, ◌++◌, length, take, sym, ap, ◌∙◌, subst, arith}
+use Rattle.std.proofs.Common.{◌≡◌, ◌∷◌, ◌++◌, take, sym, ap, ◌∙◌, subst, arith}
 use Rattle.byteorder.specs.Endian.{little_bytes}
-use Rattle.ufs_layout.specs.Words.{filled_to}
 use Rattle.ufs_layout.specs.Padded.{count_of-take, padded-take}
 use Rattle.ufs_layout.specs.DentryForm.{DentryForm, dentry_bytes, dentry_fields, is_dentry}
 use Rattle.ufs_layout.proofs.Spelled.{spelled-at}

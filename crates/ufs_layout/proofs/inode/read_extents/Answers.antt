@@ -1,7 +1,7 @@
-use Rattle.std.proofs.Common.{refl, ◌≡◌, ◌+◌, ◌*◌, suc, ap, sym, ◌∙◌, drop, set, [], ◌∷◌, ◌++◌, true, arith, add-one}
+use Rattle.std.proofs.Common.{refl, ◌≡◌, ◌+◌, ap, sym, ◌∙◌, set, [], ◌∷◌, ◌++◌, arith, add-one}
 use Rattle.std.specs.List.{list_all}
-use Rattle.ufs_layout.specs.Words.{padded, some_if}
-use Rattle.ufs_layout.specs.InodeForm.{extents_at, extent_fields, is_extent, no_extent}
+use Rattle.ufs_layout.specs.Words.{padded}
+use Rattle.ufs_layout.specs.InodeForm.{extents_at, is_extent, no_extent}
 use Rattle.ufs_layout.proofs.Extents.{length-extents_at, extents_at-suc, list_all-push, no_block_at, padded-push}
 use Rattle.ufs_layout.proofs.inode.read_extents.Goals as goal
 

@@ -1,4 +1,4 @@
-use Rattle.std.proofs.Common.{◌≡◌, ◌*◌, ◌++◌, take, drop, true}
+use Rattle.std.proofs.Common.{◌≡◌, true}
 use Rattle.std.specs.List.{list_all}
 use Rattle.ufs_layout.specs.Words.{padded}
 use Rattle.ufs_layout.specs.InodeForm.{extents_at, is_extent, no_extent}

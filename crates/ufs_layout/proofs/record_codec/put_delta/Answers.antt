@@ -1,4 +1,4 @@
-use Rattle.std.proofs.Common.{◌≡◌, ◌+◌, ◌*◌, ◌++◌, length, take, drop, flat_map, ap, ◌∙◌, arith}
+use Rattle.std.proofs.Common.{◌+◌, ◌*◌, ◌++◌, length, take, drop, flat_map, ap, ◌∙◌}
 use Rattle.ufs_layout.specs.InodeForm.{extent_bytes}
 use Rattle.ufs_layout.proofs.RecordForms.{two-pieces}
 use Rattle.ufs_layout.proofs.record_codec.put_delta.Goals as goal

@@ -1,6 +1,4 @@
-use Rattle.std.proofs.Common.{◌≡◌, ◌+◌, List, ◌∷◌, ◌++◌, length, take, drop, ap, ◌∙◌, arith}
-use Rattle.byteorder.specs.Endian.{little_bytes}
-use Rattle.ufs_layout.specs.Padded.{count_of-take}
+use Rattle.std.proofs.Common.{◌≡◌, ◌+◌, ◌++◌, length, take, drop, ap, ◌∙◌, arith}
 use Rattle.ufs_layout.proofs.RecordForms.{two-pieces}
 use Rattle.ufs_layout.proofs.record_codec.put_place.Goals as goal
 

@@ -1,4 +1,4 @@
-use Rattle.std.proofs.Common.{◌≡◌, ◌+◌, ◌*◌, length, sym, ap, ◌∙◌}
+use Rattle.std.proofs.Common.{◌+◌, ◌*◌, length, sym, ap, ◌∙◌}
 use Rattle.ufs_layout.specs.Records.{record_bytes}
 use Rattle.ufs_layout.proofs.RecordForms.{length-delta}
 use Rattle.ufs_layout.proofs.record_codec.record_length.Goals as goal

@@ -1,4 +1,4 @@
-use Rattle.std.proofs.Common.{◌≡◌, ◌+◌, [], ◌∷◌, ◌++◌, ap, sym, ◌∙◌, refl, arith, add-one}
+use Rattle.std.proofs.Common.{◌≡◌, ◌+◌, [], ◌∷◌, ◌++◌, ap, sym, ◌∙◌, arith, add-one}
 use Rattle.std.specs.List.{list_all}
 use Rattle.ufs_layout.specs.Words.{some_if}
 use Rattle.ufs_layout.specs.InodeForm.{extents_at, is_extent}

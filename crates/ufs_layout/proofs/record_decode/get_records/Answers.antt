@@ -1,9 +1,8 @@
-use Rattle.std.proofs.Common.{◌≡◌, ◌+◌, ◌≤◌, ◌∷◌, [], ◌++◌, List, Some, None, length, drop, sym, ap, ◌∙◌, arith}
+use Rattle.std.proofs.Common.{◌≡◌, ◌+◌, ◌++◌, Some, None, length, drop, sym, ap, ◌∙◌, arith}
 use Rattle.std.specs.Prelude.{option_map}
 use Rattle.std.specs.List.{list_all}
 use Rattle.std.proofs.lemmas.List.{take_rest, drop-drop, length-append, length-drop}
 use Rattle.ufs_layout.specs.Records.{leading_record, records_of, records_bytes, record_bytes, record_fields, is_record}
-use Rattle.ufs_layout.specs.declared.records.LogRecord.{LogRecord}
 use Rattle.ufs_layout.proofs.Spelled.{spelled-some}
 use Rattle.ufs_layout.proofs.RecordList.{records-cons, records-none, read-on, read-all}
 use Rattle.ufs_layout.proofs.record_decode.get_records.Goals as goal

@@ -1,11 +1,11 @@
-use Rattle.std.proofs.Common.{rules, ◌≡◌, ◌+◌, Some, true, false, ◌&&◌, sym, ap, ◌∙◌, arith}
+use Rattle.std.proofs.Common.{rules, ◌≡◌, Some, sym, ◌∙◌, arith}
 use Rattle.std.specs.List.{list_all}
 use Rattle.std.proofs.lemmas.List.{take_rest}
-use Rattle.ufs_layout.specs.Words.{number_at, byte_at, some_if}
+use Rattle.ufs_layout.specs.Words.{byte_at, some_if}
 use Rattle.ufs_layout.specs.InodeForm.{extents_at, is_extent}
 use Rattle.ufs_layout.specs.declared.records.LogRecord.TheVariants.{Delta}
 use Rattle.ufs_layout.proofs.Spelled.{some_if-some, some_if-none}
-use Rattle.ufs_layout.proofs.Leading.{extents_of, is_delta, delta-short, delta-off, delta-no_block, delta-long}
+use Rattle.ufs_layout.proofs.Leading.{extents_of, delta-short, delta-off, delta-no_block, delta-long}
 use Rattle.ufs_layout.proofs.record_decode.read_delta.Goals as goal
 
 pub returns-then-rest-lt16 : goal.returns-then-rest-lt16

@@ -1,4 +1,4 @@
-use Rattle.std.proofs.Common.{rules, Some, ◌≡◌, take, drop, sym, ap, ◌∙◌, arith}
+use Rattle.std.proofs.Common.{rules, Some, sym, ap, ◌∙◌, arith}
 use Rattle.std.specs.Prelude.{option_map}
 use Rattle.ufs_layout.specs.Words.{number_at, byte_at}
 use Rattle.ufs_layout.specs.declared.records.LogRecord.TheVariants.{Place}

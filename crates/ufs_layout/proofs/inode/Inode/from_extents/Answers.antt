@@ -1,4 +1,4 @@
-use Rattle.std.proofs.Common.{◌≡◌, ◌++◌, length, drop, replicate, refl, sym, ap, subst, ◌∙◌}
+use Rattle.std.proofs.Common.{◌≡◌, ◌++◌, length, drop, replicate, refl, sym, subst}
 use Rattle.std.proofs.lemmas.List.{drop-replicate}
 use Rattle.ufs_layout.specs.Words.{IsPadded, padded}
 use Rattle.ufs_layout.specs.InodeForm.{no_extent}
