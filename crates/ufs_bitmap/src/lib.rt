@@ -1,0 +1,13 @@
+//! Which blocks are free: of the whole data area, and of one server's pool.
+#![tactic(auto)]
+
+mod free_space;
+mod own_pool;
+mod word_set;
+
+pub use free_space::Bitmap;
+pub use own_pool::Pool;
+pub use ufs_extent::Memory;
+
+#[cfg(test)]
+mod tests;

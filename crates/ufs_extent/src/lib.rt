@@ -1,0 +1,60 @@
+//! Runs of blocks: where the blocks of a file or a directory lie, in order.
+#![tactic(auto)]
+
+ghost use Rattle.std.specs.Prelude.{◌↔◌, IsTrue};
+
+mod file_runs;
+mod run_list;
+
+pub use file_runs::Extents;
+pub use run_list::Runs;
+use std::alloc::{AllocError, AllocFailed};
+
+/// How many extents an inode has room for.
+pub const MAX_EXTENTS: usize = 56;
+
+/// The number above every block's.
+pub const MAX_BLOCKS: u32 = 65_536;
+
+/// Blocks in a row: `length` of them, from block `start` on. What takes a run asks that `length` is at least 1,
+/// and that `start` and `length` together are at most 65,536.
+#[derive(Clone, Copy, Debug, PartialEq, Eq)]
+pub struct Run {
+    pub start: u32,
+    pub length: u32,
+}
+
+impl Run {
+    ghost use Rattle.ufs_extent.specs.Runs.{IsRun};
+
+    /// Whether the run is one that calls take.
+    pub fn is_valid(&self) -> bool
+        ensures { IsTrue result ↔ IsRun self.now }
+    {
+        let Run { start, length } = *self;
+        length >= 1 && length <= MAX_BLOCKS && start <= MAX_BLOCKS - length
+    }
+}
+
+/// Memory ran out.
+#[derive(Clone, Copy, Debug, PartialEq, Eq)]
+pub struct Memory;
+
+impl From<AllocError> for Memory {
+    fn from(_error: AllocError) -> Memory {
+        Memory
+    }
+}
+
+impl<T: Drop> From<AllocFailed<T>> for Memory {
+    fn from(_error: AllocFailed<T>) -> Memory {
+        Memory
+    }
+}
+
+/// All 56 extents are used, and the run doesn't follow the last block.
+#[derive(Clone, Copy, Debug, PartialEq, Eq)]
+pub struct Full56;
+
+#[cfg(test)]
+mod tests;
