@@ -10,9 +10,10 @@ use Rattle.ufs_script.specs.Output.{output_of}
 use Rattle.ufs_script.specs.Reading.{ReadsScript}
 use Rattle.ufs_script.specs.declared.script.Script.{Script}
 use Rattle.ufs_top.specs.declared.ending.Ending.{Ending}
-use Rattle.ufs_top.specs.declared.ending.Ending.TheVariants.{Done, Usage, NotBuilt, OutOfMemory, SourceFault}
+use Rattle.ufs_top.specs.declared.ending.Ending.TheVariants.{Done, Usage, BadGeometry, NotBuilt, TooSmall, DeviceFault, OutOfMemory, SourceFault}
+use Rattle.ufs_top.specs.Texts.{memory_line}
 use Rattle.ufs_top.specs.Served.{IsHistoryOf}
-use Rattle.ufs_top.specs.Endings.{IsAnswer, IsLastLine, EndsPrinting, EndsServing, EndsPlay}
+use Rattle.ufs_top.specs.Endings.{IsAnswer, IsLine, EndsPrinting, EndsServing, EndsPlay}
 use Rattle.ufs_top.proofs.WriteLemmas.{appends_both, front_behind}
 
 -- what is allowed there is allowed here
@@ -27,8 +28,8 @@ answer_map E F old new before now status f a = record {
 
 -- the last line, after a front that was written
 pub answer_after : (wanted : Ending) (line front : List ℕ) (E : Ending → List ℕ → Type 0) (old mid new : Option (List ℕ)) (before between now status : ℕ)
-    → Appends old mid front → between ≡ before → ((text : List ℕ) → IsLastLine wanted wanted text → E wanted (front ++ text))
-    → IsAnswer (IsLastLine wanted) mid new between now status → IsAnswer E old new before now status
+    → Appends old mid front → between ≡ before → ((text : List ℕ) → IsLine wanted line wanted text → E wanted (front ++ text))
+    → IsAnswer (IsLine wanted line) mid new between now status → IsAnswer E old new before now status
 answer_after wanted line front E old mid new before between now status wrote same f a = record {
   whole = λ n.
       let w = a.whole n in
@@ -56,7 +57,10 @@ history_of script requests history is legal ordered complete = record {
 pub served_by : (script : Script) (history : List Entry) → length script.clients ≡ 1 → IsHistoryOf script history → (ending : Ending) (text : List ℕ) → EndsPrinting history ending text → EndsServing script ending text
 served_by script history one is Done text e = (history, is, e ∙ sym (ap (λ (n : ℕ). output_of n history) one))
 served_by script history one is Usage text e = absurd e
+served_by script history one is (BadGeometry bad) text e = absurd e
 served_by script history one is NotBuilt text e = absurd e
+served_by script history one is TooSmall text e = absurd e
+served_by script history one is DeviceFault text e = absurd e
 served_by script history one is OutOfMemory text e = (e.0, inr (history, is, (e.1.0, e.1.1 ∙ sym (ap (λ (n : ℕ). output_of n history) one))), e.2)
 served_by script history one is SourceFault text e = absurd e
 
@@ -64,11 +68,14 @@ served_by script history one is SourceFault text e = absurd e
 pub read_and_served : (old new : Option (List ℕ)) (before now : ℕ) (script : Script) → ReadsScript old new script → (ending : Ending) (text : List ℕ) → EndsServing script ending text → EndsPlay old new before now ending text
 read_and_served old new before now script read Done text e = (script, e.0, record { read = read; history_is = e.1 }, e.2)
 read_and_served old new before now script read Usage text e = absurd e
+read_and_served old new before now script read (BadGeometry bad) text e = absurd e
 read_and_served old new before now script read NotBuilt text e = absurd e
+read_and_served old new before now script read TooSmall text e = absurd e
+read_and_served old new before now script read DeviceFault text e = absurd e
 read_and_served old new before now script read OutOfMemory text e =
     (e.0, elim e.1 [ inl none ↦ inl none | inr some ↦ inr (script, some.0, record { read = read; history_is = some.1 }, some.2) ], e.2)
 read_and_served old new before now script read SourceFault text e = absurd e
 
 -- there was no memory before the first line
-pub no_memory : (old new : Option (List ℕ)) (before now : ℕ) (ending : Ending) (text : List ℕ) → IsLastLine OutOfMemory ending text → EndsPlay old new before now ending text
+pub no_memory : (old new : Option (List ℕ)) (before now : ℕ) (ending : Ending) (text : List ℕ) → IsLine OutOfMemory memory_line ending text → EndsPlay old new before now ending text
 no_memory old new before now ending text e = subst (λ (x : Ending). EndsPlay old new before now x text) (sym e.0) ([], inl refl, e.1)

@@ -4,3 +4,4 @@ pub mod WriteLemmas
 pub mod PrintLemmas
 pub mod AnswerLemmas
 pub mod OptionLemmas
+pub mod MkfsLemmas

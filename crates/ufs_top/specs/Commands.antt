@@ -1,6 +1,7 @@
 -- The command line: a command, its positional words, then options, each at most once.
-use Rattle.std.specs.Prelude.{ℕ, List, [], ◌∷◌, Bool, true, false, ◌&&◌, ◌||◌, not, nat_le, length, if◌then◌else◌, Option, Some, None, is_some, is_none, codes}
+use Rattle.std.specs.Prelude.{ℕ, List, [], ◌∷◌, Bool, true, false, ◌&&◌, ◌||◌, not, nat_le, length, if◌then◌else◌, Option, Some, None, ⊤, is_some, is_none, codes}
 use Rattle.std.specs.Str.{bytes_eq}
+use Rattle.ufs_layout.specs.declared.geometry.Geometry.{Geometry}
 use Rattle.ufs_script.specs.Words.{number_of, at_most}
 use Rattle.ufs_top.specs.declared.words.Options.{Options}
 use Rattle.ufs_top.specs.declared.words.Command.{Command}
@@ -95,6 +96,14 @@ command_of (name ∷ words) =
     else (if bytes_eq name (codes "play") then play_with (options_of words)
     else (if is_plain name then plain_with (options_of words)
     else (if bytes_eq name (codes "bench") then bench_of words else None)))
+
+-- formatting with these numbers
+abbrev pub mkfs_command : Geometry → Option Command
+mkfs_command g = Some (command.Mkfs g.blocks g.inodes g.journal)
+
+abbrev pub IsMkfs : Option Command → Type 0
+IsMkfs (Some (command.Mkfs blocks inodes journal)) = ⊤
+IsMkfs _ = ⊥
 
 -- ---- the image
 

@@ -23,7 +23,7 @@ status_of Usage = 1
 status_of (BadGeometry bad) = 1
 status_of NotBuilt = 2
 status_of TooSmall = 3
-status_of (DeviceFault number) = 4
+status_of DeviceFault = 4
 status_of OutOfMemory = 5
 status_of SourceFault = 6
 
@@ -31,16 +31,16 @@ status_of SourceFault = 6
 abbrev pub sink_status : ℕ
 sink_status = 7
 
--- the line that an ending writes last
-abbrev pub last_line_of : Ending → List ℕ
-last_line_of Done = []
-last_line_of Usage = usage_line
-last_line_of (BadGeometry bad) = bad_geometry_line bad
-last_line_of NotBuilt = not_built_line
-last_line_of TooSmall = too_small_line
-last_line_of (DeviceFault number) = device_line number
-last_line_of OutOfMemory = memory_line
-last_line_of SourceFault = source_line
+-- the line that an ending writes last, where it is always the same
+abbrev pub fixed_line_of : Ending → List ℕ
+fixed_line_of Done = []
+fixed_line_of Usage = usage_line
+fixed_line_of (BadGeometry bad) = bad_geometry_line bad
+fixed_line_of NotBuilt = not_built_line
+fixed_line_of TooSmall = too_small_line
+fixed_line_of DeviceFault = []
+fixed_line_of OutOfMemory = memory_line
+fixed_line_of SourceFault = source_line
 
 -- ---- what a script ends with
 
@@ -52,9 +52,9 @@ IsReplyFront old new front = (front ≡ []) ⊎ ((script : Script) × (history :
 abbrev pub IsLine : Ending → List ℕ → Ending → List ℕ → Type 0
 IsLine wanted line ending text = (ending ≡ wanted) × (text ≡ line)
 
--- the same, or there is no memory for the line
-abbrev pub IsLineOrMemory : Ending → List ℕ → Ending → List ℕ → Type 0
-IsLineOrMemory wanted line ending text = IsLine wanted line ending text ⊎ IsLine OutOfMemory memory_line ending text
+-- the number of a disk's fault, or there is no memory for its line
+abbrev pub IsDeviceLine : ℕ → Ending → List ℕ → Type 0
+IsDeviceLine fault ending text = IsLine DeviceFault (device_line fault) ending text ⊎ IsLine OutOfMemory memory_line ending text
 
 -- a history of one client is written whole, or memory runs out on the way
 abbrev pub EndsPrinting : List Entry → Ending → List ℕ → Type 0
@@ -84,31 +84,20 @@ abbrev pub EndsMkfs : Geometry → ℕ → ℕ → ℕ → Ending → List ℕ �
 EndsMkfs g sectors before now Done text = (geometry_refusal g ≡ None) × (sector_count g ≤ sectors) × (text ≡ made_line g)
 EndsMkfs g sectors before now (BadGeometry bad) text = (geometry_refusal g ≡ Some bad) × (text ≡ bad_geometry_line bad)
 EndsMkfs g sectors before now TooSmall text = (geometry_refusal g ≡ None) × (sectors < sector_count g) × (text ≡ too_small_line)
-EndsMkfs g sectors before now (DeviceFault number) text = RoseTo before now number × (text ≡ device_line number)
+EndsMkfs g sectors before now DeviceFault text = RoseTo before now now × (text ≡ device_line now)
 EndsMkfs g sectors before now OutOfMemory text = text ≡ memory_line
 EndsMkfs g sectors before now _ text = ⊥
 
 -- ---- what any words end with
 
--- what a call saw of the source and of the disk
-pub record Seen : Type 0 where
-  -- the bytes that the source had left, where it tells
-  pub left_before : Option (List ℕ)
-  pub left_after : Option (List ℕ)
-  -- the counts of faults
-  pub source_before : ℕ
-  pub source_after : ℕ
-  pub disk_before : ℕ
-  pub disk_after : ℕ
-  -- how many sectors the disk has
-  pub sectors : ℕ
-
--- What a call saw allows a command this ending with this text.
-abbrev pub Ends : Option Command → Seen → Ending → List ℕ → Type 0
-Ends None seen ending text = IsLine Usage usage_line ending text
-Ends (Some command.NotBuilt) seen ending text = IsLine NotBuilt not_built_line ending text
-Ends (Some command.Play) seen ending text = EndsPlay seen.left_before seen.left_after seen.source_before seen.source_after ending text
-Ends (Some (command.Mkfs blocks inodes journal)) seen ending text = EndsMkfs (record { blocks = blocks; inodes = inodes; journal = journal }) seen.sectors seen.disk_before seen.disk_after ending text
+-- What the source had left before and after, its counts of faults, how many sectors the disk has, and its counts of
+-- faults, allow a command this ending with this text.
+abbrev pub Ends : Option Command → Option (List ℕ) → Option (List ℕ) → ℕ → ℕ → ℕ → ℕ → ℕ → Ending → List ℕ → Type 0
+Ends None old new before now sectors disk_before disk_now ending text = IsLine Usage usage_line ending text
+Ends (Some command.NotBuilt) old new before now sectors disk_before disk_now ending text = IsLine NotBuilt not_built_line ending text
+Ends (Some command.Play) old new before now sectors disk_before disk_now ending text = EndsPlay old new before now ending text
+Ends (Some (command.Mkfs blocks inodes journal)) old new before now sectors disk_before disk_now ending text =
+    EndsMkfs (record { blocks = blocks; inodes = inodes; journal = journal }) sectors disk_before disk_now ending text
 
 -- A status, and what the sink got: the whole text of an ending that is allowed, or with the sink's fault a front of it.
 pub record IsAnswer (allowed : Ending → List ℕ → Type 0) (old new : Option (List ℕ)) (before now : ℕ) (status : ℕ) : Type 0 where

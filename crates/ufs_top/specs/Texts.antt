@@ -1,5 +1,5 @@
 -- The lines that a command writes besides replies.
-use Rattle.std.specs.Prelude.{ℕ, List, [], ◌∷◌, ◌++◌, ◌-◌, ◌≡◌, codes}
+use Rattle.std.specs.Prelude.{ℕ, List, [], ◌∷◌, ◌++◌, ◌+◌, ◌-◌, ◌≡◌, codes}
 use Rattle.std.specs.Fmt.{decimal}
 use Rattle.ufs_layout.specs.Areas.{first_of_data, refusal_number}
 use Rattle.ufs_layout.specs.declared.geometry.Geometry.{Geometry}
@@ -11,8 +11,9 @@ line text = text ++ 10 ∷ []
 abbrev pub usage_line : List ℕ
 usage_line = line (codes "usage: ufs COMMAND [WORDS]")
 
+-- one of four digits, the first of which is 1
 abbrev pub bad_geometry_line : BadGeometry → List ℕ
-bad_geometry_line bad = line (codes "ufs: bad geometry " ++ decimal (refusal_number bad))
+bad_geometry_line bad = line (codes "ufs: bad geometry " ++ (48 + refusal_number bad) ∷ [])
 
 abbrev pub not_built_line : List ℕ
 not_built_line = line (codes "ufs: line 0: NotBuilt")

@@ -2,6 +2,8 @@
 #![tactic(auto)]
 
 mod ending;
+mod finish;
+mod mkfs;
 mod print;
 mod quiet;
 mod serve;
@@ -12,12 +14,13 @@ mod write;
 
 
 pub use ending::Ending;
-use quiet::finish;
-pub use quiet::quiet;
+use finish::finish;
+pub use quiet::{Outcome, quiet};
 pub use words::{Command, Options, image_of, read_command};
 use std::env::Env;
 use std::process::ExitCode;
 use std::{env, io};
+use ufs_disk::FileDisk;
 use ufs_io::{StreamSink, StreamSource};
 
 // The words of the command line behind the program's name. One that isn't text is no word of a command.
@@ -44,8 +47,14 @@ fn main(rt: HostRuntime) -> ExitCode {
     let mut sink = StreamSink::new(io::writer(&rt));
     let status = match command_words(&rt) {
         Ok(words) => {
-            let mut source = StreamSource::new(rt.reader());
-            quiet(rt.alloc(), &words, &mut source, &mut sink)
+            match image_of(&words) {
+                Some(path) => {
+                    let mut source = StreamSource::new(rt.reader());
+                    let disk = FileDisk::open(&rt, path);
+                    quiet(rt.alloc(), &words, &mut source, &mut sink, disk).status
+                }
+                None => finish(&mut sink, Ending::Usage),
+            }
         }
         Err(ending) => finish(&mut sink, ending),
     };

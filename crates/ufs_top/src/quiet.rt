@@ -1,41 +1,41 @@
 // The top call.
-ghost use Rattle.std.specs.Prelude.{◌≡◌, ◌≢◌, ◌⊎◌, ℕ, List, IsTrue, ◌↔◌, Ok, Some, length, map, string_bytes};
+ghost use Rattle.std.specs.Prelude.{◌≡◌, ◌≢◌, ◌≤◌, ◌⊎◌, ℕ, List, IsTrue, Ok, Some, None, length, map, string_bytes};
 ghost use Rattle.std.specs.Io.KnownBytes.{Appends};
+ghost use Rattle.ufs_disk.specs.Faults as disk_faults;
+ghost use Rattle.ufs_disk.specs.Moments.{LeavesOnly};
 ghost use Rattle.ufs_io.specs.Causes.{Rose};
+ghost use Rattle.ufs_layout.specs.Areas.{geometry_refusal, sector_count};
+ghost use Rattle.ufs_layout.specs.declared.geometry.Geometry.{Geometry};
 ghost use Rattle.ufs_model.specs.declared.data.Entry.{Entry};
+ghost use Rattle.ufs_recover.specs.Stopped.{IsNewDisk, IsStopped};
 ghost use Rattle.ufs_script.specs.Script.{script_of};
 ghost use Rattle.ufs_script.specs.declared.script.Script.{Script};
 ghost use Rattle.ufs_top.specs.declared.ending.Ending.{Ending};
-ghost use Rattle.ufs_top.specs.Texts.{IsPlay, IsFront};
+ghost use Rattle.ufs_top.specs.declared.words.Command.TheVariants as command;
+ghost use Rattle.ufs_top.specs.Commands.{command_of, mkfs_command, IsMkfs};
+ghost use Rattle.ufs_top.specs.Texts.{IsFront, made_line};
 ghost use Rattle.ufs_top.specs.Served.{IsServed, replies_text};
-ghost use Rattle.ufs_top.specs.Endings.{Ends, EndsPlay, EndsServing, EndsPrinting, IsAnswer, IsLastLine, status_of, sink_status};
+ghost use Rattle.ufs_top.specs.Endings.{Ends, EndsPlay, EndsServing, EndsPrinting, IsAnswer, status_of};
 
 use crate::ending::Ending;
+use crate::finish::{SINK_FAULT, finish};
+use crate::mkfs::mkfs;
 use crate::print::{PrintFault, print};
 use crate::serve::serve;
-use crate::write::write_all;
+use crate::words::{Command, read_command};
 use std::alloc::Global;
+use ufs_disk::Disk;
 use ufs_io::{Sink, Source};
 use ufs_model::{EntryList, Memory};
 use ufs_script::{OpLists, Script, ScriptFault, read_script};
 
-/// The status of a fault of the sink, whatever else happened.
-const SINK_FAULT: u8 = 7;
-
-fn is_play(words: &Vec<String>) -> bool
-    ensures { IsTrue result ↔ IsPlay (map string_bytes words.now.items) }
-{
-    words.len() == 1 && words[0].as_str() == "play"
-}
-
-/// Writes the line of an ending.
-pub fn finish<K: Sink>(sink: &mut K, ending: Ending) -> u8
-    ensures { IsAnswer (IsLastLine ending) (K.held sink.old) (K.held sink.new) (K.faults sink.old) (K.faults sink.new) result }
-{
-    match write_all(sink, ending.last_line()) {
-        Ok(()) => ending.status(),
-        Err(_) => SINK_FAULT,
-    }
+/// What a command gives back.
+#[derive(Drop)]
+pub struct Outcome<D: Disk> {
+    /// The status of the process.
+    pub status: u8,
+    /// The disk that the command was given.
+    pub disk: D,
 }
 
 // Writes the lines of a history, and then ends.
@@ -80,57 +80,95 @@ fn play<S: Source, K: Sink>(alloc: Global, source: &mut S, sink: &mut K) -> u8
 }
 
 // The answer to any words.
-fn answer<S: Source, K: Sink>(
+fn answer<S: Source, K: Sink, D: Disk>(
     alloc: Global,
     words: &Vec<String>,
     source: &mut S,
     sink: &mut K,
+    disk: &mut D,
 ) -> u8
-    ensures answer { IsAnswer (Ends (map string_bytes words.now.items) (S.left source.old) (S.left source.new) (S.faults source.old) (S.faults source.new))
-        (K.held sink.old) (K.held sink.new) (K.faults sink.old) (K.faults sink.new) result }
+    ensures answer { IsAnswer (Ends (command_of (map string_bytes words.now.items)) (S.left source.old) (S.left source.new) (S.faults source.old) (S.faults source.new)
+        (D.size disk.old) (D.faults disk.old) (D.faults disk.new)) (K.held sink.old) (K.held sink.new) (K.faults sink.old) (K.faults sink.new) result }
+    ensures formatted { IsTrue D.tells → result ≡ 0 → (g : Geometry) → command_of (map string_bytes words.now.items) ≡ mkfs_command g
+        → IsNewDisk g (D.size disk.old) (D.moments disk.new).state }
+    ensures crash { IsTrue D.tells → (g : Geometry) → command_of (map string_bytes words.now.items) ≡ mkfs_command g
+        → LeavesOnly D.keeps (IsStopped g (D.size disk.old) (D.moments disk.old).state) (D.moments disk.old) (D.moments disk.new) }
+    ensures unwritten { ¬ (IsMkfs (command_of (map string_bytes words.now.items))) → disk.new ≡ disk.old }
+    ensures size { D.size disk.new ≡ D.size disk.old }
+    ensures disk_told { result ≢ 4 → result ≢ 5 → result ≢ 7 → D.faults disk.new ≡ D.faults disk.old }
     ensures source_told { result ≢ 6 → result ≢ 7 → S.faults source.new ≡ S.faults source.old }
-    ensures untouched { ¬ (IsPlay (map string_bytes words.now.items)) → (S.left source.new ≡ S.left source.old) × (S.faults source.new ≡ S.faults source.old) }
+    ensures unread { command_of (map string_bytes words.now.items) ≢ Some command.Play → (S.left source.new ≡ S.left source.old) × (S.faults source.new ≡ S.faults source.old) }
 {
-    if is_play(words) {
-        play(alloc, source, sink)
-    } else {
-        finish(sink, Ending::Usage)
+    match read_command(words.as_slice()) {
+        Some(Command::Play) => play(alloc, source, sink),
+        Some(Command::Mkfs {
+            blocks,
+            inodes,
+            journal,
+        }) => mkfs(alloc, blocks, inodes, journal, sink, disk),
+        Some(Command::NotBuilt) => finish(sink, Ending::NotBuilt),
+        None => finish(sink, Ending::Usage),
     }
 }
 
-/// Serves a command that waits for nobody, and answers the status of the process.
-pub fn quiet<S: Source, K: Sink>(
+/// Serves a command that waits for nobody.
+pub fn quiet<S: Source, K: Sink, D: Disk>(
     alloc: Global,
     words: &Vec<String>,
     source: &mut S,
     sink: &mut K,
-) -> u8
-    // Status 0: the source was read to its end, and its bytes are a script. There is one history, in which one
-    // POSIX tree, that begins with the root alone, gives every reply, and which holds each request of the script
-    // once in its client's order. The sink got the lines of that history's replies, and nothing else.
-    ensures done { result ≡ 0 → (script : Script) × (history : List Entry)
+    disk: D,
+) -> Outcome<D>
+    // `play` with status 0: the source was read to its end, and its bytes are a script. There is one history, in
+    // which one POSIX tree, that begins with the root alone, gives every reply, and which holds each request of the
+    // script once in its client's order. The sink got the lines of that history's replies, and nothing else.
+    ensures done { result.status ≡ 0 → command_of (map string_bytes words.now.items) ≡ Some command.Play → (script : Script) × (history : List Entry)
         × IsServed (S.left source.old) (S.left source.new) script history
         × Appends (K.held sink.old) (K.held sink.new) (replies_text script history) }
+    // `mkfs` with status 0: the sink got the line of the three numbers and the data blocks, and nothing else.
+    ensures made { result.status ≡ 0 → (g : Geometry) → command_of (map string_bytes words.now.items) ≡ mkfs_command g
+        → Appends (K.held sink.old) (K.held sink.new) (made_line g) }
+    // The disk then has a new image, with the root alone, and nothing pending.
+    ensures formatted { IsTrue D.tells → result.status ≡ 0 → (g : Geometry) → command_of (map string_bytes words.now.items) ≡ mkfs_command g
+        → IsNewDisk g (D.size disk) (D.moments result.disk).state }
+    // At each moment of `mkfs`, whatever its status, a crash leaves what it might have left before, no superblock, or
+    // a new image.
+    ensures crash { IsTrue D.tells → (g : Geometry) → command_of (map string_bytes words.now.items) ≡ mkfs_command g
+        → LeavesOnly D.keeps (IsStopped g (D.size disk) (D.moments disk).state) (D.moments disk) (D.moments result.disk) }
+    // Every other command leaves the disk.
+    ensures unwritten { ¬ (IsMkfs (command_of (map string_bytes words.now.items))) → result.disk ≡ disk }
+    ensures size { D.size result.disk ≡ D.size disk }
     // Each status but 7 comes with its cause and its text.
-    ensures whole { result ≢ 7 → (ending : Ending) × (text : List ℕ) × (result ≡ status_of ending)
-        × Ends (map string_bytes words.now.items) (S.left source.old) (S.left source.new) (S.faults source.old) (S.faults source.new) ending text
+    ensures whole { result.status ≢ 7 → (ending : Ending) × (text : List ℕ) × (result.status ≡ status_of ending)
+        × Ends (command_of (map string_bytes words.now.items)) (S.left source.old) (S.left source.new) (S.faults source.old) (S.faults source.new)
+            (D.size disk) (D.faults disk) (D.faults result.disk) ending text
         × Appends (K.held sink.old) (K.held sink.new) text }
     // Status 7: the sink's count of faults rose.
-    ensures sink_fault { result ≡ 7 → Rose (K.faults sink.old) (K.faults sink.new) }
+    ensures sink_fault { result.status ≡ 7 → Rose (K.faults sink.old) (K.faults sink.new) }
     // The sink then got a front of what would have been written.
-    ensures cut { result ≡ 7 → (ending : Ending) × (text : List ℕ) × (front : List ℕ)
-        × Ends (map string_bytes words.now.items) (S.left source.old) (S.left source.new) (S.faults source.old) (S.faults source.new) ending text
+    ensures cut { result.status ≡ 7 → (ending : Ending) × (text : List ℕ) × (front : List ℕ)
+        × Ends (command_of (map string_bytes words.now.items)) (S.left source.old) (S.left source.new) (S.faults source.old) (S.faults source.new)
+            (D.size disk) (D.faults disk) (D.faults result.disk) ending text
         × IsFront front text × Appends (K.held sink.old) (K.held sink.new) front }
     // Any other status leaves the sink's count as it was.
-    ensures sink_told { result ≢ 7 → K.faults sink.new ≡ K.faults sink.old }
+    ensures sink_told { result.status ≢ 7 → K.faults sink.new ≡ K.faults sink.old }
     // Any status but 6 and 7 leaves the source's count as it was.
-    ensures source_told { result ≢ 6 → result ≢ 7 → S.faults source.new ≡ S.faults source.old }
-    // Where the words are no command, the source wasn't read.
-    ensures untouched { ¬ (IsPlay (map string_bytes words.now.items)) → (S.left source.new ≡ S.left source.old) × (S.faults source.new ≡ S.faults source.old) }
+    ensures source_told { result.status ≢ 6 → result.status ≢ 7 → S.faults source.new ≡ S.faults source.old }
+    // Any status but 4, 5 and 7 leaves the disk's count as it was.
+    ensures disk_told { result.status ≢ 4 → result.status ≢ 5 → result.status ≢ 7 → D.faults result.disk ≡ D.faults disk }
+    // Where the words aren't `play`, the source isn't read.
+    ensures unread { command_of (map string_bytes words.now.items) ≢ Some command.Play → (S.left source.new ≡ S.left source.old) × (S.faults source.new ≡ S.faults source.old) }
     // Over a source that tells its bytes, a script is served, unless memory runs out or a count of faults rises.
-    ensures complete { (text : List ℕ) (script : Script) → IsPlay (map string_bytes words.now.items) → S.left source.old ≡ Some text
+    ensures complete { (text : List ℕ) (script : Script) → command_of (map string_bytes words.now.items) ≡ Some command.Play → S.left source.old ≡ Some text
         → script_of text ≡ Ok script → ¬ (Rose (S.faults source.old) (S.faults source.new)) → ¬ (Rose (K.faults sink.old) (K.faults sink.new))
-        → (result ≡ 0) ⊎ (result ≡ 5) }
+        → (result.status ≡ 0) ⊎ (result.status ≡ 5) }
+    // A geometry that is taken is formatted on a disk that is large enough, unless memory runs out or a count of
+    // faults rises.
+    ensures complete_mkfs { (g : Geometry) → command_of (map string_bytes words.now.items) ≡ mkfs_command g → geometry_refusal g ≡ None
+        → sector_count g ≤ D.size disk → ¬ (disk_faults.Rose (D.faults disk) (D.faults result.disk)) → ¬ (Rose (K.faults sink.old) (K.faults sink.new))
+        → (result.status ≡ 0) ⊎ (result.status ≡ 5) }
 {
-    answer(alloc, words, source, sink)
+    let mut disk = disk;
+    let status = answer(alloc, words, source, sink, &mut disk);
+    Outcome { status, disk }
 }

@@ -1,4 +1,5 @@
-use Rattle.ufs_top.specs.Endings.{EndsServing, EndsPlay, IsLastLine}
+use Rattle.ufs_top.specs.Endings.{EndsServing, EndsPlay, IsLine}
+use Rattle.ufs_top.specs.Texts.{memory_line}
 use Rattle.ufs_top.specs.declared.ending.Ending.TheVariants.{OutOfMemory}
 use Rattle.ufs_top.proofs.AnswerLemmas.{answer_map, read_and_served, no_memory}
 use Rattle.ufs_top.proofs.quiet.play.Goals as goal
@@ -23,6 +24,6 @@ returns-in-Err-Memory-clause-answer g c =
     let risen = g.S.Source.faults in
     let old = c.args.source.now in
     let new = c.read_script.new.source in
-    answer_map (IsLastLine OutOfMemory) (EndsPlay (left old) (left new) (risen old) (risen new)) (held c.args.sink.now) (held c.finish-in-Err-Memory.new.sink) (faults c.args.sink.now) (faults c.finish-in-Err-Memory.new.sink) c.finish-in-Err-Memory.result
+    answer_map (IsLine OutOfMemory memory_line) (EndsPlay (left old) (left new) (risen old) (risen new)) (held c.args.sink.now) (held c.finish-in-Err-Memory.new.sink) (faults c.args.sink.now) (faults c.finish-in-Err-Memory.new.sink) c.finish-in-Err-Memory.result
     (no_memory (left old) (left new) (risen old) (risen new))
-    c.finish-in-Err-Memory.ensures
+    c.finish-in-Err-Memory.ensures.answer

@@ -1,0 +1,43 @@
+use Rattle.std.proofs.Common.{◌≡◌, ℕ, List, Option, Some, sym, subst, ◌∙◌, map, string_bytes}
+use Rattle.ufs_disk.specs.Moments.{LeavesOnly}
+use Rattle.ufs_layout.specs.declared.geometry.Geometry.{Geometry}
+use Rattle.ufs_recover.specs.Stopped.{IsNewDisk, IsStopped}
+use Rattle.ufs_top.specs.declared.words.Command.{Command}
+use Rattle.ufs_top.specs.Commands.{command_of, mkfs_command}
+use Rattle.ufs_top.specs.Endings.{Ends, IsAnswer}
+use Rattle.ufs_top.proofs.MkfsLemmas.{same_geometry, is_mkfs}
+use Rattle.ufs_top.proofs.quiet.answer.Goals as goal
+
+pub returns-in-Some-Mkfs-clause-answer : goal.returns-in-Some-Mkfs-clause-answer
+returns-in-Some-Mkfs-clause-answer g c =
+    let asked : Geometry = record { blocks = c.in-Some-Mkfs.blocks; inodes = c.in-Some-Mkfs.inodes; journal = c.in-Some-Mkfs.journal } in
+    let words = command_of (map string_bytes c.args.words.now.items) in
+    let is : words ≡ mkfs_command asked = cc in
+    let held = g.K.Sink.held in
+    let faults = g.K.Sink.faults in
+    let left = g.S.Source.left c.args.source.now in
+    let risen = g.S.Source.faults c.args.source.now in
+    subst (λ (w : Option Command). IsAnswer (Ends w left left risen risen (g.D.Disk.size c.args.disk.now) (g.D.Disk.faults c.args.disk.now) (g.D.Disk.faults c.mkfs.new.disk))
+        (held c.args.sink.now) (held c.mkfs.new.sink) (faults c.args.sink.now) (faults c.mkfs.new.sink) c.mkfs.result) (sym is) c.mkfs.ensures.answer
+
+pub returns-in-Some-Mkfs-clause-formatted : goal.returns-in-Some-Mkfs-clause-formatted
+returns-in-Some-Mkfs-clause-formatted g c tells zero h same =
+    let asked : Geometry = record { blocks = c.in-Some-Mkfs.blocks; inodes = c.in-Some-Mkfs.inodes; journal = c.in-Some-Mkfs.journal } in
+    let words = command_of (map string_bytes c.args.words.now.items) in
+    let is : words ≡ mkfs_command asked = cc in
+    subst (λ (x : Geometry). IsNewDisk x (g.D.Disk.size c.args.disk.now) (g.D.Disk.moments c.mkfs.new.disk).state) (same_geometry words asked h is same) (c.mkfs.ensures.formatted tells zero)
+
+pub returns-in-Some-Mkfs-clause-crash : goal.returns-in-Some-Mkfs-clause-crash
+returns-in-Some-Mkfs-clause-crash g c tells h same =
+    let asked : Geometry = record { blocks = c.in-Some-Mkfs.blocks; inodes = c.in-Some-Mkfs.inodes; journal = c.in-Some-Mkfs.journal } in
+    let words = command_of (map string_bytes c.args.words.now.items) in
+    let is : words ≡ mkfs_command asked = cc in
+    let old = g.D.Disk.moments c.args.disk.now in
+    subst (λ (x : Geometry). LeavesOnly g.D.Disk.keeps (IsStopped x (g.D.Disk.size c.args.disk.now) old.state) old (g.D.Disk.moments c.mkfs.new.disk)) (same_geometry words asked h is same) (c.mkfs.ensures.crash tells)
+
+pub returns-in-Some-Mkfs-clause-unwritten : goal.returns-in-Some-Mkfs-clause-unwritten
+returns-in-Some-Mkfs-clause-unwritten g c other =
+    let asked : Geometry = record { blocks = c.in-Some-Mkfs.blocks; inodes = c.in-Some-Mkfs.inodes; journal = c.in-Some-Mkfs.journal } in
+    let words = command_of (map string_bytes c.args.words.now.items) in
+    let is : words ≡ mkfs_command asked = cc in
+    absurd (other (is_mkfs words asked is))

@@ -1,0 +1,15 @@
+use Rattle.std.proofs.Common.{map, string_bytes}
+use Rattle.ufs_top.specs.Commands.{command_of}
+use Rattle.ufs_top.proofs.MkfsLemmas.{mkfs_complete}
+use Rattle.ufs_top.proofs.quiet.quiet.Goals as goal
+
+pub returns-clause-complete_mkfs : goal.returns-clause-complete_mkfs
+returns-clause-complete_mkfs g c h is taken large calm quiet =
+    let held = g.K.Sink.held in
+    let faults = g.K.Sink.faults in
+    let left = g.S.Source.left in
+    let risen = g.S.Source.faults in
+    let new = c.answer-status.new in
+    mkfs_complete h (g.D.Disk.size c.args.disk) (g.D.Disk.faults c.args.disk) (g.D.Disk.faults new.disk) taken large calm
+    (command_of (map string_bytes c.args.words.now.items)) (left c.args.source.now) (left new.source) (risen c.args.source.now) (risen new.source)
+    (held c.args.sink.now) (held new.sink) (faults c.args.sink.now) (faults new.sink) c.answer-status.result c.answer-status.ensures.answer is quiet
