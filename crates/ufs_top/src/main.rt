@@ -12,16 +12,15 @@ mod tests;
 mod words;
 mod write;
 
-
 pub use ending::Ending;
 use finish::finish;
 pub use quiet::{Outcome, quiet};
-pub use words::{Command, Options, image_of, read_command};
 use std::env::Env;
 use std::process::ExitCode;
 use std::{env, io};
 use ufs_disk::FileDisk;
 use ufs_io::{StreamSink, StreamSource};
+pub use words::{Command, Options, image_of, read_command};
 
 // The words of the command line behind the program's name. One that isn't text is no word of a command.
 fn command_words<R: Env + AllocGlobal>(rt: &R) -> Result<Vec<String>, Ending> {

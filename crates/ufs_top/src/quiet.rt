@@ -101,11 +101,13 @@ fn answer<S: Source, K: Sink, D: Disk>(
 {
     match read_command(words.as_slice()) {
         Some(Command::Play) => play(alloc, source, sink),
-        Some(Command::Mkfs {
-            blocks,
-            inodes,
-            journal,
-        }) => mkfs(alloc, blocks, inodes, journal, sink, disk),
+        Some(
+            Command::Mkfs {
+                blocks,
+                inodes,
+                journal,
+            },
+        ) => mkfs(alloc, blocks, inodes, journal, sink, disk),
         Some(Command::NotBuilt) => finish(sink, Ending::NotBuilt),
         None => finish(sink, Ending::Usage),
     }
@@ -141,14 +143,14 @@ pub fn quiet<S: Source, K: Sink, D: Disk>(
     // Each status but 7 comes with its cause and its text.
     ensures whole { result.status ≢ 7 → (ending : Ending) × (text : List ℕ) × (result.status ≡ status_of ending)
         × Ends (command_of (map string_bytes words.now.items)) (S.left source.old) (S.left source.new) (S.faults source.old) (S.faults source.new)
-            (D.size disk) (D.faults disk) (D.faults result.disk) ending text
+        (D.size disk) (D.faults disk) (D.faults result.disk) ending text
         × Appends (K.held sink.old) (K.held sink.new) text }
     // Status 7: the sink's count of faults rose.
     ensures sink_fault { result.status ≡ 7 → Rose (K.faults sink.old) (K.faults sink.new) }
     // The sink then got a front of what would have been written.
     ensures cut { result.status ≡ 7 → (ending : Ending) × (text : List ℕ) × (front : List ℕ)
         × Ends (command_of (map string_bytes words.now.items)) (S.left source.old) (S.left source.new) (S.faults source.old) (S.faults source.new)
-            (D.size disk) (D.faults disk) (D.faults result.disk) ending text
+        (D.size disk) (D.faults disk) (D.faults result.disk) ending text
         × IsFront front text × Appends (K.held sink.old) (K.held sink.new) front }
     // Any other status leaves the sink's count as it was.
     ensures sink_told { result.status ≢ 7 → K.faults sink.new ≡ K.faults sink.old }

@@ -18,7 +18,7 @@ returns-in-Some-Mkfs-clause-answer g c =
     let left = g.S.Source.left c.args.source.now in
     let risen = g.S.Source.faults c.args.source.now in
     subst (λ (w : Option Command). IsAnswer (Ends w left left risen risen (g.D.Disk.size c.args.disk.now) (g.D.Disk.faults c.args.disk.now) (g.D.Disk.faults c.mkfs.new.disk))
-        (held c.args.sink.now) (held c.mkfs.new.sink) (faults c.args.sink.now) (faults c.mkfs.new.sink) c.mkfs.result) (sym is) c.mkfs.ensures.answer
+    (held c.args.sink.now) (held c.mkfs.new.sink) (faults c.args.sink.now) (faults c.mkfs.new.sink) c.mkfs.result) (sym is) c.mkfs.ensures.answer
 
 pub returns-in-Some-Mkfs-clause-formatted : goal.returns-in-Some-Mkfs-clause-formatted
 returns-in-Some-Mkfs-clause-formatted g c tells zero h same =
