@@ -74,12 +74,12 @@ def plain(lines, folder, out):
 def compare(name, lines, base):
     work = tempfile.mkdtemp(dir=base)
     try:
-        script, ours, theirs = (os.path.join(work, n) for n in ("script", "ours", "theirs"))
+        script, ours, theirs, image = (os.path.join(work, n) for n in ("script", "ours", "theirs", "image"))
         with open(script, "w") as f:
             f.write(as_script(lines))
         begin = time.monotonic()
         with open(script, "rb") as source, open(ours, "wb") as sink:
-            status = subprocess.run([UFS, "play"], stdin=source, stdout=sink).returncode
+            status = subprocess.run([UFS, "play", "--image", image], stdin=source, stdout=sink).returncode
         served = time.monotonic() - begin
         begin = time.monotonic()
         with open(theirs, "w") as out:
