@@ -1,0 +1,67 @@
+// A disk becomes an empty file system.
+ghost use Rattle.std.specs.Prelude.{◌≡◌, ◌≤◌, ◌<◌, ◌*◌, ◌↔◌, ℕ, IsTrue, IfErr, OnOk, Err};
+ghost use Rattle.ufs_disk.specs.Moments.{LeavesOnly, reads};
+ghost use Rattle.ufs_disk.specs.Faults.{HasCause};
+ghost use Rattle.ufs_layout.specs.Areas.{IsGeometry, first_of_data, sector_count};
+ghost use Rattle.ufs_recover.specs.Stopped.{IsNewDisk, IsStopped};
+ghost use Rattle.ufs_recover.specs.Faults.{HasFaultCause};
+
+use crate::FormatFault;
+use crate::head::{new_head, put_head};
+use crate::tables::write_tables;
+use ufs_disk::{Disk, Fault, SECTOR};
+use ufs_layout::{Geometry, new_image_law};
+
+// Zeros in the superblock's sector first, the superblock last, and a barrier after each step.
+fn write_image<D: Disk>(disk: &mut D, geometry: &Geometry) -> Result<(), Fault>
+    requires geometry { IsGeometry geometry.now }
+    requires room { sector_count geometry.now ≤ D.size disk.old }
+    ensures ok { IsTrue D.tells → OnOk result
+        (IsNewDisk geometry.now (D.size disk.old) (D.moments disk.new).state) }
+    ensures crash { IsTrue D.tells → LeavesOnly D.keeps
+        (IsStopped geometry.now (D.size disk.old) (D.moments disk.old).state)
+        (D.moments disk.old) (D.moments disk.new) }
+    ensures beyond { IsTrue D.tells → (s : ℕ) → 8 * first_of_data geometry.now ≤ s
+        → reads (D.moments disk.new) s ≡ reads (D.moments disk.old) s }
+    ensures size { D.size disk.new ≡ D.size disk.old }
+    ensures cause { HasCause (D.faults disk.old) (D.faults disk.new) result }
+{
+    put_head(disk, &[0; SECTOR])?;
+    write_tables(disk, geometry)?;
+    disk.barrier()?;
+    new_image_law(geometry);
+    put_head(disk, &new_head(geometry))
+}
+
+/// Makes the disk's first sectors a new image with the root alone. It takes no memory, and writes
+/// each sector of the tables once. Whatever lies in the data area stays.
+///
+/// A stop on the way never shows half a tree: the superblock is taken out before anything else
+/// changes, and comes back when all the rest is on the disk for good.
+pub fn format<D: Disk>(disk: &mut D, geometry: &Geometry) -> Result<(), FormatFault>
+    requires { IsGeometry geometry.now }
+    ensures too_small { (result ≡ Err FormatFault.TooSmall) ↔ (D.size disk.old < sector_count geometry.now) }
+    ensures untouched { D.size disk.old < sector_count geometry.now → disk.new ≡ disk.old }
+    ensures passed { OnOk result (D.faults disk.new ≡ D.faults disk.old) }
+    ensures device { IfErr result (HasFaultCause (D.faults disk.old) (D.faults disk.new)) }
+    ensures ok { IsTrue D.tells → OnOk result
+        (IsNewDisk geometry.now (D.size disk.old) (D.moments disk.new).state) }
+
+    // At each moment of the call, also of one that fails.
+    ensures crash { IsTrue D.tells → LeavesOnly D.keeps
+        (IsStopped geometry.now (D.size disk.old) (D.moments disk.old).state)
+        (D.moments disk.old) (D.moments disk.new) }
+    ensures beyond { IsTrue D.tells → (s : ℕ) → 8 * first_of_data geometry.now ≤ s
+        → reads (D.moments disk.new) s ≡ reads (D.moments disk.old) s }
+    ensures size { D.size disk.new ≡ D.size disk.old }
+{
+    if disk.sectors() < 8 * geometry.blocks {
+        return Err(FormatFault::TooSmall);
+    }
+    match write_image(disk, geometry) {
+        Ok(()) => Ok(()),
+        Err(fault) => Err(FormatFault::Device {
+            fault: fault.number,
+        }),
+    }
+}

@@ -1,0 +1,93 @@
+// The blocks between the superblock's and the data area.
+ghost use Rattle.std.specs.Prelude.{◌≡◌, ◌≤◌, ◌<◌, ◌+◌, ◌*◌, ◌^◌, ◌++◌, ℕ, length, drop, replicate, slice_index, EachIndex, IsTrue, OnOk};
+ghost use Rattle.ufs_disk.specs.Disk.{Leaves, IsSettled};
+ghost use Rattle.ufs_disk.specs.Moments.{LeavesOnly, reads};
+ghost use Rattle.ufs_disk.specs.Faults.{HasCause};
+ghost use Rattle.ufs_layout.specs.Areas.{IsGeometry, first_of_data, sector_count};
+ghost use Rattle.ufs_layout.specs.InodeForm.{inode_bytes};
+ghost use Rattle.ufs_layout.specs.Formatted.{byte_below, new_root};
+ghost use Rattle.ufs_recover.specs.Tables.{IsTableBlock, HasTablesBelow};
+ghost use Rattle.ufs_recover.specs.Stopped.{IsBlank};
+
+use crate::areas::{data_start, inodes_start};
+use ufs_disk::{Disk, Fault, SECTOR};
+use ufs_layout::{Geometry, Inode, put_inode};
+
+// A call of a disk takes no more bytes.
+const BLOCK: usize = 8 * SECTOR;
+
+// A byte of the bitmap in which the blocks below `used` are used.
+fn bitmap_byte(used: u32, byte: u32) -> u8
+    requires { byte < 2 ^ 20 }
+    ensures { result ≡ byte_below used byte }
+{
+    if 8 * (byte + 1) <= used {
+        255
+    } else {
+        (1 << used.saturating_sub(8 * byte)) - 1
+    }
+}
+
+// The bytes of that bitmap from one on.
+fn fill_bitmap(bytes: &mut [u8], used: u32, first: u32)
+    requires { first + length bytes.old ≤ 2 ^ 20 }
+    ensures { EachIndex bytes.new (λ k. slice_index bytes.new k ≡ byte_below used (first + k)) }
+{
+    for (i, byte) in bytes.iter_mut().enumerate() {
+        *byte = bitmap_byte(used, first + i as u32);
+    }
+}
+
+fn clear(bytes: &mut [u8])
+    ensures { bytes.new ≡ replicate (length bytes.old) 0 }
+{
+    bytes.fill(0);
+}
+
+// A directory with no block.
+fn put_root(bytes: &mut [u8])
+    requires { 512 ≤ length bytes.old }
+    ensures { bytes.new ≡ inode_bytes new_root ++ drop 512 bytes.old }
+{
+    put_inode(&mut bytes[..SECTOR], &Inode::from_extents(2, &[], 0, 0));
+}
+
+// What a new image has in a block. A free inode is spelled by zeros alone.
+fn lay_block(bytes: &mut [u8], geometry: &Geometry, block: u32)
+    requires geometry { IsGeometry geometry.now }
+    requires sized { length bytes.old ≡ 4096 }
+    requires from { 1 ≤ block }
+    requires below { block < first_of_data geometry.now }
+    ensures { IsTableBlock geometry.now block bytes.new }
+{
+    let inodes = inodes_start(geometry);
+    if block < inodes {
+        fill_bitmap(bytes, data_start(geometry), BLOCK as u32 * (block - 1));
+    } else {
+        clear(bytes);
+        if block == inodes {
+            put_root(bytes);
+        }
+    }
+}
+
+// Writes the bitmap, the inode table and the journal, whole blocks of them.
+pub(crate) fn write_tables<D: Disk>(disk: &mut D, geometry: &Geometry) -> Result<(), Fault>
+    requires geometry { IsGeometry geometry.now }
+    requires room { sector_count geometry.now ≤ D.size disk.old }
+    requires blank { IsTrue D.tells → Leaves IsBlank (D.moments disk.old).state }
+    ensures written { IsTrue D.tells → OnOk result
+        (HasTablesBelow geometry.now (first_of_data geometry.now) (reads (D.moments disk.new))) }
+    ensures beyond { IsTrue D.tells → (s : ℕ) → 8 * first_of_data geometry.now ≤ s
+        → reads (D.moments disk.new) s ≡ reads (D.moments disk.old) s }
+    ensures crash { IsTrue D.tells → LeavesOnly D.keeps IsBlank (D.moments disk.old) (D.moments disk.new) }
+    ensures size { D.size disk.new ≡ D.size disk.old }
+    ensures cause { HasCause (D.faults disk.old) (D.faults disk.new) result }
+{
+    let mut bytes = [0; BLOCK];
+    for block in 1..data_start(geometry) {
+        lay_block(&mut bytes, geometry, block);
+        disk.write(8 * block, &bytes)?;
+    }
+    Ok(())
+}
