@@ -15,7 +15,7 @@ use Rattle.ufs_layout.specs.Formatted.{IsFormatted, new_super, new_root, bitmap_
 use Rattle.ufs_layout.specs.Volume.{Refusal, NoSuperblock, BadVersion, BadGeometry, has_other_version, head_of, is_off_form, bad_geometry, is_too_small, lacks_magic, by_head}
 use Rattle.ufs_layout.specs.Laws.{OpensToRoot, BeginsWhole, BeginsProper}
 use Rattle.ufs_layout.specs.declared.geometry.Geometry.{Geometry}
-use Rattle.ufs_recover.specs.Tables.{IsTableSector, HasTablesBelow}
+use Rattle.ufs_recover.specs.Tables.{HasZeroTails, IsOutside, IsTableSector, HasTablesBelow}
 use Rattle.ufs_recover.specs.Stopped.{IsNew, IsRefused, IsStopped, IsBlank, HasHeadPut}
 
 -- ---- images
@@ -49,6 +49,12 @@ formatted g image is head tables = record {
     sector : (s : ℕ) → 8 ≤ s → s < 8 * first_of_data g → IsTableSector g s (image s)
     sector s from under = tables.sectors s from under
 
+zero_tails : (g : Geometry) (image : Image) → IsGeometry g → HasTablesBelow g (first_of_data g) image → HasZeroTails g image
+zero_tails g image is tables = record {
+  inodes = λ s behind before. (tables.sectors s (omega arith) (omega arith)).rest (omega (arith, is.least_inodes));
+  journal = λ s behind before. (tables.sectors s (omega arith) before).rest (omega (arith, is.least_inodes));
+}
+
 -- the tables, where the superblock's sector was put
 tables_stay : (g : Geometry) (block : ℕ) (bytes : List ℕ) (d : Image) → HasTablesBelow g block d → HasTablesBelow g block (put 0 bytes d)
 tables_stay g block bytes d tables = record {
@@ -56,9 +62,10 @@ tables_stay g block bytes d tables = record {
 }
 
 module _ (g : Geometry) (sectors : ℕ) (is : IsGeometry g) (room : sector_count g ≤ sectors) (opens : OpensToRoot g) (whole : BeginsWhole g) (proper : BeginsProper g) where
-  new_image : (image : Image) → IsFormatted g image → IsNew g sectors image
-  new_image image new = record {
+  new_image : (image : Image) → IsFormatted g image → HasTablesBelow g (first_of_data g) image → IsNew g sectors image
+  new_image image new tables = record {
     formatted = new;
+    tails = zero_tails g image is tables;
     root_alone = opens sectors image new room;
     undamaged = whole sectors image new room;
     proper = proper sectors image new room;
@@ -66,8 +73,9 @@ module _ (g : Geometry) (sectors : ℕ) (is : IsGeometry g) (room : sector_count
 
   -- the superblock is put where the tables are
   pub put_new : (bytes : List ℕ) (d e : Image) → bytes ≡ super_bytes (new_super g) → e ≡ d → HasTablesBelow g (first_of_data g) d → IsNew g sectors (put 0 bytes e)
-  put_new bytes d e head same tables = new_image (put 0 bytes e)
-      (formatted g (put 0 bytes e) is (put_same 0 bytes e ∙ head) (tables_stay g (first_of_data g) bytes e (subst (HasTablesBelow g (first_of_data g)) (sym same) tables)))
+  put_new bytes d e head same tables =
+      let there : HasTablesBelow g (first_of_data g) (put 0 bytes e) = tables_stay g (first_of_data g) bytes e (subst (HasTablesBelow g (first_of_data g)) (sym same) tables) in
+      new_image (put 0 bytes e) (formatted g (put 0 bytes e) is (put_same 0 bytes e ∙ head) there) there
 
 -- ---- moments
 
@@ -105,3 +113,7 @@ module _ (keeps : Bool) (g : Geometry) (sectors : ℕ) (first : Moments) where
 -- as the disk reads, where a crash leaves nothing else
 pub blank_read : (keeps : Bool) (first old : Moments) (e : Image) → LeavesOnly keeps IsBlank first old → e ≡ reads old → IsBlank e
 blank_read keeps first old e run same = ap (λ (d : Image). d 0) same ∙ run.after (reads old) (seen_is_image old.state)
+
+-- a sector outside is not the superblock's
+pub outside_head : (g : Geometry) (s : ℕ) → IsOutside g s → s ≢ 0
+outside_head g s outside zero = ⊎_elim (λ near. omega arith) (λ far. omega arith) outside

@@ -3,6 +3,7 @@ ghost use Rattle.std.specs.Prelude.{◌≡◌, ◌≤◌, ◌<◌, ◌*◌, ◌�
 ghost use Rattle.ufs_disk.specs.Moments.{LeavesOnly, reads};
 ghost use Rattle.ufs_disk.specs.Faults.{HasCause};
 ghost use Rattle.ufs_layout.specs.Areas.{IsGeometry, first_of_data, sector_count};
+ghost use Rattle.ufs_recover.specs.Tables.{IsOutside};
 ghost use Rattle.ufs_recover.specs.Stopped.{IsNewDisk, IsStopped};
 ghost use Rattle.ufs_recover.specs.Faults.{HasFaultCause};
 
@@ -21,7 +22,7 @@ fn write_image<D: Disk>(disk: &mut D, geometry: &Geometry) -> Result<(), Fault>
     ensures crash { IsTrue D.tells → LeavesOnly D.keeps
         (IsStopped geometry.now (D.size disk.old) (D.moments disk.old).state)
         (D.moments disk.old) (D.moments disk.new) }
-    ensures beyond { IsTrue D.tells → (s : ℕ) → 8 * first_of_data geometry.now ≤ s
+    ensures others { IsTrue D.tells → (s : ℕ) → IsOutside geometry.now s
         → reads (D.moments disk.new) s ≡ reads (D.moments disk.old) s }
     ensures size { D.size disk.new ≡ D.size disk.old }
     ensures cause { HasCause (D.faults disk.old) (D.faults disk.new) result }
@@ -51,7 +52,7 @@ pub fn format<D: Disk>(disk: &mut D, geometry: &Geometry) -> Result<(), FormatFa
     ensures crash { IsTrue D.tells → LeavesOnly D.keeps
         (IsStopped geometry.now (D.size disk.old) (D.moments disk.old).state)
         (D.moments disk.old) (D.moments disk.new) }
-    ensures beyond { IsTrue D.tells → (s : ℕ) → 8 * first_of_data geometry.now ≤ s
+    ensures others { IsTrue D.tells → (s : ℕ) → IsOutside geometry.now s
         → reads (D.moments disk.new) s ≡ reads (D.moments disk.old) s }
     ensures size { D.size disk.new ≡ D.size disk.old }
 {

@@ -6,7 +6,7 @@ ghost use Rattle.ufs_disk.specs.Faults.{HasCause};
 ghost use Rattle.ufs_layout.specs.Areas.{IsGeometry, first_of_data, sector_count};
 ghost use Rattle.ufs_layout.specs.InodeForm.{inode_bytes};
 ghost use Rattle.ufs_layout.specs.Formatted.{byte_below, new_root};
-ghost use Rattle.ufs_recover.specs.Tables.{IsTableBlock, HasTablesBelow};
+ghost use Rattle.ufs_recover.specs.Tables.{IsOutside, IsTableBlock, HasTablesBelow};
 ghost use Rattle.ufs_recover.specs.Stopped.{IsBlank};
 
 use crate::areas::{data_start, inodes_start};
@@ -78,7 +78,7 @@ pub(crate) fn write_tables<D: Disk>(disk: &mut D, geometry: &Geometry) -> Result
     requires blank { IsTrue D.tells → Leaves IsBlank (D.moments disk.old).state }
     ensures written { IsTrue D.tells → OnOk result
         (HasTablesBelow geometry.now (first_of_data geometry.now) (reads (D.moments disk.new))) }
-    ensures beyond { IsTrue D.tells → (s : ℕ) → 8 * first_of_data geometry.now ≤ s
+    ensures others { IsTrue D.tells → (s : ℕ) → IsOutside geometry.now s
         → reads (D.moments disk.new) s ≡ reads (D.moments disk.old) s }
     ensures crash { IsTrue D.tells → LeavesOnly D.keeps IsBlank (D.moments disk.old) (D.moments disk.new) }
     ensures size { D.size disk.new ≡ D.size disk.old }
