@@ -1,6 +1,5 @@
-use Rattle.std.proofs.Common.{◌≡◌, ◌≤◌, ◌*◌, ℕ, length, IsTrue}
+use Rattle.std.proofs.Common.{◌≡◌, ℕ, IsTrue}
 use Rattle.ufs_disk.specs.Moments.{LeavesOnly, reads}
-use Rattle.ufs_layout.specs.Areas.{first_of_data}
 use Rattle.ufs_recover.specs.Tables.{IsOutside, HasTablesBelow}
 use Rattle.ufs_recover.specs.Stopped.{IsBlank}
 use Rattle.ufs_recover.proofs.tables.write_tables.Given as goal
