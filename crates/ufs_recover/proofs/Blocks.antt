@@ -1,5 +1,5 @@
 -- The sectors of one block of bytes.
-use Rattle.std.proofs.Common.{◌≡◌, ℕ, zero, suc, ◌+◌, ◌-◌, ◌*◌, ◌<◌, ◌≤◌, List, ◌++◌, length, take, drop, replicate, get_or, refl, sym, ◌∙◌, ap, arith, length-drop}
+use Rattle.std.proofs.Common.{◌≡◌, ℕ, ◌+◌, ◌-◌, ◌*◌, ◌<◌, ◌≤◌, List, ◌++◌, length, take, drop, replicate, get_or, refl, sym, ◌∙◌, ap, arith, length-drop}
 use Rattle.std.specs.Prelude.{map}
 use Rattle.std.specs.List.{range_with_len}
 use Rattle.std.proofs.lemmas.List.{ext_get_or, get_or-take, get_or-drop, length-take-le, take-append-le, take_all, drop-replicate, take-replicate}
@@ -10,7 +10,7 @@ use Rattle.ufs_layout.specs.Areas.{first_of_inodes, first_of_data}
 use Rattle.ufs_layout.specs.InodeForm.{inode_bytes}
 use Rattle.ufs_layout.specs.Formatted.{byte_below, bitmap_below, new_root}
 use Rattle.ufs_layout.specs.declared.geometry.Geometry.{Geometry}
-use Rattle.ufs_recover.specs.Tables.{IsTableSector, IsTableBlock}
+use Rattle.ufs_recover.specs.Tables.{IsTableBlock}
 
 -- of a block that has f of each place
 pub sector_of_fn : (f : ℕ → ℕ) (bytes : List ℕ) (first m n a : ℕ) → ((k : ℕ) → k < length bytes → get_or bytes k 0 ≡ f (first + k)) → m + n ≤ length bytes → first + m ≡ a

@@ -1,21 +1,21 @@
 -- The stages of formatting: no superblock, then the tables, then a new image.
-use Rattle.std.proofs.Common.{◌≡◌, ◌≢◌, ◌⊎◌, inl, inr, ⊎_elim, Bool, true, false, ◌||◌, ℕ, ◌+◌, ◌-◌, ◌*◌, ◌<◌, ◌≤◌, List, [], take, refl, sym, ◌∙◌, ap, subst, arith}
+use Rattle.std.proofs.Common.{◌≡◌, ◌≢◌, inl, inr, ⊎_elim, Bool, true, ◌||◌, ℕ, ◌+◌, ◌-◌, ◌*◌, ◌<◌, ◌≤◌, List, take, refl, sym, ◌∙◌, ap, subst, arith}
 use Rattle.std.specs.Prelude.{◌==◌, not, Result, Ok, Err, OnOk}
 use Rattle.std.specs.Str.{bytes_eq}
 use Rattle.std.proofs.Math.Bool.{or-true}
-use Rattle.ufs_disk.specs.Disk.{State, Image, IsImage, IsSettled, Leaves, put, seen}
+use Rattle.ufs_disk.specs.Disk.{Image, IsImage, IsSettled, put}
 use Rattle.ufs_disk.specs.Moments.{Moments, LeavesOnly, reads}
 use Rattle.ufs_disk.proofs.Images.{seen_is_image, put_same, put_other}
-use Rattle.ufs_disk.proofs.Runs.{weaker, goes_on, goes_on_quietly}
-use Rattle.ufs_layout.specs.Areas.{IsGeometry, sector_count, bitmap_blocks, first_of_bitmap, first_of_inodes, first_of_journal, first_of_data, sector_of_inode}
+use Rattle.ufs_disk.proofs.Runs.{weaker, goes_on}
+use Rattle.ufs_layout.specs.Areas.{IsGeometry, sector_count, first_of_bitmap, first_of_journal, first_of_data, sector_of_inode}
 use Rattle.ufs_layout.specs.Words.{first_of, refused_if}
 use Rattle.ufs_layout.specs.Superblock.{magic, super_bytes}
 use Rattle.ufs_layout.specs.InodeForm.{inode_bytes, free_inode}
-use Rattle.ufs_layout.specs.Formatted.{IsFormatted, new_super, new_root, bitmap_below, empty_sector}
-use Rattle.ufs_layout.specs.Volume.{Refusal, NoSuperblock, BadVersion, BadGeometry, has_other_version, head_of, is_off_form, bad_geometry, is_too_small, lacks_magic, by_head}
+use Rattle.ufs_layout.specs.Formatted.{IsFormatted, new_super, bitmap_below, empty_sector}
+use Rattle.ufs_layout.specs.Volume.{NoSuperblock, BadVersion, BadGeometry, has_other_version, head_of, is_off_form, bad_geometry, is_too_small, lacks_magic, by_head}
 use Rattle.ufs_layout.specs.Laws.{OpensToRoot, BeginsWhole, BeginsProper}
 use Rattle.ufs_layout.specs.declared.geometry.Geometry.{Geometry}
-use Rattle.ufs_recover.specs.Tables.{IsTableSector, HasTablesBelow}
+use Rattle.ufs_recover.specs.Tables.{HasZeroTails, IsOutside, IsTableSector, HasTablesBelow}
 use Rattle.ufs_recover.specs.Stopped.{IsNew, IsRefused, IsStopped, IsBlank, HasHeadPut}
 
 -- ---- images
@@ -49,6 +49,12 @@ formatted g image is head tables = record {
     sector : (s : ℕ) → 8 ≤ s → s < 8 * first_of_data g → IsTableSector g s (image s)
     sector s from under = tables.sectors s from under
 
+zero_tails : (g : Geometry) (image : Image) → IsGeometry g → HasTablesBelow g (first_of_data g) image → HasZeroTails g image
+zero_tails g image is tables = record {
+  inodes = λ s behind before. (tables.sectors s (omega arith) (omega arith)).rest (omega (arith, is.least_inodes));
+  journal = λ s behind before. (tables.sectors s (omega arith) before).rest (omega (arith, is.least_inodes));
+}
+
 -- the tables, where the superblock's sector was put
 tables_stay : (g : Geometry) (block : ℕ) (bytes : List ℕ) (d : Image) → HasTablesBelow g block d → HasTablesBelow g block (put 0 bytes d)
 tables_stay g block bytes d tables = record {
@@ -56,28 +62,26 @@ tables_stay g block bytes d tables = record {
 }
 
 module _ (g : Geometry) (sectors : ℕ) (is : IsGeometry g) (room : sector_count g ≤ sectors) (opens : OpensToRoot g) (whole : BeginsWhole g) (proper : BeginsProper g) where
-  new_image : (image : Image) → IsFormatted g image → IsNew g sectors image
-  new_image image new = record {
+  new_image : (image : Image) → IsFormatted g image → HasTablesBelow g (first_of_data g) image → IsNew g sectors image
+  new_image image new tables = record {
     formatted = new;
+    tails = zero_tails g image is tables;
     root_alone = opens sectors image new room;
     undamaged = whole sectors image new room;
     proper = proper sectors image new room;
   }
 
   -- the superblock is put where the tables are
-  pub put_new : (bytes : List ℕ) (d e : Image) → bytes ≡ super_bytes (new_super g) → e ≡ d → HasTablesBelow g (first_of_data g) d → IsNew g sectors (put 0 bytes e)
-  put_new bytes d e head same tables = new_image (put 0 bytes e)
-      (formatted g (put 0 bytes e) is (put_same 0 bytes e ∙ head) (tables_stay g (first_of_data g) bytes e (subst (HasTablesBelow g (first_of_data g)) (sym same) tables)))
+  pub put_new : (bytes : List ℕ) (d : Image) → bytes ≡ super_bytes (new_super g) → HasTablesBelow g (first_of_data g) d → IsNew g sectors (put 0 bytes d)
+  put_new bytes d head tables =
+      let there : HasTablesBelow g (first_of_data g) (put 0 bytes d) = tables_stay g (first_of_data g) bytes d tables in
+      new_image (put 0 bytes d) (formatted g (put 0 bytes d) is (put_same 0 bytes d ∙ head) there) there
 
 -- ---- moments
 
 pub on_ok_both : {T E : Type 0} (P Q : Type 0) (r : Result T E) → OnOk r P → OnOk r Q → OnOk r (P × Q)
 on_ok_both P Q (Ok x) p q = (p, q)
 on_ok_both P Q (Err e) p q = tt
-
--- after the first barrier
-pub blank_settled : (old new : Moments) → IsSettled new.state → reads new ≡ put 0 empty_sector (reads old) → Leaves IsBlank new.state
-blank_settled old new settled is image left = ap (λ (e : Image). e 0) (settled image left ∙ is) ∙ put_same 0 empty_sector (reads old)
 
 module _ (keeps : Bool) (g : Geometry) (sectors : ℕ) (first : Moments) where
   -- the superblock is taken out
@@ -91,9 +95,6 @@ module _ (keeps : Bool) (g : Geometry) (sectors : ℕ) (first : Moments) where
   pub while_blank : (old new : Moments) → LeavesOnly keeps (IsStopped g sectors first.state) first old → LeavesOnly keeps IsBlank old new → LeavesOnly keeps (IsStopped g sectors first.state) first new
   while_blank old new so_far call = goes_on keeps (IsStopped g sectors first.state) IsBlank first old new so_far call (λ image blank. inr (inl (refused sectors image blank)))
 
-  pub while_settled : (old new : Moments) → LeavesOnly keeps (IsStopped g sectors first.state) first old → LeavesOnly keeps (IsImage old.state) old new → LeavesOnly keeps (IsStopped g sectors first.state) first new
-  while_settled old new so_far call = goes_on_quietly keeps (IsStopped g sectors first.state) first old new so_far call
-
   -- the new one is put in
   pub put_in : (bytes : List ℕ) (old new : Moments) → LeavesOnly keeps (IsStopped g sectors first.state) first old → LeavesOnly keeps (HasHeadPut bytes old.state) old new
       → IsSettled old.state → IsBlank (reads old) → IsNew g sectors (put 0 bytes (reads old)) → LeavesOnly keeps (IsStopped g sectors first.state) first new
@@ -102,6 +103,10 @@ module _ (keeps : Bool) (g : Geometry) (sectors : ℕ) (first : Moments) where
       (λ same. inr (inr (subst (IsNew g sectors) (sym (same ∙ ap (put 0 bytes) (settled from.before from.left))) new_one)))
       from.is)
 
--- as the disk reads, where a crash leaves nothing else
-pub blank_read : (keeps : Bool) (first old : Moments) (e : Image) → LeavesOnly keeps IsBlank first old → e ≡ reads old → IsBlank e
-blank_read keeps first old e run same = ap (λ (d : Image). d 0) same ∙ run.after (reads old) (seen_is_image old.state)
+-- as the disk reads
+pub blank_read : (keeps : Bool) (first old : Moments) → LeavesOnly keeps IsBlank first old → IsBlank (reads old)
+blank_read keeps first old run = run.after (reads old) (seen_is_image old.state)
+
+-- a sector outside is not the superblock's
+pub outside_head : (g : Geometry) (s : ℕ) → IsOutside g s → s ≢ 0
+outside_head g s outside zero = ⊎_elim (λ near. omega arith) (λ far. omega arith) outside

@@ -1,13 +1,14 @@
 -- What a disk has after a write of the superblock's sector, and after a write of a block.
-use Rattle.std.proofs.Common.{◌≡◌, ◌≢◌, ◌⊎◌, inl, inr, ⊎_elim, Bool, ℕ, ◌+◌, ◌-◌, ◌*◌, ◌/◌, ◌<◌, ◌≤◌, List, [], length, take, drop, refl, sym, ◌∙◌, ap, subst, arith}
+use Rattle.std.proofs.Common.{◌≡◌, ◌≢◌, ◌⊎◌, inl, inr, ⊎_elim, Bool, ℕ, ◌+◌, ◌-◌, ◌*◌, ◌/◌, ◌<◌, ◌≤◌, List, length, take, drop, sym, ◌∙◌, ap, subst, arith}
 use Rattle.std.proofs.lemmas.Bool.{cases_lt}
-use Rattle.ufs_disk.specs.Disk.{State, Image, IsImage, Leaves, Mixes, IsPartlyWritten, put, put_all, overwritten, sectors_of}
-use Rattle.ufs_disk.specs.Moments.{Moments, LeavesOnly, reads}
+use Rattle.ufs_disk.specs.Disk.{State, Image, IsImage, Leaves, Mixes, IsPartlyWritten, overwritten, sectors_of}
+use Rattle.ufs_disk.specs.Moments.{Moments, LeavesOnly}
 use Rattle.ufs_disk.proofs.Images.{mixed_one, put_one, put_other, put_all_below, put_all_above, put_all_within}
 use Rattle.ufs_disk.proofs.Flat.{length-pieces, pieces_at}
 use Rattle.ufs_disk.proofs.Runs.{weaker, goes_on, goes_on_quietly}
-use Rattle.ufs_recover.specs.Tables.{IsTableSector, IsTableBlock, HasTablesBelow}
+use Rattle.ufs_recover.specs.Tables.{IsOutside, IsTableSector, IsTableBlock, HasTablesBelow}
 use Rattle.ufs_recover.specs.Stopped.{IsBlank, HasHeadPut}
+use Rattle.ufs_layout.specs.Areas.{first_of_data}
 use Rattle.ufs_layout.specs.declared.geometry.Geometry.{Geometry}
 
 -- ---- the superblock's sector
@@ -33,7 +34,7 @@ module _ (g : Geometry) (block : ℕ) (bytes : List ℕ) (sized : length bytes �
   eight : length (sectors_of bytes) ≡ 8
   eight = length-pieces (length bytes / 512) bytes ∙ omega arith
 
-  pub block_below : (s : ℕ) → s < 8 * block → overwritten (8 * block) bytes d s ≡ d s
+  block_below : (s : ℕ) → s < 8 * block → overwritten (8 * block) bytes d s ≡ d s
   block_below s lt = put_all_below (sectors_of bytes) (8 * block) s d lt
 
   block_above : (s : ℕ) → 8 * (block + 1) ≤ s → overwritten (8 * block) bytes d s ≡ d s
@@ -42,8 +43,8 @@ module _ (g : Geometry) (block : ℕ) (bytes : List ℕ) (sized : length bytes �
   block_within : (i : ℕ) → i < 8 → overwritten (8 * block) bytes d (8 * block + i) ≡ take 512 (drop (512 * i) bytes)
   block_within i lt = put_all_within (sectors_of bytes) (8 * block) i d (omega (arith, eight)) ∙ pieces_at (length bytes / 512) i bytes (omega arith)
 
-  pub block_beyond : (now : Image) → Mixes d (overwritten (8 * block) bytes d) now → (s : ℕ) → 8 * (block + 1) ≤ s → now s ≡ d s
-  block_beyond now mixed s ge = ⊎_elim (λ is. is) (λ is. is ∙ block_above s ge) (mixed s)
+  pub block_others : (now : Image) → Mixes d (overwritten (8 * block) bytes d) now → 1 ≤ block → block < first_of_data g → (s : ℕ) → IsOutside g s → now s ≡ d s
+  block_others now mixed from below s outside = ⊎_elim (λ is. is) (λ is. is ∙ ⊎_elim (λ near. block_below s (omega arith)) (λ far. block_above s (omega arith)) outside) (mixed s)
 
   pub block_laid : (now : Image) → now ≡ overwritten (8 * block) bytes d → IsTableBlock g block bytes → HasTablesBelow g block d → HasTablesBelow g (block + 1) now
   block_laid now is laid below = record { sectors = λ s from under. at s from under (cases_lt s (8 * block)) }

@@ -1,5 +1,5 @@
 -- Why a disk isn't formatted.
-use Rattle.std.specs.Prelude.{◌≡◌, ◌≤◌, ◌<◌, ℕ}
+use Rattle.std.specs.Prelude.{◌≡◌, ◌≤◌, ℕ}
 use Rattle.ufs_disk.specs.Faults.{Rose}
 use Rattle.ufs_recover.specs.declared.fault.FormatFault.{FormatFault}
 use Rattle.ufs_recover.specs.declared.fault.FormatFault.TheVariants.{TooSmall, Device, Memory}

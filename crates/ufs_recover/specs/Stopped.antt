@@ -6,10 +6,12 @@ use Rattle.ufs_layout.specs.Volume.{volume, NoSuperblock}
 use Rattle.ufs_layout.specs.Opens.{opens, root_tree, damage_list}
 use Rattle.ufs_layout.specs.Proper.{IsProperImage}
 use Rattle.ufs_layout.specs.declared.geometry.Geometry.{Geometry}
+use Rattle.ufs_recover.specs.Tables.{HasZeroTails}
 
 -- a new image on a disk of so many sectors: it stands for the root alone, nothing in it is damaged, and it is proper
 pub record IsNew (g : Geometry) (sectors : ℕ) (image : Image) : Type 0 where
   pub formatted : IsFormatted g image
+  pub tails : HasZeroTails g image
   pub root_alone : opens sectors image ≡ Ok root_tree
   pub undamaged : damage_list sectors image ≡ Ok []
   pub proper : IsProperImage sectors image

@@ -1,10 +1,21 @@
--- What the sectors between the superblock's block and the data area have in a new image.
-use Rattle.std.specs.Prelude.{◌≡◌, ◌<◌, ◌≤◌, ℕ, ◌+◌, ◌-◌, ◌*◌, List, take, drop}
+-- The sectors between the superblock's block and the data area, and those that formatting leaves alone.
+use Rattle.std.specs.Prelude.{◌≡◌, ◌⊎◌, ◌<◌, ◌≤◌, ℕ, ◌+◌, ◌-◌, ◌*◌, List, take, drop}
 use Rattle.ufs_disk.specs.Disk.{Image}
-use Rattle.ufs_layout.specs.Areas.{first_of_inodes, first_of_data}
+use Rattle.ufs_layout.specs.Areas.{first_of_inodes, first_of_journal, first_of_data, sector_of_inode}
 use Rattle.ufs_layout.specs.InodeForm.{inode_bytes}
 use Rattle.ufs_layout.specs.Formatted.{bitmap_below, new_root, empty_sector}
 use Rattle.ufs_layout.specs.declared.geometry.Geometry.{Geometry}
+
+-- Zeros follow behind the last inode and behind the last sector of the journal, to the end of their blocks.
+pub record HasZeroTails (g : Geometry) (image : Image) : Type 0 where
+  pub inodes : (s : ℕ) → sector_of_inode g g.inodes < s → s < 8 * first_of_journal g → image s ≡ empty_sector
+  pub journal : (s : ℕ) → 8 * first_of_journal g + g.journal ≤ s → s < 8 * first_of_data g → image s ≡ empty_sector
+
+-- The sector is in the superblock's block behind the superblock, or not before the data area.
+abbrev pub IsOutside : Geometry → ℕ → Type 0
+IsOutside g sector = ((1 ≤ sector) × (sector < 8)) ⊎ (8 * first_of_data g ≤ sector)
+
+-- ---- what formatting writes between
 
 -- the bitmap, then the root, and then nothing but zeros
 pub record IsTableSector (g : Geometry) (sector : ℕ) (bytes : List ℕ) : Type 0 where

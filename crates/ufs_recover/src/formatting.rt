@@ -1,8 +1,9 @@
 // A disk becomes an empty file system.
-ghost use Rattle.std.specs.Prelude.{◌≡◌, ◌≤◌, ◌<◌, ◌*◌, ◌↔◌, ℕ, IsTrue, IfErr, OnOk, Err};
+ghost use Rattle.std.specs.Prelude.{◌≡◌, ◌≤◌, ◌<◌, ◌↔◌, ℕ, IsTrue, IfErr, OnOk, Err};
 ghost use Rattle.ufs_disk.specs.Moments.{LeavesOnly, reads};
 ghost use Rattle.ufs_disk.specs.Faults.{HasCause};
-ghost use Rattle.ufs_layout.specs.Areas.{IsGeometry, first_of_data, sector_count};
+ghost use Rattle.ufs_layout.specs.Areas.{IsGeometry, sector_count};
+ghost use Rattle.ufs_recover.specs.Tables.{IsOutside};
 ghost use Rattle.ufs_recover.specs.Stopped.{IsNewDisk, IsStopped};
 ghost use Rattle.ufs_recover.specs.Faults.{HasFaultCause};
 
@@ -12,7 +13,7 @@ use crate::tables::write_tables;
 use ufs_disk::{Disk, Fault, SECTOR};
 use ufs_layout::{Geometry, new_image_law};
 
-// Zeros in the superblock's sector first, the superblock last, and a barrier after each step.
+// Zeros in the superblock's sector first, and the superblock last. Each step ends with a barrier.
 fn write_image<D: Disk>(disk: &mut D, geometry: &Geometry) -> Result<(), Fault>
     requires geometry { IsGeometry geometry.now }
     requires room { sector_count geometry.now ≤ D.size disk.old }
@@ -21,14 +22,13 @@ fn write_image<D: Disk>(disk: &mut D, geometry: &Geometry) -> Result<(), Fault>
     ensures crash { IsTrue D.tells → LeavesOnly D.keeps
         (IsStopped geometry.now (D.size disk.old) (D.moments disk.old).state)
         (D.moments disk.old) (D.moments disk.new) }
-    ensures beyond { IsTrue D.tells → (s : ℕ) → 8 * first_of_data geometry.now ≤ s
+    ensures others { IsTrue D.tells → (s : ℕ) → IsOutside geometry.now s
         → reads (D.moments disk.new) s ≡ reads (D.moments disk.old) s }
     ensures size { D.size disk.new ≡ D.size disk.old }
     ensures cause { HasCause (D.faults disk.old) (D.faults disk.new) result }
 {
     put_head(disk, &[0; SECTOR])?;
     write_tables(disk, geometry)?;
-    disk.barrier()?;
     new_image_law(geometry);
     put_head(disk, &new_head(geometry))
 }
@@ -51,7 +51,7 @@ pub fn format<D: Disk>(disk: &mut D, geometry: &Geometry) -> Result<(), FormatFa
     ensures crash { IsTrue D.tells → LeavesOnly D.keeps
         (IsStopped geometry.now (D.size disk.old) (D.moments disk.old).state)
         (D.moments disk.old) (D.moments disk.new) }
-    ensures beyond { IsTrue D.tells → (s : ℕ) → 8 * first_of_data geometry.now ≤ s
+    ensures others { IsTrue D.tells → (s : ℕ) → IsOutside geometry.now s
         → reads (D.moments disk.new) s ≡ reads (D.moments disk.old) s }
     ensures size { D.size disk.new ≡ D.size disk.old }
 {

@@ -1,12 +1,12 @@
 // The blocks between the superblock's and the data area.
-ghost use Rattle.std.specs.Prelude.{◌≡◌, ◌≤◌, ◌<◌, ◌+◌, ◌*◌, ◌^◌, ◌++◌, ℕ, length, drop, replicate, slice_index, EachIndex, IsTrue, OnOk};
+ghost use Rattle.std.specs.Prelude.{◌≡◌, ◌≤◌, ◌<◌, ◌+◌, ◌^◌, ◌++◌, ℕ, length, drop, replicate, slice_index, EachIndex, IsTrue, OnOk};
 ghost use Rattle.ufs_disk.specs.Disk.{Leaves, IsSettled};
 ghost use Rattle.ufs_disk.specs.Moments.{LeavesOnly, reads};
 ghost use Rattle.ufs_disk.specs.Faults.{HasCause};
 ghost use Rattle.ufs_layout.specs.Areas.{IsGeometry, first_of_data, sector_count};
 ghost use Rattle.ufs_layout.specs.InodeForm.{inode_bytes};
 ghost use Rattle.ufs_layout.specs.Formatted.{byte_below, new_root};
-ghost use Rattle.ufs_recover.specs.Tables.{IsTableBlock, HasTablesBelow};
+ghost use Rattle.ufs_recover.specs.Tables.{IsOutside, IsTableBlock, HasTablesBelow};
 ghost use Rattle.ufs_recover.specs.Stopped.{IsBlank};
 
 use crate::areas::{data_start, inodes_start};
@@ -71,14 +71,16 @@ fn lay_block(bytes: &mut [u8], geometry: &Geometry, block: u32)
     }
 }
 
-// Writes the bitmap, the inode table and the journal, whole blocks of them.
+// Writes the bitmap, the inode table and the journal, whole blocks of them, and waits until all is on
+// the disk for good.
 pub(crate) fn write_tables<D: Disk>(disk: &mut D, geometry: &Geometry) -> Result<(), Fault>
     requires geometry { IsGeometry geometry.now }
     requires room { sector_count geometry.now ≤ D.size disk.old }
     requires blank { IsTrue D.tells → Leaves IsBlank (D.moments disk.old).state }
+    ensures settled { IsTrue D.tells → OnOk result (IsSettled (D.moments disk.new).state) }
     ensures written { IsTrue D.tells → OnOk result
         (HasTablesBelow geometry.now (first_of_data geometry.now) (reads (D.moments disk.new))) }
-    ensures beyond { IsTrue D.tells → (s : ℕ) → 8 * first_of_data geometry.now ≤ s
+    ensures others { IsTrue D.tells → (s : ℕ) → IsOutside geometry.now s
         → reads (D.moments disk.new) s ≡ reads (D.moments disk.old) s }
     ensures crash { IsTrue D.tells → LeavesOnly D.keeps IsBlank (D.moments disk.old) (D.moments disk.new) }
     ensures size { D.size disk.new ≡ D.size disk.old }
@@ -89,5 +91,5 @@ pub(crate) fn write_tables<D: Disk>(disk: &mut D, geometry: &Geometry) -> Result
         lay_block(&mut bytes, geometry, block);
         disk.write(8 * block, &bytes)?;
     }
-    Ok(())
+    disk.barrier()
 }

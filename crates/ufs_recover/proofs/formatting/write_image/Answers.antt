@@ -1,12 +1,10 @@
-use Rattle.std.proofs.Common.{◌≡◌, ◌≢◌, ◌*◌, ◌≤◌, ℕ, List, sym, ◌∙◌, ap, subst, arith, rules}
+use Rattle.std.proofs.Common.{sym, ◌∙◌, subst}
 use Rattle.std.proofs.lemmas.Result.{on_ok_weaker}
-use Rattle.ufs_disk.specs.Disk.{Image, Leaves, put}
-use Rattle.ufs_disk.specs.Moments.{LeavesOnly, reads}
-use Rattle.ufs_layout.specs.Superblock.{super_bytes}
-use Rattle.ufs_layout.specs.Formatted.{new_super}
-use Rattle.ufs_recover.specs.Stopped.{IsNew, IsStopped, IsBlank}
+use Rattle.ufs_disk.specs.Disk.{put}
+use Rattle.ufs_disk.specs.Moments.{reads}
+use Rattle.ufs_recover.specs.Stopped.{IsNew}
+use Rattle.ufs_recover.proofs.Stages.{on_ok_both, blank_read, taken_out, while_blank, put_in, put_new, outside_head}
 use Rattle.ufs_recover.proofs.formatting.write_image.Goals as goal
-use Rattle.ufs_recover.proofs.Stages.{on_ok_both, blank_settled, blank_read, taken_out, while_blank, while_settled, put_in, put_new}
 
 pub returns-in_err-put_head-clause-crash : goal.returns-in_err-put_head-clause-crash
 returns-in_err-put_head-clause-crash g c told = taken_out _ c.args.geometry.now (g.D.Disk.size c.args.disk.now) _ _ (c.put_head.ensures.crash told)
@@ -15,19 +13,11 @@ pub returns-in_err-write_tables-clause-crash : goal.returns-in_err-write_tables-
 returns-in_err-write_tables-clause-crash g c told = while_blank _ c.args.geometry.now (g.D.Disk.size c.args.disk.now) _ _ _
     (taken_out _ c.args.geometry.now (g.D.Disk.size c.args.disk.now) _ _ (c.put_head.ensures.crash told)) (c.write_tables.ensures.crash told)
 
-pub returns-in_err-barrier-clause-crash : goal.returns-in_err-barrier-clause-crash
-returns-in_err-barrier-clause-crash g c told = while_settled _ c.args.geometry.now (g.D.Disk.size c.args.disk.now) _ _ _ (while_blank _ c.args.geometry.now (g.D.Disk.size c.args.disk.now) _ _ _
-    (taken_out _ c.args.geometry.now (g.D.Disk.size c.args.disk.now) _ _ (c.put_head.ensures.crash told)) (c.write_tables.ensures.crash told)) (c.barrier.ensures.crash told)
-
-pub returns-in_err-barrier-clause-beyond : goal.returns-in_err-barrier-clause-beyond
-returns-in_err-barrier-clause-beyond g c told s ge =
-    ap (λ (d : Image). d s) (c.barrier.ensures.content told) ∙ c.write_tables.ensures.beyond told s ge ∙ c.put_head.ensures.others told s (λ zero. absurd (omega arith))
-
 pub returns-clause-ok : goal.returns-clause-ok
 returns-clause-ok g c told =
-    let new_one : IsNew c.args.geometry.now (g.D.Disk.size c.args.disk.now) (put 0 c.new_head.result (reads (g.D.Disk.moments c.barrier.new.self))) =
+    let new_one : IsNew c.args.geometry.now (g.D.Disk.size c.args.disk.now) (put 0 c.new_head.result (reads (g.D.Disk.moments c.write_tables.new.disk))) =
     put_new c.args.geometry.now (g.D.Disk.size c.args.disk.now) c.requires.geometry c.requires.room c.new_image_law.ensures.opens c.new_image_law.ensures.whole c.new_image_law.ensures.proper
-        c.new_head.result _ _ c.new_head.ensures (c.barrier.ensures.content told) (c.in_ok-write_tables.ensures.written told) in
+    c.new_head.result _ c.new_head.ensures (c.in_ok-write_tables.ensures.written told) in
     on_ok_weaker c.put_head-2.result (λ both. record {
       settled = both.0;
       new = subst (IsNew c.args.geometry.now (g.D.Disk.size c.args.disk.now)) (sym both.1) new_one;
@@ -36,13 +26,13 @@ returns-clause-ok g c told =
 pub returns-clause-crash : goal.returns-clause-crash
 returns-clause-crash g c told =
     put_in _ c.args.geometry.now (g.D.Disk.size c.args.disk.now) _ c.new_head.result _ _
-    (while_settled _ c.args.geometry.now (g.D.Disk.size c.args.disk.now) _ _ _ (while_blank _ c.args.geometry.now (g.D.Disk.size c.args.disk.now) _ _ _
-    (taken_out _ c.args.geometry.now (g.D.Disk.size c.args.disk.now) _ _ (c.put_head.ensures.crash told)) (c.write_tables.ensures.crash told)) (c.barrier.ensures.crash told))
-    (c.put_head-2.ensures.crash told) (c.in_ok-barrier.ensures.ok told) (blank_read _ _ _ _ (c.write_tables.ensures.crash told) (c.barrier.ensures.content told))
+    (while_blank _ c.args.geometry.now (g.D.Disk.size c.args.disk.now) _ _ _
+    (taken_out _ c.args.geometry.now (g.D.Disk.size c.args.disk.now) _ _ (c.put_head.ensures.crash told)) (c.write_tables.ensures.crash told))
+    (c.put_head-2.ensures.crash told) (c.in_ok-write_tables.ensures.settled told) (blank_read _ _ _ (c.write_tables.ensures.crash told))
     (put_new c.args.geometry.now (g.D.Disk.size c.args.disk.now) c.requires.geometry c.requires.room c.new_image_law.ensures.opens c.new_image_law.ensures.whole c.new_image_law.ensures.proper
-    c.new_head.result _ _ c.new_head.ensures (c.barrier.ensures.content told) (c.in_ok-write_tables.ensures.written told))
+    c.new_head.result _ c.new_head.ensures (c.in_ok-write_tables.ensures.written told))
 
-pub returns-clause-beyond : goal.returns-clause-beyond
-returns-clause-beyond g c told s ge =
-    c.put_head-2.ensures.others told s (λ zero. absurd (omega arith)) ∙ ap (λ (d : Image). d s) (c.barrier.ensures.content told)
-    ∙ c.write_tables.ensures.beyond told s ge ∙ c.put_head.ensures.others told s (λ zero. absurd (omega arith))
+pub returns-clause-others : goal.returns-clause-others
+returns-clause-others g c told s outside =
+    c.put_head-2.ensures.others told s (outside_head c.args.geometry.now s outside)
+    ∙ c.write_tables.ensures.others told s outside ∙ c.put_head.ensures.others told s (outside_head c.args.geometry.now s outside)

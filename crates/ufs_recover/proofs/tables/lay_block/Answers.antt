@@ -1,4 +1,4 @@
-use Rattle.std.proofs.Common.{◌≡◌, ℕ, List, length, replicate, sym, ◌∙◌, ap, arith}
+use Rattle.std.proofs.Common.{replicate, ◌∙◌, ap, arith}
 use Rattle.ufs_recover.proofs.Blocks.{bitmap_block, root_block, empty_block}
 use Rattle.ufs_recover.proofs.tables.lay_block.Goals as goal
 

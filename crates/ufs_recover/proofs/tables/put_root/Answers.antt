@@ -1,4 +1,4 @@
-use Rattle.std.proofs.Common.{◌≡◌, List, ℕ, ◌++◌, drop, ◌∙◌, ap}
+use Rattle.std.proofs.Common.{List, ℕ, ◌++◌, drop, ◌∙◌, ap}
 use Rattle.ufs_layout.specs.InodeForm.{inode_bytes}
 use Rattle.ufs_recover.proofs.tables.put_root.Goals as goal
 

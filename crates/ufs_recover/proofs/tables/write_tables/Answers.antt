@@ -1,16 +1,33 @@
-use Rattle.std.proofs.Common.{◌≡◌, ◌+◌, ◌*◌, ℕ, length, ◌∙◌, ap, arith}
-use Rattle.ufs_recover.proofs.Written.{block_laid, block_beyond, still_blank}
+use Rattle.std.proofs.Common.{ℕ, sym, ◌∙◌, ap, subst, arith}
+use Rattle.std.proofs.lemmas.Result.{on_ok_weaker}
+use Rattle.ufs_disk.specs.Disk.{Image}
+use Rattle.ufs_disk.specs.Moments.{reads}
+use Rattle.ufs_disk.proofs.Runs.{goes_on_quietly}
+use Rattle.ufs_recover.specs.Tables.{HasTablesBelow}
+use Rattle.ufs_recover.specs.Stopped.{IsBlank}
+use Rattle.ufs_recover.proofs.Written.{block_laid, block_others, still_blank}
 use Rattle.ufs_recover.proofs.tables.write_tables.Goals as goal
 
 pub returns-in_err-write-clause-crash : goal.returns-in_err-write-clause-crash
 returns-in_err-write-clause-crash g c told = still_blank c.loop-block.block c.lay_block.new.bytes (omega arith) _ _ _ _ (c.loop-block.invariant.crash told) (c.write.ensures.crash told)
+
+pub returns-clause-written : goal.returns-clause-written
+returns-clause-written g c told = on_ok_weaker c.barrier.result (λ settled.
+    subst (λ (n : ℕ). HasTablesBelow c.args.geometry.now n (reads (g.D.Disk.moments c.barrier.new.self))) (omega arith)
+    (subst (HasTablesBelow c.args.geometry.now c.loop-block.block) (sym (c.barrier.ensures.content told)) (c.loop-block.invariant.written told))) (c.barrier.ensures.ok told)
+
+pub returns-clause-others : goal.returns-clause-others
+returns-clause-others g c told s outside = ap (λ (d : Image). d s) (c.barrier.ensures.content told) ∙ c.loop-block.invariant.others told s outside
+
+pub returns-clause-crash : goal.returns-clause-crash
+returns-clause-crash g c told = goes_on_quietly _ IsBlank _ _ _ (c.loop-block.invariant.crash told) (c.barrier.ensures.crash told)
 
 pub loop-block-preserved : goal.loop-block-preserved
 loop-block-preserved g c =
     let i = c.loop-block.invariant in
     record {
       written = λ told. block_laid c.args.geometry.now c.loop-block.block c.lay_block.new.bytes (omega arith) _ _ (c.in_ok-write.ensures.ok told) c.lay_block.ensures (i.written told);
-      beyond = λ told s ge. block_beyond c.args.geometry.now c.loop-block.block c.lay_block.new.bytes (omega arith) _ _ (c.write.ensures.content told) s (omega arith) ∙ i.beyond told s ge;
+      others = λ told s outside. block_others c.args.geometry.now c.loop-block.block c.lay_block.new.bytes (omega arith) _ _ (c.write.ensures.content told) (omega arith) (omega arith) s outside ∙ i.others told s outside;
       crash = λ told. still_blank c.loop-block.block c.lay_block.new.bytes (omega arith) _ _ _ _ (i.crash told) (c.write.ensures.crash told);
       size = c.write.ensures.size ∙ i.size;
       faults = c.in_ok-write.ensures.cause.passed ∙ i.faults;

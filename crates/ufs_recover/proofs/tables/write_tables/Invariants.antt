@@ -1,7 +1,6 @@
-use Rattle.std.proofs.Common.{◌≡◌, ◌≤◌, ◌*◌, ℕ, length, IsTrue}
+use Rattle.std.proofs.Common.{◌≡◌, ℕ, IsTrue}
 use Rattle.ufs_disk.specs.Moments.{LeavesOnly, reads}
-use Rattle.ufs_layout.specs.Areas.{first_of_data}
-use Rattle.ufs_recover.specs.Tables.{HasTablesBelow}
+use Rattle.ufs_recover.specs.Tables.{IsOutside, HasTablesBelow}
 use Rattle.ufs_recover.specs.Stopped.{IsBlank}
 use Rattle.ufs_recover.proofs.tables.write_tables.Given as goal
 
@@ -10,7 +9,7 @@ invariant-loop-block g l =
     let disk = g.D.Disk in
     record {
       written : IsTrue disk.tells → HasTablesBelow l.fn.geometry l.block (reads (disk.moments l.disk));
-      beyond : IsTrue disk.tells → (s : ℕ) → 8 * first_of_data l.fn.geometry ≤ s → reads (disk.moments l.disk) s ≡ reads (disk.moments l.fn.disk) s;
+      others : IsTrue disk.tells → (s : ℕ) → IsOutside l.fn.geometry s → reads (disk.moments l.disk) s ≡ reads (disk.moments l.fn.disk) s;
       crash : IsTrue disk.tells → LeavesOnly disk.keeps IsBlank (disk.moments l.fn.disk) (disk.moments l.disk);
       size : disk.size l.disk ≡ disk.size l.fn.disk;
       faults : disk.faults l.disk ≡ disk.faults l.fn.disk;
