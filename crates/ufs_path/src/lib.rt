@@ -1,13 +1,16 @@
-// A library with one function.
+//! The texts of paths: which are refused and why, and the components of the others.
 #![tactic(auto)]
 
-ghost use Rattle.std.specs.Prelude.{◌≡◌};
-ghost use Rattle.ufs_path.specs.Echo.{echo_of};
+mod check;
+mod fault;
+mod law;
+mod read;
+#[cfg(test)]
+mod tests;
+mod text;
 
-// The `ensures` clause is the contract: what `echo` returns is `echo_of` of its argument, a definition
-// in `specs/Echo.antt`, which a caller's clause can cite too.
-pub fn echo(x: usize) -> usize
-    ensures { result ≡ echo_of x }
-{
-    x
-}
+pub use check::path_fault;
+pub use fault::PathFault;
+pub use law::{names_stay_in_whole_paths, short_whole_paths_are_allowed};
+pub use read::read_path;
+pub use text::PathText;
