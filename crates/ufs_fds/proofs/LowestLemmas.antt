@@ -1,5 +1,5 @@
 -- The lowest free descriptor, by the bits and in a tree.
-use Rattle.std.proofs.Common.{◌≡◌, ◌≢◌, ℕ, zero, suc, ◌+◌, ◌-◌, ◌^◌, ◌<◌, ◌≤◌, List, Bool, true, false, cond, length, get_or, Option, Some, None, is_some, IsSome, ap, sym, refl, subst, ◌∙◌, arith}
+use Rattle.std.proofs.Common.{◌≡◌, ℕ, zero, suc, ◌+◌, ◌-◌, ◌^◌, ◌<◌, ◌≤◌, List, Bool, true, false, cond, Option, Some, None, is_some, IsSome, ap, sym, refl, ◌∙◌, arith}
 use Rattle.std.proofs.lemmas.Bool.{cond-true, cond-false}
 use Rattle.std.proofs.lemmas.Nat.Bits.{bit_at-trailing_ones, bit_at_ones}
 use Rattle.std.specs.Int.{bit_at, trailing_ones, w64}
@@ -75,8 +75,8 @@ unfolding lowest_free
 lowest_free-Some fds client fd descs are lowest =
     let number : 3 + (fd - 3) ≡ fd = omega (arith, lowest.low) in
     sym (free_from-Some fds client 3 (fd - 3) 64 (omega (arith, lowest.low, lowest.high))
-      (ap (λ k. map.get fds (client, k)) number ∙ are fd ∙ lowest.free)
-      (λ k low high. ap is_some (are k) ∙ lowest.lower k low (omega arith))
+    (ap (λ k. map.get fds (client, k)) number ∙ are fd ∙ lowest.free)
+    (λ k low high. ap is_some (are k) ∙ lowest.lower k low (omega arith))
     ∙ ap Some number)
 
 pub lowest_free-None : (fds : Fds) (client : ℕ) (descs : Descs) → AreOf fds client descs → ((k : ℕ) → 3 ≤ k → k ≤ 66 → IsSome (map.get descs k)) → None ≡ lowest_free fds client

@@ -1,6 +1,6 @@
 -- The slots of a table, seen as a map.
-use Rattle.std.proofs.Common.{◌≡◌, ◌≢◌, ℕ, zero, suc, ◌+◌, ◌-◌, ◌*◌, ◌^◌, ◌%◌, ◌<◌, ◌≤◌, ◌⊎◌, List, [], ◌∷◌, Bool, true, false, cond, leb, eqb, length, get_or, set, replicate, Option, Some, None, is_some, IsSome, ap, sym, refl, subst, ◌∙◌, inl, inr, arith, bit_or, bit_and, length-set, get_or-set_same, get_or-set_other}
-use Rattle.std.proofs.lemmas.Bool.{cases_order, cases_eq, cases_lt, cond-true, cond-false, le-leb, lt-leb, leb-true, eq-eqb, ne_eqb, cases_Bool}
+use Rattle.std.proofs.Common.{◌≡◌, ◌≢◌, ℕ, zero, suc, ◌+◌, ◌-◌, ◌*◌, ◌^◌, ◌%◌, ◌<◌, ◌≤◌, List, [], ◌∷◌, true, false, cond, leb, length, get_or, set, replicate, Option, Some, None, is_some, IsSome, ap, sym, refl, ◌∙◌, inl, inr, arith, bit_or, bit_and, length-set, get_or-set_same, get_or-set_other}
+use Rattle.std.proofs.lemmas.Bool.{cases_eq, cases_lt, cond-true, cond-false, le-leb, lt-leb, eq-eqb, ne_eqb}
 use Rattle.std.proofs.lemmas.Nat.Bits.{bit_at_set_same, bit_at_set_other, bit_at_clear_same, bit_at_clear_other, bit_at-zero}
 use Rattle.std.specs.Int.{bit_at, bit_not, w64}
 use Rattle.std.specs.Ordering.{nat_cmp, eq_by_cmp}
@@ -32,8 +32,8 @@ later fd q o slots ne =
     elim (cases_lt q fd) [
       | inl less ↦ under (fd + 1) q slots (omega arith) ∙ sym (under fd q (o ∷ slots) less)
       | inr most ↦
-        let place : q - fd ≡ suc (q - (fd + 1)) = omega arith in
-        over (fd + 1) q slots (omega arith) ∙ sym (over fd q (o ∷ slots) most ∙ ap (λ k. get_or (o ∷ slots) k None) place)
+          let place : q - fd ≡ suc (q - (fd + 1)) = omega arith in
+          over (fd + 1) q slots (omega arith) ∙ sym (over fd q (o ∷ slots) most ∙ ap (λ k. get_or (o ∷ slots) k None) place)
     ]
 
 first : (fd q : ℕ) (o : Option Desc) (slots : List (Option Desc)) → q ≡ fd → slot_at fd (o ∷ slots) q ≡ o
@@ -90,8 +90,8 @@ slot-set : (slots : List (Option Desc)) (q k : ℕ) (o : Option Desc) → k < le
 slot-set slots q k o h =
     elim (cases_eq q (k + 3)) [
       | inl e ↦
-        let place : q - 3 ≡ k = omega arith in
-        over 3 q (set slots k o) (omega arith) ∙ ap (λ i. get_or (set slots k o) i None) place ∙ get_or-set_same slots k o None h ∙ sym (cond-true _ _ _ (same (k + 3) q e))
+          let place : q - 3 ≡ k = omega arith in
+          over 3 q (set slots k o) (omega arith) ∙ ap (λ i. get_or (set slots k o) i None) place ∙ get_or-set_same slots k o None h ∙ sym (cond-true _ _ _ (same (k + 3) q e))
       | inr ne ↦ other ne ∙ sym (cond-false _ _ _ (apart (k + 3) q ne))
     ]
   where
@@ -100,23 +100,23 @@ slot-set slots q k o h =
         elim (cases_lt q 3) [
           | inl less ↦ under 3 q (set slots k o) less ∙ sym (under 3 q slots less)
           | inr most ↦
-            let elsewhere : q - 3 ≢ k = λ e. ne (omega arith) in
-            over 3 q (set slots k o) most ∙ get_or-set_other slots k (q - 3) o None elsewhere ∙ sym (over 3 q slots most)
+              let elsewhere : q - 3 ≢ k = λ e. ne (omega arith) in
+              over 3 q (set slots k o) most ∙ get_or-set_other slots k (q - 3) o None elsewhere ∙ sym (over 3 q slots most)
         ]
 
 pub table_of-set_Some : (slots : List (Option Desc)) (k fd : ℕ) (desc : Desc) → k < length slots → k + 3 ≡ fd → table_of (set slots k (Some desc)) ≡ map.insert (table_of slots) fd desc
 table_of-set_Some slots k fd desc h e =
     same_map nat_cmp_total nat_cmp-IsAntisymmetric _ _ (λ q.
-      get-table_of (set slots k (Some desc)) q ∙ slot-set slots q k (Some desc) h
-      ∙ ap (λ n. cond (eq_by_cmp nat_cmp q n) (Some desc) (slot_at 3 slots q)) e
-      ∙ sym (get-insert nat_cmp_total (table_of slots) fd desc q ∙ ap (cond (eq_by_cmp nat_cmp q fd) (Some desc)) (get-table_of slots q)))
+    get-table_of (set slots k (Some desc)) q ∙ slot-set slots q k (Some desc) h
+    ∙ ap (λ n. cond (eq_by_cmp nat_cmp q n) (Some desc) (slot_at 3 slots q)) e
+    ∙ sym (get-insert nat_cmp_total (table_of slots) fd desc q ∙ ap (cond (eq_by_cmp nat_cmp q fd) (Some desc)) (get-table_of slots q)))
 
 pub table_of-set_None : (slots : List (Option Desc)) (k fd : ℕ) → k < length slots → k + 3 ≡ fd → table_of (set slots k None) ≡ map.remove (table_of slots) fd
 table_of-set_None slots k fd h e =
     same_map nat_cmp_total nat_cmp-IsAntisymmetric _ _ (λ q.
-      get-table_of (set slots k None) q ∙ slot-set slots q k None h
-      ∙ ap (λ n. cond (eq_by_cmp nat_cmp q n) None (slot_at 3 slots q)) e
-      ∙ sym (get-remove nat_cmp_total (table_of slots) fd q ∙ ap (cond (eq_by_cmp nat_cmp q fd) None) (get-table_of slots q)))
+    get-table_of (set slots k None) q ∙ slot-set slots q k None h
+    ∙ ap (λ n. cond (eq_by_cmp nat_cmp q n) None (slot_at 3 slots q)) e
+    ∙ sym (get-remove nat_cmp_total (table_of slots) fd q ∙ ap (cond (eq_by_cmp nat_cmp q fd) None) (get-table_of slots q)))
 
 -- ---- marks
 
@@ -126,9 +126,9 @@ AreMarked-set used slots k desc m h =
       count = length-set slots k (Some desc) ∙ m.count;
       bits = λ i below. elim (cases_eq i k) [
         | inl e ↦ ap (bit_at (bit_or used (1 * 2 ^ k % 2 ^ 64))) e ∙ bit_at_set_same w64 used k h
-          ∙ sym (ap (λ j. cond (is_some (get_or (set slots k (Some desc)) j None)) 1 0) e ∙ ap (λ (o : Option Desc). cond (is_some o) 1 0) (get_or-set_same slots k (Some desc) None inside))
+            ∙ sym (ap (λ j. cond (is_some (get_or (set slots k (Some desc)) j None)) 1 0) e ∙ ap (λ (o : Option Desc). cond (is_some o) 1 0) (get_or-set_same slots k (Some desc) None inside))
         | inr ne ↦ bit_at_set_other w64 used k h i ne ∙ m.bits i below
-          ∙ sym (ap (λ (o : Option Desc). cond (is_some o) 1 0) (get_or-set_other slots k i (Some desc) None ne))
+            ∙ sym (ap (λ (o : Option Desc). cond (is_some o) 1 0) (get_or-set_other slots k i (Some desc) None ne))
       ];
     }
 
@@ -138,9 +138,9 @@ AreMarked-clear used slots k m h =
       count = length-set slots k None ∙ m.count;
       bits = λ i below. elim (cases_eq i k) [
         | inl e ↦ ap (bit_at (bit_and used (bit_not w64 (1 * 2 ^ k % 2 ^ 64)))) e ∙ bit_at_clear_same w64 used k h
-          ∙ sym (ap (λ j. cond (is_some (get_or (set slots k None) j None)) 1 0) e ∙ ap (λ (o : Option Desc). cond (is_some o) 1 0) (get_or-set_same slots k None None inside))
+            ∙ sym (ap (λ j. cond (is_some (get_or (set slots k None) j None)) 1 0) e ∙ ap (λ (o : Option Desc). cond (is_some o) 1 0) (get_or-set_same slots k None None inside))
         | inr ne ↦ bit_at_clear_other w64 used k h i below ne ∙ m.bits i below
-          ∙ sym (ap (λ (o : Option Desc). cond (is_some o) 1 0) (get_or-set_other slots k i None None ne))
+            ∙ sym (ap (λ (o : Option Desc). cond (is_some o) 1 0) (get_or-set_other slots k i None None ne))
       ];
     }
 

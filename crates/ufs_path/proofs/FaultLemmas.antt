@@ -1,7 +1,7 @@
 -- Faults and the refusals of the model.
-use Rattle.std.proofs.Common.{◌≡◌, ℕ, ◌≤◌, List, [], ◌∷◌, ◌++◌, Bool, true, false, not, ◌&&◌, zero, ◌-◌, ltb, eqb, length, filter, drop, get_or, suc, ◌+◌, ◌<◌, subst, arith, Option, Some, None, ap, sym, refl, ◌∙◌, cond, option_and_then, drop-cons, add-one}
-use Rattle.std.proofs.lemmas.Bool.{not-true, ltb-false, eqb-true, cond-true, eq-eqb, le-ltb, eqb-false}
-use Rattle.std.specs.List.{list_all, AllByRecursion}
+use Rattle.std.proofs.Common.{◌≡◌, ℕ, ◌≤◌, List, [], ◌∷◌, ◌++◌, Bool, true, false, not, ◌&&◌, ◌-◌, ltb, eqb, length, filter, drop, get_or, suc, ◌+◌, ◌<◌, arith, Option, Some, None, ap, sym, refl, ◌∙◌, option_and_then, drop-cons, add-one}
+use Rattle.std.proofs.lemmas.Bool.{ltb-false, eqb-true, cond-true, eq-eqb, le-ltb, eqb-false}
+use Rattle.std.specs.List.{list_all}
 use Rattle.ufs_model.specs.declared.data.Errno.{Errno}
 use Rattle.ufs_model.specs.declared.data.Errno.TheVariants.{Einval, Enametoolong}
 use Rattle.ufs_model.specs.Paths as paths

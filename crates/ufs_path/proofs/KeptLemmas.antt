@@ -1,13 +1,13 @@
 -- The bytes of a whole path and the ends of its components.
-use Rattle.std.proofs.Common.{◌≡◌, ℕ, zero, suc, ◌+◌, ◌-◌, ◌≤◌, ◌<◌, List, [], ◌∷◌, ◌++◌, Bool, true, false, cond, ltb, None, Some, slice_get, length, filter, take, drop, get_or, max, ap, sym, refl, subst, ◌∙◌, arith, length-append, append_assoc, drop-cons, slice_range, add-zero, add-one}
-use Rattle.std.proofs.lemmas.List.{append-nil, take-append-drop, take_more, take_all, get_or_default}
+use Rattle.std.proofs.Common.{◌≡◌, ℕ, zero, suc, ◌+◌, ◌-◌, ◌≤◌, ◌<◌, List, [], ◌∷◌, ◌++◌, None, Some, slice_get, length, filter, take, drop, get_or, max, ap, sym, refl, subst, ◌∙◌, arith, length-append, append_assoc, drop-cons, slice_range, add-zero, add-one}
+use Rattle.std.proofs.lemmas.List.{take-append-drop, take_more, take_all, get_or_default}
 use Rattle.std.proofs.lemmas.Option.{slice_get-get_or}
-use Rattle.std.proofs.lemmas.List.Elements.{filter_more, filter-append}
-use Rattle.std.specs.List.{slice_split, AllByRecursion}
+use Rattle.std.proofs.lemmas.List.Elements.{filter-append}
+use Rattle.std.specs.List.{AllByRecursion}
 use Rattle.ufs_model.specs.Paths.{components, whole_path, text_refusal, IsWhole}
 use Rattle.ufs_path.specs.Names.{IsName}
 use Rattle.ufs_path.specs.Texts.{joined, ends_from, IsKept}
-use Rattle.ufs_path.proofs.SplitLemmas.{is_some_name, pieces, whole_path-joined, components-whole_path}
+use Rattle.ufs_path.proofs.SplitLemmas.{is_some_name, whole_path-joined, components-whole_path}
 use Rattle.ufs_path.proofs.NameLemmas.{components_are_names, names_plain, whole_of_text}
 
 pub joined-append : (xs ys : List (List ℕ)) → joined (xs ++ ys) ≡ joined xs ++ joined ys

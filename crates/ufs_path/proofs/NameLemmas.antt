@@ -1,14 +1,14 @@
 -- Names that may stand in a path, and the refusals of the model.
-use Rattle.std.proofs.Common.{◌≡◌, ℕ, ◌≤◌, ◌<◌, List, [], ◌∷◌, ◌++◌, Bool, true, false, not, ltb, eqb, length, Option, Some, None, ap, sym, refl, ◌∙◌, subst, arith, All}
-use Rattle.std.proofs.lemmas.Bool.{not-false, not-true, ltb-false, ltb-true, le-ltb, lt-ltb, and_parts}
+use Rattle.std.proofs.Common.{◌≡◌, ℕ, ◌≤◌, ◌<◌, List, [], ◌∷◌, ◌++◌, Bool, true, false, not, ltb, length, Option, Some, None, ap, sym, refl, ◌∙◌, subst, arith}
+use Rattle.std.proofs.lemmas.Bool.{not-true, ltb-false, ltb-true, le-ltb, lt-ltb, and_parts}
 use Rattle.std.proofs.lemmas.List.{append-nil}
 use Rattle.std.specs.List.{list_all, AllByRecursion}
 use Rattle.ufs_model.specs.declared.data.Errno.{Errno}
 use Rattle.ufs_model.specs.declared.data.Errno.TheVariants.{Einval, Enametoolong}
-use Rattle.ufs_model.specs.Paths.{components, component_refusal, components_refusal, text_refusal, refused_if, first_of, in_range, is_dots, ends_in_slash, whole_path, has_component, IsWhole}
+use Rattle.ufs_model.specs.Paths.{components, component_refusal, components_refusal, text_refusal, refused_if, first_of, in_range, is_dots, ends_in_slash, whole_path, IsWhole}
 use Rattle.ufs_path.specs.Names.{IsName}
 use Rattle.ufs_path.specs.Texts.{joined}
-use Rattle.ufs_path.proofs.SplitLemmas.{IsPlain, is_free, is_some_name, all_map, all_map₂, components_plain, components-joined, components-whole_path, whole_path-joined, length-whole_path, all_from_recursion, recursion_from_all}
+use Rattle.ufs_path.proofs.SplitLemmas.{IsPlain, is_free, is_some_name, all_map, all_map₂, components_plain, components-joined, components-whole_path, whole_path-joined, length-whole_path}
 use Rattle.ufs_path.proofs.FaultLemmas.{allowed}
 
 -- ---- one name

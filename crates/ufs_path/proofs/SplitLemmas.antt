@@ -1,5 +1,5 @@
 -- The pieces of a text between its slashes.
-use Rattle.std.proofs.Common.{◌≡◌, ℕ, zero, suc, ◌+◌, ◌≤◌, ◌<◌, List, [], ◌∷◌, ◌++◌, Bool, true, false, cond, not, ◌&&◌, eqb, ltb, length, filter, take, drop, get_or, ap, sym, refl, ◌∙◌, arith, length-append, append_assoc, All}
+use Rattle.std.proofs.Common.{◌≡◌, ℕ, zero, suc, ◌+◌, ◌≤◌, List, [], ◌∷◌, ◌++◌, Bool, true, false, cond, not, ◌&&◌, eqb, ltb, length, filter, ap, sym, refl, ◌∙◌, arith, length-append, All}
 use Rattle.std.proofs.lemmas.Bool.{not-true, cond-true, cond-false, and_parts, and_from, not_from_false, lt-ltb}
 use Rattle.std.proofs.lemmas.List.{append-nil}
 use Rattle.std.specs.List.{list_all, slice_split, onto_first, AllByRecursion}

@@ -101,10 +101,6 @@ impl PathText {
         requires { count ≤ length self.now }
         ensures { result ≡ length (joined (take count self.now)) }
     {
-        if count == 0 {
-            0
-        } else {
-            self.ends[count - 1]
-        }
+        if count == 0 { 0 } else { self.ends[count - 1] }
     }
 }

@@ -1,8 +1,7 @@
-use Rattle.std.proofs.Common.{◌≡◌, ap, ◌∙◌, sym, refl, Some, None, Option, Bool, true, false, not, ◌&&◌, eqb, option_and_then, arith}
+use Rattle.std.proofs.Common.{◌≡◌, ap, ◌∙◌, sym, refl, Bool, true, false, not, ◌&&◌, eqb, option_and_then}
 use Rattle.std.specs.List.{list_all}
-use Rattle.ufs_model.specs.Paths.{components, ends_in_slash}
-use Rattle.ufs_path.specs.Faults.{errno_of, first_fault, first_of, fault_if, names_fault}
-use Rattle.ufs_path.specs.declared.fault.PathFault.{PathFault}
+use Rattle.ufs_model.specs.Paths.{ends_in_slash}
+use Rattle.ufs_path.specs.Faults.{errno_of, fault_if}
 use Rattle.ufs_path.specs.declared.fault.PathFault.TheVariants.{TrailingSlash}
 use Rattle.ufs_path.proofs.FaultLemmas.{errno_of-first_fault, first_fault-names, found, passed, not_empty}
 use Rattle.ufs_path.proofs.check.path_fault.Goals as goal
@@ -35,10 +34,10 @@ pub returns-clause-fault : goal.returns-clause-fault
 returns-clause-fault c =
     let first = first_fault-names c.args.path.now (not_empty c.args.path.now c.is_empty.result c.is_empty.ensures c.if-is_empty.false) c.if-path-ne47.false c.if-path-gt-MAX_PATH.false in
     let end : (ends_in_slash c.args.path.now && not (list_all (λ b. eqb b 47) c.args.path.now)) ≡ false =
-      elim c.else-ends_in_slash.branch [
-        | else-ends_in_slash-via-then-ends_in_slash+else-not-is_slashes w ↦ all_slashes _ _ (sym c.ends_in_slash.ensures ∙ w.if-ends_in_slash.true) (sym w.is_slashes.ensures ∙ w.if-not-is_slashes.false)
-        | else-ends_in_slash-via-else-ends_in_slash w ↦ ends_well _ _ (sym c.ends_in_slash.ensures ∙ w.if-ends_in_slash.false)
-      ] in
+    elim c.else-ends_in_slash.branch [
+      | else-ends_in_slash-via-then-ends_in_slash+else-not-is_slashes w ↦ all_slashes _ _ (sym c.ends_in_slash.ensures ∙ w.if-ends_in_slash.true) (sym w.is_slashes.ensures ∙ w.if-not-is_slashes.false)
+      | else-ends_in_slash-via-else-ends_in_slash w ↦ ends_well _ _ (sym c.ends_in_slash.ensures ∙ w.if-ends_in_slash.false)
+    ] in
     sym (first ∙ passed _ _ (sym c.component_fault.ensures ∙ c.in_default.is) ∙ ap (λ t. fault_if t TrailingSlash) end)
 
 pub returns-clause-errno : goal.returns-clause-errno

@@ -1,13 +1,11 @@
-use Rattle.std.proofs.Common.{◌≡◌, ◌∙◌, ◌++◌, ◌∷◌, [], ap, sym, rules, tests, length, map, take, filter, eqb, suc, arith, List, ℕ, Vec, vec_len, Global}
-use Rattle.std.proofs.lemmas.Bool.{eqb-true, eqb-false}
+use Rattle.std.proofs.Common.{◌≡◌, ◌∙◌, ◌++◌, ◌∷◌, [], ap, sym, rules, tests, length, take, filter, eqb, arith, List, ℕ}
 use Rattle.std.proofs.lemmas.List.{length_push, take_all}
-use Rattle.std.proofs.lemmas.Iterator.{YieldsList}
 use Rattle.std.proofs.lemmas.Iterator.Splits.{YieldsList-from_slice_split}
 use Rattle.std.proofs.lemmas.Iterator.Consumers.{YieldsList-turn, YieldsList-end, YieldsList-at}
-use Rattle.ufs_model.specs.Paths.{components, whole_path}
+use Rattle.ufs_model.specs.Paths.{components}
 use Rattle.ufs_path.specs.Texts.{joined, ends_from}
 use Rattle.ufs_path.proofs.SplitLemmas.{pieces, is_some_name}
-use Rattle.ufs_path.proofs.KeptLemmas.{joined-next, ends-next, kept_of_text, components_of_whole, whole_path-some, whole_path-none}
+use Rattle.ufs_path.proofs.KeptLemmas.{joined-next, ends-next, kept_of_text, components_of_whole}
 use Rattle.ufs_path.proofs.read.kept.Goals as goal
 
 pub loop-piece-preserved : goal.loop-piece-preserved
@@ -16,14 +14,14 @@ loop-piece-preserved c =
     let next = ap (λ n. filter is_some_name (take n (pieces c.args.path.now))) (sym (length_push c.loop-piece.yielded c.in-Some.piece)) in
     record {
       bytes = c.in_ok-add_piece.ensures.bytes
-        ∙ ap (λ b. b ++ joined (filter is_some_name (c.in-Some.piece.now ∷ []))) c.loop-piece.invariant.bytes
-        ∙ sym (joined-next (pieces c.args.path.now) (length c.loop-piece.yielded) c.in-Some.piece.now turn.0 turn.1)
-        ∙ ap joined next;
+          ∙ ap (λ b. b ++ joined (filter is_some_name (c.in-Some.piece.now ∷ []))) c.loop-piece.invariant.bytes
+          ∙ sym (joined-next (pieces c.args.path.now) (length c.loop-piece.yielded) c.in-Some.piece.now turn.0 turn.1)
+          ∙ ap joined next;
       ends = c.in_ok-add_piece.ensures.ends
-        ∙ ap (λ e. e ++ ends_from (length c.loop-piece.bytes.items) (filter is_some_name (c.in-Some.piece.now ∷ []))) c.loop-piece.invariant.ends
-        ∙ ap (λ (b : List ℕ). ends_from 0 (filter is_some_name (take (length c.loop-piece.yielded) (pieces c.args.path.now))) ++ ends_from (length b) (filter is_some_name (c.in-Some.piece.now ∷ []))) c.loop-piece.invariant.bytes
-        ∙ sym (ends-next (pieces c.args.path.now) (length c.loop-piece.yielded) c.in-Some.piece.now turn.0 turn.1)
-        ∙ ap (ends_from 0) next;
+          ∙ ap (λ e. e ++ ends_from (length c.loop-piece.bytes.items) (filter is_some_name (c.in-Some.piece.now ∷ []))) c.loop-piece.invariant.ends
+          ∙ ap (λ (b : List ℕ). ends_from 0 (filter is_some_name (take (length c.loop-piece.yielded) (pieces c.args.path.now))) ++ ends_from (length b) (filter is_some_name (c.in-Some.piece.now ∷ []))) c.loop-piece.invariant.bytes
+          ∙ sym (ends-next (pieces c.args.path.now) (length c.loop-piece.yielded) c.in-Some.piece.now turn.0 turn.1)
+          ∙ ap (ends_from 0) next;
     }
 
 pub from_parts-requires : goal.from_parts-requires

@@ -1,4 +1,4 @@
-use Rattle.std.proofs.Common.{◌≡◌, ◌+◌, ◌-◌, ◌<◌, ◌≤◌, IsSome, subst, sym, ap, arith, ◌∙◌, length}
+use Rattle.std.proofs.Common.{◌-◌, ◌<◌, IsSome, subst, sym, ap, arith, ◌∙◌, length}
 use Rattle.std.specs.FinMap as map
 use Rattle.ufs_fds.proofs.SlotLemmas.{in_range, AreMarked-clear, table_of-set_None}
 use Rattle.ufs_fds.proofs.table.FdTable.close.Goals as goal

@@ -1,4 +1,4 @@
-use Rattle.std.proofs.Common.{◌≡◌, sym, ap, ◌∙◌, arith, subst}
+use Rattle.std.proofs.Common.{sym, ap, ◌∙◌, arith, subst}
 use Rattle.std.specs.FinMap as map
 use Rattle.ufs_fds.specs.Descriptors.{AreInRange}
 use Rattle.ufs_fds.proofs.SlotLemmas.{get-below, get-above, get-inside, in_range}

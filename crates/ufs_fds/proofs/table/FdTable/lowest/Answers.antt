@@ -1,4 +1,4 @@
-use Rattle.std.proofs.Common.{◌≡◌, ◌+◌, ◌^◌, ◌<◌, ◌≤◌, ℕ, IsSome, sym, ap, ◌∙◌, arith, subst}
+use Rattle.std.proofs.Common.{◌≡◌, ◌+◌, ◌^◌, ◌<◌, ◌≤◌, ℕ, IsSome, sym, ap, arith, subst}
 use Rattle.std.specs.Int.{trailing_ones, w64}
 use Rattle.std.specs.FinMap as map
 use Rattle.ufs_fds.specs.Descriptors.{Descs}

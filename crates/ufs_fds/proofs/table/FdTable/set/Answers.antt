@@ -1,4 +1,4 @@
-use Rattle.std.proofs.Common.{◌≡◌, ◌+◌, ◌-◌, ◌<◌, ap, arith, ◌∙◌, length}
+use Rattle.std.proofs.Common.{◌-◌, ◌<◌, ap, arith, ◌∙◌, length}
 use Rattle.std.specs.FinMap as map
 use Rattle.ufs_fds.proofs.SlotLemmas.{AreMarked-set, table_of-set_Some}
 use Rattle.ufs_fds.proofs.table.FdTable.set.Goals as goal

@@ -1,7 +1,6 @@
-use Rattle.std.proofs.Common.{◌≡◌, ◌<◌, ◌≤◌, ◌+◌, suc, ◌∙◌, sym, arith, ap, length, take, get_or, subst, slice_range, Some, List, ℕ, []}
+use Rattle.std.proofs.Common.{◌≡◌, ◌+◌, ◌∙◌, sym, arith, ap, get_or, subst, slice_range, Some, []}
 use Rattle.std.proofs.lemmas.Option.{slice_get-get_or}
 use Rattle.ufs_path.specs.Names.{IsName}
-use Rattle.ufs_path.specs.Texts.{joined}
 use Rattle.ufs_path.proofs.SplitLemmas.{all_from_recursion}
 use Rattle.ufs_path.proofs.KeptLemmas.{kept_length, kept_end, kept_part, kept_range, kept_names}
 use Rattle.ufs_path.proofs.text.PathText.component.Goals as goal

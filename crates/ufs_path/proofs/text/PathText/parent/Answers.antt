@@ -1,5 +1,5 @@
-use Rattle.std.proofs.Common.{◌≡◌, ◌-◌, ◌∙◌, ap, sym, take, length, List, ℕ}
-use Rattle.ufs_model.specs.Paths.{whole_path, parent_of, components}
+use Rattle.std.proofs.Common.{◌-◌, ◌∙◌, ap, sym, take, length, List, ℕ}
+use Rattle.ufs_model.specs.Paths.{whole_path}
 use Rattle.ufs_path.specs.Names.{IsName}
 use Rattle.ufs_path.proofs.SplitLemmas.{components-whole_path, recursion_from_all}
 use Rattle.ufs_path.proofs.NameLemmas.{names_plain}

@@ -1,5 +1,4 @@
-use Rattle.std.proofs.Common.{◌≡◌, ◌≤◌, ◌∙◌, ap, subst, sym, take, max, length}
-use Rattle.ufs_path.specs.Texts.{joined}
+use Rattle.std.proofs.Common.{◌≤◌, ◌∙◌, ap, subst, sym, take, max, length}
 use Rattle.ufs_path.proofs.KeptLemmas.{kept_front, front_length}
 use Rattle.ufs_path.proofs.text.PathText.prefix.Goals as goal
 
