@@ -1,0 +1,106 @@
+// The table of a client's descriptors.
+use std::marker::Model;
+use ufs_model::Desc;
+
+/// The lowest number that a descriptor may have.
+const FIRST: u32 = 3;
+
+/// What a client's descriptors stand for. Their numbers are 3 to 66. No call takes memory.
+#[derive(Drop)]
+pub struct FdTable {
+    /// The bit `k` is set where descriptor `FIRST + k` is open.
+    used: u64,
+    slots: [Option<Desc>; 64],
+}
+
+impl Model for FdTable {
+    ghost use Rattle.std.specs.FinMap as map;
+    ghost use Rattle.std.specs.Ordering.{nat_cmp};
+    ghost use Rattle.std.specs.Coded.{coded_ℕ};
+    ghost use Rattle.ufs_model.specs.declared.data.Desc.{Desc};
+    ghost use Rattle.ufs_model.specs.contracts.data.Desc as desc;
+    ghost use Rattle.ufs_fds.specs.Slots.{table_of, AreMarked};
+
+    ghost Value = { map.FinMap nat_cmp Desc };
+
+    ghost coded = { map.code coded_ℕ desc.the_row.coded };
+
+    ghost view = { λ t. table_of t.slots };
+
+    ghost invariant = { λ t. AreMarked t.used t.slots };
+}
+
+impl FdTable {
+    ghost use Rattle.std.specs.Prelude.{◌≡◌, ◌≤◌, ◌<◌, ◌↔◌, ℕ, None, Some, IsTrue, IsSome, IfSome, IfNone};
+    ghost use Rattle.std.specs.FinMap as map;
+    ghost use Rattle.ufs_model.specs.PosixTree.{Fds};
+    ghost use Rattle.ufs_model.specs.Posix.{lowest_free};
+    ghost use Rattle.ufs_fds.specs.Descriptors.{AreInRange, AreOf};
+
+    /// No descriptor is open.
+    pub fn new() -> Self
+        ensures { result ≡ map.empty }
+    {
+        FdTable {
+            used: 0,
+            slots: [None; 64],
+        }
+    }
+
+    /// The lowest free number, without a look at each slot.
+    pub fn lowest(&self) -> Option<u32>
+        ensures range { IfSome result (λ fd. (3 ≤ fd) × (fd ≤ 66)) }
+        ensures free { IfSome result (λ fd. map.get self.now fd ≡ None) }
+        ensures lower { IfSome result (λ fd. (k : ℕ) → 3 ≤ k → k < fd → IsSome (map.get self.now k)) }
+        ensures full { IfNone result ((k : ℕ) → 3 ≤ k → k ≤ 66 → IsSome (map.get self.now k)) }
+
+        // In a tree this is the one that an `open` of the client gives out.
+        ensures posix { (fds : Fds) (client : ℕ) → AreOf fds client self.now → result ≡ lowest_free fds client }
+    {
+        if self.used == u64::MAX {
+            return None;
+        }
+        Some(FIRST + self.used.trailing_ones())
+    }
+
+    /// What the descriptor stands for; `None` where it isn't open, whatever its number.
+    pub fn get(&self, fd: u64) -> Option<Desc>
+        ensures value { result ≡ map.get self.now fd }
+        ensures range { AreInRange self.now }
+    {
+        let slots = &self.slots;
+        if fd < 3 || fd > 66 {
+            return None;
+        }
+        slots[(fd - 3) as usize]
+    }
+
+    /// Whether the descriptor is open, whatever its number.
+    pub fn is_open(&self, fd: u64) -> bool
+        ensures open { IsTrue result ↔ IsSome (map.get self.now fd) }
+    {
+        self.get(fd).is_some()
+    }
+
+    /// Opens the descriptor, or puts another in its place.
+    pub fn set(&mut self, fd: u32, desc: Desc)
+        requires low { 3 ≤ fd }
+        requires high { fd ≤ 66 }
+        ensures { self.new ≡ map.insert self.old fd desc }
+    {
+        let place = fd - FIRST;
+        self.slots[place as usize] = Some(desc);
+        self.used |= 1 << place;
+    }
+
+    /// Closes a descriptor that is open, which `is_open` tests.
+    pub fn close(&mut self, fd: u32)
+        requires { IsSome (map.get self.old fd) }
+        ensures { self.new ≡ map.remove self.old fd }
+    {
+        let used = self.used;
+        let place = fd - FIRST;
+        self.slots[place as usize] = None;
+        self.used = used & !(1 << place);
+    }
+}

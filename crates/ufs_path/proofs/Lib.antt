@@ -1,0 +1,4 @@
+pub mod SplitLemmas
+pub mod FaultLemmas
+pub mod NameLemmas
+pub mod KeptLemmas

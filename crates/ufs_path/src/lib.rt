@@ -1,0 +1,16 @@
+//! The texts of paths: which are refused and why, and the components of the others.
+#![tactic(auto)]
+
+mod check;
+mod fault;
+mod law;
+mod read;
+#[cfg(test)]
+mod tests;
+mod text;
+
+pub use check::path_fault;
+pub use fault::PathFault;
+pub use law::{names_stay_in_whole_paths, short_whole_paths_are_allowed};
+pub use read::read_path;
+pub use text::PathText;
