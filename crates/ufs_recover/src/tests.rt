@@ -91,7 +91,7 @@ fn look(row: &Row, image: &[u8]) -> Left {
     }
 }
 
-// Formats a disk with room for 64 blocks, and says what it answered and, of some picks, what a crash leaves.
+// Formats a disk of 64 blocks that passes so many calls, and says what it answered and what a crash left.
 fn stopped(
     alloc: Global,
     geometry: Geometry,
