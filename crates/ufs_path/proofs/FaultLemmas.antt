@@ -1,5 +1,5 @@
 -- Faults and the refusals of the model.
-use Rattle.std.proofs.Common.{◌≡◌, ℕ, ◌≤◌, List, [], ◌∷◌, ◌++◌, Bool, true, false, not, ◌&&◌, ◌-◌, ltb, eqb, length, filter, drop, get_or, suc, ◌+◌, ◌<◌, arith, Option, Some, None, ap, sym, refl, ◌∙◌, option_and_then, drop-cons, add-one}
+use Rattle.std.proofs.Common.{◌≡◌, ℕ, ◌≤◌, List, [], ◌∷◌, ◌++◌, Bool, true, false, not, ◌&&◌, ◌-◌, ltb, eqb, length, filter, drop, get_or, suc, ◌+◌, ◌<◌, arith, Option, Some, None, IfSome, IsSome, ap, sym, subst, refl, ◌∙◌, option_and_then, drop-cons, add-one}
 use Rattle.std.proofs.lemmas.Bool.{ltb-false, eqb-true, cond-true, eq-eqb, le-ltb, eqb-false}
 use Rattle.std.specs.List.{list_all}
 use Rattle.ufs_model.specs.declared.data.Errno.{Errno}
@@ -135,3 +135,25 @@ first_fault-names (b ∷ bs) some first short =
 
 pub not_empty : (path : List ℕ) (t : Bool) → t ≡ eqb (length path) 0 → t ≡ false → 1 ≤ length path
 not_empty path t is isnt = let h : length path ≡ 0 → ⊥ = eqb-false (length path) 0 (sym is ∙ isnt) in omega arith
+
+-- ---- every fault of a text has an errno
+
+abbrev IsTold : Option PathFault → Type 0
+IsTold o = IfSome o (λ fault. IsSome (errno_of fault))
+
+told_first : (a b : Option PathFault) → IsTold a → IsTold b → IsTold (first_of a b)
+told_first None b p q = q
+told_first (Some f) b p q = p
+
+told_name : (a d l : Bool) → IsTold (first_of (fault_if a BadComponent) (first_of (fault_if d BadComponent) (fault_if l NameTooLong)))
+told_name true d l = refl
+told_name false true l = refl
+told_name false false true = refl
+told_name false false false = tt
+
+pub told_names : (names : List (List ℕ)) → IsTold (names_fault names)
+told_names [] = tt
+told_names (name ∷ names) = told_first (name_fault name) (names_fault names) (told_name (not (list_all in_range name)) (is_dots name) (ltb 58 (length name))) (told_names names)
+
+pub told_along : (o : Option PathFault) (fault : PathFault) → IsTold o → o ≡ Some fault → IsSome (errno_of fault)
+told_along o fault told e = subst IsTold e told

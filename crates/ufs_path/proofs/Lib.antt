@@ -2,3 +2,4 @@ pub mod SplitLemmas
 pub mod FaultLemmas
 pub mod NameLemmas
 pub mod KeptLemmas
+pub mod Rows

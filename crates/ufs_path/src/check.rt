@@ -1,5 +1,5 @@
 // The faults of a path's text.
-ghost use Rattle.std.specs.Prelude.{◌≡◌, ◌==◌, option_and_then};
+ghost use Rattle.std.specs.Prelude.{◌≡◌, ◌==◌, IfSome, IsSome, option_and_then};
 ghost use Rattle.std.specs.List.{list_all};
 ghost use Rattle.ufs_model.specs.Paths as paths;
 ghost use Rattle.ufs_path.specs.Faults.{name_fault as fault_of_name, names_fault, first_fault, errno_of};
@@ -16,6 +16,7 @@ const MAX_NAME: usize = 58;
 pub fn path_fault(path: &[u8]) -> Option<PathFault>
     ensures fault { result ≡ first_fault path.now }
     ensures errno { option_and_then errno_of result ≡ paths.text_refusal path.now }
+    ensures told { IfSome result (λ fault. IsSome (errno_of fault)) }
 {
     if path.is_empty() {
         return Some(PathFault::Empty);

@@ -1,9 +1,9 @@
 use Rattle.std.proofs.Common.{◌≡◌, ap, ◌∙◌, sym, refl, Bool, true, false, not, ◌&&◌, eqb, option_and_then}
 use Rattle.std.specs.List.{list_all}
-use Rattle.ufs_model.specs.Paths.{ends_in_slash}
+use Rattle.ufs_model.specs.Paths.{components, ends_in_slash}
 use Rattle.ufs_path.specs.Faults.{errno_of, fault_if}
 use Rattle.ufs_path.specs.declared.fault.PathFault.TheVariants.{TrailingSlash}
-use Rattle.ufs_path.proofs.FaultLemmas.{errno_of-first_fault, first_fault-names, found, passed, not_empty}
+use Rattle.ufs_path.proofs.FaultLemmas.{errno_of-first_fault, first_fault-names, found, passed, not_empty, told_names, told_along}
 use Rattle.ufs_path.proofs.check.path_fault.Goals as goal
 use Rattle.ufs_path.proofs.check.path_fault.Goals.{else-ends_in_slash-via-then-ends_in_slash+else-not-is_slashes, else-ends_in_slash-via-else-ends_in_slash}
 
@@ -42,3 +42,6 @@ returns-clause-fault c =
 
 pub returns-clause-errno : goal.returns-clause-errno
 returns-clause-errno c = ap (option_and_then errno_of) (returns-clause-fault c) ∙ errno_of-first_fault c.args.path.now
+
+pub returns-in-Some-clause-told : goal.returns-in-Some-clause-told
+returns-in-Some-clause-told c = told_along _ c.in-Some.fault (told_names (components c.args.path.now)) (sym c.component_fault.ensures ∙ c.in-Some.is)
