@@ -1,0 +1,15 @@
+pub mod Compared
+pub mod Spelled
+pub mod HeadForms
+pub mod Extents
+pub mod InodeForms
+pub mod DentryForms
+pub mod Ranges
+pub mod NewBitmap
+pub mod NewImage
+mod SpelledOnce
+mod Vectors
+pub mod RecordForms
+pub mod RecordsRead
+pub mod Leading
+pub mod RecordList
