@@ -1,0 +1,7 @@
+pub mod SearchLemmas
+pub mod BlockLemmas
+pub mod NameLemmas
+pub mod FilledLemmas
+pub mod ClearedLemmas
+pub mod NextLemmas
+pub mod KeptLemmas
