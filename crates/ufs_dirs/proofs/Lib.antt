@@ -5,3 +5,4 @@ pub mod FilledLemmas
 pub mod ClearedLemmas
 pub mod NextLemmas
 pub mod KeptLemmas
+pub mod CodecLemmas

@@ -4,6 +4,7 @@ ghost use Rattle.std.specs.List.{count_by, list_all, position, position_or_len};
 ghost use Rattle.ufs_layout.specs.DentryForm.{free_slot, is_dentry, is_named};
 ghost use Rattle.ufs_dirs.specs.Directory.{IsDirectory, entry_at, entry_of, has_block};
 
+use crate::codec::put_slots;
 use crate::index::{first_free, next_rank, search};
 use crate::{MAX_BLOCKS, Memory, NoSlot, SLOTS, Slot};
 use std::alloc::Global;
@@ -36,7 +37,7 @@ impl Model for DirBlocks {
 }
 
 impl DirBlocks {
-    ghost use Rattle.ufs_dirs.specs.Changes.{IsFreeSlot, IsLastName, IsLowestFree, IsNextName, IsSlot, IsSlotOf, SetsName, place_of, with_entry};
+    ghost use Rattle.ufs_dirs.specs.Changes.{IsFreeSlot, IsLastName, IsLowestFree, IsNextName, IsSlot, IsSlotOf, SetsName, bytes_of_block, place_of, with_entry};
 
     /// No block, and so no name.
     pub fn new(alloc: Global) -> DirBlocks
@@ -92,6 +93,34 @@ impl DirBlocks {
         ensures { result ≡ has_block self.now.blocks block }
     {
         self.blocks.iter().any(|b| *b == block)
+    }
+
+    /// The directory's blocks, in order.
+    pub fn blocks(&self) -> &[u32]
+        ensures blocks { result.now ≡ self.now.blocks }
+        ensures whole { IsDirectory self.now }
+    {
+        self.blocks.as_slice()
+    }
+
+    /// Whether the slot is a free one of the directory's.
+    pub fn is_free(&self, slot: Slot) -> bool
+        ensures { IsTrue result ↔ IsFreeSlot self.now slot }
+    {
+        let before = index_of(self.blocks.as_slice(), slot.sector / 8);
+        if slot.slot >= 8 || before >= self.blocks.len() {
+            return false;
+        }
+        self.slots[self.place_of(slot)].name_bytes().is_empty()
+    }
+
+    /// Writes the bytes of the block that stands at this place of the list. Takes no memory.
+    pub fn block_bytes(&self, index: usize, buf: &mut [u8])
+        requires there { index < length self.now.blocks }
+        requires sized { length buf.old ≡ 4096 }
+        ensures { buf.new ≡ bytes_of_block self.now.slots index }
+    {
+        put_slots(buf, &self.slots[index * SLOTS..(index + 1) * SLOTS]);
     }
 
     /// The block comes behind the others, with 64 free slots. All memory that its names will need is taken here.

@@ -1,6 +1,7 @@
 //! The blocks of one directory: its names, and which slots they stand in.
 #![tactic(auto)]
 
+mod codec;
 mod dir_blocks;
 mod index;
 #[cfg(test)]
