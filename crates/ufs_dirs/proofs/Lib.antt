@@ -6,3 +6,4 @@ pub mod ClearedLemmas
 pub mod NextLemmas
 pub mod KeptLemmas
 pub mod CodecLemmas
+pub mod ReadLemmas

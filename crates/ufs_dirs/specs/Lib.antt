@@ -1,3 +1,4 @@
 pub mod Directory
 pub mod Index
 pub mod Changes
+pub mod Reading

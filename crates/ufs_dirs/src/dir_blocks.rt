@@ -1,15 +1,15 @@
 // The blocks of one directory.
-ghost use Rattle.std.specs.Prelude.{◌≡◌, ◌≢◌, ◌==◌, ◌+◌, ◌*◌, ◌<◌, ◌≤◌, ◌↔◌, [], ◌∷◌, ◌++◌, true, false, None, Some, IsTrue, IsSome, IsErr, IfOk, IfSome, IfNone, OnOk, OnErr, length, replicate, slice_set, is_err};
+ghost use Rattle.std.specs.Prelude.{◌≡◌, ◌≢◌, ◌==◌, ◌+◌, ◌*◌, ◌<◌, ◌≤◌, ◌↔◌, [], ◌∷◌, ◌++◌, true, false, None, Some, IsTrue, IsSome, IsErr, IfOk, IfErr, IfSome, IfNone, OnOk, OnErr, length, replicate, slice_set, is_err};
 ghost use Rattle.std.specs.List.{count_by, list_all, position, position_or_len};
 ghost use Rattle.ufs_layout.specs.DentryForm.{free_slot, is_dentry, is_named};
 ghost use Rattle.ufs_dirs.specs.Directory.{IsDirectory, entry_at, entry_of, has_block};
 
 use crate::codec::put_slots;
 use crate::index::{first_free, next_rank, search};
-use crate::{MAX_BLOCKS, Memory, NoSlot, SLOTS, Slot};
+use crate::{BlockFault, MAX_BLOCKS, Memory, NoSlot, SLOTS, Slot, SlotFault};
 use std::alloc::Global;
 use std::marker::Model;
-use ufs_layout::Dentry;
+use ufs_layout::{Dentry, get_dentry};
 
 /// The blocks of one directory. Contracts see the list of its blocks, and what stands in their slots, in order.
 #[derive(Drop)]
@@ -37,6 +37,7 @@ impl Model for DirBlocks {
 }
 
 impl DirBlocks {
+    ghost use Rattle.ufs_dirs.specs.Reading.{IsBlockFault, IsReadSoFar, IsSlotFault, ReadsSlot};
     ghost use Rattle.ufs_dirs.specs.Changes.{IsFreeSlot, IsLastName, IsLowestFree, IsNextName, IsSlot, IsSlotOf, SetsName, bytes_of_block, place_of, with_entry};
 
     /// No block, and so no name.
@@ -139,6 +140,29 @@ impl DirBlocks {
         Ok(())
     }
 
+    /// The directory with a further block that has these bytes. A fault drops the directory.
+    pub fn with_block(self, block: u32, bytes: &[u8]) -> Result<DirBlocks, BlockFault>
+        requires below { block < MAX_BLOCKS }
+        requires absent { has_block self.blocks block ≡ false }
+        requires sized { length bytes.now ≡ 4096 }
+        ensures ok { IfOk result (IsReadSoFar self block bytes.now 64) }
+        ensures bytes { IfOk result (λ d. bytes_of_block d.slots (length self.blocks) ≡ bytes.now) }
+        ensures fault { IfErr result (IsBlockFault self block bytes.now) }
+    {
+        let mut dir = self;
+        let first = dir.slots.len();
+        if dir.add_block(block).is_err() {
+            return Err(BlockFault::NoMemory);
+        }
+        for k in 0..SLOTS {
+            let read = dir.read_slot(first + k, &bytes[SLOTS * k..SLOTS * k + 64]);
+            if let Err(fault) = read {
+                return Err(BlockFault::BadSlot(k as u8, fault));
+            }
+        }
+        Ok(dir)
+    }
+
     /// Takes the lowest free slot: that of the first block that has one. Takes no memory.
     pub fn insert(&mut self, dentry: Dentry) -> Result<Slot, NoSlot>
         requires form { IsTrue (is_dentry dentry) }
@@ -213,6 +237,30 @@ impl DirBlocks {
         before * SLOTS + (slot.sector % 8) as usize * 8 + usize::from(slot.slot)
     }
 
+    /// Puts what the bytes are the spelling of into the free slot at this place.
+    fn read_slot(&mut self, place: usize, bytes: &[u8]) -> Result<(), SlotFault>
+        requires in_range { place < length self.old.slots }
+        requires free { is_named (entry_at self.old.slots place) ≡ false }
+        requires sized { length bytes.now ≡ 64 }
+        ensures ok { OnOk result (ReadsSlot self.old self.new place bytes.now) }
+        ensures whole { IsDirectory self.new }
+        ensures fault { IfErr result (IsSlotFault self.old.slots bytes.now) }
+        ensures err { OnErr result (self.new ≡ self.old) }
+    {
+        prove!(place < self.slots.len());
+        let Some(entry) = get_dentry(bytes) else {
+            return Err(SlotFault::OffForm);
+        };
+        if entry.name_bytes().is_empty() {
+            return Ok(());
+        }
+        if self.find(entry.name_bytes()).is_some() {
+            return Err(SlotFault::NameTwice);
+        }
+        self.fill(place, entry);
+        Ok(())
+    }
+
     /// Puts the dentry into the free slot at this place.
     fn fill(&mut self, place: usize, dentry: Dentry)
         requires form { IsTrue (is_dentry dentry) }
@@ -221,6 +269,7 @@ impl DirBlocks {
         requires free { is_named (entry_at self.old.slots place) ≡ false }
         requires absent { entry_of self.old.slots dentry.name ≡ None }
         ensures slots { self.new ≡ record self.old { slots = slice_set self.old.slots place dentry } }
+        ensures whole { IsDirectory self.new }
         ensures names { SetsName self.old self.new dentry.name (Some dentry) }
     {
         let name = dentry.name_bytes();

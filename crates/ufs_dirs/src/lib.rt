@@ -32,6 +32,24 @@ pub struct NoSlot;
 #[derive(Clone, Copy, Debug, PartialEq, Eq)]
 pub struct Memory;
 
+/// What is off with a slot that is read.
+#[derive(Clone, Copy, Debug, PartialEq, Eq)]
+pub enum SlotFault {
+    /// The bytes are no dentry's spelling.
+    OffForm,
+    /// An earlier slot of the directory has the name.
+    NameTwice,
+}
+
+/// Why a block that is read isn't taken.
+#[derive(Clone, Copy, Debug, PartialEq, Eq)]
+pub enum BlockFault {
+    /// Memory ran out.
+    NoMemory,
+    /// Of the block's slots, 0 to 63, this is the first that is off.
+    BadSlot(u8, SlotFault),
+}
+
 impl From<AllocError> for Memory {
     fn from(_error: AllocError) -> Memory {
         Memory

@@ -60,3 +60,6 @@ returns-clause-names c =
     let inside : place < length slots = omega (arith, c.requires.in_range, ap (λ (d : Directory). length d.slots) c.self.view_is) in
     let absent : entry_of slots e.name ≡ None = ap (λ (d : Directory). entry_of d.slots e.name) c.self.view_is ∙ c.requires.absent in
     subst (λ (d : Directory). SetsName d (record { blocks = blocks; slots = set slots place e }) e.name (Some e)) c.self.view_is (filled_names slots place e inside free c.requires.named blocks absent)
+
+pub returns-clause-whole : goal.returns-clause-whole
+returns-clause-whole c = (invariant_of-self c).0.directory
