@@ -1,7 +1,7 @@
 -- Lists of different numbers: how many there can be, and where each stands.
-use Rattle.std.proofs.Common.{◌≡◌, ◌≢◌, ℕ, zero, suc, ◌+◌, ◌<◌, ◌≤◌, List, [], ◌∷◌, ◌++◌, Bool, true, false, cond, eqb, ltb, length, get_or, ap, sym, refl, ◌∙◌, arith, nat_eq, add-one}
-use Rattle.std.specs.List.{All, AllByRecursion, AllPairs, IsDistinct, count_by, list_any, position_or_len}
-use Rattle.std.proofs.lemmas.Bool.{eqb-true, ne_eqb, eq-eqb, both_ways, lt-ltb, cases_Bool}
+use Rattle.std.proofs.Common.{◌≡◌, ◌≢◌, ℕ, zero, suc, ◌+◌, ◌<◌, ◌≤◌, List, [], ◌∷◌, ◌++◌, Bool, false, cond, eqb, ltb, length, get_or, ap, sym, refl, ◌∙◌, arith, nat_eq, add-one}
+use Rattle.std.specs.List.{All, AllByRecursion, IsDistinct, count_by, list_any, position_or_len}
+use Rattle.std.proofs.lemmas.Bool.{ne_eqb, eq-eqb, both_ways, lt-ltb}
 use Rattle.std.proofs.lemmas.Bool.Decides.{nat_tests, Decides-eqb}
 use Rattle.std.proofs.lemmas.List.Sums.{sum_by-cons, position_or_len_is}
 use Rattle.std.proofs.lemmas.List.Folds.{list_any_at}

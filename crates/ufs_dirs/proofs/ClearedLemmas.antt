@@ -1,5 +1,5 @@
 -- A used slot is cleared, and its place goes out of the index.
-use Rattle.std.proofs.Common.{◌≡◌, ◌≢◌, ℕ, ◌+◌, ◌-◌, ◌<◌, ◌≤◌, List, Bool, true, false, cond, eqb, length, get_or, set, ap, sym, refl, ◌∙◌, subst, arith, Some, None, inl, inr, length-set}
+use Rattle.std.proofs.Common.{◌≡◌, ◌≢◌, ℕ, ◌+◌, ◌-◌, ◌<◌, ◌≤◌, List, Bool, true, cond, eqb, length, get_or, set, ap, sym, refl, ◌∙◌, arith, None, inl, inr, length-set}
 use Rattle.std.specs.List.{remove, list_any, count_by}
 use Rattle.std.specs.declared.cmp.Ordering.TheVariants.{Less}
 use Rattle.std.proofs.lemmas.Bool.{eq-eqb, both_ways, cases_lt, cases_order, cases_eq, false_from_ne_true}
@@ -8,11 +8,11 @@ use Rattle.std.proofs.lemmas.List.Edits.{length-remove, get_or-remove_below, get
 use Rattle.std.proofs.lemmas.List.Folds.{list_any_at}
 use Rattle.std.proofs.lemmas.List.Sums.{sum_by-set}
 use Rattle.ufs_layout.specs.DentryForm.{DentryForm, free_slot, is_named}
-use Rattle.ufs_dirs.specs.Directory.{Directory, entry_at, entry_of, has_name, name_cmp}
+use Rattle.ufs_dirs.specs.Directory.{entry_at, has_name, name_cmp}
 use Rattle.ufs_dirs.specs.Index.{IsIndex, ranked}
 use Rattle.ufs_dirs.specs.Changes.{SetsName}
 use Rattle.ufs_dirs.proofs.SearchLemmas.{not_below_itself}
-use Rattle.ufs_dirs.proofs.NameLemmas.{rank_of, named_so, so_named, not_so_named, free_has_no_name, entry_of-none, find-set_other, names_once, same_slot}
+use Rattle.ufs_dirs.proofs.NameLemmas.{rank_of, named_so, not_so_named, free_has_no_name, entry_of-none, find-set_other, names_once, same_slot}
 
 abbrev one_if : Bool → ℕ
 one_if b = cond b 1 0
@@ -42,9 +42,9 @@ module _ (slots : List DentryForm) (order : List ℕ) (rank : ℕ) (index : IsIn
     this = entry_of-none cleared name (λ j h. elim (cases_eq j place) [
       | inl here ↦ ap (has_name name) (entry_here j here)
       | inr differs ↦
-        false_from_ne_true (has_name name (entry_at cleared j)) (λ has. differs
-        (same_slot slots (names_once slots order index) name j place (omega (arith, length-set slots place free_slot)) (index.in_range rank inside)
-        (ap (has_name name) (sym (entry_other j differs)) ∙ has) (named_so name (entry_at slots place) (index.used rank inside) same)))
+          false_from_ne_true (has_name name (entry_at cleared j)) (λ has. differs
+          (same_slot slots (names_once slots order index) name j place (omega (arith, length-set slots place free_slot)) (index.in_range rank inside)
+          (ap (has_name name) (sym (entry_other j differs)) ∙ has) (named_so name (entry_at slots place) (index.used rank inside) same)))
     ]);
     others = λ other differs. find-set_other (has_name other) slots place free_slot free_slot (free_has_no_name other free_slot refl) (not_so_named other (entry_at slots place) (λ e. differs (sym e ∙ same)));
   }
@@ -105,10 +105,10 @@ module _ (slots : List DentryForm) (order : List ℕ) (rank : ℕ) (index : IsIn
       elim (cases_lt at.0 rank) [
         | inl low ↦ list_any_at (λ q. eqb q p) shorter at.0 0 (omega (arith, size)) (eq-eqb (get_or shorter at.0 0) p (get_or-remove_below order rank 0 at.0 low inside ∙ at.2))
         | inr high ↦
-          let above : rank < at.0 = omega (arith, not_it) in
-          let back : at.0 - 1 + 1 ≡ at.0 = omega arith in
-          list_any_at (λ q. eqb q p) shorter (at.0 - 1) 0 (omega (arith, size, at.1))
-          (eq-eqb (get_or shorter (at.0 - 1) 0) p (get_or-remove_above order rank 0 (at.0 - 1) (omega arith) inside ∙ ap (λ (k : ℕ). get_or order k 0) back ∙ at.2))
+            let above : rank < at.0 = omega (arith, not_it) in
+            let back : at.0 - 1 + 1 ≡ at.0 = omega arith in
+            list_any_at (λ q. eqb q p) shorter (at.0 - 1) 0 (omega (arith, size, at.1))
+            (eq-eqb (get_or shorter (at.0 - 1) 0) p (get_or-remove_above order rank 0 (at.0 - 1) (omega arith) inside ∙ ap (λ (k : ℕ). get_or order k 0) back ∙ at.2))
       ]
 
   pub cleared_index : IsIndex cleared shorter

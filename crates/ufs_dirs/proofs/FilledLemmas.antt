@@ -1,14 +1,14 @@
 -- A free slot is filled, and its place comes into the index.
-use Rattle.std.proofs.Common.{◌≡◌, ◌≢◌, ℕ, ◌+◌, ◌-◌, ◌<◌, ◌≤◌, List, Bool, true, false, cond, eqb, length, get_or, set, ap, sym, refl, ◌∙◌, subst, arith, Some, None, inl, inr, length-set, IsTrue}
-use Rattle.std.specs.List.{All, insert, list_any, count_by}
+use Rattle.std.proofs.Common.{◌≡◌, ◌≢◌, ℕ, ◌+◌, ◌-◌, ◌<◌, List, Bool, true, false, cond, eqb, length, get_or, set, ap, sym, refl, ◌∙◌, subst, arith, Some, None, inl, inr, length-set}
+use Rattle.std.specs.List.{insert, list_any, count_by}
 use Rattle.std.specs.declared.cmp.Ordering.TheVariants.{Less}
-use Rattle.std.proofs.lemmas.Bool.{eqb-true, eq-eqb, both_ways, cases_lt, cases_order, cases_eq}
+use Rattle.std.proofs.lemmas.Bool.{eq-eqb, both_ways, cases_lt, cases_order, cases_eq}
 use Rattle.std.proofs.lemmas.List.{get_or-set_same, get_or-set_other}
 use Rattle.std.proofs.lemmas.List.Edits.{length-insert, get_or-insert_below, get_or-insert_at, get_or-insert_above}
 use Rattle.std.proofs.lemmas.List.Folds.{list_any_at}
 use Rattle.std.proofs.lemmas.List.Sums.{sum_by-set}
 use Rattle.ufs_layout.specs.DentryForm.{DentryForm, free_slot, is_named}
-use Rattle.ufs_dirs.specs.Directory.{Directory, entry_at, entry_of, has_name, name_cmp}
+use Rattle.ufs_dirs.specs.Directory.{entry_at, entry_of, has_name, name_cmp}
 use Rattle.ufs_dirs.specs.Index.{IsIndex, IsGapFor, ranked}
 use Rattle.ufs_dirs.specs.Changes.{SetsName}
 use Rattle.ufs_dirs.proofs.NameLemmas.{rank_of, named_so, not_so_named, free_has_no_name, no_slot_has, entry_of-first, find-set_other}
@@ -110,13 +110,13 @@ module _ (slots : List DentryForm) (place : ℕ) (e : DentryForm) (inside : plac
         elim (cases_eq p place) [
           | inl same ↦ list_any_at (λ q. eqb q p) longer rank 0 (omega (arith, size, gap.in_range)) (eq-eqb (get_or longer rank 0) p (place_here rank refl ∙ sym same))
           | inr differs ↦
-            let at = rank_of slots order index p (omega (arith, length-set slots place e)) (ap is_named (sym (entry_other p differs)) ∙ is) in
-            elim (cases_lt at.0 rank) [
-              | inl low ↦ list_any_at (λ q. eqb q p) longer at.0 0 (omega (arith, size, at.1)) (eq-eqb (get_or longer at.0 0) p (place_below at.0 low ∙ at.2))
-              | inr high ↦
-                let back : at.0 + 1 - 1 ≡ at.0 = omega arith in
-                list_any_at (λ q. eqb q p) longer (at.0 + 1) 0 (omega (arith, size, at.1)) (eq-eqb (get_or longer (at.0 + 1) 0) p (place_above (at.0 + 1) (omega arith) ∙ ap (λ (j : ℕ). get_or order j 0) back ∙ at.2))
-            ]
+              let at = rank_of slots order index p (omega (arith, length-set slots place e)) (ap is_named (sym (entry_other p differs)) ∙ is) in
+              elim (cases_lt at.0 rank) [
+                | inl low ↦ list_any_at (λ q. eqb q p) longer at.0 0 (omega (arith, size, at.1)) (eq-eqb (get_or longer at.0 0) p (place_below at.0 low ∙ at.2))
+                | inr high ↦
+                    let back : at.0 + 1 - 1 ≡ at.0 = omega arith in
+                    list_any_at (λ q. eqb q p) longer (at.0 + 1) 0 (omega (arith, size, at.1)) (eq-eqb (get_or longer (at.0 + 1) 0) p (place_above (at.0 + 1) (omega arith) ∙ ap (λ (j : ℕ). get_or order j 0) back ∙ at.2))
+              ]
         ]
 
     pub filled_index : IsIndex filled longer

@@ -1,17 +1,16 @@
 -- What is kept of a directory, from call to call.
-use Rattle.std.proofs.Common.{◌≡◌, ◌≢◌, ℕ, ◌+◌, ◌-◌, ◌*◌, ◌/◌, ◌%◌, ◌<◌, ◌≤◌, List, [], ◌∷◌, ◌++◌, Bool, true, false, not, cond, eqb, length, get_or, set, replicate, min, ap, sym, refl, ◌∙◌, subst, arith, Option, Some, None, Result, Ok, is_ok, take, inl, inr, length-set, length-append, IsTrue, nat_eq}
-use Rattle.std.specs.List.{All, insert, remove, list_all, list_any, count_by, position, position_or_len}
+use Rattle.std.proofs.Common.{◌≡◌, ℕ, ◌+◌, ◌-◌, ◌*◌, ◌/◌, ◌%◌, ◌<◌, ◌≤◌, List, [], ◌∷◌, ◌++◌, Bool, true, false, not, cond, length, get_or, set, replicate, ap, sym, refl, ◌∙◌, subst, arith, Some, None, Result, Ok, is_ok, take, inl, inr, length-set, length-append, IsTrue}
+use Rattle.std.specs.List.{insert, remove, list_all, count_by, position, position_or_len}
 use Rattle.std.specs.Option.{unwrap_or}
 use Rattle.std.specs.declared.cmp.Ordering.TheVariants.{Less}
-use Rattle.std.proofs.lemmas.Bool.{both_ways, cases_lt, cases_eq, cases_Bool, cond-true, cond-false, lt-ltb, le-ltb, false≢true}
+use Rattle.std.proofs.lemmas.Bool.{cases_lt, cases_eq, lt-ltb, le-ltb, false≢true}
 use Rattle.std.proofs.lemmas.List.{get_or-set_same, get_or-set_other, get_or_append_left, get_or-append_right, get_or-replicate, get_or_past, get_or_default, length-replicate, take_all}
 use Rattle.std.proofs.lemmas.List.Elements.{All-get_or, All-from_get_or, All-push, All-set}
-use Rattle.std.proofs.lemmas.List.Folds.{list_all_at, sum_by-replicate}
+use Rattle.std.proofs.lemmas.List.Folds.{sum_by-replicate}
 use Rattle.std.proofs.lemmas.List.Sums.{sum_by-append, count_by-le-length, prefix_len-le-length, list_all-from_AllPass}
 use Rattle.ufs_layout.specs.DentryForm.{DentryForm, free_slot, is_dentry, is_named}
 use Rattle.ufs_dirs.specs.Directory.{Directory, IsDirectory, entry_at, entry_of, has_block, name_cmp}
 use Rattle.ufs_dirs.specs.Index.{IsIndex, IsKept, IsGapFor, IsNextRank, IsRankOf, ranked}
-use Rattle.ufs_dirs.specs.declared.Slot.{Slot}
 use Rattle.ufs_dirs.specs.Changes.{IsSlot, place_of}
 use Rattle.ufs_dirs.proofs.BlockLemmas.{distinct_none, length-distinct, position-distinct, distinct_push}
 use Rattle.ufs_dirs.proofs.NameLemmas.{names_once, entry_of-rank}
@@ -63,7 +62,7 @@ pub position-or_length : (p : ℕ → Bool) (xs : List ℕ) → unwrap_or (posit
 position-or_length p xs = elim (cases_lt (position_or_len p xs) (length xs)) [
   | inl inside ↦ ap (λ (b : Bool). unwrap_or (cond b (Some (position_or_len p xs)) None) (length xs)) (lt-ltb (position_or_len p xs) (length xs) inside)
   | inr past ↦
-    ap (λ (b : Bool). unwrap_or (cond b (Some (position_or_len p xs)) None) (length xs)) (le-ltb (position_or_len p xs) (length xs) past) ∙ omega (arith, prefix_len-le-length (λ x. not (p x)) xs)
+      ap (λ (b : Bool). unwrap_or (cond b (Some (position_or_len p xs)) None) (length xs)) (le-ltb (position_or_len p xs) (length xs) past) ∙ omega (arith, prefix_len-le-length (λ x. not (p x)) xs)
 ]
 
 pub place_of-slot_at : (d : Directory) → IsDirectory d → (place sector : ℕ) → place < length d.slots → sector ≡ get_or d.blocks (place / 64) 0 * 8 + place % 64 / 8 → place_of d.blocks (record { sector = sector; slot = place % 8 }) ≡ place
@@ -144,8 +143,10 @@ kept_added d order low block kept below absent = record {
       | inl inside ↦ All-get_or (λ e. IsTrue (is_dentry e)) d.slots i free_slot inside kept.directory.forms
       | inr behind ↦ subst (λ e. IsTrue (is_dentry e)) (sym (get_or_past d.slots i free_slot behind)) refl
     ]
+
     counted : count_by is_named (d.slots ++ free_block) ≡ count_by is_named d.slots
     counted = sum_by-append weight d.slots free_block ∙ omega (arith, sum_by-replicate weight 64 free_slot)
+
     index : IsIndex (d.slots ++ free_block) order
     index = record {
       in_range = λ k h. omega (arith, size_added d.slots, kept.index.in_range k h);

@@ -1,9 +1,8 @@
 -- What a name stands for, by the place of its slot and by its rank.
-use Rattle.std.proofs.Common.{◌≡◌, ◌≢◌, ℕ, ◌+◌, ◌<◌, ◌≤◌, List, [], ◌∷◌, Bool, true, false, ◌&&◌, eqb, length, get_or, set, ap, sym, refl, ◌∙◌, subst, arith, Option, Some, None, IsSome, inl, inr, length-set}
-use Rattle.std.specs.List.{Any, find, list_any, position_or_len, slice_get}
+use Rattle.std.proofs.Common.{◌≡◌, ◌≢◌, ℕ, ◌<◌, List, Bool, true, false, eqb, length, get_or, set, ap, sym, refl, ◌∙◌, subst, arith, Some, None, inl, inr, length-set}
+use Rattle.std.specs.List.{find, position_or_len, slice_get}
 use Rattle.std.specs.Str.{bytes_eq}
-use Rattle.std.specs.declared.cmp.Ordering.TheVariants.{Less}
-use Rattle.std.proofs.lemmas.Bool.{eqb-true, eq-eqb, both_ways, and_parts, and_from, cases_lt, cases_order, cases_eq, false_from_ne_true, true≢false, false≢true, lt-ltb, ltb-true, cases_Bool}
+use Rattle.std.proofs.lemmas.Bool.{eqb-true, both_ways, and_parts, and_from, cases_lt, cases_order, false_from_ne_true}
 use Rattle.std.proofs.lemmas.Slice.Eq.{bytes_eq-Decides}
 use Rattle.std.proofs.lemmas.List.{get_or-set_other, get_or_default}
 use Rattle.std.proofs.lemmas.List.Folds.{Any-from_list_any, find_at, position_or_len-set}
@@ -59,9 +58,9 @@ find-set_other p xs i y d new old =
     same_there : (n : ℕ) → n ≡ position_or_len p xs → slice_get (set xs i y) n ≡ slice_get xs n
     same_there n is = elim (cases_lt n (length xs)) [
       | inl found ↦
-        let passes : p (get_or xs n d) ≡ true = subst (λ k. p (get_or xs k d) ≡ true) (sym is) (passes_at_first p xs d (subst (λ k. k < length xs) is found)) in
-        let other : n ≢ i = λ e. both_ways (p (get_or xs i d)) old (subst (λ k. p (get_or xs k d) ≡ true) e passes) in
-        slice_get-get_or (set xs i y) n d (omega (arith, length-set xs i y, found)) ∙ ap Some (get_or-set_other xs i n y d other) ∙ sym (slice_get-get_or xs n d found)
+          let passes : p (get_or xs n d) ≡ true = subst (λ k. p (get_or xs k d) ≡ true) (sym is) (passes_at_first p xs d (subst (λ k. k < length xs) is found)) in
+          let other : n ≢ i = λ e. both_ways (p (get_or xs i d)) old (subst (λ k. p (get_or xs k d) ≡ true) e passes) in
+          slice_get-get_or (set xs i y) n d (omega (arith, length-set xs i y, found)) ∙ ap Some (get_or-set_other xs i n y d other) ∙ sym (slice_get-get_or xs n d found)
       | inr past ↦ slice_get_past (set xs i y) n (omega (arith, length-set xs i y)) ∙ sym (slice_get_past xs n past)
     ]
 
@@ -113,10 +112,10 @@ entry_of-rank slots order index name rank is =
 pub entry_of-gap : (slots : List DentryForm) (order : List ℕ) → IsIndex slots order → (name : List ℕ) (rank : ℕ) → IsGapFor slots order name rank → entry_of slots name ≡ None
 entry_of-gap slots order index name rank gap =
     entry_of-none slots name (λ j inside. false_from_ne_true (has_name name (entry_at slots j)) (λ has.
-        let parts = so_named name (entry_at slots j) has in
-        let at = rank_of slots order index j inside parts.0 in
-        let same : (ranked slots order at.0).name ≡ name = ap (λ (p : ℕ). (entry_at slots p).name) at.2 ∙ parts.1 in
-        elim (cases_lt at.0 rank) [
-          | inl before ↦ not_below_itself name (ap (λ (n : List ℕ). name_cmp n name) (sym same) ∙ gap.before at.0 before)
-          | inr behind ↦ not_below_itself name (ap (λ (n : List ℕ). name_cmp name n) (sym same) ∙ gap.behind at.0 behind at.1)
-        ]))
+    let parts = so_named name (entry_at slots j) has in
+    let at = rank_of slots order index j inside parts.0 in
+    let same : (ranked slots order at.0).name ≡ name = ap (λ (p : ℕ). (entry_at slots p).name) at.2 ∙ parts.1 in
+    elim (cases_lt at.0 rank) [
+      | inl before ↦ not_below_itself name (ap (λ (n : List ℕ). name_cmp n name) (sym same) ∙ gap.before at.0 before)
+      | inr behind ↦ not_below_itself name (ap (λ (n : List ℕ). name_cmp name n) (sym same) ∙ gap.behind at.0 behind at.1)
+    ]))

@@ -1,15 +1,14 @@
 -- The next name above a name.
-use Rattle.std.proofs.Common.{◌≡◌, ◌≢◌, ℕ, ◌+◌, ◌<◌, ◌≤◌, List, Bool, true, false, eqb, length, get_or, ap, sym, refl, ◌∙◌, subst, arith, Some, None, is_some, IsSome, inl, inr}
-use Rattle.std.specs.List.{position_or_len, slice_get}
+use Rattle.std.proofs.Common.{◌≡◌, ◌≢◌, ℕ, ◌+◌, ◌<◌, ◌≤◌, List, length, get_or, ap, sym, refl, ◌∙◌, arith, is_some, IsSome, inl, inr}
+use Rattle.std.specs.List.{position_or_len}
 use Rattle.std.specs.declared.cmp.Ordering.TheVariants.{Less, Equal, Greater}
-use Rattle.std.specs.Ordering.{ordering_reverse}
 use Rattle.std.proofs.lemmas.Bool.{cases_lt, cases_order, false≢true}
 use Rattle.std.proofs.lemmas.Cmp.{nat_list_cmp_total, tied_itself}
 use Rattle.std.proofs.lemmas.List.Folds.{find_at}
 use Rattle.std.proofs.lemmas.List.Sums.{passes_at_first}
 use Rattle.std.proofs.lemmas.Option.{slice_get_past}
-use Rattle.ufs_layout.specs.DentryForm.{DentryForm, free_slot, is_named}
-use Rattle.ufs_dirs.specs.Directory.{Directory, entry_at, entry_of, has_name, name_cmp}
+use Rattle.ufs_layout.specs.DentryForm.{DentryForm, free_slot}
+use Rattle.ufs_dirs.specs.Directory.{entry_at, entry_of, has_name, name_cmp}
 use Rattle.ufs_dirs.specs.Index.{IsIndex, IsRankOf, IsGapFor, IsNextRank, ranked}
 use Rattle.ufs_dirs.specs.Changes.{IsNextName, IsLastName}
 use Rattle.ufs_dirs.proofs.SearchLemmas.{not_below_itself, below_through}
@@ -26,7 +25,7 @@ module _ (slots : List DentryForm) (order : List ℕ) (index : IsIndex slots ord
     not_above = λ j h. elim (cases_order j rank) [
       | inl same ↦ λ less. not_below_itself after (ap (name_cmp after) (sym is.same ∙ ap (λ (k : ℕ). (ranked slots order k).name) (sym same)) ∙ less)
       | inr (inl low) ↦
-        not_both_below (ranked slots order j).name after (ap (name_cmp (ranked slots order j).name) (sym is.same) ∙ index.rising j rank low is.in_range)
+          not_both_below (ranked slots order j).name after (ap (name_cmp (ranked slots order j).name) (sym is.same) ∙ index.rising j rank low is.in_range)
       | inr (inr high) ↦ absurd (omega arith)
     ];
     above = λ j h end. ap (λ (n : List ℕ). name_cmp n (ranked slots order j).name) (sym is.same) ∙ index.rising rank j (omega arith) end;
@@ -62,8 +61,8 @@ module _ (slots : List DentryForm) (order : List ℕ) (index : IsIndex slots ord
           let compared : name_cmp e.name (ranked slots order at.0).name ≡ Greater = ap (name_cmp e.name) at.2 ∙ greater in
           elim (cases_order at.0 rank) [
             | inl same ↦
-              let tied : name_cmp e.name (ranked slots order at.0).name ≡ Equal = ap (λ (k : ℕ). name_cmp e.name (ranked slots order k).name) same ∙ tied_itself nat_list_cmp_total e.name in
-              absurd cc
+                let tied : name_cmp e.name (ranked slots order at.0).name ≡ Equal = ap (λ (k : ℕ). name_cmp e.name (ranked slots order k).name) same ∙ tied_itself nat_list_cmp_total e.name in
+                absurd cc
             | inr (inl low) ↦ next.not_above at.0 low (ap (name_cmp after) at.2 ∙ less)
             | inr (inr high) ↦ let rises = index.rising rank at.0 high at.1 in absurd cc
           ];

@@ -1,11 +1,11 @@
 -- A block that is read, slot by slot.
-use Rattle.std.proofs.Common.{◌≡◌, ◌≢◌, ℕ, zero, suc, ◌+◌, ◌-◌, ◌*◌, ◌<◌, ◌≤◌, List, [], ◌∷◌, ◌++◌, Bool, true, false, eqb, ltb, leb, ◌&&◌, ◌||◌, length, get_or, set, replicate, take, drop, flat_map, ap, sym, refl, ◌∙◌, subst, arith, Some, Result, Ok, Err, OnOk, is_err, inl, inr, IsTrue, length-set, length-append}
-use Rattle.std.proofs.Math.Seq.{take-append_seam, drop-append_seam, take-add}
+use Rattle.std.proofs.Common.{◌≡◌, ℕ, ◌+◌, ◌-◌, ◌*◌, ◌<◌, List, [], ◌∷◌, ◌++◌, Bool, false, eqb, ltb, leb, ◌&&◌, ◌||◌, length, set, replicate, take, drop, flat_map, ap, sym, refl, ◌∙◌, arith, Result, Ok, Err, OnOk, is_err, IsTrue}
+use Rattle.std.proofs.Math.Seq.{take-append_seam, take-add}
 use Rattle.std.proofs.lemmas.Bool.{and_parts, eqb-true, ltb-false, true≢false}
 use Rattle.std.proofs.lemmas.List.{get_or-set_same, get_or-set_other, set-get_or, get_or_past, take-set-le, drop-set-add, take_more_set, flat_map_more, length-drop, take_all}
 use Rattle.std.proofs.lemmas.List.Elements.{All-get_or}
 use Rattle.ufs_layout.specs.DentryForm.{DentryForm, dentry_bytes, free_slot, is_dentry, is_named}
-use Rattle.ufs_dirs.specs.Directory.{Directory, IsDirectory, entry_at, entry_of}
+use Rattle.ufs_dirs.specs.Directory.{Directory, IsDirectory, entry_at}
 use Rattle.ufs_dirs.specs.Reading.{IsReadSoFar, ReadsSlot, slot_bytes}
 use Rattle.ufs_dirs.specs.Changes.{bytes_of_block}
 use Rattle.ufs_dirs.proofs.KeptLemmas.{entry_at-added}

@@ -1,5 +1,5 @@
 -- Slots of a directory, and what a change of one does.
-use Rattle.std.specs.Prelude.{◌≡◌, ◌≢◌, ℕ, ◌+◌, ◌*◌, ◌/◌, ◌%◌, ◌<◌, List, ◌++◌, length, Bool, true, false, ◌==◌, Option, Some, IsSome, slice_set, take, drop, flat_map}
+use Rattle.std.specs.Prelude.{◌≡◌, ◌≢◌, ℕ, ◌+◌, ◌*◌, ◌/◌, ◌%◌, ◌<◌, List, length, true, false, ◌==◌, Option, Some, IsSome, slice_set, take, drop, flat_map}
 use Rattle.std.specs.List.{position_or_len}
 use Rattle.std.specs.declared.cmp.Ordering.TheVariants.{Less, Greater}
 use Rattle.ufs_layout.specs.DentryForm.{DentryForm, dentry_bytes, is_named}

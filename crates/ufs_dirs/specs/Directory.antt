@@ -1,5 +1,5 @@
 -- A directory as its blocks have it.
-use Rattle.std.specs.Prelude.{◌≡◌, ◌≢◌, ℕ, ◌+◌, ◌*◌, ◌<◌, List, length, Bool, true, ◌&&◌, ◌==◌, IsTrue, Option, IsSome, All, nat_eq, slice_index_or, slice_set}
+use Rattle.std.specs.Prelude.{◌≡◌, ◌≢◌, ℕ, ◌*◌, ◌<◌, List, length, Bool, true, ◌&&◌, ◌==◌, IsTrue, Option, All, nat_eq, slice_index_or}
 use Rattle.std.specs.List.{find, list_any, IsDistinct}
 use Rattle.std.specs.Str.{bytes_eq}
 use Rattle.std.specs.Ordering.{nat_cmp}

@@ -1,5 +1,5 @@
 -- A block that is read, slot by slot.
-use Rattle.std.specs.Prelude.{◌≡◌, ℕ, ◌+◌, ◌*◌, ◌<◌, ◌≤◌, List, [], ◌∷◌, ◌++◌, length, take, drop, flat_map, false, Option, Some, None, IsSome, ⊤, slice_set}
+use Rattle.std.specs.Prelude.{◌≡◌, ℕ, ◌+◌, ◌*◌, ◌<◌, ◌≤◌, List, [], ◌∷◌, ◌++◌, length, take, drop, flat_map, false, Some, None, IsSome, ⊤, slice_set}
 use Rattle.ufs_layout.specs.DentryForm.{DentryForm, dentry_bytes, dentry_of, is_named}
 use Rattle.ufs_dirs.specs.Directory.{Directory, IsDirectory, entry_at, entry_of}
 use Rattle.ufs_dirs.specs.declared.SlotFault.{SlotFault}

@@ -8,7 +8,6 @@ mod index;
 mod tests;
 
 pub use dir_blocks::DirBlocks;
-
 use std::alloc::{AllocError, AllocFailed};
 
 /// The number above every block's.

@@ -1,5 +1,6 @@
 // What no clause says, and each call once.
-use crate::{DirBlocks, MAX_BLOCKS, Memory, Slot};
+use crate::{BlockFault, DirBlocks, MAX_BLOCKS, Memory, Slot, SlotFault};
+use std::alloc::Global;
 use ufs_layout::Dentry;
 
 // Whether the block came in.
@@ -39,56 +40,123 @@ fn remove(dir: &mut DirBlocks, name: &[u8]) -> Option<Slot> {
     Some(dir.remove(name))
 }
 
+// A directory of one block with these bytes.
+fn read(alloc: Global, bytes: &[u8]) -> Result<DirBlocks, BlockFault> {
+    if bytes.len() != 4096 {
+        return Err(BlockFault::NoMemory);
+    }
+    DirBlocks::new(alloc).with_block(9, bytes)
+}
+
+// The first block's bytes.
+fn first_bytes(dir: &DirBlocks) -> [u8; 4096] {
+    let mut bytes = [1; 4096];
+    if !dir.blocks().is_empty() {
+        dir.block_bytes(0, &mut bytes);
+    }
+    bytes
+}
+
+// The number of the name's inode, 0 for none.
+fn inode_of(entry: Option<Dentry>) -> u32 {
+    match entry {
+        Some(entry) => entry.inode,
+        None => 0,
+    }
+}
+
+fn insert_or_remove(dir: &mut DirBlocks, comes: bool, name: &[u8]) -> Option<Slot> {
+    if comes {
+        insert(dir, 9, name)
+    } else {
+        remove(dir, name)
+    }
+}
+
 #[test]
-fn lowest_slot_is_taken_again(rt: HostRuntime) {
+fn lowest_slot_is_taken_again(rt: HostRuntime) -> Result<(), Memory> {
     let mut dir = DirBlocks::new(rt.alloc());
-    assert_eq!(rt; insert(&mut dir, 2, b"early"), None);
-    assert_eq!(rt; add(&mut dir, 20), Ok(true));
-    assert_eq!(rt; add(&mut dir, 20), Ok(false));
+    add(&mut dir, 20)?;
     for k in 0..64u8 {
         let slot = Slot {
             sector: 160 + u32::from(k / 8),
             slot: k % 8,
         };
-        assert_eq!(rt; insert(&mut dir, u32::from(k) + 2, &[b'a', 200 - k]), Some(slot));
+        assert_eq!(rt; insert(&mut dir, 2, &[b'a', 200 - k]), Some(slot));
     }
-    assert_eq!(rt; insert(&mut dir, 99, b"no"), None);
-    assert_eq!(rt; add(&mut dir, 14), Ok(true));
-    assert_eq!(rt; insert(&mut dir, 99, b"next"), Some(Slot { sector: 112, slot: 0 }));
-    assert_eq!(rt; remove(&mut dir, &[b'a', 190]), Some(Slot { sector: 161, slot: 2 }));
-    assert_eq!(rt; remove(&mut dir, &[b'a', 190]), None);
-    assert_eq!(rt; dir.count(), 64);
-    assert_eq!(rt; insert(&mut dir, 100, b"again"), Some(Slot { sector: 161, slot: 2 }));
-    assert_eq!(rt; insert(&mut dir, 101, b"last"), Some(Slot { sector: 112, slot: 1 }));
-    assert_eq!(rt; dir.blocks(), [20, 14].as_slice());
+    let full = insert(&mut dir, 3, b"full");
+    add(&mut dir, 14)?;
+    let first = Slot {
+        sector: 112,
+        slot: 0,
+    };
+    let freed = Slot {
+        sector: 161,
+        slot: 2,
+    };
+    let second = Slot {
+        sector: 112,
+        slot: 1,
+    };
+    let rows: [(bool, &[u8], Option<Slot>); 5] = [
+        (true, b"next", Some(first)),
+        (false, &[b'a', 190], Some(freed)),
+        (false, &[b'a', 190], None),
+        (true, b"again", Some(freed)),
+        (true, b"last", Some(second)),
+    ];
+    for (comes, name, slot) in rows {
+        assert_eq!(rt; insert_or_remove(&mut dir, comes, name), slot);
+    }
+    assert_eq!(rt; (full, dir.count()), (None, 66));
+    Ok(())
 }
 
 #[test]
-fn names_come_in_byte_order(rt: HostRuntime) {
+fn names_come_in_byte_order(rt: HostRuntime) -> Result<(), Memory> {
     let mut dir = DirBlocks::new(rt.alloc());
-    assert!(rt; dir.is_empty());
-    assert_eq!(rt; add(&mut dir, 7), Ok(true));
-    assert!(rt; place(&mut dir, Slot { sector: 58, slot: 5 }, 4, b"b"));
-    assert!(rt; !place(&mut dir, Slot { sector: 58, slot: 5 }, 4, b"c"));
-    assert!(rt; !place(&mut dir, Slot { sector: 58, slot: 8 }, 4, b"c"));
-    assert!(rt; !place(&mut dir, Slot { sector: 64, slot: 0 }, 4, b"c"));
-    assert_eq!(rt; insert(&mut dir, 5, b"ab"), Some(Slot { sector: 56, slot: 0 }));
-    assert_eq!(rt; insert(&mut dir, 6, b"a"), Some(Slot { sector: 56, slot: 1 }));
-    assert!(rt; !dir.is_empty());
-    let rows: [(&[u8], Option<u32>); 5] = [
-        (b"", Some(6)),
-        (b"a", Some(5)),
-        (b"aa", Some(5)),
-        (b"ab", Some(4)),
-        (b"b", None),
-    ];
-    for (after, inode) in rows {
-        assert_eq!(rt; dir.next_name(after).map(|d| d.inode), inode);
+    let was_empty = dir.is_empty();
+    add(&mut dir, 7)?;
+    for (sector, slot, comes) in [
+        (58, 5, true),
+        (58, 5, false),
+        (58, 8, false),
+        (64, 0, false),
+    ] {
+        let came = place(&mut dir, Slot { sector, slot }, 4, &[b'b', slot]);
+        assert_eq!(rt; came, comes);
     }
-    assert_eq!(rt; dir.find(b"b").map(|d| d.inode), Some(4));
-    assert_eq!(rt; dir.find(b"c").map(|d| d.inode), None);
-    let mut bytes = [9; 4096];
-    dir.block_bytes(0, &mut bytes);
-    assert_eq!(rt; &bytes[64..72], [6, 0, 0, 0, 1, 1, b'a', 0].as_slice());
-    assert_eq!(rt; &bytes[128..136], [0; 8].as_slice());
+    insert(&mut dir, 5, b"ab");
+    insert(&mut dir, 6, b"a");
+    let rows: [(&[u8], u32); 5] = [(b"", 6), (b"a", 5), (b"aa", 5), (b"ab", 4), (b"b\x05", 0)];
+    for (after, inode) in rows {
+        assert_eq!(rt; inode_of(dir.next_name(after)), inode);
+    }
+    let found = (inode_of(dir.find(b"ab")), inode_of(dir.find(b"b")));
+    assert_eq!(rt; (was_empty, dir.is_empty(), found), (true, false, (5, 0)));
+    Ok(())
+}
+
+// A block with `b` in slot 3, and with this name in slot 63.
+fn two_names(name: u8) -> [u8; 4096] {
+    let mut bytes = [0; 4096];
+    for (at, inode, name) in [(192, 7, b'b'), (4032, 8, name)] {
+        let entry = [inode, 0, 0, 0, 1, 1, name];
+        bytes[at..at + 7].copy_from_slice(&entry);
+    }
+    bytes
+}
+
+#[test]
+fn blocks_are_read_back(rt: HostRuntime) -> Result<(), BlockFault> {
+    let mut bytes = two_names(b'a');
+    let dir = read(rt.alloc(), &bytes)?;
+    assert_eq!(rt; (dir.count(), inode_of(dir.next_name(b""))), (2, 8));
+    assert!(rt; first_bytes(&dir) == bytes);
+    let twice = BlockFault::BadSlot(63, SlotFault::NameTwice);
+    assert_eq!(rt; read(rt.alloc(), &two_names(b'b')).err(), Some(twice));
+    bytes[70] = 1;
+    let off = BlockFault::BadSlot(1, SlotFault::OffForm);
+    assert_eq!(rt; read(rt.alloc(), &bytes).err(), Some(off));
+    Ok(())
 }

@@ -1,5 +1,5 @@
-use Rattle.std.proofs.Common.{◌≡◌, ℕ, ◌+◌, ◌*◌, List, [], ◌∷◌, ◌++◌, length, take, drop, flat_map, ap, sym, ◌∙◌, arith, length-append}
-use Rattle.ufs_layout.specs.DentryForm.{DentryForm, dentry_bytes}
+use Rattle.std.proofs.Common.{◌≡◌, ℕ, ◌+◌, ◌*◌, List, ◌++◌, length, take, drop, flat_map, ap, sym, ◌∙◌, arith, length-append}
+use Rattle.ufs_layout.specs.DentryForm.{dentry_bytes}
 use Rattle.ufs_dirs.proofs.CodecLemmas.{written_next, row_next}
 use Rattle.ufs_dirs.proofs.codec.put_slots.Goals as goal
 

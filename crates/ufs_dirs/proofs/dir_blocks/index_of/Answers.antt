@@ -1,5 +1,4 @@
-use Rattle.std.proofs.Common.{◌≡◌, ℕ, eqb, length, ap, ◌∙◌, rules, Option}
-use Rattle.std.specs.List.{position}
+use Rattle.std.proofs.Common.{ℕ, eqb, length, ap, ◌∙◌, Option}
 use Rattle.std.specs.Option.{unwrap_or}
 use Rattle.ufs_dirs.proofs.KeptLemmas.{position-or_length}
 use Rattle.ufs_dirs.proofs.dir_blocks.index_of.Goals as goal

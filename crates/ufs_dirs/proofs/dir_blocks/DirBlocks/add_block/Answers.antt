@@ -1,7 +1,7 @@
-use Rattle.std.proofs.Common.{◌≡◌, ℕ, ◌+◌, ◌-◌, ◌*◌, ◌/◌, ◌%◌, ◌<◌, ◌≤◌, List, [], ◌∷◌, ◌++◌, Bool, true, false, cond, eqb, length, get_or, set, replicate, ap, sym, refl, ◌∙◌, subst, arith, rules, Option, Some, None, Ok, Err, IsSome, is_some, length-set}
-use Rattle.ufs_layout.specs.DentryForm.{DentryForm, free_slot, is_named}
-use Rattle.ufs_dirs.specs.Directory.{Directory, IsDirectory, entry_at, entry_of}
-use Rattle.ufs_dirs.specs.Index.{IsKept, IsIndex, IsRankOf, IsGapFor, IsNextRank, ranked}
+use Rattle.std.proofs.Common.{◌≡◌, ℕ, ◌+◌, ◌-◌, List, [], ◌∷◌, ◌++◌, false, length, replicate, ap, sym, ◌∙◌, subst, arith}
+use Rattle.ufs_layout.specs.DentryForm.{DentryForm, free_slot}
+use Rattle.ufs_dirs.specs.Directory.{Directory}
+use Rattle.ufs_dirs.specs.Index.{IsKept}
 use Rattle.std.proofs.Common.{take}
 use Rattle.std.specs.Vec.{vec_len}
 use Rattle.ufs_dirs.specs.Directory.{has_block}
@@ -26,8 +26,8 @@ invariant_of-self-2 c =
     let absent : has_block d.blocks block ≡ false = ap (λ (x : Directory). has_block x.blocks block) c.self.view_is ∙ c.requires.absent in
     let kept = kept_added d order low block c.self.invariant.0 c.requires.below absent in (
       subst (λ (b : List ℕ). IsKept (record { blocks = b; slots = c.resize.new.self.items }) c.reserve-3.new.self.items low) (sym blocks_is)
-      (subst (λ (s : List DentryForm). IsKept (record { blocks = d.blocks ++ block ∷ []; slots = s }) c.reserve-3.new.self.items low) (sym slots_is)
-      (subst (λ (o : List ℕ). IsKept (record { blocks = d.blocks ++ block ∷ []; slots = d.slots ++ replicate 64 free_slot }) o low) (sym c.reserve-3.ensures.items) kept)),
+          (subst (λ (s : List DentryForm). IsKept (record { blocks = d.blocks ++ block ∷ []; slots = s }) c.reserve-3.new.self.items low) (sym slots_is)
+          (subst (λ (o : List ℕ). IsKept (record { blocks = d.blocks ++ block ∷ []; slots = d.slots ++ replicate 64 free_slot }) o low) (sym c.reserve-3.ensures.items) kept)),
       omega (arith, ap (λ (s : List DentryForm). length s) slots_is, size_added d.slots, c.in_ok-reserve-3.ensures.ok, c.len-slots.ensures, c.len.ensures, c.reserve-3.ensures.len, few_names d order low c.self.invariant.0),
     )
 

@@ -1,6 +1,6 @@
-use Rattle.std.proofs.Common.{◌≡◌, ℕ, ◌+◌, ◌-◌, ◌*◌, ◌/◌, ◌%◌, ◌<◌, ◌≤◌, List, [], ◌∷◌, ◌++◌, Bool, true, false, cond, eqb, length, get_or, set, replicate, take, drop, ap, sym, refl, ◌∙◌, subst, arith, rules, Option, Some, None, Ok, Err, IsSome, is_some, length-set, flat_map}
+use Rattle.std.proofs.Common.{◌+◌, ◌-◌, ◌*◌, List, take, drop, ap, ◌∙◌, arith, flat_map}
 use Rattle.ufs_layout.specs.DentryForm.{DentryForm, dentry_bytes}
-use Rattle.ufs_dirs.specs.Directory.{Directory, IsDirectory, entry_at, entry_of}
+use Rattle.ufs_dirs.specs.Directory.{Directory}
 use Rattle.ufs_dirs.proofs.CodecLemmas.{block_piece}
 use Rattle.ufs_dirs.specs.Changes.{bytes_of_block}
 use Rattle.ufs_dirs.proofs.dir_blocks.DirBlocks.block_bytes.Goals as goal

@@ -1,7 +1,5 @@
-use Rattle.std.proofs.Common.{◌≡◌, ℕ, ◌+◌, ◌-◌, ◌*◌, ◌/◌, ◌%◌, ◌<◌, ◌≤◌, List, [], ◌∷◌, ◌++◌, Bool, true, false, eqb, length, get_or, set, replicate, ap, sym, refl, ◌∙◌, subst, arith, rules, Some, None, Ok, Err}
-use Rattle.ufs_layout.specs.DentryForm.{DentryForm, free_slot, is_named}
-use Rattle.ufs_dirs.specs.Directory.{Directory, IsDirectory, entry_at, entry_of}
-use Rattle.ufs_dirs.specs.Index.{IsKept, IsIndex, IsRankOf, IsGapFor, ranked}
+use Rattle.std.proofs.Common.{arith}
+use Rattle.ufs_dirs.specs.Directory.{Directory}
 use Rattle.ufs_dirs.proofs.KeptLemmas.{few_slots, few_names}
 use Rattle.ufs_dirs.proofs.dir_blocks.DirBlocks.count.Goals as goal
 

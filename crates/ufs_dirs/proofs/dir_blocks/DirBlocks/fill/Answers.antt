@@ -1,7 +1,7 @@
-use Rattle.std.proofs.Common.{◌≡◌, ℕ, ◌+◌, ◌-◌, ◌*◌, ◌/◌, ◌%◌, ◌<◌, ◌≤◌, List, [], ◌∷◌, ◌++◌, Bool, true, false, cond, eqb, length, get_or, set, replicate, ap, sym, refl, ◌∙◌, subst, arith, rules, Option, Some, None, Ok, Err, IsSome, is_some, length-set}
-use Rattle.ufs_layout.specs.DentryForm.{DentryForm, free_slot, is_named}
+use Rattle.std.proofs.Common.{◌≡◌, ℕ, ◌<◌, List, Bool, false, cond, length, set, ap, sym, ◌∙◌, subst, arith, Some, None, length-set}
+use Rattle.ufs_layout.specs.DentryForm.{is_named}
 use Rattle.ufs_dirs.specs.Directory.{Directory, IsDirectory, entry_at, entry_of}
-use Rattle.ufs_dirs.specs.Index.{IsKept, IsIndex, IsRankOf, IsGapFor, IsNextRank, ranked}
+use Rattle.ufs_dirs.specs.Index.{IsKept}
 use Rattle.std.specs.List.{insert}
 use Rattle.ufs_dirs.specs.Changes.{SetsName}
 use Rattle.ufs_dirs.proofs.NameLemmas.{entry_of-rank}
@@ -46,7 +46,7 @@ invariant_of-self c =
     let ok = c.insert.ensures.succeeds (omega (arith, c.self.invariant.1, not_all_used slots place inside free, c.self.invariant.0.index.counted)) in
     let order_is : c.insert.new.self.items ≡ insert order c.in-Err.rank place = c.insert.ensures.items ∙ ap (λ (b : Bool). cond b (insert order c.in-Err.rank place) order) ok in (
       subst (λ (o : List ℕ). IsKept (record d { slots = set slots place e }) o c.self.inside.low) (sym order_is)
-      (kept_filled d order c.self.inside.low place c.in-Err.rank e c.self.invariant.0 inside free c.requires.named c.requires.form gap),
+          (kept_filled d order c.self.inside.low place c.in-Err.rank e c.self.invariant.0 inside free c.requires.named c.requires.form gap),
       omega (arith, length-set slots place e, c.self.invariant.1, c.insert.ensures.capacity),
     )
 

@@ -1,7 +1,5 @@
-use Rattle.std.proofs.Common.{◌≡◌, ℕ, ◌+◌, ◌-◌, ◌*◌, ◌/◌, ◌%◌, ◌<◌, ◌≤◌, List, [], ◌∷◌, ◌++◌, Bool, true, false, eqb, length, get_or, set, replicate, ap, sym, refl, ◌∙◌, subst, arith, rules, Some, None, Ok, Err}
-use Rattle.ufs_layout.specs.DentryForm.{DentryForm, free_slot, is_named}
-use Rattle.ufs_dirs.specs.Directory.{Directory, IsDirectory, entry_at, entry_of}
-use Rattle.ufs_dirs.specs.Index.{IsKept, IsIndex, IsRankOf, IsGapFor, ranked}
+use Rattle.std.proofs.Common.{ap, sym, refl, ◌∙◌}
+use Rattle.ufs_dirs.specs.Directory.{Directory, entry_of}
 use Rattle.ufs_dirs.proofs.NameLemmas.{entry_of-gap}
 use Rattle.ufs_dirs.proofs.KeptLemmas.{entry_read, rank_along, gap_along}
 use Rattle.ufs_dirs.proofs.dir_blocks.DirBlocks.find.Goals as goal

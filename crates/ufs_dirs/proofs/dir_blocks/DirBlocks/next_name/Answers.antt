@@ -1,7 +1,7 @@
-use Rattle.std.proofs.Common.{◌≡◌, ℕ, ◌+◌, ◌-◌, ◌*◌, ◌/◌, ◌%◌, ◌<◌, ◌≤◌, List, [], ◌∷◌, ◌++◌, Bool, true, false, cond, eqb, length, get_or, set, replicate, ap, sym, refl, ◌∙◌, subst, arith, rules, Option, Some, None, Ok, Err, IsSome, is_some, length-set}
-use Rattle.ufs_layout.specs.DentryForm.{DentryForm, free_slot, is_named}
-use Rattle.ufs_dirs.specs.Directory.{Directory, IsDirectory, entry_at, entry_of}
-use Rattle.ufs_dirs.specs.Index.{IsKept, IsIndex, IsRankOf, IsGapFor, IsNextRank, ranked}
+use Rattle.std.proofs.Common.{◌≡◌, ◌<◌, length, get_or, ap, sym, ◌∙◌, subst, arith}
+use Rattle.ufs_layout.specs.DentryForm.{DentryForm, free_slot}
+use Rattle.ufs_dirs.specs.Directory.{Directory, entry_at}
+use Rattle.ufs_dirs.specs.Index.{ranked}
 use Rattle.std.proofs.lemmas.List.{get_or_default}
 use Rattle.ufs_dirs.specs.Changes.{IsNextName, IsLastName}
 use Rattle.ufs_dirs.proofs.NextLemmas.{next_there, next_none}

@@ -1,8 +1,8 @@
-use Rattle.std.proofs.Common.{◌≡◌, ℕ, ◌+◌, ◌-◌, ◌*◌, ◌<◌, ◌≤◌, List, [], ◌∷◌, ◌++◌, Bool, true, false, eqb, length, take, drop, ap, sym, refl, ◌∙◌, subst, arith, Some, None}
+use Rattle.std.proofs.Common.{◌≡◌, ℕ, List, true, false, eqb, length, ap, sym, ◌∙◌, subst, arith}
 use Rattle.std.proofs.lemmas.Bool.{eqb-true, le-ltb}
 use Rattle.ufs_layout.specs.DentryForm.{is_named}
-use Rattle.ufs_dirs.specs.Directory.{Directory, IsDirectory}
-use Rattle.ufs_dirs.proofs.ReadLemmas.{reads_free, reads_used}
+use Rattle.ufs_dirs.specs.Directory.{IsDirectory}
+use Rattle.ufs_dirs.proofs.ReadLemmas.{reads_free}
 use Rattle.ufs_dirs.proofs.dir_blocks.DirBlocks.read_slot.Goals as goal
 
 pub returns-then-is_empty-clause-ok : goal.returns-then-is_empty-clause-ok

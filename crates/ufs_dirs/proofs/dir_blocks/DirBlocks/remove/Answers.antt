@@ -1,7 +1,7 @@
-use Rattle.std.proofs.Common.{◌≡◌, ℕ, ◌+◌, ◌-◌, ◌*◌, ◌/◌, ◌%◌, ◌<◌, ◌≤◌, List, [], ◌∷◌, ◌++◌, Bool, true, false, cond, eqb, length, get_or, set, replicate, ap, sym, refl, ◌∙◌, subst, arith, rules, Option, Some, None, Ok, Err, IsSome, is_some, length-set}
-use Rattle.ufs_layout.specs.DentryForm.{DentryForm, free_slot, is_named}
-use Rattle.ufs_dirs.specs.Directory.{Directory, IsDirectory, entry_at, entry_of}
-use Rattle.ufs_dirs.specs.Index.{IsKept, IsIndex, IsRankOf, IsGapFor, IsNextRank, ranked}
+use Rattle.std.proofs.Common.{◌≡◌, ℕ, List, get_or, set, ap, sym, refl, ◌∙◌, subst, arith, None, is_some, length-set}
+use Rattle.ufs_layout.specs.DentryForm.{DentryForm, free_slot}
+use Rattle.ufs_dirs.specs.Directory.{Directory, entry_of}
+use Rattle.ufs_dirs.specs.Index.{IsKept}
 use Rattle.std.specs.List.{remove}
 use Rattle.std.proofs.lemmas.Bool.{false≢true}
 use Rattle.std.proofs.lemmas.List.{get_or_default}
@@ -33,7 +33,7 @@ invariant_of-self c =
     ap (λ (e : DentryForm). set slots c.index.result.now e) c.free_dentry.ensures ∙ ap (λ (p : ℕ). set slots p free_slot) at in
     let kept = kept_cleared d order c.self.inside.low rank c.min-self-inside.result c.self.invariant.0 found.in_range (omega (arith, c.min-self-inside.ensures)) (omega (arith, c.min-self-inside.ensures, at)) in (
       subst (λ (o : List ℕ). IsKept (record d { slots = set slots c.index.result.now c.free_dentry.result }) o c.min-self-inside.result) (sym c.remove.ensures.items)
-      (subst (λ (s : List DentryForm). IsKept (record d { slots = s }) (remove order rank) c.min-self-inside.result) (sym cleared) kept),
+          (subst (λ (s : List DentryForm). IsKept (record d { slots = s }) (remove order rank) c.min-self-inside.result) (sym cleared) kept),
       omega (arith, length-set slots c.index.result.now c.free_dentry.result, c.self.invariant.1, c.remove.ensures.capacity),
     )
 

@@ -1,7 +1,5 @@
-use Rattle.std.proofs.Common.{◌≡◌, ℕ, ◌+◌, ◌-◌, ◌*◌, ◌/◌, ◌%◌, ◌<◌, ◌≤◌, List, [], ◌∷◌, ◌++◌, Bool, true, false, eqb, length, get_or, set, replicate, ap, sym, refl, ◌∙◌, subst, arith, rules, Some, None, Ok, Err}
-use Rattle.ufs_layout.specs.DentryForm.{DentryForm, free_slot, is_named}
-use Rattle.ufs_dirs.specs.Directory.{Directory, IsDirectory, entry_at, entry_of}
-use Rattle.ufs_dirs.specs.Index.{IsKept, IsIndex, IsRankOf, IsGapFor, ranked}
+use Rattle.std.proofs.Common.{◌≡◌, ◌+◌, ◌*◌, ◌/◌, ◌%◌, ◌<◌, length, get_or, ap, ◌∙◌, subst, arith}
+use Rattle.ufs_dirs.specs.Directory.{Directory, IsDirectory}
 use Rattle.std.proofs.lemmas.List.{get_or_default}
 use Rattle.ufs_dirs.proofs.KeptLemmas.{place_of-slot_at, slot_at-is_slot}
 use Rattle.ufs_dirs.proofs.dir_blocks.DirBlocks.slot_at.Goals as goal

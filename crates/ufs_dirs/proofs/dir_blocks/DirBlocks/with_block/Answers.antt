@@ -1,7 +1,7 @@
-use Rattle.std.proofs.Common.{◌≡◌, ℕ, ◌+◌, ◌-◌, ◌*◌, ◌<◌, ◌≤◌, List, [], ◌∷◌, ◌++◌, Bool, true, false, length, replicate, take, drop, ap, sym, refl, ◌∙◌, subst, arith, Some, None, length-set}
-use Rattle.ufs_layout.specs.DentryForm.{DentryForm, free_slot}
+use Rattle.std.proofs.Common.{◌≡◌, ℕ, ◌+◌, List, [], ◌∷◌, ◌++◌, length, replicate, ap, sym, ◌∙◌, subst, arith, length-set}
+use Rattle.ufs_layout.specs.DentryForm.{free_slot}
 use Rattle.ufs_dirs.specs.Directory.{Directory, IsDirectory, entry_at}
-use Rattle.ufs_dirs.specs.Reading.{IsReadSoFar, IsSlotFault, ReadsSlot, slot_bytes}
+use Rattle.ufs_dirs.specs.Reading.{IsSlotFault, ReadsSlot, slot_bytes}
 use Rattle.ufs_dirs.proofs.KeptLemmas.{size_added}
 use Rattle.ufs_dirs.proofs.ReadLemmas.{more_read, none_read, on_ok, slot_piece, whole_read}
 use Rattle.ufs_dirs.proofs.dir_blocks.DirBlocks.with_block.Goals as goal
