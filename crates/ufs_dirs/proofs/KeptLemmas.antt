@@ -7,13 +7,13 @@ use Rattle.std.proofs.lemmas.Bool.{cases_lt, cases_eq, lt-ltb, le-ltb, false≢t
 use Rattle.std.proofs.lemmas.List.{get_or-set_same, get_or-set_other, get_or_append_left, get_or-append_right, get_or-replicate, get_or_past, get_or_default, length-replicate, take_all}
 use Rattle.std.proofs.lemmas.List.Elements.{All-get_or, All-from_get_or, All-push, All-set}
 use Rattle.std.proofs.lemmas.List.Folds.{sum_by-replicate}
-use Rattle.std.proofs.lemmas.List.Sums.{sum_by-append, count_by-le-length, prefix_len-le-length, list_all-from_AllPass}
+use Rattle.std.proofs.lemmas.List.Sums.{sum_by-append, count_by-le-length, prefix_len-le-length, fails_before_first, passes_at_first, list_all-from_AllPass}
 use Rattle.ufs_layout.specs.DentryForm.{DentryForm, free_slot, is_dentry, is_named}
-use Rattle.ufs_dirs.specs.Directory.{Directory, IsDirectory, entry_at, entry_of, has_block, name_cmp}
+use Rattle.ufs_dirs.specs.Directory.{Directory, IsDirectory, entry_at, entry_of, has_block, has_name, name_cmp}
 use Rattle.ufs_dirs.specs.Index.{IsIndex, IsKept, IsGapFor, IsNextRank, IsRankOf, ranked}
 use Rattle.ufs_dirs.specs.Changes.{IsSlot, place_of}
 use Rattle.ufs_dirs.proofs.BlockLemmas.{distinct_none, length-distinct, position-distinct, distinct_push}
-use Rattle.ufs_dirs.proofs.NameLemmas.{names_once, entry_of-rank}
+use Rattle.ufs_dirs.proofs.NameLemmas.{names_once, entry_of-first, entry_of-none, entry_of-rank}
 use Rattle.ufs_dirs.proofs.FilledLemmas.{filled_count, filled_index, weight}
 use Rattle.ufs_dirs.proofs.ClearedLemmas.{cleared_index}
 
@@ -114,6 +114,26 @@ entry_at-added slots p = elim (cases_lt p (length slots)) [
 
 pub size_added : (slots : List DentryForm) → length (slots ++ free_block) ≡ length slots + 64
 size_added slots = length-append slots free_block ∙ omega (arith, length-replicate 64 free_slot)
+
+-- nor of what names stand for
+pub entry_of-added : (slots : List DentryForm) (name : List ℕ) → entry_of (slots ++ free_block) name ≡ entry_of slots name
+entry_of-added slots name = let first = position_or_len (has_name name) slots in elim (cases_lt first (length slots)) [
+  | inl found ↦
+      entry_of-first (slots ++ free_block) name first (omega (arith, size_added slots)) (same first ∙ passes_at_first (has_name name) slots free_slot found) (λ j h. same j ∙ fails_before_first (has_name name) slots j free_slot h)
+      ∙ ap Some (entry_at-added slots first)
+      ∙ sym (entry_of-first slots name first found (passes_at_first (has_name name) slots free_slot found) (λ j h. fails_before_first (has_name name) slots j free_slot h))
+  | inr past ↦
+      entry_of-none (slots ++ free_block) name (λ j h. same j ∙ none_has j past) ∙ sym (entry_of-none slots name (λ j h. none_has j past))
+]
+  where
+    same : (j : ℕ) → has_name name (entry_at (slots ++ free_block) j) ≡ has_name name (entry_at slots j)
+    same j = ap (has_name name) (entry_at-added slots j)
+
+    none_has : (j : ℕ) → length slots ≤ position_or_len (has_name name) slots → has_name name (entry_at slots j) ≡ false
+    none_has j past = elim (cases_lt j (length slots)) [
+      | inl inside ↦ fails_before_first (has_name name) slots j free_slot (omega arith)
+      | inr behind ↦ ap (has_name name) (get_or_past slots j free_slot behind)
+    ]
 
 -- what a call left that succeeded
 pub left_by_ok : {X A E : Type 0} (r : Result A E) (a : A) (now ok err : List X) → now ≡ cond (is_ok r) ok err → r ≡ Ok a → now ≡ ok

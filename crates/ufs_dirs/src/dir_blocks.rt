@@ -1,5 +1,5 @@
 // The blocks of one directory.
-ghost use Rattle.std.specs.Prelude.{◌≡◌, ◌≢◌, ◌==◌, ◌+◌, ◌*◌, ◌<◌, ◌≤◌, ◌↔◌, [], ◌∷◌, ◌++◌, true, false, None, Some, IsTrue, IsSome, IsErr, IfOk, IfErr, IfSome, IfNone, OnOk, OnErr, length, replicate, slice_set, is_err};
+ghost use Rattle.std.specs.Prelude.{ℕ, List, ◌≡◌, ◌≢◌, ◌==◌, ◌+◌, ◌*◌, ◌<◌, ◌≤◌, ◌↔◌, [], ◌∷◌, ◌++◌, true, false, None, Some, IsTrue, IsSome, IsErr, IfOk, IfErr, IfSome, IfNone, OnOk, OnErr, length, replicate, slice_set, is_err};
 ghost use Rattle.std.specs.List.{count_by, list_all, position, position_or_len};
 ghost use Rattle.ufs_layout.specs.DentryForm.{free_slot, is_dentry, is_named};
 ghost use Rattle.ufs_dirs.specs.Directory.{IsDirectory, entry_at, entry_of, has_block};
@@ -129,6 +129,7 @@ impl DirBlocks {
         requires below { block < MAX_BLOCKS }
         requires absent { has_block self.old.blocks block ≡ false }
         ensures ok { OnOk result (self.new ≡ record { blocks = self.old.blocks ++ block ∷ []; slots = self.old.slots ++ replicate 64 free_slot }) }
+        ensures names { (name : List ℕ) → entry_of self.new.slots name ≡ entry_of self.old.slots name }
         ensures err { OnErr result (self.new ≡ self.old) }
     {
         let slots = self.slots.len() + SLOTS;

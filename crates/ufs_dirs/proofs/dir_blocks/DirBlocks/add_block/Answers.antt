@@ -4,8 +4,8 @@ use Rattle.ufs_dirs.specs.Directory.{Directory}
 use Rattle.ufs_dirs.specs.Index.{IsKept}
 use Rattle.std.proofs.Common.{take}
 use Rattle.std.specs.Vec.{vec_len}
-use Rattle.ufs_dirs.specs.Directory.{has_block}
-use Rattle.ufs_dirs.proofs.KeptLemmas.{kept_added, few_names, left_by_ok, resized, size_added}
+use Rattle.ufs_dirs.specs.Directory.{entry_of, has_block}
+use Rattle.ufs_dirs.proofs.KeptLemmas.{entry_of-added, kept_added, few_names, left_by_ok, resized, size_added}
 use Rattle.ufs_dirs.proofs.dir_blocks.DirBlocks.add_block.Goals as goal
 
 pub invariant_of-self-2 : goal.invariant_of-self-2
@@ -46,3 +46,6 @@ returns-clause-ok c =
     resized old c.resize.new.self.items size count c.free_dentry.result grown (omega arith) (omega (arith, c.len-slots.ensures, same_size)) c.free_dentry.ensures ∙ ap (λ (s : List DentryForm). s ++ replicate 64 free_slot) c.reserve-2.ensures.items in
     let added : Directory → Directory = λ x. record { blocks = x.blocks ++ block ∷ []; slots = x.slots ++ replicate 64 free_slot } in
     (λ i. record { blocks = blocks_is i; slots = slots_is i }) ∙ ap added c.self.view_is
+
+pub returns-clause-names : goal.returns-clause-names
+returns-clause-names c name = ap (λ (d : Directory). entry_of d.slots name) (returns-clause-ok c) ∙ entry_of-added c.args.self.now.slots name
