@@ -5,7 +5,7 @@ use Rattle.std.specs.declared.cmp.Ordering.TheVariants.{Less}
 use Rattle.ufs_layout.specs.DentryForm.{DentryForm, is_named}
 use Rattle.ufs_dirs.specs.Directory.{Directory, IsDirectory, entry_at, name_cmp}
 
--- the entry that comes so manieth by its name
+-- the entry of this rank: 0 has the lowest name
 abbrev pub ranked : List DentryForm → List ℕ → ℕ → DentryForm
 ranked slots order k = entry_at slots (slice_index order k)
 
@@ -16,18 +16,18 @@ pub record IsIndex (slots : List DentryForm) (order : List ℕ) : Type 0 where
   pub each : (place : ℕ) → place < length slots → is_named (entry_at slots place) ≡ true → list_any (λ p. p == place) order ≡ true
   pub counted : length order ≡ count_by is_named slots
 
--- The name is that of the k-th.
+-- The name has rank k.
 pub record IsRankOf (slots : List DentryForm) (order : List ℕ) (name : List ℕ) (k : ℕ) : Type 0 where
   pub in_range : k < length order
   pub same : (ranked slots order k).name ≡ name
 
--- The name isn't there, and would come k-th.
+-- The name isn't there, and would have rank k.
 pub record IsGapFor (slots : List DentryForm) (order : List ℕ) (name : List ℕ) (k : ℕ) : Type 0 where
   pub in_range : k ≤ length order
   pub before : (j : ℕ) → j < k → name_cmp (ranked slots order j).name name ≡ Less
   pub behind : (j : ℕ) → k ≤ j → j < length order → name_cmp name (ranked slots order j).name ≡ Less
 
--- The k-th is the first whose name is above this one.
+-- The names above this one are those from rank k on.
 pub record IsNextRank (slots : List DentryForm) (order : List ℕ) (after : List ℕ) (k : ℕ) : Type 0 where
   pub in_range : k ≤ length order
   pub not_above : (j : ℕ) → j < k → name_cmp after (ranked slots order j).name ≢ Less

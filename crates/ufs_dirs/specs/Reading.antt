@@ -7,7 +7,7 @@ use Rattle.ufs_dirs.specs.declared.SlotFault.TheVariants.{OffForm, NameTwice}
 use Rattle.ufs_dirs.specs.declared.BlockFault.{BlockFault}
 use Rattle.ufs_dirs.specs.declared.BlockFault.TheVariants.{NoMemory, BadSlot}
 
--- the bytes of the slot that is so manieth in the block
+-- the bytes of slot k of the block
 abbrev pub slot_bytes : List ℕ → ℕ → List ℕ
 slot_bytes bytes k = take 64 (drop (64 * k) bytes)
 

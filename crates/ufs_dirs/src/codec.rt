@@ -15,7 +15,7 @@ pub(crate) fn put_slots(buf: &mut [u8], slots: &[Dentry])
     }
 }
 
-// Writes the slot that is so manieth in the row.
+// Writes slot k of the row.
 fn put_slot(buf: &mut [u8], k: usize, entry: &Dentry)
     requires room { 64 * k + 64 ≤ length buf.old }
     requires form { IsTrue (is_dentry entry.now) }

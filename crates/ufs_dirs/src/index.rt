@@ -7,7 +7,7 @@ ghost use Rattle.ufs_dirs.specs.Index.{IsIndex, IsRankOf, IsGapFor, IsNextRank};
 use std::cmp::Ordering;
 use ufs_layout::Dentry;
 
-/// How manieth the name is, or would be.
+/// The name's rank among the names, or the one that it would have.
 pub(crate) fn search(slots: &[Dentry], order: &[u32], name: &[u8]) -> Result<usize, usize>
     requires { IsIndex slots.now order.now }
     ensures found { IfOk result (IsRankOf slots.now order.now name.now) }
@@ -27,7 +27,7 @@ pub(crate) fn search(slots: &[Dentry], order: &[u32], name: &[u8]) -> Result<usi
     Err(low)
 }
 
-/// How manieth the next name above this one is; how many names there are where there is none.
+/// The rank of the next name above this one; the number of names where there is none.
 pub(crate) fn next_rank(slots: &[Dentry], order: &[u32], after: &[u8]) -> usize
     requires { IsIndex slots.now order.now }
     ensures { IsNextRank slots.now order.now after.now result }
