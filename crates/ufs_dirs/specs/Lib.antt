@@ -1,0 +1,4 @@
+pub mod Directory
+pub mod Index
+pub mod Changes
+pub mod Reading
