@@ -14,10 +14,10 @@ use Rattle.ufs_top.specs.Texts.{device_line}
 use Rattle.ufs_top.specs.Endings.{Ends, EndsMkfs, IsAnswer, IsDeviceLine, status_of}
 
 -- the number that is told is the disk's count
-pub device_told : (g : Geometry) (sectors before now fault : ℕ) → RoseTo before now fault → (ending : Ending) (text : List ℕ) → IsDeviceLine fault ending text → EndsMkfs g sectors before now ending text
-device_told g sectors before now fault rose ending text (inl l) =
-    subst (λ (e : Ending). EndsMkfs g sectors before now e text) (sym l.0) (record { later = rose.later; rose = rose.rose; number = refl }, l.1 ∙ ap device_line rose.number)
-device_told g sectors before now fault rose ending text (inr l) = subst (λ (e : Ending). EndsMkfs g sectors before now e text) (sym l.0) l.1
+pub device_told : (g : Geometry) (sectors before now fault : ℕ) → geometry_refusal g ≡ None → sector_count g ≤ sectors → RoseTo before now fault → (ending : Ending) (text : List ℕ) → IsDeviceLine fault ending text → EndsMkfs g sectors before now ending text
+device_told g sectors before now fault taken large rose ending text (inl l) =
+    subst (λ (e : Ending). EndsMkfs g sectors before now e text) (sym l.0) (taken, large, record { later = rose.later; rose = rose.rose; number = refl }, l.1 ∙ ap device_line rose.number)
+device_told g sectors before now fault taken large rose ending text (inr l) = subst (λ (e : Ending). EndsMkfs g sectors before now e text) (sym l.0) l.1
 
 -- the three numbers of a command that has them
 abbrev asked : Option Command → Geometry
@@ -38,7 +38,7 @@ module _ (g : Geometry) (sectors before now : ℕ) (taken : geometry_refusal g �
   ends_well (BadGeometry bad) text e = let both = sym taken ∙ e.0 in cc
   ends_well NotBuilt text e = absurd e
   ends_well TooSmall text e = let less = e.1 in absurd (omega (arith, less, large))
-  ends_well DeviceFault text e = absurd (calm e.0.rose)
+  ends_well DeviceFault text e = absurd (calm e.2.rose)
   ends_well OutOfMemory text e = inr refl
   ends_well SourceFault text e = absurd e
 

@@ -84,7 +84,7 @@ abbrev pub EndsMkfs : Geometry → ℕ → ℕ → ℕ → Ending → List ℕ �
 EndsMkfs g sectors before now Done text = (geometry_refusal g ≡ None) × (sector_count g ≤ sectors) × (text ≡ made_line g)
 EndsMkfs g sectors before now (BadGeometry bad) text = (geometry_refusal g ≡ Some bad) × (text ≡ bad_geometry_line bad)
 EndsMkfs g sectors before now TooSmall text = (geometry_refusal g ≡ None) × (sectors < sector_count g) × (text ≡ too_small_line)
-EndsMkfs g sectors before now DeviceFault text = RoseTo before now now × (text ≡ device_line now)
+EndsMkfs g sectors before now DeviceFault text = (geometry_refusal g ≡ None) × (sector_count g ≤ sectors) × RoseTo before now now × (text ≡ device_line now)
 EndsMkfs g sectors before now OutOfMemory text = text ≡ memory_line
 EndsMkfs g sectors before now _ text = ⊥
 

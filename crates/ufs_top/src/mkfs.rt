@@ -61,6 +61,7 @@ fn format_disk<K: Sink, D: Disk>(
     ensures crash { IsTrue D.tells → LeavesOnly D.keeps
         (IsStopped geometry.now (D.size disk.old) (D.moments disk.old).state)
         (D.moments disk.old) (D.moments disk.new) }
+    ensures small { D.size disk.old < sector_count geometry.now → disk.new ≡ disk.old }
     ensures size { D.size disk.new ≡ D.size disk.old }
     ensures disk_told { result ≢ 4 → result ≢ 5 → result ≢ 7 → D.faults disk.new ≡ D.faults disk.old }
 {
@@ -90,6 +91,8 @@ pub fn mkfs<K: Sink, D: Disk>(
     ensures crash { IsTrue D.tells → LeavesOnly D.keeps
         (IsStopped (record { blocks = blocks; inodes = inodes; journal = journal }) (D.size disk.old) (D.moments disk.old).state)
         (D.moments disk.old) (D.moments disk.new) }
+    ensures refused { geometry_refusal (record { blocks = blocks; inodes = inodes; journal = journal }) ≢ None → disk.new ≡ disk.old }
+    ensures small { D.size disk.old < sector_count (record { blocks = blocks; inodes = inodes; journal = journal }) → disk.new ≡ disk.old }
     ensures size { D.size disk.new ≡ D.size disk.old }
     ensures disk_told { result ≢ 4 → result ≢ 5 → result ≢ 7 → D.faults disk.new ≡ D.faults disk.old }
 {

@@ -1,5 +1,5 @@
 // The top call.
-ghost use Rattle.std.specs.Prelude.{◌≡◌, ◌≢◌, ◌≤◌, ◌⊎◌, ℕ, List, IsTrue, Ok, Some, None, length, map, string_bytes};
+ghost use Rattle.std.specs.Prelude.{◌≡◌, ◌≢◌, ◌≤◌, ◌<◌, ◌⊎◌, ℕ, List, IsTrue, Ok, Some, None, length, map, string_bytes};
 ghost use Rattle.std.specs.Io.KnownBytes.{Appends};
 ghost use Rattle.ufs_disk.specs.Faults as disk_faults;
 ghost use Rattle.ufs_disk.specs.Moments.{LeavesOnly};
@@ -94,6 +94,8 @@ fn answer<S: Source, K: Sink, D: Disk>(
     ensures crash { IsTrue D.tells → (g : Geometry) → command_of (map string_bytes words.now.items) ≡ mkfs_command g
         → LeavesOnly D.keeps (IsStopped g (D.size disk.old) (D.moments disk.old).state) (D.moments disk.old) (D.moments disk.new) }
     ensures unwritten { ¬ (IsMkfs (command_of (map string_bytes words.now.items))) → disk.new ≡ disk.old }
+    ensures refused { (g : Geometry) → command_of (map string_bytes words.now.items) ≡ mkfs_command g → geometry_refusal g ≢ None → disk.new ≡ disk.old }
+    ensures small { (g : Geometry) → command_of (map string_bytes words.now.items) ≡ mkfs_command g → D.size disk.old < sector_count g → disk.new ≡ disk.old }
     ensures size { D.size disk.new ≡ D.size disk.old }
     ensures disk_told { result ≢ 4 → result ≢ 5 → result ≢ 7 → D.faults disk.new ≡ D.faults disk.old }
     ensures source_told { result ≢ 6 → result ≢ 7 → S.faults source.new ≡ S.faults source.old }
@@ -139,6 +141,9 @@ pub fn quiet<S: Source, K: Sink, D: Disk>(
         → LeavesOnly D.keeps (IsStopped g (D.size disk) (D.moments disk).state) (D.moments disk) (D.moments result.disk) }
     // Every other command leaves the disk.
     ensures unwritten { ¬ (IsMkfs (command_of (map string_bytes words.now.items))) → result.disk ≡ disk }
+    // So does `mkfs` of a geometry that is refused, and of one that is too large for the disk.
+    ensures refused { (g : Geometry) → command_of (map string_bytes words.now.items) ≡ mkfs_command g → geometry_refusal g ≢ None → result.disk ≡ disk }
+    ensures small { (g : Geometry) → command_of (map string_bytes words.now.items) ≡ mkfs_command g → D.size disk < sector_count g → result.disk ≡ disk }
     ensures size { D.size result.disk ≡ D.size disk }
     // Each status but 7 comes with its cause and its text.
     ensures whole { result.status ≢ 7 → (ending : Ending) × (text : List ℕ) × (result.status ≡ status_of ending)

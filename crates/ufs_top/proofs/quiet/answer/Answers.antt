@@ -1,5 +1,6 @@
-use Rattle.std.proofs.Common.{◌≡◌, ℕ, List, Option, Some, sym, subst, ◌∙◌, map, string_bytes}
+use Rattle.std.proofs.Common.{◌≡◌, ℕ, List, Option, Some, sym, subst, ap, ◌∙◌, ◌<◌, map, string_bytes}
 use Rattle.ufs_disk.specs.Moments.{LeavesOnly}
+use Rattle.ufs_layout.specs.Areas.{geometry_refusal, sector_count}
 use Rattle.ufs_layout.specs.declared.geometry.Geometry.{Geometry}
 use Rattle.ufs_recover.specs.Stopped.{IsNewDisk, IsStopped}
 use Rattle.ufs_top.specs.declared.words.Command.{Command}
@@ -41,3 +42,17 @@ returns-in-Some-Mkfs-clause-unwritten g c other =
     let words = command_of (map string_bytes c.args.words.now.items) in
     let is : words ≡ mkfs_command asked = cc in
     absurd (other (is_mkfs words asked is))
+
+pub returns-in-Some-Mkfs-clause-refused : goal.returns-in-Some-Mkfs-clause-refused
+returns-in-Some-Mkfs-clause-refused g c h same bad =
+    let asked : Geometry = record { blocks = c.in-Some-Mkfs.blocks; inodes = c.in-Some-Mkfs.inodes; journal = c.in-Some-Mkfs.journal } in
+    let words = command_of (map string_bytes c.args.words.now.items) in
+    let is : words ≡ mkfs_command asked = cc in
+    c.mkfs.ensures.refused (λ none. bad (ap geometry_refusal (sym (same_geometry words asked h is same)) ∙ none))
+
+pub returns-in-Some-Mkfs-clause-small : goal.returns-in-Some-Mkfs-clause-small
+returns-in-Some-Mkfs-clause-small g c h same less =
+    let asked : Geometry = record { blocks = c.in-Some-Mkfs.blocks; inodes = c.in-Some-Mkfs.inodes; journal = c.in-Some-Mkfs.journal } in
+    let words = command_of (map string_bytes c.args.words.now.items) in
+    let is : words ≡ mkfs_command asked = cc in
+    c.mkfs.ensures.small (subst (λ (x : Geometry). g.D.Disk.size c.args.disk.now < sector_count x) (sym (same_geometry words asked h is same)) less)
