@@ -3,6 +3,7 @@ pub mod Seen
 pub mod ErrnoName
 pub mod Paths
 pub mod PosixTree
+pub mod Bounds
 pub mod Posix
 pub mod Start
 pub mod PathEntries
