@@ -4,7 +4,7 @@ use Rattle.std.specs.Option.{option_map}
 use Rattle.std.specs.declared.cmp.Ordering.TheVariants.{Less}
 use Rattle.std.specs.FinMap as map
 use Rattle.ufs_model.specs.Order.{path_cmp}
-use Rattle.ufs_model.specs.PosixTree.{PosixTree, Files, IsNamespace}
+use Rattle.ufs_model.specs.PosixTree.{PosixTree, Files, IsNamespace, IsTree}
 use Rattle.ufs_model.specs.declared.data.Node.{Node}
 use Rattle.ufs_model.specs.declared.data.Node.TheVariants.{Dir, File}
 use Rattle.ufs_model.specs.declared.data.PathNode.{PathNode}
@@ -80,3 +80,14 @@ HasContents t nodes = (path : List ℕ) → content_of t.bytes (map.get t.paths 
 -- files have numbers in the order of their paths
 abbrev pub IsNumberedByPath : PosixTree → Type 0
 IsNumberedByPath t = (p q : List ℕ) (f g : ℕ) → map.get t.paths p ≡ Some (File f) → map.get t.paths q ≡ Some (File g) → path_cmp p q ≡ Less → f < g
+
+-- ---- what the numbered tree of a tree of paths is
+
+abbrev pub StartsAreTrees : Type 0
+StartsAreTrees = (nodes : PathNodes) → IsPathTree nodes → IsTree (start_of nodes)
+
+abbrev pub StartsHaveContents : Type 0
+StartsHaveContents = (nodes : PathNodes) → HasContents (start_of nodes) nodes
+
+abbrev pub StartsAreNumbered : Type 0
+StartsAreNumbered = (nodes : PathNodes) → IsNumberedByPath (start_of nodes)

@@ -186,3 +186,58 @@ pub struct PathEntry {
     pub path: Bytes,
     pub node: PathNode,
 }
+
+/// A part of the server's state, which one hand holds.
+#[derive(Clone, Copy, Debug, PartialEq, Eq)]
+pub enum PartName {
+    /// A client's entries and descriptors.
+    Client(u8),
+    /// What a client had when it last asked.
+    Asked(u8),
+    /// A file's bytes, by its number.
+    File(u32),
+    /// The paths.
+    Names,
+    /// What the disk holds.
+    Store,
+}
+
+/// What a lease promises for as long as it is live.
+#[derive(Drop)]
+pub enum Fact {
+    /// The file has that size, and these bytes from that block on.
+    Holds { first: u32, size: u64, bytes: Bytes },
+    /// The path names the file.
+    Resolves { path: Bytes, file: u32 },
+}
+
+/// A client's right to answer from a fact while the clock, in ticks, is below `until`.
+#[derive(Drop)]
+pub struct Lease {
+    pub client: u8,
+    pub part: PartName,
+    pub until: u32,
+    pub fact: Fact,
+}
+
+/// A request as a server sees it.
+#[derive(Drop)]
+pub struct Ask {
+    pub client: u8,
+    pub seq: u32,
+    pub op: Op,
+    /// What the request's descriptor stands for.
+    pub desc: Option<Desc>,
+    /// The client's lowest free descriptor for an `open`, and 0 for any other request.
+    pub fd: u32,
+    /// Whether this `close` ends the client's hold of the file.
+    pub last: bool,
+}
+
+/// How many requests on a file a worker served.
+#[derive(Clone, Copy, Debug, PartialEq, Eq)]
+pub struct Load {
+    pub file: u32,
+    pub worker: u8,
+    pub count: u32,
+}

@@ -1,0 +1,31 @@
+-- What a map has after insertions at one key.
+use Rattle.std.proofs.Common.{◌≡◌, cond, Some, ap, sym, refl, ◌∙◌}
+use Rattle.std.specs.declared.cmp.Ordering.{Ordering}
+use Rattle.std.specs.declared.cmp.Ordering.TheVariants.{Less, Equal, Greater}
+use Rattle.std.specs.Ordering.{is_eq, eq_by_cmp}
+use Rattle.std.specs.Cmp.{IsTotalOrder, eq_by_cmp_equiv}
+use Rattle.std.specs.FinMap.{FinMap, IsAntisymmetric, get, insert, get-insert, get_tied, same_map}
+
+module _ {K X : Type 0} {R : K → K → Ordering} (o : IsTotalOrder R) where
+  pub get_inserted : (m : FinMap R X) (k : K) (v : X) → get (insert m k v) k ≡ Some v
+  get_inserted m k v = get-insert o m k v k ∙ ap (λ b. cond b (Some v) (get m k)) ((eq_by_cmp_equiv o).refl k)
+
+  module _ (same : IsAntisymmetric R) where
+    -- the later value stays
+    pub insert_again : (m : FinMap R X) (k : K) (v w : X) → insert (insert m k v) k w ≡ insert m k w
+    insert_again m k v w = same_map o same _ _ (λ q.
+        get-insert o (insert m k v) k w q ∙ ap (cond (eq_by_cmp R q k) (Some w)) (get-insert o m k v q) ∙ both q (R q k) ∙ sym (get-insert o m k w q))
+      where
+        both : (q : K) (r : Ordering) → cond (is_eq r) (Some w) (cond (is_eq r) (Some v) (get m q)) ≡ cond (is_eq r) (Some w) (get m q)
+        both q Less = refl
+        both q Equal = refl
+        both q Greater = refl
+
+    -- the value that is there already changes nothing
+    pub insert_same : (m : FinMap R X) (k : K) (v : X) → get m k ≡ Some v → insert m k v ≡ m
+    insert_same m k v there = same_map o same _ _ (λ q. get-insert o m k v q ∙ both q (R q k) refl)
+      where
+        both : (q : K) (r : Ordering) → R q k ≡ r → cond (is_eq (R q k)) (Some v) (get m q) ≡ get m q
+        both q Less is = rw is refl
+        both q Equal is = rw is (sym there ∙ get_tied o m q k is)
+        both q Greater is = rw is refl
