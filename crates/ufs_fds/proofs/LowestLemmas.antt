@@ -5,7 +5,7 @@ use Rattle.std.proofs.lemmas.Nat.Bits.{bit_at-trailing_ones, bit_at_ones}
 use Rattle.std.specs.Int.{bit_at, trailing_ones, w64}
 use Rattle.std.specs.FinMap as map
 use Rattle.ufs_model.specs.PosixTree.{Fds}
-use Rattle.ufs_model.specs.Posix.{free_from, lowest_free}
+use Rattle.ufs_model.specs.Descriptors.{free_from, lowest_free}
 use Rattle.ufs_model.specs.declared.data.Desc.{Desc}
 use Rattle.ufs_fds.specs.Slots.{table_of, AreMarked}
 use Rattle.ufs_fds.specs.Descriptors.{Descs, AreOf}

@@ -34,7 +34,7 @@ impl FdTable {
     ghost use Rattle.std.specs.Prelude.{◌≡◌, ◌≤◌, ◌<◌, ◌↔◌, ℕ, None, Some, IsTrue, IsSome, IfSome, IfNone};
     ghost use Rattle.std.specs.FinMap as map;
     ghost use Rattle.ufs_model.specs.PosixTree.{Fds};
-    ghost use Rattle.ufs_model.specs.Posix.{lowest_free};
+    ghost use Rattle.ufs_model.specs.Descriptors.{lowest_free};
     ghost use Rattle.ufs_fds.specs.Descriptors.{AreInRange, AreOf};
 
     /// No descriptor is open.

@@ -8,7 +8,7 @@ use Rattle.ufs_model.specs.declared.data.Errno.TheVariants.{Einval, Enametoolong
 use Rattle.ufs_model.specs.Paths.{components, component_refusal, components_refusal, text_refusal, refused_if, first_of, in_range, is_dots, ends_in_slash, whole_path, IsWhole}
 use Rattle.ufs_path.specs.Names.{IsName}
 use Rattle.ufs_path.specs.Texts.{joined}
-use Rattle.ufs_path.proofs.SplitLemmas.{IsPlain, is_free, is_some_name, all_map, all_map₂, components_plain, components-joined, components-whole_path, whole_path-joined, length-whole_path}
+use Rattle.ufs_path.proofs.SplitLemmas.{IsPlain, is_free, is_some_name, all_map, all_map₂, components_plain, components-joined, components-whole_path, whole_path-joined}
 use Rattle.ufs_path.proofs.FaultLemmas.{allowed}
 
 -- ---- one name
@@ -89,16 +89,19 @@ joined_allowed name names h short =
     let each = all_allowed (name ∷ names) h in
     rw (le-ltb 1023 (length (joined (name ∷ names))) short, pieces, each, no_end_joined name names plain) refl
 
-pub whole_allowed : (names : List (List ℕ)) → AllByRecursion IsName names → length (whole_path names) ≤ 1023 → IsWhole (whole_path names)
-whole_allowed [] h short = record { spelled = refl; allowed = refl }
-whole_allowed (name ∷ names) h short = record {
-  spelled = ap whole_path (components-whole_path (name ∷ names) (names_plain (name ∷ names) h));
-  allowed = ap text_refusal (whole_path-joined name names) ∙ joined_allowed name names h (subst (λ path. length path ≤ 1023) (whole_path-joined name names) short);
-}
+pub whole_allowed : (names : List (List ℕ)) → AllByRecursion IsName names → length (whole_path names) ≤ 1023 → text_refusal (whole_path names) ≡ None
+whole_allowed [] h short = refl
+whole_allowed (name ∷ names) h short =
+    ap text_refusal (whole_path-joined name names) ∙ joined_allowed name names h (subst (λ path. length path ≤ 1023) (whole_path-joined name names) short)
+
+-- a whole path of any length may stand in a tree
+pub whole_of_names : (names : List (List ℕ)) → AllByRecursion IsName names → IsWhole (whole_path names)
+whole_of_names names h =
+    let pieces = components-whole_path names (names_plain names h) in record {
+      spelled = ap whole_path pieces;
+      allowed = ap components_refusal pieces ∙ all_allowed names h;
+    }
 
 -- the whole path of a text that isn't refused
 pub whole_of_text : (path : List ℕ) → text_refusal path ≡ None → IsWhole (whole_path (components path))
-whole_of_text path e =
-    let is = allowed path e in
-    let fits : length (whole_path (components path)) ≤ length path = subst (λ p. length (whole_path (components p)) ≤ length p) (sym is.absolute.1) (length-whole_path is.absolute.0) in
-    whole_allowed (components path) (components_are_names path e) (omega (arith, fits, is.short))
+whole_of_text path e = whole_of_names (components path) (components_are_names path e)
