@@ -3,20 +3,16 @@ use Rattle.std.proofs.Common.{◌≡◌, ℕ, List, [], ◌∷◌, ◌++◌, Boo
 use Rattle.std.proofs.lemmas.Bool.{and_from}
 use Rattle.std.proofs.lemmas.List.{append-nil}
 use Rattle.std.specs.FinMap as map
-use Rattle.ufs_model.specs.Paths.{components, whole_path, parent_of, first_of, components_refusal}
+use Rattle.ufs_model.specs.Paths.{components, whole_path, whole_of, parent_of}
 use Rattle.ufs_model.specs.PosixTree.{Paths, IsNamespace, stands, has_dir, is_dir, root}
-use Rattle.ufs_model.specs.Walk.{walk_refusal_from, dir_refusal}
+use Rattle.ufs_model.specs.Walk.{walk_refusal, walk_refusal_from, dir_refusal}
 use Rattle.ufs_model.specs.Directories.{has_entries, is_entry_of}
-use Rattle.ufs_model.specs.declared.data.Errno.{Errno}
 use Rattle.ufs_model.specs.declared.data.Node.{Node}
 use Rattle.ufs_model.specs.declared.data.Node.TheVariants.{Dir, File}
 use Rattle.ufs_model.proofs.OrderLemmas.{path_total, path_same}
 use Rattle.ufs_model.proofs.LookupLemmas.{key_passes}
 use Rattle.ufs_model.proofs.PathLemmas.{ArePlain, bytes_same, same_bytes, components_of, front_of, front_cons, front_last, parent_is, plain_front}
-
-pub first_none : (a b : Option Errno) → first_of a b ≡ None → (a ≡ None) × (b ≡ None)
-first_none None b e = (refl, e)
-first_none (Some f) b e = cc
+use Rattle.ufs_model.proofs.AllowedLemmas.{first_none, names_of_whole}
 
 -- a directory that is there
 pub is_dir-some : (o : Option Node) → is_dir o ≡ true → o ≡ Some Dir
@@ -84,14 +80,9 @@ walk_ends paths above (name ∷ next ∷ names) dir e =
     ap (λ names. has_dir paths (whole_path names)) (ap (λ rest. above ++ rest) (front_cons name next names) ∙ sym (append_assoc above (name ∷ []) (front_of (next ∷ names))))
     ∙ walk_ends paths (above ++ name ∷ []) (next ∷ names) (walked _ both.0) both.1
 
--- ---- names that may stand in a path
+-- the names above the last lead to a directory
+pub dir_of_path : (paths : Paths) (path : List ℕ) → IsNamespace (stands paths) (has_dir paths) → walk_refusal paths path ≡ None → has_dir paths (whole_path (front_of (components path))) ≡ true
+dir_of_path paths path s e = walk_ends paths [] (components path) s.root_is_dir e
 
-pub allowed_append : (xs ys : List (List ℕ)) → components_refusal xs ≡ None → components_refusal ys ≡ None → components_refusal (xs ++ ys) ≡ None
-allowed_append [] ys h k = k
-allowed_append (x ∷ xs) ys h k =
-    let both = first_none _ (components_refusal xs) h in
-    ap (λ (o : Option Errno). first_of o (components_refusal (xs ++ ys))) both.0 ∙ allowed_append xs ys both.1 k
-
-pub allowed_back : (xs ys : List (List ℕ)) → components_refusal (xs ++ ys) ≡ None → components_refusal ys ≡ None
-allowed_back [] ys h = h
-allowed_back (x ∷ xs) ys h = allowed_back xs ys (first_none _ (components_refusal (xs ++ ys)) h).1
+pub parent_is_dir : (paths : Paths) (path : List ℕ) → IsNamespace (stands paths) (has_dir paths) → walk_refusal paths path ≡ None → has_dir paths (parent_of (whole_of path)) ≡ true
+parent_is_dir paths path s e = ap (has_dir paths) (parent_is (whole_of path) (components path) (names_of_whole path)) ∙ dir_of_path paths path s e

@@ -15,11 +15,11 @@ use Rattle.ufs_model.specs.declared.data.Errno.TheVariants.{Einval, Eisdir, Enot
 use Rattle.ufs_model.specs.declared.data.Reply.TheVariants.{Done}
 use Rattle.ufs_model.specs.declared.data.Op.TheVariants as op
 use Rattle.ufs_model.proofs.LookupLemmas.{from_some}
-use Rattle.ufs_model.proofs.PathLemmas.{ArePlain, components_plain, plain_append, plain_front, same_bytes, bytes_same, below_names, front_of}
-use Rattle.ufs_model.proofs.BelowLemmas.{first_none, dir_above, entry_above, dir_stands}
-use Rattle.ufs_model.proofs.RefusalLemmas.{passed, names_allowed, dir_of_path}
+use Rattle.ufs_model.proofs.PathLemmas.{ArePlain, components_plain, plain_append, plain_front, same_bytes, bytes_same, below_names, front_of, last}
+use Rattle.ufs_model.proofs.BelowLemmas.{dir_above, entry_above, dir_stands, dir_of_path}
+use Rattle.ufs_model.proofs.AllowedLemmas.{first_none, passed, names_allowed}
 use Rattle.ufs_model.proofs.LiveLemmas.{keeps_paths, forget_lost}
-use Rattle.ufs_model.proofs.RenameLemmas.{MayRename, namespace_now, named_before, named_after, at_new_name, at_old_name, last}
+use Rattle.ufs_model.proofs.RenameLemmas.{MayRename, namespace_now, named_before, named_after, at_new_name, at_old_name}
 
 -- What a `rename` that isn't refused finds, in the names of its two paths.
 record IsAllowed (paths : Paths) (old new : List (List ℕ)) : Type 0 where

@@ -10,16 +10,10 @@ use Rattle.ufs_model.specs.declared.data.Node.{Node}
 use Rattle.ufs_model.specs.declared.data.Node.TheVariants.{Dir, File}
 use Rattle.ufs_model.proofs.OrderLemmas.{path_total, path_same}
 use Rattle.ufs_model.proofs.LookupLemmas.{from_some, there_or_not, one_or_apart, removed_else, left_was, rekeyed_at, rekeyed_from}
-use Rattle.ufs_model.proofs.PathLemmas.{ArePlain, Moves, Stays, moves_or_stays, components_of, components_plain, plain_append, plain_back, plain_take, same_names, front_of, front_cons, front_append, parent_is}
-use Rattle.ufs_model.proofs.BelowLemmas.{is_dir-some, dir_stands, allowed_append, allowed_back}
+use Rattle.ufs_model.proofs.PathLemmas.{ArePlain, Moves, Stays, moves_or_stays, components_of, components_plain, plain_append, plain_back, plain_take, same_names, front_of, front_append, last, parent_is}
+use Rattle.ufs_model.proofs.AllowedLemmas.{allowed_append, allowed_back}
+use Rattle.ufs_model.proofs.BelowLemmas.{is_dir-some, dir_stands}
 use Rattle.ufs_model.proofs.LiveLemmas.{Named}
-
--- the last of some names
-pub last : (x : List ℕ) (xs : List (List ℕ)) → (y : List ℕ) × (x ∷ xs ≡ front_of (x ∷ xs) ++ y ∷ [])
-last x [] = (x, refl)
-last x (next ∷ xs) =
-    let rest = last next xs in
-    (rest.0, ap (λ names. x ∷ names) rest.1 ∙ ap (λ names. names ++ rest.0 ∷ []) (sym (front_cons x next xs)))
 
 no_first : (x : List ℕ) (xs ys : List (List ℕ)) → [] ≡ (x ∷ xs) ++ ys → ⊥
 no_first x xs ys e = cc
