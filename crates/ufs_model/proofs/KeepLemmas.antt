@@ -1,190 +1,218 @@
 -- A request leaves a tree a tree.
-use Rattle.std.proofs.Common.{◌≡◌, ℕ, ◌+◌, ◌<◌, List, [], Bool, true, false, cond, Option, Some, None, ap, sym, refl, ◌∙◌, subst, arith, eqb, ltb, length, take, ◌-◌}
-use Rattle.std.specs.declared.cmp.Ordering.{Ordering}
-use Rattle.std.specs.declared.cmp.Ordering.TheVariants.{Less, Equal, Greater}
-use Rattle.std.specs.Prelude.{is_some}
-use Rattle.std.specs.Ordering.{is_eq}
+use Rattle.std.proofs.Common.{◌≡◌, ℕ, zero, suc, ◌+◌, inl, inr, List, [], Bool, true, false, cond, not, eqb, length, Option, Some, None, is_some, is_none, unwrap_or, ap, sym, refl, subst, ◌∙◌}
 use Rattle.std.specs.FinMap as map
-use Rattle.std.specs.FinMap.{get-insert, get-remove}
-use Rattle.std.specs.Cmp.{nat_cmp_total}
-use Rattle.std.proofs.lemmas.Bool.{eqb-true, lt-ltb, ltb-false}
-use Rattle.ufs_model.specs.Order.{path_cmp}
-use Rattle.ufs_model.specs.Paths.{IsWhole, parent_of, is_plain, whole_path}
-use Rattle.ufs_model.specs.PosixTree.{PosixTree, Paths, Files, Fds, IsTree, IsNamespace, root, stands, has_dir, is_dir, is_live}
-use Rattle.ufs_model.specs.Posix.{with_fd, forget}
-use Rattle.ufs_model.specs.Holders.{holders}
+use Rattle.ufs_model.specs.Paths.{components, whole_of, parent_of, text_refusal, refused_if, has_component, is_root}
+use Rattle.ufs_model.specs.PosixTree.{PosixTree, Fds, IsTree, desc_at, stands, has_dir, root}
+use Rattle.ufs_model.specs.Walk.{walk_refusal, node_at, is_file}
+use Rattle.ufs_model.specs.Directories.{has_entries}
+use Rattle.ufs_model.specs.Descriptors.{Mode, opened, closed, moved, desc_of, lowest_free, free_from, is_mode}
+use Rattle.ufs_model.specs.FileBytes.{content, place_of, put_at}
+use Rattle.ufs_model.specs.Refusals.{read_refusal, write_refusal, seek_refusal, trunc_refusal, own_refusal, refusal}
+use Rattle.ufs_model.specs.Posix.{served, change, with_fd, with_bytes, with_file, open_node, close_fd, write_fd, written, new_fd}
+use Rattle.ufs_model.specs.Laws.{KeepsTrees}
 use Rattle.ufs_model.specs.declared.data.Desc.{Desc}
+use Rattle.ufs_model.specs.declared.data.Errno.{Errno}
+use Rattle.ufs_model.specs.declared.data.Errno.TheVariants.{Einval, Ebusy, Enoent, Enotdir, Emfile}
 use Rattle.ufs_model.specs.declared.data.Node.{Node}
 use Rattle.ufs_model.specs.declared.data.Node.TheVariants.{Dir, File}
-use Rattle.ufs_model.proofs.PathLemmas.{plain}
-use Rattle.ufs_model.proofs.SeenLemmas.{path_total, path_same}
-use Rattle.ufs_model.proofs.HolderLemmas.{number_test, live_by_holders, holders_dir, holders_named, holders_opened, holders_moved, holders_closed, holders_closed_dir, holder_path, holder_desc}
+use Rattle.ufs_model.specs.declared.data.Op.{Op}
+use Rattle.ufs_model.specs.declared.data.Op.TheVariants as op
+use Rattle.ufs_model.proofs.LookupLemmas.{same_some}
+use Rattle.ufs_model.proofs.BelowLemmas.{entry_there, parent_is_dir}
+use Rattle.ufs_model.proofs.AllowedLemmas.{first_none, passed, names_of_whole, whole_is}
+use Rattle.ufs_model.proofs.LiveLemmas.{HasBytes, bytes_there, held_has, keeps_bytes, keeps_fd, keeps_closed, forget_lost}
+use Rattle.ufs_model.proofs.NamespaceLemmas.{keeps_new_dir, keeps_new_file, keeps_without}
+use Rattle.ufs_model.proofs.NewNameLemmas.{keeps_renamed}
 
--- ---- paths
+missing : {A : Type 0} (o : Option A) → is_some o ≡ false → o ≡ None
+missing None e = refl
+missing (Some x) e = cc
 
-module _ (paths : Paths) (path : List ℕ) (n : Node) (absent : map.get paths path ≡ None) where
-  -- what stood still stands
-  stood : (q : List ℕ) (x : Node) → map.get paths q ≡ Some x → map.get (map.insert paths path n) q ≡ Some x
-  stood q x there = get-insert path_total paths path n q ∙ by_order (path_cmp q path) refl
+-- ---- an open descriptor
+
+is_open : (o : Option Desc) → is_none o ≡ false → o ≡ Some (unwrap_or o closed)
+is_open None e = cc
+is_open (Some d) e = refl
+
+may_read : (o : Option Desc) → read_refusal o ≡ None → is_none o ≡ false
+may_read None e = cc
+may_read (Some d) e = refl
+
+may_write : (o : Option Desc) → write_refusal o ≡ None → is_none o ≡ false
+may_write None e = cc
+may_write (Some d) e = refl
+
+may_seek : (o : Option Desc) → seek_refusal o ≡ None → is_none o ≡ false
+may_seek None e = cc
+may_seek (Some d) e = refl
+
+may_cut : (o : Option Desc) → trunc_refusal o ≡ None → is_none o ≡ false
+may_cut None e = cc
+may_cut (Some d) e = refl
+
+-- a descriptor moves on
+keeps_moved : (t : PosixTree) → IsTree t → (client fd : ℕ) (d : Desc) (at : ℕ) → map.get t.fds (client, fd) ≡ Some d → IsTree (with_fd t client fd (moved d at))
+keeps_moved t is client fd d at there =
+    keeps_fd t is client fd (moved d at)
+    (λ f e. held_has t is f (inr ((client, fd), d, there, e)))
+    (λ old e. ap (λ (d : Desc). d.file) (same_some d old (sym there ∙ e)))
+
+module _ (t : PosixTree) (is : IsTree t) (client fd : ℕ) (is_there : is_none (desc_at t client fd) ≡ false) where
+  there : desc_at t client fd ≡ Some (opened t client fd)
+  there = is_open (desc_at t client fd) is_there
+
+  live : (f : ℕ) → (opened t client fd).file ≡ Some f → HasBytes t.bytes f
+  live f e = held_has t is f (inr ((client, fd), opened t client fd, there, e))
+
+  keeps_close : IsTree (close_fd t client fd)
+  keeps_close = forget_lost (record t { fds = map.remove t.fds (client, fd) }) (opened t client fd).file (keeps_closed t is client fd (opened t client fd) there)
+
+  keeps_step : (at : ℕ) → IsTree (with_fd t client fd (moved (opened t client fd) at))
+  keeps_step at = keeps_moved t is client fd (opened t client fd) at there
+
+  keeps_content : (v : List ℕ) → IsTree (with_bytes t (opened t client fd).file v)
+  keeps_content v = by (opened t client fd).file refl
     where
-      by_order : (r : Ordering) → path_cmp q path ≡ r → cond (is_eq (path_cmp q path)) (Some n) (map.get paths q) ≡ Some x
-      by_order Less e = rw e there
-      by_order Equal e = let no : Some x ≡ None = sym there ∙ ap (map.get paths) (path_same q path e) ∙ absent in cc
-      by_order Greater e = rw e there
+      by : (o : Option ℕ) → (opened t client fd).file ≡ o → IsTree (with_bytes t o v)
+      by None e = is
+      by (Some f) e = keeps_bytes t is f v (live f e)
 
-  -- what stands now stood, or is the new path
-  now : (P : List ℕ → Type 0) (q : List ℕ) → (stands paths q ≡ true → P q) → P path → stands (map.insert paths path n) q ≡ true → P q
-  now P q old new there = by_order (path_cmp q path) refl (sym (ap is_some (get-insert path_total paths path n q)) ∙ there)
+  keeps_content_step : (v : List ℕ) (at : ℕ) → IsTree (with_fd (with_bytes t (opened t client fd).file v) client fd (moved (opened t client fd) at))
+  keeps_content_step v at = by (opened t client fd).file refl
     where
-      by_order : (r : Ordering) → path_cmp q path ≡ r → is_some (cond (is_eq (path_cmp q path)) (Some n) (map.get paths q)) ≡ true → P q
-      by_order Less e h = old (rw e at h)
-      by_order Equal e h = subst P (sym (path_same q path e)) new
-      by_order Greater e h = old (rw e at h)
+      by : (o : Option ℕ) → (opened t client fd).file ≡ o → IsTree (with_fd (with_bytes t o v) client fd (moved (opened t client fd) at))
+      by None e = keeps_step at
+      by (Some f) e = keeps_moved (with_bytes t (Some f) v) (keeps_bytes t is f v (live f e)) client fd (opened t client fd) at there
 
-  dir_stood : (q : List ℕ) → has_dir paths q ≡ true → has_dir (map.insert paths path n) q ≡ true
-  dir_stood q is = by_node (map.get paths q) refl is
+  keeps_pwrite : (data' : List ℕ) (at : ℕ) → IsTree (written t (opened t client fd).file at data')
+  keeps_pwrite data' at = by (eqb (length data') 0)
     where
-      by_node : (o : Option Node) → map.get paths q ≡ o → is_dir o ≡ true → has_dir (map.insert paths path n) q ≡ true
-      by_node None e h = cc
-      by_node (Some Dir) e h = ap is_dir (stood q Dir e)
-      by_node (Some (File f)) e h = cc
+      by : (b : Bool) → IsTree (cond b t (with_bytes t (opened t client fd).file (put_at (content t.bytes (opened t client fd).file) at data')))
+      by true = is
+      by false = keeps_content (put_at (content t.bytes (opened t client fd).file) at data')
 
-  pub namespace_grows : IsNamespace (stands paths) (has_dir paths) → IsWhole path → has_dir paths (parent_of path) ≡ true → IsNamespace (stands (map.insert paths path n)) (has_dir (map.insert paths path n))
-  namespace_grows s whole parent = record {
-    root_is_dir = dir_stood root s.root_is_dir;
-    whole = λ q there. now IsWhole q (s.whole q) whole there;
-    parents = λ q there. dir_stood (parent_of q) (now (λ q. has_dir paths (parent_of q) ≡ true) q (s.parents q) parent there);
-  }
+  -- where a write begins
+  abbrev place : ℕ
+  place = place_of (opened t client fd) (content t.bytes (opened t client fd).file)
 
-plain_is_whole : (path : List ℕ) → is_plain path ≡ true → IsWhole path
-plain_is_whole path e = record { spelled = (plain path e).whole; allowed = (plain path e).text }
+  keeps_write : (data' : List ℕ) → IsTree (write_fd t client fd data')
+  keeps_write data' = by (eqb (length data') 0)
+    where
+      by : (b : Bool) → IsTree (cond b t (with_fd (cond b t (with_bytes t (opened t client fd).file (put_at (content t.bytes (opened t client fd).file) place data'))) client fd (moved (opened t client fd) (place + length data'))))
+      by true = is
+      by false = keeps_content_step (put_at (content t.bytes (opened t client fd).file) place data') (place + length data')
 
-plain_parent : (path : List ℕ) → is_plain path ≡ true → parent_of path ≡ root
-plain_parent path e = ap (λ (names : List (List ℕ)). whole_path (take (length names - 1) names)) (plain path e).pieces.2
+-- ---- a directory is made
 
--- ---- live files
+keeps_mkdir : (t : PosixTree) (client : ℕ) (path : List ℕ) → IsTree t → refusal t client (op.Mkdir path) ≡ None → IsTree (change t client (op.Mkdir path))
+keeps_mkdir t client path is e =
+    let own = first_none (text_refusal path) _ e in
+    let walk = first_none (walk_refusal t.paths path) _ own.1 in
+    keeps_new_dir t is (whole_of path) (missing (node_at t.paths path) (passed _ _ walk.1)) (whole_is path own.0) (parent_is_dir t.paths path is.namespace walk.0)
 
--- exactly the files that are held have bytes
-abbrev IsHeld : Paths → Files → Fds → Type 0
-IsHeld paths bytes fds = (g : ℕ) → is_some (map.get bytes g) ≡ ltb 0 (holders paths fds g)
+-- ---- a path goes
 
-held : (t : PosixTree) → IsTree t → IsHeld t.paths t.bytes t.fds
-held t is = λ g. is.live g ∙ live_by_holders t.paths t.fds g
+not_root : (path : List ℕ) → is_root path ≡ false → whole_of path ≡ root → ⊥
+not_root path e h = let none = ap (λ names. not (has_component names)) (sym (names_of_whole path) ∙ ap components h) in cc
 
--- the bytes of a file change
-some_changed : (bytes : Files) (f : ℕ) (v : List ℕ) (g : ℕ) → is_some (map.get (map.insert bytes f v) g) ≡ cond (eqb f g) true (is_some (map.get bytes g))
-some_changed bytes f v g = ap is_some (get-insert nat_cmp_total bytes f v g ∙ ap (λ b. cond b (Some v) (map.get bytes g)) (number_test g f)) ∙ by_test (eqb f g)
+keeps_rmdir : (t : PosixTree) (client : ℕ) (path : List ℕ) → IsTree t → refusal t client (op.Rmdir path) ≡ None → IsTree (change t client (op.Rmdir path))
+keeps_rmdir t client path is e =
+    let own = first_none (text_refusal path) _ e in
+    let walk = first_none (walk_refusal t.paths path) _ own.1 in
+    let at_root = first_none (refused_if (is_root path) Ebusy) _ walk.1 in
+    let there = first_none (refused_if (is_none (node_at t.paths path)) Enoent) _ at_root.1 in
+    let file = first_none (refused_if (is_file (node_at t.paths path)) Enotdir) _ there.1 in
+    let empty : has_entries t.paths (whole_of path) ≡ false = passed _ _ file.1 in
+    let other = not_root path (passed (is_root path) _ at_root.0) in
+    keeps_without t is (whole_of path) other (leaf other empty)
   where
-    by_test : (b : Bool) → is_some (cond b (Some v) (map.get bytes g)) ≡ cond b true (is_some (map.get bytes g))
-    by_test true = refl
-    by_test false = refl
+    leaf : (whole_of path ≡ root → ⊥) → has_entries t.paths (whole_of path) ≡ false → (q : List ℕ) → stands t.paths q ≡ true → parent_of q ≡ whole_of path → ⊥
+    leaf other empty q there parent =
+        let entry = entry_there t.paths q (whole_of path) there parent (λ e. other (sym parent ∙ ap parent_of e)) in cc
 
-some_removed : (bytes : Files) (f : ℕ) (g : ℕ) → is_some (map.get (map.remove bytes f) g) ≡ cond (eqb f g) false (is_some (map.get bytes g))
-some_removed bytes f g = ap is_some (get-remove nat_cmp_total bytes f g ∙ ap (λ b. cond b None (map.get bytes g)) (number_test g f)) ∙ by_test (eqb f g)
+keeps_unlink : (t : PosixTree) (client : ℕ) (path : List ℕ) → IsTree t → refusal t client (op.Unlink path) ≡ None → IsTree (change t client (op.Unlink path))
+keeps_unlink t client path is e =
+    let own = first_none (text_refusal path) _ e in
+    let walk = first_none (walk_refusal t.paths path) _ own.1 in
+    let there = first_none (refused_if (is_none (node_at t.paths path)) Enoent) _ walk.1 in
+    let file : has_dir t.paths (whole_of path) ≡ false = passed _ _ there.1 in
+    keeps_without t is (whole_of path) (other file) (leaf file)
   where
-    by_test : (b : Bool) → is_some (cond b None (map.get bytes g)) ≡ cond b false (is_some (map.get bytes g))
-    by_test true = refl
-    by_test false = refl
+    other : has_dir t.paths (whole_of path) ≡ false → whole_of path ≡ root → ⊥
+    other file e = let dir = ap (has_dir t.paths) e ∙ is.namespace.root_is_dir in cc
 
--- one holder more, of a file that has one
-more_of_held : (b : Bool) (n : ℕ) → (b ≡ true → ltb 0 n ≡ true) → ltb 0 n ≡ ltb 0 (n + cond b 1 0)
-more_of_held true n some = some refl ∙ sym (lt-ltb 0 (n + 1) (omega arith))
-more_of_held false n some = ap (ltb 0) (omega arith)
+    leaf : has_dir t.paths (whole_of path) ≡ false → (q : List ℕ) → stands t.paths q ≡ true → parent_of q ≡ whole_of path → ⊥
+    leaf file q there parent = let dir = ap (has_dir t.paths) (sym parent) ∙ is.namespace.parents q there in cc
 
-module _ (t : PosixTree) (is : IsTree t) where
-  -- the tree with other descriptors, or other bytes, of which the live files have some
-  with_live : (bytes : Files) (fds : Fds) → IsHeld t.paths bytes fds → ((g : ℕ) → is_some (map.get bytes g) ≡ true → g < t.next) → IsTree (record t { bytes = bytes; fds = fds })
-  with_live bytes fds live numbered = record {
-    namespace = is.namespace;
-    live = λ g. live g ∙ sym (live_by_holders t.paths fds g);
-    numbered = numbered;
-  }
+-- ---- a path is opened
 
-  pub keeps_dir : (path : List ℕ) → is_plain path ≡ true → map.get t.paths path ≡ None → IsTree (record t { paths = map.insert t.paths path Dir })
-  keeps_dir path e absent = record {
-    namespace = namespace_grows t.paths path Dir absent is.namespace (plain_is_whole path e) (ap (has_dir t.paths) (plain_parent path e) ∙ is.namespace.root_is_dir);
-    live = λ g. held t is g ∙ ap (ltb 0) (sym (holders_dir t.paths t.fds path g absent)) ∙ sym (live_by_holders (map.insert t.paths path Dir) t.fds g);
-    numbered = is.numbered;
-  }
-
-  -- another descriptor of a file that has a path
-  pub keeps_opened : (client fd f : ℕ) (path : List ℕ) (d : Desc) → map.get t.paths path ≡ Some (File f) → map.get t.fds (client, fd) ≡ None → d.file ≡ Some f → IsTree (with_fd t client fd d)
-  keeps_opened client fd f path d there free named =
-      with_live t.bytes (map.insert t.fds (client, fd) d)
-      (λ g. held t is g ∙ more_of_held (eqb f g) (holders t.paths t.fds g) (λ e. ap (λ k. ltb 0 (holders t.paths t.fds k)) (sym (eqb-true f g e)) ∙ holder_path t.paths t.fds path f there)
-      ∙ ap (ltb 0) (sym (holders_opened t.paths t.fds (client, fd) d f g free named)))
-      is.numbered
-
-  -- a new file, open
-  pub keeps_made : (client fd : ℕ) (path : List ℕ) (d : Desc) → is_plain path ≡ true → map.get t.paths path ≡ None → map.get t.fds (client, fd) ≡ None → d.file ≡ Some t.next
-      → IsTree (record t { paths = map.insert t.paths path (File t.next); bytes = map.insert t.bytes t.next []; fds = map.insert t.fds (client, fd) d; next = t.next + 1 })
-  keeps_made client fd path d e absent free named = record {
-    namespace = namespace_grows t.paths path (File t.next) absent is.namespace (plain_is_whole path e) (ap (has_dir t.paths) (plain_parent path e) ∙ is.namespace.root_is_dir);
-    live = λ g. some_changed t.bytes t.next [] g ∙ by_test g (eqb t.next g)
-        ∙ ap (λ k. ltb 0 (k + cond (eqb t.next g) 1 0)) (sym (holders_named t.paths t.fds path t.next g absent))
-        ∙ ap (ltb 0) (sym (holders_opened (map.insert t.paths path (File t.next)) t.fds (client, fd) d t.next g free named))
-        ∙ sym (live_by_holders (map.insert t.paths path (File t.next)) (map.insert t.fds (client, fd) d) g);
-    numbered = λ g some. by_number g (eqb t.next g) refl (sym (some_changed t.bytes t.next [] g) ∙ some);
-  }
-    where
-      by_test : (g : ℕ) (b : Bool) → cond b true (is_some (map.get t.bytes g)) ≡ ltb 0 (holders t.paths t.fds g + cond b 1 0 + cond b 1 0)
-      by_test g true = sym (lt-ltb 0 _ (omega arith))
-      by_test g false = held t is g ∙ ap (ltb 0) (omega arith)
-
-      by_number : (g : ℕ) (b : Bool) → eqb t.next g ≡ b → cond b true (is_some (map.get t.bytes g)) ≡ true → g < t.next + 1
-      by_number g true e some = omega (arith, eqb-true t.next g e)
-      by_number g false e some = omega (arith, is.numbered g some)
-
-  -- a descriptor moves on
-  pub keeps_moved : (client fd : ℕ) (old d : Desc) → map.get t.fds (client, fd) ≡ Some old → d.file ≡ old.file → IsTree (with_fd t client fd d)
-  keeps_moved client fd old d there same =
-      with_live t.bytes (map.insert t.fds (client, fd) d)
-      (λ g. held t is g ∙ ap (ltb 0) (sym (holders_moved t.paths t.fds (client, fd) old d g there same)))
-      is.numbered
-
-  -- an open file is written
-  pub keeps_written : (client fd f : ℕ) (d : Desc) (v : List ℕ) → map.get t.fds (client, fd) ≡ Some d → d.file ≡ Some f → IsTree (record t { bytes = map.insert t.bytes f v })
-  keeps_written client fd f d v there named =
-      with_live (map.insert t.bytes f v) t.fds
-      (λ g. some_changed t.bytes f v g ∙ by_test g (eqb f g) refl)
-      (λ g some. by_number g (eqb f g) refl (sym (some_changed t.bytes f v g) ∙ some))
-    where
-      by_test : (g : ℕ) (b : Bool) → eqb f g ≡ b → cond b true (is_some (map.get t.bytes g)) ≡ ltb 0 (holders t.paths t.fds g)
-      by_test g true e = sym (ap (λ k. ltb 0 (holders t.paths t.fds k)) (sym (eqb-true f g e)) ∙ holder_desc t.paths t.fds (client, fd) d f there named)
-      by_test g false e = held t is g
-
-      by_number : (g : ℕ) (b : Bool) → eqb f g ≡ b → cond b true (is_some (map.get t.bytes g)) ≡ true → g < t.next
-      by_number g true e some = subst (λ k. k < t.next) (eqb-true f g e) (is.numbered f (held t is f ∙ holder_desc t.paths t.fds (client, fd) d f there named))
-      by_number g false e some = is.numbered g some
-
-  -- a file's descriptor is closed
-  pub keeps_closed : (client fd f : ℕ) (d : Desc) → map.get t.fds (client, fd) ≡ Some d → d.file ≡ Some f → IsTree (forget (record t { fds = map.remove t.fds (client, fd) }) (Some f))
-  keeps_closed client fd f d there named = by_live (is_live t.paths (map.remove t.fds (client, fd)) f) refl
-    where
-      less : (g : ℕ) → holders t.paths t.fds g ≡ holders t.paths (map.remove t.fds (client, fd)) g + cond (eqb f g) 1 0
-      less g = holders_closed t.paths t.fds (client, fd) d f g there named
-
-      by_live : (b : Bool) → is_live t.paths (map.remove t.fds (client, fd)) f ≡ b → IsTree (forget (record t { fds = map.remove t.fds (client, fd) }) (Some f))
-      by_live true e = rw e (with_live t.bytes (map.remove t.fds (client, fd)) (λ g. held t is g ∙ ap (ltb 0) (less g) ∙ sym (more_of_held (eqb f g) (holders t.paths (map.remove t.fds (client, fd)) g) (λ same. ap (λ k. ltb 0 (holders t.paths (map.remove t.fds (client, fd)) k)) (sym (eqb-true f g same)) ∙ sym (live_by_holders t.paths (map.remove t.fds (client, fd)) f) ∙ e))) is.numbered)
-      by_live false e = rw e (with_live (map.remove t.bytes f) (map.remove t.fds (client, fd)) (λ g. some_removed t.bytes f g ∙ by_test g (eqb f g) refl) (λ g some. is.numbered g (by_number g (eqb f g) (sym (some_removed t.bytes f g) ∙ some))))
-        where
-          by_test : (g : ℕ) (b : Bool) → eqb f g ≡ b → cond b false (is_some (map.get t.bytes g)) ≡ ltb 0 (holders t.paths (map.remove t.fds (client, fd)) g)
-          by_test g true same = sym (ap (λ k. ltb 0 (holders t.paths (map.remove t.fds (client, fd)) k)) (sym (eqb-true f g same)) ∙ sym (live_by_holders t.paths (map.remove t.fds (client, fd)) f) ∙ e)
-          by_test g false same = held t is g ∙ ap (ltb 0) (less g ∙ ap (λ b. holders t.paths (map.remove t.fds (client, fd)) g + cond b 1 0) same ∙ omega arith)
-
-          by_number : (g : ℕ) (b : Bool) → cond b false (is_some (map.get t.bytes g)) ≡ true → is_some (map.get t.bytes g) ≡ true
-          by_number g true some = cc
-          by_number g false some = some
-
-  -- a directory's descriptor is closed
-  pub keeps_closed_dir : (client fd : ℕ) (d : Desc) → map.get t.fds (client, fd) ≡ Some d → d.file ≡ None → IsTree (record t { fds = map.remove t.fds (client, fd) })
-  keeps_closed_dir client fd d there named =
-      with_live t.bytes (map.remove t.fds (client, fd)) (λ g. held t is g ∙ ap (ltb 0) (holders_closed_dir t.paths t.fds (client, fd) d g there named)) is.numbered
-
--- the next number isn't held
-pub next_is_fresh : (t : PosixTree) → IsTree t → holders t.paths t.fds t.next ≡ 0
-next_is_fresh t is = by_test (ltb 0 (holders t.paths t.fds t.next)) refl
+is_free : (fds : Fds) (client fd count k : ℕ) → free_from fds client fd count ≡ Some k → map.get fds (client, k) ≡ None
+is_free fds client fd zero k e = cc
+is_free fds client fd (suc count) k e = by (map.get fds (client, fd)) refl (is_free fds client (fd + 1) count k) e
   where
-    by_test : (b : Bool) → ltb 0 (holders t.paths t.fds t.next) ≡ b → holders t.paths t.fds t.next ≡ 0
-    by_test true e = absurd (omega (arith, is.numbered t.next (held t is t.next ∙ e)))
-    by_test false e = omega (arith, ltb-false 0 (holders t.paths t.fds t.next) e)
+    by : (o : Option Desc) → map.get fds (client, fd) ≡ o → (free_from fds client (fd + 1) count ≡ Some k → map.get fds (client, k) ≡ None)
+        → cond (is_some o) (free_from fds client (fd + 1) count) (Some fd) ≡ Some k → map.get fds (client, k) ≡ None
+    by (Some d) at more e = more e
+    by None at more e = ap (λ k. map.get fds (client, k)) (sym (same_some fd k e)) ∙ at
+
+some_number : (o : Option ℕ) → is_none o ≡ false → o ≡ Some (unwrap_or o 0)
+some_number None e = cc
+some_number (Some n) e = refl
+
+new_is_free : (t : PosixTree) (client : ℕ) → is_none (lowest_free t.fds client) ≡ false → map.get t.fds (client, new_fd t client) ≡ None
+unfolding lowest_free
+new_is_free t client e = is_free t.fds client 3 64 (new_fd t client) (some_number (free_from t.fds client 3 64) e)
+
+module _ (t : PosixTree) (is : IsTree t) (client : ℕ) (m : Mode) (free : map.get t.fds (client, new_fd t client) ≡ None) where
+  opens_file : (f : ℕ) → HasBytes t.bytes f → (b : Bool) → IsTree (with_fd (cond b (with_bytes t (Some f) []) t) client (new_fd t client) (desc_of m (Some f)))
+  opens_file f has true =
+      keeps_fd (with_bytes t (Some f) []) (keeps_bytes t is f [] has) client (new_fd t client) (desc_of m (Some f))
+      (λ g e. subst (HasBytes (with_bytes t (Some f) []).bytes) (same_some f g e) (bytes_there t.bytes f [])) (λ old h. cc)
+  opens_file f has false = keeps_fd t is client (new_fd t client) (desc_of m (Some f)) (λ g e. subst (HasBytes t.bytes) (same_some f g e) has) (λ old h. cc)
+
+  opens_new : (path : List ℕ) → node_at t.paths path ≡ None → text_refusal path ≡ None → walk_refusal t.paths path ≡ None → IsTree (open_node t client (whole_of path) m None)
+  opens_new path absent text walk =
+      keeps_fd (with_file t (whole_of path)) (keeps_new_file t is (whole_of path) absent (whole_is path text) (parent_is_dir t.paths path is.namespace walk)) client (new_fd t client) (desc_of m (Some t.next))
+      (λ f e. subst (HasBytes (with_file t (whole_of path)).bytes) (same_some t.next f e) (bytes_there t.bytes t.next [])) (λ old h. cc)
+
+  opens : (path : List ℕ) → text_refusal path ≡ None → walk_refusal t.paths path ≡ None → (o : Option Node) → node_at t.paths path ≡ o → IsTree (open_node t client (whole_of path) m o)
+  opens path text walk None at = opens_new path at text walk
+  opens path text walk (Some Dir) at = keeps_fd t is client (new_fd t client) (desc_of m None) (λ f e. cc) (λ old h. cc)
+  opens path text walk (Some (File f)) at = opens_file f (held_has t is f (inl (whole_of path, at))) m.trunc
+
+keeps_open : (t : PosixTree) (client : ℕ) (path : List ℕ) (read write creat excl trunc append : Bool) → IsTree t → refusal t client (op.OpenFile path read write creat excl trunc append) ≡ None
+    → IsTree (change t client (op.OpenFile path read write creat excl trunc append))
+keeps_open t client path read write creat excl trunc append is e =
+    let m : Mode = record { read = read; write = write; creat = creat; excl = excl; trunc = trunc; append = append } in
+    let both = first_none (own_refusal t client (op.OpenFile path read write creat excl trunc append)) _ e in
+    let mode = first_none (refused_if (not (is_mode m)) Einval) _ both.0 in
+    let free = first_none (refused_if (is_none (lowest_free t.fds client)) Emfile) (text_refusal path) mode.1 in
+    let walk = first_none (walk_refusal t.paths path) _ both.1 in
+    opens t is client m (new_is_free t client (passed (is_none (lowest_free t.fds client)) Emfile free.0)) path free.1 walk.0 (node_at t.paths path) refl
+
+-- ---- each request
+
+pub keeps_change : (t : PosixTree) (client : ℕ) (request : Op) → IsTree t → refusal t client request ≡ None → IsTree (change t client request)
+keeps_change t client (op.OpenFile path read write creat excl trunc append) is e = keeps_open t client path read write creat excl trunc append is e
+keeps_change t client (op.Close fd) is e = keeps_close t is client fd (passed _ _ (first_none _ None e).0)
+keeps_change t client (op.Read fd n) is e = keeps_step t is client fd (may_read _ (first_none _ None e).0) _
+keeps_change t client (op.Write fd data') is e = keeps_write t is client fd (may_write _ (first_none (write_refusal (desc_at t client fd)) _ e).0) data'
+keeps_change t client (op.Pread fd n at) is e = is
+keeps_change t client (op.Pwrite fd data' at) is e = keeps_pwrite t is client fd (may_write _ (first_none (write_refusal (desc_at t client fd)) _ e).0) data' at
+keeps_change t client (op.Seek fd from by) is e = keeps_step t is client fd (may_seek _ (first_none (seek_refusal (desc_at t client fd)) _ e).0) _
+keeps_change t client (op.Trunc fd size) is e = keeps_content t is client fd (may_cut _ (first_none (trunc_refusal (desc_at t client fd)) _ e).0) _
+keeps_change t client (op.Fsync fd) is e = is
+keeps_change t client op.Sync is e = is
+keeps_change t client (op.Mkdir path) is e = keeps_mkdir t client path is e
+keeps_change t client (op.Rmdir path) is e = keeps_rmdir t client path is e
+keeps_change t client (op.Unlink path) is e = keeps_unlink t client path is e
+keeps_change t client (op.Rename from to) is e = keeps_renamed t client from to is e
+keeps_change t client (op.Stat path) is e = is
+keeps_change t client (op.List path) is e = is
+
+pub keeps : KeepsTrees
+keeps t client request is = by (refusal t client request) refl
+  where
+    by : (r : Option Errno) → refusal t client request ≡ r → IsTree (served t client request r).0
+    by (Some e) h = is
+    by None h = keeps_change t client request is h
