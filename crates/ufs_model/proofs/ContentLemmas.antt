@@ -17,7 +17,7 @@ use Rattle.ufs_model.specs.declared.data.Node.{Node}
 use Rattle.ufs_model.specs.declared.data.Node.TheVariants.{Dir, File}
 use Rattle.ufs_model.specs.declared.data.PathNode.{PathNode}
 use Rattle.ufs_model.specs.declared.data.PathNode.TheVariants as path_node
-use Rattle.ufs_model.proofs.SeenLemmas.{path_total, path_same}
+use Rattle.ufs_model.proofs.OrderLemmas.{path_total, path_same}
 use Rattle.ufs_model.proofs.RisingLemmas.{entries-rise}
 use Rattle.ufs_model.proofs.StartLemmas.{Pairs, is_within, stands-paths_from, held-bytes_from, tie}
 

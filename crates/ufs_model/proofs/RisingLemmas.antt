@@ -6,7 +6,7 @@ use Rattle.std.specs.declared.cmp.Ordering.TheVariants.{Less, Equal, Greater}
 use Rattle.std.specs.Ordering.{is_lt, ordering_reverse}
 use Rattle.std.specs.Cmp.{IsTotalOrder}
 use Rattle.std.proofs.Math.Dec.{T}
-use Rattle.std.specs.FinMap.{FinMap, IsAntisymmetric, find, is_sorted, entries, entries_sorted, from_entries, get-entries, get-from_entries}
+use Rattle.std.specs.FinMap.{FinMap, IsAntisymmetric, find, is_sorted, entries, entries_sorted, from_entries, get-entries, get-from_entries, empty, len-empty, len-entries}
 use Rattle.std.specs.FinMap.Entries.{below_all, same_entries}
 
 less : (r : Ordering) → is_lt r ≡ true → r ≡ Less
@@ -65,3 +65,10 @@ module _ {K X : Type 0} (R : K → K → Ordering) where
 
 pub entries-rise : {K X : Type 0} {R : K → K → Ordering} (m : FinMap R X) → is_sorted R (entries m) ≡ true
 entries-rise m = from_T _ (entries_sorted m)
+
+no_length : {A : Type 0} (es : List A) → length es ≡ 0 → es ≡ []
+no_length [] e = refl
+no_length (x ∷ es) e = absurd (omega arith)
+
+pub entries-empty : {K : Type 0} (R : K → K → Ordering) (X : Type 0) → entries (empty {X = X} {R = R}) ≡ []
+entries-empty R X = no_length _ (sym (len-entries empty) ∙ len-empty R X)

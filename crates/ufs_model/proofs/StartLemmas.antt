@@ -1,6 +1,6 @@
 -- The tree that a session begins with, a path at a time, and that it is a tree.
-use Rattle.ufs_model.proofs.SeenLemmas.{path_total, path_same, entries-empty}
-use Rattle.ufs_model.proofs.RisingLemmas.{entries-rising, entries-rise}
+use Rattle.ufs_model.proofs.OrderLemmas.{path_total, path_same}
+use Rattle.ufs_model.proofs.RisingLemmas.{entries-rising, entries-rise, entries-empty}
 use Rattle.std.proofs.Common.{◌≡◌, ℕ, ◌+◌, ◌≤◌, List, [], ◌∷◌, ◌++◌, Bool, true, false, cond, ◌&&◌, ◌||◌, eqb, ltb, leb, Some, Option, ap, sym, refl, subst, ◌∙◌, arith, add-zero, length}
 use Rattle.std.proofs.lemmas.Bool.{ltb-true}
 use Rattle.std.proofs.lemmas.Bool.Decides.{nat_tests}
