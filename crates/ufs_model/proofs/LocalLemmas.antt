@@ -71,7 +71,7 @@ kept_alike parts t u (Some f) same live among =
 
 -- ---- refusals
 
-first_none : (a b : Option Errno) → first_of a b ≡ None → (a ≡ None) × (b ≡ None)
+pub first_none : (a b : Option Errno) → first_of a b ≡ None → (a ≡ None) × (b ≡ None)
 first_none None b e = (refl, e)
 first_none (Some x) b e = cc
 
@@ -84,7 +84,7 @@ read_open : (o : Option Desc) → read_refusal o ≡ None → (d : Desc) × (o �
 read_open None e = cc
 read_open (Some d) e = (d, refl)
 
-write_open : (o : Option Desc) → write_refusal o ≡ None → (d : Desc) × (o ≡ Some d)
+pub write_open : (o : Option Desc) → write_refusal o ≡ None → (d : Desc) × (o ≡ Some d)
 write_open None e = cc
 write_open (Some d) e = (d, refl)
 
