@@ -1,12 +1,12 @@
 -- How a history goes on by an entry.
-use Rattle.std.proofs.Common.{◌≡◌, ◌≢◌, ℕ, ◌+◌, List, [], ◌∷◌, ◌++◌, cond, Some, ap, sym, refl, ◌∙◌, subst, arith, eqb, length, take, map, zero, suc, ◌⊎◌, inl, inr}
+use Rattle.std.proofs.Common.{◌≡◌, ◌≢◌, ℕ, ◌+◌, List, [], ◌∷◌, ◌++◌, false, cond, Some, ap, sym, refl, ◌∙◌, subst, arith, eqb, length, take, map, zero, suc, ◌⊎◌, inl, inr}
 use Rattle.std.specs.Prelude.{slice_get}
-use Rattle.std.specs.List.{range_with_len}
+use Rattle.std.specs.List.{range_with_len, AllByRecursion}
 use Rattle.std.proofs.lemmas.Bool.{eq-eqb, ne_eqb, cases_eq}
 use Rattle.std.proofs.lemmas.List.{length-append, append-nil, map-append}
 use Rattle.std.proofs.lemmas.List.Elements.{filter-append}
 use Rattle.ufs_model.specs.PosixTree.{PosixTree}
-use Rattle.ufs_model.specs.History.{IsLegalFrom, IsLegal, IsLegalEntry, IsInOrder, IsNext, tree_after, goes_on, entries_of, requests_of}
+use Rattle.ufs_model.specs.History.{IsLegalFrom, IsLegal, IsLegalEntry, AreFaultsOnce, TellsNewFault, share_fault, IsInOrder, IsNext, tree_after, goes_on, entries_of, requests_of}
 use Rattle.ufs_model.specs.declared.data.Op.{Op}
 use Rattle.ufs_model.specs.declared.data.Entry.{Entry}
 
@@ -20,8 +20,20 @@ legal_from_push ticket t [] entry legal next = (subst (λ (n : ℕ). IsLegalEntr
 legal_from_push ticket t (e ∷ history) entry legal next =
     (legal.0, legal_from_push (ticket + 1) (goes_on t e) history entry legal.1 (subst (λ (n : ℕ). IsLegalEntry n (tree_after (goes_on t e) history) entry) (omega arith) next))
 
-pub legal-push : (start : PosixTree) (history : List Entry) (entry : Entry) → IsLegal start history → IsLegalEntry (length history) (tree_after start history) entry → IsLegal start (history ++ entry ∷ [])
-legal-push start history entry legal next = legal_from_push 0 start history entry legal (subst (λ (n : ℕ). IsLegalEntry n (tree_after start history) entry) (omega arith) next)
+all-push : {X : Type 0} (P : X → Type 0) (xs : List X) (x : X) → AllByRecursion P xs → P x → AllByRecursion P (xs ++ x ∷ [])
+all-push P [] x all is = (is, tt)
+all-push P (y ∷ xs) x all is = (all.0, all-push P xs x all.1 is)
+
+faults-push : (history : List Entry) (entry : Entry) → AreFaultsOnce history → TellsNewFault history entry → AreFaultsOnce (history ++ entry ∷ [])
+faults-push [] entry once new = (tt, tt)
+faults-push (e ∷ history) entry once new = (all-push (λ later. share_fault e.reply later.reply ≡ false) history entry once.0 new.0, faults-push history entry once.1 new.1)
+
+pub legal-push : (start : PosixTree) (history : List Entry) (entry : Entry) → IsLegal start history → IsLegalEntry (length history) (tree_after start history) entry → TellsNewFault history entry
+    → IsLegal start (history ++ entry ∷ [])
+legal-push start history entry legal next new = record {
+  entries = legal_from_push 0 start history entry legal.entries (subst (λ (n : ℕ). IsLegalEntry n (tree_after start history) entry) (omega arith) next);
+  faults = faults-push history entry legal.faults new;
+}
 
 entries_of-push : (client : ℕ) (history : List Entry) (entry : Entry) → entries_of client (history ++ entry ∷ []) ≡ entries_of client history ++ cond (eqb entry.client client) (entry ∷ []) []
 entries_of-push client history entry = filter-append (λ e. eqb e.client client) history (entry ∷ [])

@@ -1,15 +1,14 @@
 -- The tree that a session begins with, a path at a time, and that it is a tree.
 use Rattle.ufs_model.proofs.OrderLemmas.{path_total, path_same}
 use Rattle.ufs_model.proofs.RisingLemmas.{entries-rising, entries-rise, entries-empty}
-use Rattle.std.proofs.Common.{◌≡◌, ℕ, ◌+◌, ◌≤◌, List, [], ◌∷◌, ◌++◌, Bool, true, false, cond, ◌&&◌, ◌||◌, eqb, ltb, leb, Some, Option, ap, sym, refl, subst, ◌∙◌, arith, add-zero, length}
+use Rattle.std.proofs.Common.{◌≡◌, ℕ, ◌+◌, ◌≤◌, List, [], ◌∷◌, Bool, true, false, cond, ◌&&◌, ◌||◌, eqb, ltb, leb, Some, Option, ap, sym, refl, subst, ◌∙◌, arith, length}
 use Rattle.std.proofs.lemmas.Bool.{ltb-true}
 use Rattle.std.proofs.lemmas.Bool.Decides.{nat_tests}
 use Rattle.std.proofs.lemmas.List.{length-map}
-use Rattle.std.proofs.lemmas.List.Sums.{sum_by-cons}
 use Rattle.std.specs.Prelude.{is_some}
 use Rattle.std.specs.Ordering.{nat_cmp, is_lt, is_eq, eq_by_cmp}
 use Rattle.std.specs.Cmp.{nat_cmp_total}
-use Rattle.std.specs.List.{AllByRecursion, list_any, count_by}
+use Rattle.std.specs.List.{AllByRecursion, list_any}
 use Rattle.std.specs.declared.cmp.Ordering.TheVariants.{Less, Equal, Greater}
 use Rattle.std.specs.Map.{keys_of, values_of}
 use Rattle.std.specs.FinMap as map
@@ -18,40 +17,16 @@ use Rattle.std.specs.FinMap.Entries.{below_all}
 use Rattle.ufs_model.specs.Order.{path_cmp, fd_cmp}
 use Rattle.ufs_model.specs.declared.data.Desc.{Desc}
 use Rattle.ufs_model.specs.Paths.{IsWhole, parent_of}
-use Rattle.ufs_model.specs.Placed.{IsOneEach}
 use Rattle.ufs_model.specs.PosixTree.{IsNamespace, IsTree, is_node_of, is_desc_of, is_dir, is_live, stands, has_dir, root, root_alone}
-use Rattle.ufs_model.specs.Holders.{Counts, IsCounted}
 use Rattle.ufs_model.specs.declared.data.Node.TheVariants.{File}
 use Rattle.ufs_model.specs.PathEntries.{pairs_of}
 use Rattle.ufs_model.specs.declared.data.PathEntry.{PathEntry}
 use Rattle.ufs_model.specs.declared.data.PathNode.{PathNode}
 use Rattle.ufs_model.specs.declared.data.PathNode.TheVariants as path_node
-use Rattle.ufs_model.specs.Start.{PathNodes, IsPathTree, path_root, start_from, start_of, is_path_dir, node_from, next_after, bytes_onto, paths_from, bytes_from, next_from}
+use Rattle.ufs_model.specs.Start.{PathNodes, IsPathTree, path_root, start_from, start_of, is_path_dir, node_from, next_after, paths_from, bytes_from, next_from}
 
 abbrev pub Pairs : Type 0
 Pairs = List (List ℕ × PathNode)
-
--- ---- one more path
-
-pub paths_from-push : (n : ℕ) (es : Pairs) (e : List ℕ × PathNode) → paths_from n (es ++ e ∷ []) ≡ paths_from n es ++ (e.0, node_from (next_from n es) e.1) ∷ []
-paths_from-push n [] e = refl
-paths_from-push n (x ∷ es) e = ap (λ rest. (x.0, node_from n x.1) ∷ rest) (paths_from-push (next_after n x.1) es e)
-
-pub next_from-push : (n : ℕ) (es : Pairs) (e : List ℕ × PathNode) → next_from n (es ++ e ∷ []) ≡ next_after (next_from n es) e.1
-next_from-push n [] e = refl
-next_from-push n (x ∷ es) e = next_from-push (next_after n x.1) es e
-
-onto-append : (n : ℕ) (node : PathNode) (xs ys : List (ℕ × List ℕ)) → bytes_onto n node (xs ++ ys) ≡ bytes_onto n node xs ++ ys
-onto-append n path_node.Dir xs ys = refl
-onto-append n (path_node.File bytes) xs ys = refl
-
-pub bytes_from-push : (n : ℕ) (es : Pairs) (e : List ℕ × PathNode) → bytes_from n (es ++ e ∷ []) ≡ bytes_from n es ++ bytes_onto (next_from n es) e.1 []
-bytes_from-push n [] e = refl
-bytes_from-push n (x ∷ es) e = ap (bytes_onto n x.1) (bytes_from-push (next_after n x.1) es e) ∙ onto-append n x.1 _ _
-
-pub next_from-append : (n : ℕ) (es fs : Pairs) → next_from n (es ++ fs) ≡ next_from (next_from n es) fs
-next_from-append n [] fs = refl
-next_from-append n (x ∷ es) fs = next_from-append (next_after n x.1) es fs
 
 -- ---- the paths are the same, and so is what stands there
 
@@ -100,10 +75,6 @@ within_one : (n m f : ℕ) → n + 1 ≤ m → (eqb n f || is_within (n + 1) m f
 unfolding is_within
 within_one n m f h = grind (arith, nat_tests)
 
-within_once : (n m f : ℕ) → n + 1 ≤ m → cond (eqb n f) 1 0 + cond (is_within (n + 1) m f) 1 0 ≡ cond (is_within n m f) 1 0
-unfolding is_within
-within_once n m f h = grind (arith, nat_tests)
-
 pub tie : (f n : ℕ) → eq_by_cmp nat_cmp f n ≡ eqb n f
 tie f n = grind (arith, nat_tests)
 
@@ -128,14 +99,6 @@ pub live-paths_from : (f n : ℕ) (es : Pairs) → list_any (is_node_of f) (valu
 live-paths_from f n [] = within_none n f
 live-paths_from f n ((p, path_node.Dir) ∷ es) = live-paths_from f n es
 live-paths_from f n ((p, path_node.File bytes) ∷ es) = ap (λ b. eqb n f || b) (live-paths_from f (n + 1) es) ∙ within_one n _ f (next_rises (n + 1) es)
-
-pub count-paths_from : (f n : ℕ) (es : Pairs) → count_by (is_node_of f) (values_of (paths_from n es)) ≡ cond (is_within n (next_from n es) f) 1 0
-count-paths_from f n [] = ap (λ b. cond b 1 0) (within_none n f)
-count-paths_from f n ((p, path_node.Dir) ∷ es) = count-paths_from f n es
-count-paths_from f n ((p, path_node.File bytes) ∷ es) =
-    sum_by-cons (λ m. cond (is_node_of f m) 1 0) (File n) (values_of (paths_from (n + 1) es))
-    ∙ ap (λ k. cond (eqb n f) 1 0 + k) (count-paths_from f (n + 1) es)
-    ∙ within_once n _ f (next_rises (n + 1) es)
 
 pub held-bytes_from : (f n : ℕ) (es : Pairs) → is_some (find nat_cmp f (bytes_from n es)) ≡ is_within n (next_from n es) f
 held-bytes_from f n [] = within_none n f
@@ -191,16 +154,6 @@ start_is_tree nodes tree = record {
   live = λ f. held-start nodes f ∙ live-start nodes f;
   numbered = λ f held. ltb-true f _ (sym (held-start nodes f) ∙ held);
 }
-
--- one path names each file
-pub start_counted : (nodes : PathNodes) (counts : Counts) → IsOneEach counts (start_of nodes).next → IsCounted (start_of nodes).paths (start_of nodes).fds counts
-start_counted nodes counts once f =
-    once f
-    ∙ ap (λ b. cond b 1 0) (sym (within_zero (start_of nodes).next f))
-    ∙ sym (count-paths_from f 0 (map.entries nodes))
-    ∙ ap (λ es. count_by (is_node_of f) (values_of es)) (sym (paths_entries nodes))
-    ∙ sym (add-zero _)
-    ∙ ap (λ es. count_by (is_node_of f) (map.values (start_of nodes).paths) + count_by (is_desc_of f) (values_of es)) (sym (entries-empty fd_cmp Desc))
 
 -- ---- from a list
 

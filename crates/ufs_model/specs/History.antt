@@ -1,6 +1,6 @@
 -- Histories: what was served, entry by entry.
-use Rattle.std.specs.Prelude.{ℕ, ◌+◌, ◌<◌, ◌≡◌, ◌==◌, ◌⊎◌, Bool, true, false, List, [], ◌∷◌, length, take, map, filter, unwrap_or, slice_get, Some, ⊤}
-use Rattle.std.specs.List.{range_with_len, AllByRecursion}
+use Rattle.std.specs.Prelude.{ℕ, ◌+◌, ◌<◌, ◌≡◌, ◌==◌, nat_eq, ◌⊎◌, Bool, true, false, List, [], ◌∷◌, length, take, map, filter, unwrap_or, slice_get, Some, ⊤}
+use Rattle.std.specs.List.{range_with_len, AllByRecursion, flat_map, IsDistinct}
 use Rattle.ufs_model.specs.PosixTree.{PosixTree}
 use Rattle.ufs_model.specs.Posix.{posix}
 use Rattle.ufs_model.specs.Excuses.{ExcuseFits}
@@ -90,6 +90,14 @@ pub record IsNext (clients : List (List Op)) (history : List Entry) (entry : Ent
   pub asked : slice_get (requests_of clients entry.client) entry.seq ≡ Some entry.op
 
 -- ---- one history of several lists
+
+-- the entries of several lists, one list after the other
+abbrev pub joined : List (List Entry) → List Entry
+joined lists = flat_map (λ entries. entries) lists
+
+-- no two entries have one ticket
+abbrev pub AreTicketsOnce : List Entry → Type 0
+AreTicketsOnce entries = IsDistinct nat_eq (map (λ e. e.ticket) entries)
 
 -- each ticket is below those behind it
 abbrev pub DoTicketsRise : List Entry → Type 0

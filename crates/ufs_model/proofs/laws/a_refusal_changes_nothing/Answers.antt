@@ -1,4 +1,4 @@
-use Rattle.ufs_model.proofs.LawLemmas.{stays}
+use Rattle.ufs_model.proofs.RefusalLemmas.{stays}
 use Rattle.ufs_model.proofs.laws.a_refusal_changes_nothing.Goals as goal
 
 pub returns : goal.returns

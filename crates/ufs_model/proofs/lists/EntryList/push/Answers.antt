@@ -5,9 +5,9 @@ use Rattle.ufs_model.proofs.HistoryLemmas.{legal-push, tree_after-push, order-pu
 use Rattle.ufs_model.proofs.lists.EntryList.push.Goals as goal
 
 pub returns-clause-legal : goal.returns-clause-legal
-returns-clause-legal c = λ start legal next.
+returns-clause-legal c = λ start legal next new.
     let is = c.in_ok-push.ensures.items ∙ ap (λ (l : List Entry). l ++ c.args.entry ∷ []) c.self.view_is in
-    subst (λ (l : List Entry). IsLegal start l) (sym is) (legal-push start c.args.self.now c.args.entry legal next)
+    subst (λ (l : List Entry). IsLegal start l) (sym is) (legal-push start c.args.self.now c.args.entry legal next new)
 
 pub returns-clause-after : goal.returns-clause-after
 returns-clause-after c = λ start.
