@@ -5,6 +5,8 @@ use Rattle.ufs_model.specs.Paths.{whole_of}
 use Rattle.ufs_model.specs.PosixTree.{PosixTree, IsTree, desc_at}
 use Rattle.ufs_model.specs.Walk.{node_at}
 use Rattle.ufs_model.specs.FileBytes.{content, part, place_of}
+use Rattle.ufs_model.specs.Directories.{is_below, has_entries}
+use Rattle.ufs_model.specs.Refusals.{refusal}
 use Rattle.ufs_model.specs.Posix.{posix}
 use Rattle.ufs_model.specs.Touched.{IsSamePart, IsPartOf, touched_parts}
 use Rattle.ufs_model.specs.declared.data.Desc.{Desc}
@@ -62,6 +64,12 @@ RenameReplaces = (t : PosixTree) (client : ℕ) (from to : List ℕ) → IsTree 
 abbrev pub RenameLeaves : Type 0
 RenameLeaves = (t : PosixTree) (client : ℕ) (from to : List ℕ) → IsTree t → (posix t client (op.Rename from to)).1 ≡ Done
     → (whole_of from ≡ whole_of to → ⊥) → node_at (posix t client (op.Rename from to)).0.paths from ≡ None
+
+-- A directory is renamed to no place at or below itself, and to no directory that has entries: where the two names
+-- differ, neither stands in the way of the other.
+abbrev pub RenamesLieApart : Type 0
+RenamesLieApart = (t : PosixTree) (client : ℕ) (from to : List ℕ) → IsTree t → refusal t client (op.Rename from to) ≡ None → (whole_of from ≡ whole_of to → ⊥)
+    → (is_below (whole_of from) (whole_of to) ≡ false) × (has_entries t.paths (whole_of to) ≡ false)
 
 -- ---- locality
 

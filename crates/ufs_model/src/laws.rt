@@ -1,5 +1,5 @@
 // What the file calls mean, apart from their cases: each a law that an empty function's contract states.
-ghost use Rattle.ufs_model.specs.Laws.{KeepsTrees, RefusalsChangeNothing, MakesOneFile, WrittenIsRead, AppendedIsRead, RenameReplaces, RenameLeaves, Locality};
+ghost use Rattle.ufs_model.specs.Laws.{KeepsTrees, RefusalsChangeNothing, MakesOneFile, WrittenIsRead, AppendedIsRead, RenameReplaces, RenameLeaves, RenamesLieApart, Locality};
 ghost use Rattle.ufs_model.specs.Start.{StartsAreTrees, StartsHaveContents, StartsAreNumbered};
 
 /// A request leaves a tree a tree: the root and each parent are directories, and exactly the files that a path or
@@ -28,6 +28,11 @@ pub fn a_file_is_read_as_it_was_written()
 pub fn a_new_name_takes_the_place_of_an_old_one()
     ensures there { RenameReplaces }
     ensures gone { RenameLeaves }
+{}
+
+/// A `rename` that isn't refused leads to no place at or below the old name, and to no directory with entries.
+pub fn two_names_lie_apart()
+    ensures { RenamesLieApart }
 {}
 
 /// A request has the same reply in two trees that agree on the parts that it touches, changes these alike, and
