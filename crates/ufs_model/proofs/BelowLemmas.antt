@@ -1,6 +1,6 @@
 -- Above each path that stands its directories stand; and the walk to a path passes only directories.
 use Rattle.std.proofs.Common.{◌≡◌, ℕ, List, [], ◌∷◌, ◌++◌, Bool, true, false, not, length, Option, Some, None, is_some, ap, sym, refl, subst, ◌∙◌, arith, append_assoc, length-append, bytes_eq}
-use Rattle.std.proofs.lemmas.Bool.{and_from}
+use Rattle.std.proofs.lemmas.Bool.{and_parts, and_from}
 use Rattle.std.proofs.lemmas.List.{append-nil}
 use Rattle.std.specs.FinMap as map
 use Rattle.ufs_model.specs.Paths.{components, whole_path, whole_of, parent_of}
@@ -10,7 +10,7 @@ use Rattle.ufs_model.specs.Directories.{has_entries, is_entry_of}
 use Rattle.ufs_model.specs.declared.data.Node.{Node}
 use Rattle.ufs_model.specs.declared.data.Node.TheVariants.{Dir, File}
 use Rattle.ufs_model.proofs.OrderLemmas.{path_total, path_same}
-use Rattle.ufs_model.proofs.LookupLemmas.{key_passes}
+use Rattle.ufs_model.proofs.LookupLemmas.{key_passes, passing_key}
 use Rattle.ufs_model.proofs.PathLemmas.{ArePlain, bytes_same, same_bytes, components_of, front_of, front_cons, front_last, parent_is, plain_front}
 use Rattle.ufs_model.proofs.AllowedLemmas.{first_none, names_of_whole}
 
@@ -34,6 +34,12 @@ entry_there paths path dir there parent other =
     not_root : (b : Bool) → bytes_eq path root ≡ b → not (bytes_eq path root) ≡ true
     not_root true e = absurd (other (same_bytes path root e))
     not_root false e = ap not e
+
+-- a directory that has entries has one that stands
+pub entry_stands : (paths : Paths) (dir : List ℕ) → has_entries paths dir ≡ true → (path : List ℕ) × (stands paths path ≡ true) × (parent_of path ≡ dir)
+entry_stands paths dir e =
+    let entry = passing_key path_total path_same (is_entry_of dir) paths e in
+    (entry.0, entry.1, same_bytes (parent_of entry.0) dir (and_parts _ _ entry.2).0)
 
 module _ (paths : Paths) (s : IsNamespace (stands paths) (has_dir paths)) where
   dir_over : (front : List (List ℕ)) (y : List ℕ) → ArePlain (front ++ y ∷ []) → stands paths (whole_path (front ++ y ∷ [])) ≡ true → has_dir paths (whole_path front) ≡ true

@@ -135,6 +135,23 @@ module _ {K X : Type 0} {R : K → K → Ordering} (o : IsTotalOrder R) (same : 
   pub key_passes : (q : K → Bool) (m : FinMap R X) (k : K) → is_some (get m k) ≡ true → q k ≡ true → list_any q (fin.keys m) ≡ true
   key_passes q m k e h = found_passes q (entries m) k (ap is_some (sym (get-entries m k)) ∙ e) h
 
+  -- a key that passes a test of keys is there
+  passing_found : (q : K → Bool) (es : List (K × X)) → list_any q (map (λ e. e.0) es) ≡ true → (k : K) × (is_some (find R k es) ≡ true) × (q k ≡ true)
+  passing_found q [] e = cc
+  passing_found q (x ∷ es) e = by (q x.0) refl (passing_found q es) e
+    where
+      later : (k : K) (b : Bool) → is_some (find R k es) ≡ true → is_some (cond b (Some x.1) (find R k es)) ≡ true
+      later k true h = refl
+      later k false h = h
+
+      by : (c : Bool) → q x.0 ≡ c → (list_any q (map (λ e. e.0) es) ≡ true → (k : K) × (is_some (find R k es) ≡ true) × (q k ≡ true))
+          → (c || list_any q (map (λ e. e.0) es)) ≡ true → (k : K) × (is_some (find R k (x ∷ es)) ≡ true) × (q k ≡ true)
+      by true is more h = (x.0, ap (λ b. is_some (cond b (Some x.1) (find R x.0 es))) ((eq_by_cmp_equiv o).refl x.0), is)
+      by false is more h = let rest = more h in (rest.0, later rest.0 (eq_by_cmp R rest.0 x.0) rest.1, rest.2)
+
+  pub passing_key : (q : K → Bool) (m : FinMap R X) → list_any q (fin.keys m) ≡ true → (k : K) × (is_some (get m k) ≡ true) × (q k ≡ true)
+  passing_key q m e = let is = passing_found q (entries m) e in (is.0, ap is_some (get-entries m is.0) ∙ is.1, is.2)
+
   -- ---- new names for keys
 
   module _ (g : K → K) where

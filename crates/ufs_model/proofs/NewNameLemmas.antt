@@ -1,4 +1,5 @@
--- A `rename` that isn't refused: it leaves a tree a tree, and what stood at the old name stands at the new one.
+-- A `rename` that isn't refused: it leaves a tree a tree, what stood at the old name stands at the new one, and the two
+-- names lie apart.
 use Rattle.std.proofs.Common.{◌≡◌, ℕ, List, [], ◌∷◌, ◌++◌, Bool, true, false, cond, not, ◌&&◌, ◌||◌, Option, Some, None, is_some, is_none, ap, sym, refl, subst, ◌∙◌, bytes_eq, append_assoc}
 use Rattle.std.proofs.lemmas.Bool.{and_from}
 use Rattle.std.proofs.lemmas.List.{append-nil}
@@ -9,7 +10,7 @@ use Rattle.ufs_model.specs.Walk.{walk_refusal, node_at, is_file, file_of}
 use Rattle.ufs_model.specs.Directories.{has_entries, is_below, renamed}
 use Rattle.ufs_model.specs.Refusals.{refusal, rename_refusal, replace_refusal}
 use Rattle.ufs_model.specs.Posix.{served, change, rename_path, forget}
-use Rattle.ufs_model.specs.Laws.{RenameReplaces, RenameLeaves}
+use Rattle.ufs_model.specs.Laws.{RenameReplaces, RenameLeaves, RenamesLieApart}
 use Rattle.ufs_model.specs.declared.data.Errno.{Errno}
 use Rattle.ufs_model.specs.declared.data.Errno.TheVariants.{Einval, Eisdir, Enotdir, Ebusy, Enoent}
 use Rattle.ufs_model.specs.declared.data.Reply.TheVariants.{Done}
@@ -19,7 +20,7 @@ use Rattle.ufs_model.proofs.PathLemmas.{ArePlain, components_plain, plain_append
 use Rattle.ufs_model.proofs.BelowLemmas.{dir_above, entry_above, dir_stands, dir_of_path}
 use Rattle.ufs_model.proofs.AllowedLemmas.{first_none, passed, names_allowed}
 use Rattle.ufs_model.proofs.LiveLemmas.{keeps_paths, forget_lost}
-use Rattle.ufs_model.proofs.RenameLemmas.{MayRename, namespace_now, named_before, named_after, at_new_name, at_old_name}
+use Rattle.ufs_model.proofs.RenameLemmas.{MayRename, namespace_now, named_before, named_after, at_new_name, at_old_name, not_below, no_entries}
 
 -- What a `rename` that isn't refused finds, in the names of its two paths.
 record IsAllowed (paths : Paths) (old new : List (List ℕ)) : Type 0 where
@@ -167,6 +168,19 @@ module _ (t : PosixTree) (tree : IsTree t) where
           ap (λ (paths : Paths). map.get paths (whole_path (f ∷ fs))) (forget_paths (after t (f ∷ fs) (g ∷ gs)) (file_of (map.get t.paths (whole_path (g ∷ gs)))))
           ∙ at_old_name t.paths f fs g gs may node.0 node.1
 
+  names_apart : (old new : List (List ℕ)) → IsAllowed t.paths old new → (whole_path old ≡ whole_path new → ⊥)
+      → (is_below (whole_path old) (whole_path new) ≡ false) × (has_entries t.paths (whole_path new) ≡ false)
+  names_apart [] new is other = let some = is.old_some in cc
+  names_apart (f ∷ fs) [] is other = let some = is.new_some in cc
+  names_apart (f ∷ fs) (g ∷ gs) is other = by (bytes_eq (whole_path (f ∷ fs)) (whole_path (g ∷ gs))) refl
+    where
+      by : (b : Bool) → bytes_eq (whole_path (f ∷ fs)) (whole_path (g ∷ gs)) ≡ b
+          → (is_below (whole_path (f ∷ fs)) (whole_path (g ∷ gs)) ≡ false) × (has_entries t.paths (whole_path (g ∷ gs)) ≡ false)
+      by true e = absurd (other (same_bytes _ _ e))
+      by false e =
+          let may = may_rename t.paths tree.namespace f fs g gs is e in
+          (not_below t.paths f fs g gs may, no_entries t.paths f fs g gs may)
+
 -- ---- the request
 
 pub keeps_renamed : (t : PosixTree) (client : ℕ) (from to : List ℕ) → IsTree t → refusal t client (op.Rename from to) ≡ None → IsTree (change t client (op.Rename from to))
@@ -187,3 +201,6 @@ leaves t client from to tree = by (refusal t client (op.Rename from to)) refl
         → (whole_of from ≡ whole_of to → ⊥) → node_at (served t client (op.Rename from to) r).0.paths from ≡ None
     by (Some e) h done other = cc
     by None h done other = names_leave t tree (components from) (components to) (is_allowed t client from to tree h) other
+
+pub lie_apart : RenamesLieApart
+lie_apart t client from to tree e other = names_apart t tree (components from) (components to) (is_allowed t client from to tree e) other

@@ -1,18 +1,20 @@
--- Paths form a tree after one has a new name, and what stood at the old name stands at the new one.
-use Rattle.std.proofs.Common.{◌≡◌, ℕ, ◌-◌, ◌⊎◌, inl, inr, List, [], ◌∷◌, ◌++◌, true, length, Some, None, is_some, ap, sym, refl, subst, ◌∙◌, append_assoc, arith, length-append}
+-- Paths form a tree after one has a new name, and what stood at the old name stands at the new one; and the two names
+-- lie apart.
+use Rattle.std.proofs.Common.{◌≡◌, ℕ, ◌-◌, ◌⊎◌, inl, inr, List, [], ◌∷◌, ◌++◌, true, false, length, Some, None, is_some, ap, sym, refl, subst, ◌∙◌, append_assoc, arith, length-append}
 use Rattle.std.proofs.lemmas.List.{append-nil, append_cancel_left}
+use Rattle.std.proofs.lemmas.Bool.{false_from_ne_true}
 use Rattle.std.specs.FinMap as map
 use Rattle.ufs_model.specs.Paths.{components, whole_path, parent_of, components_refusal, IsWhole}
 use Rattle.ufs_model.specs.PosixTree.{Paths, IsNamespace, root, stands, has_dir, is_dir}
-use Rattle.ufs_model.specs.Directories.{renamed_path, renamed}
+use Rattle.ufs_model.specs.Directories.{renamed_path, renamed, is_below, has_entries}
 use Rattle.ufs_model.specs.Walk.{file_of}
 use Rattle.ufs_model.specs.declared.data.Node.{Node}
 use Rattle.ufs_model.specs.declared.data.Node.TheVariants.{Dir, File}
 use Rattle.ufs_model.proofs.OrderLemmas.{path_total, path_same}
 use Rattle.ufs_model.proofs.LookupLemmas.{from_some, there_or_not, one_or_apart, removed_else, left_was, rekeyed_at, rekeyed_from}
-use Rattle.ufs_model.proofs.PathLemmas.{ArePlain, Moves, Stays, moves_or_stays, components_of, components_plain, plain_append, plain_back, plain_take, same_names, front_of, front_append, last, parent_is}
+use Rattle.ufs_model.proofs.PathLemmas.{ArePlain, Moves, Stays, moves_or_stays, components_of, components_plain, plain_append, plain_back, plain_take, same_names, front_of, front_append, last, parent_is, names_below}
 use Rattle.ufs_model.proofs.AllowedLemmas.{allowed_append, allowed_back}
-use Rattle.ufs_model.proofs.BelowLemmas.{is_dir-some, dir_stands}
+use Rattle.ufs_model.proofs.BelowLemmas.{is_dir-some, dir_stands, entry_stands}
 use Rattle.ufs_model.proofs.LiveLemmas.{Named}
 
 no_first : (x : List ℕ) (xs ys : List (List ℕ)) → [] ≡ (x ∷ xs) ++ ys → ⊥
@@ -229,6 +231,17 @@ module _ (paths : Paths) (f : List ℕ) (fs : List (List ℕ)) (g : List ℕ) (g
       by : ((n : Node) × (map.get now from ≡ Some n)) ⊎ (map.get now from ≡ None) → map.get now from ≡ None
       by (inr none) = none
       by (inl some) = let old = was from some.0 some.1 in absurd (clash old.0 old.3 (case_of old.0 (ap is_some old.1)))
+
+  -- ---- neither name stands in the way of the other
+
+  pub not_below : is_below from to ≡ false
+  not_below =
+      false_from_ne_true _ (λ e.
+      let names = names_below f fs (g ∷ gs) may.old_plain may.new_plain e in
+      may.outside (front_of (names.0 ∷ names.1)) (ap front_of names.2 ∙ front_append (f ∷ fs) names.0 names.1))
+
+  pub no_entries : has_entries paths to ≡ false
+  no_entries = false_from_ne_true _ (λ e. let entry = entry_stands paths to e in no_entry entry.0 entry.1 entry.2)
 
   -- ---- the files that are named
 
