@@ -9,7 +9,7 @@ use Rattle.std.specs.Ordering.{is_eq, is_lt, eq_by_cmp, ordering_reverse}
 use Rattle.std.specs.Cmp.{IsTotalOrder, both_ways, eq_by_cmp_equiv}
 use Rattle.std.specs.List.{list_any}
 use Rattle.std.specs.FinMap as fin
-use Rattle.std.specs.FinMap.{FinMap, IsAntisymmetric, find, is_sorted, get-entries, get-insert, get-remove}
+use Rattle.std.specs.FinMap.{IsAntisymmetric, find, is_sorted, get-entries, get-insert, get-remove}
 use Rattle.std.specs.FinMap.Entries.{below_all}
 use Rattle.ufs_model.specs.PosixTree.{Fds, is_desc_of, is_number}
 use Rattle.ufs_model.specs.Order.{fd_cmp}
@@ -139,7 +139,7 @@ pub open_by : (a b : Fds) (file : ℕ) → ((client : ℕ) → holds a client fi
 open_by a b file same =
     any_value (is_desc_of file) (fin.entries a)
     ∙ both_ways (list_any (λ e. is_desc_of file e.1) (fin.entries a)) (list_any (λ e. is_desc_of file e.1) (fin.entries b))
-      (open_way a b file (λ client is. sym (same client) ∙ is)) (open_way b a file (λ client is. same client ∙ is))
+    (open_way a b file (λ client is. sym (same client) ∙ is)) (open_way b a file (λ client is. same client ∙ is))
     ∙ sym (any_value (is_desc_of file) (fin.entries b))
 
 -- ---- descriptors that come, move and go

@@ -1,5 +1,5 @@
 -- A request is local, request by request: two trees that agree on what it touches change alike.
-use Rattle.std.proofs.Common.{◌≡◌, ℕ, ◌+◌, List, [], ◌∷◌, Bool, true, false, cond, Option, Some, None, ap, sym, refl, ◌∙◌, subst, inl, inr, length, eqb, ℤ}
+use Rattle.std.proofs.Common.{◌≡◌, ℕ, ◌+◌, List, [], ◌∷◌, Bool, true, false, cond, Option, Some, None, ap, sym, refl, ◌∙◌, subst, inl, inr, length, eqb}
 use Rattle.std.specs.Prelude.{is_some, is_none, unwrap_or}
 use Rattle.std.specs.Str.{bytes_eq}
 use Rattle.std.specs.FinMap as fin
@@ -8,9 +8,9 @@ use Rattle.ufs_model.specs.PosixTree.{PosixTree, Paths, Files, Fds, desc_at, is_
 use Rattle.ufs_model.specs.Walk.{node_at, file_of, is_file, walk_refusal}
 use Rattle.ufs_model.specs.Directories.{renamed, has_entries}
 use Rattle.ufs_model.specs.Descriptors.{Mode, opened, closed, moved, desc_of}
-use Rattle.ufs_model.specs.FileBytes.{content, part, put_at, place_of, resized}
+use Rattle.ufs_model.specs.FileBytes.{part, put_at, place_of, resized}
 use Rattle.ufs_model.specs.Refusals.{refusal, own_refusal, tree_refusal, read_refusal, write_refusal, seek_refusal, rmdir_refusal}
-use Rattle.ufs_model.specs.Posix.{posix, served, answer, change, with_fd, with_bytes, with_file, forget, open_node, written, write_fd, rename_path, file_bytes, new_fd, new_offset, bytes_read}
+use Rattle.ufs_model.specs.Posix.{posix, served, change, with_fd, with_bytes, forget, open_node, rename_path, file_bytes, new_fd, new_offset, bytes_read}
 use Rattle.ufs_model.specs.Touched.{holds, IsSamePart, IsPartOf, file_part, dropped_part, opened_part, reached, touched_parts}
 use Rattle.ufs_model.specs.Laws.{AgreeOn, IsLocal, Locality}
 use Rattle.ufs_model.specs.declared.data.Desc.{Desc}
@@ -22,10 +22,9 @@ use Rattle.ufs_model.specs.declared.data.Op.{Op}
 use Rattle.ufs_model.specs.declared.data.Op.TheVariants as op
 use Rattle.ufs_model.specs.declared.data.PartName.{PartName}
 use Rattle.ufs_model.specs.declared.data.PartName.TheVariants as name
-use Rattle.ufs_model.specs.declared.data.Whence.{Whence}
 use Rattle.ufs_model.proofs.DescriptorLemmas.{moved_holds}
 use Rattle.ufs_model.proofs.AlikeLemmas.{FdsAlike, fds_stay, fds_put, fds_gone, holds_after, live_alike, BytesAlike, bytes_stay, bytes_put, bytes_dropped, NamesAlike, Alike, touched_alike, others_alike}
-use Rattle.ufs_model.proofs.ToldLemmas.{own_same, own_of, names_of, opened_same, bytes_same, new_fd_same, tree_same, offset_same, answer_same}
+use Rattle.ufs_model.proofs.ToldLemmas.{own_same, opened_same, bytes_same, new_fd_same, tree_same, offset_same, answer_same}
 
 -- ---- changes of bytes, as the bytes that they leave
 
@@ -200,9 +199,9 @@ module _ (t u : PosixTree) (client : ℕ) where
       }
   open_alike rest agree whole m (Some (File f)) among =
       elim m.trunc as (λ b. ((g : ℕ) → IsPartOf (opened_part t.next true (Some f) b) (name.File g) → IsPartOf rest (name.File g))
-          → Alike (name.Client client ∷ name.Names ∷ rest) client t u
-              (with_fd (cond b (with_bytes t (Some f) []) t) client (new_fd t client) (desc_of m (Some f)))
-              (with_fd (cond b (with_bytes u (Some f) []) u) client (new_fd u client) (desc_of m (Some f)))) [
+      → Alike (name.Client client ∷ name.Names ∷ rest) client t u
+      (with_fd (cond b (with_bytes t (Some f) []) t) client (new_fd t client) (desc_of m (Some f)))
+      (with_fd (cond b (with_bytes u (Some f) []) u) client (new_fd u client) (desc_of m (Some f)))) [
         | true ↦ λ among. record {
           fds = fds;
           bytes = bytes_put (name.Client client ∷ name.Names ∷ rest) t.bytes u.bytes (λ g at. agree (name.File g) at) f f [] [] refl refl (inr (inr (among f (inl refl))));
@@ -233,8 +232,8 @@ module _ (t u : PosixTree) (client : ℕ) where
       let file : Option ℕ = file_of (fin.get t.paths to) in
       let file' : Option ℕ = file_of (fin.get u.paths to) in
       elim (bytes_eq from to) as (λ b. ((f : ℕ) → IsPartOf (dropped_part (cond b t (forget (with_names t (renamed t.paths from to) t.fds) file)) file) (name.File f) → IsPartOf rest (name.File f))
-          → Alike (name.Client client ∷ name.Names ∷ rest) client t u
-              (cond b t (forget (with_names t (renamed t.paths from to) t.fds) file)) (cond b u (forget (with_names u (renamed u.paths from to) u.fds) file'))) [
+      → Alike (name.Client client ∷ name.Names ∷ rest) client t u
+      (cond b t (forget (with_names t (renamed t.paths from to) t.fds) file)) (cond b u (forget (with_names u (renamed u.paths from to) u.fds) file'))) [
         | true ↦ λ _. nothing (name.Names ∷ rest) agree
         | false ↦ λ among. forgotten rest agree (renamed t.paths from to) (renamed u.paths from to) t.fds u.fds file file'
             (ap (λ (p : Paths). renamed p from to) names.0) (fds_stay client t.fds u.fds (agree (name.Client client) (inl refl))) (ap (λ (p : Paths). file_of (fin.get p to)) names.0) among
@@ -264,8 +263,8 @@ module _ (t u : PosixTree) (client : ℕ) where
       let o = opened_same t u client _ fd agree in
       let b = bytes_same t u client fd agree in
       elim (eqb (length fresh) 0) as (λ b. Alike (name.Client client ∷ file_part (opened t client fd).file) client t u
-          (cond b t (with_fd (cond b t (with_bytes t (opened t client fd).file (put_at (file_bytes t client fd) (place_of (opened t client fd) (file_bytes t client fd)) fresh))) client fd (moved (opened t client fd) (place_of (opened t client fd) (file_bytes t client fd) + length fresh))))
-          (cond b u (with_fd (cond b u (with_bytes u (opened u client fd).file (put_at (file_bytes u client fd) (place_of (opened u client fd) (file_bytes u client fd)) fresh))) client fd (moved (opened u client fd) (place_of (opened u client fd) (file_bytes u client fd) + length fresh))))) [
+      (cond b t (with_fd (cond b t (with_bytes t (opened t client fd).file (put_at (file_bytes t client fd) (place_of (opened t client fd) (file_bytes t client fd)) fresh))) client fd (moved (opened t client fd) (place_of (opened t client fd) (file_bytes t client fd) + length fresh))))
+      (cond b u (with_fd (cond b u (with_bytes u (opened u client fd).file (put_at (file_bytes u client fd) (place_of (opened u client fd) (file_bytes u client fd)) fresh))) client fd (moved (opened u client fd) (place_of (opened u client fd) (file_bytes u client fd) + length fresh))))) [
         | true ↦ nothing _ agree
         | false ↦ bytes_and_fd _ agree fd (opened t client fd).file (opened u client fd).file _ _ desc.0 _ _
             (ap (λ (d : Desc). d.file) o) (λ i. put_at (b i) (place_of (o i) (b i)) fresh) (λ f at. at)
@@ -276,8 +275,8 @@ module _ (t u : PosixTree) (client : ℕ) where
       let o = opened_same t u client _ fd agree in
       let b = bytes_same t u client fd agree in
       elim (eqb (length fresh) 0) as (λ b. Alike (name.Client client ∷ file_part (opened t client fd).file) client t u
-          (cond b t (with_bytes t (opened t client fd).file (put_at (file_bytes t client fd) at fresh)))
-          (cond b u (with_bytes u (opened u client fd).file (put_at (file_bytes u client fd) at fresh)))) [
+      (cond b t (with_bytes t (opened t client fd).file (put_at (file_bytes t client fd) at fresh)))
+      (cond b u (with_bytes u (opened u client fd).file (put_at (file_bytes u client fd) at fresh)))) [
         | true ↦ nothing _ agree
         | false ↦ bytes_alone _ agree (opened t client fd).file (opened u client fd).file _ _ (ap (λ (d : Desc). d.file) o) (λ i. put_at (b i) at fresh) (λ f at. at)
       ]

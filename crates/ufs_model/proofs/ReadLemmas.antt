@@ -1,19 +1,17 @@
 -- What was written at a place is read there.
-use Rattle.std.proofs.Common.{◌≡◌, ◌≤◌, ℕ, ◌+◌, ◌-◌, List, [], ◌∷◌, ◌++◌, Bool, true, false, cond, not, Option, Some, None, ap, sym, refl, ◌∙◌, subst, arith, append_assoc, eqb, length, take, drop, replicate}
+use Rattle.std.proofs.Common.{◌≡◌, ℕ, ◌+◌, ◌-◌, List, [], ◌∷◌, ◌++◌, Bool, true, false, cond, not, Option, Some, None, ap, sym, refl, ◌∙◌, arith, append_assoc, eqb, length, take, drop, replicate}
 use Rattle.std.proofs.lemmas.List.{length-append, length-take-le, length-replicate}
 use Rattle.std.proofs.Math.Seq.{drop-append_seam, take-append_seam}
 use Rattle.std.specs.Prelude.{is_none, unwrap_or}
-use Rattle.std.specs.Ordering.{eq_by_cmp, nat_cmp}
 use Rattle.std.specs.Cmp.{IsTotalOrder, eq_by_cmp_equiv, nat_cmp_total}
 use Rattle.std.specs.FinMap as fin
 use Rattle.std.specs.FinMap.{get-insert}
-use Rattle.ufs_model.specs.Order.{fd_cmp}
 use Rattle.ufs_model.specs.Paths.{first_of, refused_if}
 use Rattle.ufs_model.specs.PosixTree.{PosixTree, desc_at}
 use Rattle.ufs_model.specs.Descriptors.{opened, closed, moved}
 use Rattle.ufs_model.specs.FileBytes.{content, part, put_at, place_of}
-use Rattle.ufs_model.specs.Refusals.{refusal, own_refusal, tree_refusal, read_refusal, write_refusal}
-use Rattle.ufs_model.specs.Posix.{posix, served, change, with_fd, with_bytes, written, file_bytes}
+use Rattle.ufs_model.specs.Refusals.{refusal, own_refusal, read_refusal}
+use Rattle.ufs_model.specs.Posix.{posix, served, with_fd, with_bytes, written}
 use Rattle.ufs_model.specs.Laws.{MayRead, WrittenIsRead, AppendedIsRead}
 use Rattle.ufs_model.specs.declared.data.Desc.{Desc}
 use Rattle.ufs_model.specs.declared.data.Errno.{Errno}
@@ -64,8 +62,8 @@ reads : (t : PosixTree) (client fd file n at : ℕ) (d : Desc) → desc_at t cli
     → (posix t client (op.Pread fd n at)).1 ≡ Got (part (content t.bytes (Some file)) at n)
 reads t client fd file n at d there named read =
     let none : refusal t client (op.Pread fd n at) ≡ None =
-        ap (λ o. first_of (read_refusal o) None) there
-        ∙ (λ i. first_of (first_of (refused_if (not (read i)) Ebadf) (refused_if (is_none (named i)) Eisdir)) None) in
+    ap (λ o. first_of (read_refusal o) None) there
+    ∙ (λ i. first_of (first_of (refused_if (not (read i)) Ebadf) (refused_if (is_none (named i)) Eisdir)) None) in
     ap (λ r. (served t client (op.Pread fd n at) r).1) none
     ∙ ap (λ o. Got (part (content t.bytes (unwrap_or o closed).file) at n)) there
     ∙ ap (λ f. Got (part (content t.bytes f) at n)) named
