@@ -1,33 +1,26 @@
 -- A free slot is filled, and its place comes into the index.
-use Rattle.std.proofs.Common.{◌≡◌, ◌≢◌, ℕ, ◌+◌, ◌-◌, ◌<◌, List, Bool, true, false, cond, eqb, length, get_or, set, ap, sym, refl, ◌∙◌, subst, arith, Some, None, inl, inr, length-set}
-use Rattle.std.specs.List.{insert, list_any, count_by}
+use Rattle.std.proofs.Common.{◌≡◌, ◌≢◌, ℕ, ◌-◌, ◌<◌, List, true, false, eqb, length, get_or, set, ap, sym, refl, ◌∙◌, subst, arith, Some, None, inl, inr, length-set}
+use Rattle.std.specs.List.{insert, list_any}
 use Rattle.std.specs.declared.cmp.Ordering.TheVariants.{Less}
-use Rattle.std.proofs.lemmas.Bool.{eq-eqb, both_ways, cases_lt, cases_order, cases_eq}
-use Rattle.std.proofs.lemmas.List.{get_or-set_same, get_or-set_other}
-use Rattle.std.proofs.lemmas.List.Edits.{length-insert, get_or-insert_below, get_or-insert_at, get_or-insert_above}
-use Rattle.std.proofs.lemmas.List.Folds.{list_any_at}
-use Rattle.std.proofs.lemmas.List.Sums.{sum_by-set}
+use Rattle.std.proofs.lemmas.Bool.{both_ways, cases_order, cases_eq}
+use Rattle.std.proofs.lemmas.List.Edits.{length-insert}
 use Rattle.ufs_layout.specs.DentryForm.{DentryForm, free_slot, is_named}
 use Rattle.ufs_dirs.specs.Directory.{entry_at, entry_of, has_name, name_cmp}
 use Rattle.ufs_dirs.specs.Index.{IsIndex, IsGapFor, ranked}
 use Rattle.ufs_dirs.specs.Changes.{SetsName}
+use Rattle.ufs_dirs.proofs.EditLemmas.{is_there, put_above, put_below, put_here, put_there}
+use Rattle.ufs_dirs.proofs.SlotLemmas.{filled_count, set_here, set_other}
 use Rattle.ufs_dirs.proofs.NameLemmas.{rank_of, named_so, not_so_named, free_has_no_name, no_slot_has, entry_of-first, find-set_other}
-
-abbrev pub one_if : Bool → ℕ
-one_if b = cond b 1 0
-
-abbrev pub weight : DentryForm → ℕ
-weight d = one_if (is_named d)
 
 module _ (slots : List DentryForm) (place : ℕ) (e : DentryForm) (inside : place < length slots) (free : is_named (entry_at slots place) ≡ false) (named : is_named e ≡ true) where
   abbrev filled : List DentryForm
   filled = set slots place e
 
   entry_here : (p : ℕ) → p ≡ place → entry_at filled p ≡ e
-  entry_here p same = ap (entry_at filled) same ∙ get_or-set_same slots place e free_slot inside
+  entry_here p same = set_here slots place e p inside same
 
   entry_other : (p : ℕ) → p ≢ place → entry_at filled p ≡ entry_at slots p
-  entry_other p differs = get_or-set_other slots place p e free_slot differs
+  entry_other p differs = set_other slots place e p differs
 
   -- what names stand for
   pub filled_names : (blocks : List ℕ) → entry_of slots e.name ≡ None → SetsName (record { blocks = blocks; slots = slots }) (record { blocks = blocks; slots = filled }) e.name (Some e)
@@ -39,13 +32,6 @@ module _ (slots : List DentryForm) (place : ℕ) (e : DentryForm) (inside : plac
     others = λ other differs. find-set_other (has_name other) slots place e free_slot (not_so_named other e (λ same. differs (sym same))) (free_has_no_name other (entry_at slots place) free);
   }
 
-  pub filled_count : count_by is_named filled ≡ count_by is_named slots + 1
-  filled_count =
-      let change = sum_by-set weight slots place e free_slot inside in
-      let before : weight (entry_at slots place) ≡ 0 = ap one_if free in
-      let behind : weight e ≡ 1 = ap one_if named in
-      omega (arith, change, before, behind)
-
   module _ (order : List ℕ) (rank : ℕ) (index : IsIndex slots order) (gap : IsGapFor slots order e.name rank) where
     abbrev longer : List ℕ
     longer = insert order rank place
@@ -54,15 +40,13 @@ module _ (slots : List DentryForm) (place : ℕ) (e : DentryForm) (inside : plac
     no_rank k below same = both_ways (is_named (entry_at slots place)) free (subst (λ p. is_named (entry_at slots p) ≡ true) same (index.used k below))
 
     place_below : (k : ℕ) → k < rank → get_or longer k 0 ≡ get_or order k 0
-    place_below k h = get_or-insert_below order rank place 0 k h gap.in_range
+    place_below = put_below order rank place gap.in_range
 
     place_here : (k : ℕ) → k ≡ rank → get_or longer k 0 ≡ place
-    place_here k same = ap (λ (j : ℕ). get_or longer j 0) same ∙ get_or-insert_at order rank place 0 gap.in_range
+    place_here = put_here order rank place gap.in_range
 
     place_above : (k : ℕ) → rank < k → get_or longer k 0 ≡ get_or order (k - 1) 0
-    place_above k h =
-        let back : k ≡ k - 1 + 1 = omega arith in
-        ap (λ (j : ℕ). get_or longer j 0) back ∙ get_or-insert_above order rank place 0 (k - 1) (omega arith) gap.in_range
+    place_above = put_above order rank place gap.in_range
 
     ranked_below : (k : ℕ) → k < rank → ranked filled longer k ≡ ranked slots order k
     ranked_below k h = ap (entry_at filled) (place_below k h) ∙ entry_other (get_or order k 0) (no_rank k (omega (arith, gap.in_range)))
@@ -108,15 +92,10 @@ module _ (slots : List DentryForm) (place : ℕ) (e : DentryForm) (inside : plac
     each p h is =
         let size = length-insert order rank place gap.in_range in
         elim (cases_eq p place) [
-          | inl same ↦ list_any_at (λ q. eqb q p) longer rank 0 (omega (arith, size, gap.in_range)) (eq-eqb (get_or longer rank 0) p (place_here rank refl ∙ sym same))
+          | inl same ↦ is_there longer rank p (omega (arith, size, gap.in_range)) (place_here rank refl ∙ sym same)
           | inr differs ↦
               let at = rank_of slots order index p (omega (arith, length-set slots place e)) (ap is_named (sym (entry_other p differs)) ∙ is) in
-              elim (cases_lt at.0 rank) [
-                | inl low ↦ list_any_at (λ q. eqb q p) longer at.0 0 (omega (arith, size, at.1)) (eq-eqb (get_or longer at.0 0) p (place_below at.0 low ∙ at.2))
-                | inr high ↦
-                    let back : at.0 + 1 - 1 ≡ at.0 = omega arith in
-                    list_any_at (λ q. eqb q p) longer (at.0 + 1) 0 (omega (arith, size, at.1)) (eq-eqb (get_or longer (at.0 + 1) 0) p (place_above (at.0 + 1) (omega arith) ∙ ap (λ (j : ℕ). get_or order j 0) back ∙ at.2))
-              ]
+              put_there order rank place gap.in_range at.0 p at.1 at.2
         ]
 
     pub filled_index : IsIndex filled longer
@@ -125,5 +104,5 @@ module _ (slots : List DentryForm) (place : ℕ) (e : DentryForm) (inside : plac
       used = used;
       rising = rising;
       each = each;
-      counted = omega (arith, length-insert order rank place gap.in_range, index.counted, filled_count);
+      counted = omega (arith, length-insert order rank place gap.in_range, index.counted, filled_count slots place e inside free named);
     }

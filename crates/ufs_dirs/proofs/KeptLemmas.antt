@@ -3,18 +3,21 @@ use Rattle.std.proofs.Common.{◌≡◌, ℕ, ◌+◌, ◌-◌, ◌*◌, ◌/◌
 use Rattle.std.specs.List.{insert, remove, list_all, count_by, position, position_or_len}
 use Rattle.std.specs.Option.{unwrap_or}
 use Rattle.std.specs.declared.cmp.Ordering.TheVariants.{Less}
-use Rattle.std.proofs.lemmas.Bool.{cases_lt, cases_eq, lt-ltb, le-ltb, false≢true}
-use Rattle.std.proofs.lemmas.List.{get_or-set_same, get_or-set_other, get_or_append_left, get_or-append_right, get_or-replicate, get_or_past, get_or_default, length-replicate, take_all}
+use Rattle.std.proofs.lemmas.Bool.{cases_lt, lt-ltb, le-ltb, false≢true}
+use Rattle.std.proofs.lemmas.List.{get_or_append_left, get_or-append_right, get_or-replicate, get_or_past, get_or_default, length-replicate, take_all}
 use Rattle.std.proofs.lemmas.List.Elements.{All-get_or, All-from_get_or, All-push, All-set}
 use Rattle.std.proofs.lemmas.List.Folds.{sum_by-replicate}
 use Rattle.std.proofs.lemmas.List.Sums.{sum_by-append, count_by-le-length, prefix_len-le-length, fails_before_first, passes_at_first, list_all-from_AllPass}
 use Rattle.ufs_layout.specs.DentryForm.{DentryForm, free_slot, is_dentry, is_named}
 use Rattle.ufs_dirs.specs.Directory.{Directory, IsDirectory, entry_at, entry_of, has_block, has_name, name_cmp}
-use Rattle.ufs_dirs.specs.Index.{IsIndex, IsKept, IsGapFor, IsNextRank, IsRankOf, ranked}
+use Rattle.ufs_dirs.specs.Index.{AreAbove, IsFreeList, IsIndex, IsKept, IsGapFor, IsNextRank, IsRankOf, ranked}
 use Rattle.ufs_dirs.specs.Changes.{IsSlot, place_of}
 use Rattle.ufs_dirs.proofs.BlockLemmas.{distinct_none, length-distinct, position-distinct, distinct_push}
 use Rattle.ufs_dirs.proofs.NameLemmas.{names_once, entry_of-first, entry_of-none, entry_of-rank}
-use Rattle.ufs_dirs.proofs.FilledLemmas.{filled_count, filled_index, weight}
+use Rattle.ufs_dirs.proofs.EditLemmas.{is_there}
+use Rattle.ufs_dirs.proofs.SlotLemmas.{weight}
+use Rattle.ufs_dirs.proofs.FreeLemmas.{free_cleared, free_filled, rank_of_free}
+use Rattle.ufs_dirs.proofs.FilledLemmas.{filled_index}
 use Rattle.ufs_dirs.proofs.ClearedLemmas.{cleared_index}
 
 -- ---- sizes
@@ -22,17 +25,8 @@ use Rattle.ufs_dirs.proofs.ClearedLemmas.{cleared_index}
 pub few_slots : (d : Directory) → IsDirectory d → length d.slots ≤ 4194304
 few_slots d is = omega (arith, is.sized, length-distinct 65536 d.blocks is.blocks_once is.blocks_below)
 
-pub few_names : (d : Directory) (order : List ℕ) (low : ℕ) → IsKept d order low → length order ≤ length d.slots
-few_names d order low kept = omega (arith, kept.index.counted, count_by-le-length is_named d.slots)
-
-abbrev used_entry : DentryForm
-used_entry = record { inode = 0; kind = 0; name = 0 ∷ [] }
-
--- where a slot is free, fewer names than slots are there
-pub not_all_used : (slots : List DentryForm) (place : ℕ) → place < length slots → is_named (entry_at slots place) ≡ false → count_by is_named slots < length slots
-not_all_used slots place inside free =
-    let more = filled_count slots place used_entry inside free refl in
-    omega (arith, more, count_by-le-length is_named (set slots place used_entry), length-set slots place used_entry)
+pub few_names : (d : Directory) (order places : List ℕ) → IsKept d order places → length order ≤ length d.slots
+few_names d order places kept = omega (arith, kept.index.counted, count_by-le-length is_named d.slots)
 
 -- ---- reads
 
@@ -79,17 +73,17 @@ slot_at-is_slot d is place sector inside at = record { in_sector = omega arith; 
 
 -- ---- no block
 
-pub kept_none : (blocks : List ℕ) (slots : List DentryForm) (order : List ℕ) → blocks ≡ [] → slots ≡ [] → order ≡ [] → IsKept (record { blocks = blocks; slots = slots }) order 0
-kept_none blocks slots order no_blocks no_slots no_order =
-    let none : IsKept (record { blocks = []; slots = [] }) [] 0 = record {
+pub kept_none : (blocks : List ℕ) (slots : List DentryForm) (order places : List ℕ) → blocks ≡ [] → slots ≡ [] → order ≡ [] → places ≡ [] → IsKept (record { blocks = blocks; slots = slots }) order places
+kept_none blocks slots order places no_blocks no_slots no_order no_places =
+    let none : IsKept (record { blocks = []; slots = [] }) [] [] = record {
       directory = record { sized = refl; blocks_once = distinct_none; blocks_below = All-from_get_or (λ b. b < 65536) [] 0 (λ i h. absurd (omega arith)); forms = All-from_get_or (λ e. IsTrue (is_dentry e)) [] free_slot (λ i h. absurd (omega arith)); names_once = λ i j less h. absurd (omega arith) };
       index = record { in_range = λ k h. absurd (omega arith); used = λ k h. absurd (omega arith); rising = λ j k less h. absurd (omega arith); each = λ p h. absurd (omega arith); counted = refl };
-      low_in_range = omega arith;
-      low_used = λ p h. absurd (omega arith);
+      free = record { in_range = λ k h. absurd (omega arith); unused = λ k h. absurd (omega arith); falling = λ j k less h. absurd (omega arith); each = λ p h. absurd (omega arith); counted = refl };
     } in
-    subst (λ (o : List ℕ). IsKept (record { blocks = blocks; slots = slots }) o 0) (sym no_order)
-    (subst (λ (s : List DentryForm). IsKept (record { blocks = blocks; slots = s }) [] 0) (sym no_slots)
-    (subst (λ (b : List ℕ). IsKept (record { blocks = b; slots = [] }) [] 0) (sym no_blocks) none))
+    subst (λ (f : List ℕ). IsKept (record { blocks = blocks; slots = slots }) order f) (sym no_places)
+    (subst (λ (o : List ℕ). IsKept (record { blocks = blocks; slots = slots }) o []) (sym no_order)
+    (subst (λ (s : List DentryForm). IsKept (record { blocks = blocks; slots = s }) [] []) (sym no_slots)
+    (subst (λ (b : List ℕ). IsKept (record { blocks = b; slots = [] }) [] []) (sym no_blocks) none)))
 
 -- ---- a block more
 
@@ -144,8 +138,50 @@ resized old now size count e is counted sized free =
     let more : size - count ≡ 64 = omega arith in
     is ∙ ap (λ (xs : List DentryForm). xs ++ replicate (size - count) e) (take_all size old (omega arith)) ∙ ap (λ (n : ℕ). old ++ replicate n e) more ∙ ap (λ (x : DentryForm). old ++ replicate 64 x) free
 
-pub kept_added : (d : Directory) (order : List ℕ) (low block : ℕ) → IsKept d order low → block < 65536 → has_block d.blocks block ≡ false → IsKept (record { blocks = d.blocks ++ block ∷ []; slots = d.slots ++ free_block }) order low
-kept_added d order low block kept below absent = record {
+-- The places of a block that comes behind the slots stand before those that were free.
+pub record AreAdded (slots : List DentryForm) (old new : List ℕ) : Type 0 where
+  pub size : length new ≡ length old + 64
+  pub block : (k : ℕ) → k < 64 → get_or new k 0 ≡ length slots + (63 - k)
+  pub others : (k : ℕ) → k < length old → get_or new (64 + k) 0 ≡ get_or old k 0
+
+count_added : (slots : List DentryForm) → count_by is_named (slots ++ free_block) ≡ count_by is_named slots
+count_added slots = sum_by-append weight slots free_block ∙ omega (arith, sum_by-replicate weight 64 free_slot)
+
+free_added : (slots : List DentryForm) (old new : List ℕ) → IsFreeList slots old → AreAdded slots old new → IsFreeList (slots ++ free_block) new
+free_added slots old new free added = record {
+  in_range = λ k h. elim (cases_lt k 64) [
+    | inl first ↦ omega (arith, size_added slots, added.block k first)
+    | inr behind ↦ omega (arith, size_added slots, other k behind h, free.in_range (k - 64) (omega (arith, added.size)))
+  ];
+  unused = λ k h. ap is_named (entry_at-added slots (get_or new k 0)) ∙ elim (cases_lt k 64) [
+    | inl first ↦ ap is_named (get_or_past slots (get_or new k 0) free_slot (omega (arith, added.block k first)))
+    | inr behind ↦ ap (λ (p : ℕ). is_named (entry_at slots p)) (other k behind h) ∙ free.unused (k - 64) (omega (arith, added.size))
+  ];
+  falling = λ j k less h. elim (cases_lt k 64) [
+    | inl first ↦ omega (arith, added.block k first, added.block j (omega arith))
+    | inr behind ↦ elim (cases_lt j 64) [
+      | inl first ↦ omega (arith, added.block j first, other k behind h, free.in_range (k - 64) (omega (arith, added.size)))
+      | inr behind_too ↦ omega (arith, other j behind_too (omega arith), other k behind h, free.falling (j - 64) (k - 64) (omega arith) (omega (arith, added.size)))
+    ]
+  ];
+  each = λ p h is. elim (cases_lt p (length slots)) [
+    | inl inside ↦
+        let k = rank_of_free slots old free p inside (ap is_named (sym (entry_at-added slots p)) ∙ is) in
+        is_there new (64 + k.0) p (omega (arith, added.size, k.1)) (added.others k.0 k.1 ∙ k.2)
+    | inr behind ↦
+        let k : ℕ = length slots + 63 - p in
+        is_there new k p (omega (arith, added.size, size_added slots)) (added.block k (omega arith) ∙ omega (arith, size_added slots))
+  ];
+  counted = omega (arith, size_added slots, added.size, count_added slots, free.counted);
+}
+  where
+    other : (k : ℕ) → 64 ≤ k → k < length new → get_or new k 0 ≡ get_or old (k - 64) 0
+    other k h end =
+        let back : k ≡ 64 + (k - 64) = omega arith in
+        ap (λ (j : ℕ). get_or new j 0) back ∙ added.others (k - 64) (omega (arith, added.size))
+
+pub kept_added : (d : Directory) (order places new : List ℕ) (block : ℕ) → IsKept d order places → block < 65536 → has_block d.blocks block ≡ false → AreAdded d.slots places new → IsKept (record { blocks = d.blocks ++ block ∷ []; slots = d.slots ++ free_block }) order new
+kept_added d order places new block kept below absent added = record {
   directory = record {
     sized = omega (arith, size_added d.slots, kept.directory.sized, length-append d.blocks (block ∷ []));
     blocks_once = distinct_push d.blocks block kept.directory.blocks_once absent;
@@ -154,8 +190,7 @@ kept_added d order low block kept below absent = record {
     names_once = names_once (d.slots ++ free_block) order index;
   };
   index = index;
-  low_in_range = omega (arith, size_added d.slots, kept.low_in_range);
-  low_used = λ p h. ap is_named (entry_at-added d.slots p) ∙ kept.low_used p h;
+  free = free_added d.slots places new kept.free added;
 }
   where
     form : (i : ℕ) → IsTrue (is_dentry (entry_at d.slots i))
@@ -163,9 +198,6 @@ kept_added d order low block kept below absent = record {
       | inl inside ↦ All-get_or (λ e. IsTrue (is_dentry e)) d.slots i free_slot inside kept.directory.forms
       | inr behind ↦ subst (λ e. IsTrue (is_dentry e)) (sym (get_or_past d.slots i free_slot behind)) refl
     ]
-
-    counted : count_by is_named (d.slots ++ free_block) ≡ count_by is_named d.slots
-    counted = sum_by-append weight d.slots free_block ∙ omega (arith, sum_by-replicate weight 64 free_slot)
 
     index : IsIndex (d.slots ++ free_block) order
     index = record {
@@ -178,57 +210,41 @@ kept_added d order low block kept below absent = record {
         | inl inside ↦ kept.index.each p inside used
         | inr behind ↦ absurd (false≢true (ap is_named (sym (get_or_past d.slots p free_slot behind)) ∙ used))
       ];
-      counted = kept.index.counted ∙ sym counted;
+      counted = kept.index.counted ∙ sym (count_added d.slots);
     }
 
 -- ---- slots filled and cleared
 
-pub kept_filled : (d : Directory) (order : List ℕ) (low place rank : ℕ) (e : DentryForm) → IsKept d order low → place < length d.slots → is_named (entry_at d.slots place) ≡ false → is_named e ≡ true → IsTrue (is_dentry e) → IsGapFor d.slots order e.name rank → IsKept (record d { slots = set d.slots place e }) (insert order rank place) low
-kept_filled d order low place rank e kept inside free named form gap =
+pub kept_filled : (d : Directory) (order places : List ℕ) (place rank at : ℕ) (e : DentryForm) → IsKept d order places → place < length d.slots → is_named (entry_at d.slots place) ≡ false → is_named e ≡ true → IsTrue (is_dentry e) → IsGapFor d.slots order e.name rank → AreAbove places place at → IsKept (record d { slots = set d.slots place e }) (insert order rank place) (remove places at)
+kept_filled d order places place rank at e kept inside free named form gap above =
     let index = filled_index d.slots place e inside free named order rank kept.index gap in
-    let size = length-set d.slots place e in
     record {
       directory = record {
-        sized = omega (arith, size, kept.directory.sized);
+        sized = omega (arith, length-set d.slots place e, kept.directory.sized);
         blocks_once = kept.directory.blocks_once;
         blocks_below = kept.directory.blocks_below;
         forms = All-set (λ x. IsTrue (is_dentry x)) d.slots place e form kept.directory.forms;
         names_once = names_once (set d.slots place e) (insert order rank place) index;
       };
       index = index;
-      low_in_range = omega (arith, size, kept.low_in_range);
-      low_used = λ p h. elim (cases_eq p place) [
-        | inl same ↦ ap (λ (q : ℕ). is_named (entry_at (set d.slots place e) q)) same ∙ ap is_named (get_or-set_same d.slots place e free_slot inside) ∙ named
-        | inr differs ↦ ap is_named (get_or-set_other d.slots place p e free_slot differs) ∙ kept.low_used p h
-      ];
+      free = free_filled d.slots places kept.free place at e inside free named above;
     }
 
-pub kept_cleared : (d : Directory) (order : List ℕ) (low rank now_low : ℕ) → IsKept d order low → rank < length order → now_low ≤ low → now_low ≤ get_or order rank 0 → IsKept (record d { slots = set d.slots (get_or order rank 0) free_slot }) (remove order rank) now_low
-kept_cleared d order low rank now_low kept inside le le_place =
+pub kept_cleared : (d : Directory) (order places : List ℕ) (rank at : ℕ) → IsKept d order places → rank < length order → AreAbove places (get_or order rank 0) at → IsKept (record d { slots = set d.slots (get_or order rank 0) free_slot }) (remove order rank) (insert places at (get_or order rank 0))
+kept_cleared d order places rank at kept inside above =
     let place = get_or order rank 0 in
     let index = cleared_index d.slots order rank kept.index inside in
-    let size = length-set d.slots place free_slot in
     record {
       directory = record {
-        sized = omega (arith, size, kept.directory.sized);
+        sized = omega (arith, length-set d.slots place free_slot, kept.directory.sized);
         blocks_once = kept.directory.blocks_once;
         blocks_below = kept.directory.blocks_below;
         forms = All-set (λ x. IsTrue (is_dentry x)) d.slots place free_slot refl kept.directory.forms;
         names_once = names_once (set d.slots place free_slot) (remove order rank) index;
       };
       index = index;
-      low_in_range = omega (arith, size, kept.low_in_range);
-      low_used = λ p h. ap is_named (get_or-set_other d.slots place p free_slot free_slot (λ same. omega arith)) ∙ kept.low_used p (omega arith);
+      free = free_cleared d.slots places kept.free place at (kept.index.in_range rank inside) (kept.index.used rank inside) above;
     }
-
--- the slots from `low` on that were passed are used
-pub kept_passed : (d : Directory) (order : List ℕ) (low at : ℕ) → IsKept d order low → at ≤ length d.slots → ((p : ℕ) → low ≤ p → p < at → is_named (entry_at d.slots p) ≡ true) → IsKept d order at
-kept_passed d order low at kept within passed = record {
-  directory = kept.directory;
-  index = kept.index;
-  low_in_range = within;
-  low_used = λ p h. elim (cases_lt p low) [ inl before ↦ kept.low_used p before | inr behind ↦ passed p behind h ];
-}
 
 pub all_used : (slots : List DentryForm) → ((p : ℕ) → p < length slots → is_named (entry_at slots p) ≡ true) → list_all is_named slots ≡ true
 all_used slots each = list_all-from_AllPass is_named slots (All-from_get_or (λ e. is_named e ≡ true) slots free_slot each)

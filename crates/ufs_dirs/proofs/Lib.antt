@@ -1,6 +1,9 @@
 pub mod SearchLemmas
 pub mod BlockLemmas
 pub mod NameLemmas
+pub mod EditLemmas
+pub mod SlotLemmas
+pub mod FreeLemmas
 pub mod FilledLemmas
 pub mod ClearedLemmas
 pub mod NextLemmas

@@ -1,5 +1,5 @@
--- The places of a directory's used slots, by rising name.
-use Rattle.std.specs.Prelude.{◌≡◌, ◌≢◌, ℕ, ◌<◌, ◌≤◌, List, length, true, ◌==◌, slice_index}
+-- The places of a directory's used slots, by rising name, and those of its free ones.
+use Rattle.std.specs.Prelude.{◌≡◌, ◌≢◌, ℕ, ◌+◌, ◌<◌, ◌≤◌, List, length, true, false, ◌==◌, slice_index}
 use Rattle.std.specs.List.{list_any, count_by}
 use Rattle.std.specs.declared.cmp.Ordering.TheVariants.{Less}
 use Rattle.ufs_layout.specs.DentryForm.{DentryForm, is_named}
@@ -33,9 +33,26 @@ pub record IsNextRank (slots : List DentryForm) (order : List ℕ) (after : List
   pub not_above : (j : ℕ) → j < k → name_cmp after (ranked slots order j).name ≢ Less
   pub above : (j : ℕ) → k ≤ j → j < length order → name_cmp after (ranked slots order j).name ≡ Less
 
--- what is true of a directory and what is kept beside it: the order, and a place before which each slot is used
-pub record IsKept (d : Directory) (order : List ℕ) (low : ℕ) : Type 0 where
+-- Each number is below those before it.
+abbrev pub IsFalling : List ℕ → Type 0
+IsFalling xs = (j k : ℕ) → j < k → k < length xs → slice_index xs k < slice_index xs j
+
+-- The places of the free slots, the lowest last.
+pub record IsFreeList (slots : List DentryForm) (free : List ℕ) : Type 0 where
+  pub in_range : (k : ℕ) → k < length free → slice_index free k < length slots
+  pub unused : (k : ℕ) → k < length free → is_named (entry_at slots (slice_index free k)) ≡ false
+  pub falling : IsFalling free
+  pub each : (place : ℕ) → place < length slots → is_named (entry_at slots place) ≡ false → list_any (λ p. p == place) free ≡ true
+  pub counted : length free + count_by is_named slots ≡ length slots
+
+-- So many of the places are above this one.
+pub record AreAbove (free : List ℕ) (place count : ℕ) : Type 0 where
+  pub in_range : count ≤ length free
+  pub above : (k : ℕ) → k < count → place < slice_index free k
+  pub rest : (k : ℕ) → count ≤ k → k < length free → slice_index free k ≤ place
+
+-- what is true of a directory and what is kept beside it: the order of the names, and the free slots
+pub record IsKept (d : Directory) (order places : List ℕ) : Type 0 where
   pub directory : IsDirectory d
   pub index : IsIndex d.slots order
-  pub low_in_range : low ≤ length d.slots
-  pub low_used : (place : ℕ) → place < low → is_named (entry_at d.slots place) ≡ true
+  pub free : IsFreeList d.slots places

@@ -5,7 +5,8 @@ ghost use Rattle.ufs_layout.specs.DentryForm.{free_slot, is_dentry, is_named};
 ghost use Rattle.ufs_dirs.specs.Directory.{IsDirectory, entry_at, entry_of, has_block};
 
 use crate::codec::put_slots;
-use crate::index::{first_free, next_rank, search};
+use crate::free::{places_above, put_block};
+use crate::index::{next_rank, search};
 use crate::{BlockFault, MAX_BLOCKS, Memory, NoSlot, SLOTS, Slot, SlotFault};
 use std::alloc::Global;
 use std::marker::Model;
@@ -19,8 +20,8 @@ pub struct DirBlocks {
     slots: Vec<Dentry>,
     /// The places of the used slots, by rising name. There is room for the place of each slot.
     order: Vec<u32>,
-    /// Each slot before this place is used.
-    low: usize,
+    /// The places of the free slots, the highest first. There is room for the place of each slot.
+    free: Vec<u32>,
 }
 
 impl Model for DirBlocks {
@@ -33,7 +34,7 @@ impl Model for DirBlocks {
 
     ghost view = { λ d. record { blocks = d.blocks.items; slots = d.slots.items } };
 
-    ghost invariant = { λ d. IsKept (record { blocks = d.blocks.items; slots = d.slots.items }) d.order.items d.low × (length d.slots.items ≤ vec_capacity d.order) };
+    ghost invariant = { λ d. IsKept (record { blocks = d.blocks.items; slots = d.slots.items }) d.order.items d.free.items × (length d.slots.items ≤ vec_capacity d.order) × (length d.slots.items ≤ vec_capacity d.free) };
 }
 
 impl DirBlocks {
@@ -48,7 +49,7 @@ impl DirBlocks {
             blocks: Vec::new(alloc),
             slots: Vec::new(alloc),
             order: Vec::new(alloc),
-            low: 0,
+            free: Vec::new(alloc),
         }
     }
 
@@ -136,7 +137,9 @@ impl DirBlocks {
         self.blocks.reserve(1)?;
         self.slots.reserve(SLOTS)?;
         self.order.reserve(slots - self.order.len())?;
+        self.free.reserve(slots - self.free.len())?;
         self.blocks.push(block).unwrap();
+        put_block(&mut self.free, self.slots.len() as u32);
         self.slots.resize(slots, free_dentry()).unwrap();
         Ok(())
     }
@@ -175,11 +178,10 @@ impl DirBlocks {
         ensures full { is_err result ≡ list_all is_named self.old.slots }
         ensures err { OnErr result (self.new ≡ self.old) }
     {
-        let place = first_free(self.slots.as_slice(), self.low);
-        self.low = place;
-        if place == self.slots.len() {
+        let Some(&lowest) = self.free.last() else {
             return Err(NoSlot);
-        }
+        };
+        let place = lowest as usize;
         let slot = self.slot_at(place);
         self.fill(place, dentry);
         Ok(slot)
@@ -208,11 +210,12 @@ impl DirBlocks {
         let Ok(rank) = search(self.slots.as_slice(), self.order.as_slice(), name) else {
             unreachable!()
         };
-        let place = self.order[rank] as usize;
-        let slot = self.slot_at(place);
+        let place = self.order[rank];
+        let slot = self.slot_at(place as usize);
+        let above = places_above(self.free.as_slice(), place);
         self.order.remove(rank);
-        self.slots[place] = free_dentry();
-        self.low = self.low.min(place);
+        self.free.insert(above, place).unwrap();
+        self.slots[place as usize] = free_dentry();
         slot
     }
 
@@ -277,7 +280,10 @@ impl DirBlocks {
         let Err(rank) = search(self.slots.as_slice(), self.order.as_slice(), name) else {
             unreachable!()
         };
-        self.order.insert(rank, place as u32).unwrap();
+        let number = place as u32;
+        let above = places_above(self.free.as_slice(), number);
+        self.order.insert(rank, number).unwrap();
+        self.free.remove(above);
         self.slots[place] = dentry;
     }
 }

@@ -1,7 +1,5 @@
 // Looking a name up in the places of the used slots, which rise by name.
-ghost use Rattle.std.specs.Prelude.{◌≡◌, ◌<◌, ◌≤◌, ℕ, true, false, length, IfOk, IfErr};
-ghost use Rattle.ufs_layout.specs.DentryForm.{is_named};
-ghost use Rattle.ufs_dirs.specs.Directory.{entry_at};
+ghost use Rattle.std.specs.Prelude.{IfOk, IfErr};
 ghost use Rattle.ufs_dirs.specs.Index.{IsIndex, IsRankOf, IsGapFor, IsNextRank};
 
 use std::cmp::Ordering;
@@ -36,20 +34,4 @@ pub(crate) fn next_rank(slots: &[Dentry], order: &[u32], after: &[u8]) -> usize
         Ok(rank) => rank + 1,
         Err(rank) => rank,
     }
-}
-
-/// The place of the first free slot from here on; that behind the last where there is none.
-pub(crate) fn first_free(slots: &[Dentry], from: usize) -> usize
-    requires { from ≤ length slots.now }
-    ensures in_range { from ≤ result }
-    ensures within { result ≤ length slots.now }
-    ensures passed { (p : ℕ) → from ≤ p → p < result → is_named (entry_at slots.now p) ≡ true }
-    ensures free { result < length slots.now → is_named (entry_at slots.now result) ≡ false }
-{
-    for place in from..slots.len() {
-        if slots[place].name_bytes().is_empty() {
-            return place;
-        }
-    }
-    slots.len()
 }

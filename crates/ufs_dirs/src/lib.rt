@@ -3,6 +3,7 @@
 
 mod codec;
 mod dir_blocks;
+mod free;
 mod index;
 #[cfg(test)]
 mod tests;

@@ -94,21 +94,30 @@ fn lowest_slot_is_taken_again(rt: HostRuntime) -> Result<(), Memory> {
         sector: 161,
         slot: 2,
     };
+    let higher = Slot {
+        sector: 162,
+        slot: 4,
+    };
     let second = Slot {
         sector: 112,
         slot: 1,
     };
-    let rows: [(bool, &[u8], Option<Slot>); 5] = [
+    let rows: [(bool, &[u8], Option<Slot>); 10] = [
         (true, b"next", Some(first)),
+        (false, &[b'a', 180], Some(higher)),
         (false, &[b'a', 190], Some(freed)),
         (false, &[b'a', 190], None),
         (true, b"again", Some(freed)),
+        (true, b"above", Some(higher)),
         (true, b"last", Some(second)),
+        (false, b"again", Some(freed)),
+        (false, b"above", Some(higher)),
+        (true, b"once more", Some(freed)),
     ];
     for (comes, name, slot) in rows {
         assert_eq!(rt; insert_or_remove(&mut dir, comes, name), slot);
     }
-    assert_eq!(rt; (full, dir.count()), (None, 66));
+    assert_eq!(rt; (full, dir.count()), (None, 65));
     Ok(())
 }
 
