@@ -8,7 +8,7 @@ use Rattle.ufs_model.specs.Paths.{components, whole_path, text_refusal, IsWhole}
 use Rattle.ufs_path.specs.Names.{IsName}
 use Rattle.ufs_path.specs.Texts.{joined, ends_from, IsKept}
 use Rattle.ufs_path.proofs.SplitLemmas.{is_some_name, whole_path-joined, components-whole_path}
-use Rattle.ufs_path.proofs.NameLemmas.{components_are_names, names_plain, whole_of_text}
+use Rattle.ufs_path.proofs.NameLemmas.{components_may_stand, components_are_names, names_plain, whole_of_text}
 
 pub joined-append : (xs ys : List (List ℕ)) → joined (xs ++ ys) ≡ joined xs ++ joined ys
 joined-append [] ys = refl
@@ -118,7 +118,7 @@ module _ (bytes ends : List ℕ) (names : List (List ℕ)) (kept : IsKept bytes 
   kept_bytes some = kept_joined bytes kept.whole (omega (arith, ap length are)) ∙ ap joined are
 
   pub kept_names : AllByRecursion IsName names
-  kept_names = subst (AllByRecursion IsName) are (components_are_names bytes kept.whole.allowed)
+  kept_names = subst (AllByRecursion IsName) are (components_may_stand bytes kept.whole.allowed)
 
   pub kept_part : (i end start : ℕ) (d : List ℕ) → i < length names → end ≡ length (joined (take (suc i) names)) → start ≡ length (joined (take i names)) → slice_range bytes (start + 1) end ≡ get_or names i d
   kept_part i end start d below e s =

@@ -1,5 +1,5 @@
 -- Names that may stand in a path, and the refusals of the model.
-use Rattle.std.proofs.Common.{◌≡◌, ℕ, ◌≤◌, ◌<◌, List, [], ◌∷◌, ◌++◌, Bool, true, false, not, ltb, length, Option, Some, None, ap, sym, refl, ◌∙◌, subst, arith}
+use Rattle.std.proofs.Common.{◌≡◌, ℕ, ◌≤◌, ◌<◌, List, [], ◌∷◌, ◌++◌, Bool, true, false, not, ltb, length, Option, Some, None, ap, refl, ◌∙◌, subst, arith}
 use Rattle.std.proofs.lemmas.Bool.{not-true, ltb-false, ltb-true, le-ltb, lt-ltb, and_parts}
 use Rattle.std.proofs.lemmas.List.{append-nil}
 use Rattle.std.specs.List.{list_all, AllByRecursion}
@@ -51,9 +51,13 @@ all_allowed : (names : List (List ℕ)) → AllByRecursion IsName names → comp
 all_allowed [] h = refl
 all_allowed (name ∷ names) h = ap (λ (o : Option Errno). first_of o (components_refusal names)) (name_allowed name h.0) ∙ all_allowed names h.1
 
--- the components of a text that isn't refused may stand in a path
+-- components that aren't refused may stand in a path
+pub components_may_stand : (path : List ℕ) → components_refusal (components path) ≡ None → AllByRecursion IsName (components path)
+components_may_stand path e = all_map₂ IsPlain (λ name. component_refusal name ≡ None) IsName is_name (components path) (components_plain path) (each_allowed (components path) e)
+
+-- so those of a text that isn't refused may
 pub components_are_names : (path : List ℕ) → text_refusal path ≡ None → AllByRecursion IsName (components path)
-components_are_names path e = all_map₂ IsPlain (λ name. component_refusal name ≡ None) IsName is_name (components path) (components_plain path) (each_allowed (components path) (allowed path e).names)
+components_are_names path e = components_may_stand path (allowed path e).names
 
 pub names_plain : (names : List (List ℕ)) → AllByRecursion IsName names → AllByRecursion IsPlain names
 names_plain names h = all_map IsName IsPlain plain_name names h

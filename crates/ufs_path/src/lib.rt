@@ -11,8 +11,6 @@ mod text;
 
 pub use check::path_fault;
 pub use fault::PathFault;
-pub use law::{
-    names_stay_in_whole_paths, short_whole_paths_are_allowed, whole_paths_may_stand,
-};
+pub use law::{names_stay_in_whole_paths, short_whole_paths_are_allowed, whole_paths_may_stand};
 pub use read::read_path;
 pub use text::PathText;

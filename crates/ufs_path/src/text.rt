@@ -48,7 +48,7 @@ impl PathText {
     pub fn is_root(&self) -> bool
         ensures { IsTrue result ↔ (self.now ≡ []) }
     {
-        self.ends.is_empty()
+        self.len() == 0
     }
 
     /// The component with this place, from 0 on.

@@ -2,7 +2,7 @@
 use Rattle.std.proofs.Common.{◌≡◌, ℕ, ◌+◌, ◌-◌, ◌≤◌, zero, suc, List, [], ◌∷◌, ◌++◌, length, take, drop, replicate, ap, sym, refl, ◌∙◌, arith}
 use Rattle.std.proofs.lemmas.List.{take-replicate, drop_all, length-drop, append-nil, length-append, length-take, length-replicate}
 use Rattle.std.proofs.Math.Seq.{take-length}
-use Rattle.ufs_model.specs.Posix.{put_at}
+use Rattle.ufs_model.specs.FileBytes.{put_at}
 
 -- how many zeros follow makes no difference before a place that they reach
 zeros_before : (old : List ℕ) (at n m : ℕ) → at ≤ length old + n → at ≤ length old + m → take at (old ++ replicate n 0) ≡ take at (old ++ replicate m 0)

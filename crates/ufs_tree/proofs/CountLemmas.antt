@@ -1,11 +1,11 @@
--- How many values of a map pass a test, as its keys come and go.
-use Rattle.std.proofs.Common.{◌≡◌, ℕ, ◌+◌, List, [], ◌∷◌, Bool, true, false, cond, Some, None, ap, sym, refl, ◌∙◌, arith, ltb, ◌||◌, map}
+-- How many entries of a map pass a test, as its keys come and go.
+use Rattle.std.proofs.Common.{◌≡◌, ℕ, ◌+◌, List, [], ◌∷◌, Bool, true, false, cond, Some, None, ap, sym, refl, ◌∙◌, arith, ltb, ◌||◌, length, filter}
 use Rattle.std.specs.declared.cmp.Ordering.{Ordering}
 use Rattle.std.specs.declared.cmp.Ordering.TheVariants.{Less, Equal, Greater}
 use Rattle.std.specs.List.{count_by, list_any}
 use Rattle.std.specs.Ordering.{is_eq, eq_by_cmp}
 use Rattle.std.specs.Cmp.{IsTotalOrder, eq_by_cmp_equiv}
-use Rattle.std.specs.FinMap as fin
+use Rattle.std.specs.Map.{keys_of, values_of}
 use Rattle.std.specs.FinMap.{FinMap, IsAntisymmetric, get, insert, remove, find, put, entries, entries-insert, get-entries, get-insert, get-remove, get_tied, same_map}
 use Rattle.std.specs.FinMap.Entries.{by_order}
 use Rattle.std.proofs.lemmas.List.Sums.{sum_by-cons}
@@ -31,22 +31,19 @@ module _ {X : Type 0} (p : X → Bool) where
   any-count [] = refl
   any-count (v ∷ vs) = none_by (p v) (list_any p vs) (count_by p vs) (any-count vs) ∙ ap (ltb 0) (sym (count-cons v vs))
 
-abbrev values : {K X : Type 0} → List (K × X) → List X
-values {K} {X} es = map (λ (e : K × X). e.1) es
-
-module _ {K X : Type 0} (R : K → K → Ordering) (p : X → Bool) where
-  count-put : (k : K) (v : X) (es : List (K × X)) → find R k es ≡ None → count_by p (values (put R k v es)) ≡ count_by p (values es) + one_if p v
-  count-put k v [] none = count-cons p v [] ∙ omega arith
+module _ {K X : Type 0} (R : K → K → Ordering) (p : K × X → Bool) where
+  count-put : (k : K) (v : X) (es : List (K × X)) → find R k es ≡ None → count_by p (put R k v es) ≡ count_by p es + one_if p (k, v)
+  count-put k v [] none = count-cons p (k, v) [] ∙ omega arith
   count-put k v (e ∷ es) none =
-      elim (R k e.0) as (λ r. cond (is_eq r) (Some e.1) (find R k es) ≡ None → count_by p (values (by_order r ((k, v) ∷ e ∷ es) ((e.0, v) ∷ es) (e ∷ put R k v es))) ≡ count_by p (values (e ∷ es)) + one_if p v) [
-        | Less ↦ λ n. count-cons p v (values (e ∷ es)) ∙ omega arith
+      elim (R k e.0) as (λ r. cond (is_eq r) (Some e.1) (find R k es) ≡ None → count_by p (by_order r ((k, v) ∷ e ∷ es) ((e.0, v) ∷ es) (e ∷ put R k v es)) ≡ count_by p (e ∷ es) + one_if p (k, v)) [
+        | Less ↦ λ n. count-cons p (k, v) (e ∷ es) ∙ omega arith
         | Equal ↦ λ n. cc
-        | Greater ↦ λ n. count-cons p e.1 (values (put R k v es)) ∙ ap (λ k. one_if p e.1 + k) (count-put k v es n) ∙ omega (arith, count-cons p e.1 (values es))
+        | Greater ↦ λ n. count-cons p e (put R k v es) ∙ ap (λ k. one_if p e + k) (count-put k v es n) ∙ omega (arith, count-cons p e es)
       ] none
 
   module _ (o : IsTotalOrder R) where
-    pub count-insert : (m : FinMap R X) (k : K) (v : X) → get m k ≡ None → count_by p (fin.values (insert m k v)) ≡ count_by p (fin.values m) + one_if p v
-    count-insert m k v none = ap (λ es. count_by p (values es)) (entries-insert o m k v) ∙ count-put k v (entries m) (sym (get-entries m k) ∙ none)
+    pub count-insert : (m : FinMap R X) (k : K) (v : X) → get m k ≡ None → count_by p (entries (insert m k v)) ≡ count_by p (entries m) + one_if p (k, v)
+    count-insert m k v none = ap (count_by p) (entries-insert o m k v) ∙ count-put k v (entries m) (sym (get-entries m k) ∙ none)
 
     get_removed : (m : FinMap R X) (k : K) → get (remove m k) k ≡ None
     get_removed m k = get-remove o m k k ∙ ap (λ b. cond b None (get m k)) ((eq_by_cmp_equiv o).refl k)
@@ -70,11 +67,30 @@ module _ {K X : Type 0} (R : K → K → Ordering) (p : X → Bool) where
           both q Equal = refl
           both q Greater = refl
 
-      pub count-remove : (m : FinMap R X) (k : K) (v : X) → get m k ≡ Some v → count_by p (fin.values m) ≡ count_by p (fin.values (remove m k)) + one_if p v
-      count-remove m k v there = ap (λ m. count_by p (fin.values m)) (sym (put_back m k v there)) ∙ count-insert (remove m k) k v (get_removed m k)
+      pub count-remove : (m : FinMap R X) (k : K) (v : X) → get m k ≡ Some v → count_by p (entries m) ≡ count_by p (entries (remove m k)) + one_if p (k, v)
+      count-remove m k v there = ap (λ m. count_by p (entries m)) (sym (put_back m k v there)) ∙ count-insert (remove m k) k v (get_removed m k)
 
-      pub count-replace : (m : FinMap R X) (k : K) (old v : X) → get m k ≡ Some old → count_by p (fin.values (insert m k v)) + one_if p old ≡ count_by p (fin.values m) + one_if p v
+      pub count-replace : (m : FinMap R X) (k : K) (old v : X) → get m k ≡ Some old → count_by p (entries (insert m k v)) + one_if p (k, old) ≡ count_by p (entries m) + one_if p (k, v)
       count-replace m k old v there =
           let removed = count-remove m k old there in
-          let anew = ap (λ m. count_by p (fin.values m)) (sym (put_anew m k v)) ∙ count-insert (remove m k) k v (get_removed m k) in
+          let anew = ap (λ m. count_by p (entries m)) (sym (put_anew m k v)) ∙ count-insert (remove m k) k v (get_removed m k) in
           omega arith
+
+-- ---- of the values, and of the keys
+
+module _ {K X : Type 0} where
+  pub count-values : (p : X → Bool) (es : List (K × X)) → count_by p (values_of es) ≡ count_by (λ (e : K × X). p e.1) es
+  count-values p [] = refl
+  count-values p (e ∷ es) = count-cons p e.1 (values_of es) ∙ ap (λ n. one_if p e.1 + n) (count-values p es) ∙ sym (count-cons (λ (e : K × X). p e.1) e es)
+
+  pub count-keys : (p : K → Bool) (es : List (K × X)) → count_by p (keys_of es) ≡ count_by (λ (e : K × X). p e.0) es
+  count-keys p [] = refl
+  count-keys p (e ∷ es) = count-cons p e.0 (keys_of es) ∙ ap (λ n. one_if p e.0 + n) (count-keys p es) ∙ sym (count-cons (λ (e : K × X). p e.0) e es)
+
+pub length-filtered : {X : Type 0} (p : X → Bool) (xs : List X) → length (filter p xs) ≡ count_by p xs
+length-filtered p [] = refl
+length-filtered p (x ∷ xs) = pick (p x) (length-filtered p xs) ∙ sym (count-cons p x xs)
+  where
+    pick : (b : Bool) → length (filter p xs) ≡ count_by p xs → length (cond b (x ∷ filter p xs) (filter p xs)) ≡ cond b 1 0 + count_by p xs
+    pick true e = omega (arith, e)
+    pick false e = omega (arith, e)

@@ -1,26 +1,23 @@
--- How many paths and descriptors name each file, as paths and descriptors come and go.
-use Rattle.std.proofs.Common.{◌≡◌, ◌≤◌, ℕ, ◌+◌, ◌-◌, List, Bool, true, false, cond, Option, Some, None, ap, sym, refl, ◌∙◌, arith, eqb, ltb, ◌||◌, subst, Result, Ok, Err, IfOk, OnErr}
+-- Counts by file, and those of descriptors as they come and go.
+use Rattle.std.proofs.Common.{◌≡◌, ◌≤◌, ℕ, ◌+◌, ◌-◌, List, Bool, true, false, cond, Option, Some, None, ap, sym, refl, ◌∙◌, arith, eqb, ltb}
 use Rattle.std.specs.declared.cmp.Ordering.{Ordering}
 use Rattle.std.specs.declared.cmp.Ordering.TheVariants.{Less, Equal, Greater}
-use Rattle.std.specs.Prelude.{unwrap_or}
+use Rattle.std.specs.Prelude.{unwrap_or, IsSome}
+use Rattle.std.specs.List.{count_by, list_any}
 use Rattle.std.specs.Ordering.{is_eq, eq_by_cmp, nat_cmp}
-use Rattle.std.specs.Cmp.{both_ways, eq_by_cmp_equiv, nat_cmp_total}
+use Rattle.std.specs.Cmp.{IsTotalOrder, both_ways, eq_by_cmp_equiv, nat_cmp_total}
+use Rattle.std.specs.Map.{values_of}
 use Rattle.std.specs.FinMap as map
-use Rattle.std.specs.FinMap.{get-insert, get-remove, nat_cmp-IsAntisymmetric}
-use Rattle.std.proofs.lemmas.Bool.{eqb-true, eq-eqb, lt-ltb, le-ltb}
-use Rattle.ufs_model.specs.Order.{path_cmp, fd_cmp}
-use Rattle.ufs_model.specs.PosixTree.{Paths, Fds, is_node_of, is_desc_of, is_number, is_live}
-use Rattle.ufs_model.specs.Paths.{components, whole_path}
-use Rattle.ufs_model.specs.Posix.{make_dir, path_refusal, node_at}
-use Rattle.ufs_model.specs.declared.Memory.{Memory}
-use Rattle.ufs_model.specs.declared.data.Errno.{Errno}
-use Rattle.ufs_model.specs.declared.data.Reply.{Reply}
-use Rattle.ufs_model.specs.Holders.{Counts, count_at, holders, IsCounted}
+use Rattle.std.specs.FinMap.{get-insert, get-remove, get-empty, nat_cmp-IsAntisymmetric, FinMap, entries}
+use Rattle.std.proofs.lemmas.Bool.{eqb-true, eq-eqb}
+use Rattle.std.proofs.lemmas.Map.Text.{is_eq-slice_cmp}
+use Rattle.std.specs.Str.{bytes_eq}
+use Rattle.ufs_model.specs.Order.{fd_cmp, path_cmp}
+use Rattle.ufs_model.specs.PosixTree.{Fds, is_desc_of, is_number}
 use Rattle.ufs_model.specs.declared.data.Desc.{Desc}
-use Rattle.ufs_model.specs.declared.data.Node.{Node}
-use Rattle.ufs_model.specs.declared.data.Node.TheVariants.{Dir, File}
-use Rattle.ufs_model.proofs.SeenLemmas.{path_total, path_same, fd_total, fd_same}
-use Rattle.ufs_model.proofs.CountLemmas.{one_if, any-count, count-insert, count-remove, count-replace}
+use Rattle.ufs_tree.specs.Counted.{CountsByFile, CountsByDir, count_at, IsCountedByDesc}
+use Rattle.ufs_tree.proofs.SeenLemmas.{fd_total, fd_same, path_total, path_same, entries-empty}
+use Rattle.ufs_tree.proofs.CountLemmas.{one_if, any-count, count-insert, count-remove, count-replace, count-values}
 
 tied : (r : Ordering) → is_eq r ≡ true → r ≡ Equal
 tied Less e = cc
@@ -28,167 +25,125 @@ tied Equal e = refl
 tied Greater e = cc
 
 -- two numbers tie where they are equal
-pub number_test : (a b : ℕ) → eq_by_cmp nat_cmp a b ≡ eqb b a
-number_test a b =
+number_ties : (a b : ℕ) → eq_by_cmp nat_cmp a b ≡ eqb b a
+number_ties a b =
     both_ways (eq_by_cmp nat_cmp a b) (eqb b a)
     (λ e. eq-eqb b a (sym (nat_cmp-IsAntisymmetric a b (tied (nat_cmp a b) e))))
     (λ e. ap (eq_by_cmp nat_cmp a) (eqb-true b a e) ∙ (eq_by_cmp_equiv nat_cmp_total).refl a)
 
-pub count_at-insert : (counts : Counts) (f n g : ℕ) → count_at (map.insert counts f n) g ≡ cond (eqb f g) n (count_at counts g)
-count_at-insert counts f n g =
-    ap (λ o. unwrap_or o 0) (get-insert nat_cmp_total counts f n g ∙ ap (λ b. cond b (Some n) (map.get counts g)) (number_test g f)) ∙ by_test (eqb f g)
+-- and so do two paths
+path_ties : (a b : List ℕ) → eq_by_cmp path_cmp a b ≡ bytes_eq b a
+path_ties a b = (eq_by_cmp_equiv path_total).symm a b ∙ is_eq-slice_cmp b a
+
+pub path_is : (a b : List ℕ) → bytes_eq a b ≡ true → a ≡ b
+path_is a b e = path_same a b (tied (path_cmp a b) (is_eq-slice_cmp a b ∙ e))
+
+-- ---- one count more or less
+
+module _ {K : Type 0} {R : K → K → Ordering} (o : IsTotalOrder R) (test : K → K → Bool) (ties : (a b : K) → eq_by_cmp R a b ≡ test b a) (same : (a b : K) → test a b ≡ true → a ≡ b) where
+  count_at-insert : (counts : FinMap R ℕ) (f : K) (n : ℕ) (g : K) → count_at (map.insert counts f n) g ≡ cond (test f g) n (count_at counts g)
+  count_at-insert counts f n g =
+      ap (λ o. unwrap_or o 0) (get-insert o counts f n g ∙ ap (λ b. cond b (Some n) (map.get counts g)) (ties g f)) ∙ by_test (test f g)
+    where
+      by_test : (b : Bool) → unwrap_or (cond b (Some n) (map.get counts g)) 0 ≡ cond b n (count_at counts g)
+      by_test true = refl
+      by_test false = refl
+
+  count_at-remove : (counts : FinMap R ℕ) (f g : K) → count_at (map.remove counts f) g ≡ cond (test f g) 0 (count_at counts g)
+  count_at-remove counts f g =
+      ap (λ o. unwrap_or o 0) (get-remove o counts f g ∙ ap (λ b. cond b None (map.get counts g)) (ties g f)) ∙ by_test (test f g)
+    where
+      by_test : (b : Bool) → unwrap_or (cond b None (map.get counts g)) 0 ≡ cond b 0 (count_at counts g)
+      by_test true = refl
+      by_test false = refl
+
+  more : (counts counts' : FinMap R ℕ) (f : K) (n : ℕ) → n ≡ count_at counts f + 1 → counts' ≡ map.insert counts f n → (g : K) → count_at counts' g ≡ count_at counts g + cond (test f g) 1 0
+  more counts counts' f n is set g = ap (λ (m : FinMap R ℕ). count_at m g) set ∙ count_at-insert counts f n g ∙ by_test (test f g) refl
+    where
+      by_test : (b : Bool) → test f g ≡ b → cond b n (count_at counts g) ≡ count_at counts g + cond b 1 0
+      by_test true e = let at = ap (count_at counts) (same f g e) in omega (arith, at)
+      by_test false e = omega arith
+
+  last : (counts counts' : FinMap R ℕ) (f : K) (n : ℕ) → n ≡ count_at counts f → n ≤ 1 → counts' ≡ map.remove counts f → (g : K) → count_at counts' g ≡ count_at counts g - cond (test f g) 1 0
+  last counts counts' f n is few set g = ap (λ (m : FinMap R ℕ). count_at m g) set ∙ count_at-remove counts f g ∙ by_test (test f g) refl
+    where
+      by_test : (b : Bool) → test f g ≡ b → cond b 0 (count_at counts g) ≡ count_at counts g - cond b 1 0
+      by_test true e = let at = ap (count_at counts) (same f g e) in omega (arith, at)
+      by_test false e = omega arith
+
+  less : (counts counts' : FinMap R ℕ) (f : K) (n : ℕ) → n ≡ count_at counts f → counts' ≡ map.insert counts f (n - 1) → (g : K) → count_at counts' g ≡ count_at counts g - cond (test f g) 1 0
+  less counts counts' f n is set g = ap (λ (m : FinMap R ℕ). count_at m g) set ∙ count_at-insert counts f (n - 1) g ∙ by_test (test f g) refl
+    where
+      by_test : (b : Bool) → test f g ≡ b → cond b (n - 1) (count_at counts g) ≡ count_at counts g - cond b 1 0
+      by_test true e = let at = ap (count_at counts) (same f g e) in omega (arith, at)
+      by_test false e = omega arith
+
+-- one more of a file, one less that was the last, and one less of several
+pub count_more : (counts counts' : CountsByFile) (f n : ℕ) → n ≡ count_at counts f + 1 → counts' ≡ map.insert counts f n → (g : ℕ) → count_at counts' g ≡ count_at counts g + cond (eqb f g) 1 0
+count_more = more nat_cmp_total eqb number_ties eqb-true
+
+pub count_last : (counts counts' : CountsByFile) (f n : ℕ) → n ≡ count_at counts f → n ≤ 1 → counts' ≡ map.remove counts f → (g : ℕ) → count_at counts' g ≡ count_at counts g - cond (eqb f g) 1 0
+count_last = last nat_cmp_total eqb number_ties eqb-true
+
+pub count_less : (counts counts' : CountsByFile) (f n : ℕ) → n ≡ count_at counts f → counts' ≡ map.insert counts f (n - 1) → (g : ℕ) → count_at counts' g ≡ count_at counts g - cond (eqb f g) 1 0
+count_less = less nat_cmp_total eqb number_ties eqb-true
+
+-- the same of a directory
+pub dir_more : (counts counts' : CountsByDir) (d : List ℕ) (n : ℕ) → n ≡ count_at counts d + 1 → counts' ≡ map.insert counts d n → (g : List ℕ) → count_at counts' g ≡ count_at counts g + cond (bytes_eq d g) 1 0
+dir_more = more path_total bytes_eq path_ties path_is
+
+pub dir_last : (counts counts' : CountsByDir) (d : List ℕ) (n : ℕ) → n ≡ count_at counts d → n ≤ 1 → counts' ≡ map.remove counts d → (g : List ℕ) → count_at counts' g ≡ count_at counts g - cond (bytes_eq d g) 1 0
+dir_last = last path_total bytes_eq path_ties path_is
+
+pub dir_less : (counts counts' : CountsByDir) (d : List ℕ) (n : ℕ) → n ≡ count_at counts d → counts' ≡ map.insert counts d (n - 1) → (g : List ℕ) → count_at counts' g ≡ count_at counts g - cond (bytes_eq d g) 1 0
+dir_less = less path_total bytes_eq path_ties path_is
+
+-- a count above 0 is there
+pub count_there : {K : Type 0} {R : K → K → Ordering} (counts : FinMap R ℕ) (k : K) (n : ℕ) → n ≡ count_at counts k → 2 ≤ n → IsSome (map.get counts k)
+count_there counts k n is h = by (map.get counts k) is
   where
-    by_test : (b : Bool) → unwrap_or (cond b (Some n) (map.get counts g)) 0 ≡ cond b n (count_at counts g)
-    by_test true = refl
-    by_test false = refl
+    by : (o : Option ℕ) → n ≡ unwrap_or o 0 → IsSome o
+    by None e = absurd (omega arith)
+    by (Some m) e = refl
 
-pub count_at-remove : (counts : Counts) (f g : ℕ) → count_at (map.remove counts f) g ≡ cond (eqb f g) 0 (count_at counts g)
-count_at-remove counts f g =
-    ap (λ o. unwrap_or o 0) (get-remove nat_cmp_total counts f g ∙ ap (λ b. cond b None (map.get counts g)) (number_test g f)) ∙ by_test (eqb f g)
-  where
-    by_test : (b : Bool) → unwrap_or (cond b None (map.get counts g)) 0 ≡ cond b 0 (count_at counts g)
-    by_test true = refl
-    by_test false = refl
+-- no count yet
+pub no_count : {K : Type 0} {R : K → K → Ordering} (counts : FinMap R ℕ) → counts ≡ map.empty → (k : K) → count_at counts k ≡ 0
+no_count {R = R} counts is k = ap (λ (m : FinMap R ℕ). count_at m k) is ∙ ap (λ o. unwrap_or o 0) (get-empty R k)
 
-both_none : (a b : ℕ) → (ltb 0 a || ltb 0 b) ≡ ltb 0 (a + b)
-both_none a b = grind (arith, lt-ltb)
+-- ---- descriptors
 
--- a file is live exactly where it has a holder
-pub live_by_holders : (paths : Paths) (fds : Fds) (f : ℕ) → is_live paths fds f ≡ ltb 0 (holders paths fds f)
-live_by_holders paths fds f =
-    let a = any-count (is_node_of f) (map.values paths) in
-    let b = any-count (is_desc_of f) (map.values fds) in
-    (λ i. a i || b i) ∙ both_none _ _
+abbrev opens_of : Fds → ℕ → ℕ
+opens_of fds f = count_by (is_desc_of f) (map.values fds)
 
-one_of : (d : Desc) (f g : ℕ) → d.file ≡ Some f → one_if (is_desc_of g) d ≡ cond (eqb f g) 1 0
-one_of d f g named = ap (λ o. cond (is_number g o) 1 0) named
+module _ (fds : Fds) (opens : CountsByFile) (counted : IsCountedByDesc fds opens) where
+  pub counted_opened : (fds' : Fds) (opens' : CountsByFile) (key : ℕ × ℕ) (d : Desc) → map.get fds key ≡ None → fds' ≡ map.insert fds key d
+      → ((f : ℕ) → count_at opens' f ≡ count_at opens f + cond (is_number f d.file) 1 0) → IsCountedByDesc fds' opens'
+  counted_opened fds' opens' key d none is more f =
+      let test : (ℕ × ℕ) × Desc → Bool = λ e. is_desc_of f e.1 in
+      let had = count-values (is_desc_of f) (entries fds) in
+      let has = ap (λ (m : Fds). opens_of m f) is ∙ count-values (is_desc_of f) (entries (map.insert fds key d)) in
+      omega (arith, counted f, more f, had, has, count-insert fd_cmp test fd_total fds key d none)
 
-module _ (paths : Paths) (fds : Fds) where
-  -- a directory is made
-  pub holders_dir : (path : List ℕ) (g : ℕ) → map.get paths path ≡ None → holders (map.insert paths path Dir) fds g ≡ holders paths fds g
-  holders_dir path g none = let more = count-insert path_cmp (is_node_of g) path_total paths path Dir none in omega arith
+  pub counted_moved : (fds' : Fds) (key : ℕ × ℕ) (old d : Desc) → map.get fds key ≡ Some old → d.file ≡ old.file → fds' ≡ map.insert fds key d → IsCountedByDesc fds' opens
+  counted_moved fds' key old d there same is f =
+      let test : (ℕ × ℕ) × Desc → Bool = λ e. is_desc_of f e.1 in
+      let had = count-values (is_desc_of f) (entries fds) in
+      let has = ap (λ (m : Fds). opens_of m f) is ∙ count-values (is_desc_of f) (entries (map.insert fds key d)) in
+      let one : one_if (is_desc_of f) d ≡ one_if (is_desc_of f) old = ap (λ o. cond (is_number f o) 1 0) same in
+      omega (arith, counted f, had, has, one, count-replace fd_cmp test fd_total fd_same fds key old d there)
 
-  -- a path for a file
-  pub holders_named : (path : List ℕ) (f g : ℕ) → map.get paths path ≡ None → holders (map.insert paths path (File f)) fds g ≡ holders paths fds g + cond (eqb f g) 1 0
-  holders_named path f g none = let more = count-insert path_cmp (is_node_of g) path_total paths path (File f) none in omega arith
+  pub counted_closed : (fds' : Fds) (opens' : CountsByFile) (key : ℕ × ℕ) (d : Desc) → map.get fds key ≡ Some d → fds' ≡ map.remove fds key
+      → ((f : ℕ) → count_at opens' f ≡ count_at opens f - cond (is_number f d.file) 1 0) → IsCountedByDesc fds' opens'
+  counted_closed fds' opens' key d there is less f =
+      let test : (ℕ × ℕ) × Desc → Bool = λ e. is_desc_of f e.1 in
+      let had = count-values (is_desc_of f) (entries fds) in
+      let has = ap (λ (m : Fds). opens_of m f) is ∙ count-values (is_desc_of f) (entries (map.remove fds key)) in
+      omega (arith, counted f, less f, had, has, count-remove fd_cmp test fd_total fd_same fds key d there)
 
-  -- a descriptor for a file
-  pub holders_opened : (key : ℕ × ℕ) (d : Desc) (f g : ℕ) → map.get fds key ≡ None → d.file ≡ Some f → holders paths (map.insert fds key d) g ≡ holders paths fds g + cond (eqb f g) 1 0
-  holders_opened key d f g none named = let more = count-insert fd_cmp (is_desc_of g) fd_total fds key d none in omega (arith, one_of d f g named)
+  -- a descriptor of the file is open exactly where its count isn't 0
+  pub open_by_count : (f n : ℕ) → n ≡ count_at opens f → ltb 0 n ≡ list_any (is_desc_of f) (map.values fds)
+  open_by_count f n is = ap (ltb 0) (is ∙ counted f) ∙ sym (any-count (is_desc_of f) (map.values fds))
 
-  -- a descriptor moves on, on the same file
-  pub holders_moved : (key : ℕ × ℕ) (old d : Desc) (g : ℕ) → map.get fds key ≡ Some old → d.file ≡ old.file → holders paths (map.insert fds key d) g ≡ holders paths fds g
-  holders_moved key old d g there same =
-      let more = count-replace fd_cmp (is_desc_of g) fd_total fd_same fds key old d there in
-      let one : one_if (is_desc_of g) d ≡ one_if (is_desc_of g) old = ap (λ o. cond (is_number g o) 1 0) same in
-      omega arith
-
-  -- a file's descriptor is closed
-  pub holders_closed : (key : ℕ × ℕ) (d : Desc) (f g : ℕ) → map.get fds key ≡ Some d → d.file ≡ Some f → holders paths fds g ≡ holders paths (map.remove fds key) g + cond (eqb f g) 1 0
-  holders_closed key d f g there named = let more = count-remove fd_cmp (is_desc_of g) fd_total fd_same fds key d there in omega (arith, one_of d f g named)
-
-  -- a directory's descriptor is closed
-  pub holders_closed_dir : (key : ℕ × ℕ) (d : Desc) (g : ℕ) → map.get fds key ≡ Some d → d.file ≡ None → holders paths fds g ≡ holders paths (map.remove fds key) g
-  holders_closed_dir key d g there named =
-      let more = count-remove fd_cmp (is_desc_of g) fd_total fd_same fds key d there in
-      let one : one_if (is_desc_of g) d ≡ 0 = ap (λ o. cond (is_number g o) 1 0) named in
-      omega arith
-
-  -- a path holds its file
-  pub holder_path : (path : List ℕ) (f : ℕ) → map.get paths path ≡ Some (File f) → ltb 0 (holders paths fds f) ≡ true
-  holder_path path f there =
-      let less = count-remove path_cmp (is_node_of f) path_total path_same paths path (File f) there in
-      let one : cond {A = ℕ} (eqb f f) 1 0 ≡ 1 = ap (λ b. cond b 1 0) (eq-eqb f f refl) in
-      lt-ltb 0 _ (omega arith)
-
-  -- a descriptor holds its file
-  pub holder_desc : (key : ℕ × ℕ) (d : Desc) (f : ℕ) → map.get fds key ≡ Some d → d.file ≡ Some f → ltb 0 (holders paths fds f) ≡ true
-  holder_desc key d f there named =
-      let one : cond {A = ℕ} (eqb f f) 1 0 ≡ 1 = ap (λ b. cond b 1 0) (eq-eqb f f refl) in
-      lt-ltb 0 _ (omega (arith, holders_closed key d f f there named))
-
-module _ (paths : Paths) (fds : Fds) (counts : Counts) (counted : IsCounted paths fds counts) where
-  same_holders : (f g : ℕ) → eqb f g ≡ true → holders paths fds f ≡ holders paths fds g
-  same_holders f g e = ap (holders paths fds) (eqb-true f g e)
-
-  pub counted_dir : (path : List ℕ) → map.get paths path ≡ None → IsCounted (map.insert paths path Dir) fds counts
-  counted_dir path none = λ g. counted g ∙ sym (holders_dir paths fds path g none)
-
-  pub counted_opened : (key : ℕ × ℕ) (d : Desc) (f : ℕ) → map.get fds key ≡ None → d.file ≡ Some f
-      → IsCounted paths (map.insert fds key d) (map.insert counts f (count_at counts f + 1))
-  counted_opened key d f none named = λ g. count_at-insert counts f (count_at counts f + 1) g ∙ by_test g (eqb f g) refl ∙ sym (holders_opened paths fds key d f g none named)
-    where
-      by_test : (g : ℕ) (b : Bool) → eqb f g ≡ b → cond b (count_at counts f + 1) (count_at counts g) ≡ holders paths fds g + cond (eqb f g) 1 0
-      by_test g true e = rw e (omega (arith, counted f, same_holders f g e))
-      by_test g false e = rw e (omega (arith, counted g))
-
-  pub counted_made : (path : List ℕ) (key : ℕ × ℕ) (d : Desc) (f : ℕ) → map.get paths path ≡ None → map.get fds key ≡ None → d.file ≡ Some f → holders paths fds f ≡ 0
-      → IsCounted (map.insert paths path (File f)) (map.insert fds key d) (map.insert counts f 2)
-  counted_made path key d f absent none named fresh = λ g.
-      count_at-insert counts f 2 g ∙ by_test g (eqb f g) refl
-      ∙ ap (λ k. k + cond (eqb f g) 1 0) (sym (holders_named paths fds path f g absent))
-      ∙ sym (holders_opened (map.insert paths path (File f)) fds key d f g none named)
-    where
-      by_test : (g : ℕ) (b : Bool) → eqb f g ≡ b → cond b 2 (count_at counts g) ≡ holders paths fds g + cond (eqb f g) 1 0 + cond (eqb f g) 1 0
-      by_test g true e = rw e (omega (arith, same_holders f g e))
-      by_test g false e = rw e (omega (arith, counted g))
-
-  pub counted_moved : (key : ℕ × ℕ) (old d : Desc) → map.get fds key ≡ Some old → d.file ≡ old.file → IsCounted paths (map.insert fds key d) counts
-  counted_moved key old d there same = λ g. counted g ∙ sym (holders_moved paths fds key old d g there same)
-
-  pub counted_closed : (counts' : Counts) (key : ℕ × ℕ) (d : Desc) (f : ℕ) → map.get fds key ≡ Some d → d.file ≡ Some f
-      → ((g : ℕ) → count_at counts' g ≡ count_at counts g - cond (eqb f g) 1 0) → IsCounted paths (map.remove fds key) counts'
-  counted_closed counts' key d f there named less = λ g. omega (arith, counted g, less g, holders_closed paths fds key d f g there named)
-
-  pub counted_closed_dir : (key : ℕ × ℕ) (d : Desc) → map.get fds key ≡ Some d → d.file ≡ None → IsCounted paths (map.remove fds key) counts
-  counted_closed_dir key d there named = λ g. counted g ∙ holders_closed_dir paths fds key d g there named
-
-  -- a count is taken back
-  pub counted_back : (f n : ℕ) → holders paths fds f ≡ 0 → IsCounted paths fds (map.remove (map.insert counts f n) f)
-  counted_back f n fresh = λ g. count_at-remove (map.insert counts f n) f g ∙ ap (cond (eqb f g) 0) (count_at-insert counts f n g) ∙ by_test g (eqb f g) refl
-    where
-      by_test : (g : ℕ) (b : Bool) → eqb f g ≡ b → cond b 0 (cond b n (count_at counts g)) ≡ holders paths fds g
-      by_test g true e = sym (sym (same_holders f g e) ∙ fresh)
-      by_test g false e = counted g
-
-pub same_counted : (paths paths' : Paths) (fds fds' : Fds) (counts counts' : Counts) → paths' ≡ paths → fds' ≡ fds → counts' ≡ counts → IsCounted paths fds counts → IsCounted paths' fds' counts'
-same_counted paths paths' fds fds' counts counts' p f c counted = λ g. ap (λ (m : Counts). count_at m g) c ∙ counted g ∙ sym (λ i. holders (p i) (f i) g)
-
--- one holder less, which was the last
-pub count_last : (counts : Counts) (f n g : ℕ) → n ≡ count_at counts f → n ≤ 1 → count_at (map.remove counts f) g ≡ count_at counts g - cond (eqb f g) 1 0
-count_last counts f n g is few = count_at-remove counts f g ∙ by_test (eqb f g) refl
-  where
-    by_test : (b : Bool) → eqb f g ≡ b → cond b 0 (count_at counts g) ≡ count_at counts g - cond b 1 0
-    by_test true e = let at = ap (count_at counts) (eqb-true f g e) in omega (arith, at)
-    by_test false e = omega arith
-
--- one holder less of several
-pub count_less : (counts : Counts) (f n g : ℕ) → n ≡ count_at counts f → count_at (map.insert counts f (n - 1)) g ≡ count_at counts g - cond (eqb f g) 1 0
-count_less counts f n g is = count_at-insert counts f (n - 1) g ∙ by_test (eqb f g) refl
-  where
-    by_test : (b : Bool) → eqb f g ≡ b → cond b (n - 1) (count_at counts g) ≡ count_at counts g - cond b 1 0
-    by_test true e = let at = ap (count_at counts) (eqb-true f g e) in omega (arith, at)
-    by_test false e = omega arith
-
-module _ (paths : Paths) (fds : Fds) (counts : Counts) (counted : IsCounted paths fds counts) where
-  -- a directory is made, or the request is refused
-  pub counted_mkdir : (path : List ℕ) → IsCounted (make_dir paths path).0 fds counts
-  counted_mkdir path = by_refusal (path_refusal paths path) (node_at paths path) refl refl
-    where
-      by_refusal : (r : Option Errno) (n : Option Node) → path_refusal paths path ≡ r → node_at paths path ≡ n → IsCounted (make_dir paths path).0 fds counts
-      by_refusal (Some e) n p q = rw p counted
-      by_refusal None (Some n) p q = rw (p, q) counted
-      by_refusal None None p q = rw (p, q) (counted_dir paths fds counts counted (whole_path (components path)) q)
-
-  pub counted_made_dir : (path : List ℕ) (new : Paths) (r : Result Reply Memory) → IfOk r (λ reply. make_dir paths path ≡ (new, reply)) → OnErr r (new ≡ paths) → IsCounted new fds counts
-  counted_made_dir path new (Ok reply) ok err = subst (λ (p : Paths). IsCounted p fds counts) (ap (λ (p : Paths × Reply). p.0) ok) (counted_mkdir path)
-  counted_made_dir path new (Err e) ok err = subst (λ (p : Paths). IsCounted p fds counts) (sym err) counted
-
-  -- the count tells whether the file stays live
-  pub live_after : (key : ℕ × ℕ) (d : Desc) (f : ℕ) → map.get fds key ≡ Some d → d.file ≡ Some f → is_live paths (map.remove fds key) f ≡ ltb 1 (count_at counts f)
-  live_after key d f there named =
-      let one : cond {A = ℕ} (eqb f f) 1 0 ≡ 1 = ap (λ b. cond b 1 0) (eq-eqb f f refl) in
-      live_by_holders paths (map.remove fds key) f ∙ one_less _ _ (omega (arith, counted f, holders_closed paths fds key d f f there named))
-    where
-      one_less : (m n : ℕ) → n ≡ m + 1 → ltb 0 m ≡ ltb 1 n
-      one_less m n e = grind (arith, lt-ltb, le-ltb)
+pub none_open : (fds : Fds) (opens : CountsByFile) → fds ≡ map.empty → opens ≡ map.empty → IsCountedByDesc fds opens
+none_open fds opens is none f =
+    no_count opens none f ∙ sym (ap (λ (m : Fds). opens_of m f) is ∙ ap (λ es. count_by (is_desc_of f) (values_of es)) (entries-empty fd_cmp Desc))

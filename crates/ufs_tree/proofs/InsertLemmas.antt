@@ -1,10 +1,10 @@
--- What a map has after insertions at one key.
-use Rattle.std.proofs.Common.{◌≡◌, cond, Some, ap, sym, refl, ◌∙◌}
+-- What a map has after insertions and removals at one key.
+use Rattle.std.proofs.Common.{◌≡◌, cond, Some, None, ap, sym, refl, ◌∙◌}
 use Rattle.std.specs.declared.cmp.Ordering.{Ordering}
 use Rattle.std.specs.declared.cmp.Ordering.TheVariants.{Less, Equal, Greater}
 use Rattle.std.specs.Ordering.{is_eq, eq_by_cmp}
 use Rattle.std.specs.Cmp.{IsTotalOrder, eq_by_cmp_equiv}
-use Rattle.std.specs.FinMap.{FinMap, IsAntisymmetric, get, insert, get-insert, get_tied, same_map}
+use Rattle.std.specs.FinMap.{FinMap, IsAntisymmetric, get, insert, remove, get-insert, get-remove, get_tied, same_map}
 
 module _ {K X : Type 0} {R : K → K → Ordering} (o : IsTotalOrder R) where
   pub get_inserted : (m : FinMap R X) (k : K) (v : X) → get (insert m k v) k ≡ Some v
@@ -29,3 +29,12 @@ module _ {K X : Type 0} {R : K → K → Ordering} (o : IsTotalOrder R) where
         both q Less is = rw is refl
         both q Equal is = rw is (sym there ∙ get_tied o m q k is)
         both q Greater is = rw is refl
+
+    -- nothing is there to be removed
+    pub remove_absent : (m : FinMap R X) (k : K) → get m k ≡ None → remove m k ≡ m
+    remove_absent m k none = same_map o same _ _ (λ q. get-remove o m k q ∙ both q (R q k) refl)
+      where
+        both : (q : K) (r : Ordering) → R q k ≡ r → cond (is_eq r) None (get m q) ≡ get m q
+        both q Less is = refl
+        both q Equal is = sym none ∙ get_tied o m q k is
+        both q Greater is = refl

@@ -1,26 +1,24 @@
 -- One more path in the tree that a session begins with.
-use Rattle.std.proofs.Common.{◌≡◌, ℕ, ◌+◌, ◌≤◌, ◌<◌, List, [], ◌∷◌, ◌++◌, Bool, true, false, cond, eqb, ltb, Some, None, Option, ap, sym, refl, subst, ◌∙◌, arith, length, get_or, take, drop, take-append-drop, append-nil}
+use Rattle.std.proofs.Common.{◌≡◌, ℕ, ◌+◌, ◌≤◌, ◌<◌, List, [], ◌∷◌, ◌++◌, Bool, true, false, cond, Some, None, Option, ap, sym, refl, subst, ◌∙◌, arith, length, get_or, take, drop, take-append-drop, append-nil, drop-cons, add-one}
 use Rattle.std.proofs.lemmas.Bool.{le-ltb}
-use Rattle.std.proofs.lemmas.Bool.Decides.{nat_tests}
 use Rattle.std.proofs.lemmas.List.{map-append, map_more}
-use Rattle.std.specs.Prelude.{is_some, unwrap_or}
-use Rattle.std.specs.Ordering.{nat_cmp}
-use Rattle.std.specs.Cmp.{nat_cmp_total}
+use Rattle.std.specs.Prelude.{is_some}
+use Rattle.std.specs.Ordering.{eq_by_cmp}
+use Rattle.std.specs.Cmp.{nat_cmp_total, eq_by_cmp_equiv}
 use Rattle.std.specs.FinMap as map
-use Rattle.std.specs.FinMap.{find, is_sorted, nat_cmp-IsAntisymmetric, from_entries_push, get-insert, get-empty}
+use Rattle.std.specs.FinMap.{find, is_sorted, nat_cmp-IsAntisymmetric, from_entries_push, get-from_entries, get-entries, same_map}
 use Rattle.ufs_model.specs.Order.{path_cmp}
-use Rattle.ufs_model.specs.Holders.{Counts, count_at}
-use Rattle.ufs_model.specs.PathEntries.{pairs_of, are_rising}
-use Rattle.ufs_model.specs.Placed.{with_path, IsOneEach}
+use Rattle.ufs_model.specs.PathEntries.{pairs_of, are_rising, nodes_of}
+use Rattle.ufs_tree.specs.Placed.{with_path}
+use Rattle.ufs_model.specs.Paths.{IsWhole}
 use Rattle.ufs_model.specs.PosixTree.{PosixTree}
-use Rattle.ufs_model.specs.Start.{start_from, next_from, next_after, node_from, paths_from, bytes_from}
+use Rattle.ufs_model.specs.Start.{PathNodes, IsPathTree, start_from, next_from, next_after, node_from, paths_from, bytes_from}
 use Rattle.ufs_model.specs.declared.data.PathEntry.{PathEntry}
 use Rattle.ufs_model.specs.declared.data.PathNode.{PathNode}
 use Rattle.ufs_model.specs.declared.data.PathNode.TheVariants as path_node
-use Rattle.ufs_model.proofs.SeenLemmas.{path_total, path_same}
-use Rattle.ufs_model.proofs.RisingLemmas.{find-earlier}
-use Rattle.ufs_model.proofs.KeyLemmas.{from_place}
-use Rattle.ufs_model.proofs.StartLemmas.{Pairs, paths_from-push, bytes_from-push, next_from-push, next_from-append, next_rises, stands-paths_from, held-bytes_from, within_zero, tie}
+use Rattle.ufs_tree.proofs.SeenLemmas.{path_total, path_same}
+use Rattle.ufs_tree.proofs.RisingLemmas.{find-earlier}
+use Rattle.ufs_tree.proofs.StartLemmas.{Pairs, paths_from-push, bytes_from-push, next_from-push, next_from-append, next_rises, stands-paths_from, held-bytes_from, within_zero}
 
 unfound : {X : Type 0} (o : Option X) → is_some o ≡ false → o ≡ None
 unfound None is = refl
@@ -48,6 +46,19 @@ start_from-push es (path, path_node.File bytes) none =
 numbers_fit : (es : Pairs) (e : List ℕ × PathNode) (later : Pairs) → next_after (start_from es).next e.1 ≤ (start_from (es ++ e ∷ later)).next
 numbers_fit es e later = rw (next_from-append 0 es (e ∷ later)) (next_rises (next_after (next_from 0 es) e.1) later)
 
+-- the entries from a place on
+from_place : {A : Type 0} (es : List A) (i : ℕ) (d : A) → i < length es → drop i es ≡ get_or es i d ∷ drop (i + 1) es
+from_place es i d h = drop-cons es i d h ∙ ap (λ k. get_or es i d ∷ drop k es) (sym (add-one i))
+
+-- an entry of a list is found in it
+found_there : (front : Pairs) (e : List ℕ × PathNode) (later : Pairs) → is_some (find path_cmp e.0 (front ++ e ∷ later)) ≡ true
+found_there [] e later = ap (λ b. is_some (cond b (Some e.1) (find path_cmp e.0 later))) ((eq_by_cmp_equiv path_total).refl e.0)
+found_there (x ∷ front) e later = by (eq_by_cmp path_cmp e.0 x.0) (found_there front e later)
+  where
+    by : (b : Bool) → is_some (find path_cmp e.0 (front ++ e ∷ later)) ≡ true → is_some (cond b (Some x.1) (find path_cmp e.0 (front ++ e ∷ later))) ≡ true
+    by true h = refl
+    by false h = h
+
 module _ (es : List PathEntry) (i : ℕ) (d : PathEntry) (below : i < length es) where
   divided : pairs_of (take i es) ++ ((get_or es i d).path, (get_or es i d).node) ∷ pairs_of (drop (i + 1) es) ≡ pairs_of es
   divided =
@@ -67,24 +78,21 @@ module _ (es : List PathEntry) (i : ℕ) (d : PathEntry) (below : i < length es)
       let none = find-earlier path_cmp path_total (pairs_of (take i es)) e (pairs_of (drop (i + 1) es)) (ap (is_sorted path_cmp) divided ∙ rising) in
       placed ∙ ap (λ (t : PosixTree). with_path t e.0 e.1) is ∙ start_from-push (pairs_of (take i es)) e none ∙ ap start_from (sym (map_more (λ (e : PathEntry). (e.path, e.node)) es i d below))
 
-pub none_yet : (counts : Counts) → counts ≡ map.empty → IsOneEach counts 0
-none_yet counts is f = ap (λ (m : Counts). count_at m f) is ∙ ap (λ o. unwrap_or o 0) (get-empty nat_cmp f) ∙ none_below f
-  where
-    none_below : (f : ℕ) → ◌≡◌ {A = ℕ} 0 (cond (ltb f 0) 1 0)
-    none_below f = grind (arith, nat_tests)
+  -- the path is whole, and nothing stands at it yet
+  pub whole_entry : IsPathTree (nodes_of es) → IsWhole (get_or es i d).path
+  whole_entry tree =
+      let e : List ℕ × PathNode = ((get_or es i d).path, (get_or es i d).node) in
+      tree.whole e.0 (ap is_some (get-from_entries path_total (pairs_of es) e.0) ∙ ap (λ all. is_some (find path_cmp e.0 all)) (sym divided)
+      ∙ found_there (pairs_of (take i es)) e (pairs_of (drop (i + 1) es)))
 
-counted : (next f : ℕ) → eqb next f ≡ true → ◌≡◌ {A = ℕ} 1 (cond (ltb f (next + 1)) 1 0)
-counted next f same = grind (arith, nat_tests)
+  pub absent_entry : (t : PosixTree) → are_rising es ≡ true → t ≡ start_from (pairs_of (take i es)) → map.get t.paths (get_or es i d).path ≡ None
+  absent_entry t rising is =
+      let e : List ℕ × PathNode = ((get_or es i d).path, (get_or es i d).node) in
+      let front = pairs_of (take i es) in
+      let none = find-earlier path_cmp path_total front e (pairs_of (drop (i + 1) es)) (ap (is_sorted path_cmp) divided ∙ rising) in
+      ap (λ (u : PosixTree). map.get u.paths e.0) is ∙ get-from_entries path_total (paths_from 0 front) e.0
+      ∙ unfound _ (stands-paths_from e.0 0 front ∙ ap is_some none)
 
-uncounted : (next f : ℕ) → eqb next f ≡ false → ◌≡◌ {A = ℕ} (cond (ltb f next) 1 0) (cond (ltb f (next + 1)) 1 0)
-uncounted next f other = grind (arith, nat_tests)
-
-pub one_more_each : (counts counts' : Counts) (next : ℕ) → IsOneEach counts next → counts' ≡ map.insert counts next 1 → IsOneEach counts' (next + 1)
-one_more_each counts counts' next once is f =
-    ap (λ (m : Counts). count_at m f) is
-    ∙ ap (λ o. unwrap_or o 0) (get-insert nat_cmp_total counts next 1 f ∙ ap (λ b. cond b (Some 1) (map.get counts f)) (tie f next))
-    ∙ pick (eqb next f) refl
-  where
-    pick : (b : Bool) → eqb next f ≡ b → unwrap_or (cond b (Some 1) (map.get counts f)) 0 ≡ cond (ltb f (next + 1)) 1 0
-    pick true same = counted next f same
-    pick false other = once f ∙ uncounted next f other
+-- the entries of a tree of paths make it anew
+pub anew : (es : List PathEntry) (nodes : PathNodes) → pairs_of es ≡ map.entries nodes → nodes_of es ≡ nodes
+anew es nodes is = ap map.from_entries is ∙ same_map path_total path_same _ _ (λ q. get-from_entries path_total (map.entries nodes) q ∙ sym (get-entries nodes q))

@@ -1,7 +1,6 @@
 -- A tree to which paths are added by rising path.
-use Rattle.std.specs.Prelude.{ℕ, ◌+◌, ◌≡◌, List, nat_lt, if◌then◌else◌}
+use Rattle.std.specs.Prelude.{ℕ, ◌+◌, List}
 use Rattle.std.specs.FinMap as map
-use Rattle.ufs_model.specs.Holders.{Counts, count_at}
 use Rattle.ufs_model.specs.PosixTree.{PosixTree}
 use Rattle.ufs_model.specs.declared.data.Node.TheVariants.{Dir, File}
 use Rattle.ufs_model.specs.declared.data.PathNode.{PathNode}
@@ -11,7 +10,3 @@ use Rattle.ufs_model.specs.declared.data.PathNode.TheVariants as path_node
 abbrev pub with_path : PosixTree → List ℕ → PathNode → PosixTree
 with_path t path path_node.Dir = record t { paths = map.insert t.paths path Dir }
 with_path t path (path_node.File bytes) = record t { paths = map.insert t.paths path (File t.next); bytes = map.insert t.bytes t.next bytes; next = t.next + 1 }
-
--- each file that has a number has one holder
-abbrev pub IsOneEach : Counts → ℕ → Type 0
-IsOneEach counts next = (f : ℕ) → count_at counts f ≡ (if nat_lt f next then 1 else 0)

@@ -1,25 +1,27 @@
 // What each client's descriptors stand for, with what has to be known of them without a search.
 ghost use Rattle.std.specs.Prelude.{◌≡◌, OnOk, OnErr, IfSome, None};
 ghost use Rattle.std.specs.FinMap as map;
+ghost use Rattle.ufs_model.specs.Descriptors.{moved};
 
+use crate::desc_map::DescMap;
+use crate::file_counts::FileCounts;
 use std::alloc::{AllocError, Global};
-use std::collections::BTreeMap;
 use std::marker::Model;
 use ufs_model::Desc;
 
 /// What each client's descriptors stand for.
 #[derive(Drop)]
 pub struct FdMap {
-    entries: BTreeMap<(u8, u64), Desc>,
-    /// How many descriptors a file has, where it has any.
-    opens: BTreeMap<u32, u64>,
+    entries: DescMap,
+    /// How many descriptors each file has.
+    opens: FileCounts,
 }
 
 impl Model for FdMap {
     ghost use Rattle.std.specs.FinMap as map;
     ghost use Rattle.ufs_model.specs.declared.data.Desc.{Desc};
     ghost use Rattle.ufs_model.specs.Order.{fd_cmp};
-    ghost use Rattle.ufs_tree.specs.Seen.{seen};
+    ghost use Rattle.ufs_tree.specs.Counted.{IsCountedByDesc};
     ghost use Rattle.std.specs.Coded.{coded×, coded_ℕ};
     ghost use Rattle.ufs_model.specs.contracts.data.Desc as desc;
 
@@ -27,7 +29,9 @@ impl Model for FdMap {
 
     ghost coded = { map.code (coded× coded_ℕ coded_ℕ) desc.the_row.coded };
 
-    ghost view = { λ m. seen fd_cmp (λ k. k) m.entries };
+    ghost view = { λ m. m.entries };
+
+    ghost invariant = { λ m. IsCountedByDesc m.entries m.opens };
 }
 
 impl FdMap {
@@ -42,15 +46,15 @@ impl FdMap {
         ensures { result ≡ map.empty }
     {
         FdMap {
-            entries: BTreeMap::new(alloc),
-            opens: BTreeMap::new(alloc),
+            entries: DescMap::new(alloc),
+            opens: FileCounts::new(alloc),
         }
     }
 
     pub fn get(&self, client: u8, fd: u64) -> Option<Desc>
         ensures { result ≡ map.get self.now (client, fd) }
     {
-        self.entries.get(&(client, fd)).copied()
+        self.entries.get(client, fd)
     }
 
     /// Opens a descriptor that isn't open.
@@ -59,7 +63,14 @@ impl FdMap {
         ensures ok { OnOk result (self.new ≡ map.insert self.old (client, fd) desc) }
         ensures err { OnErr result (self.new ≡ self.old) }
     {
-        unreachable!()
+        self.opens.raise(desc.file)?;
+        match self.entries.insert(client, fd, desc) {
+            Ok(()) => Ok(()),
+            Err(e) => {
+                self.opens.lower(desc.file);
+                Err(e)
+            }
+        }
     }
 
     /// Moves the offset of an open descriptor. Takes no memory.
@@ -67,14 +78,23 @@ impl FdMap {
         ensures moved { (d : Desc) → map.get self.old (client, fd) ≡ Some d → self.new ≡ map.insert self.old (client, fd) (moved d at) }
         ensures none { map.get self.old (client, fd) ≡ None → self.new ≡ self.old }
     {
-        unreachable!()
+        let Some(desc) = self.get(client, fd) else {
+            return;
+        };
+        match self.entries.insert(client, fd, moved(desc, at)) {
+            Ok(()) => {}
+            Err(_) => unreachable!(),
+        }
     }
 
     /// Takes no memory.
     pub fn close(&mut self, client: u8, fd: u64)
         ensures { self.new ≡ map.remove self.old (client, fd) }
     {
-        unreachable!()
+        if let Some(desc) = self.get(client, fd) {
+            self.entries.remove(client, fd);
+            self.opens.lower(desc.file);
+        }
     }
 
     /// The lowest free descriptor of the client.
@@ -94,6 +114,12 @@ impl FdMap {
     pub fn has_file(&self, file: u32) -> bool
         ensures { result ≡ list_any (is_desc_of file) (map.values self.now) }
     {
-        unreachable!()
+        self.opens.get(file) > 0
     }
+}
+
+fn moved(desc: Desc, at: u64) -> Desc
+    ensures { result ≡ moved desc at }
+{
+    Desc { at, ..desc }
 }

@@ -3,14 +3,16 @@
 
 mod answer;
 mod change;
+mod desc_map;
+mod dir_counts;
 mod fd_map;
+mod file_counts;
 mod file_map;
-mod legal;
+mod node_map;
+mod path;
 mod path_map;
 mod refusal;
 mod start;
-#[cfg(test)]
-mod tests;
 mod tree;
 
 pub use tree::Tree;

@@ -1,20 +1,27 @@
 // What stands at each whole path, with what has to be known of it without a search.
-ghost use Rattle.std.specs.Prelude.{◌≡◌, OnOk, OnErr, IfOk, None, IsTrue, false};
+ghost use Rattle.std.specs.Prelude.{◌≡◌, ◌+◌, ◌-◌, ℕ, List, OnOk, OnErr, if◌then◌else◌};
 ghost use Rattle.std.specs.FinMap as map;
+ghost use Rattle.ufs_model.specs.Directories.{is_entry_of};
+ghost use Rattle.ufs_model.specs.Paths.{IsWhole};
+ghost use Rattle.ufs_model.specs.PosixTree.{is_number, is_node_of};
+ghost use Rattle.ufs_tree.specs.Counted.{count_at};
 
+use crate::dir_counts::DirCounts;
+use crate::file_counts::FileCounts;
+use crate::node_map::NodeMap;
+use crate::path;
 use std::alloc::{AllocError, Global};
-use std::collections::BTreeMap;
 use std::marker::Model;
 use ufs_model::{NameList, Node};
 
 /// What stands at each whole path.
 #[derive(Drop)]
 pub struct PathMap {
-    nodes: BTreeMap<Vec<u8>, Node>,
-    /// How many entries a directory has, where it has any.
-    entries: BTreeMap<Vec<u8>, u64>,
-    /// How many paths name a file, where any does.
-    links: BTreeMap<u32, u64>,
+    nodes: NodeMap,
+    /// How many entries each directory has.
+    entries: DirCounts,
+    /// How many paths name each file.
+    links: FileCounts,
 }
 
 impl Model for PathMap {
@@ -23,21 +30,23 @@ impl Model for PathMap {
     ghost use Rattle.ufs_model.specs.declared.data.Node.{Node};
     ghost use Rattle.ufs_model.specs.contracts.data.Node as node;
     ghost use Rattle.ufs_model.specs.Order.{path_cmp};
-    ghost use Rattle.ufs_tree.specs.Seen.{seen};
+    ghost use Rattle.ufs_tree.specs.Counted.{IsCountedByPath};
     ghost use Rattle.std.specs.Coded.{coded_ℕ, coded_list};
 
     ghost Value = { map.FinMap path_cmp Node };
 
     ghost coded = { map.code (coded_list coded_ℕ) node.the_row.coded };
 
-    ghost view = { λ m. seen path_cmp (λ k. k.items) m.nodes };
+    ghost view = { λ m. m.nodes };
+
+    ghost invariant = { λ m. IsCountedByPath m.nodes m.entries m.links };
 }
 
 impl PathMap {
-    ghost use Rattle.std.specs.Prelude.{◌≡◌, ◌≢◌, OnOk, OnErr, IfOk, None, IsTrue, true, false};
+    ghost use Rattle.std.specs.Prelude.{◌≡◌, ◌≢◌, OnOk, OnErr, IfOk, None, true, false};
     ghost use Rattle.std.specs.List.{list_any};
     ghost use Rattle.std.specs.FinMap as map;
-    ghost use Rattle.ufs_model.specs.Paths.{IsWhole, parent_of};
+    ghost use Rattle.ufs_model.specs.Paths.{IsWhole};
     ghost use Rattle.ufs_model.specs.PosixTree.{IsNamespace, stands, has_dir, is_node_of, root};
     ghost use Rattle.ufs_model.specs.Directories.{entry_count, entry_names, has_entries, is_below, renamed};
 
@@ -45,16 +54,16 @@ impl PathMap {
         ensures { result ≡ map.empty }
     {
         PathMap {
-            nodes: BTreeMap::new(alloc),
-            entries: BTreeMap::new(alloc),
-            links: BTreeMap::new(alloc),
+            nodes: NodeMap::new(alloc),
+            entries: DirCounts::new(alloc),
+            links: FileCounts::new(alloc),
         }
     }
 
     pub fn get(&self, path: &[u8]) -> Option<Node>
         ensures { result ≡ map.get self.now path.now }
     {
-        self.nodes.get(path).copied()
+        self.nodes.get(path)
     }
 
     /// Puts what stands at a path at which nothing stands.
@@ -64,34 +73,46 @@ impl PathMap {
         ensures ok { OnOk result (self.new ≡ map.insert self.old path.items node) }
         ensures err { OnErr result (self.new ≡ self.old) }
     {
-        unreachable!()
+        let file = number_of(node);
+        self.links.raise(file)?;
+        match place(&mut self.nodes, &mut self.entries, alloc, path, node) {
+            Ok(()) => Ok(()),
+            Err(e) => {
+                self.links.lower(file);
+                Err(e)
+            }
+        }
     }
 
     /// Takes no memory.
     pub fn remove(&mut self, path: &[u8])
         ensures { self.new ≡ map.remove self.old path.now }
     {
-        unreachable!()
+        if let Some(node) = self.get(path) {
+            self.nodes.remove(path);
+            lower_parent(&mut self.entries, path);
+            self.links.lower(number_of(node));
+        }
     }
 
     /// How many entries a directory has.
     pub fn entry_count(&self, dir: &[u8]) -> u64
         ensures { result ≡ entry_count self.now dir.now }
     {
-        unreachable!()
+        self.entries.get(dir)
     }
 
     pub fn has_entries(&self, dir: &[u8]) -> bool
         ensures { result ≡ has_entries self.now dir.now }
     {
-        unreachable!()
+        self.entries.get(dir) > 0
     }
 
     /// Whether a path names the file.
     pub fn names_file(&self, file: u32) -> bool
         ensures { result ≡ list_any (is_node_of file) (map.values self.now) }
     {
-        unreachable!()
+        self.links.get(file) > 0
     }
 
     /// The names of a directory's entries, in rising byte order.
@@ -117,5 +138,62 @@ impl PathMap {
         ensures err { OnErr result (self.new ≡ self.old) }
     {
         unreachable!()
+    }
+}
+
+// The number of the file, if it is one.
+fn number_of(node: Node) -> Option<u32>
+    ensures { (f : ℕ) → is_number f result ≡ is_node_of f node }
+{
+    match node {
+        Node::Dir => None,
+        Node::File(file) => Some(file),
+    }
+}
+
+// One entry more in the directory above.
+fn raise_parent(entries: &mut DirCounts, alloc: Global, path: &[u8]) -> Result<(), AllocError>
+    requires { IsWhole path.now }
+    ensures ok { OnOk result ((d : List ℕ) → count_at entries.new d ≡ count_at entries.old d + (if is_entry_of d path.now then 1 else 0)) }
+    ensures err { OnErr result (entries.new ≡ entries.old) }
+{
+    if path::is_root(path) {
+        return Ok(());
+    }
+    entries.raise(alloc, path::parent(path))
+}
+
+// One entry less in the directory above. Takes no memory.
+fn lower_parent(entries: &mut DirCounts, path: &[u8])
+    requires { IsWhole path.now }
+    ensures { (d : List ℕ) → count_at entries.new d ≡ count_at entries.old d - (if is_entry_of d path.now then 1 else 0) }
+{
+    if path::is_root(path) {
+        return;
+    }
+    entries.lower(path::parent(path));
+}
+
+// Puts a node at a path at which nothing stands, and counts it in the directory above.
+fn place(
+    nodes: &mut NodeMap,
+    entries: &mut DirCounts,
+    alloc: Global,
+    path: Vec<u8>,
+    node: Node,
+) -> Result<(), AllocError>
+    requires { IsWhole path.items }
+    ensures ok { OnOk result (nodes.new ≡ map.insert nodes.old path.items node) }
+    ensures counted { OnOk result ((d : List ℕ) → count_at entries.new d ≡ count_at entries.old d + (if is_entry_of d path.items then 1 else 0)) }
+    ensures err { OnErr result (nodes.new ≡ nodes.old) }
+    ensures err_counted { OnErr result ((d : List ℕ) → count_at entries.new d ≡ count_at entries.old d) }
+{
+    raise_parent(entries, alloc, path.as_slice())?;
+    match nodes.insert(path, node) {
+        Ok(()) => Ok(()),
+        Err(back) => {
+            lower_parent(entries, back.as_slice());
+            Err(AllocError)
+        }
     }
 }

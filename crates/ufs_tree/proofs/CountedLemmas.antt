@@ -1,0 +1,114 @@
+-- The counts of a map of paths, as paths come and go.
+use Rattle.std.proofs.Common.{◌≡◌, ℕ, ◌+◌, ◌-◌, List, Bool, true, false, cond, Some, None, ap, sym, refl, subst, ◌∙◌, arith, ltb, length, filter}
+use Rattle.std.specs.Prelude.{is_some}
+use Rattle.std.specs.declared.cmp.Ordering.{Ordering}
+use Rattle.std.specs.declared.cmp.Ordering.TheVariants.{Less, Equal, Greater}
+use Rattle.std.specs.List.{count_by, list_any}
+use Rattle.std.specs.Ordering.{is_eq, eq_by_cmp}
+use Rattle.std.specs.Map.{keys_of, values_of}
+use Rattle.std.specs.FinMap as map
+use Rattle.std.specs.FinMap.{get-insert, get-remove, get-empty, entries}
+use Rattle.ufs_model.specs.Order.{path_cmp}
+use Rattle.ufs_model.specs.Directories.{is_entry_of, entry_count, has_entries}
+use Rattle.ufs_model.specs.Paths.{IsWhole}
+use Rattle.ufs_model.specs.PosixTree.{Paths, stands, is_node_of}
+use Rattle.ufs_model.specs.declared.data.Node.{Node}
+use Rattle.ufs_tree.specs.Counted.{CountsByFile, CountsByDir, count_at, IsCountedByPath}
+use Rattle.ufs_tree.proofs.SeenLemmas.{path_total, path_same, entries-empty}
+use Rattle.ufs_tree.proofs.CountLemmas.{any-count, count-insert, count-remove, count-replace, count-values, count-keys, length-filtered}
+use Rattle.ufs_tree.proofs.HolderLemmas.{no_count}
+
+abbrev links_of : Paths → ℕ → ℕ
+links_of paths f = count_by (is_node_of f) (map.values paths)
+
+entries_counted : (paths : Paths) (d : List ℕ) → entry_count paths d ≡ count_by (λ (e : List ℕ × Node). is_entry_of d e.0) (entries paths)
+entries_counted paths d = length-filtered (is_entry_of d) (map.keys paths) ∙ count-keys (is_entry_of d) (entries paths)
+
+links_counted : (paths : Paths) (f : ℕ) → links_of paths f ≡ count_by (λ (e : List ℕ × Node). is_node_of f e.1) (entries paths)
+links_counted paths f = count-values (is_node_of f) (entries paths)
+
+-- no path yet
+pub none_counted : (paths : Paths) (dirs : CountsByDir) (links : CountsByFile) → paths ≡ map.empty → dirs ≡ map.empty → links ≡ map.empty → IsCountedByPath paths dirs links
+none_counted paths dirs links p d l = record {
+  whole = λ path stands. let no : false ≡ true = sym (ap is_some (ap (λ (m : Paths). map.get m path) p ∙ get-empty path_cmp path)) ∙ stands in cc;
+  entries_are = λ dir. no_count dirs d dir ∙ sym (ap (λ (m : Paths). entry_count m dir) p ∙ ap (λ es. length (filter (is_entry_of dir) (keys_of es))) (entries-empty path_cmp Node));
+  links_are = λ f. no_count links l f ∙ sym (ap (λ (m : Paths). links_of m f) p ∙ ap (λ es. count_by (is_node_of f) (values_of es)) (entries-empty path_cmp Node));
+}
+
+module _ (paths : Paths) (dirs : CountsByDir) (links : CountsByFile) (counted : IsCountedByPath paths dirs links) where
+  pub same_counted : (paths' : Paths) (dirs' : CountsByDir) (links' : CountsByFile) → paths' ≡ paths → ((d : List ℕ) → count_at dirs' d ≡ count_at dirs d) → ((f : ℕ) → count_at links' f ≡ count_at links f) → IsCountedByPath paths' dirs' links'
+  same_counted paths' dirs' links' p d l = record {
+    whole = λ path there. counted.whole path (ap (λ (m : Paths). stands m path) (sym p) ∙ there);
+    entries_are = λ dir. d dir ∙ counted.entries_are dir ∙ ap (λ (m : Paths). entry_count m dir) (sym p);
+    links_are = λ f. l f ∙ counted.links_are f ∙ ap (λ (m : Paths). links_of m f) (sym p);
+  }
+
+  pub added_counted : (paths' : Paths) (dirs' : CountsByDir) (links' : CountsByFile) (path : List ℕ) (node : Node) → map.get paths path ≡ None → IsWhole path → paths' ≡ map.insert paths path node
+      → ((d : List ℕ) → count_at dirs' d ≡ count_at dirs d + cond (is_entry_of d path) 1 0) → ((f : ℕ) → count_at links' f ≡ count_at links f + cond (is_node_of f node) 1 0) → IsCountedByPath paths' dirs' links'
+  added_counted paths' dirs' links' path node none whole is d l = record {
+    whole = λ q there. by q (path_cmp q path) refl (sym (ap is_some (ap (λ (m : Paths). map.get m q) is ∙ get-insert path_total paths path node q)) ∙ there);
+    entries_are = λ dir.
+        let test : List ℕ × Node → Bool = λ e. is_entry_of dir e.0 in
+        let had = entries_counted paths dir in
+        let has = ap (λ (m : Paths). entry_count m dir) is ∙ entries_counted (map.insert paths path node) dir in
+        omega (arith, d dir, counted.entries_are dir, had, has, count-insert path_cmp test path_total paths path node none);
+    links_are = λ f.
+        let test : List ℕ × Node → Bool = λ e. is_node_of f e.1 in
+        let had = links_counted paths f in
+        let has = ap (λ (m : Paths). links_of m f) is ∙ links_counted (map.insert paths path node) f in
+        omega (arith, l f, counted.links_are f, had, has, count-insert path_cmp test path_total paths path node none);
+  }
+    where
+      by : (q : List ℕ) (r : Ordering) → path_cmp q path ≡ r → is_some (cond (is_eq r) (Some node) (map.get paths q)) ≡ true → IsWhole q
+      by q Less e there = counted.whole q there
+      by q Equal e there = subst IsWhole (sym (path_same q path e)) whole
+      by q Greater e there = counted.whole q there
+
+  pub replaced_counted : (paths' : Paths) (links' : CountsByFile) (path : List ℕ) (old node : Node) → map.get paths path ≡ Some old → paths' ≡ map.insert paths path node
+      → ((f : ℕ) → count_at links' f + cond (is_node_of f old) 1 0 ≡ count_at links f + cond (is_node_of f node) 1 0) → IsCountedByPath paths' dirs links'
+  replaced_counted paths' links' path old node there is l = record {
+    whole = λ q stands. by q (path_cmp q path) refl (sym (ap is_some (ap (λ (m : Paths). map.get m q) is ∙ get-insert path_total paths path node q)) ∙ stands);
+    entries_are = λ dir.
+        let test : List ℕ × Node → Bool = λ e. is_entry_of dir e.0 in
+        let had = entries_counted paths dir in
+        let has = ap (λ (m : Paths). entry_count m dir) is ∙ entries_counted (map.insert paths path node) dir in
+        omega (arith, counted.entries_are dir, had, has, count-replace path_cmp test path_total path_same paths path old node there);
+    links_are = λ f.
+        let test : List ℕ × Node → Bool = λ e. is_node_of f e.1 in
+        let had = links_counted paths f in
+        let has = ap (λ (m : Paths). links_of m f) is ∙ links_counted (map.insert paths path node) f in
+        omega (arith, l f, counted.links_are f, had, has, count-replace path_cmp test path_total path_same paths path old node there);
+  }
+    where
+      by : (q : List ℕ) (r : Ordering) → path_cmp q path ≡ r → is_some (cond (is_eq r) (Some node) (map.get paths q)) ≡ true → IsWhole q
+      by q Less e there' = counted.whole q there'
+      by q Equal e there' = subst IsWhole (sym (path_same q path e)) (counted.whole path (ap is_some there))
+      by q Greater e there' = counted.whole q there'
+
+  pub removed_counted : (paths' : Paths) (dirs' : CountsByDir) (links' : CountsByFile) (path : List ℕ) (node : Node) → map.get paths path ≡ Some node → paths' ≡ map.remove paths path
+      → ((d : List ℕ) → count_at dirs' d ≡ count_at dirs d - cond (is_entry_of d path) 1 0) → ((f : ℕ) → count_at links' f ≡ count_at links f - cond (is_node_of f node) 1 0) → IsCountedByPath paths' dirs' links'
+  removed_counted paths' dirs' links' path node there is d l = record {
+    whole = λ q stands. counted.whole q (still (eq_by_cmp path_cmp q path) q (sym (ap is_some (ap (λ (m : Paths). map.get m q) is ∙ get-remove path_total paths path q)) ∙ stands));
+    entries_are = λ dir.
+        let test : List ℕ × Node → Bool = λ e. is_entry_of dir e.0 in
+        let had = entries_counted paths dir in
+        let has = ap (λ (m : Paths). entry_count m dir) is ∙ entries_counted (map.remove paths path) dir in
+        omega (arith, d dir, counted.entries_are dir, had, has, count-remove path_cmp test path_total path_same paths path node there);
+    links_are = λ f.
+        let test : List ℕ × Node → Bool = λ e. is_node_of f e.1 in
+        let had = links_counted paths f in
+        let has = ap (λ (m : Paths). links_of m f) is ∙ links_counted (map.remove paths path) f in
+        omega (arith, l f, counted.links_are f, had, has, count-remove path_cmp test path_total path_same paths path node there);
+  }
+    where
+      still : (b : Bool) (q : List ℕ) → is_some (cond b None (map.get paths q)) ≡ true → is_some (map.get paths q) ≡ true
+      still true q e = cc
+      still false q e = e
+
+  -- a directory has entries exactly where its count isn't 0
+  pub entries_by_count : (dir : List ℕ) (n : ℕ) → n ≡ count_at dirs dir → ltb 0 n ≡ has_entries paths dir
+  entries_by_count dir n is = ap (ltb 0) (is ∙ counted.entries_are dir ∙ length-filtered (is_entry_of dir) (map.keys paths)) ∙ sym (any-count (is_entry_of dir) (map.keys paths))
+
+  -- and so is a file named
+  pub named_by_count : (f n : ℕ) → n ≡ count_at links f → ltb 0 n ≡ list_any (is_node_of f) (map.values paths)
+  named_by_count f n is = ap (ltb 0) (is ∙ counted.links_are f) ∙ sym (any-count (is_node_of f) (map.values paths))

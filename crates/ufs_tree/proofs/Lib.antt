@@ -1,0 +1,16 @@
+pub mod SeenLemmas
+pub mod InsertLemmas
+pub mod ByteLemmas
+pub mod FileLemmas
+pub mod FdLemmas
+pub mod CountLemmas
+pub mod HolderLemmas
+pub mod PathLemmas
+pub mod CountedLemmas
+pub mod BelowLemmas
+pub mod WalkLemmas
+pub mod PartLemmas
+pub mod AllowedLemmas
+pub mod RisingLemmas
+pub mod StartLemmas
+pub mod PlacedLemmas

@@ -1,0 +1,11 @@
+use Rattle.std.proofs.Common.{ap, ◌∙◌}
+use Rattle.std.specs.FinMap as map
+use Rattle.ufs_model.specs.Order.{path_cmp}
+use Rattle.ufs_tree.proofs.SeenLemmas.{remove-seen, path_total, path_same}
+use Rattle.ufs_tree.proofs.dir_counts.DirCounts.remove.Goals as goal
+
+pub returns : goal.returns
+returns c =
+    let at = c.args.dir.now in
+    remove-seen path_cmp (λ k. k.items) path_total path_same c.self.inside.entries c.remove-number.new.self at c.len-count.ensures.ordered c.remove-number.ensures.entries
+    ∙ ap (λ m. map.remove m at) c.self.view_is

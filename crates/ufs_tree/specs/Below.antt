@@ -1,0 +1,19 @@
+-- What a whole path consists of, and what lies below a directory, by the text.
+use Rattle.std.specs.Prelude.{ℕ, ◌≡◌, ◌≤◌, ◌<◌, ◌-◌, ◌==◌, List, [], Bool, true, not, length, drop, slice_index, if◌then◌else◌}
+use Rattle.std.specs.List.{list_all}
+use Rattle.std.specs.Str.{bytes_eq}
+use Rattle.ufs_model.specs.PosixTree.{root}
+
+-- what stands before the slash in the paths of a directory's entries
+abbrev pub front : List ℕ → List ℕ
+front dir = if bytes_eq dir root then [] else dir
+
+-- no slash stands in it
+abbrev pub is_free : List ℕ → Bool
+is_free name = list_all (λ b. not (b == 47)) name
+
+-- the place after the last slash, or the start where there is none
+pub record IsNameStart (path : List ℕ) (end : ℕ) : Type 0 where
+  pub within : end ≤ length path
+  pub free : is_free (drop end path) ≡ true
+  pub slash : 0 < end → slice_index path (end - 1) ≡ 47

@@ -1,0 +1,130 @@
+// The reply to a request that isn't refused.
+ghost use Rattle.std.specs.Prelude.{◌≡◌, IfOk, length};
+ghost use Rattle.ufs_model.specs.FileBytes as file_bytes;
+
+use crate::refusal::{seek_to, text};
+use crate::tree::Parts;
+use std::alloc::{AllocError, Global};
+use ufs_model::{Bytes, Memory, Node, Op, Reply, Whence};
+
+/// How many bytes there are from a place on, at most n.
+pub(crate) fn count_from(bytes: &[u8], at: u64, n: u32) -> usize
+    ensures { result ≡ length (file_bytes.part bytes.now at n) }
+{
+    let size = bytes.len();
+    if at >= size as u64 {
+        return 0;
+    }
+    (size - at as usize).min(n as usize)
+}
+
+/// The bytes from a place on, at most n.
+fn part(alloc: Global, bytes: &[u8], at: u64, n: u32) -> Result<Vec<u8>, AllocError>
+    ensures { IfOk result (λ part. part.items ≡ file_bytes.part bytes.now at n) }
+{
+    let size = bytes.len() as u64;
+    if at >= size {
+        return Ok(Vec::new(alloc));
+    }
+    let start = at as usize;
+    let count = (bytes.len() - start).min(n as usize);
+    bytes[start..start + count].to_vec(alloc)
+}
+
+impl Parts {
+    ghost use Rattle.std.specs.Prelude.{◌≡◌, IfOk, None, List, ℕ};
+    ghost use Rattle.ufs_model.specs.Bounds.{IsBounded};
+    ghost use Rattle.ufs_model.specs.PosixTree.{IsTree};
+    ghost use Rattle.ufs_model.specs.Posix as posix;
+    ghost use Rattle.ufs_model.specs.Refusals.{refusal, tree_refusal};
+    ghost use Rattle.ufs_model.specs.Walk.{node_at};
+    ghost use Rattle.ufs_model.specs.Paths.{whole_of, text_refusal};
+    ghost use Rattle.ufs_model.specs.declared.data.Op.TheVariants.{Seek};
+    ghost use Rattle.ufs_model.specs.declared.data.Reply.TheVariants.{Got, Names};
+    ghost use Rattle.ufs_model.specs.Directories.{entry_names};
+    ghost use Rattle.ufs_tree.specs.Parts.{tree_of};
+
+    fn read(&self, client: u8, fd: u64, n: u32) -> Result<Reply, Memory>
+        ensures { IfOk result (λ reply. reply ≡ Got (posix.bytes_read (tree_of self.now) client fd n)) }
+    {
+        let desc = self.opened(client, fd);
+        let got = part(self.alloc, self.content(desc.file), desc.at, n)?;
+        Ok(Reply::Got(Bytes::from_vec(got)))
+    }
+
+    fn read_at(&self, client: u8, fd: u64, n: u32, at: u64) -> Result<Reply, Memory>
+        ensures { IfOk result (λ reply. reply ≡ Got (file_bytes.part (posix.file_bytes (tree_of self.now) client fd) at n)) }
+    {
+        let desc = self.opened(client, fd);
+        let got = part(self.alloc, self.content(desc.file), at, n)?;
+        Ok(Reply::Got(Bytes::from_vec(got)))
+    }
+
+    /// Where a `seek` leads that isn't refused.
+    pub(crate) fn new_offset(&self, client: u8, fd: u64, whence: Whence, by: i64) -> u64
+        requires { tree_refusal (tree_of self.now) client (Seek fd whence by) ≡ None }
+        ensures { result ≡ posix.new_offset (tree_of self.now) client (Seek fd whence by) }
+    {
+        let desc = self.opened(client, fd);
+        match seek_to(whence, by, desc, self.content(desc.file).len() as u64) {
+            Some(at) => at,
+            None => 0,
+        }
+    }
+
+    /// A file's size, or the number of a directory's entries. A number of 2^32 or more can't be told.
+    fn stat(&self, path: &Bytes) -> Result<Reply, Memory>
+        ensures { IfOk result (λ reply. reply ≡ posix.stat_reply (tree_of self.now) (whole_of path.now) (node_at self.now.paths path.now)) }
+    {
+        let text = text(self.alloc, path)?;
+        match self.paths.get(text.whole()) {
+            None => Ok(Reply::Done),
+            Some(Node::File(file)) => Ok(Reply::IsFile {
+                size: self.content(Some(file)).len() as u64,
+            }),
+            Some(Node::Dir) => match u32::try_from(self.paths.entry_count(text.whole())) {
+                Ok(entries) => Ok(Reply::IsDir { entries }),
+                Err(_) => Err(Memory),
+            },
+        }
+    }
+
+    fn list(&self, path: &Bytes) -> Result<Reply, Memory>
+        requires tree { IsTree (tree_of self.now) }
+        requires allowed { text_refusal path.now ≡ None }
+        ensures { IfOk result (λ reply. reply ≡ Names (entry_names self.now.paths (whole_of path.now))) }
+    {
+        let text = text(self.alloc, path)?;
+        Ok(Reply::Names(self.paths.entry_names(self.alloc, text.whole())?))
+    }
+
+    /// The reply to a request that isn't refused.
+    pub(crate) fn answer(&self, client: u8, op: &Op) -> Result<Reply, Memory>
+        requires bounded { IsBounded op.now }
+        requires tree { IsTree (tree_of self.now) }
+        requires allowed { refusal (tree_of self.now) client op.now ≡ None }
+        ensures { IfOk result (λ reply. reply ≡ posix.answer (tree_of self.now) client op.now) }
+    {
+        match op {
+            Op::OpenFile { .. } => Ok(Reply::Fd(self.fds.lowest(client).unwrap_or(0))),
+            Op::Read { fd, n } => self.read(client, *fd, *n),
+            Op::Pread { fd, n, at } => self.read_at(client, *fd, *n, *at),
+            Op::Write { bytes, .. } | Op::Pwrite { bytes, .. } => {
+                Ok(Reply::Count(bytes.as_slice().len() as u32))
+            }
+            Op::Seek { fd, whence, by } => {
+                Ok(Reply::At(self.new_offset(client, *fd, *whence, *by)))
+            }
+            Op::Stat { path } => self.stat(path),
+            Op::List { path } => self.list(path),
+            Op::Close { .. }
+            | Op::Trunc { .. }
+            | Op::Fsync { .. }
+            | Op::Sync
+            | Op::Mkdir { .. }
+            | Op::Rmdir { .. }
+            | Op::Unlink { .. }
+            | Op::Rename { .. } => Ok(Reply::Done),
+        }
+    }
+}
