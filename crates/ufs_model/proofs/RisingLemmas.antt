@@ -9,7 +9,7 @@ use Rattle.std.proofs.Math.Dec.{T}
 use Rattle.std.specs.FinMap.{FinMap, IsAntisymmetric, find, is_sorted, entries, entries_sorted, from_entries, get-entries, get-from_entries, empty, len-empty, len-entries}
 use Rattle.std.specs.FinMap.Entries.{below_all, same_entries}
 
-less : (r : Ordering) → is_lt r ≡ true → r ≡ Less
+pub less : (r : Ordering) → is_lt r ≡ true → r ≡ Less
 less Less e = refl
 less Equal e = cc
 less Greater e = cc

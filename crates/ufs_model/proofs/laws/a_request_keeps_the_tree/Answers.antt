@@ -1,4 +1,4 @@
-use Rattle.ufs_model.proofs.LawLemmas.{keeps}
+use Rattle.ufs_model.proofs.KeepLemmas.{keeps}
 use Rattle.ufs_model.proofs.laws.a_request_keeps_the_tree.Goals as goal
 
 pub returns : goal.returns
