@@ -139,7 +139,7 @@ pub open_by : (a b : Fds) (file : ℕ) → ((client : ℕ) → holds a client fi
 open_by a b file same =
     any_value (is_desc_of file) (fin.entries a)
     ∙ both_ways (list_any (λ e. is_desc_of file e.1) (fin.entries a)) (list_any (λ e. is_desc_of file e.1) (fin.entries b))
-      (open_way a b file (λ client is. sym (same client) ∙ is)) (open_way b a file (λ client is. same client ∙ is))
+    (open_way a b file (λ client is. sym (same client) ∙ is)) (open_way b a file (λ client is. same client ∙ is))
     ∙ sym (any_value (is_desc_of file) (fin.entries b))
 
 -- ---- descriptors that come, move and go

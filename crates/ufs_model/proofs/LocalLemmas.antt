@@ -200,9 +200,9 @@ module _ (t u : PosixTree) (client : ℕ) where
       }
   open_alike rest agree whole m (Some (File f)) among =
       elim m.trunc as (λ b. ((g : ℕ) → IsPartOf (opened_part t.next true (Some f) b) (name.File g) → IsPartOf rest (name.File g))
-          → Alike (name.Client client ∷ name.Names ∷ rest) client t u
-              (with_fd (cond b (with_bytes t (Some f) []) t) client (new_fd t client) (desc_of m (Some f)))
-              (with_fd (cond b (with_bytes u (Some f) []) u) client (new_fd u client) (desc_of m (Some f)))) [
+      → Alike (name.Client client ∷ name.Names ∷ rest) client t u
+      (with_fd (cond b (with_bytes t (Some f) []) t) client (new_fd t client) (desc_of m (Some f)))
+      (with_fd (cond b (with_bytes u (Some f) []) u) client (new_fd u client) (desc_of m (Some f)))) [
         | true ↦ λ among. record {
           fds = fds;
           bytes = bytes_put (name.Client client ∷ name.Names ∷ rest) t.bytes u.bytes (λ g at. agree (name.File g) at) f f [] [] refl refl (inr (inr (among f (inl refl))));
@@ -233,8 +233,8 @@ module _ (t u : PosixTree) (client : ℕ) where
       let file : Option ℕ = file_of (fin.get t.paths to) in
       let file' : Option ℕ = file_of (fin.get u.paths to) in
       elim (bytes_eq from to) as (λ b. ((f : ℕ) → IsPartOf (dropped_part (cond b t (forget (with_names t (renamed t.paths from to) t.fds) file)) file) (name.File f) → IsPartOf rest (name.File f))
-          → Alike (name.Client client ∷ name.Names ∷ rest) client t u
-              (cond b t (forget (with_names t (renamed t.paths from to) t.fds) file)) (cond b u (forget (with_names u (renamed u.paths from to) u.fds) file'))) [
+      → Alike (name.Client client ∷ name.Names ∷ rest) client t u
+      (cond b t (forget (with_names t (renamed t.paths from to) t.fds) file)) (cond b u (forget (with_names u (renamed u.paths from to) u.fds) file'))) [
         | true ↦ λ _. nothing (name.Names ∷ rest) agree
         | false ↦ λ among. forgotten rest agree (renamed t.paths from to) (renamed u.paths from to) t.fds u.fds file file'
             (ap (λ (p : Paths). renamed p from to) names.0) (fds_stay client t.fds u.fds (agree (name.Client client) (inl refl))) (ap (λ (p : Paths). file_of (fin.get p to)) names.0) among
@@ -264,8 +264,8 @@ module _ (t u : PosixTree) (client : ℕ) where
       let o = opened_same t u client _ fd agree in
       let b = bytes_same t u client fd agree in
       elim (eqb (length fresh) 0) as (λ b. Alike (name.Client client ∷ file_part (opened t client fd).file) client t u
-          (cond b t (with_fd (cond b t (with_bytes t (opened t client fd).file (put_at (file_bytes t client fd) (place_of (opened t client fd) (file_bytes t client fd)) fresh))) client fd (moved (opened t client fd) (place_of (opened t client fd) (file_bytes t client fd) + length fresh))))
-          (cond b u (with_fd (cond b u (with_bytes u (opened u client fd).file (put_at (file_bytes u client fd) (place_of (opened u client fd) (file_bytes u client fd)) fresh))) client fd (moved (opened u client fd) (place_of (opened u client fd) (file_bytes u client fd) + length fresh))))) [
+      (cond b t (with_fd (cond b t (with_bytes t (opened t client fd).file (put_at (file_bytes t client fd) (place_of (opened t client fd) (file_bytes t client fd)) fresh))) client fd (moved (opened t client fd) (place_of (opened t client fd) (file_bytes t client fd) + length fresh))))
+      (cond b u (with_fd (cond b u (with_bytes u (opened u client fd).file (put_at (file_bytes u client fd) (place_of (opened u client fd) (file_bytes u client fd)) fresh))) client fd (moved (opened u client fd) (place_of (opened u client fd) (file_bytes u client fd) + length fresh))))) [
         | true ↦ nothing _ agree
         | false ↦ bytes_and_fd _ agree fd (opened t client fd).file (opened u client fd).file _ _ desc.0 _ _
             (ap (λ (d : Desc). d.file) o) (λ i. put_at (b i) (place_of (o i) (b i)) fresh) (λ f at. at)
@@ -276,8 +276,8 @@ module _ (t u : PosixTree) (client : ℕ) where
       let o = opened_same t u client _ fd agree in
       let b = bytes_same t u client fd agree in
       elim (eqb (length fresh) 0) as (λ b. Alike (name.Client client ∷ file_part (opened t client fd).file) client t u
-          (cond b t (with_bytes t (opened t client fd).file (put_at (file_bytes t client fd) at fresh)))
-          (cond b u (with_bytes u (opened u client fd).file (put_at (file_bytes u client fd) at fresh)))) [
+      (cond b t (with_bytes t (opened t client fd).file (put_at (file_bytes t client fd) at fresh)))
+      (cond b u (with_bytes u (opened u client fd).file (put_at (file_bytes u client fd) at fresh)))) [
         | true ↦ nothing _ agree
         | false ↦ bytes_alone _ agree (opened t client fd).file (opened u client fd).file _ _ (ap (λ (d : Desc). d.file) o) (λ i. put_at (b i) at fresh) (λ f at. at)
       ]

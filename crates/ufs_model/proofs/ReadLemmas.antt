@@ -64,8 +64,8 @@ reads : (t : PosixTree) (client fd file n at : ℕ) (d : Desc) → desc_at t cli
     → (posix t client (op.Pread fd n at)).1 ≡ Got (part (content t.bytes (Some file)) at n)
 reads t client fd file n at d there named read =
     let none : refusal t client (op.Pread fd n at) ≡ None =
-        ap (λ o. first_of (read_refusal o) None) there
-        ∙ (λ i. first_of (first_of (refused_if (not (read i)) Ebadf) (refused_if (is_none (named i)) Eisdir)) None) in
+    ap (λ o. first_of (read_refusal o) None) there
+    ∙ (λ i. first_of (first_of (refused_if (not (read i)) Ebadf) (refused_if (is_none (named i)) Eisdir)) None) in
     ap (λ r. (served t client (op.Pread fd n at) r).1) none
     ∙ ap (λ o. Got (part (content t.bytes (unwrap_or o closed).file) at n)) there
     ∙ ap (λ f. Got (part (content t.bytes f) at n)) named
