@@ -23,6 +23,7 @@ use Rattle.ufs_model.specs.declared.data.Op.TheVariants as op
 use Rattle.ufs_model.specs.declared.data.PartName.{PartName}
 use Rattle.ufs_model.specs.declared.data.PartName.TheVariants as name
 use Rattle.ufs_model.specs.declared.data.Whence.{Whence}
+use Rattle.ufs_model.proofs.AllowedLemmas.{first_none, passed}
 use Rattle.ufs_model.proofs.DescriptorLemmas.{moved_holds}
 use Rattle.ufs_model.proofs.AlikeLemmas.{FdsAlike, fds_stay, fds_put, fds_gone, holds_after, live_alike, BytesAlike, bytes_stay, bytes_put, bytes_dropped, NamesAlike, Alike, touched_alike, others_alike}
 use Rattle.ufs_model.proofs.ToldLemmas.{own_same, own_of, names_of, opened_same, bytes_same, new_fd_same, tree_same, offset_same, answer_same}
@@ -71,14 +72,6 @@ kept_alike parts t u (Some f) same live among =
 
 -- ---- refusals
 
-pub first_none : (a b : Option Errno) → first_of a b ≡ None → (a ≡ None) × (b ≡ None)
-first_none None b e = (refl, e)
-first_none (Some x) b e = cc
-
-not_refused : (b : Bool) (e : Errno) → refused_if b e ≡ None → b ≡ false
-not_refused true e is = cc
-not_refused false e is = refl
-
 -- what isn't refused has a descriptor
 read_open : (o : Option Desc) → read_refusal o ≡ None → (d : Desc) × (o ≡ Some d)
 read_open None e = cc
@@ -104,7 +97,7 @@ rmdir_no_file paths path e =
     let named = first_none (refused_if (is_root path) Ebusy) _ walked.1 in
     let there = first_none (refused_if (is_none (node_at paths path)) Enoent) _ named.1 in
     let dir = first_none (refused_if (is_file (node_at paths path)) Enotdir) (refused_if (has_entries paths (whole_of path)) Enotempty) there.1 in
-    no_file (node_at paths path) (not_refused (is_file (node_at paths path)) Enotdir dir.0)
+    no_file (node_at paths path) (passed (is_file (node_at paths path)) Enotdir dir.0)
 
 -- ---- changes, each alike in both trees
 

@@ -6,7 +6,7 @@ use Rattle.std.specs.Prelude.{is_none, unwrap_or}
 use Rattle.std.specs.Ordering.{eq_by_cmp, nat_cmp}
 use Rattle.std.specs.Cmp.{IsTotalOrder, eq_by_cmp_equiv, nat_cmp_total}
 use Rattle.std.specs.FinMap as fin
-use Rattle.std.specs.FinMap.{get-insert}
+use Rattle.std.specs.FinMap.{nat_cmp-IsAntisymmetric}
 use Rattle.ufs_model.specs.Order.{fd_cmp}
 use Rattle.ufs_model.specs.Paths.{first_of, refused_if}
 use Rattle.ufs_model.specs.PosixTree.{PosixTree, desc_at}
@@ -21,8 +21,10 @@ use Rattle.ufs_model.specs.declared.data.Errno.TheVariants.{Ebadf, Eisdir}
 use Rattle.ufs_model.specs.declared.data.Op.{Op}
 use Rattle.ufs_model.specs.declared.data.Op.TheVariants as op
 use Rattle.ufs_model.specs.declared.data.Reply.TheVariants.{Count, Got}
-use Rattle.ufs_model.proofs.OrderLemmas.{fd_total}
-use Rattle.ufs_model.proofs.LocalLemmas.{first_none, write_open}
+use Rattle.ufs_model.proofs.OrderLemmas.{fd_total, fd_same}
+use Rattle.ufs_model.proofs.AllowedLemmas.{first_none}
+use Rattle.ufs_model.proofs.LookupLemmas.{inserted_here}
+use Rattle.ufs_model.proofs.LocalLemmas.{write_open}
 
 -- ---- bytes
 
@@ -47,9 +49,6 @@ no_bytes [] old at e = refl
 no_bytes (x ∷ fresh) old at e = absurd (grind arith)
 
 -- ---- requests
-
-get_inserted : {K X : Type 0} {R : K → K → _} (o : IsTotalOrder R) (m : fin.FinMap R X) (k : K) (v : X) → fin.get (fin.insert m k v) k ≡ Some v
-get_inserted o m k v = get-insert o m k v k ∙ ap (λ b. cond b (Some v) (fin.get m k)) ((eq_by_cmp_equiv o).refl k)
 
 -- a request that has an answer wasn't refused
 counted : (t : PosixTree) (client : ℕ) (request : Op) (n : ℕ) → (posix t client request).1 ≡ Count n → refusal t client request ≡ None
@@ -93,7 +92,7 @@ module _ (t : PosixTree) (client fd : ℕ) (fresh : List ℕ) where
       by_test : (b : Bool) → eqb (length fresh) 0 ≡ b → (posix (cond b t (with_bytes t (Some file) (put_at (content t.bytes (Some file)) at fresh))) reader (op.Pread fd' (length fresh) at)).1 ≡ Got fresh
       by_test true empty = reads t reader fd' file (length fresh) at may.desc may.is may.named may.read ∙ ap Got (no_bytes fresh (content t.bytes (Some file)) at empty)
       by_test false some = reads_put (with_bytes t (Some file) (put_at (content t.bytes (Some file)) at fresh)) reader fd' file at (content t.bytes (Some file)) fresh may.desc may.is may.named may.read
-          (get_inserted nat_cmp_total t.bytes file (put_at (content t.bytes (Some file)) at fresh))
+          (inserted_here nat_cmp_total nat_cmp-IsAntisymmetric t.bytes file (put_at (content t.bytes (Some file)) at fresh))
 
   -- the tree after a `write` through a descriptor
   abbrev after_write : Bool → Option ℕ → Desc → PosixTree
@@ -116,8 +115,8 @@ module _ (t : PosixTree) (client fd : ℕ) (fresh : List ℕ) where
       by_test false some =
           let at = place_of d (content t.bytes (Some file)) in
           reads_put (after_write false (Some file) d) client fd file at (content t.bytes (Some file)) fresh (moved d (at + length fresh))
-          (get_inserted fd_total t.fds (client, fd) (moved d (at + length fresh))) named read
-          (get_inserted nat_cmp_total t.bytes file (put_at (content t.bytes (Some file)) at fresh))
+          (inserted_here fd_total fd_same t.fds (client, fd) (moved d (at + length fresh))) named read
+          (inserted_here nat_cmp_total nat_cmp-IsAntisymmetric t.bytes file (put_at (content t.bytes (Some file)) at fresh))
 
 pub written_read : WrittenIsRead
 written_read t client fd fresh at reader fd' file is named may = written_is_read t client fd fresh at reader fd' file is named may
