@@ -24,7 +24,7 @@ pub from_some : {A : Type 0} (o : Option A) → is_some o ≡ true → (x : A) �
 from_some (Some x) e = (x, refl)
 from_some None e = cc
 
-tied : (r : Ordering) → is_eq r ≡ true → r ≡ Equal
+pub tied : (r : Ordering) → is_eq r ≡ true → r ≡ Equal
 tied Less e = cc
 tied Equal e = refl
 tied Greater e = cc
