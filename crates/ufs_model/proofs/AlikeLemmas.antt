@@ -1,5 +1,5 @@
 -- Two trees that agree on some parts change alike: what is then the same in both, and what stays.
-use Rattle.std.proofs.Common.{◌≡◌, ◌≢◌, ℕ, List, [], ◌∷◌, Bool, true, false, cond, Option, Some, None, ap, sym, refl, ◌∙◌, subst, ◌⊎◌, inl, inr, ◌||◌}
+use Rattle.std.proofs.Common.{◌≡◌, ◌≢◌, ℕ, List, ◌∷◌, Bool, true, false, cond, Some, None, ap, sym, refl, ◌∙◌, subst, ◌⊎◌, inl, inr, ◌||◌}
 use Rattle.std.proofs.lemmas.Bool.{cases_eq}
 use Rattle.std.specs.Option.{option_map}
 use Rattle.std.specs.Ordering.{eq_by_cmp, nat_cmp}
@@ -8,16 +8,15 @@ use Rattle.std.specs.List.{list_any}
 use Rattle.std.specs.FinMap as fin
 use Rattle.std.specs.FinMap.{get-insert, get-remove, nat_cmp-IsAntisymmetric}
 use Rattle.ufs_model.specs.Order.{fd_cmp}
-use Rattle.ufs_model.specs.PosixTree.{PosixTree, Paths, Files, Fds, desc_at, is_node_of, is_desc_of, is_live}
-use Rattle.ufs_model.specs.Posix.{with_bytes, forget}
-use Rattle.ufs_model.specs.Touched.{holds, IsSamePart, IsPartOf, file_part, dropped_part}
+use Rattle.ufs_model.specs.PosixTree.{PosixTree, Paths, Files, Fds, is_node_of, is_live}
+use Rattle.ufs_model.specs.Touched.{holds, IsSamePart, IsPartOf}
 use Rattle.ufs_model.specs.Laws.{AgreeOn}
 use Rattle.ufs_model.specs.declared.data.Desc.{Desc}
 use Rattle.ufs_model.specs.declared.data.PartName.{PartName}
 use Rattle.ufs_model.specs.declared.data.PartName.TheVariants as part
 use Rattle.ufs_model.proofs.OrderLemmas.{fd_total}
 use Rattle.ufs_model.proofs.LookupLemmas.{inserted_else, removed_else}
-use Rattle.ufs_model.proofs.DescriptorLemmas.{holds_by, open_by, put_elsewhere, gone_elsewhere, moved_holds}
+use Rattle.ufs_model.proofs.DescriptorLemmas.{holds_by, open_by, put_elsewhere, gone_elsewhere}
 
 -- ---- descriptors
 

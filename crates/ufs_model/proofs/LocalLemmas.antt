@@ -1,17 +1,16 @@
 -- A request is local, request by request: two trees that agree on what it touches change alike.
-use Rattle.std.proofs.Common.{◌≡◌, ℕ, ◌+◌, List, [], ◌∷◌, Bool, true, false, cond, Option, Some, None, ap, sym, refl, ◌∙◌, subst, inl, inr, length, eqb, ℤ}
+use Rattle.std.proofs.Common.{◌≡◌, ℕ, ◌+◌, List, [], ◌∷◌, true, false, cond, Option, Some, None, ap, sym, refl, ◌∙◌, subst, inl, inr, length, eqb}
 use Rattle.std.specs.Prelude.{is_some, is_none, unwrap_or}
-use Rattle.std.specs.Str.{bytes_eq}
 use Rattle.std.specs.FinMap as fin
 use Rattle.ufs_model.specs.Paths.{whole_of, first_of, refused_if, is_root}
-use Rattle.ufs_model.specs.PosixTree.{PosixTree, Paths, Files, Fds, desc_at, is_live}
+use Rattle.ufs_model.specs.PosixTree.{PosixTree, Paths, desc_at}
 use Rattle.ufs_model.specs.Walk.{node_at, file_of, is_file, walk_refusal}
-use Rattle.ufs_model.specs.Directories.{renamed, has_entries}
-use Rattle.ufs_model.specs.Descriptors.{Mode, opened, closed, moved, desc_of}
-use Rattle.ufs_model.specs.FileBytes.{content, part, put_at, place_of, resized}
+use Rattle.ufs_model.specs.Directories.{has_entries}
+use Rattle.ufs_model.specs.Descriptors.{Mode, opened, closed, moved}
+use Rattle.ufs_model.specs.FileBytes.{part, put_at, place_of, resized}
 use Rattle.ufs_model.specs.Refusals.{refusal, own_refusal, tree_refusal, read_refusal, write_refusal, seek_refusal, rmdir_refusal}
-use Rattle.ufs_model.specs.Posix.{posix, served, answer, change, with_fd, with_bytes, with_file, forget, open_node, written, write_fd, rename_path, file_bytes, new_fd, new_offset, bytes_read}
-use Rattle.ufs_model.specs.Touched.{holds, IsSamePart, IsPartOf, file_part, dropped_part, opened_part, reached, touched_parts}
+use Rattle.ufs_model.specs.Posix.{posix, served, change, with_fd, with_bytes, forget, open_node, file_bytes, new_offset, bytes_read}
+use Rattle.ufs_model.specs.Touched.{IsSamePart, IsPartOf, file_part, dropped_part, opened_part, reached, touched_parts}
 use Rattle.ufs_model.specs.Laws.{AgreeOn, IsLocal, Locality}
 use Rattle.ufs_model.specs.declared.data.Desc.{Desc}
 use Rattle.ufs_model.specs.declared.data.Errno.{Errno}
@@ -22,11 +21,9 @@ use Rattle.ufs_model.specs.declared.data.Op.{Op}
 use Rattle.ufs_model.specs.declared.data.Op.TheVariants as op
 use Rattle.ufs_model.specs.declared.data.PartName.{PartName}
 use Rattle.ufs_model.specs.declared.data.PartName.TheVariants as name
-use Rattle.ufs_model.specs.declared.data.Whence.{Whence}
 use Rattle.ufs_model.proofs.AllowedLemmas.{first_none, passed}
-use Rattle.ufs_model.proofs.DescriptorLemmas.{moved_holds}
-use Rattle.ufs_model.proofs.AlikeLemmas.{FdsAlike, fds_stay, fds_put, fds_gone, holds_after, live_alike, BytesAlike, bytes_stay, bytes_put, bytes_dropped, NamesAlike, Alike, touched_alike, others_alike}
-use Rattle.ufs_model.proofs.ToldLemmas.{own_same, own_of, names_of, opened_same, bytes_same, new_fd_same, tree_same, offset_same, answer_same}
+use Rattle.ufs_model.proofs.AlikeLemmas.{fds_stay, fds_gone, Alike, touched_alike, others_alike}
+use Rattle.ufs_model.proofs.ToldLemmas.{own_same, opened_same, bytes_same, tree_same, offset_same, answer_same}
 use Rattle.ufs_model.proofs.ChangeLemmas.{with_names, nothing, bytes_and_fd, bytes_alone, fd_alone, forgotten, open_alike, rename_alike}
 
 -- ---- refusals

@@ -1,19 +1,17 @@
 -- What was written at a place is read there.
-use Rattle.std.proofs.Common.{◌≡◌, ◌≤◌, ℕ, ◌+◌, ◌-◌, List, [], ◌∷◌, ◌++◌, Bool, true, false, cond, not, Option, Some, None, ap, sym, refl, ◌∙◌, subst, arith, append_assoc, eqb, length, take, drop, replicate}
+use Rattle.std.proofs.Common.{◌≡◌, ℕ, ◌+◌, ◌-◌, List, [], ◌∷◌, ◌++◌, Bool, true, false, cond, not, Option, Some, None, ap, sym, refl, ◌∙◌, arith, append_assoc, eqb, length, take, drop, replicate}
 use Rattle.std.proofs.lemmas.List.{length-append, length-take-le, length-replicate}
 use Rattle.std.proofs.Math.Seq.{drop-append_seam, take-append_seam}
 use Rattle.std.specs.Prelude.{is_none, unwrap_or}
-use Rattle.std.specs.Ordering.{eq_by_cmp, nat_cmp}
-use Rattle.std.specs.Cmp.{IsTotalOrder, eq_by_cmp_equiv, nat_cmp_total}
+use Rattle.std.specs.Cmp.{nat_cmp_total}
 use Rattle.std.specs.FinMap as fin
 use Rattle.std.specs.FinMap.{nat_cmp-IsAntisymmetric}
-use Rattle.ufs_model.specs.Order.{fd_cmp}
 use Rattle.ufs_model.specs.Paths.{first_of, refused_if}
 use Rattle.ufs_model.specs.PosixTree.{PosixTree, desc_at}
 use Rattle.ufs_model.specs.Descriptors.{opened, closed, moved}
 use Rattle.ufs_model.specs.FileBytes.{content, part, put_at, place_of}
-use Rattle.ufs_model.specs.Refusals.{refusal, own_refusal, tree_refusal, read_refusal, write_refusal}
-use Rattle.ufs_model.specs.Posix.{posix, served, change, with_fd, with_bytes, written, file_bytes}
+use Rattle.ufs_model.specs.Refusals.{refusal, own_refusal, read_refusal}
+use Rattle.ufs_model.specs.Posix.{posix, served, with_fd, with_bytes, written}
 use Rattle.ufs_model.specs.Laws.{MayRead, WrittenIsRead, AppendedIsRead}
 use Rattle.ufs_model.specs.declared.data.Desc.{Desc}
 use Rattle.ufs_model.specs.declared.data.Errno.{Errno}

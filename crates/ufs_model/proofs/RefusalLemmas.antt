@@ -5,7 +5,7 @@ use Rattle.ufs_model.specs.PosixTree.{PosixTree, is_live}
 use Rattle.ufs_model.specs.Paths.{whole_of}
 use Rattle.ufs_model.specs.Walk.{node_at, file_of}
 use Rattle.std.specs.Str.{bytes_eq}
-use Rattle.ufs_model.specs.Posix.{posix, served, answer, change, forget, with_bytes, with_fd, open_node, written, write_fd, without_path, rename_path, stat_reply, file_bytes}
+use Rattle.ufs_model.specs.Posix.{served, answer, change, forget, with_bytes, with_fd, open_node, written, write_fd, without_path, rename_path, stat_reply, file_bytes}
 use Rattle.ufs_model.specs.Descriptors.{Mode, opened, moved}
 use Rattle.ufs_model.specs.Directories.{renamed}
 use Rattle.ufs_model.specs.FileBytes.{content, put_at, place_of, resized}

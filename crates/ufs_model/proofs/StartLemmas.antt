@@ -18,7 +18,6 @@ use Rattle.ufs_model.specs.Order.{path_cmp, fd_cmp}
 use Rattle.ufs_model.specs.declared.data.Desc.{Desc}
 use Rattle.ufs_model.specs.Paths.{IsWhole, parent_of}
 use Rattle.ufs_model.specs.PosixTree.{IsNamespace, IsTree, is_node_of, is_desc_of, is_dir, is_live, stands, has_dir, root, root_alone}
-use Rattle.ufs_model.specs.declared.data.Node.TheVariants.{File}
 use Rattle.ufs_model.specs.PathEntries.{pairs_of}
 use Rattle.ufs_model.specs.declared.data.PathEntry.{PathEntry}
 use Rattle.ufs_model.specs.declared.data.PathNode.{PathNode}

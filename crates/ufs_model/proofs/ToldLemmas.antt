@@ -1,19 +1,18 @@
 -- What a client is told, a refusal or an answer, is told by the parts that its request touches.
-use Rattle.std.proofs.Common.{◌≡◌, ℕ, ◌+◌, List, [], ◌∷◌, Bool, true, false, cond, not, Option, Some, None, ap, sym, refl, ◌∙◌, inl, inr, zero, suc, length}
+use Rattle.std.proofs.Common.{◌≡◌, ℕ, ◌+◌, List, [], ◌∷◌, cond, not, Option, Some, None, ap, refl, ◌∙◌, inl, inr, zero, suc, length}
 use Rattle.std.specs.Prelude.{is_some, is_none, unwrap_or, ℤ}
 use Rattle.std.specs.FinMap as fin
 use Rattle.ufs_model.specs.Paths.{text_refusal, whole_of, first_of, refused_if}
 use Rattle.ufs_model.specs.PosixTree.{PosixTree, Paths, Files, desc_at}
 use Rattle.ufs_model.specs.Walk.{walk_refusal, node_at, file_of}
 use Rattle.ufs_model.specs.Directories.{entry_count, entry_names}
-use Rattle.ufs_model.specs.Descriptors.{opened, closed, free_from, lowest_free, is_mode, seek_to, is_offset, moved_by}
+use Rattle.ufs_model.specs.Descriptors.{opened, closed, free_from, lowest_free, is_mode, is_offset, moved_by}
 use Rattle.ufs_model.specs.FileBytes.{content, part, place_of, is_past}
 use Rattle.ufs_model.specs.Refusals.{own_refusal, tree_refusal, read_refusal, write_refusal, seek_refusal, trunc_refusal, open_refusal, rmdir_refusal, unlink_refusal, rename_refusal, list_refusal}
 use Rattle.ufs_model.specs.Posix.{answer, file_bytes, new_fd, new_offset, stat_reply}
 use Rattle.ufs_model.specs.Touched.{IsSamePart, IsPartOf, file_part, reached}
 use Rattle.ufs_model.specs.Laws.{AgreeOn}
 use Rattle.ufs_model.specs.declared.data.Desc.{Desc}
-use Rattle.ufs_model.specs.declared.data.Errno.{Errno}
 use Rattle.ufs_model.specs.declared.data.Errno.TheVariants.{Enoent, Einval, Eexist, Ebadf, Emfile, Efbig}
 use Rattle.ufs_model.specs.declared.data.Node.{Node}
 use Rattle.ufs_model.specs.declared.data.Node.TheVariants.{Dir, File}
@@ -21,7 +20,6 @@ use Rattle.ufs_model.specs.declared.data.Op.{Op}
 use Rattle.ufs_model.specs.declared.data.Op.TheVariants as op
 use Rattle.ufs_model.specs.declared.data.PartName.{PartName}
 use Rattle.ufs_model.specs.declared.data.PartName.TheVariants as name
-use Rattle.ufs_model.specs.declared.data.Reply.{Reply}
 use Rattle.ufs_model.specs.declared.data.Reply.TheVariants.{Fd, At, Got, IsFile, IsDir, Names}
 use Rattle.ufs_model.specs.declared.data.Whence.{Whence}
 use Rattle.ufs_model.specs.declared.data.Whence.TheVariants as whence

@@ -1,5 +1,5 @@
 -- The descriptors of clients, and how a path is opened.
-use Rattle.std.specs.Prelude.{ℕ, ◌+◌, ◌-◌, Bool, false, ◌&&◌, ◌||◌, not, nat_lt, if◌then◌else◌, Option, Some, None, is_some, unwrap_or, zero, suc, ℤ, pos, negsuc}
+use Rattle.std.specs.Prelude.{ℕ, ◌+◌, ◌-◌, Bool, false, ◌&&◌, not, nat_lt, if◌then◌else◌, Option, Some, None, is_some, unwrap_or, zero, suc, ℤ, pos, negsuc}
 use Rattle.std.specs.FinMap as map
 use Rattle.ufs_model.specs.PosixTree.{PosixTree, Fds, desc_at}
 use Rattle.ufs_model.specs.declared.data.Desc.{Desc}

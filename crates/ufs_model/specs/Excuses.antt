@@ -1,5 +1,5 @@
 -- Which excuses fit a request, as far as the tree and the request tell it.
-use Rattle.std.specs.Prelude.{ℕ, ◌+◌, ◌-◌, ◌/◌, List, Bool, true, false, ◌&&◌, ◌≡◌, ◌<◌, length, Option, Some, None, is_none, ⊤, if◌then◌else◌}
+use Rattle.std.specs.Prelude.{ℕ, ◌+◌, ◌-◌, ◌/◌, Bool, true, false, ◌&&◌, ◌≡◌, ◌<◌, length, None, is_none, ⊤, if◌then◌else◌}
 use Rattle.ufs_model.specs.PosixTree.{PosixTree}
 use Rattle.ufs_model.specs.Walk.{node_at}
 use Rattle.ufs_model.specs.Descriptors.{opened}

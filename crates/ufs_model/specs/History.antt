@@ -1,12 +1,11 @@
 -- Histories: what was served, entry by entry.
-use Rattle.std.specs.Prelude.{ℕ, ◌+◌, ◌<◌, ◌≡◌, ◌==◌, nat_eq, ◌⊎◌, Bool, true, false, List, [], ◌∷◌, length, take, map, filter, unwrap_or, slice_get, Some, ⊤}
+use Rattle.std.specs.Prelude.{ℕ, ◌+◌, ◌<◌, ◌≡◌, ◌==◌, nat_eq, ◌⊎◌, Bool, false, List, [], ◌∷◌, length, take, map, filter, unwrap_or, slice_get, Some}
 use Rattle.std.specs.List.{range_with_len, AllByRecursion, flat_map, IsDistinct}
 use Rattle.ufs_model.specs.PosixTree.{PosixTree}
 use Rattle.ufs_model.specs.Posix.{posix}
 use Rattle.ufs_model.specs.Excuses.{ExcuseFits}
 use Rattle.ufs_model.specs.declared.data.Op.{Op}
 use Rattle.ufs_model.specs.declared.data.Entry.{Entry}
-use Rattle.ufs_model.specs.declared.data.Excuse.{Excuse}
 use Rattle.ufs_model.specs.declared.data.Excuse.TheVariants as excuse
 use Rattle.ufs_model.specs.declared.data.Reply.{Reply}
 use Rattle.ufs_model.specs.declared.data.Reply.TheVariants as reply

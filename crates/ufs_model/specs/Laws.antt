@@ -1,10 +1,9 @@
 -- What the file calls mean, apart from their cases.
-use Rattle.std.specs.Prelude.{ℕ, ◌+◌, ◌≡◌, ◌≤◌, List, length, take, true, false, Some, None, is_some}
-use Rattle.std.specs.FinMap as map
+use Rattle.std.specs.Prelude.{ℕ, ◌+◌, ◌≡◌, ◌≤◌, List, length, true, Some, None}
 use Rattle.ufs_model.specs.Paths.{whole_of}
 use Rattle.ufs_model.specs.PosixTree.{PosixTree, IsTree, desc_at}
 use Rattle.ufs_model.specs.Walk.{node_at}
-use Rattle.ufs_model.specs.FileBytes.{content, part, place_of}
+use Rattle.ufs_model.specs.FileBytes.{content, place_of}
 use Rattle.ufs_model.specs.Posix.{posix}
 use Rattle.ufs_model.specs.Touched.{IsSamePart, IsPartOf, touched_parts}
 use Rattle.ufs_model.specs.declared.data.Desc.{Desc}

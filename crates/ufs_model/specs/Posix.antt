@@ -1,9 +1,9 @@
 -- The file calls: which tree and which reply a request of a client gives.
-use Rattle.std.specs.Prelude.{ℕ, ◌+◌, List, [], Bool, ◌==◌, ◌&&◌, length, if◌then◌else◌, Option, Some, None, unwrap_or, is_none}
+use Rattle.std.specs.Prelude.{ℕ, ◌+◌, List, [], ◌==◌, length, if◌then◌else◌, Option, Some, None, unwrap_or}
 use Rattle.std.specs.Str.{bytes_eq}
 use Rattle.std.specs.FinMap as map
 use Rattle.ufs_model.specs.Paths.{whole_of}
-use Rattle.ufs_model.specs.PosixTree.{PosixTree, Paths, is_live}
+use Rattle.ufs_model.specs.PosixTree.{PosixTree, is_live}
 use Rattle.ufs_model.specs.Walk.{node_at, file_of}
 use Rattle.ufs_model.specs.Directories.{entry_count, entry_names, renamed}
 use Rattle.ufs_model.specs.Descriptors.{Mode, opened, moved, desc_of, lowest_free, seek_to}

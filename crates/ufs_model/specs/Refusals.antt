@@ -1,5 +1,5 @@
 -- Why a request is refused, in the order in which it is looked at.
-use Rattle.std.specs.Prelude.{ℕ, List, Bool, ◌&&◌, ◌||◌, not, nat_lt, length, Option, Some, None, is_some, is_none}
+use Rattle.std.specs.Prelude.{ℕ, List, ◌&&◌, ◌||◌, not, nat_lt, length, Option, Some, None, is_some, is_none}
 use Rattle.std.specs.Str.{bytes_eq}
 use Rattle.std.specs.FinMap as map
 use Rattle.ufs_model.specs.Paths.{text_refusal, whole_of, is_root, first_of, refused_if}

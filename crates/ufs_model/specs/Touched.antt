@@ -3,17 +3,14 @@ use Rattle.std.specs.Prelude.{ℕ, List, [], ◌∷◌, ◌≡◌, ◌⊎◌, �
 use Rattle.std.specs.List.{list_any}
 use Rattle.std.specs.FinMap as fin
 use Rattle.ufs_model.specs.Paths.{whole_of}
-use Rattle.ufs_model.specs.PosixTree.{PosixTree, Paths, Fds, desc_at, is_desc_of, is_live}
+use Rattle.ufs_model.specs.PosixTree.{PosixTree, Fds, desc_at, is_desc_of, is_live}
 use Rattle.ufs_model.specs.Walk.{node_at, file_of}
-use Rattle.ufs_model.specs.Directories.{renamed}
 use Rattle.ufs_model.specs.Descriptors.{opened}
 use Rattle.ufs_model.specs.Refusals.{own_refusal, refusal}
 use Rattle.ufs_model.specs.Posix.{change}
 use Rattle.ufs_model.specs.declared.data.Op.{Op}
 use Rattle.ufs_model.specs.declared.data.Op.TheVariants as op
-use Rattle.ufs_model.specs.declared.data.Whence.{Whence}
 use Rattle.ufs_model.specs.declared.data.Whence.TheVariants as whence
-use Rattle.ufs_model.specs.declared.data.Node.{Node}
 use Rattle.ufs_model.specs.declared.data.PartName.{PartName}
 use Rattle.ufs_model.specs.declared.data.PartName.TheVariants as part
 
