@@ -15,7 +15,12 @@ use Rattle.ufs_model.specs.declared.data.Desc.{Desc}
 use Rattle.ufs_model.specs.declared.data.PartName.{PartName}
 use Rattle.ufs_model.specs.declared.data.PartName.TheVariants as part
 use Rattle.ufs_model.proofs.OrderLemmas.{fd_total}
+<<<<<<< HEAD
 use Rattle.ufs_model.proofs.DescriptorLemmas.{apart, holds_by, open_by, put_elsewhere, gone_elsewhere}
+=======
+use Rattle.ufs_model.proofs.LookupLemmas.{inserted_else, removed_else}
+use Rattle.ufs_model.proofs.DescriptorLemmas.{holds_by, open_by, put_elsewhere, gone_elsewhere}
+>>>>>>> cb6e5da178b36a1a3f0eb53b707b506bd62917a8
 
 -- ---- descriptors
 
@@ -85,15 +90,15 @@ module _ (parts : List PartName) (a b : Files) (same : (file : ℕ) → IsPartOf
   pub bytes_stay : BytesAlike parts a b a b
   bytes_stay = record { files = same; others = λ file out. refl }
 
-  untouched : (file g : ℕ) → IsPartOf parts (part.File file) → (IsPartOf parts (part.File g) → ⊥) → eq_by_cmp nat_cmp g file ≡ false
-  untouched file g among out = apart nat_cmp nat_cmp-IsAntisymmetric g file (λ is. out (subst (λ f. IsPartOf parts (part.File f)) (sym is) among))
+  untouched : (file g : ℕ) → IsPartOf parts (part.File file) → (IsPartOf parts (part.File g) → ⊥) → g ≡ file → ⊥
+  untouched file g among out is = out (subst (λ f. IsPartOf parts (part.File f)) (sym is) among)
 
   pub bytes_put : (file file' : ℕ) (v v' : List ℕ) → file ≡ file' → v ≡ v' → IsPartOf parts (part.File file) → BytesAlike parts a b (fin.insert a file v) (fin.insert b file' v')
   bytes_put file file' v v' p q among = record {
     files = λ g at. get-insert nat_cmp_total a file v g
         ∙ (λ i. cond (eq_by_cmp nat_cmp g (p i)) (Some (q i)) (same g at i))
         ∙ sym (get-insert nat_cmp_total b file' v' g);
-    others = λ g out. sym (get-insert nat_cmp_total a file v g ∙ ap (λ t. cond t (Some v) (fin.get a g)) (untouched file g among out));
+    others = λ g out. sym (inserted_else nat_cmp_total nat_cmp-IsAntisymmetric a file v g (untouched file g among out));
   }
 
   pub bytes_gone : (file : ℕ) → IsPartOf parts (part.File file) → BytesAlike parts a b (fin.remove a file) (fin.remove b file)
@@ -101,7 +106,7 @@ module _ (parts : List PartName) (a b : Files) (same : (file : ℕ) → IsPartOf
     files = λ g at. get-remove nat_cmp_total a file g
         ∙ ap (cond (eq_by_cmp nat_cmp g file) None) (same g at)
         ∙ sym (get-remove nat_cmp_total b file g);
-    others = λ g out. sym (get-remove nat_cmp_total a file g ∙ ap (λ t. cond t None (fin.get a g)) (untouched file g among out));
+    others = λ g out. sym (removed_else nat_cmp_total nat_cmp-IsAntisymmetric a file g (untouched file g among out));
   }
 
   -- a file that is live in neither goes in both

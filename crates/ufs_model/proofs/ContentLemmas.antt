@@ -4,8 +4,7 @@ use Rattle.std.proofs.lemmas.Bool.{and_parts, leb-true}
 use Rattle.std.proofs.lemmas.Bool.Decides.{nat_tests}
 use Rattle.std.specs.Prelude.{is_some}
 use Rattle.std.specs.Option.{option_map}
-use Rattle.std.specs.Ordering.{nat_cmp, eq_by_cmp, is_eq, is_lt, ordering_reverse}
-use Rattle.std.specs.declared.cmp.Ordering.{Ordering}
+use Rattle.std.specs.Ordering.{nat_cmp, eq_by_cmp, ordering_reverse}
 use Rattle.std.specs.declared.cmp.Ordering.TheVariants.{Less, Equal, Greater}
 use Rattle.std.specs.Cmp.{nat_cmp_total, tied_itself}
 use Rattle.std.specs.FinMap as map
@@ -18,7 +17,8 @@ use Rattle.ufs_model.specs.declared.data.Node.TheVariants.{Dir, File}
 use Rattle.ufs_model.specs.declared.data.PathNode.{PathNode}
 use Rattle.ufs_model.specs.declared.data.PathNode.TheVariants as path_node
 use Rattle.ufs_model.proofs.OrderLemmas.{path_total, path_same}
-use Rattle.ufs_model.proofs.RisingLemmas.{entries-rise}
+use Rattle.ufs_model.proofs.RisingLemmas.{entries-rise, less}
+use Rattle.ufs_model.proofs.LookupLemmas.{tied}
 use Rattle.ufs_model.proofs.StartLemmas.{Pairs, is_within, stands-paths_from, held-bytes_from, tie}
 
 -- as `content_of`, by a list of bytes
@@ -88,16 +88,6 @@ least q n es g is =
     let there : is_some (find path_cmp q es) ≡ true = sym (stands-paths_from q n es) ∙ ap is_some is in
     let bytes : shown (bytes_from n es) (Some (File g)) ≡ find path_cmp q es = ap (shown (bytes_from n es)) (sym is) ∙ shown-paths_from q n es in
     within_from n _ g (sym (held-bytes_from g n es) ∙ mapped (find nat_cmp g (bytes_from n es)) (ap is_some bytes ∙ there))
-
-tied : (r : Ordering) → is_eq r ≡ true → r ≡ Equal
-tied Less e = cc
-tied Equal e = refl
-tied Greater e = cc
-
-less : (r : Ordering) → is_lt r ≡ true → r ≡ Less
-less Less e = refl
-less Equal e = cc
-less Greater e = cc
 
 -- what is found among paths above one is above it
 above : (k q : List ℕ) (es : Pairs) → below_all path_cmp k es ≡ true → is_some (find path_cmp q es) ≡ true → path_cmp k q ≡ Less

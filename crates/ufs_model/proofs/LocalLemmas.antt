@@ -1,17 +1,29 @@
 -- A request is local, request by request: two trees that agree on what it touches change alike.
+<<<<<<< HEAD
 use Rattle.std.proofs.Common.{◌≡◌, ℕ, ◌+◌, List, [], ◌∷◌, Bool, true, false, cond, Option, Some, None, ap, sym, refl, ◌∙◌, subst, inl, inr, length, eqb}
+=======
+use Rattle.std.proofs.Common.{◌≡◌, ℕ, ◌+◌, List, [], ◌∷◌, true, false, cond, Option, Some, None, ap, sym, refl, ◌∙◌, subst, inl, inr, length, eqb}
+>>>>>>> cb6e5da178b36a1a3f0eb53b707b506bd62917a8
 use Rattle.std.specs.Prelude.{is_some, is_none, unwrap_or}
-use Rattle.std.specs.Str.{bytes_eq}
 use Rattle.std.specs.FinMap as fin
 use Rattle.ufs_model.specs.Paths.{whole_of, first_of, refused_if, is_root}
-use Rattle.ufs_model.specs.PosixTree.{PosixTree, Paths, Files, Fds, desc_at, is_live}
+use Rattle.ufs_model.specs.PosixTree.{PosixTree, Paths, desc_at}
 use Rattle.ufs_model.specs.Walk.{node_at, file_of, is_file, walk_refusal}
+<<<<<<< HEAD
 use Rattle.ufs_model.specs.Directories.{renamed, has_entries}
 use Rattle.ufs_model.specs.Descriptors.{Mode, opened, closed, moved, desc_of}
 use Rattle.ufs_model.specs.FileBytes.{part, put_at, place_of, resized}
 use Rattle.ufs_model.specs.Refusals.{refusal, own_refusal, tree_refusal, read_refusal, write_refusal, seek_refusal, rmdir_refusal}
 use Rattle.ufs_model.specs.Posix.{posix, served, change, with_fd, with_bytes, forget, open_node, rename_path, file_bytes, new_fd, new_offset, bytes_read}
 use Rattle.ufs_model.specs.Touched.{holds, IsSamePart, IsPartOf, file_part, dropped_part, opened_part, reached, touched_parts}
+=======
+use Rattle.ufs_model.specs.Directories.{has_entries}
+use Rattle.ufs_model.specs.Descriptors.{Mode, opened, closed, moved}
+use Rattle.ufs_model.specs.FileBytes.{part, put_at, place_of, resized}
+use Rattle.ufs_model.specs.Refusals.{refusal, own_refusal, tree_refusal, read_refusal, write_refusal, seek_refusal, rmdir_refusal}
+use Rattle.ufs_model.specs.Posix.{posix, served, change, with_fd, with_bytes, forget, open_node, file_bytes, new_offset, bytes_read}
+use Rattle.ufs_model.specs.Touched.{IsSamePart, IsPartOf, file_part, dropped_part, opened_part, reached, touched_parts}
+>>>>>>> cb6e5da178b36a1a3f0eb53b707b506bd62917a8
 use Rattle.ufs_model.specs.Laws.{AgreeOn, IsLocal, Locality}
 use Rattle.ufs_model.specs.declared.data.Desc.{Desc}
 use Rattle.ufs_model.specs.declared.data.Errno.{Errno}
@@ -22,6 +34,7 @@ use Rattle.ufs_model.specs.declared.data.Op.{Op}
 use Rattle.ufs_model.specs.declared.data.Op.TheVariants as op
 use Rattle.ufs_model.specs.declared.data.PartName.{PartName}
 use Rattle.ufs_model.specs.declared.data.PartName.TheVariants as name
+<<<<<<< HEAD
 use Rattle.ufs_model.proofs.DescriptorLemmas.{moved_holds}
 use Rattle.ufs_model.proofs.AlikeLemmas.{FdsAlike, fds_stay, fds_put, fds_gone, holds_after, live_alike, BytesAlike, bytes_stay, bytes_put, bytes_dropped, NamesAlike, Alike, touched_alike, others_alike}
 use Rattle.ufs_model.proofs.ToldLemmas.{own_same, opened_same, bytes_same, new_fd_same, tree_same, offset_same, answer_same}
@@ -67,16 +80,14 @@ kept_alike parts t u None same live among = bytes_stay parts t.bytes u.bytes sam
 kept_alike parts t u (Some f) same live among =
     bytes_dropped parts t.bytes u.bytes same f (is_live t.paths t.fds f) (is_live u.paths u.fds f) (live f)
     (λ gone. among f (subst (λ (b : Bool). IsPartOf (cond b [] (name.File f ∷ [])) (name.File f)) (sym gone) (inl refl)))
+=======
+use Rattle.ufs_model.proofs.AllowedLemmas.{first_none, passed}
+use Rattle.ufs_model.proofs.AlikeLemmas.{fds_stay, fds_gone, Alike, touched_alike, others_alike}
+use Rattle.ufs_model.proofs.ToldLemmas.{own_same, opened_same, bytes_same, tree_same, offset_same, answer_same}
+use Rattle.ufs_model.proofs.ChangeLemmas.{with_names, nothing, bytes_and_fd, bytes_alone, fd_alone, forgotten, open_alike, rename_alike}
+>>>>>>> cb6e5da178b36a1a3f0eb53b707b506bd62917a8
 
 -- ---- refusals
-
-pub first_none : (a b : Option Errno) → first_of a b ≡ None → (a ≡ None) × (b ≡ None)
-first_none None b e = (refl, e)
-first_none (Some x) b e = cc
-
-not_refused : (b : Bool) (e : Errno) → refused_if b e ≡ None → b ≡ false
-not_refused true e is = cc
-not_refused false e is = refl
 
 -- what isn't refused has a descriptor
 read_open : (o : Option Desc) → read_refusal o ≡ None → (d : Desc) × (o ≡ Some d)
@@ -103,11 +114,12 @@ rmdir_no_file paths path e =
     let named = first_none (refused_if (is_root path) Ebusy) _ walked.1 in
     let there = first_none (refused_if (is_none (node_at paths path)) Enoent) _ named.1 in
     let dir = first_none (refused_if (is_file (node_at paths path)) Enotdir) (refused_if (has_entries paths (whole_of path)) Enotempty) there.1 in
-    no_file (node_at paths path) (not_refused (is_file (node_at paths path)) Enotdir dir.0)
+    no_file (node_at paths path) (passed (is_file (node_at paths path)) Enotdir dir.0)
 
--- ---- changes, each alike in both trees
+-- ---- each request
 
 module _ (t u : PosixTree) (client : ℕ) where
+<<<<<<< HEAD
   names_still : (parts : List PartName) (t' u' : PosixTree) → AgreeOn parts t u → t.paths ≡ t'.paths → u.paths ≡ u'.paths → t.next ≡ t'.next → u.next ≡ u'.next
       → ((file : ℕ) → holds t.fds client file ≡ holds t'.fds client file) → NamesAlike parts client t u t' u'
   names_still parts t' u' agree p p' n n' held = record {
@@ -220,10 +232,13 @@ module _ (t u : PosixTree) (client : ℕ) where
       fds : FdsAlike client t.fds u.fds (fin.insert t.fds (client, new_fd t client) (desc_of m (Some f))) (fin.insert u.fds (client, new_fd u client) (desc_of m (Some f)))
       fds = fds_put client t.fds u.fds (agree (name.Client client) (inl refl)) (new_fd t client) (new_fd u client) (desc_of m (Some f)) (desc_of m (Some f)) (new_fd_same t u client (name.Names ∷ rest) agree) refl
 
+=======
+>>>>>>> cb6e5da178b36a1a3f0eb53b707b506bd62917a8
   -- the parts of a request on names that isn't refused
   allowed_part : (o : Option Errno) (parts : List PartName) (part : PartName) → o ≡ None → IsPartOf parts part → IsPartOf (cond (is_some o) [] parts) part
   allowed_part o parts part none at = subst (λ (o : Option Errno). IsPartOf (cond (is_some o) [] parts) part) (sym none) at
 
+<<<<<<< HEAD
   rename_alike : (rest : List PartName) → AgreeOn (name.Client client ∷ name.Names ∷ rest) t u → (from to : List ℕ)
       → ((f : ℕ) → IsPartOf (dropped_part (rename_path t from to) (file_of (fin.get t.paths to))) (name.File f) → IsPartOf rest (name.File f))
       → Alike (name.Client client ∷ name.Names ∷ rest) client t u (rename_path t from to) (rename_path u from to)
@@ -239,6 +254,8 @@ module _ (t u : PosixTree) (client : ℕ) where
             (ap (λ (p : Paths). renamed p from to) names.0) (fds_stay client t.fds u.fds (agree (name.Client client) (inl refl))) (ap (λ (p : Paths). file_of (fin.get p to)) names.0) among
       ] among
 
+=======
+>>>>>>> cb6e5da178b36a1a3f0eb53b707b506bd62917a8
   change_alike : (request : Op) → own_refusal t client request ≡ None → tree_refusal t client request ≡ None → refusal t client request ≡ None → AgreeOn (name.Client client ∷ reached t client request) t u
       → Alike (name.Client client ∷ reached t client request) client t u (change t client request) (change u client request)
   change_alike (op.OpenFile path read write creat excl trunc append) own tree none agree =
@@ -247,16 +264,16 @@ module _ (t u : PosixTree) (client : ℕ) where
       let rest : List PartName = cond (is_some (refusal t client request)) [] (opened_part t.next (is_some (node_at t.paths path)) (file_of (node_at t.paths path)) trunc) in
       subst (λ (node : Option Node). Alike (name.Client client ∷ name.Names ∷ rest) client t u (open_node t client (whole_of path) m (node_at t.paths path)) (open_node u client (whole_of path) m node))
       (ap (λ (p : Paths). node_at p path) (agree name.Names (inr (inl refl))).0)
-      (open_alike rest agree (whole_of path) m (node_at t.paths path)
+      (open_alike t u client rest agree (whole_of path) m (node_at t.paths path)
       (λ f at. allowed_part (refusal t client request) (opened_part t.next (is_some (node_at t.paths path)) (file_of (node_at t.paths path)) trunc) (name.File f) none at))
   change_alike (op.Close fd) own tree none agree =
-      forgotten _ agree t.paths u.paths (fin.remove t.fds (client, fd)) (fin.remove u.fds (client, fd)) (opened t client fd).file (opened u client fd).file
+      forgotten t u client _ agree t.paths u.paths (fin.remove t.fds (client, fd)) (fin.remove u.fds (client, fd)) (opened t client fd).file (opened u client fd).file
       (agree name.Names (inr (inl refl))).0 (fds_gone client t.fds u.fds (agree (name.Client client) (inl refl)) fd) (ap (λ (d : Desc). d.file) (opened_same t u client (reached t client (op.Close fd)) fd agree)) (λ f at. at)
   change_alike (op.Read fd n) own tree none agree =
       let desc = read_open (desc_at t client fd) own in
       let o = opened_same t u client _ fd agree in
       let b = bytes_same t u client fd agree in
-      fd_alone _ agree fd desc.0 (moved (opened t client fd) ((opened t client fd).at + length (bytes_read t client fd n))) (moved (opened u client fd) ((opened u client fd).at + length (bytes_read u client fd n)))
+      fd_alone t u client _ agree fd desc.0 (moved (opened t client fd) ((opened t client fd).at + length (bytes_read t client fd n))) (moved (opened u client fd) ((opened u client fd).at + length (bytes_read u client fd n)))
       desc.1 (ap (λ (o : Option Desc). (unwrap_or o closed).file) desc.1) (λ i. moved (o i) ((o i).at + length (part (b i) (o i).at n)))
   change_alike (op.Write fd fresh) own tree none agree =
       let desc = write_open (desc_at t client fd) own in
@@ -265,53 +282,63 @@ module _ (t u : PosixTree) (client : ℕ) where
       elim (eqb (length fresh) 0) as (λ b. Alike (name.Client client ∷ file_part (opened t client fd).file) client t u
       (cond b t (with_fd (cond b t (with_bytes t (opened t client fd).file (put_at (file_bytes t client fd) (place_of (opened t client fd) (file_bytes t client fd)) fresh))) client fd (moved (opened t client fd) (place_of (opened t client fd) (file_bytes t client fd) + length fresh))))
       (cond b u (with_fd (cond b u (with_bytes u (opened u client fd).file (put_at (file_bytes u client fd) (place_of (opened u client fd) (file_bytes u client fd)) fresh))) client fd (moved (opened u client fd) (place_of (opened u client fd) (file_bytes u client fd) + length fresh))))) [
+<<<<<<< HEAD
         | true ↦ nothing _ agree
         | false ↦ bytes_and_fd _ agree fd (opened t client fd).file (opened u client fd).file _ _ desc.0 _ _
+=======
+        | true ↦ nothing t u client _ agree
+        | false ↦ bytes_and_fd t u client _ agree fd (opened t client fd).file (opened u client fd).file _ _ desc.0 _ _
+>>>>>>> cb6e5da178b36a1a3f0eb53b707b506bd62917a8
             (ap (λ (d : Desc). d.file) o) (λ i. put_at (b i) (place_of (o i) (b i)) fresh) (λ f at. at)
             desc.1 (ap (λ (o : Option Desc). (unwrap_or o closed).file) desc.1) (λ i. moved (o i) (place_of (o i) (b i) + length fresh))
       ]
-  change_alike (op.Pread fd n at) own tree none agree = nothing _ agree
+  change_alike (op.Pread fd n at) own tree none agree = nothing t u client _ agree
   change_alike (op.Pwrite fd fresh at) own tree none agree =
       let o = opened_same t u client _ fd agree in
       let b = bytes_same t u client fd agree in
       elim (eqb (length fresh) 0) as (λ b. Alike (name.Client client ∷ file_part (opened t client fd).file) client t u
       (cond b t (with_bytes t (opened t client fd).file (put_at (file_bytes t client fd) at fresh)))
       (cond b u (with_bytes u (opened u client fd).file (put_at (file_bytes u client fd) at fresh)))) [
+<<<<<<< HEAD
         | true ↦ nothing _ agree
         | false ↦ bytes_alone _ agree (opened t client fd).file (opened u client fd).file _ _ (ap (λ (d : Desc). d.file) o) (λ i. put_at (b i) at fresh) (λ f at. at)
+=======
+        | true ↦ nothing t u client _ agree
+        | false ↦ bytes_alone t u client _ agree (opened t client fd).file (opened u client fd).file _ _ (ap (λ (d : Desc). d.file) o) (λ i. put_at (b i) at fresh) (λ f at. at)
+>>>>>>> cb6e5da178b36a1a3f0eb53b707b506bd62917a8
       ]
   change_alike (op.Seek fd from by) own tree none agree =
       let desc = seek_open (desc_at t client fd) own in
       let request = op.Seek fd from by in
       let o = opened_same t u client (reached t client request) fd agree in
-      fd_alone (reached t client request) agree fd desc.0 (moved (opened t client fd) (new_offset t client request)) (moved (opened u client fd) (new_offset u client request))
+      fd_alone t u client (reached t client request) agree fd desc.0 (moved (opened t client fd) (new_offset t client request)) (moved (opened u client fd) (new_offset u client request))
       desc.1 (ap (λ (o : Option Desc). (unwrap_or o closed).file) desc.1) (λ i. moved (o i) (offset_same t u client fd from by agree i))
   change_alike (op.Trunc fd size) own tree none agree =
       let o = opened_same t u client _ fd agree in
       let b = bytes_same t u client fd agree in
-      bytes_alone _ agree (opened t client fd).file (opened u client fd).file _ _ (ap (λ (d : Desc). d.file) o) (λ i. resized (b i) size) (λ f at. at)
-  change_alike (op.Fsync fd) own tree none agree = nothing _ agree
-  change_alike op.Sync own tree none agree = nothing _ agree
+      bytes_alone t u client _ agree (opened t client fd).file (opened u client fd).file _ _ (ap (λ (d : Desc). d.file) o) (λ i. resized (b i) size) (λ f at. at)
+  change_alike (op.Fsync fd) own tree none agree = nothing t u client _ agree
+  change_alike op.Sync own tree none agree = nothing t u client _ agree
   change_alike (op.Mkdir path) own tree none agree =
       let names = agree name.Names (inr (inl refl)) in
-      forgotten [] agree (fin.insert t.paths (whole_of path) Dir) (fin.insert u.paths (whole_of path) Dir) t.fds u.fds None None
+      forgotten t u client [] agree (fin.insert t.paths (whole_of path) Dir) (fin.insert u.paths (whole_of path) Dir) t.fds u.fds None None
       (ap (λ (p : Paths). fin.insert p (whole_of path) Dir) names.0) (fds_stay client t.fds u.fds (agree (name.Client client) (inl refl))) refl (λ f at. at)
   change_alike (op.Rmdir path) own tree none agree =
       let names = agree name.Names (inr (inl refl)) in
       let whole = whole_of path in
-      forgotten [] agree (fin.remove t.paths whole) (fin.remove u.paths whole) t.fds u.fds (file_of (fin.get t.paths whole)) (file_of (fin.get u.paths whole))
+      forgotten t u client [] agree (fin.remove t.paths whole) (fin.remove u.paths whole) t.fds u.fds (file_of (fin.get t.paths whole)) (file_of (fin.get u.paths whole))
       (ap (λ (p : Paths). fin.remove p whole) names.0) (fds_stay client t.fds u.fds (agree (name.Client client) (inl refl))) (ap (λ (p : Paths). file_of (fin.get p whole)) names.0)
       (λ f at. subst (λ o. IsPartOf (dropped_part (forget (with_names t (fin.remove t.paths whole) t.fds) o) o) (name.File f)) (rmdir_no_file t.paths path tree) at)
   change_alike (op.Unlink path) own tree none agree =
       let names = agree name.Names (inr (inl refl)) in
       let whole = whole_of path in
-      forgotten _ agree (fin.remove t.paths whole) (fin.remove u.paths whole) t.fds u.fds (file_of (fin.get t.paths whole)) (file_of (fin.get u.paths whole))
+      forgotten t u client _ agree (fin.remove t.paths whole) (fin.remove u.paths whole) t.fds u.fds (file_of (fin.get t.paths whole)) (file_of (fin.get u.paths whole))
       (ap (λ (p : Paths). fin.remove p whole) names.0) (fds_stay client t.fds u.fds (agree (name.Client client) (inl refl))) (ap (λ (p : Paths). file_of (fin.get p whole)) names.0)
       (λ f at. allowed_part (refusal t client (op.Unlink path)) _ (name.File f) none at)
   change_alike (op.Rename from to) own tree none agree =
-      rename_alike _ agree (whole_of from) (whole_of to) (λ f at. allowed_part (refusal t client (op.Rename from to)) _ (name.File f) none at)
-  change_alike (op.Stat path) own tree none agree = nothing _ agree
-  change_alike (op.List path) own tree none agree = nothing _ agree
+      rename_alike t u client _ agree (whole_of from) (whole_of to) (λ f at. allowed_part (refusal t client (op.Rename from to)) _ (name.File f) none at)
+  change_alike (op.Stat path) own tree none agree = nothing t u client _ agree
+  change_alike (op.List path) own tree none agree = nothing t u client _ agree
 
 -- ---- all requests
 

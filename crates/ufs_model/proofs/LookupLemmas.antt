@@ -24,7 +24,7 @@ pub from_some : {A : Type 0} (o : Option A) → is_some o ≡ true → (x : A) �
 from_some (Some x) e = (x, refl)
 from_some None e = cc
 
-tied : (r : Ordering) → is_eq r ≡ true → r ≡ Equal
+pub tied : (r : Ordering) → is_eq r ≡ true → r ≡ Equal
 tied Less e = cc
 tied Equal e = refl
 tied Greater e = cc
@@ -75,10 +75,7 @@ module _ {K X : Type 0} {R : K → K → Ordering} (o : IsTotalOrder R) (same : 
       by (inl e) = let none = ap (get (remove m k)) e ∙ removed_here m k in cc
       by (inr not) = (not, sym (removed_else m k q not) ∙ there)
 
-  -- ---- some value passes a test
-
-  abbrev pub Passes : (X → Bool) → FinMap R X → Type 0
-  Passes p m = (k : K) × (v : X) × (get m k ≡ Some v) × (p v ≡ true)
+  -- ---- some entry passes a test
 
   -- a key below all others isn't found among them
   below_none : (k : K) (es : List (K × X)) → below_all R k es ≡ true → find R k es ≡ None
@@ -87,10 +84,13 @@ module _ {K X : Type 0} {R : K → K → Ordering} (o : IsTotalOrder R) (same : 
       let both = and_parts _ _ h in
       ap (λ r. cond (is_eq r) (Some e.1) (find R k es)) (less _ both.0) ∙ below_none k es both.1
 
-  module _ (p : X → Bool) where
-    passes_some : (es : List (K × X)) → is_sorted R es ≡ true → list_any p (map (λ e. e.1) es) ≡ true → (k : K) × (v : X) × (find R k es ≡ Some v) × (p v ≡ true)
+  module _ (p : K × X → Bool) where
+    abbrev pub EntryPasses : FinMap R X → Type 0
+    EntryPasses m = (k : K) × (v : X) × (get m k ≡ Some v) × (p (k, v) ≡ true)
+
+    passes_some : (es : List (K × X)) → is_sorted R es ≡ true → list_any p es ≡ true → (k : K) × (v : X) × (find R k es ≡ Some v) × (p (k, v) ≡ true)
     passes_some [] sorted e = cc
-    passes_some (x ∷ es) sorted e = by (p x.1) refl (passes_some es (and_parts _ _ sorted).1) e
+    passes_some (x ∷ es) sorted e = by (p x) refl (passes_some es (and_parts _ _ sorted).1) e
       where
         later : (k : K) (v : X) → find R k es ≡ Some v → find R k (x ∷ es) ≡ Some v
         later k v there = at (eq_by_cmp R k x.0) refl
@@ -99,27 +99,47 @@ module _ {K X : Type 0} {R : K → K → Ordering} (o : IsTotalOrder R) (same : 
             at true is = let none = below_none x.0 es (and_parts _ _ sorted).0 in let moved = ap (λ k. find R k es) (one_key o same k x.0 is) in cc
             at false is = ap (λ b. cond b (Some x.1) (find R k es)) is ∙ there
 
-        by : (b : Bool) → p x.1 ≡ b → (list_any p (map (λ e. e.1) es) ≡ true → (k : K) × (v : X) × (find R k es ≡ Some v) × (p v ≡ true))
-            → (b || list_any p (map (λ e. e.1) es)) ≡ true → (k : K) × (v : X) × (find R k (x ∷ es) ≡ Some v) × (p v ≡ true)
+        by : (b : Bool) → p x ≡ b → (list_any p es ≡ true → (k : K) × (v : X) × (find R k es ≡ Some v) × (p (k, v) ≡ true))
+            → (b || list_any p es) ≡ true → (k : K) × (v : X) × (find R k (x ∷ es) ≡ Some v) × (p (k, v) ≡ true)
         by true is more h = (x.0, x.1, ap (λ b. cond b (Some x.1) (find R x.0 es)) ((eq_by_cmp_equiv o).refl x.0), is)
         by false is more h = let rest = more h in (rest.0, rest.1, later rest.0 rest.1 rest.2, rest.3)
 
-    some_passes : (es : List (K × X)) (k : K) (v : X) → find R k es ≡ Some v → p v ≡ true → list_any p (map (λ e. e.1) es) ≡ true
+    some_passes : (es : List (K × X)) (k : K) (v : X) → find R k es ≡ Some v → p (k, v) ≡ true → list_any p es ≡ true
     some_passes [] k v e h = cc
-    some_passes (x ∷ es) k v e h = by (eq_by_cmp R k x.0) (p x.1) refl (λ there. some_passes es k v there h) e
+    some_passes (x ∷ es) k v e h = by (eq_by_cmp R k x.0) refl (p x) refl (λ there. some_passes es k v there h) e
       where
-        by : (b c : Bool) → p x.1 ≡ c → (find R k es ≡ Some v → list_any p (map (λ e. e.1) es) ≡ true) → cond b (Some x.1) (find R k es) ≡ Some v → (c || list_any p (map (λ e. e.1) es)) ≡ true
-        by b true is more e = refl
-        by true false is more e = let passes = ap p (same_some x.1 v e) in cc
-        by false false is more e = more e
+        by : (b : Bool) → eq_by_cmp R k x.0 ≡ b → (c : Bool) → p x ≡ c → (find R k es ≡ Some v → list_any p es ≡ true) → cond b (Some x.1) (find R k es) ≡ Some v → (c || list_any p es) ≡ true
+        by b tie true is more e = refl
+        by true tie false is more e =
+            let key = one_key o same k x.0 tie in
+            let value = same_some x.1 v e in
+            let passes : p x ≡ true = (λ i. p (sym key i, value i)) ∙ h in
+            cc
+        by false tie false is more e = more e
 
-    pub passes : (m : FinMap R X) → list_any p (fin.values m) ≡ true → Passes p m
-    passes m e =
+    pub entry_passes : (m : FinMap R X) → list_any p (entries m) ≡ true → EntryPasses m
+    entry_passes m e =
         let is = passes_some (entries m) (entries-rise m) e in
         (is.0, is.1, get-entries m is.0 ∙ is.2, is.3)
 
+    pub from_entry_passes : (m : FinMap R X) → EntryPasses m → list_any p (entries m) ≡ true
+    from_entry_passes m is = some_passes (entries m) is.0 is.1 (sym (get-entries m is.0) ∙ is.2) is.3
+
+  -- ---- some value passes a test
+
+  abbrev pub Passes : (X → Bool) → FinMap R X → Type 0
+  Passes p m = (k : K) × (v : X) × (get m k ≡ Some v) × (p v ≡ true)
+
+  module _ (p : X → Bool) where
+    any_value : (es : List (K × X)) → list_any p (map (λ e. e.1) es) ≡ list_any (λ e. p e.1) es
+    any_value [] = refl
+    any_value (e ∷ es) = ap (λ b. p e.1 || b) (any_value es)
+
+    pub passes : (m : FinMap R X) → list_any p (fin.values m) ≡ true → Passes p m
+    passes m e = entry_passes (λ e. p e.1) m (sym (any_value (entries m)) ∙ e)
+
     pub from_passes : (m : FinMap R X) → Passes p m → list_any p (fin.values m) ≡ true
-    from_passes m is = some_passes (entries m) is.0 is.1 (sym (get-entries m is.0) ∙ is.2) is.3
+    from_passes m is = any_value (entries m) ∙ from_entry_passes (λ e. p e.1) m is
 
   -- a key that is there passes a test of keys
   found_passes : (q : K → Bool) (es : List (K × X)) (k : K) → is_some (find R k es) ≡ true → q k ≡ true → list_any q (map (λ e. e.0) es) ≡ true

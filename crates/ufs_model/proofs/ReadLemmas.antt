@@ -3,9 +3,15 @@ use Rattle.std.proofs.Common.{◌≡◌, ℕ, ◌+◌, ◌-◌, List, [], ◌∷
 use Rattle.std.proofs.lemmas.List.{length-append, length-take-le, length-replicate}
 use Rattle.std.proofs.Math.Seq.{drop-append_seam, take-append_seam}
 use Rattle.std.specs.Prelude.{is_none, unwrap_or}
+<<<<<<< HEAD
 use Rattle.std.specs.Cmp.{IsTotalOrder, eq_by_cmp_equiv, nat_cmp_total}
 use Rattle.std.specs.FinMap as fin
 use Rattle.std.specs.FinMap.{get-insert}
+=======
+use Rattle.std.specs.Cmp.{nat_cmp_total}
+use Rattle.std.specs.FinMap as fin
+use Rattle.std.specs.FinMap.{nat_cmp-IsAntisymmetric}
+>>>>>>> cb6e5da178b36a1a3f0eb53b707b506bd62917a8
 use Rattle.ufs_model.specs.Paths.{first_of, refused_if}
 use Rattle.ufs_model.specs.PosixTree.{PosixTree, desc_at}
 use Rattle.ufs_model.specs.Descriptors.{opened, closed, moved}
@@ -19,8 +25,10 @@ use Rattle.ufs_model.specs.declared.data.Errno.TheVariants.{Ebadf, Eisdir}
 use Rattle.ufs_model.specs.declared.data.Op.{Op}
 use Rattle.ufs_model.specs.declared.data.Op.TheVariants as op
 use Rattle.ufs_model.specs.declared.data.Reply.TheVariants.{Count, Got}
-use Rattle.ufs_model.proofs.OrderLemmas.{fd_total}
-use Rattle.ufs_model.proofs.LocalLemmas.{first_none, write_open}
+use Rattle.ufs_model.proofs.OrderLemmas.{fd_total, fd_same}
+use Rattle.ufs_model.proofs.AllowedLemmas.{first_none}
+use Rattle.ufs_model.proofs.LookupLemmas.{inserted_here}
+use Rattle.ufs_model.proofs.LocalLemmas.{write_open}
 
 -- ---- bytes
 
@@ -45,9 +53,6 @@ no_bytes [] old at e = refl
 no_bytes (x ∷ fresh) old at e = absurd (grind arith)
 
 -- ---- requests
-
-get_inserted : {K X : Type 0} {R : K → K → _} (o : IsTotalOrder R) (m : fin.FinMap R X) (k : K) (v : X) → fin.get (fin.insert m k v) k ≡ Some v
-get_inserted o m k v = get-insert o m k v k ∙ ap (λ b. cond b (Some v) (fin.get m k)) ((eq_by_cmp_equiv o).refl k)
 
 -- a request that has an answer wasn't refused
 counted : (t : PosixTree) (client : ℕ) (request : Op) (n : ℕ) → (posix t client request).1 ≡ Count n → refusal t client request ≡ None
@@ -91,7 +96,7 @@ module _ (t : PosixTree) (client fd : ℕ) (fresh : List ℕ) where
       by_test : (b : Bool) → eqb (length fresh) 0 ≡ b → (posix (cond b t (with_bytes t (Some file) (put_at (content t.bytes (Some file)) at fresh))) reader (op.Pread fd' (length fresh) at)).1 ≡ Got fresh
       by_test true empty = reads t reader fd' file (length fresh) at may.desc may.is may.named may.read ∙ ap Got (no_bytes fresh (content t.bytes (Some file)) at empty)
       by_test false some = reads_put (with_bytes t (Some file) (put_at (content t.bytes (Some file)) at fresh)) reader fd' file at (content t.bytes (Some file)) fresh may.desc may.is may.named may.read
-          (get_inserted nat_cmp_total t.bytes file (put_at (content t.bytes (Some file)) at fresh))
+          (inserted_here nat_cmp_total nat_cmp-IsAntisymmetric t.bytes file (put_at (content t.bytes (Some file)) at fresh))
 
   -- the tree after a `write` through a descriptor
   abbrev after_write : Bool → Option ℕ → Desc → PosixTree
@@ -114,8 +119,8 @@ module _ (t : PosixTree) (client fd : ℕ) (fresh : List ℕ) where
       by_test false some =
           let at = place_of d (content t.bytes (Some file)) in
           reads_put (after_write false (Some file) d) client fd file at (content t.bytes (Some file)) fresh (moved d (at + length fresh))
-          (get_inserted fd_total t.fds (client, fd) (moved d (at + length fresh))) named read
-          (get_inserted nat_cmp_total t.bytes file (put_at (content t.bytes (Some file)) at fresh))
+          (inserted_here fd_total fd_same t.fds (client, fd) (moved d (at + length fresh))) named read
+          (inserted_here nat_cmp_total nat_cmp-IsAntisymmetric t.bytes file (put_at (content t.bytes (Some file)) at fresh))
 
 pub written_read : WrittenIsRead
 written_read t client fd fresh at reader fd' file is named may = written_is_read t client fd fresh at reader fd' file is named may

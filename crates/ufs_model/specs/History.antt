@@ -94,9 +94,12 @@ pub record IsNext (clients : List (List Op)) (history : List Entry) (entry : Ent
 abbrev pub joined : List (List Entry) → List Entry
 joined lists = flat_map (λ entries. entries) lists
 
+abbrev pub tickets_of : List Entry → List ℕ
+tickets_of entries = map (λ e. e.ticket) entries
+
 -- no two entries have one ticket
 abbrev pub AreTicketsOnce : List Entry → Type 0
-AreTicketsOnce entries = IsDistinct nat_eq (map (λ e. e.ticket) entries)
+AreTicketsOnce entries = IsDistinct nat_eq (tickets_of entries)
 
 -- each ticket is below those behind it
 abbrev pub DoTicketsRise : List Entry → Type 0

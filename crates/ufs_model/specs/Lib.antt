@@ -9,6 +9,7 @@ pub mod Descriptors
 pub mod FileBytes
 pub mod Refusals
 pub mod Posix
+pub mod OpKinds
 pub mod Excuses
 pub mod History
 pub mod Touched

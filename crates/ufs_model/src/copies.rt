@@ -7,6 +7,7 @@ use crate::lists::{Bytes, NameList};
 use std::alloc::Global;
 
 impl Bytes {
+    /// Takes as much memory as it has.
     pub fn copy(&self, alloc: Global) -> Result<Self, Memory>
         ensures { IfOk result (λ copy. copy ≡ self.now) }
     {
@@ -15,6 +16,7 @@ impl Bytes {
 }
 
 impl NameList {
+    /// Takes as much memory as it has.
     pub fn copy(&self, alloc: Global) -> Result<Self, Memory>
         ensures { IfOk result (λ copy. copy ≡ self.now) }
     {
@@ -27,10 +29,14 @@ impl NameList {
 }
 
 impl Op {
-    pub fn copy(&self, alloc: Global) -> Result<Self, Memory>
+    ghost use Rattle.std.specs.Prelude.{IsTrue};
+    ghost use Rattle.ufs_model.specs.OpKinds.{is_open, is_on_fd};
+
+    fn copy_open(&self, alloc: Global) -> Result<Self, Memory>
+        requires { IsTrue (is_open self.now) }
         ensures { IfOk result (λ copy. copy ≡ self.now) }
     {
-        Ok(match self {
+        match self {
             Op::OpenFile {
                 path,
                 read,
@@ -39,7 +45,7 @@ impl Op {
                 excl,
                 trunc,
                 append,
-            } => Op::OpenFile {
+            } => Ok(Op::OpenFile {
                 path: path.copy(alloc)?,
                 read: *read,
                 write: *write,
@@ -47,7 +53,16 @@ impl Op {
                 excl: *excl,
                 trunc: *trunc,
                 append: *append,
-            },
+            }),
+            _ => unreachable!(),
+        }
+    }
+
+    fn copy_on_fd(&self, alloc: Global) -> Result<Self, Memory>
+        requires { IsTrue (is_on_fd self.now) }
+        ensures { IfOk result (λ copy. copy ≡ self.now) }
+    {
+        Ok(match self {
             Op::Close { fd } => Op::Close { fd: *fd },
             Op::Read { fd, n } => Op::Read { fd: *fd, n: *n },
             Op::Write { fd, bytes } => Op::Write {
@@ -74,31 +89,43 @@ impl Op {
                 size: *size,
             },
             Op::Fsync { fd } => Op::Fsync { fd: *fd },
-            Op::Sync => Op::Sync,
-            Op::Mkdir { path } => Op::Mkdir {
+            _ => unreachable!(),
+        })
+    }
+
+    /// Takes as much memory as it has.
+    pub fn copy(&self, alloc: Global) -> Result<Self, Memory>
+        ensures { IfOk result (λ copy. copy ≡ self.now) }
+    {
+        match self {
+            Op::OpenFile { .. } => self.copy_open(alloc),
+            Op::Sync => Ok(Op::Sync),
+            Op::Mkdir { path } => Ok(Op::Mkdir {
                 path: path.copy(alloc)?,
-            },
-            Op::Rmdir { path } => Op::Rmdir {
+            }),
+            Op::Rmdir { path } => Ok(Op::Rmdir {
                 path: path.copy(alloc)?,
-            },
-            Op::Unlink { path } => Op::Unlink {
+            }),
+            Op::Unlink { path } => Ok(Op::Unlink {
                 path: path.copy(alloc)?,
-            },
-            Op::Rename { from, to } => Op::Rename {
+            }),
+            Op::Rename { from, to } => Ok(Op::Rename {
                 from: from.copy(alloc)?,
                 to: to.copy(alloc)?,
-            },
-            Op::Stat { path } => Op::Stat {
+            }),
+            Op::Stat { path } => Ok(Op::Stat {
                 path: path.copy(alloc)?,
-            },
-            Op::List { path } => Op::List {
+            }),
+            Op::List { path } => Ok(Op::List {
                 path: path.copy(alloc)?,
-            },
-        })
+            }),
+            _ => self.copy_on_fd(alloc),
+        }
     }
 }
 
 impl Reply {
+    /// Takes as much memory as it has.
     pub fn copy(&self, alloc: Global) -> Result<Self, Memory>
         ensures { IfOk result (λ copy. copy ≡ self.now) }
     {
@@ -118,6 +145,7 @@ impl Reply {
 }
 
 impl Entry {
+    /// Takes as much memory as it has.
     pub fn copy(&self, alloc: Global) -> Result<Self, Memory>
         ensures { IfOk result (λ copy. copy ≡ self.now) }
     {

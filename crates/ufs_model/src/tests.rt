@@ -1,11 +1,12 @@
 // What no clause says: that the calls succeed where there is memory.
 ghost use Rattle.std.specs.Prelude.{◌≡◌, [], ◌∷◌, IfOk, codes};
+ghost use Rattle.ufs_model.specs.History.{joined, tickets_of};
 ghost use Rattle.ufs_model.specs.PathEntries.{pairs_of};
 ghost use Rattle.ufs_model.specs.declared.data.PathNode.TheVariants as path_node;
 
 use crate::{
     Actor, Bytes, Entry, EntryList, Errno, Memory, NameList, Op, PathEntry, PathNode, PathTree,
-    Reply, Tree,
+    Reply, merge,
 };
 use std::alloc::Global;
 use std::test::Fail;
@@ -47,9 +48,8 @@ fn some_paths(alloc: Global) -> Result<Vec<PathEntry>, Memory>
 }
 
 #[test]
-fn the_root_alone_starts(rt: HostRuntime) -> Result<(), Fail> {
+fn the_root_alone_has_one_entry(rt: HostRuntime) -> Result<(), Fail> {
     let paths = PathTree::root_alone(rt.alloc())?;
-    let _tree = Tree::start(rt.alloc(), &paths)?;
     let entries = paths.into_vec();
     assert_eq!(rt; entries.len(), 1);
     assert_eq!(rt; entries[0].path.as_slice(), b"/".as_slice());
@@ -57,11 +57,11 @@ fn the_root_alone_starts(rt: HostRuntime) -> Result<(), Fail> {
 }
 
 #[test]
-fn a_path_tree_starts_and_gives_its_entries_back(rt: HostRuntime) -> Result<(), Fail> {
+fn a_path_tree_gives_its_entries_back(rt: HostRuntime) -> Result<(), Fail> {
     let entries = some_paths(rt.alloc())?;
     assert!(rt; PathTree::are_rising(entries.as_slice()));
     let paths = PathTree::from_vec(entries);
-    let _tree = Tree::start(rt.alloc(), &paths)?;
+    assert_eq!(rt; paths.as_slice().len(), 4);
     let back = paths.into_vec();
     let names = ["/", "/a", "/a/f", "/g"];
     assert_eq!(rt; back.len(), names.len());
@@ -71,32 +71,17 @@ fn a_path_tree_starts_and_gives_its_entries_back(rt: HostRuntime) -> Result<(), 
     Ok(())
 }
 
-#[test]
-fn a_file_is_written_and_read(rt: HostRuntime) -> Result<(), Fail> {
-    let alloc = rt.alloc();
-    let mut tree = Tree::start(alloc, &PathTree::root_alone(alloc)?)?;
-    let open = Op::OpenFile {
-        path: Bytes::from_vec(b"/f".to_vec(alloc)?),
-        read: true,
-        write: true,
-        creat: true,
-        excl: false,
-        trunc: false,
-        append: false,
-    };
-    let reply = tree.step(2, &open)?;
-    assert!(rt; matches!(&reply, Reply::Fd(3)));
-    let bytes = Bytes::from_vec(b"ab".to_vec(alloc)?);
-    let reply = tree.step(2, &Op::Write { fd: 3, bytes })?;
-    assert!(rt; matches!(&reply, Reply::Count(2)));
-    let reply = tree.step(2, &open)?;
-    assert!(rt; matches!(&reply, Reply::Fd(4)));
-    let reply = tree.step(2, &Op::Read { fd: 4, n: 9 })?;
-    let Reply::Got(bytes) = reply else {
-        panic!(rt; "no bytes");
-    };
-    assert_eq!(rt; bytes.as_slice(), b"ab".as_slice());
-    Ok(())
+fn closed(ticket: u64, client: u8) -> Entry
+    ensures { result.ticket ≡ ticket }
+{
+    Entry {
+        ticket,
+        client,
+        seq: 0,
+        by: Actor::Client(client),
+        op: Op::Close { fd: 3 },
+        reply: Reply::Refused(Errno::Ebadf),
+    }
 }
 
 #[test]
@@ -110,14 +95,40 @@ fn lists_take_what_they_are_given(rt: HostRuntime) -> Result<(), Fail> {
     let names = NameList::from_vec(names);
     assert_eq!(rt; names.as_slice().len(), 2);
     let mut history = EntryList::new(alloc);
-    history.push(Entry {
-        ticket: 0,
-        client: 1,
-        seq: 0,
-        by: Actor::Primary,
-        op: Op::Close { fd: 3 },
-        reply: Reply::Refused(Errno::Ebadf),
-    })?;
+    history.push(closed(0, 1))?;
     assert_eq!(rt; history.as_slice().len(), 1);
+    Ok(())
+}
+
+fn closes(alloc: Global, client: u8, tickets: &[u64]) -> Result<EntryList, Memory>
+    ensures { IfOk result (λ list. tickets_of list ≡ tickets.now) }
+{
+    let mut list = Vec::new(alloc);
+    for ticket in tickets {
+        list.push(closed(*ticket, client))?;
+    }
+    Ok(EntryList::from_vec(list))
+}
+
+fn three_lists(alloc: Global) -> Result<Vec<EntryList>, Memory>
+    ensures { IfOk result (λ lists. tickets_of (joined lists.items) ≡ 0 ∷ 4 ∷ 5 ∷ 1 ∷ 3 ∷ 2 ∷ []) }
+{
+    let mut lists = Vec::new(alloc);
+    lists.push(closes(alloc, 1, &[0, 4, 5])?)?;
+    lists.push(closes(alloc, 2, &[1, 3])?)?;
+    lists.push(closes(alloc, 3, &[2])?)?;
+    Ok(lists)
+}
+
+#[test]
+fn three_lists_make_one_history(rt: HostRuntime) -> Result<(), Fail> {
+    let alloc = rt.alloc();
+    let lists = three_lists(alloc)?;
+    let merged = merge(alloc, &lists)?;
+    let entries = merged.as_slice();
+    assert_eq!(rt; entries.len(), 6);
+    for (entry, ticket) in entries.iter().zip([0, 1, 2, 3, 4, 5]) {
+        assert_eq!(rt; entry.ticket, ticket);
+    }
     Ok(())
 }
