@@ -15,12 +15,8 @@ use Rattle.ufs_model.specs.declared.data.Desc.{Desc}
 use Rattle.ufs_model.specs.declared.data.PartName.{PartName}
 use Rattle.ufs_model.specs.declared.data.PartName.TheVariants as part
 use Rattle.ufs_model.proofs.OrderLemmas.{fd_total}
-<<<<<<< HEAD
-use Rattle.ufs_model.proofs.DescriptorLemmas.{apart, holds_by, open_by, put_elsewhere, gone_elsewhere}
-=======
 use Rattle.ufs_model.proofs.LookupLemmas.{inserted_else, removed_else}
 use Rattle.ufs_model.proofs.DescriptorLemmas.{holds_by, open_by, put_elsewhere, gone_elsewhere}
->>>>>>> cb6e5da178b36a1a3f0eb53b707b506bd62917a8
 
 -- ---- descriptors
 

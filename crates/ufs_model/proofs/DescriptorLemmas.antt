@@ -8,12 +8,7 @@ use Rattle.std.specs.Ordering.{is_eq}
 use Rattle.std.specs.Cmp.{both_ways}
 use Rattle.std.specs.List.{list_any}
 use Rattle.std.specs.FinMap as fin
-<<<<<<< HEAD
-use Rattle.std.specs.FinMap.{IsAntisymmetric, find, is_sorted, get-entries, get-insert, get-remove}
-use Rattle.std.specs.FinMap.Entries.{below_all}
-=======
 use Rattle.std.specs.FinMap.{get-insert}
->>>>>>> cb6e5da178b36a1a3f0eb53b707b506bd62917a8
 use Rattle.ufs_model.specs.PosixTree.{Fds, is_desc_of, is_number}
 use Rattle.ufs_model.specs.Order.{fd_cmp}
 use Rattle.ufs_model.specs.Touched.{holds}
@@ -70,15 +65,8 @@ open_way a b file same is =
 -- whether a file is open at all is told by who holds it
 pub open_by : (a b : Fds) (file : ℕ) → ((client : ℕ) → holds a client file ≡ holds b client file) → list_any (is_desc_of file) (fin.values a) ≡ list_any (is_desc_of file) (fin.values b)
 open_by a b file same =
-<<<<<<< HEAD
-    any_value (is_desc_of file) (fin.entries a)
-    ∙ both_ways (list_any (λ e. is_desc_of file e.1) (fin.entries a)) (list_any (λ e. is_desc_of file e.1) (fin.entries b))
-    (open_way a b file (λ client is. sym (same client) ∙ is)) (open_way b a file (λ client is. same client ∙ is))
-    ∙ sym (any_value (is_desc_of file) (fin.entries b))
-=======
     both_ways (list_any (is_desc_of file) (fin.values a)) (list_any (is_desc_of file) (fin.values b))
     (open_way a b file (λ client is. sym (same client) ∙ is)) (open_way b a file (λ client is. same client ∙ is))
->>>>>>> cb6e5da178b36a1a3f0eb53b707b506bd62917a8
 
 -- ---- descriptors that come, move and go
 

@@ -1,9 +1,5 @@
 -- Entries that are sorted by ticket rise, where no two have one ticket.
-<<<<<<< HEAD
-use Rattle.std.proofs.Common.{◌≡◌, ◌<◌, ℕ, List, [], ◌∷◌, eqb, sym, arith, length, map}
-=======
 use Rattle.std.proofs.Common.{◌≡◌, ◌<◌, ℕ, List, [], ◌∷◌, eqb, sym, arith, length}
->>>>>>> cb6e5da178b36a1a3f0eb53b707b506bd62917a8
 use Rattle.std.proofs.lemmas.Bool.{eqb-true, eq-eqb}
 use Rattle.std.proofs.lemmas.List.{length-map, get_or-map}
 use Rattle.std.proofs.lemmas.List.Sorted.{IsPermutation-map}
