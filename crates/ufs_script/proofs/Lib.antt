@@ -1,5 +1,1 @@
 pub mod WordLemmas
-pub mod RequestLemmas
-pub mod BreakLemmas
-pub mod SpellingLemmas
-pub mod Rows

@@ -1,5 +1,0 @@
-use Rattle.ufs_script.proofs.SpellingLemmas.{script_back}
-use Rattle.ufs_script.proofs.law.printing_and_reading.Goals as goal
-
-pub returns : goal.returns
-returns c = script_back
