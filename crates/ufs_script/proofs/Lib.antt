@@ -1,1 +1,7 @@
 pub mod WordLemmas
+pub mod LineLemmas
+pub mod FoldLemmas
+pub mod NumberLemmas
+pub mod InsideLemmas
+pub mod SpellingLemmas
+pub mod PrintedLemmas

@@ -1,12 +1,10 @@
 -- Which lines a text has.
-use Rattle.std.specs.Prelude.{ℕ, ◌-◌, List, [], ◌∷◌, ◌++◌, ◌==◌, length, take, slice_get, if◌then◌else◌, Option, Some, None}
+use Rattle.std.specs.Prelude.{ℕ, ◌-◌, List, [], ◌∷◌, ◌++◌, ◌==◌, length, take, slice_index, if◌then◌else◌}
 use Rattle.std.specs.List.{slice_split}
 
 -- without the byte 0x0d that stands last, where one does
 abbrev pub without_return : List ℕ → List ℕ
-without_return [] = []
-without_return (b ∷ []) = if b == 13 then [] else b ∷ []
-without_return (b ∷ c ∷ line) = b ∷ without_return (c ∷ line)
+without_return line = if slice_index line (length line - 1) == 13 then take (length line - 1) line else line
 
 -- of the pieces between the bytes 0x0a, all but the last are lines with a line end
 abbrev pub all_ended : List (List ℕ) → List (List ℕ)

@@ -1,5 +1,5 @@
 -- Which request the words of a line ask for, or which rule they break first, from left to right.
-use Rattle.std.specs.Prelude.{ℕ, ◌≡◌, ◌⊎◌, List, [], ◌∷◌, Bool, true, false, ◌==◌, nat_le, length, drop, fold, slice_get, if◌then◌else◌, Option, Some, None, Result, Ok, Err, ℤ, codes}
+use Rattle.std.specs.Prelude.{ℕ, ◌≡◌, ◌⊎◌, List, Bool, true, false, nat_le, length, drop, fold, slice_get, if◌then◌else◌, Option, Some, None, Result, Ok, Err, ℤ, codes}
 use Rattle.std.specs.Option.{ok_or}
 use Rattle.std.specs.Str.{bytes_eq}
 use Rattle.ufs_model.specs.declared.data.Whence.{Whence}

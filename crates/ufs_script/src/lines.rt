@@ -3,6 +3,8 @@ ghost use Rattle.std.specs.Prelude.{◌≡◌, ◌<◌, ◌∷◌, [], IfSome, I
 ghost use Rattle.ufs_script.specs.Lines.{ended_lines, unended_line};
 ghost use Rattle.ufs_script.specs.Lines as specs;
 
+use crate::words::place_of;
+
 /// A line without its line end, and what follows it.
 #[derive(Clone, Copy)]
 pub struct Cut<'a> {
@@ -28,7 +30,7 @@ pub fn first_line(text: &[u8]) -> Option<Cut<'_>>
     ensures no_end { IfNone result (ended_lines text.now ≡ []) }
     ensures last { IfNone result (unended_line text.now ≡ specs.all_unended (text.now ∷ [])) }
 {
-    let end = text.iter().position(|b| *b == b'\n')?;
+    let end = place_of(text, b'\n')?;
     Some(Cut {
         line: without_return(&text[..end]),
         rest: &text[end + 1..],

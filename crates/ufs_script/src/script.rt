@@ -65,11 +65,22 @@ fn read_lines(alloc: Global, text: &[u8]) -> Result<Draft, ScriptFault>
     after_line(alloc, draft, rest)
 }
 
+// The first bytes of a text that has more.
+fn front(text: &[u8], size: usize) -> &[u8]
+    requires { size ≤ length text.now }
+    ensures value { result.now ≡ take size text.now }
+    ensures len { length result.now ≡ size }
+{
+    &text[..size]
+}
+
 // The script of a text's lines, of which one has to be `end`.
 fn finish(alloc: Global, draft: Draft) -> Result<Script, ScriptFault>
     requires { IsFew draft }
     ensures ok { IfOk result (λ script. finished (Ok draft) ≡ Ok script) }
     ensures err { IfErr result (IsFaultOf (finished (Ok draft))) }
+    ensures workers { IfOk result (λ script. script.workers ≡ 1) }
+    ensures words { IfOk result (λ script. script.words ≡ []) }
     ensures never { result ≢ Err ScriptFault.Source }
 {
     let Draft { lines, before, current, ended } = draft;
@@ -90,10 +101,12 @@ fn finish(alloc: Global, draft: Draft) -> Result<Script, ScriptFault>
 pub fn parse(alloc: Global, text: &[u8]) -> Result<Script, ScriptFault>
     ensures ok { IfOk result (λ script. script_of text.now ≡ Ok script) }
     ensures err { IfErr result (IsFaultOf (script_of text.now)) }
+    ensures workers { IfOk result (λ script. script.workers ≡ 1) }
+    ensures words { IfOk result (λ script. script.words ≡ []) }
     ensures never { result ≢ Err ScriptFault.Source }
 {
     if text.len() > MAX_SCRIPT {
-        let ended = read_ended(alloc, &text[..MAX_SCRIPT])?;
+        let ended = read_ended(alloc, front(text, MAX_SCRIPT))?;
         return Err(ScriptFault::TooLong {
             line: ended.draft.lines + 1,
         });
