@@ -17,7 +17,7 @@ mod verb;
 mod words;
 
 pub use fault::ScriptFault;
-pub use law::printing_and_reading;
+pub use law::{a_longer_text_breaks_alike, printing_and_reading};
 pub use lists::{OpList, OpLists, ScheduleWord, WordList};
 pub use output::{reply_line, trace_line};
 pub use reading::read_script;
