@@ -1,12 +1,16 @@
 -- Words and lines one after the other: what is refused stays refused.
-use Rattle.std.proofs.Common.{◌≡◌, ℕ, ◌<◌, suc, List, [], ◌∷◌, ◌++◌, length, drop, get_or, drop-cons, map, refl, Some, None, Ok, Err, Bor, ◌∙◌, ap, inl, inr}
+use Rattle.std.proofs.Common.{◌≡◌, ℕ, ◌<◌, suc, List, [], ◌∷◌, ◌++◌, length, length-append, take, drop, get_or, drop-cons, map, refl, cond, Some, None, Ok, Err, Bor, ◌∙◌, sym, ap, inl, inr, arith}
 use Rattle.std.specs.List.{fold}
 use Rattle.std.proofs.lemmas.List.Sums.{fold-append}
 use Rattle.ufs_script.specs.declared.draft.Draft.{Draft}
 use Rattle.ufs_script.specs.declared.fault.ScriptFault.{ScriptFault}
 use Rattle.ufs_script.specs.declared.request.Flags.{Flags}
 use Rattle.ufs_script.specs.Requests.{with_flag}
-use Rattle.ufs_script.specs.Script.{after_line, draft_of, no_lines, IsFaultOf}
+use Rattle.ufs_script.specs.Script.{after_line, draft_of, no_lines, finished, passed, script_of, max_script, IsFaultOf}
+use Rattle.ufs_script.specs.Lines.{ended_lines, lines_in}
+use Rattle.ufs_script.specs.Reading.{LongerIsAlike}
+use Rattle.std.proofs.lemmas.Bool.{lt-leb}
+use Rattle.std.proofs.lemmas.List.{take-append-le}
 
 -- ---- flags
 
@@ -35,3 +39,16 @@ first_break draft line lines f (inr here) = inr (ap (λ r. fold after_line r lin
 pub break_before : (lines more : List (List ℕ)) (f : ScriptFault) → IsFaultOf (draft_of lines) f → IsFaultOf (draft_of (lines ++ more)) f
 break_before lines more f (inl memory) = inl memory
 break_before lines more f (inr here) = inr (fold-append after_line (Ok no_lines) lines more ∙ ap (λ r. fold after_line r more) here ∙ fault_stays f more)
+
+-- ---- texts that are too long
+
+passed_alike : (text : List ℕ) → max_script < length text → script_of text ≡ passed (draft_of (ended_lines (take max_script text)))
+passed_alike text long = ap (λ b. cond b (finished (draft_of (lines_in text))) (passed (draft_of (ended_lines (take max_script text))))) (lt-leb (length text) max_script long)
+
+-- only the bytes within the greatest length count
+pub longer_alike : LongerIsAlike
+longer_alike text more long =
+    let longer : max_script < length (text ++ more) = omega (arith, length-append text more) in
+    passed_alike (text ++ more) longer
+    ∙ ap (λ front. passed (draft_of (ended_lines front))) (take-append-le max_script text more (omega arith))
+    ∙ sym (passed_alike text long)

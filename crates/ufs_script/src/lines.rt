@@ -3,14 +3,7 @@ ghost use Rattle.std.specs.Prelude.{◌≡◌, ◌<◌, ◌∷◌, [], IfSome, I
 ghost use Rattle.ufs_script.specs.Lines.{ended_lines, unended_line};
 ghost use Rattle.ufs_script.specs.Lines as specs;
 
-use crate::words::place_of;
-
-/// A line without its line end, and what follows it.
-#[derive(Clone, Copy)]
-pub struct Cut<'a> {
-    pub line: &'a [u8],
-    pub rest: &'a [u8],
-}
+use crate::words::{Cut, place_of};
 
 // Without the byte 0x0d that stands last, where one does.
 fn without_return(line: &[u8]) -> &[u8]
@@ -22,9 +15,9 @@ fn without_return(line: &[u8]) -> &[u8]
     if *last == b'\r' { start } else { line }
 }
 
-/// The first line that has a line end.
+/// The first line that has a line end, without it, and what follows it.
 pub fn first_line(text: &[u8]) -> Option<Cut<'_>>
-    ensures ended { IfSome result (λ cut. ended_lines text.now ≡ cut.line.now ∷ ended_lines cut.rest.now) }
+    ensures ended { IfSome result (λ cut. ended_lines text.now ≡ cut.front.now ∷ ended_lines cut.rest.now) }
     ensures unended { IfSome result (λ cut. unended_line text.now ≡ unended_line cut.rest.now) }
     ensures shorter { IfSome result (λ cut. length cut.rest.now < length text.now) }
     ensures no_end { IfNone result (ended_lines text.now ≡ []) }
@@ -32,7 +25,7 @@ pub fn first_line(text: &[u8]) -> Option<Cut<'_>>
 {
     let end = place_of(text, b'\n')?;
     Some(Cut {
-        line: without_return(&text[..end]),
+        front: without_return(&text[..end]),
         rest: &text[end + 1..],
     })
 }

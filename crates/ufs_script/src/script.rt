@@ -44,7 +44,7 @@ fn read_ended(alloc: Global, text: &[u8]) -> Result<Ended<'_>, ScriptFault>
     let mut draft = no_lines(alloc);
     let mut rest = text;
     while let Some(cut) = first_line(rest) {
-        draft = after_line(alloc, draft, cut.line)?;
+        draft = after_line(alloc, draft, cut.front)?;
         rest = cut.rest;
     }
     Ok(Ended { draft, rest })

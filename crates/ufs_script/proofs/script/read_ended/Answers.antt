@@ -11,4 +11,4 @@ returns-in_err-draft-clause-err c =
     let p = err_from_is_err_and c.from_residual.result c.from_residual.ensures.1 in
     let f = c.in_err-draft.field-0.0 in
     let all = ap (fold after_line (Ok c.loop-cut.draft)) (sym c.in-Some.ensures.ended) ∙ c.loop-cut.invariant.read in
-    rw (p.1, p.2) (subst (λ r. IsFaultOf r f) all (first_break c.loop-cut.draft c.in-Some.cut.line.now (ended_lines c.in-Some.cut.rest.now) f c.in_err-draft.ensures.err))
+    rw (p.1, p.2) (subst (λ r. IsFaultOf r f) all (first_break c.loop-cut.draft c.in-Some.cut.front.now (ended_lines c.in-Some.cut.rest.now) f c.in_err-draft.ensures.err))
