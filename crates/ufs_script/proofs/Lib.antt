@@ -5,3 +5,4 @@ pub mod NumberLemmas
 pub mod InsideLemmas
 pub mod SpellingLemmas
 pub mod PrintedLemmas
+pub mod Rows

@@ -150,11 +150,12 @@ requests_run : (more : List Op) (n : ℕ) (before : List (List Op)) (requests : 
     → (m : ℕ) × (fold after_line (Ok (so_far n before (Some requests))) (map joined (map request_words more)) ≡ Ok (so_far m before (Some (requests ++ more))))
 requests_run [] n before requests bounded spelled' few = (n, ap (λ all. Ok (so_far n before (Some all))) (sym (append-nil requests)))
 requests_run (request ∷ more) n before requests bounded spelled' few =
-    let next = requests_run more (n + 1) before (requests ++ request ∷ []) bounded.1 spelled'.1 (simp length-append (omega arith)) in
-    (next.0,
-    ap (λ r. fold after_line r (map joined (map request_words more))) (request_line_step n before requests request bounded.0 spelled'.0 (omega arith))
-    ∙ next.1
-    ∙ ap (λ all. Ok (so_far next.0 before (Some all))) (append_assoc requests (request ∷ []) more))
+    let next = requests_run more (n + 1) before (requests ++ request ∷ []) bounded.1 spelled'.1 (simp length-append (omega arith)) in (
+      next.0,
+      ap (λ r. fold after_line r (map joined (map request_words more))) (request_line_step n before requests request bounded.0 spelled'.0 (omega arith))
+          ∙ next.1
+          ∙ ap (λ all. Ok (so_far next.0 before (Some all))) (append_assoc requests (request ∷ []) more),
+    )
 
 clients_run : (clients : List (List Op)) (n : ℕ) (before : List (List Op)) (current : Option (List Op)) (k : ℕ) → AllByRecursion IsClient clients → k ≡ length (before ++ option_to_list current) → k + length clients ≤ 16
     → Reaches (fold after_line (Ok (so_far n before current)) (map joined (client_lines k clients))) ((before ++ option_to_list current) ++ clients)
@@ -184,9 +185,10 @@ requests_are (request ∷ requests) rest bounded spelled' all = (spelled.request
 clients_are : (clients : List (List Op)) (k : ℕ) → AllByRecursion IsClient clients → k + length clients ≤ 16 → AreLines (client_lines k clients ++ (codes "end" ∷ []) ∷ [])
 clients_are [] k all few = ((literal (codes "end") refl refl, tt), tt)
 clients_are (requests ∷ clients) k all few =
-    let rest = clients_are clients (k + 1) all.1 (omega arith) in
-    ((literal (codes "client") refl refl, (decimal_word k (omega arith), tt)),
-    subst AreLines (sym (append_assoc (map request_words requests) (client_lines (k + 1) clients) ((codes "end" ∷ []) ∷ []))) (requests_are requests _ all.0.0 all.0.1 rest))
+    let rest = clients_are clients (k + 1) all.1 (omega arith) in (
+      (literal (codes "client") refl refl, (decimal_word k (omega arith), tt)),
+      subst AreLines (sym (append_assoc (map request_words requests) (client_lines (k + 1) clients) ((codes "end" ∷ []) ∷ []))) (requests_are requests _ all.0.0 all.0.1 rest),
+    )
 
 -- a printed script is read
 pub script_back : PrintedIsRead

@@ -93,13 +93,20 @@ flags_back false false false false = refl
 -- ---- the words of a request
 
 pub request_are : (request : Op) → IsBounded request → IsSpellable request → AreWords (request_words request)
-request_are (op.OpenFile path read write creat excl trunc append) few h =
-    (literal (codes "open") refl refl, (path_word path h.0, (mode_word read write h.1,
-    both_are (flag_words creat (codes "creat") ++ flag_words excl (codes "excl") ++ flag_words trunc (codes "trunc")) _
-    (both_are (flag_words creat (codes "creat") ++ flag_words excl (codes "excl")) _
-    (both_are (flag_words creat (codes "creat")) _ (flag_are creat (codes "creat") (literal (codes "creat") refl refl)) (flag_are excl (codes "excl") (literal (codes "excl") refl refl)))
-    (flag_are trunc (codes "trunc") (literal (codes "trunc") refl refl)))
-    (flag_are append (codes "append") (literal (codes "append") refl refl)))))
+request_are (op.OpenFile path read write creat excl trunc append) few h = (
+  literal (codes "open") refl refl,
+  (
+    path_word path h.0,
+    (
+      mode_word read write h.1,
+      both_are (flag_words creat (codes "creat") ++ flag_words excl (codes "excl") ++ flag_words trunc (codes "trunc")) _
+          (both_are (flag_words creat (codes "creat") ++ flag_words excl (codes "excl")) _
+          (both_are (flag_words creat (codes "creat")) _ (flag_are creat (codes "creat") (literal (codes "creat") refl refl)) (flag_are excl (codes "excl") (literal (codes "excl") refl refl)))
+          (flag_are trunc (codes "trunc") (literal (codes "trunc") refl refl)))
+          (flag_are append (codes "append") (literal (codes "append") refl refl)),
+    ),
+  ),
+)
 request_are (op.Close fd) few h = (literal (codes "close") refl refl, (decimal_word fd h, tt))
 request_are (op.Read fd n) few h = (literal (codes "read") refl refl, (decimal_word fd h, (decimal_word n (omega arith), tt)))
 request_are (op.Write fd bytes) few h = (literal (codes "write") refl refl, (decimal_word fd h.0, (data_word bytes h.1, tt)))

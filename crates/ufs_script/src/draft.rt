@@ -80,7 +80,12 @@ fn client_line(alloc: Global, draft: Draft, words: &[&[u8]]) -> Result<Draft, Ca
     if count >= OpLists::MAX as u64 {
         return Err(Cause::TooMany);
     }
-    let Draft { lines, before, current, ended } = draft;
+    let Draft {
+        lines,
+        before,
+        current,
+        ended,
+    } = draft;
     Ok(Draft {
         lines,
         before: all_clients(before, current)?,
@@ -96,7 +101,12 @@ fn request_line(alloc: Global, draft: Draft, verb: Verb, words: &[&[u8]]) -> Res
     ensures err { IfErr result (IsCauseOf (specs.request_line draft draft.current verb (map (λ w. w.now) words.now))) }
     ensures few { IfOk result IsFew }
 {
-    let Draft { lines, before, current, ended } = draft;
+    let Draft {
+        lines,
+        before,
+        current,
+        ended,
+    } = draft;
     let Some(mut requests) = current else {
         return Err(Cause::NoClient);
     };
@@ -125,7 +135,10 @@ fn line_by(alloc: Global, draft: Draft, first: &[u8], words: &[&[u8]]) -> Result
     }
     if first == b"end".as_slice() {
         exactly(words, 0)?;
-        return Ok(Draft { ended: true, ..draft });
+        return Ok(Draft {
+            ended: true,
+            ..draft
+        });
     }
     if first == b"schedule".as_slice() {
         return Err(Cause::NotBuilt);
@@ -177,7 +190,10 @@ pub fn after_line(alloc: Global, draft: Draft, line: &[u8]) -> Result<Draft, Scr
     let number = draft.lines + 1;
     let words = words(alloc, line)?;
     match after_words(alloc, draft, words.as_slice()) {
-        Ok(new) => Ok(Draft { lines: number, ..new }),
+        Ok(new) => Ok(Draft {
+            lines: number,
+            ..new
+        }),
         Err(cause) => Err(cause.at(number)),
     }
 }

@@ -172,7 +172,12 @@ fn put_why(alloc: Global, line: &mut Vec<u8>, reply: &Reply) -> Result<(), Alloc
 pub fn trace_line(alloc: Global, entry: &Entry, via: &ActorList) -> Result<Bytes, Memory>
     ensures { IfOk result (λ line. line ≡ trace_text entry.now via.now) }
 {
-    let Entry { ticket, client, seq, .. } = entry;
+    let Entry {
+        ticket,
+        client,
+        seq,
+        ..
+    } = entry;
     let mut line = format!(in alloc; "# {ticket} {client}.{seq} by ")?.into_bytes();
     put_actor(alloc, &mut line, entry.by)?;
     put_via(alloc, &mut line, via.as_slice())?;

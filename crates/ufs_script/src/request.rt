@@ -34,13 +34,37 @@ fn with(flags: Flags, word: &[u8]) -> Option<Flags>
     ensures { result ≡ with_flag (Some flags) word.now }
 {
     let (given, more) = if word == b"creat".as_slice() {
-        (flags.creat, Flags { creat: true, ..flags })
+        (
+            flags.creat,
+            Flags {
+                creat: true,
+                ..flags
+            },
+        )
     } else if word == b"excl".as_slice() {
-        (flags.excl, Flags { excl: true, ..flags })
+        (
+            flags.excl,
+            Flags {
+                excl: true,
+                ..flags
+            },
+        )
     } else if word == b"trunc".as_slice() {
-        (flags.trunc, Flags { trunc: true, ..flags })
+        (
+            flags.trunc,
+            Flags {
+                trunc: true,
+                ..flags
+            },
+        )
     } else if word == b"append".as_slice() {
-        (flags.append, Flags { append: true, ..flags })
+        (
+            flags.append,
+            Flags {
+                append: true,
+                ..flags
+            },
+        )
     } else {
         return None;
     };

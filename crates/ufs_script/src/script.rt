@@ -83,7 +83,12 @@ fn finish(alloc: Global, draft: Draft) -> Result<Script, ScriptFault>
     ensures words { IfOk result (λ script. script.words ≡ []) }
     ensures never { result ≢ Err ScriptFault.Source }
 {
-    let Draft { lines, before, current, ended } = draft;
+    let Draft {
+        lines,
+        before,
+        current,
+        ended,
+    } = draft;
     if !ended {
         return Err(ScriptFault::NoEnd { line: lines });
     }
