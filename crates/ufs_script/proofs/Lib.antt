@@ -1,5 +1,8 @@
 pub mod WordLemmas
-pub mod RequestLemmas
-pub mod BreakLemmas
+pub mod LineLemmas
+pub mod FoldLemmas
+pub mod NumberLemmas
+pub mod InsideLemmas
 pub mod SpellingLemmas
+pub mod PrintedLemmas
 pub mod Rows

@@ -1,5 +1,6 @@
 pub mod Words
 pub mod Requests
+pub mod Lines
 pub mod Script
 pub mod Reading
 pub mod Spelling

@@ -1,5 +1,5 @@
 -- What a reading of a script took of its source, and what it read.
-use Rattle.std.specs.Prelude.{ℕ, ◌≡◌, ◌<◌, ◌⊎◌, List, length, Option, Ok, Err}
+use Rattle.std.specs.Prelude.{ℕ, ◌≡◌, ◌<◌, ◌⊎◌, List, ◌++◌, length, Option, Ok, Err}
 use Rattle.std.specs.Io.KnownBytes.{Consumes, IsAtEnd}
 use Rattle.ufs_script.specs.Script.{script_of, max_script}
 use Rattle.ufs_script.specs.declared.script.Script.{Script}
@@ -17,3 +17,7 @@ ReadsScript old new script = (text : List ℕ) × HasRead old new text × (scrip
 -- the same, and its bytes break so
 abbrev pub ReadsBreak : Option (List ℕ) → Option (List ℕ) → ScriptFault → Type 0
 ReadsBreak old new fault = (text : List ℕ) × HasRead old new text × (script_of text ≡ Err fault)
+
+-- whatever follows a text that is too long, the answer is the same
+abbrev pub LongerIsAlike : Type 0
+LongerIsAlike = (text more : List ℕ) → max_script < length text → script_of (text ++ more) ≡ script_of text

@@ -1,59 +1,141 @@
 -- Which script a text is, or how it breaks off first.
-use Rattle.std.specs.Prelude.{ℕ, ◌≡◌, List, [], ◌∷◌, Bool, ◌==◌, ◌&&◌, nat_le, length, if◌then◌else◌, Result, Ok, Err, codes}
-use Rattle.std.specs.List.{slice_split}
+use Rattle.std.specs.Prelude.{ℕ, ◌≡◌, ◌≤◌, ◌+◌, ◌⊎◌, List, [], ◌∷◌, ◌++◌, Bool, true, false, ◌==◌, nat_le, nat_lt, length, take, fold, if◌then◌else◌, Option, Some, None, Result, Ok, Err, codes}
+use Rattle.std.specs.Option.{option_to_list}
 use Rattle.std.specs.Str.{bytes_eq}
 use Rattle.ufs_model.specs.declared.data.Op.{Op}
-use Rattle.ufs_script.specs.Requests.{request_of, words_of, not_built}
+use Rattle.ufs_script.specs.Words.{words_of}
+use Rattle.ufs_script.specs.Requests.{and_then, exactly, number_at, verb_of, request_of}
+use Rattle.ufs_script.specs.Lines.{ended_lines, lines_in}
+use Rattle.ufs_script.specs.declared.draft.Draft.{Draft}
 use Rattle.ufs_script.specs.declared.script.Script.{Script}
+use Rattle.ufs_script.specs.declared.fault.Cause.{Cause}
+use Rattle.ufs_script.specs.declared.fault.Cause.TheVariants as cause
 use Rattle.ufs_script.specs.declared.fault.ScriptFault.{ScriptFault}
 use Rattle.ufs_script.specs.declared.fault.ScriptFault.TheVariants as fault
+use Rattle.ufs_script.specs.declared.verb.Verb.{Verb}
 
 -- the greatest length of a script, in bytes
 abbrev pub max_script : ℕ
 max_script = 16777216
 
+-- the greatest number of clients
+abbrev pub max_clients : ℕ
+max_clients = 16
+
 -- the greatest number of a client's requests
 abbrev pub max_requests : ℕ
 max_requests = 65536
 
--- a request before those that follow; the earlier break counts
-abbrev pub onto : Result Op ScriptFault → Result (List Op) ScriptFault → Result (List Op) ScriptFault
-onto (Ok request) (Ok requests) = Ok (request ∷ requests)
-onto (Ok request) (Err f) = Err f
-onto (Err f) requests = Err f
+-- the faults of a reading that gives this: want of memory, and its break
+abbrev pub IsFaultOf : {A : Type 0} → Result A ScriptFault → ScriptFault → Type 0
+IsFaultOf given f = (f ≡ fault.Memory) ⊎ (given ≡ Err f)
 
-abbrev pub is_end : List ℕ → List ℕ → Bool
-is_end line last = bytes_eq line (codes "end") && bytes_eq last []
+-- ---- one line, after a draft: what the lines before it came to
 
--- request lines, and then the line `end` and no more
-abbrev pub requests_of : List (List ℕ) → Result (List Op) ScriptFault
-requests_of [] = Err not_built
-requests_of (line ∷ []) = Err not_built
-requests_of (line ∷ last ∷ []) = if is_end line last then Ok [] else Err not_built
-requests_of (line ∷ next ∷ more ∷ lines) = onto (request_of (words_of line)) (requests_of (next ∷ more ∷ lines))
+-- before the first line
+abbrev pub no_lines : Draft
+no_lines = record { lines = 0; before = []; current = None; ended = false }
 
--- one client, one worker, and no schedule words
-abbrev pub one_client : List Op → Script
-one_client requests = record { clients = requests ∷ []; workers = 1; words = [] }
+-- the requests of the clients so far
+abbrev pub clients_of : Draft → List (List Op)
+clients_of draft = draft.before ++ option_to_list draft.current
 
-abbrev pub with_requests : Result (List Op) ScriptFault → Result Script ScriptFault
-with_requests (Ok requests) = if nat_le (length requests) max_requests then Ok (one_client requests) else Err not_built
-with_requests (Err f) = Err f
+-- there are no more clients than there may be
+abbrev pub IsFew : Draft → Type 0
+IsFew draft = length (clients_of draft) ≤ max_clients
 
-abbrev pub body_of : List (List ℕ) → Result Script ScriptFault
-body_of [] = Err not_built
-body_of (line ∷ lines) = if bytes_eq line (codes "client 0") then with_requests (requests_of lines) else Err not_built
+-- K is the number of clients so far
+abbrev pub is_next : Draft → ℕ → Result ℕ Cause
+is_next draft client = if client == length (clients_of draft) then Ok client else Err cause.BadNumber
 
--- A script: the line `client 0`, request lines, and the line `end`, each ended by byte 10.
+abbrev pub with_client : Draft → ℕ → Result Draft Cause
+with_client draft client = if nat_lt client max_clients then Ok (record draft { before = clients_of draft; current = Some [] }) else Err cause.TooMany
+
+-- the words behind `client`
+abbrev pub client_line : Draft → List (List ℕ) → Result Draft Cause
+client_line draft words =
+    and_then (number_at words 0) (λ client.
+    and_then (is_next draft client) (λ k.
+    and_then (exactly 1 words k) (with_client draft)))
+
+-- one more request of the current client
+abbrev pub with_request : Draft → List Op → Op → Result Draft Cause
+with_request draft requests op = if nat_lt (length requests) max_requests then Ok (record draft { current = Some (requests ++ op ∷ []) }) else Err cause.TooMany
+
+-- a request before the first `client` line is looked at no further
+abbrev pub request_line : Draft → Option (List Op) → Verb → List (List ℕ) → Result Draft Cause
+request_line draft None verb words = Err cause.NoClient
+request_line draft (Some requests) verb words = and_then (request_of verb words) (with_request draft requests)
+
+abbrev pub verb_line : Draft → Option Verb → List (List ℕ) → Result Draft Cause
+verb_line draft None words = Err cause.BadWord
+verb_line draft (Some verb) words = request_line draft draft.current verb words
+
+-- a line by its first word and the words behind it
+abbrev pub line_by : Draft → List ℕ → List (List ℕ) → Result Draft Cause
+line_by draft first words =
+    if bytes_eq first (codes "client") then client_line draft words
+    else (if bytes_eq first (codes "end") then exactly 0 words (record draft { ended = true })
+    else (if bytes_eq first (codes "schedule") then Err cause.NotBuilt
+    else verb_line draft (verb_of first) words))
+
+-- a line whose first word begins with `#`
+abbrev pub is_comment : List ℕ → Bool
+is_comment [] = false
+is_comment (b ∷ word) = b == 35
+
+-- a line without words or with a comment asks for nothing; after `end` no other may follow
+abbrev pub after_words : Draft → List (List ℕ) → Result Draft Cause
+after_words draft [] = Ok draft
+after_words draft (first ∷ words) =
+    if is_comment first then Ok draft
+    else (if draft.ended then Err cause.AfterEnd else line_by draft first words)
+
+-- ---- all lines
+
+-- a cause with the number of its line
+abbrev pub fault_at : ℕ → Cause → ScriptFault
+fault_at line cause.NoClient = fault.NoClient line
+fault_at line cause.BadWord = fault.BadWord line
+fault_at line cause.BadNumber = fault.BadNumber line
+fault_at line cause.BadData = fault.BadData line
+fault_at line cause.TooMany = fault.TooMany line
+fault_at line cause.AfterEnd = fault.AfterEnd line
+fault_at line cause.NotBuilt = fault.NotBuilt line
+fault_at line cause.Memory = fault.Memory
+
+abbrev pub counted : ℕ → Result Draft Cause → Result Draft ScriptFault
+counted line (Ok draft) = Ok (record draft { lines = line })
+counted line (Err c) = Err (fault_at line c)
+
+-- each line is looked at while no line before it breaks a rule
+abbrev pub after_line : Result Draft ScriptFault → List ℕ → Result Draft ScriptFault
+after_line (Ok draft) line = counted (draft.lines + 1) (after_words draft (words_of line))
+after_line (Err f) line = Err f
+
+abbrev pub draft_of : List (List ℕ) → Result Draft ScriptFault
+draft_of lines = fold after_line (Ok no_lines) lines
+
+-- one worker, and no schedule words
+abbrev pub plain_script : List (List Op) → Script
+plain_script clients = record { clients = clients; workers = 1; words = [] }
+
+-- a script's lines have an `end`
+abbrev pub finished : Result Draft ScriptFault → Result Script ScriptFault
+finished (Ok draft) = if draft.ended then Ok (plain_script (clients_of draft)) else Err (fault.NoEnd draft.lines)
+finished (Err f) = Err f
+
+-- the line behind these lines passes the greatest length
+abbrev pub passed : Result Draft ScriptFault → Result Script ScriptFault
+passed (Ok draft) = Err (fault.TooLong (draft.lines + 1))
+passed (Err f) = Err f
+
+-- Of a text that is too long, only the lines that end within the greatest length are looked at.
 abbrev pub script_of : List ℕ → Result Script ScriptFault
-script_of text = if nat_le (length text) max_script then body_of (slice_split (λ b. b == 10) text) else Err not_built
-
--- the faults that a reading answers in this form
-abbrev pub IsAnswered : ScriptFault → Type 0
-IsAnswered (fault.NotBuilt line) = line ≡ 0
-IsAnswered fault.Source = Unit {0}
-IsAnswered fault.Memory = Unit {0}
-IsAnswered _ = ⊥
+script_of text =
+    if nat_le (length text) max_script
+    then finished (draft_of (lines_in text))
+    else passed (draft_of (ended_lines (take max_script text)))
 
 -- the faults that aren't the text's
 abbrev pub IsOutside : ScriptFault → Type 0

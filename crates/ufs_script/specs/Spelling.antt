@@ -1,17 +1,37 @@
--- The canonical spelling of requests, and the law that reading it gives them back.
-use Rattle.std.specs.Prelude.{ℕ, ◌≡◌, ◌<◌, ◌≤◌, ◌^◌, List, [], ◌∷◌, ◌++◌, Bool, true, false, ◌||◌, length, map, Ok, IsTrue, codes}
-use Rattle.std.specs.List.{AllByRecursion}
+-- The canonical spelling of a script, and the law that reading it gives the script back.
+use Rattle.std.specs.Prelude.{ℕ, ◌≡◌, ◌<◌, ◌≤◌, ◌+◌, ◌^◌, List, [], ◌∷◌, ◌++◌, Bool, true, false, not, ◌==◌, ◌&&◌, ◌||◌, length, map, if◌then◌else◌, Ok, IsTrue, ℤ, pos, negsuc, codes}
+use Rattle.std.specs.List.{AllByRecursion, list_all}
+use Rattle.std.specs.Str.{bytes_eq}
 use Rattle.std.specs.Fmt.{decimal}
 use Rattle.hex.specs.Hex.{encode_lower, IsBytes}
-use Rattle.ufs_model.specs.Posix.{IsBuilt}
+use Rattle.ufs_model.specs.Bounds.{IsBounded}
+use Rattle.ufs_model.specs.declared.data.Whence.{Whence}
+use Rattle.ufs_model.specs.declared.data.Whence.TheVariants as whence
 use Rattle.ufs_model.specs.declared.data.Op.{Op}
 use Rattle.ufs_model.specs.declared.data.Op.TheVariants as op
-use Rattle.ufs_script.specs.Script.{script_of, one_client, max_script, max_requests}
+use Rattle.ufs_script.specs.Words.{is_blank}
+use Rattle.ufs_script.specs.Script.{script_of, plain_script, max_script, max_clients, max_requests}
+
+-- ---- words
+
+-- two quotation marks for the empty path
+abbrev pub path_text : List ℕ → List ℕ
+path_text [] = codes "\"\""
+path_text (b ∷ path) = b ∷ path
 
 -- a dash for no bytes, else pairs of lower-case hexadecimal digits
 abbrev pub data_text : List ℕ → List ℕ
 data_text [] = codes "-"
 data_text (b ∷ bytes) = encode_lower (b ∷ bytes)
+
+abbrev pub signed_text : ℤ → List ℕ
+signed_text (pos n) = decimal n
+signed_text (negsuc n) = 45 ∷ decimal (n + 1)
+
+abbrev pub whence_text : Whence → List ℕ
+whence_text whence.Set = codes "set"
+whence_text whence.Cur = codes "cur"
+whence_text whence.End = codes "end"
 
 abbrev pub mode_text : Bool → Bool → List ℕ
 mode_text true false = codes "r"
@@ -19,34 +39,94 @@ mode_text false true = codes "w"
 mode_text true true = codes "rw"
 mode_text false false = []
 
--- the line of a request, without its line end
-abbrev pub request_text : Op → List ℕ
-request_text (op.Mkdir path) = codes "mkdir " ++ path
-request_text (op.OpenFile path read write creat excl trunc append) = codes "open " ++ (path ++ 32 ∷ (mode_text read write ++ codes " creat"))
-request_text (op.Read fd n) = codes "read " ++ (decimal fd ++ 32 ∷ decimal n)
-request_text (op.Write fd bytes) = codes "write " ++ (decimal fd ++ 32 ∷ data_text bytes)
-request_text (op.Close fd) = codes "close " ++ decimal fd
-request_text _ = []
+abbrev pub flag_words : Bool → List ℕ → List (List ℕ)
+flag_words given word = if given then word ∷ [] else []
 
--- each line with byte 10 behind it
-abbrev pub lines_text : List (List ℕ) → List ℕ
+-- ---- lines
+
+-- the words of a request's line
+abbrev pub request_words : Op → List (List ℕ)
+request_words (op.OpenFile path read write creat excl trunc append) =
+    codes "open" ∷ path_text path ∷ mode_text read write
+    ∷ (flag_words creat (codes "creat") ++ flag_words excl (codes "excl") ++ flag_words trunc (codes "trunc") ++ flag_words append (codes "append"))
+request_words (op.Close fd) = codes "close" ∷ decimal fd ∷ []
+request_words (op.Read fd n) = codes "read" ∷ decimal fd ∷ decimal n ∷ []
+request_words (op.Write fd bytes) = codes "write" ∷ decimal fd ∷ data_text bytes ∷ []
+request_words (op.Pread fd n at) = codes "pread" ∷ decimal fd ∷ decimal n ∷ decimal at ∷ []
+request_words (op.Pwrite fd bytes at) = codes "pwrite" ∷ decimal fd ∷ data_text bytes ∷ decimal at ∷ []
+request_words (op.Seek fd whence by) = codes "seek" ∷ decimal fd ∷ whence_text whence ∷ signed_text by ∷ []
+request_words (op.Trunc fd size) = codes "trunc" ∷ decimal fd ∷ decimal size ∷ []
+request_words (op.Fsync fd) = codes "fsync" ∷ decimal fd ∷ []
+request_words op.Sync = codes "sync" ∷ []
+request_words (op.Mkdir path) = codes "mkdir" ∷ path_text path ∷ []
+request_words (op.Rmdir path) = codes "rmdir" ∷ path_text path ∷ []
+request_words (op.Unlink path) = codes "unlink" ∷ path_text path ∷ []
+request_words (op.Rename from to) = codes "rename" ∷ path_text from ∷ path_text to ∷ []
+request_words (op.Stat path) = codes "stat" ∷ path_text path ∷ []
+request_words (op.List path) = codes "list" ∷ path_text path ∷ []
+
+-- the lines of clients from this number on
+abbrev pub client_lines : ℕ → List (List Op) → List (List (List ℕ))
+client_lines client [] = []
+client_lines client (requests ∷ clients) = (codes "client" ∷ decimal client ∷ []) ∷ (map request_words requests ++ client_lines (client + 1) clients)
+
+abbrev pub script_lines : List (List Op) → List (List (List ℕ))
+script_lines clients = client_lines 0 clients ++ (codes "end" ∷ []) ∷ []
+
+-- ---- text
+
+-- a line: its words with one space between them, and byte 10
+abbrev pub words_text : List (List ℕ) → List ℕ
+words_text [] = 10 ∷ []
+words_text (word ∷ []) = word ++ 10 ∷ []
+words_text (word ∷ next ∷ words) = word ++ 32 ∷ words_text (next ∷ words)
+
+abbrev pub lines_text : List (List (List ℕ)) → List ℕ
 lines_text [] = []
-lines_text (line ∷ lines) = line ++ 10 ∷ lines_text lines
+lines_text (words ∷ lines) = words_text words ++ lines_text lines
 
--- the script of one client with these requests
-abbrev pub script_text : List Op → List ℕ
-script_text requests = lines_text (codes "client 0" ∷ map request_text requests ++ codes "end" ∷ [])
+abbrev pub script_text : List (List Op) → List ℕ
+script_text clients = lines_text (script_lines clients)
+
+-- ---- what can be spelled
+
+-- a byte that ends no word
+abbrev pub is_inside : ℕ → Bool
+is_inside b = not (is_blank b) && (not (b == 10) && not (b == 13))
+
+-- a path that is a word, or empty; the word of two quotation marks means the empty path
+abbrev pub is_path : List ℕ → Bool
+is_path path = list_all is_inside path && not (bytes_eq path (codes "\"\""))
+
+abbrev pub IsShort : ℤ → Type 0
+IsShort (pos n) = n < 10 ^ 18
+IsShort (negsuc n) = n + 1 < 10 ^ 18
 
 -- A script's numbers have at most 18 digits, and its files are opened for reading, writing or both.
 abbrev pub IsSpellable : Op → Type 0
-IsSpellable (op.OpenFile path read write creat excl trunc append) = IsTrue (read || write)
+IsSpellable (op.OpenFile path read write creat excl trunc append) = IsTrue (is_path path) × IsTrue (read || write)
+IsSpellable (op.Close fd) = fd < 10 ^ 18
 IsSpellable (op.Read fd n) = fd < 10 ^ 18
 IsSpellable (op.Write fd bytes) = (fd < 10 ^ 18) × IsBytes bytes
-IsSpellable (op.Close fd) = fd < 10 ^ 18
-IsSpellable _ = Unit {0}
+IsSpellable (op.Pread fd n at) = (fd < 10 ^ 18) × (at < 10 ^ 18)
+IsSpellable (op.Pwrite fd bytes at) = (fd < 10 ^ 18) × IsBytes bytes × (at < 10 ^ 18)
+IsSpellable (op.Seek fd whence by) = (fd < 10 ^ 18) × IsShort by
+IsSpellable (op.Trunc fd size) = (fd < 10 ^ 18) × (size < 10 ^ 18)
+IsSpellable (op.Fsync fd) = fd < 10 ^ 18
+IsSpellable op.Sync = Unit {0}
+IsSpellable (op.Mkdir path) = IsTrue (is_path path)
+IsSpellable (op.Rmdir path) = IsTrue (is_path path)
+IsSpellable (op.Unlink path) = IsTrue (is_path path)
+IsSpellable (op.Rename from to) = IsTrue (is_path from) × IsTrue (is_path to)
+IsSpellable (op.Stat path) = IsTrue (is_path path)
+IsSpellable (op.List path) = IsTrue (is_path path)
 
--- requests that are printed and read stay the same
+-- a client's requests that can be spelled
+abbrev pub IsClient : List Op → Type 0
+IsClient requests = AllByRecursion IsBounded requests × AllByRecursion IsSpellable requests × (length requests ≤ max_requests)
+
+-- clients that are printed and read stay the same
 abbrev pub PrintedIsRead : Type 0
-PrintedIsRead = (requests : List Op) → AllByRecursion IsBuilt requests → AllByRecursion IsSpellable requests
-    → length requests ≤ max_requests → length (script_text requests) ≤ max_script
-    → script_of (script_text requests) ≡ Ok (one_client requests)
+PrintedIsRead = (clients : List (List Op)) → AllByRecursion IsClient clients → length clients ≤ max_clients
+    → length (script_text clients) ≤ max_script
+    → script_of (script_text clients) ≡ Ok (plain_script clients)

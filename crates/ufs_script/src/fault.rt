@@ -1,30 +1,31 @@
 // Why there is no script.
+ghost use Rattle.std.specs.Prelude.{◌≡◌, ◌≢◌};
+ghost use Rattle.ufs_script.specs.Script.{fault_at};
+
 use std::alloc::{AllocError, AllocFailed};
 use ufs_model::Memory;
 
 /// The first break of a script's rules, with the number of its line, counted from 1; or why its
 /// text isn't known.
-///
-/// In this form a break is always `NotBuilt` with line 0.
 #[derive(Clone, Copy, Debug, PartialEq, Eq)]
 pub enum ScriptFault {
     /// A request before the first `client` line.
     NoClient { line: u32 },
     /// An unknown word, a missing one, one too many, or a flag twice.
     BadWord { line: u32 },
-    /// A number's form or range, or a client or worker that isn't there.
+    /// A number's form or range, or a client that isn't the next one.
     BadNumber { line: u32 },
     /// The form or length of a request's data.
     BadData { line: u32 },
-    /// One client, request or schedule word too many.
+    /// The 17th client, or a client's 65,537th request.
     TooMany { line: u32 },
     /// The line in which the script passes 16,777,216 bytes.
     TooLong { line: u32 },
-    /// The source ended first; the number of lines there were.
+    /// The text ended before a line `end`; the number of lines there were.
     NoEnd { line: u32 },
     /// Something stands after the line `end`.
     AfterEnd { line: u32 },
-    /// A form that isn't read yet.
+    /// A line that isn't read yet: `schedule`.
     NotBuilt { line: u32 },
     /// The source failed.
     Source,
@@ -32,8 +33,37 @@ pub enum ScriptFault {
     Memory,
 }
 
-/// The one break that is answered in this form.
-pub const NOT_BUILT: ScriptFault = ScriptFault::NotBuilt { line: 0 };
+/// What is wrong with a line, or want of memory.
+#[derive(Clone, Copy, Debug, PartialEq, Eq)]
+pub enum Cause {
+    NoClient,
+    BadWord,
+    BadNumber,
+    BadData,
+    TooMany,
+    AfterEnd,
+    NotBuilt,
+    Memory,
+}
+
+impl Cause {
+    /// The fault of a line with this number.
+    pub fn at(self, line: u32) -> ScriptFault
+        ensures value { result ≡ fault_at line self }
+        ensures never { result ≢ ScriptFault.Source }
+    {
+        match self {
+            Cause::NoClient => ScriptFault::NoClient { line },
+            Cause::BadWord => ScriptFault::BadWord { line },
+            Cause::BadNumber => ScriptFault::BadNumber { line },
+            Cause::BadData => ScriptFault::BadData { line },
+            Cause::TooMany => ScriptFault::TooMany { line },
+            Cause::AfterEnd => ScriptFault::AfterEnd { line },
+            Cause::NotBuilt => ScriptFault::NotBuilt { line },
+            Cause::Memory => ScriptFault::Memory,
+        }
+    }
+}
 
 impl From<AllocError> for ScriptFault {
     ghost use Rattle.std.specs.Prelude.{◌≡◌};
@@ -65,5 +95,38 @@ impl<T: Drop> From<AllocFailed<T>> for ScriptFault {
 
     fn from(_: AllocFailed<T>) -> Self {
         ScriptFault::Memory
+    }
+}
+
+impl From<AllocError> for Cause {
+    ghost use Rattle.std.specs.Prelude.{◌≡◌};
+    ghost use Rattle.ufs_script.specs.declared.fault.Cause.TheVariants as cause;
+
+    ghost from_gives = { λ _ e. e ≡ cause.Memory };
+
+    fn from(_: AllocError) -> Self {
+        Cause::Memory
+    }
+}
+
+impl From<Memory> for Cause {
+    ghost use Rattle.std.specs.Prelude.{◌≡◌};
+    ghost use Rattle.ufs_script.specs.declared.fault.Cause.TheVariants as cause;
+
+    ghost from_gives = { λ _ e. e ≡ cause.Memory };
+
+    fn from(_: Memory) -> Self {
+        Cause::Memory
+    }
+}
+
+impl<T: Drop> From<AllocFailed<T>> for Cause {
+    ghost use Rattle.std.specs.Prelude.{◌≡◌};
+    ghost use Rattle.ufs_script.specs.declared.fault.Cause.TheVariants as cause;
+
+    ghost from_gives = { λ _ e. e ≡ cause.Memory };
+
+    fn from(_: AllocFailed<T>) -> Self {
+        Cause::Memory
     }
 }

@@ -1,21 +1,25 @@
 //! The text of scripts and of replies.
 #![tactic(auto)]
 
+mod draft;
 mod fault;
 mod law;
+mod lines;
 mod lists;
 mod output;
+mod places;
 mod reading;
 mod request;
 mod script;
 #[cfg(test)]
 mod tests;
+mod verb;
 mod words;
 
 pub use fault::ScriptFault;
-pub use law::printing_and_reading;
+pub use law::{a_longer_text_breaks_alike, printing_and_reading};
 pub use lists::{OpList, OpLists, ScheduleWord, WordList};
-pub use output::reply_line;
+pub use output::{reply_line, trace_line};
 pub use reading::read_script;
 pub use script::Script;
 pub use words::number;

@@ -1,12 +1,13 @@
 // Lists in a script. Each is made from a `Vec` and gives it back without taking memory.
-ghost use Rattle.std.specs.Prelude.{◌≡◌, ◌≤◌, length};
+ghost use Rattle.std.specs.Prelude.{◌≡◌, ◌≤◌, ◌<◌, ◌++◌, ◌∷◌, [], OnOk, OnErr, length};
 ghost use Rattle.std.specs.List.{AllByRecursion};
-ghost use Rattle.ufs_model.specs.Posix.{IsBuilt};
+ghost use Rattle.ufs_model.specs.Bounds.{IsBounded};
 
+use std::alloc::{AllocError, Global};
 use std::marker::Model;
 use ufs_model::{Bytes, Op};
 
-/// The requests of a client, in order: at most 65,536, each of a form that can be served.
+/// The requests of a client, in order: at most 65,536, each of which moves at most 1,048,576 bytes.
 #[derive(Drop)]
 pub struct OpList {
     ops: Vec<Op>,
@@ -16,18 +17,30 @@ impl Model for OpList {
     ghost use Rattle.std.specs.Prelude.{List, length, ◌≤◌};
     ghost use Rattle.std.specs.List.{AllByRecursion};
     ghost use Rattle.ufs_model.specs.declared.data.Op.{Op};
-    ghost use Rattle.ufs_model.specs.Posix.{IsBuilt};
+    ghost use Rattle.ufs_model.specs.Bounds.{IsBounded};
 
     ghost Value = { List Op };
 
     ghost view = { λ l. l.ops.items };
 
-    ghost invariant = { λ l. AllByRecursion IsBuilt l.ops.items × (length l.ops.items ≤ 65536) };
+    ghost invariant = { λ l. AllByRecursion IsBounded l.ops.items × (length l.ops.items ≤ 65536) };
 }
 
 impl OpList {
+    /// The greatest length.
+    pub const MAX: usize = 65_536;
+
+    /// No request. Takes no memory.
+    pub fn new(alloc: Global) -> Self
+        ensures { result ≡ [] }
+    {
+        OpList {
+            ops: Vec::new(alloc),
+        }
+    }
+
     pub fn from_vec(ops: Vec<Op>) -> Self
-        requires built { AllByRecursion IsBuilt ops.items }
+        requires bounded { AllByRecursion IsBounded ops.items }
         requires few { length ops.items ≤ 65536 }
         ensures { result ≡ ops.items }
     {
@@ -36,7 +49,7 @@ impl OpList {
 
     pub fn into_vec(self) -> Vec<Op>
         ensures value { result.items ≡ self }
-        ensures built { AllByRecursion IsBuilt self }
+        ensures bounded { AllByRecursion IsBounded self }
         ensures few { length self ≤ 65536 }
     {
         self.ops
@@ -44,45 +57,83 @@ impl OpList {
 
     pub fn as_slice(&self) -> &[Op]
         ensures value { result.now ≡ self.now }
-        ensures built { AllByRecursion IsBuilt self.now }
+        ensures bounded { AllByRecursion IsBounded self.now }
         ensures few { length self.now ≤ 65536 }
     {
         self.ops.as_slice()
     }
+
+    /// Adds a request behind the others.
+    pub fn push(&mut self, op: Op) -> Result<(), AllocError>
+        requires few { length self.old < 65536 }
+        requires bounded { IsBounded op }
+        ensures ok { OnOk result (self.new ≡ self.old ++ op ∷ []) }
+        ensures err { OnErr result (self.new ≡ self.old) }
+    {
+        self.ops.push(op)?;
+        Ok(())
+    }
 }
 
-/// The clients' requests, by the clients' numbers.
+/// The clients' requests, by the clients' numbers: at most 16 clients.
 #[derive(Drop)]
 pub struct OpLists {
     lists: Vec<OpList>,
 }
 
 impl Model for OpLists {
-    ghost use Rattle.std.specs.Prelude.{List};
+    ghost use Rattle.std.specs.Prelude.{List, length, ◌≤◌};
     ghost use Rattle.ufs_script.specs.declared.lists.OpList.{OpList};
 
     ghost Value = { List OpList };
 
     ghost view = { λ l. l.lists.items };
+
+    ghost invariant = { λ l. length l.lists.items ≤ 16 };
 }
 
 impl OpLists {
+    /// The greatest length.
+    pub const MAX: usize = 16;
+
+    /// No client. Takes no memory.
+    pub fn new(alloc: Global) -> Self
+        ensures { result ≡ [] }
+    {
+        OpLists {
+            lists: Vec::new(alloc),
+        }
+    }
+
     pub fn from_vec(lists: Vec<OpList>) -> Self
+        requires { length lists.items ≤ 16 }
         ensures { result ≡ lists.items }
     {
         OpLists { lists }
     }
 
     pub fn into_vec(self) -> Vec<OpList>
-        ensures { result.items ≡ self }
+        ensures value { result.items ≡ self }
+        ensures few { length self ≤ 16 }
     {
         self.lists
     }
 
     pub fn as_slice(&self) -> &[OpList]
-        ensures { result.now ≡ self.now }
+        ensures value { result.now ≡ self.now }
+        ensures few { length self.now ≤ 16 }
     {
         self.lists.as_slice()
+    }
+
+    /// Adds a client behind the others.
+    pub fn push(&mut self, list: OpList) -> Result<(), AllocError>
+        requires { length self.old < 16 }
+        ensures ok { OnOk result (self.new ≡ self.old ++ list ∷ []) }
+        ensures err { OnErr result (self.new ≡ self.old) }
+    {
+        self.lists.push(list)?;
+        Ok(())
     }
 }
 

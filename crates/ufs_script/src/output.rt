@@ -1,11 +1,11 @@
-// The text of replies.
+// The text of replies and of traces.
 ghost use Rattle.std.specs.Prelude.{◌≡◌, ◌++◌, ◌^◌, ◌<◌, IfOk, OnOk, map};
 ghost use Rattle.std.specs.Fmt.{decimal};
-ghost use Rattle.ufs_script.specs.Output.{excuse_text, names_text, reply_text, line_text};
+ghost use Rattle.ufs_script.specs.Output.{excuse_text, names_text, reply_text, line_text, actor_text, more_actors, via_text, excuse_words, why_text, trace_text};
 ghost use Rattle.ufs_script.specs.Spelling.{data_text};
 
 use std::alloc::{AllocError, Global};
-use ufs_model::{Bytes, Excuse, Memory, NameList, Reply};
+use ufs_model::{Actor, ActorList, Bytes, Entry, Excuse, Memory, NameList, Reply};
 
 fn excuse_name(excuse: Excuse) -> &'static str
     ensures { result.now ≡ excuse_text excuse }
@@ -99,6 +99,89 @@ pub fn reply_line(alloc: Global, client: u8, seq: u32, reply: &Reply) -> Result<
 {
     let mut line = format!(in alloc; "{client}.{seq} ")?.into_bytes();
     put_reply(alloc, &mut line, reply)?;
+    line.push(b'\n')?;
+    Ok(Bytes::from_vec(line))
+}
+
+fn put_actor(alloc: Global, line: &mut Vec<u8>, actor: Actor) -> Result<(), AllocError>
+    ensures { OnOk result (line.new.items ≡ line.old.items ++ actor_text actor) }
+{
+    match actor {
+        Actor::Client(k) => put_number(alloc, line, b"c".as_slice(), u64::from(k)),
+        Actor::Worker(k) => put_number(alloc, line, b"w".as_slice(), u64::from(k)),
+        Actor::Primary => line.extend_from_slice(b"p".as_slice()),
+    }
+}
+
+// Appends each actor with a comma before it.
+fn put_more(alloc: Global, line: &mut Vec<u8>, actors: &[Actor]) -> Result<(), AllocError>
+    ensures { OnOk result (line.new.items ≡ line.old.items ++ more_actors actors.now) }
+{
+    for actor in actors {
+        line.push(b',')?;
+        put_actor(alloc, line, *actor)?;
+    }
+    Ok(())
+}
+
+fn put_via(alloc: Global, line: &mut Vec<u8>, via: &[Actor]) -> Result<(), AllocError>
+    ensures { OnOk result (line.new.items ≡ line.old.items ++ via_text via.now) }
+{
+    let [first, more @ ..] = via else {
+        return Ok(());
+    };
+    line.extend_from_slice(b" via ".as_slice())?;
+    put_actor(alloc, line, *first)?;
+    put_more(alloc, line, more)
+}
+
+fn put_excuse(alloc: Global, line: &mut Vec<u8>, excuse: Excuse) -> Result<(), AllocError>
+    ensures { OnOk result (line.new.items ≡ line.old.items ++ excuse_words excuse) }
+{
+    match excuse {
+        Excuse::Memory => line.extend_from_slice(b"memory".as_slice()),
+        Excuse::Device { fault } => put_number(alloc, line, b"device ".as_slice(), fault),
+        Excuse::Stopped { fault } => put_number(alloc, line, b"stopped ".as_slice(), fault),
+        Excuse::Blocks { need, had } => {
+            put_number(alloc, line, b"blocks ".as_slice(), u64::from(need))?;
+            put_number(alloc, line, b" ".as_slice(), u64::from(had))
+        }
+        Excuse::Inodes => line.extend_from_slice(b"inodes 1 0".as_slice()),
+        Excuse::Extents { need } => {
+            put_number(alloc, line, b"extents ".as_slice(), u64::from(need))?;
+            line.extend_from_slice(b" 56".as_slice())
+        }
+    }
+}
+
+// Appends why a reply is excused, if it is.
+fn put_why(alloc: Global, line: &mut Vec<u8>, reply: &Reply) -> Result<(), AllocError>
+    ensures { OnOk result (line.new.items ≡ line.old.items ++ why_text reply.now) }
+{
+    match reply {
+        Reply::Excused(excuse) => {
+            line.extend_from_slice(b" excuse ".as_slice())?;
+            put_excuse(alloc, line, *excuse)
+        }
+        _ => Ok(()),
+    }
+}
+
+/// The line of an entry in a trace: its ticket, the client's number, a point, the request's number,
+/// who served it, who sent it on, why it was excused, and the line end.
+pub fn trace_line(alloc: Global, entry: &Entry, via: &ActorList) -> Result<Bytes, Memory>
+    ensures { IfOk result (λ line. line ≡ trace_text entry.now via.now) }
+{
+    let Entry {
+        ticket,
+        client,
+        seq,
+        ..
+    } = entry;
+    let mut line = format!(in alloc; "# {ticket} {client}.{seq} by ")?.into_bytes();
+    put_actor(alloc, &mut line, entry.by)?;
+    put_via(alloc, &mut line, via.as_slice())?;
+    put_why(alloc, &mut line, &entry.reply)?;
     line.push(b'\n')?;
     Ok(Bytes::from_vec(line))
 }

@@ -1,7 +1,8 @@
 // The reading of a script from a source.
-ghost use Rattle.std.specs.Prelude.{◌≡◌, ◌≢◌, ℕ, ◌≤◌, [], IfOk, IfErr, length};
+ghost use Rattle.std.specs.Prelude.{◌≡◌, ◌≢◌, ◌≤◌, [], IfOk, IfErr, length};
 ghost use Rattle.ufs_io.specs.Causes.{Rose};
-ghost use Rattle.ufs_script.specs.Script.{IsAnswered, IsOutside};
+ghost use Rattle.ufs_script.specs.Script.{IsOutside};
+ghost use Rattle.ufs_script.specs.declared.fault.ScriptFault.{ScriptFault};
 ghost use Rattle.ufs_script.specs.Reading.{HasRead, ReadsScript, ReadsBreak};
 
 use crate::fault::ScriptFault;
@@ -44,7 +45,7 @@ fn read_all<S: Source>(alloc: Global, source: &mut S) -> Result<Vec<u8>, ScriptF
 /// Reads a script, to the source's end or past the greatest length of a script, 16,777,216 bytes,
 /// by at most 16,777,218 reads.
 ///
-/// In this form a text that is off the form, or too long, is `NotBuilt` with line 0.
+/// An error that is neither `Source` nor `Memory` is the text's first break.
 pub fn read_script<S: Source>(alloc: Global, source: &mut S) -> Result<Script, ScriptFault>
     ensures later { S.faults source.old ≤ S.faults source.new }
     ensures cause { result ≡ Err ScriptFault.Source →
@@ -52,13 +53,14 @@ pub fn read_script<S: Source>(alloc: Global, source: &mut S) -> Result<Script, S
     ensures counted { result ≢ Err ScriptFault.Source →
         S.faults source.new ≡ S.faults source.old }
     ensures script { IfOk result (ReadsScript (S.left source.old) (S.left source.new)) }
-    ensures not_built { (line : ℕ) → result ≡ Err (ScriptFault.NotBuilt line) →
-        ReadsBreak (S.left source.old) (S.left source.new) (ScriptFault.NotBuilt line) }
-    ensures answered { IfErr result IsAnswered }
-    ensures clients { IfOk result (λ script. length script.clients ≡ 1) }
+    ensures broken { (fault : ScriptFault) → result ≡ Err fault → ¬ IsOutside fault →
+        ReadsBreak (S.left source.old) (S.left source.new) fault }
+    ensures clients { IfOk result (λ script. length script.clients ≤ 16) }
     ensures workers { IfOk result (λ script. script.workers ≡ 1) }
     ensures words { IfOk result (λ script. script.words ≡ []) }
 {
     let text = read_all(alloc, source)?;
-    parse(alloc, text.as_slice())
+    let script = parse(alloc, text.as_slice())?;
+    let _clients = script.clients.as_slice();
+    Ok(script)
 }

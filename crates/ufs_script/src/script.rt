@@ -1,102 +1,120 @@
 // A whole script, from its text.
-ghost use Rattle.std.specs.Prelude.{◌≡◌, ◌≤◌, IfOk, IfErr, map, length};
-ghost use Rattle.std.specs.List.{AllByRecursion};
-ghost use Rattle.ufs_model.specs.Posix.{IsBuilt};
-ghost use Rattle.ufs_script.specs.Requests.{IsFaultOf};
-ghost use Rattle.ufs_script.specs.Script.{requests_of, body_of, script_of, is_end, one_client};
+ghost use Rattle.std.specs.Prelude.{◌≡◌, ◌≢◌, ◌≤◌, ◌<◌, ◌+◌, ◌^◌, [], ◌∷◌, Ok, IfOk, IfErr, map, length, fold, take};
+ghost use Rattle.ufs_script.specs.Lines.{ended_lines, unended_line, all_unended, lines_in};
+ghost use Rattle.ufs_script.specs.Script.{IsFaultOf, IsFew, draft_of, script_of, finished};
 
-use crate::fault::{NOT_BUILT, ScriptFault};
-use crate::lists::{OpList, OpLists, WordList};
-use crate::request::request;
-use crate::words::pieces;
-use std::alloc::{AllocError, Global};
-use ufs_model::Op;
+use crate::draft::{Draft, after_line, all_clients, no_lines};
+use crate::fault::ScriptFault;
+use crate::lines::first_line;
+use crate::lists::{OpLists, WordList};
+use std::alloc::Global;
 
 /// What a script asks for: each client's requests, how many workers serve them, and in which order
 /// they get their turns.
 #[derive(Drop)]
 pub struct Script {
-    /// One client in this form.
+    /// By their numbers, from 0.
     pub clients: OpLists,
-    /// 1 in this form.
+    /// 1, since `schedule` isn't read yet.
     pub workers: u8,
-    /// None in this form.
+    /// None, since `schedule` isn't read yet.
     pub words: WordList,
 }
 
 /// The greatest length of a script, in bytes.
 pub const MAX_SCRIPT: usize = 16_777_216;
 
-/// The greatest number of a client's requests.
-const MAX_REQUESTS: usize = 65_536;
-
-fn is_end(line: &[u8], last: &[u8]) -> bool
-    ensures { result ≡ is_end line.now last.now }
-{
-    line == b"end".as_slice() && last.is_empty()
+/// The draft of a text's lines with a line end, and what stands behind the last of them.
+#[derive(Drop)]
+struct Ended<'a> {
+    draft: Draft,
+    rest: &'a [u8],
 }
 
-// The requests of all lines but the first, of which the last two are `end` and nothing.
-fn requests(alloc: Global, lines: &[&[u8]]) -> Result<Vec<Op>, ScriptFault>
-    ensures ok { IfOk result (λ ops. requests_of (map (λ l. l.now) lines.now) ≡ Ok ops.items) }
-    ensures err { IfErr result (IsFaultOf (requests_of (map (λ l. l.now) lines.now))) }
-    ensures built { IfOk result (λ ops. AllByRecursion IsBuilt ops.items) }
+// The lines that have a line end.
+fn read_ended(alloc: Global, text: &[u8]) -> Result<Ended<'_>, ScriptFault>
+    requires { length text.now ≤ 16777216 }
+    ensures ok { IfOk result (λ ended. draft_of (ended_lines text.now) ≡ Ok ended.draft) }
+    ensures rest { IfOk result (λ ended. unended_line text.now ≡ all_unended (ended.rest.now ∷ [])) }
+    ensures err { IfErr result (IsFaultOf (draft_of (ended_lines text.now))) }
+    ensures few { IfOk result (λ ended. IsFew ended.draft) }
+    ensures counted { IfOk result (λ ended. ended.draft.lines ≤ 16777216) }
+    ensures never { result ≢ Err ScriptFault.Source }
 {
-    let size = lines.len();
-    if size < 2 {
-        return Err(NOT_BUILT);
+    let mut draft = no_lines(alloc);
+    let mut rest = text;
+    while let Some(cut) = first_line(rest) {
+        draft = after_line(alloc, draft, cut.front)?;
+        rest = cut.rest;
     }
-    let count = size - 2;
-    let mut ops = Vec::new(alloc);
-    for i in 0..count {
-        let op = request(alloc, lines[i])?;
-        ops.push(op)?;
-    }
-    if is_end(lines[count], lines[count + 1]) {
-        Ok(ops)
-    } else {
-        Err(NOT_BUILT)
-    }
+    Ok(Ended { draft, rest })
 }
 
-// The script of one client.
-fn one_client(alloc: Global, ops: OpList) -> Result<Script, AllocError>
-    ensures { IfOk result (λ script. script ≡ one_client ops) }
+// All lines.
+fn read_lines(alloc: Global, text: &[u8]) -> Result<Draft, ScriptFault>
+    requires { length text.now ≤ 16777216 }
+    ensures ok { IfOk result (λ draft. draft_of (lines_in text.now) ≡ Ok draft) }
+    ensures err { IfErr result (IsFaultOf (draft_of (lines_in text.now))) }
+    ensures few { IfOk result IsFew }
+    ensures never { result ≢ Err ScriptFault.Source }
 {
-    let mut lists = Vec::new(alloc);
-    lists.push(ops)?;
-    Ok(Script {
-        clients: OpLists::from_vec(lists),
-        workers: 1,
-        words: WordList::from_vec(Vec::new(alloc)),
-    })
+    let Ended { draft, rest } = read_ended(alloc, text)?;
+    if rest.is_empty() {
+        return Ok(draft);
+    }
+    after_line(alloc, draft, rest)
 }
 
-fn body(alloc: Global, lines: &[&[u8]]) -> Result<Script, ScriptFault>
-    ensures ok { IfOk result (λ script. body_of (map (λ l. l.now) lines.now) ≡ Ok script) }
-    ensures err { IfErr result (IsFaultOf (body_of (map (λ l. l.now) lines.now))) }
+// The first bytes of a text that has more.
+fn front(text: &[u8], size: usize) -> &[u8]
+    requires { size ≤ length text.now }
+    ensures value { result.now ≡ take size text.now }
+    ensures len { length result.now ≡ size }
 {
-    let [first, rest @ ..] = lines else {
-        return Err(NOT_BUILT);
-    };
-    if *first != b"client 0".as_slice() {
-        return Err(NOT_BUILT);
+    &text[..size]
+}
+
+// The script of a text's lines, of which one has to be `end`.
+fn finish(alloc: Global, draft: Draft) -> Result<Script, ScriptFault>
+    requires { IsFew draft }
+    ensures ok { IfOk result (λ script. finished (Ok draft) ≡ Ok script) }
+    ensures err { IfErr result (IsFaultOf (finished (Ok draft))) }
+    ensures workers { IfOk result (λ script. script.workers ≡ 1) }
+    ensures words { IfOk result (λ script. script.words ≡ []) }
+    ensures never { result ≢ Err ScriptFault.Source }
+{
+    let Draft {
+        lines,
+        before,
+        current,
+        ended,
+    } = draft;
+    if !ended {
+        return Err(ScriptFault::NoEnd { line: lines });
     }
-    let ops = requests(alloc, rest)?;
-    if ops.len() > MAX_REQUESTS {
-        return Err(NOT_BUILT);
+    match all_clients(before, current) {
+        Ok(clients) => Ok(Script {
+            clients,
+            workers: 1,
+            words: WordList::from_vec(Vec::new(alloc)),
+        }),
+        Err(cause) => Err(cause.at(lines)),
     }
-    Ok(one_client(alloc, OpList::from_vec(ops))?)
 }
 
 /// The script that a text is, or its first break.
 pub fn parse(alloc: Global, text: &[u8]) -> Result<Script, ScriptFault>
     ensures ok { IfOk result (λ script. script_of text.now ≡ Ok script) }
     ensures err { IfErr result (IsFaultOf (script_of text.now)) }
+    ensures workers { IfOk result (λ script. script.workers ≡ 1) }
+    ensures words { IfOk result (λ script. script.words ≡ []) }
+    ensures never { result ≢ Err ScriptFault.Source }
 {
     if text.len() > MAX_SCRIPT {
-        return Err(NOT_BUILT);
+        let ended = read_ended(alloc, front(text, MAX_SCRIPT))?;
+        return Err(ScriptFault::TooLong {
+            line: ended.draft.lines + 1,
+        });
     }
-    let lines = pieces(alloc, text, b'\n')?;
-    body(alloc, lines.as_slice())
+    finish(alloc, read_lines(alloc, text)?)
 }
