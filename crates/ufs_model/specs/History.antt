@@ -34,6 +34,11 @@ tree_with t client request _ = (posix t client request).0
 abbrev pub goes_on : PosixTree → Entry → PosixTree
 goes_on t entry = tree_with t entry.client entry.op entry.reply
 
+-- the entry has that ticket and the reply that POSIX gives on the tree, which goes on to the next one
+pub record IsPosixEntry (ticket : ℕ) (before after : PosixTree) (entry : Entry) : Type 0 where
+  pub numbered : entry.ticket ≡ ticket
+  pub stepped : posix before entry.client entry.op ≡ (after, entry.reply)
+
 -- the tree after a whole history
 abbrev pub tree_after : PosixTree → List Entry → PosixTree
 tree_after tree [] = tree
