@@ -1,19 +1,20 @@
 -- How the answer of a part is that of the whole.
-use Rattle.std.proofs.Common.{◌≡◌, inl, inr, ℕ, List, [], ◌∷◌, ◌++◌, Option, ap, sym, subst, refl, ◌∙◌, length, length-append, arith}
+use Rattle.std.proofs.Common.{◌≡◌, inl, inr, ℕ, List, [], ◌∷◌, ◌++◌, Option, ap, sym, subst, refl, ◌∙◌, length}
 use Rattle.std.specs.Io.KnownBytes.{Appends}
 use Rattle.ufs_io.specs.Causes.{Rose}
 use Rattle.ufs_model.specs.PosixTree.{root_alone}
 use Rattle.ufs_model.specs.History.{IsLegal, IsInOrder, IsComplete}
-use Rattle.ufs_model.specs.declared.data.Op.{Op}
 use Rattle.ufs_model.specs.declared.data.Entry.{Entry}
 use Rattle.ufs_script.specs.Output.{output_of}
-use Rattle.ufs_script.specs.Reading.{ReadsScript}
+use Rattle.ufs_script.specs.Reading.{ReadsScript, ReadsBreak}
+use Rattle.ufs_script.specs.Script.{IsOutside}
+use Rattle.ufs_script.specs.declared.fault.ScriptFault.{ScriptFault}
 use Rattle.ufs_script.specs.declared.script.Script.{Script}
 use Rattle.ufs_top.specs.declared.ending.Ending.{Ending}
-use Rattle.ufs_top.specs.declared.ending.Ending.TheVariants.{Done, Usage, BadGeometry, NotBuilt, TooSmall, DeviceFault, OutOfMemory, SourceFault}
+use Rattle.ufs_top.specs.declared.ending.Ending.TheVariants.{Done, Usage, BadGeometry, NotBuilt, BadScript, TooSmall, DeviceFault, OutOfMemory, SourceFault}
 use Rattle.ufs_top.specs.Texts.{memory_line}
 use Rattle.ufs_top.specs.Served.{IsHistoryOf}
-use Rattle.ufs_top.specs.Endings.{IsAnswer, IsLine, EndsPrinting, EndsServing, EndsPlay}
+use Rattle.ufs_top.specs.Endings.{IsAnswer, IsLine, IsBreakLine, EndsPrinting, EndsServing, EndsPlay}
 use Rattle.ufs_top.proofs.WriteLemmas.{appends_both, front_behind}
 
 -- what is allowed there is allowed here
@@ -41,28 +42,20 @@ answer_after wanted line front E old mid new before between now status wrote sam
       (w.0, front ++ w.1, front ++ w.2, subst (λ (e : Ending). E e (front ++ w.1)) (sym w.3.0) (f w.1 (refl, w.3.1)), front_behind front w.2 w.1 w.4, appends_both old mid new front w.2 wrote w.5);
 }
 
--- one client's requests, alone
-pub only_client : (clients rest : List (List Op)) (requests : List Op) → clients ≡ rest ++ requests ∷ [] → length clients ≡ 1 → clients ≡ requests ∷ []
-only_client clients [] requests is one = is
-only_client clients (r ∷ rest) requests is one = absurd (omega (arith, ap length is, length-append (r ∷ rest) (requests ∷ [])))
-
-pub history_of : (script : Script) (requests : List Op) (history : List Entry) → script.clients ≡ requests ∷ [] → IsLegal root_alone history → IsInOrder (requests ∷ []) history → IsComplete (requests ∷ []) history → IsHistoryOf script history
-history_of script requests history is legal ordered complete = record {
-  legal = legal;
-  ordered = subst (λ (c : List (List Op)). IsInOrder c history) (sym is) ordered;
-  complete = subst (λ (c : List (List Op)). IsComplete c history) (sym is) complete;
-}
+pub history_of : (script : Script) (history : List Entry) → IsLegal root_alone history → IsInOrder script.clients history → IsComplete script.clients history → IsHistoryOf script history
+history_of script history legal ordered complete = record { legal = legal; ordered = ordered; complete = complete }
 
 -- a history that is printed is the script's
-pub served_by : (script : Script) (history : List Entry) → length script.clients ≡ 1 → IsHistoryOf script history → (ending : Ending) (text : List ℕ) → EndsPrinting history ending text → EndsServing script ending text
-served_by script history one is Done text e = (history, is, e ∙ sym (ap (λ (n : ℕ). output_of n history) one))
-served_by script history one is Usage text e = absurd e
-served_by script history one is (BadGeometry bad) text e = absurd e
-served_by script history one is NotBuilt text e = absurd e
-served_by script history one is TooSmall text e = absurd e
-served_by script history one is DeviceFault text e = absurd e
-served_by script history one is OutOfMemory text e = (e.0, inr (history, is, (e.1.0, e.1.1 ∙ sym (ap (λ (n : ℕ). output_of n history) one))), e.2)
-served_by script history one is SourceFault text e = absurd e
+pub served_by : (script : Script) (clients : ℕ) (history : List Entry) → clients ≡ length script.clients → IsHistoryOf script history → (ending : Ending) (text : List ℕ) → EndsPrinting clients history ending text → EndsServing script ending text
+served_by script clients history all is Done text e = (history, is, e ∙ ap (λ (n : ℕ). output_of n history) all)
+served_by script clients history all is Usage text e = absurd e
+served_by script clients history all is (BadGeometry bad) text e = absurd e
+served_by script clients history all is NotBuilt text e = absurd e
+served_by script clients history all is BadScript text e = absurd e
+served_by script clients history all is TooSmall text e = absurd e
+served_by script clients history all is DeviceFault text e = absurd e
+served_by script clients history all is OutOfMemory text e = (e.0, inr (history, is, (e.1.0, e.1.1 ∙ ap (λ (n : ℕ). output_of n history) all)), e.2)
+served_by script clients history all is SourceFault text e = absurd e
 
 -- a script that is served was read
 pub read_and_served : (old new : Option (List ℕ)) (before now : ℕ) (script : Script) → ReadsScript old new script → (ending : Ending) (text : List ℕ) → EndsServing script ending text → EndsPlay old new before now ending text
@@ -70,6 +63,7 @@ read_and_served old new before now script read Done text e = (script, e.0, recor
 read_and_served old new before now script read Usage text e = absurd e
 read_and_served old new before now script read (BadGeometry bad) text e = absurd e
 read_and_served old new before now script read NotBuilt text e = absurd e
+read_and_served old new before now script read BadScript text e = absurd e
 read_and_served old new before now script read TooSmall text e = absurd e
 read_and_served old new before now script read DeviceFault text e = absurd e
 read_and_served old new before now script read OutOfMemory text e =
@@ -79,3 +73,8 @@ read_and_served old new before now script read SourceFault text e = absurd e
 -- there was no memory before the first line
 pub no_memory : (old new : Option (List ℕ)) (before now : ℕ) (ending : Ending) (text : List ℕ) → IsLine OutOfMemory memory_line ending text → EndsPlay old new before now ending text
 no_memory old new before now ending text e = subst (λ (x : Ending). EndsPlay old new before now x text) (sym e.0) ([], inl refl, e.1)
+
+-- a break is told, or there was no memory for its line
+pub break_told : (old new : Option (List ℕ)) (before now : ℕ) (f : ScriptFault) → ReadsBreak old new f → (¬ IsOutside f) → (ending : Ending) (text : List ℕ) → IsBreakLine f ending text → EndsPlay old new before now ending text
+break_told old new before now f read inside ending text (inl e) = subst (λ (x : Ending). EndsPlay old new before now x text) (sym e.0) (f, read, inside, e.1)
+break_told old new before now f read inside ending text (inr e) = no_memory old new before now ending text e

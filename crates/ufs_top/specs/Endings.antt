@@ -9,12 +9,13 @@ use Rattle.ufs_recover.specs.Faults.{RoseTo}
 use Rattle.ufs_script.specs.Output.{output_of}
 use Rattle.ufs_script.specs.Reading.{ReadsBreak}
 use Rattle.ufs_script.specs.declared.script.Script.{Script}
-use Rattle.ufs_script.specs.declared.fault.ScriptFault.TheVariants as fault
+use Rattle.ufs_script.specs.declared.fault.ScriptFault.{ScriptFault}
+use Rattle.ufs_script.specs.Script.{IsOutside}
 use Rattle.ufs_top.specs.declared.ending.Ending.{Ending}
-use Rattle.ufs_top.specs.declared.ending.Ending.TheVariants.{Done, Usage, BadGeometry, NotBuilt, TooSmall, DeviceFault, OutOfMemory, SourceFault}
+use Rattle.ufs_top.specs.declared.ending.Ending.TheVariants.{Done, Usage, BadGeometry, NotBuilt, BadScript, TooSmall, DeviceFault, OutOfMemory, SourceFault}
 use Rattle.ufs_top.specs.declared.words.Command.{Command}
 use Rattle.ufs_top.specs.declared.words.Command.TheVariants as command
-use Rattle.ufs_top.specs.Texts.{IsFront, usage_line, bad_geometry_line, not_built_line, too_small_line, device_line, memory_line, source_line, made_line}
+use Rattle.ufs_top.specs.Texts.{IsFront, usage_line, bad_geometry_line, not_built_line, break_line, too_small_line, device_line, memory_line, source_line, made_line}
 use Rattle.ufs_top.specs.Served.{IsServed, IsHistoryOf, replies_text}
 
 abbrev pub status_of : Ending → ℕ
@@ -22,6 +23,7 @@ status_of Done = 0
 status_of Usage = 1
 status_of (BadGeometry bad) = 1
 status_of NotBuilt = 2
+status_of BadScript = 2
 status_of TooSmall = 3
 status_of DeviceFault = 4
 status_of OutOfMemory = 5
@@ -37,6 +39,7 @@ fixed_line_of Done = []
 fixed_line_of Usage = usage_line
 fixed_line_of (BadGeometry bad) = bad_geometry_line bad
 fixed_line_of NotBuilt = not_built_line
+fixed_line_of BadScript = []
 fixed_line_of TooSmall = too_small_line
 fixed_line_of DeviceFault = []
 fixed_line_of OutOfMemory = memory_line
@@ -56,11 +59,15 @@ IsLine wanted line ending text = (ending ≡ wanted) × (text ≡ line)
 abbrev pub IsDeviceLine : ℕ → Ending → List ℕ → Type 0
 IsDeviceLine fault ending text = IsLine DeviceFault (device_line fault) ending text ⊎ IsLine OutOfMemory memory_line ending text
 
--- a history of one client is written whole, or memory runs out on the way
-abbrev pub EndsPrinting : List Entry → Ending → List ℕ → Type 0
-EndsPrinting history Done text = text ≡ output_of 1 history
-EndsPrinting history OutOfMemory text = (front : List ℕ) × IsFront front (output_of 1 history) × (text ≡ front ++ memory_line)
-EndsPrinting history _ text = ⊥
+-- why a script is none, or there is no memory for its line
+abbrev pub IsBreakLine : ScriptFault → Ending → List ℕ → Type 0
+IsBreakLine f ending text = IsLine BadScript (break_line f) ending text ⊎ IsLine OutOfMemory memory_line ending text
+
+-- a history of so many clients is written whole, or memory runs out on the way
+abbrev pub EndsPrinting : ℕ → List Entry → Ending → List ℕ → Type 0
+EndsPrinting clients history Done text = text ≡ output_of clients history
+EndsPrinting clients history OutOfMemory text = (front : List ℕ) × IsFront front (output_of clients history) × (text ≡ front ++ memory_line)
+EndsPrinting clients history _ text = ⊥
 
 -- a script is served, or memory runs out before or after
 abbrev pub EndsServing : Script → Ending → List ℕ → Type 0
@@ -72,7 +79,7 @@ EndsServing script _ text = ⊥
 -- with this text.
 abbrev pub EndsPlay : Option (List ℕ) → Option (List ℕ) → ℕ → ℕ → Ending → List ℕ → Type 0
 EndsPlay old new before now Done text = (script : Script) × (history : List Entry) × IsServed old new script history × (text ≡ replies_text script history)
-EndsPlay old new before now NotBuilt text = ReadsBreak old new (fault.NotBuilt 0) × (text ≡ not_built_line)
+EndsPlay old new before now BadScript text = (f : ScriptFault) × ReadsBreak old new f × (¬ IsOutside f) × (text ≡ break_line f)
 EndsPlay old new before now OutOfMemory text = (front : List ℕ) × IsReplyFront old new front × (text ≡ front ++ memory_line)
 EndsPlay old new before now SourceFault text = Rose before now × (text ≡ source_line)
 EndsPlay old new before now _ text = ⊥

@@ -4,6 +4,8 @@ use Rattle.std.specs.Fmt.{decimal}
 use Rattle.ufs_layout.specs.Areas.{first_of_data, refusal_number}
 use Rattle.ufs_layout.specs.declared.geometry.Geometry.{Geometry}
 use Rattle.ufs_layout.specs.declared.geometry.BadGeometry.{BadGeometry}
+use Rattle.ufs_script.specs.declared.fault.ScriptFault.{ScriptFault}
+use Rattle.ufs_script.specs.declared.fault.ScriptFault.TheVariants as fault
 
 abbrev pub line : List ℕ → List ℕ
 line text = text ++ 10 ∷ []
@@ -15,8 +17,27 @@ usage_line = line (codes "usage: ufs COMMAND [WORDS]")
 abbrev pub bad_geometry_line : BadGeometry → List ℕ
 bad_geometry_line bad = line (codes "ufs: bad geometry " ++ (48 + refusal_number bad) ∷ [])
 
+-- a command that isn't built has no line of a script
 abbrev pub not_built_line : List ℕ
 not_built_line = line (codes "ufs: line 0: NotBuilt")
+
+-- the number of a script's line, and the cause's name
+abbrev pub cause_line : ℕ → List ℕ → List ℕ
+cause_line number name = line (codes "ufs: line " ++ decimal number ++ codes ": " ++ name)
+
+-- why a script is none; a fault of the source and want of memory are no cause of the script
+abbrev pub break_line : ScriptFault → List ℕ
+break_line (fault.NoClient number) = cause_line number (codes "NoClient")
+break_line (fault.BadWord number) = cause_line number (codes "BadWord")
+break_line (fault.BadNumber number) = cause_line number (codes "BadNumber")
+break_line (fault.BadData number) = cause_line number (codes "BadData")
+break_line (fault.TooMany number) = cause_line number (codes "TooMany")
+break_line (fault.TooLong number) = cause_line number (codes "TooLong")
+break_line (fault.NoEnd number) = cause_line number (codes "NoEnd")
+break_line (fault.AfterEnd number) = cause_line number (codes "AfterEnd")
+break_line (fault.NotBuilt number) = cause_line number (codes "NotBuilt")
+break_line fault.Source = []
+break_line fault.Memory = []
 
 -- a disk that is too small is told as a fifth bad geometry
 abbrev pub too_small_line : List ℕ

@@ -13,8 +13,10 @@ pub enum Ending {
     Usage,
     /// The three numbers are no geometry.
     BadGeometry { bad: BadGeometry },
-    /// The script, or the command, has a form that isn't built yet.
+    /// The command isn't built yet.
     NotBuilt,
+    /// The text is no script.
+    BadScript,
     /// The disk is too small.
     TooSmall,
     /// A call of the disk failed.
@@ -49,6 +51,7 @@ impl Ending {
             Ending::Usage => 1,
             Ending::BadGeometry { .. } => 1,
             Ending::NotBuilt => 2,
+            Ending::BadScript => 2,
             Ending::TooSmall => 3,
             Ending::DeviceFault => 4,
             Ending::OutOfMemory => 5,
@@ -57,7 +60,7 @@ impl Ending {
     }
 
     /// The line that is written last, with its line end, where it is always the same; none where the line
-    /// has a number of the disk, or where there is no such line.
+    /// has a number of the disk or of a script's line, or where there is no such line.
     pub fn fixed_line(self) -> &'static [u8]
         ensures { result.now ≡ fixed_line_of self }
     {
@@ -66,6 +69,7 @@ impl Ending {
             Ending::Usage => b"usage: ufs COMMAND [WORDS]\n",
             Ending::BadGeometry { bad } => bad_geometry(bad),
             Ending::NotBuilt => b"ufs: line 0: NotBuilt\n",
+            Ending::BadScript => b"",
             Ending::TooSmall => b"ufs: image: BadGeometry 5\n",
             Ending::DeviceFault => b"",
             Ending::OutOfMemory => b"ufs: out of memory\n",

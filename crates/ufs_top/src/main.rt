@@ -1,6 +1,7 @@
 // The file server's program: its words, its script from standard input, its lines to standard output.
 #![tactic(auto)]
 
+mod broken;
 mod ending;
 mod finish;
 mod mkfs;

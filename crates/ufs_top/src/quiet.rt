@@ -17,6 +17,7 @@ ghost use Rattle.ufs_top.specs.Texts.{IsFront, made_line};
 ghost use Rattle.ufs_top.specs.Served.{IsServed, replies_text};
 ghost use Rattle.ufs_top.specs.Endings.{Ends, EndsPlay, EndsServing, EndsPrinting, IsAnswer, status_of};
 
+use crate::broken::tell_break;
 use crate::ending::Ending;
 use crate::finish::{SINK_FAULT, finish};
 use crate::mkfs::mkfs;
@@ -26,8 +27,8 @@ use crate::words::{Command, read_command};
 use std::alloc::Global;
 use ufs_disk::Disk;
 use ufs_io::{Sink, Source};
-use ufs_model::{EntryList, Memory};
-use ufs_script::{OpLists, Script, ScriptFault, read_script};
+use ufs_model::EntryList;
+use ufs_script::{Script, ScriptFault, read_script};
 
 /// What a command gives back.
 #[derive(Drop)]
@@ -38,11 +39,11 @@ pub struct Outcome<D: Disk> {
     pub disk: D,
 }
 
-// Writes the lines of a history, and then ends.
-fn print_history<K: Sink>(alloc: Global, sink: &mut K, history: &EntryList) -> u8
-    ensures { IsAnswer (EndsPrinting history.now) (K.held sink.old) (K.held sink.new) (K.faults sink.old) (K.faults sink.new) result }
+// Writes the lines of a history of so many clients, and then ends.
+fn print_history<K: Sink>(alloc: Global, sink: &mut K, clients: u8, history: &EntryList) -> u8
+    ensures { IsAnswer (EndsPrinting clients history.now) (K.held sink.old) (K.held sink.new) (K.faults sink.old) (K.faults sink.new) result }
 {
-    match print(alloc, sink, 1, history.as_slice()) {
+    match print(alloc, sink, clients, history.as_slice()) {
         Ok(()) => Ending::Done.status(),
         Err(PrintFault::Memory) => finish(sink, Ending::OutOfMemory),
         Err(PrintFault::Sink) => SINK_FAULT,
@@ -51,15 +52,11 @@ fn print_history<K: Sink>(alloc: Global, sink: &mut K, history: &EntryList) -> u
 
 // Serves a script, and writes its reply lines.
 fn serve_script<K: Sink>(alloc: Global, sink: &mut K, script: Script) -> u8
-    requires { length script.clients ≡ 1 }
     ensures { IsAnswer (EndsServing script) (K.held sink.old) (K.held sink.new) (K.faults sink.old) (K.faults sink.new) result }
 {
-    let mut clients = script.clients.into_vec();
-    let Some(requests) = clients.pop() else {
-        unreachable!();
-    };
-    match serve(alloc, requests) {
-        Ok(history) => print_history(alloc, sink, &history),
+    let clients = script.clients.as_slice().len() as u8;
+    match serve(alloc, script.clients) {
+        Ok(history) => print_history(alloc, sink, clients, &history),
         Err(_) => finish(sink, Ending::OutOfMemory),
     }
 }
@@ -72,10 +69,9 @@ fn play<S: Source, K: Sink>(alloc: Global, source: &mut S, sink: &mut K) -> u8
 {
     match read_script(alloc, source) {
         Ok(script) => serve_script(alloc, sink, script),
-        Err(ScriptFault::NotBuilt { .. }) => finish(sink, Ending::NotBuilt),
         Err(ScriptFault::Memory) => finish(sink, Ending::OutOfMemory),
         Err(ScriptFault::Source) => finish(sink, Ending::SourceFault),
-        Err(_) => unreachable!(),
+        Err(fault) => tell_break(alloc, sink, fault),
     }
 }
 

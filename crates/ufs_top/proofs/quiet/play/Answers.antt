@@ -1,7 +1,7 @@
-use Rattle.ufs_top.specs.Endings.{EndsServing, EndsPlay, IsLine}
+use Rattle.ufs_top.specs.Endings.{EndsServing, EndsPlay, IsLine, IsBreakLine}
 use Rattle.ufs_top.specs.Texts.{memory_line}
 use Rattle.ufs_top.specs.declared.ending.Ending.TheVariants.{OutOfMemory}
-use Rattle.ufs_top.proofs.AnswerLemmas.{answer_map, read_and_served, no_memory}
+use Rattle.ufs_top.proofs.AnswerLemmas.{answer_map, read_and_served, no_memory, break_told}
 use Rattle.ufs_top.proofs.quiet.play.Goals as goal
 
 pub returns-in-Ok-clause-answer : goal.returns-in-Ok-clause-answer
@@ -27,3 +27,6 @@ returns-in-Err-Memory-clause-answer g c =
     answer_map (IsLine OutOfMemory memory_line) (EndsPlay (left old) (left new) (risen old) (risen new)) (held c.args.sink.now) (held c.finish-in-Err-Memory.new.sink) (faults c.args.sink.now) (faults c.finish-in-Err-Memory.new.sink) c.finish-in-Err-Memory.result
     (no_memory (left old) (left new) (risen old) (risen new))
     c.finish-in-Err-Memory.ensures.answer
+
+pub returns-in_default-clause-answer : goal.returns-in_default-clause-answer
+returns-in_default-clause-answer g c = ?

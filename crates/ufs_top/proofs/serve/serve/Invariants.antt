@@ -1,5 +1,5 @@
-use Rattle.ufs_top.proofs.ServeLemmas.{IsServing}
+use Rattle.ufs_top.proofs.ServeLemmas.{AreServing}
 use Rattle.ufs_top.proofs.serve.serve.Given as goal
 
-abbrev pub invariant-loop-op : goal.invariant-loop-op
-invariant-loop-op l = IsServing l.fn.requests l.tree l.history l.seq l.yielded l.op-iterator.rest.items
+abbrev pub invariant-loop-requests : goal.invariant-loop-requests
+invariant-loop-requests l = AreServing l.fn.clients l.tree l.history l.client l.yielded l.requests-iterator.rest.items
