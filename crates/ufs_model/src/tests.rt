@@ -132,3 +132,36 @@ fn three_lists_make_one_history(rt: HostRuntime) -> Result<(), Fail> {
     }
     Ok(())
 }
+
+#[test]
+fn an_entry_is_copied(rt: HostRuntime) -> Result<(), Fail> {
+    let alloc = rt.alloc();
+    let names = vec![in alloc; Bytes::from_vec(b"a".to_vec(alloc)?)]?;
+    assert!(rt; NameList::are_rising(names.as_slice()));
+    let entry = Entry {
+        ticket: 0,
+        client: 1,
+        seq: 0,
+        by: Actor::Primary,
+        op: Op::OpenFile {
+            path: Bytes::from_vec(b"/f".to_vec(alloc)?),
+            read: true,
+            write: false,
+            creat: false,
+            excl: false,
+            trunc: false,
+            append: false,
+        },
+        reply: Reply::Names(NameList::from_vec(names)),
+    };
+    let copy = entry.copy(alloc)?;
+    let Op::OpenFile { path, .. } = &copy.op else {
+        panic!(rt; "another request");
+    };
+    assert_eq!(rt; path.as_slice(), b"/f".as_slice());
+    let Reply::Names(names) = &copy.reply else {
+        panic!(rt; "another reply");
+    };
+    assert_eq!(rt; names.as_slice().len(), 1);
+    Ok(())
+}
