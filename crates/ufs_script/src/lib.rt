@@ -1,4 +1,4 @@
-//! The text of scripts and of replies.
+//! The text of scripts, of replies and of traces.
 #![tactic(auto)]
 
 mod draft;
