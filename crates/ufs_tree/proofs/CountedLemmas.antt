@@ -1,5 +1,5 @@
 -- The counts of a map of paths, as paths come and go.
-use Rattle.std.proofs.Common.{◌≡◌, ℕ, ◌+◌, ◌-◌, List, Bool, true, false, cond, Some, None, ap, sym, refl, subst, ◌∙◌, arith, ltb, length, filter}
+use Rattle.std.proofs.Common.{◌≡◌, ◌≤◌, ℕ, ◌+◌, ◌-◌, List, Bool, true, false, cond, Some, None, ap, sym, refl, subst, ◌∙◌, arith, ltb, length, filter}
 use Rattle.std.specs.Prelude.{is_some}
 use Rattle.std.specs.declared.cmp.Ordering.{Ordering}
 use Rattle.std.specs.declared.cmp.Ordering.TheVariants.{Less, Equal, Greater}
@@ -112,3 +112,9 @@ module _ (paths : Paths) (dirs : CountsByDir) (links : CountsByFile) (counted : 
   -- and so is a file named
   pub named_by_count : (f n : ℕ) → n ≡ count_at links f → ltb 0 n ≡ list_any (is_node_of f) (map.values paths)
   named_by_count f n is = ap (ltb 0) (is ∙ counted.links_are f) ∙ sym (any-count (is_node_of f) (map.values paths))
+
+  -- what stands at a path is counted
+  pub old_counted : (path : List ℕ) (old : Node) (f : ℕ) → map.get paths path ≡ Some old → cond (is_node_of f old) 1 0 ≤ count_at links f
+  old_counted path old f there =
+      let test : List ℕ × Node → Bool = λ e. is_node_of f e.1 in
+      omega (arith, counted.links_are f, links_counted paths f, count-remove path_cmp test path_total path_same paths path old there)

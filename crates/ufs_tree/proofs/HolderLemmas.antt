@@ -1,10 +1,9 @@
 -- Counts by file, and those of descriptors as they come and go.
 use Rattle.std.proofs.Common.{◌≡◌, ◌≤◌, ℕ, ◌+◌, ◌-◌, List, Bool, true, false, cond, Option, Some, None, ap, sym, refl, ◌∙◌, arith, eqb, ltb}
 use Rattle.std.specs.declared.cmp.Ordering.{Ordering}
-use Rattle.std.specs.declared.cmp.Ordering.TheVariants.{Less, Equal, Greater}
 use Rattle.std.specs.Prelude.{unwrap_or, IsSome}
 use Rattle.std.specs.List.{count_by, list_any}
-use Rattle.std.specs.Ordering.{is_eq, eq_by_cmp, nat_cmp}
+use Rattle.std.specs.Ordering.{eq_by_cmp, nat_cmp}
 use Rattle.std.specs.Cmp.{IsTotalOrder, both_ways, eq_by_cmp_equiv, nat_cmp_total}
 use Rattle.std.specs.Map.{values_of}
 use Rattle.std.specs.FinMap as map
@@ -16,23 +15,18 @@ use Rattle.ufs_model.specs.Order.{fd_cmp, path_cmp}
 use Rattle.ufs_model.specs.PosixTree.{Fds, is_desc_of, is_number}
 use Rattle.ufs_model.specs.declared.data.Desc.{Desc}
 use Rattle.ufs_tree.specs.Counted.{CountsByFile, CountsByDir, count_at, IsCountedByDesc}
-use Rattle.ufs_tree.proofs.SeenLemmas.{fd_total, fd_same, path_total, path_same, entries-empty}
+use Rattle.ufs_tree.proofs.SeenLemmas.{tied, fd_total, fd_same, path_total, path_same, entries-empty}
 use Rattle.ufs_tree.proofs.CountLemmas.{one_if, any-count, count-insert, count-remove, count-replace, count-values}
 
-tied : (r : Ordering) → is_eq r ≡ true → r ≡ Equal
-tied Less e = cc
-tied Equal e = refl
-tied Greater e = cc
-
 -- two numbers tie where they are equal
-number_ties : (a b : ℕ) → eq_by_cmp nat_cmp a b ≡ eqb b a
+pub number_ties : (a b : ℕ) → eq_by_cmp nat_cmp a b ≡ eqb b a
 number_ties a b =
     both_ways (eq_by_cmp nat_cmp a b) (eqb b a)
     (λ e. eq-eqb b a (sym (nat_cmp-IsAntisymmetric a b (tied (nat_cmp a b) e))))
     (λ e. ap (eq_by_cmp nat_cmp a) (eqb-true b a e) ∙ (eq_by_cmp_equiv nat_cmp_total).refl a)
 
 -- and so do two paths
-path_ties : (a b : List ℕ) → eq_by_cmp path_cmp a b ≡ bytes_eq b a
+pub path_ties : (a b : List ℕ) → eq_by_cmp path_cmp a b ≡ bytes_eq b a
 path_ties a b = (eq_by_cmp_equiv path_total).symm a b ∙ is_eq-slice_cmp b a
 
 pub path_is : (a b : List ℕ) → bytes_eq a b ≡ true → a ≡ b

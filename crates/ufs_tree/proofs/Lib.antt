@@ -1,3 +1,4 @@
+pub mod ListLemmas
 pub mod SeenLemmas
 pub mod InsertLemmas
 pub mod ByteLemmas
@@ -7,10 +8,16 @@ pub mod CountLemmas
 pub mod HolderLemmas
 pub mod PathLemmas
 pub mod CountedLemmas
+pub mod RisingLemmas
+pub mod StartLemmas
+pub mod PlacedLemmas
+pub mod RangeLemmas
+pub mod NameLemmas
+pub mod MovedLemmas
+pub mod UnderLemmas
+pub mod RenameLemmas
 pub mod BelowLemmas
 pub mod WalkLemmas
 pub mod PartLemmas
 pub mod AllowedLemmas
-pub mod RisingLemmas
-pub mod StartLemmas
-pub mod PlacedLemmas
+pub mod ReplyLemmas

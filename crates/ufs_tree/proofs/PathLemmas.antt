@@ -1,5 +1,5 @@
 -- The text of whole paths: their components, what stands above them, and their last name.
-use Rattle.std.proofs.Common.{◌≡◌, ℕ, zero, suc, ◌+◌, ◌-◌, ◌≤◌, ◌<◌, List, [], ◌∷◌, ◌++◌, Bool, true, false, cond, not, ◌&&◌, eqb, ltb, length, filter, take, drop, get_or, ap, sym, refl, ◌∙◌, arith, length-take, append_assoc, take-append-drop, drop-cons, add-one}
+use Rattle.std.proofs.Common.{◌≡◌, ℕ, zero, suc, ◌+◌, ◌-◌, ◌≤◌, List, [], ◌∷◌, ◌++◌, Bool, true, false, cond, not, ◌&&◌, eqb, ltb, length, filter, take, drop, get_or, ap, sym, refl, ◌∙◌, arith, length-take, append_assoc}
 use Rattle.std.proofs.lemmas.Bool.{not-true, cond-true, cond-false, and_parts, and_from, not_from_false}
 use Rattle.std.proofs.lemmas.List.{append-nil}
 use Rattle.std.proofs.lemmas.List.Elements.{filter-append}
@@ -10,6 +10,7 @@ use Rattle.ufs_model.specs.Paths.{components, whole_path, parent_of, IsWhole}
 use Rattle.ufs_model.specs.PosixTree.{root}
 use Rattle.ufs_tree.specs.Below.{front, is_free, IsNameStart}
 use Rattle.ufs_tree.proofs.HolderLemmas.{path_is}
+use Rattle.ufs_tree.proofs.ListLemmas.{all_take, round_place}
 
 -- a slash before each component
 abbrev pub joined : List (List ℕ) → List ℕ
@@ -112,7 +113,7 @@ pieces-append (x ∷ a) b = by (eqb x 47) (pieces-append a b)
 pub components-append : (a b : List ℕ) → components (a ++ 47 ∷ b) ≡ components a ++ components b
 components-append a b = ap (filter is_some_name) (pieces-append a b) ∙ filter-append is_some_name (pieces a) (pieces b)
 
-joined-append : (xs ys : List (List ℕ)) → joined (xs ++ ys) ≡ joined xs ++ joined ys
+pub joined-append : (xs ys : List (List ℕ)) → joined (xs ++ ys) ≡ joined xs ++ joined ys
 joined-append [] ys = refl
 joined-append (x ∷ xs) ys = ap (λ rest. (47 ∷ x) ++ rest) (joined-append xs ys) ∙ sym (append_assoc (47 ∷ x) (joined xs) (joined ys))
 
@@ -122,7 +123,7 @@ joined-append (x ∷ xs) ys = ap (λ rest. (47 ∷ x) ++ rest) (joined-append xs
 abbrev pub init : List (List ℕ) → List (List ℕ)
 init names = take (length names - 1) names
 
-init-cons : (name next : List ℕ) (names : List (List ℕ)) → init (name ∷ next ∷ names) ≡ name ∷ init (next ∷ names)
+pub init-cons : (name next : List ℕ) (names : List (List ℕ)) → init (name ∷ next ∷ names) ≡ name ∷ init (next ∷ names)
 init-cons name next names =
     let one : length (name ∷ next ∷ names) - 1 ≡ suc (length (next ∷ names) - 1) = omega arith in
     ap (λ n. take n (name ∷ next ∷ names)) one
@@ -138,17 +139,12 @@ last_plain : (name : List ℕ) (names : List (List ℕ)) → AllByRecursion IsPl
 last_plain name [] h = h.0
 last_plain name (next ∷ names) h = last_plain next names h.1
 
-pub all_take : {X : Type 0} (P : X → Type 0) (n : ℕ) (xs : List X) → AllByRecursion P xs → AllByRecursion P (take n xs)
-all_take P zero xs h = tt
-all_take P (suc n) [] h = tt
-all_take P (suc n) (x ∷ xs) h = (h.0, all_take P n xs h.1)
-
 front-whole : (names : List (List ℕ)) → AllByRecursion IsPlain names → front (whole_path names) ≡ joined names
 front-whole [] h = refl
 front-whole ([] ∷ names) h = let no : false ≡ true = h.0.some in cc
 front-whole ((b ∷ name) ∷ names) h = ap front (whole_path-joined (b ∷ name) names)
 
-whole_joined : (path : List ℕ) → whole_path (components path) ≡ path → (path ≡ root → ⊥) → (ns : List (List ℕ)) → components path ≡ ns → path ≡ joined ns × (1 ≤ length ns)
+pub whole_joined : (path : List ℕ) → whole_path (components path) ≡ path → (path ≡ root → ⊥) → (ns : List (List ℕ)) → components path ≡ ns → path ≡ joined ns × (1 ≤ length ns)
 whole_joined path spelled other [] is = absurd (other (sym spelled ∙ ap whole_path is))
 whole_joined path spelled other (name ∷ names) is = (sym spelled ∙ ap whole_path is ∙ whole_path-joined name names, omega arith)
 
@@ -186,14 +182,6 @@ one_last_slash (x ∷ a) n [] m p q e = let no : false ≡ true = sym (not_free 
 one_last_slash (x ∷ a) n (y ∷ b) m p q e =
     let rest = one_last_slash a n b m p q (tail_of (a ++ 47 ∷ n) (b ++ 47 ∷ m) e) in
     ((λ i. head_of (a ++ 47 ∷ n) (b ++ 47 ∷ m) e i ∷ rest.0 i), rest.1)
-
--- the bytes from a place on
-from_place : (es : List ℕ) (i d : ℕ) → i < length es → drop i es ≡ get_or es i d ∷ drop (i + 1) es
-from_place es i d h = drop-cons es i d h ∙ ap (λ k. get_or es i d ∷ drop k es) (sym (add-one i))
-
--- what stands round a place
-round_place : (path : List ℕ) (at d : ℕ) → at < length path → path ≡ take at path ++ get_or path at d ∷ drop (at + 1) path
-round_place path at d h = sym (take-append-drop at path) ∙ ap (λ rest. take at path ++ rest) (from_place path at d h)
 
 front_root : (dir : List ℕ) (names : List (List ℕ)) → dir ≡ whole_path names → AllByRecursion IsPlain names → front dir ≡ [] → dir ≡ root
 front_root dir [] is plain e = is

@@ -1,10 +1,9 @@
 -- One more path in the tree that a session begins with.
-use Rattle.std.proofs.Common.{◌≡◌, ℕ, ◌+◌, ◌≤◌, ◌<◌, List, [], ◌∷◌, ◌++◌, Bool, true, false, cond, Some, None, Option, ap, sym, refl, subst, ◌∙◌, arith, length, get_or, take, drop, take-append-drop, append-nil, drop-cons, add-one}
+use Rattle.std.proofs.Common.{◌≡◌, ℕ, ◌+◌, ◌≤◌, ◌<◌, List, [], ◌∷◌, ◌++◌, true, false, Some, None, Option, ap, sym, refl, subst, ◌∙◌, arith, length, get_or, take, drop, take-append-drop, append-nil}
 use Rattle.std.proofs.lemmas.Bool.{le-ltb}
 use Rattle.std.proofs.lemmas.List.{map-append, map_more}
 use Rattle.std.specs.Prelude.{is_some}
-use Rattle.std.specs.Ordering.{eq_by_cmp}
-use Rattle.std.specs.Cmp.{nat_cmp_total, eq_by_cmp_equiv}
+use Rattle.std.specs.Cmp.{nat_cmp_total}
 use Rattle.std.specs.FinMap as map
 use Rattle.std.specs.FinMap.{find, is_sorted, nat_cmp-IsAntisymmetric, from_entries_push, get-from_entries, get-entries, same_map}
 use Rattle.ufs_model.specs.Order.{path_cmp}
@@ -17,7 +16,8 @@ use Rattle.ufs_model.specs.declared.data.PathEntry.{PathEntry}
 use Rattle.ufs_model.specs.declared.data.PathNode.{PathNode}
 use Rattle.ufs_model.specs.declared.data.PathNode.TheVariants as path_node
 use Rattle.ufs_tree.proofs.SeenLemmas.{path_total, path_same}
-use Rattle.ufs_tree.proofs.RisingLemmas.{find-earlier}
+use Rattle.ufs_tree.proofs.ListLemmas.{from_place}
+use Rattle.ufs_tree.proofs.RisingLemmas.{find-earlier, found_there}
 use Rattle.ufs_tree.proofs.StartLemmas.{Pairs, paths_from-push, bytes_from-push, next_from-push, next_from-append, next_rises, stands-paths_from, held-bytes_from, within_zero}
 
 unfound : {X : Type 0} (o : Option X) → is_some o ≡ false → o ≡ None
@@ -46,19 +46,6 @@ start_from-push es (path, path_node.File bytes) none =
 numbers_fit : (es : Pairs) (e : List ℕ × PathNode) (later : Pairs) → next_after (start_from es).next e.1 ≤ (start_from (es ++ e ∷ later)).next
 numbers_fit es e later = rw (next_from-append 0 es (e ∷ later)) (next_rises (next_after (next_from 0 es) e.1) later)
 
--- the entries from a place on
-from_place : {A : Type 0} (es : List A) (i : ℕ) (d : A) → i < length es → drop i es ≡ get_or es i d ∷ drop (i + 1) es
-from_place es i d h = drop-cons es i d h ∙ ap (λ k. get_or es i d ∷ drop k es) (sym (add-one i))
-
--- an entry of a list is found in it
-found_there : (front : Pairs) (e : List ℕ × PathNode) (later : Pairs) → is_some (find path_cmp e.0 (front ++ e ∷ later)) ≡ true
-found_there [] e later = ap (λ b. is_some (cond b (Some e.1) (find path_cmp e.0 later))) ((eq_by_cmp_equiv path_total).refl e.0)
-found_there (x ∷ front) e later = by (eq_by_cmp path_cmp e.0 x.0) (found_there front e later)
-  where
-    by : (b : Bool) → is_some (find path_cmp e.0 (front ++ e ∷ later)) ≡ true → is_some (cond b (Some x.1) (find path_cmp e.0 (front ++ e ∷ later))) ≡ true
-    by true h = refl
-    by false h = h
-
 module _ (es : List PathEntry) (i : ℕ) (d : PathEntry) (below : i < length es) where
   divided : pairs_of (take i es) ++ ((get_or es i d).path, (get_or es i d).node) ∷ pairs_of (drop (i + 1) es) ≡ pairs_of es
   divided =
@@ -83,7 +70,7 @@ module _ (es : List PathEntry) (i : ℕ) (d : PathEntry) (below : i < length es)
   whole_entry tree =
       let e : List ℕ × PathNode = ((get_or es i d).path, (get_or es i d).node) in
       tree.whole e.0 (ap is_some (get-from_entries path_total (pairs_of es) e.0) ∙ ap (λ all. is_some (find path_cmp e.0 all)) (sym divided)
-      ∙ found_there (pairs_of (take i es)) e (pairs_of (drop (i + 1) es)))
+      ∙ found_there path_cmp path_total (pairs_of (take i es)) e (pairs_of (drop (i + 1) es)))
 
   pub absent_entry : (t : PosixTree) → are_rising es ≡ true → t ≡ start_from (pairs_of (take i es)) → map.get t.paths (get_or es i d).path ≡ None
   absent_entry t rising is =

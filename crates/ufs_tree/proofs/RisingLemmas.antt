@@ -1,13 +1,14 @@
--- Lists of entries whose keys strictly rise: they are the entries of their map.
-use Rattle.std.proofs.Common.{◌≡◌, ◌≤◌, List, [], ◌∷◌, ◌++◌, Bool, true, false, ◌&&◌, None, ap, sym, refl, subst, ◌∙◌, length, arith}
+-- Lists of entries whose keys strictly rise, and which keys are found in them.
+use Rattle.std.proofs.Common.{◌≡◌, List, [], ◌∷◌, ◌++◌, Bool, true, false, Some, None, ap, refl, ◌∙◌, filter, cond}
 use Rattle.std.proofs.lemmas.Bool.{and_parts, and_from}
 use Rattle.std.specs.declared.cmp.Ordering.{Ordering}
 use Rattle.std.specs.declared.cmp.Ordering.TheVariants.{Less, Equal, Greater}
-use Rattle.std.specs.Ordering.{is_lt, ordering_reverse}
-use Rattle.std.specs.Cmp.{IsTotalOrder}
+use Rattle.std.specs.Prelude.{is_some}
+use Rattle.std.specs.Ordering.{is_lt, eq_by_cmp, ordering_reverse}
+use Rattle.std.specs.Cmp.{IsTotalOrder, eq_by_cmp_equiv}
 use Rattle.std.proofs.Math.Dec.{T}
-use Rattle.std.specs.FinMap.{FinMap, IsAntisymmetric, find, is_sorted, entries, entries_sorted, from_entries, get-entries, get-from_entries}
-use Rattle.std.specs.FinMap.Entries.{below_all, same_entries}
+use Rattle.std.specs.FinMap.{FinMap, find, is_sorted, entries, entries_sorted}
+use Rattle.std.specs.FinMap.Entries.{below_all}
 
 less : (r : Ordering) → is_lt r ≡ true → r ≡ Less
 less Less e = refl
@@ -18,36 +19,8 @@ from_T : (b : Bool) → T b → b ≡ true
 from_T true h = refl
 from_T false h = absurd h
 
-none_first : (b : Bool) → (b && false) ≡ false
-none_first true = refl
-none_first false = refl
-
 module _ {K X : Type 0} (R : K → K → Ordering) where
-  pub rises : (es : List (K × X)) → length es ≤ 1 → is_sorted R es ≡ true
-  rises [] h = refl
-  rises (e ∷ []) h = refl
-  rises (e ∷ f ∷ es) h = absurd (omega arith)
-
   module _ (o : IsTotalOrder R) where
-    below_more : (x y : K) (es : List (K × X)) → R x y ≡ Less → below_all R y es ≡ true → below_all R x es ≡ true
-    below_more x y [] p h = refl
-    below_more x y (e ∷ es) p h =
-        let both = and_parts _ _ h in
-        and_from _ _ (ap is_lt (o.trans x y e.0 p (less _ both.0))) (below_more x y es p both.1)
-
-    -- the first two suffice for the first
-    pub rises_on : (e f : K × X) (es : List (K × X)) → is_sorted R (e ∷ f ∷ es) ≡ (is_lt (R e.0 f.0) && is_sorted R (f ∷ es))
-    rises_on e f es =
-        elim (R e.0 f.0) as (λ r. R e.0 f.0 ≡ r → ((is_lt r && below_all R e.0 es) && (below_all R f.0 es && is_sorted R es)) ≡ (is_lt r && (below_all R f.0 es && is_sorted R es))) [
-          | Less ↦ λ p. inner p (below_all R f.0 es) refl
-          | Equal ↦ λ p. refl
-          | Greater ↦ λ p. refl
-        ] refl
-      where
-        inner : R e.0 f.0 ≡ Less → (b : Bool) → below_all R f.0 es ≡ b → (below_all R e.0 es && (b && is_sorted R es)) ≡ (b && is_sorted R es)
-        inner p true is = ap (λ t. t && is_sorted R es) (below_more e.0 f.0 es p is)
-        inner p false is = none_first (below_all R e.0 es)
-
     -- the key of a later entry is not found earlier
     pub find-earlier : (es : List (K × X)) (e : K × X) (later : List (K × X)) → is_sorted R (es ++ e ∷ later) ≡ true → find R e.0 es ≡ None
     find-earlier [] e later h = refl
@@ -60,8 +33,33 @@ module _ {K X : Type 0} (R : K → K → Ordering) where
         least k [] h = less _ (and_parts _ _ h).0
         least k (y ∷ front) h = least k front (and_parts _ _ h).1
 
-    pub entries-rising : IsAntisymmetric R → (es : List (K × X)) → is_sorted R es ≡ true → entries (from_entries {R = R} es) ≡ es
-    entries-rising same es h = same_entries R o same _ es (entries_sorted (from_entries {R = R} es)) (subst T (sym h) tt) (λ q. sym (get-entries (from_entries {R = R} es) q) ∙ get-from_entries o es q)
+    -- an entry of a list is found in it
+    pub found_there : (front : List (K × X)) (e : K × X) (later : List (K × X)) → is_some (find R e.0 (front ++ e ∷ later)) ≡ true
+    found_there [] e later = ap (λ b. is_some (cond b (Some e.1) (find R e.0 later))) ((eq_by_cmp_equiv o).refl e.0)
+    found_there (x ∷ front) e later = by (eq_by_cmp R e.0 x.0) (found_there front e later)
+      where
+        by : (b : Bool) → is_some (find R e.0 (front ++ e ∷ later)) ≡ true → is_some (cond b (Some x.1) (find R e.0 (front ++ e ∷ later))) ≡ true
+        by true h = refl
+        by false h = h
 
 pub entries-rise : {K X : Type 0} {R : K → K → Ordering} (m : FinMap R X) → is_sorted R (entries m) ≡ true
 entries-rise m = from_T _ (entries_sorted m)
+
+-- ---- some of the entries
+
+module _ {K X : Type 0} (R : K → K → Ordering) (p : K × X → Bool) where
+  below-filter : (k : K) (es : List (K × X)) → below_all R k es ≡ true → below_all R k (filter p es) ≡ true
+  below-filter k [] h = refl
+  below-filter k (e ∷ es) h = by (p e) (and_parts _ _ h) (below-filter k es (and_parts _ _ h).1)
+    where
+      by : (b : Bool) → (is_lt (R k e.0) ≡ true) × (below_all R k es ≡ true) → below_all R k (filter p es) ≡ true → below_all R k (cond b (e ∷ filter p es) (filter p es)) ≡ true
+      by true both rest = and_from _ _ both.0 rest
+      by false both rest = rest
+
+  pub rising-filter : (es : List (K × X)) → is_sorted R es ≡ true → is_sorted R (filter p es) ≡ true
+  rising-filter [] h = refl
+  rising-filter (e ∷ es) h = by (p e) (below-filter e.0 es (and_parts _ _ h).0) (rising-filter es (and_parts _ _ h).1)
+    where
+      by : (b : Bool) → below_all R e.0 (filter p es) ≡ true → is_sorted R (filter p es) ≡ true → is_sorted R (cond b (e ∷ filter p es) (filter p es)) ≡ true
+      by true below rest = and_from _ _ below rest
+      by false below rest = rest

@@ -138,7 +138,8 @@ impl Parts {
             unreachable!()
         };
         let key = u64::from(fd);
-        self.fds.open(client, key, mode.desc(file_named(node, self.next)))?;
+        self.fds
+            .open(client, key, mode.desc(file_named(node, self.next)))?;
         if self.make_or_empty(whole, node, mode.trunc).is_err() {
             self.fds.close(client, key);
             return Err(Memory);

@@ -96,7 +96,13 @@ impl FileMap {
 
     /// Writes into a file from a place on. A gap reads as zeros. Only what is written is copied: the bytes are moved
     /// out and back, and room grows by doubling.
-    pub fn write(&mut self, alloc: Global, file: u32, at: u64, fresh: &[u8]) -> Result<(), AllocError>
+    pub fn write(
+        &mut self,
+        alloc: Global,
+        file: u32,
+        at: u64,
+        fresh: &[u8],
+    ) -> Result<(), AllocError>
         requires place { at ≤ 2 ^ 32 }
         requires size { length fresh.now ≤ 2 ^ 32 }
         ensures ok { OnOk result (self.new ≡ map.insert self.old file (put_at (bytes_of self.old file) at fresh.now)) }

@@ -8,11 +8,14 @@ mod dir_counts;
 mod fd_map;
 mod file_counts;
 mod file_map;
+mod legal;
 mod node_map;
 mod path;
 mod path_map;
 mod refusal;
 mod start;
+#[cfg(test)]
+mod tests;
 mod tree;
 
 pub use tree::Tree;

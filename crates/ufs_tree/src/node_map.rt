@@ -1,11 +1,11 @@
 // What stands at each path.
-ghost use Rattle.std.specs.Prelude.{◌≡◌, OnOk, OnErr, None};
+ghost use Rattle.std.specs.Prelude.{◌≡◌, ◌++◌, ◌∷◌, [], OnOk, OnErr, IfOk, None};
 ghost use Rattle.std.specs.FinMap as map;
 
 use std::alloc::{AllocError, Global};
 use std::collections::BTreeMap;
 use std::marker::Model;
-use ufs_model::Node;
+use ufs_model::{Bytes, Node};
 
 /// What stands at each path.
 #[derive(Drop)]
@@ -30,7 +30,8 @@ impl Model for NodeMap {
 }
 
 impl NodeMap {
-    ghost use Rattle.std.specs.Prelude.{◌≡◌, OnOk, OnErr, IfErr, None};
+    ghost use Rattle.std.specs.Prelude.{◌≡◌, ◌++◌, ◌∷◌, [], OnOk, OnErr, IfOk, IfErr, None, filter};
+    ghost use Rattle.ufs_model.specs.Directories.{starts_with};
     ghost use Rattle.std.specs.FinMap as map;
 
     pub fn new(alloc: Global) -> Self
@@ -67,4 +68,26 @@ impl NodeMap {
         let _count = self.entries.len();
         let _node = self.entries.remove(path);
     }
+
+    /// What stands below the slash after these bytes, by rising path.
+    pub fn below(&self, alloc: Global, front: &[u8]) -> Result<Vec<(Bytes, Node)>, AllocError>
+        ensures { IfOk result (λ found. found.items ≡ filter (λ e. starts_with (front.now ++ 47 ∷ []) e.0) (map.entries self.now)) }
+    {
+        let start = with_byte(alloc, front, b'/')?;
+        let end = with_byte(alloc, front, b'/' + 1)?;
+        let mut found = Vec::new(alloc);
+        for (path, node) in self.entries.range(start..end) {
+            let copy = path.as_slice().to_vec(alloc)?;
+            found.push((Bytes::from_vec(copy), *node))?;
+        }
+        Ok(found)
+    }
+}
+
+fn with_byte(alloc: Global, front: &[u8], byte: u8) -> Result<Vec<u8>, AllocError>
+    ensures { IfOk result (λ text. text.items ≡ front.now ++ byte ∷ []) }
+{
+    let mut text = front.to_vec(alloc)?;
+    text.push(byte)?;
+    Ok(text)
 }

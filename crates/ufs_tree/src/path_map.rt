@@ -1,10 +1,12 @@
 // What stands at each whole path, with what has to be known of it without a search.
-ghost use Rattle.std.specs.Prelude.{◌≡◌, ◌+◌, ◌-◌, ℕ, List, OnOk, OnErr, if◌then◌else◌};
+ghost use Rattle.std.specs.Prelude.{◌≡◌, ◌≤◌, ◌+◌, ◌-◌, ◌++◌, ◌∷◌, [], ℕ, List, All, IfOk, OnOk, OnErr, length, drop, if◌then◌else◌};
 ghost use Rattle.std.specs.FinMap as map;
-ghost use Rattle.ufs_model.specs.Directories.{is_entry_of};
-ghost use Rattle.ufs_model.specs.Paths.{IsWhole};
+ghost use Rattle.ufs_model.specs.Directories.{is_entry_of, last_name};
+ghost use Rattle.ufs_model.specs.Paths.{IsWhole, components};
 ghost use Rattle.ufs_model.specs.PosixTree.{is_number, is_node_of};
+ghost use Rattle.ufs_tree.specs.Below.{names_among};
 ghost use Rattle.ufs_tree.specs.Counted.{count_at};
+ghost use Rattle.ufs_tree.specs.Moved.{moved};
 
 use crate::dir_counts::DirCounts;
 use crate::file_counts::FileCounts;
@@ -12,7 +14,7 @@ use crate::node_map::NodeMap;
 use crate::path;
 use std::alloc::{AllocError, Global};
 use std::marker::Model;
-use ufs_model::{NameList, Node};
+use ufs_model::{Bytes, NameList, Node};
 
 /// What stands at each whole path.
 #[derive(Drop)]
@@ -43,7 +45,10 @@ impl Model for PathMap {
 }
 
 impl PathMap {
-    ghost use Rattle.std.specs.Prelude.{◌≡◌, ◌≢◌, OnOk, OnErr, IfOk, None, true, false};
+    ghost use Rattle.std.specs.Prelude.{◌≡◌, ◌≢◌, ℕ, List, All, OnOk, OnErr, IfOk, None, Some, true, false};
+    ghost use Rattle.std.specs.FinMap.{is_sorted};
+    ghost use Rattle.ufs_model.specs.Order.{path_cmp};
+    ghost use Rattle.ufs_tree.specs.Moved.{put_over, taken_away};
     ghost use Rattle.std.specs.List.{list_any};
     ghost use Rattle.std.specs.FinMap as map;
     ghost use Rattle.ufs_model.specs.Paths.{IsWhole};
@@ -121,7 +126,9 @@ impl PathMap {
         requires namespace { IsNamespace (stands self.now) (has_dir self.now) }
         ensures { IfOk result (λ names. names ≡ entry_names self.now dir.now) }
     {
-        unreachable!()
+        let below = self.nodes.below(alloc, path::front(dir))?;
+        let names = names_of(alloc, below.as_slice(), dir)?;
+        Ok(NameList::from_vec(names))
     }
 
     /// Gives what stands at `from`, with all below it, the name `to`, at which there may stand something else.
@@ -137,7 +144,84 @@ impl PathMap {
         ensures ok { OnOk result (self.new ≡ renamed self.old from.now to.now) }
         ensures err { OnErr result (self.new ≡ self.old) }
     {
-        unreachable!()
+        let Some(node) = self.get(from) else {
+            unreachable!();
+        };
+        let olds = self.nodes.below(alloc, from)?;
+        let news = moved(alloc, olds.as_slice(), from, to)?;
+        let top = to.to_vec(alloc)?;
+        self.add_all(alloc, news.as_slice())?;
+        if let Err(e) = self.put(alloc, top, node) {
+            self.remove_all(news.as_slice());
+            return Err(e);
+        }
+        self.remove_all(olds.as_slice());
+        self.remove(from);
+        Ok(())
+    }
+
+    // Puts a node in the place of another.
+    fn replace(&mut self, path: Vec<u8>, old: Node, node: Node) -> Result<(), AllocError>
+        requires { map.get self.old path.items ≡ Some old }
+        ensures ok { OnOk result (self.new ≡ map.insert self.old path.items node) }
+        ensures err { OnErr result (self.new ≡ self.old) }
+    {
+        self.links.raise(number_of(node))?;
+        match self.nodes.insert(path, node) {
+            Ok(()) => {}
+            Err(_) => unreachable!(),
+        }
+        self.links.lower(number_of(old));
+        Ok(())
+    }
+
+    // Puts a node at a path at which there may stand another.
+    fn put(&mut self, alloc: Global, path: Vec<u8>, node: Node) -> Result<(), AllocError>
+        requires { IsWhole path.items }
+        ensures ok { OnOk result (self.new ≡ map.insert self.old path.items node) }
+        ensures err { OnErr result (self.new ≡ self.old) }
+    {
+        match self.get(path.as_slice()) {
+            None => self.add(alloc, path, node),
+            Some(old) => self.replace(path, old, node),
+        }
+    }
+
+    fn add_copy(&mut self, alloc: Global, path: &[u8], node: Node) -> Result<(), AllocError>
+        requires absent { map.get self.old path.now ≡ None }
+        requires whole { IsWhole path.now }
+        ensures ok { OnOk result (self.new ≡ map.insert self.old path.now node) }
+        ensures err { OnErr result (self.new ≡ self.old) }
+    {
+        let copy = path.to_vec(alloc)?;
+        self.add(alloc, copy, node)
+    }
+
+    // Puts nodes at paths at which nothing stands, all of them or none.
+    fn add_all(&mut self, alloc: Global, nodes: &[(Bytes, Node)]) -> Result<(), AllocError>
+        requires absent { All (λ e. map.get self.old e.0 ≡ None) nodes.now }
+        requires whole { All (λ e. IsWhole e.0) nodes.now }
+        requires rising { is_sorted path_cmp nodes.now ≡ true }
+        ensures ok { OnOk result ((path : List ℕ) → map.get self.new path ≡ put_over nodes.now (map.get self.old path) path) }
+        ensures err { OnErr result (self.new ≡ self.old) }
+    {
+        for i in 0..nodes.len() {
+            let entry = &nodes[i];
+            if let Err(e) = self.add_copy(alloc, entry.0.as_slice(), entry.1) {
+                self.remove_all(&nodes[..i]);
+                return Err(e);
+            }
+        }
+        Ok(())
+    }
+
+    // Takes no memory.
+    fn remove_all(&mut self, nodes: &[(Bytes, Node)])
+        ensures { (path : List ℕ) → map.get self.new path ≡ taken_away nodes.now (map.get self.old path) path }
+    {
+        for entry in nodes {
+            self.remove(entry.0.as_slice());
+        }
     }
 }
 
@@ -196,4 +280,60 @@ fn place(
             Err(AllocError)
         }
     }
+}
+
+// The last names of those paths that are entries of the directory.
+fn names_of(alloc: Global, nodes: &[(Bytes, Node)], dir: &[u8]) -> Result<Vec<Bytes>, AllocError>
+    requires { All (λ e. IsWhole e.0) nodes.now }
+    ensures { IfOk result (λ names. names.items ≡ names_among nodes.now dir.now) }
+{
+    let mut names = Vec::new(alloc);
+    for entry in nodes {
+        add_name(alloc, &mut names, entry.0.as_slice(), dir)?;
+    }
+    Ok(names)
+}
+
+// Adds the last name of a path that is an entry of the directory.
+fn add_name(
+    alloc: Global,
+    names: &mut Vec<Bytes>,
+    path: &[u8],
+    dir: &[u8],
+) -> Result<(), AllocError>
+    requires { IsWhole path.now }
+    ensures { OnOk result (names.new.items ≡ names.old.items ++ (if is_entry_of dir.now path.now then last_name (components path.now) ∷ [] else [])) }
+{
+    if path::is_entry(dir, path) {
+        let copy = path::name(path).to_vec(alloc)?;
+        names.push(Bytes::from_vec(copy))?;
+    }
+    Ok(())
+}
+
+// The nodes, their paths with other bytes in the place of the first.
+fn moved(
+    alloc: Global,
+    nodes: &[(Bytes, Node)],
+    from: &[u8],
+    to: &[u8],
+) -> Result<Vec<(Bytes, Node)>, AllocError>
+    requires { All (λ e. length from.now ≤ length e.0) nodes.now }
+    ensures { IfOk result (λ news. news.items ≡ moved from.now to.now nodes.now) }
+{
+    let mut news = Vec::new(alloc);
+    for entry in nodes {
+        let path = moved_path(alloc, entry.0.as_slice(), from.len(), to)?;
+        news.push((Bytes::from_vec(path), entry.1))?;
+    }
+    Ok(news)
+}
+
+fn moved_path(alloc: Global, path: &[u8], count: usize, to: &[u8]) -> Result<Vec<u8>, AllocError>
+    requires { count ≤ length path.now }
+    ensures { IfOk result (λ new. new.items ≡ to.now ++ drop count path.now) }
+{
+    let mut new = to.to_vec(alloc)?;
+    new.extend_from_slice(&path[count..])?;
+    Ok(new)
 }

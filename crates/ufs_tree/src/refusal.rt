@@ -322,7 +322,10 @@ fn end_refusal(nodes: &PathMap, text: &PathText, op: &Op) -> Option<Errno>
 {
     match op {
         Op::OpenFile {
-            write, creat, excl, ..
+            write,
+            creat,
+            excl,
+            ..
         } => open_refusal(nodes.get(text.whole()), *write, *creat, *excl),
         Op::Mkdir { .. } => make_refusal(nodes.get(text.whole())),
         Op::Rmdir { .. } => rmdir_refusal(nodes, text),
@@ -460,11 +463,8 @@ impl Parts {
             Op::Pwrite { bytes, at, .. } => Ok(size_refusal(is_past(*at, bytes))),
             Op::Trunc { size, .. } => Ok(size_refusal(*size > MAX_SIZE)),
             Op::Seek { fd, whence, by } => Ok(self.seek_refusal(client, *fd, *whence, *by)),
-            Op::Close { .. }
-            | Op::Fsync { .. }
-            | Op::Read { .. }
-            | Op::Pread { .. }
-            | Op::Sync => Ok(None),
+            Op::Close { .. } | Op::Fsync { .. } | Op::Read { .. } | Op::Pread { .. } | Op::Sync =>
+                Ok(None),
             Op::Rename { from, to } => {
                 let from = text(self.alloc, from)?;
                 let to = text(self.alloc, to)?;
