@@ -38,3 +38,13 @@ module _ {K X : Type 0} {R : K → K → Ordering} (o : IsTotalOrder R) where
         both q Less is = refl
         both q Equal is = sym none ∙ get_tied o m q k is
         both q Greater is = refl
+
+    -- to remove a key that was just inserted gives back the map without it
+    pub remove_inserted : (m : FinMap R X) (k : K) (v : X) → get m k ≡ None → remove (insert m k v) k ≡ m
+    remove_inserted m k v none = same_map o same _ _ (λ q.
+        get-remove o (insert m k v) k q ∙ ap (cond (eq_by_cmp R q k) None) (get-insert o m k v q) ∙ both q (R q k) refl)
+      where
+        both : (q : K) (r : Ordering) → R q k ≡ r → cond (is_eq r) None (cond (eq_by_cmp R q k) (Some v) (get m q)) ≡ get m q
+        both q Less is = ap (λ b. cond b (Some v) (get m q)) (ap is_eq is)
+        both q Equal is = sym none ∙ get_tied o m q k is
+        both q Greater is = ap (λ b. cond b (Some v) (get m q)) (ap is_eq is)
