@@ -302,6 +302,33 @@ fn the_first_word_that_is_wrong_counts(rt: HostRuntime) -> Result<(), Fail> {
     Ok(())
 }
 
+// As many requests as a script can have, about 15,700,000 bytes long.
+fn largest_script(alloc: Global) -> Result<Vec<u8>, Fail> {
+    let mut text = Vec::new(alloc);
+    for client in 0..16u32 {
+        text.extend_from_slice(format!(in alloc; "client {client}\n")?.as_bytes())?;
+        for _request in 0..65_536u32 {
+            text.extend_from_slice(b"stat /a/bc/def\n".as_slice())?;
+        }
+    }
+    text.extend_from_slice(b"end\n".as_slice())?;
+    Ok(text)
+}
+
+#[test]
+fn a_script_of_many_lines_is_read(rt: HostRuntime) -> Result<(), Fail> {
+    let mut source = PlainSource::new(largest_script(rt.alloc())?);
+    let Ok(script) = read_script(rt.alloc(), &mut source) else {
+        panic!(rt; "no script");
+    };
+    let clients = script.clients.as_slice();
+    assert_eq!(rt; clients.len(), 16);
+    for client in clients {
+        assert_eq!(rt; client.as_slice().len(), 65_536);
+    }
+    Ok(())
+}
+
 // So many clients without requests, and a line.
 fn many_clients(alloc: Global, clients: u32, line: &str) -> Result<String, Fail> {
     let mut text = String::new(alloc);

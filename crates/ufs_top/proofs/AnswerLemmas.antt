@@ -9,12 +9,13 @@ use Rattle.ufs_script.specs.Output.{output_of}
 use Rattle.ufs_script.specs.Reading.{ReadsScript, ReadsBreak}
 use Rattle.ufs_script.specs.Script.{IsOutside}
 use Rattle.ufs_script.specs.declared.fault.ScriptFault.{ScriptFault}
+use Rattle.ufs_script.specs.declared.fault.ScriptFault.TheVariants as fault
 use Rattle.ufs_script.specs.declared.script.Script.{Script}
 use Rattle.ufs_top.specs.declared.ending.Ending.{Ending}
 use Rattle.ufs_top.specs.declared.ending.Ending.TheVariants.{Done, Usage, BadGeometry, NotBuilt, BadScript, TooSmall, DeviceFault, OutOfMemory, SourceFault}
 use Rattle.ufs_top.specs.Texts.{memory_line}
 use Rattle.ufs_top.specs.Served.{IsHistoryOf}
-use Rattle.ufs_top.specs.Endings.{IsAnswer, IsLine, IsBreakLine, EndsPrinting, EndsServing, EndsPlay}
+use Rattle.ufs_top.specs.Endings.{IsAnswer, IsLine, IsBreakLine, TellsFault, EndsPrinting, EndsServing, EndsPlay}
 use Rattle.ufs_top.proofs.WriteLemmas.{appends_both, front_behind}
 
 -- what is allowed there is allowed here
@@ -78,3 +79,27 @@ no_memory old new before now ending text e = subst (λ (x : Ending). EndsPlay ol
 pub break_told : (old new : Option (List ℕ)) (before now : ℕ) (f : ScriptFault) → ReadsBreak old new f → (¬ IsOutside f) → (ending : Ending) (text : List ℕ) → IsBreakLine f ending text → EndsPlay old new before now ending text
 break_told old new before now f read inside ending text (inl e) = subst (λ (x : Ending). EndsPlay old new before now x text) (sym e.0) (f, read, inside, e.1)
 break_told old new before now f read inside ending text (inr e) = no_memory old new before now ending text e
+
+-- a fault that is neither the source's nor want of memory is a break
+pub inside : (f : ScriptFault) → (f ≡ fault.Memory → ⊥) → (f ≡ fault.Source → ⊥) → ¬ IsOutside f
+inside (fault.NoClient line) m s = λ out. out
+inside (fault.BadWord line) m s = λ out. out
+inside (fault.BadNumber line) m s = λ out. out
+inside (fault.BadData line) m s = λ out. out
+inside (fault.TooMany line) m s = λ out. out
+inside (fault.TooLong line) m s = λ out. out
+inside (fault.NoEnd line) m s = λ out. out
+inside (fault.AfterEnd line) m s = λ out. out
+inside (fault.NotBuilt line) m s = λ out. out
+inside fault.Source m s = absurd (s refl)
+inside fault.Memory m s = absurd (m refl)
+
+-- why there is no script is told
+pub fault_told : (old new : Option (List ℕ)) (before now : ℕ) (f : ScriptFault) → (f ≡ fault.Source → Rose before now) → ((¬ IsOutside f) → ReadsBreak old new f) → (ending : Ending) (text : List ℕ) → TellsFault f ending text → EndsPlay old new before now ending text
+fault_told old new before now f rose read ending text (inl e) = no_memory old new before now ending text e.1
+fault_told old new before now f rose read ending text (inr (inl e)) = subst (λ (x : Ending). EndsPlay old new before now x text) (sym e.1.0) (rose e.0, e.1.1)
+fault_told old new before now f rose read ending text (inr (inr e)) = break_told old new before now f (read e.0) e.0 ending text e.1
+
+-- there was no memory to serve
+pub none_served : (script : Script) (ending : Ending) (text : List ℕ) → IsLine OutOfMemory memory_line ending text → EndsServing script ending text
+none_served script ending text e = subst (λ (x : Ending). EndsServing script x text) (sym e.0) ([], inl refl, e.1)

@@ -6,7 +6,7 @@ use Rattle.ufs_layout.specs.Areas.{geometry_refusal, sector_count}
 use Rattle.ufs_layout.specs.declared.geometry.Geometry.{Geometry}
 use Rattle.ufs_recover.specs.Faults.{RoseTo}
 use Rattle.ufs_top.specs.declared.ending.Ending.{Ending}
-use Rattle.ufs_top.specs.declared.ending.Ending.TheVariants.{Done, Usage, BadGeometry, NotBuilt, TooSmall, DeviceFault, OutOfMemory, SourceFault}
+use Rattle.ufs_top.specs.declared.ending.Ending.TheVariants.{Done, Usage, BadGeometry, NotBuilt, BadScript, TooSmall, DeviceFault, OutOfMemory, SourceFault}
 use Rattle.ufs_top.specs.declared.words.Command.{Command}
 use Rattle.ufs_top.specs.declared.words.Command.TheVariants as command
 use Rattle.ufs_top.specs.Commands.{mkfs_command, IsMkfs}
@@ -37,6 +37,7 @@ module _ (g : Geometry) (sectors before now : ℕ) (taken : geometry_refusal g �
   ends_well Usage text e = absurd e
   ends_well (BadGeometry bad) text e = let both = sym taken ∙ e.0 in cc
   ends_well NotBuilt text e = absurd e
+  ends_well BadScript text e = absurd e
   ends_well TooSmall text e = let less = e.1 in absurd (omega (arith, less, large))
   ends_well DeviceFault text e = absurd (calm e.2.rose)
   ends_well OutOfMemory text e = inr refl

@@ -10,6 +10,7 @@ use Rattle.ufs_script.specs.Output.{output_of}
 use Rattle.ufs_script.specs.Reading.{ReadsBreak}
 use Rattle.ufs_script.specs.declared.script.Script.{Script}
 use Rattle.ufs_script.specs.declared.fault.ScriptFault.{ScriptFault}
+use Rattle.ufs_script.specs.declared.fault.ScriptFault.TheVariants as fault
 use Rattle.ufs_script.specs.Script.{IsOutside}
 use Rattle.ufs_top.specs.declared.ending.Ending.{Ending}
 use Rattle.ufs_top.specs.declared.ending.Ending.TheVariants.{Done, Usage, BadGeometry, NotBuilt, BadScript, TooSmall, DeviceFault, OutOfMemory, SourceFault}
@@ -62,6 +63,12 @@ IsDeviceLine fault ending text = IsLine DeviceFault (device_line fault) ending t
 -- why a script is none, or there is no memory for its line
 abbrev pub IsBreakLine : ScriptFault → Ending → List ℕ → Type 0
 IsBreakLine f ending text = IsLine BadScript (break_line f) ending text ⊎ IsLine OutOfMemory memory_line ending text
+
+-- why there is no script: want of memory, a fault of the source, or a break
+abbrev pub TellsFault : ScriptFault → Ending → List ℕ → Type 0
+TellsFault f ending text =
+    ((f ≡ fault.Memory) × IsLine OutOfMemory memory_line ending text)
+    ⊎ (((f ≡ fault.Source) × IsLine SourceFault source_line ending text) ⊎ ((¬ IsOutside f) × IsBreakLine f ending text))
 
 -- a history of so many clients is written whole, or memory runs out on the way
 abbrev pub EndsPrinting : ℕ → List Entry → Ending → List ℕ → Type 0

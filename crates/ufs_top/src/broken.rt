@@ -1,8 +1,9 @@
 // Telling why a script is none.
-ghost use Rattle.std.specs.Prelude.{◌≡◌, IfOk};
+ghost use Rattle.std.specs.Prelude.{◌≡◌, ◌⊎◌, IfOk};
+ghost use Rattle.ufs_script.specs.declared.fault.ScriptFault.TheVariants.{Source};
 ghost use Rattle.ufs_script.specs.Script.{IsOutside};
 ghost use Rattle.ufs_top.specs.Texts.{cause_line, break_line};
-ghost use Rattle.ufs_top.specs.Endings.{IsAnswer, IsBreakLine};
+ghost use Rattle.ufs_top.specs.Endings.{IsAnswer, IsBreakLine, TellsFault};
 
 use crate::ending::Ending;
 use crate::finish::{finish, tell};
@@ -36,13 +37,25 @@ fn break_line(alloc: Global, fault: ScriptFault) -> Result<Vec<u8>, AllocError>
     }
 }
 
-/// Ends with the line of a break.
-pub fn tell_break<K: Sink>(alloc: Global, sink: &mut K, fault: ScriptFault) -> u8
+// Ends with the line of a break.
+fn tell_break<K: Sink>(alloc: Global, sink: &mut K, fault: ScriptFault) -> u8
     requires { ¬ IsOutside fault }
     ensures answer { IsAnswer (IsBreakLine fault) (K.held sink.old) (K.held sink.new) (K.faults sink.old) (K.faults sink.new) result }
 {
     match break_line(alloc, fault) {
         Ok(line) => tell(sink, Ending::BadScript, line.as_slice()),
         Err(_) => finish(sink, Ending::OutOfMemory),
+    }
+}
+
+/// Ends with why there is no script.
+pub fn tell_fault<K: Sink>(alloc: Global, sink: &mut K, fault: ScriptFault) -> u8
+    ensures answer { IsAnswer (TellsFault fault) (K.held sink.old) (K.held sink.new) (K.faults sink.old) (K.faults sink.new) result }
+    ensures told { fault ≡ Source → (result ≡ 6) ⊎ (result ≡ 7) }
+{
+    match fault {
+        ScriptFault::Memory => finish(sink, Ending::OutOfMemory),
+        ScriptFault::Source => finish(sink, Ending::SourceFault),
+        fault => tell_break(alloc, sink, fault),
     }
 }

@@ -7,6 +7,8 @@ mod finish;
 mod mkfs;
 mod print;
 mod quiet;
+#[cfg(test)]
+mod rows;
 mod serve;
 #[cfg(test)]
 mod tests;

@@ -1,5 +1,5 @@
 // The top call.
-ghost use Rattle.std.specs.Prelude.{◌≡◌, ◌≢◌, ◌≤◌, ◌<◌, ◌⊎◌, ℕ, List, IsTrue, Ok, Some, None, length, map, string_bytes};
+ghost use Rattle.std.specs.Prelude.{◌≡◌, ◌≢◌, ◌≤◌, ◌<◌, ◌⊎◌, ℕ, List, IsTrue, Ok, Err, Some, None, length, map, string_bytes};
 ghost use Rattle.std.specs.Io.KnownBytes.{Appends};
 ghost use Rattle.ufs_disk.specs.Faults as disk_faults;
 ghost use Rattle.ufs_disk.specs.Moments.{LeavesOnly};
@@ -10,14 +10,15 @@ ghost use Rattle.ufs_model.specs.declared.data.Entry.{Entry};
 ghost use Rattle.ufs_recover.specs.Stopped.{IsNewDisk, IsStopped};
 ghost use Rattle.ufs_script.specs.Script.{script_of};
 ghost use Rattle.ufs_script.specs.declared.script.Script.{Script};
+ghost use Rattle.ufs_script.specs.declared.fault.ScriptFault.{ScriptFault};
 ghost use Rattle.ufs_top.specs.declared.ending.Ending.{Ending};
 ghost use Rattle.ufs_top.specs.declared.words.Command.TheVariants as command;
 ghost use Rattle.ufs_top.specs.Commands.{command_of, mkfs_command, IsMkfs};
-ghost use Rattle.ufs_top.specs.Texts.{IsFront, made_line};
+ghost use Rattle.ufs_top.specs.Texts.{IsFront, made_line, break_line};
 ghost use Rattle.ufs_top.specs.Served.{IsServed, replies_text};
 ghost use Rattle.ufs_top.specs.Endings.{Ends, EndsPlay, EndsServing, EndsPrinting, IsAnswer, status_of};
 
-use crate::broken::tell_break;
+use crate::broken::tell_fault;
 use crate::ending::Ending;
 use crate::finish::{SINK_FAULT, finish};
 use crate::mkfs::mkfs;
@@ -28,7 +29,7 @@ use std::alloc::Global;
 use ufs_disk::Disk;
 use ufs_io::{Sink, Source};
 use ufs_model::EntryList;
-use ufs_script::{Script, ScriptFault, read_script};
+use ufs_script::{Script, a_longer_text_breaks_alike, read_script};
 
 /// What a command gives back.
 #[derive(Drop)]
@@ -69,9 +70,7 @@ fn play<S: Source, K: Sink>(alloc: Global, source: &mut S, sink: &mut K) -> u8
 {
     match read_script(alloc, source) {
         Ok(script) => serve_script(alloc, sink, script),
-        Err(ScriptFault::Memory) => finish(sink, Ending::OutOfMemory),
-        Err(ScriptFault::Source) => finish(sink, Ending::SourceFault),
-        Err(fault) => tell_break(alloc, sink, fault),
+        Err(fault) => tell_fault(alloc, sink, fault),
     }
 }
 
@@ -165,12 +164,17 @@ pub fn quiet<S: Source, K: Sink, D: Disk>(
     ensures complete { (text : List ℕ) (script : Script) → command_of (map string_bytes words.now.items) ≡ Some command.Play → S.left source.old ≡ Some text
         → script_of text ≡ Ok script → ¬ (Rose (S.faults source.old) (S.faults source.new)) → ¬ (Rose (K.faults sink.old) (K.faults sink.new))
         → (result.status ≡ 0) ⊎ (result.status ≡ 5) }
+    // A text that is no script is told with the line and the cause of its first break.
+    ensures broken { (text : List ℕ) (fault : ScriptFault) → command_of (map string_bytes words.now.items) ≡ Some command.Play → S.left source.old ≡ Some text
+        → script_of text ≡ Err fault → ¬ (Rose (S.faults source.old) (S.faults source.new)) → ¬ (Rose (K.faults sink.old) (K.faults sink.new))
+        → ((result.status ≡ 2) × Appends (K.held sink.old) (K.held sink.new) (break_line fault)) ⊎ (result.status ≡ 5) }
     // A geometry that is taken is formatted on a disk that is large enough, unless memory runs out or a count of
     // faults rises.
     ensures complete_mkfs { (g : Geometry) → command_of (map string_bytes words.now.items) ≡ mkfs_command g → geometry_refusal g ≡ None
         → sector_count g ≤ D.size disk → ¬ (disk_faults.Rose (D.faults disk) (D.faults result.disk)) → ¬ (Rose (K.faults sink.old) (K.faults sink.new))
         → (result.status ≡ 0) ⊎ (result.status ≡ 5) }
 {
+    a_longer_text_breaks_alike();
     let mut disk = disk;
     let status = answer(alloc, words, source, sink, &mut disk);
     Outcome { status, disk }

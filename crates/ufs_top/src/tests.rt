@@ -15,8 +15,6 @@ const FIRST: &str =
 const FIRST_REPLIES: &str =
     "0.0 ok\n0.1 fd 3\n0.2 err EISDIR\n0.3 n 2\n0.4 fd 4\n0.5 data 6162\n0.6 err EBADF\n0.7 ok\n0.8 err EBADF\n0.9 err EEXIST\n";
 
-const SEEK: &str = "client 0\nseek 3 set 0\nend\n";
-
 const USAGE: &str = "usage: ufs COMMAND [WORDS]\n";
 
 const NOT_BUILT: &str = "ufs: line 0: NotBuilt\n";
@@ -58,7 +56,7 @@ fn check_all<R: Abort + AllocGlobal, D: Disk + Drop>(
     Ok(outcome.disk)
 }
 
-fn check<R: Abort + AllocGlobal>(
+pub(crate) fn check<R: Abort + AllocGlobal>(
     rt: &R,
     line: &[&str],
     script: &str,
@@ -81,8 +79,7 @@ fn scripts_are_served_or_refused(rt: HostRuntime) -> Result<(), Fail> {
         FIRST,
         calm,
         (0, FIRST_REPLIES),
-    )?;
-    check(&rt, &["play"], SEEK, calm, (2, NOT_BUILT))
+    )
 }
 
 #[test]

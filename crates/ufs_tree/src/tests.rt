@@ -1,5 +1,5 @@
 // What no clause says: that the calls succeed where there is memory.
-ghost use Rattle.std.specs.Prelude.{◌≡◌, ◌≤◌, ◌<◌, ◌^◌, IfOk, length};
+ghost use Rattle.std.specs.Prelude.{◌≡◌, ◌≤◌, ◌<◌, ◌+◌, ◌^◌, IfOk, length};
 ghost use Rattle.ufs_model.specs.Bounds.{IsBounded, max_transfer};
 
 use crate::Tree;
@@ -43,36 +43,45 @@ fn writing(alloc: Global, fd: u64, bytes: &[u8], reply: Reply) -> Result<Entry, 
     Ok(entry(Op::Write { fd, bytes }, reply))
 }
 
+fn at_root(alloc: Global) -> Result<Tree, Memory>
+    ensures { IfOk result (λ tree. tree.next ≡ 0) }
+{
+    Tree::start(alloc, &PathTree::root_alone(alloc)?)
+}
+
+// With the clauses that the tests rest on alone.
+fn told(tree: &mut Tree, entry: &Entry) -> Result<bool, Memory>
+    requires bounded { IsBounded entry.now.op }
+    requires numbers { tree.old.next < 2 ^ 31 }
+    ensures { tree.new.next ≤ tree.old.next + 1 }
+{
+    tree.legal_step(entry)
+}
+
 #[test]
-fn an_entry_is_told_rightly_or_wrongly(rt: HostRuntime) -> Result<(), Fail> {
+fn a_write_is_told_rightly_or_wrongly(rt: HostRuntime) -> Result<(), Fail> {
     let alloc = rt.alloc();
-    let mut tree = Tree::start(alloc, &PathTree::root_alone(alloc)?)?;
-    let node = Reply::Excused(Excuse::Inodes);
-    assert!(rt; tree.legal_step(&opening(alloc, node)?)?);
-    assert!(rt; !tree.legal_step(&opening(alloc, Reply::Fd(4))?)?);
-    assert!(rt; tree.legal_step(&opening(alloc, Reply::Fd(3))?)?);
-    assert!(rt; !tree.legal_step(&writing(alloc, 3, b"ab", Reply::Count(3))?)?);
-    assert!(rt; tree.legal_step(&writing(alloc, 3, b"ab", Reply::Count(2))?)?);
-    let got = Bytes::from_vec(b"ab".to_vec(alloc)?);
-    let read = Op::Pread { fd: 3, n: 9, at: 0 };
-    assert!(rt; tree.legal_step(&entry(read, Reply::Got(got)))?);
+    let mut tree = at_root(alloc)?;
+    let opened = told(&mut tree, &opening(alloc, Reply::Fd(3))?)?;
+    assert!(rt; opened);
+    let wrongly = told(&mut tree, &writing(alloc, 3, b"ab", Reply::Count(3))?)?;
+    assert!(rt; !wrongly);
+    let rightly = told(&mut tree, &writing(alloc, 3, b"ab", Reply::Count(2))?)?;
+    assert!(rt; rightly);
     Ok(())
 }
 
 #[test]
 fn an_excuse_of_blocks_tells_what_is_needed(rt: HostRuntime) -> Result<(), Fail> {
     let alloc = rt.alloc();
-    let mut tree = Tree::start(alloc, &PathTree::root_alone(alloc)?)?;
-    assert!(rt; tree.legal_step(&opening(alloc, Reply::Fd(3))?)?);
-    for (fd, need, had, fits) in [
-        (3, 1, 0, true),
-        (3, 2, 0, false),
-        (3, 1, 1, false),
-        (4, 1, 0, false),
-    ] {
-        let excuse = Reply::Excused(Excuse::Blocks { need, had });
-        let told = tree.legal_step(&writing(alloc, fd, b"ab", excuse)?)?;
-        assert_eq!(rt; told, fits, "descriptor {fd}, {need} of {had}");
-    }
+    let mut tree = at_root(alloc)?;
+    let opened = told(&mut tree, &opening(alloc, Reply::Fd(3))?)?;
+    assert!(rt; opened);
+    let rightly = Reply::Excused(Excuse::Blocks { need: 1, had: 0 });
+    let fits = told(&mut tree, &writing(alloc, 3, b"ab", rightly)?)?;
+    assert!(rt; fits);
+    let wrongly = Reply::Excused(Excuse::Blocks { need: 2, had: 0 });
+    let fits = told(&mut tree, &writing(alloc, 3, b"ab", wrongly)?)?;
+    assert!(rt; !fits);
     Ok(())
 }

@@ -4,6 +4,7 @@ use Rattle.ufs_layout.specs.Areas.{geometry_refusal, sector_count}
 use Rattle.ufs_layout.specs.declared.geometry.Geometry.{Geometry}
 use Rattle.ufs_recover.specs.Stopped.{IsNewDisk, IsStopped}
 use Rattle.ufs_top.specs.declared.words.Command.{Command}
+use Rattle.ufs_top.specs.declared.words.Command.TheVariants as command
 use Rattle.ufs_top.specs.Commands.{command_of, mkfs_command}
 use Rattle.ufs_top.specs.Endings.{Ends, IsAnswer}
 use Rattle.ufs_top.proofs.MkfsLemmas.{same_geometry, is_mkfs}
@@ -56,3 +57,16 @@ returns-in-Some-Mkfs-clause-small g c h same less =
     let words = command_of (map string_bytes c.args.words.now.items) in
     let is : words ≡ mkfs_command asked = cc in
     c.mkfs.ensures.small (subst (λ (x : Geometry). g.D.Disk.size c.args.disk.now < sector_count x) (sym (same_geometry words asked h is same)) less)
+
+pub returns-in-Some-Play-clause-answer : goal.returns-in-Some-Play-clause-answer
+returns-in-Some-Play-clause-answer g c =
+    let words = command_of (map string_bytes c.args.words.now.items) in
+    let is : words ≡ Some command.Play = cc in
+    let held = g.K.Sink.held in
+    let faults = g.K.Sink.faults in
+    let left = g.S.Source.left in
+    let risen = g.S.Source.faults in
+    let old = c.args.source.now in
+    let new = c.play.new.source in
+    subst (λ (w : Option Command). IsAnswer (Ends w (left old) (left new) (risen old) (risen new) (g.D.Disk.size c.args.disk.now) (g.D.Disk.faults c.args.disk.now) (g.D.Disk.faults c.args.disk.now))
+    (held c.args.sink.now) (held c.play.new.sink) (faults c.args.sink.now) (faults c.play.new.sink) c.play.result) (sym is) c.play.ensures.answer
