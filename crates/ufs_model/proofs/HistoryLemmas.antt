@@ -20,7 +20,7 @@ legal_from_push ticket t [] entry legal next = (subst (λ (n : ℕ). IsLegalEntr
 legal_from_push ticket t (e ∷ history) entry legal next =
     (legal.0, legal_from_push (ticket + 1) (goes_on t e) history entry legal.1 (subst (λ (n : ℕ). IsLegalEntry n (tree_after (goes_on t e) history) entry) (omega arith) next))
 
-all-push : {X : Type 0} (P : X → Type 0) (xs : List X) (x : X) → AllByRecursion P xs → P x → AllByRecursion P (xs ++ x ∷ [])
+pub all-push : {X : Type 0} (P : X → Type 0) (xs : List X) (x : X) → AllByRecursion P xs → P x → AllByRecursion P (xs ++ x ∷ [])
 all-push P [] x all is = (is, tt)
 all-push P (y ∷ xs) x all is = (all.0, all-push P xs x all.1 is)
 

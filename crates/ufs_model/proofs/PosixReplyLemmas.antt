@@ -1,12 +1,11 @@
 -- The reply that POSIX gives is no excuse, so a history goes on by it.
 use Rattle.std.proofs.Common.{◌≡◌, ℕ, List, [], ◌∷◌, Option, Some, None, false, ap, sym, refl, subst, ◌∙◌, inl}
-use Rattle.std.specs.List.{AllByRecursion}
 use Rattle.ufs_model.specs.Walk.{node_at}
 use Rattle.ufs_model.specs.Paths.{whole_of}
 use Rattle.ufs_model.specs.PosixTree.{PosixTree}
 use Rattle.ufs_model.specs.Refusals.{refusal}
 use Rattle.ufs_model.specs.Posix.{posix, served, answer, stat_reply}
-use Rattle.ufs_model.specs.History.{IsLegalEntry, IsPosixEntry, TellsNewFault, share_fault, tree_with, goes_on}
+use Rattle.ufs_model.specs.History.{IsLegalEntry, IsPosixEntry, TellsNewFault, share_fault, is_excused, tree_with, goes_on}
 use Rattle.ufs_model.specs.declared.data.Op.{Op}
 use Rattle.ufs_model.specs.declared.data.Op.TheVariants as op
 use Rattle.ufs_model.specs.declared.data.Node.{Node}
@@ -64,6 +63,18 @@ plain_goes_on t client request (reply.IsDir entries) plain = refl
 plain_goes_on t client request (reply.Names names) plain = refl
 plain_goes_on t client request (reply.Refused e) plain = refl
 
+plain_unexcused : (r : Reply) → IsPlain r → is_excused r ≡ false
+plain_unexcused (reply.Excused x) plain = absurd (plain x refl)
+plain_unexcused reply.Done plain = refl
+plain_unexcused (reply.Fd n) plain = refl
+plain_unexcused (reply.Count n) plain = refl
+plain_unexcused (reply.At n) plain = refl
+plain_unexcused (reply.Got bytes) plain = refl
+plain_unexcused (reply.IsFile size) plain = refl
+plain_unexcused (reply.IsDir entries) plain = refl
+plain_unexcused (reply.Names names) plain = refl
+plain_unexcused (reply.Refused e) plain = refl
+
 shares_none : (x : Excuse) (r : Reply) → IsPlain r → share_fault (reply.Excused x) r ≡ false
 shares_none excuse.Memory r plain = refl
 shares_none (excuse.Stopped fault) r plain = refl
@@ -109,6 +120,9 @@ module _ (ticket : ℕ) (before after : PosixTree) (entry : Entry) (is : IsPosix
 
   pub new_fault : (others : List Entry) → TellsNewFault others entry
   new_fault others = tells_none others entry plain
+
+  pub unexcused : is_excused entry.reply ≡ false
+  unexcused = plain_unexcused entry.reply plain
 
   pub stepped_on : goes_on before entry ≡ after
   stepped_on = plain_goes_on before entry.client entry.op entry.reply plain ∙ ap (λ (p : PosixTree × Reply). p.0) is.stepped

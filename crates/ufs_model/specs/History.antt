@@ -1,5 +1,5 @@
 -- Histories: what was served, entry by entry.
-use Rattle.std.specs.Prelude.{ℕ, ◌+◌, ◌<◌, ◌≡◌, ◌==◌, nat_eq, ◌⊎◌, Bool, false, List, [], ◌∷◌, length, take, map, filter, unwrap_or, slice_get, Some}
+use Rattle.std.specs.Prelude.{ℕ, ◌+◌, ◌<◌, ◌≡◌, ◌==◌, nat_eq, ◌⊎◌, Bool, true, false, List, [], ◌∷◌, length, take, map, filter, unwrap_or, slice_get, Some}
 use Rattle.std.specs.List.{range_with_len, AllByRecursion, flat_map, IsDistinct}
 use Rattle.ufs_model.specs.PosixTree.{PosixTree}
 use Rattle.ufs_model.specs.Posix.{posix}
@@ -48,6 +48,14 @@ tree_after tree (entry ∷ history) = tree_after (goes_on tree entry) history
 abbrev pub IsLegalFrom : ℕ → PosixTree → List Entry → Type 0
 IsLegalFrom ticket tree [] = Unit {0}
 IsLegalFrom ticket tree (entry ∷ history) = IsLegalEntry ticket tree entry × IsLegalFrom (ticket + 1) (goes_on tree entry) history
+
+abbrev pub is_excused : Reply → Bool
+is_excused (reply.Excused x) = true
+is_excused _ = false
+
+-- each reply is POSIX's own
+abbrev pub AreUnexcused : List Entry → Type 0
+AreUnexcused history = AllByRecursion (λ entry. is_excused entry.reply ≡ false) history
 
 -- both replies tell the same fault of a device
 abbrev pub share_fault : Reply → Reply → Bool

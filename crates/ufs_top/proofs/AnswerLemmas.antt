@@ -3,7 +3,7 @@ use Rattle.std.proofs.Common.{◌≡◌, inl, inr, ℕ, List, [], ◌∷◌, ◌
 use Rattle.std.specs.Io.KnownBytes.{Appends}
 use Rattle.ufs_io.specs.Causes.{Rose}
 use Rattle.ufs_model.specs.PosixTree.{root_alone}
-use Rattle.ufs_model.specs.History.{IsLegal, IsInOrder, IsComplete}
+use Rattle.ufs_model.specs.History.{IsLegal, IsInOrder, IsComplete, AreUnexcused}
 use Rattle.ufs_model.specs.declared.data.Entry.{Entry}
 use Rattle.ufs_script.specs.Output.{output_of}
 use Rattle.ufs_script.specs.Reading.{ReadsScript, ReadsBreak}
@@ -43,8 +43,8 @@ answer_after wanted line front E old mid new before between now status wrote sam
       (w.0, front ++ w.1, front ++ w.2, subst (λ (e : Ending). E e (front ++ w.1)) (sym w.3.0) (f w.1 (refl, w.3.1)), front_behind front w.2 w.1 w.4, appends_both old mid new front w.2 wrote w.5);
 }
 
-pub history_of : (script : Script) (history : List Entry) → IsLegal root_alone history → IsInOrder script.clients history → IsComplete script.clients history → IsHistoryOf script history
-history_of script history legal ordered complete = record { legal = legal; ordered = ordered; complete = complete }
+pub history_of : (script : Script) (history : List Entry) → IsLegal root_alone history → IsInOrder script.clients history → IsComplete script.clients history → AreUnexcused history → IsHistoryOf script history
+history_of script history legal ordered complete unexcused = record { legal = legal; ordered = ordered; complete = complete; unexcused = unexcused }
 
 -- a history that is printed is the script's
 pub served_by : (script : Script) (clients : ℕ) (history : List Entry) → clients ≡ length script.clients → IsHistoryOf script history → (ending : Ending) (text : List ℕ) → EndsPrinting clients history ending text → EndsServing script ending text

@@ -6,7 +6,7 @@ use Rattle.std.proofs.lemmas.List.{length-append, append-nil, append_assoc}
 use Rattle.std.proofs.lemmas.Bool.{cases_eq}
 use Rattle.ufs_model.specs.PosixTree.{PosixTree, root_alone}
 use Rattle.ufs_model.specs.Posix.{posix}
-use Rattle.ufs_model.specs.History.{IsLegal, IsPosixEntry, IsInOrder, IsNext, IsComplete, tree_after, entries_of, requests_of}
+use Rattle.ufs_model.specs.History.{IsLegal, IsPosixEntry, IsInOrder, IsNext, IsComplete, AreUnexcused, tree_after, entries_of, requests_of}
 use Rattle.ufs_model.specs.declared.data.Op.{Op}
 use Rattle.ufs_model.specs.declared.data.Entry.{Entry}
 use Rattle.ufs_model.specs.declared.data.Reply.{Reply}
@@ -45,10 +45,11 @@ pub record IsServing (client : ℕ) (requests : List Op) (before : List Entry) (
   pub own : length (entries_of client history) ≡ seq
   pub others : (c : ℕ) → (client ≡ c → ⊥) → entries_of c history ≡ entries_of c before
   pub next : tree.next ≤ length history
+  pub unexcused : AreUnexcused history
 
-pub begins : (client : ℕ) (requests : List Op) (tree : PosixTree) (history : List Entry) → tree.next ≤ length history → IsLegal root_alone history → tree ≡ tree_after root_alone history → entries_of client history ≡ []
+pub begins : (client : ℕ) (requests : List Op) (tree : PosixTree) (history : List Entry) → tree.next ≤ length history → IsLegal root_alone history → tree ≡ tree_after root_alone history → entries_of client history ≡ [] → AreUnexcused history
     → IsServing client requests history tree history 0 [] requests
-begins client requests tree history few legal state fresh = record {
+begins client requests tree history few legal state fresh unexcused = record {
   whole = refl;
   counted = refl;
   long = omega arith;
@@ -58,6 +59,7 @@ begins client requests tree history few legal state fresh = record {
   own = ap length fresh;
   others = λ c apart. refl;
   next = few;
+  unexcused = unexcused;
 }
 
 module _ (client : ℕ) (requests : List Op) (before : List Entry) (tree new_tree : PosixTree) (history new_history : List Entry) (seq : ℕ) (done rest : List Op) (entry : Entry)
@@ -65,6 +67,7 @@ module _ (client : ℕ) (requests : List Op) (before : List Entry) (tree new_tre
     (client_is : entry.client ≡ client) (ticket : entry.ticket ≡ length history) (number : entry.seq ≡ seq) (stepped : posix tree client entry.op ≡ (new_tree, entry.reply)) (rises : new_tree.next ≤ tree.next + 1)
     (pushed : new_history ≡ history ++ entry ∷ [])
     (served : (start after : PosixTree) → IsLegal start history → IsPosixEntry (length history) (tree_after start history) after entry → IsLegal start new_history × (tree_after start new_history ≡ after))
+    (plain : (start after : PosixTree) → AreUnexcused history → IsPosixEntry (length history) start after entry → AreUnexcused new_history)
     (order : (clients : List (List Op)) → IsInOrder clients history → IsNext clients history entry → IsInOrder clients new_history)
     (own : entries_of entry.client new_history ≡ entries_of entry.client history ++ entry ∷ [])
     (others : (c : ℕ) → (entry.client ≡ c → ⊥) → entries_of c new_history ≡ entries_of c history) where
@@ -97,6 +100,7 @@ module _ (client : ℕ) (requests : List Op) (before : List Entry) (tree new_tre
         ∙ ap (λ (n : ℕ). n + 1) (ap (λ (c : ℕ). length (entries_of c history)) client_is ∙ so_far.own);
     others = λ c apart. others c (λ e. apart (sym client_is ∙ e)) ∙ so_far.others c apart;
     next = omega (arith, rises, so_far.next, longer);
+    unexcused = plain (tree_after root_alone history) new_tree so_far.unexcused posix_entry;
   }
 
 -- ---- all clients
@@ -108,6 +112,7 @@ pub record AreServing (clients : List (List Op)) (tree : PosixTree) (history : L
   pub few : length history ≤ count * 65536
   pub next : tree.next ≤ length history
   pub legal : IsLegal root_alone history
+  pub unexcused : AreUnexcused history
   pub tree_is : tree ≡ tree_after root_alone history
   pub ordered : IsInOrder clients history
   pub complete : (c : ℕ) → c < count → length (entries_of c history) ≡ length (requests_of clients c)
@@ -122,6 +127,7 @@ none_served clients tree history start empty order =
       few = omega arith;
       next = omega arith;
       legal = subst (λ (h : List Entry). IsLegal root_alone h) (sym empty) (record { entries = tt; faults = tt });
+      unexcused = subst AreUnexcused (sym empty) tt;
       tree_is = start ∙ ap (tree_after root_alone) (sym empty);
       ordered = order clients;
       complete = λ c below. absurd (omega arith);
@@ -134,7 +140,7 @@ asked_next clients done rest requests count whole counted = ap (λ o. unwrap_or 
 
 module _ (clients : List (List Op)) (tree new_tree : PosixTree) (history new_history : List Entry) (count : ℕ) (done rest : List (List Op)) (requests : List Op)
     (so_far : AreServing clients tree history count done (requests ∷ rest))
-    (few : length new_history ≤ length history + 65536) (next : new_tree.next ≤ length new_history) (legal : IsLegal root_alone new_history) (state : new_tree ≡ tree_after root_alone new_history)
+    (few : length new_history ≤ length history + 65536) (next : new_tree.next ≤ length new_history) (legal : IsLegal root_alone new_history) (unexcused : AreUnexcused new_history) (state : new_tree ≡ tree_after root_alone new_history)
     (ordered : (clients : List (List Op)) → IsInOrder clients history → requests_of clients count ≡ requests → IsInOrder clients new_history)
     (own : length (entries_of count new_history) ≡ length requests) (others : (c : ℕ) → (count ≡ c → ⊥) → entries_of c new_history ≡ entries_of c history) where
   asked : requests_of clients count ≡ requests
@@ -151,6 +157,7 @@ module _ (clients : List (List Op)) (tree new_tree : PosixTree) (history new_his
     few = omega (arith, few, so_far.few);
     next = next;
     legal = legal;
+    unexcused = unexcused;
     tree_is = state;
     ordered = ordered clients so_far.ordered asked;
     complete = λ c below. complete c (cases_eq count c) below;

@@ -20,11 +20,9 @@ fn script_of(alloc: Global, requests: &str) -> Result<String, AllocError> {
 // Its reply lines, from the replies between slashes.
 fn lines_of(alloc: Global, replies: &str) -> Result<String, AllocError> {
     let mut lines = String::new(alloc);
-    let mut number = 0u32;
-    for reply in replies.split('/') {
+    for (number, reply) in replies.split('/').enumerate() {
         let line = format!(in alloc; "0.{number} {reply}\n")?;
         lines.push_str(line.as_str())?;
-        number += 1;
     }
     Ok(lines)
 }
@@ -163,7 +161,10 @@ fn broken_scripts_are_told_with_their_line(rt: HostRuntime) -> Result<(), Fail> 
         ("sync\n", "ufs: line 1: NoClient\n"),
         ("client 1\n", "ufs: line 1: BadNumber\n"),
         ("client 0\nwrite 3 6\n", "ufs: line 2: BadData\n"),
-        ("client 0\n\nopen /f r creat creat\n", "ufs: line 3: BadWord\n"),
+        (
+            "client 0\n\nopen /f r creat creat\n",
+            "ufs: line 3: BadWord\n",
+        ),
         ("client 0\nsync\n", "ufs: line 2: NoEnd\n"),
         ("client 0\nend\nsync\n", "ufs: line 3: AfterEnd\n"),
         ("", "ufs: line 0: NoEnd\n"),

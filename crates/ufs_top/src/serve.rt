@@ -1,7 +1,7 @@
 // Serving the requests of a script over a tree in memory.
 ghost use Rattle.std.specs.Prelude.{◌≡◌, ◌≢◌, ◌≤◌, ◌+◌, ◌*◌, [], ℕ, List, IfOk, OnOk, length};
 ghost use Rattle.ufs_model.specs.PosixTree.{root_alone};
-ghost use Rattle.ufs_model.specs.History.{IsLegal, IsInOrder, IsComplete, tree_after, entries_of, requests_of};
+ghost use Rattle.ufs_model.specs.History.{IsLegal, IsInOrder, IsComplete, AreUnexcused, tree_after, entries_of, requests_of};
 ghost use Rattle.ufs_model.specs.declared.data.Op.{Op};
 
 use std::alloc::Global;
@@ -38,10 +38,12 @@ fn serve_client(
     requires legal { IsLegal root_alone history.old }
     requires state { tree.old ≡ tree_after root_alone history.old }
     requires fresh { entries_of client history.old ≡ [] }
+    requires unexcused { AreUnexcused history.old }
     ensures few { OnOk result (length history.new ≤ length history.old + 65536) }
     ensures next { OnOk result (tree.new.next ≤ length history.new) }
     ensures legal { OnOk result (IsLegal root_alone history.new) }
     ensures state { OnOk result (tree.new ≡ tree_after root_alone history.new) }
+    ensures unexcused { OnOk result (AreUnexcused history.new) }
     ensures ordered { OnOk result ((clients : List (List Op)) → IsInOrder clients history.old → requests_of clients client ≡ requests → IsInOrder clients history.new) }
     ensures own { OnOk result (length (entries_of client history.new) ≡ length requests) }
     ensures others { OnOk result ((c : ℕ) → client ≢ c → entries_of c history.new ≡ entries_of c history.old) }
@@ -62,6 +64,7 @@ pub fn serve(alloc: Global, clients: OpLists) -> Result<EntryList, Memory>
     ensures legal { IfOk result (λ history. IsLegal root_alone history) }
     ensures ordered { IfOk result (λ history. IsInOrder clients history) }
     ensures complete { IfOk result (λ history. IsComplete clients history) }
+    ensures unexcused { IfOk result (λ history. AreUnexcused history) }
 {
     let mut tree = Tree::start(alloc, &PathTree::root_alone(alloc)?)?;
     let mut history = EntryList::new(alloc);

@@ -11,7 +11,7 @@ returns-in-Ok g c =
     let faults = g.K.Sink.faults in
     let script = c.args.script in
     answer_map (EndsPrinting (length c.as_slice.result.now) c.in-Ok.history) (EndsServing script) (held c.args.sink.now) (held c.print_history.new.sink) (faults c.args.sink.now) (faults c.print_history.new.sink) c.print_history.result
-    (served_by script (length c.as_slice.result.now) c.in-Ok.history (ap length c.as_slice.ensures.value) (history_of script c.in-Ok.history c.in-Ok.ensures.legal c.in-Ok.ensures.ordered c.in-Ok.ensures.complete))
+    (served_by script (length c.as_slice.result.now) c.in-Ok.history (ap length c.as_slice.ensures.value) (history_of script c.in-Ok.history c.in-Ok.ensures.legal c.in-Ok.ensures.ordered c.in-Ok.ensures.complete c.in-Ok.ensures.unexcused))
     c.print_history.ensures
 
 pub returns : goal.returns

@@ -9,7 +9,7 @@ loop-requests-preserved c =
     let e = c.in_ok-serve_client.ensures in
     let so_far = subst (λ (r : List (List Op)). AreServing c.args.clients c.loop-requests.tree c.loop-requests.history c.loop-requests.client c.loop-requests.yielded r) c.in-Some.ensures.steps.0 c.loop-requests.invariant in
     one_client_more c.args.clients c.loop-requests.tree c.serve_client.new.tree c.loop-requests.history c.serve_client.new.history c.loop-requests.client c.loop-requests.yielded rest c.in-Some.requests
-    so_far e.few e.next e.legal e.state e.ordered e.own e.others
+    so_far e.few e.next e.legal e.unexcused e.state e.ordered e.own e.others
 
 pub returns-clause-complete : goal.returns-clause-complete
 returns-clause-complete c =

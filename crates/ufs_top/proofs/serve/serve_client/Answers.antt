@@ -17,4 +17,4 @@ loop-op-preserved c =
     let ticket = e.ticket ∙ ap (λ (l : List Entry). length l) c.as_slice.ensures in
     subst (λ (o : Op). IsServing c.args.client c.args.requests c.args.history.now c.step.new.self c.push.new.self (c.loop-op.seq + 1) (c.loop-op.yielded ++ o ∷ []) rest) e.op
     (one_more c.args.client c.args.requests c.args.history.now c.loop-op.tree c.step.new.self c.loop-op.history c.push.new.self c.loop-op.seq c.loop-op.yielded rest c.entry.result
-    so_far e.client ticket e.seq stepped c.in_ok-reply.ensures.next p.ok p.served p.order p.own p.others)
+    so_far e.client ticket e.seq stepped c.in_ok-reply.ensures.next p.ok p.served p.unexcused p.order p.own p.others)
