@@ -1,5 +1,5 @@
 -- How the answer of a part is that of the whole.
-use Rattle.std.proofs.Common.{◌≡◌, inl, inr, ℕ, List, [], ◌∷◌, ◌++◌, Option, ap, sym, subst, refl, ◌∙◌, length}
+use Rattle.std.proofs.Common.{◌≡◌, inl, inr, ℕ, List, [], ◌++◌, Option, ap, sym, subst, refl, ◌∙◌, length}
 use Rattle.std.specs.Io.KnownBytes.{Appends}
 use Rattle.ufs_io.specs.Causes.{Rose}
 use Rattle.ufs_model.specs.PosixTree.{root_alone}

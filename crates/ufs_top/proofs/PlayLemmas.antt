@@ -1,7 +1,7 @@
 -- What the endings of `play` tell.
-use Rattle.std.proofs.Common.{◌≡◌, ℕ, ◌<◌, List, [], ◌++◌, length, Option, Some, None, Result, Ok, Err, ◌⊎◌, inl, inr, ap, sym, subst, refl, ◌∙◌}
+use Rattle.std.proofs.Common.{◌≡◌, ℕ, ◌<◌, List, [], ◌++◌, length, Option, Some, None, Ok, Err, ◌⊎◌, inl, inr, ap, sym, subst, refl, ◌∙◌}
 use Rattle.std.proofs.lemmas.List.{append-nil}
-use Rattle.std.specs.Io.KnownBytes.{Appends, Consumes, IsAtEnd}
+use Rattle.std.specs.Io.KnownBytes.{Appends}
 use Rattle.ufs_io.specs.Causes.{Rose}
 use Rattle.ufs_model.specs.declared.data.Entry.{Entry}
 use Rattle.ufs_script.specs.Reading.{HasRead, LongerIsAlike}

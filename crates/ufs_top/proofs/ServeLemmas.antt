@@ -1,5 +1,5 @@
 -- Clients' requests are served client after client, and one by one.
-use Rattle.std.proofs.Common.{◌≡◌, ℕ, ◌+◌, ◌*◌, ◌≤◌, ◌<◌, List, [], ◌∷◌, ◌++◌, Some, None, ap, sym, refl, subst, ◌∙◌, length, arith, zero, suc, ◌⊎◌, inl, inr, eqb, unwrap_or}
+use Rattle.std.proofs.Common.{◌≡◌, ℕ, ◌+◌, ◌*◌, ◌≤◌, ◌<◌, List, [], ◌∷◌, ◌++◌, Some, None, ap, sym, refl, subst, ◌∙◌, length, arith, zero, suc, ◌⊎◌, inl, inr, unwrap_or}
 use Rattle.std.specs.Prelude.{slice_get}
 use Rattle.std.specs.List.{AllByRecursion}
 use Rattle.std.proofs.lemmas.List.{length-append, append-nil, append_assoc}
@@ -9,7 +9,6 @@ use Rattle.ufs_model.specs.Posix.{posix}
 use Rattle.ufs_model.specs.History.{IsLegal, IsPosixEntry, IsInOrder, IsNext, IsComplete, AreUnexcused, tree_after, entries_of, requests_of}
 use Rattle.ufs_model.specs.declared.data.Op.{Op}
 use Rattle.ufs_model.specs.declared.data.Entry.{Entry}
-use Rattle.ufs_model.specs.declared.data.Reply.{Reply}
 
 pub all_here : {X : Type 0} (P : X → Type 0) (front : List X) (x : X) (rest : List X) → AllByRecursion P (front ++ x ∷ rest) → P x
 all_here P [] x rest all = all.0

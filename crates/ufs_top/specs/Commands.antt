@@ -1,5 +1,5 @@
 -- The command line: a command, its positional words, then options, each at most once.
-use Rattle.std.specs.Prelude.{ℕ, List, [], ◌∷◌, Bool, true, false, ◌&&◌, ◌||◌, not, nat_le, length, if◌then◌else◌, Option, Some, None, ⊤, is_some, is_none, codes}
+use Rattle.std.specs.Prelude.{ℕ, List, [], ◌∷◌, Bool, true, false, ◌&&◌, ◌||◌, not, nat_le, length, if◌then◌else◌, Option, Some, None, ⊤, is_none, codes}
 use Rattle.std.specs.Str.{bytes_eq}
 use Rattle.ufs_layout.specs.declared.geometry.Geometry.{Geometry}
 use Rattle.ufs_script.specs.Words.{number_of, at_most}

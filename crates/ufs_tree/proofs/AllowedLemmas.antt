@@ -1,9 +1,9 @@
 -- What a request that isn't refused finds.
-use Rattle.std.proofs.Common.{◌≡◌, ℕ, List, Bool, true, false, Option, Some, None, is_some, is_none, ◌||◌, not, refl}
-use Rattle.ufs_model.specs.Paths.{text_refusal, whole_of, is_root, first_of, refused_if, has_component, components}
-use Rattle.ufs_model.specs.PosixTree.{PosixTree, Paths}
+use Rattle.std.proofs.Common.{◌≡◌, ℕ, List, Bool, true, false, Option, Some, None, is_some, is_none, ◌||◌, refl}
+use Rattle.ufs_model.specs.Paths.{text_refusal, is_root, first_of, refused_if}
+use Rattle.ufs_model.specs.PosixTree.{PosixTree}
 use Rattle.ufs_model.specs.Walk.{walk_refusal, node_at}
-use Rattle.ufs_model.specs.Refusals.{refusal, own_refusal, rename_refusal, replace_refusal}
+use Rattle.ufs_model.specs.Refusals.{refusal, rename_refusal}
 use Rattle.ufs_model.specs.declared.data.Errno.{Errno}
 use Rattle.ufs_model.specs.declared.data.Errno.TheVariants.{Eexist, Ebusy, Enoent}
 use Rattle.ufs_model.specs.declared.data.Op.TheVariants as op

@@ -1,5 +1,5 @@
 -- Whether a path lies below a directory, by its bytes.
-use Rattle.std.proofs.Common.{◌≡◌, ℕ, suc, ◌≤◌, ◌<◌, List, [], ◌∷◌, ◌++◌, Bool, true, false, ◌&&◌, eqb, length, take, get_or, ap, sym, refl, ◌∙◌, arith}
+use Rattle.std.proofs.Common.{◌≡◌, ℕ, ◌≤◌, ◌<◌, List, [], ◌∷◌, Bool, true, false, ◌&&◌, eqb, length, take, get_or, ap, sym, refl, ◌∙◌, arith}
 use Rattle.std.specs.Str.{bytes_eq}
 use Rattle.ufs_model.specs.Directories.{is_below}
 

@@ -1,5 +1,5 @@
 -- The tree that maps stand for, and what is undone in it.
-use Rattle.std.proofs.Common.{◌≡◌, ℕ, List, Bool, true, Option, Some, None, Result, Ok, Err, OnErr, ap, refl, ◌∙◌}
+use Rattle.std.proofs.Common.{◌≡◌, ℕ, List, Bool, true, None, Result, Ok, Err, OnErr, ap, ◌∙◌}
 use Rattle.std.specs.Prelude.{is_err}
 use Rattle.std.specs.FinMap as map
 use Rattle.ufs_model.specs.PosixTree.{PosixTree, Paths, Files, Fds}

@@ -1,10 +1,9 @@
 -- The walk along components, a component at a time.
-use Rattle.std.proofs.Common.{◌≡◌, ℕ, zero, suc, ◌+◌, ◌-◌, ◌≤◌, ◌<◌, List, [], ◌∷◌, ◌++◌, Option, Some, None, length, take, drop, ap, sym, refl, ◌∙◌, arith, append-nil, append_assoc, add-one, length-drop}
+use Rattle.std.proofs.Common.{◌≡◌, ℕ, zero, suc, ◌+◌, ◌-◌, ◌≤◌, ◌<◌, List, [], ◌∷◌, ◌++◌, None, length, take, drop, ap, sym, refl, ◌∙◌, arith, append-nil, append_assoc, add-one, length-drop}
 use Rattle.std.specs.FinMap as map
 use Rattle.ufs_model.specs.Paths.{whole_path, first_of}
 use Rattle.ufs_model.specs.PosixTree.{Paths}
 use Rattle.ufs_model.specs.Walk.{walk_refusal_from, dir_refusal}
-use Rattle.ufs_model.specs.declared.data.Errno.{Errno}
 
 module _ (paths : Paths) where
   step : (above names : List (List ℕ)) (n : ℕ) → suc n < length names

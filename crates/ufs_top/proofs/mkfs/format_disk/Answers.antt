@@ -1,4 +1,4 @@
-use Rattle.std.proofs.Common.{subst, sym, ◌≤◌, inl, inr}
+use Rattle.std.proofs.Common.{subst, ◌≤◌, inl, inr}
 use Rattle.std.proofs.lemmas.Bool.{cases_lt}
 use Rattle.ufs_layout.specs.Areas.{sector_count}
 use Rattle.ufs_recover.specs.Faults.{HasFaultCause}

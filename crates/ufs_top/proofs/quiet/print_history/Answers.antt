@@ -1,4 +1,4 @@
-use Rattle.std.proofs.Common.{ap, List, ℕ, ◌++◌, subst, refl, ◌≡◌, sym, ◌∙◌}
+use Rattle.std.proofs.Common.{ap, List, ℕ, ◌++◌, subst, refl}
 use Rattle.std.specs.Io.KnownBytes.{Appends}
 use Rattle.ufs_model.specs.declared.data.Entry.{Entry}
 use Rattle.ufs_script.specs.Output.{output_of}

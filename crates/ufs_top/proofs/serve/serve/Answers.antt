@@ -1,4 +1,4 @@
-use Rattle.std.proofs.Common.{◌≡◌, ◌+◌, ◌∷◌, List, ap, sym, ◌∙◌, subst}
+use Rattle.std.proofs.Common.{List, sym, ◌∙◌, subst}
 use Rattle.ufs_model.specs.declared.data.Op.{Op}
 use Rattle.ufs_top.proofs.ServeLemmas.{AreServing, one_client_more, all_served, no_items}
 use Rattle.ufs_top.proofs.serve.serve.Goals as goal

@@ -1,5 +1,4 @@
-use Rattle.std.proofs.Common.{◌≡◌, List, ℕ, Option, true, false, sym, ◌∙◌, ap, map, take, drop, length, ◌-◌, string_bytes}
-use Rattle.std.specs.Prelude.{codes}
+use Rattle.std.proofs.Common.{Option, sym, ◌∙◌, ap, map, take, drop, length, ◌-◌, string_bytes}
 use Rattle.std.specs.Str.{bytes_eq}
 use Rattle.ufs_top.specs.declared.words.Options.{Options}
 use Rattle.ufs_top.specs.Commands.{options_from, with_value}

@@ -1,4 +1,4 @@
-use Rattle.std.proofs.Common.{◌∙◌, sym, arith, ap}
+use Rattle.std.proofs.Common.{◌∙◌, arith}
 use Rattle.std.proofs.lemmas.Bool.{eq-eqb, ne_eqb}
 use Rattle.ufs_tree.proofs.BelowLemmas.{below_short, below_other, below_slash}
 use Rattle.ufs_tree.proofs.refusal.is_below.Goals as goal

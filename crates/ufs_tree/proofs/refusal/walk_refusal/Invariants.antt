@@ -1,4 +1,4 @@
-use Rattle.std.proofs.Common.{◌≡◌, ◌≤◌, ◌-◌, length, take, drop, []}
+use Rattle.std.proofs.Common.{◌≡◌, take, drop, []}
 use Rattle.ufs_model.specs.Walk.{walk_refusal_from}
 use Rattle.ufs_tree.proofs.refusal.walk_refusal.Given as goal
 

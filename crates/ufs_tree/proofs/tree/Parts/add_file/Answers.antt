@@ -1,4 +1,4 @@
-use Rattle.std.proofs.Common.{◌≡◌, refl, ◌∙◌, OnErr}
+use Rattle.std.proofs.Common.{refl, ◌∙◌}
 use Rattle.ufs_tree.proofs.PartLemmas.{same_tree, path_undone, on_is_err}
 use Rattle.ufs_tree.proofs.tree.Parts.add_file.Goals as goal
 

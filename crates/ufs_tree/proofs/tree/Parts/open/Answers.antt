@@ -1,4 +1,4 @@
-use Rattle.std.proofs.Common.{◌≡◌, ap, refl, ◌∙◌}
+use Rattle.std.proofs.Common.{◌≡◌, ap, ◌∙◌}
 use Rattle.std.specs.FinMap as map
 use Rattle.ufs_model.specs.PosixTree.{PosixTree}
 use Rattle.ufs_tree.proofs.PartLemmas.{same_tree, fd_undone, on_is_err}
