@@ -17,10 +17,10 @@ use Rattle.ufs_model.specs.declared.data.Node.{Node}
 use Rattle.ufs_model.specs.declared.data.Node.TheVariants.{Dir, File}
 use Rattle.ufs_model.specs.declared.data.Op.{Op}
 use Rattle.ufs_model.specs.declared.data.Op.TheVariants as op
-use Rattle.ufs_model.proofs.LookupLemmas.{same_some}
-use Rattle.ufs_model.proofs.BelowLemmas.{entry_there, parent_is_dir}
-use Rattle.ufs_model.proofs.AllowedLemmas.{first_none, passed, names_of_whole, whole_is}
-use Rattle.ufs_model.proofs.LiveLemmas.{HasBytes, bytes_there, held_has, keeps_bytes, keeps_fd, keeps_closed, forget_lost}
+use Rattle.ufs_model.specs.Facts.Lookups.{same_some}
+use Rattle.ufs_model.specs.Facts.Walks.{entry_there, parent_is_dir}
+use Rattle.ufs_model.specs.Facts.Allowed.{first_none, passed, names_of_whole, whole_is}
+use Rattle.ufs_model.specs.Facts.Live.{HasBytes, bytes_there, held_has, keeps_bytes, keeps_fd, keeps_closed, forget_lost}
 use Rattle.ufs_model.proofs.NamespaceLemmas.{keeps_new_dir, keeps_new_file, keeps_without}
 use Rattle.ufs_model.proofs.NewNameLemmas.{keeps_renamed}
 

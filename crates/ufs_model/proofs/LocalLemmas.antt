@@ -21,7 +21,7 @@ use Rattle.ufs_model.specs.declared.data.Op.{Op}
 use Rattle.ufs_model.specs.declared.data.Op.TheVariants as op
 use Rattle.ufs_model.specs.declared.data.PartName.{PartName}
 use Rattle.ufs_model.specs.declared.data.PartName.TheVariants as name
-use Rattle.ufs_model.proofs.AllowedLemmas.{first_none, passed}
+use Rattle.ufs_model.specs.Facts.Allowed.{first_none, passed}
 use Rattle.ufs_model.proofs.AlikeLemmas.{fds_stay, fds_gone, Alike, touched_alike, others_alike}
 use Rattle.ufs_model.proofs.ToldLemmas.{own_same, opened_same, bytes_same, tree_same, offset_same, answer_same}
 use Rattle.ufs_model.proofs.ChangeLemmas.{with_names, nothing, bytes_and_fd, bytes_alone, fd_alone, forgotten, open_alike, rename_alike}

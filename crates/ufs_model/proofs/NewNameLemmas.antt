@@ -15,12 +15,12 @@ use Rattle.ufs_model.specs.declared.data.Errno.{Errno}
 use Rattle.ufs_model.specs.declared.data.Errno.TheVariants.{Einval, Eisdir, Enotdir, Ebusy, Enoent}
 use Rattle.ufs_model.specs.declared.data.Reply.TheVariants.{Done}
 use Rattle.ufs_model.specs.declared.data.Op.TheVariants as op
-use Rattle.ufs_model.proofs.LookupLemmas.{from_some}
-use Rattle.ufs_model.proofs.PathLemmas.{ArePlain, components_plain, plain_append, plain_front, same_bytes, bytes_same, below_names, front_of, last}
-use Rattle.ufs_model.proofs.BelowLemmas.{dir_above, entry_above, dir_stands, dir_of_path}
-use Rattle.ufs_model.proofs.AllowedLemmas.{first_none, passed, names_allowed}
-use Rattle.ufs_model.proofs.LiveLemmas.{keeps_paths, forget_lost}
-use Rattle.ufs_model.proofs.RenameLemmas.{MayRename, namespace_now, named_before, named_after, at_new_name, at_old_name, not_below, no_entries}
+use Rattle.ufs_model.specs.Facts.Lookups.{from_some}
+use Rattle.ufs_model.specs.Facts.Pieces.{ArePlain, components_plain, plain_append, plain_front, same_bytes, bytes_same, below_names, front_of, last}
+use Rattle.ufs_model.specs.Facts.Walks.{dir_above, entry_above, dir_stands, dir_of_path}
+use Rattle.ufs_model.specs.Facts.Allowed.{first_none, passed, names_allowed}
+use Rattle.ufs_model.specs.Facts.Live.{keeps_paths, forget_lost}
+use Rattle.ufs_model.specs.Facts.Renames.{MayRename, namespace_now, named_before, named_after, at_new_name, at_old_name, not_below, no_entries}
 
 -- What a `rename` that isn't refused finds, in the names of its two paths.
 record IsAllowed (paths : Paths) (old new : List (List ℕ)) : Type 0 where

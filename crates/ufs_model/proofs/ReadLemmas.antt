@@ -19,9 +19,9 @@ use Rattle.ufs_model.specs.declared.data.Errno.TheVariants.{Ebadf, Eisdir}
 use Rattle.ufs_model.specs.declared.data.Op.{Op}
 use Rattle.ufs_model.specs.declared.data.Op.TheVariants as op
 use Rattle.ufs_model.specs.declared.data.Reply.TheVariants.{Count, Got}
-use Rattle.ufs_model.proofs.OrderLemmas.{fd_total, fd_same}
-use Rattle.ufs_model.proofs.AllowedLemmas.{first_none}
-use Rattle.ufs_model.proofs.LookupLemmas.{inserted_here}
+use Rattle.ufs_model.specs.Facts.Orders.{fd_total, fd_same}
+use Rattle.ufs_model.specs.Facts.Allowed.{first_none}
+use Rattle.ufs_model.specs.Facts.Lookups.{inserted_here}
 use Rattle.ufs_model.proofs.LocalLemmas.{write_open}
 
 -- ---- bytes

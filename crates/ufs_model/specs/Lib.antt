@@ -15,5 +15,5 @@ pub mod History
 pub mod Touched
 pub mod Start
 pub mod PathEntries
-pub mod Holders
 pub mod Laws
+pub mod Facts

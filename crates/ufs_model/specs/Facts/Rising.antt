@@ -14,11 +14,11 @@ less Less e = refl
 less Equal e = cc
 less Greater e = cc
 
-from_T : (b : Bool) → T b → b ≡ true
+pub from_T : (b : Bool) → T b → b ≡ true
 from_T true h = refl
 from_T false h = absurd h
 
-none_first : (b : Bool) → (b && false) ≡ false
+pub none_first : (b : Bool) → (b && false) ≡ false
 none_first true = refl
 none_first false = refl
 
@@ -66,7 +66,7 @@ module _ {K X : Type 0} (R : K → K → Ordering) where
 pub entries-rise : {K X : Type 0} {R : K → K → Ordering} (m : FinMap R X) → is_sorted R (entries m) ≡ true
 entries-rise m = from_T _ (entries_sorted m)
 
-no_length : {A : Type 0} (es : List A) → length es ≡ 0 → es ≡ []
+pub no_length : {A : Type 0} (es : List A) → length es ≡ 0 → es ≡ []
 no_length [] e = refl
 no_length (x ∷ es) e = absurd (omega arith)
 

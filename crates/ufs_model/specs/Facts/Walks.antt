@@ -9,10 +9,10 @@ use Rattle.ufs_model.specs.Walk.{walk_refusal, walk_refusal_from, dir_refusal}
 use Rattle.ufs_model.specs.Directories.{has_entries, is_entry_of}
 use Rattle.ufs_model.specs.declared.data.Node.{Node}
 use Rattle.ufs_model.specs.declared.data.Node.TheVariants.{Dir, File}
-use Rattle.ufs_model.proofs.OrderLemmas.{path_total, path_same}
-use Rattle.ufs_model.proofs.LookupLemmas.{key_passes, passing_key}
-use Rattle.ufs_model.proofs.PathLemmas.{ArePlain, bytes_same, same_bytes, components_of, front_of, front_cons, front_last, parent_is, plain_front}
-use Rattle.ufs_model.proofs.AllowedLemmas.{first_none, names_of_whole}
+use Rattle.ufs_model.specs.Facts.Orders.{path_total, path_same}
+use Rattle.ufs_model.specs.Facts.Lookups.{key_passes, passing_key}
+use Rattle.ufs_model.specs.Facts.Pieces.{ArePlain, bytes_same, same_bytes, components_of, front_of, front_cons, front_last, parent_is, plain_front}
+use Rattle.ufs_model.specs.Facts.Allowed.{first_none, names_of_whole}
 
 -- a directory that is there
 pub is_dir-some : (o : Option Node) → is_dir o ≡ true → o ≡ Some Dir
@@ -23,7 +23,7 @@ is_dir-some (Some (File f)) e = cc
 pub dir_stands : (paths : Paths) (path : List ℕ) → has_dir paths path ≡ true → stands paths path ≡ true
 dir_stands paths path e = ap is_some (is_dir-some (map.get paths path) e)
 
-no_names : (front : List (List ℕ)) (y : List ℕ) → front ++ y ∷ [] ≡ [] → ⊥
+pub no_names : (front : List (List ℕ)) (y : List ℕ) → front ++ y ∷ [] ≡ [] → ⊥
 no_names front y e = omega (arith, ap length e, length-append front (y ∷ []))
 
 -- an entry that stands is told of its directory
@@ -42,7 +42,7 @@ entry_stands paths dir e =
     (entry.0, entry.1, same_bytes (parent_of entry.0) dir (and_parts _ _ entry.2).0)
 
 module _ (paths : Paths) (s : IsNamespace (stands paths) (has_dir paths)) where
-  dir_over : (front : List (List ℕ)) (y : List ℕ) → ArePlain (front ++ y ∷ []) → stands paths (whole_path (front ++ y ∷ [])) ≡ true → has_dir paths (whole_path front) ≡ true
+  pub dir_over : (front : List (List ℕ)) (y : List ℕ) → ArePlain (front ++ y ∷ []) → stands paths (whole_path (front ++ y ∷ [])) ≡ true → has_dir paths (whole_path front) ≡ true
   dir_over front y plain there =
       subst (λ path. has_dir paths path ≡ true) (parent_is (whole_path (front ++ y ∷ [])) (front ++ y ∷ []) (components_of (front ++ y ∷ []) plain) ∙ ap whole_path (front_last front y)) (s.parents (whole_path (front ++ y ∷ [])) there)
 
@@ -72,7 +72,7 @@ module _ (paths : Paths) (s : IsNamespace (stands paths) (has_dir paths)) where
           one (plain_front (front ++ y ∷ []) (z ∷ ys) plain') (dir_stands paths (whole_path (front ++ y ∷ [])) (dir_above (front ++ y ∷ []) z ys plain' (ap (λ names. stands paths (whole_path names)) e ∙ there)))
 
 -- what the walk takes for a directory is one
-walked : (o : Option Node) → dir_refusal o ≡ None → is_dir o ≡ true
+pub walked : (o : Option Node) → dir_refusal o ≡ None → is_dir o ≡ true
 walked None e = cc
 walked (Some Dir) e = refl
 walked (Some (File f)) e = cc

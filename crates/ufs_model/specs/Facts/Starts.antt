@@ -1,6 +1,6 @@
 -- The tree that a session begins with, a path at a time, and that it is a tree.
-use Rattle.ufs_model.proofs.OrderLemmas.{path_total, path_same}
-use Rattle.ufs_model.proofs.RisingLemmas.{entries-rising, entries-rise, entries-empty}
+use Rattle.ufs_model.specs.Facts.Orders.{path_total, path_same}
+use Rattle.ufs_model.specs.Facts.Rising.{entries-rising, entries-rise, entries-empty}
 use Rattle.std.proofs.Common.{◌≡◌, ℕ, ◌+◌, ◌≤◌, List, [], ◌∷◌, Bool, true, false, cond, ◌&&◌, ◌||◌, eqb, ltb, leb, Some, Option, ap, sym, refl, subst, ◌∙◌, arith, length}
 use Rattle.std.proofs.lemmas.Bool.{ltb-true}
 use Rattle.std.proofs.lemmas.Bool.Decides.{nat_tests}
@@ -29,7 +29,7 @@ Pairs = List (List ℕ × PathNode)
 
 -- ---- the paths are the same, and so is what stands there
 
-below-paths_from : (k : List ℕ) (n : ℕ) (es : Pairs) → below_all path_cmp k (paths_from n es) ≡ below_all path_cmp k es
+pub below-paths_from : (k : List ℕ) (n : ℕ) (es : Pairs) → below_all path_cmp k (paths_from n es) ≡ below_all path_cmp k es
 below-paths_from k n [] = refl
 below-paths_from k n (e ∷ es) = ap (λ b. is_lt (path_cmp k e.0) && b) (below-paths_from k (next_after n e.1) es)
 
@@ -45,7 +45,7 @@ stands-paths_from q n (e ∷ es) =
       | false ↦ stands-paths_from q (next_after n e.1) es
     ]
 
-same_kind : (n : ℕ) (node : PathNode) → is_dir (Some (node_from n node)) ≡ is_path_dir (Some node)
+pub same_kind : (n : ℕ) (node : PathNode) → is_dir (Some (node_from n node)) ≡ is_path_dir (Some node)
 same_kind n path_node.Dir = refl
 same_kind n (path_node.File bytes) = refl
 
@@ -66,11 +66,11 @@ pub within_zero : (m f : ℕ) → is_within 0 m f ≡ ltb f m
 unfolding is_within
 within_zero m f = grind (arith, nat_tests)
 
-within_none : (n f : ℕ) → false ≡ is_within n n f
+pub within_none : (n f : ℕ) → false ≡ is_within n n f
 unfolding is_within
 within_none n f = grind (arith, nat_tests)
 
-within_one : (n m f : ℕ) → n + 1 ≤ m → (eqb n f || is_within (n + 1) m f) ≡ is_within n m f
+pub within_one : (n m f : ℕ) → n + 1 ≤ m → (eqb n f || is_within (n + 1) m f) ≡ is_within n m f
 unfolding is_within
 within_one n m f h = grind (arith, nat_tests)
 
@@ -82,7 +82,7 @@ next_rises n [] = omega arith
 next_rises n ((p, path_node.Dir) ∷ es) = next_rises n es
 next_rises n ((p, path_node.File bytes) ∷ es) = omega (arith, next_rises (n + 1) es)
 
-few_files : (n : ℕ) (es : Pairs) → next_from n es ≤ n + length es
+pub few_files : (n : ℕ) (es : Pairs) → next_from n es ≤ n + length es
 few_files n [] = omega arith
 few_files n ((p, path_node.Dir) ∷ es) = omega (arith, few_files n es)
 few_files n ((p, path_node.File bytes) ∷ es) = omega (arith, few_files (n + 1) es)
@@ -114,31 +114,31 @@ held-bytes_from f n ((p, path_node.File bytes) ∷ es) =
 -- ---- the whole tree
 
 -- the paths in it, in order
-paths_entries : (nodes : PathNodes) → map.entries (start_of nodes).paths ≡ paths_from 0 (map.entries nodes)
+pub paths_entries : (nodes : PathNodes) → map.entries (start_of nodes).paths ≡ paths_from 0 (map.entries nodes)
 paths_entries nodes = entries-rising path_cmp path_total path_same (paths_from 0 (map.entries nodes)) (rising-paths_from 0 (map.entries nodes) ∙ entries-rise nodes)
 
-stands-start : (nodes : PathNodes) (q : List ℕ) → is_some (map.get nodes q) ≡ stands (start_of nodes).paths q
+pub stands-start : (nodes : PathNodes) (q : List ℕ) → is_some (map.get nodes q) ≡ stands (start_of nodes).paths q
 stands-start nodes q =
     ap is_some (get-entries nodes q)
     ∙ sym (stands-paths_from q 0 (map.entries nodes))
     ∙ ap is_some (sym (get-from_entries path_total (paths_from 0 (map.entries nodes)) q))
 
-dirs-start : (nodes : PathNodes) (q : List ℕ) → is_path_dir (map.get nodes q) ≡ has_dir (start_of nodes).paths q
+pub dirs-start : (nodes : PathNodes) (q : List ℕ) → is_path_dir (map.get nodes q) ≡ has_dir (start_of nodes).paths q
 dirs-start nodes q =
     ap is_path_dir (get-entries nodes q)
     ∙ sym (dirs-paths_from q 0 (map.entries nodes))
     ∙ ap is_dir (sym (get-from_entries path_total (paths_from 0 (map.entries nodes)) q))
 
-held-start : (nodes : PathNodes) (f : ℕ) → is_some (map.get (start_of nodes).bytes f) ≡ ltb f (start_of nodes).next
+pub held-start : (nodes : PathNodes) (f : ℕ) → is_some (map.get (start_of nodes).bytes f) ≡ ltb f (start_of nodes).next
 held-start nodes f =
     ap is_some (get-from_entries nat_cmp_total (bytes_from 0 (map.entries nodes)) f)
     ∙ held-bytes_from f 0 (map.entries nodes) ∙ within_zero (start_of nodes).next f
 
-or_false : (b : Bool) → b ≡ (b || false)
+pub or_false : (b : Bool) → b ≡ (b || false)
 or_false true = refl
 or_false false = refl
 
-live-start : (nodes : PathNodes) (f : ℕ) → ltb f (start_of nodes).next ≡ is_live (start_of nodes).paths (start_of nodes).fds f
+pub live-start : (nodes : PathNodes) (f : ℕ) → ltb f (start_of nodes).next ≡ is_live (start_of nodes).paths (start_of nodes).fds f
 live-start nodes f =
     sym (within_zero (start_of nodes).next f)
     ∙ sym (live-paths_from f 0 (map.entries nodes))
@@ -157,7 +157,7 @@ start_is_tree nodes tree = record {
 -- ---- from a list
 
 -- what holds of each path of a list holds of one that is found in it
-found : (P : List ℕ → Type 0) (q : List ℕ) (es : Pairs) → AllByRecursion P (keys_of es) → is_some (find path_cmp q es) ≡ true → P q
+pub found : (P : List ℕ → Type 0) (q : List ℕ) (es : Pairs) → AllByRecursion P (keys_of es) → is_some (find path_cmp q es) ≡ true → P q
 found P q [] all is = cc
 found P q (e ∷ es) all is =
     elim (path_cmp q e.0) as (λ r. path_cmp q e.0 ≡ r → is_some (cond (is_eq r) (Some e.1) (find path_cmp q es)) ≡ true → P q) [
@@ -182,7 +182,7 @@ path_tree_of es dir all = record {
 pub root_is_tree : IsPathTree path_root
 root_is_tree = path_tree_of ((root, path_node.Dir) ∷ []) refl ((record { spelled = refl; allowed = refl }, refl), tt)
 
-root_entries : map.entries path_root ≡ (root, path_node.Dir) ∷ []
+pub root_entries : map.entries path_root ≡ (root, path_node.Dir) ∷ []
 root_entries = entries-insert path_total map.empty root path_node.Dir ∙ ap (map.put path_cmp root path_node.Dir) (entries-empty path_cmp PathNode)
 
 pub start_of-root : start_of path_root ≡ root_alone

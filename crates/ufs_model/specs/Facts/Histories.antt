@@ -14,7 +14,7 @@ pub tree_after-push : (t : PosixTree) (history : List Entry) (entry : Entry) →
 tree_after-push t [] entry = refl
 tree_after-push t (e ∷ history) entry = tree_after-push (goes_on t e) history entry
 
-legal_from_push : (ticket : ℕ) (t : PosixTree) (history : List Entry) (entry : Entry) → IsLegalFrom ticket t history → IsLegalEntry (ticket + length history) (tree_after t history) entry
+pub legal_from_push : (ticket : ℕ) (t : PosixTree) (history : List Entry) (entry : Entry) → IsLegalFrom ticket t history → IsLegalEntry (ticket + length history) (tree_after t history) entry
     → IsLegalFrom ticket t (history ++ entry ∷ [])
 legal_from_push ticket t [] entry legal next = (subst (λ (n : ℕ). IsLegalEntry n t entry) (omega arith) next, tt)
 legal_from_push ticket t (e ∷ history) entry legal next =
@@ -24,7 +24,7 @@ pub all-push : {X : Type 0} (P : X → Type 0) (xs : List X) (x : X) → AllByRe
 all-push P [] x all is = (is, tt)
 all-push P (y ∷ xs) x all is = (all.0, all-push P xs x all.1 is)
 
-faults-push : (history : List Entry) (entry : Entry) → AreFaultsOnce history → TellsNewFault history entry → AreFaultsOnce (history ++ entry ∷ [])
+pub faults-push : (history : List Entry) (entry : Entry) → AreFaultsOnce history → TellsNewFault history entry → AreFaultsOnce (history ++ entry ∷ [])
 faults-push [] entry once new = (tt, tt)
 faults-push (e ∷ history) entry once new = (all-push (λ later. share_fault e.reply later.reply ≡ false) history entry once.0 new.0, faults-push history entry once.1 new.1)
 
@@ -35,7 +35,7 @@ legal-push start history entry legal next new = record {
   faults = faults-push history entry legal.faults new;
 }
 
-entries_of-push : (client : ℕ) (history : List Entry) (entry : Entry) → entries_of client (history ++ entry ∷ []) ≡ entries_of client history ++ cond (eqb entry.client client) (entry ∷ []) []
+pub entries_of-push : (client : ℕ) (history : List Entry) (entry : Entry) → entries_of client (history ++ entry ∷ []) ≡ entries_of client history ++ cond (eqb entry.client client) (entry ∷ []) []
 entries_of-push client history entry = filter-append (λ e. eqb e.client client) history (entry ∷ [])
 
 pub own-push : (history : List Entry) (entry : Entry) → entries_of entry.client (history ++ entry ∷ []) ≡ entries_of entry.client history ++ entry ∷ []
@@ -47,28 +47,28 @@ others-push client history entry apart = entries_of-push client history entry �
 pub order_none : (clients : List (List Op)) → IsInOrder clients []
 order_none clients = record { numbers = λ client. refl; requests = λ client. refl }
 
-range-push : (a n : ℕ) → range_with_len a (suc n) ≡ range_with_len a n ++ (a + n) ∷ []
+pub range-push : (a n : ℕ) → range_with_len a (suc n) ≡ range_with_len a n ++ (a + n) ∷ []
 range-push a zero = ap (λ (k : ℕ). k ∷ []) (omega arith)
 range-push a (suc n) = ap (λ l. a ∷ l) (range-push (a + 1) n ∙ ap (λ (k : ℕ). range_with_len (a + 1) n ++ k ∷ []) (omega arith))
 
-take-push : {X : Type 0} (xs : List X) (n : ℕ) (x : X) → slice_get xs n ≡ Some x → take (suc n) xs ≡ take n xs ++ x ∷ []
+pub take-push : {X : Type 0} (xs : List X) (n : ℕ) (x : X) → slice_get xs n ≡ Some x → take (suc n) xs ≡ take n xs ++ x ∷ []
 take-push [] n x e = cc
 take-push (y ∷ xs) zero x e = let same : y ≡ x = cc in ap (λ z. z ∷ []) same
 take-push (y ∷ xs) (suc n) x e = ap (λ l. y ∷ l) (take-push xs n x e)
 
 -- what a client's entries tell, with one more of its own
 module _ (clients : List (List Op)) (entries : List Entry) (entry : Entry) (more : List Entry) (is : more ≡ entries ++ entry ∷ []) where
-  longer : length more ≡ suc (length entries)
+  pub longer : length more ≡ suc (length entries)
   longer = ap length is ∙ length-append entries (entry ∷ []) ∙ omega arith
 
-  numbers-push : map (λ e. e.seq) entries ≡ range_with_len 0 (length entries) → entry.seq ≡ length entries → map (λ e. e.seq) more ≡ range_with_len 0 (length more)
+  pub numbers-push : map (λ e. e.seq) entries ≡ range_with_len 0 (length entries) → entry.seq ≡ length entries → map (λ e. e.seq) more ≡ range_with_len 0 (length more)
   numbers-push before next =
       ap (map (λ e. e.seq)) is ∙ map-append (λ (e : Entry). e.seq) entries (entry ∷ [])
       ∙ (λ i. before i ++ next i ∷ [])
       ∙ ap (λ (k : ℕ). range_with_len 0 (length entries) ++ k ∷ []) (omega arith)
       ∙ sym (range-push 0 (length entries)) ∙ ap (range_with_len 0) (sym longer)
 
-  requests-push : (requests : List Op) → map (λ e. e.op) entries ≡ take (length entries) requests → slice_get requests (length entries) ≡ Some entry.op → map (λ e. e.op) more ≡ take (length more) requests
+  pub requests-push : (requests : List Op) → map (λ e. e.op) entries ≡ take (length entries) requests → slice_get requests (length entries) ≡ Some entry.op → map (λ e. e.op) more ≡ take (length more) requests
   requests-push requests before asked =
       ap (map (λ e. e.op)) is ∙ map-append (λ (e : Entry). e.op) entries (entry ∷ [])
       ∙ ap (λ l. l ++ entry.op ∷ []) before

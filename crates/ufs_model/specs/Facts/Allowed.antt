@@ -3,7 +3,7 @@ use Rattle.std.proofs.Common.{◌≡◌, ℕ, List, [], ◌∷◌, ◌++◌, Boo
 use Rattle.ufs_model.specs.Paths.{components, whole_path, whole_of, text_refusal, components_refusal, refused_if, first_of, IsWhole}
 use Rattle.ufs_model.specs.declared.data.Errno.{Errno}
 use Rattle.ufs_model.specs.declared.data.Errno.TheVariants.{Einval, Enametoolong}
-use Rattle.ufs_model.proofs.PathLemmas.{components_of, components_plain}
+use Rattle.ufs_model.specs.Facts.Pieces.{components_of, components_plain}
 
 -- neither refuses
 pub first_none : (a b : Option Errno) → first_of a b ≡ None → (a ≡ None) × (b ≡ None)

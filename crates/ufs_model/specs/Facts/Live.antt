@@ -10,8 +10,8 @@ use Rattle.ufs_model.specs.Posix.{with_fd, with_bytes, forget}
 use Rattle.ufs_model.specs.declared.data.Desc.{Desc}
 use Rattle.ufs_model.specs.declared.data.Node.{Node}
 use Rattle.ufs_model.specs.declared.data.Node.TheVariants.{Dir, File}
-use Rattle.ufs_model.proofs.OrderLemmas.{path_total, path_same, fd_total, fd_same}
-use Rattle.ufs_model.proofs.LookupLemmas.{same_some, from_some, one_or_apart, inserted_here, inserted_else, removed_else, left_was, passes, from_passes}
+use Rattle.ufs_model.specs.Facts.Orders.{path_total, path_same, fd_total, fd_same}
+use Rattle.ufs_model.specs.Facts.Lookups.{same_some, from_some, one_or_apart, inserted_here, inserted_else, removed_else, left_was, passes, from_passes}
 
 -- a path names the file
 abbrev pub Named : Paths → ℕ → Type 0
@@ -32,15 +32,15 @@ bytes_there bytes f v = ap is_some (inserted_here nat_cmp_total nat_cmp-IsAntisy
 
 -- ---- live is held
 
-node_is : (f : ℕ) (n : Node) → is_node_of f n ≡ true → n ≡ File f
+pub node_is : (f : ℕ) (n : Node) → is_node_of f n ≡ true → n ≡ File f
 node_is f Dir e = cc
 node_is f (File g) e = ap File (eqb-true g f e)
 
-number_is : (f : ℕ) (o : Option ℕ) → is_number f o ≡ true → o ≡ Some f
+pub number_is : (f : ℕ) (o : Option ℕ) → is_number f o ≡ true → o ≡ Some f
 number_is f None e = cc
 number_is f (Some g) e = ap Some (eqb-true g f e)
 
-is_itself : (f : ℕ) → eqb f f ≡ true
+pub is_itself : (f : ℕ) → eqb f f ≡ true
 is_itself f = eq-eqb f f refl
 
 module _ (paths : Paths) (fds : Fds) (f : ℕ) where
@@ -51,7 +51,7 @@ module _ (paths : Paths) (fds : Fds) (f : ℕ) where
       by true is h = let at = passes path_total path_same (is_node_of f) paths is in inl (at.0, at.2 ∙ ap Some (node_is f at.1 at.3))
       by false is h = let at = passes fd_total fd_same (is_desc_of f) fds h in inr (at.0, at.1, at.2, number_is f at.1.file at.3)
 
-  or_right : (a b : Bool) → b ≡ true → (a || b) ≡ true
+  pub or_right : (a b : Bool) → b ≡ true → (a || b) ≡ true
   or_right true b e = refl
   or_right false b e = e
 
@@ -59,7 +59,7 @@ module _ (paths : Paths) (fds : Fds) (f : ℕ) where
   held_live (inl at) = ap (λ b. b || list_any (is_desc_of f) (map.values fds)) (from_passes path_total path_same (is_node_of f) paths (at.0, File f, at.1, is_itself f))
   held_live (inr at) = or_right _ _ (from_passes fd_total fd_same (is_desc_of f) fds (at.0, at.1, at.2, ap (is_number f) at.3 ∙ is_itself f))
 
-alike : (a b : Bool) → (a ≡ true → b ≡ true) → (b ≡ true → a ≡ true) → a ≡ b
+pub alike : (a b : Bool) → (a ≡ true → b ≡ true) → (b ≡ true → a ≡ true) → a ≡ b
 alike true true f g = refl
 alike true false f g = sym (f refl)
 alike false true f g = g refl

@@ -10,17 +10,17 @@ use Rattle.ufs_model.specs.Directories.{renamed_path, renamed, is_below, has_ent
 use Rattle.ufs_model.specs.Walk.{file_of}
 use Rattle.ufs_model.specs.declared.data.Node.{Node}
 use Rattle.ufs_model.specs.declared.data.Node.TheVariants.{Dir, File}
-use Rattle.ufs_model.proofs.OrderLemmas.{path_total, path_same}
-use Rattle.ufs_model.proofs.LookupLemmas.{from_some, there_or_not, one_or_apart, removed_else, left_was, rekeyed_at, rekeyed_from}
-use Rattle.ufs_model.proofs.PathLemmas.{ArePlain, Moves, Stays, moves_or_stays, components_of, components_plain, plain_append, plain_back, plain_take, same_names, front_of, front_append, last, parent_is, names_below}
-use Rattle.ufs_model.proofs.AllowedLemmas.{allowed_append, allowed_back}
-use Rattle.ufs_model.proofs.BelowLemmas.{is_dir-some, dir_stands, entry_stands}
-use Rattle.ufs_model.proofs.LiveLemmas.{Named}
+use Rattle.ufs_model.specs.Facts.Orders.{path_total, path_same}
+use Rattle.ufs_model.specs.Facts.Lookups.{from_some, there_or_not, one_or_apart, removed_else, left_was, rekeyed_at, rekeyed_from}
+use Rattle.ufs_model.specs.Facts.Pieces.{ArePlain, Moves, Stays, moves_or_stays, components_of, components_plain, plain_append, plain_back, plain_take, same_names, front_of, front_append, last, parent_is, names_below}
+use Rattle.ufs_model.specs.Facts.Allowed.{allowed_append, allowed_back}
+use Rattle.ufs_model.specs.Facts.Walks.{is_dir-some, dir_stands, entry_stands}
+use Rattle.ufs_model.specs.Facts.Live.{Named}
 
-no_first : (x : List ℕ) (xs ys : List (List ℕ)) → [] ≡ (x ∷ xs) ++ ys → ⊥
+pub no_first : (x : List ℕ) (xs ys : List (List ℕ)) → [] ≡ (x ∷ xs) ++ ys → ⊥
 no_first x xs ys e = cc
 
-no_longer : (xs : List (List ℕ)) (y : List ℕ) → xs ≡ xs ++ y ∷ [] → ⊥
+pub no_longer : (xs : List (List ℕ)) (y : List ℕ) → xs ≡ xs ++ y ∷ [] → ⊥
 no_longer xs y e = omega (arith, ap length e, length-append xs (y ∷ []))
 
 -- When the names of one whole path may take the place of those of another.
@@ -37,36 +37,36 @@ pub record MayRename (paths : Paths) (f : List ℕ) (fs : List (List ℕ)) (g : 
   pub apart : whole_path (f ∷ fs) ≡ whole_path (g ∷ gs) → ⊥
 
 module _ (paths : Paths) (f : List ℕ) (fs : List (List ℕ)) (g : List ℕ) (gs : List (List ℕ)) (may : MayRename paths f fs g gs) where
-  abbrev from : List ℕ
+  abbrev pub from : List ℕ
   from = whole_path (f ∷ fs)
 
-  abbrev to : List ℕ
+  abbrev pub to : List ℕ
   to = whole_path (g ∷ gs)
 
-  abbrev new_path : List ℕ → List ℕ
+  abbrev pub new_path : List ℕ → List ℕ
   new_path path = renamed_path from to path
 
-  abbrev now : Paths
+  abbrev pub now : Paths
   now = renamed paths from to
 
-  abbrev Case : List ℕ → Type 0
+  abbrev pub Case : List ℕ → Type 0
   Case path = ((names : List (List ℕ)) × Moves f fs g gs path names) ⊎ Stays f fs g gs path
 
-  spelled : (path : List ℕ) → stands paths path ≡ true → whole_path (components path) ≡ path
+  pub spelled : (path : List ℕ) → stands paths path ≡ true → whole_path (components path) ≡ path
   spelled path there = (may.space.whole path there).spelled
 
-  case_of : (path : List ℕ) → stands paths path ≡ true → Case path
+  pub case_of : (path : List ℕ) → stands paths path ≡ true → Case path
   case_of path there = moves_or_stays f fs g gs may.old_plain path (spelled path there)
 
   -- no path that stands has a name that another gets
-  no_clash : (path : List ℕ) (names : List (List ℕ)) → ArePlain names → stands paths path ≡ true → (path ≡ to → ⊥) → path ≡ whole_path ((g ∷ gs) ++ names) → ⊥
+  pub no_clash : (path : List ℕ) (names : List (List ℕ)) → ArePlain names → stands paths path ≡ true → (path ≡ to → ⊥) → path ≡ whole_path ((g ∷ gs) ++ names) → ⊥
   no_clash path [] plain there not e = not (e ∙ ap whole_path (append-nil (g ∷ gs)))
   no_clash path (y ∷ ys) plain there not e = may.bare y ys plain (ap (stands paths) (sym e) ∙ there)
 
-  plain_rest : (path : List ℕ) (names : List (List ℕ)) → components path ≡ (f ∷ fs) ++ names → ArePlain names
+  pub plain_rest : (path : List ℕ) (names : List (List ℕ)) → components path ≡ (f ∷ fs) ++ names → ArePlain names
   plain_rest path names e = plain_back (f ∷ fs) names (subst ArePlain e (components_plain path))
 
-  one_path : (path other : List ℕ) → stands paths path ≡ true → (path ≡ to → ⊥) → stands paths other ≡ true → (other ≡ to → ⊥) → new_path path ≡ new_path other → path ≡ other
+  pub one_path : (path other : List ℕ) → stands paths path ≡ true → (path ≡ to → ⊥) → stands paths other ≡ true → (other ≡ to → ⊥) → new_path path ≡ new_path other → path ≡ other
   one_path path other there not there' not' e = by (case_of path there) (case_of other there')
     where
       by : Case path → Case other → path ≡ other
@@ -96,17 +96,17 @@ module _ (paths : Paths) (f : List ℕ) (fs : List (List ℕ)) (g : List ℕ) (g
           let left = left_was path_total path_same paths to l some.0 some.1 in
           one_path l path (ap is_some left.1) left.0 (ap is_some there) not e
 
-  dir_now : (path : List ℕ) → has_dir paths path ≡ true → (path ≡ to → ⊥) → has_dir now (new_path path) ≡ true
+  pub dir_now : (path : List ℕ) → has_dir paths path ≡ true → (path ≡ to → ⊥) → has_dir now (new_path path) ≡ true
   dir_now path e not = ap is_dir (is_now path Dir (is_dir-some (map.get paths path) e) not)
 
   -- ---- the path above
 
   -- the names of the path above
-  names_above : (path : List ℕ) → components (parent_of path) ≡ front_of (components path)
+  pub names_above : (path : List ℕ) → components (parent_of path) ≡ front_of (components path)
   names_above path = components_of (front_of (components path)) (plain_take (length (components path) - 1) (components path) (components_plain path))
 
   -- what stands has no path above it at the new name
-  no_entry : (path : List ℕ) → stands paths path ≡ true → parent_of path ≡ to → ⊥
+  pub no_entry : (path : List ℕ) → stands paths path ≡ true → parent_of path ≡ to → ⊥
   no_entry path there e = by (components path) refl (sym (names_above path) ∙ ap components e ∙ components_of (g ∷ gs) may.new_plain)
     where
       by : (names : List (List ℕ)) → components path ≡ names → front_of names ≡ g ∷ gs → ⊥
@@ -116,7 +116,7 @@ module _ (paths : Paths) (f : List ℕ) (fs : List (List ℕ)) (g : List ℕ) (g
           may.bare end.0 [] (plain_back (front_of (x ∷ xs)) (end.0 ∷ []) (subst ArePlain (is ∙ end.1) (components_plain path))) (ap (stands paths) (ap whole_path (ap (λ names. names ++ end.0 ∷ []) (sym e) ∙ sym end.1 ∙ sym is) ∙ spelled path there) ∙ there)
 
   -- the path above what stays stays
-  stays_above : (path : List ℕ) → Stays f fs g gs path → Case (parent_of path) → new_path (parent_of path) ≡ parent_of path
+  pub stays_above : (path : List ℕ) → Stays f fs g gs path → Case (parent_of path) → new_path (parent_of path) ≡ parent_of path
   stays_above path stays (inr up) = up.1
   stays_above path stays (inl up) = absurd (by (components path) refl (sym (names_above path) ∙ up.1.0))
     where
@@ -127,7 +127,7 @@ module _ (paths : Paths) (f : List ℕ) (fs : List (List ℕ)) (g : List ℕ) (g
           stays.0 (up.0 ++ end.0 ∷ []) (is ∙ end.1 ∙ ap (λ names. names ++ end.0 ∷ []) e ∙ append_assoc (f ∷ fs) up.0 (end.0 ∷ []))
 
   -- the path above what moves from below the old name moves
-  moves_above : (path : List ℕ) (y : List ℕ) (ys : List (List ℕ)) → components path ≡ (f ∷ fs) ++ y ∷ ys → Case (parent_of path) → new_path (parent_of path) ≡ whole_path ((g ∷ gs) ++ front_of (y ∷ ys))
+  pub moves_above : (path : List ℕ) (y : List ℕ) (ys : List (List ℕ)) → components path ≡ (f ∷ fs) ++ y ∷ ys → Case (parent_of path) → new_path (parent_of path) ≡ whole_path ((g ∷ gs) ++ front_of (y ∷ ys))
   moves_above path y ys e up = by up
     where
       names : components (parent_of path) ≡ (f ∷ fs) ++ front_of (y ∷ ys)
@@ -138,7 +138,7 @@ module _ (paths : Paths) (f : List ℕ) (fs : List (List ℕ)) (g : List ℕ) (g
       by (inr up) = absurd (up.0 (front_of (y ∷ ys)) names)
 
   -- the directory of the new name is there
-  parent_now : has_dir now (whole_path (front_of (g ∷ gs))) ≡ true
+  pub parent_now : has_dir now (whole_path (front_of (g ∷ gs))) ≡ true
   parent_now = ap (has_dir now) (sym (stays (case_of path (dir_stands paths path may.parent)))) ∙ dir_now path may.parent not
     where
       path : List ℕ
@@ -158,10 +158,10 @@ module _ (paths : Paths) (f : List ℕ) (fs : List (List ℕ)) (g : List ℕ) (g
 
   -- ---- the paths form a tree
 
-  new_names : (q : List ℕ) (names : List (List ℕ)) → ArePlain names → q ≡ whole_path ((g ∷ gs) ++ names) → components q ≡ (g ∷ gs) ++ names
+  pub new_names : (q : List ℕ) (names : List (List ℕ)) → ArePlain names → q ≡ whole_path ((g ∷ gs) ++ names) → components q ≡ (g ∷ gs) ++ names
   new_names q names plain e = ap components e ∙ components_of ((g ∷ gs) ++ names) (plain_append (g ∷ gs) names may.new_plain plain)
 
-  whole_now : (path q : List ℕ) → stands paths path ≡ true → q ≡ new_path path → Case path → IsWhole q
+  pub whole_now : (path q : List ℕ) → stands paths path ≡ true → q ≡ new_path path → Case path → IsWhole q
   whole_now path q there is (inr a) = subst IsWhole (sym (is ∙ a.1)) (may.space.whole path there)
   whole_now path q there is (inl a) =
       let e = is ∙ a.1.1 in
@@ -171,13 +171,13 @@ module _ (paths : Paths) (f : List ℕ) (fs : List (List ℕ)) (g : List ℕ) (g
         allowed = ap components_refusal names ∙ allowed_append (g ∷ gs) a.0 may.allowed (allowed_back (f ∷ fs) a.0 (ap components_refusal (sym a.1.0) ∙ (may.space.whole path there).allowed));
       }
 
-  above_now : (path : List ℕ) → stands paths path ≡ true → has_dir now (new_path (parent_of path)) ≡ true
+  pub above_now : (path : List ℕ) → stands paths path ≡ true → has_dir now (new_path (parent_of path)) ≡ true
   above_now path there = dir_now (parent_of path) (may.space.parents path there) (no_entry path there)
 
-  case_above : (path : List ℕ) → stands paths path ≡ true → Case (parent_of path)
+  pub case_above : (path : List ℕ) → stands paths path ≡ true → Case (parent_of path)
   case_above path there = case_of (parent_of path) (dir_stands paths (parent_of path) (may.space.parents path there))
 
-  moved_parent : (path q : List ℕ) (names : List (List ℕ)) → stands paths path ≡ true → q ≡ whole_path ((g ∷ gs) ++ names) → components path ≡ (f ∷ fs) ++ names → has_dir now (parent_of q) ≡ true
+  pub moved_parent : (path q : List ℕ) (names : List (List ℕ)) → stands paths path ≡ true → q ≡ whole_path ((g ∷ gs) ++ names) → components path ≡ (f ∷ fs) ++ names → has_dir now (parent_of q) ≡ true
   moved_parent path q [] there e is =
       ap (has_dir now) (parent_is q ((g ∷ gs) ++ []) (new_names q [] tt e) ∙ ap (λ names. whole_path (front_of names)) (append-nil (g ∷ gs))) ∙ parent_now
   moved_parent path q (y ∷ ys) there e is =
@@ -185,12 +185,12 @@ module _ (paths : Paths) (f : List ℕ) (fs : List (List ℕ)) (g : List ℕ) (g
       ∙ sym (moves_above path y ys is (case_above path there)))
       ∙ above_now path there
 
-  parents_now : (path q : List ℕ) → stands paths path ≡ true → q ≡ new_path path → Case path → has_dir now (parent_of q) ≡ true
+  pub parents_now : (path q : List ℕ) → stands paths path ≡ true → q ≡ new_path path → Case path → has_dir now (parent_of q) ≡ true
   parents_now path q there is (inr a) =
       ap (has_dir now) (ap parent_of (is ∙ a.1) ∙ sym (stays_above path a (case_above path there))) ∙ above_now path there
   parents_now path q there is (inl a) = moved_parent path q a.0 there (is ∙ a.1.1) a.1.0
 
-  root_now : has_dir now root ≡ true
+  pub root_now : has_dir now root ≡ true
   root_now = ap (has_dir now) (sym (stays (case_of root (dir_stands paths root may.space.root_is_dir)))) ∙ dir_now root may.space.root_is_dir (λ e. no_first g gs [] (ap components e ∙ components_of (g ∷ gs) may.new_plain ∙ sym (append-nil (g ∷ gs))))
     where
       stays : Case root → new_path root ≡ root

@@ -13,8 +13,8 @@ use Rattle.ufs_model.specs.PosixTree.{Fds, is_desc_of, is_number}
 use Rattle.ufs_model.specs.Order.{fd_cmp}
 use Rattle.ufs_model.specs.Touched.{holds}
 use Rattle.ufs_model.specs.declared.data.Desc.{Desc}
-use Rattle.ufs_model.proofs.OrderLemmas.{fd_total, fd_same}
-use Rattle.ufs_model.proofs.LookupLemmas.{entry_passes, from_entry_passes, passes, from_passes, inserted_else, removed_else}
+use Rattle.ufs_model.specs.Facts.Orders.{fd_total, fd_same}
+use Rattle.ufs_model.specs.Facts.Lookups.{entry_passes, from_entry_passes, passes, from_passes, inserted_else, removed_else}
 
 -- ---- who holds a file
 
@@ -23,22 +23,22 @@ abbrev pub file_at : Fds → ℕ → ℕ → Option (Option ℕ)
 file_at fds client fd = option_map (λ (d : Desc). d.file) (fin.get fds (client, fd))
 
 -- one of the client's descriptors, of the file
-abbrev Holder : Fds → ℕ → ℕ → Type 0
+abbrev pub Holder : Fds → ℕ → ℕ → Type 0
 Holder fds client file = (fd : ℕ) × (d : Desc) × (fin.get fds (client, fd) ≡ Some d) × (is_desc_of file d ≡ true)
 
-holder : (fds : Fds) (client file : ℕ) → holds fds client file ≡ true → Holder fds client file
+pub holder : (fds : Fds) (client file : ℕ) → holds fds client file ≡ true → Holder fds client file
 holder fds client file is =
     let w = entry_passes fd_total fd_same (λ e. eqb e.0.0 client && is_desc_of file e.1) fds is in
     let both = and_parts (eqb w.0.0 client) (is_desc_of file w.1) w.3 in
     let own : w.0.0 ≡ client = eqb-true w.0.0 client both.0 in
     (w.0.1, w.1, subst (λ (c : ℕ). fin.get fds (c, w.0.1) ≡ Some w.1) own w.2, both.1)
 
-held : (fds : Fds) (client file fd : ℕ) (d : Desc) → fin.get fds (client, fd) ≡ Some d → is_desc_of file d ≡ true → holds fds client file ≡ true
+pub held : (fds : Fds) (client file fd : ℕ) (d : Desc) → fin.get fds (client, fd) ≡ Some d → is_desc_of file d ≡ true → holds fds client file ≡ true
 held fds client file fd d there is =
     from_entry_passes fd_total fd_same (λ e. eqb e.0.0 client && is_desc_of file e.1) fds
     ((client, fd), d, there, and_from (eqb client client) (is_desc_of file d) (eq-eqb client client refl) is)
 
-one_way : (a b : Fds) (client file : ℕ) → ((fd : ℕ) → file_at a client fd ≡ file_at b client fd) → holds a client file ≡ true → holds b client file ≡ true
+pub one_way : (a b : Fds) (client file : ℕ) → ((fd : ℕ) → file_at a client fd ≡ file_at b client fd) → holds a client file ≡ true → holds b client file ≡ true
 one_way a b client file same is =
     let w = holder a client file is in
     by_desc w.0 w.1 w.2 w.3 (fin.get b (client, w.0)) refl
@@ -56,7 +56,7 @@ one_way a b client file same is =
 pub holds_by : (a b : Fds) (client file : ℕ) → ((fd : ℕ) → file_at a client fd ≡ file_at b client fd) → holds a client file ≡ holds b client file
 holds_by a b client file same = both_ways (holds a client file) (holds b client file) (one_way a b client file same) (one_way b a client file (λ fd. sym (same fd)))
 
-open_way : (a b : Fds) (file : ℕ) → ((client : ℕ) → holds a client file ≡ true → holds b client file ≡ true) → list_any (is_desc_of file) (fin.values a) ≡ true → list_any (is_desc_of file) (fin.values b) ≡ true
+pub open_way : (a b : Fds) (file : ℕ) → ((client : ℕ) → holds a client file ≡ true → holds b client file ≡ true) → list_any (is_desc_of file) (fin.values a) ≡ true → list_any (is_desc_of file) (fin.values b) ≡ true
 open_way a b file same is =
     let w = passes fd_total fd_same (is_desc_of file) a is in
     let h = holder b w.0.0 file (same w.0.0 (held a w.0.0 file w.0.1 w.1 w.2 w.3)) in
@@ -71,7 +71,7 @@ open_by a b file same =
 -- ---- descriptors that come, move and go
 
 module _ (fds : Fds) (client fd : ℕ) where
-  other_fd : (c n : ℕ) → c ≢ client → ◌≡◌ {A = ℕ × ℕ} (c, n) (client, fd) → ⊥
+  pub other_fd : (c n : ℕ) → c ≢ client → ◌≡◌ {A = ℕ × ℕ} (c, n) (client, fd) → ⊥
   other_fd c n ne is = ne (ap (λ (k : ℕ × ℕ). k.0) is)
 
   pub put_elsewhere : (d : Desc) (c n : ℕ) → c ≢ client → fin.get fds (c, n) ≡ fin.get (fin.insert fds (client, fd) d) (c, n)

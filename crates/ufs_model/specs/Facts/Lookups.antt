@@ -9,7 +9,7 @@ use Rattle.std.specs.FinMap as fin
 use Rattle.std.specs.FinMap.{FinMap, IsAntisymmetric, get, insert, remove, find, entries, from_entries, get-entries, get-insert, get-remove, get-from_entries, is_sorted}
 use Rattle.std.specs.FinMap.Entries.{below_all}
 use Rattle.std.proofs.lemmas.Bool.{and_parts}
-use Rattle.ufs_model.proofs.RisingLemmas.{entries-rise, less}
+use Rattle.ufs_model.specs.Facts.Rising.{entries-rise, less}
 
 -- what is there is there once
 pub same_some : {A : Type 0} (x y : A) → Some x ≡ Some y → x ≡ y
@@ -78,7 +78,7 @@ module _ {K X : Type 0} {R : K → K → Ordering} (o : IsTotalOrder R) (same : 
   -- ---- some entry passes a test
 
   -- a key below all others isn't found among them
-  below_none : (k : K) (es : List (K × X)) → below_all R k es ≡ true → find R k es ≡ None
+  pub below_none : (k : K) (es : List (K × X)) → below_all R k es ≡ true → find R k es ≡ None
   below_none k [] h = refl
   below_none k (e ∷ es) h =
       let both = and_parts _ _ h in
@@ -142,7 +142,7 @@ module _ {K X : Type 0} {R : K → K → Ordering} (o : IsTotalOrder R) (same : 
     from_passes m is = any_value (entries m) ∙ from_entry_passes (λ e. p e.1) m is
 
   -- a key that is there passes a test of keys
-  found_passes : (q : K → Bool) (es : List (K × X)) (k : K) → is_some (find R k es) ≡ true → q k ≡ true → list_any q (map (λ e. e.0) es) ≡ true
+  pub found_passes : (q : K → Bool) (es : List (K × X)) (k : K) → is_some (find R k es) ≡ true → q k ≡ true → list_any q (map (λ e. e.0) es) ≡ true
   found_passes q [] k e h = cc
   found_passes q (x ∷ es) k e h = by (eq_by_cmp R k x.0) refl (q x.0) refl (λ there. found_passes q es k there h) e
     where
@@ -156,7 +156,7 @@ module _ {K X : Type 0} {R : K → K → Ordering} (o : IsTotalOrder R) (same : 
   key_passes q m k e h = found_passes q (entries m) k (ap is_some (sym (get-entries m k)) ∙ e) h
 
   -- a key that passes a test of keys is there
-  passing_found : (q : K → Bool) (es : List (K × X)) → list_any q (map (λ e. e.0) es) ≡ true → (k : K) × (is_some (find R k es) ≡ true) × (q k ≡ true)
+  pub passing_found : (q : K → Bool) (es : List (K × X)) → list_any q (map (λ e. e.0) es) ≡ true → (k : K) × (is_some (find R k es) ≡ true) × (q k ≡ true)
   passing_found q [] e = cc
   passing_found q (x ∷ es) e = by (q x.0) refl (passing_found q es) e
     where
