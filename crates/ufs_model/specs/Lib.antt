@@ -13,6 +13,7 @@ pub mod OpKinds
 pub mod Excuses
 pub mod History
 pub mod Touched
+pub mod Asks
 pub mod Start
 pub mod PathEntries
 pub mod Laws

@@ -1,0 +1,2 @@
+pub mod DirTable
+pub mod DirCalls
