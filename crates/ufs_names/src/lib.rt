@@ -3,5 +3,6 @@
 
 mod dir_tree;
 mod found;
+mod holding;
 
 pub use found::Found;
