@@ -1,14 +1,17 @@
 // The directories of a tree, over their blocks.
+ghost use Rattle.std.specs.Prelude.{◌≡◌, IfOk};
+ghost use Rattle.ufs_names.specs.DirTable.{found_of};
+ghost use Rattle.ufs_names.specs.DirCalls.{AreNamesOf};
+
 use crate::found::Found;
 use std::alloc::Global;
 use std::marker::Model;
-use ufs_dirs::{DirBlocks, MAX_BLOCKS};
+use ufs_dirs::DirBlocks;
 use ufs_layout::Dentry;
 use ufs_model::{Bytes, Errno, Memory, NameList, Node};
 use ufs_path::PathText;
 
-/// The kinds of a dentry.
-const FILE: u8 = 1;
+/// The kind of a directory's dentry.
 const DIRECTORY: u8 = 2;
 
 /// The number of the root.
@@ -37,12 +40,12 @@ impl Model for DirTree {
 }
 
 impl DirTree {
-    ghost use Rattle.std.specs.Prelude.{◌≡◌, ◌≢◌, ◌≤◌, ◌<◌, ◌-◌, ◌↔◌, ℕ, List, [], Some, None, IsTrue, IsSome, IfOk, IfErr, OnOk, OnErr, length, take};
+    ghost use Rattle.std.specs.Prelude.{◌≡◌, ◌≢◌, ◌↔◌, ℕ, List, [], Some, None, IsTrue, IfOk, IfErr, length};
     ghost use Rattle.std.specs.Option.{option_map};
     ghost use Rattle.ufs_dirs.specs.Directory.{entry_of};
     ghost use Rattle.ufs_model.specs.declared.data.Node.TheVariants as node;
-    ghost use Rattle.ufs_names.specs.DirTable.{DirTable, IsDirTable, slots_at, found_of, found_at, node_at};
-    ghost use Rattle.ufs_names.specs.DirCalls.{refusal_by, names_above, AreNamesOf, IsBare, MayGo, SetsNode, MovesNodes, MayMove};
+    ghost use Rattle.ufs_names.specs.DirTable.{IsDirTable, slots_at, found_of, found_at, node_at};
+    ghost use Rattle.ufs_names.specs.DirCalls.{refusal_by, names_above, AreNamesOf, IsBare};
     ghost use Rattle.ufs_names.specs.declared.found.Found.TheVariants as found;
 
     /// The root alone.
