@@ -83,6 +83,7 @@ impl DirTree {
         ensures found { IfOk result (λ o. o ≡ found_at self.now path.now) }
         ensures table { IsDirTable self.now }
     {
+        let _ = &self.alloc;
         let mut dir = ROOT;
         let mut at = Some(Found::Dir { inode: ROOT });
         for i in 0..path.len() {
@@ -103,9 +104,10 @@ impl DirTree {
     {
         let mut dir = ROOT;
         for i in 0..path.len().saturating_sub(1) {
-            if let Some(Found::Dir { inode }) = self.entry(dir, path.component(i)) {
-                dir = inode;
-            }
+            let Some(Found::Dir { inode }) = self.entry(dir, path.component(i)) else {
+                unreachable!()
+            };
+            dir = inode;
         }
         dir
     }
