@@ -1,6 +1,9 @@
 // The directories of a tree, over their blocks.
-ghost use Rattle.std.specs.Prelude.{◌≡◌, IfOk};
-ghost use Rattle.ufs_names.specs.DirTable.{found_of};
+ghost use Rattle.std.specs.Prelude.{◌≡◌, Some, IfOk, IfErr};
+ghost use Rattle.std.specs.Option.{option_map};
+ghost use Rattle.ufs_model.specs.Walk.{dir_refusal};
+ghost use Rattle.ufs_names.specs.DirTable.{found_of, node_of};
+ghost use Rattle.ufs_names.specs.declared.found.Found.TheVariants as found;
 ghost use Rattle.ufs_names.specs.DirCalls.{AreNamesOf};
 
 use crate::found::Found;
@@ -40,13 +43,11 @@ impl Model for DirTree {
 }
 
 impl DirTree {
-    ghost use Rattle.std.specs.Prelude.{◌≡◌, ◌≢◌, ◌↔◌, ℕ, List, [], Some, None, IsTrue, IfOk, IfErr, length};
-    ghost use Rattle.std.specs.Option.{option_map};
+    ghost use Rattle.std.specs.Prelude.{◌≢◌, ◌↔◌, ℕ, List, [], None, IsTrue, length};
     ghost use Rattle.ufs_dirs.specs.Directory.{entry_of};
     ghost use Rattle.ufs_model.specs.declared.data.Node.TheVariants as node;
-    ghost use Rattle.ufs_names.specs.DirTable.{IsDirTable, slots_at, found_of, found_at, node_at};
-    ghost use Rattle.ufs_names.specs.DirCalls.{refusal_by, names_above, AreNamesOf, IsBare};
-    ghost use Rattle.ufs_names.specs.declared.found.Found.TheVariants as found;
+    ghost use Rattle.ufs_names.specs.DirTable.{IsDirTable, slots_at, found_at, node_at};
+    ghost use Rattle.ufs_names.specs.DirCalls.{refusal_by, names_above, IsBare};
 
     /// The root alone.
     pub fn new(alloc: Global) -> Result<DirTree, Memory>
@@ -66,10 +67,10 @@ impl DirTree {
     fn entry(&self, dir: u32, name: &[u8]) -> Option<Found>
         ensures { result ≡ option_map found_of (entry_of (slots_at self.now dir) name.now) }
     {
-        let Some(blocks) = self.dirs.get(dir as usize) else {
+        let Some(directory) = self.dirs.get(dir as usize) else {
             return None;
         };
-        match blocks.find(name) {
+        match directory.find(name) {
             Some(entry) => Some(found_by(entry)),
             None => None,
         }
@@ -84,14 +85,9 @@ impl DirTree {
         ensures table { IsDirTable self.now }
     {
         let _ = &self.alloc;
-        let mut dir = ROOT;
         let mut at = Some(Found::Dir { inode: ROOT });
         for i in 0..path.len() {
-            match at {
-                Some(Found::Dir { inode }) => dir = inode,
-                Some(Found::File { .. }) => return Err(Errno::Enotdir),
-                None => return Err(Errno::Enoent),
-            }
+            let dir = dir_met(at)?;
             at = self.entry(dir, path.component(i));
         }
         Ok(at)
@@ -104,10 +100,10 @@ impl DirTree {
     {
         let mut dir = ROOT;
         for i in 0..path.len().saturating_sub(1) {
-            let Some(Found::Dir { inode }) = self.entry(dir, path.component(i)) else {
+            let Ok(next) = dir_met(self.entry(dir, path.component(i))) else {
                 unreachable!()
             };
-            dir = inode;
+            dir = next;
         }
         dir
     }
@@ -117,7 +113,7 @@ impl DirTree {
         ensures { (names : List (List ℕ)) → AreNamesOf (slots_at self.now dir) names → result ≡ length names }
     {
         match self.dirs.get(dir as usize) {
-            Some(blocks) => blocks.count(),
+            Some(directory) => directory.count(),
             None => 0,
         }
     }
@@ -127,7 +123,7 @@ impl DirTree {
         ensures { IsTrue result ↔ IsBare (slots_at self.now dir) }
     {
         match self.dirs.get(dir as usize) {
-            Some(blocks) => blocks.is_empty(),
+            Some(directory) => directory.is_empty(),
             None => true,
         }
     }
@@ -137,7 +133,7 @@ impl DirTree {
         ensures { IfOk result (λ names. AreNamesOf (slots_at self.now dir) names) }
     {
         match self.dirs.get(dir as usize) {
-            Some(blocks) => names_in(self.alloc, blocks),
+            Some(directory) => names_in(self.alloc, directory),
             None => Ok(NameList::from_vec(Vec::new(self.alloc))),
         }
     }
@@ -151,6 +147,18 @@ fn found_by(entry: Dentry) -> Found
         Found::Dir { inode: entry.inode }
     } else {
         Found::File { file: entry.inode }
+    }
+}
+
+/// The number of the directory that a walk meets.
+fn dir_met(at: Option<Found>) -> Result<u32, Errno>
+    ensures ok { IfOk result (λ i. at ≡ Some (found.Dir i)) }
+    ensures err { IfErr result (λ e. dir_refusal (option_map node_of at) ≡ Some e) }
+{
+    match at {
+        Some(Found::Dir { inode }) => Ok(inode),
+        Some(Found::File { .. }) => Err(Errno::Enotdir),
+        None => Err(Errno::Enoent),
     }
 }
 
