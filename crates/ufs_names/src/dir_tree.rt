@@ -1,14 +1,20 @@
 // The directories of a tree, over their blocks.
+ghost use Rattle.std.specs.Prelude.{◌≡◌, Some, IfOk, IfErr};
+ghost use Rattle.std.specs.Option.{option_map};
+ghost use Rattle.ufs_model.specs.Walk.{dir_refusal};
+ghost use Rattle.ufs_names.specs.DirTable.{found_of, node_of};
+ghost use Rattle.ufs_names.specs.declared.found.Found.TheVariants as found;
+ghost use Rattle.ufs_names.specs.DirCalls.{AreNamesOf};
+
 use crate::found::Found;
 use std::alloc::Global;
 use std::marker::Model;
-use ufs_dirs::{DirBlocks, MAX_BLOCKS};
+use ufs_dirs::DirBlocks;
 use ufs_layout::Dentry;
 use ufs_model::{Bytes, Errno, Memory, NameList, Node};
 use ufs_path::PathText;
 
-/// The kinds of a dentry.
-const FILE: u8 = 1;
+/// The kind of a directory's dentry.
 const DIRECTORY: u8 = 2;
 
 /// The number of the root.
@@ -17,11 +23,11 @@ const ROOT: u32 = 0;
 /// The directories of a tree. A directory or a file may have another name without a look at what lies below it.
 #[derive(Drop)]
 pub struct DirTree {
-    alloc: Global,
+    pub(crate) alloc: Global,
     /// By number. A directory numbers its blocks from 0.
-    dirs: Vec<DirBlocks>,
+    pub(crate) dirs: Vec<DirBlocks>,
     /// The numbers that belong to no directory. There is room for each number.
-    free: Vec<u32>,
+    pub(crate) free: Vec<u32>,
 }
 
 impl Model for DirTree {
@@ -37,13 +43,11 @@ impl Model for DirTree {
 }
 
 impl DirTree {
-    ghost use Rattle.std.specs.Prelude.{◌≡◌, ◌≢◌, ◌≤◌, ◌<◌, ◌-◌, ◌↔◌, ℕ, List, [], Some, None, IsTrue, IsSome, IfOk, IfErr, OnOk, OnErr, length, take};
-    ghost use Rattle.std.specs.Option.{option_map};
+    ghost use Rattle.std.specs.Prelude.{◌≢◌, ◌↔◌, ℕ, List, [], None, IsTrue, length};
     ghost use Rattle.ufs_dirs.specs.Directory.{entry_of};
     ghost use Rattle.ufs_model.specs.declared.data.Node.TheVariants as node;
-    ghost use Rattle.ufs_names.specs.DirTable.{DirTable, IsDirTable, slots_at, found_of, found_at, node_at};
-    ghost use Rattle.ufs_names.specs.DirCalls.{refusal_by, names_above, AreNamesOf, IsBare, MayGo, SetsNode, MovesNodes, MayMove};
-    ghost use Rattle.ufs_names.specs.declared.found.Found.TheVariants as found;
+    ghost use Rattle.ufs_names.specs.DirTable.{IsDirTable, slots_at, found_at, node_at};
+    ghost use Rattle.ufs_names.specs.DirCalls.{refusal_by, names_above, IsBare};
 
     /// The root alone.
     pub fn new(alloc: Global) -> Result<DirTree, Memory>
@@ -63,10 +67,10 @@ impl DirTree {
     fn entry(&self, dir: u32, name: &[u8]) -> Option<Found>
         ensures { result ≡ option_map found_of (entry_of (slots_at self.now dir) name.now) }
     {
-        let Some(blocks) = self.dirs.get(dir as usize) else {
+        let Some(directory) = self.dirs.get(dir as usize) else {
             return None;
         };
-        match blocks.find(name) {
+        match directory.find(name) {
             Some(entry) => Some(found_by(entry)),
             None => None,
         }
@@ -80,14 +84,10 @@ impl DirTree {
         ensures found { IfOk result (λ o. o ≡ found_at self.now path.now) }
         ensures table { IsDirTable self.now }
     {
-        let mut dir = ROOT;
+        let _ = &self.alloc;
         let mut at = Some(Found::Dir { inode: ROOT });
         for i in 0..path.len() {
-            match at {
-                Some(Found::Dir { inode }) => dir = inode,
-                Some(Found::File { .. }) => return Err(Errno::Enotdir),
-                None => return Err(Errno::Enoent),
-            }
+            let dir = dir_met(at)?;
             at = self.entry(dir, path.component(i));
         }
         Ok(at)
@@ -100,9 +100,10 @@ impl DirTree {
     {
         let mut dir = ROOT;
         for i in 0..path.len().saturating_sub(1) {
-            if let Some(Found::Dir { inode }) = self.entry(dir, path.component(i)) {
-                dir = inode;
-            }
+            let Ok(next) = dir_met(self.entry(dir, path.component(i))) else {
+                unreachable!()
+            };
+            dir = next;
         }
         dir
     }
@@ -112,7 +113,7 @@ impl DirTree {
         ensures { (names : List (List ℕ)) → AreNamesOf (slots_at self.now dir) names → result ≡ length names }
     {
         match self.dirs.get(dir as usize) {
-            Some(blocks) => blocks.count(),
+            Some(directory) => directory.count(),
             None => 0,
         }
     }
@@ -122,7 +123,7 @@ impl DirTree {
         ensures { IsTrue result ↔ IsBare (slots_at self.now dir) }
     {
         match self.dirs.get(dir as usize) {
-            Some(blocks) => blocks.is_empty(),
+            Some(directory) => directory.is_empty(),
             None => true,
         }
     }
@@ -132,66 +133,9 @@ impl DirTree {
         ensures { IfOk result (λ names. AreNamesOf (slots_at self.now dir) names) }
     {
         match self.dirs.get(dir as usize) {
-            Some(blocks) => names_in(self.alloc, blocks),
+            Some(directory) => names_in(self.alloc, directory),
             None => Ok(NameList::from_vec(Vec::new(self.alloc))),
         }
-    }
-
-    // ---- changes
-
-    /// Puts what stands at a path at which nothing stands.
-    pub fn add(&mut self, path: &PathText, node: Node) -> Result<(), Memory>
-        requires below { path.now ≢ [] }
-        requires parent { node_at self.old (names_above path.now) ≡ Some node.Dir }
-        requires absent { found_at self.old path.now ≡ None }
-        ensures ok { OnOk result (SetsNode (node_at self.old) (node_at self.new) path.now (Some node)) }
-        ensures err { OnErr result (self.new ≡ self.old) }
-    {
-        let dir = self.parent(path);
-        match node {
-            Node::File(file) => {
-                self.make_room(dir)?;
-                self.attach(dir, path.last(), file, FILE);
-            }
-            Node::Dir => {
-                self.reserve_dir()?;
-                self.make_room(dir)?;
-                let inode = self.new_dir();
-                self.attach(dir, path.last(), inode, DIRECTORY);
-            }
-        }
-        Ok(())
-    }
-
-    /// Takes away what stands at a path. Takes no memory, but that a directory's number, where there is none for it,
-    /// isn't given out again.
-    pub fn remove(&mut self, path: &PathText)
-        requires below { path.now ≢ [] }
-        requires stands { IsSome (found_at self.old path.now) }
-        requires may_go { MayGo self.old path.now }
-        ensures { SetsNode (node_at self.old) (node_at self.new) path.now None }
-    {
-        let dir = self.parent(path);
-        self.drop_entry(dir, path.last());
-    }
-
-    /// Gives what stands at `from`, with all below it, the name `to`. What stood there goes. It moves one dentry,
-    /// whatever lies below.
-    pub fn rename(&mut self, from: &PathText, to: &PathText) -> Result<(), Memory>
-        requires { MayMove self.old from.now to.now }
-        ensures ok { OnOk result (MovesNodes (node_at self.old) (node_at self.new) from.now to.now) }
-        ensures err { OnErr result (self.new ≡ self.old) }
-    {
-        let old = self.parent(from);
-        let new = self.parent(to);
-        if self.entry(new, to.last()).is_some() {
-            self.drop_entry(new, to.last());
-        } else {
-            self.make_room(new)?;
-        }
-        let entry = self.detach(old, from.last());
-        self.attach(new, to.last(), entry.inode, entry.kind);
-        Ok(())
     }
 }
 
@@ -203,6 +147,18 @@ fn found_by(entry: Dentry) -> Found
         Found::Dir { inode: entry.inode }
     } else {
         Found::File { file: entry.inode }
+    }
+}
+
+/// The number of the directory that a walk meets.
+fn dir_met(at: Option<Found>) -> Result<u32, Errno>
+    ensures ok { IfOk result (λ i. at ≡ Some (found.Dir i)) }
+    ensures err { IfErr result (λ e. dir_refusal (option_map node_of at) ≡ Some e) }
+{
+    match at {
+        Some(Found::Dir { inode }) => Ok(inode),
+        Some(Found::File { .. }) => Err(Errno::Enotdir),
+        None => Err(Errno::Enoent),
     }
 }
 

@@ -1,0 +1,4 @@
+pub mod WalkLemmas
+pub mod RefusalLemmas
+pub mod BareLemmas
+pub mod FirstLemmas
