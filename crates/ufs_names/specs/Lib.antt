@@ -1,2 +1,3 @@
 pub mod DirTable
 pub mod DirCalls
+pub mod DirEdits

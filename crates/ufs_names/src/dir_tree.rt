@@ -2,14 +2,15 @@
 use crate::found::Found;
 use std::alloc::Global;
 use std::marker::Model;
-use ufs_dirs::{DirBlocks, MAX_BLOCKS};
+use ufs_dirs::DirBlocks;
 use ufs_layout::Dentry;
-use ufs_model::{Bytes, Errno, Memory, NameList, Node};
+use ufs_model::{Bytes, Errno, Memory, NameList};
 use ufs_path::PathText;
 
 /// The kinds of a dentry.
-const FILE: u8 = 1;
-const DIRECTORY: u8 = 2;
+pub(crate) const FILE: u8 = 1;
+
+pub(crate) const DIRECTORY: u8 = 2;
 
 /// The number of the root.
 const ROOT: u32 = 0;
@@ -17,11 +18,11 @@ const ROOT: u32 = 0;
 /// The directories of a tree. A directory or a file may have another name without a look at what lies below it.
 #[derive(Drop)]
 pub struct DirTree {
-    alloc: Global,
+    pub(crate) alloc: Global,
     /// By number. A directory numbers its blocks from 0.
-    dirs: Vec<DirBlocks>,
+    pub(crate) dirs: Vec<DirBlocks>,
     /// The numbers that belong to no directory. There is room for each number.
-    free: Vec<u32>,
+    pub(crate) free: Vec<u32>,
 }
 
 impl Model for DirTree {
@@ -60,7 +61,7 @@ impl DirTree {
     // ---- answers
 
     /// What the name stands for in the directory.
-    fn entry(&self, dir: u32, name: &[u8]) -> Option<Found>
+    pub(crate) fn entry(&self, dir: u32, name: &[u8]) -> Option<Found>
         ensures { result ≡ option_map found_of (entry_of (slots_at self.now dir) name.now) }
     {
         let Some(blocks) = self.dirs.get(dir as usize) else {
@@ -94,7 +95,7 @@ impl DirTree {
     }
 
     /// The number of the directory in which a path's last name is looked for.
-    fn parent(&self, path: &PathText) -> u32
+    pub(crate) fn parent(&self, path: &PathText) -> u32
         requires { node_at self.now (names_above path.now) ≡ Some node.Dir }
         ensures { found_at self.now (names_above path.now) ≡ Some (found.Dir result) }
     {
@@ -135,63 +136,6 @@ impl DirTree {
             Some(blocks) => names_in(self.alloc, blocks),
             None => Ok(NameList::from_vec(Vec::new(self.alloc))),
         }
-    }
-
-    // ---- changes
-
-    /// Puts what stands at a path at which nothing stands.
-    pub fn add(&mut self, path: &PathText, node: Node) -> Result<(), Memory>
-        requires below { path.now ≢ [] }
-        requires parent { node_at self.old (names_above path.now) ≡ Some node.Dir }
-        requires absent { found_at self.old path.now ≡ None }
-        ensures ok { OnOk result (SetsNode (node_at self.old) (node_at self.new) path.now (Some node)) }
-        ensures err { OnErr result (self.new ≡ self.old) }
-    {
-        let dir = self.parent(path);
-        match node {
-            Node::File(file) => {
-                self.make_room(dir)?;
-                self.attach(dir, path.last(), file, FILE);
-            }
-            Node::Dir => {
-                self.reserve_dir()?;
-                self.make_room(dir)?;
-                let inode = self.new_dir();
-                self.attach(dir, path.last(), inode, DIRECTORY);
-            }
-        }
-        Ok(())
-    }
-
-    /// Takes away what stands at a path. Takes no memory, but that a directory's number, where there is none for it,
-    /// isn't given out again.
-    pub fn remove(&mut self, path: &PathText)
-        requires below { path.now ≢ [] }
-        requires stands { IsSome (found_at self.old path.now) }
-        requires may_go { MayGo self.old path.now }
-        ensures { SetsNode (node_at self.old) (node_at self.new) path.now None }
-    {
-        let dir = self.parent(path);
-        self.drop_entry(dir, path.last());
-    }
-
-    /// Gives what stands at `from`, with all below it, the name `to`. What stood there goes. It moves one dentry,
-    /// whatever lies below.
-    pub fn rename(&mut self, from: &PathText, to: &PathText) -> Result<(), Memory>
-        requires { MayMove self.old from.now to.now }
-        ensures ok { OnOk result (MovesNodes (node_at self.old) (node_at self.new) from.now to.now) }
-        ensures err { OnErr result (self.new ≡ self.old) }
-    {
-        let old = self.parent(from);
-        let new = self.parent(to);
-        if self.entry(new, to.last()).is_some() {
-            self.drop_entry(new, to.last());
-        } else {
-            self.make_room(new)?;
-        }
-        let entry = self.detach(old, from.last());
-        self.attach(new, to.last(), entry.inode, entry.kind);
-        Ok(())
     }
 }
 

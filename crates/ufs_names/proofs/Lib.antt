@@ -1,0 +1,4 @@
+pub mod EntryEdits
+pub mod Prefixes
+pub mod RoomLemmas
+pub mod WalkEdits
