@@ -4,7 +4,7 @@ use Rattle.std.specs.Option.{option_map}
 use Rattle.std.proofs.lemmas.Bool.{cases_eq}
 use Rattle.ufs_layout.specs.DentryForm.{DentryForm}
 use Rattle.ufs_dirs.specs.Directory.{Directory, entry_of}
-use Rattle.ufs_model.specs.Paths.{component_refusal}
+use Rattle.ufs_path.specs.Names.{IsName}
 use Rattle.ufs_names.specs.DirTable.{DirTable, AreFree, IsDirTable, dir_at, slots_at, found_of, step, walk_from, found_at}
 use Rattle.ufs_names.specs.DirEdits.{SetsEntry, IsLoose}
 use Rattle.ufs_names.specs.declared.found.Found.{Found}
@@ -26,7 +26,7 @@ module _ (t : DirTable) (dirs : List Directory) (p : ℕ) (x : List ℕ) (w : Op
       by (inl here) = subst (λ j. entry_of (slots_at edited j) name ≡ entry_of (slots_at t j) name) (sym here) (sets.names.others name (off here))
       by (inr other) = ap (λ (d : Directory). entry_of d.slots name) (sets.others i other)
 
-  step-else : (i : ℕ) (name : List ℕ) → (i ≡ p → name ≢ x) → step edited (Some (Dir i)) name ≡ step t (Some (Dir i)) name
+  pub step-else : (i : ℕ) (name : List ℕ) → (i ≡ p → name ≢ x) → step edited (Some (Dir i)) name ≡ step t (Some (Dir i)) name
   step-else i name off = ap (option_map found_of) (entry-else i name off)
 
   module _ (is : IsDirTable t) (above : List (List ℕ)) (met : found_at t above ≡ Some (Dir p)) where
@@ -60,30 +60,30 @@ module _ (t : DirTable) (dirs : List Directory) (p : ℕ) (x : List ℕ) (w : Op
 
     -- ---- what is true of each table
 
-    blocks_kept : (i : ℕ) → All (λ b. b < length (dir_at edited i).blocks) (dir_at edited i).blocks
+    abbrev Numbered : List ℕ → Type 0
+    Numbered blocks = All (λ b. b < length blocks) blocks
+
+    pub blocks_kept : (i : ℕ) → All (λ b. b < length (dir_at edited i).blocks) (dir_at edited i).blocks
     blocks_kept i = by (cases_eq i p)
       where
-        abbrev Below : List ℕ → Type 0
-        Below blocks = All (λ b. b < length blocks) blocks
+        by : (i ≡ p) ⊎ (i ≢ p) → Numbered (dir_at edited i).blocks
+        by (inl at) = subst (λ j. Numbered (dir_at edited j).blocks) (sym at) (subst Numbered (sym sets.blocks) (is.blocks p))
+        by (inr other) = subst (λ (d : Directory). Numbered d.blocks) (sym (sets.others i other)) (is.blocks i)
 
-        by : (i ≡ p) ⊎ (i ≢ p) → Below (dir_at edited i).blocks
-        by (inl here) = subst (λ j. Below (dir_at edited j).blocks) (sym here) (subst Below (sym sets.blocks) (is.blocks p))
-        by (inr other) = subst (λ (d : Directory). Below d.blocks) (sym (sets.others i other)) (is.blocks i)
-
-    names_kept : (IsSome w → component_refusal x ≡ None) → (i : ℕ) (name : List ℕ) → IsSome (entry_of (slots_at edited i) name) → component_refusal name ≡ None
+    pub names_kept : (IsSome w → IsName x) → (i : ℕ) (name : List ℕ) → IsSome (entry_of (slots_at edited i) name) → IsName name
     names_kept allowed i name some = by (cases_eq i p) (one_name name x)
       where
-        other : (i ≡ p → name ≢ x) → component_refusal name ≡ None
+        other : (i ≡ p → name ≢ x) → IsName name
         other off = is.names i name (subst IsSome (entry-else i name off) some)
 
-        by : (i ≡ p) ⊎ (i ≢ p) → (name ≡ x) ⊎ (name ≢ x) → component_refusal name ≡ None
-        by (inr apart) same = other (λ here. absurd (apart here))
-        by (inl here) (inr apart) = other (λ _. apart)
-        by (inl here) (inl same) =
-            let found : entry_of (slots_at edited i) name ≡ w = (λ k. entry_of (slots_at edited (here k)) (same k)) ∙ sets.names.this in
-            ap component_refusal same ∙ allowed (subst IsSome found some)
+        by : (i ≡ p) ⊎ (i ≢ p) → (name ≡ x) ⊎ (name ≢ x) → IsName name
+        by (inr apart) same = other (λ at. absurd (apart at))
+        by (inl at) (inr apart) = other (λ _. apart)
+        by (inl at) (inl same) =
+            let found : entry_of (slots_at edited i) name ≡ w = (λ k. entry_of (slots_at edited (at k)) (same k)) ∙ sets.names.this in
+            subst IsName (sym same) (allowed (subst IsSome found some))
 
-    free_kept : ((k : ℕ) → k < length t.free → (names : List (List ℕ)) → found_at edited names ≢ Some (Dir (get_or t.free k 0))) → AreFree edited
+    pub free_kept : ((k : ℕ) → k < length t.free → (names : List (List ℕ)) → found_at edited names ≢ Some (Dir (get_or t.free k 0))) → AreFree edited
     free_kept unmet = record {
       in_range = λ k inside. omega (arith, is.free.in_range k inside, sets.counted);
       once = is.free.once;

@@ -1,3 +1,5 @@
+pub mod AttachLemmas
+pub mod DetachLemmas
 pub mod EntryEdits
 pub mod Prefixes
 pub mod RoomLemmas
