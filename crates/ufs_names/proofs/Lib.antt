@@ -1,6 +1,9 @@
 pub mod AttachLemmas
 pub mod DetachLemmas
 pub mod EntryEdits
+pub mod FreedNumbers
 pub mod Prefixes
 pub mod RoomLemmas
+pub mod SameWalks
+pub mod TakenNumbers
 pub mod WalkEdits

@@ -3,7 +3,6 @@ use Rattle.ufs_layout.specs.DentryForm.{DentryForm}
 use Rattle.ufs_dirs.specs.Directory.{entry_of}
 use Rattle.ufs_names.specs.DirTable.{DirTable, IsDirTable, slots_at}
 use Rattle.ufs_names.specs.DirEdits.{IsMet}
-use Rattle.ufs_names.proofs.AttachLemmas.{attached_table}
 use Rattle.ufs_names.proofs.DetachLemmas.{detached_table, detached_loose}
 use Rattle.ufs_names.proofs.dir_tree.DirTree.detach.Goals as goal
 
