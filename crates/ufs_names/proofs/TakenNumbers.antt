@@ -11,7 +11,7 @@ use Rattle.ufs_names.specs.declared.found.Found.{Found}
 use Rattle.ufs_names.specs.declared.found.Found.TheVariants.{Dir}
 use Rattle.ufs_path.specs.Names.{IsName}
 use Rattle.ufs_names.proofs.WalkEdits.{walk-none, walk-same}
-use Rattle.ufs_names.proofs.SameWalks.{same_table, free_same}
+use Rattle.ufs_names.proofs.SameWalks.{same_table, free_same, same_rooms, rooms_table}
 
 same_number : (i j : ℕ) → Some (Dir i) ≡ Some (Dir j) → i ≡ j
 same_number i j e = cc
@@ -107,7 +107,6 @@ module _ (dirs : List Directory) (free : List ℕ) (is : IsDirTable (record { di
 -- what is true once a number is taken
 pub record IsTaken (old new : DirTable) (i : ℕ) : Type 0 where
   pub same : SameEntries old.dirs new.dirs
-  pub others : (j : ℕ) → dir_at new j ≡ dir_at old j
   pub table : IsDirTable new
   pub bare : IsBare (slots_at new i)
   pub loose : IsLoose new (Some (Dir i))
@@ -117,7 +116,6 @@ taken_off t dirs free i is e same =
     let old : IsDirTable (record { dirs = t.dirs; free = free ++ i ∷ [] }) = subst (λ (l : List ℕ). IsDirTable (record { dirs = t.dirs; free = l })) e is in
     subst (λ (l : List Directory). IsTaken t (record { dirs = l; free = free }) i) (sym same) (record {
       same = λ j name. refl;
-      others = λ j. refl;
       table = taken_table t.dirs free i old;
       bare = taken_bare t.dirs free i old;
       loose = taken_loose t.dirs free i old;
@@ -127,7 +125,6 @@ put_behind : (t : DirTable) (dirs : List Directory) (free : List ℕ) (i : ℕ) 
 put_behind t dirs free i is e at same =
     let new : IsTaken t (record { dirs = t.dirs ++ no_dir ∷ []; free = t.free }) (length t.dirs) = record {
       same = longer_same t.dirs t.free is;
-      others = dir_same t.dirs t.free is;
       table = longer_table t.dirs t.free is;
       bare = longer_bare t.dirs t.free is;
       loose = longer_loose t.dirs t.free is;
@@ -142,3 +139,16 @@ number_taken t new i is takes = by takes.by
     by : ((t.free ≡ new.free ++ i ∷ []) × (new.dirs ≡ t.dirs)) ⊎ ((new.free ≡ t.free) × (i ≡ length t.dirs) × (new.dirs ≡ t.dirs ++ no_dir ∷ [])) → IsTaken t new i
     by (inl off) = taken_off t new.dirs new.free i is off.0 off.1
     by (inr behind) = put_behind t new.dirs new.free i is behind.0 behind.1 behind.2
+
+-- more free slots, and then a number
+pub room_and_number : (t : DirTable) (first second : List Directory) (free : List ℕ) (new : DirTable) (p i : ℕ) → IsDirTable t → first ≡ t.dirs → RoomsIn first second p → free ≡ t.free → TakesNumber (record { dirs = second; free = free }) new i → IsTaken t new i
+room_and_number t first second free new p i is e rooms f takes =
+    let rooms : RoomsIn t.dirs second p = subst (λ (l : List Directory). RoomsIn l second p) e rooms in
+    let takes : TakesNumber (record { dirs = second; free = t.free }) new i = subst (λ (l : List ℕ). TakesNumber (record { dirs = second; free = l }) new i) f takes in
+    let taken = number_taken (record { dirs = second; free = t.free }) new i (rooms_table t second p rooms is) takes in
+    record {
+      same = λ j name. taken.same j name ∙ same_rooms t second p rooms j name;
+      table = taken.table;
+      bare = taken.bare;
+      loose = taken.loose;
+    }
