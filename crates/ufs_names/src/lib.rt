@@ -1,6 +1,8 @@
 //! The namespace: what stands at each path, over the blocks of directories.
 #![tactic(auto)]
 
+mod dir_edit;
+mod dir_entry;
 mod dir_tree;
 mod found;
 mod holding;
