@@ -1,3 +1,6 @@
 pub mod NameLists
 pub mod WalkLinks
 pub mod StandsLemmas
+pub mod OnceLemmas
+pub mod LinkLemmas
+pub mod HolderLemmas
