@@ -4,3 +4,5 @@ pub mod StandsLemmas
 pub mod OnceLemmas
 pub mod LinkLemmas
 pub mod HolderLemmas
+pub mod SettleLemmas
+pub mod AllowedLemmas
