@@ -6,3 +6,4 @@ pub mod LinkLemmas
 pub mod HolderLemmas
 pub mod SettleLemmas
 pub mod AllowedLemmas
+pub mod PartLemmas
