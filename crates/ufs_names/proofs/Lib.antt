@@ -7,3 +7,6 @@ pub mod HolderLemmas
 pub mod SettleLemmas
 pub mod AllowedLemmas
 pub mod PartLemmas
+pub mod OpenPartLemmas
+pub mod ClosePartLemmas
+pub mod DescAfterLemmas

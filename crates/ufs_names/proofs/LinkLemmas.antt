@@ -95,6 +95,9 @@ module _ (paths : Paths) (f : List ℕ) (fs : List (List ℕ)) (g : List ℕ) (g
 
 -- ---- what is known of each file
 
+pub number_apart : (x y : ℕ) → (x ≡ y) ⊎ (x ≡ y → ⊥)
+number_apart = one_or_apart nat_cmp_total nat_cmp-IsAntisymmetric
+
 module _ (held : Holdings) (f : ℕ) where
   pub holding_put : (h : Holding) → holding_of (map.insert held f h) f ≡ h
   holding_put h = ap (λ o. unwrap_or o unheld) (inserted_here nat_cmp_total nat_cmp-IsAntisymmetric held f h)
