@@ -10,3 +10,5 @@ pub mod PartLemmas
 pub mod OpenPartLemmas
 pub mod ClosePartLemmas
 pub mod DescAfterLemmas
+pub mod PartFacts
+pub mod ConditionLemmas
