@@ -1,17 +1,19 @@
 -- The names' part goes on with the tree as descriptors are closed.
-use Rattle.std.proofs.Common.{◌≡◌, ℕ, zero, suc, ◌<◌, ◌⊎◌, inl, inr, List, [], ◌∷◌, Bool, true, false, cond, not, length, Option, Some, None, is_none, unwrap_or, arith, ap, refl, sym, ◌∙◌}
+use Rattle.std.proofs.Common.{◌≡◌, ℕ, zero, suc, ◌<◌, ◌⊎◌, inl, inr, List, [], ◌∷◌, Bool, true, false, cond, not, length, Option, Some, None, is_none, unwrap_or, arith, ap, refl, sym, subst, ◌∙◌}
 use Rattle.std.specs.Prelude.{slice_index_or}
 use Rattle.std.specs.FinMap as map
 use Rattle.ufs_model.specs.Paths.{refused_if}
 use Rattle.ufs_model.specs.PosixTree.{PosixTree, IsTree, desc_at, is_live, is_number}
 use Rattle.ufs_model.specs.Touched.{holds}
 use Rattle.ufs_model.specs.Descriptors.{closed}
-use Rattle.ufs_model.specs.Posix.{change, forget}
+use Rattle.ufs_model.specs.Posix.{posix, change, forget}
 use Rattle.ufs_model.specs.Refusals.{refusal}
-use Rattle.ufs_model.specs.Asks.{is_last, is_last_of, file_in}
+use Rattle.ufs_model.specs.Asks.{IsAsk, desc_of_fd, fd_named, is_last, is_last_of, file_in}
 use Rattle.ufs_model.specs.Laws.{KeepsTrees}
+use Rattle.ufs_model.specs.declared.data.Ask.{Ask}
 use Rattle.ufs_model.specs.declared.data.Desc.{Desc}
 use Rattle.ufs_model.specs.declared.data.Errno.TheVariants.{Ebadf}
+use Rattle.ufs_model.specs.declared.data.Op.{Op}
 use Rattle.ufs_model.specs.declared.data.Op.TheVariants as op
 use Rattle.ufs_model.specs.Facts.Lookups.{same_some}
 use Rattle.ufs_model.specs.Facts.Live.{held_live, number_is, is_itself}
@@ -22,7 +24,7 @@ use Rattle.ufs_names.specs.Calls.{desc_or_closed, let_go}
 use Rattle.ufs_names.proofs.LinkLemmas.{number_apart}
 use Rattle.ufs_names.proofs.HolderLemmas.{holds_left, client_set, client_else}
 use Rattle.ufs_names.proofs.SettleLemmas.{part_settled}
-use Rattle.ufs_names.proofs.PartLemmas.{tree_after}
+use Rattle.ufs_names.proofs.PartLemmas.{tree_after, goes_on}
 
 -- a client that is marked is one of them
 below_marked : (clients : List Bool) (c : ℕ) → slice_index_or clients c false ≡ true → c < length clients
@@ -131,3 +133,13 @@ part_close keeps n t client part fd last is e = by (desc_at t client fd) refl is
         → IsPartOf (let_go n client last (desc_or_closed o).file) (forget (record t { fds = map.remove t.fds (client, fd) }) (unwrap_or o closed).file)
     by None at is tree = let some = there.1 in cc
     by (Some d) at is tree = closed_any n t part client fd d at d.file refl last is tree
+
+-- the same of a request as the server is told of it
+pub part_close_asked : KeepsTrees → (n : NamesPart) (t : PosixTree) (ask : Ask) → IsPartOf n t → IsAsk t ask → (fd : ℕ) → ask.op ≡ op.Close fd → refusal t ask.client ask.op ≡ None
+    → IsPartOf (let_go n ask.client ask.last (desc_or_closed ask.desc).file) (posix t ask.client ask.op).0
+part_close_asked keeps n t ask part asked fd is e =
+    let none = ap (refusal t ask.client) (sym is) ∙ e in
+    let desc = asked.desc ∙ ap (λ (r : Op). desc_of_fd t.fds ask.client (fd_named r)) is in
+    goes_on (let_go n ask.client ask.last (desc_or_closed ask.desc).file) t ask.client ask.op (op.Close fd) is none
+    (subst (λ (o : Option Desc). IsPartOf (let_go n ask.client ask.last (desc_or_closed o).file) (change t ask.client (op.Close fd))) (sym desc)
+    (part_close keeps n t ask.client part fd ask.last (asked.last ∙ ap (is_last t.fds ask.client) is) none))

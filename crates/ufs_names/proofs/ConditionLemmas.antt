@@ -1,11 +1,11 @@
 -- A request that isn't refused meets the conditions of the directories' calls.
-use Rattle.std.proofs.Common.{◌≡◌, ◌≢◌, ℕ, ◌-◌, List, [], ◌∷◌, ◌++◌, Bool, true, false, not, length, take, drop, Option, Some, None, is_some, ap, refl, sym, subst, ◌∙◌}
+use Rattle.std.proofs.Common.{◌≡◌, ◌≢◌, ℕ, ◌-◌, List, [], ◌∷◌, Bool, true, false, not, length, take, drop, Option, Some, None, is_some, ap, refl, sym, subst, ◌∙◌}
 use Rattle.std.proofs.lemmas.List.{take-append-drop}
 use Rattle.std.specs.Prelude.{IsSome}
 use Rattle.std.specs.Option.{option_map}
 use Rattle.std.specs.FinMap as map
-use Rattle.ufs_model.specs.Paths.{components, whole_path, whole_of, has_component, is_root}
-use Rattle.ufs_model.specs.PosixTree.{PosixTree, Paths, has_dir}
+use Rattle.ufs_model.specs.Paths.{components, whole_path, whole_of, has_component}
+use Rattle.ufs_model.specs.PosixTree.{PosixTree, has_dir}
 use Rattle.ufs_model.specs.Walk as walk
 use Rattle.ufs_model.specs.Refusals.{refusal}
 use Rattle.ufs_model.specs.declared.data.Node.{Node}

@@ -1,5 +1,5 @@
 -- The names' part goes on with the tree as paths are opened.
-use Rattle.std.proofs.Common.{◌≡◌, ℕ, ◌+◌, ◌<◌, ◌⊎◌, inl, inr, List, [], ◌∷◌, Bool, true, false, cond, not, ◌||◌, length, Option, Some, None, is_some, replicate, arith, ap, refl, sym, subst, ◌∙◌}
+use Rattle.std.proofs.Common.{◌≡◌, ℕ, ◌+◌, ◌<◌, ◌⊎◌, inl, inr, List, [], Bool, true, false, cond, not, ◌||◌, length, Option, Some, None, is_some, replicate, arith, ap, refl, sym, subst, ◌∙◌}
 use Rattle.std.proofs.lemmas.Bool.{false_from_ne_true}
 use Rattle.std.specs.Prelude.{slice_index_or}
 use Rattle.std.specs.Cmp.{nat_cmp_total}
@@ -9,7 +9,7 @@ use Rattle.ufs_model.specs.Paths.{components, whole_of, text_refusal}
 use Rattle.ufs_model.specs.PosixTree.{PosixTree, Files, IsTree}
 use Rattle.ufs_model.specs.Walk as walk
 use Rattle.ufs_model.specs.Touched.{holds}
-use Rattle.ufs_model.specs.Descriptors.{Mode, desc_of, opened}
+use Rattle.ufs_model.specs.Descriptors.{Mode, desc_of}
 use Rattle.ufs_model.specs.Posix.{change, new_fd, with_fd, with_bytes, with_file, open_node}
 use Rattle.ufs_model.specs.Refusals.{refusal}
 use Rattle.ufs_model.specs.Laws.{KeepsTrees}

@@ -1,5 +1,5 @@
 -- What the part of a tree knows of a file.
-use Rattle.std.proofs.Common.{◌≡◌, ℕ, List, true, Option, Some, None, is_some, inl, ap, sym, ◌∙◌}
+use Rattle.std.proofs.Common.{◌≡◌, ℕ, List, true, Some, is_some, inl, ap, sym, ◌∙◌}
 use Rattle.std.specs.Prelude.{IsSome}
 use Rattle.std.specs.FinMap as map
 use Rattle.ufs_model.specs.Paths.{whole_path}

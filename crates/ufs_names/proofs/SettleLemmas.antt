@@ -1,5 +1,5 @@
 -- A file that nothing keeps any more goes from the part as it goes from the tree.
-use Rattle.std.proofs.Common.{◌≡◌, ℕ, ◌⊎◌, inl, inr, List, [], ◌∷◌, zero, suc, Bool, true, false, cond, ◌||◌, Option, Some, None, is_some, replicate, ap, refl, sym, subst, ◌∙◌}
+use Rattle.std.proofs.Common.{◌≡◌, ℕ, ◌⊎◌, inl, inr, zero, suc, Bool, true, false, cond, ◌||◌, Option, Some, None, is_some, replicate, ap, refl, sym, ◌∙◌}
 use Rattle.std.proofs.lemmas.Bool.{false_from_ne_true}
 use Rattle.std.specs.Prelude.{slice_index_or}
 use Rattle.std.specs.Cmp.{nat_cmp_total}
@@ -12,7 +12,7 @@ use Rattle.ufs_model.specs.Posix.{forget}
 use Rattle.ufs_model.specs.Facts.Lookups.{same_some, inserted_here, inserted_else, removed_here, removed_else}
 use Rattle.ufs_names.specs.DirTable.{DirTable}
 use Rattle.ufs_names.specs.Stands.{Stands}
-use Rattle.ufs_names.specs.NamesPart.{NamesPart, IsPartOf, IsNamedOnce, is_linked, is_holder, is_kept, holding_of, unheld, settled, settled_node, without_name}
+use Rattle.ufs_names.specs.NamesPart.{NamesPart, IsPartOf, IsNamedOnce, is_linked, is_holder, is_kept, holding_of, settled, settled_node, without_name}
 use Rattle.ufs_names.specs.declared.holding.Holding.{Holding}
 use Rattle.ufs_names.proofs.LinkLemmas.{is_named, number_apart, holding_put, holding_else, holding_gone, holding_left}
 use Rattle.ufs_names.proofs.HolderLemmas.{from_marked, kept_is_live}

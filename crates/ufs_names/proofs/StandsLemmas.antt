@@ -1,9 +1,9 @@
 -- The directories stand for the paths, as paths come, go and get new names.
-use Rattle.std.proofs.Common.{◌≡◌, ℕ, ◌⊎◌, inl, inr, List, [], ◌∷◌, ◌++◌, Option, Some, None, ap, is_some, refl, sym, subst, ◌∙◌, append_assoc}
+use Rattle.std.proofs.Common.{◌≡◌, ℕ, ◌⊎◌, inl, inr, List, [], ◌∷◌, ◌++◌, Option, Some, None, ap, is_some, refl, sym, subst, ◌∙◌}
 use Rattle.std.proofs.lemmas.List.{append-nil, append_cancel_left}
 use Rattle.std.specs.FinMap as map
-use Rattle.ufs_model.specs.Paths.{components, whole_path, components_refusal}
-use Rattle.ufs_model.specs.PosixTree.{Paths, stands}
+use Rattle.ufs_model.specs.Paths.{components, whole_path}
+use Rattle.ufs_model.specs.PosixTree.{Paths}
 use Rattle.ufs_model.specs.Directories.{renamed, renamed_path}
 use Rattle.ufs_model.specs.declared.data.Node.{Node}
 use Rattle.ufs_model.specs.Facts.Orders.{path_total, path_same}
