@@ -11,3 +11,17 @@ pub mod RoomLemmas
 pub mod SameWalks
 pub mod TakenNumbers
 pub mod WalkEdits
+pub mod NameLists
+pub mod WalkLinks
+pub mod StandsLemmas
+pub mod OnceLemmas
+pub mod LinkLemmas
+pub mod HolderLemmas
+pub mod SettleLemmas
+pub mod AllowedLemmas
+pub mod PartLemmas
+pub mod OpenPartLemmas
+pub mod ClosePartLemmas
+pub mod DescAfterLemmas
+pub mod PartFacts
+pub mod ConditionLemmas
