@@ -2,3 +2,4 @@ pub mod WalkLemmas
 pub mod RefusalLemmas
 pub mod BareLemmas
 pub mod FirstLemmas
+pub mod ListedLemmas
