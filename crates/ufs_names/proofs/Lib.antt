@@ -3,3 +3,5 @@ pub mod RefusalLemmas
 pub mod BareLemmas
 pub mod FirstLemmas
 pub mod ListedLemmas
+pub mod PathLemmas
+pub mod EntryLemmas
