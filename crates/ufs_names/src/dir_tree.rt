@@ -11,11 +11,13 @@ use std::alloc::Global;
 use std::marker::Model;
 use ufs_dirs::DirBlocks;
 use ufs_layout::Dentry;
-use ufs_model::{Bytes, Errno, Memory, NameList, Node};
+use ufs_model::{Bytes, Errno, Memory, NameList};
 use ufs_path::PathText;
 
-/// The kind of a directory's dentry.
-const DIRECTORY: u8 = 2;
+/// The kinds of a dentry.
+pub(crate) const FILE: u8 = 1;
+
+pub(crate) const DIRECTORY: u8 = 2;
 
 /// The number of the root.
 const ROOT: u32 = 0;
@@ -64,7 +66,7 @@ impl DirTree {
     // ---- answers
 
     /// What the name stands for in the directory.
-    fn entry(&self, dir: u32, name: &[u8]) -> Option<Found>
+    pub(crate) fn entry(&self, dir: u32, name: &[u8]) -> Option<Found>
         ensures { result ≡ option_map found_of (entry_of (slots_at self.now dir) name.now) }
     {
         let Some(directory) = self.dirs.get(dir as usize) else {
@@ -94,7 +96,7 @@ impl DirTree {
     }
 
     /// The number of the directory in which a path's last name is looked for.
-    fn parent(&self, path: &PathText) -> u32
+    pub(crate) fn parent(&self, path: &PathText) -> u32
         requires { node_at self.now (names_above path.now) ≡ Some node.Dir }
         ensures { found_at self.now (names_above path.now) ≡ Some (found.Dir result) }
     {
