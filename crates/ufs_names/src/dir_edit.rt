@@ -14,7 +14,7 @@ impl DirTree {
     ghost use Rattle.ufs_model.specs.declared.data.Node.TheVariants as node;
     ghost use Rattle.ufs_names.specs.DirTable.{DirTable, IsDirTable, dir_at, slots_at, found_of, found_at, node_at};
     ghost use Rattle.ufs_names.specs.DirCalls.{names_above, IsBare, MayGo, SetsNode, MovesNodes, MayMove};
-    ghost use Rattle.ufs_names.specs.DirEdits.{HasRoom, IsMet, IsLoose, SameEntries, SetsEntry};
+    ghost use Rattle.ufs_names.specs.DirEdits.{HasRoom, IsMet, IsLoose, SameEntries, SetsEntry, ClearsName};
     ghost use Rattle.ufs_names.specs.declared.found.Found.TheVariants as found;
     ghost use Rattle.ufs_path.specs.Names.{IsName};
 
@@ -61,14 +61,25 @@ impl DirTree {
     {
         let old = self.parent(from);
         let new = self.parent(to);
-        if self.entry(new, to.last()).is_some() {
-            self.drop_entry(new, to.last());
-        } else {
-            self.make_room(new)?;
-        }
+        self.clear_name(new, to.last())?;
         let entry = self.detach(old, from.last());
         self.attach(new, to.last(), entry.inode, entry.kind);
         Ok(())
+    }
+
+    /// Drops the name, where it stands for something. Where it doesn't, sees to a free slot.
+    fn clear_name(&mut self, dir: u32, name: &[u8]) -> Result<(), Memory>
+        requires met { IsMet self.old dir }
+        requires may_go { (i : ℕ) → option_map found_of (entry_of (slots_at self.old dir) name.now) ≡ Some (found.Dir i) → IsBare (slots_at self.old i) }
+        ensures ok { OnOk result (ClearsName self.old self.new dir name.now) }
+        ensures err { OnErr result (self.new ≡ self.old) }
+    {
+        if self.entry(dir, name).is_some() {
+            self.drop_entry(dir, name);
+            Ok(())
+        } else {
+            self.make_room(dir)
+        }
     }
 
     /// Sees to a free slot in the directory.
@@ -77,6 +88,7 @@ impl DirTree {
         ensures room { OnOk result (HasRoom (dir_at self.new dir)) }
         ensures same { SameEntries self.old.dirs self.new.dirs }
         ensures err { OnErr result (self.new ≡ self.old) }
+        ensures before { IsDirTable self.old }
         ensures table { IsDirTable self.new }
     {
         give_room_at(&mut self.dirs, dir as usize)
