@@ -6,8 +6,9 @@ use Rattle.ufs_layout.specs.DentryForm.{DentryForm}
 use Rattle.ufs_dirs.specs.Directory.{Directory, entry_of}
 use Rattle.ufs_model.specs.declared.data.Node.{Node}
 use Rattle.ufs_model.specs.declared.data.Node.TheVariants as node
+use Rattle.ufs_model.specs.Facts.Pieces.{last}
 use Rattle.ufs_names.specs.DirTable.{DirTable, IsDirTable, slots_at, found_of, step, walk_from, found_at, node_of, node_at}
-use Rattle.ufs_names.specs.DirCalls.{IsBare, MayGo, SetsNode}
+use Rattle.ufs_names.specs.DirCalls.{names_above, IsBare, MayGo, SetsNode}
 use Rattle.ufs_names.specs.DirEdits.{SetsEntry, SameEntries, IsLoose}
 use Rattle.ufs_names.specs.declared.found.Found.{Found}
 use Rattle.ufs_names.specs.declared.found.Found.TheVariants.{Dir, File}
@@ -25,6 +26,10 @@ pub some_before : {A B : Type 0} (f : A → B) (o : Option A) → IsSome (option
 some_before f (Some x) e = refl
 some_before f None e = e
 
+pub none_before : {A B : Type 0} (f : A → B) (o : Option A) → option_map f o ≡ None → o ≡ None
+none_before f (Some x) e = cc
+none_before f None e = refl
+
 module _ (t : DirTable) where
   -- what stands at a name of a directory
   pub entry_met : (above : List (List ℕ)) (x : List ℕ) (p : ℕ) → found_at t above ≡ Some (Dir p) → found_at t (above ++ x ∷ []) ≡ option_map found_of (entry_of (slots_at t p) x)
@@ -39,6 +44,23 @@ module _ (t : DirTable) where
   pub parent_is_dir : (above : List (List ℕ)) (x : List ℕ) (path : List (List ℕ)) → path ≡ above ++ x ∷ [] → IsSome (found_at t path) → node_at t above ≡ Some node.Dir
   parent_is_dir above x path e some =
       above_is_dir x (found_at t above) (subst IsSome (ap (found_at t) e ∙ walk-append t (Some (Dir 0)) above (x ∷ [])) some)
+
+  pub above_path_is_dir : (path : List (List ℕ)) → path ≢ [] → IsSome (found_at t path) → node_at t (names_above path) ≡ Some node.Dir
+  above_path_is_dir [] below some = absurd (below refl)
+  above_path_is_dir (x ∷ xs) below some = let l = last x xs in parent_is_dir (names_above (x ∷ xs)) l.0 (x ∷ xs) l.1 some
+
+  module _ (path above : List (List ℕ)) (x : List ℕ) (p : ℕ) (ends : path ≡ above ++ x ∷ []) (met : found_at t above ≡ Some (Dir p)) where
+    pub path_met : found_at t path ≡ option_map found_of (entry_of (slots_at t p) x)
+    path_met = ap (found_at t) ends ∙ entry_met above x p met
+
+    pub entry_stands : IsSome (found_at t path) → IsSome (entry_of (slots_at t p) x)
+    entry_stands some = some_before found_of (entry_of (slots_at t p) x) (subst IsSome path_met some)
+
+    pub entry_absent : found_at t path ≡ None → entry_of (slots_at t p) x ≡ None
+    entry_absent none = none_before found_of (entry_of (slots_at t p) x) (sym path_met ∙ none)
+
+    pub entry_may_go : MayGo t path → (i : ℕ) → option_map found_of (entry_of (slots_at t p) x) ≡ Some (Dir i) → IsBare (slots_at t i)
+    entry_may_go may_go i e = may_go i (path_met ∙ e)
 
   -- nothing stands below
   abbrev pub NothingFrom : Option Found → Type 0
@@ -79,7 +101,7 @@ others_by old new path off after before other apart = by (begins_or_not path oth
     by (inr not) = off other not
 
 -- a name is taken
-module _ (t new : DirTable) (p : ℕ) (above : List (List ℕ)) (x : List ℕ) (path : List (List ℕ)) (sets : SetsEntry t.dirs new.dirs p x None) (is : IsDirTable t) (met : found_at t above ≡ Some (Dir p)) (last : path ≡ above ++ x ∷ []) (may_go : MayGo t path) where
+module _ (t new : DirTable) (p : ℕ) (above : List (List ℕ)) (x : List ℕ) (path : List (List ℕ)) (sets : SetsEntry t.dirs new.dirs p x None) (is : IsDirTable t) (met : found_at t above ≡ Some (Dir p)) (ends : path ≡ above ++ x ∷ []) (may_go : MayGo t path) where
   abbrev mid : DirTable
   mid = record { dirs = new.dirs; free = t.free }
 
@@ -92,7 +114,7 @@ module _ (t new : DirTable) (p : ℕ) (above : List (List ℕ)) (x : List ℕ) (
     others = λ other apart. ap (option_map node_of) (others_by t mid here
         (met_else t new.dirs p x None sets is above met)
         (λ y ys. gone t new.dirs p x sets is above met (y ∷ ys))
-        (nothing_below t here (subst (λ path. MayGo t path) last may_go)) other apart);
+        (nothing_below t here (subst (λ path. MayGo t path) ends may_go)) other apart);
   }
 
   pub removed_node : SetsNode (node_at t) (node_at new) path None
@@ -101,11 +123,11 @@ module _ (t new : DirTable) (p : ℕ) (above : List (List ℕ)) (x : List ℕ) (
         this = ap (option_map node_of) (met_by_dirs new new.dirs t.free refl here) ∙ taken_here.this;
         others = λ other apart. ap (option_map node_of) (met_by_dirs new new.dirs t.free refl other) ∙ taken_here.others other apart;
       } in
-      subst (λ path. SetsNode (node_at t) (node_at new) path None) (sym last) at_new
+      subst (λ path. SetsNode (node_at t) (node_at new) path None) (sym ends) at_new
 
 -- a name is given
 module _ (old t new : DirTable) (p : ℕ) (above : List (List ℕ)) (x : List ℕ) (path : List (List ℕ)) (e : DentryForm) (same : SameEntries old.dirs t.dirs) (sets : SetsEntry t.dirs new.dirs p x (Some e)) (is : IsDirTable t)
-    (met : found_at old above ≡ Some (Dir p)) (last : path ≡ above ++ x ∷ []) (absent : found_at old path ≡ None) (loose : IsLoose t (Some (found_of e))) (bare : NothingFrom t (Some (found_of e))) where
+    (met : found_at old above ≡ Some (Dir p)) (ends : path ≡ above ++ x ∷ []) (absent : found_at old path ≡ None) (loose : IsLoose t (Some (found_of e))) (bare : NothingFrom t (Some (found_of e))) where
   abbrev given : DirTable
   given = record { dirs = new.dirs; free = t.free }
 
@@ -124,7 +146,7 @@ module _ (old t new : DirTable) (p : ℕ) (above : List (List ℕ)) (x : List �
     others = λ other apart. ap (option_map node_of) (others_by old given there
         (λ names off. met_else t new.dirs p x (Some e) sets is above met_then names off ∙ as_before names)
         (λ y ys. now_below t new.dirs p x e sets is above met_then loose (y ∷ ys) ∙ bare y ys)
-        (λ y ys. none_below old there (y ∷ ys) (ap (found_at old) (sym last) ∙ absent)) other apart);
+        (λ y ys. none_below old there (y ∷ ys) (ap (found_at old) (sym ends) ∙ absent)) other apart);
   }
 
   pub added_node : SetsNode (node_at old) (node_at new) path (Some (node_of (found_of e)))
@@ -133,4 +155,4 @@ module _ (old t new : DirTable) (p : ℕ) (above : List (List ℕ)) (x : List �
         this = ap (option_map node_of) (met_by_dirs new new.dirs t.free refl there) ∙ given_node.this;
         others = λ other apart. ap (option_map node_of) (met_by_dirs new new.dirs t.free refl other) ∙ given_node.others other apart;
       } in
-      subst (λ path. SetsNode (node_at old) (node_at new) path (Some (node_of (found_of e)))) (sym last) at_new
+      subst (λ path. SetsNode (node_at old) (node_at new) path (Some (node_of (found_of e)))) (sym ends) at_new
