@@ -80,6 +80,22 @@ module _ (t : DirTable) where
   pub nothing_below : (path : List (List ℕ)) → MayGo t path → (y : List ℕ) (ys : List (List ℕ)) → found_at t (path ++ y ∷ ys) ≡ None
   nothing_below path may_go y ys = walk-append t (Some (Dir 0)) path (y ∷ ys) ∙ below_what_goes (found_at t path) may_go y ys
 
+-- nothing leads anywhere from a file
+pub file_loose : (t : DirTable) (f : ℕ) → IsLoose t (Some (File f))
+file_loose t f = record {
+  in_range = λ names i at. absurd (no_dir names i at);
+  once = λ names others i at too. absurd (no_dir names i at);
+  in_use = λ k inside names at. no_dir names _ at;
+  unmet = λ names others i at met. no_dir names i at;
+}
+  where
+    no_dir : (names : List (List ℕ)) (i : ℕ) → walk_from t (Some (File f)) names ≢ Some (Dir i)
+    no_dir [] i at = cc
+    no_dir (y ∷ ys) i at = let none = walk-none t ys in cc
+
+pub met_after : (old t : DirTable) → SameEntries old.dirs t.dirs → (names : List (List ℕ)) → found_at t names ≡ found_at old names
+met_after old t same names = walk-same old t same (Some (Dir 0)) names
+
 -- free numbers make no difference to what is met
 pub met_by_dirs : (t : DirTable) (dirs : List Directory) (free : List ℕ) → t.dirs ≡ dirs → (names : List (List ℕ)) → found_at t names ≡ found_at (record { dirs = dirs; free = free }) names
 met_by_dirs t dirs free e names = walk-same (record { dirs = dirs; free = free }) t (λ i name. ap (λ (l : List Directory). entry_of (slots_at (record { dirs = l; free = free }) i) name) e) (Some (Dir 0)) names

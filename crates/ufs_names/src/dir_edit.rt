@@ -11,7 +11,7 @@ impl DirTree {
     ghost use Rattle.std.specs.Prelude.{◌≡◌, ◌≢◌, ◌<◌, ◌∷◌, ◌++◌, ℕ, List, [], Some, None, IsSome, IfOk, OnOk, OnErr, length};
     ghost use Rattle.std.specs.Option.{option_map};
     ghost use Rattle.ufs_dirs.specs.Directory.{entry_of};
-    ghost use Rattle.ufs_model.specs.declared.data.Node.TheVariants as node;
+    ghost use Rattle.ufs_model.specs.declared.data.Node.TheVariants as nodes;
     ghost use Rattle.ufs_names.specs.DirTable.{DirTable, IsDirTable, dir_at, slots_at, found_of, found_at, node_at};
     ghost use Rattle.ufs_names.specs.DirCalls.{names_above, IsBare, MayGo, SetsNode, MovesNodes, MayMove};
     ghost use Rattle.ufs_names.specs.DirEdits.{HasRoom, IsMet, IsLoose, SameEntries, SetsEntry, ClearsName};
@@ -21,7 +21,7 @@ impl DirTree {
     /// Puts what stands at a path at which nothing stands.
     pub fn add(&mut self, path: &PathText, node: Node) -> Result<(), Memory>
         requires below { path.now ≢ [] }
-        requires parent { node_at self.old (names_above path.now) ≡ Some node.Dir }
+        requires parent { node_at self.old (names_above path.now) ≡ Some nodes.Dir }
         requires absent { found_at self.old path.now ≡ None }
         ensures ok { OnOk result (SetsNode (node_at self.old) (node_at self.new) path.now (Some node)) }
         ensures err { OnErr result (self.new ≡ self.old) }
