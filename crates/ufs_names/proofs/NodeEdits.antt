@@ -18,10 +18,6 @@ use Rattle.ufs_names.proofs.EntryEdits.{met_else}
 use Rattle.ufs_names.proofs.DetachLemmas.{gone}
 use Rattle.ufs_names.proofs.AttachLemmas.{now_below}
 
-pub is_below : (names : List (List ℕ)) → names ≢ [] → 0 < length names
-is_below [] h = absurd (h refl)
-is_below (x ∷ names) h = omega arith
-
 pub some_before : {A B : Type 0} (f : A → B) (o : Option A) → IsSome (option_map f o) → IsSome o
 some_before f (Some x) e = refl
 some_before f None e = e

@@ -1,8 +1,6 @@
 // Changes of a tree's directories.
 use crate::dir_entry::{give_room_at, put_at, take_number, take_out_at};
 use crate::dir_tree::{DIRECTORY, DirTree, FILE};
-use crate::found::Found;
-use ufs_dirs::DirBlocks;
 use ufs_layout::Dentry;
 use ufs_model::{Memory, Node};
 use ufs_path::PathText;
@@ -61,9 +59,10 @@ impl DirTree {
     {
         let old = self.parent(from);
         let new = self.parent(to);
-        self.clear_name(new, to.last())?;
+        let name = to.last();
+        self.clear_name(new, name)?;
         let entry = self.detach(old, from.last());
-        self.attach(new, to.last(), entry.inode, entry.kind);
+        self.attach(new, name, entry.inode, entry.kind);
         Ok(())
     }
 
