@@ -1,14 +1,14 @@
 -- What stands at each path once a name is moved: the new name is cleared, the old one is taken out, and what it stood
 -- for gets the new one.
-use Rattle.std.proofs.Common.{◌≡◌, ◌≢◌, ℕ, ◌⊎◌, inl, inr, List, [], ◌∷◌, ◌++◌, Option, Some, None, IsSome, ap, sym, refl, ◌∙◌, subst, append_assoc}
+use Rattle.std.proofs.Common.{◌≡◌, ◌≢◌, ℕ, ◌⊎◌, inl, inr, List, [], ◌∷◌, ◌++◌, Some, None, IsSome, ap, sym, refl, ◌∙◌, subst, append_assoc}
 use Rattle.std.specs.Option.{option_map}
 use Rattle.std.proofs.lemmas.Bool.{cases_eq}
 use Rattle.std.proofs.lemmas.List.{append-nil}
 use Rattle.ufs_layout.specs.DentryForm.{DentryForm}
 use Rattle.ufs_dirs.specs.Directory.{Directory, entry_of}
 use Rattle.ufs_names.specs.DirTable.{DirTable, IsDirTable, slots_at, found_of, walk_from, found_at, node_of, node_at}
-use Rattle.ufs_names.specs.DirCalls.{MayGo, MayMove, MovesNodes}
-use Rattle.ufs_names.specs.DirEdits.{SetsEntry, ClearsName, IsLoose, dir_in}
+use Rattle.ufs_names.specs.DirCalls.{MayMove, MovesNodes}
+use Rattle.ufs_names.specs.DirEdits.{SetsEntry, ClearsName, IsLoose}
 use Rattle.ufs_names.specs.declared.found.Found.{Found}
 use Rattle.ufs_names.specs.declared.found.Found.TheVariants.{Dir}
 use Rattle.ufs_names.proofs.Prefixes.{Begins, NotBegins, one_name, one_begins, no_more}

@@ -1,13 +1,12 @@
 -- What stands at each path once a name is given or taken.
-use Rattle.std.proofs.Common.{◌≡◌, ◌≢◌, ℕ, ◌-◌, ◌<◌, ◌⊎◌, inl, inr, List, [], ◌∷◌, ◌++◌, Option, Some, None, IsSome, length, take, ap, sym, refl, ◌∙◌, subst, arith, append_assoc}
+use Rattle.std.proofs.Common.{◌≡◌, ◌≢◌, ℕ, ◌⊎◌, inl, inr, List, [], ◌∷◌, ◌++◌, Option, Some, None, IsSome, ap, sym, refl, ◌∙◌, subst}
 use Rattle.std.specs.Option.{option_map}
 use Rattle.std.proofs.lemmas.List.{append-nil}
 use Rattle.ufs_layout.specs.DentryForm.{DentryForm}
 use Rattle.ufs_dirs.specs.Directory.{Directory, entry_of}
-use Rattle.ufs_model.specs.declared.data.Node.{Node}
 use Rattle.ufs_model.specs.declared.data.Node.TheVariants as node
 use Rattle.ufs_model.specs.Facts.Pieces.{last}
-use Rattle.ufs_names.specs.DirTable.{DirTable, IsDirTable, slots_at, found_of, step, walk_from, found_at, node_of, node_at}
+use Rattle.ufs_names.specs.DirTable.{DirTable, IsDirTable, slots_at, found_of, walk_from, found_at, node_of, node_at}
 use Rattle.ufs_names.specs.DirCalls.{names_above, IsBare, MayGo, SetsNode}
 use Rattle.ufs_names.specs.DirEdits.{SetsEntry, SameEntries, IsLoose}
 use Rattle.ufs_names.specs.declared.found.Found.{Found}

@@ -123,7 +123,6 @@ impl DirTree {
         requires loose { IsLoose self.old (Some (found_of (record { inode = inode; kind = kind; name = name.now }))) }
         ensures entries { SetsEntry self.old.dirs self.new.dirs dir name.now (Some (record { inode = inode; kind = kind; name = name.now })) }
         ensures free { self.new.free ≡ self.old.free }
-        ensures before { IsDirTable self.old }
     {
         put_at(
             &mut self.dirs,

@@ -1,4 +1,4 @@
-use Rattle.std.proofs.Common.{ℕ, Some, sym, ◌∙◌, subst}
+use Rattle.std.proofs.Common.{Some, sym, ◌∙◌, subst}
 use Rattle.ufs_model.specs.declared.data.Node.{Node}
 use Rattle.ufs_layout.specs.DentryForm.{DentryForm}
 use Rattle.ufs_names.specs.DirTable.{node_at}

@@ -1,11 +1,11 @@
-use Rattle.std.proofs.Common.{◌≡◌, ℕ, List, [], ◌∷◌, ◌++◌, ap, sym, ◌∙◌, subst}
+use Rattle.std.proofs.Common.{ℕ, List, [], ◌∷◌, ◌++◌, ap, sym, subst}
 use Rattle.ufs_layout.specs.DentryForm.{DentryForm}
 use Rattle.ufs_names.specs.DirTable.{found_of, node_at}
-use Rattle.ufs_names.specs.DirCalls.{names_above, MayMove, MovesNodes}
+use Rattle.ufs_names.specs.DirCalls.{names_above, MovesNodes}
 use Rattle.ufs_names.proofs.MoveEdits.{ends_at, met1_f, stands1, met2_g, absent2, moves_nodes}
 use Rattle.ufs_names.proofs.NodeEdits.{above_path_is_dir, entry_may_go}
 use Rattle.ufs_names.proofs.dir_tree.DirTree.rename.Goals as goal
-use Rattle.ufs_names.proofs.dir_tree.DirTree.rename.Goals.{After-last, After-entry, After-attach}
+use Rattle.ufs_names.proofs.dir_tree.DirTree.rename.Goals.{After-attach}
 
 pub parent-old-requires : goal.parent-old-requires
 parent-old-requires c = above_path_is_dir c.args.self.now c.args.from.now c.requires.from_below c.requires.stands
