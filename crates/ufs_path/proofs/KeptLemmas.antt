@@ -1,5 +1,5 @@
 -- The bytes of a whole path and the ends of its components.
-use Rattle.std.proofs.Common.{◌≡◌, ℕ, zero, suc, ◌+◌, ◌-◌, ◌≤◌, ◌<◌, List, [], ◌∷◌, ◌++◌, None, Some, slice_get, length, filter, take, drop, get_or, max, ap, sym, refl, subst, ◌∙◌, arith, length-append, append_assoc, drop-cons, slice_range, add-zero}
+use Rattle.std.proofs.Common.{◌≡◌, ℕ, zero, suc, ◌+◌, ◌-◌, ◌≤◌, ◌<◌, List, [], ◌∷◌, ◌++◌, None, Some, slice_get, length, filter, take, drop, get_or, max, ap, sym, refl, subst, ◌∙◌, arith, length-append, drop-cons, slice_range, add-zero}
 use Rattle.std.proofs.lemmas.List.{take-append-drop, take_more, take_all, get_or_default}
 use Rattle.std.proofs.lemmas.Option.{slice_get-get_or}
 use Rattle.std.proofs.lemmas.List.Elements.{filter-append}
@@ -10,12 +10,8 @@ use Rattle.ufs_model.specs.Facts.Allowed.{names_of_whole, whole_is}
 use Rattle.ufs_model.specs.Facts.Pieces.{is_some_name, components_of}
 use Rattle.ufs_path.specs.Names.{IsName}
 use Rattle.ufs_path.specs.Texts.{joined, ends_from, IsKept}
-use Rattle.ufs_path.proofs.SplitLemmas.{whole_path-joined}
+use Rattle.ufs_path.specs.Facts.Joined.{whole_path-joined, joined-append}
 use Rattle.ufs_path.proofs.NameLemmas.{components_may_stand, components_are_names, names_plain}
-
-pub joined-append : (xs ys : List (List ℕ)) → joined (xs ++ ys) ≡ joined xs ++ joined ys
-joined-append [] ys = refl
-joined-append (x ∷ xs) ys = ap (λ rest. (47 ∷ x) ++ rest) (joined-append xs ys) ∙ sym (append_assoc (47 ∷ x) (joined xs) (joined ys))
 
 pub ends_from-append : (at : ℕ) (xs ys : List (List ℕ)) → ends_from at (xs ++ ys) ≡ ends_from at xs ++ ends_from (at + length (joined xs)) ys
 ends_from-append at [] ys = ap (λ n. ends_from n ys) (sym (add-zero at))

@@ -10,7 +10,8 @@ use Rattle.ufs_model.specs.Facts.Allowed.{first_none, names_allowed}
 use Rattle.ufs_model.specs.Facts.Pieces.{IsPlain, ArePlain, is_free, is_some_name, components_plain, components_of}
 use Rattle.ufs_path.specs.Names.{IsName}
 use Rattle.ufs_path.specs.Texts.{joined}
-use Rattle.ufs_path.proofs.SplitLemmas.{components-joined, whole_path-joined}
+use Rattle.ufs_path.specs.Facts.Joined.{whole_path-joined}
+use Rattle.ufs_path.proofs.SplitLemmas.{components-joined}
 
 -- ---- one name
 

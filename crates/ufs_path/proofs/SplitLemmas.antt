@@ -1,17 +1,13 @@
 -- The pieces of a text between its slashes.
-use Rattle.std.proofs.Common.{◌≡◌, ℕ, List, [], ◌∷◌, ◌++◌, Bool, true, false, cond, not, ◌&&◌, eqb, length, filter, ap, sym, refl, ◌∙◌, arith}
+use Rattle.std.proofs.Common.{◌≡◌, ℕ, List, [], ◌∷◌, Bool, true, false, cond, not, ◌&&◌, eqb, length, filter, ap, sym, refl, ◌∙◌, arith}
 use Rattle.std.proofs.lemmas.Bool.{cond-true, lt-ltb}
-use Rattle.std.proofs.lemmas.List.{append-nil}
 use Rattle.std.specs.List.{list_all, onto_first}
-use Rattle.ufs_model.specs.Paths.{components, whole_path, has_component}
+use Rattle.ufs_model.specs.Paths.{components, has_component}
 use Rattle.ufs_model.specs.Facts.Pieces.{is_some_name, pieces, ArePlain, components_of}
 use Rattle.ufs_path.specs.Texts.{joined}
+use Rattle.ufs_path.specs.Facts.Joined.{whole_path-joined}
 
 -- ---- names that are joined
-
-pub whole_path-joined : (name : List ℕ) (names : List (List ℕ)) → whole_path (name ∷ names) ≡ joined (name ∷ names)
-whole_path-joined name [] = sym (append-nil (47 ∷ name))
-whole_path-joined name (next ∷ names) = ap (λ rest. (47 ∷ name) ++ rest) (whole_path-joined next names)
 
 pub components-joined : (name : List ℕ) (names : List (List ℕ)) → ArePlain (name ∷ names) → components (joined (name ∷ names)) ≡ name ∷ names
 components-joined name names h = ap components (sym (whole_path-joined name names)) ∙ components_of (name ∷ names) h
