@@ -12,7 +12,7 @@ use Rattle.std.specs.FinMap.{get-insert, get-remove, get-empty, entries}
 use Rattle.ufs_model.specs.Order.{path_cmp}
 use Rattle.ufs_model.specs.Directories.{is_entry_of, entry_count, has_entries}
 use Rattle.ufs_model.specs.Paths.{IsWhole}
-use Rattle.ufs_model.specs.PosixTree.{Paths, stands, is_node_of}
+use Rattle.ufs_model.specs.PosixTree.{Paths, is_node_of}
 use Rattle.ufs_model.specs.declared.data.Node.{Node}
 use Rattle.ufs_tree.specs.Counted.{CountsByFile, CountsByDir, count_at, IsCountedByPath}
 use Rattle.ufs_model.specs.Facts.Orders.{path_total, path_same}
@@ -38,13 +38,6 @@ none_counted paths dirs links p d l = record {
 }
 
 module _ (paths : Paths) (dirs : CountsByDir) (links : CountsByFile) (counted : IsCountedByPath paths dirs links) where
-  pub same_counted : (paths' : Paths) (dirs' : CountsByDir) (links' : CountsByFile) → paths' ≡ paths → ((d : List ℕ) → count_at dirs' d ≡ count_at dirs d) → ((f : ℕ) → count_at links' f ≡ count_at links f) → IsCountedByPath paths' dirs' links'
-  same_counted paths' dirs' links' p d l = record {
-    whole = λ path there. counted.whole path (ap (λ (m : Paths). stands m path) (sym p) ∙ there);
-    entries_are = λ dir. d dir ∙ counted.entries_are dir ∙ ap (λ (m : Paths). entry_count m dir) (sym p);
-    links_are = λ f. l f ∙ counted.links_are f ∙ ap (λ (m : Paths). links_of m f) (sym p);
-  }
-
   pub added_counted : (paths' : Paths) (dirs' : CountsByDir) (links' : CountsByFile) (path : List ℕ) (node : Node) → map.get paths path ≡ None → IsWhole path → paths' ≡ map.insert paths path node
       → ((d : List ℕ) → count_at dirs' d ≡ count_at dirs d + cond (is_entry_of d path) 1 0) → ((f : ℕ) → count_at links' f ≡ count_at links f + cond (is_node_of f node) 1 0) → IsCountedByPath paths' dirs' links'
   added_counted paths' dirs' links' path node none whole is d l = record {
