@@ -1,6 +1,6 @@
 -- Faults and the refusals of the model.
-use Rattle.std.proofs.Common.{◌≡◌, ℕ, ◌≤◌, List, [], ◌∷◌, ◌++◌, Bool, true, false, not, ◌&&◌, ◌-◌, ltb, eqb, length, filter, drop, get_or, suc, ◌+◌, ◌<◌, arith, Option, Some, None, IfSome, IsSome, ap, sym, subst, refl, ◌∙◌, option_and_then, drop-cons, add-one}
-use Rattle.std.proofs.lemmas.Bool.{ltb-false, eqb-true, cond-true, eq-eqb, le-ltb, eqb-false}
+use Rattle.std.proofs.Common.{◌≡◌, ℕ, ◌≤◌, List, [], ◌∷◌, Bool, true, false, not, ◌&&◌, ◌-◌, ltb, eqb, length, filter, drop, get_or, suc, ◌+◌, ◌<◌, arith, Option, Some, None, IfSome, IsSome, ap, sym, subst, refl, ◌∙◌, option_and_then, drop-cons, add-one}
+use Rattle.std.proofs.lemmas.Bool.{cond-true, eq-eqb, le-ltb, eqb-false}
 use Rattle.std.specs.List.{list_all}
 use Rattle.ufs_model.specs.declared.data.Errno.{Errno}
 use Rattle.ufs_model.specs.declared.data.Errno.TheVariants.{Einval, Enametoolong}
@@ -9,7 +9,8 @@ use Rattle.ufs_model.specs.Paths.{components, component_refusal, components_refu
 use Rattle.ufs_path.specs.declared.fault.PathFault.{PathFault}
 use Rattle.ufs_path.specs.declared.fault.PathFault.TheVariants.{NotAbsolute, TooLong, BadComponent, NameTooLong, TrailingSlash}
 use Rattle.ufs_path.specs.Faults.{first_of, fault_if, name_fault, names_fault, first_fault, errno_of}
-use Rattle.ufs_path.proofs.SplitLemmas.{is_some_name, some_bytes, pieces, has_component-components}
+use Rattle.ufs_model.specs.Facts.Pieces.{is_some_name, pieces}
+use Rattle.ufs_path.proofs.SplitLemmas.{some_bytes, has_component-components}
 
 -- ---- what a client is told
 
@@ -55,28 +56,6 @@ names_fault-filter [] = refl
 names_fault-filter ([] ∷ ps) = names_fault-filter ps
 names_fault-filter ((b ∷ p) ∷ ps) = ap names_fault (cond-true (is_some_name (b ∷ p)) _ _ (some_bytes b p)) ∙ ap (first_of (name_fault (b ∷ p))) (names_fault-filter ps)
 
--- ---- what a text that isn't refused is
-
-text_tests : (a l : Bool) (names last : Option Errno) → paths.first_of (refused_if (not a) Einval) (paths.first_of (refused_if l Enametoolong) (paths.first_of names last)) ≡ None → (a ≡ true) × (l ≡ false) × (names ≡ None)
-text_tests false l names last e = cc
-text_tests true true names last e = cc
-text_tests true false (Some f) last e = cc
-text_tests true false None last e = (refl, refl, refl)
-
-pub record IsAllowed (path : List ℕ) : Type 0 where
-  pub absolute : (bs : List ℕ) × (path ≡ 47 ∷ bs)
-  pub short : length path ≤ 1023
-  pub names : components_refusal (components path) ≡ None
-
-pub allowed : (path : List ℕ) → text_refusal path ≡ None → IsAllowed path
-allowed [] e = cc
-allowed (b ∷ bs) e =
-    let tests = text_tests (eqb b 47) (ltb 1023 (length (b ∷ bs))) (components_refusal (components (b ∷ bs))) _ e in record {
-      absolute = (bs, ap (λ c. c ∷ bs) (eqb-true b 47 tests.0));
-      short = ltb-false 1023 (length (b ∷ bs)) tests.1;
-      names = tests.2;
-    }
-
 -- ---- a look at the pieces in turn
 
 pub names_fault-components : (bs : List ℕ) → names_fault (components bs) ≡ names_fault (pieces bs)
@@ -95,11 +74,6 @@ pub passed : (o next : Option PathFault) → o ≡ None → first_of o next ≡ 
 passed o next e = ap (λ o. first_of o next) e
 
 -- ---- the end of a text
-
-pub ends_in_slash-last : (xs : List ℕ) (b : ℕ) → ends_in_slash (xs ++ b ∷ []) ≡ eqb b 47
-ends_in_slash-last [] b = refl
-ends_in_slash-last (x ∷ []) b = refl
-ends_in_slash-last (x ∷ y ∷ xs) b = ends_in_slash-last (y ∷ xs) b
 
 pub ends_in_slash-at : (text : List ℕ) → 1 ≤ length text → eqb (get_or text (length text - 1) 0) 47 ≡ ends_in_slash text
 ends_in_slash-at [] some = absurd (omega arith)

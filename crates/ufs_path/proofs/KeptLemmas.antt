@@ -1,18 +1,17 @@
 -- The bytes of a whole path and the ends of its components.
-use Rattle.std.proofs.Common.{◌≡◌, ℕ, zero, suc, ◌+◌, ◌-◌, ◌≤◌, ◌<◌, List, [], ◌∷◌, ◌++◌, None, Some, slice_get, length, filter, take, drop, get_or, max, ap, sym, refl, subst, ◌∙◌, arith, length-append, append_assoc, drop-cons, slice_range, add-zero, add-one}
+use Rattle.std.proofs.Common.{◌≡◌, ℕ, zero, suc, ◌+◌, ◌-◌, ◌≤◌, ◌<◌, List, [], ◌∷◌, ◌++◌, None, Some, slice_get, length, filter, take, drop, get_or, max, ap, sym, refl, subst, ◌∙◌, arith, length-append, drop-cons, slice_range, add-zero}
 use Rattle.std.proofs.lemmas.List.{take-append-drop, take_more, take_all, get_or_default}
 use Rattle.std.proofs.lemmas.Option.{slice_get-get_or}
 use Rattle.std.proofs.lemmas.List.Elements.{filter-append}
+use Rattle.std.proofs.Math.Seq.{take-append_seam, drop-append-add}
 use Rattle.std.specs.List.{AllByRecursion}
 use Rattle.ufs_model.specs.Paths.{components, whole_path, text_refusal, IsWhole}
+use Rattle.ufs_model.specs.Facts.Allowed.{names_of_whole, whole_is}
+use Rattle.ufs_model.specs.Facts.Pieces.{is_some_name, components_of}
 use Rattle.ufs_path.specs.Names.{IsName}
 use Rattle.ufs_path.specs.Texts.{joined, ends_from, IsKept}
-use Rattle.ufs_path.proofs.SplitLemmas.{is_some_name, whole_path-joined, components-whole_path}
-use Rattle.ufs_path.proofs.NameLemmas.{components_may_stand, components_are_names, names_plain, whole_of_text}
-
-pub joined-append : (xs ys : List (List ℕ)) → joined (xs ++ ys) ≡ joined xs ++ joined ys
-joined-append [] ys = refl
-joined-append (x ∷ xs) ys = ap (λ rest. (47 ∷ x) ++ rest) (joined-append xs ys) ∙ sym (append_assoc (47 ∷ x) (joined xs) (joined ys))
+use Rattle.ufs_path.specs.Facts.Joined.{whole_path-joined, joined-append}
+use Rattle.ufs_path.proofs.NameLemmas.{components_may_stand, components_are_names, names_plain}
 
 pub ends_from-append : (at : ℕ) (xs ys : List (List ℕ)) → ends_from at (xs ++ ys) ≡ ends_from at xs ++ ends_from (at + length (joined xs)) ys
 ends_from-append at [] ys = ap (λ n. ends_from n ys) (sym (add-zero at))
@@ -46,21 +45,6 @@ parted names i d below =
     ap joined (sym (take-append-drop i names)) ∙ joined-append (take i names) (drop i names)
     ∙ ap (λ rest. joined (take i names) ++ joined rest) (drop-cons names i d below)
 
-drop_front : (xs ys : List ℕ) → drop (length xs) (xs ++ ys) ≡ ys
-drop_front [] ys = refl
-drop_front (x ∷ xs) ys = drop_front xs ys
-
-take_front : (xs ys : List ℕ) → take (length xs) (xs ++ ys) ≡ xs
-take_front [] ys = refl
-take_front (x ∷ xs) ys = ap (λ rest. x ∷ rest) (take_front xs ys)
-
-drop_past_suc : (xs : List ℕ) (b : ℕ) (ys : List ℕ) → drop (suc (length xs)) (xs ++ b ∷ ys) ≡ ys
-drop_past_suc [] b ys = refl
-drop_past_suc (x ∷ xs) b ys = drop_past_suc xs b ys
-
-drop_past : (xs : List ℕ) (b : ℕ) (ys : List ℕ) → drop (length xs + 1) (xs ++ b ∷ ys) ≡ ys
-drop_past xs b ys = ap (λ n. drop n (xs ++ b ∷ ys)) (add-one (length xs)) ∙ drop_past_suc xs b ys
-
 length_parted : (names : List (List ℕ)) (i : ℕ) (d : List ℕ) → i < length names → length (joined (take (suc i) names)) ≡ length (joined (take i names)) + 1 + length (get_or names i d)
 length_parted [] i d below = absurd (omega arith)
 length_parted (name ∷ names) zero d below = omega (arith, length-append name [])
@@ -75,8 +59,8 @@ part-joined names i d below =
     let size : length (joined (take (suc i) names)) - (length front + 1) ≡ length name = omega (arith, length_parted names i d below) in
     ap (λ n. take n (drop (length front + 1) (joined names))) size
     ∙ ap (λ bytes. take (length name) (drop (length front + 1) bytes)) (parted names i d below)
-    ∙ ap (take (length name)) (drop_past front 47 (name ++ rest))
-    ∙ take_front name rest
+    ∙ ap (take (length name)) (drop-append-add front (47 ∷ (name ++ rest)) 1)
+    ∙ take-append_seam name rest
 
 pub ends_within : (names : List (List ℕ)) (count : ℕ) → length (joined (take count names)) ≤ length (joined names)
 ends_within names count =
@@ -85,7 +69,7 @@ ends_within names count =
 pub front-joined : (names : List (List ℕ)) (count : ℕ) → take (length (joined (take count names))) (joined names) ≡ joined (take count names)
 front-joined names count =
     ap (take (length (joined (take count names)))) (ap joined (sym (take-append-drop count names)) ∙ joined-append (take count names) (drop count names))
-    ∙ take_front (joined (take count names)) (joined (drop count names))
+    ∙ take-append_seam (joined (take count names)) (joined (drop count names))
 
 first_slash : (names : List (List ℕ)) → (1 ≤ length (whole_path names)) × (take 1 (whole_path names) ≡ 47 ∷ [])
 first_slash [] = (omega arith, refl)
@@ -149,9 +133,6 @@ module _ (bytes ends : List ℕ) (names : List (List ℕ)) (kept : IsKept bytes 
 
 -- ---- to read a text piece by piece
 
-pub named : List (List ℕ) → List (List ℕ)
-named ps = filter is_some_name ps
-
 pub joined-next : (ps : List (List ℕ)) (k : ℕ) (p : List ℕ) → k < length ps → p ≡ get_or ps k p → joined (filter is_some_name (take (k + 1) ps)) ≡ joined (filter is_some_name (take k ps)) ++ joined (filter is_some_name (p ∷ []))
 joined-next ps k p below is =
     ap (λ qs. joined (filter is_some_name qs)) (take_more ps k p below)
@@ -172,15 +153,15 @@ ends-next ps k p below is =
 kept_by : (bytes ends : List ℕ) (names : List (List ℕ)) → AllByRecursion IsName names → IsWhole (whole_path names) → bytes ≡ whole_path names → ends ≡ ends_from 0 names → IsKept bytes ends
 kept_by bytes ends names each whole e f = record {
   whole = subst IsWhole (sym e) whole;
-  ends_are = f ∙ ap (ends_from 0) (sym (components-whole_path names (names_plain names each)) ∙ ap components (sym e));
+  ends_are = f ∙ ap (ends_from 0) (sym (components_of names (names_plain names each)) ∙ ap components (sym e));
 }
 
 -- what was read of a text that isn't refused
 pub kept_of_text : (path bytes ends : List ℕ) → text_refusal path ≡ None → bytes ≡ whole_path (components path) → ends ≡ ends_from 0 (components path) → IsKept bytes ends
-kept_of_text path bytes ends e b f = kept_by bytes ends (components path) (components_are_names path e) (whole_of_text path e) b f
+kept_of_text path bytes ends e b f = kept_by bytes ends (components path) (components_are_names path e) (whole_is path e) b f
 
 pub components_of_whole : (path bytes : List ℕ) → text_refusal path ≡ None → bytes ≡ whole_path (components path) → components bytes ≡ components path
-components_of_whole path bytes e b = ap components b ∙ components-whole_path (components path) (names_plain (components path) (components_are_names path e))
+components_of_whole path bytes e b = ap components b ∙ names_of_whole path
 
 -- the root's path has one slash, and every other path is there as it is
 pub whole_path-some : (bytes : List ℕ) (names : List (List ℕ)) → bytes ≡ joined names → (length bytes ≡ 0 → ⊥) → bytes ≡ whole_path names

@@ -1,15 +1,17 @@
 -- Names that may stand in a path, and the refusals of the model.
-use Rattle.std.proofs.Common.{◌≡◌, ℕ, ◌≤◌, ◌<◌, List, [], ◌∷◌, ◌++◌, Bool, true, false, not, ltb, length, Option, Some, None, ap, refl, ◌∙◌, subst, arith}
+use Rattle.std.proofs.Common.{◌≡◌, ℕ, ◌≤◌, ◌<◌, List, [], ◌∷◌, ◌++◌, Bool, true, false, not, ltb, length, Option, None, ap, refl, ◌∙◌, subst, arith}
 use Rattle.std.proofs.lemmas.Bool.{not-true, ltb-false, ltb-true, le-ltb, lt-ltb, and_parts}
 use Rattle.std.proofs.lemmas.List.{append-nil}
 use Rattle.std.specs.List.{list_all, AllByRecursion}
 use Rattle.ufs_model.specs.declared.data.Errno.{Errno}
 use Rattle.ufs_model.specs.declared.data.Errno.TheVariants.{Einval, Enametoolong}
 use Rattle.ufs_model.specs.Paths.{components, component_refusal, components_refusal, text_refusal, refused_if, first_of, in_range, is_dots, ends_in_slash, whole_path, IsWhole}
+use Rattle.ufs_model.specs.Facts.Allowed.{first_none, names_allowed}
+use Rattle.ufs_model.specs.Facts.Pieces.{IsPlain, ArePlain, is_free, is_some_name, components_plain, components_of}
 use Rattle.ufs_path.specs.Names.{IsName}
 use Rattle.ufs_path.specs.Texts.{joined}
-use Rattle.ufs_path.proofs.SplitLemmas.{IsPlain, is_free, is_some_name, all_map, all_map₂, components_plain, components-joined, components-whole_path, whole_path-joined}
-use Rattle.ufs_path.proofs.FaultLemmas.{allowed}
+use Rattle.ufs_path.specs.Facts.Joined.{whole_path-joined}
+use Rattle.ufs_path.proofs.SplitLemmas.{components-joined}
 
 -- ---- one name
 
@@ -37,30 +39,27 @@ name_allowed name h = rw (h.printable, h.no_dots, le-ltb 58 (length name) h.shor
 
 -- ---- names
 
-first_none : (a b : Option Errno) → first_of a b ≡ None → (a ≡ None) × (b ≡ None)
-first_none None b e = (refl, e)
-first_none (Some f) b e = cc
-
-each_allowed : (names : List (List ℕ)) → components_refusal names ≡ None → AllByRecursion (λ name. component_refusal name ≡ None) names
-each_allowed [] e = tt
-each_allowed (name ∷ names) e =
-    let both = first_none (component_refusal name) (components_refusal names) e in
-    (both.0, each_allowed names both.1)
-
 all_allowed : (names : List (List ℕ)) → AllByRecursion IsName names → components_refusal names ≡ None
 all_allowed [] h = refl
 all_allowed (name ∷ names) h = ap (λ (o : Option Errno). first_of o (components_refusal names)) (name_allowed name h.0) ∙ all_allowed names h.1
 
+each_name : (names : List (List ℕ)) → ArePlain names → components_refusal names ≡ None → AllByRecursion IsName names
+each_name [] plain e = tt
+each_name (name ∷ names) plain e =
+    let both = first_none (component_refusal name) (components_refusal names) e in
+    (is_name name plain.0 both.0, each_name names plain.1 both.1)
+
 -- components that aren't refused may stand in a path
 pub components_may_stand : (path : List ℕ) → components_refusal (components path) ≡ None → AllByRecursion IsName (components path)
-components_may_stand path e = all_map₂ IsPlain (λ name. component_refusal name ≡ None) IsName is_name (components path) (components_plain path) (each_allowed (components path) e)
+components_may_stand path e = each_name (components path) (components_plain path) e
 
 -- so those of a text that isn't refused may
 pub components_are_names : (path : List ℕ) → text_refusal path ≡ None → AllByRecursion IsName (components path)
-components_are_names path e = components_may_stand path (allowed path e).names
+components_are_names path e = components_may_stand path (names_allowed path e)
 
-pub names_plain : (names : List (List ℕ)) → AllByRecursion IsName names → AllByRecursion IsPlain names
-names_plain names h = all_map IsName IsPlain plain_name names h
+pub names_plain : (names : List (List ℕ)) → AllByRecursion IsName names → ArePlain names
+names_plain [] h = tt
+names_plain (name ∷ names) h = (plain_name name h.0, names_plain names h.1)
 
 -- ---- the end of a whole path
 
@@ -79,7 +78,7 @@ after_slash : (name rest : List ℕ) → is_some_name name ≡ true → ends_in_
 after_slash [] rest e = absurd (let h : 0 < 0 = ltb-true 0 0 e in omega arith)
 after_slash (b ∷ name) rest e = refl
 
-no_end_joined : (name : List ℕ) (names : List (List ℕ)) → AllByRecursion IsPlain (name ∷ names) → ends_in_slash (name ++ joined names) ≡ false
+no_end_joined : (name : List ℕ) (names : List (List ℕ)) → ArePlain (name ∷ names) → ends_in_slash (name ++ joined names) ≡ false
 no_end_joined name [] h = ap ends_in_slash (append-nil name) ∙ no_end name h.0.free
 no_end_joined name (next ∷ names) h =
     end_of_rest name 47 (next ++ joined names) ∙ after_slash next (joined names) h.1.0.some ∙ no_end_joined next names h.1
@@ -101,11 +100,7 @@ whole_allowed (name ∷ names) h short =
 -- a whole path of any length may stand in a tree
 pub whole_of_names : (names : List (List ℕ)) → AllByRecursion IsName names → IsWhole (whole_path names)
 whole_of_names names h =
-    let pieces = components-whole_path names (names_plain names h) in record {
+    let pieces = components_of names (names_plain names h) in record {
       spelled = ap whole_path pieces;
       allowed = ap components_refusal pieces ∙ all_allowed names h;
     }
-
--- the whole path of a text that isn't refused
-pub whole_of_text : (path : List ℕ) → text_refusal path ≡ None → IsWhole (whole_path (components path))
-whole_of_text path e = whole_of_names (components path) (components_are_names path e)

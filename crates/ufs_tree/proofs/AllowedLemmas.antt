@@ -1,38 +1,23 @@
 -- What a request that isn't refused finds.
-use Rattle.std.proofs.Common.{◌≡◌, ℕ, List, Bool, true, false, Option, Some, None, is_some, is_none, ◌||◌, refl}
+use Rattle.std.proofs.Common.{◌≡◌, ℕ, List, true, false, Option, Some, None, is_some, is_none, ◌||◌, refl}
 use Rattle.ufs_model.specs.Paths.{text_refusal, is_root, first_of, refused_if}
 use Rattle.ufs_model.specs.PosixTree.{PosixTree}
 use Rattle.ufs_model.specs.Walk.{walk_refusal, node_at}
 use Rattle.ufs_model.specs.Refusals.{refusal, rename_refusal}
-use Rattle.ufs_model.specs.declared.data.Errno.{Errno}
+use Rattle.ufs_model.specs.Facts.Allowed.{first_none, passed}
+use Rattle.ufs_tree.proofs.RisingLemmas.{unfound}
 use Rattle.ufs_model.specs.declared.data.Errno.TheVariants.{Eexist, Ebusy, Enoent}
 use Rattle.ufs_model.specs.declared.data.Op.TheVariants as op
-
-first_none : (a b : Option Errno) → first_of a b ≡ None → (a ≡ None) × (b ≡ None)
-first_none None b e = (refl, e)
-first_none (Some f) b e = cc
-
-passed : (b : Bool) (f : Errno) → refused_if b f ≡ None → b ≡ false
-passed true f e = cc
-passed false f e = refl
-
-absent : {A : Type 0} (o : Option A) → is_some o ≡ false → o ≡ None
-absent None e = refl
-absent (Some x) e = cc
 
 there : {A : Type 0} (o : Option A) → is_none o ≡ false → is_some o ≡ true
 there None e = cc
 there (Some x) e = refl
 
-neither : (a b : Bool) → (a || b) ≡ false → (a ≡ false) × (b ≡ false)
-neither true b e = cc
-neither false b e = (refl, e)
-
 pub nothing_there : (t : PosixTree) (client : ℕ) (path : List ℕ) → refusal t client (op.Mkdir path) ≡ None → node_at t.paths path ≡ None
 nothing_there t client path e =
     let own = first_none (text_refusal path) _ e in
     let walk = first_none (walk_refusal t.paths path) (refused_if (is_some (node_at t.paths path)) Eexist) own.1 in
-    absent (node_at t.paths path) (passed _ Eexist walk.1)
+    unfound (node_at t.paths path) (passed _ Eexist walk.1)
 
 pub old_name_there : (t : PosixTree) (client : ℕ) (from to : List ℕ) → refusal t client (op.Rename from to) ≡ None → is_some (node_at t.paths from) ≡ true
 old_name_there t client from to e =

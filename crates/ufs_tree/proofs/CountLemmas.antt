@@ -1,15 +1,16 @@
 -- How many entries of a map pass a test, as its keys come and go.
-use Rattle.std.proofs.Common.{◌≡◌, ℕ, ◌+◌, List, [], ◌∷◌, Bool, true, false, cond, Some, None, ap, sym, refl, ◌∙◌, arith, ltb, ◌||◌, length, filter}
+use Rattle.std.proofs.Common.{◌≡◌, ℕ, ◌+◌, List, [], ◌∷◌, Bool, true, false, cond, Some, None, ap, sym, refl, ◌∙◌, arith, ltb, ◌||◌}
 use Rattle.std.specs.declared.cmp.Ordering.{Ordering}
 use Rattle.std.specs.declared.cmp.Ordering.TheVariants.{Less, Equal, Greater}
 use Rattle.std.specs.List.{count_by, list_any}
 use Rattle.std.specs.Ordering.{is_eq, eq_by_cmp}
-use Rattle.std.specs.Cmp.{IsTotalOrder, eq_by_cmp_equiv}
+use Rattle.std.specs.Cmp.{IsTotalOrder}
 use Rattle.std.specs.Map.{keys_of, values_of}
 use Rattle.std.specs.FinMap.{FinMap, IsAntisymmetric, get, insert, remove, find, put, entries, entries-insert, get-entries, get-insert, get-remove, get_tied, same_map}
 use Rattle.std.specs.FinMap.Entries.{by_order}
 use Rattle.std.proofs.lemmas.List.Sums.{sum_by-cons}
 use Rattle.std.proofs.lemmas.Bool.{lt-ltb}
+use Rattle.ufs_model.specs.Facts.Lookups.{removed_here}
 
 module _ {X : Type 0} (p : X → Bool) where
   -- one where the value passes
@@ -45,9 +46,6 @@ module _ {K X : Type 0} (R : K → K → Ordering) (p : K × X → Bool) where
     pub count-insert : (m : FinMap R X) (k : K) (v : X) → get m k ≡ None → count_by p (entries (insert m k v)) ≡ count_by p (entries m) + one_if p (k, v)
     count-insert m k v none = ap (count_by p) (entries-insert o m k v) ∙ count-put k v (entries m) (sym (get-entries m k) ∙ none)
 
-    get_removed : (m : FinMap R X) (k : K) → get (remove m k) k ≡ None
-    get_removed m k = get-remove o m k k ∙ ap (λ b. cond b None (get m k)) ((eq_by_cmp_equiv o).refl k)
-
     module _ (same : IsAntisymmetric R) where
       -- the same value is put back
       put_back : (m : FinMap R X) (k : K) (v : X) → get m k ≡ Some v → insert (remove m k) k v ≡ m
@@ -68,12 +66,12 @@ module _ {K X : Type 0} (R : K → K → Ordering) (p : K × X → Bool) where
           both q Greater = refl
 
       pub count-remove : (m : FinMap R X) (k : K) (v : X) → get m k ≡ Some v → count_by p (entries m) ≡ count_by p (entries (remove m k)) + one_if p (k, v)
-      count-remove m k v there = ap (λ m. count_by p (entries m)) (sym (put_back m k v there)) ∙ count-insert (remove m k) k v (get_removed m k)
+      count-remove m k v there = ap (λ m. count_by p (entries m)) (sym (put_back m k v there)) ∙ count-insert (remove m k) k v (removed_here o same m k)
 
       pub count-replace : (m : FinMap R X) (k : K) (old v : X) → get m k ≡ Some old → count_by p (entries (insert m k v)) + one_if p (k, old) ≡ count_by p (entries m) + one_if p (k, v)
       count-replace m k old v there =
           let removed = count-remove m k old there in
-          let anew = ap (λ m. count_by p (entries m)) (sym (put_anew m k v)) ∙ count-insert (remove m k) k v (get_removed m k) in
+          let anew = ap (λ m. count_by p (entries m)) (sym (put_anew m k v)) ∙ count-insert (remove m k) k v (removed_here o same m k) in
           omega arith
 
 -- ---- of the values, and of the keys
@@ -86,11 +84,3 @@ module _ {K X : Type 0} where
   pub count-keys : (p : K → Bool) (es : List (K × X)) → count_by p (keys_of es) ≡ count_by (λ (e : K × X). p e.0) es
   count-keys p [] = refl
   count-keys p (e ∷ es) = count-cons p e.0 (keys_of es) ∙ ap (λ n. one_if p e.0 + n) (count-keys p es) ∙ sym (count-cons (λ (e : K × X). p e.0) e es)
-
-pub length-filtered : {X : Type 0} (p : X → Bool) (xs : List X) → length (filter p xs) ≡ count_by p xs
-length-filtered p [] = refl
-length-filtered p (x ∷ xs) = pick (p x) (length-filtered p xs) ∙ sym (count-cons p x xs)
-  where
-    pick : (b : Bool) → length (filter p xs) ≡ count_by p xs → length (cond b (x ∷ filter p xs) (filter p xs)) ≡ cond b 1 0 + count_by p xs
-    pick true e = omega (arith, e)
-    pick false e = omega (arith, e)

@@ -1,5 +1,6 @@
 -- The counts of a map of paths, as paths come and go.
 use Rattle.std.proofs.Common.{◌≡◌, ◌≤◌, ℕ, ◌+◌, ◌-◌, List, Bool, true, false, cond, Some, None, ap, sym, refl, subst, ◌∙◌, arith, ltb, length, filter}
+use Rattle.std.proofs.lemmas.List.Sums.{length-filter}
 use Rattle.std.specs.Prelude.{is_some}
 use Rattle.std.specs.declared.cmp.Ordering.{Ordering}
 use Rattle.std.specs.declared.cmp.Ordering.TheVariants.{Less, Equal, Greater}
@@ -11,19 +12,19 @@ use Rattle.std.specs.FinMap.{get-insert, get-remove, get-empty, entries}
 use Rattle.ufs_model.specs.Order.{path_cmp}
 use Rattle.ufs_model.specs.Directories.{is_entry_of, entry_count, has_entries}
 use Rattle.ufs_model.specs.Paths.{IsWhole}
-use Rattle.ufs_model.specs.PosixTree.{Paths, stands, is_node_of}
+use Rattle.ufs_model.specs.PosixTree.{Paths, is_node_of}
 use Rattle.ufs_model.specs.declared.data.Node.{Node}
 use Rattle.ufs_tree.specs.Counted.{CountsByFile, CountsByDir, count_at, IsCountedByPath}
 use Rattle.ufs_model.specs.Facts.Orders.{path_total, path_same}
 use Rattle.ufs_model.specs.Facts.Rising.{entries-empty}
-use Rattle.ufs_tree.proofs.CountLemmas.{any-count, count-insert, count-remove, count-replace, count-values, count-keys, length-filtered}
+use Rattle.ufs_tree.proofs.CountLemmas.{any-count, count-insert, count-remove, count-replace, count-values, count-keys}
 use Rattle.ufs_tree.proofs.HolderLemmas.{no_count}
 
 abbrev links_of : Paths → ℕ → ℕ
 links_of paths f = count_by (is_node_of f) (map.values paths)
 
 entries_counted : (paths : Paths) (d : List ℕ) → entry_count paths d ≡ count_by (λ (e : List ℕ × Node). is_entry_of d e.0) (entries paths)
-entries_counted paths d = length-filtered (is_entry_of d) (map.keys paths) ∙ count-keys (is_entry_of d) (entries paths)
+entries_counted paths d = length-filter (is_entry_of d) (map.keys paths) ∙ count-keys (is_entry_of d) (entries paths)
 
 links_counted : (paths : Paths) (f : ℕ) → links_of paths f ≡ count_by (λ (e : List ℕ × Node). is_node_of f e.1) (entries paths)
 links_counted paths f = count-values (is_node_of f) (entries paths)
@@ -37,13 +38,6 @@ none_counted paths dirs links p d l = record {
 }
 
 module _ (paths : Paths) (dirs : CountsByDir) (links : CountsByFile) (counted : IsCountedByPath paths dirs links) where
-  pub same_counted : (paths' : Paths) (dirs' : CountsByDir) (links' : CountsByFile) → paths' ≡ paths → ((d : List ℕ) → count_at dirs' d ≡ count_at dirs d) → ((f : ℕ) → count_at links' f ≡ count_at links f) → IsCountedByPath paths' dirs' links'
-  same_counted paths' dirs' links' p d l = record {
-    whole = λ path there. counted.whole path (ap (λ (m : Paths). stands m path) (sym p) ∙ there);
-    entries_are = λ dir. d dir ∙ counted.entries_are dir ∙ ap (λ (m : Paths). entry_count m dir) (sym p);
-    links_are = λ f. l f ∙ counted.links_are f ∙ ap (λ (m : Paths). links_of m f) (sym p);
-  }
-
   pub added_counted : (paths' : Paths) (dirs' : CountsByDir) (links' : CountsByFile) (path : List ℕ) (node : Node) → map.get paths path ≡ None → IsWhole path → paths' ≡ map.insert paths path node
       → ((d : List ℕ) → count_at dirs' d ≡ count_at dirs d + cond (is_entry_of d path) 1 0) → ((f : ℕ) → count_at links' f ≡ count_at links f + cond (is_node_of f node) 1 0) → IsCountedByPath paths' dirs' links'
   added_counted paths' dirs' links' path node none whole is d l = record {
@@ -108,7 +102,7 @@ module _ (paths : Paths) (dirs : CountsByDir) (links : CountsByFile) (counted : 
 
   -- a directory has entries exactly where its count isn't 0
   pub entries_by_count : (dir : List ℕ) (n : ℕ) → n ≡ count_at dirs dir → ltb 0 n ≡ has_entries paths dir
-  entries_by_count dir n is = ap (ltb 0) (is ∙ counted.entries_are dir ∙ length-filtered (is_entry_of dir) (map.keys paths)) ∙ sym (any-count (is_entry_of dir) (map.keys paths))
+  entries_by_count dir n is = ap (ltb 0) (is ∙ counted.entries_are dir ∙ length-filter (is_entry_of dir) (map.keys paths)) ∙ sym (any-count (is_entry_of dir) (map.keys paths))
 
   -- and so is a file named
   pub named_by_count : (f n : ℕ) → n ≡ count_at links f → ltb 0 n ≡ list_any (is_node_of f) (map.values paths)

@@ -16,7 +16,8 @@ use Rattle.ufs_model.specs.PosixTree.{Fds, is_desc_of, is_number}
 use Rattle.ufs_model.specs.declared.data.Desc.{Desc}
 use Rattle.ufs_tree.specs.Counted.{CountsByFile, CountsByDir, count_at, IsCountedByDesc}
 use Rattle.ufs_model.specs.Facts.Lookups.{tied}
-use Rattle.ufs_model.specs.Facts.Orders.{fd_total, fd_same, path_total, path_same}
+use Rattle.ufs_model.specs.Facts.Orders.{fd_total, fd_same, path_total}
+use Rattle.ufs_model.specs.Facts.Pieces.{same_bytes}
 use Rattle.ufs_model.specs.Facts.Rising.{entries-empty}
 use Rattle.ufs_tree.proofs.CountLemmas.{one_if, any-count, count-insert, count-remove, count-replace, count-values}
 
@@ -30,9 +31,6 @@ number_ties a b =
 -- and so do two paths
 pub path_ties : (a b : List ℕ) → eq_by_cmp path_cmp a b ≡ bytes_eq b a
 path_ties a b = (eq_by_cmp_equiv path_total).symm a b ∙ is_eq-slice_cmp b a
-
-pub path_is : (a b : List ℕ) → bytes_eq a b ≡ true → a ≡ b
-path_is a b e = path_same a b (tied (path_cmp a b) (is_eq-slice_cmp a b ∙ e))
 
 -- ---- one count more or less
 
@@ -86,13 +84,13 @@ count_less = less nat_cmp_total eqb number_ties eqb-true
 
 -- the same of a directory
 pub dir_more : (counts counts' : CountsByDir) (d : List ℕ) (n : ℕ) → n ≡ count_at counts d + 1 → counts' ≡ map.insert counts d n → (g : List ℕ) → count_at counts' g ≡ count_at counts g + cond (bytes_eq d g) 1 0
-dir_more = more path_total bytes_eq path_ties path_is
+dir_more = more path_total bytes_eq path_ties same_bytes
 
 pub dir_last : (counts counts' : CountsByDir) (d : List ℕ) (n : ℕ) → n ≡ count_at counts d → n ≤ 1 → counts' ≡ map.remove counts d → (g : List ℕ) → count_at counts' g ≡ count_at counts g - cond (bytes_eq d g) 1 0
-dir_last = last path_total bytes_eq path_ties path_is
+dir_last = last path_total bytes_eq path_ties same_bytes
 
 pub dir_less : (counts counts' : CountsByDir) (d : List ℕ) (n : ℕ) → n ≡ count_at counts d → counts' ≡ map.insert counts d (n - 1) → (g : List ℕ) → count_at counts' g ≡ count_at counts g - cond (bytes_eq d g) 1 0
-dir_less = less path_total bytes_eq path_ties path_is
+dir_less = less path_total bytes_eq path_ties same_bytes
 
 -- a count above 0 is there
 pub count_there : {K : Type 0} {R : K → K → Ordering} (counts : FinMap R ℕ) (k : K) (n : ℕ) → n ≡ count_at counts k → 2 ≤ n → IsSome (map.get counts k)

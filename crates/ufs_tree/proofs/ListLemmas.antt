@@ -1,15 +1,6 @@
 -- Lists: what holds of all items, and what stands round a place.
-use Rattle.std.proofs.Common.{◌≡◌, ℕ, zero, suc, ◌+◌, ◌<◌, List, [], ◌∷◌, ◌++◌, Bool, true, false, cond, length, filter, take, drop, get_or, All, ap, sym, refl, ◌∙◌, arith, drop-cons, add-one, take-append-drop}
+use Rattle.std.proofs.Common.{◌≡◌, ℕ, zero, suc, ◌+◌, ◌<◌, List, [], ◌∷◌, ◌++◌, Bool, true, false, cond, length, filter, take, drop, get_or, ap, sym, ◌∙◌, drop-cons, add-one, take-append-drop}
 use Rattle.std.specs.List.{AllByRecursion}
-
-pub all_from_recursion : {X : Type 0} (P : X → Type 0) (xs : List X) → AllByRecursion P xs → All P xs
-all_from_recursion P [] h k d below = absurd (omega arith)
-all_from_recursion P (x ∷ xs) h zero d below = h.0
-all_from_recursion P (x ∷ xs) h (suc k) d below = all_from_recursion P xs h.1 k d (omega arith)
-
-pub recursion_from_all : {X : Type 0} (P : X → Type 0) (xs : List X) → All P xs → AllByRecursion P xs
-recursion_from_all P [] h = tt
-recursion_from_all P (x ∷ xs) h = (h 0 x (omega arith), recursion_from_all P xs (λ k d below. h (suc k) d (omega arith)))
 
 pub all_map : {X : Type 0} (P R : X → Type 0) → ((x : X) → P x → R x) → (xs : List X) → AllByRecursion P xs → AllByRecursion R xs
 all_map P R f [] p = tt
@@ -31,15 +22,6 @@ all_filter P p (x ∷ xs) h = by (p x) (all_filter P p xs h.1)
     by : (b : Bool) → AllByRecursion P (filter p xs) → AllByRecursion P (cond b (x ∷ filter p xs) (filter p xs))
     by true rest = (h.0, rest)
     by false rest = rest
-
--- each item that a filter keeps passes
-pub all_passing : {X : Type 0} (p : X → Bool) (xs : List X) → AllByRecursion (λ x. p x ≡ true) (filter p xs)
-all_passing p [] = tt
-all_passing p (x ∷ xs) = by (p x) refl (all_passing p xs)
-  where
-    by : (b : Bool) → p x ≡ b → AllByRecursion (λ x. p x ≡ true) (filter p xs) → AllByRecursion (λ x. p x ≡ true) (cond b (x ∷ filter p xs) (filter p xs))
-    by true e rest = (e, rest)
-    by false e rest = rest
 
 -- the items from a place on
 pub from_place : {X : Type 0} (xs : List X) (i : ℕ) (d : X) → i < length xs → drop i xs ≡ get_or xs i d ∷ drop (i + 1) xs

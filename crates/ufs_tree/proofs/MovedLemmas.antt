@@ -1,6 +1,7 @@
 -- Nodes that are put at paths and taken away, one at a time.
 use Rattle.std.proofs.Common.{◌≡◌, ℕ, ◌+◌, ◌<◌, List, [], ◌∷◌, ◌++◌, Bool, true, false, cond, length, get_or, take, drop, All, Option, Some, None, ap, sym, refl, ◌∙◌}
 use Rattle.std.proofs.lemmas.List.{take_more}
+use Rattle.std.proofs.lemmas.List.Elements.{recursion_from_All}
 use Rattle.std.specs.Prelude.{is_some}
 use Rattle.std.specs.List.{AllByRecursion}
 use Rattle.std.specs.Ordering.{eq_by_cmp}
@@ -10,17 +11,17 @@ use Rattle.ufs_model.specs.Order.{path_cmp}
 use Rattle.ufs_model.specs.PosixTree.{Paths}
 use Rattle.ufs_model.specs.declared.data.Node.{Node}
 use Rattle.ufs_tree.specs.Moved.{or_else, put_over, taken_away}
-use Rattle.ufs_model.specs.Facts.Lookups.{tied}
+use Rattle.ufs_model.specs.Facts.Lookups.{one_key}
 use Rattle.ufs_model.specs.Facts.Orders.{path_total, path_same}
-use Rattle.ufs_tree.proofs.RisingLemmas.{find-earlier}
-use Rattle.ufs_tree.proofs.ListLemmas.{all_take, recursion_from_all, round_place}
+use Rattle.ufs_model.specs.Facts.Rising.{find-earlier}
+use Rattle.ufs_tree.proofs.ListLemmas.{all_take, round_place}
 use Rattle.ufs_tree.proofs.NameLemmas.{Nodes}
 
 abbrev pub ties : List ℕ → List ℕ → Bool
 ties p q = eq_by_cmp path_cmp p q
 
 pub tie_is : (p q : List ℕ) → ties p q ≡ true → p ≡ q
-tie_is p q e = path_same p q (tied (path_cmp p q) e)
+tie_is = one_key path_total path_same
 
 -- ---- one more at the end of a list
 
@@ -108,4 +109,4 @@ undone_list m start done xs absent put taken = same_map path_total path_same don
 pub undone : (m start done : Paths) (nodes : Nodes) (i : ℕ) → All (λ (e : List ℕ × Node). map.get start e.0 ≡ None) nodes
     → ((q : List ℕ) → map.get m q ≡ put_over (take i nodes) (map.get start q) q) → ((q : List ℕ) → map.get done q ≡ taken_away (take i nodes) (map.get m q) q) → done ≡ start
 undone m start done nodes i absent =
-    undone_list m start done (take i nodes) (all_take (λ (e : List ℕ × Node). map.get start e.0 ≡ None) i nodes (recursion_from_all (λ (e : List ℕ × Node). map.get start e.0 ≡ None) nodes absent))
+    undone_list m start done (take i nodes) (all_take (λ (e : List ℕ × Node). map.get start e.0 ≡ None) i nodes (recursion_from_All (λ (e : List ℕ × Node). map.get start e.0 ≡ None) nodes absent))

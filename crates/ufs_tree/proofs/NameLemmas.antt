@@ -1,6 +1,8 @@
 -- The entries of a directory: where they stand among all paths, and the order of their names.
-use Rattle.std.proofs.Common.{◌≡◌, ℕ, List, [], ◌∷◌, ◌++◌, Bool, true, false, cond, not, length, filter, map, take, drop, All, ap, sym, refl, subst, ◌∙◌, append_assoc}
+use Rattle.std.proofs.Common.{◌≡◌, ℕ, List, [], ◌∷◌, ◌++◌, Bool, true, false, cond, not, filter, map, All, ap, sym, refl, subst, ◌∙◌, append_assoc}
 use Rattle.std.proofs.lemmas.Bool.{and_parts, and_from}
+use Rattle.std.proofs.lemmas.List.Elements.{All-from_recursion}
+use Rattle.std.proofs.Math.Seq.{take-append_seam}
 use Rattle.std.specs.Prelude.{is_some}
 use Rattle.std.specs.List.{AllByRecursion}
 use Rattle.std.specs.Map.{keys_of}
@@ -18,9 +20,10 @@ use Rattle.ufs_model.specs.declared.data.Node.{Node}
 use Rattle.ufs_tree.specs.Below.{front, names_among}
 use Rattle.ufs_model.specs.Facts.Lookups.{tied}
 use Rattle.ufs_model.specs.Facts.Orders.{path_total}
-use Rattle.ufs_tree.proofs.RisingLemmas.{rising-filter, entries-rise, found_there}
-use Rattle.ufs_tree.proofs.ListLemmas.{all_from_recursion, all_filter}
-use Rattle.ufs_tree.proofs.HolderLemmas.{path_is, path_ties}
+use Rattle.ufs_model.specs.Facts.Pieces.{same_bytes, bytes_same}
+use Rattle.ufs_model.specs.Facts.Rising.{entries-rise}
+use Rattle.ufs_tree.proofs.RisingLemmas.{rising-filter, found_there}
+use Rattle.ufs_tree.proofs.ListLemmas.{all_filter}
 use Rattle.ufs_tree.proofs.PathLemmas.{path_parts, other_path}
 
 abbrev pub Nodes : Type 0
@@ -41,19 +44,8 @@ each_standing P m h = each_found P [] (fin.entries m) (λ q there. h q (ap is_so
 
 -- ---- what starts alike
 
-pub take-front : (f r : List ℕ) → take (length f) (f ++ r) ≡ f
-take-front [] r = refl
-take-front (x ∷ f) r = ap (λ l. x ∷ l) (take-front f r)
-
-pub drop-front : (f r : List ℕ) → drop (length f) (f ++ r) ≡ r
-drop-front [] r = refl
-drop-front (x ∷ f) r = drop-front f r
-
-pub same_bytes : (a : List ℕ) → bytes_eq a a ≡ true
-same_bytes a = sym (path_ties a a) ∙ (eq_by_cmp_equiv path_total).refl a
-
 pub starts : (f r : List ℕ) → starts_with f (f ++ r) ≡ true
-starts f r = ap (λ l. bytes_eq l f) (take-front f r) ∙ same_bytes f
+starts f r = ap (λ l. bytes_eq l f) (take-append_seam f r) ∙ bytes_same f f refl
 
 -- the same bytes in front make no difference to the order
 pub cmp-front : (f a b : List ℕ) → path_cmp (f ++ a) (f ++ b) ≡ path_cmp a b
@@ -76,7 +68,7 @@ pub entry_is : (dir path : List ℕ) → IsWhole path → is_entry_of dir path �
 entry_is dir path whole e =
     let both = and_parts _ _ e in
     (path_parts path whole (not_root path both.1)).0
-    ∙ ap (λ d. front d ++ 47 ∷ name_of path) (path_is (parent_of path) dir both.0)
+    ∙ ap (λ d. front d ++ 47 ∷ name_of path) (same_bytes (parent_of path) dir both.0)
     ∙ sym (append_assoc (front dir) (47 ∷ []) (name_of path))
 
 entry_starts : (dir path : List ℕ) → IsWhole path → is_entry_of dir path ≡ true → starts_with (front dir ++ 47 ∷ []) path ≡ true
@@ -137,7 +129,7 @@ module _ (m : Paths) (dir : List ℕ) (es : Nodes) (whole : (q : List ℕ) → s
       (all_filter (λ (e : List ℕ × Node). IsWhole e.0) (λ (e : List ℕ × Node). starts_with (front dir ++ 47 ∷ []) e.0) (fin.entries m) (each_standing IsWhole m whole))
 
   pub all_whole : All (λ (e : List ℕ × Node). IsWhole e.0) es
-  all_whole = all_from_recursion (λ (e : List ℕ × Node). IsWhole e.0) es each_whole
+  all_whole = All-from_recursion (λ (e : List ℕ × Node). IsWhole e.0) es each_whole
 
   pub names_rising : names_rise (names_among es dir) ≡ true
   names_rising =

@@ -1,5 +1,5 @@
 -- One more path in the tree that a session begins with.
-use Rattle.std.proofs.Common.{◌≡◌, ℕ, ◌+◌, ◌≤◌, ◌<◌, List, [], ◌∷◌, ◌++◌, true, false, Some, None, Option, ap, sym, refl, subst, ◌∙◌, arith, length, get_or, take, drop, take-append-drop, append-nil}
+use Rattle.std.proofs.Common.{◌≡◌, ℕ, ◌+◌, ◌≤◌, ◌<◌, List, [], ◌∷◌, ◌++◌, true, None, ap, sym, subst, ◌∙◌, arith, length, get_or, take, drop, take-append-drop, append-nil}
 use Rattle.std.proofs.lemmas.Bool.{le-ltb}
 use Rattle.std.proofs.lemmas.List.{map-append, map_more}
 use Rattle.std.specs.Prelude.{is_some}
@@ -17,12 +17,10 @@ use Rattle.ufs_model.specs.declared.data.PathNode.{PathNode}
 use Rattle.ufs_model.specs.declared.data.PathNode.TheVariants as path_node
 use Rattle.ufs_model.specs.Facts.Orders.{path_total, path_same}
 use Rattle.ufs_tree.proofs.ListLemmas.{from_place}
-use Rattle.ufs_tree.proofs.RisingLemmas.{find-earlier, found_there}
-use Rattle.ufs_tree.proofs.StartLemmas.{Pairs, paths_from-push, bytes_from-push, next_from-push, next_from-append, next_rises, stands-paths_from, held-bytes_from, within_zero}
-
-unfound : {X : Type 0} (o : Option X) → is_some o ≡ false → o ≡ None
-unfound None is = refl
-unfound (Some x) is = cc
+use Rattle.ufs_model.specs.Facts.Rising.{find-earlier}
+use Rattle.ufs_tree.proofs.RisingLemmas.{unfound, found_there}
+use Rattle.ufs_model.specs.Facts.Starts.{Pairs, next_rises, stands-paths_from, held-bytes_from, within_zero}
+use Rattle.ufs_tree.proofs.StartLemmas.{paths_from-push, bytes_from-push, next_from-push, next_from-append}
 
 paths_push : (es : Pairs) (e : List ℕ × PathNode) → find path_cmp e.0 es ≡ None → map.insert (start_from es).paths e.0 (node_from (start_from es).next e.1) ≡ (start_from (es ++ e ∷ [])).paths
 paths_push es e none =

@@ -1,6 +1,9 @@
 -- The paths after a new name for one of them: what stands at each.
 use Rattle.std.proofs.Common.{◌≡◌, ℕ, ◌≤◌, List, [], ◌∷◌, ◌++◌, Bool, true, false, cond, ◌&&◌, ◌||◌, length, map, filter, drop, All, Option, Some, None, ap, sym, refl, subst, ◌∙◌, arith, length-append}
 use Rattle.std.proofs.lemmas.List.{append-nil}
+use Rattle.std.proofs.lemmas.List.Elements.{All-from_recursion, recursion_from_All, filter_passes}
+use Rattle.std.proofs.Math.Bool.{or-true}
+use Rattle.std.proofs.Math.Seq.{drop-append_seam}
 use Rattle.std.proofs.lemmas.Map.Entries.{lookup-filter-keys}
 use Rattle.std.specs.Prelude.{is_some}
 use Rattle.std.specs.List.{AllByRecursion}
@@ -9,7 +12,7 @@ use Rattle.std.specs.FinMap as fin
 use Rattle.std.specs.FinMap.Entries.{below_all}
 use Rattle.std.specs.Ordering.{is_lt}
 use Rattle.std.specs.Cmp.{eq_by_cmp_equiv}
-use Rattle.std.proofs.lemmas.Bool.{eqb-true}
+use Rattle.std.proofs.lemmas.Bool.{eqb-true, false_from_ne_true}
 use Rattle.std.specs.FinMap.{find, is_sorted, get-entries, get-from_entries, get-insert, get-remove, same_map}
 use Rattle.ufs_model.specs.Order.{path_cmp}
 use Rattle.ufs_model.specs.declared.data.Node.{Node}
@@ -19,12 +22,15 @@ use Rattle.ufs_model.specs.PosixTree.{Paths, IsNamespace, stands, has_dir, root}
 use Rattle.ufs_tree.specs.Moved.{or_else, put_over, taken_away, moved}
 use Rattle.ufs_model.specs.Facts.Orders.{path_total, path_same}
 use Rattle.ufs_calls.specs.Facts.Maps.{looked}
-use Rattle.ufs_tree.proofs.RisingLemmas.{rising-filter, entries-rise}
-use Rattle.ufs_tree.proofs.HolderLemmas.{path_is, path_ties}
-use Rattle.ufs_tree.proofs.ListLemmas.{all_from_recursion, all_map, all_map₂, all_filter, all_passing}
-use Rattle.ufs_tree.proofs.NameLemmas.{Nodes, same_bytes, drop-front, cmp-front, each_standing}
+use Rattle.ufs_model.specs.Facts.Lookups.{apart as lies_apart}
+use Rattle.ufs_model.specs.Facts.Pieces.{same_bytes, bytes_same, is_below_from}
+use Rattle.ufs_model.specs.Facts.Rising.{entries-rise}
+use Rattle.ufs_tree.proofs.RisingLemmas.{rising-filter}
+use Rattle.ufs_tree.proofs.HolderLemmas.{path_ties}
+use Rattle.ufs_tree.proofs.ListLemmas.{all_map, all_map₂, all_filter}
+use Rattle.ufs_tree.proofs.NameLemmas.{Nodes, cmp-front, each_standing}
 use Rattle.ufs_tree.proofs.MovedLemmas.{ties, tie_is, undone_list}
-use Rattle.ufs_tree.proofs.UnderLemmas.{or_true, is_under, is_tail, under_is, under-append, below-append, below_is, not_tied, ties-front, none_below, with_rest, rest_joined, rest_allowed}
+use Rattle.ufs_tree.proofs.UnderLemmas.{is_under, is_tail, under_is, under-append, below_is, ties-front, none_below, with_rest, rest_joined, rest_allowed}
 
 not_both : (b : Bool) → b ≡ true → b ≡ false → ⊥
 not_both b e f = let no : false ≡ true = sym f ∙ e in cc
@@ -36,6 +42,9 @@ none_either false = refl
 or_none : (o : Option Node) → or_else o None ≡ o
 or_none None = refl
 or_none (Some v) = refl
+
+not_tied : (p q : List ℕ) → (p ≡ q → ⊥) → ties p q ≡ false
+not_tied = lies_apart path_total path_same
 
 tie_self : (p : List ℕ) → ties p p ≡ true
 tie_self p = (eq_by_cmp_equiv path_total).refl p
@@ -125,10 +134,10 @@ module _ (from to : List ℕ) where
 
 -- what is below a directory, and not the directory itself
 below_under : (d q : List ℕ) → is_below d q ≡ true → is_under d q ≡ true
-below_under d q e = ap (λ t. bytes_eq q d || t) e ∙ or_true (bytes_eq q d)
+below_under d q e = ap (λ t. bytes_eq q d || t) e ∙ or-true (bytes_eq q d)
 
 rest_is : (d q : List ℕ) → is_below d q ≡ true → drop (length d) q ≡ 47 ∷ drop (length (d ++ 47 ∷ [])) q
-rest_is d q e = ap (drop (length d)) (below_is d q e) ∙ drop-front d (47 ∷ drop (length (d ++ 47 ∷ [])) q)
+rest_is d q e = ap (drop (length d)) (below_is d q e) ∙ drop-append_seam d (47 ∷ drop (length (d ++ 47 ∷ [])) q)
 
 -- ---- a directory or a file with another name, in a tree
 
@@ -140,11 +149,7 @@ module _ (m : Paths) (from to : List ℕ) (node : Node) (olds : Nodes)
   nothing_below p e = none_below m to space whole to_other empty p e
 
   different : (p q : List ℕ) → (p ≡ q → ⊥) → bytes_eq p q ≡ false
-  different p q differ = by (bytes_eq p q) refl
-    where
-      by : (b : Bool) → bytes_eq p q ≡ b → b ≡ false
-      by true e = absurd (differ (path_is p q e))
-      by false e = refl
+  different p q differ = false_from_ne_true _ (λ e. differ (same_bytes p q e))
 
   to_outside : is_under from to ≡ false
   to_outside = λ i. different to from (λ is. apart (sym is)) i || outside i
@@ -181,7 +186,7 @@ module _ (m : Paths) (from to : List ℕ) (node : Node) (olds : Nodes)
       ∙ ap (λ o. cond (is_below from q) o None) (sym (looked path_cmp q (fin.entries m)) ∙ sym (get-entries m q))
 
   olds_below : AllByRecursion (λ (e : List ℕ × Node). is_below from e.0 ≡ true) olds
-  olds_below = subst (λ (es : Nodes). AllByRecursion (λ (e : List ℕ × Node). is_below from e.0 ≡ true) es) (sym are) (all_passing (λ (e : List ℕ × Node). is_below from e.0) (fin.entries m))
+  olds_below = subst (λ (es : Nodes). AllByRecursion (λ (e : List ℕ × Node). is_below from e.0 ≡ true) es) (sym are) (recursion_from_All (λ (e : List ℕ × Node). is_below from e.0 ≡ true) _ (filter_passes (λ (e : List ℕ × Node). is_below from e.0) (fin.entries m)))
 
   olds_under : AllByRecursion (λ (e : List ℕ × Node). is_under from e.0 ≡ true) olds
   olds_under = all_map (λ (e : List ℕ × Node). is_below from e.0 ≡ true) (λ (e : List ℕ × Node). is_under from e.0 ≡ true) (λ e b. below_under from e.0 b) olds olds_below
@@ -195,7 +200,7 @@ module _ (m : Paths) (from to : List ℕ) (node : Node) (olds : Nodes)
 
   pub long_enough : All (λ (e : List ℕ × Node). length from ≤ length e.0) olds
   long_enough =
-      all_from_recursion (λ (e : List ℕ × Node). length from ≤ length e.0) olds
+      All-from_recursion (λ (e : List ℕ × Node). length from ≤ length e.0) olds
       (all_map (λ (e : List ℕ × Node). is_under from e.0 ≡ true) (λ (e : List ℕ × Node). length from ≤ length e.0)
       (λ e u. omega (arith, ap length (under_is from e.0 u).is, length-append from (drop (length from) e.0))) olds olds_under)
 
@@ -203,10 +208,10 @@ module _ (m : Paths) (from to : List ℕ) (node : Node) (olds : Nodes)
   absent_each =
       all_moved from to (λ p. fin.get m p ≡ None) olds
       (all_map (λ (e : List ℕ × Node). is_below from e.0 ≡ true) (λ (e : List ℕ × Node). fin.get m (to ++ drop (length from) e.0) ≡ None)
-      (λ e b. nothing_below (to ++ drop (length from) e.0) (ap (λ t. is_below to (to ++ t)) (rest_is from e.0 b) ∙ below-append to (drop (length (from ++ 47 ∷ [])) e.0))) olds olds_below)
+      (λ e b. nothing_below (to ++ drop (length from) e.0) (ap (λ t. is_below to (to ++ t)) (rest_is from e.0 b) ∙ is_below_from to (drop (length (from ++ 47 ∷ [])) e.0))) olds olds_below)
 
   pub news_absent : All (λ (e : List ℕ × Node). fin.get m e.0 ≡ None) (moved from to olds)
-  news_absent = all_from_recursion (λ (e : List ℕ × Node). fin.get m e.0 ≡ None) (moved from to olds) absent_each
+  news_absent = All-from_recursion (λ (e : List ℕ × Node). fin.get m e.0 ≡ None) (moved from to olds) absent_each
 
   new_whole : (p : List ℕ) → IsWhole p → is_below from p ≡ true → IsWhole (to ++ drop (length from) p)
   new_whole p w b =
@@ -218,7 +223,7 @@ module _ (m : Paths) (from to : List ℕ) (node : Node) (olds : Nodes)
 
   pub news_whole : All (λ (e : List ℕ × Node). IsWhole e.0) (moved from to olds)
   news_whole =
-      all_from_recursion (λ (e : List ℕ × Node). IsWhole e.0) (moved from to olds)
+      All-from_recursion (λ (e : List ℕ × Node). IsWhole e.0) (moved from to olds)
       (all_moved from to IsWhole olds
       (all_map₂ (λ (e : List ℕ × Node). IsWhole e.0) (λ (e : List ℕ × Node). is_below from e.0 ≡ true) (λ (e : List ℕ × Node). IsWhole (to ++ drop (length from) e.0)) (λ e w b. new_whole e.0 w b) olds olds_whole olds_below))
 
@@ -239,7 +244,7 @@ module _ (m : Paths) (from to : List ℕ) (node : Node) (olds : Nodes)
   no_old : (s : List ℕ) → is_tail s ≡ true → find path_cmp (to ++ s) olds ≡ None
   no_old [] tail = find_olds (to ++ []) ∙ ap (λ b. cond b (fin.get m (to ++ [])) None) (ap (is_below from) (append-nil to) ∙ outside)
   no_old (b ∷ r) tail =
-      let here = ap (λ c. fin.get m (to ++ c ∷ r)) (eqb-true b 47 tail) ∙ nothing_below (to ++ 47 ∷ r) (below-append to r) in
+      let here = ap (λ c. fin.get m (to ++ c ∷ r)) (eqb-true b 47 tail) ∙ nothing_below (to ++ 47 ∷ r) (is_below_from to r) in
       find_olds (to ++ b ∷ r) ∙ ap (λ o. cond (is_below from (to ++ b ∷ r)) o None) here ∙ none_either (is_below from (to ++ b ∷ r))
 
   put_there : (s : List ℕ) → is_tail s ≡ true → cond (ties (to ++ s) to) (Some node) (put_over (moved from to olds) (fin.get m (to ++ s)) (to ++ s)) ≡ fin.get m (from ++ s)
@@ -248,13 +253,13 @@ module _ (m : Paths) (from to : List ℕ) (node : Node) (olds : Nodes)
       ∙ sym there ∙ ap (fin.get m) (sym (append-nil from))
   put_there (b ∷ r) tail =
       let slash = eqb-true b 47 tail in
-      let here = ap (λ c. fin.get m (to ++ c ∷ r)) slash ∙ nothing_below (to ++ 47 ∷ r) (below-append to r) in
+      let here = ap (λ c. fin.get m (to ++ c ∷ r)) slash ∙ nothing_below (to ++ 47 ∷ r) (is_below_from to r) in
       let longer : to ++ b ∷ r ≡ to → ⊥ = λ is. absurd (omega (arith, ap length is, length-append to (b ∷ r))) in
       ap (λ t. cond t (Some node) (put_over (moved from to olds) (fin.get m (to ++ b ∷ r)) (to ++ b ∷ r))) (not_tied (to ++ b ∷ r) to longer)
       ∙ (λ i. or_else (moved-under from to (b ∷ r) olds olds_under i) (here i))
       ∙ or_none (find path_cmp (from ++ b ∷ r) olds)
       ∙ find_olds (from ++ b ∷ r)
-      ∙ ap (λ t. cond t (fin.get m (from ++ b ∷ r)) None) (ap (λ c. is_below from (from ++ c ∷ r)) slash ∙ below-append from r)
+      ∙ ap (λ t. cond t (fin.get m (from ++ b ∷ r)) None) (ap (λ c. is_below from (from ++ c ∷ r)) slash ∙ is_below_from from r)
 
   end-under : (s : List ℕ) → is_tail s ≡ true → in_the_end (to ++ s) ≡ fin.get (renamed m from to) (to ++ s)
   end-under s tail =
@@ -280,7 +285,7 @@ module _ (m : Paths) (from to : List ℕ) (node : Node) (olds : Nodes)
       es = fin.entries (fin.remove m to)
 
       differ : q ≡ to → ⊥
-      differ is = not_both (is_under to q) (ap (is_under to) is ∙ ap (λ b. b || is_below to to) (same_bytes to)) away
+      differ is = not_both (is_under to q) (ap (is_under to) is ∙ ap (λ b. b || is_below to to) (bytes_same to to refl)) away
 
       none_left : (o : Option Node) → cond (is_some o) None o ≡ None
       none_left None = refl

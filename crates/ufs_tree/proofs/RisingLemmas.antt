@@ -1,49 +1,26 @@
 -- Lists of entries whose keys strictly rise, and which keys are found in them.
-use Rattle.std.proofs.Common.{◌≡◌, List, [], ◌∷◌, ◌++◌, Bool, true, false, Some, None, ap, refl, ◌∙◌, filter, cond}
+use Rattle.std.proofs.Common.{◌≡◌, List, [], ◌∷◌, ◌++◌, Bool, true, false, Option, Some, None, ap, refl, filter, cond}
 use Rattle.std.proofs.lemmas.Bool.{and_parts, and_from}
 use Rattle.std.specs.declared.cmp.Ordering.{Ordering}
-use Rattle.std.specs.declared.cmp.Ordering.TheVariants.{Less, Equal, Greater}
 use Rattle.std.specs.Prelude.{is_some}
-use Rattle.std.specs.Ordering.{is_lt, eq_by_cmp, ordering_reverse}
+use Rattle.std.specs.Ordering.{is_lt, eq_by_cmp}
 use Rattle.std.specs.Cmp.{IsTotalOrder, eq_by_cmp_equiv}
-use Rattle.std.proofs.Math.Dec.{T}
-use Rattle.std.specs.FinMap.{FinMap, find, is_sorted, entries, entries_sorted}
+use Rattle.std.specs.FinMap.{find, is_sorted}
 use Rattle.std.specs.FinMap.Entries.{below_all}
 
-less : (r : Ordering) → is_lt r ≡ true → r ≡ Less
-less Less e = refl
-less Equal e = cc
-less Greater e = cc
+pub unfound : {X : Type 0} (o : Option X) → is_some o ≡ false → o ≡ None
+unfound None e = refl
+unfound (Some x) e = cc
 
-from_T : (b : Bool) → T b → b ≡ true
-from_T true h = refl
-from_T false h = absurd h
-
-module _ {K X : Type 0} (R : K → K → Ordering) where
-  module _ (o : IsTotalOrder R) where
-    -- the key of a later entry is not found earlier
-    pub find-earlier : (es : List (K × X)) (e : K × X) (later : List (K × X)) → is_sorted R (es ++ e ∷ later) ≡ true → find R e.0 es ≡ None
-    find-earlier [] e later h = refl
-    find-earlier (x ∷ es) e later h =
-        let both = and_parts _ _ h in
-        let above : R e.0 x.0 ≡ Greater = o.antisymm e.0 x.0 ∙ ap ordering_reverse (least x.0 es both.0) in
-        rw above (find-earlier es e later both.1)
-      where
-        least : (k : K) (front : List (K × X)) → below_all R k (front ++ e ∷ later) ≡ true → R k e.0 ≡ Less
-        least k [] h = less _ (and_parts _ _ h).0
-        least k (y ∷ front) h = least k front (and_parts _ _ h).1
-
-    -- an entry of a list is found in it
-    pub found_there : (front : List (K × X)) (e : K × X) (later : List (K × X)) → is_some (find R e.0 (front ++ e ∷ later)) ≡ true
-    found_there [] e later = ap (λ b. is_some (cond b (Some e.1) (find R e.0 later))) ((eq_by_cmp_equiv o).refl e.0)
-    found_there (x ∷ front) e later = by (eq_by_cmp R e.0 x.0) (found_there front e later)
-      where
-        by : (b : Bool) → is_some (find R e.0 (front ++ e ∷ later)) ≡ true → is_some (cond b (Some x.1) (find R e.0 (front ++ e ∷ later))) ≡ true
-        by true h = refl
-        by false h = h
-
-pub entries-rise : {K X : Type 0} {R : K → K → Ordering} (m : FinMap R X) → is_sorted R (entries m) ≡ true
-entries-rise m = from_T _ (entries_sorted m)
+module _ {K X : Type 0} (R : K → K → Ordering) (o : IsTotalOrder R) where
+  -- an entry of a list is found in it
+  pub found_there : (front : List (K × X)) (e : K × X) (later : List (K × X)) → is_some (find R e.0 (front ++ e ∷ later)) ≡ true
+  found_there [] e later = ap (λ b. is_some (cond b (Some e.1) (find R e.0 later))) ((eq_by_cmp_equiv o).refl e.0)
+  found_there (x ∷ front) e later = by (eq_by_cmp R e.0 x.0) (found_there front e later)
+    where
+      by : (b : Bool) → is_some (find R e.0 (front ++ e ∷ later)) ≡ true → is_some (cond b (Some x.1) (find R e.0 (front ++ e ∷ later))) ≡ true
+      by true h = refl
+      by false h = h
 
 -- ---- some of the entries
 

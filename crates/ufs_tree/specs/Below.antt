@@ -1,9 +1,9 @@
 -- What a whole path consists of, and what lies below a directory, by the text.
-use Rattle.std.specs.Prelude.{ℕ, ◌≡◌, ◌≤◌, ◌<◌, ◌-◌, ◌==◌, List, [], Bool, true, not, length, map, filter, drop, slice_index, if◌then◌else◌}
-use Rattle.std.specs.List.{list_all}
+use Rattle.std.specs.Prelude.{ℕ, ◌≡◌, ◌≤◌, ◌<◌, ◌-◌, List, [], true, length, map, filter, drop, slice_index, if◌then◌else◌}
 use Rattle.std.specs.Map.{keys_of}
 use Rattle.std.specs.Str.{bytes_eq}
 use Rattle.ufs_model.specs.Directories.{is_entry_of, last_name}
+use Rattle.ufs_model.specs.Facts.Pieces.{is_free}
 use Rattle.ufs_model.specs.Paths.{components}
 use Rattle.ufs_model.specs.PosixTree.{root}
 use Rattle.ufs_model.specs.declared.data.Node.{Node}
@@ -11,10 +11,6 @@ use Rattle.ufs_model.specs.declared.data.Node.{Node}
 -- what stands before the slash in the paths of a directory's entries
 abbrev pub front : List ℕ → List ℕ
 front dir = if bytes_eq dir root then [] else dir
-
--- no slash stands in it
-abbrev pub is_free : List ℕ → Bool
-is_free name = list_all (λ b. not (b == 47)) name
 
 -- the place after the last slash, or the start where there is none
 pub record IsNameStart (path : List ℕ) (end : ℕ) : Type 0 where

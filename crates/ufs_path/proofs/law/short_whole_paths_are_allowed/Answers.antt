@@ -1,7 +1,7 @@
 use Rattle.ufs_path.specs.Names.{IsName}
-use Rattle.ufs_path.proofs.SplitLemmas.{recursion_from_all}
+use Rattle.std.proofs.lemmas.List.Elements.{recursion_from_All}
 use Rattle.ufs_path.proofs.NameLemmas.{whole_allowed}
 use Rattle.ufs_path.proofs.law.short_whole_paths_are_allowed.Goals as goal
 
 pub returns : goal.returns
-returns c = λ names each short. whole_allowed names (recursion_from_all IsName names each) short
+returns c = λ names each short. whole_allowed names (recursion_from_All IsName names each) short

@@ -1,7 +1,7 @@
 use Rattle.std.proofs.Common.{◌≡◌, ◌+◌, ◌∙◌, sym, arith, ap, get_or, subst, slice_range, Some, []}
 use Rattle.std.proofs.lemmas.Option.{slice_get-get_or}
 use Rattle.ufs_path.specs.Names.{IsName}
-use Rattle.ufs_path.proofs.SplitLemmas.{all_from_recursion}
+use Rattle.std.proofs.lemmas.List.Elements.{All-from_recursion}
 use Rattle.ufs_path.proofs.KeptLemmas.{kept_length, kept_end, kept_part, kept_range, kept_names}
 use Rattle.ufs_path.proofs.text.PathText.component.Goals as goal
 
@@ -40,4 +40,4 @@ returns-clause-value c = slice_get-get_or c.args.self.now c.args.i [] c.requires
 
 pub returns-clause-name : goal.returns-clause-name
 returns-clause-name c =
-    subst IsName (sym (part c)) (all_from_recursion IsName c.args.self.now (kept_names _ _ c.args.self.now c.self.invariant c.self.view_is) c.args.i [] c.requires)
+    subst IsName (sym (part c)) (All-from_recursion IsName c.args.self.now (kept_names _ _ c.args.self.now c.self.invariant c.self.view_is) c.args.i [] c.requires)
