@@ -55,6 +55,8 @@ fn the_last_descriptor_of_a_file_is_told(rt: HostRuntime) {
     table.set(66, of_file(7));
     table.set(4, of_file(8));
     assert!(rt; !table.is_last(3) && !table.is_last(66) && table.is_last(4) && !table.is_last(5));
-    table.close(3);
+    if table.is_open(3) {
+        table.close(3);
+    }
     assert!(rt; table.is_last(66));
 }
