@@ -1,10 +1,9 @@
 -- The clients are served one after another.
-use Rattle.std.proofs.Common.{◌≡◌, ◌≢◌, ℕ, ◌+◌, ◌*◌, ◌≤◌, ◌<◌, List, [], ◌∷◌, ◌++◌, Some, None, ap, sym, refl, subst, ◌∙◌, length, arith, zero, suc, ◌⊎◌, inl, inr, unwrap_or}
+use Rattle.std.proofs.Common.{◌≡◌, ℕ, ◌+◌, ◌*◌, ◌≤◌, ◌<◌, List, [], ◌∷◌, ◌++◌, Some, None, ap, sym, refl, subst, ◌∙◌, length, arith, zero, suc, ◌⊎◌, inl, inr, unwrap_or}
 use Rattle.std.specs.Prelude.{slice_get}
 use Rattle.std.specs.List.{AllByRecursion}
 use Rattle.std.specs.FinMap as map
 use Rattle.std.specs.FinMap.{get-empty}
-use Rattle.std.specs.Ordering.{nat_cmp}
 use Rattle.std.proofs.lemmas.Bool.{cases_eq}
 use Rattle.std.proofs.lemmas.List.{length-append, append-nil, append_assoc}
 use Rattle.ufs_model.specs.History.{IsLegal, IsLegalFrom, IsInOrder, IsComplete, AreUnexcused, DoTicketsRise, goes_on, joined, entries_of, requests_of}
@@ -90,12 +89,15 @@ module _ (clients : List (List Op)) (told : List (List Entry)) (names : NamesPar
   pub merged : IsMerged told (joined told)
   merged = record { rising = rising_from 0 root_alone (joined told) is.legal.entries; each = is.each }
 
+  all_told : rest ≡ [] → length clients ≡ count
+  all_told none = ap (λ (l : List (List Op)). length l) (sym is.whole ∙ ap (λ (l : List (List Op)). done ++ l) none ∙ append-nil done) ∙ is.counted
+
+  pub each_told : rest ≡ [] → length told ≡ length clients
+  each_told none = is.tolds ∙ sym (all_told none)
+
   pub all_served : rest ≡ [] → IsComplete clients (joined told)
   all_served none c = by (cases c count)
     where
-      total : length clients ≡ count
-      total = ap (λ (l : List (List Op)). length l) (sym is.whole ∙ ap (λ (l : List (List Op)). done ++ l) none ∙ append-nil done) ∙ is.counted
-
       cases : (c count : ℕ) → (c < count) ⊎ (count ≤ c)
       cases c zero = inr (omega arith)
       cases zero (suc n) = inl (omega arith)
@@ -109,7 +111,7 @@ module _ (clients : List (List Op)) (told : List (List Entry)) (names : NamesPar
       by (inl low) = is.complete c low
       by (inr high) =
           ap (λ (l : List Entry). length l) (is.each c ∙ ap (λ o. unwrap_or o []) (get_past told c (omega (arith, high, is.tolds))))
-          ∙ sym (ap (λ o. length (unwrap_or o [])) (get_past clients c (omega (arith, high, total))))
+          ∙ sym (ap (λ o. length (unwrap_or o [])) (get_past clients c (omega (arith, high, all_told none))))
 
 module _ (clients : List (List Op)) (told : List (List Entry)) (names : NamesPart) (count first : ℕ) (done : List (List Op)) (requests : List Op) (rest : List (List Op)) (is : AreServing clients told names count first done (requests ∷ rest)) where
   total : length clients ≡ count + 1 + length rest

@@ -1,5 +1,5 @@
 -- A client's requests are served one by one.
-use Rattle.std.proofs.Common.{◌≡◌, ◌≢◌, ℕ, ◌+◌, ◌*◌, ◌≤◌, ◌<◌, ◌^◌, List, [], ◌∷◌, ◌++◌, Bool, true, false, Option, Some, None, ap, sym, refl, subst, ◌∙◌, length, arith, zero, suc, ◌⊎◌, inl, inr, IsSome, is_some}
+use Rattle.std.proofs.Common.{◌≡◌, ◌≢◌, ℕ, ◌+◌, ◌≤◌, ◌<◌, List, [], ◌∷◌, ◌++◌, true, false, Option, Some, ap, sym, refl, subst, ◌∙◌, length, arith, inl, inr, is_some}
 use Rattle.std.specs.Prelude.{slice_get}
 use Rattle.std.specs.List.{AllByRecursion}
 use Rattle.std.specs.FinMap as map
@@ -7,9 +7,7 @@ use Rattle.std.specs.FinMap.{get-empty}
 use Rattle.std.specs.Ordering.{nat_cmp}
 use Rattle.std.proofs.lemmas.List.{length-append, append-nil, append_assoc}
 use Rattle.ufs_model.specs.Asks.{IsAsk, IsDescAfter, desc_of_fd, fd_named, fd_asked, fd_told, is_last}
-use Rattle.ufs_model.specs.Bounds.{IsBounded}
-use Rattle.ufs_model.specs.Excuses.{ExcuseFits}
-use Rattle.ufs_model.specs.History.{IsLegal, IsLegalEntry, IsReplyTo, IsExcused, IsInOrder, IsNext, AreUnexcused, TellsNewFault, is_excused, share_fault, tree_with, goes_on, tree_after, entries_of, requests_of}
+use Rattle.ufs_model.specs.History.{IsLegal, IsLegalEntry, IsExcused, IsInOrder, IsNext, AreUnexcused, TellsNewFault, is_excused, share_fault, tree_with, entries_of, requests_of}
 use Rattle.ufs_model.specs.Posix.{posix}
 use Rattle.ufs_model.specs.PosixTree.{PosixTree, Fds, root_alone}
 use Rattle.ufs_model.specs.declared.data.Ask.{Ask}

@@ -1,5 +1,5 @@
 -- What a session has told its clients.
-use Rattle.std.specs.Prelude.{ℕ, ◌≡◌, List, [], Option, Some, None, Result, Ok, unwrap_or, slice_get}
+use Rattle.std.specs.Prelude.{ℕ, ◌≡◌, List, [], Result, Ok, unwrap_or, slice_get, length}
 use Rattle.ufs_model.specs.PosixTree.{root_alone}
 use Rattle.ufs_model.specs.History.{IsLegal, IsInOrder, IsComplete, AreUnexcused, DoTicketsRise, entries_of}
 use Rattle.ufs_model.specs.declared.data.Op.{Op}
@@ -20,6 +20,8 @@ pub record IsMerged (told : List (List Entry)) (history : List Entry) : Type 0 w
 -- without an excuse, where the session ended well.
 pub record IsPlayed (clients : List (List Op)) (told : List (List Entry)) (ended : Result (Unit {0}) EndFault) (history : List Entry) : Type 0 where
   pub merged : IsMerged told history
+  -- a transcript for each client
+  pub each : ended ≡ Ok tt → length told ≡ length clients
   pub legal : IsLegal root_alone history
   pub ordered : IsInOrder clients history
   pub complete : ended ≡ Ok tt → IsComplete clients history

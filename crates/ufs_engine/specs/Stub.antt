@@ -1,7 +1,7 @@
 use Rattle.std.specs.Prelude.{ℕ, ◌≡◌, Option}
 use Rattle.ufs_model.specs.PosixTree.{PosixTree, IsTree}
 use Rattle.ufs_model.specs.Posix.{posix}
-use Rattle.ufs_model.specs.Asks.{IsAsk, IsDescAfter, fd_told}
+use Rattle.ufs_model.specs.Asks.{IsDescAfter, fd_told}
 use Rattle.ufs_model.specs.declared.data.Ask.{Ask}
 use Rattle.ufs_model.specs.declared.data.Desc.{Desc}
 use Rattle.ufs_model.specs.declared.data.Reply.{Reply}

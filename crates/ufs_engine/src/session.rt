@@ -67,6 +67,7 @@ fn serve_clients(
     requires part { IsPartOf names.old root_alone }
     requires none { told.old.items ≡ [] }
     ensures merged { IsMerged told.new.items (joined told.new.items) }
+    ensures each { OnOk result (length told.new.items ≡ length clients) }
     ensures legal { IsLegal root_alone (joined told.new.items) }
     ensures ordered { IsInOrder clients (joined told.new.items) }
     ensures complete { OnOk result (IsComplete clients (joined told.new.items)) }
@@ -89,6 +90,7 @@ fn serve_clients(
 fn serve(alloc: Global, clients: OpLists, told: &mut Vec<EntryList>) -> Result<(), EndFault>
     requires { told.old.items ≡ [] }
     ensures merged { IsMerged told.new.items (joined told.new.items) }
+    ensures each { OnOk result (length told.new.items ≡ length clients) }
     ensures legal { IsLegal root_alone (joined told.new.items) }
     ensures ordered { IsInOrder clients (joined told.new.items) }
     ensures complete { OnOk result (IsComplete clients (joined told.new.items)) }

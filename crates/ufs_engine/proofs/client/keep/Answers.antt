@@ -1,4 +1,4 @@
-use Rattle.std.proofs.Common.{◌≡◌, ℕ, ◌≤◌, ◌<◌, sym, ◌∙◌, ap, arith, Option, None, is_some, true}
+use Rattle.std.proofs.Common.{◌≡◌, ℕ, ◌≤◌, sym, ◌∙◌, ap, arith, None}
 use Rattle.std.specs.FinMap as map
 use Rattle.ufs_model.specs.PosixTree.{Fds}
 use Rattle.ufs_engine.specs.Clients.{AreRanged}

@@ -1,7 +1,5 @@
-use Rattle.std.proofs.Common.{◌≡◌, ◌++◌, ◌∷◌, [], List, ap, sym, ◌∙◌, subst, length, ◌+◌, ℕ, true, false}
-use Rattle.ufs_model.specs.Asks.{IsAsk}
-use Rattle.ufs_model.specs.History.{joined, is_excused}
-use Rattle.ufs_model.specs.PosixTree.{PosixTree}
+use Rattle.std.proofs.Common.{◌≡◌, ◌++◌, ◌∷◌, [], List, sym, ◌∙◌, subst, length, ◌+◌}
+use Rattle.ufs_model.specs.History.{joined}
 use Rattle.ufs_model.specs.declared.data.Op.{Op}
 use Rattle.ufs_model.specs.declared.data.Entry.{Entry}
 use Rattle.ufs_engine.specs.Serving.{tree_of, GoesOn}

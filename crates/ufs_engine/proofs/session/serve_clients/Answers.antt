@@ -1,9 +1,9 @@
-use Rattle.std.proofs.Common.{◌≡◌, ◌++◌, ◌∷◌, [], List, ap, sym, ◌∙◌, subst, length, ◌+◌, ℕ}
+use Rattle.std.proofs.Common.{◌++◌, ◌∷◌, [], List, ap, sym, ◌∙◌, subst, length, ◌+◌, ℕ}
 use Rattle.ufs_model.specs.History.{joined, IsInOrder}
 use Rattle.ufs_model.specs.declared.data.Op.{Op}
 use Rattle.ufs_model.specs.declared.data.Entry.{Entry}
 use Rattle.ufs_engine.specs.Played.{IsMerged}
-use Rattle.ufs_engine.proofs.ClientsLemmas.{AreServing, none_served, newcomer, merged, merged_more, ordered_more, one_client_more, all_served, no_items}
+use Rattle.ufs_engine.proofs.ClientsLemmas.{AreServing, none_served, newcomer, merged, merged_more, ordered_more, one_client_more, all_served, each_told, no_items}
 use Rattle.ufs_engine.proofs.session.serve_clients.Goals as goal
 
 pub loop-requests-init : goal.loop-requests-init
@@ -50,4 +50,10 @@ pub returns-clause-complete : goal.returns-clause-complete
 returns-clause-complete c =
     let rest = c.loop-requests.requests-iterator.rest in
     all_served c.args.clients c.loop-requests.told.items c.loop-requests.names c.loop-requests.client c.loop-requests.first c.loop-requests.yielded rest.items c.loop-requests.invariant
+    (no_items rest.items (sym rest.ok.0 ∙ c.in-None.ensures.steps.0))
+
+pub returns-clause-each : goal.returns-clause-each
+returns-clause-each c =
+    let rest = c.loop-requests.requests-iterator.rest in
+    each_told c.args.clients c.loop-requests.told.items c.loop-requests.names c.loop-requests.client c.loop-requests.first c.loop-requests.yielded rest.items c.loop-requests.invariant
     (no_items rest.items (sym rest.ok.0 ∙ c.in-None.ensures.steps.0))
