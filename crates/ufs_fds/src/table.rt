@@ -1,4 +1,8 @@
 // The table of a client's descriptors.
+ghost use Rattle.std.specs.Prelude.{◌≡◌};
+ghost use Rattle.ufs_model.specs.Asks.{file_in};
+ghost use Rattle.ufs_model.specs.PosixTree.{is_number};
+
 use std::marker::Model;
 use ufs_model::Desc;
 
@@ -34,7 +38,9 @@ impl FdTable {
     ghost use Rattle.std.specs.Prelude.{◌≡◌, ◌≤◌, ◌<◌, ◌↔◌, ℕ, None, Some, IsTrue, IsSome, IfSome, IfNone};
     ghost use Rattle.std.specs.FinMap as map;
     ghost use Rattle.ufs_model.specs.PosixTree.{Fds};
+    ghost use Rattle.ufs_model.specs.Asks.{file_in, is_last_of};
     ghost use Rattle.ufs_model.specs.Descriptors.{lowest_free};
+    ghost use Rattle.ufs_model.specs.Touched.{holds};
     ghost use Rattle.ufs_fds.specs.Descriptors.{AreInRange, AreOf};
 
     /// No descriptor is open.
@@ -82,6 +88,33 @@ impl FdTable {
         self.get(fd).is_some()
     }
 
+    /// Whether the descriptor is open on a file that none of the others is open on, so that to close it ends the
+    /// client's hold of the file.
+    pub fn is_last(&self, fd: u64) -> bool
+        ensures { (fds : Fds) (client : ℕ) → AreOf fds client self.now → result ≡ is_last_of fds client fd (file_in (map.get fds (client, fd))) }
+    {
+        match self.get(fd) {
+            Some(desc) => match desc.file {
+                Some(file) => !self.has_other(fd, file),
+                None => false,
+            },
+            None => false,
+        }
+    }
+
+    /// Whether another descriptor is open on the file.
+    fn has_other(&self, fd: u64, file: u32) -> bool
+        requires { AreInRange self.now }
+        ensures { (fds : Fds) (client : ℕ) → AreOf fds client self.now → result ≡ holds (map.remove fds (client, fd)) client file }
+    {
+        for other in 3..67u64 {
+            if other != fd && is_of(self.get(other), file) {
+                return true;
+            }
+        }
+        false
+    }
+
     /// Opens the descriptor, or puts another in its place.
     pub fn set(&mut self, fd: u32, desc: Desc)
         requires low { 3 ≤ fd }
@@ -102,5 +135,15 @@ impl FdTable {
         let place = fd - FIRST;
         self.slots[place as usize] = None;
         self.used = used & !(1 << place);
+    }
+}
+
+/// Whether there is a descriptor, open on the file.
+fn is_of(desc: Option<Desc>, file: u32) -> bool
+    ensures { result ≡ is_number file (file_in desc) }
+{
+    match desc {
+        Some(desc) => desc.file == Some(file),
+        None => false,
     }
 }

@@ -46,3 +46,17 @@ fn other_numbers_are_never_open(rt: HostRuntime) {
         assert!(rt; !table.is_open(fd));
     }
 }
+
+#[test]
+fn the_last_descriptor_of_a_file_is_told(rt: HostRuntime) {
+    let mut table = FdTable::new();
+    table.set(3, of_file(7));
+    assert!(rt; table.is_last(3));
+    table.set(66, of_file(7));
+    table.set(4, of_file(8));
+    assert!(rt; !table.is_last(3) && !table.is_last(66) && table.is_last(4) && !table.is_last(5));
+    if table.is_open(3) {
+        table.close(3);
+    }
+    assert!(rt; table.is_last(66));
+}

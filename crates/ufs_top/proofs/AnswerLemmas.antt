@@ -1,11 +1,8 @@
 -- How the answer of a part is that of the whole.
-use Rattle.std.proofs.Common.{◌≡◌, inl, inr, ℕ, List, [], ◌++◌, Option, ap, sym, subst, refl, ◌∙◌, length}
+use Rattle.std.proofs.Common.{◌≡◌, inl, inr, ℕ, List, [], ◌++◌, Option, sym, subst, refl, ◌∙◌}
 use Rattle.std.specs.Io.KnownBytes.{Appends}
 use Rattle.ufs_io.specs.Causes.{Rose}
-use Rattle.ufs_model.specs.PosixTree.{root_alone}
-use Rattle.ufs_model.specs.History.{IsLegal, IsInOrder, IsComplete, AreUnexcused}
 use Rattle.ufs_model.specs.declared.data.Entry.{Entry}
-use Rattle.ufs_script.specs.Output.{output_of}
 use Rattle.ufs_script.specs.Reading.{ReadsScript, ReadsBreak}
 use Rattle.ufs_script.specs.Script.{IsOutside}
 use Rattle.ufs_script.specs.declared.fault.ScriptFault.{ScriptFault}
@@ -13,8 +10,8 @@ use Rattle.ufs_script.specs.declared.fault.ScriptFault.TheVariants as fault
 use Rattle.ufs_script.specs.declared.script.Script.{Script}
 use Rattle.ufs_top.specs.declared.ending.Ending.{Ending}
 use Rattle.ufs_top.specs.declared.ending.Ending.TheVariants.{Done, Usage, BadGeometry, NotBuilt, BadScript, TooSmall, DeviceFault, OutOfMemory, SourceFault}
-use Rattle.ufs_top.specs.Texts.{memory_line}
-use Rattle.ufs_top.specs.Served.{IsHistoryOf}
+use Rattle.ufs_top.specs.Texts.{IsFront, memory_line}
+use Rattle.ufs_top.specs.Served.{IsHistoryOf, replies_text}
 use Rattle.ufs_top.specs.Endings.{IsAnswer, IsLine, IsBreakLine, TellsFault, EndsPrinting, EndsServing, EndsPlay}
 use Rattle.ufs_top.proofs.WriteLemmas.{appends_both, front_behind}
 
@@ -43,20 +40,17 @@ answer_after wanted line front E old mid new before between now status wrote sam
       (w.0, front ++ w.1, front ++ w.2, subst (λ (e : Ending). E e (front ++ w.1)) (sym w.3.0) (f w.1 (refl, w.3.1)), front_behind front w.2 w.1 w.4, appends_both old mid new front w.2 wrote w.5);
 }
 
-pub history_of : (script : Script) (history : List Entry) → IsLegal root_alone history → IsInOrder script.clients history → IsComplete script.clients history → AreUnexcused history → IsHistoryOf script history
-history_of script history legal ordered complete unexcused = record { legal = legal; ordered = ordered; complete = complete; unexcused = unexcused }
-
--- a history that is printed is the script's
-pub served_by : (script : Script) (clients : ℕ) (history : List Entry) → clients ≡ length script.clients → IsHistoryOf script history → (ending : Ending) (text : List ℕ) → EndsPrinting clients history ending text → EndsServing script ending text
-served_by script clients history all is Done text e = (history, is, e ∙ ap (λ (n : ℕ). output_of n history) all)
-served_by script clients history all is Usage text e = absurd e
-served_by script clients history all is (BadGeometry bad) text e = absurd e
-served_by script clients history all is NotBuilt text e = absurd e
-served_by script clients history all is BadScript text e = absurd e
-served_by script clients history all is TooSmall text e = absurd e
-served_by script clients history all is DeviceFault text e = absurd e
-served_by script clients history all is OutOfMemory text e = (e.0, inr (history, is, (e.1.0, e.1.1 ∙ ap (λ (n : ℕ). output_of n history) all)), e.2)
-served_by script clients history all is SourceFault text e = absurd e
+-- the lines that are printed are those of the script's history
+pub served_by : (script : Script) (history : List Entry) (lines : List ℕ) → IsHistoryOf script history → lines ≡ replies_text script history → (ending : Ending) (text : List ℕ) → EndsPrinting lines ending text → EndsServing script ending text
+served_by script history lines is all Done text e = (history, is, e ∙ all)
+served_by script history lines is all Usage text e = absurd e
+served_by script history lines is all (BadGeometry bad) text e = absurd e
+served_by script history lines is all NotBuilt text e = absurd e
+served_by script history lines is all BadScript text e = absurd e
+served_by script history lines is all TooSmall text e = absurd e
+served_by script history lines is all DeviceFault text e = absurd e
+served_by script history lines is all OutOfMemory text e = (e.0, inr (history, is, subst (IsFront e.0) all e.1), e.2)
+served_by script history lines is all SourceFault text e = absurd e
 
 -- a script that is served was read
 pub read_and_served : (old new : Option (List ℕ)) (before now : ℕ) (script : Script) → ReadsScript old new script → (ending : Ending) (text : List ℕ) → EndsServing script ending text → EndsPlay old new before now ending text

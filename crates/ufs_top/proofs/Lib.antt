@@ -1,4 +1,3 @@
-pub mod ServeLemmas
 pub mod WordLemmas
 pub mod WriteLemmas
 pub mod PrintLemmas

@@ -6,7 +6,6 @@ use Rattle.ufs_layout.specs.Areas.{geometry_refusal, sector_count}
 use Rattle.ufs_layout.specs.declared.geometry.Geometry.{Geometry}
 use Rattle.ufs_model.specs.declared.data.Entry.{Entry}
 use Rattle.ufs_recover.specs.Faults.{RoseTo}
-use Rattle.ufs_script.specs.Output.{output_of}
 use Rattle.ufs_script.specs.Reading.{ReadsBreak}
 use Rattle.ufs_script.specs.declared.script.Script.{Script}
 use Rattle.ufs_script.specs.declared.fault.ScriptFault.{ScriptFault}
@@ -70,11 +69,11 @@ TellsFault f ending text =
     ((f ≡ fault.Memory) × IsLine OutOfMemory memory_line ending text)
     ⊎ (((f ≡ fault.Source) × IsLine SourceFault source_line ending text) ⊎ ((¬ IsOutside f) × IsBreakLine f ending text))
 
--- a history of so many clients is written whole, or memory runs out on the way
-abbrev pub EndsPrinting : ℕ → List Entry → Ending → List ℕ → Type 0
-EndsPrinting clients history Done text = text ≡ output_of clients history
-EndsPrinting clients history OutOfMemory text = (front : List ℕ) × IsFront front (output_of clients history) × (text ≡ front ++ memory_line)
-EndsPrinting clients history _ text = ⊥
+-- these lines are written whole, or memory runs out on the way
+abbrev pub EndsPrinting : List ℕ → Ending → List ℕ → Type 0
+EndsPrinting lines Done text = text ≡ lines
+EndsPrinting lines OutOfMemory text = (front : List ℕ) × IsFront front lines × (text ≡ front ++ memory_line)
+EndsPrinting lines _ text = ⊥
 
 -- a script is served, or memory runs out before or after
 abbrev pub EndsServing : Script → Ending → List ℕ → Type 0

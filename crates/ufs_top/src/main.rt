@@ -9,7 +9,6 @@ mod print;
 mod quiet;
 #[cfg(test)]
 mod rows;
-mod serve;
 #[cfg(test)]
 mod tests;
 mod words;

@@ -1,15 +1,15 @@
-// Writing the reply lines of a history, client by client.
+// Writing the reply lines of the clients' transcripts.
 ghost use Rattle.std.specs.Prelude.{◌≡◌, ◌≢◌, List, ℕ, OnOk, OnErr};
 ghost use Rattle.std.specs.Io.KnownBytes.{Appends};
 ghost use Rattle.ufs_io.specs.Causes.{Rose};
-ghost use Rattle.ufs_model.specs.History.{entries_of};
-ghost use Rattle.ufs_script.specs.Output.{line_text, lines_of, output_of};
+ghost use Rattle.ufs_model.specs.History.{joined};
+ghost use Rattle.ufs_script.specs.Output.{line_text, lines_of};
 ghost use Rattle.ufs_top.specs.Texts.{IsFront};
 
 use crate::write::write_all;
 use std::alloc::Global;
 use ufs_io::{Failed, Sink};
-use ufs_model::{Entry, Memory};
+use ufs_model::{Entry, EntryList, Memory};
 use ufs_script::reply_line;
 
 /// Why lines weren't all written.
@@ -52,39 +52,28 @@ fn print_entry<K: Sink>(alloc: Global, sink: &mut K, entry: &Entry) -> Result<()
     Ok(())
 }
 
-fn print_client<K: Sink>(
-    alloc: Global,
-    sink: &mut K,
-    client: u8,
-    history: &[Entry],
-) -> Result<(), PrintFault>
+// Writes the lines of a client's transcript, or a front of them.
+fn print_client<K: Sink>(alloc: Global, sink: &mut K, entries: &[Entry]) -> Result<(), PrintFault>
     ensures rose { result ≡ Err PrintFault.Sink → Rose (K.faults sink.old) (K.faults sink.new) }
     ensures told { result ≢ Err PrintFault.Sink → K.faults sink.new ≡ K.faults sink.old }
-    ensures ok { OnOk result (Appends (K.held sink.old) (K.held sink.new) (lines_of (entries_of client history.now))) }
-    ensures err { OnErr result ((front : List ℕ) × IsFront front (lines_of (entries_of client history.now)) × Appends (K.held sink.old) (K.held sink.new) front) }
+    ensures ok { OnOk result (Appends (K.held sink.old) (K.held sink.new) (lines_of entries.now)) }
+    ensures err { OnErr result ((front : List ℕ) × IsFront front (lines_of entries.now) × Appends (K.held sink.old) (K.held sink.new) front) }
 {
-    for entry in history {
-        if entry.client == client {
-            print_entry(alloc, sink, entry)?;
-        }
+    for entry in entries {
+        print_entry(alloc, sink, entry)?;
     }
     Ok(())
 }
 
-/// Writes the reply lines of so many clients, or a front of them.
-pub fn print<K: Sink>(
-    alloc: Global,
-    sink: &mut K,
-    clients: u8,
-    history: &[Entry],
-) -> Result<(), PrintFault>
+/// Writes the lines of the clients' transcripts, one after the other, or a front of them.
+pub fn print<K: Sink>(alloc: Global, sink: &mut K, told: &[EntryList]) -> Result<(), PrintFault>
     ensures rose { result ≡ Err PrintFault.Sink → Rose (K.faults sink.old) (K.faults sink.new) }
     ensures told { result ≢ Err PrintFault.Sink → K.faults sink.new ≡ K.faults sink.old }
-    ensures ok { OnOk result (Appends (K.held sink.old) (K.held sink.new) (output_of clients history.now)) }
-    ensures err { OnErr result ((front : List ℕ) × IsFront front (output_of clients history.now) × Appends (K.held sink.old) (K.held sink.new) front) }
+    ensures ok { OnOk result (Appends (K.held sink.old) (K.held sink.new) (lines_of (joined told.now))) }
+    ensures err { OnErr result ((front : List ℕ) × IsFront front (lines_of (joined told.now)) × Appends (K.held sink.old) (K.held sink.new) front) }
 {
-    for client in 0..clients {
-        print_client(alloc, sink, client, history)?;
+    for list in told {
+        print_client(alloc, sink, list.as_slice())?;
     }
     Ok(())
 }

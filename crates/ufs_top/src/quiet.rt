@@ -6,8 +6,10 @@ ghost use Rattle.ufs_disk.specs.Moments.{LeavesOnly};
 ghost use Rattle.ufs_io.specs.Causes.{Rose};
 ghost use Rattle.ufs_layout.specs.Areas.{geometry_refusal, sector_count};
 ghost use Rattle.ufs_layout.specs.declared.geometry.Geometry.{Geometry};
+ghost use Rattle.ufs_model.specs.History.{joined};
 ghost use Rattle.ufs_model.specs.declared.data.Entry.{Entry};
 ghost use Rattle.ufs_recover.specs.Stopped.{IsNewDisk, IsStopped};
+ghost use Rattle.ufs_script.specs.Output.{lines_of};
 ghost use Rattle.ufs_script.specs.Script.{script_of};
 ghost use Rattle.ufs_script.specs.declared.script.Script.{Script};
 ghost use Rattle.ufs_script.specs.declared.fault.ScriptFault.{ScriptFault};
@@ -23,12 +25,11 @@ use crate::ending::Ending;
 use crate::finish::{SINK_FAULT, finish};
 use crate::mkfs::mkfs;
 use crate::print::{PrintFault, print};
-use crate::serve::serve;
 use crate::words::{Command, read_command};
 use std::alloc::Global;
 use ufs_disk::Disk;
+use ufs_engine::{EndFault, ToldLists, play};
 use ufs_io::{Sink, Source};
-use ufs_model::EntryList;
 use ufs_script::{Script, a_longer_text_breaks_alike, read_script};
 
 /// What a command gives back.
@@ -40,11 +41,11 @@ pub struct Outcome<D: Disk> {
     pub disk: D,
 }
 
-// Writes the lines of a history of so many clients, and then ends.
-fn print_history<K: Sink>(alloc: Global, sink: &mut K, clients: u8, history: &EntryList) -> u8
-    ensures { IsAnswer (EndsPrinting clients history.now) (K.held sink.old) (K.held sink.new) (K.faults sink.old) (K.faults sink.new) result }
+// Writes the lines of the clients' transcripts, and then ends.
+fn print_told<K: Sink>(alloc: Global, sink: &mut K, told: &ToldLists) -> u8
+    ensures { IsAnswer (EndsPrinting (lines_of (joined told.now))) (K.held sink.old) (K.held sink.new) (K.faults sink.old) (K.faults sink.new) result }
 {
-    match print(alloc, sink, clients, history.as_slice()) {
+    match print(alloc, sink, told.as_slice()) {
         Ok(()) => Ending::Done.status(),
         Err(PrintFault::Memory) => finish(sink, Ending::OutOfMemory),
         Err(PrintFault::Sink) => SINK_FAULT,
@@ -52,25 +53,46 @@ fn print_history<K: Sink>(alloc: Global, sink: &mut K, clients: u8, history: &En
 }
 
 // Serves a script, and writes its reply lines.
-fn serve_script<K: Sink>(alloc: Global, sink: &mut K, script: Script) -> u8
-    ensures { IsAnswer (EndsServing script) (K.held sink.old) (K.held sink.new) (K.faults sink.old) (K.faults sink.new) result }
+fn serve_script<K: Sink, D: Disk>(
+    alloc: Global,
+    sink: &mut K,
+    script: Script,
+    disk: D,
+) -> Outcome<D>
+    ensures answer { IsAnswer (EndsServing script) (K.held sink.old) (K.held sink.new) (K.faults sink.old) (K.faults sink.new) result.status }
+    ensures untouched { result.disk ≡ disk }
 {
-    let clients = script.clients.as_slice().len() as u8;
-    match serve(alloc, script.clients) {
-        Ok(history) => print_history(alloc, sink, clients, &history),
-        Err(_) => finish(sink, Ending::OutOfMemory),
+    let played = play(alloc, script, 0, disk);
+    match played.ended {
+        Ok(()) => Outcome {
+            status: print_told(alloc, sink, &played.told),
+            disk: played.disk,
+        },
+        Err(EndFault::Memory) => Outcome {
+            status: finish(sink, Ending::OutOfMemory),
+            disk: played.disk,
+        },
     }
 }
 
 // Reads a script, serves it, and writes its reply lines.
-fn play<S: Source, K: Sink>(alloc: Global, source: &mut S, sink: &mut K) -> u8
+fn read_and_serve<S: Source, K: Sink, D: Disk>(
+    alloc: Global,
+    source: &mut S,
+    sink: &mut K,
+    disk: D,
+) -> Outcome<D>
     ensures answer { IsAnswer (EndsPlay (S.left source.old) (S.left source.new) (S.faults source.old) (S.faults source.new))
-        (K.held sink.old) (K.held sink.new) (K.faults sink.old) (K.faults sink.new) result }
-    ensures source_told { result ≢ 6 → result ≢ 7 → S.faults source.new ≡ S.faults source.old }
+        (K.held sink.old) (K.held sink.new) (K.faults sink.old) (K.faults sink.new) result.status }
+    ensures untouched { result.disk ≡ disk }
+    ensures source_told { result.status ≢ 6 → result.status ≢ 7 → S.faults source.new ≡ S.faults source.old }
 {
     match read_script(alloc, source) {
-        Ok(script) => serve_script(alloc, sink, script),
-        Err(fault) => tell_fault(alloc, sink, fault),
+        Ok(script) => serve_script(alloc, sink, script, disk),
+        Err(fault) => Outcome {
+            status: tell_fault(alloc, sink, fault),
+            disk,
+        },
     }
 }
 
@@ -80,33 +102,43 @@ fn answer<S: Source, K: Sink, D: Disk>(
     words: &Vec<String>,
     source: &mut S,
     sink: &mut K,
-    disk: &mut D,
-) -> u8
+    disk: D,
+) -> Outcome<D>
     ensures answer { IsAnswer (Ends (command_of (map string_bytes words.now.items)) (S.left source.old) (S.left source.new) (S.faults source.old) (S.faults source.new)
-        (D.size disk.old) (D.faults disk.old) (D.faults disk.new)) (K.held sink.old) (K.held sink.new) (K.faults sink.old) (K.faults sink.new) result }
-    ensures formatted { IsTrue D.tells → result ≡ 0 → (g : Geometry) → command_of (map string_bytes words.now.items) ≡ mkfs_command g
-        → IsNewDisk g (D.size disk.old) (D.moments disk.new).state }
+        (D.size disk) (D.faults disk) (D.faults result.disk)) (K.held sink.old) (K.held sink.new) (K.faults sink.old) (K.faults sink.new) result.status }
+    ensures formatted { IsTrue D.tells → result.status ≡ 0 → (g : Geometry) → command_of (map string_bytes words.now.items) ≡ mkfs_command g
+        → IsNewDisk g (D.size disk) (D.moments result.disk).state }
     ensures crash { IsTrue D.tells → (g : Geometry) → command_of (map string_bytes words.now.items) ≡ mkfs_command g
-        → LeavesOnly D.keeps (IsStopped g (D.size disk.old) (D.moments disk.old).state) (D.moments disk.old) (D.moments disk.new) }
-    ensures unwritten { ¬ (IsMkfs (command_of (map string_bytes words.now.items))) → disk.new ≡ disk.old }
-    ensures refused { (g : Geometry) → command_of (map string_bytes words.now.items) ≡ mkfs_command g → geometry_refusal g ≢ None → disk.new ≡ disk.old }
-    ensures small { (g : Geometry) → command_of (map string_bytes words.now.items) ≡ mkfs_command g → D.size disk.old < sector_count g → disk.new ≡ disk.old }
-    ensures size { D.size disk.new ≡ D.size disk.old }
-    ensures disk_told { result ≢ 4 → result ≢ 5 → result ≢ 7 → D.faults disk.new ≡ D.faults disk.old }
-    ensures source_told { result ≢ 6 → result ≢ 7 → S.faults source.new ≡ S.faults source.old }
+        → LeavesOnly D.keeps (IsStopped g (D.size disk) (D.moments disk).state) (D.moments disk) (D.moments result.disk) }
+    ensures unwritten { ¬ (IsMkfs (command_of (map string_bytes words.now.items))) → result.disk ≡ disk }
+    ensures refused { (g : Geometry) → command_of (map string_bytes words.now.items) ≡ mkfs_command g → geometry_refusal g ≢ None → result.disk ≡ disk }
+    ensures small { (g : Geometry) → command_of (map string_bytes words.now.items) ≡ mkfs_command g → D.size disk < sector_count g → result.disk ≡ disk }
+    ensures size { D.size result.disk ≡ D.size disk }
+    ensures disk_told { result.status ≢ 4 → result.status ≢ 5 → result.status ≢ 7 → D.faults result.disk ≡ D.faults disk }
+    ensures source_told { result.status ≢ 6 → result.status ≢ 7 → S.faults source.new ≡ S.faults source.old }
     ensures unread { command_of (map string_bytes words.now.items) ≢ Some command.Play → (S.left source.new ≡ S.left source.old) × (S.faults source.new ≡ S.faults source.old) }
 {
     match read_command(words.as_slice()) {
-        Some(Command::Play) => play(alloc, source, sink),
+        Some(Command::Play) => read_and_serve(alloc, source, sink, disk),
         Some(
             Command::Mkfs {
                 blocks,
                 inodes,
                 journal,
             },
-        ) => mkfs(alloc, blocks, inodes, journal, sink, disk),
-        Some(Command::NotBuilt) => finish(sink, Ending::NotBuilt),
-        None => finish(sink, Ending::Usage),
+        ) => {
+            let mut disk = disk;
+            let status = mkfs(alloc, blocks, inodes, journal, sink, &mut disk);
+            Outcome { status, disk }
+        }
+        Some(Command::NotBuilt) => Outcome {
+            status: finish(sink, Ending::NotBuilt),
+            disk,
+        },
+        None => Outcome {
+            status: finish(sink, Ending::Usage),
+            disk,
+        },
     }
 }
 
@@ -175,7 +207,5 @@ pub fn quiet<S: Source, K: Sink, D: Disk>(
         → (result.status ≡ 0) ⊎ (result.status ≡ 5) }
 {
     a_longer_text_breaks_alike();
-    let mut disk = disk;
-    let status = answer(alloc, words, source, sink, &mut disk);
-    Outcome { status, disk }
+    answer(alloc, words, source, sink, disk)
 }

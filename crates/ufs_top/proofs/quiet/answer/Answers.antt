@@ -19,23 +19,23 @@ returns-in-Some-Mkfs-clause-answer g c =
     let faults = g.K.Sink.faults in
     let left = g.S.Source.left c.args.source.now in
     let risen = g.S.Source.faults c.args.source.now in
-    subst (λ (w : Option Command). IsAnswer (Ends w left left risen risen (g.D.Disk.size c.args.disk.now) (g.D.Disk.faults c.args.disk.now) (g.D.Disk.faults c.mkfs.new.disk))
-    (held c.args.sink.now) (held c.mkfs.new.sink) (faults c.args.sink.now) (faults c.mkfs.new.sink) c.mkfs.result) (sym is) c.mkfs.ensures.answer
+    subst (λ (w : Option Command). IsAnswer (Ends w left left risen risen (g.D.Disk.size c.args.disk) (g.D.Disk.faults c.args.disk) (g.D.Disk.faults c.mkfs-status.new.disk))
+    (held c.args.sink.now) (held c.mkfs-status.new.sink) (faults c.args.sink.now) (faults c.mkfs-status.new.sink) c.mkfs-status.result) (sym is) c.mkfs-status.ensures.answer
 
 pub returns-in-Some-Mkfs-clause-formatted : goal.returns-in-Some-Mkfs-clause-formatted
 returns-in-Some-Mkfs-clause-formatted g c tells zero h same =
     let asked : Geometry = record { blocks = c.in-Some-Mkfs.blocks; inodes = c.in-Some-Mkfs.inodes; journal = c.in-Some-Mkfs.journal } in
     let words = command_of (map string_bytes c.args.words.now.items) in
     let is : words ≡ mkfs_command asked = cc in
-    subst (λ (x : Geometry). IsNewDisk x (g.D.Disk.size c.args.disk.now) (g.D.Disk.moments c.mkfs.new.disk).state) (same_geometry words asked h is same) (c.mkfs.ensures.formatted tells zero)
+    subst (λ (x : Geometry). IsNewDisk x (g.D.Disk.size c.args.disk) (g.D.Disk.moments c.mkfs-status.new.disk).state) (same_geometry words asked h is same) (c.mkfs-status.ensures.formatted tells zero)
 
 pub returns-in-Some-Mkfs-clause-crash : goal.returns-in-Some-Mkfs-clause-crash
 returns-in-Some-Mkfs-clause-crash g c tells h same =
     let asked : Geometry = record { blocks = c.in-Some-Mkfs.blocks; inodes = c.in-Some-Mkfs.inodes; journal = c.in-Some-Mkfs.journal } in
     let words = command_of (map string_bytes c.args.words.now.items) in
     let is : words ≡ mkfs_command asked = cc in
-    let old = g.D.Disk.moments c.args.disk.now in
-    subst (λ (x : Geometry). LeavesOnly g.D.Disk.keeps (IsStopped x (g.D.Disk.size c.args.disk.now) old.state) old (g.D.Disk.moments c.mkfs.new.disk)) (same_geometry words asked h is same) (c.mkfs.ensures.crash tells)
+    let old = g.D.Disk.moments c.args.disk in
+    subst (λ (x : Geometry). LeavesOnly g.D.Disk.keeps (IsStopped x (g.D.Disk.size c.args.disk) old.state) old (g.D.Disk.moments c.mkfs-status.new.disk)) (same_geometry words asked h is same) (c.mkfs-status.ensures.crash tells)
 
 pub returns-in-Some-Mkfs-clause-unwritten : goal.returns-in-Some-Mkfs-clause-unwritten
 returns-in-Some-Mkfs-clause-unwritten g c other =
@@ -49,14 +49,14 @@ returns-in-Some-Mkfs-clause-refused g c h same bad =
     let asked : Geometry = record { blocks = c.in-Some-Mkfs.blocks; inodes = c.in-Some-Mkfs.inodes; journal = c.in-Some-Mkfs.journal } in
     let words = command_of (map string_bytes c.args.words.now.items) in
     let is : words ≡ mkfs_command asked = cc in
-    c.mkfs.ensures.refused (λ none. bad (ap geometry_refusal (sym (same_geometry words asked h is same)) ∙ none))
+    c.mkfs-status.ensures.refused (λ none. bad (ap geometry_refusal (sym (same_geometry words asked h is same)) ∙ none))
 
 pub returns-in-Some-Mkfs-clause-small : goal.returns-in-Some-Mkfs-clause-small
 returns-in-Some-Mkfs-clause-small g c h same less =
     let asked : Geometry = record { blocks = c.in-Some-Mkfs.blocks; inodes = c.in-Some-Mkfs.inodes; journal = c.in-Some-Mkfs.journal } in
     let words = command_of (map string_bytes c.args.words.now.items) in
     let is : words ≡ mkfs_command asked = cc in
-    c.mkfs.ensures.small (subst (λ (x : Geometry). g.D.Disk.size c.args.disk.now < sector_count x) (sym (same_geometry words asked h is same)) less)
+    c.mkfs-status.ensures.small (subst (λ (x : Geometry). g.D.Disk.size c.args.disk < sector_count x) (sym (same_geometry words asked h is same)) less)
 
 pub returns-in-Some-Play-clause-answer : goal.returns-in-Some-Play-clause-answer
 returns-in-Some-Play-clause-answer g c =
@@ -67,6 +67,6 @@ returns-in-Some-Play-clause-answer g c =
     let left = g.S.Source.left in
     let risen = g.S.Source.faults in
     let old = c.args.source.now in
-    let new = c.play.new.source in
-    subst (λ (w : Option Command). IsAnswer (Ends w (left old) (left new) (risen old) (risen new) (g.D.Disk.size c.args.disk.now) (g.D.Disk.faults c.args.disk.now) (g.D.Disk.faults c.args.disk.now))
-    (held c.args.sink.now) (held c.play.new.sink) (faults c.args.sink.now) (faults c.play.new.sink) c.play.result) (sym is) c.play.ensures.answer
+    let new = c.read_and_serve.new.source in
+    subst (λ (w : Option Command). IsAnswer (Ends w (left old) (left new) (risen old) (risen new) (g.D.Disk.size c.args.disk) (g.D.Disk.faults c.args.disk) (g.D.Disk.faults c.read_and_serve.result.disk))
+    (held c.args.sink.now) (held c.read_and_serve.new.sink) (faults c.args.sink.now) (faults c.read_and_serve.new.sink) c.read_and_serve.result.status) (sym is) c.read_and_serve.ensures.answer

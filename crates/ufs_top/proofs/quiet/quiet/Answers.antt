@@ -10,10 +10,10 @@ returns-clause-complete_mkfs g c h is taken large calm quiet =
     let faults = g.K.Sink.faults in
     let left = g.S.Source.left in
     let risen = g.S.Source.faults in
-    let new = c.answer-status.new in
-    mkfs_complete h (g.D.Disk.size c.args.disk) (g.D.Disk.faults c.args.disk) (g.D.Disk.faults new.disk) taken large calm
+    let new = c.answer.new in
+    mkfs_complete h (g.D.Disk.size c.args.disk) (g.D.Disk.faults c.args.disk) (g.D.Disk.faults c.answer.result.disk) taken large calm
     (command_of (map string_bytes c.args.words.now.items)) (left c.args.source.now) (left new.source) (risen c.args.source.now) (risen new.source)
-    (held c.args.sink.now) (held new.sink) (faults c.args.sink.now) (faults new.sink) c.answer-status.result c.answer-status.ensures.answer is quiet
+    (held c.args.sink.now) (held new.sink) (faults c.args.sink.now) (faults new.sink) c.answer.result.status c.answer.ensures.answer is quiet
 
 pub returns-clause-done : goal.returns-clause-done
 returns-clause-done g c zero is =
@@ -21,10 +21,10 @@ returns-clause-done g c zero is =
     let faults = g.K.Sink.faults in
     let left = g.S.Source.left in
     let risen = g.S.Source.faults in
-    let new = c.answer-status.new in
+    let new = c.answer.new in
     play_done (command_of (map string_bytes c.args.words.now.items)) is (left c.args.source.now) (left new.source) (risen c.args.source.now) (risen new.source)
-    (g.D.Disk.size c.args.disk) (g.D.Disk.faults c.args.disk) (g.D.Disk.faults new.disk) (held c.args.sink.now) (held new.sink) (faults c.args.sink.now) (faults new.sink) c.answer-status.result
-    c.answer-status.ensures.answer zero
+    (g.D.Disk.size c.args.disk) (g.D.Disk.faults c.args.disk) (g.D.Disk.faults c.answer.result.disk) (held c.args.sink.now) (held new.sink) (faults c.args.sink.now) (faults new.sink) c.answer.result.status
+    c.answer.ensures.answer zero
 
 pub returns-clause-complete : goal.returns-clause-complete
 returns-clause-complete g c text script is told taken calm quiet =
@@ -32,10 +32,10 @@ returns-clause-complete g c text script is told taken calm quiet =
     let faults = g.K.Sink.faults in
     let left = g.S.Source.left in
     let risen = g.S.Source.faults in
-    let new = c.answer-status.new in
+    let new = c.answer.new in
     play_complete (command_of (map string_bytes c.args.words.now.items)) is (left c.args.source.now) (left new.source) (risen c.args.source.now) (risen new.source)
-    (g.D.Disk.size c.args.disk) (g.D.Disk.faults c.args.disk) (g.D.Disk.faults new.disk) (held c.args.sink.now) (held new.sink) (faults c.args.sink.now) (faults new.sink) c.answer-status.result
-    c.answer-status.ensures.answer c.a_longer_text_breaks_alike.ensures text script told taken calm quiet
+    (g.D.Disk.size c.args.disk) (g.D.Disk.faults c.args.disk) (g.D.Disk.faults c.answer.result.disk) (held c.args.sink.now) (held new.sink) (faults c.args.sink.now) (faults new.sink) c.answer.result.status
+    c.answer.ensures.answer c.a_longer_text_breaks_alike.ensures text script told taken calm quiet
 
 pub returns-clause-broken : goal.returns-clause-broken
 returns-clause-broken g c text f is told broken calm quiet =
@@ -43,7 +43,7 @@ returns-clause-broken g c text f is told broken calm quiet =
     let faults = g.K.Sink.faults in
     let left = g.S.Source.left in
     let risen = g.S.Source.faults in
-    let new = c.answer-status.new in
+    let new = c.answer.new in
     play_broken (command_of (map string_bytes c.args.words.now.items)) is (left c.args.source.now) (left new.source) (risen c.args.source.now) (risen new.source)
-    (g.D.Disk.size c.args.disk) (g.D.Disk.faults c.args.disk) (g.D.Disk.faults new.disk) (held c.args.sink.now) (held new.sink) (faults c.args.sink.now) (faults new.sink) c.answer-status.result
-    c.answer-status.ensures.answer c.a_longer_text_breaks_alike.ensures text f told broken calm quiet
+    (g.D.Disk.size c.args.disk) (g.D.Disk.faults c.args.disk) (g.D.Disk.faults c.answer.result.disk) (held c.args.sink.now) (held new.sink) (faults c.args.sink.now) (faults new.sink) c.answer.result.status
+    c.answer.ensures.answer c.a_longer_text_breaks_alike.ensures text f told broken calm quiet

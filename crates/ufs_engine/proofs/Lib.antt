@@ -1,0 +1,4 @@
+pub mod TableLemmas
+pub mod RangeLemmas
+pub mod ServingLemmas
+pub mod ClientsLemmas

@@ -1,0 +1,4 @@
+pub mod Stub
+pub mod Played
+pub mod Clients
+pub mod Serving

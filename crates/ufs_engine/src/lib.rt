@@ -1,0 +1,10 @@
+//! Serving a session: all clients' requests by one namespace, and for each client a transcript.
+#![tactic(auto)]
+
+mod client;
+mod played;
+mod session;
+mod stub;
+
+pub use played::{EndFault, Played, ToldLists};
+pub use session::play;
