@@ -1,12 +1,12 @@
 -- The clients are served one after another.
 use Rattle.std.proofs.Common.{◌≡◌, ℕ, ◌+◌, ◌*◌, ◌≤◌, ◌<◌, List, [], ◌∷◌, ◌++◌, Some, None, ap, sym, refl, subst, ◌∙◌, length, arith, zero, suc, ◌⊎◌, inl, inr, unwrap_or}
-use Rattle.std.specs.Prelude.{slice_get}
-use Rattle.std.specs.List.{AllByRecursion}
+use Rattle.std.specs.Prelude.{slice_get, nat_eq, false}
+use Rattle.std.specs.List.{AllByRecursion, IsDistinct}
 use Rattle.std.specs.FinMap as map
 use Rattle.std.specs.FinMap.{get-empty}
-use Rattle.std.proofs.lemmas.Bool.{cases_eq}
+use Rattle.std.proofs.lemmas.Bool.{cases_eq, ne_eqb}
 use Rattle.std.proofs.lemmas.List.{length-append, append-nil, append_assoc}
-use Rattle.ufs_model.specs.History.{IsLegal, IsLegalFrom, IsInOrder, IsComplete, AreUnexcused, DoTicketsRise, goes_on, joined, entries_of, requests_of}
+use Rattle.ufs_model.specs.History.{IsLegal, IsLegalFrom, IsInOrder, IsComplete, AreUnexcused, DoTicketsRise, AreTicketsOnce, tickets_of, goes_on, joined, entries_of, requests_of}
 use Rattle.ufs_model.specs.PosixTree.{PosixTree, root_alone}
 use Rattle.ufs_model.specs.Facts.Histories.{order_none}
 use Rattle.ufs_model.specs.declared.data.Entry.{Entry}
@@ -50,6 +50,16 @@ rising_from : (ticket : ℕ) (t : PosixTree) (history : List Entry) → IsLegalF
 rising_from ticket t [] legal = tt
 rising_from ticket t (e ∷ history) legal =
     (all_above e.ticket (ticket + 1) (goes_on t e) history (let at = legal.0.numbered in omega (arith, at)) legal.1, rising_from (ticket + 1) (goes_on t e) history legal.1)
+
+-- so no two are one
+apart_from : (low : ℕ) (history : List Entry) → AllByRecursion (λ (later : Entry). low < later.ticket) history → AllByRecursion (λ (n : ℕ). nat_eq low n ≡ false) (tickets_of history)
+apart_from low [] above = tt
+apart_from low (e ∷ history) above = (ne_eqb low e.ticket (λ same. let less = above.0 in omega (arith, same, less)), apart_from low history above.1)
+
+pub once_rising : (history : List Entry) → DoTicketsRise history → AreTicketsOnce history
+unfolding IsDistinct
+once_rising [] rising = tt
+once_rising (e ∷ history) rising = (apart_from e.ticket history rising.0, once_rising history rising.1)
 
 -- ---- all clients
 

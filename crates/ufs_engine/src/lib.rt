@@ -5,6 +5,8 @@ mod client;
 mod played;
 mod session;
 mod stub;
+#[cfg(test)]
+mod tests;
 
 pub use played::{EndFault, Played, ToldLists};
 pub use session::play;

@@ -1,7 +1,7 @@
 // Playing a script on one thread.
 ghost use Rattle.std.specs.Prelude.{◌≡◌, ◌≤◌, ◌<◌, ◌*◌, [], List, OnOk, length};
 ghost use Rattle.ufs_model.specs.PosixTree.{root_alone};
-ghost use Rattle.ufs_model.specs.History.{IsLegal, IsInOrder, IsComplete, AreUnexcused, is_excused, joined};
+ghost use Rattle.ufs_model.specs.History.{IsLegal, IsInOrder, IsComplete, AreUnexcused, AreTicketsOnce, is_excused, joined};
 ghost use Rattle.ufs_model.specs.declared.data.Entry.{Entry};
 ghost use Rattle.ufs_engine.specs.Stub.{IsPartOf};
 ghost use Rattle.ufs_engine.specs.Played.{IsMerged, IsPlayed};
@@ -105,6 +105,7 @@ fn serve(alloc: Global, clients: OpLists, told: &mut Vec<EntryList>) -> Result<(
 /// yet, and the disk isn't touched. Want of memory ends the session.
 pub fn play<D: Disk>(alloc: Global, script: Script, _lease: u32, disk: D) -> Played<D>
     ensures played { (history : List Entry) × IsPlayed script.clients result.told result.ended history }
+    ensures once { AreTicketsOnce (joined result.told) }
     ensures untouched { result.disk ≡ disk }
 {
     let mut told = Vec::new(alloc);
