@@ -1,5 +1,5 @@
 -- The part of the names, with the bytes of the files; and the trees that it is a part of.
-use Rattle.std.specs.Prelude.{ℕ, ◌≡◌, ◌||◌, Bool, true, false, List, Option, Some, None, unwrap_or, slice_index_or, slice_set, if◌then◌else◌, replicate}
+use Rattle.std.specs.Prelude.{ℕ, ◌≡◌, ◌||◌, Bool, true, false, List, Option, Some, None, is_some, unwrap_or, slice_index_or, slice_set, if◌then◌else◌, replicate}
 use Rattle.std.specs.List.{list_any}
 use Rattle.std.specs.Ordering.{nat_cmp}
 use Rattle.std.specs.FinMap as map
@@ -81,3 +81,5 @@ pub record IsPartOf (n : NamesPart) (t : PosixTree) : Type 0 where
   pub next : n.next ≡ t.next
   pub linked : (f : ℕ) → is_linked n.held f ≡ list_any (is_node_of f) (map.values t.paths)
   pub held : (f client : ℕ) → is_holder n.held f client ≡ holds t.fds client f
+  -- and exactly the files that have bytes are told of
+  pub told : (f : ℕ) → is_some (map.get n.held f) ≡ is_some (map.get n.bytes f)

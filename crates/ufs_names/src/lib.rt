@@ -2,6 +2,9 @@
 #![tactic(auto)]
 
 mod found;
+mod hold_map;
 mod holding;
+mod names;
+mod path_calls;
 
 pub use found::Found;
