@@ -4,9 +4,9 @@ use Rattle.std.specs.Option.{option_map}
 use Rattle.std.specs.Coded.{Coded, code_by, coded×, coded_ℕ, coded_list}
 use Rattle.ufs_layout.specs.DentryForm.{DentryForm}
 use Rattle.ufs_dirs.specs.Directory.{Directory, entry_of}
-use Rattle.ufs_model.specs.Paths.{component_refusal}
 use Rattle.ufs_model.specs.declared.data.Node.{Node}
 use Rattle.ufs_model.specs.declared.data.Node.TheVariants as node
+use Rattle.ufs_path.specs.Names.{IsName}
 use Rattle.ufs_names.specs.declared.found.Found.{Found}
 use Rattle.ufs_names.specs.declared.found.Found.TheVariants.{Dir, File}
 
@@ -71,7 +71,7 @@ pub record IsDirTable (t : DirTable) : Type 0 where
   -- one walk alone leads to a directory
   pub once : (names others : List (List ℕ)) (i : ℕ) → found_at t names ≡ Some (Dir i) → found_at t others ≡ Some (Dir i) → names ≡ others
   pub free : AreFree t
+  -- each name may stand in a path
+  pub names : (i : ℕ) (name : List ℕ) → IsSome (entry_of (slots_at t i) name) → IsName name
   -- a directory numbers its blocks from 0
   pub blocks : (i : ℕ) → All (λ b. b < length (dir_at t i).blocks) (dir_at t i).blocks
-  -- each name may stand in a path
-  pub names : (i : ℕ) (name : List ℕ) → IsSome (entry_of (slots_at t i) name) → component_refusal name ≡ None
