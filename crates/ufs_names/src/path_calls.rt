@@ -176,4 +176,49 @@ impl Names {
             }
         }
     }
+
+    /// A new name for what stands at one path, where another may stand.
+    fn rename_refusal(&self, from: &PathText, to: &PathText) -> Option<Errno> {
+        if from.is_root() || to.is_root() {
+            return Some(Errno::Ebusy);
+        }
+        let old = match self.dirs.look(from) {
+            Ok(found) => node_of(found),
+            Err(e) => return Some(e),
+        };
+        if old.is_none() {
+            return Some(Errno::Enoent);
+        }
+        match self.dirs.look(to) {
+            Ok(found) => replace_refusal(
+                old,
+                node_of(found),
+                is_below(from.whole(), to.whole()),
+                from.whole() == to.whole(),
+                self.has_entries(found),
+            ),
+            Err(e) => Some(e),
+        }
+    }
+
+    /// What stood at the new name goes. A name onto itself changes nothing.
+    fn change_rename(&mut self, from: &PathText, to: &PathText) -> Result<(), Memory> {
+        if from.whole() == to.whole() {
+            return Ok(());
+        }
+        let replaced = match self.dirs.look(to) {
+            Ok(found) => found,
+            Err(_) => None,
+        };
+        self.dirs.rename(from, to)?;
+        self.forget_name(replaced);
+        Ok(())
+    }
+}
+
+fn node_of(found: Option<Found>) -> Option<Node> {
+    match found {
+        Some(found) => Some(found.node()),
+        None => None,
+    }
 }
