@@ -5,7 +5,7 @@ use Rattle.ufs_model.specs.Paths.{refused_if}
 use Rattle.ufs_model.specs.PosixTree.{PosixTree, Paths, Files, Fds}
 use Rattle.ufs_model.specs.Descriptors.{closed, moved, seek_to, is_offset}
 use Rattle.ufs_model.specs.FileBytes.{content, part, put_at, resized, place_of, is_past, max_size}
-use Rattle.ufs_model.specs.Asks.{IsAsk, desc_of_fd, fd_told}
+use Rattle.ufs_model.specs.Asks.{IsDescAfter, fd_told}
 use Rattle.ufs_model.specs.Posix.{posix}
 use Rattle.ufs_model.specs.declared.data.Op.{Op}
 use Rattle.ufs_model.specs.declared.data.Op.TheVariants as op
@@ -92,4 +92,4 @@ pub record IsEntryOf (ask : Ask) (ticket : ℕ) (entry : Entry) : Type 0 where
 pub record IsServed (t : PosixTree) (ask : Ask) (new : NamesPart) (reply : Reply) (desc : Option Desc) : Type 0 where
   pub replied : reply ≡ (posix t ask.client ask.op).1
   pub goes_on : IsPartOf new (posix t ask.client ask.op).0
-  pub told : desc ≡ desc_of_fd (posix t ask.client ask.op).0.fds ask.client (fd_told ask.op reply)
+  pub told : IsDescAfter t.fds (posix t ask.client ask.op).0.fds ask.client (fd_told ask.op reply) desc

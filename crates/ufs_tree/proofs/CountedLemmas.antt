@@ -14,7 +14,8 @@ use Rattle.ufs_model.specs.Paths.{IsWhole}
 use Rattle.ufs_model.specs.PosixTree.{Paths, stands, is_node_of}
 use Rattle.ufs_model.specs.declared.data.Node.{Node}
 use Rattle.ufs_tree.specs.Counted.{CountsByFile, CountsByDir, count_at, IsCountedByPath}
-use Rattle.ufs_tree.proofs.SeenLemmas.{path_total, path_same, entries-empty}
+use Rattle.ufs_model.specs.Facts.Orders.{path_total, path_same}
+use Rattle.ufs_model.specs.Facts.Rising.{entries-empty}
 use Rattle.ufs_tree.proofs.CountLemmas.{any-count, count-insert, count-remove, count-replace, count-values, count-keys, length-filtered}
 use Rattle.ufs_tree.proofs.HolderLemmas.{no_count}
 

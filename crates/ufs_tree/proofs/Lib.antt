@@ -1,8 +1,4 @@
 pub mod ListLemmas
-pub mod SeenLemmas
-pub mod InsertLemmas
-pub mod ByteLemmas
-pub mod FileLemmas
 pub mod FdLemmas
 pub mod CountLemmas
 pub mod HolderLemmas

@@ -10,7 +10,8 @@ use Rattle.ufs_model.specs.Order.{path_cmp}
 use Rattle.ufs_model.specs.PosixTree.{Paths}
 use Rattle.ufs_model.specs.declared.data.Node.{Node}
 use Rattle.ufs_tree.specs.Moved.{or_else, put_over, taken_away}
-use Rattle.ufs_tree.proofs.SeenLemmas.{tied, path_total, path_same}
+use Rattle.ufs_model.specs.Facts.Lookups.{tied}
+use Rattle.ufs_model.specs.Facts.Orders.{path_total, path_same}
 use Rattle.ufs_tree.proofs.RisingLemmas.{find-earlier}
 use Rattle.ufs_tree.proofs.ListLemmas.{all_take, recursion_from_all, round_place}
 use Rattle.ufs_tree.proofs.NameLemmas.{Nodes}

@@ -16,7 +16,8 @@ use Rattle.ufs_model.specs.Paths.{IsWhole, components, parent_of}
 use Rattle.ufs_model.specs.PosixTree.{Paths, stands, root}
 use Rattle.ufs_model.specs.declared.data.Node.{Node}
 use Rattle.ufs_tree.specs.Below.{front, names_among}
-use Rattle.ufs_tree.proofs.SeenLemmas.{tied, path_total}
+use Rattle.ufs_model.specs.Facts.Lookups.{tied}
+use Rattle.ufs_model.specs.Facts.Orders.{path_total}
 use Rattle.ufs_tree.proofs.RisingLemmas.{rising-filter, entries-rise, found_there}
 use Rattle.ufs_tree.proofs.ListLemmas.{all_from_recursion, all_filter}
 use Rattle.ufs_tree.proofs.HolderLemmas.{path_is, path_ties}

@@ -15,7 +15,7 @@ use Rattle.ufs_model.specs.Start.{PathNodes, IsPathTree, start_from, next_from, 
 use Rattle.ufs_model.specs.declared.data.PathEntry.{PathEntry}
 use Rattle.ufs_model.specs.declared.data.PathNode.{PathNode}
 use Rattle.ufs_model.specs.declared.data.PathNode.TheVariants as path_node
-use Rattle.ufs_tree.proofs.SeenLemmas.{path_total, path_same}
+use Rattle.ufs_model.specs.Facts.Orders.{path_total, path_same}
 use Rattle.ufs_tree.proofs.ListLemmas.{from_place}
 use Rattle.ufs_tree.proofs.RisingLemmas.{find-earlier, found_there}
 use Rattle.ufs_tree.proofs.StartLemmas.{Pairs, paths_from-push, bytes_from-push, next_from-push, next_from-append, next_rises, stands-paths_from, held-bytes_from, within_zero}

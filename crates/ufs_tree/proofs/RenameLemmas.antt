@@ -17,7 +17,8 @@ use Rattle.ufs_model.specs.Directories.{starts_with, is_below, has_entries, rena
 use Rattle.ufs_model.specs.Paths.{IsWhole}
 use Rattle.ufs_model.specs.PosixTree.{Paths, IsNamespace, stands, has_dir, root}
 use Rattle.ufs_tree.specs.Moved.{or_else, put_over, taken_away, moved}
-use Rattle.ufs_tree.proofs.SeenLemmas.{path_total, path_same, looked}
+use Rattle.ufs_model.specs.Facts.Orders.{path_total, path_same}
+use Rattle.ufs_calls.specs.Facts.Maps.{looked}
 use Rattle.ufs_tree.proofs.RisingLemmas.{rising-filter, entries-rise}
 use Rattle.ufs_tree.proofs.HolderLemmas.{path_is, path_ties}
 use Rattle.ufs_tree.proofs.ListLemmas.{all_from_recursion, all_map, all_map₂, all_filter, all_passing}

@@ -2,22 +2,11 @@
 use Rattle.std.specs.Prelude.{ℕ, List, [], Bool, if◌then◌else◌, Option, Some, None}
 use Rattle.std.specs.FinMap as map
 use Rattle.ufs_model.specs.PosixTree.{PosixTree}
-use Rattle.ufs_model.specs.Descriptors.{Mode}
 use Rattle.ufs_model.specs.Posix.{with_file, with_bytes, change}
-use Rattle.ufs_model.specs.Walk.{file_of}
 use Rattle.ufs_model.specs.declared.data.Op.{Op}
 use Rattle.ufs_model.specs.declared.data.Op.TheVariants as op
 use Rattle.ufs_model.specs.declared.data.Node.{Node}
 use Rattle.ufs_model.specs.declared.data.Node.TheVariants.{Dir, File}
-use Rattle.ufs_tree.specs.declared.change.Mode as code
-
-abbrev pub mode_of : code.Mode → Mode
-mode_of m = record { read = m.read; write = m.write; creat = m.creat; excl = m.excl; trunc = m.trunc; append = m.append }
-
--- the file that an `open` gives: the one that is there, or a new one; none of a directory
-abbrev pub file_named : Option Node → ℕ → Option ℕ
-file_named None next = Some next
-file_named (Some node) next = file_of (Some node)
 
 -- the missing file is made, or the one that is there emptied
 abbrev pub made_or_emptied : PosixTree → List ℕ → Option Node → Bool → PosixTree

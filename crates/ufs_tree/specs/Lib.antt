@@ -1,4 +1,3 @@
-pub mod Seen
 pub mod Counted
 pub mod Below
 pub mod Moved

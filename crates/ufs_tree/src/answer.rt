@@ -1,40 +1,13 @@
 // The reply to a request that isn't refused.
-ghost use Rattle.std.specs.Prelude.{◌≡◌, IfOk, length};
-ghost use Rattle.ufs_model.specs.FileBytes as file_bytes;
-
-use crate::refusal::{seek_to, text};
 use crate::tree::Parts;
-use std::alloc::{AllocError, Global};
+use ufs_calls::{part, seek_to, text};
 use ufs_model::{Bytes, Memory, Node, Op, Reply, Whence};
-
-/// How many bytes there are from a place on, at most n.
-pub(crate) fn count_from(bytes: &[u8], at: u64, n: u32) -> usize
-    ensures { result ≡ length (file_bytes.part bytes.now at n) }
-{
-    let size = bytes.len();
-    if at >= size as u64 {
-        return 0;
-    }
-    (size - at as usize).min(n as usize)
-}
-
-/// The bytes from a place on, at most n.
-fn part(alloc: Global, bytes: &[u8], at: u64, n: u32) -> Result<Vec<u8>, AllocError>
-    ensures { IfOk result (λ part. part.items ≡ file_bytes.part bytes.now at n) }
-{
-    let size = bytes.len() as u64;
-    if at >= size {
-        return Ok(Vec::new(alloc));
-    }
-    let start = at as usize;
-    let count = (bytes.len() - start).min(n as usize);
-    bytes[start..start + count].to_vec(alloc)
-}
 
 impl Parts {
     ghost use Rattle.std.specs.Prelude.{◌≡◌, IfOk, None, List, ℕ};
     ghost use Rattle.ufs_model.specs.Bounds.{IsBounded};
     ghost use Rattle.ufs_model.specs.PosixTree.{IsTree};
+    ghost use Rattle.ufs_model.specs.FileBytes as file_bytes;
     ghost use Rattle.ufs_model.specs.Posix as posix;
     ghost use Rattle.ufs_model.specs.Refusals.{refusal, tree_refusal};
     ghost use Rattle.ufs_model.specs.Walk.{node_at};

@@ -1,60 +1,7 @@
 // What a request that isn't refused changes. Each step that may fail comes before the first that can't be undone.
-ghost use Rattle.std.specs.Prelude.{◌≡◌};
-ghost use Rattle.ufs_model.specs.Walk as walk;
-ghost use Rattle.ufs_tree.specs.Changes.{file_named};
-
-use crate::answer::count_from;
-use crate::refusal::{place_of, text};
 use crate::tree::Parts;
-use ufs_model::{Bytes, Desc, Memory, Node, Op, two_names_lie_apart};
-
-/// How a path is opened.
-#[derive(Clone, Copy)]
-struct Mode {
-    read: bool,
-    write: bool,
-    creat: bool,
-    excl: bool,
-    trunc: bool,
-    append: bool,
-}
-
-impl Mode {
-    ghost use Rattle.std.specs.Prelude.{◌≡◌};
-    ghost use Rattle.ufs_model.specs.Descriptors.{desc_of};
-    ghost use Rattle.ufs_tree.specs.Changes.{mode_of};
-
-    fn desc(self, file: Option<u32>) -> Desc
-        ensures { result ≡ desc_of (mode_of self) file }
-    {
-        Desc {
-            file,
-            at: 0,
-            read: self.read,
-            write: self.write,
-            append: self.append,
-        }
-    }
-}
-
-/// The file that an `open` gives: the one that is there, or a new one.
-fn file_named(node: Option<Node>, next: u32) -> Option<u32>
-    ensures { result ≡ file_named node next }
-{
-    match node {
-        None => Some(next),
-        Some(node) => file_of(Some(node)),
-    }
-}
-
-fn file_of(node: Option<Node>) -> Option<u32>
-    ensures { result ≡ walk.file_of node }
-{
-    match node {
-        Some(Node::File(file)) => Some(file),
-        _ => None,
-    }
-}
+use ufs_calls::{Mode, count_from, file_named, file_of, place_of, text};
+use ufs_model::{Bytes, Memory, Node, Op, two_names_lie_apart};
 
 impl Parts {
     ghost use Rattle.std.specs.Prelude.{◌≡◌, ◌<◌, ◌≤◌, ◌^◌, ◌≢◌, OnOk, OnErr, None, length, true, false, is_none};
@@ -67,7 +14,8 @@ impl Parts {
     ghost use Rattle.ufs_model.specs.Descriptors as descriptors;
     ghost use Rattle.ufs_model.specs.Refusals.{refusal};
     ghost use Rattle.ufs_model.specs.FileBytes.{max_size, is_past, place_of, content, resized};
-    ghost use Rattle.ufs_tree.specs.Changes.{mode_of, made_or_emptied, with_dir, change_open};
+    ghost use Rattle.ufs_calls.specs.Modes.{mode_of};
+    ghost use Rattle.ufs_tree.specs.Changes.{made_or_emptied, with_dir, change_open};
     ghost use Rattle.ufs_model.specs.declared.data.Op.TheVariants as op;
     ghost use Rattle.ufs_tree.specs.Parts.{tree_of};
 
@@ -287,25 +235,10 @@ impl Parts {
         ensures err { OnErr result (tree_of self.new ≡ tree_of self.old) }
     {
         match op {
-            Op::OpenFile {
-                path,
-                read,
-                write,
-                creat,
-                excl,
-                trunc,
-                append,
-            } => {
-                let mode = Mode {
-                    read: *read,
-                    write: *write,
-                    creat: *creat,
-                    excl: *excl,
-                    trunc: *trunc,
-                    append: *append,
-                };
-                self.open(client, text(self.alloc, path)?.whole(), mode)
-            }
+            Op::OpenFile { path, .. } => match Mode::of(op) {
+                Some(mode) => self.open(client, text(self.alloc, path)?.whole(), mode),
+                None => unreachable!(),
+            },
             Op::Mkdir { path } => self.mkdir(text(self.alloc, path)?.whole()),
             Op::Rmdir { path } | Op::Unlink { path } => {
                 self.remove(text(self.alloc, path)?.whole());

@@ -17,7 +17,7 @@ impl Model for DescMap {
     ghost use Rattle.std.specs.FinMap as map;
     ghost use Rattle.ufs_model.specs.declared.data.Desc.{Desc};
     ghost use Rattle.ufs_model.specs.Order.{fd_cmp};
-    ghost use Rattle.ufs_tree.specs.Seen.{seen};
+    ghost use Rattle.ufs_calls.specs.Seen.{seen};
     ghost use Rattle.std.specs.Coded.{coded×, coded_ℕ};
     ghost use Rattle.ufs_model.specs.contracts.data.Desc as desc;
 

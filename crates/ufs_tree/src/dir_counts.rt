@@ -16,7 +16,7 @@ impl Model for DirCounts {
     ghost use Rattle.std.specs.FinMap as map;
     ghost use Rattle.ufs_model.specs.Order.{path_cmp};
     ghost use Rattle.ufs_tree.specs.Counted.{CountsByDir};
-    ghost use Rattle.ufs_tree.specs.Seen.{seen};
+    ghost use Rattle.ufs_calls.specs.Seen.{seen};
     ghost use Rattle.std.specs.Coded.{coded_ℕ, coded_list};
 
     ghost Value = { CountsByDir };

@@ -16,7 +16,7 @@ impl Model for FileCounts {
     ghost use Rattle.std.specs.FinMap as map;
     ghost use Rattle.std.specs.Ordering.{nat_cmp};
     ghost use Rattle.ufs_tree.specs.Counted.{CountsByFile};
-    ghost use Rattle.ufs_tree.specs.Seen.{seen};
+    ghost use Rattle.ufs_calls.specs.Seen.{seen};
     ghost use Rattle.std.specs.Coded.{coded_ℕ};
 
     ghost Value = { CountsByFile };

@@ -7,7 +7,6 @@ mod desc_map;
 mod dir_counts;
 mod fd_map;
 mod file_counts;
-mod file_map;
 mod legal;
 mod node_map;
 mod path;

@@ -19,7 +19,7 @@ impl Model for NodeMap {
     ghost use Rattle.ufs_model.specs.declared.data.Node.{Node};
     ghost use Rattle.ufs_model.specs.contracts.data.Node as node;
     ghost use Rattle.ufs_model.specs.Order.{path_cmp};
-    ghost use Rattle.ufs_tree.specs.Seen.{seen};
+    ghost use Rattle.ufs_calls.specs.Seen.{seen};
     ghost use Rattle.std.specs.Coded.{coded_ℕ, coded_list};
 
     ghost Value = { map.FinMap path_cmp Node };

@@ -1,60 +1,19 @@
 // Why a request is refused, in the order in which it is looked at.
-ghost use Rattle.std.specs.Prelude.{◌≡◌, ◌&&◌, ◌||◌, not, List, ℕ, Bool, None, Some, IfOk, is_none, is_some, length, if◌then◌else◌, []};
-ghost use Rattle.std.specs.Str.{bytes_eq};
-ghost use Rattle.ufs_model.specs.PosixTree as posix_tree;
+ghost use Rattle.std.specs.Prelude.{◌≡◌, List, ℕ, []};
 ghost use Rattle.ufs_model.specs.Directories as directories;
-ghost use Rattle.ufs_tree.specs.Ends.{end_refusal};
-ghost use Rattle.ufs_model.specs.declared.data.Errno.TheVariants.{Ebadf, Eexist, Enoent, Efbig};
-ghost use Rattle.std.specs.FinMap as map;
 ghost use Rattle.ufs_model.specs.Paths as paths;
-ghost use Rattle.ufs_model.specs.Walk.{walk_refusal_from};
-ghost use Rattle.ufs_model.specs.Walk as walk;
 ghost use Rattle.ufs_model.specs.Refusals as refusals;
-ghost use Rattle.ufs_model.specs.FileBytes as file_bytes;
-ghost use Rattle.ufs_model.specs.Descriptors as descriptors;
+ghost use Rattle.ufs_model.specs.Walk.{walk_refusal_from};
+ghost use Rattle.ufs_tree.specs.Ends.{end_refusal};
 
 use crate::path_map::PathMap;
 use crate::tree::Parts;
-use std::alloc::Global;
-use ufs_model::{Bytes, Desc, Errno, Memory, Node, Op, Whence};
-use ufs_path::{PathText, path_fault, read_path};
-
-/// The greatest size of a file, in bytes.
-pub(crate) const MAX_SIZE: u64 = 16_777_216;
-
-/// The greatest offset.
-const MAX_OFFSET: u64 = 1_099_511_627_775;
-
-// ---- paths
-
-fn text_refusal(path: &Bytes) -> Option<Errno>
-    ensures { result ≡ paths.text_refusal path.now }
-{
-    match path_fault(path.as_slice()) {
-        Some(fault) => fault.errno(),
-        None => None,
-    }
-}
-
-/// The components of a path whose text isn't refused.
-pub(crate) fn text(alloc: Global, path: &Bytes) -> Result<PathText, Memory>
-    ensures { IfOk result (λ text. text ≡ paths.components path.now) }
-{
-    match read_path(alloc, path.as_slice()) {
-        Ok(text) => Ok(text),
-        Err(_) => Err(Memory),
-    }
-}
-
-fn dir_refusal(node: Option<Node>) -> Option<Errno>
-    ensures { result ≡ walk.dir_refusal node }
-{
-    match node {
-        None => Some(Errno::Enoent),
-        Some(Node::Dir) => None,
-        Some(Node::File(_)) => Some(Errno::Enotdir),
-    }
-}
+use ufs_calls::{
+    MAX_SIZE, Mode, dir_refusal, fd_named, is_past, list_refusal, make_refusal, open_refusal,
+    own_refusal, place_of, seek_to, size_refusal, stat_refusal, text, unlink_refusal,
+};
+use ufs_model::{Bytes, Desc, Errno, Memory, Op, Whence};
+use ufs_path::PathText;
 
 /// Each component but the last has to be a directory that is there.
 fn walk_refusal(nodes: &PathMap, text: &PathText) -> Option<Errno>
@@ -68,200 +27,14 @@ fn walk_refusal(nodes: &PathMap, text: &PathText) -> Option<Errno>
     None
 }
 
-fn is_file(node: Option<Node>) -> bool
-    ensures { result ≡ walk.is_file node }
-{
-    matches!(node, Some(Node::File(_)))
-}
-
-fn is_dir(node: Option<Node>) -> bool
-    ensures { result ≡ posix_tree.is_dir node }
-{
-    matches!(node, Some(Node::Dir))
-}
-
-// ---- descriptors
-
-fn is_mode(write: bool, creat: bool, excl: bool, trunc: bool) -> bool
-    ensures { result ≡ (not (excl && not creat) && not (trunc && not write)) }
-{
-    !(excl && !creat) && !(trunc && !write)
-}
-
-fn close_refusal(desc: Option<Desc>) -> Option<Errno>
-    ensures { result ≡ paths.refused_if (is_none desc) Ebadf }
-{
-    match desc {
-        Some(_) => None,
-        None => Some(Errno::Ebadf),
-    }
-}
-
-fn read_refusal(desc: Option<Desc>) -> Option<Errno>
-    ensures { result ≡ refusals.read_refusal desc }
-{
-    let Some(desc) = desc else {
-        return Some(Errno::Ebadf);
-    };
-    if !desc.read {
-        return Some(Errno::Ebadf);
-    }
-    if desc.file.is_none() {
-        return Some(Errno::Eisdir);
-    }
-    None
-}
-
-fn write_refusal(desc: Option<Desc>) -> Option<Errno>
-    ensures { result ≡ refusals.write_refusal desc }
-{
-    let Some(desc) = desc else {
-        return Some(Errno::Ebadf);
-    };
-    if !desc.write || desc.file.is_none() {
-        return Some(Errno::Ebadf);
-    }
-    None
-}
-
-fn seek_refusal(desc: Option<Desc>) -> Option<Errno>
-    ensures { result ≡ refusals.seek_refusal desc }
-{
-    let Some(desc) = desc else {
-        return Some(Errno::Ebadf);
-    };
-    if desc.file.is_none() {
-        return Some(Errno::Einval);
-    }
-    None
-}
-
-fn trunc_refusal(desc: Option<Desc>) -> Option<Errno>
-    ensures { result ≡ refusals.trunc_refusal desc }
-{
-    let Some(desc) = desc else {
-        return Some(Errno::Ebadf);
-    };
-    if !desc.write || desc.file.is_none() {
-        return Some(Errno::Einval);
-    }
-    None
-}
-
-/// Whether bytes that are written there end past the greatest size of a file.
-fn is_past(at: u64, fresh: &Bytes) -> bool
-    ensures { result ≡ file_bytes.is_past at fresh.now }
-{
-    let count = fresh.as_slice().len() as u64;
-    if count == 0 {
-        return false;
-    }
-    at > MAX_SIZE || at + count > MAX_SIZE
-}
-
-/// Where a `write` begins.
-pub(crate) fn place_of(desc: Desc, size: u64) -> u64
-    ensures { (bytes : List ℕ) → size ≡ length bytes → result ≡ file_bytes.place_of desc bytes }
-{
-    if desc.append { size } else { desc.at }
-}
-
-/// The offset that is so far on or back; none below 0 or past the greatest.
-fn moved_by(at: u64, by: i64) -> Option<u64>
-    ensures { result ≡ (if descriptors.is_offset (descriptors.moved_by at by) then descriptors.moved_by at by else None) }
-{
-    let moved = if by >= 0 {
-        at.checked_add(by as u64)
-    } else {
-        at.checked_sub(by.unsigned_abs())
-    };
-    match moved {
-        Some(to) if to <= MAX_OFFSET => Some(to),
-        _ => None,
-    }
-}
-
-/// Where a `seek` leads; `None` where it is refused.
-pub(crate) fn seek_to(whence: Whence, by: i64, desc: Desc, size: u64) -> Option<u64>
-    ensures { result ≡ (if descriptors.is_offset (descriptors.seek_to whence by desc size) then descriptors.seek_to whence by desc size else None) }
-{
-    let start = match whence {
-        Whence::Set => 0,
-        Whence::Cur => desc.at,
-        Whence::End => size,
-    };
-    moved_by(start, by)
-}
-
-// ---- what stands at a path
-
-fn open_refusal(node: Option<Node>, write: bool, creat: bool, excl: bool) -> Option<Errno>
-    ensures { (read trunc append : Bool) → result ≡ refusals.open_refusal (record { read = read; write = write; creat = creat; excl = excl; trunc = trunc; append = append }) node }
-{
-    let Some(node) = node else {
-        return if creat { None } else { Some(Errno::Enoent) };
-    };
-    if creat && excl {
-        return Some(Errno::Eexist);
-    }
-    if matches!(node, Node::Dir) && (write || creat) {
-        return Some(Errno::Eisdir);
-    }
-    None
-}
-
-fn make_refusal(node: Option<Node>) -> Option<Errno>
-    ensures { result ≡ paths.refused_if (is_some node) Eexist }
-{
-    if node.is_some() {
-        Some(Errno::Eexist)
-    } else {
-        None
-    }
-}
-
-fn stat_refusal(node: Option<Node>) -> Option<Errno>
-    ensures { result ≡ paths.refused_if (is_none node) Enoent }
-{
-    if node.is_none() {
-        Some(Errno::Enoent)
-    } else {
-        None
-    }
-}
-
-fn unlink_refusal(node: Option<Node>) -> Option<Errno>
-    ensures { result ≡ refusals.unlink_refusal node }
-{
-    match node {
-        None => Some(Errno::Enoent),
-        Some(Node::Dir) => Some(Errno::Eperm),
-        Some(Node::File(_)) => None,
-    }
-}
-
-fn list_refusal(node: Option<Node>) -> Option<Errno>
-    ensures { result ≡ refusals.list_refusal node }
-{
-    match node {
-        None => Some(Errno::Enoent),
-        Some(Node::Dir) => None,
-        Some(Node::File(_)) => Some(Errno::Enotdir),
-    }
-}
-
 fn rmdir_refusal(nodes: &PathMap, text: &PathText) -> Option<Errno>
     ensures { (path : List ℕ) → text.now ≡ paths.components path → result ≡ refusals.rmdir_refusal nodes.now path }
 {
-    if text.is_root() {
-        return Some(Errno::Ebusy);
-    }
-    match nodes.get(text.whole()) {
-        None => Some(Errno::Enoent),
-        Some(Node::File(_)) => Some(Errno::Enotdir),
-        Some(Node::Dir) if nodes.has_entries(text.whole()) => Some(Errno::Enotempty),
-        Some(Node::Dir) => None,
-    }
+    ufs_calls::rmdir_refusal(
+        text.is_root(),
+        nodes.get(text.whole()),
+        nodes.has_entries(text.whole()),
+    )
 }
 
 /// Whether the path lies below the directory, which isn't the root.
@@ -279,21 +52,13 @@ fn is_below(dir: &[u8], path: &[u8]) -> bool
 fn replace_refusal(nodes: &PathMap, from: &[u8], to: &[u8]) -> Option<Errno>
     ensures { result ≡ refusals.replace_refusal nodes.now from.now to.now }
 {
-    let old = nodes.get(from);
-    let new = nodes.get(to);
-    if is_dir(old) && is_below(from, to) {
-        return Some(Errno::Einval);
-    }
-    if is_file(old) && is_dir(new) {
-        return Some(Errno::Eisdir);
-    }
-    if is_dir(old) && is_file(new) {
-        return Some(Errno::Enotdir);
-    }
-    if from != to && is_dir(new) && nodes.has_entries(to) {
-        return Some(Errno::Enotempty);
-    }
-    None
+    ufs_calls::replace_refusal(
+        nodes.get(from),
+        nodes.get(to),
+        is_below(from, to),
+        from == to,
+        nodes.has_entries(to),
+    )
 }
 
 fn rename_refusal(nodes: &PathMap, from: &PathText, to: &PathText) -> Option<Errno>
@@ -321,12 +86,10 @@ fn end_refusal(nodes: &PathMap, text: &PathText, op: &Op) -> Option<Errno>
     ensures { (path : List ℕ) → text.now ≡ paths.components path → result ≡ end_refusal nodes.now path op.now }
 {
     match op {
-        Op::OpenFile {
-            write,
-            creat,
-            excl,
-            ..
-        } => open_refusal(nodes.get(text.whole()), *write, *creat, *excl),
+        Op::OpenFile { .. } => match Mode::of(op) {
+            Some(mode) => open_refusal(nodes.get(text.whole()), mode),
+            None => unreachable!(),
+        },
         Op::Mkdir { .. } => make_refusal(nodes.get(text.whole())),
         Op::Rmdir { .. } => rmdir_refusal(nodes, text),
         Op::Unlink { .. } => unlink_refusal(nodes.get(text.whole())),
@@ -336,17 +99,10 @@ fn end_refusal(nodes: &PathMap, text: &PathText, op: &Op) -> Option<Errno>
     }
 }
 
-fn size_refusal(is_past: bool) -> Option<Errno>
-    ensures { result ≡ paths.refused_if is_past Efbig }
-{
-    if is_past { Some(Errno::Efbig) } else { None }
-}
-
 impl Parts {
-    ghost use Rattle.std.specs.Prelude.{◌≡◌, IfOk, None, ℕ, List, not, is_none, length};
-    ghost use Rattle.ufs_model.specs.Paths as paths;
+    ghost use Rattle.std.specs.Prelude.{◌≡◌, IfOk};
+    ghost use Rattle.ufs_model.specs.Asks as asks;
     ghost use Rattle.ufs_model.specs.Refusals as refusals;
-    ghost use Rattle.ufs_model.specs.declared.data.Errno.TheVariants.{Einval, Emfile};
     ghost use Rattle.ufs_model.specs.declared.data.Op.TheVariants.{Write, Seek};
     ghost use Rattle.ufs_model.specs.FileBytes as file_bytes;
     ghost use Rattle.ufs_model.specs.Descriptors as descriptors;
@@ -362,50 +118,31 @@ impl Parts {
         self.tree_refusal(client, op)
     }
 
-    /// Of an `open`, by its flags, the client's descriptors and the path's text.
-    fn own_open_refusal(&self, client: u8, path: &Bytes, is_mode: bool) -> Option<Errno>
-        ensures { result ≡ paths.first_of (paths.refused_if (not is_mode) Einval) (paths.first_of (paths.refused_if (is_none (descriptors.lowest_free self.now.fds client)) Emfile) (paths.text_refusal path.now)) }
+    /// What the descriptor that a request names stands for.
+    fn desc_named(&self, client: u8, op: &Op) -> Option<Desc>
+        ensures { result ≡ asks.desc_of_fd self.now.fds client (asks.fd_named op.now) }
     {
-        if !is_mode {
-            return Some(Errno::Einval);
+        match fd_named(op) {
+            Some(fd) => self.fds.get(client, fd),
+            None => None,
         }
-        if self.fds.lowest(client).is_none() {
-            return Some(Errno::Emfile);
+    }
+
+    /// The client's lowest free descriptor for an `open`, and 0 where none is free. No other request needs one.
+    fn fd_asked(&self, client: u8, op: &Op) -> u32
+        ensures { result ≡ asks.fd_asked self.now.fds client op.now }
+    {
+        match op {
+            Op::OpenFile { .. } => self.fds.lowest(client).unwrap_or(0),
+            _ => 0,
         }
-        text_refusal(path)
     }
 
     /// By flags, descriptors and texts.
     fn own_refusal(&self, client: u8, op: &Op) -> Option<Errno>
         ensures { result ≡ refusals.own_refusal (tree_of self.now) client op.now }
     {
-        match op {
-            Op::OpenFile {
-                path,
-                write,
-                creat,
-                excl,
-                trunc,
-                ..
-            } => self.own_open_refusal(client, path, is_mode(*write, *creat, *excl, *trunc)),
-            Op::Close { fd } | Op::Fsync { fd } => close_refusal(self.fds.get(client, *fd)),
-            Op::Read { fd, .. } | Op::Pread { fd, .. } => read_refusal(self.fds.get(client, *fd)),
-            Op::Write { fd, .. } | Op::Pwrite { fd, .. } => {
-                write_refusal(self.fds.get(client, *fd))
-            }
-            Op::Seek { fd, .. } => seek_refusal(self.fds.get(client, *fd)),
-            Op::Trunc { fd, .. } => trunc_refusal(self.fds.get(client, *fd)),
-            Op::Sync => None,
-            Op::Mkdir { path }
-            | Op::Rmdir { path }
-            | Op::Unlink { path }
-            | Op::Stat { path }
-            | Op::List { path } => text_refusal(path),
-            Op::Rename { from, to } => match text_refusal(from) {
-                Some(e) => Some(e),
-                None => text_refusal(to),
-            },
-        }
+        own_refusal(op, self.desc_named(client, op), self.fd_asked(client, op))
     }
 
     /// Of a `write`, by where it ends.

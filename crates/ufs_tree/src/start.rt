@@ -9,10 +9,10 @@ ghost use Rattle.ufs_tree.specs.Parts.{tree_of};
 ghost use Rattle.ufs_tree.specs.Placed.{with_path};
 
 use crate::fd_map::FdMap;
-use crate::file_map::FileMap;
 use crate::path_map::PathMap;
 use crate::tree::{Parts, Tree};
 use std::alloc::Global;
+use ufs_calls::FileMap;
 use ufs_model::{Bytes, Memory, Node, PathEntry, PathNode, PathTree};
 
 // Adds a path. A file gets the next number.

@@ -5,10 +5,10 @@ ghost use Rattle.ufs_model.specs.Bounds.{IsBounded};
 ghost use Rattle.ufs_model.specs.Posix.{posix};
 
 use crate::fd_map::FdMap;
-use crate::file_map::FileMap;
 use crate::path_map::PathMap;
 use std::alloc::Global;
 use std::marker::Model;
+use ufs_calls::FileMap;
 use ufs_model::{Memory, Op, Reply, a_request_keeps_the_tree, a_request_makes_one_file_at_most};
 
 /// A tree by its maps.

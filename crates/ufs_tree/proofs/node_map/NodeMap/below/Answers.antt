@@ -5,7 +5,7 @@ use Rattle.ufs_model.specs.Directories.{starts_with}
 use Rattle.ufs_model.specs.Order.{path_cmp}
 use Rattle.ufs_model.specs.PosixTree.{Paths}
 use Rattle.ufs_model.specs.declared.data.Node.{Node}
-use Rattle.ufs_tree.specs.Seen.{keyed}
+use Rattle.ufs_calls.specs.Seen.{keyed}
 use Rattle.ufs_tree.proofs.RangeLemmas.{forward, below_is}
 use Rattle.ufs_tree.proofs.node_map.NodeMap.below.Goals as goal
 

@@ -1,6 +1,6 @@
 use Rattle.std.proofs.Common.{◌≡◌, ◌++◌}
 use Rattle.ufs_model.specs.Order.{path_cmp}
-use Rattle.ufs_tree.specs.Seen.{keyed}
+use Rattle.ufs_calls.specs.Seen.{keyed}
 use Rattle.ufs_tree.proofs.node_map.NodeMap.below.Given as goal
 
 -- what was found, and what is left

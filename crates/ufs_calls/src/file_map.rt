@@ -18,7 +18,7 @@ impl Model for FileMap {
     ghost use Rattle.std.specs.Prelude.{List, ℕ};
     ghost use Rattle.std.specs.FinMap as map;
     ghost use Rattle.std.specs.Ordering.{nat_cmp};
-    ghost use Rattle.ufs_tree.specs.Seen.{seen};
+    ghost use Rattle.ufs_calls.specs.Seen.{seen};
     ghost use Rattle.std.specs.Coded.{coded_ℕ, coded_list};
 
     ghost Value = { map.FinMap nat_cmp (List ℕ) };

@@ -1,27 +1,18 @@
 -- A file's bytes are moved out of a map and, changed or not, back.
-use Rattle.std.proofs.Common.{◌≡◌, ap, sym, ◌∙◌, Some, None, OnOk, OnErr, Result, Ok, Err, List, [], ℕ}
+use Rattle.std.proofs.Common.{◌≡◌, ap, sym, ◌∙◌, Some, None, List, [], ℕ}
 use Rattle.std.specs.Prelude.{unwrap_or}
 use Rattle.std.specs.Cmp.{nat_cmp_total}
 use Rattle.std.specs.FinMap as map
 use Rattle.std.specs.FinMap.{nat_cmp-IsAntisymmetric}
 use Rattle.ufs_model.specs.PosixTree.{Files}
 use Rattle.ufs_model.specs.FileBytes.{bytes_of}
-use Rattle.ufs_tree.proofs.InsertLemmas.{get_inserted, insert_again, insert_same}
-
--- a fact that follows from another on an `Ok`
-pub on_ok : {T E P Q : Type 0} (r : Result T E) → (P → Q) → OnOk r P → OnOk r Q
-on_ok (Ok x) f p = f p
-on_ok (Err e) f p = tt
-
--- and on an `Err`
-pub on_err_so : {T E P Q : Type 0} (r : Result T E) → (P → Q) → OnErr r P → OnErr r Q
-on_err_so (Ok x) f p = tt
-on_err_so (Err e) f p = f p
+use Rattle.ufs_model.specs.Facts.Lookups.{inserted_here}
+use Rattle.ufs_calls.specs.Facts.Inserts.{insert_again, insert_same}
 
 -- what is there isn't absent
 pub still_there : (bytes taken : Files) (file : ℕ) → taken ≡ map.insert bytes file [] → map.get taken file ≡ None → ⊥
 still_there bytes taken file is absent =
-    let no : Some [] ≡ None = sym (ap (λ (m : Files). map.get m file) is ∙ get_inserted nat_cmp_total bytes file []) ∙ absent in
+    let no : Some [] ≡ None = sym (ap (λ (m : Files). map.get m file) is ∙ inserted_here nat_cmp_total nat_cmp-IsAntisymmetric bytes file []) ∙ absent in
     cc
 
 module _ (bytes taken new : Files) (file : ℕ) (held put : List ℕ) (had : Some held ≡ map.get bytes file) (moved : taken ≡ map.insert bytes file []) (is : new ≡ map.insert taken file put) where

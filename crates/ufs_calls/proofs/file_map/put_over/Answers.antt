@@ -1,6 +1,6 @@
 use Rattle.std.proofs.Common.{rules}
-use Rattle.ufs_tree.proofs.ByteLemmas.{put_over_is}
-use Rattle.ufs_tree.proofs.file_map.put_over.Goals as goal
+use Rattle.ufs_calls.proofs.ByteLemmas.{put_over_is}
+use Rattle.ufs_calls.proofs.file_map.put_over.Goals as goal
 
 pub returns-clause-ok : goal.returns-clause-ok
 returns-clause-ok c =

@@ -1,0 +1,3 @@
+-- What is proved of maps, for the proofs of those who cite it.
+pub mod Maps
+pub mod Inserts
