@@ -10,3 +10,4 @@ pub mod NextLemmas
 pub mod KeptLemmas
 pub mod CodecLemmas
 pub mod ReadLemmas
+pub mod ListedLemmas

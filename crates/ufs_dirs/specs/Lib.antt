@@ -2,3 +2,5 @@ pub mod Directory
 pub mod Index
 pub mod Changes
 pub mod Reading
+pub mod Names
+pub mod Facts

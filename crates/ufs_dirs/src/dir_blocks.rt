@@ -1,5 +1,5 @@
 // The blocks of one directory.
-ghost use Rattle.std.specs.Prelude.{ℕ, List, ◌≡◌, ◌≢◌, ◌==◌, ◌+◌, ◌*◌, ◌<◌, ◌≤◌, ◌↔◌, [], ◌∷◌, ◌++◌, true, false, None, Some, IsTrue, IsSome, IsErr, IfOk, IfErr, IfSome, IfNone, OnOk, OnErr, length, replicate, slice_set, is_err};
+ghost use Rattle.std.specs.Prelude.{ℕ, List, ◌≡◌, ◌≢◌, ◌==◌, ◌+◌, ◌*◌, ◌<◌, ◌≤◌, ◌↔◌, [], ◌∷◌, ◌++◌, true, false, None, Some, IsTrue, IsSome, IsErr, IfOk, IfErr, IfSome, IfNone, OnOk, OnErr, length, replicate, slice_get, slice_set, is_err};
 ghost use Rattle.std.specs.List.{count_by, list_all, position, position_or_len};
 ghost use Rattle.ufs_layout.specs.DentryForm.{free_slot, is_dentry, is_named};
 ghost use Rattle.ufs_dirs.specs.Directory.{IsDirectory, entry_at, entry_of, has_block};
@@ -38,6 +38,7 @@ impl Model for DirBlocks {
 }
 
 impl DirBlocks {
+    ghost use Rattle.ufs_dirs.specs.Names.{AreNamesIn};
     ghost use Rattle.ufs_dirs.specs.Reading.{IsBlockFault, IsReadSoFar, IsSlotFault, ReadsSlot};
     ghost use Rattle.ufs_dirs.specs.Changes.{IsFreeSlot, IsLastName, IsLowestFree, IsNextName, IsSlot, IsSlotOf, SetsName, bytes_of_block, place_of, with_entry};
 
@@ -67,8 +68,20 @@ impl DirBlocks {
     pub fn count(&self) -> u32
         ensures count { result ≡ count_by is_named self.now.slots }
         ensures whole { IsDirectory self.now }
+
+        // It is the length of the list of the names, which there is.
+        ensures names { (names : List (List ℕ)) → AreNamesIn self.now.slots names → result ≡ length names }
+        ensures listed { (names : List (List ℕ)) × AreNamesIn self.now.slots names }
     {
         self.order.len() as u32
+    }
+
+    /// The name of this rank in byte order; the lowest has rank 0.
+    pub fn name_at(&self, rank: usize) -> &[u8]
+        requires { rank < count_by is_named self.now.slots }
+        ensures { (names : List (List ℕ)) → AreNamesIn self.now.slots names → slice_get names rank ≡ Some result.now }
+    {
+        self.slots[self.order[rank] as usize].name_bytes()
     }
 
     /// Whether there is no name.

@@ -65,6 +65,15 @@ fn inode_of(entry: Option<Dentry>) -> u32 {
     }
 }
 
+// The name of the rank; no byte where there is none.
+fn name_at(dir: &DirBlocks, rank: usize) -> &[u8] {
+    if rank < dir.count() as usize {
+        dir.name_at(rank)
+    } else {
+        &[]
+    }
+}
+
 fn insert_or_remove(dir: &mut DirBlocks, comes: bool, name: &[u8]) -> Option<Slot> {
     if comes {
         insert(dir, 9, name)
@@ -140,6 +149,10 @@ fn names_come_in_byte_order(rt: HostRuntime) -> Result<(), Memory> {
     let rows: [(&[u8], u32); 5] = [(b"", 6), (b"a", 5), (b"aa", 5), (b"ab", 4), (b"b\x05", 0)];
     for (after, inode) in rows {
         assert_eq!(rt; inode_of(dir.next_name(after)), inode);
+    }
+    let names: [&[u8]; 4] = [b"a", b"ab", b"b\x05", b""];
+    for (rank, name) in names.into_iter().enumerate() {
+        assert!(rt; name_at(&dir, rank) == name);
     }
     let found = (inode_of(dir.find(b"ab")), inode_of(dir.find(b"b")));
     assert_eq!(rt; (was_empty, dir.is_empty(), found), (true, false, (5, 0)));

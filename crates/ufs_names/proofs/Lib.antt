@@ -1,0 +1,13 @@
+pub mod WalkLemmas
+pub mod RefusalLemmas
+pub mod BareLemmas
+pub mod FirstLemmas
+pub mod AttachLemmas
+pub mod DetachLemmas
+pub mod EntryEdits
+pub mod FreedNumbers
+pub mod Prefixes
+pub mod RoomLemmas
+pub mod SameWalks
+pub mod TakenNumbers
+pub mod WalkEdits

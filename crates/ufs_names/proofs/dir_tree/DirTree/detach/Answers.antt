@@ -1,0 +1,25 @@
+use Rattle.std.proofs.Common.{◌≡◌, Some, None, ap, sym, ◌∙◌, subst, arith}
+use Rattle.ufs_layout.specs.DentryForm.{DentryForm}
+use Rattle.ufs_dirs.specs.Directory.{entry_of}
+use Rattle.ufs_names.specs.DirTable.{DirTable, IsDirTable, slots_at}
+use Rattle.ufs_names.specs.DirEdits.{IsMet}
+use Rattle.ufs_names.proofs.DetachLemmas.{detached_table, detached_loose}
+use Rattle.ufs_names.proofs.dir_tree.DirTree.detach.Goals as goal
+
+pub invariant_of-self : goal.invariant_of-self
+invariant_of-self c =
+    let t : DirTable = record { dirs = c.self.inside.dirs.items; free = c.self.inside.free.items } in
+    let met = subst (λ (t : DirTable). IsMet t c.args.dir) (sym c.self.view_is) c.requires.met in
+    (detached_table t c.take_out_at.new.dirs.items c.args.dir c.args.name.now c.take_out_at.ensures.entries c.self.invariant.0 met.0 met.1, omega (arith, c.take_out_at.ensures.entries.counted, c.self.invariant.1))
+
+pub returns-clause-loose : goal.returns-clause-loose
+returns-clause-loose c =
+    let t : DirTable = record { dirs = c.self.inside.dirs.items; free = c.self.inside.free.items } in
+    let met = subst (λ (t : DirTable). IsMet t c.args.dir) (sym c.self.view_is) c.requires.met in
+    detached_loose t c.take_out_at.new.dirs.items c.args.dir c.args.name.now c.take_out_at.ensures.entries c.self.invariant.0 met.0 met.1 c.take_out_at.result c.take_out_at.ensures.was
+
+pub returns-clause-table : goal.returns-clause-table
+returns-clause-table c =
+    let t : DirTable = record { dirs = c.self.inside.dirs.items; free = c.self.inside.free.items } in
+    let met = subst (λ (t : DirTable). IsMet t c.args.dir) (sym c.self.view_is) c.requires.met in
+    detached_table t c.take_out_at.new.dirs.items c.args.dir c.args.name.now c.take_out_at.ensures.entries c.self.invariant.0 met.0 met.1
