@@ -16,7 +16,6 @@ use Rattle.ufs_model.specs.declared.data.Node.{Node}
 use Rattle.ufs_model.specs.declared.data.Node.TheVariants.{Dir, File}
 use Rattle.ufs_model.specs.declared.data.Op.{Op}
 use Rattle.ufs_model.specs.declared.data.Op.TheVariants as op
-use Rattle.ufs_model.specs.declared.data.Reply.{Reply}
 use Rattle.ufs_model.specs.Facts.Orders.{fd_total, fd_same}
 use Rattle.ufs_model.specs.Facts.Lookups.{inserted_else, removed_else}
 

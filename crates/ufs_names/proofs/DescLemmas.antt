@@ -1,14 +1,14 @@
 -- What a request on a descriptor leaves of a tree.
-use Rattle.std.proofs.Common.{◌≡◌, ℕ, ◌+◌, ◌⊎◌, inl, inr, List, Bool, true, false, cond, eqb, ◌||◌, length, Option, Some, None, is_some, unwrap_or, ap, refl, sym, subst, ◌∙◌}
+use Rattle.std.proofs.Common.{◌≡◌, ℕ, ◌+◌, ◌⊎◌, inl, inr, List, Bool, true, false, cond, eqb, ◌||◌, length, Option, Some, None, is_some, ap, refl, sym, subst, ◌∙◌}
 use Rattle.std.specs.Prelude.{IsSome}
 use Rattle.std.specs.List.{list_any}
 use Rattle.std.specs.Option.{option_map}
 use Rattle.std.specs.FinMap as map
 use Rattle.ufs_model.specs.PosixTree.{PosixTree, Files, Fds, Paths, IsTree, is_live, is_node_of, is_desc_of}
 use Rattle.ufs_model.specs.Touched.{holds}
-use Rattle.ufs_model.specs.Descriptors.{closed, opened, moved}
-use Rattle.ufs_model.specs.FileBytes.{content, put_at, resized, place_of}
-use Rattle.ufs_model.specs.Posix.{with_bytes, with_fd, written, write_fd}
+use Rattle.ufs_model.specs.Descriptors.{moved}
+use Rattle.ufs_model.specs.FileBytes.{content, put_at, resized}
+use Rattle.ufs_model.specs.Posix.{with_bytes, with_fd, written}
 use Rattle.ufs_model.specs.Asks.{IsDescAfter, desc_of_fd}
 use Rattle.ufs_model.specs.declared.data.Desc.{Desc}
 use Rattle.ufs_model.specs.Facts.Lookups.{same_some, inserted_here}

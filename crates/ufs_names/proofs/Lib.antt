@@ -27,3 +27,4 @@ pub mod OpenLemmas
 pub mod RefusedLemmas
 pub mod ReplyLemmas
 pub mod StartLemmas
+pub mod KindLemmas

@@ -1,13 +1,13 @@
 -- What the names' part answers and changes at a request that names no path is what POSIX says of the tree.
-use Rattle.std.proofs.Common.{◌≡◌, ℕ, ◌+◌, ◌⊎◌, List, Bool, true, false, cond, length, Option, Some, None, is_none, not, ◌||◌, unwrap_or, ap, refl, sym, subst, ◌∙◌}
+use Rattle.std.proofs.Common.{◌≡◌, ℕ, ◌⊎◌, Bool, true, false, cond, Option, Some, None, is_none, unwrap_or, ap, refl, sym, subst, ◌∙◌}
 use Rattle.std.specs.Prelude.{IsTrue}
 use Rattle.std.specs.FinMap as map
 use Rattle.ufs_model.specs.Paths.{first_of, refused_if}
-use Rattle.ufs_model.specs.PosixTree.{PosixTree, Files, IsTree, desc_at, is_live}
+use Rattle.ufs_model.specs.PosixTree.{PosixTree, Files, desc_at, is_live}
 use Rattle.ufs_model.specs.Descriptors.{closed, opened}
 use Rattle.ufs_model.specs.FileBytes.{content, part, place_of}
 use Rattle.ufs_model.specs.OpKinds.{is_on_fd}
-use Rattle.ufs_model.specs.Posix.{posix, served, answer, change, forget, new_offset}
+use Rattle.ufs_model.specs.Posix.{posix, served, answer, change, forget}
 use Rattle.ufs_model.specs.Refusals.{own_refusal, tree_refusal, refusal, read_refusal, write_refusal, seek_refusal, trunc_refusal}
 use Rattle.ufs_model.specs.Asks.{IsAsk, IsDescAfter, desc_of_fd, fd_named, fd_told, is_last}
 use Rattle.ufs_model.specs.Laws.{KeepsTrees}
@@ -21,13 +21,12 @@ use Rattle.ufs_model.specs.declared.data.Reply.{Reply}
 use Rattle.ufs_model.specs.Facts.Allowed.{first_none}
 use Rattle.ufs_model.specs.Facts.Lookups.{removed_here}
 use Rattle.ufs_model.specs.Facts.Orders.{fd_total, fd_same}
-use Rattle.ufs_names.specs.DirTable.{DirTable}
-use Rattle.ufs_names.specs.NamesPart.{NamesPart, Holdings, IsPartOf}
-use Rattle.ufs_names.specs.Calls.{IsServed, names_no_path, desc_or_closed, place_refusal, open_answer, desc_after, bytes_after, part_after}
+use Rattle.ufs_names.specs.NamesPart.{NamesPart, IsPartOf}
+use Rattle.ufs_names.specs.Calls.{IsServed, names_no_path, desc_or_closed, place_refusal, open_answer, desc_after, part_after}
 use Rattle.ufs_names.proofs.PartLemmas.{tree_after}
 use Rattle.ufs_names.proofs.ClosePartLemmas.{part_close}
 use Rattle.ufs_names.proofs.DescAfterLemmas.{desc_after_posix}
-use Rattle.ufs_names.proofs.DescLemmas.{IsLike, part_like, same_holders, Leaves, leaves_all, leaves_moved, leaves_resized, leaves_written, leaves_write}
+use Rattle.ufs_names.proofs.DescLemmas.{part_like, same_holders, Leaves, leaves_all, leaves_moved, leaves_resized, leaves_written, leaves_write}
 
 -- ---- why it is refused, and what is answered
 

@@ -1,5 +1,5 @@
 -- A refusal is served: POSIX's reply, and nothing has changed.
-use Rattle.std.proofs.Common.{◌≡◌, ℕ, Option, Some, None, ap, refl, sym, subst, ◌∙◌}
+use Rattle.std.proofs.Common.{◌≡◌, Option, Some, ap, refl, sym, subst, ◌∙◌}
 use Rattle.ufs_model.specs.PosixTree.{PosixTree}
 use Rattle.ufs_model.specs.Posix.{posix, served}
 use Rattle.ufs_model.specs.Refusals.{refusal}
