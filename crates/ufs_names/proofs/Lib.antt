@@ -30,3 +30,9 @@ pub mod ConditionLemmas
 pub mod ListedLemmas
 pub mod PathLemmas
 pub mod EntryLemmas
+pub mod DescLemmas
+pub mod OpenLemmas
+pub mod RefusedLemmas
+pub mod ReplyLemmas
+pub mod StartLemmas
+pub mod KindLemmas
