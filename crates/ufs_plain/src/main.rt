@@ -2,7 +2,6 @@
 #![tactic(auto)]
 
 mod lines;
-mod serve;
 mod serving;
 
 use serving::replies;

@@ -8,7 +8,7 @@ ghost use Rattle.ufs_script.specs.Script.{IsOutside};
 ghost use Rattle.ufs_script.specs.declared.script.Script.{Script};
 
 use crate::lines::lines;
-use crate::serve::serve;
+use ufs_tree::serve;
 use std::alloc::Global;
 use ufs_io::Source;
 use ufs_model::Memory;

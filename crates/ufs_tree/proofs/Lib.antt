@@ -17,3 +17,4 @@ pub mod WalkLemmas
 pub mod PartLemmas
 pub mod AllowedLemmas
 pub mod ReplyLemmas
+pub mod ServeLemmas

@@ -12,9 +12,11 @@ mod node_map;
 mod path;
 mod path_map;
 mod refusal;
+mod serving;
 mod start;
 #[cfg(test)]
 mod tests;
 mod tree;
 
+pub use serving::serve;
 pub use tree::Tree;

@@ -1,7 +1,7 @@
 use Rattle.std.proofs.Common.{List, sym, ◌∙◌, subst}
 use Rattle.ufs_model.specs.declared.data.Op.{Op}
-use Rattle.ufs_plain.proofs.ServeLemmas.{AreServing, one_client_more, all_served, no_items}
-use Rattle.ufs_plain.proofs.serve.serve.Goals as goal
+use Rattle.ufs_tree.proofs.ServeLemmas.{AreServing, one_client_more, all_served, no_items}
+use Rattle.ufs_tree.proofs.serving.serve.Goals as goal
 
 pub loop-requests-preserved : goal.loop-requests-preserved
 loop-requests-preserved c =
