@@ -9,23 +9,6 @@ use ufs_model::{Actor, Entry, EntryList, Memory, Op, PathTree, Reply};
 use ufs_script::{OpList, OpLists};
 use ufs_tree::Tree;
 
-fn entry(ticket: u64, client: u8, seq: u32, op: Op, reply: Reply) -> Entry
-    ensures ticket { result.ticket ≡ ticket }
-    ensures client { result.client ≡ client }
-    ensures seq { result.seq ≡ seq }
-    ensures op { result.op ≡ op }
-    ensures reply { result.reply ≡ reply }
-{
-    Entry {
-        ticket,
-        client,
-        seq,
-        by: Actor::Primary,
-        op,
-        reply,
-    }
-}
-
 // A client's requests, each answered by the tree; the history goes on by them.
 fn serve_client(
     tree: &mut Tree,
@@ -52,7 +35,14 @@ fn serve_client(
     for op in requests.into_vec() {
         let reply = tree.step(client, &op)?;
         let ticket = history.as_slice().len() as u64;
-        history.push(entry(ticket, client, seq, op, reply))?;
+        history.push(Entry {
+            ticket,
+            client,
+            seq,
+            by: Actor::Primary,
+            op,
+            reply,
+        })?;
         seq += 1;
     }
     Ok(())
