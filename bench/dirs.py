@@ -150,8 +150,8 @@ class Mix:
         return line
 
     def rename_dir(self):
-        """The one of six directories that has most below it, where that doesn't make the paths too long."""
-        node = max(self.rng.sample(self.dirs[1:], 6), key=lambda d: len(d.below()))
+        """The one of twenty directories that has most below it. The paths stay short enough."""
+        node = max(self.rng.sample(self.dirs[1:], 20), key=lambda d: len(d.below()))
         parent = self.rng.choice([d for d in self.rng.sample(self.dirs, 8) if not d.is_below(node)] or [self.root])
         if parent.depth() + node.height() > 10:
             parent = self.root
