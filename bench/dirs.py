@@ -17,8 +17,8 @@ import time
 
 TOP = os.path.dirname(os.path.dirname(os.path.abspath(__file__)))
 UFS = os.path.join(TOP, "ufs")
-PLAIN_CRATE = os.path.join(TOP, "crates", "ufs_plain")
-PLAIN = os.path.join(PLAIN_CRATE, "out", "ufs_plain")
+CRATES = os.path.join(TOP, "crates")
+PLAIN = os.path.join(CRATES, "ufs_plain", "out", "ufs_plain")
 RUNS = 3
 REQUESTS = 65536  # the most that one client may have
 SEED = 1
@@ -150,8 +150,8 @@ class Mix:
         return line
 
     def rename_dir(self):
-        """The one of six directories that has most below it, where that doesn't make the paths too long."""
-        node = max(self.rng.sample(self.dirs[1:], 6), key=lambda d: len(d.below()))
+        """The one of twenty directories that has most below it. The paths stay short enough."""
+        node = max(self.rng.sample(self.dirs[1:], 20), key=lambda d: len(d.below()))
         parent = self.rng.choice([d for d in self.rng.sample(self.dirs, 8) if not d.is_below(node)] or [self.root])
         if parent.depth() + node.height() > 10:
             parent = self.root
@@ -167,8 +167,12 @@ class Mix:
         return line
 
     def refused(self):
-        """A request that changes nothing."""
+        """A request that changes nothing. Two kinds are left out, which Linux answers in its own way: `unlink` of a
+        directory (EISDIR, and by POSIX EPERM), and `rename` of a file onto a directory above it (ENOTEMPTY, and by
+        POSIX EISDIR)."""
         node, parent = self.rng.choice(self.files), self.rng.choice(self.dirs[1:])
+        while node.is_below(parent):
+            parent = self.rng.choice(self.dirs[1:])
         return self.rng.choice([
             "stat " + parent.place("none"),
             "stat " + node.path() + "/below",
@@ -352,11 +356,23 @@ def row(name, lines, base):
               % ((name, len(lines), os.path.getsize(script)) + times + (same, difference(ours, theirs))), flush=True)
 
 
-def build():
-    """Has both programs built where they aren't there."""
-    subprocess.run([UFS], stdin=subprocess.DEVNULL, stdout=subprocess.DEVNULL)
+def is_stale():
+    """Whether `ufs_plain` isn't built, or a crate that it stands on has changed since."""
     if not os.access(PLAIN, os.X_OK):
-        subprocess.run(["rt", "run", "--"], cwd=PLAIN_CRATE, stdin=subprocess.DEVNULL, stdout=subprocess.DEVNULL)
+        return True
+    folders = [os.path.join(CRATES, name, part) for name in os.listdir(CRATES) for part in ("src", "specs")
+               if name not in ("ufs_engine", "ufs_names", "ufs_top")]
+    times = [entry.stat().st_mtime for folder in folders if os.path.isdir(folder) for entry in os.scandir(folder)]
+    return max(times) > os.path.getmtime(PLAIN)
+
+
+def build():
+    """Has both programs proved and built where they aren't there."""
+    subprocess.run([UFS], stdin=subprocess.DEVNULL, stdout=subprocess.DEVNULL)
+    if is_stale():
+        print("dirs: proving and building ufs_plain, which takes some minutes at first", file=sys.stderr)
+        subprocess.run(["rt", "run", "--"], cwd=os.path.join(CRATES, "ufs_plain"), stdin=subprocess.DEVNULL,
+                       stdout=subprocess.DEVNULL, stderr=subprocess.DEVNULL)
 
 
 def main():

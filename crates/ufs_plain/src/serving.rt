@@ -8,11 +8,11 @@ ghost use Rattle.ufs_script.specs.Script.{IsOutside};
 ghost use Rattle.ufs_script.specs.declared.script.Script.{Script};
 
 use crate::lines::lines;
-use ufs_tree::serve;
 use std::alloc::Global;
 use ufs_io::Source;
 use ufs_model::Memory;
 use ufs_script::{Script, ScriptFault, read_script};
+use ufs_tree::serve;
 
 fn served(alloc: Global, script: Script) -> Result<Vec<u8>, Memory>
     ensures { IfOk result (λ text. (history : List Entry) × IsServed script text.items history) }
