@@ -21,7 +21,8 @@ use Rattle.ufs_model.specs.Facts.Histories.{tree_after-push, all-push, legal-pus
 use Rattle.ufs_fds.specs.Descriptors.{Descs, AreOf}
 use Rattle.ufs_engine.specs.Clients.{AreRanged}
 use Rattle.ufs_engine.specs.Serving.{tree_of, IsReached, IsNewcomer, GoesOn, IsDone}
-use Rattle.ufs_engine.specs.Stub.{NamesPart, IsPartOf, IsEntryOf, IsServed}
+use Rattle.ufs_names.specs.NamesPart.{NamesPart, IsPartOf}
+use Rattle.ufs_names.specs.Calls.{IsEntryOf, IsServed}
 use Rattle.ufs_engine.proofs.RangeLemmas.{ranged_after}
 
 get_here : {X : Type 0} (front : List X) (x : X) (rest : List X) → slice_get (front ++ x ∷ rest) (length front) ≡ Some x

@@ -1,4 +1,3 @@
-pub mod Stub
 pub mod Played
 pub mod Clients
 pub mod Serving

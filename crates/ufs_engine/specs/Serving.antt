@@ -5,7 +5,7 @@ use Rattle.ufs_model.specs.PosixTree.{PosixTree, root_alone}
 use Rattle.ufs_model.specs.History.{IsLegal, IsInOrder, AreUnexcused, tree_after, entries_of, requests_of}
 use Rattle.ufs_model.specs.declared.data.Op.{Op}
 use Rattle.ufs_model.specs.declared.data.Entry.{Entry}
-use Rattle.ufs_engine.specs.Stub.{NamesPart, IsPartOf}
+use Rattle.ufs_names.specs.NamesPart.{NamesPart, IsPartOf}
 
 -- the tree after a history of a session
 abbrev pub tree_of : List Entry → PosixTree

@@ -5,25 +5,9 @@ ghost use Rattle.ufs_model.specs.PosixTree.{Fds};
 ghost use Rattle.ufs_fds.specs.Descriptors.{AreOf};
 ghost use Rattle.ufs_engine.specs.Clients.{AreRanged};
 
+use ufs_calls::fd_named;
 use ufs_fds::FdTable;
 use ufs_model::{Ask, Desc, Entry, Op, Reply};
-
-/// The descriptor that a request names.
-fn fd_named(op: &Op) -> Option<u64>
-    ensures { result ≡ fd_named op.now }
-{
-    match op {
-        Op::Close { fd }
-        | Op::Read { fd, .. }
-        | Op::Write { fd, .. }
-        | Op::Pread { fd, .. }
-        | Op::Pwrite { fd, .. }
-        | Op::Seek { fd, .. }
-        | Op::Trunc { fd, .. }
-        | Op::Fsync { fd } => Some(*fd),
-        _ => None,
-    }
-}
 
 /// The descriptor of a request that was answered: the one that it names, or the one that it opened.
 fn fd_told(op: &Op, reply: &Reply) -> Option<u64>

@@ -4,7 +4,6 @@
 mod client;
 mod played;
 mod session;
-mod stub;
 #[cfg(test)]
 mod tests;
 

@@ -3,17 +3,17 @@ ghost use Rattle.std.specs.Prelude.{◌≡◌, ◌≤◌, ◌<◌, ◌*◌, [], 
 ghost use Rattle.ufs_model.specs.PosixTree.{root_alone};
 ghost use Rattle.ufs_model.specs.History.{IsLegal, IsInOrder, IsComplete, AreUnexcused, AreTicketsOnce, is_excused, joined};
 ghost use Rattle.ufs_model.specs.declared.data.Entry.{Entry};
-ghost use Rattle.ufs_engine.specs.Stub.{IsPartOf};
+ghost use Rattle.ufs_names.specs.NamesPart.{IsPartOf};
 ghost use Rattle.ufs_engine.specs.Played.{IsMerged, IsPlayed};
 ghost use Rattle.ufs_engine.specs.Serving.{IsReached, IsNewcomer, GoesOn, IsDone};
 
 use crate::client::{ask, keep};
 use crate::played::{EndFault, Played, ToldLists};
-use crate::stub::Names;
 use std::alloc::Global;
 use ufs_disk::Disk;
 use ufs_fds::FdTable;
 use ufs_model::{EntryList, Memory, Reply, a_request_makes_one_file_at_most};
+use ufs_names::Names;
 use ufs_script::{OpList, OpLists, Script};
 
 fn is_excused(reply: &Reply) -> bool
