@@ -34,6 +34,7 @@ impl FileMap {
     ghost use Rattle.std.specs.FinMap as map;
     ghost use Rattle.ufs_model.specs.FileBytes.{bytes_of, put_at, resized};
 
+    /// No file has bytes.
     pub fn new(alloc: Global) -> Self
         ensures { result ≡ map.empty }
     {
