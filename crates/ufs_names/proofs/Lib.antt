@@ -11,3 +11,12 @@ pub mod RoomLemmas
 pub mod SameWalks
 pub mod TakenNumbers
 pub mod WalkEdits
+pub mod NameLists
+pub mod WalkLinks
+pub mod StandsLemmas
+pub mod OnceLemmas
+pub mod LinkLemmas
+pub mod HolderLemmas
+pub mod SettleLemmas
+pub mod AllowedLemmas
+pub mod PartLemmas

@@ -1,0 +1,119 @@
+-- The names' part goes on with the tree as paths come, go and get new names.
+use Rattle.std.proofs.Common.{◌≡◌, ℕ, List, [], ◌∷◌, Bool, true, false, cond, Option, Some, None, ap, refl, sym, subst, ◌∙◌, bytes_eq}
+use Rattle.std.specs.FinMap as map
+use Rattle.ufs_model.specs.Paths.{components, whole_path, whole_of, text_refusal}
+use Rattle.ufs_model.specs.PosixTree.{PosixTree, IsTree}
+use Rattle.ufs_model.specs.Walk as walk
+use Rattle.ufs_model.specs.Walk.{file_of}
+use Rattle.ufs_model.specs.Directories.{renamed}
+use Rattle.ufs_model.specs.Posix.{posix, served, change, forget, without_path, rename_path}
+use Rattle.ufs_model.specs.Refusals.{refusal}
+use Rattle.ufs_model.specs.Laws.{KeepsTrees}
+use Rattle.ufs_model.specs.declared.data.Errno.{Errno}
+use Rattle.ufs_model.specs.declared.data.Op.{Op}
+use Rattle.ufs_model.specs.declared.data.Op.TheVariants as op
+use Rattle.ufs_model.specs.declared.data.Node.TheVariants.{Dir, File}
+use Rattle.ufs_model.specs.Facts.Pieces.{bytes_same}
+use Rattle.ufs_model.specs.Facts.Renames.{MayRename}
+use Rattle.ufs_names.specs.DirTable.{DirTable, node_at}
+use Rattle.ufs_names.specs.DirCalls.{SetsNode, MovesNodes}
+use Rattle.ufs_names.specs.NamesPart.{NamesPart, IsPartOf, settled_node}
+use Rattle.ufs_names.proofs.NameLists.{names_of}
+use Rattle.ufs_names.proofs.WalkLinks.{met, met_at}
+use Rattle.ufs_names.proofs.StandsLemmas.{stands_put, stands_gone, stands_renamed}
+use Rattle.ufs_names.proofs.OnceLemmas.{once_dir, once_gone, once_renamed}
+use Rattle.ufs_names.proofs.LinkLemmas.{named_dir, unnamed_gone, named_left, unnamed_renamed, named_renamed}
+use Rattle.ufs_names.proofs.SettleLemmas.{part_paths, part_unnamed}
+use Rattle.ufs_names.proofs.AllowedLemmas.{mkdir_allowed, rmdir_allowed, unlink_allowed, IsRenamed, rename_allowed, may_rename, bytes_differ}
+
+-- the tree after a request that isn't refused
+pub tree_after : KeepsTrees → (t : PosixTree) (client : ℕ) (request : Op) → IsTree t → refusal t client request ≡ None → IsTree (change t client request)
+tree_after keeps t client request tree e = subst (λ (r : Option Errno). IsTree (served t client request r).0) e (keeps t client request tree)
+
+-- what goes on with the change goes on with the request
+pub goes_on : (n : NamesPart) (t : PosixTree) (client : ℕ) (asked request : Op) → asked ≡ request → refusal t client request ≡ None → IsPartOf n (change t client request) → IsPartOf n (posix t client asked).0
+goes_on n t client asked request is e part =
+    subst (λ (r : Op). IsPartOf n (posix t client r).0) (sym is) (subst (λ (r : Option Errno). IsPartOf n (served t client request r).0) (sym e) part)
+
+module _ (keeps : KeepsTrees) (n : NamesPart) (t : PosixTree) (client : ℕ) (part : IsPartOf n t) (d : DirTable) where
+  -- ---- a directory comes or goes
+
+  pub part_mkdir : (path : List ℕ) → refusal t client (op.Mkdir path) ≡ None → SetsNode (node_at n.dirs) (node_at d) (components path) (Some Dir) → IsPartOf (record n { dirs = d }) (change t client (op.Mkdir path))
+  part_mkdir path e sets =
+      let may = mkdir_allowed t client path e in
+      part_paths n t part d (map.insert t.paths (whole_of path) Dir)
+      (stands_put n.dirs d t.paths part.paths (components path) (names_of path may.0.text) Dir sets)
+      (once_dir t.paths part.once (whole_of path))
+      (λ f. named_dir t.paths (whole_of path) f may.1)
+      (tree_after keeps t client (op.Mkdir path) part.tree e)
+
+  -- a name goes, and its file where nothing keeps it
+  part_without : (path : List ℕ) → text_refusal path ≡ None → IsTree (without_path t (whole_of path)) → SetsNode (node_at n.dirs) (node_at d) (components path) None
+      → IsPartOf (settled_node (record n { dirs = d }) (file_of (map.get t.paths (whole_of path)))) (without_path t (whole_of path))
+  part_without path text tree sets =
+      part_unnamed n t part d (map.remove t.paths (whole_of path))
+      (stands_gone n.dirs d t.paths part.paths (components path) (names_of path text) sets)
+      (once_gone t.paths part.once (whole_of path))
+      (file_of (map.get t.paths (whole_of path)))
+      (λ f stood. unnamed_gone t.paths (whole_of path) f part.once stood)
+      (λ f other. named_left t.paths (whole_of path) f other)
+      tree
+
+  pub part_rmdir : (path : List ℕ) → refusal t client (op.Rmdir path) ≡ None → SetsNode (node_at n.dirs) (node_at d) (components path) None → IsPartOf (record n { dirs = d }) (change t client (op.Rmdir path))
+  part_rmdir path e sets =
+      let may = rmdir_allowed t client path e in
+      subst (λ o. IsPartOf (settled_node (record n { dirs = d }) (file_of o)) (without_path t (whole_of path))) may.2
+      (part_without path may.0.text (tree_after keeps t client (op.Rmdir path) part.tree e) sets)
+
+  -- ---- a file's name goes
+
+  pub part_unlink : (path : List ℕ) → refusal t client (op.Unlink path) ≡ None → SetsNode (node_at n.dirs) (node_at d) (components path) None
+      → IsPartOf (settled_node (record n { dirs = d }) (file_of (node_at n.dirs (components path)))) (change t client (op.Unlink path))
+  part_unlink path e sets =
+      let may = unlink_allowed t client path e in
+      subst (λ o. IsPartOf (settled_node (record n { dirs = d }) (file_of o)) (without_path t (whole_of path))) (met_at n.dirs t.paths part.paths path may.0.text)
+      (part_without path may.0.text (tree_after keeps t client (op.Unlink path) part.tree e) sets)
+
+  -- ---- a new name
+
+  part_renamed : (from to : List (List ℕ)) → IsRenamed t.paths from to → (whole_path from ≡ whole_path to → ⊥) → IsTree (rename_path t (whole_path from) (whole_path to)) → MovesNodes (node_at n.dirs) (node_at d) from to
+      → IsPartOf (settled_node (record n { dirs = d }) (file_of (node_at n.dirs to))) (rename_path t (whole_path from) (whole_path to))
+  part_renamed [] to is other tree moves = let some = is.old_some in cc
+  part_renamed (f ∷ fs) [] is other tree moves = let some = is.new_some in cc
+  part_renamed (f ∷ fs) (g ∷ gs) is other tree moves = by (bytes_eq (whole_path (f ∷ fs)) (whole_path (g ∷ gs))) (bytes_differ _ _ other) tree
+    where
+      may : MayRename t.paths f fs g gs
+      may = may_rename t.paths part.tree.namespace f fs g gs is other
+
+      done : IsTree (forget (record t { paths = renamed t.paths (whole_path (f ∷ fs)) (whole_path (g ∷ gs)) }) (file_of (map.get t.paths (whole_path (g ∷ gs)))))
+          → IsPartOf (settled_node (record n { dirs = d }) (file_of (map.get t.paths (whole_path (g ∷ gs))))) (forget (record t { paths = renamed t.paths (whole_path (f ∷ fs)) (whole_path (g ∷ gs)) }) (file_of (map.get t.paths (whole_path (g ∷ gs)))))
+      done tree =
+          part_unnamed n t part d (renamed t.paths (whole_path (f ∷ fs)) (whole_path (g ∷ gs)))
+          (stands_renamed n.dirs d t.paths part.paths f fs g gs may is.old_names moves)
+          (once_renamed t.paths part.once f fs g gs may)
+          (file_of (map.get t.paths (whole_path (g ∷ gs))))
+          (λ h stood. unnamed_renamed t.paths f fs g gs may h part.once stood)
+          (λ h other. named_renamed t.paths f fs g gs may h other)
+          tree
+
+      by : (b : Bool) → b ≡ false
+          → IsTree (cond {A = PosixTree} b t (forget (record t { paths = renamed t.paths (whole_path (f ∷ fs)) (whole_path (g ∷ gs)) }) (file_of (map.get t.paths (whole_path (g ∷ gs))))))
+          → IsPartOf (settled_node (record n { dirs = d }) (file_of (node_at n.dirs (g ∷ gs))))
+          (cond {A = PosixTree} b t (forget (record t { paths = renamed t.paths (whole_path (f ∷ fs)) (whole_path (g ∷ gs)) }) (file_of (map.get t.paths (whole_path (g ∷ gs))))))
+      by true e tree = cc
+      by false e tree =
+          subst (λ o. IsPartOf (settled_node (record n { dirs = d }) (file_of o)) (forget (record t { paths = renamed t.paths (whole_path (f ∷ fs)) (whole_path (g ∷ gs)) }) (file_of (map.get t.paths (whole_path (g ∷ gs))))))
+          (met n.dirs t.paths part.paths (g ∷ gs) is.new_names) (done tree)
+
+  pub part_rename : (from to : List ℕ) → refusal t client (op.Rename from to) ≡ None → (whole_of from ≡ whole_of to → ⊥) → MovesNodes (node_at n.dirs) (node_at d) (components from) (components to)
+      → IsPartOf (settled_node (record n { dirs = d }) (file_of (node_at n.dirs (components to)))) (change t client (op.Rename from to))
+  part_rename from to e other moves =
+      part_renamed (components from) (components to) (rename_allowed t client from to part.tree e) other (tree_after keeps t client (op.Rename from to) part.tree e) moves
+
+-- a new name that is the old one changes nothing
+pub part_same_name : (n : NamesPart) (t : PosixTree) (client : ℕ) → IsPartOf n t → (from to : List ℕ) → whole_of from ≡ whole_of to → IsPartOf n (change t client (op.Rename from to))
+part_same_name n t client part from to same = by (bytes_eq (whole_of from) (whole_of to)) (bytes_same _ _ same)
+  where
+    by : (b : Bool) → b ≡ true → IsPartOf n (cond {A = PosixTree} b t (forget (record t { paths = renamed t.paths (whole_of from) (whole_of to) }) (file_of (map.get t.paths (whole_of to)))))
+    by true e = part
+    by false e = cc
