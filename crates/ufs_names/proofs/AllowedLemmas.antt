@@ -1,24 +1,23 @@
 -- What holds of a request on a path that isn't refused.
-use Rattle.std.proofs.Common.{◌≡◌, ℕ, ◌+◌, zero, suc, List, [], ◌∷◌, ◌++◌, ◌⊎◌, inl, inr, Bool, true, false, cond, not, ◌&&◌, ◌||◌, Option, Some, None, is_some, is_none, unwrap_or, ap, refl, sym, subst, ◌∙◌, bytes_eq, append_assoc}
+use Rattle.std.proofs.Common.{◌≡◌, ℕ, ◌+◌, zero, suc, List, [], ◌∷◌, ◌++◌, Bool, true, false, cond, not, ◌&&◌, ◌||◌, Option, Some, None, is_some, is_none, unwrap_or, ap, refl, sym, subst, ◌∙◌, bytes_eq, append_assoc}
 use Rattle.std.proofs.lemmas.Bool.{and_from}
 use Rattle.std.proofs.lemmas.List.{append-nil}
 use Rattle.std.specs.FinMap as map
-use Rattle.ufs_model.specs.Paths.{components, components_refusal, text_refusal, refused_if, first_of, whole_path, whole_of, has_component, is_root}
+use Rattle.ufs_model.specs.Paths.{components, text_refusal, refused_if, first_of, whole_path, whole_of, has_component, is_root}
 use Rattle.ufs_model.specs.PosixTree.{PosixTree, Paths, Fds, IsTree, IsNamespace, stands, has_dir, is_dir}
 use Rattle.ufs_model.specs.Walk.{walk_refusal, node_at, is_file}
 use Rattle.ufs_model.specs.Directories.{has_entries, is_below}
 use Rattle.ufs_model.specs.Descriptors.{Mode, lowest_free, free_from, is_mode}
 use Rattle.ufs_model.specs.Posix.{new_fd}
-use Rattle.ufs_model.specs.Refusals.{own_refusal, open_refusal, refusal, rename_refusal, replace_refusal}
+use Rattle.ufs_model.specs.Refusals.{own_refusal, refusal, rename_refusal, replace_refusal}
 use Rattle.ufs_model.specs.declared.data.Desc.{Desc}
-use Rattle.ufs_model.specs.declared.data.Errno.{Errno}
 use Rattle.ufs_model.specs.declared.data.Errno.TheVariants.{Einval, Ebusy, Eisdir, Enoent, Enotdir, Emfile}
 use Rattle.ufs_model.specs.declared.data.Node.{Node}
 use Rattle.ufs_model.specs.declared.data.Node.TheVariants.{Dir, File}
 use Rattle.ufs_model.specs.declared.data.Op.TheVariants as op
 use Rattle.ufs_model.specs.Facts.Lookups.{same_some}
-use Rattle.ufs_model.specs.Facts.Pieces.{ArePlain, plain_append, plain_front, same_bytes, bytes_same, below_names, front_of, last}
-use Rattle.ufs_model.specs.Facts.Walks.{is_dir-some, dir_above, dir_stands, dir_of_path, entry_above}
+use Rattle.ufs_model.specs.Facts.Pieces.{ArePlain, plain_append, plain_front, same_bytes, below_names, front_of, last}
+use Rattle.ufs_model.specs.Facts.Walks.{dir_above, dir_stands, dir_of_path, entry_above}
 use Rattle.ufs_model.specs.Facts.Allowed.{first_none, passed}
 use Rattle.ufs_model.specs.Facts.Renames.{MayRename}
 use Rattle.ufs_names.proofs.NameLists.{AreNames, names_of}

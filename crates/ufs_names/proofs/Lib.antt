@@ -20,3 +20,8 @@ pub mod HolderLemmas
 pub mod SettleLemmas
 pub mod AllowedLemmas
 pub mod PartLemmas
+pub mod OpenPartLemmas
+pub mod ClosePartLemmas
+pub mod DescAfterLemmas
+pub mod PartFacts
+pub mod ConditionLemmas

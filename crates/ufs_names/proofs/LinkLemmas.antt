@@ -1,5 +1,5 @@
 -- Which files a path names, and what is known of each file, as paths come, go and get new names.
-use Rattle.std.proofs.Common.{◌≡◌, ℕ, ◌⊎◌, inl, inr, List, ◌∷◌, Bool, true, false, Option, Some, None, unwrap_or, ap, refl, sym, subst, ◌∙◌}
+use Rattle.std.proofs.Common.{◌≡◌, ℕ, ◌⊎◌, inl, inr, List, ◌∷◌, Bool, true, false, Option, Some, None, unwrap_or, ap, sym, ◌∙◌}
 use Rattle.std.proofs.lemmas.Bool.{false_from_ne_true}
 use Rattle.std.specs.List.{list_any}
 use Rattle.std.specs.Cmp.{nat_cmp_total}
@@ -94,6 +94,9 @@ module _ (paths : Paths) (f : List ℕ) (fs : List (List ℕ)) (g : List ℕ) (g
       by (inr at) = at
 
 -- ---- what is known of each file
+
+pub number_apart : (x y : ℕ) → (x ≡ y) ⊎ (x ≡ y → ⊥)
+number_apart = one_or_apart nat_cmp_total nat_cmp-IsAntisymmetric
 
 module _ (held : Holdings) (f : ℕ) where
   pub holding_put : (h : Holding) → holding_of (map.insert held f h) f ≡ h

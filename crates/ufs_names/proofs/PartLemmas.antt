@@ -1,9 +1,8 @@
 -- The names' part goes on with the tree as paths come, go and get new names.
-use Rattle.std.proofs.Common.{◌≡◌, ℕ, List, [], ◌∷◌, Bool, true, false, cond, Option, Some, None, ap, refl, sym, subst, ◌∙◌, bytes_eq}
+use Rattle.std.proofs.Common.{◌≡◌, ℕ, List, [], ◌∷◌, Bool, true, false, cond, Option, Some, None, sym, subst, bytes_eq}
 use Rattle.std.specs.FinMap as map
 use Rattle.ufs_model.specs.Paths.{components, whole_path, whole_of, text_refusal}
 use Rattle.ufs_model.specs.PosixTree.{PosixTree, IsTree}
-use Rattle.ufs_model.specs.Walk as walk
 use Rattle.ufs_model.specs.Walk.{file_of}
 use Rattle.ufs_model.specs.Directories.{renamed}
 use Rattle.ufs_model.specs.Posix.{posix, served, change, forget, without_path, rename_path}
@@ -12,7 +11,7 @@ use Rattle.ufs_model.specs.Laws.{KeepsTrees}
 use Rattle.ufs_model.specs.declared.data.Errno.{Errno}
 use Rattle.ufs_model.specs.declared.data.Op.{Op}
 use Rattle.ufs_model.specs.declared.data.Op.TheVariants as op
-use Rattle.ufs_model.specs.declared.data.Node.TheVariants.{Dir, File}
+use Rattle.ufs_model.specs.declared.data.Node.TheVariants.{Dir}
 use Rattle.ufs_model.specs.Facts.Pieces.{bytes_same}
 use Rattle.ufs_model.specs.Facts.Renames.{MayRename}
 use Rattle.ufs_names.specs.DirTable.{DirTable, node_at}

@@ -1,5 +1,5 @@
 -- A file that nothing keeps any more goes from the part as it goes from the tree.
-use Rattle.std.proofs.Common.{◌≡◌, ℕ, ◌⊎◌, inl, inr, List, [], ◌∷◌, zero, suc, Bool, true, false, cond, ◌||◌, Option, Some, None, is_some, replicate, ap, refl, sym, subst, ◌∙◌}
+use Rattle.std.proofs.Common.{◌≡◌, ℕ, ◌⊎◌, inl, inr, zero, suc, Bool, true, false, cond, ◌||◌, Option, Some, None, is_some, replicate, ap, refl, sym, ◌∙◌}
 use Rattle.std.proofs.lemmas.Bool.{false_from_ne_true}
 use Rattle.std.specs.Prelude.{slice_index_or}
 use Rattle.std.specs.Cmp.{nat_cmp_total}
@@ -9,12 +9,12 @@ use Rattle.std.specs.FinMap.{nat_cmp-IsAntisymmetric}
 use Rattle.ufs_model.specs.PosixTree.{PosixTree, Paths, Files, IsTree, is_live}
 use Rattle.ufs_model.specs.Touched.{holds}
 use Rattle.ufs_model.specs.Posix.{forget}
-use Rattle.ufs_model.specs.Facts.Lookups.{one_or_apart, same_some, inserted_here, inserted_else, removed_here, removed_else}
+use Rattle.ufs_model.specs.Facts.Lookups.{same_some, inserted_here, inserted_else, removed_here, removed_else}
 use Rattle.ufs_names.specs.DirTable.{DirTable}
 use Rattle.ufs_names.specs.Stands.{Stands}
-use Rattle.ufs_names.specs.NamesPart.{NamesPart, IsPartOf, IsNamedOnce, is_linked, is_holder, is_kept, holding_of, unheld, settled, settled_node, without_name}
+use Rattle.ufs_names.specs.NamesPart.{NamesPart, IsPartOf, IsNamedOnce, is_linked, is_holder, is_kept, holding_of, settled, settled_node, without_name}
 use Rattle.ufs_names.specs.declared.holding.Holding.{Holding}
-use Rattle.ufs_names.proofs.LinkLemmas.{is_named, holding_put, holding_else, holding_gone, holding_left}
+use Rattle.ufs_names.proofs.LinkLemmas.{is_named, number_apart, holding_put, holding_else, holding_gone, holding_left}
 use Rattle.ufs_names.proofs.HolderLemmas.{from_marked, kept_is_live}
 
 -- The part is that of the tree, but what is known of one file, which is this now.
@@ -48,9 +48,9 @@ module _ (n : NamesPart) (t : PosixTree) (g : ℕ) (h : Holding) (is : IsPartBut
     once = is.once;
     bytes = is.bytes;
     next = is.next;
-    linked = λ f. linked f (one_or_apart nat_cmp_total nat_cmp-IsAntisymmetric f g);
-    held = λ f client. held f client (one_or_apart nat_cmp_total nat_cmp-IsAntisymmetric f g);
-    told = λ f. told f (one_or_apart nat_cmp_total nat_cmp-IsAntisymmetric f g);
+    linked = λ f. linked f (number_apart f g);
+    held = λ f client. held f client (number_apart f g);
+    told = λ f. told f (number_apart f g);
   }
     where
       linked : (f : ℕ) → (f ≡ g) ⊎ (f ≡ g → ⊥) → is_linked (map.insert n.held g h) f ≡ is_named t.paths f
@@ -80,9 +80,9 @@ module _ (n : NamesPart) (t : PosixTree) (g : ℕ) (h : Holding) (is : IsPartBut
     once = is.once;
     bytes = ap (λ (m : Files). map.remove m g) is.bytes;
     next = is.next;
-    linked = λ f. linked f (one_or_apart nat_cmp_total nat_cmp-IsAntisymmetric f g);
-    held = λ f client. held f client (one_or_apart nat_cmp_total nat_cmp-IsAntisymmetric f g);
-    told = λ f. told f (one_or_apart nat_cmp_total nat_cmp-IsAntisymmetric f g);
+    linked = λ f. linked f (number_apart f g);
+    held = λ f client. held f client (number_apart f g);
+    told = λ f. told f (number_apart f g);
   }
     where
       neither : (h.linked ≡ false) × (list_any (λ b. b) h.clients ≡ false)

@@ -1,9 +1,9 @@
 -- The directories stand for the paths, as paths come, go and get new names.
-use Rattle.std.proofs.Common.{◌≡◌, ℕ, ◌⊎◌, inl, inr, List, [], ◌∷◌, ◌++◌, Option, Some, None, ap, is_some, refl, sym, subst, ◌∙◌, append_assoc}
+use Rattle.std.proofs.Common.{◌≡◌, ℕ, ◌⊎◌, inl, inr, List, [], ◌∷◌, ◌++◌, Option, Some, None, ap, is_some, refl, sym, subst, ◌∙◌}
 use Rattle.std.proofs.lemmas.List.{append-nil, append_cancel_left}
 use Rattle.std.specs.FinMap as map
-use Rattle.ufs_model.specs.Paths.{components, whole_path, components_refusal}
-use Rattle.ufs_model.specs.PosixTree.{Paths, stands}
+use Rattle.ufs_model.specs.Paths.{components, whole_path}
+use Rattle.ufs_model.specs.PosixTree.{Paths}
 use Rattle.ufs_model.specs.Directories.{renamed, renamed_path}
 use Rattle.ufs_model.specs.declared.data.Node.{Node}
 use Rattle.ufs_model.specs.Facts.Orders.{path_total, path_same}
@@ -63,15 +63,15 @@ same_option None None to back = refl
 same_option None (Some y) to back = back y refl
 same_option (Some x) b to back = sym (to x refl)
 
+-- the new name isn't at or below the old one
+pub not_new : (paths : Paths) (f : List ℕ) (fs : List (List ℕ)) (g : List ℕ) (gs : List (List ℕ)) → MayRename paths f fs g gs → (rest : List (List ℕ)) → (f ∷ fs) ++ rest ≡ g ∷ gs → ⊥
+not_new paths f fs g gs may [] e = may.apart (ap whole_path (sym (append-nil (f ∷ fs)) ∙ e))
+not_new paths f fs g gs may (y ∷ ys) e = may.outside (front_of (y ∷ ys)) (ap front_of (sym e) ∙ front_append (f ∷ fs) y ys)
+
 module _ (t t' : DirTable) (paths : Paths) (was_so : Stands t paths) (f : List ℕ) (fs : List (List ℕ)) (g : List ℕ) (gs : List (List ℕ)) (may : MayRename paths f fs g gs)
     (olds : AreNames (f ∷ fs)) (moves : MovesNodes (node_at t) (node_at t') (f ∷ fs) (g ∷ gs)) where
   abbrev now : Paths
   now = renamed paths (whole_path (f ∷ fs)) (whole_path (g ∷ gs))
-
-  -- no path that moves is the new name
-  not_new : (rest : List (List ℕ)) → (f ∷ fs) ++ rest ≡ g ∷ gs → ⊥
-  not_new [] e = may.apart (ap whole_path (sym (append-nil (f ∷ fs)) ∙ e))
-  not_new (y ∷ ys) e = may.outside (front_of (y ∷ ys)) (ap front_of (sym e) ∙ front_append (f ∷ fs) y ys)
 
   -- the path that a path that stands has now
   abbrev new_path : List ℕ → List ℕ
@@ -114,7 +114,7 @@ module _ (t t' : DirTable) (paths : Paths) (was_so : Stands t paths) (f : List �
     to_now n there = by (begin_or_not (g ∷ gs) other) (begin_or_not (f ∷ fs) other)
       where
         moved : (rest : List (List ℕ)) → other ≡ (g ∷ gs) ++ rest → map.get now (whole_path other) ≡ Some n
-        moved rest e = ap (map.get now) (sym (new (case_of paths f fs g gs may from (ap is_some at)))) ∙ is_now paths f fs g gs may from n at (λ same. not_new rest (same_names ((f ∷ fs) ++ rest) (g ∷ gs) names.plain may.new_plain same))
+        moved rest e = ap (map.get now) (sym (new (case_of paths f fs g gs may from (ap is_some at)))) ∙ is_now paths f fs g gs may from n at (λ same. not_new paths f fs g gs may rest (same_names ((f ∷ fs) ++ rest) (g ∷ gs) names.plain may.new_plain same))
           where
             from : List ℕ
             from = whole_path ((f ∷ fs) ++ rest)
