@@ -1,11 +1,10 @@
 -- The table of the root alone.
-use Rattle.std.proofs.Common.{◌≡◌, ◌≢◌, ℕ, zero, suc, ◌<◌, List, [], ◌∷◌, length, All, Option, Some, None, ap, sym, refl, ◌∙◌, subst, arith}
+use Rattle.std.proofs.Common.{◌≡◌, ◌≢◌, ℕ, zero, suc, ◌<◌, List, [], ◌∷◌, length, All, Some, None, ap, sym, refl, ◌∙◌, subst, arith}
 use Rattle.std.specs.Option.{option_map}
 use Rattle.std.proofs.lemmas.List.Elements.{All-nil}
 use Rattle.ufs_dirs.specs.Directory.{Directory, entry_of}
-use Rattle.ufs_names.specs.DirTable.{DirTable, IsDirTable, AreFree, no_dir, dir_at, slots_at, step, walk_from, found_at, node_at, found_of, node_of}
-use Rattle.ufs_names.specs.declared.found.Found.{Found}
-use Rattle.ufs_names.specs.declared.found.Found.TheVariants.{Dir, File}
+use Rattle.ufs_names.specs.DirTable.{DirTable, IsDirTable, no_dir, dir_at, slots_at, walk_from, found_at, node_at, found_of, node_of}
+use Rattle.ufs_names.specs.declared.found.Found.TheVariants.{Dir}
 use Rattle.ufs_names.proofs.WalkLemmas.{walk_none}
 
 abbrev pub first : DirTable

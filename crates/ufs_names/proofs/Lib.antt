@@ -25,3 +25,6 @@ pub mod ClosePartLemmas
 pub mod DescAfterLemmas
 pub mod PartFacts
 pub mod ConditionLemmas
+pub mod ListedLemmas
+pub mod PathLemmas
+pub mod EntryLemmas

@@ -1,5 +1,5 @@
 -- What the calls on a tree's directories answer, and what they change.
-use Rattle.std.specs.Prelude.{ℕ, ◌≡◌, ◌≢◌, ◌-◌, List, [], ◌∷◌, ◌++◌, ◌⊎◌, Bool, true, Option, Some, None, is_some, IsSome, length, take}
+use Rattle.std.specs.Prelude.{ℕ, ◌≡◌, ◌≢◌, ◌-◌, List, [], ◌∷◌, ◌++◌, true, Option, Some, None, is_some, IsSome, length, take}
 use Rattle.std.specs.List.{list_any}
 use Rattle.std.specs.Str.{bytes_eq}
 use Rattle.ufs_layout.specs.DentryForm.{DentryForm}
@@ -11,7 +11,7 @@ use Rattle.ufs_model.specs.declared.data.Errno.{Errno}
 use Rattle.ufs_model.specs.declared.data.Node.{Node}
 use Rattle.ufs_model.specs.declared.data.Node.TheVariants as node
 use Rattle.ufs_names.specs.DirTable.{DirTable, slots_at, found_at, node_at}
-use Rattle.ufs_names.specs.declared.found.Found.TheVariants.{Dir, File}
+use Rattle.ufs_names.specs.declared.found.Found.TheVariants.{Dir}
 
 -- what stands at each list of names
 abbrev pub Nodes : Type 0

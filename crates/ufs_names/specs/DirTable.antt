@@ -1,7 +1,6 @@
 -- The directories of a tree, each by its number, and what a walk through them meets.
 use Rattle.std.specs.Prelude.{ℕ, ◌≡◌, ◌≢◌, ◌<◌, ◌==◌, List, [], ◌∷◌, length, All, Option, Some, None, IsSome, slice_index, slice_index_or, if◌then◌else◌}
 use Rattle.std.specs.Option.{option_map}
-use Rattle.std.specs.Coded.{Coded, code_by, coded×, coded_ℕ, coded_list}
 use Rattle.ufs_layout.specs.DentryForm.{DentryForm}
 use Rattle.ufs_dirs.specs.Directory.{Directory, entry_of}
 use Rattle.ufs_model.specs.declared.data.Node.{Node}

@@ -169,13 +169,9 @@ fn names_in(alloc: Global, blocks: &DirBlocks) -> Result<NameList, Memory>
     ensures { IfOk result (λ names. AreNamesOf blocks.now.slots names) }
 {
     let mut names = Vec::new(alloc);
-    let mut after = Bytes::from_vec(Vec::new(alloc));
-    for _name in 0..blocks.count() {
-        let Some(entry) = blocks.next_name(after.as_slice()) else {
-            break;
-        };
-        names.push(Bytes::from_vec(entry.name_bytes().to_vec(alloc)?))?;
-        after = Bytes::from_vec(entry.name_bytes().to_vec(alloc)?);
+    for rank in 0..blocks.count() {
+        let name = blocks.name_at(rank as usize).to_vec(alloc)?;
+        names.push(Bytes::from_vec(name))?;
     }
     Ok(NameList::from_vec(names))
 }
