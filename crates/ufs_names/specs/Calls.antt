@@ -1,11 +1,12 @@
 -- What the file calls answer and change, by the names' part and what a request's descriptor stands for.
-use Rattle.std.specs.Prelude.{ℕ, ◌+◌, ◌≡◌, List, [], Bool, ◌==◌, not, nat_lt, length, if◌then◌else◌, Option, Some, None, unwrap_or}
+use Rattle.std.specs.Prelude.{ℕ, ◌+◌, ◌≡◌, List, [], Bool, ◌==◌, not, nat_lt, length, if◌then◌else◌, Option, Some, None, unwrap_or, true}
 use Rattle.std.specs.FinMap as map
 use Rattle.ufs_model.specs.Paths.{refused_if}
 use Rattle.ufs_model.specs.PosixTree.{PosixTree, Paths, Files, Fds}
 use Rattle.ufs_model.specs.Descriptors.{closed, moved, seek_to, is_offset}
 use Rattle.ufs_model.specs.FileBytes.{content, part, put_at, resized, place_of, is_past, max_size}
 use Rattle.ufs_model.specs.Asks.{IsDescAfter, fd_told}
+use Rattle.ufs_model.specs.OpKinds.{is_on_fd}
 use Rattle.ufs_model.specs.Posix.{posix}
 use Rattle.ufs_model.specs.declared.data.Op.{Op}
 use Rattle.ufs_model.specs.declared.data.Op.TheVariants as op
@@ -19,6 +20,11 @@ use Rattle.ufs_model.specs.declared.data.Entry.{Entry}
 use Rattle.ufs_names.specs.NamesPart.{NamesPart, IsPartOf, settled, holding_of, without_holder}
 
 -- ---- requests on a descriptor
+
+-- the request is on a descriptor, or a `sync`
+abbrev pub names_no_path : Op → Bool
+names_no_path op.Sync = true
+names_no_path request = is_on_fd request
 
 -- what a request's descriptor stands for; one that isn't open allows nothing
 abbrev pub desc_or_closed : Option Desc → Desc

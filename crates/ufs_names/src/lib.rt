@@ -7,6 +7,7 @@ mod dir_tree;
 mod found;
 mod hold_map;
 mod holding;
+mod keep;
 mod names;
 mod open_calls;
 mod path_calls;

@@ -1,4 +1,8 @@
 // The names' part: what a server answers to each file call.
+ghost use Rattle.std.specs.Prelude.{◌≡◌};
+ghost use Rattle.ufs_model.specs.declared.data.Reply.TheVariants.{Refused};
+ghost use Rattle.ufs_names.specs.Calls.{IsEntryOf};
+
 use crate::dir_tree::DirTree;
 use crate::found::Found;
 use crate::hold_map::HoldMap;
@@ -6,7 +10,10 @@ use crate::holding::Holding;
 use std::alloc::Global;
 use std::marker::Model;
 use ufs_calls::{FileMap, Mode, own_refusal, text};
-use ufs_model::{Actor, Ask, Bytes, Desc, Entry, Errno, Excuse, Memory, Node, Op, Reply, a_request_keeps_the_tree};
+use ufs_model::{
+    Actor, Ask, Bytes, Desc, Entry, Errno, Excuse, Memory, Node, Op, Reply,
+    a_request_keeps_the_tree,
+};
 use ufs_path::PathText;
 
 /// The namespace, with the bytes of the files. Its directories stand in blocks, and a file that no path names stays
@@ -22,9 +29,15 @@ pub struct Names {
 }
 
 impl Model for Names {
+    ghost use Rattle.std.specs.FinMap as map;
+    ghost use Rattle.std.specs.Ordering.{nat_cmp};
+    ghost use Rattle.std.specs.Coded.{codes, coded_ℕ, coded_list};
     ghost use Rattle.ufs_names.specs.NamesPart.{NamesPart};
+    ghost use Rattle.ufs_names.specs.contracts.holding.Holding as holding;
 
     ghost Value = { NamesPart };
+
+    ghost coded = { Prim.hlevel (codes, map.code {R = nat_cmp} coded_ℕ (coded_list coded_ℕ), map.code {R = nat_cmp} coded_ℕ holding.the_row.coded) };
 
     ghost view = { λ n. record { dirs = n.dirs; bytes = n.bytes; held = n.held; next = n.next } };
 }
@@ -104,8 +117,8 @@ impl Names {
     {
         let desc = ask.desc;
         match self.serve(&ask) {
-            Ok(served) => applied(ask, ticket, served.reply, served.desc),
-            Err(Memory) => applied(ask, ticket, Reply::Excused(Excuse::Memory), desc),
+            Ok(served) => answered(ask, ticket, served.reply, served.desc),
+            Err(Memory) => answered(ask, ticket, Reply::Excused(Excuse::Memory), desc),
         }
     }
 
@@ -143,7 +156,7 @@ impl Names {
 
 /// A refusal leaves the request's descriptor.
 pub(crate) fn refused(ask: &Ask, errno: Errno) -> Served
-    ensures reply { result.reply ≡ Reply.Refused errno }
+    ensures reply { result.reply ≡ Refused errno }
     ensures desc { result.desc ≡ ask.now.desc }
 {
     Served {
@@ -152,7 +165,7 @@ pub(crate) fn refused(ask: &Ask, errno: Errno) -> Served
     }
 }
 
-fn applied(ask: Ask, ticket: u64, reply: Reply, desc: Option<Desc>) -> Applied
+fn answered(ask: Ask, ticket: u64, reply: Reply, desc: Option<Desc>) -> Applied
     ensures entry { IsEntryOf ask ticket result.entry }
     ensures reply { result.entry.reply ≡ reply }
     ensures desc { result.desc ≡ desc }

@@ -154,19 +154,6 @@ impl Names {
         self.settle(file, holding.without_name());
     }
 
-    /// A file that nothing keeps any more goes, and with it its bytes.
-    pub(crate) fn settle(&mut self, file: u32, holding: Holding) {
-        if !holding.is_kept() {
-            self.held.remove(file);
-            self.bytes.remove(file);
-            return;
-        }
-        match self.held.put(file, holding) {
-            Ok(()) => {}
-            Err(_) => unreachable!(),
-        }
-    }
-
     pub(crate) fn rename(&mut self, ask: &Ask, from: &PathText, to: &PathText) -> Result<Served, Memory> {
         match self.rename_refusal(from, to) {
             Some(e) => Ok(refused(ask, e)),

@@ -1,0 +1,14 @@
+use Rattle.std.proofs.Common.{sym, ap, ◌∙◌}
+use Rattle.std.specs.FinMap as map
+use Rattle.std.specs.FinMap.{nat_cmp-IsAntisymmetric}
+use Rattle.std.specs.Ordering.{nat_cmp}
+use Rattle.std.specs.Cmp.{nat_cmp_total}
+use Rattle.ufs_calls.specs.Facts.Maps.{get-seen}
+use Rattle.ufs_names.proofs.hold_map.HoldMap.get.Goals as goal
+
+pub returns : goal.returns
+returns c =
+    let at = c.args.file in
+    c.copied.ensures ∙ c.get.ensures.value
+    ∙ sym (get-seen nat_cmp (λ k. k) nat_cmp_total nat_cmp-IsAntisymmetric c.self.inside.entries at)
+    ∙ ap (λ m. map.get m at) c.self.view_is

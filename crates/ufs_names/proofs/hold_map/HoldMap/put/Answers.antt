@@ -1,0 +1,18 @@
+use Rattle.std.proofs.Common.{ap, sym, ◌∙◌}
+use Rattle.std.specs.FinMap as map
+use Rattle.std.specs.FinMap.{nat_cmp-IsAntisymmetric}
+use Rattle.std.specs.Ordering.{nat_cmp}
+use Rattle.std.specs.Cmp.{nat_cmp_total}
+use Rattle.ufs_calls.specs.Facts.Maps.{insert-seen, get-seen, on_err}
+use Rattle.ufs_names.proofs.hold_map.HoldMap.put.Goals as goal
+
+pub returns-clause-ok : goal.returns-clause-ok
+returns-clause-ok c =
+    let at = c.args.file in
+    insert-seen nat_cmp (λ k. k) nat_cmp_total nat_cmp-IsAntisymmetric c.self.inside.entries c.insert.new.self at c.args.holding c.in_ok-insert.ensures.entries
+    ∙ ap (λ m. map.insert m at c.args.holding) c.self.view_is
+
+pub returns-in_err-insert-clause-absent : goal.returns-in_err-insert-clause-absent
+returns-in_err-insert-clause-absent c =
+    let at = c.args.file in
+    on_err c.from_residual.result (ap (λ m. map.get m at) (sym c.self.view_is) ∙ get-seen nat_cmp (λ k. k) nat_cmp_total nat_cmp-IsAntisymmetric c.self.inside.entries at ∙ c.in_err-insert.ensures.absent)
