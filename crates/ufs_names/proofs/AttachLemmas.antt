@@ -1,11 +1,10 @@
 -- What nothing leads to gets a name in a directory.
-use Rattle.std.proofs.Common.{◌≡◌, ◌≢◌, ℕ, ◌<◌, ◌⊎◌, inl, inr, List, [], ◌∷◌, ◌++◌, Option, Some, None, IsSome, length, get_or, ap, sym, ◌∙◌, arith}
+use Rattle.std.proofs.Common.{◌≡◌, ℕ, ◌<◌, ◌⊎◌, inl, inr, List, [], ◌∷◌, ◌++◌, Some, length, get_or, ap, sym, ◌∙◌, arith}
 use Rattle.ufs_layout.specs.DentryForm.{DentryForm}
 use Rattle.ufs_dirs.specs.Directory.{Directory}
 use Rattle.ufs_path.specs.Names.{IsName}
 use Rattle.ufs_names.specs.DirTable.{DirTable, IsDirTable, found_of, walk_from, found_at}
 use Rattle.ufs_names.specs.DirEdits.{SetsEntry, IsLoose}
-use Rattle.ufs_names.specs.declared.found.Found.{Found}
 use Rattle.ufs_names.specs.declared.found.Found.TheVariants.{Dir}
 use Rattle.ufs_names.proofs.Prefixes.{Begins, NotBegins, begins_or_not}
 use Rattle.ufs_names.proofs.WalkEdits.{walk-off}

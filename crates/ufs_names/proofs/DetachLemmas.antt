@@ -1,14 +1,13 @@
 -- A name is taken out of a directory.
-use Rattle.std.proofs.Common.{◌≡◌, ◌≢◌, ℕ, ◌<◌, ◌⊎◌, inl, inr, List, [], ◌∷◌, ◌++◌, Option, Some, None, IsSome, length, get_or, ap, sym, ◌∙◌, arith, append_assoc}
+use Rattle.std.proofs.Common.{◌≡◌, ◌≢◌, ℕ, ◌⊎◌, inl, inr, List, [], ◌∷◌, ◌++◌, Some, None, ap, sym, ◌∙◌, arith}
 use Rattle.ufs_layout.specs.DentryForm.{DentryForm}
 use Rattle.ufs_dirs.specs.Directory.{Directory, entry_of}
 use Rattle.ufs_names.specs.DirTable.{DirTable, IsDirTable, slots_at, found_of, walk_from, found_at}
 use Rattle.ufs_names.specs.DirEdits.{SetsEntry, IsLoose}
-use Rattle.ufs_names.specs.declared.found.Found.{Found}
 use Rattle.ufs_names.specs.declared.found.Found.TheVariants.{Dir}
 use Rattle.ufs_names.proofs.Prefixes.{Begins, NotBegins, begins_or_not, same_rest, no_more}
 use Rattle.ufs_names.proofs.WalkEdits.{walk-none, walk-off}
-use Rattle.ufs_names.proofs.EntryEdits.{edited, step-else, met_else, met_below, met_before, blocks_kept, names_kept, free_kept}
+use Rattle.ufs_names.proofs.EntryEdits.{step-else, met_else, met_below, met_before, blocks_kept, names_kept, free_kept}
 
 module _ (t : DirTable) (dirs : List Directory) (p : ℕ) (x : List ℕ) (sets : SetsEntry t.dirs dirs p x None) (is : IsDirTable t) (above : List (List ℕ)) (met : found_at t above ≡ Some (Dir p)) where
   abbrev new : DirTable

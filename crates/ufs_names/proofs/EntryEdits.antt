@@ -1,16 +1,15 @@
 -- What walks meet once a name of one directory stands for something else.
-use Rattle.std.proofs.Common.{◌≡◌, ◌≢◌, ℕ, ◌<◌, ◌⊎◌, inl, inr, List, [], ◌∷◌, ◌++◌, Option, Some, None, IsSome, All, length, get_or, ap, sym, refl, ◌∙◌, subst, arith, append_assoc}
+use Rattle.std.proofs.Common.{◌≡◌, ◌≢◌, ℕ, ◌<◌, ◌⊎◌, inl, inr, List, [], ◌∷◌, ◌++◌, Option, Some, IsSome, All, length, get_or, ap, sym, ◌∙◌, subst, arith, append_assoc}
 use Rattle.std.specs.Option.{option_map}
 use Rattle.std.proofs.lemmas.Bool.{cases_eq}
 use Rattle.ufs_layout.specs.DentryForm.{DentryForm}
 use Rattle.ufs_dirs.specs.Directory.{Directory, entry_of}
 use Rattle.ufs_path.specs.Names.{IsName}
 use Rattle.ufs_names.specs.DirTable.{DirTable, AreFree, IsDirTable, dir_at, slots_at, found_of, step, walk_from, found_at}
-use Rattle.ufs_names.specs.DirEdits.{SetsEntry, IsLoose}
-use Rattle.ufs_names.specs.declared.found.Found.{Found}
+use Rattle.ufs_names.specs.DirEdits.{SetsEntry}
 use Rattle.ufs_names.specs.declared.found.Found.TheVariants.{Dir}
-use Rattle.ufs_names.proofs.Prefixes.{Begins, NotBegins, one_name, begins_or_not, same_rest, no_more}
-use Rattle.ufs_names.proofs.WalkEdits.{walk-append, walk-none, walk-off}
+use Rattle.ufs_names.proofs.Prefixes.{NotBegins, one_name, no_more}
+use Rattle.ufs_names.proofs.WalkEdits.{walk-append, met_off}
 
 module _ (t : DirTable) (dirs : List Directory) (p : ℕ) (x : List ℕ) (w : Option DentryForm) (sets : SetsEntry t.dirs dirs p x w) where
   abbrev pub edited : DirTable
@@ -35,9 +34,7 @@ module _ (t : DirTable) (dirs : List Directory) (p : ℕ) (x : List ℕ) (w : Op
 
     -- a walk that doesn't begin with these names
     pub met_else : (names : List (List ℕ)) → NotBegins here names → found_at edited names ≡ found_at t names
-    met_else names off =
-        walk-off t edited p x step-else (Some (Dir 0)) names
-        (λ a b e at. off b (e ∙ ap (λ l. l ++ x ∷ b) (is.once a above p at met) ∙ sym (append_assoc above (x ∷ []) b)))
+    met_else names off = met_off t edited p x entry-else is above met names off
 
     pub above_met : found_at edited above ≡ Some (Dir p)
     above_met = met_else above (λ rest. no_more above x rest) ∙ met

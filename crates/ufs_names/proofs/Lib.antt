@@ -6,6 +6,8 @@ pub mod AttachLemmas
 pub mod DetachLemmas
 pub mod EntryEdits
 pub mod FreedNumbers
+pub mod MoveEdits
+pub mod NodeEdits
 pub mod Prefixes
 pub mod RoomLemmas
 pub mod SameWalks

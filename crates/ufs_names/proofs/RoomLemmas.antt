@@ -1,16 +1,16 @@
 -- Free slots of a directory, and the numbers of its blocks.
-use Rattle.std.proofs.Common.{◌≡◌, ℕ, ◌+◌, ◌<◌, ◌≤◌, List, [], ◌∷◌, ◌++◌, Bool, true, false, cond, eqb, ◌&&◌, length, set, replicate, ap, sym, refl, ◌∙◌, arith, All, length-append, length-set, Result, Ok, Err, OnOk, is_err}
-use Rattle.std.specs.List.{list_all, list_any, count_by}
+use Rattle.std.proofs.Common.{◌≡◌, ℕ, ◌+◌, ◌<◌, List, [], ◌∷◌, ◌++◌, Bool, true, false, cond, eqb, length, set, ap, refl, ◌∙◌, arith, All, length-append, length-set, Result, Ok, Err, OnOk, is_err}
+use Rattle.std.specs.List.{list_all, count_by}
 use Rattle.std.proofs.lemmas.Bool.{false_from_ne_true, eqb-true, and_parts, true≢false}
-use Rattle.std.proofs.lemmas.List.{get_or-set_same, get_or-append-add}
+use Rattle.std.proofs.lemmas.List.{get_or-set_same}
 use Rattle.std.proofs.lemmas.List.Elements.{All-weaker, All-push}
 use Rattle.std.proofs.lemmas.List.Folds.{list_all_at, list_any_none}
 use Rattle.std.proofs.lemmas.List.Sums.{sum_by-cons}
-use Rattle.ufs_layout.specs.DentryForm.{DentryForm, free_slot, is_named}
-use Rattle.ufs_dirs.specs.Directory.{Directory, IsDirectory, has_block}
+use Rattle.ufs_layout.specs.DentryForm.{free_slot, is_named}
+use Rattle.ufs_dirs.specs.Directory.{Directory, has_block}
 use Rattle.ufs_dirs.specs.Changes.{IsSlot, place_of, with_entry}
 use Rattle.ufs_dirs.specs.declared.Slot.{Slot}
-use Rattle.ufs_names.specs.DirEdits.{HasRoom, IsNumbered}
+use Rattle.ufs_names.specs.DirEdits.{HasRoom}
 
 abbrev one_if : Bool → ℕ
 one_if b = cond b 1 0

@@ -1,15 +1,13 @@
 -- A number that is taken, of a directory without names.
-use Rattle.std.proofs.Common.{◌≡◌, ◌≢◌, ℕ, ◌+◌, ◌<◌, ◌≤◌, ◌⊎◌, inl, inr, List, [], ◌∷◌, ◌++◌, Option, Some, None, IsSome, All, length, get_or, ap, sym, refl, ◌∙◌, subst, arith, length-append}
+use Rattle.std.proofs.Common.{◌≡◌, ◌≢◌, ℕ, ◌+◌, ◌<◌, ◌≤◌, ◌⊎◌, inl, inr, List, [], ◌∷◌, ◌++◌, Some, length, get_or, ap, sym, refl, ◌∙◌, subst, arith, length-append}
 use Rattle.std.specs.Option.{option_map}
 use Rattle.std.proofs.lemmas.Bool.{cases_eq, cases_lt}
 use Rattle.std.proofs.lemmas.List.{get_or_append_left, get_or_push, get_or_past}
 use Rattle.ufs_dirs.specs.Directory.{Directory, entry_of}
-use Rattle.ufs_names.specs.DirTable.{DirTable, AreFree, IsDirTable, no_dir, dir_at, slots_at, found_of, walk_from, found_at}
+use Rattle.ufs_names.specs.DirTable.{DirTable, IsDirTable, no_dir, dir_at, slots_at, found_of, walk_from, found_at}
 use Rattle.ufs_names.specs.DirCalls.{IsBare}
-use Rattle.ufs_names.specs.DirEdits.{IsNumbered, RoomsIn, SameEntries, TakesNumber, IsLoose, IsMet, dir_in}
-use Rattle.ufs_names.specs.declared.found.Found.{Found}
+use Rattle.ufs_names.specs.DirEdits.{IsNumbered, RoomsIn, SameEntries, TakesNumber, IsLoose}
 use Rattle.ufs_names.specs.declared.found.Found.TheVariants.{Dir}
-use Rattle.ufs_path.specs.Names.{IsName}
 use Rattle.ufs_names.proofs.WalkEdits.{walk-none, walk-same}
 use Rattle.ufs_names.proofs.SameWalks.{same_table, free_same, same_rooms, rooms_table}
 

@@ -1,10 +1,10 @@
 -- One change of a tree's directories.
-use Rattle.std.specs.Prelude.{ℕ, ◌≡◌, ◌≢◌, ◌<◌, ◌++◌, ◌∷◌, [], ◌⊎◌, List, length, All, Option, Some, false, slice_index, slice_index_or}
+use Rattle.std.specs.Prelude.{ℕ, ◌≡◌, ◌≢◌, ◌<◌, ◌++◌, ◌∷◌, [], ◌⊎◌, List, length, All, Option, Some, None, false, slice_index, slice_index_or}
 use Rattle.std.specs.List.{list_all}
 use Rattle.ufs_layout.specs.DentryForm.{DentryForm, is_named}
 use Rattle.ufs_dirs.specs.Directory.{Directory, entry_of}
 use Rattle.ufs_dirs.specs.Changes.{SetsName}
-use Rattle.ufs_names.specs.DirTable.{DirTable, no_dir, slots_at, walk_from, found_at}
+use Rattle.ufs_names.specs.DirTable.{DirTable, IsDirTable, no_dir, slots_at, walk_from, found_at}
 use Rattle.ufs_names.specs.declared.found.Found.{Found}
 use Rattle.ufs_names.specs.declared.found.Found.TheVariants.{Dir}
 
@@ -63,3 +63,11 @@ pub record IsLoose (t : DirTable) (from : Option Found) : Type 0 where
   pub once : (names others : List (List ℕ)) (i : ℕ) → walk_from t from names ≡ Some (Dir i) → walk_from t from others ≡ Some (Dir i) → names ≡ others
   pub in_use : (k : ℕ) → k < length t.free → (names : List (List ℕ)) → walk_from t from names ≢ Some (Dir (slice_index t.free k))
   pub unmet : (names others : List (List ℕ)) (i : ℕ) → walk_from t from names ≡ Some (Dir i) → found_at t others ≢ Some (Dir i)
+
+-- The name stands for nothing now, and its directory has a free slot. Each other name stands for what it did.
+pub record ClearsName (old new : DirTable) (dir : ℕ) (name : List ℕ) : Type 0 where
+  pub this : entry_of (slots_at new dir) name ≡ None
+  pub others : (i : ℕ) (other : List ℕ) → (i ≡ dir → other ≢ name) → entry_of (slots_at new i) other ≡ entry_of (slots_at old i) other
+  pub room : HasRoom (dir_in new.dirs dir)
+  pub before : IsDirTable old
+  pub table : IsDirTable new

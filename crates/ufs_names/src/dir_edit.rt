@@ -1,8 +1,6 @@
 // Changes of a tree's directories.
 use crate::dir_entry::{give_room_at, put_at, take_number, take_out_at};
 use crate::dir_tree::{DIRECTORY, DirTree, FILE};
-use crate::found::Found;
-use ufs_dirs::DirBlocks;
 use ufs_layout::Dentry;
 use ufs_model::{Memory, Node};
 use ufs_path::PathText;
@@ -11,17 +9,17 @@ impl DirTree {
     ghost use Rattle.std.specs.Prelude.{◌≡◌, ◌≢◌, ◌<◌, ◌∷◌, ◌++◌, ℕ, List, [], Some, None, IsSome, IfOk, OnOk, OnErr, length};
     ghost use Rattle.std.specs.Option.{option_map};
     ghost use Rattle.ufs_dirs.specs.Directory.{entry_of};
-    ghost use Rattle.ufs_model.specs.declared.data.Node.TheVariants as node;
+    ghost use Rattle.ufs_model.specs.declared.data.Node.TheVariants as nodes;
     ghost use Rattle.ufs_names.specs.DirTable.{DirTable, IsDirTable, dir_at, slots_at, found_of, found_at, node_at};
     ghost use Rattle.ufs_names.specs.DirCalls.{names_above, IsBare, MayGo, SetsNode, MovesNodes, MayMove};
-    ghost use Rattle.ufs_names.specs.DirEdits.{HasRoom, IsMet, IsLoose, SameEntries, SetsEntry};
+    ghost use Rattle.ufs_names.specs.DirEdits.{HasRoom, IsMet, IsLoose, SameEntries, SetsEntry, ClearsName};
     ghost use Rattle.ufs_names.specs.declared.found.Found.TheVariants as found;
     ghost use Rattle.ufs_path.specs.Names.{IsName};
 
     /// Puts what stands at a path at which nothing stands.
     pub fn add(&mut self, path: &PathText, node: Node) -> Result<(), Memory>
         requires below { path.now ≢ [] }
-        requires parent { node_at self.old (names_above path.now) ≡ Some node.Dir }
+        requires parent { node_at self.old (names_above path.now) ≡ Some nodes.Dir }
         requires absent { found_at self.old path.now ≡ None }
         ensures ok { OnOk result (SetsNode (node_at self.old) (node_at self.new) path.now (Some node)) }
         ensures err { OnErr result (self.new ≡ self.old) }
@@ -61,14 +59,26 @@ impl DirTree {
     {
         let old = self.parent(from);
         let new = self.parent(to);
-        if self.entry(new, to.last()).is_some() {
-            self.drop_entry(new, to.last());
-        } else {
-            self.make_room(new)?;
-        }
+        let name = to.last();
+        self.clear_name(new, name)?;
         let entry = self.detach(old, from.last());
-        self.attach(new, to.last(), entry.inode, entry.kind);
+        self.attach(new, name, entry.inode, entry.kind);
         Ok(())
+    }
+
+    /// Drops the name, where it stands for something. Where it doesn't, sees to a free slot.
+    fn clear_name(&mut self, dir: u32, name: &[u8]) -> Result<(), Memory>
+        requires met { IsMet self.old dir }
+        requires may_go { (i : ℕ) → option_map found_of (entry_of (slots_at self.old dir) name.now) ≡ Some (found.Dir i) → IsBare (slots_at self.old i) }
+        ensures ok { OnOk result (ClearsName self.old self.new dir name.now) }
+        ensures err { OnErr result (self.new ≡ self.old) }
+    {
+        if self.entry(dir, name).is_some() {
+            self.drop_entry(dir, name);
+            Ok(())
+        } else {
+            self.make_room(dir)
+        }
     }
 
     /// Sees to a free slot in the directory.
@@ -77,6 +87,7 @@ impl DirTree {
         ensures room { OnOk result (HasRoom (dir_at self.new dir)) }
         ensures same { SameEntries self.old.dirs self.new.dirs }
         ensures err { OnErr result (self.new ≡ self.old) }
+        ensures before { IsDirTable self.old }
         ensures table { IsDirTable self.new }
     {
         give_room_at(&mut self.dirs, dir as usize)
@@ -112,7 +123,6 @@ impl DirTree {
         requires loose { IsLoose self.old (Some (found_of (record { inode = inode; kind = kind; name = name.now }))) }
         ensures entries { SetsEntry self.old.dirs self.new.dirs dir name.now (Some (record { inode = inode; kind = kind; name = name.now })) }
         ensures free { self.new.free ≡ self.old.free }
-        ensures before { IsDirTable self.old }
     {
         put_at(
             &mut self.dirs,

@@ -1,7 +1,5 @@
-use Rattle.std.proofs.Common.{◌≡◌, Some, None, ap, sym, ◌∙◌, subst, arith}
-use Rattle.ufs_layout.specs.DentryForm.{DentryForm}
-use Rattle.ufs_dirs.specs.Directory.{entry_of}
-use Rattle.ufs_names.specs.DirTable.{DirTable, IsDirTable, slots_at}
+use Rattle.std.proofs.Common.{sym, subst, arith}
+use Rattle.ufs_names.specs.DirTable.{DirTable}
 use Rattle.ufs_names.specs.DirEdits.{IsMet}
 use Rattle.ufs_names.proofs.DetachLemmas.{detached_table, detached_loose}
 use Rattle.ufs_names.proofs.dir_tree.DirTree.detach.Goals as goal

@@ -1,4 +1,4 @@
-use Rattle.std.proofs.Common.{◌≡◌, List, ℕ, sym, ap, ◌∙◌, subst, arith}
+use Rattle.std.proofs.Common.{subst}
 use Rattle.ufs_names.specs.DirTable.{DirTable}
 use Rattle.ufs_names.specs.DirEdits.{SameEntries}
 use Rattle.ufs_names.proofs.TakenNumbers.{IsTaken, room_and_number}
