@@ -120,15 +120,3 @@ served_others t client request None c n apart = change_others t client request c
 pub desc_after_posix : (t : PosixTree) (client : ℕ) (request : Op)
     → IsDescAfter t.fds (posix t client request).0.fds client (fd_told request (posix t client request).1) (desc_of_fd (posix t client request).0.fds client (fd_told request (posix t client request).1))
 desc_after_posix t client request = record { this = refl; others = served_others t client request (refusal t client request) }
-
--- of a request that was served
-pub desc_after_served : (t : PosixTree) (ask : Ask) (new : NamesPart) (reply : Reply) (desc : Option Desc) → IsServed t ask new reply desc
-    → IsDescAfter t.fds (posix t ask.client ask.op).0.fds ask.client (fd_told ask.op reply) desc
-desc_after_served t ask new reply desc is = record {
-  this = is.told;
-  others = λ c n apart. served_others t ask.client ask.op (refusal t ask.client ask.op) c n (by c n apart);
-}
-  where
-    by : (c n : ℕ) → (c ≢ ask.client) ⊎ (fd_told ask.op reply ≢ Some n) → (c ≢ ask.client) ⊎ (fd_told ask.op (posix t ask.client ask.op).1 ≢ Some n)
-    by c n (inl not) = inl not
-    by c n (inr not) = inr (λ e. not (ap (fd_told ask.op) is.replied ∙ e))
