@@ -30,3 +30,6 @@ pub mod ConditionLemmas
 pub mod ListedLemmas
 pub mod PathLemmas
 pub mod EntryLemmas
+pub mod ServedLemmas
+pub mod PathRefusals
+pub mod UndoneLemmas

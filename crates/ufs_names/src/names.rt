@@ -14,7 +14,7 @@ use ufs_model::{
     Actor, Ask, Bytes, Desc, Entry, Errno, Excuse, Memory, Node, Op, Reply,
     a_request_keeps_the_tree,
 };
-use ufs_path::PathText;
+use ufs_path::{PathText, names_stay_in_whole_paths, whole_paths_may_stand};
 
 /// The namespace, with the bytes of the files. Its directories stand in blocks, and a file that no path names stays
 /// until its last client closes it.
@@ -94,9 +94,11 @@ impl Names {
         ensures refused { IfErr result (λ e. (t : PosixTree) → IsPartOf self.now t
             → first_of (walk_refusal_from t.paths [] path.now) (refused_if (is_none (map.get t.paths (whole_path path.now))) Enoent) ≡ Some e) }
     {
+        names_stay_in_whole_paths();
+        whole_paths_may_stand();
+        let _count = path.len();
         match self.dirs.look(path) {
-            Ok(Some(found)) => Ok(found),
-            Ok(None) => Err(Errno::Enoent),
+            Ok(found) => found.ok_or(Errno::Enoent),
             Err(e) => Err(e),
         }
     }

@@ -1,0 +1,1 @@
+use Rattle.ufs_names.proofs.names.Names.resolve.Goals as goal
