@@ -33,3 +33,4 @@ pub mod EntryLemmas
 pub mod ServedLemmas
 pub mod PathRefusals
 pub mod UndoneLemmas
+pub mod PathConditions

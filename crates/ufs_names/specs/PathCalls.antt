@@ -77,6 +77,11 @@ IsStat n None r = r ≡ reply.Done
 IsStat n (Some (Dir i)) r = (names : List (List ℕ)) → AreNamesOf (slots_at n.dirs i) names → r ≡ reply.IsDir (length names)
 IsStat n (Some (File f)) r = r ≡ reply.IsFile (length (bytes_of n.bytes f))
 
+-- What a `list` is answered: a directory's names.
+abbrev pub IsList : NamesPart → Option Found → Reply → Type 0
+IsList n (Some (Dir i)) r = (names : List (List ℕ)) × (AreNamesOf (slots_at n.dirs i) names × (r ≡ reply.Names names))
+IsList n _ r = Unit {0}
+
 -- The request is on the path of these names, at which this was found, and isn't refused.
 pub record IsAllowed (t : PosixTree) (ask : Ask) (n : NamesPart) (names : List (List ℕ)) (found : Option Found) : Type 0 where
   pub part : IsPartOf n t

@@ -27,8 +27,8 @@ impl Names {
         requires client { client < 16 }
         requires numbers { self.old.next < 2 ^ 31 }
         requires found { found ≡ found_at self.old.dirs path.now }
-        requires below { path.now ≢ [] }
-        requires parent { node_at self.old.dirs (names_above path.now) ≡ Some node.Dir }
+        requires below { found ≡ None → path.now ≢ [] }
+        requires parent { found ≡ None → node_at self.old.dirs (names_above path.now) ≡ Some node.Dir }
         requires unheld { map.get self.old.held self.old.next ≡ None }
         requires no_bytes { map.get self.old.bytes self.old.next ≡ None }
         requires held { (file : ℕ) → found ≡ Some (met.File file) → IsSome (map.get self.old.held file) }

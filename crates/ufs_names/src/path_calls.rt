@@ -15,17 +15,19 @@ impl Names {
     ghost use Rattle.std.specs.Prelude.{◌≡◌, ◌≢◌, ◌<◌, ◌^◌, ℕ, List, [], Some, None, IsSome, IfOk, OnOk, OnErr};
     ghost use Rattle.std.specs.Option.{option_map};
     ghost use Rattle.std.specs.FinMap as map;
-    ghost use Rattle.ufs_calls.specs.Modes.{mode_of, file_named};
     ghost use Rattle.ufs_model.specs.Asks.{IsAsk};
-    ghost use Rattle.ufs_model.specs.Descriptors as descriptors;
     ghost use Rattle.ufs_model.specs.Paths.{components};
     ghost use Rattle.ufs_model.specs.PosixTree.{PosixTree};
     ghost use Rattle.ufs_model.specs.Posix.{answer};
     ghost use Rattle.ufs_model.specs.Refusals.{own_refusal};
+    ghost use Rattle.ufs_model.specs.Walk.{file_of};
+    ghost use Rattle.ufs_model.specs.declared.data.Node.TheVariants as node;
     ghost use Rattle.ufs_names.specs.Calls.{IsServed};
-    ghost use Rattle.ufs_names.specs.DirTable.{found_at};
-    ghost use Rattle.ufs_names.specs.NamesPart.{IsPartOf};
-    ghost use Rattle.ufs_names.specs.PathCalls.{path_asked, IsAllowed, IsStat};
+    ghost use Rattle.ufs_names.specs.DirTable.{found_at, node_at};
+    ghost use Rattle.ufs_names.specs.DirCalls.{names_above, MayGo, SetsNode};
+    ghost use Rattle.ufs_names.specs.NamesPart.{IsPartOf, settled_node};
+    ghost use Rattle.ufs_names.specs.PathCalls.{path_asked, IsAllowed, IsStat, IsList};
+    ghost use Rattle.ufs_names.specs.declared.found.Found.TheVariants as met;
 
     /// A request on one path, whose text isn't refused.
     pub(crate) fn serve_path(&mut self, ask: &Ask, path: &PathText) -> Result<Served, Memory>
@@ -57,10 +59,7 @@ impl Names {
         match &ask.op {
             Op::OpenFile { .. } => Ok(Reply::Fd(ask.fd)),
             Op::Stat { .. } => Ok(self.stat(found)),
-            Op::List { .. } => match found {
-                Some(Found::Dir { inode }) => Ok(Reply::Names(self.dirs.names(inode)?)),
-                _ => unreachable!(),
-            },
+            Op::List { .. } => self.list(found),
             _ => Ok(Reply::Done),
         }
     }
@@ -77,6 +76,17 @@ impl Names {
                 size: self.bytes.bytes(file).len() as u64,
             },
             None => Reply::Done,
+        }
+    }
+
+    /// A directory's names.
+    fn list(&self, found: Option<Found>) -> Result<Reply, Memory>
+        requires { (i : ℕ) × (found ≡ Some (met.Dir i)) }
+        ensures { IfOk result (λ reply. IsList self.now found reply) }
+    {
+        match found {
+            Some(Found::Dir { inode }) => Ok(Reply::Names(self.dirs.names(inode)?)),
+            _ => unreachable!(),
         }
     }
 
@@ -103,20 +113,41 @@ impl Names {
                 None => unreachable!(),
             },
             Op::Mkdir { .. } => {
-                self.dirs.add(path, Node::Dir)?;
+                self.add_dir(path)?;
                 Ok(None)
             }
-            Op::Rmdir { .. } => {
-                self.dirs.remove(path);
-                Ok(None)
-            }
-            Op::Unlink { .. } => {
-                self.dirs.remove(path);
-                self.forget_name(found);
+            Op::Rmdir { .. } | Op::Unlink { .. } => {
+                self.remove_name(path, found);
                 Ok(None)
             }
             _ => Ok(None),
         }
+    }
+
+    fn add_dir(&mut self, path: &PathText) -> Result<(), Memory>
+        requires below { path.now ≢ [] }
+        requires parent { node_at self.old.dirs (names_above path.now) ≡ Some node.Dir }
+        requires absent { found_at self.old.dirs path.now ≡ None }
+        ensures dirs { OnOk result (SetsNode (node_at self.old.dirs) (node_at self.new.dirs) path.now (Some node.Dir)) }
+        ensures ok { OnOk result (self.new ≡ record self.old { dirs = self.new.dirs }) }
+        ensures err { OnErr result (self.new ≡ self.old) }
+    {
+        self.dirs.add(path, Node::Dir)?;
+        Ok(())
+    }
+
+    /// A name goes, and with it the file that nothing keeps any more.
+    fn remove_name(&mut self, path: &PathText, found: Option<Found>)
+        requires below { path.now ≢ [] }
+        requires stands { IsSome (found_at self.old.dirs path.now) }
+        requires may_go { MayGo self.old.dirs path.now }
+        requires found { found ≡ found_at self.old.dirs path.now }
+        requires held { (file : ℕ) → found ≡ Some (met.File file) → IsSome (map.get self.old.held file) }
+        ensures dirs { SetsNode (node_at self.old.dirs) (node_at self.new.dirs) path.now None }
+        ensures settled { self.new ≡ settled_node (record self.old { dirs = self.new.dirs }) (file_of (node_at self.old.dirs path.now)) }
+    {
+        self.dirs.remove(path);
+        self.forget_name(found);
     }
 }
 
