@@ -34,3 +34,5 @@ pub mod ServedLemmas
 pub mod PathRefusals
 pub mod UndoneLemmas
 pub mod PathConditions
+pub mod PathAnswers
+pub mod PathChanges

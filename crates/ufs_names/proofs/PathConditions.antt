@@ -35,8 +35,8 @@ use Rattle.ufs_names.proofs.PathRefusals.{path_of, text_passed}
 rmdir_empty : (t : PosixTree) (client : ℕ) (path : List ℕ) → refusal t client (op.Rmdir path) ≡ None → has_entries t.paths (whole_of path) ≡ false
 rmdir_empty t client path e =
     let own = first_none (text_refusal path) _ e in
-    let walk = first_none (walk_refusal t.paths path) _ own.1 in
-    let at_root = first_none (refused_if (is_root path) Ebusy) _ walk.1 in
+    let way = first_none (walk_refusal t.paths path) _ own.1 in
+    let at_root = first_none (refused_if (is_root path) Ebusy) _ way.1 in
     let there = first_none (refused_if (is_none (walk.node_at t.paths path)) Enoent) _ at_root.1 in
     let file = first_none (refused_if (is_file (walk.node_at t.paths path)) Enotdir) _ there.1 in
     passed (has_entries t.paths (whole_of path)) Enotempty file.1

@@ -111,7 +111,7 @@ module _ (n : NamesPart) (t : PosixTree) (part : IsPartOf n t) (client : ℕ) (r
 
   -- by the walk
   pub refused_by_walk : (e : Errno) → refusal_by (node_at n.dirs) [] names ≡ Some e → refusal t client request ≡ Some e
-  refused_by_walk e is = by_tree ∙ ap (λ (o : Option Errno). first_of o _) (walked (Some e) is)
+  refused_by_walk e is = by_tree ∙ ap (λ (o : Option Errno). first_of o (end_refusal (is_root path) (walk.node_at t.paths path) (has_entries t.paths (whole_of path)) request)) (walked (Some e) is)
 
   -- by what stands at its end
   pub refused_by_end : IsDirTable n.dirs → refusal_by (node_at n.dirs) [] names ≡ None → (found : Option Found) → found ≡ found_at n.dirs names → (root entries : Bool) → IsTrue root ↔ (names ≡ [])

@@ -42,3 +42,10 @@ module _ (t : PosixTree) (ask : Ask) (n : NamesPart) where
           others = (desc_after_posix t ask.client ask.op).others;
         };
       })
+
+  -- of a request of this form
+  pub served_as : (request : Op) (desc : Option Desc) → ask.op ≡ request → refusal t ask.client request ≡ None → IsPartOf n (change t ask.client request)
+      → desc ≡ desc_of_fd (change t ask.client request).fds ask.client (fd_told request (answer t ask.client request)) → IsServed t ask n (answer t ask.client ask.op) desc
+  served_as request desc of allowed part told =
+      served_answer desc (ap (refusal t ask.client) of ∙ allowed) (subst (λ (r : Op). IsPartOf n (change t ask.client r)) (sym of) part)
+      (subst (λ (r : Op). desc ≡ desc_of_fd (change t ask.client r).fds ask.client (fd_told r (answer t ask.client r))) (sym of) told)

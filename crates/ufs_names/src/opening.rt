@@ -6,12 +6,13 @@ use ufs_model::{Bytes, Memory, Node};
 use ufs_path::PathText;
 
 impl Names {
-    ghost use Rattle.std.specs.Prelude.{◌≡◌, ◌≢◌, ◌<◌, ◌^◌, ℕ, [], Some, None, IsSome, IfOk, OnOk, OnErr};
+    ghost use Rattle.std.specs.Prelude.{◌≡◌, ◌≢◌, ◌<◌, ◌^◌, ℕ, [], Some, None, IsSome, IfOk, OnOk, OnErr, length};
     ghost use Rattle.std.specs.Option.{option_map};
     ghost use Rattle.std.specs.FinMap as map;
     ghost use Rattle.ufs_model.specs.declared.data.Node.TheVariants as node;
     ghost use Rattle.ufs_names.specs.DirTable.{found_at, node_at, node_of};
     ghost use Rattle.ufs_names.specs.DirCalls.{names_above, SetsNode};
+    ghost use Rattle.ufs_names.specs.NamesPart.{holding_of};
     ghost use Rattle.ufs_names.specs.PathCalls.{with_new_file, with_open_file, opened_part};
     ghost use Rattle.ufs_names.specs.declared.found.Found.TheVariants as met;
     ghost use Rattle.ufs_calls.specs.Modes.{file_named};
@@ -36,6 +37,7 @@ impl Names {
         ensures file { IfOk result (λ file. file ≡ file_named (option_map node_of found) self.old.next) }
         ensures ok { OnOk result (self.new ≡ opened_part self.old self.new.dirs client trunc found) }
         ensures dirs { OnOk result (found ≡ None → SetsNode (node_at self.old.dirs) (node_at self.new.dirs) path.now (Some (node.File self.old.next))) }
+        ensures clients { OnOk result ((file : ℕ) → found ≡ Some (met.File file) → length (holding_of self.old.held file).clients ≡ 16) }
         ensures err { OnErr result (self.new ≡ self.old) }
     {
         match found {
@@ -92,6 +94,7 @@ impl Names {
         requires held { IsSome (map.get self.old.held file) }
         requires bytes { IsSome (map.get self.old.bytes file) }
         ensures ok { OnOk result (self.new ≡ with_open_file self.old client trunc file) }
+        ensures clients { length (holding_of self.old.held file).clients ≡ 16 }
         ensures err { OnErr result (self.new ≡ self.old) }
     {
         let Some(holding) = self.held.get(file) else {

@@ -116,7 +116,11 @@ impl Names {
                 self.add_dir(path)?;
                 Ok(None)
             }
-            Op::Rmdir { .. } | Op::Unlink { .. } => {
+            Op::Rmdir { .. } => {
+                self.remove_name(path, found);
+                Ok(None)
+            }
+            Op::Unlink { .. } => {
                 self.remove_name(path, found);
                 Ok(None)
             }
