@@ -36,3 +36,4 @@ pub mod UndoneLemmas
 pub mod PathConditions
 pub mod PathAnswers
 pub mod PathChanges
+pub mod ResolveLemmas

@@ -98,7 +98,8 @@ impl Names {
         whole_paths_may_stand();
         let _count = path.len();
         match self.dirs.look(path) {
-            Ok(found) => found.ok_or(Errno::Enoent),
+            Ok(Some(found)) => Ok(found),
+            Ok(None) => Err(Errno::Enoent),
             Err(e) => Err(e),
         }
     }

@@ -34,3 +34,31 @@ pub returns-in_ok-add_dir-in-Mkdir-clause-ok : goal.returns-in_ok-add_dir-in-Mkd
 returns-in_ok-add_dir-in-Mkdir-clause-ok c t is =
     let done = c.in_ok-add_dir-in-Mkdir.ensures in
     served_mkdir c.a_request_keeps_the_tree.ensures c.args.self.now t c.args.ask.now c.args.path.now c.args.found is c.add_dir.new.self c.in-Mkdir.path c.in-Mkdir.is done.dirs done.ok
+
+pub remove_name-requires-clause-stands : goal.remove_name-requires-clause-stands
+remove_name-requires-clause-stands c = let a = c.requires.allowed in (rmdir_may c.args.self.now a.0 c.args.ask.now c.args.path.now c.args.found a.1 c.in-Rmdir.path c.in-Rmdir.is).0.there
+
+pub remove_name-requires-clause-may_go : goal.remove_name-requires-clause-may_go
+remove_name-requires-clause-may_go c = let a = c.requires.allowed in (rmdir_may c.args.self.now a.0 c.args.ask.now c.args.path.now c.args.found a.1 c.in-Rmdir.path c.in-Rmdir.is).1
+
+pub remove_name-requires-clause-held : goal.remove_name-requires-clause-held
+remove_name-requires-clause-held c f at = let a = c.requires.allowed in (file_found c.args.self.now a.0 c.args.ask.now c.args.path.now c.args.found a.1 f at).1
+
+pub returns-in-Rmdir-clause-ok : goal.returns-in-Rmdir-clause-ok
+returns-in-Rmdir-clause-ok c t is =
+    let done = c.remove_name.ensures in
+    served_rmdir c.a_request_keeps_the_tree.ensures c.args.self.now t c.args.ask.now c.args.path.now c.args.found is c.remove_name.new.self done.dirs done.settled c.in-Rmdir.path c.in-Rmdir.is
+
+pub remove_name-requires-in-Unlink-clause-stands : goal.remove_name-requires-in-Unlink-clause-stands
+remove_name-requires-in-Unlink-clause-stands c = let a = c.requires.allowed in (unlink_may c.args.self.now a.0 c.args.ask.now c.args.path.now c.args.found a.1 c.in-Unlink.path c.in-Unlink.is).0.there
+
+pub remove_name-requires-in-Unlink-clause-may_go : goal.remove_name-requires-in-Unlink-clause-may_go
+remove_name-requires-in-Unlink-clause-may_go c = let a = c.requires.allowed in (unlink_may c.args.self.now a.0 c.args.ask.now c.args.path.now c.args.found a.1 c.in-Unlink.path c.in-Unlink.is).1
+
+pub remove_name-requires-in-Unlink-clause-held : goal.remove_name-requires-in-Unlink-clause-held
+remove_name-requires-in-Unlink-clause-held c f at = let a = c.requires.allowed in (file_found c.args.self.now a.0 c.args.ask.now c.args.path.now c.args.found a.1 f at).1
+
+pub returns-in-Unlink-clause-ok : goal.returns-in-Unlink-clause-ok
+returns-in-Unlink-clause-ok c t is =
+    let done = c.remove_name-in-Unlink.ensures in
+    served_unlink c.a_request_keeps_the_tree.ensures c.args.self.now t c.args.ask.now c.args.path.now c.args.found is c.remove_name-in-Unlink.new.self done.dirs done.settled c.in-Unlink.path c.in-Unlink.is
