@@ -37,3 +37,4 @@ pub mod PathConditions
 pub mod PathAnswers
 pub mod PathChanges
 pub mod ResolveLemmas
+pub mod RenameRefusals

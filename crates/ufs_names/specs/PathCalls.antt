@@ -5,9 +5,9 @@ use Rattle.std.specs.Option.{option_map}
 use Rattle.ufs_model.specs.Asks.{IsAsk}
 use Rattle.ufs_model.specs.FileBytes.{bytes_of}
 use Rattle.ufs_model.specs.PosixTree.{PosixTree}
-use Rattle.ufs_model.specs.Paths.{components, first_of, refused_if}
+use Rattle.ufs_model.specs.Paths.{components, text_refusal, first_of, refused_if}
 use Rattle.ufs_model.specs.Walk.{is_file}
-use Rattle.ufs_model.specs.Refusals.{open_refusal, unlink_refusal, list_refusal, refusal}
+use Rattle.ufs_model.specs.Refusals.{open_refusal, unlink_refusal, list_refusal, rename_refusal, refusal}
 use Rattle.ufs_model.specs.declared.data.Errno.{Errno}
 use Rattle.ufs_model.specs.declared.data.Errno.TheVariants.{Eexist, Enoent, Ebusy, Enotdir, Enotempty}
 use Rattle.ufs_model.specs.declared.data.Node.{Node}
@@ -90,3 +90,7 @@ pub record IsAllowed (t : PosixTree) (ask : Ask) (n : NamesPart) (names : List (
   pub path : option_map components (path_asked ask.op) ≡ Some names
   pub met : found ≡ found_at n.dirs names
   pub table : IsDirTable n.dirs
+
+-- In each tree of the part a `rename` between paths of these names, whose texts aren't refused, is refused so.
+abbrev pub RefusesRename : NamesPart → List (List ℕ) → List (List ℕ) → Option Errno → Type 0
+RefusesRename n from to r = (t : PosixTree) (old new : List ℕ) → IsPartOf n t → text_refusal old ≡ None → text_refusal new ≡ None → from ≡ components old → to ≡ components new → rename_refusal t.paths old new ≡ r

@@ -21,9 +21,10 @@ impl Names {
     ghost use Rattle.ufs_model.specs.Walk.{file_of};
     ghost use Rattle.ufs_model.specs.declared.data.Op.TheVariants as op;
     ghost use Rattle.ufs_names.specs.Calls.{IsServed};
-    ghost use Rattle.ufs_names.specs.DirTable.{found_at, node_at, node_of, slots_at};
+    ghost use Rattle.ufs_names.specs.DirTable.{IsDirTable, found_at, node_at, node_of, slots_at};
     ghost use Rattle.ufs_names.specs.DirCalls.{IsBare, MayMove, MovesNodes};
     ghost use Rattle.ufs_names.specs.NamesPart.{IsPartOf, settled_node};
+    ghost use Rattle.ufs_names.specs.PathCalls.{RefusesRename};
     ghost use Rattle.ufs_names.specs.declared.found.Found.TheVariants as met;
 
     /// A `rename`, of which no text is refused.
@@ -53,9 +54,10 @@ impl Names {
 
     /// What stands at the new name, or why it may not be given.
     fn rename_refusal(&self, from: &PathText, to: &PathText) -> Result<Option<Found>, Errno>
-        ensures refused { IfErr result (λ e. (t : PosixTree) (old new : List ℕ) → IsPartOf self.now t → text_refusal old ≡ None → text_refusal new ≡ None → from.now ≡ components old → to.now ≡ components new → refusals.rename_refusal t.paths old new ≡ Some e) }
-        ensures passed { IfOk result (λ o. (t : PosixTree) (old new : List ℕ) → IsPartOf self.now t → text_refusal old ≡ None → text_refusal new ≡ None → from.now ≡ components old → to.now ≡ components new → refusals.rename_refusal t.paths old new ≡ None) }
+        ensures refused { IfErr result (λ e. RefusesRename self.now from.now to.now (Some e)) }
+        ensures passed { IfOk result (λ o. RefusesRename self.now from.now to.now None) }
         ensures found { IfOk result (λ o. o ≡ found_at self.now.dirs to.now) }
+        ensures table { IfOk result (λ o. IsDirTable self.now.dirs) }
     {
         if from.is_root() || to.is_root() {
             return Err(Errno::Ebusy);
@@ -83,6 +85,7 @@ impl Names {
         old: Found,
         new: Option<Found>,
     ) -> Option<Errno>
+        requires table { IsDirTable self.now.dirs }
         requires old { Some old ≡ found_at self.now.dirs from.now }
         requires new { new ≡ found_at self.now.dirs to.now }
         ensures { (t : PosixTree) (a b : List ℕ) → IsPartOf self.now t → text_refusal a ≡ None → text_refusal b ≡ None → from.now ≡ components a → to.now ≡ components b → result ≡ refusals.replace_refusal t.paths (whole_path from.now) (whole_path to.now) }
