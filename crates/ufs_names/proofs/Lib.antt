@@ -38,3 +38,4 @@ pub mod PathAnswers
 pub mod PathChanges
 pub mod ResolveLemmas
 pub mod RenameRefusals
+pub mod RenameServed

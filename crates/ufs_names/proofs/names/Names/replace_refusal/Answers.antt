@@ -1,4 +1,5 @@
 use Rattle.std.proofs.Common.{◌≡◌, List, ℕ, Bool, Option, Some, ap, sym, subst, ◌∙◌, bytes_eq}
+use Rattle.std.specs.Option.{option_map}
 use Rattle.ufs_model.specs.Directories.{is_below}
 use Rattle.ufs_model.specs.Paths.{whole_path}
 use Rattle.ufs_model.specs.declared.data.Node.{Node}
@@ -14,6 +15,6 @@ returns c t a b part text text' e e' =
     c.replace_refusal.ensures
     ∙ ap (λ (o : Node). replaced (Some o) c.node_of.result c.is_below.result c.eq.result c.has_entries.result) c.node.ensures
     ∙ ap (λ (o : Option Node). replaced (Some (node_of c.args.old)) o c.is_below.result c.eq.result c.has_entries.result) c.node_of.ensures
-    ∙ ap (λ (x : Bool). replaced (Some (node_of c.args.old)) _ x c.eq.result c.has_entries.result) below
-    ∙ ap (λ (x : Bool). replaced (Some (node_of c.args.old)) _ _ x c.has_entries.result) same
+    ∙ ap (λ (x : Bool). replaced (Some (node_of c.args.old)) (option_map node_of c.args.new) x c.eq.result c.has_entries.result) below
+    ∙ ap (λ (x : Bool). replaced (Some (node_of c.args.old)) (option_map node_of c.args.new) (is_below (whole_path c.args.from.now) (whole_path c.args.to.now)) x c.has_entries.result) same
     ∙ replaced_is c.args.self.now t part c.args.from.now c.args.to.now (subst AreNames (sym e) (names_of a text)) (subst AreNames (sym e') (names_of b text')) c.requires.table (Some c.args.old) c.args.new c.requires.old c.requires.new c.has_entries.result c.has_entries.ensures

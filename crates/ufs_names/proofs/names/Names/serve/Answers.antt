@@ -1,0 +1,1 @@
+use Rattle.ufs_names.proofs.names.Names.serve.Goals as goal
