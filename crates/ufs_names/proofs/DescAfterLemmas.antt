@@ -10,18 +10,14 @@ use Rattle.ufs_model.specs.Descriptors.{Mode, opened, moved, desc_of}
 use Rattle.ufs_model.specs.Posix.{posix, served, change, answer, forget, with_fd, with_bytes, written, open_node, write_fd, new_fd, rename_path}
 use Rattle.ufs_model.specs.Refusals.{refusal}
 use Rattle.ufs_model.specs.Asks.{IsDescAfter, desc_of_fd, fd_told}
-use Rattle.ufs_model.specs.declared.data.Ask.{Ask}
 use Rattle.ufs_model.specs.declared.data.Desc.{Desc}
 use Rattle.ufs_model.specs.declared.data.Errno.{Errno}
 use Rattle.ufs_model.specs.declared.data.Node.{Node}
 use Rattle.ufs_model.specs.declared.data.Node.TheVariants.{Dir, File}
 use Rattle.ufs_model.specs.declared.data.Op.{Op}
 use Rattle.ufs_model.specs.declared.data.Op.TheVariants as op
-use Rattle.ufs_model.specs.declared.data.Reply.{Reply}
 use Rattle.ufs_model.specs.Facts.Orders.{fd_total, fd_same}
 use Rattle.ufs_model.specs.Facts.Lookups.{inserted_else, removed_else}
-use Rattle.ufs_names.specs.NamesPart.{NamesPart}
-use Rattle.ufs_names.specs.Calls.{IsServed}
 
 module _ (client : ℕ) (fd : ℕ) (c n : ℕ) (apart : (c ≢ client) ⊎ (Some fd ≢ Some n)) where
   key_apart : ◌≡◌ {A = ℕ × ℕ} (c, n) (client, fd) → ⊥

@@ -39,3 +39,9 @@ pub mod PathChanges
 pub mod ResolveLemmas
 pub mod RenameRefusals
 pub mod RenameServed
+pub mod DescLemmas
+pub mod OpenLemmas
+pub mod RefusedLemmas
+pub mod ReplyLemmas
+pub mod StartLemmas
+pub mod KindLemmas

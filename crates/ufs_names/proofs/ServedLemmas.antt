@@ -1,4 +1,4 @@
--- A request is served: it is refused, or it has its answer.
+-- A request that isn't refused is served.
 use Rattle.std.proofs.Common.{◌≡◌, ℕ, Option, Some, None, ap, refl, sym, subst, ◌∙◌}
 use Rattle.ufs_model.specs.Asks.{IsAsk, IsDescAfter, desc_of_fd, fd_named, fd_told}
 use Rattle.ufs_model.specs.PosixTree.{PosixTree, Fds}
@@ -15,22 +15,7 @@ use Rattle.ufs_names.specs.NamesPart.{NamesPart, IsPartOf}
 use Rattle.ufs_names.specs.Calls.{IsServed}
 use Rattle.ufs_names.proofs.DescAfterLemmas.{desc_after_posix}
 
--- a refusal tells of the descriptor that the request names
-told_named : (fds : Fds) (client : ℕ) (request : Op) (e : Errno) → desc_of_fd fds client (fd_named request) ≡ desc_of_fd fds client (fd_told request (Refused e))
-told_named fds client (op.OpenFile path read write creat excl trunc append) e = refl
-told_named fds client _ e = refl
-
 module _ (t : PosixTree) (ask : Ask) (n : NamesPart) where
-  pub served_refused : (e : Errno) (reply : Reply) (desc : Option Desc) → IsPartOf n t → IsAsk t ask → refusal t ask.client ask.op ≡ Some e → reply ≡ Refused e → desc ≡ ask.desc → IsServed t ask n reply desc
-  served_refused e reply desc part is refused r d = subst (λ (x : Reply). IsServed t ask n x desc) (sym r) (record {
-    replied = sym (ap (λ (o : Option Errno). (served t ask.client ask.op o).1) refused);
-    goes_on = subst (λ (o : Option Errno). IsPartOf n (served t ask.client ask.op o).0) (sym refused) part;
-    told = subst (λ (o : Option Errno). IsDescAfter t.fds (served t ask.client ask.op o).0.fds ask.client (fd_told ask.op (Refused e)) desc) (sym refused) (record {
-      this = d ∙ is.desc ∙ told_named t.fds ask.client ask.op e;
-      others = λ c k apart. refl;
-    });
-  })
-
   pub served_answer : (desc : Option Desc) → refusal t ask.client ask.op ≡ None → IsPartOf n (change t ask.client ask.op)
       → desc ≡ desc_of_fd (change t ask.client ask.op).fds ask.client (fd_told ask.op (answer t ask.client ask.op)) → IsServed t ask n (answer t ask.client ask.op) desc
   served_answer desc allowed part told =

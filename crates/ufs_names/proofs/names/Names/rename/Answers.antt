@@ -1,5 +1,5 @@
 use Rattle.std.proofs.Common.{◌≡◌, Some, None, sym, ◌∙◌}
-use Rattle.ufs_names.proofs.ServedLemmas.{served_refused}
+use Rattle.ufs_names.proofs.RefusedLemmas.{served_refused}
 use Rattle.ufs_names.proofs.RenameServed.{texts, rename_refused, replaced_held, rename_may, served_rename}
 use Rattle.ufs_names.proofs.names.Names.rename.Goals as goal
 
@@ -7,7 +7,7 @@ pub returns-in-Err-clause-ok : goal.returns-in-Err-clause-ok
 returns-in-Err-clause-ok c t part asked own =
     let p = c.requires.paths in
     let text = texts c.args.self.now t c.args.ask.now part p.0 p.1.0 p.1.1 own in
-    served_refused t c.args.ask.now c.args.self.now c.in-Err.e c.refused.result.reply c.refused.result.desc part asked
+    served_refused c.args.self.now t c.args.ask.now c.in-Err.e c.refused.result.reply c.refused.result.desc part asked
     (rename_refused c.args.self.now t c.args.ask.now part p.0 p.1.0 p.1.1 own (Some c.in-Err.e) (c.in-Err.ensures.refused t p.0 p.1.0 part text.0 text.1 p.1.2 p.1.3))
     c.refused.ensures.reply c.refused.ensures.desc
 

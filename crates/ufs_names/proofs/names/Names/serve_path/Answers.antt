@@ -11,7 +11,7 @@ use Rattle.ufs_names.specs.DirTable.{DirTable, IsDirTable, found_at, node_at}
 use Rattle.ufs_names.specs.DirCalls.{refusal_by}
 use Rattle.ufs_names.specs.NamesPart.{NamesPart, IsPartOf}
 use Rattle.ufs_names.specs.PathCalls.{IsAllowed, end_refusal}
-use Rattle.ufs_names.proofs.ServedLemmas.{served_refused}
+use Rattle.ufs_names.proofs.RefusedLemmas.{served_refused}
 use Rattle.ufs_names.proofs.PathRefusals.{refused_by_walk, refused_by_end}
 use Rattle.ufs_names.proofs.names.Names.serve_path.Goals as goal
 use Rattle.ufs_names.proofs.names.Names.serve_path.Goals.{After-end_refusal, In_default}
@@ -42,14 +42,14 @@ allowed c t part asked own = record {
 pub returns-in-Err-clause-ok : goal.returns-in-Err-clause-ok
 returns-in-Err-clause-ok c t part asked own =
     let dirs = ap (λ (n : NamesPart). n.dirs) c.self.view_is in
-    served_refused t c.args.ask.now c.args.self.now c.in-Err.e c.refused.result.reply c.refused.result.desc part asked
+    served_refused c.args.self.now t c.args.ask.now c.in-Err.e c.refused.result.reply c.refused.result.desc part asked
     (refused_by_walk c.args.self.now t part c.args.ask.now.client c.args.ask.now.op c.args.path.now own c.requires.path c.in-Err.e
     (subst (λ (d : DirTable). refusal_by (node_at d) [] c.args.path.now ≡ Some c.in-Err.e) dirs c.in-Err.ensures.refused))
     c.refused.ensures.reply c.refused.ensures.desc
 
 pub returns-in-Some-clause-ok : goal.returns-in-Some-clause-ok
 returns-in-Some-clause-ok c t part asked own =
-    served_refused t c.args.ask.now c.args.self.now c.in-Some.e c.refused-in-Some.result.reply c.refused-in-Some.result.desc part asked (refused_as c.before.before t part own ∙ c.in-Some.is) c.refused-in-Some.ensures.reply c.refused-in-Some.ensures.desc
+    served_refused c.args.self.now t c.args.ask.now c.in-Some.e c.refused-in-Some.result.reply c.refused-in-Some.result.desc part asked (refused_as c.before.before t part own ∙ c.in-Some.is) c.refused-in-Some.ensures.reply c.refused-in-Some.ensures.desc
 
 pub answer_found-requires : goal.answer_found-requires
 answer_found-requires c = let a = c.requires.asked in (a.0, (c.args.path.now, allowed c a.0 a.1 a.2 a.3))

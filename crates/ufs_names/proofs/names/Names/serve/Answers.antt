@@ -1,1 +1,0 @@
-use Rattle.ufs_names.proofs.names.Names.serve.Goals as goal
