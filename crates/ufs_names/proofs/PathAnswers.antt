@@ -1,26 +1,21 @@
 -- The replies to requests on one path that aren't refused.
-use Rattle.std.proofs.Common.{◌≡◌, ℕ, List, [], length, Option, Some, None, ap, refl, sym, subst, ◌∙◌}
+use Rattle.std.proofs.Common.{◌≡◌, ℕ, List, length, Option, Some, None, ap, refl, sym, ◌∙◌}
 use Rattle.std.specs.Option.{option_map}
 use Rattle.ufs_model.specs.FileBytes.{bytes_of}
 use Rattle.ufs_model.specs.Paths.{whole_path, whole_of}
-use Rattle.ufs_model.specs.PosixTree.{PosixTree, Files, IsTree}
-use Rattle.ufs_model.specs.Posix.{answer, stat_reply, change, new_fd}
+use Rattle.ufs_model.specs.PosixTree.{PosixTree, Files}
+use Rattle.ufs_model.specs.Posix.{answer, stat_reply}
 use Rattle.ufs_model.specs.Directories.{entry_count, entry_names}
-use Rattle.ufs_model.specs.Asks.{fd_asked}
 use Rattle.ufs_model.specs.Walk as walk
 use Rattle.ufs_model.specs.Walk.{walk_refusal}
-use Rattle.ufs_model.specs.Paths.{text_refusal, refused_if, first_of}
-use Rattle.ufs_model.specs.Refusals.{refusal, list_refusal}
+use Rattle.ufs_model.specs.Paths.{text_refusal}
+use Rattle.ufs_model.specs.Refusals.{list_refusal}
 use Rattle.ufs_model.specs.declared.data.Ask.{Ask}
-use Rattle.ufs_model.specs.declared.data.Errno.{Errno}
-use Rattle.ufs_model.specs.declared.data.Node.{Node}
-use Rattle.ufs_model.specs.declared.data.Op.{Op}
 use Rattle.ufs_model.specs.declared.data.Op.TheVariants as op
 use Rattle.ufs_model.specs.declared.data.Reply.{Reply}
 use Rattle.ufs_model.specs.declared.data.Reply.TheVariants as reply
 use Rattle.ufs_model.specs.Facts.Allowed.{first_none}
-use Rattle.ufs_names.specs.DirTable.{slots_at, found_at, node_of}
-use Rattle.ufs_names.specs.DirCalls.{AreNamesOf}
+use Rattle.ufs_names.specs.DirTable.{node_of}
 use Rattle.ufs_names.specs.NamesPart.{NamesPart}
 use Rattle.ufs_names.specs.PathCalls.{IsAllowed, IsStat, IsList}
 use Rattle.ufs_names.specs.declared.found.Found.{Found}

@@ -1,9 +1,8 @@
 -- A request on one path that isn't refused is served.
-use Rattle.std.proofs.Common.{◌≡◌, ℕ, ◌<◌, List, [], length, replicate, Bool, true, false, cond, Option, Some, None, ap, refl, sym, subst, ◌∙◌}
+use Rattle.std.proofs.Common.{◌≡◌, ℕ, ◌<◌, List, [], length, Bool, true, false, cond, Option, Some, None, ap, refl, sym, subst, ◌∙◌}
 use Rattle.std.specs.Option.{option_map}
 use Rattle.std.specs.FinMap as map
 use Rattle.ufs_calls.specs.Modes.{file_named, mode_asked}
-use Rattle.ufs_model.specs.Asks.{desc_of_fd, fd_told}
 use Rattle.ufs_model.specs.Descriptors.{Mode, desc_of}
 use Rattle.ufs_model.specs.Paths.{components, whole_of}
 use Rattle.ufs_model.specs.PosixTree.{PosixTree}
@@ -20,9 +19,9 @@ use Rattle.ufs_model.specs.declared.data.Node.{Node}
 use Rattle.ufs_model.specs.declared.data.Node.TheVariants as node
 use Rattle.ufs_model.specs.declared.data.Op.{Op}
 use Rattle.ufs_model.specs.declared.data.Op.TheVariants as op
-use Rattle.ufs_names.specs.DirTable.{DirTable, found_at, node_at, node_of}
+use Rattle.ufs_names.specs.DirTable.{node_at, node_of}
 use Rattle.ufs_names.specs.DirCalls.{SetsNode}
-use Rattle.ufs_names.specs.NamesPart.{NamesPart, IsPartOf, Holdings, holding_of, unheld, settled_node}
+use Rattle.ufs_names.specs.NamesPart.{NamesPart, IsPartOf, holding_of, settled_node}
 use Rattle.ufs_names.specs.Calls.{IsServed}
 use Rattle.ufs_names.specs.PathCalls.{IsAllowed, opened_part}
 use Rattle.ufs_names.specs.declared.found.Found.{Found}

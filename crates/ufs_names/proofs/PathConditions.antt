@@ -1,5 +1,5 @@
 -- What a request on one path that isn't refused finds there.
-use Rattle.std.proofs.Common.{◌≡◌, ◌≢◌, ℕ, List, [], ◌∷◌, Bool, true, false, not, Option, Some, None, ap, refl, sym, subst, ◌∙◌}
+use Rattle.std.proofs.Common.{◌≡◌, ℕ, List, Bool, false, Option, Some, None, ap, refl, sym, subst, ◌∙◌}
 use Rattle.std.specs.Prelude.{IsSome, is_none}
 use Rattle.std.specs.Option.{option_map}
 use Rattle.std.specs.FinMap as map
@@ -11,22 +11,21 @@ use Rattle.ufs_model.specs.Walk.{walk_refusal, is_file}
 use Rattle.ufs_model.specs.Refusals.{own_refusal, tree_refusal, refusal}
 use Rattle.ufs_model.specs.declared.data.Ask.{Ask}
 use Rattle.ufs_model.specs.declared.data.Errno.TheVariants.{Ebusy, Enoent, Enotdir, Enotempty}
-use Rattle.ufs_model.specs.declared.data.Node.{Node}
 use Rattle.ufs_model.specs.declared.data.Node.TheVariants as node
 use Rattle.ufs_model.specs.declared.data.Op.{Op}
 use Rattle.ufs_model.specs.declared.data.Op.TheVariants as op
 use Rattle.ufs_model.specs.Facts.Allowed.{first_none, passed}
 use Rattle.ufs_model.specs.Facts.Lookups.{same_some}
-use Rattle.ufs_names.specs.DirTable.{DirTable, slots_at, found_at, node_at, node_of}
+use Rattle.ufs_names.specs.DirTable.{slots_at, found_at, node_at, node_of}
 use Rattle.ufs_names.specs.DirCalls.{IsBare, MayGo}
-use Rattle.ufs_names.specs.NamesPart.{NamesPart, IsPartOf}
+use Rattle.ufs_names.specs.NamesPart.{NamesPart}
 use Rattle.ufs_names.specs.PathCalls.{path_asked, IsAllowed}
 use Rattle.ufs_names.specs.declared.found.Found.{Found}
 use Rattle.ufs_names.specs.declared.found.Found.TheVariants.{Dir, File}
 use Rattle.ufs_names.proofs.NameLists.{AreNames, names_of}
 use Rattle.ufs_names.proofs.WalkLinks.{met_at}
 use Rattle.ufs_names.proofs.PartFacts.{file_told}
-use Rattle.ufs_names.proofs.AllowedLemmas.{rmdir_allowed, unlink_allowed}
+use Rattle.ufs_names.proofs.AllowedLemmas.{unlink_allowed}
 use Rattle.ufs_names.proofs.EntryLemmas.{bare_if_no_entries}
 use Rattle.ufs_names.proofs.ConditionLemmas.{IsFree, IsTaken, mkdir_free, open_free, rmdir_taken, unlink_taken}
 use Rattle.ufs_names.proofs.PathRefusals.{path_of, text_passed}
@@ -88,9 +87,12 @@ module _ (n : NamesPart) (t : PosixTree) (ask : Ask) (names : List (List ℕ)) (
   -- ---- what goes
 
   pub rmdir_may : (p : List ℕ) → ask.op ≡ op.Rmdir p → IsTaken n.dirs names × MayGo n.dirs names
-  rmdir_may p of = (subst (IsTaken n.dirs) at (rmdir_taken n t is.part ask.client p (let_be (op.Rmdir p) of)), λ i dir.
-      bare_if_no_entries n.dirs t.paths is.part.tree.namespace is.table is.part.paths names are_names.plain are_names.allowed i dir
-      (ap (λ l. has_entries t.paths (whole_path l)) (sym at) ∙ rmdir_empty t ask.client p (let_be (op.Rmdir p) of)))
+  rmdir_may p of = (
+    subst (IsTaken n.dirs) at (rmdir_taken n t is.part ask.client p (let_be (op.Rmdir p) of)),
+    λ i dir.
+        bare_if_no_entries n.dirs t.paths is.part.tree.namespace is.table is.part.paths names are_names.plain are_names.allowed i dir
+        (ap (λ l. has_entries t.paths (whole_path l)) (sym at) ∙ rmdir_empty t ask.client p (let_be (op.Rmdir p) of)),
+  )
     where
       at : components p ≡ names
       at = named (op.Rmdir p) of p refl

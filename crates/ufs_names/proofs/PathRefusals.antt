@@ -1,13 +1,12 @@
 -- Why a request on one path is refused, by what is met there.
 use Rattle.std.proofs.Common.{◌≡◌, ◌↔◌, ℕ, List, [], ◌∷◌, Bool, true, false, not, Option, Some, None, IsTrue, ap, refl, sym, subst, ◌∙◌}
 use Rattle.std.specs.Option.{option_map}
-use Rattle.std.specs.FinMap as map
 use Rattle.ufs_model.specs.Directories.{has_entries}
 use Rattle.ufs_model.specs.Paths.{components, text_refusal, refused_if, first_of, whole_path, whole_of, has_component, is_root}
 use Rattle.ufs_model.specs.PosixTree.{PosixTree}
 use Rattle.ufs_model.specs.Walk as walk
 use Rattle.ufs_model.specs.Walk.{walk_refusal}
-use Rattle.ufs_model.specs.Descriptors.{Mode, lowest_free, is_mode}
+use Rattle.ufs_model.specs.Descriptors.{Mode, is_mode}
 use Rattle.ufs_model.specs.Refusals.{own_refusal, tree_refusal, refusal}
 use Rattle.ufs_model.specs.declared.data.Errno.{Errno}
 use Rattle.ufs_model.specs.declared.data.Errno.TheVariants.{Einval, Emfile}
@@ -17,7 +16,7 @@ use Rattle.ufs_model.specs.declared.data.Op.{Op}
 use Rattle.ufs_model.specs.declared.data.Op.TheVariants as op
 use Rattle.ufs_model.specs.Facts.Allowed.{first_none}
 use Rattle.ufs_model.specs.Facts.Lookups.{same_some}
-use Rattle.ufs_names.specs.DirTable.{DirTable, IsDirTable, slots_at, found_at, node_at, node_of}
+use Rattle.ufs_names.specs.DirTable.{IsDirTable, slots_at, found_at, node_at, node_of}
 use Rattle.ufs_names.specs.DirCalls.{refusal_by, IsBare}
 use Rattle.ufs_names.specs.NamesPart.{NamesPart, IsPartOf}
 use Rattle.ufs_names.specs.PathCalls.{path_asked, end_refusal}
@@ -121,4 +120,4 @@ module _ (n : NamesPart) (t : PosixTree) (part : IsPartOf n t) (client : ℕ) (r
       ∙ ap (λ b. end_refusal b (walk.node_at t.paths path) (has_entries t.paths (whole_of path)) request) (ap (λ (l : List (List ℕ)). not (has_component l)) are_names ∙ sym (root_is root names at_root))
       ∙ ap (λ o. end_refusal root o (has_entries t.paths (whole_of path)) request) (met_at n.dirs t.paths part.paths path text ∙ ap (node_at n.dirs) are_names ∙ ap (option_map node_of) (sym met))
       ∙ sym (end_by_entries root (option_map node_of found) entries (has_entries t.paths (whole_of path)) request (λ dir.
-        entries_told n t part table names (subst AreNames are_names (names_of path text)) found met entries told dir ∙ ap (λ l. has_entries t.paths (whole_path l)) (sym are_names)))
+      entries_told n t part table names (subst AreNames are_names (names_of path text)) found met entries told dir ∙ ap (λ l. has_entries t.paths (whole_path l)) (sym are_names)))

@@ -1,5 +1,5 @@
 -- Why a `rename` is refused, by what is met at its two names.
-use Rattle.std.proofs.Common.{◌≡◌, ◌↔◌, ℕ, List, [], ◌∷◌, Bool, true, false, not, ◌&&◌, ◌||◌, Option, Some, None, IsTrue, ap, refl, sym, subst, ◌∙◌, bytes_eq}
+use Rattle.std.proofs.Common.{◌≡◌, ◌↔◌, ℕ, List, [], Bool, false, not, ◌&&◌, ◌||◌, Option, Some, None, IsTrue, ap, refl, sym, subst, ◌∙◌, bytes_eq}
 use Rattle.std.specs.Prelude.{is_none}
 use Rattle.std.specs.Option.{option_map}
 use Rattle.std.specs.FinMap as map

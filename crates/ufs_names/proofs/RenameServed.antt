@@ -1,5 +1,5 @@
 -- A `rename` that isn't refused is served.
-use Rattle.std.proofs.Common.{◌≡◌, ◌≢◌, ℕ, ◌⊎◌, inl, inr, List, Bool, true, false, not, ◌&&◌, Option, Some, None, ap, refl, sym, subst, ◌∙◌, bytes_eq}
+use Rattle.std.proofs.Common.{◌≡◌, ◌≢◌, ℕ, ◌⊎◌, inl, inr, List, Bool, true, false, not, ◌&&◌, Option, Some, None, ap, refl, sym, subst, ◌∙◌}
 use Rattle.std.specs.Prelude.{IsSome}
 use Rattle.std.specs.Option.{option_map}
 use Rattle.std.specs.FinMap as map
@@ -15,16 +15,15 @@ use Rattle.ufs_model.specs.Facts.Orders.{path_total, path_same}
 use Rattle.ufs_model.specs.Facts.Lookups.{one_or_apart}
 use Rattle.ufs_model.specs.declared.data.Ask.{Ask}
 use Rattle.ufs_model.specs.declared.data.Errno.{Errno}
-use Rattle.ufs_model.specs.declared.data.Op.{Op}
 use Rattle.ufs_model.specs.declared.data.Op.TheVariants as op
 use Rattle.ufs_model.specs.declared.data.Reply.{Reply}
 use Rattle.ufs_model.specs.declared.data.Reply.TheVariants.{Done}
-use Rattle.ufs_names.specs.DirTable.{DirTable, IsDirTable, slots_at, found_at, node_at, node_of}
-use Rattle.ufs_names.specs.DirCalls.{IsBare, MayGo, MayMove, MovesNodes}
+use Rattle.ufs_names.specs.DirTable.{IsDirTable, found_at, node_at, node_of}
+use Rattle.ufs_names.specs.DirCalls.{MayGo, MayMove, MovesNodes}
 use Rattle.ufs_names.specs.NamesPart.{NamesPart, IsPartOf, settled_node}
 use Rattle.ufs_names.specs.Calls.{IsServed}
 use Rattle.ufs_names.specs.declared.found.Found.{Found}
-use Rattle.ufs_names.specs.declared.found.Found.TheVariants.{Dir, File}
+use Rattle.ufs_names.specs.declared.found.Found.TheVariants.{File}
 use Rattle.ufs_names.proofs.NameLists.{AreNames, names_of}
 use Rattle.ufs_names.proofs.WalkLinks.{met_at}
 use Rattle.ufs_names.proofs.PartFacts.{file_told}

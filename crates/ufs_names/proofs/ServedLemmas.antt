@@ -1,16 +1,14 @@
 -- A request that isn't refused is served.
-use Rattle.std.proofs.Common.{◌≡◌, ℕ, Option, Some, None, ap, refl, sym, subst, ◌∙◌}
-use Rattle.ufs_model.specs.Asks.{IsAsk, IsDescAfter, desc_of_fd, fd_named, fd_told}
-use Rattle.ufs_model.specs.PosixTree.{PosixTree, Fds}
-use Rattle.ufs_model.specs.Posix.{served, change, answer, posix}
+use Rattle.std.proofs.Common.{◌≡◌, Option, None, ap, refl, sym, subst, ◌∙◌}
+use Rattle.ufs_model.specs.Asks.{desc_of_fd, fd_told}
+use Rattle.ufs_model.specs.PosixTree.{PosixTree}
+use Rattle.ufs_model.specs.Posix.{served, change, answer}
 use Rattle.ufs_model.specs.Refusals.{refusal}
 use Rattle.ufs_model.specs.declared.data.Ask.{Ask}
 use Rattle.ufs_model.specs.declared.data.Desc.{Desc}
 use Rattle.ufs_model.specs.declared.data.Errno.{Errno}
 use Rattle.ufs_model.specs.declared.data.Op.{Op}
-use Rattle.ufs_model.specs.declared.data.Op.TheVariants as op
 use Rattle.ufs_model.specs.declared.data.Reply.{Reply}
-use Rattle.ufs_model.specs.declared.data.Reply.TheVariants.{Refused}
 use Rattle.ufs_names.specs.NamesPart.{NamesPart, IsPartOf}
 use Rattle.ufs_names.specs.Calls.{IsServed}
 use Rattle.ufs_names.proofs.DescAfterLemmas.{desc_after_posix}

@@ -1,5 +1,5 @@
 -- What was put into a map is taken out again.
-use Rattle.std.proofs.Common.{◌≡◌, ℕ, List, Bool, true, false, None, Result, Ok, Err, OnOk, OnErr, ap, ◌∙◌}
+use Rattle.std.proofs.Common.{◌≡◌, ℕ, Bool, true, false, None, Result, Ok, Err, OnOk, OnErr, ap, ◌∙◌}
 use Rattle.std.specs.Prelude.{is_err}
 use Rattle.std.specs.Cmp.{nat_cmp_total}
 use Rattle.std.specs.FinMap as map

@@ -1,5 +1,5 @@
 -- What the requests on paths answer and change, by what is found there.
-use Rattle.std.specs.Prelude.{ℕ, ◌≡◌, ◌+◌, List, [], length, Bool, true, false, Option, Some, None, is_some, is_none, if◌then◌else◌}
+use Rattle.std.specs.Prelude.{ℕ, ◌≡◌, ◌+◌, List, [], length, Bool, true, Option, Some, None, is_some, is_none, if◌then◌else◌}
 use Rattle.std.specs.FinMap as map
 use Rattle.std.specs.Option.{option_map}
 use Rattle.ufs_model.specs.Asks.{IsAsk}

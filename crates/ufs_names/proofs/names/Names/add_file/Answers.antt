@@ -1,4 +1,4 @@
-use Rattle.std.proofs.Common.{◌≡◌, None, ap, refl, ◌∙◌}
+use Rattle.std.proofs.Common.{ap, refl, ◌∙◌}
 use Rattle.std.specs.FinMap as map
 use Rattle.ufs_names.specs.NamesPart.{NamesPart}
 use Rattle.ufs_names.proofs.UndoneLemmas.{same_part, undone, on_is_err, not_err}

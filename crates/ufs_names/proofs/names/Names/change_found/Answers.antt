@@ -1,4 +1,4 @@
-use Rattle.std.proofs.Common.{◌≡◌, Option, Some, ap, sym, ◌∙◌}
+use Rattle.std.proofs.Common.{ap, ◌∙◌}
 use Rattle.ufs_calls.specs.Modes.{mode_of}
 use Rattle.ufs_model.specs.Descriptors.{desc_of}
 use Rattle.ufs_names.proofs.PathConditions.{file_found, mkdir_may, open_may, rmdir_may, unlink_may}

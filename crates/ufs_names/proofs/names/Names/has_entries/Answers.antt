@@ -1,4 +1,4 @@
-use Rattle.std.proofs.Common.{rules, ◌≡◌, ◌↔◌, ℕ, Bool, true, false, not, Option, Some, IsTrue, ap, sym, subst, refl, ◌∙◌}
+use Rattle.std.proofs.Common.{rules, ◌≡◌, ◌↔◌, ℕ, Bool, true, false, not, Option, Some, IsTrue, ap, subst, refl}
 use Rattle.ufs_names.specs.DirTable.{DirTable, slots_at}
 use Rattle.ufs_names.specs.DirCalls.{IsBare}
 use Rattle.ufs_names.specs.NamesPart.{NamesPart}

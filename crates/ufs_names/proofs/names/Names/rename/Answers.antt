@@ -1,4 +1,4 @@
-use Rattle.std.proofs.Common.{◌≡◌, Some, None, sym, ◌∙◌}
+use Rattle.std.proofs.Common.{Some}
 use Rattle.ufs_names.proofs.RefusedLemmas.{served_refused}
 use Rattle.ufs_names.proofs.RenameServed.{texts, rename_refused, replaced_held, rename_may, served_rename}
 use Rattle.ufs_names.proofs.names.Names.rename.Goals as goal

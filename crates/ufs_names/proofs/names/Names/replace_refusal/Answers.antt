@@ -1,4 +1,4 @@
-use Rattle.std.proofs.Common.{◌≡◌, List, ℕ, Bool, Option, Some, ap, sym, subst, ◌∙◌, bytes_eq}
+use Rattle.std.proofs.Common.{List, ℕ, Bool, Option, Some, ap, sym, subst, ◌∙◌, bytes_eq}
 use Rattle.std.specs.Option.{option_map}
 use Rattle.ufs_model.specs.Directories.{is_below}
 use Rattle.ufs_model.specs.Paths.{whole_path}

@@ -1,9 +1,7 @@
-use Rattle.std.proofs.Common.{◌≡◌, ◌↔◌, ℕ, [], Bool, false, Option, None, Some, sym, ◌∙◌, ap, subst}
+use Rattle.std.proofs.Common.{◌≡◌, [], Option, None, Some, sym, ◌∙◌, ap, subst}
 use Rattle.ufs_model.specs.Asks.{IsAsk}
 use Rattle.ufs_model.specs.PosixTree.{PosixTree}
 use Rattle.ufs_model.specs.Refusals.{own_refusal, refusal}
-use Rattle.ufs_model.specs.declared.data.Desc.{Desc}
-use Rattle.ufs_model.specs.declared.data.Errno.{Errno}
 use Rattle.ufs_model.specs.declared.data.Node.{Node}
 use Rattle.ufs_model.specs.declared.data.Reply.{Reply}
 use Rattle.ufs_names.specs.Calls.{IsServed}
