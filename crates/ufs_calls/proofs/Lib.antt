@@ -1,3 +1,4 @@
 pub mod ByteLemmas
 pub mod FileLemmas
 pub mod OwnLemmas
+pub mod BelowLemmas

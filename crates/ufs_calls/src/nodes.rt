@@ -1,5 +1,6 @@
 // Why a request is refused by what stands at the end of its path, and which file it gives.
 ghost use Rattle.std.specs.Prelude.{◌≡◌, ◌&&◌, not, is_none, is_some};
+ghost use Rattle.ufs_model.specs.Directories as directories;
 ghost use Rattle.ufs_model.specs.Paths.{first_of, refused_if};
 ghost use Rattle.ufs_model.specs.PosixTree as posix_tree;
 ghost use Rattle.ufs_model.specs.Refusals as refusals;
@@ -132,6 +133,17 @@ pub fn rmdir_refusal(is_root: bool, node: Option<Node>, has_entries: bool) -> Op
         Some(Node::Dir) if has_entries => Some(Errno::Enotempty),
         Some(Node::Dir) => None,
     }
+}
+
+/// Whether the whole path lies below that of a directory, which isn't the root.
+pub fn is_below(dir: &[u8], path: &[u8]) -> bool
+    ensures { result ≡ directories.is_below dir.now path.now }
+{
+    let size = dir.len();
+    if path.len() <= size || path[size] != b'/' {
+        return false;
+    }
+    &path[..size] == dir
 }
 
 /// Of a `rename`: a new name for what stands at one whole path, where another may stand. By what stands at the two,

@@ -30,6 +30,15 @@ pub mod ConditionLemmas
 pub mod ListedLemmas
 pub mod PathLemmas
 pub mod EntryLemmas
+pub mod ServedLemmas
+pub mod PathRefusals
+pub mod UndoneLemmas
+pub mod PathConditions
+pub mod PathAnswers
+pub mod PathChanges
+pub mod ResolveLemmas
+pub mod RenameRefusals
+pub mod RenameServed
 pub mod DescLemmas
 pub mod OpenLemmas
 pub mod RefusedLemmas

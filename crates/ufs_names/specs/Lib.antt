@@ -4,3 +4,4 @@ pub mod DirEdits
 pub mod Stands
 pub mod NamesPart
 pub mod Calls
+pub mod PathCalls

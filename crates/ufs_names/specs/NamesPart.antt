@@ -3,7 +3,6 @@ use Rattle.std.specs.Prelude.{ℕ, ◌≡◌, ◌||◌, Bool, true, false, List,
 use Rattle.std.specs.List.{list_any}
 use Rattle.std.specs.Ordering.{nat_cmp}
 use Rattle.std.specs.FinMap as map
-use Rattle.std.specs.Coded.{Coded, code_by, coded×, coded_ℕ, coded_list, coded_bool}
 use Rattle.ufs_model.specs.PosixTree.{PosixTree, Paths, Files, IsTree, is_node_of}
 use Rattle.ufs_model.specs.Touched.{holds}
 use Rattle.ufs_model.specs.declared.data.Node.TheVariants as node

@@ -10,7 +10,9 @@ mod holding;
 mod keep;
 mod names;
 mod open_calls;
+mod opening;
 mod path_calls;
+mod renaming;
 
 pub use found::Found;
 pub use names::{Applied, Names};

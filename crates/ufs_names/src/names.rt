@@ -6,15 +6,11 @@ ghost use Rattle.ufs_names.specs.Calls.{IsEntryOf};
 use crate::dir_tree::DirTree;
 use crate::found::Found;
 use crate::hold_map::HoldMap;
-use crate::holding::Holding;
 use std::alloc::Global;
 use std::marker::Model;
-use ufs_calls::{FileMap, Mode, own_refusal, text};
-use ufs_model::{
-    Actor, Ask, Bytes, Desc, Entry, Errno, Excuse, Memory, Node, Op, Reply,
-    a_request_keeps_the_tree,
-};
-use ufs_path::PathText;
+use ufs_calls::{FileMap, own_refusal, text};
+use ufs_model::{Actor, Ask, Desc, Entry, Errno, Excuse, Memory, Op, Reply};
+use ufs_path::{PathText, names_stay_in_whole_paths, whole_paths_may_stand};
 
 /// The namespace, with the bytes of the files. Its directories stand in blocks, and a file that no path names stays
 /// until its last client closes it.
@@ -58,7 +54,7 @@ pub struct Served {
 }
 
 impl Names {
-    ghost use Rattle.std.specs.Prelude.{◌≡◌, ◌<◌, ◌^◌, ℕ, [], true, false, Some, None, IfOk, IfErr, OnErr, is_none};
+    ghost use Rattle.std.specs.Prelude.{◌≡◌, ◌<◌, ◌^◌, [], true, false, Some, None, IfOk, IfErr, OnErr, is_none};
     ghost use Rattle.std.specs.FinMap as map;
     ghost use Rattle.ufs_model.specs.PosixTree.{PosixTree, root_alone};
     ghost use Rattle.ufs_model.specs.Paths.{first_of, refused_if, whole_path};
@@ -94,6 +90,10 @@ impl Names {
         ensures refused { IfErr result (λ e. (t : PosixTree) → IsPartOf self.now t
             → first_of (walk_refusal_from t.paths [] path.now) (refused_if (is_none (map.get t.paths (whole_path path.now))) Enoent) ≡ Some e) }
     {
+        // Each name may stand in a path.
+        names_stay_in_whole_paths();
+        whole_paths_may_stand();
+        let _count = path.len();
         match self.dirs.look(path) {
             Ok(Some(found)) => Ok(found),
             Ok(None) => Err(Errno::Enoent),

@@ -12,7 +12,6 @@ pub mod NameLemmas
 pub mod MovedLemmas
 pub mod UnderLemmas
 pub mod RenameLemmas
-pub mod BelowLemmas
 pub mod WalkLemmas
 pub mod PartLemmas
 pub mod AllowedLemmas

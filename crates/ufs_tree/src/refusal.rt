@@ -1,6 +1,5 @@
 // Why a request is refused, in the order in which it is looked at.
 ghost use Rattle.std.specs.Prelude.{◌≡◌, List, ℕ, []};
-ghost use Rattle.ufs_model.specs.Directories as directories;
 ghost use Rattle.ufs_model.specs.Paths as paths;
 ghost use Rattle.ufs_model.specs.Refusals as refusals;
 ghost use Rattle.ufs_model.specs.Walk.{walk_refusal_from};
@@ -9,8 +8,8 @@ ghost use Rattle.ufs_tree.specs.Ends.{end_refusal};
 use crate::path_map::PathMap;
 use crate::tree::Parts;
 use ufs_calls::{
-    MAX_SIZE, Mode, dir_refusal, fd_named, is_past, list_refusal, make_refusal, open_refusal,
-    own_refusal, place_of, seek_to, size_refusal, stat_refusal, text, unlink_refusal,
+    MAX_SIZE, Mode, dir_refusal, fd_named, is_below, is_past, list_refusal, make_refusal,
+    open_refusal, own_refusal, place_of, seek_to, size_refusal, stat_refusal, text, unlink_refusal,
 };
 use ufs_model::{Bytes, Desc, Errno, Memory, Op, Whence};
 use ufs_path::PathText;
@@ -35,17 +34,6 @@ fn rmdir_refusal(nodes: &PathMap, text: &PathText) -> Option<Errno>
         nodes.get(text.whole()),
         nodes.has_entries(text.whole()),
     )
-}
-
-/// Whether the path lies below the directory, which isn't the root.
-fn is_below(dir: &[u8], path: &[u8]) -> bool
-    ensures { result ≡ directories.is_below dir.now path.now }
-{
-    let size = dir.len();
-    if path.len() <= size || path[size] != b'/' {
-        return false;
-    }
-    &path[..size] == dir
 }
 
 /// A new name for what stands at one whole path, where another may stand.

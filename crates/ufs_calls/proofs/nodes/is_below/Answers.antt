@@ -1,8 +1,8 @@
 use Rattle.std.proofs.Common.{◌∙◌, arith}
 use Rattle.std.proofs.lemmas.Bool.{eq-eqb, ne_eqb}
-use Rattle.ufs_tree.proofs.BelowLemmas.{below_short, below_other, below_slash}
-use Rattle.ufs_tree.proofs.refusal.is_below.Goals as goal
-use Rattle.ufs_tree.proofs.refusal.is_below.Goals.{then-path-size-via-then-path-size, then-path-size-via-else-path-size+then-path-size-ne47}
+use Rattle.ufs_calls.proofs.BelowLemmas.{below_short, below_other, below_slash}
+use Rattle.ufs_calls.proofs.nodes.is_below.Goals as goal
+use Rattle.ufs_calls.proofs.nodes.is_below.Goals.{then-path-size-via-then-path-size, then-path-size-via-else-path-size+then-path-size-ne47}
 
 pub returns-then-path-size : goal.returns-then-path-size
 returns-then-path-size c = elim c.then-path-size.branch [

@@ -1,0 +1,110 @@
+-- What a request on one path that isn't refused finds there.
+use Rattle.std.proofs.Common.{◌≡◌, ℕ, List, Bool, false, Option, Some, None, ap, refl, sym, subst, ◌∙◌}
+use Rattle.std.specs.Prelude.{IsSome, is_none}
+use Rattle.std.specs.Option.{option_map}
+use Rattle.std.specs.FinMap as map
+use Rattle.ufs_model.specs.Directories.{has_entries}
+use Rattle.ufs_model.specs.Paths.{components, text_refusal, refused_if, whole_path, whole_of, is_root}
+use Rattle.ufs_model.specs.PosixTree.{PosixTree}
+use Rattle.ufs_model.specs.Walk as walk
+use Rattle.ufs_model.specs.Walk.{walk_refusal, is_file}
+use Rattle.ufs_model.specs.Refusals.{own_refusal, tree_refusal, refusal}
+use Rattle.ufs_model.specs.declared.data.Ask.{Ask}
+use Rattle.ufs_model.specs.declared.data.Errno.TheVariants.{Ebusy, Enoent, Enotdir, Enotempty}
+use Rattle.ufs_model.specs.declared.data.Node.TheVariants as node
+use Rattle.ufs_model.specs.declared.data.Op.{Op}
+use Rattle.ufs_model.specs.declared.data.Op.TheVariants as op
+use Rattle.ufs_model.specs.Facts.Allowed.{first_none, passed}
+use Rattle.ufs_model.specs.Facts.Lookups.{same_some}
+use Rattle.ufs_names.specs.DirTable.{slots_at, found_at, node_at, node_of}
+use Rattle.ufs_names.specs.DirCalls.{IsBare, MayGo}
+use Rattle.ufs_names.specs.NamesPart.{NamesPart}
+use Rattle.ufs_names.specs.PathCalls.{path_asked, IsAllowed}
+use Rattle.ufs_names.specs.declared.found.Found.{Found}
+use Rattle.ufs_names.specs.declared.found.Found.TheVariants.{Dir, File}
+use Rattle.ufs_names.proofs.NameLists.{AreNames, names_of}
+use Rattle.ufs_names.proofs.WalkLinks.{met_at}
+use Rattle.ufs_names.proofs.PartFacts.{file_told}
+use Rattle.ufs_names.proofs.AllowedLemmas.{unlink_allowed}
+use Rattle.ufs_names.proofs.EntryLemmas.{bare_if_no_entries}
+use Rattle.ufs_names.proofs.ConditionLemmas.{IsFree, IsTaken, mkdir_free, open_free, rmdir_taken, unlink_taken}
+use Rattle.ufs_names.proofs.PathRefusals.{path_of, text_passed}
+
+-- the directory that a `rmdir` takes away has no entries
+rmdir_empty : (t : PosixTree) (client : ℕ) (path : List ℕ) → refusal t client (op.Rmdir path) ≡ None → has_entries t.paths (whole_of path) ≡ false
+rmdir_empty t client path e =
+    let own = first_none (text_refusal path) _ e in
+    let way = first_none (walk_refusal t.paths path) _ own.1 in
+    let at_root = first_none (refused_if (is_root path) Ebusy) _ way.1 in
+    let there = first_none (refused_if (is_none (walk.node_at t.paths path)) Enoent) _ at_root.1 in
+    let file = first_none (refused_if (is_file (walk.node_at t.paths path)) Enotdir) _ there.1 in
+    passed (has_entries t.paths (whole_of path)) Enotempty file.1
+
+module _ (n : NamesPart) (t : PosixTree) (ask : Ask) (names : List (List ℕ)) (found : Option Found) (is : IsAllowed t ask n names found) where
+  path : (p : List ℕ) × (path_asked ask.op ≡ Some p) × (components p ≡ names)
+  path = path_of (path_asked ask.op) names is.path
+
+  own : own_refusal t ask.client ask.op ≡ None
+  own = (first_none (own_refusal t ask.client ask.op) (tree_refusal t ask.client ask.op) is.allowed).0
+
+  text : text_refusal path.0 ≡ None
+  text = text_passed t ask.client ask.op path.0 own path.1
+
+  pub are_names : AreNames names
+  are_names = subst AreNames path.2 (names_of path.0 text)
+
+  pub node_found : node_at n.dirs names ≡ option_map node_of found
+  node_found = ap (option_map node_of) (sym is.met)
+
+  -- a file that is found has bytes, and its holders are told
+  pub file_found : (f : ℕ) → found ≡ Some (File f) → IsSome (map.get n.bytes f) × IsSome (map.get n.held f)
+  file_found f at = file_told n t is.part names f are_names (node_found ∙ ap (option_map node_of) at)
+
+  module _ (request : Op) (of : ask.op ≡ request) where
+    pub let_be : refusal t ask.client request ≡ None
+    let_be = ap (refusal t ask.client) (sym of) ∙ is.allowed
+
+    pub named : (p : List ℕ) → path_asked request ≡ Some p → components p ≡ names
+    named p e = same_some (components p) names (ap (option_map components) (sym e) ∙ ap (λ r. option_map components (path_asked r)) (sym of) ∙ is.path)
+
+    -- what stands there
+    pub stands_found : (p : List ℕ) → path_asked request ≡ Some p → walk.node_at t.paths p ≡ option_map node_of found
+    stands_found p e =
+        met_at n.dirs t.paths is.part.paths p (text_passed t ask.client request p (ap (own_refusal t ask.client) (sym of) ∙ own) e)
+        ∙ ap (node_at n.dirs) (named p e) ∙ node_found
+
+  -- ---- what comes
+
+  pub mkdir_may : (p : List ℕ) → ask.op ≡ op.Mkdir p → IsFree n.dirs names
+  mkdir_may p of = subst (IsFree n.dirs) (named (op.Mkdir p) of p refl) (mkdir_free n t is.part ask.client p (let_be (op.Mkdir p) of))
+
+  pub open_may : (p : List ℕ) (read write creat excl trunc append : Bool) → ask.op ≡ op.OpenFile p read write creat excl trunc append → found ≡ None → IsFree n.dirs names
+  open_may p read write creat excl trunc append of none =
+      let request = op.OpenFile p read write creat excl trunc append in
+      let at = named request of p refl in
+      subst (IsFree n.dirs) at (open_free n t is.part ask.client p read write creat excl trunc append (let_be request of) (ap (node_at n.dirs) at ∙ node_found ∙ ap (option_map node_of) none))
+
+  -- ---- what goes
+
+  pub rmdir_may : (p : List ℕ) → ask.op ≡ op.Rmdir p → IsTaken n.dirs names × MayGo n.dirs names
+  rmdir_may p of = (
+    subst (IsTaken n.dirs) at (rmdir_taken n t is.part ask.client p (let_be (op.Rmdir p) of)),
+    λ i dir.
+        bare_if_no_entries n.dirs t.paths is.part.tree.namespace is.table is.part.paths names are_names.plain are_names.allowed i dir
+        (ap (λ l. has_entries t.paths (whole_path l)) (sym at) ∙ rmdir_empty t ask.client p (let_be (op.Rmdir p) of)),
+  )
+    where
+      at : components p ≡ names
+      at = named (op.Rmdir p) of p refl
+
+  pub unlink_may : (p : List ℕ) → ask.op ≡ op.Unlink p → IsTaken n.dirs names × MayGo n.dirs names
+  unlink_may p of = (subst (IsTaken n.dirs) at (unlink_taken n t is.part ask.client p (let_be (op.Unlink p) of)), λ i dir. no_dir i dir)
+    where
+      at : components p ≡ names
+      at = named (op.Unlink p) of p refl
+
+      no_dir : (i : ℕ) → found_at n.dirs names ≡ Some (Dir i) → IsBare (slots_at n.dirs i)
+      no_dir i dir =
+          let file = (unlink_allowed t ask.client p (let_be (op.Unlink p) of)).1 in
+          let both : Some node.Dir ≡ Some (node.File file.0) = sym (ap (option_map node_of) dir) ∙ node_found ∙ sym (stands_found (op.Unlink p) of p refl) ∙ file.1 in
+          cc

@@ -1,0 +1,31 @@
+-- What was put into a map is taken out again.
+use Rattle.std.proofs.Common.{◌≡◌, ℕ, Bool, true, false, None, Result, Ok, Err, OnOk, OnErr, ap, ◌∙◌}
+use Rattle.std.specs.Prelude.{is_err}
+use Rattle.std.specs.Cmp.{nat_cmp_total}
+use Rattle.std.specs.FinMap as map
+use Rattle.std.specs.FinMap.{nat_cmp-IsAntisymmetric}
+use Rattle.std.specs.Ordering.{nat_cmp}
+use Rattle.ufs_calls.specs.Facts.Inserts.{remove_inserted}
+use Rattle.ufs_model.specs.PosixTree.{Files}
+use Rattle.ufs_names.specs.DirTable.{DirTable}
+use Rattle.ufs_names.specs.NamesPart.{NamesPart, Holdings}
+
+abbrev pub part_by : DirTable → Files → Holdings → ℕ → NamesPart
+part_by dirs bytes held next = record { dirs = dirs; bytes = bytes; held = held; next = next }
+
+pub same_part : (d d' : DirTable) (b b' : Files) (h h' : Holdings) (next : ℕ) → d ≡ d' → b ≡ b' → h ≡ h' → part_by d b h next ≡ part_by d' b' h' next
+same_part d d' b b' h h' next p q r i = record { dirs = p i; bytes = q i; held = r i; next = next }
+
+pub undone : {X : Type 0} (old added now : map.FinMap nat_cmp X) (k : ℕ) (v : X) → map.get old k ≡ None → added ≡ map.insert old k v → now ≡ map.remove added k → now ≡ old
+undone old added now k v none add remove =
+    remove ∙ ap (λ m. map.remove m k) add ∙ remove_inserted nat_cmp_total nat_cmp-IsAntisymmetric old k v none
+
+-- what holds of an error, where there is one
+pub on_is_err : {T E P : Type 0} (r : Result T E) → (b : Bool) → b ≡ is_err r → b ≡ true → OnErr r P → P
+on_is_err (Ok x) b is true_of p = cc
+on_is_err (Err e) b is true_of p = p
+
+-- and where there is none
+pub not_err : {T E P : Type 0} (r : Result T E) → (b : Bool) → b ≡ is_err r → b ≡ false → OnOk r P → P
+not_err (Ok x) b is false_of p = p
+not_err (Err e) b is false_of p = cc

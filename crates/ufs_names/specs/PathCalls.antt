@@ -1,0 +1,96 @@
+-- What the requests on paths answer and change, by what is found there.
+use Rattle.std.specs.Prelude.{ℕ, ◌≡◌, ◌+◌, List, [], length, Bool, true, Option, Some, None, is_some, is_none, if◌then◌else◌}
+use Rattle.std.specs.FinMap as map
+use Rattle.std.specs.Option.{option_map}
+use Rattle.ufs_model.specs.Asks.{IsAsk}
+use Rattle.ufs_model.specs.FileBytes.{bytes_of}
+use Rattle.ufs_model.specs.PosixTree.{PosixTree}
+use Rattle.ufs_model.specs.Paths.{components, text_refusal, first_of, refused_if}
+use Rattle.ufs_model.specs.Walk.{is_file}
+use Rattle.ufs_model.specs.Refusals.{open_refusal, unlink_refusal, list_refusal, rename_refusal, refusal}
+use Rattle.ufs_model.specs.declared.data.Errno.{Errno}
+use Rattle.ufs_model.specs.declared.data.Errno.TheVariants.{Eexist, Enoent, Ebusy, Enotdir, Enotempty}
+use Rattle.ufs_model.specs.declared.data.Node.{Node}
+use Rattle.ufs_model.specs.declared.data.Op.{Op}
+use Rattle.ufs_model.specs.declared.data.Op.TheVariants as op
+use Rattle.ufs_model.specs.declared.data.Ask.{Ask}
+use Rattle.ufs_model.specs.declared.data.Reply.{Reply}
+use Rattle.ufs_model.specs.declared.data.Reply.TheVariants as reply
+use Rattle.ufs_names.specs.DirTable.{DirTable, IsDirTable, slots_at, found_at}
+use Rattle.ufs_names.specs.DirCalls.{AreNamesOf}
+use Rattle.ufs_names.specs.NamesPart.{NamesPart, IsPartOf, holding_of, unheld, with_holder}
+use Rattle.ufs_names.specs.declared.found.Found.{Found}
+use Rattle.ufs_names.specs.declared.found.Found.TheVariants.{Dir, File}
+
+-- the path of a request on one path
+abbrev pub path_asked : Op → Option (List ℕ)
+path_asked (op.OpenFile path read write creat excl trunc append) = Some path
+path_asked (op.Mkdir path) = Some path
+path_asked (op.Rmdir path) = Some path
+path_asked (op.Unlink path) = Some path
+path_asked (op.Stat path) = Some path
+path_asked (op.List path) = Some path
+path_asked _ = None
+
+-- Why a request on one path is refused, by whether the path is the root's, what stands at its end, and whether that has
+-- entries.
+abbrev pub end_refusal : Bool → Option Node → Bool → Op → Option Errno
+end_refusal at_root node has_entries (op.OpenFile path read write creat excl trunc append) =
+    open_refusal (record { read = read; write = write; creat = creat; excl = excl; trunc = trunc; append = append }) node
+end_refusal at_root node has_entries (op.Mkdir path) = refused_if (is_some node) Eexist
+end_refusal at_root node has_entries (op.Rmdir path) =
+    first_of (refused_if at_root Ebusy) (first_of (refused_if (is_none node) Enoent) (first_of (refused_if (is_file node) Enotdir) (refused_if has_entries Enotempty)))
+end_refusal at_root node has_entries (op.Unlink path) = unlink_refusal node
+end_refusal at_root node has_entries (op.Stat path) = refused_if (is_none node) Enoent
+end_refusal at_root node has_entries (op.List path) = list_refusal node
+end_refusal at_root _ has_entries _ = None
+
+-- ---- opening
+
+-- the client holds a file that a path names and that has no bytes
+abbrev pub with_new_file : NamesPart → DirTable → ℕ → NamesPart
+with_new_file n dirs client = record n {
+  dirs = dirs;
+  held = map.insert n.held n.next (with_holder (record unheld { linked = true }) client);
+  bytes = map.insert n.bytes n.next [];
+  next = n.next + 1;
+}
+
+-- the client holds the file, which `trunc` empties
+abbrev pub with_open_file : NamesPart → ℕ → Bool → ℕ → NamesPart
+with_open_file n client trunc file = record n {
+  held = map.insert n.held file (with_holder (holding_of n.held file) client);
+  bytes = if trunc then map.insert n.bytes file [] else n.bytes;
+}
+
+-- the part after an `open` of what was found; where nothing was, these are the directories now
+abbrev pub opened_part : NamesPart → DirTable → ℕ → Bool → Option Found → NamesPart
+opened_part n dirs client trunc None = with_new_file n dirs client
+opened_part n dirs client trunc (Some (Dir i)) = n
+opened_part n dirs client trunc (Some (File f)) = with_open_file n client trunc f
+
+-- ---- answers
+
+-- What a `stat` is answered: the number of a directory's names, or the number of a file's bytes.
+abbrev pub IsStat : NamesPart → Option Found → Reply → Type 0
+IsStat n None r = r ≡ reply.Done
+IsStat n (Some (Dir i)) r = (names : List (List ℕ)) → AreNamesOf (slots_at n.dirs i) names → r ≡ reply.IsDir (length names)
+IsStat n (Some (File f)) r = r ≡ reply.IsFile (length (bytes_of n.bytes f))
+
+-- What a `list` is answered: a directory's names.
+abbrev pub IsList : NamesPart → Option Found → Reply → Type 0
+IsList n (Some (Dir i)) r = (names : List (List ℕ)) × (AreNamesOf (slots_at n.dirs i) names × (r ≡ reply.Names names))
+IsList n _ r = Unit {0}
+
+-- The request is on the path of these names, at which this was found, and isn't refused.
+pub record IsAllowed (t : PosixTree) (ask : Ask) (n : NamesPart) (names : List (List ℕ)) (found : Option Found) : Type 0 where
+  pub part : IsPartOf n t
+  pub asked : IsAsk t ask
+  pub allowed : refusal t ask.client ask.op ≡ None
+  pub path : option_map components (path_asked ask.op) ≡ Some names
+  pub met : found ≡ found_at n.dirs names
+  pub table : IsDirTable n.dirs
+
+-- In each tree of the part a `rename` between paths of these names, whose texts aren't refused, is refused so.
+abbrev pub RefusesRename : NamesPart → List (List ℕ) → List (List ℕ) → Option Errno → Type 0
+RefusesRename n from to r = (t : PosixTree) (old new : List ℕ) → IsPartOf n t → text_refusal old ≡ None → text_refusal new ≡ None → from ≡ components old → to ≡ components new → rename_refusal t.paths old new ≡ r
