@@ -1,14 +1,18 @@
 -- The part of the names, with the bytes of the files; and the trees that it is a part of.
-use Rattle.std.specs.Prelude.{ℕ, ◌≡◌, ◌||◌, Bool, true, false, List, Option, Some, None, is_some, unwrap_or, slice_index_or, slice_set, if◌then◌else◌, replicate}
+use Rattle.std.specs.Prelude.{ℕ, ◌≡◌, ◌||◌, Bool, true, false, List, Option, Some, None, is_some, unwrap_or, slice_index_or, slice_set, if◌then◌else◌, replicate, refl}
 use Rattle.std.specs.List.{list_any}
 use Rattle.std.specs.Ordering.{nat_cmp}
 use Rattle.std.specs.FinMap as map
+use Rattle.std.specs.Coded.{Coded, code_by, coded×, coded_ℕ, coded_list}
 use Rattle.ufs_model.specs.PosixTree.{PosixTree, Paths, Files, IsTree, is_node_of}
 use Rattle.ufs_model.specs.Touched.{holds}
 use Rattle.ufs_model.specs.declared.data.Node.TheVariants as node
+use Rattle.ufs_dirs.specs.Directory.{Directory}
+use Rattle.ufs_layout.specs.DentryForm.{DentryForm}
 use Rattle.ufs_names.specs.DirTable.{DirTable}
 use Rattle.ufs_names.specs.Stands.{Stands}
 use Rattle.ufs_names.specs.declared.holding.Holding.{Holding}
+use Rattle.ufs_names.specs.contracts.holding.Holding as holding
 
 -- ---- who holds a file
 
@@ -53,6 +57,23 @@ pub record NamesPart : Type 0 where
   pub held : Holdings
   -- the next file number
   pub next : ℕ
+
+abbrev pub dentry_code : Coded DentryForm
+dentry_code = code_by (ℕ × (ℕ × List ℕ)) (coded× coded_ℕ (coded× coded_ℕ (coded_list coded_ℕ)))
+    (λ e. (e.inode, (e.kind, e.name))) (λ p. record { inode = p.0; kind = p.1.0; name = p.1.1 }) (λ _. refl)
+
+abbrev pub directory_code : Coded Directory
+directory_code = code_by (List ℕ × List DentryForm) (coded× (coded_list coded_ℕ) (coded_list dentry_code))
+    (λ d. (d.blocks, d.slots)) (λ p. record { blocks = p.0; slots = p.1 }) (λ _. refl)
+
+abbrev pub table_code : Coded DirTable
+table_code = code_by (List Directory × List ℕ) (coded× (coded_list directory_code) (coded_list coded_ℕ))
+    (λ t. (t.dirs, t.free)) (λ p. record { dirs = p.0; free = p.1 }) (λ _. refl)
+
+abbrev pub part_code : Coded NamesPart
+part_code = code_by (DirTable × (Files × (Holdings × ℕ)))
+    (coded× table_code (coded× (map.code coded_ℕ (coded_list coded_ℕ)) (coded× (map.code coded_ℕ holding.the_row.coded) coded_ℕ)))
+    (λ n. (n.dirs, (n.bytes, (n.held, n.next)))) (λ p. record { dirs = p.0; bytes = p.1.0; held = p.1.1.0; next = p.1.1.1 }) (λ _. refl)
 
 -- a file that nothing keeps any more goes, and with it its bytes
 abbrev pub settled : NamesPart → ℕ → Holding → NamesPart

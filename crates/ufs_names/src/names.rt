@@ -25,15 +25,11 @@ pub struct Names {
 }
 
 impl Model for Names {
-    ghost use Rattle.std.specs.FinMap as map;
-    ghost use Rattle.std.specs.Ordering.{nat_cmp};
-    ghost use Rattle.std.specs.Coded.{codes, coded_ℕ, coded_list};
-    ghost use Rattle.ufs_names.specs.NamesPart.{NamesPart};
-    ghost use Rattle.ufs_names.specs.contracts.holding.Holding as holding;
+    ghost use Rattle.ufs_names.specs.NamesPart.{NamesPart, part_code};
 
     ghost Value = { NamesPart };
 
-    ghost coded = { Prim.hlevel (codes, map.code {R = nat_cmp} coded_ℕ (coded_list coded_ℕ), map.code {R = nat_cmp} coded_ℕ holding.the_row.coded) };
+    ghost coded = { part_code };
 
     ghost view = { λ n. record { dirs = n.dirs; bytes = n.bytes; held = n.held; next = n.next } };
 }
