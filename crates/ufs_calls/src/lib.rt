@@ -12,8 +12,8 @@ mod tests;
 pub use file_map::FileMap;
 pub use mode::Mode;
 pub use nodes::{
-    dir_refusal, file_named, file_of, is_below, is_dir, is_file, list_refusal, make_refusal, open_refusal,
-    replace_refusal, rmdir_refusal, stat_refusal, unlink_refusal,
+    dir_refusal, file_named, file_of, is_below, is_dir, is_file, list_refusal, make_refusal,
+    open_refusal, replace_refusal, rmdir_refusal, stat_refusal, unlink_refusal,
 };
 pub use own::{fd_named, own_refusal};
 pub use places::{
