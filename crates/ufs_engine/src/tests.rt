@@ -98,7 +98,12 @@ fn script(alloc: Global, text: &str) -> Result<Script, Fail> {
 fn compare<R: Abort + AllocGlobal>(rt: &R, text: &str) -> Result<u32, Fail> {
     let alloc = rt.alloc();
     let history = serve(alloc, script(alloc, text)?.clients)?;
-    let played = play(alloc, script(alloc, text)?, 0, PlainDisk::new(0, Vec::new(alloc)));
+    let played = play(
+        alloc,
+        script(alloc, text)?,
+        0,
+        PlainDisk::new(0, Vec::new(alloc)),
+    );
     assert!(rt; played.ended == Ok(()));
     let mut plain = history.as_slice().iter();
     let mut done = 0u32;
@@ -132,7 +137,12 @@ fn mixed_requests_have_the_replies_of_the_plain_tree(rt: HostRuntime) -> Result<
 fn transcripts_merge_by_their_tickets(rt: HostRuntime) -> Result<(), Fail> {
     let alloc = rt.alloc();
     let text = "client 0\nmkdir /a\nmkdir /b\nclient 1\nlist /\nclient 2\nend\n";
-    let played = play(alloc, script(alloc, text)?, 0, PlainDisk::new(0, Vec::new(alloc)));
+    let played = play(
+        alloc,
+        script(alloc, text)?,
+        0,
+        PlainDisk::new(0, Vec::new(alloc)),
+    );
     assert!(rt; played.ended != Err(EndFault::Memory));
     assert_eq!(rt; played.told.as_slice().len(), 3);
     let history = played.told.merged(alloc)?;
