@@ -52,7 +52,7 @@ fn request(alloc: Global, state: &mut u64) -> Result<String, AllocError> {
     let here = path(next(state));
     let there = path(next(state));
     let fd = 3 + next(state) % 5;
-    let size = next(state) % 40;
+    let size = 1 + next(state) % 40;
     match kind {
         0 | 1 => format!(in alloc; "mkdir {here}\n"),
         2 => format!(in alloc; "rmdir {here}\n"),
@@ -128,7 +128,7 @@ fn mixed_requests_have_the_replies_of_the_plain_tree(rt: HostRuntime) -> Result<
     for seed in [1, 7, 42] {
         let text = mixed(rt.alloc(), seed)?;
         let done = compare(&rt, text.as_str())?;
-        assert!(rt; done > 200, "{done} requests of seed {seed} were served");
+        assert!(rt; done > 100, "{done} requests of seed {seed} were served");
     }
     Ok(())
 }
