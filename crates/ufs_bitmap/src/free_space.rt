@@ -9,7 +9,8 @@ ghost use Rattle.ufs_bitmap.specs.Space.{Space, IsInside, HasBits, is_between, i
 use crate::word_set::WordSet;
 use std::alloc::Global;
 use std::marker::Model;
-use ufs_extent::{Memory, Run};
+use ufs_base::Memory;
+use ufs_extent::Run;
 
 /// The free blocks among those from `first` up to `blocks`.
 #[derive(Drop)]

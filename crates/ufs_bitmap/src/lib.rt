@@ -7,7 +7,6 @@ mod word_set;
 
 pub use free_space::Bitmap;
 pub use own_pool::Pool;
-pub use ufs_extent::Memory;
 
 #[cfg(test)]
 mod tests;

@@ -7,7 +7,8 @@ ghost use Rattle.ufs_bitmap.specs.Blocks.{HoldsNone, IsLowestRun, run_set};
 use crate::word_set::WordSet;
 use std::alloc::Global;
 use std::marker::Model;
-use ufs_extent::{Memory, Run};
+use ufs_base::Memory;
+use ufs_extent::Run;
 
 /// A set of blocks below 65,536. It is kept as bits, for which all memory is taken when it is made: a tree of runs
 /// would take memory when a run comes back, and `give` may take none.

@@ -7,7 +7,8 @@ ghost use Rattle.ufs_bitmap.specs.Blocks.{HoldsAll, HoldsNone, IsLowestRun, run_
 
 use std::alloc::Global;
 use std::marker::Model;
-use ufs_extent::{Memory, Run};
+use ufs_base::Memory;
+use ufs_extent::Run;
 
 /// 64 blocks a word; the bit is 1 where the block is in the set.
 #[derive(Drop)]

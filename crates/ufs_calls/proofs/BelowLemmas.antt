@@ -2,7 +2,7 @@
 use Rattle.std.proofs.Common.{◌≡◌, ℕ, ◌≤◌, ◌<◌, List, [], ◌∷◌, true, false, ◌&&◌, eqb, length, take, get_or, ap, sym, refl, ◌∙◌, arith}
 use Rattle.std.specs.Str.{bytes_eq}
 use Rattle.ufs_model.specs.Directories.{is_below}
-use Rattle.ufs_model.specs.Facts.Rising.{none_first}
+use Rattle.ufs_model.proofs.Facts.Rising.{none_first}
 
 pub below_short : (dir path : List ℕ) → length path ≤ length dir → false ≡ is_below dir path
 below_short [] [] h = refl

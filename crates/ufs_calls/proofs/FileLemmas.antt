@@ -6,8 +6,8 @@ use Rattle.std.specs.FinMap as map
 use Rattle.std.specs.FinMap.{nat_cmp-IsAntisymmetric}
 use Rattle.ufs_model.specs.PosixTree.{Files}
 use Rattle.ufs_model.specs.FileBytes.{bytes_of}
-use Rattle.ufs_model.specs.Facts.Lookups.{inserted_here}
-use Rattle.ufs_calls.specs.Facts.Inserts.{insert_again, insert_same}
+use Rattle.ufs_model.proofs.Facts.Lookups.{inserted_here}
+use Rattle.ufs_calls.proofs.Facts.Inserts.{insert_again, insert_same}
 
 -- what is there isn't absent
 pub still_there : (bytes taken : Files) (file : ℕ) → taken ≡ map.insert bytes file [] → map.get taken file ≡ None → ⊥

@@ -4,10 +4,11 @@ use Rattle.std.proofs.lemmas.Bool.{ne_eqb}
 use Rattle.std.specs.FinMap as map
 use Rattle.ufs_model.specs.Asks.{fd_asked}
 use Rattle.ufs_model.specs.Descriptors.{Mode, free_from, lowest_free, is_mode}
-use Rattle.ufs_model.specs.Paths.{first_of, refused_if, text_refusal}
+use Rattle.ufs_base.specs.Choices.{first_of, refused_if}
+use Rattle.ufs_model.specs.Paths.{text_refusal}
 use Rattle.ufs_model.specs.PosixTree.{PosixTree, Fds}
 use Rattle.ufs_model.specs.Refusals.{own_refusal}
-use Rattle.ufs_model.specs.Facts.Lookups.{same_some}
+use Rattle.ufs_model.proofs.Facts.Lookups.{same_some}
 use Rattle.ufs_model.specs.declared.data.Op.{Op}
 use Rattle.ufs_model.specs.declared.data.Op.TheVariants as op
 use Rattle.ufs_model.specs.declared.data.Errno.{Errno}

@@ -1,7 +1,7 @@
 // Why a request is refused by what stands at the end of its path, and which file it gives.
 ghost use Rattle.std.specs.Prelude.{◌≡◌, ◌&&◌, not, is_none, is_some};
 ghost use Rattle.ufs_model.specs.Directories as directories;
-ghost use Rattle.ufs_model.specs.Paths.{first_of, refused_if};
+ghost use Rattle.ufs_base.specs.Choices.{first_of, refused_if};
 ghost use Rattle.ufs_model.specs.PosixTree as posix_tree;
 ghost use Rattle.ufs_model.specs.Refusals as refusals;
 ghost use Rattle.ufs_model.specs.Walk as walk;

@@ -6,7 +6,8 @@ ghost use Rattle.ufs_model.specs.Paths as paths;
 ghost use Rattle.ufs_model.specs.declared.data.Errno.TheVariants.{Efbig};
 
 use std::alloc::{AllocError, Global};
-use ufs_model::{Bytes, Desc, Errno, Memory, Whence};
+use ufs_base::Memory;
+use ufs_model::{Bytes, Desc, Errno, Whence};
 use ufs_path::{PathText, path_fault, read_path};
 
 /// The greatest size of a file, in bytes.

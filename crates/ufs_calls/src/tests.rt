@@ -7,7 +7,8 @@ use crate::{
 };
 use std::alloc::Global;
 use std::test::Fail;
-use ufs_model::{Bytes, Desc, Errno, Memory, Node, Op, Whence};
+use ufs_base::Memory;
+use ufs_model::{Bytes, Desc, Errno, Node, Op, Whence};
 
 #[test]
 fn a_file_is_written_cut_and_removed(rt: HostRuntime) -> Result<(), Fail> {

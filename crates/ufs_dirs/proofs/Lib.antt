@@ -11,3 +11,4 @@ pub mod KeptLemmas
 pub mod CodecLemmas
 pub mod ReadLemmas
 pub mod ListedLemmas
+pub mod Facts

@@ -13,7 +13,7 @@ use Rattle.std.proofs.lemmas.Option.{slice_get-get_or}
 use Rattle.std.proofs.lemmas.Slice.Eq.{bytes_eq-Decides}
 use Rattle.ufs_layout.specs.DentryForm.{DentryForm}
 use Rattle.ufs_dirs.specs.Directory.{entry_at, entry_of, name_cmp}
-use Rattle.ufs_dirs.specs.Facts.{same_names_in}
+use Rattle.ufs_dirs.proofs.Facts.{same_names_in}
 use Rattle.ufs_dirs.specs.Index.{IsIndex, ranked}
 use Rattle.ufs_dirs.specs.Names.{AreNamesIn, names_rise}
 use Rattle.ufs_dirs.proofs.NameLemmas.{entry_of-rank}

@@ -3,4 +3,3 @@ pub mod Index
 pub mod Changes
 pub mod Reading
 pub mod Names
-pub mod Facts

@@ -7,9 +7,10 @@ ghost use Rattle.ufs_dirs.specs.Directory.{IsDirectory, entry_at, entry_of, has_
 use crate::codec::put_slots;
 use crate::free::{places_above, put_block};
 use crate::index::{next_rank, search};
-use crate::{BlockFault, MAX_BLOCKS, Memory, NoSlot, SLOTS, Slot, SlotFault};
+use crate::{BlockFault, MAX_BLOCKS, NoSlot, SLOTS, Slot, SlotFault};
 use std::alloc::Global;
 use std::marker::Model;
+use ufs_base::Memory;
 use ufs_layout::{Dentry, get_dentry};
 
 /// The blocks of one directory. Contracts see the list of its blocks, and what stands in their slots, in order.

@@ -9,7 +9,6 @@ mod index;
 mod tests;
 
 pub use dir_blocks::DirBlocks;
-use std::alloc::{AllocError, AllocFailed};
 
 /// The number above every block's.
 pub const MAX_BLOCKS: u32 = 65_536;
@@ -28,10 +27,6 @@ pub struct Slot {
 #[derive(Clone, Copy, Debug, PartialEq, Eq)]
 pub struct NoSlot;
 
-/// Memory ran out.
-#[derive(Clone, Copy, Debug, PartialEq, Eq)]
-pub struct Memory;
-
 /// What is off with a slot that is read.
 #[derive(Clone, Copy, Debug, PartialEq, Eq)]
 pub enum SlotFault {
@@ -48,16 +43,4 @@ pub enum BlockFault {
     NoMemory,
     /// Of the block's slots, 0 to 63, this is the first that is off.
     BadSlot(u8, SlotFault),
-}
-
-impl From<AllocError> for Memory {
-    fn from(_error: AllocError) -> Memory {
-        Memory
-    }
-}
-
-impl<T: Drop> From<AllocFailed<T>> for Memory {
-    fn from(_error: AllocFailed<T>) -> Memory {
-        Memory
-    }
 }

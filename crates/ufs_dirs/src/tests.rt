@@ -1,6 +1,7 @@
 // What no clause says, and each call once.
-use crate::{BlockFault, DirBlocks, MAX_BLOCKS, Memory, Slot, SlotFault};
+use crate::{BlockFault, DirBlocks, MAX_BLOCKS, Slot, SlotFault};
 use std::alloc::Global;
+use ufs_base::Memory;
 use ufs_layout::Dentry;
 
 // Whether the block came in.

@@ -2,7 +2,8 @@
 use Rattle.std.proofs.Common.{◌≡◌, inl, inr, ℕ, zero, suc, ◌+◌, ◌-◌, ◌*◌, ◌≤◌, ◌<◌, List, [], ◌++◌, length, take, drop, get_or, refl, sym, ◌∙◌, ap, arith, length-drop, take-append-drop}
 use Rattle.std.proofs.lemmas.List.{drop-drop, drop_at, take-append-le, drop-append-le, length-take-le, drop-take, take-take}
 use Rattle.std.proofs.lemmas.Bool.{cases_lt}
-use Rattle.ufs_disk.specs.Disk.{Image, put_all, pieces, bytes_from}
+use Rattle.ufs_base.specs.Images.{Image}
+use Rattle.ufs_disk.specs.Disk.{put_all, pieces, bytes_from}
 use Rattle.ufs_disk.specs.Bytes.{image_of}
 use Rattle.ufs_disk.proofs.Images.{put_all_below, put_all_above, put_all_within}
 

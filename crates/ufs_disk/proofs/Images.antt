@@ -3,7 +3,8 @@ use Rattle.std.proofs.Common.{◌≡◌, ◌≢◌, ◌⊎◌, inl, inr, ⊎_eli
 use Rattle.std.proofs.lemmas.List.{take_all, append-nil}
 use Rattle.std.proofs.lemmas.Bool.{cases_eq, eq-eqb, ne_eqb}
 use Rattle.std.specs.Prelude.{if◌then◌else◌, ◌==◌}
-use Rattle.ufs_disk.specs.Disk.{Cell, State, Image, IsAmong, IsImage, IsSettled, possible, seen, Leaves, put, put_all, Mixes, IsMixedFrom, pieces, sectors_of, bytes_from}
+use Rattle.ufs_base.specs.Images.{Image}
+use Rattle.ufs_disk.specs.Disk.{Cell, State, IsAmong, IsImage, IsSettled, possible, seen, Leaves, put, put_all, Mixes, IsMixedFrom, pieces, sectors_of, bytes_from}
 use Rattle.ufs_disk.specs.Calls.{give, settled}
 
 pub if_eq : {A : Type 0} (k s : ℕ) (x y : A) → k ≡ s → (if k == s then x else y) ≡ x

@@ -1,7 +1,8 @@
 -- What a write leaves, sector by sector and image by image.
 use Rattle.std.proofs.Common.{◌≡◌, inl, inr, ⊎_elim, ℕ, zero, suc, ◌+◌, ◌≤◌, ◌<◌, true, List, [], ◌∷◌, length, get_or, refl, sym, ◌∙◌, ap, subst, arith}
 use Rattle.std.proofs.lemmas.Bool.{cases_eq}
-use Rattle.ufs_disk.specs.Disk.{Cell, State, Image, IsImage, Leaves, possible, seen, put, put_all, Mixes, IsMixedFrom}
+use Rattle.ufs_base.specs.Images.{Image}
+use Rattle.ufs_disk.specs.Disk.{Cell, State, IsImage, Leaves, possible, seen, put, put_all, Mixes, IsMixedFrom}
 use Rattle.ufs_disk.specs.Moments.{Moments, moved, reads, LeavesOnly}
 use Rattle.ufs_disk.specs.Calls.{give, settled, written}
 use Rattle.ufs_disk.proofs.Images.{if_eq, if_ne, image_of_give, mixes_with, mixes_without, unmixed, settled_leaves_no_more}

@@ -1,6 +1,7 @@
 -- A whole disk as one list of bytes.
 use Rattle.std.specs.Prelude.{◌≡◌, ◌<◌, ℕ, ◌*◌, List, [], take, drop, slice_index}
-use Rattle.ufs_disk.specs.Disk.{State, Image}
+use Rattle.ufs_base.specs.Images.{Image}
+use Rattle.ufs_disk.specs.Disk.{State}
 use Rattle.ufs_disk.specs.Moments.{Moments}
 
 abbrev pub image_of : List ℕ → Image

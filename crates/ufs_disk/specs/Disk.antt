@@ -1,5 +1,6 @@
 -- What a disk holds: a state gives each sector the contents that a crash may leave in it.
 use Rattle.std.specs.Prelude.{◌≡◌, ◌⊎◌, ◌≤◌, ◌<◌, ℕ, zero, suc, ◌+◌, ◌/◌, ◌%◌, List, [], ◌∷◌, ◌++◌, length, take, drop, slice_index, if◌then◌else◌, ◌==◌}
+use Rattle.ufs_base.specs.Images.{Image}
 
 -- one sector: what a read gives, and what stood there before it since the last barrier that succeeded, oldest first
 pub record Cell : Type 0 where
@@ -9,10 +10,6 @@ pub record Cell : Type 0 where
 -- each sector's cell
 abbrev pub State : Type 0
 State = ℕ → Cell
-
--- one content for each sector
-abbrev pub Image : Type 0
-Image = ℕ → List ℕ
 
 -- what a crash may leave in the sector, oldest first
 abbrev pub possible : Cell → List (List ℕ)

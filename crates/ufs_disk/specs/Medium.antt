@@ -1,7 +1,8 @@
 -- What a medium was and is, by what it held at first and its calls.
 use Rattle.std.specs.Prelude.{ℕ, length}
 use Rattle.ufs_disk.specs.Bytes.{begun}
-use Rattle.ufs_disk.specs.Disk.{State, Image}
+use Rattle.ufs_base.specs.Images.{Image}
+use Rattle.ufs_disk.specs.Disk.{State}
 use Rattle.ufs_disk.specs.Moments.{Moments, reads}
 use Rattle.ufs_disk.specs.Calls.{after_calls}
 use Rattle.ufs_disk.specs.declared.medium.Medium.{Medium}

@@ -1,7 +1,8 @@
 -- The states that a disk was in, and what a crash at one of them leaves.
 use Rattle.std.specs.Prelude.{◌≡◌, Bool, IsTrue, List, [], ◌∷◌, ◌++◌}
 use Rattle.std.specs.List.{AllByRecursion}
-use Rattle.ufs_disk.specs.Disk.{State, Image, Leaves, seen}
+use Rattle.ufs_base.specs.Images.{Image}
+use Rattle.ufs_disk.specs.Disk.{State, Leaves, seen}
 
 -- the state that the disk is in, and those that it was in before, in order
 pub record Moments : Type 0 where

@@ -8,7 +8,7 @@ use Rattle.std.proofs.lemmas.Bool.{cases_eq, ne_eqb}
 use Rattle.std.proofs.lemmas.List.{length-append, append-nil, append_assoc}
 use Rattle.ufs_model.specs.History.{IsLegal, IsLegalFrom, IsInOrder, IsComplete, AreUnexcused, DoTicketsRise, AreTicketsOnce, tickets_of, goes_on, joined, entries_of, requests_of}
 use Rattle.ufs_model.specs.PosixTree.{PosixTree, root_alone}
-use Rattle.ufs_model.specs.Facts.Histories.{order_none}
+use Rattle.ufs_model.proofs.Facts.Histories.{order_none}
 use Rattle.ufs_model.specs.declared.data.Entry.{Entry}
 use Rattle.ufs_model.specs.declared.data.Op.{Op}
 use Rattle.ufs_engine.specs.Played.{transcript, IsMerged}

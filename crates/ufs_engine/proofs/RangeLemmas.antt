@@ -5,7 +5,8 @@ use Rattle.std.specs.FinMap as map
 use Rattle.std.specs.FinMap.{nat_cmp-IsAntisymmetric}
 use Rattle.ufs_model.specs.Asks.{IsDescAfter, fd_named, fd_opened, fd_told}
 use Rattle.ufs_model.specs.Descriptors.{free_from, lowest_free, is_mode}
-use Rattle.ufs_model.specs.Paths.{first_of, refused_if, text_refusal}
+use Rattle.ufs_base.specs.Choices.{first_of, refused_if}
+use Rattle.ufs_model.specs.Paths.{text_refusal}
 use Rattle.ufs_model.specs.Posix.{posix, served, new_fd}
 use Rattle.ufs_model.specs.PosixTree.{PosixTree, Fds, desc_at}
 use Rattle.ufs_model.specs.Refusals.{refusal, own_refusal, tree_refusal, read_refusal, write_refusal, seek_refusal, trunc_refusal}
@@ -16,8 +17,8 @@ use Rattle.ufs_model.specs.declared.data.Op.{Op}
 use Rattle.ufs_model.specs.declared.data.Op.TheVariants as op
 use Rattle.ufs_model.specs.declared.data.Reply.{Reply}
 use Rattle.ufs_model.specs.declared.data.Reply.TheVariants as reply
-use Rattle.ufs_model.specs.Facts.Allowed.{first_none, passed}
-use Rattle.ufs_model.specs.Facts.Lookups.{same_some, there_or_not, one_or_apart}
+use Rattle.ufs_model.proofs.Facts.Allowed.{first_none, passed}
+use Rattle.ufs_model.proofs.Facts.Lookups.{same_some, there_or_not, one_or_apart}
 use Rattle.ufs_engine.specs.Clients.{AreRanged}
 
 -- ---- a descriptor that is given out

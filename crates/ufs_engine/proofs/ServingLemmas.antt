@@ -17,7 +17,7 @@ use Rattle.ufs_model.specs.declared.data.Excuse.TheVariants as excuse
 use Rattle.ufs_model.specs.declared.data.Op.{Op}
 use Rattle.ufs_model.specs.declared.data.Reply.{Reply}
 use Rattle.ufs_model.specs.declared.data.Reply.TheVariants as reply
-use Rattle.ufs_model.specs.Facts.Histories.{tree_after-push, all-push, legal-push, own-push, others-push, order-push}
+use Rattle.ufs_model.proofs.Facts.Histories.{tree_after-push, all-push, legal-push, own-push, others-push, order-push}
 use Rattle.ufs_fds.specs.Descriptors.{Descs, AreOf}
 use Rattle.ufs_engine.specs.Clients.{AreRanged}
 use Rattle.ufs_engine.specs.Serving.{tree_of, IsReached, IsNewcomer, GoesOn, IsDone}

@@ -6,7 +6,7 @@ use Rattle.std.specs.FinMap.{nat_cmp-IsAntisymmetric}
 use Rattle.ufs_model.specs.Asks.{IsDescAfter, desc_of_fd}
 use Rattle.ufs_model.specs.PosixTree.{Fds}
 use Rattle.ufs_model.specs.declared.data.Desc.{Desc}
-use Rattle.ufs_model.specs.Facts.Lookups.{same_some, one_or_apart, inserted_here, inserted_else, removed_here, removed_else}
+use Rattle.ufs_model.proofs.Facts.Lookups.{same_some, one_or_apart, inserted_here, inserted_else, removed_here, removed_else}
 use Rattle.ufs_fds.specs.Descriptors.{Descs, AreOf}
 
 module _ (old new : Fds) (client : ℕ) (table : Descs) (told : Option ℕ) (d : Option Desc) (are : AreOf old client table) (after : IsDescAfter old new client told d) where

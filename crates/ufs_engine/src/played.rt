@@ -3,8 +3,9 @@ ghost use Rattle.std.specs.Prelude.{◌≡◌};
 
 use std::alloc::Global;
 use std::marker::Model;
+use ufs_base::Memory;
 use ufs_disk::Disk;
-use ufs_model::{EntryList, Memory, merge};
+use ufs_model::{EntryList, merge};
 
 /// The clients' transcripts, by their numbers: the entries that answer a client's requests, in its order.
 #[derive(Drop)]

@@ -10,9 +10,10 @@ ghost use Rattle.ufs_engine.specs.Serving.{IsReached, IsNewcomer, GoesOn, IsDone
 use crate::client::{ask, keep};
 use crate::played::{EndFault, Played, ToldLists};
 use std::alloc::Global;
+use ufs_base::Memory;
 use ufs_disk::Disk;
 use ufs_fds::FdTable;
-use ufs_model::{EntryList, Memory, Reply, a_request_makes_one_file_at_most};
+use ufs_model::{EntryList, Reply, a_request_makes_one_file_at_most};
 use ufs_names::Names;
 use ufs_script::{OpList, OpLists, Script};
 

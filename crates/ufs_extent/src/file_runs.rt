@@ -4,9 +4,10 @@ ghost use Rattle.ufs_extent.specs.declared.Run.{Run};
 ghost use Rattle.ufs_extent.specs.Places.{IsPlace, block_count, front_of, without_first};
 ghost use Rattle.ufs_extent.specs.Runs.{IsRun, blocks_in, blocks_of, next_block, appended, appended_all, first_runs, last_runs};
 
-use crate::{Full56, MAX_EXTENTS, Memory, Run, Runs};
+use crate::{Full56, MAX_EXTENTS, Run, Runs};
 use std::alloc::Global;
 use std::marker::Model;
+use ufs_base::Memory;
 
 /// A list of blocks, kept as at most 56 runs. Contracts see the runs, and `blocks_of` them is the list.
 #[derive(Drop)]

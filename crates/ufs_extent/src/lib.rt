@@ -8,7 +8,6 @@ mod run_list;
 
 pub use file_runs::Extents;
 pub use run_list::Runs;
-use std::alloc::{AllocError, AllocFailed};
 
 /// How many extents an inode has room for.
 pub const MAX_EXTENTS: usize = 56;
@@ -33,22 +32,6 @@ impl Run {
     {
         let Run { start, length } = *self;
         length >= 1 && length <= MAX_BLOCKS && start <= MAX_BLOCKS - length
-    }
-}
-
-/// Memory ran out.
-#[derive(Clone, Copy, Debug, PartialEq, Eq)]
-pub struct Memory;
-
-impl From<AllocError> for Memory {
-    fn from(_error: AllocError) -> Memory {
-        Memory
-    }
-}
-
-impl<T: Drop> From<AllocFailed<T>> for Memory {
-    fn from(_error: AllocFailed<T>) -> Memory {
-        Memory
     }
 }
 

@@ -2,9 +2,10 @@
 ghost use Rattle.std.specs.Prelude.{◌≡◌, [], ◌∷◌, ◌++◌, All, OnOk, OnErr};
 ghost use Rattle.ufs_extent.specs.Runs.{IsRun};
 
-use crate::{Memory, Run};
+use crate::Run;
 use std::alloc::Global;
 use std::marker::Model;
+use ufs_base::Memory;
 
 /// Runs in order.
 #[derive(Drop)]

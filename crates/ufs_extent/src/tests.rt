@@ -1,5 +1,6 @@
-use crate::{Extents, Full56, Memory, Run, Runs};
+use crate::{Extents, Full56, Run, Runs};
 use std::test::Fail;
+use ufs_base::Memory;
 
 const FILE: [Run; 3] = [
     Run {

@@ -6,9 +6,9 @@ use Rattle.ufs_model.specs.Asks.{file_in}
 use Rattle.ufs_model.specs.PosixTree.{Fds, is_number, is_desc_of}
 use Rattle.ufs_model.specs.Touched.{holds}
 use Rattle.ufs_model.specs.declared.data.Desc.{Desc}
-use Rattle.ufs_model.specs.Facts.Orders.{fd_total, fd_same}
-use Rattle.ufs_model.specs.Facts.Lookups.{removed_else, left_was}
-use Rattle.ufs_model.specs.Facts.Held.{held, holder}
+use Rattle.ufs_model.proofs.Facts.Orders.{fd_total, fd_same}
+use Rattle.ufs_model.proofs.Facts.Lookups.{removed_else, left_was}
+use Rattle.ufs_model.proofs.Facts.Held.{held, holder}
 use Rattle.ufs_fds.specs.Descriptors.{Descs, AreOf, AreInRange}
 
 -- no other descriptor below this one is of the file

@@ -5,8 +5,6 @@ pub mod Extents
 pub mod InodeForms
 pub mod DentryForms
 pub mod Ranges
-pub mod NewBitmap
-pub mod NewImage
 mod SpelledOnce
 mod Vectors
 pub mod RecordForms

@@ -6,7 +6,8 @@ use Rattle.std.specs.Bool.{Decides}
 use Rattle.std.specs.Str.{bytes_eq}
 use Rattle.std.proofs.lemmas.Slice.Eq.{bytes_eq-Decides}
 use Rattle.std.proofs.lemmas.List.{append-nil, append_assoc, drop_all, drop_at, length-append, length-drop}
-use Rattle.ufs_layout.specs.Words.{some_if, byte_at, number_at}
+use Rattle.ufs_base.specs.Choices.{some_if}
+use Rattle.ufs_layout.specs.Words.{byte_at, number_at}
 use Rattle.ufs_layout.specs.Records.{record_bytes, records_bytes, first_record, record_by_tag, and_more, record_fields, spelled_in, leading_record, is_record, records_of}
 use Rattle.ufs_layout.specs.declared.records.LogRecord.{LogRecord}
 use Rattle.ufs_layout.specs.declared.records.LogRecord.TheVariants.{Free}

@@ -6,7 +6,7 @@ use Rattle.ufs_layout.specs.Superblock.{super_bytes, super_of}
 use Rattle.ufs_layout.specs.DentryForm.{dentry_of, free_slot}
 use Rattle.ufs_layout.specs.Records.{record_bytes, records_bytes, records_of}
 use Rattle.ufs_layout.specs.JournalSector.{JournalSector, HasRecords, journal_of, journal_bytes}
-use Rattle.ufs_layout.specs.Formatted.{new_super}
+use Rattle.ufs_layout.specs.Superblock.{new_super}
 use Rattle.ufs_layout.specs.declared.geometry.Geometry.{Geometry}
 use Rattle.ufs_layout.specs.declared.records.LogRecord.{LogRecord}
 use Rattle.ufs_layout.specs.declared.records.LogRecord.TheVariants.{Delta, Place}

@@ -1,7 +1,7 @@
 -- Where everything lies in an image, by the three numbers of its geometry.
 use Rattle.std.specs.Prelude.{ℕ, ◌+◌, ◌-◌, ◌*◌, ◌/◌, ◌<◌, ◌≤◌, List, Bool, ◌&&◌, not, nat_lt, nat_le, Option}
 use Rattle.std.specs.List.{range_with_len}
-use Rattle.ufs_layout.specs.Words.{first_of, refused_if}
+use Rattle.ufs_base.specs.Choices.{first_of, refused_if}
 use Rattle.ufs_layout.specs.declared.geometry.Geometry.{Geometry}
 use Rattle.ufs_layout.specs.declared.geometry.BadGeometry.{BadGeometry}
 use Rattle.ufs_layout.specs.declared.geometry.BadGeometry.TheVariants.{Blocks, Inodes, Journal, NoData}

@@ -7,14 +7,3 @@ pub mod DentryForm
 pub mod JournalHead
 pub mod Records
 pub mod JournalSector
-pub mod Images
-pub mod Journal
-pub mod BadSectors
-pub mod Fold
-pub mod Nodes
-pub mod Damage
-pub mod Volume
-pub mod Opens
-pub mod Proper
-pub mod Formatted
-pub mod Laws

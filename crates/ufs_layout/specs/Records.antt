@@ -2,7 +2,8 @@
 use Rattle.std.specs.Prelude.{ℕ, zero, suc, ◌+◌, ◌*◌, ◌<◌, ◌≤◌, ◌^◌, List, [], ◌∷◌, ◌++◌, length, take, drop, Bool, true, ◌&&◌, nat_le, Option, Some, None, flat_map}
 use Rattle.std.specs.List.{list_all, AllByRecursion}
 use Rattle.std.specs.Str.{bytes_eq}
-use Rattle.ufs_layout.specs.Words.{number_at, byte_at, some_if, spelled}
+use Rattle.ufs_base.specs.Choices.{some_if}
+use Rattle.ufs_layout.specs.Words.{number_at, byte_at, spelled}
 use Rattle.ufs_layout.specs.InodeForm.{extent_bytes, extents_at, is_extent, FitsExtent}
 use Rattle.ufs_layout.specs.DentryForm.{dentry_bytes, dentry_fields, is_dentry}
 use Rattle.byteorder.specs.Endian.{little_bytes}

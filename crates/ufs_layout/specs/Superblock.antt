@@ -1,5 +1,5 @@
 -- The one spelling of a superblock.
-use Rattle.std.specs.Prelude.{ℕ, List, [], ◌∷◌, ◌++◌, Bool, ◌==◌, ◌&&◌, nat_le, if◌then◌else◌, Option, codes}
+use Rattle.std.specs.Prelude.{ℕ, List, [], ◌∷◌, ◌++◌, Bool, ◌==◌, ◌&&◌, nat_le, if◌then◌else◌, Option, codes, true}
 use Rattle.ufs_layout.specs.Words.{number_at, byte_at, filled_to, spelled}
 use Rattle.byteorder.specs.Endian.{little_bytes}
 use Rattle.ufs_layout.specs.declared.geometry.Geometry.{Geometry}
@@ -44,3 +44,7 @@ super_of version = spelled super_fields super_bytes (is_super version)
 
 abbrev pub geometry_of : Super → Geometry
 geometry_of s = record { blocks = s.blocks; inodes = s.inodes; journal = s.journal }
+
+-- the superblock of a new image: epoch and commit numbers begin at 1
+abbrev pub new_super : Geometry → Super
+new_super g = record { version = 1; blocks = g.blocks; inodes = g.inodes; journal = g.journal; epoch = 1; next = 1; clean = true }

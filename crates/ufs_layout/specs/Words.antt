@@ -1,8 +1,9 @@
 -- Words of all forms: numbers and zeros among bytes, the value that bytes spell, the first refusal.
-use Rattle.std.specs.Prelude.{ℕ, zero, suc, ◌-◌, ◌<◌, ◌≤◌, List, [], ◌∷◌, ◌++◌, length, take, drop, replicate, slice_index, Bool, ◌==◌, nat_le, if◌then◌else◌, Option, Some, None, ◌&&◌, ◌≡◌}
+use Rattle.std.specs.Prelude.{ℕ, zero, suc, ◌-◌, ◌<◌, ◌≤◌, List, [], ◌∷◌, ◌++◌, length, take, drop, replicate, slice_index, Bool, ◌==◌, nat_le, if◌then◌else◌, Option, ◌&&◌, ◌≡◌}
 use Rattle.std.specs.List.{list_all}
 use Rattle.std.specs.Str.{bytes_eq}
 use Rattle.byteorder.specs.Endian.{little_number}
+use Rattle.ufs_base.specs.Choices.{some_if}
 
 -- the little-endian number of so many bytes that stands at this place
 abbrev pub number_at : ℕ → ℕ → List ℕ → ℕ
@@ -43,22 +44,9 @@ pieces (suc count) size bytes = take size bytes ∷ pieces count size (drop size
 abbrev pub IsBytes : List ℕ → Type 0
 IsBytes bytes = (i : ℕ) → slice_index bytes i < 256
 
--- the value where the test holds
-abbrev pub some_if : {X : Type 0} → Bool → X → Option X
-some_if test x = if test then Some x else None
-
 -- The value whose spelling the bytes are: the fields of any bytes give one, and its spelling has to be these bytes.
 abbrev pub spelled : {X : Type 0} → (List ℕ → X) → (X → List ℕ) → (X → Bool) → List ℕ → Option X
 spelled fields spelling is_form bytes = let v = fields bytes in some_if (is_form v && bytes_eq (spelling v) bytes) v
-
--- the left refusal, or else the right one
-abbrev pub first_of : {X : Type 0} → Option X → Option X → Option X
-first_of None next = next
-first_of (Some x) next = Some x
-
--- a refusal where the test holds
-abbrev pub refused_if : {X : Type 0} → Bool → X → Option X
-refused_if test x = some_if test x
 
 -- put into a list that rises by a number, before those with the same one
 abbrev pub placed_by : {X : Type 0} → (X → ℕ) → X → List X → List X

@@ -1,7 +1,8 @@
 // Pieces of a form: numbers, zeros, and bytes put in their place.
 ghost use Rattle.std.specs.Prelude.{◌≡◌, ◌+◌, ◌≤◌, ◌++◌, ◌&&◌, length, take, drop, replicate};
 ghost use Rattle.byteorder.specs.Endian.{little_bytes};
-ghost use Rattle.ufs_layout.specs.Words.{number_at, is_zeros, some_if};
+ghost use Rattle.ufs_base.specs.Choices.{some_if};
+ghost use Rattle.ufs_layout.specs.Words.{number_at, is_zeros};
 
 use byteorder::{ByteOrder, LittleEndian};
 

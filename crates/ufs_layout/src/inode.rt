@@ -1,7 +1,8 @@
 // Inodes and their extents.
 ghost use Rattle.std.specs.Prelude.{◌≡◌, ◌*◌, ◌+◌, ◌≤◌, ◌++◌, ◌∷◌, ◌&&◌, ◌==◌, ◌||◌, length, take, drop, replicate, flat_map, IsTrue, IfSome, Some, nat_le, not};
 ghost use Rattle.std.specs.List.{list_all, AllByRecursion};
-ghost use Rattle.ufs_layout.specs.Words.{number_at, is_zeros, padded, filled_to, some_if};
+ghost use Rattle.ufs_base.specs.Choices.{some_if};
+ghost use Rattle.ufs_layout.specs.Words.{number_at, is_zeros, padded, filled_to};
 ghost use Rattle.ufs_layout.specs.InodeForm.{extent_bytes, extent_fields, extents_at, is_extent, FitsExtent, inode_bytes, inode_of, is_inode, no_extent, links_of_kind};
 ghost use Rattle.byteorder.specs.Endian.{little_bytes};
 

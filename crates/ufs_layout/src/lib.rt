@@ -1,4 +1,4 @@
-//! The layout of an image: its areas, the one spelling of each form, what an image stands for, and its damage.
+//! The layout of an image: its areas, and the one spelling of each form.
 #![tactic(auto)]
 
 mod bytes;
@@ -6,7 +6,6 @@ mod dentry;
 mod geometry;
 mod header;
 mod inode;
-mod laws;
 mod record_codec;
 mod record_decode;
 mod records;
@@ -18,7 +17,6 @@ pub use dentry::{Dentry, get_dentry, put_dentry};
 pub use geometry::{BadGeometry, Geometry};
 pub use header::{Header, get_header, put_header};
 pub use inode::{Extent, Inode, get_inode, put_inode};
-pub use laws::{empty_fold_law, new_image_law};
 pub use record_codec::{count_fitting, put_records, record_length};
 pub use record_decode::get_records;
 pub use records::{Committed, CommittedList, ExtentList, LogRecord, Records};

@@ -1,7 +1,8 @@
 // Records read from a journal sector's content.
 ghost use Rattle.std.specs.Prelude.{◌≡◌, ◌+◌, ◌*◌, ◌≤◌, ◌<◌, ◌&&◌, length, IfOk, IfSome, IsTrue, nat_le};
 ghost use Rattle.std.specs.List.{list_all};
-ghost use Rattle.ufs_layout.specs.Words.{byte_at, some_if};
+ghost use Rattle.ufs_base.specs.Choices.{some_if};
+ghost use Rattle.ufs_layout.specs.Words.{byte_at};
 ghost use Rattle.ufs_layout.specs.InodeForm.{extents_at, is_extent};
 ghost use Rattle.ufs_layout.specs.Records.{leading_record, records_of, records_bytes, is_record};
 

@@ -1,7 +1,8 @@
 // The superblock.
 ghost use Rattle.std.specs.Prelude.{◌≡◌, ◌≤◌, ◌++◌, ◌∷◌, [], length, IsTrue, IfSome, Some, take, drop, nat_le, ◌&&◌};
 ghost use Rattle.ufs_layout.specs.Superblock.{super_bytes, super_fields, super_of, is_super, clean_byte, magic};
-ghost use Rattle.ufs_layout.specs.Words.{byte_at, is_zeros, filled_to, some_if};
+ghost use Rattle.ufs_base.specs.Choices.{some_if};
+ghost use Rattle.ufs_layout.specs.Words.{byte_at, is_zeros, filled_to};
 ghost use Rattle.std.specs.Str.{bytes_eq};
 ghost use Rattle.byteorder.specs.Endian.{little_bytes};
 

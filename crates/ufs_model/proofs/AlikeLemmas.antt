@@ -14,9 +14,9 @@ use Rattle.ufs_model.specs.Laws.{AgreeOn}
 use Rattle.ufs_model.specs.declared.data.Desc.{Desc}
 use Rattle.ufs_model.specs.declared.data.PartName.{PartName}
 use Rattle.ufs_model.specs.declared.data.PartName.TheVariants as part
-use Rattle.ufs_model.specs.Facts.Orders.{fd_total}
-use Rattle.ufs_model.specs.Facts.Lookups.{inserted_else, removed_else}
-use Rattle.ufs_model.specs.Facts.Held.{holds_by, open_by, put_elsewhere, gone_elsewhere}
+use Rattle.ufs_model.proofs.Facts.Orders.{fd_total}
+use Rattle.ufs_model.proofs.Facts.Lookups.{inserted_else, removed_else}
+use Rattle.ufs_model.proofs.Facts.Held.{holds_by, open_by, put_elsewhere, gone_elsewhere}
 
 -- ---- descriptors
 

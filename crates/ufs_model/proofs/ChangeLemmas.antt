@@ -15,7 +15,7 @@ use Rattle.ufs_model.specs.declared.data.Node.{Node}
 use Rattle.ufs_model.specs.declared.data.Node.TheVariants.{Dir, File}
 use Rattle.ufs_model.specs.declared.data.PartName.{PartName}
 use Rattle.ufs_model.specs.declared.data.PartName.TheVariants as name
-use Rattle.ufs_model.specs.Facts.Held.{moved_holds}
+use Rattle.ufs_model.proofs.Facts.Held.{moved_holds}
 use Rattle.ufs_model.proofs.AlikeLemmas.{FdsAlike, fds_stay, fds_put, holds_after, live_alike, BytesAlike, bytes_stay, bytes_put, bytes_dropped, NamesAlike, Alike}
 use Rattle.ufs_model.proofs.ToldLemmas.{new_fd_same}
 

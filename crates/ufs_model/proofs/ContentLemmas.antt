@@ -16,10 +16,10 @@ use Rattle.ufs_model.specs.declared.data.Node.{Node}
 use Rattle.ufs_model.specs.declared.data.Node.TheVariants.{Dir, File}
 use Rattle.ufs_model.specs.declared.data.PathNode.{PathNode}
 use Rattle.ufs_model.specs.declared.data.PathNode.TheVariants as path_node
-use Rattle.ufs_model.specs.Facts.Orders.{path_total, path_same}
-use Rattle.ufs_model.specs.Facts.Rising.{entries-rise, less}
-use Rattle.ufs_model.specs.Facts.Lookups.{tied}
-use Rattle.ufs_model.specs.Facts.Starts.{Pairs, is_within, stands-paths_from, held-bytes_from, tie}
+use Rattle.ufs_model.proofs.Facts.Orders.{path_total, path_same}
+use Rattle.ufs_model.proofs.Facts.Rising.{entries-rise, less}
+use Rattle.ufs_model.proofs.Facts.Lookups.{tied}
+use Rattle.ufs_model.proofs.Facts.Starts.{Pairs, is_within, stands-paths_from, held-bytes_from, tie}
 
 -- as `content_of`, by a list of bytes
 shown : List (ℕ × List ℕ) → Option Node → Option PathNode

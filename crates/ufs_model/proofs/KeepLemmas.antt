@@ -1,7 +1,8 @@
 -- A request leaves a tree a tree.
 use Rattle.std.proofs.Common.{◌≡◌, ℕ, zero, suc, ◌+◌, inl, inr, List, [], Bool, true, false, cond, not, eqb, length, Option, Some, None, is_some, is_none, unwrap_or, ap, sym, refl, subst, ◌∙◌}
 use Rattle.std.specs.FinMap as map
-use Rattle.ufs_model.specs.Paths.{components, whole_of, parent_of, text_refusal, refused_if, has_component, is_root}
+use Rattle.ufs_base.specs.Choices.{refused_if}
+use Rattle.ufs_model.specs.Paths.{components, whole_of, parent_of, text_refusal, has_component, is_root}
 use Rattle.ufs_model.specs.PosixTree.{PosixTree, Fds, IsTree, desc_at, stands, has_dir, root}
 use Rattle.ufs_model.specs.Walk.{walk_refusal, node_at, is_file}
 use Rattle.ufs_model.specs.Directories.{has_entries}
@@ -17,10 +18,10 @@ use Rattle.ufs_model.specs.declared.data.Node.{Node}
 use Rattle.ufs_model.specs.declared.data.Node.TheVariants.{Dir, File}
 use Rattle.ufs_model.specs.declared.data.Op.{Op}
 use Rattle.ufs_model.specs.declared.data.Op.TheVariants as op
-use Rattle.ufs_model.specs.Facts.Lookups.{same_some}
-use Rattle.ufs_model.specs.Facts.Walks.{entry_there, parent_is_dir}
-use Rattle.ufs_model.specs.Facts.Allowed.{first_none, passed, names_of_whole, whole_is}
-use Rattle.ufs_model.specs.Facts.Live.{HasBytes, bytes_there, held_has, keeps_bytes, keeps_fd, keeps_closed, forget_lost}
+use Rattle.ufs_model.proofs.Facts.Lookups.{same_some}
+use Rattle.ufs_model.proofs.Facts.Walks.{entry_there, parent_is_dir}
+use Rattle.ufs_model.proofs.Facts.Allowed.{first_none, passed, names_of_whole, whole_is}
+use Rattle.ufs_model.proofs.Facts.Live.{HasBytes, bytes_there, held_has, keeps_bytes, keeps_fd, keeps_closed, forget_lost}
 use Rattle.ufs_model.proofs.NamespaceLemmas.{keeps_new_dir, keeps_new_file, keeps_without}
 use Rattle.ufs_model.proofs.NewNameLemmas.{keeps_renamed}
 

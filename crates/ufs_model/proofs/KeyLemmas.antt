@@ -7,8 +7,8 @@ use Rattle.std.specs.declared.cmp.Ordering.TheVariants.{Less, Equal, Greater}
 use Rattle.std.specs.Ordering.{is_lt, is_ge}
 use Rattle.std.specs.FinMap.{is_sorted}
 use Rattle.ufs_model.specs.Order.{path_cmp}
-use Rattle.ufs_model.specs.Facts.Orders.{path_total}
-use Rattle.ufs_model.specs.Facts.Rising.{rises, rises_on}
+use Rattle.ufs_model.proofs.Facts.Orders.{path_total}
+use Rattle.ufs_model.proofs.Facts.Rising.{rises, rises_on}
 
 not_less : (r : Ordering) → is_ge r ≡ true → is_lt r ≡ false
 not_less Less e = cc

@@ -2,7 +2,8 @@
 use Rattle.std.proofs.Common.{◌≡◌, ℕ, ◌+◌, List, [], ◌∷◌, true, false, cond, Option, Some, None, ap, sym, refl, ◌∙◌, subst, inl, inr, length, eqb}
 use Rattle.std.specs.Prelude.{is_some, is_none, unwrap_or}
 use Rattle.std.specs.FinMap as fin
-use Rattle.ufs_model.specs.Paths.{whole_of, first_of, refused_if, is_root}
+use Rattle.ufs_base.specs.Choices.{first_of, refused_if}
+use Rattle.ufs_model.specs.Paths.{whole_of, is_root}
 use Rattle.ufs_model.specs.PosixTree.{PosixTree, Paths, desc_at}
 use Rattle.ufs_model.specs.Walk.{node_at, file_of, is_file, walk_refusal}
 use Rattle.ufs_model.specs.Directories.{has_entries}
@@ -21,7 +22,7 @@ use Rattle.ufs_model.specs.declared.data.Op.{Op}
 use Rattle.ufs_model.specs.declared.data.Op.TheVariants as op
 use Rattle.ufs_model.specs.declared.data.PartName.{PartName}
 use Rattle.ufs_model.specs.declared.data.PartName.TheVariants as name
-use Rattle.ufs_model.specs.Facts.Allowed.{first_none, passed}
+use Rattle.ufs_model.proofs.Facts.Allowed.{first_none, passed}
 use Rattle.ufs_model.proofs.AlikeLemmas.{fds_stay, fds_gone, Alike, touched_alike, others_alike}
 use Rattle.ufs_model.proofs.ToldLemmas.{own_same, opened_same, bytes_same, tree_same, offset_same, answer_same}
 use Rattle.ufs_model.proofs.ChangeLemmas.{with_names, nothing, bytes_and_fd, bytes_alone, fd_alone, forgotten, open_alike, rename_alike}

@@ -9,10 +9,10 @@ use Rattle.ufs_model.specs.Posix.{with_file, without_path}
 use Rattle.ufs_model.specs.Walk.{file_of}
 use Rattle.ufs_model.specs.declared.data.Node.{Node}
 use Rattle.ufs_model.specs.declared.data.Node.TheVariants.{Dir, File}
-use Rattle.ufs_model.specs.Facts.Orders.{path_total, path_same}
-use Rattle.ufs_model.specs.Facts.Lookups.{same_some, from_some, one_or_apart, inserted_here, inserted_else, removed_else, left_was}
-use Rattle.ufs_model.specs.Facts.Walks.{is_dir-some}
-use Rattle.ufs_model.specs.Facts.Live.{Named, Held, HasBytes, bytes_there, from_held, held_has, has_held, keeps_paths, forget_lost}
+use Rattle.ufs_model.proofs.Facts.Orders.{path_total, path_same}
+use Rattle.ufs_model.proofs.Facts.Lookups.{same_some, from_some, one_or_apart, inserted_here, inserted_else, removed_else, left_was}
+use Rattle.ufs_model.proofs.Facts.Walks.{is_dir-some}
+use Rattle.ufs_model.proofs.Facts.Live.{Named, Held, HasBytes, bytes_there, from_held, held_has, has_held, keeps_paths, forget_lost}
 
 -- ---- a path comes
 

@@ -4,7 +4,8 @@ use Rattle.std.proofs.Common.{◌≡◌, ℕ, List, [], ◌∷◌, ◌++◌, Boo
 use Rattle.std.proofs.lemmas.Bool.{and_from}
 use Rattle.std.proofs.lemmas.List.{append-nil}
 use Rattle.std.specs.FinMap as map
-use Rattle.ufs_model.specs.Paths.{components, whole_path, whole_of, text_refusal, components_refusal, refused_if, first_of, has_component, is_root}
+use Rattle.ufs_base.specs.Choices.{refused_if, first_of}
+use Rattle.ufs_model.specs.Paths.{components, whole_path, whole_of, text_refusal, components_refusal, has_component, is_root}
 use Rattle.ufs_model.specs.PosixTree.{PosixTree, Paths, IsTree, IsNamespace, stands, has_dir, is_live}
 use Rattle.ufs_model.specs.Walk.{walk_refusal, node_at, is_file, file_of}
 use Rattle.ufs_model.specs.Directories.{has_entries, is_below, renamed}
@@ -15,12 +16,12 @@ use Rattle.ufs_model.specs.declared.data.Errno.{Errno}
 use Rattle.ufs_model.specs.declared.data.Errno.TheVariants.{Einval, Eisdir, Enotdir, Ebusy, Enoent}
 use Rattle.ufs_model.specs.declared.data.Reply.TheVariants.{Done}
 use Rattle.ufs_model.specs.declared.data.Op.TheVariants as op
-use Rattle.ufs_model.specs.Facts.Lookups.{from_some}
-use Rattle.ufs_model.specs.Facts.Pieces.{ArePlain, components_plain, plain_append, plain_front, same_bytes, bytes_same, below_names, front_of, last}
-use Rattle.ufs_model.specs.Facts.Walks.{dir_above, entry_above, dir_stands, dir_of_path}
-use Rattle.ufs_model.specs.Facts.Allowed.{first_none, passed, names_allowed}
-use Rattle.ufs_model.specs.Facts.Live.{keeps_paths, forget_lost}
-use Rattle.ufs_model.specs.Facts.Renames.{MayRename, namespace_now, named_before, named_after, at_new_name, at_old_name, not_below, no_entries}
+use Rattle.ufs_model.proofs.Facts.Lookups.{from_some}
+use Rattle.ufs_model.proofs.Facts.Pieces.{ArePlain, components_plain, plain_append, plain_front, same_bytes, bytes_same, below_names, front_of, last}
+use Rattle.ufs_model.proofs.Facts.Walks.{dir_above, entry_above, dir_stands, dir_of_path}
+use Rattle.ufs_model.proofs.Facts.Allowed.{first_none, passed, names_allowed}
+use Rattle.ufs_model.proofs.Facts.Live.{keeps_paths, forget_lost}
+use Rattle.ufs_model.proofs.Facts.Renames.{MayRename, namespace_now, named_before, named_after, at_new_name, at_old_name, not_below, no_entries}
 
 -- What a `rename` that isn't refused finds, in the names of its two paths.
 record IsAllowed (paths : Paths) (old new : List (List ℕ)) : Type 0 where

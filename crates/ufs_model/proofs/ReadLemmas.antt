@@ -6,7 +6,7 @@ use Rattle.std.specs.Prelude.{is_none, unwrap_or}
 use Rattle.std.specs.Cmp.{nat_cmp_total}
 use Rattle.std.specs.FinMap as fin
 use Rattle.std.specs.FinMap.{nat_cmp-IsAntisymmetric}
-use Rattle.ufs_model.specs.Paths.{first_of, refused_if}
+use Rattle.ufs_base.specs.Choices.{first_of, refused_if}
 use Rattle.ufs_model.specs.PosixTree.{PosixTree, desc_at}
 use Rattle.ufs_model.specs.Descriptors.{opened, closed, moved}
 use Rattle.ufs_model.specs.FileBytes.{content, part, put_at, place_of}
@@ -19,9 +19,9 @@ use Rattle.ufs_model.specs.declared.data.Errno.TheVariants.{Ebadf, Eisdir}
 use Rattle.ufs_model.specs.declared.data.Op.{Op}
 use Rattle.ufs_model.specs.declared.data.Op.TheVariants as op
 use Rattle.ufs_model.specs.declared.data.Reply.TheVariants.{Count, Got}
-use Rattle.ufs_model.specs.Facts.Orders.{fd_total, fd_same}
-use Rattle.ufs_model.specs.Facts.Allowed.{first_none}
-use Rattle.ufs_model.specs.Facts.Lookups.{inserted_here}
+use Rattle.ufs_model.proofs.Facts.Orders.{fd_total, fd_same}
+use Rattle.ufs_model.proofs.Facts.Allowed.{first_none}
+use Rattle.ufs_model.proofs.Facts.Lookups.{inserted_here}
 use Rattle.ufs_model.proofs.LocalLemmas.{write_open}
 
 -- ---- bytes

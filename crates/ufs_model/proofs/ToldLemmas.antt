@@ -2,7 +2,8 @@
 use Rattle.std.proofs.Common.{◌≡◌, ℕ, ◌+◌, List, [], ◌∷◌, cond, not, Option, Some, None, ap, refl, ◌∙◌, inl, inr, zero, suc, length}
 use Rattle.std.specs.Prelude.{is_some, is_none, unwrap_or, ℤ}
 use Rattle.std.specs.FinMap as fin
-use Rattle.ufs_model.specs.Paths.{text_refusal, whole_of, first_of, refused_if}
+use Rattle.ufs_base.specs.Choices.{first_of, refused_if}
+use Rattle.ufs_model.specs.Paths.{text_refusal, whole_of}
 use Rattle.ufs_model.specs.PosixTree.{PosixTree, Paths, Files, desc_at}
 use Rattle.ufs_model.specs.Walk.{walk_refusal, node_at, file_of}
 use Rattle.ufs_model.specs.Directories.{entry_count, entry_names}

@@ -1,7 +1,7 @@
 -- What a server is told with a request, and what it tells of the request's descriptor.
 use Rattle.std.specs.Prelude.{ℕ, ◌≡◌, ◌≢◌, ◌⊎◌, Bool, false, not, Option, Some, None, unwrap_or}
 use Rattle.std.specs.FinMap as map
-use Rattle.ufs_model.specs.PosixTree.{PosixTree, Fds, desc_at}
+use Rattle.ufs_model.specs.PosixTree.{PosixTree, Fds}
 use Rattle.ufs_model.specs.Descriptors.{lowest_free}
 use Rattle.ufs_model.specs.Touched.{holds}
 use Rattle.ufs_model.specs.declared.data.Op.{Op}

@@ -17,4 +17,3 @@ pub mod Asks
 pub mod Start
 pub mod PathEntries
 pub mod Laws
-pub mod Facts

@@ -2,7 +2,8 @@
 use Rattle.std.specs.Prelude.{ℕ, List, ◌&&◌, ◌||◌, not, nat_lt, length, Option, Some, None, is_some, is_none}
 use Rattle.std.specs.Str.{bytes_eq}
 use Rattle.std.specs.FinMap as map
-use Rattle.ufs_model.specs.Paths.{text_refusal, whole_of, is_root, first_of, refused_if}
+use Rattle.ufs_base.specs.Choices.{first_of, refused_if}
+use Rattle.ufs_model.specs.Paths.{text_refusal, whole_of, is_root}
 use Rattle.ufs_model.specs.PosixTree.{PosixTree, Paths, desc_at, is_dir}
 use Rattle.ufs_model.specs.Walk.{walk_refusal, node_at, is_file}
 use Rattle.ufs_model.specs.Directories.{has_entries, is_below}

@@ -1,7 +1,8 @@
 -- The walk along a path's components, and what stands at its end.
 use Rattle.std.specs.Prelude.{ℕ, List, [], ◌∷◌, ◌++◌, Bool, true, false, Option, Some, None}
 use Rattle.std.specs.FinMap as map
-use Rattle.ufs_model.specs.Paths.{components, text_refusal, whole_path, whole_of, first_of}
+use Rattle.ufs_base.specs.Choices.{first_of}
+use Rattle.ufs_model.specs.Paths.{components, text_refusal, whole_path, whole_of}
 use Rattle.ufs_model.specs.PosixTree.{Paths}
 use Rattle.ufs_model.specs.declared.data.Errno.{Errno}
 use Rattle.ufs_model.specs.declared.data.Errno.TheVariants.{Enoent, Enotdir}

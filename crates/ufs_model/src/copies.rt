@@ -1,10 +1,10 @@
 // Copies of what entries have in them, which take memory.
 ghost use Rattle.std.specs.Prelude.{◌≡◌, IfOk};
 
-use crate::Memory;
 use crate::data::{Entry, Op, Reply};
 use crate::lists::{Bytes, NameList};
 use std::alloc::Global;
+use ufs_base::Memory;
 
 impl Bytes {
     /// Takes as much memory as it has.

@@ -3,10 +3,10 @@ ghost use Rattle.std.specs.Prelude.{◌≡◌, ◌++◌, OnOk, IfOk};
 ghost use Rattle.std.specs.List.Sorted.{IsPermutation};
 ghost use Rattle.ufs_model.specs.History.{DoTicketsRise, AreTicketsOnce, joined};
 
-use crate::Memory;
 use crate::data::Entry;
 use crate::lists::EntryList;
 use std::alloc::Global;
+use ufs_base::Memory;
 
 // Adds copies of a list's entries.
 fn push_copies(alloc: Global, all: &mut Vec<Entry>, list: &EntryList) -> Result<(), Memory>

@@ -5,11 +5,11 @@ ghost use Rattle.ufs_model.specs.PathEntries.{pairs_of, are_rising, nodes_of};
 ghost use Rattle.ufs_model.specs.PosixTree.{root_alone};
 ghost use Rattle.ufs_model.specs.Start.{IsPathTree, path_root, start_of};
 
-use crate::Memory;
 use crate::data::{PathEntry, PathNode};
 use crate::lists::Bytes;
 use std::alloc::Global;
 use std::marker::Model;
+use ufs_base::Memory;
 
 /// Whole paths, each with what stands there: a directory, or a file's bytes.
 #[derive(Drop)]

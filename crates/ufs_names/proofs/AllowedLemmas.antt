@@ -3,7 +3,8 @@ use Rattle.std.proofs.Common.{◌≡◌, ℕ, ◌+◌, zero, suc, List, [], ◌�
 use Rattle.std.proofs.lemmas.Bool.{and_from}
 use Rattle.std.proofs.lemmas.List.{append-nil}
 use Rattle.std.specs.FinMap as map
-use Rattle.ufs_model.specs.Paths.{components, text_refusal, refused_if, first_of, whole_path, whole_of, has_component, is_root}
+use Rattle.ufs_base.specs.Choices.{refused_if, first_of}
+use Rattle.ufs_model.specs.Paths.{components, text_refusal, whole_path, whole_of, has_component, is_root}
 use Rattle.ufs_model.specs.PosixTree.{PosixTree, Paths, Fds, IsTree, IsNamespace, stands, has_dir, is_dir}
 use Rattle.ufs_model.specs.Walk.{walk_refusal, node_at, is_file}
 use Rattle.ufs_model.specs.Directories.{has_entries, is_below}
@@ -15,11 +16,11 @@ use Rattle.ufs_model.specs.declared.data.Errno.TheVariants.{Einval, Ebusy, Eisdi
 use Rattle.ufs_model.specs.declared.data.Node.{Node}
 use Rattle.ufs_model.specs.declared.data.Node.TheVariants.{Dir, File}
 use Rattle.ufs_model.specs.declared.data.Op.TheVariants as op
-use Rattle.ufs_model.specs.Facts.Lookups.{same_some}
-use Rattle.ufs_model.specs.Facts.Pieces.{ArePlain, plain_append, plain_front, same_bytes, below_names, front_of, last}
-use Rattle.ufs_model.specs.Facts.Walks.{dir_above, dir_stands, dir_of_path, entry_above}
-use Rattle.ufs_model.specs.Facts.Allowed.{first_none, passed}
-use Rattle.ufs_model.specs.Facts.Renames.{MayRename}
+use Rattle.ufs_model.proofs.Facts.Lookups.{same_some}
+use Rattle.ufs_model.proofs.Facts.Pieces.{ArePlain, plain_append, plain_front, same_bytes, below_names, front_of, last}
+use Rattle.ufs_model.proofs.Facts.Walks.{dir_above, dir_stands, dir_of_path, entry_above}
+use Rattle.ufs_model.proofs.Facts.Allowed.{first_none, passed}
+use Rattle.ufs_model.proofs.Facts.Renames.{MayRename}
 use Rattle.ufs_names.proofs.NameLists.{AreNames, names_of}
 
 pub missing : {A : Type 0} (o : Option A) → is_some o ≡ false → o ≡ None

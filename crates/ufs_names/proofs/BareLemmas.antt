@@ -6,7 +6,7 @@ use Rattle.std.specs.List.{count_by}
 use Rattle.std.specs.Str.{bytes_eq}
 use Rattle.ufs_layout.specs.DentryForm.{DentryForm, is_named}
 use Rattle.ufs_dirs.specs.Directory.{entry_of, has_name}
-use Rattle.ufs_model.specs.Facts.Pieces.{bytes_same}
+use Rattle.ufs_model.proofs.Facts.Pieces.{bytes_same}
 use Rattle.ufs_names.specs.DirCalls.{IsBare}
 
 no_name : (slots : List DentryForm) (name : List ℕ) → length (filter is_named slots) ≡ 0 → entry_of slots name ≡ None

@@ -2,7 +2,7 @@
 use Rattle.std.proofs.Common.{◌≡◌, ℕ, zero, suc, ◌<◌, ◌⊎◌, inl, inr, List, [], ◌∷◌, Bool, true, false, cond, not, length, Option, Some, None, is_none, unwrap_or, arith, ap, refl, sym, subst, ◌∙◌}
 use Rattle.std.specs.Prelude.{slice_index_or}
 use Rattle.std.specs.FinMap as map
-use Rattle.ufs_model.specs.Paths.{refused_if}
+use Rattle.ufs_base.specs.Choices.{refused_if}
 use Rattle.ufs_model.specs.PosixTree.{PosixTree, IsTree, desc_at, is_live, is_number}
 use Rattle.ufs_model.specs.Touched.{holds}
 use Rattle.ufs_model.specs.Descriptors.{closed}
@@ -15,10 +15,10 @@ use Rattle.ufs_model.specs.declared.data.Desc.{Desc}
 use Rattle.ufs_model.specs.declared.data.Errno.TheVariants.{Ebadf}
 use Rattle.ufs_model.specs.declared.data.Op.{Op}
 use Rattle.ufs_model.specs.declared.data.Op.TheVariants as op
-use Rattle.ufs_model.specs.Facts.Lookups.{same_some}
-use Rattle.ufs_model.specs.Facts.Live.{held_live, number_is, is_itself}
-use Rattle.ufs_model.specs.Facts.Allowed.{first_none, passed}
-use Rattle.ufs_model.specs.Facts.Held.{holder, held}
+use Rattle.ufs_model.proofs.Facts.Lookups.{same_some}
+use Rattle.ufs_model.proofs.Facts.Live.{held_live, number_is, is_itself}
+use Rattle.ufs_model.proofs.Facts.Allowed.{first_none, passed}
+use Rattle.ufs_model.proofs.Facts.Held.{holder, held}
 use Rattle.ufs_names.specs.NamesPart.{NamesPart, IsPartOf, holding_of, without_holder, settled}
 use Rattle.ufs_names.specs.Calls.{desc_or_closed, let_go}
 use Rattle.ufs_names.proofs.LinkLemmas.{number_apart}

@@ -11,7 +11,7 @@ use Rattle.ufs_model.specs.Refusals.{refusal}
 use Rattle.ufs_model.specs.declared.data.Node.{Node}
 use Rattle.ufs_model.specs.declared.data.Node.TheVariants.{Dir, File}
 use Rattle.ufs_model.specs.declared.data.Op.TheVariants as op
-use Rattle.ufs_model.specs.Facts.Walks.{is_dir-some, dir_of_path}
+use Rattle.ufs_model.proofs.Facts.Walks.{is_dir-some, dir_of_path}
 use Rattle.ufs_names.specs.DirTable.{DirTable, found_at, node_at, node_of}
 use Rattle.ufs_names.specs.DirCalls.{names_above, MayGo, MayMove}
 use Rattle.ufs_names.specs.NamesPart.{NamesPart, IsPartOf}

@@ -16,8 +16,8 @@ use Rattle.ufs_model.specs.declared.data.Node.{Node}
 use Rattle.ufs_model.specs.declared.data.Node.TheVariants.{Dir, File}
 use Rattle.ufs_model.specs.declared.data.Op.{Op}
 use Rattle.ufs_model.specs.declared.data.Op.TheVariants as op
-use Rattle.ufs_model.specs.Facts.Orders.{fd_total, fd_same}
-use Rattle.ufs_model.specs.Facts.Lookups.{inserted_else, removed_else}
+use Rattle.ufs_model.proofs.Facts.Orders.{fd_total, fd_same}
+use Rattle.ufs_model.proofs.Facts.Lookups.{inserted_else, removed_else}
 
 module _ (client : ℕ) (fd : ℕ) (c n : ℕ) (apart : (c ≢ client) ⊎ (Some fd ≢ Some n)) where
   key_apart : ◌≡◌ {A = ℕ × ℕ} (c, n) (client, fd) → ⊥

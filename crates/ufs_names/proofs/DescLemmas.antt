@@ -11,10 +11,10 @@ use Rattle.ufs_model.specs.FileBytes.{content, put_at, resized}
 use Rattle.ufs_model.specs.Posix.{with_bytes, with_fd, written}
 use Rattle.ufs_model.specs.Asks.{IsDescAfter, desc_of_fd}
 use Rattle.ufs_model.specs.declared.data.Desc.{Desc}
-use Rattle.ufs_model.specs.Facts.Lookups.{same_some, inserted_here}
-use Rattle.ufs_model.specs.Facts.Live.{held_has}
-use Rattle.ufs_model.specs.Facts.Orders.{fd_total, fd_same}
-use Rattle.ufs_model.specs.Facts.Held.{file_at, holds_by, open_by}
+use Rattle.ufs_model.proofs.Facts.Lookups.{same_some, inserted_here}
+use Rattle.ufs_model.proofs.Facts.Live.{held_has}
+use Rattle.ufs_model.proofs.Facts.Orders.{fd_total, fd_same}
+use Rattle.ufs_model.proofs.Facts.Held.{file_at, holds_by, open_by}
 use Rattle.ufs_names.specs.Stands.{Stands}
 use Rattle.ufs_names.specs.NamesPart.{NamesPart, IsPartOf, IsNamedOnce}
 use Rattle.ufs_names.specs.Calls.{desc_or_closed, bytes_written, bytes_resized}

@@ -9,11 +9,12 @@ use Rattle.std.proofs.lemmas.List.{length-map}
 use Rattle.ufs_layout.specs.DentryForm.{DentryForm}
 use Rattle.ufs_dirs.specs.Directory.{entry_of}
 use Rattle.ufs_model.specs.Directories.{is_entry_of, entry_names, entry_paths, entry_count, has_entries}
-use Rattle.ufs_model.specs.Facts.Allowed.{allowed_append, allowed_back, first_none}
-use Rattle.ufs_model.specs.Facts.Lookups.{key_passes, passing_key}
-use Rattle.ufs_model.specs.Facts.Orders.{path_total, path_same}
-use Rattle.ufs_model.specs.Facts.Pieces.{ArePlain, IsPlain, plain_append, plain_back, components_plain, bytes_same, same_bytes}
-use Rattle.ufs_model.specs.Paths.{component_refusal, components_refusal, whole_path, first_of}
+use Rattle.ufs_model.proofs.Facts.Allowed.{allowed_append, allowed_back, first_none}
+use Rattle.ufs_model.proofs.Facts.Lookups.{key_passes, passing_key}
+use Rattle.ufs_model.proofs.Facts.Orders.{path_total, path_same}
+use Rattle.ufs_model.proofs.Facts.Pieces.{ArePlain, IsPlain, plain_append, plain_back, components_plain, bytes_same, same_bytes}
+use Rattle.ufs_base.specs.Choices.{first_of}
+use Rattle.ufs_model.specs.Paths.{component_refusal, components_refusal, whole_path}
 use Rattle.ufs_model.specs.PosixTree.{Paths, IsNamespace, stands, has_dir}
 use Rattle.ufs_model.specs.declared.data.Errno.{Errno}
 use Rattle.ufs_names.specs.DirCalls.{AreNamesOf, IsBare}

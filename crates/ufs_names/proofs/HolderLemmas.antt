@@ -7,10 +7,10 @@ use Rattle.std.proofs.lemmas.List.{get_or-set_same, get_or-set_other}
 use Rattle.ufs_model.specs.PosixTree.{Paths, Fds, is_live, is_desc_of, is_number}
 use Rattle.ufs_model.specs.Touched.{holds}
 use Rattle.ufs_model.specs.declared.data.Desc.{Desc}
-use Rattle.ufs_model.specs.Facts.Orders.{fd_total, fd_same}
-use Rattle.ufs_model.specs.Facts.Lookups.{same_some, one_or_apart, inserted_here, inserted_else, removed_else, left_was, passes, from_passes}
-use Rattle.ufs_model.specs.Facts.Live.{alike, is_itself, number_is}
-use Rattle.ufs_model.specs.Facts.Held.{Holder, holder, held}
+use Rattle.ufs_model.proofs.Facts.Orders.{fd_total, fd_same}
+use Rattle.ufs_model.proofs.Facts.Lookups.{same_some, one_or_apart, inserted_here, inserted_else, removed_else, left_was, passes, from_passes}
+use Rattle.ufs_model.proofs.Facts.Live.{alike, is_itself, number_is}
+use Rattle.ufs_model.proofs.Facts.Held.{Holder, holder, held}
 use Rattle.ufs_names.specs.NamesPart.{is_kept}
 use Rattle.ufs_names.specs.declared.holding.Holding.{Holding}
 use Rattle.ufs_names.proofs.LinkLemmas.{is_named}

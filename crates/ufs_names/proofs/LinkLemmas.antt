@@ -11,10 +11,10 @@ use Rattle.ufs_model.specs.Walk.{file_of}
 use Rattle.ufs_model.specs.Directories.{renamed}
 use Rattle.ufs_model.specs.declared.data.Node.{Node}
 use Rattle.ufs_model.specs.declared.data.Node.TheVariants.{Dir, File}
-use Rattle.ufs_model.specs.Facts.Orders.{path_total, path_same}
-use Rattle.ufs_model.specs.Facts.Lookups.{one_or_apart, inserted_here, inserted_else, removed_here, removed_else, left_was, passes, from_passes}
-use Rattle.ufs_model.specs.Facts.Live.{Named, node_is, is_itself, alike}
-use Rattle.ufs_model.specs.Facts.Renames.{MayRename, was, named_before, named_after}
+use Rattle.ufs_model.proofs.Facts.Orders.{path_total, path_same}
+use Rattle.ufs_model.proofs.Facts.Lookups.{one_or_apart, inserted_here, inserted_else, removed_here, removed_else, left_was, passes, from_passes}
+use Rattle.ufs_model.proofs.Facts.Live.{Named, node_is, is_itself, alike}
+use Rattle.ufs_model.proofs.Facts.Renames.{MayRename, was, named_before, named_after}
 use Rattle.ufs_names.specs.NamesPart.{IsNamedOnce, Holdings, holding_of, unheld}
 use Rattle.ufs_names.specs.declared.holding.Holding.{Holding}
 use Rattle.ufs_names.proofs.OnceLemmas.{put_or_stood}

@@ -1,6 +1,6 @@
 -- The list of a directory's names.
 use Rattle.std.proofs.Common.{◌≡◌, ℕ, List, [], refl}
-use Rattle.ufs_dirs.specs.Facts.{same_names_in}
+use Rattle.ufs_dirs.proofs.Facts.{same_names_in}
 use Rattle.ufs_dirs.specs.Names.{AreNamesIn}
 use Rattle.ufs_layout.specs.DentryForm.{DentryForm}
 use Rattle.ufs_names.specs.DirCalls.{AreNamesOf}

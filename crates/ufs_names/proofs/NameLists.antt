@@ -1,9 +1,10 @@
 -- Lists of names that spell a whole path.
 use Rattle.std.proofs.Common.{◌≡◌, ℕ, List, [], ◌∷◌, ◌++◌, Option, None, ap, refl, ◌∙◌}
-use Rattle.ufs_model.specs.Paths.{components, components_refusal, text_refusal, first_of}
+use Rattle.ufs_base.specs.Choices.{first_of}
+use Rattle.ufs_model.specs.Paths.{components, components_refusal, text_refusal}
 use Rattle.ufs_model.specs.declared.data.Errno.{Errno}
-use Rattle.ufs_model.specs.Facts.Pieces.{ArePlain, components_plain, plain_append, plain_front, plain_back}
-use Rattle.ufs_model.specs.Facts.Allowed.{first_none, names_allowed, allowed_append, allowed_back}
+use Rattle.ufs_model.proofs.Facts.Pieces.{ArePlain, components_plain, plain_append, plain_front, plain_back}
+use Rattle.ufs_model.proofs.Facts.Allowed.{first_none, names_allowed, allowed_append, allowed_back}
 
 -- each may stand in a path, and has bytes
 pub record AreNames (names : List (List ℕ)) : Type 0 where

@@ -5,7 +5,7 @@ use Rattle.std.proofs.lemmas.List.{append-nil}
 use Rattle.ufs_layout.specs.DentryForm.{DentryForm}
 use Rattle.ufs_dirs.specs.Directory.{Directory, entry_of}
 use Rattle.ufs_model.specs.declared.data.Node.TheVariants as node
-use Rattle.ufs_model.specs.Facts.Pieces.{last}
+use Rattle.ufs_model.proofs.Facts.Pieces.{last}
 use Rattle.ufs_names.specs.DirTable.{DirTable, IsDirTable, slots_at, found_of, walk_from, found_at, node_of, node_at}
 use Rattle.ufs_names.specs.DirCalls.{names_above, IsBare, MayGo, SetsNode}
 use Rattle.ufs_names.specs.DirEdits.{SetsEntry, SameEntries, IsLoose}

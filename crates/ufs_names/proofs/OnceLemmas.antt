@@ -6,10 +6,10 @@ use Rattle.ufs_model.specs.PosixTree.{PosixTree, Paths, IsTree}
 use Rattle.ufs_model.specs.Directories.{renamed, renamed_path}
 use Rattle.ufs_model.specs.declared.data.Node.{Node}
 use Rattle.ufs_model.specs.declared.data.Node.TheVariants.{Dir, File}
-use Rattle.ufs_model.specs.Facts.Orders.{path_total, path_same}
-use Rattle.ufs_model.specs.Facts.Lookups.{same_some, one_or_apart, inserted_here, inserted_else, left_was}
-use Rattle.ufs_model.specs.Facts.Live.{held_has}
-use Rattle.ufs_model.specs.Facts.Renames.{MayRename, was}
+use Rattle.ufs_model.proofs.Facts.Orders.{path_total, path_same}
+use Rattle.ufs_model.proofs.Facts.Lookups.{same_some, one_or_apart, inserted_here, inserted_else, left_was}
+use Rattle.ufs_model.proofs.Facts.Live.{held_has}
+use Rattle.ufs_model.proofs.Facts.Renames.{MayRename, was}
 use Rattle.ufs_names.specs.NamesPart.{IsNamedOnce}
 
 -- what stands now stood, or is what came

@@ -2,7 +2,7 @@
 use Rattle.std.proofs.Common.{◌≡◌, ℕ, ◌⊎◌, Bool, true, false, cond, Option, Some, None, is_none, unwrap_or, ap, refl, sym, subst, ◌∙◌}
 use Rattle.std.specs.Prelude.{IsTrue}
 use Rattle.std.specs.FinMap as map
-use Rattle.ufs_model.specs.Paths.{first_of, refused_if}
+use Rattle.ufs_base.specs.Choices.{first_of, refused_if}
 use Rattle.ufs_model.specs.PosixTree.{PosixTree, Files, desc_at, is_live}
 use Rattle.ufs_model.specs.Descriptors.{closed, opened}
 use Rattle.ufs_model.specs.FileBytes.{content, part, place_of}
@@ -18,9 +18,9 @@ use Rattle.ufs_model.specs.declared.data.Errno.TheVariants.{Ebadf}
 use Rattle.ufs_model.specs.declared.data.Op.{Op}
 use Rattle.ufs_model.specs.declared.data.Op.TheVariants as op
 use Rattle.ufs_model.specs.declared.data.Reply.{Reply}
-use Rattle.ufs_model.specs.Facts.Allowed.{first_none}
-use Rattle.ufs_model.specs.Facts.Lookups.{removed_here}
-use Rattle.ufs_model.specs.Facts.Orders.{fd_total, fd_same}
+use Rattle.ufs_model.proofs.Facts.Allowed.{first_none}
+use Rattle.ufs_model.proofs.Facts.Lookups.{removed_here}
+use Rattle.ufs_model.proofs.Facts.Orders.{fd_total, fd_same}
 use Rattle.ufs_names.specs.NamesPart.{NamesPart, IsPartOf}
 use Rattle.ufs_names.specs.Calls.{IsServed, names_no_path, desc_or_closed, place_refusal, open_answer, desc_after, part_after}
 use Rattle.ufs_names.proofs.PartLemmas.{tree_after}

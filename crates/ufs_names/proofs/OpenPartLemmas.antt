@@ -16,9 +16,9 @@ use Rattle.ufs_model.specs.Laws.{KeepsTrees}
 use Rattle.ufs_model.specs.declared.data.Node.{Node}
 use Rattle.ufs_model.specs.declared.data.Node.TheVariants.{Dir, File}
 use Rattle.ufs_model.specs.declared.data.Op.TheVariants as op
-use Rattle.ufs_model.specs.Facts.Lookups.{same_some, inserted_else}
-use Rattle.ufs_model.specs.Facts.Live.{held_has, number_is}
-use Rattle.ufs_model.specs.Facts.Held.{holder}
+use Rattle.ufs_model.proofs.Facts.Lookups.{same_some, inserted_else}
+use Rattle.ufs_model.proofs.Facts.Live.{held_has, number_is}
+use Rattle.ufs_model.proofs.Facts.Held.{holder}
 use Rattle.ufs_names.specs.DirTable.{DirTable, node_at}
 use Rattle.ufs_names.specs.DirCalls.{SetsNode}
 use Rattle.ufs_names.specs.NamesPart.{NamesPart, IsPartOf, holding_of, is_kept, unheld, with_holder}

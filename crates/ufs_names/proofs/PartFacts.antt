@@ -5,7 +5,7 @@ use Rattle.std.specs.FinMap as map
 use Rattle.ufs_model.specs.Paths.{whole_path}
 use Rattle.ufs_model.specs.PosixTree.{PosixTree, Files, is_live}
 use Rattle.ufs_model.specs.declared.data.Node.TheVariants.{File}
-use Rattle.ufs_model.specs.Facts.Live.{held_has}
+use Rattle.ufs_model.proofs.Facts.Live.{held_has}
 use Rattle.ufs_names.specs.DirTable.{node_at}
 use Rattle.ufs_names.specs.NamesPart.{NamesPart, IsPartOf, holding_of, is_kept}
 use Rattle.ufs_names.proofs.NameLists.{AreNames}

@@ -12,8 +12,8 @@ use Rattle.ufs_model.specs.declared.data.Errno.{Errno}
 use Rattle.ufs_model.specs.declared.data.Op.{Op}
 use Rattle.ufs_model.specs.declared.data.Op.TheVariants as op
 use Rattle.ufs_model.specs.declared.data.Node.TheVariants.{Dir}
-use Rattle.ufs_model.specs.Facts.Pieces.{bytes_same}
-use Rattle.ufs_model.specs.Facts.Renames.{MayRename}
+use Rattle.ufs_model.proofs.Facts.Pieces.{bytes_same}
+use Rattle.ufs_model.proofs.Facts.Renames.{MayRename}
 use Rattle.ufs_names.specs.DirTable.{DirTable, node_at}
 use Rattle.ufs_names.specs.DirCalls.{SetsNode, MovesNodes}
 use Rattle.ufs_names.specs.NamesPart.{NamesPart, IsPartOf, settled_node}

@@ -14,7 +14,7 @@ use Rattle.ufs_model.specs.declared.data.Ask.{Ask}
 use Rattle.ufs_model.specs.declared.data.Op.TheVariants as op
 use Rattle.ufs_model.specs.declared.data.Reply.{Reply}
 use Rattle.ufs_model.specs.declared.data.Reply.TheVariants as reply
-use Rattle.ufs_model.specs.Facts.Allowed.{first_none}
+use Rattle.ufs_model.proofs.Facts.Allowed.{first_none}
 use Rattle.ufs_names.specs.DirTable.{node_of}
 use Rattle.ufs_names.specs.NamesPart.{NamesPart}
 use Rattle.ufs_names.specs.PathCalls.{IsAllowed, IsStat, IsList}

@@ -11,8 +11,8 @@ use Rattle.ufs_model.specs.Refusals.{refusal}
 use Rattle.ufs_model.specs.Walk as walk
 use Rattle.ufs_model.specs.Walk.{file_of}
 use Rattle.ufs_model.specs.Laws.{KeepsTrees}
-use Rattle.ufs_model.specs.Facts.Orders.{fd_total, fd_same}
-use Rattle.ufs_model.specs.Facts.Lookups.{same_some, inserted_here}
+use Rattle.ufs_model.proofs.Facts.Orders.{fd_total, fd_same}
+use Rattle.ufs_model.proofs.Facts.Lookups.{same_some, inserted_here}
 use Rattle.ufs_model.specs.declared.data.Ask.{Ask}
 use Rattle.ufs_model.specs.declared.data.Desc.{Desc}
 use Rattle.ufs_model.specs.declared.data.Node.{Node}

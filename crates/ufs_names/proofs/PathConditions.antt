@@ -4,7 +4,8 @@ use Rattle.std.specs.Prelude.{IsSome, is_none}
 use Rattle.std.specs.Option.{option_map}
 use Rattle.std.specs.FinMap as map
 use Rattle.ufs_model.specs.Directories.{has_entries}
-use Rattle.ufs_model.specs.Paths.{components, text_refusal, refused_if, whole_path, whole_of, is_root}
+use Rattle.ufs_base.specs.Choices.{refused_if}
+use Rattle.ufs_model.specs.Paths.{components, text_refusal, whole_path, whole_of, is_root}
 use Rattle.ufs_model.specs.PosixTree.{PosixTree}
 use Rattle.ufs_model.specs.Walk as walk
 use Rattle.ufs_model.specs.Walk.{walk_refusal, is_file}
@@ -14,8 +15,8 @@ use Rattle.ufs_model.specs.declared.data.Errno.TheVariants.{Ebusy, Enoent, Enotd
 use Rattle.ufs_model.specs.declared.data.Node.TheVariants as node
 use Rattle.ufs_model.specs.declared.data.Op.{Op}
 use Rattle.ufs_model.specs.declared.data.Op.TheVariants as op
-use Rattle.ufs_model.specs.Facts.Allowed.{first_none, passed}
-use Rattle.ufs_model.specs.Facts.Lookups.{same_some}
+use Rattle.ufs_model.proofs.Facts.Allowed.{first_none, passed}
+use Rattle.ufs_model.proofs.Facts.Lookups.{same_some}
 use Rattle.ufs_names.specs.DirTable.{slots_at, found_at, node_at, node_of}
 use Rattle.ufs_names.specs.DirCalls.{IsBare, MayGo}
 use Rattle.ufs_names.specs.NamesPart.{NamesPart}

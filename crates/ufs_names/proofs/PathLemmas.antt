@@ -9,10 +9,10 @@ use Rattle.std.specs.FinMap.Entries.{below_all}
 use Rattle.std.specs.List.{list_any, AllByRecursion}
 use Rattle.std.specs.Ordering.{eq_by_cmp, is_lt, ordering_then}
 use Rattle.ufs_model.specs.Directories.{is_entry_of, last_name, entry_names}
-use Rattle.ufs_model.specs.Facts.Orders.{path_total}
-use Rattle.ufs_model.specs.Facts.Pieces.{ArePlain, bytes_same, same_bytes, same_names, components_plain, components_of, front_of, front_last, last, parent_is, plain_take, whole_path-append}
-use Rattle.ufs_model.specs.Facts.Rising.{entries-rise}
-use Rattle.ufs_model.specs.Facts.Walks.{no_names}
+use Rattle.ufs_model.proofs.Facts.Orders.{path_total}
+use Rattle.ufs_model.proofs.Facts.Pieces.{ArePlain, bytes_same, same_bytes, same_names, components_plain, components_of, front_of, front_last, last, parent_is, plain_take, whole_path-append}
+use Rattle.ufs_model.proofs.Facts.Rising.{entries-rise}
+use Rattle.ufs_model.proofs.Facts.Walks.{no_names}
 use Rattle.ufs_model.specs.Order.{path_cmp, names_rise}
 use Rattle.ufs_model.specs.Paths.{IsWhole, components, whole_path, parent_of}
 use Rattle.ufs_model.specs.PosixTree.{Paths, stands, root}

@@ -2,7 +2,8 @@
 use Rattle.std.proofs.Common.{◌≡◌, ◌↔◌, ℕ, List, [], ◌∷◌, Bool, true, false, not, Option, Some, None, IsTrue, ap, refl, sym, subst, ◌∙◌}
 use Rattle.std.specs.Option.{option_map}
 use Rattle.ufs_model.specs.Directories.{has_entries}
-use Rattle.ufs_model.specs.Paths.{components, text_refusal, refused_if, first_of, whole_path, whole_of, has_component, is_root}
+use Rattle.ufs_base.specs.Choices.{refused_if, first_of}
+use Rattle.ufs_model.specs.Paths.{components, text_refusal, whole_path, whole_of, has_component, is_root}
 use Rattle.ufs_model.specs.PosixTree.{PosixTree}
 use Rattle.ufs_model.specs.Walk as walk
 use Rattle.ufs_model.specs.Walk.{walk_refusal}
@@ -14,8 +15,8 @@ use Rattle.ufs_model.specs.declared.data.Node.{Node}
 use Rattle.ufs_model.specs.declared.data.Node.TheVariants as node
 use Rattle.ufs_model.specs.declared.data.Op.{Op}
 use Rattle.ufs_model.specs.declared.data.Op.TheVariants as op
-use Rattle.ufs_model.specs.Facts.Allowed.{first_none}
-use Rattle.ufs_model.specs.Facts.Lookups.{same_some}
+use Rattle.ufs_model.proofs.Facts.Allowed.{first_none}
+use Rattle.ufs_model.proofs.Facts.Lookups.{same_some}
 use Rattle.ufs_names.specs.DirTable.{IsDirTable, slots_at, found_at, node_at, node_of}
 use Rattle.ufs_names.specs.DirCalls.{refusal_by, IsBare}
 use Rattle.ufs_names.specs.NamesPart.{NamesPart, IsPartOf}

@@ -1,6 +1,6 @@
 -- Whether each name but the last leads to a directory, name by name.
 use Rattle.std.proofs.Common.{◌≡◌, ℕ, zero, suc, ◌+◌, ◌-◌, ◌≤◌, ◌<◌, List, [], ◌∷◌, ◌++◌, Option, None, length, take, drop, ap, sym, refl, ◌∙◌, arith, append-nil, append_assoc, length-drop}
-use Rattle.ufs_model.specs.Paths.{first_of}
+use Rattle.ufs_base.specs.Choices.{first_of}
 use Rattle.ufs_model.specs.Walk.{dir_refusal}
 use Rattle.ufs_model.specs.declared.data.Errno.{Errno}
 use Rattle.ufs_names.specs.DirCalls.{Nodes, refusal_by}

@@ -4,7 +4,8 @@ use Rattle.std.specs.Prelude.{is_none}
 use Rattle.std.specs.Option.{option_map}
 use Rattle.std.specs.FinMap as map
 use Rattle.ufs_model.specs.Directories.{has_entries, is_below}
-use Rattle.ufs_model.specs.Paths.{components, text_refusal, whole_path, refused_if, first_of, has_component}
+use Rattle.ufs_base.specs.Choices.{refused_if, first_of}
+use Rattle.ufs_model.specs.Paths.{components, text_refusal, whole_path, has_component}
 use Rattle.ufs_model.specs.PosixTree.{PosixTree, is_dir}
 use Rattle.ufs_model.specs.Walk.{walk_refusal_from, is_file}
 use Rattle.ufs_model.specs.Refusals.{rename_refusal, replace_refusal}

@@ -4,15 +4,16 @@ use Rattle.std.specs.Prelude.{IsSome}
 use Rattle.std.specs.Option.{option_map}
 use Rattle.std.specs.FinMap as map
 use Rattle.ufs_model.specs.Directories.{has_entries}
-use Rattle.ufs_model.specs.Paths.{components, text_refusal, whole_path, whole_of, first_of}
+use Rattle.ufs_base.specs.Choices.{first_of}
+use Rattle.ufs_model.specs.Paths.{components, text_refusal, whole_path, whole_of}
 use Rattle.ufs_model.specs.PosixTree.{PosixTree, has_dir, is_dir}
 use Rattle.ufs_model.specs.Posix.{answer, change}
 use Rattle.ufs_model.specs.Refusals.{own_refusal, rename_refusal, refusal}
 use Rattle.ufs_model.specs.Walk.{file_of}
 use Rattle.ufs_model.specs.Laws.{KeepsTrees}
-use Rattle.ufs_model.specs.Facts.Allowed.{first_none}
-use Rattle.ufs_model.specs.Facts.Orders.{path_total, path_same}
-use Rattle.ufs_model.specs.Facts.Lookups.{one_or_apart}
+use Rattle.ufs_model.proofs.Facts.Allowed.{first_none}
+use Rattle.ufs_model.proofs.Facts.Orders.{path_total, path_same}
+use Rattle.ufs_model.proofs.Facts.Lookups.{one_or_apart}
 use Rattle.ufs_model.specs.declared.data.Ask.{Ask}
 use Rattle.ufs_model.specs.declared.data.Errno.{Errno}
 use Rattle.ufs_model.specs.declared.data.Op.TheVariants as op

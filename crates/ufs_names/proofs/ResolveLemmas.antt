@@ -3,13 +3,14 @@ use Rattle.std.proofs.Common.{◌≡◌, ℕ, List, [], Option, Some, None, ap, 
 use Rattle.std.specs.Prelude.{is_none}
 use Rattle.std.specs.Option.{option_map}
 use Rattle.std.specs.FinMap as map
-use Rattle.ufs_model.specs.Paths.{IsWhole, components, components_refusal, whole_path, first_of, refused_if}
+use Rattle.ufs_base.specs.Choices.{first_of, refused_if}
+use Rattle.ufs_model.specs.Paths.{IsWhole, components, components_refusal, whole_path}
 use Rattle.ufs_model.specs.PosixTree.{PosixTree}
 use Rattle.ufs_model.specs.Walk.{walk_refusal_from}
 use Rattle.ufs_model.specs.declared.data.Errno.{Errno}
 use Rattle.ufs_model.specs.declared.data.Errno.TheVariants.{Enoent}
 use Rattle.ufs_model.specs.declared.data.Node.{Node}
-use Rattle.ufs_model.specs.Facts.Pieces.{ArePlain, components_plain}
+use Rattle.ufs_model.proofs.Facts.Pieces.{ArePlain, components_plain}
 use Rattle.ufs_names.specs.DirTable.{DirTable, found_at, node_at, node_of}
 use Rattle.ufs_names.specs.DirCalls.{refusal_by}
 use Rattle.ufs_names.specs.NamesPart.{NamesPart, IsPartOf}

@@ -9,7 +9,7 @@ use Rattle.std.specs.FinMap.{nat_cmp-IsAntisymmetric}
 use Rattle.ufs_model.specs.PosixTree.{PosixTree, Paths, Files, IsTree, is_live}
 use Rattle.ufs_model.specs.Touched.{holds}
 use Rattle.ufs_model.specs.Posix.{forget}
-use Rattle.ufs_model.specs.Facts.Lookups.{same_some, inserted_here, inserted_else, removed_here, removed_else}
+use Rattle.ufs_model.proofs.Facts.Lookups.{same_some, inserted_here, inserted_else, removed_here, removed_else}
 use Rattle.ufs_names.specs.DirTable.{DirTable}
 use Rattle.ufs_names.specs.Stands.{Stands}
 use Rattle.ufs_names.specs.NamesPart.{NamesPart, IsPartOf, IsNamedOnce, is_linked, is_holder, is_kept, holding_of, settled, settled_node, without_name}

@@ -11,12 +11,12 @@ use Rattle.ufs_model.specs.Paths.{whole_path}
 use Rattle.ufs_model.specs.PosixTree.{IsTree, root, root_alone, is_node_of}
 use Rattle.ufs_model.specs.Touched.{holds}
 use Rattle.ufs_model.specs.declared.data.Node.TheVariants.{Dir, File}
-use Rattle.ufs_model.specs.Facts.Lookups.{one_or_apart, inserted_here, inserted_else, passes}
-use Rattle.ufs_model.specs.Facts.Live.{node_is}
-use Rattle.ufs_model.specs.Facts.Held.{holder}
-use Rattle.ufs_model.specs.Facts.Orders.{path_total, path_same}
-use Rattle.ufs_model.specs.Facts.Pieces.{ArePlain, same_names}
-use Rattle.ufs_model.specs.Facts.Starts.{start_is_tree, root_is_tree, start_of-root}
+use Rattle.ufs_model.proofs.Facts.Lookups.{one_or_apart, inserted_here, inserted_else, passes}
+use Rattle.ufs_model.proofs.Facts.Live.{node_is}
+use Rattle.ufs_model.proofs.Facts.Held.{holder}
+use Rattle.ufs_model.proofs.Facts.Orders.{path_total, path_same}
+use Rattle.ufs_model.proofs.Facts.Pieces.{ArePlain, same_names}
+use Rattle.ufs_model.proofs.Facts.Starts.{start_is_tree, root_is_tree, start_of-root}
 use Rattle.ufs_model.specs.Start.{path_root}
 use Rattle.ufs_names.specs.DirTable.{DirTable, node_at}
 use Rattle.ufs_names.specs.NamesPart.{IsPartOf, holding_of, unheld}

@@ -5,7 +5,7 @@ use Rattle.std.specs.Cmp.{nat_cmp_total}
 use Rattle.std.specs.FinMap as map
 use Rattle.std.specs.FinMap.{nat_cmp-IsAntisymmetric}
 use Rattle.std.specs.Ordering.{nat_cmp}
-use Rattle.ufs_calls.specs.Facts.Inserts.{remove_inserted}
+use Rattle.ufs_calls.proofs.Facts.Inserts.{remove_inserted}
 use Rattle.ufs_model.specs.PosixTree.{Files}
 use Rattle.ufs_names.specs.DirTable.{DirTable}
 use Rattle.ufs_names.specs.NamesPart.{NamesPart, Holdings}

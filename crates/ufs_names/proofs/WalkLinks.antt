@@ -1,7 +1,8 @@
 -- A walk through the directories and one through the paths that they stand for meet the same.
 use Rattle.std.proofs.Common.{◌≡◌, ℕ, List, [], ◌∷◌, ◌++◌, None, ap, refl, sym, subst, ◌∙◌, append_assoc}
 use Rattle.std.specs.FinMap as map
-use Rattle.ufs_model.specs.Paths.{components, text_refusal, whole_path, whole_of, first_of}
+use Rattle.ufs_base.specs.Choices.{first_of}
+use Rattle.ufs_model.specs.Paths.{components, text_refusal, whole_path, whole_of}
 use Rattle.ufs_model.specs.PosixTree.{Paths}
 use Rattle.ufs_model.specs.Walk.{dir_refusal, walk_refusal, walk_refusal_from}
 use Rattle.ufs_names.specs.DirTable.{DirTable, node_at}

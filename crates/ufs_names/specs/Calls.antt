@@ -1,7 +1,7 @@
 -- What the file calls answer and change, by the names' part and what a request's descriptor stands for.
 use Rattle.std.specs.Prelude.{ℕ, ◌+◌, ◌≡◌, List, Bool, ◌==◌, not, nat_lt, length, if◌then◌else◌, Option, Some, None, unwrap_or, true}
 use Rattle.std.specs.FinMap as map
-use Rattle.ufs_model.specs.Paths.{refused_if}
+use Rattle.ufs_base.specs.Choices.{refused_if}
 use Rattle.ufs_model.specs.PosixTree.{PosixTree, Files}
 use Rattle.ufs_model.specs.Descriptors.{closed, moved, seek_to, is_offset}
 use Rattle.ufs_model.specs.FileBytes.{content, part, put_at, resized, place_of, is_past, max_size}

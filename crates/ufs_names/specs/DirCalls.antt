@@ -5,7 +5,7 @@ use Rattle.std.specs.Str.{bytes_eq}
 use Rattle.ufs_layout.specs.DentryForm.{DentryForm}
 use Rattle.ufs_dirs.specs.Directory.{entry_of}
 use Rattle.ufs_model.specs.Order.{names_rise}
-use Rattle.ufs_model.specs.Paths.{first_of}
+use Rattle.ufs_base.specs.Choices.{first_of}
 use Rattle.ufs_model.specs.Walk.{dir_refusal}
 use Rattle.ufs_model.specs.declared.data.Errno.{Errno}
 use Rattle.ufs_model.specs.declared.data.Node.{Node}

@@ -5,7 +5,8 @@ use Rattle.std.specs.Option.{option_map}
 use Rattle.ufs_model.specs.Asks.{IsAsk}
 use Rattle.ufs_model.specs.FileBytes.{bytes_of}
 use Rattle.ufs_model.specs.PosixTree.{PosixTree}
-use Rattle.ufs_model.specs.Paths.{components, text_refusal, first_of, refused_if}
+use Rattle.ufs_base.specs.Choices.{first_of, refused_if}
+use Rattle.ufs_model.specs.Paths.{components, text_refusal}
 use Rattle.ufs_model.specs.Walk.{is_file}
 use Rattle.ufs_model.specs.Refusals.{open_refusal, unlink_refusal, list_refusal, rename_refusal, refusal}
 use Rattle.ufs_model.specs.declared.data.Errno.{Errno}

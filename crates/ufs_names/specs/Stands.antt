@@ -3,7 +3,7 @@ use Rattle.std.specs.Prelude.{ℕ, ◌≡◌, List, None}
 use Rattle.std.specs.FinMap as map
 use Rattle.ufs_model.specs.Paths.{components_refusal, whole_path}
 use Rattle.ufs_model.specs.PosixTree.{Paths}
-use Rattle.ufs_model.specs.Facts.Pieces.{ArePlain}
+use Rattle.ufs_model.proofs.Facts.Pieces.{ArePlain}
 use Rattle.ufs_names.specs.DirTable.{DirTable, node_at}
 
 -- At each whole path stands what a walk along its names meets. Names have bytes and no slash: an empty one would spell

@@ -1,8 +1,9 @@
 // Changes of a tree's directories.
 use crate::dir_entry::{give_room_at, put_at, take_number, take_out_at};
 use crate::dir_tree::{DIRECTORY, DirTree, FILE};
+use ufs_base::Memory;
 use ufs_layout::Dentry;
-use ufs_model::{Memory, Node};
+use ufs_model::Node;
 use ufs_path::PathText;
 
 impl DirTree {

@@ -7,9 +7,9 @@ ghost use Rattle.ufs_dirs.specs.Changes.{SetsName};
 ghost use Rattle.ufs_names.specs.DirEdits.{HasRoom, IsNumbered, SameNames, RoomsIn, SetsEntry, TakesNumber, dir_in};
 
 use std::alloc::Global;
+use ufs_base::Memory;
 use ufs_dirs::{DirBlocks, MAX_BLOCKS, SLOTS};
 use ufs_layout::Dentry;
-use ufs_model::Memory;
 
 /// Adds a block where each slot is used.
 fn give_room(blocks: &mut DirBlocks) -> Result<(), Memory>

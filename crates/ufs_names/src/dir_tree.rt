@@ -9,9 +9,10 @@ ghost use Rattle.ufs_names.specs.DirCalls.{AreNamesOf};
 use crate::found::Found;
 use std::alloc::Global;
 use std::marker::Model;
+use ufs_base::Memory;
 use ufs_dirs::DirBlocks;
 use ufs_layout::Dentry;
-use ufs_model::{Bytes, Errno, Memory, NameList};
+use ufs_model::{Bytes, Errno, NameList};
 use ufs_path::PathText;
 
 /// The kinds of a dentry.

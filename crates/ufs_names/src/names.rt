@@ -8,8 +8,9 @@ use crate::found::Found;
 use crate::hold_map::HoldMap;
 use std::alloc::Global;
 use std::marker::Model;
+use ufs_base::Memory;
 use ufs_calls::{FileMap, own_refusal, text};
-use ufs_model::{Actor, Ask, Desc, Entry, Errno, Excuse, Memory, Op, Reply};
+use ufs_model::{Actor, Ask, Desc, Entry, Errno, Excuse, Op, Reply};
 use ufs_path::{PathText, names_stay_in_whole_paths, whole_paths_may_stand};
 
 /// The namespace, with the bytes of the files. Its directories stand in blocks, and a file that no path names stays
@@ -53,7 +54,8 @@ impl Names {
     ghost use Rattle.std.specs.Prelude.{◌≡◌, ◌<◌, ◌^◌, [], true, false, Some, None, IfOk, IfErr, OnErr, is_none};
     ghost use Rattle.std.specs.FinMap as map;
     ghost use Rattle.ufs_model.specs.PosixTree.{PosixTree, root_alone};
-    ghost use Rattle.ufs_model.specs.Paths.{first_of, refused_if, whole_path};
+    ghost use Rattle.ufs_base.specs.Choices.{first_of, refused_if};
+    ghost use Rattle.ufs_model.specs.Paths.{whole_path};
     ghost use Rattle.ufs_model.specs.Walk.{walk_refusal_from};
     ghost use Rattle.ufs_model.specs.Bounds.{IsBounded};
     ghost use Rattle.ufs_model.specs.History.{is_excused};

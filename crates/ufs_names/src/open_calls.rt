@@ -4,8 +4,9 @@ ghost use Rattle.ufs_model.specs.Descriptors as descriptors;
 ghost use Rattle.ufs_names.specs.Calls.{desc_or_closed};
 
 use crate::names::{Names, Served, refused};
+use ufs_base::Memory;
 use ufs_calls::{MAX_SIZE, count_from, is_past, part, place_of, seek_to, size_refusal};
-use ufs_model::{Ask, Bytes, Desc, Errno, Memory, Op, Reply, Whence, a_request_keeps_the_tree};
+use ufs_model::{Ask, Bytes, Desc, Errno, Op, Reply, Whence, a_request_keeps_the_tree};
 
 impl Names {
     ghost use Rattle.std.specs.Prelude.{◌≡◌, ◌≤◌, ◌<◌, ◌^◌, ℕ, IfOk, OnErr, OnOk, Some, None, IsTrue, IsSome, true, false, length, if◌then◌else◌, unwrap_or};

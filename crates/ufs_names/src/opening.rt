@@ -2,7 +2,8 @@
 use crate::found::Found;
 use crate::holding::Holding;
 use crate::names::Names;
-use ufs_model::{Bytes, Memory, Node};
+use ufs_base::Memory;
+use ufs_model::{Bytes, Node};
 use ufs_path::PathText;
 
 impl Names {

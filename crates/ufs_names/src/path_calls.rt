@@ -5,10 +5,11 @@ ghost use Rattle.ufs_names.specs.PathCalls as calls;
 use crate::found::Found;
 use crate::names::{Names, Served, refused};
 use crate::renaming::node_of;
+use ufs_base::Memory;
 use ufs_calls::{
     Mode, list_refusal, make_refusal, open_refusal, rmdir_refusal, stat_refusal, unlink_refusal,
 };
-use ufs_model::{Ask, Desc, Errno, Memory, Node, Op, Reply, a_request_keeps_the_tree};
+use ufs_model::{Ask, Desc, Errno, Node, Op, Reply, a_request_keeps_the_tree};
 use ufs_path::PathText;
 
 impl Names {

@@ -5,8 +5,9 @@ ghost use Rattle.ufs_names.specs.DirTable as table;
 
 use crate::found::Found;
 use crate::names::{Names, Served, refused};
+use ufs_base::Memory;
 use ufs_calls::{is_below, replace_refusal};
-use ufs_model::{Ask, Errno, Memory, Node, Reply, a_request_keeps_the_tree};
+use ufs_model::{Ask, Errno, Node, Reply, a_request_keeps_the_tree};
 use ufs_path::PathText;
 
 impl Names {

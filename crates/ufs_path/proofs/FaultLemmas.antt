@@ -4,42 +4,38 @@ use Rattle.std.proofs.lemmas.Bool.{cond-true, eq-eqb, le-ltb, eqb-false}
 use Rattle.std.specs.List.{list_all}
 use Rattle.ufs_model.specs.declared.data.Errno.{Errno}
 use Rattle.ufs_model.specs.declared.data.Errno.TheVariants.{Einval, Enametoolong}
-use Rattle.ufs_model.specs.Paths as paths
-use Rattle.ufs_model.specs.Paths.{components, component_refusal, components_refusal, text_refusal, refused_if, in_range, is_dots, ends_in_slash, has_component}
+use Rattle.ufs_base.specs.Choices.{first_of, refused_if}
+use Rattle.ufs_model.specs.Paths.{components, component_refusal, components_refusal, text_refusal, in_range, is_dots, ends_in_slash, has_component}
 use Rattle.ufs_path.specs.declared.fault.PathFault.{PathFault}
 use Rattle.ufs_path.specs.declared.fault.PathFault.TheVariants.{NotAbsolute, TooLong, BadComponent, NameTooLong, TrailingSlash}
-use Rattle.ufs_path.specs.Faults.{first_of, fault_if, name_fault, names_fault, first_fault, errno_of}
-use Rattle.ufs_model.specs.Facts.Pieces.{is_some_name, pieces}
+use Rattle.ufs_path.specs.Faults.{name_fault, names_fault, first_fault, errno_of}
+use Rattle.ufs_model.proofs.Facts.Pieces.{is_some_name, pieces}
 use Rattle.ufs_path.proofs.SplitLemmas.{some_bytes, has_component-components}
 
 -- ---- what a client is told
 
 of_name : (a d l : Bool) (next : Option PathFault) (after : Option Errno) → option_and_then errno_of next ≡ after
-    → option_and_then errno_of (first_of (first_of (fault_if a BadComponent) (first_of (fault_if d BadComponent) (fault_if l NameTooLong))) next)
-    ≡ paths.first_of (paths.first_of (refused_if a Einval) (paths.first_of (refused_if d Einval) (refused_if l Enametoolong))) after
+    → option_and_then errno_of (first_of (first_of (refused_if a BadComponent) (first_of (refused_if d BadComponent) (refused_if l NameTooLong))) next)
+    ≡ first_of (first_of (refused_if a Einval) (first_of (refused_if d Einval) (refused_if l Enametoolong))) after
 of_name true d l next after e = refl
 of_name false true l next after e = refl
 of_name false false true next after e = refl
 of_name false false false next after e = e
 
-reassociate : (a b c : Option PathFault) → first_of (first_of a b) c ≡ first_of a (first_of b c)
+reassociate : {X : Type 0} (a b c : Option X) → first_of (first_of a b) c ≡ first_of a (first_of b c)
 reassociate None b c = refl
 reassociate (Some f) b c = refl
 
-reassociate_refusal : (a b c : Option Errno) → paths.first_of (paths.first_of a b) c ≡ paths.first_of a (paths.first_of b c)
-reassociate_refusal None b c = refl
-reassociate_refusal (Some f) b c = refl
-
-of_names : (names : List (List ℕ)) (next : Option PathFault) → option_and_then errno_of (first_of (names_fault names) next) ≡ paths.first_of (components_refusal names) (option_and_then errno_of next)
+of_names : (names : List (List ℕ)) (next : Option PathFault) → option_and_then errno_of (first_of (names_fault names) next) ≡ first_of (components_refusal names) (option_and_then errno_of next)
 of_names [] next = refl
 of_names (name ∷ names) next =
     ap (option_and_then errno_of) (reassociate (name_fault name) (names_fault names) next)
     ∙ of_name (not (list_all in_range name)) (is_dots name) (ltb 58 (length name)) _ _ (of_names names next)
-    ∙ sym (reassociate_refusal (component_refusal name) (components_refusal names) (option_and_then errno_of next))
+    ∙ sym (reassociate (component_refusal name) (components_refusal names) (option_and_then errno_of next))
 
 of_text : (a l s : Bool) (names : List (List ℕ))
-    → option_and_then errno_of (first_of (fault_if a NotAbsolute) (first_of (fault_if l TooLong) (first_of (names_fault names) (fault_if s TrailingSlash))))
-    ≡ paths.first_of (refused_if a Einval) (paths.first_of (refused_if l Enametoolong) (paths.first_of (components_refusal names) (refused_if s Einval)))
+    → option_and_then errno_of (first_of (refused_if a NotAbsolute) (first_of (refused_if l TooLong) (first_of (names_fault names) (refused_if s TrailingSlash))))
+    ≡ first_of (refused_if a Einval) (first_of (refused_if l Enametoolong) (first_of (components_refusal names) (refused_if s Einval)))
 of_text true l s names = refl
 of_text false true s names = refl
 of_text false false true names = of_names names (Some TrailingSlash)
@@ -100,12 +96,12 @@ trailing b (c ∷ bs) = and_swapped (has_component (components (b ∷ c ∷ bs))
 
 -- after the tests of the first byte and the length
 pub first_fault-names : (path : List ℕ) → 1 ≤ length path → get_or path 0 0 ≡ 47 → length path ≤ 1023
-    → first_fault path ≡ first_of (names_fault (components path)) (fault_if (ends_in_slash path && not (list_all (λ b. eqb b 47) path)) TrailingSlash)
+    → first_fault path ≡ first_of (names_fault (components path)) (refused_if (ends_in_slash path && not (list_all (λ b. eqb b 47) path)) TrailingSlash)
 first_fault-names [] some first short = absurd (omega arith)
 first_fault-names (b ∷ bs) some first short =
-    ap (λ a. first_of (fault_if (not a) NotAbsolute) (first_of (fault_if (ltb 1023 (length (b ∷ bs))) TooLong) (first_of (names_fault (components (b ∷ bs))) (fault_if (has_component (components (b ∷ bs)) && ends_in_slash bs) TrailingSlash)))) (eq-eqb b 47 first)
-    ∙ ap (λ l. first_of (fault_if l TooLong) (first_of (names_fault (components (b ∷ bs))) (fault_if (has_component (components (b ∷ bs)) && ends_in_slash bs) TrailingSlash))) (le-ltb 1023 (length (b ∷ bs)) short)
-    ∙ ap (λ s. first_of (names_fault (components (b ∷ bs))) (fault_if s TrailingSlash)) (trailing b bs)
+    ap (λ a. first_of (refused_if (not a) NotAbsolute) (first_of (refused_if (ltb 1023 (length (b ∷ bs))) TooLong) (first_of (names_fault (components (b ∷ bs))) (refused_if (has_component (components (b ∷ bs)) && ends_in_slash bs) TrailingSlash)))) (eq-eqb b 47 first)
+    ∙ ap (λ l. first_of (refused_if l TooLong) (first_of (names_fault (components (b ∷ bs))) (refused_if (has_component (components (b ∷ bs)) && ends_in_slash bs) TrailingSlash))) (le-ltb 1023 (length (b ∷ bs)) short)
+    ∙ ap (λ s. first_of (names_fault (components (b ∷ bs))) (refused_if s TrailingSlash)) (trailing b bs)
 
 pub not_empty : (path : List ℕ) (t : Bool) → t ≡ eqb (length path) 0 → t ≡ false → 1 ≤ length path
 not_empty path t is isnt = let h : length path ≡ 0 → ⊥ = eqb-false (length path) 0 (sym is ∙ isnt) in omega arith
@@ -119,7 +115,7 @@ told_first : (a b : Option PathFault) → IsTold a → IsTold b → IsTold (firs
 told_first None b p q = q
 told_first (Some f) b p q = p
 
-told_name : (a d l : Bool) → IsTold (first_of (fault_if a BadComponent) (first_of (fault_if d BadComponent) (fault_if l NameTooLong)))
+told_name : (a d l : Bool) → IsTold (first_of (refused_if a BadComponent) (first_of (refused_if d BadComponent) (refused_if l NameTooLong)))
 told_name true d l = refl
 told_name false true l = refl
 told_name false false true = refl

@@ -6,11 +6,11 @@ use Rattle.std.proofs.lemmas.List.Elements.{filter-append}
 use Rattle.std.proofs.Math.Seq.{take-append_seam, drop-append-add}
 use Rattle.std.specs.List.{AllByRecursion}
 use Rattle.ufs_model.specs.Paths.{components, whole_path, text_refusal, IsWhole}
-use Rattle.ufs_model.specs.Facts.Allowed.{names_of_whole, whole_is}
-use Rattle.ufs_model.specs.Facts.Pieces.{is_some_name, components_of}
+use Rattle.ufs_model.proofs.Facts.Allowed.{names_of_whole, whole_is}
+use Rattle.ufs_model.proofs.Facts.Pieces.{is_some_name, components_of}
 use Rattle.ufs_path.specs.Names.{IsName}
 use Rattle.ufs_path.specs.Texts.{joined, ends_from, IsKept}
-use Rattle.ufs_path.specs.Facts.Joined.{whole_path-joined, joined-append}
+use Rattle.ufs_path.proofs.Facts.Joined.{whole_path-joined, joined-append}
 use Rattle.ufs_path.proofs.NameLemmas.{components_may_stand, components_are_names, names_plain}
 
 pub ends_from-append : (at : ℕ) (xs ys : List (List ℕ)) → ends_from at (xs ++ ys) ≡ ends_from at xs ++ ends_from (at + length (joined xs)) ys

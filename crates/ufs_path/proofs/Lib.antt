@@ -3,3 +3,4 @@ pub mod FaultLemmas
 pub mod NameLemmas
 pub mod KeptLemmas
 pub mod Rows
+pub mod Facts

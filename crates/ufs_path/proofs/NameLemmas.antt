@@ -5,12 +5,13 @@ use Rattle.std.proofs.lemmas.List.{append-nil}
 use Rattle.std.specs.List.{list_all, AllByRecursion}
 use Rattle.ufs_model.specs.declared.data.Errno.{Errno}
 use Rattle.ufs_model.specs.declared.data.Errno.TheVariants.{Einval, Enametoolong}
-use Rattle.ufs_model.specs.Paths.{components, component_refusal, components_refusal, text_refusal, refused_if, first_of, in_range, is_dots, ends_in_slash, whole_path, IsWhole}
-use Rattle.ufs_model.specs.Facts.Allowed.{first_none, names_allowed}
-use Rattle.ufs_model.specs.Facts.Pieces.{IsPlain, ArePlain, is_free, is_some_name, components_plain, components_of}
+use Rattle.ufs_base.specs.Choices.{refused_if, first_of}
+use Rattle.ufs_model.specs.Paths.{components, component_refusal, components_refusal, text_refusal, in_range, is_dots, ends_in_slash, whole_path, IsWhole}
+use Rattle.ufs_model.proofs.Facts.Allowed.{first_none, names_allowed}
+use Rattle.ufs_model.proofs.Facts.Pieces.{IsPlain, ArePlain, is_free, is_some_name, components_plain, components_of}
 use Rattle.ufs_path.specs.Names.{IsName}
 use Rattle.ufs_path.specs.Texts.{joined}
-use Rattle.ufs_path.specs.Facts.Joined.{whole_path-joined}
+use Rattle.ufs_path.proofs.Facts.Joined.{whole_path-joined}
 use Rattle.ufs_path.proofs.SplitLemmas.{components-joined}
 
 -- ---- one name

@@ -3,9 +3,9 @@ use Rattle.std.proofs.Common.{◌≡◌, ℕ, List, [], ◌∷◌, Bool, true, f
 use Rattle.std.proofs.lemmas.Bool.{cond-true, lt-ltb}
 use Rattle.std.specs.List.{list_all, onto_first}
 use Rattle.ufs_model.specs.Paths.{components, has_component}
-use Rattle.ufs_model.specs.Facts.Pieces.{is_some_name, pieces, ArePlain, components_of}
+use Rattle.ufs_model.proofs.Facts.Pieces.{is_some_name, pieces, ArePlain, components_of}
 use Rattle.ufs_path.specs.Texts.{joined}
-use Rattle.ufs_path.specs.Facts.Joined.{whole_path-joined}
+use Rattle.ufs_path.proofs.Facts.Joined.{whole_path-joined}
 
 -- ---- names that are joined
 

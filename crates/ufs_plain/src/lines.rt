@@ -4,7 +4,8 @@ ghost use Rattle.ufs_model.specs.History.{entries_of};
 ghost use Rattle.ufs_script.specs.Output.{lines_of, output_of};
 
 use std::alloc::Global;
-use ufs_model::{Entry, Memory};
+use ufs_base::Memory;
+use ufs_model::Entry;
 use ufs_script::reply_line;
 
 fn put_client(

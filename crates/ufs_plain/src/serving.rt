@@ -9,8 +9,8 @@ ghost use Rattle.ufs_script.specs.declared.script.Script.{Script};
 
 use crate::lines::lines;
 use std::alloc::Global;
+use ufs_base::Memory;
 use ufs_io::Source;
-use ufs_model::Memory;
 use ufs_script::{Script, ScriptFault, read_script};
 use ufs_tree::serve;
 

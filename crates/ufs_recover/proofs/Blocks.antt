@@ -8,7 +8,7 @@ use Rattle.std.proofs.lemmas.Slice.{drop-append-drop}
 use Rattle.std.specs.Prelude.{EachIndex}
 use Rattle.ufs_layout.specs.Areas.{first_of_inodes, first_of_data}
 use Rattle.ufs_layout.specs.InodeForm.{inode_bytes}
-use Rattle.ufs_layout.specs.Formatted.{byte_below, bitmap_below, new_root}
+use Rattle.ufs_image.specs.Formatted.{byte_below, bitmap_below, new_root}
 use Rattle.ufs_layout.specs.declared.geometry.Geometry.{Geometry}
 use Rattle.ufs_recover.specs.Tables.{IsTableBlock}
 

@@ -3,17 +3,19 @@ use Rattle.std.proofs.Common.{◌≡◌, ◌≢◌, inl, inr, ⊎_elim, Bool, tr
 use Rattle.std.specs.Prelude.{◌==◌, not, Result, Ok, Err, OnOk}
 use Rattle.std.specs.Str.{bytes_eq}
 use Rattle.std.proofs.Math.Bool.{or-true}
-use Rattle.ufs_disk.specs.Disk.{Image, IsImage, IsSettled, put}
+use Rattle.ufs_base.specs.Images.{Image}
+use Rattle.ufs_disk.specs.Disk.{IsImage, IsSettled, put}
 use Rattle.ufs_disk.specs.Moments.{Moments, LeavesOnly, reads}
 use Rattle.ufs_disk.proofs.Images.{seen_is_image, put_same, put_other}
 use Rattle.ufs_disk.proofs.Runs.{weaker, goes_on}
 use Rattle.ufs_layout.specs.Areas.{IsGeometry, sector_count, first_of_bitmap, first_of_journal, first_of_data, sector_of_inode}
-use Rattle.ufs_layout.specs.Words.{first_of, refused_if}
+use Rattle.ufs_base.specs.Choices.{first_of, refused_if}
 use Rattle.ufs_layout.specs.Superblock.{magic, super_bytes}
 use Rattle.ufs_layout.specs.InodeForm.{inode_bytes, free_inode}
-use Rattle.ufs_layout.specs.Formatted.{IsFormatted, new_super, bitmap_below, empty_sector}
-use Rattle.ufs_layout.specs.Volume.{NoSuperblock, BadVersion, BadGeometry, has_other_version, head_of, is_off_form, bad_geometry, is_too_small, lacks_magic, by_head}
-use Rattle.ufs_layout.specs.Laws.{OpensToRoot, BeginsWhole, BeginsProper}
+use Rattle.ufs_layout.specs.Superblock.{new_super}
+use Rattle.ufs_image.specs.Formatted.{IsFormatted, bitmap_below, empty_sector}
+use Rattle.ufs_image.specs.Volume.{NoSuperblock, BadVersion, BadGeometry, has_other_version, head_of, is_off_form, bad_geometry, is_too_small, lacks_magic, by_head}
+use Rattle.ufs_image.specs.Laws.{OpensToRoot, BeginsWhole, BeginsProper}
 use Rattle.ufs_layout.specs.declared.geometry.Geometry.{Geometry}
 use Rattle.ufs_recover.specs.Tables.{HasZeroTails, IsOutside, IsTableSector, HasTablesBelow}
 use Rattle.ufs_recover.specs.Stopped.{IsNew, IsRefused, IsStopped, IsBlank, HasHeadPut}

@@ -1,7 +1,8 @@
 -- What a disk has after a write of the superblock's sector, and after a write of a block.
 use Rattle.std.proofs.Common.{◌≡◌, ◌≢◌, ◌⊎◌, inl, inr, ⊎_elim, Bool, ℕ, ◌+◌, ◌-◌, ◌*◌, ◌/◌, ◌<◌, ◌≤◌, List, length, take, drop, sym, ◌∙◌, ap, subst, arith}
 use Rattle.std.proofs.lemmas.Bool.{cases_lt}
-use Rattle.ufs_disk.specs.Disk.{State, Image, IsImage, Leaves, Mixes, IsPartlyWritten, overwritten, sectors_of}
+use Rattle.ufs_base.specs.Images.{Image}
+use Rattle.ufs_disk.specs.Disk.{State, IsImage, Leaves, Mixes, IsPartlyWritten, overwritten, sectors_of}
 use Rattle.ufs_disk.specs.Moments.{Moments, LeavesOnly}
 use Rattle.ufs_disk.proofs.Images.{mixed_one, put_one, put_other, put_all_below, put_all_above, put_all_within}
 use Rattle.ufs_disk.proofs.Flat.{length-pieces, pieces_at}

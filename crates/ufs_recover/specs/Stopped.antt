@@ -1,10 +1,11 @@
 -- What formatting leaves on a disk, also where it is stopped on the way.
 use Rattle.std.specs.Prelude.{◌≡◌, ◌⊎◌, ℕ, List, [], Ok, Err}
-use Rattle.ufs_disk.specs.Disk.{State, Image, IsImage, IsSettled, seen, put}
-use Rattle.ufs_layout.specs.Formatted.{IsFormatted, empty_sector}
-use Rattle.ufs_layout.specs.Volume.{volume, NoSuperblock}
-use Rattle.ufs_layout.specs.Opens.{opens, root_tree, damage_list}
-use Rattle.ufs_layout.specs.Proper.{IsProperImage}
+use Rattle.ufs_base.specs.Images.{Image}
+use Rattle.ufs_disk.specs.Disk.{State, IsImage, IsSettled, seen, put}
+use Rattle.ufs_image.specs.Formatted.{IsFormatted, empty_sector}
+use Rattle.ufs_image.specs.Volume.{volume, NoSuperblock}
+use Rattle.ufs_image.specs.Opens.{opens, root_tree, damage_list}
+use Rattle.ufs_image.specs.Proper.{IsProperImage}
 use Rattle.ufs_layout.specs.declared.geometry.Geometry.{Geometry}
 use Rattle.ufs_recover.specs.Tables.{HasZeroTails}
 

@@ -1,9 +1,9 @@
 -- The sectors between the superblock's block and the data area, and those that formatting leaves alone.
 use Rattle.std.specs.Prelude.{◌≡◌, ◌⊎◌, ◌<◌, ◌≤◌, ℕ, ◌+◌, ◌-◌, ◌*◌, List, take, drop}
-use Rattle.ufs_disk.specs.Disk.{Image}
+use Rattle.ufs_base.specs.Images.{Image}
 use Rattle.ufs_layout.specs.Areas.{first_of_inodes, first_of_journal, first_of_data, sector_of_inode}
 use Rattle.ufs_layout.specs.InodeForm.{inode_bytes}
-use Rattle.ufs_layout.specs.Formatted.{bitmap_below, new_root, empty_sector}
+use Rattle.ufs_image.specs.Formatted.{bitmap_below, new_root, empty_sector}
 use Rattle.ufs_layout.specs.declared.geometry.Geometry.{Geometry}
 
 -- Zeros follow behind the last inode and behind the last sector of the journal, to the end of their blocks.

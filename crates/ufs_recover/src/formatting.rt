@@ -11,7 +11,8 @@ use crate::FormatFault;
 use crate::head::{new_head, put_head};
 use crate::tables::write_tables;
 use ufs_disk::{Disk, Fault, SECTOR};
-use ufs_layout::{Geometry, new_image_law};
+use ufs_image::new_image_law;
+use ufs_layout::Geometry;
 
 // Zeros in the superblock's sector first, and the superblock last. Each step ends with a barrier.
 fn write_image<D: Disk>(disk: &mut D, geometry: &Geometry) -> Result<(), Fault>

@@ -4,7 +4,7 @@ ghost use Rattle.ufs_disk.specs.Disk.{IsSettled, put};
 ghost use Rattle.ufs_disk.specs.Moments.{LeavesOnly, reads};
 ghost use Rattle.ufs_disk.specs.Faults.{HasCause};
 ghost use Rattle.ufs_layout.specs.Superblock.{super_bytes};
-ghost use Rattle.ufs_layout.specs.Formatted.{new_super};
+ghost use Rattle.ufs_layout.specs.Superblock.{new_super};
 ghost use Rattle.ufs_recover.specs.Stopped.{HasHeadPut};
 
 use ufs_disk::{Disk, Fault, SECTOR};

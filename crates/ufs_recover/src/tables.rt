@@ -5,7 +5,7 @@ ghost use Rattle.ufs_disk.specs.Moments.{LeavesOnly, reads};
 ghost use Rattle.ufs_disk.specs.Faults.{HasCause};
 ghost use Rattle.ufs_layout.specs.Areas.{IsGeometry, first_of_data, sector_count};
 ghost use Rattle.ufs_layout.specs.InodeForm.{inode_bytes};
-ghost use Rattle.ufs_layout.specs.Formatted.{byte_below, new_root};
+ghost use Rattle.ufs_image.specs.Formatted.{byte_below, new_root};
 ghost use Rattle.ufs_recover.specs.Tables.{IsOutside, IsTableBlock, HasTablesBelow};
 ghost use Rattle.ufs_recover.specs.Stopped.{IsBlank};
 

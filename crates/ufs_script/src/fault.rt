@@ -3,7 +3,7 @@ ghost use Rattle.std.specs.Prelude.{◌≡◌, ◌≢◌};
 ghost use Rattle.ufs_script.specs.Script.{fault_at};
 
 use std::alloc::{AllocError, AllocFailed};
-use ufs_model::Memory;
+use ufs_base::Memory;
 
 /// The first break of a script's rules, with the number of its line, counted from 1; or why its
 /// text isn't known.

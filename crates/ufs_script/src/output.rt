@@ -5,7 +5,8 @@ ghost use Rattle.ufs_script.specs.Output.{excuse_text, names_text, reply_text, l
 ghost use Rattle.ufs_script.specs.Spelling.{data_text};
 
 use std::alloc::{AllocError, Global};
-use ufs_model::{Actor, ActorList, Bytes, Entry, Excuse, Memory, NameList, Reply};
+use ufs_base::Memory;
+use ufs_model::{Actor, ActorList, Bytes, Entry, Excuse, NameList, Reply};
 
 fn excuse_name(excuse: Excuse) -> &'static str
     ensures { result.now ≡ excuse_text excuse }

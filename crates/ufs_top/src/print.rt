@@ -8,8 +8,9 @@ ghost use Rattle.ufs_top.specs.Texts.{IsFront};
 
 use crate::write::write_all;
 use std::alloc::Global;
+use ufs_base::Memory;
 use ufs_io::{Failed, Sink};
-use ufs_model::{Entry, EntryList, Memory};
+use ufs_model::{Entry, EntryList};
 use ufs_script::reply_line;
 
 /// Why lines weren't all written.

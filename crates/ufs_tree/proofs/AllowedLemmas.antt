@@ -1,10 +1,11 @@
 -- What a request that isn't refused finds.
 use Rattle.std.proofs.Common.{◌≡◌, ℕ, List, true, false, Option, Some, None, is_some, is_none, ◌||◌, refl}
-use Rattle.ufs_model.specs.Paths.{text_refusal, is_root, first_of, refused_if}
+use Rattle.ufs_base.specs.Choices.{first_of, refused_if}
+use Rattle.ufs_model.specs.Paths.{text_refusal, is_root}
 use Rattle.ufs_model.specs.PosixTree.{PosixTree}
 use Rattle.ufs_model.specs.Walk.{walk_refusal, node_at}
 use Rattle.ufs_model.specs.Refusals.{refusal, rename_refusal}
-use Rattle.ufs_model.specs.Facts.Allowed.{first_none, passed}
+use Rattle.ufs_model.proofs.Facts.Allowed.{first_none, passed}
 use Rattle.ufs_tree.proofs.RisingLemmas.{unfound}
 use Rattle.ufs_model.specs.declared.data.Errno.TheVariants.{Eexist, Ebusy, Enoent}
 use Rattle.ufs_model.specs.declared.data.Op.TheVariants as op

@@ -10,7 +10,7 @@ use Rattle.std.specs.FinMap.{FinMap, IsAntisymmetric, get, insert, remove, find,
 use Rattle.std.specs.FinMap.Entries.{by_order}
 use Rattle.std.proofs.lemmas.List.Sums.{sum_by-cons}
 use Rattle.std.proofs.lemmas.Bool.{lt-ltb}
-use Rattle.ufs_model.specs.Facts.Lookups.{removed_here}
+use Rattle.ufs_model.proofs.Facts.Lookups.{removed_here}
 
 module _ {X : Type 0} (p : X → Bool) where
   -- one where the value passes

@@ -15,8 +15,8 @@ use Rattle.ufs_model.specs.Paths.{IsWhole}
 use Rattle.ufs_model.specs.PosixTree.{Paths, is_node_of}
 use Rattle.ufs_model.specs.declared.data.Node.{Node}
 use Rattle.ufs_tree.specs.Counted.{CountsByFile, CountsByDir, count_at, IsCountedByPath}
-use Rattle.ufs_model.specs.Facts.Orders.{path_total, path_same}
-use Rattle.ufs_model.specs.Facts.Rising.{entries-empty}
+use Rattle.ufs_model.proofs.Facts.Orders.{path_total, path_same}
+use Rattle.ufs_model.proofs.Facts.Rising.{entries-empty}
 use Rattle.ufs_tree.proofs.CountLemmas.{any-count, count-insert, count-remove, count-replace, count-values, count-keys}
 use Rattle.ufs_tree.proofs.HolderLemmas.{no_count}
 

@@ -15,10 +15,10 @@ use Rattle.ufs_model.specs.Order.{fd_cmp, path_cmp}
 use Rattle.ufs_model.specs.PosixTree.{Fds, is_desc_of, is_number}
 use Rattle.ufs_model.specs.declared.data.Desc.{Desc}
 use Rattle.ufs_tree.specs.Counted.{CountsByFile, CountsByDir, count_at, IsCountedByDesc}
-use Rattle.ufs_model.specs.Facts.Lookups.{tied}
-use Rattle.ufs_model.specs.Facts.Orders.{fd_total, fd_same, path_total}
-use Rattle.ufs_model.specs.Facts.Pieces.{same_bytes}
-use Rattle.ufs_model.specs.Facts.Rising.{entries-empty}
+use Rattle.ufs_model.proofs.Facts.Lookups.{tied}
+use Rattle.ufs_model.proofs.Facts.Orders.{fd_total, fd_same, path_total}
+use Rattle.ufs_model.proofs.Facts.Pieces.{same_bytes}
+use Rattle.ufs_model.proofs.Facts.Rising.{entries-empty}
 use Rattle.ufs_tree.proofs.CountLemmas.{one_if, any-count, count-insert, count-remove, count-replace, count-values}
 
 -- two numbers tie where they are equal

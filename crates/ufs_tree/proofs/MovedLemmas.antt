@@ -11,9 +11,9 @@ use Rattle.ufs_model.specs.Order.{path_cmp}
 use Rattle.ufs_model.specs.PosixTree.{Paths}
 use Rattle.ufs_model.specs.declared.data.Node.{Node}
 use Rattle.ufs_tree.specs.Moved.{or_else, put_over, taken_away}
-use Rattle.ufs_model.specs.Facts.Lookups.{one_key}
-use Rattle.ufs_model.specs.Facts.Orders.{path_total, path_same}
-use Rattle.ufs_model.specs.Facts.Rising.{find-earlier}
+use Rattle.ufs_model.proofs.Facts.Lookups.{one_key}
+use Rattle.ufs_model.proofs.Facts.Orders.{path_total, path_same}
+use Rattle.ufs_model.proofs.Facts.Rising.{find-earlier}
 use Rattle.ufs_tree.proofs.ListLemmas.{all_take, round_place}
 use Rattle.ufs_tree.proofs.NameLemmas.{Nodes}
 

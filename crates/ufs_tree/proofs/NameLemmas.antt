@@ -18,10 +18,10 @@ use Rattle.ufs_model.specs.Paths.{IsWhole, components, parent_of}
 use Rattle.ufs_model.specs.PosixTree.{Paths, stands, root}
 use Rattle.ufs_model.specs.declared.data.Node.{Node}
 use Rattle.ufs_tree.specs.Below.{front, names_among}
-use Rattle.ufs_model.specs.Facts.Lookups.{tied}
-use Rattle.ufs_model.specs.Facts.Orders.{path_total}
-use Rattle.ufs_model.specs.Facts.Pieces.{same_bytes, bytes_same}
-use Rattle.ufs_model.specs.Facts.Rising.{entries-rise}
+use Rattle.ufs_model.proofs.Facts.Lookups.{tied}
+use Rattle.ufs_model.proofs.Facts.Orders.{path_total}
+use Rattle.ufs_model.proofs.Facts.Pieces.{same_bytes, bytes_same}
+use Rattle.ufs_model.proofs.Facts.Rising.{entries-rise}
 use Rattle.ufs_tree.proofs.RisingLemmas.{rising-filter, found_there}
 use Rattle.ufs_tree.proofs.ListLemmas.{all_filter}
 use Rattle.ufs_tree.proofs.PathLemmas.{path_parts, other_path}

@@ -5,8 +5,8 @@ use Rattle.std.specs.FinMap as map
 use Rattle.ufs_model.specs.PosixTree.{PosixTree, Paths, Files, Fds}
 use Rattle.ufs_model.specs.declared.data.Desc.{Desc}
 use Rattle.ufs_model.specs.declared.data.Node.{Node}
-use Rattle.ufs_model.specs.Facts.Orders.{path_total, path_same, fd_total, fd_same}
-use Rattle.ufs_calls.specs.Facts.Inserts.{remove_inserted}
+use Rattle.ufs_model.proofs.Facts.Orders.{path_total, path_same, fd_total, fd_same}
+use Rattle.ufs_calls.proofs.Facts.Inserts.{remove_inserted}
 
 abbrev pub tree_by : Paths → Files → Fds → ℕ → PosixTree
 tree_by paths bytes fds next = record { paths = paths; bytes = bytes; fds = fds; next = next }

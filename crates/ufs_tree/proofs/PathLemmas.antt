@@ -5,9 +5,9 @@ use Rattle.std.specs.Str.{bytes_eq}
 use Rattle.ufs_model.specs.Directories.{last_name}
 use Rattle.ufs_model.specs.Paths.{components, whole_path, parent_of, IsWhole}
 use Rattle.ufs_model.specs.PosixTree.{root}
-use Rattle.ufs_model.specs.Facts.Pieces.{IsPlain, ArePlain, is_free, front_of, front_cons, components_plain, plain_take, same_bytes}
+use Rattle.ufs_model.proofs.Facts.Pieces.{IsPlain, ArePlain, is_free, front_of, front_cons, components_plain, plain_take, same_bytes}
 use Rattle.ufs_path.specs.Texts.{joined}
-use Rattle.ufs_path.specs.Facts.Joined.{whole_path-joined}
+use Rattle.ufs_path.proofs.Facts.Joined.{whole_path-joined}
 use Rattle.ufs_tree.specs.Below.{front, IsNameStart}
 use Rattle.ufs_tree.proofs.ListLemmas.{round_place}
 

@@ -15,11 +15,11 @@ use Rattle.ufs_model.specs.Start.{PathNodes, IsPathTree, start_from, next_from, 
 use Rattle.ufs_model.specs.declared.data.PathEntry.{PathEntry}
 use Rattle.ufs_model.specs.declared.data.PathNode.{PathNode}
 use Rattle.ufs_model.specs.declared.data.PathNode.TheVariants as path_node
-use Rattle.ufs_model.specs.Facts.Orders.{path_total, path_same}
+use Rattle.ufs_model.proofs.Facts.Orders.{path_total, path_same}
 use Rattle.ufs_tree.proofs.ListLemmas.{from_place}
-use Rattle.ufs_model.specs.Facts.Rising.{find-earlier}
+use Rattle.ufs_model.proofs.Facts.Rising.{find-earlier}
 use Rattle.ufs_tree.proofs.RisingLemmas.{unfound, found_there}
-use Rattle.ufs_model.specs.Facts.Starts.{Pairs, next_rises, stands-paths_from, held-bytes_from, within_zero}
+use Rattle.ufs_model.proofs.Facts.Starts.{Pairs, next_rises, stands-paths_from, held-bytes_from, within_zero}
 use Rattle.ufs_tree.proofs.StartLemmas.{paths_from-push, bytes_from-push, next_from-push, next_from-append}
 
 paths_push : (es : Pairs) (e : List ℕ × PathNode) → find path_cmp e.0 es ≡ None → map.insert (start_from es).paths e.0 (node_from (start_from es).next e.1) ≡ (start_from (es ++ e ∷ [])).paths

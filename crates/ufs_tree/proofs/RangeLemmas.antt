@@ -11,9 +11,9 @@ use Rattle.std.specs.BTreeMap.{BTreeMap}
 use Rattle.ufs_model.specs.Directories.{starts_with}
 use Rattle.ufs_model.specs.Order.{path_cmp}
 use Rattle.ufs_calls.specs.Seen.{seen, keyed}
-use Rattle.ufs_model.specs.Facts.Lookups.{tied}
-use Rattle.ufs_model.specs.Facts.Orders.{path_total}
-use Rattle.ufs_calls.specs.Facts.Maps.{entries-seen}
+use Rattle.ufs_model.proofs.Facts.Lookups.{tied}
+use Rattle.ufs_model.proofs.Facts.Orders.{path_total}
+use Rattle.ufs_calls.proofs.Facts.Maps.{entries-seen}
 use Rattle.ufs_tree.proofs.HolderLemmas.{number_ties}
 
 -- at or after the one bound, and before the other

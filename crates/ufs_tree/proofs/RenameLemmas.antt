@@ -20,11 +20,11 @@ use Rattle.ufs_model.specs.Directories.{starts_with, is_below, has_entries, rena
 use Rattle.ufs_model.specs.Paths.{IsWhole}
 use Rattle.ufs_model.specs.PosixTree.{Paths, IsNamespace, stands, has_dir, root}
 use Rattle.ufs_tree.specs.Moved.{or_else, put_over, taken_away, moved}
-use Rattle.ufs_model.specs.Facts.Orders.{path_total, path_same}
-use Rattle.ufs_calls.specs.Facts.Maps.{looked}
-use Rattle.ufs_model.specs.Facts.Lookups.{apart as lies_apart}
-use Rattle.ufs_model.specs.Facts.Pieces.{same_bytes, bytes_same, is_below_from}
-use Rattle.ufs_model.specs.Facts.Rising.{entries-rise}
+use Rattle.ufs_model.proofs.Facts.Orders.{path_total, path_same}
+use Rattle.ufs_calls.proofs.Facts.Maps.{looked}
+use Rattle.ufs_model.proofs.Facts.Lookups.{apart as lies_apart}
+use Rattle.ufs_model.proofs.Facts.Pieces.{same_bytes, bytes_same, is_below_from}
+use Rattle.ufs_model.proofs.Facts.Rising.{entries-rise}
 use Rattle.ufs_tree.proofs.RisingLemmas.{rising-filter}
 use Rattle.ufs_tree.proofs.HolderLemmas.{path_ties}
 use Rattle.ufs_tree.proofs.ListLemmas.{all_map, all_map₂, all_filter}

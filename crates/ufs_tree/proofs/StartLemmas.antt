@@ -3,7 +3,7 @@ use Rattle.std.proofs.Common.{◌≡◌, ℕ, List, [], ◌∷◌, ◌++◌, ap,
 use Rattle.ufs_model.specs.declared.data.PathNode.{PathNode}
 use Rattle.ufs_model.specs.declared.data.PathNode.TheVariants as path_node
 use Rattle.ufs_model.specs.Start.{node_from, next_after, bytes_onto, paths_from, bytes_from, next_from}
-use Rattle.ufs_model.specs.Facts.Starts.{Pairs}
+use Rattle.ufs_model.proofs.Facts.Starts.{Pairs}
 
 pub paths_from-push : (n : ℕ) (es : Pairs) (e : List ℕ × PathNode) → paths_from n (es ++ e ∷ []) ≡ paths_from n es ++ (e.0, node_from (next_from n es) e.1) ∷ []
 paths_from-push n [] e = refl

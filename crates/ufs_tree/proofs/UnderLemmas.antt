@@ -12,11 +12,11 @@ use Rattle.ufs_model.specs.declared.data.Node.{Node}
 use Rattle.ufs_model.specs.Directories.{is_below, has_entries}
 use Rattle.ufs_model.specs.Paths.{components, whole_path, components_refusal, IsWhole}
 use Rattle.ufs_model.specs.PosixTree.{Paths, IsNamespace, stands, has_dir, root}
-use Rattle.ufs_model.specs.Facts.Allowed.{allowed_append, allowed_back}
-use Rattle.ufs_model.specs.Facts.Pieces.{ArePlain, components_cut, components_plain, names_below, same_bytes, bytes_same, is_below_from}
-use Rattle.ufs_model.specs.Facts.Walks.{entry_above}
+use Rattle.ufs_model.proofs.Facts.Allowed.{allowed_append, allowed_back}
+use Rattle.ufs_model.proofs.Facts.Pieces.{ArePlain, components_cut, components_plain, names_below, same_bytes, bytes_same, is_below_from}
+use Rattle.ufs_model.proofs.Facts.Walks.{entry_above}
 use Rattle.ufs_path.specs.Texts.{joined}
-use Rattle.ufs_path.specs.Facts.Joined.{whole_path-joined, joined-append}
+use Rattle.ufs_path.proofs.Facts.Joined.{whole_path-joined, joined-append}
 use Rattle.ufs_tree.proofs.PathLemmas.{whole_joined}
 use Rattle.ufs_tree.proofs.NameLemmas.{cmp-front}
 use Rattle.ufs_tree.proofs.MovedLemmas.{ties}

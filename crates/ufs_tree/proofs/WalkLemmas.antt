@@ -1,7 +1,8 @@
 -- The walk along components, a component at a time.
 use Rattle.std.proofs.Common.{◌≡◌, ℕ, zero, suc, ◌+◌, ◌-◌, ◌≤◌, ◌<◌, List, [], ◌∷◌, ◌++◌, None, length, take, drop, ap, sym, refl, ◌∙◌, arith, append-nil, append_assoc, add-one, length-drop}
 use Rattle.std.specs.FinMap as map
-use Rattle.ufs_model.specs.Paths.{whole_path, first_of}
+use Rattle.ufs_base.specs.Choices.{first_of}
+use Rattle.ufs_model.specs.Paths.{whole_path}
 use Rattle.ufs_model.specs.PosixTree.{Paths}
 use Rattle.ufs_model.specs.Walk.{walk_refusal_from, dir_refusal}
 

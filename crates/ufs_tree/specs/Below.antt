@@ -3,7 +3,7 @@ use Rattle.std.specs.Prelude.{ℕ, ◌≡◌, ◌≤◌, ◌<◌, ◌-◌, List,
 use Rattle.std.specs.Map.{keys_of}
 use Rattle.std.specs.Str.{bytes_eq}
 use Rattle.ufs_model.specs.Directories.{is_entry_of, last_name}
-use Rattle.ufs_model.specs.Facts.Pieces.{is_free}
+use Rattle.ufs_model.proofs.Facts.Pieces.{is_free}
 use Rattle.ufs_model.specs.Paths.{components}
 use Rattle.ufs_model.specs.PosixTree.{root}
 use Rattle.ufs_model.specs.declared.data.Node.{Node}

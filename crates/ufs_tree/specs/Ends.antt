@@ -1,6 +1,6 @@
 -- Why a request is refused by what stands at the end of its one path.
 use Rattle.std.specs.Prelude.{ℕ, List, Option, None, is_some, is_none}
-use Rattle.ufs_model.specs.Paths.{refused_if}
+use Rattle.ufs_base.specs.Choices.{refused_if}
 use Rattle.ufs_model.specs.PosixTree.{Paths}
 use Rattle.ufs_model.specs.Walk.{node_at}
 use Rattle.ufs_model.specs.Refusals.{open_refusal, rmdir_refusal, unlink_refusal, list_refusal}

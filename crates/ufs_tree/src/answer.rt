@@ -1,7 +1,8 @@
 // The reply to a request that isn't refused.
 use crate::tree::Parts;
+use ufs_base::Memory;
 use ufs_calls::{part, seek_to, text};
-use ufs_model::{Bytes, Memory, Node, Op, Reply, Whence};
+use ufs_model::{Bytes, Node, Op, Reply, Whence};
 
 impl Parts {
     ghost use Rattle.std.specs.Prelude.{◌≡◌, IfOk, None, List, ℕ};

@@ -1,7 +1,8 @@
 // What a request that isn't refused changes. Each step that may fail comes before the first that can't be undone.
 use crate::tree::Parts;
+use ufs_base::Memory;
 use ufs_calls::{Mode, count_from, file_named, file_of, place_of, text};
-use ufs_model::{Bytes, Memory, Node, Op, two_names_lie_apart};
+use ufs_model::{Bytes, Node, Op, two_names_lie_apart};
 
 impl Parts {
     ghost use Rattle.std.specs.Prelude.{◌≡◌, ◌<◌, ◌≤◌, ◌^◌, ◌≢◌, OnOk, OnErr, None, length, true, false, is_none};

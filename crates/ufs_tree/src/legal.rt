@@ -5,9 +5,10 @@ ghost use Rattle.ufs_model.specs.FileBytes as file_bytes;
 ghost use Rattle.ufs_tree.specs.Told.{excuse_of};
 
 use crate::tree::{Parts, Tree};
+use ufs_base::Memory;
 use ufs_calls::{place_of, text};
 use ufs_model::{
-    Bytes, Entry, Excuse, Memory, NameList, Node, Op, Reply, a_request_keeps_the_tree,
+    Bytes, Entry, Excuse, NameList, Node, Op, Reply, a_request_keeps_the_tree,
     a_request_makes_one_file_at_most,
 };
 

@@ -7,11 +7,12 @@ ghost use Rattle.ufs_tree.specs.Ends.{end_refusal};
 
 use crate::path_map::PathMap;
 use crate::tree::Parts;
+use ufs_base::Memory;
 use ufs_calls::{
     MAX_SIZE, Mode, dir_refusal, fd_named, is_below, is_past, list_refusal, make_refusal,
     open_refusal, own_refusal, place_of, seek_to, size_refusal, stat_refusal, text, unlink_refusal,
 };
-use ufs_model::{Bytes, Desc, Errno, Memory, Op, Whence};
+use ufs_model::{Bytes, Desc, Errno, Op, Whence};
 use ufs_path::PathText;
 
 /// Each component but the last has to be a directory that is there.

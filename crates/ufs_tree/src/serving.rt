@@ -6,7 +6,8 @@ ghost use Rattle.ufs_model.specs.declared.data.Op.{Op};
 
 use crate::tree::Tree;
 use std::alloc::Global;
-use ufs_model::{Actor, Entry, EntryList, Memory, Op, PathTree, Reply};
+use ufs_base::Memory;
+use ufs_model::{Actor, Entry, EntryList, Op, PathTree, Reply};
 use ufs_script::{OpList, OpLists};
 
 // A client's requests, each answered by the tree; the history goes on by them.

@@ -12,8 +12,9 @@ use crate::fd_map::FdMap;
 use crate::path_map::PathMap;
 use crate::tree::{Parts, Tree};
 use std::alloc::Global;
+use ufs_base::Memory;
 use ufs_calls::FileMap;
-use ufs_model::{Bytes, Memory, Node, PathEntry, PathNode, PathTree};
+use ufs_model::{Bytes, Node, PathEntry, PathNode, PathTree};
 
 // Adds a path. A file gets the next number.
 fn place(parts: &mut Parts, entry: &PathEntry) -> Result<(), Memory>

@@ -5,7 +5,8 @@ ghost use Rattle.ufs_model.specs.Bounds.{IsBounded, max_transfer};
 use crate::Tree;
 use std::alloc::Global;
 use std::test::Fail;
-use ufs_model::{Actor, Bytes, Entry, Excuse, Memory, Op, PathTree, Reply};
+use ufs_base::Memory;
+use ufs_model::{Actor, Bytes, Entry, Excuse, Op, PathTree, Reply};
 
 fn entry(op: Op, reply: Reply) -> Entry
     ensures { result.op ≡ op }

@@ -8,8 +8,9 @@ use crate::fd_map::FdMap;
 use crate::path_map::PathMap;
 use std::alloc::Global;
 use std::marker::Model;
+use ufs_base::Memory;
 use ufs_calls::FileMap;
-use ufs_model::{Memory, Op, Reply, a_request_keeps_the_tree, a_request_makes_one_file_at_most};
+use ufs_model::{Op, Reply, a_request_keeps_the_tree, a_request_makes_one_file_at_most};
 
 /// A tree by its maps.
 #[derive(Drop)]

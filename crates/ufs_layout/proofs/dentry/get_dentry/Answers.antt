@@ -1,6 +1,7 @@
 use Rattle.std.proofs.Common.{rules, ◌≡◌, ◌+◌, ◌&&◌, take, drop, ap, ◌∙◌, arith}
 use Rattle.std.proofs.lemmas.List.{take_rest}
-use Rattle.ufs_layout.specs.Words.{byte_at, is_zeros, padded, some_if}
+use Rattle.ufs_base.specs.Choices.{some_if}
+use Rattle.ufs_layout.specs.Words.{byte_at, is_zeros, padded}
 use Rattle.ufs_layout.specs.DentryForm.{dentry_bytes, dentry_fields, dentry_of, is_dentry}
 use Rattle.ufs_layout.proofs.Spelled.{decoded-spelling, decoded-form}
 use Rattle.ufs_layout.proofs.DentryForms.{is_whole, dentry-long, dentry-decoded}

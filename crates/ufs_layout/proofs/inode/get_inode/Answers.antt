@@ -1,7 +1,8 @@
 use Rattle.std.proofs.Common.{rules, ◌≡◌, ◌&&◌, take, drop, sym, ap, subst, ◌∙◌, arith}
 use Rattle.std.specs.List.{list_all}
 use Rattle.std.proofs.lemmas.List.{take_rest}
-use Rattle.ufs_layout.specs.Words.{padded, IsPadded, some_if, byte_at}
+use Rattle.ufs_base.specs.Choices.{some_if}
+use Rattle.ufs_layout.specs.Words.{padded, IsPadded, byte_at}
 use Rattle.ufs_layout.specs.InodeForm.{extents_at, is_extent, no_extent, inode_bytes, inode_fields, inode_of, is_inode}
 use Rattle.ufs_layout.proofs.Spelled.{some_if-some, some_if-none, decoded-spelling, decoded-form}
 use Rattle.ufs_layout.proofs.Extents.{IsPadded-padded, length-extents_at}

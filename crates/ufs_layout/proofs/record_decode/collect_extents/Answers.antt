@@ -1,6 +1,6 @@
 use Rattle.std.proofs.Common.{◌≡◌, ◌+◌, [], ◌∷◌, ◌++◌, ap, sym, ◌∙◌, arith, add-one}
 use Rattle.std.specs.List.{list_all}
-use Rattle.ufs_layout.specs.Words.{some_if}
+use Rattle.ufs_base.specs.Choices.{some_if}
 use Rattle.ufs_layout.specs.InodeForm.{extents_at, is_extent}
 use Rattle.ufs_layout.proofs.Extents.{extents_at-suc, list_all-push, no_block_at}
 use Rattle.ufs_layout.proofs.record_decode.collect_extents.Goals as goal

@@ -1,7 +1,8 @@
 use Rattle.std.proofs.Common.{rules, ◌≡◌, Some, sym, ◌∙◌, arith}
 use Rattle.std.specs.List.{list_all}
 use Rattle.std.proofs.lemmas.List.{take_rest}
-use Rattle.ufs_layout.specs.Words.{byte_at, some_if}
+use Rattle.ufs_base.specs.Choices.{some_if}
+use Rattle.ufs_layout.specs.Words.{byte_at}
 use Rattle.ufs_layout.specs.InodeForm.{extents_at, is_extent}
 use Rattle.ufs_layout.specs.declared.records.LogRecord.TheVariants.{Delta}
 use Rattle.ufs_layout.proofs.Spelled.{some_if-some, some_if-none}

@@ -1,4 +1,4 @@
-use Rattle.ufs_model.specs.Facts.Starts.{start_is_tree}
+use Rattle.ufs_model.proofs.Facts.Starts.{start_is_tree}
 use Rattle.ufs_model.proofs.ContentLemmas.{start_has_contents, start_is_numbered}
 use Rattle.ufs_model.proofs.laws.a_start_is_a_tree.Goals as goal
 

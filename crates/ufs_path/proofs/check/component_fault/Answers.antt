@@ -3,7 +3,7 @@ use Rattle.std.proofs.lemmas.List.{length_push, drop_all}
 use Rattle.std.proofs.lemmas.Iterator.Splits.{YieldsList-from_slice_split}
 use Rattle.std.proofs.lemmas.Iterator.Consumers.{YieldsList-turn, YieldsList-end, YieldsList-at}
 use Rattle.ufs_path.specs.Faults.{names_fault}
-use Rattle.ufs_model.specs.Facts.Pieces.{pieces}
+use Rattle.ufs_model.proofs.Facts.Pieces.{pieces}
 use Rattle.ufs_path.proofs.FaultLemmas.{names_fault-components, names_fault-next, found, passed}
 use Rattle.ufs_path.proofs.check.component_fault.Goals as goal
 

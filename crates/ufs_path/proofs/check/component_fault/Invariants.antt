@@ -1,6 +1,6 @@
 use Rattle.std.proofs.Common.{◌≡◌, length, drop}
 use Rattle.ufs_path.specs.Faults.{names_fault}
-use Rattle.ufs_model.specs.Facts.Pieces.{pieces}
+use Rattle.ufs_model.proofs.Facts.Pieces.{pieces}
 use Rattle.ufs_path.proofs.check.component_fault.Given as goal
 
 abbrev pub invariant-loop-name : goal.invariant-loop-name

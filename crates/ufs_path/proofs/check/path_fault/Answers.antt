@@ -1,7 +1,8 @@
 use Rattle.std.proofs.Common.{◌≡◌, ap, ◌∙◌, sym, refl, Bool, true, false, not, ◌&&◌, eqb, option_and_then}
 use Rattle.std.specs.List.{list_all}
 use Rattle.ufs_model.specs.Paths.{components, ends_in_slash}
-use Rattle.ufs_path.specs.Faults.{errno_of, fault_if}
+use Rattle.ufs_base.specs.Choices.{refused_if}
+use Rattle.ufs_path.specs.Faults.{errno_of}
 use Rattle.ufs_path.specs.declared.fault.PathFault.TheVariants.{TrailingSlash}
 use Rattle.ufs_path.proofs.FaultLemmas.{errno_of-first_fault, first_fault-names, found, passed, not_empty, told_names, told_along}
 use Rattle.ufs_path.proofs.check.path_fault.Goals as goal
@@ -25,7 +26,7 @@ pub returns-then-not-is_slashes-clause-fault : goal.returns-then-not-is_slashes-
 returns-then-not-is_slashes-clause-fault c =
     let first = first_fault-names c.args.path.now (not_empty c.args.path.now c.is_empty.result c.is_empty.ensures c.if-is_empty.false) c.if-path-ne47.false c.if-path-gt-MAX_PATH.false in
     sym (first ∙ passed _ _ (sym c.component_fault.ensures ∙ c.in_default.is)
-    ∙ ap (λ t. fault_if t TrailingSlash) (trails _ _ (sym c.ends_in_slash.ensures ∙ c.if-ends_in_slash.true) (sym c.is_slashes.ensures ∙ c.if-not-is_slashes.true)))
+    ∙ ap (λ t. refused_if t TrailingSlash) (trails _ _ (sym c.ends_in_slash.ensures ∙ c.if-ends_in_slash.true) (sym c.is_slashes.ensures ∙ c.if-not-is_slashes.true)))
 
 pub returns-then-not-is_slashes-clause-errno : goal.returns-then-not-is_slashes-clause-errno
 returns-then-not-is_slashes-clause-errno c = ap (option_and_then errno_of) (returns-then-not-is_slashes-clause-fault c) ∙ errno_of-first_fault c.args.path.now
@@ -38,7 +39,7 @@ returns-clause-fault c =
       | else-ends_in_slash-via-then-ends_in_slash+else-not-is_slashes w ↦ all_slashes _ _ (sym c.ends_in_slash.ensures ∙ w.if-ends_in_slash.true) (sym w.is_slashes.ensures ∙ w.if-not-is_slashes.false)
       | else-ends_in_slash-via-else-ends_in_slash w ↦ ends_well _ _ (sym c.ends_in_slash.ensures ∙ w.if-ends_in_slash.false)
     ] in
-    sym (first ∙ passed _ _ (sym c.component_fault.ensures ∙ c.in_default.is) ∙ ap (λ t. fault_if t TrailingSlash) end)
+    sym (first ∙ passed _ _ (sym c.component_fault.ensures ∙ c.in_default.is) ∙ ap (λ t. refused_if t TrailingSlash) end)
 
 pub returns-clause-errno : goal.returns-clause-errno
 returns-clause-errno c = ap (option_and_then errno_of) (returns-clause-fault c) ∙ errno_of-first_fault c.args.path.now

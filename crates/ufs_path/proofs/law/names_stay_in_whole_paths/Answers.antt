@@ -1,5 +1,5 @@
 use Rattle.ufs_path.specs.Names.{IsName}
-use Rattle.ufs_model.specs.Facts.Pieces.{components_of}
+use Rattle.ufs_model.proofs.Facts.Pieces.{components_of}
 use Rattle.std.proofs.lemmas.List.Elements.{recursion_from_All}
 use Rattle.ufs_path.proofs.NameLemmas.{names_plain}
 use Rattle.ufs_path.proofs.law.names_stay_in_whole_paths.Goals as goal

@@ -4,7 +4,7 @@ use Rattle.std.proofs.lemmas.Iterator.Splits.{YieldsList-from_slice_split}
 use Rattle.std.proofs.lemmas.Iterator.Consumers.{YieldsList-turn, YieldsList-end, YieldsList-at}
 use Rattle.ufs_model.specs.Paths.{components}
 use Rattle.ufs_path.specs.Texts.{joined, ends_from}
-use Rattle.ufs_model.specs.Facts.Pieces.{pieces, is_some_name}
+use Rattle.ufs_model.proofs.Facts.Pieces.{pieces, is_some_name}
 use Rattle.ufs_path.proofs.KeptLemmas.{joined-next, ends-next, kept_of_text, components_of_whole}
 use Rattle.ufs_path.proofs.read.kept.Goals as goal
 

@@ -1,6 +1,6 @@
 use Rattle.std.proofs.Common.{◌≡◌, length, filter, take}
 use Rattle.ufs_path.specs.Texts.{joined, ends_from}
-use Rattle.ufs_model.specs.Facts.Pieces.{pieces, is_some_name}
+use Rattle.ufs_model.proofs.Facts.Pieces.{pieces, is_some_name}
 use Rattle.ufs_path.proofs.read.kept.Given as goal
 
 abbrev pub invariant-loop-piece : goal.invariant-loop-piece

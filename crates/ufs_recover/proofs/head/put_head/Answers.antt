@@ -1,6 +1,6 @@
 use Rattle.std.proofs.Common.{◌∙◌, ap, arith}
 use Rattle.std.proofs.lemmas.Result.{on_ok_weaker}
-use Rattle.ufs_disk.specs.Disk.{Image}
+use Rattle.ufs_base.specs.Images.{Image}
 use Rattle.ufs_disk.proofs.Images.{put_one}
 use Rattle.ufs_recover.proofs.Written.{head_written, head_settled, head_others}
 use Rattle.ufs_recover.proofs.head.put_head.Goals as goal

@@ -1,5 +1,5 @@
 use Rattle.std.proofs.Common.{◌≡◌, ◌<◌, ◌+◌, ℕ, get_or}
-use Rattle.ufs_layout.specs.Formatted.{byte_below}
+use Rattle.ufs_image.specs.Formatted.{byte_below}
 use Rattle.ufs_recover.proofs.tables.fill_bitmap.Given as goal
 
 abbrev pub invariant-loop-i : goal.invariant-loop-i

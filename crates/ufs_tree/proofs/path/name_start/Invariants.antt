@@ -1,5 +1,5 @@
 use Rattle.std.proofs.Common.{◌≡◌, ◌≤◌, true, length, drop}
-use Rattle.ufs_model.specs.Facts.Pieces.{is_free}
+use Rattle.ufs_model.proofs.Facts.Pieces.{is_free}
 use Rattle.ufs_tree.proofs.path.name_start.Given as goal
 
 abbrev pub invariant-loop-end : goal.invariant-loop-end

@@ -1,6 +1,7 @@
 use Rattle.std.proofs.Common.{◌≡◌, ◌+◌, ◌-◌, ◌<◌, [], Option, Some, None, ap, sym, ◌∙◌, length, take, drop, arith}
 use Rattle.std.specs.FinMap as map
-use Rattle.ufs_model.specs.Paths.{first_of, whole_path}
+use Rattle.ufs_base.specs.Choices.{first_of}
+use Rattle.ufs_model.specs.Paths.{whole_path}
 use Rattle.ufs_model.specs.Walk.{walk_refusal_from, dir_refusal}
 use Rattle.ufs_model.specs.declared.data.Errno.{Errno}
 use Rattle.ufs_tree.proofs.WalkLemmas.{walk_on, walk_end}

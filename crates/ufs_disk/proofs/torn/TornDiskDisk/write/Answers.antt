@@ -1,7 +1,8 @@
 use Rattle.std.proofs.Common.{◌≡◌, ◌/◌, ◌%◌, ◌≤◌, inl, inr, ℕ, List, take, length, sym, ◌∙◌, ap, arith}
 use Rattle.std.proofs.lemmas.Bool.{cases_eq}
 use Rattle.std.proofs.lemmas.List.{length-take-le}
-use Rattle.ufs_disk.specs.Disk.{Image, Mixes, put, overwritten, sectors_of}
+use Rattle.ufs_base.specs.Images.{Image}
+use Rattle.ufs_disk.specs.Disk.{Mixes, put, overwritten, sectors_of}
 use Rattle.ufs_disk.proofs.Images.{put_all_within, put_one, put_same, put_other}
 use Rattle.ufs_disk.proofs.Flat.{length-pieces, pieces_at}
 use Rattle.ufs_disk.proofs.Runs.{weaker}

@@ -1,7 +1,7 @@
 use Rattle.std.proofs.Common.{◌≡◌, List, [], ◌∷◌, ◌++◌, false, ap, sym, subst, ◌∙◌}
 use Rattle.ufs_model.specs.History.{IsLegal, IsInOrder, AreUnexcused, is_excused, tree_after}
 use Rattle.ufs_model.specs.declared.data.Entry.{Entry}
-use Rattle.ufs_model.specs.Facts.Histories.{legal-push, tree_after-push, order-push, all-push}
+use Rattle.ufs_model.proofs.Facts.Histories.{legal-push, tree_after-push, order-push, all-push}
 use Rattle.ufs_model.proofs.PosixReplyLemmas.{legal_entry, new_fault, stepped_on, unexcused}
 use Rattle.ufs_model.proofs.lists.EntryList.push.Goals as goal
 

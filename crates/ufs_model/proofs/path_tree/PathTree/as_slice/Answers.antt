@@ -2,9 +2,9 @@ use Rattle.std.proofs.Common.{◌≡◌, ap, sym, ◌∙◌}
 use Rattle.std.specs.FinMap as map
 use Rattle.ufs_model.specs.Order.{path_cmp}
 use Rattle.ufs_model.specs.PathEntries.{pairs_of}
-use Rattle.ufs_model.specs.Facts.Orders.{path_total, path_same}
-use Rattle.ufs_model.specs.Facts.Rising.{entries-rising}
-use Rattle.ufs_model.specs.Facts.Starts.{files_of}
+use Rattle.ufs_model.proofs.Facts.Orders.{path_total, path_same}
+use Rattle.ufs_model.proofs.Facts.Rising.{entries-rising}
+use Rattle.ufs_model.proofs.Facts.Starts.{files_of}
 use Rattle.ufs_model.proofs.path_tree.PathTree.as_slice.Goals as goal
 use Rattle.ufs_model.proofs.path_tree.PathTree.as_slice.Goals.{After-as_slice}
 

@@ -2,9 +2,9 @@ use Rattle.std.proofs.Common.{◌≤◌, sym, arith, length}
 use Rattle.ufs_model.specs.Order.{path_cmp}
 use Rattle.ufs_model.specs.PathEntries.{pairs_of, nodes_of}
 use Rattle.ufs_model.specs.Start.{start_of}
-use Rattle.ufs_model.specs.Facts.Orders.{path_total, path_same}
-use Rattle.ufs_model.specs.Facts.Rising.{entries-rising}
-use Rattle.ufs_model.specs.Facts.Starts.{files_of}
+use Rattle.ufs_model.proofs.Facts.Orders.{path_total, path_same}
+use Rattle.ufs_model.proofs.Facts.Rising.{entries-rising}
+use Rattle.ufs_model.proofs.Facts.Starts.{files_of}
 use Rattle.ufs_model.proofs.path_tree.PathTree.from_vec.Goals as goal
 
 pub returns-clause-entries : goal.returns-clause-entries

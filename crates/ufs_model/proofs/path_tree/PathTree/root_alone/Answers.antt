@@ -1,7 +1,7 @@
 use Rattle.std.proofs.Common.{◌≡◌, ap, sym, subst, ◌∙◌, rules}
 use Rattle.ufs_model.specs.Start.{PathNodes, IsPathTree, path_root, start_of}
 use Rattle.ufs_model.specs.PathEntries.{nodes_of}
-use Rattle.ufs_model.specs.Facts.Starts.{root_is_tree, start_of-root}
+use Rattle.ufs_model.proofs.Facts.Starts.{root_is_tree, start_of-root}
 use Rattle.ufs_model.proofs.path_tree.PathTree.root_alone.Goals as goal
 
 pub returns-clause-tree : goal.returns-clause-tree

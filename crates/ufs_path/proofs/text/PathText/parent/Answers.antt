@@ -1,7 +1,7 @@
 use Rattle.std.proofs.Common.{◌-◌, ◌∙◌, ap, sym, take, length, List, ℕ}
 use Rattle.ufs_model.specs.Paths.{whole_path}
 use Rattle.ufs_path.specs.Names.{IsName}
-use Rattle.ufs_model.specs.Facts.Pieces.{components_of}
+use Rattle.ufs_model.proofs.Facts.Pieces.{components_of}
 use Rattle.std.proofs.lemmas.List.Elements.{recursion_from_All}
 use Rattle.ufs_path.proofs.NameLemmas.{names_plain}
 use Rattle.ufs_path.proofs.text.PathText.parent.Goals as goal

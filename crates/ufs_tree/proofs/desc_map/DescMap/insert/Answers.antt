@@ -1,8 +1,8 @@
 use Rattle.std.proofs.Common.{ℕ, sym, ap, ◌∙◌}
 use Rattle.std.specs.FinMap as map
 use Rattle.ufs_model.specs.Order.{fd_cmp}
-use Rattle.ufs_calls.specs.Facts.Maps.{insert-seen, get-seen, on_err}
-use Rattle.ufs_model.specs.Facts.Orders.{fd_total, fd_same}
+use Rattle.ufs_calls.proofs.Facts.Maps.{insert-seen, get-seen, on_err}
+use Rattle.ufs_model.proofs.Facts.Orders.{fd_total, fd_same}
 use Rattle.ufs_tree.proofs.desc_map.DescMap.insert.Goals as goal
 
 pub returns-clause-ok : goal.returns-clause-ok

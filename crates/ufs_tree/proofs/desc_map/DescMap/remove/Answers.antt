@@ -1,8 +1,8 @@
 use Rattle.std.proofs.Common.{ℕ, ap, ◌∙◌}
 use Rattle.std.specs.FinMap as map
 use Rattle.ufs_model.specs.Order.{fd_cmp}
-use Rattle.ufs_calls.specs.Facts.Maps.{remove-seen}
-use Rattle.ufs_model.specs.Facts.Orders.{fd_total, fd_same}
+use Rattle.ufs_calls.proofs.Facts.Maps.{remove-seen}
+use Rattle.ufs_model.proofs.Facts.Orders.{fd_total, fd_same}
 use Rattle.ufs_tree.proofs.desc_map.DescMap.remove.Goals as goal
 
 pub returns : goal.returns

@@ -3,8 +3,8 @@ use Rattle.std.specs.Prelude.{IsSome}
 use Rattle.std.specs.FinMap as map
 use Rattle.ufs_model.specs.Order.{path_cmp}
 use Rattle.ufs_tree.specs.Counted.{CountsByDir}
-use Rattle.ufs_calls.specs.Facts.Maps.{set-seen, get-seen}
-use Rattle.ufs_model.specs.Facts.Orders.{path_total, path_same}
+use Rattle.ufs_calls.proofs.Facts.Maps.{set-seen, get-seen}
+use Rattle.ufs_model.proofs.Facts.Orders.{path_total, path_same}
 use Rattle.ufs_tree.proofs.dir_counts.DirCounts.replace.Goals as goal
 
 pub returns : goal.returns

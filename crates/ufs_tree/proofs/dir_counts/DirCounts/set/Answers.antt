@@ -1,8 +1,8 @@
 use Rattle.std.proofs.Common.{ap, ◌∙◌}
 use Rattle.std.specs.FinMap as map
 use Rattle.ufs_model.specs.Order.{path_cmp}
-use Rattle.ufs_calls.specs.Facts.Maps.{insert-seen}
-use Rattle.ufs_model.specs.Facts.Orders.{path_total, path_same}
+use Rattle.ufs_calls.proofs.Facts.Maps.{insert-seen}
+use Rattle.ufs_model.proofs.Facts.Orders.{path_total, path_same}
 use Rattle.ufs_tree.proofs.dir_counts.DirCounts.set.Goals as goal
 
 pub returns-clause-ok : goal.returns-clause-ok

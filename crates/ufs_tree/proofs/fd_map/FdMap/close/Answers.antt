@@ -1,7 +1,7 @@
 use Rattle.std.proofs.Common.{ap, sym, ◌∙◌}
 use Rattle.std.specs.FinMap as map
-use Rattle.ufs_model.specs.Facts.Orders.{fd_total, fd_same}
-use Rattle.ufs_calls.specs.Facts.Inserts.{remove_absent}
+use Rattle.ufs_model.proofs.Facts.Orders.{fd_total, fd_same}
+use Rattle.ufs_calls.proofs.Facts.Inserts.{remove_absent}
 use Rattle.ufs_tree.proofs.HolderLemmas.{counted_closed}
 use Rattle.ufs_tree.proofs.fd_map.FdMap.close.Goals as goal
 

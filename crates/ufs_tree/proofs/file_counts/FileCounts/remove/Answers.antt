@@ -3,7 +3,7 @@ use Rattle.std.specs.FinMap as map
 use Rattle.std.specs.FinMap.{nat_cmp-IsAntisymmetric}
 use Rattle.std.specs.Ordering.{nat_cmp}
 use Rattle.std.specs.Cmp.{nat_cmp_total}
-use Rattle.ufs_calls.specs.Facts.Maps.{remove-seen}
+use Rattle.ufs_calls.proofs.Facts.Maps.{remove-seen}
 use Rattle.ufs_tree.proofs.file_counts.FileCounts.remove.Goals as goal
 
 pub returns : goal.returns

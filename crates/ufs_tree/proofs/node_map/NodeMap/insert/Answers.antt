@@ -2,8 +2,8 @@ use Rattle.std.proofs.Common.{ap, sym, ◌∙◌}
 use Rattle.std.specs.FinMap as map
 use Rattle.ufs_model.specs.Order.{path_cmp}
 use Rattle.ufs_model.specs.PosixTree.{Paths}
-use Rattle.ufs_calls.specs.Facts.Maps.{insert-seen, get-seen}
-use Rattle.ufs_model.specs.Facts.Orders.{path_total, path_same}
+use Rattle.ufs_calls.proofs.Facts.Maps.{insert-seen, get-seen}
+use Rattle.ufs_model.proofs.Facts.Orders.{path_total, path_same}
 use Rattle.ufs_tree.proofs.node_map.NodeMap.insert.Goals as goal
 
 pub returns-in-Err-clause-absent : goal.returns-in-Err-clause-absent

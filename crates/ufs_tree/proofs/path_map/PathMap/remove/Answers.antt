@@ -2,8 +2,8 @@ use Rattle.std.proofs.Common.{ap, sym, ◌-◌, ◌∙◌, cond}
 use Rattle.std.specs.FinMap as map
 use Rattle.ufs_model.specs.PosixTree.{Paths}
 use Rattle.ufs_tree.specs.Counted.{count_at}
-use Rattle.ufs_model.specs.Facts.Orders.{path_total, path_same}
-use Rattle.ufs_calls.specs.Facts.Inserts.{remove_absent}
+use Rattle.ufs_model.proofs.Facts.Orders.{path_total, path_same}
+use Rattle.ufs_calls.proofs.Facts.Inserts.{remove_absent}
 use Rattle.ufs_tree.proofs.CountedLemmas.{removed_counted}
 use Rattle.ufs_tree.proofs.path_map.PathMap.remove.Goals as goal
 

@@ -1,0 +1,2 @@
+pub mod NewBitmap
+pub mod NewImage

@@ -1,0 +1,11 @@
+pub mod Images
+pub mod Journal
+pub mod BadSectors
+pub mod Fold
+pub mod Nodes
+pub mod Damage
+pub mod Volume
+pub mod Opens
+pub mod Proper
+pub mod Formatted
+pub mod Laws
