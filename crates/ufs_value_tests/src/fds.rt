@@ -1,6 +1,6 @@
 // What no clause says: all calls one after another, to the highest number and back.
-use crate::FdTable;
 use std::test::Fail;
+use ufs_fds::FdTable;
 use ufs_model::Desc;
 
 fn of_file(file: u32) -> Desc {

@@ -1,6 +1,6 @@
-use crate::{Extents, Full56, Run, Runs};
 use std::test::Fail;
 use ufs_base::Memory;
+use ufs_extent::{Extents, Full56, Run, Runs};
 
 const FILE: [Run; 3] = [
     Run {

@@ -1,9 +1,9 @@
 // What no clause says: that a path is read where there is memory, and what the calls answer then.
-use crate::{PathFault, path_fault, read_path};
 use std::alloc::{AllocError, AllocGlobal, Global};
 use std::process::Abort;
 use std::test::Fail;
 use ufs_model::Errno;
+use ufs_path::{PathFault, path_fault, read_path};
 
 fn repeated(alloc: Global, piece: &[u8], count: usize) -> Result<Vec<u8>, AllocError> {
     let mut text = Vec::new(alloc);

@@ -1,14 +1,14 @@
 // What no clause says: that calls succeed where there is memory, that a source which fails once in
 // mid-stream isn't read again, how many reads there are, and lines as the format has them.
-use crate::{
-    OpList, OpLists, ScheduleWord, Script, ScriptFault, WordList, a_longer_text_breaks_alike,
-    printing_and_reading, read_script, reply_line, trace_line,
-};
 use std::alloc::Global;
 use std::io::Read;
 use std::test::Fail;
 use ufs_io::{MemorySource, PlainSource, StreamSource};
 use ufs_model::{Actor, ActorList, Bytes, Entry, Errno, Excuse, NameList, Op, Reply, Whence};
+use ufs_script::{
+    OpList, OpLists, ScheduleWord, Script, ScriptFault, WordList, a_longer_text_breaks_alike,
+    printing_and_reading, read_script, reply_line, trace_line,
+};
 
 fn answer_to(alloc: Global, text: &str) -> Result<Result<Script, ScriptFault>, Fail> {
     let mut source = PlainSource::new(text.as_bytes().to_vec(alloc)?);

@@ -1,13 +1,13 @@
 // What no clause says: that the calls which take memory succeed where there is some. And a row of POSIX for each rule.
-use crate::{
+use std::alloc::Global;
+use std::test::Fail;
+use ufs_base::Memory;
+use ufs_calls::{
     FileMap, MAX_SIZE, Mode, count_from, dir_refusal, fd_named, file_named, file_of, is_dir,
     is_file, is_past, list_refusal, make_refusal, moved_by, open_refusal, own_refusal, part,
     place_of, replace_refusal, rmdir_refusal, seek_to, size_refusal, stat_refusal, text,
     text_refusal, unlink_refusal,
 };
-use std::alloc::Global;
-use std::test::Fail;
-use ufs_base::Memory;
 use ufs_model::{Bytes, Desc, Errno, Node, Op, Whence};
 
 #[test]

@@ -1,7 +1,7 @@
 ghost use Rattle.std.specs.Prelude.{◌≡◌, ◌≤◌};
 
-use crate::{Bitmap, Pool};
 use std::test::Fail;
+use ufs_bitmap::{Bitmap, Pool};
 use ufs_extent::Run;
 
 #[test]

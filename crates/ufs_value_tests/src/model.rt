@@ -4,13 +4,13 @@ ghost use Rattle.ufs_model.specs.History.{joined, tickets_of};
 ghost use Rattle.ufs_model.specs.PathEntries.{pairs_of};
 ghost use Rattle.ufs_model.specs.declared.data.PathNode.TheVariants as path_node;
 
-use crate::{
-    Actor, Bytes, Entry, EntryList, Errno, NameList, Op, PathEntry, PathNode, PathTree, Reply,
-    merge,
-};
 use std::alloc::Global;
 use std::test::Fail;
 use ufs_base::Memory;
+use ufs_model::{
+    Actor, Bytes, Entry, EntryList, Errno, NameList, Op, PathEntry, PathNode, PathTree, Reply,
+    merge,
+};
 
 fn dir(alloc: Global, path: &[u8]) -> Result<PathEntry, Memory>
     ensures { IfOk result (λ e. e ≡ record { path = path.now; node = path_node.Dir }) }
