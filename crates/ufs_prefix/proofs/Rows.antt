@@ -1,0 +1,6 @@
+-- Worked rows: what a crash may leave after a few requests, and what each definition says of a small case.
+pub mod Sessions
+pub mod Bytes
+pub mod OneFile
+pub mod Appended
+pub mod Rewritten
