@@ -4,3 +4,4 @@ pub mod Bytes
 pub mod OneFile
 pub mod Appended
 pub mod Rewritten
+pub mod Replaced

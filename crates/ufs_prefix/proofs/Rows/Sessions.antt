@@ -1,5 +1,5 @@
 -- Sessions that are worked by hand: entries, each with the tree after it; and what such a session shows.
-use Rattle.std.proofs.Common.{◌≡◌, ℕ, Bool, true, false, cond, List, [], ◌∷◌, get_or, map, Option, Some, None, ap, sym, refl, ◌∙◌, subst}
+use Rattle.std.proofs.Common.{◌≡◌, ℕ, Bool, true, false, cond, List, [], ◌∷◌, length, get_or, map, Option, Some, None, ap, sym, refl, ◌∙◌, subst, arith}
 use Rattle.std.specs.Prelude.{codes}
 use Rattle.std.specs.FinMap as fin
 use Rattle.std.specs.FinMap.{get-insert, get-empty}
@@ -18,7 +18,9 @@ use Rattle.ufs_model.specs.declared.data.Op.{Op}
 use Rattle.ufs_model.specs.declared.data.PathNode.{PathNode}
 use Rattle.ufs_model.specs.declared.data.PathNode.TheVariants as path_node
 use Rattle.ufs_model.specs.declared.data.Reply.{Reply}
+use Rattle.ufs_prefix.specs.FileChanges.{all_changed, IsShown}
 use Rattle.ufs_prefix.specs.Steps.{Step, steps}
+use Rattle.ufs_prefix.proofs.Facts.Shows.{shown_now, shown_exactly}
 use Rattle.ufs_prefix.specs.Changes.{NameState, names_of, changes_of, name_changes, names_after, file_synced}
 use Rattle.ufs_prefix.specs.Explained.{IsNodeWith, IsTreeWith, ShowsSynced}
 use Rattle.ufs_prefix.specs.declared.data.FileChange.{FileChange}
@@ -79,6 +81,10 @@ HasFile tree path bytes = fin.get tree path ≡ Some (path_node.File bytes)
 abbrev pub HasNone : PathNodes → List ℕ → Type 0
 HasNone tree path = fin.get tree path ≡ None
 
+-- a path has one file's bytes
+pub same_bytes : (tree : PathNodes) (path bytes other : List ℕ) → HasFile tree path bytes → HasFile tree path other → bytes ≡ other
+same_bytes tree path bytes other is also = let same = sym is ∙ also in cc
+
 -- ---- what a session shows
 
 -- a file's opening bytes, its changes, and how many of them are synced
@@ -101,3 +107,11 @@ module _ (start : PosixTree) (history : List Entry) where
   -- the names after so many of the listed changes
   pub names_at : (ns : List NameState) → name_changes start history ≡ ns → (count : ℕ) → names_after start history count ≡ get_or (names_of start ∷ ns) count (names_of start)
   names_at ns are count = ap (λ l. get_or (names_of start ∷ l) count (names_of start)) are
+
+-- where all changes are synced nothing else is shown
+pub all_synced : (opening : List ℕ) (changes : List FileChange) (bytes : List ℕ) → ShowsSynced opening changes (length changes) bytes → bytes ≡ all_changed opening changes
+all_synced opening changes bytes shows =
+    let all : shows.count ≡ length changes = omega (arith, shows.covers, shows.shown.made) in shown_exactly opening changes bytes (subst (λ count. IsShown opening changes count bytes) all shows.shown)
+
+pub all_shown : (opening : List ℕ) (changes : List FileChange) → ShowsSynced opening changes (length changes) (all_changed opening changes)
+all_shown opening changes = record { count = length changes; covers = omega arith; shown = shown_now opening changes }
