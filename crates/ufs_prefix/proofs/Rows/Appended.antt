@@ -61,14 +61,14 @@ done_is : posix two 0 fsyncs_more.op ≡ (two, reply.Done)
 done_is = simp (gets, fd_total)
 
 -- before the second `fsync`
-abbrev four : Worked
+abbrev pub four : Worked
 four = (opens, made) ∷ (writes, one) ∷ (fsyncs, one) ∷ (writes_more, two) ∷ []
 
 -- and after it
 abbrev five : Worked
 five = (opens, made) ∷ (writes, one) ∷ (fsyncs, one) ∷ (writes_more, two) ∷ (fsyncs_more, two) ∷ []
 
-four_worked : IsWorked root_alone four
+pub four_worked : IsWorked root_alone four
 four_worked = ((λ i. (made_is i).0), ((λ i. (one_is i).0), ((λ i. (fsynced_is i).0), ((λ i. (two_is i).0), tt))))
 
 five_worked : IsWorked root_alone five
@@ -94,10 +94,10 @@ change_1 = ap (λ (d : Desc). cond (is_number 0 d.file) (written_at (place_of d 
 change_3 : change_of 0 (record { before = one; entry = writes_more }) ≡ change.Written 2 (codes "bb") ∷ []
 change_3 = ap (λ (d : Desc). cond (is_number 0 d.file) (written_at (place_of d (content one.bytes d.file)) (codes "bb")) []) desc_one
 
-abbrev changes : List FileChange
+abbrev pub changes : List FileChange
 changes = change.Written 0 (codes "aa") ∷ change.Written 2 (codes "bb") ∷ []
 
-four_row : IsFileRow root_alone (history_of four) 0 [] changes 1
+pub four_row : IsFileRow root_alone (history_of four) 0 [] changes 1
 four_row = record {
   opened = opening_is;
   changed = ap (flat_map (change_of 0)) (steps_walked root_alone four four_worked) ∙ (λ i. change_0 i ++ (change_1 i ++ ([] ++ (change_3 i ++ []))));
@@ -116,7 +116,7 @@ five_row = record {
       cond a (length (change_0 i) + cond a (length (change_1 i) + cond b (0 + cond b (length (change_3 i) + 0) 0) 0) 0) 0);
 }
 
-four_names : name_changes root_alone (history_of four) ≡ names_of made ∷ []
+pub four_names : name_changes root_alone (history_of four) ≡ names_of made ∷ []
 four_names = ap (flat_map names_by) (steps_walked root_alone four four_worked) ∙ (λ i. cond (is_none (nothing_there i)) (names_of (made_is i).0 ∷ []) [] ++ [])
 
 five_names : name_changes root_alone (history_of five) ≡ names_of made ∷ []
@@ -141,7 +141,7 @@ all_four : (bytes : List ℕ) → IsShown [] changes 2 bytes → bytes ≡ codes
 all_four bytes shown = shown_exactly [] changes bytes shown
 
 -- with the first
-first_two : (bytes : List ℕ) → IsShown [] changes 1 bytes → bytes ≡ codes "aa"
+pub first_two : (bytes : List ℕ) → IsShown [] changes 1 bytes → bytes ≡ codes "aa"
 first_two bytes shown = by bytes (shown_options [] changes 1 bytes shown)
   where
     only : (b : ℕ) → IsOneOf (97 ∷ []) b → b ≡ 97

@@ -10,14 +10,14 @@ use Rattle.ufs_model.specs.Order.{path_cmp}
 use Rattle.ufs_model.specs.PosixTree.{PosixTree, Paths, is_number}
 use Rattle.ufs_model.specs.Walk.{file_of}
 use Rattle.ufs_model.specs.Directories.{renamed, renamed_path}
-use Rattle.ufs_model.specs.FileBytes.{bytes_of, content, place_of}
+use Rattle.ufs_model.specs.FileBytes.{content, place_of}
 use Rattle.ufs_model.specs.Start.{PathNodes, path_root}
 use Rattle.ufs_model.specs.Descriptors.{lowest_free, opened, closed}
 use Rattle.ufs_model.specs.Refusals.{refusal}
 use Rattle.ufs_model.specs.Posix.{posix, served}
 use Rattle.ufs_model.proofs.Facts.Orders.{path_total, path_same, fd_total}
 use Rattle.ufs_model.proofs.Facts.Rising.{entries-empty}
-use Rattle.ufs_model.proofs.Facts.Lookups.{one_key, removed_here, removed_else, inserted_else, is_apart}
+use Rattle.ufs_model.proofs.Facts.Lookups.{one_key, removed_here, removed_else, is_apart}
 use Rattle.ufs_model.specs.declared.data.Desc.{Desc}
 use Rattle.ufs_model.specs.declared.data.Entry.{Entry}
 use Rattle.ufs_model.specs.declared.data.Node.{Node}
@@ -25,10 +25,11 @@ use Rattle.ufs_model.specs.declared.data.Node.TheVariants.{Dir, File}
 use Rattle.ufs_model.specs.declared.data.Op.TheVariants as op
 use Rattle.ufs_model.specs.declared.data.PathNode.TheVariants as path_node
 use Rattle.ufs_model.specs.declared.data.Reply.TheVariants as reply
-use Rattle.ufs_prefix.specs.Steps.{Step, before_last}
+use Rattle.ufs_prefix.specs.Steps.{before_last}
 use Rattle.ufs_prefix.specs.Changes.{NameState, names_of, written_at, change_of, changes_of, names_by, name_changes, names_after, syncs_file, syncs_names, is_fsync_of, file_synced, names_synced, is_fsynced}
-use Rattle.ufs_prefix.specs.Explained.{IsTreeWith, ShowsSynced, IsExplained}
+use Rattle.ufs_prefix.specs.Explained.{IsTreeWith, IsExplained}
 use Rattle.ufs_prefix.proofs.Facts.Entries.{names_forget}
+use Rattle.ufs_prefix.proofs.Facts.Shows.{shown_then}
 use Rattle.ufs_prefix.proofs.Facts.Explains.{file_there, none_there}
 use Rattle.ufs_prefix.proofs.Rows.Sessions.{entry, desc, Worked, history_of, IsWorked, walked, steps_walked, with_file, HasFile, HasNone, both_empty, both_inserted, IsFileRow, Shows, row_shows, shows_row, names_at, same_bytes, all_synced, all_shown}
 use Rattle.ufs_prefix.proofs.Rows.OneFile.{or_false}
@@ -301,3 +302,40 @@ no_name_is_not_explained is = by (renamed_file_is_old_or_new _ is)
     by : BothNames path_root ⊎ OneName path_root → ⊥
     by (inl both) = let e = sym none ∙ both.0 in cc
     by (inr one) = let e = sym none ∙ one.0 in cc
+
+-- ---- without the `fsync`
+
+abbrev quick : Worked
+quick = (opens, made) ∷ (writes, written) ∷ (renames, after) ∷ []
+
+quick_worked : IsWorked start quick
+quick_worked = ((λ i. (made_is i).0), ((λ i. (written_is i).0), (refl, tt)))
+
+quick_names : name_changes start (history_of quick) ≡ names_of made ∷ record { paths = replaced; next = 2 } ∷ []
+quick_names = ap (flat_map names_by) (steps_walked start quick quick_worked) ∙ (λ i. cond (is_none (nothing_there i)) (names_of (made_is i).0 ∷ []) [] ++ (after_is i ∷ []))
+
+quick_row : IsFileRow start (history_of quick) 1 [] (change.Written 0 (codes "new") ∷ []) 0
+quick_row = record {
+  opened = new_row.opened;
+  changed = ap (flat_map (change_of 1)) (steps_walked start quick quick_worked) ∙ (λ i. change_0 1 i ++ (change_1 1 i ++ ([] ++ [])));
+  counted = refl;
+}
+
+abbrev pub empty_name : PathNodes
+empty_name = fin.from_entries ((codes "/", path_node.Dir) ∷ (codes "/c", path_node.File []) ∷ [])
+
+-- Names and bytes have prefixes of their own: the new name may be there without the new bytes, and the old bytes are gone.
+pub an_empty_file_is_explained : IsExplained empty_name start (history_of quick)
+an_empty_file_is_explained = record {
+  names = 2;
+  made = subst (λ (ns : List NameState). 2 ≤ length ns) (sym quick_names) (omega arith);
+  synced = omega arith;
+  born = λ file e. cc;
+  shown = subst (λ (n : NameState). IsTreeWith (Shows start (history_of quick)) n.paths empty_name) (sym (names_at start (history_of quick) names quick_names 2))
+      (both_inserted (Shows start (history_of quick)) (fin.insert fin.empty (codes "/c") (File 1)) (fin.insert fin.empty (codes "/c") (path_node.File [])) (codes "/") Dir path_node.Dir tt
+      (both_inserted (Shows start (history_of quick)) fin.empty fin.empty (codes "/c") (File 1) (path_node.File []) empty_shown (both_empty (Shows start (history_of quick)))));
+}
+  where
+    empty_shown : Shows start (history_of quick) 1 []
+    empty_shown = shows_row start (history_of quick) 1 [] (change.Written 0 (codes "new") ∷ []) 0 quick_row []
+        (record { count = 0; covers = omega arith; shown = shown_then [] (change.Written 0 (codes "new") ∷ []) 0 (omega arith) })
