@@ -14,8 +14,6 @@ pub mod Options
 pub mod Stores
 pub mod Kinds
 pub mod Acks
-pub mod Parts
 pub mod Differ
 pub mod Mapped
-pub mod Pushes
 pub mod Keeps

@@ -15,7 +15,7 @@ use Rattle.ufs_model.specs.declared.data.PathNode.TheVariants as path_node
 use Rattle.ufs_prefix.specs.FileChanges.{all_changed}
 use Rattle.ufs_prefix.specs.Changes.{changes_of, name_changes, names_after, file_synced}
 use Rattle.ufs_prefix.specs.Explained.{IsNodeWith, IsTreeWith, ShowsSynced, IsFileShown, IsCovering}
-use Rattle.ufs_prefix.specs.StepLaws.{EntriesKeepShown, OthersAcknowledgeNothing, IsSameBut, HasFileWith, FilesAreExplainedAlone, ChangesAreLocal, FileCommitsAreShown, CommitsAreExplained, IsWrittenBack, WrittenBackIsShown, WrittenBackTreesAreShown, EntriesAreKept, WriteBacksAreKept, FileCommitsAreKept, NameCommitsAreKept}
+use Rattle.ufs_prefix.specs.StepLaws.{EntriesKeepShown, OthersAcknowledgeNothing, IsSameBut, HasFileWith, FilesAreExplainedAlone, ChangesAreLocal, FileCommitsAreShown, NameCommitsAreShown, CommitsAreExplained, IsWrittenBack, WrittenBackIsShown, WrittenBackTreesAreShown, EntriesAreKept, WriteBacksAreKept, FileCommitsAreKept, NameCommitsAreKept, UnnamedFilesAreKept}
 use Rattle.ufs_prefix.proofs.Facts.Shows.{shown_written_back}
 use Rattle.ufs_prefix.proofs.Facts.Histories.{name_changes-append}
 use Rattle.ufs_prefix.proofs.Facts.Explains.{node_weaker, shown_by-append, committed_file, written_back}
@@ -24,7 +24,8 @@ use Rattle.ufs_prefix.proofs.Facts.Ends.{covering_more}
 use Rattle.ufs_prefix.proofs.Facts.Between.{more_of, explained_from}
 use Rattle.ufs_prefix.proofs.Facts.Acks.{not_ok_covered, no_commit_covered}
 use Rattle.ufs_prefix.proofs.Facts.Local.{file_alike, names_alike}
-use Rattle.ufs_prefix.proofs.Facts.Keeps.{kept-push, kept_written_back, kept_committed_file, kept_committed_names}
+use Rattle.ufs_prefix.proofs.Facts.Stores.{stored_opens, stored_names}
+use Rattle.ufs_prefix.proofs.Facts.Keeps.{kept-push, kept_written_back, kept_committed_file, kept_committed_names, kept_unnamed}
 
 -- ---- one more entry
 
@@ -68,6 +69,10 @@ local locality t u entry is is' legal agree = ((λ file. file_alike t u entry le
 
 pub commits_shown : FileCommitsAreShown
 commits_shown start history names files more file old new = committed_file start history names files more file old new
+
+pub name_commits_shown : NameCommitsAreShown
+name_commits_shown start history names more files content old new le made stored before after =
+    (stored_opens start history names files content old stored before, stored_opens start history more files content new (stored_names start history names more files content le made stored) after)
 
 pub commits_explained : KeepsTrees → CommitsAreExplained
 commits_explained keeps start history from to names more files others old new is legal le each covers before after =
@@ -122,3 +127,6 @@ file_commits_kept start history names files others content after file made apart
 pub name_commits_kept : KeepsTrees → NameCommitsAreKept
 name_commits_kept keeps start history names more files content is legal le made kept =
     kept_committed_names start history names files content kept keeps is legal.entries more le made
+
+pub unnamed_kept : UnnamedFilesAreKept
+unnamed_kept start history names files others content after same grows fresh kept = kept_unnamed start history names files content kept others after same grows fresh

@@ -79,6 +79,14 @@ abbrev pub ExplainedMeanwhile : Type 0
 ExplainedMeanwhile = (start : PosixTree) (history : List Entry) (from to : ℕ) (names : ℕ) (files : ℕ → ℕ) (tree : PathNodes) → IsShownBy start (take from history) names files tree
     → IsCovering start (take to history) names files → IsExplainedFrom tree start history from to
 
+-- Stretches of entries by which a tree is explained join,
+abbrev pub StretchesJoin : Type 0
+StretchesJoin = (start : PosixTree) (history : List Entry) (from mid to : ℕ) (tree : PathNodes) → IsExplainedFrom tree start history from mid → IsExplainedFrom tree start history mid to → IsExplainedFrom tree start history from to
+
+-- and entries behind them don't matter.
+abbrev pub LaterEntriesDoNotMatter : Type 0
+LaterEntriesDoNotMatter = (start : PosixTree) (history more : List Entry) (from to : ℕ) (tree : PathNodes) → to ≤ length history → IsExplainedFrom tree start history from to → IsExplainedFrom tree start (history ++ more) from to
+
 -- ---- what an acknowledgement leaves open
 
 -- Right after an acknowledged `sync` the tree itself is explained, and no other.

@@ -17,7 +17,7 @@ use Rattle.ufs_prefix.specs.FileChanges.{all_changed, byte_at, IsShown}
 use Rattle.ufs_prefix.specs.Steps.{is_ok}
 use Rattle.ufs_prefix.specs.Changes.{change_of, changes_of, names_by, name_changes, names_after, asks_commit, file_synced}
 use Rattle.ufs_prefix.specs.Explained.{IsTreeWith, ShowsSynced, IsExplained, IsFileShown, IsShownBy, IsCovering, IsAckCovered, IsExplainedFrom}
-use Rattle.ufs_prefix.specs.Stored.{IsNamed, IsKept}
+use Rattle.ufs_prefix.specs.Stored.{IsNamed, IsStored, IsKept}
 use Rattle.ufs_prefix.specs.declared.data.FileChange.{FileChange}
 
 -- ---- one more entry
@@ -86,6 +86,14 @@ FileCommitsAreShown = (start : PosixTree) (history : List Entry) (names : ℕ) (
     → IsSameBut (names_after start history names).paths file old new → HasFileWith (IsFileShown start history more file) (names_after start history names).paths file new
     → IsShownBy start history names files old → IsShownBy start history names more new
 
+-- A commit of names: the disk has in each file what it had, also in those that only later names have; so the trees before
+-- and after show the old and the new number of changes of names, and in each file the same changes.
+abbrev pub NameCommitsAreShown : Type 0
+NameCommitsAreShown = (start : PosixTree) (history : List Entry) (names more : ℕ) (files : ℕ → ℕ) (content : ℕ → List ℕ) (old new : PathNodes) → names ≤ more → more ≤ length (name_changes start history)
+    → IsStored start history names files content
+    → IsTreeWith (λ file bytes. bytes ≡ content file) (names_after start history names).paths old → IsTreeWith (λ file bytes. bytes ≡ content file) (names_after start history more).paths new
+    → IsShownBy start history names files old × IsShownBy start history more files new
+
 -- The tree before a commit and the one after it are both explained meanwhile: by each number of entries from those that
 -- made the changes to those whose acknowledgements the numbers before cover.
 abbrev pub CommitsAreExplained : Type 0
@@ -148,3 +156,11 @@ FileCommitsAreKept = (start : PosixTree) (history : List Entry) (names : ℕ) (f
 abbrev pub NameCommitsAreKept : Type 0
 NameCommitsAreKept = (start : PosixTree) (history : List Entry) (names more : ℕ) (files : ℕ → ℕ) (content : ℕ → List ℕ) → IsTree start → IsLegal start history
     → names ≤ more → more ≤ length (name_changes start history) → IsKept start history names files content → IsKept start history more files content
+
+-- Files that no names have from the stored ones on, which were dropped or are open without a name, may count as committed
+-- further, and their blocks may get other bytes.
+abbrev pub UnnamedFilesAreKept : Type 0
+UnnamedFilesAreKept = (start : PosixTree) (history : List Entry) (names : ℕ) (files others : ℕ → ℕ) (content after : ℕ → List ℕ)
+    → ((count file : ℕ) → names ≤ count → count ≤ length (name_changes start history) → IsNamed (names_after start history count).paths file → (files file ≡ others file) × (content file ≡ after file))
+    → ((file : ℕ) → files file ≤ others file) → ((file : ℕ) → (tree_after start history).next ≤ file → (others file ≡ 0) × (after file ≡ []))
+    → IsKept start history names files content → IsKept start history names others after

@@ -1,6 +1,6 @@
 // What it means that a history explains a tree: each a law that an empty function's contract states.
-ghost use Rattle.ufs_prefix.specs.Laws.{NamesGoByChanges, BytesGoByChanges, NameChangesAreExact, SyncsCountFiles, SyncsCountNames, PlacesShowChanges, SyncedBytesStand, SyncedSizesStand, NumbersExplain, OpeningsAreExplained, EndsAreExplained, ExplainedMeanwhile, SyncsAreExact, FsyncsAreExact};
-ghost use Rattle.ufs_prefix.specs.StepLaws.{EntriesKeepShown, EntriesKeepCovering, OthersAcknowledgeNothing, FsyncsAcknowledge, DirFsyncsAcknowledge, SyncsAcknowledge, FilesAreExplainedAlone, UntouchedFilesStay, UntouchedNamesStay, ChangesAreLocal, FileCommitsAreShown, CommitsAreExplained, WrittenBackIsShown, WrittenBackTreesAreShown, OpeningsAreKept, KeptIsExplained, EntriesAreKept, WriteBacksAreKept, FileCommitsAreKept, NameCommitsAreKept};
+ghost use Rattle.ufs_prefix.specs.Laws.{NamesGoByChanges, BytesGoByChanges, NameChangesAreExact, SyncsCountFiles, SyncsCountNames, PlacesShowChanges, SyncedBytesStand, SyncedSizesStand, NumbersExplain, OpeningsAreExplained, EndsAreExplained, ExplainedMeanwhile, StretchesJoin, LaterEntriesDoNotMatter, SyncsAreExact, FsyncsAreExact};
+ghost use Rattle.ufs_prefix.specs.StepLaws.{EntriesKeepShown, EntriesKeepCovering, OthersAcknowledgeNothing, FsyncsAcknowledge, DirFsyncsAcknowledge, SyncsAcknowledge, FilesAreExplainedAlone, UntouchedFilesStay, UntouchedNamesStay, ChangesAreLocal, FileCommitsAreShown, NameCommitsAreShown, CommitsAreExplained, WrittenBackIsShown, WrittenBackTreesAreShown, OpeningsAreKept, KeptIsExplained, EntriesAreKept, WriteBacksAreKept, FileCommitsAreKept, NameCommitsAreKept, UnnamedFilesAreKept};
 
 use ufs_model::{
     a_new_name_takes_the_place_of_an_old_one, a_request_is_local, a_request_keeps_the_tree,
@@ -35,6 +35,8 @@ pub fn trees_are_explained()
     ensures opening { OpeningsAreExplained }
     ensures end { EndsAreExplained }
     ensures meanwhile { ExplainedMeanwhile }
+    ensures joined { StretchesJoin }
+    ensures later { LaterEntriesDoNotMatter }
 {
     a_request_keeps_the_tree();
 }
@@ -70,6 +72,7 @@ pub fn a_file_is_explained_alone()
 /// A commit takes its number further, and the trees before and after it are explained meanwhile.
 pub fn a_commit_is_explained_meanwhile()
     ensures file { FileCommitsAreShown }
+    ensures names { NameCommitsAreShown }
     ensures meanwhile { CommitsAreExplained }
 {
     a_request_keeps_the_tree();
@@ -89,6 +92,7 @@ pub fn a_store_keeps_the_promise()
     ensures write_back { WriteBacksAreKept }
     ensures file { FileCommitsAreKept }
     ensures names { NameCommitsAreKept }
+    ensures unnamed { UnnamedFilesAreKept }
 {
     a_request_keeps_the_tree();
 }

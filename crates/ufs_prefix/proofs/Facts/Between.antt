@@ -1,6 +1,7 @@
 -- While a history goes on, a tree with numbers that cover what is acknowledged at the end is explained all the while.
 use Rattle.std.proofs.Common.{◌≡◌, ◌≤◌, ◌<◌, ℕ, ◌⊎◌, inl, inr, Bool, true, false, cond, ◌||◌, List, [], ◌∷◌, ◌++◌, length, take, drop, ap, sym, ◌∙◌, subst, arith, length-append, append_assoc}
 use Rattle.std.proofs.lemmas.List.{append-nil, take-append-drop, take-take, take-append-le}
+use Rattle.std.proofs.lemmas.Bool.{cases_lt}
 use Rattle.ufs_model.specs.PosixTree.{PosixTree}
 use Rattle.ufs_model.specs.Start.{PathNodes}
 use Rattle.ufs_model.specs.declared.data.Entry.{Entry}
@@ -9,7 +10,7 @@ use Rattle.ufs_prefix.specs.Changes.{NameState, name_changes, changes_of, names_
 use Rattle.ufs_prefix.specs.Explained.{IsExplained, IsShownBy, IsCovering, IsExplainedFrom}
 use Rattle.ufs_prefix.proofs.Facts.Histories.{name_changes-push, names_after-append, file_synced-push, names_synced-push, is_fsynced-push}
 use Rattle.ufs_prefix.proofs.Facts.Explains.{explained_by, shown_by-append}
-use Rattle.ufs_prefix.proofs.Facts.Sessions.{file_synced_made, names_synced_made, below_or_not}
+use Rattle.ufs_prefix.proofs.Facts.Sessions.{file_synced_made, names_synced_made}
 
 -- what is acknowledged only grows
 
@@ -76,7 +77,7 @@ explained_from_more start history more from to tree made is count low high = sub
 
 -- two stretches are one
 pub explained_from_joined : (start : PosixTree) (history : List Entry) (from mid to : ℕ) (tree : PathNodes) → IsExplainedFrom tree start history from mid → IsExplainedFrom tree start history mid to → IsExplainedFrom tree start history from to
-explained_from_joined start history from mid to tree first second count low high = by (below_or_not count mid)
+explained_from_joined start history from mid to tree first second count low high = by (cases_lt count mid)
   where
     by : (count < mid) ⊎ (mid ≤ count) → IsExplained tree start (take count history)
     by (inl below) = first count low (omega (arith, below))

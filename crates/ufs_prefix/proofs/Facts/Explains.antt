@@ -97,23 +97,7 @@ covering-push start history entry names files covers made acked = record {
     at_file file true e = acked.each file e
     at_file file false e = covers.each file
 
--- A tree that is explained by numbers is explained by them after the next entry, where they cover what that acknowledges.
-pub explained-push : (start : PosixTree) (history : List Entry) (entry : Entry) (names : ℕ) (files : ℕ → ℕ) (tree : PathNodes) → IsCovering start history names files → IsShownBy start history names files tree
-    → IsAckCovered start history entry names files → IsExplained tree start (history ++ entry ∷ [])
-explained-push start history entry names files tree covers shows acked =
-    explained_by start (history ++ entry ∷ []) names files tree (covering-push start history entry names files covers shows.made acked) (shown_by-append start history (entry ∷ []) names files tree shows)
-
 -- ---- the numbers go on
-
--- other numbers for files that aren't shown
-pub shown_by_others : (start : PosixTree) (history : List Entry) (names : ℕ) (files others : ℕ → ℕ) (tree : PathNodes)
-    → ((path : List ℕ) (file : ℕ) → map.get (names_after start history names).paths path ≡ Some (File file) → files file ≡ others file)
-    → IsShownBy start history names files tree → IsShownBy start history names others tree
-shown_by_others start history names files others tree same shows = record {
-  made = shows.made;
-  shown = tree_weaker (IsFileShown start history files) (IsFileShown start history others) (names_after start history names).paths tree
-      (λ path file bytes at there shown. subst (λ count. IsShown (bytes_of start.bytes file) (changes_of file start history) count bytes) (same path file at) shown) shows.shown;
-}
 
 -- A commit of a file: at its paths the new tree shows more of its changes, and elsewhere the same.
 pub committed_file : (start : PosixTree) (history : List Entry) (names : ℕ) (files more : ℕ → ℕ) (committed : ℕ) (old new : PathNodes)

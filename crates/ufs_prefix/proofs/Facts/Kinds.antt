@@ -1,6 +1,6 @@
 -- What each kind of request changes, and what it acknowledges, from its reply and the tree before it.
-use Rattle.std.proofs.Common.{◌≡◌, ◌≢◌, ℕ, Bool, true, false, cond, ◌&&◌, ◌||◌, [], ◌∷◌, Some, None, ap, sym, refl, ◌∙◌}
-use Rattle.std.proofs.lemmas.Bool.{eq-eqb, ne_eqb}
+use Rattle.std.proofs.Common.{◌≡◌, ℕ, true, false, cond, ◌&&◌, ◌||◌, [], ◌∷◌, Some, ap, refl, ◌∙◌}
+use Rattle.std.proofs.lemmas.Bool.{eq-eqb}
 use Rattle.ufs_model.specs.PosixTree.{PosixTree, is_number}
 use Rattle.ufs_model.specs.History.{goes_on}
 use Rattle.ufs_model.specs.declared.data.Op.{Op}
@@ -15,37 +15,9 @@ module _ (s : Step) where
   pub this_changes : (file : ℕ) → is_served s.entry.reply ≡ true → file_changed s.before s.entry.client s.entry.op ≡ Some file → change_of file s ≡ change_asked s.before s.entry.client s.entry.op
   this_changes file served on = (λ i. cond (served i && is_number file (on i)) (change_asked s.before s.entry.client s.entry.op) []) ∙ ap (λ b. cond b (change_asked s.before s.entry.client s.entry.op) []) (eq-eqb file file refl)
 
-  -- and no other file has one
-  pub others_stay : (file other : ℕ) → other ≢ file → file_changed s.before s.entry.client s.entry.op ≡ Some file → change_of other s ≡ []
-  others_stay file other apart on = by (is_served s.entry.reply)
-    where
-      differ : is_number other (file_changed s.before s.entry.client s.entry.op) ≡ false
-      differ = ap (is_number other) on ∙ ne_eqb file other (λ e. apart (sym e))
-
-      by : (b : Bool) → cond (b && is_number other (file_changed s.before s.entry.client s.entry.op)) (change_asked s.before s.entry.client s.entry.op) [] ≡ []
-      by true = ap (λ b. cond b (change_asked s.before s.entry.client s.entry.op) []) differ
-      by false = refl
-
-  pub none_changes : (file : ℕ) → file_changed s.before s.entry.client s.entry.op ≡ None → change_of file s ≡ []
-  none_changes file on = by (is_served s.entry.reply)
-    where
-      by : (b : Bool) → cond (b && is_number file (file_changed s.before s.entry.client s.entry.op)) (change_asked s.before s.entry.client s.entry.op) [] ≡ []
-      by true = ap (λ o. cond (is_number file o) (change_asked s.before s.entry.client s.entry.op) []) on
-      by false = refl
-
   -- an entry that is refused or excused changes nothing
   pub unserved_stays : (file : ℕ) → is_served s.entry.reply ≡ false → change_of file s ≡ []
   unserved_stays file not = ap (λ b. cond (b && is_number file (file_changed s.before s.entry.client s.entry.op)) (change_asked s.before s.entry.client s.entry.op) []) not
-
-  pub names_change : is_served s.entry.reply ≡ true → changes_names s.before s.entry.op ≡ true → names_by s ≡ names_of (goes_on s.before s.entry) ∷ []
-  names_change served changes = λ i. cond (served i && changes i) (names_of (goes_on s.before s.entry) ∷ []) []
-
-  pub names_stay : changes_names s.before s.entry.op ≡ false → names_by s ≡ []
-  names_stay still = by (is_served s.entry.reply)
-    where
-      by : (b : Bool) → cond (b && changes_names s.before s.entry.op) (names_of (goes_on s.before s.entry) ∷ []) [] ≡ []
-      by true = ap (λ b. cond b (names_of (goes_on s.before s.entry) ∷ []) []) still
-      by false = refl
 
   pub unserved_names : is_served s.entry.reply ≡ false → names_by s ≡ []
   unserved_names not = ap (λ b. cond (b && changes_names s.before s.entry.op) (names_of (goes_on s.before s.entry) ∷ []) []) not

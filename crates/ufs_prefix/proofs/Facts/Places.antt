@@ -1,6 +1,6 @@
 -- What a place may show, change by change, is a byte that it had since.
 use Rattle.std.proofs.Common.{◌≡◌, ◌≤◌, ◌<◌, ℕ, zero, suc, ◌+◌, ◌-◌, ◌⊎◌, inl, inr, Bool, true, false, cond, ltb, List, [], ◌∷◌, ◌++◌, length, take, drop, get_or, replicate, ap, sym, refl, ◌∙◌, subst, arith, length-append, append_assoc}
-use Rattle.std.proofs.lemmas.Bool.{ltb-true, ltb-false}
+use Rattle.std.proofs.lemmas.Bool.{ltb-true, ltb-false, cases_lt}
 use Rattle.std.proofs.lemmas.List.{get_or_append_left, get_or-append_right, get_or-replicate, get_or-take, get_or-drop, get_or_past, length-replicate, length-take-le, length-drop}
 use Rattle.std.proofs.Math.Seq.{take-add}
 use Rattle.ufs_model.specs.FileBytes.{put_at, resized}
@@ -13,16 +13,9 @@ use Rattle.ufs_prefix.specs.declared.data.FileChange.TheVariants as change
 
 -- ---- bytes after a change
 
-below_or : (a b : ℕ) → (a < b) ⊎ (b ≤ a)
-below_or a b = by (ltb a b) refl
-  where
-    by : (t : Bool) → ltb a b ≡ t → (a < b) ⊎ (b ≤ a)
-    by true e = inl (ltb-true a b e)
-    by false e = inr (ltb-false a b e)
-
 -- zeros behind bytes change no byte
 pub byte_padded : (old : List ℕ) (n place : ℕ) → byte_at (old ++ replicate {A = ℕ} n 0) place ≡ byte_at old place
-byte_padded old n place = by (below_or place (length old))
+byte_padded old n place = by (cases_lt place (length old))
   where
     zeros : (at : ℕ) → (at < n) ⊎ (n ≤ at) → get_or {A = ℕ} (replicate n 0) at 0 ≡ 0
     zeros at (inl h) = get_or-replicate n at 0 0 h
@@ -30,7 +23,7 @@ byte_padded old n place = by (below_or place (length old))
 
     by : (place < length old) ⊎ (length old ≤ place) → byte_at (old ++ replicate {A = ℕ} n 0) place ≡ byte_at old place
     by (inl h) = get_or_append_left old (replicate n 0) 0 place h
-    by (inr h) = get_or-append_right old (replicate n 0) (length old) place 0 refl h ∙ zeros (place - length old) (below_or (place - length old) n) ∙ sym (get_or_past old place 0 h)
+    by (inr h) = get_or-append_right old (replicate n 0) (length old) place 0 refl h ∙ zeros (place - length old) (cases_lt (place - length old) n) ∙ sym (get_or_past old place 0 h)
 
 module _ (old : List ℕ) (at : ℕ) (bytes : List ℕ) where
   front_long : length (take at (old ++ replicate (at - length old) 0)) ≡ at
@@ -55,13 +48,6 @@ module _ (old : List ℕ) (at : ℕ) (bytes : List ℕ) where
       ∙ get_or-append_right bytes (drop (at + length bytes) old) (length bytes) (place - at) 0 refl (omega (arith, h))
       ∙ get_or-drop (at + length bytes) old (place - at - length bytes) 0
       ∙ ap (λ n. get_or old n 0) (omega (arith, h))
-
-  pub put_size : length (put_at old at bytes) ≡ at + length bytes + (length old - (at + length bytes))
-  put_size =
-      let a = length-append (take at (old ++ replicate (at - length old) 0)) (bytes ++ drop (at + length bytes) old) in
-      let b = length-append bytes (drop (at + length bytes) old) in
-      let c = length-drop (at + length bytes) old in
-      omega (arith, a, b, c, front_long, ap length put_split)
 
 pub resized_in : (old : List ℕ) (size place : ℕ) → place < size → byte_at (resized old size) place ≡ byte_at old place
 resized_in old size place h = get_or-take size (old ++ replicate (size - length old) 0) place 0 h ∙ byte_padded old (size - length old) place

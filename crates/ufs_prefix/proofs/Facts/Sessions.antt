@@ -3,7 +3,7 @@ use Rattle.std.proofs.Common.{◌≡◌, ◌≤◌, ◌<◌, ℕ, zero, suc, ◌
 use Rattle.std.specs.List.{sum_by, list_any}
 use Rattle.std.proofs.lemmas.List.Sums.{sum_by-cons}
 use Rattle.std.proofs.lemmas.List.Concat.{length-flat_map}
-use Rattle.std.proofs.lemmas.Bool.{and_parts}
+use Rattle.std.proofs.lemmas.Bool.{and_parts, cases_lt}
 use Rattle.ufs_model.specs.PosixTree.{PosixTree, IsTree}
 use Rattle.ufs_model.specs.FileBytes.{bytes_of}
 use Rattle.ufs_model.specs.Posix.{served}
@@ -51,16 +51,6 @@ next_after ticket t (e ∷ history) legal = omega (arith, next_rises t e legal.0
 
 -- ---- contents
 
-pub below_or_not : (a b : ℕ) → (a < b) ⊎ (b ≤ a)
-below_or_not zero zero = inr (omega arith)
-below_or_not zero (suc b) = inl (omega arith)
-below_or_not (suc a) zero = inr (omega arith)
-below_or_not (suc a) (suc b) = by (below_or_not a b)
-  where
-    by : (a < b) ⊎ (b ≤ a) → (suc a < suc b) ⊎ (suc b ≤ suc a)
-    by (inl h) = inl (omega arith)
-    by (inr h) = inr (omega arith)
-
 -- its bytes come from those of one entry before
 abbrev ComesFrom : PosixTree → List Entry → ℕ → Type 0
 ComesFrom t history f = (f < t.next → HasBytes t.bytes f) × (bytes_of (tree_after t history).bytes f ≡ all_changed (bytes_of t.bytes f) (changes_of f t history))
@@ -68,7 +58,7 @@ ComesFrom t history f = (f < t.next → HasBytes t.bytes f) × (bytes_of (tree_a
 contents_step : KeepsTrees → (t : PosixTree) → IsTree t → (e : Entry) → IsReplyTo t e → (history : List Entry) (f : ℕ) → ComesFrom (goes_on t e) history f → ComesFrom t (e ∷ history) f
 contents_step keeps t is e legal history f rest = (
   first,
-  rest.1 ∙ ap (λ bytes. all_changed bytes (changes_of f (goes_on t e) history)) (by (below_or_not f (goes_on t e).next))
+  rest.1 ∙ ap (λ bytes. all_changed bytes (changes_of f (goes_on t e) history)) (by (cases_lt f (goes_on t e).next))
       ∙ sym (all_changed-append (bytes_of t.bytes f) (change_of f (record { before = t; entry = e })) (changes_of f (goes_on t e) history)),
 )
   where

@@ -1,6 +1,7 @@
 -- The steps of a store, by the numbers that it keeps.
 use Rattle.std.proofs.Common.{◌≡◌, ◌≤◌, ◌<◌, ℕ, zero, suc, ◌+◌, ◌⊎◌, inl, inr, Bool, true, false, cond, ◌&&◌, not, List, [], ◌∷◌, ◌++◌, length, take, get_or, Option, Some, None, is_none, ap, sym, refl, ◌∙◌, subst, arith, length-append, bytes_eq}
 use Rattle.std.specs.FinMap as fin
+use Rattle.std.proofs.lemmas.Bool.{cases_lt}
 use Rattle.ufs_model.specs.Paths.{whole_of}
 use Rattle.ufs_model.specs.PosixTree.{PosixTree, Paths, IsTree}
 use Rattle.ufs_model.specs.Walk.{node_at, file_of}
@@ -28,7 +29,7 @@ use Rattle.ufs_prefix.proofs.Facts.Shows.{shown_more, shown_now}
 use Rattle.ufs_prefix.proofs.Facts.Histories.{changes_of-push, name_changes-push, names_after-append}
 use Rattle.ufs_prefix.proofs.Facts.Entries.{IsDone, Left, Went, done, names_forget, names_still, next_rises}
 use Rattle.ufs_prefix.proofs.Facts.Contents.{unborn_empty, unborn_still}
-use Rattle.ufs_prefix.proofs.Facts.Sessions.{tree_goes_on, tree_after_is, next_after, names_last, below_or_not, front_legal, last_replied}
+use Rattle.ufs_prefix.proofs.Facts.Sessions.{tree_goes_on, tree_after_is, next_after, names_last, front_legal, last_replied}
 use Rattle.ufs_prefix.proofs.Facts.Between.{explained_from}
 use Rattle.ufs_prefix.proofs.Facts.Explains.{tree_weaker}
 use Rattle.ufs_prefix.specs.declared.data.FileChange.{FileChange}
@@ -162,7 +163,7 @@ pub stored-push : KeepsTrees → (start : PosixTree) → IsTree start → (histo
     → IsStored start history names files content → IsStored start (history ++ entry ∷ []) names files content
 stored-push keeps start is history entry legal names files content none empty stored = record {
   made = omega (arith, stored.made, longer);
-  each = λ count file from to named. by count file from to named (below_or_not (length (name_changes start history)) count);
+  each = λ count file from to named. by count file from to named (cases_lt (length (name_changes start history)) count);
 }
   where
     before : IsLegalFrom 0 start history
