@@ -6,4 +6,5 @@ pub mod OneFile
 pub mod Appended
 pub mod Rewritten
 pub mod Replaced
+pub mod Synced
 pub mod Meanwhile

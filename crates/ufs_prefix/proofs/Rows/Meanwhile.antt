@@ -15,11 +15,12 @@ use Rattle.ufs_model.specs.declared.data.PathNode.TheVariants as path_node
 use Rattle.ufs_prefix.specs.FileChanges.{IsShown}
 use Rattle.ufs_prefix.specs.Changes.{NameState, names_of, names_after, changes_of}
 use Rattle.ufs_prefix.specs.Explained.{IsNodeWith, IsExplainedFrom}
-use Rattle.ufs_prefix.specs.Stored.{IsNamed, IsStored}
+use Rattle.ufs_prefix.specs.Stored.{IsNamed, IsStored, IsKept}
 use Rattle.ufs_prefix.specs.Mapped.{mapped}
 use Rattle.ufs_prefix.proofs.Facts.Between.{explained_from}
 use Rattle.ufs_prefix.proofs.Facts.Options.{options_shown}
 use Rattle.ufs_prefix.proofs.Facts.Mapped.{get-mapped}
+use Rattle.ufs_prefix.proofs.Facts.Keeps.{kept_start}
 use Rattle.ufs_prefix.proofs.Rows.Sessions.{history_of, both_empty, both_inserted, names_at}
 use Rattle.ufs_prefix.proofs.Rows.OneFile.{made}
 use Rattle.ufs_prefix.proofs.Rows.Appended.{four, four_row, four_names, first_two, changes, root_alone_is_not_explained}
@@ -102,6 +103,14 @@ other_bytes_are_not_stored stored =
     shown : IsShown [] changes 1 (codes "zz")
     shown = subst (λ (x : List ℕ × List FileChange). IsShown x.0 x.1 1 (codes "zz")) (λ i. (four_row.opened i, four_row.changed i))
         (stored.each 1 0 (omega arith) (subst (λ (ns : List NameState). 1 ≤ length ns) (sym four_names) (omega arith)) named)
+
+-- a disk with the root alone keeps the promise before any entry,
+pub an_empty_disk_is_kept : IsKept root_alone [] 0 (λ _. 0) (λ _. [])
+an_empty_disk_is_kept = kept_start root_alone (λ _. []) (λ file named. absurd (none_named file named)) (λ file above. refl)
+
+-- and one that has bytes of a file which isn't made yet doesn't
+pub stale_bytes_are_not_kept : IsKept root_alone [] 0 (λ _. 0) (λ _. codes "zz") → ⊥
+stale_bytes_are_not_kept kept = let size = ap length (kept.fresh 7 (omega arith)).1 in omega (arith, size)
 
 -- ---- a map with other values
 
