@@ -50,11 +50,12 @@ abbrev pub PlacesShowChanges : Type 0
 PlacesShowChanges = (opening : List ℕ) (changes : List FileChange) (count place byte : ℕ) → count ≤ length changes
     → (MayShow opening changes count place byte ↔ IsOneOf (may_show opening changes count place) byte)
 
--- What is synced stands where no later change reaches it, and a file is never shown shorter than it was since.
+-- What is synced stands where no later change reaches it,
 abbrev pub SyncedBytesStand : Type 0
 SyncedBytesStand = (opening : List ℕ) (changes : List FileChange) (synced : ℕ) (bytes : List ℕ) (place : ℕ) → ShowsSynced opening changes synced bytes
     → left_by (bytes_after opening changes synced) (drop synced changes) place ≡ [] → place < length bytes → byte_at bytes place ≡ byte_at (bytes_after opening changes synced) place
 
+-- and a file is never shown shorter than it was at its shortest since.
 abbrev pub SyncedSizesStand : Type 0
 SyncedSizesStand = (opening : List ℕ) (changes : List FileChange) (synced least : ℕ) (bytes : List ℕ) → ShowsSynced opening changes synced bytes
     → ((count : ℕ) → synced ≤ count → count ≤ length changes → least ≤ length (bytes_after opening changes count)) → least ≤ length bytes

@@ -202,7 +202,7 @@ untouched_stands opening changes synced bytes place none below shows =
     by (inl e) = e
     by (inr h) = absurd h
 
--- A file is never shown shorter than it was at some time since the synced changes.
+-- A file is never shown shorter than it was at its shortest since the synced changes.
 pub size_stands : (opening : List ℕ) (changes : List FileChange) (synced least : ℕ) (bytes : List ℕ) → ShowsSynced opening changes synced bytes
     → ((count : ℕ) → synced ≤ count → count ≤ length changes → least ≤ length (bytes_after opening changes count)) → least ≤ length bytes
 size_stands opening changes synced least bytes shows each = omega (arith, shows.shown.size, each shows.count shows.covers shows.shown.made)
