@@ -1,7 +1,7 @@
 -- Worked rows: bytes after changes, and what their places may show.
-use Rattle.std.proofs.Common.{◌≡◌, ℕ, zero, suc, inl, inr, List, [], ◌∷◌, refl, arith}
+use Rattle.std.proofs.Common.{◌≡◌, ◌≤◌, ℕ, zero, suc, inl, inr, List, [], ◌∷◌, refl, arith}
 use Rattle.std.specs.Prelude.{codes}
-use Rattle.ufs_prefix.specs.FileChanges.{bytes_after, byte_at, IsShown}
+use Rattle.ufs_prefix.specs.FileChanges.{bytes_after, byte_at, MayShow, IsShown}
 use Rattle.ufs_prefix.specs.Places.{may_show, IsOneOf}
 use Rattle.ufs_prefix.specs.declared.data.FileChange.{FileChange}
 use Rattle.ufs_prefix.specs.declared.data.FileChange.TheVariants as change
@@ -51,6 +51,19 @@ later_alone = refl
 
 abbrev anew : List FileChange
 anew = change.Written 0 (codes "aaaa") ∷ change.Written 0 (codes "bb") ∷ []
+
+-- a later write's byte may show, and an earlier one's not
+a_later_byte : MayShow [] anew 1 0 98
+a_later_byte = record { upto = 2; later = omega arith; made = omega arith; is = refl }
+
+no_earlier_byte : MayShow [] anew 2 0 97 → ⊥
+no_earlier_byte may = by may.upto may.later may.made may.is
+  where
+    by : (upto : ℕ) → 2 ≤ upto → upto ≤ 2 → ◌≡◌ {A = ℕ} 97 (byte_at (bytes_after [] anew upto) 0) → ⊥
+    by zero low high e = omega arith
+    by (suc zero) low high e = omega arith
+    by (suc (suc zero)) low high e = omega (arith, e)
+    by (suc (suc (suc n))) low high e = omega arith
 
 -- A later write may show at each of its places by itself,
 anew_options : options [] anew 1 ≡ (97 ∷ 98 ∷ []) ∷ (97 ∷ 98 ∷ []) ∷ (97 ∷ []) ∷ (97 ∷ []) ∷ []
