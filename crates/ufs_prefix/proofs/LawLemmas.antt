@@ -1,5 +1,5 @@
 -- The laws, from the facts.
-use Rattle.std.proofs.Common.{◌≡◌, ℕ, Bool, true, false, cond, ◌&&◌, ◌||◌, List, [], ◌∷◌, ◌++◌, Some, is_some, unwrap_or, ap, sym, refl, ◌∙◌}
+use Rattle.std.proofs.Common.{◌≡◌, ℕ, Bool, true, false, cond, ◌&&◌, ◌||◌, List, [], ◌∷◌, ◌++◌, Some, is_some, unwrap_or, ap, sym, refl, ◌∙◌, subst}
 use Rattle.std.specs.FinMap as map
 use Rattle.std.proofs.lemmas.Bool.{and_parts}
 use Rattle.std.proofs.lemmas.List.{append-nil}
@@ -14,7 +14,7 @@ use Rattle.ufs_prefix.specs.FileChanges.{all_changed}
 use Rattle.ufs_prefix.specs.Steps.{Step, is_served, is_ok, next_step}
 use Rattle.ufs_prefix.specs.Changes.{names_of, change_asked, file_changed, change_of, changes_of, changes_names, names_after, asks_fsync, asks_sync, asks_dir_fsync, file_synced}
 use Rattle.ufs_prefix.specs.Explained.{ShowsSynced}
-use Rattle.ufs_prefix.specs.Laws.{NamesGoByChanges, BytesGoByChanges, NameChangesAreExact, SyncsCountFiles, SyncsCountNames, PlacesShowChanges, SyncedBytesStand, OpeningsAreExplained, EndsAreExplained, ExplainedMeanwhile, SyncsAreExact, FsyncsAreExact}
+use Rattle.ufs_prefix.specs.Laws.{NamesGoByChanges, BytesGoByChanges, NameChangesAreExact, SyncsCountFiles, SyncsCountNames, PlacesShowChanges, SyncedBytesStand, OpeningsAreExplained, EndsAreExplained, ExplainedMeanwhile, SyncsAreExact, FsyncsAreExact, FsyncedFilesAreThere, SyncedBytesAreThere}
 use Rattle.ufs_prefix.proofs.Facts.Histories.{changes_of-push}
 use Rattle.ufs_prefix.proofs.Facts.Counts.{files_covered, covered_files, names_covered, covered_names}
 use Rattle.ufs_prefix.proofs.Facts.Sessions.{tree_after_is, contents_after, names_then, bytes_then, fsynced_live, front_legal}
@@ -115,3 +115,16 @@ fsyncs keeps start history entry file tree is legal asked explained path at =
 
     there : (bytes : List ℕ) × (map.get tree path ≡ Some (path_node.File bytes)) × ShowsSynced (bytes_of start.bytes file) (changes_of file start (history ++ entry ∷ [])) (file_synced file start (history ++ entry ∷ [])) bytes
     there = file_there _ (map.get (names_after start (history ++ entry ∷ []) explained.names).paths path) (map.get tree path) file at (explained.shown path)
+
+-- ---- what was synced before
+
+pub synced_there : SyncedBytesAreThere
+synced_there start history file path tree is bytes named there place below none =
+    let shown = file_there _ (map.get (names_after start history is.names).paths path) (map.get tree path) file named (is.shown path) in
+    let same : shown.0 ≡ bytes = let e = sym shown.1 ∙ there in cc in
+    untouched_stands (bytes_of start.bytes file) (changes_of file start history) (file_synced file start history) bytes place none below
+    (subst (ShowsSynced (bytes_of start.bytes file) (changes_of file start history) (file_synced file start history)) same shown.2)
+
+pub fsynced_there : FsyncedFilesAreThere
+fsynced_there start history file path tree is fsynced named =
+    let shown = file_there _ (map.get (names_after start history is.names).paths path) (map.get tree path) file (named is.names is.made (is.born file fsynced)) (is.shown path) in (shown.0, shown.1)

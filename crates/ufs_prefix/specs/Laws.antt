@@ -13,7 +13,7 @@ use Rattle.ufs_model.specs.declared.data.PathNode.TheVariants as path_node
 use Rattle.ufs_prefix.specs.FileChanges.{MayShow, bytes_after, byte_at}
 use Rattle.ufs_prefix.specs.Places.{left_by, may_show, IsOneOf}
 use Rattle.ufs_prefix.specs.Steps.{next_step}
-use Rattle.ufs_prefix.specs.Changes.{names_of, changes_of, names_by, name_changes, names_after, is_fsync_of, syncs_file, syncs_names, file_synced, names_synced}
+use Rattle.ufs_prefix.specs.Changes.{names_of, changes_of, names_by, name_changes, names_after, is_fsync_of, is_fsynced, syncs_file, syncs_names, file_synced, names_synced}
 use Rattle.ufs_prefix.specs.Explained.{ShowsSynced, IsExplained, IsShownBy, IsCovering, IsExplainedFrom}
 use Rattle.ufs_prefix.specs.declared.data.FileChange.{FileChange}
 
@@ -101,3 +101,16 @@ FsyncsAreExact = (start : PosixTree) (history : List Entry) (entry : Entry) (fil
     → is_fsync_of file (record { before = tree_after start history; entry = entry }) ≡ true
     → (is : IsExplained tree start (history ++ entry ∷ [])) (path : List ℕ) → map.get (names_after start (history ++ entry ∷ []) is.names).paths path ≡ Some (File file)
     → map.get tree path ≡ Some (path_node.File (bytes_of (tree_after start history).bytes file))
+
+-- A file that has an acknowledged `fsync` is there at a path that names it from its birth on,
+abbrev pub FsyncedFilesAreThere : Type 0
+FsyncedFilesAreThere = (start : PosixTree) (history : List Entry) (file : ℕ) (path : List ℕ) (tree : PathNodes) → IsExplained tree start history → is_fsynced file start history ≡ true
+    → ((count : ℕ) → count ≤ length (name_changes start history) → file < (names_after start history count).next → map.get (names_after start history count).paths path ≡ Some (File file))
+    → (bytes : List ℕ) × (map.get tree path ≡ Some (path_node.File bytes))
+
+-- and wherever a file is, it has the bytes that were synced, but at places that a change after them reaches.
+abbrev pub SyncedBytesAreThere : Type 0
+SyncedBytesAreThere = (start : PosixTree) (history : List Entry) (file : ℕ) (path : List ℕ) (tree : PathNodes) (is : IsExplained tree start history) (bytes : List ℕ)
+    → map.get (names_after start history is.names).paths path ≡ Some (File file) → map.get tree path ≡ Some (path_node.File bytes) → (place : ℕ) → place < length bytes
+    → left_by (bytes_after (bytes_of start.bytes file) (changes_of file start history) (file_synced file start history)) (drop (file_synced file start history) (changes_of file start history)) place ≡ []
+    → byte_at bytes place ≡ byte_at (bytes_after (bytes_of start.bytes file) (changes_of file start history) (file_synced file start history)) place

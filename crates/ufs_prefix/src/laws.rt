@@ -1,5 +1,5 @@
 // What it means that a history explains a tree: each a law that an empty function's contract states.
-ghost use Rattle.ufs_prefix.specs.Laws.{NamesGoByChanges, BytesGoByChanges, NameChangesAreExact, SyncsCountFiles, SyncsCountNames, PlacesShowChanges, SyncedBytesStand, SyncedSizesStand, NumbersExplain, OpeningsAreExplained, EndsAreExplained, ExplainedMeanwhile, StretchesJoin, LaterEntriesDoNotMatter, SyncsAreExact, FsyncsAreExact};
+ghost use Rattle.ufs_prefix.specs.Laws.{NamesGoByChanges, BytesGoByChanges, NameChangesAreExact, SyncsCountFiles, SyncsCountNames, PlacesShowChanges, SyncedBytesStand, SyncedSizesStand, NumbersExplain, OpeningsAreExplained, EndsAreExplained, ExplainedMeanwhile, StretchesJoin, LaterEntriesDoNotMatter, SyncsAreExact, FsyncsAreExact, FsyncedFilesAreThere, SyncedBytesAreThere};
 ghost use Rattle.ufs_prefix.specs.StepLaws.{EntriesKeepShown, EntriesKeepCovering, OthersAcknowledgeNothing, FsyncsAcknowledge, DirFsyncsAcknowledge, SyncsAcknowledge, FilesAreExplainedAlone, UntouchedFilesStay, UntouchedNamesStay, ChangesAreLocal, FileCommitsAreShown, NameCommitsAreShown, CommitsAreExplained, WrittenBackIsShown, WrittenBackTreesAreShown, OpeningsAreKept, KeptIsExplained, EntriesAreKept, WriteBacksAreKept, FileCommitsAreKept, NameCommitsAreKept, UnnamedFilesAreKept};
 
 use ufs_model::{
@@ -45,6 +45,8 @@ pub fn trees_are_explained()
 pub fn an_acknowledgement_is_kept()
     ensures sync { SyncsAreExact }
     ensures fsync { FsyncsAreExact }
+    ensures there { FsyncedFilesAreThere }
+    ensures bytes { SyncedBytesAreThere }
 {
     a_request_keeps_the_tree();
 }

@@ -9,7 +9,6 @@ use Rattle.ufs_model.specs.FileBytes.{bytes_of}
 use Rattle.ufs_model.specs.Start.{PathNodes}
 use Rattle.ufs_model.specs.Descriptors.{lowest_free}
 use Rattle.ufs_model.specs.Posix.{posix}
-use Rattle.ufs_model.proofs.Facts.Orders.{fd_total}
 use Rattle.ufs_model.specs.declared.data.Entry.{Entry}
 use Rattle.ufs_model.specs.declared.data.Node.TheVariants.{Dir, File}
 use Rattle.ufs_model.specs.declared.data.Op.TheVariants as op
@@ -31,7 +30,7 @@ made = record { paths = map.insert root_alone.paths (codes "/f") (File 0); bytes
 
 pub made_is : posix root_alone 0 opens.op ≡ (made, reply.Fd 3)
 unfolding lowest_free
-made_is = simp (gets, fd_total)
+made_is = simp gets
 
 stands_there : map.get made.paths (codes "/f") ≡ Some (File 0)
 stands_there = simp gets

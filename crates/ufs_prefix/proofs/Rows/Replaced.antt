@@ -64,7 +64,7 @@ after = (posix written 0 renames.op).0
 
 made_is : posix start 0 opens.op ≡ (made, reply.Fd 3)
 unfolding lowest_free
-made_is = simp (gets, fd_total)
+made_is = simp gets
 
 written_is : posix made 0 writes.op ≡ (written, reply.Count 3)
 written_is = simp (gets, fd_total)
