@@ -70,13 +70,15 @@ or_true true = refl
 or_true false = refl
 
 pub syncs : KeepsTrees → SyncsAreExact
-syncs keeps start history entry tree is legal asked told explained =
-    synced_exactly keeps start is history entry legal.entries
-    ((λ i. is_ok (told i) && (asks_dir_fsync (tree_after start history) entry.client (asked i) || asks_sync (asked i))) ∙ refl)
-    (λ file. (λ i. is_ok (told i) && (asks_fsync file (tree_after start history) entry.client (asked i) || asks_sync (asked i))) ∙ refl)
-    (ap (λ b. cond b (names_of (goes_on (tree_after start history) entry) ∷ []) []) (ap (λ o. is_served entry.reply && changes_names (tree_after start history) o) asked ∙ and_false (is_served entry.reply)))
-    (nothing_changed op.Sync (next_step start history entry) asked (λ file. and_false (is_served entry.reply)))
-    tree explained
+syncs keeps start history entry tree is legal asked told = (
+  λ explained. synced_exactly keeps start is history entry legal.entries
+      ((λ i. is_ok (told i) && (asks_dir_fsync (tree_after start history) entry.client (asked i) || asks_sync (asked i))) ∙ refl)
+      (λ file. (λ i. is_ok (told i) && (asks_fsync file (tree_after start history) entry.client (asked i) || asks_sync (asked i))) ∙ refl)
+      (ap (λ b. cond b (names_of (goes_on (tree_after start history) entry) ∷ []) []) (ap (λ o. is_served entry.reply && changes_names (tree_after start history) o) asked ∙ and_false (is_served entry.reply)))
+      (nothing_changed op.Sync (next_step start history entry) asked (λ file. and_false (is_served entry.reply)))
+      tree explained,
+  last_explained keeps start is (history ++ entry ∷ []) legal.entries tree,
+)
 
 -- an `fsync` changes no bytes
 fsync_still : (t : PosixTree) (client : ℕ) (request : Op) (file other : ℕ) → asks_fsync file t client request ≡ true → is_number other (file_changed t client request) ≡ false

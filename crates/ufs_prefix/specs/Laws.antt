@@ -93,7 +93,7 @@ LaterEntriesDoNotMatter = (start : PosixTree) (history more : List Entry) (from 
 -- Right after an acknowledged `sync` the tree itself is explained, and no other.
 abbrev pub SyncsAreExact : Type 0
 SyncsAreExact = (start : PosixTree) (history : List Entry) (entry : Entry) (tree : PathNodes) → IsTree start → IsLegal start (history ++ entry ∷ [])
-    → entry.op ≡ op.Sync → entry.reply ≡ reply.Done → IsExplained tree start (history ++ entry ∷ []) → HasContents (tree_after start (history ++ entry ∷ [])) tree
+    → entry.op ≡ op.Sync → entry.reply ≡ reply.Done → (IsExplained tree start (history ++ entry ∷ []) ↔ HasContents (tree_after start (history ++ entry ∷ [])) tree)
 
 -- Right after an acknowledged `fsync` the file has its bytes, at each path where it is shown.
 abbrev pub FsyncsAreExact : Type 0
