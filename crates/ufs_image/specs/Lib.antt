@@ -9,3 +9,11 @@ pub mod Opens
 pub mod Proper
 pub mod Formatted
 pub mod Laws
+pub mod Catalog
+pub mod Sound
+pub mod Walks
+pub mod Agree
+pub mod Folding
+pub mod Written
+pub mod Changes
+pub mod CatalogLaws

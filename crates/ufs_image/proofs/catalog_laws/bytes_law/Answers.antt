@@ -1,0 +1,18 @@
+use Rattle.ufs_image.proofs.Written.{written_catalog}
+use Rattle.ufs_image.proofs.Glued.{block_bytes, inode_bytes_are}
+use Rattle.ufs_image.proofs.Records.{committed_fit}
+use Rattle.ufs_image.proofs.Bits.{marks_whole}
+use Rattle.ufs_image.proofs.Fits.{shows, spells}
+use Rattle.ufs_image.proofs.catalog_laws.bytes_law.Goals as goal
+
+pub returns : goal.returns
+returns c = record {
+  written = λ image cat is. written_catalog c.args.geometry.now image cat is;
+  bytes = λ image cat is. (
+    λ inode in_range. inode_bytes_are c.args.geometry.now image cat is inode in_range,
+    λ inode place block has dir sized. block_bytes image block (cat.slots block) sized (is.slots inode place block has dir),
+  );
+  committed = λ sectors epoch image room bytes. committed_fit c.args.geometry.now sectors epoch image c.requires room bytes;
+  marks = λ image cat is sound marked taken. marks_whole c.args.geometry.now image cat is sound marked taken;
+  shows = λ sectors image room bytes. (shows c.args.geometry.now sectors image c.requires room bytes, λ cat these is each. spells c.args.geometry.now sectors image c.requires room bytes cat these is each);
+}

@@ -1,0 +1,42 @@
+-- What a folded image says of its inodes and directories, without bytes.
+use Rattle.std.specs.Prelude.{ℕ, ◌≡◌, ◌≤◌, ◌==◌, List, [], map, flat_map, if◌then◌else◌, Option, Some, unwrap_or}
+use Rattle.std.specs.List.{slice_get}
+use Rattle.ufs_layout.specs.Words.{pieces}
+use Rattle.ufs_layout.specs.Areas.{sectors_of_block}
+use Rattle.ufs_layout.specs.InodeForm.{InodeForm}
+use Rattle.ufs_layout.specs.DentryForm.{DentryForm, dentry_of, free_slot}
+use Rattle.ufs_base.specs.Images.{Image}
+use Rattle.ufs_image.specs.Images.{inode_at, form_at}
+use Rattle.ufs_image.specs.Nodes.{blocks_of}
+use Rattle.ufs_layout.specs.declared.geometry.Geometry.{Geometry}
+
+-- each inode's form, and the dentries in the 64 slots of each block of a directory
+pub record Catalog : Type 0 where
+  pub forms : ℕ → InodeForm
+  pub slots : ℕ → List DentryForm
+
+pub record IsInode (g : Geometry) (inode : ℕ) : Type 0 where
+  pub from_one : 1 ≤ inode
+  pub within : inode ≤ g.inodes
+
+-- The inode has this block at this place.
+pub record HasBlock (g : Geometry) (c : Catalog) (inode place block : ℕ) : Type 0 where
+  pub in_range : IsInode g inode
+  pub there : slice_get (blocks_of (c.forms inode)) place ≡ Some block
+
+-- the slots of an inode, those of its first block first; a file has none
+abbrev pub slots_in : Catalog → ℕ → List DentryForm
+slots_in c inode = if (c.forms inode).kind == 2 then flat_map c.slots (blocks_of (c.forms inode)) else []
+
+-- what the slots of a block are the spelling of
+abbrev pub read_block : Image → ℕ → List (Option DentryForm)
+read_block image block = flat_map (λ s. map dentry_of (pieces 8 64 (image s))) (sectors_of_block block)
+
+-- The image spells it: each inode's sector the inode's form, each slot of a directory's blocks its dentry.
+pub record IsCatalogOf (g : Geometry) (image : Image) (c : Catalog) : Type 0 where
+  pub forms : (inode : ℕ) → IsInode g inode → inode_at g image inode ≡ Some (c.forms inode)
+  pub slots : (inode place block : ℕ) → HasBlock g c inode place block → (c.forms inode).kind ≡ 2 → read_block image block ≡ map Some (c.slots block)
+
+-- what an image says; a slot that is off counts as free here
+abbrev pub catalog_at : Geometry → Image → Catalog
+catalog_at g image = record { forms = form_at g image; slots = λ block. map (λ o. unwrap_or o free_slot) (read_block image block) }
