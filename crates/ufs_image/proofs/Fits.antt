@@ -6,10 +6,9 @@ use Rattle.std.specs.Str.{bytes_eq}
 use Rattle.std.proofs.Math.Nat.{pow-succ'}
 use Rattle.std.proofs.lemmas.Bool.{and_parts}
 use Rattle.byteorder.specs.Endian.{little_from}
-use Rattle.ufs_layout.specs.Words.{IsBytes}
+use Rattle.ufs_base.specs.Images.{IsBytes, Image}
 use Rattle.ufs_layout.specs.Areas.{IsGeometry, sector_of_inode, sector_count, first_of_data}
 use Rattle.ufs_layout.specs.InodeForm.{InodeForm, inode_of, inode_fields, inode_bytes, is_inode, extents_at, free_inode, FitsExtent}
-use Rattle.ufs_base.specs.Images.{Image}
 use Rattle.ufs_image.specs.Images.{IsImageOf, inode_at, form_at}
 use Rattle.ufs_layout.specs.declared.geometry.Geometry.{Geometry}
 use Rattle.ufs_image.specs.Catalog.{Catalog, IsInode, IsCatalogOf, read_block, catalog_at}

@@ -5,10 +5,10 @@ use Rattle.std.specs.List.{range_with_len, list_all, filter_map, AllByRecursion}
 use Rattle.std.specs.Str.{bytes_eq}
 use Rattle.std.proofs.lemmas.Bool.{and_parts}
 use Rattle.std.proofs.lemmas.Bool.Decides.{nat_tests}
-use Rattle.ufs_layout.specs.Words.{IsBytes, placed_by, rising_by, number_at, byte_at}
+use Rattle.ufs_base.specs.Images.{IsBytes, Image}
+use Rattle.ufs_layout.specs.Words.{placed_by, rising_by, number_at, byte_at}
 use Rattle.ufs_layout.specs.Areas.{IsGeometry, journal_sectors, first_of_journal, sector_count}
 use Rattle.ufs_layout.specs.DentryForm.{DentryForm, is_dentry, dentry_fields}
-use Rattle.ufs_base.specs.Images.{Image}
 use Rattle.ufs_image.specs.Images.{IsImageOf}
 use Rattle.ufs_layout.specs.Records.{is_record, FitsRecord, record_fields, first_record, record_by_tag, and_more}
 use Rattle.ufs_layout.specs.JournalHead.{header_fields, is_header}

@@ -8,7 +8,8 @@ use Rattle.std.proofs.lemmas.Slice.Eq.{bytes_eq-Decides}
 use Rattle.std.proofs.lemmas.List.{drop-drop, length-append, length-drop, length-take, length-take-le, take-append-drop}
 use Rattle.byteorder.specs.Endian.{little_bytes}
 use Rattle.ufs_base.specs.Choices.{some_if}
-use Rattle.ufs_layout.specs.Words.{number_at, byte_at, IsBytes}
+use Rattle.ufs_base.specs.Images.{IsBytes}
+use Rattle.ufs_layout.specs.Words.{number_at, byte_at}
 use Rattle.ufs_layout.specs.InodeForm.{extent_bytes, extents_at, is_extent}
 use Rattle.ufs_layout.specs.DentryForm.{DentryForm, dentry_bytes, dentry_fields, dentry_of, is_dentry}
 use Rattle.ufs_layout.specs.Records.{record_bytes, record_by_tag, spelled_in, leading_record, is_record}
