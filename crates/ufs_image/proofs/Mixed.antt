@@ -118,7 +118,7 @@ good_sets s (Delta inode kind size keep extents ∷ rs) good = good_sets s rs go
 good_sets s (Place sector slot dentry ∷ rs) good = by (s == sector) (good_sets s rs good.1)
   where
     by : (b : Bool) → GoodSets (sets_of s rs) → GoodSets (onto_sets b (slot, dentry_bytes dentry) (sets_of s rs))
-    by true more = let most = (and_parts (nat_le slot 7) (is_dentry dentry) good.0.0).0 in ((grind (arith, nat_tests, most), length-dentry dentry good.0.1.2), more)
+    by true more = let most = (and_parts (nat_lt slot 8) (is_dentry dentry) good.0.0).0 in ((grind (arith, nat_tests, most), length-dentry dentry good.0.1.2), more)
     by false more = more
 good_sets s (Free inode ∷ rs) good = good_sets s rs good.1
 

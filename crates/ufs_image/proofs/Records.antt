@@ -57,8 +57,8 @@ by_tag bytes is (suc (suc zero)) r e =
       IsBytes-drop 70 bytes is,
     )
   where
-    short : (slot : ℕ) (d : DentryForm) → (nat_le slot 7 && is_dentry d) ≡ true → length d.name ≤ 58
-    short slot d form = let t = (and_parts (nat_le (length d.name) 58) _ (and_parts (nat_le slot 7) (is_dentry d) form).1).0 in grind (arith, nat_tests, t)
+    short : (slot : ℕ) (d : DentryForm) → (nat_lt slot 8 && is_dentry d) ≡ true → length d.name ≤ 58
+    short slot d form = let t = (and_parts (nat_le (length d.name) 58) _ (and_parts (nat_lt slot 8) (is_dentry d) form).1).0 in grind (arith, nat_tests, t)
 by_tag bytes is (suc (suc (suc zero))) r e =
     let same : (Free (number_at 4 1 bytes), drop 5 bytes) ≡ r = cc in
     subst (λ (x : LogRecord × List ℕ). FitsRead x.0 × IsBytes x.1) same (λ form. number_below 0 4 (drop 1 bytes) (IsBytes-drop 1 bytes is), IsBytes-drop 5 bytes is)

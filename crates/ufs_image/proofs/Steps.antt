@@ -238,7 +238,7 @@ module _ (g : Geometry) (whole : Bool) (these : ℕ → Bool) where
           → Spells g whole these (if t then with_record g number before (Place sector slot dentry) now else now) (if t then with_record_in number b (Place sector slot dentry) c else c)
       by false e = is
       by true e =
-          let parts = and_parts (nat_le slot 7) (is_dentry dentry) good.0 in
+          let parts = and_parts (nat_lt slot 8) (is_dentry dentry) good.0 in
           let most = parts.0 in
           set_slot now c sector slot dentry is e (grind (arith, nat_tests, most)) parts.1 good.1.1 good.1.2
   record_step number small before now b c (Free inode) first is good = by (is_inode_number g inode) refl
