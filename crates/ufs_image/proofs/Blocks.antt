@@ -12,7 +12,8 @@ use Rattle.ufs_image.specs.Images.{IsImageOf, block_at}
 use Rattle.ufs_image.specs.Nodes.{blocks_of}
 use Rattle.ufs_image.specs.Opens.{file_bytes}
 use Rattle.ufs_layout.specs.declared.geometry.Geometry.{Geometry}
-use Rattle.ufs_image.specs.Catalog.{Catalog, IsInode, IsCatalogOf, read_block}
+use Rattle.ufs_image.specs.Catalog.{Catalog, IsInode, IsCatalogOf}
+use Rattle.ufs_image.specs.Nodes.{read_block}
 use Rattle.ufs_image.specs.Agree.{AgreeOn, IsOfBlock, IsOfForm, IsOfDir}
 use Rattle.ufs_image.proofs.Lists.{IsIn, flat_map-same}
 use Rattle.ufs_image.proofs.Listed.{place_of_in}

@@ -12,7 +12,8 @@ use Rattle.ufs_image.specs.Nodes.{blocks_of}
 use Rattle.ufs_image.specs.Fold.{after_delta, with_committed}
 use Rattle.ufs_layout.specs.declared.geometry.Geometry.{Geometry}
 use Rattle.ufs_layout.specs.declared.inode.Extent.{Extent}
-use Rattle.ufs_image.specs.Catalog.{Catalog, HasBlock, IsCatalogOf, read_block}
+use Rattle.ufs_image.specs.Catalog.{Catalog, HasBlock, IsCatalogOf}
+use Rattle.ufs_image.specs.Nodes.{read_block}
 use Rattle.ufs_image.specs.Sound.{IsSoundCatalog}
 use Rattle.ufs_image.specs.Walks.{inode_of}
 use Rattle.ufs_image.specs.Agree.{IsOfBlock}

@@ -11,7 +11,8 @@ use Rattle.ufs_layout.specs.Areas.{IsGeometry, sector_of_inode, sector_count, fi
 use Rattle.ufs_layout.specs.InodeForm.{InodeForm, inode_of, inode_fields, inode_bytes, is_inode, extents_at, free_inode, FitsExtent}
 use Rattle.ufs_image.specs.Images.{IsImageOf, inode_at, form_at}
 use Rattle.ufs_layout.specs.declared.geometry.Geometry.{Geometry}
-use Rattle.ufs_image.specs.Catalog.{Catalog, IsInode, IsCatalogOf, read_block, catalog_at}
+use Rattle.ufs_image.specs.Catalog.{Catalog, IsInode, IsCatalogOf, catalog_at}
+use Rattle.ufs_image.specs.Nodes.{read_block}
 use Rattle.ufs_image.specs.Folding.{FitsForm, Spells}
 use Rattle.ufs_layout.proofs.Compared.{IsBytes-drop}
 use Rattle.ufs_image.proofs.Holders.{some_if-some}

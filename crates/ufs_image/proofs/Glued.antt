@@ -13,7 +13,8 @@ use Rattle.ufs_layout.specs.DentryForm.{DentryForm, dentry_bytes, dentry_fields,
 use Rattle.ufs_base.specs.Images.{Image}
 use Rattle.ufs_image.specs.Images.{block_at}
 use Rattle.ufs_layout.specs.declared.geometry.Geometry.{Geometry}
-use Rattle.ufs_image.specs.Catalog.{Catalog, IsInode, IsCatalogOf, read_block}
+use Rattle.ufs_image.specs.Catalog.{Catalog, IsInode, IsCatalogOf}
+use Rattle.ufs_image.specs.Nodes.{read_block}
 use Rattle.ufs_image.specs.Agree.{IsOfBlock}
 use Rattle.ufs_image.proofs.Holders.{some_if-some}
 use Rattle.ufs_image.proofs.Written.{rows}

@@ -12,7 +12,8 @@ use Rattle.ufs_image.specs.Images.{form_at}
 use Rattle.ufs_image.specs.Nodes.{NamedSlot, blocks_of, slots_of, names_of}
 use Rattle.ufs_image.specs.Opens.{names_in}
 use Rattle.ufs_layout.specs.declared.geometry.Geometry.{Geometry}
-use Rattle.ufs_image.specs.Catalog.{Catalog, IsInode, IsCatalogOf, slots_in, read_block}
+use Rattle.ufs_image.specs.Catalog.{Catalog, IsInode, IsCatalogOf, slots_in}
+use Rattle.ufs_image.specs.Nodes.{read_block}
 use Rattle.ufs_image.specs.Sound.{HasDentry}
 use Rattle.ufs_image.proofs.Lists.{IsIn, flat_map-same, in_filter, from_filter, in_enumerated, from_enumerated}
 

@@ -10,7 +10,8 @@ use Rattle.ufs_image.specs.Images.{inode_at, form_at}
 use Rattle.ufs_image.specs.Nodes.{Node, is_bad_form, sound_node, sound_nodes, blocks_of, ReadSlot, Dir, slots_of, dirs_of}
 use Rattle.ufs_image.specs.Damage.{BadDentry, is_bad_dentry}
 use Rattle.ufs_layout.specs.declared.geometry.Geometry.{Geometry}
-use Rattle.ufs_image.specs.Catalog.{IsInode, HasBlock, IsCatalogOf, read_block, catalog_at}
+use Rattle.ufs_image.specs.Catalog.{IsInode, HasBlock, IsCatalogOf, catalog_at}
+use Rattle.ufs_image.specs.Nodes.{read_block}
 use Rattle.ufs_image.proofs.Lists.{IsIn, in_flat_map, in_filter, in_map, in_filter_map, in_enumerated}
 use Rattle.ufs_image.proofs.Listed.{place_of_in, in_at_place}
 use Rattle.ufs_image.proofs.Empty.{map_empty, filter_empty, flat_map_empty}

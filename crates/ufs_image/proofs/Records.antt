@@ -1,6 +1,6 @@
 -- What is committed in an image is spelled, with numbers in their types' ranges.
 use Rattle.std.proofs.Common.{◌≡◌, ℕ, zero, suc, ◌+◌, ◌*◌, ◌<◌, ◌≤◌, ◌^◌, inl, inr, List, [], ◌∷◌, length, take, drop, Option, Some, None, Bool, true, false, map, ap, sym, refl, ◌∙◌, subst, arith}
-use Rattle.std.specs.Prelude.{flat_map, filter, ◌==◌, ◌&&◌, nat_le, option_map, if◌then◌else◌, IsTrue}
+use Rattle.std.specs.Prelude.{flat_map, filter, ◌==◌, ◌&&◌, nat_lt, nat_le, option_map, if◌then◌else◌, IsTrue}
 use Rattle.std.specs.List.{range_with_len, list_all, filter_map, AllByRecursion}
 use Rattle.std.specs.Str.{bytes_eq}
 use Rattle.std.proofs.lemmas.Bool.{and_parts}

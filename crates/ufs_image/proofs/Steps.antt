@@ -18,7 +18,8 @@ use Rattle.ufs_layout.specs.declared.inode.Extent.{Extent}
 use Rattle.ufs_layout.specs.declared.records.LogRecord.{LogRecord}
 use Rattle.ufs_layout.specs.declared.records.LogRecord.TheVariants.{Delta, Place, Free}
 use Rattle.ufs_layout.specs.declared.records.Committed.{Committed}
-use Rattle.ufs_image.specs.Catalog.{Catalog, IsInode, read_block}
+use Rattle.ufs_image.specs.Catalog.{Catalog, IsInode}
+use Rattle.ufs_image.specs.Nodes.{read_block}
 use Rattle.ufs_image.specs.Agree.{IsOfBlock}
 use Rattle.ufs_image.specs.Folding.{with_form, with_dentry, is_newer_in, with_record_in, with_valid_in, with_records_in, with_committed_in, folded_in, FitsForm, AreSpelled, FitsCommitted, Spells}
 use Rattle.ufs_image.proofs.Blocks.{read_same}

@@ -11,7 +11,8 @@ use Rattle.ufs_layout.specs.DentryForm.{DentryForm, dentry_bytes, dentry_of}
 use Rattle.ufs_base.specs.Images.{Image}
 use Rattle.ufs_image.specs.Images.{block_at}
 use Rattle.ufs_layout.specs.declared.geometry.Geometry.{Geometry}
-use Rattle.ufs_image.specs.Catalog.{Catalog, IsCatalogOf, read_block}
+use Rattle.ufs_image.specs.Catalog.{Catalog, IsCatalogOf}
+use Rattle.ufs_image.specs.Nodes.{read_block}
 use Rattle.ufs_image.specs.Agree.{IsOfBlock}
 use Rattle.ufs_image.specs.Written.{FitsDentryForm, IsWritten}
 use Rattle.ufs_image.proofs.SlotBytes.{length-dentry, dentry-read}

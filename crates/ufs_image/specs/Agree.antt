@@ -1,6 +1,7 @@
 -- Images that have the same in some sectors.
 use Rattle.std.specs.Prelude.{ℕ, ◌≡◌, ◌<◌, ◌*◌, ◌+◌, Some}
 use Rattle.std.specs.List.{slice_get}
+use Rattle.ufs_base.specs.declared.sizes.TheConstants.{SECTORS_PER_BLOCK}
 use Rattle.ufs_layout.specs.Areas.{first_of_data}
 use Rattle.ufs_layout.specs.InodeForm.{InodeForm}
 use Rattle.ufs_base.specs.Images.{Image}
@@ -13,13 +14,13 @@ AgreeOn these image other = (sector : ℕ) → these sector → image sector ≡
 
 -- It lies before the data area.
 abbrev pub IsMetadata : Geometry → ℕ → Type 0
-IsMetadata g sector = sector < 8 * first_of_data g
+IsMetadata g sector = sector < SECTORS_PER_BLOCK * first_of_data g
 
 -- It is of this block.
 pub record IsOfBlock (block sector : ℕ) : Type 0 where
   pub slot : ℕ
-  pub in_block : slot < 8
-  pub same : sector ≡ 8 * block + slot
+  pub in_block : slot < SECTORS_PER_BLOCK
+  pub same : sector ≡ SECTORS_PER_BLOCK * block + slot
 
 -- It is of a directory's block.
 pub record IsOfDir (g : Geometry) (c : Catalog) (sector : ℕ) : Type 0 where

@@ -1,16 +1,14 @@
 -- What a folded image says of its inodes and directories, without bytes.
 use Rattle.std.specs.Prelude.{ℕ, ◌≡◌, ◌≤◌, ◌==◌, List, [], map, flat_map, if◌then◌else◌, Option, Some, unwrap_or}
 use Rattle.std.specs.List.{slice_get}
-use Rattle.ufs_layout.specs.Words.{pieces}
-use Rattle.ufs_layout.specs.Areas.{sectors_of_block}
 use Rattle.ufs_layout.specs.InodeForm.{InodeForm}
-use Rattle.ufs_layout.specs.DentryForm.{DentryForm, dentry_of, free_slot}
+use Rattle.ufs_layout.specs.DentryForm.{DentryForm, free_slot}
 use Rattle.ufs_base.specs.Images.{Image}
 use Rattle.ufs_image.specs.Images.{inode_at, form_at}
-use Rattle.ufs_image.specs.Nodes.{blocks_of}
+use Rattle.ufs_image.specs.Nodes.{blocks_of, read_block}
 use Rattle.ufs_layout.specs.declared.geometry.Geometry.{Geometry}
 
--- each inode's form, and the dentries in the 64 slots of each block of a directory
+-- each inode's form, and the dentries in the slots of each block of a directory
 pub record Catalog : Type 0 where
   pub forms : ℕ → InodeForm
   pub slots : ℕ → List DentryForm
@@ -27,10 +25,6 @@ pub record HasBlock (g : Geometry) (c : Catalog) (inode place block : ℕ) : Typ
 -- the slots of an inode, those of its first block first; a file has none
 abbrev pub slots_in : Catalog → ℕ → List DentryForm
 slots_in c inode = if (c.forms inode).kind == 2 then flat_map c.slots (blocks_of (c.forms inode)) else []
-
--- what the slots of a block are the spelling of
-abbrev pub read_block : Image → ℕ → List (Option DentryForm)
-read_block image block = flat_map (λ s. map dentry_of (pieces 8 64 (image s))) (sectors_of_block block)
 
 -- The image spells it: each inode's sector the inode's form, each slot of a directory's blocks its dentry.
 pub record IsCatalogOf (g : Geometry) (image : Image) (c : Catalog) : Type 0 where

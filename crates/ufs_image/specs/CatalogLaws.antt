@@ -20,7 +20,8 @@ use Rattle.ufs_layout.specs.declared.inode.Extent.{Extent}
 use Rattle.ufs_layout.specs.declared.records.LogRecord.TheVariants.{Delta}
 use Rattle.ufs_layout.specs.declared.records.Committed.{Committed}
 use Rattle.ufs_layout.specs.declared.geometry.Geometry.{Geometry}
-use Rattle.ufs_image.specs.Catalog.{Catalog, IsInode, HasBlock, IsCatalogOf, catalog_at, slots_in, read_block}
+use Rattle.ufs_image.specs.Catalog.{Catalog, IsInode, HasBlock, IsCatalogOf, catalog_at, slots_in}
+use Rattle.ufs_image.specs.Nodes.{read_block}
 use Rattle.ufs_image.specs.Sound.{IsSoundCatalog}
 use Rattle.ufs_image.specs.Agree.{AgreeOn, IsMetadata, IsOfDir, IsOfForm, IsOfBlock}
 use Rattle.ufs_image.specs.Folding.{FitsForm, Spells, FitsCommitted, folded_in, with_form, with_dentry}

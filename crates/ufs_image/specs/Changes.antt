@@ -1,6 +1,7 @@
 -- Changes after which a catalog is still sound, and tells the same paths.
 use Rattle.std.specs.Prelude.{ℕ, ◌≡◌, ◌≢◌, ◌≤◌, ◌<◌, ◌*◌, ◌⊎◌, List, [], length, Some}
 use Rattle.std.specs.List.{slice_get, AllByRecursion}
+use Rattle.ufs_base.specs.declared.sizes.TheConstants.{BLOCK}
 use Rattle.ufs_layout.specs.Areas.{first_of_data}
 use Rattle.ufs_layout.specs.InodeForm.{InodeForm}
 use Rattle.ufs_layout.specs.DentryForm.{DentryForm}
@@ -30,7 +31,7 @@ pub record MayBecome (g : Geometry) (c : Catalog) (inode : ℕ) (form : InodeFor
   pub was_file : (c.forms inode).kind ≡ 1
   pub file : form.kind ≡ 1
   pub in_data : AllByRecursion (IsInData g) form.extents
-  pub room : form.size ≤ 4096 * length (blocks_of form)
+  pub room : form.size ≤ BLOCK * length (blocks_of form)
   pub once : (p q block : ℕ) → slice_get (blocks_of form) p ≡ Some block → slice_get (blocks_of form) q ≡ Some block → p ≡ q
   pub apart : (p j q block : ℕ) → slice_get (blocks_of form) p ≡ Some block → HasBlock g c j q block → j ≡ inode
 

@@ -1,6 +1,7 @@
 -- What committed records do to a catalog: what they do to an image, without its bytes.
 use Rattle.std.specs.Prelude.{ℕ, ◌≡◌, ◌<◌, ◌≤◌, ◌+◌, ◌*◌, ◌/◌, ◌%◌, ◌^◌, ◌==◌, List, [], ◌∷◌, map, nat_lt, if◌then◌else◌, IsTrue, Bool, Some, length, slice_set}
 use Rattle.std.specs.List.{AllByRecursion}
+use Rattle.ufs_base.specs.declared.sizes.TheConstants.{SECTOR, SECTORS_PER_BLOCK, SLOTS_PER_SECTOR}
 use Rattle.ufs_layout.specs.Areas.{first_of_data}
 use Rattle.ufs_layout.specs.InodeForm.{InodeForm, is_inode, free_inode, FitsExtent}
 use Rattle.ufs_layout.specs.DentryForm.{DentryForm}
@@ -12,16 +13,21 @@ use Rattle.ufs_layout.specs.declared.geometry.Geometry.{Geometry}
 use Rattle.ufs_layout.specs.declared.records.LogRecord.{LogRecord}
 use Rattle.ufs_layout.specs.declared.records.LogRecord.TheVariants.{Delta, Place, Free}
 use Rattle.ufs_layout.specs.declared.records.Committed.{Committed}
-use Rattle.ufs_image.specs.Catalog.{Catalog, IsInode, read_block}
+use Rattle.ufs_image.specs.Catalog.{Catalog, IsInode}
+use Rattle.ufs_image.specs.Nodes.{read_block}
 use Rattle.ufs_image.specs.Agree.{IsOfBlock}
 
 -- with another form of an inode
 abbrev pub with_form : ℕ → InodeForm → Catalog → Catalog
 with_form inode form c = record c { forms = λ k. if k == inode then form else c.forms k }
 
+-- the place of a slot of a sector among the slots of the block
+abbrev pub place_in_block : (sector slot : ℕ) → ℕ
+place_in_block sector slot = SLOTS_PER_SECTOR * (sector % SECTORS_PER_BLOCK) + slot
+
 -- with another dentry in a slot of a sector
 abbrev pub with_dentry : (sector slot : ℕ) → DentryForm → Catalog → Catalog
-with_dentry sector slot d c = record c { slots = λ block. if block == sector / 8 then slice_set (c.slots block) (8 * (sector % 8) + slot) d else c.slots block }
+with_dentry sector slot d c = record c { slots = λ block. if block == sector / SECTORS_PER_BLOCK then slice_set (c.slots block) (place_in_block sector slot) d else c.slots block }
 
 -- Before its transaction the inode had a lower commit number.
 abbrev pub is_newer_in : ℕ → Catalog → ℕ → Bool
@@ -74,4 +80,4 @@ pub record Spells (g : Geometry) (whole : Bool) (these : ℕ → Bool) (image : 
   pub fit : (inode : ℕ) → IsInode g inode → FitsForm (c.forms inode)
   pub in_data : (block : ℕ) → IsTrue (these block) → first_of_data g ≤ block
   pub slots : (block : ℕ) → IsTrue (these block) → read_block image block ≡ map Some (c.slots block)
-  pub sized : (block sector : ℕ) → IsTrue (these block) → IsOfBlock block sector → length (image sector) ≡ 512
+  pub sized : (block sector : ℕ) → IsTrue (these block) → IsOfBlock block sector → length (image sector) ≡ SECTOR

@@ -1,5 +1,6 @@
 -- Images: how many sectors there are, and what each has.
 use Rattle.std.specs.Prelude.{ℕ, List, [], ◌<◌, slice_index_or, if◌then◌else◌, ◌==◌, flat_map, take, drop, ◌++◌, ◌*◌, ◌+◌, Option, unwrap_or}
+use Rattle.ufs_base.specs.declared.sizes.TheConstants.{SLOT}
 use Rattle.ufs_base.specs.Images.{Image, IsSector}
 use Rattle.ufs_layout.specs.Areas.{sector_of_inode, sectors_of_block}
 use Rattle.ufs_layout.specs.InodeForm.{InodeForm, inode_of, free_inode}
@@ -19,7 +20,7 @@ with_sector sector bytes image k = if k == sector then bytes else image k
 
 -- other bytes in one of a sector's eight slots
 abbrev pub with_slot : ℕ → List ℕ → List ℕ → List ℕ
-with_slot slot bytes sector = take (64 * slot) sector ++ bytes ++ drop (64 * slot + 64) sector
+with_slot slot bytes sector = take (SLOT * slot) sector ++ bytes ++ drop (SLOT * slot + SLOT) sector
 
 -- an inode, where its sector is on its form
 abbrev pub inode_at : Geometry → Image → ℕ → Option InodeForm

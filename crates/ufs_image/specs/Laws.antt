@@ -1,5 +1,6 @@
 -- What the definitions of an image mean.
 use Rattle.std.specs.Prelude.{ℕ, ◌≡◌, ◌≤◌, ◌<◌, ◌+◌, ◌*◌, ◌==◌, false, [], Ok}
+use Rattle.ufs_base.specs.declared.sizes.TheConstants.{SECTORS_PER_BLOCK}
 use Rattle.ufs_layout.specs.Areas.{sector_count, first_of_journal}
 use Rattle.ufs_base.specs.Images.{Image}
 use Rattle.ufs_image.specs.Journal.{epoch_in, committed}
@@ -23,4 +24,4 @@ BeginsProper g = (sectors : ℕ) (image : Image) → IsFormatted g image → sec
 
 -- Where no journal sector has the epoch, folding changes nothing.
 abbrev pub FoldsNothing : Geometry → Type 0
-FoldsNothing g = (epoch : ℕ) (image : Image) → ((s : ℕ) → s < g.journal → (epoch_in (image (8 * first_of_journal g + s)) == epoch) ≡ false) → folded g (committed g epoch image) image ≡ image
+FoldsNothing g = (epoch : ℕ) (image : Image) → ((s : ℕ) → s < g.journal → (epoch_in (image (SECTORS_PER_BLOCK * first_of_journal g + s)) == epoch) ≡ false) → folded g (committed g epoch image) image ≡ image

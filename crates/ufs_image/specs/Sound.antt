@@ -1,6 +1,7 @@
 -- Which catalogs stand for a tree: those of which nothing is damaged.
 use Rattle.std.specs.Prelude.{ℕ, ◌≡◌, ◌≢◌, ◌≤◌, ◌*◌, ◌+◌, true, length, Some, IsTrue}
 use Rattle.std.specs.List.{slice_get, AllByRecursion}
+use Rattle.ufs_base.specs.declared.sizes.TheConstants.{BLOCK}
 use Rattle.ufs_layout.specs.Areas.{first_of_data}
 use Rattle.ufs_layout.specs.DentryForm.{DentryForm, is_named}
 use Rattle.ufs_image.specs.Nodes.{blocks_of}
@@ -34,8 +35,8 @@ pub record IsSoundCatalog (g : Geometry) (c : Catalog) : Type 0 where
   pub in_data : (inode : ℕ) → IsInode g inode → AllByRecursion (IsInData g) (c.forms inode).extents
   -- one place holds a block
   pub blocks_once : (i j p q block : ℕ) → HasBlock g c i p block → HasBlock g c j q block → (i ≡ j) × (p ≡ q)
-  pub room : (inode : ℕ) → IsInode g inode → (c.forms inode).size ≤ 4096 * length (blocks_of (c.forms inode))
-  pub whole : (dir : ℕ) → IsInode g dir → (c.forms dir).kind ≡ 2 → (c.forms dir).size ≡ 4096 * length (blocks_of (c.forms dir))
+  pub room : (inode : ℕ) → IsInode g inode → (c.forms inode).size ≤ BLOCK * length (blocks_of (c.forms inode))
+  pub whole : (dir : ℕ) → IsInode g dir → (c.forms dir).kind ≡ 2 → (c.forms dir).size ≡ BLOCK * length (blocks_of (c.forms dir))
   pub fit : (dir place : ℕ) (d : DentryForm) → HasDentry g c dir place d → FitsDentry g c d
   -- a directory has a name once
   pub names_once : (dir p q : ℕ) (d e : DentryForm) → HasDentry g c dir p d → HasDentry g c dir q e → d.name ≡ e.name → p ≡ q
