@@ -36,7 +36,7 @@ file_same image other form agree = ap (take form.size) (flat_map-same (block_at 
 pub catalog_same : (g : Geometry) (image other : Image) (c : Catalog) → IsCatalogOf g image c → ((inode : ℕ) → IsInode g inode → image (sector_of_inode g inode) ≡ other (sector_of_inode g inode)) → AgreeOn (IsOfDir g c) image other → IsCatalogOf g other c
 catalog_same g image other c is table agree = record {
   forms = λ inode in_range. ap inode_of (sym (table inode in_range)) ∙ is.forms inode in_range;
-  slots = λ inode place block has dir. sym (read_same image other block (λ s of. agree s (record { inode = inode; place = place; block = block; has = has; dir = dir; of_block = of }))) ∙ is.slots inode place block has dir;
+  slots = λ block dir. sym (read_same image other block (λ s of. agree s (record { block = block; dir_block = dir; of_block = of }))) ∙ is.slots block dir;
 }
 
 -- ---- how many bytes there are

@@ -12,7 +12,7 @@ use Rattle.ufs_image.specs.Fold.{with_committed, folded}
 use Rattle.ufs_layout.specs.declared.geometry.Geometry.{Geometry}
 use Rattle.ufs_layout.specs.declared.inode.Extent.{Extent}
 use Rattle.ufs_layout.specs.declared.records.Committed.{Committed}
-use Rattle.ufs_image.specs.Catalog.{Catalog, IsInode, HasBlock, IsCatalogOf, slots_in}
+use Rattle.ufs_image.specs.Catalog.{Catalog, IsInode, HasBlock, HasDirBlocks, IsCatalogOf, slots_in}
 use Rattle.ufs_image.specs.Sound.{IsSoundCatalog, HasDentry, IsInData}
 use Rattle.ufs_image.specs.Walks.{has_name, child_of, step, walk_from, inode_of}
 use Rattle.ufs_image.specs.Folding.{with_form, Spells}
@@ -212,5 +212,5 @@ folded-more g [] t image = refl
 folded-more g (x ∷ ts) t image = folded-more g ts t (with_committed g x image)
 
 pub spells_catalog : (g : Geometry) (these : ℕ → Bool) (image : Image) (c : Catalog) → Spells g true these image c
-    → ((inode place block : ℕ) → HasBlock g c inode place block → (c.forms inode).kind ≡ 2 → IsTrue (these block)) → IsCatalogOf g image c
-spells_catalog g these image c is dirs = record { forms = is.on_form refl; slots = λ inode place block has dir. is.slots block (dirs inode place block has dir) }
+    → HasDirBlocks g c these → IsCatalogOf g image c
+spells_catalog g these image c is dirs = record { forms = is.on_form refl; slots = λ block dir. is.slots block (dirs block dir) }

@@ -22,7 +22,8 @@ use Rattle.ufs_image.specs.Catalog.{Catalog, IsInode, HasBlock, IsCatalogOf, cat
 use Rattle.ufs_image.specs.Folding.{FitsForm, FitsCommitted, folded_in}
 use Rattle.ufs_image.specs.Changes.{IsFree, IsUnnamed, FreesUnnamed}
 use Rattle.ufs_image.specs.Walks.{inode_of as met_by, node_of}
-use Rattle.ufs_image.specs.CatalogLaws.{IsVolumeOf, IsHome}
+use Rattle.ufs_image.specs.Standing.{IsVolumeOf}
+use Rattle.ufs_image.specs.Stops.{IsHome}
 use Rattle.ufs_image.proofs.Lists.{IsIn}
 use Rattle.ufs_image.proofs.Listed.{in_at_place}
 use Rattle.ufs_image.proofs.Empty.{from_range}
@@ -140,11 +141,11 @@ module _ (sectors : ℕ) (image mix : Image) (c d : Catalog) (bytes : IsImageOf 
     catalog : IsCatalogOf g (folded g cs mix) d
     catalog = record {
       forms = forms;
-      slots = λ k p b has dir.
-          let was : HasBlock g c k p b = had_block g c d is.sound some frees k p b has in
-          let kind : (c.forms k).kind ≡ 2 = ap (λ (f : InodeForm). f.kind) (sym (dir_same k has.in_range dir)) ∙ dir in
-          let from = low k p b was.in_range was.there in
-          sym (read_same (folded g cs image) (folded g cs mix) b (λ s of. let at = of.same in data_same s (omega (arith, from, at)))) ∙ is.catalog.slots k p b was kind ∙ ap (map Some) (sym (frees.slots b));
+      slots = λ b in_dir.
+          let was : HasBlock g c in_dir.inode in_dir.place b = had_block g c d is.sound some frees in_dir.inode in_dir.place b in_dir.has in
+          let kind : (c.forms in_dir.inode).kind ≡ 2 = ap (λ (f : InodeForm). f.kind) (sym (dir_same in_dir.inode in_dir.has.in_range in_dir.dir)) ∙ in_dir.dir in
+          let from = low in_dir.inode in_dir.place b was.in_range was.there in
+          sym (read_same (folded g cs image) (folded g cs mix) b (λ s of. let at = of.same in data_same s (omega (arith, from, at)))) ∙ is.catalog.slots b (record { inode = in_dir.inode; place = in_dir.place; has = was; dir = kind }) ∙ ap (map Some) (sym (frees.slots b));
     }
 
     mix_is : IsVolumeOf sectors mix (record { head = head_of image; geometry = g; image = folded g cs mix }) d

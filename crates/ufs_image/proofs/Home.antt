@@ -25,7 +25,7 @@ use Rattle.ufs_image.specs.Catalog.{Catalog, IsInode, IsCatalogOf, catalog_at}
 use Rattle.ufs_image.specs.Sound.{IsSoundCatalog}
 use Rattle.ufs_image.specs.Agree.{IsOfForm}
 use Rattle.ufs_image.specs.Folding.{FitsCommitted, folded_in}
-use Rattle.ufs_image.specs.CatalogLaws.{IsVolumeOf}
+use Rattle.ufs_image.specs.Standing.{IsVolumeOf}
 use Rattle.ufs_image.proofs.Lists.{IsIn, in_one, in_left, in_right, from_filter}
 use Rattle.ufs_image.proofs.Listed.{in_at_place}
 use Rattle.ufs_image.proofs.Empty.{false_if_not, list_any_false, from_range}
@@ -234,7 +234,7 @@ module _ (sectors : ℕ) (image mix : Image) (bytes : IsImageOf sectors image) (
       taken = mix_taken;
       catalog = subst (λ h. IsCatalogOf h (volume_of (head_of mix) mix).image c) (sym geometries) (catalog_same v.geometry v.image (volume_of (head_of mix) mix).image c is.catalog
           (λ k ranged. subst (λ h. v.image (sector_of_inode h k) ≡ (volume_of (head_of mix) mix).image (sector_of_inode h k)) geometry_same (agree (sector_of_inode g k) (omega arith)))
-          (λ s of. let low = block_low of.inode of.place of.block of.has.in_range of.has.there in let at = of.of_block.same in agree s (omega (arith, low, at))));
+          (λ s of. let low = block_low of.dir_block.inode of.dir_block.place of.block of.dir_block.has.in_range of.dir_block.has.there in let at = of.of_block.same in agree s (omega (arith, low, at))));
       sound = subst (λ h. IsSoundCatalog h c) (sym geometries) is.sound;
     }
       where

@@ -66,7 +66,7 @@ module _ (g : Geometry) (image : Image) (c : Catalog) (is : IsCatalogOf g image 
   slots_are inode in_range dir = ap (enumerate_from 0) (flat_map-same (read_block image) (λ b. map Some (c.slots b)) (blocks_of (c.forms inode)) each ∙ map-flat_map Some c.slots (blocks_of (c.forms inode)))
     where
       each : (b : ℕ) → IsIn b (blocks_of (c.forms inode)) → read_block image b ≡ map Some (c.slots b)
-      each b there = let at = place_of_in b (blocks_of (c.forms inode)) there in is.slots inode at.0 b (record { in_range = in_range; there = at.1 }) dir
+      each b there = let at = place_of_in b (blocks_of (c.forms inode)) there in is.slots b (record { inode = inode; place = at.0; has = record { in_range = in_range; there = at.1 }; dir = dir })
 
   -- the names that are listed
   pub names_are : (inode : ℕ) → IsInode g inode → names_in image inode (form_at g image inode) ≡ used 0 (slots_in c inode)

@@ -11,7 +11,7 @@ use Rattle.ufs_image.specs.Opens.{NodeBytes, path_cmp, walked, opens}
 use Rattle.ufs_image.specs.Catalog.{Catalog, IsInode}
 use Rattle.ufs_image.specs.Agree.{AgreeOn, IsOfForm}
 use Rattle.ufs_image.specs.Walks.{inode_of, path_text, ArePieces, node_of}
-use Rattle.ufs_image.specs.CatalogLaws.{IsVolumeOf}
+use Rattle.ufs_image.specs.Standing.{IsVolumeOf}
 use Rattle.ufs_image.proofs.Found.{reached}
 use Rattle.ufs_image.proofs.Depth.{root_in_range}
 use Rattle.ufs_image.proofs.Paths.{stands, standing}

@@ -16,7 +16,7 @@ use Rattle.ufs_layout.specs.declared.geometry.BadGeometry.TheVariants.{Blocks, I
 use Rattle.ufs_image.specs.Catalog.{Catalog, IsInode, IsCatalogOf, catalog_at}
 use Rattle.ufs_image.specs.Sound.{IsSoundCatalog}
 use Rattle.ufs_image.specs.Agree.{AgreeOn, IsMetadata, IsOfDir}
-use Rattle.ufs_image.specs.CatalogLaws.{IsVolumeOf}
+use Rattle.ufs_image.specs.Standing.{IsVolumeOf}
 use Rattle.ufs_image.proofs.Whole.{sound_whole, whole_sound, whole_read, spelled_all}
 use Rattle.ufs_image.proofs.Blamed.{undamaged, not_bad}
 use Rattle.ufs_image.proofs.Read.{catalog_there}

@@ -11,7 +11,8 @@ use Rattle.ufs_image.specs.Damage.{damage}
 use Rattle.ufs_image.specs.Volume.{Volume}
 use Rattle.ufs_image.specs.Proper.{IsProperVolume, IsProperImage}
 use Rattle.ufs_image.specs.Catalog.{Catalog}
-use Rattle.ufs_image.specs.CatalogLaws.{IsVolumeOf, IsClosed}
+use Rattle.ufs_image.specs.Agree.{IsOfJournal}
+use Rattle.ufs_image.specs.Standing.{IsVolumeOf, IsClosed}
 use Rattle.ufs_image.proofs.Lists.{IsIn}
 use Rattle.ufs_image.proofs.Empty.{from_range, false_if_not}
 use Rattle.ufs_image.proofs.Holders.{inode_in}
@@ -24,23 +25,20 @@ all_pass p [] each = refl
 all_pass p (x ∷ xs) each = let head = each x (inl refl) in let rest = all_pass p xs (λ y is. each y (inr is)) in λ i. head i && rest i
 
 pub proper : (sectors : ℕ) (image : Image) (v : Volume) (c : Catalog) → IsVolumeOf sectors image v c
-    → ((sector : ℕ) → sector < v.geometry.journal → epoch_in (image (8 * first_of_journal v.geometry + sector)) ≤ v.head.epoch)
+    → ((sector : ℕ) → IsOfJournal v.geometry sector → epoch_in (image sector) ≤ v.head.epoch)
     → (IsTrue v.head.clean → IsClosed image v c) → IsProperImage sectors image
 proper sectors image v c is none_later closed = subst (λ r. MatchResult r (IsProperVolume image) (λ _. ⊥)) (sym is.taken) (record {
   has_tree = not_bad v.geometry v.image (sound_whole v.geometry v.image c is.catalog is.sound);
-  none_later = all_pass (λ s. not (nat_lt v.head.epoch (epoch_in (image s)))) (journal_sectors v.geometry) (λ s inside. let at = none_later (s - 8 * first_of_journal v.geometry) (below s inside) in let place = here s inside in later s (subst (λ k. epoch_in (image k) ≤ v.head.epoch) place at));
+  none_later = all_pass (λ s. not (nat_lt v.head.epoch (epoch_in (image s)))) (journal_sectors v.geometry) (λ s inside. later s (none_later s (in_journal s inside)));
   if_clean = λ clean. let is_closed = closed clean in record {
-    no_entry = all_pass (λ s. not (epoch_in (image s) == v.head.epoch)) (journal_sectors v.geometry) (λ s inside. let at = is_closed.no_entry (s - 8 * first_of_journal v.geometry) (below s inside) in let place = here s inside in other s (subst (λ k. epoch_in (image k) ≢ v.head.epoch) place at));
+    no_entry = all_pass (λ s. not (epoch_in (image s) == v.head.epoch)) (journal_sectors v.geometry) (λ s inside. other s (is_closed.no_entry s (in_journal s inside)));
     numbers_below = all_pass (λ i. nat_lt (form_at v.geometry image i).number v.head.next) (all_inodes v.geometry) (λ i inside. let less = is_closed.numbers i (inode_in v.geometry i inside) in grind (arith, nat_tests, less));
-    undamaged = ap (λ b. damage b v.geometry v.image) clean ∙ marks_whole v.geometry v.image c is.catalog is.sound is_closed.marked is_closed.taken;
+    undamaged = ap (λ b. damage b v.geometry v.image) clean ∙ marks_whole v.geometry v.image c is.catalog is.sound is_closed.bits.marked is_closed.bits.taken;
   };
 })
   where
-    below : (s : ℕ) → IsIn s (journal_sectors v.geometry) → s - 8 * first_of_journal v.geometry < v.geometry.journal
-    below s inside = let at = from_range (8 * first_of_journal v.geometry) v.geometry.journal s inside in let low = at.0 in let high = at.1 in omega (arith, low, high)
-
-    here : (s : ℕ) → IsIn s (journal_sectors v.geometry) → 8 * first_of_journal v.geometry + (s - 8 * first_of_journal v.geometry) ≡ s
-    here s inside = let low = (from_range (8 * first_of_journal v.geometry) v.geometry.journal s inside).0 in omega (arith, low)
+    in_journal : (s : ℕ) → IsIn s (journal_sectors v.geometry) → IsOfJournal v.geometry s
+    in_journal s inside = let at = from_range (8 * first_of_journal v.geometry) v.geometry.journal s inside in record { from = at.0; below = at.1 }
 
     later : (s : ℕ) → epoch_in (image s) ≤ v.head.epoch → not (nat_lt v.head.epoch (epoch_in (image s))) ≡ true
     later s most = grind (arith, nat_tests, most)

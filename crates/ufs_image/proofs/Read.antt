@@ -39,7 +39,7 @@ module _ (g : Geometry) (image : Image) (read : AreRead g image) where
       (λ i. some_if (not (read.forms inode in_range i) && (not (read.extents inode in_range i) && not (dir i == 0))) (inode, form_at g image inode))
 
   pub catalog_there : flat_map (λ (d : Dir). map (λ (s : ReadSlot). BadDentry d.inode s.0) (filter is_bad_dentry d.slots)) (dirs_of image (sound_nodes g image)) ≡ [] → IsCatalogOf g image (catalog_at g image)
-  catalog_there none = record { forms = read_form; slots = λ inode place block has dir. all_some free_slot (read_block image block) (λ o there. spelled inode place block has dir o there) }
+  catalog_there none = record { forms = read_form; slots = λ block dir. all_some free_slot (read_block image block) (λ o there. spelled dir.inode dir.place block dir.has dir.dir o there) }
     where
       slot_list : ℕ → List (Option DentryForm)
       slot_list inode = flat_map (read_block image) (blocks_of (form_at g image inode))

@@ -63,5 +63,5 @@ block_read image block ds sized count all e =
 pub written_catalog : (g : Geometry) (image : Image) (c : Catalog) → IsWritten g image c → IsCatalogOf g image c
 written_catalog g image c is = record {
   forms = λ inode in_range. ap inode_of (is.inodes inode in_range) ∙ inode-read (c.forms inode) (is.fit inode in_range);
-  slots = λ inode place block has dir. block_read image block (c.slots block) (λ s of. is.sized inode place block has dir s of) (is.counted inode place block has dir) (is.dentries inode place block has dir) (is.dirs inode place block has dir);
+  slots = λ block dir. let at = is.dirs block dir in block_read image block (c.slots block) at.sized at.counted at.fit at.bytes;
 }

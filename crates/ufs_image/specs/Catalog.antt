@@ -1,6 +1,7 @@
 -- What a folded image says of its inodes and directories, without bytes.
-use Rattle.std.specs.Prelude.{ℕ, ◌≡◌, ◌≤◌, ◌==◌, List, [], map, flat_map, if◌then◌else◌, Option, Some, unwrap_or}
+use Rattle.std.specs.Prelude.{ℕ, ◌≡◌, ◌≤◌, ◌==◌, List, [], map, flat_map, if◌then◌else◌, length, Bool, IsTrue, Option, Some, unwrap_or}
 use Rattle.std.specs.List.{slice_get}
+use Rattle.ufs_base.specs.declared.sizes.TheConstants.{SLOTS_PER_BLOCK}
 use Rattle.ufs_layout.specs.InodeForm.{InodeForm}
 use Rattle.ufs_layout.specs.DentryForm.{DentryForm, free_slot}
 use Rattle.ufs_base.specs.Images.{Image}
@@ -26,10 +27,25 @@ pub record HasBlock (g : Geometry) (c : Catalog) (inode place block : ℕ) : Typ
 abbrev pub slots_in : Catalog → ℕ → List DentryForm
 slots_in c inode = if (c.forms inode).kind == 2 then flat_map c.slots (blocks_of (c.forms inode)) else []
 
+-- A directory has the block.
+pub record IsDirBlock (g : Geometry) (c : Catalog) (block : ℕ) : Type 0 where
+  pub inode : ℕ
+  pub place : ℕ
+  pub has : HasBlock g c inode place block
+  pub dir : (c.forms inode).kind ≡ 2
+
+-- Among these blocks are all of directories.
+abbrev pub HasDirBlocks : Geometry → Catalog → (ℕ → Bool) → Type 0
+HasDirBlocks g c these = (block : ℕ) → IsDirBlock g c block → IsTrue (these block)
+
+-- Each block of the inode has its slots.
+abbrev pub HasSlots : Geometry → Catalog → ℕ → Type 0
+HasSlots g c inode = (block place : ℕ) → HasBlock g c inode place block → length (c.slots block) ≡ SLOTS_PER_BLOCK
+
 -- The image spells it: each inode's sector the inode's form, each slot of a directory's blocks its dentry.
 pub record IsCatalogOf (g : Geometry) (image : Image) (c : Catalog) : Type 0 where
   pub forms : (inode : ℕ) → IsInode g inode → inode_at g image inode ≡ Some (c.forms inode)
-  pub slots : (inode place block : ℕ) → HasBlock g c inode place block → (c.forms inode).kind ≡ 2 → read_block image block ≡ map Some (c.slots block)
+  pub slots : (block : ℕ) → IsDirBlock g c block → read_block image block ≡ map Some (c.slots block)
 
 -- what an image says; a slot that is off counts as free here
 abbrev pub catalog_at : Geometry → Image → Catalog

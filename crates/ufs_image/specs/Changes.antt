@@ -8,8 +8,8 @@ use Rattle.ufs_layout.specs.DentryForm.{DentryForm}
 use Rattle.ufs_image.specs.Nodes.{blocks_of}
 use Rattle.ufs_layout.specs.declared.geometry.Geometry.{Geometry}
 use Rattle.ufs_image.specs.Catalog.{Catalog, IsInode, HasBlock}
-use Rattle.ufs_image.specs.Sound.{IsInData, HasDentry}
-use Rattle.ufs_image.specs.Walks.{inode_of}
+use Rattle.ufs_image.specs.Sound.{IsInData, HasDentry, IsSoundCatalog}
+use Rattle.ufs_image.specs.Walks.{inode_of, SameWalks}
 
 -- Some walk from the root meets it.
 pub record IsReached (c : Catalog) (inode : ℕ) : Type 0 where
@@ -18,6 +18,11 @@ pub record IsReached (c : Catalog) (inode : ℕ) : Type 0 where
 
 abbrev pub IsUnreached : Catalog → ℕ → Type 0
 IsUnreached c inode = (names : List (List ℕ)) → inode_of c names ≢ Some inode
+
+-- The new catalog is sound, and each walk meets what it met.
+pub record KeepsWalks (g : Geometry) (c d : Catalog) : Type 0 where
+  pub sound : IsSoundCatalog g d
+  pub walks : SameWalks c d
 
 -- a free inode, be its commit number what it may
 pub record IsFree (form : InodeForm) : Type 0 where

@@ -9,6 +9,7 @@ use Rattle.ufs_layout.specs.Records.{is_record, FitsRecord}
 use Rattle.ufs_base.specs.Images.{Image}
 use Rattle.ufs_image.specs.Images.{inode_at, form_at}
 use Rattle.ufs_image.specs.Fold.{is_in_range, after_delta}
+use Rattle.ufs_layout.specs.declared.inode.Extent.{Extent}
 use Rattle.ufs_layout.specs.declared.geometry.Geometry.{Geometry}
 use Rattle.ufs_layout.specs.declared.records.LogRecord.{LogRecord}
 use Rattle.ufs_layout.specs.declared.records.LogRecord.TheVariants.{Delta, Place, Free}
@@ -81,3 +82,7 @@ pub record Spells (g : Geometry) (whole : Bool) (these : ℕ → Bool) (image : 
   pub in_data : (block : ℕ) → IsTrue (these block) → first_of_data g ≤ block
   pub slots : (block : ℕ) → IsTrue (these block) → read_block image block ≡ map Some (c.slots block)
   pub sized : (block sector : ℕ) → IsTrue (these block) → IsOfBlock block sector → length (image sector) ≡ SECTOR
+
+-- One delta of a file, committed.
+abbrev pub file_commit : (number inode size keep : ℕ) → List Extent → Committed
+file_commit number inode size keep extents = record { number = number; records = Delta inode 1 size keep extents ∷ [] }

@@ -7,7 +7,8 @@ use Rattle.ufs_image.specs.Journal.{epoch_in, committed}
 use Rattle.ufs_image.specs.Fold.{folded}
 use Rattle.ufs_image.specs.Opens.{opens, root_tree, damage_list}
 use Rattle.ufs_image.specs.Proper.{IsProperImage}
-use Rattle.ufs_image.specs.Formatted.{IsFormatted}
+use Rattle.ufs_image.specs.Formatted.{IsFormatted, new_volume, new_catalog}
+use Rattle.ufs_image.specs.Standing.{IsVolumeOf}
 use Rattle.ufs_layout.specs.declared.geometry.Geometry.{Geometry}
 
 -- A new image on a disk that is large enough stands for the root alone.
@@ -21,6 +22,10 @@ BeginsWhole g = (sectors : ℕ) (image : Image) → IsFormatted g image → sect
 -- It is proper.
 abbrev pub BeginsProper : Geometry → Type 0
 BeginsProper g = (sectors : ℕ) (image : Image) → IsFormatted g image → sector_count g ≤ sectors → IsProperImage sectors image
+
+-- It has the catalog of the root alone, which is sound.
+abbrev pub BeginsSound : Geometry → Type 0
+BeginsSound g = (sectors : ℕ) (image : Image) → IsFormatted g image → sector_count g ≤ sectors → IsVolumeOf sectors image (new_volume g image) new_catalog
 
 -- Where no journal sector has the epoch, folding changes nothing.
 abbrev pub FoldsNothing : Geometry → Type 0

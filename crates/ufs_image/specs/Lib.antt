@@ -8,7 +8,6 @@ pub mod Volume
 pub mod Opens
 pub mod Proper
 pub mod Formatted
-pub mod Laws
 pub mod Catalog
 pub mod Sound
 pub mod Walks
@@ -16,4 +15,7 @@ pub mod Agree
 pub mod Folding
 pub mod Written
 pub mod Changes
+pub mod Standing
+pub mod Stops
+pub mod Laws
 pub mod CatalogLaws

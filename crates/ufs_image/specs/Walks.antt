@@ -28,6 +28,10 @@ walk_from c at (name ∷ names) = walk_from c (step c at name) names
 abbrev pub inode_of : Catalog → List (List ℕ) → Option ℕ
 inode_of c names = walk_from c (Some 1) names
 
+-- Each walk meets what it met.
+abbrev pub SameWalks : Catalog → Catalog → Type 0
+SameWalks c d = (names : List (List ℕ)) → inode_of d names ≡ inode_of c names
+
 -- a slash before each name
 abbrev pub joined : List (List ℕ) → List ℕ
 joined = flat_map (λ name. 47 ∷ name)

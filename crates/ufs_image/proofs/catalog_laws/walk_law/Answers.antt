@@ -13,7 +13,7 @@ has_root g is = let least = is.least_inodes in omega (arith, least)
 pub returns : goal.returns
 returns c = record {
   paths = λ v same cat is sound names pieces. stands v.geometry v.image cat is sound (has_root v.geometry (subst IsGeometry (sym same) c.requires)) names pieces;
-  alone = λ v same cat is sound path node there. let from = standing v.geometry v.image cat is sound (has_root v.geometry (subst IsGeometry (sym same) c.requires)) path node there in (from.names, from.at, from.text, from.pieces, from.met, from.node);
+  alone = λ v same cat is sound path node there. let from = standing v.geometry v.image cat is sound (has_root v.geometry (subst IsGeometry (sym same) c.requires)) path node there in record { names = from.names; inode = from.at; text = from.text; pieces = from.pieces; met = from.met; same = from.node };
   once = λ cat sound names others inode a b. once c.args.geometry.now cat sound (has_root c.args.geometry.now c.requires) names others inode a b;
   short = λ cat sound names inode e. ((reached c.args.geometry.now cat sound 1 names inode (root_in_range c.args.geometry.now cat sound (has_root c.args.geometry.now c.requires)) e).0, short c.args.geometry.now cat sound (has_root c.args.geometry.now c.requires) names inode e);
   distinct = λ v same cat is sound i j a b at there e. lists_once v.geometry v.image cat is sound (has_root v.geometry (subst IsGeometry (sym same) c.requires)) i j a b at there e;
