@@ -1,5 +1,6 @@
 pub mod NewBitmap
 pub mod NewImage
+mod Rows
 pub mod NewCatalog
 pub mod Lists
 pub mod Texts
