@@ -1,7 +1,6 @@
 //! Formatting a disk, so that a stop at any moment leaves what was there, no superblock, or a whole new image.
 #![tactic(auto)]
 
-mod areas;
 mod fault;
 mod formatting;
 mod head;
@@ -9,6 +8,5 @@ mod tables;
 #[cfg(test)]
 mod tests;
 
-pub use areas::data_start;
 pub use fault::FormatFault;
 pub use formatting::format;
