@@ -2,7 +2,7 @@
 ghost use Rattle.std.specs.Prelude.{◌≡◌, IfOk};
 
 use crate::torn::TornDisk;
-use crate::{Disk, FILE_SECTORS, FileDisk, FuseDisk, MemoryDisk, PlainDisk, SECTOR};
+use crate::{Disk, FILE_SECTORS, FileDisk, Fuse, FuseDisk, MemoryDisk, PlainDisk, SECTOR};
 use std::alloc::Global;
 use std::process::Abort;
 use std::test::Fail;
@@ -141,7 +141,7 @@ fn a_fuse_fails_every_call_from_its_end_on(rt: HostRuntime) -> Result<(), Fail> 
     ];
     for (passes, want, left) in rows {
         let zeros = vec![in rt.alloc(); 0u8; 3 * SECTOR]?;
-        let mut disk = sent(FuseDisk::new(rt.alloc(), 3, zeros, passes)?);
+        let mut disk = sent(FuseDisk::new(rt.alloc(), 3, zeros, Fuse { passes })?);
         assert_eq!(rt; calls(&rt, &mut disk), want);
         assert!(rt;
             is_filled(disk.crash(0)?.as_slice(), [left, 0, 0]),
@@ -202,7 +202,7 @@ fn is_short(bytes: &[u8]) -> bool {
 fn a_file_reads_zeros_past_its_end(rt: HostRuntime) -> Result<(), Fail> {
     let path = "ufs_disk_short.img";
     std::fs::write(&rt, path, [5u8; SECTOR + 1].as_slice())?;
-    let mut disk = FileDisk::open(&rt, path);
+    let mut disk = FileDisk::new(&rt, path);
     let mut buf = [1; 2 * SECTOR];
     assert_eq!(rt; disk.sectors(), FILE_SECTORS);
     assert!(rt; disk.read(0, &mut buf).is_ok());
@@ -213,7 +213,7 @@ fn a_file_reads_zeros_past_its_end(rt: HostRuntime) -> Result<(), Fail> {
     std::fs::remove_file(&rt, path)?;
 
     // A file can't be made in a folder that is missing.
-    let mut none = sent(FileDisk::open(&rt, "ufs_disk_missing/disk.img"));
+    let mut none = sent(FileDisk::new(&rt, "ufs_disk_missing/disk.img"));
     assert_eq!(rt; calls(&rt, &mut none), [Some(1), Some(2), Some(3)]);
     Ok(())
 }

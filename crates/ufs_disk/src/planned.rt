@@ -1,9 +1,9 @@
-// A disk in memory that passes so many calls, and then fails every call.
-ghost use Rattle.std.specs.Prelude.{◌≡◌, ◌*◌, ◌/◌, ◌+◌, ◌-◌, ◌^◌, ◌<◌, ◌≤◌, [], length};
-ghost use Rattle.std.specs.Prelude.{min, true, false, IsTrue, IfOk, OnOk, OnErr};
+// Disks in memory of whose calls those of a plan fail.
+ghost use Rattle.std.specs.Prelude.{◌≡◌, ◌≤◌, ◌<◌, ◌*◌, ◌^◌, ◌/◌, [], length};
+ghost use Rattle.std.specs.Prelude.{true, false, ℕ, IsTrue, IfOk, IfErr, OnOk, OnErr, Contains};
+ghost use Rattle.ufs_base.specs.Faults.{HasCause};
 ghost use Rattle.ufs_disk.specs.Disk.{IsImage, IsPartlyWritten, IsRange, IsSettled, Mixes, bytes_from, overwritten};
 ghost use Rattle.ufs_disk.specs.Moments.{LeavesOnly};
-ghost use Rattle.ufs_disk.specs.Faults.{HasCause};
 ghost use Rattle.ufs_disk.specs.Bytes.{begun, image_of};
 ghost use Rattle.ufs_disk.specs.Calls.{Notes, IsWrite, picked};
 ghost use Rattle.ufs_disk.specs.Medium.{medium_moments, medium_reads, medium_state, next_call};
@@ -12,32 +12,72 @@ ghost use Rattle.ufs_disk.specs.declared.medium.Request.{Request};
 use crate::{Disk, Fault, Medium};
 use std::alloc::{AllocError, Global};
 
-/// A disk in memory that passes so many calls, and then fails every call. A call that fails changes
-/// no sector. Want of memory to note a call is a fault too, and then it isn't noted.
-#[derive(Drop)]
-pub struct FuseDisk {
-    pub medium: Medium,
+/// Which calls of a disk are to fail, by their numbers from 0 on.
+pub trait Plan {
+    /// The call with this number is to fail.
+    ghost stops: { Self → ℕ → Type 0 };
+
+    fn must_fail(&self, call: u64) -> bool
+        ensures yes { IsTrue result → stops self.now call }
+        ensures no { result ≡ false → ¬ stops self.now call };
+}
+
+// Those in a list, in any order. Each call looks through the list.
+impl Plan for Vec<u64> {
+    ghost stops = { λ list call. Contains list.items call };
+
+    fn must_fail(&self, call: u64) -> bool {
+        self.contains(&call)
+    }
+}
+
+/// All calls but the first so many.
+#[derive(Clone, Copy, Debug, PartialEq, Eq)]
+pub struct Fuse {
     pub passes: u64,
 }
 
-impl FuseDisk {
-    /// A disk with these bytes, all of them on it for good, that passes `passes` calls.
+impl Plan for Fuse {
+    ghost stops = { λ fuse call. fuse.passes ≤ call };
+
+    fn must_fail(&self, call: u64) -> bool {
+        self.passes <= call
+    }
+}
+
+/// A disk in memory, of whose calls those of a plan fail. A call that fails changes no sector. Want
+/// of memory to note a call is a fault too, and then it isn't noted.
+#[derive(Drop)]
+pub struct PlannedDisk<P> {
+    pub medium: Medium,
+    pub plan: P,
+}
+
+/// A disk in memory with a list of the calls that fail.
+pub type MemoryDisk = PlannedDisk<Vec<u64>>;
+
+/// A disk in memory that passes so many calls, and then fails every call.
+pub type FuseDisk = PlannedDisk<Fuse>;
+
+impl<P: Plan + Drop> PlannedDisk<P> {
+    /// A disk with these bytes, all of them on it for good.
     pub fn new(
         alloc: Global,
         sectors: u32,
         bytes: Vec<u8>,
-        passes: u64,
-    ) -> Result<FuseDisk, AllocError>
+        plan: P,
+    ) -> Result<PlannedDisk<P>, AllocError>
         requires { length bytes.items ≡ 512 * sectors }
         ensures moments { IfOk result (λ disk. medium_moments disk.medium ≡ begun bytes.items) }
         ensures calls { IfOk result (λ disk. disk.medium.calls.items ≡ []) }
-        ensures passes { IfOk result (λ disk. disk.passes ≡ passes) }
+        ensures plan { IfOk result (λ disk. disk.plan ≡ plan) }
         ensures sectors { IfOk result (λ disk. disk.medium.sectors ≡ sectors) }
         ensures faults { IfOk result (λ disk. disk.medium.faults ≡ 0) }
+        ensures starved { IfOk result (λ disk. disk.medium.starved ≡ 0) }
     {
-        Ok(FuseDisk {
+        Ok(PlannedDisk {
             medium: Medium::new(alloc, sectors, bytes)?,
-            passes,
+            plan,
         })
     }
 
@@ -53,18 +93,16 @@ impl FuseDisk {
         self.medium.crash(pick)
     }
 
-    // Whether the next call fails.
+    // Whether the next call is to fail.
     fn must_fail(&self) -> bool
-        ensures yes { IsTrue result →
-            self.now.passes ≤ next_call self.now.medium }
-        ensures no { result ≡ false →
-            next_call self.now.medium < self.now.passes }
+        ensures yes { IsTrue result → P.stops self.now.plan (next_call self.now.medium) }
+        ensures no { result ≡ false → ¬ P.stops self.now.plan (next_call self.now.medium) }
     {
-        self.passes <= self.medium.calls.len() as u64
+        self.plan.must_fail(self.medium.calls.len() as u64)
     }
 }
 
-impl Disk for FuseDisk {
+impl<P: Plan + Drop> Disk for PlannedDisk<P> {
     ghost tells = { true };
 
     ghost keeps = { true };
@@ -91,16 +129,16 @@ impl Disk for FuseDisk {
         ensures content { medium_reads self.new.medium ≡ medium_reads self.old.medium }
         ensures crash { LeavesOnly true (IsImage (medium_state self.old.medium))
             (medium_moments self.old.medium) (medium_moments self.new.medium) }
-        ensures noted { Notes (next_call self.old.medium < self.old.passes)
-            (self.old.passes ≤ next_call self.old.medium)
+        ensures noted { Notes (¬ P.stops self.old.plan (next_call self.old.medium))
+            (P.stops self.old.plan (next_call self.old.medium))
             (λ request. request ≡ Request.Read sector (length buf.old))
-            self.old.medium.calls.items self.new.medium.calls.items result }
-        ensures rises { OnErr result
-            (self.new.medium.faults ≡ min (self.old.medium.faults + 1) (2 ^ 64 - 1)) }
-        ensures passes { self.new.passes ≡ self.old.passes }
+            self.old.medium.calls.items self.new.medium.calls.items
+            self.old.medium.starved self.new.medium.starved result }
+        ensures plan { self.new.plan ≡ self.old.plan }
         ensures first { self.new.medium.first ≡ self.old.medium.first }
         ensures size { self.new.medium.sectors ≡ self.old.medium.sectors }
         ensures cause { HasCause self.old.medium.faults self.new.medium.faults result }
+        ensures number { IfErr result (λ fault. fault.number ≡ self.new.medium.faults) }
     {
         let fails = self.must_fail();
         self.medium.read(fails, sector, buf)
@@ -119,16 +157,16 @@ impl Disk for FuseDisk {
         ensures crash { LeavesOnly true
             (IsPartlyWritten sector bytes.now (medium_state self.old.medium))
             (medium_moments self.old.medium) (medium_moments self.new.medium) }
-        ensures noted { Notes (next_call self.old.medium < self.old.passes)
-            (self.old.passes ≤ next_call self.old.medium)
+        ensures noted { Notes (¬ P.stops self.old.plan (next_call self.old.medium))
+            (P.stops self.old.plan (next_call self.old.medium))
             (IsWrite sector bytes.now)
-            self.old.medium.calls.items self.new.medium.calls.items result }
-        ensures rises { OnErr result
-            (self.new.medium.faults ≡ min (self.old.medium.faults + 1) (2 ^ 64 - 1)) }
-        ensures passes { self.new.passes ≡ self.old.passes }
+            self.old.medium.calls.items self.new.medium.calls.items
+            self.old.medium.starved self.new.medium.starved result }
+        ensures plan { self.new.plan ≡ self.old.plan }
         ensures first { self.new.medium.first ≡ self.old.medium.first }
         ensures size { self.new.medium.sectors ≡ self.old.medium.sectors }
         ensures cause { HasCause self.old.medium.faults self.new.medium.faults result }
+        ensures number { IfErr result (λ fault. fault.number ≡ self.new.medium.faults) }
     {
         let fails = self.must_fail();
         self.medium.write(fails, sector, bytes)
@@ -141,16 +179,16 @@ impl Disk for FuseDisk {
         ensures content { medium_reads self.new.medium ≡ medium_reads self.old.medium }
         ensures crash { LeavesOnly true (IsImage (medium_state self.old.medium))
             (medium_moments self.old.medium) (medium_moments self.new.medium) }
-        ensures noted { Notes (next_call self.old.medium < self.old.passes)
-            (self.old.passes ≤ next_call self.old.medium)
+        ensures noted { Notes (¬ P.stops self.old.plan (next_call self.old.medium))
+            (P.stops self.old.plan (next_call self.old.medium))
             (λ request. request ≡ Request.Barrier)
-            self.old.medium.calls.items self.new.medium.calls.items result }
-        ensures rises { OnErr result
-            (self.new.medium.faults ≡ min (self.old.medium.faults + 1) (2 ^ 64 - 1)) }
-        ensures passes { self.new.passes ≡ self.old.passes }
+            self.old.medium.calls.items self.new.medium.calls.items
+            self.old.medium.starved self.new.medium.starved result }
+        ensures plan { self.new.plan ≡ self.old.plan }
         ensures first { self.new.medium.first ≡ self.old.medium.first }
         ensures size { self.new.medium.sectors ≡ self.old.medium.sectors }
         ensures cause { HasCause self.old.medium.faults self.new.medium.faults result }
+        ensures number { IfErr result (λ fault. fault.number ≡ self.new.medium.faults) }
     {
         let fails = self.must_fail();
         self.medium.barrier(fails)
