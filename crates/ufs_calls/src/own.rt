@@ -2,6 +2,7 @@
 ghost use Rattle.std.specs.Prelude.{◌≡◌, ◌==◌, ℕ, not, is_none};
 ghost use Rattle.ufs_model.specs.Asks as asks;
 ghost use Rattle.ufs_model.specs.Descriptors.{is_mode};
+ghost use Rattle.ufs_base.specs.Choices.{first_of, refused_if};
 ghost use Rattle.ufs_model.specs.Paths as paths;
 ghost use Rattle.ufs_model.specs.PosixTree.{PosixTree};
 ghost use Rattle.ufs_model.specs.Refusals as refusals;
@@ -30,7 +31,7 @@ pub fn fd_named(op: &Op) -> Option<u64>
 }
 
 fn close_refusal(desc: Option<Desc>) -> Option<Errno>
-    ensures { result ≡ paths.refused_if (is_none desc) Ebadf }
+    ensures { result ≡ refused_if (is_none desc) Ebadf }
 {
     match desc {
         Some(_) => None,
@@ -91,7 +92,7 @@ fn trunc_refusal(desc: Option<Desc>) -> Option<Errno>
 
 // Of an `open`, by its flags, the client's free descriptor and the path's text.
 fn open_refusal(mode: Mode, fd: u32, path: &Bytes) -> Option<Errno>
-    ensures { result ≡ paths.first_of (paths.refused_if (not (is_mode (mode_of mode))) Einval) (paths.first_of (paths.refused_if (fd == 0) Emfile) (paths.text_refusal path.now)) }
+    ensures { result ≡ first_of (refused_if (not (is_mode (mode_of mode))) Einval) (first_of (refused_if (fd == 0) Emfile) (paths.text_refusal path.now)) }
 {
     if !mode.is_allowed() {
         return Some(Errno::Einval);

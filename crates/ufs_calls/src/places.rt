@@ -2,6 +2,7 @@
 ghost use Rattle.std.specs.Prelude.{◌≡◌, List, ℕ, None, IfOk, length, if◌then◌else◌};
 ghost use Rattle.ufs_model.specs.Descriptors as descriptors;
 ghost use Rattle.ufs_model.specs.FileBytes as file_bytes;
+ghost use Rattle.ufs_base.specs.Choices.{refused_if};
 ghost use Rattle.ufs_model.specs.Paths as paths;
 ghost use Rattle.ufs_model.specs.declared.data.Errno.TheVariants.{Efbig};
 
@@ -89,7 +90,7 @@ pub fn is_past(at: u64, fresh: &Bytes) -> bool
 
 /// Of a request that leaves a file with a size past the greatest.
 pub fn size_refusal(is_past: bool) -> Option<Errno>
-    ensures { result ≡ paths.refused_if is_past Efbig }
+    ensures { result ≡ refused_if is_past Efbig }
 {
     if is_past { Some(Errno::Efbig) } else { None }
 }
