@@ -7,10 +7,6 @@ mod medium;
 mod plain;
 mod planned;
 mod ranges;
-#[cfg(test)]
-mod tests;
-#[cfg(test)]
-mod torn;
 
 pub use disk::{Disk, Fault, SECTOR};
 pub use file::{FILE_SECTORS, FileDisk};

@@ -12,9 +12,9 @@ use std::alloc::{AllocError, Global};
 pub struct PlainDisk {
     pub sectors: u32,
     pub bytes: Vec<u8>,
-    ghost in_range: { sectors < 2 ^ 32 },
-    ghost sized: { length bytes.items ≡ 512 * sectors },
-    ghost small_bytes: { AreBytes bytes.items },
+    pub ghost in_range: { sectors < 2 ^ 32 },
+    pub ghost sized: { length bytes.items ≡ 512 * sectors },
+    pub ghost small_bytes: { AreBytes bytes.items },
 }
 
 impl PlainDisk {

@@ -7,8 +7,6 @@ mod gates;
 mod sinks;
 mod sources;
 mod streams;
-#[cfg(test)]
-mod tests;
 
 ghost use Rattle.std.specs.Prelude.{ℕ, List, ◌<◌, IfOk, length};
 ghost use Rattle.std.specs.Io.{ReadsAtMost, WritesAtMost};

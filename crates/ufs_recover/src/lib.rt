@@ -6,8 +6,6 @@ mod fault;
 mod formatting;
 mod head;
 mod tables;
-#[cfg(test)]
-mod tests;
 
 pub use areas::data_start;
 pub use fault::FormatFault;
