@@ -17,10 +17,10 @@ module _ (m : Moments) (old new : List Call) (request : Request) where
   after_passed is = ap (λ (l : List Call). after_calls l m) is ∙ after_push old (record { request = request; passed = true }) m
 
   -- the call failed, and was noted or not
-  pub after_failed : (F : Type 0) → (new ≡ old) ⊎ (F × new ≡ old ++ record { request = request; passed = false } ∷ []) → after_calls new m ≡ after_calls old m
-  after_failed F how = ⊎_elim
-      (λ same. ap (λ (l : List Call). after_calls l m) same)
-      (λ noted. ap (λ (l : List Call). after_calls l m) noted.1 ∙ after_push old (record { request = request; passed = false }) m) how
+  pub after_failed : (F S G : Type 0) → ((new ≡ old) × S) ⊎ (F × G × new ≡ old ++ record { request = request; passed = false } ∷ []) → after_calls new m ≡ after_calls old m
+  after_failed F S G how = ⊎_elim
+      (λ same. ap (λ (l : List Call). after_calls l m) same.0)
+      (λ noted. ap (λ (l : List Call). after_calls l m) noted.2 ∙ after_push old (record { request = request; passed = false }) m) how
 
 -- a call's two clauses, whichever way it went
 pub either_of : {T E : Type 0} (result : Result T E) (P Q : Type 0) → OnOk result P → OnErr result Q → P ⊎ Q

@@ -1,5 +1,6 @@
 -- What the calls of a disk in memory do. This is the disk's model in full: each moment follows from the calls that passed.
 use Rattle.std.specs.Prelude.{◌≡◌, ◌⊎◌, ℕ, zero, suc, ◌+◌, ◌%◌, ◌/◌, true, false, List, [], ◌∷◌, ◌++◌, length, if◌then◌else◌, ◌==◌, slice_index_or, Result, OnOk, OnErr}
+use Rattle.ufs_base.specs.Faults.{raised}
 use Rattle.ufs_disk.specs.Disk.{State, possible, seen, sectors_of}
 use Rattle.ufs_disk.specs.Moments.{Moments, moved}
 use Rattle.ufs_disk.specs.declared.disk.Fault.{Fault}
@@ -33,11 +34,14 @@ abbrev pub after_calls : List Call → Moments → Moments
 after_calls [] moments = moments
 after_calls (call ∷ calls) moments = after_calls calls (after_call call moments)
 
--- A call is noted with its request. It passes where it may; it fails where it must, or for want of memory to note it.
-pub record Notes {T : Type 0} (May Must : Type 0) (IsAsked : Request → Type 0) (old new : List Call) (result : Result T Fault) : Type 0 where
+-- A call is noted with its request. It passes where it may and fails where it must. One that finds no memory fails
+-- too, and is counted so and not noted.
+pub record Notes {T : Type 0} (May Must : Type 0) (IsAsked : Request → Type 0) (old new : List Call) (starved_old starved_new : ℕ) (result : Result T Fault) : Type 0 where
   pub may : OnOk result May
   pub passed : OnOk result ((request : Request) × IsAsked request × (new ≡ old ++ record { request = request; passed = true } ∷ []))
-  pub failed : OnErr result ((new ≡ old) ⊎ (Must × (request : Request) × IsAsked request × (new ≡ old ++ record { request = request; passed = false } ∷ [])))
+  pub fed : OnOk result (starved_new ≡ starved_old)
+  pub failed : OnErr result (((new ≡ old) × (starved_new ≡ raised starved_old))
+      ⊎ (Must × (starved_new ≡ starved_old) × (request : Request) × IsAsked request × (new ≡ old ++ record { request = request; passed = false } ∷ [])))
 
 -- it asks to write these bytes there
 abbrev pub IsWrite : ℕ → List ℕ → Request → Type 0

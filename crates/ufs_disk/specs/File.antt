@@ -1,7 +1,7 @@
 -- A disk over a file.
-use Rattle.std.specs.Prelude.{Bool, is_some}
-use Rattle.ufs_disk.specs.declared.file.FileDisk.{FileDisk}
+use Rattle.std.specs.Prelude.{Bool, ℕ, Option}
 
--- its file could be opened
-abbrev pub is_open : FileDisk → Bool
-is_open disk = is_some disk.file
+-- Whether its file could be opened, once a call tried that, and how many calls failed.
+pub record FileView : Type 0 where
+  pub opened : Option Bool
+  pub faults : ℕ

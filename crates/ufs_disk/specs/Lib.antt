@@ -1,6 +1,5 @@
 pub mod Disk
 pub mod Moments
-pub mod Faults
 pub mod Bytes
 pub mod Pending
 pub mod Calls
@@ -8,3 +7,4 @@ pub mod Medium
 pub mod Whole
 pub mod Props
 pub mod File
+pub mod Handles

@@ -1,5 +1,5 @@
 // The trait and its one error.
-ghost use Rattle.std.specs.Prelude.{◌≡◌, ◌<◌, ◌^◌, ◌/◌, ℕ, Bool, IsTrue, List, length, OnOk};
+ghost use Rattle.std.specs.Prelude.{◌≡◌, ◌<◌, ◌^◌, ◌/◌, ℕ, Bool, IsTrue, IfErr, List, length, OnOk};
 
 /// The bytes of a sector.
 pub const SECTOR: usize = 512;
@@ -16,13 +16,13 @@ pub struct Fault {
 ///
 /// A call takes a range of sectors inside the disk: at least one sector, at most 4,096 bytes.
 ///
-/// Every call may fail, and then the disk's count of faults rose in it. The count never falls. At
-/// 2^64 - 1 it stands still.
+/// Every call may fail, and then the disk's count of faults rose by one in it. A call that passes
+/// leaves the count. At 2^64 - 1 it stands still.
 pub trait Disk {
     ghost use Rattle.ufs_disk.specs.Disk.{IsImage, IsPartlyWritten, IsRange, IsSettled, IsWhole};
     ghost use Rattle.ufs_disk.specs.Disk.{Mixes, bytes_from, overwritten};
     ghost use Rattle.ufs_disk.specs.Moments.{Moments, LeavesOnly, reads};
-    ghost use Rattle.ufs_disk.specs.Faults.{HasCause};
+    ghost use Rattle.ufs_base.specs.Faults.{HasCause};
 
     /// Whether contracts are told what it holds and what a crash may leave.
     ghost tells: { Bool };
@@ -54,7 +54,8 @@ pub trait Disk {
         ensures crash { IsTrue tells → LeavesOnly keeps (IsImage (moments self.old).state)
             (moments self.old) (moments self.new) }
         ensures size { size self.new ≡ size self.old }
-        ensures cause { HasCause (faults self.old) (faults self.new) result };
+        ensures cause { HasCause (faults self.old) (faults self.new) result }
+        ensures number { IfErr result (λ fault. fault.number ≡ faults self.new) };
 
     /// Writes the sectors from `sector` on. After a fault each of them has its new content or not.
     fn write(&mut self, sector: u32, bytes: &[u8]) -> Result<(), Fault>
@@ -70,7 +71,8 @@ pub trait Disk {
             (IsPartlyWritten sector bytes.now (moments self.old).state)
             (moments self.old) (moments self.new) }
         ensures size { size self.new ≡ size self.old }
-        ensures cause { HasCause (faults self.old) (faults self.new) result };
+        ensures cause { HasCause (faults self.old) (faults self.new) result }
+        ensures number { IfErr result (λ fault. fault.number ≡ faults self.new) };
 
     /// Waits until all that was written is on the disk for good.
     fn barrier(&mut self) -> Result<(), Fault>
@@ -79,7 +81,8 @@ pub trait Disk {
         ensures crash { IsTrue tells → LeavesOnly keeps (IsImage (moments self.old).state)
             (moments self.old) (moments self.new) }
         ensures size { size self.new ≡ size self.old }
-        ensures cause { HasCause (faults self.old) (faults self.new) result };
+        ensures cause { HasCause (faults self.old) (faults self.new) result }
+        ensures number { IfErr result (λ fault. fault.number ≡ faults self.new) };
 
     /// Its sectors' numbers are `u32`.
     ghost small: { (disk : Self) → size disk < 2 ^ 32 };

@@ -1,47 +1,83 @@
 // A disk over a file of the system.
-ghost use Rattle.std.specs.Prelude.{◌≡◌, ◌≤◌, ◌<◌, ◌+◌, ◌^◌, length, min, true, false, IsTrue, OnOk, IfErr};
+ghost use Rattle.std.specs.Prelude.{◌≡◌, ◌≤◌, ◌<◌, ◌+◌, ◌^◌, length, true, false, IsTrue, OnOk, IfErr, Some, None, IsSome};
 ghost use Rattle.ufs_disk.specs.Moments.{untold};
-ghost use Rattle.ufs_disk.specs.Faults.{HasCause};
+ghost use Rattle.ufs_base.specs.Faults.{HasCause};
 ghost use Rattle.ufs_disk.specs.Props.{untrue};
 ghost use Rattle.std.proofs.Common.{rules};
 
 use crate::{Disk, Fault, SECTOR};
 use std::fs::{File, Files, OpenOptions};
 use std::io;
+use std::marker::Model;
 use std::os::unix::fs::FileExt;
 
 /// The sectors of a disk over a file: 256 MiB.
 pub const FILE_SECTORS: u32 = 524_288;
 
-/// A disk of `FILE_SECTORS` sectors over a file. Past the file's end it reads zeros. Contracts
-/// aren't told what it holds. Each error of the system is a fault.
+// What became of the file.
 #[derive(Drop)]
-pub struct FileDisk {
-    file: Option<File>,
-    pub faults: u64,
+enum Handle {
+    Unopened,
+    Open(File),
+    Refused,
 }
 
-impl FileDisk {
-    ghost use Rattle.ufs_disk.specs.File.{is_open};
+/// A disk of `FILE_SECTORS` sectors over a file. The file is opened at the disk's first call, and
+/// made there where it is missing; where it can't be opened, that call and every later one fails.
+/// Past the file's end the disk reads zeros. Contracts aren't told what it holds. Each error of the
+/// system is a fault.
+#[derive(Drop)]
+pub struct FileDisk<'a, R: Files<File = File>> {
+    files: &'a R,
+    path: &'a str,
+    handle: Handle,
+    faults: u64,
+}
 
-    /// The disk over the file of that path, which is made where it is missing. Where it can't be
-    /// opened, every call of the disk fails.
-    pub fn open<R: Files<File = File>>(files: &R, path: &str) -> FileDisk
-        ensures { result.faults ≡ 0 }
+impl<'a, R: Files<File = File>> Model for FileDisk<'a, R> {
+    ghost use Rattle.ufs_disk.specs.File.{FileView};
+    ghost use Rattle.ufs_disk.specs.Handles.{opened_of};
+
+    ghost Value = { FileView };
+
+    ghost view = { λ d. record { opened = opened_of d.handle; faults = d.faults } };
+}
+
+impl<'a, R: Files<File = File>> FileDisk<'a, R> {
+    /// The disk over the file of that path.
+    pub fn new(files: &'a R, path: &'a str) -> Self
+        ensures { result ≡ record { opened = None; faults = 0 } }
     {
-        let mut options = OpenOptions::new();
-        options.read(true).write(true).create(true);
         FileDisk {
-            file: options.open(files, path).ok(),
+            files,
+            path,
+            handle: Handle::Unopened,
             faults: 0,
+        }
+    }
+
+    // Opens the file, if no call has tried that.
+    fn open(&mut self)
+        ensures tried { IsSome self.new.opened }
+        ensures kept { IsSome self.old.opened → self.new.opened ≡ self.old.opened }
+        ensures faults { self.new.faults ≡ self.old.faults }
+    {
+        if let Handle::Unopened = &self.handle {
+            let mut options = OpenOptions::new();
+            options.read(true).write(true).create(true);
+            self.handle = match options.open(self.files, self.path) {
+                Ok(file) => Handle::Open(file),
+                Err(_) => Handle::Refused,
+            };
         }
     }
 
     // Passes on whether a call was done, and counts a fault.
     fn told(&mut self, done: bool) -> Result<(), Fault>
         ensures done { OnOk result (IsTrue done) }
-        ensures kept { is_open self.new ≡ is_open self.old }
+        ensures kept { self.new.opened ≡ self.old.opened }
         ensures cause { HasCause self.old.faults self.new.faults result }
+        ensures number { IfErr result (λ fault. fault.number ≡ self.new.faults) }
     {
         if done {
             return Ok(());
@@ -76,9 +112,8 @@ fn fill(file: &File, at: u64, buf: &mut [u8]) -> io::Result<()>
     Ok(())
 }
 
-impl Disk for FileDisk {
+impl<'a, R: Files<File = File>> Disk for FileDisk<'a, R> {
     ghost use Rattle.ufs_disk.specs.Disk.{IsRange};
-    ghost use Rattle.ufs_disk.specs.File.{is_open};
 
     ghost tells = { false };
 
@@ -100,38 +135,44 @@ impl Disk for FileDisk {
 
     fn read(&mut self, sector: u32, buf: &mut [u8]) -> Result<(), Fault>
         requires { IsRange 524288 sector (length buf.old) }
-        ensures open { OnOk result (IsTrue (is_open self.old)) }
-        ensures kept { is_open self.new ≡ is_open self.old }
+        ensures open { OnOk result (self.new.opened ≡ Some true) }
+        ensures kept { IsSome self.old.opened → self.new.opened ≡ self.old.opened }
         ensures cause { HasCause self.old.faults self.new.faults result }
+        ensures number { IfErr result (λ fault. fault.number ≡ self.new.faults) }
     {
-        let done = match &self.file {
-            Some(file) => fill(file, offset(sector), buf).is_ok(),
-            None => false,
+        self.open();
+        let done = match &self.handle {
+            Handle::Open(file) => fill(file, offset(sector), buf).is_ok(),
+            Handle::Unopened | Handle::Refused => false,
         };
         self.told(done)
     }
 
     fn write(&mut self, sector: u32, bytes: &[u8]) -> Result<(), Fault>
         requires { IsRange 524288 sector (length bytes.now) }
-        ensures open { OnOk result (IsTrue (is_open self.old)) }
-        ensures kept { is_open self.new ≡ is_open self.old }
+        ensures open { OnOk result (self.new.opened ≡ Some true) }
+        ensures kept { IsSome self.old.opened → self.new.opened ≡ self.old.opened }
         ensures cause { HasCause self.old.faults self.new.faults result }
+        ensures number { IfErr result (λ fault. fault.number ≡ self.new.faults) }
     {
-        let done = match &self.file {
-            Some(file) => file.write_all_at(bytes, offset(sector)).is_ok(),
-            None => false,
+        self.open();
+        let done = match &self.handle {
+            Handle::Open(file) => file.write_all_at(bytes, offset(sector)).is_ok(),
+            Handle::Unopened | Handle::Refused => false,
         };
         self.told(done)
     }
 
     fn barrier(&mut self) -> Result<(), Fault>
-        ensures open { OnOk result (IsTrue (is_open self.old)) }
-        ensures kept { is_open self.new ≡ is_open self.old }
+        ensures open { OnOk result (self.new.opened ≡ Some true) }
+        ensures kept { IsSome self.old.opened → self.new.opened ≡ self.old.opened }
         ensures cause { HasCause self.old.faults self.new.faults result }
+        ensures number { IfErr result (λ fault. fault.number ≡ self.new.faults) }
     {
-        let done = match &self.file {
-            Some(file) => file.sync_all().is_ok(),
-            None => false,
+        self.open();
+        let done = match &self.handle {
+            Handle::Open(file) => file.sync_all().is_ok(),
+            Handle::Unopened | Handle::Refused => false,
         };
         self.told(done)
     }

@@ -3,19 +3,13 @@
 
 mod disk;
 mod file;
-mod fuse;
 mod medium;
-mod memory;
 mod plain;
+mod planned;
 mod ranges;
-#[cfg(test)]
-mod tests;
-#[cfg(test)]
-mod torn;
 
 pub use disk::{Disk, Fault, SECTOR};
 pub use file::{FILE_SECTORS, FileDisk};
-pub use fuse::FuseDisk;
 pub use medium::{Call, Medium, Request};
-pub use memory::MemoryDisk;
 pub use plain::PlainDisk;
+pub use planned::{Fuse, FuseDisk, MemoryDisk, Plan, PlannedDisk};

@@ -1,10 +1,10 @@
-// Sectors in memory, with a list of all calls: what the memory disk and the fuse disk have in common.
+// Sectors in memory, with a list of all calls: what the disks with a plan of failing calls stand on.
 ghost use Rattle.std.specs.Prelude.{◌≡◌, ◌⊎◌, ◌≤◌, ◌<◌, ◌*◌, ◌^◌, ◌+◌, ◌-◌, ◌/◌};
-ghost use Rattle.std.specs.Prelude.{[], ◌∷◌, ◌++◌, length, min, true, false, IsTrue, IfOk, OnOk, OnErr};
+ghost use Rattle.std.specs.Prelude.{[], ◌∷◌, ◌++◌, length, true, false, IsTrue, IfOk, IfErr, OnOk, OnErr};
 ghost use Rattle.std.specs.Prelude.{vec_len, vec_capacity};
 ghost use Rattle.ufs_disk.specs.Disk.{IsImage, IsPartlyWritten, IsRange, IsSettled, IsWhole, Mixes, bytes_from, overwritten, possible};
 ghost use Rattle.ufs_disk.specs.Moments.{LeavesOnly};
-ghost use Rattle.ufs_disk.specs.Faults.{HasCause};
+ghost use Rattle.ufs_base.specs.Faults.{HasCause, raised};
 ghost use Rattle.ufs_disk.specs.Bytes.{image_of, begun};
 ghost use Rattle.ufs_disk.specs.Pending.{held_state, covered_by};
 ghost use Rattle.ufs_disk.specs.Calls.{Notes, IsWrite, after_calls, picked};
@@ -38,7 +38,7 @@ pub(crate) struct Covered {
 
 /// Sectors in memory, with a list of all calls. Beside its bytes it has those that it held at first
 /// and those that were written, for the list, and what writes covered since the last barrier, for a
-/// crash.
+/// crash. It counts its faults, and of these those that found no memory (`starved`).
 #[derive(Drop)]
 pub struct Medium {
     alloc: Global,
@@ -48,6 +48,7 @@ pub struct Medium {
     covered: Vec<Covered>,
     pub calls: Vec<Call>,
     pub faults: u64,
+    pub starved: u64,
     ghost in_range: { sectors < 2 ^ 32 },
     ghost sized: { length bytes.items ≡ 512 * sectors },
     ghost held: { held_state bytes.items covered.items
@@ -68,6 +69,7 @@ impl Medium {
         ensures calls { IfOk result (λ medium. medium.calls.items ≡ []) }
         ensures sectors { IfOk result (λ medium. medium.sectors ≡ sectors) }
         ensures faults { IfOk result (λ medium. medium.faults ≡ 0) }
+        ensures starved { IfOk result (λ medium. medium.starved ≡ 0) }
     {
         Ok(Medium {
             alloc,
@@ -77,6 +79,7 @@ impl Medium {
             covered: Vec::new(alloc),
             calls: Vec::new(alloc),
             faults: 0,
+            starved: 0,
         })
     }
 
@@ -92,17 +95,23 @@ impl Medium {
             (medium_moments self.old) (medium_moments self.new) }
         ensures sectors { self.new.sectors ≡ self.old.sectors }
         ensures first { self.new.first ≡ self.old.first }
-        ensures rises { OnErr result (self.new.faults ≡ min (self.old.faults + 1) (2 ^ 64 - 1)) }
         ensures noted { Notes (fails ≡ false) (IsTrue fails)
             (λ request. request ≡ Request.Read sector (length buf.old))
-            self.old.calls.items self.new.calls.items result }
+            self.old.calls.items self.new.calls.items self.old.starved self.new.starved result }
         ensures cause { HasCause self.old.faults self.new.faults result }
+        ensures number { IfErr result (λ fault. fault.number ≡ self.new.faults) }
     {
         let request = Request::Read {
             sector,
             bytes: buf.len(),
         };
-        note(&mut self.calls, &mut self.faults, fails, request)?;
+        note(
+            &mut self.calls,
+            &mut self.faults,
+            &mut self.starved,
+            fails,
+            request,
+        )?;
         copy_out(&self.bytes, SECTOR * sector as usize, buf);
         Ok(())
     }
@@ -119,27 +128,33 @@ impl Medium {
             (medium_moments self.old) (medium_moments self.new) }
         ensures sectors { self.new.sectors ≡ self.old.sectors }
         ensures first { self.new.first ≡ self.old.first }
-        ensures rises { OnErr result (self.new.faults ≡ min (self.old.faults + 1) (2 ^ 64 - 1)) }
         ensures noted { Notes (fails ≡ false) (IsTrue fails)
             (IsWrite sector bytes.now)
-            self.old.calls.items self.new.calls.items result }
+            self.old.calls.items self.new.calls.items self.old.starved self.new.starved result }
         ensures cause { HasCause self.old.faults self.new.faults result }
+        ensures number { IfErr result (λ fault. fault.number ≡ self.new.faults) }
     {
         let at = SECTOR * sector as usize;
         let Ok(copy) = bytes.to_vec(self.alloc) else {
-            return Err(fault(&mut self.faults));
+            return Err(starved(&mut self.faults, &mut self.starved));
         };
         let Ok(was) = copy_of(self.alloc, &self.bytes, at, bytes.len()) else {
-            return Err(fault(&mut self.faults));
+            return Err(starved(&mut self.faults, &mut self.starved));
         };
         if self.covered.reserve(1).is_err() {
-            return Err(fault(&mut self.faults));
+            return Err(starved(&mut self.faults, &mut self.starved));
         }
         let request = Request::Write {
             sector,
             bytes: copy,
         };
-        note(&mut self.calls, &mut self.faults, fails, request)?;
+        note(
+            &mut self.calls,
+            &mut self.faults,
+            &mut self.starved,
+            fails,
+            request,
+        )?;
         cover(&mut self.covered, sector, was);
         overwrite(&mut self.bytes, at, bytes);
         Ok(())
@@ -154,13 +169,19 @@ impl Medium {
             (medium_moments self.old) (medium_moments self.new) }
         ensures sectors { self.new.sectors ≡ self.old.sectors }
         ensures first { self.new.first ≡ self.old.first }
-        ensures rises { OnErr result (self.new.faults ≡ min (self.old.faults + 1) (2 ^ 64 - 1)) }
         ensures noted { Notes (fails ≡ false) (IsTrue fails)
             (λ request. request ≡ Request.Barrier)
-            self.old.calls.items self.new.calls.items result }
+            self.old.calls.items self.new.calls.items self.old.starved self.new.starved result }
         ensures cause { HasCause self.old.faults self.new.faults result }
+        ensures number { IfErr result (λ fault. fault.number ≡ self.new.faults) }
     {
-        note(&mut self.calls, &mut self.faults, fails, Request::Barrier)?;
+        note(
+            &mut self.calls,
+            &mut self.faults,
+            &mut self.starved,
+            fails,
+            Request::Barrier,
+        )?;
         self.covered = Vec::new(self.alloc);
         Ok(())
     }
@@ -229,27 +250,46 @@ fn cover(covered: &mut Vec<Covered>, sector: u32, bytes: Vec<u8>)
 
 // One fault more.
 fn fault(faults: &mut u64) -> Fault
-    ensures count { faults.new ≡ min (faults.old + 1) (2 ^ 64 - 1) }
-    ensures later { faults.old ≤ faults.new }
+    ensures count { faults.new ≡ raised faults.old }
     ensures number { result.number ≡ faults.new }
 {
     *faults = faults.saturating_add(1);
     Fault { number: *faults }
 }
 
+// One fault more, for want of memory.
+fn starved(faults: &mut u64, count: &mut u64) -> Fault
+    ensures fault { faults.new ≡ raised faults.old }
+    ensures count { count.new ≡ raised count.old }
+    ensures number { result.number ≡ faults.new }
+{
+    *count = count.saturating_add(1);
+    fault(faults)
+}
+
 // Notes a call, if there is memory for it, and says whether it passes.
-fn note(calls: &mut Vec<Call>, faults: &mut u64, fails: bool, request: Request) -> Result<(), Fault>
+fn note(
+    calls: &mut Vec<Call>,
+    faults: &mut u64,
+    count: &mut u64,
+    fails: bool,
+    request: Request,
+) -> Result<(), Fault>
     ensures may { OnOk result (fails ≡ false) }
     ensures ok { OnOk result
         (calls.new.items ≡ calls.old.items ++ record { request = request; passed = true } ∷ []) }
-    ensures err { OnErr result ((calls.new.items ≡ calls.old.items)
-        ⊎ (IsTrue fails × (calls.new.items
+    ensures fed { OnOk result (count.new ≡ count.old) }
+    ensures err { OnErr result (((calls.new.items ≡ calls.old.items) × (count.new ≡ raised count.old))
+        ⊎ (IsTrue fails × (count.new ≡ count.old) × (calls.new.items
         ≡ calls.old.items ++ record { request = request; passed = false } ∷ []))) }
-    ensures rises { OnErr result (faults.new ≡ min (faults.old + 1) (2 ^ 64 - 1)) }
     ensures cause { HasCause faults.old faults.new result }
+    ensures number { IfErr result (λ fault. fault.number ≡ faults.new) }
 {
     let passed = !fails;
-    if calls.push(Call { request, passed }).is_err() || fails {
+    if calls.push(Call { request, passed }).is_err() {
+        return Err(starved(faults, count));
+    }
+    if fails {
         return Err(fault(faults));
     }
     Ok(())

@@ -9,12 +9,13 @@ pub record SourceView : Type 0 where
   pub calls : ℕ
   pub faults : ℕ
 
--- A sink in memory: the same, with the bytes that it holds.
+-- A sink in memory: the same, with the bytes that it holds, and how many of the calls that failed found no memory.
 pub record SinkView : Type 0 where
   pub held : List ℕ
   pub fails : List ℕ
   pub calls : ℕ
   pub faults : ℕ
+  pub starved : ℕ
 
 -- A source or a sink over a stream: the stream, and how many calls failed.
 pub record StreamView (S : Type 0) : Type 0 where

@@ -7,14 +7,12 @@ mod gates;
 mod sinks;
 mod sources;
 mod streams;
-#[cfg(test)]
-mod tests;
 
 ghost use Rattle.std.specs.Prelude.{ℕ, List, ◌<◌, IfOk, length};
 ghost use Rattle.std.specs.Io.{ReadsAtMost, WritesAtMost};
 ghost use Rattle.std.specs.Io.KnownBytes.{ReadConsumes, WriteAppends};
 ghost use Rattle.std.specs.declared.option.Option.{Option};
-ghost use Rattle.ufs_io.specs.Causes.{HasCause};
+ghost use Rattle.ufs_base.specs.Faults.{HasCause};
 
 pub use clocks::{HandClock, MilliClock};
 pub use gates::OpenGate;
@@ -22,7 +20,7 @@ pub use sinks::{MemorySink, PlainSink};
 pub use sources::{MemorySource, PlainSource};
 pub use streams::{StreamSink, StreamSource};
 
-/// A read or a write failed, and the count of faults has risen.
+/// A read or a write failed, and the count of faults has risen by one.
 #[derive(Clone, Copy, Debug, PartialEq, Eq)]
 pub struct Failed;
 

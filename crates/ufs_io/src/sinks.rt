@@ -1,8 +1,8 @@
 // The sinks in memory.
-ghost use Rattle.std.specs.Prelude.{◌≡◌, ◌<◌, [], None, Some, Contains, IfOk, IsErr, OnErr, length};
+ghost use Rattle.std.specs.Prelude.{◌≡◌, ◌<◌, [], None, Some, Contains, IfOk, IsErr, OnErr, OnOk, length};
 ghost use Rattle.std.specs.Io.{WritesAtMost};
 ghost use Rattle.std.specs.Io.KnownBytes.{WriteAppends};
-ghost use Rattle.ufs_io.specs.Causes.{HasCause, raised};
+ghost use Rattle.ufs_base.specs.Faults.{HasCause, raised};
 
 use crate::{Failed, Sink};
 use std::alloc::Global;
@@ -30,13 +30,14 @@ impl Sink for PlainSink {
 }
 
 /// Keeps the bytes that it gets. It fails at the calls whose numbers stand in a list, and where
-/// memory for the bytes is wanting.
+/// memory for the bytes is wanting: it is starved.
 #[derive(Drop)]
 pub struct MemorySink {
     bytes: Vec<u8>,
     fails: Vec<u64>,
     calls: u64,
     faults: u64,
+    starved: u64,
 }
 
 impl Model for MemorySink {
@@ -49,19 +50,21 @@ impl Model for MemorySink {
       fails = s.fails.items;
       calls = s.calls;
       faults = s.faults;
+      starved = s.starved;
     } };
 }
 
 impl MemorySink {
     /// `fails` has the numbers of the calls that fail, counted from 0, in any order.
     pub fn new(alloc: Global, fails: Vec<u64>) -> Self
-        ensures { result ≡ record { held = []; fails = fails.items; calls = 0; faults = 0 } }
+        ensures { result ≡ record { held = []; fails = fails.items; calls = 0; faults = 0; starved = 0 } }
     {
         MemorySink {
             bytes: Vec::new(alloc),
             fails,
             calls: 0,
             faults: 0,
+            starved: 0,
         }
     }
 
@@ -85,6 +88,13 @@ impl MemorySink {
     {
         self.faults
     }
+
+    /// How many of the writes that failed found no memory.
+    pub fn starved(&self) -> u64
+        ensures { result ≡ self.now.starved }
+    {
+        self.starved
+    }
 }
 
 impl Sink for MemorySink {
@@ -98,18 +108,27 @@ impl Sink for MemorySink {
         ensures bytes { WriteAppends (Some self.old.held) (Some self.new.held) result piece.now }
         ensures cause { HasCause self.old.faults self.new.faults result }
 
-        // It fails at the calls of its list, and at another call only for want of memory.
-        ensures listed { Contains self.old.fails self.old.calls → IsErr result }
+        // It fails at the calls of its list, and at another call only for want of memory, which
+        // it counts.
+        ensures listed { Contains self.old.fails self.old.calls
+            → IsErr result × (self.new.starved ≡ self.old.starved) }
+        ensures unlisted { ¬ Contains self.old.fails self.old.calls
+            → OnErr result (self.new.starved ≡ raised self.old.starved) }
+        ensures fed { OnOk result (self.new.starved ≡ self.old.starved) }
         ensures whole { IfOk result (λ n. n ≡ length piece.now) }
 
         ensures calls { self.new.calls ≡ raised self.old.calls }
-        ensures faults { OnErr result (self.new.faults ≡ raised self.old.faults) }
         ensures fails { self.new.fails ≡ self.old.fails }
     {
         let call = self.calls;
         self.calls = call.saturating_add(1);
-        if self.fails.contains(&call) || self.bytes.extend_from_slice(piece).is_err() {
+        if self.fails.contains(&call) {
             self.faults = self.faults.saturating_add(1);
+            return Err(Failed);
+        }
+        if self.bytes.extend_from_slice(piece).is_err() {
+            self.faults = self.faults.saturating_add(1);
+            self.starved = self.starved.saturating_add(1);
             return Err(Failed);
         }
         Ok(piece.len())

@@ -2,7 +2,7 @@
 ghost use Rattle.std.specs.Prelude.{◌≡◌, ◌-◌, ◌≤◌, ◌++◌, ◌↔◌, Some, Contains, IfOk, IsErr, OnErr, drop, length, min, take};
 ghost use Rattle.std.specs.Io.{ReadsAtMost};
 ghost use Rattle.std.specs.Io.KnownBytes.{ReadConsumes};
-ghost use Rattle.ufs_io.specs.Causes.{HasCause, raised};
+ghost use Rattle.ufs_base.specs.Faults.{HasCause, raised};
 
 use crate::{Failed, Source};
 use std::marker::Model;
@@ -125,7 +125,6 @@ impl Source for MemorySource {
         ensures refused { OnErr result (buf.new ≡ buf.old) }
 
         ensures calls { self.new.calls ≡ raised self.old.calls }
-        ensures faults { OnErr result (self.new.faults ≡ raised self.old.faults) }
         ensures fails { self.new.fails ≡ self.old.fails }
     {
         let call = self.calls;

@@ -1,6 +1,6 @@
 // From a script's text to the text of its replies.
 ghost use Rattle.std.specs.Prelude.{◌≡◌, ◌≢◌, List, Err, IfOk, IfErr};
-ghost use Rattle.ufs_io.specs.Causes.{Rose};
+ghost use Rattle.ufs_base.specs.Faults.{raised};
 ghost use Rattle.ufs_model.specs.declared.data.Entry.{Entry};
 ghost use Rattle.ufs_plain.specs.Served.{IsServed};
 ghost use Rattle.ufs_script.specs.Reading.{ReadsScript, ReadsBreak};
@@ -26,7 +26,7 @@ fn served(alloc: Global, script: Script) -> Result<Vec<u8>, Memory>
 pub fn replies<S: Source>(alloc: Global, source: &mut S) -> Result<Vec<u8>, ScriptFault>
     ensures ok { IfOk result (λ text. (script : Script) × (history : List Entry)
         × ReadsScript (S.left source.old) (S.left source.new) script × IsServed script text.items history) }
-    ensures cause { result ≡ Err ScriptFault.Source → Rose (S.faults source.old) (S.faults source.new) }
+    ensures cause { result ≡ Err ScriptFault.Source → S.faults source.new ≡ raised (S.faults source.old) }
     ensures counted { result ≢ Err ScriptFault.Source → S.faults source.new ≡ S.faults source.old }
     ensures broken { IfErr result (λ fault. ¬ IsOutside fault → ReadsBreak (S.left source.old) (S.left source.new) fault) }
 {

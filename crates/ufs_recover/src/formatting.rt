@@ -1,7 +1,7 @@
 // A disk becomes an empty file system.
 ghost use Rattle.std.specs.Prelude.{◌≡◌, ◌≤◌, ◌<◌, ◌↔◌, ℕ, IsTrue, IfErr, OnOk, Err};
 ghost use Rattle.ufs_disk.specs.Moments.{LeavesOnly, reads};
-ghost use Rattle.ufs_disk.specs.Faults.{HasCause};
+ghost use Rattle.ufs_base.specs.Faults.{HasCause};
 ghost use Rattle.ufs_layout.specs.Areas.{IsGeometry, sector_count};
 ghost use Rattle.ufs_recover.specs.Tables.{IsOutside};
 ghost use Rattle.ufs_recover.specs.Stopped.{IsNewDisk, IsStopped};
@@ -27,6 +27,7 @@ fn write_image<D: Disk>(disk: &mut D, geometry: &Geometry) -> Result<(), Fault>
         → reads (D.moments disk.new) s ≡ reads (D.moments disk.old) s }
     ensures size { D.size disk.new ≡ D.size disk.old }
     ensures cause { HasCause (D.faults disk.old) (D.faults disk.new) result }
+    ensures number { IfErr result (λ fault. fault.number ≡ D.faults disk.new) }
 {
     put_head(disk, &[0; SECTOR])?;
     write_tables(disk, geometry)?;

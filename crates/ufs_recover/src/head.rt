@@ -1,8 +1,8 @@
 // The superblock's sector.
-ghost use Rattle.std.specs.Prelude.{◌≡◌, ◌<◌, ◌≢◌, ℕ, IsTrue, OnOk};
+ghost use Rattle.std.specs.Prelude.{◌≡◌, ◌<◌, ◌≢◌, ℕ, IsTrue, IfErr, OnOk};
 ghost use Rattle.ufs_disk.specs.Disk.{IsSettled, put};
 ghost use Rattle.ufs_disk.specs.Moments.{LeavesOnly, reads};
-ghost use Rattle.ufs_disk.specs.Faults.{HasCause};
+ghost use Rattle.ufs_base.specs.Faults.{HasCause};
 ghost use Rattle.ufs_layout.specs.Superblock.{super_bytes};
 ghost use Rattle.ufs_layout.specs.Superblock.{new_super};
 ghost use Rattle.ufs_recover.specs.Stopped.{HasHeadPut};
@@ -40,6 +40,7 @@ pub(crate) fn put_head<D: Disk>(disk: &mut D, bytes: &[u8; SECTOR]) -> Result<()
         (HasHeadPut bytes.now (D.moments disk.old).state) (D.moments disk.old) (D.moments disk.new) }
     ensures size { D.size disk.new ≡ D.size disk.old }
     ensures cause { HasCause (D.faults disk.old) (D.faults disk.new) result }
+    ensures number { IfErr result (λ fault. fault.number ≡ D.faults disk.new) }
 {
     disk.write(0, bytes)?;
     disk.barrier()

@@ -5,8 +5,6 @@ mod fault;
 mod formatting;
 mod head;
 mod tables;
-#[cfg(test)]
-mod tests;
 
 pub use fault::FormatFault;
 pub use formatting::format;

@@ -1,8 +1,8 @@
 // The blocks between the superblock's and the data area.
-ghost use Rattle.std.specs.Prelude.{◌≡◌, ◌≤◌, ◌<◌, ◌+◌, ◌^◌, ◌++◌, ℕ, length, drop, replicate, slice_index, EachIndex, IsTrue, OnOk};
+ghost use Rattle.std.specs.Prelude.{◌≡◌, ◌≤◌, ◌<◌, ◌+◌, ◌^◌, ◌++◌, ℕ, length, drop, replicate, slice_index, EachIndex, IsTrue, IfErr, OnOk};
 ghost use Rattle.ufs_disk.specs.Disk.{Leaves, IsSettled};
 ghost use Rattle.ufs_disk.specs.Moments.{LeavesOnly, reads};
-ghost use Rattle.ufs_disk.specs.Faults.{HasCause};
+ghost use Rattle.ufs_base.specs.Faults.{HasCause};
 ghost use Rattle.ufs_layout.specs.Areas.{IsGeometry, first_of_data, sector_count};
 ghost use Rattle.ufs_layout.specs.InodeForm.{inode_bytes};
 ghost use Rattle.ufs_image.specs.Formatted.{byte_below, new_root};
@@ -84,6 +84,7 @@ pub(crate) fn write_tables<D: Disk>(disk: &mut D, geometry: &Geometry) -> Result
     ensures crash { IsTrue D.tells → LeavesOnly D.keeps IsBlank (D.moments disk.old) (D.moments disk.new) }
     ensures size { D.size disk.new ≡ D.size disk.old }
     ensures cause { HasCause (D.faults disk.old) (D.faults disk.new) result }
+    ensures number { IfErr result (λ fault. fault.number ≡ D.faults disk.new) }
 {
     let mut bytes = [0; BLOCK];
     for block in 1..geometry.first_of_data() {

@@ -1,6 +1,6 @@
 // The reading of a script from a source.
 ghost use Rattle.std.specs.Prelude.{◌≡◌, ◌≢◌, ◌≤◌, [], IfOk, IfErr, length};
-ghost use Rattle.ufs_io.specs.Causes.{Rose};
+ghost use Rattle.ufs_base.specs.Faults.{raised};
 ghost use Rattle.ufs_script.specs.Script.{IsOutside};
 ghost use Rattle.ufs_script.specs.declared.fault.ScriptFault.{ScriptFault};
 ghost use Rattle.ufs_script.specs.Reading.{HasRead, ReadsScript, ReadsBreak};
@@ -16,9 +16,8 @@ const MAX_READS: u32 = 16_777_218;
 
 // Reads to the source's end, or past the greatest length of a script.
 fn read_all<S: Source>(alloc: Global, source: &mut S) -> Result<Vec<u8>, ScriptFault>
-    ensures later { S.faults source.old ≤ S.faults source.new }
     ensures cause { result ≡ Err ScriptFault.Source →
-        Rose (S.faults source.old) (S.faults source.new) }
+        S.faults source.new ≡ raised (S.faults source.old) }
     ensures counted { result ≢ Err ScriptFault.Source →
         S.faults source.new ≡ S.faults source.old }
     ensures outside { IfErr result IsOutside }
@@ -47,9 +46,8 @@ fn read_all<S: Source>(alloc: Global, source: &mut S) -> Result<Vec<u8>, ScriptF
 ///
 /// An error that is neither `Source` nor `Memory` is the text's first break.
 pub fn read_script<S: Source>(alloc: Global, source: &mut S) -> Result<Script, ScriptFault>
-    ensures later { S.faults source.old ≤ S.faults source.new }
     ensures cause { result ≡ Err ScriptFault.Source →
-        Rose (S.faults source.old) (S.faults source.new) }
+        S.faults source.new ≡ raised (S.faults source.old) }
     ensures counted { result ≢ Err ScriptFault.Source →
         S.faults source.new ≡ S.faults source.old }
     ensures script { IfOk result (ReadsScript (S.left source.old) (S.left source.new)) }

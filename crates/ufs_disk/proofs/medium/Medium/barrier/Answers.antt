@@ -16,7 +16,7 @@ invariant_of-self c =
     let m = begun c.args.self.now.first.items in
     let old = c.args.self.now.calls.items in
     let new = c.note.new.calls.items in
-    let same = after_failed m old new Barrier _ c.in_err-note.ensures.err in
+    let same = after_failed m old new Barrier _ _ _ c.in_err-note.ensures.err in
     record {
       in_range = c.args.self.now.in_range;
       sized = c.args.self.now.sized;
@@ -29,7 +29,7 @@ returns-in_err-note-clause-crash c =
     let m = begun c.args.self.now.first.items in
     let old = c.args.self.now.calls.items in
     stays true (IsImage (after_calls old m).state) (after_calls old m) (after_calls c.note.new.calls.items m)
-    (after_failed m old c.note.new.calls.items Barrier _ c.in_err-note.ensures.err) (λ image left. left)
+    (after_failed m old c.note.new.calls.items Barrier _ _ _ c.in_err-note.ensures.err) (λ image left. left)
 
 pub invariant_of-self-2 : goal.invariant_of-self-2
 invariant_of-self-2 c =
@@ -54,4 +54,4 @@ returns-clause-crash c =
     subst (LeavesOnly true (IsImage (after_calls old m).state) (after_calls old m)) (sym is) (settled_leaves_only (after_calls old m))
 
 pub returns-in_err-note-clause-err : goal.returns-in_err-note-clause-err
-returns-in_err-note-clause-err c = on_err _ _ (after_failed (begun c.args.self.now.first.items) c.args.self.now.calls.items c.note.new.calls.items Barrier _ c.in_err-note.ensures.err)
+returns-in_err-note-clause-err c = on_err _ _ (after_failed (begun c.args.self.now.first.items) c.args.self.now.calls.items c.note.new.calls.items Barrier _ _ _ c.in_err-note.ensures.err)

@@ -14,7 +14,7 @@ invariant_of-self c =
     let old = c.args.self.now.calls.items in
     let new = c.note.new.calls.items in
     let asked = Read c.args.sector (length c.args.buf.now) in
-    let same : after_calls new m ≡ after_calls old m = ⊎_elim (after_passed m old new asked) (after_failed m old new asked _) (either_of c.note.result _ _ c.note.ensures.ok c.note.ensures.err) in
+    let same : after_calls new m ≡ after_calls old m = ⊎_elim (after_passed m old new asked) (after_failed m old new asked _ _ _) (either_of c.note.result _ _ c.note.ensures.ok c.note.ensures.err) in
     record {
       in_range = c.args.self.now.in_range;
       sized = c.args.self.now.sized;
@@ -27,7 +27,7 @@ returns-in_err-note-clause-crash c =
     let m = begun c.args.self.now.first.items in
     let old = c.args.self.now.calls.items in
     stays true (IsImage (after_calls old m).state) (after_calls old m) (after_calls c.note.new.calls.items m)
-    (after_failed m old c.note.new.calls.items (Read c.args.sector (length c.args.buf.now)) _ c.in_err-note.ensures.err) (λ image left. left)
+    (after_failed m old c.note.new.calls.items (Read c.args.sector (length c.args.buf.now)) _ _ _ c.in_err-note.ensures.err) (λ image left. left)
 
 pub returns-clause-bytes : goal.returns-clause-bytes
 returns-clause-bytes c =
@@ -45,7 +45,7 @@ returns-clause-crash c =
 
 pub returns-in_err-note-clause-same : goal.returns-in_err-note-clause-same
 returns-in_err-note-clause-same c =
-    after_failed (begun c.args.self.now.first.items) c.args.self.now.calls.items c.note.new.calls.items (Read c.args.sector (length c.args.buf.now)) _ c.in_err-note.ensures.err
+    after_failed (begun c.args.self.now.first.items) c.args.self.now.calls.items c.note.new.calls.items (Read c.args.sector (length c.args.buf.now)) _ _ _ c.in_err-note.ensures.err
 
 pub returns-clause-same : goal.returns-clause-same
 returns-clause-same c =

@@ -30,7 +30,7 @@ invariant_of-self-in-Break-1 c =
     let m = begun c.args.self.now.first.items in
     let old = c.args.self.now.calls.items in
     let new = c.note.new.calls.items in
-    let same = after_failed m old new (Write c.args.sector c.in-Ok.copy) _ c.in_err-note.ensures.err in
+    let same = after_failed m old new (Write c.args.sector c.in-Ok.copy) _ _ _ c.in_err-note.ensures.err in
     record {
       in_range = c.args.self.now.in_range;
       sized = c.args.self.now.sized;
@@ -43,7 +43,7 @@ returns-in_err-note-clause-crash c =
     let m = begun c.args.self.now.first.items in
     let old = c.args.self.now.calls.items in
     stays true (IsMixedFrom c.args.sector (sectors_of c.args.bytes.now) (after_calls old m).state) (after_calls old m) (after_calls c.note.new.calls.items m)
-    (after_failed m old c.note.new.calls.items (Write c.args.sector c.in-Ok.copy) _ c.in_err-note.ensures.err) (unmixed c.args.sector (sectors_of c.args.bytes.now) _)
+    (after_failed m old c.note.new.calls.items (Write c.args.sector c.in-Ok.copy) _ _ _ c.in_err-note.ensures.err) (unmixed c.args.sector (sectors_of c.args.bytes.now) _)
 
 -- the call passed, with these bytes
 after_write : (m : Moments) (now : Moments) (copy bytes : List ℕ) (sector : ℕ) → now ≡ written sector (sectors_of copy) m → copy ≡ bytes → now ≡ written sector (sectors_of bytes) m
@@ -97,7 +97,7 @@ returns-clause-crash c =
 
 pub returns-in_err-note-clause-err : goal.returns-in_err-note-clause-err
 returns-in_err-note-clause-err c = on_err _ _
-    (after_failed (begun c.args.self.now.first.items) c.args.self.now.calls.items c.note.new.calls.items (Write c.args.sector c.in-Ok.copy) _ c.in_err-note.ensures.err)
+    (after_failed (begun c.args.self.now.first.items) c.args.self.now.calls.items c.note.new.calls.items (Write c.args.sector c.in-Ok.copy) _ _ _ c.in_err-note.ensures.err)
 
 pub returns-clause-content : goal.returns-clause-content
 returns-clause-content c =

@@ -1,0 +1,27 @@
+-- Words that name an image's file are answered as `quiet` answers them.
+use Rattle.std.proofs.Common.{◌≡◌, ℕ, List, Option, Some, None, Result, Ok, ap, sym, subst, ◌∙◌, map, string_bytes}
+use Rattle.std.specs.Prelude.{is_some, if◌then◌else◌}
+use Rattle.std.specs.declared.string.String.{String}
+use Rattle.std.specs.declared.vec.Vec.{Vec}
+use Rattle.ufs_quiet.specs.declared.ending.Ending.{Ending}
+use Rattle.ufs_quiet.specs.declared.words.Command.{Command}
+use Rattle.ufs_quiet.specs.declared.response.WordsFault.{WordsFault}
+use Rattle.ufs_quiet.specs.Commands.{asked, image_word}
+use Rattle.ufs_quiet.specs.Seen.{Reading, Writing, Formatting}
+use Rattle.ufs_quiet.specs.Endings.{Ends, IsAnswer}
+use Rattle.ufs_quiet.specs.Responses.{Responds, command_for}
+
+module _ {Z : Type 0} (words : Result (Vec (String Z) Z) WordsFault) (own : Vec (String Z) Z) (path : List ℕ) (is : words ≡ Ok own) (named : image_word (map string_bytes own.items) ≡ Some path) where
+  abbrev good : Result (Vec (String Z) Z) WordsFault
+  good = Ok own
+
+  own_command : command_for good ≡ asked own.items
+  own_command = ap (λ (o : Option (List ℕ)). if is_some o then asked own.items else None) named
+
+  pub same_command : command_for words ≡ asked own.items
+  same_command = ap command_for is ∙ own_command
+
+  pub answered : (r : Reading) (d : Formatting) (w : Writing) (status : ℕ) → IsAnswer (Ends (asked own.items) r d) w status → IsAnswer (Responds words r d) w status
+  answered r d w status a =
+      subst (λ (x : Result (Vec (String Z) Z) WordsFault). IsAnswer (Responds x r d) w status) (sym is)
+      (subst (λ (x : Option Command). IsAnswer (Ends x r d) w status) (sym own_command) a)

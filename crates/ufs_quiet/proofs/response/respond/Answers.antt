@@ -1,0 +1,22 @@
+use Rattle.std.proofs.Common.{◌≡◌, Some, sym, subst, ◌∙◌, map, string_bytes}
+use Rattle.ufs_quiet.specs.Commands.{image_word, IsMkfs}
+use Rattle.ufs_quiet.specs.Seen.{reading, writing, formatting}
+use Rattle.ufs_quiet.proofs.ResponseLemmas.{same_command, answered}
+use Rattle.ufs_quiet.proofs.response.respond.Goals as goal
+
+pub returns-in-Some-clause-answer : goal.returns-in-Some-clause-answer
+returns-in-Some-clause-answer g c =
+    let named : image_word (map string_bytes c.in-Ok.words.items) ≡ Some c.in-Some.field-0.now = sym c.in-Some.ensures in
+    answered c.args.words.now c.in-Ok.words c.in-Some.field-0.now c.in-Ok.is named
+    (reading g.S.Source.left g.S.Source.faults c.args.source.now c.quiet.new.source) (formatting g.D.Disk.size g.D.Disk.faults c.args.disk c.quiet.result.disk)
+    (writing g.K.Sink.held g.K.Sink.faults c.args.sink.now c.quiet.new.sink) c.quiet.result.status c.quiet.ensures.answer
+
+pub returns-in-Some-clause-crash : goal.returns-in-Some-clause-crash
+returns-in-Some-clause-crash g c tells h is =
+    let named : image_word (map string_bytes c.in-Ok.words.items) ≡ Some c.in-Some.field-0.now = sym c.in-Some.ensures in
+    c.quiet.ensures.crash tells h (sym (same_command c.args.words.now c.in-Ok.words c.in-Some.field-0.now c.in-Ok.is named) ∙ is)
+
+pub returns-in-Some-clause-unwritten : goal.returns-in-Some-clause-unwritten
+returns-in-Some-clause-unwritten g c other =
+    let named : image_word (map string_bytes c.in-Ok.words.items) ≡ Some c.in-Some.field-0.now = sym c.in-Some.ensures in
+    c.quiet.ensures.unwritten (λ is. other (subst IsMkfs (sym (same_command c.args.words.now c.in-Ok.words c.in-Some.field-0.now c.in-Ok.is named)) is))

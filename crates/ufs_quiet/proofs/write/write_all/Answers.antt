@@ -1,0 +1,29 @@
+use Rattle.std.proofs.Common.{ℕ, List, arith, take, drop, sym, subst, length, length-drop, ◌≤◌, ◌∙◌}
+use Rattle.std.proofs.Math.Seq.{take-add}
+use Rattle.std.proofs.lemmas.List.{take_rest}
+use Rattle.std.specs.Io.KnownBytes.{Appends}
+use Rattle.ufs_quiet.proofs.WriteLemmas.{appends_both, appends_kept, front_taken}
+use Rattle.ufs_quiet.proofs.write.write_all.Goals as goal
+
+pub loop-at-preserved : goal.loop-at-preserved
+loop-at-preserved g c =
+    let at = c.loop-at.at in
+    let count = c.in-Ok.count in
+    let text = c.args.text.now in
+    let held = g.K.Sink.held in
+    let piece = take_rest text at in
+    let bytes = subst (λ (p : List ℕ). Appends (held c.loop-at.sink) (held c.write.new.self) (take count p)) piece c.in-Ok.ensures.bytes in
+    let both = appends_both (held c.args.sink.now) (held c.loop-at.sink) (held c.write.new.self) (take at text) (take count (drop at text)) c.loop-at.invariant.written bytes in
+    let more = subst (λ (p : List ℕ). count ≤ length p) piece c.in-Ok.ensures.bound in
+    record {
+      within = omega (arith, length-drop at text, more);
+      same = c.in-Ok.ensures.cause.passed ∙ c.loop-at.invariant.same;
+      written = subst (λ (xs : List ℕ). Appends (held c.args.sink.now) (held c.write.new.self) xs) (sym (take-add at count text)) both;
+    }
+
+pub returns-in-Err-clause-err : goal.returns-in-Err-clause-err
+returns-in-Err-clause-err g c =
+    let at = c.loop-at.at in
+    let text = c.args.text.now in
+    let held = g.K.Sink.held in
+    (take at text, front_taken at text, appends_kept (held c.args.sink.now) (held c.loop-at.sink) (held c.write.new.self) (take at text) c.loop-at.invariant.written c.in-Err.ensures.bytes)

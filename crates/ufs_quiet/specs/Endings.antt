@@ -1,0 +1,117 @@
+-- How a command ends where the sink doesn't fail: why, and what it has written.
+use Rattle.std.specs.Prelude.{ℕ, ◌≡◌, ◌≢◌, ◌<◌, ◌≤◌, ◌⊎◌, List, [], ◌++◌, Option, Some, None}
+use Rattle.std.specs.Io.KnownBytes.{Appends}
+use Rattle.ufs_base.specs.Faults.{raised}
+use Rattle.ufs_layout.specs.Areas.{geometry_refusal, sector_count}
+use Rattle.ufs_layout.specs.declared.geometry.Geometry.{Geometry}
+use Rattle.ufs_model.specs.declared.data.Entry.{Entry}
+use Rattle.ufs_script.specs.Reading.{ReadsBreak}
+use Rattle.ufs_script.specs.declared.script.Script.{Script}
+use Rattle.ufs_script.specs.declared.fault.ScriptFault.{ScriptFault}
+use Rattle.ufs_script.specs.declared.fault.ScriptFault.TheVariants as fault
+use Rattle.ufs_script.specs.Script.{IsOutside}
+use Rattle.ufs_quiet.specs.declared.ending.Ending.{Ending}
+use Rattle.ufs_quiet.specs.declared.ending.Ending.TheVariants.{Done, Usage, BadGeometry, NotBuilt, BadScript, TooSmall, DeviceFault, OutOfMemory, SourceFault}
+use Rattle.ufs_quiet.specs.declared.words.Command.{Command}
+use Rattle.ufs_quiet.specs.declared.words.Command.TheVariants as command
+use Rattle.ufs_quiet.specs.Texts.{IsFront, AreFirstLines, usage_line, bad_geometry_line, not_built_line, break_line, too_small_line, device_line, memory_line, source_line, made_line}
+use Rattle.ufs_quiet.specs.Seen.{Reading, Writing, Formatting}
+use Rattle.ufs_quiet.specs.Served.{IsServed, IsHistoryOf, replies_text}
+
+abbrev pub status_of : Ending → ℕ
+status_of Done = 0
+status_of Usage = 1
+status_of (BadGeometry bad) = 1
+status_of NotBuilt = 2
+status_of BadScript = 2
+status_of TooSmall = 3
+status_of DeviceFault = 4
+status_of OutOfMemory = 5
+status_of SourceFault = 6
+
+-- the status of a sink's fault, whatever else happened
+abbrev pub sink_status : ℕ
+sink_status = 7
+
+-- the line that an ending writes last, where it is always the same
+abbrev pub fixed_line_of : Ending → List ℕ
+fixed_line_of Done = []
+fixed_line_of Usage = usage_line
+fixed_line_of (BadGeometry bad) = bad_geometry_line bad
+fixed_line_of NotBuilt = not_built_line
+fixed_line_of BadScript = []
+fixed_line_of TooSmall = too_small_line
+fixed_line_of DeviceFault = []
+fixed_line_of OutOfMemory = memory_line
+fixed_line_of SourceFault = source_line
+
+-- ---- what a script ends with
+
+-- one ending with these bytes
+abbrev pub IsLine : Ending → List ℕ → Ending → List ℕ → Type 0
+IsLine wanted line ending text = (ending ≡ wanted) × (text ≡ line)
+
+-- an ending with the line that it always has
+abbrev pub IsFixed : Ending → Ending → List ℕ → Type 0
+IsFixed wanted ending text = IsLine wanted (fixed_line_of wanted) ending text
+
+-- why a script is none, or there is no memory for its line
+abbrev pub IsBreakLine : ScriptFault → Ending → List ℕ → Type 0
+IsBreakLine f ending text = IsLine BadScript (break_line f) ending text ⊎ IsFixed OutOfMemory ending text
+
+-- why there is no script: want of memory, a fault of the source, or a break
+abbrev pub TellsFault : ScriptFault → Ending → List ℕ → Type 0
+TellsFault f ending text =
+    ((f ≡ fault.Memory) × IsFixed OutOfMemory ending text)
+    ⊎ (((f ≡ fault.Source) × IsFixed SourceFault ending text) ⊎ ((¬ IsOutside f) × IsBreakLine f ending text))
+
+-- these lines are written, or memory runs out behind the first of them
+abbrev pub EndsPrinting : List ℕ → Ending → List ℕ → Type 0
+EndsPrinting lines Done text = text ≡ lines
+EndsPrinting lines OutOfMemory text = (front : List ℕ) × AreFirstLines front lines × (text ≡ front ++ memory_line)
+EndsPrinting lines _ text = ⊥
+
+-- a script is served, or memory runs out before, or behind the first of its reply lines
+abbrev pub EndsServing : Script → Ending → List ℕ → Type 0
+EndsServing script Done text = (history : List Entry) × IsHistoryOf script history × (text ≡ replies_text script history)
+EndsServing script OutOfMemory text = (text ≡ memory_line)
+    ⊎ ((history : List Entry) × (front : List ℕ) × IsHistoryOf script history × AreFirstLines front (replies_text script history) × (text ≡ front ++ memory_line))
+EndsServing script _ text = ⊥
+
+-- What is seen of the source allows `play` this ending with this text.
+abbrev pub EndsPlay : Reading → Ending → List ℕ → Type 0
+EndsPlay r Done text = (script : Script) × (history : List Entry) × IsServed r.left r.rest script history × (text ≡ replies_text script history)
+EndsPlay r BadScript text = (f : ScriptFault) × ReadsBreak r.left r.rest f × (¬ IsOutside f) × (text ≡ break_line f)
+EndsPlay r OutOfMemory text = (text ≡ memory_line)
+    ⊎ ((script : Script) × (history : List Entry) × (front : List ℕ) × IsServed r.left r.rest script history × AreFirstLines front (replies_text script history) × (text ≡ front ++ memory_line))
+EndsPlay r SourceFault text = (r.now ≡ raised r.before) × (text ≡ source_line)
+EndsPlay r _ text = ⊥
+
+-- ---- what formatting ends with
+
+-- What is seen of the disk allows `mkfs` this ending with this text. Memory is wanted only where the geometry is taken
+-- and the disk is large enough, and before the disk is touched.
+abbrev pub EndsMkfs : Geometry → Formatting → Ending → List ℕ → Type 0
+EndsMkfs g d Done text = (geometry_refusal g ≡ None) × (sector_count g ≤ d.sectors) × (d.now ≡ d.before) × (text ≡ made_line g)
+EndsMkfs g d (BadGeometry bad) text = (geometry_refusal g ≡ Some bad) × (d.now ≡ d.before) × (text ≡ bad_geometry_line bad)
+EndsMkfs g d TooSmall text = (geometry_refusal g ≡ None) × (d.sectors < sector_count g) × (d.now ≡ d.before) × (text ≡ too_small_line)
+EndsMkfs g d DeviceFault text = (geometry_refusal g ≡ None) × (sector_count g ≤ d.sectors) × (d.now ≡ raised d.before) × (text ≡ device_line d.now)
+EndsMkfs g d OutOfMemory text = (geometry_refusal g ≡ None) × (sector_count g ≤ d.sectors) × (d.now ≡ d.before) × (text ≡ memory_line)
+EndsMkfs g d _ text = ⊥
+
+-- ---- what any words end with
+
+-- What is seen of the source and of the disk allows a command this ending with this text.
+abbrev pub Ends : Option Command → Reading → Formatting → Ending → List ℕ → Type 0
+Ends None r d ending text = IsFixed Usage ending text
+Ends (Some command.NotBuilt) r d ending text = IsFixed NotBuilt ending text
+Ends (Some command.Play) r d ending text = EndsPlay r ending text
+Ends (Some (command.Mkfs blocks inodes journal)) r d ending text = EndsMkfs (record { blocks = blocks; inodes = inodes; journal = journal }) d ending text
+
+-- A status, and what the sink got: the whole text of an ending that is allowed, or with one fault of the sink a front
+-- of it.
+pub record IsAnswer (allowed : Ending → List ℕ → Type 0) (w : Writing) (status : ℕ) : Type 0 where
+  pub whole : status ≢ sink_status → (ending : Ending) × (text : List ℕ) × (status ≡ status_of ending) × allowed ending text × Appends w.held w.holds text
+  pub told : status ≢ sink_status → w.now ≡ w.before
+  pub rose : status ≡ sink_status → w.now ≡ raised w.before
+  pub cut : status ≡ sink_status → (ending : Ending) × (text : List ℕ) × (front : List ℕ) × allowed ending text × IsFront front text × Appends w.held w.holds front

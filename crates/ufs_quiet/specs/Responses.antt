@@ -1,0 +1,29 @@
+-- What the program answers to its words, and to there being none.
+use Rattle.std.specs.Prelude.{ℕ, List, [], Option, Some, None, Result, Ok, Err, map, string_bytes, unwrap_or, is_some, if◌then◌else◌}
+use Rattle.std.specs.declared.string.String.{String}
+use Rattle.std.specs.declared.vec.Vec.{Vec}
+use Rattle.ufs_quiet.specs.declared.ending.Ending.{Ending}
+use Rattle.ufs_quiet.specs.declared.ending.Ending.TheVariants.{OutOfMemory}
+use Rattle.ufs_quiet.specs.declared.words.Command.{Command}
+use Rattle.ufs_quiet.specs.declared.response.WordsFault.{WordsFault}
+use Rattle.ufs_quiet.specs.declared.response.WordsFault.TheVariants.{NotText, Memory}
+use Rattle.ufs_quiet.specs.Commands.{asked, image_word}
+use Rattle.ufs_quiet.specs.Seen.{Reading, Formatting}
+use Rattle.ufs_quiet.specs.Endings.{Ends, IsFixed}
+
+module _ {Z : Type 0} where
+  -- the path of the image's file
+  abbrev pub path_of : Result (Vec (String Z) Z) WordsFault → List ℕ
+  path_of (Ok words) = unwrap_or (image_word (map string_bytes words.items)) []
+  path_of (Err f) = []
+
+  -- the command of a program's words; without an image's file they are none
+  abbrev pub command_for : Result (Vec (String Z) Z) WordsFault → Option Command
+  command_for (Ok words) = if is_some (image_word (map string_bytes words.items)) then asked words.items else None
+  command_for (Err f) = None
+
+  -- What is seen of the source and of the disk allows the program this ending with this text.
+  abbrev pub Responds : Result (Vec (String Z) Z) WordsFault → Reading → Formatting → Ending → List ℕ → Type 0
+  Responds (Ok words) r d ending text = Ends (command_for (Ok words)) r d ending text
+  Responds (Err NotText) r d ending text = Ends None r d ending text
+  Responds (Err Memory) r d ending text = IsFixed OutOfMemory ending text

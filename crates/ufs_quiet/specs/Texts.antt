@@ -1,0 +1,66 @@
+-- The lines that a command writes besides replies.
+use Rattle.std.specs.Prelude.{ℕ, List, [], ◌∷◌, ◌++◌, ◌+◌, ◌-◌, ◌≡◌, ◌⊎◌, codes}
+use Rattle.std.specs.Fmt.{decimal}
+use Rattle.ufs_layout.specs.Areas.{first_of_data, refusal_number}
+use Rattle.ufs_layout.specs.declared.geometry.Geometry.{Geometry}
+use Rattle.ufs_layout.specs.declared.geometry.BadGeometry.{BadGeometry}
+use Rattle.ufs_script.specs.declared.fault.ScriptFault.{ScriptFault}
+use Rattle.ufs_script.specs.declared.fault.ScriptFault.TheVariants as fault
+
+abbrev pub line : List ℕ → List ℕ
+line text = text ++ 10 ∷ []
+
+abbrev pub usage_line : List ℕ
+usage_line = line (codes "usage: ufs COMMAND [WORDS]")
+
+-- one of four digits, the first of which is 1
+abbrev pub bad_geometry_line : BadGeometry → List ℕ
+bad_geometry_line bad = line (codes "ufs: bad geometry " ++ (48 + refusal_number bad) ∷ [])
+
+-- a command that isn't built has no line of a script
+abbrev pub not_built_line : List ℕ
+not_built_line = line (codes "ufs: line 0: NotBuilt")
+
+-- the number of a script's line, and the cause's name
+abbrev pub cause_line : ℕ → List ℕ → List ℕ
+cause_line number name = line (codes "ufs: line " ++ decimal number ++ codes ": " ++ name)
+
+-- why a script is none; a fault of the source and want of memory are no cause of the script
+abbrev pub break_line : ScriptFault → List ℕ
+break_line (fault.NoClient number) = cause_line number (codes "NoClient")
+break_line (fault.BadWord number) = cause_line number (codes "BadWord")
+break_line (fault.BadNumber number) = cause_line number (codes "BadNumber")
+break_line (fault.BadData number) = cause_line number (codes "BadData")
+break_line (fault.TooMany number) = cause_line number (codes "TooMany")
+break_line (fault.TooLong number) = cause_line number (codes "TooLong")
+break_line (fault.NoEnd number) = cause_line number (codes "NoEnd")
+break_line (fault.AfterEnd number) = cause_line number (codes "AfterEnd")
+break_line (fault.NotBuilt number) = cause_line number (codes "NotBuilt")
+break_line fault.Source = []
+break_line fault.Memory = []
+
+-- a disk that is too small is told as a fifth bad geometry
+abbrev pub too_small_line : List ℕ
+too_small_line = line (codes "ufs: image: BadGeometry 5")
+
+abbrev pub device_line : ℕ → List ℕ
+device_line fault = line (codes "ufs: device fault " ++ decimal fault)
+
+abbrev pub memory_line : List ℕ
+memory_line = line (codes "ufs: out of memory")
+
+abbrev pub source_line : List ℕ
+source_line = line (codes "ufs: source fault")
+
+-- blocks, inodes, journal sectors and data blocks
+abbrev pub made_line : Geometry → List ℕ
+made_line g = line (codes "made " ++ decimal g.blocks ++ 32 ∷ decimal g.inodes ++ 32 ∷ decimal g.journal ++ 32 ∷ decimal (g.blocks - first_of_data g))
+
+-- the first of these bytes is the front of the second
+abbrev pub IsFront : List ℕ → List ℕ → Type 0
+IsFront front whole = (rest : List ℕ) × (front ++ rest ≡ whole)
+
+-- the first of these bytes is the first whole lines of the second
+pub record AreFirstLines (front whole : List ℕ) : Type 0 where
+  pub front_is : IsFront front whole
+  pub ended : (front ≡ []) ⊎ ((before : List ℕ) × (front ≡ line before))

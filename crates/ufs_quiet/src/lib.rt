@@ -1,0 +1,19 @@
+//! What a command line does: from its words to a status, to lines on a sink, and to what a disk holds.
+#![tactic(auto)]
+
+mod broken;
+mod ending;
+mod finish;
+mod mkfs;
+mod print;
+mod process;
+mod response;
+mod top;
+mod words;
+mod write;
+
+pub use ending::Ending;
+pub use process::process_status;
+pub use response::{WordsFault, image_path, respond};
+pub use top::{Outcome, quiet};
+pub use words::{Command, Options, image_of, read_command};

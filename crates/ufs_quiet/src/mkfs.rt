@@ -1,0 +1,97 @@
+// Formatting a disk.
+ghost use Rattle.std.specs.Prelude.{◌≡◌, ◌≢◌, ◌<◌, None, IsTrue, IfOk};
+ghost use Rattle.ufs_disk.specs.Moments.{LeavesOnly};
+ghost use Rattle.ufs_layout.specs.Areas.{IsGeometry, geometry_refusal, sector_count};
+ghost use Rattle.ufs_recover.specs.Stopped.{IsNewDisk, IsStopped};
+ghost use Rattle.ufs_quiet.specs.Texts.{made_line, device_line};
+ghost use Rattle.ufs_quiet.specs.Seen.{formatting, writing};
+ghost use Rattle.ufs_quiet.specs.Endings.{EndsMkfs, IsAnswer};
+
+use crate::ending::Ending;
+use crate::finish::{finish, tell};
+use arrayvec::ArrayString;
+use itoa::Buffer;
+use std::alloc::{AllocError, Global};
+use ufs_disk::Disk;
+use ufs_io::Sink;
+use ufs_layout::Geometry;
+use ufs_recover::{FormatFault, data_start, format};
+
+// The line of a new image: blocks, inodes, journal sectors and data blocks.
+fn made_line(alloc: Global, geometry: &Geometry) -> Result<Vec<u8>, AllocError>
+    requires { IsGeometry geometry.now }
+    ensures { IfOk result (λ line. line.items ≡ made_line geometry.now) }
+{
+    let blocks = geometry.blocks;
+    let inodes = geometry.inodes;
+    let journal = geometry.journal;
+    let data = blocks - data_start(geometry);
+    let line = format!(in alloc; "made {blocks} {inodes} {journal} {data}\n")?;
+    Ok(line.into_bytes())
+}
+
+// The line of a fault of the disk. It takes no memory.
+fn device_line(fault: u64) -> ArrayString<64>
+    ensures { result.bytes ≡ device_line fault }
+{
+    let mut digits = Buffer::new();
+    let mut line = ArrayString::new();
+    line.push_str("ufs: device fault ");
+    line.push_str(digits.format(fault));
+    line.push_str("\n");
+    line
+}
+
+// Memory is wanted for the line of a new image alone, before the disk is touched.
+fn format_disk<K: Sink, D: Disk>(
+    alloc: Global,
+    geometry: &Geometry,
+    sink: &mut K,
+    disk: &mut D,
+) -> u8
+    requires limits { IsGeometry geometry.now }
+    requires taken { geometry_refusal geometry.now ≡ None }
+    ensures answer { IsAnswer (EndsMkfs geometry.now (formatting D.size D.faults disk.old disk.new)) (writing K.held K.faults sink.old sink.new) result }
+    ensures formatted { IsTrue D.tells → result ≡ 0 → IsNewDisk geometry.now (D.size disk.old) (D.moments disk.new).state }
+    ensures crash { IsTrue D.tells → LeavesOnly D.keeps
+        (IsStopped geometry.now (D.size disk.old) (D.moments disk.old).state)
+        (D.moments disk.old) (D.moments disk.new) }
+    ensures small { D.size disk.old < sector_count geometry.now → disk.new ≡ disk.old }
+    ensures starved { result ≡ 5 → disk.new ≡ disk.old }
+    ensures size { D.size disk.new ≡ D.size disk.old }
+    ensures disk_told { result ≢ 4 → result ≢ 7 → D.faults disk.new ≡ D.faults disk.old }
+{
+    if disk.sectors() < 8 * geometry.blocks {
+        return finish(sink, Ending::TooSmall);
+    }
+    let Ok(line) = made_line(alloc, geometry) else {
+        return finish(sink, Ending::OutOfMemory);
+    };
+    match format(disk, geometry) {
+        Ok(()) => tell(sink, Ending::Done, line.as_slice()),
+        Err(FormatFault::Device { fault }) => {
+            let line = device_line(fault);
+            tell(sink, Ending::DeviceFault, line.as_bytes())
+        }
+        Err(FormatFault::TooSmall | FormatFault::Memory) => unreachable!(),
+    }
+}
+
+/// Makes the disk's first sectors a new image of that geometry, and tells its numbers.
+pub fn mkfs<K: Sink, D: Disk>(alloc: Global, asked: Geometry, sink: &mut K, disk: &mut D) -> u8
+    ensures answer { IsAnswer (EndsMkfs asked (formatting D.size D.faults disk.old disk.new)) (writing K.held K.faults sink.old sink.new) result }
+    ensures formatted { IsTrue D.tells → result ≡ 0 → IsNewDisk asked (D.size disk.old) (D.moments disk.new).state }
+    ensures crash { IsTrue D.tells → LeavesOnly D.keeps
+        (IsStopped asked (D.size disk.old) (D.moments disk.old).state)
+        (D.moments disk.old) (D.moments disk.new) }
+    ensures refused { geometry_refusal asked ≢ None → disk.new ≡ disk.old }
+    ensures small { D.size disk.old < sector_count asked → disk.new ≡ disk.old }
+    ensures starved { result ≡ 5 → disk.new ≡ disk.old }
+    ensures size { D.size disk.new ≡ D.size disk.old }
+    ensures disk_told { result ≢ 4 → result ≢ 7 → D.faults disk.new ≡ D.faults disk.old }
+{
+    match Geometry::make(asked.blocks, asked.inodes, asked.journal) {
+        Ok(geometry) => format_disk(alloc, &geometry, sink, disk),
+        Err(bad) => finish(sink, Ending::BadGeometry { bad }),
+    }
+}

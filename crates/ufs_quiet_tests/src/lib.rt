@@ -1,0 +1,11 @@
+//! Tests of the top call: the worked scripts and images, and sources, sinks, disks and memory that fail.
+#![tactic(auto)]
+
+#[cfg(test)]
+mod calls;
+#[cfg(test)]
+mod formats;
+#[cfg(test)]
+mod rows;
+#[cfg(test)]
+mod tests;

@@ -1,0 +1,154 @@
+// The worked rows of the file calls, each a client's requests and their replies.
+use crate::calls::check_play;
+use std::alloc::{AllocError, Global};
+use std::process::Abort;
+use std::test::Fail;
+
+// Requests between semicolons, and replies between slashes.
+const ROWS: [(&str, &str); 9] = [
+    (
+        "open /f rw creat;write 3 68656c6c6f;seek 3 set 0;read 3 10;read 3 1;close 3",
+        "fd 3/n 5/at 0/data 68656c6c6f/data -/ok",
+    ),
+    (
+        "open /f rw creat;pwrite 3 61 4096;pread 3 2 4095;seek 3 cur 0;seek 3 end 0",
+        "fd 3/n 1/data 0061/at 0/at 4097",
+    ),
+    (
+        "open /f r;open /f r excl;read 3 1",
+        "err ENOENT/err EINVAL/err EBADF",
+    ),
+    (
+        "mkdir /a;mkdir /a/b;rename /a /a/b/c;rename /a /a;rmdir /a;rmdir /;unlink /a",
+        "ok/ok/err EINVAL/ok/err ENOTEMPTY/err EBUSY/err EPERM",
+    ),
+    (
+        "mkdir /a;mkdir /a/b;open /a/b/f rw creat;write 3 61;rename /a /c;stat /c/b/f;list /c/b;stat /a;stat /c;pread 3 9 0",
+        "ok/ok/fd 3/n 1/ok/file 1/names 1 f/err ENOENT/dir 1/data 61",
+    ),
+    (
+        "mkdir /d;open /d/b rw creat;open /d/a rw creat excl;list /d;stat /d;stat /d/a;open /d w;open /d r;read 5 1;fsync 5;open /d/a rw creat excl;open /d/a/x r;mkdir /e;rename /d/a /e;rename /e /d/a;rmdir /d/a;list /",
+        "ok/fd 3/fd 4/names 2 a b/dir 2/file 0/err EISDIR/fd 5/err EISDIR/ok/err EEXIST/err ENOTDIR/ok/err EISDIR/err ENOTDIR/err ENOTDIR/names 2 d e",
+    ),
+    (
+        "open /f rw creat;write 3 6162;unlink /f;pread 3 9 0;close 3;open /f r",
+        "fd 3/n 2/ok/data 6162/ok/err ENOENT",
+    ),
+    (
+        "open /f rw creat;write 3 616263;open /f w append;write 4 64;seek 4 cur 0;pwrite 4 7a 0;pread 3 9 0;read 4 1;trunc 3 2;trunc 3 4;pread 3 9 0;open /f r;trunc 5 0;seek 3 set -1;seek 3 set 1099511627775;seek 3 cur 1;write 3 -;write 3 61",
+        "fd 3/n 3/fd 4/n 1/at 4/n 1/data 7a626364/err EBADF/ok/ok/data 7a620000/fd 5/err EINVAL/err EINVAL/at 1099511627775/err EINVAL/n 0/err EFBIG",
+    ),
+    (
+        "mkdir /db;open /db/t w creat excl;write 3 61626364;fsync 3;rename /db/t /db/conf;open /db r;fsync 4;sync;list /db;stat /db/conf",
+        "ok/fd 3/n 4/ok/ok/fd 4/ok/ok/names 1 conf/file 4",
+    ),
+];
+
+// Scripts that break, and the lines that tell it.
+const BROKEN: [(&str, &str); 9] = [
+    ("client 0\nfrob\n", "ufs: line 2: BadWord\n"),
+    ("client 0\nschedule 1\nend\n", "ufs: line 2: NotBuilt\n"),
+    ("sync\n", "ufs: line 1: NoClient\n"),
+    ("client 1\n", "ufs: line 1: BadNumber\n"),
+    ("client 0\nwrite 3 6\n", "ufs: line 2: BadData\n"),
+    (
+        "client 0\n\nopen /f r creat creat\n",
+        "ufs: line 3: BadWord\n",
+    ),
+    ("client 0\nsync\n", "ufs: line 2: NoEnd\n"),
+    ("client 0\nend\nsync\n", "ufs: line 3: AfterEnd\n"),
+    ("", "ufs: line 0: NoEnd\n"),
+];
+
+// A script of one client, from its requests.
+fn script_of(alloc: Global, requests: &str) -> Result<String, AllocError> {
+    let mut script = String::from_str(alloc, "client 0\n")?;
+    for request in requests.split(';') {
+        script.push_str(request)?;
+        script.push_str("\n")?;
+    }
+    script.push_str("end\n")?;
+    Ok(script)
+}
+
+// Its reply lines.
+fn lines_of(alloc: Global, replies: &str) -> Result<String, AllocError> {
+    let mut lines = String::new(alloc);
+    for (number, reply) in replies.split('/').enumerate() {
+        let line = format!(in alloc; "0.{number} {reply}\n")?;
+        lines.push_str(line.as_str())?;
+    }
+    Ok(lines)
+}
+
+fn check_row<R: Abort + AllocGlobal>(rt: &R, requests: &str, replies: &str) -> Result<(), Fail> {
+    let script = script_of(rt.alloc(), requests)?;
+    let lines = lines_of(rt.alloc(), replies)?;
+    check_play(rt, script.as_str(), 0, lines.as_str())
+}
+
+// A text, so many times.
+fn push_times(all: &mut String, text: &str, times: u32) -> Result<(), AllocError> {
+    for _time in 0..times {
+        all.push_str(text)?;
+    }
+    Ok(())
+}
+
+#[test]
+fn requests_are_answered(rt: HostRuntime) -> Result<(), Fail> {
+    for (requests, replies) in &ROWS {
+        check_row(&rt, requests, replies)?;
+    }
+    Ok(())
+}
+
+#[test]
+fn broken_scripts_are_told_with_their_line(rt: HostRuntime) -> Result<(), Fail> {
+    for (script, line) in &BROKEN {
+        check_play(&rt, script, 2, line)?;
+    }
+    Ok(())
+}
+
+#[test]
+fn clients_are_served_one_after_another(rt: HostRuntime) -> Result<(), Fail> {
+    check_play(
+        &rt,
+        "client 0\nopen /a rw creat\n# a note\nwrite 3 6f6c64\nclient 1\n\topen  /a r\r\nread 3 9\nend",
+        0,
+        "0.0 fd 3\n0.1 n 3\n1.0 fd 3\n1.1 data 6f6c64\n",
+    )
+}
+
+#[test]
+fn texts_of_paths_are_refused(rt: HostRuntime) -> Result<(), Fail> {
+    let mut requests = String::from_str(rt.alloc(), "mkdir /")?;
+    push_times(&mut requests, "a", 58)?;
+    requests.push_str(";mkdir /")?;
+    push_times(&mut requests, "a", 59)?;
+    requests.push_str(";mkdir ")?;
+    push_times(&mut requests, "/a", 512)?;
+    requests.push_str(";mkdir /a/;mkdir a;mkdir \"\";mkdir //")?;
+    check_row(
+        &rt,
+        requests.as_str(),
+        "ok/err ENAMETOOLONG/err ENAMETOOLONG/err EINVAL/err EINVAL/err ENOENT/err EEXIST",
+    )
+}
+
+#[test]
+fn descriptors_run_out_and_come_back(rt: HostRuntime) -> Result<(), Fail> {
+    let alloc = rt.alloc();
+    let mut requests = String::from_str(alloc, "open /f rw creat")?;
+    let mut replies = String::from_str(alloc, "fd 3")?;
+    push_times(&mut requests, ";open /f r", 63)?;
+    for fd in 4..67u32 {
+        let reply = format!(in alloc; "/fd {fd}")?;
+        replies.push_str(reply.as_str())?;
+    }
+    // No descriptor is told before the path's text, which is looked at later.
+    requests.push_str(";open f r;open /f r excl;close 10;open /f r")?;
+    replies.push_str("/err EMFILE/err EINVAL/ok/fd 10")?;
+    check_row(&rt, requests.as_str(), replies.as_str())
+}

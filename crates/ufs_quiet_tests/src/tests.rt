@@ -1,0 +1,208 @@
+// The words, the images, and sources, sinks and disks that fail.
+use crate::calls::{Call, check, check_over, words};
+use std::alloc::{AllocError, Global};
+use std::process::Abort;
+use std::test::Fail;
+use ufs_disk::{Disk, FILE_SECTORS, FileDisk, MemoryDisk, PlainDisk, SECTOR};
+use ufs_io::{MemorySink, PlainSource};
+use ufs_quiet::{WordsFault, image_of, respond};
+
+const FIRST: &str =
+    "client 0\nmkdir /d\nopen /f rw creat\nopen /d rw creat\nwrite 3 6162\nopen /f r creat\nread 4 9\nwrite 4 61\nclose 3\nread 3 1\nmkdir /f\nend\n";
+
+const FIRST_REPLIES: &str =
+    "0.0 ok\n0.1 fd 3\n0.2 err EISDIR\n0.3 n 2\n0.4 fd 4\n0.5 data 6162\n0.6 err EBADF\n0.7 ok\n0.8 err EBADF\n0.9 err EEXIST\n";
+
+const USAGE: &str = "usage: ufs COMMAND [WORDS]\n";
+
+const NOT_BUILT: &str = "ufs: line 0: NotBuilt\n";
+
+const TOO_SMALL: &str = "ufs: image: BadGeometry 5\n";
+
+const SOURCE_FAULT: &str = "ufs: source fault\n";
+
+const MADE: &str = "made 256 32 64 242\n";
+
+const MKFS: &[&str] = &["mkfs", "256", "32", "64"];
+
+// The first bytes of the superblock after `mkfs 256 32 64`.
+const SUPERBLOCK: [u8; 41] = [
+    0x75, 0x46, 0x53, 0x49, 0x4d, 0x47, 0x30, 0x31, 1, 0, 0, 0, 0, 1, 0, 0, 32, 0, 0, 0, 64, 0, 0,
+    0, 1, 0, 0, 0, 0, 0, 0, 0, 1, 0, 0, 0, 0, 0, 0, 0, 1,
+];
+
+// Words, and the status and the text that they get where nothing is read: the first read fails.
+const UNREAD: [(&[&str], u8, &str); 26] = [
+    (&[], 1, USAGE),
+    (&["frob"], 1, USAGE),
+    (&["mkfs"], 1, USAGE),
+    (&["mkfs", "1"], 1, USAGE),
+    (&["mkfs", "256", "32"], 1, USAGE),
+    (&["mkfs", "256", "32", "64", "64"], 1, USAGE),
+    (&["mkfs", "4294967296", "32", "64"], 1, USAGE),
+    (&["mkfs", "256", "32", "64", "--trace"], 1, USAGE),
+    (&["play", "--trace", "--trace"], 1, USAGE),
+    (&["play", "--lease", "1001"], 1, USAGE),
+    (&["play", "--image"], 1, USAGE),
+    (&["recover", "--lease", "1"], 1, USAGE),
+    (&["bench", "4294967296"], 1, USAGE),
+    (&["run", "1"], 1, USAGE),
+    (&["tree"], 2, NOT_BUILT),
+    (&["recover", "--image", "f"], 2, NOT_BUILT),
+    (&["check"], 2, NOT_BUILT),
+    (&["bench", "0000000007", "--lease", "0"], 2, NOT_BUILT),
+    (&["play", "--lease", "1000", "--trace"], 2, NOT_BUILT),
+    (&["play", "--trace", "--image", "--trace"], 2, NOT_BUILT),
+    (&["mkfs", "64", "16", "64"], 0, "made 64 16 64 52\n"),
+    (&["mkfs", "63", "16", "64"], 1, "ufs: bad geometry 1\n"),
+    (&["mkfs", "64", "15", "64"], 1, "ufs: bad geometry 2\n"),
+    (&["mkfs", "64", "16", "63"], 1, "ufs: bad geometry 3\n"),
+    (&["mkfs", "64", "4096", "64"], 1, "ufs: bad geometry 4\n"),
+    (&["mkfs", "257", "32", "64"], 3, TOO_SMALL),
+];
+
+// Words, the numbers of the reads and of the writes that fail, and the status and the text.
+const FAULTS: [(&[&str], &[u64], &[u64], u8, &str); 9] = [
+    (&["play"], &[], &[], 0, FIRST_REPLIES),
+    (&["play", "--image", "f"], &[], &[], 0, FIRST_REPLIES),
+    (&["play"], &[0], &[], 6, SOURCE_FAULT),
+    (&["play"], &[1], &[], 6, SOURCE_FAULT),
+    (&["play"], &[], &[0], 7, ""),
+    (&["play"], &[], &[2], 7, "0.0 ok\n0.1 fd 3\n"),
+    (&["play"], &[0], &[0], 7, ""),
+    (MKFS, &[], &[0], 7, ""),
+    (&["frob"], &[0], &[0], 7, ""),
+];
+
+#[test]
+fn words_are_read_by_their_grammar(rt: HostRuntime) -> Result<(), Fail> {
+    for (words, status, text) in &UNREAD {
+        let call = Call {
+            words: *words,
+            script: FIRST,
+            reads: &[0],
+            writes: &[],
+            status: *status,
+            text: *text,
+        };
+        check(&rt, &call)?;
+    }
+    Ok(())
+}
+
+#[test]
+fn faults_are_answered(rt: HostRuntime) -> Result<(), Fail> {
+    for (words, reads, writes, status, text) in &FAULTS {
+        let call = Call {
+            words: *words,
+            script: FIRST,
+            reads: *reads,
+            writes: *writes,
+            status: *status,
+            text: *text,
+        };
+        check(&rt, &call)?;
+    }
+    Ok(())
+}
+
+#[test]
+fn the_image_is_the_word_behind_its_option(rt: HostRuntime) -> Result<(), Fail> {
+    let rows: [(&[&str], Option<&str>); 5] = [
+        (&[], None),
+        (&["--image"], None),
+        (&["mkfs", "--image", "a"], Some("a")),
+        (&["--image", "a", "--image", "b"], Some("a")),
+        (&["play", "--image", "--image"], Some("--image")),
+    ];
+    for (line, want) in &rows {
+        let list = words(rt.alloc(), line)?;
+        assert_eq!(rt; image_of(&list), *want);
+    }
+    Ok(())
+}
+
+// `mkfs 256 32 64` in calm.
+fn making(status: u8, text: &'static str) -> Call<'static> {
+    Call {
+        words: MKFS,
+        script: "",
+        reads: &[],
+        writes: &[],
+        status,
+        text,
+    }
+}
+
+#[test]
+fn a_fault_of_the_disk_is_told(rt: HostRuntime) -> Result<(), Fail> {
+    let alloc = rt.alloc();
+    let rows: [(&[u64], u8, &str); 5] = [
+        (&[], 0, MADE),
+        (&[0], 4, "ufs: device fault 1\n"),
+        (&[1], 4, "ufs: device fault 1\n"),
+        (&[2], 4, "ufs: device fault 1\n"),
+        (&[15], 4, "ufs: device fault 1\n"),
+    ];
+    for (fails, status, text) in rows {
+        let zeros = vec![in alloc; 0u8; 2048 * SECTOR]?;
+        let disk = MemoryDisk::new(alloc, 2048, zeros, fails.to_vec(alloc)?)?;
+        check_over(&rt, &making(status, text), disk)?;
+    }
+    let small = PlainDisk::zeros(alloc, 2047)?;
+    check_over(&rt, &making(3, TOO_SMALL), small)?;
+    Ok(())
+}
+
+// Whether two disks have the same first sectors.
+fn are_alike<R: Abort, C: Disk, D: Disk>(rt: &R, one: &mut C, other: &mut D, count: u32) -> bool {
+    assert!(rt; count <= one.sectors() && count <= other.sectors());
+    let mut had = [0; SECTOR];
+    let mut has = [0; SECTOR];
+    for sector in 0..count {
+        assert!(rt; sector < one.sectors() && sector < other.sectors());
+        if one.read(sector, &mut had).is_err() || other.read(sector, &mut has).is_err() {
+            return false;
+        }
+        if had != has {
+            return false;
+        }
+    }
+    true
+}
+
+#[test]
+fn an_image_in_a_file_is_the_one_in_memory(rt: HostRuntime) -> Result<(), Fail> {
+    let path = "ufs_quiet_made.img";
+    let mut file = check_over(&rt, &making(0, MADE), FileDisk::new(&rt, path))?;
+    let plain = PlainDisk::zeros(rt.alloc(), FILE_SECTORS)?;
+    let mut plain = check_over(&rt, &making(0, MADE), plain)?;
+    assert!(rt; are_alike(&rt, &mut file, &mut plain, 2048));
+    std::fs::remove_file(&rt, path)?;
+    let mut sector = [0; SECTOR];
+    assert!(rt; plain.sectors() > 0 && plain.read(0, &mut sector).is_ok());
+    assert!(rt; sector.starts_with(&SUPERBLOCK));
+    Ok(())
+}
+
+#[test]
+fn no_file_is_made_where_none_is_touched(rt: HostRuntime) -> Result<(), Fail> {
+    let alloc = rt.alloc();
+    let path = "ufs_quiet_none.img";
+    let rows: [(&[&str], u8); 4] = [
+        (&["frob", "--image", path], 1),
+        (&["mkfs", "63", "16", "64", "--image", path], 1),
+        (&["play", "--image", path], 2),
+        (&["play"], 1),
+    ];
+    for (line, status) in &rows {
+        let words: Result<Vec<String>, WordsFault> = Ok(words(alloc, line)?);
+        let mut source = PlainSource::new(b"frob".to_vec(alloc)?);
+        let mut sink = MemorySink::new(alloc, Vec::new(alloc));
+        let disk = FileDisk::new(&rt, path);
+        let outcome = respond(alloc, &words, &mut source, &mut sink, disk);
+        assert_eq!(rt; outcome.status, *status);
+        assert!(rt; std::fs::metadata(&rt, path).is_err());
+    }
+    Ok(())
+}

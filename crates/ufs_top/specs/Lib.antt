@@ -1,4 +1,0 @@
-pub mod Texts
-pub mod Commands
-pub mod Served
-pub mod Endings

@@ -1,0 +1,9 @@
+// The same program, which is run on a broken script and another image: status 2, and no file is made.
+#![tactic(auto)]
+
+use std::process::ExitCode;
+use ufs_quiet::process_status;
+
+fn main(rt: HostRuntime) -> ExitCode {
+    ExitCode::from(process_status(&rt))
+}
