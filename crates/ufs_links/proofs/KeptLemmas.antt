@@ -1,5 +1,5 @@
 -- The set of nodes that are given out, as it is kept.
-use Rattle.std.proofs.Common.{◌≡◌, ◌≢◌, ℕ, zero, suc, ◌+◌, ◌-◌, ◌<◌, ◌≤◌, nat_eq, nat_lt, eqb, Bool, true, false, not, ◌&&◌, ◌||◌, cond, ◌⊎◌, ⊎_elim, inl, inr, List, [], ◌∷◌, ◌++◌, length, length-append, filter, refl, sym, ap, subst, ◌∙◌, true≢false, arith, map, set as set_at, get_or-set_same, get_or-set_other, Vec, vec_len, vec_capacity, Global}
+use Rattle.std.proofs.Common.{◌≡◌, ◌≢◌, ℕ, zero, suc, ◌+◌, ◌<◌, ◌≤◌, nat_eq, nat_lt, eqb, Bool, true, false, not, ◌&&◌, ◌||◌, ⊎_elim, List, [], ◌∷◌, ◌++◌, length, filter, refl, sym, ap, subst, ◌∙◌, true≢false, arith, map, set as set_at, get_or-set_same, get_or-set_other, Vec, vec_len, vec_capacity, Global}
 use Rattle.std.proofs.lemmas.Bool.Decides.{nat_tests, eqb_tells}
 use Rattle.std.specs.Ordering.{nat_cmp}
 use Rattle.std.specs.Cmp.{nat_cmp_total, unsigned_tied}
@@ -10,7 +10,7 @@ use Rattle.ufs_links.specs.NodeLists.{NodeLists, with_lists}
 use Rattle.ufs_links.specs.Nodes.{has, nodes_in, without, IsOnNone}
 use Rattle.ufs_links.specs.Chains.{AreApart}
 use Rattle.ufs_links.specs.Kept.{below, given_of, AreGiven, IsKept}
-use Rattle.ufs_links.proofs.NodeLemmas.{lacks_cons, cons_lacks, has_cons, has_here, has-push, apart-push, has-without_other, has-without_same, lacks_from, length-le_from_apart}
+use Rattle.ufs_links.proofs.NodeLemmas.{cons_lacks, has_cons, has-push, apart-push, has-without_other, has-without_same, lacks_from, length-le_from_apart}
 use Rattle.ufs_links.proofs.StandLemmas.{in_map}
 
 swap_eq : (a b : ℕ) → nat_eq a b ≡ nat_eq b a

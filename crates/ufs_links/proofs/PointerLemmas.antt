@@ -1,9 +1,9 @@
 -- What the single writes of a node's joining and parting come to.
-use Rattle.std.proofs.Common.{◌≡◌, ◌≢◌, ℕ, Option, None, Some, refl, sym, ap, ◌∙◌, slice_index_or, option_and_then}
+use Rattle.std.proofs.Common.{◌≡◌, ◌≢◌, ℕ, Option, None, Some, sym, ap, ◌∙◌, slice_index_or, option_and_then}
 use Rattle.std.specs.Option.{option_map}
 use Rattle.ufs_links.specs.declared.pointers.Place.{Place}
 use Rattle.ufs_links.specs.declared.pointers.Pointers.{Pointers}
-use Rattle.ufs_links.specs.Pointers.{no_ends, place_at, after_of, before_of, list_of, SameSizes, AfterSet, BeforeSet, PlaceSet, Joined, Parted}
+use Rattle.ufs_links.specs.Pointers.{no_ends, after_of, before_of, list_of, SameSizes, AfterSet, BeforeSet, PlaceSet, Joined, Parted}
 
 sizes_twice : (s0 s1 s2 s3 : Pointers) → SameSizes s0 s1 → SameSizes s1 s2 → SameSizes s2 s3 → SameSizes s0 s3
 sizes_twice s0 s1 s2 s3 a b c = record { places = c.places ∙ b.places ∙ a.places; ends = c.ends ∙ b.ends ∙ a.ends }

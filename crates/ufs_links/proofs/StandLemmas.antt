@@ -1,5 +1,5 @@
 -- What the pointers' writes do to the lists that they stand for.
-use Rattle.std.proofs.Common.{◌≡◌, ◌≢◌, ℕ, zero, suc, ◌+◌, ◌<◌, ◌≤◌, nat_eq, eqb, Bool, true, false, ◌||◌, ◌⊎◌, ⊎_elim, inl, inr, List, [], ◌∷◌, ◌++◌, length, map, refl, sym, ap, subst, ◌∙◌, true≢false, arith, Option, None, Some, IsSome, slice_get, slice_set, slice_index_or, option_and_then, take, replicate, length-append, vec_len, cond, get_or, set, get_or-set_same, get_or-set_other}
+use Rattle.std.proofs.Common.{◌≡◌, ◌≢◌, ℕ, zero, suc, ◌+◌, ◌<◌, ◌≤◌, nat_eq, eqb, Bool, true, false, ◌||◌, ◌⊎◌, ⊎_elim, inl, inr, List, [], ◌∷◌, ◌++◌, length, map, refl, sym, ap, subst, ◌∙◌, true≢false, arith, Option, None, Some, IsSome, slice_get, slice_index_or, option_and_then, replicate, length-append, vec_len, cond, get_or, set, get_or-set_same, get_or-set_other}
 use Rattle.std.specs.Option.{option_map}
 use Rattle.std.proofs.lemmas.Bool.Decides.{nat_tests, eqb_tells}
 use Rattle.std.proofs.lemmas.List.{length-set, length-replicate, get_or_default}
@@ -10,7 +10,7 @@ use Rattle.ufs_links.specs.Pointers.{no_ends, ends_at, place_at, after_of, befor
 use Rattle.ufs_links.specs.Nodes.{has, without, next_in, nodes_in, IsOnNone, IsOnOne}
 use Rattle.ufs_links.specs.NodeLists.{NodeLists, with_lists}
 use Rattle.ufs_links.specs.Chains.{IsChain, AreApart, Stands, walk, walks, lists_of, node_lists}
-use Rattle.ufs_links.proofs.NodeLemmas.{lacks_cons, cons_lacks, has_cons, has_here, has_there, has-push, apart-push, apart-without, has-without_other, has-without_same, without_lacking, has_cases, lacks_from, length-le_from_apart}
+use Rattle.ufs_links.proofs.NodeLemmas.{has_cons, has_here, has_there, has-push, apart-push, apart-without, has-without_other, has-without_same, without_lacking, lacks_from, length-le_from_apart}
 use Rattle.ufs_links.proofs.ChainLemmas as chain
 
 placed_below : (places : List (Option Place)) (n l : ℕ) → option_map (λ (q : Place). q.list) (slice_index_or places n None) ≡ Some l → n < length places

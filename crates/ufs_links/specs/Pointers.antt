@@ -1,5 +1,5 @@
 -- What the pointers say: what comes after and before each node of a list, and which list a node is on.
-use Rattle.std.specs.Prelude.{◌≡◌, ◌≢◌, ◌<◌, ℕ, List, Option, None, Some, IsSome, slice_index_or, option_and_then, vec_len}
+use Rattle.std.specs.Prelude.{◌≡◌, ◌≢◌, ℕ, Option, None, Some, IsSome, slice_index_or, option_and_then, vec_len}
 use Rattle.std.specs.Option.{option_map}
 use Rattle.ufs_links.specs.declared.pointers.Place.{Place}
 use Rattle.ufs_links.specs.declared.pointers.Ends.{Ends}

@@ -1,4 +1,4 @@
-use Rattle.std.proofs.Common.{◌≡◌, ◌∙◌, ◌<◌, List, length, ap, sym, subst, arith}
+use Rattle.std.proofs.Common.{◌∙◌, ◌<◌, length, ap, sym, subst, arith}
 use Rattle.std.specs.FinSet as set
 use Rattle.ufs_links.specs.Linked.{Linked, lists_in}
 use Rattle.ufs_links.proofs.KeptLemmas.{given_tells, given_push, kept_first, kept_second}

@@ -1,4 +1,4 @@
-use Rattle.std.proofs.Common.{◌≡◌, ◌+◌, ◌∙◌, List, [], ◌∷◌, ◌++◌, ap, sym, subst, false, ℕ}
+use Rattle.std.proofs.Common.{◌∙◌, List, ap, sym, ℕ}
 use Rattle.std.specs.FinSet as set
 use Rattle.ufs_links.specs.Linked.{Linked}
 use Rattle.ufs_links.specs.Kept.{given_of}

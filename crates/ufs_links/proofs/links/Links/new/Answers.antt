@@ -1,4 +1,4 @@
-use Rattle.std.proofs.Common.{◌≡◌, ◌+◌, List, [], ℕ, length, ap}
+use Rattle.std.proofs.Common.{◌+◌, length}
 use Rattle.ufs_links.proofs.KeptLemmas.{none_given}
 use Rattle.ufs_links.proofs.links.Links.new.Goals as goal
 

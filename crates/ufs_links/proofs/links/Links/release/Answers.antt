@@ -1,4 +1,4 @@
-use Rattle.std.proofs.Common.{◌≡◌, ◌+◌, ◌-◌, ◌∙◌, List, [], ◌∷◌, ◌++◌, length, length-append, ap, sym, subst, false, ℕ, cond, is_ok, arith}
+use Rattle.std.proofs.Common.{◌∙◌, [], ◌∷◌, ◌++◌, length, length-append, ap, sym, subst, cond, arith}
 use Rattle.std.specs.FinSet as set
 use Rattle.ufs_links.specs.Linked.{Linked}
 use Rattle.ufs_links.specs.declared.links.Which.TheVariants.{First, Second}
