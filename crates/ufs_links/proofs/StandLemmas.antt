@@ -1,5 +1,5 @@
 -- What the pointers' writes do to the lists that they stand for.
-use Rattle.std.proofs.Common.{◌≡◌, ◌≢◌, ℕ, zero, suc, ◌+◌, ◌<◌, ◌≤◌, nat_eq, eqb, Bool, true, false, ◌||◌, ◌⊎◌, ⊎_elim, inl, inr, List, [], ◌∷◌, ◌++◌, length, map, refl, sym, ap, subst, ◌∙◌, true≢false, arith, Option, None, Some, IsSome, slice_get, slice_index_or, option_and_then, replicate, length-append, vec_len, cond, get_or, set, get_or-set_same, get_or-set_other}
+use Rattle.std.proofs.Common.{◌≡◌, ◌≢◌, ℕ, zero, suc, ◌+◌, ◌<◌, ◌≤◌, nat_eq, eqb, Bool, true, false, ◌||◌, ◌⊎◌, ⊎_elim, inl, inr, List, [], ◌∷◌, ◌++◌, length, map, refl, sym, ap, subst, ◌∙◌, true≢false, arith, Option, None, Some, IsSome, IfSome, IfNone, slice_get, slice_index_or, option_and_then, replicate, length-append, vec_len, cond, get_or, set, get_or-set_same, get_or-set_other}
 use Rattle.std.specs.Option.{option_map}
 use Rattle.std.proofs.lemmas.Bool.Decides.{nat_tests, eqb_tells}
 use Rattle.std.proofs.lemmas.List.{length-set, length-replicate, get_or_default}
@@ -335,3 +335,7 @@ more_lists p p' ls n true s places ends count =
     (length-append ls (replicate n []) ∙ ap (λ k. length ls + k) (length-replicate n []) ∙ ap (λ k. k + n) (s.count ∙ sym p.ends.ok.0) ∙ sym count ∙ p'.ends.ok.0)
 more_lists p p' ls n false s places ends count =
     same_pointers p p' ls ls s (λ k. ap (λ (q : List (Option Place)). get_or q k None) places) ends (λ l. refl) (s.count ∙ sym p.ends.ok.0 ∙ sym count ∙ p'.ends.ok.0)
+
+pub list_tells : (p : Pointers) (ls : List (List ℕ)) → Stands p ls → (node : ℕ) (o : Option ℕ) → o ≡ list_of p node → IfSome o (λ l. has (nodes_in ls l) node ≡ true) × IfNone o (IsOnNone ls node)
+list_tells p ls s node None e = (tt, λ l. lacks_from node (nodes_in ls l) (λ h. none_apart l (e ∙ s.members l node h)))
+list_tells p ls s node (Some l) e = (s.on l node (sym e), tt)

@@ -42,7 +42,7 @@ impl Model for Links {
 }
 
 impl Links {
-    ghost use Rattle.std.specs.Prelude.{ℕ, [], ◌∷◌, ◌++◌, true, false, length, map, replicate, slice_get, slice_set, OnOk, OnErr, is_ok, if◌then◌else◌};
+    ghost use Rattle.std.specs.Prelude.{ℕ, [], ◌∷◌, ◌++◌, true, false, length, map, replicate, slice_get, slice_set, IfSome, IfNone, OnOk, OnErr, is_ok, if◌then◌else◌};
     ghost use Rattle.std.specs.FinSet as set;
     ghost use Rattle.ufs_links.specs.Nodes.{has, without, next_in, IsOnNone, IsOnOne};
     ghost use Rattle.ufs_links.specs.Linked.{lists_in, nodes_of, with_lists_of, no_links};
@@ -84,6 +84,17 @@ impl Links {
         self.released.reserve(nodes as usize)?;
         self.nodes = nodes as u32;
         Ok(())
+    }
+
+    /// The list of the kind that the node is on.
+    pub fn list_of(&self, which: Which, node: u32) -> Option<u32>
+        ensures on { IfSome result (λ list. has (nodes_of self.now which list) node ≡ true) }
+        ensures off { IfNone result (IsOnNone (lists_in self.now which) node) }
+    {
+        match which {
+            Which::First => self.first.list_of(node),
+            Which::Second => self.second.list_of(node),
+        }
     }
 
     /// How many lists of the kind there are: their numbers are those below.

@@ -1,5 +1,5 @@
 // Lists of nodes by index, each node on at most one of them.
-ghost use Rattle.std.specs.Prelude.{◌≡◌, ℕ, ◌+◌, ◌^◌, ◌<◌, ◌≤◌, true, [], ◌∷◌, ◌++◌, length, map, replicate, slice_get, slice_set, Some, OnOk, is_ok, if◌then◌else◌};
+ghost use Rattle.std.specs.Prelude.{◌≡◌, ℕ, ◌+◌, ◌^◌, ◌<◌, ◌≤◌, true, [], ◌∷◌, ◌++◌, length, map, replicate, slice_get, slice_set, Some, IfSome, IfNone, OnOk, is_ok, if◌then◌else◌};
 ghost use Rattle.ufs_links.specs.Nodes.{has, nodes_in, next_in, without, IsOnNone, IsOnOne};
 
 use crate::pointers::Pointers;
@@ -59,6 +59,13 @@ impl Lists {
         ensures lists { self.new.lists ≡ (if is_ok result then self.old.lists ++ replicate count [] else self.old.lists) }
     {
         self.pointers.add_ends(count)
+    }
+
+    pub(crate) fn list_of(&self, node: u32) -> Option<u32>
+        ensures on { IfSome result (λ list. has (nodes_in self.now.lists list) node ≡ true) }
+        ensures off { IfNone result (IsOnNone self.now.lists node) }
+    {
+        self.pointers.list_of(node)
     }
 
     pub(crate) fn list_count(&self) -> usize

@@ -57,6 +57,19 @@ impl Pointers {
         Ok(())
     }
 
+    /// The list that the node is on.
+    pub(crate) fn list_of(&self, node: u32) -> Option<u32>
+        ensures { result ≡ list_of self.now node }
+    {
+        if node as usize >= self.places.len() {
+            return None;
+        }
+        match self.places[node as usize] {
+            Some(place) => Some(place.list),
+            None => None,
+        }
+    }
+
     pub(crate) fn after(&self, list: u32, at: Option<u32>) -> Option<u32>
         requires list { list < vec_len self.now.ends }
         requires placed { IsPlaced self.now at }
