@@ -1,2 +1,5 @@
 mod PlaceLemmas
 mod ChangeLemmas
+mod CountLemmas
+mod KeptLemmas
+mod StepLemmas

@@ -129,8 +129,8 @@ module _ {S : Type 0} (places places' : HashMap ℕ ℕ S) (records records' : S
         get-files_of places' records' q
         ∙ same_under q (eqb file q) (hash.get nat_eq places q) (hash.get nat_eq places' q) (gain q) (λ t k. others q k t)
         ∙ sym (get-insert nat_cmp_total (files_of places records) file r.standing q
-          ∙ ap (λ t. cond t (Some r.standing) (fin.get (files_of places records) q)) (ties_back q file)
-          ∙ ap (cond (eqb file q) (Some r.standing)) (get-files_of places records q)))
+        ∙ ap (λ t. cond t (Some r.standing) (fin.get (files_of places records) q)) (ties_back q file)
+        ∙ ap (cond (eqb file q) (Some r.standing)) (get-files_of places records q)))
 
     stays_placed : ArePlaced places records → r.file ≡ file → PlacesGain (Some place) → ((q k : ℕ) → eqb file q ≡ false → hash.get nat_eq places q ≡ Some k → k ≢ place) → (q k : ℕ) → hash.get nat_eq places' q ≡ Some k → file_under records' k ≡ Some q
     unfolding file_under
@@ -169,8 +169,8 @@ module _ {S : Type 0} (places places' : HashMap ℕ ℕ S) (records records' : S
         get-files_of places' records' q
         ∙ gone_under (eqb file q) (hash.get nat_eq places q) (hash.get nat_eq places' q) (gain q) (λ t k. apart are here q k t)
         ∙ sym (get-remove nat_cmp_total (files_of places records) file q
-          ∙ ap (λ t. cond t None (fin.get (files_of places records) q)) (ties_back q file)
-          ∙ ap (cond (eqb file q) None) (get-files_of places records q)))
+        ∙ ap (λ t. cond t None (fin.get (files_of places records) q)) (ties_back q file)
+        ∙ ap (cond (eqb file q) None) (get-files_of places records q)))
 
     pub ArePlaced-remove : slab_len records' ≤ records'.capacity → ArePlaced places' records'
     ArePlaced-remove fits = record { placed = λ q k there. by q k (eqb file q) refl (sym (gain q) ∙ there); within = fits }

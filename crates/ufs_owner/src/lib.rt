@@ -4,6 +4,7 @@
 mod clients;
 mod owner;
 mod records;
+mod table;
 
 pub use owner::Owner;
-pub use records::Records;
+pub use table::OwnerTable;

@@ -4,6 +4,7 @@ ghost use Rattle.std.specs.HashMap as hash;
 ghost use Rattle.slab.specs.Slab.{get, slab_len, Updates, SameValues};
 ghost use Rattle.ufs_owner.specs.Changed.{owned, awaited};
 ghost use Rattle.ufs_owner.specs.Clients.{is_another};
+ghost use Rattle.ufs_owner.specs.Owners.{is_known};
 
 use crate::clients::ClientList;
 use crate::owner::{Owner, Standing};
@@ -40,10 +41,10 @@ impl Model for Records {
 }
 
 impl Records {
-    ghost use Rattle.std.specs.Prelude.{◌≡◌, ◌≤◌, ◌<◌, ◌+◌, ◌++◌, ◌∷◌, [], None, OnErr, OnOk, IsSome, option_copied, filter};
+    ghost use Rattle.std.specs.Prelude.{◌≡◌, ◌≤◌, ◌<◌, ◌+◌, ◌++◌, ◌∷◌, [], None, OnErr, OnOk, IsSome, is_some, option_copied, filter};
     ghost use Rattle.std.specs.FinMap as map;
     ghost use Rattle.ufs_owner.specs.Clients.{is_another};
-    ghost use Rattle.ufs_owner.specs.Owners.{standing_at};
+    ghost use Rattle.ufs_owner.specs.Owners.{standing_at, is_known, with_standing};
     ghost use Rattle.ufs_owner.specs.Records.{Kept};
 
     /// Takes no memory.
@@ -66,6 +67,12 @@ impl Records {
             Some(record) => Some(&record.standing),
             None => unreachable!(),
         }
+    }
+
+    pub fn has(&self, file: u32) -> bool
+        ensures { result ≡ is_some (map.get self.now.files file) }
+    {
+        self.get(file).is_some()
     }
 
     /// Makes room for as many more files.
@@ -140,6 +147,33 @@ impl Records {
         };
         let _record = self.records.try_remove(place);
     }
+
+    fn knows(&self, file: u32) -> bool
+        ensures { result ≡ is_known (standing_at self.now.files file) }
+    {
+        match self.get(file) {
+            Some(standing) => is_known(standing),
+            None => false,
+        }
+    }
+
+    /// Drops the record of a file of which nothing is known any more. Takes no memory.
+    pub fn forget_unknown(&mut self, file: u32)
+        requires { IsSome (map.get self.old.files file) }
+        ensures files { self.new.files ≡ with_standing self.old.files file (standing_at self.old.files file) }
+        ensures room { self.old.room ≤ self.new.room }
+    {
+        if !self.knows(file) {
+            self.remove(file);
+        }
+    }
+}
+
+/// Whether the file isn't at the primary, or a client waits for it.
+fn is_known(standing: &Standing) -> bool
+    ensures { result ≡ is_known standing.now }
+{
+    standing.owner != Owner::Primary || !standing.waiting.is_empty()
 }
 
 /// Where the file's record is.
