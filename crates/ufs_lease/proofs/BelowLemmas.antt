@@ -1,9 +1,8 @@
 -- Paths as lists of components, one name at a time.
-use Rattle.std.proofs.Common.{◌≡◌, ◌≢◌, ℕ, List, [], ◌∷◌, Bool, true, false, cond, ap, sym, refl, ◌∙◌, length, take, bytes_eq, ◌&&◌}
+use Rattle.std.proofs.Common.{◌≡◌, ◌≢◌, ℕ, List, [], ◌∷◌, Bool, true, false, ap, sym, refl, ◌∙◌, bytes_eq, ◌&&◌}
 use Rattle.std.specs.List.{starts_with}
-use Rattle.std.proofs.lemmas.Slice.Eq.{bytes_eq-Decides}
 use Rattle.ufs_model.specs.Paths.{components}
-use Rattle.ufs_model.specs.Facts.Pieces.{same_bytes, bytes_same}
+use Rattle.ufs_model.proofs.Facts.Pieces.{same_bytes, bytes_same}
 use Rattle.ufs_lease.specs.Leases.{is_at_or_below}
 
 module _ (above path : List ℕ) where

@@ -1,6 +1,6 @@
 -- The first component of a path's text.
-use Rattle.std.proofs.Common.{◌≡◌, ◌≢◌, ◌<◌, ℕ, zero, suc, List, [], ◌∷◌, Bool, true, false, cond, not, ◌+◌, ◌-◌, eqb, length, take, drop, filter, ap, sym, refl, ◌∙◌, arith, length-drop}
-use Rattle.std.specs.Prelude.{nat_lt, unwrap_or, Some, None, Option}
+use Rattle.std.proofs.Common.{◌≡◌, ◌<◌, ℕ, zero, suc, List, [], ◌∷◌, Bool, true, false, cond, not, ◌+◌, ◌-◌, eqb, length, take, drop, filter, ap, sym, refl, ◌∙◌, arith, length-drop}
+use Rattle.std.specs.Prelude.{nat_lt, unwrap_or, Some, None}
 use Rattle.std.proofs.lemmas.List.{take_all}
 use Rattle.std.proofs.lemmas.List.Sums.{prefix_len-le-length}
 use Rattle.std.proofs.lemmas.Bool.{cond-true, lt-ltb, ltb-false}

@@ -1,5 +1,5 @@
 -- Which leases stand against a change.
-use Rattle.std.specs.Prelude.{ℕ, List, Bool, not, ◌==◌, ◌≡◌, ◌≢◌, ◌<◌, ◌^◌, All, IsTrue}
+use Rattle.std.specs.Prelude.{ℕ, List, Bool, not, ◌==◌, ◌≢◌, ◌<◌, ◌^◌, All, IsTrue}
 use Rattle.std.specs.List.{starts_with}
 use Rattle.std.specs.Str.{bytes_eq}
 use Rattle.ufs_model.specs.Paths.{components}

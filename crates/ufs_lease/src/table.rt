@@ -5,7 +5,8 @@ ghost use Rattle.ufs_lease.specs.Leases.{IsOnPath};
 use crate::path::is_at_or_below;
 use std::alloc::Global;
 use std::marker::Model;
-use ufs_model::{Fact, Lease, Memory};
+use ufs_base::Memory;
+use ufs_model::{Fact, Lease};
 
 /// The leases on one part, a file or the names, in the order in which they were granted. A lease whose time is up
 /// stays until it is given back, and stands against nothing.

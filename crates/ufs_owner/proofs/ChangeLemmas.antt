@@ -11,7 +11,7 @@ use Rattle.ufs_owner.specs.declared.owner.Standing.{Standing}
 use Rattle.ufs_owner.specs.declared.records.Record.{Record}
 use Rattle.ufs_owner.specs.Owners.{Files, nothing_known, standing_at}
 use Rattle.ufs_owner.specs.Records.{standing_under, files_of, ArePlaced}
-use Rattle.ufs_owner.proofs.PlaceLemmas.{has_record, own_record, found, get-files_of, no_place, not_found, same_files, PlacesGain, files_of-change, ArePlaced-change}
+use Rattle.ufs_owner.proofs.PlaceLemmas.{has_record, own_record, found, get-files_of, not_found, same_files, PlacesGain, files_of-change, ArePlaced-change}
 
 module _ {S : Type 0} (places : HashMap ℕ ℕ S) (records : Slab Record) (are : ArePlaced places records) (file place : ℕ) (here : hash.get nat_eq places file ≡ Some place) where
   pub some_record : IsSome (get records place)

@@ -3,3 +3,4 @@ mod ChangeLemmas
 mod CountLemmas
 mod KeptLemmas
 mod StepLemmas
+pub mod OwnerFacts

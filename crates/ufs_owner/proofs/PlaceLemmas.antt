@@ -13,7 +13,6 @@ use Rattle.std.specs.FinMap as fin
 use Rattle.std.specs.FinMap.{find, same_map, nat_cmp-IsAntisymmetric, get-from_entries, get-insert, get-remove}
 use Rattle.std.proofs.lemmas.Bool.{eqb-true, eq-eqb}
 use Rattle.slab.specs.Slab.{Slab, Updates, get, slab_len}
-use Rattle.ufs_owner.specs.declared.owner.Standing.{Standing}
 use Rattle.ufs_owner.specs.declared.records.Record.{Record}
 use Rattle.ufs_owner.specs.Owners.{Files, nothing_known}
 use Rattle.ufs_owner.specs.Records.{standing_under, listed, files_of, ArePlaced}

@@ -1,5 +1,5 @@
 -- The counts of an owner table after each of its calls.
-use Rattle.std.proofs.Common.{◌≡◌, ◌≢◌, ◌≤◌, ◌<◌, ◌^◌, ℕ, ◌+◌, ◌-◌, List, [], ◌∷◌, ◌++◌, Bool, true, false, cond, not, ◌&&◌, ◌||◌, Option, Some, None, ap, sym, refl, ◌∙◌, arith, eqb, length, IsTrue, subst, rules, Contains, Result, Ok, Err, OnOk, OnErr}
+use Rattle.std.proofs.Common.{◌≡◌, ◌≢◌, ◌≤◌, ◌<◌, ℕ, ◌+◌, ◌-◌, List, [], ◌∷◌, ◌++◌, Bool, true, false, cond, not, ◌&&◌, Option, Some, None, ap, sym, refl, ◌∙◌, arith, eqb, length, IsTrue, Contains, Result, Ok, Err, OnOk, OnErr}
 use Rattle.std.specs.Prelude.{unwrap_or, slice_index, slice_set, IsSome, replicate, is_some, map as map_list}
 use Rattle.std.specs.FinMap as map
 use Rattle.std.specs.List.{count_by}
@@ -9,10 +9,10 @@ use Rattle.std.proofs.lemmas.List.{length-set, length-replicate, get_or-replicat
 use Rattle.ufs_owner.specs.declared.owner.Owner.{Owner}
 use Rattle.ufs_owner.specs.declared.owner.Owner.TheVariants.{Primary, Worker, Coming, Going}
 use Rattle.ufs_owner.specs.declared.owner.Standing.{Standing}
-use Rattle.ufs_owner.specs.Owners.{Files, standing_at, owner_at, waiting_at, nothing_known, is_primary, is_with, count_out, count_with, is_coming, is_going, is_out, is_known, has_none, recalled, with_standing}
+use Rattle.ufs_owner.specs.Owners.{Files, standing_at, owner_at, waiting_at, nothing_known, is_primary, is_with, count_out, count_with, is_coming, is_out, is_known, has_none, recalled, with_standing}
 use Rattle.ufs_owner.specs.Records.{Kept}
 use Rattle.ufs_owner.specs.Counted.{AreKept}
-use Rattle.ufs_owner.proofs.KeptLemmas.{out_one, with_one, known_at, AreKept-new, AreKept-change, AreKept-standing, AreKept-same, workers_more, workers_less, with_some, out_some}
+use Rattle.ufs_owner.proofs.KeptLemmas.{out_one, with_one, AreKept-new, AreKept-change, AreKept-standing, AreKept-same, workers_more, workers_less, with_some, out_some}
 
 -- ---- servers
 

@@ -2,7 +2,7 @@
 use Rattle.std.specs.Prelude.{ℕ, List, ◌≡◌, ◌≤◌, ◌<◌, ◌+◌, ◌^◌, Some, true, length, slice_index}
 use Rattle.std.specs.FinMap as map
 use Rattle.ufs_owner.specs.declared.owner.Standing.{Standing}
-use Rattle.ufs_owner.specs.Owners.{Files, is_known, count_out, count_with}
+use Rattle.ufs_owner.specs.Owners.{is_known, count_out, count_with}
 use Rattle.ufs_owner.specs.Records.{Kept}
 
 -- the counts are those of the files, and as many more files as are spared fit, in memory and in the counts

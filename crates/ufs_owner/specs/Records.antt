@@ -1,5 +1,5 @@
 -- How the files are kept: a place for each, in a table of records that picks the places.
-use Rattle.std.specs.Prelude.{ℕ, List, ◌≡◌, ◌-◌, ◌≤◌, ◌<◌, Some, Option, min, map, nat_eq, unwrap_or, refl}
+use Rattle.std.specs.Prelude.{ℕ, List, ◌≡◌, ◌-◌, ◌≤◌, Some, min, map, nat_eq, unwrap_or, refl}
 use Rattle.std.specs.Coded.{Coded, code_by, coded×, coded_ℕ}
 use Rattle.std.specs.Option.{option_map}
 use Rattle.std.specs.HashMap as hash

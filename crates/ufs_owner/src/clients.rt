@@ -1,7 +1,7 @@
 // Clients in the order in which they came.
 use std::alloc::Global;
 use std::marker::Model;
-use ufs_model::Memory;
+use ufs_base::Memory;
 
 /// Clients in the order in which they came.
 #[derive(Drop)]

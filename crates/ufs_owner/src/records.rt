@@ -12,7 +12,7 @@ use slab::Slab;
 use std::alloc::Global;
 use std::collections::HashMap;
 use std::marker::Model;
-use ufs_model::Memory;
+use ufs_base::Memory;
 
 #[derive(Drop)]
 struct Record {

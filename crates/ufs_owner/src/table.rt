@@ -8,7 +8,7 @@ use crate::owner::{Owner, Standing};
 use crate::records::Records;
 use std::alloc::Global;
 use std::marker::Model;
-use ufs_model::Memory;
+use ufs_base::Memory;
 
 /// Which server has each file, and which clients wait for it, in order. A file of which nothing is known is at the
 /// primary, and nobody waits for it. Each call takes the time of a look-up by hash, whatever the number of files; those

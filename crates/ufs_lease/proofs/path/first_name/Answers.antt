@@ -1,6 +1,6 @@
-use Rattle.std.proofs.Common.{sym, ◌∙◌, ◌<◌, length, take, drop, ◌-◌, refl, arith, rules}
+use Rattle.std.proofs.Common.{sym, ◌∙◌, ◌<◌, length, take, drop, ◌-◌, refl, rules}
 use Rattle.std.proofs.lemmas.Bool.{eqb-true}
-use Rattle.ufs_lease.proofs.NameLemmas.{no_name, a_name, a_name-some}
+use Rattle.ufs_lease.proofs.NameLemmas.{no_name, a_name}
 use Rattle.ufs_lease.proofs.path.first_name.Goals as goal
 
 pub returns-then-is_empty-clause-none : goal.returns-then-is_empty-clause-none

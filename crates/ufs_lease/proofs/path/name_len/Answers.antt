@@ -1,4 +1,4 @@
-use Rattle.std.proofs.Common.{ap, ◌∙◌, ◌==◌, not, length}
+use Rattle.std.proofs.Common.{ap, ◌∙◌, ◌==◌, length}
 use Rattle.std.specs.Prelude.{unwrap_or}
 use Rattle.ufs_lease.proofs.NameLemmas.{found_or_len}
 use Rattle.ufs_lease.proofs.path.name_len.Goals as goal

@@ -1,4 +1,4 @@
-use Rattle.std.proofs.Common.{ap, ◌∙◌, ◌<◌, ◌^◌, filter, rules, All, subst, sym}
+use Rattle.std.proofs.Common.{ap, ◌∙◌, ◌<◌, ◌^◌, filter, rules, subst, sym}
 use Rattle.std.proofs.lemmas.Fn.{filter_same}
 use Rattle.std.proofs.lemmas.List.Elements.{All-filter}
 use Rattle.ufs_lease.specs.Leases.{is_of_another, AreInTime}

@@ -1,9 +1,8 @@
-use Rattle.std.proofs.Common.{rules, ℕ, ap, sym, ◌∙◌, refl, arith, ◌≤◌, ◌++◌, ◌∷◌, []}
+use Rattle.std.proofs.Common.{rules, ℕ, ap, sym, ◌∙◌, refl, ◌≤◌, ◌++◌, ◌∷◌, []}
 use Rattle.std.specs.FinMap as fin
 use Rattle.std.proofs.lemmas.Result.{on_ok_weaker}
 use Rattle.slab.specs.Slab.{slab_len}
-use Rattle.ufs_owner.specs.Changed.{owned, awaited}
-use Rattle.ufs_owner.specs.Clients.{is_another}
+use Rattle.ufs_owner.specs.Changed.{awaited}
 use Rattle.ufs_owner.specs.declared.owner.Standing.{Standing}
 use Rattle.ufs_owner.specs.declared.records.Record.{Record}
 use Rattle.ufs_owner.specs.Owners.{standing_at}

@@ -1,7 +1,7 @@
-use Rattle.std.proofs.Common.{rules, ap, sym, ◌∙◌, refl, arith, ◌≤◌, filter}
+use Rattle.std.proofs.Common.{rules, ap, sym, ◌∙◌, refl, ◌≤◌, filter}
 use Rattle.std.specs.FinMap as fin
 use Rattle.slab.specs.Slab.{slab_len}
-use Rattle.ufs_owner.specs.Changed.{owned, awaited}
+use Rattle.ufs_owner.specs.Changed.{awaited}
 use Rattle.ufs_owner.specs.Clients.{is_another}
 use Rattle.ufs_owner.specs.declared.owner.Standing.{Standing}
 use Rattle.ufs_owner.specs.declared.records.Record.{Record}

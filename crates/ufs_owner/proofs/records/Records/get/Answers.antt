@@ -1,4 +1,4 @@
-use Rattle.std.proofs.Common.{ap, sym, ◌∙◌, ◌≡◌, Some}
+use Rattle.std.proofs.Common.{ap, sym, ◌∙◌}
 use Rattle.std.specs.FinMap as fin
 use Rattle.ufs_owner.proofs.PlaceLemmas.{has_record, found, not_found}
 use Rattle.ufs_owner.proofs.records.Records.get.Goals as goal

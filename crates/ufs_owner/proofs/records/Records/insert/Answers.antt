@@ -1,8 +1,8 @@
-use Rattle.std.proofs.Common.{rules, ap, sym, ◌∙◌, refl, arith, ◌≤◌}
+use Rattle.std.proofs.Common.{rules, ap, ◌∙◌, refl, ◌≤◌}
 use Rattle.std.specs.FinMap as fin
 use Rattle.ufs_owner.specs.declared.records.Record.{Record}
 use Rattle.slab.specs.Slab.{slab_len}
-use Rattle.ufs_owner.proofs.PlaceLemmas.{no_place, files_of-insert, ArePlaced-insert}
+use Rattle.ufs_owner.proofs.PlaceLemmas.{files_of-insert, ArePlaced-insert}
 use Rattle.ufs_owner.proofs.records.Records.insert.Goals as goal
 
 pub invariant_of-self : goal.invariant_of-self

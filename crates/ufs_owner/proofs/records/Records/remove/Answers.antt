@@ -1,4 +1,4 @@
-use Rattle.std.proofs.Common.{ap, sym, ◌∙◌, refl, arith, ◌≤◌}
+use Rattle.std.proofs.Common.{ap, sym, ◌∙◌, ◌≤◌}
 use Rattle.std.specs.FinMap as fin
 use Rattle.slab.specs.Slab.{slab_len}
 use Rattle.ufs_owner.proofs.PlaceLemmas.{files_of-remove, ArePlaced-remove}

@@ -1,4 +1,4 @@
-use Rattle.std.proofs.Common.{ap, sym, ◌∙◌, refl}
+use Rattle.std.proofs.Common.{ap, ◌∙◌}
 use Rattle.ufs_owner.proofs.PlaceLemmas.{files_of-reordered}
 use Rattle.ufs_owner.proofs.records.Records.reserve.Goals as goal
 

@@ -1,5 +1,4 @@
-use Rattle.std.proofs.Common.{ap, sym, ◌∙◌, refl, subst, IsTrue, arith, ◌≡◌, ◌<◌, ◌≤◌}
-use Rattle.std.specs.FinMap as map
+use Rattle.std.proofs.Common.{ap, sym, ◌∙◌, refl, subst, IsTrue, arith, ◌≡◌, ◌<◌}
 use Rattle.ufs_owner.specs.declared.owner.Owner.TheVariants.{Coming}
 use Rattle.ufs_owner.specs.declared.owner.Standing.{Standing}
 use Rattle.ufs_owner.specs.Owners.{standing_at, owner_at, is_out, recalled}

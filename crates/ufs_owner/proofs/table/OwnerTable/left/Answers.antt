@@ -1,6 +1,5 @@
-use Rattle.std.proofs.Common.{ap, sym, ◌∙◌, refl, subst, IsTrue, arith, ◌≡◌, ◌≤◌}
-use Rattle.std.specs.FinMap as map
-use Rattle.ufs_owner.specs.declared.owner.Owner.TheVariants.{Going, Worker}
+use Rattle.std.proofs.Common.{ap, sym, ◌∙◌, refl, subst, IsTrue, arith}
+use Rattle.ufs_owner.specs.declared.owner.Owner.TheVariants.{Worker}
 use Rattle.ufs_owner.specs.Owners.{standing_at, owner_at, is_going}
 use Rattle.ufs_owner.proofs.KeptLemmas.{known_at, out_one, with_one}
 use Rattle.ufs_owner.proofs.StepLemmas.{counts_stay}

@@ -1,7 +1,7 @@
-use Rattle.std.proofs.Common.{ap, sym, ◌∙◌, refl, subst, IsTrue, arith, ◌≡◌, ◌≤◌, cond, true}
+use Rattle.std.proofs.Common.{ap, sym, ◌∙◌, refl, subst, IsTrue, arith, ◌≡◌, cond, true}
 use Rattle.std.specs.FinMap as map
 use Rattle.ufs_owner.specs.declared.owner.Standing.{Standing}
-use Rattle.ufs_owner.specs.Owners.{standing_at, owner_at, is_coming, is_known, has_none, with_standing}
+use Rattle.ufs_owner.specs.Owners.{standing_at, owner_at, is_coming, is_known, has_none}
 use Rattle.ufs_owner.proofs.KeptLemmas.{known_at, out_one, with_one}
 use Rattle.ufs_owner.proofs.StepLemmas.{counts_stay, coming_known}
 use Rattle.ufs_owner.proofs.table.OwnerTable.renote.Goals as goal

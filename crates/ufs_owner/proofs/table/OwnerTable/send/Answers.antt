@@ -1,4 +1,4 @@
-use Rattle.std.proofs.Common.{ap, sym, ◌∙◌, refl, arith, ◌≡◌, ◌<◌, ◌≤◌, max, List, ℕ}
+use Rattle.std.proofs.Common.{ap, ◌∙◌, arith, ◌<◌, List, ℕ}
 use Rattle.ufs_owner.specs.declared.owner.Owner.TheVariants.{Going}
 use Rattle.std.specs.FinMap as map
 use Rattle.ufs_owner.specs.Owners.{owner_at, waiting_at}

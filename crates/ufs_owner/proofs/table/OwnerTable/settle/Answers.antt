@@ -1,9 +1,8 @@
-use Rattle.std.proofs.Common.{ap, sym, ◌∙◌, refl, subst, IsTrue, arith, ◌≡◌, ◌≤◌, Some}
-use Rattle.std.specs.FinMap as map
+use Rattle.std.proofs.Common.{ap, sym, ◌∙◌, refl, subst, IsTrue, arith}
 use Rattle.ufs_owner.specs.declared.owner.Owner.TheVariants.{Primary}
 use Rattle.ufs_owner.specs.declared.owner.Standing.{Standing}
-use Rattle.ufs_owner.specs.Owners.{Owners, standing_at, owner_at, is_coming, with_owner, with_standing}
-use Rattle.ufs_owner.proofs.KeptLemmas.{known_at, out_one, with_one, out_some, standing_after, known_put}
+use Rattle.ufs_owner.specs.Owners.{Owners, standing_at, owner_at, is_coming, with_owner}
+use Rattle.ufs_owner.proofs.KeptLemmas.{known_at, out_some, standing_after, known_put}
 use Rattle.ufs_owner.proofs.StepLemmas.{kept_settled, coming_counts}
 use Rattle.ufs_owner.proofs.table.OwnerTable.settle.Goals as goal
 

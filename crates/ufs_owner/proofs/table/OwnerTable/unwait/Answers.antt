@@ -1,5 +1,4 @@
-use Rattle.std.proofs.Common.{ap, sym, ◌∙◌, refl, subst, arith, ◌≡◌, ◌≤◌, Some, filter, Contains}
-use Rattle.std.specs.FinMap as map
+use Rattle.std.proofs.Common.{ap, sym, ◌∙◌, subst, arith, filter, Contains}
 use Rattle.ufs_owner.specs.Clients.{is_another}
 use Rattle.ufs_owner.specs.declared.owner.Standing.{Standing}
 use Rattle.ufs_owner.specs.Owners.{Owners, standing_at, waiting_at, nothing_known, with_waiting}

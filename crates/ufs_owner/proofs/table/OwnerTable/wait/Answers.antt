@@ -1,9 +1,6 @@
-use Rattle.std.proofs.Common.{ap, sym, ◌∙◌, refl, arith, ◌≡◌, ◌≢◌, ◌≤◌, ◌++◌, ◌∷◌, [], List, ℕ, Some, None, Option}
-use Rattle.std.specs.Prelude.{IsSome, is_some, unwrap_or}
+use Rattle.std.proofs.Common.{ap, sym, ◌∙◌, arith, ◌≡◌, ◌++◌, ◌∷◌, [], List, ℕ}
 use Rattle.std.specs.FinMap as map
 use Rattle.ufs_owner.specs.declared.owner.Owner.TheVariants.{Primary}
-use Rattle.ufs_owner.specs.declared.owner.Standing.{Standing}
-use Rattle.ufs_owner.specs.Owners.{standing_at, waiting_at, nothing_known}
 use Rattle.ufs_owner.proofs.StepLemmas.{kept_waits, kept_awaited, none_of}
 use Rattle.ufs_owner.proofs.table.OwnerTable.wait.Goals as goal
 
