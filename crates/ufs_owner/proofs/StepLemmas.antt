@@ -1,15 +1,18 @@
 -- The counts of an owner table after each of its calls.
-use Rattle.std.proofs.Common.{◌≡◌, ◌≢◌, ◌≤◌, ◌<◌, ℕ, ◌+◌, ◌-◌, List, [], ◌∷◌, ◌++◌, Bool, true, false, cond, not, ◌&&◌, Option, Some, None, ap, sym, refl, ◌∙◌, arith, eqb, length, IsTrue, Contains, Result, Ok, Err, OnOk, OnErr}
+use Rattle.std.proofs.Common.{◌≡◌, ◌≢◌, ◌≤◌, ◌<◌, ℕ, ◌+◌, ◌-◌, List, [], ◌∷◌, ◌++◌, Bool, true, false, cond, not, ◌&&◌, Option, Some, None, ap, sym, refl, ◌∙◌, arith, eqb, length, filter, IsTrue, Result, Ok, Err, OnOk, OnErr}
 use Rattle.std.specs.Prelude.{unwrap_or, slice_index, slice_set, IsSome, replicate, is_some, map as map_list}
 use Rattle.std.specs.FinMap as map
 use Rattle.std.specs.List.{count_by}
 use Rattle.std.specs.Ordering.{nat_cmp}
-use Rattle.std.proofs.lemmas.Bool.{eq-eqb}
+use Rattle.std.proofs.lemmas.Bool.{eq-eqb, eqb-true}
 use Rattle.std.proofs.lemmas.List.{length-set, length-replicate, get_or-replicate}
 use Rattle.ufs_owner.specs.declared.owner.Owner.{Owner}
 use Rattle.ufs_owner.specs.declared.owner.Owner.TheVariants.{Primary, Worker, Coming, Going}
 use Rattle.ufs_owner.specs.declared.owner.Standing.{Standing}
-use Rattle.ufs_owner.specs.Owners.{Files, standing_at, owner_at, waiting_at, nothing_known, is_primary, is_with, count_out, count_with, is_coming, is_out, is_known, has_none, recalled, with_standing}
+use Rattle.ufs_owner.specs.Owners.{Files, standing_at, owner_at, waiting_at, nothing_known, is_primary, is_with, count_out, count_with, is_coming, is_out, is_known, has_none, recalled, with_standing, with_waiting}
+use Rattle.std.specs.Cmp.{nat_cmp_total}
+use Rattle.std.specs.FinMap.{get-remove}
+use Rattle.ufs_owner.proofs.PlaceLemmas.{ties_back, same_files}
 use Rattle.ufs_owner.specs.Records.{Kept}
 use Rattle.ufs_owner.specs.Counted.{AreKept}
 use Rattle.ufs_owner.proofs.KeptLemmas.{out_one, with_one, AreKept-new, AreKept-change, AreKept-standing, AreKept-same, workers_more, workers_less, with_some, out_some}
@@ -55,13 +58,9 @@ waiting_known (Worker w) (x ∷ xs) some = refl
 waiting_known (Coming w) (x ∷ xs) some = refl
 waiting_known (Going w) (x ∷ xs) some = refl
 
--- a file for which somebody waits has a record
-pub known_waits : (files : Files) (file client : ℕ) → Contains (waiting_at files file) client → (old : Standing) × (map.get files file ≡ Some old)
-known_waits files file client there = by (map.get files file) refl there
-  where
-    by : (o : Option Standing) → map.get files file ≡ o → Contains (unwrap_or o nothing_known).waiting client → (old : Standing) × (map.get files file ≡ Some old)
-    by None e h = absurd (omega (arith, h.1))
-    by (Some old) e h = (old, e)
+pub known_some : {X : Type 0} (o : Option X) → is_some o ≡ true → (x : X) × (o ≡ Some x)
+known_some None e = cc
+known_some (Some x) e = (x, refl)
 
 -- a file that is at the primary, and for which nobody waits, has no record
 pub unknown_at : (k : Kept) (spare out : ℕ) (workers : List ℕ) → AreKept k spare out workers → (file : ℕ) → owner_at k.files file ≡ Primary → waiting_at k.files file ≡ [] → map.get k.files file ≡ None
@@ -166,3 +165,13 @@ kept_empty k is workers are = record {
 
     none : (p : Standing → Bool) → count_by p (map.values (map.empty {X = Standing} {R = nat_cmp})) ≡ 0
     none p = ap (λ (es : List (ℕ × Standing)). count_by p (map_list {B = Standing} (λ (e : ℕ × Standing). e.1) es)) entries-empty
+
+-- nobody waits any more for a file for which nobody waited
+pub none_waited : (files : Files) (file : ℕ) (p : ℕ → Bool) → map.get files file ≡ None → with_waiting files file (filter p (waiting_at files file)) ≡ files
+none_waited files file p none =
+    ap (λ o. with_standing files file (record (unwrap_or o nothing_known) { waiting = filter p (unwrap_or o nothing_known).waiting })) none
+    ∙ same_files _ _ (λ q. get-remove nat_cmp_total files file q ∙ ap (λ t. cond t None (map.get files q)) (ties_back q file) ∙ by q (eqb file q) refl)
+  where
+    by : (q : ℕ) (t : Bool) → eqb file q ≡ t → cond t None (map.get files q) ≡ map.get files q
+    by q true e = sym (ap (map.get files) (sym (eqb-true file q e)) ∙ none)
+    by q false e = refl

@@ -40,7 +40,7 @@ impl Model for OwnerTable {
 }
 
 impl OwnerTable {
-    ghost use Rattle.std.specs.Prelude.{◌≡◌, ◌≢◌, ◌≤◌, ◌<◌, ◌-◌, ◌++◌, ◌∷◌, [], ◌↔◌, OnErr, OnOk, IsOk, IsTrue, Contains, filter, max};
+    ghost use Rattle.std.specs.Prelude.{◌≡◌, ◌≢◌, ◌≤◌, ◌<◌, ◌-◌, ◌++◌, ◌∷◌, [], ◌↔◌, OnErr, OnOk, IsOk, IsTrue, filter, max};
     ghost use Rattle.std.specs.FinMap as map;
     ghost use Rattle.ufs_owner.specs.Clients.{is_another};
     ghost use Rattle.ufs_owner.specs.Owners.{owner_at, note_at, waiting_at, with_owner, with_waiting, is_coming, is_going, is_out, recalled, arrived, count_out, count_with};
@@ -209,11 +209,13 @@ impl OwnerTable {
         Ok(())
     }
 
-    /// A client that waits for the file waits no more; the others keep their order. Takes no memory.
+    /// The client waits for the file no more, if it did; the others keep their order. Takes no memory.
     pub fn unwait(&mut self, file: u32, client: u8)
-        requires { Contains (waiting_at self.old.files file) client }
         ensures { self.new ≡ record self.old { files = with_waiting self.old.files file (filter (is_another client) (waiting_at self.old.files file)) } }
     {
+        if !self.records.has(file) {
+            return;
+        }
         self.records.drop_client(file, client);
         self.records.forget_unknown(file);
     }
