@@ -41,6 +41,7 @@ impl Model for OwnerTable {
 
 impl OwnerTable {
     ghost use Rattle.std.specs.Prelude.{◌≡◌, ◌≢◌, ◌≤◌, ◌<◌, ◌-◌, ◌++◌, ◌∷◌, [], ◌↔◌, OnErr, OnOk, IsOk, IsTrue, filter, max};
+    ghost use Rattle.std.specs.Bool.{OnTrue, OnFalse};
     ghost use Rattle.std.specs.FinMap as map;
     ghost use Rattle.ufs_owner.specs.Clients.{is_another};
     ghost use Rattle.ufs_owner.specs.Owners.{owner_at, note_at, waiting_at, with_owner, with_waiting, is_coming, is_going, is_out, recalled, arrived, count_out, count_with};
@@ -72,7 +73,8 @@ impl OwnerTable {
 
     /// Whether a client waits for the file.
     pub fn waiting(&self, file: u32) -> bool
-        ensures { IsTrue result ↔ (waiting_at self.now.files file ≢ []) }
+        ensures somebody { OnTrue result (waiting_at self.now.files file ≢ []) }
+        ensures nobody { OnFalse result (waiting_at self.now.files file ≡ []) }
     {
         match self.records.get(file) {
             Some(standing) => !standing.waiting.is_empty(),
