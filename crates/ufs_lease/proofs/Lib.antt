@@ -1,2 +1,3 @@
 mod NameLemmas
 mod BelowLemmas
+mod Rows

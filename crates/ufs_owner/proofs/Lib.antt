@@ -4,3 +4,4 @@ mod CountLemmas
 mod KeptLemmas
 mod StepLemmas
 pub mod OwnerFacts
+mod Rows
