@@ -1,13 +1,14 @@
 -- The run of writes by which a transaction is appended.
-use Rattle.std.proofs.Common.{◌≡◌, inl, inr, ⊎_elim, ℕ, zero, suc, ◌+◌, ◌<◌, ◌≤◌, List, [], ◌∷◌, ◌++◌, Bool, true, false, ◌||◌, ◌&&◌, Some, length, take, drop, refl, ap, sym, ◌∙◌, arith, append_assoc}
-use Rattle.std.specs.Prelude.{◌==◌, not, nat_le}
+use Rattle.std.proofs.Common.{◌≡◌, inl, inr, ⊎_elim, ℕ, zero, suc, ◌+◌, ◌*◌, ◌/◌, ◌<◌, ◌≤◌, List, [], ◌∷◌, ◌++◌, Bool, true, false, ◌||◌, ◌&&◌, Some, length, take, drop, refl, ap, sym, ◌∙◌, subst, ◌⊎◌, arith, append_assoc, length-append, take-append-drop}
+use Rattle.std.specs.Prelude.{◌==◌, not, nat_le, if◌then◌else◌}
 use Rattle.std.specs.List.{list_any, list_all}
 use Rattle.std.proofs.lemmas.Bool.{and_left, and_right, and_cases, and_parts, leb-true, leb-false, lt-leb}
-use Rattle.std.proofs.lemmas.List.{append-nil, drop-drop, drop_all, length-take-le, length-drop, length_push}
+use Rattle.std.proofs.lemmas.List.{append-nil, drop-drop, drop_all, drop_at, length-take-le, length-drop, length_push, take_all, take-append-le, take-take, drop-take}
 use Rattle.ufs_base.specs.Images.{Image}
-use Rattle.ufs_disk.specs.Disk.{State, Leaves, IsPartlyWritten, overwritten, put}
+use Rattle.ufs_disk.specs.Disk.{State, Leaves, IsPartlyWritten, Mixes, overwritten, pieces, put, put_all, sectors_of}
 use Rattle.ufs_disk.specs.Moments.{Moments, LeavesOnly}
-use Rattle.ufs_disk.proofs.Images.{mixed_one, put_one, put_other}
+use Rattle.ufs_disk.proofs.Images.{mixed_one, put_one, put_other, mixes_first, put_all_below, put_all_above}
+use Rattle.ufs_disk.proofs.Flat.{length-pieces}
 use Rattle.ufs_disk.proofs.Runs.{weaker, goes_on, started}
 use Rattle.ufs_image.specs.Journal.{FoundSector}
 use Rattle.ufs_layout.specs.JournalSector.{JournalSector, HasRecords, journal_bytes, journal_of}
@@ -17,12 +18,13 @@ use Rattle.ufs_layout.specs.declared.geometry.Geometry.{Geometry}
 use Rattle.ufs_layout.specs.declared.records.LogRecord.{LogRecord}
 use Rattle.ufs_layout.specs.declared.records.LogRecord.TheVariants.{Delta, Place, Free}
 use Rattle.ufs_layout.proofs.RecordForms.{length-delta, length-place}
-use Rattle.ufs_journal.specs.Found.{found, is_of, is_from, commits_txn, journal_sector, IsFreeFrom}
-use Rattle.ufs_journal.specs.Filled.{sectors_of_records, sectors_at}
+use Rattle.ufs_journal.specs.Found.{found, is_of, is_from, commits_txn, journal_sector, IsFreeFrom, AgreeOffJournal}
+use Rattle.ufs_journal.specs.Filled.{filled, sectors_of_records, sectors_at}
+use Rattle.ufs_journal.specs.Spelled.{sector_of, spelled_sectors, joined, AreReadBack}
 use Rattle.ufs_journal.specs.Written.{HasSector, IsReadyFor, IsAppending, HasAppended}
 use Rattle.ufs_journal.proofs.Inserted.{any_none}
 use Rattle.ufs_journal.proofs.FilledLemmas.{next_sector as next_of}
-use Rattle.ufs_journal.proofs.AppendTurn.{says_itself, turn, turn_sector, found_put}
+use Rattle.ufs_journal.proofs.AppendTurn.{says_itself, turn_put, turn_without, found_put, free_put}
 
 -- a write of one sector of the journal
 module _ (keeps : Bool) (at sector : ℕ) (same : at ≡ sector) (j : JournalSector) (bytes : List ℕ) (sized : length bytes ≡ 512) (spells : bytes ≡ journal_bytes j) (old new : Moments) where
@@ -78,6 +80,9 @@ none_out p [] every = refl
 none_out p (x ∷ xs) every =
     let parts = and_parts (p x) (list_all p xs) every in
     λ i. not (parts.0 i) || none_out p xs parts.1 i
+
+pub part : (p : LogRecord → Bool) (records taken : List LogRecord) (at : ℕ) → taken ≡ take (length taken) (drop at records) → list_all p records ≡ true → list_all p taken ≡ true
+part p records taken at is every = ap (list_all p) is ∙ all_part p at (length taken) records every
 
 -- at least one record fits
 pub some_fit : (n : ℕ) (rs : List LogRecord) → 0 < length rs → list_all is_record rs ≡ true → (n < length rs → 488 < length (records_bytes (take (n + 1) rs))) → 1 ≤ n
@@ -146,16 +151,109 @@ module _ (keeps : Bool) (g : Geometry) (epoch txn place total : ℕ) (first : Mo
   pub begins : Leaves (IsReadyFor g epoch txn place) first.state → LeavesOnly keeps (IsAppending g epoch txn place total first.state) first first
   begins ready = started keeps (IsAppending g epoch txn place total first.state) first (λ d left. later g epoch txn place 0 total first.state (omega arith) d (begun g epoch txn place first.state ready d left))
 
-  module _ (index : ℕ) (within : place + index < g.journal) (few : index < total) (records : List LogRecord) (inside : list_any (λ r. not (is_in_range g r)) records ≡ false)
-      (back : journal_of (journal_bytes (turn_sector g epoch txn place index within records inside)) ≡ Some (turn_sector g epoch txn place index within records inside)) (old new : Moments)
-      (now : Leaves (IsAppending g epoch txn place index first.state) old.state)
-      (write : LeavesOnly keeps (HasSector (journal_sector g (place + index)) (turn_sector g epoch txn place index within records inside) old.state) old new) where
-    pub turn_now : Leaves (IsAppending g epoch txn place (index + 1) first.state) new.state
-    turn_now d left = turn g epoch txn place index within records inside back first.state old.state now d (write.after d left)
+-- ---- several sectors by one write
 
-    pub turn_on : LeavesOnly keeps (IsAppending g epoch txn place total first.state) first old → LeavesOnly keeps (IsAppending g epoch txn place total first.state) first new
-    turn_on so_far = goes_on keeps (IsAppending g epoch txn place total first.state) _ first old new so_far write
-        (λ d put_. later g epoch txn place (index + 1) total first.state (omega arith) d (turn g epoch txn place index within records inside back first.state old.state now d put_))
+pub take_more : {X : Type 0} (m n : ℕ) (l : List X) → take (m + n) l ≡ take m l ++ take n (drop m l)
+take_more m n l = sym (take-append-drop m (take (m + n) l)) ∙ (λ i. take-take m (m + n) l (omega arith) i ++ drop-take m n l i)
+
+pub spelled_long : (epoch txn index : ℕ) (cs : List (List LogRecord)) → length (spelled_sectors epoch txn index cs) ≡ length cs
+spelled_long epoch txn index [] = refl
+spelled_long epoch txn index (c ∷ cs) = ap suc (spelled_long epoch txn (index + 1) cs)
+
+joined_long : (epoch txn index : ℕ) (cs : List (List LogRecord)) → AreReadBack epoch txn index cs → length (joined (spelled_sectors epoch txn index cs)) ≡ 512 * length cs
+joined_long epoch txn index [] back = refl
+joined_long epoch txn index (c ∷ cs) back =
+    let rest = joined_long epoch txn (index + 1) cs back.2 in
+    let split = length-append (journal_bytes (sector_of epoch txn index c)) (joined (spelled_sectors epoch txn (index + 1) cs)) in
+    omega (arith, rest, split, back.1)
+
+pieces_joined : (epoch txn index : ℕ) (cs : List (List LogRecord)) → AreReadBack epoch txn index cs → pieces (length cs) (joined (spelled_sectors epoch txn index cs)) ≡ spelled_sectors epoch txn index cs
+pieces_joined epoch txn index [] back = refl
+pieces_joined epoch txn index (c ∷ cs) back =
+    let p : List ℕ = journal_bytes (sector_of epoch txn index c) in
+    let ps : List ℕ = joined (spelled_sectors epoch txn (index + 1) cs) in
+    let first : take 512 (p ++ ps) ≡ p = take-append-le 512 p ps (omega (arith, back.1)) ∙ take_all 512 p (omega (arith, back.1)) in
+    let second : drop 512 (p ++ ps) ≡ ps = drop_at p ps 512 back.1 in
+    (λ i. first i ∷ pieces (length cs) (second i)) ∙ ap (λ (l : List (List ℕ)). p ∷ l) (pieces_joined epoch txn (index + 1) cs back.2)
+
+-- the sectors of their bytes
+pub sectors_spelled : (epoch txn index : ℕ) (cs : List (List LogRecord)) → AreReadBack epoch txn index cs → (bytes : List ℕ) → bytes ≡ joined (spelled_sectors epoch txn index cs) → sectors_of bytes ≡ spelled_sectors epoch txn index cs
+sectors_spelled epoch txn index cs back bytes is =
+    let long = joined_long epoch txn index cs back in
+    let count : length (joined (spelled_sectors epoch txn index cs)) / 512 ≡ length cs = omega (arith, long) in
+    ap sectors_of is ∙ ap (λ n. pieces n (joined (spelled_sectors epoch txn index cs))) count ∙ pieces_joined epoch txn index cs back
+
+-- one more
+pub joined_push : (epoch txn index n : ℕ) (cs : List (List LogRecord)) (c : List LogRecord) → n ≡ index + length cs → joined (spelled_sectors epoch txn index (cs ++ c ∷ [])) ≡ joined (spelled_sectors epoch txn index cs) ++ journal_bytes (sector_of epoch txn n c)
+joined_push epoch txn index n [] c is = append-nil (journal_bytes (sector_of epoch txn index c)) ∙ ap (λ k. journal_bytes (sector_of epoch txn k c)) (omega arith)
+joined_push epoch txn index n (d ∷ cs) c is =
+    ap (λ (l : List ℕ). journal_bytes (sector_of epoch txn index d) ++ l) (joined_push epoch txn (index + 1) n cs c (omega arith))
+    ∙ sym (append_assoc (journal_bytes (sector_of epoch txn index d)) (joined (spelled_sectors epoch txn (index + 1) cs)) (journal_bytes (sector_of epoch txn n c)))
+
+pub back_push : (epoch txn index n : ℕ) (cs : List (List LogRecord)) (c : List LogRecord) → n ≡ index + length cs → AreReadBack epoch txn index cs
+    → journal_of (journal_bytes (sector_of epoch txn n c)) ≡ Some (sector_of epoch txn n c) → length (journal_bytes (sector_of epoch txn n c)) ≡ 512 → AreReadBack epoch txn index (cs ++ c ∷ [])
+back_push epoch txn index n [] c is every back long =
+    let same : n ≡ index = omega arith in
+    (subst (λ k. journal_of (journal_bytes (sector_of epoch txn k c)) ≡ Some (sector_of epoch txn k c)) same back, subst (λ k. length (journal_bytes (sector_of epoch txn k c)) ≡ 512) same long, tt)
+back_push epoch txn index n (d ∷ cs) c is every back long = (every.0, every.1, back_push epoch txn (index + 1) n cs c (omega arith) every.2 back long)
+
+-- each sector has records of the list
+filled_all : (p : LogRecord → Bool) (sector rs : List LogRecord) → list_all p sector ≡ true → list_all p rs ≡ true → list_all (list_all p) (filled sector rs) ≡ true
+filled_all p sector [] one all = λ i. one i && true
+filled_all p sector (r ∷ rs) one all =
+    let parts = and_parts (p r) (list_all p rs) all in
+    by (nat_le (length (records_bytes (sector ++ r ∷ []))) 488)
+    (filled_all p (sector ++ r ∷ []) rs (all_push p sector r one parts.0) parts.1)
+    (filled_all p (r ∷ []) rs (λ i. parts.0 i && true) parts.1)
+  where
+    by : (b : Bool) → list_all (list_all p) (filled (sector ++ r ∷ []) rs) ≡ true → list_all (list_all p) (filled (r ∷ []) rs) ≡ true
+        → list_all (list_all p) (if b then filled (sector ++ r ∷ []) rs else sector ∷ filled (r ∷ []) rs) ≡ true
+    by true more other = more
+    by false more other = λ i. one i && other i
+
+    all_push : (p : LogRecord → Bool) (xs : List LogRecord) (x : LogRecord) → list_all p xs ≡ true → p x ≡ true → list_all p (xs ++ x ∷ []) ≡ true
+    all_push p [] x every is = λ i. is i && true
+    all_push p (y ∷ ys) x every is = let parts = and_parts (p y) (list_all p ys) every in λ i. parts.0 i && all_push p ys x parts.1 is i
+
+pub sectors_all : (p : LogRecord → Bool) (rs : List LogRecord) → list_all p rs ≡ true → list_all (list_all p) (sectors_of_records rs) ≡ true
+sectors_all p [] every = refl
+sectors_all p (r ∷ rs) every = let parts = and_parts (p r) (list_all p rs) every in filled_all p (r ∷ []) rs (λ i. parts.0 i && true) parts.1
+
+-- whichever of them are written
+turns : (g : Geometry) (epoch txn start : ℕ) (state : State) (index : ℕ) (cs : List (List LogRecord)) → start + index + length cs ≤ g.journal → list_all (list_all (is_in_range g)) cs ≡ true → AreReadBack epoch txn index cs
+    → (d image : Image) (s : ℕ) → s ≡ journal_sector g (start + index) → IsAppending g epoch txn start index state d → Mixes d (put_all s (spelled_sectors epoch txn index cs) d) image → IsAppending g epoch txn start (index + length cs) state image
+turns g epoch txn start state index [] within inside back d image s at so_far mixed =
+    let same : image ≡ d = λ i k. agreed k i in
+    let none : index ≡ index + 0 = omega arith in
+    subst (λ n. IsAppending g epoch txn start n state image) none (subst (IsAppending g epoch txn start index state) (sym same) so_far)
+  where
+    agreed : (k : ℕ) → image k ≡ d k
+    agreed k = ⊎_elim (λ is. is) (λ is. is) (mixed k)
+turns g epoch txn start state index (c ∷ cs) within inside back d image s at so_far mixed =
+    let parts = and_parts (list_all (is_in_range g) c) (list_all (list_all (is_in_range g)) cs) inside in
+    let none = none_out (is_in_range g) c parts.0 in
+    let p : List ℕ = journal_bytes (sector_of epoch txn index c) in
+    let next : s + 1 ≡ journal_sector g (start + (index + 1)) = omega (arith, at) in
+    let more : index + 1 + length cs ≡ index + suc (length cs) = omega arith in
+    subst (λ n. IsAppending g epoch txn start n state image) more (⊎_elim
+    (λ without. turns g epoch txn start state (index + 1) cs (omega arith) parts.1 back.2 d image (s + 1) next (turn_without g epoch txn start index (omega arith) c none back.0 state d so_far) without)
+    (λ with. turns g epoch txn start state (index + 1) cs (omega arith) parts.1 back.2 (put s p d) image (s + 1) next
+    (subst (λ n. IsAppending g epoch txn start (index + 1) state (put n p d)) (sym at) (turn_put g epoch txn start index (omega arith) c none back.0 state d so_far)) with)
+    (mixes_first s p (spelled_sectors epoch txn (index + 1) cs) d image mixed))
+
+module _ (keeps : Bool) (g : Geometry) (epoch txn place total : ℕ) (first : Moments) (index : ℕ) (cs : List (List LogRecord)) (within : place + index + length cs ≤ g.journal) (inside : list_all (list_all (is_in_range g)) cs ≡ true) (back : AreReadBack epoch txn index cs)
+    (bytes : List ℕ) (is : bytes ≡ joined (spelled_sectors epoch txn index cs)) (old new : Moments) (now : Leaves (IsAppending g epoch txn place index first.state) old.state)
+    (write : LeavesOnly keeps (IsPartlyWritten (journal_sector g (place + index)) bytes old.state) old new) where
+  group_turn : (d : Image) → IsPartlyWritten (journal_sector g (place + index)) bytes old.state d → IsAppending g epoch txn place (index + length cs) first.state d
+  group_turn d from = turns g epoch txn place first.state index cs within inside back from.before d (journal_sector g (place + index)) refl (now from.before from.left)
+      (subst (λ (ps : List (List ℕ)). Mixes from.before (put_all (journal_sector g (place + index)) ps from.before) d) (sectors_spelled epoch txn index cs back bytes is) from.mixed)
+
+  pub group_now : Leaves (IsAppending g epoch txn place (index + length cs) first.state) new.state
+  group_now d left = group_turn d (write.after d left)
+
+  pub group_on : index + length cs ≤ total → LeavesOnly keeps (IsAppending g epoch txn place total first.state) first old → LeavesOnly keeps (IsAppending g epoch txn place total first.state) first new
+  group_on few so_far = goes_on keeps (IsAppending g epoch txn place total first.state) _ first old new so_far write
+      (λ d from. later g epoch txn place (index + length cs) total first.state few d (group_turn d from))
 
 -- ---- as the disk reads
 
@@ -189,3 +287,34 @@ appended_more g epoch txn place index within cs c first old new counted free bac
 
     zero_more : length cs ≡ 0 + length cs
     zero_more = omega arith
+
+-- the same of several sectors
+appended_all : (g : Geometry) (epoch txn place : ℕ) (cs done : List (List LogRecord)) (index s : ℕ) → index ≡ length done → s ≡ journal_sector g (place + index) → place + index + length cs ≤ g.journal → AreReadBack epoch txn index cs → (first old new : Image)
+    → IsFreeFrom g epoch (place + index) old → new ≡ put_all s (spelled_sectors epoch txn index cs) old → HasAppended g epoch txn place done first old → HasAppended g epoch txn place (done ++ cs) first new
+appended_all g epoch txn place [] done index s counted at within back first old new free is so_far =
+    subst (λ (l : List (List LogRecord)). HasAppended g epoch txn place l first new) (sym (append-nil done)) (subst (HasAppended g epoch txn place done first) (sym is) so_far)
+appended_all g epoch txn place (c ∷ cs) done index s counted at within back first old new free is so_far =
+    let p : List ℕ = journal_bytes (sector_of epoch txn index c) in
+    let more : place + index + 1 ≡ place + (index + 1) = omega arith in
+    let here : put s p old ≡ put (journal_sector g (place + index)) p old = ap (λ n. put n p old) at in
+    let one = appended_more g epoch txn place index (omega arith) done c first old (put s p old) (sym counted) free back.0 here so_far in
+    let rest : IsFreeFrom g epoch (place + (index + 1)) (put s p old) = subst (λ n. IsFreeFrom g epoch n (put s p old)) more
+    (subst (IsFreeFrom g epoch (place + index + 1)) (sym here) (free_put g epoch (place + index) (omega arith) (sector_of epoch txn index c) old free)) in
+    subst (λ (l : List (List LogRecord)). HasAppended g epoch txn place l first new) (append_assoc done (c ∷ []) cs)
+    (appended_all g epoch txn place cs (done ++ c ∷ []) (index + 1) (s + 1) (omega (arith, counted, length_push done c)) (omega (arith, at)) (omega arith) back.2 first (put s p old) new rest is one)
+
+pub group_reads : (g : Geometry) (epoch txn place : ℕ) (cs done : List (List LogRecord)) (index : ℕ) → index ≡ length done → place + index + length cs ≤ g.journal → AreReadBack epoch txn index cs → (bytes : List ℕ) → bytes ≡ joined (spelled_sectors epoch txn index cs) → (first old new : Image)
+    → IsFreeFrom g epoch (place + index) old → new ≡ overwritten (journal_sector g (place + index)) bytes old → HasAppended g epoch txn place done first old → HasAppended g epoch txn place (done ++ cs) first new
+group_reads g epoch txn place cs done index counted within back bytes spells first old new free is so_far =
+    appended_all g epoch txn place cs done index (journal_sector g (place + index)) counted refl within back first old new free
+    (is ∙ ap (λ (ps : List (List ℕ)). put_all (journal_sector g (place + index)) ps old) (sectors_spelled epoch txn index cs back bytes spells)) so_far
+
+-- ---- other sectors
+
+pub untouched : (at count : ℕ) (bytes : List ℕ) (old new : Image) → length bytes ≡ 512 * count → Mixes old (overwritten at bytes old) new → (k : ℕ) → (k < at) ⊎ (at + count ≤ k) → new k ≡ old k
+untouched at count bytes old new sized mixed k outside = ⊎_elim (λ same. same) (λ is. is ∙ ⊎_elim
+    (λ low. put_all_below (sectors_of bytes) at k old low)
+    (λ high. let long = length-pieces (length bytes / 512) bytes in put_all_above (sectors_of bytes) at k old (omega (arith, sized, long, high))) outside) (mixed k)
+
+pub off_journal : (g : Geometry) (at place count : ℕ) (bytes : List ℕ) (old new : Image) → at ≡ journal_sector g place → place + count ≤ g.journal → length bytes ≡ 512 * count → Mixes old (overwritten at bytes old) new → AgreeOffJournal g new old
+off_journal g at place count bytes old new is within sized mixed k off = untouched at count bytes old new sized mixed k (⊎_elim (λ low. inl (omega (arith, low, is))) (λ high. inr (omega (arith, high, is))) off)

@@ -101,7 +101,7 @@ module _ (g : Geometry) (epoch txn start index : ℕ) (within : start + index < 
         ∙ any_skip test (journal_sector g (start + index), turn_sector) (found g epoch d) [] passes ∙ ap (list_any test) (append-nil (found g epoch d))
 
     -- an image that has the sector
-    turn_put : (d : Image) → IsAppending g epoch txn start index state d → IsAppending g epoch txn start (index + 1) state (put (journal_sector g (start + index)) (journal_bytes turn_sector) d)
+    pub turn_put : (d : Image) → IsAppending g epoch txn start index state d → IsAppending g epoch txn start (index + 1) state (put (journal_sector g (start + index)) (journal_bytes turn_sector) d)
     turn_put d so_far =
         let more : start + (index + 1) ≡ start + index + 1 = omega arith in
         let blank : (epoch_in (d (journal_sector g (start + index))) == epoch) ≡ false = so_far.free (start + index) (omega arith) within in
@@ -121,7 +121,7 @@ module _ (g : Geometry) (epoch txn start index : ℕ) (within : start + index < 
         }
 
     -- an image that hasn't
-    turn_without : (d : Image) → IsAppending g epoch txn start index state d → IsAppending g epoch txn start (index + 1) state d
+    pub turn_without : (d : Image) → IsAppending g epoch txn start index state d → IsAppending g epoch txn start (index + 1) state d
     turn_without d so_far = record {
       before = so_far.before;
       left = so_far.left;
@@ -131,9 +131,3 @@ module _ (g : Geometry) (epoch txn start index : ℕ) (within : start + index < 
       uncommitted = so_far.uncommitted;
       others = so_far.others;
     }
-
-    -- whatever of the write a crash leaves
-    pub turn : (old : State) → ((d : Image) → IsImage old d → IsAppending g epoch txn start index state d) → (image : Image) → HasSector (journal_sector g (start + index)) turn_sector old image → IsAppending g epoch txn start (index + 1) state image
-    turn old so_far image put_ = ⊎_elim
-        (λ same. subst (IsAppending g epoch txn start (index + 1) state) (sym same) (turn_without put_.before (so_far put_.before put_.left)))
-        (λ same. subst (IsAppending g epoch txn start (index + 1) state) (sym same) (turn_put put_.before (so_far put_.before put_.left))) put_.is

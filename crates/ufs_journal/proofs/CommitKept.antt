@@ -4,7 +4,7 @@ use Rattle.std.specs.Prelude.{◌==◌}
 use Rattle.std.specs.List.{list_any, range_with_len}
 use Rattle.std.proofs.lemmas.Bool.{cases_eq, ne_eqb, eqb-true, leb-false, lt-leb}
 use Rattle.ufs_base.specs.Images.{Image}
-use Rattle.ufs_disk.specs.Disk.{State, IsImage, seen, put}
+use Rattle.ufs_disk.specs.Disk.{State, IsImage, Leaves, seen, put}
 use Rattle.ufs_disk.specs.Moments.{Moments, LeavesOnly, reads}
 use Rattle.ufs_disk.proofs.Images.{seen_is_image, put_same, put_other}
 use Rattle.ufs_disk.proofs.Runs.{weaker}
@@ -112,10 +112,12 @@ module _ (g : Geometry) (epoch txn number : ℕ) (one : Opened) (of_txn : one.tx
           ∙ any_none (reaches number) (reaches next) (λ f e. higher next f lt e) all (ap (λ (d : Image). list_any (reaches number) (found g epoch d)) is ∙ ready.fresh (seen state) (seen_is_image state));
     }
 
-    pub unused_put : (other : ℕ) (state new : State) → old ≡ seen state → other ≢ txn → IsUnused g epoch other state → ((image : Image) → IsImage new image → image ≡ put at (journal_bytes the_commit) old) → IsUnused g epoch other new
-    unused_put other state new is ne unused only image left =
-        ap (λ (d : Image). list_any (is_of other) (found g epoch d)) (only image left) ∙ found_any (is_of other) (ne_eqb txn other (λ same. ne (sym same)))
-        ∙ ap (λ (d : Image). list_any (is_of other) (found g epoch d)) is ∙ unused (seen state) (seen_is_image state)
+    pub unused_maybe : (other : ℕ) (state new : State) → old ≡ seen state → other ≢ txn → IsUnused g epoch other state → Leaves (IsOldOrPut at the_commit state) new → IsUnused g epoch other new
+    unused_maybe other state new is ne unused only image left = elim (only image left) [
+      | inl was ↦ unused image was
+      | inr put_ ↦ ap (λ (d : Image). list_any (is_of other) (found g epoch d)) (put_ ∙ ap (put at (journal_bytes the_commit)) (sym is)) ∙ found_any (is_of other) (ne_eqb txn other (λ same. ne (sym same)))
+          ∙ ap (λ (d : Image). list_any (is_of other) (found g epoch d)) is ∙ unused (seen state) (seen_is_image state)
+    ]
 
 -- at each moment
 pub maybe_committed : (keeps : Bool) (g : Geometry) (epoch : ℕ) (one : Committed) (sector : ℕ) (j : JournalSector) (old new : Moments) → CommitsOne g epoch one (reads old) (put sector (journal_bytes j) (reads old))

@@ -9,6 +9,7 @@ ghost use Rattle.ufs_image.specs.Fold.{is_in_range};
 ghost use Rattle.ufs_layout.specs.Records.{is_record};
 ghost use Rattle.ufs_layout.specs.declared.records.LogRecord.{LogRecord};
 ghost use Rattle.ufs_journal.specs.Filled.{sector_count_of};
+ghost use Rattle.ufs_journal.specs.Found.{AgreeOffJournal};
 ghost use Rattle.ufs_journal.specs.Opened.{opened_of, without_txn, is_placed, rises};
 ghost use Rattle.ufs_journal.specs.Kept.{HasEarlier, IsReady, IsUnused, IsOpen, CanApply};
 ghost use Rattle.ufs_journal.specs.Written.{IsAppended, IsMaybeCommitted, CommitsOne};
@@ -117,12 +118,13 @@ impl Journal {
             → OnOk result (IsOpen self.old.geometry self.old.epoch self.new.opened txn records.now (D.moments disk.new).state) }
         ensures unused { IsTrue D.tells → IsReady self.old.geometry self.old.epoch self.old.used self.old.number (D.moments disk.old).state
             → IsUnused self.old.geometry self.old.epoch txn (D.moments disk.old).state
-            → OnOk result ((other : ℕ) → other ≢ txn → IsUnused self.old.geometry self.old.epoch other (D.moments disk.old).state
-            → IsUnused self.old.geometry self.old.epoch other (D.moments disk.new).state) }
+            → (other : ℕ) → other ≢ txn → IsUnused self.old.geometry self.old.epoch other (D.moments disk.old).state
+            → IsUnused self.old.geometry self.old.epoch other (D.moments disk.new).state }
         ensures others { IsTrue D.tells → IsReady self.old.geometry self.old.epoch self.old.used self.old.number (D.moments disk.old).state
             → IsUnused self.old.geometry self.old.epoch txn (D.moments disk.old).state
             → OnOk result ((other : ℕ) (held : List LogRecord) → other ≢ txn → IsOpen self.old.geometry self.old.epoch self.old.opened other held (D.moments disk.old).state
             → IsOpen self.old.geometry self.old.epoch self.new.opened other held (D.moments disk.new).state) }
+        ensures elsewhere { IsTrue D.tells → AgreeOffJournal self.old.geometry (reads (D.moments disk.new)) (reads (D.moments disk.old)) }
         ensures size { D.size disk.new ≡ D.size disk.old }
         ensures cause { HasCause (D.faults disk.old) (D.faults disk.new) result }
     {
@@ -169,11 +171,12 @@ impl Journal {
             → self.old.number < 2 ^ 64 - 1
             → OnOk result (IsReady self.old.geometry self.old.epoch self.old.used self.new.number (D.moments disk.new).state) }
         ensures unused { IsTrue D.tells → (records : List LogRecord) → IsOpen self.old.geometry self.old.epoch self.old.opened txn records (D.moments disk.old).state
-            → OnOk result ((other : ℕ) → other ≢ txn → IsUnused self.old.geometry self.old.epoch other (D.moments disk.old).state
-            → IsUnused self.old.geometry self.old.epoch other (D.moments disk.new).state) }
+            → (other : ℕ) → other ≢ txn → IsUnused self.old.geometry self.old.epoch other (D.moments disk.old).state
+            → IsUnused self.old.geometry self.old.epoch other (D.moments disk.new).state }
         ensures others { IsTrue D.tells → (records : List LogRecord) → IsOpen self.old.geometry self.old.epoch self.old.opened txn records (D.moments disk.old).state
             → OnOk result ((other : ℕ) (held : List LogRecord) → other ≢ txn → IsOpen self.old.geometry self.old.epoch self.old.opened other held (D.moments disk.old).state
             → IsOpen self.old.geometry self.old.epoch self.new.opened other held (D.moments disk.new).state) }
+        ensures elsewhere { IsTrue D.tells → AgreeOffJournal self.old.geometry (reads (D.moments disk.new)) (reads (D.moments disk.old)) }
         ensures size { D.size disk.new ≡ D.size disk.old }
         ensures cause { HasCause (D.faults disk.old) (D.faults disk.new) result }
     {

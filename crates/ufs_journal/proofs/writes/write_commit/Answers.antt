@@ -6,7 +6,7 @@ use Rattle.ufs_disk.specs.Moments.{reads}
 use Rattle.ufs_layout.specs.JournalSector.{JournalSector, HasCommit, journal_bytes}
 use Rattle.ufs_journal.specs.Found.{journal_sector}
 use Rattle.ufs_journal.specs.Written.{IsOldOrPut}
-use Rattle.ufs_journal.proofs.AppendRun.{sector_reads}
+use Rattle.ufs_journal.proofs.AppendRun.{sector_reads, off_journal}
 use Rattle.ufs_disk.proofs.Runs.{weaker}
 use Rattle.ufs_disk.specs.Disk.{IsImage}
 use Rattle.ufs_journal.proofs.CommitRun.{committed, waited_again}
@@ -41,3 +41,19 @@ returns-clause-crash g c told =
     waited_again g.D.Disk.keeps (c.journal_start.result + c.args.place) (journal_sector c.args.geometry.now c.args.place) at j c.commit_sector-bytes.result (search rules) c.commit_sector-bytes.ensures.spelling
     (g.D.Disk.moments c.args.disk.now) (g.D.Disk.moments c.barrier.new.self) (c.barrier.ensures.crash told) (c.in_ok-barrier.ensures.ok told) (c.barrier.ensures.content told) (g.D.Disk.moments c.write.new.self) (c.write.ensures.crash told)
     (g.D.Disk.moments c.barrier-2.new.self) (c.barrier-2.ensures.crash told)
+
+pub returns-in_err-barrier-clause-elsewhere : goal.returns-in_err-barrier-clause-elsewhere
+returns-in_err-barrier-clause-elsewhere g c told k off = ap (λ (d : Image). d k) (c.barrier.ensures.content told)
+
+pub returns-in_err-write-clause-elsewhere : goal.returns-in_err-write-clause-elsewhere
+returns-in_err-write-clause-elsewhere g c told k off =
+    let at : c.journal_start.result + c.args.place ≡ journal_sector c.args.geometry.now c.args.place = omega (arith, c.journal_start.ensures) in
+    off_journal c.args.geometry.now _ c.args.place 1 c.commit_sector-bytes.result _ _ at (omega (arith, c.requires.place)) (search rules) (c.write.ensures.content told) k off
+    ∙ ap (λ (d : Image). d k) (c.barrier.ensures.content told)
+
+pub returns-clause-elsewhere : goal.returns-clause-elsewhere
+returns-clause-elsewhere g c told k off =
+    let at : c.journal_start.result + c.args.place ≡ journal_sector c.args.geometry.now c.args.place = omega (arith, c.journal_start.ensures) in
+    ap (λ (d : Image). d k) (c.barrier-2.ensures.content told)
+    ∙ off_journal c.args.geometry.now _ c.args.place 1 c.commit_sector-bytes.result _ _ at (omega (arith, c.requires.place)) (search rules) (c.write.ensures.content told) k off
+    ∙ ap (λ (d : Image). d k) (c.barrier.ensures.content told)

@@ -12,7 +12,7 @@ use Rattle.ufs_journal.specs.Opened.{is_txn, opened_of, is_placed, rises}
 use Rattle.ufs_journal.specs.Written.{CommitsOne}
 use Rattle.ufs_journal.specs.Kept.{HoldsRecords}
 use Rattle.ufs_journal.proofs.KeptLemmas.{listed_at, same_listed, all_filter, rises_filter, length_filter, apart, find_without}
-use Rattle.ufs_journal.proofs.CommitKept.{commits_one, maybe_committed, ready_put, unused_put, other_held}
+use Rattle.ufs_journal.proofs.CommitKept.{commits_one, maybe_committed, ready_put, unused_maybe, other_held}
 use Rattle.ufs_journal.proofs.journal.Journal.commit.Goals as goal
 
 pub overflow_cast-one : goal.overflow_cast-one
@@ -82,14 +82,21 @@ returns-clause-ready g c told ready records open_ below =
     let only = λ (image : Image) (left : IsImage (g.D.Disk.moments c.write_commit.new.disk).state image). c.in_ok-write_commit.ensures.settled told image left ∙ c.in_ok-write_commit.ensures.written told in
     ready_put j.geometry j.epoch c.args.txn j.number c.in-Some.one at.0 within (reads (g.D.Disk.moments c.args.disk.now)) c.write_commit.ensures.read_back records held j.used c.saturating_add-self.result (g.D.Disk.moments c.args.disk.now).state (g.D.Disk.moments c.write_commit.new.disk).state refl at.2 (omega (arith, c.saturating_add-self.ensures, below)) ready only
 
+pub returns-in_err-write_commit-clause-unused : goal.returns-in_err-write_commit-clause-unused
+returns-in_err-write_commit-clause-unused g c told records open_ other ne was =
+    let j = c.args.self.now in
+    let at = listed_at c.args.txn j.used j.opened c.in-Some.one j.placed (sym c.in-Some.ensures) in
+    let within : c.in-Some.one.place < j.geometry.journal = omega (arith, at.2, j.inside) in
+    let held = subst (λ (o : Opened). HoldsRecords j.geometry j.epoch o records (reads (g.D.Disk.moments c.args.disk.now))) (same_listed _ c.in-Some.one open_.one (sym c.in-Some.ensures) open_.listed) open_.holds in
+    unused_maybe j.geometry j.epoch c.args.txn j.number c.in-Some.one at.0 within (reads (g.D.Disk.moments c.args.disk.now)) c.write_commit.ensures.read_back records held other (g.D.Disk.moments c.args.disk.now).state (g.D.Disk.moments c.write_commit.new.disk).state refl ne was (c.write_commit.ensures.crash told).after
+
 pub returns-clause-unused : goal.returns-clause-unused
 returns-clause-unused g c told records open_ other ne was =
     let j = c.args.self.now in
     let at = listed_at c.args.txn j.used j.opened c.in-Some.one j.placed (sym c.in-Some.ensures) in
     let within : c.in-Some.one.place < j.geometry.journal = omega (arith, at.2, j.inside) in
     let held = subst (λ (o : Opened). HoldsRecords j.geometry j.epoch o records (reads (g.D.Disk.moments c.args.disk.now))) (same_listed _ c.in-Some.one open_.one (sym c.in-Some.ensures) open_.listed) open_.holds in
-    let only = λ (image : Image) (left : IsImage (g.D.Disk.moments c.write_commit.new.disk).state image). c.in_ok-write_commit.ensures.settled told image left ∙ c.in_ok-write_commit.ensures.written told in
-    unused_put j.geometry j.epoch c.args.txn j.number c.in-Some.one at.0 within (reads (g.D.Disk.moments c.args.disk.now)) c.write_commit.ensures.read_back records held other (g.D.Disk.moments c.args.disk.now).state (g.D.Disk.moments c.write_commit.new.disk).state refl ne was only
+    unused_maybe j.geometry j.epoch c.args.txn j.number c.in-Some.one at.0 within (reads (g.D.Disk.moments c.args.disk.now)) c.write_commit.ensures.read_back records held other (g.D.Disk.moments c.args.disk.now).state (g.D.Disk.moments c.write_commit.new.disk).state refl ne was (c.write_commit.ensures.crash told).after
 
 pub returns-clause-others : goal.returns-clause-others
 returns-clause-others g c told records open_ other rs ne was =
