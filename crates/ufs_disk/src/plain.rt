@@ -13,15 +13,9 @@ use std::alloc::{AllocError, Global};
 pub struct PlainDisk {
     pub sectors: u32,
     pub bytes: Vec<u8>,
-<<<<<<< HEAD
-    ghost in_range: { sectors < 2 ^ 32 },
-    ghost sized: { length bytes.items ≡ 512 * sectors },
-    ghost small_bytes: { IsBytes bytes.items },
-=======
     pub ghost in_range: { sectors < 2 ^ 32 },
     pub ghost sized: { length bytes.items ≡ 512 * sectors },
-    pub ghost small_bytes: { AreBytes bytes.items },
->>>>>>> 9ca5c98d4dd974688a10ae0eeebbcdfe48d27120
+    pub ghost small_bytes: { IsBytes bytes.items },
 }
 
 impl PlainDisk {
