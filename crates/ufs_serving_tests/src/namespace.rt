@@ -53,6 +53,8 @@ fn an_entry_tells_its_server_and_its_ticket(rt: HostRuntime) -> Result<(), Fail>
     };
     let applied = Names::new(alloc)?.apply(ask, Actor::Worker(1), 7);
     assert!(rt; matches!(applied.entry.reply, Reply::Done));
-    assert!(rt; applied.entry.by == Actor::Worker(1) && applied.entry.ticket == 7 && applied.desc.is_none());
+    assert!(rt;
+        applied.entry.by == Actor::Worker(1) && applied.entry.ticket == 7 && applied.desc.is_none()
+    );
     Ok(())
 }
