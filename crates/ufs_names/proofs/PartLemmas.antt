@@ -24,7 +24,7 @@ use Rattle.ufs_names.proofs.OnceLemmas.{once_dir, once_gone, once_renamed}
 use Rattle.ufs_names.proofs.LinkLemmas.{named_dir, unnamed_gone, named_left, unnamed_renamed, named_renamed}
 use Rattle.ufs_names.proofs.SettleLemmas.{part_paths, part_unnamed}
 use Rattle.ufs_model.proofs.NewNameLemmas.{IsRenamed, rename_allowed, may_rename}
-use Rattle.ufs_names.proofs.AllowedLemmas.{mkdir_allowed, rmdir_allowed, unlink_allowed, bytes_differ, old_names}
+use Rattle.ufs_names.proofs.AllowedLemmas.{mkdir_allowed, rmdir_allowed, unlink_allowed, bytes_differ, old_names, new_names}
 
 -- the tree after a request that isn't refused
 pub tree_after : KeepsTrees → (t : PosixTree) (client : ℕ) (request : Op) → IsTree t → refusal t client request ≡ None → IsTree (change t client request)
