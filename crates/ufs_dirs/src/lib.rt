@@ -5,8 +5,6 @@ mod codec;
 mod dir_blocks;
 mod free;
 mod index;
-#[cfg(test)]
-mod tests;
 
 pub use dir_blocks::DirBlocks;
 

@@ -188,7 +188,7 @@ module _ (client : ℕ) (requests : List Op) (before : List Entry) (names : Name
       pub left_alone : entry.reply ≡ reply.Excused excuse.Memory → (new_names : NamesPart) → new_names ≡ names → IsReached (before ++ (told ++ entry ∷ [])) new_names
       left_alone memory new_names same =
           let tree : tree_of (before ++ (told ++ entry ∷ [])) ≡ tree_of now =
-              ap tree_of (one_list before client requests told entry) ∙ tree_after-push root_alone now entry ∙ ap (λ (r : Reply). tree_with (tree_of now) entry.client entry.op r) memory in
+          ap tree_of (one_list before client requests told entry) ∙ tree_after-push root_alone now entry ∙ ap (λ (r : Reply). tree_with (tree_of now) entry.client entry.op r) memory in
           let count = length-append before (told ++ entry ∷ []) in
           let old = length-append before told in
           let next = ap (λ (t : PosixTree). t.next) tree in

@@ -4,8 +4,6 @@
 mod client;
 mod played;
 mod session;
-#[cfg(test)]
-mod tests;
 
 pub use played::{EndFault, Played, Session, ToldLists};
 pub use session::{play, serve};

@@ -20,14 +20,10 @@ use Rattle.ufs_model.specs.declared.data.Op.{Op}
 use Rattle.ufs_model.specs.declared.data.Op.TheVariants as op
 use Rattle.ufs_model.proofs.Facts.Lookups.{same_some}
 use Rattle.ufs_model.proofs.Facts.Walks.{entry_there, parent_is_dir}
-use Rattle.ufs_model.proofs.Facts.Allowed.{first_none, passed, names_of_whole, whole_is}
+use Rattle.ufs_model.proofs.Facts.Allowed.{missing, first_none, passed, names_of_whole, whole_is}
 use Rattle.ufs_model.proofs.Facts.Live.{HasBytes, bytes_there, held_has, keeps_bytes, keeps_fd, keeps_closed, forget_lost}
 use Rattle.ufs_model.proofs.NamespaceLemmas.{keeps_new_dir, keeps_new_file, keeps_without}
 use Rattle.ufs_model.proofs.NewNameLemmas.{keeps_renamed}
-
-missing : {A : Type 0} (o : Option A) → is_some o ≡ false → o ≡ None
-missing None e = refl
-missing (Some x) e = cc
 
 -- ---- an open descriptor
 
@@ -160,7 +156,7 @@ some_number : (o : Option ℕ) → is_none o ≡ false → o ≡ Some (unwrap_or
 some_number None e = cc
 some_number (Some n) e = refl
 
-new_is_free : (t : PosixTree) (client : ℕ) → is_none (lowest_free t.fds client) ≡ false → map.get t.fds (client, new_fd t client) ≡ None
+pub new_is_free : (t : PosixTree) (client : ℕ) → is_none (lowest_free t.fds client) ≡ false → map.get t.fds (client, new_fd t client) ≡ None
 unfolding lowest_free
 new_is_free t client e = is_free t.fds client 3 64 (new_fd t client) (some_number (free_from t.fds client 3 64) e)
 

@@ -19,36 +19,33 @@ use Rattle.ufs_model.specs.declared.data.Op.TheVariants as op
 use Rattle.ufs_model.proofs.Facts.Lookups.{from_some}
 use Rattle.ufs_model.proofs.Facts.Pieces.{ArePlain, components_plain, plain_append, plain_front, same_bytes, bytes_same, below_names, front_of, last}
 use Rattle.ufs_model.proofs.Facts.Walks.{dir_above, entry_above, dir_stands, dir_of_path}
-use Rattle.ufs_model.proofs.Facts.Allowed.{first_none, passed, names_allowed}
+use Rattle.ufs_model.proofs.Facts.Allowed.{first_none, passed, some_there, names_allowed}
 use Rattle.ufs_model.proofs.Facts.Live.{keeps_paths, forget_lost}
 use Rattle.ufs_model.proofs.Facts.Renames.{MayRename, namespace_now, named_before, named_after, at_new_name, at_old_name, not_below, no_entries}
 
 -- What a `rename` that isn't refused finds, in the names of its two paths.
-record IsAllowed (paths : Paths) (old new : List (List ℕ)) : Type 0 where
-  old_plain : ArePlain old
-  new_plain : ArePlain new
-  allowed : components_refusal new ≡ None
-  old_some : has_component old ≡ true
-  new_some : has_component new ≡ true
-  there : is_some (map.get paths (whole_path old)) ≡ true
-  parent : has_dir paths (whole_path (front_of new)) ≡ true
-  no_loop : (has_dir paths (whole_path old) && is_below (whole_path old) (whole_path new)) ≡ false
-  bare : (not (bytes_eq (whole_path old) (whole_path new)) && (has_dir paths (whole_path new) && has_entries paths (whole_path new))) ≡ false
+pub record IsRenamed (paths : Paths) (old new : List (List ℕ)) : Type 0 where
+  pub old_plain : ArePlain old
+  pub old_allowed : components_refusal old ≡ None
+  pub new_plain : ArePlain new
+  pub new_allowed : components_refusal new ≡ None
+  pub old_some : has_component old ≡ true
+  pub new_some : has_component new ≡ true
+  pub there : is_some (map.get paths (whole_path old)) ≡ true
+  pub parent : has_dir paths (whole_path (front_of new)) ≡ true
+  pub no_loop : (has_dir paths (whole_path old) && is_below (whole_path old) (whole_path new)) ≡ false
+  pub bare : (not (bytes_eq (whole_path old) (whole_path new)) && (has_dir paths (whole_path new) && has_entries paths (whole_path new))) ≡ false
 
 or_parts : (a b : Bool) → (a || b) ≡ false → (a ≡ false) × (b ≡ false)
 or_parts true b e = cc
 or_parts false b e = (refl, e)
 
-some_there : {A : Type 0} (o : Option A) → is_none o ≡ false → is_some o ≡ true
-some_there None e = cc
-some_there (Some x) e = refl
-
 some_name : (names : List (List ℕ)) → not (has_component names) ≡ false → has_component names ≡ true
 some_name [] e = cc
 some_name (name ∷ names) e = refl
 
-is_allowed : (t : PosixTree) (client : ℕ) (from to : List ℕ) → IsTree t → refusal t client (op.Rename from to) ≡ None → IsAllowed t.paths (components from) (components to)
-is_allowed t client from to is e =
+pub rename_allowed : (t : PosixTree) (client : ℕ) (from to : List ℕ) → IsTree t → refusal t client (op.Rename from to) ≡ None → IsRenamed t.paths (components from) (components to)
+rename_allowed t client from to is e =
     let both = first_none (first_of (text_refusal from) (text_refusal to)) (rename_refusal t.paths from to) e in
     let texts = first_none (text_refusal from) (text_refusal to) both.0 in
     let at_root = first_none (refused_if (is_root from || is_root to) Ebusy) _ both.1 in
@@ -61,8 +58,9 @@ is_allowed t client from to is e =
     let roots = or_parts (is_root from) (is_root to) (passed _ _ at_root.0) in
     record {
       old_plain = components_plain from;
+      old_allowed = names_allowed from texts.0;
       new_plain = components_plain to;
-      allowed = names_allowed to texts.1;
+      new_allowed = names_allowed to texts.1;
       old_some = some_name (components from) roots.0;
       new_some = some_name (components to) roots.1;
       there = some_there (node_at t.paths from) (passed _ _ there.0);
@@ -74,7 +72,7 @@ is_allowed t client from to is e =
 refuted : (a b : Bool) → a ≡ true → b ≡ true → (a && b) ≡ false → ⊥
 refuted a b p q e = let both = and_from a b p q in cc
 
-module _ (paths : Paths) (s : IsNamespace (stands paths) (has_dir paths)) (f : List ℕ) (fs : List (List ℕ)) (g : List ℕ) (gs : List (List ℕ)) (is : IsAllowed paths (f ∷ fs) (g ∷ gs)) (other : bytes_eq (whole_path (f ∷ fs)) (whole_path (g ∷ gs)) ≡ false) where
+module _ (paths : Paths) (s : IsNamespace (stands paths) (has_dir paths)) (f : List ℕ) (fs : List (List ℕ)) (g : List ℕ) (gs : List (List ℕ)) (is : IsRenamed paths (f ∷ fs) (g ∷ gs)) (other : bytes_eq (whole_path (f ∷ fs)) (whole_path (g ∷ gs)) ≡ false) where
   bare_there : (y : List ℕ) (ys : List (List ℕ)) → ArePlain (y ∷ ys) → stands paths (whole_path ((g ∷ gs) ++ y ∷ ys)) ≡ true → ⊥
   bare_there y ys plain there =
       let all = plain_append (g ∷ gs) (y ∷ ys) is.new_plain plain in
@@ -101,12 +99,12 @@ module _ (paths : Paths) (s : IsNamespace (stands paths) (has_dir paths)) (f : L
           ap (λ (new : List (List ℕ)). is_below (whole_path (f ∷ fs)) (whole_path new)) (end.1 ∙ ap (λ names. names ++ end.0 ∷ []) e ∙ append_assoc (f ∷ fs) names (end.0 ∷ []))
           ∙ longer names
 
-  may_rename : MayRename paths f fs g gs
+  pub may_rename : MayRename paths f fs g gs
   may_rename = record {
     space = s;
     old_plain = is.old_plain;
     new_plain = is.new_plain;
-    allowed = is.allowed;
+    allowed = is.new_allowed;
     bare = bare_there;
     parent = is.parent;
     outside = outside_old;
@@ -129,7 +127,7 @@ abbrev after : PosixTree → List (List ℕ) → List (List ℕ) → PosixTree
 after t old new = record t { paths = renamed t.paths (whole_path old) (whole_path new) }
 
 module _ (t : PosixTree) (tree : IsTree t) where
-  keeps_names : (old new : List (List ℕ)) → IsAllowed t.paths old new → IsTree (rename_path t (whole_path old) (whole_path new))
+  keeps_names : (old new : List (List ℕ)) → IsRenamed t.paths old new → IsTree (rename_path t (whole_path old) (whole_path new))
   keeps_names [] new is = let some = is.old_some in cc
   keeps_names (f ∷ fs) [] is = let some = is.new_some in cc
   keeps_names (f ∷ fs) (g ∷ gs) is = by (bytes_eq (whole_path (f ∷ fs)) (whole_path (g ∷ gs))) refl
@@ -141,7 +139,7 @@ module _ (t : PosixTree) (tree : IsTree t) where
           forget_lost (after t (f ∷ fs) (g ∷ gs)) (file_of (map.get t.paths (whole_path (g ∷ gs))))
           (keeps_paths t tree (after t (f ∷ fs) (g ∷ gs)).paths (file_of (map.get t.paths (whole_path (g ∷ gs)))) (namespace_now t.paths f fs g gs may) (named_before t.paths f fs g gs may) (named_after t.paths f fs g gs may))
 
-  names_replace : (old new : List (List ℕ)) → IsAllowed t.paths old new → map.get (rename_path t (whole_path old) (whole_path new)).paths (whole_path new) ≡ map.get t.paths (whole_path old)
+  names_replace : (old new : List (List ℕ)) → IsRenamed t.paths old new → map.get (rename_path t (whole_path old) (whole_path new)).paths (whole_path new) ≡ map.get t.paths (whole_path old)
   names_replace [] new is = let some = is.old_some in cc
   names_replace (f ∷ fs) [] is = let some = is.new_some in cc
   names_replace (f ∷ fs) (g ∷ gs) is = by (bytes_eq (whole_path (f ∷ fs)) (whole_path (g ∷ gs))) refl
@@ -155,7 +153,7 @@ module _ (t : PosixTree) (tree : IsTree t) where
           ap (λ (paths : Paths). map.get paths (whole_path (g ∷ gs))) (forget_paths (after t (f ∷ fs) (g ∷ gs)) (file_of (map.get t.paths (whole_path (g ∷ gs)))))
           ∙ at_new_name t.paths f fs g gs may node.0 node.1 ∙ sym node.1
 
-  names_leave : (old new : List (List ℕ)) → IsAllowed t.paths old new → (whole_path old ≡ whole_path new → ⊥) → map.get (rename_path t (whole_path old) (whole_path new)).paths (whole_path old) ≡ None
+  names_leave : (old new : List (List ℕ)) → IsRenamed t.paths old new → (whole_path old ≡ whole_path new → ⊥) → map.get (rename_path t (whole_path old) (whole_path new)).paths (whole_path old) ≡ None
   names_leave [] new is other = let some = is.old_some in cc
   names_leave (f ∷ fs) [] is other = let some = is.new_some in cc
   names_leave (f ∷ fs) (g ∷ gs) is other = by (bytes_eq (whole_path (f ∷ fs)) (whole_path (g ∷ gs))) refl
@@ -169,7 +167,7 @@ module _ (t : PosixTree) (tree : IsTree t) where
           ap (λ (paths : Paths). map.get paths (whole_path (f ∷ fs))) (forget_paths (after t (f ∷ fs) (g ∷ gs)) (file_of (map.get t.paths (whole_path (g ∷ gs)))))
           ∙ at_old_name t.paths f fs g gs may node.0 node.1
 
-  names_apart : (old new : List (List ℕ)) → IsAllowed t.paths old new → (whole_path old ≡ whole_path new → ⊥)
+  names_apart : (old new : List (List ℕ)) → IsRenamed t.paths old new → (whole_path old ≡ whole_path new → ⊥)
       → (is_below (whole_path old) (whole_path new) ≡ false) × (has_entries t.paths (whole_path new) ≡ false)
   names_apart [] new is other = let some = is.old_some in cc
   names_apart (f ∷ fs) [] is other = let some = is.new_some in cc
@@ -185,7 +183,7 @@ module _ (t : PosixTree) (tree : IsTree t) where
 -- ---- the request
 
 pub keeps_renamed : (t : PosixTree) (client : ℕ) (from to : List ℕ) → IsTree t → refusal t client (op.Rename from to) ≡ None → IsTree (change t client (op.Rename from to))
-keeps_renamed t client from to tree e = keeps_names t tree (components from) (components to) (is_allowed t client from to tree e)
+keeps_renamed t client from to tree e = keeps_names t tree (components from) (components to) (rename_allowed t client from to tree e)
 
 pub replaces : RenameReplaces
 replaces t client from to tree = by (refusal t client (op.Rename from to)) refl
@@ -193,7 +191,7 @@ replaces t client from to tree = by (refusal t client (op.Rename from to)) refl
     by : (r : Option Errno) → refusal t client (op.Rename from to) ≡ r → (served t client (op.Rename from to) r).1 ≡ Done
         → node_at (served t client (op.Rename from to) r).0.paths to ≡ node_at t.paths from
     by (Some e) h done = cc
-    by None h done = names_replace t tree (components from) (components to) (is_allowed t client from to tree h)
+    by None h done = names_replace t tree (components from) (components to) (rename_allowed t client from to tree h)
 
 pub leaves : RenameLeaves
 leaves t client from to tree = by (refusal t client (op.Rename from to)) refl
@@ -201,7 +199,7 @@ leaves t client from to tree = by (refusal t client (op.Rename from to)) refl
     by : (r : Option Errno) → refusal t client (op.Rename from to) ≡ r → (served t client (op.Rename from to) r).1 ≡ Done
         → (whole_of from ≡ whole_of to → ⊥) → node_at (served t client (op.Rename from to) r).0.paths from ≡ None
     by (Some e) h done other = cc
-    by None h done other = names_leave t tree (components from) (components to) (is_allowed t client from to tree h) other
+    by None h done other = names_leave t tree (components from) (components to) (rename_allowed t client from to tree h) other
 
 pub lie_apart : RenamesLieApart
-lie_apart t client from to tree e other = names_apart t tree (components from) (components to) (is_allowed t client from to tree e) other
+lie_apart t client from to tree e other = names_apart t tree (components from) (components to) (rename_allowed t client from to tree e) other

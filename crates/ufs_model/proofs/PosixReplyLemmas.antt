@@ -17,7 +17,7 @@ use Rattle.ufs_model.specs.declared.data.Reply.{Reply}
 use Rattle.ufs_model.specs.declared.data.Reply.TheVariants as reply
 use Rattle.ufs_model.specs.declared.data.Entry.{Entry}
 
-abbrev IsPlain : Reply → Type 0
+abbrev pub IsPlain : Reply → Type 0
 IsPlain r = (x : Excuse) → r ≡ reply.Excused x → ⊥
 
 stat_plain : (t : PosixTree) (whole : List ℕ) (node : Option Node) → IsPlain (stat_reply t whole node)
@@ -63,7 +63,7 @@ plain_goes_on t client request (reply.IsDir entries) plain = refl
 plain_goes_on t client request (reply.Names names) plain = refl
 plain_goes_on t client request (reply.Refused e) plain = refl
 
-plain_unexcused : (r : Reply) → IsPlain r → is_excused r ≡ false
+pub plain_unexcused : (r : Reply) → IsPlain r → is_excused r ≡ false
 plain_unexcused (reply.Excused x) plain = absurd (plain x refl)
 plain_unexcused reply.Done plain = refl
 plain_unexcused (reply.Fd n) plain = refl

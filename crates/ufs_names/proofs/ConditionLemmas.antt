@@ -19,7 +19,8 @@ use Rattle.ufs_names.specs.declared.found.Found.{Found}
 use Rattle.ufs_names.proofs.NameLists.{AreNames, names_of, names_front}
 use Rattle.ufs_names.proofs.WalkLinks.{met, met_at}
 use Rattle.ufs_names.proofs.StandsLemmas.{not_new}
-use Rattle.ufs_names.proofs.AllowedLemmas.{IsReached, mkdir_allowed, rmdir_allowed, unlink_allowed, open_allowed, IsRenamed, rename_allowed, may_rename}
+use Rattle.ufs_model.proofs.NewNameLemmas.{IsRenamed, rename_allowed, may_rename}
+use Rattle.ufs_names.proofs.AllowedLemmas.{bytes_differ, IsReached, mkdir_allowed, rmdir_allowed, unlink_allowed, open_allowed, old_names, new_names}
 
 -- Something may be put at the names.
 pub record IsFree (d : DirTable) (names : List (List ℕ)) : Type 0 where
@@ -101,8 +102,8 @@ module _ (n : NamesPart) (t : PosixTree) (part : IsPartOf n t) where
       stands = stands;
       from_below = λ e. cc;
       to_below = λ e. cc;
-      parent = dir_above (g ∷ gs) is.new_names is.parent;
-      outside = λ rest e. not_new t.paths f fs g gs (may_rename t.paths part.tree.namespace f fs g gs is other) rest (sym e);
+      parent = dir_above (g ∷ gs) (new_names t.paths (f ∷ fs) (g ∷ gs) is) is.parent;
+      outside = λ rest e. not_new t.paths f fs g gs (may_rename t.paths part.tree.namespace f fs g gs is (bytes_differ (whole_path (f ∷ fs)) (whole_path (g ∷ gs)) other)) rest (sym e);
       replaced = goes;
     }
       where
@@ -111,7 +112,7 @@ module _ (n : NamesPart) (t : PosixTree) (part : IsPartOf n t) where
           where
             by : (o : Option Node) → map.get t.paths (whole_path (f ∷ fs)) ≡ o → is_some o ≡ true → IsSome (found_at n.dirs (f ∷ fs))
             by None at there = cc
-            by (Some w) at there = some_found _ w (sym (met n.dirs t.paths part.paths (f ∷ fs) is.old_names) ∙ at)
+            by (Some w) at there = some_found _ w (sym (met n.dirs t.paths part.paths (f ∷ fs) (old_names t.paths (f ∷ fs) (g ∷ gs) is)) ∙ at)
 
     -- what is replaced may go, as the caller has looked at it
     pub rename_moves : (from to : List ℕ) → refusal t client (op.Rename from to) ≡ None → (whole_of from ≡ whole_of to → ⊥) → MayGo n.dirs (components to) → MayMove n.dirs (components from) (components to)

@@ -17,13 +17,14 @@ use Rattle.ufs_base.specs.Choices.{first_of}
 use Rattle.ufs_model.specs.Paths.{component_refusal, components_refusal, whole_path}
 use Rattle.ufs_model.specs.PosixTree.{Paths, IsNamespace, stands, has_dir}
 use Rattle.ufs_model.specs.declared.data.Errno.{Errno}
-use Rattle.ufs_names.specs.DirCalls.{AreNamesOf, IsBare}
+use Rattle.ufs_dirs.specs.Names.{AreNamesIn}
+use Rattle.ufs_names.specs.DirCalls.{IsBare}
 use Rattle.ufs_names.specs.DirTable.{DirTable, IsDirTable, slots_at, found_at, found_of, node_of, step}
 use Rattle.ufs_names.specs.Stands.{Stands}
 use Rattle.ufs_names.specs.declared.found.Found.{Found}
 use Rattle.ufs_names.specs.declared.found.Found.TheVariants.{Dir}
 use Rattle.ufs_path.specs.Names.{IsName}
-use Rattle.ufs_names.proofs.ListedLemmas.{one_list_of}
+use Rattle.ufs_dirs.proofs.Facts.{same_names_in}
 use Rattle.ufs_names.proofs.PathLemmas.{name_of, entry_path, is_entry, name_of_entry, entry_is, names_rising, any_mapped}
 use Rattle.ufs_names.proofs.WalkLemmas.{walk-append}
 
@@ -68,7 +69,7 @@ module _ (t : DirTable) (paths : Paths) (tree : IsNamespace (stands paths) (has_
     test name path = is_entry_of (whole_path names) path && bytes_eq name (name_of path)
 
     -- the names of the entries are those in the slots
-    pub entry_names_are : AreNamesOf (slots_at t i) (entry_names paths (whole_path names))
+    pub entry_names_are : AreNamesIn (slots_at t i) (entry_names paths (whole_path names))
     entry_names_are = record {
       rising = names_rising names plain paths tree.whole;
       each = λ name. any_mapped name_of (is_entry_of (whole_path names)) name (fin.keys paths) ∙ both_ways _ _ (named name) (listed name);
@@ -85,10 +86,10 @@ module _ (t : DirTable) (paths : Paths) (tree : IsNamespace (stands paths) (has_
             let is = entry_there name some in
             key_passes path_total path_same (test name) paths (entry_path names name) is.0 (and_from _ _ is.1 (bytes_same name _ (sym is.2)))
 
-    pub names_are_entries : (xs : List (List ℕ)) → AreNamesOf (slots_at t i) xs → xs ≡ entry_names paths (whole_path names)
-    names_are_entries xs are = one_list_of (slots_at t i) xs (entry_names paths (whole_path names)) are entry_names_are
+    pub names_are_entries : (xs : List (List ℕ)) → AreNamesIn (slots_at t i) xs → xs ≡ entry_names paths (whole_path names)
+    names_are_entries xs are = same_names_in (slots_at t i) xs (entry_names paths (whole_path names)) are entry_names_are
 
-    pub count_is_entries : (xs : List (List ℕ)) → AreNamesOf (slots_at t i) xs → length xs ≡ entry_count paths (whole_path names)
+    pub count_is_entries : (xs : List (List ℕ)) → AreNamesIn (slots_at t i) xs → length xs ≡ entry_count paths (whole_path names)
     count_is_entries xs are = ap (λ (l : List (List ℕ)). length l) (names_are_entries xs are) ∙ length-map (entry_paths paths (whole_path names)) name_of
 
     pub no_entries_if_bare : IsBare (slots_at t i) → has_entries paths (whole_path names) ≡ false

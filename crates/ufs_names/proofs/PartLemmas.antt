@@ -23,7 +23,8 @@ use Rattle.ufs_names.proofs.StandsLemmas.{stands_put, stands_gone, stands_rename
 use Rattle.ufs_names.proofs.OnceLemmas.{once_dir, once_gone, once_renamed}
 use Rattle.ufs_names.proofs.LinkLemmas.{named_dir, unnamed_gone, named_left, unnamed_renamed, named_renamed}
 use Rattle.ufs_names.proofs.SettleLemmas.{part_paths, part_unnamed}
-use Rattle.ufs_names.proofs.AllowedLemmas.{mkdir_allowed, rmdir_allowed, unlink_allowed, IsRenamed, rename_allowed, may_rename, bytes_differ}
+use Rattle.ufs_model.proofs.NewNameLemmas.{IsRenamed, rename_allowed, may_rename}
+use Rattle.ufs_names.proofs.AllowedLemmas.{mkdir_allowed, rmdir_allowed, unlink_allowed, bytes_differ, old_names, new_names}
 
 -- the tree after a request that isn't refused
 pub tree_after : KeepsTrees → (t : PosixTree) (client : ℕ) (request : Op) → IsTree t → refusal t client request ≡ None → IsTree (change t client request)
@@ -82,13 +83,13 @@ module _ (keeps : KeepsTrees) (n : NamesPart) (t : PosixTree) (client : ℕ) (pa
   part_renamed (f ∷ fs) (g ∷ gs) is other tree moves = by (bytes_eq (whole_path (f ∷ fs)) (whole_path (g ∷ gs))) (bytes_differ _ _ other) tree
     where
       may : MayRename t.paths f fs g gs
-      may = may_rename t.paths part.tree.namespace f fs g gs is other
+      may = may_rename t.paths part.tree.namespace f fs g gs is (bytes_differ (whole_path (f ∷ fs)) (whole_path (g ∷ gs)) other)
 
       done : IsTree (forget (record t { paths = renamed t.paths (whole_path (f ∷ fs)) (whole_path (g ∷ gs)) }) (file_of (map.get t.paths (whole_path (g ∷ gs)))))
           → IsPartOf (settled_node (record n { dirs = d }) (file_of (map.get t.paths (whole_path (g ∷ gs))))) (forget (record t { paths = renamed t.paths (whole_path (f ∷ fs)) (whole_path (g ∷ gs)) }) (file_of (map.get t.paths (whole_path (g ∷ gs)))))
       done tree =
           part_unnamed n t part d (renamed t.paths (whole_path (f ∷ fs)) (whole_path (g ∷ gs)))
-          (stands_renamed n.dirs d t.paths part.paths f fs g gs may is.old_names moves)
+          (stands_renamed n.dirs d t.paths part.paths f fs g gs may (old_names t.paths (f ∷ fs) (g ∷ gs) is) moves)
           (once_renamed t.paths part.once f fs g gs may)
           (file_of (map.get t.paths (whole_path (g ∷ gs))))
           (λ h stood. unnamed_renamed t.paths f fs g gs may h part.once stood)
@@ -102,7 +103,7 @@ module _ (keeps : KeepsTrees) (n : NamesPart) (t : PosixTree) (client : ℕ) (pa
       by true e tree = cc
       by false e tree =
           subst (λ o. IsPartOf (settled_node (record n { dirs = d }) (file_of o)) (forget (record t { paths = renamed t.paths (whole_path (f ∷ fs)) (whole_path (g ∷ gs)) }) (file_of (map.get t.paths (whole_path (g ∷ gs))))))
-          (met n.dirs t.paths part.paths (g ∷ gs) is.new_names) (done tree)
+          (met n.dirs t.paths part.paths (g ∷ gs) (new_names t.paths (f ∷ fs) (g ∷ gs) is)) (done tree)
 
   pub part_rename : (from to : List ℕ) → refusal t client (op.Rename from to) ≡ None → (whole_of from ≡ whole_of to → ⊥) → MovesNodes (node_at n.dirs) (node_at d) (components from) (components to)
       → IsPartOf (settled_node (record n { dirs = d }) (file_of (node_at n.dirs (components to)))) (change t client (op.Rename from to))

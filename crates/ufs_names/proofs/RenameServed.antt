@@ -29,7 +29,8 @@ use Rattle.ufs_names.proofs.NameLists.{AreNames, names_of}
 use Rattle.ufs_names.proofs.WalkLinks.{met_at}
 use Rattle.ufs_names.proofs.PartFacts.{file_told}
 use Rattle.ufs_names.proofs.PartLemmas.{part_rename, part_same_name}
-use Rattle.ufs_names.proofs.AllowedLemmas.{rename_allowed, bytes_differ}
+use Rattle.ufs_model.proofs.NewNameLemmas.{rename_allowed}
+use Rattle.ufs_names.proofs.AllowedLemmas.{bytes_differ}
 use Rattle.ufs_names.proofs.ConditionLemmas.{rename_moves}
 use Rattle.ufs_names.proofs.EntryLemmas.{bare_if_no_entries}
 use Rattle.ufs_names.proofs.ServedLemmas.{served_as}
@@ -65,7 +66,7 @@ module _ (n : NamesPart) (t : PosixTree) (ask : Ask) (part : IsPartOf n t) (old 
       may_go table other i dir =
           let is = rename_allowed t ask.client old new part.tree let_be in
           let there : has_dir t.paths (whole_of new) ≡ true = ap is_dir (met_at n.dirs t.paths part.paths new texts.1 ∙ ap (option_map node_of) dir) in
-          bare_if_no_entries n.dirs t.paths part.tree.namespace table part.paths (components new) is.new_names.plain is.new_names.allowed i dir
+          bare_if_no_entries n.dirs t.paths part.tree.namespace table part.paths (components new) is.new_plain is.new_allowed i dir
           (last_false _ _ (has_entries t.paths (whole_of new)) (ap not (bytes_differ (whole_of old) (whole_of new) other)) there is.bare)
 
       pub rename_may : IsDirTable n.dirs → whole_path from ≢ whole_path to → MayMove n.dirs from to

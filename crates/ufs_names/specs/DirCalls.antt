@@ -1,10 +1,7 @@
 -- What the calls on a tree's directories answer, and what they change.
-use Rattle.std.specs.Prelude.{ℕ, ◌≡◌, ◌≢◌, ◌-◌, List, [], ◌∷◌, ◌++◌, true, Option, Some, None, is_some, IsSome, length, take}
-use Rattle.std.specs.List.{list_any}
-use Rattle.std.specs.Str.{bytes_eq}
+use Rattle.std.specs.Prelude.{ℕ, ◌≡◌, ◌≢◌, ◌-◌, List, [], ◌∷◌, ◌++◌, Option, Some, None, IsSome, length, take}
 use Rattle.ufs_layout.specs.DentryForm.{DentryForm}
 use Rattle.ufs_dirs.specs.Directory.{entry_of}
-use Rattle.ufs_model.specs.Order.{names_rise}
 use Rattle.ufs_base.specs.Choices.{first_of}
 use Rattle.ufs_model.specs.Walk.{dir_refusal}
 use Rattle.ufs_model.specs.declared.data.Errno.{Errno}
@@ -28,11 +25,6 @@ abbrev pub refusal_by : Nodes → List (List ℕ) → List (List ℕ) → Option
 refusal_by at above [] = None
 refusal_by at above (name ∷ []) = None
 refusal_by at above (name ∷ next ∷ names) = first_of (dir_refusal (at (above ++ name ∷ []))) (refusal_by at (above ++ name ∷ []) (next ∷ names))
-
--- the names in a directory's slots, rising
-pub record AreNamesOf (slots : List DentryForm) (names : List (List ℕ)) : Type 0 where
-  pub rising : names_rise names ≡ true
-  pub each : (name : List ℕ) → list_any (bytes_eq name) names ≡ is_some (entry_of slots name)
 
 -- no name is in the directory's slots
 abbrev pub IsBare : List DentryForm → Type 0

@@ -18,7 +18,7 @@ use Rattle.ufs_model.specs.declared.data.Ask.{Ask}
 use Rattle.ufs_model.specs.declared.data.Reply.{Reply}
 use Rattle.ufs_model.specs.declared.data.Reply.TheVariants as reply
 use Rattle.ufs_names.specs.DirTable.{DirTable, IsDirTable, slots_at, found_at}
-use Rattle.ufs_names.specs.DirCalls.{AreNamesOf}
+use Rattle.ufs_dirs.specs.Names.{AreNamesIn}
 use Rattle.ufs_names.specs.NamesPart.{NamesPart, IsPartOf, holding_of, unheld, with_holder}
 use Rattle.ufs_names.specs.declared.found.Found.{Found}
 use Rattle.ufs_names.specs.declared.found.Found.TheVariants.{Dir, File}
@@ -75,12 +75,12 @@ opened_part n dirs client trunc (Some (File f)) = with_open_file n client trunc 
 -- What a `stat` is answered: the number of a directory's names, or the number of a file's bytes.
 abbrev pub IsStat : NamesPart → Option Found → Reply → Type 0
 IsStat n None r = r ≡ reply.Done
-IsStat n (Some (Dir i)) r = (names : List (List ℕ)) → AreNamesOf (slots_at n.dirs i) names → r ≡ reply.IsDir (length names)
+IsStat n (Some (Dir i)) r = (names : List (List ℕ)) → AreNamesIn (slots_at n.dirs i) names → r ≡ reply.IsDir (length names)
 IsStat n (Some (File f)) r = r ≡ reply.IsFile (length (bytes_of n.bytes f))
 
 -- What a `list` is answered: a directory's names.
 abbrev pub IsList : NamesPart → Option Found → Reply → Type 0
-IsList n (Some (Dir i)) r = (names : List (List ℕ)) × (AreNamesOf (slots_at n.dirs i) names × (r ≡ reply.Names names))
+IsList n (Some (Dir i)) r = (names : List (List ℕ)) × (AreNamesIn (slots_at n.dirs i) names × (r ≡ reply.Names names))
 IsList n _ r = Unit {0}
 
 -- The request is on the path of these names, at which this was found, and isn't refused.

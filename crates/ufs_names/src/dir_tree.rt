@@ -4,7 +4,7 @@ ghost use Rattle.std.specs.Option.{option_map};
 ghost use Rattle.ufs_model.specs.Walk.{dir_refusal};
 ghost use Rattle.ufs_names.specs.DirTable.{found_of, node_of};
 ghost use Rattle.ufs_names.specs.declared.found.Found.TheVariants as found;
-ghost use Rattle.ufs_names.specs.DirCalls.{AreNamesOf};
+ghost use Rattle.ufs_dirs.specs.Names.{AreNamesIn};
 
 use crate::found::Found;
 use std::alloc::Global;
@@ -113,7 +113,7 @@ impl DirTree {
 
     /// How many names the directory has.
     pub fn count(&self, dir: u32) -> u32
-        ensures { (names : List (List ℕ)) → AreNamesOf (slots_at self.now dir) names → result ≡ length names }
+        ensures { (names : List (List ℕ)) → AreNamesIn (slots_at self.now dir) names → result ≡ length names }
     {
         match self.dirs.get(dir as usize) {
             Some(directory) => directory.count(),
@@ -133,7 +133,7 @@ impl DirTree {
 
     /// The directory's names, in rising byte order.
     pub fn names(&self, dir: u32) -> Result<NameList, Memory>
-        ensures { IfOk result (λ names. AreNamesOf (slots_at self.now dir) names) }
+        ensures { IfOk result (λ names. AreNamesIn (slots_at self.now dir) names) }
     {
         match self.dirs.get(dir as usize) {
             Some(directory) => names_in(self.alloc, directory),
@@ -167,7 +167,7 @@ fn dir_met(at: Option<Found>) -> Result<u32, Errno>
 
 /// The names of a directory, in rising byte order.
 fn names_in(alloc: Global, blocks: &DirBlocks) -> Result<NameList, Memory>
-    ensures { IfOk result (λ names. AreNamesOf blocks.now.slots names) }
+    ensures { IfOk result (λ names. AreNamesIn blocks.now.slots names) }
 {
     let mut names = Vec::new(alloc);
     for rank in 0..blocks.count() {

@@ -13,8 +13,6 @@ mod open_calls;
 mod opening;
 mod path_calls;
 mod renaming;
-#[cfg(test)]
-mod tests;
 
 pub use found::Found;
 pub use names::{Applied, Names};

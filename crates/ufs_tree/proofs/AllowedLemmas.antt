@@ -5,20 +5,15 @@ use Rattle.ufs_model.specs.Paths.{text_refusal, is_root}
 use Rattle.ufs_model.specs.PosixTree.{PosixTree}
 use Rattle.ufs_model.specs.Walk.{walk_refusal, node_at}
 use Rattle.ufs_model.specs.Refusals.{refusal, rename_refusal}
-use Rattle.ufs_model.proofs.Facts.Allowed.{first_none, passed}
-use Rattle.ufs_tree.proofs.RisingLemmas.{unfound}
+use Rattle.ufs_model.proofs.Facts.Allowed.{first_none, passed, missing, some_there}
 use Rattle.ufs_model.specs.declared.data.Errno.TheVariants.{Eexist, Ebusy, Enoent}
 use Rattle.ufs_model.specs.declared.data.Op.TheVariants as op
-
-there : {A : Type 0} (o : Option A) → is_none o ≡ false → is_some o ≡ true
-there None e = cc
-there (Some x) e = refl
 
 pub nothing_there : (t : PosixTree) (client : ℕ) (path : List ℕ) → refusal t client (op.Mkdir path) ≡ None → node_at t.paths path ≡ None
 nothing_there t client path e =
     let own = first_none (text_refusal path) _ e in
     let walk = first_none (walk_refusal t.paths path) (refused_if (is_some (node_at t.paths path)) Eexist) own.1 in
-    unfound (node_at t.paths path) (passed _ Eexist walk.1)
+    missing (node_at t.paths path) (passed _ Eexist walk.1)
 
 pub old_name_there : (t : PosixTree) (client : ℕ) (from to : List ℕ) → refusal t client (op.Rename from to) ≡ None → is_some (node_at t.paths from) ≡ true
 old_name_there t client from to e =
@@ -26,4 +21,4 @@ old_name_there t client from to e =
     let root = first_none (refused_if (is_root from || is_root to) Ebusy) _ both.1 in
     let walk = first_none (walk_refusal t.paths from) _ root.1 in
     let here = first_none (refused_if (is_none (node_at t.paths from)) Enoent) _ walk.1 in
-    there (node_at t.paths from) (passed _ Enoent here.0)
+    some_there (node_at t.paths from) (passed _ Enoent here.0)

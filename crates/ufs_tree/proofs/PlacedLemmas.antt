@@ -18,20 +18,21 @@ use Rattle.ufs_model.specs.declared.data.PathNode.TheVariants as path_node
 use Rattle.ufs_model.proofs.Facts.Orders.{path_total, path_same}
 use Rattle.ufs_tree.proofs.ListLemmas.{from_place}
 use Rattle.ufs_model.proofs.Facts.Rising.{find-earlier}
-use Rattle.ufs_tree.proofs.RisingLemmas.{unfound, found_there}
+use Rattle.ufs_tree.proofs.RisingLemmas.{found_there}
+use Rattle.ufs_model.proofs.Facts.Allowed.{missing}
 use Rattle.ufs_model.proofs.Facts.Starts.{Pairs, next_rises, stands-paths_from, held-bytes_from, within_zero}
 use Rattle.ufs_tree.proofs.StartLemmas.{paths_from-push, bytes_from-push, next_from-push, next_from-append}
 
 paths_push : (es : Pairs) (e : List ℕ × PathNode) → find path_cmp e.0 es ≡ None → map.insert (start_from es).paths e.0 (node_from (start_from es).next e.1) ≡ (start_from (es ++ e ∷ [])).paths
 paths_push es e none =
     sym (ap map.from_entries (paths_from-push 0 es e)
-    ∙ from_entries_push path_total path_same (paths_from 0 es) e.0 _ (unfound _ (stands-paths_from e.0 0 es ∙ ap is_some none)))
+    ∙ from_entries_push path_total path_same (paths_from 0 es) e.0 _ (missing _ (stands-paths_from e.0 0 es ∙ ap is_some none)))
 
 bytes_push : (es : Pairs) (path bytes : List ℕ) → map.insert (start_from es).bytes (start_from es).next bytes ≡ (start_from (es ++ (path, path_node.File bytes) ∷ [])).bytes
 bytes_push es path bytes =
     let next = next_from 0 es in
     sym (ap map.from_entries (bytes_from-push 0 es (path, path_node.File bytes))
-    ∙ from_entries_push nat_cmp_total nat_cmp-IsAntisymmetric (bytes_from 0 es) next bytes (unfound _ (held-bytes_from next 0 es ∙ within_zero next next ∙ le-ltb next next (omega arith))))
+    ∙ from_entries_push nat_cmp_total nat_cmp-IsAntisymmetric (bytes_from 0 es) next bytes (missing _ (held-bytes_from next 0 es ∙ within_zero next next ∙ le-ltb next next (omega arith))))
 
 start_from-push : (es : Pairs) (e : List ℕ × PathNode) → find path_cmp e.0 es ≡ None → with_path (start_from es) e.0 e.1 ≡ start_from (es ++ e ∷ [])
 start_from-push es (path, path_node.Dir) none =
@@ -76,7 +77,7 @@ module _ (es : List PathEntry) (i : ℕ) (d : PathEntry) (below : i < length es)
       let front = pairs_of (take i es) in
       let none = find-earlier path_cmp path_total front e (pairs_of (drop (i + 1) es)) (ap (is_sorted path_cmp) divided ∙ rising) in
       ap (λ (u : PosixTree). map.get u.paths e.0) is ∙ get-from_entries path_total (paths_from 0 front) e.0
-      ∙ unfound _ (stands-paths_from e.0 0 front ∙ ap is_some none)
+      ∙ missing _ (stands-paths_from e.0 0 front ∙ ap is_some none)
 
 -- the entries of a tree of paths make it anew
 pub anew : (es : List PathEntry) (nodes : PathNodes) → pairs_of es ≡ map.entries nodes → nodes_of es ≡ nodes

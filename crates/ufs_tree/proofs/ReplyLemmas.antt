@@ -3,48 +3,21 @@ use Rattle.std.proofs.Common.{◌≡◌, ◌↔◌, ◌⊎◌, inl, inr, IsTrue,
 use Rattle.ufs_model.specs.Excuses.{ExcuseFits}
 use Rattle.ufs_model.specs.History.{IsExcused}
 use Rattle.ufs_model.specs.PosixTree.{PosixTree}
-use Rattle.ufs_model.specs.Posix.{posix, served, answer, stat_reply}
-use Rattle.ufs_model.specs.Refusals.{refusal}
-use Rattle.ufs_model.specs.declared.data.Errno.{Errno}
+use Rattle.ufs_model.specs.Posix.{posix}
 use Rattle.ufs_model.specs.declared.data.Excuse.{Excuse}
-use Rattle.ufs_model.specs.declared.data.Node.{Node}
-use Rattle.ufs_model.specs.declared.data.Node.TheVariants.{Dir, File}
 use Rattle.ufs_model.specs.declared.data.Op.{Op}
-use Rattle.ufs_model.specs.declared.data.Op.TheVariants as op
 use Rattle.ufs_model.specs.declared.data.Reply.{Reply}
 use Rattle.ufs_model.specs.declared.data.Reply.TheVariants as reply
+use Rattle.ufs_model.proofs.PosixReplyLemmas.{IsPlain, posix_plain}
 use Rattle.ufs_tree.specs.Told.{excuse_of}
 
-stat_tells_none : (t : PosixTree) (whole : List ℕ) (node : Option Node) → excuse_of (stat_reply t whole node) ≡ None
-stat_tells_none t whole None = refl
-stat_tells_none t whole (Some Dir) = refl
-stat_tells_none t whole (Some (File f)) = refl
-
-answer_tells_none : (t : PosixTree) (client : ℕ) (request : Op) → excuse_of (answer t client request) ≡ None
-answer_tells_none t client (op.Stat path) = stat_tells_none t _ _
-answer_tells_none t client (op.OpenFile path read write creat excl trunc append) = refl
-answer_tells_none t client (op.Close fd) = refl
-answer_tells_none t client (op.Read fd n) = refl
-answer_tells_none t client (op.Write fd data') = refl
-answer_tells_none t client (op.Pread fd n at) = refl
-answer_tells_none t client (op.Pwrite fd data' at) = refl
-answer_tells_none t client (op.Seek fd from by) = refl
-answer_tells_none t client (op.Trunc fd size) = refl
-answer_tells_none t client (op.Fsync fd) = refl
-answer_tells_none t client op.Sync = refl
-answer_tells_none t client (op.Mkdir path) = refl
-answer_tells_none t client (op.Rmdir path) = refl
-answer_tells_none t client (op.Unlink path) = refl
-answer_tells_none t client (op.Rename from to) = refl
-answer_tells_none t client (op.List path) = refl
-
-served_tells_none : (t : PosixTree) (client : ℕ) (request : Op) (r : Option Errno) → excuse_of (served t client request r).1 ≡ None
-served_tells_none t client request (Some e) = refl
-served_tells_none t client request None = answer_tells_none t client request
+plain_tells_none : (r : Reply) → IsPlain r → excuse_of r ≡ None
+plain_tells_none (reply.Excused x) plain = absurd (plain x refl)
+plain_tells_none _ plain = refl
 
 -- POSIX excuses nothing
 pub posix_tells_none : (t : PosixTree) (client : ℕ) (request : Op) → excuse_of (posix t client request).1 ≡ None
-posix_tells_none t client request = served_tells_none t client request (refusal t client request)
+posix_tells_none t client request = plain_tells_none (posix t client request).1 (posix_plain t client request)
 
 is_excuse : (r : Reply) (x : Excuse) → excuse_of r ≡ Some x → r ≡ reply.Excused x
 is_excuse (reply.Excused y) x e = cc

@@ -8,10 +8,6 @@ use Rattle.std.specs.Cmp.{IsTotalOrder, eq_by_cmp_equiv}
 use Rattle.std.specs.FinMap.{find, is_sorted}
 use Rattle.std.specs.FinMap.Entries.{below_all}
 
-pub unfound : {X : Type 0} (o : Option X) → is_some o ≡ false → o ≡ None
-unfound None e = refl
-unfound (Some x) e = cc
-
 module _ {K X : Type 0} (R : K → K → Ordering) (o : IsTotalOrder R) where
   -- an entry of a list is found in it
   pub found_there : (front : List (K × X)) (e : K × X) (later : List (K × X)) → is_some (find R e.0 (front ++ e ∷ later)) ≡ true

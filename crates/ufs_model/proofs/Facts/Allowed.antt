@@ -1,5 +1,5 @@
 -- What holds of a path that isn't refused.
-use Rattle.std.proofs.Common.{◌≡◌, ℕ, List, [], ◌∷◌, ◌++◌, Bool, true, false, not, eqb, ltb, length, Option, Some, None, ap, refl, ◌∙◌}
+use Rattle.std.proofs.Common.{◌≡◌, ℕ, List, [], ◌∷◌, ◌++◌, Bool, true, false, not, eqb, ltb, length, Option, Some, None, is_some, is_none, ap, refl, ◌∙◌}
 use Rattle.ufs_base.specs.Choices.{refused_if, first_of}
 use Rattle.ufs_model.specs.Paths.{components, whole_path, whole_of, text_refusal, components_refusal, IsWhole}
 use Rattle.ufs_model.specs.declared.data.Errno.{Errno}
@@ -14,6 +14,15 @@ first_none (Some f) b e = cc
 pub passed : (test : Bool) (e : Errno) → refused_if test e ≡ None → test ≡ false
 passed true e h = cc
 passed false e h = refl
+
+-- what is there or isn't
+pub missing : {A : Type 0} (o : Option A) → is_some o ≡ false → o ≡ None
+missing None e = refl
+missing (Some x) e = cc
+
+pub some_there : {A : Type 0} (o : Option A) → is_none o ≡ false → is_some o ≡ true
+some_there None e = cc
+some_there (Some x) e = refl
 
 -- ---- a path that isn't refused
 

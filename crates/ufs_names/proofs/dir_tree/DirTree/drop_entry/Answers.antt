@@ -12,7 +12,7 @@ unwrap-requires c =
     let kind = sym (ap (λ (e : DentryForm). e.kind) c.entry.view_is) ∙ c.if-entry-eq-DIRECTORY.true in
     let e = c.detach-entry in
     let longer = freed_alike c.args.self.now t e.new.self c.args.dir c.args.name.now e.result c.entry.inside.inode c.self.view_is e.ensures.entries e.ensures.was c.requires.may_go c.self.invariant.0 e.ensures.loose kind
-        (ap (λ (e : DentryForm). e.inode) c.entry.view_is) in
+    (ap (λ (e : DentryForm). e.inode) c.entry.view_is) in
     c.push.ensures.succeeds (omega (arith, one_more_free c.self.inside.dirs.items c.self.inside.free.items c.entry.inside.inode longer, c.self.invariant.1))
 
 pushed : (c : After-unwrap) → IsDirTable (record { dirs = c.self.inside.dirs.items; free = c.push.new.self.items })
@@ -22,7 +22,7 @@ pushed c =
     let kind = sym (ap (λ (e : DentryForm). e.kind) c.entry.view_is) ∙ c.if-entry-eq-DIRECTORY.true in
     let e = c.detach-entry in
     let longer = freed_alike c.args.self.now t e.new.self c.args.dir c.args.name.now e.result c.entry.inside.inode c.self.view_is e.ensures.entries e.ensures.was c.requires.may_go c.self.invariant.0 e.ensures.loose kind
-        (ap (λ (e : DentryForm). e.inode) c.entry.view_is) in
+    (ap (λ (e : DentryForm). e.inode) c.entry.view_is) in
     let behind = c.push.ensures.items ∙ ap (λ r. if is_ok r then free ++ c.entry.inside.inode ∷ [] else free) c.unwrap.ensures in
     subst (λ (l : List ℕ). IsDirTable (record { dirs = c.self.inside.dirs.items; free = l })) (sym behind) longer
 

@@ -1,9 +1,9 @@
-// What no clause says: a session ends well where there is memory, and its replies are those of the plain tree.
-use crate::{EndFault, play};
+// What no clause says of sessions: one ends well where there is memory, and its replies are those of the plain tree.
 use std::alloc::{AllocError, Global};
 use std::process::Abort;
 use std::test::Fail;
 use ufs_disk::PlainDisk;
+use ufs_engine::{EndFault, play};
 use ufs_io::PlainSource;
 use ufs_model::Reply;
 use ufs_script::{Script, read_script, reply_line};
