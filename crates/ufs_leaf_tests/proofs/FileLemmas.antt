@@ -4,7 +4,7 @@ use Rattle.std.proofs.lemmas.Bool.Decides.{nat_tests, eqb_tells}
 use Rattle.std.proofs.lemmas.Map.Keys.{IsDistinct-push}
 use Rattle.std.proofs.lemmas.List.Folds.{list_any-append}
 use Rattle.std.specs.List.{IsDistinct, list_any}
-use Rattle.std.specs.Ordering.{nat_cmp}
+use Rattle.std.specs.Ordering.{nat_cmp, eq_by_cmp}
 use Rattle.std.specs.Cmp.{nat_cmp_total, unsigned_tied, nat_eq_equiv}
 use Rattle.std.specs.FinSet as set
 use Rattle.ufs_model.specs.declared.data.Load.{Load}
@@ -46,3 +46,9 @@ push_low loads l n low e q h = cases (list_any (eqb q) (map (λ (x : Load). x.fi
 
 pub inserted : (s : set.FinSet nat_cmp) (k : ℕ) → set.contains (set.insert s k) k ≡ true
 inserted s k = set.contains-insert nat_cmp_total s k k ∙ ap (λ b. b || set.contains s k) (unsigned_tied k k ∙ (let e : nat_eq k k ≡ true = grind (arith, nat_tests) in e))
+
+pub kept : (s : set.FinSet nat_cmp) (k q : ℕ) → set.contains s q ≡ true → set.contains (set.insert s k) q ≡ true
+kept s k q h = set.contains-insert nat_cmp_total s k q ∙ ap (λ b. eq_by_cmp nat_cmp q k || b) h ∙ always (eq_by_cmp nat_cmp q k) where
+  always : (b : Bool) → (b || true) ≡ true
+  always true = refl
+  always false = refl

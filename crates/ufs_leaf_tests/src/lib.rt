@@ -4,6 +4,8 @@
 #[cfg(test)]
 mod loads;
 #[cfg(test)]
+mod nodes;
+#[cfg(test)]
 mod rings;
 
 /// The next of a row of numbers that look drawn by chance.
