@@ -1,5 +1,5 @@
 -- What a disk holds: a state gives each sector the contents that a crash may leave in it.
-use Rattle.std.specs.Prelude.{◌≡◌, ◌⊎◌, ◌≤◌, ◌<◌, ℕ, zero, suc, ◌+◌, ◌/◌, ◌%◌, List, [], ◌∷◌, ◌++◌, length, take, drop, slice_index, if◌then◌else◌, ◌==◌}
+use Rattle.std.specs.Prelude.{◌≡◌, ◌⊎◌, ◌≤◌, ◌<◌, ℕ, zero, suc, ◌+◌, ◌/◌, ◌%◌, List, [], ◌∷◌, ◌++◌, length, take, drop, if◌then◌else◌, ◌==◌}
 use Rattle.ufs_base.specs.Images.{Image, IsSector}
 
 -- one sector: what a read gives, and what stood there before it since the last barrier that succeeded, oldest first

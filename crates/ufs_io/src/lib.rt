@@ -8,11 +8,12 @@ mod sinks;
 mod sources;
 mod streams;
 
-ghost use Rattle.std.specs.Prelude.{ℕ, List, ◌<◌, IfOk, length};
+ghost use Rattle.std.specs.Option.{option_map};
+ghost use Rattle.std.specs.Prelude.{◌≡◌, ℕ, List, ◌<◌, IfOk, length};
 ghost use Rattle.std.specs.Io.{ReadsAtMost, WritesAtMost};
 ghost use Rattle.std.specs.Io.KnownBytes.{ReadConsumes, WriteAppends};
 ghost use Rattle.std.specs.declared.option.Option.{Option};
-ghost use Rattle.ufs_base.specs.Faults.{HasCause};
+ghost use Rattle.ufs_base.specs.Faults.{HasCause, raised};
 
 pub use clocks::{HandClock, MilliClock};
 pub use gates::OpenGate;
@@ -32,11 +33,15 @@ pub trait Source {
     /// How often a read has failed. The count stands still at 2^64 - 1.
     ghost faults: { Self → ℕ };
 
+    /// How many reads were made, where the source tells. The count stands still at 2^64 - 1.
+    ghost reads: { Self → Option ℕ };
+
     /// Reads into the front of the buffer, and answers how many bytes.
     /// 0 bytes into a buffer that isn't empty is the end.
     fn read(&mut self, buf: &mut [u8]) -> Result<usize, Failed>
         ensures bound { ReadsAtMost result buf.new }
         ensures bytes { ReadConsumes (left self.old) (left self.new) result buf.new }
+        ensures read { reads self.new ≡ option_map raised (reads self.old) }
         ensures cause { HasCause (faults self.old) (faults self.new) result };
 }
 

@@ -1,6 +1,6 @@
 // The source and the sink over a reader and a writer of std, such as standard input and output.
 // They tell of bytes what these tell; the real streams tell nothing.
-ghost use Rattle.std.specs.Prelude.{◌≡◌};
+ghost use Rattle.std.specs.Prelude.{◌≡◌, None};
 
 use crate::{Failed, Sink, Source};
 use std::io::{Read, Write};
@@ -33,6 +33,8 @@ impl<R: Read + Drop> Source for StreamSource<R> {
     ghost left = { λ s. R.remaining s.stream };
 
     ghost faults = { λ s. s.faults };
+
+    ghost reads = { λ _. None };
 
     fn read(&mut self, buf: &mut [u8]) -> Result<usize, Failed> {
         match self.stream.read(buf) {

@@ -6,3 +6,4 @@ pub mod InsideLemmas
 pub mod SpellingLemmas
 pub mod PrintedLemmas
 pub mod Rows
+pub mod ReadLemmas

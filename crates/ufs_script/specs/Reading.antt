@@ -1,5 +1,5 @@
 -- What a reading of a script took of its source, and what it read.
-use Rattle.std.specs.Prelude.{ℕ, ◌≡◌, ◌<◌, ◌⊎◌, List, ◌++◌, length, Option, Ok, Err}
+use Rattle.std.specs.Prelude.{ℕ, ◌+◌, ◌-◌, ◌≡◌, ◌<◌, ◌≤◌, ⊤, ◌⊎◌, List, ◌++◌, length, Option, Some, Ok, Err}
 use Rattle.std.specs.Io.KnownBytes.{Consumes, IsAtEnd}
 use Rattle.ufs_script.specs.Script.{script_of, max_script}
 use Rattle.ufs_script.specs.declared.script.Script.{Script}
@@ -9,6 +9,28 @@ use Rattle.ufs_script.specs.declared.fault.ScriptFault.{ScriptFault}
 pub record HasRead (old new : Option (List ℕ)) (text : List ℕ) : Type 0 where
   pub taken : Consumes old new text
   pub ended : IsAtEnd new ⊎ (max_script < length text)
+
+-- the bytes of a piece that is read at once
+abbrev pub piece : ℕ
+piece = 4096
+
+-- It took at most the greatest length of a script and one piece more, where the source tells its bytes.
+abbrev pub TakesAtMost : Option (List ℕ) → Option (List ℕ) → Type 0
+TakesAtMost None new = ⊤
+TakesAtMost (Some before) None = ⊤
+TakesAtMost (Some before) (Some now) = length before ≤ length now + (max_script + piece)
+
+-- at most so many reads were made, where the source tells
+abbrev pub MadeAtMost : ℕ → Option ℕ → Option ℕ → Type 0
+MadeAtMost count None new = ⊤
+MadeAtMost count (Some before) None = ⊤
+MadeAtMost count (Some before) (Some now) = now ≤ before + count
+
+-- Each of its reads but one took a byte: so none was made behind the end.
+abbrev pub ReadsEachOnce : Option (List ℕ) → Option (List ℕ) → Option ℕ → Option ℕ → Type 0
+ReadsEachOnce None new made made' = ⊤
+ReadsEachOnce (Some before) None made made' = ⊤
+ReadsEachOnce (Some before) (Some now) made made' = MadeAtMost (length before - length now + 1) made made'
 
 -- the source was read to its end or past the greatest length, and its bytes are this script
 abbrev pub ReadsScript : Option (List ℕ) → Option (List ℕ) → Script → Type 0

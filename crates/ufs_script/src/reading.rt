@@ -3,7 +3,7 @@ ghost use Rattle.std.specs.Prelude.{◌≡◌, ◌≢◌, ◌≤◌, [], IfOk, I
 ghost use Rattle.ufs_base.specs.Faults.{raised};
 ghost use Rattle.ufs_script.specs.Script.{IsOutside};
 ghost use Rattle.ufs_script.specs.declared.fault.ScriptFault.{ScriptFault};
-ghost use Rattle.ufs_script.specs.Reading.{HasRead, ReadsScript, ReadsBreak};
+ghost use Rattle.ufs_script.specs.Reading.{HasRead, ReadsScript, ReadsBreak, TakesAtMost, ReadsEachOnce};
 
 use crate::fault::ScriptFault;
 use crate::script::{MAX_SCRIPT, Script, parse};
@@ -22,6 +22,9 @@ fn read_all<S: Source>(alloc: Global, source: &mut S) -> Result<Vec<u8>, ScriptF
         S.faults source.new ≡ S.faults source.old }
     ensures outside { IfErr result IsOutside }
     ensures text { IfOk result (λ text. HasRead (S.left source.old) (S.left source.new) text.items) }
+    ensures most { TakesAtMost (S.left source.old) (S.left source.new) }
+    ensures once { ReadsEachOnce (S.left source.old) (S.left source.new)
+        (S.reads source.old) (S.reads source.new) }
 {
     let mut text = Vec::new(alloc);
     let mut buf = [0u8; 4096];
@@ -53,6 +56,9 @@ pub fn read_script<S: Source>(alloc: Global, source: &mut S) -> Result<Script, S
     ensures script { IfOk result (ReadsScript (S.left source.old) (S.left source.new)) }
     ensures broken { (fault : ScriptFault) → result ≡ Err fault → ¬ IsOutside fault →
         ReadsBreak (S.left source.old) (S.left source.new) fault }
+    ensures most { TakesAtMost (S.left source.old) (S.left source.new) }
+    ensures once { ReadsEachOnce (S.left source.old) (S.left source.new)
+        (S.reads source.old) (S.reads source.new) }
     ensures clients { IfOk result (λ script. length script.clients ≤ 16) }
     ensures workers { IfOk result (λ script. script.workers ≡ 1) }
     ensures words { IfOk result (λ script. script.words ≡ []) }
