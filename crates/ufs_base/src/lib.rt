@@ -1,7 +1,13 @@
-//! What every floor needs: want of memory, and in `specs/` counts of faults, choices and images.
+//! What every floor needs: want of memory, the sizes of the format, and in `specs/` counts of faults, choices and images.
 #![tactic(auto)]
 
+mod sizes;
+
 use std::alloc::{AllocError, AllocFailed};
+
+pub use sizes::{
+    BLOCK, MAX_BLOCKS, MAX_EXTENTS, MAX_NAME, SECTOR, SECTORS_PER_BLOCK, SLOT, SLOTS_PER_BLOCK, SLOTS_PER_SECTOR,
+};
 
 /// Memory ran out: the only error of a call that allocates and can fail by nothing else.
 #[derive(Clone, Copy, Debug, PartialEq, Eq)]

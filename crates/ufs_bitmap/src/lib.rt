@@ -8,5 +8,3 @@ mod word_set;
 pub use free_space::Bitmap;
 pub use own_pool::Pool;
 
-#[cfg(test)]
-mod tests;

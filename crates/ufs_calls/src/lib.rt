@@ -6,8 +6,6 @@ mod mode;
 mod nodes;
 mod own;
 mod places;
-#[cfg(test)]
-mod tests;
 
 pub use file_map::FileMap;
 pub use mode::Mode;

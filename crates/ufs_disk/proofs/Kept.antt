@@ -2,7 +2,8 @@
 use Rattle.std.proofs.Common.{◌≡◌, inl, inr, ⊎_elim, ℕ, ◌+◌, ◌≤◌, ◌<◌, List, [], ◌∷◌, length, sym, ◌∙◌, ap, subst, arith}
 use Rattle.std.specs.List.{AllByRecursion}
 use Rattle.std.proofs.lemmas.Bool.{cases_eq}
-use Rattle.ufs_disk.specs.Disk.{Cell, State, IsAmong, IsSector, IsWhole, possible}
+use Rattle.ufs_base.specs.Images.{IsSector}
+use Rattle.ufs_disk.specs.Disk.{Cell, State, IsAmong, IsWhole, possible}
 use Rattle.ufs_disk.specs.Moments.{Moments, moved}
 use Rattle.ufs_disk.specs.Calls.{give, settled, written}
 use Rattle.ufs_disk.proofs.Images.{if_eq, if_ne, among_append, among_last}

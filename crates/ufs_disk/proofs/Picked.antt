@@ -37,7 +37,7 @@ module _ (size : ℕ) (st : State) (whole : IsWhole size st) where
   choice_among pick sector = get_among (possible (st sector)) (pick % length (possible (st sector))) [] (omega (arith, some_possible (st sector) (possible (st sector)) refl))
 
   choice_long : (pick sector : ℕ) → sector < size → length (choice pick sector) ≡ 512
-  choice_long pick sector lt = (whole.within sector lt (choice pick sector) (choice_among pick sector)).long
+  choice_long pick sector lt = (whole.within sector lt (choice pick sector) (choice_among pick sector)).sized
 
   length-picked : (n pick sector : ℕ) → sector + n ≤ size → length (picked st pick sector n) ≡ 512 * n
   length-picked zero pick sector fits = refl

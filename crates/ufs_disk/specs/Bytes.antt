@@ -15,10 +15,6 @@ settled_on image sector = record { older = []; seen = image sector }
 abbrev pub begun : List ℕ → Moments
 begun bytes = record { earlier = []; state = settled_on (image_of bytes) }
 
--- each is below 256
-abbrev pub AreBytes : List ℕ → Type 0
-AreBytes bytes = (k : ℕ) → slice_index bytes k < 256
-
 -- each is 0
 abbrev pub AreZeros : List ℕ → Type 0
 AreZeros bytes = (k : ℕ) → slice_index bytes k ≡ 0

@@ -1,6 +1,6 @@
 -- What a disk holds: a state gives each sector the contents that a crash may leave in it.
 use Rattle.std.specs.Prelude.{◌≡◌, ◌⊎◌, ◌≤◌, ◌<◌, ℕ, zero, suc, ◌+◌, ◌/◌, ◌%◌, List, [], ◌∷◌, ◌++◌, length, take, drop, slice_index, if◌then◌else◌, ◌==◌}
-use Rattle.ufs_base.specs.Images.{Image}
+use Rattle.ufs_base.specs.Images.{Image, IsSector}
 
 -- one sector: what a read gives, and what stood there before it since the last barrier that succeeded, oldest first
 pub record Cell : Type 0 where
@@ -35,11 +35,6 @@ Leaves P state = (image : Image) → IsImage state image → P image
 -- nothing is pending: a crash leaves what a read gives
 abbrev pub IsSettled : State → Type 0
 IsSettled state = Leaves (λ image. image ≡ seen state) state
-
--- 512 bytes
-pub record IsSector (bytes : List ℕ) : Type 0 where
-  pub long : length bytes ≡ 512
-  pub small : (k : ℕ) → slice_index bytes k < 256
 
 -- each content of a sector of the disk is 512 bytes, and past the disk's end nothing stands
 pub record IsWhole (size : ℕ) (state : State) : Type 0 where

@@ -1,6 +1,7 @@
 // A disk in memory that never fails. Each write is on it for good at once, so it keeps no history.
 ghost use Rattle.std.specs.Prelude.{◌≡◌, ◌<◌, ◌*◌, ◌^◌, length, true, false};
-ghost use Rattle.ufs_disk.specs.Bytes.{begun, AreBytes};
+ghost use Rattle.ufs_base.specs.Images.{IsBytes};
+ghost use Rattle.ufs_disk.specs.Bytes.{begun};
 ghost use Rattle.ufs_disk.specs.Whole.{begun_whole};
 
 use crate::ranges::{copy_out, overwrite};
@@ -14,7 +15,7 @@ pub struct PlainDisk {
     pub bytes: Vec<u8>,
     pub ghost in_range: { sectors < 2 ^ 32 },
     pub ghost sized: { length bytes.items ≡ 512 * sectors },
-    pub ghost small_bytes: { AreBytes bytes.items },
+    pub ghost small_bytes: { IsBytes bytes.items },
 }
 
 impl PlainDisk {

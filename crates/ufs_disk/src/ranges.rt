@@ -1,6 +1,6 @@
 // Parts of one list of bytes.
 ghost use Rattle.std.specs.Prelude.{◌≡◌, ◌≤◌, ◌+◌, ◌*◌, ◌++◌, length, take, drop, IfOk};
-ghost use Rattle.ufs_disk.specs.Bytes.{AreBytes};
+ghost use Rattle.ufs_base.specs.Images.{IsBytes};
 
 use crate::SECTOR;
 use std::alloc::{AllocError, Global};
@@ -26,7 +26,7 @@ pub(crate) fn overwrite(all: &mut Vec<u8>, at: usize, bytes: &[u8])
 // A copy of all.
 pub(crate) fn whole_copy(alloc: Global, all: &[u8]) -> Result<Vec<u8>, AllocError>
     ensures items { IfOk result (λ copy. copy.items ≡ all.now) }
-    ensures small { AreBytes all.now }
+    ensures small { IsBytes all.now }
 {
     all.to_vec(alloc)
 }

@@ -1,5 +1,5 @@
 -- The clients are served one after another.
-use Rattle.std.proofs.Common.{◌≡◌, ℕ, ◌+◌, ◌*◌, ◌≤◌, ◌<◌, List, [], ◌∷◌, ◌++◌, Some, None, ap, sym, refl, subst, ◌∙◌, length, arith, zero, suc, ◌⊎◌, inl, inr, unwrap_or}
+use Rattle.std.proofs.Common.{◌≡◌, ℕ, ◌+◌, ◌*◌, ◌≤◌, ◌<◌, List, [], ◌∷◌, ◌++◌, Some, None, ap, sym, refl, subst, ◌∙◌, length, arith, zero, suc, ◌⊎◌, inl, inr, unwrap_or, Result, Ok, Err, IsErr}
 use Rattle.std.specs.Prelude.{slice_get, nat_eq, false}
 use Rattle.std.specs.List.{AllByRecursion, IsDistinct}
 use Rattle.std.specs.FinMap as map
@@ -11,7 +11,9 @@ use Rattle.ufs_model.specs.PosixTree.{PosixTree, root_alone}
 use Rattle.ufs_model.proofs.Facts.Histories.{order_none}
 use Rattle.ufs_model.specs.declared.data.Entry.{Entry}
 use Rattle.ufs_model.specs.declared.data.Op.{Op}
-use Rattle.ufs_engine.specs.Played.{transcript, IsMerged}
+use Rattle.ufs_model.specs.declared.data.Actor.TheVariants.{Primary}
+use Rattle.ufs_engine.specs.declared.played.EndFault.{EndFault}
+use Rattle.ufs_engine.specs.Played.{transcript, AreServedBy, IsMerged, IsPlayed}
 use Rattle.ufs_engine.specs.Serving.{tree_of, IsReached, IsNewcomer, GoesOn, IsDone}
 use Rattle.ufs_names.specs.NamesPart.{NamesPart, IsPartOf}
 
@@ -29,6 +31,10 @@ get_past : {X : Type 0} (xs : List X) (n : ℕ) → length xs ≤ n → slice_ge
 get_past [] n h = refl
 get_past (x ∷ xs) zero h = absurd (omega arith)
 get_past (x ∷ xs) (suc n) h = get_past xs n (omega arith)
+
+not_ok : {E : Type 0} (r : Result (Unit {0}) E) → IsErr r → r ≡ Ok tt → ⊥
+not_ok (Ok x) err ok = cc
+not_ok (Err e) err ok = cc
 
 -- a list without an item
 pub no_items : {X : Type 0} (xs : List X) → length xs ≡ 0 → xs ≡ []
@@ -74,6 +80,7 @@ pub record AreServing (clients : List (List Op)) (told : List (List Entry)) (nam
   pub reached : IsReached (joined told) names
   pub ordered : IsInOrder clients (joined told)
   pub unexcused : AreUnexcused (joined told)
+  pub server : AreServedBy Primary (joined told)
   pub complete : (c : ℕ) → c < count → length (entries_of c (joined told)) ≡ length (requests_of clients c)
   pub each : (c : ℕ) → entries_of c (joined told) ≡ transcript told c
   pub fresh : (c fd : ℕ) → count ≤ c → map.get (tree_of (joined told)).fds (c, fd) ≡ None
@@ -90,6 +97,7 @@ none_served clients told names none short part = subst (λ (l : List (List Entry
   reached = record { part = part; next = omega arith };
   ordered = order_none clients;
   unexcused = tt;
+  server = tt;
   complete = λ c low. absurd (omega (arith, low));
   each = λ c. refl;
   fresh = λ c fd low. get-empty _ (c, fd);
@@ -122,6 +130,18 @@ module _ (clients : List (List Op)) (told : List (List Entry)) (names : NamesPar
       by (inr high) =
           ap (λ (l : List Entry). length l) (is.each c ∙ ap (λ o. unwrap_or o []) (get_past told c (omega (arith, high, is.tolds))))
           ∙ sym (ap (λ o. length (unwrap_or o [])) (get_past clients c (omega (arith, high, all_told none))))
+
+  -- a session that ends here
+  pub played_here : (r : Result (Unit {0}) EndFault) → (r ≡ Ok tt → rest ≡ []) → IsPlayed clients told r (joined told)
+  played_here r none = record {
+    merged = merged;
+    each = λ ok. each_told (none ok);
+    legal = is.legal;
+    server = is.server;
+    ordered = is.ordered;
+    complete = λ ok. all_served (none ok);
+    unexcused = λ ok. is.unexcused;
+  }
 
 module _ (clients : List (List Op)) (told : List (List Entry)) (names : NamesPart) (count first : ℕ) (done : List (List Op)) (requests : List Op) (rest : List (List Op)) (is : AreServing clients told names count first done (requests ∷ rest)) where
   total : length clients ≡ count + 1 + length rest
@@ -166,7 +186,25 @@ module _ (clients : List (List Op)) (told : List (List Entry)) (names : NamesPar
     pub merged_more : IsMerged (told ++ mine ∷ []) (joined (told ++ mine ∷ []))
     merged_more = record { rising = rising_from 0 root_alone (joined (told ++ mine ∷ [])) legal_more.entries; each = each_more }
 
-    module _ (new_names : NamesPart) (isdone : IsDone (joined told) count requests mine new_names) where
+    pub server_more : AreServedBy Primary (joined (told ++ mine ∷ []))
+    server_more = subst (AreServedBy Primary) (sym one_list) (goes.server is.server)
+
+    pub reached_more : (new_names : NamesPart) → IsReached (joined told ++ mine) new_names → IsReached (joined (told ++ mine ∷ [])) new_names
+    reached_more new_names left = subst (λ (h : List Entry). IsReached h new_names) (sym one_list) left
+
+    -- a session that ends behind this client
+    pub played_more : (r : Result (Unit {0}) EndFault) → IsErr r → IsPlayed clients (told ++ mine ∷ []) r (joined (told ++ mine ∷ []))
+    played_more r err = record {
+      merged = merged_more;
+      each = λ ok. absurd (not_ok r err ok);
+      legal = legal_more;
+      server = server_more;
+      ordered = ordered_more;
+      complete = λ ok. absurd (not_ok r err ok);
+      unexcused = λ ok. absurd (not_ok r err ok);
+    }
+
+    module _ (new_names : NamesPart) (left : IsReached (joined told ++ mine) new_names) (isdone : IsDone (joined told) count requests mine) where
       complete_more : (c : ℕ) → c < count + 1 → length (entries_of c (joined (told ++ mine ∷ []))) ≡ length (requests_of clients c)
       complete_more c less = by (cases_eq count c)
         where
@@ -188,9 +226,10 @@ module _ (clients : List (List Op)) (told : List (List Entry)) (names : NamesPar
         first_is = ap (λ (n : ℕ). n + length mine) is.first_is ∙ sym longer;
         few = omega (arith, longer, is.few, goes.few);
         legal = legal_more;
-        reached = subst (λ (h : List Entry). IsReached h new_names) (sym one_list) isdone.reached;
+        reached = reached_more new_names left;
         ordered = ordered_more;
         unexcused = subst AreUnexcused (sym one_list) (isdone.unexcused is.unexcused);
+        server = server_more;
         complete = complete_more;
         each = each_more;
         fresh = λ c fd high. ap (λ (h : List Entry). map.get (tree_of h).fds (c, fd)) one_list

@@ -1,6 +1,7 @@
 -- A client's requests are served one by one.
 use Rattle.std.proofs.Common.{◌≡◌, ◌≢◌, ℕ, ◌+◌, ◌≤◌, ◌<◌, List, [], ◌∷◌, ◌++◌, true, false, Option, Some, ap, sym, refl, subst, ◌∙◌, length, arith, inl, inr, is_some}
-use Rattle.std.specs.Prelude.{slice_get}
+use Rattle.std.specs.Prelude.{slice_get, if◌then◌else◌, Result, Ok}
+use Rattle.std.specs.Result.{is_ok}
 use Rattle.std.specs.List.{AllByRecursion}
 use Rattle.std.specs.FinMap as map
 use Rattle.std.specs.FinMap.{get-empty}
@@ -10,6 +11,7 @@ use Rattle.ufs_model.specs.Asks.{IsAsk, IsDescAfter, desc_of_fd, fd_named, fd_as
 use Rattle.ufs_model.specs.History.{IsLegal, IsLegalEntry, IsExcused, IsInOrder, IsNext, AreUnexcused, TellsNewFault, is_excused, share_fault, tree_with, entries_of, requests_of}
 use Rattle.ufs_model.specs.Posix.{posix}
 use Rattle.ufs_model.specs.PosixTree.{PosixTree, Fds, root_alone}
+use Rattle.ufs_model.specs.declared.data.Actor.TheVariants.{Primary}
 use Rattle.ufs_model.specs.declared.data.Ask.{Ask}
 use Rattle.ufs_model.specs.declared.data.Desc.{Desc}
 use Rattle.ufs_model.specs.declared.data.Entry.{Entry}
@@ -20,6 +22,7 @@ use Rattle.ufs_model.specs.declared.data.Reply.TheVariants as reply
 use Rattle.ufs_model.proofs.Facts.Histories.{tree_after-push, all-push, legal-push, own-push, others-push, order-push}
 use Rattle.ufs_fds.specs.Descriptors.{Descs, AreOf}
 use Rattle.ufs_engine.specs.Clients.{AreRanged}
+use Rattle.ufs_engine.specs.Played.{AreServedBy}
 use Rattle.ufs_engine.specs.Serving.{tree_of, IsReached, IsNewcomer, GoesOn, IsDone}
 use Rattle.ufs_names.specs.NamesPart.{NamesPart, IsPartOf}
 use Rattle.ufs_names.specs.Calls.{IsEntryOf, IsServed}
@@ -75,7 +78,7 @@ module _ (before : List Entry) (client : ℕ) (requests : List Op) (told : List 
   one_list = sym (append_assoc before told (entry ∷ []))
 
   module _ (goes : GoesOn before client requests told) (client_is : entry.client ≡ client) (number : entry.seq ≡ length told)
-      (asked : slice_get requests (length told) ≡ Some entry.op) (few : length more ≤ 65536) where
+      (asked : slice_get requests (length told) ≡ Some entry.op) (few : length more ≤ 65536) (server : entry.by ≡ Primary) where
     is_next : (clients : List (List Op)) → requests_of clients client ≡ requests → IsNext clients so_far entry
     is_next clients same = record {
       numbered = number ∙ ap (λ (l : List Entry). length l) (sym goes.own) ∙ ap (λ (c : ℕ). length (entries_of c so_far)) (sym client_is);
@@ -90,6 +93,7 @@ module _ (before : List Entry) (client : ℕ) (requests : List Op) (told : List 
           ∙ ap (λ (c : ℕ). entries_of c so_far ++ entry ∷ []) client_is ∙ ap (λ (l : List Entry). l ++ entry ∷ []) goes.own;
       others = λ c apart. ap (entries_of c) one_list ∙ others-push c so_far entry (λ e. apart (sym client_is ∙ e)) ∙ goes.others c apart;
       few = few;
+      server = λ by. subst (AreServedBy Primary) (sym one_list) (all-push (λ (e : Entry). e.by ≡ Primary) so_far entry (goes.server by) server);
     }
 
 -- ---- a client that is served
@@ -126,6 +130,7 @@ module _ (client : ℕ) (requests : List Op) (before : List Entry) (names : Name
           own = ap (entries_of client) nil ∙ new.entries;
           others = λ c apart. ap (entries_of c) nil;
           few = omega arith;
+          server = λ by. subst (AreServedBy Primary) (sym nil) by;
         };
         reached = subst (λ (h : List Entry). IsReached h names) (sym nil) reached;
         unexcused = λ plain. subst AreUnexcused (sym nil) plain;
@@ -166,18 +171,31 @@ module _ (client : ℕ) (requests : List Op) (before : List Entry) (names : Name
       last = last (tree_of now).fds client is.table_is ∙ (λ i. is_last (tree_of now).fds (sym client_is i) (sym op_is i));
     }
 
-    module _ (ask : Ask) (entry : Entry) (ticket : ℕ) (of : IsEntryOf ask ticket entry) (ticket_is : ticket ≡ length before + seq)
+    module _ (ask : Ask) (entry : Entry) (ticket : ℕ) (of : IsEntryOf ask Primary ticket entry) (ticket_is : ticket ≡ length before + seq)
         (client_is : ask.client ≡ client) (seq_is : ask.seq ≡ seq) (op_is : ask.op ≡ request) where
       numbered : entry.ticket ≡ length now
       numbered = of.ticket_is ∙ ticket_is ∙ ap (λ (n : ℕ). length before + n) (sym is.long) ∙ sym (length-append before told)
 
       goes_by : IsLegalEntry (length now) (tree_of now) entry → TellsNewFault now entry → GoesOn before client requests (told ++ entry ∷ [])
       goes_by = goes_more before client requests told entry is.goes (of.client ∙ client_is) (of.seq ∙ seq_is ∙ sym is.long)
-          (asked_here ∙ ap Some (sym (of.asked ∙ op_is))) (few_more entry)
+          (asked_here ∙ ap Some (sym (of.asked ∙ op_is))) (few_more entry) of.server
 
       -- want of memory ends the serving
       pub ends : entry.reply ≡ reply.Excused excuse.Memory → GoesOn before client requests (told ++ entry ∷ [])
       ends memory = goes_by (memory_fits (length now) (tree_of now) entry numbered memory) (tells_memory now entry memory)
+
+      -- ..and leaves the tree
+      pub left_alone : entry.reply ≡ reply.Excused excuse.Memory → (new_names : NamesPart) → new_names ≡ names → IsReached (before ++ (told ++ entry ∷ [])) new_names
+      left_alone memory new_names same =
+          let tree : tree_of (before ++ (told ++ entry ∷ [])) ≡ tree_of now =
+              ap tree_of (one_list before client requests told entry) ∙ tree_after-push root_alone now entry ∙ ap (λ (r : Reply). tree_with (tree_of now) entry.client entry.op r) memory in
+          let count = length-append before (told ++ entry ∷ []) in
+          let old = length-append before told in
+          let next = ap (λ (t : PosixTree). t.next) tree in
+          subst (λ (n : NamesPart). IsReached (before ++ (told ++ entry ∷ [])) n) (sym same) (record {
+            part = subst (IsPartOf names) (sym tree) is.reached.part;
+            next = omega (arith, count, old, longer entry, is.long, is.reached.next, next);
+          })
 
       module _ (plain : is_excused entry.reply ≡ false) (new_names : NamesPart) (new_table : Descs) (desc : Option Desc) (served : IsServed (tree_of now) ask new_names entry.reply desc)
           (kept : (old new : Fds) (c : ℕ) → AreOf old c table → IsDescAfter old new c (fd_told entry.op entry.reply) desc → AreRanged old c → AreRanged new c → AreOf new c new_table)
@@ -222,10 +240,13 @@ module _ (client : ℕ) (requests : List Op) (before : List Entry) (names : Name
           ranged = subst (λ (t : PosixTree). AreRanged t.fds client) (sym tree_more) (subst (AreRanged after.fds) client_is ranged);
         }
 
-  pub is_done : (table : Descs) (told : List Entry) (seq : ℕ) (done rest : List Op) → rest ≡ [] → IsServing client requests before names table told seq done rest → IsDone before client requests told names
+  pub is_done : (table : Descs) (told : List Entry) (seq : ℕ) (done rest : List Op) → rest ≡ [] → IsServing client requests before names table told seq done rest → IsDone before client requests told
   is_done table told seq done rest none is = record {
-    reached = is.reached;
     complete = is.long ∙ sym is.counted ∙ ap (λ (l : List Op). length l) (sym (append-nil done) ∙ ap (λ (l : List Op). done ++ l) (sym none) ∙ is.whole);
     unexcused = is.unexcused;
     fds = is.fds;
   }
+
+-- an entry behind the others, where there is room
+pub pushed_on : {X E : Type 0} (r : Result (Unit {0}) E) (new reserved old : List X) (x : X) → (u : Unit {0}) → r ≡ Ok u → reserved ≡ old → new ≡ (if is_ok r then reserved ++ x ∷ [] else reserved) → new ≡ old ++ x ∷ []
+pushed_on r new reserved old x u ok same push = push ∙ ap (λ r. if is_ok r then reserved ++ x ∷ [] else reserved) ok ∙ ap (λ (l : List _). l ++ x ∷ []) same

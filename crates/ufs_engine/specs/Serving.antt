@@ -5,6 +5,8 @@ use Rattle.ufs_model.specs.PosixTree.{PosixTree, root_alone}
 use Rattle.ufs_model.specs.History.{IsLegal, IsInOrder, AreUnexcused, tree_after, entries_of, requests_of}
 use Rattle.ufs_model.specs.declared.data.Op.{Op}
 use Rattle.ufs_model.specs.declared.data.Entry.{Entry}
+use Rattle.ufs_model.specs.declared.data.Actor.TheVariants.{Primary}
+use Rattle.ufs_engine.specs.Played.{AreServedBy}
 use Rattle.ufs_names.specs.NamesPart.{NamesPart, IsPartOf}
 
 -- the tree after a history of a session
@@ -29,10 +31,10 @@ pub record GoesOn (before : List Entry) (client : ℕ) (requests : List Op) (tol
   pub own : entries_of client (before ++ told) ≡ told
   pub others : (c : ℕ) → client ≢ c → entries_of c (before ++ told) ≡ entries_of c before
   pub few : length told ≤ 65536
+  pub server : AreServedBy Primary before → AreServedBy Primary (before ++ told)
 
 -- ..and it answers each request, without an excuse; the other clients' descriptors stay.
-pub record IsDone (before : List Entry) (client : ℕ) (requests : List Op) (told : List Entry) (names : NamesPart) : Type 0 where
-  pub reached : IsReached (before ++ told) names
+pub record IsDone (before : List Entry) (client : ℕ) (requests : List Op) (told : List Entry) : Type 0 where
   pub complete : length told ≡ length requests
   pub unexcused : AreUnexcused before → AreUnexcused (before ++ told)
   pub fds : (c fd : ℕ) → c ≢ client → map.get (tree_of (before ++ told)).fds (c, fd) ≡ map.get (tree_of before).fds (c, fd)

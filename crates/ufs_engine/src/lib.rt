@@ -7,5 +7,5 @@ mod session;
 #[cfg(test)]
 mod tests;
 
-pub use played::{EndFault, Played, ToldLists};
-pub use session::play;
+pub use played::{EndFault, Played, Session, ToldLists};
+pub use session::{play, serve};

@@ -68,7 +68,14 @@ impl From<Memory> for EndFault {
     }
 }
 
-/// A session that has ended.
+/// What a session has told, and how it ended.
+#[derive(Drop)]
+pub struct Session {
+    pub told: ToldLists,
+    pub ended: Result<(), EndFault>,
+}
+
+/// A session that has ended, with the disk that it was given.
 #[derive(Drop)]
 pub struct Played<D: Disk> {
     pub told: ToldLists,

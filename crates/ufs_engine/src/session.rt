@@ -1,19 +1,19 @@
 // Playing a script on one thread.
-ghost use Rattle.std.specs.Prelude.{◌≡◌, ◌≤◌, ◌<◌, ◌*◌, [], List, OnOk, length};
+ghost use Rattle.std.specs.Prelude.{◌≡◌, ◌≤◌, ◌<◌, ◌*◌, ◌++◌, [], List, OnOk, length};
 ghost use Rattle.ufs_model.specs.PosixTree.{root_alone};
-ghost use Rattle.ufs_model.specs.History.{IsLegal, IsInOrder, IsComplete, AreUnexcused, AreTicketsOnce, is_excused, joined};
+ghost use Rattle.ufs_model.specs.History.{IsLegal, AreTicketsOnce, is_excused, joined, tree_after};
 ghost use Rattle.ufs_model.specs.declared.data.Entry.{Entry};
 ghost use Rattle.ufs_names.specs.NamesPart.{IsPartOf};
-ghost use Rattle.ufs_engine.specs.Played.{IsMerged, IsPlayed};
-ghost use Rattle.ufs_engine.specs.Serving.{IsReached, IsNewcomer, GoesOn, IsDone};
+ghost use Rattle.ufs_engine.specs.Played.{IsPlayed};
+ghost use Rattle.ufs_engine.specs.Serving.{IsReached, IsNewcomer, GoesOn, IsDone, tree_of};
 
 use crate::client::{ask, keep};
-use crate::played::{EndFault, Played, ToldLists};
+use crate::played::{EndFault, Played, Session, ToldLists};
 use std::alloc::Global;
 use ufs_base::Memory;
 use ufs_disk::Disk;
 use ufs_fds::FdTable;
-use ufs_model::{EntryList, Reply, a_request_makes_one_file_at_most};
+use ufs_model::{Actor, Entry, EntryList, Reply, a_request_makes_one_file_at_most};
 use ufs_names::Names;
 use ufs_script::{OpList, OpLists, Script};
 
@@ -23,14 +23,15 @@ fn is_excused(reply: &Reply) -> bool
     matches!(reply, Reply::Excused(_))
 }
 
-/// Serves a client's requests one by one, and adds the entries to its transcript.
+/// Serves a client's requests one by one, and adds the entries to its transcript. Whatever ends it, the namespace is
+/// what the entries tell.
 fn serve_client(
     names: &mut Names,
     earlier: &Vec<EntryList>,
     client: u8,
     first: u64,
     requests: OpList,
-    told: &mut EntryList,
+    told: &mut Vec<Entry>,
 ) -> Result<(), Memory>
     requires client { client < 16 }
     requires few { length (joined earlier.now.items) ≤ 15 * 65536 }
@@ -38,18 +39,22 @@ fn serve_client(
     requires legal { IsLegal root_alone (joined earlier.now.items) }
     requires reached { IsReached (joined earlier.now.items) names.old }
     requires newcomer { IsNewcomer (joined earlier.now.items) client }
-    requires none { told.old ≡ [] }
-    ensures goes_on { GoesOn (joined earlier.now.items) client requests told.new }
-    ensures done { OnOk result (IsDone (joined earlier.now.items) client requests told.new names.new) }
+    requires none { told.old.items ≡ [] }
+    ensures goes_on { GoesOn (joined earlier.now.items) client requests told.new.items }
+    ensures left { IsReached (joined earlier.now.items ++ told.new.items) names.new }
+    ensures done { OnOk result (IsDone (joined earlier.now.items) client requests told.new.items) }
 {
     a_request_makes_one_file_at_most();
     let mut fds = FdTable::new();
     let mut seq = 0u32;
     for op in requests.into_vec() {
-        let applied = names.apply(ask(&fds, client, seq, op), first + u64::from(seq));
+        // Room for the entry comes first, so that nothing is served that isn't told.
+        told.reserve(1)?;
+        let asked = ask(&fds, client, seq, op);
+        let applied = names.apply(asked, Actor::Primary, first + u64::from(seq));
         keep(&mut fds, &applied.entry, applied.desc);
         let excused = is_excused(&applied.entry.reply);
-        told.push(applied.entry)?;
+        told.push(applied.entry).unwrap();
         if excused {
             return Err(Memory);
         }
@@ -64,56 +69,74 @@ fn serve_clients(
     names: &mut Names,
     clients: OpLists,
     told: &mut Vec<EntryList>,
-) -> Result<(), Memory>
+) -> Result<(), EndFault>
     requires part { IsPartOf names.old root_alone }
     requires none { told.old.items ≡ [] }
-    ensures merged { IsMerged told.new.items (joined told.new.items) }
-    ensures each { OnOk result (length told.new.items ≡ length clients) }
-    ensures legal { IsLegal root_alone (joined told.new.items) }
-    ensures ordered { IsInOrder clients (joined told.new.items) }
-    ensures complete { OnOk result (IsComplete clients (joined told.new.items)) }
-    ensures unexcused { OnOk result (AreUnexcused (joined told.new.items)) }
+    ensures played { IsPlayed clients told.new.items result (joined told.new.items) }
+    ensures left { IsPartOf names.new (tree_of (joined told.new.items)) }
 {
     let mut client = 0u8;
     let mut first = 0u64;
     for requests in clients.into_vec() {
-        let mut mine = EntryList::new(alloc);
+        // Room for the transcript comes first.
+        if told.reserve(1).is_err() {
+            return Err(EndFault::Memory);
+        }
+        let mut mine = Vec::new(alloc);
         let ended = serve_client(names, told, client, first, requests, &mut mine);
-        first += mine.as_slice().len() as u64;
-        told.push(mine)?;
+        first += mine.len() as u64;
+        told.push(EntryList::from_vec(mine)).unwrap();
         ended?;
         client += 1;
     }
     Ok(())
 }
 
-/// Serves the clients by a namespace that begins with the root alone.
-fn serve(alloc: Global, clients: OpLists, told: &mut Vec<EntryList>) -> Result<(), EndFault>
-    requires { told.old.items ≡ [] }
-    ensures merged { IsMerged told.new.items (joined told.new.items) }
-    ensures each { OnOk result (length told.new.items ≡ length clients) }
-    ensures legal { IsLegal root_alone (joined told.new.items) }
-    ensures ordered { IsInOrder clients (joined told.new.items) }
-    ensures complete { OnOk result (IsComplete clients (joined told.new.items)) }
-    ensures unexcused { OnOk result (AreUnexcused (joined told.new.items)) }
+/// Serves the clients by a namespace that begins with the root alone, client 0 first. The entries are numbered as they
+/// are served. Want of memory ends the session; whatever ends it, the namespace is the tree after what was told.
+pub fn serve(alloc: Global, names: &mut Names, clients: OpLists) -> Session
+    requires { IsPartOf names.old root_alone }
+    ensures played { (history : List Entry) × IsPlayed clients result.told result.ended history × IsPartOf names.new (tree_after root_alone history) }
+    ensures once { AreTicketsOnce (joined result.told) }
 {
-    let mut names = Names::new(alloc)?;
-    serve_clients(alloc, &mut names, clients, told)?;
-    Ok(())
+    let mut told = Vec::new(alloc);
+    let ended = serve_clients(alloc, names, clients, &mut told);
+    Session {
+        told: ToldLists::from_vec(told),
+        ended,
+    }
 }
 
-/// Serves a script on one thread, client 0 first. The entries are numbered as they are served. No lease is granted
-/// yet, and the disk isn't touched. Want of memory ends the session.
+/// Plays a script on one thread. No lease is granted yet, and the disk isn't touched.
 pub fn play<D: Disk>(alloc: Global, script: Script, _lease: u32, disk: D) -> Played<D>
     ensures played { (history : List Entry) × IsPlayed script.clients result.told result.ended history }
     ensures once { AreTicketsOnce (joined result.told) }
     ensures untouched { result.disk ≡ disk }
 {
-    let mut told = Vec::new(alloc);
-    let ended = serve(alloc, script.clients, &mut told);
+    let session = play_from_root(alloc, script.clients);
     Played {
-        told: ToldLists::from_vec(told),
-        ended,
+        told: session.told,
+        ended: session.ended,
         disk,
+    }
+}
+
+/// Serves the clients by a new namespace.
+fn play_from_root(alloc: Global, clients: OpLists) -> Session
+    ensures played { (history : List Entry) × IsPlayed clients result.told result.ended history }
+    ensures once { AreTicketsOnce (joined result.told) }
+{
+    match Names::new(alloc) {
+        Ok(names) => {
+            let mut names = names;
+            serve(alloc, &mut names, clients)
+        }
+        Err(Memory) => {
+            let none = Vec::new(alloc);
+            Session {
+                told: ToldLists::from_vec(none),
+                ended: Err(EndFault::Memory),
+            }
+        }
     }
 }

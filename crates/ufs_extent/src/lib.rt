@@ -39,5 +39,3 @@ impl Run {
 #[derive(Clone, Copy, Debug, PartialEq, Eq)]
 pub struct Full56;
 
-#[cfg(test)]
-mod tests;

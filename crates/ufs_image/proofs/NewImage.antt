@@ -23,7 +23,7 @@ use Rattle.ufs_image.specs.Volume.{Refusal, NoSuperblock, BadVersion, BadGeometr
 use Rattle.ufs_image.specs.Opens.{entry_and_below, names_in, below, walked, by_damage, entries_of, tree_of, damage_in, opens, root_entry, root_tree, damage_list}
 use Rattle.ufs_image.specs.Proper.{IsProperImage, IsProperVolume}
 use Rattle.ufs_layout.specs.Superblock.{new_super}
-use Rattle.ufs_image.specs.Formatted.{IsFormatted, new_root}
+use Rattle.ufs_image.specs.Formatted.{IsFormatted, new_root, new_volume}
 use Rattle.ufs_layout.specs.declared.geometry.Geometry.{Geometry}
 use Rattle.ufs_layout.specs.declared.superblock.Super.{Super}
 use Rattle.ufs_layout.proofs.Spelled.{spelled-at}
@@ -93,10 +93,7 @@ nothing_bad g next image read is_none = ap (first_bad g next image) is_none ∙ 
 folded_none : (g : Geometry) (image : Image) → IsFormatted g image → folded g (committed g 1 image) image ≡ image
 folded_none g image new = ap (λ read. folded g (map committed_of (transactions (well_spelled read))) image) (no_sector g image new)
 
-abbrev new_volume : Geometry → Image → Volume
-new_volume g image = record { head = new_super g; geometry = g; image = image }
-
-volume_new : (sectors : ℕ) (g : Geometry) (image : Image) → IsGeometry g → IsFormatted g image → sector_count g ≤ sectors → volume sectors image ≡ Ok (new_volume g image)
+pub volume_new : (sectors : ℕ) (g : Geometry) (image : Image) → IsGeometry g → IsFormatted g image → sector_count g ≤ sectors → volume sectors image ≡ Ok (new_volume g image)
 volume_new sectors g image is new room =
     ap (by_head image) (head_taken sectors g image is new room)
     ∙ ap (by_journal image) (ap (λ (s : Super). bad_sector (geometry_of s) s image) head ∙ nothing_bad g 1 image (sectors_of_epoch g 1 image) (no_sector g image new))
@@ -108,10 +105,10 @@ volume_new sectors g image is new room =
 
 -- ---- inodes
 
-root_there : (g : Geometry) (image : Image) → IsFormatted g image → inode_at g image 1 ≡ Some new_root
+pub root_there : (g : Geometry) (image : Image) → IsFormatted g image → inode_at g image 1 ≡ Some new_root
 root_there g image new = spelled-at inode_fields inode_bytes is_inode new_root (image (sector_of_inode g 1)) new.root (inode-back new_root (record { size = omega arith; number = omega arith; extents = tt })) refl
 
-free_there : (g : Geometry) (image : Image) → IsFormatted g image → (inode : ℕ) → 1 < inode → inode ≤ g.inodes → inode_at g image inode ≡ Some (free_inode 0)
+pub free_there : (g : Geometry) (image : Image) → IsFormatted g image → (inode : ℕ) → 1 < inode → inode ≤ g.inodes → inode_at g image inode ≡ Some (free_inode 0)
 free_there g image new inode above within = spelled-at inode_fields inode_bytes is_inode (free_inode 0) (image (sector_of_inode g inode)) (new.free inode above within) (inode-back (free_inode 0) (record { size = omega arith; number = omega arith; extents = tt })) refl
 
 form_root : (g : Geometry) (image : Image) → IsFormatted g image → form_at g image 1 ≡ new_root
@@ -184,7 +181,7 @@ bits_whole g image new = filter-none (λ b. not (same_bool (is_marked image b) (
 undamaged : (g : Geometry) (image : Image) → IsGeometry g → IsFormatted g image → damage true g image ≡ []
 undamaged g image is new = λ i. tree_whole g image is new i ++ map BitmapDiffers ((ap (λ nodes. differing g image nodes (all_bits g)) (sound_new g image is new) ∙ bits_whole g image new) i)
 
-no_bad_tree : (g : Geometry) (image : Image) → IsGeometry g → IsFormatted g image → bad_tree g image ≡ None
+pub no_bad_tree : (g : Geometry) (image : Image) → IsGeometry g → IsFormatted g image → bad_tree g image ≡ None
 no_bad_tree g image is new = ap (lowest_blamed g) (tree_whole g image is new) ∙ find-none (λ _. false) 1 g.inodes (λ _. refl)
 
 -- ---- the tree

@@ -2,12 +2,14 @@
 use Rattle.std.specs.Prelude.{ℕ, ◌*◌, ◌/◌, ◌%◌, ◌^◌, ◌+◌, List, [], ◌∷◌, ◌++◌, map, filter, filter_map, flat_map, length, Bool, true, false, ◌==◌, ◌&&◌, ◌||◌, not, nat_lt, nat_le, if◌then◌else◌, Option, Some, None}
 use Rattle.std.specs.List.{list_all, list_any, range_with_len, find}
 use Rattle.std.specs.Str.{bytes_eq}
+use Rattle.ufs_base.specs.declared.sizes.TheConstants.{SECTOR, SECTORS_PER_BLOCK, BLOCK}
 use Rattle.ufs_layout.specs.Words.{byte_at}
-use Rattle.ufs_layout.specs.Areas.{all_inodes, data_blocks, bitmap_blocks}
+use Rattle.ufs_layout.specs.Areas.{all_inodes, data_blocks, bitmap_blocks, first_of_bitmap}
 use Rattle.ufs_layout.specs.InodeForm.{InodeForm}
 use Rattle.ufs_layout.specs.DentryForm.{DentryForm, is_named}
 use Rattle.ufs_base.specs.Images.{Image}
 use Rattle.ufs_image.specs.Nodes.{Node, is_bad_inode, is_bad_extent, sound_nodes, blocks_of, is_taken, ReadSlot, Dir, dirs_of, NamedSlot, names_of, kind_at}
+use Rattle.ufs_layout.specs.declared.geometry.TheConstants.{BLOCK_BITS}
 use Rattle.ufs_layout.specs.declared.geometry.Geometry.{Geometry}
 
 pub data Damage : Type 0 where
@@ -48,7 +50,7 @@ shared_block nodes block = two (holders nodes block)
 -- A file's size is above its blocks, or a directory's isn't theirs.
 abbrev pub is_short : InodeForm → Bool
 is_short form =
-    let room = 4096 * length (blocks_of form) in
+    let room = BLOCK * length (blocks_of form) in
     if form.kind == 2 then not (form.size == room) else nat_lt room form.size
 
 -- ---- directories
@@ -84,7 +86,7 @@ has_two_names dirs inode = nat_lt (if inode == 1 then 0 else 1) (names_count dir
 
 -- the bit of a block, least first in each byte
 abbrev pub is_marked : Image → ℕ → Bool
-is_marked image block = byte_at (block / 8 % 512) (image (8 + block / 4096)) / 2 ^ (block % 8) % 2 == 1
+is_marked image block = byte_at (block / 8 % SECTOR) (image (SECTORS_PER_BLOCK * first_of_bitmap + block / (8 * SECTOR))) / 2 ^ (block % 8) % 2 == 1
 
 abbrev pub same_bool : Bool → Bool → Bool
 same_bool true b = b
@@ -92,7 +94,7 @@ same_bool false b = not b
 
 -- every bit, those past the last block too
 abbrev pub all_bits : Geometry → List ℕ
-all_bits g = range_with_len 0 (32768 * bitmap_blocks g)
+all_bits g = range_with_len 0 (BLOCK_BITS * bitmap_blocks g)
 
 -- those of these bits that aren't as the nodes have it
 abbrev pub differing : Geometry → Image → List Node → List ℕ → List ℕ

@@ -1,7 +1,7 @@
 -- Images: how many sectors there are, and what each has.
-use Rattle.std.specs.Prelude.{ℕ, List, [], ◌<◌, ◌≡◌, slice_index_or, if◌then◌else◌, ◌==◌, flat_map, take, drop, ◌++◌, ◌*◌, ◌+◌, length, Option, unwrap_or}
-use Rattle.ufs_base.specs.Images.{Image}
-use Rattle.ufs_layout.specs.Words.{IsBytes}
+use Rattle.std.specs.Prelude.{ℕ, List, [], ◌<◌, slice_index_or, if◌then◌else◌, ◌==◌, flat_map, take, drop, ◌++◌, ◌*◌, ◌+◌, Option, unwrap_or}
+use Rattle.ufs_base.specs.declared.sizes.TheConstants.{SLOT}
+use Rattle.ufs_base.specs.Images.{Image, IsSector}
 use Rattle.ufs_layout.specs.Areas.{sector_of_inode, sectors_of_block}
 use Rattle.ufs_layout.specs.InodeForm.{InodeForm, inode_of, free_inode}
 use Rattle.ufs_layout.specs.declared.geometry.Geometry.{Geometry}
@@ -9,11 +9,6 @@ use Rattle.ufs_layout.specs.declared.geometry.Geometry.{Geometry}
 -- the image that a list of sectors is
 abbrev pub image_of : List (List ℕ) → Image
 image_of sectors sector = slice_index_or sectors sector []
-
--- A sector has 512 bytes.
-pub record IsSector (bytes : List ℕ) : Type 0 where
-  pub sized : length bytes ≡ 512
-  pub in_range : IsBytes bytes
 
 -- an image of so many sectors
 abbrev pub IsImageOf : ℕ → Image → Type 0
@@ -25,7 +20,7 @@ with_sector sector bytes image k = if k == sector then bytes else image k
 
 -- other bytes in one of a sector's eight slots
 abbrev pub with_slot : ℕ → List ℕ → List ℕ → List ℕ
-with_slot slot bytes sector = take (64 * slot) sector ++ bytes ++ drop (64 * slot + 64) sector
+with_slot slot bytes sector = take (SLOT * slot) sector ++ bytes ++ drop (SLOT * slot + SLOT) sector
 
 -- an inode, where its sector is on its form
 abbrev pub inode_at : Geometry → Image → ℕ → Option InodeForm

@@ -8,4 +8,14 @@ pub mod Volume
 pub mod Opens
 pub mod Proper
 pub mod Formatted
+pub mod Catalog
+pub mod Sound
+pub mod Walks
+pub mod Agree
+pub mod Folding
+pub mod Written
+pub mod Changes
+pub mod Standing
+pub mod Stops
 pub mod Laws
+pub mod CatalogLaws

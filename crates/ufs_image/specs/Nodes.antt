@@ -1,6 +1,7 @@
 -- The inodes of an image that can be read, their blocks, and the names in their directories.
 use Rattle.std.specs.Prelude.{ℕ, ◌+◌, List, map, filter, filter_map, flat_map, Bool, true, ◌==◌, ◌&&◌, not, nat_lt, nat_le, if◌then◌else◌, Option, Some, None}
 use Rattle.std.specs.List.{list_any, range_with_len, enumerate_from}
+use Rattle.ufs_base.specs.declared.sizes.TheConstants.{SLOT, SLOTS_PER_SECTOR}
 use Rattle.ufs_base.specs.Choices.{some_if}
 use Rattle.ufs_layout.specs.Words.{pieces}
 use Rattle.ufs_layout.specs.Areas.{all_inodes, first_of_data, sectors_of_block, is_inode_number}
@@ -53,7 +54,7 @@ is_taken g nodes block = if nat_lt block (first_of_data g) then true else list_a
 
 -- ---- directories
 
--- a slot by its place, 64 a block, and what it is the spelling of
+-- a slot by its place in the directory, and what it is the spelling of
 abbrev pub ReadSlot : Type 0
 ReadSlot = ℕ × Option DentryForm
 
@@ -62,9 +63,17 @@ pub record Dir : Type 0 where
   pub inode : ℕ
   pub slots : List ReadSlot
 
+-- what the slots of a sector are the spelling of
+abbrev pub read_sector : List ℕ → List (Option DentryForm)
+read_sector bytes = map dentry_of (pieces SLOTS_PER_SECTOR SLOT bytes)
+
+-- what the slots of a block are the spelling of
+abbrev pub read_block : Image → ℕ → List (Option DentryForm)
+read_block image block = flat_map (λ s. read_sector (image s)) (sectors_of_block block)
+
 -- the slots by rising place, those of the first block first
 abbrev pub slots_of : Image → InodeForm → List ReadSlot
-slots_of image form = enumerate_from 0 (flat_map (λ block. flat_map (λ s. map dentry_of (pieces 8 64 (image s))) (sectors_of_block block)) (blocks_of form))
+slots_of image form = enumerate_from 0 (flat_map (read_block image) (blocks_of form))
 
 abbrev pub dirs_of : Image → List Node → List Dir
 dirs_of image nodes = map (λ (n : Node). record { inode = n.0; slots = slots_of image n.1 }) (filter (λ n. n.1.kind == 2) nodes)

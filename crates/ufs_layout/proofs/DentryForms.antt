@@ -7,7 +7,8 @@ use Rattle.std.proofs.lemmas.Bool.Decides.{nat_tests}
 use Rattle.std.proofs.lemmas.List.{append-nil, drop-drop, drop_all, length-drop, length-take-le, take_all}
 use Rattle.byteorder.specs.Endian.{little_bytes}
 use Rattle.ufs_base.specs.Choices.{some_if}
-use Rattle.ufs_layout.specs.Words.{number_at, byte_at, padded, filled_to, is_zeros, IsBytes}
+use Rattle.ufs_base.specs.Images.{IsBytes}
+use Rattle.ufs_layout.specs.Words.{number_at, byte_at, padded, filled_to, is_zeros}
 use Rattle.ufs_layout.specs.DentryForm.{DentryForm, dentry_bytes, dentry_fields, dentry_of, is_dentry}
 use Rattle.ufs_layout.proofs.Compared.{number-back, number-there, byte-there, byte-compared, filled-compared}
 use Rattle.ufs_layout.proofs.Extents.{take-padded}

@@ -4,7 +4,8 @@ use Rattle.std.specs.List.{list_all, flat_map, AllByRecursion}
 use Rattle.std.specs.Str.{bytes_eq}
 use Rattle.std.proofs.Math.Seq.{take-add}
 use Rattle.std.proofs.lemmas.List.{drop-drop, drop_at, take_at, set_at, append_assoc, length-append, length-drop, length-replicate, length-take-le}
-use Rattle.ufs_layout.specs.Words.{padded, IsPadded, filled_to, is_zeros, IsBytes}
+use Rattle.ufs_base.specs.Images.{IsBytes}
+use Rattle.ufs_layout.specs.Words.{padded, IsPadded, filled_to, is_zeros}
 use Rattle.ufs_layout.specs.InodeForm.{extents_at, extent_fields, extent_bytes, is_extent, FitsExtent}
 use Rattle.ufs_layout.proofs.Compared.{IsBytes-drop, little_bytes-little_number, number-back, filled-compared}
 use Rattle.ufs_layout.specs.declared.inode.Extent.{Extent}

@@ -6,7 +6,8 @@ use Rattle.std.specs.Str.{bytes_eq}
 use Rattle.std.proofs.lemmas.Bool.Decides.{Decides-eqb, nat_tests}
 use Rattle.std.proofs.lemmas.List.{length-drop, length-take-le, take-append-drop}
 use Rattle.byteorder.specs.Endian.{little_bytes}
-use Rattle.ufs_layout.specs.Words.{number_at, byte_at, is_zeros, IsBytes}
+use Rattle.ufs_base.specs.Images.{IsBytes}
+use Rattle.ufs_layout.specs.Words.{number_at, byte_at, is_zeros}
 use Rattle.ufs_layout.specs.JournalHead.{header_bytes, header_fields}
 use Rattle.ufs_layout.specs.Superblock.{magic, clean_byte, super_bytes, super_fields}
 use Rattle.ufs_layout.specs.declared.header.Header.{Header}

@@ -7,7 +7,8 @@ use Rattle.std.proofs.lemmas.Bool.Decides.{nat_tests}
 use Rattle.std.proofs.lemmas.List.{drop-drop, drop_at, take_at, drop-replicate, append_assoc, length-drop}
 use Rattle.byteorder.specs.Endian.{little_bytes}
 use Rattle.ufs_base.specs.Choices.{some_if}
-use Rattle.ufs_layout.specs.Words.{number_at, byte_at, padded, filled_to, is_zeros, IsBytes}
+use Rattle.ufs_base.specs.Images.{IsBytes}
+use Rattle.ufs_layout.specs.Words.{number_at, byte_at, padded, filled_to, is_zeros}
 use Rattle.ufs_layout.specs.InodeForm.{InodeForm, inode_bytes, inode_fields, inode_of, is_inode, links_of_kind, extent_bytes, extents_at, is_extent, no_extent, FitsExtent}
 use Rattle.ufs_layout.specs.declared.inode.Extent.{Extent}
 use Rattle.ufs_layout.proofs.Compared.{IsBytes-drop, number-back, number-there, number-compared, byte-there, zero_run-compared}

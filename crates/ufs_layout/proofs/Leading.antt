@@ -1,6 +1,6 @@
 -- The record that begins a content: what the bytes of each kind have to be.
 use Rattle.std.proofs.Common.{ℕ, zero, suc, ◌≡◌, ◌≢◌, ◌+◌, ◌*◌, ◌<◌, ◌≤◌, List, ◌∷◌, ◌++◌, length, take, drop, Bool, true, false, Some, None, ◌&&◌, refl, sym, ap, ◌∙◌, arith}
-use Rattle.std.specs.Prelude.{◌==◌, nat_le, flat_map, option_map}
+use Rattle.std.specs.Prelude.{◌==◌, nat_lt, nat_le, flat_map, option_map}
 use Rattle.std.specs.List.{list_all}
 use Rattle.std.specs.Str.{bytes_eq}
 use Rattle.std.proofs.lemmas.Bool.Decides.{nat_tests}
@@ -8,7 +8,8 @@ use Rattle.std.proofs.lemmas.Slice.Eq.{bytes_eq-Decides}
 use Rattle.std.proofs.lemmas.List.{drop-drop, length-append, length-drop, length-take, length-take-le, take-append-drop}
 use Rattle.byteorder.specs.Endian.{little_bytes}
 use Rattle.ufs_base.specs.Choices.{some_if}
-use Rattle.ufs_layout.specs.Words.{number_at, byte_at, IsBytes}
+use Rattle.ufs_base.specs.Images.{IsBytes}
+use Rattle.ufs_layout.specs.Words.{number_at, byte_at}
 use Rattle.ufs_layout.specs.InodeForm.{extent_bytes, extents_at, is_extent}
 use Rattle.ufs_layout.specs.DentryForm.{DentryForm, dentry_bytes, dentry_fields, dentry_of, is_dentry}
 use Rattle.ufs_layout.specs.Records.{record_bytes, record_by_tag, spelled_in, leading_record, is_record}
@@ -78,14 +79,14 @@ off_first a b c x off = rw off refl
 
 pub place-slot : (bs : List ℕ) → byte_at 0 bs ≡ 2 → 7 < byte_at 5 bs → None ≡ leading_record bs
 place-slot bs tag high =
-    let off : nat_le (byte_at 5 bs) 7 ≡ false = grind (arith, nat_tests, high) in
-    sym (tagged bs 2 tag ∙ off_first (nat_le (byte_at 5 bs) 7) (is_dentry (dentry_in bs)) (bytes_eq (record_bytes (place_in bs) ++ drop 70 bs) bs) (place_in bs) off)
+    let off : nat_lt (byte_at 5 bs) 8 ≡ false = grind (arith, nat_tests, high) in
+    sym (tagged bs 2 tag ∙ off_first (nat_lt (byte_at 5 bs) 8) (is_dentry (dentry_in bs)) (bytes_eq (record_bytes (place_in bs) ++ drop 70 bs) bs) (place_in bs) off)
 
 pub place-read : (bs : List ℕ) → IsBytes bs → byte_at 0 bs ≡ 2 → 70 ≤ length bs → byte_at 5 bs ≤ 7
     → leading_record bs ≡ option_map (λ d. Place (number_at 4 1 bs) (byte_at 5 bs) d) (dentry_of (take 64 (drop 6 bs)))
-place-read bs is tag long low = tagged bs 2 tag ∙ tests (nat_le (byte_at 5 bs) 7) (is_dentry (dentry_in bs)) (bytes_eq (dentry_bytes (dentry_in bs)) (take 64 (drop 6 bs))) (bytes_eq (record_bytes (place_in bs) ++ drop 70 bs) bs) enough spelled
+place-read bs is tag long low = tagged bs 2 tag ∙ tests (nat_lt (byte_at 5 bs) 8) (is_dentry (dentry_in bs)) (bytes_eq (dentry_bytes (dentry_in bs)) (take 64 (drop 6 bs))) (bytes_eq (record_bytes (place_in bs) ++ drop 70 bs) bs) enough spelled
   where
-    enough : nat_le (byte_at 5 bs) 7 ≡ true
+    enough : nat_lt (byte_at 5 bs) 8 ≡ true
     enough = grind (arith, nat_tests, low)
 
     lengths : length (dentry_bytes (dentry_in bs)) ≡ length (take 64 (drop 6 bs))

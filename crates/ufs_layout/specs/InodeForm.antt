@@ -1,4 +1,5 @@
 -- The one spelling of an inode.
+use Rattle.ufs_base.specs.declared.sizes.TheConstants.{MAX_EXTENTS}
 use Rattle.std.specs.Prelude.{ℕ, zero, suc, ◌<◌, ◌^◌, List, [], ◌∷◌, ◌++◌, length, drop, replicate, Bool, ◌==◌, ◌&&◌, ◌||◌, not, nat_le, if◌then◌else◌, Option, flat_map}
 use Rattle.std.specs.List.{list_all}
 use Rattle.ufs_layout.specs.Words.{number_at, byte_at, filled_to, spelled}
@@ -36,7 +37,7 @@ is_extent e = nat_le 1 e.length
 
 -- A free inode has 0 everywhere but in its number.
 abbrev pub is_inode : InodeForm → Bool
-is_inode i = nat_le i.kind 2 && (nat_le (length i.extents) 56 && (list_all is_extent i.extents
+is_inode i = nat_le i.kind 2 && (nat_le (length i.extents) MAX_EXTENTS && (list_all is_extent i.extents
     && (is_used i || length i.extents == 0 && i.size == 0)))
 
 -- The numbers of an extent have 32 bits.

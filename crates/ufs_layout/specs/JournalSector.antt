@@ -1,4 +1,5 @@
 -- The one spelling of a sector of the journal.
+use Rattle.ufs_base.specs.declared.sizes.TheConstants.{SECTOR}
 use Rattle.std.specs.Prelude.{ℕ, List, ◌++◌, length, take, drop, Bool, true, ◌==◌, ◌&&◌, if◌then◌else◌, Option}
 use Rattle.std.specs.List.{list_all}
 use Rattle.ufs_layout.specs.Words.{number_at, filled_to, spelled}
@@ -32,7 +33,7 @@ abbrev pub head_in : JournalSector → Header
 head_in j = record { epoch = j.epoch; txn = j.txn; index = j.index; kind = kind_of j.content; used = length (content_bytes j.index j.content) }
 
 abbrev pub journal_bytes : JournalSector → List ℕ
-journal_bytes j = filled_to 512 (header_bytes (head_in j) ++ content_bytes j.index j.content)
+journal_bytes j = filled_to SECTOR (header_bytes (head_in j) ++ content_bytes j.index j.content)
 
 abbrev pub is_content : SectorContent → Bool
 is_content (HasRecords records) = list_all is_record records

@@ -7,3 +7,4 @@ pub mod DentryForm
 pub mod JournalHead
 pub mod Records
 pub mod JournalSector
+pub mod Filled

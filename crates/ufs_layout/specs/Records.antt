@@ -1,5 +1,6 @@
 -- The one spelling of a journal record, and of a list of them.
-use Rattle.std.specs.Prelude.{ℕ, zero, suc, ◌+◌, ◌*◌, ◌<◌, ◌≤◌, ◌^◌, List, [], ◌∷◌, ◌++◌, length, take, drop, Bool, true, ◌&&◌, nat_le, Option, Some, None, flat_map}
+use Rattle.ufs_base.specs.declared.sizes.TheConstants.{MAX_EXTENTS, MAX_NAME, SLOTS_PER_SECTOR}
+use Rattle.std.specs.Prelude.{ℕ, zero, suc, ◌+◌, ◌*◌, ◌<◌, ◌≤◌, ◌^◌, List, [], ◌∷◌, ◌++◌, length, take, drop, Bool, true, ◌&&◌, nat_le, nat_lt, Option, Some, None, flat_map}
 use Rattle.std.specs.List.{list_all, AllByRecursion}
 use Rattle.std.specs.Str.{bytes_eq}
 use Rattle.ufs_base.specs.Choices.{some_if}
@@ -19,14 +20,14 @@ record_bytes (Free inode) = 3 ∷ little_bytes 4 inode
 
 -- A delta gives a file or a directory.
 abbrev pub is_record : LogRecord → Bool
-is_record (Delta inode kind size keep extents) = (nat_le 1 kind && nat_le kind 2) && (nat_le (keep + length extents) 56 && list_all is_extent extents)
-is_record (Place sector slot dentry) = nat_le slot 7 && is_dentry dentry
+is_record (Delta inode kind size keep extents) = (nat_le 1 kind && nat_le kind 2) && (nat_le (keep + length extents) MAX_EXTENTS && list_all is_extent extents)
+is_record (Place sector slot dentry) = nat_lt slot SLOTS_PER_SECTOR && is_dentry dentry
 is_record (Free inode) = true
 
 -- The numbers of a record are in the ranges of their types.
 abbrev pub FitsRecord : LogRecord → Type 0
 FitsRecord (Delta inode kind size keep extents) = (inode < 2 ^ 32) × (size < 2 ^ 64) × AllByRecursion FitsExtent extents
-FitsRecord (Place sector slot dentry) = (sector < 2 ^ 32) × (dentry.inode < 2 ^ 32) × (length dentry.name ≤ 58)
+FitsRecord (Place sector slot dentry) = (sector < 2 ^ 32) × (dentry.inode < 2 ^ 32) × (length dentry.name ≤ MAX_NAME)
 FitsRecord (Free inode) = inode < 2 ^ 32
 
 abbrev pub records_bytes : List LogRecord → List ℕ

@@ -1,4 +1,5 @@
 -- The one spelling of a superblock.
+use Rattle.ufs_base.specs.declared.sizes.TheConstants.{SECTOR}
 use Rattle.std.specs.Prelude.{ℕ, List, [], ◌∷◌, ◌++◌, Bool, ◌==◌, ◌&&◌, nat_le, if◌then◌else◌, Option, codes, true}
 use Rattle.ufs_layout.specs.Words.{number_at, byte_at, filled_to, spelled}
 use Rattle.byteorder.specs.Endian.{little_bytes}
@@ -20,7 +21,7 @@ abbrev pub super_end : Super → List ℕ
 super_end s = little_bytes 8 s.epoch ++ little_bytes 8 s.next ++ clean_byte s.clean ∷ []
 
 abbrev pub super_bytes : Super → List ℕ
-super_bytes s = filled_to 512 (super_start s ++ super_end s)
+super_bytes s = filled_to SECTOR (super_start s ++ super_end s)
 
 -- of this version; the epoch and the next commit number are from 1
 abbrev pub is_super : ℕ → Super → Bool

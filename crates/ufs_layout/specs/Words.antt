@@ -40,10 +40,6 @@ abbrev pub pieces : ℕ → ℕ → List ℕ → List (List ℕ)
 pieces zero size bytes = []
 pieces (suc count) size bytes = take size bytes ∷ pieces count size (drop size bytes)
 
--- Each number of the list is a byte.
-abbrev pub IsBytes : List ℕ → Type 0
-IsBytes bytes = (i : ℕ) → slice_index bytes i < 256
-
 -- The value whose spelling the bytes are: the fields of any bytes give one, and its spelling has to be these bytes.
 abbrev pub spelled : {X : Type 0} → (List ℕ → X) → (X → List ℕ) → (X → Bool) → List ℕ → Option X
 spelled fields spelling is_form bytes = let v = fields bytes in some_if (is_form v && bytes_eq (spelling v) bytes) v

@@ -1,6 +1,32 @@
 // The three numbers that fix where everything lies.
-ghost use Rattle.std.specs.Prelude.{◌≡◌, IfOk, IfErr, Some, None};
-ghost use Rattle.ufs_layout.specs.Areas.{geometry_refusal, refusal_number, IsGeometry};
+ghost use Rattle.std.specs.Prelude.{◌≡◌, ◌≤◌, ◌<◌, IfOk, IfErr, Some, None};
+ghost use Rattle.ufs_layout.specs.Areas.{count_up, bitmap_blocks, first_of_inodes, first_of_journal, first_of_data, sector_count, sector_of_inode, geometry_refusal, refusal_number, IsGeometry};
+
+use ufs_base::MAX_BLOCKS;
+
+/// The fewest blocks of an image.
+pub const MIN_BLOCKS: u32 = 64;
+
+/// The fewest inodes of an image.
+pub const MIN_INODES: u32 = 16;
+
+/// The most inodes of an image.
+pub const MAX_INODES: u32 = 4_096;
+
+/// The fewest sectors of a journal.
+pub const MIN_JOURNAL: u32 = 64;
+
+/// The most sectors of a journal.
+pub const MAX_JOURNAL: u32 = 4_096;
+
+/// The blocks of which one block of the bitmap has the bits.
+pub const BLOCK_BITS: u32 = 32_768;
+
+/// The first block of the bitmap, behind the superblock's.
+pub const FIRST_OF_BITMAP: u32 = 1;
+
+// The inodes of a block of the inode table, and the journal's sectors of a block.
+const PER_BLOCK: u32 = 8;
 
 /// The numbers of blocks, inodes and journal sectors of an image. A block has 4,096 bytes, 8 sectors.
 #[derive(Clone, Copy, Debug, PartialEq, Eq)]
@@ -45,24 +71,86 @@ impl Geometry {
         ensures limits { IfOk result IsGeometry }
         ensures refused { IfErr result (λ bad. geometry_refusal (record { blocks = blocks; inodes = inodes; journal = journal }) ≡ Some bad) }
     {
-        if blocks < 64 || blocks > 65_536 {
+        if blocks < MIN_BLOCKS || blocks > MAX_BLOCKS {
             return Err(BadGeometry::Blocks);
         }
-        if inodes < 16 || inodes > 4_096 {
+        if inodes < MIN_INODES || inodes > MAX_INODES {
             return Err(BadGeometry::Inodes);
         }
-        if journal < 64 || journal > 4_096 {
+        if journal < MIN_JOURNAL || journal > MAX_JOURNAL {
             return Err(BadGeometry::Journal);
         }
-        let bitmap = (blocks + 32_767) / 32_768;
-        let first = 1 + bitmap + (inodes + 7) / 8 + (journal + 7) / 8;
-        if first >= blocks {
-            return Err(BadGeometry::NoData);
-        }
-        Ok(Geometry {
+        let geometry = Geometry {
             blocks,
             inodes,
             journal,
-        })
+        };
+        if geometry.first_of_data() >= blocks {
+            return Err(BadGeometry::NoData);
+        }
+        Ok(geometry)
     }
+
+    /// The blocks of the bitmap.
+    pub fn bitmap_blocks(&self) -> u32
+        requires { self.now.blocks ≤ MAX_BLOCKS }
+        ensures { result ≡ bitmap_blocks self.now }
+    {
+        count_up(self.blocks, BLOCK_BITS)
+    }
+
+    /// The first block of the inode table.
+    pub fn first_of_inodes(&self) -> u32
+        requires { self.now.blocks ≤ MAX_BLOCKS }
+        ensures { result ≡ first_of_inodes self.now }
+    {
+        FIRST_OF_BITMAP + self.bitmap_blocks()
+    }
+
+    /// The first block of the journal.
+    pub fn first_of_journal(&self) -> u32
+        requires blocks { self.now.blocks ≤ MAX_BLOCKS }
+        requires inodes { self.now.inodes ≤ MAX_INODES }
+        ensures { result ≡ first_of_journal self.now }
+    {
+        self.first_of_inodes() + count_up(self.inodes, PER_BLOCK)
+    }
+
+    /// The first block of the data area.
+    pub fn first_of_data(&self) -> u32
+        requires blocks { self.now.blocks ≤ MAX_BLOCKS }
+        requires inodes { self.now.inodes ≤ MAX_INODES }
+        requires journal { self.now.journal ≤ MAX_JOURNAL }
+        ensures { result ≡ first_of_data self.now }
+    {
+        self.first_of_journal() + count_up(self.journal, PER_BLOCK)
+    }
+
+    /// The sectors that the image takes on a disk.
+    pub fn sector_count(&self) -> u32
+        requires { self.now.blocks ≤ MAX_BLOCKS }
+        ensures { result ≡ sector_count self.now }
+    {
+        8 * self.blocks
+    }
+
+    /// The sector of an inode, from 1 to the number of inodes.
+    pub fn sector_of_inode(&self, inode: u32) -> u32
+        requires blocks { self.now.blocks ≤ MAX_BLOCKS }
+        requires from_one { 1 ≤ inode }
+        requires few { inode ≤ MAX_INODES }
+        ensures { result ≡ sector_of_inode self.now inode }
+    {
+        8 * self.first_of_inodes() + (inode - 1)
+    }
+}
+
+// How many pieces of this size hold n.
+fn count_up(n: u32, size: u32) -> u32
+    requires some { 0 < size }
+    requires small { size ≤ MAX_BLOCKS }
+    requires few { n ≤ MAX_BLOCKS }
+    ensures { result ≡ count_up n size }
+{
+    (n + (size - 1)) / size
 }

@@ -10,6 +10,7 @@ use crate::bytes::{
     clear, found, has_only_zeros, put, put_u16, put_u32, put_u64, u16_at, u32_at, u64_at,
 };
 use std::marker::Model;
+use ufs_base::{MAX_EXTENTS, SECTOR};
 
 const NO_EXTENT: Extent = Extent {
     start: 0,
@@ -30,13 +31,14 @@ pub struct Extent {
 pub struct Inode {
     pub kind: u8,
     pub count: u8,
-    pub extents: [Extent; 56],
+    pub extents: [Extent; MAX_EXTENTS],
     pub size: u64,
     pub number: u64,
 }
 
 impl Model for Inode {
     ghost use Rattle.std.specs.Prelude.{take};
+    ghost use Rattle.ufs_base.specs.declared.sizes.TheConstants.{MAX_EXTENTS};
     ghost use Rattle.ufs_layout.specs.InodeForm.{InodeForm, no_extent};
     ghost use Rattle.ufs_layout.specs.Words.{IsPadded, padded, count_of};
     ghost use Rattle.ufs_layout.specs.Padded.{count_of-take, padded-take};
@@ -45,20 +47,20 @@ impl Model for Inode {
 
     ghost view = { λ i. record { kind = i.kind; extents = take i.count i.extents; size = i.size; number = i.number } };
 
-    ghost invariant = { λ i. IsPadded no_extent 56 i.count i.extents };
+    ghost invariant = { λ i. IsPadded no_extent MAX_EXTENTS i.count i.extents };
 
-    ghost inverse = { λ f. record { kind = f.kind; count = count_of f.extents; extents = padded no_extent 56 f.extents; size = f.size; number = f.number } };
+    ghost inverse = { λ f. record { kind = f.kind; count = count_of f.extents; extents = padded no_extent MAX_EXTENTS f.extents; size = f.size; number = f.number } };
 
-    ghost inverse_ok = { λ a h i. record { kind = a.kind; count = count_of-take no_extent 56 a.count a.extents h i; extents = padded-take no_extent 56 a.count a.extents h i; size = a.size; number = a.number } };
+    ghost inverse_ok = { λ a h i. record { kind = a.kind; count = count_of-take no_extent MAX_EXTENTS a.count a.extents h i; extents = padded-take no_extent MAX_EXTENTS a.count a.extents h i; size = a.size; number = a.number } };
 }
 
 impl Inode {
-    /// Takes at most 56 extents.
+    /// Takes at most `MAX_EXTENTS` extents.
     pub fn from_extents(kind: u8, extents: &[Extent], size: u64, number: u64) -> Inode
-        requires { length extents.now ≤ 56 }
+        requires { length extents.now ≤ MAX_EXTENTS }
         ensures { result ≡ record { kind = kind; extents = extents.now; size = size; number = number } }
     {
-        let mut places = [NO_EXTENT; 56];
+        let mut places = [NO_EXTENT; MAX_EXTENTS];
         places[..extents.len()].copy_from_slice(extents);
         Inode {
             kind,
@@ -128,12 +130,12 @@ pub fn extent_at(area: &[u8], at: usize) -> Extent
 }
 
 // The used extents, or `None` where one has no block.
-fn read_extents(area: &[u8], count: usize) -> Option<[Extent; 56]>
-    requires few { count ≤ 56 }
+fn read_extents(area: &[u8], count: usize) -> Option<[Extent; MAX_EXTENTS]>
+    requires few { count ≤ MAX_EXTENTS }
     requires room { 8 * count ≤ length area.now }
-    ensures { result ≡ some_if (list_all is_extent (extents_at count area.now)) (padded no_extent 56 (extents_at count area.now)) }
+    ensures { result ≡ some_if (list_all is_extent (extents_at count area.now)) (padded no_extent MAX_EXTENTS (extents_at count area.now)) }
 {
-    let mut extents = [NO_EXTENT; 56];
+    let mut extents = [NO_EXTENT; MAX_EXTENTS];
     for i in 0..count {
         let extent = extent_at(area, 8 * i);
         if extent.length == 0 {
@@ -153,23 +155,23 @@ fn is_form(kind: u8, count: u8, size: u64) -> bool
 
 // The bytes that no field reads are as they have to be.
 fn is_spelled(sector: &[u8], kind: u8, count: u8) -> bool
-    requires sized { length sector.now ≡ 512 }
-    requires few { count ≤ 56 }
+    requires sized { length sector.now ≡ SECTOR }
+    requires few { count ≤ MAX_EXTENTS }
     ensures { result ≡ ((links_of_kind kind == number_at 2 2 sector.now && is_zeros (take 4 (drop 4 sector.now))) && (is_zeros (take 40 (drop 24 sector.now)) && is_zeros (drop (64 + 8 * count) sector.now))) }
 {
     has_head_spelled(sector, kind) && has_rest_spelled(sector, count)
 }
 
 fn has_head_spelled(sector: &[u8], kind: u8) -> bool
-    requires { length sector.now ≡ 512 }
+    requires { length sector.now ≡ SECTOR }
     ensures { result ≡ (links_of_kind kind == number_at 2 2 sector.now && is_zeros (take 4 (drop 4 sector.now))) }
 {
     links(kind) == u16_at(sector, 2) && has_only_zeros(&sector[4..8])
 }
 
 fn has_rest_spelled(sector: &[u8], count: u8) -> bool
-    requires sized { length sector.now ≡ 512 }
-    requires few { count ≤ 56 }
+    requires sized { length sector.now ≡ SECTOR }
+    requires few { count ≤ MAX_EXTENTS }
     ensures { result ≡ (is_zeros (take 40 (drop 24 sector.now)) && is_zeros (drop (64 + 8 * count) sector.now)) }
 {
     has_only_zeros(&sector[24..64]) && has_only_zeros(&sector[64 + 8 * usize::from(count)..])
@@ -177,7 +179,7 @@ fn has_rest_spelled(sector: &[u8], count: u8) -> bool
 
 /// Writes the one spelling of an inode.
 pub fn put_inode(sector: &mut [u8], value: &Inode)
-    requires sized { length sector.old ≡ 512 }
+    requires sized { length sector.old ≡ SECTOR }
     requires form { IsTrue (is_inode value.now) }
     ensures spelling { sector.new ≡ inode_bytes value.now }
     ensures read_back { inode_of sector.new ≡ Some value.now }
@@ -195,17 +197,18 @@ pub fn put_inode(sector: &mut [u8], value: &Inode)
 
 /// The inode whose one spelling the sector is; `None` where it is none's.
 pub fn get_inode(sector: &[u8]) -> Option<Inode>
-    requires { length sector.now ≡ 512 }
+    requires { length sector.now ≡ SECTOR }
     ensures value { result ≡ inode_of sector.now }
     ensures spelling { IfSome result (λ v. sector.now ≡ inode_bytes v) }
     ensures form { IfSome result (λ v. IsTrue (is_inode v)) }
 {
     let kind = sector[0];
     let count = sector[1];
-    if count > 56 {
+    let used = usize::from(count);
+    if used > MAX_EXTENTS {
         return None;
     }
-    let Some(extents) = read_extents(&sector[64..], usize::from(count)) else {
+    let Some(extents) = read_extents(&sector[64..], used) else {
         return None;
     };
     let size = u64_at(sector, 8);

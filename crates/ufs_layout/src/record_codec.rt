@@ -9,6 +9,7 @@ ghost use Rattle.ufs_layout.specs.Records.{record_bytes, records_bytes, records_
 use crate::bytes::{put, put_u32, put_u64};
 use crate::inode::put_extents;
 use crate::{Dentry, Extent, LogRecord, put_dentry};
+use ufs_base::{MAX_EXTENTS, MAX_NAME};
 
 /// The number of bytes of a record's spelling.
 pub fn record_length(value: &LogRecord) -> usize
@@ -42,7 +43,7 @@ fn put_delta(
     keep: u8,
     extents: &[Extent],
 )
-    requires few { length extents.now ≤ 56 }
+    requires few { length extents.now ≤ MAX_EXTENTS }
     requires room { at + (16 + 8 * length extents.now) ≤ length content.old }
     ensures spelling { content.new ≡ take at content.old ++ (1 ∷ little_bytes 4 inode ++ kind ∷ little_bytes 8 size ++ keep ∷ length extents.now ∷ flat_map extent_bytes extents.now) ++ drop (at + (16 + 8 * length extents.now)) content.old }
     ensures in_range { AllByRecursion FitsExtent extents.now }
@@ -66,7 +67,7 @@ fn put_place(content: &mut [u8], at: usize, sector: u32, slot: u8, dentry: &Dent
     requires form { IsTrue (is_dentry dentry.now) }
     requires room { at + 70 ≤ length content.old }
     ensures spelling { content.new ≡ take at content.old ++ (2 ∷ little_bytes 4 sector ++ slot ∷ dentry_bytes dentry.now) ++ drop (at + 70) content.old }
-    ensures in_range { (dentry.now.inode < 2 ^ 32) × (length dentry.now.name ≤ 58) }
+    ensures in_range { (dentry.now.inode < 2 ^ 32) × (length dentry.now.name ≤ MAX_NAME) }
 {
     let _inode = dentry.inode;
     let mut head = [0; 6];

@@ -11,6 +11,7 @@ use crate::inode::extent_at;
 use crate::record_codec::record_length;
 use crate::{ExtentList, LogRecord, Records, get_dentry};
 use std::alloc::{AllocError, Global};
+use ufs_base::{MAX_EXTENTS, SLOTS_PER_SECTOR};
 
 // So many extents, or `None` where one has no block.
 fn collect_extents(
@@ -33,9 +34,9 @@ fn collect_extents(
 }
 
 fn is_delta_form(kind: u8, keep: u8, count: u8) -> bool
-    ensures { result ≡ ((nat_le 1 kind && nat_le kind 2) && nat_le (keep + count) 56) }
+    ensures { result ≡ ((nat_le 1 kind && nat_le kind 2) && nat_le (keep + count) MAX_EXTENTS) }
 {
-    (kind >= 1 && kind <= 2) && u16::from(keep) + u16::from(count) <= 56
+    (kind >= 1 && kind <= 2) && usize::from(keep) + usize::from(count) <= MAX_EXTENTS
 }
 
 fn read_delta(alloc: Global, rest: &[u8]) -> Result<Option<LogRecord>, AllocError>
@@ -75,7 +76,7 @@ fn read_place(rest: &[u8]) -> Option<LogRecord>
         return None;
     }
     let slot = rest[5];
-    if slot > 7 {
+    if usize::from(slot) >= SLOTS_PER_SECTOR {
         return None;
     }
     let Some(dentry) = get_dentry(&rest[6..70]) else {

@@ -103,6 +103,15 @@ impl Records {
         self.records
     }
 
+    /// The others go behind these.
+    pub fn append(&mut self, others: Records) -> Result<(), AllocError>
+        ensures ok { OnOk result (self.new ≡ self.old ++ others) }
+        ensures err { OnErr result (self.new ≡ self.old) }
+    {
+        let mut others = others.into_vec();
+        self.records.append(&mut others)
+    }
+
     pub fn as_slice(&self) -> &[LogRecord]
         ensures { result.now ≡ self.now }
     {

@@ -7,6 +7,7 @@ ghost use Rattle.std.specs.Str.{bytes_eq};
 ghost use Rattle.byteorder.specs.Endian.{little_bytes};
 
 use crate::bytes::{clear, found, has_only_zeros, put, put_u32, put_u64, u32_at, u64_at};
+use ufs_base::SECTOR;
 
 /// The superblock, whose sector begins an image. The epoch and `next`, the next commit number, are from
 /// 1; `clean` is false while the image is in use.
@@ -48,10 +49,10 @@ fn put_end(end: &mut [u8], epoch: u64, next: u64, clean: bool)
 }
 
 fn lay(sector: &mut [u8], start: &[u8], end: &[u8])
-    requires sector { length sector.old ≡ 512 }
+    requires sector { length sector.old ≡ SECTOR }
     requires start { length start.now ≡ 24 }
     requires end { length end.now ≡ 17 }
-    ensures { sector.new ≡ filled_to 512 (start.now ++ end.now) }
+    ensures { sector.new ≡ filled_to SECTOR (start.now ++ end.now) }
 {
     clear(sector);
     put(sector, 0, start);
@@ -60,7 +61,7 @@ fn lay(sector: &mut [u8], start: &[u8], end: &[u8])
 
 /// Writes the one spelling of a superblock of version 1.
 pub fn put_super(sector: &mut [u8], value: &Super)
-    requires sized { length sector.old ≡ 512 }
+    requires sized { length sector.old ≡ SECTOR }
     requires form { IsTrue (is_super 1 value.now) }
     ensures spelling { sector.new ≡ super_bytes value.now }
     ensures read_back { super_of 1 sector.new ≡ Some value.now }
@@ -82,7 +83,7 @@ pub fn put_super(sector: &mut [u8], value: &Super)
 }
 
 fn fields(sector: &[u8]) -> Super
-    requires { length sector.now ≡ 512 }
+    requires { length sector.now ≡ SECTOR }
     ensures { result ≡ super_fields sector.now }
 {
     Super {
@@ -111,7 +112,7 @@ fn has_magic(sector: &[u8]) -> bool
 
 /// The version of a sector that begins with the 8 bytes of a superblock, be the rest what it may.
 pub fn super_version(sector: &[u8]) -> Option<u32>
-    requires { length sector.now ≡ 512 }
+    requires { length sector.now ≡ SECTOR }
     ensures { result ≡ some_if (bytes_eq magic (take 8 sector.now)) (super_fields sector.now).version }
 {
     if has_magic(sector) {
@@ -128,7 +129,7 @@ fn is_flag(byte: u8) -> bool
 }
 
 fn is_spelled(sector: &[u8]) -> bool
-    requires { length sector.now ≡ 512 }
+    requires { length sector.now ≡ SECTOR }
     ensures { result ≡ (bytes_eq magic (take 8 sector.now) && (nat_le (byte_at 40 sector.now) 1 && is_zeros (drop 41 sector.now))) }
 {
     has_magic(sector) && (is_flag(sector[40]) && has_only_zeros(&sector[41..]))
@@ -136,7 +137,7 @@ fn is_spelled(sector: &[u8]) -> bool
 
 /// The superblock of version 1 whose one spelling the sector is; `None` where it is none's.
 pub fn get_super(sector: &[u8]) -> Option<Super>
-    requires { length sector.now ≡ 512 }
+    requires { length sector.now ≡ SECTOR }
     ensures value { result ≡ super_of 1 sector.now }
     ensures spelling { IfSome result (λ v. sector.now ≡ super_bytes v) }
     ensures form { IfSome result (λ v. IsTrue (is_super 1 v)) }

@@ -1,6 +1,8 @@
 -- Which excuses fit a request, as far as the tree and the request tell it.
-use Rattle.std.specs.Prelude.{ℕ, ◌+◌, ◌-◌, ◌/◌, Bool, true, false, ◌&&◌, ◌≡◌, ◌<◌, length, None, is_none, ⊤, if◌then◌else◌}
-use Rattle.ufs_model.specs.PosixTree.{PosixTree}
+use Rattle.std.specs.Prelude.{ℕ, ◌+◌, ◌-◌, ◌/◌, ◌%◌, ◌≤◌, ◌==◌, List, Bool, true, false, ◌&&◌, ◌≡◌, ◌<◌, length, None, is_none, ⊤, if◌then◌else◌}
+use Rattle.ufs_model.specs.Paths.{parent_of}
+use Rattle.ufs_model.specs.PosixTree.{PosixTree, root}
+use Rattle.ufs_model.specs.Directories.{entry_count}
 use Rattle.ufs_model.specs.Walk.{node_at}
 use Rattle.ufs_model.specs.Descriptors.{opened}
 use Rattle.ufs_model.specs.FileBytes.{place_of, size_after, block_size}
@@ -40,10 +42,25 @@ old_size t client _ = 0
 abbrev pub blocks_of : ℕ → ℕ
 blocks_of size = (size + 4095) / block_size
 
--- The blocks that a request may need: those by which its file grows, or one for a name that it adds.
+-- the directory to which a request may add a name
+abbrev pub grown_dir : Op → List ℕ
+grown_dir (op.OpenFile path read write creat excl trunc append) = parent_of path
+grown_dir (op.Mkdir path) = parent_of path
+grown_dir (op.Rename from to) = parent_of to
+grown_dir _ = root
+
+-- the entries that a block of a directory has room for
+abbrev pub block_entries : ℕ
+block_entries = 64
+
+-- Each slot of the directory may be used: it takes a block only for a name that finds every slot used.
+abbrev pub may_be_full : PosixTree → List ℕ → Bool
+may_be_full t dir = entry_count t.paths dir % block_entries == 0
+
+-- The blocks that a request may need: one for a name that it adds where the directory may be full, else those by which its file grows.
 abbrev pub needed : PosixTree → ℕ → Op → ℕ
 needed t client request =
-    if adds_name t request then 1
+    if adds_name t request then (if may_be_full t (grown_dir request) then 1 else 0)
     else blocks_of (new_size t client request (old_size t client request)) - blocks_of (old_size t client request)
 
 -- the most extents of a file or directory
@@ -57,7 +74,7 @@ IsExcuseOf t client request (excuse.Device fault) = ⊤
 IsExcuseOf t client request (excuse.Stopped fault) = ⊤
 IsExcuseOf t client request (excuse.Blocks need had) = (need ≡ needed t client request) × (had < need)
 IsExcuseOf t client request excuse.Inodes = makes_node t request ≡ true
-IsExcuseOf t client request (excuse.Extents need) = (0 < needed t client request) × (max_extents < need)
+IsExcuseOf t client request (excuse.Extents need) = (max_extents < need) × (need ≤ max_extents + needed t client request)
 
 -- want of memory excuses any request
 abbrev pub is_memory : Excuse → Bool

@@ -1,12 +1,16 @@
 -- A number that is free again.
-use Rattle.std.proofs.Common.{◌≡◌, ◌≢◌, ℕ, ◌+◌, ◌<◌, ◌≤◌, ◌⊎◌, inl, inr, List, [], ◌∷◌, ◌++◌, Some, None, Bool, true, false, if◌then◌else◌, eqb, length, get_or, ap, sym, refl, ◌∙◌, subst, arith, length-append}
+use Rattle.std.proofs.Common.{◌≡◌, ◌≢◌, ℕ, suc, ◌+◌, ◌||◌, Option, ◌<◌, ◌≤◌, ◌⊎◌, inl, inr, List, [], ◌∷◌, ◌++◌, Some, None, Bool, true, false, if◌then◌else◌, eqb, length, get_or, ap, sym, refl, ◌∙◌, subst, arith, length-append}
+use Rattle.std.specs.List.{list_any}
 use Rattle.std.specs.Option.{option_map}
-use Rattle.std.proofs.lemmas.Bool.{cases_eq, cases_lt}
+use Rattle.std.proofs.lemmas.Grind.{get_or_default_zero}
+use Rattle.std.proofs.lemmas.Map.Keys.{IsDistinct-from_apart}
+use Rattle.std.proofs.lemmas.Map.Steps.{length-le_from_distinct_below}
+use Rattle.std.proofs.lemmas.Bool.{cases_eq, cases_lt, eqb-true, ne_eqb}
 use Rattle.std.proofs.lemmas.List.{get_or_append_left, get_or_push}
 use Rattle.ufs_dirs.specs.Directory.{Directory, entry_of}
 use Rattle.ufs_names.specs.DirTable.{DirTable, IsDirTable, slots_at, found_of, found_at}
 use Rattle.ufs_names.specs.DirCalls.{IsBare}
-use Rattle.ufs_names.specs.DirEdits.{IsLoose, SetsEntry, dir_in}
+use Rattle.ufs_names.specs.DirEdits.{FreesNumber, IsLoose, SetsEntry, dir_in}
 use Rattle.ufs_names.specs.declared.found.Found.{Found}
 use Rattle.ufs_names.specs.declared.found.Found.TheVariants.{Dir, File}
 use Rattle.ufs_names.proofs.WalkEdits.{walk-same}
@@ -61,7 +65,10 @@ module _ (dirs : List Directory) (free : List ℕ) (i : ℕ) (is : IsDirTable (r
     bare = λ k inside. bare_freed k (listed k inside);
   })
 
--- the number of a directory that lost its name is put on the list, where there is room for it
+dir_found : (e : DentryForm) → e.kind ≡ 2 → found_of e ≡ Dir e.inode
+dir_found e kind = ap (λ k. if eqb k 2 then Dir e.inode else File e.inode) kind
+
+-- the number of a directory that lost its name is put on the list
 module _ (old t : DirTable) (p : ℕ) (x : List ℕ) (e : DentryForm) (sets : SetsEntry old.dirs t.dirs p x None) (was : entry_of (slots_at old p) x ≡ Some e) (may_go : (i : ℕ) → option_map found_of (entry_of (slots_at old p) x) ≡ Some (Dir i) → IsBare (slots_at old i)) where
   still_bare : (i : ℕ) → IsBare (slots_at old i) → IsBare (slots_at t i)
   still_bare i bare name = by (cases_eq i p) (one_name name x)
@@ -72,16 +79,44 @@ module _ (old t : DirTable) (p : ℕ) (x : List ℕ) (e : DentryForm) (sets : Se
       by (inl at) (inr other) =
           ap (λ j. entry_of (slots_at t j) name) at ∙ sets.names.others name other ∙ ap (λ j. entry_of (slots_at old j) name) (sym at) ∙ bare name
 
-  is_dir : e.kind ≡ 2 → found_of e ≡ Dir e.inode
-  is_dir kind = ap (λ k. if eqb k 2 then Dir e.inode else File e.inode) kind
+  freed_number : (i : ℕ) → IsDirTable t → IsLoose t (Some (found_of e)) → e.kind ≡ 2 → i ≡ e.inode → IsDirTable (record { dirs = t.dirs; free = t.free ++ i ∷ [] })
+  freed_number i is loose kind at =
+      let found : found_of e ≡ Dir i = dir_found e kind ∙ ap (λ j. Dir j) (sym at) in
+      freed_table t.dirs t.free i is (subst (λ (f : Found). IsLoose t (Some f)) found loose) (still_bare i (may_go i (ap (option_map found_of) was ∙ ap Some found)))
 
-  pub pushed_table : (free : List ℕ) (b : Bool) (i : ℕ) → IsDirTable t → IsLoose t (Some (found_of e)) → e.kind ≡ 2 → i ≡ e.inode → free ≡ (if b then t.free ++ i ∷ [] else t.free) → IsDirTable (record { dirs = t.dirs; free = free })
-  pushed_table free b i is loose kind at pushed = by b pushed
-    where
-      found : found_of e ≡ Dir i
-      found = is_dir kind ∙ ap (λ j. Dir j) (sym at)
+-- the same of a table that is equal to it
+pub freed_alike : (old t new : DirTable) (p : ℕ) (x : List ℕ) (e : DentryForm) (i : ℕ) → t ≡ new → SetsEntry old.dirs new.dirs p x None → entry_of (slots_at old p) x ≡ Some e
+    → ((i : ℕ) → option_map found_of (entry_of (slots_at old p) x) ≡ Some (Dir i) → IsBare (slots_at old i)) → IsDirTable t → IsLoose new (Some (found_of e)) → e.kind ≡ 2 → i ≡ e.inode
+    → IsDirTable (record { dirs = t.dirs; free = t.free ++ i ∷ [] })
+freed_alike old t new p x e i same sets was may_go is loose kind at =
+    freed_number old t p x e (subst (λ (t : DirTable). SetsEntry old.dirs t.dirs p x None) (sym same) sets) was may_go i is
+    (subst (λ (t : DirTable). IsLoose t (Some (found_of e))) (sym same) loose) kind at
 
-      by : (b : Bool) → free ≡ (if b then t.free ++ i ∷ [] else t.free) → IsDirTable (record { dirs = t.dirs; free = free })
-      by true same = subst (λ (l : List ℕ). IsDirTable (record { dirs = t.dirs; free = l })) (sym same)
-          (freed_table t.dirs t.free i is (subst (λ (f : Found). IsLoose t (Some f)) found loose) (still_bare i (may_go i (ap (option_map found_of) was ∙ ap Some found))))
-      by false same = subst (λ (l : List ℕ). IsDirTable (record { dirs = t.dirs; free = l })) (sym same) is
+-- ---- there is room for it
+
+any_below : (xs : List ℕ) (n q : ℕ) → ((k : ℕ) → k < length xs → get_or xs k 0 < n) → list_any (eqb q) xs ≡ true → q < n
+any_below [] n q below any = cc
+any_below (x ∷ xs) n q below any = by (eqb q x) refl any (any_below xs n q (λ k inside. below (suc k) (omega (arith, inside))))
+  where
+    by : (b : Bool) → eqb q x ≡ b → (b || list_any (eqb q) xs) ≡ true → (list_any (eqb q) xs ≡ true → q < n) → q < n
+    by true e h more = omega (arith, eqb-true q x e, below 0 (omega arith))
+    by false e h more = more h
+
+-- numbers that are below the end, each once, are no more than directories
+pub few_free : (t : DirTable) → IsDirTable t → length t.free ≤ length t.dirs
+few_free t is = length-le_from_distinct_below t.free (length t.dirs) (IsDistinct-from_apart eqb t.free apart) (λ q any. any_below t.free (length t.dirs) q is.free.in_range any)
+  where
+    apart : (i j d : ℕ) → i < j → j < length t.free → eqb (get_or t.free i d) (get_or t.free j d) ≡ false
+    apart i j d less inside = ne_eqb (get_or t.free i d) (get_or t.free j d) (λ e.
+        is.free.once i j less inside (sym (get_or_default_zero t.free i d (omega (arith, less, inside))) ∙ e ∙ get_or_default_zero t.free j d inside))
+
+pub one_more_free : (dirs : List Directory) (free : List ℕ) (i : ℕ) → IsDirTable (record { dirs = dirs; free = free ++ i ∷ [] }) → length free < length dirs
+one_more_free dirs free i is = omega (arith, few_free (record { dirs = dirs; free = free ++ i ∷ [] }) is, length-append free (i ∷ []))
+
+-- ---- which number it is
+
+-- by the list alone
+pub frees_same : (old mid new : DirTable) (o : Option Found) → new.free ≡ mid.free → FreesNumber old mid o → FreesNumber old new o
+frees_same old mid new None e freed = e ∙ freed
+frees_same old mid new (Some (Dir i)) e freed = e ∙ freed
+frees_same old mid new (Some (File f)) e freed = e ∙ freed

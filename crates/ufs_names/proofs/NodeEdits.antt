@@ -8,7 +8,7 @@ use Rattle.ufs_model.specs.declared.data.Node.TheVariants as node
 use Rattle.ufs_model.proofs.Facts.Pieces.{last}
 use Rattle.ufs_names.specs.DirTable.{DirTable, IsDirTable, slots_at, found_of, walk_from, found_at, node_of, node_at}
 use Rattle.ufs_names.specs.DirCalls.{names_above, IsBare, MayGo, SetsNode}
-use Rattle.ufs_names.specs.DirEdits.{SetsEntry, SameEntries, IsLoose}
+use Rattle.ufs_names.specs.DirEdits.{FreesNumber, SetsEntry, SameEntries, IsLoose}
 use Rattle.ufs_names.specs.declared.found.Found.{Found}
 use Rattle.ufs_names.specs.declared.found.Found.TheVariants.{Dir, File}
 use Rattle.ufs_names.proofs.Prefixes.{Begins, NotBegins, begins_or_not}
@@ -56,6 +56,10 @@ module _ (t : DirTable) where
 
     pub entry_may_go : MayGo t path → (i : ℕ) → option_map found_of (entry_of (slots_at t p) x) ≡ Some (Dir i) → IsBare (slots_at t i)
     entry_may_go may_go i e = may_go i (path_met ∙ e)
+
+    -- the number that is free again is that of what stood at the path
+    pub path_frees : (new : DirTable) → FreesNumber t new (option_map found_of (entry_of (slots_at t p) x)) → FreesNumber t new (found_at t path)
+    path_frees new freed = subst (FreesNumber t new) (sym path_met) freed
 
   -- nothing stands below
   abbrev pub NothingFrom : Option Found → Type 0

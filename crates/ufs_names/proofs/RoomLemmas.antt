@@ -1,5 +1,5 @@
 -- Free slots of a directory, and the numbers of its blocks.
-use Rattle.std.proofs.Common.{◌≡◌, ℕ, ◌+◌, ◌<◌, List, [], ◌∷◌, ◌++◌, Bool, true, false, cond, eqb, length, set, ap, refl, ◌∙◌, arith, All, length-append, length-set, Result, Ok, Err, OnOk, is_err}
+use Rattle.std.proofs.Common.{◌≡◌, ℕ, suc, ◌+◌, ◌<◌, ◌≤◌, ◌&&◌, List, [], ◌∷◌, ◌++◌, Bool, true, false, cond, eqb, length, set, ap, refl, ◌∙◌, arith, All, length-append, length-set, Result, Ok, Err, OnOk, is_err}
 use Rattle.std.specs.List.{list_all, count_by}
 use Rattle.std.proofs.lemmas.Bool.{false_from_ne_true, eqb-true, and_parts, true≢false}
 use Rattle.std.proofs.lemmas.List.{get_or-set_same}
@@ -22,9 +22,34 @@ all_count p (x ∷ xs) h =
     let one : one_if (p x) ≡ 1 = ap one_if parts.0 in
     omega (arith, sum_by-cons (λ y. one_if (p y)) x xs, one, all_count p xs parts.1)
 
+-- no more elements than there are pass
+few : {X : Type 0} (p : X → Bool) (xs : List X) → count_by p xs ≤ length xs
+few p [] = omega arith
+few p (x ∷ xs) = omega (arith, sum_by-cons (λ y. one_if (p y)) x xs, at_most (p x), few p xs)
+  where
+    at_most : (b : Bool) → one_if b ≤ 1
+    at_most true = omega arith
+    at_most false = omega arith
+
 -- fewer names than slots
 pub room_left : (d : Directory) → count_by is_named d.slots < length d.slots → HasRoom d
 room_left d few = false_from_ne_true (list_all is_named d.slots) (λ all. omega (arith, all_count is_named d.slots all, few))
+
+-- and the other way round
+few_named : {X : Type 0} (p : X → Bool) (xs : List X) → list_all p xs ≡ false → count_by p xs < length xs
+few_named p [] h = cc
+few_named p (x ∷ xs) h = by (p x) refl h (few_named p xs)
+  where
+    by : (b : Bool) → p x ≡ b → (b && list_all p xs) ≡ false → (list_all p xs ≡ false → count_by p xs < length xs) → count_by p (x ∷ xs) < suc (length xs)
+    by true e rest more =
+        let one : one_if (p x) ≡ 1 = ap one_if e in
+        omega (arith, sum_by-cons (λ y. one_if (p y)) x xs, one, more rest)
+    by false e rest more =
+        let none : one_if (p x) ≡ 0 = ap one_if e in
+        omega (arith, sum_by-cons (λ y. one_if (p y)) x xs, none, few p xs)
+
+pub some_left : (d : Directory) → HasRoom d → count_by is_named d.slots < length d.slots
+some_left d room = few_named is_named d.slots room
 
 pub room_cleared : (d new : Directory) (s : Slot) → IsSlot d s → new ≡ with_entry d s free_slot → HasRoom new
 room_cleared d new s is e =

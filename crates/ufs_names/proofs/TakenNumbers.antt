@@ -6,7 +6,7 @@ use Rattle.std.proofs.lemmas.List.{get_or_append_left, get_or_push, get_or_past}
 use Rattle.ufs_dirs.specs.Directory.{Directory, entry_of}
 use Rattle.ufs_names.specs.DirTable.{DirTable, IsDirTable, no_dir, dir_at, slots_at, found_of, walk_from, found_at}
 use Rattle.ufs_names.specs.DirCalls.{IsBare}
-use Rattle.ufs_names.specs.DirEdits.{IsNumbered, RoomsIn, SameEntries, TakesNumber, IsLoose}
+use Rattle.ufs_names.specs.DirEdits.{IsNumbered, RoomsIn, SameEntries, TakesNumber, IsNumberOf, IsLoose}
 use Rattle.ufs_names.specs.declared.found.Found.TheVariants.{Dir}
 use Rattle.ufs_names.proofs.WalkEdits.{walk-none, walk-same}
 use Rattle.ufs_names.proofs.SameWalks.{same_table, free_same, same_rooms, rooms_table}
@@ -134,9 +134,9 @@ put_behind t dirs free i is e at same =
 pub number_taken : (t new : DirTable) (i : ℕ) → IsDirTable t → TakesNumber t new i → IsTaken t new i
 number_taken t new i is takes = by takes.by
   where
-    by : ((t.free ≡ new.free ++ i ∷ []) × (new.dirs ≡ t.dirs)) ⊎ ((new.free ≡ t.free) × (i ≡ length t.dirs) × (new.dirs ≡ t.dirs ++ no_dir ∷ [])) → IsTaken t new i
+    by : ((t.free ≡ new.free ++ i ∷ []) × (new.dirs ≡ t.dirs)) ⊎ ((t.free ≡ []) × (new.free ≡ []) × (i ≡ length t.dirs) × (new.dirs ≡ t.dirs ++ no_dir ∷ [])) → IsTaken t new i
     by (inl off) = taken_off t new.dirs new.free i is off.0 off.1
-    by (inr behind) = put_behind t new.dirs new.free i is behind.0 behind.1 behind.2
+    by (inr behind) = put_behind t new.dirs new.free i is (behind.1 ∙ sym behind.0) behind.2 behind.3
 
 -- more free slots, and then a number
 pub room_and_number : (t : DirTable) (first second : List Directory) (free : List ℕ) (new : DirTable) (p i : ℕ) → IsDirTable t → first ≡ t.dirs → RoomsIn first second p → free ≡ t.free → TakesNumber (record { dirs = second; free = free }) new i → IsTaken t new i
@@ -150,3 +150,12 @@ room_and_number t first second free new p i is e rooms f takes =
       bare = taken.bare;
       loose = taken.loose;
     }
+
+pub number_of : (t : DirTable) (second : List Directory) (free : List ℕ) (new : DirTable) (p i : ℕ) → RoomsIn t.dirs second p → free ≡ t.free → TakesNumber (record { dirs = second; free = free }) new i → IsNumberOf t new i
+number_of t second free new p i rooms f takes = record { by = by takes.by }
+  where
+    by : ((free ≡ new.free ++ i ∷ []) × (new.dirs ≡ second)) ⊎ ((free ≡ []) × (new.free ≡ []) × (i ≡ length second) × (new.dirs ≡ second ++ no_dir ∷ []))
+        → ((t.free ≡ new.free ++ i ∷ []) × (length new.dirs ≡ length t.dirs)) ⊎ ((t.free ≡ []) × (new.free ≡ []) × (i ≡ length t.dirs) × (length new.dirs ≡ length t.dirs + 1))
+    by (inl off) = inl (sym f ∙ off.0, ap (λ (l : List Directory). length l) off.1 ∙ rooms.counted)
+    by (inr behind) =
+        inr (sym f ∙ behind.0, behind.1, behind.2 ∙ rooms.counted, ap (λ (l : List Directory). length l) behind.3 ∙ length-append second (no_dir ∷ []) ∙ ap (λ (n : ℕ). n + 1) rooms.counted)

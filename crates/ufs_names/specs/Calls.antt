@@ -8,6 +8,7 @@ use Rattle.ufs_model.specs.FileBytes.{content, part, put_at, resized, place_of, 
 use Rattle.ufs_model.specs.Asks.{IsDescAfter, fd_told}
 use Rattle.ufs_model.specs.OpKinds.{is_on_fd}
 use Rattle.ufs_model.specs.Posix.{posix}
+use Rattle.ufs_model.specs.declared.data.Actor.{Actor}
 use Rattle.ufs_model.specs.declared.data.Op.{Op}
 use Rattle.ufs_model.specs.declared.data.Op.TheVariants as op
 use Rattle.ufs_model.specs.declared.data.Reply.{Reply}
@@ -86,11 +87,12 @@ part_after n client last d request = record n { bytes = bytes_after n.bytes d re
 
 -- ---- all requests
 
--- the entry is that of the request
-pub record IsEntryOf (ask : Ask) (ticket : ℕ) (entry : Entry) : Type 0 where
+-- the entry is that of the request, and tells who served it
+pub record IsEntryOf (ask : Ask) (by : Actor) (ticket : ℕ) (entry : Entry) : Type 0 where
   pub ticket_is : entry.ticket ≡ ticket
   pub client : entry.client ≡ ask.client
   pub seq : entry.seq ≡ ask.seq
+  pub server : entry.by ≡ by
   pub asked : entry.op ≡ ask.op
 
 -- The reply is POSIX's on the tree, and the part goes on with the tree; this is what the request's descriptor

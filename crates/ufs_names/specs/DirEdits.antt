@@ -1,5 +1,5 @@
 -- One change of a tree's directories.
-use Rattle.std.specs.Prelude.{ℕ, ◌≡◌, ◌≢◌, ◌<◌, ◌++◌, ◌∷◌, [], ◌⊎◌, List, length, All, Option, Some, None, false, slice_index, slice_index_or}
+use Rattle.std.specs.Prelude.{ℕ, ◌≡◌, ◌≢◌, ◌<◌, ◌+◌, ◌++◌, ◌∷◌, [], ◌⊎◌, List, length, All, Option, Some, None, false, slice_index, slice_index_or}
 use Rattle.std.specs.List.{list_all}
 use Rattle.ufs_layout.specs.DentryForm.{DentryForm, is_named}
 use Rattle.ufs_dirs.specs.Directory.{Directory, entry_of}
@@ -46,9 +46,19 @@ pub record SetsEntry (old new : List Directory) (dir : ℕ) (name : List ℕ) (w
   pub names : SetsName (dir_in old dir) (dir_in new dir) name w
   pub blocks : (dir_in new dir).blocks ≡ (dir_in old dir).blocks
 
--- The number is off the free list, or a directory without names has come behind the others and has it.
+-- The number is off the free list, or, where that is empty, a directory without names has come behind the others and has
+-- it.
 pub record TakesNumber (old new : DirTable) (i : ℕ) : Type 0 where
-  pub by : ((old.free ≡ new.free ++ i ∷ []) × (new.dirs ≡ old.dirs)) ⊎ ((new.free ≡ old.free) × (i ≡ length old.dirs) × (new.dirs ≡ old.dirs ++ no_dir ∷ []))
+  pub by : ((old.free ≡ new.free ++ i ∷ []) × (new.dirs ≡ old.dirs)) ⊎ ((old.free ≡ []) × (new.free ≡ []) × (i ≡ length old.dirs) × (new.dirs ≡ old.dirs ++ no_dir ∷ []))
+
+-- The same of tables whose directories may have other blocks: no directory is added while a number is free.
+pub record IsNumberOf (old new : DirTable) (i : ℕ) : Type 0 where
+  pub by : ((old.free ≡ new.free ++ i ∷ []) × (length new.dirs ≡ length old.dirs)) ⊎ ((old.free ≡ []) × (new.free ≡ []) × (i ≡ length old.dirs) × (length new.dirs ≡ length old.dirs + 1))
+
+-- The number of a directory is free from now on; that of anything else changes no list.
+abbrev pub FreesNumber : DirTable → DirTable → Option Found → Type 0
+FreesNumber old new (Some (Dir i)) = new.free ≡ old.free ++ i ∷ []
+FreesNumber old new _ = new.free ≡ old.free
 
 -- ---- what is met
 

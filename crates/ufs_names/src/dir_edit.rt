@@ -13,7 +13,7 @@ impl DirTree {
     ghost use Rattle.ufs_model.specs.declared.data.Node.TheVariants as nodes;
     ghost use Rattle.ufs_names.specs.DirTable.{DirTable, IsDirTable, dir_at, slots_at, found_of, found_at, node_at};
     ghost use Rattle.ufs_names.specs.DirCalls.{names_above, IsBare, MayGo, SetsNode, MovesNodes, MayMove};
-    ghost use Rattle.ufs_names.specs.DirEdits.{HasRoom, IsMet, IsLoose, SameEntries, SetsEntry, ClearsName};
+    ghost use Rattle.ufs_names.specs.DirEdits.{HasRoom, IsMet, IsLoose, IsNumberOf, FreesNumber, SameEntries, SetsEntry, ClearsName};
     ghost use Rattle.ufs_names.specs.declared.found.Found.TheVariants as found;
     ghost use Rattle.ufs_path.specs.Names.{IsName};
 
@@ -39,23 +39,24 @@ impl DirTree {
         Ok(())
     }
 
-    /// Takes away what stands at a path. Takes no memory, but that a directory's number, where there is none for it,
-    /// isn't given out again.
+    /// Takes away what stands at a path. A directory's number is free again. Takes no memory.
     pub fn remove(&mut self, path: &PathText)
         requires below { path.now ≢ [] }
         requires stands { IsSome (found_at self.old path.now) }
         requires may_go { MayGo self.old path.now }
-        ensures { SetsNode (node_at self.old) (node_at self.new) path.now None }
+        ensures node { SetsNode (node_at self.old) (node_at self.new) path.now None }
+        ensures free { FreesNumber self.old self.new (found_at self.old path.now) }
     {
         let dir = self.parent(path);
         self.drop_entry(dir, path.last());
     }
 
-    /// Gives what stands at `from`, with all below it, the name `to`. What stood there goes. It moves one dentry,
-    /// whatever lies below.
+    /// Gives what stands at `from`, with all below it, the name `to`. What stood there goes, and a directory's number is
+    /// free again. It moves one dentry, whatever lies below.
     pub fn rename(&mut self, from: &PathText, to: &PathText) -> Result<(), Memory>
         requires { MayMove self.old from.now to.now }
         ensures ok { OnOk result (MovesNodes (node_at self.old) (node_at self.new) from.now to.now) }
+        ensures free { OnOk result (FreesNumber self.old self.new (found_at self.old to.now)) }
         ensures err { OnErr result (self.new ≡ self.old) }
     {
         let old = self.parent(from);
@@ -72,6 +73,7 @@ impl DirTree {
         requires met { IsMet self.old dir }
         requires may_go { (i : ℕ) → option_map found_of (entry_of (slots_at self.old dir) name.now) ≡ Some (found.Dir i) → IsBare (slots_at self.old i) }
         ensures ok { OnOk result (ClearsName self.old self.new dir name.now) }
+        ensures free { OnOk result (FreesNumber self.old self.new (option_map found_of (entry_of (slots_at self.old dir) name.now))) }
         ensures err { OnErr result (self.new ≡ self.old) }
     {
         if self.entry(dir, name).is_some() {
@@ -82,10 +84,12 @@ impl DirTree {
         }
     }
 
-    /// Sees to a free slot in the directory.
+    /// Sees to a free slot in the directory: it gets a block where each slot is used.
     fn make_room(&mut self, dir: u32) -> Result<(), Memory>
         requires { IsMet self.old dir }
         ensures room { OnOk result (HasRoom (dir_at self.new dir)) }
+        ensures spared { HasRoom (dir_at self.old dir) → dir_at self.new dir ≡ dir_at self.old dir }
+        ensures free { self.new.free ≡ self.old.free }
         ensures same { SameEntries self.old.dirs self.new.dirs }
         ensures err { OnErr result (self.new ≡ self.old) }
         ensures before { IsDirTable self.old }
@@ -98,6 +102,8 @@ impl DirTree {
     fn make_dir(&mut self, dir: u32) -> Result<u32, Memory>
         requires { IsMet self.old dir }
         ensures room { OnOk result (HasRoom (dir_at self.new dir)) }
+        ensures spared { HasRoom (dir_at self.old dir) → dir_at self.new dir ≡ dir_at self.old dir }
+        ensures number { IfOk result (λ i. IsNumberOf self.old self.new i) }
         ensures same { SameEntries self.old.dirs self.new.dirs }
         ensures loose { IfOk result (λ i. IsLoose self.new (Some (found.Dir i))) }
         ensures bare { IfOk result (λ i. IsBare (slots_at self.new i)) }
@@ -147,20 +153,22 @@ impl DirTree {
         take_out_at(&mut self.dirs, dir as usize, name)
     }
 
-    /// Takes the name out of the directory. The number of a directory that it stood for may be given out again.
+    /// Takes the name out of the directory. The number of a directory that it stood for is free again. Takes no
+    /// memory.
     fn drop_entry(&mut self, dir: u32, name: &[u8])
         requires met { IsMet self.old dir }
         requires stands { IsSome (entry_of (slots_at self.old dir) name.now) }
         requires may_go { (i : ℕ) → option_map found_of (entry_of (slots_at self.old dir) name.now) ≡ Some (found.Dir i) → IsBare (slots_at self.old i) }
         ensures entries { SetsEntry self.old.dirs self.new.dirs dir name.now None }
+        ensures free { FreesNumber self.old self.new (option_map found_of (entry_of (slots_at self.old dir) name.now)) }
         ensures room { HasRoom (dir_at self.new dir) }
         ensures before { IsDirTable self.old }
         ensures table { IsDirTable self.new }
     {
         let entry = self.detach(dir, name);
         if entry.kind == DIRECTORY {
-            // A number for which there is no room isn't given out again.
-            let _ = self.free.push(entry.inode);
+            // The list has room: its numbers are those of different directories, and this one isn't among them.
+            self.free.push(entry.inode).unwrap();
         }
     }
 }

@@ -15,6 +15,7 @@ use ufs_layout::Dentry;
 fn give_room(blocks: &mut DirBlocks) -> Result<(), Memory>
     requires { IsNumbered blocks.old }
     ensures room { OnOk result (HasRoom blocks.new) }
+    ensures spared { HasRoom blocks.old → blocks.new ≡ blocks.old }
     ensures names { SameNames blocks.old blocks.new }
     ensures numbered { IsNumbered blocks.new }
     ensures err { OnErr result (blocks.new ≡ blocks.old) }
@@ -61,6 +62,7 @@ pub(crate) fn give_room_at(dirs: &mut Vec<DirBlocks>, dir: usize) -> Result<(), 
     requires there { dir < length dirs.old.items }
     requires numbered { IsNumbered (dir_in dirs.old.items dir) }
     ensures room { OnOk result (HasRoom (dir_in dirs.new.items dir)) }
+    ensures spared { HasRoom (dir_in dirs.old.items dir) → dir_in dirs.new.items dir ≡ dir_in dirs.old.items dir }
     ensures same { RoomsIn dirs.old.items dirs.new.items dir }
     ensures err { OnErr result (dirs.new.items ≡ dirs.old.items) }
     ensures capacity { vec_capacity dirs.new ≡ vec_capacity dirs.old }

@@ -63,7 +63,7 @@ impl Names {
     ghost use Rattle.ufs_model.specs.declared.data.Reply.TheVariants as reply;
     ghost use Rattle.ufs_model.specs.declared.data.Excuse.TheVariants as excuse;
     ghost use Rattle.ufs_model.specs.declared.data.Errno.TheVariants.{Enoent};
-    ghost use Rattle.ufs_names.specs.DirTable.{node_of};
+    ghost use Rattle.ufs_names.specs.DirTable.{IsDirTable, found_at, node_of};
     ghost use Rattle.ufs_names.specs.NamesPart.{IsPartOf};
     ghost use Rattle.ufs_names.specs.Calls.{IsEntryOf, IsServed};
 
@@ -81,9 +81,12 @@ impl Names {
     }
 
     /// What stands at a path, by one look-up for each of its names: ENOENT where a name is missing, ENOTDIR where
-    /// one that isn't the last is a file (POSIX.1-2017, 4.13). Takes no memory.
+    /// one that isn't the last is a file (POSIX.1-2017, 4.13). It is what a walk from the root meets, so two paths have
+    /// one directory's number only where their names are the same. Takes no memory.
     pub fn resolve(&self, path: &PathText) -> Result<Found, Errno>
         ensures found { IfOk result (λ found. (t : PosixTree) → IsPartOf self.now t → map.get t.paths (whole_path path.now) ≡ Some (node_of found)) }
+        ensures met { IfOk result (λ found. found_at self.now.dirs path.now ≡ Some found) }
+        ensures table { IsDirTable self.now.dirs }
         ensures passed { IfOk result (λ found. (t : PosixTree) → IsPartOf self.now t → walk_refusal_from t.paths [] path.now ≡ None) }
         ensures refused { IfErr result (λ e. (t : PosixTree) → IsPartOf self.now t
             → first_of (walk_refusal_from t.paths [] path.now) (refused_if (is_none (map.get t.paths (whole_path path.now))) Enoent) ≡ Some e) }
@@ -101,13 +104,13 @@ impl Names {
 
     /// Serves a request: POSIX's reply on the tree that this part and the descriptors of the clients make, and the
     /// part goes on with that tree. Where memory is wanting the reply is that excuse, and nothing has changed.
-    /// File numbers stay below 2^31; the caller gives the ticket.
-    pub fn apply(&mut self, ask: Ask, ticket: u64) -> Applied
+    /// File numbers stay below 2^31. The caller gives the ticket, and says who serves.
+    pub fn apply(&mut self, ask: Ask, by: Actor, ticket: u64) -> Applied
         requires client { ask.client < 16 }
         requires bounded { IsBounded ask.op }
         requires numbers { self.old.next < 2 ^ 31 }
         requires asked { (t : PosixTree) × IsPartOf self.old t × IsAsk t ask }
-        ensures entry { IsEntryOf ask ticket result.entry }
+        ensures entry { IsEntryOf ask by ticket result.entry }
         ensures served { is_excused result.entry.reply ≡ false → (t : PosixTree) → IsPartOf self.old t → IsAsk t ask → IsServed t ask self.new result.entry.reply result.desc }
         ensures memory { is_excused result.entry.reply ≡ true → result.entry.reply ≡ reply.Excused excuse.Memory }
         ensures unchanged { is_excused result.entry.reply ≡ true → self.new ≡ self.old }
@@ -115,8 +118,8 @@ impl Names {
     {
         let desc = ask.desc;
         match self.serve(&ask) {
-            Ok(served) => answered(ask, ticket, served.reply, served.desc),
-            Err(Memory) => answered(ask, ticket, Reply::Excused(Excuse::Memory), desc),
+            Ok(served) => answered(ask, by, ticket, served.reply, served.desc),
+            Err(Memory) => answered(ask, by, ticket, Reply::Excused(Excuse::Memory), desc),
         }
     }
 
@@ -163,8 +166,8 @@ pub(crate) fn refused(ask: &Ask, errno: Errno) -> Served
     }
 }
 
-fn answered(ask: Ask, ticket: u64, reply: Reply, desc: Option<Desc>) -> Applied
-    ensures entry { IsEntryOf ask ticket result.entry }
+fn answered(ask: Ask, by: Actor, ticket: u64, reply: Reply, desc: Option<Desc>) -> Applied
+    ensures entry { IsEntryOf ask by ticket result.entry }
     ensures reply { result.entry.reply ≡ reply }
     ensures desc { result.desc ≡ desc }
 {
@@ -173,7 +176,7 @@ fn answered(ask: Ask, ticket: u64, reply: Reply, desc: Option<Desc>) -> Applied
             ticket,
             client: ask.client,
             seq: ask.seq,
-            by: Actor::Primary,
+            by,
             op: ask.op,
             reply,
         },

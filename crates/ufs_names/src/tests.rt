@@ -2,7 +2,7 @@
 use crate::{Found, Names};
 use std::alloc::Global;
 use std::test::Fail;
-use ufs_model::{Ask, Bytes, Errno, Op, Reply};
+use ufs_model::{Actor, Ask, Bytes, Errno, Op, Reply};
 use ufs_path::{PathText, read_path};
 
 fn path(alloc: Global, text: &str) -> Result<PathText, Fail> {
@@ -24,7 +24,7 @@ fn a_directory_is_made_and_found(rt: HostRuntime) -> Result<(), Fail> {
         fd: 0,
         last: false,
     };
-    let applied = names.apply(ask, 7);
+    let applied = names.apply(ask, Actor::Worker(1), 7);
     assert!(rt; matches!(applied.entry.reply, Reply::Done));
     assert!(rt; applied.entry.ticket == 7 && applied.desc.is_none());
     assert!(rt; matches!(names.resolve(&path(alloc, "//d")?), Ok(Found::Dir { .. })));

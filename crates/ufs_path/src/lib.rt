@@ -5,8 +5,6 @@ mod check;
 mod fault;
 mod law;
 mod read;
-#[cfg(test)]
-mod tests;
 mod text;
 
 pub use check::path_fault;

@@ -15,7 +15,7 @@ use std::alloc::{AllocError, Global};
 use ufs_disk::Disk;
 use ufs_io::Sink;
 use ufs_layout::Geometry;
-use ufs_recover::{FormatFault, data_start, format};
+use ufs_recover::{FormatFault, format};
 
 // The line of a new image: blocks, inodes, journal sectors and data blocks.
 fn made_line(alloc: Global, geometry: &Geometry) -> Result<Vec<u8>, AllocError>
@@ -25,7 +25,7 @@ fn made_line(alloc: Global, geometry: &Geometry) -> Result<Vec<u8>, AllocError>
     let blocks = geometry.blocks;
     let inodes = geometry.inodes;
     let journal = geometry.journal;
-    let data = blocks - data_start(geometry);
+    let data = blocks - geometry.first_of_data();
     let line = format!(in alloc; "made {blocks} {inodes} {journal} {data}\n")?;
     Ok(line.into_bytes())
 }

@@ -57,7 +57,7 @@ pub fn format<D: Disk>(disk: &mut D, geometry: &Geometry) -> Result<(), FormatFa
         → reads (D.moments disk.new) s ≡ reads (D.moments disk.old) s }
     ensures size { D.size disk.new ≡ D.size disk.old }
 {
-    if disk.sectors() < 8 * geometry.blocks {
+    if disk.sectors() < geometry.sector_count() {
         return Err(FormatFault::TooSmall);
     }
     match write_image(disk, geometry) {

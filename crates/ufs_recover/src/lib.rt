@@ -1,12 +1,10 @@
 //! Formatting a disk, so that a stop at any moment leaves what was there, no superblock, or a whole new image.
 #![tactic(auto)]
 
-mod areas;
 mod fault;
 mod formatting;
 mod head;
 mod tables;
 
-pub use areas::data_start;
 pub use fault::FormatFault;
 pub use formatting::format;

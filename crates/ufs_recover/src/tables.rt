@@ -9,7 +9,6 @@ ghost use Rattle.ufs_image.specs.Formatted.{byte_below, new_root};
 ghost use Rattle.ufs_recover.specs.Tables.{IsOutside, IsTableBlock, HasTablesBelow};
 ghost use Rattle.ufs_recover.specs.Stopped.{IsBlank};
 
-use crate::areas::{data_start, inodes_start};
 use ufs_disk::{Disk, Fault, SECTOR};
 use ufs_layout::{Geometry, Inode, put_inode};
 
@@ -60,9 +59,9 @@ fn lay_block(bytes: &mut [u8], geometry: &Geometry, block: u32)
     requires below { block < first_of_data geometry.now }
     ensures { IsTableBlock geometry.now block bytes.new }
 {
-    let inodes = inodes_start(geometry);
+    let inodes = geometry.first_of_inodes();
     if block < inodes {
-        fill_bitmap(bytes, data_start(geometry), BLOCK as u32 * (block - 1));
+        fill_bitmap(bytes, geometry.first_of_data(), BLOCK as u32 * (block - 1));
     } else {
         clear(bytes);
         if block == inodes {
@@ -88,7 +87,7 @@ pub(crate) fn write_tables<D: Disk>(disk: &mut D, geometry: &Geometry) -> Result
     ensures number { IfErr result (λ fault. fault.number ≡ D.faults disk.new) }
 {
     let mut bytes = [0; BLOCK];
-    for block in 1..data_start(geometry) {
+    for block in 1..geometry.first_of_data() {
         lay_block(&mut bytes, geometry, block);
         disk.write(8 * block, &bytes)?;
     }

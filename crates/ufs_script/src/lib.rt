@@ -11,8 +11,6 @@ mod places;
 mod reading;
 mod request;
 mod script;
-#[cfg(test)]
-mod tests;
 mod verb;
 mod words;
 

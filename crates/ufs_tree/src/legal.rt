@@ -14,6 +14,8 @@ use ufs_model::{
 
 /// The most extents of a file or directory.
 const MAX_EXTENTS: u32 = 56;
+/// The entries that a block of a directory has room for.
+const BLOCK_ENTRIES: u64 = 64;
 
 // ---- replies
 
@@ -133,6 +135,19 @@ impl Parts {
         }
     }
 
+    /// Whether the directory to which a request adds a name may have every slot used.
+    fn may_be_full(&self, op: &Op) -> Result<bool, Memory>
+        requires adds { excuses.adds_name (tree_of self.now) op.now ≡ true }
+        ensures { IfOk result (λ full. full ≡ excuses.may_be_full (tree_of self.now) (excuses.grown_dir op.now)) }
+    {
+        let (Op::OpenFile { path, .. } | Op::Mkdir { path } | Op::Rename { to: path, .. }) = op
+        else {
+            return Ok(false);
+        };
+        let text = text(self.alloc, path)?;
+        Ok(self.paths.entry_count(text.parent()) % BLOCK_ENTRIES == 0)
+    }
+
     /// The size of the file of a request that may change it.
     fn old_size(&self, client: u8, op: &Op) -> u64
         ensures { result ≡ excuses.old_size (tree_of self.now) client op.now }
@@ -167,7 +182,8 @@ impl Parts {
         ensures { IfOk result (λ blocks. blocks ≡ excuses.needed (tree_of self.now) client op.now) }
     {
         if self.adds_name(op)? {
-            return Ok(1);
+            let full = self.may_be_full(op)?;
+            return Ok(u64::from(full));
         }
         let size = self.old_size(client, op);
         let blocks = blocks_of(self.new_size(client, op, size));
@@ -188,7 +204,7 @@ impl Parts {
             Excuse::Inodes => self.makes_node(op),
             Excuse::Extents { need } => {
                 let blocks = self.needed(client, op)?;
-                Ok(blocks > 0 && need > MAX_EXTENTS)
+                Ok(need > MAX_EXTENTS && u64::from(need - MAX_EXTENTS) <= blocks)
             }
         }
     }

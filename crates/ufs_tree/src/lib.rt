@@ -14,8 +14,6 @@ mod path_map;
 mod refusal;
 mod serving;
 mod start;
-#[cfg(test)]
-mod tests;
 mod tree;
 
 pub use serving::serve;

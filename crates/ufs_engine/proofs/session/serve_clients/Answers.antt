@@ -1,9 +1,13 @@
-use Rattle.std.proofs.Common.{◌++◌, ◌∷◌, [], List, ap, sym, ◌∙◌, subst, length, ◌+◌, ℕ}
-use Rattle.ufs_model.specs.History.{joined, IsInOrder}
+use Rattle.std.proofs.Common.{◌++◌, ◌∷◌, [], List, ap, sym, refl, ◌∙◌, subst, length, ◌+◌, ℕ, Err}
+use Rattle.ufs_model.specs.History.{joined}
 use Rattle.ufs_model.specs.declared.data.Op.{Op}
 use Rattle.ufs_model.specs.declared.data.Entry.{Entry}
-use Rattle.ufs_engine.specs.Played.{IsMerged}
-use Rattle.ufs_engine.proofs.ClientsLemmas.{AreServing, none_served, newcomer, merged, merged_more, ordered_more, one_client_more, all_served, each_told, no_items}
+use Rattle.ufs_names.specs.NamesPart.{IsPartOf}
+use Rattle.ufs_engine.specs.Played.{IsPlayed}
+use Rattle.ufs_engine.specs.Serving.{tree_of}
+use Rattle.ufs_engine.specs.declared.played.EndFault.TheVariants as fault
+use Rattle.ufs_engine.proofs.ClientsLemmas.{AreServing, none_served, newcomer, one_client_more, played_here, played_more, reached_more, no_items}
+use Rattle.ufs_engine.proofs.ServingLemmas.{pushed_on}
 use Rattle.ufs_engine.proofs.session.serve_clients.Goals as goal
 
 pub loop-requests-init : goal.loop-requests-init
@@ -14,46 +18,53 @@ loop-requests-init c =
 
 pub serve_client-ended-requires-clause-newcomer : goal.serve_client-ended-requires-clause-newcomer
 serve_client-ended-requires-clause-newcomer c =
-    let so_far = subst (λ (r : List (List Op)). AreServing c.args.clients c.loop-requests.told.items c.loop-requests.names c.loop-requests.client c.loop-requests.first c.loop-requests.yielded r) c.in-Some.ensures.steps.0 c.loop-requests.invariant in
-    newcomer c.args.clients c.loop-requests.told.items c.loop-requests.names c.loop-requests.client c.loop-requests.first c.loop-requests.yielded c.in-Some.requests c.next.new.self.rest.items so_far
+    let l = c.loop-requests in
+    let next = subst (λ (r : List (List Op)). AreServing c.args.clients l.told.items l.names l.client l.first l.yielded r) c.in-Some.ensures.steps.0 l.invariant in
+    let so_far = subst (λ (told : List (List Entry)). AreServing c.args.clients told l.names l.client l.first l.yielded (c.in-Some.requests ∷ c.next.new.self.rest.items)) (sym c.reserve.ensures.items) next in
+    newcomer c.args.clients c.reserve.new.self.items l.names l.client l.first l.yielded c.in-Some.requests c.next.new.self.rest.items so_far
 
-pub returns-in_err-push-clause-merged : goal.returns-in_err-push-clause-merged
-returns-in_err-push-clause-merged c =
-    subst (λ (l : List (List Entry)). IsMerged l (joined l)) (sym c.in_err-push.ensures.items)
-    (merged c.args.clients c.loop-requests.told.items c.loop-requests.names c.loop-requests.client c.loop-requests.first c.loop-requests.yielded _ c.loop-requests.invariant)
+pub returns-then-is_err-clause-played : goal.returns-then-is_err-clause-played
+returns-then-is_err-clause-played c =
+    let l = c.loop-requests in
+    subst (λ (told : List (List Entry)). IsPlayed c.args.clients told (Err fault.Memory) (joined told)) (sym c.reserve.ensures.items)
+    (played_here c.args.clients l.told.items l.names l.client l.first l.yielded _ l.invariant (Err fault.Memory) (λ ok. cc))
 
-pub returns-in_err-ended-clause-merged : goal.returns-in_err-ended-clause-merged
-returns-in_err-ended-clause-merged c =
-    let so_far = subst (λ (r : List (List Op)). AreServing c.args.clients c.loop-requests.told.items c.loop-requests.names c.loop-requests.client c.loop-requests.first c.loop-requests.yielded r) c.in-Some.ensures.steps.0 c.loop-requests.invariant in
-    subst (λ (l : List (List Entry)). IsMerged l (joined l)) (sym c.in_ok-push.ensures.items)
-    (merged_more c.args.clients c.loop-requests.told.items c.loop-requests.names c.loop-requests.client c.loop-requests.first c.loop-requests.yielded c.in-Some.requests c.next.new.self.rest.items so_far c.serve_client-ended.new.told c.serve_client-ended.ensures.goes_on)
+pub returns-in_err-ended-clause-played : goal.returns-in_err-ended-clause-played
+returns-in_err-ended-clause-played c =
+    let l = c.loop-requests in
+    let next = subst (λ (r : List (List Op)). AreServing c.args.clients l.told.items l.names l.client l.first l.yielded r) c.in-Some.ensures.steps.0 l.invariant in
+    let so_far = subst (λ (told : List (List Entry)). AreServing c.args.clients told l.names l.client l.first l.yielded (c.in-Some.requests ∷ c.next.new.self.rest.items)) (sym c.reserve.ensures.items) next in
+    let earlier = c.reserve.new.self.items in
+    let pushed = pushed_on c.push.result _ _ earlier _ _ c.unwrap.ensures refl c.push.ensures.items ∙ ap (λ (m : List Entry). earlier ++ m ∷ []) c.from_vec.ensures in
+    subst (λ (told : List (List Entry)). IsPlayed c.args.clients told c.from_residual.result (joined told)) (sym pushed)
+    (played_more c.args.clients earlier l.names l.client l.first l.yielded c.in-Some.requests c.next.new.self.rest.items so_far c.serve_client-ended.new.told.items c.serve_client-ended.ensures.goes_on c.from_residual.result c.from_residual.ensures.0)
 
-pub returns-in_err-ended-clause-ordered : goal.returns-in_err-ended-clause-ordered
-returns-in_err-ended-clause-ordered c =
-    let so_far = subst (λ (r : List (List Op)). AreServing c.args.clients c.loop-requests.told.items c.loop-requests.names c.loop-requests.client c.loop-requests.first c.loop-requests.yielded r) c.in-Some.ensures.steps.0 c.loop-requests.invariant in
-    subst (λ (l : List (List Entry)). IsInOrder c.args.clients (joined l)) (sym c.in_ok-push.ensures.items)
-    (ordered_more c.args.clients c.loop-requests.told.items c.loop-requests.names c.loop-requests.client c.loop-requests.first c.loop-requests.yielded c.in-Some.requests c.next.new.self.rest.items so_far c.serve_client-ended.new.told c.serve_client-ended.ensures.goes_on)
+pub returns-in_err-ended-clause-left : goal.returns-in_err-ended-clause-left
+returns-in_err-ended-clause-left c =
+    let l = c.loop-requests in
+    let next = subst (λ (r : List (List Op)). AreServing c.args.clients l.told.items l.names l.client l.first l.yielded r) c.in-Some.ensures.steps.0 l.invariant in
+    let so_far = subst (λ (told : List (List Entry)). AreServing c.args.clients told l.names l.client l.first l.yielded (c.in-Some.requests ∷ c.next.new.self.rest.items)) (sym c.reserve.ensures.items) next in
+    let earlier = c.reserve.new.self.items in
+    let pushed = pushed_on c.push.result _ _ earlier _ _ c.unwrap.ensures refl c.push.ensures.items ∙ ap (λ (m : List Entry). earlier ++ m ∷ []) c.from_vec.ensures in
+    let names = c.serve_client-ended.new.names in
+    subst (λ (told : List (List Entry)). IsPartOf names (tree_of (joined told))) (sym pushed)
+    (reached_more c.args.clients earlier l.names l.client l.first l.yielded c.in-Some.requests c.next.new.self.rest.items so_far c.serve_client-ended.new.told.items c.serve_client-ended.ensures.goes_on names c.serve_client-ended.ensures.left).part
 
 pub loop-requests-preserved : goal.loop-requests-preserved
 loop-requests-preserved c =
-    let so_far = subst (λ (r : List (List Op)). AreServing c.args.clients c.loop-requests.told.items c.loop-requests.names c.loop-requests.client c.loop-requests.first c.loop-requests.yielded r) c.in-Some.ensures.steps.0 c.loop-requests.invariant in
-    let mine = c.serve_client-ended.new.told in
-    let next = one_client_more c.args.clients c.loop-requests.told.items c.loop-requests.names c.loop-requests.client c.loop-requests.first c.loop-requests.yielded c.in-Some.requests c.next.new.self.rest.items so_far mine c.serve_client-ended.ensures.goes_on c.serve_client-ended.new.names c.in_ok-ended.ensures.done in
-    subst (λ (n : ℕ). AreServing c.args.clients c.push.new.self.items c.serve_client-ended.new.names (c.loop-requests.client + 1) (c.loop-requests.first + n) (c.loop-requests.yielded ++ c.in-Some.requests ∷ []) c.next.new.self.rest.items) (ap (λ (l : List Entry). length l) (sym c.as_slice.ensures))
-    (subst (λ (l : List (List Entry)). AreServing c.args.clients l c.serve_client-ended.new.names (c.loop-requests.client + 1) (c.loop-requests.first + length mine) (c.loop-requests.yielded ++ c.in-Some.requests ∷ []) c.next.new.self.rest.items) (sym c.in_ok-push.ensures.items) next)
+    let l = c.loop-requests in
+    let next = subst (λ (r : List (List Op)). AreServing c.args.clients l.told.items l.names l.client l.first l.yielded r) c.in-Some.ensures.steps.0 l.invariant in
+    let so_far = subst (λ (told : List (List Entry)). AreServing c.args.clients told l.names l.client l.first l.yielded (c.in-Some.requests ∷ c.next.new.self.rest.items)) (sym c.reserve.ensures.items) next in
+    let earlier = c.reserve.new.self.items in
+    let pushed = pushed_on c.push.result _ _ earlier _ _ c.unwrap.ensures refl c.push.ensures.items ∙ ap (λ (m : List Entry). earlier ++ m ∷ []) c.from_vec.ensures in
+    let mine = c.serve_client-ended.new.told.items in
+    let names = c.serve_client-ended.new.names in
+    let more = one_client_more c.args.clients earlier l.names l.client l.first l.yielded c.in-Some.requests c.next.new.self.rest.items so_far mine c.serve_client-ended.ensures.goes_on names c.serve_client-ended.ensures.left c.in_ok-ended.ensures.done in
+    subst (λ (n : ℕ). AreServing c.args.clients c.push.new.self.items names (l.client + 1) (l.first + n) (l.yielded ++ c.in-Some.requests ∷ []) c.next.new.self.rest.items) (sym (c.len.ensures ∙ c.serve_client-ended.new.told.ok.0))
+    (subst (λ (told : List (List Entry)). AreServing c.args.clients told names (l.client + 1) (l.first + length mine) (l.yielded ++ c.in-Some.requests ∷ []) c.next.new.self.rest.items) (sym pushed) more)
 
-pub returns-clause-merged : goal.returns-clause-merged
-returns-clause-merged c =
-    merged c.args.clients c.loop-requests.told.items c.loop-requests.names c.loop-requests.client c.loop-requests.first c.loop-requests.yielded _ c.loop-requests.invariant
-
-pub returns-clause-complete : goal.returns-clause-complete
-returns-clause-complete c =
-    let rest = c.loop-requests.requests-iterator.rest in
-    all_served c.args.clients c.loop-requests.told.items c.loop-requests.names c.loop-requests.client c.loop-requests.first c.loop-requests.yielded rest.items c.loop-requests.invariant
-    (no_items rest.items (sym rest.ok.0 ∙ c.in-None.ensures.steps.0))
-
-pub returns-clause-each : goal.returns-clause-each
-returns-clause-each c =
-    let rest = c.loop-requests.requests-iterator.rest in
-    each_told c.args.clients c.loop-requests.told.items c.loop-requests.names c.loop-requests.client c.loop-requests.first c.loop-requests.yielded rest.items c.loop-requests.invariant
-    (no_items rest.items (sym rest.ok.0 ∙ c.in-None.ensures.steps.0))
+pub returns-clause-played : goal.returns-clause-played
+returns-clause-played c =
+    let l = c.loop-requests in
+    let rest = l.requests-iterator.rest in
+    played_here c.args.clients l.told.items l.names l.client l.first l.yielded rest.items l.invariant _ (λ ok. no_items rest.items (sym rest.ok.0 ∙ c.in-None.ensures.steps.0))

@@ -8,9 +8,6 @@ use Rattle.ufs_layout.proofs.record_decode.read_place.Goals as goal
 pub returns-then-rest-lt70 : goal.returns-then-rest-lt70
 returns-then-rest-lt70 c = place-short c.args.rest.now c.requires (omega arith)
 
-pub returns-then-slot-gt7 : goal.returns-then-slot-gt7
-returns-then-slot-gt7 c = place-slot c.args.rest.now c.requires (omega arith)
-
 pub returns-in_default : goal.returns-in_default
 returns-in_default c = sym (place-read c.args.rest.now (search rules) c.requires (omega arith) (omega arith)
     ∙ ap (option_map (λ d. Place (number_at 4 1 c.args.rest.now) (byte_at 5 c.args.rest.now) d)) (sym c.get_dentry.ensures.value ∙ c.in_default.is))

@@ -1,5 +1,5 @@
 use Rattle.std.proofs.Common.{◌≡◌, ap, [], rules}
-use Rattle.ufs_disk.specs.Bytes.{AreBytes}
+use Rattle.ufs_base.specs.Images.{IsBytes}
 use Rattle.ufs_disk.specs.Whole.{begun_whole}
 use Rattle.ufs_disk.specs.Bytes.{begun}
 use Rattle.ufs_disk.specs.Calls.{after_calls}
@@ -10,7 +10,7 @@ use Rattle.ufs_disk.proofs.medium.Medium.new.Goals as goal
 pub invariant_of-result : goal.invariant_of-result
 invariant_of-result c =
     let copy : c.in_ok-whole_copy.field-0.items ≡ c.args.bytes.items = search rules in
-    let small : AreBytes c.args.bytes.items = search (rules, c.in_ok-whole_copy.ensures.small) in
+    let small : IsBytes c.args.bytes.items = search (rules, c.in_ok-whole_copy.ensures.small) in
     let none : c.new.result.items ≡ [] = c.new.ensures.items in
     let same : after_calls c.new-2.result.items (begun c.in_ok-whole_copy.field-0.items) ≡ begun c.args.bytes.items =
     λ i. after_calls (c.new-2.ensures.items i) (begun (copy i)) in

@@ -1,7 +1,8 @@
 use Rattle.std.proofs.Common.{◌≡◌, ◌∷◌, [], ◌++◌, ◌+◌, ◌≤◌, ℕ, List, ◌*◌, ◌/◌, true, take, drop, sym, ◌∙◌, ap, subst, length, arith, rules}
 use Rattle.ufs_disk.specs.Disk.{IsMixedFrom, sectors_of}
 use Rattle.ufs_disk.specs.Moments.{Moments, LeavesOnly, reads}
-use Rattle.ufs_disk.specs.Bytes.{begun, AreBytes}
+use Rattle.ufs_base.specs.Images.{IsBytes}
+use Rattle.ufs_disk.specs.Bytes.{begun}
 use Rattle.ufs_disk.specs.Calls.{after_calls, written}
 use Rattle.ufs_disk.specs.Pending.{held_state}
 use Rattle.ufs_disk.specs.Whole.{pieces_whole}
@@ -64,7 +65,7 @@ invariant_of-self-2 c =
     after_write (after_calls old m) (after_calls new m) c.in-Ok.copy.items bytes s (after_passed m old new (Write s c.in-Ok.copy) c.in_ok-note.ensures.ok) copied in
     let covered : c.cover.new.covered.items ≡ c.args.self.now.covered.items ++ record { sector = s; bytes = c.in-Ok-copy_of.was } ∷ [] =
     c.cover.ensures ∙ ap (λ l. l ++ record { sector = s; bytes = c.in-Ok-copy_of.was } ∷ []) c.reserve.ensures.items in
-    let small : AreBytes bytes = λ k. search (rules, c.type_inv.bytes k) in
+    let small : IsBytes bytes = λ k. search (rules, c.type_inv.bytes k) in
     record {
       in_range = c.args.self.now.in_range;
       sized = c.overwrite.ensures.len ∙ c.args.self.now.sized;

@@ -1,9 +1,10 @@
-use Rattle.std.proofs.Common.{ℕ, List, [], ◌∷◌, ◌++◌, ap, sym, subst}
+use Rattle.std.proofs.Common.{ℕ, List, [], ◌∷◌, ◌++◌, ap, sym, ◌∙◌, subst}
 use Rattle.ufs_layout.specs.DentryForm.{DentryForm}
-use Rattle.ufs_names.specs.DirTable.{found_of, node_at}
+use Rattle.ufs_names.specs.DirTable.{found_of, found_at, node_at}
 use Rattle.ufs_names.specs.DirCalls.{names_above, MovesNodes}
 use Rattle.ufs_names.proofs.MoveEdits.{ends_at, met1_f, stands1, met2_g, absent2, moves_nodes}
-use Rattle.ufs_names.proofs.NodeEdits.{above_path_is_dir, entry_may_go}
+use Rattle.ufs_names.proofs.FreedNumbers.{frees_same}
+use Rattle.ufs_names.proofs.NodeEdits.{above_path_is_dir, entry_may_go, path_frees}
 use Rattle.ufs_names.proofs.dir_tree.DirTree.rename.Goals as goal
 use Rattle.ufs_names.proofs.dir_tree.DirTree.rename.Goals.{After-attach}
 
@@ -59,3 +60,9 @@ returns-clause-ok c =
     let d = c.detach-entry in
     subst (λ from. moved c from c.args.to.now) (sym c.last.ensures.value) (subst (λ to. moved c (f ++ x ∷ []) to) (sym c.last-name.ensures.value)
     (moves_nodes c.args.self.now f x g y c.parent-old.result c.parent-new.result may c.parent-old.ensures c.parent-new.ensures c.clear_name.new.self c.in_ok-clear_name.ensures.ok d.new.self d.ensures.entries d.result named d.ensures.was same d.ensures.free d.ensures.table d.ensures.loose c.attach.new.self c.attach.ensures.entries))
+
+pub returns-clause-free : goal.returns-clause-free
+returns-clause-free c =
+    let to = c.args.to.now in
+    let cleared = path_frees c.args.self.now to (names_above to) c.last-name.result.now c.parent-new.result c.last-name.ensures.value c.parent-new.ensures c.clear_name.new.self c.in_ok-clear_name.ensures.free in
+    frees_same c.args.self.now c.clear_name.new.self c.attach.new.self (found_at c.args.self.now to) (c.attach.ensures.free ∙ c.detach-entry.ensures.free) cleared

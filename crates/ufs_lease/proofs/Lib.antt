@@ -1,0 +1,3 @@
+mod NameLemmas
+mod BelowLemmas
+mod Rows

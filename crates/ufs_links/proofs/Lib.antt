@@ -1,0 +1,5 @@
+pub mod ChainLemmas
+pub mod KeptLemmas
+pub mod NodeLemmas
+pub mod PointerLemmas
+pub mod StandLemmas

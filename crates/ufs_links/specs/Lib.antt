@@ -1,0 +1,6 @@
+pub mod Chains
+pub mod Kept
+pub mod Linked
+pub mod NodeLists
+pub mod Nodes
+pub mod Pointers

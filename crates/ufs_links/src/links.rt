@@ -1,0 +1,213 @@
+// Nodes that are given out and released, and the lists of two kinds that they are on.
+ghost use Rattle.std.specs.Prelude.{◌≡◌, ◌+◌, ◌^◌, ◌<◌, ◌≤◌};
+
+use crate::lists::Lists;
+use std::alloc::Global;
+use std::marker::Model;
+use ufs_base::Memory;
+
+/// A kind of list.
+#[derive(Clone, Copy, Debug, PartialEq, Eq)]
+pub enum Which {
+    First,
+    Second,
+}
+
+/// Nodes and lists of two kinds, all by numbers from 0. A node is on at most one list of each kind. Every call but
+/// the two that reserve takes no memory and a constant number of steps.
+#[derive(Drop)]
+pub struct Links {
+    first: Lists,
+    second: Lists,
+    /// How many nodes there is room for.
+    nodes: u32,
+    /// The nodes from this one on were never given out.
+    used: u32,
+    /// The nodes below `used` that were released.
+    released: Vec<u32>,
+}
+
+impl Model for Links {
+    ghost use Rattle.ufs_links.specs.Linked.{Linked, linked_code};
+
+    ghost Value = { Linked };
+
+    ghost coded = { linked_code };
+
+    ghost use Rattle.ufs_links.specs.Kept.{linked, IsKept};
+
+    ghost view = { linked };
+
+    ghost invariant = { IsKept };
+}
+
+impl Links {
+    ghost use Rattle.std.specs.Prelude.{ℕ, [], ◌∷◌, ◌++◌, true, false, length, map, replicate, slice_get, slice_set, IfSome, IfNone, OnOk, OnErr, is_ok, if◌then◌else◌};
+    ghost use Rattle.std.specs.FinSet as set;
+    ghost use Rattle.ufs_links.specs.Nodes.{has, without, next_in, IsOnNone, IsOnOne};
+    ghost use Rattle.ufs_links.specs.Linked.{lists_in, nodes_of, with_lists_of, no_links};
+
+    /// No nodes and no lists.
+    pub fn new(alloc: Global) -> Self
+        ensures { result ≡ no_links }
+    {
+        Links {
+            first: Lists::new(alloc),
+            second: Lists::new(alloc),
+            nodes: 0,
+            used: 0,
+            released: Vec::new(alloc),
+        }
+    }
+
+    /// Makes the next `n` new nodes take no memory.
+    pub fn reserve(&mut self, n: u32) -> Result<(), Memory>
+        ensures ok { OnOk result (n ≤ self.new.spare) }
+        ensures more { self.old.spare ≤ self.new.spare }
+        ensures err { OnErr result (self.new.spare ≡ self.old.spare) }
+
+        // Nothing else changes.
+        ensures given { self.new.given ≡ self.old.given }
+        ensures first { self.new.first ≡ self.old.first }
+        ensures second { self.new.second ≡ self.old.second }
+    {
+        let spare = self.released.len() as u64 + (self.nodes - self.used) as u64;
+        if n as u64 <= spare {
+            return Ok(());
+        }
+        let nodes = self.nodes as u64 + (n as u64 - spare);
+        if nodes > u32::MAX as u64 {
+            return Err(Memory);
+        }
+        self.first.reserve_nodes(nodes as usize)?;
+        self.second.reserve_nodes(nodes as usize)?;
+        self.released.reserve(nodes as usize)?;
+        self.nodes = nodes as u32;
+        Ok(())
+    }
+
+    /// The list of the kind that the node is on.
+    pub fn list_of(&self, which: Which, node: u32) -> Option<u32>
+        ensures on { IfSome result (λ list. has (nodes_of self.now which list) node ≡ true) }
+        ensures off { IfNone result (IsOnNone (lists_in self.now which) node) }
+    {
+        match which {
+            Which::First => self.first.list_of(node),
+            Which::Second => self.second.list_of(node),
+        }
+    }
+
+    /// How many lists of the kind there are: their numbers are those below.
+    pub fn list_count(&self, which: Which) -> usize
+        ensures { result ≡ length (lists_in self.now which) }
+    {
+        match which {
+            Which::First => self.first.list_count(),
+            Which::Second => self.second.list_count(),
+        }
+    }
+
+    /// Adds lists of the kind, behind those that there are. They are empty.
+    pub fn add_lists(&mut self, which: Which, count: u32) -> Result<(), Memory>
+        requires { length (lists_in self.old which) + count < 2 ^ 32 }
+        ensures { self.new ≡ with_lists_of self.old which (if is_ok result then lists_in self.old which ++ replicate count [] else lists_in self.old which) }
+    {
+        match which {
+            Which::First => self.first.add_lists(count as usize),
+            Which::Second => self.second.add_lists(count as usize),
+        }
+    }
+
+    /// Gives out a spare node. It is on no list.
+    pub fn fresh(&mut self) -> u32
+        requires { 0 < self.old.spare }
+        ensures was_spare { set.contains self.old.given result ≡ false }
+        ensures given { self.new.given ≡ set.insert self.old.given result }
+        ensures spare { self.new.spare + 1 ≡ self.old.spare }
+        ensures off { (which : Which) → IsOnNone (lists_in self.new which) result }
+
+        // The lists stay.
+        ensures first { self.new.first ≡ self.old.first }
+        ensures second { self.new.second ≡ self.old.second }
+    {
+        match self.released.pop() {
+            Some(node) => node,
+            None => {
+                let node = self.used;
+                self.used = node + 1;
+                node
+            }
+        }
+    }
+
+    /// Takes back a node that is given out and on no list. It is spare again.
+    pub fn release(&mut self, node: u32)
+        requires given { set.contains self.old.given node ≡ true }
+        requires off { (which : Which) → IsOnNone (lists_in self.old which) node }
+        ensures given { self.new.given ≡ set.remove self.old.given node }
+        ensures spare { self.new.spare ≡ self.old.spare + 1 }
+        ensures first { self.new.first ≡ self.old.first }
+        ensures second { self.new.second ≡ self.old.second }
+    {
+        let _ = self.released.push(node);
+    }
+
+    /// Puts a node that is given out, and on no list of the kind, in front of a list.
+    pub fn add_front(&mut self, which: Which, list: u32, node: u32)
+        requires list { list < length (lists_in self.old which) }
+        requires given { set.contains self.old.given node ≡ true }
+        requires off { IsOnNone (lists_in self.old which) node }
+        ensures { self.new ≡ with_lists_of self.old which (slice_set (lists_in self.old which) list (node ∷ nodes_of self.old which list)) }
+    {
+        match which {
+            Which::First => self.first.add_front(list, node),
+            Which::Second => self.second.add_front(list, node),
+        }
+    }
+
+    /// Puts a node that is given out, and on no list of the kind, at the back of a list.
+    pub fn add_back(&mut self, which: Which, list: u32, node: u32)
+        requires list { list < length (lists_in self.old which) }
+        requires given { set.contains self.old.given node ≡ true }
+        requires off { IsOnNone (lists_in self.old which) node }
+        ensures { self.new ≡ with_lists_of self.old which (slice_set (lists_in self.old which) list (nodes_of self.old which list ++ node ∷ [])) }
+    {
+        match which {
+            Which::First => self.first.add_back(list, node),
+            Which::Second => self.second.add_back(list, node),
+        }
+    }
+
+    /// Takes the node off the list of the kind that it is on. The rest of the list keeps its order.
+    pub fn remove(&mut self, which: Which, node: u32)
+        requires { IsOnOne (lists_in self.old which) node }
+        ensures { self.new ≡ with_lists_of self.old which (map (without node) (lists_in self.old which)) }
+    {
+        match which {
+            Which::First => self.first.remove(node),
+            Which::Second => self.second.remove(node),
+        }
+    }
+
+    /// The first node of the list; `None` exactly where the list is empty.
+    pub fn front(&self, which: Which, list: u32) -> Option<u32>
+        requires { list < length (lists_in self.now which) }
+        ensures { result ≡ slice_get (nodes_of self.now which list) 0 }
+    {
+        match which {
+            Which::First => self.first.front(list),
+            Which::Second => self.second.front(list),
+        }
+    }
+
+    /// The node that follows one on its list of the kind; `None` exactly for the last one.
+    pub fn next(&self, which: Which, node: u32) -> Option<u32>
+        requires { IsOnOne (lists_in self.now which) node }
+        ensures { (list : ℕ) → has (nodes_of self.now which list) node ≡ true → result ≡ next_in (nodes_of self.now which list) node }
+    {
+        match which {
+            Which::First => self.first.next(node),
+            Which::Second => self.second.next(node),
+        }
+    }
+}

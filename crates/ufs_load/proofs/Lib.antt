@@ -1,0 +1,3 @@
+pub mod ChoiceLemmas
+pub mod LoadLemmas
+pub mod SquareLemmas

@@ -1,0 +1,4 @@
+pub mod Choice
+pub mod Laws
+pub mod Plan
+pub mod Steps

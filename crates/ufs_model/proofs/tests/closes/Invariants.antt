@@ -1,6 +1,0 @@
-use Rattle.std.proofs.Common.{◌≡◌, take}
-use Rattle.ufs_model.specs.History.{tickets_of}
-use Rattle.ufs_model.proofs.tests.closes.Given as goal
-
-abbrev pub invariant-loop-ticket : goal.invariant-loop-ticket
-invariant-loop-ticket l = tickets_of l.list.items ≡ take l.ticket-index l.tickets

@@ -1,0 +1,7 @@
+//! The tables of owners and of leases, called by rows and by walks beside plain lists.
+#![tactic(auto)]
+
+#[cfg(test)]
+mod leases;
+#[cfg(test)]
+mod owners;

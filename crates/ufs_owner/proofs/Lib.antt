@@ -1,0 +1,7 @@
+mod PlaceLemmas
+mod ChangeLemmas
+mod CountLemmas
+mod KeptLemmas
+mod StepLemmas
+pub mod OwnerFacts
+mod Rows

@@ -1,0 +1,5 @@
+pub mod Changed
+pub mod Clients
+pub mod Owners
+pub mod Records
+pub mod Counted

@@ -1,0 +1,19 @@
+-- What is proved of the definitions beside, for the proofs of those who cite them.
+pub mod Shows
+pub mod Histories
+pub mod Counts
+pub mod Entries
+pub mod Contents
+pub mod Explains
+pub mod Sessions
+pub mod Ends
+pub mod Between
+pub mod Local
+pub mod Places
+pub mod Options
+pub mod Stores
+pub mod Kinds
+pub mod Acks
+pub mod Differ
+pub mod Mapped
+pub mod Keeps

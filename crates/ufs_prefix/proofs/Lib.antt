@@ -1,0 +1,4 @@
+pub mod Facts
+pub mod LawLemmas
+pub mod StepLemmas
+pub mod Rows

@@ -1,0 +1,9 @@
+pub mod FileChanges
+pub mod Places
+pub mod Steps
+pub mod Changes
+pub mod Explained
+pub mod Stored
+pub mod Mapped
+pub mod Laws
+pub mod StepLaws

@@ -1,0 +1,24 @@
+use Rattle.std.proofs.Common.{◌≡◌, ◌≤◌, ◌-◌, ◌*◌, IsTrue}
+use Rattle.ufs_disk.specs.Disk.{IsImage}
+use Rattle.ufs_disk.specs.Moments.{LeavesOnly, reads}
+use Rattle.ufs_layout.specs.Areas.{first_of_journal}
+use Rattle.ufs_image.specs.Journal.{well_spelled}
+use Rattle.ufs_scan.specs.Read.{read_from, misspelled}
+use Rattle.ufs_scan.proofs.reading.read_journal.Given as goal
+
+abbrev pub invariant-loop-at : goal.invariant-loop-at
+invariant-loop-at g l =
+    let disk = g.D.Disk in
+    let first = disk.moments l.fn.disk in
+    record {
+      within : l.at ≤ l.geometry.journal;
+      found : IsTrue disk.tells → l.list.found.items ≡ well_spelled (read_from l.epoch (reads first) (8 * first_of_journal l.geometry) l.at);
+      misspelled : IsTrue disk.tells → l.list.misspelled ≡ misspelled (read_from l.epoch (reads first) (8 * first_of_journal l.geometry) l.at);
+      content : IsTrue disk.tells → reads (disk.moments l.disk) ≡ reads first;
+      crash : IsTrue disk.tells → LeavesOnly disk.keeps (IsImage first.state) first (disk.moments l.disk);
+      size : disk.size l.disk ≡ disk.size l.fn.disk;
+      faults : disk.faults l.disk ≡ disk.faults l.fn.disk;
+    }
+
+abbrev pub decreases-loop-at : goal.decreases-loop-at
+decreases-loop-at g l = l.geometry.journal - l.at

@@ -1,0 +1,128 @@
+// The journal of an epoch, read from a disk.
+ghost use Rattle.std.specs.Prelude.{◌≡◌, ◌≤◌, IsTrue, IfOk, IfErr, OnOk};
+ghost use Rattle.ufs_disk.specs.Disk.{IsImage};
+ghost use Rattle.ufs_disk.specs.Moments.{LeavesOnly, reads};
+ghost use Rattle.ufs_layout.specs.Areas.{IsGeometry, sector_count, first_of_inodes, first_of_journal};
+ghost use Rattle.ufs_image.specs.Journal.{sectors_of_epoch, well_spelled};
+ghost use Rattle.ufs_scan.specs.Read.{misspelled};
+ghost use Rattle.ufs_scan.specs.Standings.{standings};
+ghost use Rattle.ufs_scan.specs.Faults.{HasFaultCause, NamesNone};
+ghost use Rattle.std.specs.Prelude.{◌*◌, ◌+◌, ◌<◌, ◌/◌, ◌++◌, ◌∷◌, []};
+ghost use Rattle.ufs_disk.specs.Disk.{IsRange, bytes_from};
+ghost use Rattle.std.specs.Prelude.{length};
+
+use crate::sectors::{Sectors, note_sectors};
+use crate::standing::stand_in;
+use crate::{ScanFault, Standing};
+use std::alloc::{AllocError, Global};
+use ufs_disk::{Disk, SECTOR};
+use ufs_layout::Geometry;
+
+// The first sector of the journal.
+fn journal_start(geometry: &Geometry) -> u32
+    requires { IsGeometry geometry.now }
+    ensures { result ≡ 8 * first_of_journal geometry.now }
+{
+    8 * (1 + (geometry.blocks + 32_767) / 32_768 + (geometry.inodes + 7) / 8)
+}
+
+// Reads whole sectors.
+pub(crate) fn read_sectors<D: Disk>(
+    disk: &mut D,
+    sector: u32,
+    buf: &mut [u8],
+) -> Result<(), ScanFault>
+    requires { IsRange (D.size disk.old) sector (length buf.old) }
+    ensures sized { length buf.new ≡ length buf.old }
+    ensures bytes { IsTrue D.tells → OnOk result (buf.new ≡ bytes_from (reads (D.moments disk.old)) sector (length buf.old / 512)) }
+    ensures content { IsTrue D.tells → reads (D.moments disk.new) ≡ reads (D.moments disk.old) }
+    ensures crash { IsTrue D.tells → LeavesOnly D.keeps (IsImage (D.moments disk.old).state) (D.moments disk.old) (D.moments disk.new) }
+    ensures size { D.size disk.new ≡ D.size disk.old }
+    ensures passed { OnOk result (D.faults disk.new ≡ D.faults disk.old) }
+    ensures cause { IfErr result (HasFaultCause (D.faults disk.old) (D.faults disk.new)) }
+    ensures names { IfErr result NamesNone }
+{
+    match disk.read(sector, buf) {
+        Ok(()) => Ok(()),
+        Err(fault) => Err(ScanFault::Device {
+            fault: fault.number,
+        }),
+    }
+}
+
+// Reads each sector of the journal once, up to eight at a time.
+pub(crate) fn read_journal<D: Disk>(
+    alloc: Global,
+    disk: &mut D,
+    geometry: &Geometry,
+    epoch: u64,
+) -> Result<Sectors, ScanFault>
+    requires geometry { IsGeometry geometry.now }
+    requires large { sector_count geometry.now ≤ D.size disk.old }
+    ensures found { IsTrue D.tells → IfOk result (λ list. list.found.items ≡ well_spelled (sectors_of_epoch geometry.now epoch (reads (D.moments disk.old)))) }
+    ensures misspelled { IsTrue D.tells → IfOk result (λ list. list.misspelled ≡ misspelled (sectors_of_epoch geometry.now epoch (reads (D.moments disk.old)))) }
+    ensures content { IsTrue D.tells → reads (D.moments disk.new) ≡ reads (D.moments disk.old) }
+    ensures crash { IsTrue D.tells → LeavesOnly D.keeps (IsImage (D.moments disk.old).state) (D.moments disk.old) (D.moments disk.new) }
+    ensures size { D.size disk.new ≡ D.size disk.old }
+    ensures passed { OnOk result (D.faults disk.new ≡ D.faults disk.old) }
+    ensures cause { IfErr result (HasFaultCause (D.faults disk.old) (D.faults disk.new)) }
+    ensures names { IfErr result NamesNone }
+{
+    let start = journal_start(geometry);
+    let mut list = Sectors {
+        found: Vec::new(alloc),
+        misspelled: None,
+    };
+    let mut block = [0; 8 * SECTOR];
+    let mut at = 0;
+    while at < geometry.journal {
+        let count = (geometry.journal - at).min(8);
+        let bytes = &mut block[..SECTOR * count as usize];
+        read_sectors(disk, start + at, bytes)?;
+        note_sectors(&mut list, alloc, epoch, start + at, bytes)?;
+        at += count;
+    }
+    Ok(list)
+}
+
+// The first sector of the inode table.
+fn table_start(geometry: &Geometry) -> u32
+    requires { IsGeometry geometry.now }
+    ensures { result ≡ 8 * first_of_inodes geometry.now }
+{
+    8 * (1 + (geometry.blocks + 32_767) / 32_768)
+}
+
+fn push_standing(list: &mut Vec<Standing>, one: Standing) -> Result<(), AllocError>
+    ensures { OnOk result (list.new.items ≡ list.old.items ++ one ∷ []) }
+{
+    list.push(one)?;
+    Ok(())
+}
+
+// Reads each inode's sector once.
+pub(crate) fn read_standings<D: Disk>(
+    alloc: Global,
+    disk: &mut D,
+    geometry: &Geometry,
+) -> Result<Vec<Standing>, ScanFault>
+    requires geometry { IsGeometry geometry.now }
+    requires large { sector_count geometry.now ≤ D.size disk.old }
+    ensures list { IsTrue D.tells → IfOk result (λ list. list.items ≡ standings geometry.now (reads (D.moments disk.old)) (reads (D.moments disk.old))) }
+    ensures sized { IfOk result (λ list. length list.items ≡ geometry.now.inodes) }
+    ensures content { IsTrue D.tells → reads (D.moments disk.new) ≡ reads (D.moments disk.old) }
+    ensures crash { IsTrue D.tells → LeavesOnly D.keeps (IsImage (D.moments disk.old).state) (D.moments disk.old) (D.moments disk.new) }
+    ensures size { D.size disk.new ≡ D.size disk.old }
+    ensures passed { OnOk result (D.faults disk.new ≡ D.faults disk.old) }
+    ensures cause { IfErr result (HasFaultCause (D.faults disk.old) (D.faults disk.new)) }
+    ensures names { IfErr result NamesNone }
+{
+    let start = table_start(geometry);
+    let mut list = Vec::with_capacity(alloc, geometry.inodes as usize)?;
+    let mut sector = [0; SECTOR];
+    for i in 0..geometry.inodes {
+        read_sectors(disk, start + i, &mut sector)?;
+        push_standing(&mut list, stand_in(&sector))?;
+    }
+    Ok(list)
+}

@@ -1,0 +1,47 @@
+// What is committed in the journal of the superblock's epoch.
+ghost use Rattle.std.specs.Prelude.{◌≡◌, ◌≤◌, IsTrue, IfOk, IfErr, OnOk, None};
+ghost use Rattle.ufs_disk.specs.Disk.{IsImage};
+ghost use Rattle.ufs_disk.specs.Moments.{LeavesOnly, reads};
+ghost use Rattle.ufs_layout.specs.Areas.{IsGeometry, sector_count};
+ghost use Rattle.ufs_image.specs.Journal.{committed};
+ghost use Rattle.ufs_image.specs.BadSectors.{bad_sector};
+ghost use Rattle.ufs_scan.specs.Faults.{HasFaultCause, NamesSector};
+
+use crate::ScanFault;
+use crate::gathered::{copy_all, gather};
+use crate::off::{first_off, lower};
+use crate::reading::{read_journal, read_standings};
+use crate::standing::lowest_out;
+use std::alloc::Global;
+use ufs_disk::Disk;
+use ufs_layout::{CommittedList, Geometry, Super};
+
+/// The committed transactions of the superblock's epoch, by rising number; or the lowest sector of the
+/// journal that is off. It reads each sector of the journal and of the inode table once, and writes nothing.
+pub fn scan<D: Disk>(
+    alloc: Global,
+    disk: &mut D,
+    geometry: &Geometry,
+    head: &Super,
+) -> Result<CommittedList, ScanFault>
+    requires geometry { IsGeometry geometry.now }
+    requires large { sector_count geometry.now ≤ D.size disk.old }
+    ensures committed { IsTrue D.tells → IfOk result (λ list. list ≡ committed geometry.now head.now.epoch (reads (D.moments disk.old))) }
+    ensures whole { IsTrue D.tells → OnOk result (bad_sector geometry.now head.now (reads (D.moments disk.old)) ≡ None) }
+    ensures bad { IsTrue D.tells → IfErr result (NamesSector (bad_sector geometry.now head.now (reads (D.moments disk.old)))) }
+    ensures content { IsTrue D.tells → reads (D.moments disk.new) ≡ reads (D.moments disk.old) }
+    ensures crash { IsTrue D.tells → LeavesOnly D.keeps (IsImage (D.moments disk.old).state) (D.moments disk.old) (D.moments disk.new) }
+    ensures size { D.size disk.new ≡ D.size disk.old }
+    ensures passed { OnOk result (D.faults disk.new ≡ D.faults disk.old) }
+    ensures cause { IfErr result (HasFaultCause (D.faults disk.old) (D.faults disk.new)) }
+{
+    let sectors = read_journal(alloc, disk, geometry, head.epoch)?;
+    let off = first_off(geometry, head.next, &sectors.found);
+    let list = gather(alloc, &sectors.found)?;
+    let standings = read_standings(alloc, disk, geometry)?;
+    let out = lowest_out(alloc, geometry, standings, &list)?;
+    match lower(lower(sectors.misspelled, off), out) {
+        Some(sector) => Err(ScanFault::BadRecord { sector }),
+        None => Ok(copy_all(alloc, &list)?),
+    }
+}

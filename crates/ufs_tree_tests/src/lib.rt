@@ -1,0 +1,5 @@
+//! Tests of the plain tree.
+#![tactic(auto)]
+
+#[cfg(test)]
+mod trees;
