@@ -74,6 +74,16 @@ const FAULTS: [(&[&str], &[u64], &[u64], u8, &str); 9] = [
     (&["frob"], &[0], &[0], 7, ""),
 ];
 
+const NO_FILE: &str = "ufs_quiet_none.img";
+
+// Words over a script that breaks, their status, and no file is made.
+const UNTOUCHED: [(&[&str], u8); 4] = [
+    (&["frob", "--image", NO_FILE], 1),
+    (&["mkfs", "63", "16", "64", "--image", NO_FILE], 1),
+    (&["play", "--image", NO_FILE], 2),
+    (&["play"], 1),
+];
+
 #[test]
 fn words_are_read_by_their_grammar(rt: HostRuntime) -> Result<(), Fail> {
     for (words, status, text) in &UNREAD {
@@ -188,21 +198,14 @@ fn an_image_in_a_file_is_the_one_in_memory(rt: HostRuntime) -> Result<(), Fail> 
 #[test]
 fn no_file_is_made_where_none_is_touched(rt: HostRuntime) -> Result<(), Fail> {
     let alloc = rt.alloc();
-    let path = "ufs_quiet_none.img";
-    let rows: [(&[&str], u8); 4] = [
-        (&["frob", "--image", path], 1),
-        (&["mkfs", "63", "16", "64", "--image", path], 1),
-        (&["play", "--image", path], 2),
-        (&["play"], 1),
-    ];
-    for (line, status) in &rows {
+    for (line, status) in &UNTOUCHED {
         let words: Result<Vec<String>, WordsFault> = Ok(words(alloc, line)?);
         let mut source = PlainSource::new(b"frob".to_vec(alloc)?);
         let mut sink = MemorySink::new(alloc, Vec::new(alloc));
-        let disk = FileDisk::new(&rt, path);
+        let disk = FileDisk::new(&rt, NO_FILE);
         let outcome = respond(alloc, &words, &mut source, &mut sink, disk);
         assert_eq!(rt; outcome.status, *status);
-        assert!(rt; std::fs::metadata(&rt, path).is_err());
+        assert!(rt; std::fs::metadata(&rt, NO_FILE).is_err());
     }
     Ok(())
 }
