@@ -1,5 +1,5 @@
 -- What a reading of a script took of its source, and what it read.
-use Rattle.std.specs.Prelude.{ℕ, ◌+◌, ◌-◌, ◌≡◌, ◌<◌, ◌≤◌, ⊤, ◌⊎◌, List, ◌++◌, length, Option, Some, Ok, Err}
+use Rattle.std.specs.Prelude.{ℕ, ◌+◌, ◌-◌, ◌≡◌, ◌<◌, ◌≤◌, ⊤, ◌⊎◌, List, ◌++◌, length, Option, Some, None, Ok, Err}
 use Rattle.std.specs.Io.KnownBytes.{Consumes, IsAtEnd}
 use Rattle.ufs_script.specs.Script.{script_of, max_script}
 use Rattle.ufs_script.specs.declared.script.Script.{Script}
