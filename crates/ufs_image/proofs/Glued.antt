@@ -16,14 +16,12 @@ use Rattle.ufs_layout.specs.declared.geometry.Geometry.{Geometry}
 use Rattle.ufs_image.specs.Catalog.{Catalog, IsInode, IsCatalogOf}
 use Rattle.ufs_image.specs.Nodes.{read_block}
 use Rattle.ufs_image.specs.Agree.{IsOfBlock}
-use Rattle.ufs_image.proofs.Holders.{some_if-some}
+use Rattle.ufs_layout.proofs.Spelled.{spelled-some}
 use Rattle.ufs_image.proofs.Written.{rows}
 
 -- what is read has these bytes
 bytes_of : {X : Type 0} (fields : List ℕ → X) (spelling : X → List ℕ) (is_form : X → Bool) (bytes : List ℕ) (v : X) → spelled fields spelling is_form bytes ≡ Some v → bytes ≡ spelling v
-bytes_of fields spelling is_form bytes v e =
-    let parts = some_if-some (is_form (fields bytes) && bytes_eq (spelling (fields bytes)) bytes) (fields bytes) v e in
-    sym ((bytes_eq-Decides (spelling (fields bytes)) bytes).0 (and_parts _ _ parts.0).1) ∙ ap spelling parts.1
+bytes_of fields spelling is_form bytes v e = (spelled-some fields spelling is_form bytes v e).0
 
 pub glued : (n : ℕ) (xs : List ℕ) → length xs ≡ 64 * n → flat_map (λ p. p) (pieces n 64 xs) ≡ xs
 glued zero [] sized = refl

@@ -12,9 +12,6 @@ use Rattle.ufs_image.proofs.Empty.{from_range}
 use Rattle.ufs_layout.proofs.Spelled.{spelled-spelling}
 use Rattle.ufs_layout.proofs.DentryForms.{dentry-back}
 
-pub length-dentry : (d : DentryForm) → length d.name ≤ 58 → length (dentry_bytes d) ≡ 64
-length-dentry d fits = omega (arith, length-append d.name (replicate (58 - length d.name) 0), length-replicate {A = ℕ} (58 - length d.name) 0)
-
 pub dentry-read : (d : DentryForm) → d.inode < 2 ^ 32 → is_dentry d ≡ true → dentry_of (dentry_bytes d) ≡ Some d
 dentry-read d fits is = spelled-spelling dentry_fields dentry_bytes is_dentry d (dentry-back d fits) is
 
