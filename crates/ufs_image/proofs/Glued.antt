@@ -1,11 +1,8 @@
 -- A catalog's image has the bytes that are written for it.
 use Rattle.std.proofs.Common.{◌≡◌, ℕ, zero, suc, ◌+◌, ◌*◌, ◌-◌, ◌<◌, ◌≤◌, List, [], ◌∷◌, ◌++◌, length, take, drop, Some, Bool, map, ap, sym, refl, ◌∙◌, arith, length-append, length-drop}
-use Rattle.std.specs.Prelude.{flat_map, ◌&&◌}
+use Rattle.std.specs.Prelude.{flat_map}
 use Rattle.std.specs.List.{range_with_len}
-use Rattle.std.specs.Str.{bytes_eq}
-use Rattle.std.proofs.lemmas.Bool.{and_parts}
 use Rattle.std.proofs.lemmas.List.{take-append-drop}
-use Rattle.std.proofs.lemmas.Slice.Eq.{bytes_eq-Decides}
 use Rattle.ufs_layout.specs.Words.{pieces, spelled}
 use Rattle.ufs_layout.specs.Areas.{sector_of_inode}
 use Rattle.ufs_layout.specs.InodeForm.{inode_fields, inode_bytes, is_inode}

@@ -18,7 +18,7 @@ use Rattle.ufs_layout.specs.declared.records.LogRecord.TheVariants.{Delta, Place
 use Rattle.ufs_layout.specs.declared.records.Committed.{Committed}
 use Rattle.ufs_image.specs.Catalog.{Catalog, IsInode, catalog_at}
 use Rattle.ufs_image.specs.Folding.{with_form, with_dentry, is_newer_in, with_valid_in, with_records_in, with_committed_in, folded_in, AreSpelled, FitsCommitted, Spells}
-use Rattle.ufs_image.proofs.Empty.{false_if_not, apart_false}
+use Rattle.ufs_image.proofs.Empty.{apart_false}
 use Rattle.ufs_image.proofs.SlotBytes.{pieces-set, length-with_slot}
 use Rattle.ufs_layout.proofs.RecordForms.{length-dentry}
 use Rattle.ufs_image.proofs.Steps.{folded_step}

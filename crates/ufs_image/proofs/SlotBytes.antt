@@ -1,9 +1,9 @@
 -- A slot of a sector is set: what its block's slots are then the spelling of.
-use Rattle.std.proofs.Common.{◌≡◌, ◌≢◌, ℕ, zero, suc, ◌+◌, ◌*◌, ◌-◌, ◌<◌, ◌≤◌, ◌^◌, ◌⊎◌, inl, inr, List, ◌∷◌, ◌++◌, length, take, drop, replicate, set, Some, true, ap, sym, refl, ◌∙◌, arith, length-append, append_assoc}
+use Rattle.std.proofs.Common.{◌≡◌, ◌≢◌, ℕ, zero, suc, ◌+◌, ◌*◌, ◌-◌, ◌<◌, ◌≤◌, ◌^◌, ◌⊎◌, inl, inr, List, ◌∷◌, ◌++◌, length, take, drop, set, Some, true, ap, sym, refl, ◌∙◌, arith, length-append, append_assoc}
 use Rattle.std.specs.Prelude.{flat_map}
 use Rattle.std.specs.List.{range_with_len}
 use Rattle.std.proofs.Math.Seq.{take-add}
-use Rattle.std.proofs.lemmas.List.{take_at, drop_at, drop-drop, length-take-le, length-drop, length-replicate, set-append_left, set-append_right}
+use Rattle.std.proofs.lemmas.List.{take_at, drop_at, drop-drop, length-take-le, length-drop, set-append_left, set-append_right}
 use Rattle.ufs_layout.specs.Words.{pieces}
 use Rattle.ufs_layout.specs.DentryForm.{DentryForm, dentry_bytes, dentry_fields, dentry_of, is_dentry}
 use Rattle.ufs_image.specs.Images.{with_slot}

@@ -23,7 +23,7 @@ use Rattle.ufs_image.specs.Nodes.{read_block}
 use Rattle.ufs_image.specs.Agree.{IsOfBlock}
 use Rattle.ufs_image.specs.Folding.{with_form, with_dentry, is_newer_in, with_record_in, with_valid_in, with_records_in, with_committed_in, folded_in, FitsForm, AreSpelled, FitsCommitted, Spells}
 use Rattle.ufs_image.proofs.Blocks.{read_same}
-use Rattle.ufs_image.proofs.Empty.{false_if_not, both_true, apart_false}
+use Rattle.ufs_image.proofs.Empty.{both_true, apart_false}
 use Rattle.ufs_layout.proofs.Spelled.{spelled-spelling}
 use Rattle.ufs_layout.proofs.InodeForms.{inode-back}
 use Rattle.ufs_image.proofs.SlotBytes.{dentry-read, pieces-set, length-with_slot, set_in_row}

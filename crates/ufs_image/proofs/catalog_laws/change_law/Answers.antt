@@ -1,9 +1,7 @@
-use Rattle.std.proofs.Common.{◌≡◌, ◌+◌, ◌*◌, ◌%◌, ◌≤◌, ap, ◌∙◌, arith}
+use Rattle.std.proofs.Common.{◌≡◌, ◌+◌, ◌*◌, ◌%◌, ap, ◌∙◌, arith}
 use Rattle.std.specs.Prelude.{slice_set}
 use Rattle.ufs_image.specs.Catalog.{slots_in}
 use Rattle.ufs_image.specs.Folding.{place_in_block}
-use Rattle.ufs_layout.specs.Areas.{IsGeometry}
-use Rattle.ufs_layout.specs.declared.geometry.Geometry.{Geometry}
 use Rattle.ufs_image.proofs.Changed.{file_sound, file_walks, freed_sound, freed_walks}
 use Rattle.ufs_image.proofs.SlotSet.{set_here, set_other}
 use Rattle.ufs_image.proofs.Unnamed.{unnamed_sound, unnamed_walks}

@@ -1,6 +1,3 @@
-use Rattle.std.proofs.Common.{◌≤◌, arith}
-use Rattle.ufs_layout.specs.Areas.{IsGeometry}
-use Rattle.ufs_layout.specs.declared.geometry.Geometry.{Geometry}
 use Rattle.ufs_image.proofs.Depth.{has_root}
 use Rattle.ufs_image.proofs.Whole.{sound_whole, whole_sound, whole_read, spelled_all}
 use Rattle.ufs_image.proofs.Blamed.{undamaged, not_bad}

@@ -1,6 +1,5 @@
-use Rattle.std.proofs.Common.{◌≤◌, sym, subst, arith}
+use Rattle.std.proofs.Common.{sym, subst}
 use Rattle.ufs_layout.specs.Areas.{IsGeometry}
-use Rattle.ufs_layout.specs.declared.geometry.Geometry.{Geometry}
 use Rattle.ufs_image.proofs.Depth.{once, short, root_in_range, has_root}
 use Rattle.ufs_image.proofs.Found.{reached}
 use Rattle.ufs_image.proofs.Apart.{lists_once}
