@@ -3,11 +3,11 @@
 
 mod sizes;
 
-use std::alloc::{AllocError, AllocFailed};
-
 pub use sizes::{
-    BLOCK, MAX_BLOCKS, MAX_EXTENTS, MAX_NAME, SECTOR, SECTORS_PER_BLOCK, SLOT, SLOTS_PER_BLOCK, SLOTS_PER_SECTOR,
+    BLOCK, MAX_BLOCKS, MAX_EXTENTS, MAX_NAME, SECTOR, SECTORS_PER_BLOCK, SLOT, SLOTS_PER_BLOCK,
+    SLOTS_PER_SECTOR,
 };
+use std::alloc::{AllocError, AllocFailed};
 
 /// Memory ran out: the only error of a call that allocates and can fail by nothing else.
 #[derive(Clone, Copy, Debug, PartialEq, Eq)]

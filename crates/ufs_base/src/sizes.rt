@@ -28,5 +28,7 @@ pub const MAX_EXTENTS: usize = 56;
 pub const MAX_NAME: usize = 58;
 
 const _: () = prove!(BLOCK == SECTORS_PER_BLOCK * SECTOR);
+
 const _: () = prove!(SECTOR == SLOTS_PER_SECTOR * SLOT);
+
 const _: () = prove!(SLOTS_PER_BLOCK == SECTORS_PER_BLOCK * SLOTS_PER_SECTOR);

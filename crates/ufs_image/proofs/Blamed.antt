@@ -14,7 +14,8 @@ use Rattle.ufs_image.specs.Catalog.{IsInode}
 use Rattle.ufs_image.proofs.Lists.{IsIn, in_one, from_flat_map, from_filter, from_map, in_filter_map, from_filter_map}
 use Rattle.ufs_image.proofs.Found.{same_some}
 use Rattle.ufs_image.proofs.Empty.{empty, not_both, list_any_false}
-use Rattle.ufs_image.proofs.Holders.{inode_in, in_inodes, some_if-some}
+use Rattle.ufs_image.proofs.Holders.{inode_in, in_inodes}
+use Rattle.ufs_layout.proofs.Spelled.{some_if-some}
 
 pub find_none : (p : ℕ → Bool) (xs : List ℕ) → find p xs ≡ None → (x : ℕ) → IsIn x xs → p x ≡ false
 find_none p [] e x is = absurd is

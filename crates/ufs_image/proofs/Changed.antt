@@ -1,6 +1,6 @@
 -- Changes that leave a catalog sound.
 use Rattle.std.proofs.Common.{◌≡◌, ℕ, ◌*◌, ◌≤◌, ◌⊎◌, inl, inr, List, [], ◌∷◌, ◌++◌, length, Option, Some, None, Bool, true, false, ap, sym, refl, ◌∙◌, subst, arith}
-use Rattle.std.specs.Prelude.{flat_map, ◌==◌, if◌then◌else◌, IsTrue}
+use Rattle.std.specs.Prelude.{flat_map, ◌==◌, if◌then◌else◌}
 use Rattle.std.specs.Option.{option_map}
 use Rattle.std.specs.List.{slice_get, find, range_with_len, AllByRecursion}
 use Rattle.std.proofs.lemmas.Bool.Decides.{nat_tests}

@@ -4,6 +4,7 @@ use Rattle.std.specs.Prelude.{◌||◌}
 use Rattle.std.specs.List.{slice_get, list_any, AllByRecursion, IsDistinct}
 use Rattle.std.proofs.lemmas.Bool.Decides.{nat_tests}
 use Rattle.std.proofs.lemmas.Map.Steps.{length-le_from_distinct_below}
+use Rattle.ufs_layout.specs.Areas.{IsGeometry}
 use Rattle.ufs_layout.specs.DentryForm.{DentryForm}
 use Rattle.ufs_layout.specs.declared.geometry.Geometry.{Geometry}
 use Rattle.ufs_image.specs.Catalog.{Catalog, IsInode, slots_in}
@@ -32,6 +33,10 @@ number_in q (k ∷ ks) e = by (eqb q k) refl e (number_in q ks)
     by : (b : Bool) → eqb q k ≡ b → list_any (eqb q) (k ∷ ks) ≡ true → (list_any (eqb q) ks ≡ true → IsIn q ks) → IsIn q (k ∷ ks)
     by true is e more = inl (grind (arith, nat_tests, is))
     by false is e more = inr (more (ap (λ b. b || list_any (eqb q) ks) (sym is) ∙ e))
+
+-- A geometry has inode 1.
+pub has_root : (g : Geometry) → IsGeometry g → 1 ≤ g.inodes
+has_root g is = let least = is.least_inodes in omega (arith, least)
 
 module _ (g : Geometry) (c : Catalog) (sound : IsSoundCatalog g c) (some : 1 ≤ g.inodes) where
   pub root_in_range : IsInode g 1

@@ -1,7 +1,8 @@
 -- Lists with nothing in them.
-use Rattle.std.proofs.Common.{◌≡◌, ℕ, zero, suc, ◌+◌, ◌<◌, ◌≤◌, ◌⊎◌, inl, inr, List, [], ◌∷◌, ◌++◌, Bool, true, false, cond, Option, Some, None, map, ap, sym, refl, ◌∙◌, arith}
-use Rattle.std.specs.Prelude.{flat_map, filter, ◌||◌}
+use Rattle.std.proofs.Common.{◌≡◌, ◌≢◌, ℕ, zero, suc, ◌+◌, ◌<◌, ◌≤◌, ◌⊎◌, inl, inr, List, [], ◌∷◌, ◌++◌, Bool, true, false, cond, Option, Some, None, map, ap, sym, refl, ◌∙◌, arith}
+use Rattle.std.specs.Prelude.{flat_map, filter, ◌==◌, ◌&&◌, ◌||◌}
 use Rattle.std.specs.List.{range_with_len, filter_map, cons_option, list_any}
+use Rattle.std.proofs.lemmas.Bool.Decides.{nat_tests}
 use Rattle.std.proofs.lemmas.List.Elements.{filter-append}
 use Rattle.ufs_image.proofs.Lists.{IsIn, in_filter, in_flat_map}
 
@@ -125,3 +126,11 @@ flat_map-filter f p (x ∷ xs) = by (p x) ∙ ap (λ zs. cond (p x) (f x) [] ++ 
 pub filter-flat_map : {X Y : Type 0} (p : Y → Bool) (f : X → List Y) (xs : List X) → filter p (flat_map f xs) ≡ flat_map (λ x. filter p (f x)) xs
 filter-flat_map p f [] = refl
 filter-flat_map p f (x ∷ xs) = filter-append p (f x) (flat_map f xs) ∙ ap (λ zs. filter p (f x) ++ zs) (filter-flat_map p f xs)
+
+-- ---- tests
+
+pub both_true : (a b : Bool) → a ≡ true → b ≡ true → (a && b) ≡ true
+both_true a b is_a is_b = rw (is_a, is_b) refl
+
+pub apart_false : (a b : ℕ) → a ≢ b → (a == b) ≡ false
+apart_false a b apart = false_if_not (a == b) (λ e. apart (grind (arith, nat_tests, e)))

@@ -15,7 +15,7 @@ use Rattle.ufs_image.specs.Catalog.{Catalog, IsInode, IsCatalogOf, catalog_at}
 use Rattle.ufs_image.specs.Nodes.{read_block}
 use Rattle.ufs_image.specs.Folding.{FitsForm, Spells}
 use Rattle.ufs_layout.proofs.Compared.{IsBytes-drop}
-use Rattle.ufs_image.proofs.Holders.{some_if-some}
+use Rattle.ufs_layout.proofs.Spelled.{some_if-some}
 
 pub number_below : (i n : ℕ) (xs : List ℕ) → IsBytes xs → little_from i n xs < 256 ^ n
 number_below i zero xs is = omega arith

@@ -1,11 +1,8 @@
 -- A catalog's image has the bytes that are written for it.
 use Rattle.std.proofs.Common.{◌≡◌, ℕ, zero, suc, ◌+◌, ◌*◌, ◌-◌, ◌<◌, ◌≤◌, List, [], ◌∷◌, ◌++◌, length, take, drop, Some, Bool, map, ap, sym, refl, ◌∙◌, arith, length-append, length-drop}
-use Rattle.std.specs.Prelude.{flat_map, ◌&&◌}
+use Rattle.std.specs.Prelude.{flat_map}
 use Rattle.std.specs.List.{range_with_len}
-use Rattle.std.specs.Str.{bytes_eq}
-use Rattle.std.proofs.lemmas.Bool.{and_parts}
 use Rattle.std.proofs.lemmas.List.{take-append-drop}
-use Rattle.std.proofs.lemmas.Slice.Eq.{bytes_eq-Decides}
 use Rattle.ufs_layout.specs.Words.{pieces, spelled}
 use Rattle.ufs_layout.specs.Areas.{sector_of_inode}
 use Rattle.ufs_layout.specs.InodeForm.{inode_fields, inode_bytes, is_inode}
@@ -16,14 +13,12 @@ use Rattle.ufs_layout.specs.declared.geometry.Geometry.{Geometry}
 use Rattle.ufs_image.specs.Catalog.{Catalog, IsInode, IsCatalogOf}
 use Rattle.ufs_image.specs.Nodes.{read_block}
 use Rattle.ufs_image.specs.Agree.{IsOfBlock}
-use Rattle.ufs_image.proofs.Holders.{some_if-some}
+use Rattle.ufs_layout.proofs.Spelled.{spelled-some}
 use Rattle.ufs_image.proofs.Written.{rows}
 
 -- what is read has these bytes
 bytes_of : {X : Type 0} (fields : List ℕ → X) (spelling : X → List ℕ) (is_form : X → Bool) (bytes : List ℕ) (v : X) → spelled fields spelling is_form bytes ≡ Some v → bytes ≡ spelling v
-bytes_of fields spelling is_form bytes v e =
-    let parts = some_if-some (is_form (fields bytes) && bytes_eq (spelling (fields bytes)) bytes) (fields bytes) v e in
-    sym ((bytes_eq-Decides (spelling (fields bytes)) bytes).0 (and_parts _ _ parts.0).1) ∙ ap spelling parts.1
+bytes_of fields spelling is_form bytes v e = (spelled-some fields spelling is_form bytes v e).0
 
 pub glued : (n : ℕ) (xs : List ℕ) → length xs ≡ 64 * n → flat_map (λ p. p) (pieces n 64 xs) ≡ xs
 glued zero [] sized = refl

@@ -2,7 +2,6 @@
 use Rattle.std.proofs.Common.{◌≡◌, ℕ, ◌+◌, ◌*◌, ◌<◌, ◌≤◌, inl, inr, List, [], ◌∷◌, Bool, true, false, length, Some, None, map, ap, sym, refl, ◌∙◌, subst, arith}
 use Rattle.std.specs.Prelude.{flat_map, filter, ◌==◌, ◌&&◌, ◌||◌, not, nat_le, nat_lt, if◌then◌else◌}
 use Rattle.std.specs.List.{slice_get, list_any, list_all, range_with_len, AllByRecursion}
-use Rattle.std.specs.Str.{bytes_eq}
 use Rattle.std.proofs.lemmas.Bool.{and_parts}
 use Rattle.std.proofs.lemmas.Bool.Decides.{nat_tests}
 use Rattle.std.proofs.lemmas.List.{length-map}
@@ -17,6 +16,7 @@ use Rattle.ufs_layout.specs.declared.geometry.Geometry.{Geometry}
 use Rattle.ufs_layout.specs.declared.inode.Extent.{Extent}
 use Rattle.ufs_image.specs.Catalog.{Catalog, IsInode, HasBlock, IsCatalogOf}
 use Rattle.ufs_image.specs.Sound.{IsInData}
+use Rattle.ufs_layout.proofs.Spelled.{some_if-some, spelled-some}
 use Rattle.ufs_image.proofs.Lists.{IsIn, from_flat_map, in_filter, from_filter, in_map, from_map, flat_map-same, in_filter_map, from_filter_map}
 use Rattle.ufs_image.proofs.Listed.{form_is, place_of_in, in_at_place}
 use Rattle.ufs_image.proofs.Empty.{empty_filter, filter_empty, list_any_false, false_list_any, in_range, from_range, flat_map-filter_map, by_option}
@@ -24,15 +24,9 @@ use Rattle.ufs_image.proofs.Few.{few_filter, filter_few, few_flat_map, flat_map_
 
 -- ---- forms
 
-pub some_if-some : {X : Type 0} (b : Bool) (x v : X) → some_if b x ≡ Some v → (b ≡ true) × (x ≡ v)
-some_if-some true x v e = (refl, cc)
-some_if-some false x v e = let no = e in cc
-
 -- what is read is on its form
 pub on_form : {X : Type 0} (fields : List ℕ → X) (spelling : X → List ℕ) (is_form : X → Bool) (bytes : List ℕ) (v : X) → spelled fields spelling is_form bytes ≡ Some v → is_form v ≡ true
-on_form fields spelling is_form bytes v e =
-    let parts = some_if-some (is_form (fields bytes) && bytes_eq (spelling (fields bytes)) bytes) (fields bytes) v e in
-    sym (ap is_form parts.1) ∙ (and_parts _ _ parts.0).0
+on_form fields spelling is_form bytes v e = (spelled-some fields spelling is_form bytes v e).1
 
 is_zero : (n : ℕ) → (n == 0) ≡ true → n ≡ 0
 is_zero n e = grind (arith, nat_tests, e)

@@ -18,8 +18,9 @@ use Rattle.ufs_layout.specs.declared.records.LogRecord.TheVariants.{Delta, Place
 use Rattle.ufs_layout.specs.declared.records.Committed.{Committed}
 use Rattle.ufs_image.specs.Catalog.{Catalog, IsInode, catalog_at}
 use Rattle.ufs_image.specs.Folding.{with_form, with_dentry, is_newer_in, with_valid_in, with_records_in, with_committed_in, folded_in, AreSpelled, FitsCommitted, Spells}
-use Rattle.ufs_image.proofs.Empty.{false_if_not}
-use Rattle.ufs_image.proofs.SlotBytes.{length-dentry, pieces-set, length-with_slot}
+use Rattle.ufs_image.proofs.Empty.{apart_false}
+use Rattle.ufs_image.proofs.SlotBytes.{pieces-set, length-with_slot}
+use Rattle.ufs_layout.proofs.RecordForms.{length-dentry}
 use Rattle.ufs_image.proofs.Steps.{folded_step}
 use Rattle.ufs_image.proofs.Fits.{shows}
 use Rattle.ufs_image.proofs.Glued.{glued}
@@ -126,9 +127,6 @@ all_good : (s : ℕ) (ts : List Committed) → AllByRecursion FitsCommitted ts �
 all_good s [] good = tt
 all_good s (t ∷ ts) good = good_append (sets_of s t.records) (all_sets s ts) (good_sets s t.records good.0.records) (all_good s ts good.1)
 
-other_sector : (a b : ℕ) → a ≢ b → (a == b) ≡ false
-other_sector a b apart = false_if_not (a == b) (λ e. apart (grind (arith, nat_tests, e)))
-
 module _ (g : Geometry) where
   pub table_end : (inode : ℕ) → is_inode_number g inode ≡ true → sector_of_inode g inode < 8 * first_of_data g
   table_end inode e =
@@ -142,7 +140,7 @@ module _ (g : Geometry) where
   data_from s e = let low = (and_parts (nat_le (8 * first_of_data g) s) (nat_lt s (8 * g.blocks)) e).0 in grind (arith, nat_tests, low)
 
   inode_else : (newer : Bool) (inode : ℕ) (form : InodeForm) (now : Image) (s : ℕ) → s ≢ sector_of_inode g inode → (if newer then with_inode g inode form now else now) s ≡ now s
-  inode_else true inode form now s apart = ap (λ t. if t then inode_bytes form else now s) (other_sector s (sector_of_inode g inode) apart)
+  inode_else true inode form now s apart = ap (λ t. if t then inode_bytes form else now s) (apart_false s (sector_of_inode g inode) apart)
   inode_else false inode form now s apart = refl
 
   module _ (s : ℕ) (within : is_data_sector g s ≡ true) where
@@ -220,7 +218,7 @@ module _ (g : Geometry) where
     place_else data' bytes now e =
         let from = data_from data' e in
         let end = table_end k in_range in
-        ap (λ t. if t then bytes else now (sector_of_inode g k)) (other_sector (sector_of_inode g k) data' (λ same. omega (arith, same, from, end)))
+        ap (λ t. if t then bytes else now (sector_of_inode g k)) (apart_false (sector_of_inode g k) data' (λ same. omega (arith, same, from, end)))
 
     -- images that agree on this sector still do
     pub sync_record : (number : ℕ) (before sooner now then' : Image) (r : LogRecord) → before (sector_of_inode g k) ≡ sooner (sector_of_inode g k) → now (sector_of_inode g k) ≡ then' (sector_of_inode g k)
@@ -428,7 +426,7 @@ module _ (g : Geometry) where
         of (Place sector slot dentry) = by (is_data_sector g sector) refl
           where
             by : (b : Bool) → is_data_sector g sector ≡ b → (if b then with_record g number before (Place sector slot dentry) now else now) s ≡ now s
-            by true e = ap (λ t. if t then with_slot slot (dentry_bytes dentry) (now sector) else now s) (other_sector s sector (λ same. let no : false ≡ true = sym no_data ∙ ap (is_data_sector g) same ∙ e in cc))
+            by true e = ap (λ t. if t then with_slot slot (dentry_bytes dentry) (now sector) else now s) (apart_false s sector (λ same. let no : false ≡ true = sym no_data ∙ ap (is_data_sector g) same ∙ e in cc))
             by false e = refl
 
     pub else_folded : (ts : List Committed) (image : Image) → folded g ts image s ≡ image s

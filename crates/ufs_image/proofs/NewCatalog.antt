@@ -8,7 +8,7 @@ use Rattle.ufs_layout.specs.Areas.{IsGeometry, sector_count}
 use Rattle.ufs_layout.specs.InodeForm.{free_inode}
 use Rattle.ufs_layout.specs.declared.geometry.Geometry.{Geometry}
 use Rattle.ufs_image.specs.Images.{inode_at}
-use Rattle.ufs_image.specs.Nodes.{blocks_of, read_block}
+use Rattle.ufs_image.specs.Nodes.{blocks_of}
 use Rattle.ufs_image.specs.Formatted.{IsFormatted, new_root, new_volume, new_form, new_catalog}
 use Rattle.ufs_image.specs.Catalog.{IsInode, IsDirBlock, IsCatalogOf}
 use Rattle.ufs_image.specs.Standing.{IsVolumeOf}

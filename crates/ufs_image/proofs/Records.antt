@@ -22,15 +22,9 @@ use Rattle.ufs_image.specs.Folding.{AreSpelled, FitsCommitted}
 use Rattle.ufs_image.proofs.Lists.{IsIn, from_flat_map, from_filter, from_map, from_filter_map}
 use Rattle.ufs_image.proofs.Found.{option_map-some}
 use Rattle.ufs_image.proofs.Empty.{from_range}
-use Rattle.ufs_layout.proofs.Compared.{IsBytes-drop}
+use Rattle.ufs_layout.proofs.Compared.{IsBytes-take, IsBytes-drop}
 use Rattle.ufs_image.proofs.Fits.{number_below, extents_fit}
-use Rattle.ufs_image.proofs.Holders.{some_if-some}
-
-IsBytes-take : (n : ℕ) (bytes : List ℕ) → IsBytes bytes → IsBytes (take n bytes)
-IsBytes-take zero bytes is i = omega arith
-IsBytes-take (suc n) [] is i = omega arith
-IsBytes-take (suc n) (b ∷ bytes) is zero = is 0
-IsBytes-take (suc n) (b ∷ bytes) is (suc i) = IsBytes-take n bytes (λ j. is (suc j)) i
+use Rattle.ufs_layout.proofs.Spelled.{some_if-some}
 
 -- ---- records
 

@@ -1,12 +1,12 @@
 -- One image, worked: 64 blocks, 16 inodes and 64 journal sectors, in use, with two commits in its journal.
-use Rattle.std.proofs.Common.{ℕ, ◌≡◌, List, [], ◌∷◌, ◌++◌, None, Some, refl}
+use Rattle.std.proofs.Common.{ℕ, ◌≡◌, List, [], ◌∷◌, None, Some, refl}
 use Rattle.std.specs.Prelude.{false, map, replicate, codes, Ok, Err, ◌==◌, if◌then◌else◌}
 use Rattle.ufs_base.specs.Images.{Image}
 use Rattle.ufs_layout.specs.Areas.{first_of_data}
-use Rattle.ufs_layout.specs.InodeForm.{InodeForm, inode_bytes}
+use Rattle.ufs_layout.specs.InodeForm.{inode_bytes}
 use Rattle.ufs_layout.specs.DentryForm.{free_slot}
 use Rattle.ufs_layout.specs.Superblock.{super_bytes}
-use Rattle.ufs_layout.specs.JournalSector.{JournalSector, HasRecords, HasCommit, journal_bytes}
+use Rattle.ufs_layout.specs.JournalSector.{HasRecords, HasCommit, journal_bytes}
 use Rattle.ufs_layout.specs.declared.geometry.Geometry.{Geometry}
 use Rattle.ufs_layout.specs.declared.inode.Extent.{Extent}
 use Rattle.ufs_layout.specs.declared.records.LogRecord.{LogRecord}

@@ -1,9 +1,9 @@
 -- A slot of a sector is set: what its block's slots are then the spelling of.
-use Rattle.std.proofs.Common.{◌≡◌, ◌≢◌, ℕ, zero, suc, ◌+◌, ◌*◌, ◌-◌, ◌<◌, ◌≤◌, ◌^◌, ◌⊎◌, inl, inr, List, ◌∷◌, ◌++◌, length, take, drop, replicate, set, Some, true, ap, sym, refl, ◌∙◌, arith, length-append, append_assoc}
+use Rattle.std.proofs.Common.{◌≡◌, ◌≢◌, ℕ, zero, suc, ◌+◌, ◌*◌, ◌-◌, ◌<◌, ◌≤◌, ◌^◌, ◌⊎◌, inl, inr, List, ◌∷◌, ◌++◌, length, take, drop, set, Some, true, ap, sym, refl, ◌∙◌, arith, length-append, append_assoc}
 use Rattle.std.specs.Prelude.{flat_map}
 use Rattle.std.specs.List.{range_with_len}
 use Rattle.std.proofs.Math.Seq.{take-add}
-use Rattle.std.proofs.lemmas.List.{take_at, drop_at, drop-drop, length-take-le, length-drop, length-replicate, set-append_left, set-append_right}
+use Rattle.std.proofs.lemmas.List.{take_at, drop_at, drop-drop, length-take-le, length-drop, set-append_left, set-append_right}
 use Rattle.ufs_layout.specs.Words.{pieces}
 use Rattle.ufs_layout.specs.DentryForm.{DentryForm, dentry_bytes, dentry_fields, dentry_of, is_dentry}
 use Rattle.ufs_image.specs.Images.{with_slot}
@@ -11,9 +11,6 @@ use Rattle.ufs_image.proofs.Lists.{flat_map-same}
 use Rattle.ufs_image.proofs.Empty.{from_range}
 use Rattle.ufs_layout.proofs.Spelled.{spelled-spelling}
 use Rattle.ufs_layout.proofs.DentryForms.{dentry-back}
-
-pub length-dentry : (d : DentryForm) → length d.name ≤ 58 → length (dentry_bytes d) ≡ 64
-length-dentry d fits = omega (arith, length-append d.name (replicate (58 - length d.name) 0), length-replicate {A = ℕ} (58 - length d.name) 0)
 
 pub dentry-read : (d : DentryForm) → d.inode < 2 ^ 32 → is_dentry d ≡ true → dentry_of (dentry_bytes d) ≡ Some d
 dentry-read d fits is = spelled-spelling dentry_fields dentry_bytes is_dentry d (dentry-back d fits) is

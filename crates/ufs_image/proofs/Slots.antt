@@ -21,7 +21,7 @@ use Rattle.ufs_image.specs.Sound.{HasDentry}
 use Rattle.ufs_image.proofs.Lists.{IsIn, in_flat_map, in_filter, from_filter, flat_map-same, in_enumerated, from_enumerated}
 use Rattle.ufs_image.proofs.Listed.{form_is, slots_are, used, names_of-used, in_used, from_used}
 use Rattle.ufs_image.proofs.Found.{same_some}
-use Rattle.ufs_image.proofs.Empty.{empty, empty_filter, filter_empty, empty_flat_map, flat_map_empty, map_empty, false_if_not, not_both, list_any_false, false_list_any, flat_map-filter_map, flat_map-filter, filter-flat_map, by_option}
+use Rattle.ufs_image.proofs.Empty.{empty, empty_filter, filter_empty, empty_flat_map, flat_map_empty, map_empty, false_if_not, not_both, list_any_false, false_list_any, flat_map-filter_map, flat_map-filter, filter-flat_map, by_option, both_true}
 use Rattle.ufs_image.proofs.Few.{some_in, few_filter, filter_few, few_flat_map, flat_map_each, flat_map_one}
 use Rattle.ufs_image.proofs.Holders.{AreRead, node_is, inode_in, in_inodes}
 
@@ -55,9 +55,6 @@ filter-filter {X} p q (x ∷ xs) = by (q x) (filter-filter p q xs)
     by : (b : Bool) → filter p (filter q xs) ≡ filter (λ y. q y && p y) xs → filter p (cond b (x ∷ filter q xs) (filter q xs)) ≡ cond (b && p x) (x ∷ filter (λ y. q y && p y) xs) (filter (λ y. q y && p y) xs)
     by true more = ap (λ ys. cond (p x) (x ∷ ys) ys) more
     by false more = more
-
-both_true : (a b : Bool) → a ≡ true → b ≡ true → (a && b) ≡ true
-both_true a b is_a is_b = rw (is_a, is_b) refl
 
 -- the directory that a catalog has with this number
 abbrev pub dir_of : Catalog → ℕ → Dir

@@ -23,13 +23,11 @@ use Rattle.ufs_image.specs.Nodes.{read_block}
 use Rattle.ufs_image.specs.Agree.{IsOfBlock}
 use Rattle.ufs_image.specs.Folding.{with_form, with_dentry, is_newer_in, with_record_in, with_valid_in, with_records_in, with_committed_in, folded_in, FitsForm, AreSpelled, FitsCommitted, Spells}
 use Rattle.ufs_image.proofs.Blocks.{read_same}
-use Rattle.ufs_image.proofs.Empty.{false_if_not}
+use Rattle.ufs_image.proofs.Empty.{both_true, apart_false}
 use Rattle.ufs_layout.proofs.Spelled.{spelled-spelling}
 use Rattle.ufs_layout.proofs.InodeForms.{inode-back}
-use Rattle.ufs_image.proofs.SlotBytes.{length-dentry, dentry-read, pieces-set, length-with_slot, set_in_row}
-
-both_true : (a b : Bool) → a ≡ true → b ≡ true → (a && b) ≡ true
-both_true a b is_a is_b = rw (is_a, is_b) refl
+use Rattle.ufs_image.proofs.SlotBytes.{dentry-read, pieces-set, length-with_slot, set_in_row}
+use Rattle.ufs_layout.proofs.RecordForms.{length-dentry}
 
 pub inode-read : (form : InodeForm) → FitsForm form → inode_of (inode_bytes form) ≡ Some form
 inode-read form fits = spelled-spelling inode_fields inode_bytes is_inode form (inode-back form (record { size = fits.size; number = fits.number; extents = fits.extents })) fits.spelled
@@ -45,9 +43,6 @@ data_sector g sector e = let low = (and_parts (nat_le (8 * first_of_data g) sect
 
 before_data : (g : Geometry) (inode : ℕ) → IsInode g inode → sector_of_inode g inode < 8 * first_of_data g
 before_data g inode is = let from = is.from_one in let most = is.within in omega (arith, from, most)
-
-other_sector : (a b : ℕ) → a ≢ b → (a == b) ≡ false
-other_sector a b apart = false_if_not (a == b) (λ e. apart (grind (arith, nat_tests, e)))
 
 -- ---- forms
 
@@ -121,7 +116,7 @@ module _ (g : Geometry) (whole : Bool) (these : ℕ → Bool) where
           let low = there.from_one in
           let other = in_range.from_one in
           let apart : sector_of_inode g k ≢ sector_of_inode g inode = λ h. let same : k ≡ inode = omega (arith, h, low, other) in let yes : (k == inode) ≡ true = grind (arith, nat_tests, same) in let no = sym e ∙ yes in cc in
-          ap (λ b. if b then inode_bytes form else image (sector_of_inode g k)) (other_sector _ _ apart)
+          ap (λ b. if b then inode_bytes form else image (sector_of_inode g k)) (apart_false _ _ apart)
 
       shown : (k : ℕ) → IsInode g k → (b : Bool) → (k == inode) ≡ b → form_at g (with_inode g inode form image) k ≡ (if k == inode then form else c.forms k)
       shown k there true e = ap (λ o. unwrap_or o (free_inode 0)) (ap inode_of (here k e) ∙ inode-read form fits) ∙ ap (λ b. if b then form else c.forms k) (sym e)
@@ -141,7 +136,7 @@ module _ (g : Geometry) (whole : Bool) (these : ℕ → Bool) where
           let at = of.same in
           let table = before_data g inode in_range in
           let apart : s ≢ sector_of_inode g inode = λ h. omega (arith, h, at, data_from, table) in
-          ap (λ t. if t then inode_bytes form else image s) (other_sector _ _ apart)
+          ap (λ t. if t then inode_bytes form else image s) (apart_false _ _ apart)
 
   -- ---- a dentry
 
@@ -167,10 +162,10 @@ module _ (g : Geometry) (whole : Bool) (these : ℕ → Bool) where
           let table = before_data g k there in
           let from = data_sector g sector within in
           let apart : sector_of_inode g k ≢ sector = λ h. omega (arith, h, table, from) in
-          ap (λ t. if t then with_slot slot (dentry_bytes d) (image sector) else image (sector_of_inode g k)) (other_sector _ _ apart)
+          ap (λ t. if t then with_slot slot (dentry_bytes d) (image sector) else image (sector_of_inode g k)) (apart_false _ _ apart)
 
       elsewhere : (s : ℕ) → s ≢ sector → with_sector sector (with_slot slot (dentry_bytes d) (image sector)) image s ≡ image s
-      elsewhere s apart = ap (λ t. if t then with_slot slot (dentry_bytes d) (image sector) else image s) (other_sector _ _ apart)
+      elsewhere s apart = ap (λ t. if t then with_slot slot (dentry_bytes d) (image sector) else image s) (apart_false _ _ apart)
 
       here : with_sector sector (with_slot slot (dentry_bytes d) (image sector)) image sector ≡ with_slot slot (dentry_bytes d) (image sector)
       here = let same : (sector == sector) ≡ true = grind (arith, nat_tests) in ap (λ t. if t then with_slot slot (dentry_bytes d) (image sector) else image sector) same

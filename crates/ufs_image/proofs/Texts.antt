@@ -5,6 +5,7 @@ use Rattle.std.specs.List.{list_all}
 use Rattle.std.proofs.lemmas.Bool.{and_parts}
 use Rattle.ufs_image.specs.Damage.{is_plain_name}
 use Rattle.ufs_image.specs.Walks.{joined, path_text, is_piece, ArePieces}
+use Rattle.ufs_image.proofs.Empty.{both_true}
 
 abbrev has_no_slash : List ℕ → Bool
 has_no_slash name = list_all (λ b. not (b == 47)) name
@@ -60,9 +61,6 @@ pub joined-onto : (path name : List ℕ) (names : List (List ℕ)) → (path ++ 
 joined-onto path name names = append_assoc path (47 ∷ name) (joined names)
 
 -- a plain name with bytes is a piece
-both_true : (a b : Bool) → a ≡ true → b ≡ true → (a && b) ≡ true
-both_true a b is_a is_b = rw (is_a, is_b) refl
-
 not_slashes : (name : List ℕ) → list_all (λ b. nat_le 33 b && (nat_le b 126 && not (b == 47))) name ≡ true → has_no_slash name ≡ true
 not_slashes [] e = refl
 not_slashes (b ∷ name) e =

@@ -15,7 +15,8 @@ use Rattle.ufs_image.specs.Catalog.{Catalog, IsCatalogOf}
 use Rattle.ufs_image.specs.Nodes.{read_block}
 use Rattle.ufs_image.specs.Agree.{IsOfBlock}
 use Rattle.ufs_image.specs.Written.{FitsDentryForm, IsWritten}
-use Rattle.ufs_image.proofs.SlotBytes.{length-dentry, dentry-read}
+use Rattle.ufs_image.proofs.SlotBytes.{dentry-read}
+use Rattle.ufs_layout.proofs.RecordForms.{length-dentry}
 use Rattle.ufs_image.proofs.Steps.{inode-read}
 
 short_name : (d : DentryForm) → FitsDentryForm d → length d.name ≤ 58

@@ -1,5 +1,5 @@
 -- What a folded image says of its inodes and directories, without bytes.
-use Rattle.std.specs.Prelude.{ℕ, ◌≡◌, ◌≤◌, ◌==◌, List, [], map, flat_map, if◌then◌else◌, length, Bool, IsTrue, Option, Some, unwrap_or}
+use Rattle.std.specs.Prelude.{ℕ, ◌≡◌, ◌≤◌, ◌==◌, List, [], map, flat_map, if◌then◌else◌, length, Bool, IsTrue, Some, unwrap_or}
 use Rattle.std.specs.List.{slice_get}
 use Rattle.ufs_base.specs.declared.sizes.TheConstants.{SLOTS_PER_BLOCK}
 use Rattle.ufs_layout.specs.InodeForm.{InodeForm}

@@ -9,11 +9,9 @@ ghost use Rattle.ufs_image.specs.Formatted.{byte_below, new_root};
 ghost use Rattle.ufs_recover.specs.Tables.{IsOutside, IsTableBlock, HasTablesBelow};
 ghost use Rattle.ufs_recover.specs.Stopped.{IsBlank};
 
+use ufs_base::BLOCK;
 use ufs_disk::{Disk, Fault, SECTOR};
 use ufs_layout::{Geometry, Inode, put_inode};
-
-// A call of a disk takes no more bytes.
-const BLOCK: usize = 8 * SECTOR;
 
 // A byte of the bitmap in which the blocks below `used` are used.
 fn bitmap_byte(used: u32, byte: u32) -> u8
@@ -45,8 +43,8 @@ fn clear(bytes: &mut [u8])
 
 // A directory with no block.
 fn put_root(bytes: &mut [u8])
-    requires { 512 ≤ length bytes.old }
-    ensures { bytes.new ≡ inode_bytes new_root ++ drop 512 bytes.old }
+    requires { SECTOR ≤ length bytes.old }
+    ensures { bytes.new ≡ inode_bytes new_root ++ drop SECTOR bytes.old }
 {
     put_inode(&mut bytes[..SECTOR], &Inode::from_extents(2, &[], 0, 0));
 }
@@ -54,7 +52,7 @@ fn put_root(bytes: &mut [u8])
 // What a new image has in a block. A free inode is spelled by zeros alone.
 fn lay_block(bytes: &mut [u8], geometry: &Geometry, block: u32)
     requires geometry { IsGeometry geometry.now }
-    requires sized { length bytes.old ≡ 4096 }
+    requires sized { length bytes.old ≡ BLOCK }
     requires from { 1 ≤ block }
     requires below { block < first_of_data geometry.now }
     ensures { IsTableBlock geometry.now block bytes.new }

@@ -1,18 +1,13 @@
-use Rattle.std.proofs.Common.{◌≡◌, ◌+◌, ◌*◌, ◌%◌, ◌≤◌, ap, ◌∙◌, arith}
+use Rattle.std.proofs.Common.{◌≡◌, ◌+◌, ◌*◌, ◌%◌, ap, ◌∙◌, arith}
 use Rattle.std.specs.Prelude.{slice_set}
 use Rattle.ufs_image.specs.Catalog.{slots_in}
 use Rattle.ufs_image.specs.Folding.{place_in_block}
-use Rattle.ufs_layout.specs.Areas.{IsGeometry}
-use Rattle.ufs_layout.specs.declared.geometry.Geometry.{Geometry}
 use Rattle.ufs_image.proofs.Changed.{file_sound, file_walks, freed_sound, freed_walks}
 use Rattle.ufs_image.proofs.SlotSet.{set_here, set_other}
 use Rattle.ufs_image.proofs.Unnamed.{unnamed_sound, unnamed_walks}
-use Rattle.ufs_image.proofs.Depth.{root_in_range}
+use Rattle.ufs_image.proofs.Depth.{root_in_range, has_root}
 use Rattle.ufs_image.proofs.Found.{reached}
 use Rattle.ufs_image.proofs.catalog_laws.change_law.Goals as goal
-
-has_root : (g : Geometry) → IsGeometry g → 1 ≤ g.inodes
-has_root g is = let least = is.least_inodes in omega (arith, least)
 
 pub returns : goal.returns
 returns c = record {

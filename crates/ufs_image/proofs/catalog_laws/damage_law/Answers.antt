@@ -1,14 +1,9 @@
-use Rattle.std.proofs.Common.{◌≤◌, arith}
-use Rattle.ufs_layout.specs.Areas.{IsGeometry}
-use Rattle.ufs_layout.specs.declared.geometry.Geometry.{Geometry}
+use Rattle.ufs_image.proofs.Depth.{has_root}
 use Rattle.ufs_image.proofs.Whole.{sound_whole, whole_sound, whole_read, spelled_all}
 use Rattle.ufs_image.proofs.Blamed.{undamaged, not_bad}
 use Rattle.ufs_image.proofs.Bits.{marks_whole}
 use Rattle.ufs_image.proofs.Read.{catalog_there}
 use Rattle.ufs_image.proofs.catalog_laws.damage_law.Goals as goal
-
-has_root : (g : Geometry) → IsGeometry g → 1 ≤ g.inodes
-has_root g is = let least = is.least_inodes in omega (arith, least)
 
 pub returns : goal.returns
 returns c = record {

@@ -1,14 +1,10 @@
-use Rattle.std.proofs.Common.{◌≤◌, sym, subst, arith}
+use Rattle.std.proofs.Common.{sym, subst}
 use Rattle.ufs_layout.specs.Areas.{IsGeometry}
-use Rattle.ufs_layout.specs.declared.geometry.Geometry.{Geometry}
-use Rattle.ufs_image.proofs.Depth.{once, short, root_in_range}
+use Rattle.ufs_image.proofs.Depth.{once, short, root_in_range, has_root}
 use Rattle.ufs_image.proofs.Found.{reached}
 use Rattle.ufs_image.proofs.Apart.{lists_once}
 use Rattle.ufs_image.proofs.Paths.{stands, standing, any_depth}
 use Rattle.ufs_image.proofs.catalog_laws.walk_law.Goals as goal
-
-has_root : (g : Geometry) → IsGeometry g → 1 ≤ g.inodes
-has_root g is = let least = is.least_inodes in omega (arith, least)
 
 pub returns : goal.returns
 returns c = record {
