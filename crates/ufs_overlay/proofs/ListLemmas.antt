@@ -1,6 +1,6 @@
 -- Lists of records by sector, with one record more or less.
 use Rattle.std.proofs.Common.{◌≡◌, inl, inr, ℕ, zero, suc, ◌+◌, ◌-◌, List, [], ◌∷◌, ◌++◌, Bool, true, false, ◌&&◌, length, take, get_or, ◌<◌, Result, Ok, Err, subst, refl, ap, sym, ◌∙◌, arith, append_assoc}
-use Rattle.std.specs.Prelude.{if◌then◌else◌, ◌==◌, ◌*◌, ◌≤◌, nat_le, nat_lt, map, filter, flat_map, IsTrue, OnOk, OnErr}
+use Rattle.std.specs.Prelude.{if◌then◌else◌, ◌==◌, ◌*◌, ◌≤◌, nat_le, nat_lt, map, filter, OnOk, OnErr}
 use Rattle.std.specs.List.{list_all}
 use Rattle.std.proofs.lemmas.Bool.{cases_eq, eq-eqb, ne_eqb, eqb-true, and_parts, leb-true, ltb-true, true≢false}
 use Rattle.ufs_layout.specs.Areas.{IsGeometry, first_of_data}

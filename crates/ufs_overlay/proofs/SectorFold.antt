@@ -1,13 +1,11 @@
 -- The fold of transactions at one sector: it depends on what this sector had before, and on the records of it alone.
-use Rattle.std.proofs.Common.{◌≡◌, ◌≢◌, inl, inr, ⊎_elim, ℕ, ◌<◌, ◌≤◌, List, [], ◌∷◌, ◌++◌, Bool, true, false, ◌&&◌, refl, ap, sym, ◌∙◌, subst, arith}
-use Rattle.std.specs.Prelude.{if◌then◌else◌, ◌==◌, nat_lt, map, filter, flat_map, IsTrue}
-use Rattle.std.proofs.lemmas.Bool.{cases_eq, cases_Bool, eq-eqb, ne_eqb, eqb-true, and_parts, ltb-true, lt-ltb}
+use Rattle.std.proofs.Common.{◌≡◌, ◌≢◌, inl, inr, ℕ, ◌<◌, ◌≤◌, List, [], ◌∷◌, ◌++◌, Bool, true, false, ◌&&◌, refl, ap, sym, ◌∙◌, subst, arith}
+use Rattle.std.specs.Prelude.{if◌then◌else◌, ◌==◌, nat_lt, map, filter}
+use Rattle.std.proofs.lemmas.Bool.{cases_eq, eq-eqb, ne_eqb, and_parts, ltb-true, lt-ltb}
 use Rattle.ufs_base.specs.Images.{Image}
-use Rattle.ufs_layout.specs.Areas.{sector_of_inode, is_inode_number, is_data_sector}
-use Rattle.ufs_layout.specs.InodeForm.{InodeForm, inode_bytes, free_inode}
-use Rattle.ufs_layout.specs.DentryForm.{dentry_bytes}
-use Rattle.ufs_image.specs.Images.{with_sector, with_slot, form_at}
-use Rattle.ufs_image.specs.Fold.{is_in_range, is_newer, after_delta, with_record, with_valid, with_records, with_committed, folded}
+use Rattle.ufs_layout.specs.Areas.{sector_of_inode}
+use Rattle.ufs_image.specs.Images.{with_sector}
+use Rattle.ufs_image.specs.Fold.{is_in_range, is_newer, with_record, with_valid, with_records, with_committed, folded}
 use Rattle.ufs_overlay.specs.declared.lists.Numbered.{Numbered}
 use Rattle.ufs_overlay.specs.Steps.{form_of, stepped, stepped_all}
 use Rattle.ufs_overlay.specs.Over.{sector_of_record, is_of, records_of, rise_above}

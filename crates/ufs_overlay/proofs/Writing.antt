@@ -1,14 +1,14 @@
 -- Sectors that are written home one after the other.
-use Rattle.std.proofs.Common.{◌≡◌, ◌≢◌, ◌⊎◌, inl, inr, ⊎_elim, ◌/◌, ℕ, List, [], ◌∷◌, Bool, true, length, take, refl, ap, sym, ◌∙◌, subst, arith}
+use Rattle.std.proofs.Common.{◌≡◌, inl, inr, ⊎_elim, ◌/◌, ℕ, List, [], Bool, true, length, refl, ap, sym, ◌∙◌, arith}
 use Rattle.std.specs.Prelude.{if◌then◌else◌, ◌==◌, ◌+◌, ◌<◌, ◌≤◌, nat_lt}
 use Rattle.std.proofs.lemmas.Bool.{cases_eq, cases_lt, eq-eqb, ne_eqb, lt-ltb, le-ltb}
 use Rattle.std.proofs.lemmas.List.{take_all}
 use Rattle.ufs_base.specs.Images.{Image}
-use Rattle.ufs_disk.specs.Disk.{State, IsImage, IsPartlyWritten, Mixes, overwritten, put_all, pieces, sectors_of, seen}
+use Rattle.ufs_disk.specs.Disk.{IsImage, IsPartlyWritten, overwritten, put_all, pieces}
 use Rattle.ufs_disk.specs.Moments.{Moments, LeavesOnly, reads}
 use Rattle.ufs_disk.proofs.Runs.{goes_on, weaker, started}
 use Rattle.ufs_image.specs.Fold.{folded}
-use Rattle.ufs_overlay.specs.Over.{rise_above, records_of, IsTouched, IsHomeSettled, IsMixedHome, IsHomeWritten, IsStepWritten}
+use Rattle.ufs_overlay.specs.Over.{rise_above, records_of, IsTouched, IsHomeSettled, IsHomeWritten, IsStepWritten}
 use Rattle.ufs_overlay.proofs.SectorFold.{local_folded, untouched_folded}
 use Rattle.ufs_layout.specs.declared.geometry.Geometry.{Geometry}
 use Rattle.ufs_layout.specs.declared.records.Committed.{Committed}
@@ -84,6 +84,16 @@ module _ (g : Geometry) (cs : List Committed) where
     | inr ne ↦ ap (λ b. if b then folded g cs mid k else mid k) (ne_eqb k sector ne) ∙ below k ∙ elim (cases_lt k sector) [
       | inl lt ↦ ap (λ b. if b then folded g cs first k else first k) (lt-ltb k sector lt) ∙ sym (ap (λ b. if b then folded g cs first k else first k) (lt-ltb k (sector + 1) (omega arith)))
       | inr ge ↦ ap (λ b. if b then folded g cs first k else first k) (le-ltb k sector ge) ∙ sym (ap (λ b. if b then folded g cs first k else first k) (le-ltb k (sector + 1) (omega (arith, ne, ge))))
+    ]
+  ]
+
+  -- sectors that no record changes
+  pub read_skip : rise_above 0 cs ≡ true → (at sector : ℕ) (first now : Image) → at ≤ sector → ((k : ℕ) → at ≤ k → k < sector → records_of g k cs ≡ []) → AreBelow at first now → AreBelow sector first now
+  read_skip rises at sector first now from quiet below k = below k ∙ elim (cases_lt k at) [
+    | inl lt ↦ ap (λ b. if b then folded g cs first k else first k) (lt-ltb k at lt) ∙ sym (ap (λ b. if b then folded g cs first k else first k) (lt-ltb k sector (omega arith)))
+    | inr ge ↦ ap (λ b. if b then folded g cs first k else first k) (le-ltb k at ge) ∙ elim (cases_lt k sector) [
+      | inl lt ↦ sym (untouched_folded g k cs first rises (quiet k ge lt)) ∙ sym (ap (λ b. if b then folded g cs first k else first k) (lt-ltb k sector lt))
+      | inr above ↦ sym (ap (λ b. if b then folded g cs first k else first k) (le-ltb k sector above))
     ]
   ]
 

@@ -1,5 +1,5 @@
 -- Which transactions an overlay has, and what it makes of the home sectors.
-use Rattle.std.specs.Prelude.{ℕ, ◌≡◌, ◌≢◌, ◌⊎◌, ◌<◌, List, [], ◌∷◌, map, filter, flat_map, Bool, true, ◌==◌, ◌&&◌, nat_lt, IsTrue}
+use Rattle.std.specs.Prelude.{ℕ, ◌≡◌, ◌≢◌, ◌⊎◌, List, [], ◌∷◌, map, filter, flat_map, Bool, true, ◌==◌, ◌&&◌, nat_lt, IsTrue}
 use Rattle.std.specs.List.{list_all}
 use Rattle.ufs_base.specs.Images.{Image}
 use Rattle.ufs_layout.specs.Areas.{sector_of_inode}

@@ -42,6 +42,18 @@ impl SectorLists {
         }
     }
 
+    /// The lowest sector, from this one on, that may have records.
+    pub fn next_from(&self, from: u32) -> Option<u32>
+        ensures within { IfSome result (λ sector. from ≤ sector) }
+        ensures least { IfSome result (λ sector. (k : ℕ) → from ≤ k → k < sector → lists_of self.now k ≡ []) }
+        ensures none { IfNone result ((k : ℕ) → from ≤ k → lists_of self.now k ≡ []) }
+    {
+        match self.lists.range(from..).next() {
+            Some((sector, _)) => Some(*sector),
+            None => None,
+        }
+    }
+
     /// The record goes behind the others of its sector.
     pub fn push(&mut self, sector: u32, numbered: Numbered) -> Result<(), Memory>
         ensures ok { OnOk result ((k : ℕ) → lists_of self.new k ≡ with_more sector numbered (lists_of self.old) k) }

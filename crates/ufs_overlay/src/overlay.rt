@@ -1,5 +1,5 @@
 // The overlay.
-ghost use Rattle.std.specs.Prelude.{◌≡◌, ◌==◌, if◌then◌else◌, ◌≤◌, ◌<◌, ◌∷◌, ◌++◌, [], ℕ, List, false, length, IfOk, IsTrue, OnOk, OnErr};
+ghost use Rattle.std.specs.Prelude.{◌≡◌, ◌==◌, if◌then◌else◌, ◌≤◌, ◌<◌, ◌∷◌, ◌++◌, [], ℕ, List, false, length, IfSome, IfNone, IsTrue, OnOk, OnErr};
 ghost use Rattle.std.specs.List.{list_all};
 ghost use Rattle.ufs_layout.specs.Areas.{IsGeometry, sector_count};
 ghost use Rattle.ufs_layout.specs.Records.{is_record};
@@ -32,7 +32,7 @@ pub struct Overlay {
 }
 
 impl Overlay {
-    ghost use Rattle.ufs_overlay.specs.Seen.{HasAdded, geometry_of};
+    ghost use Rattle.ufs_overlay.specs.Seen.{HasAdded, geometry_of, recorded};
 
     /// No transaction. Takes no memory.
     pub fn make(alloc: Global, geometry: &Geometry) -> Overlay
@@ -93,6 +93,20 @@ impl Overlay {
         Ok(())
     }
 
+    /// The lowest sector of the image, from this one on, that a transaction may change.
+    fn next_touched(&self, from: u32) -> Option<u32>
+        ensures within { IfSome result (λ sector. (from ≤ sector) × (sector < sector_count (geometry_of self.now))) }
+        ensures least { IfSome result (λ sector. (k : ℕ) → from ≤ k → k < sector → recorded self.now k ≡ []) }
+        ensures none { IfNone result ((k : ℕ) → from ≤ k → recorded self.now k ≡ []) }
+    {
+        let sector = self.lists.next_from(from)?;
+        if sector < 8 * self.geometry.blocks {
+            Some(sector)
+        } else {
+            None
+        }
+    }
+
     /// Writes one sector home, if a transaction changes it.
     fn write_sector<D: Disk>(&self, disk: &mut D, sector: u32) -> Result<(), Fault>
         requires inside { sector < D.size disk.old }
@@ -127,8 +141,10 @@ impl Overlay {
         ensures size { D.size disk.new ≡ D.size disk.old }
         ensures cause { HasCause (D.faults disk.old) (D.faults disk.new) result }
     {
-        for sector in 0..8 * self.geometry.blocks {
+        let mut at = 0;
+        while let Some(sector) = self.next_touched(at) {
             self.write_sector(disk, sector)?;
+            at = sector + 1;
         }
         Ok(())
     }

@@ -1,4 +1,4 @@
-use Rattle.std.proofs.Common.{◌≡◌, ◌+◌, ◌++◌, List, length, take, min, ap, ◌∙◌, refl, arith, replicate, rules}
+use Rattle.std.proofs.Common.{◌≡◌, ◌++◌, List, length, take, min, ap, ◌∙◌, refl, arith, replicate, rules}
 use Rattle.ufs_layout.specs.InodeForm.{InodeForm, no_extent}
 use Rattle.ufs_layout.specs.declared.inode.Extent.{Extent}
 use Rattle.ufs_overlay.proofs.StepForms.{joined_front}
