@@ -1,0 +1,4 @@
+pub mod SectorFold
+pub mod StepForms
+pub mod ListLemmas
+pub mod Writing
