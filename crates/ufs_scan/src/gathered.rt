@@ -1,71 +1,39 @@
 // The transactions that have a commit, with their records.
-ghost use Rattle.std.specs.Prelude.{◌≡◌, ◌++◌, ◌&&◌, IfOk, OnOk};
+ghost use Rattle.std.specs.Prelude.{◌≡◌, ◌++◌, IfOk, OnOk};
 ghost use Rattle.ufs_layout.specs.Words.{placed_by};
-ghost use Rattle.ufs_image.specs.Journal.{transactions};
-ghost use Rattle.ufs_scan.specs.Gathered.{is_part, placed_in, placed_at, placed_below};
+ghost use Rattle.ufs_image.specs.Journal.{records_in, transactions};
+ghost use Rattle.ufs_scan.specs.Gathered.{is_below, placed_in, placed_below};
 ghost use Rattle.ufs_image.specs.Journal.{Transaction, committed_of};
-ghost use Rattle.std.specs.Prelude.{map};
+ghost use Rattle.std.specs.Prelude.{filter, flat_map, map};
 
 use crate::Found;
 use std::alloc::{AllocError, Global};
 use std::marker::Model;
 use ufs_layout::{Committed, CommittedList, ExtentList, LogRecord, Records};
 
-// A record and the sector in which it stands.
+// A transaction that has a commit, with that commit's number and its record sectors in the order of their
+// indexes.
 #[derive(Drop)]
-pub(crate) struct Placed {
-    sector: u32,
-    change: LogRecord,
-}
-
-impl Model for Placed {
-    ghost use Rattle.ufs_image.specs.Journal.{PlacedRecord};
-
-    ghost Value = { PlacedRecord };
-
-    ghost view = { λ p. (p.sector, p.change) };
-}
-
-impl Placed {
-    pub(crate) fn sector(&self) -> u32
-        ensures { result ≡ self.now.0 }
-    {
-        self.sector
-    }
-
-    pub(crate) fn change(&self) -> &LogRecord
-        ensures { result.now ≡ self.now.1 }
-    {
-        &self.change
-    }
-}
-
-// A transaction that has a commit, with that commit's number.
-#[derive(Drop)]
-pub(crate) struct Committing {
+pub(crate) struct Committing<'a> {
     number: u64,
-    records: Vec<Placed>,
+    sectors: Vec<&'a Found>,
 }
 
-impl Model for Committing {
+impl<'a> Model for Committing<'a> {
+    ghost use Rattle.std.specs.Prelude.{flat_map};
     ghost use Rattle.ufs_image.specs.Journal.{Transaction};
+    ghost use Rattle.ufs_scan.specs.Gathered.{placed_in};
 
     ghost Value = { Transaction };
 
-    ghost view = { λ t. record { number = t.number; records = t.records.items } };
+    ghost view = { λ t. record { number = t.number; records = flat_map (λ b. placed_in b.now) t.sectors.items } };
 }
 
-impl Committing {
-    fn make(number: u64, records: Vec<Placed>) -> Committing
-        ensures { result ≡ record { number = number; records = records.items } }
+impl<'a> Committing<'a> {
+    pub(crate) fn sectors(&self) -> &[&'a Found]
+        ensures { flat_map (λ b. placed_in b.now) result.now ≡ self.now.records }
     {
-        Committing { number, records }
-    }
-
-    pub(crate) fn records(&self) -> &[Placed]
-        ensures { result.now ≡ self.now.records }
-    {
-        self.records.as_slice()
+        self.sectors.as_slice()
     }
 
     pub(crate) fn number(&self) -> u64
@@ -105,61 +73,48 @@ fn copy_change(alloc: Global, change: &LogRecord) -> Result<LogRecord, AllocErro
     }
 }
 
-fn copy_placed(alloc: Global, sector: u32, change: &LogRecord) -> Result<Placed, AllocError>
-    ensures { IfOk result (λ copy. copy ≡ (sector, change.now)) }
+// A record sector of this transaction with a lower index.
+fn is_part_below(one: &Found, txn: u32, count: u16) -> bool
+    ensures { result ≡ is_below txn count one.now }
 {
-    Ok(Placed {
-        sector,
-        change: copy_change(alloc, change)?,
-    })
+    txn == one.txn() && (one.has_records() && one.index() < count)
 }
 
-fn copy_sector(records: &mut Vec<Placed>, alloc: Global, one: &Found) -> Result<(), AllocError>
-    ensures { OnOk result (records.new.items ≡ records.old.items ++ placed_in one.now) }
-{
-    let sector = one.sector();
-    for change in one.records() {
-        records.push(copy_placed(alloc, sector, change)?)?;
-    }
-    Ok(())
-}
-
-fn has_part(one: &Found, txn: u32, index: u16) -> bool
-    ensures { result ≡ is_part txn index one.now }
-{
-    txn == one.txn() && (one.has_records() && one.index() == index)
-}
-
-fn copy_at(
-    records: &mut Vec<Placed>,
+// Those sectors, in the order of their places.
+fn parts_below<'a>(
     alloc: Global,
-    all: &[Found],
+    all: &'a [Found],
     txn: u32,
-    index: u16,
-) -> Result<(), AllocError>
-    ensures { OnOk result (records.new.items ≡ records.old.items ++ placed_at all.now txn index) }
+    count: u16,
+) -> Result<Vec<&'a Found>, AllocError>
+    ensures { IfOk result (λ list. map (λ b. b.now) list.items ≡ filter (is_below txn count) all.now) }
 {
+    let mut list = Vec::new(alloc);
     for one in all {
-        if has_part(one, txn, index) {
-            copy_sector(records, alloc, one)?;
+        if is_part_below(one, txn, count) {
+            list.push(one)?;
         }
     }
-    Ok(())
+    Ok(list)
 }
 
-fn copy_below(alloc: Global, all: &[Found], txn: u32, count: u16) -> Result<Vec<Placed>, AllocError>
-    ensures { IfOk result (λ records. records.items ≡ placed_below all.now txn count) }
+// Those sectors, in the order of their indexes.
+fn parts_in_order<'a>(
+    alloc: Global,
+    all: &'a [Found],
+    txn: u32,
+    count: u16,
+) -> Result<Vec<&'a Found>, AllocError>
+    ensures { IfOk result (λ list. flat_map (λ b. placed_in b.now) list.items ≡ placed_below all.now txn count) }
 {
-    let mut records = Vec::new(alloc);
-    for index in 0..count {
-        copy_at(&mut records, alloc, all, txn, index)?;
-    }
-    Ok(records)
+    let mut list = parts_below(alloc, all, txn, count)?;
+    list.sort_by_key(|one| one.index())?;
+    Ok(list)
 }
 
 // By rising number.
-fn put_in_order(list: &mut Vec<Committing>, one: Committing) -> Result<(), AllocError>
-    ensures { OnOk result (list.new.items ≡ placed_by (λ (t : Transaction). t.number) one list.old.items) }
+fn put_in_order<'a>(list: &mut Vec<Committing<'a>>, one: Committing<'a>) -> Result<(), AllocError>
+    ensures { OnOk result (list.new.items ≡ placed_by (λ (t : Transaction). t.number) one.entry list.old.items) }
 {
     let mut at = 0;
     while at < list.len() && list[at].number() < one.number() {
@@ -170,7 +125,7 @@ fn put_in_order(list: &mut Vec<Committing>, one: Committing) -> Result<(), Alloc
 }
 
 // The transactions that have a commit, by rising number.
-pub(crate) fn gather(alloc: Global, all: &[Found]) -> Result<Vec<Committing>, AllocError>
+pub(crate) fn gather<'a>(alloc: Global, all: &'a [Found]) -> Result<Vec<Committing<'a>>, AllocError>
     ensures { IfOk result (λ list. list.items ≡ transactions all.now) }
 {
     let mut list = Vec::new(alloc);
@@ -179,19 +134,28 @@ pub(crate) fn gather(alloc: Global, all: &[Found]) -> Result<Vec<Committing>, Al
         at -= 1;
         let one = &all[at];
         if let Some(number) = one.commit() {
-            let records = copy_below(alloc, all, one.txn(), one.index())?;
-            put_in_order(&mut list, Committing::make(number, records))?;
+            let sectors = parts_in_order(alloc, all, one.txn(), one.index())?;
+            put_in_order(&mut list, Committing { number, sectors })?;
         }
     }
     Ok(list)
 }
 
-fn copy_records(alloc: Global, records: &[Placed]) -> Result<Records, AllocError>
-    ensures { IfOk result (λ copy. copy ≡ map (λ p. p.1) records.now) }
+fn copy_sector(list: &mut Vec<LogRecord>, alloc: Global, one: &Found) -> Result<(), AllocError>
+    ensures { OnOk result (list.new.items ≡ list.old.items ++ records_in one.now.1.content) }
 {
-    let mut list = Vec::with_capacity(alloc, records.len())?;
-    for placed in records {
-        list.push(copy_change(alloc, placed.change())?)?;
+    for change in one.records() {
+        list.push(copy_change(alloc, change)?)?;
+    }
+    Ok(())
+}
+
+fn copy_records(alloc: Global, sectors: &[&Found]) -> Result<Records, AllocError>
+    ensures { IfOk result (λ copy. copy ≡ map (λ p. p.1) (flat_map (λ b. placed_in b.now) sectors.now)) }
+{
+    let mut list = Vec::new(alloc);
+    for one in sectors {
+        copy_sector(&mut list, alloc, one)?;
     }
     Ok(Records::from_vec(list))
 }
@@ -201,7 +165,7 @@ fn copy_one(alloc: Global, one: &Committing) -> Result<Committed, AllocError>
 {
     Ok(Committed {
         number: one.number(),
-        records: copy_records(alloc, one.records())?,
+        records: copy_records(alloc, one.sectors())?,
     })
 }
 

@@ -1,0 +1,64 @@
+// The bytes of a transaction, and what a scan says of them.
+use crate::written::{HEAD, append_free, commit, geometry};
+use std::test::Fail;
+use ufs_disk::{Disk, MemoryDisk, PlainDisk, SECTOR};
+use ufs_journal::Journal;
+use ufs_scan::{ScanFault, scan};
+
+// A record sector that frees inode 2, and its commit; zeros behind.
+const RECORDS: [u8; 29] = [
+    1, 0, 0, 0, 0, 0, 0, 0, 7, 0, 0, 0, 0, 0, 1, 0, 5, 0, 0, 0, 0, 0, 0, 0, 3, 2, 0, 0, 0,
+];
+
+const COMMIT: [u8; 36] = [
+    1, 0, 0, 0, 0, 0, 0, 0, 7, 0, 0, 0, 1, 0, 2, 0, 12, 0, 0, 0, 0, 0, 0, 0, 1, 0, 0, 0, 1, 0, 0,
+    0, 0, 0, 0, 0,
+];
+
+#[test]
+fn a_transaction_takes_two_sectors(rt: HostRuntime) -> Result<(), Fail> {
+    let mut disk = PlainDisk::zeros(rt.alloc(), 2_048)?;
+    let mut journal = Journal::make(rt.alloc(), &geometry(), &HEAD)?;
+    assert_eq!(rt; journal.room(), 64);
+    assert!(rt; append_free(rt.alloc(), &mut disk, &mut journal, 7, 2)?);
+    assert_eq!(rt; journal.room(), 62);
+    assert_eq!(rt; commit(&mut disk, &mut journal, 7), Some(1));
+    let mut bytes = [9; 2 * SECTOR];
+    assert!(rt; disk.sectors() == 2_048 && disk.read(48, &mut bytes).is_ok());
+    assert!(rt; &bytes[..29] == RECORDS.as_slice());
+    assert!(rt; &bytes[SECTOR..SECTOR + 36] == COMMIT.as_slice());
+    assert!(rt; bytes[29..SECTOR].iter().all(|b| *b == 0));
+    assert!(rt; bytes[SECTOR + 36..].iter().all(|b| *b == 0));
+    Ok(())
+}
+
+#[test]
+fn a_fault_in_mid_stream_changes_nothing(rt: HostRuntime) -> Result<(), Fail> {
+    let zeros = vec![in rt.alloc(); 0u8; 2_048 * SECTOR]?;
+    let mut disk = MemoryDisk::new(rt.alloc(), 2_048, zeros, vec![in rt.alloc(); 0, 3, 8]?)?;
+    let mut journal = Journal::make(rt.alloc(), &geometry(), &HEAD)?;
+    assert!(rt; !append_free(rt.alloc(), &mut disk, &mut journal, 7, 2)?);
+    assert_eq!(rt; journal.room(), 64);
+    assert!(rt; append_free(rt.alloc(), &mut disk, &mut journal, 7, 2)?);
+    assert_eq!(rt; commit(&mut disk, &mut journal, 7), None);
+    assert_eq!(rt; commit(&mut disk, &mut journal, 7), Some(1));
+    assert!(rt; disk.sectors() == 2_048);
+    let found = scan(rt.alloc(), &mut disk, &geometry(), &HEAD);
+    assert!(rt; matches!(&found, Err(ScanFault::Device { fault: 3 })));
+    Ok(())
+}
+
+// A record sector again elsewhere in the journal is off, and the lower of the two is named.
+#[test]
+fn a_repeated_sector_is_off(rt: HostRuntime) -> Result<(), Fail> {
+    let mut disk = PlainDisk::zeros(rt.alloc(), 2_048)?;
+    let mut journal = Journal::make(rt.alloc(), &geometry(), &HEAD)?;
+    assert!(rt; append_free(rt.alloc(), &mut disk, &mut journal, 7, 2)?);
+    assert_eq!(rt; commit(&mut disk, &mut journal, 7), Some(1));
+    let mut sector = [0; SECTOR];
+    assert!(rt; disk.sectors() == 2_048 && disk.read(48, &mut sector).is_ok());
+    assert!(rt; disk.write(60, &sector).is_ok());
+    let found = scan(rt.alloc(), &mut disk, &geometry(), &HEAD);
+    assert!(rt; matches!(&found, Err(ScanFault::BadRecord { sector: 48 })));
+    Ok(())
+}
