@@ -9,3 +9,8 @@ raised count = min (count + 1) (2 ^ 64 - 1)
 pub record HasCause {T E : Type 0} (before now : ℕ) (result : Result T E) : Type 0 where
   pub failed : OnErr result (now ≡ raised before)
   pub passed : OnOk result (now ≡ before)
+
+-- One call failed: the count rose by one, to this number.
+pub record RoseTo (before now fault : ℕ) : Type 0 where
+  pub rose : now ≡ raised before
+  pub number : fault ≡ now

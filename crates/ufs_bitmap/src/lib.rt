@@ -7,4 +7,3 @@ mod word_set;
 
 pub use free_space::Bitmap;
 pub use own_pool::Pool;
-

@@ -38,4 +38,3 @@ impl Run {
 /// All 56 extents are used, and the run doesn't follow the last block.
 #[derive(Clone, Copy, Debug, PartialEq, Eq)]
 pub struct Full56;
-

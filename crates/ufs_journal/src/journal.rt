@@ -1,9 +1,9 @@
 // The journal of one epoch.
-ghost use Rattle.std.specs.Prelude.{◌≡◌, ◌≢◌, ◌≤◌, ◌<◌, ◌+◌, ◌-◌, ◌^◌, ◌++◌, ◌∷◌, [], ℕ, List, length, IsTrue, IsSome, IfOk, OnOk, OnErr, None, min};
+ghost use Rattle.std.specs.Prelude.{◌≡◌, ◌≢◌, ◌≤◌, ◌<◌, ◌+◌, ◌-◌, ◌^◌, ◌++◌, ◌∷◌, [], ℕ, List, length, IsTrue, IsSome, IfOk, IfErr, OnOk, OnErr, None, min};
 ghost use Rattle.std.specs.List.{list_all};
 ghost use Rattle.ufs_disk.specs.Disk.{State, Leaves, IsSettled};
 ghost use Rattle.ufs_disk.specs.Moments.{LeavesOnly, reads};
-ghost use Rattle.ufs_disk.specs.Faults.{HasCause};
+ghost use Rattle.ufs_base.specs.Faults.{HasCause};
 ghost use Rattle.ufs_layout.specs.Areas.{IsGeometry, sector_count};
 ghost use Rattle.ufs_image.specs.Fold.{is_in_range};
 ghost use Rattle.ufs_layout.specs.Records.{is_record};
@@ -127,6 +127,7 @@ impl Journal {
         ensures elsewhere { IsTrue D.tells → AgreeOffJournal self.old.geometry (reads (D.moments disk.new)) (reads (D.moments disk.old)) }
         ensures size { D.size disk.new ≡ D.size disk.old }
         ensures cause { HasCause (D.faults disk.old) (D.faults disk.new) result }
+        ensures number { IfErr result (λ fault. fault.number ≡ D.faults disk.new) }
     {
         let geometry = self.geometry;
         let count = write_records(
@@ -179,6 +180,7 @@ impl Journal {
         ensures elsewhere { IsTrue D.tells → AgreeOffJournal self.old.geometry (reads (D.moments disk.new)) (reads (D.moments disk.old)) }
         ensures size { D.size disk.new ≡ D.size disk.old }
         ensures cause { HasCause (D.faults disk.old) (D.faults disk.new) result }
+        ensures number { IfErr result (λ fault. fault.number ≡ D.faults disk.new) }
     {
         let geometry = self.geometry;
         let Some(one) = self.opened.get(txn) else {

@@ -1,9 +1,9 @@
 // Sectors of the journal, written to a disk.
-ghost use Rattle.std.specs.Prelude.{◌≡◌, ◌≤◌, ◌<◌, ◌+◌, ◌*◌, ◌++◌, ℕ, length, take, drop, IsTrue, OnOk, IfOk, Some};
+ghost use Rattle.std.specs.Prelude.{◌≡◌, ◌≤◌, ◌<◌, ◌+◌, ◌*◌, ◌++◌, ℕ, length, take, drop, IsTrue, OnOk, IfOk, IfErr, Some};
 ghost use Rattle.std.specs.List.{list_all};
 ghost use Rattle.ufs_disk.specs.Disk.{Leaves, IsPartlyWritten, IsSettled, overwritten, put};
 ghost use Rattle.ufs_disk.specs.Moments.{LeavesOnly, reads};
-ghost use Rattle.ufs_disk.specs.Faults.{HasCause};
+ghost use Rattle.ufs_base.specs.Faults.{HasCause};
 ghost use Rattle.ufs_layout.specs.Areas.{IsGeometry, sector_count};
 ghost use Rattle.ufs_image.specs.Fold.{is_in_range};
 ghost use Rattle.ufs_layout.specs.JournalSector.{journal_bytes, journal_of, HasCommit};
@@ -95,6 +95,7 @@ fn put_group<D: Disk>(
         (D.moments disk.old) (D.moments disk.new) }
     ensures size { D.size disk.new ≡ D.size disk.old }
     ensures cause { HasCause (D.faults disk.old) (D.faults disk.new) result }
+    ensures number { IfErr result (λ fault. fault.number ≡ D.faults disk.new) }
 {
     disk.write(journal_start(geometry) + place, bytes)
 }
@@ -130,6 +131,7 @@ pub(crate) fn write_records<D: Disk>(
         (D.moments disk.old) (D.moments disk.new) }
     ensures size { D.size disk.new ≡ D.size disk.old }
     ensures cause { HasCause (D.faults disk.old) (D.faults disk.new) result }
+    ensures number { IfErr result (λ fault. fault.number ≡ D.faults disk.new) }
 {
     let mut bytes = [0; SECTOR * GROUP as usize];
     let mut at = 0;
@@ -170,6 +172,7 @@ pub(crate) fn write_commit<D: Disk>(
         (D.moments disk.old) (D.moments disk.new) }
     ensures size { D.size disk.new ≡ D.size disk.old }
     ensures cause { HasCause (D.faults disk.old) (D.faults disk.new) result }
+    ensures number { IfErr result (λ fault. fault.number ≡ D.faults disk.new) }
 {
     let bytes = commit_sector(epoch, txn, count, number);
     disk.barrier()?;

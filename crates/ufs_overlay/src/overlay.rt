@@ -1,5 +1,5 @@
 // The overlay.
-ghost use Rattle.std.specs.Prelude.{◌≡◌, ◌==◌, if◌then◌else◌, ◌≤◌, ◌<◌, ◌∷◌, ◌++◌, [], ℕ, List, false, length, IfSome, IfNone, IsTrue, OnOk, OnErr};
+ghost use Rattle.std.specs.Prelude.{◌≡◌, ◌==◌, if◌then◌else◌, ◌≤◌, ◌<◌, ◌∷◌, ◌++◌, [], ℕ, List, false, length, IfSome, IfNone, IfErr, IsTrue, OnOk, OnErr};
 ghost use Rattle.std.specs.List.{list_all};
 ghost use Rattle.ufs_layout.specs.Areas.{IsGeometry, sector_count};
 ghost use Rattle.ufs_layout.specs.Records.{is_record};
@@ -7,7 +7,7 @@ ghost use Rattle.ufs_layout.specs.declared.records.Committed.{Committed};
 ghost use Rattle.ufs_image.specs.Fold.{is_in_range, folded};
 ghost use Rattle.ufs_disk.specs.Disk.{IsImage};
 ghost use Rattle.ufs_disk.specs.Moments.{LeavesOnly, reads};
-ghost use Rattle.ufs_disk.specs.Faults.{HasCause};
+ghost use Rattle.ufs_base.specs.Faults.{HasCause};
 ghost use Rattle.ufs_overlay.specs.declared.lists.Numbered.{Numbered};
 ghost use Rattle.ufs_overlay.specs.Lists.{lists_of};
 ghost use Rattle.ufs_overlay.specs.Over.{AreOf, IsHomeSettled, IsHomeWritten, IsStepWritten, rise_above};
@@ -87,6 +87,7 @@ impl Overlay {
             (D.moments disk.old) (D.moments disk.new) }
         ensures size { D.size disk.new ≡ D.size disk.old }
         ensures cause { HasCause (D.faults disk.old) (D.faults disk.new) result }
+        ensures number { IfErr result (λ fault. fault.number ≡ D.faults disk.new) }
     {
         disk.read(sector, buf)?;
         step_all(buf, self.lists.at(sector));
@@ -117,6 +118,7 @@ impl Overlay {
             (D.moments disk.old) (D.moments disk.new) }
         ensures size { D.size disk.new ≡ D.size disk.old }
         ensures cause { HasCause (D.faults disk.old) (D.faults disk.new) result }
+        ensures number { IfErr result (λ fault. fault.number ≡ D.faults disk.new) }
     {
         if self.lists.at(sector).is_empty() {
             return Ok(());
@@ -140,6 +142,7 @@ impl Overlay {
             (D.moments disk.old) (D.moments disk.new) }
         ensures size { D.size disk.new ≡ D.size disk.old }
         ensures cause { HasCause (D.faults disk.old) (D.faults disk.new) result }
+        ensures number { IfErr result (λ fault. fault.number ≡ D.faults disk.new) }
     {
         let mut at = 0;
         while let Some(sector) = self.next_touched(at) {
