@@ -127,7 +127,7 @@ impl Journal {
         ensures elsewhere { IsTrue D.tells → AgreeOffJournal self.old.geometry (reads (D.moments disk.new)) (reads (D.moments disk.old)) }
         ensures size { D.size disk.new ≡ D.size disk.old }
         ensures cause { HasCause (D.faults disk.old) (D.faults disk.new) result }
-        ensures number { IfErr result (λ fault. fault.number ≡ D.faults disk.new) }
+        ensures fault { IfErr result (λ fault. fault.number ≡ D.faults disk.new) }
     {
         let geometry = self.geometry;
         let count = write_records(
@@ -180,7 +180,7 @@ impl Journal {
         ensures elsewhere { IsTrue D.tells → AgreeOffJournal self.old.geometry (reads (D.moments disk.new)) (reads (D.moments disk.old)) }
         ensures size { D.size disk.new ≡ D.size disk.old }
         ensures cause { HasCause (D.faults disk.old) (D.faults disk.new) result }
-        ensures number { IfErr result (λ fault. fault.number ≡ D.faults disk.new) }
+        ensures fault { IfErr result (λ fault. fault.number ≡ D.faults disk.new) }
     {
         let geometry = self.geometry;
         let Some(one) = self.opened.get(txn) else {

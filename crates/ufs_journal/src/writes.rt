@@ -95,7 +95,7 @@ fn put_group<D: Disk>(
         (D.moments disk.old) (D.moments disk.new) }
     ensures size { D.size disk.new ≡ D.size disk.old }
     ensures cause { HasCause (D.faults disk.old) (D.faults disk.new) result }
-    ensures number { IfErr result (λ fault. fault.number ≡ D.faults disk.new) }
+    ensures fault { IfErr result (λ fault. fault.number ≡ D.faults disk.new) }
 {
     disk.write(journal_start(geometry) + place, bytes)
 }
@@ -131,7 +131,7 @@ pub(crate) fn write_records<D: Disk>(
         (D.moments disk.old) (D.moments disk.new) }
     ensures size { D.size disk.new ≡ D.size disk.old }
     ensures cause { HasCause (D.faults disk.old) (D.faults disk.new) result }
-    ensures number { IfErr result (λ fault. fault.number ≡ D.faults disk.new) }
+    ensures fault { IfErr result (λ fault. fault.number ≡ D.faults disk.new) }
 {
     let mut bytes = [0; SECTOR * GROUP as usize];
     let mut at = 0;
@@ -172,7 +172,7 @@ pub(crate) fn write_commit<D: Disk>(
         (D.moments disk.old) (D.moments disk.new) }
     ensures size { D.size disk.new ≡ D.size disk.old }
     ensures cause { HasCause (D.faults disk.old) (D.faults disk.new) result }
-    ensures number { IfErr result (λ fault. fault.number ≡ D.faults disk.new) }
+    ensures fault { IfErr result (λ fault. fault.number ≡ D.faults disk.new) }
 {
     let bytes = commit_sector(epoch, txn, count, number);
     disk.barrier()?;

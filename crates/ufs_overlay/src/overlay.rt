@@ -87,7 +87,7 @@ impl Overlay {
             (D.moments disk.old) (D.moments disk.new) }
         ensures size { D.size disk.new ≡ D.size disk.old }
         ensures cause { HasCause (D.faults disk.old) (D.faults disk.new) result }
-        ensures number { IfErr result (λ fault. fault.number ≡ D.faults disk.new) }
+        ensures fault { IfErr result (λ fault. fault.number ≡ D.faults disk.new) }
     {
         disk.read(sector, buf)?;
         step_all(buf, self.lists.at(sector));
@@ -118,7 +118,7 @@ impl Overlay {
             (D.moments disk.old) (D.moments disk.new) }
         ensures size { D.size disk.new ≡ D.size disk.old }
         ensures cause { HasCause (D.faults disk.old) (D.faults disk.new) result }
-        ensures number { IfErr result (λ fault. fault.number ≡ D.faults disk.new) }
+        ensures fault { IfErr result (λ fault. fault.number ≡ D.faults disk.new) }
     {
         if self.lists.at(sector).is_empty() {
             return Ok(());
@@ -142,7 +142,7 @@ impl Overlay {
             (D.moments disk.old) (D.moments disk.new) }
         ensures size { D.size disk.new ≡ D.size disk.old }
         ensures cause { HasCause (D.faults disk.old) (D.faults disk.new) result }
-        ensures number { IfErr result (λ fault. fault.number ≡ D.faults disk.new) }
+        ensures fault { IfErr result (λ fault. fault.number ≡ D.faults disk.new) }
     {
         let mut at = 0;
         while let Some(sector) = self.next_touched(at) {
