@@ -1,6 +1,6 @@
 -- The run of writes by which a transaction is appended.
 use Rattle.std.proofs.Common.{◌≡◌, inl, inr, ⊎_elim, ℕ, zero, suc, ◌+◌, ◌*◌, ◌/◌, ◌<◌, ◌≤◌, List, [], ◌∷◌, ◌++◌, Bool, true, false, ◌||◌, ◌&&◌, Some, length, take, drop, refl, ap, sym, ◌∙◌, subst, ◌⊎◌, arith, append_assoc, length-append, take-append-drop}
-use Rattle.std.specs.Prelude.{◌==◌, not, nat_le, if◌then◌else◌}
+use Rattle.std.specs.Prelude.{◌==◌, not, nat_le, nat_lt, if◌then◌else◌}
 use Rattle.std.specs.List.{list_any, list_all}
 use Rattle.std.proofs.lemmas.Bool.{and_left, and_right, and_cases, and_parts, leb-true, leb-false, lt-leb}
 use Rattle.std.proofs.lemmas.List.{append-nil, drop-drop, drop_all, drop_at, length-take-le, length-drop, length_push, take_all, take-append-le, take-take, drop-take}
@@ -54,7 +54,7 @@ record_fits (Delta inode kind size keep extents) is =
     let few : keep + length extents ≤ 56 = leb-true (keep + length extents) 56 most.0 in
     omega (arith, few, length-delta inode kind size keep extents)
 record_fits (Place sector slot dentry) is =
-    let parts = and_parts (nat_le slot 7) _ is in
+    let parts = and_parts (nat_lt slot 8) _ is in
     let named = and_parts (nat_le (length dentry.name) 58) _ parts.1 in
     let short : length dentry.name ≤ 58 = leb-true (length dentry.name) 58 named.0 in
     omega (arith, length-place sector slot dentry short)

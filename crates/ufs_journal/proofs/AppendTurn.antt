@@ -1,11 +1,11 @@
 -- One record sector more, while a transaction is appended.
-use Rattle.std.proofs.Common.{◌≡◌, inl, inr, ⊎_elim, ℕ, zero, suc, ◌+◌, ◌-◌, ◌<◌, ◌≤◌, List, [], ◌∷◌, ◌++◌, Bool, true, false, Some, refl, ap, sym, ◌∙◌, subst, arith}
+use Rattle.std.proofs.Common.{◌≡◌, inl, inr, ℕ, zero, suc, ◌+◌, ◌-◌, ◌<◌, ◌≤◌, List, [], ◌∷◌, ◌++◌, Bool, true, false, Some, refl, ap, sym, ◌∙◌, subst, arith}
 use Rattle.std.specs.Prelude.{◌==◌, not, nat_le}
 use Rattle.std.specs.List.{list_any, range_with_len}
 use Rattle.std.proofs.lemmas.Bool.{and_left, and_right, and_cases, cases_eq, ne_eqb, eqb-true, leb-false, lt-leb}
 use Rattle.std.proofs.lemmas.List.{append-nil}
 use Rattle.ufs_base.specs.Images.{Image}
-use Rattle.ufs_disk.specs.Disk.{State, IsImage, put}
+use Rattle.ufs_disk.specs.Disk.{State, put}
 use Rattle.ufs_disk.proofs.Images.{put_same, put_other}
 use Rattle.ufs_image.specs.Journal.{epoch_in, ReadSector, FoundSector, well_spelled}
 use Rattle.ufs_layout.specs.JournalSector.{JournalSector, HasRecords, journal_bytes, journal_of}
@@ -13,7 +13,7 @@ use Rattle.ufs_image.specs.Fold.{is_in_range}
 use Rattle.ufs_layout.specs.declared.geometry.Geometry.{Geometry}
 use Rattle.ufs_layout.specs.declared.records.LogRecord.{LogRecord}
 use Rattle.ufs_journal.specs.Found.{found, is_at, is_from, commits_txn, journal_sector, IsFreeFrom}
-use Rattle.ufs_journal.specs.Written.{HasSector, DiffersInEpoch, SaysTheSame, IsAppending}
+use Rattle.ufs_journal.specs.Written.{DiffersInEpoch, SaysTheSame, IsAppending}
 use Rattle.ufs_journal.proofs.Inserted.{any_skip, any_none}
 use Rattle.ufs_journal.proofs.Placed.{read_of, read_behind, read_none}
 use Rattle.ufs_journal.proofs.RecordWritten.{front, found_before, found_after, record_committed, record_bad}

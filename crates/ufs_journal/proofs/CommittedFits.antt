@@ -1,6 +1,6 @@
 -- What is committed in an image is on its form, and its numbers are in the ranges of their types.
 use Rattle.std.proofs.Common.{◌≡◌, ℕ, zero, suc, ◌+◌, ◌-◌, ◌^◌, ◌<◌, ◌≤◌, List, [], ◌∷◌, ◌++◌, Bool, true, false, ◌&&◌, Option, Some, None, length, take, drop, replicate, refl, ap, sym, ◌∙◌, subst, arith}
-use Rattle.std.specs.Prelude.{if◌then◌else◌, ◌==◌, nat_le, map, flat_map}
+use Rattle.std.specs.Prelude.{if◌then◌else◌, ◌==◌, nat_le, nat_lt, map, flat_map}
 use Rattle.std.specs.List.{filter, filter_map, list_all, range_with_len, cons_option, AllByRecursion}
 use Rattle.std.specs.Option.{option_map}
 use Rattle.std.proofs.lemmas.Bool.{and_parts, leb-true}
@@ -63,7 +63,7 @@ first_fits n (Delta inode kind size keep extents) rs is back = (
   subst (AllByRecursion FitsExtent) (ap first_extents back) (read_fit extents (records_bytes rs)),
 )
 first_fits n (Place sector slot dentry) rs is back =
-    let parts = and_parts (nat_le slot 7) _ is in
+    let parts = and_parts (nat_lt slot 8) _ is in
     let named = and_parts (nat_le (length dentry.name) 58) _ parts.1 in (
       small_4 sector _ (slot ∷ dentry_bytes dentry ++ records_bytes rs) refl (ap first_inode back),
       small_4 dentry.inode _ (dentry.kind ∷ length dentry.name ∷ take 58 ((dentry.name ++ replicate (58 - length dentry.name) 0) ++ records_bytes rs)) refl (ap first_size back),

@@ -1,8 +1,8 @@
 -- Setting slots of a sector again changes nothing.
 use Rattle.std.proofs.Common.{◌≡◌, ◌⊎◌, inl, inr, ⊎_elim, ℕ, ◌+◌, ◌-◌, ◌*◌, ◌≤◌, List, [], ◌∷◌, ◌++◌, Bool, true, false, ◌&&◌, length, take, drop, get_or, refl, ap, sym, ◌∙◌, arith, length-drop, append_assoc}
-use Rattle.std.specs.Prelude.{if◌then◌else◌, ◌==◌, nat_le}
+use Rattle.std.specs.Prelude.{if◌then◌else◌, ◌==◌, nat_le, nat_lt}
 use Rattle.std.specs.List.{list_all}
-use Rattle.std.proofs.lemmas.Bool.{cases_lt, and_parts, leb-true}
+use Rattle.std.proofs.lemmas.Bool.{cases_lt, and_parts, leb-true, ltb-true}
 use Rattle.std.proofs.lemmas.List.{ext_get_or, get_or-take, get_or-drop, get_or_append_left, get_or-append_right, length-append, length-take-le}
 use Rattle.ufs_image.specs.Images.{with_slot}
 use Rattle.ufs_layout.specs.DentryForm.{dentry_bytes}
@@ -89,9 +89,9 @@ setting_step g s (Place sector slot dentry) is = by (is_in_range g (Place sector
   where
     by : (b : Bool) → IsSetting (λ x. if b then with_slot slot (dentry_bytes dentry) x else x)
     by true =
-        let parts = and_parts (nat_le slot 7) _ is in
+        let parts = and_parts (nat_lt slot 8) _ is in
         let named = and_parts (nat_le (length dentry.name) 58) _ parts.1 in
-        setting_slot slot (dentry_bytes dentry) (leb-true slot 7 parts.0) (length-dentry dentry (leb-true (length dentry.name) 58 named.0))
+        setting_slot slot (dentry_bytes dentry) (let below = ltb-true slot 8 parts.0 in omega arith) (length-dentry dentry (leb-true (length dentry.name) 58 named.0))
     by false = setting_none
 setting_step g s (Free inode) is = setting_none
 

@@ -1,12 +1,12 @@
 -- The record sectors of a transaction, sorted by their indexes.
-use Rattle.std.proofs.Common.{◌≡◌, inl, inr, ⊎_elim, ℕ, ◌<◌, List, Bool, true, false, ◌&&◌, refl, ap, sym, ◌∙◌, subst, arith}
+use Rattle.std.proofs.Common.{◌≡◌, inl, inr, ℕ, ◌<◌, List, Bool, true, false, ◌&&◌, refl, ap, sym, ◌∙◌, subst, arith}
 use Rattle.std.specs.Prelude.{◌==◌, nat_lt, map, flat_map}
-use Rattle.std.specs.List.{All, filter, range_with_len}
+use Rattle.std.specs.List.{All, filter}
 use Rattle.std.specs.List.Sorted.{IsPermutation, IsNonDecreasingBy, IsStableByKey}
 use Rattle.std.specs.Ordering.{nat_cmp}
 use Rattle.std.proofs.lemmas.Bool.{and_parts, cases_eq, eq-eqb, ne_eqb, lt-ltb}
 use Rattle.std.proofs.lemmas.List.Elements.{filter_passes, All-weaker}
-use Rattle.ufs_image.specs.Journal.{FoundSector, PlacedRecord, has_records}
+use Rattle.ufs_image.specs.Journal.{FoundSector, has_records}
 use Rattle.ufs_scan.specs.Gathered.{is_part, is_below, placed_in, placed_at, placed_below}
 use Rattle.ufs_scan.proofs.Buckets.{in_order, flat_of, all_of, same_range, filter_both}
 

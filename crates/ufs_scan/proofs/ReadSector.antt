@@ -9,7 +9,8 @@ use Rattle.std.proofs.lemmas.Slice.Eq.{bytes_eq-Decides}
 use Rattle.std.proofs.lemmas.Bool.Decides.{nat_tests}
 use Rattle.ufs_disk.specs.Whole.{take_small}
 use Rattle.byteorder.specs.Endian.{little_bytes}
-use Rattle.ufs_layout.specs.Words.{number_at, is_zeros, filled_to, IsBytes}
+use Rattle.ufs_base.specs.Images.{IsBytes}
+use Rattle.ufs_layout.specs.Words.{number_at, is_zeros, filled_to}
 use Rattle.ufs_layout.specs.Records.{records_bytes, records_of, record_fields, is_record}
 use Rattle.ufs_layout.specs.JournalHead.{header_bytes, header_fields, header_of, is_header}
 use Rattle.ufs_layout.specs.JournalSector.{HasRecords, HasCommit, JournalSector, head_in, journal_bytes, journal_fields, journal_of, is_journal_sector}

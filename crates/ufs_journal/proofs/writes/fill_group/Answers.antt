@@ -1,10 +1,10 @@
-use Rattle.std.proofs.Common.{◌≡◌, ℕ, ◌+◌, ◌*◌, ◌<◌, ◌≤◌, ◌++◌, [], ◌∷◌, List, length, take, drop, ap, subst, sym, ◌∙◌, arith, rules}
+use Rattle.std.proofs.Common.{◌≡◌, ◌+◌, ◌++◌, List, length, take, drop, ap, subst, sym, ◌∙◌, arith, rules}
 use Rattle.std.proofs.lemmas.List.{length-take-le}
-use Rattle.ufs_layout.specs.JournalSector.{journal_bytes, journal_of}
+use Rattle.ufs_layout.specs.JournalSector.{journal_of}
 use Rattle.ufs_layout.specs.Records.{is_record}
 use Rattle.ufs_layout.specs.declared.records.LogRecord.{LogRecord}
 use Rattle.ufs_journal.specs.Filled.{sectors_of_records}
-use Rattle.ufs_journal.specs.Spelled.{sector_of, spelled_sectors, joined, AreReadBack}
+use Rattle.ufs_journal.specs.Spelled.{spelled_sectors, joined, AreReadBack}
 use Rattle.ufs_journal.proofs.AppendRun.{part, taken_more, rest_more, index_less, joined_push, back_push}
 use Rattle.ufs_journal.proofs.writes.fill_group.Goals as goal
 

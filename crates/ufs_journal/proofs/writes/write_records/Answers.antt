@@ -1,7 +1,6 @@
-use Rattle.std.proofs.Common.{◌≡◌, Bool, true, ◌<◌, ◌≤◌, ◌+◌, ◌*◌, ◌++◌, ℕ, List, length, take, drop, arith, refl, subst, sym, ◌∙◌, ap, rules, length-drop}
+use Rattle.std.proofs.Common.{◌≡◌, ◌≤◌, ◌+◌, ◌++◌, ℕ, List, length, take, drop, arith, refl, subst, sym, ◌∙◌, ap, rules, length-drop}
 use Rattle.std.specs.List.{list_all}
 use Rattle.std.proofs.lemmas.List.{take_all, length-take-le, drop-drop}
-use Rattle.ufs_base.specs.Images.{Image}
 use Rattle.ufs_disk.specs.Disk.{Leaves}
 use Rattle.ufs_disk.specs.Moments.{reads}
 use Rattle.ufs_disk.proofs.Images.{seen_is_image}
@@ -9,8 +8,6 @@ use Rattle.ufs_image.specs.Fold.{is_in_range}
 use Rattle.ufs_layout.specs.Records.{is_record}
 use Rattle.ufs_layout.specs.declared.records.LogRecord.{LogRecord}
 use Rattle.ufs_journal.specs.Filled.{sectors_of_records, sector_count_of}
-use Rattle.ufs_journal.specs.Found.{AgreeOffJournal}
-use Rattle.ufs_journal.specs.Spelled.{AreReadBack}
 use Rattle.ufs_journal.specs.Written.{HasAppended, IsAppending}
 use Rattle.ufs_journal.proofs.AppendRun.{all_drop, all_part, begun, begins, group_now, group_on, group_reads, none_appended, none_left, sectors_all, take_more}
 use Rattle.ufs_journal.proofs.writes.write_records.Goals as goal

@@ -1,6 +1,6 @@
-use Rattle.std.proofs.Common.{◌≡◌, ℕ, ◌<◌, ◌+◌, List, ◌∷◌, ◌++◌, length, drop, get_or, ap, sym, ◌∙◌, arith, drop-cons, add-one, Option}
+use Rattle.std.proofs.Common.{◌≡◌, ℕ, ◌<◌, ◌+◌, List, ◌∷◌, ◌++◌, length, drop, get_or, ap, sym, ◌∙◌, drop-cons, add-one, Option}
 use Rattle.std.specs.Prelude.{flat_map}
-use Rattle.ufs_image.specs.Journal.{FoundSector, PlacedRecord}
+use Rattle.ufs_image.specs.Journal.{PlacedRecord}
 use Rattle.ufs_layout.specs.declared.geometry.Geometry.{Geometry}
 use Rattle.ufs_scan.specs.Gathered.{placed_in}
 use Rattle.ufs_scan.specs.Off.{lower, lowest_of}
