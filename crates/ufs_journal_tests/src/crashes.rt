@@ -2,7 +2,7 @@
 use crate::written::{HEAD, append_free, commit, geometry};
 use std::alloc::{AllocError, Global};
 use std::test::Fail;
-use ufs_disk::{Disk, FuseDisk, PlainDisk, SECTOR};
+use ufs_disk::{Disk, Fuse, FuseDisk, PlainDisk, SECTOR};
 use ufs_journal::Journal;
 use ufs_scan::scan;
 
@@ -23,7 +23,7 @@ const ROWS: [(u64, usize, usize); 9] = [
 // Two transactions of records, over a disk that passes so many calls, and one image.
 fn crashed(alloc: Global, passes: u64, pick: u64) -> Result<Vec<u8>, AllocError> {
     let zeros = vec![in alloc; 0u8; 2_048 * SECTOR]?;
-    let mut disk = FuseDisk::new(alloc, 2_048, zeros, passes)?;
+    let mut disk = FuseDisk::new(alloc, 2_048, zeros, Fuse { passes })?;
     let mut journal = Journal::make(alloc, &geometry(), &HEAD)?;
     for txn in [7, 8] {
         if append_free(alloc, &mut disk, &mut journal, txn, txn)? {
