@@ -1,6 +1,12 @@
 -- Sectors that are written home one after the other.
 use Rattle.std.proofs.Common.{◌≡◌, inl, inr, ⊎_elim, ◌/◌, ℕ, List, [], Bool, true, length, refl, ap, sym, ◌∙◌, arith}
 use Rattle.std.specs.Prelude.{if◌then◌else◌, ◌==◌, ◌+◌, ◌<◌, ◌≤◌, nat_lt}
+use Rattle.std.specs.List.{AllByRecursion}
+use Rattle.ufs_layout.specs.Areas.{sector_count}
+use Rattle.ufs_disk.specs.Disk.{State, IsWhole}
+use Rattle.ufs_image.specs.Folding.{FitsCommitted}
+use Rattle.ufs_image.specs.CatalogLaws.{FoldsMixes}
+use Rattle.ufs_overlay.specs.Over.{FoldsAlike}
 use Rattle.std.proofs.lemmas.Bool.{cases_eq, cases_lt, eq-eqb, ne_eqb, lt-ltb, le-ltb}
 use Rattle.std.proofs.lemmas.List.{take_all}
 use Rattle.ufs_base.specs.Images.{Image}
@@ -102,3 +108,13 @@ module _ (g : Geometry) (cs : List Committed) where
     | inl lt ↦ ap (λ b. if b then folded g cs first k else first k) (lt-ltb k sector lt)
     | inr ge ↦ ap (λ b. if b then folded g cs first k else first k) (le-ltb k sector ge) ∙ sym (untouched_folded g k cs first rises (beyond ge))
   ]
+
+-- ---- what is partly written home folds to what it folded to
+
+pub folds_alike : (g : Geometry) (cs : List Committed) (size : ℕ) (state : State) → FoldsMixes g → sector_count g ≤ size → IsWhole size state → AllByRecursion FitsCommitted cs
+    → (image : Image) → IsHomeWritten g cs state image → FoldsAlike g cs state image
+folds_alike g cs size state mixes large whole fits image written = record {
+  before = written.before;
+  left = written.left;
+  alike = λ sector. mixes size written.before image cs large (λ k less. whole.within k less _ (written.left k)) fits sector (written.mixed sector);
+}

@@ -62,6 +62,12 @@ pub record IsHomeWritten (g : Geometry) (transactions : List Committed) (state :
   pub left : IsImage state before
   pub mixed : IsMixedHome g transactions before image
 
+-- an image that folds to what an image of the state folds to
+pub record FoldsAlike (g : Geometry) (transactions : List Committed) (state : State) (image : Image) : Type 0 where
+  pub before : Image
+  pub left : IsImage state before
+  pub alike : (sector : ℕ) → folded g transactions image sector ≡ folded g transactions before sector
+
 -- an image of the state, in which this sector may be written, if a record changes it
 pub record IsStepWritten (g : Geometry) (transactions : List Committed) (sector : ℕ) (state : State) (image : Image) : Type 0 where
   pub before : Image

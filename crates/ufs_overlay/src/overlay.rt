@@ -1,16 +1,17 @@
 // The overlay.
 ghost use Rattle.std.specs.Prelude.{◌≡◌, ◌==◌, if◌then◌else◌, ◌≤◌, ◌<◌, ◌∷◌, ◌++◌, [], ℕ, List, false, length, IfSome, IfNone, IfErr, IsTrue, OnOk, OnErr};
-ghost use Rattle.std.specs.List.{list_all};
+ghost use Rattle.std.specs.List.{list_all, AllByRecursion};
 ghost use Rattle.ufs_layout.specs.Areas.{IsGeometry, sector_count};
 ghost use Rattle.ufs_layout.specs.Records.{is_record};
 ghost use Rattle.ufs_layout.specs.declared.records.Committed.{Committed};
 ghost use Rattle.ufs_image.specs.Fold.{is_in_range, folded};
+ghost use Rattle.ufs_image.specs.Folding.{FitsCommitted};
 ghost use Rattle.ufs_disk.specs.Disk.{IsImage};
 ghost use Rattle.ufs_disk.specs.Moments.{LeavesOnly, reads};
 ghost use Rattle.ufs_base.specs.Faults.{HasCause};
 ghost use Rattle.ufs_overlay.specs.declared.lists.Numbered.{Numbered};
 ghost use Rattle.ufs_overlay.specs.Lists.{lists_of};
-ghost use Rattle.ufs_overlay.specs.Over.{AreOf, IsHomeSettled, IsHomeWritten, IsStepWritten, rise_above};
+ghost use Rattle.ufs_overlay.specs.Over.{AreOf, FoldsAlike, IsHomeSettled, IsHomeWritten, IsStepWritten, rise_above};
 ghost use Rattle.ufs_overlay.specs.Steps.{stepped_all};
 
 use crate::adding::put_all;
@@ -19,6 +20,7 @@ use crate::step::{read_inode, step};
 use std::alloc::Global;
 use ufs_base::Memory;
 use ufs_disk::{Disk, Fault, SECTOR};
+use ufs_image::home_law;
 use ufs_layout::{Committed, Geometry};
 
 /// Committed transactions over the home sectors of an image.
@@ -140,10 +142,17 @@ impl Overlay {
             → IsHomeSettled (geometry_of self.now) added (D.moments disk.old).state
             → LeavesOnly D.keeps (IsHomeWritten (geometry_of self.now) added (D.moments disk.old).state)
             (D.moments disk.old) (D.moments disk.new) }
+
+        // So whatever a crash leaves folds to what it folded to before.
+        ensures folds { IsTrue D.tells → (added : List Committed) → HasAdded self.now added → AllByRecursion FitsCommitted added
+            → IsHomeSettled (geometry_of self.now) added (D.moments disk.old).state
+            → LeavesOnly D.keeps (FoldsAlike (geometry_of self.now) added (D.moments disk.old).state)
+            (D.moments disk.old) (D.moments disk.new) }
         ensures size { D.size disk.new ≡ D.size disk.old }
         ensures cause { HasCause (D.faults disk.old) (D.faults disk.new) result }
         ensures fault { IfErr result (λ fault. fault.number ≡ D.faults disk.new) }
     {
+        home_law(&self.geometry);
         let mut at = 0;
         while let Some(sector) = self.next_touched(at) {
             self.write_sector(disk, sector)?;

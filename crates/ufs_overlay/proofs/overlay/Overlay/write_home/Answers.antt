@@ -3,7 +3,9 @@ use Rattle.std.specs.Prelude.{if◌then◌else◌}
 use Rattle.std.proofs.lemmas.Bool.{le-ltb}
 use Rattle.ufs_disk.specs.Moments.{reads}
 use Rattle.ufs_image.specs.Fold.{folded}
-use Rattle.ufs_overlay.proofs.Writing.{AreBelow, begun, turn, read_skip, read_turn, read_all}
+use Rattle.ufs_disk.proofs.Runs.{weaker}
+use Rattle.ufs_overlay.specs.Over.{IsHomeWritten, FoldsAlike}
+use Rattle.ufs_overlay.proofs.Writing.{folds_alike, AreBelow, begun, turn, read_skip, read_turn, read_all}
 use Rattle.ufs_overlay.proofs.overlay.Overlay.write_home.Goals as goal
 
 pub loop-sector-init : goal.loop-sector-init
@@ -44,3 +46,15 @@ pub returns-clause-ok : goal.returns-clause-ok
 returns-clause-ok g c told added has k =
     read_all c.args.self.now.geometry added has.rising c.loop-sector.at (reads (g.D.Disk.moments c.args.disk.now)) (reads (g.D.Disk.moments c.loop-sector.disk)) (c.loop-sector.invariant.read told added has) k
     (λ from. sym (has.each k) ∙ c.in_default.ensures.none k from)
+
+pub returns-clause-folds : goal.returns-clause-folds
+returns-clause-folds g c told added has fits settled =
+    weaker g.D.Disk.keeps (IsHomeWritten c.args.self.now.geometry added (g.D.Disk.moments c.args.disk.now).state) (FoldsAlike c.args.self.now.geometry added (g.D.Disk.moments c.args.disk.now).state)
+    (folds_alike c.args.self.now.geometry added (g.D.Disk.size c.args.disk.now) (g.D.Disk.moments c.args.disk.now).state c.home_law.ensures c.requires (g.met.D.Disk.whole told c.args.disk.now) fits)
+    _ _ (c.loop-sector.invariant.crash told added has settled)
+
+pub returns-in_err-write_sector-clause-folds : goal.returns-in_err-write_sector-clause-folds
+returns-in_err-write_sector-clause-folds g c told added has fits settled =
+    weaker g.D.Disk.keeps (IsHomeWritten c.args.self.now.geometry added (g.D.Disk.moments c.args.disk.now).state) (FoldsAlike c.args.self.now.geometry added (g.D.Disk.moments c.args.disk.now).state)
+    (folds_alike c.args.self.now.geometry added (g.D.Disk.size c.args.disk.now) (g.D.Disk.moments c.args.disk.now).state c.home_law.ensures c.requires (g.met.D.Disk.whole told c.args.disk.now) fits)
+    _ _ (returns-in_err-write_sector-clause-crash g c told added has settled)
