@@ -7,7 +7,11 @@ use Rattle.ufs_model.specs.declared.data.PartName.{PartName}
 use Rattle.ufs_model.specs.declared.data.Entry.{Entry}
 use Rattle.ufs_sound.specs.Owned.{Has, times}
 use Rattle.ufs_sound.specs.Parts.{View, World, Word, Start, Shortage, StorePart, only_one, kept_of, given_of, both_of, spent, later, either, uses, file_uses, pool_uses, names_uses, store_uses, is_client, is_asked, is_file, is_names, is_store}
-use Rattle.ufs_sound.specs.Sound.{IsSound, IsHeld, AreFaultsOnce, IsClockTrue, Showing}
+use Rattle.ufs_sound.specs.Sound.{IsSound}
+use Rattle.ufs_sound.specs.OneHand.{IsHeld}
+use Rattle.ufs_sound.specs.FaultsOnce.{AreFaultsOnce}
+use Rattle.ufs_sound.specs.ClockTrue.{IsClockTrue}
+use Rattle.ufs_sound.specs.Explained.{Showing}
 use Rattle.ufs_sound.proofs.Owning.{cut_holds, join_holds, weigh_cut, weigh_append, split_total, join_total, all_set, all_split, has_append}
 use Rattle.ufs_sound.proofs.Keys.{itself, alike, one_itself, one_alike}
 

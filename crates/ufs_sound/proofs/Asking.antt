@@ -6,7 +6,12 @@ use lib.ListN.{get_elem?}
 use Rattle.ufs_model.specs.declared.data.Op.{Op}
 use Rattle.ufs_sound.specs.Owned.{one, present, Has, count, times, replaced}
 use Rattle.ufs_sound.specs.Parts.{ClientPart, AskedPart, Shortage, View, World, Word, Start, only_one, uses}
-use Rattle.ufs_sound.specs.Sound.{IsSound, IsHeld, DoPartsStay, AreTicketsOnce, IsOneHistory, IsAskedTrue, IsStill, IsAnswered, Showing}
+use Rattle.ufs_sound.specs.Sound.{IsSound}
+use Rattle.ufs_sound.specs.OneHand.{IsHeld, DoPartsStay}
+use Rattle.ufs_sound.specs.TicketsOnce.{AreTicketsOnce}
+use Rattle.ufs_sound.specs.Legal.{IsOneHistory}
+use Rattle.ufs_sound.specs.Asked.{IsAskedTrue, IsStill, IsAnswered}
+use Rattle.ufs_sound.specs.Explained.{Showing}
 use Rattle.ufs_sound.specs.Marks.{MayAsk, asking, asking_client, asking_asked, asked_by}
 use Rattle.ufs_sound.proofs.Owning.{all_set, change_total, count_has, has_each, weigh_each, same_some, replaced_back, replaced_present, same_holds, once_in}
 use Rattle.ufs_sound.proofs.Keys.{itself, alike}

@@ -6,9 +6,10 @@ use Rattle.ufs_model.specs.declared.data.Lease.{Lease}
 use Rattle.ufs_model.specs.declared.data.PartName.{PartName}
 use Rattle.ufs_model.specs.declared.data.PartName.TheVariants as name
 use Rattle.ufs_sound.specs.Owned.{Has, count, Held, times}
-use Rattle.ufs_sound.specs.Leases.{IsListed}
+use Rattle.ufs_sound.specs.LeasesTrue.{IsListed}
 use Rattle.ufs_sound.specs.Parts.{NamesPart, Shortage, View, World, Word, Start, only_one, uses}
-use Rattle.ufs_sound.specs.Sound.{IsSound, Showing}
+use Rattle.ufs_sound.specs.Sound.{IsSound}
+use Rattle.ufs_sound.specs.Explained.{Showing}
 use Rattle.ufs_sound.specs.Clock.{looked, at_clock, ticked}
 use Rattle.ufs_sound.proofs.Owning.{all_set, change_total, same_holds}
 use Rattle.ufs_sound.proofs.Exchange.{one_exchanged, names_are}
@@ -124,7 +125,7 @@ module _ (S : Showing) (k : Start) (word : Word) (views : List View) (i : ℕ) (
       };
       disk_bytes = o.disk_bytes;
       holds = o.holds;
-      explained = let z = o.explained in record { marked = z.marked; lent = z.lent; lent_names = z.lent_names; now = z.now; ended = z.ended; joined = z.joined; past = z.past };
+      explained = λ told. let z = o.explained told in record { marked = z.marked; lent = z.lent; lent_names = z.lent_names; now = z.now; ended = z.ended; joined = z.joined; past = z.past };
       faults_once = record {
         single = o.faults_once.single;
         device = λ n. let a = change_total (λ (u : View). times n u.faults) views i v w at refl in let b = o.faults_once.device n in omega arith;

@@ -26,7 +26,7 @@ use Rattle.ufs_prefix.specs.Changes.{change_of, names_by}
 use Rattle.ufs_sound.specs.Covers.{step_in}
 use Rattle.ufs_sound.specs.Parts.{ClientPart, FilePart, View, HoldsPart}
 use Rattle.ufs_sound.specs.Marks.{IsSingle}
-use Rattle.ufs_sound.specs.Leases.{IsTrueOf, IsLeaseHeld, leased_file}
+use Rattle.ufs_sound.specs.LeasesTrue.{IsTrueOf, IsLeaseHeld, leased_file}
 use Rattle.ufs_sound.specs.Draws.{IsUnchanged, Leaves, entry_of, IsIn, IsAbsent, DrawsOn, MayDraw}
 use Rattle.ufs_sound.proofs.Owning.{count_has, has_count, has_find, same_some}
 use Rattle.ufs_sound.proofs.Keys.{itself, alike}
@@ -92,7 +92,7 @@ module _ (f : Fresh) (v : View) (single : IsSingle v) (self : ClientPart) (clien
     blocks = λ b. refl;
     dropped = λ g p h z. let c = count_has eqb itself alike g p v.files h in absurd (omega arith);
     kept = λ g p q a b c o. subst (λ (x : FilePart). Has c x.blocks ⊎ Has c x.quarantine) (same_file g p q a b) o;
-    loaded = λ g p q a b place c there out. let e = same_file g p q a b in (ap (λ (x : FilePart). slice_get x.blocks place) e ∙ there, ap (λ x. Rattle.ufs_sound.specs.Sound.is_loaded x place) e ∙ out, ap (λ (x : FilePart). Rattle.ufs_sound.specs.Sound.block_in x.bytes place) (sym e));
+    loaded = λ g p q a b place c there out. let e = same_file g p q a b in (ap (λ (x : FilePart). slice_get x.blocks place) e ∙ there, ap (λ x. Rattle.ufs_sound.specs.DiskBytes.is_loaded x place) e ∙ out, ap (λ (x : FilePart). Rattle.ufs_sound.specs.DiskBytes.block_in x.bytes place) (sym e));
     device = λ n e. absurd (device n e);
     stopped = λ n e. absurd (stopped n e);
     short = λ a b e. absurd (short a b e);

@@ -20,7 +20,7 @@ use Rattle.ufs_model.specs.declared.data.Reply.TheVariants as reply
 use Rattle.ufs_model.specs.declared.data.PartName.{PartName}
 use Rattle.ufs_model.specs.declared.data.PartName.TheVariants as part
 use Rattle.ufs_sound.specs.Owned.{one}
-use Rattle.ufs_sound.specs.Sound.{told, tells}
+use Rattle.ufs_sound.specs.FaultsOnce.{told, tells}
 
 -- ---- a request touches no other client
 

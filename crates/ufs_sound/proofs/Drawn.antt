@@ -4,7 +4,8 @@ use mathlib.Core.Option.{some}
 use lib.ListN.{get_elem?}
 use Rattle.ufs_model.specs.declared.data.Entry.{Entry}
 use Rattle.ufs_sound.specs.Parts.{uses, View, World, Word, Start}
-use Rattle.ufs_sound.specs.Sound.{IsSound, Showing}
+use Rattle.ufs_sound.specs.Sound.{IsSound}
+use Rattle.ufs_sound.specs.Explained.{Showing}
 use Rattle.ufs_sound.specs.Draws.{MayDraw}
 use Rattle.ufs_sound.proofs.Owning.{change_total}
 use Rattle.ufs_sound.proofs.Draw.Setting

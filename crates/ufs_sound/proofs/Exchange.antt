@@ -5,7 +5,7 @@ use native.Mathlib.Decide.{dec_le}
 use lib.ListN.{get_elem?}
 use Rattle.ufs_sound.specs.Owned.{present, Has, count, Held, find, replaced}
 use Rattle.ufs_sound.specs.Parts.{View, World, NamesPart, StorePart, only_one}
-use Rattle.ufs_sound.specs.Sound.{IsHeld}
+use Rattle.ufs_sound.specs.OneHand.{IsHeld}
 pub use Rattle.ufs_sound.specs.Marks.{value_after}
 use Rattle.ufs_sound.proofs.Owning.{replace_holds, once_in, present_find, has_find, has_count, same_some}
 use Rattle.ufs_sound.proofs.Keys.{itself, alike, one_itself, one_alike}

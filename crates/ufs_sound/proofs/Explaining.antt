@@ -6,8 +6,10 @@ use Rattle.ufs_model.specs.PosixTree.{Paths}
 use Rattle.ufs_model.specs.Laws.{KeepsTrees}
 use Rattle.ufs_sound.specs.Covers.{CoversFile, CoversNames, CoversBirths}
 use Rattle.ufs_sound.specs.Parts.{Cells, View, Word, Start, committed}
-use Rattle.ufs_sound.specs.Sound.{IsSound, IsDiskExplained, Showing}
+use Rattle.ufs_sound.specs.Sound.{IsSound}
+use Rattle.ufs_sound.specs.Explained.{IsDiskExplained, Showing}
 use Rattle.ufs_sound.proofs.Lists.{take_front}
+use Rattle.ufs_sound.specs.Parts.{IsDiskTold}
 
 module _ (keeps : KeepsTrees) (S : Showing) (k : Start) (word : Word) (views : List View) (o : IsSound S k word views) where
   -- what shows the first entries by numbers that cover the whole is explained by them
@@ -19,10 +21,10 @@ module _ (keeps : KeepsTrees) (S : Showing) (k : Start) (word : Word) (views : L
       (subst (λ h. CoversNames k.tree h o.world.store.names) rest.1 o.committed_numbers.names.covers)
       (subst (λ h. CoversBirths k.tree h o.world.store.names) rest.1 o.committed_numbers.births)
 
-  pub disk_explained : IsDiskExplained S k word o.history o.world.store
-  disk_explained = record {
-    joined = o.explained.joined;
-    marked = o.explained.marked;
-    past = o.explained.past;
-    now = λ j low high. explains_cut j o.world.store.paths o.world.store.state (o.explained.now j low high);
+  pub disk_explained : IsDiskTold k → IsDiskExplained S k word o.history o.world.store
+  disk_explained told = record {
+    joined = (o.explained told).joined;
+    marked = (o.explained told).marked;
+    past = (o.explained told).past;
+    now = λ j low high. explains_cut j o.world.store.paths o.world.store.state ((o.explained told).now j low high);
   }

@@ -7,7 +7,8 @@ use Rattle.std.specs.Cmp.{nat_cmp_total}
 use Rattle.ufs_model.proofs.Facts.Lookups.{inserted_here, inserted_else}
 use Rattle.ufs_sound.specs.Owned.{Has, count, times, weigh}
 use Rattle.ufs_sound.specs.Parts.{Cells, FilePart, NamesPart, StorePart, View, Start, only_one, uses, file_uses, names_uses, dropped_uses, store_uses, committed}
-use Rattle.ufs_sound.specs.Sound.{Showing, block_on, is_loaded}
+use Rattle.ufs_sound.specs.Explained.{Showing}
+use Rattle.ufs_sound.specs.DiskBytes.{block_on, is_loaded}
 use Rattle.ufs_sound.specs.Marks.{value_after, IsSingle, StoreGoes, NamesGo, IsQuiet, IsTurn, AreAnswers, RemakesOn, MayRemake}
 use Rattle.ufs_sound.specs.Events.{IsFileMoved, AreNamesMoved, Moved, moved, MayMove, IsLent, turn_begun, turning, IsFileTold, told_files, MayTell, blocks_dropped, NamesCommit, names_committed, committed_names, naming, MayCommitNames, file_committed, committed_part, committing, MayCommitFile}
 use Rattle.ufs_sound.proofs.Owning.{has_find, same_some, count_has}
@@ -106,7 +107,7 @@ module _ (S : Showing) (k : Start) (n : ℕ) (v : View) (m : Moved) (may : MayMo
         names_known = λ l _. let e = ap (λ (u : NamesPart). u.known) names_moved.same in let c = ap (λ (x : StorePart). x.names) store_moved in (omega arith, omega arith);
         names_born = λ g h. inl (subst (λ (u : NamesPart). Has g u.born) names_moved.same h);
       };
-      disk = record {
+      disk = λ told. record {
         disk = λ b z l. state_same b;
         loaded = λ g x y a b place c there out. let r = (file_moved g x y a b).loaded place c there out in inr (r.0, r.1, state_same c);
       };
@@ -166,8 +167,8 @@ module _ (S : Showing) (k : Start) (n : ℕ) (v : View) (s0 : StorePart) (has : 
       past = ap (λ (z : StorePart). z.past) is;
       lent = λ g m h. let x = l.files g m (subst (Has (g, m)) (ap (λ (z : StorePart). z.lent) is) h) in (x.0, x.1, (let e = x.2 in omega arith));
       lent_names = let a = ap (λ (z : StorePart). z.lent_names) is in let b = lent_few in omega arith;
-      inside = λ h c sh x none. absurd none;
-      end = λ h c sh. subst (λ (z : StorePart). S.Shows k.tree h (committed z) z.names z.paths z.state) (sym is) sh;
+      inside = λ told h c sh x none. absurd none;
+      end = λ told h c sh. subst (λ (z : StorePart). S.Shows k.tree h (committed z) z.names z.paths z.state) (sym is) sh;
     }
 
     pub turn_on : RemakesOn S k n v turned s t p q
@@ -188,7 +189,7 @@ module _ (S : Showing) (k : Start) (n : ℕ) (v : View) (s0 : StorePart) (has : 
         names_known = λ m _. let e = ap (λ (u : NamesPart). u.known) names_stay in let c = ap (λ (z : StorePart). z.names) is in (omega arith, omega arith);
         names_born = λ g h. inl (subst (λ (u : NamesPart). Has g u.born) names_stay h);
       };
-      disk = record {
+      disk = λ told. record {
         disk = λ b z m. ap (λ (z : StorePart). block_on z.state b) is;
         loaded = λ g x y a b place c there out.
             let e = file_here g x y a b in
@@ -256,7 +257,7 @@ module _ (S : Showing) (k : Start) (n : ℕ) (v : View) (s0 : StorePart) (fs : L
         names_known = λ m _. let e = ap (λ (u : NamesPart). u.known) same_names in let c = ap (λ (z : StorePart). z.names) still in (omega arith, omega arith);
         names_born = λ g h. inl (subst (λ (u : NamesPart). Has g u.born) same_names h);
       };
-      disk = record {
+      disk = λ told. record {
         disk = λ b z m. ap (λ (z : StorePart). block_on z.state b) still;
         loaded = λ g x y a b place c there out.
             let e = (file_told g x y a b).0 in
@@ -376,13 +377,13 @@ module _ (S : Showing) (k : Start) (n : ℕ) (v : View) (g : ℕ) (x : FilePart)
         names_known = λ m _. (omega arith, m);
         names_born = λ h i. inl i;
       };
-      disk = record {
-        disk = may.others;
+      disk = λ told. record {
+        disk = may.others told;
         loaded = λ h z y a b place c got out.
             let e = (mine h z a).1 in let f = (new h y b).1 in
             let got' : slice_get x.blocks place ≡ Some c = ap (λ (u : FilePart). slice_get u.blocks place) (sym f) ∙ got in
             let out' : is_loaded x place ≡ false = ap (λ u. is_loaded u place) (sym f) ∙ out in
-            inr (ap (λ (u : FilePart). slice_get u.blocks place) e ∙ got', ap (λ u. is_loaded u place) e ∙ out', may.own place c got' out');
+            inr (ap (λ (u : FilePart). slice_get u.blocks place) e ∙ got', ap (λ u. is_loaded u place) e ∙ out', may.own told place c got' out');
       };
       shown = inr (record {
         through = through;
@@ -392,8 +393,8 @@ module _ (S : Showing) (k : Start) (n : ℕ) (v : View) (g : ℕ) (x : FilePart)
         lent = λ h m a. ⊎_elim (λ (e : (h, m) ≡ (g, length x.changes)).
             (x, subst (λ y. Has (y, x) v.files) (sym (ap (λ (q : ℕ × ℕ). q.0) e)) there, (let c = ap (λ (q : ℕ × ℕ). q.1) e in omega arith))) (λ e. absurd e) a;
         lent_names = omega arith;
-        inside = λ h had shows d i. may.inside h (λ e. had.files g x there (subst (Has {A = ℕ × ℕ} (g, length x.changes)) e (inl refl))) shows d i;
-        end = λ h has shows. may.end h (has.files g x there) shows;
+        inside = λ told h had shows d i. may.inside told h (λ e. had.files g x there (subst (Has {A = ℕ × ℕ} (g, length x.changes)) e (inl refl))) shows d i;
+        end = λ told h has shows. may.end told h (has.files g x there) shows;
       });
       answers = answers_stay v commits s0 (made s0) refl refl refl refl refl refl;
     }
@@ -471,13 +472,13 @@ module _ (S : Showing) (k : Start) (n : ℕ) (v : View) (p0 : NamesPart) (s0 : S
         names_known = λ l few. (omega arith, omega arith);
         names_born = may.born;
       };
-      disk = record {
-        disk = may.others;
+      disk = λ told. record {
+        disk = may.others told;
         loaded = λ g x y a b place z there out.
             let e = file_is g x y a b in
             let there' = ap (λ (u : FilePart). slice_get u.blocks place) e ∙ there in
             let out' = ap (λ u. is_loaded u place) e ∙ out in
-            inr (there', out', may.own g x a place z there' out');
+            inr (there', out', may.own told g x a place z there' out');
       };
       shown = inr (record {
         through = c.through;
@@ -486,8 +487,8 @@ module _ (S : Showing) (k : Start) (n : ℕ) (v : View) (p0 : NamesPart) (s0 : S
         past = refl;
         lent = λ g m a. absurd a;
         lent_names = omega arith;
-        inside = λ h had shows d i. may.inside h had.names shows d i;
-        end = λ h has shows. may.end h has.names shows;
+        inside = λ told h had shows d i. may.inside told h had.names shows d i;
+        end = λ told h has shows. may.end told h has.names shows;
       });
       answers = answers_stay v named s0 t0 refl refl refl refl refl refl;
     }

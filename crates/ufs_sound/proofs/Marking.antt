@@ -11,13 +11,22 @@ use Rattle.ufs_model.specs.Laws.{KeepsTrees}
 use Rattle.ufs_model.specs.declared.data.Lease.{Lease}
 use Rattle.ufs_model.specs.declared.data.PartName.{PartName}
 use Rattle.ufs_model.specs.declared.data.PartName.TheVariants as name
-use Rattle.ufs_sound.specs.Leases.{IsListed}
+use Rattle.ufs_sound.specs.LeasesTrue.{IsListed}
 use Rattle.ufs_sound.specs.Owned.{one, weigh, present, Has, count, times, replaced}
 use Rattle.ufs_prefix.specs.Changes.{NameState, changes_of, name_changes}
 use Rattle.ufs_prefix.proofs.Facts.Histories.{changes_of-append, name_changes-append}
 use Rattle.ufs_sound.specs.Covers.{IsBornBy}
 use Rattle.ufs_sound.specs.Parts.{FilePart, NamesPart, StorePart, Cells, Stretch, Shortage, View, World, Word, Start, only_one, uses, file_uses, committed, is_holder}
-use Rattle.ufs_sound.specs.Sound.{IsSound, IsHeld, DoPartsStay, IsOneHistory, FitsFile, FitsNames, IsCommittedHeld, AreCommittedNumbers, HasDiskBytes, is_loaded, block_in, block_on, AreHoldsTrue, AreJoined, AreStatesExplained, AreFaultsOnce, IsClockTrue, Showing}
+use Rattle.ufs_sound.specs.Sound.{IsSound}
+use Rattle.ufs_sound.specs.OneHand.{IsHeld, DoPartsStay}
+use Rattle.ufs_sound.specs.Legal.{IsOneHistory, FitsFile, FitsNames}
+use Rattle.ufs_sound.specs.CommittedHeld.{IsCommittedHeld}
+use Rattle.ufs_sound.specs.CommittedNumbers.{AreCommittedNumbers}
+use Rattle.ufs_sound.specs.DiskBytes.{HasDiskBytes, is_loaded, block_in, block_on}
+use Rattle.ufs_sound.specs.Holds.{AreHoldsTrue}
+use Rattle.ufs_sound.specs.Explained.{AreJoined, AreStatesExplained, Showing}
+use Rattle.ufs_sound.specs.FaultsOnce.{AreFaultsOnce}
+use Rattle.ufs_sound.specs.ClockTrue.{IsClockTrue}
 use Rattle.ufs_sound.specs.Marks.{IsSingle, StoreGoes, NamesGo, IsMadeBy, HadChanges, HasChanges, IsQuiet, IsTurn, RemakesOn, MayRemake}
 use Rattle.ufs_sound.proofs.Owning.{total_set, total_at, total_two, all_set, change_total, count_has, has_count, same_some, replaced_back, replaced_else, replaced_here, replaced_count, replaced_present, same_holds, once_in, some_view}
 use Rattle.ufs_sound.proofs.Keys.{itself, alike, one_itself, one_alike}
@@ -25,6 +34,7 @@ use Rattle.ufs_sound.proofs.Exchange.{value_after, value_case, kind_exchanged, o
 use Rattle.ufs_sound.proofs.Lists.{take_whole, front_same, take_front, take_more}
 use Rattle.ufs_sound.proofs.Explaining.{explains_cut}
 use Rattle.ufs_sound.proofs.Covering.{changes_front, names_front, covers_more, names_more, born_more, births_more}
+use Rattle.ufs_sound.specs.Parts.{IsDiskTold}
 
 -- ---- small facts
 
@@ -234,13 +244,13 @@ module _ (keeps : KeepsTrees) (S : Showing) (k : Start) (word : Word) (views : L
       names_born = λ g x. ⊎_elim (λ z. born_rises g (o.committed_numbers.names_born g z)) (λ z. named_born g z) (r.rise.names_born g x);
     }
 
-    disk_remade : HasDiskBytes remade
-    disk_remade g y is place b there out = ⊎_elim
+    disk_remade : IsDiskTold k → HasDiskBytes remade
+    disk_remade told g y is place b there out = ⊎_elim
         (λ (c : (x : FilePart) × Has (g, x) v.files × (o.world.file g ≡ Some x) × Has (g, y) w.files × Remade x y).
         let bytes : y.bytes ≡ c.0.bytes = ap (λ (z : FilePart). z.bytes) c.4 in
         let goal : block_on remade.store.state b ≡ block_in c.0.bytes place = ⊎_elim (λ e. e)
-        (λ (z : (slice_get c.0.blocks place ≡ Some b) × (is_loaded c.0 place ≡ false) × (block_on remade.store.state b ≡ block_on o.world.store.state b)). z.2 ∙ o.disk_bytes g c.0 c.2 place b z.0 z.1)
-        (r.disk.loaded g c.0 y c.1 c.3 place b there out) in
+        (λ (z : (slice_get c.0.blocks place ≡ Some b) × (is_loaded c.0 place ≡ false) × (block_on remade.store.state b ≡ block_on o.world.store.state b)). z.2 ∙ o.disk_bytes told g c.0 c.2 place b z.0 z.1)
+        ((r.disk told).loaded g c.0 y c.1 c.3 place b there out) in
         goal ∙ ap (λ z. block_in z place) (sym bytes))
         (λ (c : (count eqb g v.files ≡ 0) × (o.world.file g ≡ Some y)).
         let s = some_view eqb itself alike (λ (u : View). u.files) o.world.file views o.one_hand.files g y c.1 in
@@ -248,7 +258,7 @@ module _ (keeps : KeepsTrees) (S : Showing) (k : Start) (word : Word) (views : L
         let two = total_two (uses b) views i s.0 v s.1 at s.2 ne in
         let one_use = used_by b s.1 g y place s.3 there in
         let sum = o.blocks_apart.same b in let most = o.blocks_apart.once b in
-        r.disk.disk b (omega arith) (omega arith) ∙ o.disk_bytes g y c.1 place b there out)
+        (r.disk told).disk b (omega arith) (omega arith) ∙ o.disk_bytes told g y c.1 place b there out)
         (file_case g y is)
       where
         apart : (j : ℕ) (u : View) → get_elem? views j ≡ some u → Has (g, y) u.files → count eqb g v.files ≡ 0 → j ≡ i → ⊥
@@ -285,26 +295,26 @@ module _ (keeps : KeepsTrees) (S : Showing) (k : Start) (word : Word) (views : L
     all_history : take n o.history ≡ o.history
     all_history = take_whole n o.history (sym o.tickets_once.tickets)
 
-    quiet_told : IsQuiet o.world.store remade.store → AreStatesExplained S k word o.history remade.store
-    quiet_told q = record {
-      marked = let a = q.mark in let b = o.explained.marked in omega arith;
-      lent = λ g c x. subst (λ z. c ≤ length (changes_of g k.tree (take z o.history))) (sym q.mark) (o.explained.lent g c (subst (Has (g, c)) q.lent x));
-      lent_names = subst (λ z. remade.store.lent_names ≤ length (name_changes k.tree (take z o.history))) (sym q.mark) (let a = o.explained.lent_names in let b = q.lent_names in omega arith);
-      now = λ j low high. shown_by j (o.explained.now j (let a = q.mark in omega arith) high);
-      ended = λ x h. let a = o.explained.ended x (subst (Has x) q.past h) in let b = q.mark in omega arith;
-      joined = subst (λ (z : List Stretch × ℕ). AreJoined z.0 z.1) (λ l. (sym q.past l, sym q.mark l)) o.explained.joined;
-      past = λ x h. o.explained.past x (subst (Has x) q.past h);
+    quiet_told : IsDiskTold k → IsQuiet o.world.store remade.store → AreStatesExplained S k word o.history remade.store
+    quiet_told told q = record {
+      marked = let a = q.mark in let b = (o.explained told).marked in omega arith;
+      lent = λ g c x. subst (λ z. c ≤ length (changes_of g k.tree (take z o.history))) (sym q.mark) ((o.explained told).lent g c (subst (Has (g, c)) q.lent x));
+      lent_names = subst (λ z. remade.store.lent_names ≤ length (name_changes k.tree (take z o.history))) (sym q.mark) (let a = (o.explained told).lent_names in let b = q.lent_names in omega arith);
+      now = λ j low high. shown_by j ((o.explained told).now j (let a = q.mark in omega arith) high);
+      ended = λ x h. let a = (o.explained told).ended x (subst (Has x) q.past h) in let b = q.mark in omega arith;
+      joined = subst (λ (z : List Stretch × ℕ). AreJoined z.0 z.1) (λ l. (sym q.past l, sym q.mark l)) (o.explained told).joined;
+      past = λ x h. (o.explained told).past x (subst (Has x) q.past h);
     }
       where
         shown_by : (j : ℕ) → S.Shows k.tree (take j o.history) (committed o.world.store) o.world.store.names o.world.store.paths o.world.store.state → S.Shows k.tree (take j o.history) (committed remade.store) remade.store.names remade.store.paths remade.store.state
         shown_by j x = subst (λ (z : (ℕ → ℕ) × ℕ × Option Paths × Cells). S.Shows k.tree (take j o.history) z.0 z.1 z.2 z.3) (λ l. ((λ g. sym (q.files g) l), sym q.names l, sym q.paths l, sym q.state l)) x
 
     -- the parts lent since the last mark had their changes already then
-    had : (j : ℕ) → o.world.store.mark ≤ j → HadChanges k v o.world.store o.world.names (take j o.history)
-    had j low = record {
+    had : IsDiskTold k → (j : ℕ) → o.world.store.mark ≤ j → HadChanges k v o.world.store o.world.names (take j o.history)
+    had told j low = record {
       files = λ g x h lent.
           let fits = (o.legal.files g x (o.one_hand.files.agree i v at g x h)).changes in
-          let at_mark = o.explained.lent g (length x.changes) lent in
+          let at_mark = (o.explained told).lent g (length x.changes) lent in
           let front = take_more o.world.store.mark j o.history low in
           let a = changes_front k.tree (take o.world.store.mark o.history) front.0 g in
           let b = ap (λ z. length (changes_of g k.tree z)) front.1 in
@@ -314,7 +324,7 @@ module _ (keeps : KeepsTrees) (S : Showing) (k : Start) (word : Word) (views : L
           front_same (changes_of g k.tree (take j o.history)) (changes_of g (tree_after k.tree (take j o.history)) rest.0) (omega arith) ∙ sym all ∙ sym fits;
       names = λ lent.
           let fits = o.legal.names.changes in
-          let at_mark = o.explained.lent_names in
+          let at_mark = (o.explained told).lent_names in
           let front = take_more o.world.store.mark j o.history low in
           let a = names_front k.tree (take o.world.store.mark o.history) front.0 in
           let b = ap (λ z. length (name_changes k.tree z)) front.1 in
@@ -330,8 +340,8 @@ module _ (keeps : KeepsTrees) (S : Showing) (k : Start) (word : Word) (views : L
     abbrev last : IsTurn S k n v o.world.store remade.store o.world.names → Stretch
     last q = record { states = o.world.store.state ∷ q.through; from = o.world.store.mark; to = n }
 
-    turn_told : IsTurn S k n v o.world.store remade.store o.world.names → AreStatesExplained S k word o.history remade.store
-    turn_told q = record {
+    turn_told : IsDiskTold k → IsTurn S k n v o.world.store remade.store o.world.names → AreStatesExplained S k word o.history remade.store
+    turn_told told q = record {
       marked = let a = q.mark in omega arith;
       lent = λ g c x.
           let y = q.lent g c x in
@@ -342,15 +352,15 @@ module _ (keeps : KeepsTrees) (S : Showing) (k : Start) (word : Word) (views : L
           let is : j ≡ n = (let a = q.mark in omega arith) in
           let h : take j o.history ≡ o.history = ap (λ z. take z o.history) is ∙ all_history in
           subst (λ z. S.Shows k.tree z (committed remade.store) remade.store.names remade.store.paths remade.store.state) (sym h)
-          (q.end o.history has (subst (λ z. S.Shows k.tree z (committed o.world.store) o.world.store.names o.world.store.paths o.world.store.state) all_history (o.explained.now n o.explained.marked (omega arith))));
+          (q.end told o.history has (subst (λ z. S.Shows k.tree z (committed o.world.store) o.world.store.names o.world.store.paths o.world.store.state) all_history ((o.explained told).now n (o.explained told).marked (omega arith))));
       ended = λ x h. ⊎_elim (λ (e : x ≡ last q). let a = ap (λ (z : Stretch). z.to) e in let b = q.mark in omega arith)
-          (λ (y : Has x o.world.store.past). let a = o.explained.ended x y in let b = q.mark in let c = o.explained.marked in omega arith) (subst (Has x) q.past h);
-      joined = subst (λ z. AreJoined z remade.store.mark) (sym q.past) (sym q.mark, o.explained.marked, o.explained.joined);
+          (λ (y : Has x o.world.store.past). let a = (o.explained told).ended x y in let b = q.mark in let c = (o.explained told).marked in omega arith) (subst (Has x) q.past h);
+      joined = subst (λ z. AreJoined z remade.store.mark) (sym q.past) (sym q.mark, (o.explained told).marked, (o.explained told).joined);
       past = λ x h. ⊎_elim (λ (e : x ≡ last q). subst (λ (z : Stretch). (j : ℕ) → z.from ≤ j → j ≤ z.to → (d : Cells) → Has d z.states → S.Explains k.tree (take j o.history) d) (sym e)
           (λ j low high d hd. ⊎_elim
-          (λ (y : d ≡ o.world.store.state). subst (λ z. S.Explains k.tree (take j o.history) z) (sym y) (explains_cut keeps S k word views o j o.world.store.paths o.world.store.state (o.explained.now j low high)))
-          (λ (y : Has d q.through). explains_cut keeps S k word views o j None d (q.inside (take j o.history) (had j low) (o.explained.now j low high) d y)) hd))
-          (λ (y : Has x o.world.store.past). o.explained.past x y) (subst (Has x) q.past h);
+          (λ (y : d ≡ o.world.store.state). subst (λ z. S.Explains k.tree (take j o.history) z) (sym y) (explains_cut keeps S k word views o j o.world.store.paths o.world.store.state ((o.explained told).now j low high)))
+          (λ (y : Has d q.through). explains_cut keeps S k word views o j None d (q.inside told (take j o.history) (had told j low) ((o.explained told).now j low high) d y)) hd))
+          (λ (y : Has x o.world.store.past). (o.explained told).past x y) (subst (Has x) q.past h);
     }
 
     listed_remade : (x : Lease) (p : PartName) → IsListed o.world.file o.world.names x p → IsListed remade.file remade.names x p
@@ -383,7 +393,7 @@ module _ (keeps : KeepsTrees) (S : Showing) (k : Start) (word : Word) (views : L
       committed_numbers = numbers_remade;
       disk_bytes = disk_remade;
       holds = holds_remade;
-      explained = ⊎_elim quiet_told turn_told r.shown;
+      explained = λ told. ⊎_elim (quiet_told told) (turn_told told) r.shown;
       faults_once = faults_remade;
       clock = clock_remade;
       asked = o.asked;

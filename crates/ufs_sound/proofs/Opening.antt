@@ -9,7 +9,7 @@ use Rattle.ufs_model.proofs.Facts.Held.{holder}
 use Rattle.ufs_prefix.specs.Changes.{names_of}
 use Rattle.ufs_sound.specs.Owned.{one}
 use Rattle.ufs_sound.specs.Parts.{NamesPart, StorePart, Start, uses}
-use Rattle.ufs_sound.specs.Sound.{Showing}
+use Rattle.ufs_sound.specs.Explained.{Showing}
 use Rattle.ufs_sound.specs.Whole.{CanOpen, idle_client, idle_asked}
 
 abbrev pub first_names : NamesPart
@@ -49,6 +49,7 @@ first_start = record {
     stop = None;
     shortages = [];
   };
+  is_told = true;
 }
 
 none_some : {A : Type 0} (x : A) → None ≡ Some x → ⊥
@@ -90,7 +91,7 @@ can_open S is shows = record {
   past = refl;
   lent = refl;
   lent_names = refl;
-  shows = subst (λ z. S.Shows root_alone [] z 0 None []) (λ j f. sym (ap (λ o. Rattle.std.proofs.Common.unwrap_or o 0) (fin.get-empty nat_cmp f)) j) shows;
+  shows = λ told. subst (λ z. S.Shows root_alone [] z 0 None []) (λ j f. sym (ap (λ o. Rattle.std.proofs.Common.unwrap_or o 0) (fin.get-empty nat_cmp f)) j) shows;
   single = λ n. omega arith;
   faults = refl;
   stop = refl;

@@ -12,7 +12,8 @@ use Rattle.ufs_model.specs.declared.data.PartName.{PartName}
 use Rattle.ufs_sound.specs.declared.fresh.Fresh.{Fresh}
 use Rattle.ufs_sound.specs.Owned.{Has}
 use Rattle.ufs_sound.specs.Parts.{View, Word, Start, kept_of, given_of, both_of, spent}
-use Rattle.ufs_sound.specs.Sound.{Showing, IsSound}
+use Rattle.ufs_sound.specs.Explained.{Showing}
+use Rattle.ufs_sound.specs.Sound.{IsSound}
 use Rattle.ufs_sound.specs.Draws.{Leaves, drawn, MayDraw}
 use Rattle.ufs_sound.specs.Marks.{MayAsk, asking, MayRemake}
 use Rattle.ufs_sound.specs.Rule.{clock_step, word_number, IsRuled, Drew, Marked}

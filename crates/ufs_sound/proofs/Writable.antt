@@ -31,9 +31,9 @@ use Rattle.ufs_prefix.proofs.Facts.Kinds.{this_changes}
 use Rattle.ufs_prefix.specs.declared.data.FileChange.{FileChange}
 use Rattle.ufs_prefix.specs.declared.data.FileChange.TheVariants as change
 use Rattle.ufs_sound.specs.Covers.{step_in}
-use Rattle.ufs_sound.specs.Leases.{IsTrueOf, IsListedIn}
+use Rattle.ufs_sound.specs.LeasesTrue.{IsTrueOf, IsListedIn}
 use Rattle.ufs_sound.specs.Parts.{ClientPart, FilePart, View, file_uses, HoldsPart}
-use Rattle.ufs_sound.specs.Sound.{is_loaded, block_in}
+use Rattle.ufs_sound.specs.DiskBytes.{is_loaded, block_in}
 use Rattle.ufs_sound.specs.Draws.{Leaves, entry_of, IsIn, IsAbsent, IsUnchanged, DrawsOn, MayDraw}
 use Rattle.ufs_sound.proofs.Owning.{count_has}
 use Rattle.ufs_sound.proofs.Keys.{itself, alike}
@@ -148,7 +148,7 @@ module _ (client seq fd at g : ℕ) (bytes : List ℕ) (by : Actor) (v : View) (
       other = λ h z a. let b : count eqb h v.files ≡ count eqb h ((g, x) ∷ []) = ap (count eqb h) held in omega arith;
       single = λ h. let b : one (eqb h g) ≤ 1 = few (eqb h g) in omega arith;
       leases = λ z listed live told. subst (λ (u : PosixTree). IsTrueOf u z.part z.fact) (sym goes_is) (leased z z.part listed live told);
-      own_leases = λ z a live kept. subst (λ (u : PosixTree). Rattle.ufs_sound.specs.Leases.IsLeaseHeld u.fds client (Rattle.ufs_sound.specs.Leases.leased_file z.part z.fact)) (sym goes_is) kept;
+      own_leases = λ z a live kept. subst (λ (u : PosixTree). Rattle.ufs_sound.specs.LeasesTrue.IsLeaseHeld u.fds client (Rattle.ufs_sound.specs.LeasesTrue.leased_file z.part z.fact)) (sym goes_is) kept;
       synced = λ done. cc;
       synced_names = λ done. cc;
       synced_birth = λ done. cc;

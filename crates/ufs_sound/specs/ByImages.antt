@@ -1,5 +1,5 @@
 -- A disk shows a history, and is explained by one, by the images that a crash may leave.
-use Rattle.ufs_sound.specs.Sound.{Showing}
+use Rattle.ufs_sound.specs.Explained.{Showing}
 use Rattle.ufs_sound.specs.Shown.{ShowsImages, ExplainsImages, nodes_of}
 use Rattle.ufs_sound.specs.Facts.Covered.{shows_more, shown_explained}
 

@@ -17,7 +17,7 @@ use Rattle.ufs_prefix.specs.Changes.{changes_of, name_changes, names_after}
 use Rattle.ufs_prefix.specs.Explained.{IsTreeWith}
 use Rattle.ufs_sound.specs.Covers.{IsBornBy}
 use Rattle.ufs_sound.specs.Parts.{Cells}
-use Rattle.ufs_sound.specs.Sound.{state_of}
+use Rattle.ufs_sound.specs.DiskBytes.{state_of}
 use Rattle.ufs_sound.specs.Shown.{nodes_of, OpensTo, ShowsImages}
 
 -- Each image of the new state comes from one of the old state: where that one opens to a tree, it opens to a tree that

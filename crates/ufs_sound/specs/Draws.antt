@@ -16,8 +16,8 @@ use Rattle.ufs_sound.specs.Owned.{one, Has, count, each, times, less}
 use Rattle.ufs_prefix.specs.Changes.{change_of, names_by}
 use Rattle.ufs_sound.specs.Covers.{step_in, SyncsFile, SyncsNames, SyncsBirth}
 use Rattle.ufs_sound.specs.Parts.{OwnFds, ClientPart, FilePart, NamesPart, Shortage, View, only_one, uses, is_holder, HoldsPart}
-use Rattle.ufs_sound.specs.Sound.{block_in, is_loaded}
-use Rattle.ufs_sound.specs.Leases.{IsTrueOf, IsLeaseHeld, IsListedIn, leased_file}
+use Rattle.ufs_sound.specs.DiskBytes.{block_in, is_loaded}
+use Rattle.ufs_sound.specs.LeasesTrue.{IsTrueOf, IsLeaseHeld, IsListedIn, leased_file}
 use Rattle.ufs_model.specs.Touched.{IsSamePart}
 use Rattle.ufs_model.specs.declared.data.Lease.{Lease}
 

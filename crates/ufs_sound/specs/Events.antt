@@ -7,7 +7,9 @@ use Rattle.ufs_model.specs.declared.data.Entry.{Entry}
 use Rattle.ufs_sound.specs.Owned.{Has, count}
 use Rattle.ufs_prefix.specs.Changes.{changes_of, name_changes}
 use Rattle.ufs_sound.specs.Parts.{Cells, FilePart, NamesPart, Start, StorePart, View, only_one, uses, committed}
-use Rattle.ufs_sound.specs.Sound.{Showing, block_on, is_loaded}
+use Rattle.ufs_sound.specs.Explained.{Showing}
+use Rattle.ufs_sound.specs.DiskBytes.{block_on, is_loaded}
+use Rattle.ufs_sound.specs.Parts.{IsDiskTold}
 
 -- ---- blocks go between held parts
 
@@ -96,11 +98,11 @@ pub record MayCommitFile (S : Showing) (k : Start) (tickets : ℕ) (v : View) (g
   pub born : x.born ≡ true
   pub store : v.store ≡ (tt, s) ∷ []
   pub last : (state ≡ s.state) ⊎ Has state through
-  pub others : (b : ℕ) → uses b v ≡ 0 → 1 ≤ uses b k.view → block_on state b ≡ block_on s.state b
-  pub own : (place b : ℕ) → slice_get x.blocks place ≡ Some b → is_loaded x place ≡ false → block_on state b ≡ block_on s.state b
-  pub inside : (h : List Entry) → ((g, length x.changes) ∷ [] ≡ s.lent → changes_of g k.tree h ≡ x.changes) → S.Shows k.tree h (committed s) s.names s.paths s.state
+  pub others : IsDiskTold k → (b : ℕ) → uses b v ≡ 0 → 1 ≤ uses b k.view → block_on state b ≡ block_on s.state b
+  pub own : IsDiskTold k → (place b : ℕ) → slice_get x.blocks place ≡ Some b → is_loaded x place ≡ false → block_on state b ≡ block_on s.state b
+  pub inside : IsDiskTold k → (h : List Entry) → ((g, length x.changes) ∷ [] ≡ s.lent → changes_of g k.tree h ≡ x.changes) → S.Shows k.tree h (committed s) s.names s.paths s.state
       → (d : Cells) → Has d through → S.Shows k.tree h (committed s) s.names None d
-  pub end : (h : List Entry) → changes_of g k.tree h ≡ x.changes → S.Shows k.tree h (committed s) s.names s.paths s.state
+  pub end : IsDiskTold k → (h : List Entry) → changes_of g k.tree h ≡ x.changes → S.Shows k.tree h (committed s) s.names s.paths s.state
       → S.Shows k.tree h (committed (file_committed tickets g x through state s)) s.names s.paths state
 
 -- ---- the names are committed
@@ -146,8 +148,8 @@ pub record MayCommitNames (S : Showing) (k : Start) (tickets : ℕ) (v : View) (
   pub dirs : ((b : ℕ) → Has b s.dirs → Has b p.blocks) → (b : ℕ) → Has b c.dirs → Has b p.blocks
   pub born : (g : ℕ) → Has g c.born → Has g p.born ⊎ IsMadeBy p (length p.changes) g
   pub last : (c.state ≡ s.state) ⊎ Has c.state c.through
-  pub others : (b : ℕ) → uses b v ≡ 0 → 1 ≤ uses b k.view → block_on c.state b ≡ block_on s.state b
-  pub own : (g : ℕ) (x : FilePart) → Has (g, x) v.files → (place b : ℕ) → slice_get x.blocks place ≡ Some b → is_loaded x place ≡ false → block_on c.state b ≡ block_on s.state b
-  pub inside : (h : List Entry) → (s.lent_names ≡ length p.changes → name_changes k.tree h ≡ p.changes) → S.Shows k.tree h (committed s) s.names s.paths s.state
+  pub others : IsDiskTold k → (b : ℕ) → uses b v ≡ 0 → 1 ≤ uses b k.view → block_on c.state b ≡ block_on s.state b
+  pub own : IsDiskTold k → (g : ℕ) (x : FilePart) → Has (g, x) v.files → (place b : ℕ) → slice_get x.blocks place ≡ Some b → is_loaded x place ≡ false → block_on c.state b ≡ block_on s.state b
+  pub inside : IsDiskTold k → (h : List Entry) → (s.lent_names ≡ length p.changes → name_changes k.tree h ≡ p.changes) → S.Shows k.tree h (committed s) s.names s.paths s.state
       → (d : Cells) → Has d c.through → S.Shows k.tree h (committed s) s.names None d
-  pub end : (h : List Entry) → name_changes k.tree h ≡ p.changes → S.Shows k.tree h (committed s) s.names s.paths s.state → S.Shows k.tree h (committed s) (length p.changes) (Some p.paths) c.state
+  pub end : IsDiskTold k → (h : List Entry) → name_changes k.tree h ≡ p.changes → S.Shows k.tree h (committed s) s.names s.paths s.state → S.Shows k.tree h (committed s) (length p.changes) (Some p.paths) c.state

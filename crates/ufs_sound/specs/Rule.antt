@@ -3,7 +3,8 @@ use Rattle.std.specs.Prelude.{ℕ, ◌+◌, ◌*◌, ◌%◌, ◌≤◌, ◌<◌
 use Rattle.atomic_table.specs.Table.{State}
 use Rattle.ufs_sound.specs.declared.fresh.Fresh.{Fresh}
 use Rattle.ufs_sound.specs.Parts.{View, Word, Start}
-use Rattle.ufs_sound.specs.Sound.{Showing, IsSound}
+use Rattle.ufs_sound.specs.Explained.{Showing}
+use Rattle.ufs_sound.specs.Sound.{IsSound}
 use Rattle.ufs_sound.specs.Draws.{Leaves, drawn}
 
 -- the clock stands above the low 40 bits, which are the tickets

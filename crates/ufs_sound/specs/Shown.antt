@@ -12,7 +12,7 @@ use Rattle.ufs_prefix.specs.Changes.{names_after}
 use Rattle.ufs_prefix.specs.Mapped.{mapped}
 use Rattle.ufs_prefix.specs.Explained.{IsShownBy, IsExplained}
 use Rattle.ufs_sound.specs.Parts.{Cells}
-use Rattle.ufs_sound.specs.Sound.{state_of}
+use Rattle.ufs_sound.specs.DiskBytes.{state_of}
 
 -- ---- images that open
 

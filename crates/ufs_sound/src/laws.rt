@@ -11,7 +11,7 @@ use ufs_model::{a_request_is_local, a_request_keeps_the_tree, a_request_makes_on
 
 /// What a state of the disk shows of a history.
 pub trait Promise {
-    ghost use Rattle.ufs_sound.specs.Sound.{Showing};
+    ghost use Rattle.ufs_sound.specs.Explained.{Showing};
 
     ghost shows: { Showing };
 }

@@ -10,7 +10,8 @@ use Rattle.ufs_sound.specs.Owned.{Has, count}
 use Rattle.ufs_prefix.specs.Changes.{change_of, names_by}
 use Rattle.ufs_sound.specs.Covers.{step_in}
 use Rattle.ufs_sound.specs.Parts.{AskedPart, ClientPart, FilePart, NamesPart, StorePart, View, World, Start, only_one}
-use Rattle.ufs_sound.specs.Sound.{IsSound, IsHeld, DoPartsStay}
+use Rattle.ufs_sound.specs.Sound.{IsSound}
+use Rattle.ufs_sound.specs.OneHand.{IsHeld, DoPartsStay}
 use Rattle.ufs_sound.specs.Draws.{Leaves, entry_of, client_after, new_file, DrawsOn, MayDraw}
 use Rattle.ufs_sound.proofs.Owning.{has_append, replaced_present, has_each, replaced_back}
 use Rattle.ufs_sound.proofs.Keys.{itself, alike}

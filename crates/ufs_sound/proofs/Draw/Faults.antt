@@ -12,7 +12,10 @@ use Rattle.ufs_sound.specs.declared.fresh.Fresh.{Fresh}
 use Rattle.ufs_sound.specs.Owned.{one, Has, times}
 use Rattle.ufs_sound.specs.Owned.{less}
 use Rattle.ufs_sound.specs.Parts.{Shortage, AskedPart, ClientPart, NamesPart, View, World, Word}
-use Rattle.ufs_sound.specs.Sound.{IsSound, AreFaultsOnce, IsClockTrue, IsAskedTrue, IsStill, IsAnswered, told, tells}
+use Rattle.ufs_sound.specs.Sound.{IsSound}
+use Rattle.ufs_sound.specs.FaultsOnce.{AreFaultsOnce, told, tells}
+use Rattle.ufs_sound.specs.ClockTrue.{IsClockTrue}
+use Rattle.ufs_sound.specs.Asked.{IsAskedTrue, IsStill, IsAnswered}
 use Rattle.ufs_sound.specs.Draws.{left_faults, Leaves, MayDraw}
 use Rattle.ufs_sound.proofs.Owning.{total_set, all_set, weigh_append, same_some, none_some}
 use Rattle.ufs_sound.proofs.Draw.Setting

@@ -16,7 +16,9 @@ use Rattle.ufs_prefix.specs.Changes.{change_of, changes_of, names_by, name_chang
 use Rattle.ufs_prefix.proofs.Facts.Histories.{changes_of-push, name_changes-push}
 use Rattle.ufs_sound.specs.Covers.{step_in}
 use Rattle.ufs_sound.specs.Parts.{ClientPart, FilePart, NamesPart, View, World, Start, only_one}
-use Rattle.ufs_sound.specs.Sound.{IsSound, IsOneHistory, FitsFile, FitsNames, told}
+use Rattle.ufs_sound.specs.Sound.{IsSound}
+use Rattle.ufs_sound.specs.Legal.{IsOneHistory, FitsFile, FitsNames}
+use Rattle.ufs_sound.specs.FaultsOnce.{told}
 use Rattle.ufs_sound.specs.Draws.{Leaves, entry_of, client_after, new_file, DrawsOn, MayDraw}
 use Rattle.ufs_sound.proofs.Owning.{has_each, replaced_back, replaced_else, replaced_count, total_at}
 use Rattle.ufs_sound.proofs.Keys.{itself, alike}

@@ -17,12 +17,13 @@ use Rattle.ufs_model.specs.declared.data.Fact.{Fact}
 use Rattle.ufs_model.specs.declared.data.Fact.TheVariants as fact
 use Rattle.ufs_model.proofs.Facts.Held.{holds_by, holder}
 use Rattle.ufs_model.proofs.Facts.Live.{held_has, number_is}
-use Rattle.ufs_sound.specs.Leases.{AreLeasesTrue, IsTrueOf, IsLeaseHeld, IsListed, IsListedIn, leased_file}
+use Rattle.ufs_sound.specs.LeasesTrue.{AreLeasesTrue, IsTrueOf, IsLeaseHeld, IsListed, IsListedIn, leased_file}
 use Rattle.ufs_sound.proofs.Keys.{one_itself, one_alike}
 use Rattle.ufs_sound.specs.declared.fresh.Fresh.{Fresh}
 use Rattle.ufs_sound.specs.Owned.{one, Has, count}
 use Rattle.ufs_sound.specs.Parts.{ClientPart, FilePart, NamesPart, View, World, Word, Start, only_one}
-use Rattle.ufs_sound.specs.Sound.{IsSound, told}
+use Rattle.ufs_sound.specs.Sound.{IsSound}
+use Rattle.ufs_sound.specs.FaultsOnce.{told}
 use Rattle.ufs_sound.specs.Draws.{Leaves, entry_of, IsFileAfter, DrawsOn, MayDraw}
 use Rattle.ufs_sound.proofs.Owning.{has_count, count_has, same_some, replaced_here, replaced_else}
 use Rattle.ufs_sound.proofs.Keys.{itself, alike}

@@ -11,7 +11,8 @@ use Rattle.ufs_sound.specs.Owned.{Has, count}
 use Rattle.ufs_prefix.specs.Changes.{change_of, changes_of, name_changes}
 use Rattle.ufs_sound.specs.Covers.{step_in, SyncsFile, SyncsNames, CoversFile, CoversNames, CoversBirths, IsBornBy}
 use Rattle.ufs_sound.specs.Parts.{committed, FilePart, NamesPart, StorePart, View, World, Start}
-use Rattle.ufs_sound.specs.Sound.{IsSound, IsCommittedNames, AreCommittedNumbers}
+use Rattle.ufs_sound.specs.Sound.{IsSound}
+use Rattle.ufs_sound.specs.CommittedNumbers.{IsCommittedNames, AreCommittedNumbers}
 use Rattle.ufs_sound.specs.Draws.{Leaves, new_file, DrawsOn}
 use Rattle.ufs_sound.proofs.Owning.{count_has, same_some}
 use Rattle.ufs_sound.proofs.Keys.{itself, alike}

@@ -22,7 +22,8 @@ use Rattle.ufs_prefix.proofs.Facts.Local.{file_untouched, names_untouched}
 use Rattle.ufs_prefix.proofs.Facts.Contents.{unborn_still}
 use Rattle.ufs_sound.specs.Covers.{step_in}
 use Rattle.ufs_sound.specs.Parts.{FilePart, NamesPart, View, World, Word, Start, only_one, HoldsPart, is_holder}
-use Rattle.ufs_sound.specs.Sound.{IsSound, Showing}
+use Rattle.ufs_sound.specs.Sound.{IsSound}
+use Rattle.ufs_sound.specs.Explained.{Showing}
 use Rattle.ufs_sound.specs.Draws.{Leaves, entry_of, client_after, drawn, IsIn, IsAbsent, IsUnchanged, DrawsOn, MayDraw}
 use Rattle.ufs_sound.proofs.Owning.{weigh_each, count_has}
 use Rattle.ufs_sound.proofs.Keys.{itself, alike}

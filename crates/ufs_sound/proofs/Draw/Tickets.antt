@@ -12,7 +12,8 @@ use Rattle.std.specs.List.{range_with_len}
 use Rattle.ufs_model.specs.Laws.{MakesOneFile}
 use Rattle.ufs_model.proofs.Facts.Histories.{own-push, others-push, numbers-push}
 use Rattle.ufs_sound.specs.Parts.{ClientPart, View, World, Word, Start}
-use Rattle.ufs_sound.specs.Sound.{IsSound, AreTicketsOnce}
+use Rattle.ufs_sound.specs.Sound.{IsSound}
+use Rattle.ufs_sound.specs.TicketsOnce.{AreTicketsOnce}
 use Rattle.ufs_sound.specs.Draws.{Leaves, MayDraw}
 use Rattle.ufs_sound.proofs.Owning.{replaced_present, none_some}
 use Rattle.ufs_sound.proofs.Keys.{itself, alike}
