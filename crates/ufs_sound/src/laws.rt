@@ -4,10 +4,18 @@ ghost use Rattle.ufs_sound.specs.Shown.{OpeningsShow, SameTreesShow};
 ghost use Rattle.ufs_sound.specs.Commits.{BlockWritesShow, FileCommitsShow, NameCommitsShow, UnbornAreFresh, FewerShow, BetweenShows};
 ghost use Rattle.ufs_sound.specs.Meets.{FileCommitsMay, NameCommitsMay};
 ghost use Rattle.ufs_sound.specs.ByImages.{by_images};
+ghost use Rattle.ufs_sound.specs.First.{NewDiskOpens};
+ghost use Rattle.ufs_sound.specs.Session.{NewDiskServes};
+ghost use Rattle.ufs_layout.specs.Areas.{IsGeometry};
 ghost use Rattle.ufs_sound.specs.Durable.{StoresAreExplained, ImagesAreExplained};
 ghost use Rattle.ufs_sound.specs.Laws.{BeginIsSound, SplitKeeps, JoinKeeps, DrawKeeps, AskKeeps, RemakeKeeps, CloseIsWhole, LookKeeps, TickKeeps, MovesAreMarks, TurnsAreMarks, TellsAreMarks, CommitsAreMarks, NameCommitsAreMarks, HandsKnow};
 
-use ufs_model::{a_request_is_local, a_request_keeps_the_tree, a_request_makes_one_file_at_most};
+use ufs_image::new_image_law;
+use ufs_layout::Geometry;
+use ufs_model::{
+    a_request_is_local, a_request_keeps_the_tree, a_request_makes_one_file_at_most,
+    a_start_is_a_tree,
+};
 
 /// What a state of the disk shows of a history.
 pub trait Promise {
@@ -120,4 +128,25 @@ pub fn every_image_is_explained()
 {
     a_hand_knows::<Images>();
     an_end_is_whole::<Images>();
+}
+
+/// A session can begin on a disk that was formatted and has nothing pending.
+pub fn a_new_disk_can_be_opened(geometry: &Geometry)
+    requires { IsGeometry geometry.now }
+    ensures { NewDiskOpens geometry.now }
+{
+    new_image_law(geometry);
+    a_request_keeps_the_tree();
+    a_start_is_a_tree();
+}
+
+/// A short session over a new disk, with a step of each kind: each state is sound, and the last hand knows one history.
+pub fn a_short_session_is_sound(geometry: &Geometry)
+    requires { IsGeometry geometry.now }
+    ensures { NewDiskServes geometry.now }
+{
+    a_new_disk_can_be_opened(geometry);
+    a_request_is_local();
+    a_request_keeps_the_tree();
+    a_request_makes_one_file_at_most();
 }

@@ -1,0 +1,5 @@
+use Rattle.ufs_sound.proofs.First.{new_opens}
+use Rattle.ufs_sound.proofs.laws.a_new_disk_can_be_opened.Goals as goal
+
+pub returns : goal.returns
+returns c clients sectors image room new ends = new_opens c.a_request_keeps_the_tree.ensures c.a_start_is_a_tree.ensures.contents c.args.geometry.now clients sectors image c.new_image_law.ensures.opens room new ends
