@@ -33,7 +33,7 @@ has_mine e (x ∷ h) m = ⊎_elim
     at true r = inr r
     at false r = r
 
-mine_has : (c : ℕ) (e : Entry) (h : List Entry) → Has e (entries_of c h) → Has e h
+pub mine_has : (c : ℕ) (e : Entry) (h : List Entry) → Has e (entries_of c h) → Has e h
 mine_has c e [] m = m
 mine_has c e (x ∷ h) m = at (eqb x.client c) m (mine_has c e h)
   where

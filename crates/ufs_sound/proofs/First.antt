@@ -1,13 +1,13 @@
 -- A session over a new disk can begin.
-use Rattle.std.proofs.Common.{◌≡◌, ℕ, zero, suc, ◌+◌, ◌-◌, ◌≤◌, ◌<◌, ◌⊎◌, Bool, true, false, eqb, cond, eq-eqb, ne_eqb, List, [], ◌∷◌, length, map, Option, Some, None, is_some, unwrap_or, sym, refl, ap, ◌∙◌, subst, inl, inr, ⊎_elim, arith}
-use Rattle.std.specs.Prelude.{slice_get, Ok}
+use Rattle.std.proofs.Common.{◌≡◌, ℕ, zero, suc, ◌+◌, ◌-◌, ◌≤◌, ◌<◌, ◌⊎◌, Bool, true, false, eqb, cond, eq-eqb, ne_eqb, List, [], ◌∷◌, map, Some, None, is_some, unwrap_or, sym, refl, ap, ◌∙◌, subst, inl, inr, arith}
+use Rattle.std.specs.Prelude.{slice_get}
 use Rattle.std.specs.List.{range_with_len}
 use Rattle.std.proofs.lemmas.List.FromFn.{length-map-range_with_len}
 use Rattle.std.specs.Ordering.{nat_cmp}
 use Rattle.std.specs.FinMap as fin
 use native.Mathlib.Decide.{ℕ_discrete, dec_le}
 use Rattle.ufs_base.specs.Images.{Image}
-use Rattle.ufs_layout.specs.Areas.{IsGeometry, first_of_data, sector_count}
+use Rattle.ufs_layout.specs.Areas.{first_of_data, sector_count}
 use Rattle.ufs_layout.specs.declared.geometry.Geometry.{Geometry}
 use Rattle.ufs_disk.specs.Disk.{IsImage}
 use Rattle.ufs_image.specs.Formatted.{IsFormatted}
@@ -31,7 +31,7 @@ use Rattle.ufs_sound.specs.DiskBytes.{state_of}
 use Rattle.ufs_sound.specs.Shown.{node_of, nodes_of, EachOpensTo}
 use Rattle.ufs_sound.specs.ByImages.{by_images}
 use Rattle.ufs_sound.specs.Whole.{CanOpen, idle_client, idle_asked}
-use Rattle.ufs_sound.specs.First.{settled_cell, settled_cells, EndsAt, primary_pool, new_names, new_store, new_view, new_start}
+use Rattle.ufs_sound.specs.First.{settled_cell, settled_cells, EndsAt, primary_pool, new_names, new_store, new_start}
 use Rattle.ufs_sound.proofs.Showing.{openings_show}
 
 none_some : {A : Type 0} (x : A) → None ≡ Some x → ⊥

@@ -1,24 +1,22 @@
 -- Each state of a short session over a new disk is sound.
-use Rattle.std.proofs.Common.{◌≡◌, ℕ, zero, suc, ◌+◌, ◌≤◌, ◌⊎◌, true, false, eqb, List, [], ◌∷◌, Option, Some, None, is_some, is_none, cond, sym, refl, ap, ◌∙◌, subst, inl, inr, ⊎_elim, arith}
+use Rattle.std.proofs.Common.{◌≡◌, ℕ, zero, suc, ◌+◌, ◌⊎◌, true, false, List, [], ◌∷◌, Option, Some, None, is_some, is_none, cond, sym, refl, ap, ◌∙◌, subst, inl, inr, ⊎_elim, arith}
 use Rattle.std.specs.Prelude.{take, drop, ◌||◌}
 use Rattle.std.specs.List.{list_any}
 use Rattle.std.specs.Ordering.{nat_cmp}
 use Rattle.std.specs.FinMap as fin
 use Rattle.ufs_base.specs.Choices.{first_of, refused_if}
 use Rattle.ufs_layout.specs.declared.geometry.Geometry.{Geometry}
-use Rattle.ufs_model.specs.PosixTree.{PosixTree, IsTree, root_alone, desc_at, is_live, is_node_of}
+use Rattle.ufs_model.specs.PosixTree.{PosixTree, IsTree, root_alone, desc_at, is_node_of}
 use Rattle.ufs_model.specs.Posix.{served}
-use Rattle.ufs_model.specs.History.{is_excused}
 use Rattle.ufs_model.specs.Laws.{KeepsTrees, Locality, MakesOneFile}
 use Rattle.ufs_model.specs.Touched.{IsPartOf, reached}
 use Rattle.ufs_model.specs.declared.data.Desc.{Desc}
 use Rattle.ufs_model.specs.declared.data.Errno.TheVariants as errno
-use Rattle.ufs_model.specs.declared.data.Op.{Op}
 use Rattle.ufs_model.specs.declared.data.Op.TheVariants as op
 use Rattle.ufs_model.specs.declared.data.PartName.{PartName}
 use Rattle.ufs_model.specs.declared.data.PartName.TheVariants as part
 use Rattle.ufs_model.proofs.Facts.Held.{open_by}
-use Rattle.ufs_sound.specs.Owned.{Has, times}
+use Rattle.ufs_sound.specs.Owned.{times}
 use Rattle.ufs_sound.specs.Parts.{Cells, ClientPart, NamesPart, StorePart, View, Start, HoldsPart}
 use Rattle.ufs_sound.specs.Sound.{IsSound}
 use Rattle.ufs_sound.specs.Draws.{IsIn, IsAbsent, IsUnchanged, MayDraw, entry_of}

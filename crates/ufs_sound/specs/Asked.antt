@@ -1,10 +1,8 @@
 -- A client that comes back has what it had, or its answer.
-use Rattle.std.specs.Prelude.{ℕ, ◌+◌, ◌≤◌, ◌≡◌, ◌≢◌, ◌⊎◌, List, [], ◌∷◌, ◌++◌, Option, Some, None}
+use Rattle.std.specs.Prelude.{ℕ, ◌≤◌, ◌≡◌, ◌≢◌, ◌⊎◌, List, [], ◌∷◌, ◌++◌, Option, Some, None}
 use Rattle.std.specs.FinMap as fin
-use Rattle.ufs_disk.specs.Disk.{seen}
 use Rattle.ufs_model.specs.Asks.{fd_told}
 use Rattle.ufs_model.specs.declared.data.Entry.{Entry}
-use Rattle.ufs_sound.specs.Owned.{one}
 use Rattle.ufs_sound.specs.Parts.{ClientPart, AskedPart, World, Word}
 
 -- the client has what it had when it asked

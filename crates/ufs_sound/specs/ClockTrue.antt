@@ -2,7 +2,6 @@
 use Rattle.std.specs.Prelude.{ℕ, ◌≤◌, ◌≡◌, List}
 use mathlib.Core.Option.{some}
 use lib.ListN.{get_elem?}
-use Rattle.ufs_disk.specs.Disk.{seen}
 use Rattle.ufs_sound.specs.Parts.{View, World, Word}
 
 pub record ClockTrue (word : Word) (views : List View) (clock : ℕ) : Type 0 where

@@ -4,7 +4,7 @@ use Rattle.std.specs.FinMap as fin
 use Rattle.ufs_model.specs.History.{tree_after}
 use Rattle.ufs_model.specs.declared.data.Entry.{Entry}
 use Rattle.ufs_sound.specs.Owned.{Has}
-use Rattle.ufs_sound.specs.Parts.{FilePart, NamesPart, StorePart, World, Start, committed}
+use Rattle.ufs_sound.specs.Parts.{FilePart, NamesPart, StorePart, World, Start}
 
 -- the committed blocks of a file are kept for it
 pub record CommittedHeld (k : Start) (h : List Entry) (files : ℕ → Option FilePart) (names : NamesPart) (store : StorePart) : Type 0 where

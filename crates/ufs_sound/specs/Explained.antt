@@ -1,10 +1,10 @@
 -- Each state of the disk shows the history, and is explained by it.
-use Rattle.std.specs.Prelude.{ℕ, ◌+◌, ◌≤◌, ◌≡◌, List, [], ◌∷◌, ◌++◌, length, map, take, Option}
+use Rattle.std.specs.Prelude.{ℕ, ◌≤◌, ◌≡◌, List, [], ◌∷◌, ◌++◌, length, take, Option}
 use Rattle.ufs_model.specs.PosixTree.{PosixTree, Paths, IsTree}
 use Rattle.ufs_model.specs.History.{IsLegal}
 use Rattle.ufs_model.specs.Laws.{KeepsTrees}
 use Rattle.ufs_model.specs.declared.data.Entry.{Entry}
-use Rattle.ufs_sound.specs.Owned.{one, Has}
+use Rattle.ufs_sound.specs.Owned.{Has}
 use Rattle.ufs_prefix.specs.Changes.{changes_of, name_changes}
 use Rattle.ufs_sound.specs.Covers.{CoversFile, CoversNames, CoversBirths}
 use Rattle.ufs_sound.specs.Parts.{StorePart, Cells, Stretch, Word, Start, committed}

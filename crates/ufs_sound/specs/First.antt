@@ -1,5 +1,5 @@
 -- A session over a new disk begins: what its first hand has.
-use Rattle.std.specs.Prelude.{ℕ, ◌-◌, ◌≤◌, ◌≡◌, true, List, [], ◌∷◌, map, Some, None}
+use Rattle.std.specs.Prelude.{ℕ, ◌-◌, ◌≤◌, ◌≡◌, true, [], ◌∷◌, map, Some, None}
 use Rattle.std.specs.List.{range_with_len}
 use Rattle.std.specs.FinMap as fin
 use Rattle.ufs_base.specs.Images.{Image}

@@ -1,6 +1,6 @@
 -- Each part is in one hand.
 use Rattle.std.specs.Prelude.{ℕ, ◌≡◌, eqb, List, Some}
-use Rattle.ufs_sound.specs.Owned.{one, present, count, Held}
+use Rattle.ufs_sound.specs.Owned.{present, count, Held}
 use Rattle.ufs_sound.specs.Parts.{View, World, Start, only_one}
 
 -- the parts of all hands are these, each in one hand and once in it

@@ -1,5 +1,5 @@
 -- A short session over a new disk: a step of each kind, and what each hand has after it.
-use Rattle.std.specs.Prelude.{ℕ, ◌≡◌, ◌≤◌, List, [], ◌∷◌, take, drop, true}
+use Rattle.std.specs.Prelude.{ℕ, ◌≤◌, [], ◌∷◌, take, drop}
 use Rattle.std.specs.FinMap as fin
 use Rattle.ufs_base.specs.Images.{Image}
 use Rattle.ufs_layout.specs.Areas.{sector_count}
@@ -16,7 +16,7 @@ use Rattle.ufs_sound.specs.Sound.{IsSound}
 use Rattle.ufs_sound.specs.Draws.{Leaves, drawn}
 use Rattle.ufs_sound.specs.Marks.{asking}
 use Rattle.ufs_sound.specs.Clock.{looked, at_clock, ticked}
-use Rattle.ufs_sound.specs.Events.{Moved, moved, turn_begun, turning, NamesCommit, names_committed, committed_names, naming}
+use Rattle.ufs_sound.specs.Events.{Moved, moved, turn_begun, turning, NamesCommit, names_committed, naming}
 use Rattle.ufs_sound.specs.Whole.{IsWhole, idle_client}
 use Rattle.ufs_sound.specs.ByImages.{by_images}
 use Rattle.ufs_sound.specs.First.{settled_cells, EndsAt, primary_pool, new_names, new_store, new_view, new_start}

@@ -1,7 +1,6 @@
 -- The one sound state: what holds of the views of all hands and of the word, between any two steps.
 use Rattle.std.specs.Prelude.{List}
 use Rattle.ufs_model.specs.History.{tree_after}
-use Rattle.ufs_model.specs.Touched.{holds}
 use Rattle.ufs_model.specs.declared.data.Entry.{Entry}
 use Rattle.ufs_sound.specs.LeasesTrue.{AreLeasesTrue}
 use Rattle.ufs_sound.specs.Parts.{View, World, Word, Start}

@@ -4,7 +4,7 @@ use Rattle.std.specs.List.{range_with_len}
 use Rattle.ufs_model.specs.History.{tree_after, entries_of}
 use Rattle.ufs_model.specs.declared.data.Op.{Op}
 use Rattle.ufs_model.specs.declared.data.Entry.{Entry}
-use Rattle.ufs_sound.specs.Owned.{one, present, Has}
+use Rattle.ufs_sound.specs.Owned.{present, Has}
 use Rattle.ufs_sound.specs.Parts.{ClientPart, World, Word, Start}
 
 -- each ticket has one entry, and each client's entries are numbered in their order

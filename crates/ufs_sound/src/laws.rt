@@ -5,6 +5,7 @@ ghost use Rattle.ufs_sound.specs.Commits.{BlockWritesShow, FileCommitsShow, Name
 ghost use Rattle.ufs_sound.specs.Meets.{FileCommitsMay, NameCommitsMay};
 ghost use Rattle.ufs_sound.specs.ByImages.{by_images};
 ghost use Rattle.ufs_sound.specs.First.{NewDiskOpens};
+ghost use Rattle.ufs_sound.specs.Refused.{DrawsNeedTheirParts, SplitsLeaveNone, PartsStandOnce, BlocksStandOnce, SyncsNeedCommits, KnownIsCommitted, TicketsAreOnce, ClosesNeedAll};
 ghost use Rattle.ufs_sound.specs.Session.{NewDiskServes};
 ghost use Rattle.ufs_layout.specs.Areas.{IsGeometry};
 ghost use Rattle.ufs_sound.specs.Durable.{StoresAreExplained, ImagesAreExplained};
@@ -150,3 +151,21 @@ pub fn a_short_session_is_sound(geometry: &Geometry)
     a_request_keeps_the_tree();
     a_request_makes_one_file_at_most();
 }
+
+/// What a step asks of its own hand, in words of what it can't do: a draw on a part that the hand hasn't, a split that
+/// leaves the part, an acknowledged `fsync` whose changes aren't known as committed, a close without one part.
+pub fn a_step_needs_its_parts<P: Promise>()
+    ensures draws { DrawsNeedTheirParts }
+    ensures splits { SplitsLeaveNone }
+    ensures syncs { SyncsNeedCommits P.shows }
+    ensures closes { ClosesNeedAll }
+{}
+
+/// What no steps of all hands lead to: a part in two hands, a block in two parts, two entries with one ticket, a file
+/// that knows more as committed than the store has.
+pub fn nothing_stands_twice<P: Promise>()
+    ensures parts { PartsStandOnce P.shows }
+    ensures blocks { BlocksStandOnce P.shows }
+    ensures tickets { TicketsAreOnce P.shows }
+    ensures known { KnownIsCommitted P.shows }
+{}
