@@ -1,5 +1,5 @@
 -- Each step of a hand keeps the table's rule.
-use Rattle.std.proofs.Common.{◌≡◌, ℕ, zero, suc, ◌+◌, ◌*◌, ◌%◌, ◌^◌, ◌<◌, ◌≤◌, cond, eq-eqb, ne_eqb, List, [], ◌∷◌, length, set, sym, refl, ap, ◌∙◌, subst, inl, inr, arith, mod-eq_of_lt}
+use Rattle.std.proofs.Common.{◌≡◌, ℕ, zero, suc, ◌+◌, ◌*◌, ◌/◌, ◌%◌, ◌^◌, ◌<◌, ◌≤◌, cond, eq-eqb, ne_eqb, List, [], ◌∷◌, length, set, sym, refl, ap, ◌∙◌, subst, inl, inr, arith, mod-eq_of_lt}
 use Rattle.std.specs.Prelude.{slice_index, slice_set}
 use Rattle.std.proofs.Math.Nat.{add-mul-mod_self_right}
 use native.Mathlib.Decide.{ℕ_discrete}
@@ -56,8 +56,11 @@ module _ (S : Showing) (k : Start) where
   pub few : (word : Word) (views : List View) → IsSound S k word views → word.tickets ≤ 1048576
   few word views o = let a = tally_room 16 o.history o.tickets_once.room in let b = tally_all o.history (λ e h. (o.tickets_once.there e h).0) in let c = o.tickets_once.tickets in omega arith
 
-  tickets_of : (word : Word) → word.tickets ≤ 1048576 → word_number word % clock_step ≡ word.tickets
+  pub tickets_of : (word : Word) → word.tickets ≤ 1048576 → word_number word % clock_step ≡ word.tickets
   tickets_of word l = add-mul-mod_self_right word.tickets word.clock clock_step ∙ mod-eq_of_lt (omega arith)
+
+  pub clock_of : (word : Word) → word.tickets ≤ 1048576 → word_number word / clock_step ≡ word.clock
+  clock_of word l = omega arith
 
   pub split_keeps : (i : ℕ) (p : PartName) (v : View) → Splits (IsRuled S k) i v (kept_of p v) (given_of p v)
   split_keeps i p v s h at = record { word = h.word; is = h.is; clock = h.clock; sound = split_sound S k h.word s.views i p v h.sound at }
