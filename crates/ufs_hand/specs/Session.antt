@@ -1,9 +1,10 @@
 -- What a session starts from, and what its last hand knows.
-use Rattle.std.specs.Prelude.{ℕ, ◌≡◌, false, [], ◌∷◌}
+use Rattle.std.specs.Prelude.{ℕ, ◌≡◌, ◌⊎◌, false, [], ◌∷◌}
 use Rattle.std.specs.FinMap as fin
 use Rattle.atomic_table.specs.Seated.{TableId}
 use Rattle.ufs_model.specs.PosixTree.{root_alone}
 use Rattle.ufs_model.specs.declared.data.Actor.TheVariants.{Primary}
+use Rattle.ufs_model.specs.declared.data.Op.{Op}
 use Rattle.ufs_model.specs.declared.data.Op.TheVariants.{Sync}
 use Rattle.ufs_model.specs.declared.data.Reply.TheVariants.{Done}
 use Rattle.ufs_sound.specs.declared.fresh.Fresh.{Fresh}
@@ -11,6 +12,7 @@ use Rattle.ufs_sound.specs.ByImages.{by_images}
 use Rattle.ufs_sound.specs.Draws.{Leaves}
 use Rattle.ufs_sound.specs.Durable.{IsDurable}
 use Rattle.ufs_sound.specs.Parts.{IsDiskTold, NamesPart, StorePart, Start, View, Word, spent}
+use Rattle.ufs_sound.specs.Marks.{MayAsk, asking, MayRemake}
 use Rattle.ufs_sound.specs.Whole.{CanOpen, IsWhole}
 
 -- which table a session has, and what it started from
@@ -38,6 +40,19 @@ pub record KnowsAll (k : Start) (tickets clock : ℕ) (v : View) : Type 0 where
   pub has_store : v.store ≡ (tt, store) ∷ []
   pub whole : IsWhole by_images k (word_of tickets clock) v store
   pub durable : IsDiskTold k → IsDurable k (word_of tickets clock) v store
+
+-- ---- what a mark may leave
+
+-- A client that the hand has with what it last asked asks a request.
+pub record AsksRequest (v : View) (leaves : ℕ → View) : Type 0 where
+  pub client : ℕ
+  pub request : Op
+  pub may : MayAsk client v
+  pub is : leaves ≡ (λ tickets. asking tickets client request may.self v)
+
+-- An event without an entry: a client asks, or the hand's parts go on as whatever the tickets are allows.
+abbrev pub IsEvent : Start → View → (ℕ → View) → Type 0
+IsEvent k v leaves = AsksRequest v leaves ⊎ ((tickets : ℕ) → MayRemake by_images k tickets v (leaves tickets))
 
 -- ---- what stands where nobody picked anything
 

@@ -1,12 +1,10 @@
 // The hands of one session, and the table that they share.
-ghost use Rattle.std.specs.Prelude.{ℕ, ◌≡◌, ◌≤◌, ◌%◌, [], IfOk};
+ghost use Rattle.std.specs.Prelude.{◌≡◌, ◌≤◌, ◌%◌, [], IfOk};
 ghost use Rattle.ufs_sound.specs.Rule.{clock_step};
-ghost use Rattle.ufs_sound.specs.ByImages.{by_images};
 ghost use Rattle.ufs_sound.specs.Parts.{HoldsPart, kept_of, given_of, both_of};
 ghost use Rattle.ufs_sound.specs.Draws.{MayDraw, drawn};
-ghost use Rattle.ufs_sound.specs.Marks.{MayRemake};
 ghost use Rattle.ufs_sound.specs.Whole.{HoldsAll};
-ghost use Rattle.ufs_hand.specs.Session.{first_view, CanBegin, KnowsAll};
+ghost use Rattle.ufs_hand.specs.Session.{first_view, CanBegin, IsEvent, KnowsAll};
 
 use crate::rule::{Board, Cut, Drawing, Draws, Event, Glue, Leaving, Marks, Naming, Parts, Picked};
 use atomic_table::{Closed, Seat, Table};
@@ -179,7 +177,7 @@ impl<N: Naming> Hand<N> {
 
     /// The parts go on by an event that has no entry. Answers the word.
     pub fn mark<E: Event>(&mut self, table: &HandTable<N>) -> u64
-        requires { (tickets : ℕ) → MayRemake by_images N.start tickets self.old (E.leaves tickets) }
+        requires { IsEvent N.start self.old E.leaves }
         ensures parts { self.new ≡ E.leaves (result % clock_step) }
         ensures later { self.old.seen ≤ result % clock_step }
     {

@@ -28,10 +28,10 @@ use Rattle.ufs_model.proofs.Facts.Starts.{start_is_tree, root_is_tree, start_of-
 use Rattle.ufs_sound.specs.Owned.{one, Has, count, times}
 use Rattle.ufs_sound.specs.Parts.{Cells, Start, committed}
 use Rattle.ufs_sound.specs.DiskBytes.{state_of}
-use Rattle.ufs_sound.specs.Shown.{node_of, nodes_of, EachOpensTo}
+use Rattle.ufs_sound.specs.Shown.{node_of, nodes_of, EachOpensTo, ShowsImages}
 use Rattle.ufs_sound.specs.ByImages.{by_images}
 use Rattle.ufs_sound.specs.Whole.{CanOpen, idle_client, idle_asked}
-use Rattle.ufs_sound.specs.First.{settled_cell, settled_cells, EndsAt, primary_pool, new_names, new_store, new_start}
+use Rattle.ufs_sound.specs.First.{settled_cell, settled_cells, EndsAt, primary_pool, new_names, new_store, new_view, new_start, BlindDisksOpen}
 use Rattle.ufs_sound.proofs.Showing.{openings_show}
 
 none_some : {A : Type 0} (x : A) → None ≡ Some x → ⊥
@@ -116,28 +116,19 @@ root_nodes path =
 root_contents : StartsHaveContents → HasContents root_alone (nodes_of root_tree)
 root_contents have path = subst (λ t. HasContents t path_root) start_of-root (have path_root) path ∙ root_nodes path
 
-module _ (keeps : KeepsTrees) (have : StartsHaveContents) (g : Geometry) (clients sectors : ℕ) (image : Image) (opens : OpensToRoot g) (room : sector_count g ≤ sectors) (new : IsFormatted g image) (ends : EndsAt sectors image) where
-  abbrev cells : Cells
-  cells = settled_cells sectors image
-
+-- The disk shows the root alone, where it tells what it holds.
+module _ (told : Bool) (g : Geometry) (clients : ℕ) (cells : Cells) where
   abbrev k : Start
-  k = new_start clients g cells
+  k = record { tree = root_alone; view = new_view clients g cells; is_told = told }
 
-  is_root : IsTree root_alone
+  pub is_root : IsTree root_alone
   is_root = subst IsTree start_of-root (start_is_tree path_root root_is_tree)
 
-  each_opens : EachOpensTo (HasContents root_alone) cells
-  each_opens other is = (
-    root_tree,
-    ap (λ n. Rattle.ufs_image.specs.Opens.opens n other) (length-map-range_with_len (settled_cell image) 0 sectors) ∙ ap (Rattle.ufs_image.specs.Opens.opens sectors) (one_image sectors image other ends is) ∙ opens sectors image new room,
-    root_contents have,
-  )
-
-  none_committed : (f : ℕ) → committed (new_store g cells) f ≡ 0
+  pub none_committed : (f : ℕ) → committed (new_store g cells) f ≡ 0
   none_committed f = ap (λ o. unwrap_or o 0) (fin.get-empty nat_cmp f)
 
-  pub new_opens : CanOpen by_images k new_names (new_store g cells)
-  new_opens = record {
+  pub can_open : (told ≡ true → ShowsImages root_alone [] (committed (new_store g cells)) 0 (Some root_alone.paths) cells) → CanOpen by_images k new_names (new_store g cells)
+  can_open shows = record {
     tree = is_root;
     closed = λ c fd. fin.get-empty fd_cmp (c, fd);
     free = λ c f. unheld c f (holds root_alone.fds c f) refl;
@@ -168,7 +159,7 @@ module _ (keeps : KeepsTrees) (have : StartsHaveContents) (g : Geometry) (client
     past = refl;
     lent = refl;
     lent_names = refl;
-    shows = λ told. openings_show keeps root_alone (committed (new_store g cells)) cells is_root none_committed each_opens;
+    shows = shows;
     single = λ n. omega arith;
     faults = refl;
     stop = refl;
@@ -180,3 +171,23 @@ module _ (keeps : KeepsTrees) (have : StartsHaveContents) (g : Geometry) (client
       unheld : (c f : ℕ) (b : Bool) → holds root_alone.fds c f ≡ b → holds root_alone.fds c f ≡ false
       unheld c f true e = let h = holder root_alone.fds c f e in absurd (none_some h.1 (sym (fin.get-empty fd_cmp (c, h.0)) ∙ h.2))
       unheld c f false e = e
+
+module _ (keeps : KeepsTrees) (have : StartsHaveContents) (g : Geometry) (clients sectors : ℕ) (image : Image) (opens : OpensToRoot g) (room : sector_count g ≤ sectors) (new : IsFormatted g image) (ends : EndsAt sectors image) where
+  abbrev cells : Cells
+  cells = settled_cells sectors image
+
+  each_opens : EachOpensTo (HasContents root_alone) cells
+  each_opens other is = (
+    root_tree,
+    ap (λ n. Rattle.ufs_image.specs.Opens.opens n other) (length-map-range_with_len (settled_cell image) 0 sectors) ∙ ap (Rattle.ufs_image.specs.Opens.opens sectors) (one_image sectors image other ends is) ∙ opens sectors image new room,
+    root_contents have,
+  )
+
+  pub new_opens : CanOpen by_images (new_start clients g cells) new_names (new_store g cells)
+  new_opens = can_open true g clients cells (λ told. openings_show keeps root_alone (committed (new_store g cells)) cells (is_root true g clients cells) (none_committed true g clients cells) each_opens)
+
+pub blind_opens : BlindDisksOpen
+blind_opens g clients cells = can_open false g clients cells (λ told. absurd (not_told told))
+  where
+    not_told : false ≡ true → ⊥
+    not_told e = cc

@@ -1,5 +1,5 @@
 -- A session over a new disk begins: what its first hand has.
-use Rattle.std.specs.Prelude.{ℕ, ◌-◌, ◌≤◌, ◌≡◌, true, [], ◌∷◌, map, Some, None}
+use Rattle.std.specs.Prelude.{ℕ, ◌-◌, ◌≤◌, ◌≡◌, true, false, [], ◌∷◌, map, Some, None}
 use Rattle.std.specs.List.{range_with_len}
 use Rattle.std.specs.FinMap as fin
 use Rattle.ufs_base.specs.Images.{Image}
@@ -72,9 +72,17 @@ new_view clients g cells = record {
 abbrev pub new_start : ℕ → Geometry → Cells → Start
 new_start clients g cells = record { tree = root_alone; view = new_view clients g cells; is_told = true }
 
+-- the same over a disk that tells nothing
+abbrev pub blind_start : ℕ → Geometry → Cells → Start
+blind_start clients g cells = record { tree = root_alone; view = new_view clients g cells; is_told = false }
+
 -- ---- it can be opened
 
 -- On a disk with this geometry that was formatted and has nothing pending, a session can begin.
 abbrev pub NewDiskOpens : Geometry → Type 0
 NewDiskOpens g = (clients sectors : ℕ) (image : Image) → sector_count g ≤ sectors → IsFormatted g image → EndsAt sectors image
     → CanOpen by_images (new_start clients g (settled_cells sectors image)) new_names (new_store g (settled_cells sectors image))
+
+-- On a disk that tells nothing it can too.
+abbrev pub BlindDisksOpen : Type 0
+BlindDisksOpen = (g : Geometry) (clients : ℕ) (cells : Cells) → CanOpen by_images (blind_start clients g cells) new_names (new_store g cells)

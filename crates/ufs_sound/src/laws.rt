@@ -4,7 +4,7 @@ ghost use Rattle.ufs_sound.specs.Shown.{OpeningsShow, SameTreesShow};
 ghost use Rattle.ufs_sound.specs.Commits.{BlockWritesShow, FileCommitsShow, NameCommitsShow, UnbornAreFresh, FewerShow, BetweenShows};
 ghost use Rattle.ufs_sound.specs.Meets.{FileCommitsMay, NameCommitsMay};
 ghost use Rattle.ufs_sound.specs.ByImages.{by_images};
-ghost use Rattle.ufs_sound.specs.First.{NewDiskOpens};
+ghost use Rattle.ufs_sound.specs.First.{NewDiskOpens, BlindDisksOpen};
 ghost use Rattle.ufs_sound.specs.Refused.{DrawsNeedTheirParts, SplitsLeaveNone, PartsStandOnce, BlocksStandOnce, SyncsNeedCommits, KnownIsCommitted, TicketsAreOnce, ClosesNeedAll};
 ghost use Rattle.ufs_sound.specs.Session.{NewDiskServes};
 ghost use Rattle.ufs_layout.specs.Areas.{IsGeometry};
@@ -131,10 +131,11 @@ pub fn every_image_is_explained()
     an_end_is_whole::<Images>();
 }
 
-/// A session can begin on a disk that was formatted and has nothing pending.
+/// A session can begin on a disk that was formatted and has nothing pending, and on one that tells nothing.
 pub fn a_new_disk_can_be_opened(geometry: &Geometry)
     requires { IsGeometry geometry.now }
-    ensures { NewDiskOpens geometry.now }
+    ensures told { NewDiskOpens geometry.now }
+    ensures blind { BlindDisksOpen }
 {
     new_image_law(geometry);
     a_request_keeps_the_tree();
