@@ -1,13 +1,12 @@
 -- The first state of a table meets the rule, and the last one tells the hand with every part the whole history.
-use Rattle.std.proofs.Common.{◌≡◌, ℕ, ◌+◌, ◌*◌, ◌/◌, ◌%◌, ◌<◌, List, [], ◌∷◌, sym, refl, ap, ◌∙◌, subst, arith, mod-eq_of_lt}
-use mathlib.Core.Option.{Option, some, some-injective}
+use Rattle.std.proofs.Common.{◌≡◌, ℕ, ◌/◌, ◌%◌, List, [], ◌∷◌, sym, refl, ap, ◌∙◌, subst, arith}
+use mathlib.Core.Option.{some, some-injective}
 use lib.ListN.{get_elem?}
-use Rattle.atomic_table.specs.Table.{State, Final, Seen}
+use Rattle.atomic_table.specs.Table.{Final, Seen}
 use Rattle.ufs_model.specs.Laws.{KeepsTrees}
 use Rattle.ufs_sound.specs.ByImages.{by_images}
-use Rattle.ufs_sound.specs.Parts.{View, Word, Start}
+use Rattle.ufs_sound.specs.Parts.{View, Start}
 use Rattle.ufs_sound.specs.Rule.{clock_step, word_number, IsRuled}
-use Rattle.ufs_sound.specs.Sound.{IsSound}
 use Rattle.ufs_sound.specs.Whole.{HoldsAll}
 use Rattle.ufs_sound.proofs.Durable.{durable}
 use Rattle.ufs_sound.proofs.Ending.{opens, ends_whole}

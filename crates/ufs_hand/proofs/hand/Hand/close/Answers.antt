@@ -1,4 +1,4 @@
-use Rattle.std.proofs.Common.{◌∙◌, sym, ap, subst, arith}
+use Rattle.std.proofs.Common.{arith}
 use Rattle.ufs_sound.specs.Whole.{HoldsAll}
 use Rattle.ufs_hand.proofs.Ends.{at_close}
 use Rattle.ufs_hand.proofs.hand.Hand.close.Goals as goal
