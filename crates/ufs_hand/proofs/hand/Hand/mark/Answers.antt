@@ -1,0 +1,12 @@
+use Rattle.std.proofs.Common.{◌∙◌, sym, arith}
+use Rattle.ufs_hand.specs.Session.{IsEvent}
+use Rattle.ufs_hand.proofs.Steps.{event_keeps}
+use Rattle.ufs_hand.proofs.hand.Hand.mark.Goals as goal
+
+pub load-requires : goal.load-requires
+load-requires g c =
+    let i = c.self.invariant in
+    let t = c.table.invariant in
+    let w = t.1 in
+    let may : IsEvent c.table.inside.table.shared.key.start c.self.inside.seat.me.0 g.E.Event.leaves = rw (c.self.view_is, t.3) c.requires in
+    (i.0 ∙ sym t.0, omega arith, event_keeps c.a_request_keeps_the_tree.ensures _ _ _ _ _ may)

@@ -1,0 +1,69 @@
+-- What a session starts from, and what its last hand knows.
+use Rattle.std.specs.Prelude.{ℕ, ◌≡◌, ◌⊎◌, false, [], ◌∷◌}
+use Rattle.std.specs.FinMap as fin
+use Rattle.atomic_table.specs.Seated.{TableId}
+use Rattle.ufs_model.specs.PosixTree.{root_alone}
+use Rattle.ufs_model.specs.declared.data.Actor.TheVariants.{Primary}
+use Rattle.ufs_model.specs.declared.data.Op.{Op}
+use Rattle.ufs_model.specs.declared.data.Op.TheVariants.{Sync}
+use Rattle.ufs_model.specs.declared.data.Reply.TheVariants.{Done}
+use Rattle.ufs_sound.specs.declared.fresh.Fresh.{Fresh}
+use Rattle.ufs_sound.specs.ByImages.{by_images}
+use Rattle.ufs_sound.specs.Draws.{Leaves}
+use Rattle.ufs_sound.specs.Durable.{IsDurable}
+use Rattle.ufs_sound.specs.Parts.{IsDiskTold, NamesPart, StorePart, Start, View, Word, spent}
+use Rattle.ufs_sound.specs.Marks.{MayAsk, asking, MayRemake}
+use Rattle.ufs_sound.specs.Whole.{CanOpen, IsWhole}
+
+-- which table a session has, and what it started from
+pub record Session : Type 0 where
+  pub table : TableId
+  pub start : Start
+
+-- the first hand has every part
+abbrev pub first_view : Start → View
+first_view k = k.view
+
+-- The first hand has every part of a tree in which nothing is open, on a disk that shows it.
+pub record CanBegin (k : Start) : Type 0 where
+  pub names : NamesPart
+  pub store : StorePart
+  pub can : CanOpen by_images k names store
+
+abbrev pub word_of : ℕ → ℕ → Word
+word_of tickets clock = record { tickets = tickets; clock = clock }
+
+-- The hand with every part knows one whole history; and every image that the disk can have left since the opening is
+-- explained by it, where the disk tells what it holds.
+pub record KnowsAll (k : Start) (tickets clock : ℕ) (v : View) : Type 0 where
+  pub store : StorePart
+  pub has_store : v.store ≡ (tt, store) ∷ []
+  pub whole : IsWhole by_images k (word_of tickets clock) v store
+  pub durable : IsDiskTold k → IsDurable k (word_of tickets clock) v store
+
+-- ---- what a mark may leave
+
+-- A client that the hand has with what it last asked asks a request.
+pub record AsksRequest (v : View) (leaves : ℕ → View) : Type 0 where
+  pub client : ℕ
+  pub request : Op
+  pub may : MayAsk client v
+  pub is : leaves ≡ (λ tickets. asking tickets client request may.self v)
+
+-- An event without an entry: a client asks, or the hand's parts go on as whatever the tickets are allows.
+abbrev pub IsEvent : Start → View → (ℕ → View) → Type 0
+IsEvent k v leaves = AsksRequest v leaves ⊎ ((tickets : ℕ) → MayRemake by_images k tickets v (leaves tickets))
+
+-- ---- what stands where nobody picked anything
+
+abbrev pub no_table : TableId
+no_table = record { words = 0; slots = 0; views_name = 0; atom = 0; block = 0; offset = 0; slot_names = [] }
+
+abbrev pub no_start : Start
+no_start = record { tree = root_alone; view = spent; is_told = false }
+
+abbrev pub leaves_nothing : Leaves
+leaves_nothing = record { fds = fin.empty; files = []; names = [] }
+
+abbrev pub no_entry : Fresh
+no_entry = record { client = 0; seq = 0; by = Primary; op = Sync; reply = Done }

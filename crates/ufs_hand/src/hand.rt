@@ -1,0 +1,204 @@
+// The hands of one session, and the table that they share.
+ghost use Rattle.std.specs.Prelude.{◌≡◌, ◌≤◌, ◌%◌, [], IfOk};
+ghost use Rattle.ufs_sound.specs.Rule.{clock_step};
+ghost use Rattle.ufs_sound.specs.Parts.{HoldsPart, kept_of, given_of, both_of};
+ghost use Rattle.ufs_sound.specs.Draws.{MayDraw, drawn};
+ghost use Rattle.ufs_sound.specs.Whole.{HoldsAll};
+ghost use Rattle.ufs_hand.specs.Session.{first_view, CanBegin, IsEvent, KnowsAll};
+
+use crate::rule::{Board, Cut, Drawing, Draws, Event, Glue, Leaving, Marks, Naming, Parts, Picked};
+use atomic_table::{Closed, Seat, Table};
+use std::alloc::{AllocError, Global};
+use std::marker::{Brand, Model, PhantomData};
+use ufs_model::{
+    PartName, a_request_is_local, a_request_keeps_the_tree, a_request_makes_one_file_at_most,
+};
+use ufs_sound::{Fresh, Knowledge};
+
+// The tickets are the low 40 bits of the word, and the clock the high 24.
+const CLOCK: u64 = 1 << 40;
+
+/// The right to some parts of a session. Contracts see which parts, with what stands in them.
+#[derive(Drop)]
+pub struct Hand<N: Naming> {
+    seat: Seat<(), Knowledge>,
+    of: PhantomData<N>,
+}
+
+impl<N: Naming> Model for Hand<N> {
+    ghost use Rattle.std.specs.Prelude.{◌≡◌, []};
+    ghost use Rattle.ufs_sound.specs.Codes.{view_code};
+    ghost use Rattle.ufs_sound.specs.Parts.{View};
+
+    ghost Value = { View };
+
+    ghost coded = { view_code };
+
+    ghost view = { λ h. h.seat.me.0 };
+
+    ghost invariant = { λ h. (h.seat.table_id ≡ N.table) × (h.seat.me.1 ≡ []) };
+}
+
+/// The word of a session: the tickets in its low 40 bits, the clock above them.
+pub struct HandTable<N: Naming> {
+    table: Board,
+    of: PhantomData<N>,
+}
+
+impl<N: Naming> Model for HandTable<N> {
+    ghost use Rattle.std.specs.Prelude.{◌≡◌};
+
+    ghost Value = { Unit {0} };
+
+    ghost view = { λ _. tt };
+
+    ghost invariant = { λ t. (t.table.shared.table_id ≡ N.table) × (t.table.shared.table_id.words ≡ 1) × (t.table.shared.table_id.slots ≡ 0) × (t.table.shared.key.start ≡ N.start) };
+}
+
+/// A session that was opened, and has no name yet.
+pub struct Opened {
+    table: Board,
+    seat: Seat<(), Knowledge>,
+}
+
+impl Model for Opened {
+    ghost use Rattle.std.specs.Prelude.{◌≡◌, []};
+    ghost use Rattle.ufs_hand.specs.Codes.{session_code};
+    ghost use Rattle.ufs_hand.specs.Session.{Session, first_view};
+
+    ghost Value = { Session };
+
+    ghost coded = { session_code };
+
+    ghost view = { λ o. record { table = o.table.shared.table_id; start = o.table.shared.key.start } };
+
+    ghost invariant = { λ o. (o.seat.table_id ≡ o.table.shared.table_id) × (o.table.shared.table_id.words ≡ 1) × (o.table.shared.table_id.slots ≡ 0) × (o.seat.me ≡ (first_view o.table.shared.key.start, [])) };
+}
+
+/// A session that has a name, and its first hand.
+pub struct Begun<N: Naming> {
+    pub table: HandTable<N>,
+    pub hand: Hand<N>,
+}
+
+/// How a session ended.
+#[derive(Clone, Copy)]
+pub struct Whole {
+    /// How many entries were drawn.
+    pub tickets: u64,
+    /// Where the clock stood, below 2^24.
+    pub clock: u32,
+}
+
+impl Opened {
+    /// A session that starts from these parts, with ticket and clock 0. Only this call takes memory.
+    pub fn open(alloc: Global, parts: Parts) -> Result<Opened, AllocError>
+        requires { CanBegin parts.start }
+        ensures { IfOk result (λ o. o.start ≡ parts.start) }
+    {
+        let (table, seat) = Table::of_words(alloc, &[0], &parts)?;
+        Ok(Opened { table, seat })
+    }
+
+    /// The same, under a name. The hand holds every part.
+    pub fn named<N: Naming>(self) -> Begun<N>
+        requires { (self.table ≡ N.table) × (self.start ≡ N.start) }
+        ensures { result.hand ≡ first_view N.start }
+    {
+        let Opened { table, seat } = self;
+        Begun {
+            table: HandTable {
+                table,
+                of: PhantomData,
+            },
+            hand: Hand {
+                seat,
+                of: PhantomData,
+            },
+        }
+    }
+}
+
+impl<N: Naming> Hand<N> {
+    /// A new hand with just this part, which this hand has no more.
+    pub fn split(&mut self, table: &HandTable<N>, part: PartName) -> Hand<N>
+        requires { HoldsPart part self.old }
+        ensures kept { self.new ≡ kept_of part self.old }
+        ensures given { result ≡ given_of part self.old }
+    {
+        self.split_as::<Brand>(table, part)
+    }
+
+    fn split_as<P: Picked>(&mut self, table: &HandTable<N>, part: PartName) -> Hand<N>
+        requires { part ≡ P.part }
+        ensures kept { self.new ≡ kept_of part self.old }
+        ensures given { result ≡ given_of part self.old }
+    {
+        let seat = table.table.shared.split_seat::<Cut<P>>(&mut self.seat);
+        Hand {
+            seat,
+            of: PhantomData,
+        }
+    }
+
+    /// This hand has the parts of both, and the other is no more.
+    pub fn join(&mut self, table: &HandTable<N>, other: Hand<N>)
+        ensures { self.new ≡ both_of self.old other }
+    {
+        let Hand { seat, of: _ } = other;
+        table.table.shared.join_seat::<Glue>(&mut self.seat, seat);
+    }
+
+    /// The next ticket, for this entry. The parts go on by it, to what the caller picks.
+    pub fn draw<L: Leaving>(&mut self, table: &HandTable<N>, fresh: &Fresh) -> u64
+        requires { MayDraw fresh.now self.old L.leaves [] }
+        ensures parts { self.new ≡ drawn result fresh.now L.leaves self.old }
+        ensures later { self.old.seen ≤ result }
+    {
+        self.draw_as::<Brand, L>(table, fresh)
+    }
+
+    fn draw_as<F: Drawing, L: Leaving>(&mut self, table: &HandTable<N>, fresh: &Fresh) -> u64
+        requires fresh { fresh.now ≡ F.fresh }
+        requires may { MayDraw fresh.now self.old L.leaves [] }
+        ensures parts { self.new ≡ drawn result fresh.now L.leaves self.old }
+        ensures later { self.old.seen ≤ result }
+    {
+        let _ = fresh;
+        a_request_keeps_the_tree();
+        a_request_is_local();
+        a_request_makes_one_file_at_most();
+        let word = table
+            .table
+            .shared
+            .fetch_add::<Draws<F, L>>(&mut self.seat, 0, 1);
+        word % CLOCK
+    }
+
+    /// The parts go on by an event that has no entry. Answers the word.
+    pub fn mark<E: Event>(&mut self, table: &HandTable<N>) -> u64
+        requires { IsEvent N.start self.old E.leaves }
+        ensures parts { self.new ≡ E.leaves (result % clock_step) }
+        ensures later { self.old.seen ≤ result % clock_step }
+    {
+        a_request_keeps_the_tree();
+        table.table.shared.load::<Marks<E>>(&mut self.seat, 0)
+    }
+
+    /// The end of the session, by the hand with every part.
+    pub fn close(self, table: HandTable<N>) -> Whole
+        requires { HoldsAll N.start self }
+        ensures { KnowsAll N.start result.tickets result.clock self }
+    {
+        a_request_keeps_the_tree();
+        let Hand { seat, of: _ } = self;
+        let HandTable { table, of: _ } = table;
+        let closed = table.close_with(seat);
+        let word = closed.word(0);
+        closed.free();
+        Whole {
+            tickets: word % CLOCK,
+            clock: (word / CLOCK) as u32,
+        }
+    }
+}

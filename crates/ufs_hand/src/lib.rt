@@ -1,0 +1,8 @@
+//! A hand is the right to the parts that it names, of one session. All hands together keep one history.
+#![tactic(auto)]
+
+mod hand;
+mod rule;
+
+pub use hand::{Begun, Hand, HandTable, Opened, Whole};
+pub use rule::{Event, Leaving, Naming, Opening, Parts};

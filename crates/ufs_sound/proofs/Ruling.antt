@@ -1,0 +1,125 @@
+-- Each step of a hand keeps the table's rule.
+use Rattle.std.proofs.Common.{◌≡◌, ℕ, zero, suc, ◌+◌, ◌*◌, ◌/◌, ◌%◌, ◌^◌, ◌<◌, ◌≤◌, cond, eq-eqb, ne_eqb, List, [], ◌∷◌, length, set, sym, refl, ap, ◌∙◌, subst, inl, inr, arith, mod-eq_of_lt}
+use Rattle.std.specs.Prelude.{slice_index, slice_set}
+use Rattle.std.proofs.Math.Nat.{add-mul-mod_self_right}
+use native.Mathlib.Decide.{ℕ_discrete}
+use Rattle.atomic_table.specs.Table.{Me, keeps, Allows, Splits, Joins}
+use Rattle.ufs_model.specs.Laws.{KeepsTrees, Locality, MakesOneFile}
+use Rattle.ufs_model.specs.History.{entries_of}
+use Rattle.ufs_model.specs.declared.data.Op.{Op}
+use Rattle.ufs_model.specs.declared.data.Entry.{Entry}
+use Rattle.ufs_model.specs.declared.data.PartName.{PartName}
+use Rattle.ufs_sound.specs.declared.fresh.Fresh.{Fresh}
+use Rattle.ufs_sound.specs.Owned.{Has}
+use Rattle.ufs_sound.specs.Parts.{View, Word, Start, kept_of, given_of, both_of, spent}
+use Rattle.ufs_sound.specs.Explained.{Showing}
+use Rattle.ufs_sound.specs.Sound.{IsSound}
+use Rattle.ufs_sound.specs.Draws.{Leaves, drawn, MayDraw}
+use Rattle.ufs_sound.specs.Marks.{MayAsk, asking, MayRemake}
+use Rattle.ufs_sound.specs.Rule.{clock_step, word_number, IsRuled, Drew, Marked}
+use Rattle.ufs_sound.proofs.Apart.{split_sound, join_sound}
+use Rattle.ufs_sound.proofs.Drawn.{draw_sound}
+use Rattle.ufs_sound.proofs.Marking.{remake_sound}
+use Rattle.ufs_sound.proofs.Asking.{ask_sound}
+
+-- ---- the tickets are few
+
+abbrev tally : ℕ → List Entry → ℕ
+tally zero h = 0
+tally (suc k) h = length (entries_of k h) + tally k h
+
+tally_room : (k : ℕ) (h : List Entry) → ((c : ℕ) → length (entries_of c h) ≤ 65536) → tally k h ≤ k * 65536
+tally_room zero h r = omega arith
+tally_room (suc k) h r = let i = tally_room k h r in let a = r k in omega arith
+
+tally_skip : (k : ℕ) (e : Entry) (h : List Entry) → k ≤ e.client → tally k (e ∷ h) ≡ tally k h
+tally_skip zero e h l = refl
+tally_skip (suc k) e h l = let i = tally_skip k e h (omega arith) in let b : length (entries_of k (e ∷ h)) ≡ length (entries_of k h) = ap (λ b. length (cond b (e ∷ entries_of k h) (entries_of k h))) (ne_eqb e.client k (omega arith)) in omega arith
+
+tally_step : (k : ℕ) (e : Entry) (h : List Entry) → e.client < k → tally k (e ∷ h) ≡ suc (tally k h)
+tally_step zero e h l = absurd (omega arith)
+tally_step (suc k) e h l = step_at (ℕ_discrete e.client k) (tally_step k e h)
+  where
+    step_at : Dec (e.client ≡ k) → (e.client < k → tally k (e ∷ h) ≡ suc (tally k h)) → tally (suc k) (e ∷ h) ≡ suc (tally (suc k) h)
+    step_at (yes s) r = let i = tally_skip k e h (omega arith) in let b : length (entries_of k (e ∷ h)) ≡ suc (length (entries_of k h)) = ap (λ b. length (cond b (e ∷ entries_of k h) (entries_of k h))) (eq-eqb e.client k s) in omega arith
+    step_at (no s) r = let i = r (omega arith) in let b : length (entries_of k (e ∷ h)) ≡ length (entries_of k h) = ap (λ b. length (cond b (e ∷ entries_of k h) (entries_of k h))) (ne_eqb e.client k s) in omega arith
+
+tally_none : (k : ℕ) → tally k [] ≡ 0
+tally_none zero = refl
+tally_none (suc k) = let i = tally_none k in omega arith
+
+tally_all : (h : List Entry) → ((e : Entry) → Has e h → e.client < 16) → tally 16 h ≡ length h
+tally_all [] l = tally_none 16
+tally_all (e ∷ h) l = let i = tally_all h (λ x m. l x (inr m)) in let s = tally_step 16 e h (l e (inl refl)) in omega arith
+
+module _ (S : Showing) (k : Start) where
+  pub few : (word : Word) (views : List View) → IsSound S k word views → word.tickets ≤ 1048576
+  few word views o = let a = tally_room 16 o.history o.tickets_once.room in let b = tally_all o.history (λ e h. (o.tickets_once.there e h).0) in let c = o.tickets_once.tickets in omega arith
+
+  pub tickets_of : (word : Word) → word.tickets ≤ 1048576 → word_number word % clock_step ≡ word.tickets
+  tickets_of word l = add-mul-mod_self_right word.tickets word.clock clock_step ∙ mod-eq_of_lt (omega arith)
+
+  pub clock_of : (word : Word) → word.tickets ≤ 1048576 → word_number word / clock_step ≡ word.clock
+  clock_of word l = omega arith
+
+  pub split_keeps : (i : ℕ) (p : PartName) (v : View) → Splits (IsRuled S k) i v (kept_of p v) (given_of p v)
+  split_keeps i p v s h at = record { word = h.word; is = h.is; clock = h.clock; sound = split_sound S k h.word s.views i p v h.sound at }
+
+  pub join_keeps : (i : ℕ) (v : View) (j : ℕ) (u : View) → Joins (IsRuled S k) i v j u (both_of v u) spent
+  join_keeps i v j u s h at ne there = record { word = h.word; is = h.is; clock = h.clock; sound = join_sound S k h.word s.views i j v u h.sound at ne there }
+
+  pub draw_keeps : KeepsTrees → Locality → MakesOneFile → (slots i : ℕ) (f : Fresh) (l : Leaves) (me : Me (Unit {0}) View) → MayDraw f me.0 l [] → Allows (IsRuled S k) slots i me 0 (λ n. (n + 1) % 2 ^ 64) (Drew f l me)
+  draw_keeps keeps' local makes slots i f l me m s h len at below =
+      let n = slice_index s.words 0 in
+      let is : n ≡ word_number h.word = ap (λ ws. slice_index ws 0) h.is in
+      let room = few h.word s.views h.sound in
+      let low = h.clock in
+      let ticket : n % clock_step ≡ h.word.tickets = ap (λ x. x % clock_step) is ∙ tickets_of h.word room in
+      let next : Word = record { tickets = suc h.word.tickets; clock = h.word.clock } in
+      let up : (word_number h.word + 1) % 2 ^ 64 ≡ word_number next = mod-eq_of_lt (omega arith) ∙ (omega arith) in (
+        drawn (n % clock_step) f l me.0,
+        keeps,
+        tt,
+        record {
+          word = next;
+          is = ap (λ ws. slice_set ws 0 ((slice_index ws 0 + 1) % 2 ^ 64)) h.is ∙ ap (λ x. x ∷ []) up;
+          clock = low;
+          sound = subst (λ x. IsSound S k next (set s.views i (drawn x f l me.0))) (sym ticket) (draw_sound (record { keeps = keeps'; local = local; makes = makes; S = S; k = k; word = h.word; views = s.views; i = i; v = me.0; f = f; l = l; known = []; live = λ x none. absurd none; o = h.sound; at = at; m = m }));
+        },
+        (refl, subst (λ x. me.0.seen ≤ x) (sym ticket) (h.sound.clock.seen i me.0 at).0),
+      )
+
+  -- whatever the tickets are when it is marked
+  pub mark_keeps : KeepsTrees → (slots i : ℕ) (w : ℕ → View) (me : Me (Unit {0}) View) → ((tickets : ℕ) → MayRemake S k tickets me.0 (w tickets)) → Allows (IsRuled S k) slots i me 0 (λ n. n) (Marked w me)
+  mark_keeps keeps' slots i w me m s h len at below =
+      let n = slice_index s.words 0 in
+      let is : n ≡ word_number h.word = ap (λ ws. slice_index ws 0) h.is in
+      let ticket : n % clock_step ≡ h.word.tickets = ap (λ x. x % clock_step) is ∙ tickets_of h.word (few h.word s.views h.sound) in (
+        w (n % clock_step),
+        keeps,
+        tt,
+        record {
+          word = h.word;
+          is = ap (λ ws. slice_set ws 0 (slice_index ws 0)) h.is;
+          clock = h.clock;
+          sound = subst (λ x. IsSound S k h.word (set s.views i (w x))) (sym ticket) (remake_sound keeps' S k h.word s.views i me.0 (w h.word.tickets) h.sound at (m h.word.tickets));
+        },
+        (refl, subst (λ x. me.0.seen ≤ x) (sym ticket) (h.sound.clock.seen i me.0 at).0),
+      )
+
+  pub ask_keeps : (slots i : ℕ) (c : ℕ) (r : Op) (me : Me (Unit {0}) View) → (m : MayAsk c me.0) → Allows (IsRuled S k) slots i me 0 (λ n. n) (Marked (λ t. asking t c r m.self me.0) me)
+  ask_keeps slots i c r me m s h len at below =
+      let n = slice_index s.words 0 in
+      let is : n ≡ word_number h.word = ap (λ ws. slice_index ws 0) h.is in
+      let ticket : n % clock_step ≡ h.word.tickets = ap (λ x. x % clock_step) is ∙ tickets_of h.word (few h.word s.views h.sound) in (
+        asking (n % clock_step) c r m.self me.0,
+        keeps,
+        tt,
+        record {
+          word = h.word;
+          is = ap (λ ws. slice_set ws 0 (slice_index ws 0)) h.is;
+          clock = h.clock;
+          sound = subst (λ x. IsSound S k h.word (set s.views i (asking x c r m.self me.0))) (sym ticket) (ask_sound S k h.word s.views i me.0 c r h.sound at m);
+        },
+        (refl, subst (λ x. me.0.seen ≤ x) (sym ticket) (h.sound.clock.seen i me.0 at).0),
+      )

@@ -1,0 +1,17 @@
+use Rattle.ufs_sound.proofs.Happening.{move_remakes, turn_remakes, tell_remakes, commit_remakes, naming_remakes}
+use Rattle.ufs_sound.proofs.laws.events_are_marks.Goals as goal
+
+pub returns-clause-moves : goal.returns-clause-moves
+returns-clause-moves g c k n v m may = move_remakes g.P.Promise.shows k n v m may
+
+pub returns-clause-turns : goal.returns-clause-turns
+returns-clause-turns g c k n v s lent lent_names has l = turn_remakes g.P.Promise.shows k n v s has lent lent_names l
+
+pub returns-clause-tells : goal.returns-clause-tells
+returns-clause-tells g c k n v s fs may = tell_remakes g.P.Promise.shows k n v s fs may
+
+pub returns-clause-commits : goal.returns-clause-commits
+returns-clause-commits g c k n v file x s through state may = commit_remakes g.P.Promise.shows k n v file x s through state may
+
+pub returns-clause-name_commits : goal.returns-clause-name_commits
+returns-clause-name_commits g c k n v p s commit may = naming_remakes g.P.Promise.shows k n v p s commit may

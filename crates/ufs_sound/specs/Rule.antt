@@ -1,0 +1,29 @@
+-- The rule of the table that the hands of a session share: its word, and the views of its seats.
+use Rattle.std.specs.Prelude.{ℕ, ◌+◌, ◌*◌, ◌%◌, ◌≤◌, ◌<◌, ◌≡◌, List, [], ◌∷◌}
+use Rattle.atomic_table.specs.Table.{State}
+use Rattle.ufs_sound.specs.declared.fresh.Fresh.{Fresh}
+use Rattle.ufs_sound.specs.Parts.{View, Word, Start}
+use Rattle.ufs_sound.specs.Explained.{Showing}
+use Rattle.ufs_sound.specs.Sound.{IsSound}
+use Rattle.ufs_sound.specs.Draws.{Leaves, drawn}
+
+-- the clock stands above the low 40 bits, which are the tickets
+abbrev pub clock_step : ℕ
+clock_step = 1099511627776
+
+abbrev pub word_number : Word → ℕ
+word_number word = word.tickets + word.clock * clock_step
+
+pub record IsRuled (S : Showing) (k : Start) (s : State (Unit {0}) View) : Type 0 where
+  pub word : Word
+  pub is : s.words ≡ word_number word ∷ []
+  pub clock : word.clock < 16777216
+  pub sound : IsSound S k word s.views
+
+-- what a draw leaves: the old low 40 bits are the ticket
+abbrev pub Drew : Fresh → Leaves → View × List (ℕ × Unit {0}) → ℕ → View × List (ℕ × Unit {0}) → Type 0
+Drew f l v n w = (w ≡ (drawn (n % clock_step) f l v.0, v.1)) × (v.0.seen ≤ n % clock_step)
+
+-- what a mark leaves: it may look at the tickets
+abbrev pub Marked : (ℕ → View) → View × List (ℕ × Unit {0}) → ℕ → View × List (ℕ × Unit {0}) → Type 0
+Marked w v n u = (u ≡ (w (n % clock_step), v.1)) × (v.0.seen ≤ n % clock_step)

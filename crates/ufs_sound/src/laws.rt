@@ -1,0 +1,172 @@
+// What the steps of hands mean, apart from the table: each a law that an empty function's contract states.
+ghost use Rattle.ufs_sound.specs.Covers.{CoversAsSynced};
+ghost use Rattle.ufs_sound.specs.Shown.{OpeningsShow, SameTreesShow};
+ghost use Rattle.ufs_sound.specs.Commits.{BlockWritesShow, FileCommitsShow, NameCommitsShow, UnbornAreFresh, FewerShow, BetweenShows};
+ghost use Rattle.ufs_sound.specs.Meets.{FileCommitsMay, NameCommitsMay};
+ghost use Rattle.ufs_sound.specs.ByImages.{by_images};
+ghost use Rattle.ufs_sound.specs.First.{NewDiskOpens, BlindDisksOpen};
+ghost use Rattle.ufs_sound.specs.Refused.{DrawsNeedTheirParts, SplitsLeaveNone, PartsStandOnce, BlocksStandOnce, SyncsNeedCommits, KnownIsCommitted, TicketsAreOnce, ClosesNeedAll};
+ghost use Rattle.ufs_sound.specs.Session.{NewDiskServes};
+ghost use Rattle.ufs_layout.specs.Areas.{IsGeometry};
+ghost use Rattle.ufs_sound.specs.Durable.{StoresAreExplained, ImagesAreExplained};
+ghost use Rattle.ufs_sound.specs.Laws.{BeginIsSound, SplitKeeps, JoinKeeps, DrawKeeps, AskKeeps, RemakeKeeps, CloseIsWhole, LookKeeps, TickKeeps, MovesAreMarks, TurnsAreMarks, TellsAreMarks, CommitsAreMarks, NameCommitsAreMarks, HandsKnow};
+
+use ufs_image::new_image_law;
+use ufs_layout::Geometry;
+use ufs_model::{
+    a_request_is_local, a_request_keeps_the_tree, a_request_makes_one_file_at_most,
+    a_start_is_a_tree,
+};
+
+/// What a state of the disk shows of a history.
+pub trait Promise {
+    ghost use Rattle.ufs_sound.specs.Explained.{Showing};
+
+    ghost shows: { Showing };
+}
+
+/// The first hand, with every part, is sound.
+pub fn a_beginning_is_sound<P: Promise>()
+    ensures { BeginIsSound P.shows }
+{}
+
+/// A hand is split and two are joined, and no part changes.
+pub fn hands_are_split_and_joined<P: Promise>()
+    ensures split { SplitKeeps P.shows }
+    ensures join { JoinKeeps P.shows }
+{}
+
+/// An entry is drawn on the parts that a hand has.
+pub fn an_entry_is_drawn<P: Promise>()
+    ensures { DrawKeeps P.shows }
+{
+    a_request_is_local();
+    a_request_keeps_the_tree();
+    a_request_makes_one_file_at_most();
+}
+
+/// An event without an entry.
+pub fn an_event_is_marked<P: Promise>()
+    ensures ask { AskKeeps P.shows }
+    ensures remake { RemakeKeeps P.shows }
+{
+    a_request_keeps_the_tree();
+}
+
+/// The clock is read, and moved by the hand with the names.
+pub fn the_clock_is_read_and_moved<P: Promise>()
+    ensures look { LookKeeps P.shows }
+    ensures tick { TickKeeps P.shows }
+{}
+
+/// Blocks that move, a store turn that begins, what is told to a file, and a commit of a file are events without an entry.
+pub fn events_are_marks<P: Promise>()
+    ensures moves { MovesAreMarks P.shows }
+    ensures turns { TurnsAreMarks P.shows }
+    ensures tells { TellsAreMarks P.shows }
+    ensures commits { CommitsAreMarks P.shows }
+    ensures name_commits { NameCommitsAreMarks P.shows }
+{}
+
+/// A hand knows of one history from which its parts come, and with the store's part what the disk shows.
+pub fn a_hand_knows<P: Promise>()
+    ensures { HandsKnow P.shows }
+{
+    a_request_keeps_the_tree();
+}
+
+/// The hand with every part knows one whole history.
+pub fn an_end_is_whole<P: Promise>()
+    ensures { CloseIsWhole P.shows }
+{
+    a_request_keeps_the_tree();
+}
+
+/// Which numbers cover what is acknowledged of a file.
+pub fn acknowledged_changes_are_covered()
+    ensures { CoversAsSynced }
+{
+    a_request_keeps_the_tree();
+}
+
+/// What a state shows by the images that a crash may leave in it.
+pub struct Images;
+
+impl Promise for Images {
+    ghost shows = { by_images };
+}
+
+/// What a disk shows at the opening, and while its images open to the same trees.
+pub fn images_show_trees()
+    ensures opening { OpeningsShow }
+    ensures same { SameTreesShow }
+{
+    a_request_keeps_the_tree();
+}
+
+/// Blocks that are written, and files and names that are committed, leave a disk that shows the history, by the trees to
+/// which its images open.
+pub fn commits_show_changes()
+    ensures blocks { BlockWritesShow }
+    ensures file { FileCommitsShow }
+    ensures names { NameCommitsShow }
+    ensures unborn { UnbornAreFresh }
+    ensures fewer { FewerShow }
+    ensures between { BetweenShows }
+{}
+
+/// The conditions of commits are met by the trees to which the disk's images open.
+pub fn images_meet_commits()
+    ensures file { FileCommitsMay }
+    ensures names { NameCommitsMay }
+{}
+
+/// Every image that a crash may have left since the opening opens to a tree that the history explains: by the store's part
+/// at any time, and at the end by one whole history.
+pub fn every_image_is_explained()
+    ensures store { StoresAreExplained }
+    ensures end { ImagesAreExplained }
+{
+    a_hand_knows::<Images>();
+    an_end_is_whole::<Images>();
+}
+
+/// A session can begin on a disk that was formatted and has nothing pending, and on one that tells nothing.
+pub fn a_new_disk_can_be_opened(geometry: &Geometry)
+    requires { IsGeometry geometry.now }
+    ensures told { NewDiskOpens geometry.now }
+    ensures blind { BlindDisksOpen }
+{
+    new_image_law(geometry);
+    a_request_keeps_the_tree();
+    a_start_is_a_tree();
+}
+
+/// A short session over a new disk, with a step of each kind: each state is sound, and the last hand knows one history.
+pub fn a_short_session_is_sound(geometry: &Geometry)
+    requires { IsGeometry geometry.now }
+    ensures { NewDiskServes geometry.now }
+{
+    a_new_disk_can_be_opened(geometry);
+    a_request_is_local();
+    a_request_keeps_the_tree();
+    a_request_makes_one_file_at_most();
+}
+
+/// What a step asks of its own hand, in words of what it can't do: a draw on a part that the hand hasn't, a split that
+/// leaves the part, an acknowledged `fsync` whose changes aren't known as committed, a close without one part.
+pub fn a_step_needs_its_parts<P: Promise>()
+    ensures draws { DrawsNeedTheirParts }
+    ensures splits { SplitsLeaveNone }
+    ensures syncs { SyncsNeedCommits P.shows }
+    ensures closes { ClosesNeedAll }
+{}
+
+/// What no steps of all hands lead to: a part in two hands, a block in two parts, two entries with one ticket, a file
+/// that knows more as committed than the store has.
+pub fn nothing_stands_twice<P: Promise>()
+    ensures parts { PartsStandOnce P.shows }
+    ensures blocks { BlocksStandOnce P.shows }
+    ensures tickets { TicketsAreOnce P.shows }
+    ensures known { KnownIsCommitted P.shows }
+{}

@@ -1,0 +1,18 @@
+// What a hand knows, as the value of a type of which none is made.
+use std::marker::{Model, PhantomData};
+
+/// What a hand knows. No value of it is made.
+pub struct Knowledge {
+    none: PhantomData<()>,
+}
+
+impl Model for Knowledge {
+    ghost use Rattle.ufs_sound.specs.Parts.{View, spent};
+    ghost use Rattle.ufs_sound.specs.Codes.{view_code};
+
+    ghost Value = { View };
+
+    ghost coded = { view_code };
+
+    ghost view = { λ _. spent };
+}
