@@ -1,0 +1,71 @@
+-- Each step of the small session may be taken.
+use Rattle.std.proofs.Common.{◌≡◌, ℕ, true, false, [], ◌∷◌, Some, is_some, sym, refl, ap, ◌∙◌, inl, arith}
+use Rattle.std.specs.Prelude.{◌||◌}
+use Rattle.std.specs.List.{list_any}
+use Rattle.std.specs.Ordering.{nat_cmp}
+use Rattle.std.specs.FinMap as fin
+use Rattle.ufs_model.specs.PosixTree.{PosixTree, IsTree, root_alone, is_node_of}
+use Rattle.ufs_model.specs.declared.data.Actor.TheVariants.{Primary}
+use Rattle.ufs_model.specs.declared.data.Op.TheVariants.{Sync}
+use Rattle.ufs_model.specs.declared.data.PartName.TheVariants.{Client}
+use Rattle.ufs_model.specs.declared.data.Reply.TheVariants.{Excused}
+use Rattle.ufs_model.specs.declared.data.Excuse.TheVariants.{Memory}
+use Rattle.ufs_sound.specs.declared.fresh.Fresh.{Fresh}
+use Rattle.ufs_model.proofs.Facts.Held.{open_by}
+use Rattle.ufs_sound.specs.ByImages.{by_images}
+use Rattle.ufs_sound.specs.Parts.{ClientPart, View, kept_of, given_of, both_of}
+use Rattle.ufs_sound.specs.Draws.{Leaves, IsIn, MayDraw, drawn}
+use Rattle.ufs_sound.specs.Marks.{IsSingle}
+use Rattle.ufs_sound.specs.Whole.{CanOpen, HoldsAll, idle_client, idle_asked}
+use Rattle.ufs_sound.specs.First.{new_names, new_store}
+use Rattle.ufs_sound.proofs.First.{blind_opens}
+use Rattle.ufs_sound.proofs.Drawable.{memory_may_draw}
+use Rattle.ufs_hand.specs.Session.{first_view, CanBegin, IsEvent}
+use Rattle.ufs_hand_tests.specs.Small.{least, small, asked}
+
+abbrev can : CanOpen by_images small new_names (new_store least [])
+can = blind_opens least 1 []
+
+pub begins : CanBegin small
+begins = record { names = new_names; store = new_store least []; can = can }
+
+pub asks : IsEvent small (first_view small) asked
+asks = inl (record { client = 0; request = Sync; may = record { self = idle_client; client = inl refl; before = idle_asked; asked = inl refl; idle = refl; room = omega arith }; is = refl })
+
+abbrev pub joined : ℕ → View
+joined n = both_of (kept_of (Client 0) (asked n)) (given_of (Client 0) (asked n))
+
+abbrev asking : ClientPart
+asking = record idle_client { asked = Some Sync }
+
+abbrev pub left : Leaves
+left = record { fds = fin.empty; files = []; names = (tt, new_names) ∷ [] }
+
+abbrev pub fresh : Fresh
+fresh = record { client = 0; seq = 0; by = Primary; op = Sync; reply = Excused Memory }
+
+module _ (n : ℕ) where
+  single : IsSingle (joined n)
+  single = record { files = λ g. omega arith; names = omega arith; store = omega arith }
+
+  pub draws : MayDraw fresh (joined n) left []
+  draws = memory_may_draw 0 0 Primary Sync (joined n) single asking (inl refl) (omega arith) refl refl
+
+  no_file : (t : PosixTree) → IsTree t → (ticket : ℕ) → IsIn (drawn ticket fresh left (joined n)) t → (f : ℕ) → is_some (fin.get t.bytes f) ≡ false
+  no_file t is ticket within f =
+      is.live f
+      ∙ (λ j. list_any (is_node_of f) (fin.values (sym (within.paths tt new_names (inl refl)) j)) || open_by t.fds root_alone.fds f (λ c. sym (within.holds tt new_names (inl refl) c f) ∙ sym (can.free c f)) j)
+      ∙ sym (can.tree.live f) ∙ ap is_some (fin.get-empty nat_cmp f)
+
+  pub has_all : (ticket : ℕ) → HoldsAll small (drawn ticket fresh left (joined n))
+  has_all ticket = record {
+    clients = λ c. omega arith;
+    names = new_names;
+    has_names = refl;
+    store = new_store least [];
+    has_store = refl;
+    files = λ t is within f there. absurd (both (sym there ∙ no_file t is ticket within f));
+  }
+    where
+      both : true ≡ false → ⊥
+      both e = cc
