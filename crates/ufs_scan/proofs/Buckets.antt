@@ -41,7 +41,7 @@ tie_is m n = elim (cases_eq n m) [
 
 -- ---- lists
 
-filter_none : {X : Type 0} (p : X → Bool) (xs : List X) → All (λ x. p x ≡ false) xs → filter p xs ≡ []
+pub filter_none : {X : Type 0} (p : X → Bool) (xs : List X) → All (λ x. p x ≡ false) xs → filter p xs ≡ []
 filter_none p [] none = refl
 filter_none p (x ∷ xs) none =
     λ i. if All-head (λ x. p x ≡ false) x xs none i then x ∷ filter p xs else filter_none p xs (All-tail (λ x. p x ≡ false) x xs none) i

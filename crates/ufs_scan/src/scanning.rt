@@ -36,7 +36,7 @@ pub fn scan<D: Disk>(
     ensures cause { IfErr result (HasFaultCause (D.faults disk.old) (D.faults disk.new)) }
 {
     let sectors = read_journal(alloc, disk, geometry, head.epoch)?;
-    let off = first_off(geometry, head.next, &sectors.found);
+    let off = first_off(alloc, geometry, head.next, &sectors.found)?;
     let list = gather(alloc, &sectors.found)?;
     let standings = read_standings(alloc, disk, geometry)?;
     let out = lowest_out(alloc, geometry, standings, &list)?;
