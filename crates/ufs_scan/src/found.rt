@@ -52,6 +52,15 @@ impl Found {
         self.index
     }
 
+    // It has records, and its index is a 16-bit number.
+    pub(crate) fn is_part(&self) -> bool
+        ensures value { result ≡ has_records self.now }
+        ensures small { self.now.1.index < 65536 }
+    {
+        let _index = self.index;
+        self.commit.is_none()
+    }
+
     // A number for its transaction and index.
     pub(crate) fn place(&self) -> u64
         ensures value { result ≡ place_of self.now }
