@@ -2,13 +2,13 @@
 use Rattle.std.proofs.Common.{◌≡◌, inl, inr, ℕ, zero, suc, ◌+◌, ◌<◌, ◌≤◌, List, [], ◌∷◌, ◌++◌, Bool, true, false, ◌&&◌, refl, ap, sym, ◌∙◌, arith}
 use Rattle.std.specs.Prelude.{if◌then◌else◌, ◌==◌, not, nat_lt, map, flat_map}
 use Rattle.std.specs.List.{All, filter, range_with_len}
-use Rattle.std.specs.List.Sorted.{IsPermutation, IsNonDecreasingBy, IsStableByKey, ties}
+use Rattle.std.specs.List.Sorted.{IsNonDecreasingBy, IsStableByKey, ties}
 use Rattle.std.specs.Ordering.{is_lt, nat_cmp}
 use Rattle.std.proofs.lemmas.Bool.{lt-ltb, le-ltb, cases_lt, cases_eq, eq-eqb, ne_eqb, eqb-true}
 use Rattle.std.proofs.lemmas.Grind.{flat_map-append}
 use Rattle.std.proofs.lemmas.List.{append-nil}
 use Rattle.std.proofs.lemmas.List.Elements.{All-cons, All-nil, All-head, All-tail, filter_agree, filter_passes}
-use Rattle.std.proofs.lemmas.List.Sorted.{All-permutation, IsNonDecreasingBy-drop}
+use Rattle.std.proofs.lemmas.List.Sorted.{IsNonDecreasingBy-drop}
 use Rattle.ufs_scan.proofs.Noted.{range_more}
 
 -- ---- orders
@@ -41,12 +41,12 @@ tie_is m n = elim (cases_eq n m) [
 
 -- ---- lists
 
-filter_none : {X : Type 0} (p : X → Bool) (xs : List X) → All (λ x. p x ≡ false) xs → filter p xs ≡ []
+pub filter_none : {X : Type 0} (p : X → Bool) (xs : List X) → All (λ x. p x ≡ false) xs → filter p xs ≡ []
 filter_none p [] none = refl
 filter_none p (x ∷ xs) none =
     λ i. if All-head (λ x. p x ≡ false) x xs none i then x ∷ filter p xs else filter_none p xs (All-tail (λ x. p x ≡ false) x xs none) i
 
-filter_all : {X : Type 0} (p : X → Bool) (xs : List X) → All (λ x. p x ≡ true) xs → filter p xs ≡ xs
+pub filter_all : {X : Type 0} (p : X → Bool) (xs : List X) → All (λ x. p x ≡ true) xs → filter p xs ≡ xs
 filter_all p [] every = refl
 filter_all p (x ∷ xs) every =
     λ i. if All-head (λ x. p x ≡ true) x xs every i then x ∷ filter_all p xs (All-tail (λ x. p x ≡ true) x xs every) i else filter p xs
@@ -81,16 +81,16 @@ same_range G H a (suc n) same = λ i. same a (omega arith) i ++ same_range G H (
 -- ---- in order
 
 module _ {X : Type 0} (key : X → ℕ) where
-  abbrev at : ℕ → X → Bool
+  abbrev pub at : ℕ → X → Bool
   at i x = key x == i
 
-  abbrev under : ℕ → X → Bool
+  abbrev pub under : ℕ → X → Bool
   under c x = nat_lt (key x) c
 
-  behind_head : (y : X) (ys : List X) → IsNonDecreasingBy key (y ∷ ys) → All (λ o. key y ≤ key o) ys
+  pub behind_head : (y : X) (ys : List X) → IsNonDecreasingBy key (y ∷ ys) → All (λ o. key y ≤ key o) ys
   behind_head y ys up k d lt = up 0 (suc k) d (omega arith) (omega (arith, lt))
 
-  one_more : (c : ℕ) (ys : List X) → IsNonDecreasingBy key ys → filter (under (c + 1)) ys ≡ filter (under c) ys ++ filter (at c) ys
+  pub one_more : (c : ℕ) (ys : List X) → IsNonDecreasingBy key ys → filter (under (c + 1)) ys ≡ filter (under c) ys ++ filter (at c) ys
   one_more c [] up = refl
   one_more c (y ∷ ys) up =
       let rest = one_more c ys (IsNonDecreasingBy-drop key 1 (y ∷ ys) up) in
@@ -107,7 +107,7 @@ module _ {X : Type 0} (key : X → ℕ) where
             ])
       ]
 
-  buckets : {Y : Type 0} (F : X → List Y) (c : ℕ) (ys : List X) → IsNonDecreasingBy key ys → flat_map F (filter (under c) ys) ≡ flat_map (λ i. flat_map F (filter (at i) ys)) (range_with_len 0 c)
+  pub buckets : {Y : Type 0} (F : X → List Y) (c : ℕ) (ys : List X) → IsNonDecreasingBy key ys → flat_map F (filter (under c) ys) ≡ flat_map (λ i. flat_map F (filter (at i) ys)) (range_with_len 0 c)
   buckets F zero ys up = ap (flat_map F) (filter_none (under 0) ys (λ k d lt. le-ltb _ 0 (omega arith)))
   buckets F (suc c) ys up =
       let one : suc c ≡ c + 1 = omega arith in
@@ -123,7 +123,7 @@ module _ {X : Type 0} (key : X → ℕ) where
   ties_at x i is y = (λ j. not (lt_is (key x) (key y) j) && not (lt_is (key y) (key x) j)) ∙ tie_is (key x) (key y) ∙ ap (λ n. key y == n) is
 
   -- a stable sort leaves each number's part as it was
-  same_part : (xs ys : List X) → IsStableByKey key nat_cmp xs ys → (i : ℕ) → filter (at i) ys ≡ filter (at i) xs
+  pub same_part : (xs ys : List X) → IsStableByKey key nat_cmp xs ys → (i : ℕ) → filter (at i) ys ≡ filter (at i) xs
   same_part xs ys stable i = by (filter (at i) ys) (filter (at i) xs) (filter_passes (at i) ys) (filter_passes (at i) xs) refl refl
     where
       moved : (x : X) → key x ≡ i → filter (at i) ys ≡ filter (at i) xs
@@ -133,11 +133,3 @@ module _ {X : Type 0} (key : X → ℕ) where
       by [] [] v u vs_is us_is = vs_is ∙ sym us_is
       by (y ∷ vs) us v u vs_is us_is = moved y (eqb-true (key y) i (All-head (λ x. at i x ≡ true) y vs v))
       by [] (x ∷ us) v u vs_is us_is = moved x (eqb-true (key x) i (All-head (λ x. at i x ≡ true) x us u))
-
-  -- a list in order is its parts, one number after the other
-  pub in_order : {Y : Type 0} (F : X → List Y) (c : ℕ) (xs ys : List X) → IsPermutation xs ys → IsNonDecreasingBy key ys → IsStableByKey key nat_cmp xs ys → All (λ x. nat_lt (key x) c ≡ true) xs
-      → flat_map F ys ≡ flat_map (λ i. flat_map F (filter (λ x. key x == i) xs)) (range_with_len 0 c)
-  in_order F c xs ys moves up stable low =
-      ap (flat_map F) (sym (filter_all (under c) ys (All-permutation (λ x. nat_lt (key x) c ≡ true) xs ys moves low)))
-      ∙ buckets F c ys up
-      ∙ same_range (λ i. flat_map F (filter (at i) ys)) (λ i. flat_map F (filter (at i) xs)) 0 c (λ i lt. ap (flat_map F) (same_part xs ys stable i))

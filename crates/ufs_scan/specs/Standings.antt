@@ -52,6 +52,19 @@ behind g number (p ∷ ps) all = behind g number ps (stepped g number p.1 all)
 abbrev pub rested : Standing → Standing
 rested one = record { before = one.number; number = one.number; count = one.count }
 
+-- only the inodes of these records
+abbrev pub rested_at : Geometry → ℕ → List Standing → List Standing
+rested_at g inode all = if is_inode_number g inode then slice_set all (inode - 1) (rested (standing_at all inode)) else all
+
+abbrev pub rested_by : Geometry → LogRecord → List Standing → List Standing
+rested_by g (Delta inode kind size keep extents) all = rested_at g inode all
+rested_by g (Place sector slot dentry) all = all
+rested_by g (Free inode) all = rested_at g inode all
+
+abbrev pub rested_in : Geometry → List PlacedRecord → List Standing → List Standing
+rested_in g [] all = all
+rested_in g (p ∷ ps) all = rested_in g ps (rested_by g p.1 all)
+
 -- the same of several transactions
 abbrev pub out_of : Geometry → List Transaction → List Standing → List ℕ
 out_of g [] all = []

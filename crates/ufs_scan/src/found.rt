@@ -1,10 +1,11 @@
 // Journal sectors, read.
-ghost use Rattle.std.specs.Prelude.{◌≡◌, ◌≤◌, length, IfOk, ◌==◌};
+ghost use Rattle.std.specs.Prelude.{◌≡◌, ◌≤◌, ◌<◌, ◌+◌, ◌*◌, ◌^◌, length, IfOk, ◌==◌};
 ghost use Rattle.ufs_image.specs.Journal.{records_in, commit_in, has_records, has_commit};
 ghost use Rattle.std.specs.Prelude.{option_map, IsTrue};
 ghost use Rattle.ufs_layout.specs.Words.{is_zeros};
 ghost use Rattle.ufs_layout.specs.JournalHead.{is_header};
 ghost use Rattle.ufs_scan.specs.Read.{found_at};
+ghost use Rattle.ufs_scan.specs.Sorted.{place_of, number_of};
 ghost use Rattle.ufs_scan.specs.Parts.{commit_read, content_read, with_head};
 
 use byteorder::{ByteOrder, LittleEndian};
@@ -51,6 +52,30 @@ impl Found {
         self.index
     }
 
+    // It has records, and its index is a 16-bit number.
+    pub(crate) fn is_part(&self) -> bool
+        ensures value { result ≡ has_records self.now }
+        ensures small { self.now.1.index < 65536 }
+    {
+        let _index = self.index;
+        self.commit.is_none()
+    }
+
+    // A number for its transaction and index.
+    pub(crate) fn place(&self) -> u64
+        ensures value { result ≡ place_of self.now }
+        ensures small { result < 2 ^ 48 }
+    {
+        place(self.txn, self.index)
+    }
+
+    // The number of a commit; 0 for records.
+    pub(crate) fn number(&self) -> u64
+        ensures { result ≡ number_of self.now }
+    {
+        self.commit.unwrap_or(0)
+    }
+
     /// The number of a commit.
     pub fn commit(&self) -> Option<u64>
         ensures { result ≡ commit_in self.now.1.content }
@@ -80,6 +105,14 @@ impl Found {
     {
         self.commit.is_none()
     }
+}
+
+// A number for each transaction and index.
+pub(crate) fn place(txn: u32, index: u16) -> u64
+    ensures value { result ≡ txn * 65536 + index }
+    ensures small { result < 2 ^ 48 }
+{
+    u64::from(txn) * 65_536 + u64::from(index)
 }
 
 fn has_only_zeros(bytes: &[u8]) -> bool

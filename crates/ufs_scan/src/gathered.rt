@@ -1,12 +1,15 @@
 // The transactions that have a commit, with their records.
-ghost use Rattle.std.specs.Prelude.{◌≡◌, ◌++◌, IfOk, OnOk};
-ghost use Rattle.ufs_layout.specs.Words.{placed_by};
+ghost use Rattle.std.specs.Prelude.{◌≡◌, ◌++◌, List, IfOk, OnOk};
+ghost use Rattle.std.specs.List.Sorted.{IsNonDecreasingBy};
 ghost use Rattle.ufs_image.specs.Journal.{records_in, transactions};
-ghost use Rattle.ufs_scan.specs.Gathered.{is_below, placed_in, placed_below};
-ghost use Rattle.ufs_image.specs.Journal.{Transaction, committed_of};
-ghost use Rattle.std.specs.Prelude.{filter, flat_map, map};
+ghost use Rattle.ufs_scan.specs.Gathered.{placed_in, transaction_in, HasParts};
+ghost use Rattle.ufs_scan.specs.Sorted.{place_of};
+ghost use Rattle.ufs_image.specs.Journal.{FoundSector, committed_of};
+ghost use Rattle.std.specs.Prelude.{flat_map, map};
 
 use crate::Found;
+use crate::found::place;
+use crate::sorted::{between, commits_in_order};
 use std::alloc::{AllocError, Global};
 use std::marker::Model;
 use ufs_layout::{Committed, CommittedList, ExtentList, LogRecord, Records};
@@ -16,7 +19,7 @@ use ufs_layout::{Committed, CommittedList, ExtentList, LogRecord, Records};
 #[derive(Drop)]
 pub(crate) struct Committing<'a> {
     number: u64,
-    sectors: Vec<&'a Found>,
+    sectors: &'a [&'a Found],
 }
 
 impl<'a> Model for Committing<'a> {
@@ -26,14 +29,14 @@ impl<'a> Model for Committing<'a> {
 
     ghost Value = { Transaction };
 
-    ghost view = { λ t. record { number = t.number; records = flat_map (λ b. placed_in b.now) t.sectors.items } };
+    ghost view = { λ t. record { number = t.number; records = flat_map (λ b. placed_in b.now) t.sectors.now } };
 }
 
 impl<'a> Committing<'a> {
     pub(crate) fn sectors(&self) -> &[&'a Found]
         ensures { flat_map (λ b. placed_in b.now) result.now ≡ self.now.records }
     {
-        self.sectors.as_slice()
+        self.sectors
     }
 
     pub(crate) fn number(&self) -> u64
@@ -73,70 +76,34 @@ fn copy_change(alloc: Global, change: &LogRecord) -> Result<LogRecord, AllocErro
     }
 }
 
-// A record sector of this transaction with a lower index.
-fn is_part_below(one: &Found, txn: u32, count: u16) -> bool
-    ensures { result ≡ is_below txn count one.now }
+// The transaction of a commit.
+fn with_parts<'a>(parts: &'a [&'a Found], one: &Found) -> Committing<'a>
+    requires { IsNonDecreasingBy (λ b. place_of b.now) parts.now }
+    ensures { (all : List FoundSector) → HasParts all (map (λ b. b.now) parts.now) → result ≡ transaction_in all one.now }
 {
-    txn == one.txn() && (one.has_records() && one.index() < count)
-}
-
-// Those sectors, in the order of their places.
-fn parts_below<'a>(
-    alloc: Global,
-    all: &'a [Found],
-    txn: u32,
-    count: u16,
-) -> Result<Vec<&'a Found>, AllocError>
-    ensures { IfOk result (λ list. map (λ b. b.now) list.items ≡ filter (is_below txn count) all.now) }
-{
-    let mut list = Vec::new(alloc);
-    for one in all {
-        if is_part_below(one, txn, count) {
-            list.push(one)?;
-        }
+    let number = one.number();
+    let low = place(one.txn(), 0);
+    let high = place(one.txn(), one.index());
+    Committing {
+        number,
+        sectors: between(parts, low, high),
     }
-    Ok(list)
-}
-
-// Those sectors, in the order of their indexes.
-fn parts_in_order<'a>(
-    alloc: Global,
-    all: &'a [Found],
-    txn: u32,
-    count: u16,
-) -> Result<Vec<&'a Found>, AllocError>
-    ensures { IfOk result (λ list. flat_map (λ b. placed_in b.now) list.items ≡ placed_below all.now txn count) }
-{
-    let mut list = parts_below(alloc, all, txn, count)?;
-    list.sort_by_key(|one| one.index())?;
-    Ok(list)
-}
-
-// By rising number.
-fn put_in_order<'a>(list: &mut Vec<Committing<'a>>, one: Committing<'a>) -> Result<(), AllocError>
-    ensures { OnOk result (list.new.items ≡ placed_by (λ (t : Transaction). t.number) one.entry list.old.items) }
-{
-    let mut at = 0;
-    while at < list.len() && list[at].number() < one.number() {
-        at += 1;
-    }
-    list.insert(at, one)?;
-    Ok(())
 }
 
 // The transactions that have a commit, by rising number.
-pub(crate) fn gather<'a>(alloc: Global, all: &'a [Found]) -> Result<Vec<Committing<'a>>, AllocError>
+pub(crate) fn gather<'a>(
+    alloc: Global,
+    all: &[Found],
+    parts: &'a [&'a Found],
+) -> Result<Vec<Committing<'a>>, AllocError>
+    requires in_order { IsNonDecreasingBy (λ b. place_of b.now) parts.now }
+    requires parts { HasParts all.now (map (λ b. b.now) parts.now) }
     ensures { IfOk result (λ list. list.items ≡ transactions all.now) }
 {
-    let mut list = Vec::new(alloc);
-    let mut at = all.len();
-    while at > 0 {
-        at -= 1;
-        let one = &all[at];
-        if let Some(number) = one.commit() {
-            let sectors = parts_in_order(alloc, all, one.txn(), one.index())?;
-            put_in_order(&mut list, Committing { number, sectors })?;
-        }
+    let commits = commits_in_order(alloc, all)?;
+    let mut list = Vec::with_capacity(alloc, commits.len())?;
+    for one in &commits {
+        list.push(with_parts(parts, one))?;
     }
     Ok(list)
 }

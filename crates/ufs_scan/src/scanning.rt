@@ -11,6 +11,7 @@ use crate::ScanFault;
 use crate::gathered::{copy_all, gather};
 use crate::off::{first_off, lower};
 use crate::reading::{read_journal, read_standings};
+use crate::sorted::parts_in_places;
 use crate::standing::lowest_out;
 use std::alloc::Global;
 use ufs_disk::Disk;
@@ -36,8 +37,9 @@ pub fn scan<D: Disk>(
     ensures cause { IfErr result (HasFaultCause (D.faults disk.old) (D.faults disk.new)) }
 {
     let sectors = read_journal(alloc, disk, geometry, head.epoch)?;
-    let off = first_off(geometry, head.next, &sectors.found);
-    let list = gather(alloc, &sectors.found)?;
+    let off = first_off(alloc, geometry, head.next, &sectors.found)?;
+    let parts = parts_in_places(alloc, &sectors.found)?;
+    let list = gather(alloc, &sectors.found, &parts)?;
     let standings = read_standings(alloc, disk, geometry)?;
     let out = lowest_out(alloc, geometry, standings, &list)?;
     match lower(lower(sectors.misspelled, off), out) {

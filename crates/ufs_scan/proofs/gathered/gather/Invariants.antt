@@ -1,14 +1,7 @@
-use Rattle.std.proofs.Common.{◌≡◌, ◌≤◌, drop, length}
-use Rattle.std.specs.List.{filter_map}
-use Rattle.ufs_layout.specs.Words.{rising_by}
-use Rattle.ufs_image.specs.Journal.{Transaction, transaction_of}
+use Rattle.std.proofs.Common.{◌≡◌, take}
+use Rattle.std.specs.Prelude.{map}
+use Rattle.ufs_scan.specs.Gathered.{transaction_in}
 use Rattle.ufs_scan.proofs.gathered.gather.Given as goal
 
-abbrev pub invariant-loop-at : goal.invariant-loop-at
-invariant-loop-at l = record {
-  within : l.at ≤ length l.all;
-  so_far : l.list.items ≡ rising_by (λ (t : Transaction). t.number) (filter_map (transaction_of l.all) (drop l.at l.all));
-}
-
-abbrev pub decreases-loop-at : goal.decreases-loop-at
-decreases-loop-at l = l.at
+abbrev pub invariant-loop-one : goal.invariant-loop-one
+invariant-loop-one l = l.list.items ≡ map (transaction_in l.all) (map (λ b. b.now) (take l.one-index l.one-items))

@@ -32,10 +32,10 @@ pub returns-in-Some-clause-bad : goal.returns-in-Some-clause-bad
 returns-in-Some-clause-bad g c told =
     told_bad c.args.geometry.now c.requires.geometry c.args.head.now (reads (g.D.Disk.moments c.args.disk.now)) (reads (g.D.Disk.moments c.read_journal.new.disk)) (c.read_journal.ensures.content told)
     c.in_ok-sectors.sectors.misspelled (c.in_ok-sectors.ensures.misspelled told) c.in_ok-sectors.sectors.found.items (c.in_ok-sectors.ensures.found told)
-    c.first_off-off.result (c.first_off-off.ensures ∙ ap (first_off c.args.geometry.now c.args.head.now.next) c.deref.ensures.value)
-    c.in_ok-list.list.items (c.in_ok-list.ensures ∙ ap transactions c.deref-2.ensures.value)
+    c.in_ok-off.off (c.in_ok-off.ensures ∙ ap (first_off c.args.geometry.now c.args.head.now.next) c.deref.ensures.value)
+    c.in_ok-list.list.items (c.in_ok-list.ensures ∙ ap transactions c.deref-3.ensures.value)
     c.in_ok-standings.standings.items (c.in_ok-standings.ensures.list told)
-    c.in_ok-out.out (c.in_ok-out.ensures ∙ ap (λ x. lowest_of (out_of c.args.geometry.now x c.in_ok-standings.standings.items)) c.deref-3.ensures.value)
+    c.in_ok-out.out (c.in_ok-out.ensures ∙ ap (λ x. lowest_of (out_of c.args.geometry.now x c.in_ok-standings.standings.items)) c.deref-5.ensures.value)
     c.lower.result c.lower-2.result c.lower.ensures c.lower-2.ensures
     ∙ c.in-Some.is
 
@@ -43,9 +43,9 @@ pub returns-clause-whole : goal.returns-clause-whole
 returns-clause-whole g c told =
     told_bad c.args.geometry.now c.requires.geometry c.args.head.now (reads (g.D.Disk.moments c.args.disk.now)) (reads (g.D.Disk.moments c.read_journal.new.disk)) (c.read_journal.ensures.content told)
     c.in_ok-sectors.sectors.misspelled (c.in_ok-sectors.ensures.misspelled told) c.in_ok-sectors.sectors.found.items (c.in_ok-sectors.ensures.found told)
-    c.first_off-off.result (c.first_off-off.ensures ∙ ap (first_off c.args.geometry.now c.args.head.now.next) c.deref.ensures.value)
-    c.in_ok-list.list.items (c.in_ok-list.ensures ∙ ap transactions c.deref-2.ensures.value)
+    c.in_ok-off.off (c.in_ok-off.ensures ∙ ap (first_off c.args.geometry.now c.args.head.now.next) c.deref.ensures.value)
+    c.in_ok-list.list.items (c.in_ok-list.ensures ∙ ap transactions c.deref-3.ensures.value)
     c.in_ok-standings.standings.items (c.in_ok-standings.ensures.list told)
-    c.in_ok-out.out (c.in_ok-out.ensures ∙ ap (λ x. lowest_of (out_of c.args.geometry.now x c.in_ok-standings.standings.items)) c.deref-3.ensures.value)
+    c.in_ok-out.out (c.in_ok-out.ensures ∙ ap (λ x. lowest_of (out_of c.args.geometry.now x c.in_ok-standings.standings.items)) c.deref-5.ensures.value)
     c.lower.result c.lower-2.result c.lower.ensures c.lower-2.ensures
     ∙ c.in-None.is

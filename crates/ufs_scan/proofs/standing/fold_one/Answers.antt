@@ -6,12 +6,9 @@ use Rattle.ufs_scan.specs.Gathered.{placed_in}
 use Rattle.ufs_scan.specs.Off.{lower, lowest_of}
 use Rattle.ufs_scan.specs.Standings.{out_in, behind}
 use Rattle.ufs_scan.specs.declared.standing.Standing.{Standing}
-use Rattle.ufs_scan.proofs.FoldedSectors.{out_append, behind_append}
+use Rattle.ufs_scan.proofs.FoldedSectors.{out_append, behind_append, split_sectors}
 use Rattle.ufs_scan.proofs.Lowest.{lower_assoc, lowest_append}
 use Rattle.ufs_scan.proofs.standing.fold_one.Goals as goal
-
-split : {X : Type 0} (F : X → List PlacedRecord) (xs : List X) (i : ℕ) (x : X) → i < length xs → x ≡ get_or xs i x → flat_map F (drop i xs) ≡ F x ++ flat_map F (drop (i + 1) xs)
-split F xs i x lt is = ap (flat_map F) (drop-cons xs i x lt ∙ (λ k. sym is k ∷ drop (sym (add-one i) k) xs))
 
 turn : (g : Geometry) (n : ℕ) (ps qs rs : List PlacedRecord) (all new : List Standing) (total lowest x next : Option ℕ) → rs ≡ ps ++ qs → total ≡ lower lowest (lowest_of (out_in g n rs all))
     → x ≡ lowest_of (out_in g n ps all) → new ≡ behind g n ps all → next ≡ lower lowest x → total ≡ lower next (lowest_of (out_in g n qs new))
@@ -25,7 +22,7 @@ turn g n ps qs rs all new total lowest x next split so_far one is more =
 pub loop-sector-preserved : goal.loop-sector-preserved
 loop-sector-preserved c =
     let i = c.loop-sector.invariant in
-    let parted = split (λ b. placed_in b.now) c.sectors-sectors.result.now c.loop-sector.sector-index c.sector-item.result c.loop-sector-test.true c.sector-item.is in
+    let parted = split_sectors (λ b. placed_in b.now) c.sectors-sectors.result.now c.loop-sector.sector-index c.sector-item.result c.loop-sector-test.true c.sector-item.is in
     record {
       lowest = turn c.args.geometry.now c.number-number.result (placed_in c.sector-item.result.now) _ _ c.loop-sector.all.items c.fold_sector.new.all.items _ c.loop-sector.lowest c.fold_sector.result c.lower-lowest.result parted i.lowest c.fold_sector.ensures.lowest c.fold_sector.ensures.behind c.lower-lowest.ensures;
       behind = i.behind ∙ ap (λ l. behind c.args.geometry.now c.number-number.result l c.loop-sector.all.items) parted

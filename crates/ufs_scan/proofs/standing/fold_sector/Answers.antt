@@ -7,11 +7,8 @@ use Rattle.ufs_scan.specs.Off.{lower, lowest_of}
 use Rattle.ufs_scan.specs.Standings.{out_in, behind, stepped, outkeeps}
 use Rattle.ufs_scan.specs.declared.standing.Standing.{Standing}
 use Rattle.ufs_scan.proofs.Lowest.{lower_assoc}
+use Rattle.ufs_scan.proofs.FoldedSectors.{split_records}
 use Rattle.ufs_scan.proofs.standing.fold_sector.Goals as goal
-
-split : (s : ℕ) (xs rs : List LogRecord) (i : ℕ) (x : LogRecord) → xs ≡ rs → i < length xs → x ≡ get_or xs i x
-    → map {B = PlacedRecord} (λ r. (s, r)) (drop i rs) ≡ (s, x) ∷ map {B = PlacedRecord} (λ r. (s, r)) (drop (i + 1) rs)
-split s xs rs i x same lt is = ap (map {B = PlacedRecord} (λ r. (s, r))) (ap (drop i) (sym same) ∙ drop-cons xs i x lt ∙ (λ k. sym is k ∷ drop (sym (add-one i) k) (same k)))
 
 turn : (g : Geometry) (n s : ℕ) (r : LogRecord) (left rest : List PlacedRecord) (all new : List Standing) (total lowest next : Option ℕ) → left ≡ (s, r) ∷ rest → total ≡ lower lowest (lowest_of (out_in g n left all))
     → next ≡ (if outkeeps g n r all then lower lowest (Some s) else lowest) → new ≡ stepped g n r all → total ≡ lower next (lowest_of (out_in g n rest new))
@@ -29,7 +26,7 @@ pub loop-change-preserved : goal.loop-change-preserved
 loop-change-preserved c =
     let i = c.loop-change.invariant in
     let s : ℕ = c.args.one.now.0 in
-    let parted = split c.args.one.now.0 c.records-records.result.now (records_in c.args.one.now.1.content) c.loop-change.change-index c.change-item.result c.records-records.ensures c.loop-change-test.true c.change-item.is in
+    let parted = split_records c.args.one.now.0 c.records-records.result.now (records_in c.args.one.now.1.content) c.loop-change.change-index c.change-item.result c.records-records.ensures c.loop-change-test.true c.change-item.is in
     record {
       lowest = turn c.args.geometry.now c.args.number c.args.one.now.0 c.change-item.result _ _ c.loop-change.all.items c.fold_change-lowest.new.all.items _ c.loop-change.lowest c.fold_change-lowest.result parted i.lowest
           (c.fold_change-lowest.ensures.lowest ∙ ap (λ (k : ℕ). if outkeeps c.args.geometry.now c.args.number c.change-item.result c.loop-change.all.items then lower c.loop-change.lowest (Some k) else c.loop-change.lowest) c.sector-sector.ensures) c.fold_change-lowest.ensures.stepped;
