@@ -5,6 +5,7 @@ ghost use Rattle.ufs_sound.specs.Commits.{BlockWritesShow, FileCommitsShow, Name
 ghost use Rattle.ufs_sound.specs.Meets.{FileCommitsMay, NameCommitsMay};
 ghost use Rattle.ufs_sound.specs.ByImages.{by_images};
 ghost use Rattle.ufs_sound.specs.First.{NewDiskOpens, BlindDisksOpen};
+ghost use Rattle.ufs_sound.specs.Opened.{OpenedDisksServe, SettledDisksOpen};
 ghost use Rattle.ufs_sound.specs.Refused.{DrawsNeedTheirParts, SplitsLeaveNone, PartsStandOnce, BlocksStandOnce, SyncsNeedCommits, KnownIsCommitted, TicketsAreOnce, ClosesNeedAll};
 ghost use Rattle.ufs_sound.specs.Session.{NewDiskServes};
 ghost use Rattle.ufs_layout.specs.Areas.{IsGeometry};
@@ -138,6 +139,16 @@ pub fn a_new_disk_can_be_opened(geometry: &Geometry)
     ensures blind { BlindDisksOpen }
 {
     new_image_law(geometry);
+    a_request_keeps_the_tree();
+    a_start_is_a_tree();
+}
+
+/// A session can begin on a disk that has files: each image that a crash may leave opens to one tree, and each file of it
+/// has a part, with its blocks. There may be any number of clients and pools.
+pub fn a_disk_with_files_can_be_opened()
+    ensures serves { OpenedDisksServe }
+    ensures settled { SettledDisksOpen }
+{
     a_request_keeps_the_tree();
     a_start_is_a_tree();
 }
