@@ -6,7 +6,7 @@ ghost use Rattle.ufs_sound.specs.Meets.{FileCommitsMay, NameCommitsMay};
 ghost use Rattle.ufs_sound.specs.ByImages.{by_images};
 ghost use Rattle.ufs_sound.specs.First.{NewDiskOpens, BlindDisksOpen};
 ghost use Rattle.ufs_sound.specs.Opened.{OpenedDisksServe, SettledDisksOpen};
-ghost use Rattle.ufs_sound.specs.Refused.{DrawsNeedTheirParts, SplitsLeaveNone, PartsStandOnce, BlocksStandOnce, SyncsNeedCommits, KnownIsCommitted, TicketsAreOnce, ClosesNeedAll};
+ghost use Rattle.ufs_sound.specs.Refused.{DrawsNeedTheirParts, DrawsTakeTheWordsTicket, SplitsLeaveNone, SentPartsAreNotDrawnOn, PartsStandOnce, BlocksStandOnce, SyncsNeedCommits, KnownIsCommitted, TicketsAreOnce, ClosesNeedAll};
 ghost use Rattle.ufs_sound.specs.Session.{NewDiskServes};
 ghost use Rattle.ufs_layout.specs.Areas.{IsGeometry};
 ghost use Rattle.ufs_sound.specs.Durable.{StoresAreExplained, ImagesAreExplained};
@@ -165,19 +165,21 @@ pub fn a_short_session_is_sound(geometry: &Geometry)
 }
 
 /// What a step asks of its own hand, in words of what it can't do: a draw on a part that the hand hasn't, a split that
-/// leaves the part, an acknowledged `fsync` whose changes aren't known as committed, a close without one part.
+/// leaves the part, a draw on a part that was sent, an acknowledged `fsync` whose changes aren't known as committed, a close without one part.
 pub fn a_step_needs_its_parts<P: Promise>()
     ensures draws { DrawsNeedTheirParts }
     ensures splits { SplitsLeaveNone }
+    ensures sent { SentPartsAreNotDrawnOn }
     ensures syncs { SyncsNeedCommits P.shows }
     ensures closes { ClosesNeedAll }
 {}
 
-/// What no steps of all hands lead to: a part in two hands, a block in two parts, two entries with one ticket, a file
-/// that knows more as committed than the store has.
+/// What no steps of all hands lead to: a part in two hands, a block in two parts, two entries with one ticket, an entry
+/// with another ticket than the word's, a file that knows more as committed than the store has.
 pub fn nothing_stands_twice<P: Promise>()
     ensures parts { PartsStandOnce P.shows }
     ensures blocks { BlocksStandOnce P.shows }
     ensures tickets { TicketsAreOnce P.shows }
+    ensures next { DrawsTakeTheWordsTicket P.shows }
     ensures known { KnownIsCommitted P.shows }
 {}
