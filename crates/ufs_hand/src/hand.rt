@@ -1,12 +1,15 @@
 // The hands of one session, and the table that they share.
-ghost use Rattle.std.specs.Prelude.{◌≡◌, ◌≤◌, ◌%◌, [], IfOk};
-ghost use Rattle.ufs_sound.specs.Rule.{clock_step};
-ghost use Rattle.ufs_sound.specs.Parts.{HoldsPart, kept_of, given_of, both_of};
+ghost use Rattle.std.specs.Prelude.{◌≡◌, ◌≤◌, ◌/◌, ◌%◌, [], ◌∷◌, IfOk};
+ghost use Rattle.ufs_sound.specs.Rule.{clock_step, MayTick};
+ghost use Rattle.ufs_sound.specs.Clock.{looked, ticked};
+ghost use Rattle.ufs_sound.specs.Parts.{NamesPart, HoldsPart, kept_of, given_of, both_of};
 ghost use Rattle.ufs_sound.specs.Draws.{MayDraw, drawn};
 ghost use Rattle.ufs_sound.specs.Whole.{HoldsAll};
-ghost use Rattle.ufs_hand.specs.Session.{first_view, CanBegin, IsEvent, KnowsAll};
+ghost use Rattle.ufs_hand.specs.Session.{first_view, word_of, CanBegin, IsEvent, KnowsAll};
 
-use crate::rule::{Board, Cut, Drawing, Draws, Event, Glue, Leaving, Marks, Naming, Parts, Picked};
+use crate::rule::{
+    Board, Cut, Drawing, Draws, Event, Glue, Leaving, Looks, Marks, Naming, Parts, Picked, Ticks,
+};
 use atomic_table::{Closed, Seat, Table};
 use std::alloc::{AllocError, Global};
 use std::marker::{Brand, Model, PhantomData};
@@ -79,6 +82,26 @@ impl Model for Opened {
 pub struct Begun<N: Naming> {
     pub table: HandTable<N>,
     pub hand: Hand<N>,
+}
+
+/// A word of a session that was read.
+#[derive(Clone, Copy)]
+pub struct Now {
+    /// How many entries were drawn.
+    pub tickets: u64,
+    /// Where the clock stood, below 2^24.
+    pub clock: u32,
+}
+
+impl Now {
+    fn of_word(word: u64) -> Now
+        ensures tickets { result.tickets ≡ word % clock_step }
+        ensures clock { result.clock ≡ word / clock_step }
+    {
+        let tickets = word % CLOCK;
+        let clock = (word / CLOCK) as u32;
+        Now { tickets, clock }
+    }
 }
 
 /// How a session ended.
@@ -183,6 +206,30 @@ impl<N: Naming> Hand<N> {
     {
         a_request_keeps_the_tree();
         table.table.shared.load::<Marks<E>>(&mut self.seat, 0)
+    }
+
+    /// The tickets and the clock, which the hand has seen then.
+    pub fn look(&mut self, table: &HandTable<N>) -> Now
+        ensures parts { self.new ≡ looked (word_of result.tickets result.clock) self.old }
+        ensures tickets { self.old.seen ≤ result.tickets }
+        ensures clock { self.old.clock ≤ result.clock }
+    {
+        let word = table.table.shared.load::<Looks>(&mut self.seat, 0);
+        Now::of_word(word)
+    }
+
+    /// The clock goes on by so much, by the hand with the names. Answers what the word was before.
+    pub fn tick(&mut self, table: &HandTable<N>, by: u32) -> Now
+        requires { MayTick by self.old }
+        ensures parts { (names : NamesPart) → self.old.names ≡ (tt, names) ∷ [] → self.new ≡ ticked (word_of result.tickets result.clock) by names self.old }
+        ensures clock { (names : NamesPart) → self.old.names ≡ (tt, names) ∷ [] → result.clock ≡ names.clock }
+        ensures tickets { self.old.seen ≤ result.tickets }
+    {
+        let word = table
+            .table
+            .shared
+            .fetch_add::<Ticks>(&mut self.seat, 0, u64::from(by) * CLOCK);
+        Now::of_word(word)
     }
 
     /// The end of the session, by the hand with every part.

@@ -169,4 +169,22 @@ impl<E: Event> Play<(), Knowledge> for Marks<E> {
     ghost then = { λ s v n w. Marked E.leaves v n w };
 }
 
+pub(crate) struct Looks;
+
+impl Play<(), Knowledge> for Looks {
+    ghost use Rattle.ufs_sound.specs.Rule.{Looked};
+
+    ghost then = { λ s v n w. Looked v n w };
+}
+
+// What is added to the word says by how much the clock moves.
+pub(crate) struct Ticks;
+
+impl Play<(), Knowledge> for Ticks {
+    ghost use Rattle.std.specs.Prelude.{◌/◌};
+    ghost use Rattle.ufs_sound.specs.Rule.{clock_step, Ticked};
+
+    ghost then = { λ s v n w. Ticked (s.first / clock_step) v n w };
+}
+
 pub(crate) type Board = Table<(), Knowledge, Parts, Law, Global>;

@@ -1,5 +1,5 @@
 -- Each step of the small session may be taken.
-use Rattle.std.proofs.Common.{◌≡◌, ℕ, true, false, [], ◌∷◌, Some, is_some, sym, refl, ap, ◌∙◌, inl, arith}
+use Rattle.std.proofs.Common.{◌≡◌, ℕ, ◌+◌, true, false, [], ◌∷◌, Some, is_some, sym, refl, ap, ◌∙◌, inl, arith}
 use Rattle.std.specs.Prelude.{◌||◌}
 use Rattle.std.specs.List.{list_any}
 use Rattle.std.specs.Ordering.{nat_cmp}
@@ -13,9 +13,11 @@ use Rattle.ufs_model.specs.declared.data.Excuse.TheVariants.{Memory}
 use Rattle.ufs_sound.specs.declared.fresh.Fresh.{Fresh}
 use Rattle.ufs_model.proofs.Facts.Held.{open_by}
 use Rattle.ufs_sound.specs.ByImages.{by_images}
-use Rattle.ufs_sound.specs.Parts.{ClientPart, View, kept_of, given_of, both_of}
+use Rattle.ufs_sound.specs.Parts.{ClientPart, NamesPart, View, Word, kept_of, given_of, both_of}
 use Rattle.ufs_sound.specs.Draws.{Leaves, IsIn, MayDraw, drawn}
+use Rattle.ufs_sound.specs.Clock.{looked, at_clock, ticked}
 use Rattle.ufs_sound.specs.Marks.{IsSingle}
+use Rattle.ufs_sound.specs.Rule.{MayTick}
 use Rattle.ufs_sound.specs.Whole.{CanOpen, HoldsAll, idle_client, idle_asked}
 use Rattle.ufs_sound.specs.First.{new_names, new_store}
 use Rattle.ufs_sound.proofs.First.{blind_opens}
@@ -51,21 +53,35 @@ module _ (n : ℕ) where
   pub draws : MayDraw fresh (joined n) left []
   draws = memory_may_draw 0 0 Primary Sync (joined n) single asking (inl refl) (omega arith) refl refl
 
-  no_file : (t : PosixTree) → IsTree t → (ticket : ℕ) → IsIn (drawn ticket fresh left (joined n)) t → (f : ℕ) → is_some (fin.get t.bytes f) ≡ false
-  no_file t is ticket within f =
-      is.live f
-      ∙ (λ j. list_any (is_node_of f) (fin.values (sym (within.paths tt new_names (inl refl)) j)) || open_by t.fds root_alone.fds f (λ c. sym (within.holds tt new_names (inl refl) c f) ∙ sym (can.free c f)) j)
-      ∙ sym (can.tree.live f) ∙ ap is_some (fin.get-empty nat_cmp f)
+  module _ (ticket : ℕ) where
+    abbrev answered : View
+    answered = drawn ticket fresh left (joined n)
 
-  pub has_all : (ticket : ℕ) → HoldsAll small (drawn ticket fresh left (joined n))
-  has_all ticket = record {
-    clients = λ c. omega arith;
-    names = new_names;
-    has_names = refl;
-    store = new_store least [];
-    has_store = refl;
-    files = λ t is within f there. absurd (both (sym there ∙ no_file t is ticket within f));
-  }
-    where
-      both : true ≡ false → ⊥
-      both e = cc
+    pub ticks : MayTick 5 answered
+    ticks = record { names = new_names; has = refl; room = omega arith }
+
+    module _ (read last : Word) where
+      abbrev names_then : NamesPart
+      names_then = at_clock (read.clock + 5) new_names
+
+      abbrev pub at_end : View
+      at_end = looked last (ticked read 5 new_names answered)
+
+      no_file : (t : PosixTree) → IsTree t → IsIn at_end t → (f : ℕ) → is_some (fin.get t.bytes f) ≡ false
+      no_file t is within f =
+          is.live f
+          ∙ (λ j. list_any (is_node_of f) (fin.values (sym (within.paths tt names_then (inl refl)) j)) || open_by t.fds root_alone.fds f (λ c. sym (within.holds tt names_then (inl refl) c f) ∙ sym (can.free c f)) j)
+          ∙ sym (can.tree.live f) ∙ ap is_some (fin.get-empty nat_cmp f)
+
+      pub has_all : HoldsAll small at_end
+      has_all = record {
+        clients = λ c. omega arith;
+        names = names_then;
+        has_names = refl;
+        store = new_store least [];
+        has_store = refl;
+        files = λ t is within f there. absurd (both (sym there ∙ no_file t is within f));
+      }
+        where
+          both : true ≡ false → ⊥
+          both e = cc

@@ -31,6 +31,8 @@ fn session<N: Naming>(opened: Opened) -> Whole
         reply: Reply::Excused(Excuse::Memory),
     };
     hand.draw::<Brand>(&table, &fresh);
+    hand.tick(&table, 5);
+    hand.look(&table);
     hand.close(table)
 }
 
@@ -44,7 +46,7 @@ mod tests {
     fn one_entry_is_drawn(rt: HostRuntime) -> Result<(), AllocError> {
         let end = served(rt.alloc())?;
         assert_eq!(rt; end.tickets, 1);
-        assert_eq!(rt; end.clock, 0);
+        assert_eq!(rt; end.clock, 5);
         Ok(())
     }
 }

@@ -59,7 +59,7 @@ module _ (S : Showing) (k : Start) (word : Word) (views : List View) (i : ℕ) (
     abbrev later : Word
     later = record { tickets = word.tickets; clock = word.clock + by }
 
-    was : o.world.names ≡ n
+    pub was : o.world.names ≡ n
     was = names_are views i v w at o.world o.one_hand tt n (subst (Has (tt, n)) (sym has) (inl refl))
 
     abbrev next : World

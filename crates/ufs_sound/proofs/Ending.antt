@@ -23,7 +23,7 @@ use Rattle.ufs_sound.proofs.Explaining.{disk_explained}
 
 -- ---- a client's entries are those of the history
 
-has_mine : (e : Entry) (h : List Entry) → Has e h → Has e (entries_of e.client h)
+pub has_mine : (e : Entry) (h : List Entry) → Has e h → Has e (entries_of e.client h)
 has_mine e [] m = m
 has_mine e (x ∷ h) m = ⊎_elim
     (λ (s : e ≡ x). subst (λ b. Has e (cond b (x ∷ entries_of e.client h) (entries_of e.client h))) (sym (eq-eqb x.client e.client (ap (λ (y : Entry). y.client) (sym s)))) (inl s))

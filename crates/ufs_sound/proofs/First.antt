@@ -43,15 +43,15 @@ few false = omega arith
 
 -- ---- each number of a range stands there once
 
-module _ {D : Type 0} (d : D) where
-  abbrev named : ℕ → ℕ → List (ℕ × D)
-  named a n = map (λ c. (c, d)) (range_with_len a n)
+module _ {D : Type 0} (d : ℕ → D) where
+  abbrev pub named : ℕ → ℕ → List (ℕ × D)
+  named a n = map (λ c. (c, d c)) (range_with_len a n)
 
   none_before : (n a c : ℕ) → c < a → count eqb c (named a n) ≡ 0
   none_before zero a c l = refl
   none_before (suc n) a c l = let h : one (eqb c a) ≡ 0 = ap one (ne_eqb c a (omega arith)) in let t : count eqb c (named (a + 1) n) ≡ 0 = none_before n (a + 1) c (omega arith) in omega (arith, h, t)
 
-  one_each : (n a c : ℕ) → count eqb c (named a n) ≤ 1
+  pub one_each : (n a c : ℕ) → count eqb c (named a n) ≤ 1
   one_each zero a c = omega arith
   one_each (suc n) a c = by (ℕ_discrete c a) (one_each n (a + 1) c)
     where
@@ -59,10 +59,33 @@ module _ {D : Type 0} (d : D) where
       by (yes e) t = let h : one (eqb c a) ≡ 1 = ap one (eq-eqb c a e) in let z : count eqb c (named (a + 1) n) ≡ 0 = none_before n (a + 1) c (omega arith) in omega (arith, h, z)
       by (no e) t = let h : one (eqb c a) ≡ 0 = ap one (ne_eqb c a e) in omega (arith, h, t)
 
-  all_are : (n a c : ℕ) (x : D) → Has (c, x) (named a n) → x ≡ d
+  pub all_are : (n a c : ℕ) (x : D) → Has (c, x) (named a n) → x ≡ d c
   all_are zero a c x h = absurd h
-  all_are (suc n) a c x (inl e) = ap (λ (q : ℕ × D). q.1) e
+  all_are (suc n) a c x (inl e) = ap (λ (q : ℕ × D). q.1) e ∙ ap d (sym (ap (λ (q : ℕ × D). q.0) e))
   all_are (suc n) a c x (inr h) = all_are n (a + 1) c x h
+
+  -- one for each number from a to a + n, and none for others
+  pub each_once : (n a c : ℕ) → a ≤ c → c < a + n → count eqb c (named a n) ≡ 1
+  each_once zero a c l u = absurd (omega arith)
+  each_once (suc n) a c l u = by (ℕ_discrete c a) (λ low. each_once n (a + 1) c low (omega arith))
+    where
+      by : Dec (c ≡ a) → (a + 1 ≤ c → count eqb c (named (a + 1) n) ≡ 1) → count eqb c (named a (suc n)) ≡ 1
+      by (yes e) rest = let h : one (eqb c a) ≡ 1 = ap one (eq-eqb c a e) in let z : count eqb c (named (a + 1) n) ≡ 0 = none_before n (a + 1) c (omega arith) in omega (arith, h, z)
+      by (no e) rest = let h : one (eqb c a) ≡ 0 = ap one (ne_eqb c a e) in let r : count eqb c (named (a + 1) n) ≡ 1 = rest (omega arith) in omega (arith, h, r)
+
+  pub none_after : (n a c : ℕ) → a + n ≤ c → count eqb c (named a n) ≡ 0
+  none_after zero a c l = refl
+  none_after (suc n) a c l = let h : one (eqb c a) ≡ 0 = ap one (ne_eqb c a (omega arith)) in let r : count eqb c (named (a + 1) n) ≡ 0 = none_after n (a + 1) c (omega arith) in omega (arith, h, r)
+
+  pub within_range : (n a c : ℕ) (x : D) → Has (c, x) (named a n) → c < a + n
+  within_range zero a c x h = absurd h
+  within_range (suc n) a c x (inl e) = let s : c ≡ a = ap (λ (q : ℕ × D). q.0) e in omega arith
+  within_range (suc n) a c x (inr h) = let r = within_range n (a + 1) c x h in omega arith
+
+pub in_range : (n a c : ℕ) → Has c (range_with_len a n) → c < a + n
+in_range zero a c h = absurd h
+in_range (suc n) a c (inl e) = omega arith
+in_range (suc n) a c (inr h) = let r = in_range n (a + 1) c h in omega arith
 
 times_before : (n a b : ℕ) → b < a → times b (range_with_len a n) ≡ 0
 times_before zero a b l = refl
@@ -89,7 +112,7 @@ module _ {D : Type 0} (f : ℕ → D) where
   past (suc n) a zero l = absurd (omega arith)
   past (suc n) a (suc s) l = past n (a + 1) s (omega arith)
 
-one_image : (sectors : ℕ) (image other : Image) → EndsAt sectors image → IsImage (state_of (settled_cells sectors image)) other → other ≡ image
+pub one_image : (sectors : ℕ) (image other : Image) → EndsAt sectors image → IsImage (state_of (settled_cells sectors image)) other → other ≡ image
 one_image sectors image other ends is j s = at s (dec_le (suc s) sectors) j
   where
     at : (s : ℕ) → Dec (suc s ≤ sectors) → other s ≡ image s
@@ -133,12 +156,12 @@ module _ (told : Bool) (g : Geometry) (clients : ℕ) (cells : Cells) where
     closed = λ c fd. fin.get-empty fd_cmp (c, fd);
     free = λ c f. unheld c f (holds root_alone.fds c f) refl;
     small = omega arith;
-    one_client = λ c. one_each idle_client clients 0 c;
-    one_asked = λ c. one_each idle_asked clients 0 c;
+    one_client = λ c. one_each (λ _. idle_client) clients 0 c;
+    one_asked = λ c. one_each (λ _. idle_asked) clients 0 c;
     one_file = λ f. sym (ap (λ o. one (is_some o)) (fin.get-empty nat_cmp f));
     one_pool = λ n. few (eqb n primary_pool);
-    clients = λ c p h. all_are idle_client clients 0 c p h;
-    asked = λ c p h. all_are idle_asked clients 0 c p h;
+    clients = λ c p h. all_are (λ _. idle_client) clients 0 c p h;
+    asked = λ c p h. all_are (λ _. idle_asked) clients 0 c p h;
     files = λ f p h. absurd h;
     names_is = refl;
     opening = refl;

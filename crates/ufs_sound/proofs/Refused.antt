@@ -8,10 +8,10 @@ use Rattle.ufs_model.specs.History.{IsLegalFrom, goes_on}
 use Rattle.ufs_model.specs.declared.data.Entry.{Entry}
 use Rattle.ufs_model.specs.declared.data.PartName.TheVariants as part
 use Rattle.ufs_sound.specs.Owned.{one, Has, Held, count, without, present}
-use Rattle.ufs_sound.specs.Parts.{View, Word, Start, only_one, uses, committed, is_client, is_asked, is_file, is_names, is_store}
+use Rattle.ufs_sound.specs.Parts.{View, Word, Start, kept_of, only_one, uses, committed, is_client, is_asked, is_file, is_names, is_store}
 use Rattle.ufs_sound.specs.Explained.{Showing}
 use Rattle.ufs_sound.specs.Sound.{IsSound}
-use Rattle.ufs_sound.specs.Refused.{DrawsNeedTheirParts, SplitsLeaveNone, PartsStandOnce, BlocksStandOnce, SyncsNeedCommits, KnownIsCommitted, IsDrawnIn, TicketsStandOnce, ClosesNeedAll}
+use Rattle.ufs_sound.specs.Refused.{DrawsNeedTheirParts, SplitsLeaveNone, SentPartsAreNotDrawnOn, PartsStandOnce, BlocksStandOnce, SyncsNeedCommits, KnownIsCommitted, IsDrawnIn, TicketsStandOnce, ClosesNeedAll}
 use Rattle.ufs_sound.proofs.Owning.{total_two, same_some}
 use Rattle.ufs_sound.proofs.Exchange.{store_is}
 use Rattle.ufs_sound.proofs.Ending.{mine_has}
@@ -37,6 +37,9 @@ splits_leave_none (part.Asked c) v h = let z = none_left eqb (is_asked (part.Ask
 splits_leave_none (part.File f) v h = let z = none_left eqb (is_file (part.File f)) f (λ m. refl) v.files in omega (arith, h, z)
 splits_leave_none part.Names v h = let z = none_left only_one (is_names part.Names) tt (λ m. refl) v.names in omega (arith, h, z)
 splits_leave_none part.Store v h = let z = none_left only_one (is_store part.Store) tt (λ m. refl) v.store in omega (arith, h, z)
+
+pub sent_not_drawn : SentPartsAreNotDrawnOn
+sent_not_drawn f v l known t p m is within live served touched there goes = splits_leave_none p v (draws_need f (kept_of p v) l known t p m is within live served touched there goes)
 
 -- ---- each part and block once
 

@@ -11,16 +11,18 @@ use Rattle.ufs_model.specs.declared.data.Entry.{Entry}
 use Rattle.ufs_model.specs.declared.data.PartName.{PartName}
 use Rattle.ufs_sound.specs.declared.fresh.Fresh.{Fresh}
 use Rattle.ufs_sound.specs.Owned.{Has}
-use Rattle.ufs_sound.specs.Parts.{View, Word, Start, kept_of, given_of, both_of, spent}
+use Rattle.ufs_sound.specs.Parts.{NamesPart, View, Word, Start, kept_of, given_of, both_of, spent}
 use Rattle.ufs_sound.specs.Explained.{Showing}
 use Rattle.ufs_sound.specs.Sound.{IsSound}
 use Rattle.ufs_sound.specs.Draws.{Leaves, drawn, MayDraw}
 use Rattle.ufs_sound.specs.Marks.{MayAsk, asking, MayRemake}
-use Rattle.ufs_sound.specs.Rule.{clock_step, word_number, IsRuled, Drew, Marked}
+use Rattle.ufs_sound.specs.Clock.{looked, ticked}
+use Rattle.ufs_sound.specs.Rule.{clock_step, word_number, word_at, IsRuled, Drew, Marked, Looked, Ticked, TickedBy, MayTick}
 use Rattle.ufs_sound.proofs.Apart.{split_sound, join_sound}
 use Rattle.ufs_sound.proofs.Drawn.{draw_sound}
 use Rattle.ufs_sound.proofs.Marking.{remake_sound}
 use Rattle.ufs_sound.proofs.Asking.{ask_sound}
+use Rattle.ufs_sound.proofs.Clocking.{look_sound, tick_sound, was}
 
 -- ---- the tickets are few
 
@@ -122,4 +124,63 @@ module _ (S : Showing) (k : Start) where
           sound = subst (λ x. IsSound S k h.word (set s.views i (asking x c r m.self me.0))) (sym ticket) (ask_sound S k h.word s.views i me.0 c r h.sound at m);
         },
         (refl, subst (λ x. me.0.seen ≤ x) (sym ticket) (h.sound.clock.seen i me.0 at).0),
+      )
+
+  -- the word that is read
+  word_is : (word : Word) (views : List View) (n : ℕ) → IsSound S k word views → n ≡ word_number word → word_at n ≡ word
+  word_is word views n o is =
+      let room = few word views o in
+      let tickets : n % clock_step ≡ word.tickets = ap (λ x. x % clock_step) is ∙ tickets_of word room in
+      let clock : n / clock_step ≡ word.clock = ap (λ x. x / clock_step) is ∙ clock_of word room in
+      λ j. record { tickets = tickets j; clock = clock j }
+
+  pub look_keeps : (slots i : ℕ) (me : Me (Unit {0}) View) → Allows (IsRuled S k) slots i me 0 (λ n. n) (Looked me)
+  look_keeps slots i me s h len at below =
+      let n = slice_index s.words 0 in
+      let is : n ≡ word_number h.word = ap (λ ws. slice_index ws 0) h.is in
+      let read = word_is h.word s.views n h.sound is in (
+        looked (word_at n) me.0,
+        keeps,
+        tt,
+        record {
+          word = h.word;
+          is = ap (λ ws. slice_set ws 0 (slice_index ws 0)) h.is;
+          clock = h.clock;
+          sound = subst (λ (x : Word). IsSound S k h.word (set s.views i (looked x me.0))) (sym read) (look_sound S k h.word s.views i me.0 h.sound at);
+        },
+        (refl, subst (λ (x : Word). (me.0.seen ≤ x.tickets) × (me.0.clock ≤ x.clock)) (sym read) (h.sound.clock.seen i me.0 at)),
+      )
+
+  abbrev first_names : NamesPart → List (Unit {0} × NamesPart) → NamesPart
+  first_names d [] = d
+  first_names d (x ∷ xs) = x.1
+
+  one_names : (v : View) (p q : NamesPart) → v.names ≡ (tt, p) ∷ [] → v.names ≡ (tt, q) ∷ [] → p ≡ q
+  one_names v p q a b = ap (first_names p) (sym a ∙ b)
+
+  -- the names have the clock, so the hand knows that there is room
+  pub tick_keeps : (slots i by : ℕ) (me : Me (Unit {0}) View) → MayTick by me.0 → Allows (IsRuled S k) slots i me 0 (λ n. (n + by * clock_step) % 2 ^ 64) (Ticked by me)
+  tick_keeps slots i by me may s h len at below =
+      let n = slice_index s.words 0 in
+      let is : n ≡ word_number h.word = ap (λ ws. slice_index ws 0) h.is in
+      let read = word_is h.word s.views n h.sound is in
+      let room = few h.word s.views h.sound in
+      let there : h.word.clock ≡ may.names.clock = sym h.sound.clock.word_is ∙ ap (λ (p : NamesPart). p.clock) (was S k h.word s.views i me.0 h.sound at by may.names may.has) in
+      let low = may.room in
+      let next : Word = record { tickets = h.word.tickets; clock = h.word.clock + by } in
+      let up : (word_number h.word + by * clock_step) % 2 ^ 64 ≡ word_number next = mod-eq_of_lt (omega arith) ∙ (omega arith) in (
+        ticked (word_at n) by may.names me.0,
+        keeps,
+        tt,
+        record {
+          word = next;
+          is = ap (λ ws. slice_set ws 0 ((slice_index ws 0 + by * clock_step) % 2 ^ 64)) h.is ∙ ap (λ x. x ∷ []) up;
+          clock = omega arith;
+          sound = subst (λ (x : Word). IsSound S k next (set s.views i (ticked x by may.names me.0))) (sym read) (tick_sound S k h.word s.views i me.0 h.sound at by may.names may.has);
+        },
+        (
+          λ p has. subst (TickedBy by me n (ticked (word_at n) by may.names me.0, me.1)) (one_names me.0 may.names p may.has has) (refl, ap (λ (x : Word). x.clock) read ∙ there),
+          refl,
+          subst (λ (x : Word). (me.0.seen ≤ x.tickets) × (me.0.clock ≤ x.clock)) (sym read) (h.sound.clock.seen i me.0 at),
+        ),
       )

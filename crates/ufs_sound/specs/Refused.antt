@@ -1,5 +1,5 @@
 -- What no hand can do: each follows from the sound state, or from what a step asks of its own hand.
-use Rattle.std.specs.Prelude.{ℕ, ◌≤◌, ◌<◌, ◌≡◌, ◌≢◌, false, true, List, length, is_some}
+use Rattle.std.specs.Prelude.{ℕ, suc, ◌≤◌, ◌<◌, ◌≡◌, ◌≢◌, false, true, List, length, is_some, set}
 use Rattle.std.specs.FinMap as fin
 use mathlib.Core.Option.{some}
 use lib.ListN.{get_elem?}
@@ -18,7 +18,7 @@ use Rattle.ufs_sound.specs.Covers.{SyncsFile}
 use Rattle.ufs_sound.specs.LeasesTrue.{IsTrueOf}
 use Rattle.ufs_sound.specs.Explained.{Showing}
 use Rattle.ufs_sound.specs.Sound.{IsSound}
-use Rattle.ufs_sound.specs.Draws.{Leaves, entry_of, IsIn, IsAbsent, IsUnchanged, MayDraw}
+use Rattle.ufs_sound.specs.Draws.{Leaves, entry_of, drawn, IsIn, IsAbsent, IsUnchanged, MayDraw}
 use Rattle.ufs_sound.specs.Whole.{HoldsAll}
 
 -- A draw needs each part that the request touches, where that is there and goes on.
@@ -29,6 +29,11 @@ DrawsNeedTheirParts = (f : Fresh) (v : View) (l : Leaves) (known : List Lease) (
 -- A hand that gave a part away hasn't it.
 abbrev pub SplitsLeaveNone : Type 0
 SplitsLeaveNone = (p : PartName) (v : View) → HoldsPart p (kept_of p v) → ⊥
+
+-- So once a part was sent, no entry that changes it is drawn on what is left: no second write from a copy of a file's part.
+abbrev pub SentPartsAreNotDrawnOn : Type 0
+SentPartsAreNotDrawnOn = (f : Fresh) (v : View) (l : Leaves) (known : List Lease) (t : PosixTree) (p : PartName) → MayDraw f (kept_of p v) l known → IsTree t → IsIn (kept_of p v) t
+    → ((x : Lease) → Has x known → IsTrueOf t x.part x.fact) → is_excused f.reply ≡ false → IsPartOf (touched_parts t f.client f.op) p → (IsAbsent p t → ⊥) → (IsUnchanged p t (entry_of 0 f) → ⊥) → ⊥
 
 -- No two hands have one part.
 abbrev pub PartsStandOnce : Showing → Type 0
@@ -65,6 +70,11 @@ pub record TicketsStandOnce (word : Word) (views : List View) : Type 0 where
 
 abbrev pub TicketsAreOnce : Showing → Type 0
 TicketsAreOnce S = (k : Start) (word : Word) (views : List View) → IsSound S k word views → TicketsStandOnce word views
+
+-- A draw that takes another ticket than the word's leaves no sound state.
+abbrev pub DrawsTakeTheWordsTicket : Showing → Type 0
+DrawsTakeTheWordsTicket S = (k : Start) (word : Word) (views : List View) (i : ℕ) (v : View) (f : Fresh) (l : Leaves) (known : List Lease) (ticket : ℕ) → IsSound S k word views → get_elem? views i ≡ some v → MayDraw f v l known
+    → IsSound S k (record { tickets = suc word.tickets; clock = word.clock }) (set views i (drawn ticket f l v)) → ticket ≡ word.tickets
 
 -- The hand that closes has each part: the names, the store, each client of the opening, and each file of its tree.
 pub record HasEach (k : Start) (v : View) : Type 0 where

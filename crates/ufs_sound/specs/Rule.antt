@@ -1,11 +1,12 @@
 -- The rule of the table that the hands of a session share: its word, and the views of its seats.
-use Rattle.std.specs.Prelude.{ℕ, ◌+◌, ◌*◌, ◌%◌, ◌≤◌, ◌<◌, ◌≡◌, List, [], ◌∷◌}
+use Rattle.std.specs.Prelude.{ℕ, ◌+◌, ◌*◌, ◌/◌, ◌%◌, ◌≤◌, ◌<◌, ◌≡◌, List, [], ◌∷◌}
 use Rattle.atomic_table.specs.Table.{State}
 use Rattle.ufs_sound.specs.declared.fresh.Fresh.{Fresh}
-use Rattle.ufs_sound.specs.Parts.{View, Word, Start}
+use Rattle.ufs_sound.specs.Parts.{NamesPart, View, Word, Start}
 use Rattle.ufs_sound.specs.Explained.{Showing}
 use Rattle.ufs_sound.specs.Sound.{IsSound}
 use Rattle.ufs_sound.specs.Draws.{Leaves, drawn}
+use Rattle.ufs_sound.specs.Clock.{looked, ticked}
 
 -- the clock stands above the low 40 bits, which are the tickets
 abbrev pub clock_step : ℕ
@@ -27,3 +28,28 @@ Drew f l v n w = (w ≡ (drawn (n % clock_step) f l v.0, v.1)) × (v.0.seen ≤ 
 -- what a mark leaves: it may look at the tickets
 abbrev pub Marked : (ℕ → View) → View × List (ℕ × Unit {0}) → ℕ → View × List (ℕ × Unit {0}) → Type 0
 Marked w v n u = (u ≡ (w (n % clock_step), v.1)) × (v.0.seen ≤ n % clock_step)
+
+-- the word that a number has
+abbrev pub word_at : ℕ → Word
+word_at n = record { tickets = n % clock_step; clock = n / clock_step }
+
+-- no hand has seen more than the number has
+abbrev pub IsSeenBy : ℕ → View → Type 0
+IsSeenBy n v = (v.seen ≤ n % clock_step) × (v.clock ≤ n / clock_step)
+
+-- what a look leaves
+abbrev pub Looked : View × List (ℕ × Unit {0}) → ℕ → View × List (ℕ × Unit {0}) → Type 0
+Looked v n w = (w ≡ (looked (word_at n) v.0, v.1)) × IsSeenBy n v.0
+
+-- what a tick leaves, by the names that the hand has: the clock was theirs
+abbrev pub TickedBy : ℕ → View × List (ℕ × Unit {0}) → ℕ → View × List (ℕ × Unit {0}) → NamesPart → Type 0
+TickedBy by v n w p = (w ≡ (ticked (word_at n) by p v.0, v.1)) × (n / clock_step ≡ p.clock)
+
+abbrev pub Ticked : ℕ → View × List (ℕ × Unit {0}) → ℕ → View × List (ℕ × Unit {0}) → Type 0
+Ticked by v n w = ((p : NamesPart) → v.0.names ≡ (tt, p) ∷ [] → TickedBy by v n w p) × (w.1 ≡ v.1) × IsSeenBy n v.0
+
+-- The hand with the names may move the clock by so much, below 2^24.
+pub record MayTick (by : ℕ) (v : View) : Type 0 where
+  pub names : NamesPart
+  pub has : v.names ≡ (tt, names) ∷ []
+  pub room : names.clock + by < 16777216

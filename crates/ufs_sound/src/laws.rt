@@ -5,7 +5,8 @@ ghost use Rattle.ufs_sound.specs.Commits.{BlockWritesShow, FileCommitsShow, Name
 ghost use Rattle.ufs_sound.specs.Meets.{FileCommitsMay, NameCommitsMay};
 ghost use Rattle.ufs_sound.specs.ByImages.{by_images};
 ghost use Rattle.ufs_sound.specs.First.{NewDiskOpens, BlindDisksOpen};
-ghost use Rattle.ufs_sound.specs.Refused.{DrawsNeedTheirParts, SplitsLeaveNone, PartsStandOnce, BlocksStandOnce, SyncsNeedCommits, KnownIsCommitted, TicketsAreOnce, ClosesNeedAll};
+ghost use Rattle.ufs_sound.specs.Opened.{OpenedDisksServe, SettledDisksOpen};
+ghost use Rattle.ufs_sound.specs.Refused.{DrawsNeedTheirParts, DrawsTakeTheWordsTicket, SplitsLeaveNone, SentPartsAreNotDrawnOn, PartsStandOnce, BlocksStandOnce, SyncsNeedCommits, KnownIsCommitted, TicketsAreOnce, ClosesNeedAll};
 ghost use Rattle.ufs_sound.specs.Session.{NewDiskServes};
 ghost use Rattle.ufs_layout.specs.Areas.{IsGeometry};
 ghost use Rattle.ufs_sound.specs.Durable.{StoresAreExplained, ImagesAreExplained};
@@ -142,6 +143,16 @@ pub fn a_new_disk_can_be_opened(geometry: &Geometry)
     a_start_is_a_tree();
 }
 
+/// A session can begin on a disk that has files: each image that a crash may leave opens to one tree, and each file of it
+/// has a part, with its blocks. There may be any number of clients and pools.
+pub fn a_disk_with_files_can_be_opened()
+    ensures serves { OpenedDisksServe }
+    ensures settled { SettledDisksOpen }
+{
+    a_request_keeps_the_tree();
+    a_start_is_a_tree();
+}
+
 /// A short session over a new disk, with a step of each kind: each state is sound, and the last hand knows one history.
 pub fn a_short_session_is_sound(geometry: &Geometry)
     requires { IsGeometry geometry.now }
@@ -154,19 +165,21 @@ pub fn a_short_session_is_sound(geometry: &Geometry)
 }
 
 /// What a step asks of its own hand, in words of what it can't do: a draw on a part that the hand hasn't, a split that
-/// leaves the part, an acknowledged `fsync` whose changes aren't known as committed, a close without one part.
+/// leaves the part, a draw on a part that was sent, an acknowledged `fsync` whose changes aren't known as committed, a close without one part.
 pub fn a_step_needs_its_parts<P: Promise>()
     ensures draws { DrawsNeedTheirParts }
     ensures splits { SplitsLeaveNone }
+    ensures sent { SentPartsAreNotDrawnOn }
     ensures syncs { SyncsNeedCommits P.shows }
     ensures closes { ClosesNeedAll }
 {}
 
-/// What no steps of all hands lead to: a part in two hands, a block in two parts, two entries with one ticket, a file
-/// that knows more as committed than the store has.
+/// What no steps of all hands lead to: a part in two hands, a block in two parts, two entries with one ticket, an entry
+/// with another ticket than the word's, a file that knows more as committed than the store has.
 pub fn nothing_stands_twice<P: Promise>()
     ensures parts { PartsStandOnce P.shows }
     ensures blocks { BlocksStandOnce P.shows }
     ensures tickets { TicketsAreOnce P.shows }
+    ensures next { DrawsTakeTheWordsTicket P.shows }
     ensures known { KnownIsCommitted P.shows }
 {}
