@@ -1,10 +1,10 @@
 -- Records folded sector by sector.
-use Rattle.std.proofs.Common.{◌≡◌, ℕ, ◌+◌, ◌<◌, List, [], ◌∷◌, ◌++◌, length, drop, get_or, refl, ap, sym, ◌∙◌, append_assoc, drop-cons, add-one}
+use Rattle.std.proofs.Common.{◌≡◌, ℕ, ◌+◌, ◌<◌, List, [], ◌∷◌, ◌++◌, Bool, length, drop, get_or, refl, ap, sym, ◌∙◌, append_assoc, drop-cons, add-one}
 use Rattle.std.specs.Prelude.{if◌then◌else◌, map, flat_map}
 use Rattle.ufs_layout.specs.declared.records.LogRecord.{LogRecord}
 use Rattle.ufs_image.specs.Journal.{PlacedRecord}
 use Rattle.ufs_layout.specs.declared.geometry.Geometry.{Geometry}
-use Rattle.ufs_scan.specs.Standings.{out_in, behind, stepped, outkeeps, rested_in, rested_by}
+use Rattle.ufs_scan.specs.Standings.{out_in, behind, stepped, outkeeps, rested_in, rested_by, marked_in, marked_by}
 use Rattle.ufs_scan.specs.declared.standing.Standing.{Standing}
 
 pub out_append : (g : Geometry) (n : ℕ) (ps qs : List PlacedRecord) (all : List Standing) → out_in g n (ps ++ qs) all ≡ out_in g n ps all ++ out_in g n qs (behind g n ps all)
@@ -21,6 +21,10 @@ behind_append g n (p ∷ ps) qs all = behind_append g n ps qs (stepped g n p.1 a
 pub rested_append : (g : Geometry) (ps qs : List PlacedRecord) (all : List Standing) → rested_in g (ps ++ qs) all ≡ rested_in g qs (rested_in g ps all)
 rested_append g [] qs all = refl
 rested_append g (p ∷ ps) qs all = rested_append g ps qs (rested_by g p.1 all)
+
+pub marked_append : (g : Geometry) (ps qs : List PlacedRecord) (marks : List Bool) → marked_in g (ps ++ qs) marks ≡ marked_in g qs (marked_in g ps marks)
+marked_append g [] qs marks = refl
+marked_append g (p ∷ ps) qs marks = marked_append g ps qs (marked_by g p.1 marks)
 
 -- the one that is folded next, and those behind it
 pub split_records : (s : ℕ) (xs rs : List LogRecord) (i : ℕ) (x : LogRecord) → xs ≡ rs → i < length xs → x ≡ get_or xs i x

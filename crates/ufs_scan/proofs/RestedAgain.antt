@@ -1,25 +1,25 @@
 -- Behind a transaction only the inodes of its records have to be rested.
-use Rattle.std.proofs.Common.{◌≡◌, inl, inr, ℕ, ◌-◌, ◌<◌, ◌≤◌, ◌≢◌, List, [], ◌∷◌, ◌++◌, Bool, true, false, ◌&&◌, ◌||◌, length, get_or, set, refl, ap, sym, ◌∙◌, subst, arith}
-use Rattle.std.specs.Prelude.{if◌then◌else◌, ◌==◌, map, nat_le}
+use Rattle.std.proofs.Common.{◌≡◌, inl, inr, ℕ, ◌-◌, ◌<◌, List, [], ◌∷◌, ◌++◌, Bool, true, false, ◌&&◌, ◌||◌, length, get_or, set, refl, ap, sym, ◌∙◌, arith}
+use Rattle.std.specs.Prelude.{if◌then◌else◌, ◌==◌, map}
 use Rattle.std.specs.List.{list_any}
-use Rattle.std.proofs.lemmas.Bool.{cases_Bool, cases_eq, eq-eqb, ne_eqb, eqb-true, and_parts, or_parts, leb-true}
+use Rattle.std.proofs.lemmas.Bool.{cases_Bool, cases_eq, eq-eqb, eqb-true, and_parts, or_parts}
 use Rattle.std.proofs.lemmas.List.{same_lists, get_or-set_same, get_or-set_other, get_or-map, get_or_default, length-set, length-map}
 use Rattle.ufs_layout.specs.Areas.{is_inode_number}
 use Rattle.ufs_image.specs.Journal.{PlacedRecord, Transaction}
 use Rattle.ufs_layout.specs.declared.geometry.Geometry.{Geometry}
 use Rattle.ufs_layout.specs.declared.records.LogRecord.{LogRecord}
 use Rattle.ufs_layout.specs.declared.records.LogRecord.TheVariants.{Delta, Place, Free}
-use Rattle.ufs_scan.specs.Standings.{standing_at, no_standing, stepped, behind, rested, rested_at, rested_by, rested_in, out_in, out_of}
+use Rattle.ufs_scan.specs.Standings.{no_standing, stepped, behind, rested, rested_at, rested_by, rested_in, out_in, out_of}
 use Rattle.ufs_scan.specs.declared.standing.Standing.{Standing}
 
 module _ (g : Geometry) (k : ℕ) where
   -- a record of the inode at this place
-  abbrev names : LogRecord → Bool
+  abbrev pub names : LogRecord → Bool
   names (Delta inode kind size keep extents) = is_inode_number g inode && inode - 1 == k
   names (Place sector slot dentry) = false
   names (Free inode) = is_inode_number g inode && inode - 1 == k
 
-  abbrev named : List PlacedRecord → Bool
+  abbrev pub named : List PlacedRecord → Bool
   named ps = list_any (λ (p : PlacedRecord). names p.1) ps
 
   kept_at : (inode : ℕ) (one d : Standing) (all : List Standing) → (is_inode_number g inode && inode - 1 == k) ≡ false → get_or (if is_inode_number g inode then set all (inode - 1) one else all) k d ≡ get_or all k d

@@ -5,7 +5,8 @@ ghost use Rattle.ufs_disk.specs.Moments.{LeavesOnly, reads};
 ghost use Rattle.ufs_layout.specs.Areas.{IsGeometry, sector_count, first_of_inodes, first_of_journal};
 ghost use Rattle.ufs_image.specs.Journal.{sectors_of_epoch, well_spelled};
 ghost use Rattle.ufs_scan.specs.Read.{misspelled};
-ghost use Rattle.ufs_scan.specs.Standings.{standings};
+ghost use Rattle.ufs_scan.specs.Standings.{marked_standings, standing_in, no_standing};
+ghost use Rattle.std.specs.Prelude.{if◌then◌else◌};
 ghost use Rattle.ufs_scan.specs.Faults.{HasFaultCause, NamesNone};
 ghost use Rattle.std.specs.Prelude.{◌*◌, ◌+◌, ◌<◌, ◌/◌, ◌++◌, ◌∷◌, []};
 ghost use Rattle.ufs_disk.specs.Disk.{IsRange, bytes_from};
@@ -100,15 +101,40 @@ fn push_standing(list: &mut Vec<Standing>, one: Standing) -> Result<(), AllocErr
     Ok(())
 }
 
-// Reads each inode's sector once.
+// Reads an inode's sector, where it is wanted.
+fn read_standing<D: Disk>(disk: &mut D, wanted: bool, sector: u32) -> Result<Standing, ScanFault>
+    requires { IsRange (D.size disk.old) sector 512 }
+    ensures value { IsTrue D.tells → IfOk result (λ one. one ≡ (if wanted then standing_in (reads (D.moments disk.old) sector) else no_standing)) }
+    ensures content { IsTrue D.tells → reads (D.moments disk.new) ≡ reads (D.moments disk.old) }
+    ensures crash { IsTrue D.tells → LeavesOnly D.keeps (IsImage (D.moments disk.old).state) (D.moments disk.old) (D.moments disk.new) }
+    ensures size { D.size disk.new ≡ D.size disk.old }
+    ensures passed { OnOk result (D.faults disk.new ≡ D.faults disk.old) }
+    ensures cause { IfErr result (HasFaultCause (D.faults disk.old) (D.faults disk.new)) }
+    ensures names { IfErr result NamesNone }
+{
+    if !wanted {
+        return Ok(Standing {
+            before: 0,
+            number: 0,
+            count: 0,
+        });
+    }
+    let mut bytes = [0; SECTOR];
+    read_sectors(disk, sector, &mut bytes)?;
+    Ok(stand_in(&bytes))
+}
+
+// Reads the sector of each inode that is marked once, and no other.
 pub(crate) fn read_standings<D: Disk>(
     alloc: Global,
     disk: &mut D,
     geometry: &Geometry,
+    marks: &[bool],
 ) -> Result<Vec<Standing>, ScanFault>
     requires geometry { IsGeometry geometry.now }
     requires large { sector_count geometry.now ≤ D.size disk.old }
-    ensures list { IsTrue D.tells → IfOk result (λ list. list.items ≡ standings geometry.now (reads (D.moments disk.old)) (reads (D.moments disk.old))) }
+    requires marks { length marks.now ≡ geometry.now.inodes }
+    ensures list { IsTrue D.tells → IfOk result (λ list. list.items ≡ marked_standings geometry.now marks.now (reads (D.moments disk.old))) }
     ensures sized { IfOk result (λ list. length list.items ≡ geometry.now.inodes) }
     ensures content { IsTrue D.tells → reads (D.moments disk.new) ≡ reads (D.moments disk.old) }
     ensures crash { IsTrue D.tells → LeavesOnly D.keeps (IsImage (D.moments disk.old).state) (D.moments disk.old) (D.moments disk.new) }
@@ -119,10 +145,9 @@ pub(crate) fn read_standings<D: Disk>(
 {
     let start = table_start(geometry);
     let mut list = Vec::with_capacity(alloc, geometry.inodes as usize)?;
-    let mut sector = [0; SECTOR];
     for i in 0..geometry.inodes {
-        read_sectors(disk, start + i, &mut sector)?;
-        push_standing(&mut list, stand_in(&sector))?;
+        let one = read_standing(disk, marks[i as usize], start + i)?;
+        push_standing(&mut list, one)?;
     }
     Ok(list)
 }

@@ -9,6 +9,7 @@ ghost use Rattle.ufs_scan.specs.Faults.{HasFaultCause, NamesSector};
 
 use crate::ScanFault;
 use crate::gathered::{copy_all, gather};
+use crate::marks::marked;
 use crate::off::{first_off, lower};
 use crate::reading::{read_journal, read_standings};
 use crate::sorted::parts_in_places;
@@ -18,7 +19,8 @@ use ufs_disk::Disk;
 use ufs_layout::{CommittedList, Geometry, Super};
 
 /// The committed transactions of the superblock's epoch, by rising number; or the lowest sector of the
-/// journal that is off. It reads each sector of the journal and of the inode table once, and writes nothing.
+/// journal that is off. It reads each sector of the
+/// journal once, and of the inode table those that records of committed transactions name; it writes nothing.
 pub fn scan<D: Disk>(
     alloc: Global,
     disk: &mut D,
@@ -40,7 +42,8 @@ pub fn scan<D: Disk>(
     let off = first_off(alloc, geometry, head.next, &sectors.found)?;
     let parts = parts_in_places(alloc, &sectors.found)?;
     let list = gather(alloc, &sectors.found, &parts)?;
-    let standings = read_standings(alloc, disk, geometry)?;
+    let marks = marked(alloc, geometry, &list)?;
+    let standings = read_standings(alloc, disk, geometry, &marks)?;
     let out = lowest_out(alloc, geometry, standings, &list)?;
     match lower(lower(sectors.misspelled, off), out) {
         Some(sector) => Err(ScanFault::BadRecord { sector }),

@@ -1,4 +1,4 @@
-use Rattle.std.proofs.Common.{◌≡◌, ℕ, ◌<◌, ◌+◌, List, ◌∷◌, ◌++◌, length, drop, get_or, ap, sym, ◌∙◌, drop-cons, add-one, Option}
+use Rattle.std.proofs.Common.{◌≡◌, ℕ, ◌+◌, List, ◌++◌, drop, ap, sym, ◌∙◌, Option}
 use Rattle.std.specs.Prelude.{flat_map}
 use Rattle.ufs_image.specs.Journal.{PlacedRecord}
 use Rattle.ufs_layout.specs.declared.geometry.Geometry.{Geometry}
