@@ -6,14 +6,14 @@ use Rattle.std.specs.FinMap as fin
 use Rattle.ufs_image.specs.Opens.{opens}
 use Rattle.ufs_model.specs.Order.{fd_cmp}
 use Rattle.ufs_model.specs.PosixTree.{IsTree}
-use Rattle.ufs_model.specs.Start.{PathNodes, HasContents, StartsHaveContents}
+use Rattle.ufs_model.specs.Start.{HasContents, StartsHaveContents}
 use Rattle.ufs_model.specs.Laws.{KeepsTrees}
 use Rattle.ufs_model.specs.Touched.{holds}
 use Rattle.ufs_model.proofs.Facts.Held.{holder}
 use Rattle.ufs_model.proofs.Facts.Starts.{start_is_tree, held-start}
 use Rattle.ufs_sound.specs.Owned.{one, Has, count}
 use Rattle.ufs_sound.specs.Parts.{committed}
-use Rattle.ufs_sound.specs.Shown.{EachOpensTo, nodes_of}
+use Rattle.ufs_sound.specs.Shown.{EachOpensTo}
 use Rattle.ufs_sound.specs.ByImages.{by_images}
 use Rattle.ufs_sound.specs.Whole.{CanOpen, idle_client, idle_asked}
 use Rattle.ufs_sound.specs.First.{settled_cell}

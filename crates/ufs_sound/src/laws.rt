@@ -8,6 +8,7 @@ ghost use Rattle.ufs_sound.specs.First.{NewDiskOpens, BlindDisksOpen};
 ghost use Rattle.ufs_sound.specs.Opened.{OpenedDisksServe, SettledDisksOpen};
 ghost use Rattle.ufs_sound.specs.Refused.{DrawsNeedTheirParts, DrawsTakeTheWordsTicket, SplitsLeaveNone, SentPartsAreNotDrawnOn, PartsStandOnce, BlocksStandOnce, SyncsNeedCommits, KnownIsCommitted, TicketsAreOnce, ClosesNeedAll};
 ghost use Rattle.ufs_sound.specs.Session.{NewDiskServes};
+ghost use Rattle.ufs_sound.specs.Synced.{WritesAreSynced};
 ghost use Rattle.ufs_layout.specs.Areas.{IsGeometry};
 ghost use Rattle.ufs_sound.specs.Durable.{StoresAreExplained, ImagesAreExplained};
 ghost use Rattle.ufs_sound.specs.Laws.{BeginIsSound, SplitKeeps, JoinKeeps, DrawKeeps, AskKeeps, RemakeKeeps, CloseIsWhole, LookKeeps, TickKeeps, MovesAreMarks, TurnsAreMarks, TellsAreMarks, CommitsAreMarks, NameCommitsAreMarks, HandsKnow};
@@ -159,6 +160,15 @@ pub fn a_short_session_is_sound(geometry: &Geometry)
     ensures { NewDiskServes geometry.now }
 {
     a_new_disk_can_be_opened(geometry);
+    a_request_is_local();
+    a_request_keeps_the_tree();
+    a_request_makes_one_file_at_most();
+}
+
+/// A file is written by its client, committed, and synced: each state is sound, to the one with the acknowledged `fsync`.
+pub fn a_write_is_synced<P: Promise>()
+    ensures { WritesAreSynced P.shows }
+{
     a_request_is_local();
     a_request_keeps_the_tree();
     a_request_makes_one_file_at_most();
