@@ -23,7 +23,7 @@ use Rattle.ufs_sound.specs.Marks.{IsSingle}
 use Rattle.ufs_sound.specs.Parts.{FilePart, NamesPart, StorePart, View, Start}
 use Rattle.ufs_sound.specs.ByImages.{by_images}
 use Rattle.ufs_sound.specs.FileSession
-use Rattle.ufs_sound.specs.FileSession.{FileDisk, HasOneFile, Written, MayBeWritten, IsFileSession}
+use Rattle.ufs_sound.specs.FileSession.{FileDisk, HasOneFile, Written, MayBeWritten, IsFileSession, BlindFilesMayBeWritten}
 use Rattle.ufs_sound.specs.Opened.{OpenedDisk, opened_file, opened_names, opened_store, opened_view, opened_start}
 use Rattle.ufs_sound.specs.Session.{at_word}
 use Rattle.ufs_sound.specs.Sound.{IsSound}
@@ -151,3 +151,25 @@ module _ (keeps : KeepsTrees) (local : Locality) (makes : MakesOneFile) (have : 
 
   pub is_file_session : IsFileSession d
   is_file_session = record { after_begin = after_begin; after_ask = after_ask; after_open = after_open; after_split = after_split; after_read = after_read; synced = synced }
+
+pub blind_files : BlindFilesMayBeWritten
+blind_files d at bytes blind some' fits = record {
+  some' = some';
+  fits = fits;
+  commit = record {
+    file = refl;
+    born = refl;
+    store = refl;
+    last = inl refl;
+    others = λ told. absurd (no told);
+    own = λ told. absurd (no told);
+    inside = λ told. absurd (no told);
+    end = λ told. absurd (no told);
+  };
+}
+  where
+    no : d.is_told ≡ true → ⊥
+    no told = both (sym blind ∙ told)
+      where
+        both : false ≡ true → ⊥
+        both e = cc

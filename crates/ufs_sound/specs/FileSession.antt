@@ -1,6 +1,6 @@
 -- A short session over a disk with one file: its client opens it, its blocks are read, and it is written, committed and
 -- synced.
-use Rattle.std.specs.Prelude.{ℕ, ◌≡◌, true, false, eqb, List, [], ◌∷◌, length, Some, None}
+use Rattle.std.specs.Prelude.{ℕ, Bool, ◌≡◌, true, false, eqb, List, [], ◌∷◌, length, Some, None}
 use Rattle.std.specs.List.{range_with_len}
 use Rattle.std.specs.Ordering.{nat_cmp}
 use Rattle.std.specs.FinMap as fin
@@ -35,6 +35,7 @@ pub record FileDisk : Type 0 where
   pub dirs : List ℕ
   pub unassigned : List ℕ
   pub path : List ℕ
+  pub is_told : Bool
 
 -- what is written, and what the disk goes through while the file is committed
 pub record Written : Type 0 where
@@ -45,7 +46,7 @@ pub record Written : Type 0 where
 
 module _ (d : FileDisk) where
   abbrev pub disk : OpenedDisk
-  disk = record { nodes = d.nodes; cells = d.cells; extents = d.extents; dirs = d.dirs; unassigned = d.unassigned; pools = []; clients = 1 }
+  disk = record { nodes = d.nodes; cells = d.cells; extents = d.extents; dirs = d.dirs; unassigned = d.unassigned; pools = []; clients = 1; is_told = d.is_told }
 
   pub record HasOneFile : Type 0 where
     pub can : CanBeOpened disk
@@ -121,3 +122,8 @@ module _ (d : FileDisk) where
 
 abbrev pub FilesAreServed : Type 0
 FilesAreServed = (d : FileDisk) → HasOneFile d → IsFileSession d
+
+-- On a disk that tells nothing, any bytes may be written.
+abbrev pub BlindFilesMayBeWritten : Type 0
+BlindFilesMayBeWritten = (d : FileDisk) (at : ℕ) (bytes : List ℕ) → d.is_told ≡ false → eqb (length bytes) 0 ≡ false → is_past at bytes ≡ false
+    → MayBeWritten d (record { at = at; bytes = bytes; through = []; state = d.cells })
