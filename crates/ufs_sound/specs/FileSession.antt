@@ -6,11 +6,13 @@ use Rattle.std.specs.Ordering.{nat_cmp}
 use Rattle.std.specs.FinMap as fin
 use Rattle.ufs_model.specs.FileBytes.{is_past}
 use Rattle.ufs_model.specs.Paths.{text_refusal}
+use Rattle.ufs_model.specs.PosixTree.{root}
 use Rattle.ufs_model.specs.Start.{PathNodes}
 use Rattle.ufs_model.specs.Walk.{walk_refusal, node_at}
 use Rattle.ufs_model.specs.declared.data.Actor.TheVariants.{Primary}
 use Rattle.ufs_model.specs.declared.data.Desc.{Desc}
 use Rattle.ufs_model.specs.declared.data.Node.TheVariants.{File}
+use Rattle.ufs_model.specs.declared.data.PathNode.TheVariants as path_node
 use Rattle.ufs_model.specs.declared.data.Op.{Op}
 use Rattle.ufs_model.specs.declared.data.Op.TheVariants as op
 use Rattle.ufs_model.specs.declared.data.PartName.TheVariants as part
@@ -127,3 +129,20 @@ FilesAreServed = (d : FileDisk) → HasOneFile d → IsFileSession d
 abbrev pub BlindFilesMayBeWritten : Type 0
 BlindFilesMayBeWritten = (d : FileDisk) (at : ℕ) (bytes : List ℕ) → d.is_told ≡ false → eqb (length bytes) 0 ≡ false → is_past at bytes ≡ false
     → MayBeWritten d (record { at = at; bytes = bytes; through = []; state = d.cells })
+
+-- ---- a disk with one file
+
+abbrev pub small_path : List ℕ
+small_path = 47 ∷ 97 ∷ []
+
+-- the root and one file with no bytes, on a disk that tells nothing
+abbrev pub small_disk : FileDisk
+small_disk = record {
+  nodes = fin.from_entries ((root, path_node.Dir) ∷ (small_path, path_node.File []) ∷ []);
+  cells = [];
+  extents = fin.empty;
+  dirs = [];
+  unassigned = [];
+  path = small_path;
+  is_told = false;
+}

@@ -8,7 +8,7 @@ ghost use Rattle.ufs_sound.specs.First.{NewDiskOpens, BlindDisksOpen};
 ghost use Rattle.ufs_sound.specs.Opened.{OpenedDisksServe, SettledDisksOpen};
 ghost use Rattle.ufs_sound.specs.Refused.{DrawsNeedTheirParts, DrawsTakeTheWordsTicket, SplitsLeaveNone, SentPartsAreNotDrawnOn, PartsStandOnce, BlocksStandOnce, SyncsNeedCommits, KnownIsCommitted, TicketsAreOnce, ClosesNeedAll};
 ghost use Rattle.ufs_sound.specs.Session.{NewDiskServes};
-ghost use Rattle.ufs_sound.specs.FileSession.{FilesAreServed, BlindFilesMayBeWritten};
+ghost use Rattle.ufs_sound.specs.FileSession.{FilesAreServed, BlindFilesMayBeWritten, HasOneFile, small_disk};
 ghost use Rattle.ufs_sound.specs.Synced.{WritesAreSynced};
 ghost use Rattle.ufs_layout.specs.Areas.{IsGeometry};
 ghost use Rattle.ufs_sound.specs.Durable.{StoresAreExplained, ImagesAreExplained};
@@ -180,6 +180,7 @@ pub fn a_write_is_synced<P: Promise>()
 pub fn a_file_session_is_sound()
     ensures served { FilesAreServed }
     ensures blind { BlindFilesMayBeWritten }
+    ensures small { HasOneFile small_disk }
 {
     a_request_is_local();
     a_request_keeps_the_tree();

@@ -1,4 +1,5 @@
 use Rattle.ufs_sound.proofs.FileSession.{is_file_session, blind_files}
+use Rattle.ufs_sound.proofs.SmallDisk.{has_one_file}
 use Rattle.ufs_sound.proofs.laws.a_file_session_is_sound.Goals as goal
 
 pub returns-clause-served : goal.returns-clause-served
@@ -6,3 +7,6 @@ returns-clause-served c = is_file_session c.a_request_keeps_the_tree.ensures c.a
 
 pub returns-clause-blind : goal.returns-clause-blind
 returns-clause-blind c = blind_files
+
+pub returns-clause-small : goal.returns-clause-small
+returns-clause-small c = has_one_file
