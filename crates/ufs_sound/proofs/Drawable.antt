@@ -1,9 +1,9 @@
 -- The condition of a draw is met: by a request that lacks memory, and by a read of a held file.
-use Rattle.std.proofs.Common.{◌≡◌, ℕ, ◌<◌, ◌≤◌, ◌⊎◌, Bool, true, false, cond, eqb, [], ◌∷◌, ◌++◌, length, Option, Some, None, is_some, is_none, not, unwrap_or, sym, refl, ap, ◌∙◌, subst, inl, inr, arith, append-nil}
+use Rattle.std.proofs.Common.{◌≡◌, ℕ, ◌<◌, ◌≤◌, ◌⊎◌, Bool, true, false, cond, eqb, [], ◌∷◌, ◌++◌, length, Option, Some, None, is_some, is_none, not, unwrap_or, ◌||◌, sym, refl, ap, ◌∙◌, subst, inl, inr, ⊎_elim, arith, append-nil}
 use Rattle.std.specs.Prelude.{slice_get}
 use Rattle.std.specs.FinMap as fin
 use native.Mathlib.Decide.{dec_le}
-use Rattle.ufs_model.specs.PosixTree.{PosixTree, IsTree, desc_at}
+use Rattle.ufs_model.specs.PosixTree.{PosixTree, IsTree, desc_at, is_number}
 use Rattle.ufs_model.specs.Posix.{served}
 use Rattle.ufs_model.specs.Refusals.{refusal, read_refusal}
 use Rattle.ufs_model.specs.Descriptors.{opened, closed}
@@ -23,8 +23,8 @@ use Rattle.ufs_model.specs.declared.data.PartName.TheVariants as part'
 use Rattle.ufs_sound.specs.declared.fresh.Fresh.{Fresh}
 use Rattle.ufs_sound.specs.Owned.{one, Has, count}
 use Rattle.ufs_prefix.specs.Changes.{change_of, names_by}
-use Rattle.ufs_sound.specs.Covers.{step_in}
-use Rattle.ufs_sound.specs.Parts.{ClientPart, FilePart, View, HoldsPart}
+use Rattle.ufs_sound.specs.Covers.{step_in, SyncsFile, SyncsNames, SyncsBirth}
+use Rattle.ufs_sound.specs.Parts.{ClientPart, FilePart, NamesPart, View, HoldsPart}
 use Rattle.ufs_sound.specs.Marks.{IsSingle}
 use Rattle.ufs_sound.specs.LeasesTrue.{IsTrueOf, IsLeaseHeld, leased_file}
 use Rattle.ufs_sound.specs.Draws.{IsUnchanged, Leaves, entry_of, IsIn, IsAbsent, DrawsOn, MayDraw}
@@ -39,9 +39,15 @@ pub record IsQuietOn (f : Fresh) (v : View) (t : PosixTree) : Type 0 where
   pub no_change : (g : ℕ) → change_of g (step_in t (entry_of 0 f)) ≡ []
   pub no_names : names_by (step_in t (entry_of 0 f)) ≡ []
 
+-- What it acknowledges is known as committed.
+pub record IsKnownOn (f : Fresh) (v : View) (t : PosixTree) : Type 0 where
+  pub synced : f.reply ≡ reply.Done → (g : ℕ) → SyncsFile t f.client f.op g → (p : FilePart) × Has (g, p) v.files × (length p.changes ≤ p.known)
+  pub synced_names : f.reply ≡ reply.Done → SyncsNames t f.client f.op → (n : NamesPart) × Has (tt, n) v.names × (length n.changes ≤ n.known)
+  pub synced_birth : f.reply ≡ reply.Done → (g : ℕ) → SyncsBirth t f.client f.op g → (p : FilePart) × Has (g, p) v.files × (p.born ≡ true)
+
 module _ (f : Fresh) (v : View) (single : IsSingle v) (self : ClientPart) (client : Has (f.client, self) v.clients) (low : f.client < 16) (seq : f.seq ≡ length self.entries) (asked : self.asked ≡ Some f.op)
-    (device : (n : ℕ) → f.reply ≡ reply.Excused (excuse.Device n) → ⊥) (stopped : (n : ℕ) → f.reply ≡ reply.Excused (excuse.Stopped n) → ⊥) (short : (a b : ℕ) → f.reply ≡ reply.Excused (excuse.Blocks a b) → ⊥) (undone : f.reply ≡ reply.Done → ⊥)
-    (quiet : (t : PosixTree) → IsTree t → IsIn v t → IsQuietOn f v t) where
+    (device : (n : ℕ) → f.reply ≡ reply.Excused (excuse.Device n) → ⊥) (stopped : (n : ℕ) → f.reply ≡ reply.Excused (excuse.Stopped n) → ⊥) (short : (a b : ℕ) → f.reply ≡ reply.Excused (excuse.Blocks a b) → ⊥)
+    (quiet : (t : PosixTree) → IsTree t → IsIn v t → IsQuietOn f v t) (known : (t : PosixTree) → IsIn v t → IsKnownOn f v t) where
   abbrev same : Leaves
   same = record { fds = self.fds; files = v.files; names = v.names }
 
@@ -63,9 +69,9 @@ module _ (f : Fresh) (v : View) (single : IsSingle v) (self : ClientPart) (clien
         single = single.files;
         leases = λ x listed live fact. subst (λ (u : PosixTree). IsTrueOf u x.part x.fact) (sym q.stays) fact;
         own_leases = λ x h live held. subst (λ (u : PosixTree). IsLeaseHeld u.fds f.client (leased_file x.part x.fact)) (sym q.stays) held;
-        synced = λ done. absurd (undone done);
-        synced_names = λ done. absurd (undone done);
-        synced_birth = λ done. absurd (undone done);
+        synced = (known t within).synced;
+        synced_names = (known t within).synced_names;
+        synced_birth = (known t within).synced_birth;
       }
     where
       own_at : (g : ℕ) → (1 ≤ count eqb g v.files) ⊎ (fin.get t.bytes g ≡ None) → Dec (1 ≤ count eqb g v.files) → count eqb g v.files ≡ one (is_some (fin.get t.bytes g))
@@ -78,14 +84,14 @@ module _ (f : Fresh) (v : View) (single : IsSingle v) (self : ClientPart) (clien
   same_file : (g : ℕ) (x y : FilePart) → Has (g, x) v.files → Has (g, y) v.files → x ≡ y
   same_file g x y a b = same_some x y (sym (has_find eqb itself alike g x v.files (single.files g) a) ∙ has_find eqb itself alike g y v.files (single.files g) b)
 
-  pub may_draw : MayDraw f v same []
-  may_draw = record {
+  pub known_may_draw : MayDraw f v same []
+  known_may_draw = record {
     self = self;
     client = client;
     low = low;
     seq = seq;
     asked = asked;
-    on = λ t is within known. draws t is within;
+    on = λ t is within live. draws t is within;
     copies = λ x none. absurd none;
     names = λ u. refl;
     others = λ n ne. refl;
@@ -97,6 +103,13 @@ module _ (f : Fresh) (v : View) (single : IsSingle v) (self : ClientPart) (clien
     stopped = λ n e. absurd (stopped n e);
     short = λ a b e. absurd (short a b e);
   }
+
+-- So too where nothing is acknowledged.
+module _ (f : Fresh) (v : View) (single : IsSingle v) (self : ClientPart) (client : Has (f.client, self) v.clients) (low : f.client < 16) (seq : f.seq ≡ length self.entries) (asked : self.asked ≡ Some f.op)
+    (device : (n : ℕ) → f.reply ≡ reply.Excused (excuse.Device n) → ⊥) (stopped : (n : ℕ) → f.reply ≡ reply.Excused (excuse.Stopped n) → ⊥) (short : (a b : ℕ) → f.reply ≡ reply.Excused (excuse.Blocks a b) → ⊥) (undone : f.reply ≡ reply.Done → ⊥)
+    (quiet : (t : PosixTree) → IsTree t → IsIn v t → IsQuietOn f v t) where
+  pub may_draw : MayDraw f v (record { fds = self.fds; files = v.files; names = v.names }) []
+  may_draw = known_may_draw f v single self client low seq asked device stopped short quiet (λ t within. record { synced = λ done. absurd (undone done); synced_names = λ done. absurd (undone done); synced_birth = λ done. absurd (undone done) })
 
 -- ---- want of memory: the client's part is enough
 
@@ -153,3 +166,58 @@ module _ (client seq fd n at g : ℕ) (by : Actor) (v : View) (single : IsSingle
         no_change = λ g. refl;
         no_names = refl;
       })
+
+-- ---- an `fsync` of a held file whose changes and birth are known as committed
+
+module _ (client seq fd g : ℕ) (by : Actor) (v : View) (single : IsSingle v) (self : ClientPart) (has : Has (client, self) v.clients) (low : client < 16) (next : seq ≡ length self.entries)
+    (asked : self.asked ≡ Some (op.Fsync fd)) (d : Desc) (open' : fin.get self.fds fd ≡ Some d) (of : d.file ≡ Some g) (x : FilePart) (held : Has (g, x) v.files) (all : length x.changes ≤ x.known) (born : x.born ≡ true) where
+  abbrev syncing : Fresh
+  syncing = record { client = client; seq = seq; by = by; op = op.Fsync fd; reply = reply.Done }
+
+  module _ (t : PosixTree) (within : IsIn v t) where
+    synced_desc : desc_at t client fd ≡ Some d
+    synced_desc = sym (within.clients client self has fd) ∙ open'
+
+    synced_file : (opened t client fd).file ≡ Some g
+    synced_file = ap (λ o. (unwrap_or o closed).file) synced_desc ∙ of
+
+    sync_allowed : refusal t client (op.Fsync fd) ≡ None
+    sync_allowed = ap (λ (o : Option Desc). Rattle.ufs_base.specs.Choices.first_of (Rattle.ufs_base.specs.Choices.refused_if (is_none o) errno.Ebadf) None) synced_desc
+
+    sync_stays : (o : Option Errno) → (served t client (op.Fsync fd) o).0 ≡ t
+    sync_stays None = refl
+    sync_stays (Some e) = refl
+
+    sync_touches : (b : Bool) → (p : PartName) → IsPartOf (part'.Client client ∷ cond b [] (Rattle.ufs_model.specs.Touched.open_part (opened t client fd).file)) p → HoldsPart p v ⊎ (IsAbsent p t ⊎ IsUnchanged p t (entry_of 0 syncing))
+    sync_touches b p (inl e) = inl (subst (λ y. HoldsPart y v) (sym e) (count_has eqb itself alike client self v.clients has))
+    sync_touches true p (inr e) = absurd e
+    sync_touches false p (inr e) = inl (mine (subst (λ o. IsPartOf (Rattle.ufs_model.specs.Touched.open_part o) p) synced_file e))
+      where
+        mine : IsPartOf (part'.File g ∷ []) p → HoldsPart p v
+        mine (inl e) = subst (λ y. HoldsPart y v) (sym e) (count_has eqb itself alike g x v.files held)
+        mine (inr e) = absurd e
+
+    -- only this file is asked for
+    is_it : (h : ℕ) → SyncsBirth t client (op.Fsync fd) h → g ≡ h
+    is_it h asks = alike g h (sym (ap (is_number h) synced_file) ∙ asks)
+
+    known_on : IsKnownOn syncing v t
+    known_on = record {
+      synced = λ done h asks. ⊎_elim (λ a. (x, subst (λ n. Has (n, x) v.files) (is_it h a) held, all)) (λ (b : (false ≡ true) × (is_some (fin.get t.bytes h) ≡ true)). absurd (no b.0)) asks;
+      synced_names = λ done asks. absurd (no (sym (ap (λ o. is_none o || false) synced_file) ∙ asks));
+      synced_birth = λ done h asks. (x, subst (λ n. Has (n, x) v.files) (is_it h asks) held, born);
+    }
+      where
+        no : false ≡ true → ⊥
+        no e = cc
+
+  pub sync_may_draw : MayDraw syncing v (record { fds = self.fds; files = v.files; names = v.names }) []
+  sync_may_draw = known_may_draw syncing v single self has low next asked (λ n e. cc) (λ n e. cc) (λ a b e. cc)
+      (λ t is within. record {
+        replied = inl (sym (ap (λ o. (served t client (op.Fsync fd) o).1) (sync_allowed t within)));
+        touched = λ e. sync_touches t within (is_some (Rattle.ufs_model.specs.Refusals.own_refusal t client (op.Fsync fd)));
+        stays = sync_stays t within (refusal t client (op.Fsync fd));
+        no_change = λ h. refl;
+        no_names = refl;
+      })
+      known_on

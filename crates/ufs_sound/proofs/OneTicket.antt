@@ -1,5 +1,5 @@
 -- A draw takes the word's ticket, or leaves no sound state: each lower one has its entry.
-use Rattle.std.proofs.Common.{◌≡◌, ℕ, zero, suc, ◌+◌, ◌<◌, ◌≤◌, ◌≢◌, Bool, true, false, cond, eqb, eq-eqb, List, [], ◌∷◌, ◌++◌, length, map, set, Option, Some, None, sym, refl, ap, ◌∙◌, subst, inl, inr, arith}
+use Rattle.std.proofs.Common.{◌≡◌, ℕ, zero, suc, ◌+◌, ◌<◌, ◌≤◌, Bool, true, false, cond, eqb, List, [], ◌∷◌, ◌++◌, length, map, set, Option, Some, None, sym, refl, ap, ◌∙◌, subst, inl, inr, arith}
 use mathlib.Core.Option.{some, some-injective, some-ne-none}
 use native.Mathlib.Decide.{ℕ_discrete, dec_le}
 use lib.ListN.{get_elem?}
@@ -17,11 +17,11 @@ use Rattle.ufs_sound.specs.Draws.{Leaves, entry_of, client_after, drawn, MayDraw
 use Rattle.ufs_sound.specs.Refused.{IsDrawnIn, DrawsTakeTheWordsTicket}
 use Rattle.ufs_sound.proofs.Owning.{each_has, some_view, append_has}
 use Rattle.ufs_sound.proofs.Keys.{itself, alike}
-use Rattle.ufs_sound.proofs.Ending.{has_mine, mine_has}
+use Rattle.ufs_sound.proofs.Ending.{has_mine}
 use Rattle.ufs_sound.proofs.First.{in_range}
 use Rattle.ufs_sound.proofs.Refused.{tickets_once}
 
-set_at : (l : List View) (i : ℕ) (a b : View) → get_elem? l i ≡ some a → get_elem? (set l i b) i ≡ some b
+pub set_at : (l : List View) (i : ℕ) (a b : View) → get_elem? l i ≡ some a → get_elem? (set l i b) i ≡ some b
 set_at [] i a b e = absurd (some-ne-none a (sym e))
 set_at (x ∷ l) zero a b e = refl
 set_at (x ∷ l) (suc i) a b e = set_at l i a b e

@@ -6,14 +6,14 @@ use Rattle.std.specs.FinMap as fin
 use Rattle.ufs_image.specs.Opens.{opens}
 use Rattle.ufs_model.specs.Order.{fd_cmp}
 use Rattle.ufs_model.specs.PosixTree.{IsTree}
-use Rattle.ufs_model.specs.Start.{PathNodes, HasContents, StartsHaveContents}
+use Rattle.ufs_model.specs.Start.{HasContents, StartsHaveContents}
 use Rattle.ufs_model.specs.Laws.{KeepsTrees}
 use Rattle.ufs_model.specs.Touched.{holds}
 use Rattle.ufs_model.proofs.Facts.Held.{holder}
 use Rattle.ufs_model.proofs.Facts.Starts.{start_is_tree, held-start}
 use Rattle.ufs_sound.specs.Owned.{one, Has, count}
 use Rattle.ufs_sound.specs.Parts.{committed}
-use Rattle.ufs_sound.specs.Shown.{EachOpensTo, nodes_of}
+use Rattle.ufs_sound.specs.Shown.{EachOpensTo}
 use Rattle.ufs_sound.specs.ByImages.{by_images}
 use Rattle.ufs_sound.specs.Whole.{CanOpen, idle_client, idle_asked}
 use Rattle.ufs_sound.specs.First.{settled_cell}
@@ -50,8 +50,8 @@ module _ (keeps : KeepsTrees) (have : StartsHaveContents) (d : OpenedDisk) (can 
       by true e = let l = ltb-true f (opened_tree d).next e in each_once (opened_file d) (opened_tree d).next 0 f (omega arith) (omega arith) ∙ ap one (sym e)
       by false e = let l = ltb-false f (opened_tree d).next e in none_after (opened_file d) (opened_tree d).next 0 f (omega arith) ∙ ap one (sym e)
 
-  opens_to : EachOpensTo (HasContents (opened_tree d)) d.cells
-  opens_to image is = let o = can.opens image is in (o.0, o.1, subst (HasContents (opened_tree d)) (sym o.2) (have d.nodes))
+  opens_to : d.is_told ≡ true → EachOpensTo (HasContents (opened_tree d)) d.cells
+  opens_to told image is = let o = can.opens told image is in (o.0, o.1, subst (HasContents (opened_tree d)) (sym o.2) (have d.nodes))
 
   unheld : (c f : ℕ) (b : Bool) → holds (opened_tree d).fds c f ≡ b → holds (opened_tree d).fds c f ≡ false
   unheld c f true e = let h = holder (opened_tree d).fds c f e in absurd (none_some h.1 (sym (fin.get-empty fd_cmp (c, h.0)) ∙ h.2))
@@ -68,7 +68,7 @@ module _ (keeps : KeepsTrees) (have : StartsHaveContents) (d : OpenedDisk) (can 
     refl,
     some_bytes (fin.get (opened_tree d).bytes f) (there f l),
     refl,
-    (λ told. can.on_disk f l),
+    (λ told. can.on_disk told f l),
     (λ bs b e h. inl (subst (λ (o : Option (List ℕ)). Has b (unwrap_or o [])) (sym e) h)),
   )
 
@@ -104,7 +104,7 @@ module _ (keeps : KeepsTrees) (have : StartsHaveContents) (d : OpenedDisk) (can 
     past = refl;
     lent = refl;
     lent_names = refl;
-    shows = λ told. openings_show keeps (opened_tree d) (committed (opened_store d)) d.cells is_tree none_committed opens_to;
+    shows = λ told. openings_show keeps (opened_tree d) (committed (opened_store d)) d.cells is_tree none_committed (opens_to told);
     single = λ n. omega arith;
     faults = refl;
     stop = refl;

@@ -1,5 +1,5 @@
 -- A session over a disk that has files begins: what its first hand has.
-use Rattle.std.specs.Prelude.{ℕ, ◌≤◌, ◌<◌, ◌≡◌, eqb, true, List, [], ◌∷◌, map, Some, None, Ok, unwrap_or}
+use Rattle.std.specs.Prelude.{ℕ, ◌≤◌, ◌<◌, ◌≡◌, eqb, Bool, true, List, [], ◌∷◌, map, Some, None, Ok, unwrap_or}
 use Rattle.std.specs.List.{range_with_len}
 use Rattle.std.specs.Ordering.{nat_cmp}
 use Rattle.std.specs.FinMap as fin
@@ -27,6 +27,8 @@ pub record OpenedDisk : Type 0 where
   pub unassigned : List ℕ
   pub pools : List (ℕ × List ℕ)
   pub clients : ℕ
+  -- it tells what it holds, and was proper
+  pub is_told : Bool
 
 module _ (d : OpenedDisk) where
   -- its files have numbers by rising path, and nothing is open
@@ -98,18 +100,18 @@ module _ (d : OpenedDisk) where
   }
 
   abbrev pub opened_start : Start
-  opened_start = record { tree = opened_tree; view = opened_view; is_told = true }
+  opened_start = record { tree = opened_tree; view = opened_view; is_told = d.is_told }
 
-  -- Each image that a crash may leave opens to the tree; only its files have blocks, no block is in two places, and the
-  -- files' blocks have their bytes.
+  -- Only files of the tree have blocks, and no block is in two places. Where the disk tells what it holds, each image that a
+  -- crash may leave opens to the tree, and the files' blocks have their bytes.
   pub record CanBeOpened : Type 0 where
     pub paths : IsPathTree d.nodes
     pub small : opened_tree.next ≤ 4096
     pub pools : (n : ℕ) → count eqb n d.pools ≤ 1
     pub extents : (f : ℕ) (bs : List ℕ) → fin.get d.extents f ≡ Some bs → f < opened_tree.next
     pub once : (b : ℕ) → uses b opened_view ≤ 1
-    pub on_disk : (f : ℕ) → f < opened_tree.next → IsOnDisk (opened_file f) d.cells
-    pub opens : EachOpensTo (λ nodes. nodes ≡ d.nodes) d.cells
+    pub on_disk : d.is_told ≡ true → (f : ℕ) → f < opened_tree.next → IsOnDisk (opened_file f) d.cells
+    pub opens : d.is_told ≡ true → EachOpensTo (λ nodes. nodes ≡ d.nodes) d.cells
 
 -- On such a disk a session can begin, with every file in its part.
 abbrev pub OpenedDisksServe : Type 0

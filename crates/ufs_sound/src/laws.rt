@@ -8,6 +8,8 @@ ghost use Rattle.ufs_sound.specs.First.{NewDiskOpens, BlindDisksOpen};
 ghost use Rattle.ufs_sound.specs.Opened.{OpenedDisksServe, SettledDisksOpen};
 ghost use Rattle.ufs_sound.specs.Refused.{DrawsNeedTheirParts, DrawsTakeTheWordsTicket, SplitsLeaveNone, SentPartsAreNotDrawnOn, PartsStandOnce, BlocksStandOnce, SyncsNeedCommits, KnownIsCommitted, TicketsAreOnce, ClosesNeedAll};
 ghost use Rattle.ufs_sound.specs.Session.{NewDiskServes};
+ghost use Rattle.ufs_sound.specs.FileSession.{FilesAreServed, BlindFilesMayBeWritten, HasOneFile, small_disk};
+ghost use Rattle.ufs_sound.specs.Synced.{WritesAreSynced};
 ghost use Rattle.ufs_layout.specs.Areas.{IsGeometry};
 ghost use Rattle.ufs_sound.specs.Durable.{StoresAreExplained, ImagesAreExplained};
 ghost use Rattle.ufs_sound.specs.Laws.{BeginIsSound, SplitKeeps, JoinKeeps, DrawKeeps, AskKeeps, RemakeKeeps, CloseIsWhole, LookKeeps, TickKeeps, MovesAreMarks, TurnsAreMarks, TellsAreMarks, CommitsAreMarks, NameCommitsAreMarks, HandsKnow};
@@ -162,6 +164,28 @@ pub fn a_short_session_is_sound(geometry: &Geometry)
     a_request_is_local();
     a_request_keeps_the_tree();
     a_request_makes_one_file_at_most();
+}
+
+/// A file is written by its client, committed, and synced: each state is sound, to the one with the acknowledged `fsync`.
+pub fn a_write_is_synced<P: Promise>()
+    ensures { WritesAreSynced P.shows }
+{
+    a_request_is_local();
+    a_request_keeps_the_tree();
+    a_request_makes_one_file_at_most();
+}
+
+/// A short session over a disk with one file: its client opens it, and it is read, written, committed and synced. Each state
+/// is sound.
+pub fn a_file_session_is_sound()
+    ensures served { FilesAreServed }
+    ensures blind { BlindFilesMayBeWritten }
+    ensures small { HasOneFile small_disk }
+{
+    a_request_is_local();
+    a_request_keeps_the_tree();
+    a_request_makes_one_file_at_most();
+    a_start_is_a_tree();
 }
 
 /// What a step asks of its own hand, in words of what it can't do: a draw on a part that the hand hasn't, a split that
