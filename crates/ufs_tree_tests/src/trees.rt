@@ -74,46 +74,76 @@ fn making(alloc: Global, path: &[u8], reply: Reply) -> Result<Entry, Memory>
 }
 
 #[test]
-fn an_entry_is_told_rightly_or_wrongly(rt: HostRuntime) -> Result<(), Fail> {
+fn an_open_is_told_rightly_or_wrongly(rt: HostRuntime) -> Result<(), Fail> {
     let alloc = rt.alloc();
     let mut tree = at_root(alloc)?;
-    let rows = [
-        (opening(alloc, Reply::Excused(Excuse::Inodes))?, true),
-        (opening(alloc, Reply::Fd(4))?, false),
-        (opening(alloc, Reply::Fd(3))?, true),
-        (writing(alloc, 3, b"ab", Reply::Count(3))?, false),
-        (writing(alloc, 3, b"ab", Reply::Count(2))?, true),
-        (reading(alloc, b"ab")?, true),
-        (reading(alloc, b"ba")?, false),
-    ];
-    for (row, expected) in &rows {
-        let fits = told(&mut tree, row)?;
-        assert_eq!(rt; fits, *expected);
-    }
+    let excuse = Reply::Excused(Excuse::Inodes);
+    let fits = told(&mut tree, &opening(alloc, excuse)?)?;
+    assert!(rt; fits);
+    let wrongly = told(&mut tree, &opening(alloc, Reply::Fd(4))?)?;
+    assert!(rt; !wrongly);
+    let rightly = told(&mut tree, &opening(alloc, Reply::Fd(3))?)?;
+    assert!(rt; rightly);
     Ok(())
+}
+
+// A tree in which descriptor 3 is open for `/f`.
+fn with_file(alloc: Global) -> Result<Tree, Memory>
+    ensures { IfOk result (λ tree. tree.next ≤ 1) }
+{
+    let mut tree = at_root(alloc)?;
+    let _opened = told(&mut tree, &opening(alloc, Reply::Fd(3))?)?;
+    Ok(tree)
+}
+
+#[test]
+fn a_write_is_told_rightly_or_wrongly(rt: HostRuntime) -> Result<(), Fail> {
+    let alloc = rt.alloc();
+    let mut tree = with_file(alloc)?;
+    let wrongly = told(&mut tree, &writing(alloc, 3, b"ab", Reply::Count(3))?)?;
+    assert!(rt; !wrongly);
+    let rightly = told(&mut tree, &writing(alloc, 3, b"ab", Reply::Count(2))?)?;
+    assert!(rt; rightly);
+    let rightly = told(&mut tree, &reading(alloc, b"ab")?)?;
+    assert!(rt; rightly);
+    let wrongly = told(&mut tree, &reading(alloc, b"ba")?)?;
+    assert!(rt; !wrongly);
+    Ok(())
+}
+
+// Whether a write of two bytes to a descriptor, with nothing written before, may have this excuse.
+fn fits_a_write(alloc: Global, fd: u64, excuse: Excuse) -> Result<bool, Memory> {
+    let mut tree = with_file(alloc)?;
+    told(
+        &mut tree,
+        &writing(alloc, fd, b"ab", Reply::Excused(excuse))?,
+    )
+}
+
+fn fits_by_blocks(alloc: Global, fd: u64, need: u32, had: u32) -> Result<bool, Memory> {
+    fits_a_write(alloc, fd, Excuse::Blocks { need, had })
+}
+
+fn fits_by_extents(alloc: Global, need: u32) -> Result<bool, Memory> {
+    fits_a_write(alloc, 3, Excuse::Extents { need })
 }
 
 #[test]
 fn an_excuse_of_blocks_tells_what_is_needed(rt: HostRuntime) -> Result<(), Fail> {
     let alloc = rt.alloc();
-    let mut tree = at_root(alloc)?;
-    let opened = told(&mut tree, &opening(alloc, Reply::Fd(3))?)?;
-    assert!(rt; opened);
-    for (fd, need, had, expected) in [
-        (3, 1, 0, true),
-        (3, 2, 0, false),
-        (3, 1, 1, false),
-        (4, 1, 0, false),
-    ] {
-        let excuse = Reply::Excused(Excuse::Blocks { need, had });
-        let fits = told(&mut tree, &writing(alloc, fd, b"ab", excuse)?)?;
-        assert_eq!(rt; fits, expected, "descriptor {fd}, {need} of {had}");
-    }
-    for (need, expected) in [(56, false), (57, true), (58, false)] {
-        let excuse = Reply::Excused(Excuse::Extents { need });
-        let fits = told(&mut tree, &writing(alloc, 3, b"ab", excuse)?)?;
-        assert_eq!(rt; fits, expected, "{need} extents");
-    }
+    assert!(rt; fits_by_blocks(alloc, 3, 1, 0)?);
+    assert!(rt; !fits_by_blocks(alloc, 3, 2, 0)?);
+    assert!(rt; !fits_by_blocks(alloc, 3, 1, 1)?);
+    assert!(rt; !fits_by_blocks(alloc, 4, 1, 0)?);
+    Ok(())
+}
+
+#[test]
+fn an_excuse_of_extents_is_above_the_most_by_the_blocks(rt: HostRuntime) -> Result<(), Fail> {
+    let alloc = rt.alloc();
+    assert!(rt; !fits_by_extents(alloc, 56)?);
+    assert!(rt; fits_by_extents(alloc, 57)?);
+    assert!(rt; !fits_by_extents(alloc, 58)?);
     Ok(())
 }
 
@@ -122,12 +152,13 @@ fn an_excuse_of_blocks_tells_what_is_needed(rt: HostRuntime) -> Result<(), Fail>
 fn a_name_needs_a_block_where_the_directory_may_be_full(rt: HostRuntime) -> Result<(), Fail> {
     let alloc = rt.alloc();
     let mut tree = at_root(alloc)?;
-    for (made, expected) in [(b"/a", true), (b"/b", false), (b"/c", false)] {
-        let excuse = Reply::Excused(Excuse::Blocks { need: 1, had: 0 });
-        let fits = told(&mut tree, &making(alloc, made, excuse)?)?;
-        assert_eq!(rt; fits, expected);
-        let right = told(&mut tree, &making(alloc, made, Reply::Done)?)?;
-        assert!(rt; right);
-    }
+    let excuse = Reply::Excused(Excuse::Blocks { need: 1, had: 0 });
+    let fits = told(&mut tree, &making(alloc, b"/a", excuse)?)?;
+    assert!(rt; fits);
+    let made = told(&mut tree, &making(alloc, b"/a", Reply::Done)?)?;
+    assert!(rt; made);
+    let excuse = Reply::Excused(Excuse::Blocks { need: 1, had: 0 });
+    let fits = told(&mut tree, &making(alloc, b"/b", excuse)?)?;
+    assert!(rt; !fits);
     Ok(())
 }
