@@ -5,7 +5,8 @@ ghost use Rattle.ufs_base.specs.Faults.{HasCause};
 ghost use Rattle.ufs_disk.specs.Props.{untrue};
 ghost use Rattle.std.proofs.Common.{rules};
 
-use crate::{Disk, Fault, SECTOR};
+use ufs_base::SECTOR;
+use crate::{Disk, Fault};
 use std::fs::{File, Files, OpenOptions};
 use std::io;
 use std::marker::Model;

@@ -11,7 +11,8 @@ ghost use Rattle.ufs_disk.specs.Calls.{Notes, IsWrite, after_calls, picked};
 ghost use Rattle.ufs_disk.specs.Props.{same_state_prop, whole_prop};
 
 use crate::ranges::{copy_of, copy_out, overwrite, piece, whole_copy};
-use crate::{Fault, SECTOR};
+use ufs_base::SECTOR;
+use crate::Fault;
 use std::alloc::{AllocError, Global};
 
 /// What a call asked.

@@ -5,7 +5,8 @@ ghost use Rattle.ufs_disk.specs.Bytes.{begun};
 ghost use Rattle.ufs_disk.specs.Whole.{begun_whole};
 
 use crate::ranges::{copy_out, overwrite};
-use crate::{Disk, Fault, SECTOR};
+use ufs_base::SECTOR;
+use crate::{Disk, Fault};
 use std::alloc::{AllocError, Global};
 
 /// A disk in memory that never fails. It takes the memory of its bytes.

@@ -2,7 +2,7 @@
 ghost use Rattle.std.specs.Prelude.{◌≡◌, ◌≤◌, ◌+◌, ◌*◌, ◌++◌, length, take, drop, IfOk};
 ghost use Rattle.ufs_base.specs.Images.{IsBytes};
 
-use crate::SECTOR;
+use ufs_base::SECTOR;
 use std::alloc::{AllocError, Global};
 
 // Copies as many bytes as the buffer takes.

@@ -16,7 +16,8 @@ use crate::sectors::{Sectors, note_sectors};
 use crate::standing::stand_in;
 use crate::{ScanFault, Standing};
 use std::alloc::{AllocError, Global};
-use ufs_disk::{Disk, SECTOR};
+use ufs_base::SECTOR;
+use ufs_disk::Disk;
 use ufs_layout::Geometry;
 
 // The first sector of the journal.

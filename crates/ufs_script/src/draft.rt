@@ -5,6 +5,7 @@ ghost use Rattle.ufs_script.specs.Requests.{IsCauseOf};
 ghost use Rattle.ufs_script.specs.Script.{IsFaultOf, IsFew, clients_of};
 ghost use Rattle.ufs_script.specs.Script as specs;
 
+use ufs_base::MAX_CLIENTS;
 use crate::fault::{Cause, ScriptFault};
 use crate::lists::{OpList, OpLists};
 use crate::places::{exactly, number_at};
@@ -41,7 +42,7 @@ pub fn no_lines(alloc: Global) -> Draft
 
 /// The requests of all clients so far.
 pub fn all_clients(before: OpLists, current: Option<OpList>) -> Result<OpLists, Cause>
-    requires { length (before ++ option_to_list current) ≤ 16 }
+    requires { length (before ++ option_to_list current) ≤ MAX_CLIENTS }
     ensures ok { IfOk result (λ lists. lists ≡ before ++ option_to_list current) }
     ensures err { IfErr result (λ c. c ≡ Cause.Memory) }
 {
