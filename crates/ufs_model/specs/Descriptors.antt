@@ -36,6 +36,10 @@ pub record Mode : Type 0 where
   pub trunc : Bool
   pub append : Bool
 
+-- the mode of an `open` with these flags
+abbrev pub mode_of_open : Bool → Bool → Bool → Bool → Bool → Bool → Mode
+mode_of_open read write creat excl trunc append = record { read = read; write = write; creat = creat; excl = excl; trunc = trunc; append = append }
+
 -- `excl` goes with `creat`, and `trunc` with leave to write
 abbrev pub is_mode : Mode → Bool
 is_mode m = not (m.excl && not m.creat) && not (m.trunc && not m.write)
