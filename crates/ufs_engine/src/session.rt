@@ -1,5 +1,5 @@
 // Playing a script on one thread.
-ghost use Rattle.std.specs.Prelude.{◌≡◌, ◌≤◌, ◌<◌, ◌*◌, ◌++◌, [], List, OnOk, length};
+ghost use Rattle.std.specs.Prelude.{◌-◌, ◌≡◌, ◌≤◌, ◌<◌, ◌*◌, ◌++◌, [], List, OnOk, length};
 ghost use Rattle.ufs_model.specs.PosixTree.{root_alone};
 ghost use Rattle.ufs_model.specs.History.{IsLegal, AreTicketsOnce, is_excused, joined, tree_after};
 ghost use Rattle.ufs_model.specs.declared.data.Entry.{Entry};
