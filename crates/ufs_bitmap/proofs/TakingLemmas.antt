@@ -243,5 +243,5 @@ takes_one_way before want (r ∷ rs) after [] rest h k = absurd (omega (arith, k
 takes_one_way before want (r ∷ rs) after (o ∷ os) rest h k =
     let same : r ≡ o = one_lowest before want r o h.1.0 k.1.0 h.1.1.0 k.1.1.0 in
     let more = takes_one_way (set.difference before (run_set r)) (want - r.length) rs after os rest h.1.1.1
-        (subst (λ (x : Run). Takes (set.difference before (run_set x)) (want - x.length) os rest 0) (sym same) k.1.1.1) in
+    (subst (λ (x : Run). Takes (set.difference before (run_set x)) (want - x.length) os rest 0) (sym same) k.1.1.1) in
     ((λ i. same i ∷ more.0 i), more.1)

@@ -8,4 +8,4 @@ mod word_set;
 
 pub use free_space::Bitmap;
 pub use own_pool::Pool;
-pub use taking::{a_pool_gives_in_one_way, give_runs, take_runs};
+pub use taking::{a_pool_gives_in_one_way, give_runs, owners_stay_apart, take_runs};

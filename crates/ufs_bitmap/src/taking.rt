@@ -3,6 +3,7 @@ ghost use Rattle.std.specs.Prelude.{◌≡◌, ◌+◌, ◌≤◌, ◌<◌, All,
 ghost use Rattle.std.specs.FinSet as set;
 ghost use Rattle.ufs_extent.specs.Runs.{IsRun, blocks_of};
 ghost use Rattle.ufs_bitmap.specs.Blocks.{IsLowestRun, run_set};
+ghost use Rattle.ufs_bitmap.specs.Owners.{OwnersAreApart, OwnersStayApart};
 ghost use Rattle.ufs_bitmap.specs.Taking.{Takes, TakesOneWay, IsApart, set_of};
 
 use crate::own_pool::Pool;
@@ -56,4 +57,10 @@ pub fn give_runs(pool: &mut Pool, runs: &[Run])
 /// Which runs a pool gives in turn, and what it then has, follows from the pool and from how many blocks are wanted.
 pub fn a_pool_gives_in_one_way()
     ensures { TakesOneWay }
+{}
+
+/// Where one of several owners exchanges blocks with the pool, no block comes to have two owners.
+pub fn owners_stay_apart()
+    ensures each { OwnersAreApart }
+    ensures all { OwnersStayApart }
 {}

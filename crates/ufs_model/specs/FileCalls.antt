@@ -17,6 +17,10 @@ use Rattle.ufs_model.specs.declared.data.Errno.{Errno}
 use Rattle.ufs_model.specs.declared.data.Errno.TheVariants.{Efbig, Einval, Ebadf}
 use Rattle.ufs_model.specs.declared.data.Desc.{Desc}
 
+-- The file has these bytes in the tree: it is this part of the tree.
+abbrev pub IsFileIn : PosixTree → ℕ → List ℕ → Type 0
+IsFileIn t file bytes = map.get t.bytes file ≡ Some bytes
+
 -- the requests on a descriptor that touch no more than a file and their client
 abbrev pub is_on_file : Op → Bool
 is_on_file (op.Read fd n) = true
@@ -94,7 +98,7 @@ file_step bytes d request = step_by bytes d request (file_refusal bytes d reques
 
 -- A tree goes on by a step of one file and one descriptor of a client, and all else stays.
 pub record GoesOnBy (before after : PosixTree) (client : ℕ) (fd : Option ℕ) (file : ℕ) (step : Step) : Type 0 where
-  pub bytes : map.get after.bytes file ≡ Some step.bytes
+  pub bytes : IsFileIn after file step.bytes
   pub others : (f : ℕ) → (f ≡ file → ⊥) → map.get after.bytes f ≡ map.get before.bytes f
   pub desc : IsDescAfter before.fds after.fds client fd (Some step.desc)
   pub paths : after.paths ≡ before.paths
@@ -108,12 +112,12 @@ pub record IsStepOf (t : PosixTree) (client : ℕ) (request : Op) (file : ℕ) (
 
 abbrev pub StepsArePosix : Type 0
 StepsArePosix = (t : PosixTree) (client : ℕ) (request : Op) (d : Desc) (file : ℕ) (bytes : List ℕ) → is_on_file request ≡ true
-    → desc_of_fd t.fds client (fd_named request) ≡ Some d → d.file ≡ Some file → map.get t.bytes file ≡ Some bytes → IsStepOf t client request file (file_step bytes d request)
+    → desc_of_fd t.fds client (fd_named request) ≡ Some d → d.file ≡ Some file → IsFileIn t file bytes → IsStepOf t client request file (file_step bytes d request)
 
 -- and it is refused exactly where the step is
 abbrev pub RefusalsArePosix : Type 0
 RefusalsArePosix = (t : PosixTree) (client : ℕ) (request : Op) (d : Desc) (file : ℕ) (bytes : List ℕ) → is_on_file request ≡ true
-    → desc_of_fd t.fds client (fd_named request) ≡ Some d → d.file ≡ Some file → map.get t.bytes file ≡ Some bytes → refusal t client request ≡ file_refusal bytes d request
+    → desc_of_fd t.fds client (fd_named request) ≡ Some d → d.file ≡ Some file → IsFileIn t file bytes → refusal t client request ≡ file_refusal bytes d request
 
 -- What a client refuses of the requests on a descriptor is told by what that descriptor stands for.
 abbrev pub OwnRefusalsAreByDesc : Type 0
