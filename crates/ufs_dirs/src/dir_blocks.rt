@@ -136,7 +136,10 @@ impl DirBlocks {
         requires sized { length buf.old ≡ 4096 }
         ensures { buf.new ≡ bytes_of_block self.now.slots index }
     {
-        put_slots(buf, &self.slots[index * SLOTS_PER_BLOCK..(index + 1) * SLOTS_PER_BLOCK]);
+        put_slots(
+            buf,
+            &self.slots[index * SLOTS_PER_BLOCK..(index + 1) * SLOTS_PER_BLOCK],
+        );
     }
 
     /// The block comes behind the others, with 64 free slots. All memory that its names will need is taken here.

@@ -5,7 +5,6 @@ ghost use Rattle.ufs_script.specs.Requests.{IsCauseOf};
 ghost use Rattle.ufs_script.specs.Script.{IsFaultOf, IsFew, clients_of};
 ghost use Rattle.ufs_script.specs.Script as specs;
 
-use ufs_base::MAX_CLIENTS;
 use crate::fault::{Cause, ScriptFault};
 use crate::lists::{OpList, OpLists};
 use crate::places::{exactly, number_at};
@@ -13,6 +12,7 @@ use crate::request::request;
 use crate::verb::{Verb, verb_of};
 use crate::words::words;
 use std::alloc::Global;
+use ufs_base::MAX_CLIENTS;
 
 /// The clients and requests of the lines so far.
 #[derive(Drop)]

@@ -5,10 +5,10 @@ ghost use Rattle.ufs_script.specs.Script.{IsOutside};
 ghost use Rattle.ufs_script.specs.declared.fault.ScriptFault.{ScriptFault};
 ghost use Rattle.ufs_script.specs.Reading.{HasRead, ReadsScript, ReadsBreak, TakesAtMost, ReadsEachOnce};
 
-use ufs_base::MAX_CLIENTS;
 use crate::fault::ScriptFault;
 use crate::script::{MAX_SCRIPT, Script, parse};
 use std::alloc::Global;
+use ufs_base::MAX_CLIENTS;
 use ufs_io::Source;
 
 // The number of reads that suffices: each but the last gives a byte, and one byte past the greatest
