@@ -1,3 +1,4 @@
 pub mod Choices
 pub mod Faults
 pub mod Images
+pub mod Order

@@ -1,3 +1,5 @@
 pub mod SetLemmas
 pub mod MemberLemmas
 pub mod WordLemmas
+pub mod TakingLemmas
+pub mod OwnerLemmas

@@ -9,7 +9,7 @@ ghost use Rattle.ufs_bitmap.specs.Space.{Space, IsInside, HasBits, is_between, i
 use crate::word_set::WordSet;
 use std::alloc::Global;
 use std::marker::Model;
-use ufs_base::Memory;
+use ufs_base::{MAX_BLOCKS, Memory};
 use ufs_extent::Run;
 
 /// The free blocks among those from `first` up to `blocks`.
@@ -21,6 +21,7 @@ pub struct Bitmap {
 }
 
 impl Model for Bitmap {
+    ghost use Rattle.ufs_base.specs.declared.sizes.TheConstants.{MAX_BLOCKS};
     ghost use Rattle.std.specs.Prelude.{◌≡◌, ◌≤◌, ◌<◌, ℕ, true};
     ghost use Rattle.std.specs.FinSet as set;
     ghost use Rattle.ufs_bitmap.specs.Space.{Space, space_code};
@@ -31,13 +32,13 @@ impl Model for Bitmap {
 
     ghost view = { λ m. record { first = m.first; blocks = m.blocks; free = m.free.blocks } };
 
-    ghost invariant = { λ m. (m.blocks ≤ 65536) × (m.blocks ≤ m.free.limit) × ((b : ℕ) → set.contains m.free.blocks b ≡ true → (m.first ≤ b) × (b < m.blocks)) };
+    ghost invariant = { λ m. (m.blocks ≤ MAX_BLOCKS) × (m.blocks ≤ m.free.limit) × ((b : ℕ) → set.contains m.free.blocks b ≡ true → (m.first ≤ b) × (b < m.blocks)) };
 }
 
 impl Bitmap {
     /// Each block from `first` up to `blocks` is free.
     pub fn all_free(alloc: Global, first: u32, blocks: u32) -> Result<Bitmap, Memory>
-        requires { blocks ≤ 65536 }
+        requires { blocks ≤ MAX_BLOCKS }
         ensures { IfOk result (λ m. m ≡ record { first = first; blocks = blocks; free = set.from_list (blocks_from first (blocks - first)) }) }
     {
         let mut free = WordSet::make(alloc, blocks.div_ceil(64) as usize)?;
@@ -117,7 +118,7 @@ impl Bitmap {
         blocks: u32,
         bytes: &[u8],
     ) -> Result<Bitmap, Memory>
-        requires small { blocks ≤ 65536 }
+        requires small { blocks ≤ MAX_BLOCKS }
         requires long { blocks ≤ 8 * length bytes.now }
         ensures first { IfOk result (λ m. m.first ≡ first) }
         ensures blocks { IfOk result (λ m. m.blocks ≡ blocks) }

@@ -7,7 +7,7 @@ ghost use Rattle.ufs_bitmap.specs.Blocks.{HoldsNone, IsLowestRun, run_set};
 use crate::word_set::WordSet;
 use std::alloc::Global;
 use std::marker::Model;
-use ufs_base::Memory;
+use ufs_base::{MAX_BLOCKS, Memory};
 use ufs_extent::Run;
 
 /// A set of blocks below 65,536. It is kept as bits, for which all memory is taken when it is made: a tree of runs
@@ -18,6 +18,7 @@ pub struct Pool {
 }
 
 impl Model for Pool {
+    ghost use Rattle.ufs_base.specs.declared.sizes.TheConstants.{MAX_BLOCKS};
     ghost use Rattle.std.specs.Prelude.{◌≡◌};
     ghost use Rattle.std.specs.FinSet as set;
     ghost use Rattle.std.specs.Coded.{coded_ℕ};
@@ -29,7 +30,7 @@ impl Model for Pool {
 
     ghost view = { λ p. p.blocks.blocks };
 
-    ghost invariant = { λ p. p.blocks.limit ≡ 65536 };
+    ghost invariant = { λ p. p.blocks.limit ≡ MAX_BLOCKS };
 }
 
 impl Pool {

@@ -7,7 +7,7 @@ ghost use Rattle.ufs_bitmap.specs.Blocks.{HoldsAll, HoldsNone, IsLowestRun, run_
 
 use std::alloc::Global;
 use std::marker::Model;
-use ufs_base::Memory;
+use ufs_base::{MAX_BLOCKS, Memory};
 use ufs_extent::Run;
 
 /// 64 blocks a word; the bit is 1 where the block is in the set.
@@ -56,7 +56,7 @@ impl WordSet {
     pub(crate) fn contains(&self, block: u32) -> bool
         ensures value { result ≡ set.contains self.now.blocks block }
         ensures limit { IsTrue result → block < self.now.limit }
-        ensures small { self.now.limit ≤ 65536 }
+        ensures small { self.now.limit ≤ MAX_BLOCKS }
     {
         match self.words.get(block as usize / 64) {
             Some(word) => (word >> (block % 64)) & 1 == 1,
@@ -89,7 +89,7 @@ impl WordSet {
         ensures same { self.new ≡ self.old }
         ensures held { IfSome result (λ b. set.contains self.old.blocks b ≡ true) }
         ensures lowest { IfSome result (λ b. (q : ℕ) → q < b → set.contains self.old.blocks q ≡ false) }
-        ensures small { IfSome result (λ b. b < 65536) }
+        ensures small { IfSome result (λ b. b < MAX_BLOCKS) }
         ensures none { IfNone result (self.old.blocks ≡ set.empty) }
     {
         self.low = first_word(self.words.as_slice(), self.low);

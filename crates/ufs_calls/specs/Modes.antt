@@ -1,6 +1,6 @@
 -- How a request opens a path, and which file it gives.
 use Rattle.std.specs.Prelude.{ℕ, Option, Some, None}
-use Rattle.ufs_model.specs.Descriptors.{Mode}
+use Rattle.ufs_model.specs.Descriptors.{Mode, mode_of_open}
 use Rattle.ufs_model.specs.Walk.{file_of}
 use Rattle.ufs_model.specs.declared.data.Op.{Op}
 use Rattle.ufs_model.specs.declared.data.Op.TheVariants as op
@@ -13,7 +13,7 @@ mode_of m = record { read = m.read; write = m.write; creat = m.creat; excl = m.e
 -- the mode of an `open`
 abbrev pub mode_asked : Op → Option Mode
 mode_asked (op.OpenFile path read write creat excl trunc append) =
-    Some (record { read = read; write = write; creat = creat; excl = excl; trunc = trunc; append = append })
+    Some (mode_of_open read write creat excl trunc append)
 mode_asked _ = None
 
 -- the file that an `open` gives: the one that is there, or a new one; none of a directory

@@ -2,6 +2,7 @@
 ghost use Rattle.std.specs.Prelude.{◌≡◌, ◌==◌, ℕ, not, is_none};
 ghost use Rattle.ufs_model.specs.Asks as asks;
 ghost use Rattle.ufs_model.specs.Descriptors.{is_mode};
+ghost use Rattle.ufs_model.specs.FileCalls as file_calls;
 ghost use Rattle.ufs_base.specs.Choices.{first_of, refused_if};
 ghost use Rattle.ufs_model.specs.Paths as paths;
 ghost use Rattle.ufs_model.specs.PosixTree.{PosixTree};
@@ -103,6 +104,20 @@ fn open_refusal(mode: Mode, fd: u32, path: &Bytes) -> Option<Errno>
     text_refusal(path)
 }
 
+/// Why a request is refused by what its descriptor stands for.
+pub fn desc_refusal(op: &Op, desc: Option<Desc>) -> Option<Errno>
+    ensures { result ≡ file_calls.desc_refusal desc op.now }
+{
+    match op {
+        Op::Close { .. } | Op::Fsync { .. } => close_refusal(desc),
+        Op::Read { .. } | Op::Pread { .. } => read_refusal(desc),
+        Op::Write { .. } | Op::Pwrite { .. } => write_refusal(desc),
+        Op::Seek { .. } => seek_refusal(desc),
+        Op::Trunc { .. } => trunc_refusal(desc),
+        _ => None,
+    }
+}
+
 /// Why a request is refused by its flags, its descriptor and its texts. `desc` is what the descriptor that it names
 /// stands for, and `fd` the client's lowest free descriptor for an `open`, or 0 where none is free; of any other
 /// request 0.
@@ -114,11 +129,14 @@ pub fn own_refusal(op: &Op, desc: Option<Desc>, fd: u32) -> Option<Errno>
             Some(mode) => open_refusal(mode, fd, path),
             None => unreachable!(),
         },
-        Op::Close { .. } | Op::Fsync { .. } => close_refusal(desc),
-        Op::Read { .. } | Op::Pread { .. } => read_refusal(desc),
-        Op::Write { .. } | Op::Pwrite { .. } => write_refusal(desc),
-        Op::Seek { .. } => seek_refusal(desc),
-        Op::Trunc { .. } => trunc_refusal(desc),
+        Op::Close { .. }
+        | Op::Fsync { .. }
+        | Op::Read { .. }
+        | Op::Pread { .. }
+        | Op::Write { .. }
+        | Op::Pwrite { .. }
+        | Op::Seek { .. }
+        | Op::Trunc { .. } => desc_refusal(op, desc),
         Op::Sync => None,
         Op::Mkdir { path }
         | Op::Rmdir { path }

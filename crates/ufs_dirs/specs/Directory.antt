@@ -5,9 +5,10 @@ use Rattle.std.specs.Str.{bytes_eq}
 use Rattle.std.specs.Ordering.{nat_cmp}
 use Rattle.std.specs.Cmp.Lexicographic.{slice_cmp}
 use Rattle.std.specs.declared.cmp.Ordering.{Ordering}
+use Rattle.ufs_base.specs.declared.sizes.TheConstants.{MAX_BLOCKS, SLOTS_PER_BLOCK}
 use Rattle.ufs_layout.specs.DentryForm.{DentryForm, free_slot, is_dentry, is_named}
 
--- its blocks in order, and what stands in their slots: 64 a block, those of the first block first
+-- its blocks in order, and what stands in their slots: `SLOTS_PER_BLOCK` a block, those of the first block first
 pub record Directory : Type 0 where
   pub blocks : List ℕ
   pub slots : List DentryForm
@@ -38,8 +39,8 @@ NamesOnce slots = (i j : ℕ) → i < j → j < length slots → is_named (entry
 
 -- what is true of every directory
 pub record IsDirectory (d : Directory) : Type 0 where
-  pub sized : length d.slots ≡ 64 * length d.blocks
+  pub sized : length d.slots ≡ SLOTS_PER_BLOCK * length d.blocks
   pub blocks_once : IsDistinct nat_eq d.blocks
-  pub blocks_below : All (λ b. b < 65536) d.blocks
+  pub blocks_below : All (λ b. b < MAX_BLOCKS) d.blocks
   pub forms : All (λ e. IsTrue (is_dentry e)) d.slots
   pub names_once : NamesOnce d.slots

@@ -7,10 +7,10 @@ ghost use Rattle.ufs_dirs.specs.Directory.{IsDirectory, entry_at, entry_of, has_
 use crate::codec::put_slots;
 use crate::free::{places_above, put_block};
 use crate::index::{next_rank, search};
-use crate::{BlockFault, MAX_BLOCKS, NoSlot, SLOTS, Slot, SlotFault};
+use crate::{BlockFault, NoSlot, Slot, SlotFault};
 use std::alloc::Global;
 use std::marker::Model;
-use ufs_base::Memory;
+use ufs_base::{MAX_BLOCKS, Memory, SECTORS_PER_BLOCK, SLOT, SLOTS_PER_BLOCK, SLOTS_PER_SECTOR};
 use ufs_layout::{Dentry, get_dentry};
 
 /// The blocks of one directory. Contracts see the list of its blocks, and what stands in their slots, in order.
@@ -136,20 +136,23 @@ impl DirBlocks {
         requires sized { length buf.old ≡ 4096 }
         ensures { buf.new ≡ bytes_of_block self.now.slots index }
     {
-        put_slots(buf, &self.slots[index * SLOTS..(index + 1) * SLOTS]);
+        put_slots(
+            buf,
+            &self.slots[index * SLOTS_PER_BLOCK..(index + 1) * SLOTS_PER_BLOCK],
+        );
     }
 
     /// The block comes behind the others, with 64 free slots. All memory that its names will need is taken here.
     pub fn add_block(&mut self, block: u32) -> Result<(), Memory>
         requires below { block < MAX_BLOCKS }
         requires absent { has_block self.old.blocks block ≡ false }
-        ensures ok { OnOk result (self.new ≡ record { blocks = self.old.blocks ++ block ∷ []; slots = self.old.slots ++ replicate 64 free_slot }) }
+        ensures ok { OnOk result (self.new ≡ record { blocks = self.old.blocks ++ block ∷ []; slots = self.old.slots ++ replicate SLOTS_PER_BLOCK free_slot }) }
         ensures names { (name : List ℕ) → entry_of self.new.slots name ≡ entry_of self.old.slots name }
         ensures err { OnErr result (self.new ≡ self.old) }
     {
-        let slots = self.slots.len() + SLOTS;
+        let slots = self.slots.len() + SLOTS_PER_BLOCK;
         self.blocks.reserve(1)?;
-        self.slots.reserve(SLOTS)?;
+        self.slots.reserve(SLOTS_PER_BLOCK)?;
         self.order.reserve(slots - self.order.len())?;
         self.free.reserve(slots - self.free.len())?;
         self.blocks.push(block).unwrap();
@@ -163,7 +166,7 @@ impl DirBlocks {
         requires below { block < MAX_BLOCKS }
         requires absent { has_block self.blocks block ≡ false }
         requires sized { length bytes.now ≡ 4096 }
-        ensures ok { IfOk result (IsReadSoFar self block bytes.now 64) }
+        ensures ok { IfOk result (IsReadSoFar self block bytes.now SLOTS_PER_BLOCK) }
         ensures bytes { IfOk result (λ d. bytes_of_block d.slots (length self.blocks) ≡ bytes.now) }
         ensures fault { IfErr result (IsBlockFault self block bytes.now) }
     {
@@ -172,8 +175,8 @@ impl DirBlocks {
         if dir.add_block(block).is_err() {
             return Err(BlockFault::NoMemory);
         }
-        for k in 0..SLOTS {
-            let read = dir.read_slot(first + k, &bytes[SLOTS * k..SLOTS * k + 64]);
+        for k in 0..SLOTS_PER_BLOCK {
+            let read = dir.read_slot(first + k, &bytes[SLOT * k..SLOT * k + SLOT]);
             if let Err(fault) = read {
                 return Err(BlockFault::BadSlot(k as u8, fault));
             }
@@ -239,7 +242,8 @@ impl DirBlocks {
         ensures slot { IsSlot self.now result }
         ensures place { place_of self.now.blocks result ≡ place }
     {
-        let sector = self.blocks[place / SLOTS] * 8 + (place % SLOTS / 8) as u32;
+        let sector = self.blocks[place / SLOTS_PER_BLOCK] * SECTORS_PER_BLOCK as u32
+            + (place % SLOTS_PER_BLOCK / SLOTS_PER_SECTOR) as u32;
         Slot {
             sector,
             slot: (place % 8) as u8,
@@ -252,14 +256,16 @@ impl DirBlocks {
         ensures { result ≡ place_of self.now.blocks slot }
     {
         let before = index_of(self.blocks.as_slice(), slot.sector / 8);
-        before * SLOTS + (slot.sector % 8) as usize * 8 + usize::from(slot.slot)
+        before * SLOTS_PER_BLOCK
+            + (slot.sector as usize % SECTORS_PER_BLOCK) * SLOTS_PER_SECTOR
+            + usize::from(slot.slot)
     }
 
     /// Puts what the bytes are the spelling of into the free slot at this place.
     fn read_slot(&mut self, place: usize, bytes: &[u8]) -> Result<(), SlotFault>
         requires in_range { place < length self.old.slots }
         requires free { is_named (entry_at self.old.slots place) ≡ false }
-        requires sized { length bytes.now ≡ 64 }
+        requires sized { length bytes.now ≡ SLOT }
         ensures ok { OnOk result (ReadsSlot self.old self.new place bytes.now) }
         ensures whole { IsDirectory self.new }
         ensures fault { IfErr result (IsSlotFault self.old.slots bytes.now) }

@@ -8,12 +8,6 @@ mod index;
 
 pub use dir_blocks::DirBlocks;
 
-/// The number above every block's.
-pub const MAX_BLOCKS: u32 = 65_536;
-
-/// How many slots a block has.
-pub const SLOTS: usize = 64;
-
 /// A slot of a directory's block: `slot` is 0 to 7 in its sector.
 #[derive(Clone, Copy, Debug, PartialEq, Eq)]
 pub struct Slot {

@@ -1,9 +1,6 @@
 // The trait and its one error.
 ghost use Rattle.std.specs.Prelude.{◌≡◌, ◌<◌, ◌^◌, ◌/◌, ℕ, Bool, IsTrue, IfErr, List, length, OnOk};
 
-/// The bytes of a sector.
-pub const SECTOR: usize = 512;
-
 /// A call of a disk failed. The number is the disk's count of faults after that call.
 #[derive(Clone, Copy, Debug, PartialEq, Eq)]
 pub struct Fault {

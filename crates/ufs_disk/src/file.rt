@@ -5,11 +5,12 @@ ghost use Rattle.ufs_base.specs.Faults.{HasCause};
 ghost use Rattle.ufs_disk.specs.Props.{untrue};
 ghost use Rattle.std.proofs.Common.{rules};
 
-use crate::{Disk, Fault, SECTOR};
+use crate::{Disk, Fault};
 use std::fs::{File, Files, OpenOptions};
 use std::io;
 use std::marker::Model;
 use std::os::unix::fs::FileExt;
+use ufs_base::SECTOR;
 
 /// The sectors of a disk over a file: 256 MiB.
 pub const FILE_SECTORS: u32 = 524_288;

@@ -8,7 +8,7 @@ mod plain;
 mod planned;
 mod ranges;
 
-pub use disk::{Disk, Fault, SECTOR};
+pub use disk::{Disk, Fault};
 pub use file::{FILE_SECTORS, FileDisk};
 pub use medium::{Call, Medium, Request};
 pub use plain::PlainDisk;

@@ -10,9 +10,10 @@ ghost use Rattle.ufs_disk.specs.Pending.{held_state, covered_by};
 ghost use Rattle.ufs_disk.specs.Calls.{Notes, IsWrite, after_calls, picked};
 ghost use Rattle.ufs_disk.specs.Props.{same_state_prop, whole_prop};
 
+use crate::Fault;
 use crate::ranges::{copy_of, copy_out, overwrite, piece, whole_copy};
-use crate::{Fault, SECTOR};
 use std::alloc::{AllocError, Global};
+use ufs_base::SECTOR;
 
 /// What a call asked.
 #[derive(Debug, Drop)]

@@ -5,8 +5,9 @@ ghost use Rattle.ufs_disk.specs.Bytes.{begun};
 ghost use Rattle.ufs_disk.specs.Whole.{begun_whole};
 
 use crate::ranges::{copy_out, overwrite};
-use crate::{Disk, Fault, SECTOR};
+use crate::{Disk, Fault};
 use std::alloc::{AllocError, Global};
+use ufs_base::SECTOR;
 
 /// A disk in memory that never fails. It takes the memory of its bytes.
 #[derive(Drop)]

@@ -2,8 +2,8 @@
 ghost use Rattle.std.specs.Prelude.{◌≡◌, ◌≤◌, ◌+◌, ◌*◌, ◌++◌, length, take, drop, IfOk};
 ghost use Rattle.ufs_base.specs.Images.{IsBytes};
 
-use crate::SECTOR;
 use std::alloc::{AllocError, Global};
+use ufs_base::SECTOR;
 
 // Copies as many bytes as the buffer takes.
 pub(crate) fn copy_out(all: &[u8], at: usize, buf: &mut [u8])

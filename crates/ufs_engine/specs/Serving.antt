@@ -1,6 +1,7 @@
 -- How far the serving of clients has come.
 use Rattle.std.specs.Prelude.{ℕ, ◌≡◌, ◌≢◌, ◌≤◌, List, [], ◌++◌, length, None}
 use Rattle.std.specs.FinMap as map
+use Rattle.ufs_base.specs.declared.limits.TheConstants.{MAX_REQUESTS}
 use Rattle.ufs_model.specs.PosixTree.{PosixTree, root_alone}
 use Rattle.ufs_model.specs.History.{IsLegal, IsInOrder, AreUnexcused, tree_after, entries_of, requests_of}
 use Rattle.ufs_model.specs.declared.data.Op.{Op}
@@ -30,7 +31,7 @@ pub record GoesOn (before : List Entry) (client : ℕ) (requests : List Op) (tol
   pub ordered : (clients : List (List Op)) → IsInOrder clients before → requests_of clients client ≡ requests → IsInOrder clients (before ++ told)
   pub own : entries_of client (before ++ told) ≡ told
   pub others : (c : ℕ) → client ≢ c → entries_of c (before ++ told) ≡ entries_of c before
-  pub few : length told ≤ 65536
+  pub few : length told ≤ MAX_REQUESTS
   pub server : AreServedBy Primary before → AreServedBy Primary (before ++ told)
 
 -- ..and it answers each request, without an excuse; the other clients' descriptors stay.

@@ -5,6 +5,7 @@ ghost use Rattle.ufs_model.specs.PosixTree.{Fds};
 ghost use Rattle.ufs_fds.specs.Descriptors.{AreOf};
 ghost use Rattle.ufs_engine.specs.Clients.{AreRanged};
 
+use ufs_base::{FIRST_FD, LAST_FD};
 use ufs_calls::fd_named;
 use ufs_fds::FdTable;
 use ufs_model::{Ask, Desc, Entry, Op, Reply};
@@ -82,7 +83,7 @@ pub fn keep(fds: &mut FdTable, entry: &Entry, desc: Option<Desc>)
     let Some(fd) = fd_told(&entry.op, &entry.reply) else {
         return;
     };
-    if fd < 3 || fd > 66 {
+    if fd < FIRST_FD as u64 || fd > LAST_FD as u64 {
         return;
     }
     match desc {

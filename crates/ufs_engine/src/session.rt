@@ -1,5 +1,5 @@
 // Playing a script on one thread.
-ghost use Rattle.std.specs.Prelude.{◌≡◌, ◌≤◌, ◌<◌, ◌*◌, ◌++◌, [], List, OnOk, length};
+ghost use Rattle.std.specs.Prelude.{◌-◌, ◌≡◌, ◌≤◌, ◌<◌, ◌*◌, ◌++◌, [], List, OnOk, length};
 ghost use Rattle.ufs_model.specs.PosixTree.{root_alone};
 ghost use Rattle.ufs_model.specs.History.{IsLegal, AreTicketsOnce, is_excused, joined, tree_after};
 ghost use Rattle.ufs_model.specs.declared.data.Entry.{Entry};
@@ -10,7 +10,7 @@ ghost use Rattle.ufs_engine.specs.Serving.{IsReached, IsNewcomer, GoesOn, IsDone
 use crate::client::{ask, keep};
 use crate::played::{EndFault, Played, Session, ToldLists};
 use std::alloc::Global;
-use ufs_base::Memory;
+use ufs_base::{MAX_CLIENTS, MAX_REQUESTS, Memory};
 use ufs_disk::Disk;
 use ufs_fds::FdTable;
 use ufs_model::{Actor, Entry, EntryList, Reply, a_request_makes_one_file_at_most};
@@ -33,8 +33,8 @@ fn serve_client(
     requests: OpList,
     told: &mut Vec<Entry>,
 ) -> Result<(), Memory>
-    requires client { client < 16 }
-    requires few { length (joined earlier.now.items) ≤ 15 * 65536 }
+    requires client { client < MAX_CLIENTS }
+    requires few { length (joined earlier.now.items) ≤ (MAX_CLIENTS - 1) * MAX_REQUESTS }
     requires first { first ≡ length (joined earlier.now.items) }
     requires legal { IsLegal root_alone (joined earlier.now.items) }
     requires reached { IsReached (joined earlier.now.items) names.old }

@@ -1,10 +1,11 @@
 -- Runs of blocks, and the list of blocks that a list of runs stands for.
 use Rattle.std.specs.Prelude.{ℕ, zero, suc, ◌+◌, ◌-◌, ◌≤◌, ◌==◌, nat_le, if◌then◌else◌, List, [], ◌∷◌, ◌++◌, fold, Option, None, Some}
+use Rattle.ufs_base.specs.declared.sizes.TheConstants.{MAX_BLOCKS}
 use Rattle.ufs_extent.specs.declared.Run.{Run}
 
 -- a run has a block at least, and none at or above 65,536
 abbrev pub IsRun : Run → Type 0
-IsRun r = (1 ≤ r.length) × (r.start + r.length ≤ 65536)
+IsRun r = (1 ≤ r.length) × (r.start + r.length ≤ MAX_BLOCKS)
 
 -- the block after the run's last
 abbrev pub end_of : Run → ℕ

@@ -4,10 +4,10 @@ ghost use Rattle.ufs_extent.specs.declared.Run.{Run};
 ghost use Rattle.ufs_extent.specs.Places.{IsPlace, block_count, front_of, without_first};
 ghost use Rattle.ufs_extent.specs.Runs.{IsRun, blocks_in, blocks_of, next_block, appended, appended_all, first_runs, last_runs};
 
-use crate::{Full56, MAX_EXTENTS, Run, Runs};
+use crate::{Full56, Run, Runs};
 use std::alloc::Global;
 use std::marker::Model;
-use ufs_base::Memory;
+use ufs_base::{MAX_EXTENTS, Memory};
 
 /// A list of blocks, kept as at most 56 runs. Contracts see the runs, and `blocks_of` them is the list.
 #[derive(Drop)]
@@ -17,6 +17,7 @@ pub struct Extents {
 }
 
 impl Model for Extents {
+    ghost use Rattle.ufs_base.specs.declared.sizes.TheConstants.{MAX_EXTENTS};
     ghost use Rattle.std.specs.Prelude.{◌≤◌, List, All, length};
     ghost use Rattle.std.specs.Vec.{vec_capacity};
     ghost use Rattle.ufs_extent.specs.declared.Run.{Run};
@@ -26,7 +27,7 @@ impl Model for Extents {
 
     ghost view = { λ e. e.runs.items };
 
-    ghost invariant = { λ e. (length e.runs.items ≤ 56) × (56 ≤ vec_capacity e.runs) × All IsRun e.runs.items };
+    ghost invariant = { λ e. (length e.runs.items ≤ MAX_EXTENTS) × (MAX_EXTENTS ≤ vec_capacity e.runs) × All IsRun e.runs.items };
 }
 
 impl Extents {

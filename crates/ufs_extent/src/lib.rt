@@ -8,12 +8,7 @@ mod run_list;
 
 pub use file_runs::Extents;
 pub use run_list::Runs;
-
-/// How many extents an inode has room for.
-pub const MAX_EXTENTS: usize = 56;
-
-/// The number above every block's.
-pub const MAX_BLOCKS: u32 = 65_536;
+use ufs_base::MAX_BLOCKS;
 
 /// Blocks in a row: `length` of them, from block `start` on. What takes a run asks that `length` is at least 1,
 /// and that `start` and `length` together are at most 65,536.

@@ -4,17 +4,15 @@ ghost use Rattle.ufs_model.specs.Asks.{file_in};
 ghost use Rattle.ufs_model.specs.PosixTree.{is_number};
 
 use std::marker::Model;
+use ufs_base::{FIRST_FD, LAST_FD, MAX_FDS};
 use ufs_model::Desc;
-
-/// The lowest number that a descriptor may have.
-const FIRST: u32 = 3;
 
 /// What a client's descriptors stand for. Their numbers are 3 to 66. No call takes memory.
 #[derive(Drop)]
 pub struct FdTable {
-    /// The bit `k` is set where descriptor `FIRST + k` is open.
+    /// The bit `k` is set where descriptor `FIRST_FD + k` is open.
     used: u64,
-    slots: [Option<Desc>; 64],
+    slots: [Option<Desc>; MAX_FDS],
 }
 
 impl Model for FdTable {
@@ -49,16 +47,16 @@ impl FdTable {
     {
         FdTable {
             used: 0,
-            slots: [None; 64],
+            slots: [None; MAX_FDS],
         }
     }
 
     /// The lowest free number, without a look at each slot.
     pub fn lowest(&self) -> Option<u32>
-        ensures range { IfSome result (λ fd. (3 ≤ fd) × (fd ≤ 66)) }
+        ensures range { IfSome result (λ fd. (FIRST_FD ≤ fd) × (fd ≤ LAST_FD)) }
         ensures free { IfSome result (λ fd. map.get self.now fd ≡ None) }
-        ensures lower { IfSome result (λ fd. (k : ℕ) → 3 ≤ k → k < fd → IsSome (map.get self.now k)) }
-        ensures full { IfNone result ((k : ℕ) → 3 ≤ k → k ≤ 66 → IsSome (map.get self.now k)) }
+        ensures lower { IfSome result (λ fd. (k : ℕ) → FIRST_FD ≤ k → k < fd → IsSome (map.get self.now k)) }
+        ensures full { IfNone result ((k : ℕ) → FIRST_FD ≤ k → k ≤ LAST_FD → IsSome (map.get self.now k)) }
 
         // In a tree this is the one that an `open` of the client gives out.
         ensures posix { (fds : Fds) (client : ℕ) → AreOf fds client self.now → result ≡ lowest_free fds client }
@@ -66,7 +64,7 @@ impl FdTable {
         if self.used == u64::MAX {
             return None;
         }
-        Some(FIRST + self.used.trailing_ones())
+        Some(FIRST_FD + self.used.trailing_ones())
     }
 
     /// What the descriptor stands for; `None` where it isn't open, whatever its number.
@@ -75,10 +73,10 @@ impl FdTable {
         ensures range { AreInRange self.now }
     {
         let slots = &self.slots;
-        if fd < 3 || fd > 66 {
+        if fd < FIRST_FD as u64 || fd > LAST_FD as u64 {
             return None;
         }
-        slots[(fd - 3) as usize]
+        slots[(fd - FIRST_FD as u64) as usize]
     }
 
     /// Whether the descriptor is open, whatever its number.
@@ -107,7 +105,7 @@ impl FdTable {
         requires { AreInRange self.now }
         ensures { (fds : Fds) (client : ℕ) → AreOf fds client self.now → result ≡ holds (map.remove fds (client, fd)) client file }
     {
-        for other in 3..67u64 {
+        for other in FIRST_FD as u64..LAST_FD as u64 + 1 {
             if other != fd && is_of(self.get(other), file) {
                 return true;
             }
@@ -117,11 +115,11 @@ impl FdTable {
 
     /// Opens the descriptor, or puts another in its place.
     pub fn set(&mut self, fd: u32, desc: Desc)
-        requires low { 3 ≤ fd }
-        requires high { fd ≤ 66 }
+        requires low { FIRST_FD ≤ fd }
+        requires high { fd ≤ LAST_FD }
         ensures { self.new ≡ map.insert self.old fd desc }
     {
-        let place = fd - FIRST;
+        let place = fd - FIRST_FD;
         self.slots[place as usize] = Some(desc);
         self.used |= 1 << place;
     }
@@ -132,7 +130,7 @@ impl FdTable {
         ensures { self.new ≡ map.remove self.old fd }
     {
         let used = self.used;
-        let place = fd - FIRST;
+        let place = fd - FIRST_FD;
         self.slots[place as usize] = None;
         self.used = used & !(1 << place);
     }

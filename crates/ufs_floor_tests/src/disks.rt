@@ -5,7 +5,8 @@ use crate::torn::TornDisk;
 use std::alloc::Global;
 use std::process::Abort;
 use std::test::Fail;
-use ufs_disk::{Disk, FILE_SECTORS, FileDisk, Fuse, FuseDisk, MemoryDisk, PlainDisk, SECTOR};
+use ufs_base::SECTOR;
+use ufs_disk::{Disk, FILE_SECTORS, FileDisk, Fuse, FuseDisk, MemoryDisk, PlainDisk};
 
 // A step on a disk of three sectors: a sector filled with a byte, or a barrier.
 #[derive(Clone, Copy)]

@@ -4,7 +4,8 @@ ghost use Rattle.std.specs.Prelude.{true, false};
 ghost use Rattle.ufs_disk.specs.Bytes.{begun};
 ghost use Rattle.ufs_disk.specs.Whole.{begun_whole};
 
-use ufs_disk::{Disk, Fault, PlainDisk, SECTOR};
+use ufs_base::SECTOR;
+use ufs_disk::{Disk, Fault, PlainDisk};
 
 #[derive(Drop)]
 pub struct TornDisk {

@@ -8,7 +8,7 @@ use crate::Found;
 use crate::found::read_found;
 use byteorder::{ByteOrder, LittleEndian};
 use std::alloc::{AllocError, Global};
-use ufs_disk::SECTOR;
+use ufs_base::SECTOR;
 
 /// Those that are on their form, in the order of their places, and the lowest that is off it.
 #[derive(Drop)]

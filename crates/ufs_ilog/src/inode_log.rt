@@ -10,8 +10,8 @@ ghost use Rattle.ufs_ilog.specs.Deltas.{FileLog, IsDelta, IsSharedFront, extents
 
 use std::alloc::Global;
 use std::marker::Model;
-use ufs_base::Memory;
-use ufs_extent::{Extents, MAX_EXTENTS, Run};
+use ufs_base::{MAX_EXTENTS, Memory};
+use ufs_extent::{Extents, Run};
 use ufs_layout::{Extent, ExtentList, LogRecord, Records};
 
 /// The kind of a file's inode.

@@ -15,7 +15,8 @@ ghost use Rattle.ufs_journal.specs.Spelled.{spelled_sectors, joined, AreReadBack
 
 use crate::filling::next_sector;
 use crate::sector::{commit_sector, record_sector};
-use ufs_disk::{Disk, Fault, SECTOR};
+use ufs_base::SECTOR;
+use ufs_disk::{Disk, Fault};
 use ufs_layout::{Geometry, LogRecord};
 
 // The first sector of the journal.

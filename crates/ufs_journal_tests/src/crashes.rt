@@ -2,7 +2,8 @@
 use crate::written::{HEAD, append_free, commit, geometry};
 use std::alloc::{AllocError, Global};
 use std::test::Fail;
-use ufs_disk::{Disk, Fuse, FuseDisk, PlainDisk, SECTOR};
+use ufs_base::SECTOR;
+use ufs_disk::{Disk, Fuse, FuseDisk, PlainDisk};
 use ufs_journal::Journal;
 use ufs_scan::scan;
 

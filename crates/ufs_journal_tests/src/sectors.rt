@@ -1,7 +1,8 @@
 // The bytes of a transaction, and what a scan says of them.
 use crate::written::{HEAD, append_free, commit, geometry};
 use std::test::Fail;
-use ufs_disk::{Disk, MemoryDisk, PlainDisk, SECTOR};
+use ufs_base::SECTOR;
+use ufs_disk::{Disk, MemoryDisk, PlainDisk};
 use ufs_journal::Journal;
 use ufs_scan::{ScanFault, scan};
 

@@ -6,7 +6,7 @@ use Rattle.ufs_model.specs.Paths.{components, whole_of, parent_of, text_refusal,
 use Rattle.ufs_model.specs.PosixTree.{PosixTree, Fds, IsTree, desc_at, stands, has_dir, root}
 use Rattle.ufs_model.specs.Walk.{walk_refusal, node_at, is_file}
 use Rattle.ufs_model.specs.Directories.{has_entries}
-use Rattle.ufs_model.specs.Descriptors.{Mode, opened, closed, moved, desc_of, lowest_free, free_from, is_mode}
+use Rattle.ufs_model.specs.Descriptors.{Mode, opened, closed, moved, desc_of, lowest_free, free_from, is_mode, mode_of_open}
 use Rattle.ufs_model.specs.FileBytes.{content, place_of, put_at}
 use Rattle.ufs_model.specs.Refusals.{read_refusal, write_refusal, seek_refusal, trunc_refusal, own_refusal, refusal}
 use Rattle.ufs_model.specs.Posix.{served, change, with_fd, with_bytes, with_file, open_node, close_fd, write_fd, written, new_fd}
@@ -180,7 +180,7 @@ module _ (t : PosixTree) (is : IsTree t) (client : ℕ) (m : Mode) (free : map.g
 keeps_open : (t : PosixTree) (client : ℕ) (path : List ℕ) (read write creat excl trunc append : Bool) → IsTree t → refusal t client (op.OpenFile path read write creat excl trunc append) ≡ None
     → IsTree (change t client (op.OpenFile path read write creat excl trunc append))
 keeps_open t client path read write creat excl trunc append is e =
-    let m : Mode = record { read = read; write = write; creat = creat; excl = excl; trunc = trunc; append = append } in
+    let m : Mode = mode_of_open read write creat excl trunc append in
     let both = first_none (own_refusal t client (op.OpenFile path read write creat excl trunc append)) _ e in
     let mode = first_none (refused_if (not (is_mode m)) Einval) _ both.0 in
     let free = first_none (refused_if (is_none (lowest_free t.fds client)) Emfile) (text_refusal path) mode.1 in

@@ -7,7 +7,7 @@ use Rattle.ufs_model.specs.Paths.{whole_of, is_root}
 use Rattle.ufs_model.specs.PosixTree.{PosixTree, Paths, desc_at}
 use Rattle.ufs_model.specs.Walk.{node_at, file_of, is_file, walk_refusal}
 use Rattle.ufs_model.specs.Directories.{has_entries}
-use Rattle.ufs_model.specs.Descriptors.{Mode, opened, closed, moved}
+use Rattle.ufs_model.specs.Descriptors.{Mode, opened, closed, moved, mode_of_open}
 use Rattle.ufs_model.specs.FileBytes.{part, put_at, place_of, resized}
 use Rattle.ufs_model.specs.Refusals.{refusal, own_refusal, tree_refusal, read_refusal, write_refusal, seek_refusal, rmdir_refusal}
 use Rattle.ufs_model.specs.Posix.{posix, served, change, with_fd, with_bytes, forget, open_node, file_bytes, new_offset, bytes_read}
@@ -66,7 +66,7 @@ module _ (t u : PosixTree) (client : ℕ) where
   change_alike : (request : Op) → own_refusal t client request ≡ None → tree_refusal t client request ≡ None → refusal t client request ≡ None → AgreeOn (name.Client client ∷ reached t client request) t u
       → Alike (name.Client client ∷ reached t client request) client t u (change t client request) (change u client request)
   change_alike (op.OpenFile path read write creat excl trunc append) own tree none agree =
-      let m : Mode = record { read = read; write = write; creat = creat; excl = excl; trunc = trunc; append = append } in
+      let m : Mode = mode_of_open read write creat excl trunc append in
       let request = op.OpenFile path read write creat excl trunc append in
       let rest : List PartName = cond (is_some (refusal t client request)) [] (opened_part t.next (is_some (node_at t.paths path)) (file_of (node_at t.paths path)) trunc) in
       subst (λ (node : Option Node). Alike (name.Client client ∷ name.Names ∷ rest) client t u (open_node t client (whole_of path) m (node_at t.paths path)) (open_node u client (whole_of path) m node))

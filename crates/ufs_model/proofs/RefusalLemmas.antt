@@ -6,7 +6,7 @@ use Rattle.ufs_model.specs.Paths.{whole_of}
 use Rattle.ufs_model.specs.Walk.{node_at, file_of}
 use Rattle.std.specs.Str.{bytes_eq}
 use Rattle.ufs_model.specs.Posix.{served, answer, change, forget, with_bytes, with_fd, open_node, written, write_fd, without_path, rename_path, stat_reply, file_bytes}
-use Rattle.ufs_model.specs.Descriptors.{Mode, opened, moved}
+use Rattle.ufs_model.specs.Descriptors.{Mode, opened, moved, mode_of_open}
 use Rattle.ufs_model.specs.Directories.{renamed}
 use Rattle.ufs_model.specs.FileBytes.{content, put_at, place_of, resized}
 use Rattle.ufs_model.specs.Refusals.{refusal}
@@ -88,7 +88,7 @@ rename_next : (t : PosixTree) (from to : List ℕ) → (rename_path t from to).n
 rename_next t from to = either_next t t (forget (record t { paths = renamed t.paths from to }) (file_of (map.get t.paths to))) (bytes_eq from to) refl (forget_next _ (file_of (map.get t.paths to)))
 
 few : (t : PosixTree) (client : ℕ) (request : Op) → (change t client request).next ≤ t.next + 1
-few t client (op.OpenFile path read write creat excl trunc append) = few_made t client (whole_of path) (record { read = read; write = write; creat = creat; excl = excl; trunc = trunc; append = append }) (node_at t.paths path)
+few t client (op.OpenFile path read write creat excl trunc append) = few_made t client (whole_of path) (mode_of_open read write creat excl trunc append) (node_at t.paths path)
 few t client (op.Close fd) = let same = forget_next (record t { fds = map.remove t.fds (client, fd) }) (opened t client fd).file in omega (arith, same)
 few t client (op.Read fd n) = omega arith
 few t client (op.Write fd fresh) = let same = write_next t client fd fresh in omega (arith, same)

@@ -7,7 +7,7 @@ use Rattle.ufs_model.specs.Paths.{text_refusal, whole_of}
 use Rattle.ufs_model.specs.PosixTree.{PosixTree, Paths, Files, desc_at}
 use Rattle.ufs_model.specs.Walk.{walk_refusal, node_at, file_of}
 use Rattle.ufs_model.specs.Directories.{entry_count, entry_names}
-use Rattle.ufs_model.specs.Descriptors.{opened, closed, free_from, lowest_free, is_mode, is_offset, moved_by}
+use Rattle.ufs_model.specs.Descriptors.{opened, closed, free_from, lowest_free, is_mode, is_offset, moved_by, mode_of_open}
 use Rattle.ufs_model.specs.FileBytes.{content, part, place_of, is_past}
 use Rattle.ufs_model.specs.Refusals.{own_refusal, tree_refusal, read_refusal, write_refusal, seek_refusal, trunc_refusal, open_refusal, rmdir_refusal, unlink_refusal, rename_refusal, list_refusal}
 use Rattle.ufs_model.specs.Posix.{answer, file_bytes, new_fd, new_offset, stat_reply}
@@ -38,7 +38,7 @@ module _ (t u : PosixTree) (client : ℕ) (same : (fd : ℕ) → desc_at t clien
 
   pub own_same : (request : Op) → own_refusal t client request ≡ own_refusal u client request
   own_same (op.OpenFile path read write creat excl trunc append) =
-      ap (λ o. first_of (refused_if (not (is_mode (record { read = read; write = write; creat = creat; excl = excl; trunc = trunc; append = append }))) Einval)
+      ap (λ o. first_of (refused_if (not (is_mode (mode_of_open read write creat excl trunc append))) Einval)
       (first_of (refused_if (is_none o) Emfile) (text_refusal path))) lowest_same
   own_same (op.Close fd) = ap (λ o. refused_if (is_none o) Ebadf) (same fd)
   own_same (op.Read fd n) = ap read_refusal (same fd)
@@ -83,7 +83,7 @@ module _ (t u : PosixTree) (client : ℕ) where
   pub tree_same : (request : Op) → AgreeOn (name.Client client ∷ reached t client request) t u → tree_refusal t client request ≡ tree_refusal u client request
   tree_same (op.OpenFile path read write creat excl trunc append) agree =
       ap (λ (p : Paths). first_of (walk_refusal p path)
-      (open_refusal (record { read = read; write = write; creat = creat; excl = excl; trunc = trunc; append = append }) (node_at p path))) (names_of _ agree).0
+      (open_refusal (mode_of_open read write creat excl trunc append) (node_at p path))) (names_of _ agree).0
   tree_same (op.Close fd) agree = refl
   tree_same (op.Read fd n) agree = refl
   tree_same (op.Write fd fresh) agree = λ i. refused_if (is_past (place_of (opened_same _ fd agree i) (bytes_same fd agree i)) fresh) Efbig

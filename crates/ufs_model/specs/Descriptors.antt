@@ -1,6 +1,7 @@
 -- The descriptors of clients, and how a path is opened.
 use Rattle.std.specs.Prelude.{ℕ, ◌+◌, ◌-◌, Bool, false, ◌&&◌, not, nat_lt, if◌then◌else◌, Option, Some, None, is_some, unwrap_or, zero, suc, ℤ, pos, negsuc}
 use Rattle.std.specs.FinMap as map
+use Rattle.ufs_base.specs.declared.limits.TheConstants.{FIRST_FD, MAX_FDS}
 use Rattle.ufs_model.specs.PosixTree.{PosixTree, Fds, desc_at}
 use Rattle.ufs_model.specs.declared.data.Desc.{Desc}
 use Rattle.ufs_model.specs.declared.data.Whence.{Whence}
@@ -10,9 +11,9 @@ abbrev pub free_from : Fds → ℕ → ℕ → ℕ → Option ℕ
 free_from fds client fd zero = None
 free_from fds client fd (suc count) = if is_some (map.get fds (client, fd)) then free_from fds client (fd + 1) count else Some fd
 
--- the lowest free one of 3 to 66
+-- the lowest free one of those that an `open` gives out
 unfoldable pub lowest_free : Fds → ℕ → Option ℕ
-lowest_free fds client = free_from fds client 3 64
+lowest_free fds client = free_from fds client FIRST_FD MAX_FDS
 
 -- a descriptor that isn't open, which allows nothing
 abbrev pub closed : Desc
@@ -34,6 +35,10 @@ pub record Mode : Type 0 where
   pub excl : Bool
   pub trunc : Bool
   pub append : Bool
+
+-- the mode of an `open` with these flags
+abbrev pub mode_of_open : Bool → Bool → Bool → Bool → Bool → Bool → Mode
+mode_of_open read write creat excl trunc append = record { read = read; write = write; creat = creat; excl = excl; trunc = trunc; append = append }
 
 -- `excl` goes with `creat`, and `trunc` with leave to write
 abbrev pub is_mode : Mode → Bool

@@ -1,5 +1,6 @@
 -- Which excuses fit a request, as far as the tree and the request tell it.
 use Rattle.std.specs.Prelude.{ℕ, ◌+◌, ◌-◌, ◌/◌, ◌%◌, ◌≤◌, ◌==◌, List, Bool, true, false, ◌&&◌, ◌≡◌, ◌<◌, length, None, is_none, ⊤, if◌then◌else◌}
+use Rattle.ufs_base.specs.declared.sizes.TheConstants.{SLOTS_PER_BLOCK}
 use Rattle.ufs_model.specs.Paths.{parent_of}
 use Rattle.ufs_model.specs.PosixTree.{PosixTree, root}
 use Rattle.ufs_model.specs.Directories.{entry_count}
@@ -49,13 +50,9 @@ grown_dir (op.Mkdir path) = parent_of path
 grown_dir (op.Rename from to) = parent_of to
 grown_dir _ = root
 
--- the entries that a block of a directory has room for
-abbrev pub block_entries : ℕ
-block_entries = 64
-
 -- Each slot of the directory may be used: it takes a block only for a name that finds every slot used.
 abbrev pub may_be_full : PosixTree → List ℕ → Bool
-may_be_full t dir = entry_count t.paths dir % block_entries == 0
+may_be_full t dir = entry_count t.paths dir % SLOTS_PER_BLOCK == 0
 
 -- The blocks that a request may need: one for a name that it adds where the directory may be full, else those by which its file grows.
 abbrev pub needed : PosixTree → ℕ → Op → ℕ

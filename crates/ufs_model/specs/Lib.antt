@@ -14,6 +14,7 @@ pub mod Excuses
 pub mod History
 pub mod Touched
 pub mod Asks
+pub mod FileCalls
 pub mod Start
 pub mod PathEntries
 pub mod Laws

@@ -6,7 +6,7 @@ use Rattle.ufs_model.specs.Paths.{whole_of}
 use Rattle.ufs_model.specs.PosixTree.{PosixTree, is_live}
 use Rattle.ufs_model.specs.Walk.{node_at, file_of}
 use Rattle.ufs_model.specs.Directories.{entry_count, entry_names, renamed}
-use Rattle.ufs_model.specs.Descriptors.{Mode, opened, moved, desc_of, lowest_free, seek_to}
+use Rattle.ufs_model.specs.Descriptors.{Mode, opened, moved, desc_of, lowest_free, seek_to, mode_of_open}
 use Rattle.ufs_model.specs.FileBytes.{content, part, put_at, resized, place_of}
 use Rattle.ufs_model.specs.Refusals.{refusal}
 use Rattle.ufs_model.specs.declared.data.Op.{Op}
@@ -113,7 +113,7 @@ rename_path t from to =
 
 abbrev pub change : PosixTree → ℕ → Op → PosixTree
 change t client (op.OpenFile path read write creat excl trunc append) =
-    open_node t client (whole_of path) (record { read = read; write = write; creat = creat; excl = excl; trunc = trunc; append = append }) (node_at t.paths path)
+    open_node t client (whole_of path) (mode_of_open read write creat excl trunc append) (node_at t.paths path)
 change t client (op.Close fd) = close_fd t client fd
 change t client (op.Read fd n) =
     let d = opened t client fd in

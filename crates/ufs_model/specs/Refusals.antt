@@ -7,7 +7,7 @@ use Rattle.ufs_model.specs.Paths.{text_refusal, whole_of, is_root}
 use Rattle.ufs_model.specs.PosixTree.{PosixTree, Paths, desc_at, is_dir}
 use Rattle.ufs_model.specs.Walk.{walk_refusal, node_at, is_file}
 use Rattle.ufs_model.specs.Directories.{has_entries, is_below}
-use Rattle.ufs_model.specs.Descriptors.{Mode, opened, lowest_free, is_mode, seek_to, is_offset}
+use Rattle.ufs_model.specs.Descriptors.{Mode, opened, lowest_free, is_mode, seek_to, is_offset, mode_of_open}
 use Rattle.ufs_model.specs.FileBytes.{content, place_of, is_past, max_size}
 use Rattle.ufs_model.specs.declared.data.Op.{Op}
 use Rattle.ufs_model.specs.declared.data.Op.TheVariants as op
@@ -37,7 +37,7 @@ trunc_refusal (Some d) = refused_if (not d.write || is_none d.file) Einval
 
 abbrev pub own_refusal : PosixTree → ℕ → Op → Option Errno
 own_refusal t client (op.OpenFile path read write creat excl trunc append) =
-    first_of (refused_if (not (is_mode (record { read = read; write = write; creat = creat; excl = excl; trunc = trunc; append = append }))) Einval)
+    first_of (refused_if (not (is_mode (mode_of_open read write creat excl trunc append))) Einval)
     (first_of (refused_if (is_none (lowest_free t.fds client)) Emfile) (text_refusal path))
 own_refusal t client (op.Close fd) = refused_if (is_none (desc_at t client fd)) Ebadf
 own_refusal t client (op.Read fd n) = read_refusal (desc_at t client fd)
@@ -94,7 +94,7 @@ list_refusal node = first_of (refused_if (is_none node) Enoent) (refused_if (is_
 abbrev pub tree_refusal : PosixTree → ℕ → Op → Option Errno
 tree_refusal t client (op.OpenFile path read write creat excl trunc append) =
     first_of (walk_refusal t.paths path)
-    (open_refusal (record { read = read; write = write; creat = creat; excl = excl; trunc = trunc; append = append }) (node_at t.paths path))
+    (open_refusal (mode_of_open read write creat excl trunc append) (node_at t.paths path))
 tree_refusal t client (op.Close fd) = None
 tree_refusal t client (op.Read fd n) = None
 tree_refusal t client (op.Write fd data') =

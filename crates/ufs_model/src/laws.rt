@@ -1,4 +1,5 @@
 // What the file calls mean, apart from their cases: each a law that an empty function's contract states.
+ghost use Rattle.ufs_model.specs.FileCalls.{StepsArePosix, RefusalsArePosix, OwnRefusalsAreByDesc};
 ghost use Rattle.ufs_model.specs.Laws.{KeepsTrees, RefusalsChangeNothing, MakesOneFile, WrittenIsRead, AppendedIsRead, RenameReplaces, RenameLeaves, RenamesLieApart, Locality};
 ghost use Rattle.ufs_model.specs.Start.{StartsAreTrees, StartsHaveContents, StartsAreNumbered};
 
@@ -46,4 +47,11 @@ pub fn a_start_is_a_tree()
     ensures tree { StartsAreTrees }
     ensures contents { StartsHaveContents }
     ensures numbers { StartsAreNumbered }
+{}
+
+/// A request on a descriptor of a file is a step of that file's bytes and the descriptor alone.
+pub fn a_file_goes_on_by_itself()
+    ensures steps { StepsArePosix }
+    ensures refusals { RefusalsArePosix }
+    ensures own { OwnRefusalsAreByDesc }
 {}

@@ -7,8 +7,8 @@ ghost use Rattle.ufs_dirs.specs.Changes.{SetsName};
 ghost use Rattle.ufs_names.specs.DirEdits.{HasRoom, IsNumbered, SameNames, RoomsIn, SetsEntry, TakesNumber, dir_in};
 
 use std::alloc::Global;
-use ufs_base::Memory;
-use ufs_dirs::{DirBlocks, MAX_BLOCKS, SLOTS};
+use ufs_base::{MAX_BLOCKS, Memory, SLOTS_PER_BLOCK};
+use ufs_dirs::DirBlocks;
 use ufs_layout::Dentry;
 
 /// Adds a block where each slot is used.
@@ -21,7 +21,7 @@ fn give_room(blocks: &mut DirBlocks) -> Result<(), Memory>
     ensures err { OnErr result (blocks.new ≡ blocks.old) }
 {
     let count = blocks.blocks().len();
-    if blocks.count() as usize / SLOTS < count {
+    if blocks.count() as usize / SLOTS_PER_BLOCK < count {
         return Ok(());
     }
     if count >= MAX_BLOCKS as usize || blocks.add_block(count as u32).is_err() {

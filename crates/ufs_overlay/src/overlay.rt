@@ -18,8 +18,8 @@ use crate::adding::put_all;
 use crate::lists::{Numbered, SectorLists};
 use crate::step::{read_inode, step};
 use std::alloc::Global;
-use ufs_base::Memory;
-use ufs_disk::{Disk, Fault, SECTOR};
+use ufs_base::{Memory, SECTOR};
+use ufs_disk::{Disk, Fault};
 use ufs_image::home_law;
 use ufs_layout::{Committed, Geometry};
 

@@ -3,7 +3,8 @@ ghost use Rattle.ufs_layout.specs.Areas.{IsGeometry};
 
 use std::alloc::{AllocError, Global};
 use std::test::Fail;
-use ufs_disk::{Disk, Fuse, FuseDisk, MemoryDisk, PlainDisk, SECTOR};
+use ufs_base::SECTOR;
+use ufs_disk::{Disk, Fuse, FuseDisk, MemoryDisk, PlainDisk};
 use ufs_layout::Geometry;
 use ufs_recover::{FormatFault, format};
 

@@ -3,7 +3,8 @@ use crate::calls::{Call, check, check_over, words};
 use std::alloc::{AllocError, Global};
 use std::process::Abort;
 use std::test::Fail;
-use ufs_disk::{Disk, FILE_SECTORS, FileDisk, MemoryDisk, PlainDisk, SECTOR};
+use ufs_base::SECTOR;
+use ufs_disk::{Disk, FILE_SECTORS, FileDisk, MemoryDisk, PlainDisk};
 use ufs_io::{MemorySink, PlainSource};
 use ufs_quiet::{WordsFault, image_of, respond};
 

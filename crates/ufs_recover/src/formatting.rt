@@ -10,7 +10,8 @@ ghost use Rattle.ufs_recover.specs.Faults.{HasFaultCause};
 use crate::FormatFault;
 use crate::head::{new_head, put_head};
 use crate::tables::write_tables;
-use ufs_disk::{Disk, Fault, SECTOR};
+use ufs_base::SECTOR;
+use ufs_disk::{Disk, Fault};
 use ufs_image::new_image_law;
 use ufs_layout::Geometry;
 

@@ -7,7 +7,8 @@ ghost use Rattle.ufs_layout.specs.Superblock.{super_bytes};
 ghost use Rattle.ufs_layout.specs.Superblock.{new_super};
 ghost use Rattle.ufs_recover.specs.Stopped.{HasHeadPut};
 
-use ufs_disk::{Disk, Fault, SECTOR};
+use ufs_base::SECTOR;
+use ufs_disk::{Disk, Fault};
 use ufs_layout::{Geometry, Super, put_super};
 
 // The superblock of a new image.

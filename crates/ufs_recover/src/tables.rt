@@ -9,8 +9,8 @@ ghost use Rattle.ufs_image.specs.Formatted.{byte_below, new_root};
 ghost use Rattle.ufs_recover.specs.Tables.{IsOutside, IsTableBlock, HasTablesBelow};
 ghost use Rattle.ufs_recover.specs.Stopped.{IsBlank};
 
-use ufs_base::BLOCK;
-use ufs_disk::{Disk, Fault, SECTOR};
+use ufs_base::{BLOCK, SECTOR};
+use ufs_disk::{Disk, Fault};
 use ufs_layout::{Geometry, Inode, put_inode};
 
 // A byte of the bitmap in which the blocks below `used` are used.

@@ -15,7 +15,8 @@ ghost use Rattle.std.specs.Prelude.{length};
 use crate::standing::stand_in;
 use crate::{ScanFault, Standing};
 use std::alloc::{AllocError, Global};
-use ufs_disk::{Disk, SECTOR};
+use ufs_base::SECTOR;
+use ufs_disk::Disk;
 use ufs_found::{Sectors, note_sectors};
 use ufs_layout::Geometry;
 

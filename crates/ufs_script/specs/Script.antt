@@ -2,6 +2,7 @@
 use Rattle.std.specs.Prelude.{ℕ, ◌≡◌, ◌≤◌, ◌+◌, ◌⊎◌, List, [], ◌∷◌, ◌++◌, Bool, true, false, ◌==◌, nat_le, nat_lt, length, take, fold, if◌then◌else◌, Option, Some, None, Result, Ok, Err, codes}
 use Rattle.std.specs.Option.{option_to_list}
 use Rattle.std.specs.Str.{bytes_eq}
+use Rattle.ufs_base.specs.declared.limits.TheConstants.{MAX_CLIENTS, MAX_REQUESTS}
 use Rattle.ufs_model.specs.declared.data.Op.{Op}
 use Rattle.ufs_script.specs.Words.{words_of}
 use Rattle.ufs_script.specs.Requests.{and_then, exactly, number_at, verb_of, request_of}
@@ -17,14 +18,6 @@ use Rattle.ufs_script.specs.declared.verb.Verb.{Verb}
 -- the greatest length of a script, in bytes
 abbrev pub max_script : ℕ
 max_script = 16777216
-
--- the greatest number of clients
-abbrev pub max_clients : ℕ
-max_clients = 16
-
--- the greatest number of a client's requests
-abbrev pub max_requests : ℕ
-max_requests = 65536
 
 -- the faults of a reading that gives this: want of memory, and its break
 abbrev pub IsFaultOf : {A : Type 0} → Result A ScriptFault → ScriptFault → Type 0
@@ -42,14 +35,14 @@ clients_of draft = draft.before ++ option_to_list draft.current
 
 -- there are no more clients than there may be
 abbrev pub IsFew : Draft → Type 0
-IsFew draft = length (clients_of draft) ≤ max_clients
+IsFew draft = length (clients_of draft) ≤ MAX_CLIENTS
 
 -- K is the number of clients so far
 abbrev pub is_next : Draft → ℕ → Result ℕ Cause
 is_next draft client = if client == length (clients_of draft) then Ok client else Err cause.BadNumber
 
 abbrev pub with_client : Draft → ℕ → Result Draft Cause
-with_client draft client = if nat_lt client max_clients then Ok (record draft { before = clients_of draft; current = Some [] }) else Err cause.TooMany
+with_client draft client = if nat_lt client MAX_CLIENTS then Ok (record draft { before = clients_of draft; current = Some [] }) else Err cause.TooMany
 
 -- the words behind `client`
 abbrev pub client_line : Draft → List (List ℕ) → Result Draft Cause
@@ -60,7 +53,7 @@ client_line draft words =
 
 -- one more request of the current client
 abbrev pub with_request : Draft → List Op → Op → Result Draft Cause
-with_request draft requests op = if nat_lt (length requests) max_requests then Ok (record draft { current = Some (requests ++ op ∷ []) }) else Err cause.TooMany
+with_request draft requests op = if nat_lt (length requests) MAX_REQUESTS then Ok (record draft { current = Some (requests ++ op ∷ []) }) else Err cause.TooMany
 
 -- a request before the first `client` line is looked at no further
 abbrev pub request_line : Draft → Option (List Op) → Verb → List (List ℕ) → Result Draft Cause

@@ -3,6 +3,7 @@ use Rattle.std.specs.Prelude.{ℕ, ◌≡◌, ◌<◌, ◌≤◌, ◌+◌, ◌^�
 use Rattle.std.specs.List.{AllByRecursion, list_all}
 use Rattle.std.specs.Str.{bytes_eq}
 use Rattle.std.specs.Fmt.{decimal}
+use Rattle.ufs_base.specs.declared.limits.TheConstants.{MAX_CLIENTS, MAX_REQUESTS}
 use Rattle.hex.specs.Hex.{encode_lower, IsBytes}
 use Rattle.ufs_model.specs.Bounds.{IsBounded}
 use Rattle.ufs_model.specs.declared.data.Whence.{Whence}
@@ -10,7 +11,7 @@ use Rattle.ufs_model.specs.declared.data.Whence.TheVariants as whence
 use Rattle.ufs_model.specs.declared.data.Op.{Op}
 use Rattle.ufs_model.specs.declared.data.Op.TheVariants as op
 use Rattle.ufs_script.specs.Words.{is_blank}
-use Rattle.ufs_script.specs.Script.{script_of, plain_script, max_script, max_clients, max_requests}
+use Rattle.ufs_script.specs.Script.{script_of, plain_script, max_script}
 
 -- ---- words
 
@@ -123,10 +124,10 @@ IsSpellable (op.List path) = IsTrue (is_path path)
 
 -- a client's requests that can be spelled
 abbrev pub IsClient : List Op → Type 0
-IsClient requests = AllByRecursion IsBounded requests × AllByRecursion IsSpellable requests × (length requests ≤ max_requests)
+IsClient requests = AllByRecursion IsBounded requests × AllByRecursion IsSpellable requests × (length requests ≤ MAX_REQUESTS)
 
 -- clients that are printed and read stay the same
 abbrev pub PrintedIsRead : Type 0
-PrintedIsRead = (clients : List (List Op)) → AllByRecursion IsClient clients → length clients ≤ max_clients
+PrintedIsRead = (clients : List (List Op)) → AllByRecursion IsClient clients → length clients ≤ MAX_CLIENTS
     → length (script_text clients) ≤ max_script
     → script_of (script_text clients) ≡ Ok (plain_script clients)

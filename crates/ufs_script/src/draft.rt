@@ -12,6 +12,7 @@ use crate::request::request;
 use crate::verb::{Verb, verb_of};
 use crate::words::words;
 use std::alloc::Global;
+use ufs_base::MAX_CLIENTS;
 
 /// The clients and requests of the lines so far.
 #[derive(Drop)]
@@ -41,7 +42,7 @@ pub fn no_lines(alloc: Global) -> Draft
 
 /// The requests of all clients so far.
 pub fn all_clients(before: OpLists, current: Option<OpList>) -> Result<OpLists, Cause>
-    requires { length (before ++ option_to_list current) ≤ 16 }
+    requires { length (before ++ option_to_list current) ≤ MAX_CLIENTS }
     ensures ok { IfOk result (λ lists. lists ≡ before ++ option_to_list current) }
     ensures err { IfErr result (λ c. c ≡ Cause.Memory) }
 {

@@ -5,6 +5,7 @@ ghost use Rattle.ufs_model.specs.Bounds.{IsBounded};
 
 use std::alloc::{AllocError, Global};
 use std::marker::Model;
+use ufs_base::{MAX_CLIENTS, MAX_REQUESTS};
 use ufs_model::{Bytes, Op};
 
 /// The requests of a client, in order: at most 65,536, each of which moves at most 1,048,576 bytes.
@@ -14,6 +15,7 @@ pub struct OpList {
 }
 
 impl Model for OpList {
+    ghost use Rattle.ufs_base.specs.declared.limits.TheConstants.{MAX_REQUESTS};
     ghost use Rattle.std.specs.Prelude.{List, length, ◌≤◌};
     ghost use Rattle.std.specs.List.{AllByRecursion};
     ghost use Rattle.ufs_model.specs.declared.data.Op.{Op};
@@ -23,12 +25,12 @@ impl Model for OpList {
 
     ghost view = { λ l. l.ops.items };
 
-    ghost invariant = { λ l. AllByRecursion IsBounded l.ops.items × (length l.ops.items ≤ 65536) };
+    ghost invariant = { λ l. AllByRecursion IsBounded l.ops.items × (length l.ops.items ≤ MAX_REQUESTS) };
 }
 
 impl OpList {
     /// The greatest length.
-    pub const MAX: usize = 65_536;
+    pub const MAX: usize = MAX_REQUESTS;
 
     /// No request. Takes no memory.
     pub fn new(alloc: Global) -> Self
@@ -41,7 +43,7 @@ impl OpList {
 
     pub fn from_vec(ops: Vec<Op>) -> Self
         requires bounded { AllByRecursion IsBounded ops.items }
-        requires few { length ops.items ≤ 65536 }
+        requires few { length ops.items ≤ MAX_REQUESTS }
         ensures { result ≡ ops.items }
     {
         OpList { ops }
@@ -50,7 +52,7 @@ impl OpList {
     pub fn into_vec(self) -> Vec<Op>
         ensures value { result.items ≡ self }
         ensures bounded { AllByRecursion IsBounded self }
-        ensures few { length self ≤ 65536 }
+        ensures few { length self ≤ MAX_REQUESTS }
     {
         self.ops
     }
@@ -58,14 +60,14 @@ impl OpList {
     pub fn as_slice(&self) -> &[Op]
         ensures value { result.now ≡ self.now }
         ensures bounded { AllByRecursion IsBounded self.now }
-        ensures few { length self.now ≤ 65536 }
+        ensures few { length self.now ≤ MAX_REQUESTS }
     {
         self.ops.as_slice()
     }
 
     /// Adds a request behind the others.
     pub fn push(&mut self, op: Op) -> Result<(), AllocError>
-        requires few { length self.old < 65536 }
+        requires few { length self.old < MAX_REQUESTS }
         requires bounded { IsBounded op }
         ensures ok { OnOk result (self.new ≡ self.old ++ op ∷ []) }
         ensures err { OnErr result (self.new ≡ self.old) }
@@ -82,6 +84,7 @@ pub struct OpLists {
 }
 
 impl Model for OpLists {
+    ghost use Rattle.ufs_base.specs.declared.limits.TheConstants.{MAX_CLIENTS};
     ghost use Rattle.std.specs.Prelude.{List, length, ◌≤◌};
     ghost use Rattle.ufs_script.specs.declared.lists.OpList.{OpList};
 
@@ -89,12 +92,12 @@ impl Model for OpLists {
 
     ghost view = { λ l. l.lists.items };
 
-    ghost invariant = { λ l. length l.lists.items ≤ 16 };
+    ghost invariant = { λ l. length l.lists.items ≤ MAX_CLIENTS };
 }
 
 impl OpLists {
     /// The greatest length.
-    pub const MAX: usize = 16;
+    pub const MAX: usize = MAX_CLIENTS;
 
     /// No client. Takes no memory.
     pub fn new(alloc: Global) -> Self
@@ -106,7 +109,7 @@ impl OpLists {
     }
 
     pub fn from_vec(lists: Vec<OpList>) -> Self
-        requires { length lists.items ≤ 16 }
+        requires { length lists.items ≤ MAX_CLIENTS }
         ensures { result ≡ lists.items }
     {
         OpLists { lists }
@@ -114,21 +117,21 @@ impl OpLists {
 
     pub fn into_vec(self) -> Vec<OpList>
         ensures value { result.items ≡ self }
-        ensures few { length self ≤ 16 }
+        ensures few { length self ≤ MAX_CLIENTS }
     {
         self.lists
     }
 
     pub fn as_slice(&self) -> &[OpList]
         ensures value { result.now ≡ self.now }
-        ensures few { length self.now ≤ 16 }
+        ensures few { length self.now ≤ MAX_CLIENTS }
     {
         self.lists.as_slice()
     }
 
     /// Adds a client behind the others.
     pub fn push(&mut self, list: OpList) -> Result<(), AllocError>
-        requires { length self.old < 16 }
+        requires { length self.old < MAX_CLIENTS }
         ensures ok { OnOk result (self.new ≡ self.old ++ list ∷ []) }
         ensures err { OnErr result (self.new ≡ self.old) }
     {

@@ -8,6 +8,7 @@ ghost use Rattle.ufs_script.specs.Reading.{HasRead, ReadsScript, ReadsBreak, Tak
 use crate::fault::ScriptFault;
 use crate::script::{MAX_SCRIPT, Script, parse};
 use std::alloc::Global;
+use ufs_base::MAX_CLIENTS;
 use ufs_io::Source;
 
 // The number of reads that suffices: each but the last gives a byte, and one byte past the greatest
@@ -59,7 +60,7 @@ pub fn read_script<S: Source>(alloc: Global, source: &mut S) -> Result<Script, S
     ensures most { TakesAtMost (S.left source.old) (S.left source.new) }
     ensures once { ReadsEachOnce (S.left source.old) (S.left source.new)
         (S.reads source.old) (S.reads source.new) }
-    ensures clients { IfOk result (λ script. length script.clients ≤ 16) }
+    ensures clients { IfOk result (λ script. length script.clients ≤ MAX_CLIENTS) }
     ensures workers { IfOk result (λ script. script.workers ≡ 1) }
     ensures words { IfOk result (λ script. script.words ≡ []) }
 {

@@ -1,7 +1,8 @@
 // The blocks of a directory: what no clause says, and each call once.
 use std::alloc::Global;
 use ufs_base::Memory;
-use ufs_dirs::{BlockFault, DirBlocks, MAX_BLOCKS, Slot, SlotFault};
+use ufs_base::MAX_BLOCKS;
+use ufs_dirs::{BlockFault, DirBlocks, Slot, SlotFault};
 use ufs_layout::Dentry;
 
 // Whether the block came in.

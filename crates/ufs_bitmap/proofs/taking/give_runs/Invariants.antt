@@ -1,0 +1,11 @@
+use Rattle.std.proofs.Common.{◌≡◌, drop}
+use Rattle.std.specs.FinSet as set
+use Rattle.ufs_extent.specs.Runs.{blocks_of}
+use Rattle.ufs_bitmap.specs.Taking.{IsApart, set_of}
+use Rattle.ufs_bitmap.proofs.taking.give_runs.Given as goal
+
+abbrev pub invariant-loop-run : goal.invariant-loop-run
+invariant-loop-run l = record {
+  apart : IsApart l.pool (blocks_of (drop l.run-index l.runs));
+  so_far : set.union l.pool (set_of (drop l.run-index l.runs)) ≡ set.union l.initial.pool (set_of l.runs);
+}

@@ -1,0 +1,5 @@
+pub mod OverLemmas
+pub mod TableLemmas
+pub mod ContentLemmas
+pub mod HandLemmas
+pub mod ExcuseLemmas

@@ -1,0 +1,56 @@
+use Rattle.std.proofs.Common.{◌≡◌, ◌+◌, ◌-◌, ◌≤◌, ◌<◌, ap, sym, ◌∙◌, arith, ℕ, List, subst, length, length-append}
+use Rattle.std.specs.FinSet as set
+use Rattle.ufs_extent.specs.declared.Run.{Run}
+use Rattle.ufs_extent.specs.Runs.{blocks_of, appended_all}
+use Rattle.ufs_file.specs.Content.{Content, block_count, grown}
+use Rattle.ufs_bitmap.specs.Taking.{IsApart, set_of}
+use Rattle.ufs_file.specs.Hand.{FileState, IsCause, lengthened}
+use Rattle.ufs_bitmap.proofs.TakingLemmas.{takes_apart, takes_blocks, takes_undone}
+use Rattle.ufs_file.proofs.HandLemmas.{apart_taken, blocks_of-all, lengthened_more, length-grown, dirty-grown}
+use Rattle.ufs_file.proofs.ContentLemmas.{ceil_is}
+use Rattle.ufs_file.proofs.hand.FileHand.lengthen.Goals as goal
+
+pub give_runs-requires-clause-apart : goal.give_runs-requires-clause-apart
+give_runs-requires-clause-apart c =
+    subst (λ (l : List Run). IsApart c.take.new.pool (blocks_of l)) (sym c.as_slice.ensures.value)
+    (takes_apart c.args.pool.now (c.div_ceil.result - c.block_count.result) c.in-Ok.runs.items c.take.new.pool 0 c.in-Ok.ensures.taken)
+
+pub returns-clause-apart : goal.returns-clause-apart
+returns-clause-apart c =
+    let e : c.append_all.new.extents ≡ appended_all c.self.inside.extents c.in-Ok.runs.items = c.append_all.ensures ∙ ap (λ (l : List Run). appended_all c.self.inside.extents l) c.as_slice-2.ensures.value in
+    let apart : IsApart c.args.pool.now (blocks_of c.self.inside.extents) = subst (λ (f : FileState). IsApart c.args.pool.now (blocks_of f.extents)) (sym c.self.view_is) c.requires.apart in
+    subst (λ (l : List ℕ). IsApart c.take.new.pool l) (sym (ap blocks_of e ∙ blocks_of-all c.self.inside.extents c.in-Ok.runs.items))
+    (apart_taken c.args.pool.now (blocks_of c.self.inside.extents) (c.div_ceil.result - c.block_count.result) c.in-Ok.runs.items c.take.new.pool 0 apart c.in-Ok.ensures.taken)
+
+pub returns-in-Err-clause-cause : goal.returns-in-Err-clause-cause
+returns-in-Err-clause-cause c =
+    let v : Content = c.args.self.now.content in
+    let size : ℕ = c.args.size in
+    let held : length v.bytes ≡ c.size.result = ap (λ (f : FileState). length f.content.bytes) (sym c.self.view_is) ∙ sym c.size.ensures.size in
+    let longer : length v.bytes < size = omega (arith, held, c.if-size.false) in
+    let long : length (lengthened v size).bytes ≡ size = ap (λ (w : Content). length w.bytes) (lengthened_more v size longer) ∙ length-grown v size (omega (arith, longer)) in
+    let blocks : length (blocks_of c.args.self.now.extents) ≡ c.block_count.result = ap (λ (f : FileState). length (blocks_of f.extents)) (sym c.self.view_is) ∙ sym c.block_count.ensures in
+    let e : c.div_ceil.result - c.block_count.result ≡ block_count (length (lengthened v size).bytes) - length (blocks_of c.args.self.now.extents) =
+    (λ i. (c.div_ceil.ensures ∙ ceil_is size ∙ ap block_count (sym long)) i - sym blocks i) in
+    subst (λ (n : ℕ). IsCause c.args.self.now.extents n c.args.pool.now c.in-Err.excuse) e
+    c.in-Err.ensures.cause
+
+pub invariant_of-self-2 : goal.invariant_of-self-2
+invariant_of-self-2 c =
+    let xs : List Run = c.self.inside.extents in
+    let rs : List Run = c.in-Ok.runs.items in
+    let need : ℕ = c.div_ceil.result - c.block_count.result in
+    let e : c.append_all.new.extents ≡ appended_all xs rs = c.append_all.ensures ∙ ap (λ (l : List Run). appended_all xs l) c.as_slice-2.ensures.value in
+    let blocks : length (blocks_of c.append_all.new.extents) ≡ length (blocks_of xs) + length (blocks_of rs) =
+    ap (λ (l : List Run). length (blocks_of l)) e ∙ ap length (blocks_of-all xs rs) ∙ length-append (blocks_of xs) (blocks_of rs) in
+    let taken : length (blocks_of rs) + 0 ≡ need = takes_blocks c.args.pool.now need rs c.take.new.pool 0 c.in-Ok.ensures.taken in
+    let grew : c.grow.new.self ≡ grown c.self.inside.blocks c.args.size = c.in-Ok-grow.ensures.ok in
+    let had : length (blocks_of xs) ≡ length c.self.inside.blocks.dirty = c.self.invariant in
+    let is : c.div_ceil.result ≡ block_count c.args.size = c.div_ceil.ensures ∙ ceil_is c.args.size in
+    let le : length c.self.inside.blocks.dirty ≤ block_count c.args.size = omega (arith, c.size.ensures.blocks, c.size.ensures.size, c.if-size.false) in
+    blocks ∙ omega (arith, taken, had, is, c.block_count.ensures, dirty-grown c.self.inside.blocks c.args.size le, le) ∙ ap (λ (v : Content). length v.dirty) (sym grew)
+
+pub returns-in_default-clause-pool : goal.returns-in_default-clause-pool
+returns-in_default-clause-pool c =
+    c.give_runs.ensures ∙ ap (λ (l : List Run). set.union c.take.new.pool (set_of l)) c.as_slice.ensures.value
+    ∙ takes_undone c.args.pool.now (c.div_ceil.result - c.block_count.result) c.in-Ok.runs.items c.take.new.pool 0 c.in-Ok.ensures.taken

@@ -1,0 +1,4 @@
+pub mod Lists
+pub mod Content
+pub mod Table
+pub mod Hand

@@ -1,0 +1,26 @@
+-- What a file's blocks in memory stand for.
+use Rattle.std.specs.Prelude.{◌≡◌, ℕ, ◌+◌, ◌*◌, ◌-◌, ◌<◌, ◌≤◌, List, [], ◌∷◌, ◌++◌, map, drop, replicate, length, All, Bool}
+use Rattle.ufs_base.specs.declared.sizes.TheConstants.{BLOCK}
+use Rattle.ufs_model.specs.FileBytes.{max_size}
+use Rattle.ufs_file.specs.declared.blocks.Block.{Block}
+
+-- the bytes of the blocks in order
+abbrev pub bytes_in : List Block → List ℕ
+bytes_in [] = []
+bytes_in (b ∷ bs) = b.bytes.items ++ bytes_in bs
+
+-- which blocks were written since they were read or made
+abbrev pub marks_of : List Block → List Bool
+marks_of bs = map (λ (b : Block). b.dirty) bs
+
+-- a block is there whole
+abbrev pub IsWhole : Block → Type 0
+IsWhole b = length b.bytes.items ≡ BLOCK
+
+-- The blocks hold so many bytes, no block too many, and zeros behind the end.
+pub record IsTable (size : ℕ) (bs : List Block) : Type 0 where
+  pub whole : All IsWhole bs
+  pub room : size ≤ BLOCK * length bs
+  pub few : BLOCK * length bs < size + BLOCK
+  pub small : size ≤ max_size
+  pub zeros : drop size (bytes_in bs) ≡ replicate (BLOCK * length bs - size) 0

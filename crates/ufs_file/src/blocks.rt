@@ -1,0 +1,149 @@
+// A file's blocks in memory, by their places in the file.
+ghost use Rattle.std.specs.Prelude.{◌≡◌, ◌+◌, ◌*◌, ◌/◌, ◌-◌, ◌^◌, ◌<◌, ◌≤◌, ◌++◌, [], ◌∷◌, length, take, drop, replicate, All, IfOk, OnOk, OnErr, slice_index, true};
+ghost use Rattle.ufs_file.specs.Content.{block_count, marks_cut};
+ghost use Rattle.ufs_file.specs.Lists.{over};
+ghost use Rattle.ufs_file.specs.Table.{bytes_in, marks_of, IsWhole};
+
+use std::alloc::{AllocError, Global};
+use ufs_base::BLOCK;
+
+/// One block of a file, and whether it was written since it was read or made.
+#[derive(Drop)]
+pub(crate) struct Block {
+    bytes: Vec<u8>,
+    pub(crate) dirty: bool,
+}
+
+/// Writes within one block.
+fn put_in(block: &mut Block, from: usize, fresh: &[u8])
+    requires { from + length fresh.now ≤ length block.old.bytes.items }
+    ensures bytes { block.new.bytes.items ≡ over block.old.bytes.items from fresh.now }
+    ensures dirty { block.new.dirty ≡ true }
+{
+    block.bytes[from..from + fresh.len()].copy_from_slice(fresh);
+    block.dirty = true;
+}
+
+/// Writes within the block at place k.
+fn put_piece(table: &mut Vec<Block>, k: usize, from: usize, fresh: &[u8])
+    requires whole { All IsWhole table.old.items }
+    requires there { k < length table.old.items }
+    requires inside { from + length fresh.now ≤ BLOCK }
+    ensures whole { All IsWhole table.new.items }
+    ensures length { length table.new.items ≡ length table.old.items }
+    ensures bytes { bytes_in table.new.items ≡ over (bytes_in table.old.items) (BLOCK * k + from) fresh.now }
+    ensures marks { marks_of table.new.items ≡ over (marks_of table.old.items) k (true ∷ []) }
+{
+    let block = &mut table[k];
+    put_in(block, from, fresh);
+}
+
+/// Writes over bytes that are there; no other byte moves.
+pub(crate) fn put_over(table: &mut Vec<Block>, at: usize, fresh: &[u8])
+    requires whole { All IsWhole table.old.items }
+    requires some { 0 < length fresh.now }
+    requires inside { at + length fresh.now ≤ BLOCK * length table.old.items }
+    requires small { at + length fresh.now ≤ 2 ^ 32 }
+    ensures whole { All IsWhole table.new.items }
+    ensures length { length table.new.items ≡ length table.old.items }
+    ensures bytes { bytes_in table.new.items ≡ over (bytes_in table.old.items) at fresh.now }
+    ensures marks { marks_of table.new.items ≡ over (marks_of table.old.items) (at / BLOCK) (replicate (block_count (at + length fresh.now) - at / BLOCK) true) }
+{
+    let end = at + fresh.len();
+    for k in at / BLOCK..end.div_ceil(BLOCK) {
+        let from = at.max(BLOCK * k);
+        let to = end.min(BLOCK * k + BLOCK);
+        put_piece(table, k, from - BLOCK * k, &fresh[from - at..to - at]);
+    }
+}
+
+/// A part of the block at place k.
+fn piece(table: &[Block], k: usize, from: usize, count: usize) -> &[u8]
+    requires whole { All IsWhole table.now }
+    requires there { k < length table.now }
+    requires inside { from + count ≤ BLOCK }
+    ensures { result.now ≡ take count (drop (BLOCK * k + from) (bytes_in table.now)) }
+{
+    let block = &table[k];
+    &block.bytes[from..from + count]
+}
+
+/// A copy of bytes that are there.
+pub(crate) fn read_over(
+    alloc: Global,
+    table: &[Block],
+    at: usize,
+    count: usize,
+) -> Result<Vec<u8>, AllocError>
+    requires whole { All IsWhole table.now }
+    requires some { 0 < count }
+    requires inside { at + count ≤ BLOCK * length table.now }
+    requires small { at + count ≤ 2 ^ 32 }
+    ensures { IfOk result (λ got. got.items ≡ take count (drop at (bytes_in table.now))) }
+{
+    let mut got = Vec::with_capacity(alloc, count)?;
+    let end = at + count;
+    for k in at / BLOCK..end.div_ceil(BLOCK) {
+        let from = at.max(BLOCK * k);
+        let to = end.min(BLOCK * k + BLOCK);
+        got.extend_from_slice(piece(table, k, from - BLOCK * k, to - from))?;
+    }
+    Ok(got)
+}
+
+/// So many blocks of zeros, all dirty.
+pub(crate) fn zero_blocks(alloc: Global, count: usize) -> Result<Vec<Block>, AllocError>
+    ensures whole { IfOk result (λ t. All IsWhole t.items) }
+    ensures bytes { IfOk result (λ t. bytes_in t.items ≡ replicate (BLOCK * count) 0) }
+    ensures marks { IfOk result (λ t. marks_of t.items ≡ replicate count true) }
+    ensures count { IfOk result (λ t. length t.items ≡ count) }
+{
+    let mut table = Vec::with_capacity(alloc, count)?;
+    for _made in 0..count {
+        table.push(Block {
+            bytes: vec![in alloc; 0; BLOCK]?,
+            dirty: true,
+        })?;
+    }
+    Ok(table)
+}
+
+/// Zeros from a place in the block on.
+fn clear_behind(block: &mut Block, from: usize)
+    requires { from ≤ length block.old.bytes.items }
+    ensures bytes { block.new.bytes.items ≡ take from block.old.bytes.items ++ replicate (length block.old.bytes.items - from) 0 }
+    ensures dirty { block.new.dirty ≡ true }
+{
+    block.bytes[from..].fill(0);
+    block.dirty = true;
+}
+
+/// Keeps so many bytes, with zeros behind them in the last block.
+pub(crate) fn cut_over(table: &mut Vec<Block>, size: usize)
+    requires whole { All IsWhole table.old.items }
+    requires inside { size ≤ BLOCK * length table.old.items }
+    ensures whole { All IsWhole table.new.items }
+    ensures count { length table.new.items ≡ block_count size }
+    ensures bytes { bytes_in table.new.items ≡ take size (bytes_in table.old.items) ++ replicate (BLOCK * length table.new.items - size) 0 }
+    ensures marks { marks_of table.new.items ≡ marks_cut (marks_of table.old.items) size }
+{
+    table.truncate(size.div_ceil(BLOCK));
+    let from = size % BLOCK;
+    if from != 0 {
+        clear_at(table, size / BLOCK, from);
+    }
+}
+
+/// Zeros from a place in the block at place k on.
+fn clear_at(table: &mut Vec<Block>, k: usize, from: usize)
+    requires whole { All IsWhole table.old.items }
+    requires there { k < length table.old.items }
+    requires inside { from ≤ BLOCK }
+    ensures whole { All IsWhole table.new.items }
+    ensures length { length table.new.items ≡ length table.old.items }
+    ensures bytes { bytes_in table.new.items ≡ over (bytes_in table.old.items) (BLOCK * k + from) (replicate (BLOCK - from) 0) }
+    ensures marks { marks_of table.new.items ≡ over (marks_of table.old.items) k (true ∷ []) }
+{
+    let block = &mut table[k];
+    clear_behind(block, from);
+}

@@ -1,0 +1,122 @@
+// A file's bytes, as blocks in memory.
+ghost use Rattle.std.specs.Prelude.{◌≡◌, ◌+◌, ◌≤◌, ◌<◌, length, IfOk, OnOk, OnErr};
+ghost use Rattle.ufs_file.specs.Content.{Content, no_content, grown, written_over, shortened};
+
+use crate::blocks::{Block, cut_over, put_over, read_over, zero_blocks};
+use std::alloc::Global;
+use std::marker::Model;
+use ufs_base::{BLOCK, Memory};
+
+/// A file's bytes, kept as a table of blocks by their places in the file, each with a mark that tells whether it was
+/// written since it was read or made.
+#[derive(Drop)]
+pub struct Blocks {
+    alloc: Global,
+    size: usize,
+    table: Vec<Block>,
+}
+
+impl Model for Blocks {
+    ghost use Rattle.std.specs.Prelude.{take};
+    ghost use Rattle.ufs_file.specs.Content.{Content};
+    ghost use Rattle.ufs_file.specs.Table.{bytes_in, marks_of, IsTable};
+
+    ghost Value = { Content };
+
+    ghost view = { λ b. record { bytes = take b.size (bytes_in b.table.items); dirty = marks_of b.table.items } };
+
+    ghost invariant = { λ b. IsTable b.size b.table.items };
+}
+
+impl Blocks {
+    ghost use Rattle.std.specs.Prelude.{◌≡◌, ◌+◌, ◌≤◌, ◌<◌, length, max, slice_get, IfOk, OnOk, OnErr};
+    ghost use Rattle.ufs_model.specs.FileBytes.{part, max_size};
+    ghost use Rattle.ufs_file.specs.Content.{Content, no_content, block_count, grown, written_over, shortened};
+
+    /// No byte. Takes no memory.
+    pub fn new(alloc: Global) -> Blocks
+        ensures { result ≡ no_content }
+    {
+        Blocks {
+            alloc,
+            size: 0,
+            table: Vec::new(alloc),
+        }
+    }
+
+    /// The file's size, in bytes.
+    pub fn size(&self) -> u64
+        ensures size { result ≡ length self.now.bytes }
+        ensures small { result ≤ max_size }
+        ensures blocks { length self.now.dirty ≡ block_count (length self.now.bytes) }
+    {
+        self.size as u64
+    }
+
+    /// How many bytes there are from a place on, at most n.
+    pub fn count_from(&self, at: u64, n: u32) -> usize
+        ensures count { result ≡ length (part self.now.bytes at n) }
+        ensures inside { at + result ≤ max at max_size }
+    {
+        if at >= self.size as u64 {
+            return 0;
+        }
+        (self.size - at as usize).min(n as usize)
+    }
+
+    /// At most n bytes from a place on.
+    pub fn read(&self, at: u64, n: u32) -> Result<Vec<u8>, Memory>
+        ensures { IfOk result (λ got. got.items ≡ part self.now.bytes at n) }
+    {
+        let count = self.count_from(at, n);
+        if count == 0 {
+            return Ok(Vec::new(self.alloc));
+        }
+        let got = read_over(self.alloc, self.table.as_slice(), at as usize, count)?;
+        Ok(got)
+    }
+
+    /// Lengthens the file with zeros. No byte that is there moves.
+    pub fn grow(&mut self, size: u64) -> Result<(), Memory>
+        requires longer { length self.old.bytes ≤ size }
+        requires small { size ≤ max_size }
+        ensures ok { OnOk result (self.new ≡ grown self.old size) }
+        ensures err { OnErr result (self.new ≡ self.old) }
+    {
+        let size = size as usize;
+        let count = size.div_ceil(BLOCK) - self.table.len();
+        let mut more = zero_blocks(self.alloc, count)?;
+        self.table.append(&mut more)?;
+        self.size = size;
+        Ok(())
+    }
+
+    /// Writes over bytes that are there. Takes no memory, and moves no other byte.
+    pub fn write(&mut self, at: u64, fresh: &[u8])
+        requires some { 0 < length fresh.now }
+        requires inside { at + length fresh.now ≤ length self.old.bytes }
+        ensures { self.new ≡ written_over self.old at fresh.now }
+    {
+        put_over(&mut self.table, at as usize, fresh);
+    }
+
+    /// Keeps so many bytes. Takes no memory.
+    pub fn cut(&mut self, size: u64)
+        requires { size ≤ length self.old.bytes }
+        ensures { self.new ≡ shortened self.old size }
+    {
+        let size = size as usize;
+        cut_over(&mut self.table, size);
+        self.size = size;
+    }
+
+    /// Whether the block at this place was written since it was read or made.
+    pub fn is_dirty(&self, place: usize) -> Option<bool>
+        ensures { result ≡ slice_get self.now.dirty place }
+    {
+        match self.table.get(place) {
+            Some(block) => Some(block.dirty),
+            None => None,
+        }
+    }
+}

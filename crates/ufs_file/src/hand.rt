@@ -1,0 +1,503 @@
+// One file, as a server holds it.
+ghost use Rattle.std.specs.Prelude.{◌≡◌, ◌≤◌, length, All, true};
+ghost use Rattle.ufs_model.specs.Descriptors as descriptors;
+ghost use Rattle.ufs_extent.specs.Runs.{IsRun, appended_all};
+ghost use Rattle.ufs_file.specs.Hand.{IsEntryOf};
+
+use crate::content::Blocks;
+use std::alloc::Global;
+use std::marker::Model;
+use ufs_base::{BLOCK, MAX_EXTENTS, Memory};
+use ufs_bitmap::{Pool, give_runs, take_runs};
+use ufs_calls::{MAX_SIZE, desc_refusal, is_past, place_of, seek_to, size_refusal};
+use ufs_extent::{Extents, Full56, Run};
+use ufs_model::{
+    Actor, Ask, Bytes, Desc, Entry, Errno, Excuse, Op, Reply, Whence, a_file_goes_on_by_itself,
+};
+
+/// One file: its number and inode, where its blocks lie, and its bytes.
+#[derive(Drop)]
+pub struct FileHand {
+    alloc: Global,
+    file: u32,
+    inode: u32,
+    extents: Extents,
+    blocks: Blocks,
+}
+
+/// What a request was answered.
+#[derive(Drop)]
+pub struct Applied {
+    pub entry: Entry,
+    /// What the request's descriptor stands for afterwards.
+    pub desc: Option<Desc>,
+}
+
+/// A reply that is no excuse, and what the request's descriptor stands for afterwards.
+#[derive(Drop)]
+struct Served {
+    reply: Reply,
+    desc: Desc,
+}
+
+impl Model for FileHand {
+    ghost use Rattle.std.specs.Prelude.{◌≡◌, length};
+    ghost use Rattle.ufs_extent.specs.Runs.{blocks_of};
+    ghost use Rattle.ufs_file.specs.Hand.{FileState};
+
+    ghost Value = { FileState };
+
+    ghost view = { λ h. record { file = h.file; inode = h.inode; extents = h.extents; content = h.blocks } };
+
+    ghost invariant = { λ h. length (blocks_of h.extents) ≡ length h.blocks.dirty };
+}
+
+impl FileHand {
+    ghost use Rattle.std.specs.Prelude.{◌≡◌, ◌+◌, ◌-◌, ◌≤◌, ◌<◌, ◌^◌, [], length, All, false, IfOk, IfErr, OnOk, OnErr, Some, None, true, if◌then◌else◌, unwrap_or, slice_get};
+    ghost use Rattle.std.specs.FinSet as set;
+    ghost use Rattle.ufs_model.specs.Bounds.{IsBounded};
+    ghost use Rattle.ufs_model.specs.Descriptors as descriptors;
+    ghost use Rattle.ufs_model.specs.FileBytes as file_bytes;
+    ghost use Rattle.ufs_model.specs.FileBytes.{max_size};
+    ghost use Rattle.ufs_model.specs.declared.data.Reply.TheVariants.{Got};
+    ghost use Rattle.ufs_model.specs.declared.data.Excuse.TheVariants as excuse;
+    ghost use Rattle.ufs_extent.specs.Runs.{IsRun, blocks_of, appended_all};
+    ghost use Rattle.ufs_file.specs.Content.{no_content, block_count, shortened, written_over};
+    ghost use Rattle.ufs_bitmap.specs.Taking.{IsApart, Takes, set_of};
+    ghost use Rattle.ufs_model.specs.FileCalls.{is_on_file, place_refusal, file_refusal, file_answer, desc_after};
+    ghost use Rattle.ufs_file.specs.Hand.{FileState, IsCause, IsChanged, lengthened, content_put, content_sized, content_after, missing, IsServed, IsExcusedFor, IsEntryOf, IsOf, IsFileOf, IsPosix};
+    ghost use Rattle.ufs_model.specs.PosixTree.{PosixTree};
+    ghost use Rattle.ufs_model.specs.Asks.{IsAsk};
+    ghost use Rattle.ufs_model.specs.Excuses.{ExcuseFits};
+    ghost use Rattle.ufs_bitmap.specs.Blocks.{BlockSet};
+    ghost use Rattle.ufs_model.specs.History.{is_excused};
+    ghost use Rattle.ufs_model.specs.declared.data.Reply.TheVariants as reply;
+    ghost use Rattle.ufs_model.specs.declared.data.Desc.{Desc};
+    ghost use Rattle.ufs_model.specs.declared.data.Excuse.{Excuse};
+
+    /// A file with no byte and no block.
+    pub fn make(alloc: Global, file: u32, inode: u32) -> Result<FileHand, Memory>
+        ensures empty { IfOk result (λ h. h ≡ record { file = file; inode = inode; extents = []; content = no_content }) }
+        ensures apart { IfOk result (λ h. (pool : BlockSet) → IsApart pool (blocks_of h.extents)) }
+    {
+        Ok(FileHand {
+            alloc,
+            file,
+            inode,
+            extents: Extents::make(alloc)?,
+            blocks: Blocks::new(alloc),
+        })
+    }
+
+    /// Serves a request on a descriptor of the file: the reply and the descriptor are those of the step of its bytes,
+    /// and the file goes on by it; blocks that it lacks come from the pool, and those that it has no use for go back.
+    /// Where room is wanting the reply is the excuse for its cause, and nothing has changed. The caller gives the ticket.
+    pub fn apply(&mut self, ask: Ask, by: Actor, ticket: u64, pool: &mut Pool) -> Applied
+        requires kind { is_on_file ask.op ≡ true }
+        requires bounded { IsBounded ask.op }
+        requires named { IsOf ask.desc self.old.file }
+        requires apart { IsApart pool.old (blocks_of self.old.extents) }
+        ensures entry { IsEntryOf ask by ticket result.entry }
+        ensures served { is_excused result.entry.reply ≡ false → (d : Desc) → ask.desc ≡ Some d → IsServed self.old self.new pool.old pool.new d ask.op result.entry.reply result.desc }
+        ensures excused { (x : Excuse) → result.entry.reply ≡ reply.Excused x → (d : Desc) → ask.desc ≡ Some d → IsExcusedFor self.old d ask.op pool.old x }
+        ensures posix { is_excused result.entry.reply ≡ false → (t : PosixTree) → IsFileOf self.old t → IsAsk t ask → IsPosix t ask self.new result.entry.reply result.desc }
+        ensures fits { (x : Excuse) → result.entry.reply ≡ reply.Excused x → (t : PosixTree) → IsFileOf self.old t → IsAsk t ask → ExcuseFits t ask.client ask.op x }
+        ensures number { self.new.file ≡ self.old.file }
+        ensures inode { self.new.inode ≡ self.old.inode }
+        ensures together { set.union pool.new (set_of self.new.extents) ≡ set.union pool.old (set_of self.old.extents) }
+        ensures few { length self.new.extents ≤ MAX_EXTENTS }
+        ensures file { is_excused result.entry.reply ≡ true → self.new ≡ self.old }
+        ensures pool { is_excused result.entry.reply ≡ true → pool.new ≡ pool.old }
+        ensures desc { is_excused result.entry.reply ≡ true → result.desc ≡ ask.desc }
+        ensures apart { IsApart pool.new (blocks_of self.new.extents) }
+    {
+        a_file_goes_on_by_itself();
+        self.stays();
+        self.few();
+        let Some(desc) = ask.desc else { unreachable!() };
+        let outcome = self.serve(&ask.op, desc, pool);
+        self.few();
+        match outcome {
+            Ok(served) => answered(ask, by, ticket, served.reply, Some(served.desc)),
+            Err(excuse) => answered(ask, by, ticket, Reply::Excused(excuse), Some(desc)),
+        }
+    }
+
+    /// Its number in the tree.
+    pub fn file(&self) -> u32
+        ensures { result ≡ self.now.file }
+    {
+        self.file
+    }
+
+    /// The number of its inode.
+    pub fn inode(&self) -> u32
+        ensures { result ≡ self.now.inode }
+    {
+        self.inode
+    }
+
+    /// Its size, in bytes; it has the blocks for that.
+    pub fn size(&self) -> u64
+        ensures size { result ≡ length self.now.content.bytes }
+        ensures small { result ≤ max_size }
+        ensures blocks { length (blocks_of self.now.extents) ≡ block_count (length self.now.content.bytes) }
+    {
+        self.blocks.size()
+    }
+
+    /// Where its blocks lie, in order.
+    pub fn extents(&self) -> &[Run]
+        ensures runs { result.now ≡ self.now.extents }
+        ensures few { length result.now ≤ MAX_EXTENTS }
+    {
+        self.extents.as_slice()
+    }
+
+    /// Whether the block at this place was written since it was read or made.
+    pub fn is_dirty(&self, place: usize) -> Option<bool>
+        ensures { result ≡ slice_get self.now.content.dirty place }
+    {
+        self.blocks.is_dirty(place)
+    }
+
+    /// All its blocks; the file is no more. Takes no memory.
+    pub fn drop_blocks(self) -> Extents
+        ensures { result ≡ self.extents }
+    {
+        self.extents
+    }
+
+    /// A file has no more extents than an inode has room for.
+    fn few(&self)
+        ensures { length self.now.extents ≤ MAX_EXTENTS }
+    {
+        let kept = self.extents.as_slice();
+        let _few = kept.len();
+    }
+
+    /// Where a `write` begins.
+    fn place(&self, desc: Desc) -> u64
+        ensures { result ≡ file_bytes.place_of desc self.now.content.bytes }
+    {
+        place_of(desc, self.blocks.size())
+    }
+
+    /// Where a `seek` leads; `None` where it is refused.
+    fn seek_place(&self, whence: Whence, by: i64, desc: Desc) -> Option<u64>
+        ensures { result ≡ (if descriptors.is_offset (descriptors.seek_to whence by desc (length self.now.content.bytes))
+            then descriptors.seek_to whence by desc (length self.now.content.bytes) else None) }
+    {
+        seek_to(whence, by, desc, self.blocks.size())
+    }
+
+    /// Where a `seek` leads that isn't refused.
+    fn offset(&self, whence: Whence, by: i64, desc: Desc) -> u64
+        requires { descriptors.is_offset (descriptors.seek_to whence by desc (length self.now.content.bytes)) ≡ true }
+        ensures { result ≡ unwrap_or (descriptors.seek_to whence by desc (length self.now.content.bytes)) 0 }
+    {
+        match self.seek_place(whence, by, desc) {
+            Some(at) => at,
+            None => 0,
+        }
+    }
+
+    /// By where the request leads.
+    fn place_refusal(&self, op: &Op, desc: Desc) -> Option<Errno>
+        ensures { result ≡ place_refusal self.now.content.bytes desc op.now }
+    {
+        match op {
+            Op::Write { bytes, .. } => size_refusal(is_past(self.place(desc), bytes)),
+            Op::Pwrite { bytes, at, .. } => size_refusal(is_past(*at, bytes)),
+            Op::Trunc { size, .. } => size_refusal(*size > MAX_SIZE),
+            Op::Seek { whence, by, .. } => match self.seek_place(*whence, *by, desc) {
+                Some(_) => None,
+                None => Some(Errno::Einval),
+            },
+            _ => None,
+        }
+    }
+
+    /// At most n bytes, from a place on.
+    fn read(&self, at: u64, n: u32) -> Result<Reply, Memory>
+        ensures { IfOk result (λ reply. reply ≡ Got (file_bytes.part self.now.content.bytes at n)) }
+    {
+        let got = self.blocks.read(at, n)?;
+        Ok(Reply::Got(Bytes::from_vec(got)))
+    }
+
+    fn answer(&self, op: &Op, desc: Desc) -> Result<Reply, Memory>
+        requires bounded { IsBounded op.now }
+        requires allowed { place_refusal self.now.content.bytes desc op.now ≡ None }
+        ensures { IfOk result (λ reply. reply ≡ file_answer self.now.content.bytes desc op.now) }
+    {
+        match op {
+            Op::Read { n, .. } => self.read(desc.at, *n),
+            Op::Pread { n, at, .. } => self.read(*at, *n),
+            Op::Write { bytes, .. } | Op::Pwrite { bytes, .. } => {
+                Ok(Reply::Count(bytes.as_slice().len() as u32))
+            }
+            Op::Seek { whence, by, .. } => Ok(Reply::At(self.offset(*whence, *by, desc))),
+            _ => Ok(Reply::Done),
+        }
+    }
+
+    /// What the request's descriptor stands for afterwards.
+    fn desc_after(&self, op: &Op, desc: Desc) -> Desc
+        requires allowed { place_refusal self.now.content.bytes desc op.now ≡ None }
+        ensures { result ≡ desc_after self.now.content.bytes desc op.now }
+    {
+        match op {
+            Op::Read { n, .. } => {
+                let count = self.blocks.count_from(desc.at, *n);
+                moved(desc, desc.at + count as u64)
+            }
+            Op::Write { bytes, .. } if !bytes.as_slice().is_empty() => {
+                moved(desc, self.place(desc) + bytes.as_slice().len() as u64)
+            }
+            Op::Seek { whence, by, .. } => moved(desc, self.offset(*whence, *by, desc)),
+            _ => desc,
+        }
+    }
+
+    /// The reply to a request, and what its descriptor stands for afterwards, where no room is wanting.
+    fn serve(&mut self, op: &Op, desc: Desc, pool: &mut Pool) -> Result<Served, Excuse>
+        requires kind { is_on_file op.now ≡ true }
+        requires bounded { IsBounded op.now }
+        requires apart { IsApart pool.old (blocks_of self.old.extents) }
+        ensures ok { IfOk result (λ s. IsServed self.old self.new pool.old pool.new desc op.now s.reply (Some s.desc)) }
+        ensures apart { OnOk result (IsApart pool.new (blocks_of self.new.extents)) }
+        ensures number { self.new.file ≡ self.old.file }
+        ensures inode { self.new.inode ≡ self.old.inode }
+        ensures together { set.union pool.new (set_of self.new.extents) ≡ set.union pool.old (set_of self.old.extents) }
+        ensures cause { IfErr result (λ x. IsExcusedFor self.old desc op.now pool.old x) }
+        ensures err { OnErr result (self.new ≡ self.old) }
+        ensures pool { OnErr result (pool.new ≡ pool.old) }
+    {
+        if let Some(errno) = self.refusal(op, desc) {
+            self.stays();
+            return Ok(Served {
+                reply: Reply::Refused(errno),
+                desc,
+            });
+        }
+        let Ok(reply) = self.answer(op, desc) else {
+            return Err(Excuse::Memory);
+        };
+        let after = self.desc_after(op, desc);
+        match self.change(op, desc, pool) {
+            Ok(()) => Ok(Served { reply, desc: after }),
+            Err(excuse) => Err(excuse),
+        }
+    }
+
+    /// Why a request is refused.
+    fn refusal(&self, op: &Op, desc: Desc) -> Option<Errno>
+        requires { is_on_file op.now ≡ true }
+        ensures { result ≡ file_refusal self.now.content.bytes desc op.now }
+    {
+        match desc_refusal(op, Some(desc)) {
+            Some(errno) => Some(errno),
+            None => self.place_refusal(op, desc),
+        }
+    }
+
+    /// How many extents the file would have with these runs behind the others.
+    fn count_with(&self, runs: &[Run]) -> u32
+        requires runs { All IsRun runs.now }
+        requires few { length runs.now ≤ 2 ^ 16 }
+        ensures { result ≡ length (appended_all self.now.extents runs.now) }
+    {
+        let kept = self.extents.as_slice();
+        let _few = kept.len();
+        self.extents.count_with(runs) as u32
+    }
+
+    /// Takes so many blocks out of the pool, where the file has extents for them.
+    fn take(&self, need: u32, pool: &mut Pool) -> Result<Vec<Run>, Excuse>
+        requires { need ≤ 2 ^ 16 }
+        ensures taken { IfOk result (λ runs. Takes pool.old need runs.items pool.new 0) }
+        ensures runs { IfOk result (λ runs. All IsRun runs.items) }
+        ensures few { IfOk result (λ runs. length (appended_all self.now.extents runs.items) ≤ MAX_EXTENTS) }
+        ensures cause { IfErr result (λ x. IsCause self.now.extents need pool.old x) }
+        ensures pool { OnErr result (pool.new ≡ pool.old) }
+    {
+        let had = pool.count();
+        if had < need {
+            return Err(Excuse::Blocks { need, had });
+        }
+        let Ok(runs) = take_runs(self.alloc, pool, need) else {
+            return Err(Excuse::Memory);
+        };
+        let count = self.count_with(runs.as_slice());
+        if count > MAX_EXTENTS as u32 {
+            give_runs(pool, runs.as_slice());
+            return Err(Excuse::Extents { need: count });
+        }
+        Ok(runs)
+    }
+
+    /// Lengthens the file, where it is shorter, with zeros in new blocks.
+    fn lengthen(&mut self, size: u64, pool: &mut Pool) -> Result<(), Excuse>
+        requires small { size ≤ max_size }
+        requires apart { IsApart pool.old (blocks_of self.old.extents) }
+        ensures ok { OnOk result (IsChanged self.old self.new pool.old pool.new (lengthened self.old.content size)) }
+        ensures apart { OnOk result (IsApart pool.new (blocks_of self.new.extents)) }
+        ensures cause { IfErr result (λ x. IsCause self.old.extents (block_count (length (lengthened self.old.content size).bytes) - length (blocks_of self.old.extents)) pool.old x) }
+        ensures err { OnErr result (self.new ≡ self.old) }
+        ensures pool { OnErr result (pool.new ≡ pool.old) }
+    {
+        if size <= self.blocks.size() {
+            return Ok(());
+        }
+        let need = size.div_ceil(BLOCK as u64) as u32 - self.extents.block_count();
+        let runs = match self.take(need, pool) {
+            Ok(runs) => runs,
+            Err(excuse) => return Err(excuse),
+        };
+        let Ok(()) = self.blocks.grow(size) else {
+            give_runs(pool, runs.as_slice());
+            return Err(Excuse::Memory);
+        };
+        append_all(&mut self.extents, runs.as_slice());
+        Ok(())
+    }
+
+    /// Cuts the file; the blocks that it has no use for are the pool's.
+    fn shorten(&mut self, size: u64, pool: &mut Pool) -> Result<(), Excuse>
+        requires shorter { size < length self.old.content.bytes }
+        requires small { size ≤ max_size }
+        requires whole { length self.old.content.dirty ≡ block_count (length self.old.content.bytes) }
+        requires apart { IsApart pool.old (blocks_of self.old.extents) }
+        ensures ok { OnOk result (IsChanged self.old self.new pool.old pool.new (shortened self.old.content size)) }
+        ensures apart { OnOk result (IsApart pool.new (blocks_of self.new.extents)) }
+        ensures cause { IfErr result (λ x. x ≡ excuse.Memory) }
+        ensures err { OnErr result (self.new ≡ self.old) }
+        ensures pool { OnErr result (pool.new ≡ pool.old) }
+    {
+        let Ok(rest) = self.extents.cut(size.div_ceil(BLOCK as u64) as u32) else {
+            return Err(Excuse::Memory);
+        };
+        give_runs(pool, rest.as_slice());
+        self.blocks.cut(size);
+        Ok(())
+    }
+
+    /// Cuts the file, or extends it with zeros.
+    fn resize(&mut self, size: u64, pool: &mut Pool) -> Result<(), Excuse>
+        requires small { size ≤ max_size }
+        requires apart { IsApart pool.old (blocks_of self.old.extents) }
+        ensures ok { OnOk result (IsChanged self.old self.new pool.old pool.new (content_sized self.old.content size)) }
+        ensures apart { OnOk result (IsApart pool.new (blocks_of self.new.extents)) }
+        ensures cause { IfErr result (λ x. IsCause self.old.extents (block_count (length (content_sized self.old.content size).bytes) - length (blocks_of self.old.extents)) pool.old x) }
+        ensures err { OnErr result (self.new ≡ self.old) }
+        ensures pool { OnErr result (pool.new ≡ pool.old) }
+    {
+        let held = self.blocks.size();
+        if size < held {
+            self.shorten(size, pool)
+        } else {
+            self.lengthen(size, pool)
+        }
+    }
+
+    /// What a request that isn't refused changes.
+    fn change(&mut self, op: &Op, desc: Desc, pool: &mut Pool) -> Result<(), Excuse>
+        requires allowed { place_refusal self.old.content.bytes desc op.now ≡ None }
+        requires apart { IsApart pool.old (blocks_of self.old.extents) }
+        ensures ok { OnOk result (IsChanged self.old self.new pool.old pool.new (content_after self.old.content desc op.now)) }
+        ensures apart { OnOk result (IsApart pool.new (blocks_of self.new.extents)) }
+        ensures cause { IfErr result (λ x. IsCause self.old.extents (missing self.old desc op.now) pool.old x) }
+        ensures err { OnErr result (self.new ≡ self.old) }
+        ensures pool { OnErr result (pool.new ≡ pool.old) }
+    {
+        match op {
+            Op::Write { bytes, .. } => self.put(self.place(desc), bytes.as_slice(), pool),
+            Op::Pwrite { bytes, at, .. } => self.put(*at, bytes.as_slice(), pool),
+            Op::Trunc { size, .. } => self.resize(*size, pool),
+            _ => {
+                self.stays();
+                Ok(())
+            }
+        }
+    }
+
+    /// A file has the blocks for its size.
+    fn stays(&self)
+        ensures { length (blocks_of self.now.extents) ≡ block_count (length self.now.content.bytes) }
+    {
+        let _size = self.blocks.size();
+    }
+
+    /// Writes over bytes that are there.
+    fn overwrite(&mut self, at: u64, fresh: &[u8])
+        requires some { 0 < length fresh.now }
+        requires inside { at + length fresh.now ≤ length self.old.content.bytes }
+        ensures { self.new ≡ record self.old { content = written_over self.old.content at fresh.now } }
+    {
+        let _size = self.blocks.size();
+        self.blocks.write(at, fresh);
+    }
+
+    /// Writes bytes from a place on; no byte changes nothing.
+    fn put(&mut self, at: u64, fresh: &[u8], pool: &mut Pool) -> Result<(), Excuse>
+        requires place { file_bytes.is_past at fresh.now ≡ false }
+        requires apart { IsApart pool.old (blocks_of self.old.extents) }
+        ensures ok { OnOk result (IsChanged self.old self.new pool.old pool.new (content_put self.old.content at fresh.now)) }
+        ensures apart { OnOk result (IsApart pool.new (blocks_of self.new.extents)) }
+        ensures cause { IfErr result (λ x. IsCause self.old.extents (block_count (length (content_put self.old.content at fresh.now).bytes) - length (blocks_of self.old.extents)) pool.old x) }
+        ensures err { OnErr result (self.new ≡ self.old) }
+        ensures pool { OnErr result (pool.new ≡ pool.old) }
+    {
+        if fresh.is_empty() {
+            self.stays();
+            return Ok(());
+        }
+        match self.lengthen(at + fresh.len() as u64, pool) {
+            Ok(()) => {
+                self.overwrite(at, fresh);
+                Ok(())
+            }
+            Err(excuse) => Err(excuse),
+        }
+    }
+}
+
+fn answered(ask: Ask, by: Actor, ticket: u64, reply: Reply, desc: Option<Desc>) -> Applied
+    ensures entry { IsEntryOf ask by ticket result.entry }
+    ensures reply { result.entry.reply ≡ reply }
+    ensures desc { result.desc ≡ desc }
+{
+    Applied {
+        entry: Entry {
+            ticket,
+            client: ask.client,
+            seq: ask.seq,
+            by,
+            op: ask.op,
+            reply,
+        },
+        desc,
+    }
+}
+
+/// Appends runs for which there is room.
+fn append_all(extents: &mut Extents, runs: &[Run])
+    requires runs { All IsRun runs.now }
+    requires few { length (appended_all extents.old runs.now) ≤ MAX_EXTENTS }
+    ensures { extents.new ≡ appended_all extents.old runs.now }
+{
+    for run in runs {
+        match extents.append(*run) {
+            Ok(()) => {}
+            Err(Full56) => unreachable!(),
+        }
+    }
+}
+
+/// The descriptor with that offset.
+fn moved(desc: Desc, at: u64) -> Desc
+    ensures { result ≡ descriptors.moved desc at }
+{
+    Desc { at, ..desc }
+}

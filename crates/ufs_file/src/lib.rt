@@ -1,0 +1,8 @@
+//! One file, as a server holds it: its blocks in memory, where they lie, and what it answers.
+#![tactic(auto)]
+
+mod blocks;
+mod content;
+mod hand;
+
+pub use hand::{Applied, FileHand};
