@@ -69,6 +69,17 @@ impl DirTree {
         Ok(DirTree { alloc, dirs, free })
     }
 
+    /// Of directories that were read, by inode from 0, and of the free inodes.
+    pub fn from_parts(alloc: Global, dirs: Vec<DirBlocks>, free: Bitmap) -> DirTree
+        requires table { IsDirTable (record { dirs = dirs.items; free = free.free }) }
+        requires first { free.first ≡ 2 }
+        requires last { free.blocks ≡ length dirs.items }
+        requires few { length dirs.items ≤ 65536 }
+        ensures { result ≡ record { dirs = dirs.items; free = free.free } }
+    {
+        DirTree { alloc, dirs, free }
+    }
+
     // ---- answers
 
     /// What the name stands for in the directory.
@@ -90,6 +101,8 @@ impl DirTree {
         ensures refused { IfErr result (λ e. refusal_by (found_at self.now) [] path.now ≡ Some e) }
         ensures passed { IfOk result (λ o. refusal_by (found_at self.now) [] path.now ≡ None) }
         ensures found { IfOk result (λ o. o ≡ found_at self.now path.now) }
+        // so its last name is one of a directory
+        ensures parent { IfOk result (λ o. path.now ≢ [] → IsDirAt self.now (names_above path.now)) }
         ensures table { IsDirTable self.now }
     {
         let _ = &self.alloc;
