@@ -20,3 +20,4 @@ pub mod FreedInodes
 pub mod GotRoom
 pub mod GivesRoom
 pub mod DroppedEntries
+pub mod UnmetInodes

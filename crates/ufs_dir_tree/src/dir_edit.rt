@@ -14,9 +14,10 @@ impl DirTree {
     ghost use Rattle.std.specs.FinSet as set;
     ghost use Rattle.ufs_dirs.specs.Directory.{entry_of};
     ghost use Rattle.ufs_dir_tree.specs.Space.{TakesLowest};
-    ghost use Rattle.ufs_dir_tree.specs.DirTable.{DirTable, IsDirTable, IsUsed, dir_at, slots_at, found_of, found_at};
+    ghost use Rattle.ufs_dir_tree.specs.DirTable.{DirTable, IsDirTable, IsUsed, dir_at, slots_at, found_of, inode_of, found_at};
     ghost use Rattle.ufs_dir_tree.specs.DirCalls.{names_above, found_as, IsBare, IsDirAt, IsUnmet, MayGo, SetsFound, MovesFounds, MayMove, IsApart, HasRoom, GetsRoom, SpendsBlock, SpendsNone, FreesInode, Frees, IsRoomCause, IsSpaceCause, LacksRoom, LacksSpace};
     ghost use Rattle.ufs_dir_tree.specs.DirEdits.{IsMet, IsLoose, NothingFrom, SameEntries, ChangesOne, SetsEntry, ClearsName};
+    ghost use Rattle.ufs_dir_tree.specs.declared.found.Found.{Found};
     ghost use Rattle.ufs_dir_tree.specs.declared.found.Found.TheVariants as found;
     ghost use Rattle.ufs_path.specs.Names.{IsName};
 
@@ -29,6 +30,7 @@ impl DirTree {
         requires apart { IsApart self.old pool.old }
         ensures ok { IfOk result (λ i. SetsFound (found_at self.old) (found_at self.new) path.now (Some (found_as kind i))) }
         ensures inode { IfOk result (TakesLowest self.old.free self.new.free) }
+        ensures inodes { length self.new.dirs ≡ length self.old.dirs }
         ensures block { OnOk result (SpendsBlock self.old self.new pool.old pool.new (names_above path.now)) }
         ensures cause { IfErr result (LacksSpace self.old pool.old (names_above path.now)) }
         ensures err { OnErr result (self.new ≡ self.old) }
@@ -54,6 +56,9 @@ impl DirTree {
         requires apart { IsApart self.old pool.old }
         ensures found { SetsFound (found_at self.old) (found_at self.new) path.now None }
         ensures freed { Frees self.old self.new pool.old pool.new (found_at self.old path.now) }
+        // no name stands for it any more
+        ensures unmet { (f : Found) → found_at self.old path.now ≡ Some f → IsUnmet self.new (inode_of f) }
+        ensures inodes { length self.new.dirs ≡ length self.old.dirs }
         ensures apart { IsApart self.new pool.new }
     {
         let dir = self.parent(path);
@@ -67,8 +72,10 @@ impl DirTree {
         requires apart { IsApart self.old pool.old }
         ensures ok { OnOk result (MovesFounds (found_at self.old) (found_at self.new) from.now to.now) }
         ensures replaced { OnOk result (IsSome (found_at self.old to.now) → Frees self.old self.new pool.old pool.new (found_at self.old to.now)) }
+        ensures unmet { OnOk result ((f : Found) → found_at self.old to.now ≡ Some f → IsUnmet self.new (inode_of f)) }
         ensures block { OnOk result (found_at self.old to.now ≡ None → SpendsBlock self.old self.new pool.old pool.new (names_above to.now)) }
         ensures free { OnOk result (found_at self.old to.now ≡ None → self.new.free ≡ self.old.free) }
+        ensures inodes { length self.new.dirs ≡ length self.old.dirs }
         ensures absent { OnErr result (found_at self.old to.now ≡ None) }
         ensures cause { IfErr result (LacksRoom self.old pool.old (names_above to.now)) }
         ensures err { OnErr result (self.new ≡ self.old) }
@@ -110,6 +117,7 @@ impl DirTree {
         requires may_go { (i : ℕ) → option_map found_of (entry_of (slots_at self.old dir) name.now) ≡ Some (found.Dir i) → IsBare (slots_at self.old i) }
         requires apart { IsApart self.old pool.old }
         ensures ok { OnOk result (ClearsName self.old self.new dir name.now) }
+        ensures inodes { length self.new.dirs ≡ length self.old.dirs }
         ensures freed { OnOk result (IsSome (entry_of (slots_at self.old dir) name.now) → Frees self.old self.new pool.old pool.new (option_map found_of (entry_of (slots_at self.old dir) name.now))) }
         ensures gets { OnOk result (entry_of (slots_at self.old dir) name.now ≡ None → GetsRoom (dir_at self.old dir) (dir_at self.new dir) pool.old pool.new) }
         ensures one { OnOk result (entry_of (slots_at self.old dir) name.now ≡ None → ChangesOne self.old.dirs self.new.dirs dir) }
@@ -228,6 +236,7 @@ impl DirTree {
         requires may_go { (i : ℕ) → option_map found_of (entry_of (slots_at self.old dir) name.now) ≡ Some (found.Dir i) → IsBare (slots_at self.old i) }
         requires apart { IsApart self.old pool.old }
         ensures clears { ClearsName self.old self.new dir name.now }
+        ensures inodes { length self.new.dirs ≡ length self.old.dirs }
         ensures freed { Frees self.old self.new pool.old pool.new (option_map found_of (entry_of (slots_at self.old dir) name.now)) }
         ensures apart { IsApart self.new pool.new }
     {

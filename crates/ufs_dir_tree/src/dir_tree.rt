@@ -52,7 +52,8 @@ impl DirTree {
     ghost use Rattle.ufs_dirs.specs.Directory.{entry_of};
     ghost use Rattle.ufs_extent.specs.Runs.{blocks_from};
     ghost use Rattle.ufs_dir_tree.specs.DirTable.{IsDirTable, dir_at, slots_at, blocks_at, found_at};
-    ghost use Rattle.ufs_dir_tree.specs.DirCalls.{refusal_by, names_above, IsBare, IsDirAt};
+    ghost use Rattle.ufs_dir_tree.specs.DirCalls.{refusal_by, names_above, IsApart, IsBare, IsDirAt};
+    ghost use Rattle.ufs_bitmap.specs.Blocks.{BlockSet};
 
     /// The root alone, of so many inodes.
     pub fn new(alloc: Global, inodes: u32) -> Result<DirTree, Memory>
@@ -63,6 +64,7 @@ impl DirTree {
         ensures inodes { IfOk result (λ t. length t.dirs ≡ inodes + 1) }
         ensures free { IfOk result (λ t. t.free ≡ set.from_list (blocks_from 2 (inodes + 1 - 2))) }
         ensures bare { IfOk result (λ t. (i : ℕ) → dir_at t i ≡ no_dir) }
+        ensures apart { IfOk result (λ t. (pool : BlockSet) → IsApart t pool) }
     {
         let free = Bitmap::all_free(alloc, ROOT + 1, inodes + 1)?;
         let dirs = bare_dirs(alloc, inodes as usize + 1)?;

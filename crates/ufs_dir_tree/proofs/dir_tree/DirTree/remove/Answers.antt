@@ -2,6 +2,7 @@ use Rattle.std.proofs.Common.{Option, sym, subst}
 use Rattle.ufs_dir_tree.specs.DirCalls.{names_above, Frees}
 use Rattle.ufs_dir_tree.specs.declared.found.Found.{Found}
 use Rattle.ufs_dir_tree.proofs.FoundEdits.{above_path_is_dir, entry_stands, entry_may_go, path_met, cleared}
+use Rattle.ufs_dir_tree.proofs.UnmetInodes.{removed_unmet}
 use Rattle.ufs_dir_tree.proofs.dir_tree.DirTree.remove.Goals as goal
 
 pub parent-dir-requires : goal.parent-dir-requires
@@ -27,3 +28,10 @@ returns-clause-freed c =
     let path = c.args.path.now in
     let same = path_met c.args.self.now path (names_above path) c.last.result.now c.parent-dir.result c.last.ensures.value c.parent-dir.ensures in
     subst (λ (o : Option Found). Frees c.args.self.now c.drop_entry.new.self c.args.pool.now c.drop_entry.new.pool o) (sym same) c.drop_entry.ensures.freed
+
+pub returns-clause-unmet : goal.returns-clause-unmet
+returns-clause-unmet c f stood =
+    let path = c.args.path.now in
+    let clears = c.drop_entry.ensures.clears in
+    removed_unmet c.args.self.now c.drop_entry.new.self path f clears.before
+    (cleared c.args.self.now c.drop_entry.new.self c.parent-dir.result c.last.result.now clears (names_above path) c.parent-dir.ensures path c.last.ensures.value c.requires.may_go) stood

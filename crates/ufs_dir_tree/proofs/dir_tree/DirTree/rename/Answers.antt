@@ -9,6 +9,7 @@ use Rattle.ufs_dir_tree.proofs.EntryEdits.{blocks-same}
 use Rattle.ufs_dir_tree.proofs.DroppedEntries.{frees_on}
 use Rattle.ufs_dir_tree.proofs.GotRoom.{gets_on, spends}
 use Rattle.ufs_dir_tree.proofs.FoundEdits.{above_path_is_dir, entry_may_go, entry_stands, entry_absent, path_absent, path_met}
+use Rattle.ufs_dir_tree.proofs.UnmetInodes.{replaced_unmet}
 use Rattle.ufs_dir_tree.proofs.dir_tree.DirTree.rename.Goals as goal
 use Rattle.ufs_dir_tree.proofs.dir_tree.DirTree.rename.Goals.{After-attach}
 
@@ -57,8 +58,8 @@ attach-requires-clause-absent c =
 abbrev moved : (c : After-attach) → List (List ℕ) → List (List ℕ) → Type 0
 moved c from to = MovesFounds (found_at c.args.self.now) (found_at c.attach.new.self) from to
 
-pub returns-clause-ok : goal.returns-clause-ok
-returns-clause-ok c =
+all_moved : (c : After-attach) → moved c c.args.from.now c.args.to.now
+all_moved c =
     let f = names_above c.args.from.now in
     let g = names_above c.args.to.now in
     let x = c.last.result.now in
@@ -69,6 +70,14 @@ returns-clause-ok c =
     let d = c.detach-entry in
     subst (λ from. moved c from c.args.to.now) (sym c.last.ensures.value) (subst (λ to. moved c (f ++ x ∷ []) to) (sym c.last-name.ensures.value)
     (moves_founds c.args.self.now f x g y c.parent-old.result c.parent-new.result may c.parent-old.ensures c.parent-new.ensures c.clear_name.new.self c.in-Ok.ensures.ok d.new.self d.ensures.entries d.result named d.ensures.was same d.ensures.free d.ensures.table d.ensures.loose c.attach.new.self c.attach.ensures.entries))
+
+pub returns-clause-ok : goal.returns-clause-ok
+returns-clause-ok c = all_moved c
+
+pub returns-clause-unmet : goal.returns-clause-unmet
+returns-clause-unmet c f stood =
+    let clears = c.in-Ok.ensures.ok in
+    replaced_unmet c.args.self.now c.attach.new.self c.args.from.now c.args.to.now f clears.before c.requires.may_move (all_moved c) stood
 
 -- after the name was cleared no block comes or goes
 same_blocks : (c : After-attach) (i : ℕ) → blocks_at c.attach.new.self i ≡ blocks_at c.clear_name.new.self i
