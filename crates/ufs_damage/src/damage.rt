@@ -1,5 +1,6 @@
 // Damage and lists of it.
-ghost use Rattle.std.specs.Prelude.{◌≡◌, ◌++◌, ◌∷◌, [], map, length, OnOk, OnErr};
+ghost use Rattle.std.specs.Prelude.{◌≡◌, ◌++◌, ◌∷◌, [], map, OnOk, OnErr};
+ghost use Rattle.std.specs.Option.{option_map, option_to_list};
 ghost use Rattle.ufs_damage.specs.Meaning.{meaning};
 
 use std::alloc::Global;
@@ -70,11 +71,21 @@ impl DamageList {
         self.items.as_slice()
     }
 
-    pub(crate) fn push(&mut self, damage: Damage) -> Result<(), Memory>
+    fn push(&mut self, damage: Damage) -> Result<(), Memory>
         ensures ok { OnOk result (self.new ≡ self.old ++ meaning damage ∷ []) }
         ensures err { OnErr result (self.new ≡ self.old) }
     {
         self.items.push(damage)?;
         Ok(())
+    }
+
+    // Puts the damage behind the others, where there is some.
+    pub(crate) fn push_some(&mut self, damage: Option<Damage>) -> Result<(), Memory>
+        ensures { OnOk result (self.new ≡ self.old ++ option_to_list (option_map meaning damage)) }
+    {
+        match damage {
+            Some(damage) => self.push(damage),
+            None => Ok(()),
+        }
     }
 }

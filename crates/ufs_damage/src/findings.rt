@@ -1,8 +1,9 @@
 // What was read of an image's inodes and directories.
-ghost use Rattle.std.specs.Prelude.{◌≡◌};
+ghost use Rattle.std.specs.Prelude.{◌≡◌, ◌<◌, ◌^◌, length, IfOk};
 ghost use Rattle.std.specs.List.{enumerate_from};
 
 use std::marker::Model;
+use ufs_base::Memory;
 use ufs_layout::{Dentry, Inode};
 
 /// A directory and the slots of its blocks, those of its first block first, `None` where a slot is off its
@@ -14,20 +15,26 @@ pub struct ReadDir {
 }
 
 impl Model for ReadDir {
+    ghost use Rattle.std.specs.Prelude.{◌<◌, ◌^◌, length};
     ghost use Rattle.std.specs.List.{enumerate_from};
     ghost use Rattle.ufs_image.specs.Nodes.{Dir};
 
     ghost Value = { Dir };
 
     ghost view = { λ d. record { inode = d.inode; slots = enumerate_from 0 d.slots.items } };
+
+    ghost invariant = { λ d. length d.slots.items < 2 ^ 32 };
 }
 
 impl ReadDir {
-    /// Takes no memory.
-    pub fn from_slots(inode: u32, slots: Vec<Option<Dentry>>) -> ReadDir
-        ensures { result ≡ record { inode = inode; slots = enumerate_from 0 slots.items } }
+    /// Takes no memory; `Memory` where there are more slots than a place can count.
+    pub fn from_slots(inode: u32, slots: Vec<Option<Dentry>>) -> Result<ReadDir, Memory>
+        ensures { IfOk result (λ dir. dir ≡ record { inode = inode; slots = enumerate_from 0 slots.items }) }
     {
-        ReadDir { inode, slots }
+        if slots.len() > u32::MAX as usize {
+            return Err(Memory);
+        }
+        Ok(ReadDir { inode, slots })
     }
 
     /// The directory's inode.
@@ -39,7 +46,8 @@ impl ReadDir {
 
     /// The slots by rising place.
     pub fn slots(&self) -> &[Option<Dentry>]
-        ensures { enumerate_from 0 result.now ≡ self.now.slots }
+        ensures places { enumerate_from 0 result.now ≡ self.now.slots }
+        ensures few { length result.now < 2 ^ 32 }
     {
         self.slots.as_slice()
     }
