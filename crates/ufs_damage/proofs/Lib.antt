@@ -5,4 +5,4 @@ mod NamesTwice
 mod LowestBlamed
 pub mod AllDamage
 mod UsedBlocks
-mod Bits
+pub mod Bits

@@ -15,26 +15,20 @@ pub struct ReadDir {
 }
 
 impl Model for ReadDir {
-    ghost use Rattle.std.specs.Prelude.{◌<◌, ◌^◌, length};
     ghost use Rattle.std.specs.List.{enumerate_from};
     ghost use Rattle.ufs_image.specs.Nodes.{Dir};
 
     ghost Value = { Dir };
 
     ghost view = { λ d. record { inode = d.inode; slots = enumerate_from 0 d.slots.items } };
-
-    ghost invariant = { λ d. length d.slots.items < 2 ^ 32 };
 }
 
 impl ReadDir {
-    /// Takes no memory; `Memory` where there are more slots than a place can count.
-    pub fn from_slots(inode: u32, slots: Vec<Option<Dentry>>) -> Result<ReadDir, Memory>
-        ensures { IfOk result (λ dir. dir ≡ record { inode = inode; slots = enumerate_from 0 slots.items }) }
+    /// Takes no memory.
+    pub fn from_slots(inode: u32, slots: Vec<Option<Dentry>>) -> ReadDir
+        ensures { result ≡ record { inode = inode; slots = enumerate_from 0 slots.items } }
     {
-        if slots.len() > u32::MAX as usize {
-            return Err(Memory);
-        }
-        Ok(ReadDir { inode, slots })
+        ReadDir { inode, slots }
     }
 
     /// The directory's inode.
@@ -46,10 +40,21 @@ impl ReadDir {
 
     /// The slots by rising place.
     pub fn slots(&self) -> &[Option<Dentry>]
-        ensures places { enumerate_from 0 result.now ≡ self.now.slots }
-        ensures few { length result.now < 2 ^ 32 }
+        ensures { enumerate_from 0 result.now ≡ self.now.slots }
     {
         self.slots.as_slice()
+    }
+
+    // The same, where a place can count them; more than that count as want of memory.
+    pub(crate) fn counted_slots(&self) -> Result<&[Option<Dentry>], Memory>
+        ensures places { IfOk result (λ slots. enumerate_from 0 slots.now ≡ self.now.slots) }
+        ensures few { IfOk result (λ slots. length slots.now < 2 ^ 32) }
+    {
+        let slots = self.slots.as_slice();
+        if slots.len() > u32::MAX as usize {
+            return Err(Memory);
+        }
+        Ok(slots)
     }
 }
 

@@ -133,7 +133,8 @@ fn push_dir_slots(
 ) -> Result<(), Memory>
     ensures { OnOk result (list.new ≡ list.old ++ slots_damage kind forms.now dir.now) }
 {
-    push_slots_of(list, kind, forms, dir.inode(), dir.slots())?;
+    let slots = dir.counted_slots()?;
+    push_slots_of(list, kind, forms, dir.inode(), slots)?;
     Ok(())
 }
 
