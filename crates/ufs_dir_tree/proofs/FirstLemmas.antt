@@ -3,6 +3,9 @@ use Rattle.std.proofs.Common.{◌≡◌, ◌≢◌, ℕ, ◌<◌, ◌+◌, ◌-�
 use Rattle.std.specs.Option.{option_map}
 use Rattle.std.specs.FinSet as set
 use Rattle.ufs_dirs.specs.Directory.{Directory, entry_of, has_block}
+use Rattle.std.proofs.lemmas.Bool.{true≢false}
+use Rattle.ufs_bitmap.specs.Blocks.{BlockSet}
+use Rattle.ufs_dir_tree.specs.DirCalls.{IsApart}
 use Rattle.ufs_extent.specs.Runs.{blocks_from}
 use Rattle.ufs_bitmap.proofs.SetLemmas.{has-blocks_between, has-blocks_from, between_below}
 use Rattle.ufs_dir_tree.specs.Space.{extents_of}
@@ -36,3 +39,7 @@ module _ (t : DirTable) (bare : (i : ℕ) → dir_at t i ≡ no_dir) where
     apart = λ i j b other has. ap (λ (d : Directory). has_block d.blocks b) (bare j);
     extents = λ i. let none = ap (λ (d : Directory). length (extents_of d.blocks)) (bare i) in omega (arith, none);
   }
+
+  -- no block is a directory's
+  pub nothing_apart : (pool : BlockSet) → IsApart t pool
+  nothing_apart pool i b has = let none = ap (λ (d : Directory). has_block d.blocks b) (bare i) in absurd (true≢false (sym has ∙ none))

@@ -1,7 +1,7 @@
 use Rattle.std.proofs.Common.{◌+◌, ap, sym, ◌∙◌, arith}
 use Rattle.ufs_bitmap.specs.Space.{Space}
 use Rattle.ufs_dir_tree.specs.DirTable.{DirTable}
-use Rattle.ufs_dir_tree.proofs.FirstLemmas.{first_is_table, nothing_else}
+use Rattle.ufs_dir_tree.proofs.FirstLemmas.{first_is_table, nothing_else, nothing_apart}
 use Rattle.ufs_dir_tree.proofs.dir_tree.DirTree.new.Goals as goal
 
 pub invariant_of-result : goal.invariant_of-result
@@ -15,3 +15,8 @@ pub returns-clause-others : goal.returns-clause-others
 returns-clause-others c names below =
     let t : DirTable = record { dirs = c.in_ok-dirs.dirs.items; free = c.in_ok-free.free.free } in
     nothing_else t c.in_ok-dirs.ensures.bare names below
+
+pub returns-clause-apart : goal.returns-clause-apart
+returns-clause-apart c pool =
+    let t : DirTable = record { dirs = c.in_ok-dirs.dirs.items; free = c.in_ok-free.free.free } in
+    nothing_apart t c.in_ok-dirs.ensures.bare pool
