@@ -4,9 +4,8 @@ use Rattle.std.specs.Option.{option_map}
 use Rattle.std.proofs.lemmas.List.{append-nil}
 use Rattle.ufs_layout.specs.DentryForm.{DentryForm}
 use Rattle.ufs_dirs.specs.Directory.{Directory, entry_of}
-use Rattle.ufs_model.proofs.Facts.Pieces.{last}
 use Rattle.ufs_dir_tree.specs.DirTable.{DirTable, InodeSet, IsDirTable, slots_at, found_of, walk_from, found_at}
-use Rattle.ufs_dir_tree.specs.DirCalls.{names_above, IsBare, IsDirAt, MayGo, SetsFound}
+use Rattle.ufs_dir_tree.specs.DirCalls.{IsBare, MayGo, SetsFound}
 use Rattle.ufs_dir_tree.specs.DirEdits.{SetsEntry, SameEntries, IsLoose, NothingFrom, ClearsName}
 use Rattle.ufs_dir_tree.specs.declared.found.Found.{Found}
 use Rattle.ufs_dir_tree.specs.declared.found.Found.TheVariants.{Dir, File}
@@ -32,20 +31,6 @@ module _ (t : DirTable) where
   -- what stands at a name of a directory
   pub entry_met : (above : List (List ℕ)) (x : List ℕ) (p : ℕ) → found_at t above ≡ Some (Dir p) → found_at t (above ++ x ∷ []) ≡ option_map found_of (entry_of (slots_at t p) x)
   entry_met above x p met = walk-append t (Some (Dir 1)) above (x ∷ []) ∙ ap (λ at. walk_from t at (x ∷ [])) met
-
-  -- only a directory has names
-  above_is_dir : (x : List ℕ) (at : Option Found) → IsSome (walk_from t at (x ∷ [])) → (i : ℕ) × (at ≡ Some (Dir i))
-  above_is_dir x None some = absurd cc
-  above_is_dir x (Some (Dir i)) some = (i, refl)
-  above_is_dir x (Some (File f)) some = absurd cc
-
-  pub parent_is_dir : (above : List (List ℕ)) (x : List ℕ) (path : List (List ℕ)) → path ≡ above ++ x ∷ [] → IsSome (found_at t path) → IsDirAt t above
-  parent_is_dir above x path e some =
-      above_is_dir x (found_at t above) (subst IsSome (ap (found_at t) e ∙ walk-append t (Some (Dir 1)) above (x ∷ [])) some)
-
-  pub above_path_is_dir : (path : List (List ℕ)) → path ≢ [] → IsSome (found_at t path) → IsDirAt t (names_above path)
-  above_path_is_dir [] below some = absurd (below refl)
-  above_path_is_dir (x ∷ xs) below some = let l = last x xs in parent_is_dir (names_above (x ∷ xs)) l.0 (x ∷ xs) l.1 some
 
   module _ (path above : List (List ℕ)) (x : List ℕ) (p : ℕ) (ends : path ≡ above ++ x ∷ []) (met : found_at t above ≡ Some (Dir p)) where
     pub path_met : found_at t path ≡ option_map found_of (entry_of (slots_at t p) x)

@@ -2,7 +2,6 @@ pub mod Prefixes
 pub mod WalkLemmas
 pub mod WalkEdits
 pub mod RefusalLemmas
-pub mod PassedWalks
 pub mod BareLemmas
 pub mod ListedLemmas
 pub mod SpaceLemmas

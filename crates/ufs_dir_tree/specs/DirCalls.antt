@@ -43,10 +43,6 @@ refusal_by at above (name ∷ next ∷ names) = first_of (dir_refusal (at (above
 abbrev pub IsBare : List DentryForm → Type 0
 IsBare slots = (name : List ℕ) → entry_of slots name ≡ None
 
--- a directory stands there
-abbrev pub IsDirAt : DirTable → List (List ℕ) → Type 0
-IsDirAt t names = (i : ℕ) × (found_at t names ≡ Some (Dir i))
-
 -- what may go: a file, or a directory without a name
 abbrev pub MayGo : DirTable → List (List ℕ) → Type 0
 MayGo t names = (i : ℕ) → found_at t names ≡ Some (Dir i) → IsBare (slots_at t i)
@@ -79,8 +75,6 @@ pub record MayMove (t : DirTable) (from to : List (List ℕ)) : Type 0 where
   pub stands : IsSome (found_at t from)
   pub from_below : from ≢ []
   pub to_below : to ≢ []
-  -- the directory of the new name is there
-  pub parent : IsDirAt t (names_above to)
   -- the new name isn't at or below the old one, and what stands there may go
   pub outside : (rest : List (List ℕ)) → to ≢ from ++ rest
   pub replaced : MayGo t to

@@ -15,17 +15,23 @@ impl DirTree {
     ghost use Rattle.ufs_dirs.specs.Directory.{entry_of};
     ghost use Rattle.ufs_dir_tree.specs.Space.{TakesLowest};
     ghost use Rattle.ufs_dir_tree.specs.DirTable.{DirTable, IsDirTable, IsUsed, dir_at, slots_at, found_of, inode_of, found_at};
-    ghost use Rattle.ufs_dir_tree.specs.DirCalls.{names_above, found_as, IsBare, IsDirAt, IsUnmet, MayGo, SetsFound, MovesFounds, MayMove, IsApart, HasRoom, GetsRoom, SpendsBlock, SpendsNone, FreesInode, Frees, IsRoomCause, IsSpaceCause, LacksRoom, LacksSpace};
+    ghost use Rattle.ufs_dir_tree.specs.DirCalls.{names_above, found_as, IsBare, IsUnmet, MayGo, SetsFound, MovesFounds, MayMove, IsApart, HasRoom, GetsRoom, SpendsBlock, SpendsNone, FreesInode, Frees, IsRoomCause, IsSpaceCause, LacksRoom, LacksSpace};
     ghost use Rattle.ufs_dir_tree.specs.DirEdits.{IsMet, IsLoose, NothingFrom, SameEntries, ChangesOne, SetsEntry, ClearsName};
     ghost use Rattle.ufs_dir_tree.specs.declared.found.Found.{Found};
     ghost use Rattle.ufs_dir_tree.specs.declared.found.Found.TheVariants as found;
     ghost use Rattle.ufs_path.specs.Names.{IsName};
 
-    /// Puts a new inode, the lowest free one, at a path at which nothing stands. Where each slot of its directory is
+    /// Puts a new inode, the lowest free one, at a path at which nothing stands, in the directory that `look` told. Where each slot of its directory is
     /// used that takes the pool's lowest block.
-    pub fn add(&mut self, path: &PathText, kind: Kind, pool: &mut Pool) -> Result<u32, Excuse>
+    pub fn add(
+        &mut self,
+        dir: u32,
+        path: &PathText,
+        kind: Kind,
+        pool: &mut Pool,
+    ) -> Result<u32, Excuse>
         requires below { path.now ≢ [] }
-        requires parent { IsDirAt self.old (names_above path.now) }
+        requires dir { found_at self.old (names_above path.now) ≡ Some (found.Dir dir) }
         requires absent { found_at self.old path.now ≡ None }
         requires apart { IsApart self.old pool.old }
         ensures ok { IfOk result (λ i. SetsFound (found_at self.old) (found_at self.new) path.now (Some (found_as kind i))) }
@@ -37,7 +43,6 @@ impl DirTree {
         ensures err_pool { OnErr result (pool.new ≡ pool.old) }
         ensures apart { IsApart self.new pool.new }
     {
-        let dir = self.parent(path);
         match self.make(dir, kind, pool) {
             Ok(inode) => {
                 self.attach(dir, path.last(), inode, kind.code());
@@ -49,8 +54,9 @@ impl DirTree {
 
     /// Takes away what stands at a path. A directory's inode is free then, and its blocks are the pool's; a file's
     /// inode isn't free yet. Takes no memory.
-    pub fn remove(&mut self, path: &PathText, pool: &mut Pool)
+    pub fn remove(&mut self, dir: u32, path: &PathText, pool: &mut Pool)
         requires below { path.now ≢ [] }
+        requires dir { found_at self.old (names_above path.now) ≡ Some (found.Dir dir) }
         requires stands { IsSome (found_at self.old path.now) }
         requires may_go { MayGo self.old path.now }
         requires apart { IsApart self.old pool.old }
@@ -61,13 +67,21 @@ impl DirTree {
         ensures inodes { length self.new.dirs ≡ length self.old.dirs }
         ensures apart { IsApart self.new pool.new }
     {
-        let dir = self.parent(path);
         self.drop_entry(dir, path.last(), pool);
     }
 
     /// Gives what stands at `from`, with all below it, the name `to`. What stood there goes as by `remove`; where
     /// nothing did, the directory gets a block as by `add`. It moves one dentry, whatever lies below.
-    pub fn rename(&mut self, from: &PathText, to: &PathText, pool: &mut Pool) -> Result<(), Excuse>
+    pub fn rename(
+        &mut self,
+        from_dir: u32,
+        from: &PathText,
+        to_dir: u32,
+        to: &PathText,
+        pool: &mut Pool,
+    ) -> Result<(), Excuse>
+        requires from_dir { found_at self.old (names_above from.now) ≡ Some (found.Dir from_dir) }
+        requires to_dir { found_at self.old (names_above to.now) ≡ Some (found.Dir to_dir) }
         requires may_move { MayMove self.old from.now to.now }
         requires apart { IsApart self.old pool.old }
         ensures ok { OnOk result (MovesFounds (found_at self.old) (found_at self.new) from.now to.now) }
@@ -82,15 +96,13 @@ impl DirTree {
         ensures err_pool { OnErr result (pool.new ≡ pool.old) }
         ensures apart { IsApart self.new pool.new }
     {
-        let old = self.parent(from);
-        let new = self.parent(to);
         let name = to.last();
-        match self.clear_name(new, name, pool) {
+        match self.clear_name(to_dir, name, pool) {
             Ok(()) => {}
             Err(excuse) => return Err(excuse),
         }
-        let entry = self.detach(old, from.last());
-        self.attach(new, name, entry.inode, entry.kind);
+        let entry = self.detach(from_dir, from.last());
+        self.attach(to_dir, name, entry.inode, entry.kind);
         Ok(())
     }
 

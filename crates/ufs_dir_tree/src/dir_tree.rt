@@ -7,7 +7,7 @@ ghost use Rattle.ufs_dir_tree.specs.DirEdits.{dir_in};
 ghost use Rattle.ufs_dir_tree.specs.DirCalls.{dir_refusal};
 ghost use Rattle.ufs_dir_tree.specs.declared.found.Found.TheVariants as found;
 
-use crate::found::Found;
+use crate::found::{Found, Look};
 use std::alloc::Global;
 use std::marker::Model;
 use ufs_base::Memory;
@@ -52,7 +52,7 @@ impl DirTree {
     ghost use Rattle.ufs_dirs.specs.Directory.{entry_of};
     ghost use Rattle.ufs_extent.specs.Runs.{blocks_from};
     ghost use Rattle.ufs_dir_tree.specs.DirTable.{IsDirTable, dir_at, slots_at, blocks_at, found_at};
-    ghost use Rattle.ufs_dir_tree.specs.DirCalls.{refusal_by, names_above, IsApart, IsBare, IsDirAt};
+    ghost use Rattle.ufs_dir_tree.specs.DirCalls.{refusal_by, names_above, IsApart, IsBare};
     ghost use Rattle.ufs_bitmap.specs.Blocks.{BlockSet};
 
     /// The root alone, of so many inodes.
@@ -97,38 +97,23 @@ impl DirTree {
         }
     }
 
-    /// What stands at the end of a path, by one look-up for each of its names. The error is that of the first name
-    /// but the last that is no directory (POSIX.1-2017, 4.13).
-    pub fn look(&self, path: &PathText) -> Result<Option<Found>, Errno>
+    /// What stands at the end of a path, and in which directory its last name is looked for, by one look-up for each
+    /// of its names. The error is that of the first name but the last that is no directory (POSIX.1-2017, 4.13).
+    pub fn look(&self, path: &PathText) -> Result<Look, Errno>
         ensures refused { IfErr result (λ e. refusal_by (found_at self.now) [] path.now ≡ Some e) }
-        ensures passed { IfOk result (λ o. refusal_by (found_at self.now) [] path.now ≡ None) }
-        ensures found { IfOk result (λ o. o ≡ found_at self.now path.now) }
-        // so its last name is one of a directory
-        ensures parent { IfOk result (λ o. path.now ≢ [] → IsDirAt self.now (names_above path.now)) }
+        ensures passed { IfOk result (λ l. refusal_by (found_at self.now) [] path.now ≡ None) }
+        ensures found { IfOk result (λ l. l.found ≡ found_at self.now path.now) }
+        ensures dir { IfOk result (λ l. path.now ≢ [] → found_at self.now (names_above path.now) ≡ Some (found.Dir l.dir)) }
         ensures table { IsDirTable self.now }
     {
         let _ = &self.alloc;
+        let mut dir = ROOT;
         let mut at = Some(Found::Dir { inode: ROOT });
         for i in 0..path.len() {
-            let dir = dir_met(at)?;
+            dir = dir_met(at)?;
             at = self.entry(dir, path.component(i));
         }
-        Ok(at)
-    }
-
-    /// The directory in which a path's last name is looked for.
-    pub(crate) fn parent(&self, path: &PathText) -> u32
-        requires { IsDirAt self.now (names_above path.now) }
-        ensures { found_at self.now (names_above path.now) ≡ Some (found.Dir result) }
-    {
-        let mut dir = ROOT;
-        for i in 0..path.len().saturating_sub(1) {
-            let Ok(next) = dir_met(self.entry(dir, path.component(i))) else {
-                unreachable!()
-            };
-            dir = next;
-        }
-        dir
+        Ok(Look { dir, found: at })
     }
 
     /// How many names the directory has.

@@ -8,6 +8,14 @@ pub enum Found {
     File { inode: u32 },
 }
 
+/// What a walk met: what stands at a path, and the directory in which its last name is looked for, which is the root
+/// for the root's own path.
+#[derive(Clone, Copy, Debug, PartialEq, Eq)]
+pub struct Look {
+    pub dir: u32,
+    pub found: Option<Found>,
+}
+
 /// What an inode is.
 #[derive(Clone, Copy, Debug, PartialEq, Eq)]
 pub enum Kind {

@@ -8,4 +8,4 @@ mod found;
 mod space;
 
 pub use dir_tree::DirTree;
-pub use found::{Found, Kind};
+pub use found::{Found, Kind, Look};

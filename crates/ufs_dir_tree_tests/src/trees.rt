@@ -14,9 +14,13 @@ use ufs_path::{PathText, read_path};
 
 // What a call came to that gave no inode.
 const REFUSED: u32 = 9_000;
+
 const NO_INODE: u32 = 9_001;
+
 const NO_BLOCK: u32 = 9_002;
+
 const NO_EXTENT: u32 = 9_003;
+
 const NO_MEMORY: u32 = 9_004;
 
 // A pool of so many blocks from 14 on, each so far from the one before it.
@@ -45,13 +49,13 @@ fn add(tree: &mut DirTree, pool: &mut Pool, alloc: Global, path: &[u8], kind: Ki
     if path.is_root() {
         return REFUSED;
     }
-    let Ok(found) = tree.look(&path) else {
+    let Ok(met) = tree.look(&path) else {
         return REFUSED;
     };
-    if found.is_some() {
+    if met.found.is_some() {
         return REFUSED;
     }
-    match tree.add(&path, kind, pool) {
+    match tree.add(met.dir, &path, kind, pool) {
         Ok(inode) => inode,
         Err(excuse) => number_of(excuse),
     }
@@ -89,13 +93,13 @@ fn drop_path(tree: &mut DirTree, pool: &mut Pool, alloc: Global, path: &[u8]) ->
     let Ok(met) = tree.look(&path) else {
         return None;
     };
-    let Some(found) = met else {
+    let Some(found) = met.found else {
         return None;
     };
     if !may_go(tree, found) {
         return None;
     }
-    tree.remove(&path, pool);
+    tree.remove(met.dir, &path, pool);
     if let Found::File { inode } = found {
         tree.free_inode(inode, pool);
     }
@@ -110,13 +114,21 @@ fn rename(tree: &mut DirTree, pool: &mut Pool, from: &PathText, to: &PathText) -
     if from.len() != 1 || to.len() != 1 || from.component(0) == to.component(0) {
         return false;
     }
-    let Ok(Some(_)) = tree.look(from) else {
+    let (Ok(old), Ok(new)) = (tree.look(from), tree.look(to)) else {
         return false;
     };
-    let Ok(None) = tree.look(to) else {
+    if old.found.is_none() || new.found.is_some() {
         return false;
-    };
-    tree.rename(from, to, pool).is_ok()
+    }
+    tree.rename(old.dir, from, new.dir, to, pool).is_ok()
+}
+
+// The directory's block, where it has one alone.
+fn only_block(tree: &DirTree, dir: u32) -> u32 {
+    match tree.blocks(dir) {
+        [block] => *block,
+        _ => 0,
+    }
 }
 
 // What stands at the path.
@@ -124,7 +136,10 @@ fn look(tree: &DirTree, alloc: Global, path: &[u8]) -> Option<Found> {
     let Ok(path) = read_path(alloc, path) else {
         return None;
     };
-    tree.look(&path).unwrap_or(None)
+    match tree.look(&path) {
+        Ok(met) => met.found,
+        Err(_) => None,
+    }
 }
 
 #[test]
@@ -135,20 +150,35 @@ fn inodes_and_blocks_are_the_lowest(rt: HostRuntime) -> Result<(), Fail> {
     assert_eq!(rt; add(&mut tree, &mut pool, alloc, b"/a", Kind::Dir), 2);
     assert_eq!(rt; add(&mut tree, &mut pool, alloc, b"/b", Kind::File), 3);
     assert_eq!(rt; add(&mut tree, &mut pool, alloc, b"/a/c", Kind::File), 4);
-    assert_eq!(rt; tree.blocks(1), [14]);
-    assert_eq!(rt; tree.blocks(2), [15]);
+    assert_eq!(rt; only_block(&tree, 1), 14);
+    assert_eq!(rt; only_block(&tree, 2), 15);
     assert_eq!(rt; pool.count(), 0);
-    assert_eq!(rt; add(&mut tree, &mut pool, alloc, b"/d", Kind::File), NO_INODE);
-    assert_eq!(rt; drop_path(&mut tree, &mut pool, alloc, b"/b"), Some(Found::File { inode: 3 }));
+    assert_eq!(rt;
+        add(&mut tree, &mut pool, alloc, b"/d", Kind::File),
+        NO_INODE
+    );
+    assert_eq!(rt;
+        drop_path(&mut tree, &mut pool, alloc, b"/b"),
+        Some(Found::File { inode: 3 })
+    );
     assert_eq!(rt; add(&mut tree, &mut pool, alloc, b"/d", Kind::Dir), 3);
     assert_eq!(rt; drop_path(&mut tree, &mut pool, alloc, b"/a"), None);
-    assert_eq!(rt; drop_path(&mut tree, &mut pool, alloc, b"/a/c"), Some(Found::File { inode: 4 }));
+    assert_eq!(rt;
+        drop_path(&mut tree, &mut pool, alloc, b"/a/c"),
+        Some(Found::File { inode: 4 })
+    );
     // The directory has no name any more, and keeps its block.
-    assert_eq!(rt; add(&mut tree, &mut pool, alloc, b"/d/e", Kind::File), NO_BLOCK);
-    assert_eq!(rt; drop_path(&mut tree, &mut pool, alloc, b"/a"), Some(Found::Dir { inode: 2 }));
+    assert_eq!(rt;
+        add(&mut tree, &mut pool, alloc, b"/d/e", Kind::File),
+        NO_BLOCK
+    );
+    assert_eq!(rt;
+        drop_path(&mut tree, &mut pool, alloc, b"/a"),
+        Some(Found::Dir { inode: 2 })
+    );
     assert_eq!(rt; pool.count(), 1);
     assert_eq!(rt; add(&mut tree, &mut pool, alloc, b"/d/e", Kind::File), 2);
-    assert_eq!(rt; tree.blocks(3), [15]);
+    assert_eq!(rt; only_block(&tree, 3), 15);
     Ok(())
 }
 

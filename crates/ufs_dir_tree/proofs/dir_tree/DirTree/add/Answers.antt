@@ -10,13 +10,13 @@ use Rattle.ufs_dir_tree.proofs.dir_tree.DirTree.add.Goals as goal
 pub attach-requires-clause-met : goal.attach-requires-clause-met
 attach-requires-clause-met c =
     let above = names_above c.args.path.now in
-    (above, met_after c.args.self.now c.make.new.self c.make.ensures.same above ∙ c.parent-dir.ensures)
+    (above, met_after c.args.self.now c.make.new.self c.make.ensures.same above ∙ c.requires.dir)
 
 pub attach-requires-clause-absent : goal.attach-requires-clause-absent
 attach-requires-clause-absent c =
     let path = c.args.path.now in
-    c.make.ensures.same c.parent-dir.result c.last.result.now
-    ∙ entry_absent c.args.self.now path (names_above path) c.last.result.now c.parent-dir.result c.last.ensures.value c.parent-dir.ensures c.requires.absent
+    c.make.ensures.same c.args.dir c.last.result.now
+    ∙ entry_absent c.args.self.now path (names_above path) c.last.result.now c.args.dir c.last.ensures.value c.requires.dir c.requires.absent
 
 pub attach-requires-clause-loose : goal.attach-requires-clause-loose
 attach-requires-clause-loose c = subst (λ (f : Found). IsLoose c.make.new.self f) (sym (c.code.ensures c.in-Ok.inode c.last.result.now)) c.in-Ok.ensures.loose
@@ -28,5 +28,5 @@ returns-in-Ok-clause-ok c =
     let as_found = c.code.ensures c.in-Ok.inode c.last.result.now in
     let e : DentryForm = record { inode = c.in-Ok.inode; kind = c.code.result; name = c.last.result.now } in
     subst (λ (f : Found). SetsFound (found_at c.args.self.now) (found_at c.attach.new.self) path (Some f)) as_found
-    (added_found c.args.self.now t c.attach.new.self c.parent-dir.result (names_above path) c.last.result.now path e c.make.ensures.same c.attach.ensures.entries c.make.ensures.table c.parent-dir.ensures c.last.ensures.value c.requires.absent
+    (added_found c.args.self.now t c.attach.new.self c.args.dir (names_above path) c.last.result.now path e c.make.ensures.same c.attach.ensures.entries c.make.ensures.table c.requires.dir c.last.ensures.value c.requires.absent
     (subst (λ (f : Found). IsLoose t f) (sym as_found) c.in-Ok.ensures.loose) (subst (λ (f : Found). NothingFrom t (Some f)) (sym as_found) c.in-Ok.ensures.bare))
