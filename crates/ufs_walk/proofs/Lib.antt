@@ -1,0 +1,4 @@
+mod Named
+mod Maps
+mod Indexed
+pub mod Told
