@@ -1,4 +1,4 @@
 mod Named
-mod Maps
+pub mod Maps
 mod Indexed
 pub mod Told
