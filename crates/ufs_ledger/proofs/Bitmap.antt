@@ -16,7 +16,7 @@ use Rattle.ufs_image.proofs.Agreeing.{folded_agrees}
 use Rattle.ufs_image.proofs.Blocks.{block_same}
 use Rattle.ufs_ledger.specs.Ledger.{IsMixOf, IsLeft, Ledger, IsLeftBy}
 use Rattle.ufs_ledger.proofs.Alike.{spells_agree, taken_again, spelled_folds, no_bad}
-use Rattle.ufs_ledger.proofs.Homing.{read_alike}
+use Rattle.ufs_image.proofs.Home.{sectors_same}
 use Rattle.ufs_ledger.proofs.Overkept.{no_bad_alike}
 use Rattle.ufs_ledger.proofs.States.{on_one}
 
@@ -47,7 +47,7 @@ no_bitmap sectors l before image none by agree = inl (record {
     block_there block sector from of = let at = of.same in inr (omega (arith, from, at))
 
     read : sectors_of_epoch (geometry_of l.head) l.head.epoch image ≡ sectors_of_epoch (geometry_of l.head) l.head.epoch before
-    read = read_alike (geometry_of l.head) l.head.epoch image before
+    read = sectors_same (geometry_of l.head) l.head.epoch before image
         (λ s is. let at = from_range (8 * first_of_journal (geometry_of l.head)) (geometry_of l.head).journal s is in let from = at.0 in sym (agree s (inr (omega (arith, from)))))
 
     log_same : committed (geometry_of l.head) l.head.epoch image ≡ l.now.log

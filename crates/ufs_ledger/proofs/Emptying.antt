@@ -14,18 +14,18 @@ use Rattle.ufs_image.specs.Fold.{folded}
 use Rattle.ufs_layout.specs.declared.geometry.Geometry.{Geometry}
 use Rattle.ufs_layout.specs.declared.superblock.Super.{Super}
 use Rattle.ufs_journal.specs.Found.{journal_sector, IsFreeFrom}
+use Rattle.ufs_journal.specs.Frames.{AgreeInJournal}
 use Rattle.ufs_journal.specs.Kept.{IsReady}
 use Rattle.ufs_journal.specs.declared.journal.Journal.{Journal}
 use Rattle.ufs_image.proofs.Blocks.{block_same}
 use Rattle.ufs_overlay.specs.Over.{IsHomeWritten}
 use Rattle.ufs_ledger.specs.Ledger.{IsDataBlock, is_held, IsLeft, Ledger, IsLeftBy, IsLedgerOf}
 use Rattle.ufs_ledger.specs.Changes.{beginning, emptied}
-
 use Rattle.ufs_ledger.specs.Committing.{IsLedgerBy}
 use Rattle.ufs_ledger.proofs.Held.{unheld_block}
 use Rattle.ufs_ledger.proofs.Homing.{same_fold, left_homing, journal_there}
 use Rattle.ufs_ledger.proofs.States.{barrier_quiet, on_one, homes, begins}
-use Rattle.ufs_ledger.proofs.Frames.{SameJournal, ready_from}
+use Rattle.ufs_ledger.proofs.Frames.{ready_from}
 
 abbrev seen_in : Cell → List ℕ
 seen_in c = c.seen
@@ -52,7 +52,7 @@ module _ (sectors : ℕ) (keeps : Bool) (j : Journal) (l : Ledger) (new : Super)
   home_reads : (block : ℕ) → IsDataBlock (geometry_of l.head) block → is_held l.now.log block ≡ false → block_at home block ≡ (l.blocks block).seen
   home_reads block data' free = unheld_block (geometry_of l.head) block data'.from l.now.log (reads m0) free ∙ by.is.reads block data' free
 
-  home_journal : SameJournal (geometry_of l.head) home (reads m0)
+  home_journal : AgreeInJournal (geometry_of l.head) home (reads m0)
   home_journal place under = journal_there (geometry_of l.head) l.now.log (reads m0) place under
 
   free_home : IsFreeFrom (geometry_of l.head) new.epoch 0 home

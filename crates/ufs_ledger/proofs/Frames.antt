@@ -8,17 +8,14 @@ use Rattle.ufs_base.specs.Images.{Image}
 use Rattle.ufs_image.specs.Journal.{epoch_in, well_spelled}
 use Rattle.ufs_layout.specs.declared.geometry.Geometry.{Geometry}
 use Rattle.ufs_journal.specs.Found.{journal_sector, found, is_of, reaches}
+use Rattle.ufs_journal.specs.Frames.{AgreeInJournal}
 use Rattle.ufs_journal.specs.Kept.{IsReady, IsUnused}
 use Rattle.ufs_image.proofs.Empty.{from_range}
 use Rattle.ufs_ledger.proofs.Mixing.{elsewhere}
-use Rattle.ufs_ledger.proofs.Homing.{read_alike}
+use Rattle.ufs_image.proofs.Home.{sectors_same}
 
--- the two have the same journal
-abbrev pub SameJournal : Geometry → Image → Image → Type 0
-SameJournal g image other = (place : ℕ) → place < g.journal → image (journal_sector g place) ≡ other (journal_sector g place)
-
-pub found_alike : (g : Geometry) (epoch : ℕ) (image other : Image) → SameJournal g image other → found g epoch image ≡ found g epoch other
-found_alike g epoch image other same = ap well_spelled (read_alike g epoch image other (λ s is. at s (from_range (8 * first_of_journal g) g.journal s is)))
+pub found_alike : (g : Geometry) (epoch : ℕ) (image other : Image) → AgreeInJournal g image other → found g epoch image ≡ found g epoch other
+found_alike g epoch image other same = ap well_spelled (sectors_same g epoch other image (λ s is. at s (from_range (8 * first_of_journal g) g.journal s is)))
   where
     at : (s : ℕ) → (8 * first_of_journal g ≤ s) × (s < 8 * first_of_journal g + g.journal) → image s ≡ other s
     at s within =
@@ -31,7 +28,7 @@ found_alike g epoch image other same = ap well_spelled (read_alike g epoch image
 pub record HasJournalOf (g : Geometry) (state : State) (image : Image) : Type 0 where
   pub before : Image
   pub left : IsImage state before
-  pub same : SameJournal g image before
+  pub same : AgreeInJournal g image before
 
 pub ready_from : (g : Geometry) (epoch used number : ℕ) (old new : State) → Leaves (HasJournalOf g old) new → IsReady g epoch used number old → IsReady g epoch used number new
 ready_from g epoch used number old new from is = record {

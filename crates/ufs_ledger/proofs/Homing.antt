@@ -9,20 +9,19 @@ use Rattle.ufs_layout.specs.Areas.{IsGeometry, sector_count, first_of_data, firs
 use Rattle.ufs_layout.specs.Superblock.{geometry_of}
 use Rattle.ufs_base.specs.Images.{Image}
 use Rattle.ufs_image.specs.Images.{IsImageOf}
-use Rattle.ufs_image.specs.Journal.{committed, sectors_of_epoch, transactions, well_spelled, committed_of, epoch_in}
-use Rattle.ufs_layout.specs.JournalSector.{journal_of}
+use Rattle.ufs_image.specs.Journal.{committed, sectors_of_epoch, transactions, well_spelled, committed_of}
 use Rattle.ufs_image.specs.Fold.{folded}
 use Rattle.ufs_image.specs.Volume.{volume_of}
 use Rattle.ufs_layout.specs.declared.geometry.Geometry.{Geometry}
 use Rattle.ufs_layout.specs.declared.superblock.Super.{Super}
 use Rattle.ufs_layout.specs.declared.records.Committed.{Committed}
-use Rattle.std.specs.Prelude.{map, filter}
+use Rattle.std.specs.Prelude.{map}
 use Rattle.ufs_journal.specs.Found.{journal_sector}
 use Rattle.ufs_image.specs.Folding.{Spells, FitsCommitted}
-use Rattle.ufs_image.proofs.Lists.{IsIn, from_filter}
+use Rattle.ufs_image.proofs.Lists.{IsIn}
 use Rattle.ufs_image.proofs.Empty.{from_range}
-use Rattle.ufs_image.proofs.Journals.{map-same, filter-same}
 use Rattle.ufs_image.proofs.Mixed.{else_folded, mixed}
+use Rattle.ufs_image.proofs.Home.{sectors_same}
 use Rattle.ufs_image.proofs.Opening.{has_geometry}
 use Rattle.ufs_image.proofs.Records.{committed_fit}
 use Rattle.ufs_image.proofs.Blocks.{block_same}
@@ -63,13 +62,6 @@ journal_there g log image place under =
     let low : 1 ≤ k = let t = (and_parts (nat_le 1 k) (nat_le k g.inodes) ranged).0 in grind (arith, nat_tests, t) in
     omega (arith, same, high, low)) log image
 
--- journals that have the same
-pub read_alike : (g : Geometry) (epoch : ℕ) (image other : Image) → ((sector : ℕ) → IsIn sector (journal_sectors g) → image sector ≡ other sector) → sectors_of_epoch g epoch image ≡ sectors_of_epoch g epoch other
-read_alike g epoch image other same =
-    map-same (λ s. (s, journal_of (image s))) (λ s. (s, journal_of (other s))) (filter (λ s. epoch_in (image s) == epoch) (journal_sectors g))
-    (λ s is. ap (λ bytes. (s, journal_of bytes)) (same s (from_filter (λ s. epoch_in (image s) == epoch) (journal_sectors g) s is).0))
-    ∙ ap (map (λ s. (s, journal_of (other s)))) (filter-same (λ s. epoch_in (image s) == epoch) (λ s. epoch_in (other s) == epoch) (journal_sectors g) (λ s is. ap (λ bytes. epoch_in bytes == epoch) (same s is)))
-
 -- ---- a mix
 
 module _ (sectors : ℕ) (head : Super) (blocks : ℕ → Cell) (s : Stand) (before mix : Image) (left : IsLeft sectors head blocks s before) (bytes : IsImageOf sectors before)
@@ -94,7 +86,7 @@ module _ (sectors : ℕ) (head : Super) (blocks : ℕ → Cell) (s : Stand) (bef
       by (inr done) = done ∙ still
 
   reads_same : sectors_of_epoch (geometry_of head) head.epoch mix ≡ sectors_of_epoch (geometry_of head) head.epoch before
-  reads_same = read_alike (geometry_of head) head.epoch mix before (λ sector is. unmoved sector (journal_unfolded (geometry_of head) s.log before sector is))
+  reads_same = sectors_same (geometry_of head) head.epoch before mix (λ sector is. unmoved sector (journal_unfolded (geometry_of head) s.log before sector is))
 
   log_same : committed (geometry_of head) head.epoch mix ≡ s.log
   log_same = ap (λ read. map committed_of (transactions (well_spelled read))) reads_same ∙ left.logged
