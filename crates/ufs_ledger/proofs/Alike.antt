@@ -67,14 +67,14 @@ module _ (g : Geometry) (these : ℕ → Type 0) (table : (inode : ℕ) → is_i
 
 module _ (sectors : ℕ) (head : Super) (blocks : ℕ → Cell) (s : Stand) (before : Image) (left : IsLeft sectors head blocks s before) where
   pub same_head : head_of before ≡ head
-  same_head = let is = taken sectors before left.volume_is left.taken in sym (ap (λ (v : Volume). v.head) is.same) ∙ left.headed
+  same_head = let is = taken sectors before left.as_volume left.taken in sym (ap (λ (v : Volume). v.head) is.same) ∙ left.headed
 
   pub no_bad : bad_sector (geometry_of head) head before ≡ None
-  no_bad = let is = taken sectors before left.volume_is left.taken in ap (λ (h : Super). bad_sector (geometry_of h) h before) (sym same_head) ∙ is.journal
+  no_bad = let is = taken sectors before left.as_volume left.taken in ap (λ (h : Super). bad_sector (geometry_of h) h before) (sym same_head) ∙ is.journal
 
   pub taken_again : (image : Image) → before 0 ≡ image 0 → bad_sector (geometry_of head) head image ≡ None → volume sectors image ≡ Ok (volume_of head image)
   taken_again image first good =
-      let is = taken sectors before left.volume_is left.taken in
+      let is = taken sectors before left.as_volume left.taken in
       let heads : head_of image ≡ head = sym (ap (λ bytes. head_of (λ _. bytes)) first) ∙ same_head in
       is_taken sectors image (sym (ap (λ bytes. head_refusal sectors (λ _. bytes)) first) ∙ is.head) (ap (λ (h : Super). bad_sector (geometry_of h) h image) heads ∙ good)
       ∙ ap (λ (h : Super). Ok (volume_of h image)) heads
@@ -105,7 +105,7 @@ module _ (sectors : ℕ) (head : Super) (blocks : ℕ → Cell) (s : Stand) (bef
 
   pub says_same : (image : Image) → SaysTheSame (geometry_of head) head.epoch before image → IsLeft sectors head blocks s image
   says_same image says = record {
-    volume_is = volume_of head image;
+    as_volume = volume_of head image;
     taken = taken_again image (agree_off image says.differs 0 (zero_off (geometry_of head))) (says.bad head refl ∙ no_bad);
     headed = refl;
     logged = says.same ∙ left.logged;
@@ -122,7 +122,7 @@ module _ (sectors : ℕ) (head : Super) (blocks : ℕ → Cell) (s : Stand) (bef
       let log : committed g head.epoch image ≡ s.log ++ t ∷ [] = says.more ∙ ap (λ log. log ++ t ∷ []) left.logged in
       let after : Spells g true s.dirs (with_committed g t (folded g s.log image)) (with_committed_in g t s.catalog) = folds true s.dirs (folded g s.log image) s.catalog (t ∷ []) (folds_spelled image says.differs) (may.fits, tt) in
       record {
-        volume_is = volume_of head image;
+        as_volume = volume_of head image;
         taken = taken_again image (agree_off image says.differs 0 (zero_off g)) (says.bad head refl later ∙ no_bad);
         headed = refl;
         logged = log;

@@ -28,7 +28,7 @@ table g inode is = inr (omega arith)
 
 pub no_bitmap : (sectors : ℕ) (l : Ledger) (before image : Image) → l.maybe ≡ None → IsLeftBy sectors l before → AgreeOn (NoBitmap (geometry_of l.head)) before image → IsLeftBy sectors l image
 no_bitmap sectors l before image none by agree = inl (record {
-  volume_is = volume_of l.head image;
+  as_volume = volume_of l.head image;
   taken = taken_again sectors l.head l.blocks l.now before left image (agree 0 (inl (omega arith))) bad;
   headed = refl;
   logged = log_same;

@@ -17,12 +17,13 @@ use Rattle.ufs_journal.specs.Found.{journal_sector, IsFreeFrom}
 use Rattle.ufs_journal.specs.Frames.{AgreeInJournal}
 use Rattle.ufs_journal.specs.Kept.{IsReady}
 use Rattle.ufs_journal.specs.declared.journal.Journal.{Journal}
+use Rattle.ufs_image.specs.Agree.{IsOfBlock}
 use Rattle.ufs_image.proofs.Blocks.{block_same}
 use Rattle.ufs_overlay.specs.Over.{IsHomeWritten}
 use Rattle.ufs_ledger.specs.Ledger.{IsDataBlock, is_held, IsLeft, Ledger, IsLeftBy, IsLedgerOf}
 use Rattle.ufs_ledger.specs.Changes.{beginning, emptied}
 use Rattle.ufs_ledger.specs.Committing.{IsLedgerBy}
-use Rattle.ufs_ledger.proofs.Held.{unheld_block}
+use Rattle.ufs_ledger.proofs.Held.{unheld_sector, unheld_block}
 use Rattle.ufs_ledger.proofs.Homing.{same_fold, left_homing, journal_there}
 use Rattle.ufs_ledger.proofs.States.{barrier_quiet, on_one, homes, begins}
 use Rattle.ufs_ledger.proofs.Frames.{ready_from}
@@ -80,12 +81,31 @@ module _ (sectors : ℕ) (keeps : Bool) (j : Journal) (l : Ledger) (new : Super)
     pub crash2 : LeavesOnly keeps AtEach m0 m2
     crash2 = joined keeps AtEach m0 m1 m2 crash1 (weaker keeps (IsHomeWritten (geometry_of l.head) l.now.log m1.state) AtEach (λ image part. inl (homes sectors m1.state l image whole1 by.none ledger1 part)) m1 m2 run2)
 
+    unheld_stays : (image : Image) → IsHomeWritten (geometry_of l.head) l.now.log m1.state image → (block : ℕ) → IsDataBlock (geometry_of l.head) block → is_held l.now.log block ≡ false → block_at image block ≡ block_at (reads m1) block
+    unheld_stays image part block data' free = block_same image (reads m1) block (λ s of. at s of (part.mixed s))
+      where
+        was : part.before ≡ reads m1
+        was = still1 part.before part.left
+
+        at : (s : ℕ) → IsOfBlock block s → (image s ≡ part.before s) ⊎ (image s ≡ folded (geometry_of l.head) l.now.log part.before s) → image s ≡ reads m1 s
+        at s of (inl is) = is ∙ ap (λ (i : Image). i s) was
+        at s of (inr is) = is ∙ unheld_sector (geometry_of l.head) block data'.from s of l.now.log part.before free ∙ ap (λ (i : Image). i s) was
+
+    pub ledger2 : IsLedgerOf sectors m2.state l
+    ledger2 = record {
+      images = λ image left. homes sectors m1.state l image whole1 by.none ledger1 (run2.after image left);
+      reads = λ block data' free. unheld_stays (reads m2) (run2.after (reads m2) (seen_is_image m2.state)) block data' free ∙ ledger1.reads block data' free;
+    }
+
     module _ (done : reads m2 ≡ folded (geometry_of l.head) l.now.log (reads m1)) (m3 : Moments) (run3 : LeavesOnly keeps (IsImage m2.state) m2 m3) (same3 : reads m3 ≡ reads m2) where
       at_m3 : reads m3 ≡ home
       at_m3 = same3 ∙ done ∙ ap (folded (geometry_of l.head) l.now.log) same
 
       pub crash3 : LeavesOnly keeps AtEach m0 m3
       crash3 = joined keeps AtEach m0 m2 m3 crash2 (weaker keeps (IsImage m2.state) AtEach (λ image left. crash2.after image left) m2 m3 run3)
+
+      pub ledger3 : IsLedgerOf sectors m3.state l
+      ledger3 = barrier_quiet sectors m2.state m3.state l ledger2 run3.after same3
 
       module _ (still3 : IsSettled m3.state) (whole3 : IsImageOf sectors (reads m3)) (size : length bytes ≡ 512) (m4 : Moments) (run4 : LeavesOnly keeps (IsPartlyWritten 0 bytes m3.state) m3 m4) where
         sized : IsImageOf sectors home
@@ -101,6 +121,24 @@ module _ (sectors : ℕ) (keeps : Bool) (j : Journal) (l : Ledger) (new : Super)
         headed image (inl is) = subst (IsLeftBy sectors (beginning new (block_at home) l)) (sym is) (begun sized).0
         headed image (inr is) = subst (IsLeftBy sectors (beginning new (block_at home) l)) (sym is) (begun sized).1
 
+        behind : (block : ℕ) → IsDataBlock (geometry_of l.head) block → block_at (put 0 bytes home) block ≡ block_at home block
+        behind block data' = block_same (put 0 bytes home) home block (λ sector of. ap (λ b. if b then bytes else home sector) (let at = of.same in let from = data'.from in let off : (sector == 0) ≡ false = (let past : 0 < sector = omega (arith, at, from) in grind (arith, nat_tests, past)) in off))
+
+        cell : (block : ℕ) → IsDataBlock (geometry_of l.head) block → (b : Bool) → is_held l.now.log block ≡ b → block_at home block ≡ seen_in (if b then record { older = []; seen = block_at home block } else record { older = []; seen = (l.blocks block).seen })
+        cell block data' true e = refl
+        cell block data' false e = home_reads block data' e
+
+        reads_on : (image : Image) → (image ≡ home) ⊎ (image ≡ put 0 bytes home) → (block : ℕ) → IsDataBlock (geometry_of l.head) block → block_at image block ≡ block_at home block
+        reads_on image (inl is) block data' = ap (λ i. block_at i block) is
+        reads_on image (inr is) block data' = ap (λ i. block_at i block) is ∙ behind block data'
+
+        -- the superblock may be there or not
+        pub ledger4 : IsLedgerOf sectors m4.state (beginning new (block_at home) l)
+        ledger4 = record {
+          images = λ image left. headed image (one_or_other image (run4.after image left));
+          reads = λ block data' free. reads_on (reads m4) (one_or_other (reads m4) (run4.after (reads m4) (seen_is_image m4.state))) block data' ∙ cell block data' (is_held l.now.log block) refl;
+        }
+
         pub crash4 : LeavesOnly keeps AtEach m0 m4
         crash4 = joined keeps AtEach m0 m3 m4 crash3 (weaker keeps (IsPartlyWritten 0 bytes m3.state) AtEach (λ image part. inr (headed image (one_or_other image part))) m3 m4 run4)
 
@@ -111,12 +149,8 @@ module _ (sectors : ℕ) (keeps : Bool) (j : Journal) (l : Ledger) (new : Super)
           at_m5 : reads m5 ≡ put 0 bytes home
           at_m5 = same5 ∙ put4 ∙ put_one 0 bytes (reads m3) size ∙ ap (put 0 bytes) at_m3
 
-          behind : (block : ℕ) → IsDataBlock (geometry_of l.head) block → block_at (put 0 bytes home) block ≡ block_at home block
-          behind block data' = block_same (put 0 bytes home) home block (λ sector of. ap (λ b. if b then bytes else home sector) (let at = of.same in let from = data'.from in let off : (sector == 0) ≡ false = (let past : 0 < sector = omega (arith, at, from) in grind (arith, nat_tests, past)) in off))
-
-          cell : (block : ℕ) → IsDataBlock (geometry_of l.head) block → (b : Bool) → is_held l.now.log block ≡ b → block_at home block ≡ seen_in (if b then record { older = []; seen = block_at home block } else record { older = []; seen = (l.blocks block).seen })
-          cell block data' true e = refl
-          cell block data' false e = home_reads block data' e
+          pub ledger5_tried : IsLedgerOf sectors m5.state (beginning new (block_at home) l)
+          ledger5_tried = barrier_quiet sectors m4.state m5.state (beginning new (block_at home) l) ledger4 run5.after same5
 
           pub ledger5 : IsSettled m5.state → IsLedgerOf sectors m5.state (emptied new (block_at home) l)
           ledger5 still5 = record {

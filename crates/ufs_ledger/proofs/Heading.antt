@@ -79,19 +79,19 @@ module _ (sectors : ℕ) (head new : Super) (blocks : ℕ → Cell) (s : Stand) 
 
   was : IsGeometry (geometry_of head) × (sector_count (geometry_of head) ≤ sectors)
   was =
-      let is = has_geometry sectors home left.volume_is left.taken in
+      let is = has_geometry sectors home left.as_volume left.taken in
       let same = same_geometry sectors head blocks s home left in
       (subst IsGeometry same is.0, subst (λ g. sector_count g ≤ sectors) same is.1)
 
   geometry_same : geometry_of (head_of home) ≡ geometry_of (head_of after)
   geometry_same =
-      let is = taken sectors home left.volume_is left.taken in
+      let is = taken sectors home left.as_volume left.taken in
       let heads : head_of home ≡ head = sym (ap (λ (v : Volume). v.head) is.same) ∙ left.headed in
       ap geometry_of heads ∙ sym kept ∙ ap geometry_of (sym fields)
 
   not_refused' : head_refusal sectors after ≡ None
   not_refused' =
-      let is = taken sectors home left.volume_is left.taken in
+      let is = taken sectors home left.as_volume left.taken in
       let one = second_none (refused_if (lacks_magic sectors home) NoSuperblock) _ is.head in
       let two = second_none (refused_if (has_other_version home) (BadVersion (head_of home).version)) _ one.1 in
       let three = second_none (refused_if (is_off_form home) NoSuperblock) _ two.1 in
@@ -123,7 +123,7 @@ module _ (sectors : ℕ) (head new : Super) (blocks : ℕ → Cell) (s : Stand) 
 
   pub left_headed : IsLeft sectors new (λ block. record { older = []; seen = block_at home block }) (record s { log = [] }) after
   left_headed = record {
-    volume_is = volume_of new after;
+    as_volume = volume_of new after;
     taken = taken_after;
     headed = refl;
     logged = none_committed (geometry_of new) new.epoch after free_after;

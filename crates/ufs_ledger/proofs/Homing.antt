@@ -68,7 +68,7 @@ module _ (sectors : ℕ) (head : Super) (blocks : ℕ → Cell) (s : Stand) (bef
     (each : (sector : ℕ) → (mix sector ≡ before sector) ⊎ (mix sector ≡ folded (geometry_of head) s.log before sector)) where
   pub geometry : IsGeometry (geometry_of head) × (sector_count (geometry_of head) ≤ sectors)
   geometry =
-      let is = has_geometry sectors before left.volume_is left.taken in
+      let is = has_geometry sectors before left.as_volume left.taken in
       let same = same_geometry sectors head blocks s before left in
       (subst IsGeometry same is.0, subst (λ g. sector_count g ≤ sectors) same is.1)
 
@@ -97,7 +97,7 @@ module _ (sectors : ℕ) (head : Super) (blocks : ℕ → Cell) (s : Stand) (bef
 
   pub left_homing : IsLeft sectors head blocks s mix
   left_homing = record {
-    volume_is = volume_of head mix;
+    as_volume = volume_of head mix;
     taken = taken_again sectors head blocks s before left mix (sym (unmoved 0 (zero_unfolded (geometry_of head) s.log before)))
         (no_bad_mixed (geometry_of head) sectors head before mix geometry.0 geometry.1 bytes good
         (λ sector. subst (λ log. (mix sector ≡ before sector) ⊎ (mix sector ≡ folded (geometry_of head) log before sector)) (sym left.logged) (each sector)) reads_same (no_bad sectors head blocks s before left));

@@ -124,7 +124,7 @@ module _ (g : Geometry) (s : Stand) (block : ℕ) (covers : CoversDirs g s) (no_
 joins_left : (sectors : ℕ) (head : Super) (blocks : ℕ → Cell) (s : Stand) (image : Image) (block : ℕ) → IsImageOf sectors image → IsDataBlock (geometry_of head) block → is_held s.log block ≡ false → (IsTrue (s.dirs block) → ⊥)
     → possible (blocks block) ≡ replicate 4096 0 ∷ [] → IsLeft sectors head blocks s image → IsLeft sectors head blocks (with_free_block block s) image
 joins_left sectors head blocks s image block whole data' free no_dir zeros left = record {
-  volume_is = left.volume_is;
+  as_volume = left.as_volume;
   taken = left.taken;
   headed = left.headed;
   logged = left.logged;
@@ -145,9 +145,9 @@ joins_left sectors head blocks s image block whole data' free no_dir zeros left 
     same k e = grind (arith, nat_tests, e)
 
     room : sector_count (geometry_of head) ≤ sectors
-    room = subst (λ g. sector_count g ≤ sectors) (same_geometry sectors head blocks s image left) (has_geometry sectors image left.volume_is left.taken).1
+    room = subst (λ g. sector_count g ≤ sectors) (same_geometry sectors head blocks s image left) (has_geometry sectors image left.as_volume left.taken).1
 
-    empty : (sector : ℕ) → IsOfBlock block sector → left.volume_is.image sector ≡ empty_sector
+    empty : (sector : ℕ) → IsOfBlock block sector → left.as_volume.image sector ≡ empty_sector
     empty sector of =
         let under = data'.under in
         let at = of.same in
@@ -160,11 +160,11 @@ joins_left sectors head blocks s image block whole data' free no_dir zeros left 
     in_data k true e its = let from = data'.from in omega (arith, from, same k e)
     in_data k false e its = left.spells.in_data k its
 
-    slots : (k : ℕ) (b : Bool) → (k == block) ≡ b → IsTrue (if b then true else s.dirs k) → read_block left.volume_is.image k ≡ map Some (if b then replicate 64 free_slot else s.catalog.slots k)
-    slots k true e its = subst (λ b. read_block left.volume_is.image b ≡ map Some (replicate 64 free_slot)) (sym (same k e)) (free_block left.volume_is.image block empty)
+    slots : (k : ℕ) (b : Bool) → (k == block) ≡ b → IsTrue (if b then true else s.dirs k) → read_block left.as_volume.image k ≡ map Some (if b then replicate 64 free_slot else s.catalog.slots k)
+    slots k true e its = subst (λ b. read_block left.as_volume.image b ≡ map Some (replicate 64 free_slot)) (sym (same k e)) (free_block left.as_volume.image block empty)
     slots k false e its = left.spells.slots k its
 
-    sized : (k sector : ℕ) (b : Bool) → (k == block) ≡ b → IsTrue (if b then true else s.dirs k) → IsOfBlock k sector → length (left.volume_is.image sector) ≡ 512
+    sized : (k sector : ℕ) (b : Bool) → (k == block) ≡ b → IsTrue (if b then true else s.dirs k) → IsOfBlock k sector → length (left.as_volume.image sector) ≡ 512
     sized k sector true e its of = ap length (empty sector (subst (λ b. IsOfBlock b sector) (same k e) of)) ∙ length-replicate {A = ℕ} 512 0
     sized k sector false e its of = left.spells.sized k sector its of
 
@@ -186,7 +186,7 @@ shrinks sectors state l dirs none is less covers = record {
   where
     of : (image : Image) → IsLeft sectors l.head l.blocks l.now image → IsLeft sectors l.head l.blocks (with_dirs dirs l.now) image
     of image left = record {
-      volume_is = left.volume_is;
+      as_volume = left.as_volume;
       taken = left.taken;
       headed = left.headed;
       logged = left.logged;

@@ -2,7 +2,7 @@
 use Rattle.std.proofs.Common.{◌≡◌, ℕ, zero, suc, ◌+◌, ◌*◌, ◌-◌, ◌<◌, ◌≤◌, ◌⊎◌, inl, inr, List, [], ◌∷◌, ◌++◌, length, take, drop, ltb, Bool, true, false, ap, sym, refl, ◌∙◌, subst, arith, length-append, length-drop}
 use Rattle.std.specs.Prelude.{◌/◌, flat_map}
 use Rattle.std.specs.List.{range_with_len}
-use Rattle.std.proofs.lemmas.Bool.{ltb-true, ltb-false}
+use Rattle.std.proofs.lemmas.Bool.{cases_lt}
 use Rattle.std.proofs.lemmas.List.{get_or_append_left, get_or-append_right, length-take-le, take-append-drop}
 use Rattle.ufs_base.specs.Images.{Image}
 use Rattle.ufs_disk.specs.Disk.{put, put_all, pieces, sectors_of, bytes_from, overwritten, Mixes}
@@ -11,13 +11,6 @@ use Rattle.ufs_image.specs.Images.{block_at}
 use Rattle.ufs_prefix.specs.FileChanges.{byte_at}
 use Rattle.ufs_image.specs.Agree.{IsOfBlock}
 use Rattle.ufs_ledger.specs.Ledger.{HasByte, IsMixOf}
-
-pub below_or : (a b : ℕ) → (a < b) ⊎ (b ≤ a)
-below_or a b = by (ltb a b) refl
-  where
-    by : (t : Bool) → ltb a b ≡ t → (a < b) ⊎ (b ≤ a)
-    by true e = inl (ltb-true a b e)
-    by false e = inr (ltb-false a b e)
 
 pub byte_front : (xs ys : List ℕ) (place : ℕ) → place < length xs → byte_at (xs ++ ys) place ≡ byte_at xs place
 byte_front xs ys place less = get_or_append_left xs ys 0 place less
@@ -40,7 +33,7 @@ pub record IsEither (n : ℕ) (old new bytes : List ℕ) : Type 0 where
 either_next : (n : ℕ) (old new here olds news rest : List ℕ) → length old ≡ 512 → length new ≡ 512 → (here ≡ old) ⊎ (here ≡ new) → IsEither n olds news rest → IsEither (suc n) (old ++ olds) (new ++ news) (here ++ rest)
 either_next n old new here olds news rest long wide is more = record {
   size = let first = size_here is in let whole = length-append here rest in let last = more.size in omega (arith, first, whole, last);
-  each = λ place less. at place less (below_or place 512);
+  each = λ place less. at place less (cases_lt place 512);
 }
   where
     size_here : (here ≡ old) ⊎ (here ≡ new) → length here ≡ 512

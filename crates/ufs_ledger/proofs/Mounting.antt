@@ -109,7 +109,7 @@ module _ (sectors : ℕ) (image : Image) (v : Volume) (bytes : IsImageOf sectors
 
   left_there : IsLeft sectors v.head (λ block. record { older = []; seen = block_at image block }) (opening_ledger v.head image).now image
   left_there = record {
-    volume_is = v;
+    as_volume = v;
     taken = ok;
     headed = refl;
     logged = subst (λ g. committed g v.head.epoch image ≡ []) same_geometry logged;

@@ -79,30 +79,30 @@ module _ (v : Volume) (c : Catalog) (n : Numbers) (paths : Paths) (is : IsNumber
 -- ---- the pick of an image
 
 module _ (sectors : ℕ) (head : Super) (blocks : ℕ → Cell) (s : Stand) (image : Image) (left : IsLeft sectors head blocks s image) where
-  pub same_geometry : left.volume_is.geometry ≡ geometry_of head
-  same_geometry = let is = taken sectors image left.volume_is left.taken in ap (λ (v : Volume). v.geometry) is.same ∙ ap geometry_of (sym (ap (λ (v : Volume). v.head) is.same) ∙ left.headed)
+  pub same_geometry : left.as_volume.geometry ≡ geometry_of head
+  same_geometry = let is = taken sectors image left.as_volume left.taken in ap (λ (v : Volume). v.geometry) is.same ∙ ap geometry_of (sym (ap (λ (v : Volume). v.head) is.same) ∙ left.headed)
 
-  pub same_image : left.volume_is.image ≡ folded (geometry_of head) s.log image
+  pub same_image : left.as_volume.image ≡ folded (geometry_of head) s.log image
   same_image =
-      let is = taken sectors image left.volume_is left.taken in
+      let is = taken sectors image left.as_volume left.taken in
       let heads : head_of image ≡ head = sym (ap (λ (v : Volume). v.head) is.same) ∙ left.headed in
       ap (λ (v : Volume). v.image) is.same ∙ ap (λ (h : Super). folded (geometry_of h) (committed (geometry_of h) h.epoch image) image) heads ∙ ap (λ log. folded (geometry_of head) log image) left.logged
 
-  pub picks : (block : ℕ) → IsDataBlock (geometry_of head) block → is_held s.log block ≡ false → IsMixOf (possible (blocks block)) (block_at left.volume_is.image block)
+  pub picks : (block : ℕ) → IsDataBlock (geometry_of head) block → is_held s.log block ≡ false → IsMixOf (possible (blocks block)) (block_at left.as_volume.image block)
   picks block data' free = subst (IsMixOf _) (sym (ap (λ (i : Image). block_at i block) same_image ∙ unheld_block (geometry_of head) block data'.from s.log image free)) (left.contents block data' free)
 
   -- what is left is an image with its catalog
-  pub is_volume : SpellsDirs (geometry_of head) → IsVolumeOf sectors image left.volume_is s.catalog
+  pub is_volume : SpellsDirs (geometry_of head) → IsVolumeOf sectors image left.as_volume s.catalog
   is_volume spells_dirs = record {
     taken = left.taken;
-    catalog = subst (λ g. IsCatalogOf g left.volume_is.image s.catalog) (sym same_geometry) (spells_dirs s.dirs left.volume_is.image s.catalog left.spells left.covers);
+    catalog = subst (λ g. IsCatalogOf g left.as_volume.image s.catalog) (sym same_geometry) (spells_dirs s.dirs left.as_volume.image s.catalog left.spells left.covers);
     sound = subst (λ g. IsSoundCatalog g s.catalog) (sym same_geometry) left.sound;
   }
 
   module _ (start : PosixTree) (history : List Entry) (names : ℕ) (files : ℕ → ℕ) (n : Numbers) (stored : IsStandStored (geometry_of head) blocks s start history names files n) where
     -- what the image has of each file
     abbrev content : ℕ → List ℕ
-    content file = content_of (block_at left.volume_is.image) (shape_of s.catalog (n.inode file))
+    content file = content_of (block_at left.as_volume.image) (shape_of s.catalog (n.inode file))
 
     its : (file inode : ℕ) → n.inode file ≡ Some inode → IsInode (geometry_of head) inode × ((place block : ℕ) → HasBlock (geometry_of head) s.catalog inode place block → is_held s.log block ≡ false)
     its file inode at = let is = stored.inodes file inode at in (is.0, λ place block has. stored.unheld inode place block has is.1)
@@ -111,34 +111,34 @@ module _ (sectors : ℕ) (head : Super) (blocks : ℕ → Cell) (s : Stand) (ima
     stored_there = record {
       made = stored.made;
       each = λ count file from to named.
-          inode_shown (geometry_of head) blocks s (block_at left.volume_is.image) (n.inode file) (bytes_of start.bytes file) (changes_of file start history) (files file) left.sound (its file) picks (stored.shown count file from to named);
+          inode_shown (geometry_of head) blocks s (block_at left.as_volume.image) (n.inode file) (bytes_of start.bytes file) (changes_of file start history) (files file) left.sound (its file) picks (stored.shown count file from to named);
     }
 
-    opens_as_stored : SpellsDirs (geometry_of head) → StandsAtPaths left.volume_is → StandsNowhereElse left.volume_is
-        → (opens sectors image ≡ Ok (from_entries (walked left.volume_is))) × IsTreeWith (λ file bytes. bytes ≡ content file) (names_after start history names).paths (paths_of (from_entries (walked left.volume_is)))
+    opens_as_stored : SpellsDirs (geometry_of head) → StandsAtPaths left.as_volume → StandsNowhereElse left.as_volume
+        → (opens sectors image ≡ Ok (from_entries (walked left.as_volume))) × IsTreeWith (λ file bytes. bytes ≡ content file) (names_after start history names).paths (paths_of (from_entries (walked left.as_volume)))
     opens_as_stored spells_dirs at nowhere =
         let is = is_volume spells_dirs in
-        (opens_to sectors image left.volume_is s.catalog is, has_paths left.volume_is s.catalog n (names_after start history names).paths stored.paths is.catalog is.sound at nowhere)
+        (opens_to sectors image left.as_volume s.catalog is, has_paths left.as_volume s.catalog n (names_after start history names).paths stored.paths is.catalog is.sound at nowhere)
 
-  pub opens_explained : SpellsDirs (geometry_of head) → StandsAtPaths left.volume_is → StandsNowhereElse left.volume_is
+  pub opens_explained : SpellsDirs (geometry_of head) → StandsAtPaths left.as_volume → StandsNowhereElse left.as_volume
       → (start : PosixTree) (history : List Entry) (names : ℕ) (files : ℕ → ℕ) (n : Numbers) → IsStandKept (geometry_of head) blocks s start history names files n → OpensExplained sectors start history image
   opens_explained spells_dirs at nowhere start history names files n kept =
       let opened = opens_as_stored start history names files n kept.stored spells_dirs at nowhere in
       record {
-        tree = from_entries (walked left.volume_is);
+        tree = from_entries (walked left.as_volume);
         opened = opened.0;
-        explained = explained_by start history names files (paths_of (from_entries (walked left.volume_is))) kept.covers
-            (stored_opens start history names files (content start history names files n kept.stored) (paths_of (from_entries (walked left.volume_is))) (stored_there start history names files n kept.stored) opened.1);
+        explained = explained_by start history names files (paths_of (from_entries (walked left.as_volume))) kept.covers
+            (stored_opens start history names files (content start history names files n kept.stored) (paths_of (from_entries (walked left.as_volume))) (stored_there start history names files n kept.stored) opened.1);
       }
 
-  pub opens_explained_from : SpellsDirs (geometry_of head) → StandsAtPaths left.volume_is → StandsNowhereElse left.volume_is
+  pub opens_explained_from : SpellsDirs (geometry_of head) → StandsAtPaths left.as_volume → StandsNowhereElse left.as_volume
       → (start : PosixTree) (history : List Entry) (from to names : ℕ) (files : ℕ → ℕ) (n : Numbers) → IsStandStored (geometry_of head) blocks s start (take from history) names files n → IsCovering start (take to history) names files
       → OpensExplainedFrom sectors start history from to image
   opens_explained_from spells_dirs at nowhere start history from to names files n stored covers =
       let opened = opens_as_stored start (take from history) names files n stored spells_dirs at nowhere in
       record {
-        tree = from_entries (walked left.volume_is);
+        tree = from_entries (walked left.as_volume);
         opened = opened.0;
-        explained = stored_explained start history from to names files (content start (take from history) names files n stored) (paths_of (from_entries (walked left.volume_is)))
+        explained = stored_explained start history from to names files (content start (take from history) names files n stored) (paths_of (from_entries (walked left.as_volume)))
             (stored_there start (take from history) names files n stored) covers opened.1;
       }

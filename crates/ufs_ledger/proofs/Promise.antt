@@ -21,9 +21,8 @@ use Rattle.ufs_prefix.proofs.Facts.Histories.{changes_of-push, name_changes-push
 use Rattle.ufs_prefix.proofs.Facts.Entries.{next_rises}
 use Rattle.ufs_prefix.proofs.Facts.Contents.{unborn_still}
 use Rattle.ufs_prefix.proofs.Facts.Sessions.{tree_after_is, names_last, front_legal, last_replied}
-
 use Rattle.ufs_prefix.specs.Explained.{IsAckCovered}
-use Rattle.ufs_ledger.proofs.Mixing.{below_or}
+use Rattle.std.proofs.lemmas.Bool.{cases_lt}
 use Rattle.ufs_prefix.proofs.Facts.Explains.{covering-push}
 use Rattle.ufs_prefix.proofs.Facts.Ends.{covering_more}
 use Rattle.ufs_prefix.proofs.Facts.Stores.{named_before, unborn_changes}
@@ -164,7 +163,7 @@ module _ (g : Geometry) (blocks : ℕ → Cell) (s : Stand) (start : PosixTree) 
       paths = subst (λ (x : NameState). IsNumberedBy s.catalog n x.paths) (sym (names_after-append start history (entry ∷ []) names kept.stored.made)) kept.stored.paths;
       inodes = kept.stored.inodes;
       unheld = kept.stored.unheld;
-      shown = λ count file from to named. by count file from to named (below_or (length (name_changes start history)) count);
+      shown = λ count file from to named. by count file from to named (cases_lt (length (name_changes start history)) count);
       fresh = λ file above.
           let later = ap (λ (t : PosixTree). t.next) (tree_after-push start history entry) in
           let rises = next_rises (tree_after start history) entry replied in

@@ -3,6 +3,7 @@ use Rattle.std.proofs.Common.{◌≡◌, ℕ, suc, ◌*◌, ◌-◌, ◌<◌, �
 use Rattle.std.specs.Prelude.{◌/◌, ◌%◌, flat_map, false}
 use Rattle.std.specs.List.{slice_get}
 use Rattle.std.proofs.lemmas.List.{length-take-le}
+use Rattle.std.proofs.lemmas.Bool.{cases_lt}
 use Rattle.ufs_disk.specs.Disk.{Cell, possible}
 use Rattle.ufs_image.specs.Nodes.{blocks_of}
 use Rattle.ufs_layout.specs.declared.geometry.Geometry.{Geometry}
@@ -15,7 +16,7 @@ use Rattle.ufs_image.proofs.Listed.{place_of_in, in_at_place}
 use Rattle.ufs_image.proofs.Holders.{block_in_data}
 use Rattle.ufs_ledger.specs.Ledger.{IsDataBlock, IsMixOf, is_held, Stand}
 use Rattle.ufs_ledger.specs.Kept.{Shape, shape_of, AlwaysShows}
-use Rattle.ufs_ledger.proofs.Mixing.{below_or, byte_front, byte_back, byte_taken}
+use Rattle.ufs_ledger.proofs.Mixing.{byte_front, byte_back, byte_taken}
 
 -- one content for each block
 abbrev pub Pick : Type 0
@@ -32,7 +33,7 @@ record IsAt (pick : Pick) (blocks : List ℕ) (place : ℕ) : Type 0 where
 
 at_place : (pick : Pick) (blocks : List ℕ) → ((b : ℕ) → IsIn b blocks → length (pick b) ≡ 4096) → (place : ℕ) → place < 4096 * length blocks → IsAt pick blocks place
 at_place pick [] long place less = absurd (omega (arith, less))
-at_place pick (b ∷ blocks) long place less = by (below_or place 4096) (λ low. at_place pick blocks (λ c is. long c (inr is)) (place - 4096) (omega (arith, less, low)))
+at_place pick (b ∷ blocks) long place less = by (cases_lt place 4096) (λ low. at_place pick blocks (λ c is. long c (inr is)) (place - 4096) (omega (arith, less, low)))
   where
     size : length (pick b) ≡ 4096
     size = long b (inl refl)

@@ -39,7 +39,7 @@ on_one sectors l image none (inr one) = let free : Some one.0 ≡ None = sym one
 pub with_cells : (sectors : ℕ) (head : Super) (blocks others : ℕ → Cell) (s : Stand) (image : Image) → ((block : ℕ) → IsDataBlock (geometry_of head) block → is_held s.log block ≡ false → IsMixOf (possible (blocks block)) (block_at image block) → IsMixOf (possible (others block)) (block_at image block))
     → IsLeft sectors head blocks s image → IsLeft sectors head others s image
 with_cells sectors head blocks others s image leads left = record {
-  volume_is = left.volume_is;
+  as_volume = left.as_volume;
   taken = left.taken;
   headed = left.headed;
   logged = left.logged;
@@ -100,7 +100,7 @@ module _ (sectors : ℕ) (old : State) (l : Ledger) (block : ℕ) (bytes : List 
   here image left = on_one sectors l image none (is.images image left)
 
   room : (image : Image) → IsLeft sectors l.head l.blocks l.now image → sector_count (geometry_of l.head) ≤ sectors
-  room image left = subst (λ g. sector_count g ≤ sectors) (same_geometry sectors l.head l.blocks l.now image left) (has_geometry sectors image left.volume_is left.taken).1
+  room image left = subst (λ g. sector_count g ≤ sectors) (same_geometry sectors l.head l.blocks l.now image left) (has_geometry sectors image left.as_volume left.taken).1
 
   long : (before : Image) → IsImage old before → (sector : ℕ) → IsOfBlock block sector → length (before sector) ≡ 512
   long before left sector of =

@@ -6,6 +6,7 @@ use Rattle.ufs_disk.specs.Disk.{Cell, possible}
 use Rattle.ufs_layout.specs.Superblock.{geometry_of}
 use Rattle.ufs_image.specs.Nodes.{blocks_of}
 use Rattle.ufs_layout.specs.declared.geometry.Geometry.{Geometry}
+use Rattle.ufs_layout.specs.declared.superblock.Super.{Super}
 use Rattle.ufs_layout.specs.declared.records.Committed.{Committed}
 use Rattle.ufs_model.specs.PosixTree.{PosixTree, IsTree}
 use Rattle.ufs_model.specs.FileBytes.{bytes_of}
@@ -16,7 +17,7 @@ use Rattle.ufs_prefix.specs.FileChanges.{all_changed, byte_at}
 use Rattle.ufs_prefix.specs.Changes.{changes_of}
 use Rattle.ufs_prefix.specs.declared.data.FileChange.{FileChange}
 use Rattle.ufs_ledger.specs.Ledger.{HasByte, is_held, Standing, with_one, Ledger}
-use Rattle.ufs_ledger.specs.Changes.{settled_cell, settled, home_cells, written, committing, committed_one}
+use Rattle.ufs_ledger.specs.Changes.{settled_cell, settled, home_cells, without_log, written, committing, committed_one, beginning, emptied}
 use Rattle.ufs_ledger.specs.Kept.{Numbers, shape_of, MayHave, AlwaysShows, IsStandKept, Counts, IsKeptBy, IsLedgerKept}
 use Rattle.ufs_ledger.specs.Laws.{StandsOn}
 use Rattle.ufs_ledger.proofs.Promise.{fewer_kept, writing_kept, commit_kept}
@@ -49,7 +50,7 @@ module _ (g : Geometry) (l : Ledger) (home : ℕ → List ℕ) (start : PosixTre
           none e = cc
       by (Some inode) unheld place byte may = record { block = may.block; there = may.there; has = homely may.block (place % 4096) byte (unheld inode refl may.block (place / 4096) may.there) may.has }
 
-  pub emptied_kept : (log : List Committed) → ((block : ℕ) → is_held l.now.log block ≡ false → is_held log block ≡ false) → IsStandKept g (home_cells home l) (record (l.now) { log = log }) start history names files n
+  emptied_kept : (log : List Committed) → ((block : ℕ) → is_held l.now.log block ≡ false → is_held log block ≡ false) → IsStandKept g (home_cells home l) (record (l.now) { log = log }) start history names files n
   emptied_kept log less = record {
     stored = record {
       made = kept.stored.made;
@@ -106,3 +107,23 @@ ledger_goes_on l t start history now next keeps none is legal kept on = (
 
     after : IsKeptBy (geometry_of l.head) (settled l).blocks (with_one (geometry_of l.head) t l.now) start history next
     after = commit_kept (geometry_of l.head) (settled l).blocks l.now start history now.names now.files now.numbers still keeps is legal (with_one (geometry_of l.head) t l.now) next.names next.files next.numbers on
+
+-- ---- a checkpoint of the whole
+
+module _ (l : Ledger) (head : Super) (home : ℕ → List ℕ) (start : PosixTree) (history : List Entry) (now maybe : Counts) (same : geometry_of head ≡ geometry_of l.head) (kept : IsLedgerKept l start history now maybe) where
+  emptied_there : IsKeptBy (geometry_of l.head) (home_cells home l) (without_log l.now) start history now
+  emptied_there = emptied_kept (geometry_of l.head) l home start history now.names now.files now.numbers kept.here [] (λ block free. refl)
+
+  pub beginning_kept : IsLedgerKept (beginning head home l) start history now now
+  beginning_kept = record {
+    here = emptied_kept (geometry_of l.head) l home start history now.names now.files now.numbers kept.here l.now.log (λ block free. free);
+    there = λ other some.
+        let is : record { head = head; stand = without_log l.now } ≡ other = cc in
+        (sym (ap (λ (o : Standing). geometry_of o.head) is) ∙ same, subst (λ (o : Standing). IsKeptBy (geometry_of l.head) (home_cells home l) o.stand start history now) is emptied_there);
+  }
+
+  pub emptied_is_kept : IsLedgerKept (emptied head home l) start history now now
+  emptied_is_kept = record {
+    here = subst (λ g. IsKeptBy g (home_cells home l) (without_log l.now) start history now) (sym same) emptied_there;
+    there = λ other some. absurd (let none = some in cc);
+  }

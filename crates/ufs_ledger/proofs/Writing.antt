@@ -2,6 +2,7 @@
 use Rattle.std.proofs.Common.{◌≡◌, ℕ, ◌+◌, ◌*◌, ◌<◌, ◌≤◌, ◌⊎◌, inl, inr, List, Bool, true, false, length, sym, refl, ◌∙◌, subst, arith}
 use Rattle.std.specs.Prelude.{◌==◌, if◌then◌else◌, IsTrue}
 use Rattle.std.proofs.lemmas.Bool.Decides.{nat_tests}
+use Rattle.std.proofs.lemmas.Bool.{cases_lt}
 use Rattle.ufs_disk.specs.Disk.{Cell, possible, overwritten, Mixes}
 use Rattle.ufs_layout.specs.Areas.{sector_of_inode, is_inode_number}
 use Rattle.ufs_layout.specs.Superblock.{geometry_of}
@@ -19,14 +20,14 @@ use Rattle.ufs_image.proofs.Blocks.{block_same}
 use Rattle.ufs_ledger.specs.Ledger.{IsDataBlock, IsMixOf, is_held, Stand, IsLeft}
 use Rattle.ufs_ledger.specs.Changes.{rewritten}
 use Rattle.ufs_ledger.proofs.Alike.{spells_agree, taken_again, spelled_folds, no_bad}
-use Rattle.ufs_ledger.proofs.Mixing.{below_or, block_either, elsewhere, mix_written}
+use Rattle.ufs_ledger.proofs.Mixing.{block_either, elsewhere, mix_written}
 
 -- a sector of no such block
 abbrev pub IsApart : ℕ → ℕ → Type 0
 IsApart block sector = (sector < 8 * block) ⊎ (8 * block + 8 ≤ sector)
 
 pub apart_of : (block other sector : ℕ) → (other ≡ block → ⊥) → IsOfBlock other sector → IsApart block sector
-apart_of block other sector apart of = by (below_or sector (8 * block)) (below_or sector (8 * block + 8))
+apart_of block other sector apart of = by (cases_lt sector (8 * block)) (cases_lt sector (8 * block + 8))
   where
     by : (sector < 8 * block) ⊎ (8 * block ≤ sector) → (sector < 8 * block + 8) ⊎ (8 * block + 8 ≤ sector) → IsApart block sector
     by (inl low) high = inl low
@@ -62,7 +63,7 @@ module _ (sectors : ℕ) (head : Super) (blocks : ℕ → Cell) (s : Stand) (bef
 
   pub left_written : IsLeft sectors head (rewritten block bytes blocks) s image
   left_written = record {
-    volume_is = volume_of head image;
+    as_volume = volume_of head image;
     taken = taken_again sectors head blocks s before left image (agree 0 (metadata 0 (omega arith))) (sym (bad_sector_agrees (geometry_of head) (IsApart block) metadata head before image agree) ∙ no_bad sectors head blocks s before left);
     headed = refl;
     logged = log_same;

@@ -241,18 +241,6 @@ abbrev pub HasOpeningLedger : Geometry → Type 0
 HasOpeningLedger g = (sectors : ℕ) (state : State) (v : Volume) → v.geometry ≡ g → Leaves (IsImageOf sectors) state → IsSettled state → volume sectors (seen state) ≡ Ok v → bad_tree v.geometry v.image ≡ None
     → IsFreeFrom g v.head.epoch 0 (seen state) → IsLedgerOf sectors state (opening_ledger v.head (seen state))
 
--- ---- a checkpoint keeps the promise
-
--- What is home keeps it,
-abbrev pub HomingKeeps : Geometry → Type 0
-HomingKeeps g = (l : Ledger) (home : ℕ → List ℕ) (start : PosixTree) (history : List Entry) (k : Counts) → geometry_of l.head ≡ g → IsKeptBy g l.blocks l.now start history k
-    → IsKeptBy g (home_cells home l) l.now start history k
-
--- and so it does with an empty journal.
-abbrev pub EmptyingKeeps : Geometry → Type 0
-EmptyingKeeps g = (l : Ledger) (home : ℕ → List ℕ) (start : PosixTree) (history : List Entry) (k : Counts) → geometry_of l.head ≡ g → IsKeptBy g l.blocks l.now start history k
-    → IsKeptBy g (home_cells home l) (without_log l.now) start history k
-
 -- ---- runs of calls
 
 -- Where the ledger is kept by a history, each moment of a run that leaves only what the ledger has is explained by it.
@@ -296,3 +284,13 @@ CommittingIsKept g = (l : Ledger) (t : Committed) (start : PosixTree) (history :
 abbrev pub CommittedIsKept : Geometry → Type 0
 CommittedIsKept g = (l : Ledger) (t : Committed) (start : PosixTree) (history : List Entry) (now next : Counts) → geometry_of l.head ≡ g → l.maybe ≡ None → IsTree start → IsLegal start history
     → IsLedgerKept l start history now now → GoesOnBy g l t start history now next → IsLedgerKept (committed_one t l) start history next next
+
+-- by a checkpoint, while the next epoch begins and for good where it failed,
+abbrev pub BeginningIsKept : Geometry → Type 0
+BeginningIsKept g = (l : Ledger) (head : Super) (home : ℕ → List ℕ) (start : PosixTree) (history : List Entry) (now maybe : Counts) → geometry_of l.head ≡ g → geometry_of head ≡ g
+    → IsLedgerKept l start history now maybe → IsLedgerKept (beginning head home l) start history now now
+
+-- and where it passed
+abbrev pub EmptiedIsKept : Geometry → Type 0
+EmptiedIsKept g = (l : Ledger) (head : Super) (home : ℕ → List ℕ) (start : PosixTree) (history : List Entry) (now maybe : Counts) → geometry_of l.head ≡ g → geometry_of head ≡ g
+    → IsLedgerKept l start history now maybe → IsLedgerKept (emptied head home l) start history now now

@@ -65,11 +65,11 @@ with_one g t s = record { catalog = with_committed_in g t s.catalog; dirs = s.di
 -- The image is taken with this superblock, its journal has just these transactions, and its folded sectors spell this
 -- catalog, which is sound. In the blocks where nothing is folded stand contents that the cells have.
 pub record IsLeft (sectors : ℕ) (head : Super) (blocks : ℕ → Cell) (s : Stand) (image : Image) : Type 0 where
-  pub volume_is : Volume
-  pub taken : volume sectors image ≡ Ok volume_is
-  pub headed : volume_is.head ≡ head
+  pub as_volume : Volume
+  pub taken : volume sectors image ≡ Ok as_volume
+  pub headed : as_volume.head ≡ head
   pub logged : committed (geometry_of head) head.epoch image ≡ s.log
-  pub spells : Spells (geometry_of head) true s.dirs volume_is.image s.catalog
+  pub spells : Spells (geometry_of head) true s.dirs as_volume.image s.catalog
   pub covers : CoversDirs (geometry_of head) s
   pub sound : IsSoundCatalog (geometry_of head) s.catalog
   pub contents : (block : ℕ) → IsDataBlock (geometry_of head) block → is_held s.log block ≡ false → IsMixOf (possible (blocks block)) (block_at image block)

@@ -156,6 +156,8 @@ pub fn checkpoint<D: Disk>(
     // A crash leaves what it might have left, or the same behind the next superblock.
     ensures crash { IsTrue D.tells → (l : Ledger) → IsLedgerBy journal.old (D.size disk.old) (D.moments disk.old).state l → overlaid.HasAdded overlay.now l.now.log
         → LeavesOnly D.keeps (λ image. IsLeftBy (D.size disk.old) l image ⊎ IsLeftBy (D.size disk.old) (beginning head.now (block_at (home_of l (reads (D.moments disk.old)))) l) image) (D.moments disk.old) (D.moments disk.new) }
+    ensures err { IsTrue D.tells → OnErr result ((l : Ledger) → IsLedgerBy journal.old (D.size disk.old) (D.moments disk.old).state l → overlaid.HasAdded overlay.now l.now.log
+        → IsLedgerOf (D.size disk.new) (D.moments disk.new).state l ⊎ IsLedgerOf (D.size disk.new) (D.moments disk.new).state (beginning head.now (block_at (home_of l (reads (D.moments disk.old)))) l)) }
     ensures ok { IsTrue D.tells → OnOk result ((l : Ledger) → IsLedgerBy journal.old (D.size disk.old) (D.moments disk.old).state l → overlaid.HasAdded overlay.now l.now.log
         → IsLedgerBy journal.new (D.size disk.new) (D.moments disk.new).state (emptied head.now (block_at (home_of l (reads (D.moments disk.old)))) l)) }
     ensures size { D.size disk.new ≡ D.size disk.old }

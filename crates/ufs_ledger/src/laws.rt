@@ -1,10 +1,10 @@
 // Laws of the definitions, each the contract of a function that does nothing.
 ghost use Rattle.ufs_layout.specs.Areas.{IsGeometry};
-ghost use Rattle.ufs_ledger.specs.Laws.{AppendsQuietly, BarriersKeep, BarriersSettle, BeginsAnew, BeginsForGood, BeginsQuietly, CommitsForGood, CommitsKeep, CommitsOrNot, CommittedIsKept, CommittingIsKept, DirsShrink, EitherExplains, EmptyingKeeps, EntriesKeep, FewerAreKept, FilesCommit, FilesMayCommit, FreeBlocksKeep, HasOpeningLedger, HasTried, HasWritten, HomesQuietly, HomingKeeps, IgnoresBitmap, LedgersExplain, OpensAsKept, OpensMeanwhile, RunsExplain, RunsExplainMeanwhile, SettledIsKept, ShowsNow, WritesBlock, WritingKeeps, WrittenIsKept, ZerosJoin};
+ghost use Rattle.ufs_ledger.specs.Laws.{AppendsQuietly, BarriersKeep, BarriersSettle, BeginningIsKept, BeginsAnew, BeginsForGood, BeginsQuietly, CommitsForGood, CommitsKeep, CommitsOrNot, CommittedIsKept, CommittingIsKept, DirsShrink, EitherExplains, EmptiedIsKept, EntriesKeep, FewerAreKept, FilesCommit, FilesMayCommit, FreeBlocksKeep, HasOpeningLedger, HasTried, HasWritten, HomesQuietly, IgnoresBitmap, LedgersExplain, OpensAsKept, OpensMeanwhile, RunsExplain, RunsExplainMeanwhile, SettledIsKept, ShowsNow, WritesBlock, WritingKeeps, WrittenIsKept, ZerosJoin};
 
+use ufs_image::{damage_law, fold_law, walk_law};
 use ufs_layout::Geometry;
 use ufs_model::a_request_keeps_the_tree;
-use ufs_image::{damage_law, fold_law, walk_law};
 
 /// Whatever a crash leaves is explained.
 pub fn opening_law(geometry: &Geometry)
@@ -64,12 +64,12 @@ pub fn promise_law(geometry: &Geometry)
     ensures now { ShowsNow }
     ensures may { FilesMayCommit geometry.now }
     ensures file { FilesCommit geometry.now }
-    ensures home { HomingKeeps geometry.now }
-    ensures checkpoint { EmptyingKeeps geometry.now }
     ensures written { WrittenIsKept geometry.now }
     ensures settled { SettledIsKept geometry.now }
     ensures committing { CommittingIsKept geometry.now }
     ensures committed { CommittedIsKept geometry.now }
+    ensures beginning { BeginningIsKept geometry.now }
+    ensures emptied { EmptiedIsKept geometry.now }
     ensures zeros { FreeBlocksKeep geometry.now }
 {
     a_request_keeps_the_tree();

@@ -20,7 +20,7 @@ of_stand : (g : Geometry) → SpellsDirs g → ((v : Volume) → v.geometry ≡ 
     → geometry_of head ≡ g → IsLeft sectors head blocks s image → IsStandKept g blocks s start history names files n → OpensExplained sectors start history image
 of_stand g dirs paths alone sectors head blocks s image start history names files n same left kept =
     let geometry = same_geometry sectors head blocks s image left ∙ same in
-    opens_explained sectors head blocks s image left (subst SpellsDirs (sym same) dirs) (paths left.volume_is geometry) (alone left.volume_is geometry)
+    opens_explained sectors head blocks s image left (subst SpellsDirs (sym same) dirs) (paths left.as_volume geometry) (alone left.as_volume geometry)
     start history names files n (subst (λ g. IsStandKept g blocks s start history names files n) (sym same) kept)
 
 by_ledger : (g : Geometry)
@@ -39,7 +39,7 @@ meanwhile_of : (g : Geometry) → SpellsDirs g → ((v : Volume) → v.geometry 
     → geometry_of head ≡ g → IsLeft sectors head blocks s image → IsStandStored g blocks s start (take from history) names files n → IsCovering start (take to history) names files → OpensExplainedFrom sectors start history from to image
 meanwhile_of g dirs paths alone sectors head blocks s image start history from to names files n same left stored covers =
     let geometry = same_geometry sectors head blocks s image left ∙ same in
-    opens_explained_from sectors head blocks s image left (subst SpellsDirs (sym same) dirs) (paths left.volume_is geometry) (alone left.volume_is geometry)
+    opens_explained_from sectors head blocks s image left (subst SpellsDirs (sym same) dirs) (paths left.as_volume geometry) (alone left.as_volume geometry)
     start history from to names files n (subst (λ g. IsStandStored g blocks s start (take from history) names files n) (sym same) stored) covers
 
 pub returns : goal.returns

@@ -1,10 +1,7 @@
 use Rattle.ufs_ledger.proofs.Promise.{fewer_kept, writing_kept, entry_kept, commit_kept, shows_now}
-use Rattle.std.proofs.Common.{[], refl, sym, subst}
-use Rattle.ufs_layout.specs.Superblock.{geometry_of}
-use Rattle.ufs_ledger.specs.Changes.{without_log, home_cells}
-use Rattle.ufs_ledger.specs.Kept.{IsKeptBy}
+use Rattle.std.proofs.Common.{◌∙◌, sym, subst}
 use Rattle.ufs_ledger.specs.Laws.{GoesOnBy}
-use Rattle.ufs_ledger.proofs.Whole.{emptied_kept, ledger_kept, ledger_goes_on}
+use Rattle.ufs_ledger.proofs.Whole.{beginning_kept, emptied_is_kept, ledger_kept, ledger_goes_on}
 use Rattle.ufs_ledger.proofs.Freed.{free_block_kept}
 use Rattle.ufs_ledger.proofs.FileCommits.{may_commit, stands_on}
 use Rattle.ufs_ledger.proofs.laws.promise_law.Goals as goal
@@ -20,17 +17,13 @@ returns c = record {
   may = λ blocks s start history names files n file inode number size keep extents sound covers kept go.
       may_commit c.args.geometry.now blocks s start history names files n file inode number size keep extents sound covers kept go;
   zeros = λ blocks s block start history names files n sound covers no_dir kept. free_block_kept c.args.geometry.now s block covers no_dir sound c.requires blocks start history names files n kept;
-  home = λ l home start history k same kept.
-      subst (λ g. IsKeptBy g (home_cells home l) l.now start history k) same
-      (emptied_kept (geometry_of l.head) l home start history k.names k.files k.numbers (subst (λ g. IsKeptBy g l.blocks l.now start history k) (sym same) kept) l.now.log (λ block free. free));
-  checkpoint = λ l home start history k same kept.
-      subst (λ g. IsKeptBy g (home_cells home l) (without_log l.now) start history k) same
-      (emptied_kept (geometry_of l.head) l home start history k.names k.files k.numbers (subst (λ g. IsKeptBy g l.blocks l.now start history k) (sym same) kept) [] (λ block free. refl));
   written = λ l block bytes start history now maybe same none now_there kept. (ledger_kept l start history now maybe none kept).0 block bytes now_there;
   settled = λ l start history now maybe same none kept. (ledger_kept l start history now maybe none kept).1;
   committing = λ l t start history now next same none is legal kept on.
       (ledger_goes_on l t start history now next c.a_request_keeps_the_tree.ensures none is legal.entries kept (subst (λ g. GoesOnBy g l t start history now next) (sym same) on)).0;
   committed = λ l t start history now next same none is legal kept on.
       (ledger_goes_on l t start history now next c.a_request_keeps_the_tree.ensures none is legal.entries kept (subst (λ g. GoesOnBy g l t start history now next) (sym same) on)).1;
+  beginning = λ l head home start history now maybe same next kept. beginning_kept l head home start history now maybe (next ∙ sym same) kept;
+  emptied = λ l head home start history now maybe same next kept. emptied_is_kept l head home start history now maybe (next ∙ sym same) kept;
   now = λ blocks shape opening changes size now. shows_now blocks shape opening changes size now;
 }
