@@ -1,0 +1,133 @@
+-- Images that agree where it matters are left alike.
+use Rattle.std.proofs.Common.{◌≡◌, ℕ, ◌≤◌, ◌⊎◌, inl, inr, [], ◌∷◌, ◌++◌, Bool, true, false, None, length, unwrap_or, ap, sym, refl, ◌∙◌, subst, arith}
+use Rattle.std.specs.Prelude.{nat_le, Ok, IsTrue}
+use Rattle.std.proofs.lemmas.Bool.{and_parts}
+use Rattle.std.proofs.lemmas.Bool.Decides.{nat_tests}
+use Rattle.ufs_disk.specs.Disk.{Cell, possible}
+use Rattle.ufs_layout.specs.Areas.{first_of_data, sector_of_inode, is_inode_number}
+use Rattle.ufs_layout.specs.Superblock.{geometry_of}
+use Rattle.ufs_layout.specs.InodeForm.{inode_of, free_inode}
+use Rattle.ufs_base.specs.Images.{Image}
+use Rattle.ufs_image.specs.Images.{block_at}
+use Rattle.ufs_image.specs.Journal.{committed}
+use Rattle.ufs_image.specs.BadSectors.{bad_sector}
+use Rattle.ufs_image.specs.Fold.{folded, with_committed}
+use Rattle.ufs_image.specs.Volume.{Volume, volume, volume_of, head_of, head_refusal}
+use Rattle.ufs_layout.specs.declared.geometry.Geometry.{Geometry}
+use Rattle.ufs_layout.specs.declared.superblock.Super.{Super}
+use Rattle.ufs_layout.specs.declared.records.Committed.{Committed}
+use Rattle.ufs_journal.specs.Found.{IsOffJournal}
+use Rattle.ufs_journal.specs.Written.{IsOfEpoch, DiffersInEpoch, SaysTheSame, CommitsOne}
+use Rattle.ufs_image.specs.Catalog.{Catalog, IsInode}
+use Rattle.ufs_image.specs.Agree.{AgreeOn, IsOfBlock}
+use Rattle.ufs_image.specs.Folding.{Spells, with_committed_in}
+use Rattle.ufs_image.specs.CatalogLaws.{FoldsCatalogs, FoldsOneMore}
+use Rattle.ufs_image.proofs.Journals.{taken, is_taken}
+use Rattle.ufs_image.proofs.Agreeing.{folded_agrees}
+use Rattle.ufs_image.proofs.Blocks.{block_same, read_same}
+use Rattle.ufs_ledger.specs.Ledger.{IsDataBlock, IsMixOf, is_held, Stand, IsLeft, with_one}
+use Rattle.ufs_ledger.specs.Changes.{MayCommit}
+use Rattle.ufs_ledger.proofs.Held.{held_before}
+use Rattle.ufs_ledger.proofs.Opened.{same_image}
+
+-- ---- areas
+
+pub in_range : (g : Geometry) (inode : ℕ) → IsInode g inode → is_inode_number g inode ≡ true
+in_range g inode is = let from = is.from_one in let most = is.within in grind (arith, nat_tests, from, most)
+
+inode_off : (g : Geometry) (inode : ℕ) → is_inode_number g inode ≡ true → IsOffJournal g (sector_of_inode g inode)
+inode_off g inode is =
+    let low : 1 ≤ inode = let t = (and_parts (nat_le 1 inode) (nat_le inode g.inodes) is).0 in grind (arith, nat_tests, t) in
+    let high : inode ≤ g.inodes = let t = (and_parts (nat_le 1 inode) (nat_le inode g.inodes) is).1 in grind (arith, nat_tests, t) in
+    inl (omega (arith, low, high))
+
+pub block_off : (g : Geometry) (block sector : ℕ) → first_of_data g ≤ block → IsOfBlock block sector → IsOffJournal g sector
+block_off g block sector from of = let at = of.same in inr (omega (arith, from, at))
+
+zero_off : (g : Geometry) → IsOffJournal g 0
+zero_off g = inl (omega arith)
+
+-- ---- what is spelled
+
+module _ (g : Geometry) (these : ℕ → Type 0) (table : (inode : ℕ) → is_inode_number g inode ≡ true → these (sector_of_inode g inode)) where
+  pub spells_agree : (dirs : ℕ → Bool) (image other : Image) (c : Catalog) → AgreeOn these image other → ((block sector : ℕ) → IsTrue (dirs block) → first_of_data g ≤ block → IsOfBlock block sector → these sector)
+      → Spells g true dirs image c → Spells g true dirs other c
+  spells_agree dirs image other c agree blocks is =
+      let inodes : (inode : ℕ) → IsInode g inode → image (sector_of_inode g inode) ≡ other (sector_of_inode g inode) = λ inode ranged. agree (sector_of_inode g inode) (table inode (in_range g inode ranged)) in
+      record {
+        forms = λ inode ranged. sym (ap (λ bytes. unwrap_or (inode_of bytes) (free_inode 0)) (inodes inode ranged)) ∙ is.forms inode ranged;
+        on_form = λ whole inode ranged. sym (ap inode_of (inodes inode ranged)) ∙ is.on_form whole inode ranged;
+        fit = is.fit;
+        in_data = is.in_data;
+        slots = λ block of. sym (read_same image other block (λ s at. agree s (blocks block s of (is.in_data block of) at))) ∙ is.slots block of;
+        sized = λ block sector of at. subst (λ bytes. length bytes ≡ 512) (agree sector (blocks block sector of (is.in_data block of) at)) (is.sized block sector of at);
+      }
+
+-- ---- the volume
+
+module _ (sectors : ℕ) (head : Super) (blocks : ℕ → Cell) (s : Stand) (before : Image) (left : IsLeft sectors head blocks s before) where
+  pub same_head : head_of before ≡ head
+  same_head = let is = taken sectors before left.as_volume left.taken in sym (ap (λ (v : Volume). v.head) is.same) ∙ left.headed
+
+  pub no_bad : bad_sector (geometry_of head) head before ≡ None
+  no_bad = let is = taken sectors before left.as_volume left.taken in ap (λ (h : Super). bad_sector (geometry_of h) h before) (sym same_head) ∙ is.journal
+
+  pub taken_again : (image : Image) → before 0 ≡ image 0 → bad_sector (geometry_of head) head image ≡ None → volume sectors image ≡ Ok (volume_of head image)
+  taken_again image first good =
+      let is = taken sectors before left.as_volume left.taken in
+      let heads : head_of image ≡ head = sym (ap (λ bytes. head_of (λ _. bytes)) first) ∙ same_head in
+      is_taken sectors image (sym (ap (λ bytes. head_refusal sectors (λ _. bytes)) first) ∙ is.head) (ap (λ (h : Super). bad_sector (geometry_of h) h image) heads ∙ good)
+      ∙ ap (λ (h : Super). Ok (volume_of h image)) heads
+
+  pub spelled_folds : Spells (geometry_of head) true s.dirs (folded (geometry_of head) s.log before) s.catalog
+  spelled_folds = subst (λ i. Spells (geometry_of head) true s.dirs i s.catalog) (same_image sectors head blocks s before left) left.spells
+
+  -- ---- the journal goes on
+
+  module _ (image : Image) (differs : DiffersInEpoch (geometry_of head) head.epoch before image) where
+    pub agree_off : AgreeOn (IsOffJournal (geometry_of head)) before image
+    agree_off sector off = by (differs sector) off
+      where
+        by : (image sector ≡ before sector) ⊎ IsOfEpoch (geometry_of head) head.epoch sector image → IsOffJournal (geometry_of head) sector → before sector ≡ image sector
+        by (inl same) off = sym same
+        by (inr of) (inl low) = let from = of.from in absurd (omega (arith, from, low))
+        by (inr of) (inr high) = let under = of.under in absurd (omega (arith, under, high))
+
+    folds_spelled : Spells (geometry_of head) true s.dirs (folded (geometry_of head) s.log image) s.catalog
+    folds_spelled =
+        spells_agree (geometry_of head) (IsOffJournal (geometry_of head)) (inode_off (geometry_of head)) s.dirs (folded (geometry_of head) s.log before) (folded (geometry_of head) s.log image) s.catalog
+        (folded_agrees (geometry_of head) (IsOffJournal (geometry_of head)) (inode_off (geometry_of head)) s.log before image agree_off)
+        (λ block sector of from at. block_off (geometry_of head) block sector from at) spelled_folds
+
+    same_contents : (block : ℕ) → IsDataBlock (geometry_of head) block → is_held s.log block ≡ false → IsMixOf (possible (blocks block)) (block_at image block)
+    same_contents block data' free =
+        subst (IsMixOf (possible (blocks block))) (block_same before image block (λ s of. agree_off s (block_off (geometry_of head) block s data'.from of))) (left.contents block data' free)
+
+  pub says_same : (image : Image) → SaysTheSame (geometry_of head) head.epoch before image → IsLeft sectors head blocks s image
+  says_same image says = record {
+    as_volume = volume_of head image;
+    taken = taken_again image (agree_off image says.differs 0 (zero_off (geometry_of head))) (says.bad head refl ∙ no_bad);
+    headed = refl;
+    logged = says.same ∙ left.logged;
+    spells = subst (λ log. Spells (geometry_of head) true s.dirs (folded (geometry_of head) log image) s.catalog) (sym (says.same ∙ left.logged)) (folds_spelled image says.differs);
+    covers = left.covers;
+    sound = left.sound;
+    contents = same_contents image says.differs;
+  }
+
+  pub commits_one : FoldsCatalogs (geometry_of head) → FoldsOneMore (geometry_of head) → (t : Committed) (image : Image) → head.next ≤ t.number → MayCommit (geometry_of head) t s → CommitsOne (geometry_of head) head.epoch t before image
+      → IsLeft sectors head blocks (with_one (geometry_of head) t s) image
+  commits_one folds one_more t image later may says =
+      let g : Geometry = geometry_of head in
+      let log : committed g head.epoch image ≡ s.log ++ t ∷ [] = says.more ∙ ap (λ log. log ++ t ∷ []) left.logged in
+      let after : Spells g true s.dirs (with_committed g t (folded g s.log image)) (with_committed_in g t s.catalog) = folds true s.dirs (folded g s.log image) s.catalog (t ∷ []) (folds_spelled image says.differs) (may.fits, tt) in
+      record {
+        as_volume = volume_of head image;
+        taken = taken_again image (agree_off image says.differs 0 (zero_off g)) (says.bad head refl later ∙ no_bad);
+        headed = refl;
+        logged = log;
+        spells = subst (λ i. Spells g true s.dirs i (with_committed_in g t s.catalog)) (sym (ap (λ log. folded g log image) log ∙ one_more s.log t image)) after;
+        covers = may.covers;
+        sound = may.sound;
+        contents = λ block data' free. same_contents image says.differs block data' (held_before s.log t block free);
+      }

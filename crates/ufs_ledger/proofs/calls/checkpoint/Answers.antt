@@ -1,0 +1,312 @@
+use Rattle.std.proofs.Common.{◌≡◌, ◌∙◌, inl, inr, ℕ, refl, List, length, sym, subst, arith, rules}
+use Rattle.ufs_disk.specs.Moments.{LeavesOnly, reads}
+use Rattle.ufs_disk.proofs.Images.{seen_is_image}
+use Rattle.ufs_disk.proofs.Noted.{on_err}
+use Rattle.ufs_layout.specs.Superblock.{geometry_of}
+use Rattle.ufs_image.specs.Images.{block_at}
+use Rattle.ufs_image.specs.Fold.{folded}
+use Rattle.ufs_layout.specs.declared.geometry.Geometry.{Geometry}
+use Rattle.ufs_journal.specs.Kept.{IsReady}
+use Rattle.ufs_ledger.specs.Ledger.{IsLedgerOf}
+use Rattle.ufs_ledger.specs.Changes.{beginning, emptied, home_of}
+use Rattle.ufs_overlay.specs.Over.{IsHomeWritten}
+use Rattle.ufs_overlay.specs.Seen as overlaid
+use Rattle.ufs_ledger.proofs.Wholes.{images_of, sized_images}
+use Rattle.ufs_ledger.proofs.Emptying.{crash1, crash2, crash3, crash4, crash5, ledger1, ledger2, ledger3, ledger4, ledger5_tried, ledger5, ready5}
+use Rattle.ufs_ledger.proofs.calls.checkpoint.Goals as goal
+
+pub returns-in_err-barrier-clause-crash : goal.returns-in_err-barrier-clause-crash
+returns-in_err-barrier-clause-crash g c told l by log =
+    let size = g.D.Disk.size c.args.disk.now in
+    let j = c.args.journal.now in
+    let new = c.args.head.now in
+    let m0 = g.D.Disk.moments c.args.disk.now in
+    let m1 = g.D.Disk.moments c.barrier.new.self in
+    let kept : geometry_of new ≡ geometry_of l.head = c.requires.same ∙ sym by.geometry in
+    let whole = images_of size m0.state (g.met.D.Disk.whole told c.args.disk.now) in
+    let run1 = c.barrier.ensures.crash told in
+    let same = c.barrier.ensures.content told in
+    crash1 size g.D.Disk.keeps j l new c.super_sector-sector.result m0 m1 by whole c.super_sector-sector.ensures kept c.requires.later run1 same
+
+pub returns-in_err-write_home-clause-crash : goal.returns-in_err-write_home-clause-crash
+returns-in_err-write_home-clause-crash g c told l by log =
+    let size = g.D.Disk.size c.args.disk.now in
+    let j = c.args.journal.now in
+    let new = c.args.head.now in
+    let m0 = g.D.Disk.moments c.args.disk.now in
+    let m1 = g.D.Disk.moments c.barrier.new.self in
+    let kept : geometry_of new ≡ geometry_of l.head = c.requires.same ∙ sym by.geometry in
+    let whole = images_of size m0.state (g.met.D.Disk.whole told c.args.disk.now) in
+    let run1 = c.barrier.ensures.crash told in
+    let same = c.barrier.ensures.content told in
+    let still1 = c.in_ok-barrier.ensures.ok told in
+    let whole1 = sized_images size (g.D.Disk.size c.barrier.new.self) c.barrier.ensures.size m1.state (g.met.D.Disk.whole told c.barrier.new.self) in
+    let m2 = g.D.Disk.moments c.write_home.new.disk in
+    let over : overlaid.geometry_of c.args.overlay.now ≡ geometry_of l.head = c.requires.over ∙ sym by.geometry in
+    let run2 = subst (λ (x : Geometry). LeavesOnly g.D.Disk.keeps (IsHomeWritten x l.now.log m1.state) m1 m2) over (c.write_home.ensures.crash told l.now.log log (λ image left sector touched i. still1 image left i sector)) in
+    crash2 size g.D.Disk.keeps j l new c.super_sector-sector.result m0 m1 by whole c.super_sector-sector.ensures kept c.requires.later run1 same still1 whole1 m2 run2
+
+pub returns-in_err-barrier-2-clause-crash : goal.returns-in_err-barrier-2-clause-crash
+returns-in_err-barrier-2-clause-crash g c told l by log =
+    let size = g.D.Disk.size c.args.disk.now in
+    let j = c.args.journal.now in
+    let new = c.args.head.now in
+    let m0 = g.D.Disk.moments c.args.disk.now in
+    let m1 = g.D.Disk.moments c.barrier.new.self in
+    let kept : geometry_of new ≡ geometry_of l.head = c.requires.same ∙ sym by.geometry in
+    let whole = images_of size m0.state (g.met.D.Disk.whole told c.args.disk.now) in
+    let run1 = c.barrier.ensures.crash told in
+    let same = c.barrier.ensures.content told in
+    let still1 = c.in_ok-barrier.ensures.ok told in
+    let whole1 = sized_images size (g.D.Disk.size c.barrier.new.self) c.barrier.ensures.size m1.state (g.met.D.Disk.whole told c.barrier.new.self) in
+    let m2 = g.D.Disk.moments c.write_home.new.disk in
+    let over : overlaid.geometry_of c.args.overlay.now ≡ geometry_of l.head = c.requires.over ∙ sym by.geometry in
+    let run2 = subst (λ (x : Geometry). LeavesOnly g.D.Disk.keeps (IsHomeWritten x l.now.log m1.state) m1 m2) over (c.write_home.ensures.crash told l.now.log log (λ image left sector touched i. still1 image left i sector)) in
+    let done = subst (λ (x : Geometry). reads m2 ≡ folded x l.now.log (reads m1)) over (λ i k. c.in_ok-write_home.ensures.ok told l.now.log log k i) in
+    let m3 = g.D.Disk.moments c.barrier-2.new.self in
+    let run3 = c.barrier-2.ensures.crash told in
+    let same3 = c.barrier-2.ensures.content told in
+    crash3 size g.D.Disk.keeps j l new c.super_sector-sector.result m0 m1 by whole c.super_sector-sector.ensures kept c.requires.later run1 same still1 whole1 m2 run2 done m3 run3 same3
+
+pub returns-in_err-write-clause-crash : goal.returns-in_err-write-clause-crash
+returns-in_err-write-clause-crash g c told l by log =
+    let size = g.D.Disk.size c.args.disk.now in
+    let j = c.args.journal.now in
+    let new = c.args.head.now in
+    let m0 = g.D.Disk.moments c.args.disk.now in
+    let m1 = g.D.Disk.moments c.barrier.new.self in
+    let kept : geometry_of new ≡ geometry_of l.head = c.requires.same ∙ sym by.geometry in
+    let whole = images_of size m0.state (g.met.D.Disk.whole told c.args.disk.now) in
+    let run1 = c.barrier.ensures.crash told in
+    let same = c.barrier.ensures.content told in
+    let still1 = c.in_ok-barrier.ensures.ok told in
+    let whole1 = sized_images size (g.D.Disk.size c.barrier.new.self) c.barrier.ensures.size m1.state (g.met.D.Disk.whole told c.barrier.new.self) in
+    let m2 = g.D.Disk.moments c.write_home.new.disk in
+    let over : overlaid.geometry_of c.args.overlay.now ≡ geometry_of l.head = c.requires.over ∙ sym by.geometry in
+    let run2 = subst (λ (x : Geometry). LeavesOnly g.D.Disk.keeps (IsHomeWritten x l.now.log m1.state) m1 m2) over (c.write_home.ensures.crash told l.now.log log (λ image left sector touched i. still1 image left i sector)) in
+    let done = subst (λ (x : Geometry). reads m2 ≡ folded x l.now.log (reads m1)) over (λ i k. c.in_ok-write_home.ensures.ok told l.now.log log k i) in
+    let m3 = g.D.Disk.moments c.barrier-2.new.self in
+    let run3 = c.barrier-2.ensures.crash told in
+    let same3 = c.barrier-2.ensures.content told in
+    let still3 = c.in_ok-barrier-2.ensures.ok told in
+    let whole3 = sized_images size (g.D.Disk.size c.barrier-2.new.self) (c.barrier-2.ensures.size ∙ c.write_home.ensures.size ∙ c.barrier.ensures.size) m3.state (g.met.D.Disk.whole told c.barrier-2.new.self) (reads m3) (seen_is_image m3.state) in
+    let long : length c.super_sector-sector.result ≡ 512 = search rules in
+    let m4 = g.D.Disk.moments c.write.new.self in
+    let run4 = c.write.ensures.crash told in
+    crash4 size g.D.Disk.keeps j l new c.super_sector-sector.result m0 m1 by whole c.super_sector-sector.ensures kept c.requires.later run1 same still1 whole1 m2 run2 done m3 run3 same3 still3 whole3 long m4 run4
+
+pub returns-in_err-barrier-3-clause-crash : goal.returns-in_err-barrier-3-clause-crash
+returns-in_err-barrier-3-clause-crash g c told l by log =
+    let size = g.D.Disk.size c.args.disk.now in
+    let j = c.args.journal.now in
+    let new = c.args.head.now in
+    let m0 = g.D.Disk.moments c.args.disk.now in
+    let m1 = g.D.Disk.moments c.barrier.new.self in
+    let kept : geometry_of new ≡ geometry_of l.head = c.requires.same ∙ sym by.geometry in
+    let whole = images_of size m0.state (g.met.D.Disk.whole told c.args.disk.now) in
+    let run1 = c.barrier.ensures.crash told in
+    let same = c.barrier.ensures.content told in
+    let still1 = c.in_ok-barrier.ensures.ok told in
+    let whole1 = sized_images size (g.D.Disk.size c.barrier.new.self) c.barrier.ensures.size m1.state (g.met.D.Disk.whole told c.barrier.new.self) in
+    let m2 = g.D.Disk.moments c.write_home.new.disk in
+    let over : overlaid.geometry_of c.args.overlay.now ≡ geometry_of l.head = c.requires.over ∙ sym by.geometry in
+    let run2 = subst (λ (x : Geometry). LeavesOnly g.D.Disk.keeps (IsHomeWritten x l.now.log m1.state) m1 m2) over (c.write_home.ensures.crash told l.now.log log (λ image left sector touched i. still1 image left i sector)) in
+    let done = subst (λ (x : Geometry). reads m2 ≡ folded x l.now.log (reads m1)) over (λ i k. c.in_ok-write_home.ensures.ok told l.now.log log k i) in
+    let m3 = g.D.Disk.moments c.barrier-2.new.self in
+    let run3 = c.barrier-2.ensures.crash told in
+    let same3 = c.barrier-2.ensures.content told in
+    let still3 = c.in_ok-barrier-2.ensures.ok told in
+    let whole3 = sized_images size (g.D.Disk.size c.barrier-2.new.self) (c.barrier-2.ensures.size ∙ c.write_home.ensures.size ∙ c.barrier.ensures.size) m3.state (g.met.D.Disk.whole told c.barrier-2.new.self) (reads m3) (seen_is_image m3.state) in
+    let long : length c.super_sector-sector.result ≡ 512 = search rules in
+    let m4 = g.D.Disk.moments c.write.new.self in
+    let run4 = c.write.ensures.crash told in
+    let put4 = c.in_ok-write.ensures.ok told in
+    let m5 = g.D.Disk.moments c.barrier-3.new.self in
+    let run5 = c.barrier-3.ensures.crash told in
+    let same5 = c.barrier-3.ensures.content told in
+    crash5 size g.D.Disk.keeps j l new c.super_sector-sector.result m0 m1 by whole c.super_sector-sector.ensures kept c.requires.later run1 same still1 whole1 m2 run2 done m3 run3 same3 still3 whole3 long m4 run4 put4 m5 run5 same5
+
+pub returns-in_err-barrier-clause-err : goal.returns-in_err-barrier-clause-err
+returns-in_err-barrier-clause-err g c told = on_err c.from_residual.result _ (λ l by log.
+    let size = g.D.Disk.size c.args.disk.now in
+    let j = c.args.journal.now in
+    let new = c.args.head.now in
+    let m0 = g.D.Disk.moments c.args.disk.now in
+    let m1 = g.D.Disk.moments c.barrier.new.self in
+    let kept : geometry_of new ≡ geometry_of l.head = c.requires.same ∙ sym by.geometry in
+    let whole = images_of size m0.state (g.met.D.Disk.whole told c.args.disk.now) in
+    let run1 = c.barrier.ensures.crash told in
+    let same = c.barrier.ensures.content told in
+    inl (subst (λ n. IsLedgerOf n m1.state l) (sym (c.barrier.ensures.size)) (ledger1 size g.D.Disk.keeps j l new c.super_sector-sector.result m0 m1 by whole c.super_sector-sector.ensures kept c.requires.later run1 same)))
+
+pub returns-in_err-write_home-clause-err : goal.returns-in_err-write_home-clause-err
+returns-in_err-write_home-clause-err g c told = on_err c.from_residual-in_err-write_home.result _ (λ l by log.
+    let size = g.D.Disk.size c.args.disk.now in
+    let j = c.args.journal.now in
+    let new = c.args.head.now in
+    let m0 = g.D.Disk.moments c.args.disk.now in
+    let m1 = g.D.Disk.moments c.barrier.new.self in
+    let kept : geometry_of new ≡ geometry_of l.head = c.requires.same ∙ sym by.geometry in
+    let whole = images_of size m0.state (g.met.D.Disk.whole told c.args.disk.now) in
+    let run1 = c.barrier.ensures.crash told in
+    let same = c.barrier.ensures.content told in
+    let still1 = c.in_ok-barrier.ensures.ok told in
+    let whole1 = sized_images size (g.D.Disk.size c.barrier.new.self) c.barrier.ensures.size m1.state (g.met.D.Disk.whole told c.barrier.new.self) in
+    let m2 = g.D.Disk.moments c.write_home.new.disk in
+    let over : overlaid.geometry_of c.args.overlay.now ≡ geometry_of l.head = c.requires.over ∙ sym by.geometry in
+    let run2 = subst (λ (x : Geometry). LeavesOnly g.D.Disk.keeps (IsHomeWritten x l.now.log m1.state) m1 m2) over (c.write_home.ensures.crash told l.now.log log (λ image left sector touched i. still1 image left i sector)) in
+    inl (subst (λ n. IsLedgerOf n m2.state l) (sym (c.write_home.ensures.size ∙ c.barrier.ensures.size)) (ledger2 size g.D.Disk.keeps j l new c.super_sector-sector.result m0 m1 by whole c.super_sector-sector.ensures kept c.requires.later run1 same still1 whole1 m2 run2)))
+
+pub returns-in_err-barrier-2-clause-err : goal.returns-in_err-barrier-2-clause-err
+returns-in_err-barrier-2-clause-err g c told = on_err c.from_residual-in_err-barrier-2.result _ (λ l by log.
+    let size = g.D.Disk.size c.args.disk.now in
+    let j = c.args.journal.now in
+    let new = c.args.head.now in
+    let m0 = g.D.Disk.moments c.args.disk.now in
+    let m1 = g.D.Disk.moments c.barrier.new.self in
+    let kept : geometry_of new ≡ geometry_of l.head = c.requires.same ∙ sym by.geometry in
+    let whole = images_of size m0.state (g.met.D.Disk.whole told c.args.disk.now) in
+    let run1 = c.barrier.ensures.crash told in
+    let same = c.barrier.ensures.content told in
+    let still1 = c.in_ok-barrier.ensures.ok told in
+    let whole1 = sized_images size (g.D.Disk.size c.barrier.new.self) c.barrier.ensures.size m1.state (g.met.D.Disk.whole told c.barrier.new.self) in
+    let m2 = g.D.Disk.moments c.write_home.new.disk in
+    let over : overlaid.geometry_of c.args.overlay.now ≡ geometry_of l.head = c.requires.over ∙ sym by.geometry in
+    let run2 = subst (λ (x : Geometry). LeavesOnly g.D.Disk.keeps (IsHomeWritten x l.now.log m1.state) m1 m2) over (c.write_home.ensures.crash told l.now.log log (λ image left sector touched i. still1 image left i sector)) in
+    let done = subst (λ (x : Geometry). reads m2 ≡ folded x l.now.log (reads m1)) over (λ i k. c.in_ok-write_home.ensures.ok told l.now.log log k i) in
+    let m3 = g.D.Disk.moments c.barrier-2.new.self in
+    let run3 = c.barrier-2.ensures.crash told in
+    let same3 = c.barrier-2.ensures.content told in
+    inl (subst (λ n. IsLedgerOf n m3.state l) (sym (c.barrier-2.ensures.size ∙ c.write_home.ensures.size ∙ c.barrier.ensures.size)) (ledger3 size g.D.Disk.keeps j l new c.super_sector-sector.result m0 m1 by whole c.super_sector-sector.ensures kept c.requires.later run1 same still1 whole1 m2 run2 done m3 run3 same3)))
+
+pub returns-in_err-write-clause-err : goal.returns-in_err-write-clause-err
+returns-in_err-write-clause-err g c told = on_err c.from_residual-in_err-write.result _ (λ l by log.
+    let size = g.D.Disk.size c.args.disk.now in
+    let j = c.args.journal.now in
+    let new = c.args.head.now in
+    let m0 = g.D.Disk.moments c.args.disk.now in
+    let m1 = g.D.Disk.moments c.barrier.new.self in
+    let kept : geometry_of new ≡ geometry_of l.head = c.requires.same ∙ sym by.geometry in
+    let whole = images_of size m0.state (g.met.D.Disk.whole told c.args.disk.now) in
+    let run1 = c.barrier.ensures.crash told in
+    let same = c.barrier.ensures.content told in
+    let still1 = c.in_ok-barrier.ensures.ok told in
+    let whole1 = sized_images size (g.D.Disk.size c.barrier.new.self) c.barrier.ensures.size m1.state (g.met.D.Disk.whole told c.barrier.new.self) in
+    let m2 = g.D.Disk.moments c.write_home.new.disk in
+    let over : overlaid.geometry_of c.args.overlay.now ≡ geometry_of l.head = c.requires.over ∙ sym by.geometry in
+    let run2 = subst (λ (x : Geometry). LeavesOnly g.D.Disk.keeps (IsHomeWritten x l.now.log m1.state) m1 m2) over (c.write_home.ensures.crash told l.now.log log (λ image left sector touched i. still1 image left i sector)) in
+    let done = subst (λ (x : Geometry). reads m2 ≡ folded x l.now.log (reads m1)) over (λ i k. c.in_ok-write_home.ensures.ok told l.now.log log k i) in
+    let m3 = g.D.Disk.moments c.barrier-2.new.self in
+    let run3 = c.barrier-2.ensures.crash told in
+    let same3 = c.barrier-2.ensures.content told in
+    let still3 = c.in_ok-barrier-2.ensures.ok told in
+    let whole3 = sized_images size (g.D.Disk.size c.barrier-2.new.self) (c.barrier-2.ensures.size ∙ c.write_home.ensures.size ∙ c.barrier.ensures.size) m3.state (g.met.D.Disk.whole told c.barrier-2.new.self) (reads m3) (seen_is_image m3.state) in
+    let long : length c.super_sector-sector.result ≡ 512 = search rules in
+    let m4 = g.D.Disk.moments c.write.new.self in
+    let run4 = c.write.ensures.crash told in
+    inr (subst (λ n. IsLedgerOf n m4.state (beginning new (block_at (home_of l (reads m0))) l)) (sym (c.write.ensures.size ∙ c.barrier-2.ensures.size ∙ c.write_home.ensures.size ∙ c.barrier.ensures.size)) (ledger4 size g.D.Disk.keeps j l new c.super_sector-sector.result m0 m1 by whole c.super_sector-sector.ensures kept c.requires.later run1 same still1 whole1 m2 run2 done m3 run3 same3 still3 whole3 long m4 run4)))
+
+pub returns-in_err-barrier-3-clause-err : goal.returns-in_err-barrier-3-clause-err
+returns-in_err-barrier-3-clause-err g c told = on_err c.from_residual-in_err-barrier-3.result _ (λ l by log.
+    let size = g.D.Disk.size c.args.disk.now in
+    let j = c.args.journal.now in
+    let new = c.args.head.now in
+    let m0 = g.D.Disk.moments c.args.disk.now in
+    let m1 = g.D.Disk.moments c.barrier.new.self in
+    let kept : geometry_of new ≡ geometry_of l.head = c.requires.same ∙ sym by.geometry in
+    let whole = images_of size m0.state (g.met.D.Disk.whole told c.args.disk.now) in
+    let run1 = c.barrier.ensures.crash told in
+    let same = c.barrier.ensures.content told in
+    let still1 = c.in_ok-barrier.ensures.ok told in
+    let whole1 = sized_images size (g.D.Disk.size c.barrier.new.self) c.barrier.ensures.size m1.state (g.met.D.Disk.whole told c.barrier.new.self) in
+    let m2 = g.D.Disk.moments c.write_home.new.disk in
+    let over : overlaid.geometry_of c.args.overlay.now ≡ geometry_of l.head = c.requires.over ∙ sym by.geometry in
+    let run2 = subst (λ (x : Geometry). LeavesOnly g.D.Disk.keeps (IsHomeWritten x l.now.log m1.state) m1 m2) over (c.write_home.ensures.crash told l.now.log log (λ image left sector touched i. still1 image left i sector)) in
+    let done = subst (λ (x : Geometry). reads m2 ≡ folded x l.now.log (reads m1)) over (λ i k. c.in_ok-write_home.ensures.ok told l.now.log log k i) in
+    let m3 = g.D.Disk.moments c.barrier-2.new.self in
+    let run3 = c.barrier-2.ensures.crash told in
+    let same3 = c.barrier-2.ensures.content told in
+    let still3 = c.in_ok-barrier-2.ensures.ok told in
+    let whole3 = sized_images size (g.D.Disk.size c.barrier-2.new.self) (c.barrier-2.ensures.size ∙ c.write_home.ensures.size ∙ c.barrier.ensures.size) m3.state (g.met.D.Disk.whole told c.barrier-2.new.self) (reads m3) (seen_is_image m3.state) in
+    let long : length c.super_sector-sector.result ≡ 512 = search rules in
+    let m4 = g.D.Disk.moments c.write.new.self in
+    let run4 = c.write.ensures.crash told in
+    let put4 = c.in_ok-write.ensures.ok told in
+    let m5 = g.D.Disk.moments c.barrier-3.new.self in
+    let run5 = c.barrier-3.ensures.crash told in
+    let same5 = c.barrier-3.ensures.content told in
+    inr (subst (λ n. IsLedgerOf n m5.state (beginning new (block_at (home_of l (reads m0))) l)) (sym (c.barrier-3.ensures.size ∙ c.write.ensures.size ∙ c.barrier-2.ensures.size ∙ c.write_home.ensures.size ∙ c.barrier.ensures.size)) (ledger5_tried size g.D.Disk.keeps j l new c.super_sector-sector.result m0 m1 by whole c.super_sector-sector.ensures kept c.requires.later run1 same still1 whole1 m2 run2 done m3 run3 same3 still3 whole3 long m4 run4 put4 m5 run5 same5)))
+
+pub returns-clause-crash : goal.returns-clause-crash
+returns-clause-crash g c told l by log =
+    let size = g.D.Disk.size c.args.disk.now in
+    let j = c.args.journal.now in
+    let new = c.args.head.now in
+    let m0 = g.D.Disk.moments c.args.disk.now in
+    let m1 = g.D.Disk.moments c.barrier.new.self in
+    let kept : geometry_of new ≡ geometry_of l.head = c.requires.same ∙ sym by.geometry in
+    let whole = images_of size m0.state (g.met.D.Disk.whole told c.args.disk.now) in
+    let run1 = c.barrier.ensures.crash told in
+    let same = c.barrier.ensures.content told in
+    let still1 = c.in_ok-barrier.ensures.ok told in
+    let whole1 = sized_images size (g.D.Disk.size c.barrier.new.self) c.barrier.ensures.size m1.state (g.met.D.Disk.whole told c.barrier.new.self) in
+    let m2 = g.D.Disk.moments c.write_home.new.disk in
+    let over : overlaid.geometry_of c.args.overlay.now ≡ geometry_of l.head = c.requires.over ∙ sym by.geometry in
+    let run2 = subst (λ (x : Geometry). LeavesOnly g.D.Disk.keeps (IsHomeWritten x l.now.log m1.state) m1 m2) over (c.write_home.ensures.crash told l.now.log log (λ image left sector touched i. still1 image left i sector)) in
+    let done = subst (λ (x : Geometry). reads m2 ≡ folded x l.now.log (reads m1)) over (λ i k. c.in_ok-write_home.ensures.ok told l.now.log log k i) in
+    let m3 = g.D.Disk.moments c.barrier-2.new.self in
+    let run3 = c.barrier-2.ensures.crash told in
+    let same3 = c.barrier-2.ensures.content told in
+    let still3 = c.in_ok-barrier-2.ensures.ok told in
+    let whole3 = sized_images size (g.D.Disk.size c.barrier-2.new.self) (c.barrier-2.ensures.size ∙ c.write_home.ensures.size ∙ c.barrier.ensures.size) m3.state (g.met.D.Disk.whole told c.barrier-2.new.self) (reads m3) (seen_is_image m3.state) in
+    let long : length c.super_sector-sector.result ≡ 512 = search rules in
+    let m4 = g.D.Disk.moments c.write.new.self in
+    let run4 = c.write.ensures.crash told in
+    let put4 = c.in_ok-write.ensures.ok told in
+    let m5 = g.D.Disk.moments c.barrier-3.new.self in
+    let run5 = c.barrier-3.ensures.crash told in
+    let same5 = c.barrier-3.ensures.content told in
+    crash5 size g.D.Disk.keeps j l new c.super_sector-sector.result m0 m1 by whole c.super_sector-sector.ensures kept c.requires.later run1 same still1 whole1 m2 run2 done m3 run3 same3 still3 whole3 long m4 run4 put4 m5 run5 same5
+
+pub returns-clause-ok : goal.returns-clause-ok
+returns-clause-ok g c told l by log =
+    let size = g.D.Disk.size c.args.disk.now in
+    let j = c.args.journal.now in
+    let new = c.args.head.now in
+    let m0 = g.D.Disk.moments c.args.disk.now in
+    let m1 = g.D.Disk.moments c.barrier.new.self in
+    let kept : geometry_of new ≡ geometry_of l.head = c.requires.same ∙ sym by.geometry in
+    let whole = images_of size m0.state (g.met.D.Disk.whole told c.args.disk.now) in
+    let run1 = c.barrier.ensures.crash told in
+    let same = c.barrier.ensures.content told in
+    let still1 = c.in_ok-barrier.ensures.ok told in
+    let whole1 = sized_images size (g.D.Disk.size c.barrier.new.self) c.barrier.ensures.size m1.state (g.met.D.Disk.whole told c.barrier.new.self) in
+    let m2 = g.D.Disk.moments c.write_home.new.disk in
+    let over : overlaid.geometry_of c.args.overlay.now ≡ geometry_of l.head = c.requires.over ∙ sym by.geometry in
+    let run2 = subst (λ (x : Geometry). LeavesOnly g.D.Disk.keeps (IsHomeWritten x l.now.log m1.state) m1 m2) over (c.write_home.ensures.crash told l.now.log log (λ image left sector touched i. still1 image left i sector)) in
+    let done = subst (λ (x : Geometry). reads m2 ≡ folded x l.now.log (reads m1)) over (λ i k. c.in_ok-write_home.ensures.ok told l.now.log log k i) in
+    let m3 = g.D.Disk.moments c.barrier-2.new.self in
+    let run3 = c.barrier-2.ensures.crash told in
+    let same3 = c.barrier-2.ensures.content told in
+    let still3 = c.in_ok-barrier-2.ensures.ok told in
+    let whole3 = sized_images size (g.D.Disk.size c.barrier-2.new.self) (c.barrier-2.ensures.size ∙ c.write_home.ensures.size ∙ c.barrier.ensures.size) m3.state (g.met.D.Disk.whole told c.barrier-2.new.self) (reads m3) (seen_is_image m3.state) in
+    let long : length c.super_sector-sector.result ≡ 512 = search rules in
+    let m4 = g.D.Disk.moments c.write.new.self in
+    let run4 = c.write.ensures.crash told in
+    let put4 = c.in_ok-write.ensures.ok told in
+    let m5 = g.D.Disk.moments c.barrier-3.new.self in
+    let run5 = c.barrier-3.ensures.crash told in
+    let same5 = c.barrier-3.ensures.content told in
+    let still5 = c.in_ok-barrier-3.ensures.ok told in
+    let k = c.restart.new.self in
+    let later : k.number ≡ j.number = c.restart.ensures.same.1 in
+    let ready = c.restart.ensures.ready m5.state (ready5 size g.D.Disk.keeps j l new c.super_sector-sector.result m0 m1 by whole c.super_sector-sector.ensures kept c.requires.later run1 same still1 whole1 m2 run2 done m3 run3 same3 still3 whole3 long m4 run4 put4 m5 run5 same5 still5) in
+    record {
+      is = subst (λ n. IsLedgerOf n m5.state (emptied new (block_at (home_of l (reads m0))) l)) (sym (c.barrier-3.ensures.size ∙ c.write.ensures.size ∙ c.barrier-2.ensures.size ∙ c.write_home.ensures.size ∙ c.barrier.ensures.size))
+          (ledger5 size g.D.Disk.keeps j l new c.super_sector-sector.result m0 m1 by whole c.super_sector-sector.ensures kept c.requires.later run1 same still1 whole1 m2 run2 done m3 run3 same3 still3 whole3 long m4 run4 put4 m5 run5 same5 still5);
+      none = refl;
+      geometry = c.requires.same ∙ sym c.restart.ensures.same.0;
+      epoch = sym c.restart.ensures.epoch;
+      later = omega (arith, c.requires.next, later);
+      ready = subst (λ (x : ℕ × ℕ). IsReady k.geometry x.0 x.1 k.number m5.state) (λ i. (sym c.restart.ensures.epoch i, sym c.restart.ensures.used i)) ready;
+    }
