@@ -1,5 +1,5 @@
 -- What is told from findings is the damage of the image whose findings they are.
-use Rattle.std.proofs.Common.{◌≡◌, ℕ, ◌+◌, ◌-◌, ◌<◌, ◌≤◌, List, [], ◌∷◌, ◌++◌, Bool, true, false, cond, Option, Some, None, length, get_or, map, unwrap_or, ap, sym, refl, ◌∙◌, arith, append_assoc}
+use Rattle.std.proofs.Common.{◌≡◌, ℕ, ◌-◌, ◌≤◌, List, [], ◌++◌, Bool, true, false, Option, Some, None, length, map, ap, sym, refl, ◌∙◌, arith, append_assoc}
 use Rattle.std.specs.Prelude.{filter, flat_map, ◌==◌, ◌&&◌, ◌||◌, not, nat_le, if◌then◌else◌, slice_index_or}
 use Rattle.std.specs.List.{filter_map, enumerate_from, range_with_len}
 use Rattle.std.proofs.lemmas.Bool.{and_parts}
@@ -8,15 +8,13 @@ use Rattle.std.proofs.lemmas.List.FromFn.{length-map-range_with_len, get_or-map-
 use Rattle.ufs_base.specs.Choices.{some_if}
 use Rattle.ufs_base.specs.Images.{Image}
 use Rattle.ufs_layout.specs.Areas.{all_inodes, data_blocks, is_inode_number}
-use Rattle.ufs_layout.specs.InodeForm.{InodeForm, free_inode}
+use Rattle.ufs_layout.specs.InodeForm.{InodeForm}
 use Rattle.ufs_layout.specs.DentryForm.{DentryForm, is_named}
 use Rattle.ufs_layout.specs.declared.geometry.Geometry.{Geometry}
 use Rattle.ufs_image.specs.Images.{inode_at, form_at}
-use Rattle.ufs_image.specs.Nodes.{Node, is_bad_inode, is_bad_extent, sound_node, sound_nodes, ReadSlot, Dir, NamedSlot, names_of, dirs_of, kind_at}
-use Rattle.ufs_image.specs.Damage.{Damage, BadInode, BadExtent, ShortExtents, BadDentry, FreeInode, NameTwice, TwoNames, shared_block, is_short, is_bad_dentry, names_no_inode, is_name_twice, has_two_names, inode_damage, block_damage, name_damage, node_damage, tree_damage}
-use Rattle.ufs_damage.specs.declared.forms.FormKind.{FormKind}
+use Rattle.ufs_image.specs.Nodes.{Node, is_bad_inode, is_bad_extent, sound_nodes, ReadSlot, Dir, NamedSlot, names_of, dirs_of, kind_at}
+use Rattle.ufs_image.specs.Damage.{Damage, BadInode, BadExtent, ShortExtents, BadDentry, FreeInode, NameTwice, TwoNames, shared_block, is_short, is_bad_dentry, names_no_inode, is_name_twice, has_two_names, tree_damage}
 use Rattle.ufs_damage.specs.declared.forms.FormKind.TheVariants.{Sector, Extents, Size}
-use Rattle.ufs_damage.specs.declared.slots.SlotKind.{SlotKind}
 use Rattle.ufs_damage.specs.declared.slots.SlotKind.TheVariants.{Spelling, Target}
 use Rattle.ufs_damage.specs.Findings.{CatalogRead, AreFindingsOf}
 use Rattle.ufs_damage.specs.Told.{form_of, is_sound_form}

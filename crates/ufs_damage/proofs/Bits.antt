@@ -1,13 +1,13 @@
 -- The bits of a sector of the bitmap.
-use Rattle.std.proofs.Common.{◌≡◌, ℕ, zero, suc, ◌+◌, ◌*◌, ◌/◌, ◌%◌, ◌^◌, ◌<◌, ◌≤◌, List, [], ◌∷◌, ◌++◌, Bool, true, false, Option, Some, None, map, ap, sym, refl, ◌∙◌, arith}
-use Rattle.std.specs.Prelude.{filter, ◌==◌, not, slice_index_or}
+use Rattle.std.proofs.Common.{◌≡◌, ℕ, zero, suc, ◌+◌, ◌*◌, ◌/◌, ◌%◌, ◌^◌, ◌<◌, ◌≤◌, List, ◌++◌, Bool, false, Option, map, ap, sym, refl, ◌∙◌, arith}
+use Rattle.std.specs.Prelude.{◌==◌, not, slice_index_or}
 use Rattle.std.specs.List.{filter_map, cons_option, range_with_len}
 use Rattle.ufs_base.specs.Choices.{some_if}
 use Rattle.ufs_base.specs.Images.{Image}
 use Rattle.ufs_layout.specs.Words.{byte_at}
 use Rattle.ufs_layout.specs.declared.geometry.Geometry.{Geometry}
 use Rattle.ufs_image.specs.Nodes.{Node, is_taken}
-use Rattle.ufs_image.specs.Damage.{Damage, BitmapDiffers, is_marked, same_bool, differing}
+use Rattle.ufs_image.specs.Damage.{BitmapDiffers, is_marked, same_bool, differing}
 use Rattle.ufs_damage.specs.Taken.{AreTaken, bit_of, bit_damage}
 use Rattle.std.proofs.lemmas.List.Elements.{filter-append}
 use Rattle.ufs_damage.proofs.Lists.{map_filter, range_append}

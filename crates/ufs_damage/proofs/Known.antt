@@ -1,6 +1,6 @@
 -- Names that are noted in order.
 use Rattle.std.proofs.Common.{◌≡◌, ℕ, List, [], ◌∷◌, Bool, true, false, ap, sym, refl, ◌∙◌}
-use Rattle.std.specs.Prelude.{◌||◌, ◌&&◌, not}
+use Rattle.std.specs.Prelude.{◌||◌}
 use Rattle.std.specs.List.{list_any}
 use Rattle.std.specs.declared.cmp.Ordering.{Ordering}
 use Rattle.std.specs.declared.cmp.Ordering.TheVariants.{Less, Equal, Greater}

@@ -1,5 +1,5 @@
 -- Marks and those who hold.
-use Rattle.std.proofs.Common.{◌≡◌, ◌≢◌, ℕ, zero, suc, ◌+◌, ◌<◌, ◌≤◌, List, [], ◌∷◌, ◌++◌, Bool, true, false, cond, Option, Some, None, length, take, get_or, set, map, ap, sym, refl, subst, ◌∙◌, arith, append_assoc, inl, inr, ◌⊎◌, length-append}
+use Rattle.std.proofs.Common.{◌≡◌, ◌≢◌, ℕ, zero, suc, ◌+◌, ◌<◌, ◌≤◌, List, [], ◌∷◌, ◌++◌, Bool, true, false, cond, Option, Some, None, length, take, get_or, set, map, ap, sym, refl, ◌∙◌, arith, append_assoc, inl, inr, length-append}
 use Rattle.std.proofs.lemmas.List.{get_or-set_same, get_or-set_other}
 use Rattle.std.proofs.Math.ListN.{length-set}
 use Rattle.std.specs.Prelude.{filter, flat_map, ◌==◌, ◌&&◌, if◌then◌else◌, is_some, nat_lt}
@@ -18,7 +18,7 @@ use Rattle.ufs_layout.specs.InodeForm.{InodeForm}
 use Rattle.ufs_layout.specs.declared.inode.Extent.{Extent}
 use Rattle.ufs_layout.specs.declared.geometry.Geometry.{Geometry}
 use Rattle.ufs_image.specs.Nodes.{Node, leaves_data, blocks_of, Dir, NamedSlot, names_of}
-use Rattle.ufs_image.specs.Damage.{Damage, TwoNames, holders, shared_block, names_count, has_two_names}
+use Rattle.ufs_image.specs.Damage.{TwoNames, holders, shared_block, names_count, has_two_names}
 use Rattle.ufs_damage.specs.declared.marks.Held.{Held}
 use Rattle.ufs_damage.specs.Marks.{held_of, with_holder, AreMarks, one_more, times, all_more, shared_damage, naming, names_this, slots_naming, names_damage}
 use Rattle.ufs_damage.specs.Told.{form_of, is_sound_form}

@@ -1,5 +1,5 @@
 -- Names that stand twice in a directory, slot by slot.
-use Rattle.std.proofs.Common.{◌≡◌, ℕ, zero, suc, ◌+◌, ◌-◌, ◌<◌, ◌≤◌, List, [], ◌∷◌, ◌++◌, Bool, true, false, cond, Option, Some, None, take, map, ap, sym, refl, ◌∙◌, arith}
+use Rattle.std.proofs.Common.{◌≡◌, ℕ, zero, suc, ◌+◌, ◌≤◌, List, [], ◌∷◌, Bool, true, false, Option, Some, None, take, map, ap, sym, refl, ◌∙◌, arith}
 use Rattle.std.specs.Prelude.{filter, ◌&&◌, ◌||◌, nat_lt}
 use Rattle.std.specs.List.{filter_map, cons_option, enumerate_from, list_any}
 use Rattle.std.specs.Str.{bytes_eq}
@@ -8,7 +8,7 @@ use Rattle.ufs_base.specs.Choices.{some_if}
 use Rattle.ufs_layout.specs.DentryForm.{DentryForm, is_named}
 use Rattle.ufs_image.specs.Nodes.{ReadSlot, Dir, NamedSlot, names_of}
 use Rattle.ufs_image.specs.Damage.{Damage, NameTwice, is_name_twice}
-use Rattle.ufs_damage.specs.Kinds.{has_this_name, is_known, twice_damage, earlier_damage}
+use Rattle.ufs_damage.specs.Kinds.{is_known, twice_damage, earlier_damage}
 use Rattle.ufs_damage.proofs.Lists.{map_filter, then_map, then_if, if_both, filter_map_twice, filter_map_same}
 
 -- what names a slot has

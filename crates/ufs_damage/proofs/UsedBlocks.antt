@@ -1,7 +1,7 @@
 -- The used blocks of an image, by the marks of its blocks.
-use Rattle.std.proofs.Common.{◌≡◌, ℕ, zero, suc, ◌+◌, ◌<◌, ◌≤◌, List, [], ◌∷◌, ◌++◌, Bool, true, false, cond, Option, Some, None, length, take, get_or, map, ap, sym, refl, ◌∙◌, arith, inl, inr, ◌⊎◌}
+use Rattle.std.proofs.Common.{◌≡◌, ℕ, zero, suc, ◌+◌, ◌<◌, ◌≤◌, List, [], ◌∷◌, ◌++◌, Bool, true, false, cond, Option, Some, length, take, get_or, map, ap, sym, refl, ◌∙◌, arith}
 use Rattle.std.specs.Prelude.{filter, ◌==◌, ◌||◌, ◌&&◌, not, if◌then◌else◌, is_some, nat_lt, slice_index_or}
-use Rattle.std.specs.List.{slice_get, enumerate_from, list_any, filter_map}
+use Rattle.std.specs.List.{slice_get, enumerate_from, list_any}
 use Rattle.std.proofs.lemmas.Bool.{and_parts}
 use Rattle.std.proofs.lemmas.List.{length-map, map-append}
 use Rattle.std.proofs.lemmas.List.FromFn.{length-enumerate_from}
@@ -10,7 +10,6 @@ use Rattle.std.proofs.lemmas.Bool.Decides.{nat_tests}
 use Rattle.ufs_layout.specs.Areas.{IsGeometry, first_of_data}
 use Rattle.ufs_layout.specs.InodeForm.{InodeForm, is_used}
 use Rattle.ufs_layout.specs.declared.geometry.Geometry.{Geometry}
-use Rattle.ufs_layout.specs.declared.inode.Extent.{Extent}
 use Rattle.ufs_layout.proofs.Spelled.{some_if-some}
 use Rattle.ufs_image.specs.Nodes.{Node, is_bad_form, leaves_data, blocks_of, is_taken}
 use Rattle.ufs_image.specs.Damage.{holders}
@@ -21,7 +20,7 @@ use Rattle.ufs_image.proofs.Holders.{all_stay, block_in_data}
 use Rattle.ufs_damage.specs.declared.marks.Held.{Held}
 use Rattle.ufs_damage.specs.Marks.{held_of, AreMarks, times}
 use Rattle.ufs_damage.specs.Told.{form_of, has_bad_extent, is_sound_form}
-use Rattle.ufs_damage.specs.Kinds.{ReadForm, numbered, node_of, nodes_in}
+use Rattle.ufs_damage.specs.Kinds.{numbered, node_of, nodes_in}
 use Rattle.ufs_damage.specs.Taken.{AreTaken, is_used_block, taken_marks}
 
 first_held : (x : ℕ) (zs : List ℕ) → is_some (held_of (x ∷ zs)).first ≡ true

@@ -1,5 +1,5 @@
 -- What was read of an image's inodes and directories.
-use Rattle.std.specs.Prelude.{ℕ, ◌≡◌, List, map, Option}
+use Rattle.std.specs.Prelude.{◌≡◌, List, map, Option}
 use Rattle.ufs_base.specs.Images.{Image}
 use Rattle.ufs_layout.specs.Areas.{all_inodes}
 use Rattle.ufs_layout.specs.InodeForm.{InodeForm}

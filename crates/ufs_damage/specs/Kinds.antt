@@ -1,5 +1,5 @@
 -- What is told of one inode, one block, one slot or one name from findings alone, without an image.
-use Rattle.std.specs.Prelude.{ℕ, ◌-◌, List, Bool, false, ◌==◌, ◌&&◌, ◌||◌, not, nat_le, if◌then◌else◌, length, flat_map, Option, Some, None, slice_index_or}
+use Rattle.std.specs.Prelude.{ℕ, ◌-◌, List, Bool, false, ◌==◌, ◌&&◌, ◌||◌, not, nat_le, if◌then◌else◌, length, Option, Some, None, slice_index_or}
 use Rattle.std.specs.List.{enumerate_from, filter_map, list_any}
 use Rattle.std.specs.Prelude.{take}
 use Rattle.std.specs.Str.{bytes_eq}

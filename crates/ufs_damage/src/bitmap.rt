@@ -49,7 +49,7 @@ fn push_bits(
 
 impl DamageList {
     /// Puts the bits of a sector of the bitmap that aren't as the used blocks have it behind the others, by
-    /// rising block. Sectors count from the bitmap's first.
+    /// rising block. Sectors count from the bitmap's first. After want of memory the list has some of them.
     pub fn compare_bitmap(
         &mut self,
         taken: &TakenBlocks,

@@ -1,4 +1,4 @@
-use Rattle.std.proofs.Common.{◌≡◌, ◌+◌, ◌*◌, false, ◌∙◌, arith}
+use Rattle.std.proofs.Common.{◌+◌, ◌*◌, false, ◌∙◌, arith}
 use Rattle.std.specs.Prelude.{slice_index_or}
 use Rattle.std.specs.Option.{option_map}
 use Rattle.ufs_damage.specs.Meaning.{meaning}

@@ -1,5 +1,4 @@
 use Rattle.std.proofs.Common.{not, ap, ◌∙◌}
-use Rattle.std.specs.Prelude.{◌||◌}
 use Rattle.ufs_damage.specs.Known.{is_among}
 use Rattle.ufs_damage.proofs.Known.{among_inserted, among_is}
 use Rattle.ufs_damage.proofs.names.note_name.Goals as goal

@@ -1,4 +1,4 @@
-use Rattle.std.proofs.Common.{◌+◌, take, ap, sym, ◌∙◌, ◌∷◌, [], arith}
+use Rattle.std.proofs.Common.{take, ap, sym, ◌∙◌, ◌∷◌, [], arith}
 use Rattle.std.specs.Prelude.{◌||◌}
 use Rattle.std.specs.Option.{option_map}
 use Rattle.ufs_damage.specs.Meaning.{meaning}

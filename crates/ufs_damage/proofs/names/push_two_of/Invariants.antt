@@ -1,4 +1,4 @@
-use Rattle.std.proofs.Common.{List, ◌≡◌, ◌++◌, map, filter}
+use Rattle.std.proofs.Common.{List, ◌≡◌, ◌++◌}
 use Rattle.std.specs.List.{range_with_len, filter_map}
 use Rattle.ufs_base.specs.Choices.{some_if}
 use Rattle.ufs_image.specs.Nodes.{Dir}
