@@ -11,7 +11,8 @@ ghost use Rattle.ufs_catalog.specs.Reading.{IsReadOnly};
 
 use crate::RecoverFault;
 use crate::reading::read_at;
-use ufs_disk::{Disk, SECTOR};
+use ufs_base::SECTOR;
+use ufs_disk::Disk;
 use ufs_layout::{Geometry, Super, get_super, super_version};
 
 /// A superblock that is taken, and its geometry.
