@@ -18,7 +18,7 @@ use Rattle.ufs_image.specs.Volume.{Volume, volume}
 use Rattle.ufs_layout.specs.declared.geometry.Geometry.{Geometry}
 use Rattle.ufs_layout.specs.declared.superblock.Super.{Super}
 use Rattle.ufs_journal.specs.Found.{IsFreeFrom}
-use Rattle.ufs_image.specs.Catalog.{Catalog, HasBlock, IsDirBlock, HasDirBlocks, IsCatalogOf, catalog_at}
+use Rattle.ufs_image.specs.Catalog.{Catalog, IsDirBlock, HasDirBlocks, IsCatalogOf, catalog_at}
 use Rattle.ufs_image.specs.Sound.{IsSoundCatalog}
 use Rattle.ufs_image.specs.Folding.{Spells}
 use Rattle.ufs_image.specs.CatalogLaws.{HasCatalog, WholeIsSound}

@@ -35,8 +35,8 @@ use Rattle.ufs_image.specs.Folding.{FitsCommitted}
 use Rattle.ufs_image.specs.Folding.{file_commit}
 use Rattle.ufs_overlay.specs.Over.{IsHomeWritten}
 use Rattle.ufs_ledger.specs.Ledger.{IsDataBlock, HasByte, is_held, Stand, CoversDirs, with_one, IsLeft, Ledger, IsLeftBy, IsLedgerOf}
-use Rattle.ufs_ledger.specs.Changes.{MayCommit, committing, settled, committed_one, rewritten, written, tried, without_log, home_cells, beginning, emptied, with_dirs, with_free_block, opening_ledger}
-use Rattle.ufs_ledger.specs.Kept.{Numbers, IsNumberedBy, Shape, shape_of, MayHave, AlwaysShows, IsStandStored, IsStandKept, Counts, IsKeptBy, IsLedgerKept, IsLedgerStored, OpensExplained, OpensExplainedFrom}
+use Rattle.ufs_ledger.specs.Changes.{MayCommit, committing, settled, committed_one, rewritten, written, tried, beginning, emptied, with_dirs, with_free_block, opening_ledger}
+use Rattle.ufs_ledger.specs.Kept.{Numbers, IsNumberedBy, Shape, shape_of, MayHave, AlwaysShows, IsStandStored, IsStandKept, Counts, IsLedgerKept, IsLedgerStored, OpensExplained, OpensExplainedFrom}
 
 -- What a crash leaves opens to a tree that the history explains, where it is kept so.
 abbrev pub OpensAsKept : Geometry → Type 0
