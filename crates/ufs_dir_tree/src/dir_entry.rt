@@ -13,7 +13,8 @@ ghost use Rattle.ufs_dir_tree.specs.DirEdits.{HasNone, IsAddCause, SameNames, Ro
 use crate::space::{extents_with, give_block, give_blocks, take_block};
 use std::alloc::Global;
 use ufs_bitmap::Pool;
-use ufs_dirs::{DirBlocks, SLOTS};
+use ufs_base::SLOTS_PER_BLOCK;
+use ufs_dirs::DirBlocks;
 use ufs_extent::MAX_EXTENTS;
 use ufs_layout::Dentry;
 use ufs_model::Excuse;
@@ -54,7 +55,7 @@ fn give_room(dir: &mut DirBlocks, pool: &mut Pool) -> Result<(), Excuse>
     ensures err { OnErr result (dir.new ≡ dir.old) }
     ensures err_pool { OnErr result (pool.new ≡ pool.old) }
 {
-    if (dir.count() as usize) / SLOTS < dir.blocks().len() {
+    if (dir.count() as usize) / SLOTS_PER_BLOCK < dir.blocks().len() {
         return Ok(());
     }
     let Some(block) = take_block(pool) else {

@@ -1,0 +1,4 @@
+mod Why
+mod Rows
+mod Trees
+mod Forms

@@ -1,0 +1,19 @@
+use Rattle.std.proofs.Common.{◌≡◌, IsTrue, take, map}
+use Rattle.ufs_disk.specs.Moments.{reads}
+use Rattle.ufs_catalog.specs.Reading.{IsReadOnly}
+use Rattle.ufs_walk.specs.Walked.{AreInodes, entry_of, pairs_of}
+use Rattle.ufs_walk.specs.declared.places.PathAt.{PathAt}
+use Rattle.ufs_opening.specs.Shown.{AreReadable, paths_of, shown}
+use Rattle.ufs_opening.proofs.tree.read_entries.Given as goal
+
+abbrev pub invariant-loop-place : goal.invariant-loop-place
+invariant-loop-place g l =
+    let disk = g.D.Disk in
+    let first = disk.moments l.fn.disk in
+    record {
+      paths : paths_of l.entries.items ≡ map (λ (p : PathAt). p.path.items) (take l.place l.places);
+      entries : IsTrue disk.tells → AreReadable l.geometry (reads first) l.forms → AreInodes l.geometry (pairs_of l.places) → shown l.entries.items ≡ map (entry_of l.geometry (reads first)) (pairs_of (take l.place l.places));
+      read_only : IsTrue disk.tells → IsReadOnly disk.keeps first (disk.moments l.disk);
+      size : disk.size l.disk ≡ disk.size l.fn.disk;
+      faults : disk.faults l.disk ≡ disk.faults l.fn.disk;
+    }

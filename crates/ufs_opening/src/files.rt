@@ -1,0 +1,89 @@
+// The bytes of files.
+ghost use Rattle.std.specs.Prelude.{◌≡◌, ◌≤◌, ◌+◌, ◌++◌, flat_map, false, not, IsTrue, IfOk, IfErr, OnOk};
+ghost use Rattle.std.specs.List.{list_any, range_with_len};
+ghost use Rattle.ufs_disk.specs.Moments.{reads};
+ghost use Rattle.ufs_layout.specs.Areas.{IsGeometry, sector_count};
+ghost use Rattle.ufs_image.specs.Images.{block_at};
+ghost use Rattle.ufs_image.specs.Nodes.{leaves_data};
+ghost use Rattle.ufs_image.specs.Opens.{file_bytes};
+ghost use Rattle.ufs_catalog.specs.Faults.{HasFaultCause, IsOutside};
+ghost use Rattle.ufs_catalog.specs.Reading.{IsReadOnly};
+
+use std::alloc::{AllocError, Global};
+use ufs_base::BLOCK;
+use ufs_catalog::{RecoverFault, read_block};
+use ufs_disk::Disk;
+use ufs_layout::{Extent, Geometry, Inode};
+
+fn append(bytes: &mut Vec<u8>, block: &[u8]) -> Result<(), AllocError>
+    ensures { OnOk result (bytes.new.items ≡ bytes.old.items ++ block.now) }
+{
+    bytes.extend_from_slice(block)?;
+    Ok(())
+}
+
+// The bytes of some blocks in a row.
+fn read_extent<D: Disk>(
+    bytes: &mut Vec<u8>,
+    disk: &mut D,
+    geometry: &Geometry,
+    extent: &Extent,
+) -> Result<(), RecoverFault>
+    requires geometry { IsGeometry geometry.now }
+    requires large { sector_count geometry.now ≤ D.size disk.old }
+    requires inside { extent.now.start + extent.now.length ≤ geometry.now.blocks }
+    ensures bytes { IsTrue D.tells → OnOk result (bytes.new.items ≡ bytes.old.items ++ flat_map (block_at (reads (D.moments disk.old))) (range_with_len extent.now.start extent.now.length)) }
+    ensures read_only { IsTrue D.tells → IsReadOnly D.keeps (D.moments disk.old) (D.moments disk.new) }
+    ensures size { D.size disk.new ≡ D.size disk.old }
+    ensures passed { OnOk result (D.faults disk.new ≡ D.faults disk.old) }
+    ensures cause { IfErr result (HasFaultCause (D.faults disk.old) (D.faults disk.new)) }
+    ensures outside { IfErr result IsOutside }
+{
+    let mut block = [0; BLOCK];
+    for place in 0..extent.length {
+        read_block(disk, extent.start + place, &mut block)?;
+        append(bytes, &block)?;
+    }
+    Ok(())
+}
+
+fn leaves_data(geometry: &Geometry, extent: &Extent) -> bool
+    requires { IsGeometry geometry.now }
+    ensures { result ≡ leaves_data geometry.now extent.now }
+{
+    let end = u64::from(extent.start) + u64::from(extent.length);
+    !(geometry.first_of_data() <= extent.start && end <= u64::from(geometry.blocks))
+}
+
+// Whether one of these extents leaves the data area.
+pub(crate) fn any_leaves(geometry: &Geometry, extents: &[Extent]) -> bool
+    requires { IsGeometry geometry.now }
+    ensures { result ≡ list_any (leaves_data geometry.now) extents.now }
+{
+    extents.iter().any(|extent| leaves_data(geometry, extent))
+}
+
+// The bytes of a file, as far as its size goes.
+pub(crate) fn read_file<D: Disk>(
+    alloc: Global,
+    disk: &mut D,
+    geometry: &Geometry,
+    form: &Inode,
+) -> Result<Vec<u8>, RecoverFault>
+    requires geometry { IsGeometry geometry.now }
+    requires large { sector_count geometry.now ≤ D.size disk.old }
+    requires inside { list_any (leaves_data geometry.now) form.now.extents ≡ false }
+    ensures bytes { IsTrue D.tells → IfOk result (λ b. b.items ≡ file_bytes (reads (D.moments disk.old)) form.now) }
+    ensures read_only { IsTrue D.tells → IsReadOnly D.keeps (D.moments disk.old) (D.moments disk.new) }
+    ensures size { D.size disk.new ≡ D.size disk.old }
+    ensures passed { OnOk result (D.faults disk.new ≡ D.faults disk.old) }
+    ensures cause { IfErr result (HasFaultCause (D.faults disk.old) (D.faults disk.new)) }
+    ensures outside { IfErr result IsOutside }
+{
+    let mut bytes = Vec::new(alloc);
+    for extent in form.used_extents() {
+        read_extent(&mut bytes, disk, geometry, extent)?;
+    }
+    bytes.truncate(form.size as usize);
+    Ok(bytes)
+}

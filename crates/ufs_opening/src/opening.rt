@@ -1,0 +1,68 @@
+// Opening an image.
+ghost use Rattle.std.specs.Prelude.{◌≡◌, ◌≤◌, ℕ, None, Ok, length, IsTrue, IfOk, IfErr, OnOk};
+ghost use Rattle.ufs_base.specs.Images.{Image};
+ghost use Rattle.ufs_disk.specs.Moments.{reads};
+ghost use Rattle.ufs_layout.specs.Areas.{IsGeometry, sector_count};
+ghost use Rattle.ufs_image.specs.Damage.{bad_tree};
+ghost use Rattle.ufs_image.specs.Volume.{volume};
+ghost use Rattle.ufs_damage.specs.Findings.{AreFindingsOf};
+ghost use Rattle.ufs_catalog.specs.Faults.{HasFaultCause};
+ghost use Rattle.ufs_catalog.specs.Reading.{IsReadOnly};
+ghost use Rattle.ufs_opening.specs.Told.{IsBlame, TellsWhy};
+
+use crate::journal::open_head;
+use std::alloc::Global;
+use ufs_catalog::{ImageHead, RecoverFault, read_findings};
+use ufs_damage::{Findings, damage_of};
+use ufs_disk::Disk;
+use ufs_layout::Geometry;
+
+/// An image that stands for a tree: its superblock, and what was read of its inodes and directories.
+#[derive(Drop)]
+pub struct Opened {
+    pub head: ImageHead,
+    pub findings: Findings,
+}
+
+// Refuses an image of whose tree something is damaged, by the lowest inode that is blamed.
+fn refuse_damage(
+    alloc: Global,
+    geometry: &Geometry,
+    findings: &Findings,
+) -> Result<(), RecoverFault>
+    requires geometry { IsGeometry geometry.now }
+    requires counted { length findings.now.forms ≡ geometry.now.inodes }
+    ensures whole { (image : Image) → AreFindingsOf geometry.now image findings.now → OnOk result (bad_tree geometry.now image ≡ None) }
+    ensures refused { (image : Image) → AreFindingsOf geometry.now image findings.now → IfErr result (IsBlame (bad_tree geometry.now image)) }
+    ensures calm { IfErr result (λ f. (before : ℕ) → HasFaultCause before before f) }
+{
+    let Ok(list) = damage_of(alloc, geometry, findings) else {
+        return Err(RecoverFault::Memory);
+    };
+    match list.lowest_blamed(geometry) {
+        Some(inode) => Err(RecoverFault::BadTree { inode }),
+        None => Ok(()),
+    }
+}
+
+/// Opens an image, or tells why it stands for no tree. Reads the superblock, each sector of the journal, and
+/// each block of the inode table and of directories; writes nothing.
+pub fn open<D: Disk>(alloc: Global, disk: &mut D) -> Result<Opened, RecoverFault>
+    ensures taken { IsTrue D.tells → IfOk result (λ o. volume (D.size disk.old) (reads (D.moments disk.old)) ≡ Ok (record { head = o.head.head; geometry = o.head.geometry; image = reads (D.moments disk.old) })) }
+    ensures found { IsTrue D.tells → IfOk result (λ o. AreFindingsOf o.head.geometry (reads (D.moments disk.old)) o.findings) }
+    ensures whole { IsTrue D.tells → IfOk result (λ o. bad_tree o.head.geometry (reads (D.moments disk.old)) ≡ None) }
+    ensures counted { IfOk result (λ o. length o.findings.forms ≡ o.head.geometry.inodes) }
+    ensures large { IfOk result (λ o. sector_count o.head.geometry ≤ D.size disk.old) }
+    ensures refused { IsTrue D.tells → IfErr result (TellsWhy (D.size disk.old) (reads (D.moments disk.old))) }
+    ensures read_only { IsTrue D.tells → IsReadOnly D.keeps (D.moments disk.old) (D.moments disk.new) }
+    ensures size { D.size disk.new ≡ D.size disk.old }
+    ensures passed { OnOk result (D.faults disk.new ≡ D.faults disk.old) }
+    ensures cause { IfErr result (HasFaultCause (D.faults disk.old) (D.faults disk.new)) }
+{
+    let head = open_head(alloc, disk)?;
+    let findings = read_findings(alloc, disk, &head.geometry)?;
+    match refuse_damage(alloc, &head.geometry, &findings) {
+        Ok(()) => Ok(Opened { head, findings }),
+        Err(fault) => Err(fault),
+    }
+}
