@@ -12,10 +12,9 @@ ghost use Rattle.ufs_dir_tree.specs.DirEdits.{HasNone, IsAddCause, SameNames, Ro
 
 use crate::space::{extents_with, give_block, give_blocks, take_block};
 use std::alloc::Global;
+use ufs_base::{MAX_EXTENTS, SLOTS_PER_BLOCK};
 use ufs_bitmap::Pool;
-use ufs_base::SLOTS_PER_BLOCK;
 use ufs_dirs::DirBlocks;
-use ufs_extent::MAX_EXTENTS;
 use ufs_layout::Dentry;
 use ufs_model::Excuse;
 
