@@ -1,10 +1,10 @@
 -- The names of a directory as a list.
-use Rattle.std.specs.Prelude.{◌≡◌, ℕ, List, Bool, true, map, is_some}
+use Rattle.std.specs.Prelude.{◌≡◌, ℕ, List, true, is_some}
 use Rattle.std.specs.List.{list_any}
 use Rattle.std.specs.Str.{bytes_eq}
 pub use Rattle.ufs_base.specs.Order.{names_rise}
 use Rattle.ufs_layout.specs.DentryForm.{DentryForm}
-use Rattle.ufs_dirs.specs.Directory.{entry_of, name_cmp}
+use Rattle.ufs_dirs.specs.Directory.{entry_of}
 
 -- the names in the slots, rising
 pub record AreNamesIn (slots : List DentryForm) (names : List (List ℕ)) : Type 0 where

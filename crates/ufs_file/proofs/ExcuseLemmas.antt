@@ -16,7 +16,7 @@ use Rattle.ufs_model.specs.declared.data.Op.TheVariants as op
 use Rattle.ufs_model.specs.declared.data.Excuse.{Excuse}
 use Rattle.ufs_model.specs.declared.data.Excuse.TheVariants as excuse
 use Rattle.ufs_extent.specs.declared.Run.{Run}
-use Rattle.ufs_extent.specs.Runs.{blocks_of, appended_all}
+use Rattle.ufs_extent.specs.Runs.{blocks_of}
 use Rattle.ufs_bitmap.specs.Blocks.{BlockSet}
 use Rattle.ufs_file.specs.Content.{Content, block_count, shortened, written_over}
 use Rattle.ufs_bitmap.proofs.TakingLemmas.{takes_count}

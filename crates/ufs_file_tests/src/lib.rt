@@ -1,7 +1,9 @@
-//! Worked rows on files that lie in blocks.
+//! Worked rows on files whose bytes lie in blocks.
 #![tactic(auto)]
 
 #[cfg(test)]
 mod calls;
 #[cfg(test)]
 mod rows;
+#[cfg(test)]
+mod two_files;

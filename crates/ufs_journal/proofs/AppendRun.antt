@@ -19,7 +19,8 @@ use Rattle.ufs_layout.specs.declared.records.LogRecord.{LogRecord}
 use Rattle.ufs_layout.specs.declared.records.LogRecord.TheVariants.{Delta, Place, Free}
 use Rattle.ufs_layout.proofs.RecordForms.{length-delta, length-place}
 use Rattle.ufs_journal.specs.Found.{found, is_of, is_from, commits_txn, journal_sector, IsFreeFrom, AgreeOffJournal}
-use Rattle.ufs_journal.specs.Filled.{filled, sectors_of_records, sectors_at}
+use Rattle.ufs_layout.specs.Filled.{filled, sectors_of_records}
+use Rattle.ufs_journal.specs.Found.{sectors_at}
 use Rattle.ufs_journal.specs.Spelled.{sector_of, spelled_sectors, joined, AreReadBack}
 use Rattle.ufs_journal.specs.Written.{HasSector, IsReadyFor, IsAppending, HasAppended}
 use Rattle.ufs_journal.proofs.Inserted.{any_none}

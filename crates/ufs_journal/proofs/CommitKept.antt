@@ -17,7 +17,8 @@ use Rattle.ufs_layout.specs.declared.records.Committed.{Committed}
 use Rattle.ufs_journal.specs.declared.open_list.Opened.{Opened}
 use Rattle.ufs_journal.specs.Applied.{keeps_more}
 use Rattle.ufs_journal.specs.Found.{found, is_of, is_from, reaches, sectors_of_txn, journal_sector}
-use Rattle.ufs_journal.specs.Filled.{sectors_of_records, sectors_at}
+use Rattle.ufs_layout.specs.Filled.{sectors_of_records}
+use Rattle.ufs_journal.specs.Found.{sectors_at}
 use Rattle.ufs_journal.specs.Written.{CommitsOne, IsMaybeCommitted, IsOldOrPut}
 use Rattle.ufs_journal.specs.Kept.{IsReady, IsUnused, HoldsRecords, CanApply}
 use Rattle.ufs_journal.proofs.Inserted.{any_skip, filter_skip, any_none}

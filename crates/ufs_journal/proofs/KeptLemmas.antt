@@ -17,7 +17,8 @@ use Rattle.ufs_layout.specs.declared.records.LogRecord.{LogRecord}
 use Rattle.ufs_layout.proofs.Ranges.{filter-none}
 use Rattle.ufs_journal.specs.declared.open_list.Opened.{Opened}
 use Rattle.ufs_journal.specs.Found.{found, is_of, reaches, sectors_of_txn, journal_sector, IsFreeFrom}
-use Rattle.ufs_journal.specs.Filled.{sectors_of_records, sector_count_of, sectors_at}
+use Rattle.ufs_layout.specs.Filled.{sectors_of_records, sector_count_of}
+use Rattle.ufs_journal.specs.Found.{sectors_at}
 use Rattle.ufs_journal.specs.Opened.{is_txn, opened_of, without_txn, is_placed, rises}
 use Rattle.ufs_journal.specs.Written.{DiffersInEpoch, IsAppended, IsReadyFor, IsAppending, HasAppended}
 use Rattle.ufs_journal.specs.Kept.{HasNoLater, HasEarlier, IsReady, IsUnused, HoldsRecords}

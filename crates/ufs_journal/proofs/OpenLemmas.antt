@@ -9,7 +9,7 @@ use Rattle.ufs_layout.specs.JournalSector.{HasRecords, HasCommit}
 use Rattle.ufs_layout.specs.declared.geometry.Geometry.{Geometry}
 use Rattle.ufs_layout.specs.declared.records.LogRecord.{LogRecord}
 use Rattle.ufs_journal.specs.Found.{is_of, sectors_of_txn, is_from, journal_sector}
-use Rattle.ufs_journal.specs.Filled.{sectors_at}
+use Rattle.ufs_journal.specs.Found.{sectors_at}
 use Rattle.ufs_journal.proofs.RecordSector.{eqb_sym, all_placed}
 use Rattle.ufs_journal.proofs.CommitWritten.{without_places}
 use Rattle.ufs_journal.proofs.FilledLemmas.{joined}

@@ -1,10 +1,12 @@
 -- What stands in an image's journal of one epoch, asked by transaction.
-use Rattle.std.specs.Prelude.{◌≡◌, ◌≤◌, ◌<◌, ◌⊎◌, ℕ, ◌+◌, ◌*◌, List, Bool, false, ◌==◌, ◌&&◌, nat_le, Option, Some, None}
+use Rattle.std.specs.Prelude.{◌≡◌, ◌≤◌, ◌<◌, ◌⊎◌, ℕ, ◌+◌, ◌*◌, List, [], ◌∷◌, Bool, false, ◌==◌, ◌&&◌, nat_le, Option, Some, None}
 use Rattle.std.specs.List.{filter, list_any}
 use Rattle.ufs_layout.specs.Areas.{first_of_journal}
 use Rattle.ufs_base.specs.Images.{Image}
 use Rattle.ufs_image.specs.Journal.{epoch_in, FoundSector, sectors_of_epoch, well_spelled, commit_in, has_commit}
+use Rattle.ufs_layout.specs.JournalSector.{HasRecords}
 use Rattle.ufs_layout.specs.declared.geometry.Geometry.{Geometry}
+use Rattle.ufs_layout.specs.declared.records.LogRecord.{LogRecord}
 
 -- the sectors of this epoch that are on their form, in the order of their places
 abbrev pub found : Geometry → ℕ → Image → List FoundSector
@@ -57,3 +59,10 @@ AgreeOffJournal g one other = (sector : ℕ) → IsOffJournal g sector → one s
 -- From this place on the journal has no sector of the epoch.
 abbrev pub IsFreeFrom : Geometry → ℕ → ℕ → Image → Type 0
 IsFreeFrom g epoch used image = (place : ℕ) → used ≤ place → place < g.journal → (epoch_in (image (journal_sector g place)) == epoch) ≡ false
+
+-- a transaction's record sectors, from this place and index on
+abbrev pub sectors_at : Geometry → (epoch txn place index : ℕ) → List (List LogRecord) → List FoundSector
+sectors_at g epoch txn place index [] = []
+sectors_at g epoch txn place index (rs ∷ more) =
+    (journal_sector g place, record { epoch = epoch; txn = txn; index = index; content = HasRecords rs })
+    ∷ sectors_at g epoch txn (place + 1) (index + 1) more

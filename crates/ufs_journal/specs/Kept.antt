@@ -10,7 +10,8 @@ use Rattle.ufs_layout.specs.declared.records.LogRecord.{LogRecord}
 use Rattle.ufs_journal.specs.declared.open_list.Opened.{Opened}
 use Rattle.ufs_journal.specs.Applied.{keeps_more}
 use Rattle.ufs_journal.specs.Found.{found, is_of, reaches, sectors_of_txn, journal_sector, IsFreeFrom}
-use Rattle.ufs_journal.specs.Filled.{sectors_of_records, sector_count_of, sectors_at}
+use Rattle.ufs_layout.specs.Filled.{sectors_of_records, sector_count_of}
+use Rattle.ufs_journal.specs.Found.{sectors_at}
 use Rattle.ufs_journal.specs.Opened.{opened_of}
 
 -- No sector of the journal has a later epoch.

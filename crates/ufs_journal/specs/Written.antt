@@ -11,7 +11,7 @@ use Rattle.ufs_layout.specs.declared.superblock.Super.{Super}
 use Rattle.ufs_layout.specs.declared.records.LogRecord.{LogRecord}
 use Rattle.ufs_layout.specs.declared.records.Committed.{Committed}
 use Rattle.ufs_journal.specs.Found.{found, is_of, is_committed, is_from, journal_sector, IsFreeFrom}
-use Rattle.ufs_journal.specs.Filled.{sectors_at}
+use Rattle.ufs_journal.specs.Found.{sectors_at}
 
 -- an image of the state, as it was or with this sector put
 pub record HasSector (sector : ℕ) (j : JournalSector) (state : State) (image : Image) : Type 0 where

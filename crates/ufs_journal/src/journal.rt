@@ -8,7 +8,7 @@ ghost use Rattle.ufs_layout.specs.Areas.{IsGeometry, sector_count};
 ghost use Rattle.ufs_image.specs.Fold.{is_in_range};
 ghost use Rattle.ufs_layout.specs.Records.{is_record};
 ghost use Rattle.ufs_layout.specs.declared.records.LogRecord.{LogRecord};
-ghost use Rattle.ufs_journal.specs.Filled.{sector_count_of};
+ghost use Rattle.ufs_layout.specs.Filled.{sector_count_of};
 ghost use Rattle.ufs_journal.specs.Found.{AgreeOffJournal};
 ghost use Rattle.ufs_journal.specs.Opened.{opened_of, without_txn, is_placed, rises};
 ghost use Rattle.ufs_journal.specs.Kept.{HasEarlier, IsReady, IsUnused, IsOpen, CanApply};

@@ -9,7 +9,7 @@ ghost use Rattle.ufs_image.specs.Fold.{is_in_range};
 ghost use Rattle.ufs_layout.specs.JournalSector.{journal_bytes, journal_of, HasCommit};
 ghost use Rattle.ufs_layout.specs.Records.{is_record};
 ghost use Rattle.ufs_journal.specs.Found.{journal_sector, AgreeOffJournal};
-ghost use Rattle.ufs_journal.specs.Filled.{sectors_of_records, sector_count_of};
+ghost use Rattle.ufs_layout.specs.Filled.{sectors_of_records, sector_count_of};
 ghost use Rattle.ufs_journal.specs.Written.{IsOldOrPut, IsReadyFor, IsAppending, HasAppended};
 ghost use Rattle.ufs_journal.specs.Spelled.{spelled_sectors, joined, AreReadBack};
 

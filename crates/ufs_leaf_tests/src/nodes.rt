@@ -7,6 +7,9 @@ use std::alloc::Global;
 use std::test::Fail;
 use ufs_links::{Links, Which};
 
+/// A number of a list that is far from 1 and in its bucket, where there are three buckets.
+const FAR: u32 = 4_294_967_293;
+
 /// Puts the node on a list of the kind, or takes it off the one that it is on.
 fn turned(links: &mut Links, which: Which, list: u32, node: u32, front: bool)
     requires { set.contains links.old.given node ≡ true }
@@ -15,9 +18,6 @@ fn turned(links: &mut Links, which: Which, list: u32, node: u32, front: bool)
     match links.list_of(which, node) {
         Some(_) => links.remove(which, node),
         None => {
-            if list as usize >= links.list_count(which) {
-                return;
-            }
             if front {
                 links.add_front(which, list, node);
             } else {
@@ -30,9 +30,6 @@ fn turned(links: &mut Links, which: Which, list: u32, node: u32, front: bool)
 /// The nodes of the list, from its front on.
 fn nodes_of(alloc: Global, links: &Links, which: Which, list: u32) -> Result<Vec<u32>, Fail> {
     let mut nodes = Vec::new(alloc);
-    if list as usize >= links.list_count(which) {
-        return Ok(nodes);
-    }
     let mut at = links.front(which, list);
     for _turn in 0..9 {
         let Some(node) = at else {
@@ -47,7 +44,7 @@ fn nodes_of(alloc: Global, links: &Links, which: Which, list: u32) -> Result<Vec
     Ok(nodes)
 }
 
-/// Nodes that are given out, with two lists of each kind.
+/// Nodes that are given out.
 #[derive(Drop)]
 struct Three {
     links: Links,
@@ -63,8 +60,6 @@ impl Three {
     fn make(alloc: Global) -> Result<Three, Fail> {
         let mut links = Links::new(alloc);
         links.reserve(3)?;
-        links.add_lists(Which::First, 2)?;
-        links.add_lists(Which::Second, 2)?;
         let a = links.fresh();
         let b = links.fresh();
         let c = links.fresh();
@@ -94,27 +89,27 @@ impl Three {
 fn a_node_is_on_a_list_of_each_kind(rt: HostRuntime) -> Result<(), Fail> {
     let alloc = rt.alloc();
     let mut three = Three::make(alloc)?;
-    assert_eq!(rt; three.links.list_count(Which::First), 2);
-    let a = three.turned(0, Which::First, 1, false);
-    let b = three.turned(1, Which::First, 1, true);
+    let a = three.turned(0, Which::First, FAR, false);
+    let b = three.turned(1, Which::First, FAR, true);
     let _ = three.turned(0, Which::Second, 0, true);
     let _ = three.turned(1, Which::Second, 0, false);
     let links = &three.links;
-    assert!(rt; nodes_of(alloc, links, Which::First, 0)?.is_empty());
+    assert!(rt; nodes_of(alloc, links, Which::First, 1)?.is_empty());
     assert_eq!(rt;
-        nodes_of(alloc, links, Which::First, 1)?.as_slice(),
+        nodes_of(alloc, links, Which::First, FAR)?.as_slice(),
         [b, a].as_slice()
     );
     assert_eq!(rt;
         nodes_of(alloc, links, Which::Second, 0)?.as_slice(),
         [a, b].as_slice()
     );
-    let _ = three.turned(1, Which::First, 1, true);
+    let _ = three.turned(1, Which::First, FAR, true);
     let links = &three.links;
     assert_eq!(rt;
-        nodes_of(alloc, links, Which::First, 1)?.as_slice(),
+        nodes_of(alloc, links, Which::First, FAR)?.as_slice(),
         [a].as_slice()
     );
+    assert_eq!(rt; links.list_of(Which::First, a), Some(FAR));
     assert_eq!(rt; links.list_of(Which::First, b), None);
     assert_eq!(rt; links.list_of(Which::Second, b), Some(0));
     Ok(())
@@ -143,10 +138,10 @@ fn a_walk_agrees_with_plain_lists(rt: HostRuntime) -> Result<(), Fail> {
         seed = drawn(seed);
         let list = seed / 1_048_576 % 2;
         let front = seed / 4_194_304 % 2 == 0;
-        let node = three.turned(seed / 65_536, Which::Second, list, front);
+        let node = three.turned(seed / 65_536, Which::Second, number(list), front);
         turn(&mut plain, list as usize, node, front)?;
         for l in 0..2 {
-            let found = nodes_of(alloc, &three.links, Which::Second, l)?;
+            let found = nodes_of(alloc, &three.links, Which::Second, number(l))?;
             assert!(rt;
                 plain
                     .get(l as usize)
@@ -155,6 +150,11 @@ fn a_walk_agrees_with_plain_lists(rt: HostRuntime) -> Result<(), Fail> {
         }
     }
     Ok(())
+}
+
+/// The number of the first list of the walk, or of the second.
+fn number(list: u32) -> u32 {
+    if list == 0 { 1 } else { FAR }
 }
 
 fn turn(plain: &mut Vec<Vec<u32>>, list: usize, node: u32, front: bool) -> Result<(), Fail> {
@@ -171,5 +171,26 @@ fn turn(plain: &mut Vec<Vec<u32>>, list: usize, node: u32, front: bool) -> Resul
             nodes.push(node)?;
         }
     }
+    Ok(())
+}
+
+/// Places for more nodes come while lists stand.
+#[test]
+fn lists_stand_while_places_are_added(rt: HostRuntime) -> Result<(), Fail> {
+    let alloc = rt.alloc();
+    let mut three = Three::make(alloc)?;
+    let a = three.turned(0, Which::First, FAR, true);
+    let b = three.turned(1, Which::First, 1, true);
+    three.links.reserve(40)?;
+    let c = three.turned(2, Which::First, FAR, false);
+    let links = &three.links;
+    assert_eq!(rt;
+        nodes_of(alloc, links, Which::First, FAR)?.as_slice(),
+        [a, c].as_slice()
+    );
+    assert_eq!(rt;
+        nodes_of(alloc, links, Which::First, 1)?.as_slice(),
+        [b].as_slice()
+    );
     Ok(())
 }

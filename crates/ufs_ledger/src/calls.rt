@@ -11,7 +11,7 @@ ghost use Rattle.ufs_layout.specs.declared.geometry.Geometry.{Geometry};
 ghost use Rattle.ufs_layout.specs.declared.records.Committed.{Committed};
 ghost use Rattle.ufs_image.specs.Fold.{is_in_range};
 ghost use Rattle.ufs_image.specs.Images.{block_at};
-ghost use Rattle.ufs_journal.specs.Filled.{sector_count_of};
+ghost use Rattle.ufs_layout.specs.Filled.{sector_count_of};
 ghost use Rattle.ufs_journal.specs.Kept.{IsReady, IsUnused};
 ghost use Rattle.ufs_overlay.specs.Seen as overlaid;
 ghost use Rattle.ufs_ledger.specs.Ledger.{IsDataBlock, is_held, Ledger, IsLeftBy, IsLedgerOf};

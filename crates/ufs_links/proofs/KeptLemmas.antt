@@ -1,17 +1,18 @@
 -- The set of nodes that are given out, as it is kept.
-use Rattle.std.proofs.Common.{◌≡◌, ◌≢◌, ℕ, zero, suc, ◌+◌, ◌<◌, ◌≤◌, nat_eq, nat_lt, eqb, Bool, true, false, not, ◌&&◌, ◌||◌, ⊎_elim, List, [], ◌∷◌, ◌++◌, length, filter, refl, sym, ap, subst, ◌∙◌, true≢false, arith, map, set as set_at, get_or-set_same, get_or-set_other, Vec, vec_len, vec_capacity, Global}
+use Rattle.std.proofs.Common.{◌≡◌, ◌≢◌, ℕ, zero, suc, ◌+◌, ◌<◌, ◌≤◌, nat_eq, nat_lt, eqb, Bool, true, false, not, ◌&&◌, ◌||◌, ◌⊎◌, ⊎_elim, inl, inr, List, [], ◌∷◌, ◌++◌, length, filter, refl, sym, ap, subst, ◌∙◌, true≢false, arith, map, set as set_at, Vec, vec_len, vec_capacity, Global}
 use Rattle.std.proofs.lemmas.Bool.Decides.{nat_tests, eqb_tells}
 use Rattle.std.specs.Ordering.{nat_cmp}
 use Rattle.std.specs.Cmp.{nat_cmp_total, unsigned_tied}
 use Rattle.std.specs.List.{list_any}
 use Rattle.std.specs.FinSet as set
 use Rattle.ufs_links.specs.declared.links.Links.TheInside.{Inside}
-use Rattle.ufs_links.specs.NodeLists.{NodeLists, with_lists}
+use Rattle.ufs_links.specs.NodeLists.{NodeLists, with_lists, empty_lists}
 use Rattle.ufs_links.specs.Nodes.{has, nodes_in, without, IsOnNone}
 use Rattle.ufs_links.specs.Chains.{AreApart}
 use Rattle.ufs_links.specs.Kept.{below, given_of, AreGiven, IsKept}
 use Rattle.ufs_links.proofs.NodeLemmas.{cons_lacks, has_cons, has-push, apart-push, has-without_other, has-without_same, lacks_from, length-le_from_apart}
 use Rattle.ufs_links.proofs.StandLemmas.{in_map}
+use Rattle.ufs_links.proofs.NumberLemmas.{empty_list}
 
 swap_eq : (a b : ℕ) → nat_eq a b ≡ nat_eq b a
 swap_eq a b = grind (arith, nat_tests)
@@ -109,22 +110,26 @@ not_given_released used rest node = contains-given_of used (rest ++ node ∷ [])
   here true = refl
   here false = grind (arith, nat_tests)
 
--- what is on a list is given out, after each change of the lists
-given_set : (used : ℕ) (released : List ℕ) (lists : List (List ℕ)) (list : ℕ) (ns : List ℕ) → AreGiven used released lists → list < length lists
-    → ((n : ℕ) → has ns n ≡ true → (n < used) × (has released n ≡ false)) → AreGiven used released (set_at lists list ns)
-given_set used released lists list ns given lt new l n h = ⊎_elim
-    (λ (t : (eqb l list ≡ true) × (l ≡ list)). new n (subst (λ m. has m n ≡ true) (ap (nodes_in (set_at lists list ns)) t.1 ∙ get_or-set_same lists list ns [] lt) h))
-    (λ (t : (eqb l list ≡ false) × (l ≢ list)). given l n (subst (λ m. has m n ≡ true) (get_or-set_other lists list l ns [] t.1) h))
-    (eqb_tells l list)
+set_has : (lists : List (List ℕ)) (list : ℕ) (ns : List ℕ) (l n : ℕ) → has (nodes_in (set_at lists list ns) l) n ≡ true → (has ns n ≡ true) ⊎ (has (nodes_in lists l) n ≡ true)
+set_has [] list ns l n h = absurd (true≢false (sym h))
+set_has (x ∷ lists) zero ns zero n h = inl h
+set_has (x ∷ lists) zero ns (suc l) n h = inr h
+set_has (x ∷ lists) (suc list) ns zero n h = inr h
+set_has (x ∷ lists) (suc list) ns (suc l) n h = set_has lists list ns l n h
 
-pub given_front : (used : ℕ) (released : List ℕ) (lists : List (List ℕ)) (list node : ℕ) → AreGiven used released lists → list < length lists → set.contains (given_of used released) node ≡ true
+-- what is on a list is given out, after each change of the lists
+given_set : (used : ℕ) (released : List ℕ) (lists : List (List ℕ)) (list : ℕ) (ns : List ℕ) → AreGiven used released lists
+    → ((n : ℕ) → has ns n ≡ true → (n < used) × (has released n ≡ false)) → AreGiven used released (set_at lists list ns)
+given_set used released lists list ns given new l n h = ⊎_elim (new n) (given l n) (set_has lists list ns l n h)
+
+pub given_front : (used : ℕ) (released : List ℕ) (lists : List (List ℕ)) (list node : ℕ) → AreGiven used released lists → set.contains (given_of used released) node ≡ true
     → AreGiven used released (set_at lists list (node ∷ nodes_in lists list))
-given_front used released lists list node given lt c = given_set used released lists list (node ∷ nodes_in lists list) given lt (λ n h. ⊎_elim
+given_front used released lists list node given c = given_set used released lists list (node ∷ nodes_in lists list) given (λ n h. ⊎_elim
     (λ (e : n ≡ node). subst (λ m. (m < used) × (has released m ≡ false)) (sym e) (given_tells used released node c)) (λ (t : has (nodes_in lists list) n ≡ true). given list n t) (has_cons n node (nodes_in lists list) h))
 
-pub given_push : (used : ℕ) (released : List ℕ) (lists : List (List ℕ)) (list node : ℕ) → AreGiven used released lists → list < length lists → set.contains (given_of used released) node ≡ true
+pub given_push : (used : ℕ) (released : List ℕ) (lists : List (List ℕ)) (list node : ℕ) → AreGiven used released lists → set.contains (given_of used released) node ≡ true
     → AreGiven used released (set_at lists list (nodes_in lists list ++ node ∷ []))
-given_push used released lists list node given lt c = given_set used released lists list (nodes_in lists list ++ node ∷ []) given lt (λ n h.
+given_push used released lists list node given c = given_set used released lists list (nodes_in lists list ++ node ∷ []) given (λ n h.
     cases n (has (nodes_in lists list) n) refl (sym (has-push node n (nodes_in lists list)) ∙ h)) where
       cases : (n : ℕ) (b : Bool) → has (nodes_in lists list) n ≡ b → (b || nat_eq n node) ≡ true → (n < used) × (has released n ≡ false)
       cases n true e h = given list n e
@@ -241,3 +246,7 @@ none_left (x ∷ xs) e = absurd (omega arith)
 pub given_next : (used : ℕ) (old new : Vec ℕ Global) → vec_len old ≡ 0 → vec_len new ≡ 0 → given_of (used + 1) new.items ≡ set.insert (given_of used old.items) used
 given_next used old new o n =
     ap (given_of (used + 1)) (none_left new.items (sym n ∙ new.ok.0)) ∙ given_first used ∙ ap (λ l. set.insert (given_of used l) used) (sym (none_left old.items (sym o ∙ old.ok.0)))
+
+-- nothing is on an empty list
+pub none_on_empty : (used : ℕ) (released : List ℕ) → AreGiven used released empty_lists
+none_on_empty used released l n h = absurd (true≢false (sym (sym (ap (λ m. has m n) (empty_list l)) ∙ h)))

@@ -2,5 +2,9 @@ pub mod ChainLemmas
 pub mod KeptLemmas
 pub mod LinkedLemmas
 pub mod NodeLemmas
+pub mod NumberLemmas
+pub mod NumberedLemmas
 pub mod PointerLemmas
 pub mod StandLemmas
+pub mod TableLemmas
+pub mod TailLemmas

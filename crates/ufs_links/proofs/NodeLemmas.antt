@@ -90,3 +90,18 @@ distinct_from_apart (x ∷ xs) a = (all_unequal x xs a.0, distinct_from_apart xs
 -- no more nodes than there are numbers below the limit
 pub length-le_from_apart : (xs : List ℕ) (n : ℕ) → AreApart xs → ((q : ℕ) → has xs q ≡ true → q < n) → length xs ≤ n
 length-le_from_apart xs n a below = length-le_from_distinct_below xs n (distinct_from_apart xs a) below
+
+pub pushed_only : (x : ℕ) (ys : List ℕ) (n : ℕ) → has (ys ++ x ∷ []) n ≡ true → (n ≡ x) ⊎ (has ys n ≡ true)
+pushed_only x ys n h = cases (has ys n) refl (sym (has-push x n ys) ∙ h) where
+  cases : (b : Bool) → has ys n ≡ b → (b || nat_eq n x) ≡ true → (n ≡ x) ⊎ (has ys n ≡ true)
+  cases true e h = inr e
+  cases false e h = inl (grind (arith, nat_tests))
+
+pub pushed_all : (x : ℕ) (ys : List ℕ) (n : ℕ) → has ys n ≡ true → has (ys ++ x ∷ []) n ≡ true
+pushed_all x ys n h = has-push x n ys ∙ ap (λ b. b || nat_eq n x) h
+
+pub pushed_new : (x : ℕ) (ys : List ℕ) → has (ys ++ x ∷ []) x ≡ true
+pushed_new x ys = has-push x x ys ∙ either (has ys x) where
+  either : (b : Bool) → (b || nat_eq x x) ≡ true
+  either true = refl
+  either false = grind (arith, nat_tests)

@@ -64,10 +64,10 @@ none_apart x e = cc
 some_apart : (x y : ℕ) → x ≢ y → ◌≢◌ {A = Option ℕ} (Some x) (Some y)
 some_apart x y ne e = ne (some_same x y e)
 
-in_same : (ls : List (List ℕ)) (l : ℕ) (ns : List ℕ) → l < length ls → nodes_in (set ls l ns) l ≡ ns
+pub in_same : (ls : List (List ℕ)) (l : ℕ) (ns : List ℕ) → l < length ls → nodes_in (set ls l ns) l ≡ ns
 in_same ls l ns lt = get_or-set_same ls l ns [] lt
 
-in_other : (ls : List (List ℕ)) (l k : ℕ) (ns : List ℕ) → k ≢ l → nodes_in (set ls l ns) k ≡ nodes_in ls k
+pub in_other : (ls : List (List ℕ)) (l k : ℕ) (ns : List ℕ) → k ≢ l → nodes_in (set ls l ns) k ≡ nodes_in ls k
 in_other ls l k ns ne = get_or-set_other ls l k ns [] ne
 
 pub in_map : (x : ℕ) (ls : List (List ℕ)) (l : ℕ) → nodes_in (map (without x) ls) l ≡ without x (nodes_in ls l)
@@ -75,7 +75,7 @@ in_map x [] l = refl
 in_map x (n ∷ ls) zero = refl
 in_map x (n ∷ ls) (suc l) = in_map x ls l
 
-length_map : (x : ℕ) (ls : List (List ℕ)) → length (map (without x) ls) ≡ length ls
+pub length_map : (x : ℕ) (ls : List (List ℕ)) → length (map (without x) ls) ≡ length ls
 length_map x [] = refl
 length_map x (n ∷ ls) = let e = length_map x ls in omega arith
 
@@ -281,12 +281,12 @@ get_or-padded [] (suc m) (suc k) d = get_or-padded [] m k d
 get_or-padded (x ∷ xs) m zero d = refl
 get_or-padded (x ∷ xs) m (suc k) d = get_or-padded xs m k d
 
-beyond : {X : Type 0} (xs : List X) (k : ℕ) (d : X) → length xs ≤ k → get_or xs k d ≡ d
+pub beyond : {X : Type 0} (xs : List X) (k : ℕ) (d : X) → length xs ≤ k → get_or xs k d ≡ d
 beyond [] k d le = refl
 beyond (x ∷ xs) zero d le = absurd (omega arith)
 beyond (x ∷ xs) (suc k) d le = beyond xs k d (omega arith)
 
-low_or_high : (a b : ℕ) → (a < b) ⊎ (b ≤ a)
+pub low_or_high : (a b : ℕ) → (a < b) ⊎ (b ≤ a)
 low_or_high a zero = inr (omega arith)
 low_or_high zero (suc b) = inl (omega arith)
 low_or_high (suc a) (suc b) = ⊎_elim (λ (h : a < b). inl (omega arith)) (λ (h : b ≤ a). inr (omega arith)) (low_or_high a b)

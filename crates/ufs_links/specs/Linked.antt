@@ -1,13 +1,15 @@
 -- Nodes that are given out, and the lists of two kinds that they are on.
-use Rattle.std.specs.Prelude.{ℕ, List, [], refl}
+use Rattle.std.specs.Prelude.{ℕ, List, refl}
 use Rattle.std.specs.Coded.{Coded, code_by, coded×, coded_list, coded_ℕ}
 use Rattle.std.specs.Ordering.{nat_cmp}
 use Rattle.std.specs.FinSet as set
 use Rattle.ufs_links.specs.declared.links.Which.{Which}
 use Rattle.ufs_links.specs.declared.links.Which.TheVariants.{First, Second}
 use Rattle.ufs_links.specs.Nodes.{nodes_in}
+use Rattle.ufs_links.specs.NodeLists.{empty_lists}
 
--- the nodes that are given out, how many more can be without memory, and the lists of each kind
+-- the nodes that are given out, how many more can be without memory, and for each kind the nodes of each list number
+-- of 32 bits
 pub record Linked : Type 0 where
   pub given : set.FinSet nat_cmp
   pub spare : ℕ
@@ -20,7 +22,7 @@ linked_code = code_by (set.FinSet nat_cmp × (ℕ × (List (List ℕ) × List (L
     (λ l. (l.given, (l.spare, (l.first, l.second)))) (λ p. record { given = p.0; spare = p.1.0; first = p.1.1.0; second = p.1.1.1 }) (λ _. refl)
 
 abbrev pub no_links : Linked
-no_links = record { given = set.empty; spare = 0; first = []; second = [] }
+no_links = record { given = set.empty; spare = 0; first = empty_lists; second = empty_lists }
 
 -- the lists of a kind
 abbrev pub lists_in : Linked → Which → List (List ℕ)

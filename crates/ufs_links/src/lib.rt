@@ -3,6 +3,7 @@
 
 mod links;
 mod lists;
+mod numbered;
 mod pointers;
 
 pub use links::{Links, Which};

@@ -1,7 +1,7 @@
 // Nodes that are given out and released, and the lists of two kinds that they are on.
 ghost use Rattle.std.specs.Prelude.{◌≡◌, ◌+◌, ◌^◌, ◌<◌, ◌≤◌};
 
-use crate::lists::Lists;
+use crate::numbered::NumberedLists;
 use std::alloc::Global;
 use std::marker::Model;
 use ufs_base::Memory;
@@ -13,12 +13,13 @@ pub enum Which {
     Second,
 }
 
-/// Nodes and lists of two kinds, all by numbers from 0. A node is on at most one list of each kind. Every call but
-/// the two that reserve takes no memory and a constant number of steps.
+/// Nodes by numbers from 0, and lists of two kinds by any number. A node is on at most one list of each kind. Every
+/// call but `reserve` takes no memory and, where the lists' numbers are spread over the buckets that find them, a
+/// constant number of steps.
 #[derive(Drop)]
 pub struct Links {
-    first: Lists,
-    second: Lists,
+    first: NumberedLists,
+    second: NumberedLists,
     /// How many nodes there is room for.
     nodes: u32,
     /// The nodes from this one on were never given out.
@@ -42,18 +43,18 @@ impl Model for Links {
 }
 
 impl Links {
-    ghost use Rattle.std.specs.Prelude.{ℕ, [], ◌∷◌, ◌++◌, true, false, length, map, replicate, slice_get, slice_set, IfSome, IfNone, OnOk, OnErr, is_ok, if◌then◌else◌};
+    ghost use Rattle.std.specs.Prelude.{ℕ, [], ◌∷◌, ◌++◌, true, false, map, slice_get, slice_set, IfSome, IfNone, OnOk, OnErr};
     ghost use Rattle.std.specs.FinSet as set;
     ghost use Rattle.ufs_links.specs.Nodes.{has, without, next_in, IsOnNone, IsOnOne};
     ghost use Rattle.ufs_links.specs.Linked.{lists_in, nodes_of, with_lists_of, no_links};
 
-    /// No nodes and no lists.
+    /// No nodes. Every list is empty.
     pub fn new(alloc: Global) -> Self
         ensures { result ≡ no_links }
     {
         Links {
-            first: Lists::new(alloc),
-            second: Lists::new(alloc),
+            first: NumberedLists::new(alloc),
+            second: NumberedLists::new(alloc),
             nodes: 0,
             used: 0,
             released: Vec::new(alloc),
@@ -97,27 +98,6 @@ impl Links {
         }
     }
 
-    /// How many lists of the kind there are: their numbers are those below.
-    pub fn list_count(&self, which: Which) -> usize
-        ensures { result ≡ length (lists_in self.now which) }
-    {
-        match which {
-            Which::First => self.first.list_count(),
-            Which::Second => self.second.list_count(),
-        }
-    }
-
-    /// Adds lists of the kind, behind those that there are. They are empty.
-    pub fn add_lists(&mut self, which: Which, count: u32) -> Result<(), Memory>
-        requires { length (lists_in self.old which) + count < 2 ^ 32 }
-        ensures { self.new ≡ with_lists_of self.old which (if is_ok result then lists_in self.old which ++ replicate count [] else lists_in self.old which) }
-    {
-        match which {
-            Which::First => self.first.add_lists(count as usize),
-            Which::Second => self.second.add_lists(count as usize),
-        }
-    }
-
     /// Gives out a spare node. It is on no list.
     pub fn fresh(&mut self) -> u32
         requires { 0 < self.old.spare }
@@ -154,7 +134,6 @@ impl Links {
 
     /// Puts a node that is given out, and on no list of the kind, in front of a list.
     pub fn add_front(&mut self, which: Which, list: u32, node: u32)
-        requires list { list < length (lists_in self.old which) }
         requires given { set.contains self.old.given node ≡ true }
         requires off { IsOnNone (lists_in self.old which) node }
         ensures { self.new ≡ with_lists_of self.old which (slice_set (lists_in self.old which) list (node ∷ nodes_of self.old which list)) }
@@ -167,7 +146,6 @@ impl Links {
 
     /// Puts a node that is given out, and on no list of the kind, at the back of a list.
     pub fn add_back(&mut self, which: Which, list: u32, node: u32)
-        requires list { list < length (lists_in self.old which) }
         requires given { set.contains self.old.given node ≡ true }
         requires off { IsOnNone (lists_in self.old which) node }
         ensures { self.new ≡ with_lists_of self.old which (slice_set (lists_in self.old which) list (nodes_of self.old which list ++ node ∷ [])) }
@@ -191,7 +169,6 @@ impl Links {
 
     /// The first node of the list; `None` exactly where the list is empty.
     pub fn front(&self, which: Which, list: u32) -> Option<u32>
-        requires { list < length (lists_in self.now which) }
         ensures { result ≡ slice_get (nodes_of self.now which list) 0 }
     {
         match which {

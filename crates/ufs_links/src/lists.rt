@@ -1,6 +1,7 @@
 // Lists of nodes by index, each node on at most one of them.
 ghost use Rattle.std.specs.Prelude.{◌≡◌, ℕ, ◌+◌, ◌^◌, ◌<◌, ◌≤◌, true, [], ◌∷◌, ◌++◌, length, map, replicate, slice_get, slice_set, Some, IfSome, IfNone, OnOk, is_ok, if◌then◌else◌};
 ghost use Rattle.ufs_links.specs.Nodes.{has, nodes_in, next_in, without, IsOnNone, IsOnOne};
+ghost use Rattle.ufs_links.specs.Chains.{AreApart};
 
 use crate::pointers::Pointers;
 use std::alloc::Global;
@@ -106,7 +107,8 @@ impl Lists {
 
     pub(crate) fn front(&self, list: u32) -> Option<u32>
         requires { list < length self.now.lists }
-        ensures { result ≡ slice_get (nodes_in self.now.lists list) 0 }
+        ensures front { result ≡ slice_get (nodes_in self.now.lists list) 0 }
+        ensures apart { AreApart (nodes_in self.now.lists list) }
     {
         self.pointers.after(list, None)
     }

@@ -9,7 +9,7 @@ use Rattle.ufs_base.specs.Choices.{first_of, refused_if}
 use Rattle.ufs_model.specs.PosixTree.{PosixTree}
 use Rattle.ufs_model.specs.Descriptors.{opened, closed, moved, seek_to, is_offset}
 use Rattle.ufs_model.specs.FileBytes.{content, part, put_at, resized, place_of, is_past, max_size}
-use Rattle.ufs_model.specs.Refusals.{refusal, own_refusal, read_refusal, write_refusal, seek_refusal, trunc_refusal}
+use Rattle.ufs_model.specs.Refusals.{refusal, read_refusal, write_refusal, seek_refusal, trunc_refusal}
 use Rattle.ufs_model.specs.Asks.{IsDescAfter}
 use Rattle.ufs_model.specs.Posix.{served, change, answer, with_fd, with_bytes}
 use Rattle.ufs_model.specs.declared.data.Desc.{Desc}

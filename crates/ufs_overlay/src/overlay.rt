@@ -9,6 +9,7 @@ ghost use Rattle.ufs_image.specs.Folding.{FitsCommitted};
 ghost use Rattle.ufs_disk.specs.Disk.{IsImage};
 ghost use Rattle.ufs_disk.specs.Moments.{LeavesOnly, reads};
 ghost use Rattle.ufs_base.specs.Faults.{HasCause};
+ghost use Rattle.ufs_base.specs.Images.{Image};
 ghost use Rattle.ufs_overlay.specs.declared.lists.Numbered.{Numbered};
 ghost use Rattle.ufs_overlay.specs.Lists.{lists_of};
 ghost use Rattle.ufs_overlay.specs.Over.{AreOf, FoldsAlike, IsHomeSettled, IsHomeWritten, IsStepWritten, rise_above};
@@ -94,6 +95,15 @@ impl Overlay {
         disk.read(sector, buf)?;
         step_all(buf, self.lists.at(sector));
         Ok(())
+    }
+
+    /// The bytes of a home sector become what the transactions leave of them.
+    pub fn apply(&self, sector: u32, buf: &mut [u8])
+        requires sized { length buf.old ≡ 512 }
+        ensures { (added : List Committed) (image : Image) → HasAdded self.now added → buf.old ≡ image sector
+            → buf.new ≡ folded (geometry_of self.now) added image sector }
+    {
+        step_all(buf, self.lists.at(sector));
     }
 
     /// The lowest sector of the image, from this one on, that a transaction may change.

@@ -11,9 +11,9 @@ use Rattle.ufs_image.specs.Journal.{epoch_in, ReadSector, FoundSector, sectors_o
 use Rattle.ufs_image.specs.BadSectors.{is_misspelled, is_off, overkept, bad_sector}
 use Rattle.ufs_layout.specs.declared.geometry.Geometry.{Geometry}
 use Rattle.ufs_layout.specs.declared.superblock.Super.{Super}
-use Rattle.ufs_scan.specs.Read.{read_from, misspelled}
-use Rattle.ufs_scan.specs.Off.{lower, lowest_of, first_off}
-use Rattle.ufs_scan.proofs.Noted.{from_split}
+use Rattle.ufs_found.specs.Read.{read_from, misspelled}
+use Rattle.ufs_found.specs.Off.{lower, lowest_of, first_off}
+use Rattle.ufs_found.proofs.Noted.{from_split}
 
 -- tests that agree in the range
 pub find_same : (p q : ℕ → Bool) (a n : ℕ) → ((s : ℕ) → a ≤ s → p s ≡ q s) → find p (range_with_len a n) ≡ find q (range_with_len a n)

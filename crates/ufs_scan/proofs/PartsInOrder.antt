@@ -10,10 +10,10 @@ use Rattle.std.proofs.lemmas.List.{append-nil}
 use Rattle.std.proofs.lemmas.List.Elements.{All-head, All-tail, filter-append}
 use Rattle.ufs_image.specs.Journal.{FoundSector, Transaction, has_records, has_commit, commit_in, records_before, transaction_of, transactions}
 use Rattle.ufs_layout.specs.Words.{rising_by}
-use Rattle.ufs_scan.specs.Sorted.{place_of, number_of, is_between}
+use Rattle.ufs_found.specs.Sorted.{place_of, number_of, is_between}
 use Rattle.ufs_scan.specs.Gathered.{is_part, placed_in, placed_at, placed_below, transaction_in}
-use Rattle.ufs_scan.proofs.Noted.{range_more}
-use Rattle.ufs_scan.proofs.Buckets.{at, under, one_more, same_part, flat_of, same_range, filter_both, filter_none}
+use Rattle.ufs_found.proofs.Noted.{range_more}
+use Rattle.ufs_found.proofs.Buckets.{at, under, one_more, same_part, flat_of, same_range, filter_both, filter_none}
 use Rattle.ufs_scan.proofs.Stable.{rising_map}
 
 filter_alike : {X : Type 0} (p q : X → Bool) (xs : List X) → All (λ x. p x ≡ q x) xs → filter p xs ≡ filter q xs

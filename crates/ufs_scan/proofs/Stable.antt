@@ -8,7 +8,7 @@ use Rattle.std.proofs.lemmas.Bool.{lt-ltb, leb-true, leb-false, eqb-true}
 use Rattle.std.proofs.lemmas.List.Elements.{All-cons, All-nil, All-head, All-tail}
 use Rattle.std.proofs.lemmas.List.Sorted.{IsNonDecreasingBy-drop}
 use Rattle.ufs_layout.specs.Words.{placed_by, rising_by}
-use Rattle.ufs_scan.proofs.Buckets.{at, under, filter_all, behind_head, buckets, same_part, same_range}
+use Rattle.ufs_found.proofs.Buckets.{at, under, filter_all, behind_head, buckets, same_part, same_range}
 
 single : {X : Type 0} (xs : List X) → flat_map (λ x. x ∷ []) xs ≡ xs
 single [] = refl

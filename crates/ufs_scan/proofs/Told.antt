@@ -6,8 +6,8 @@ use Rattle.ufs_image.specs.Journal.{FoundSector, Transaction, transactions, well
 use Rattle.ufs_image.specs.BadSectors.{overkept, bad_sector}
 use Rattle.ufs_layout.specs.declared.geometry.Geometry.{Geometry}
 use Rattle.ufs_layout.specs.declared.superblock.Super.{Super}
-use Rattle.ufs_scan.specs.Read.{misspelled}
-use Rattle.ufs_scan.specs.Off.{lower, lowest_of, first_off}
+use Rattle.ufs_found.specs.Read.{misspelled}
+use Rattle.ufs_found.specs.Off.{lower, lowest_of, first_off}
 use Rattle.ufs_scan.specs.Standings.{standings, out_of, AreMarked, marked_standings}
 use Rattle.ufs_scan.specs.declared.standing.Standing.{Standing}
 use Rattle.ufs_scan.proofs.Lowest.{bad_is}

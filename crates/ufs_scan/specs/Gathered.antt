@@ -2,7 +2,7 @@
 use Rattle.std.specs.Prelude.{◌≡◌, ℕ, ◌+◌, ◌*◌, ◌<◌, List, Bool, ◌==◌, ◌&&◌, filter, flat_map, map}
 use Rattle.std.specs.List.{range_with_len}
 use Rattle.ufs_image.specs.Journal.{FoundSector, PlacedRecord, Transaction, records_in, has_records}
-use Rattle.ufs_scan.specs.Sorted.{number_of, is_between}
+use Rattle.ufs_found.specs.Sorted.{number_of, is_between}
 
 -- a record sector of this transaction with this index
 abbrev pub is_part : ℕ → ℕ → FoundSector → Bool

@@ -3,15 +3,14 @@ ghost use Rattle.std.specs.Prelude.{◌≡◌, ◌++◌, List, IfOk, OnOk};
 ghost use Rattle.std.specs.List.Sorted.{IsNonDecreasingBy};
 ghost use Rattle.ufs_image.specs.Journal.{records_in, transactions};
 ghost use Rattle.ufs_scan.specs.Gathered.{placed_in, transaction_in, HasParts};
-ghost use Rattle.ufs_scan.specs.Sorted.{place_of};
+ghost use Rattle.ufs_found.specs.Sorted.{place_of};
 ghost use Rattle.ufs_image.specs.Journal.{FoundSector, committed_of};
 ghost use Rattle.std.specs.Prelude.{flat_map, map};
 
-use crate::Found;
-use crate::found::place;
-use crate::sorted::{between, commits_in_order};
+use crate::order::commits_in_order;
 use std::alloc::{AllocError, Global};
 use std::marker::Model;
+use ufs_found::{Found, between, place};
 use ufs_layout::{Committed, CommittedList, ExtentList, LogRecord, Records};
 
 // A transaction that has a commit, with that commit's number and its record sectors in the order of their

@@ -3,10 +3,10 @@ ghost use Rattle.std.specs.Prelude.{◌≡◌, ◌≤◌, ◌-◌, ℕ, List, Bo
 ghost use Rattle.ufs_scan.specs.Gathered.{placed_in};
 ghost use Rattle.ufs_scan.specs.Standings as by;
 
-use crate::Found;
 use crate::gathered::Committing;
 use crate::standing::is_inode;
 use std::alloc::{AllocError, Global};
+use ufs_found::Found;
 use ufs_layout::{Geometry, LogRecord};
 
 fn put_mark(marks: &mut Vec<bool>, inode: u32)

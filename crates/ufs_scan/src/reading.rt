@@ -4,7 +4,7 @@ ghost use Rattle.ufs_disk.specs.Disk.{IsImage};
 ghost use Rattle.ufs_disk.specs.Moments.{LeavesOnly, reads};
 ghost use Rattle.ufs_layout.specs.Areas.{IsGeometry, sector_count, first_of_inodes, first_of_journal};
 ghost use Rattle.ufs_image.specs.Journal.{sectors_of_epoch, well_spelled};
-ghost use Rattle.ufs_scan.specs.Read.{misspelled};
+ghost use Rattle.ufs_found.specs.Read.{misspelled};
 ghost use Rattle.ufs_scan.specs.Standings.{marked_standings, standing_in, no_standing};
 ghost use Rattle.std.specs.Prelude.{if◌then◌else◌};
 ghost use Rattle.ufs_scan.specs.Faults.{HasFaultCause, NamesNone};
@@ -12,21 +12,13 @@ ghost use Rattle.std.specs.Prelude.{◌*◌, ◌+◌, ◌<◌, ◌/◌, ◌++◌
 ghost use Rattle.ufs_disk.specs.Disk.{IsRange, bytes_from};
 ghost use Rattle.std.specs.Prelude.{length};
 
-use crate::sectors::{Sectors, note_sectors};
 use crate::standing::stand_in;
 use crate::{ScanFault, Standing};
 use std::alloc::{AllocError, Global};
 use ufs_base::SECTOR;
 use ufs_disk::Disk;
+use ufs_found::{Sectors, note_sectors};
 use ufs_layout::Geometry;
-
-// The first sector of the journal.
-fn journal_start(geometry: &Geometry) -> u32
-    requires { IsGeometry geometry.now }
-    ensures { result ≡ 8 * first_of_journal geometry.now }
-{
-    8 * (1 + (geometry.blocks + 32_767) / 32_768 + (geometry.inodes + 7) / 8)
-}
 
 // Reads whole sectors.
 pub(crate) fn read_sectors<D: Disk>(
@@ -70,7 +62,7 @@ pub(crate) fn read_journal<D: Disk>(
     ensures cause { IfErr result (HasFaultCause (D.faults disk.old) (D.faults disk.new)) }
     ensures names { IfErr result NamesNone }
 {
-    let start = journal_start(geometry);
+    let start = 8 * geometry.first_of_journal();
     let mut list = Sectors {
         found: Vec::new(alloc),
         misspelled: None,
@@ -85,14 +77,6 @@ pub(crate) fn read_journal<D: Disk>(
         at += count;
     }
     Ok(list)
-}
-
-// The first sector of the inode table.
-fn table_start(geometry: &Geometry) -> u32
-    requires { IsGeometry geometry.now }
-    ensures { result ≡ 8 * first_of_inodes geometry.now }
-{
-    8 * (1 + (geometry.blocks + 32_767) / 32_768)
 }
 
 fn push_standing(list: &mut Vec<Standing>, one: Standing) -> Result<(), AllocError>
@@ -144,7 +128,7 @@ pub(crate) fn read_standings<D: Disk>(
     ensures cause { IfErr result (HasFaultCause (D.faults disk.old) (D.faults disk.new)) }
     ensures names { IfErr result NamesNone }
 {
-    let start = table_start(geometry);
+    let start = 8 * geometry.first_of_inodes();
     let mut list = Vec::with_capacity(alloc, geometry.inodes as usize)?;
     for i in 0..geometry.inodes {
         let one = read_standing(disk, marks[i as usize], start + i)?;

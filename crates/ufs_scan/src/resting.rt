@@ -3,10 +3,11 @@ ghost use Rattle.std.specs.Prelude.{◌≡◌, ◌≤◌, ◌-◌, length, map, 
 ghost use Rattle.ufs_scan.specs.Gathered.{placed_in};
 ghost use Rattle.ufs_scan.specs.Standings as by;
 
+use crate::Standing;
 use crate::gathered::Committing;
 use crate::standing::is_inode;
-use crate::{Found, Standing};
 use std::alloc::{AllocError, Global};
+use ufs_found::Found;
 use ufs_layout::{Geometry, LogRecord};
 
 fn rested_one(one: Standing) -> Standing

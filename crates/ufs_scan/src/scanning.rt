@@ -10,12 +10,12 @@ ghost use Rattle.ufs_scan.specs.Faults.{HasFaultCause, NamesSector};
 use crate::ScanFault;
 use crate::gathered::{copy_all, gather};
 use crate::marks::marked;
-use crate::off::{first_off, lower};
+use crate::order::parts_in_places;
 use crate::reading::{read_journal, read_standings};
-use crate::sorted::parts_in_places;
 use crate::standing::lowest_out;
 use std::alloc::Global;
 use ufs_disk::Disk;
+use ufs_found::{first_off, lower};
 use ufs_layout::{CommittedList, Geometry, Super};
 
 /// The committed transactions of the superblock's epoch, by rising number; or the lowest sector of the

@@ -3,7 +3,7 @@ use Rattle.std.proofs.lemmas.List.{length-take-le}
 use Rattle.ufs_layout.specs.JournalSector.{journal_of}
 use Rattle.ufs_layout.specs.Records.{is_record}
 use Rattle.ufs_layout.specs.declared.records.LogRecord.{LogRecord}
-use Rattle.ufs_journal.specs.Filled.{sectors_of_records}
+use Rattle.ufs_layout.specs.Filled.{sectors_of_records}
 use Rattle.ufs_journal.specs.Spelled.{spelled_sectors, joined, AreReadBack}
 use Rattle.ufs_journal.proofs.AppendRun.{part, taken_more, rest_more, index_less, joined_push, back_push}
 use Rattle.ufs_journal.proofs.writes.fill_group.Goals as goal

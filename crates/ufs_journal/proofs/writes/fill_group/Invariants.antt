@@ -1,5 +1,5 @@
 use Rattle.std.proofs.Common.{length, drop, take, ◌-◌, ◌*◌, ◌≡◌, ◌≤◌}
-use Rattle.ufs_journal.specs.Filled.{sectors_of_records, sector_count_of}
+use Rattle.ufs_layout.specs.Filled.{sectors_of_records, sector_count_of}
 use Rattle.ufs_journal.specs.Spelled.{spelled_sectors, joined, AreReadBack}
 use Rattle.ufs_journal.proofs.writes.fill_group.Given as goal
 

@@ -7,7 +7,7 @@ use Rattle.ufs_disk.proofs.Images.{seen_is_image}
 use Rattle.ufs_image.specs.Fold.{is_in_range}
 use Rattle.ufs_layout.specs.Records.{is_record}
 use Rattle.ufs_layout.specs.declared.records.LogRecord.{LogRecord}
-use Rattle.ufs_journal.specs.Filled.{sectors_of_records, sector_count_of}
+use Rattle.ufs_layout.specs.Filled.{sectors_of_records, sector_count_of}
 use Rattle.ufs_journal.specs.Written.{HasAppended, IsAppending}
 use Rattle.ufs_journal.proofs.AppendRun.{all_drop, all_part, begun, begins, group_now, group_on, group_reads, none_appended, none_left, sectors_all, take_more}
 use Rattle.ufs_journal.proofs.writes.write_records.Goals as goal

@@ -2,8 +2,8 @@ use Rattle.std.proofs.Common.{◌≡◌, ◌+◌, ◌*◌, ◌<◌, ap, ◌∙�
 use Rattle.std.specs.Prelude.{flat_map}
 use Rattle.std.specs.List.{filter}
 use Rattle.ufs_scan.specs.Gathered.{placed_in, placed_below}
-use Rattle.ufs_scan.specs.Sorted.{is_between}
-use Rattle.ufs_scan.proofs.Buckets.{flat_of}
+use Rattle.ufs_found.specs.Sorted.{is_between}
+use Rattle.ufs_found.proofs.Buckets.{flat_of}
 use Rattle.ufs_scan.proofs.gathered.with_parts.Goals as goal
 
 pub returns : goal.returns

@@ -3,7 +3,7 @@ use Rattle.ufs_disk.specs.Disk.{IsImage}
 use Rattle.ufs_disk.specs.Moments.{LeavesOnly, reads}
 use Rattle.ufs_layout.specs.Areas.{first_of_journal}
 use Rattle.ufs_image.specs.Journal.{well_spelled}
-use Rattle.ufs_scan.specs.Read.{read_from, misspelled}
+use Rattle.ufs_found.specs.Read.{read_from, misspelled}
 use Rattle.ufs_scan.proofs.reading.read_journal.Given as goal
 
 abbrev pub invariant-loop-at : goal.invariant-loop-at

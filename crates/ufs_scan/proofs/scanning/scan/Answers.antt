@@ -3,7 +3,7 @@ use Rattle.ufs_disk.specs.Disk.{IsImage}
 use Rattle.ufs_disk.specs.Moments.{reads}
 use Rattle.ufs_disk.proofs.Runs.{goes_on_quietly}
 use Rattle.ufs_image.specs.Journal.{transactions}
-use Rattle.ufs_scan.specs.Off.{lowest_of, first_off}
+use Rattle.ufs_found.specs.Off.{lowest_of, first_off}
 use Rattle.ufs_scan.specs.Standings.{out_of, AreMarked, marked_standings}
 use Rattle.ufs_scan.proofs.Told.{told_bad}
 use Rattle.ufs_scan.proofs.scanning.scan.Goals as goal

@@ -3,7 +3,7 @@ use Rattle.std.specs.Prelude.{flat_map}
 use Rattle.ufs_image.specs.Journal.{PlacedRecord}
 use Rattle.ufs_layout.specs.declared.geometry.Geometry.{Geometry}
 use Rattle.ufs_scan.specs.Gathered.{placed_in}
-use Rattle.ufs_scan.specs.Off.{lower, lowest_of}
+use Rattle.ufs_found.specs.Off.{lower, lowest_of}
 use Rattle.ufs_scan.specs.Standings.{out_in, behind}
 use Rattle.ufs_scan.specs.declared.standing.Standing.{Standing}
 use Rattle.ufs_scan.proofs.FoldedSectors.{out_append, behind_append, split_sectors}

@@ -3,7 +3,7 @@ use Rattle.std.specs.Prelude.{if◌then◌else◌, map}
 use Rattle.ufs_image.specs.Journal.{PlacedRecord, records_in}
 use Rattle.ufs_layout.specs.declared.geometry.Geometry.{Geometry}
 use Rattle.ufs_layout.specs.declared.records.LogRecord.{LogRecord}
-use Rattle.ufs_scan.specs.Off.{lower, lowest_of}
+use Rattle.ufs_found.specs.Off.{lower, lowest_of}
 use Rattle.ufs_scan.specs.Standings.{out_in, behind, stepped, outkeeps}
 use Rattle.ufs_scan.specs.declared.standing.Standing.{Standing}
 use Rattle.ufs_scan.proofs.Lowest.{lower_assoc}

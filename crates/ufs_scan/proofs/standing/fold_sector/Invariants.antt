@@ -1,7 +1,7 @@
 use Rattle.std.proofs.Common.{◌≡◌, drop, length}
 use Rattle.std.specs.Prelude.{map}
 use Rattle.ufs_image.specs.Journal.{PlacedRecord, records_in}
-use Rattle.ufs_scan.specs.Off.{lower, lowest_of}
+use Rattle.ufs_found.specs.Off.{lower, lowest_of}
 use Rattle.ufs_scan.specs.Gathered.{placed_in}
 use Rattle.ufs_scan.specs.Standings.{out_in, behind}
 use Rattle.ufs_scan.proofs.standing.fold_sector.Given as goal

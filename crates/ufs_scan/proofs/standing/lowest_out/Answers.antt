@@ -3,7 +3,7 @@ use Rattle.std.specs.Prelude.{map}
 use Rattle.std.proofs.lemmas.List.{length-map}
 use Rattle.ufs_image.specs.Journal.{Transaction}
 use Rattle.ufs_layout.specs.declared.geometry.Geometry.{Geometry}
-use Rattle.ufs_scan.specs.Off.{lower, lowest_of}
+use Rattle.ufs_found.specs.Off.{lower, lowest_of}
 use Rattle.ufs_scan.specs.Standings.{out_in, out_of, behind, rested, rested_in}
 use Rattle.ufs_scan.specs.declared.standing.Standing.{Standing}
 use Rattle.ufs_scan.proofs.Lowest.{lower_assoc, lowest_append}

@@ -1,6 +1,6 @@
-use Rattle.std.proofs.Common.{◌∙◌, ◌<◌, length, ap, sym, subst, arith}
+use Rattle.std.proofs.Common.{◌∙◌, ap, arith}
 use Rattle.std.specs.FinSet as set
-use Rattle.ufs_links.specs.Linked.{Linked, lists_in}
+use Rattle.ufs_links.specs.Linked.{Linked}
 use Rattle.ufs_links.proofs.KeptLemmas.{given_tells, given_front, kept_first, kept_second}
 use Rattle.ufs_links.proofs.links.Links.add_front.Goals as goal
 
@@ -15,8 +15,7 @@ pub invariant_of-self : goal.invariant_of-self
 invariant_of-self c =
     let l = c.self.inside in
     kept_first l c.add_front.new.self _ c.self.invariant c.add_front.ensures
-    (given_front l.used l.released.items l.first.lists c.args.list c.args.node c.self.invariant.first (subst (λ (v : Linked). c.args.list < length v.first) (sym c.self.view_is) (subst (λ w. c.args.list < length (lists_in c.args.self.now w)) c.in-First.is c.requires.list))
-    (ap (λ (v : Linked). set.contains v.given c.args.node) c.self.view_is ∙ c.requires.given))
+    (given_front l.used l.released.items l.first.lists c.args.list c.args.node c.self.invariant.first (ap (λ (v : Linked). set.contains v.given c.args.node) c.self.view_is ∙ c.requires.given))
 
 pub add_front-requires-in-Second-clause-node : goal.add_front-requires-in-Second-clause-node
 add_front-requires-in-Second-clause-node c =
@@ -29,5 +28,4 @@ pub invariant_of-self-in-Second : goal.invariant_of-self-in-Second
 invariant_of-self-in-Second c =
     let l = c.self.inside in
     kept_second l c.add_front-in-Second.new.self _ c.self.invariant c.add_front-in-Second.ensures
-    (given_front l.used l.released.items l.second.lists c.args.list c.args.node c.self.invariant.second (subst (λ (v : Linked). c.args.list < length v.second) (sym c.self.view_is) (subst (λ w. c.args.list < length (lists_in c.args.self.now w)) c.in-Second.is c.requires.list))
-    (ap (λ (v : Linked). set.contains v.given c.args.node) c.self.view_is ∙ c.requires.given))
+    (given_front l.used l.released.items l.second.lists c.args.list c.args.node c.self.invariant.second (ap (λ (v : Linked). set.contains v.given c.args.node) c.self.view_is ∙ c.requires.given))

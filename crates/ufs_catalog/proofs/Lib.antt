@@ -1,0 +1,4 @@
+pub mod Quiet
+mod Heads
+mod Blocks
+mod Rows

@@ -1,0 +1,43 @@
+use Rattle.std.proofs.Common.{◌≡◌, ◌<◌, ◌≤◌, ◌+◌, ◌*◌, ℕ, ◌++◌, length, ap, sym, ◌∙◌, arith, append_assoc}
+use Rattle.std.specs.Prelude.{flat_map}
+use Rattle.std.specs.List.{range_with_len}
+use Rattle.ufs_base.specs.Images.{Image}
+use Rattle.ufs_disk.specs.Moments.{reads}
+use Rattle.ufs_disk.proofs.Images.{seen_is_image}
+use Rattle.ufs_image.specs.Images.{block_at}
+use Rattle.ufs_image.specs.Nodes.{read_block}
+use Rattle.ufs_image.proofs.Written.{rows}
+use Rattle.ufs_catalog.specs.Told.{slots_in}
+use Rattle.ufs_catalog.proofs.Rows.{flat_more}
+use Rattle.ufs_catalog.proofs.Quiet.{read_more}
+use Rattle.ufs_catalog.proofs.dirs.read_extent.Goals as goal
+
+pub returns-in_err-read_block-clause-read_only : goal.returns-in_err-read_block-clause-read_only
+returns-in_err-read_block-clause-read_only g c told =
+    read_more g.D.Disk.keeps (g.D.Disk.moments c.args.disk.now) (g.D.Disk.moments c.loop-place.disk) (g.D.Disk.moments c.read_block.new.disk) (c.loop-place.invariant.read_only told) (c.read_block.ensures.read_only told)
+
+pub returns-in_err-push_slots-clause-read_only : goal.returns-in_err-push_slots-clause-read_only
+returns-in_err-push_slots-clause-read_only g c told =
+    read_more g.D.Disk.keeps (g.D.Disk.moments c.args.disk.now) (g.D.Disk.moments c.loop-place.disk) (g.D.Disk.moments c.read_block.new.disk) (c.loop-place.invariant.read_only told) (c.read_block.ensures.read_only told)
+
+pub loop-place-preserved : goal.loop-place-preserved
+loop-place-preserved g c =
+    let i = c.loop-place.invariant in
+    let image = reads (g.D.Disk.moments c.args.disk.now) in
+    let block = c.args.extent.now.start + c.loop-place.place in
+    let old = c.args.slots.now.items in
+    let before = flat_map (read_block image) (range_with_len c.args.extent.now.start c.loop-place.place) in
+    let fits : 8 * block + 8 ≤ g.D.Disk.size c.args.disk.now = omega (arith, c.requires.inside, c.requires.large) in
+    let inside : (s : ℕ) → s < 8 * block + 8 → s < g.D.Disk.size c.args.disk.now = λ s less. omega (arith, less, fits) in
+    record {
+      slots = λ told.
+          let long : (s : ℕ) → 8 * block ≤ s → s < 8 * block + 8 → length (image s) ≡ 512 = λ s from less. ((g.met.D.Disk.whole told c.args.disk.now).within _ (inside s less) _ (seen_is_image (g.D.Disk.moments c.args.disk.now).state s)).sized in
+          c.in_ok-push_slots.ensures
+          ∙ (λ k. i.slots told k ++ slots_in 64 ((c.in_ok-read_block.ensures.bytes told ∙ ap (λ (d : Image). block_at d block) (i.read_only told).content) k))
+          ∙ ap (λ l. (old ++ before) ++ l) (sym (rows image (8 * block) 8 long))
+          ∙ append_assoc old before (read_block image block)
+          ∙ ap (λ l. old ++ l) (sym (flat_more (read_block image) c.args.extent.now.start c.loop-place.place));
+      read_only = λ told. read_more g.D.Disk.keeps (g.D.Disk.moments c.args.disk.now) (g.D.Disk.moments c.loop-place.disk) (g.D.Disk.moments c.read_block.new.disk) (i.read_only told) (c.read_block.ensures.read_only told);
+      size = c.read_block.ensures.size ∙ i.size;
+      faults = c.in_ok-read_block.ensures.passed ∙ i.faults;
+    }

@@ -1,0 +1,19 @@
+use Rattle.std.proofs.Common.{◌≡◌, IsTrue, map}
+use Rattle.std.specs.List.{range_with_len, filter_map}
+use Rattle.ufs_disk.specs.Moments.{reads}
+use Rattle.ufs_catalog.specs.Reading.{IsReadOnly}
+use Rattle.ufs_layout.specs.Areas.{all_inodes}
+use Rattle.ufs_image.specs.Images.{inode_at}
+use Rattle.ufs_image.specs.Nodes.{dirs_of, sound_node}
+use Rattle.ufs_catalog.proofs.findings.read_dirs.Given as goal
+
+abbrev pub invariant-loop-i : goal.invariant-loop-i
+invariant-loop-i g l =
+    let disk = g.D.Disk in
+    let first = disk.moments l.fn.disk in
+    record {
+      dirs : IsTrue disk.tells → l.forms ≡ map (inode_at l.geometry (reads first)) (all_inodes l.geometry) → l.dirs.items ≡ dirs_of (reads first) (filter_map (sound_node l.geometry (reads first)) (range_with_len 1 l.i));
+      read_only : IsTrue disk.tells → IsReadOnly disk.keeps first (disk.moments l.disk);
+      size : disk.size l.disk ≡ disk.size l.fn.disk;
+      faults : disk.faults l.disk ≡ disk.faults l.fn.disk;
+    }

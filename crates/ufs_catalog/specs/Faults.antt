@@ -1,0 +1,36 @@
+-- Why an image isn't read.
+use Rattle.std.specs.Prelude.{◌≡◌, ℕ, Option, Some}
+use Rattle.ufs_base.specs.Faults.{RoseTo}
+use Rattle.ufs_image.specs.Volume.{Refusal}
+use Rattle.ufs_image.specs.Volume as image
+use Rattle.ufs_catalog.specs.declared.fault.RecoverFault.{RecoverFault}
+use Rattle.ufs_catalog.specs.declared.fault.RecoverFault.TheVariants.{NoSuperblock, BadVersion, BadGeometry, BadRecord, BadTree, NotBuilt, Device, Memory}
+
+-- what a fault says of the disk's count of faults
+abbrev pub HasFaultCause : ℕ → ℕ → RecoverFault → Type 0
+HasFaultCause before now NoSuperblock = now ≡ before
+HasFaultCause before now (BadVersion found) = now ≡ before
+HasFaultCause before now (BadGeometry number) = now ≡ before
+HasFaultCause before now (BadRecord sector) = now ≡ before
+HasFaultCause before now (BadTree inode) = now ≡ before
+HasFaultCause before now NotBuilt = now ≡ before
+HasFaultCause before now (Device fault) = RoseTo before now fault
+HasFaultCause before now Memory = now ≡ before
+
+-- It is no cause that the image has.
+abbrev pub IsOutside : RecoverFault → Type 0
+IsOutside NotBuilt = ⊥
+IsOutside (Device fault) = Unit {0}
+IsOutside Memory = Unit {0}
+IsOutside _ = ⊥
+
+-- The refusal is the one that is found; a fault that comes from outside says nothing of the image.
+abbrev pub IsRefusal : Option Refusal → RecoverFault → Type 0
+IsRefusal found NoSuperblock = found ≡ Some image.NoSuperblock
+IsRefusal found (BadVersion version) = found ≡ Some (image.BadVersion version)
+IsRefusal found (BadGeometry number) = found ≡ Some (image.BadGeometry number)
+IsRefusal found (BadRecord sector) = found ≡ Some (image.BadRecord sector)
+IsRefusal found (BadTree inode) = found ≡ Some (image.BadTree inode)
+IsRefusal found NotBuilt = ⊥
+IsRefusal found (Device fault) = Unit {0}
+IsRefusal found Memory = Unit {0}

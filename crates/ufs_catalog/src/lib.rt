@@ -1,0 +1,15 @@
+//! What an image says of its inodes and directories, read from a disk: the superblock, the inode table and
+//! the blocks of directories, each once.
+#![tactic(auto)]
+
+mod dirs;
+mod fault;
+mod findings;
+mod forms;
+mod head;
+mod reading;
+
+pub use fault::RecoverFault;
+pub use findings::read_findings;
+pub use head::{ImageHead, read_head};
+pub use reading::read_block;

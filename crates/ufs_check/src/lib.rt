@@ -1,0 +1,8 @@
+//! What is wrong with the image on a disk.
+#![tactic(auto)]
+
+mod bits;
+mod checking;
+mod journal;
+
+pub use checking::check;

@@ -1,0 +1,4 @@
+pub mod DirTable
+pub mod DirCalls
+pub mod DirEdits
+pub mod Space

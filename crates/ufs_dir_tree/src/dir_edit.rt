@@ -1,0 +1,260 @@
+// Changes of a tree's directories.
+use crate::dir_entry::{clear_at, give_room_at, put_at, take_out_at};
+use crate::dir_tree::{DIRECTORY, DirTree};
+use crate::found::Kind;
+use crate::space::{give_inode, take_inode};
+use ufs_bitmap::Pool;
+use ufs_layout::Dentry;
+use ufs_model::Excuse;
+use ufs_path::PathText;
+
+impl DirTree {
+    ghost use Rattle.std.specs.Prelude.{◌≡◌, ◌≢◌, ◌<◌, ◌∷◌, ◌++◌, ℕ, List, [], Some, None, IsSome, IfOk, IfErr, OnOk, OnErr, length};
+    ghost use Rattle.std.specs.Option.{option_map};
+    ghost use Rattle.std.specs.FinSet as set;
+    ghost use Rattle.ufs_dirs.specs.Directory.{entry_of};
+    ghost use Rattle.ufs_dir_tree.specs.Space.{TakesLowest};
+    ghost use Rattle.ufs_dir_tree.specs.DirTable.{DirTable, IsDirTable, IsUsed, dir_at, slots_at, found_of, inode_of, found_at};
+    ghost use Rattle.ufs_dir_tree.specs.DirCalls.{names_above, found_as, IsBare, IsUnmet, MayGo, SetsFound, MovesFounds, MayMove, IsApart, HasRoom, GetsRoom, SpendsBlock, SpendsNone, FreesInode, Frees, IsRoomCause, IsSpaceCause, LacksRoom, LacksSpace};
+    ghost use Rattle.ufs_dir_tree.specs.DirEdits.{IsMet, IsLoose, NothingFrom, SameEntries, ChangesOne, SetsEntry, ClearsName};
+    ghost use Rattle.ufs_dir_tree.specs.declared.found.Found.{Found};
+    ghost use Rattle.ufs_dir_tree.specs.declared.found.Found.TheVariants as found;
+    ghost use Rattle.ufs_path.specs.Names.{IsName};
+
+    /// Puts a new inode, the lowest free one, at a path at which nothing stands, in the directory that `look` told. Where each slot of its directory is
+    /// used that takes the pool's lowest block.
+    pub fn add(
+        &mut self,
+        dir: u32,
+        path: &PathText,
+        kind: Kind,
+        pool: &mut Pool,
+    ) -> Result<u32, Excuse>
+        requires below { path.now ≢ [] }
+        requires dir { found_at self.old (names_above path.now) ≡ Some (found.Dir dir) }
+        requires absent { found_at self.old path.now ≡ None }
+        requires apart { IsApart self.old pool.old }
+        ensures ok { IfOk result (λ i. SetsFound (found_at self.old) (found_at self.new) path.now (Some (found_as kind i))) }
+        ensures inode { IfOk result (TakesLowest self.old.free self.new.free) }
+        ensures inodes { length self.new.dirs ≡ length self.old.dirs }
+        ensures block { OnOk result (SpendsBlock self.old self.new pool.old pool.new (names_above path.now)) }
+        ensures cause { IfErr result (LacksSpace self.old pool.old (names_above path.now)) }
+        ensures err { OnErr result (self.new ≡ self.old) }
+        ensures err_pool { OnErr result (pool.new ≡ pool.old) }
+        ensures apart { IsApart self.new pool.new }
+    {
+        match self.make(dir, kind, pool) {
+            Ok(inode) => {
+                self.attach(dir, path.last(), inode, kind.code());
+                Ok(inode)
+            }
+            Err(excuse) => Err(excuse),
+        }
+    }
+
+    /// Takes away what stands at a path. A directory's inode is free then, and its blocks are the pool's; a file's
+    /// inode isn't free yet. Takes no memory.
+    pub fn remove(&mut self, dir: u32, path: &PathText, pool: &mut Pool)
+        requires below { path.now ≢ [] }
+        requires dir { found_at self.old (names_above path.now) ≡ Some (found.Dir dir) }
+        requires stands { IsSome (found_at self.old path.now) }
+        requires may_go { MayGo self.old path.now }
+        requires apart { IsApart self.old pool.old }
+        ensures found { SetsFound (found_at self.old) (found_at self.new) path.now None }
+        ensures freed { Frees self.old self.new pool.old pool.new (found_at self.old path.now) }
+        // no name stands for it any more
+        ensures unmet { (f : Found) → found_at self.old path.now ≡ Some f → IsUnmet self.new (inode_of f) }
+        ensures inodes { length self.new.dirs ≡ length self.old.dirs }
+        ensures apart { IsApart self.new pool.new }
+    {
+        self.drop_entry(dir, path.last(), pool);
+    }
+
+    /// Gives what stands at `from`, with all below it, the name `to`. What stood there goes as by `remove`; where
+    /// nothing did, the directory gets a block as by `add`. It moves one dentry, whatever lies below.
+    pub fn rename(
+        &mut self,
+        from_dir: u32,
+        from: &PathText,
+        to_dir: u32,
+        to: &PathText,
+        pool: &mut Pool,
+    ) -> Result<(), Excuse>
+        requires from_dir { found_at self.old (names_above from.now) ≡ Some (found.Dir from_dir) }
+        requires to_dir { found_at self.old (names_above to.now) ≡ Some (found.Dir to_dir) }
+        requires may_move { MayMove self.old from.now to.now }
+        requires apart { IsApart self.old pool.old }
+        ensures ok { OnOk result (MovesFounds (found_at self.old) (found_at self.new) from.now to.now) }
+        ensures replaced { OnOk result (IsSome (found_at self.old to.now) → Frees self.old self.new pool.old pool.new (found_at self.old to.now)) }
+        ensures unmet { OnOk result ((f : Found) → found_at self.old to.now ≡ Some f → IsUnmet self.new (inode_of f)) }
+        ensures block { OnOk result (found_at self.old to.now ≡ None → SpendsBlock self.old self.new pool.old pool.new (names_above to.now)) }
+        ensures free { OnOk result (found_at self.old to.now ≡ None → self.new.free ≡ self.old.free) }
+        ensures inodes { length self.new.dirs ≡ length self.old.dirs }
+        ensures absent { OnErr result (found_at self.old to.now ≡ None) }
+        ensures cause { IfErr result (LacksRoom self.old pool.old (names_above to.now)) }
+        ensures err { OnErr result (self.new ≡ self.old) }
+        ensures err_pool { OnErr result (pool.new ≡ pool.old) }
+        ensures apart { IsApart self.new pool.new }
+    {
+        let name = to.last();
+        match self.clear_name(to_dir, name, pool) {
+            Ok(()) => {}
+            Err(excuse) => return Err(excuse),
+        }
+        let entry = self.detach(from_dir, from.last());
+        self.attach(to_dir, name, entry.inode, entry.kind);
+        Ok(())
+    }
+
+    /// An inode that no name stands for is free. Blocks that it has as a directory are the pool's; a file has none
+    /// here. Takes no memory.
+    pub fn free_inode(&mut self, inode: u32, pool: &mut Pool)
+        requires used { IsUsed self.old inode }
+        requires unmet { IsUnmet self.old inode }
+        requires apart { IsApart self.old pool.old }
+        ensures found { (names : List (List ℕ)) → found_at self.new names ≡ found_at self.old names }
+        ensures freed { FreesInode self.old self.new pool.old pool.new inode }
+        ensures same { IsBare (slots_at self.old inode) → SameEntries self.old.dirs self.new.dirs }
+        ensures one { ChangesOne self.old.dirs self.new.dirs inode }
+        ensures apart { IsApart self.new pool.new }
+        ensures table { IsDirTable self.new }
+    {
+        clear_at(self.alloc, &mut self.dirs, inode as usize, pool);
+        give_inode(&mut self.free, inode);
+    }
+
+    /// Drops the name, where it stands for something. Where it doesn't, sees to a free slot.
+    fn clear_name(&mut self, dir: u32, name: &[u8], pool: &mut Pool) -> Result<(), Excuse>
+        requires met { IsMet self.old dir }
+        requires may_go { (i : ℕ) → option_map found_of (entry_of (slots_at self.old dir) name.now) ≡ Some (found.Dir i) → IsBare (slots_at self.old i) }
+        requires apart { IsApart self.old pool.old }
+        ensures ok { OnOk result (ClearsName self.old self.new dir name.now) }
+        ensures inodes { length self.new.dirs ≡ length self.old.dirs }
+        ensures freed { OnOk result (IsSome (entry_of (slots_at self.old dir) name.now) → Frees self.old self.new pool.old pool.new (option_map found_of (entry_of (slots_at self.old dir) name.now))) }
+        ensures gets { OnOk result (entry_of (slots_at self.old dir) name.now ≡ None → GetsRoom (dir_at self.old dir) (dir_at self.new dir) pool.old pool.new) }
+        ensures one { OnOk result (entry_of (slots_at self.old dir) name.now ≡ None → ChangesOne self.old.dirs self.new.dirs dir) }
+        ensures free { OnOk result (entry_of (slots_at self.old dir) name.now ≡ None → self.new.free ≡ self.old.free) }
+        ensures absent { OnErr result (entry_of (slots_at self.old dir) name.now ≡ None) }
+        ensures cause { IfErr result (IsRoomCause (dir_at self.old dir) pool.old) }
+        ensures err { OnErr result (self.new ≡ self.old) }
+        ensures err_pool { OnErr result (pool.new ≡ pool.old) }
+        ensures apart { IsApart self.new pool.new }
+    {
+        if self.entry(dir, name).is_some() {
+            self.drop_entry(dir, name, pool);
+            Ok(())
+        } else {
+            self.make_room(dir, pool)
+        }
+    }
+
+    /// Sees to a free slot in the directory.
+    fn make_room(&mut self, dir: u32, pool: &mut Pool) -> Result<(), Excuse>
+        requires met { IsMet self.old dir }
+        requires apart { IsApart self.old pool.old }
+        ensures room { OnOk result (HasRoom (dir_at self.new dir)) }
+        ensures gets { OnOk result (GetsRoom (dir_at self.old dir) (dir_at self.new dir) pool.old pool.new) }
+        ensures one { ChangesOne self.old.dirs self.new.dirs dir }
+        ensures free { self.new.free ≡ self.old.free }
+        ensures same { SameEntries self.old.dirs self.new.dirs }
+        ensures cause { IfErr result (IsRoomCause (dir_at self.old dir) pool.old) }
+        ensures err { OnErr result (self.new ≡ self.old) }
+        ensures err_pool { OnErr result (pool.new ≡ pool.old) }
+        ensures apart { IsApart self.new pool.new }
+        ensures before { IsDirTable self.old }
+        ensures table { IsDirTable self.new }
+    {
+        give_room_at(&mut self.dirs, dir as usize, pool)
+    }
+
+    /// Sees to a free slot in the directory, and to an inode that nothing names yet.
+    fn make(&mut self, dir: u32, kind: Kind, pool: &mut Pool) -> Result<u32, Excuse>
+        requires met { IsMet self.old dir }
+        requires apart { IsApart self.old pool.old }
+        ensures room { OnOk result (HasRoom (dir_at self.new dir)) }
+        ensures gets { OnOk result (GetsRoom (dir_at self.old dir) (dir_at self.new dir) pool.old pool.new) }
+        ensures one { ChangesOne self.old.dirs self.new.dirs dir }
+        ensures same { SameEntries self.old.dirs self.new.dirs }
+        ensures inode { IfOk result (TakesLowest self.old.free self.new.free) }
+        ensures loose { IfOk result (λ i. IsLoose self.new (found_as kind i)) }
+        ensures bare { IfOk result (λ i. NothingFrom self.new (Some (found_as kind i))) }
+        ensures cause { IfErr result (IsSpaceCause self.old dir pool.old) }
+        ensures err { OnErr result (self.new ≡ self.old) }
+        ensures err_pool { OnErr result (pool.new ≡ pool.old) }
+        ensures apart { IsApart self.new pool.new }
+        ensures table { IsDirTable self.new }
+    {
+        if self.free.count() == 0 {
+            return Err(Excuse::Inodes);
+        }
+        match self.make_room(dir, pool) {
+            Ok(()) => Ok(self.take(kind)),
+            Err(excuse) => Err(excuse),
+        }
+    }
+
+    /// The lowest free inode. Nothing names it yet.
+    fn take(&mut self, kind: Kind) -> u32
+        requires { self.old.free ≢ set.empty }
+        ensures inode { TakesLowest self.old.free self.new.free result }
+        ensures dirs { self.new.dirs ≡ self.old.dirs }
+        ensures loose { IsLoose self.new (found_as kind result) }
+        ensures bare { NothingFrom self.new (Some (found_as kind result)) }
+        ensures table { IsDirTable self.new }
+    {
+        let _kind = kind;
+        match take_inode(&mut self.free) {
+            Some(inode) => inode,
+            None => unreachable!(),
+        }
+    }
+
+    /// Gives what nothing leads to a name in the directory, which has a free slot.
+    fn attach(&mut self, dir: u32, name: &[u8], inode: u32, kind: u8)
+        requires met { IsMet self.old dir }
+        requires named { IsName name.now }
+        requires absent { entry_of (slots_at self.old dir) name.now ≡ None }
+        requires room { HasRoom (dir_at self.old dir) }
+        requires loose { IsLoose self.old (found_of (record { inode = inode; kind = kind; name = name.now })) }
+        ensures entries { SetsEntry self.old.dirs self.new.dirs dir name.now (Some (record { inode = inode; kind = kind; name = name.now })) }
+        ensures free { self.new.free ≡ self.old.free }
+    {
+        put_at(
+            &mut self.dirs,
+            dir as usize,
+            Dentry::from_name(inode, kind, name),
+        );
+    }
+
+    /// Takes the name out of the directory. Nothing leads any more to what it stood for.
+    fn detach(&mut self, dir: u32, name: &[u8]) -> Dentry
+        requires met { IsMet self.old dir }
+        requires stands { IsSome (entry_of (slots_at self.old dir) name.now) }
+        ensures was { entry_of (slots_at self.old dir) name.now ≡ Some result }
+        ensures entries { SetsEntry self.old.dirs self.new.dirs dir name.now None }
+        ensures free { self.new.free ≡ self.old.free }
+        ensures room { HasRoom (dir_at self.new dir) }
+        ensures loose { IsLoose self.new (found_of result) }
+        ensures before { IsDirTable self.old }
+        ensures table { IsDirTable self.new }
+    {
+        take_out_at(&mut self.dirs, dir as usize, name)
+    }
+
+    /// Takes the name out of the directory. The inode of a directory that it stood for is free. Takes no memory.
+    fn drop_entry(&mut self, dir: u32, name: &[u8], pool: &mut Pool)
+        requires met { IsMet self.old dir }
+        requires stands { IsSome (entry_of (slots_at self.old dir) name.now) }
+        requires may_go { (i : ℕ) → option_map found_of (entry_of (slots_at self.old dir) name.now) ≡ Some (found.Dir i) → IsBare (slots_at self.old i) }
+        requires apart { IsApart self.old pool.old }
+        ensures clears { ClearsName self.old self.new dir name.now }
+        ensures inodes { length self.new.dirs ≡ length self.old.dirs }
+        ensures freed { Frees self.old self.new pool.old pool.new (option_map found_of (entry_of (slots_at self.old dir) name.now)) }
+        ensures apart { IsApart self.new pool.new }
+    {
+        let entry = self.detach(dir, name);
+        if entry.kind == DIRECTORY {
+            self.free_inode(entry.inode, pool);
+        }
+    }
+}

@@ -1,0 +1,161 @@
+// Changes of one directory of a list.
+ghost use Rattle.std.specs.Prelude.{◌≡◌, ◌<◌, ◌≤◌, ◌++◌, ◌∷◌, List, [], Some, None, IsSome, IsTrue, false, IfErr, OnOk, OnErr, All, length, nat_eq};
+ghost use Rattle.std.specs.List.{IsDistinct};
+ghost use Rattle.std.specs.FinSet as set;
+ghost use Rattle.ufs_layout.specs.DentryForm.{is_dentry, is_named};
+ghost use Rattle.ufs_dirs.specs.Directory.{entry_of, has_block};
+ghost use Rattle.ufs_dirs.specs.Changes.{SetsName};
+ghost use Rattle.ufs_dir_tree.specs.Space.{extents_of};
+ghost use Rattle.ufs_dir_tree.specs.DirTable.{no_dir};
+ghost use Rattle.ufs_dir_tree.specs.DirCalls.{HasRoom, IsFull, GetsRoom, IsRoomCause};
+ghost use Rattle.ufs_dir_tree.specs.DirEdits.{HasNone, IsAddCause, SameNames, RoomsIn, ChangesOne, SetsEntry, dir_in};
+
+use crate::space::{extents_with, give_block, give_blocks, take_block};
+use std::alloc::Global;
+use ufs_bitmap::Pool;
+use ufs_dirs::{DirBlocks, SLOTS};
+use ufs_extent::MAX_EXTENTS;
+use ufs_layout::Dentry;
+use ufs_model::Excuse;
+
+/// The block goes behind the others, which then lie in at most 56 extents.
+fn add_block(dir: &mut DirBlocks, block: u32) -> Result<(), Excuse>
+    requires small { block < 65536 }
+    requires absent { has_block dir.old.blocks block ≡ false }
+    requires few { length (extents_of dir.old.blocks) ≤ 56 }
+    ensures blocks { OnOk result (dir.new.blocks ≡ dir.old.blocks ++ block ∷ []) }
+    ensures room { OnOk result (HasRoom dir.new) }
+    ensures names { SameNames dir.old dir.new }
+    ensures few { length (extents_of dir.new.blocks) ≤ 56 }
+    ensures cause { IfErr result (IsAddCause dir.old.blocks block) }
+    ensures err { OnErr result (dir.new ≡ dir.old) }
+{
+    let extents = extents_with(dir.blocks(), block);
+    if extents > MAX_EXTENTS {
+        return Err(Excuse::Extents {
+            need: extents as u32,
+        });
+    }
+    match dir.add_block(block) {
+        Ok(()) => Ok(()),
+        Err(_) => Err(Excuse::Memory),
+    }
+}
+
+/// Adds the pool's lowest block where each slot is used.
+fn give_room(dir: &mut DirBlocks, pool: &mut Pool) -> Result<(), Excuse>
+    requires apart { HasNone pool.old dir.old.blocks }
+    requires few { length (extents_of dir.old.blocks) ≤ 56 }
+    ensures room { OnOk result (HasRoom dir.new) }
+    ensures gets { OnOk result (GetsRoom dir.old dir.new pool.old pool.new) }
+    ensures names { SameNames dir.old dir.new }
+    ensures few { length (extents_of dir.new.blocks) ≤ 56 }
+    ensures cause { IfErr result (IsRoomCause dir.old pool.old) }
+    ensures err { OnErr result (dir.new ≡ dir.old) }
+    ensures err_pool { OnErr result (pool.new ≡ pool.old) }
+{
+    if (dir.count() as usize) / SLOTS < dir.blocks().len() {
+        return Ok(());
+    }
+    let Some(block) = take_block(pool) else {
+        return Err(Excuse::Blocks { need: 1, had: 0 });
+    };
+    match add_block(dir, block) {
+        Ok(()) => Ok(()),
+        Err(excuse) => {
+            give_block(pool, block);
+            Err(excuse)
+        }
+    }
+}
+
+/// Puts the entry into a free slot.
+fn put_in(dir: &mut DirBlocks, entry: Dentry)
+    requires form { IsTrue (is_dentry entry) }
+    requires named { IsTrue (is_named entry) }
+    requires absent { entry_of dir.old.slots entry.name ≡ None }
+    requires room { HasRoom dir.old }
+    ensures names { SetsName dir.old dir.new entry.name (Some entry) }
+    ensures blocks { dir.new.blocks ≡ dir.old.blocks }
+{
+    dir.insert(entry).unwrap();
+}
+
+/// Takes the name's entry out.
+fn take_out(dir: &mut DirBlocks, name: &[u8]) -> Dentry
+    requires { IsSome (entry_of dir.old.slots name.now) }
+    ensures was { entry_of dir.old.slots name.now ≡ Some result }
+    ensures names { SetsName dir.old dir.new name.now None }
+    ensures blocks { dir.new.blocks ≡ dir.old.blocks }
+    ensures room { HasRoom dir.new }
+{
+    let Some(entry) = dir.find(name) else {
+        unreachable!()
+    };
+    dir.remove(name);
+    entry
+}
+
+/// No block is the directory's any more, and those that were are the pool's. Takes no memory.
+fn clear(alloc: Global, dir: &mut DirBlocks, pool: &mut Pool)
+    requires { HasNone pool.old dir.old.blocks }
+    ensures dir { dir.new ≡ no_dir }
+    ensures pool { pool.new ≡ set.union pool.old (set.from_list dir.old.blocks) }
+{
+    give_blocks(pool, dir.blocks());
+    *dir = DirBlocks::new(alloc);
+}
+
+/// Adds the pool's lowest block to the directory where each slot is used.
+pub(crate) fn give_room_at(
+    dirs: &mut Vec<DirBlocks>,
+    dir: usize,
+    pool: &mut Pool,
+) -> Result<(), Excuse>
+    requires there { dir < length dirs.old.items }
+    requires apart { HasNone pool.old (dir_in dirs.old.items dir).blocks }
+    requires few { length (extents_of (dir_in dirs.old.items dir).blocks) ≤ 56 }
+    ensures room { OnOk result (HasRoom (dir_in dirs.new.items dir)) }
+    ensures gets { OnOk result (GetsRoom (dir_in dirs.old.items dir) (dir_in dirs.new.items dir) pool.old pool.new) }
+    ensures same { RoomsIn dirs.old.items dirs.new.items dir }
+    ensures few { length (extents_of (dir_in dirs.new.items dir).blocks) ≤ 56 }
+    ensures cause { IfErr result (IsRoomCause (dir_in dirs.old.items dir) pool.old) }
+    ensures err { OnErr result (dirs.new.items ≡ dirs.old.items) }
+    ensures err_pool { OnErr result (pool.new ≡ pool.old) }
+{
+    give_room(&mut dirs[dir], pool)
+}
+
+/// Puts the entry into a free slot of the directory.
+pub(crate) fn put_at(dirs: &mut Vec<DirBlocks>, dir: usize, entry: Dentry)
+    requires there { dir < length dirs.old.items }
+    requires form { IsTrue (is_dentry entry) }
+    requires named { IsTrue (is_named entry) }
+    requires absent { entry_of (dir_in dirs.old.items dir).slots entry.name ≡ None }
+    requires room { HasRoom (dir_in dirs.old.items dir) }
+    ensures { SetsEntry dirs.old.items dirs.new.items dir entry.name (Some entry) }
+{
+    put_in(&mut dirs[dir], entry);
+}
+
+/// Takes the name's entry out of the directory.
+pub(crate) fn take_out_at(dirs: &mut Vec<DirBlocks>, dir: usize, name: &[u8]) -> Dentry
+    requires there { dir < length dirs.old.items }
+    requires stands { IsSome (entry_of (dir_in dirs.old.items dir).slots name.now) }
+    ensures was { entry_of (dir_in dirs.old.items dir).slots name.now ≡ Some result }
+    ensures entries { SetsEntry dirs.old.items dirs.new.items dir name.now None }
+    ensures room { HasRoom (dir_in dirs.new.items dir) }
+{
+    take_out(&mut dirs[dir], name)
+}
+
+/// No block is the directory's any more, and those that were are the pool's. Takes no memory.
+pub(crate) fn clear_at(alloc: Global, dirs: &mut Vec<DirBlocks>, dir: usize, pool: &mut Pool)
+    requires there { dir < length dirs.old.items }
+    requires apart { HasNone pool.old (dir_in dirs.old.items dir).blocks }
+    ensures one { ChangesOne dirs.old.items dirs.new.items dir }
+    ensures dir { dir_in dirs.new.items dir ≡ no_dir }
+    ensures pool { pool.new ≡ set.union pool.old (set.from_list (dir_in dirs.old.items dir).blocks) }
+{
+    clear(alloc, &mut dirs[dir], pool);
+}

@@ -1,0 +1,7 @@
+pub mod Buckets
+pub mod Noted
+mod OffLemmas
+mod ReadSector
+mod ReadThere
+pub mod Turns
+mod Windows

@@ -1,0 +1,7 @@
+use Rattle.std.proofs.Common.{rules}
+use Rattle.std.proofs.lemmas.List.Sorted.{IsNonDecreasingBy-from_sort_by_key}
+use Rattle.ufs_found.specs.Sorted.{number_of}
+use Rattle.ufs_found.proofs.sorted.commits_in_numbers.Goals as goal
+
+pub returns-clause-in_order : goal.returns-clause-in_order
+returns-clause-in_order c = IsNonDecreasingBy-from_sort_by_key (λ b. number_of b.now) _ c.in_ok-sort_by_key.ensures.sorted (λ a r q k. search rules)

@@ -1,0 +1,4 @@
+pub mod Off
+pub mod Parts
+pub mod Read
+pub mod Sorted

@@ -1,8 +1,0 @@
-use Rattle.std.proofs.Common.{◌≡◌, take}
-use Rattle.std.specs.Prelude.{map}
-use Rattle.std.specs.List.{filter}
-use Rattle.ufs_image.specs.Journal.{has_commit}
-use Rattle.ufs_scan.proofs.sorted.commits_there.Given as goal
-
-abbrev pub invariant-loop-one : goal.invariant-loop-one
-invariant-loop-one l = map (λ b. b.now) l.list.items ≡ filter has_commit (take l.one-index l.all)

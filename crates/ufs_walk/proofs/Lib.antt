@@ -1,0 +1,4 @@
+mod Named
+pub mod Maps
+mod Indexed
+pub mod Told
