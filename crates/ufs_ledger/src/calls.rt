@@ -1,5 +1,5 @@
 // What a store does to its disk, told by the ledger.
-ghost use Rattle.std.specs.Prelude.{ℕ, ◌≡◌, ◌≢◌, ◌≤◌, ◌<◌, ◌+◌, ◌-◌, ◌*◌, ◌^◌, ◌⊎◌, [], List, length, IsTrue, false, None, Some, OnOk, OnErr, IfOk, IfErr};
+ghost use Rattle.std.specs.Prelude.{ℕ, ◌≡◌, ◌≢◌, ◌≤◌, ◌<◌, ◌+◌, ◌-◌, ◌*◌, ◌^◌, ◌⊎◌, [], List, length, IsTrue, false, None, Some, OnOk, OnErr, IfOk, IfErr, min};
 ghost use Rattle.std.specs.List.{list_all};
 ghost use Rattle.ufs_base.specs.Faults.{HasCause};
 ghost use Rattle.ufs_base.specs.declared.sizes.TheConstants.{BLOCK, SECTORS_PER_BLOCK};
@@ -110,6 +110,7 @@ pub fn commit_records<D: Disk>(
     ensures unused { IsTrue D.tells → OnOk result ((l : Ledger) → IsLedgerBy journal.old (D.size disk.old) (D.moments disk.old).state l → MayGoOn journal.old (D.moments disk.old).state l txn records.now
         → (other : ℕ) → other ≢ txn → IsUnused journal.old.geometry journal.old.epoch other (D.moments disk.old).state → IsUnused journal.old.geometry journal.old.epoch other (D.moments disk.new).state) }
     ensures used { OnOk result (journal.new.used ≡ journal.old.used + sector_count_of records.now + 1) }
+    ensures rises { OnOk result (journal.new.number ≡ min (journal.old.number + 1) (2 ^ 64 - 1)) }
     ensures size { D.size disk.new ≡ D.size disk.old }
     ensures cause { HasCause (D.faults disk.old) (D.faults disk.new) result }
     ensures fault { IfErr result (λ fault. fault.number ≡ D.faults disk.new) }
