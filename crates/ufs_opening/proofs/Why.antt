@@ -1,9 +1,8 @@
 -- Why an image stands for no tree, step by step.
-use Rattle.std.proofs.Common.{◌≡◌, ◌≢◌, ℕ, [], Option, Some, None, Ok, Err, ap, sym, ◌∙◌, subst}
-use Rattle.std.specs.Prelude.{Result, IfErr}
+use Rattle.std.proofs.Common.{◌≡◌, ℕ, [], Option, Some, None, Ok, Err, ap, sym, ◌∙◌}
+use Rattle.std.specs.Prelude.{Result}
 use Rattle.ufs_base.specs.Images.{Image}
 use Rattle.ufs_layout.specs.Superblock.{geometry_of}
-use Rattle.ufs_layout.specs.declared.geometry.Geometry.{Geometry}
 use Rattle.ufs_layout.specs.declared.superblock.Super.{Super}
 use Rattle.ufs_layout.specs.declared.records.Committed.{Committed}
 use Rattle.std.specs.Prelude.{List}
@@ -17,7 +16,7 @@ use Rattle.ufs_image.specs.Opens.{opens, entries_of, by_damage, tree_of}
 use Rattle.ufs_catalog.specs.Faults.{IsRefusal, IsOutside}
 use Rattle.ufs_catalog.specs.declared.fault.RecoverFault.{RecoverFault}
 use Rattle.ufs_catalog.specs.declared.fault.RecoverFault.TheVariants.{NoSuperblock, BadVersion, BadGeometry, BadRecord, BadTree, NotBuilt, Device, Memory}
-use Rattle.ufs_opening.specs.Told.{HasCommits, TellsWhy, IsJournalFault, IsBlame}
+use Rattle.ufs_opening.specs.Told.{TellsWhy, IsJournalFault, IsBlame}
 
 module _ (sectors : ℕ) (disk : Image) where
   by_refusal : (r : Refusal) → volume sectors disk ≡ Err r → opens sectors disk ≡ Err r

@@ -6,7 +6,6 @@ use Rattle.ufs_disk.specs.Moments.{reads}
 use Rattle.ufs_layout.specs.InodeForm.{InodeForm}
 use Rattle.ufs_layout.specs.declared.inode.Extent.{Extent}
 use Rattle.ufs_image.specs.Images.{block_at}
-use Rattle.ufs_image.specs.Nodes.{blocks_of}
 use Rattle.ufs_opening.proofs.Rows.{flat_append}
 use Rattle.ufs_catalog.proofs.Quiet.{read_more}
 use Rattle.ufs_opening.proofs.files.read_file.Goals as goal

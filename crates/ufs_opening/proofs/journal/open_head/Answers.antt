@@ -1,12 +1,10 @@
-use Rattle.std.proofs.Common.{◌≡◌, Ok, None, [], ap, sym, ◌∙◌, subst}
+use Rattle.std.proofs.Common.{◌≡◌, Ok, ap, sym, ◌∙◌, subst}
 use Rattle.ufs_base.specs.Images.{Image}
 use Rattle.ufs_disk.specs.Moments.{reads}
-use Rattle.ufs_layout.specs.Superblock.{geometry_of}
 use Rattle.ufs_layout.specs.declared.geometry.Geometry.{Geometry}
 use Rattle.ufs_image.specs.Journal.{committed}
 use Rattle.ufs_image.specs.BadSectors.{bad_sector}
-use Rattle.ufs_image.specs.Volume.{Volume, Refusal}
-use Rattle.std.specs.Prelude.{Result}
+use Rattle.ufs_image.specs.Volume.{Volume}
 use Rattle.ufs_catalog.proofs.Quiet.{read_more}
 use Rattle.ufs_opening.specs.Told.{IsJournalFault}
 use Rattle.ufs_opening.proofs.Why.{why_journal, rests}

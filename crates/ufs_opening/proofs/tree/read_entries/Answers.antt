@@ -1,5 +1,5 @@
-use Rattle.std.proofs.Common.{◌≡◌, ◌+◌, List, [], ◌∷◌, ◌++◌, take, get_or, map, length, ap, sym, ◌∙◌, subst, arith}
-use Rattle.std.proofs.lemmas.List.{map_more, map-append, take_all}
+use Rattle.std.proofs.Common.{◌≡◌, [], ◌∷◌, ◌++◌, take, get_or, map, ap, sym, ◌∙◌, subst}
+use Rattle.std.proofs.lemmas.List.{map_more, map-append}
 use Rattle.std.proofs.lemmas.Result.{err_from_is_err_and}
 use Rattle.ufs_base.specs.Images.{Image}
 use Rattle.ufs_disk.specs.Moments.{reads}

@@ -1,5 +1,4 @@
 use Rattle.std.proofs.Common.{◌≡◌, ℕ, List, Option, map, ap, sym, ◌∙◌, subst}
-use Rattle.std.specs.FinMap as fin
 use Rattle.std.proofs.lemmas.Result.{err_from_is_err_and}
 use Rattle.ufs_base.specs.Images.{Image}
 use Rattle.ufs_disk.specs.Moments.{reads}
@@ -10,7 +9,7 @@ use Rattle.ufs_image.proofs.Blamed.{undamaged}
 use Rattle.ufs_image.proofs.Whole.{whole_read}
 use Rattle.ufs_walk.specs.Walked.{AreInodes, entry_of, pairs_of}
 use Rattle.ufs_walk.specs.declared.places.PathAt.{PathAt}
-use Rattle.ufs_opening.specs.Shown.{AreReadable, IsOpened, paths_of, shown}
+use Rattle.ufs_opening.specs.Shown.{AreReadable, IsOpened}
 use Rattle.ufs_opening.specs.declared.opening.Opened.{Opened}
 use Rattle.ufs_opening.proofs.Trees.{opens_to, rising_same}
 use Rattle.ufs_opening.proofs.tree.tree_in.Goals as goal
