@@ -1,4 +1,4 @@
-//! Tests of the logs and of the overlay: vectors of the format, and what no clause says.
+//! Tests of the logs, of the overlay and of the calls of a store: vectors of the format, and what no clause says.
 #![tactic(auto)]
 
 #[cfg(test)]
@@ -7,3 +7,5 @@ mod births;
 mod logs;
 #[cfg(test)]
 mod over;
+#[cfg(test)]
+mod stores;
