@@ -1,0 +1,9 @@
+//! Tests of opening an image: what no clause says, and the causes of worked images.
+#![tactic(auto)]
+
+#[cfg(test)]
+mod causes;
+#[cfg(test)]
+mod damaged;
+#[cfg(test)]
+mod images;
