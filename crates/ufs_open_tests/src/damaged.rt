@@ -1,21 +1,9 @@
 // Images with damage: the lowest inode that is blamed.
-use crate::images::{ROOT, cause, gives, new_disk, set_sector};
+use crate::images::{ROOT, cause, file, gives, new_disk, set_sector};
 use std::alloc::Global;
 use std::test::Fail;
 use ufs_base::SECTOR;
 use ufs_catalog::RecoverFault;
-
-// The sector of a file with one extent.
-fn file(start: u8, length: u8, size: u8) -> [u8; SECTOR] {
-    let mut bytes = [0; SECTOR];
-    bytes[0] = 1;
-    bytes[1] = 1;
-    bytes[2] = 1;
-    bytes[8] = size;
-    bytes[64] = start;
-    bytes[68] = length;
-    bytes
-}
 
 // The cause for which a new image isn't opened that has these as inodes 2 and 3.
 fn cause_with(alloc: Global, second: &[u8; SECTOR], third: &[u8; SECTOR]) -> Option<RecoverFault> {

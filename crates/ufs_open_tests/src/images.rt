@@ -74,3 +74,15 @@ pub fn gives(
     };
     set_byte(&mut disk, sector, at, value) && cause(alloc, &mut disk) == wanted
 }
+
+/// The sector of a file with one extent.
+pub fn file(start: u8, length: u8, size: u8) -> [u8; SECTOR] {
+    let mut bytes = [0; SECTOR];
+    bytes[0] = 1;
+    bytes[1] = 1;
+    bytes[2] = 1;
+    bytes[8] = size;
+    bytes[64] = start;
+    bytes[68] = length;
+    bytes
+}

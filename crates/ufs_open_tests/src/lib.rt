@@ -1,4 +1,4 @@
-//! Tests of opening an image: what no clause says, and the causes of worked images.
+//! Tests of opening and loading an image: what no clause says, and the causes of worked images.
 #![tactic(auto)]
 
 #[cfg(test)]
@@ -7,3 +7,5 @@ mod causes;
 mod damaged;
 #[cfg(test)]
 mod images;
+#[cfg(test)]
+mod loads;
