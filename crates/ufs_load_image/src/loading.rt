@@ -1,9 +1,10 @@
 // Loading an image.
-ghost use Rattle.std.specs.Prelude.{ℕ, ◌≡◌, ◌≤◌, None, Ok, length, IsTrue, IfOk, IfErr, OnOk};
+ghost use Rattle.std.specs.Prelude.{ℕ, ◌≡◌, ◌≤◌, None, Some, Ok, length, map, IsTrue, IfOk, IfErr, OnOk};
 ghost use Rattle.std.specs.FinSet as set;
 ghost use Rattle.ufs_base.specs.Images.{Image};
 ghost use Rattle.ufs_disk.specs.Moments.{reads};
-ghost use Rattle.ufs_layout.specs.Areas.{IsGeometry, first_of_data};
+ghost use Rattle.ufs_layout.specs.Areas.{IsGeometry, all_inodes, first_of_data};
+ghost use Rattle.ufs_image.specs.Images.{form_at};
 ghost use Rattle.ufs_image.specs.Catalog.{IsCatalogOf, catalog_at};
 ghost use Rattle.ufs_image.specs.Damage.{bad_tree};
 ghost use Rattle.ufs_image.specs.Sound.{IsSoundCatalog};
@@ -25,8 +26,8 @@ use ufs_image::damage_law;
 use ufs_layout::Geometry;
 use ufs_opening::{Opened, open};
 
-/// What a server begins with: the superblock, the inodes and the directories with their slots, and the free
-/// blocks of the data area.
+/// What a server begins with: the superblock, the inodes (none of which is off its form), the directories with
+/// their slots, and the free blocks of the data area.
 #[derive(Drop)]
 pub struct Loaded {
     pub head: ImageHead,
@@ -73,6 +74,7 @@ fn with_free(alloc: Global, opened: Opened) -> Result<Loaded, Memory>
 pub fn load<D: Disk>(alloc: Global, disk: &mut D) -> Result<Loaded, RecoverFault>
     ensures taken { IsTrue D.tells → IfOk result (λ l. volume (D.size disk.old) (reads (D.moments disk.old)) ≡ Ok (record { head = l.head.head; geometry = l.head.geometry; image = reads (D.moments disk.old) })) }
     ensures found { IsTrue D.tells → IfOk result (λ l. AreFindingsOf l.head.geometry (reads (D.moments disk.old)) l.findings) }
+    ensures forms { IsTrue D.tells → IfOk result (λ l. l.findings.forms ≡ map (λ inode. Some (form_at l.head.geometry (reads (D.moments disk.old)) inode)) (all_inodes l.head.geometry)) }
     ensures catalog { IsTrue D.tells → IfOk result (λ l. IsCatalogOf l.head.geometry (reads (D.moments disk.old)) (catalog_at l.head.geometry (reads (D.moments disk.old)))) }
     ensures sound { IsTrue D.tells → IfOk result (λ l. IsSoundCatalog l.head.geometry (catalog_at l.head.geometry (reads (D.moments disk.old)))) }
     ensures first { IfOk result (λ l. l.free.first ≡ first_of_data l.head.geometry) }

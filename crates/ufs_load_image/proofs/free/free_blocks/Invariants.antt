@@ -1,5 +1,4 @@
-use Rattle.std.proofs.Common.{◌≡◌, ℕ, ◌≤◌, false, get_or}
-use Rattle.ufs_layout.specs.Areas.{first_of_data}
+use Rattle.std.proofs.Common.{◌≡◌, ◌≤◌, false, get_or}
 use Rattle.ufs_load_image.proofs.Left.{AreLeft}
 use Rattle.ufs_load_image.proofs.free.free_blocks.Given as goal
 
