@@ -12,7 +12,7 @@ ghost use Rattle.ufs_sound.specs.FileSession.{FilesAreServed, BlindFilesMayBeWri
 ghost use Rattle.ufs_sound.specs.Synced.{WritesAreSynced};
 ghost use Rattle.ufs_layout.specs.Areas.{IsGeometry};
 ghost use Rattle.ufs_sound.specs.Durable.{StoresAreExplained, ImagesAreExplained};
-ghost use Rattle.ufs_sound.specs.Laws.{BeginIsSound, SplitKeeps, JoinKeeps, DrawKeeps, AskKeeps, RemakeKeeps, CloseIsWhole, LookKeeps, TickKeeps, MovesAreMarks, TurnsAreMarks, TellsAreMarks, CommitsAreMarks, NameCommitsAreMarks, HandsKnow};
+ghost use Rattle.ufs_sound.specs.Laws.{BeginIsSound, SplitKeeps, JoinKeeps, DrawKeeps, AskKeeps, RemakeKeeps, GrantKeeps, GiveBackKeeps, CloseIsWhole, LookKeeps, TickKeeps, MovesAreMarks, TurnsAreMarks, TellsAreMarks, CommitsAreMarks, NameCommitsAreMarks, HandsKnow};
 
 use ufs_image::new_image_law;
 use ufs_layout::Geometry;
@@ -55,6 +55,12 @@ pub fn an_event_is_marked<P: Promise>()
 {
     a_request_keeps_the_tree();
 }
+
+/// A lease is granted to a client, and its leases on a part are given back.
+pub fn leases_are_granted_and_given_back<P: Promise>()
+    ensures grant { GrantKeeps P.shows }
+    ensures give_back { GiveBackKeeps P.shows }
+{}
 
 /// The clock is read, and moved by the hand with the names.
 pub fn the_clock_is_read_and_moved<P: Promise>()
