@@ -7,14 +7,14 @@ use Rattle.ufs_model.specs.declared.data.Lease.{Lease}
 use Rattle.ufs_sound.specs.Owned.{Has}
 use Rattle.ufs_model.specs.declared.data.PartName.{PartName}
 use Rattle.ufs_sound.specs.declared.fresh.Fresh.{Fresh}
-use Rattle.ufs_sound.specs.Parts.{Cells, FilePart, NamesPart, StorePart, View, Word, Start, kept_of, given_of, both_of, spent}
+use Rattle.ufs_sound.specs.Parts.{Cells, FilePart, NamesPart, Shortage, StorePart, View, Word, Start, kept_of, given_of, both_of, spent}
 use Rattle.ufs_sound.specs.Explained.{Showing}
 use Rattle.ufs_sound.specs.Sound.{IsSound}
 use Rattle.ufs_sound.specs.Draws.{Leaves, drawn, MayDraw}
 use Rattle.ufs_sound.specs.Marks.{MayAsk, asking, MayRemake}
 use Rattle.ufs_sound.specs.Whole.{CanOpen, HoldsAll, IsWhole}
 use Rattle.ufs_sound.specs.Clock.{looked, ticked}
-use Rattle.ufs_sound.specs.Events.{Moved, moved, MayMove, IsLent, turning, told_files, MayTell, committing, MayCommitFile, NamesCommit, naming, MayCommitNames}
+use Rattle.ufs_sound.specs.Events.{Moved, moved, MayMove, IsLent, turning, told_files, MayTell, committing, MayCommitFile, NamesCommit, naming, MayCommitNames, Failure, failing, MayFail, Checkpoint, checkpointing, MayCheckpoint, answering, MayAnswer}
 use Rattle.ufs_sound.specs.Leasing.{MayGrant, granting, MayGiveBack, giving_back}
 use Rattle.ufs_sound.specs.Known.{Knows}
 
@@ -85,6 +85,15 @@ CommitsAreMarks S = (k : Start) (tickets : ℕ) (v : View) (g : ℕ) (x : FilePa
 
 abbrev pub NameCommitsAreMarks : Showing → Type 0
 NameCommitsAreMarks S = (k : Start) (tickets : ℕ) (v : View) (p : NamesPart) (s : StorePart) (c : NamesCommit) → MayCommitNames S k tickets v p s c → MayRemake S k tickets v (naming tickets p c s v)
+
+abbrev pub FailedCommitsAreMarks : Showing → Type 0
+FailedCommitsAreMarks S = (k : Start) (tickets : ℕ) (v : View) (s : StorePart) (f : Failure) → MayFail S k v s f → MayRemake S k tickets v (failing tickets f s v)
+
+abbrev pub CheckpointsAreMarks : Showing → Type 0
+CheckpointsAreMarks S = (k : Start) (tickets : ℕ) (v : View) (p : NamesPart) (s : StorePart) (c : Checkpoint) → MayCheckpoint S k v p s c → MayRemake S k tickets v (checkpointing tickets p c s v)
+
+abbrev pub AnswersAreMarks : Showing → Type 0
+AnswersAreMarks S = (k : Start) (tickets : ℕ) (v : View) (s : StorePart) (faults : List ℕ) (shortages : List Shortage) → MayAnswer v s faults → MayRemake S k tickets v (answering tickets faults shortages s v)
 
 -- ---- what a hand knows
 

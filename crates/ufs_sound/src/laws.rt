@@ -12,7 +12,7 @@ ghost use Rattle.ufs_sound.specs.FileSession.{FilesAreServed, BlindFilesMayBeWri
 ghost use Rattle.ufs_sound.specs.Synced.{WritesAreSynced};
 ghost use Rattle.ufs_layout.specs.Areas.{IsGeometry};
 ghost use Rattle.ufs_sound.specs.Durable.{StoresAreExplained, ImagesAreExplained};
-ghost use Rattle.ufs_sound.specs.Laws.{BeginIsSound, SplitKeeps, JoinKeeps, DrawKeeps, AskKeeps, RemakeKeeps, GrantKeeps, GiveBackKeeps, CloseIsWhole, LookKeeps, TickKeeps, MovesAreMarks, TurnsAreMarks, TellsAreMarks, CommitsAreMarks, NameCommitsAreMarks, HandsKnow};
+ghost use Rattle.ufs_sound.specs.Laws.{BeginIsSound, SplitKeeps, JoinKeeps, DrawKeeps, AskKeeps, RemakeKeeps, GrantKeeps, GiveBackKeeps, CloseIsWhole, LookKeeps, TickKeeps, MovesAreMarks, TurnsAreMarks, TellsAreMarks, CommitsAreMarks, NameCommitsAreMarks, FailedCommitsAreMarks, CheckpointsAreMarks, AnswersAreMarks, HandsKnow};
 
 use ufs_image::new_image_law;
 use ufs_layout::Geometry;
@@ -68,13 +68,17 @@ pub fn the_clock_is_read_and_moved<P: Promise>()
     ensures tick { TickKeeps P.shows }
 {}
 
-/// Blocks that move, a store turn that begins, what is told to a file, and a commit of a file are events without an entry.
+/// Blocks that move, a store turn that begins, what is told to a file, a commit of a file and one of names, a commit or a
+/// checkpoint that fails, a checkpoint, reads that failed and blocks that weren't there are events without an entry.
 pub fn events_are_marks<P: Promise>()
     ensures moves { MovesAreMarks P.shows }
     ensures turns { TurnsAreMarks P.shows }
     ensures tells { TellsAreMarks P.shows }
     ensures commits { CommitsAreMarks P.shows }
     ensures name_commits { NameCommitsAreMarks P.shows }
+    ensures fails { FailedCommitsAreMarks P.shows }
+    ensures checkpoints { CheckpointsAreMarks P.shows }
+    ensures answers { AnswersAreMarks P.shows }
 {}
 
 /// A hand knows of one history from which its parts come, and with the store's part what the disk shows.
