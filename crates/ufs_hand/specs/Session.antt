@@ -4,14 +4,17 @@ use Rattle.std.specs.FinMap as fin
 use Rattle.atomic_table.specs.Seated.{TableId}
 use Rattle.ufs_model.specs.PosixTree.{root_alone}
 use Rattle.ufs_model.specs.declared.data.Actor.TheVariants.{Primary}
+use Rattle.ufs_model.specs.declared.data.Lease.{Lease}
 use Rattle.ufs_model.specs.declared.data.Op.{Op}
 use Rattle.ufs_model.specs.declared.data.Op.TheVariants.{Sync}
+use Rattle.ufs_model.specs.declared.data.PartName.{PartName}
 use Rattle.ufs_model.specs.declared.data.Reply.TheVariants.{Done}
 use Rattle.ufs_sound.specs.declared.fresh.Fresh.{Fresh}
 use Rattle.ufs_sound.specs.ByImages.{by_images}
 use Rattle.ufs_sound.specs.Draws.{Leaves}
 use Rattle.ufs_sound.specs.Durable.{IsDurable}
 use Rattle.ufs_sound.specs.Parts.{IsDiskTold, NamesPart, StorePart, Start, View, Word, spent}
+use Rattle.ufs_sound.specs.Leasing.{MayGrant, granting, MayGiveBack, giving_back}
 use Rattle.ufs_sound.specs.Marks.{MayAsk, asking, MayRemake}
 use Rattle.ufs_sound.specs.Whole.{CanOpen, IsWhole}
 
@@ -48,11 +51,25 @@ pub record AsksRequest (v : View) (leaves : ℕ → View) : Type 0 where
   pub client : ℕ
   pub request : Op
   pub may : MayAsk client v
-  pub is : leaves ≡ (λ tickets. asking tickets client request may.self v)
+  pub is : leaves ≡ (λ tickets. asking tickets client request may.copies may.self v)
 
--- An event without an entry: a client asks, or the hand's parts go on as whatever the tickets are allows.
+-- A lease is granted to a client that the hand has, on a file or the names that it has.
+pub record GrantsLease (v : View) (leaves : ℕ → View) : Type 0 where
+  pub lease : Lease
+  pub may : MayGrant lease v
+  pub is : leaves ≡ (λ tickets. granting tickets lease v)
+
+-- The leases of a client that the hand has, on a file or the names that it has, are given back.
+pub record GivesLeasesBack (v : View) (leaves : ℕ → View) : Type 0 where
+  pub part : PartName
+  pub client : ℕ
+  pub may : MayGiveBack part client v
+  pub is : leaves ≡ (λ tickets. giving_back tickets part client v)
+
+-- An event without an entry: a client asks, leases are granted or given back, or the hand's parts go on as whatever the
+-- tickets are allows.
 abbrev pub IsEvent : Start → View → (ℕ → View) → Type 0
-IsEvent k v leaves = AsksRequest v leaves ⊎ ((tickets : ℕ) → MayRemake by_images k tickets v (leaves tickets))
+IsEvent k v leaves = AsksRequest v leaves ⊎ (GrantsLease v leaves ⊎ GivesLeasesBack v leaves) ⊎ ((tickets : ℕ) → MayRemake by_images k tickets v (leaves tickets))
 
 -- ---- what stands where nobody picked anything
 

@@ -32,7 +32,7 @@ pub begins : CanBegin small
 begins = record { names = new_names; store = new_store least []; can = can }
 
 pub asks : IsEvent small (first_view small) asked
-asks = inl (record { client = 0; request = Sync; may = record { self = idle_client; client = inl refl; before = idle_asked; asked = inl refl; idle = refl; room = omega arith }; is = refl })
+asks = inl (record { client = 0; request = Sync; may = record { self = idle_client; client = inl refl; before = idle_asked; asked = inl refl; idle = refl; room = omega arith; copies = []; kept = λ l h. h }; is = refl })
 
 abbrev pub joined : ℕ → View
 joined n = both_of (kept_of (Client 0) (asked n)) (given_of (Client 0) (asked n))

@@ -15,4 +15,4 @@ small = blind_start 1 least []
 
 -- the client has asked
 abbrev pub asked : ℕ → View
-asked tickets = asking tickets 0 Sync idle_client (new_view 1 least [])
+asked tickets = asking tickets 0 Sync [] idle_client (new_view 1 least [])

@@ -108,6 +108,8 @@ module _ (S : Showing) (k : Start) (word : Word) (views : List View) (i : ℕ) (
         listed = λ c p x is h q. listed x x.part (o.leases_true.listed c p x is h (omega arith));
         true' = λ c p x is h q. o.leases_true.true' c p x is h (omega arith);
         held = λ c p x is h q. o.leases_true.held c p x is h (omega arith);
+        own = o.leases_true.own;
+        ends = o.leases_true.ends;
       };
       blocks_apart = record { same = λ b. change_total (uses b) views i v w at (uses_same b) ∙ o.blocks_apart.same b; once = o.blocks_apart.once };
       committed_held = let z = o.committed_held in record { live = z.live; dropped = z.dropped; numbered = z.numbered; dirs = z.dirs };

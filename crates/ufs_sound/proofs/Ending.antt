@@ -190,6 +190,8 @@ module _ (S : Showing) (k : Start) (names : NamesPart) (store : StorePart) (c : 
       listed = λ n p x e h. absurd (subst (Has x) (ap (λ (q : ClientPart). q.copies) (client_is n p e)) h);
       true' = λ n p x e h. absurd (subst (Has x) (ap (λ (q : ClientPart). q.copies) (client_is n p e)) h);
       held = λ n p x e h. absurd (subst (Has x) (ap (λ (q : ClientPart). q.copies) (client_is n p e)) h);
+      own = λ n p x e h. absurd (subst (Has x) (ap (λ (q : ClientPart). q.copies) (client_is n p e)) h);
+      ends = λ n p x e h. absurd (subst (Has x) (ap (λ (q : ClientPart). q.copies) (client_is n p e)) h);
     };
     blocks_apart = record { same = λ b. omega arith; once = c.once };
     committed_held = record {

@@ -84,7 +84,7 @@ module _ (keeps : KeepsTrees) (local : Locality) (makes : MakesOneFile) (have : 
 
   after_ask : IsSound by_images k (at_word 0 0) (asked ∷ [])
   after_ask = ask_sound by_images k (at_word 0 0) (FileSession.opened d ∷ []) 0 (FileSession.opened d) 0 (FileSession.open_request d) after_begin refl
-      (record { self = idle_client; client = inl refl; before = idle_asked; asked = inl refl; idle = refl; room = omega arith })
+      (record { self = idle_client; client = inl refl; before = idle_asked; asked = inl refl; idle = refl; room = omega arith; copies = []; kept = λ l h. h })
 
   few : (b : Bool) → one b + 0 ≤ 1
   few true = omega arith

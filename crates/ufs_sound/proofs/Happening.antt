@@ -18,10 +18,10 @@ use Rattle.ufs_sound.proofs.Exchange.{value_case, value_is}
 -- ---- values under one name
 
 module _ (v : View) (one : IsSingle v) where
-  same_file : (g : ℕ) (x y : FilePart) → Has (g, x) v.files → Has (g, y) v.files → x ≡ y
+  pub same_file : (g : ℕ) (x y : FilePart) → Has (g, x) v.files → Has (g, y) v.files → x ≡ y
   same_file g x y a b = same_some x y (sym (has_find eqb itself alike g x v.files (one.files g) a) ∙ has_find eqb itself alike g y v.files (one.files g) b)
 
-  names_here : (p x : NamesPart) → p ≡ value_after v.names p → Has (tt, x) v.names → p ≡ x
+  pub names_here : (p x : NamesPart) → p ≡ value_after v.names p → Has (tt, x) v.names → p ≡ x
   names_here p x e h = e ∙ value_is v.names p x one.names h
 
   store_here : (s x : StorePart) → s ≡ value_after v.store s → Has (tt, x) v.store → s ≡ x
@@ -32,7 +32,7 @@ module _ (v : View) (one : IsSingle v) where
 with_unassigned : (s : StorePart) (a b : List ℕ) → a ≡ b → ◌≡◌ {A = StorePart} (record s { unassigned = a }) (record s { unassigned = b })
 with_unassigned s a b e = λ j. record s { unassigned = e j }
 
-answers_stay : (v w : View) (s t : StorePart) → w.faults ≡ v.faults → w.stop ≡ v.stop → w.shortages ≡ v.shortages → t.faults ≡ s.faults → t.stop ≡ s.stop → t.shortages ≡ s.shortages → AreAnswers v w s t
+pub answers_stay : (v w : View) (s t : StorePart) → w.faults ≡ v.faults → w.stop ≡ v.stop → w.shortages ≡ v.shortages → t.faults ≡ s.faults → t.stop ≡ s.stop → t.shortages ≡ s.shortages → AreAnswers v w s t
 answers_stay v w s t a b c d e f = record {
   single = λ l n. let x = l n in let y = ap (times n) d in omega arith;
   faults = λ n. let x = ap (times n) a in let y = ap (times n) d in omega arith;
@@ -310,7 +310,7 @@ module _ (S : Showing) (k : Start) (n : ℕ) (v : View) (s0 : StorePart) (fs : L
 
 -- ---- a file is committed
 
-times_append : (b : ℕ) (xs ys : List ℕ) → times b (xs ++ ys) ≡ times b xs + times b ys
+pub times_append : (b : ℕ) (xs ys : List ℕ) → times b (xs ++ ys) ≡ times b xs + times b ys
 times_append b [] ys = omega arith
 times_append b (x ∷ xs) ys = let i = times_append b xs ys in omega arith
 

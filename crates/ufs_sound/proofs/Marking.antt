@@ -387,7 +387,7 @@ module _ (keeps : KeepsTrees) (S : Showing) (k : Start) (word : Word) (views : L
       parts = parts_remade;
       tickets_once = o.tickets_once;
       legal = legal_remade;
-      leases_true = record { listed = λ c p x is h live. listed_remade x x.part (o.leases_true.listed c p x is h live); true' = o.leases_true.true'; held = o.leases_true.held };
+      leases_true = record { listed = λ c p x is h live. listed_remade x x.part (o.leases_true.listed c p x is h live); true' = o.leases_true.true'; held = o.leases_true.held; own = o.leases_true.own; ends = o.leases_true.ends };
       blocks_apart = record { same = λ b. change_total (uses b) views i v w at (m.uses_stay b) ∙ o.blocks_apart.same b; once = o.blocks_apart.once };
       committed_held = committed_remade;
       committed_numbers = numbers_remade;

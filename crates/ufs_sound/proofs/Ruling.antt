@@ -3,11 +3,14 @@ use Rattle.std.proofs.Common.{◌≡◌, ℕ, zero, suc, ◌+◌, ◌*◌, ◌/�
 use Rattle.std.specs.Prelude.{slice_index, slice_set}
 use Rattle.std.proofs.Math.Nat.{add-mul-mod_self_right}
 use native.Mathlib.Decide.{ℕ_discrete}
+use mathlib.Core.Option.{some}
+use lib.ListN.{get_elem?}
 use Rattle.atomic_table.specs.Table.{Me, keeps, Allows, Splits, Joins}
 use Rattle.ufs_model.specs.Laws.{KeepsTrees, Locality, MakesOneFile}
 use Rattle.ufs_model.specs.History.{entries_of}
 use Rattle.ufs_model.specs.declared.data.Op.{Op}
 use Rattle.ufs_model.specs.declared.data.Entry.{Entry}
+use Rattle.ufs_model.specs.declared.data.Lease.{Lease}
 use Rattle.ufs_model.specs.declared.data.PartName.{PartName}
 use Rattle.ufs_sound.specs.declared.fresh.Fresh.{Fresh}
 use Rattle.ufs_sound.specs.Owned.{Has}
@@ -17,11 +20,13 @@ use Rattle.ufs_sound.specs.Sound.{IsSound}
 use Rattle.ufs_sound.specs.Draws.{Leaves, drawn, MayDraw}
 use Rattle.ufs_sound.specs.Marks.{MayAsk, asking, MayRemake}
 use Rattle.ufs_sound.specs.Clock.{looked, ticked}
+use Rattle.ufs_sound.specs.Leasing.{MayGrant, granting, MayGiveBack, giving_back}
 use Rattle.ufs_sound.specs.Rule.{clock_step, word_number, word_at, IsRuled, Drew, Marked, Looked, Ticked, TickedBy, MayTick}
 use Rattle.ufs_sound.proofs.Apart.{split_sound, join_sound}
 use Rattle.ufs_sound.proofs.Drawn.{draw_sound}
 use Rattle.ufs_sound.proofs.Marking.{remake_sound}
 use Rattle.ufs_sound.proofs.Asking.{ask_sound}
+use Rattle.ufs_sound.proofs.Leasing.{grant_sound, give_back_sound}
 use Rattle.ufs_sound.proofs.Clocking.{look_sound, tick_sound, was}
 
 -- ---- the tickets are few
@@ -91,9 +96,10 @@ module _ (S : Showing) (k : Start) where
         (refl, subst (λ x. me.0.seen ≤ x) (sym ticket) (h.sound.clock.seen i me.0 at).0),
       )
 
-  -- whatever the tickets are when it is marked
-  pub mark_keeps : KeepsTrees → (slots i : ℕ) (w : ℕ → View) (me : Me (Unit {0}) View) → ((tickets : ℕ) → MayRemake S k tickets me.0 (w tickets)) → Allows (IsRuled S k) slots i me 0 (λ n. n) (Marked w me)
-  mark_keeps keeps' slots i w me m s h len at below =
+  -- an event whose view afterwards is sound by whatever the tickets are keeps the rule
+  event_keeps : (slots i : ℕ) (w : ℕ → View) (me : Me (Unit {0}) View)
+      → ((word : Word) (views : List View) → IsSound S k word views → get_elem? views i ≡ some me.0 → IsSound S k word (set views i (w word.tickets))) → Allows (IsRuled S k) slots i me 0 (λ n. n) (Marked w me)
+  event_keeps slots i w me sound s h len at below =
       let n = slice_index s.words 0 in
       let is : n ≡ word_number h.word = ap (λ ws. slice_index ws 0) h.is in
       let ticket : n % clock_step ≡ h.word.tickets = ap (λ x. x % clock_step) is ∙ tickets_of h.word (few h.word s.views h.sound) in (
@@ -104,27 +110,23 @@ module _ (S : Showing) (k : Start) where
           word = h.word;
           is = ap (λ ws. slice_set ws 0 (slice_index ws 0)) h.is;
           clock = h.clock;
-          sound = subst (λ x. IsSound S k h.word (set s.views i (w x))) (sym ticket) (remake_sound keeps' S k h.word s.views i me.0 (w h.word.tickets) h.sound at (m h.word.tickets));
+          sound = subst (λ x. IsSound S k h.word (set s.views i (w x))) (sym ticket) (sound h.word s.views h.sound at);
         },
         (refl, subst (λ x. me.0.seen ≤ x) (sym ticket) (h.sound.clock.seen i me.0 at).0),
       )
 
-  pub ask_keeps : (slots i : ℕ) (c : ℕ) (r : Op) (me : Me (Unit {0}) View) → (m : MayAsk c me.0) → Allows (IsRuled S k) slots i me 0 (λ n. n) (Marked (λ t. asking t c r m.self me.0) me)
-  ask_keeps slots i c r me m s h len at below =
-      let n = slice_index s.words 0 in
-      let is : n ≡ word_number h.word = ap (λ ws. slice_index ws 0) h.is in
-      let ticket : n % clock_step ≡ h.word.tickets = ap (λ x. x % clock_step) is ∙ tickets_of h.word (few h.word s.views h.sound) in (
-        asking (n % clock_step) c r m.self me.0,
-        keeps,
-        tt,
-        record {
-          word = h.word;
-          is = ap (λ ws. slice_set ws 0 (slice_index ws 0)) h.is;
-          clock = h.clock;
-          sound = subst (λ x. IsSound S k h.word (set s.views i (asking x c r m.self me.0))) (sym ticket) (ask_sound S k h.word s.views i me.0 c r h.sound at m);
-        },
-        (refl, subst (λ x. me.0.seen ≤ x) (sym ticket) (h.sound.clock.seen i me.0 at).0),
-      )
+  -- whatever the tickets are when it is marked
+  pub mark_keeps : KeepsTrees → (slots i : ℕ) (w : ℕ → View) (me : Me (Unit {0}) View) → ((tickets : ℕ) → MayRemake S k tickets me.0 (w tickets)) → Allows (IsRuled S k) slots i me 0 (λ n. n) (Marked w me)
+  mark_keeps keeps' slots i w me m = event_keeps slots i w me (λ word views o at. remake_sound keeps' S k word views i me.0 (w word.tickets) o at (m word.tickets))
+
+  pub ask_keeps : (slots i : ℕ) (c : ℕ) (r : Op) (me : Me (Unit {0}) View) → (m : MayAsk c me.0) → Allows (IsRuled S k) slots i me 0 (λ n. n) (Marked (λ t. asking t c r m.copies m.self me.0) me)
+  ask_keeps slots i c r me m = event_keeps slots i (λ t. asking t c r m.copies m.self me.0) me (λ word views o at. ask_sound S k word views i me.0 c r o at m)
+
+  pub grant_keeps : (slots i : ℕ) (l : Lease) (me : Me (Unit {0}) View) → MayGrant l me.0 → Allows (IsRuled S k) slots i me 0 (λ n. n) (Marked (λ t. granting t l me.0) me)
+  grant_keeps slots i l me m = event_keeps slots i (λ t. granting t l me.0) me (λ word views o at. grant_sound S k word views i me.0 o at l m)
+
+  pub give_back_keeps : (slots i : ℕ) (p : PartName) (c : ℕ) (me : Me (Unit {0}) View) → MayGiveBack p c me.0 → Allows (IsRuled S k) slots i me 0 (λ n. n) (Marked (λ t. giving_back t p c me.0) me)
+  give_back_keeps slots i p c me m = event_keeps slots i (λ t. giving_back t p c me.0) me (λ word views o at. give_back_sound S k word views i me.0 o at p c m)
 
   -- the word that is read
   word_is : (word : Word) (views : List View) (n : ℕ) → IsSound S k word views → n ≡ word_number word → word_at n ≡ word

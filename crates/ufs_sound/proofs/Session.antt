@@ -74,7 +74,7 @@ module _ (keeps : KeepsTrees) (local : Locality) (makes : MakesOneFile) (g : Geo
 
   after_ask : IsSound by_images k (at_word 0 0) (Session.asked g cells ∷ [])
   after_ask = ask_sound by_images k (at_word 0 0) (Session.opened g cells ∷ []) 0 (Session.opened g cells) 0 (op.Fsync 3) after_begin refl
-      (record { self = idle_client; client = inl refl; before = idle_asked; asked = inl refl; idle = refl; room = omega arith })
+      (record { self = idle_client; client = inl refl; before = idle_asked; asked = inl refl; idle = refl; room = omega arith; copies = []; kept = λ l h. h })
 
   after_split : IsSound by_images k (at_word 0 0) (server ∷ client ∷ [])
   after_split = split_sound by_images k (at_word 0 0) (Session.asked g cells ∷ []) 0 (part.Client 0) (Session.asked g cells) after_ask refl

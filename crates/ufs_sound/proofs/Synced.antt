@@ -61,7 +61,7 @@ module _ (keeps : KeepsTrees) (local : Locality) (makes : MakesOneFile) (S : Sho
   then word' a b = subst (IsSound S k word') (set_twice views i a b)
 
   after_ask : IsSound S k word (set views i v1)
-  after_ask = ask_sound S k word views i (writer x n) 0 (op.Pwrite x.fd x.bytes x.at) o at (record { self = x.self; client = inl refl; before = x.before; asked = inl refl; idle = can.idle; room = (let r = can.room in omega arith) })
+  after_ask = ask_sound S k word views i (writer x n) 0 (op.Pwrite x.fd x.bytes x.at) o at (record { self = x.self; client = inl refl; before = x.before; asked = inl refl; idle = can.idle; room = (let r = can.room in omega arith); copies = x.self.copies; kept = λ l h. h })
 
   loaded : (place b : ℕ) → slice_get x.part.blocks place ≡ Some b → is_loaded x.part place ≡ false → block_in (put_at x.part.bytes x.at x.bytes) place ≡ block_in x.part.bytes place
   loaded place b there out = absurd (both (sym (can.in_memory place b there) ∙ out))
@@ -86,7 +86,7 @@ module _ (keeps : KeepsTrees) (local : Locality) (makes : MakesOneFile) (S : Sho
 
   after_second_ask : IsSound S k later (set views i v4)
   after_second_ask = then later v3 v4 (ask_sound S k later (set views i v3) i v3 0 (op.Fsync x.fd) after_commit (here v3)
-      (record { self = wrote; client = inl refl; before = record { entries = x.self.entries; fds = x.self.fds; copies = x.self.copies; asked = Some (op.Pwrite x.fd x.bytes x.at); tickets = n }; asked = inl refl; idle = refl; room = (let r = can.room in let a = length-append x.self.entries (Rattle.ufs_sound.specs.Draws.entry_of n (Synced.written x n) ∷ []) in omega arith) }))
+      (record { self = wrote; client = inl refl; before = record { entries = x.self.entries; fds = x.self.fds; copies = x.self.copies; asked = Some (op.Pwrite x.fd x.bytes x.at); tickets = n }; asked = inl refl; idle = refl; room = (let r = can.room in let a = length-append x.self.entries (Rattle.ufs_sound.specs.Draws.entry_of n (Synced.written x n) ∷ []) in omega arith); copies = x.self.copies; kept = λ l h. h }))
 
   single : IsSingle v4
   single = record { files = λ g. few (eqb g x.file); names = omega arith; store = omega arith }

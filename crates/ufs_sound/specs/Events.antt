@@ -1,12 +1,13 @@
--- Events without an entry, each with what it asks of its own hand: blocks move, a store turn begins, and parts learn.
-use Rattle.std.specs.Prelude.{ℕ, ◌≤◌, ◌≡◌, ◌⊎◌, eqb, true, false, List, [], ◌∷◌, ◌++◌, length, Some, None, slice_get}
+-- Events without an entry, each with what it asks of its own hand: blocks move, a store turn begins, parts learn, and the
+-- store commits, checkpoints, fails or refuses.
+use Rattle.std.specs.Prelude.{ℕ, ◌+◌, ◌≤◌, ◌≡◌, ◌⊎◌, eqb, true, false, List, [], ◌∷◌, ◌++◌, length, Some, None, slice_get}
 use Rattle.std.specs.FinMap as fin
 use Rattle.std.specs.Ordering.{nat_cmp}
 use Rattle.ufs_sound.specs.Marks.{IsMadeBy}
 use Rattle.ufs_model.specs.declared.data.Entry.{Entry}
-use Rattle.ufs_sound.specs.Owned.{Has, count}
+use Rattle.ufs_sound.specs.Owned.{Has, count, times}
 use Rattle.ufs_prefix.specs.Changes.{changes_of, name_changes}
-use Rattle.ufs_sound.specs.Parts.{Cells, FilePart, NamesPart, Start, StorePart, View, only_one, uses, committed}
+use Rattle.ufs_sound.specs.Parts.{Cells, FilePart, NamesPart, Shortage, Start, StorePart, View, only_one, uses, committed}
 use Rattle.ufs_sound.specs.Explained.{Showing}
 use Rattle.ufs_sound.specs.DiskBytes.{block_on, is_loaded}
 use Rattle.ufs_sound.specs.Parts.{IsDiskTold}
@@ -153,3 +154,97 @@ pub record MayCommitNames (S : Showing) (k : Start) (tickets : ℕ) (v : View) (
   pub inside : IsDiskTold k → (h : List Entry) → (s.lent_names ≡ length p.changes → name_changes k.tree h ≡ p.changes) → S.Shows k.tree h (committed s) s.names s.paths s.state
       → (d : Cells) → Has d c.through → S.Shows k.tree h (committed s) s.names None d
   pub end : IsDiskTold k → (h : List Entry) → name_changes k.tree h ≡ p.changes → S.Shows k.tree h (committed s) s.names s.paths s.state → S.Shows k.tree h (committed s) (length p.changes) (Some p.paths) c.state
+
+-- ---- a commit or a checkpoint fails
+
+-- The history has the changes of the hand's parts that were lent to the store since its last mark.
+pub record HadLent (k : Start) (v : View) (s : StorePart) (h : List Entry) : Type 0 where
+  pub files : (g : ℕ) (x : FilePart) → Has (g, x) v.files → Has (g, length x.changes) s.lent → changes_of g k.tree h ≡ x.changes
+  pub names : (p : NamesPart) → Has (tt, p) v.names → s.lent_names ≡ length p.changes → name_changes k.tree h ≡ p.changes
+
+-- The fault's number, and the states that the disk passed, to the one in which it was left.
+pub record Failure : Type 0 where
+  pub fault : ℕ
+  pub through : List Cells
+  pub state : Cells
+
+-- Nothing more is committed, some image may have other paths than another, and the store has stopped.
+abbrev pub failed : ℕ → Failure → StorePart → StorePart
+failed tickets f s = record s {
+  past = record { states = s.state ∷ f.through; from = s.mark; to = tickets } ∷ s.past;
+  paths = None;
+  state = f.state;
+  mark = tickets;
+  lent = [];
+  lent_names = 0;
+  faults = f.fault ∷ s.faults;
+  stop = Some f.fault;
+}
+
+-- the hand may excuse one entry by the fault, and others by the stop
+abbrev pub failing : ℕ → Failure → StorePart → View → View
+failing tickets f s v = record v { store = (tt, failed tickets f s) ∷ []; seen = tickets; faults = f.fault ∷ v.faults; stop = Some f.fault }
+
+-- The store hadn't stopped, the fault is new, and each state that the disk passed shows what was committed, or more.
+pub record MayFail (S : Showing) (k : Start) (v : View) (s : StorePart) (f : Failure) : Type 0 where
+  pub store : v.store ≡ (tt, s) ∷ []
+  pub running : s.stop ≡ None
+  pub new : times f.fault s.faults ≡ 0
+  pub last : Has f.state f.through
+  pub others : IsDiskTold k → (b : ℕ) → uses b v ≡ 0 → 1 ≤ uses b k.view → block_on f.state b ≡ block_on s.state b
+  pub own : IsDiskTold k → (g : ℕ) (x : FilePart) → Has (g, x) v.files → (place b : ℕ) → slice_get x.blocks place ≡ Some b → is_loaded x place ≡ false → block_on f.state b ≡ block_on s.state b
+  pub inside : IsDiskTold k → (h : List Entry) → HadLent k v s h → S.Shows k.tree h (committed s) s.names s.paths s.state → (d : Cells) → Has d f.through → S.Shows k.tree h (committed s) s.names None d
+
+-- ---- a checkpoint
+
+-- The blocks of directories in the last commit, those that the names keep, and those that they have free: of directories
+-- that were removed, on which the journal has no entries any more.
+pub record Checkpoint : Type 0 where
+  pub dirs : List ℕ
+  pub blocks : List ℕ
+  pub freed : List ℕ
+  pub through : List Cells
+  pub state : Cells
+
+abbrev pub checkpointed : ℕ → NamesPart → Checkpoint → StorePart → StorePart
+checkpointed tickets p c s = record s {
+  dirs = c.dirs;
+  past = record { states = s.state ∷ c.through; from = s.mark; to = tickets } ∷ s.past;
+  state = c.state;
+  mark = tickets;
+  lent = [];
+  lent_names = length p.changes;
+}
+
+abbrev pub freed_names : NamesPart → Checkpoint → NamesPart
+freed_names p c = record p { blocks = c.blocks; spare = p.spare ++ c.freed }
+
+abbrev pub checkpointing : ℕ → NamesPart → Checkpoint → StorePart → View → View
+checkpointing tickets p c s v = record v { names = (tt, freed_names p c) ∷ []; store = (tt, checkpointed tickets p c s) ∷ []; seen = tickets }
+
+-- The store's hand and the names' are joined. Nothing more is committed, and the disk shows what it showed.
+pub record MayCheckpoint (S : Showing) (k : Start) (v : View) (p : NamesPart) (s : StorePart) (c : Checkpoint) : Type 0 where
+  pub names : v.names ≡ (tt, p) ∷ []
+  pub store : v.store ≡ (tt, s) ∷ []
+  -- no block comes or goes, and none of a directory in the last commit is free
+  pub blocks : (b : ℕ) → times b c.blocks + times b c.freed ≡ times b p.blocks
+  pub fewer : (b : ℕ) → Has b c.dirs → Has b s.dirs
+  pub apart : (b : ℕ) → Has b c.dirs → Has b c.freed → ⊥
+  pub last : (c.state ≡ s.state) ⊎ Has c.state c.through
+  pub others : IsDiskTold k → (b : ℕ) → uses b v ≡ 0 → 1 ≤ uses b k.view → block_on c.state b ≡ block_on s.state b
+  pub own : IsDiskTold k → (g : ℕ) (x : FilePart) → Has (g, x) v.files → (place b : ℕ) → slice_get x.blocks place ≡ Some b → is_loaded x place ≡ false → block_on c.state b ≡ block_on s.state b
+  pub inside : IsDiskTold k → (h : List Entry) → HadLent k v s h → S.Shows k.tree h (committed s) s.names s.paths s.state → (d : Cells) → Has d c.through → S.Shows k.tree h (committed s) s.names None d
+  pub end : IsDiskTold k → (h : List Entry) → name_changes k.tree h ≡ p.changes → S.Shows k.tree h (committed s) s.names s.paths s.state → S.Shows k.tree h (committed s) s.names s.paths c.state
+
+-- ---- reads that failed, and blocks that weren't there
+
+abbrev pub answered : List ℕ → List Shortage → StorePart → StorePart
+answered faults shortages s = record s { faults = faults ++ s.faults; shortages = shortages ++ s.shortages }
+
+abbrev pub answering : ℕ → List ℕ → List Shortage → StorePart → View → View
+answering tickets faults shortages s v = record v { store = (tt, answered faults shortages s) ∷ []; seen = tickets; faults = faults ++ v.faults; shortages = shortages ++ v.shortages }
+
+-- each fault is new, and stands once
+pub record MayAnswer (v : View) (s : StorePart) (faults : List ℕ) : Type 0 where
+  pub store : v.store ≡ (tt, s) ∷ []
+  pub new : (n : ℕ) → times n (faults ++ s.faults) ≤ 1

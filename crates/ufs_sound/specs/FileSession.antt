@@ -64,7 +64,7 @@ module _ (d : FileDisk) where
   open_request = op.OpenFile d.path true true false false false false
 
   abbrev pub open_asked : View
-  open_asked = asking 0 0 open_request idle_client opened
+  open_asked = asking 0 0 open_request [] idle_client opened
 
   abbrev pub opens : Fresh
   opens = record { client = 0; seq = 0; by = Primary; op = open_request; reply = reply.Fd 3 }

@@ -7,14 +7,15 @@ use Rattle.ufs_model.specs.declared.data.Lease.{Lease}
 use Rattle.ufs_sound.specs.Owned.{Has}
 use Rattle.ufs_model.specs.declared.data.PartName.{PartName}
 use Rattle.ufs_sound.specs.declared.fresh.Fresh.{Fresh}
-use Rattle.ufs_sound.specs.Parts.{Cells, FilePart, NamesPart, StorePart, View, Word, Start, kept_of, given_of, both_of, spent}
+use Rattle.ufs_sound.specs.Parts.{Cells, FilePart, NamesPart, Shortage, StorePart, View, Word, Start, kept_of, given_of, both_of, spent}
 use Rattle.ufs_sound.specs.Explained.{Showing}
 use Rattle.ufs_sound.specs.Sound.{IsSound}
 use Rattle.ufs_sound.specs.Draws.{Leaves, drawn, MayDraw}
 use Rattle.ufs_sound.specs.Marks.{MayAsk, asking, MayRemake}
 use Rattle.ufs_sound.specs.Whole.{CanOpen, HoldsAll, IsWhole}
 use Rattle.ufs_sound.specs.Clock.{looked, ticked}
-use Rattle.ufs_sound.specs.Events.{Moved, moved, MayMove, IsLent, turning, told_files, MayTell, committing, MayCommitFile, NamesCommit, naming, MayCommitNames}
+use Rattle.ufs_sound.specs.Events.{Moved, moved, MayMove, IsLent, turning, told_files, MayTell, committing, MayCommitFile, NamesCommit, naming, MayCommitNames, Failure, failing, MayFail, Checkpoint, checkpointing, MayCheckpoint, answering, MayAnswer}
+use Rattle.ufs_sound.specs.Leasing.{MayGrant, granting, MayGiveBack, giving_back}
 use Rattle.ufs_sound.specs.Known.{Knows}
 
 abbrev pub BeginIsSound : Showing → Type 0
@@ -34,10 +35,20 @@ DrawKeeps S = (k : Start) (word : Word) (views : List View) (i : ℕ) (v : View)
     → ((x : Lease) → Has x known → word.clock < x.until)
     → IsSound S k (record { tickets = suc word.tickets; clock = word.clock }) (set views i (drawn word.tickets f l v))
 
--- a mark by which a client asks a request
+-- a mark by which a client asks a request, and drops copies of leases
 abbrev pub AskKeeps : Showing → Type 0
 AskKeeps S = (k : Start) (word : Word) (views : List View) (i : ℕ) (v : View) (c : ℕ) (r : Op) → IsSound S k word views → get_elem? views i ≡ some v → (m : MayAsk c v)
-    → IsSound S k word (set views i (asking word.tickets c r m.self v))
+    → IsSound S k word (set views i (asking word.tickets c r m.copies m.self v))
+
+-- a lease is granted to a client, on a file or the names
+abbrev pub GrantKeeps : Showing → Type 0
+GrantKeeps S = (k : Start) (word : Word) (views : List View) (i : ℕ) (v : View) (l : Lease) → IsSound S k word views → get_elem? views i ≡ some v → MayGrant l v
+    → IsSound S k word (set views i (granting word.tickets l v))
+
+-- a client's leases on a file or the names are given back
+abbrev pub GiveBackKeeps : Showing → Type 0
+GiveBackKeeps S = (k : Start) (word : Word) (views : List View) (i : ℕ) (v : View) (p : PartName) (c : ℕ) → IsSound S k word views → get_elem? views i ≡ some v → MayGiveBack p c v
+    → IsSound S k word (set views i (giving_back word.tickets p c v))
 
 -- any other mark
 abbrev pub RemakeKeeps : Showing → Type 0
@@ -74,6 +85,15 @@ CommitsAreMarks S = (k : Start) (tickets : ℕ) (v : View) (g : ℕ) (x : FilePa
 
 abbrev pub NameCommitsAreMarks : Showing → Type 0
 NameCommitsAreMarks S = (k : Start) (tickets : ℕ) (v : View) (p : NamesPart) (s : StorePart) (c : NamesCommit) → MayCommitNames S k tickets v p s c → MayRemake S k tickets v (naming tickets p c s v)
+
+abbrev pub FailedCommitsAreMarks : Showing → Type 0
+FailedCommitsAreMarks S = (k : Start) (tickets : ℕ) (v : View) (s : StorePart) (f : Failure) → MayFail S k v s f → MayRemake S k tickets v (failing tickets f s v)
+
+abbrev pub CheckpointsAreMarks : Showing → Type 0
+CheckpointsAreMarks S = (k : Start) (tickets : ℕ) (v : View) (p : NamesPart) (s : StorePart) (c : Checkpoint) → MayCheckpoint S k v p s c → MayRemake S k tickets v (checkpointing tickets p c s v)
+
+abbrev pub AnswersAreMarks : Showing → Type 0
+AnswersAreMarks S = (k : Start) (tickets : ℕ) (v : View) (s : StorePart) (faults : List ℕ) (shortages : List Shortage) → MayAnswer v s faults → MayRemake S k tickets v (answering tickets faults shortages s v)
 
 -- ---- what a hand knows
 

@@ -42,8 +42,11 @@ IsListedIn v l (name.File g) = (q : FilePart) × Has (g, q) v.files × Has l q.l
 IsListedIn v l name.Names = (q : NamesPart) × Has (tt, q) v.names × Has l q.leases
 IsListedIn v l _ = ⊥
 
--- Each copy that is live, at a clock, is in the list of its part; its fact is true; and its client holds the file.
+-- Each copy that is live, at a clock, is in the list of its part; its fact is true; and its client holds the file. A copy is
+-- its client's, and ends before the clock does.
 pub record AreLeasesTrue (clock : ℕ) (t : PosixTree) (clients : ℕ → Option ClientPart) (files : ℕ → Option FilePart) (names : NamesPart) : Type 0 where
   pub listed : (c : ℕ) (p : ClientPart) (l : Lease) → clients c ≡ Some p → Has l p.copies → clock < l.until → IsListed files names l l.part
   pub true' : (c : ℕ) (p : ClientPart) (l : Lease) → clients c ≡ Some p → Has l p.copies → clock < l.until → IsTrueOf t l.part l.fact
   pub held : (c : ℕ) (p : ClientPart) (l : Lease) → clients c ≡ Some p → Has l p.copies → clock < l.until → IsLeaseHeld t.fds c (leased_file l.part l.fact)
+  pub own : (c : ℕ) (p : ClientPart) (l : Lease) → clients c ≡ Some p → Has l p.copies → l.client ≡ c
+  pub ends : (c : ℕ) (p : ClientPart) (l : Lease) → clients c ≡ Some p → Has l p.copies → l.until < 16777216

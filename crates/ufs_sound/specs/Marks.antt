@@ -3,6 +3,7 @@ use Rattle.std.specs.Prelude.{ℕ, ◌+◌, ◌≤◌, ◌<◌, ◌≡◌, ◌�
 use Rattle.std.specs.FinMap as fin
 use Rattle.ufs_model.specs.declared.data.Op.{Op}
 use Rattle.ufs_model.specs.declared.data.Entry.{Entry}
+use Rattle.ufs_model.specs.declared.data.Lease.{Lease}
 use Rattle.ufs_sound.specs.Owned.{Has, count, each, times, find}
 use Rattle.ufs_prefix.specs.Changes.{changes_of, name_changes}
 use Rattle.ufs_sound.specs.Parts.{ClientPart, AskedPart, FilePart, NamesPart, StorePart, Cells, Shortage, View, Start, only_one, uses, committed}
@@ -12,11 +13,11 @@ use Rattle.ufs_sound.specs.Parts.{IsDiskTold}
 
 -- ---- a client asks a request
 
-abbrev pub asking_client : ℕ → Op → ℕ → ClientPart → ClientPart
-asking_client c r n p = if eqb n c then record p { asked = Some r } else p
+abbrev pub asking_client : ℕ → Op → List Lease → ℕ → ClientPart → ClientPart
+asking_client c r copies n p = if eqb n c then record p { copies = copies; asked = Some r } else p
 
-abbrev pub asked_by : ℕ → Op → ClientPart → AskedPart
-asked_by tickets r p = record { entries = p.entries; fds = p.fds; copies = p.copies; asked = Some r; tickets = tickets }
+abbrev pub asked_by : ℕ → Op → List Lease → ClientPart → AskedPart
+asked_by tickets r copies p = record { entries = p.entries; fds = p.fds; copies = copies; asked = Some r; tickets = tickets }
 
 abbrev pub asking_asked : ℕ → AskedPart → ℕ → AskedPart → AskedPart
 asking_asked c a n old = if eqb n c then a else old
@@ -28,11 +29,14 @@ pub record MayAsk (c : ℕ) (v : View) : Type 0 where
   pub asked : Has (c, before) v.asked
   pub idle : self.asked ≡ None
   pub room : length self.entries < 65536
+  -- the copies of leases that it keeps: it may drop others
+  pub copies : List Lease
+  pub kept : (l : Lease) → Has l copies → Has l self.copies
 
-abbrev pub asking : ℕ → ℕ → Op → ClientPart → View → View
-asking tickets c r self v = record v {
-  clients = each (asking_client c r) v.clients;
-  asked = each (asking_asked c (asked_by tickets r self)) v.asked;
+abbrev pub asking : ℕ → ℕ → Op → List Lease → ClientPart → View → View
+asking tickets c r copies self v = record v {
+  clients = each (asking_client c r copies) v.clients;
+  asked = each (asking_asked c (asked_by tickets r copies self)) v.asked;
   seen = tickets;
 }
 

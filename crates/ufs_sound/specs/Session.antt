@@ -37,7 +37,7 @@ module _ (g : Geometry) (cells : Cells) where
   opened = new_view 1 g cells
 
   abbrev pub asked : View
-  asked = asking 0 0 (op.Fsync 3) idle_client opened
+  asked = asking 0 0 (op.Fsync 3) [] idle_client opened
 
   -- the client's part goes to a hand of its own
   abbrev pub server : View

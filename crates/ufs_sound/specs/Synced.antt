@@ -39,7 +39,7 @@ module _ (x : Writing) (tickets : ℕ) where
   writer = record { clients = (0, x.self) ∷ []; asked = (0, x.before) ∷ []; files = (x.file, x.part) ∷ []; pools = []; names = []; store = (tt, x.store) ∷ []; seen = x.seen; clock = x.clock; faults = []; stop = None; shortages = [] }
 
   abbrev pub write_asked : View
-  write_asked = asking tickets 0 (op.Pwrite x.fd x.bytes x.at) x.self writer
+  write_asked = asking tickets 0 (op.Pwrite x.fd x.bytes x.at) x.self.copies x.self writer
 
   abbrev pub written : Fresh
   written = record { client = 0; seq = length x.self.entries; by = Primary; op = op.Pwrite x.fd x.bytes x.at; reply = reply.Count (length x.bytes) }
@@ -58,7 +58,7 @@ module _ (x : Writing) (tickets : ℕ) where
   wrote = record x.self { entries = x.self.entries ++ entry_of tickets written ∷ []; asked = None }
 
   abbrev pub sync_asked : View
-  sync_asked = asking (suc tickets) 0 (op.Fsync x.fd) wrote write_committed
+  sync_asked = asking (suc tickets) 0 (op.Fsync x.fd) x.self.copies wrote write_committed
 
   abbrev pub synced : Fresh
   synced = record { client = 0; seq = length wrote.entries; by = Primary; op = op.Fsync x.fd; reply = reply.Done }

@@ -12,7 +12,7 @@ ghost use Rattle.ufs_sound.specs.FileSession.{FilesAreServed, BlindFilesMayBeWri
 ghost use Rattle.ufs_sound.specs.Synced.{WritesAreSynced};
 ghost use Rattle.ufs_layout.specs.Areas.{IsGeometry};
 ghost use Rattle.ufs_sound.specs.Durable.{StoresAreExplained, ImagesAreExplained};
-ghost use Rattle.ufs_sound.specs.Laws.{BeginIsSound, SplitKeeps, JoinKeeps, DrawKeeps, AskKeeps, RemakeKeeps, CloseIsWhole, LookKeeps, TickKeeps, MovesAreMarks, TurnsAreMarks, TellsAreMarks, CommitsAreMarks, NameCommitsAreMarks, HandsKnow};
+ghost use Rattle.ufs_sound.specs.Laws.{BeginIsSound, SplitKeeps, JoinKeeps, DrawKeeps, AskKeeps, RemakeKeeps, GrantKeeps, GiveBackKeeps, CloseIsWhole, LookKeeps, TickKeeps, MovesAreMarks, TurnsAreMarks, TellsAreMarks, CommitsAreMarks, NameCommitsAreMarks, FailedCommitsAreMarks, CheckpointsAreMarks, AnswersAreMarks, HandsKnow};
 
 use ufs_image::new_image_law;
 use ufs_layout::Geometry;
@@ -56,19 +56,29 @@ pub fn an_event_is_marked<P: Promise>()
     a_request_keeps_the_tree();
 }
 
+/// A lease is granted to a client, and its leases on a part are given back.
+pub fn leases_are_granted_and_given_back<P: Promise>()
+    ensures grant { GrantKeeps P.shows }
+    ensures give_back { GiveBackKeeps P.shows }
+{}
+
 /// The clock is read, and moved by the hand with the names.
 pub fn the_clock_is_read_and_moved<P: Promise>()
     ensures look { LookKeeps P.shows }
     ensures tick { TickKeeps P.shows }
 {}
 
-/// Blocks that move, a store turn that begins, what is told to a file, and a commit of a file are events without an entry.
+/// Blocks that move, a store turn that begins, what is told to a file, a commit of a file and one of names, a commit or a
+/// checkpoint that fails, a checkpoint, reads that failed and blocks that weren't there are events without an entry.
 pub fn events_are_marks<P: Promise>()
     ensures moves { MovesAreMarks P.shows }
     ensures turns { TurnsAreMarks P.shows }
     ensures tells { TellsAreMarks P.shows }
     ensures commits { CommitsAreMarks P.shows }
     ensures name_commits { NameCommitsAreMarks P.shows }
+    ensures fails { FailedCommitsAreMarks P.shows }
+    ensures checkpoints { CheckpointsAreMarks P.shows }
+    ensures answers { AnswersAreMarks P.shows }
 {}
 
 /// A hand knows of one history from which its parts come, and with the store's part what the disk shows.

@@ -175,4 +175,6 @@ module _ (draw : Draw) where
         listed_after x c x.part x.fact (held_after' c y.0 x y.1 y.2 q (ℕ_discrete c f.client) (o.leases_true.held c y.0 x y.1 y.2 q)) (o.leases_true.listed c y.0 x y.1 y.2 q);
     true' = λ c p x is h q. let y = lease_case c p x is h in true_after x q x.part refl (o.leases_true.listed c y.0 x y.1 y.2 q) (o.leases_true.true' c y.0 x y.1 y.2 q);
     held = λ c p x is h q. let y = lease_case c p x is h in held_after' c y.0 x y.1 y.2 q (ℕ_discrete c f.client) (o.leases_true.held c y.0 x y.1 y.2 q);
+    own = λ c p x is h. let y = lease_case c p x is h in o.leases_true.own c y.0 x y.1 y.2;
+    ends = λ c p x is h. let y = lease_case c p x is h in o.leases_true.ends c y.0 x y.1 y.2;
   })

@@ -1,4 +1,5 @@
 use Rattle.ufs_sound.proofs.Happening.{move_remakes, turn_remakes, tell_remakes, commit_remakes, naming_remakes}
+use Rattle.ufs_sound.proofs.Refusing.{fail_remakes, checkpoint_remakes, answer_remakes}
 use Rattle.ufs_sound.proofs.laws.events_are_marks.Goals as goal
 
 pub returns-clause-moves : goal.returns-clause-moves
@@ -15,3 +16,12 @@ returns-clause-commits g c k n v file x s through state may = commit_remakes g.P
 
 pub returns-clause-name_commits : goal.returns-clause-name_commits
 returns-clause-name_commits g c k n v p s commit may = naming_remakes g.P.Promise.shows k n v p s commit may
+
+pub returns-clause-fails : goal.returns-clause-fails
+returns-clause-fails g c k n v s f may = fail_remakes g.P.Promise.shows k n v s f may
+
+pub returns-clause-checkpoints : goal.returns-clause-checkpoints
+returns-clause-checkpoints g c k n v p s checkpoint may = checkpoint_remakes g.P.Promise.shows k n v p s checkpoint may
+
+pub returns-clause-answers : goal.returns-clause-answers
+returns-clause-answers g c k n v s faults shortages may = answer_remakes g.P.Promise.shows k n v s faults shortages may
