@@ -1,5 +1,5 @@
 -- How the answer of a part is that of the whole.
-use Rattle.std.proofs.Common.{◌≡◌, inl, inr, ℕ, List, [], ◌++◌, Option, sym, subst, refl, ◌∙◌}
+use Rattle.std.proofs.Common.{◌≡◌, inl, inr, ℕ, List, ◌++◌, Option, sym, subst, refl, ◌∙◌}
 use Rattle.std.specs.Io.KnownBytes.{Appends}
 use Rattle.ufs_base.specs.Faults.{raised}
 use Rattle.ufs_model.specs.declared.data.Entry.{Entry}
@@ -9,7 +9,7 @@ use Rattle.ufs_script.specs.declared.fault.ScriptFault.{ScriptFault}
 use Rattle.ufs_script.specs.declared.fault.ScriptFault.TheVariants as fault
 use Rattle.ufs_script.specs.declared.script.Script.{Script}
 use Rattle.ufs_quiet.specs.declared.ending.Ending.{Ending}
-use Rattle.ufs_quiet.specs.declared.ending.Ending.TheVariants.{Done, Usage, BadGeometry, NotBuilt, BadScript, TooSmall, DeviceFault, OutOfMemory, SourceFault}
+use Rattle.ufs_quiet.specs.declared.ending.Ending.TheVariants.{Done, Usage, BadGeometry, NotBuilt, BadScript, TooSmall, NoTree, DeviceFault, OutOfMemory, SourceFault}
 use Rattle.ufs_quiet.specs.Texts.{AreFirstLines}
 use Rattle.ufs_quiet.specs.Seen.{Reading, Writing}
 use Rattle.ufs_quiet.specs.Served.{IsHistoryOf, replies_text}
@@ -58,6 +58,7 @@ served_by script history lines is all (BadGeometry bad) text e = absurd e
 served_by script history lines is all NotBuilt text e = absurd e
 served_by script history lines is all BadScript text e = absurd e
 served_by script history lines is all TooSmall text e = absurd e
+served_by script history lines is all NoTree text e = absurd e
 served_by script history lines is all DeviceFault text e = absurd e
 served_by script history lines is all OutOfMemory text e = inr (history, e.0, is, subst (AreFirstLines e.0) all e.1, e.2)
 served_by script history lines is all SourceFault text e = absurd e
@@ -70,6 +71,7 @@ read_and_served r script read (BadGeometry bad) text e = absurd e
 read_and_served r script read NotBuilt text e = absurd e
 read_and_served r script read BadScript text e = absurd e
 read_and_served r script read TooSmall text e = absurd e
+read_and_served r script read NoTree text e = absurd e
 read_and_served r script read DeviceFault text e = absurd e
 read_and_served r script read OutOfMemory text e =
     elim e [ inl none ↦ inl none | inr some ↦ inr (script, some.0, some.1, record { read = read; history_is = some.2 }, some.3, some.4) ]

@@ -6,3 +6,5 @@ pub mod PlayLemmas
 pub mod OptionLemmas
 pub mod MkfsLemmas
 pub mod ResponseLemmas
+pub mod TextLemmas
+pub mod TreeLemmas

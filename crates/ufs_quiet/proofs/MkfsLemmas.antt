@@ -5,7 +5,7 @@ use Rattle.ufs_layout.specs.Areas.{geometry_refusal, sector_count}
 use Rattle.ufs_layout.specs.declared.geometry.Geometry.{Geometry}
 use Rattle.ufs_base.specs.Faults.{RoseTo}
 use Rattle.ufs_quiet.specs.declared.ending.Ending.{Ending}
-use Rattle.ufs_quiet.specs.declared.ending.Ending.TheVariants.{Done, Usage, BadGeometry, NotBuilt, BadScript, TooSmall, DeviceFault, OutOfMemory, SourceFault}
+use Rattle.ufs_quiet.specs.declared.ending.Ending.TheVariants.{Done, Usage, BadGeometry, NotBuilt, BadScript, TooSmall, NoTree, DeviceFault, OutOfMemory, SourceFault}
 use Rattle.ufs_quiet.specs.declared.words.Command.{Command}
 use Rattle.ufs_quiet.specs.declared.words.Command.TheVariants as command
 use Rattle.ufs_quiet.specs.Commands.{mkfs_command, IsMkfs}
@@ -37,6 +37,7 @@ module _ (g : Geometry) (d : Formatting) (taken : geometry_refusal g ≡ None) (
   ends_well NotBuilt text e = absurd e
   ends_well BadScript text e = absurd e
   ends_well TooSmall text e = let less = e.1 in absurd (omega (arith, less, large))
+  ends_well NoTree text e = absurd e
   ends_well DeviceFault text e = absurd (calm e.2)
   ends_well OutOfMemory text e = inr refl
   ends_well SourceFault text e = absurd e

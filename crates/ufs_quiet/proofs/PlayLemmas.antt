@@ -9,7 +9,7 @@ use Rattle.ufs_script.specs.Script.{script_of, max_script}
 use Rattle.ufs_script.specs.declared.script.Script.{Script}
 use Rattle.ufs_script.specs.declared.fault.ScriptFault.{ScriptFault}
 use Rattle.ufs_quiet.specs.declared.ending.Ending.{Ending}
-use Rattle.ufs_quiet.specs.declared.ending.Ending.TheVariants.{Done, Usage, BadGeometry, NotBuilt, BadScript, TooSmall, DeviceFault, OutOfMemory, SourceFault}
+use Rattle.ufs_quiet.specs.declared.ending.Ending.TheVariants.{Done, Usage, BadGeometry, NotBuilt, BadScript, TooSmall, NoTree, DeviceFault, OutOfMemory, SourceFault}
 use Rattle.ufs_quiet.specs.declared.words.Command.{Command}
 use Rattle.ufs_quiet.specs.declared.words.Command.TheVariants as command
 use Rattle.ufs_quiet.specs.Served.{IsServed, replies_text}
@@ -39,6 +39,7 @@ module _ (r : Reading) (held_old held_new : Option (List ℕ)) where
   done_by NotBuilt text zero e a = absurd e
   done_by BadScript text zero e a = cc
   done_by TooSmall text zero e a = absurd e
+  done_by NoTree text zero e a = absurd e
   done_by DeviceFault text zero e a = absurd e
   done_by OutOfMemory text zero e a = cc
   done_by SourceFault text zero e a = cc
@@ -55,6 +56,7 @@ module _ (alike : LongerIsAlike) (text : List ℕ) (r : Reading) (left : r.left 
   served_by script is NotBuilt out e = absurd e
   served_by script is BadScript out e = let both : Ok script ≡ Err e.0 = sym is ∙ sym (alike_read e.1.0 e.1.1) ∙ e.1.2 in cc
   served_by script is TooSmall out e = absurd e
+  served_by script is NoTree out e = absurd e
   served_by script is DeviceFault out e = absurd e
   served_by script is OutOfMemory out e = inr refl
   served_by script is SourceFault out e = absurd (calm e.0)
@@ -73,6 +75,7 @@ module _ (alike : LongerIsAlike) (text : List ℕ) (r : Reading) (left : r.left 
       let same : e.0 ≡ f = cc in
       inl (refl, subst (Appends held_old held_new) (e.3 ∙ ap break_line same) a)
   broken_by f is held_old held_new TooSmall out e a = absurd e
+  broken_by f is held_old held_new NoTree out e a = absurd e
   broken_by f is held_old held_new DeviceFault out e a = absurd e
   broken_by f is held_old held_new OutOfMemory out e a = inr refl
   broken_by f is held_old held_new SourceFault out e a = absurd (calm e.0)

@@ -22,10 +22,10 @@ own_line e = line_text e.client e.seq e.reply
 
 module _ {X : Type 0} (xs : List X) (i : ℕ) (x : X) (below : i < length xs) (is : x ≡ get_or xs i x) where
   -- a list, at a place
-  split_at : xs ≡ take i xs ++ x ∷ drop (suc i) xs
+  pub split_at : xs ≡ take i xs ++ x ∷ drop (suc i) xs
   split_at = sym (take-append-drop i xs) ∙ ap (λ r. take i xs ++ r) (drop-cons xs i x below ∙ ap (λ y. y ∷ drop (suc i) xs) (sym is))
 
-  taken_more : take (i + 1) xs ≡ take i xs ++ x ∷ []
+  pub taken_more : take (i + 1) xs ≡ take i xs ++ x ∷ []
   taken_more = take_more xs i x below ∙ ap (λ y. take i xs ++ y ∷ []) (sym is)
 
 -- an entry adds its line

@@ -71,10 +71,10 @@ abbrev pub play_with : Option Options → Option Command
 play_with None = None
 play_with (Some o) = if only_image o then Some command.Play else Some command.NotBuilt
 
--- a command that isn't built, with no option but `--image`
-abbrev pub plain_with : Option Options → Option Command
-plain_with None = None
-plain_with (Some o) = if only_image o then Some command.NotBuilt else None
+-- a command with no option but `--image`
+abbrev pub plain_with : Command → Option Options → Option Command
+plain_with which None = None
+plain_with which (Some o) = if only_image o then Some which else None
 
 -- `bench SEED`, which isn't built, with a lease or without
 abbrev pub bench_with : Option ℕ → Option Options → Option Command
@@ -86,8 +86,9 @@ abbrev pub bench_of : List (List ℕ) → Option Command
 bench_of [] = None
 bench_of (seed ∷ words) = bench_with (number_up_to most_u32 seed) (options_of words)
 
+-- `recover` and `check`, which aren't built
 abbrev pub is_plain : List ℕ → Bool
-is_plain name = bytes_eq name (codes "recover") || (bytes_eq name (codes "check") || bytes_eq name (codes "tree"))
+is_plain name = bytes_eq name (codes "recover") || bytes_eq name (codes "check")
 
 -- The command that the words are. `run` waits for others, so it is none for a call that waits for nobody.
 abbrev pub command_of : List (List ℕ) → Option Command
@@ -95,8 +96,9 @@ command_of [] = None
 command_of (name ∷ words) =
     if bytes_eq name (codes "mkfs") then mkfs_of words
     else (if bytes_eq name (codes "play") then play_with (options_of words)
-    else (if is_plain name then plain_with (options_of words)
-    else (if bytes_eq name (codes "bench") then bench_of words else None)))
+    else (if bytes_eq name (codes "tree") then plain_with command.Tree (options_of words)
+    else (if is_plain name then plain_with command.NotBuilt (options_of words)
+    else (if bytes_eq name (codes "bench") then bench_of words else None))))
 
 -- the command that a program's words are
 abbrev pub asked : {Z : Type 0} → List (String Z) → Option Command

@@ -1,20 +1,27 @@
 -- How a command ends where the sink doesn't fail: why, and what it has written.
-use Rattle.std.specs.Prelude.{ℕ, ◌≡◌, ◌≢◌, ◌<◌, ◌≤◌, ◌⊎◌, List, [], ◌++◌, Option, Some, None}
+use Rattle.std.specs.Prelude.{ℕ, ◌≡◌, ◌≢◌, ◌<◌, ◌≤◌, ◌⊎◌, List, [], ◌++◌, Option, Some, None, Ok, Err, IsTrue}
 use Rattle.std.specs.Io.KnownBytes.{Appends}
 use Rattle.ufs_base.specs.Faults.{raised}
 use Rattle.ufs_layout.specs.Areas.{geometry_refusal, sector_count}
 use Rattle.ufs_layout.specs.declared.geometry.Geometry.{Geometry}
 use Rattle.ufs_model.specs.declared.data.Entry.{Entry}
+use Rattle.ufs_image.specs.Opens.{ImageTree, opens}
+use Rattle.ufs_image.specs.Volume.{Refusal}
+use Rattle.ufs_image.specs.Volume as image
+use Rattle.ufs_catalog.specs.declared.fault.RecoverFault.{RecoverFault}
+use Rattle.ufs_catalog.specs.declared.fault.RecoverFault.TheVariants as recover
+use Rattle.ufs_opening.specs.Told.{HasCommits}
 use Rattle.ufs_script.specs.Reading.{ReadsBreak}
 use Rattle.ufs_script.specs.declared.script.Script.{Script}
 use Rattle.ufs_script.specs.declared.fault.ScriptFault.{ScriptFault}
 use Rattle.ufs_script.specs.declared.fault.ScriptFault.TheVariants as fault
 use Rattle.ufs_script.specs.Script.{IsOutside}
 use Rattle.ufs_quiet.specs.declared.ending.Ending.{Ending}
-use Rattle.ufs_quiet.specs.declared.ending.Ending.TheVariants.{Done, Usage, BadGeometry, NotBuilt, BadScript, TooSmall, DeviceFault, OutOfMemory, SourceFault}
+use Rattle.ufs_quiet.specs.declared.ending.Ending.TheVariants.{Done, Usage, BadGeometry, NotBuilt, BadScript, TooSmall, NoTree, DeviceFault, OutOfMemory, SourceFault}
 use Rattle.ufs_quiet.specs.declared.words.Command.{Command}
 use Rattle.ufs_quiet.specs.declared.words.Command.TheVariants as command
 use Rattle.ufs_quiet.specs.Texts.{IsFront, AreFirstLines, usage_line, bad_geometry_line, not_built_line, break_line, too_small_line, device_line, memory_line, source_line, made_line}
+use Rattle.ufs_quiet.specs.TreeLines.{tree_lines, refusal_line}
 use Rattle.ufs_quiet.specs.Seen.{Reading, Writing, Formatting}
 use Rattle.ufs_quiet.specs.Served.{IsServed, IsHistoryOf, replies_text}
 
@@ -25,6 +32,7 @@ status_of (BadGeometry bad) = 1
 status_of NotBuilt = 2
 status_of BadScript = 2
 status_of TooSmall = 3
+status_of NoTree = 3
 status_of DeviceFault = 4
 status_of OutOfMemory = 5
 status_of SourceFault = 6
@@ -41,6 +49,7 @@ fixed_line_of (BadGeometry bad) = bad_geometry_line bad
 fixed_line_of NotBuilt = not_built_line
 fixed_line_of BadScript = []
 fixed_line_of TooSmall = too_small_line
+fixed_line_of NoTree = []
 fixed_line_of DeviceFault = []
 fixed_line_of OutOfMemory = memory_line
 fixed_line_of SourceFault = source_line
@@ -99,6 +108,40 @@ EndsMkfs g d DeviceFault text = (geometry_refusal g ≡ None) × (sector_count g
 EndsMkfs g d OutOfMemory text = (geometry_refusal g ≡ None) × (sector_count g ≤ d.sectors) × (d.now ≡ d.before) × (text ≡ memory_line)
 EndsMkfs g d _ text = ⊥
 
+-- ---- what printing a tree ends with
+
+-- how a command ends that can't read the image
+abbrev pub ending_of : RecoverFault → Ending
+ending_of recover.NotBuilt = NotBuilt
+ending_of (recover.Device fault) = DeviceFault
+ending_of recover.Memory = OutOfMemory
+ending_of _ = NoTree
+
+-- and with which line
+abbrev pub line_of : RecoverFault → List ℕ
+line_of recover.NoSuperblock = refusal_line image.NoSuperblock
+line_of (recover.BadVersion found) = refusal_line (image.BadVersion found)
+line_of (recover.BadGeometry number) = refusal_line (image.BadGeometry number)
+line_of (recover.BadRecord sector) = refusal_line (image.BadRecord sector)
+line_of (recover.BadTree inode) = refusal_line (image.BadTree inode)
+line_of recover.NotBuilt = not_built_line
+line_of (recover.Device fault) = device_line fault
+line_of recover.Memory = memory_line
+
+-- The disk, if it tells what it holds, is an image that stands for this tree.
+abbrev pub StandsFor : Formatting → ImageTree → Type 0
+StandsFor d tree = IsTrue d.tells → opens d.sectors d.image ≡ Ok tree
+
+-- What is seen of the disk allows `tree` this ending with this text.
+abbrev pub EndsTree : Formatting → Ending → List ℕ → Type 0
+EndsTree d Done text = (d.now ≡ d.before) × (tree : ImageTree) × StandsFor d tree × (text ≡ tree_lines tree)
+EndsTree d NoTree text = (d.now ≡ d.before) × (refusal : Refusal) × (IsTrue d.tells → opens d.sectors d.image ≡ Err refusal) × (text ≡ refusal_line refusal)
+EndsTree d NotBuilt text = (d.now ≡ d.before) × (IsTrue d.tells → HasCommits d.sectors d.image) × (text ≡ not_built_line)
+EndsTree d DeviceFault text = (d.now ≡ raised d.before) × (text ≡ device_line d.now)
+EndsTree d OutOfMemory text = (d.now ≡ d.before) × ((text ≡ memory_line)
+    ⊎ ((tree : ImageTree) × (front : List ℕ) × StandsFor d tree × AreFirstLines front (tree_lines tree) × (text ≡ front ++ memory_line)))
+EndsTree d _ text = ⊥
+
 -- ---- what any words end with
 
 -- What is seen of the source and of the disk allows a command this ending with this text.
@@ -106,6 +149,7 @@ abbrev pub Ends : Option Command → Reading → Formatting → Ending → List 
 Ends None r d ending text = IsFixed Usage ending text
 Ends (Some command.NotBuilt) r d ending text = IsFixed NotBuilt ending text
 Ends (Some command.Play) r d ending text = EndsPlay r ending text
+Ends (Some command.Tree) r d ending text = EndsTree d ending text
 Ends (Some (command.Mkfs blocks inodes journal)) r d ending text = EndsMkfs (record { blocks = blocks; inodes = inodes; journal = journal }) d ending text
 
 -- A status, and what the sink got: the whole text of an ending that is allowed, or with one fault of the sink a front

@@ -2,5 +2,6 @@ pub mod Texts
 pub mod Commands
 pub mod Served
 pub mod Seen
+pub mod TreeLines
 pub mod Endings
 pub mod Responses

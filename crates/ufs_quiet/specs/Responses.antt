@@ -1,5 +1,5 @@
 -- What the program answers to its words, and to there being none.
-use Rattle.std.specs.Prelude.{ℕ, List, [], Option, Some, None, Result, Ok, Err, map, string_bytes, unwrap_or, is_some, if◌then◌else◌}
+use Rattle.std.specs.Prelude.{ℕ, List, [], Option, None, Result, Ok, Err, map, string_bytes, unwrap_or, is_some, if◌then◌else◌}
 use Rattle.std.specs.declared.string.String.{String}
 use Rattle.std.specs.declared.vec.Vec.{Vec}
 use Rattle.ufs_quiet.specs.declared.ending.Ending.{Ending}

@@ -1,5 +1,7 @@
 -- What is seen of a source, a sink and a disk over a command.
-use Rattle.std.specs.Prelude.{ℕ, List, Option}
+use Rattle.std.specs.Prelude.{ℕ, Bool, List, Option}
+use Rattle.ufs_base.specs.Images.{Image}
+use Rattle.ufs_disk.specs.Moments.{Moments, reads}
 
 -- A source: the bytes that it had left and has left, where it tells them, and its counts of faults before and now.
 pub record Reading : Type 0 where
@@ -15,9 +17,12 @@ pub record Writing : Type 0 where
   pub before : ℕ
   pub now : ℕ
 
--- A disk: how many sectors it has, and its counts of faults before and now.
+-- A disk: whether it tells what it holds, how many sectors it has, what it read as before, and its counts of faults
+-- before and now.
 pub record Formatting : Type 0 where
+  pub tells : Bool
   pub sectors : ℕ
+  pub image : Image
   pub before : ℕ
   pub now : ℕ
 
@@ -30,5 +35,5 @@ abbrev pub writing : {K : Type 0} → (K → Option (List ℕ)) → (K → ℕ) 
 writing held faults old new = record { held = held old; holds = held new; before = faults old; now = faults new }
 
 -- of a disk
-abbrev pub formatting : {D : Type 0} → (D → ℕ) → (D → ℕ) → D → D → Formatting
-formatting size faults old new = record { sectors = size old; before = faults old; now = faults new }
+abbrev pub formatting : {D : Type 0} → Bool → (D → ℕ) → (D → Moments) → (D → ℕ) → D → D → Formatting
+formatting tells size moments faults old new = record { tells = tells; sectors = size old; image = reads (moments old); before = faults old; now = faults new }

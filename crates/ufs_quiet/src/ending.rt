@@ -19,6 +19,8 @@ pub enum Ending {
     BadScript,
     /// The disk is too small.
     TooSmall,
+    /// The image stands for no tree.
+    NoTree,
     /// A call of the disk failed.
     DeviceFault,
     /// There was no memory.
@@ -53,6 +55,7 @@ impl Ending {
             Ending::NotBuilt => 2,
             Ending::BadScript => 2,
             Ending::TooSmall => 3,
+            Ending::NoTree => 3,
             Ending::DeviceFault => 4,
             Ending::OutOfMemory => 5,
             Ending::SourceFault => 6,
@@ -60,7 +63,7 @@ impl Ending {
     }
 
     /// The line that is written last, with its line end, where it is always the same; none where the line
-    /// has a number of the disk or of a script's line, or where there is no such line.
+    /// has a number of the disk, of the image or of a script's line, or where there is no such line.
     pub fn fixed_line(self) -> &'static [u8]
         ensures { result.now ≡ fixed_line_of self }
     {
@@ -71,6 +74,7 @@ impl Ending {
             Ending::NotBuilt => b"ufs: line 0: NotBuilt\n",
             Ending::BadScript => b"",
             Ending::TooSmall => b"ufs: image: BadGeometry 5\n",
+            Ending::NoTree => b"",
             Ending::DeviceFault => b"",
             Ending::OutOfMemory => b"ufs: out of memory\n",
             Ending::SourceFault => b"ufs: source fault\n",

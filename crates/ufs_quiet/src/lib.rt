@@ -4,11 +4,14 @@
 mod broken;
 mod ending;
 mod finish;
+mod image;
 mod mkfs;
 mod print;
 mod process;
 mod response;
 mod top;
+mod tree;
+mod tree_lines;
 mod words;
 mod write;
 

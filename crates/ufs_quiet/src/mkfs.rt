@@ -9,8 +9,7 @@ ghost use Rattle.ufs_quiet.specs.Endings.{EndsMkfs, IsAnswer};
 
 use crate::ending::Ending;
 use crate::finish::{finish, tell};
-use arrayvec::ArrayString;
-use itoa::Buffer;
+use crate::image::device_line;
 use std::alloc::{AllocError, Global};
 use ufs_disk::Disk;
 use ufs_io::Sink;
@@ -30,18 +29,6 @@ fn made_line(alloc: Global, geometry: &Geometry) -> Result<Vec<u8>, AllocError>
     Ok(line.into_bytes())
 }
 
-// The line of a fault of the disk. It takes no memory.
-fn device_line(fault: u64) -> ArrayString<64>
-    ensures { result.bytes ≡ device_line fault }
-{
-    let mut digits = Buffer::new();
-    let mut line = ArrayString::new();
-    line.push_str("ufs: device fault ");
-    line.push_str(digits.format(fault));
-    line.push_str("\n");
-    line
-}
-
 // Memory is wanted for the line of a new image alone, before the disk is touched.
 fn format_disk<K: Sink, D: Disk>(
     alloc: Global,
@@ -51,7 +38,7 @@ fn format_disk<K: Sink, D: Disk>(
 ) -> u8
     requires limits { IsGeometry geometry.now }
     requires taken { geometry_refusal geometry.now ≡ None }
-    ensures answer { IsAnswer (EndsMkfs geometry.now (formatting D.size D.faults disk.old disk.new)) (writing K.held K.faults sink.old sink.new) result }
+    ensures answer { IsAnswer (EndsMkfs geometry.now (formatting D.tells D.size D.moments D.faults disk.old disk.new)) (writing K.held K.faults sink.old sink.new) result }
     ensures formatted { IsTrue D.tells → result ≡ 0 → IsNewDisk geometry.now (D.size disk.old) (D.moments disk.new).state }
     ensures crash { IsTrue D.tells → LeavesOnly D.keeps
         (IsStopped geometry.now (D.size disk.old) (D.moments disk.old).state)
@@ -79,7 +66,7 @@ fn format_disk<K: Sink, D: Disk>(
 
 /// Makes the disk's first sectors a new image of that geometry, and tells its numbers.
 pub fn mkfs<K: Sink, D: Disk>(alloc: Global, asked: Geometry, sink: &mut K, disk: &mut D) -> u8
-    ensures answer { IsAnswer (EndsMkfs asked (formatting D.size D.faults disk.old disk.new)) (writing K.held K.faults sink.old sink.new) result }
+    ensures answer { IsAnswer (EndsMkfs asked (formatting D.tells D.size D.moments D.faults disk.old disk.new)) (writing K.held K.faults sink.old sink.new) result }
     ensures formatted { IsTrue D.tells → result ≡ 0 → IsNewDisk asked (D.size disk.old) (D.moments disk.new).state }
     ensures crash { IsTrue D.tells → LeavesOnly D.keeps
         (IsStopped asked (D.size disk.old) (D.moments disk.old).state)

@@ -3,6 +3,12 @@ ghost use Rattle.std.specs.Prelude.{◌≡◌, ◌≢◌, ◌≤◌, ◌<◌, �
 ghost use Rattle.std.specs.Io.KnownBytes.{Appends};
 ghost use Rattle.ufs_base.specs.Faults.{raised};
 ghost use Rattle.ufs_disk.specs.Moments.{LeavesOnly};
+ghost use Rattle.ufs_catalog.specs.Reading.{IsReadOnly};
+ghost use Rattle.ufs_disk.specs.Moments.{reads};
+ghost use Rattle.ufs_image.specs.Opens.{ImageTree, opens};
+ghost use Rattle.ufs_image.specs.Volume.{Refusal};
+ghost use Rattle.ufs_opening.specs.Told.{HasCommits};
+ghost use Rattle.ufs_quiet.specs.TreeLines.{tree_lines, refusal_line};
 ghost use Rattle.ufs_layout.specs.Areas.{geometry_refusal, sector_count};
 ghost use Rattle.ufs_layout.specs.declared.geometry.Geometry.{Geometry};
 ghost use Rattle.ufs_model.specs.History.{joined};
@@ -24,6 +30,7 @@ use crate::ending::Ending;
 use crate::finish::{SINK_FAULT, finish};
 use crate::mkfs::mkfs;
 use crate::print::{PrintFault, print};
+use crate::tree::tree;
 use crate::words::{Command, read_command};
 use std::alloc::Global;
 use ufs_disk::Disk;
@@ -103,16 +110,17 @@ fn answer<S: Source, K: Sink, D: Disk>(
     sink: &mut K,
     disk: D,
 ) -> Outcome<D>
-    ensures answer { IsAnswer (Ends (asked words.now.items) (reading S.left S.faults source.old source.new) (formatting D.size D.faults disk result.disk))
+    ensures answer { IsAnswer (Ends (asked words.now.items) (reading S.left S.faults source.old source.new) (formatting D.tells D.size D.moments D.faults disk result.disk))
         (writing K.held K.faults sink.old sink.new) result.status }
     ensures formatted { IsTrue D.tells → result.status ≡ 0 → (g : Geometry) → asked words.now.items ≡ mkfs_command g
         → IsNewDisk g (D.size disk) (D.moments result.disk).state }
     ensures crash { IsTrue D.tells → (g : Geometry) → asked words.now.items ≡ mkfs_command g
         → LeavesOnly D.keeps (IsStopped g (D.size disk) (D.moments disk).state) (D.moments disk) (D.moments result.disk) }
-    ensures unwritten { ¬ (IsMkfs (asked words.now.items)) → result.disk ≡ disk }
+    ensures unwritten { ¬ (IsMkfs (asked words.now.items)) → asked words.now.items ≢ Some command.Tree → result.disk ≡ disk }
+    ensures read_only { IsTrue D.tells → asked words.now.items ≡ Some command.Tree → IsReadOnly D.keeps (D.moments disk) (D.moments result.disk) }
     ensures refused { (g : Geometry) → asked words.now.items ≡ mkfs_command g → geometry_refusal g ≢ None → result.disk ≡ disk }
     ensures small { (g : Geometry) → asked words.now.items ≡ mkfs_command g → D.size disk < sector_count g → result.disk ≡ disk }
-    ensures starved { result.status ≡ 5 → result.disk ≡ disk }
+    ensures starved { result.status ≡ 5 → asked words.now.items ≢ Some command.Tree → result.disk ≡ disk }
     ensures size { D.size result.disk ≡ D.size disk }
     ensures disk_told { result.status ≢ 4 → result.status ≢ 7 → D.faults result.disk ≡ D.faults disk }
     ensures source_told { result.status ≢ 6 → result.status ≢ 7 → S.faults source.new ≡ S.faults source.old }
@@ -136,6 +144,11 @@ fn answer<S: Source, K: Sink, D: Disk>(
             let status = mkfs(alloc, asked, sink, &mut disk);
             Outcome { status, disk }
         }
+        Some(Command::Tree) => {
+            let mut disk = disk;
+            let status = tree(alloc, sink, &mut disk);
+            Outcome { status, disk }
+        }
         Some(Command::NotBuilt) => Outcome {
             status: finish(sink, Ending::NotBuilt),
             disk,
@@ -157,7 +170,7 @@ pub fn quiet<S: Source, K: Sink, D: Disk>(
 ) -> Outcome<D>
     // Each status but 7 comes with its cause and its text, and leaves the sink's count of faults. With status 7 that
     // count rose by one, and the sink got a front of what would have been written.
-    ensures answer { IsAnswer (Ends (asked words.now.items) (reading S.left S.faults source.old source.new) (formatting D.size D.faults disk result.disk))
+    ensures answer { IsAnswer (Ends (asked words.now.items) (reading S.left S.faults source.old source.new) (formatting D.tells D.size D.moments D.faults disk result.disk))
         (writing K.held K.faults sink.old sink.new) result.status }
     // `play` with status 0: the source was read to its end, and its bytes are a script. There is one history, in
     // which one POSIX tree, that begins with the root alone, gives every reply, and which holds each request of the
@@ -175,12 +188,13 @@ pub fn quiet<S: Source, K: Sink, D: Disk>(
     // a new image.
     ensures crash { IsTrue D.tells → (g : Geometry) → asked words.now.items ≡ mkfs_command g
         → LeavesOnly D.keeps (IsStopped g (D.size disk) (D.moments disk).state) (D.moments disk) (D.moments result.disk) }
-    // Every other command leaves the disk.
-    ensures unwritten { ¬ (IsMkfs (asked words.now.items)) → result.disk ≡ disk }
+    // Every other command leaves the disk, but `tree`, which only reads it.
+    ensures unwritten { ¬ (IsMkfs (asked words.now.items)) → asked words.now.items ≢ Some command.Tree → result.disk ≡ disk }
+    ensures read_only { IsTrue D.tells → asked words.now.items ≡ Some command.Tree → IsReadOnly D.keeps (D.moments disk) (D.moments result.disk) }
     // So does `mkfs` of a geometry that is refused, of one that is too large for the disk, and for want of memory.
     ensures refused { (g : Geometry) → asked words.now.items ≡ mkfs_command g → geometry_refusal g ≢ None → result.disk ≡ disk }
     ensures small { (g : Geometry) → asked words.now.items ≡ mkfs_command g → D.size disk < sector_count g → result.disk ≡ disk }
-    ensures starved { result.status ≡ 5 → result.disk ≡ disk }
+    ensures starved { result.status ≡ 5 → asked words.now.items ≢ Some command.Tree → result.disk ≡ disk }
     ensures size { D.size result.disk ≡ D.size disk }
     // Any status but 4 and 7 leaves the disk's count as it was.
     ensures disk_told { result.status ≢ 4 → result.status ≢ 7 → D.faults result.disk ≡ D.faults disk }
@@ -201,6 +215,23 @@ pub fn quiet<S: Source, K: Sink, D: Disk>(
     ensures complete_mkfs { (g : Geometry) → asked words.now.items ≡ mkfs_command g → geometry_refusal g ≡ None
         → sector_count g ≤ D.size disk → D.faults result.disk ≢ raised (D.faults disk) → K.faults sink.new ≢ raised (K.faults sink.old)
         → (result.status ≡ 0) ⊎ (result.status ≡ 5) }
+    // `tree` with status 0: the image stands for one tree, and the sink got the lines of that tree, and nothing else.
+    ensures printed { IsTrue D.tells → result.status ≡ 0 → asked words.now.items ≡ Some command.Tree → (tree : ImageTree)
+        × (opens (D.size disk) (reads (D.moments disk)) ≡ Ok tree) × Appends (K.held sink.old) (K.held sink.new) (tree_lines tree) }
+    // `tree` with status 3: it stands for none, and the sink got the line of the cause, and nothing else.
+    ensures no_tree { IsTrue D.tells → result.status ≡ 3 → asked words.now.items ≡ Some command.Tree → (refusal : Refusal)
+        × (opens (D.size disk) (reads (D.moments disk)) ≡ Err refusal) × Appends (K.held sink.old) (K.held sink.new) (refusal_line refusal) }
+    // `tree` with status 2: transactions are committed in its journal, which isn't built yet.
+    ensures committed { IsTrue D.tells → result.status ≡ 2 → asked words.now.items ≡ Some command.Tree → HasCommits (D.size disk) (reads (D.moments disk)) }
+    // An image that stands for a tree is printed, unless memory runs out, a count of faults rises, or there are such
+    // transactions.
+    ensures complete_tree { IsTrue D.tells → (tree : ImageTree) → asked words.now.items ≡ Some command.Tree
+        → opens (D.size disk) (reads (D.moments disk)) ≡ Ok tree → D.faults result.disk ≢ raised (D.faults disk) → K.faults sink.new ≢ raised (K.faults sink.old)
+        → (result.status ≡ 0) ⊎ ((result.status ≡ 5) ⊎ (result.status ≡ 2)) }
+    // With the same exceptions one that stands for none is refused.
+    ensures refused_tree { IsTrue D.tells → (refusal : Refusal) → asked words.now.items ≡ Some command.Tree
+        → opens (D.size disk) (reads (D.moments disk)) ≡ Err refusal → D.faults result.disk ≢ raised (D.faults disk) → K.faults sink.new ≢ raised (K.faults sink.old)
+        → (result.status ≡ 3) ⊎ ((result.status ≡ 5) ⊎ (result.status ≡ 2)) }
 {
     a_longer_text_breaks_alike();
     answer(alloc, words, source, sink, disk)

@@ -18,6 +18,8 @@ pub enum Command {
     },
     /// Serve a script.
     Play,
+    /// Print the tree that the image stands for.
+    Tree,
     /// A command, or an option, that isn't built yet.
     NotBuilt,
 }
@@ -176,15 +178,11 @@ fn play(words: &[String]) -> Option<Command>
     }
 }
 
-fn plain(words: &[String]) -> Option<Command>
-    ensures { result ≡ plain_with (options_of (map string_bytes words.now)) }
+fn plain(which: Command, words: &[String]) -> Option<Command>
+    ensures { result ≡ plain_with which (options_of (map string_bytes words.now)) }
 {
     let found = read_options(words)?;
-    if only_image(found) {
-        Some(Command::NotBuilt)
-    } else {
-        None
-    }
+    if only_image(found) { Some(which) } else { None }
 }
 
 fn bench(words: &[String]) -> Option<Command>
@@ -208,10 +206,7 @@ fn is_plain(name: &[u8]) -> bool
     if name == b"recover".as_slice() {
         return true;
     }
-    if name == b"check".as_slice() {
-        return true;
-    }
-    name == b"tree".as_slice()
+    name == b"check".as_slice()
 }
 
 /// The command that the words are, if they are one that waits for nobody.
@@ -228,8 +223,11 @@ pub fn read_command(words: &[String]) -> Option<Command>
     if name == b"play".as_slice() {
         return play(rest);
     }
+    if name == b"tree".as_slice() {
+        return plain(Command::Tree, rest);
+    }
     if is_plain(name) {
-        return plain(rest);
+        return plain(Command::NotBuilt, rest);
     }
     if name == b"bench".as_slice() {
         return bench(rest);

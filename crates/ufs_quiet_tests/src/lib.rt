@@ -9,3 +9,5 @@ mod formats;
 mod rows;
 #[cfg(test)]
 mod tests;
+#[cfg(test)]
+mod trees;

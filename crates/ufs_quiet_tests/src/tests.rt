@@ -20,6 +20,8 @@ const NOT_BUILT: &str = "ufs: line 0: NotBuilt\n";
 
 const TOO_SMALL: &str = "ufs: image: BadGeometry 5\n";
 
+const NO_SUPERBLOCK: &str = "ufs: image: NoSuperblock\n";
+
 const SOURCE_FAULT: &str = "ufs: source fault\n";
 
 const MADE: &str = "made 256 32 64 242\n";
@@ -33,7 +35,7 @@ const SUPERBLOCK: [u8; 41] = [
 ];
 
 // Words, and the status and the text that they get where nothing is read: the first read fails.
-const UNREAD: [(&[&str], u8, &str); 26] = [
+const UNREAD: [(&[&str], u8, &str); 27] = [
     (&[], 1, USAGE),
     (&["frob"], 1, USAGE),
     (&["mkfs"], 1, USAGE),
@@ -48,7 +50,8 @@ const UNREAD: [(&[&str], u8, &str); 26] = [
     (&["recover", "--lease", "1"], 1, USAGE),
     (&["bench", "4294967296"], 1, USAGE),
     (&["run", "1"], 1, USAGE),
-    (&["tree"], 2, NOT_BUILT),
+    (&["tree"], 3, NO_SUPERBLOCK),
+    (&["tree", "--trace"], 1, USAGE),
     (&["recover", "--image", "f"], 2, NOT_BUILT),
     (&["check"], 2, NOT_BUILT),
     (&["bench", "0000000007", "--lease", "0"], 2, NOT_BUILT),

@@ -8,7 +8,7 @@ pub returns-in-Some-clause-answer : goal.returns-in-Some-clause-answer
 returns-in-Some-clause-answer g c =
     let named : image_word (map string_bytes c.in-Ok.words.items) ≡ Some c.in-Some.field-0.now = sym c.in-Some.ensures in
     answered c.args.words.now c.in-Ok.words c.in-Some.field-0.now c.in-Ok.is named
-    (reading g.S.Source.left g.S.Source.faults c.args.source.now c.quiet.new.source) (formatting g.D.Disk.size g.D.Disk.faults c.args.disk c.quiet.result.disk)
+    (reading g.S.Source.left g.S.Source.faults c.args.source.now c.quiet.new.source) (formatting g.D.Disk.tells g.D.Disk.size g.D.Disk.moments g.D.Disk.faults c.args.disk c.quiet.result.disk)
     (writing g.K.Sink.held g.K.Sink.faults c.args.sink.now c.quiet.new.sink) c.quiet.result.status c.quiet.ensures.answer
 
 pub returns-in-Some-clause-crash : goal.returns-in-Some-clause-crash
@@ -17,6 +17,18 @@ returns-in-Some-clause-crash g c tells h is =
     c.quiet.ensures.crash tells h (sym (same_command c.args.words.now c.in-Ok.words c.in-Some.field-0.now c.in-Ok.is named) ∙ is)
 
 pub returns-in-Some-clause-unwritten : goal.returns-in-Some-clause-unwritten
-returns-in-Some-clause-unwritten g c other =
+returns-in-Some-clause-unwritten g c other no_tree =
     let named : image_word (map string_bytes c.in-Ok.words.items) ≡ Some c.in-Some.field-0.now = sym c.in-Some.ensures in
-    c.quiet.ensures.unwritten (λ is. other (subst IsMkfs (sym (same_command c.args.words.now c.in-Ok.words c.in-Some.field-0.now c.in-Ok.is named)) is))
+    let same = same_command c.args.words.now c.in-Ok.words c.in-Some.field-0.now c.in-Ok.is named in
+    c.quiet.ensures.unwritten (λ is. other (subst IsMkfs (sym same) is)) (λ is. no_tree (same ∙ is))
+
+pub returns-in-Some-clause-starved : goal.returns-in-Some-clause-starved
+returns-in-Some-clause-starved g c five no_tree =
+    let named : image_word (map string_bytes c.in-Ok.words.items) ≡ Some c.in-Some.field-0.now = sym c.in-Some.ensures in
+    let same = same_command c.args.words.now c.in-Ok.words c.in-Some.field-0.now c.in-Ok.is named in
+    c.quiet.ensures.starved five (λ is. no_tree (same ∙ is))
+
+pub returns-in-Some-clause-read_only : goal.returns-in-Some-clause-read_only
+returns-in-Some-clause-read_only g c tells is =
+    let named : image_word (map string_bytes c.in-Ok.words.items) ≡ Some c.in-Some.field-0.now = sym c.in-Some.ensures in
+    c.quiet.ensures.read_only tells (sym (same_command c.args.words.now c.in-Ok.words c.in-Some.field-0.now c.in-Ok.is named) ∙ is)

@@ -17,7 +17,7 @@ returns-in-Some-Mkfs-clause-answer g c =
     let words = asked c.args.words.now.items in
     let is : words ≡ mkfs_command own = cc in
     let r = reading g.S.Source.left g.S.Source.faults c.args.source.now c.args.source.now in
-    let d = formatting g.D.Disk.size g.D.Disk.faults c.args.disk c.mkfs-status.new.disk in
+    let d = formatting g.D.Disk.tells g.D.Disk.size g.D.Disk.moments g.D.Disk.faults c.args.disk c.mkfs-status.new.disk in
     subst (λ (x : Option Command). IsAnswer (Ends x r d) (writing g.K.Sink.held g.K.Sink.faults c.args.sink.now c.mkfs-status.new.sink) c.mkfs-status.result) (sym is) c.mkfs-status.ensures.answer
 
 pub returns-in-Some-Mkfs-clause-formatted : goal.returns-in-Some-Mkfs-clause-formatted
@@ -61,5 +61,13 @@ returns-in-Some-Play-clause-answer g c =
     let words = asked c.args.words.now.items in
     let is : words ≡ Some command.Play = cc in
     let r = reading g.S.Source.left g.S.Source.faults c.args.source.now c.read_and_serve.new.source in
-    let d = formatting g.D.Disk.size g.D.Disk.faults c.args.disk c.read_and_serve.result.disk in
+    let d = formatting g.D.Disk.tells g.D.Disk.size g.D.Disk.moments g.D.Disk.faults c.args.disk c.read_and_serve.result.disk in
     subst (λ (x : Option Command). IsAnswer (Ends x r d) (writing g.K.Sink.held g.K.Sink.faults c.args.sink.now c.read_and_serve.new.sink) c.read_and_serve.result.status) (sym is) c.read_and_serve.ensures.answer
+
+pub returns-in-Some-Tree-clause-answer : goal.returns-in-Some-Tree-clause-answer
+returns-in-Some-Tree-clause-answer g c =
+    let words = asked c.args.words.now.items in
+    let is : words ≡ Some command.Tree = cc in
+    let r = reading g.S.Source.left g.S.Source.faults c.args.source.now c.args.source.now in
+    let d = formatting g.D.Disk.tells g.D.Disk.size g.D.Disk.moments g.D.Disk.faults c.args.disk c.tree-status.new.disk in
+    subst (λ (x : Option Command). IsAnswer (Ends x r d) (writing g.K.Sink.held g.K.Sink.faults c.args.sink.now c.tree-status.new.sink) c.tree-status.result) (sym is) c.tree-status.ensures.answer

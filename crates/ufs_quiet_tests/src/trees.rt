@@ -1,0 +1,123 @@
+// The trees of images: none, a new one, one with files, and disks that fail.
+use crate::calls::{Call, check_over};
+use std::alloc::Global;
+use std::process::Abort;
+use std::test::Fail;
+use ufs_base::SECTOR;
+use ufs_disk::{Disk, MemoryDisk, PlainDisk};
+
+const MADE: &str = "made 256 32 64 242\n";
+
+const NO_SUPERBLOCK: &str = "ufs: image: NoSuperblock\n";
+
+const TOO_SMALL: &str = "ufs: image: BadGeometry 5\n";
+
+// The line of a file of 65 bytes shows 64 of them.
+const FILES: &str =
+    "dir /\nfile /e 0 -\nfile /f 65 61616161616161616161616161616161616161616161616161616161616161616161616161616161616161616161616161616161616161616161616161616161+\n";
+
+// The first sectors of the inode table, and of the first two blocks of the data area.
+const INODES: u32 = 16;
+const ROOT_BLOCK: u32 = 112;
+const FILE_BLOCK: u32 = 120;
+
+// A command without words behind it, in calm.
+fn calm(words: &'static [&'static str], status: u8, text: &'static str) -> Call<'static> {
+    Call {
+        words,
+        script: "",
+        reads: &[],
+        writes: &[],
+        status,
+        text,
+    }
+}
+
+fn making() -> Call<'static> {
+    calm(&["mkfs", "256", "32", "64"], 0, MADE)
+}
+
+fn tree(status: u8, text: &'static str) -> Call<'static> {
+    calm(&["tree"], status, text)
+}
+
+fn put_sector<R: Abort>(rt: &R, disk: &mut PlainDisk, at: u32, sector: &[u8; SECTOR]) {
+    assert!(rt; at < disk.sectors() && disk.write(at, sector).is_ok());
+}
+
+// A sector with these bytes at these places, and zeros elsewhere.
+fn sector_of(bytes: &[(usize, u8)]) -> [u8; SECTOR] {
+    let mut sector = [0; SECTOR];
+    for (place, byte) in bytes {
+        if *place < SECTOR {
+            sector[*place] = *byte;
+        }
+    }
+    sector
+}
+
+// A directory of one block, a file of 65 bytes and an empty one.
+const ROOT: [(usize, u8); 6] = [(0, 2), (1, 1), (2, 1), (9, 16), (64, 14), (68, 1)];
+const FILE: [(usize, u8); 6] = [(0, 1), (1, 1), (2, 1), (8, 65), (64, 15), (68, 1)];
+const EMPTY: [(usize, u8); 2] = [(0, 1), (2, 1)];
+
+// The directory's names: `f` for the second inode and `e` for the third.
+const NAMES: [(usize, u8); 8] = [
+    (0, 2),
+    (4, 1),
+    (5, 1),
+    (6, 102),
+    (64, 3),
+    (68, 1),
+    (69, 1),
+    (70, 101),
+];
+
+fn put_files<R: Abort>(rt: &R, disk: &mut PlainDisk) {
+    put_sector(rt, disk, INODES, &sector_of(&ROOT));
+    put_sector(rt, disk, INODES + 1, &sector_of(&FILE));
+    put_sector(rt, disk, INODES + 2, &sector_of(&EMPTY));
+    put_sector(rt, disk, ROOT_BLOCK, &sector_of(&NAMES));
+    put_sector(rt, disk, FILE_BLOCK, &[97; SECTOR]);
+}
+
+#[test]
+fn a_new_image_has_the_root_alone(rt: HostRuntime) -> Result<(), Fail> {
+    let disk = PlainDisk::zeros(rt.alloc(), 2_048)?;
+    let disk = check_over(&rt, &tree(3, NO_SUPERBLOCK), disk)?;
+    let disk = check_over(&rt, &making(), disk)?;
+    check_over(&rt, &tree(0, "dir /\n"), disk)?;
+    Ok(())
+}
+
+#[test]
+fn files_are_shown(rt: HostRuntime) -> Result<(), Fail> {
+    let disk = PlainDisk::zeros(rt.alloc(), 2_048)?;
+    let mut disk = check_over(&rt, &making(), disk)?;
+    put_files(&rt, &mut disk);
+    check_over(&rt, &tree(0, FILES), disk)?;
+    Ok(())
+}
+
+#[test]
+fn the_superblock_alone_is_too_small(rt: HostRuntime) -> Result<(), Fail> {
+    let disk = PlainDisk::zeros(rt.alloc(), 2_048)?;
+    let mut disk = check_over(&rt, &making(), disk)?;
+    let mut sector = [0; SECTOR];
+    assert!(rt; disk.sectors() > 0 && disk.read(0, &mut sector).is_ok());
+    let alone = PlainDisk::new(1, sector.to_vec(rt.alloc())?);
+    check_over(&rt, &tree(3, TOO_SMALL), alone)?;
+    Ok(())
+}
+
+fn failing(alloc: Global, fails: &[u64]) -> Result<MemoryDisk, Fail> {
+    let zeros = vec![in alloc; 0u8; 2_048 * SECTOR]?;
+    Ok(MemoryDisk::new(alloc, 2_048, zeros, fails.to_vec(alloc)?)?)
+}
+
+#[test]
+fn a_fault_of_the_disk_is_told(rt: HostRuntime) -> Result<(), Fail> {
+    let disk = failing(rt.alloc(), &[0])?;
+    check_over(&rt, &tree(4, "ufs: device fault 1\n"), disk)?;
+    Ok(())
+}
