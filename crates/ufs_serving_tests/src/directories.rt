@@ -1,7 +1,6 @@
 // The blocks of a directory: what no clause says, and each call once.
 use std::alloc::Global;
-use ufs_base::Memory;
-use ufs_base::MAX_BLOCKS;
+use ufs_base::{MAX_BLOCKS, Memory};
 use ufs_dirs::{BlockFault, DirBlocks, Slot, SlotFault};
 use ufs_layout::Dentry;
 
