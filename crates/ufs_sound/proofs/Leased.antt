@@ -1,5 +1,5 @@
 -- Each state of a lease, from its grant to its return, is sound.
-use Rattle.std.proofs.Common.{◌≡◌, ◌<◌, ℕ, suc, List, [], ◌∷◌, ◌++◌, length, Some, sym, refl, subst, inl, inr, arith}
+use Rattle.std.proofs.Common.{◌≡◌, ◌<◌, ℕ, suc, [], ◌∷◌, length, Some, sym, refl, subst, inl, inr, arith}
 use Rattle.std.proofs.lemmas.List.{length-append}
 use Rattle.ufs_model.specs.Laws.{KeepsTrees, Locality, MakesOneFile}
 use Rattle.ufs_model.specs.declared.data.Actor.TheVariants.{Primary}
@@ -10,8 +10,6 @@ use Rattle.ufs_sound.specs.Draws.{MayDraw, entry_of}
 use Rattle.ufs_sound.specs.Explained.{Showing}
 use Rattle.ufs_sound.specs.Leased as Leased
 use Rattle.ufs_sound.specs.Leased.{Reading, CanBeLeased, IsLeased}
-use Rattle.ufs_sound.specs.Leasing.{HasOpen}
-use Rattle.ufs_sound.specs.LeasesTrue.{leased_file}
 use Rattle.ufs_sound.specs.Marks.{IsSingle}
 use Rattle.ufs_sound.specs.Owned.{Has}
 use Rattle.ufs_sound.specs.Parts.{View, Word, Start, spent}

@@ -1,13 +1,12 @@
 -- The condition of a draw is met by a read under a lease on a whole file, by a hand that hasn't the file.
-use Rattle.std.proofs.Common.{◌≡◌, ℕ, ◌<◌, ◌⊎◌, Bool, true, false, cond, eqb, List, [], ◌∷◌, length, Option, Some, None, is_some, is_none, not, unwrap_or, sym, refl, ap, ◌∙◌, subst, inl, inr, arith}
+use Rattle.std.proofs.Common.{◌≡◌, ℕ, ◌<◌, ◌⊎◌, Bool, true, false, cond, eqb, List, [], ◌∷◌, length, Option, Some, None, is_some, is_none, not, unwrap_or, sym, refl, ap, ◌∙◌, subst, inl, inr}
 use Rattle.std.specs.FinMap as fin
 use Rattle.ufs_base.specs.Choices.{first_of, refused_if}
-use Rattle.ufs_model.specs.PosixTree.{PosixTree, IsTree, desc_at}
+use Rattle.ufs_model.specs.PosixTree.{PosixTree, desc_at}
 use Rattle.ufs_model.specs.Posix.{served}
 use Rattle.ufs_model.specs.Refusals.{own_refusal, refusal, read_refusal}
 use Rattle.ufs_model.specs.Descriptors.{opened, closed}
 use Rattle.ufs_model.specs.FileBytes.{bytes_of, content, part}
-use Rattle.ufs_model.specs.History.{goes_on}
 use Rattle.ufs_model.specs.Touched.{IsPartOf, file_part}
 use Rattle.ufs_model.specs.declared.data.Actor.{Actor}
 use Rattle.ufs_model.specs.declared.data.Desc.{Desc}

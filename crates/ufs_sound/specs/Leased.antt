@@ -1,18 +1,17 @@
 -- A lease is granted, the file goes to another hand, its client reads under the lease, drops it, and it is given back.
-use Rattle.std.specs.Prelude.{ℕ, suc, ◌+◌, ◌<◌, ◌≡◌, true, List, [], ◌∷◌, ◌++◌, length, Some, None}
+use Rattle.std.specs.Prelude.{ℕ, suc, ◌<◌, ◌≡◌, true, [], ◌∷◌, ◌++◌, length, Some, None}
 use Rattle.std.specs.FinMap as fin
 use Rattle.ufs_model.specs.FileBytes.{part}
 use Rattle.ufs_model.specs.declared.data.Actor.TheVariants.{Primary}
 use Rattle.ufs_model.specs.declared.data.Desc.{Desc}
 use Rattle.ufs_model.specs.declared.data.Fact.TheVariants.{Holds}
 use Rattle.ufs_model.specs.declared.data.Lease.{Lease}
-use Rattle.ufs_model.specs.declared.data.Op.{Op}
 use Rattle.ufs_model.specs.declared.data.Op.TheVariants as op
 use Rattle.ufs_model.specs.declared.data.PartName.TheVariants as name
 use Rattle.ufs_model.specs.declared.data.Reply.TheVariants as reply
 use Rattle.ufs_sound.specs.declared.fresh.Fresh.{Fresh}
 use Rattle.ufs_sound.specs.Parts.{ClientPart, AskedPart, FilePart, View, Word, Start, kept_of, given_of, both_of, spent}
-use Rattle.ufs_sound.specs.Draws.{Leaves, drawn, entry_of}
+use Rattle.ufs_sound.specs.Draws.{drawn, entry_of}
 use Rattle.ufs_sound.specs.Explained.{Showing}
 use Rattle.ufs_sound.specs.Leasing.{granting, giving_back}
 use Rattle.ufs_sound.specs.Marks.{asking}
