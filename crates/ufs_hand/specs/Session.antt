@@ -1,5 +1,5 @@
 -- What a session starts from, and what its last hand knows.
-use Rattle.std.specs.Prelude.{ℕ, ◌≡◌, ◌⊎◌, false, [], ◌∷◌}
+use Rattle.std.specs.Prelude.{ℕ, ◌/◌, ◌≤◌, ◌<◌, ◌≡◌, ◌≢◌, ◌⊎◌, false, [], ◌∷◌}
 use Rattle.std.specs.FinMap as fin
 use Rattle.atomic_table.specs.Seated.{TableId}
 use Rattle.ufs_model.specs.PosixTree.{root_alone}
@@ -11,7 +11,11 @@ use Rattle.ufs_model.specs.declared.data.PartName.{PartName}
 use Rattle.ufs_model.specs.declared.data.Reply.TheVariants.{Done}
 use Rattle.ufs_sound.specs.declared.fresh.Fresh.{Fresh}
 use Rattle.ufs_sound.specs.ByImages.{by_images}
-use Rattle.ufs_sound.specs.Draws.{Leaves}
+use Rattle.ufs_sound.specs.Clock.{looked}
+use Rattle.ufs_sound.specs.Draws.{Leaves, drawn}
+use Rattle.ufs_hand.specs.declared.hand.Drawn.{Drawn}
+use Rattle.ufs_hand.specs.declared.hand.Drawn.TheVariants as drew
+use Rattle.ufs_sound.specs.Rule.{clock_step, word_at, IsSeenBy}
 use Rattle.ufs_sound.specs.Durable.{IsDurable}
 use Rattle.ufs_sound.specs.Parts.{IsDiskTold, NamesPart, StorePart, Start, View, Word, spent}
 use Rattle.ufs_sound.specs.Leasing.{MayGrant, granting, MayGiveBack, giving_back}
@@ -43,6 +47,15 @@ pub record KnowsAll (k : Start) (tickets clock : ℕ) (v : View) : Type 0 where
   pub has_store : v.store ≡ (tt, store) ∷ []
   pub whole : IsWhole by_images k (word_of tickets clock) v store
   pub durable : IsDiskTold k → IsDurable k (word_of tickets clock) v store
+
+-- ---- a draw under a lease
+
+-- What a draw leaves that rests on a lease until that clock. The hand reads the word: where the lease lives at its clock, the
+-- entry is drawn as long as the word is still that one.
+abbrev pub DrewLocal : ℕ → Fresh → Leaves → View → Drawn → View → Type 0
+DrewLocal until f l v (drew.Ticket ticket) w = (clock : ℕ) × (clock < until) × (v.clock ≤ clock) × (v.seen ≤ ticket) × (w ≡ drawn ticket f l (looked (word_of ticket clock) v))
+DrewLocal until f l v (drew.Expired now) w = (tickets : ℕ) × (until ≤ now) × (v.clock ≤ now) × (v.seen ≤ tickets) × (w ≡ looked (word_of tickets now) v)
+DrewLocal until f l v (drew.Lost found) w = (read : ℕ) × (found ≢ read) × (read / clock_step < until) × IsSeenBy read v × (w ≡ looked (word_at read) v)
 
 -- ---- what a mark may leave
 

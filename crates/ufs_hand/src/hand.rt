@@ -1,20 +1,21 @@
 // The hands of one session, and the table that they share.
-ghost use Rattle.std.specs.Prelude.{◌≡◌, ◌≤◌, ◌/◌, ◌%◌, [], ◌∷◌, IfOk};
-ghost use Rattle.ufs_sound.specs.Rule.{clock_step, MayTick};
+ghost use Rattle.std.specs.Prelude.{◌≡◌, ◌≢◌, ◌≤◌, ◌<◌, ◌/◌, ◌%◌, [], ◌∷◌, IfOk};
+ghost use Rattle.ufs_sound.specs.Rule.{clock_step, word_at, IsSeenBy, MayTick};
 ghost use Rattle.ufs_sound.specs.Clock.{looked, ticked};
 ghost use Rattle.ufs_sound.specs.Parts.{NamesPart, HoldsPart, kept_of, given_of, both_of};
 ghost use Rattle.ufs_sound.specs.Draws.{MayDraw, drawn};
 ghost use Rattle.ufs_sound.specs.Whole.{HoldsAll};
-ghost use Rattle.ufs_hand.specs.Session.{first_view, word_of, CanBegin, IsEvent, KnowsAll};
+ghost use Rattle.ufs_hand.specs.Session.{first_view, word_of, CanBegin, DrewLocal, IsEvent, KnowsAll};
 
 use crate::rule::{
-    Board, Cut, Drawing, Draws, Event, Glue, Leaving, Looks, Marks, Naming, Parts, Picked, Ticks,
+    Board, Cut, Drawing, Draws, DrawsAt, Event, Glue, Leaving, Looks, Marks, Naming, Parts, Picked,
+    Ticks,
 };
 use atomic_table::{Closed, Seat, Table};
 use std::alloc::{AllocError, Global};
 use std::marker::{Brand, Model, PhantomData};
 use ufs_model::{
-    PartName, a_request_is_local, a_request_keeps_the_tree, a_request_makes_one_file_at_most,
+    Lease, PartName, a_request_is_local, a_request_keeps_the_tree, a_request_makes_one_file_at_most,
 };
 use ufs_sound::{Fresh, Knowledge};
 
@@ -113,6 +114,17 @@ pub struct Whole {
     pub clock: u32,
 }
 
+/// How a draw under a lease went.
+#[derive(Clone, Copy)]
+pub enum Drawn {
+    /// The ticket of the entry.
+    Ticket(u64),
+    /// The lease had ended by the clock, and nothing was drawn.
+    Expired { now: u32 },
+    /// The word had become this one since it was read, and nothing was drawn.
+    Lost { found: u64 },
+}
+
 impl Opened {
     /// A session that starts from these parts, with ticket and clock 0. Only this call takes memory.
     pub fn open(alloc: Global, parts: Parts) -> Result<Opened, AllocError>
@@ -196,6 +208,60 @@ impl<N: Naming> Hand<N> {
             .shared
             .fetch_add::<Draws<F, L>>(&mut self.seat, 0, 1);
         word % CLOCK
+    }
+
+    /// The next ticket, for an entry that a client makes itself under a lease that is among its copies. The hand has read
+    /// the clock then.
+    pub fn draw_local<L: Leaving>(
+        &mut self,
+        table: &HandTable<N>,
+        lease: &Lease,
+        fresh: &Fresh,
+    ) -> Drawn
+        requires { MayDraw fresh.now self.old L.leaves (lease.now ∷ []) }
+        ensures { DrewLocal lease.now.until fresh.now L.leaves self.old result self.new }
+    {
+        let word = self.read(table);
+        let now = (word / CLOCK) as u32;
+        if lease.until <= now {
+            return Drawn::Expired { now };
+        }
+        let found = self.exchange_as::<Brand, L>(table, lease, fresh, word);
+        if found != word {
+            return Drawn::Lost { found };
+        }
+        Drawn::Ticket(word % CLOCK)
+    }
+
+    fn read(&mut self, table: &HandTable<N>) -> u64
+        ensures parts { self.new ≡ looked (word_at result) self.old }
+        ensures seen { IsSeenBy result self.old }
+    {
+        table.table.shared.load::<Looks>(&mut self.seat, 0)
+    }
+
+    fn exchange_as<F: Drawing, L: Leaving>(
+        &mut self,
+        table: &HandTable<N>,
+        lease: &Lease,
+        fresh: &Fresh,
+        word: u64,
+    ) -> u64
+        requires fresh { fresh.now ≡ F.fresh }
+        requires may { MayDraw fresh.now self.old L.leaves (lease.now ∷ []) }
+        requires live { word / clock_step < lease.now.until }
+        ensures drawn { result ≡ word → self.new ≡ drawn (word % clock_step) fresh.now L.leaves self.old }
+        ensures lost { result ≢ word → self.new ≡ self.old }
+    {
+        let _ = lease;
+        let _ = fresh;
+        a_request_keeps_the_tree();
+        a_request_is_local();
+        a_request_makes_one_file_at_most();
+        table
+            .table
+            .shared
+            .compare_exchange::<DrawsAt<F, L>>(&mut self.seat, 0, word, word.wrapping_add(1))
     }
 
     /// The parts go on by an event that has no entry. Answers the word.

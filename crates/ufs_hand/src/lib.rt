@@ -4,5 +4,5 @@
 mod hand;
 mod rule;
 
-pub use hand::{Begun, Hand, HandTable, Now, Opened, Whole};
+pub use hand::{Begun, Drawn, Hand, HandTable, Now, Opened, Whole};
 pub use rule::{Event, Leaving, Naming, Opening, Parts};

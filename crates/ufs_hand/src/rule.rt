@@ -159,6 +159,18 @@ impl<F: Drawing, L: Leaving> Play<(), Knowledge> for Draws<F, L> {
     ghost then = { λ s v n w. Drew F.fresh L.leaves v n w };
 }
 
+// A draw that is made only while the word is as it was read.
+pub(crate) struct DrawsAt<F, L> {
+    fresh: PhantomData<F>,
+    leaves: PhantomData<L>,
+}
+
+impl<F: Drawing, L: Leaving> Play<(), Knowledge> for DrawsAt<F, L> {
+    ghost use Rattle.ufs_sound.specs.Rule.{DrewAt};
+
+    ghost then = { λ s v n w. DrewAt s.first F.fresh L.leaves v n w };
+}
+
 pub(crate) struct Marks<E> {
     event: PhantomData<E>,
 }

@@ -1,5 +1,5 @@
 -- The condition of a draw is met: by a request that lacks memory, and by a read of a held file.
-use Rattle.std.proofs.Common.{◌≡◌, ℕ, ◌<◌, ◌≤◌, ◌⊎◌, Bool, true, false, cond, eqb, [], ◌∷◌, ◌++◌, length, Option, Some, None, is_some, is_none, not, unwrap_or, ◌||◌, sym, refl, ap, ◌∙◌, subst, inl, inr, ⊎_elim, arith, append-nil}
+use Rattle.std.proofs.Common.{◌≡◌, ℕ, ◌<◌, ◌≤◌, ◌⊎◌, Bool, true, false, cond, eqb, List, [], ◌∷◌, ◌++◌, length, Option, Some, None, is_some, is_none, not, unwrap_or, ◌||◌, sym, refl, ap, ◌∙◌, subst, inl, inr, ⊎_elim, arith, append-nil}
 use Rattle.std.specs.Prelude.{slice_get}
 use Rattle.std.specs.FinMap as fin
 use native.Mathlib.Decide.{dec_le}
@@ -13,6 +13,7 @@ use Rattle.ufs_model.specs.Touched.{touched_parts, IsPartOf}
 use Rattle.ufs_model.specs.declared.data.Desc.{Desc}
 use Rattle.ufs_model.specs.declared.data.Errno.{Errno}
 use Rattle.ufs_model.specs.declared.data.Errno.TheVariants as errno
+use Rattle.ufs_model.specs.declared.data.Lease.{Lease}
 use Rattle.ufs_model.specs.declared.data.Op.{Op}
 use Rattle.ufs_model.specs.declared.data.Op.TheVariants as op
 use Rattle.ufs_model.specs.declared.data.Actor.{Actor}
@@ -47,13 +48,13 @@ pub record IsKnownOn (f : Fresh) (v : View) (t : PosixTree) : Type 0 where
 
 module _ (f : Fresh) (v : View) (single : IsSingle v) (self : ClientPart) (client : Has (f.client, self) v.clients) (low : f.client < 16) (seq : f.seq ≡ length self.entries) (asked : self.asked ≡ Some f.op)
     (device : (n : ℕ) → f.reply ≡ reply.Excused (excuse.Device n) → ⊥) (stopped : (n : ℕ) → f.reply ≡ reply.Excused (excuse.Stopped n) → ⊥) (short : (a b : ℕ) → f.reply ≡ reply.Excused (excuse.Blocks a b) → ⊥)
-    (quiet : (t : PosixTree) → IsTree t → IsIn v t → IsQuietOn f v t) (known : (t : PosixTree) → IsIn v t → IsKnownOn f v t) where
+    (leased : List Lease) (copied : (x : Lease) → Has x leased → Has x self.copies) (quiet : (t : PosixTree) → IsTree t → IsIn v t → ((x : Lease) → Has x leased → IsTrueOf t x.part x.fact) → IsQuietOn f v t) (known : (t : PosixTree) → IsIn v t → IsKnownOn f v t) where
   abbrev same : Leaves
   same = record { fds = self.fds; files = v.files; names = v.names }
 
-  draws : (t : PosixTree) → IsTree t → IsIn v t → DrawsOn f self v same t
-  draws t is within =
-      let q = quiet t is within in
+  draws : (t : PosixTree) → IsTree t → IsIn v t → ((x : Lease) → Has x leased → IsTrueOf t x.part x.fact) → DrawsOn f self v same t
+  draws t is within live' =
+      let q = quiet t is within live' in
       record {
         replied = q.replied;
         touched = q.touched;
@@ -84,15 +85,15 @@ module _ (f : Fresh) (v : View) (single : IsSingle v) (self : ClientPart) (clien
   same_file : (g : ℕ) (x y : FilePart) → Has (g, x) v.files → Has (g, y) v.files → x ≡ y
   same_file g x y a b = same_some x y (sym (has_find eqb itself alike g x v.files (single.files g) a) ∙ has_find eqb itself alike g y v.files (single.files g) b)
 
-  pub known_may_draw : MayDraw f v same []
+  pub known_may_draw : MayDraw f v same leased
   known_may_draw = record {
     self = self;
     client = client;
     low = low;
     seq = seq;
     asked = asked;
-    on = λ t is within live. draws t is within;
-    copies = λ x none. absurd none;
+    on = λ t is within live. draws t is within live;
+    copies = copied;
     names = λ u. refl;
     others = λ n ne. refl;
     blocks = λ b. refl;
@@ -109,7 +110,7 @@ module _ (f : Fresh) (v : View) (single : IsSingle v) (self : ClientPart) (clien
     (device : (n : ℕ) → f.reply ≡ reply.Excused (excuse.Device n) → ⊥) (stopped : (n : ℕ) → f.reply ≡ reply.Excused (excuse.Stopped n) → ⊥) (short : (a b : ℕ) → f.reply ≡ reply.Excused (excuse.Blocks a b) → ⊥) (undone : f.reply ≡ reply.Done → ⊥)
     (quiet : (t : PosixTree) → IsTree t → IsIn v t → IsQuietOn f v t) where
   pub may_draw : MayDraw f v (record { fds = self.fds; files = v.files; names = v.names }) []
-  may_draw = known_may_draw f v single self client low seq asked device stopped short quiet (λ t within. record { synced = λ done. absurd (undone done); synced_names = λ done. absurd (undone done); synced_birth = λ done. absurd (undone done) })
+  may_draw = known_may_draw f v single self client low seq asked device stopped short [] (λ x none. absurd none) (λ t is within live. quiet t is within) (λ t within. record { synced = λ done. absurd (undone done); synced_names = λ done. absurd (undone done); synced_birth = λ done. absurd (undone done) })
 
 -- ---- want of memory: the client's part is enough
 
@@ -212,8 +213,8 @@ module _ (client seq fd g : ℕ) (by : Actor) (v : View) (single : IsSingle v) (
         no e = cc
 
   pub sync_may_draw : MayDraw syncing v (record { fds = self.fds; files = v.files; names = v.names }) []
-  sync_may_draw = known_may_draw syncing v single self has low next asked (λ n e. cc) (λ n e. cc) (λ a b e. cc)
-      (λ t is within. record {
+  sync_may_draw = known_may_draw syncing v single self has low next asked (λ n e. cc) (λ n e. cc) (λ a b e. cc) [] (λ x none. absurd none)
+      (λ t is within live. record {
         replied = inl (sym (ap (λ o. (served t client (op.Fsync fd) o).1) (sync_allowed t within)));
         touched = λ e. sync_touches t within (is_some (Rattle.ufs_model.specs.Refusals.own_refusal t client (op.Fsync fd)));
         stays = sync_stays t within (refusal t client (op.Fsync fd));

@@ -1,5 +1,5 @@
 -- The rule of the table that the hands of a session share: its word, and the views of its seats.
-use Rattle.std.specs.Prelude.{ℕ, ◌+◌, ◌*◌, ◌/◌, ◌%◌, ◌≤◌, ◌<◌, ◌≡◌, List, [], ◌∷◌}
+use Rattle.std.specs.Prelude.{ℕ, ◌+◌, ◌*◌, ◌/◌, ◌%◌, ◌≤◌, ◌<◌, ◌≡◌, ◌≢◌, List, [], ◌∷◌}
 use Rattle.atomic_table.specs.Table.{State}
 use Rattle.ufs_sound.specs.declared.fresh.Fresh.{Fresh}
 use Rattle.ufs_sound.specs.Parts.{NamesPart, View, Word, Start}
@@ -24,6 +24,10 @@ pub record IsRuled (S : Showing) (k : Start) (s : State (Unit {0}) View) : Type 
 -- what a draw leaves: the old low 40 bits are the ticket
 abbrev pub Drew : Fresh → Leaves → View × List (ℕ × Unit {0}) → ℕ → View × List (ℕ × Unit {0}) → Type 0
 Drew f l v n w = (w ≡ (drawn (n % clock_step) f l v.0, v.1)) × (v.0.seen ≤ n % clock_step)
+
+-- what a draw leaves that is made only while the word is still this one: else nothing
+abbrev pub DrewAt : ℕ → Fresh → Leaves → View × List (ℕ × Unit {0}) → ℕ → View × List (ℕ × Unit {0}) → Type 0
+DrewAt old f l v n w = (n ≡ old → w ≡ (drawn (old % clock_step) f l v.0, v.1)) × (n ≢ old → w ≡ v)
 
 -- what a mark leaves: it may look at the tickets
 abbrev pub Marked : (ℕ → View) → View × List (ℕ × Unit {0}) → ℕ → View × List (ℕ × Unit {0}) → Type 0

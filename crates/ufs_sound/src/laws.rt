@@ -10,6 +10,7 @@ ghost use Rattle.ufs_sound.specs.Refused.{DrawsNeedTheirParts, DrawsTakeTheWords
 ghost use Rattle.ufs_sound.specs.Session.{NewDiskServes};
 ghost use Rattle.ufs_sound.specs.FileSession.{FilesAreServed, BlindFilesMayBeWritten, HasOneFile, small_disk};
 ghost use Rattle.ufs_sound.specs.Synced.{WritesAreSynced};
+ghost use Rattle.ufs_sound.specs.Leased.{LeasesAreServed};
 ghost use Rattle.ufs_layout.specs.Areas.{IsGeometry};
 ghost use Rattle.ufs_sound.specs.Durable.{StoresAreExplained, ImagesAreExplained};
 ghost use Rattle.ufs_sound.specs.Laws.{BeginIsSound, SplitKeeps, JoinKeeps, DrawKeeps, AskKeeps, RemakeKeeps, GrantKeeps, GiveBackKeeps, CloseIsWhole, LookKeeps, TickKeeps, MovesAreMarks, TurnsAreMarks, TellsAreMarks, CommitsAreMarks, NameCommitsAreMarks, FailedCommitsAreMarks, CheckpointsAreMarks, AnswersAreMarks, HandsKnow};
@@ -179,6 +180,16 @@ pub fn a_short_session_is_sound(geometry: &Geometry)
 /// A file is written by its client, committed, and synced: each state is sound, to the one with the acknowledged `fsync`.
 pub fn a_write_is_synced<P: Promise>()
     ensures { WritesAreSynced P.shows }
+{
+    a_request_is_local();
+    a_request_keeps_the_tree();
+    a_request_makes_one_file_at_most();
+}
+
+/// A lease on a file is granted to its client, which reads under it while another hand has the file, drops it, and gives it
+/// back: each state is sound.
+pub fn a_lease_is_served<P: Promise>()
+    ensures { LeasesAreServed P.shows }
 {
     a_request_is_local();
     a_request_keeps_the_tree();
