@@ -18,7 +18,9 @@ const FILES: &str =
 
 // The first sectors of the inode table, and of the first two blocks of the data area.
 const INODES: u32 = 16;
+
 const ROOT_BLOCK: u32 = 112;
+
 const FILE_BLOCK: u32 = 120;
 
 // A command without words behind it, in calm.
@@ -58,7 +60,9 @@ fn sector_of(bytes: &[(usize, u8)]) -> [u8; SECTOR] {
 
 // A directory of one block, a file of 65 bytes and an empty one.
 const ROOT: [(usize, u8); 6] = [(0, 2), (1, 1), (2, 1), (9, 16), (64, 14), (68, 1)];
+
 const FILE: [(usize, u8); 6] = [(0, 1), (1, 1), (2, 1), (8, 65), (64, 15), (68, 1)];
+
 const EMPTY: [(usize, u8); 2] = [(0, 1), (2, 1)];
 
 // The directory's names: `f` for the second inode and `e` for the third.
