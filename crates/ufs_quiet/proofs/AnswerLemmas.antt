@@ -9,7 +9,7 @@ use Rattle.ufs_script.specs.declared.fault.ScriptFault.{ScriptFault}
 use Rattle.ufs_script.specs.declared.fault.ScriptFault.TheVariants as fault
 use Rattle.ufs_script.specs.declared.script.Script.{Script}
 use Rattle.ufs_quiet.specs.declared.ending.Ending.{Ending}
-use Rattle.ufs_quiet.specs.declared.ending.Ending.TheVariants.{Done, Usage, BadGeometry, NotBuilt, BadScript, TooSmall, NoTree, DeviceFault, OutOfMemory, SourceFault}
+use Rattle.ufs_quiet.specs.declared.ending.Ending.TheVariants.{Done, Usage, BadGeometry, NotBuilt, BadScript, TooSmall, NoTree, DeviceFault, OutOfMemory, SourceFault, Damaged}
 use Rattle.ufs_quiet.specs.Texts.{AreFirstLines}
 use Rattle.ufs_quiet.specs.Seen.{Reading, Writing}
 use Rattle.ufs_quiet.specs.Served.{IsHistoryOf, replies_text}
@@ -62,6 +62,7 @@ served_by script history lines is all NoTree text e = absurd e
 served_by script history lines is all DeviceFault text e = absurd e
 served_by script history lines is all OutOfMemory text e = inr (history, e.0, is, subst (AreFirstLines e.0) all e.1, e.2)
 served_by script history lines is all SourceFault text e = absurd e
+served_by script history lines is all Damaged text e = absurd e
 
 -- a script that is served was read
 pub read_and_served : (r : Reading) (script : Script) → ReadsScript r.left r.rest script → (ending : Ending) (text : List ℕ) → EndsServing script ending text → EndsPlay r ending text
@@ -76,6 +77,7 @@ read_and_served r script read DeviceFault text e = absurd e
 read_and_served r script read OutOfMemory text e =
     elim e [ inl none ↦ inl none | inr some ↦ inr (script, some.0, some.1, record { read = read; history_is = some.2 }, some.3, some.4) ]
 read_and_served r script read SourceFault text e = absurd e
+read_and_served r script read Damaged text e = absurd e
 
 -- there was no memory before the first line
 pub no_memory : (r : Reading) (ending : Ending) (text : List ℕ) → IsFixed OutOfMemory ending text → EndsPlay r ending text

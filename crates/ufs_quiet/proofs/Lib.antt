@@ -8,3 +8,5 @@ pub mod MkfsLemmas
 pub mod ResponseLemmas
 pub mod TextLemmas
 pub mod TreeLemmas
+pub mod DamageLemmas
+pub mod CheckLemmas

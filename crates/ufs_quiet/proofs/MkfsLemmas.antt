@@ -5,7 +5,7 @@ use Rattle.ufs_layout.specs.Areas.{geometry_refusal, sector_count}
 use Rattle.ufs_layout.specs.declared.geometry.Geometry.{Geometry}
 use Rattle.ufs_base.specs.Faults.{RoseTo}
 use Rattle.ufs_quiet.specs.declared.ending.Ending.{Ending}
-use Rattle.ufs_quiet.specs.declared.ending.Ending.TheVariants.{Done, Usage, BadGeometry, NotBuilt, BadScript, TooSmall, NoTree, DeviceFault, OutOfMemory, SourceFault}
+use Rattle.ufs_quiet.specs.declared.ending.Ending.TheVariants.{Done, Usage, BadGeometry, NotBuilt, BadScript, TooSmall, NoTree, DeviceFault, OutOfMemory, SourceFault, Damaged}
 use Rattle.ufs_quiet.specs.declared.words.Command.{Command}
 use Rattle.ufs_quiet.specs.declared.words.Command.TheVariants as command
 use Rattle.ufs_quiet.specs.Commands.{mkfs_command, IsMkfs}
@@ -41,6 +41,7 @@ module _ (g : Geometry) (d : Formatting) (taken : geometry_refusal g ≡ None) (
   ends_well DeviceFault text e = absurd (calm e.2)
   ends_well OutOfMemory text e = inr refl
   ends_well SourceFault text e = absurd e
+  ends_well Damaged text e = absurd e
 
   pub mkfs_complete : (words : Option Command) (r : Reading) (w : Writing) (status : ℕ) → IsAnswer (Ends words r d) w status
       → words ≡ mkfs_command g → (w.now ≡ raised w.before → ⊥) → (status ≡ 0) ⊎ (status ≡ 5)

@@ -9,7 +9,7 @@ use Rattle.ufs_script.specs.Script.{script_of, max_script}
 use Rattle.ufs_script.specs.declared.script.Script.{Script}
 use Rattle.ufs_script.specs.declared.fault.ScriptFault.{ScriptFault}
 use Rattle.ufs_quiet.specs.declared.ending.Ending.{Ending}
-use Rattle.ufs_quiet.specs.declared.ending.Ending.TheVariants.{Done, Usage, BadGeometry, NotBuilt, BadScript, TooSmall, NoTree, DeviceFault, OutOfMemory, SourceFault}
+use Rattle.ufs_quiet.specs.declared.ending.Ending.TheVariants.{Done, Usage, BadGeometry, NotBuilt, BadScript, TooSmall, NoTree, DeviceFault, OutOfMemory, SourceFault, Damaged}
 use Rattle.ufs_quiet.specs.declared.words.Command.{Command}
 use Rattle.ufs_quiet.specs.declared.words.Command.TheVariants as command
 use Rattle.ufs_quiet.specs.Served.{IsServed, replies_text}
@@ -43,6 +43,7 @@ module _ (r : Reading) (held_old held_new : Option (List ℕ)) where
   done_by DeviceFault text zero e a = absurd e
   done_by OutOfMemory text zero e a = cc
   done_by SourceFault text zero e a = cc
+  done_by Damaged text zero e a = cc
 
 module _ (alike : LongerIsAlike) (text : List ℕ) (r : Reading) (left : r.left ≡ Some text) (calm : r.now ≡ raised r.before → ⊥) where
   alike_read : (read : List ℕ) → HasRead r.left r.rest read → script_of read ≡ script_of text
@@ -60,6 +61,7 @@ module _ (alike : LongerIsAlike) (text : List ℕ) (r : Reading) (left : r.left 
   served_by script is DeviceFault out e = absurd e
   served_by script is OutOfMemory out e = inr refl
   served_by script is SourceFault out e = absurd (calm e.0)
+  served_by script is Damaged out e = absurd e
 
   -- a text that is no script is told with its first break, or memory runs out
   pub broken_by : (f : ScriptFault) → script_of text ≡ Err f → (held_old held_new : Option (List ℕ)) (ending : Ending) (out : List ℕ) → EndsPlay r ending out → Appends held_old held_new out
@@ -79,6 +81,7 @@ module _ (alike : LongerIsAlike) (text : List ℕ) (r : Reading) (left : r.left 
   broken_by f is held_old held_new DeviceFault out e a = absurd e
   broken_by f is held_old held_new OutOfMemory out e a = inr refl
   broken_by f is held_old held_new SourceFault out e a = absurd (calm e.0)
+  broken_by f is held_old held_new Damaged out e a = absurd e
 
 -- ---- of the whole answer, where the words are `play`
 

@@ -11,7 +11,7 @@ use Rattle.ufs_catalog.specs.declared.fault.RecoverFault.{RecoverFault}
 use Rattle.ufs_catalog.specs.declared.fault.RecoverFault.TheVariants as recover
 use Rattle.ufs_opening.specs.Told.{HasCommits, TellsWhy}
 use Rattle.ufs_quiet.specs.declared.ending.Ending.{Ending}
-use Rattle.ufs_quiet.specs.declared.ending.Ending.TheVariants.{Done, Usage, BadGeometry, NotBuilt, BadScript, TooSmall, NoTree, DeviceFault, OutOfMemory, SourceFault}
+use Rattle.ufs_quiet.specs.declared.ending.Ending.TheVariants.{Done, Usage, BadGeometry, NotBuilt, BadScript, TooSmall, NoTree, DeviceFault, OutOfMemory, SourceFault, Damaged}
 use Rattle.ufs_quiet.specs.declared.words.Command.{Command}
 use Rattle.ufs_quiet.specs.declared.words.Command.TheVariants as command
 use Rattle.ufs_quiet.specs.Texts.{device_line}
@@ -31,6 +31,7 @@ tree_shown d tree stands calm NoTree text e = absurd e
 tree_shown d tree stands calm DeviceFault text e = absurd e
 tree_shown d tree stands calm OutOfMemory text e = (calm, inr (tree, e.0, stands, e.1, e.2))
 tree_shown d tree stands calm SourceFault text e = absurd e
+tree_shown d tree stands calm Damaged text e = absurd e
 
 -- why there is none is told
 pub tree_refused : (d : Formatting) (f : RecoverFault) → HasFaultCause d.before d.now f → (IsTrue d.tells → TellsWhy d.sectors d.image f) → EndsTree d (ending_of f) (line_of f)
@@ -81,6 +82,7 @@ by_status d status NoTree text is e = refused is (e.1, e.2, e.3)
 by_status d status DeviceFault text is e = device is e.0
 by_status d status OutOfMemory text is e = memory is
 by_status d status SourceFault text is e = absurd e
+by_status d status Damaged text is e = absurd e
 
 shown_by : (d : Formatting) (status : ℕ) (text : List ℕ) → status ≡ 0 → ByStatus d status text → Shown d text
 shown_by d status text zero (shown is s) = s

@@ -86,10 +86,6 @@ abbrev pub bench_of : List (List ℕ) → Option Command
 bench_of [] = None
 bench_of (seed ∷ words) = bench_with (number_up_to most_u32 seed) (options_of words)
 
--- `recover` and `check`, which aren't built
-abbrev pub is_plain : List ℕ → Bool
-is_plain name = bytes_eq name (codes "recover") || bytes_eq name (codes "check")
-
 -- The command that the words are. `run` waits for others, so it is none for a call that waits for nobody.
 abbrev pub command_of : List (List ℕ) → Option Command
 command_of [] = None
@@ -97,8 +93,9 @@ command_of (name ∷ words) =
     if bytes_eq name (codes "mkfs") then mkfs_of words
     else (if bytes_eq name (codes "play") then play_with (options_of words)
     else (if bytes_eq name (codes "tree") then plain_with command.Tree (options_of words)
-    else (if is_plain name then plain_with command.NotBuilt (options_of words)
-    else (if bytes_eq name (codes "bench") then bench_of words else None))))
+    else (if bytes_eq name (codes "check") then plain_with command.Check (options_of words)
+    else (if bytes_eq name (codes "recover") then plain_with command.NotBuilt (options_of words)
+    else (if bytes_eq name (codes "bench") then bench_of words else None)))))
 
 -- the command that a program's words are
 abbrev pub asked : {Z : Type 0} → List (String Z) → Option Command

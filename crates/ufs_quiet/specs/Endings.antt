@@ -5,22 +5,25 @@ use Rattle.ufs_base.specs.Faults.{raised}
 use Rattle.ufs_layout.specs.Areas.{geometry_refusal, sector_count}
 use Rattle.ufs_layout.specs.declared.geometry.Geometry.{Geometry}
 use Rattle.ufs_model.specs.declared.data.Entry.{Entry}
-use Rattle.ufs_image.specs.Opens.{ImageTree, opens}
+use Rattle.ufs_image.specs.Damage.{Damage}
+use Rattle.ufs_image.specs.Opens.{ImageTree, opens, damage_list}
 use Rattle.ufs_image.specs.Volume.{Refusal}
 use Rattle.ufs_image.specs.Volume as image
 use Rattle.ufs_catalog.specs.declared.fault.RecoverFault.{RecoverFault}
 use Rattle.ufs_catalog.specs.declared.fault.RecoverFault.TheVariants as recover
 use Rattle.ufs_opening.specs.Told.{HasCommits}
+use Rattle.ufs_check.specs.Refused.{IsCheckRefusal}
 use Rattle.ufs_script.specs.Reading.{ReadsBreak}
 use Rattle.ufs_script.specs.declared.script.Script.{Script}
 use Rattle.ufs_script.specs.declared.fault.ScriptFault.{ScriptFault}
 use Rattle.ufs_script.specs.declared.fault.ScriptFault.TheVariants as fault
 use Rattle.ufs_script.specs.Script.{IsOutside}
 use Rattle.ufs_quiet.specs.declared.ending.Ending.{Ending}
-use Rattle.ufs_quiet.specs.declared.ending.Ending.TheVariants.{Done, Usage, BadGeometry, NotBuilt, BadScript, TooSmall, NoTree, DeviceFault, OutOfMemory, SourceFault}
+use Rattle.ufs_quiet.specs.declared.ending.Ending.TheVariants.{Done, Usage, BadGeometry, NotBuilt, BadScript, TooSmall, NoTree, DeviceFault, OutOfMemory, SourceFault, Damaged}
 use Rattle.ufs_quiet.specs.declared.words.Command.{Command}
 use Rattle.ufs_quiet.specs.declared.words.Command.TheVariants as command
 use Rattle.ufs_quiet.specs.Texts.{IsFront, AreFirstLines, usage_line, bad_geometry_line, not_built_line, break_line, too_small_line, device_line, memory_line, source_line, made_line}
+use Rattle.ufs_quiet.specs.DamageLines.{clean_line, damage_lines}
 use Rattle.ufs_quiet.specs.TreeLines.{tree_lines, refusal_line}
 use Rattle.ufs_quiet.specs.Seen.{Reading, Writing, Formatting}
 use Rattle.ufs_quiet.specs.Served.{IsServed, IsHistoryOf, replies_text}
@@ -36,6 +39,7 @@ status_of NoTree = 3
 status_of DeviceFault = 4
 status_of OutOfMemory = 5
 status_of SourceFault = 6
+status_of Damaged = 8
 
 -- the status of a sink's fault, whatever else happened
 abbrev pub sink_status : ℕ
@@ -53,6 +57,7 @@ fixed_line_of NoTree = []
 fixed_line_of DeviceFault = []
 fixed_line_of OutOfMemory = memory_line
 fixed_line_of SourceFault = source_line
+fixed_line_of Damaged = []
 
 -- ---- what a script ends with
 
@@ -142,6 +147,28 @@ EndsTree d OutOfMemory text = (d.now ≡ d.before) × ((text ≡ memory_line)
     ⊎ ((tree : ImageTree) × (front : List ℕ) × StandsFor d tree × AreFirstLines front (tree_lines tree) × (text ≡ front ++ memory_line)))
 EndsTree d _ text = ⊥
 
+-- ---- what a check ends with
+
+-- the lines of a list of damage, or that there is none
+abbrev pub EndsListing : List Damage → Ending → List ℕ → Type 0
+EndsListing list Done text = (list ≡ []) × (text ≡ clean_line)
+EndsListing list Damaged text = (list ≢ []) × (text ≡ damage_lines list)
+EndsListing list _ text = ⊥
+
+-- The disk, if it tells what it holds, is an image with this damage.
+abbrev pub HasDamage : Formatting → List Damage → Type 0
+HasDamage d list = IsTrue d.tells → damage_list d.sectors d.image ≡ Ok list
+
+-- What is seen of the disk allows `check` this ending with this text.
+abbrev pub EndsCheck : Formatting → Ending → List ℕ → Type 0
+EndsCheck d Done text = (d.now ≡ d.before) × HasDamage d [] × (text ≡ clean_line)
+EndsCheck d Damaged text = (d.now ≡ d.before) × (list : List Damage) × (list ≢ []) × HasDamage d list × (text ≡ damage_lines list)
+EndsCheck d NoTree text = (d.now ≡ d.before) × (refusal : Refusal) × (IsTrue d.tells → damage_list d.sectors d.image ≡ Err refusal) × (text ≡ refusal_line refusal)
+EndsCheck d NotBuilt text = (d.now ≡ d.before) × (IsTrue d.tells → IsCheckRefusal d.sectors d.image recover.NotBuilt) × (text ≡ not_built_line)
+EndsCheck d DeviceFault text = (d.now ≡ raised d.before) × (text ≡ device_line d.now)
+EndsCheck d OutOfMemory text = (d.now ≡ d.before) × (text ≡ memory_line)
+EndsCheck d _ text = ⊥
+
 -- ---- what any words end with
 
 -- What is seen of the source and of the disk allows a command this ending with this text.
@@ -150,6 +177,7 @@ Ends None r d ending text = IsFixed Usage ending text
 Ends (Some command.NotBuilt) r d ending text = IsFixed NotBuilt ending text
 Ends (Some command.Play) r d ending text = EndsPlay r ending text
 Ends (Some command.Tree) r d ending text = EndsTree d ending text
+Ends (Some command.Check) r d ending text = EndsCheck d ending text
 Ends (Some (command.Mkfs blocks inodes journal)) r d ending text = EndsMkfs (record { blocks = blocks; inodes = inodes; journal = journal }) d ending text
 
 -- A status, and what the sink got: the whole text of an ending that is allowed, or with one fault of the sink a front

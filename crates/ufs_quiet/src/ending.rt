@@ -27,6 +27,8 @@ pub enum Ending {
     OutOfMemory,
     /// The source failed.
     SourceFault,
+    /// Something is damaged in the image.
+    Damaged,
 }
 
 fn bad_geometry(bad: BadGeometry) -> &'static [u8]
@@ -59,6 +61,7 @@ impl Ending {
             Ending::DeviceFault => 4,
             Ending::OutOfMemory => 5,
             Ending::SourceFault => 6,
+            Ending::Damaged => 8,
         }
     }
 
@@ -78,6 +81,7 @@ impl Ending {
             Ending::DeviceFault => b"",
             Ending::OutOfMemory => b"ufs: out of memory\n",
             Ending::SourceFault => b"ufs: source fault\n",
+            Ending::Damaged => b"",
         }
     }
 }

@@ -2,6 +2,8 @@
 #![tactic(auto)]
 
 mod broken;
+mod check;
+mod damage_lines;
 mod ending;
 mod finish;
 mod image;

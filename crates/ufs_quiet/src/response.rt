@@ -55,10 +55,11 @@ pub fn respond<S: Source, K: Sink, D: Disk>(
         → IsNewDisk g (D.size disk) (D.moments result.disk).state }
     ensures crash { IsTrue D.tells → (g : Geometry) → command_for words.now ≡ mkfs_command g
         → LeavesOnly D.keeps (IsStopped g (D.size disk) (D.moments disk).state) (D.moments disk) (D.moments result.disk) }
-    // What is no `mkfs` leaves the disk, and so does want of memory; `tree` only reads it.
-    ensures unwritten { ¬ (IsMkfs (command_for words.now)) → command_for words.now ≢ Some command.Tree → result.disk ≡ disk }
-    ensures starved { result.status ≡ 5 → command_for words.now ≢ Some command.Tree → result.disk ≡ disk }
+    // What is no `mkfs` leaves the disk, and so does want of memory; `tree` and `check` only read it.
+    ensures unwritten { ¬ (IsMkfs (command_for words.now)) → command_for words.now ≢ Some command.Tree → command_for words.now ≢ Some command.Check → result.disk ≡ disk }
+    ensures starved { result.status ≡ 5 → command_for words.now ≢ Some command.Tree → command_for words.now ≢ Some command.Check → result.disk ≡ disk }
     ensures read_only { IsTrue D.tells → command_for words.now ≡ Some command.Tree → IsReadOnly D.keeps (D.moments disk) (D.moments result.disk) }
+    ensures checked { IsTrue D.tells → command_for words.now ≡ Some command.Check → IsReadOnly D.keeps (D.moments disk) (D.moments result.disk) }
 {
     let ending = match words {
         Ok(words) => match image_of(words) {

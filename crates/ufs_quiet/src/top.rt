@@ -1,11 +1,15 @@
 // The top call.
-ghost use Rattle.std.specs.Prelude.{◌≡◌, ◌≢◌, ◌≤◌, ◌<◌, ◌⊎◌, ℕ, List, IsTrue, Ok, Err, Some, None};
+ghost use Rattle.std.specs.Prelude.{◌≡◌, ◌≢◌, ◌≤◌, ◌<◌, ◌⊎◌, ℕ, List, [], IsTrue, Ok, Err, Some, None};
 ghost use Rattle.std.specs.Io.KnownBytes.{Appends};
 ghost use Rattle.ufs_base.specs.Faults.{raised};
 ghost use Rattle.ufs_disk.specs.Moments.{LeavesOnly};
 ghost use Rattle.ufs_catalog.specs.Reading.{IsReadOnly};
 ghost use Rattle.ufs_disk.specs.Moments.{reads};
-ghost use Rattle.ufs_image.specs.Opens.{ImageTree, opens};
+ghost use Rattle.ufs_check.specs.Refused.{IsCheckRefusal};
+ghost use Rattle.ufs_catalog.specs.declared.fault.RecoverFault.TheVariants as recover;
+ghost use Rattle.ufs_image.specs.Damage.{Damage};
+ghost use Rattle.ufs_image.specs.Opens.{ImageTree, opens, damage_list};
+ghost use Rattle.ufs_quiet.specs.DamageLines.{clean_line, damage_lines};
 ghost use Rattle.ufs_image.specs.Volume.{Refusal};
 ghost use Rattle.ufs_opening.specs.Told.{HasCommits};
 ghost use Rattle.ufs_quiet.specs.TreeLines.{tree_lines, refusal_line};
@@ -26,6 +30,7 @@ ghost use Rattle.ufs_quiet.specs.Seen.{reading, writing, formatting};
 ghost use Rattle.ufs_quiet.specs.Endings.{Ends, EndsPlay, EndsServing, EndsPrinting, IsAnswer};
 
 use crate::broken::tell_fault;
+use crate::check::check;
 use crate::ending::Ending;
 use crate::finish::{SINK_FAULT, finish};
 use crate::mkfs::mkfs;
@@ -116,11 +121,12 @@ fn answer<S: Source, K: Sink, D: Disk>(
         → IsNewDisk g (D.size disk) (D.moments result.disk).state }
     ensures crash { IsTrue D.tells → (g : Geometry) → asked words.now.items ≡ mkfs_command g
         → LeavesOnly D.keeps (IsStopped g (D.size disk) (D.moments disk).state) (D.moments disk) (D.moments result.disk) }
-    ensures unwritten { ¬ (IsMkfs (asked words.now.items)) → asked words.now.items ≢ Some command.Tree → result.disk ≡ disk }
+    ensures unwritten { ¬ (IsMkfs (asked words.now.items)) → asked words.now.items ≢ Some command.Tree → asked words.now.items ≢ Some command.Check → result.disk ≡ disk }
     ensures read_only { IsTrue D.tells → asked words.now.items ≡ Some command.Tree → IsReadOnly D.keeps (D.moments disk) (D.moments result.disk) }
+    ensures checked { IsTrue D.tells → asked words.now.items ≡ Some command.Check → IsReadOnly D.keeps (D.moments disk) (D.moments result.disk) }
     ensures refused { (g : Geometry) → asked words.now.items ≡ mkfs_command g → geometry_refusal g ≢ None → result.disk ≡ disk }
     ensures small { (g : Geometry) → asked words.now.items ≡ mkfs_command g → D.size disk < sector_count g → result.disk ≡ disk }
-    ensures starved { result.status ≡ 5 → asked words.now.items ≢ Some command.Tree → result.disk ≡ disk }
+    ensures starved { result.status ≡ 5 → asked words.now.items ≢ Some command.Tree → asked words.now.items ≢ Some command.Check → result.disk ≡ disk }
     ensures size { D.size result.disk ≡ D.size disk }
     ensures disk_told { result.status ≢ 4 → result.status ≢ 7 → D.faults result.disk ≡ D.faults disk }
     ensures source_told { result.status ≢ 6 → result.status ≢ 7 → S.faults source.new ≡ S.faults source.old }
@@ -147,6 +153,11 @@ fn answer<S: Source, K: Sink, D: Disk>(
         Some(Command::Tree) => {
             let mut disk = disk;
             let status = tree(alloc, sink, &mut disk);
+            Outcome { status, disk }
+        }
+        Some(Command::Check) => {
+            let mut disk = disk;
+            let status = check(alloc, sink, &mut disk);
             Outcome { status, disk }
         }
         Some(Command::NotBuilt) => Outcome {
@@ -188,13 +199,14 @@ pub fn quiet<S: Source, K: Sink, D: Disk>(
     // a new image.
     ensures crash { IsTrue D.tells → (g : Geometry) → asked words.now.items ≡ mkfs_command g
         → LeavesOnly D.keeps (IsStopped g (D.size disk) (D.moments disk).state) (D.moments disk) (D.moments result.disk) }
-    // Every other command leaves the disk, but `tree`, which only reads it.
-    ensures unwritten { ¬ (IsMkfs (asked words.now.items)) → asked words.now.items ≢ Some command.Tree → result.disk ≡ disk }
+    // Every other command leaves the disk, but `tree` and `check`, which only read it.
+    ensures unwritten { ¬ (IsMkfs (asked words.now.items)) → asked words.now.items ≢ Some command.Tree → asked words.now.items ≢ Some command.Check → result.disk ≡ disk }
     ensures read_only { IsTrue D.tells → asked words.now.items ≡ Some command.Tree → IsReadOnly D.keeps (D.moments disk) (D.moments result.disk) }
+    ensures checked { IsTrue D.tells → asked words.now.items ≡ Some command.Check → IsReadOnly D.keeps (D.moments disk) (D.moments result.disk) }
     // So does `mkfs` of a geometry that is refused, of one that is too large for the disk, and for want of memory.
     ensures refused { (g : Geometry) → asked words.now.items ≡ mkfs_command g → geometry_refusal g ≢ None → result.disk ≡ disk }
     ensures small { (g : Geometry) → asked words.now.items ≡ mkfs_command g → D.size disk < sector_count g → result.disk ≡ disk }
-    ensures starved { result.status ≡ 5 → asked words.now.items ≢ Some command.Tree → result.disk ≡ disk }
+    ensures starved { result.status ≡ 5 → asked words.now.items ≢ Some command.Tree → asked words.now.items ≢ Some command.Check → result.disk ≡ disk }
     ensures size { D.size result.disk ≡ D.size disk }
     // Any status but 4 and 7 leaves the disk's count as it was.
     ensures disk_told { result.status ≢ 4 → result.status ≢ 7 → D.faults result.disk ≡ D.faults disk }
@@ -231,6 +243,28 @@ pub fn quiet<S: Source, K: Sink, D: Disk>(
     // With the same exceptions one that stands for none is refused.
     ensures refused_tree { IsTrue D.tells → (refusal : Refusal) → asked words.now.items ≡ Some command.Tree
         → opens (D.size disk) (reads (D.moments disk)) ≡ Err refusal → D.faults result.disk ≢ raised (D.faults disk) → K.faults sink.new ≢ raised (K.faults sink.old)
+        → (result.status ≡ 3) ⊎ ((result.status ≡ 5) ⊎ (result.status ≡ 2)) }
+    // `check` with status 0: nothing is damaged, and the sink got the line that says so, and nothing else.
+    ensures clean { IsTrue D.tells → result.status ≡ 0 → asked words.now.items ≡ Some command.Check
+        → (damage_list (D.size disk) (reads (D.moments disk)) ≡ Ok []) × Appends (K.held sink.old) (K.held sink.new) clean_line }
+    // `check` with status 8: this is damaged, and the sink got the lines of that damage, and nothing else.
+    ensures damaged { IsTrue D.tells → result.status ≡ 8 → asked words.now.items ≡ Some command.Check → (list : List Damage) × (list ≢ [])
+        × (damage_list (D.size disk) (reads (D.moments disk)) ≡ Ok list) × Appends (K.held sink.old) (K.held sink.new) (damage_lines list) }
+    // `check` with status 3: the image isn't looked at, and the sink got the line of the cause, and nothing else.
+    ensures no_list { IsTrue D.tells → result.status ≡ 3 → asked words.now.items ≡ Some command.Check → (refusal : Refusal)
+        × (damage_list (D.size disk) (reads (D.moments disk)) ≡ Err refusal) × Appends (K.held sink.old) (K.held sink.new) (refusal_line refusal) }
+    // `check` with status 2: transactions are committed in its journal, which isn't built yet.
+    ensures committed_check { IsTrue D.tells → result.status ≡ 2 → asked words.now.items ≡ Some command.Check → IsCheckRefusal (D.size disk) (reads (D.moments disk)) recover.NotBuilt }
+    // Each image gets the status of what it is, unless memory runs out, a count of faults rises, or there are such
+    // transactions.
+    ensures complete_clean { IsTrue D.tells → asked words.now.items ≡ Some command.Check
+        → damage_list (D.size disk) (reads (D.moments disk)) ≡ Ok [] → D.faults result.disk ≢ raised (D.faults disk) → K.faults sink.new ≢ raised (K.faults sink.old)
+        → (result.status ≡ 0) ⊎ ((result.status ≡ 5) ⊎ (result.status ≡ 2)) }
+    ensures complete_damaged { IsTrue D.tells → (list : List Damage) → list ≢ [] → asked words.now.items ≡ Some command.Check
+        → damage_list (D.size disk) (reads (D.moments disk)) ≡ Ok list → D.faults result.disk ≢ raised (D.faults disk) → K.faults sink.new ≢ raised (K.faults sink.old)
+        → (result.status ≡ 8) ⊎ ((result.status ≡ 5) ⊎ (result.status ≡ 2)) }
+    ensures refused_check { IsTrue D.tells → (refusal : Refusal) → asked words.now.items ≡ Some command.Check
+        → damage_list (D.size disk) (reads (D.moments disk)) ≡ Err refusal → D.faults result.disk ≢ raised (D.faults disk) → K.faults sink.new ≢ raised (K.faults sink.old)
         → (result.status ≡ 3) ⊎ ((result.status ≡ 5) ⊎ (result.status ≡ 2)) }
 {
     a_longer_text_breaks_alike();

@@ -2,7 +2,7 @@
 ghost use Rattle.std.specs.Prelude.{◌≡◌, map, string_bytes};
 ghost use Rattle.std.specs.Prelude.{Some};
 ghost use Rattle.ufs_quiet.specs.Commands.{number_up_to, with_lease, with_image, with_trace, with_value, options_from, options_of, only_image};
-ghost use Rattle.ufs_quiet.specs.Commands.{mkfs_of, play_with, plain_with, bench_of, is_plain, command_of, image_word};
+ghost use Rattle.ufs_quiet.specs.Commands.{mkfs_of, play_with, plain_with, bench_of, command_of, image_word};
 ghost use Rattle.std.specs.Option.{option_map};
 
 use ufs_script::number;
@@ -20,6 +20,8 @@ pub enum Command {
     Play,
     /// Print the tree that the image stands for.
     Tree,
+    /// List what is damaged in the image.
+    Check,
     /// A command, or an option, that isn't built yet.
     NotBuilt,
 }
@@ -200,15 +202,6 @@ fn bench(words: &[String]) -> Option<Command>
     }
 }
 
-fn is_plain(name: &[u8]) -> bool
-    ensures { result ≡ is_plain name.now }
-{
-    if name == b"recover".as_slice() {
-        return true;
-    }
-    name == b"check".as_slice()
-}
-
 /// The command that the words are, if they are one that waits for nobody.
 pub fn read_command(words: &[String]) -> Option<Command>
     ensures { result ≡ command_of (map string_bytes words.now) }
@@ -226,7 +219,10 @@ pub fn read_command(words: &[String]) -> Option<Command>
     if name == b"tree".as_slice() {
         return plain(Command::Tree, rest);
     }
-    if is_plain(name) {
+    if name == b"check".as_slice() {
+        return plain(Command::Check, rest);
+    }
+    if name == b"recover".as_slice() {
         return plain(Command::NotBuilt, rest);
     }
     if name == b"bench".as_slice() {

@@ -35,7 +35,7 @@ const SUPERBLOCK: [u8; 41] = [
 ];
 
 // Words, and the status and the text that they get where nothing is read: the first read fails.
-const UNREAD: [(&[&str], u8, &str); 27] = [
+const UNREAD: [(&[&str], u8, &str); 28] = [
     (&[], 1, USAGE),
     (&["frob"], 1, USAGE),
     (&["mkfs"], 1, USAGE),
@@ -53,7 +53,8 @@ const UNREAD: [(&[&str], u8, &str); 27] = [
     (&["tree"], 3, NO_SUPERBLOCK),
     (&["tree", "--trace"], 1, USAGE),
     (&["recover", "--image", "f"], 2, NOT_BUILT),
-    (&["check"], 2, NOT_BUILT),
+    (&["check"], 3, NO_SUPERBLOCK),
+    (&["check", "--lease", "1"], 1, USAGE),
     (&["bench", "0000000007", "--lease", "0"], 2, NOT_BUILT),
     (&["play", "--lease", "1000", "--trace"], 2, NOT_BUILT),
     (&["play", "--trace", "--image", "--trace"], 2, NOT_BUILT),

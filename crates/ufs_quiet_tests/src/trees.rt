@@ -1,4 +1,4 @@
-// The trees of images: none, a new one, one with files, and disks that fail.
+// The trees and the damage of images: none, a new one, one with files, and disks that fail.
 use crate::calls::{Call, check_over};
 use std::alloc::Global;
 use std::process::Abort;
@@ -15,6 +15,9 @@ const TOO_SMALL: &str = "ufs: image: BadGeometry 5\n";
 // The line of a file of 65 bytes shows 64 of them.
 const FILES: &str =
     "dir /\nfile /e 0 -\nfile /f 65 61616161616161616161616161616161616161616161616161616161616161616161616161616161616161616161616161616161616161616161616161616161+\n";
+
+// The files' blocks aren't marked in the bitmap.
+const UNMARKED: &str = "damage BitmapDiffers 14\ndamage BitmapDiffers 15\n";
 
 // The first sectors of the inode table, and of the first two blocks of the data area.
 const INODES: u32 = 16;
@@ -41,6 +44,10 @@ fn making() -> Call<'static> {
 
 fn tree(status: u8, text: &'static str) -> Call<'static> {
     calm(&["tree"], status, text)
+}
+
+fn check(status: u8, text: &'static str) -> Call<'static> {
+    calm(&["check"], status, text)
 }
 
 fn put_sector<R: Abort>(rt: &R, disk: &mut PlainDisk, at: u32, sector: &[u8; SECTOR]) {
@@ -90,7 +97,8 @@ fn a_new_image_has_the_root_alone(rt: HostRuntime) -> Result<(), Fail> {
     let disk = PlainDisk::zeros(rt.alloc(), 2_048)?;
     let disk = check_over(&rt, &tree(3, NO_SUPERBLOCK), disk)?;
     let disk = check_over(&rt, &making(), disk)?;
-    check_over(&rt, &tree(0, "dir /\n"), disk)?;
+    let disk = check_over(&rt, &tree(0, "dir /\n"), disk)?;
+    check_over(&rt, &check(0, "clean\n"), disk)?;
     Ok(())
 }
 
@@ -99,7 +107,8 @@ fn files_are_shown(rt: HostRuntime) -> Result<(), Fail> {
     let disk = PlainDisk::zeros(rt.alloc(), 2_048)?;
     let mut disk = check_over(&rt, &making(), disk)?;
     put_files(&rt, &mut disk);
-    check_over(&rt, &tree(0, FILES), disk)?;
+    let disk = check_over(&rt, &tree(0, FILES), disk)?;
+    check_over(&rt, &check(8, UNMARKED), disk)?;
     Ok(())
 }
 
@@ -110,7 +119,8 @@ fn the_superblock_alone_is_too_small(rt: HostRuntime) -> Result<(), Fail> {
     let mut sector = [0; SECTOR];
     assert!(rt; disk.sectors() > 0 && disk.read(0, &mut sector).is_ok());
     let alone = PlainDisk::new(1, sector.to_vec(rt.alloc())?);
-    check_over(&rt, &tree(3, TOO_SMALL), alone)?;
+    let alone = check_over(&rt, &tree(3, TOO_SMALL), alone)?;
+    check_over(&rt, &check(3, TOO_SMALL), alone)?;
     Ok(())
 }
 
@@ -123,5 +133,7 @@ fn failing(alloc: Global, fails: &[u64]) -> Result<MemoryDisk, Fail> {
 fn a_fault_of_the_disk_is_told(rt: HostRuntime) -> Result<(), Fail> {
     let disk = failing(rt.alloc(), &[0])?;
     check_over(&rt, &tree(4, "ufs: device fault 1\n"), disk)?;
+    let disk = failing(rt.alloc(), &[0])?;
+    check_over(&rt, &check(4, "ufs: device fault 1\n"), disk)?;
     Ok(())
 }

@@ -17,18 +17,28 @@ returns-in-Some-clause-crash g c tells h is =
     c.quiet.ensures.crash tells h (sym (same_command c.args.words.now c.in-Ok.words c.in-Some.field-0.now c.in-Ok.is named) ∙ is)
 
 pub returns-in-Some-clause-unwritten : goal.returns-in-Some-clause-unwritten
-returns-in-Some-clause-unwritten g c other no_tree =
+returns-in-Some-clause-unwritten g c other no_tree no_check =
     let named : image_word (map string_bytes c.in-Ok.words.items) ≡ Some c.in-Some.field-0.now = sym c.in-Some.ensures in
     let same = same_command c.args.words.now c.in-Ok.words c.in-Some.field-0.now c.in-Ok.is named in
-    c.quiet.ensures.unwritten (λ is. other (subst IsMkfs (sym same) is)) (λ is. no_tree (same ∙ is))
+    c.quiet.ensures.unwritten (λ is. other (subst IsMkfs (sym same) is)) (λ is. no_tree (same ∙ is)) (λ is. no_check (same ∙ is))
 
 pub returns-in-Some-clause-starved : goal.returns-in-Some-clause-starved
-returns-in-Some-clause-starved g c five no_tree =
+returns-in-Some-clause-starved g c five no_tree no_check =
     let named : image_word (map string_bytes c.in-Ok.words.items) ≡ Some c.in-Some.field-0.now = sym c.in-Some.ensures in
     let same = same_command c.args.words.now c.in-Ok.words c.in-Some.field-0.now c.in-Ok.is named in
-    c.quiet.ensures.starved five (λ is. no_tree (same ∙ is))
+    c.quiet.ensures.starved five (λ is. no_tree (same ∙ is)) (λ is. no_check (same ∙ is))
 
 pub returns-in-Some-clause-read_only : goal.returns-in-Some-clause-read_only
 returns-in-Some-clause-read_only g c tells is =
     let named : image_word (map string_bytes c.in-Ok.words.items) ≡ Some c.in-Some.field-0.now = sym c.in-Some.ensures in
     c.quiet.ensures.read_only tells (sym (same_command c.args.words.now c.in-Ok.words c.in-Some.field-0.now c.in-Ok.is named) ∙ is)
+
+pub returns-in-Some-clause-checked : goal.returns-in-Some-clause-checked
+returns-in-Some-clause-checked g c tells is =
+    let named : image_word (map string_bytes c.in-Ok.words.items) ≡ Some c.in-Some.field-0.now = sym c.in-Some.ensures in
+    c.quiet.ensures.checked tells (sym (same_command c.args.words.now c.in-Ok.words c.in-Some.field-0.now c.in-Ok.is named) ∙ is)
+
+pub returns-in-Some-clause-formatted : goal.returns-in-Some-clause-formatted
+returns-in-Some-clause-formatted g c tells zero h is =
+    let named : image_word (map string_bytes c.in-Ok.words.items) ≡ Some c.in-Some.field-0.now = sym c.in-Some.ensures in
+    c.quiet.ensures.formatted tells zero h (sym (same_command c.args.words.now c.in-Ok.words c.in-Some.field-0.now c.in-Ok.is named) ∙ is)

@@ -71,3 +71,11 @@ returns-in-Some-Tree-clause-answer g c =
     let r = reading g.S.Source.left g.S.Source.faults c.args.source.now c.args.source.now in
     let d = formatting g.D.Disk.tells g.D.Disk.size g.D.Disk.moments g.D.Disk.faults c.args.disk c.tree-status.new.disk in
     subst (λ (x : Option Command). IsAnswer (Ends x r d) (writing g.K.Sink.held g.K.Sink.faults c.args.sink.now c.tree-status.new.sink) c.tree-status.result) (sym is) c.tree-status.ensures.answer
+
+pub returns-in-Some-Check-clause-answer : goal.returns-in-Some-Check-clause-answer
+returns-in-Some-Check-clause-answer g c =
+    let words = asked c.args.words.now.items in
+    let is : words ≡ Some command.Check = cc in
+    let r = reading g.S.Source.left g.S.Source.faults c.args.source.now c.args.source.now in
+    let d = formatting g.D.Disk.tells g.D.Disk.size g.D.Disk.moments g.D.Disk.faults c.args.disk c.check-status.new.disk in
+    subst (λ (x : Option Command). IsAnswer (Ends x r d) (writing g.K.Sink.held g.K.Sink.faults c.args.sink.now c.check-status.new.sink) c.check-status.result) (sym is) c.check-status.ensures.answer

@@ -3,6 +3,7 @@ use Rattle.ufs_quiet.specs.Seen.{reading, writing, formatting}
 use Rattle.ufs_quiet.proofs.MkfsLemmas.{mkfs_complete}
 use Rattle.ufs_quiet.proofs.PlayLemmas.{play_done, play_complete, play_broken}
 use Rattle.ufs_quiet.proofs.TreeLemmas.{tree_printed, tree_refusal, tree_committed, tree_complete, tree_refused_whole}
+use Rattle.ufs_quiet.proofs.CheckLemmas.{check_clean, check_damaged, check_refusal, check_committed, clean_whole, damaged_whole, refused_whole}
 use Rattle.ufs_quiet.proofs.top.quiet.Goals as goal
 
 pub returns-clause-complete_mkfs : goal.returns-clause-complete_mkfs
@@ -58,5 +59,47 @@ returns-clause-complete_tree g c tells tree is opened calm quiet =
 pub returns-clause-refused_tree : goal.returns-clause-refused_tree
 returns-clause-refused_tree g c tells refusal is none calm quiet =
     tree_refused_whole (asked c.args.words.now.items) is (reading g.S.Source.left g.S.Source.faults c.args.source.now c.answer.new.source)
+    (formatting g.D.Disk.tells g.D.Disk.size g.D.Disk.moments g.D.Disk.faults c.args.disk c.answer.result.disk)
+    (writing g.K.Sink.held g.K.Sink.faults c.args.sink.now c.answer.new.sink) c.answer.result.status c.answer.ensures.answer tells calm quiet refusal none
+
+pub returns-clause-clean : goal.returns-clause-clean
+returns-clause-clean g c tells status is =
+    check_clean (asked c.args.words.now.items) is (reading g.S.Source.left g.S.Source.faults c.args.source.now c.answer.new.source)
+    (formatting g.D.Disk.tells g.D.Disk.size g.D.Disk.moments g.D.Disk.faults c.args.disk c.answer.result.disk)
+    (writing g.K.Sink.held g.K.Sink.faults c.args.sink.now c.answer.new.sink) c.answer.result.status c.answer.ensures.answer tells status
+
+pub returns-clause-damaged : goal.returns-clause-damaged
+returns-clause-damaged g c tells status is =
+    check_damaged (asked c.args.words.now.items) is (reading g.S.Source.left g.S.Source.faults c.args.source.now c.answer.new.source)
+    (formatting g.D.Disk.tells g.D.Disk.size g.D.Disk.moments g.D.Disk.faults c.args.disk c.answer.result.disk)
+    (writing g.K.Sink.held g.K.Sink.faults c.args.sink.now c.answer.new.sink) c.answer.result.status c.answer.ensures.answer tells status
+
+pub returns-clause-no_list : goal.returns-clause-no_list
+returns-clause-no_list g c tells status is =
+    check_refusal (asked c.args.words.now.items) is (reading g.S.Source.left g.S.Source.faults c.args.source.now c.answer.new.source)
+    (formatting g.D.Disk.tells g.D.Disk.size g.D.Disk.moments g.D.Disk.faults c.args.disk c.answer.result.disk)
+    (writing g.K.Sink.held g.K.Sink.faults c.args.sink.now c.answer.new.sink) c.answer.result.status c.answer.ensures.answer tells status
+
+pub returns-clause-committed_check : goal.returns-clause-committed_check
+returns-clause-committed_check g c tells status is =
+    check_committed (asked c.args.words.now.items) is (reading g.S.Source.left g.S.Source.faults c.args.source.now c.answer.new.source)
+    (formatting g.D.Disk.tells g.D.Disk.size g.D.Disk.moments g.D.Disk.faults c.args.disk c.answer.result.disk)
+    (writing g.K.Sink.held g.K.Sink.faults c.args.sink.now c.answer.new.sink) c.answer.result.status c.answer.ensures.answer tells status
+
+pub returns-clause-complete_clean : goal.returns-clause-complete_clean
+returns-clause-complete_clean g c tells is none calm quiet =
+    clean_whole (asked c.args.words.now.items) is (reading g.S.Source.left g.S.Source.faults c.args.source.now c.answer.new.source)
+    (formatting g.D.Disk.tells g.D.Disk.size g.D.Disk.moments g.D.Disk.faults c.args.disk c.answer.result.disk)
+    (writing g.K.Sink.held g.K.Sink.faults c.args.sink.now c.answer.new.sink) c.answer.result.status c.answer.ensures.answer tells calm quiet none
+
+pub returns-clause-complete_damaged : goal.returns-clause-complete_damaged
+returns-clause-complete_damaged g c tells list some is has calm quiet =
+    damaged_whole (asked c.args.words.now.items) is (reading g.S.Source.left g.S.Source.faults c.args.source.now c.answer.new.source)
+    (formatting g.D.Disk.tells g.D.Disk.size g.D.Disk.moments g.D.Disk.faults c.args.disk c.answer.result.disk)
+    (writing g.K.Sink.held g.K.Sink.faults c.args.sink.now c.answer.new.sink) c.answer.result.status c.answer.ensures.answer tells calm quiet list some has
+
+pub returns-clause-refused_check : goal.returns-clause-refused_check
+returns-clause-refused_check g c tells refusal is none calm quiet =
+    refused_whole (asked c.args.words.now.items) is (reading g.S.Source.left g.S.Source.faults c.args.source.now c.answer.new.source)
     (formatting g.D.Disk.tells g.D.Disk.size g.D.Disk.moments g.D.Disk.faults c.args.disk c.answer.result.disk)
     (writing g.K.Sink.held g.K.Sink.faults c.args.sink.now c.answer.new.sink) c.answer.result.status c.answer.ensures.answer tells calm quiet refusal none
