@@ -34,7 +34,9 @@ use Rattle.ufs_sound.proofs.Drawn.{draw_sound}
 use Rattle.ufs_sound.proofs.Drawable.{may_draw}
 use Rattle.ufs_sound.proofs.Clocking.{look_sound, tick_sound}
 use Rattle.ufs_sound.proofs.Marking.{remake_sound}
-use Rattle.ufs_sound.proofs.Happening.{move_remakes, turn_remakes, naming_remakes}
+use Rattle.ufs_sound.proofs.Happening.Moving.{move_remakes}
+use Rattle.ufs_sound.proofs.Happening.Turning.{turn_remakes}
+use Rattle.ufs_sound.proofs.Happening.NameCommit.{naming_remakes}
 
 times_cut : (n b : ℕ) (xs : List ℕ) → times b (take n xs) + times b (drop n xs) ≡ times b xs
 times_cut zero b xs = omega arith

@@ -1,5 +1,11 @@
-use Rattle.ufs_sound.proofs.Happening.{move_remakes, turn_remakes, tell_remakes, commit_remakes, naming_remakes}
-use Rattle.ufs_sound.proofs.Refusing.{fail_remakes, checkpoint_remakes, answer_remakes}
+use Rattle.ufs_sound.proofs.Happening.Moving.{move_remakes}
+use Rattle.ufs_sound.proofs.Happening.Turning.{turn_remakes}
+use Rattle.ufs_sound.proofs.Happening.Telling.{tell_remakes}
+use Rattle.ufs_sound.proofs.Happening.FileCommit.{commit_remakes}
+use Rattle.ufs_sound.proofs.Happening.NameCommit.{naming_remakes}
+use Rattle.ufs_sound.proofs.Happening.Failing.{fail_remakes}
+use Rattle.ufs_sound.proofs.Happening.Checking.{checkpoint_remakes}
+use Rattle.ufs_sound.proofs.Happening.Answering.{answer_remakes}
 use Rattle.ufs_sound.proofs.laws.events_are_marks.Goals as goal
 
 pub returns-clause-moves : goal.returns-clause-moves

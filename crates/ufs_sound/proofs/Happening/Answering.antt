@@ -1,0 +1,68 @@
+-- What the store refuses is a remake of its hand's parts.
+use Rattle.std.proofs.Common.{◌≡◌, ℕ, ◌+◌, ◌≤◌, ◌⊎◌, false, eqb, List, [], ◌∷◌, length, ◌++◌, Option, Some, None, unwrap_or, sym, refl, ap, ◌∙◌, subst, inl, inr, ⊎_elim, arith, Bool, true, eqb-true, eq-eqb}
+use Rattle.std.specs.Prelude.{slice_get}
+use Rattle.std.specs.FinMap as fin
+use Rattle.std.specs.FinMap.{nat_cmp-IsAntisymmetric}
+use Rattle.std.specs.Cmp.{nat_cmp_total}
+use Rattle.ufs_model.proofs.Facts.Lookups.{inserted_here, inserted_else}
+use Rattle.ufs_sound.specs.Owned.{Has, count, times, weigh, one}
+use Rattle.ufs_sound.specs.Parts.{Cells, FilePart, NamesPart, StorePart, View, Start, only_one, uses, file_uses, names_uses, dropped_uses, store_uses, committed, Shortage}
+use Rattle.ufs_sound.specs.Explained.{Showing}
+use Rattle.ufs_sound.specs.DiskBytes.{block_on, is_loaded}
+use Rattle.ufs_sound.specs.Marks.{value_after, IsSingle, StoreGoes, NamesGo, IsQuiet, IsTurn, AreAnswers, RemakesOn, MayRemake, HadChanges, HasChanges}
+use Rattle.ufs_sound.specs.Events.{IsFileMoved, AreNamesMoved, Moved, moved, MayMove, IsLent, turn_begun, turning, IsFileTold, told_files, MayTell, blocks_dropped, NamesCommit, names_committed, committed_names, naming, MayCommitNames, file_committed, committed_part, committing, MayCommitFile, HadLent, Failure, failed, failing, MayFail, Checkpoint, checkpointed, freed_names, checkpointing, MayCheckpoint, answered, answering, MayAnswer}
+use Rattle.ufs_sound.proofs.Owning.{has_find, same_some, count_has, has_append, append_has}
+use Rattle.ufs_sound.proofs.Keys.{itself, alike}
+use Rattle.ufs_sound.proofs.Exchange.{value_case, value_is}
+use native.Mathlib.Decide.{dec_le}
+use Rattle.ufs_model.specs.declared.data.Entry.{Entry}
+use Rattle.ufs_sound.proofs.Happening.Staying.{same_file, names_here, store_here, with_unassigned, answers_stay, quiet, blocks_stay, numbers_stay, disk_stays, names_remade, same_parts_keep, same_parts_know, same_parts_load, times_append, times_has, has_times, lent_had, lent_has}
+
+module _ (S : Showing) (k : Start) (n : ℕ) (v : View) (s0 : StorePart) (faults : List ℕ) (shortages : List Shortage) (may : MayAnswer v s0 faults) where
+  abbrev answers : View
+  answers = answering n faults shortages s0 v
+
+  abbrev a0 : StorePart
+  a0 = answered faults shortages s0
+
+  module _ (single : IsSingle v) (p : NamesPart) where
+    its_file : (g : ℕ) (x y : FilePart) → Has (g, x) v.files → Has (g, y) v.files → x ≡ y
+    its_file = same_file v single
+
+    answers_here : RemakesOn S k n v answers s0 a0 p p
+    answers_here = record {
+      kept = blocks_stay v answers s0 a0 p p (same_parts_keep v answers its_file) (λ g bs e. e) (λ g bs h. h) (λ kept. kept);
+      rise = numbers_stay v answers s0 a0 p p (λ g. refl) refl (same_parts_know v answers its_file) refl refl;
+      disk = λ told. disk_stays k v answers s0 a0 (λ b z l. refl) (same_parts_load v answers its_file) (λ g x a place b i o. inr refl);
+      shown = inl (record { mark = refl; past = refl; lent = refl; lent_names = refl; state = refl; paths = refl; names = refl; files = λ g. refl });
+      answers = record {
+        single = λ l m. may.new m;
+        faults = λ m. let a = times_append m faults v.faults in let b = times_append m faults s0.faults in omega arith;
+        stopped = λ m e. e;
+        stops = λ m e. inl e;
+        short = λ x h. append_has x shortages s0.shortages (inr h);
+        shortages = λ x h. ⊎_elim (λ a. inr (append_has x shortages s0.shortages (inl a))) (λ a. inl a) (has_append x shortages v.shortages h);
+      };
+    }
+
+  answers_on : IsSingle v → (s t : StorePart) (p q : NamesPart) → StoreGoes v answers s t → NamesGo v answers p q → RemakesOn S k n v answers s t p q
+  answers_on single s t p q store names =
+      let a : s ≡ s0 = store.0 ∙ ap (λ l. value_after l s) may.store in
+      let b : q ≡ p = names.1 ∙ sym names.0 in
+      subst (λ (u : StorePart × StorePart × NamesPart). RemakesOn S k n v answers u.0 u.1 p u.2) (λ j. (sym a j, sym store.1 j, sym b j)) (answers_here single p)
+
+  pub answer_remakes : MayRemake S k n v answers
+  answer_remakes = record {
+    clients = refl;
+    asked = refl;
+    clock = refl;
+    seen = refl;
+    file_names = λ g. refl;
+    pool_names = λ g. refl;
+    has_names = λ u. refl;
+    has_store = λ u. ap (count only_one u) (sym may.store);
+    uses_stay = λ b. ap (λ l. uses b (record v { store = l })) (sym may.store);
+    files = λ g y h. (y, h, refl);
+    names = λ u q h. (q, h, refl);
+    on = answers_on;
+  }

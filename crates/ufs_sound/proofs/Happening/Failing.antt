@@ -1,0 +1,84 @@
+-- A commit or a checkpoint that fails is a remake of its hand's parts.
+use Rattle.std.proofs.Common.{◌≡◌, ℕ, ◌+◌, ◌≤◌, ◌⊎◌, false, eqb, List, [], ◌∷◌, length, ◌++◌, Option, Some, None, unwrap_or, sym, refl, ap, ◌∙◌, subst, inl, inr, ⊎_elim, arith, Bool, true, eqb-true, eq-eqb}
+use Rattle.std.specs.Prelude.{slice_get}
+use Rattle.std.specs.FinMap as fin
+use Rattle.std.specs.FinMap.{nat_cmp-IsAntisymmetric}
+use Rattle.std.specs.Cmp.{nat_cmp_total}
+use Rattle.ufs_model.proofs.Facts.Lookups.{inserted_here, inserted_else}
+use Rattle.ufs_sound.specs.Owned.{Has, count, times, weigh, one}
+use Rattle.ufs_sound.specs.Parts.{Cells, FilePart, NamesPart, StorePart, View, Start, only_one, uses, file_uses, names_uses, dropped_uses, store_uses, committed, Shortage}
+use Rattle.ufs_sound.specs.Explained.{Showing}
+use Rattle.ufs_sound.specs.DiskBytes.{block_on, is_loaded}
+use Rattle.ufs_sound.specs.Marks.{value_after, IsSingle, StoreGoes, NamesGo, IsQuiet, IsTurn, AreAnswers, RemakesOn, MayRemake, HadChanges, HasChanges}
+use Rattle.ufs_sound.specs.Events.{IsFileMoved, AreNamesMoved, Moved, moved, MayMove, IsLent, turn_begun, turning, IsFileTold, told_files, MayTell, blocks_dropped, NamesCommit, names_committed, committed_names, naming, MayCommitNames, file_committed, committed_part, committing, MayCommitFile, HadLent, Failure, failed, failing, MayFail, Checkpoint, checkpointed, freed_names, checkpointing, MayCheckpoint, answered, answering, MayAnswer}
+use Rattle.ufs_sound.proofs.Owning.{has_find, same_some, count_has, has_append, append_has}
+use Rattle.ufs_sound.proofs.Keys.{itself, alike}
+use Rattle.ufs_sound.proofs.Exchange.{value_case, value_is}
+use native.Mathlib.Decide.{dec_le}
+use Rattle.ufs_model.specs.declared.data.Entry.{Entry}
+use Rattle.ufs_sound.proofs.Happening.Staying.{same_file, names_here, store_here, with_unassigned, answers_stay, quiet, blocks_stay, numbers_stay, disk_stays, names_remade, same_parts_keep, same_parts_know, same_parts_load, times_append, times_has, has_times, lent_had, lent_has}
+
+module _ (S : Showing) (k : Start) (n : ℕ) (v : View) (s0 : StorePart) (f : Failure) (may : MayFail S k v s0 f) where
+  abbrev fails : View
+  fails = failing n f s0 v
+
+  module _ (single : IsSingle v) (p : NamesPart) (there : p ≡ value_after v.names p) where
+    file_is : (g : ℕ) (x y : FilePart) → Has (g, x) v.files → Has (g, y) v.files → x ≡ y
+    file_is = same_file v single
+
+    new_once : ((m : ℕ) → times m s0.faults ≤ 1) → (m : ℕ) → times m (f.fault ∷ s0.faults) ≤ 1
+    new_once few m = at (eqb m f.fault) refl
+      where
+        at : (b : Bool) → eqb m f.fault ≡ b → one b + times m s0.faults ≤ 1
+        at true e = let t : times m s0.faults ≡ times f.fault s0.faults = ap (λ z. times z s0.faults) (eqb-true m f.fault e) in let z = may.new in omega arith
+        at false e = let z = few m in omega arith
+
+    fails_here : RemakesOn S k n v fails s0 (failed n f s0) p p
+    fails_here = record {
+      kept = blocks_stay v fails s0 (failed n f s0) p p (same_parts_keep v fails file_is) (λ g bs e. e) (λ g bs h. h) (λ kept. kept);
+      rise = numbers_stay v fails s0 (failed n f s0) p p (λ g. refl) refl (same_parts_know v fails file_is) refl refl;
+      disk = λ told. disk_stays k v fails s0 (failed n f s0) (may.others told) (same_parts_load v fails file_is) (λ g x a place b i o. inr (may.own told g x a place b i o));
+      shown = inr (record {
+        through = f.through;
+        last = inr may.last;
+        mark = refl;
+        past = refl;
+        lent = λ g m a. absurd a;
+        lent_names = omega arith;
+        inside = λ told h had shows d i. may.inside told h (lent_had k v single s0 p there h had) shows d i;
+        end = λ told h has shows. may.inside told h (lent_has k v single s0 p there h has) shows f.state may.last;
+      });
+      answers = record {
+        single = new_once;
+        faults = λ m. omega arith;
+        stopped = λ m e. absurd (both may.running e);
+        stops = λ m e. inr e;
+        short = λ x h. h;
+        shortages = λ x h. inl h;
+      };
+    }
+      where
+        both : {A : Type 0} {x : A} {o : Option A} → o ≡ None → o ≡ Some x → ⊥
+        both a b = cc
+
+  fails_on : IsSingle v → (s t : StorePart) (p q : NamesPart) → StoreGoes v fails s t → NamesGo v fails p q → RemakesOn S k n v fails s t p q
+  fails_on single s t p q store names =
+      let a : s ≡ s0 = store.0 ∙ ap (λ l. value_after l s) may.store in
+      let b : q ≡ p = names.1 ∙ sym names.0 in
+      subst (λ (u : StorePart × StorePart × NamesPart). RemakesOn S k n v fails u.0 u.1 p u.2) (λ j. (sym a j, sym store.1 j, sym b j)) (fails_here single p names.0)
+
+  pub fail_remakes : MayRemake S k n v fails
+  fail_remakes = record {
+    clients = refl;
+    asked = refl;
+    clock = refl;
+    seen = refl;
+    file_names = λ g. refl;
+    pool_names = λ g. refl;
+    has_names = λ u. refl;
+    has_store = λ u. ap (count only_one u) (sym may.store);
+    uses_stay = λ b. ap (λ l. uses b (record v { store = l })) (sym may.store);
+    files = λ g y h. (y, h, refl);
+    names = λ u q h. (q, h, refl);
+    on = fails_on;
+  }

@@ -1,0 +1,98 @@
+-- A commit of names is a remake of its hand's parts.
+use Rattle.std.proofs.Common.{◌≡◌, ℕ, ◌+◌, ◌≤◌, ◌⊎◌, false, eqb, List, [], ◌∷◌, length, ◌++◌, Option, Some, None, unwrap_or, sym, refl, ap, ◌∙◌, subst, inl, inr, ⊎_elim, arith, Bool, true, eqb-true, eq-eqb}
+use Rattle.std.specs.Prelude.{slice_get}
+use Rattle.std.specs.FinMap as fin
+use Rattle.std.specs.FinMap.{nat_cmp-IsAntisymmetric}
+use Rattle.std.specs.Cmp.{nat_cmp_total}
+use Rattle.ufs_model.proofs.Facts.Lookups.{inserted_here, inserted_else}
+use Rattle.ufs_sound.specs.Owned.{Has, count, times, weigh, one}
+use Rattle.ufs_sound.specs.Parts.{Cells, FilePart, NamesPart, StorePart, View, Start, only_one, uses, file_uses, names_uses, dropped_uses, store_uses, committed, Shortage}
+use Rattle.ufs_sound.specs.Explained.{Showing}
+use Rattle.ufs_sound.specs.DiskBytes.{block_on, is_loaded}
+use Rattle.ufs_sound.specs.Marks.{value_after, IsSingle, StoreGoes, NamesGo, IsQuiet, IsTurn, AreAnswers, RemakesOn, MayRemake, HadChanges, HasChanges}
+use Rattle.ufs_sound.specs.Events.{IsFileMoved, AreNamesMoved, Moved, moved, MayMove, IsLent, turn_begun, turning, IsFileTold, told_files, MayTell, blocks_dropped, NamesCommit, names_committed, committed_names, naming, MayCommitNames, file_committed, committed_part, committing, MayCommitFile, HadLent, Failure, failed, failing, MayFail, Checkpoint, checkpointed, freed_names, checkpointing, MayCheckpoint, answered, answering, MayAnswer}
+use Rattle.ufs_sound.proofs.Owning.{has_find, same_some, count_has, has_append, append_has}
+use Rattle.ufs_sound.proofs.Keys.{itself, alike}
+use Rattle.ufs_sound.proofs.Exchange.{value_case, value_is}
+use native.Mathlib.Decide.{dec_le}
+use Rattle.ufs_model.specs.declared.data.Entry.{Entry}
+use Rattle.ufs_sound.proofs.Happening.Staying.{same_file, names_here, store_here, with_unassigned, answers_stay, quiet, blocks_stay, numbers_stay, disk_stays, names_remade, same_parts_keep, same_parts_know, same_parts_load, times_append, times_has, has_times, lent_had, lent_has}
+
+weigh_dropped : (b : ℕ) (ds : List (ℕ × List ℕ)) → times b (blocks_dropped ds) ≡ weigh (dropped_uses b) ds
+weigh_dropped b [] = refl
+weigh_dropped b (d ∷ ds) = let a = times_append b d.1 (blocks_dropped ds) in let i = weigh_dropped b ds in omega arith
+
+module _ (S : Showing) (k : Start) (n : ℕ) (v : View) (p0 : NamesPart) (s0 : StorePart) (c : NamesCommit) (may : MayCommitNames S k n v p0 s0 c) where
+  abbrev named : View
+  named = naming n p0 c s0 v
+
+  abbrev t0 : StorePart
+  t0 = names_committed n p0 c s0
+
+  abbrev q0 : NamesPart
+  q0 = committed_names p0 c
+
+  module _ (one : IsSingle v) where
+    file_is : (g : ℕ) (x y : FilePart) → Has (g, x) v.files → Has (g, y) v.files → x ≡ y
+    file_is = same_file v one
+
+    names_on_here : RemakesOn S k n v named s0 t0 p0 q0
+    names_on_here = record {
+      kept = record {
+        live = λ g x y a b kept bs z ext h. subst (λ (u : FilePart). Has z u.blocks ⊎ Has z u.quarantine) (file_is g x y a b) (kept bs z (may.fewer g bs ext) h);
+        away = λ g bs z e. may.fewer g bs e;
+        dropped = λ g z kept bs b ext h. let x = kept bs b (may.fewer g bs ext) h in let none = may.gone g x.0 x.1 in absurd (both none ext);
+        dirs = may.dirs;
+      };
+      rise = record {
+        others = λ g z. refl;
+        made = λ g x a l. (omega arith, l);
+        only_born = λ g x a. inl refl;
+        names_made = λ l. (l, omega arith);
+        known = λ g x y a b l _. let e = ap (λ (u : FilePart). u.known) (file_is g x y a b) in (omega arith, omega arith);
+        born = λ g x y a b e. inl (ap (λ (u : FilePart). u.born) (file_is g x y a b) ∙ e);
+        names_known = λ l few. (omega arith, omega arith);
+        names_born = may.born;
+      };
+      disk = λ told. disk_stays k v named s0 t0 (may.others told) (same_parts_load v named file_is) (λ g x a place b i o. inr (may.own told g x a place b i o));
+      shown = inr (record {
+        through = c.through;
+        last = may.last;
+        mark = refl;
+        past = refl;
+        lent = λ g m a. absurd a;
+        lent_names = omega arith;
+        inside = λ told h had shows d i. may.inside told h had.names shows d i;
+        end = λ told h has shows. may.end told h has.names shows;
+      });
+      answers = answers_stay v named s0 t0 refl refl refl refl refl refl;
+    }
+      where
+        both : {A : Type 0} {x : A} {o : Option A} → o ≡ None → o ≡ Some x → ⊥
+        both a b = cc
+
+    names_on : (s t : StorePart) (p q : NamesPart) → StoreGoes v named s t → NamesGo v named p q → RemakesOn S k n v named s t p q
+    names_on s t p q store names =
+        let a : s ≡ s0 = store.0 ∙ ap (λ l. value_after l s) may.store in
+        let b : p ≡ p0 = names.0 ∙ ap (λ l. value_after l p) may.names in
+        subst (λ (u : StorePart × StorePart × NamesPart × NamesPart). RemakesOn S k n v named u.0 u.1 u.2 u.3) (λ j. (sym a j, sym store.1 j, sym b j, sym names.1 j)) names_on_here
+
+  pub naming_remakes : MayRemake S k n v named
+  naming_remakes = record {
+    clients = refl;
+    asked = refl;
+    clock = refl;
+    seen = refl;
+    file_names = λ g. refl;
+    pool_names = λ g. refl;
+    has_names = λ u. ap (count only_one u) (sym may.names);
+    has_store = λ u. ap (count only_one u) (sym may.store);
+    uses_stay = λ b.
+        let a = times_append b p0.spare (blocks_dropped p0.dropped) in let d = weigh_dropped b p0.dropped in
+        let f : weigh (names_uses b) v.names ≡ weigh (names_uses b) ((tt, p0) ∷ []) = ap (weigh (names_uses b)) may.names in
+        let s : weigh (store_uses b) v.store ≡ weigh (store_uses b) ((tt, s0) ∷ []) = ap (weigh (store_uses b)) may.store in
+        omega arith;
+    files = λ g y h. (y, h, refl);
+    names = names_remade v.names p0 q0 may.names refl;
+    on = names_on;
+  }
