@@ -2,6 +2,7 @@
 pub mod Staying
 pub mod Moving
 pub mod Turning
+pub mod Passing
 pub mod Telling
 pub mod FileCommit
 pub mod NameCommit
