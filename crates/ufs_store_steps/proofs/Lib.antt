@@ -6,3 +6,4 @@ pub mod Quiet
 pub mod FileSteps
 pub mod NameSteps
 pub mod WriteSteps
+pub mod Runs

@@ -1,5 +1,6 @@
 // What the store's calls leave, by the ledger, is what marks of the sound state ask for: each law is the contract of a
 // function that does nothing.
+ghost use Rattle.ufs_store_steps.specs.Runs.{CheckpointRuns, FileCommitRuns, LastIsPassed, NameCommitRuns, QuietRuns, WriteRuns};
 ghost use Rattle.ufs_store_steps.specs.Steps.{BlocksRead, CellsAreThere, CheckpointsOpenAlike, EmptiedOpensAlike, FileCommitsGo, FileCommitsMayGo, FilesCommitBytes, NameCommitsGo, NameCommitsMayGo, QuietCallsOpenAlike, StoredHasFiles, WritesGo};
 
 use ufs_layout::Geometry;
@@ -42,6 +43,18 @@ pub fn file_step_law(geometry: &Geometry)
 pub fn name_step_law(geometry: &Geometry)
     ensures tried { NameCommitsMayGo geometry.now }
     ensures done { NameCommitsGo geometry.now }
+{
+    let _geometry = geometry;
+}
+
+/// The same at each state that a call passes, on a disk that keeps its moments.
+pub fn run_step_law(geometry: &Geometry)
+    ensures last { LastIsPassed }
+    ensures quiet { QuietRuns geometry.now }
+    ensures checkpoint { CheckpointRuns geometry.now }
+    ensures write { WriteRuns geometry.now }
+    ensures file { FileCommitRuns geometry.now }
+    ensures names { NameCommitRuns geometry.now }
 {
     let _geometry = geometry;
 }
