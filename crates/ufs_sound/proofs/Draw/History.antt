@@ -24,57 +24,11 @@ use Rattle.ufs_sound.proofs.Owning.{has_each, replaced_back, replaced_else, repl
 use Rattle.ufs_sound.proofs.Keys.{itself, alike}
 use Rattle.ufs_sound.proofs.Drawing.{tells_new}
 use Rattle.ufs_sound.proofs.Exchange.{value_case, names_single, names_are}
-use Rattle.ufs_sound.proofs.Draw.Setting
-use Rattle.ufs_sound.proofs.Draw.Setting.{Draw, there_or, is_in, push, names_kept, single_clients, other_client, descs_stay, file_stays, unchanged, names_same, names_unchanged, unborn_unchanged, rising, tree_kept}
+use Rattle.ufs_sound.proofs.Draw.Setting.{Draw, outcome, there_or, is_in, push, names_kept, single_clients, other_client, descs_stay, file_stays, unchanged, names_same, names_unchanged, unborn_unchanged, rising, tree_kept}
 
 module _ (draw : Draw) where
-  abbrev k : Start
-  k = draw.k
-
-  abbrev views : List View
-  views = draw.views
-
-  abbrev i : ℕ
-  i = draw.i
-
-  abbrev v : View
-  v = draw.v
-
-  abbrev f : Fresh
-  f = draw.f
-
-  abbrev l : Leaves
-  l = draw.l
-
-  abbrev o : IsSound draw.S draw.k draw.word draw.views
-  o = draw.o
-
-  abbrev at : get_elem? draw.views draw.i ≡ some draw.v
-  at = draw.at
-
-  abbrev m : MayDraw draw.f draw.v draw.l draw.known
-  m = draw.m
-
-  abbrev e : Entry
-  e = Setting.e draw
-
-  abbrev before : PosixTree
-  before = Setting.before draw
-
-  abbrev after : PosixTree
-  after = Setting.after draw
-
-  abbrev w : View
-  w = Setting.w draw
-
-  abbrev next_world : World
-  next_world = Setting.next_world draw
-
-  abbrev longer : List Entry
-  longer = Setting.longer draw
-
-  abbrev d : DrawsOn draw.f draw.m.self draw.v draw.l (Setting.before draw)
-  d = Setting.d draw
+  open draw use {k, views, i, v, f, l, o, at, m}
+  open outcome draw use {e, before, after, w, next_world, longer, d}
 
   -- ---- the parts after the entry
 

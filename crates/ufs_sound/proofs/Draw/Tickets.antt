@@ -18,58 +18,12 @@ use Rattle.ufs_sound.specs.Draws.{Leaves, MayDraw}
 use Rattle.ufs_sound.proofs.Owning.{replaced_present, none_some}
 use Rattle.ufs_sound.proofs.Keys.{itself, alike}
 use Rattle.ufs_sound.proofs.Covering.{excused_or, tree_served, tree_stays}
-use Rattle.ufs_sound.proofs.Draw.Setting
-use Rattle.ufs_sound.proofs.Draw.Setting.{Draw, self_there, push, client_counts}
+use Rattle.ufs_sound.proofs.Draw.Setting.{Draw, outcome, self_there, push, client_counts}
 use Rattle.ufs_sound.proofs.Draw.Cases.{client_case, last_in}
 
 module _ (draw : Draw) where
-  abbrev makes : MakesOneFile
-  makes = draw.makes
-
-  abbrev k : Start
-  k = draw.k
-
-  abbrev views : List View
-  views = draw.views
-
-  abbrev i : ℕ
-  i = draw.i
-
-  abbrev v : View
-  v = draw.v
-
-  abbrev f : Fresh
-  f = draw.f
-
-  abbrev l : Leaves
-  l = draw.l
-
-  abbrev o : IsSound draw.S draw.k draw.word draw.views
-  o = draw.o
-
-  abbrev at : get_elem? draw.views draw.i ≡ some draw.v
-  at = draw.at
-
-  abbrev m : MayDraw draw.f draw.v draw.l draw.known
-  m = draw.m
-
-  abbrev e : Entry
-  e = Setting.e draw
-
-  abbrev before : PosixTree
-  before = Setting.before draw
-
-  abbrev w : View
-  w = Setting.w draw
-
-  abbrev next_world : World
-  next_world = Setting.next_world draw
-
-  abbrev longer : List Entry
-  longer = Setting.longer draw
-
-  abbrev next_word : Word
-  next_word = Setting.next_word draw
+  open draw use {makes, k, views, i, v, f, l, o, at, m}
+  open outcome draw use {e, before, w, next_world, longer, next_word}
 
   -- ---- tickets
 
