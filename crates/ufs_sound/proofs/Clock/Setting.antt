@@ -1,0 +1,60 @@
+-- A look, and a tick by the hand with the names.
+use Rattle.std.proofs.Common.{◌≡◌, ℕ, ◌+◌, ◌≤◌, eqb, List, [], ◌∷◌, set, Some, sym, refl, ap, ◌∙◌, subst, inl, arith}
+use mathlib.Core.Option.{some}
+use lib.ListN.{get_elem?}
+use Rattle.ufs_model.specs.declared.data.Lease.{Lease}
+use Rattle.ufs_model.specs.declared.data.PartName.{PartName}
+use Rattle.ufs_model.specs.declared.data.PartName.TheVariants as name
+use Rattle.ufs_sound.specs.Owned.{Has, count, Held, times}
+use Rattle.ufs_sound.specs.LeasesTrue.{IsListed}
+use Rattle.ufs_sound.specs.Parts.{NamesPart, Shortage, View, World, Word, Start, only_one, uses}
+use Rattle.ufs_sound.specs.Sound.{IsSound}
+use Rattle.ufs_sound.specs.Explained.{Showing}
+use Rattle.ufs_sound.specs.Clock.{looked, at_clock, ticked}
+use Rattle.ufs_sound.proofs.Owning.{all_set, change_total, same_holds}
+use Rattle.ufs_sound.proofs.Exchange.{one_exchanged, names_are}
+use Rattle.ufs_sound.specs.BlocksApart.{AreBlocksApart}
+use Rattle.ufs_sound.specs.ClockTrue.{IsClockTrue}
+use Rattle.ufs_sound.specs.CommittedHeld.{IsCommittedHeld}
+use Rattle.ufs_sound.specs.CommittedNumbers.{AreCommittedNumbers}
+use Rattle.ufs_sound.specs.Explained.{AreStatesExplained}
+use Rattle.ufs_sound.specs.FaultsOnce.{AreFaultsOnce}
+use Rattle.ufs_sound.specs.LeasesTrue.{AreLeasesTrue}
+use Rattle.ufs_sound.specs.Legal.{IsOneHistory}
+use Rattle.ufs_sound.specs.OneHand.{IsHeld}
+use Rattle.ufs_sound.specs.Asked.{IsAskedTrue}
+use Rattle.ufs_model.specs.History.{tree_after}
+use Rattle.ufs_sound.specs.Parts.{IsDiskTold}
+
+-- what a look is made of
+pub record Look : Type 1 where
+  pub S : Showing
+  pub k : Start
+  pub word : Word
+  pub views : List View
+  pub i : ℕ
+  pub v : View
+  pub o : IsSound S k word views
+  pub at : get_elem? views i ≡ some v
+
+-- and a tick
+pub record Tick : Type 1 where
+  pub look : Look
+  pub by : ℕ
+  pub n : NamesPart
+  pub has : look.v.names ≡ (tt, n) ∷ []
+
+pub record Ticks (tick : Tick) : Type 0 where
+  pub w : View
+  pub later : Word
+  pub next : World
+
+abbrev pub ticks : (tick : Tick) → Ticks tick
+ticks tick = record {
+  w = ticked tick.look.word tick.by tick.n tick.look.v;
+  later = record { tickets = tick.look.word.tickets; clock = tick.look.word.clock + tick.by };
+  next = record (tick.look.o.world) { names = at_clock (tick.look.word.clock + tick.by) tick.look.o.world.names };
+}
+
+pub was : (S : Showing) (k : Start) (word : Word) (views : List View) (i : ℕ) (v : View) (o : IsSound S k word views) (at : get_elem? views i ≡ some v) (by : ℕ) (n : NamesPart) (has : v.names ≡ (tt, n) ∷ []) → o.world.names ≡ n
+was S k word views i v o at by n has = names_are views i v (ticked word by n v) at o.world o.one_hand tt n (subst (Has (tt, n)) (sym has) (inl refl))
