@@ -29,7 +29,9 @@ use Rattle.ufs_sound.proofs.LeasedReads.{leased_may_draw}
 use Rattle.ufs_sound.proofs.Opened.{opened_can}
 use Rattle.ufs_sound.proofs.Openable.{open_may_draw}
 use Rattle.ufs_sound.proofs.SmallDisk.{has_one_file, no_bytes}
-use Rattle.ufs_hand.specs.Session.{CanBegin, DrewLocal, IsEvent, first_view}
+use Rattle.ufs_sound.specs.Clock.{looked}
+use Rattle.ufs_sound.specs.Rule.{word_at}
+use Rattle.ufs_hand.specs.Session.{CanBegin, DrewLocal, IsEvent, first_view, word_of}
 use Rattle.ufs_hand.specs.declared.hand.Drawn.{Drawn}
 use Rattle.ufs_hand.specs.declared.hand.Drawn.TheVariants as drew
 use Rattle.ufs_hand_tests.specs.Leased.{one_file, open_asked, opens, lease, read_request, reads, opened_by, granted, client_then, holding, read_asked, read_leaves}
@@ -63,7 +65,7 @@ module _ (asked : ℕ) where
       (opened_names (session.disk small_disk)) refl has_one_file.text has_one_file.walk has_one_file.node free refl
 
   module _ (ticket : ℕ) where
-    open' : fin.get (fin.insert fin.empty 3 (session.desc small_disk)) 3 ≡ Some (session.desc small_disk)
+    open' : fin.get {K = ℕ} {R = nat_cmp} (fin.insert fin.empty 3 (session.desc small_disk)) 3 ≡ Some (session.desc small_disk)
     open' = inserted_here nat_cmp_total nat_cmp-IsAntisymmetric fin.empty 3 (session.desc small_disk)
 
     pub grants : IsEvent one_file (opened_by asked ticket) (granted asked ticket)
@@ -127,6 +129,6 @@ has_all v self x p s clients files names next store = record {
 }
 
 pub ends : (asked ticket at : ℕ) (d : Drawn) (w : View) → DrewLocal 5 reads read_leaves (read_asked asked ticket at) d w → HoldsAll one_file w
-ends asked ticket at (drew.Ticket n) w is = subst (HoldsAll one_file) (sym is.4) (has_all (drawn n reads read_leaves (read_asked asked ticket at)) _ _ _ _ refl refl refl refl refl)
-ends asked ticket at (drew.Expired now) w is = subst (HoldsAll one_file) (sym is.4) (has_all (read_asked asked ticket at) _ _ _ _ refl refl refl refl refl)
-ends asked ticket at (drew.Lost found) w is = subst (HoldsAll one_file) (sym is.4) (has_all (read_asked asked ticket at) _ _ _ _ refl refl refl refl refl)
+ends asked ticket at (drew.Ticket n) w is = subst (HoldsAll one_file) (sym is.4) (has_all (drawn n reads read_leaves (looked (word_of n is.0) (read_asked asked ticket at))) _ _ _ _ refl refl refl refl refl)
+ends asked ticket at (drew.Expired now) w is = subst (HoldsAll one_file) (sym is.4) (has_all (looked (word_of is.0 now) (read_asked asked ticket at)) _ _ _ _ refl refl refl refl refl)
+ends asked ticket at (drew.Lost found) w is = subst (HoldsAll one_file) (sym is.4) (has_all (looked (word_at is.0) (read_asked asked ticket at)) _ _ _ _ refl refl refl refl refl)

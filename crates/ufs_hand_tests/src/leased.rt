@@ -96,6 +96,7 @@ fn session<N: Naming>(opened: Opened, open: &Fresh, read: &Fresh, whole: &Lease)
 }
 
 fn grant<N: Naming, E: Event>(table: &HandTable<N>, hand: &mut Hand<N>, asked: u64, ticket: u64)
+    requires start { N.start ≡ one_file }
     requires view { hand.old ≡ opened_by asked ticket }
     requires event { E.leaves ≡ granted asked ticket }
     ensures { (at : ℕ) × (hand.new ≡ granted asked ticket at) }
@@ -104,6 +105,7 @@ fn grant<N: Naming, E: Event>(table: &HandTable<N>, hand: &mut Hand<N>, asked: u
 }
 
 fn ask<N: Naming, E: Event>(table: &HandTable<N>, hand: &mut Hand<N>, asked: u64, ticket: u64)
+    requires start { N.start ≡ one_file }
     requires view { (at : ℕ) × (hand.old ≡ granted asked ticket at) }
     requires event { E.leaves ≡ read_asked asked ticket }
     ensures { (at : ℕ) × (hand.new ≡ read_asked asked ticket at) }
