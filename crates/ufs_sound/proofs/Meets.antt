@@ -18,7 +18,7 @@ use Rattle.ufs_sound.specs.Events.{HadLent, NamesCommit, Failure, file_committed
 use Rattle.ufs_sound.specs.Shown.{nodes_of, ShowsAtLeast, ShowsImages, SameTreesShow}
 use Rattle.ufs_sound.specs.Commits.{TreesGo, IsWrittenBack, AreFilesWrittenBack, IsFileWrittenBack, IsFileCommitted, AreNamesCommitted}
 use Rattle.ufs_sound.specs.Commits.{AreFresh}
-use Rattle.ufs_sound.specs.Meets.{IsFileWrittenBy, AreFilesWrittenBy, HaveTheirBytes, PassagesMay, CommitsFile, FileCommitsMay, CommitsNames, NameCommitsMay, IsFileCommittedBy, AreNamesCommittedBy, MayHaveDone, Fails, FailuresMay, CheckpointsMay}
+use Rattle.ufs_sound.specs.Meets.{IsFileWrittenBy, AreFilesWrittenBy, HaveTheirBytes, PassagesMay, CommitsFile, FileCommitsMay, CommitsNames, NameCommitsMay, MayHaveDone, Fails, FailuresMay, CheckpointsMay}
 use Rattle.ufs_sound.proofs.Commits.{blocks_show, block_writes_show, commit_shows, file_commits_show, names_show, name_commits_show, any_names, fewer_changes, fewer_show, on_the_way}
 use Rattle.ufs_sound.specs.Parts.{IsDiskTold}
 

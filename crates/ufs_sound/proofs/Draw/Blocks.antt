@@ -1,23 +1,18 @@
 -- After a draw committed blocks are kept, and the disk has what isn't in memory.
-use Rattle.std.proofs.Common.{◌≡◌, ℕ, ◌+◌, ◌<◌, ◌≤◌, eqb, List, [], ◌++◌, Some, None, sym, ap, ◌∙◌, subst, ⊎_elim, arith}
+use Rattle.std.proofs.Common.{◌≡◌, ℕ, ◌+◌, ◌≤◌, eqb, List, [], ◌++◌, Some, None, sym, ap, ◌∙◌, subst, ⊎_elim, arith}
 use Rattle.std.specs.FinMap as fin
-use mathlib.Core.Option.{some}
 use native.Mathlib.Decide.{dec_le}
-use lib.ListN.{get_elem?}
 use Rattle.ufs_model.specs.PosixTree.{PosixTree}
 use Rattle.ufs_model.specs.Touched.{holds}
-use Rattle.ufs_model.specs.declared.data.Entry.{Entry}
-use Rattle.ufs_model.specs.declared.data.Lease.{Lease}
 use Rattle.ufs_sound.specs.Owned.{present, Has, count}
 use Rattle.std.specs.Prelude.{slice_get}
 use Rattle.ufs_prefix.specs.Changes.{change_of}
 use Rattle.ufs_sound.specs.Covers.{step_in}
-use Rattle.ufs_sound.specs.Parts.{FilePart, NamesPart, StorePart, View, World, Start, only_one, is_holder}
-use Rattle.ufs_sound.specs.Sound.{IsSound}
+use Rattle.ufs_sound.specs.Parts.{FilePart, NamesPart, StorePart, only_one, is_holder}
 use Rattle.ufs_sound.specs.CommittedHeld.{IsCommittedHeld}
 use Rattle.ufs_sound.specs.DiskBytes.{HasDiskBytes, IsOnDisk}
 use Rattle.ufs_sound.specs.Holds.{AreHoldsTrue}
-use Rattle.ufs_sound.specs.Draws.{Leaves, new_file, DrawsOn, MayDraw}
+use Rattle.ufs_sound.specs.Draws.{new_file}
 use Rattle.ufs_sound.proofs.Owning.{has_count, replaced_else, replaced_count}
 use Rattle.ufs_sound.proofs.Keys.{itself, alike}
 use Rattle.ufs_sound.proofs.Exchange.{value_is, names_single}

@@ -1,18 +1,13 @@
 -- Which part is whose after a draw, and what each part is then.
 use Rattle.std.proofs.Common.{◌≡◌, ℕ, ◌≢◌, ◌⊎◌, cond, eqb, eq-eqb, ne_eqb, List, [], ◌∷◌, ◌++◌, set, Some, None, sym, refl, ap, ◌∙◌, subst, inl, inr, ⊎_elim}
-use mathlib.Core.Option.{some}
 use native.Mathlib.Decide.{ℕ_discrete}
-use lib.ListN.{get_elem?}
-use Rattle.ufs_model.specs.PosixTree.{PosixTree}
 use Rattle.ufs_model.specs.declared.data.Entry.{Entry}
-use Rattle.ufs_sound.specs.declared.fresh.Fresh.{Fresh}
 use Rattle.ufs_sound.specs.Owned.{Has, count}
 use Rattle.ufs_prefix.specs.Changes.{change_of, names_by}
 use Rattle.ufs_sound.specs.Covers.{step_in}
-use Rattle.ufs_sound.specs.Parts.{AskedPart, ClientPart, FilePart, NamesPart, StorePart, View, World, Start, only_one}
-use Rattle.ufs_sound.specs.Sound.{IsSound}
+use Rattle.ufs_sound.specs.Parts.{AskedPart, ClientPart, FilePart, NamesPart, StorePart, View, only_one}
 use Rattle.ufs_sound.specs.OneHand.{IsHeld, DoPartsStay}
-use Rattle.ufs_sound.specs.Draws.{Leaves, entry_of, client_after, new_file, DrawsOn, MayDraw}
+use Rattle.ufs_sound.specs.Draws.{entry_of, client_after, new_file}
 use Rattle.ufs_sound.proofs.Owning.{has_append, replaced_present, has_each, replaced_back}
 use Rattle.ufs_sound.proofs.Keys.{itself, alike}
 use Rattle.ufs_sound.proofs.Exchange.{KeepsNames, world_after, value_after, value_case, value_is, store_is, names_single, names_are, clients_single, held_exchange}

@@ -1,13 +1,10 @@
 -- After a draw the states of the disk show the history.
-use Rattle.std.proofs.Common.{◌≡◌, ℕ, suc, ◌≤◌, List, [], ◌∷◌, length, sym, subst, arith, length-append}
+use Rattle.std.proofs.Common.{◌≡◌, ℕ, suc, ◌≤◌, [], ◌∷◌, length, sym, subst, arith, length-append}
 use native.Mathlib.Decide.{dec_le}
-use Rattle.ufs_model.specs.Laws.{KeepsTrees}
-use Rattle.ufs_model.specs.declared.data.Entry.{Entry}
 use Rattle.std.specs.Prelude.{take}
 use Rattle.ufs_prefix.specs.Changes.{changes_of, name_changes}
-use Rattle.ufs_sound.specs.Parts.{committed, World, Word, Start}
-use Rattle.ufs_sound.specs.Sound.{IsSound}
-use Rattle.ufs_sound.specs.Explained.{AreStatesExplained, Showing}
+use Rattle.ufs_sound.specs.Parts.{committed}
+use Rattle.ufs_sound.specs.Explained.{AreStatesExplained}
 use Rattle.ufs_sound.proofs.Lists.{take_push, take_whole}
 use Rattle.ufs_sound.proofs.Draw.Cases.{store_same}
 use Rattle.ufs_sound.proofs.Draw.History.{legal_after}

@@ -1,22 +1,18 @@
 -- After a draw each fault excuses one entry, the clock is true, and an asked client is answered.
 use Rattle.std.proofs.Common.{◌≡◌, ℕ, suc, ◌+◌, ◌≤◌, ◌≢◌, ◌⊎◌, Bool, true, false, cond, eqb, eqb-true, eq-eqb, ne_eqb, List, [], ◌∷◌, ◌++◌, set, Some, None, sym, refl, ap, ◌∙◌, subst, inl, inr, ⊎_elim, arith}
 use Rattle.std.specs.FinMap as fin
-use mathlib.Core.Option.{some}
 use native.Mathlib.Decide.{ℕ_discrete}
-use lib.ListN.{get_elem?}
 use Rattle.ufs_model.specs.declared.data.Entry.{Entry}
 use Rattle.ufs_model.specs.declared.data.Excuse.TheVariants as excuse
 use Rattle.ufs_model.specs.declared.data.Reply.{Reply}
 use Rattle.ufs_model.specs.declared.data.Reply.TheVariants as reply
-use Rattle.ufs_sound.specs.declared.fresh.Fresh.{Fresh}
 use Rattle.ufs_sound.specs.Owned.{one, Has, times}
 use Rattle.ufs_sound.specs.Owned.{less}
-use Rattle.ufs_sound.specs.Parts.{Shortage, AskedPart, ClientPart, NamesPart, View, World, Word}
-use Rattle.ufs_sound.specs.Sound.{IsSound}
+use Rattle.ufs_sound.specs.Parts.{Shortage, AskedPart, ClientPart, NamesPart, View}
 use Rattle.ufs_sound.specs.FaultsOnce.{AreFaultsOnce, told, tells}
 use Rattle.ufs_sound.specs.ClockTrue.{IsClockTrue}
 use Rattle.ufs_sound.specs.Asked.{IsAskedTrue, IsStill, IsAnswered}
-use Rattle.ufs_sound.specs.Draws.{left_faults, Leaves, MayDraw}
+use Rattle.ufs_sound.specs.Draws.{left_faults}
 use Rattle.ufs_sound.proofs.Owning.{total_set, all_set, weigh_append, same_some, none_some}
 use Rattle.ufs_sound.proofs.Draw.Setting.{Draw, outcome, self_there}
 use Rattle.ufs_sound.proofs.Draw.Cases.{client_case, names_case, asked_same, store_same, last_in}

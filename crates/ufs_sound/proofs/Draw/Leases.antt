@@ -1,13 +1,9 @@
 -- After a draw the leases are true.
-use Rattle.std.proofs.Common.{◌≡◌, ℕ, ◌*◌, ◌<◌, ◌≤◌, ◌≢◌, true, eqb, List, [], ◌∷◌, ◌++◌, length, Option, Some, None, is_some, unwrap_or, sym, refl, ap, ◌∙◌, subst, inl, inr, ⊎_elim, arith}
+use Rattle.std.proofs.Common.{◌≡◌, ℕ, ◌*◌, ◌<◌, ◌≤◌, ◌≢◌, true, eqb, [], ◌∷◌, ◌++◌, length, Option, Some, None, is_some, unwrap_or, sym, refl, ap, ◌∙◌, subst, inl, inr, ⊎_elim, arith}
 use Rattle.std.specs.FinMap as fin
-use mathlib.Core.Option.{some}
 use native.Mathlib.Decide.{dec_le, ℕ_discrete}
-use lib.ListN.{get_elem?}
-use Rattle.ufs_model.specs.PosixTree.{PosixTree}
 use Rattle.ufs_model.specs.History.{tree_after}
 use Rattle.ufs_model.specs.Touched.{holds}
-use Rattle.ufs_model.specs.declared.data.Entry.{Entry}
 use Rattle.ufs_model.specs.declared.data.PartName.{PartName}
 use Rattle.ufs_model.specs.declared.data.PartName.TheVariants as part
 use Rattle.std.specs.Option.{option_map}
@@ -19,12 +15,10 @@ use Rattle.ufs_model.proofs.Facts.Held.{holds_by, holder}
 use Rattle.ufs_model.proofs.Facts.Live.{held_has, number_is}
 use Rattle.ufs_sound.specs.LeasesTrue.{AreLeasesTrue, IsTrueOf, IsLeaseHeld, IsListed, IsListedIn, leased_file}
 use Rattle.ufs_sound.proofs.Keys.{one_itself, one_alike}
-use Rattle.ufs_sound.specs.declared.fresh.Fresh.{Fresh}
 use Rattle.ufs_sound.specs.Owned.{one, Has, count}
-use Rattle.ufs_sound.specs.Parts.{ClientPart, FilePart, NamesPart, View, World, Word, Start, only_one}
-use Rattle.ufs_sound.specs.Sound.{IsSound}
+use Rattle.ufs_sound.specs.Parts.{ClientPart, FilePart, NamesPart, only_one}
 use Rattle.ufs_sound.specs.FaultsOnce.{told}
-use Rattle.ufs_sound.specs.Draws.{Leaves, entry_of, IsFileAfter, DrawsOn, MayDraw}
+use Rattle.ufs_sound.specs.Draws.{entry_of, IsFileAfter}
 use Rattle.ufs_sound.proofs.Owning.{has_count, count_has, same_some, replaced_here, replaced_else}
 use Rattle.ufs_sound.proofs.Keys.{itself, alike}
 use Rattle.ufs_sound.proofs.Exchange.{names_are}

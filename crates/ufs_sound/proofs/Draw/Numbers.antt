@@ -1,19 +1,14 @@
 -- After a draw the committed numbers cover what is acknowledged.
 use Rattle.std.proofs.Common.{◌≡◌, ℕ, ◌≤◌, false, eqb, List, [], ◌∷◌, ◌++◌, length, Some, sym, ap, ◌∙◌, subst, ⊎_elim, arith}
-use mathlib.Core.Option.{some}
-use lib.ListN.{get_elem?}
 use Rattle.ufs_model.specs.PosixTree.{PosixTree}
 use Rattle.ufs_model.specs.declared.data.Entry.{Entry}
 use Rattle.ufs_model.specs.declared.data.Reply.TheVariants as reply
-use Rattle.ufs_model.specs.declared.data.Lease.{Lease}
-use Rattle.ufs_sound.specs.declared.fresh.Fresh.{Fresh}
 use Rattle.ufs_sound.specs.Owned.{Has, count}
 use Rattle.ufs_prefix.specs.Changes.{change_of, changes_of, name_changes}
 use Rattle.ufs_sound.specs.Covers.{step_in, SyncsFile, SyncsNames, CoversFile, CoversNames, CoversBirths, IsBornBy}
-use Rattle.ufs_sound.specs.Parts.{committed, FilePart, NamesPart, StorePart, View, World, Start}
-use Rattle.ufs_sound.specs.Sound.{IsSound}
+use Rattle.ufs_sound.specs.Parts.{committed, FilePart, NamesPart, StorePart}
 use Rattle.ufs_sound.specs.CommittedNumbers.{IsCommittedNames, AreCommittedNumbers}
-use Rattle.ufs_sound.specs.Draws.{Leaves, new_file, DrawsOn}
+use Rattle.ufs_sound.specs.Draws.{new_file}
 use Rattle.ufs_sound.proofs.Owning.{count_has, same_some}
 use Rattle.ufs_sound.proofs.Keys.{itself, alike}
 use Rattle.ufs_sound.proofs.Covering.{changes_front, more_changes, more_names, born_push, covers_file_push, covers_names_push, covers_births_push}

@@ -1,20 +1,14 @@
 -- After a draw each ticket has one entry, and each client's entries are numbered in their order.
 use Rattle.std.proofs.Common.{◌≡◌, ℕ, ◌<◌, ◌≤◌, ◌≢◌, eqb, List, [], ◌∷◌, ◌++◌, length, map, Some, None, sym, ap, ◌∙◌, subst, ⊎_elim, arith, length-append}
-use mathlib.Core.Option.{some}
 use native.Mathlib.Decide.{ℕ_discrete}
-use lib.ListN.{get_elem?}
 use Rattle.ufs_model.specs.PosixTree.{PosixTree}
 use Rattle.ufs_model.specs.History.{entries_of}
 use Rattle.ufs_model.specs.declared.data.Entry.{Entry}
-use Rattle.ufs_sound.specs.declared.fresh.Fresh.{Fresh}
 use Rattle.ufs_sound.specs.Owned.{present}
 use Rattle.std.specs.List.{range_with_len}
-use Rattle.ufs_model.specs.Laws.{MakesOneFile}
 use Rattle.ufs_model.proofs.Facts.Histories.{own-push, others-push, numbers-push}
-use Rattle.ufs_sound.specs.Parts.{ClientPart, View, World, Word, Start}
-use Rattle.ufs_sound.specs.Sound.{IsSound}
+use Rattle.ufs_sound.specs.Parts.{ClientPart, View}
 use Rattle.ufs_sound.specs.TicketsOnce.{AreTicketsOnce}
-use Rattle.ufs_sound.specs.Draws.{Leaves, MayDraw}
 use Rattle.ufs_sound.proofs.Owning.{replaced_present, none_some}
 use Rattle.ufs_sound.proofs.Keys.{itself, alike}
 use Rattle.ufs_sound.proofs.Covering.{excused_or, tree_served, tree_stays}

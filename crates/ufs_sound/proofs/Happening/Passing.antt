@@ -1,5 +1,5 @@
 -- A write and a barrier are a remake of their hand's parts.
-use Rattle.std.proofs.Common.{◌≡◌, ℕ, ◌≤◌, ◌⊎◌, List, [], ◌∷◌, length, sym, refl, ap, ◌∙◌, subst, inl, inr, ⊎_elim, arith}
+use Rattle.std.proofs.Common.{◌≡◌, ℕ, ◌≤◌, List, length, sym, refl, ap, ◌∙◌, subst, inr, ⊎_elim, arith}
 use Rattle.ufs_model.specs.declared.data.Entry.{Entry}
 use Rattle.ufs_sound.specs.Owned.{Has, count}
 use Rattle.ufs_sound.specs.Parts.{FilePart, NamesPart, StorePart, View, Start, only_one, uses}

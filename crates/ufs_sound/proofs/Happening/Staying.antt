@@ -1,20 +1,15 @@
 -- What an event without an entry leaves as it is.
-use Rattle.std.proofs.Common.{◌≡◌, ℕ, ◌+◌, ◌≤◌, ◌⊎◌, false, eqb, List, [], ◌∷◌, length, ◌++◌, Option, Some, None, unwrap_or, sym, refl, ap, ◌∙◌, subst, inl, inr, ⊎_elim, arith, Bool, true, eqb-true, eq-eqb}
+use Rattle.std.proofs.Common.{◌≡◌, ℕ, ◌+◌, ◌≤◌, ◌⊎◌, false, eqb, List, [], ◌∷◌, length, ◌++◌, Some, sym, refl, ap, ◌∙◌, subst, inl, inr, ⊎_elim, arith, Bool, true, eqb-true, eq-eqb}
 use Rattle.std.specs.Prelude.{slice_get}
 use Rattle.std.specs.FinMap as fin
-use Rattle.std.specs.FinMap.{nat_cmp-IsAntisymmetric}
-use Rattle.std.specs.Cmp.{nat_cmp_total}
-use Rattle.ufs_model.proofs.Facts.Lookups.{inserted_here, inserted_else}
-use Rattle.ufs_sound.specs.Owned.{Has, count, times, weigh, one}
-use Rattle.ufs_sound.specs.Parts.{Cells, FilePart, NamesPart, StorePart, View, Start, only_one, uses, file_uses, names_uses, dropped_uses, store_uses, committed, Shortage}
-use Rattle.ufs_sound.specs.Explained.{Showing}
+use Rattle.ufs_sound.specs.Owned.{Has, times, one}
+use Rattle.ufs_sound.specs.Parts.{FilePart, NamesPart, StorePart, View, Start, uses, committed}
 use Rattle.ufs_sound.specs.DiskBytes.{block_on, is_loaded, block_in}
-use Rattle.ufs_sound.specs.Marks.{value_after, IsSingle, StoreGoes, NamesGo, IsQuiet, IsTurn, AreAnswers, RemakesOn, MayRemake, HadChanges, HasChanges, AreBlocksKept, DoNumbersRise, IsDiskKept}
-use Rattle.ufs_sound.specs.Events.{IsFileMoved, AreNamesMoved, Moved, moved, MayMove, IsLent, turn_begun, turning, IsFileTold, told_files, MayTell, blocks_dropped, NamesCommit, names_committed, committed_names, naming, MayCommitNames, file_committed, committed_part, committing, MayCommitFile, HadLent, Failure, failed, failing, MayFail, Checkpoint, checkpointed, freed_names, checkpointing, MayCheckpoint, answered, answering, MayAnswer}
-use Rattle.ufs_sound.proofs.Owning.{has_find, same_some, count_has, has_append, append_has}
+use Rattle.ufs_sound.specs.Marks.{value_after, IsSingle, IsQuiet, AreAnswers, HadChanges, HasChanges, AreBlocksKept, DoNumbersRise, IsDiskKept}
+use Rattle.ufs_sound.specs.Events.{HadLent}
+use Rattle.ufs_sound.proofs.Owning.{has_find, same_some}
 use Rattle.ufs_sound.proofs.Keys.{itself, alike}
-use Rattle.ufs_sound.proofs.Exchange.{value_case, value_is}
-use native.Mathlib.Decide.{dec_le}
+use Rattle.ufs_sound.proofs.Exchange.{value_is}
 use Rattle.ufs_model.specs.declared.data.Entry.{Entry}
 
 -- ---- values under one name
@@ -28,8 +23,6 @@ module _ (v : View) (one : IsSingle v) where
 
   pub store_here : (s x : StorePart) → s ≡ value_after v.store s → Has (tt, x) v.store → s ≡ x
   store_here s x e h = e ∙ value_is v.store s x one.store h
-
-
 
 pub with_unassigned : (s : StorePart) (a b : List ℕ) → a ≡ b → ◌≡◌ {A = StorePart} (record s { unassigned = a }) (record s { unassigned = b })
 with_unassigned s a b e = λ j. record s { unassigned = e j }

@@ -1,22 +1,13 @@
 -- A store turn that begins is a remake of its hand's parts.
-use Rattle.std.proofs.Common.{◌≡◌, ℕ, ◌+◌, ◌≤◌, ◌⊎◌, false, eqb, List, [], ◌∷◌, length, ◌++◌, Option, Some, None, unwrap_or, sym, refl, ap, ◌∙◌, subst, inl, inr, ⊎_elim, arith, Bool, true, eqb-true, eq-eqb}
-use Rattle.std.specs.Prelude.{slice_get}
+use Rattle.std.proofs.Common.{◌≡◌, ℕ, ◌≤◌, List, [], ◌∷◌, length, sym, refl, ap, ◌∙◌, subst, inl, inr, ⊎_elim, arith}
 use Rattle.std.specs.FinMap as fin
-use Rattle.std.specs.FinMap.{nat_cmp-IsAntisymmetric}
-use Rattle.std.specs.Cmp.{nat_cmp_total}
-use Rattle.ufs_model.proofs.Facts.Lookups.{inserted_here, inserted_else}
-use Rattle.ufs_sound.specs.Owned.{Has, count, times, weigh, one}
-use Rattle.ufs_sound.specs.Parts.{Cells, FilePart, NamesPart, StorePart, View, Start, only_one, uses, file_uses, names_uses, dropped_uses, store_uses, committed, Shortage}
+use Rattle.ufs_sound.specs.Owned.{Has, count}
+use Rattle.ufs_sound.specs.Parts.{FilePart, NamesPart, StorePart, View, Start, only_one, uses, committed}
 use Rattle.ufs_sound.specs.Explained.{Showing}
-use Rattle.ufs_sound.specs.DiskBytes.{block_on, is_loaded}
-use Rattle.ufs_sound.specs.Marks.{value_after, IsSingle, StoreGoes, NamesGo, IsQuiet, IsTurn, AreAnswers, RemakesOn, MayRemake, HadChanges, HasChanges}
-use Rattle.ufs_sound.specs.Events.{IsFileMoved, AreNamesMoved, Moved, moved, MayMove, IsLent, turn_begun, turning, IsFileTold, told_files, MayTell, blocks_dropped, NamesCommit, names_committed, committed_names, naming, MayCommitNames, file_committed, committed_part, committing, MayCommitFile, HadLent, Failure, failed, failing, MayFail, Checkpoint, checkpointed, freed_names, checkpointing, MayCheckpoint, answered, answering, MayAnswer}
-use Rattle.ufs_sound.proofs.Owning.{has_find, same_some, count_has, has_append, append_has}
-use Rattle.ufs_sound.proofs.Keys.{itself, alike}
-use Rattle.ufs_sound.proofs.Exchange.{value_case, value_is}
-use native.Mathlib.Decide.{dec_le}
-use Rattle.ufs_model.specs.declared.data.Entry.{Entry}
-use Rattle.ufs_sound.proofs.Happening.Staying.{same_file, names_here, store_here, with_unassigned, answers_stay, quiet, blocks_stay, numbers_stay, disk_stays, names_remade, same_parts_keep, same_parts_know, same_parts_load, times_append, times_has, has_times, lent_had, lent_has}
+use Rattle.ufs_sound.specs.DiskBytes.{block_on}
+use Rattle.ufs_sound.specs.Marks.{value_after, IsSingle, StoreGoes, NamesGo, IsTurn, RemakesOn, MayRemake}
+use Rattle.ufs_sound.specs.Events.{IsLent, turn_begun, turning}
+use Rattle.ufs_sound.proofs.Happening.Staying.{same_file, names_here, answers_stay, blocks_stay, numbers_stay, disk_stays, same_parts_keep, same_parts_know, same_parts_load}
 
 module _ (S : Showing) (k : Start) (n : ℕ) (v : View) (s0 : StorePart) (has : v.store ≡ (tt, s0) ∷ []) (lent : List (ℕ × ℕ)) (lent_names : ℕ) (l : IsLent v lent lent_names) where
   abbrev turned : View

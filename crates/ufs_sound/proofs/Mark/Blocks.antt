@@ -1,41 +1,14 @@
 -- After a mark the committed blocks are kept, and no block is in two parts.
-use Rattle.std.proofs.Common.{◌≡◌, ℕ, zero, suc, ◌<◌, ◌≤◌, ◌≢◌, ◌⊎◌, false, eqb, eq-eqb, List, [], ◌∷◌, ◌++◌, length, set, Option, Some, None, is_some, sym, refl, ap, ◌∙◌, subst, inl, inr, ⊎_elim, arith}
-use Rattle.std.specs.Prelude.{take, slice_get, slice_index_or}
+use Rattle.std.proofs.Common.{◌≡◌, ℕ, ◌<◌, ◌≤◌, eqb, List, set, Some, None, is_some, sym, ap, ◌∙◌, ⊎_elim, arith}
 use Rattle.std.specs.FinMap as fin
-use mathlib.Core.Option.{some}
 use native.Mathlib.Decide.{dec_le}
-use lib.ListN.{get_elem?}
-use Rattle.ufs_model.specs.PosixTree.{Paths}
 use Rattle.ufs_model.specs.History.{tree_after}
-use Rattle.ufs_model.specs.Laws.{KeepsTrees}
-use Rattle.ufs_model.specs.declared.data.Lease.{Lease}
-use Rattle.ufs_model.specs.declared.data.PartName.{PartName}
-use Rattle.ufs_model.specs.declared.data.PartName.TheVariants as name
-use Rattle.ufs_sound.specs.LeasesTrue.{IsListed}
-use Rattle.ufs_sound.specs.Owned.{one, weigh, present, Has, count, times, replaced}
-use Rattle.ufs_prefix.specs.Changes.{NameState, changes_of, name_changes}
-use Rattle.ufs_prefix.proofs.Facts.Histories.{changes_of-append, name_changes-append}
-use Rattle.ufs_sound.specs.Covers.{IsBornBy}
-use Rattle.ufs_sound.specs.Parts.{FilePart, NamesPart, StorePart, Cells, Stretch, Shortage, View, World, Word, Start, only_one, uses, file_uses, committed, is_holder}
-use Rattle.ufs_sound.specs.Sound.{IsSound}
-use Rattle.ufs_sound.specs.OneHand.{IsHeld, DoPartsStay}
-use Rattle.ufs_sound.specs.Legal.{IsOneHistory, FitsFile, FitsNames}
+use Rattle.ufs_sound.specs.Owned.{present, Has, count}
+use Rattle.ufs_sound.specs.Parts.{FilePart, uses}
 use Rattle.ufs_sound.specs.BlocksApart.{AreBlocksApart}
 use Rattle.ufs_sound.specs.CommittedHeld.{IsCommittedHeld}
-use Rattle.ufs_sound.specs.CommittedNumbers.{AreCommittedNumbers}
-use Rattle.ufs_sound.specs.DiskBytes.{HasDiskBytes, is_loaded, block_in, block_on}
-use Rattle.ufs_sound.specs.Holds.{AreHoldsTrue}
-use Rattle.ufs_sound.specs.Explained.{AreJoined, AreStatesExplained, Showing}
-use Rattle.ufs_sound.specs.FaultsOnce.{AreFaultsOnce}
-use Rattle.ufs_sound.specs.ClockTrue.{IsClockTrue}
-use Rattle.ufs_sound.specs.Marks.{IsSingle, StoreGoes, NamesGo, IsMadeBy, HadChanges, HasChanges, IsQuiet, IsTurn, RemakesOn, MayRemake}
-use Rattle.ufs_sound.proofs.Owning.{total_set, total_at, total_two, all_set, change_total, count_has, has_count, same_some, replaced_back, replaced_else, replaced_here, replaced_count, replaced_present, same_holds, once_in, some_view}
-use Rattle.ufs_sound.proofs.Keys.{itself, alike, one_itself, one_alike}
-use Rattle.ufs_sound.proofs.Exchange.{value_after, value_case, kind_exchanged, one_exchanged, names_are, store_is}
-use Rattle.ufs_sound.proofs.Lists.{take_whole, front_same, take_front, take_more}
-use Rattle.ufs_sound.proofs.Explaining.{explains_cut}
-use Rattle.ufs_sound.proofs.Covering.{changes_front, names_front, covers_more, names_more, born_more, births_more}
-use Rattle.ufs_sound.specs.Parts.{IsDiskTold}
+use Rattle.ufs_sound.proofs.Owning.{change_total, has_count, replaced_else, replaced_count}
+use Rattle.ufs_sound.proofs.Keys.{itself, alike}
 use Rattle.ufs_sound.proofs.Mark.Setting.{Mark, Remade, remaking}
 
 module _ (mark : Mark) where
