@@ -1,5 +1,5 @@
 -- What stands in the data blocks at each moment of a commit and of a checkpoint.
-use Rattle.std.proofs.Common.{◌≡◌, ◌≢◌, ℕ, ◌≤◌, ◌⊎◌, inl, inr, List, Bool, false, length, refl, sym, ◌∙◌, ap, subst, arith}
+use Rattle.std.proofs.Common.{◌≡◌, ℕ, ◌≤◌, ◌⊎◌, inl, inr, List, Bool, false, length, refl, ◌∙◌, subst, arith}
 use Rattle.ufs_disk.specs.Disk.{State, IsImage, Leaves, IsPartlyWritten, Mixes, put}
 use Rattle.ufs_disk.specs.Moments.{Moments, LeavesOnly}
 use Rattle.ufs_disk.proofs.Images.{put_one, put_other}
@@ -7,7 +7,6 @@ use Rattle.ufs_disk.proofs.Runs.{weaker, joined}
 use Rattle.ufs_base.specs.Images.{Image}
 use Rattle.ufs_image.specs.Agree.{IsOfBlock}
 use Rattle.ufs_image.specs.Fold.{folded}
-use Rattle.ufs_image.specs.Images.{block_at}
 use Rattle.ufs_image.proofs.Blocks.{block_same}
 use Rattle.ufs_layout.specs.declared.geometry.Geometry.{Geometry}
 use Rattle.ufs_layout.specs.declared.records.Committed.{Committed}

@@ -1,5 +1,5 @@
 -- The conditions of what the store does are met by the trees of the disk's images.
-use Rattle.std.proofs.Common.{◌≡◌, ◌≢◌, ◌≤◌, ◌⊎◌, inl, inr, ℕ, Bool, cond, eqb, eq-eqb, ne_eqb, List, ◌∷◌, length, Some, None, unwrap_or, ap, sym, refl, ◌∙◌, subst, arith}
+use Rattle.std.proofs.Common.{◌≡◌, ◌≢◌, ◌≤◌, ◌⊎◌, inl, inr, ⊎_elim, ℕ, Bool, cond, eqb, eq-eqb, ne_eqb, List, ◌∷◌, length, Some, None, unwrap_or, ap, sym, refl, ◌∙◌, subst, arith}
 use Rattle.std.specs.FinMap as map
 use Rattle.std.specs.Prelude.{slice_index_or}
 use Rattle.std.specs.Cmp.{nat_cmp_total}
@@ -16,9 +16,9 @@ use Rattle.ufs_sound.specs.Parts.{Cells, FilePart, NamesPart, StorePart, View, S
 use Rattle.ufs_model.specs.Start.{PathNodes}
 use Rattle.ufs_sound.specs.Events.{HadLent, NamesCommit, Failure, file_committed}
 use Rattle.ufs_sound.specs.Shown.{nodes_of, ShowsAtLeast, ShowsImages, SameTreesShow}
-use Rattle.ufs_sound.specs.Commits.{TreesGo, IsWrittenBack, AreFilesWrittenBack, IsFileWrittenBack, IsFileCommitted, AreNamesCommitted}
+use Rattle.ufs_sound.specs.Commits.{TreesGo, IsWrittenBack, AreFilesWrittenBack, IsFileWrittenBack, IsFileCommitted, AreNamesCommitted, TreesMayGo}
 use Rattle.ufs_sound.specs.Commits.{AreFresh}
-use Rattle.ufs_sound.specs.Meets.{IsFileWrittenBy, AreFilesWrittenBy, HaveTheirBytes, PassagesMay, CommitsFile, FileCommitsMay, CommitsNames, NameCommitsMay, MayHaveDone, Fails, FailuresMay, CheckpointsMay}
+use Rattle.ufs_sound.specs.Meets.{IsFileWrittenBy, AreFilesWrittenBy, HaveTheirBytes, PassagesMay, CommitsFile, FileCommitsMay, CommitsNames, NameCommitsMay, MayHaveDone, Fails, FailuresMay, CheckpointsMay, NothingIsDone, NothingIsWritten, WritesAreDone, FileCommitsAreDone, NameCommitsAreDone}
 use Rattle.ufs_sound.proofs.Commits.{blocks_show, block_writes_show, commit_shows, file_commits_show, names_show, name_commits_show, any_names, fewer_changes, fewer_show, on_the_way}
 use Rattle.ufs_sound.specs.Parts.{IsDiskTold}
 
@@ -176,6 +176,30 @@ failures_may k v s paths f is = record {
   own = is.own;
   inside = λ told h had old d at. on_the_way k.tree h (committed s) s.names s.paths (MayHaveDone k v s paths) s.state d (done_on_the_way k v s paths f is h had) (is.between told d at) old;
 }
+
+-- ---- what a call may have done
+
+may_go_by : (One Other : PathNodes → PathNodes → Type 0) (old new : Cells) → ((before after : PathNodes) → One before after → Other before after) → TreesMayGo One old new → TreesMayGo Other old new
+may_go_by One Other old new leads go image at =
+    let g = go image at in (g.0, g.1, ⊎_elim (λ same. inl same) (λ goes. inr (λ before opened. let n = goes before opened in (n.0, n.1, leads (nodes_of before) (nodes_of n.0) n.2))) g.2)
+
+pub nothing_is_done : NothingIsDone
+nothing_is_done k v s paths old new same image at = let g = same image at in (g.0, g.1, inl g.2)
+
+pub nothing_is_written : NothingIsWritten
+nothing_is_written v s paths old new same image at = let g = same image at in (g.0, g.1, λ before opened. (before, g.2 ∙ opened, λ path. inl refl))
+
+pub writes_are_done : WritesAreDone
+writes_are_done k v s paths old new go = may_go_by (AreFilesWrittenBy v s paths) (MayHaveDone k v s paths) old new (λ before after goes. inl goes) go
+
+pub file_commits_are_done : FileCommitsAreDone
+file_commits_are_done k v s paths file x old new held lent made go =
+    may_go_by (IsFileCommitted paths file x.bytes) (MayHaveDone k v s paths) old new (λ before after goes. inr (inl (record { file = file; part = x; held = held; lent = lent; made = made; goes = goes }))) go
+
+pub name_commits_are_done : NameCommitsAreDone
+name_commits_are_done k v s paths fresh p old new held lent made last new_files go =
+    may_go_by (AreNamesCommitted fresh paths p.paths) (MayHaveDone k v s paths) old new
+    (λ before after goes. inr (inr (record { part = p; held = held; lent = lent; made = made; last_names = last; fresh = fresh; new = new_files; goes = goes }))) go
 
 -- ---- a checkpoint
 

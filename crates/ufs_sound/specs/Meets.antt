@@ -143,6 +143,28 @@ pub record Fails (k : Start) (v : View) (s : StorePart) (paths : Paths) (f : Fai
 abbrev pub FailuresMay : Type 0
 FailuresMay = (k : Start) (v : View) (s : StorePart) (paths : Paths) (f : Failure) → Fails k v s paths f → MayFail by_images k v s f
 
+-- ---- what a call may have done
+
+-- Where each image opens as one of before does, nothing is done,
+abbrev pub NothingIsDone : Type 0
+NothingIsDone = (k : Start) (v : View) (s : StorePart) (paths : Paths) (old new : Cells) → OpensAs old new → TreesMayGo (MayHaveDone k v s paths) old new
+
+-- and nothing is written, as by a barrier.
+abbrev pub NothingIsWritten : Type 0
+NothingIsWritten = (v : View) (s : StorePart) (paths : Paths) (old new : Cells) → OpensAs old new → TreesGo (AreFilesWrittenBy v s paths) old new
+
+abbrev pub WritesAreDone : Type 0
+WritesAreDone = (k : Start) (v : View) (s : StorePart) (paths : Paths) (old new : Cells) → TreesMayGo (AreFilesWrittenBy v s paths) old new → TreesMayGo (MayHaveDone k v s paths) old new
+
+abbrev pub FileCommitsAreDone : Type 0
+FileCommitsAreDone = (k : Start) (v : View) (s : StorePart) (paths : Paths) (file : ℕ) (x : FilePart) (old new : Cells) → Has (file, x) v.files → Has (file, length x.changes) s.lent → committed s file ≤ length x.changes
+    → TreesMayGo (IsFileCommitted paths file x.bytes) old new → TreesMayGo (MayHaveDone k v s paths) old new
+
+abbrev pub NameCommitsAreDone : Type 0
+NameCommitsAreDone = (k : Start) (v : View) (s : StorePart) (paths : Paths) (fresh : ℕ → Bool) (p : NamesPart) (old new : Cells) → Has (tt, p) v.names → s.lent_names ≡ length p.changes → s.names ≤ length p.changes
+    → (slice_index_or (names_of k.tree ∷ p.changes) (length p.changes) (names_of k.tree)).paths ≡ p.paths → AreFresh fresh k.tree (committed s)
+    → TreesMayGo (AreNamesCommitted fresh paths p.paths) old new → TreesMayGo (MayHaveDone k v s paths) old new
+
 -- ---- a checkpoint
 
 -- Each image on the way opens as one from before does.

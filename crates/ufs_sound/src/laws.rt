@@ -2,7 +2,7 @@
 ghost use Rattle.ufs_sound.specs.Covers.{CoversAsSynced};
 ghost use Rattle.ufs_sound.specs.Shown.{OpeningsShow, SameTreesShow};
 ghost use Rattle.ufs_sound.specs.Commits.{BlockWritesShow, FileCommitsShow, NameCommitsShow, UnbornAreFresh, FewerShow};
-ghost use Rattle.ufs_sound.specs.Meets.{PassagesMay, FileCommitsMay, NameCommitsMay, FailuresMay, CheckpointsMay};
+ghost use Rattle.ufs_sound.specs.Meets.{PassagesMay, FileCommitsMay, NameCommitsMay, FailuresMay, CheckpointsMay, NothingIsDone, NothingIsWritten, WritesAreDone, FileCommitsAreDone, NameCommitsAreDone};
 ghost use Rattle.ufs_sound.specs.ByImages.{by_images};
 ghost use Rattle.ufs_sound.specs.First.{NewDiskOpens, BlindDisksOpen};
 ghost use Rattle.ufs_sound.specs.Opened.{OpenedDisksServe, SettledDisksOpen};
@@ -140,6 +140,16 @@ pub fn images_meet_commits()
 {
     images_show_trees();
 }
+
+/// What a call may have done before it failed: nothing, a write, a commit of a file or one of names; and a barrier writes
+/// nothing.
+pub fn calls_that_fail_may_have_done()
+    ensures nothing { NothingIsDone }
+    ensures unwritten { NothingIsWritten }
+    ensures write { WritesAreDone }
+    ensures file { FileCommitsAreDone }
+    ensures names { NameCommitsAreDone }
+{}
 
 /// Every image that a crash may have left since the opening opens to a tree that the history explains: by the store's part
 /// at any time, and at the end by one whole history.

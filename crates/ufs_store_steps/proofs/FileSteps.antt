@@ -1,14 +1,12 @@
 -- A commit of a file, by the trees of what a crash leaves.
-use Rattle.std.proofs.Common.{◌≡◌, ◌≢◌, ◌⊎◌, inl, inr, ⊎_elim, ℕ, ◌<◌, ◌≤◌, List, [], length, Bool, false, Option, Some, None, ap, sym, refl, ◌∙◌, subst, arith}
+use Rattle.std.proofs.Common.{◌≡◌, ◌≢◌, ◌⊎◌, inl, inr, ⊎_elim, ℕ, ◌<◌, List, [], false, Option, Some, None, ap, sym, refl, ◌∙◌, subst, arith}
 use Rattle.std.specs.Option.{option_map}
 use Rattle.std.specs.FinMap as map
-use native.Mathlib.Decide.{ℕ_discrete}
 use Rattle.ufs_base.specs.Images.{Image}
 use Rattle.ufs_disk.specs.Disk.{Cell, State, IsImage, possible, Leaves}
 use Rattle.ufs_layout.specs.Superblock.{geometry_of}
 use Rattle.ufs_layout.specs.declared.geometry.Geometry.{Geometry}
 use Rattle.ufs_layout.specs.declared.records.Committed.{Committed}
-use Rattle.ufs_layout.specs.declared.superblock.Super.{Super}
 use Rattle.ufs_image.specs.Images.{block_at}
 use Rattle.ufs_image.specs.Opens.{opens}
 use Rattle.ufs_image.specs.Catalog.{HasBlock, IsInode}
@@ -16,7 +14,6 @@ use Rattle.ufs_image.specs.Sound.{IsSoundCatalog}
 use Rattle.ufs_model.specs.PosixTree.{Paths}
 use Rattle.ufs_model.specs.declared.data.Node.{Node}
 use Rattle.ufs_model.specs.declared.data.Node.TheVariants.{Dir, File}
-use Rattle.ufs_prefix.specs.FileChanges.{byte_at}
 use Rattle.ufs_prefix.proofs.Facts.Shows.{shown_exactly}
 use Rattle.ufs_ledger.specs.Ledger.{IsDataBlock, IsMixOf, is_held, Stand, with_one, Ledger, IsLeft, IsLeftBy}
 use Rattle.ufs_ledger.specs.Changes.{committing, settled}
@@ -29,7 +26,7 @@ use Rattle.ufs_sound.specs.Parts.{Cells}
 use Rattle.ufs_sound.specs.Shown.{node_of, nodes_of}
 use Rattle.ufs_sound.specs.Commits.{IsFileCommitted}
 use Rattle.ufs_store_steps.specs.Cells.{AreCellsOf}
-use Rattle.ufs_store_steps.specs.Files.{HasFiles, CommitsBytes}
+use Rattle.ufs_store_steps.specs.Files.{CommitsBytes}
 use Rattle.ufs_store_steps.specs.Steps.{IsBefore, FilesCommitBytes, FileCommitsMayGo, FileCommitsGo}
 use Rattle.ufs_store_steps.proofs.Within.{left_within}
 use Rattle.ufs_store_steps.proofs.Cells.{ImageGoes, cells_go, cells_may_go}
@@ -111,16 +108,22 @@ module _ (g : Geometry) (sectors : ℕ) (old new : State) (l : Ledger) (n : Numb
 
   by_now : (image : Image) → IsImage new image → (blocks : ℕ → Cell) → IsLeft sectors l.head blocks l.now image → (before : Image) × IsImage old before × ((opens sectors image ≡ opens sectors before) ⊎ Goes before image)
   by_now image at blocks left =
-      let k = data' image at in
-      (k.before, k.left, inl (one_tree_of sectors image k.before l.now l.now n n paths (shows_files g sectors l.head blocks l.now image left is.geometry n paths is.files) (was_shown g sectors old l n paths one is k.before k.left)
-      (same_files g sectors old l n paths one is image k)))
+      let k = data' image at in (
+        k.before,
+        k.left,
+        inl (one_tree_of sectors image k.before l.now l.now n n paths (shows_files g sectors l.head blocks l.now image left is.geometry n paths is.files) (was_shown g sectors old l n paths one is k.before k.left)
+            (same_files g sectors old l n paths one is image k)),
+      )
 
   by_after : (image : Image) → IsImage new image → IsLeft sectors l.head (settled l).blocks (with_one (geometry_of l.head) t l.now) image → (before : Image) × IsImage old before × Goes before image
   by_after image at left =
       let k = data' image at in
-      let x = was_shown g sectors old l n paths one is k.before k.left in
-      (k.before, k.left, goes_by sectors k.before image l.now (with_one g t l.now) n n paths paths (IsFileCommitted paths file bytes) x (its_files g sectors l n paths t file bytes is.geometry c image (to_g image left))
-      (file_goes g sectors l n paths t file bytes is.geometry c image (to_g image left) k.before x (same_files g sectors old l n paths one is image k)))
+      let x = was_shown g sectors old l n paths one is k.before k.left in (
+        k.before,
+        k.left,
+        goes_by sectors k.before image l.now (with_one g t l.now) n n paths paths (IsFileCommitted paths file bytes) x (its_files g sectors l n paths t file bytes is.geometry c image (to_g image left))
+            (file_goes g sectors l n paths t file bytes is.geometry c image (to_g image left) k.before x (same_files g sectors old l n paths one is image k)),
+      )
 
   within : (image again : Image) → IsLeftBy sectors l image ⊎ IsLeftBy sectors (committing t (settled l)) image → ((s : ℕ) → s < sectors → image s ≡ again s) → opens sectors again ≡ opens sectors image
   within image again (inl left) alike = left_within sectors l.head l.blocks l.now image again (on_one sectors l image is.none left) alike

@@ -1,5 +1,5 @@
 -- A commit of names, by the trees of what a crash leaves.
-use Rattle.std.proofs.Common.{◌≡◌, ◌⊎◌, inl, inr, ⊎_elim, ℕ, ◌<◌, List, [], take, Bool, true, false, Option, Some, None, ap, sym, refl, ◌∙◌, subst, arith}
+use Rattle.std.proofs.Common.{◌≡◌, ◌⊎◌, inl, inr, ⊎_elim, ℕ, ◌<◌, List, [], take, Bool, true, false, Option, Some, None, ap, sym, refl, ◌∙◌, subst}
 use Rattle.std.specs.Prelude.{flat_map}
 use Rattle.std.specs.Option.{option_map}
 use Rattle.std.specs.FinMap as map
@@ -11,12 +11,10 @@ use Rattle.ufs_layout.specs.declared.records.Committed.{Committed}
 use Rattle.ufs_image.specs.Images.{block_at}
 use Rattle.ufs_image.specs.Opens.{opens}
 use Rattle.ufs_model.specs.PosixTree.{Paths}
-use Rattle.ufs_model.specs.Start.{PathNodes}
 use Rattle.ufs_model.specs.declared.data.Node.{Node}
 use Rattle.ufs_model.specs.declared.data.Node.TheVariants.{Dir, File}
-use Rattle.ufs_model.specs.declared.data.PathNode.{PathNode}
 use Rattle.ufs_prefix.specs.Explained.{IsNodeWith}
-use Rattle.ufs_ledger.specs.Ledger.{Stand, with_one, Ledger, IsLeft, IsLeftBy}
+use Rattle.ufs_ledger.specs.Ledger.{with_one, Ledger, IsLeft, IsLeftBy}
 use Rattle.ufs_ledger.specs.Changes.{committing, settled}
 use Rattle.ufs_ledger.specs.Data.{KeepsData}
 use Rattle.ufs_ledger.specs.Kept.{Numbers, Shape, shape_of}
@@ -26,7 +24,7 @@ use Rattle.ufs_sound.specs.Parts.{Cells}
 use Rattle.ufs_sound.specs.Shown.{node_of, nodes_of}
 use Rattle.ufs_sound.specs.Commits.{IsKeptFile, IsCommittedFile, AreNamesCommitted}
 use Rattle.ufs_store_steps.specs.Cells.{AreCellsOf}
-use Rattle.ufs_store_steps.specs.Files.{HasFiles, IsKeptShape, CommitsPaths}
+use Rattle.ufs_store_steps.specs.Files.{IsKeptShape, CommitsPaths}
 use Rattle.ufs_store_steps.specs.Steps.{IsBefore, NameCommitsMayGo, NameCommitsGo}
 use Rattle.ufs_store_steps.proofs.Within.{left_within}
 use Rattle.ufs_store_steps.proofs.Cells.{ImageGoes, cells_go, cells_may_go}
@@ -79,16 +77,22 @@ module _ (g : Geometry) (sectors : ℕ) (old new : State) (l : Ledger) (n m : Nu
 
   by_now : (image : Image) → IsImage new image → (blocks : ℕ → Cell) → IsLeft sectors l.head blocks l.now image → (before : Image) × IsImage old before × ((opens sectors image ≡ opens sectors before) ⊎ Goes before image)
   by_now image at blocks left =
-      let k = data' image at in
-      (k.before, k.left, inl (one_tree_of sectors image k.before l.now l.now n n paths (shows_files g sectors l.head blocks l.now image left is.geometry n paths is.files) (was_shown g sectors old l n paths one is k.before k.left)
-      (same_files g sectors old l n paths one is image k)))
+      let k = data' image at in (
+        k.before,
+        k.left,
+        inl (one_tree_of sectors image k.before l.now l.now n n paths (shows_files g sectors l.head blocks l.now image left is.geometry n paths is.files) (was_shown g sectors old l n paths one is k.before k.left)
+            (same_files g sectors old l n paths one is image k)),
+      )
 
   by_after : (image : Image) → IsImage new image → IsLeft sectors l.head (settled l).blocks (with_one (geometry_of l.head) t l.now) image → (before : Image) × IsImage old before × Goes before image
   by_after image at left =
       let k = data' image at in
-      let x = was_shown g sectors old l n paths one is k.before k.left in
-      (k.before, k.left, goes_by sectors k.before image l.now (with_one g t l.now) n m paths next (AreNamesCommitted fresh paths next) x (its_files g sectors l n m paths next fresh t is.geometry c image (to_g image left))
-      (names_go g sectors l n m paths next fresh t is.geometry c image (to_g image left) k.before x (same_files g sectors old l n paths one is image k)))
+      let x = was_shown g sectors old l n paths one is k.before k.left in (
+        k.before,
+        k.left,
+        goes_by sectors k.before image l.now (with_one g t l.now) n m paths next (AreNamesCommitted fresh paths next) x (its_files g sectors l n m paths next fresh t is.geometry c image (to_g image left))
+            (names_go g sectors l n m paths next fresh t is.geometry c image (to_g image left) k.before x (same_files g sectors old l n paths one is image k)),
+      )
 
   within : (image again : Image) → IsLeftBy sectors l image ⊎ IsLeftBy sectors (committing t (settled l)) image → ((s : ℕ) → s < sectors → image s ≡ again s) → opens sectors again ≡ opens sectors image
   within image again (inl left) alike = left_within sectors l.head l.blocks l.now image again (on_one sectors l image is.none left) alike

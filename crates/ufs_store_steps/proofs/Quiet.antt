@@ -1,15 +1,14 @@
 -- Reads, barriers and checkpoints leave the trees.
-use Rattle.std.proofs.Common.{◌≡◌, ◌⊎◌, inl, inr, ⊎_elim, ℕ, ◌+◌, ◌*◌, ◌<◌, ◌≤◌, ◌++◌, List, Bool, false, ap, sym, refl, ◌∙◌, subst, arith}
+use Rattle.std.proofs.Common.{◌≡◌, ◌⊎◌, inl, inr, ⊎_elim, ℕ, ◌+◌, ◌*◌, ◌<◌, ◌≤◌, ◌++◌, List, ap, refl, ◌∙◌, arith}
 use Rattle.std.specs.Prelude.{zero, suc}
 use Rattle.ufs_base.specs.Images.{Image}
 use Rattle.ufs_disk.specs.Disk.{Cell, State, IsImage, Leaves, bytes_from, seen}
 use Rattle.ufs_layout.specs.Superblock.{geometry_of}
 use Rattle.ufs_layout.specs.declared.geometry.Geometry.{Geometry}
 use Rattle.ufs_layout.specs.declared.superblock.Super.{Super}
-use Rattle.ufs_image.specs.Images.{block_at}
 use Rattle.ufs_image.specs.Opens.{opens}
 use Rattle.ufs_model.specs.PosixTree.{Paths}
-use Rattle.ufs_ledger.specs.Ledger.{Stand, Ledger, IsLeft, IsLeftBy}
+use Rattle.ufs_ledger.specs.Ledger.{Ledger, IsLeft, IsLeftBy}
 use Rattle.ufs_ledger.specs.Changes.{beginning, home_cells, without_log}
 use Rattle.ufs_ledger.specs.Data.{KeepsData}
 use Rattle.ufs_ledger.specs.Kept.{Numbers}
@@ -18,10 +17,9 @@ use Rattle.ufs_ledger.proofs.States.{on_one}
 use Rattle.ufs_sound.specs.Parts.{Cells}
 use Rattle.ufs_sound.specs.DiskBytes.{state_of}
 use Rattle.ufs_store_steps.specs.Cells.{AreCellsOf}
-use Rattle.ufs_store_steps.specs.Files.{HasFiles}
 use Rattle.ufs_store_steps.specs.Steps.{BlocksRead, StoredHasFiles, IsBefore, QuietCallsOpenAlike, CheckpointsOpenAlike, EmptiedOpensAlike}
 use Rattle.ufs_store_steps.proofs.Within.{left_within}
-use Rattle.ufs_store_steps.proofs.Cells.{OpensWithin, cell_within, cells_open_as}
+use Rattle.ufs_store_steps.proofs.Cells.{cell_within, cells_open_as}
 use Rattle.ufs_store_steps.proofs.Shows.{shows_files, one_tree_of}
 use Rattle.ufs_store_steps.proofs.Stands.{was_within, was_shown, same_files, beginning_left, emptied_left, without_log_files}
 
@@ -53,15 +51,21 @@ module _ (g : Geometry) (sectors : ℕ) (old new : State) (l : Ledger) (n : Numb
   -- by the stand that was, or by that one without its journal
   by_now : (image : Image) → IsImage new image → (top : Super) (blocks : ℕ → Cell) → geometry_of top ≡ g → IsLeft sectors top blocks l.now image → (before : Image) × IsImage old before × (opens sectors image ≡ opens sectors before)
   by_now image at top blocks top_same left =
-      let k = data' image at in
-      (k.before, k.left, one_tree_of sectors image k.before l.now l.now n n paths (shows_files g sectors top blocks l.now image left top_same n paths is.files) (was_shown g sectors old l n paths one is k.before k.left)
-      (same_files g sectors old l n paths one is image k))
+      let k = data' image at in (
+        k.before,
+        k.left,
+        one_tree_of sectors image k.before l.now l.now n n paths (shows_files g sectors top blocks l.now image left top_same n paths is.files) (was_shown g sectors old l n paths one is k.before k.left)
+            (same_files g sectors old l n paths one is image k),
+      )
 
   by_home : (image : Image) → IsImage new image → IsLeft sectors head (home_cells home l) (without_log l.now) image → (before : Image) × IsImage old before × (opens sectors image ≡ opens sectors before)
   by_home image at left =
-      let k = data' image at in
-      (k.before, k.left, one_tree_of sectors image k.before (without_log l.now) l.now n n paths (shows_files g sectors head (home_cells home l) (without_log l.now) image left same n paths (without_log_files g l.now n paths is.files))
-      (was_shown g sectors old l n paths one is k.before k.left) (same_files g sectors old l n paths one is image k))
+      let k = data' image at in (
+        k.before,
+        k.left,
+        one_tree_of sectors image k.before (without_log l.now) l.now n n paths (shows_files g sectors head (home_cells home l) (without_log l.now) image left same n paths (without_log_files g l.now n paths is.files))
+            (was_shown g sectors old l n paths one is k.before k.left) (same_files g sectors old l n paths one is image k),
+      )
 
   within : (image again : Image) → IsLeftBy sectors l image ⊎ IsLeftBy sectors (beginning head home l) image → ((s : ℕ) → s < sectors → image s ≡ again s) → opens sectors again ≡ opens sectors image
   within image again (inl left) alike = left_within sectors l.head l.blocks l.now image again (on_one sectors l image is.none left) alike

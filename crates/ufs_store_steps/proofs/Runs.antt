@@ -1,5 +1,5 @@
 -- Each state that a call passes is a step.
-use Rattle.std.proofs.Common.{◌≡◌, ◌⊎◌, inl, inr, ⊎_elim, ℕ, ◌*◌, List, [], ◌∷◌, ◌++◌, map, Bool, ap, sym, refl, ◌∙◌, subst}
+use Rattle.std.proofs.Common.{◌≡◌, ◌⊎◌, inl, inr, ⊎_elim, ℕ, ◌*◌, List, [], ◌∷◌, ◌++◌, Bool, ap, sym, refl, ◌∙◌, subst}
 use Rattle.std.specs.Prelude.{IsTrue}
 use Rattle.std.specs.List.{AllByRecursion}
 use Rattle.std.proofs.lemmas.List.{append_cancel_left}
@@ -74,7 +74,7 @@ quiet_runs g keeps sectors old new passed l n paths one kept is went run d h =
 pub checkpoint_runs : (g : Geometry) → CheckpointRuns g
 checkpoint_runs g keeps sectors old new passed l n paths one head home kept is went same data' run d h =
     let x = one_passed (Leaves (KeepsData g l.now.log old.state)) (Leaves (λ image. IsLeftBy sectors l image ⊎ IsLeftBy sectors (beginning head home l) image)) sectors passed d h
-        (each_passed (KeepsData g l.now.log old.state) keeps kept old new passed went data') (each_passed (λ image. IsLeftBy sectors l image ⊎ IsLeftBy sectors (beginning head home l) image) keeps kept old new passed went run) in
+    (each_passed (KeepsData g l.now.log old.state) keeps kept old new passed went data') (each_passed (λ image. IsLeftBy sectors l image ⊎ IsLeftBy sectors (beginning head home l) image) keeps kept old new passed went run) in
     subst (OpensAs one) (sym x.1) (checkpoints g sectors old.state x.0 l n paths one (cells_of sectors x.0) head home is (cells_are_there sectors x.0) same x.2 x.3)
 
 pub write_runs : (g : Geometry) → WriteRuns g
@@ -87,11 +87,11 @@ write_runs g keeps sectors old new passed l n paths one block bytes v s kept is 
 pub file_commit_runs : (g : Geometry) → FileCommitRuns g
 file_commit_runs g keeps sectors old new passed l n paths one t file bytes kept is went c data' run d h =
     let x = one_passed (Leaves (KeepsData g l.now.log old.state)) (Leaves (λ image. IsLeftBy sectors l image ⊎ IsLeftBy sectors (committing t (settled l)) image)) sectors passed d h
-        (each_passed (KeepsData g l.now.log old.state) keeps kept old new passed went data') (each_passed (λ image. IsLeftBy sectors l image ⊎ IsLeftBy sectors (committing t (settled l)) image) keeps kept old new passed went run) in
+    (each_passed (KeepsData g l.now.log old.state) keeps kept old new passed went data') (each_passed (λ image. IsLeftBy sectors l image ⊎ IsLeftBy sectors (committing t (settled l)) image) keeps kept old new passed went run) in
     subst (TreesMayGo (IsFileCommitted paths file bytes) one) (sym x.1) (file_commits_may_go g sectors old.state x.0 l n paths one (cells_of sectors x.0) t file bytes is (cells_are_there sectors x.0) c x.2 x.3)
 
 pub name_commit_runs : (g : Geometry) → NameCommitRuns g
 name_commit_runs g keeps sectors old new passed l n m paths next fresh one t kept is went c data' run d h =
     let x = one_passed (Leaves (KeepsData g l.now.log old.state)) (Leaves (λ image. IsLeftBy sectors l image ⊎ IsLeftBy sectors (committing t (settled l)) image)) sectors passed d h
-        (each_passed (KeepsData g l.now.log old.state) keeps kept old new passed went data') (each_passed (λ image. IsLeftBy sectors l image ⊎ IsLeftBy sectors (committing t (settled l)) image) keeps kept old new passed went run) in
+    (each_passed (KeepsData g l.now.log old.state) keeps kept old new passed went data') (each_passed (λ image. IsLeftBy sectors l image ⊎ IsLeftBy sectors (committing t (settled l)) image) keeps kept old new passed went run) in
     subst (TreesMayGo (AreNamesCommitted fresh paths next) one) (sym x.1) (name_commits_may_go g sectors old.state x.0 l n m paths next fresh one (cells_of sectors x.0) t is (cells_are_there sectors x.0) c x.2 x.3)

@@ -1,6 +1,6 @@
 -- What an image shows that the ledger has: at each path what stands there, with what stands in the file's blocks.
-use Rattle.std.proofs.Common.{◌≡◌, ℕ, ◌≤◌, List, take, Bool, Option, Some, None, ap, sym, refl, ◌∙◌, subst}
-use Rattle.std.specs.Prelude.{Ok, flat_map, false}
+use Rattle.std.proofs.Common.{◌≡◌, ℕ, ◌≤◌, List, take, Option, Some, None, ap, sym, refl, ◌∙◌, subst}
+use Rattle.std.specs.Prelude.{Ok, false}
 use Rattle.std.specs.Option.{option_map}
 use Rattle.std.specs.FinMap as map
 use Rattle.std.specs.FinMap.{same_map, from_entries, nat_cmp-IsAntisymmetric, slice_cmp-IsAntisymmetric}
@@ -13,8 +13,7 @@ use Rattle.ufs_layout.specs.declared.superblock.Super.{Super}
 use Rattle.ufs_image.specs.Images.{block_at}
 use Rattle.ufs_image.specs.Nodes.{blocks_of}
 use Rattle.ufs_image.specs.Opens.{NodeBytes, ImageTree, path_cmp, walked, opens}
-use Rattle.ufs_image.specs.Catalog.{IsInode}
-use Rattle.ufs_image.specs.CatalogLaws.{SpellsDirs, StandsAtPaths, StandsNowhereElse}
+use Rattle.ufs_image.specs.CatalogLaws.{StandsAtPaths, StandsNowhereElse}
 use Rattle.ufs_image.specs.Sound.{IsSoundCatalog}
 use Rattle.ufs_image.specs.Standing.{IsVolumeOf}
 use Rattle.ufs_image.specs.Volume.{Volume}
@@ -26,11 +25,9 @@ use Rattle.ufs_image.proofs.Lists.{IsIn, flat_map-same}
 use Rattle.ufs_image.proofs.Opening.{opens_to, has_geometry}
 use Rattle.ufs_image.proofs.Paths.{stands, standing}
 use Rattle.ufs_model.specs.PosixTree.{Paths}
-use Rattle.ufs_model.specs.Start.{PathNodes}
 use Rattle.ufs_model.proofs.Facts.Orders.{path_total}
 use Rattle.ufs_model.specs.declared.data.Node.{Node}
 use Rattle.ufs_model.specs.declared.data.Node.TheVariants.{Dir, File}
-use Rattle.ufs_model.specs.declared.data.PathNode.{PathNode}
 use Rattle.ufs_prefix.specs.Explained.{IsNodeWith, IsTreeWith}
 use Rattle.ufs_prefix.proofs.Facts.Mapped.{get-mapped}
 use Rattle.ufs_ledger.specs.Ledger.{IsDataBlock, is_held, Stand, IsLeft}

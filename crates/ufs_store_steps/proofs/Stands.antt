@@ -1,8 +1,8 @@
 -- What a disk has before a call, and what a crash may leave after it, stand by stand.
-use Rattle.std.proofs.Common.{◌≡◌, ◌⊎◌, inl, inr, ℕ, List, Bool, false, Some, None, ap, sym, refl, ◌∙◌, subst}
+use Rattle.std.proofs.Common.{◌≡◌, ◌⊎◌, inl, inr, ℕ, List, None, refl, subst}
 use Rattle.std.specs.Prelude.{Ok}
 use Rattle.ufs_base.specs.Images.{Image}
-use Rattle.ufs_disk.specs.Disk.{Cell, State, IsImage, seen}
+use Rattle.ufs_disk.specs.Disk.{State, IsImage, seen}
 use Rattle.ufs_disk.proofs.Images.{seen_is_image}
 use Rattle.ufs_layout.specs.Superblock.{geometry_of}
 use Rattle.ufs_layout.specs.declared.geometry.Geometry.{Geometry}
@@ -23,7 +23,7 @@ use Rattle.ufs_sound.specs.Shown.{nodes_of}
 use Rattle.ufs_store_steps.specs.Files.{HasFiles}
 use Rattle.ufs_store_steps.specs.Steps.{IsBefore}
 use Rattle.ufs_store_steps.proofs.Within.{left_within}
-use Rattle.ufs_store_steps.proofs.Cells.{OpensWithin, ImageGoes}
+use Rattle.ufs_store_steps.proofs.Cells.{OpensWithin}
 use Rattle.ufs_store_steps.proofs.Shows.{its_blocks, content_same, file_content, ShowsFiles, shows_files}
 
 -- ---- before

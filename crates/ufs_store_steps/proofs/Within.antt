@@ -1,11 +1,11 @@
 -- An image opens by the sectors of its disk alone.
-use Rattle.std.proofs.Common.{◌≡◌, ℕ, ◌<◌, ◌≤◌, List, arith}
+use Rattle.std.proofs.Common.{◌≡◌, ℕ, ◌<◌, ◌≤◌, arith}
 use Rattle.ufs_base.specs.Images.{Image}
 use Rattle.ufs_disk.specs.Disk.{Cell}
 use Rattle.ufs_layout.specs.Areas.{IsGeometry, sector_count}
 use Rattle.ufs_layout.specs.Superblock.{geometry_of}
 use Rattle.ufs_layout.specs.declared.superblock.Super.{Super}
-use Rattle.ufs_image.specs.Agree.{IsOfBlock, IsOfForm}
+use Rattle.ufs_image.specs.Agree.{IsOfBlock}
 use Rattle.ufs_image.specs.Catalog.{Catalog, IsInode}
 use Rattle.ufs_image.specs.Nodes.{blocks_of}
 use Rattle.ufs_image.specs.Opens.{opens}

@@ -1,5 +1,5 @@
 -- A write of a file's block, by the trees of what a crash leaves.
-use Rattle.std.proofs.Common.{◌≡◌, ◌⊎◌, inl, inr, ⊎_elim, ℕ, zero, suc, ◌+◌, ◌*◌, ◌<◌, ◌≤◌, List, [], ◌∷◌, length, Bool, true, false, Option, Some, None, ap, sym, refl, ◌∙◌, subst, arith}
+use Rattle.std.proofs.Common.{◌≡◌, ◌⊎◌, inl, inr, ⊎_elim, ℕ, suc, ◌+◌, ◌*◌, ◌<◌, ◌≤◌, List, [], ◌∷◌, length, Option, Some, None, ap, sym, refl, ◌∙◌, subst, arith}
 use Rattle.std.specs.Prelude.{◌/◌, ◌%◌, flat_map, slice_get}
 use Rattle.std.specs.Option.{option_map}
 use Rattle.std.specs.FinMap as map
@@ -7,20 +7,16 @@ use Rattle.std.proofs.lemmas.List.{length-take-le}
 use native.Mathlib.Decide.{ℕ_discrete}
 use Rattle.ufs_base.specs.Images.{Image}
 use Rattle.ufs_disk.specs.Disk.{Cell, State, IsImage, IsPartlyWritten, Leaves}
-use Rattle.ufs_layout.specs.Superblock.{geometry_of}
 use Rattle.ufs_layout.specs.declared.geometry.Geometry.{Geometry}
-use Rattle.ufs_image.specs.Agree.{IsOfBlock}
 use Rattle.ufs_image.specs.Images.{IsImageOf, block_at}
-use Rattle.ufs_image.specs.Nodes.{blocks_of}
 use Rattle.ufs_image.specs.Opens.{opens}
 use Rattle.ufs_image.proofs.Blocks.{block_same}
-use Rattle.ufs_image.proofs.Listed.{place_of_in, in_at_place}
 use Rattle.ufs_image.proofs.Lists.{IsIn}
 use Rattle.ufs_model.specs.PosixTree.{Paths}
 use Rattle.ufs_model.specs.declared.data.Node.{Node}
 use Rattle.ufs_model.specs.declared.data.Node.TheVariants.{Dir, File}
 use Rattle.ufs_prefix.specs.FileChanges.{byte_at}
-use Rattle.ufs_ledger.specs.Ledger.{IsDataBlock, Ledger, IsLeft, IsLeftBy}
+use Rattle.ufs_ledger.specs.Ledger.{IsDataBlock, Ledger, IsLeft}
 use Rattle.ufs_ledger.specs.Changes.{rewritten, written}
 use Rattle.ufs_ledger.specs.Kept.{Numbers, Shape, shape_of}
 use Rattle.ufs_ledger.specs.Laws.{MayWrite}
@@ -28,12 +24,10 @@ use Rattle.ufs_ledger.proofs.Mixing.{IsEither, block_either, byte_taken, elsewhe
 use Rattle.ufs_ledger.proofs.Shapes.{Pick, content_of, IsAt, at_place, blocks_length}
 use Rattle.ufs_ledger.proofs.States.{on_one, writing}
 use Rattle.ufs_ledger.proofs.Writing.{apart_of}
-use Rattle.ufs_sound.specs.Owned.{Has}
-use Rattle.ufs_sound.specs.Parts.{Cells, FilePart, StorePart, View}
+use Rattle.ufs_sound.specs.Parts.{Cells, StorePart, View}
 use Rattle.ufs_sound.specs.Shown.{node_of, nodes_of}
 use Rattle.ufs_sound.specs.Commits.{IsWrittenBack}
 use Rattle.ufs_sound.specs.Meets.{IsFileWrittenBy, AreFilesWrittenBy}
-use Rattle.ufs_store_steps.specs.Cells.{AreCellsOf}
 use Rattle.ufs_store_steps.specs.Steps.{IsBefore, WritesItsFiles, WritesGo}
 use Rattle.ufs_store_steps.proofs.Within.{left_within}
 use Rattle.ufs_store_steps.proofs.Cells.{ImageGoes, cells_go}

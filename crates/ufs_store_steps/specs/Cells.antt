@@ -1,5 +1,5 @@
 -- A disk's state as the sound state has it: the cells of its sectors, one after the other.
-use Rattle.std.specs.Prelude.{ℕ, ◌≡◌, ◌<◌, List, length, map, Some, slice_get}
+use Rattle.std.specs.Prelude.{ℕ, ◌≡◌, ◌<◌, length, map, Some, slice_get}
 use Rattle.std.specs.List.{range_with_len}
 use Rattle.ufs_disk.specs.Disk.{State}
 use Rattle.ufs_sound.specs.Parts.{Cells}

@@ -4,7 +4,6 @@ use Rattle.std.specs.Prelude.{ℕ, ◌+◌, ◌*◌, ◌≡◌, ◌≤◌, ◌<�
 use Rattle.ufs_base.specs.declared.sizes.TheConstants.{BLOCK, SECTORS_PER_BLOCK}
 use Rattle.ufs_disk.specs.Disk.{Cell, State, IsImage, IsPartlyWritten, Leaves}
 use Rattle.ufs_image.specs.Images.{IsImageOf}
-use Rattle.ufs_layout.specs.Areas.{sector_count}
 use Rattle.ufs_layout.specs.Superblock.{geometry_of}
 use Rattle.ufs_layout.specs.declared.geometry.Geometry.{Geometry}
 use Rattle.ufs_layout.specs.declared.inode.Extent.{Extent}
@@ -19,7 +18,7 @@ use Rattle.ufs_prefix.specs.Changes.{changes_of, names_after}
 use Rattle.ufs_prefix.specs.FileChanges.{all_changed, byte_at}
 use Rattle.ufs_ledger.specs.Ledger.{IsDataBlock, is_held, Stand, CoversDirs, with_one, Ledger, IsLeftBy, IsLedgerOf}
 use Rattle.ufs_ledger.specs.Data.{KeepsData}
-use Rattle.ufs_ledger.specs.Changes.{committing, committed_one, settled, beginning, emptied, written}
+use Rattle.ufs_ledger.specs.Changes.{committing, committed_one, settled, beginning, emptied}
 use Rattle.ufs_ledger.specs.Kept.{Numbers, shape_of, IsStandStored, IsStandKept}
 use Rattle.ufs_ledger.specs.Laws.{MayWrite, MayCommitFile}
 use Rattle.ufs_sound.specs.Owned.{Has}

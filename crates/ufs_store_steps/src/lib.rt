@@ -4,4 +4,6 @@
 
 mod laws;
 
-pub use laws::{cell_law, checkpoint_step_law, file_step_law, name_step_law, run_step_law, write_step_law};
+pub use laws::{
+    cell_law, checkpoint_step_law, file_step_law, name_step_law, run_step_law, write_step_law,
+};

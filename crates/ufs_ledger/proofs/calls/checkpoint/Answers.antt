@@ -1,6 +1,6 @@
 use Rattle.std.proofs.Common.{◌≡◌, ◌∙◌, inl, inr, ℕ, refl, length, sym, subst, arith, rules}
 use Rattle.ufs_disk.specs.Disk.{IsImage, IsPartlyWritten}
-use Rattle.ufs_disk.specs.Moments.{Moments, LeavesOnly, reads}
+use Rattle.ufs_disk.specs.Moments.{LeavesOnly, reads}
 use Rattle.ufs_disk.proofs.Images.{seen_is_image}
 use Rattle.ufs_disk.proofs.Noted.{on_err}
 use Rattle.ufs_layout.specs.Superblock.{geometry_of}
@@ -14,7 +14,6 @@ use Rattle.ufs_overlay.specs.Over.{IsHomeWritten}
 use Rattle.ufs_overlay.specs.Seen as overlaid
 use Rattle.ufs_ledger.proofs.Wholes.{images_of, sized_images}
 use Rattle.ufs_ledger.proofs.Emptying.{crash1, crash2, crash3, crash4, crash5, ledger1, ledger2, ledger3, ledger4, ledger5_tried, ledger5, ready5}
-use Rattle.ufs_ledger.specs.Data.{KeepsData}
 use Rattle.ufs_ledger.proofs.Data.{data_quiet, data_more, data_home, data_headed, data_stays}
 use Rattle.ufs_ledger.proofs.calls.checkpoint.Goals as goal
 

@@ -223,7 +223,7 @@ returns-clause-data g c told l by go =
     let fits2 = applies_to j k c.append.ensures.same rs (reads m2) (applies2 size g.D.Disk.keeps j l c.args.txn rs m0 m1 by go folds more run1 same m2 still run2) in
     let one : Committed = record { number = k.number; records = rs } in
     let run3 : LeavesOnly g.D.Disk.keeps (IsMaybeCommitted j.geometry k.epoch one m2.state) m2 m3 =
-        subst (λ x. LeavesOnly g.D.Disk.keeps (IsMaybeCommitted x k.epoch one m2.state) m2 m3) c.append.ensures.same.0 (c.commit.ensures.crash told ready2 rs open2 fits2) in
+    subst (λ x. LeavesOnly g.D.Disk.keeps (IsMaybeCommitted x k.epoch one m2.state) m2 m3) c.append.ensures.same.0 (c.commit.ensures.crash told ready2 rs open2 fits2) in
     data_more j.geometry l.now.log g.D.Disk.keeps m0 m2 m3 (IsMaybeCommitted j.geometry k.epoch one m2.state)
     (data_more j.geometry l.now.log g.D.Disk.keeps m0 m1 m2 (IsAppended j.geometry j.epoch m1.state) (data_quiet j.geometry l.now.log g.D.Disk.keeps m0 m1 run1) run2 (data_appended j.geometry l.now.log j.epoch m1.state))
     run3 (data_committed j.geometry l.now.log k.epoch one m2.state)

@@ -1,0 +1,65 @@
+-- After a change of leases the history leads to all parts.
+use Rattle.std.proofs.Common.{◌≡◌, ℕ, ◌<◌, ◌≤◌, ◌≢◌, ◌⊎◌, Bool, true, false, cond, eqb, eqb-true, ne_eqb, not, List, [], ◌∷◌, ◌++◌, length, set, Option, Some, None, unwrap_or, sym, refl, ap, ◌∙◌, subst, inl, inr, ⊎_elim, arith, append-nil, append_assoc}
+use Rattle.std.specs.Prelude.{filter, ◌*◌}
+use Rattle.std.specs.FinMap as fin
+use mathlib.Core.Option.{some}
+use native.Mathlib.Decide.{dec_le, ℕ_discrete}
+use lib.ListN.{get_elem?}
+use Rattle.ufs_model.specs.History.{tree_after}
+use Rattle.ufs_model.specs.PosixTree.{PosixTree, is_number}
+use Rattle.ufs_model.specs.Walk.{node_at}
+use Rattle.ufs_model.specs.FileBytes.{block_size}
+use Rattle.ufs_model.specs.FileBytes as bytes
+use Rattle.ufs_model.specs.declared.data.Node.TheVariants.{File}
+use Rattle.ufs_model.specs.declared.data.Fact.{Fact}
+use Rattle.ufs_model.specs.declared.data.Fact.TheVariants as fact
+use Rattle.ufs_model.specs.declared.data.Lease.{Lease}
+use Rattle.ufs_model.specs.declared.data.PartName.{PartName}
+use Rattle.ufs_model.specs.declared.data.PartName.TheVariants as name
+use Rattle.ufs_model.proofs.Facts.Held.{held}
+use Rattle.ufs_sound.specs.LeasesTrue.{AreLeasesTrue, IsListed, IsTrueOf, IsLeaseHeld, leased_file}
+use Rattle.ufs_sound.specs.Owned.{one, present, Has, count, each, times, replaced}
+use Rattle.ufs_sound.specs.Parts.{ClientPart, FilePart, NamesPart, Shortage, View, World, Word, Start, only_one, uses, file_uses, names_uses, is_file, is_names, is_holder}
+use Rattle.ufs_sound.specs.Sound.{IsSound}
+use Rattle.ufs_sound.specs.OneHand.{IsHeld, DoPartsStay}
+use Rattle.ufs_sound.specs.TicketsOnce.{AreTicketsOnce}
+use Rattle.ufs_sound.specs.Legal.{IsOneHistory, FitsFile, FitsNames}
+use Rattle.ufs_sound.specs.Asked.{IsAskedTrue, IsStill, IsAnswered}
+use Rattle.ufs_sound.specs.Explained.{Showing}
+use Rattle.ufs_sound.specs.CommittedHeld.{IsCommittedHeld}
+use Rattle.ufs_sound.specs.CommittedNumbers.{AreCommittedNumbers}
+use Rattle.ufs_sound.specs.DiskBytes.{IsOnDisk}
+use Rattle.ufs_sound.specs.Leasing.{file_leased, names_leased, IsTrueIn, HasOpen, MayGrant, copying, granting, MayGiveBack, of_others, giving_back}
+use Rattle.ufs_sound.proofs.Owning.{all_set, change_total, has_count, has_each, each_has, weigh_each, same_some, has_append, append_has, replaced_back, replaced_here, replaced_else, replaced_present, same_holds, once_in}
+use Rattle.ufs_sound.proofs.Keys.{itself, alike}
+use Rattle.ufs_sound.proofs.Exchange.{value_after, value_case, kind_exchanged, one_exchanged, names_are}
+use Rattle.ufs_sound.proofs.Lease.Setting.{LeaseStep, leasing}
+
+module _ (step : LeaseStep) where
+  open step use {S, k, word, views, i, v, o, at, go}
+  open leasing step use {w, next, client_was, file_was, names_were, client_present, file_present}
+
+  pub tickets_next : AreTicketsOnce k word o.history next
+  tickets_next = record {
+    tickets = o.tickets_once.tickets;
+    entries = λ n p is. let y = client_was n p is in ap (λ (q : ClientPart). q.entries) y.2 ∙ o.tickets_once.entries n y.0 y.1;
+    numbers = o.tickets_once.numbers;
+    room = o.tickets_once.room;
+    there = λ e h. let t = o.tickets_once.there e h in (t.0, client_present e.client ∙ t.1);
+    asked = λ n p q is a. let y = client_was n p is in let l = ap (λ (z : ClientPart). length z.entries) y.2 in
+        let b = o.tickets_once.asked n y.0 q y.1 (sym (ap (λ (z : ClientPart). z.asked) y.2) ∙ a) in omega arith;
+    next = o.tickets_once.next;
+  }
+
+  pub legal_next : IsOneHistory k o.history next
+  legal_next = record {
+    start = o.legal.start;
+    legal = o.legal.legal;
+    tree = o.legal.tree;
+    clients = λ n p is fd. let y = client_was n p is in ap (λ (z : ClientPart). fin.get z.fds fd) y.2 ∙ o.legal.clients n y.0 y.1 fd;
+    files = λ g x is. let y = file_was g x is in subst (FitsFile k.tree o.history g) (sym y.2) (let z = o.legal.files g y.0 y.1 in record { opening = z.opening; changes = z.changes; bytes = z.bytes });
+    there = λ g. file_present g ∙ o.legal.there g;
+    names = subst (FitsNames k.tree o.history) (sym names_were) (let z = o.legal.names in record { opening = z.opening; changes = z.changes; paths = z.paths; next = z.next });
+    next = o.legal.next;
+    unborn = o.legal.unborn;
+  }
