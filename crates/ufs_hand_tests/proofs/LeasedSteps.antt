@@ -1,12 +1,11 @@
 -- Each step of the session with a lease may be taken.
-use Rattle.std.proofs.Common.{◌≡◌, ℕ, ◌+◌, ◌≤◌, ◌<◌, Bool, true, false, eqb, List, [], ◌∷◌, length, map, Some, is_some, sym, refl, ap, ◌∙◌, subst, inl, inr, ⊎_elim, arith}
+use Rattle.std.proofs.Common.{◌≡◌, ℕ, ◌+◌, ◌≤◌, Bool, true, false, eqb, List, [], ◌∷◌, length, map, Some, sym, refl, ap, subst, inl, inr, ⊎_elim, arith}
 use Rattle.std.specs.List.{range_with_len}
 use Rattle.std.specs.Ordering.{nat_cmp}
 use Rattle.std.specs.Cmp.{nat_cmp_total}
 use Rattle.std.specs.FinMap as fin
 use Rattle.std.specs.FinMap.{nat_cmp-IsAntisymmetric}
 use Rattle.ufs_model.specs.FileBytes.{part}
-use Rattle.ufs_model.specs.PosixTree.{PosixTree, IsTree}
 use Rattle.ufs_model.specs.Laws.{KeepsTrees}
 use Rattle.ufs_model.specs.Start.{StartsHaveContents}
 use Rattle.ufs_model.specs.declared.data.Actor.TheVariants.{Primary, Client}
@@ -14,17 +13,15 @@ use Rattle.ufs_model.specs.declared.data.Lease.{Lease}
 use Rattle.ufs_model.specs.declared.data.PartName.{PartName}
 use Rattle.ufs_model.specs.declared.data.PartName.TheVariants as name
 use Rattle.ufs_model.proofs.Facts.Lookups.{inserted_here}
-use Rattle.ufs_sound.specs.ByImages.{by_images}
-use Rattle.ufs_sound.specs.Draws.{IsIn, MayDraw, drawn}
+use Rattle.ufs_sound.specs.Draws.{MayDraw, drawn}
 use Rattle.ufs_sound.specs.FileSession as session
 use Rattle.ufs_sound.specs.FileSession.{HasOneFile, small_disk}
 use Rattle.ufs_sound.specs.LeasesTrue.{IsListedIn}
-use Rattle.ufs_sound.specs.Leasing.{MayGrant}
 use Rattle.ufs_sound.specs.Marks.{IsSingle, asked_by}
 use Rattle.ufs_sound.specs.Opened.{opened_file, opened_names, opened_store, opened_view, opened_start}
 use Rattle.ufs_sound.specs.Owned.{one, Has, count}
-use Rattle.ufs_sound.specs.Parts.{ClientPart, FilePart, NamesPart, StorePart, Start, View, only_one}
-use Rattle.ufs_sound.specs.Whole.{CanOpen, HoldsAll, idle_client, idle_asked}
+use Rattle.ufs_sound.specs.Parts.{ClientPart, FilePart, NamesPart, StorePart, View}
+use Rattle.ufs_sound.specs.Whole.{HoldsAll, idle_client, idle_asked}
 use Rattle.ufs_sound.proofs.LeasedReads.{leased_may_draw}
 use Rattle.ufs_sound.proofs.Opened.{opened_can}
 use Rattle.ufs_sound.proofs.Openable.{open_may_draw}

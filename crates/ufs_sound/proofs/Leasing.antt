@@ -1,9 +1,8 @@
 -- A lease that is granted, and leases that are given back, keep the sound state.
-use Rattle.std.proofs.Common.{◌≡◌, ℕ, ◌<◌, ◌≤◌, ◌≢◌, ◌⊎◌, Bool, true, false, cond, eqb, eqb-true, ne_eqb, not, List, [], ◌∷◌, ◌++◌, length, set, Option, Some, None, unwrap_or, sym, refl, ap, ◌∙◌, subst, inl, inr, ⊎_elim, arith, append-nil, append_assoc}
-use Rattle.std.specs.Prelude.{filter, ◌*◌}
-use Rattle.std.specs.FinMap as fin
+use Rattle.std.proofs.Common.{◌≡◌, ℕ, ◌<◌, ◌≢◌, ◌⊎◌, Bool, true, false, cond, eqb, eqb-true, ne_eqb, not, List, [], ◌∷◌, ◌++◌, length, set, Option, Some, None, unwrap_or, sym, refl, ap, ◌∙◌, subst, inl, inr, ⊎_elim, append-nil}
+use Rattle.std.specs.Prelude.{◌*◌}
 use mathlib.Core.Option.{some}
-use native.Mathlib.Decide.{dec_le, ℕ_discrete}
+use native.Mathlib.Decide.{ℕ_discrete}
 use lib.ListN.{get_elem?}
 use Rattle.ufs_model.specs.History.{tree_after}
 use Rattle.ufs_model.specs.PosixTree.{PosixTree, is_number}
@@ -18,19 +17,12 @@ use Rattle.ufs_model.specs.declared.data.PartName.{PartName}
 use Rattle.ufs_model.specs.declared.data.PartName.TheVariants as name
 use Rattle.ufs_model.proofs.Facts.Held.{held}
 use Rattle.ufs_sound.specs.LeasesTrue.{AreLeasesTrue, IsListed, IsTrueOf, IsLeaseHeld, leased_file}
-use Rattle.ufs_sound.specs.Owned.{one, present, Has, count, each, times, replaced}
-use Rattle.ufs_sound.specs.Parts.{ClientPart, FilePart, NamesPart, Shortage, View, World, Word, Start, only_one, uses, file_uses, names_uses, is_file, is_names, is_holder}
+use Rattle.ufs_sound.specs.Owned.{Has}
+use Rattle.ufs_sound.specs.Parts.{ClientPart, FilePart, NamesPart, View, World, Word, Start, is_file, is_names}
 use Rattle.ufs_sound.specs.Sound.{IsSound}
-use Rattle.ufs_sound.specs.OneHand.{IsHeld, DoPartsStay}
-use Rattle.ufs_sound.specs.TicketsOnce.{AreTicketsOnce}
-use Rattle.ufs_sound.specs.Legal.{IsOneHistory, FitsFile, FitsNames}
-use Rattle.ufs_sound.specs.Asked.{IsAskedTrue, IsStill, IsAnswered}
 use Rattle.ufs_sound.specs.Explained.{Showing}
-use Rattle.ufs_sound.specs.CommittedHeld.{IsCommittedHeld}
-use Rattle.ufs_sound.specs.CommittedNumbers.{AreCommittedNumbers}
-use Rattle.ufs_sound.specs.DiskBytes.{IsOnDisk}
 use Rattle.ufs_sound.specs.Leasing.{file_leased, names_leased, IsTrueIn, HasOpen, MayGrant, copying, granting, MayGiveBack, of_others, giving_back}
-use Rattle.ufs_sound.proofs.Owning.{all_set, change_total, has_count, has_each, each_has, weigh_each, same_some, has_append, append_has, replaced_back, replaced_here, replaced_else, replaced_present, same_holds, once_in}
+use Rattle.ufs_sound.proofs.Owning.{each_has, same_some, has_append, append_has, replaced_here}
 use Rattle.ufs_sound.proofs.Keys.{itself, alike}
 use Rattle.ufs_sound.proofs.Exchange.{value_after, value_case, kind_exchanged, one_exchanged, names_are}
 use Rattle.ufs_sound.proofs.Lease.Setting.{each_same, has_kept, file_is, names_is, copied, grown, file_goes, names_go, LeasesGo, LeaseStep, w, next, client_case, single_files, single_names}

@@ -3,6 +3,7 @@ pub mod Cells
 pub mod Shows
 pub mod Stands
 pub mod Quiet
+pub mod CommitSteps
 pub mod FileSteps
 pub mod NameSteps
 pub mod WriteSteps

@@ -28,6 +28,7 @@ use Rattle.ufs_store_steps.specs.Files.{IsKeptShape, CommitsPaths}
 use Rattle.ufs_store_steps.specs.Steps.{IsBefore, NameCommitsMayGo, NameCommitsGo}
 use Rattle.ufs_store_steps.proofs.Within.{left_within}
 use Rattle.ufs_store_steps.proofs.Cells.{ImageGoes, cells_go, cells_may_go}
+use Rattle.ufs_store_steps.proofs.CommitSteps.{commit_may_go, commit_goes}
 use Rattle.ufs_store_steps.proofs.Shows.{shown_node, file_content, ShowsFiles, nodes_at, shows_files, one_tree_of}
 use Rattle.ufs_store_steps.proofs.Stands.{was_within, was_shown, same_files, committing_left, committed_left, goes_by}
 
@@ -67,50 +68,16 @@ module _ (g : Geometry) (sectors : ℕ) (l : Ledger) (n m : Numbers) (paths next
 
 -- ---- the steps
 
-module _ (g : Geometry) (sectors : ℕ) (old new : State) (l : Ledger) (n m : Numbers) (paths next : Paths) (fresh : ℕ → Bool) (one other : Cells) (t : Committed) (is : IsBefore g sectors old l n paths one) (are : AreCellsOf sectors new other)
-    (c : CommitsPaths g l.now (with_one g t l.now) n m paths next fresh) (data' : Leaves (KeepsData g l.now.log old) new) where
-  to_g : (image : Image) → IsLeft sectors l.head (settled l).blocks (with_one (geometry_of l.head) t l.now) image → IsLeft sectors l.head (settled l).blocks (with_one g t l.now) image
-  to_g image left = subst (λ g. IsLeft sectors l.head (settled l).blocks (with_one g t l.now) image) is.geometry left
-
-  abbrev Goes : Image → Image → Type 0
-  Goes before image = ImageGoes sectors (AreNamesCommitted fresh paths next) before image
-
-  by_now : (image : Image) → IsImage new image → (blocks : ℕ → Cell) → IsLeft sectors l.head blocks l.now image → (before : Image) × IsImage old before × ((opens sectors image ≡ opens sectors before) ⊎ Goes before image)
-  by_now image at blocks left =
-      let k = data' image at in (
-        k.before,
-        k.left,
-        inl (one_tree_of sectors image k.before l.now l.now n n paths (shows_files g sectors l.head blocks l.now image left is.geometry n paths is.files) (was_shown g sectors old l n paths one is k.before k.left)
-            (same_files g sectors old l n paths one is image k)),
-      )
-
-  by_after : (image : Image) → IsImage new image → IsLeft sectors l.head (settled l).blocks (with_one (geometry_of l.head) t l.now) image → (before : Image) × IsImage old before × Goes before image
-  by_after image at left =
-      let k = data' image at in
-      let x = was_shown g sectors old l n paths one is k.before k.left in (
-        k.before,
-        k.left,
-        goes_by sectors k.before image l.now (with_one g t l.now) n m paths next (AreNamesCommitted fresh paths next) x (its_files g sectors l n m paths next fresh t is.geometry c image (to_g image left))
-            (names_go g sectors l n m paths next fresh t is.geometry c image (to_g image left) k.before x (same_files g sectors old l n paths one is image k)),
-      )
-
-  within : (image again : Image) → IsLeftBy sectors l image ⊎ IsLeftBy sectors (committing t (settled l)) image → ((s : ℕ) → s < sectors → image s ≡ again s) → opens sectors again ≡ opens sectors image
-  within image again (inl left) alike = left_within sectors l.head l.blocks l.now image again (on_one sectors l image is.none left) alike
-  within image again (inr left) alike = ⊎_elim (λ a. left_within sectors l.head (settled l).blocks l.now image again a alike)
-      (λ b. left_within sectors l.head (settled l).blocks (with_one (geometry_of l.head) t l.now) image again b alike) (committing_left sectors l image t left)
-
-  step : (image : Image) → IsImage new image → IsLeftBy sectors l image ⊎ IsLeftBy sectors (committing t (settled l)) image → (before : Image) × IsImage old before × ((opens sectors image ≡ opens sectors before) ⊎ Goes before image)
-  step image at (inl left) = by_now image at l.blocks (on_one sectors l image is.none left)
-  step image at (inr left) = ⊎_elim (λ a. by_now image at (settled l).blocks a) (λ b. let z = by_after image at b in (z.0, z.1, inr z.2)) (committing_left sectors l image t left)
+module _ (g : Geometry) (sectors : ℕ) (l : Ledger) (n m : Numbers) (paths next : Paths) (fresh : ℕ → Bool) (t : Committed) (same : geometry_of l.head ≡ g) (c : CommitsPaths g l.now (with_one g t l.now) n m paths next fresh) where
+  goes : (image : Image) → IsLeft sectors l.head (settled l).blocks (with_one g t l.now) image → (before : Image) → ShowsFiles sectors before l.now n paths → ((f : ℕ) → file_content image l.now n f ≡ file_content before l.now n f)
+      → ImageGoes sectors (AreNamesCommitted fresh paths next) before image
+  goes image left before x alike =
+      goes_by sectors before image l.now (with_one g t l.now) n m paths next (AreNamesCommitted fresh paths next) x (its_files g sectors l n m paths next fresh t same c image left) (names_go g sectors l n m paths next fresh t same c image left before x alike)
 
 pub name_commits_may_go : (g : Geometry) → NameCommitsMayGo g
 name_commits_may_go g sectors old new l n m paths next fresh one other t is are c data' leaves =
-    cells_may_go sectors old new one other is.told are (was_within g sectors old l n paths one is)
-    (λ image again left alike. within g sectors old new l n m paths next fresh one other t is are c data' image again (leaves image left) alike) (AreNamesCommitted fresh paths next)
-    (λ image left. step g sectors old new l n m paths next fresh one other t is are c data' image left (leaves image left))
+    commit_may_go g sectors old new l n paths one other t is are data' (AreNamesCommitted fresh paths next) (goes g sectors l n m paths next fresh t is.geometry c) leaves
 
 pub name_commits_go : (g : Geometry) → NameCommitsGo g
 name_commits_go g sectors old new l n m paths next fresh one other t is are c data' ledger =
-    cells_go sectors old new one other is.told are (was_within g sectors old l n paths one is)
-    (λ image again left alike. left_within sectors l.head (settled l).blocks (with_one (geometry_of l.head) t l.now) image again (committed_left sectors l image t is.none (ledger.images image left)) alike) (AreNamesCommitted fresh paths next)
-    (λ image left. by_after g sectors old new l n m paths next fresh one other t is are c data' image left (committed_left sectors l image t is.none (ledger.images image left)))
+    commit_goes g sectors old new l n paths one other t is are data' (AreNamesCommitted fresh paths next) (goes g sectors l n m paths next fresh t is.geometry c) ledger

@@ -1,12 +1,12 @@
 -- What the store refuses is a remake of its hand's parts.
-use Rattle.std.proofs.Common.{◌≡◌, ℕ, List, sym, refl, ap, ◌∙◌, subst, inl, inr, ⊎_elim, arith}
-use Rattle.ufs_sound.specs.Owned.{Has, count}
-use Rattle.ufs_sound.specs.Parts.{FilePart, NamesPart, StorePart, View, Start, only_one, uses, Shortage}
+use Rattle.std.proofs.Common.{◌≡◌, ℕ, List, ◌++◌, refl, inl, inr, ⊎_elim, arith}
+use Rattle.ufs_sound.specs.Owned.{Has}
+use Rattle.ufs_sound.specs.Parts.{FilePart, NamesPart, StorePart, View, Start, Shortage}
 use Rattle.ufs_sound.specs.Explained.{Showing}
-use Rattle.ufs_sound.specs.Marks.{value_after, IsSingle, StoreGoes, NamesGo, RemakesOn, MayRemake}
+use Rattle.ufs_sound.specs.Marks.{IsSingle, RemakesOn, MayRemake}
 use Rattle.ufs_sound.specs.Events.{answered, answering, MayAnswer}
 use Rattle.ufs_sound.proofs.Owning.{has_append, append_has}
-use Rattle.ufs_sound.proofs.Happening.Staying.{same_file, blocks_stay, numbers_stay, disk_stays, same_parts_keep, same_parts_know, same_parts_load, times_append}
+use Rattle.ufs_sound.proofs.Happening.Staying.{store_remakes, same_file, blocks_stay, numbers_stay, disk_stays, same_parts_keep, same_parts_know, same_parts_load, times_append}
 
 module _ (S : Showing) (k : Start) (n : ℕ) (v : View) (s0 : StorePart) (faults : List ℕ) (shortages : List Shortage) (may : MayAnswer v s0 faults) where
   abbrev answers : View
@@ -35,24 +35,5 @@ module _ (S : Showing) (k : Start) (n : ℕ) (v : View) (s0 : StorePart) (faults
       };
     }
 
-  answers_on : IsSingle v → (s t : StorePart) (p q : NamesPart) → StoreGoes v answers s t → NamesGo v answers p q → RemakesOn S k n v answers s t p q
-  answers_on single s t p q store names =
-      let a : s ≡ s0 = store.0 ∙ ap (λ l. value_after l s) may.store in
-      let b : q ≡ p = names.1 ∙ sym names.0 in
-      subst (λ (u : StorePart × StorePart × NamesPart). RemakesOn S k n v answers u.0 u.1 p u.2) (λ j. (sym a j, sym store.1 j, sym b j)) (answers_here single p)
-
   pub answer_remakes : MayRemake S k n v answers
-  answer_remakes = record {
-    clients = refl;
-    asked = refl;
-    clock = refl;
-    seen = refl;
-    file_names = λ g. refl;
-    pool_names = λ g. refl;
-    has_names = λ u. refl;
-    has_store = λ u. ap (count only_one u) (sym may.store);
-    uses_stay = λ b. ap (λ l. uses b (record v { store = l })) (sym may.store);
-    files = λ g y h. (y, h, refl);
-    names = λ u q h. (q, h, refl);
-    on = answers_on;
-  }
+  answer_remakes = store_remakes S k n v s0 a0 (faults ++ v.faults) v.stop (shortages ++ v.shortages) may.store refl (λ single p there. answers_here single p)

@@ -1,11 +1,11 @@
 -- A commit or a checkpoint that fails is a remake of its hand's parts.
-use Rattle.std.proofs.Common.{◌≡◌, ℕ, ◌+◌, ◌≤◌, false, eqb, ◌∷◌, Option, Some, None, sym, refl, ap, ◌∙◌, subst, inl, inr, arith, Bool, true, eqb-true}
-use Rattle.ufs_sound.specs.Owned.{Has, count, times, one}
-use Rattle.ufs_sound.specs.Parts.{FilePart, NamesPart, StorePart, View, Start, only_one, uses}
+use Rattle.std.proofs.Common.{◌≡◌, ℕ, ◌+◌, ◌≤◌, false, eqb, ◌∷◌, Option, Some, None, refl, ap, inl, inr, arith, Bool, true, eqb-true}
+use Rattle.ufs_sound.specs.Owned.{Has, times, one}
+use Rattle.ufs_sound.specs.Parts.{FilePart, NamesPart, StorePart, View, Start}
 use Rattle.ufs_sound.specs.Explained.{Showing}
-use Rattle.ufs_sound.specs.Marks.{value_after, IsSingle, StoreGoes, NamesGo, RemakesOn, MayRemake}
+use Rattle.ufs_sound.specs.Marks.{value_after, IsSingle, RemakesOn, MayRemake}
 use Rattle.ufs_sound.specs.Events.{Failure, failed, failing, MayFail}
-use Rattle.ufs_sound.proofs.Happening.Staying.{same_file, blocks_stay, numbers_stay, disk_stays, same_parts_keep, same_parts_know, same_parts_load, lent_had, lent_has}
+use Rattle.ufs_sound.proofs.Happening.Staying.{store_remakes, same_file, blocks_stay, numbers_stay, disk_stays, same_parts_keep, same_parts_know, same_parts_load, lent_had, lent_has}
 
 module _ (S : Showing) (k : Start) (n : ℕ) (v : View) (s0 : StorePart) (f : Failure) (may : MayFail S k v s0 f) where
   abbrev fails : View
@@ -50,24 +50,5 @@ module _ (S : Showing) (k : Start) (n : ℕ) (v : View) (s0 : StorePart) (f : Fa
         both : {A : Type 0} {x : A} {o : Option A} → o ≡ None → o ≡ Some x → ⊥
         both a b = cc
 
-  fails_on : IsSingle v → (s t : StorePart) (p q : NamesPart) → StoreGoes v fails s t → NamesGo v fails p q → RemakesOn S k n v fails s t p q
-  fails_on single s t p q store names =
-      let a : s ≡ s0 = store.0 ∙ ap (λ l. value_after l s) may.store in
-      let b : q ≡ p = names.1 ∙ sym names.0 in
-      subst (λ (u : StorePart × StorePart × NamesPart). RemakesOn S k n v fails u.0 u.1 p u.2) (λ j. (sym a j, sym store.1 j, sym b j)) (fails_here single p names.0)
-
   pub fail_remakes : MayRemake S k n v fails
-  fail_remakes = record {
-    clients = refl;
-    asked = refl;
-    clock = refl;
-    seen = refl;
-    file_names = λ g. refl;
-    pool_names = λ g. refl;
-    has_names = λ u. refl;
-    has_store = λ u. ap (count only_one u) (sym may.store);
-    uses_stay = λ b. ap (λ l. uses b (record v { store = l })) (sym may.store);
-    files = λ g y h. (y, h, refl);
-    names = λ u q h. (q, h, refl);
-    on = fails_on;
-  }
+  fail_remakes = store_remakes S k n v s0 (failed n f s0) (f.fault ∷ v.faults) (Some f.fault) v.shortages may.store refl fails_here

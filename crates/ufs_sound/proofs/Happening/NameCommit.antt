@@ -1,11 +1,11 @@
 -- A commit of names is a remake of its hand's parts.
-use Rattle.std.proofs.Common.{◌≡◌, ℕ, ◌⊎◌, List, [], ◌∷◌, Option, Some, None, sym, refl, ap, ◌∙◌, subst, inl, inr, arith}
-use Rattle.ufs_sound.specs.Owned.{Has, count, times, weigh}
-use Rattle.ufs_sound.specs.Parts.{FilePart, NamesPart, StorePart, View, Start, only_one, names_uses, dropped_uses, store_uses}
+use Rattle.std.proofs.Common.{◌≡◌, ℕ, ◌⊎◌, List, [], ◌∷◌, Option, Some, None, refl, ap, ◌∙◌, subst, inl, inr, arith}
+use Rattle.ufs_sound.specs.Owned.{Has, times, weigh}
+use Rattle.ufs_sound.specs.Parts.{FilePart, NamesPart, StorePart, View, Start, dropped_uses}
 use Rattle.ufs_sound.specs.Explained.{Showing}
-use Rattle.ufs_sound.specs.Marks.{value_after, IsSingle, StoreGoes, NamesGo, RemakesOn, MayRemake}
+use Rattle.ufs_sound.specs.Marks.{IsSingle, RemakesOn, MayRemake}
 use Rattle.ufs_sound.specs.Events.{blocks_dropped, NamesCommit, names_committed, committed_names, naming, MayCommitNames}
-use Rattle.ufs_sound.proofs.Happening.Staying.{same_file, answers_stay, disk_stays, names_remade, same_parts_load, times_append}
+use Rattle.ufs_sound.proofs.Happening.Staying.{both_remake, same_file, answers_stay, disk_stays, same_parts_load, times_append}
 
 weigh_dropped : (b : ℕ) (ds : List (ℕ × List ℕ)) → times b (blocks_dropped ds) ≡ weigh (dropped_uses b) ds
 weigh_dropped b [] = refl
@@ -60,28 +60,5 @@ module _ (S : Showing) (k : Start) (n : ℕ) (v : View) (p0 : NamesPart) (s0 : S
         both : {A : Type 0} {x : A} {o : Option A} → o ≡ None → o ≡ Some x → ⊥
         both a b = cc
 
-    names_on : (s t : StorePart) (p q : NamesPart) → StoreGoes v named s t → NamesGo v named p q → RemakesOn S k n v named s t p q
-    names_on s t p q store names =
-        let a : s ≡ s0 = store.0 ∙ ap (λ l. value_after l s) may.store in
-        let b : p ≡ p0 = names.0 ∙ ap (λ l. value_after l p) may.names in
-        subst (λ (u : StorePart × StorePart × NamesPart × NamesPart). RemakesOn S k n v named u.0 u.1 u.2 u.3) (λ j. (sym a j, sym store.1 j, sym b j, sym names.1 j)) names_on_here
-
   pub naming_remakes : MayRemake S k n v named
-  naming_remakes = record {
-    clients = refl;
-    asked = refl;
-    clock = refl;
-    seen = refl;
-    file_names = λ g. refl;
-    pool_names = λ g. refl;
-    has_names = λ u. ap (count only_one u) (sym may.names);
-    has_store = λ u. ap (count only_one u) (sym may.store);
-    uses_stay = λ b.
-        let a = times_append b p0.spare (blocks_dropped p0.dropped) in let d = weigh_dropped b p0.dropped in
-        let f : weigh (names_uses b) v.names ≡ weigh (names_uses b) ((tt, p0) ∷ []) = ap (weigh (names_uses b)) may.names in
-        let s : weigh (store_uses b) v.store ≡ weigh (store_uses b) ((tt, s0) ∷ []) = ap (weigh (store_uses b)) may.store in
-        omega arith;
-    files = λ g y h. (y, h, refl);
-    names = names_remade v.names p0 q0 may.names refl;
-    on = names_on;
-  }
+  naming_remakes = both_remake S k n v p0 q0 s0 t0 may.names may.store refl (λ b. let a = times_append b p0.spare (blocks_dropped p0.dropped) in let d = weigh_dropped b p0.dropped in omega arith) names_on_here

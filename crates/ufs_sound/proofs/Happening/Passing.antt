@@ -1,12 +1,12 @@
 -- A write and a barrier are a remake of their hand's parts.
-use Rattle.std.proofs.Common.{◌≡◌, ℕ, ◌≤◌, List, length, sym, refl, ap, ◌∙◌, subst, inr, ⊎_elim, arith}
+use Rattle.std.proofs.Common.{◌≡◌, ℕ, ◌≤◌, List, length, refl, ap, ◌∙◌, inr, ⊎_elim, arith}
 use Rattle.ufs_model.specs.declared.data.Entry.{Entry}
-use Rattle.ufs_sound.specs.Owned.{Has, count}
-use Rattle.ufs_sound.specs.Parts.{FilePart, NamesPart, StorePart, View, Start, only_one, uses}
+use Rattle.ufs_sound.specs.Owned.{Has}
+use Rattle.ufs_sound.specs.Parts.{FilePart, NamesPart, StorePart, View, Start}
 use Rattle.ufs_sound.specs.Explained.{Showing}
-use Rattle.ufs_sound.specs.Marks.{value_after, IsSingle, StoreGoes, NamesGo, HasChanges, RemakesOn, MayRemake}
+use Rattle.ufs_sound.specs.Marks.{value_after, IsSingle, HasChanges, RemakesOn, MayRemake}
 use Rattle.ufs_sound.specs.Events.{Passage, passed, passing, HasHand, MayPass}
-use Rattle.ufs_sound.proofs.Happening.Staying.{same_file, names_here, answers_stay, blocks_stay, numbers_stay, disk_stays, same_parts_keep, same_parts_know, same_parts_load, lent_had}
+use Rattle.ufs_sound.proofs.Happening.Staying.{store_remakes, same_file, names_here, answers_stay, blocks_stay, numbers_stay, disk_stays, same_parts_keep, same_parts_know, same_parts_load, lent_had}
 
 module _ (S : Showing) (k : Start) (n : ℕ) (v : View) (s0 : StorePart) (lent : List (ℕ × ℕ)) (lent_names : ℕ) (c : Passage) (may : MayPass S k v s0 lent lent_names c) where
   abbrev passes : View
@@ -46,24 +46,5 @@ module _ (S : Showing) (k : Start) (n : ℕ) (v : View) (s0 : StorePart) (lent :
       answers = answers_stay v passes s0 t0 refl refl refl refl refl refl;
     }
 
-  passes_on : IsSingle v → (s t : StorePart) (p q : NamesPart) → StoreGoes v passes s t → NamesGo v passes p q → RemakesOn S k n v passes s t p q
-  passes_on single s t p q store names =
-      let a : s ≡ s0 = store.0 ∙ ap (λ l. value_after l s) may.store in
-      let b : q ≡ p = names.1 ∙ sym names.0 in
-      subst (λ (u : StorePart × StorePart × NamesPart). RemakesOn S k n v passes u.0 u.1 p u.2) (λ j. (sym a j, sym store.1 j, sym b j)) (passes_here single p names.0)
-
   pub pass_remakes : MayRemake S k n v passes
-  pass_remakes = record {
-    clients = refl;
-    asked = refl;
-    clock = refl;
-    seen = refl;
-    file_names = λ g. refl;
-    pool_names = λ g. refl;
-    has_names = λ u. refl;
-    has_store = λ u. ap (count only_one u) (sym may.store);
-    uses_stay = λ b. ap (λ l. uses b (record v { store = l })) (sym may.store);
-    files = λ g y h. (y, h, refl);
-    names = λ u q h. (q, h, refl);
-    on = passes_on;
-  }
+  pass_remakes = store_remakes S k n v s0 t0 v.faults v.stop v.shortages may.store refl passes_here

@@ -1,11 +1,12 @@
 -- What an event without an entry leaves as it is.
-use Rattle.std.proofs.Common.{◌≡◌, ℕ, ◌+◌, ◌≤◌, ◌⊎◌, false, eqb, List, [], ◌∷◌, length, ◌++◌, Some, sym, refl, ap, ◌∙◌, subst, inl, inr, ⊎_elim, arith, Bool, true, eqb-true, eq-eqb}
+use Rattle.std.proofs.Common.{◌≡◌, ℕ, ◌+◌, ◌≤◌, ◌⊎◌, false, eqb, List, [], ◌∷◌, length, ◌++◌, Option, Some, sym, refl, ap, ◌∙◌, subst, inl, inr, ⊎_elim, arith, Bool, true, eqb-true, eq-eqb}
 use Rattle.std.specs.Prelude.{slice_get}
 use Rattle.std.specs.FinMap as fin
-use Rattle.ufs_sound.specs.Owned.{Has, times, one}
-use Rattle.ufs_sound.specs.Parts.{FilePart, NamesPart, StorePart, View, Start, uses, committed}
+use Rattle.ufs_sound.specs.Owned.{Has, count, times, one, weigh}
+use Rattle.ufs_sound.specs.Parts.{FilePart, NamesPart, Shortage, StorePart, View, Start, only_one, uses, names_uses, store_uses, committed}
+use Rattle.ufs_sound.specs.Explained.{Showing}
 use Rattle.ufs_sound.specs.DiskBytes.{block_on, is_loaded, block_in}
-use Rattle.ufs_sound.specs.Marks.{value_after, IsSingle, IsQuiet, AreAnswers, HadChanges, HasChanges, AreBlocksKept, DoNumbersRise, IsDiskKept}
+use Rattle.ufs_sound.specs.Marks.{value_after, IsSingle, RemakesOn, MayRemake, IsQuiet, AreAnswers, HadChanges, HasChanges, AreBlocksKept, DoNumbersRise, IsDiskKept}
 use Rattle.ufs_sound.specs.Events.{HadLent}
 use Rattle.ufs_sound.proofs.Owning.{has_find, same_some}
 use Rattle.ufs_sound.proofs.Keys.{itself, alike}
@@ -139,4 +140,58 @@ module _ (k : Start) (v : View) (single : IsSingle v) (s : StorePart) (p : Names
   lent_has has = record {
     files = λ g x a e. has.files g x a;
     names = λ q a e. has.names ∙ ap (λ (x : NamesPart). x.changes) (names_here v single p q there a);
+  }
+
+-- ---- events of the store alone, and of the store and the names
+
+module _ (S : Showing) (k : Start) (n : ℕ) (v : View) (s0 t0 : StorePart) (faults : List ℕ) (stop : Option ℕ) (shortages : List Shortage) (has : v.store ≡ (tt, s0) ∷ []) (blocks : t0.unassigned ≡ s0.unassigned) where
+  abbrev pub with_store : View
+  with_store = record v { store = (tt, t0) ∷ []; seen = n; faults = faults; stop = stop; shortages = shortages }
+
+  pub store_remakes : ((single : IsSingle v) (p : NamesPart) → p ≡ value_after v.names p → RemakesOn S k n v with_store s0 t0 p p) → MayRemake S k n v with_store
+  store_remakes here = record {
+    clients = refl;
+    asked = refl;
+    clock = refl;
+    seen = refl;
+    file_names = λ g. refl;
+    pool_names = λ g. refl;
+    has_names = λ u. refl;
+    has_store = λ u. ap (count only_one u) (sym has);
+    uses_stay = λ b. let e = ap (times b) blocks in let s : weigh (store_uses b) v.store ≡ weigh (store_uses b) ((tt, s0) ∷ []) = ap (weigh (store_uses b)) has in omega arith;
+    files = λ g y h. (y, h, refl);
+    names = λ u q h. (q, h, refl);
+    on = λ single s t p q store names.
+        let a : s ≡ s0 = store.0 ∙ ap (λ l. value_after l s) has in
+        let b : q ≡ p = names.1 ∙ sym names.0 in
+        subst (λ (u : StorePart × StorePart × NamesPart). RemakesOn S k n v with_store u.0 u.1 p u.2) (λ j. (sym a j, sym store.1 j, sym b j)) (here single p names.0);
+  }
+
+module _ (S : Showing) (k : Start) (n : ℕ) (v : View) (p0 q0 : NamesPart) (s0 t0 : StorePart) (has_names : v.names ≡ (tt, p0) ∷ []) (has_store : v.store ≡ (tt, s0) ∷ [])
+    (goes : q0 ≡ record p0 { born = q0.born; blocks = q0.blocks; dropped = q0.dropped; spare = q0.spare; known = q0.known })
+    (blocks : (b : ℕ) → names_uses b (tt, q0) + store_uses b (tt, t0) ≡ names_uses b (tt, p0) + store_uses b (tt, s0)) where
+  abbrev pub with_both : View
+  with_both = record v { names = (tt, q0) ∷ []; store = (tt, t0) ∷ []; seen = n }
+
+  pub both_remake : (IsSingle v → RemakesOn S k n v with_both s0 t0 p0 q0) → MayRemake S k n v with_both
+  both_remake here = record {
+    clients = refl;
+    asked = refl;
+    clock = refl;
+    seen = refl;
+    file_names = λ g. refl;
+    pool_names = λ g. refl;
+    has_names = λ u. ap (count only_one u) (sym has_names);
+    has_store = λ u. ap (count only_one u) (sym has_store);
+    uses_stay = λ b.
+        let e = blocks b in
+        let f : weigh (names_uses b) v.names ≡ weigh (names_uses b) ((tt, p0) ∷ []) = ap (weigh (names_uses b)) has_names in
+        let s : weigh (store_uses b) v.store ≡ weigh (store_uses b) ((tt, s0) ∷ []) = ap (weigh (store_uses b)) has_store in
+        omega arith;
+    files = λ g y h. (y, h, refl);
+    names = names_remade v.names p0 q0 has_names goes;
+    on = λ single s t p q store names.
+        let a : s ≡ s0 = store.0 ∙ ap (λ l. value_after l s) has_store in
+        let b : p ≡ p0 = names.0 ∙ ap (λ l. value_after l p) has_names in
+        subst (λ (u : StorePart × StorePart × NamesPart × NamesPart). RemakesOn S k n v with_both u.0 u.1 u.2 u.3) (λ j. (sym a j, sym store.1 j, sym b j, sym names.1 j)) (here single);
   }

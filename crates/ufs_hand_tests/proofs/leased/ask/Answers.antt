@@ -1,14 +1,7 @@
-use Rattle.std.proofs.Common.{ℕ, ◌≡◌, [], ◌∷◌, ◌%◌, List, sym, subst, ap, ◌∙◌}
-use Rattle.ufs_model.specs.declared.data.Lease.{Lease}
-use Rattle.ufs_sound.specs.declared.fresh.Fresh.{Fresh}
-use Rattle.ufs_sound.specs.Draws.{MayDraw}
-use Rattle.ufs_sound.specs.FileSession.{small_disk, open_leaves}
+use Rattle.std.proofs.Common.{ℕ, sym, subst}
 use Rattle.ufs_sound.specs.Parts.{Start, View}
-use Rattle.ufs_sound.specs.Rule.{clock_step}
-use Rattle.ufs_sound.specs.Whole.{HoldsAll}
-use Rattle.ufs_hand.specs.Session.{CanBegin, DrewLocal, first_view, IsEvent}
-use Rattle.ufs_hand_tests.specs.Leased.{one_file, open_asked, read_leaves}
-use Rattle.ufs_hand_tests.proofs.LeasedSteps.{begins, asks, may_open, grants, asks_read, may_read, ends}
+use Rattle.ufs_hand.specs.Session.{IsEvent}
+use Rattle.ufs_hand_tests.proofs.LeasedSteps.{asks_read}
 use Rattle.ufs_hand_tests.proofs.leased.ask.Goals as goal
 
 pub mark-requires : goal.mark-requires

@@ -1,4 +1,4 @@
-use Rattle.std.proofs.Common.{ℕ, ◌≡◌, [], ◌∷◌, ◌%◌, List, sym, subst, ap, ◌∙◌}
+use Rattle.std.proofs.Common.{[], ◌∷◌, ◌%◌, sym, subst}
 use Rattle.ufs_model.specs.declared.data.Lease.{Lease}
 use Rattle.ufs_sound.specs.declared.fresh.Fresh.{Fresh}
 use Rattle.ufs_sound.specs.Draws.{MayDraw}
@@ -6,9 +6,9 @@ use Rattle.ufs_sound.specs.FileSession.{small_disk, open_leaves}
 use Rattle.ufs_sound.specs.Parts.{Start, View}
 use Rattle.ufs_sound.specs.Rule.{clock_step}
 use Rattle.ufs_sound.specs.Whole.{HoldsAll}
-use Rattle.ufs_hand.specs.Session.{CanBegin, DrewLocal, first_view, IsEvent}
-use Rattle.ufs_hand_tests.specs.Leased.{one_file, open_asked, read_leaves}
-use Rattle.ufs_hand_tests.proofs.LeasedSteps.{begins, asks, may_open, grants, asks_read, may_read, ends}
+use Rattle.ufs_hand.specs.Session.{DrewLocal, first_view, IsEvent}
+use Rattle.ufs_hand_tests.specs.Leased.{open_asked, read_leaves}
+use Rattle.ufs_hand_tests.proofs.LeasedSteps.{asks, may_open, may_read, ends}
 use Rattle.ufs_hand_tests.proofs.leased.session.Goals as goal
 
 pub mark-asked-requires : goal.mark-asked-requires
