@@ -1,5 +1,5 @@
 -- What a session starts from, and what its last hand knows.
-use Rattle.std.specs.Prelude.{ℕ, ◌/◌, ◌≤◌, ◌<◌, ◌≡◌, ◌≢◌, ◌⊎◌, false, [], ◌∷◌}
+use Rattle.std.specs.Prelude.{ℕ, ◌/◌, ◌%◌, ◌≤◌, ◌<◌, ◌≡◌, ◌≢◌, ◌⊎◌, false, [], ◌∷◌}
 use Rattle.std.specs.FinMap as fin
 use Rattle.atomic_table.specs.Seated.{TableId}
 use Rattle.ufs_model.specs.PosixTree.{root_alone}
@@ -50,12 +50,19 @@ pub record KnowsAll (k : Start) (tickets clock : ℕ) (v : View) : Type 0 where
 
 -- ---- a draw under a lease
 
+-- The word had become this one after that one was read.
+pub record IsPassedBy (found read : ℕ) : Type 0 where
+  pub other : found ≢ read
+  pub tickets : read % clock_step ≤ found % clock_step
+  pub clock : read / clock_step ≤ found / clock_step
+
 -- What a draw leaves that rests on a lease until that clock. The hand reads the word: where the lease lives at its clock, the
--- entry is drawn as long as the word is still that one.
+-- entry is drawn as long as the word is still that one. Else the word that is found has more tickets or a later clock, and
+-- fewer or an earlier one in neither.
 abbrev pub DrewLocal : ℕ → Fresh → Leaves → View → Drawn → View → Type 0
 DrewLocal until f l v (drew.Ticket ticket) w = (clock : ℕ) × (clock < until) × (v.clock ≤ clock) × (v.seen ≤ ticket) × (w ≡ drawn ticket f l (looked (word_of ticket clock) v))
 DrewLocal until f l v (drew.Expired now) w = (tickets : ℕ) × (until ≤ now) × (v.clock ≤ now) × (v.seen ≤ tickets) × (w ≡ looked (word_of tickets now) v)
-DrewLocal until f l v (drew.Lost found) w = (read : ℕ) × (found ≢ read) × (read / clock_step < until) × IsSeenBy read v × (w ≡ looked (word_at read) v)
+DrewLocal until f l v (drew.Lost found) w = (read : ℕ) × IsPassedBy found read × (read / clock_step < until) × IsSeenBy read v × (w ≡ looked (word_at read) v)
 
 -- ---- what a mark may leave
 

@@ -251,7 +251,7 @@ impl<N: Naming> Hand<N> {
         requires may { MayDraw fresh.now self.old L.leaves (lease.now ∷ []) }
         requires live { word / clock_step < lease.now.until }
         ensures drawn { result ≡ word → self.new ≡ drawn (word % clock_step) fresh.now L.leaves self.old }
-        ensures lost { result ≢ word → self.new ≡ self.old }
+        ensures lost { result ≢ word → (self.new ≡ self.old) × IsSeenBy result self.old }
     {
         let _ = lease;
         let _ = fresh;

@@ -1,6 +1,8 @@
-//! A short session on one thread: each call of a hand once.
+//! Short sessions on one thread: each call of a hand once.
 #![tactic(auto)]
 
+mod leased;
 mod session;
 
+pub use leased::read_under_a_lease;
 pub use session::served;

@@ -35,7 +35,7 @@ off_journal g epoch before image differs sector off = by (differs sector) off
     by (inr of) (inl low) = let from = of.from in absurd (omega (arith, from, low))
     by (inr of) (inr high) = let under = of.under in absurd (omega (arith, under, high))
 
-same_data : (g : Geometry) (epoch : ℕ) (before image : Image) → DiffersInEpoch g epoch before image → (block : ℕ) → IsDataBlock g block → block_at image block ≡ block_at before block
+pub same_data : (g : Geometry) (epoch : ℕ) (before image : Image) → DiffersInEpoch g epoch before image → (block : ℕ) → IsDataBlock g block → block_at image block ≡ block_at before block
 same_data g epoch before image differs block data' = sym (block_same before image block (λ sector of. off_journal g epoch before image differs sector (block_off g block sector data'.from of)))
 
 -- ---- what a barrier leaves of the journal

@@ -34,16 +34,16 @@ use Rattle.ufs_ledger.proofs.Promise.{shows_now}
 
 module _ (g : Geometry) (blocks : ℕ → Cell) (s : Stand) (start : PosixTree) (history : List Entry) (names : ℕ) (files : ℕ → ℕ) (n : Numbers) (file inode number size keep : ℕ) (extents : List Extent)
     (sound : IsSoundCatalog g s.catalog) (covers : CoversDirs g s) (kept : IsStandKept g blocks s start history names files n) (go : MayCommitFile g blocks s start history files n file inode number size keep extents) where
-  abbrev c : Catalog
+  abbrev pub c : Catalog
   c = s.catalog
 
-  abbrev form : InodeForm
+  abbrev pub form : InodeForm
   form = after_delta (s.catalog.forms inode) number 1 size keep extents
 
-  abbrev one : Committed
+  abbrev pub one : Committed
   one = file_commit number inode size keep extents
 
-  abbrev next : Catalog
+  abbrev pub next : Catalog
   next = with_form inode (after_delta (s.catalog.forms inode) number 1 size keep extents) s.catalog
 
   ranged : is_inode_number g inode ≡ true
@@ -52,7 +52,7 @@ module _ (g : Geometry) (blocks : ℕ → Cell) (s : Stand) (start : PosixTree) 
   later : is_newer_in number c inode ≡ true
   later = let newer = go.newer in grind (arith, nat_tests, newer)
 
-  catalog_is : with_committed_in g one c ≡ next
+  pub catalog_is : with_committed_in g one c ≡ next
   catalog_is = λ i. if ranged i then (if later i then next else c) else c
 
   here : (k : ℕ) → (k == inode) ≡ true → k ≡ inode
@@ -117,7 +117,7 @@ module _ (g : Geometry) (blocks : ℕ → Cell) (s : Stand) (start : PosixTree) 
       by true e = go.unheld place block (sym (ap (λ f. slice_get (blocks_of f) place) (form_here k e)) ∙ has.there)
       by false e = kept.stored.unheld k place block (record { in_range = has.in_range; there = sym (ap (λ f. slice_get (blocks_of f) place) (form_else k e)) ∙ has.there }) (sym (same_kind k) ∙ file')
 
-  shape_else : (o : Option ℕ) → (o ≡ Some inode → ⊥) → shape_of next o ≡ shape_of c o
+  pub shape_else : (o : Option ℕ) → (o ≡ Some inode → ⊥) → shape_of next o ≡ shape_of c o
   shape_else None apart = refl
   shape_else (Some k) apart =
       let off : (k == inode) ≡ false = by (k == inode) refl in
@@ -127,7 +127,7 @@ module _ (g : Geometry) (blocks : ℕ → Cell) (s : Stand) (start : PosixTree) 
       by false e = e
       by true e = absurd (apart (ap Some (here k e)))
 
-  shape_here : shape_of next (n.inode file) ≡ record { size = size; holds = blocks_of form }
+  pub shape_here : shape_of next (n.inode file) ≡ record { size = size; holds = blocks_of form }
   shape_here =
       let self : (inode == inode) ≡ true = grind (arith, nat_tests) in
       ap (shape_of next) go.there ∙ ap (λ (f : InodeForm). record { size = f.size; holds = blocks_of f }) (form_here inode self)

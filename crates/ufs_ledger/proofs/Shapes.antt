@@ -26,12 +26,12 @@ abbrev pub content_of : Pick → Shape → List ℕ
 content_of pick shape = take shape.size (flat_map pick shape.holds)
 
 -- where a place's byte stands
-record IsAt (pick : Pick) (blocks : List ℕ) (place : ℕ) : Type 0 where
-  block : ℕ
-  there : slice_get blocks (place / 4096) ≡ Some block
-  is : byte_at (flat_map pick blocks) place ≡ byte_at (pick block) (place % 4096)
+pub record IsAt (pick : Pick) (blocks : List ℕ) (place : ℕ) : Type 0 where
+  pub block : ℕ
+  pub there : slice_get blocks (place / 4096) ≡ Some block
+  pub is : byte_at (flat_map pick blocks) place ≡ byte_at (pick block) (place % 4096)
 
-at_place : (pick : Pick) (blocks : List ℕ) → ((b : ℕ) → IsIn b blocks → length (pick b) ≡ 4096) → (place : ℕ) → place < 4096 * length blocks → IsAt pick blocks place
+pub at_place : (pick : Pick) (blocks : List ℕ) → ((b : ℕ) → IsIn b blocks → length (pick b) ≡ 4096) → (place : ℕ) → place < 4096 * length blocks → IsAt pick blocks place
 at_place pick [] long place less = absurd (omega (arith, less))
 at_place pick (b ∷ blocks) long place less = by (cases_lt place 4096) (λ low. at_place pick blocks (λ c is. long c (inr is)) (place - 4096) (omega (arith, less, low)))
   where
@@ -52,7 +52,7 @@ at_place pick (b ∷ blocks) long place less = by (cases_lt place 4096) (λ low.
           is = byte_back (pick b) (flat_map pick blocks) 4096 place size high ∙ rest.is ∙ ap (byte_at (pick rest.block)) (let same : (place - 4096) % 4096 ≡ place % 4096 = omega (arith, high) in same);
         }
 
-blocks_length : (pick : Pick) (blocks : List ℕ) → ((b : ℕ) → IsIn b blocks → length (pick b) ≡ 4096) → length (flat_map pick blocks) ≡ 4096 * length blocks
+pub blocks_length : (pick : Pick) (blocks : List ℕ) → ((b : ℕ) → IsIn b blocks → length (pick b) ≡ 4096) → length (flat_map pick blocks) ≡ 4096 * length blocks
 blocks_length pick [] long = refl
 blocks_length pick (b ∷ blocks) long =
     let first = long b (inl refl) in

@@ -3,6 +3,7 @@ ghost use Rattle.std.specs.Prelude.{ℕ, ◌≡◌, ◌≢◌, ◌≤◌, ◌<�
 ghost use Rattle.std.specs.List.{list_all};
 ghost use Rattle.ufs_base.specs.Faults.{HasCause};
 ghost use Rattle.ufs_base.specs.declared.sizes.TheConstants.{BLOCK, SECTORS_PER_BLOCK};
+ghost use Rattle.ufs_disk.specs.Disk.{IsImage, IsPartlyWritten};
 ghost use Rattle.ufs_disk.specs.Moments.{LeavesOnly, reads};
 ghost use Rattle.ufs_layout.specs.Areas.{first_of_data, sector_count};
 ghost use Rattle.ufs_layout.specs.Records.{is_record};
@@ -15,6 +16,7 @@ ghost use Rattle.ufs_layout.specs.Filled.{sector_count_of};
 ghost use Rattle.ufs_journal.specs.Kept.{IsReady, IsUnused};
 ghost use Rattle.ufs_overlay.specs.Seen as overlaid;
 ghost use Rattle.ufs_ledger.specs.Ledger.{IsDataBlock, is_held, Ledger, IsLeftBy, IsLedgerOf};
+ghost use Rattle.ufs_ledger.specs.Data.{KeepsData};
 ghost use Rattle.ufs_ledger.specs.Changes.{beginning, committed_one, committing, emptied, home_of, settled, tried, written};
 ghost use Rattle.ufs_ledger.specs.Laws.{MayWrite};
 ghost use Rattle.ufs_ledger.specs.Committing.{IsLedgerBy, MayGoOn};
@@ -33,6 +35,7 @@ pub fn write_data<D: Disk>(disk: &mut D, block: u32, bytes: &[u8]) -> Result<(),
     requires sized { length bytes.now ≡ BLOCK }
     ensures crash { IsTrue D.tells → (l : Ledger) → IsLedgerOf (D.size disk.old) (D.moments disk.old).state l → l.maybe ≡ None → MayWrite l block bytes.now
         → LeavesOnly D.keeps (IsLeftBy (D.size disk.old) (written block bytes.now l)) (D.moments disk.old) (D.moments disk.new) }
+    ensures images { IsTrue D.tells → LeavesOnly D.keeps (IsPartlyWritten (SECTORS_PER_BLOCK * block) bytes.now (D.moments disk.old).state) (D.moments disk.old) (D.moments disk.new) }
     ensures ok { IsTrue D.tells → OnOk result ((l : Ledger) → IsLedgerOf (D.size disk.old) (D.moments disk.old).state l → l.maybe ≡ None → MayWrite l block bytes.now
         → IsLedgerOf (D.size disk.new) (D.moments disk.new).state (written block bytes.now l)) }
     ensures err { IsTrue D.tells → OnErr result ((l : Ledger) → IsLedgerOf (D.size disk.old) (D.moments disk.old).state l → l.maybe ≡ None → MayWrite l block bytes.now
@@ -53,6 +56,7 @@ pub fn read_data<D: Disk>(disk: &mut D, block: u32, buf: &mut [u8]) -> Result<()
     ensures bytes { IsTrue D.tells → OnOk result ((l : Ledger) → IsLedgerOf (D.size disk.old) (D.moments disk.old).state l → IsDataBlock (geometry_of l.head) block → is_held l.now.log block ≡ false
         → buf.new ≡ (l.blocks block).seen) }
     ensures crash { IsTrue D.tells → (l : Ledger) → IsLedgerOf (D.size disk.old) (D.moments disk.old).state l → LeavesOnly D.keeps (IsLeftBy (D.size disk.old) l) (D.moments disk.old) (D.moments disk.new) }
+    ensures images { IsTrue D.tells → LeavesOnly D.keeps (IsImage (D.moments disk.old).state) (D.moments disk.old) (D.moments disk.new) }
     ensures ledger { IsTrue D.tells → (l : Ledger) → IsLedgerOf (D.size disk.old) (D.moments disk.old).state l → IsLedgerOf (D.size disk.new) (D.moments disk.new).state l }
     ensures ready { IsTrue D.tells → (g : Geometry) (epoch used number : ℕ) → IsReady g epoch used number (D.moments disk.old).state → IsReady g epoch used number (D.moments disk.new).state }
     ensures unused { IsTrue D.tells → (g : Geometry) (epoch txn : ℕ) → IsUnused g epoch txn (D.moments disk.old).state → IsUnused g epoch txn (D.moments disk.new).state }
@@ -66,6 +70,7 @@ pub fn read_data<D: Disk>(disk: &mut D, block: u32, buf: &mut [u8]) -> Result<()
 /// Waits until all that was written before is on the disk for good.
 pub fn settle<D: Disk>(disk: &mut D) -> Result<(), Fault>
     ensures crash { IsTrue D.tells → (l : Ledger) → IsLedgerOf (D.size disk.old) (D.moments disk.old).state l → LeavesOnly D.keeps (IsLeftBy (D.size disk.old) l) (D.moments disk.old) (D.moments disk.new) }
+    ensures images { IsTrue D.tells → LeavesOnly D.keeps (IsImage (D.moments disk.old).state) (D.moments disk.old) (D.moments disk.new) }
     ensures ledger { IsTrue D.tells → (l : Ledger) → IsLedgerOf (D.size disk.old) (D.moments disk.old).state l → IsLedgerOf (D.size disk.new) (D.moments disk.new).state l }
     ensures ok { IsTrue D.tells → OnOk result ((l : Ledger) → IsLedgerOf (D.size disk.old) (D.moments disk.old).state l → l.maybe ≡ None → IsLedgerOf (D.size disk.new) (D.moments disk.new).state (settled l)) }
     ensures ready { IsTrue D.tells → (g : Geometry) (epoch used number : ℕ) → IsReady g epoch used number (D.moments disk.old).state → IsReady g epoch used number (D.moments disk.new).state }
@@ -99,6 +104,10 @@ pub fn commit_records<D: Disk>(
     // A crash leaves what it might have left, or, once all is settled, the transaction too.
     ensures crash { IsTrue D.tells → (l : Ledger) → IsLedgerBy journal.old (D.size disk.old) (D.moments disk.old).state l → MayGoOn journal.old (D.moments disk.old).state l txn records.now
         → LeavesOnly D.keeps (λ image. IsLeftBy (D.size disk.old) l image ⊎ IsLeftBy (D.size disk.old) (committing (record { number = journal.old.number; records = records.now }) (settled l)) image) (D.moments disk.old) (D.moments disk.new) }
+
+    // It has in the blocks of files what it might have had.
+    ensures data { IsTrue D.tells → (l : Ledger) → IsLedgerBy journal.old (D.size disk.old) (D.moments disk.old).state l → MayGoOn journal.old (D.moments disk.old).state l txn records.now
+        → LeavesOnly D.keeps (KeepsData journal.old.geometry l.now.log (D.moments disk.old).state) (D.moments disk.old) (D.moments disk.new) }
     ensures ok { IsTrue D.tells → OnOk result ((l : Ledger) → IsLedgerBy journal.old (D.size disk.old) (D.moments disk.old).state l → MayGoOn journal.old (D.moments disk.old).state l txn records.now
         → IsLedgerOf (D.size disk.new) (D.moments disk.new).state (committed_one (record { number = journal.old.number; records = records.now }) l)) }
     ensures err { IsTrue D.tells → OnErr result ((l : Ledger) → IsLedgerBy journal.old (D.size disk.old) (D.moments disk.old).state l → MayGoOn journal.old (D.moments disk.old).state l txn records.now
@@ -157,6 +166,10 @@ pub fn checkpoint<D: Disk>(
     // A crash leaves what it might have left, or the same behind the next superblock.
     ensures crash { IsTrue D.tells → (l : Ledger) → IsLedgerBy journal.old (D.size disk.old) (D.moments disk.old).state l → overlaid.HasAdded overlay.now l.now.log
         → LeavesOnly D.keeps (λ image. IsLeftBy (D.size disk.old) l image ⊎ IsLeftBy (D.size disk.old) (beginning head.now (block_at (home_of l (reads (D.moments disk.old)))) l) image) (D.moments disk.old) (D.moments disk.new) }
+
+    // It has in the blocks of files what it might have had.
+    ensures data { IsTrue D.tells → (l : Ledger) → IsLedgerBy journal.old (D.size disk.old) (D.moments disk.old).state l → overlaid.HasAdded overlay.now l.now.log
+        → LeavesOnly D.keeps (KeepsData journal.old.geometry l.now.log (D.moments disk.old).state) (D.moments disk.old) (D.moments disk.new) }
     ensures err { IsTrue D.tells → OnErr result ((l : Ledger) → IsLedgerBy journal.old (D.size disk.old) (D.moments disk.old).state l → overlaid.HasAdded overlay.now l.now.log
         → IsLedgerOf (D.size disk.new) (D.moments disk.new).state l ⊎ IsLedgerOf (D.size disk.new) (D.moments disk.new).state (beginning head.now (block_at (home_of l (reads (D.moments disk.old)))) l)) }
     ensures ok { IsTrue D.tells → OnOk result ((l : Ledger) → IsLedgerBy journal.old (D.size disk.old) (D.moments disk.old).state l → overlaid.HasAdded overlay.now l.now.log

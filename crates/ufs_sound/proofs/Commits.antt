@@ -18,8 +18,9 @@ use Rattle.ufs_prefix.proofs.Facts.Contents.{unborn_empty}
 use Rattle.ufs_prefix.proofs.Facts.Sessions.{next_names}
 use Rattle.ufs_prefix.proofs.Facts.Shows.{shown_now, shown_written_back}
 use Rattle.ufs_prefix.proofs.Facts.Explains.{tree_weaker, committed_file, written_back}
-use Rattle.ufs_sound.specs.Shown.{nodes_of, ShowsAtLeast}
-use Rattle.ufs_sound.specs.Commits.{bytes_now, IsWrittenBack, AreFilesWrittenBack, IsFileWrittenBack, BlockWritesShow, IsFileCommitted, IsOneMore, FileCommitsShow, IsKeptFile, AreNamesCommitted, AreFresh, NameCommitsShow, UnbornAreFresh, FewerShow, BetweenShows}
+use Rattle.ufs_sound.specs.Parts.{Cells}
+use Rattle.ufs_sound.specs.Shown.{nodes_of, ShowsAtLeast, ShowsImages}
+use Rattle.ufs_sound.specs.Commits.{bytes_now, IsWrittenBack, AreFilesWrittenBack, IsFileWrittenBack, BlockWritesShow, IsFileCommitted, IsOneMore, FileCommitsShow, IsKeptFile, AreNamesCommitted, AreFresh, NameCommitsShow, UnbornAreFresh, FewerShow, TreesMayGo}
 
 some_paths : (p q : Paths) → Some p ≡ Some q → p ≡ q
 some_paths p q e = cc
@@ -30,7 +31,7 @@ none_paths p e = cc
 -- ---- blocks are written
 
 module _ (start : PosixTree) (history : List Entry) (files : ℕ → ℕ) (names : ℕ) (paths : Paths) (before after : PathNodes) where
-  blocks_show : AreFilesWrittenBack start history paths before after → ShowsAtLeast start history files names (Some paths) before → ShowsAtLeast start history files names (Some paths) after
+  pub blocks_show : AreFilesWrittenBack start history paths before after → ShowsAtLeast start history files names (Some paths) before → ShowsAtLeast start history files names (Some paths) after
   blocks_show back s = record {
     shown_names = s.shown_names;
     shown_files = s.shown_files;
@@ -97,7 +98,7 @@ module _ (start : PosixTree) (history : List Entry) (files more : ℕ → ℕ) (
       by (yes s') = inr (e ∙ ap (λ n. Some (File n)) s')
       by (no ne) = inl (c.elsewhere path (λ a. ne (let z : Some (File f) ≡ Some (File file) = sym e ∙ a in cc)))
 
-  commit_shows : ShowsAtLeast start history more names (Some paths) after
+  pub commit_shows : ShowsAtLeast start history more names (Some paths) after
   commit_shows = record {
     shown_names = s.shown_names;
     shown_files = now;
@@ -148,7 +149,7 @@ module _ (start : PosixTree) (history : List Entry) (files : ℕ → ℕ) (names
   made : (f : ℕ) (bytes : List ℕ) → fresh f ≡ true → bytes ≡ [] → IsFileShown start history then f bytes
   made f bytes is none = subst (λ (x : Bool × List ℕ). IsShown (bytes_of start.bytes f) (changes_of f start history) (cond x.0 0 (s.shown_files f)) x.1) (λ i. (sym is i, sym none i)) (nothing f (new f is).1)
 
-  names_show : ShowsAtLeast start history files (length (name_changes start history)) (Some (names_after start history (length (name_changes start history))).paths) after
+  pub names_show : ShowsAtLeast start history files (length (name_changes start history)) (Some (names_after start history (length (name_changes start history))).paths) after
   names_show = record {
     shown_names = length (name_changes start history);
     shown_files = then;
@@ -187,23 +188,38 @@ unborn_are_fresh start history files names is legal made born file unborn = (non
 
 -- ---- on the way
 
-pub fewer_show : FewerShow
-fewer_show start history files more names last paths cells few low shows image at =
-    let o = shows image at in (
-      o.0,
-      o.1,
-      record {
-        shown_names = o.2.shown_names;
-        shown_files = o.2.shown_files;
-        most_names = let a = o.2.most_names in omega arith;
-        most_files = λ f. let a = few f in let b = o.2.most_files f in omega arith;
-        shown = o.2.shown;
-        placed = λ p is. absurd (none_paths p is);
-      },
-    )
+-- the same with whatever names
+pub any_names : (start : PosixTree) (history : List Entry) (files : ℕ → ℕ) (names : ℕ) (paths : Option Paths) (tree : PathNodes) → ShowsAtLeast start history files names paths tree → ShowsAtLeast start history files names None tree
+any_names start history files names paths tree s = record {
+  shown_names = s.shown_names;
+  shown_files = s.shown_files;
+  most_names = s.most_names;
+  most_files = s.most_files;
+  shown = s.shown;
+  placed = λ p is. absurd (none_paths p is);
+}
 
-pub between_shows : BetweenShows
-between_shows start history files names one other cells between a b image at = ⊎_elim
-    (λ x. let o = a x.0 x.1 in (o.0, x.2 ∙ o.1, o.2))
-    (λ x. let o = b x.0 x.1 in (o.0, x.2 ∙ o.1, o.2))
-    (between image at)
+-- and fewer changes
+pub fewer_changes : (start : PosixTree) (history : List Entry) (files more : ℕ → ℕ) (names last : ℕ) (paths : Option Paths) (tree : PathNodes) → ((file : ℕ) → files file ≤ more file) → names ≤ last
+    → ShowsAtLeast start history more last paths tree → ShowsAtLeast start history files names None tree
+fewer_changes start history files more names last paths tree few low s = record {
+  shown_names = s.shown_names;
+  shown_files = s.shown_files;
+  most_names = let a = s.most_names in omega arith;
+  most_files = λ f. let a = few f in let b = s.most_files f in omega arith;
+  shown = s.shown;
+  placed = λ p is. absurd (none_paths p is);
+}
+
+pub fewer_show : FewerShow
+fewer_show start history files more names last paths cells few low shows image at = let o = shows image at in (o.0, o.1, fewer_changes start history files more names last paths (nodes_of o.0) few low o.2)
+
+-- each image on the way opens as one from before does, or to a tree that stands so to its tree
+pub on_the_way : (start : PosixTree) (history : List Entry) (files : ℕ → ℕ) (names : ℕ) (paths : Option Paths) (Goes : PathNodes → PathNodes → Type 0) (old cells : Cells)
+    → ((before after : PathNodes) → Goes before after → ShowsAtLeast start history files names paths before → ShowsAtLeast start history files names None after)
+    → TreesMayGo Goes old cells → ShowsImages start history files names paths old → ShowsImages start history files names None cells
+on_the_way start history files names paths Goes old cells leads go shows image at =
+    let g = go image at in
+    let o = shows g.0 g.1 in
+    ⊎_elim (λ same. (o.0, same ∙ o.1, any_names start history files names paths (nodes_of o.0) o.2))
+    (λ goes. let n = goes o.0 o.1 in (n.0, n.1, leads (nodes_of o.0) (nodes_of n.0) n.2 o.2)) g.2

@@ -33,7 +33,7 @@ use Rattle.ufs_sound.proofs.Ending.{opens}
 use Rattle.ufs_sound.proofs.Asking.{ask_sound}
 use Rattle.ufs_sound.proofs.Apart.{split_sound}
 use Rattle.ufs_sound.proofs.Drawn.{draw_sound}
-use Rattle.ufs_sound.proofs.Happening.{move_remakes}
+use Rattle.ufs_sound.proofs.Happening.Moving.{move_remakes}
 use Rattle.ufs_sound.proofs.Marking.{remake_sound}
 use Rattle.ufs_sound.proofs.Opened.{opened_can}
 use Rattle.ufs_sound.proofs.Openable.{open_may_draw}

@@ -18,7 +18,7 @@ use Rattle.ufs_sound.specs.Explained.{Showing}
 use Rattle.ufs_sound.specs.LeasesTrue.{IsListedIn}
 use Rattle.ufs_sound.specs.Owned.{Has}
 use Rattle.ufs_sound.specs.Parts.{ClientPart, View, Word, Start, HoldsPart}
-use Rattle.ufs_sound.specs.Rule.{clock_step, word_number, IsRuled, DrewAt}
+use Rattle.ufs_sound.specs.Rule.{clock_step, word_number, IsRuled, IsSeenBy, DrewAt}
 use Rattle.ufs_sound.specs.Sound.{IsSound}
 use Rattle.ufs_sound.proofs.Drawn.{draw_sound}
 use Rattle.ufs_sound.proofs.Ruling.{few, tickets_of, clock_of}
@@ -140,12 +140,21 @@ module _ (keeps' : KeepsTrees) (local : Locality) (makes : MakesOneFile) (S : Sh
       sound = subst (IsSound S k h.word) (sym (set_back s.views i me.0 at)) h.sound;
     }
 
+    -- the word that is found isn't from before what the hand has seen
+    seen_by : IsSeenBy n me.0
+    seen_by =
+        let room = few S k h.word s.views h.sound in
+        let ticket : n % clock_step ≡ h.word.tickets = ap (λ y. y % clock_step) found ∙ tickets_of S k h.word room in
+        let clock : n / clock_step ≡ h.word.clock = ap (λ y. y / clock_step) found ∙ clock_of S k h.word room in
+        let seen = h.sound.clock.seen i me.0 at in
+        (subst (λ y. me.0.seen ≤ y) (sym ticket) seen.0, subst (λ y. me.0.clock ≤ y) (sym clock) seen.1)
+
     abbrev Goes : ℕ → Type 0
     Goes word = (w : View) × (a : Act (Unit {0})) × Valid s.homes me.1 a × IsRuled S k (stepped s 0 word i me.1 w a) × DrewAt old f l me n (w, carried_after me.1 a)
 
     goes : (b : Bool) → eqb n old ≡ b → Goes (either b new n)
     goes true e = let same = eqb-true n old e in (drawn (old % clock_step) f l me.0, keeps, tt, drawn_at same, ((λ _. refl), (λ ne. absurd (ne same))))
-    goes false e = (me.0, keeps, tt, stays_at, ((λ same. absurd (eqb-false n old e same)), (λ _. refl)))
+    goes false e = (me.0, keeps, tt, stays_at, ((λ same. absurd (eqb-false n old e same)), (λ _. (refl, seen_by))))
 
   pub local_keeps : (slots : ℕ) → Allows (IsRuled S k) slots i me 0 (λ n. either (eqb n old) new n) (DrewAt old f l me)
   local_keeps slots s h len at below = goes s h at (eqb (slice_index s.words 0) old) refl

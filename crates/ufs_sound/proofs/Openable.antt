@@ -11,7 +11,7 @@ use Rattle.ufs_model.specs.Paths.{text_refusal, whole_of}
 use Rattle.ufs_model.specs.Walk.{walk_refusal, node_at, file_of}
 use Rattle.ufs_model.specs.Posix.{served, open_node, with_fd}
 use Rattle.ufs_model.specs.Refusals.{refusal, own_refusal, open_refusal}
-use Rattle.ufs_model.specs.Descriptors.{Mode, is_mode, free_from, lowest_free}
+use Rattle.ufs_model.specs.Descriptors.{Mode, mode_of_open, is_mode, free_from, lowest_free}
 use Rattle.ufs_model.specs.History.{goes_on}
 use Rattle.ufs_model.specs.Touched.{holds, IsPartOf, opened_part}
 use Rattle.ufs_model.proofs.Facts.Lookups.{inserted_here, inserted_else}
@@ -59,7 +59,7 @@ no_list true = refl
 no_list false = refl
 
 abbrev pub plain : Mode
-plain = record { read = true; write = true; creat = false; excl = false; trunc = false; append = false }
+plain = mode_of_open true true false false false false
 
 module _ (client seq g : ℕ) (path : List ℕ) (by : Actor) (v : View) (single : IsSingle v) (self : ClientPart) (has : Has (client, self) v.clients) (low : client < 16) (next : seq ≡ length self.entries)
     (asked : self.asked ≡ Some (op.OpenFile path true true false false false false)) (closed : (fd : ℕ) → fin.get self.fds fd ≡ None) (p : NamesPart) (names : v.names ≡ (tt, p) ∷ [])

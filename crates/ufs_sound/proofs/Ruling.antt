@@ -27,7 +27,8 @@ use Rattle.ufs_sound.proofs.Drawn.{draw_sound}
 use Rattle.ufs_sound.proofs.Marking.{remake_sound}
 use Rattle.ufs_sound.proofs.Asking.{ask_sound}
 use Rattle.ufs_sound.proofs.Leasing.{grant_sound, give_back_sound}
-use Rattle.ufs_sound.proofs.Clocking.{look_sound, tick_sound, was}
+use Rattle.ufs_sound.proofs.Clock.Setting.{was}
+use Rattle.ufs_sound.proofs.Clocking.{look_sound, tick_sound}
 
 -- ---- the tickets are few
 

@@ -1,5 +1,5 @@
 -- Each state of a short session over a new disk is sound.
-use Rattle.std.proofs.Common.{◌≡◌, ℕ, zero, suc, ◌+◌, ◌⊎◌, true, false, List, [], ◌∷◌, Option, Some, None, is_some, is_none, cond, sym, refl, ap, ◌∙◌, subst, inl, inr, ⊎_elim, arith}
+use Rattle.std.proofs.Common.{◌≡◌, ℕ, zero, suc, ◌+◌, ◌≤◌, ◌⊎◌, eqb, ne_eqb, true, false, List, [], ◌∷◌, Option, Some, None, is_some, is_none, cond, sym, refl, ap, ◌∙◌, subst, inl, inr, ⊎_elim, arith}
 use Rattle.std.specs.Prelude.{take, drop, ◌||◌}
 use Rattle.std.specs.List.{list_any}
 use Rattle.std.specs.Ordering.{nat_cmp}
@@ -16,12 +16,15 @@ use Rattle.ufs_model.specs.declared.data.Op.TheVariants as op
 use Rattle.ufs_model.specs.declared.data.PartName.{PartName}
 use Rattle.ufs_model.specs.declared.data.PartName.TheVariants as part
 use Rattle.ufs_model.proofs.Facts.Held.{open_by}
-use Rattle.ufs_sound.specs.Owned.{times}
-use Rattle.ufs_sound.specs.Parts.{Cells, ClientPart, NamesPart, StorePart, View, Start, HoldsPart}
+use native.Mathlib.Decide.{ℕ_discrete}
+use Rattle.ufs_model.specs.PosixTree.{Paths}
+use Rattle.ufs_model.specs.declared.data.Entry.{Entry}
+use Rattle.ufs_sound.specs.Owned.{one, Has, times}
+use Rattle.ufs_sound.specs.Parts.{IsDiskTold, Cells, ClientPart, NamesPart, StorePart, View, Start, HoldsPart}
 use Rattle.ufs_sound.specs.Sound.{IsSound}
 use Rattle.ufs_sound.specs.Draws.{IsIn, IsAbsent, IsUnchanged, MayDraw, entry_of}
 use Rattle.ufs_sound.specs.Marks.{IsSingle}
-use Rattle.ufs_sound.specs.Events.{AreNamesMoved, MayMove, IsLent, turn_begun, MayCommitNames}
+use Rattle.ufs_sound.specs.Events.{AreNamesMoved, MayMove, IsLent, turn_begun, MayPass, committed_names, MayCommitNames, MayFail, MayCheckpoint, MayAnswer}
 use Rattle.ufs_sound.specs.Whole.{CanOpen, HoldsAll, idle_client, idle_asked}
 use Rattle.ufs_sound.specs.ByImages.{by_images}
 use Rattle.ufs_sound.specs.First.{new_names, new_store, new_start}
@@ -34,7 +37,15 @@ use Rattle.ufs_sound.proofs.Drawn.{draw_sound}
 use Rattle.ufs_sound.proofs.Drawable.{may_draw}
 use Rattle.ufs_sound.proofs.Clocking.{look_sound, tick_sound}
 use Rattle.ufs_sound.proofs.Marking.{remake_sound}
-use Rattle.ufs_sound.proofs.Happening.{move_remakes, turn_remakes, naming_remakes}
+use Rattle.ufs_sound.proofs.Happening.Moving.{move_remakes}
+use Rattle.ufs_sound.proofs.Happening.Turning.{turn_remakes}
+use Rattle.ufs_sound.proofs.Happening.NameCommit.{naming_remakes}
+use Rattle.ufs_sound.proofs.Happening.Passing.{pass_remakes}
+use Rattle.ufs_sound.proofs.Happening.Checking.{checkpoint_remakes}
+use Rattle.ufs_sound.proofs.Happening.Failing.{fail_remakes}
+use Rattle.ufs_sound.proofs.Happening.Answering.{answer_remakes}
+use Rattle.ufs_sound.proofs.Commits.{fewer_show}
+use Rattle.ufs_sound.specs.Shown.{ShowsImages}
 
 times_cut : (n b : ℕ) (xs : List ℕ) → times b (take n xs) + times b (drop n xs) ≡ times b xs
 times_cut zero b xs = omega arith
@@ -174,19 +185,89 @@ module _ (keeps : KeepsTrees) (local : Locality) (makes : MakesOneFile) (g : Geo
   after_commit = remake_sound keeps by_images k (at_word 1 5) (in_turn ∷ Session.at_rest g cells ∷ []) 0 in_turn (Session.committed_server g cells) after_turn refl
       (naming_remakes by_images k 1 in_turn names_then turned_store (Session.nothing_new g cells) may_commit)
 
+  -- ---- what the store does besides
+
+  abbrev rest : View
+  rest = Session.at_rest g cells
+
+  -- the same states show the same
+  still : IsDiskTold k → (h : List Entry) (files : ℕ → ℕ) (names : ℕ) (paths : Option Paths) → ShowsImages k.tree h files names paths cells → (d : Cells) → Has d (cells ∷ []) → ShowsImages k.tree h files names None d
+  still told h files names paths shows d (inl e) = subst (ShowsImages k.tree h files names None) (sym e) (fewer_show k.tree h files files names names paths cells (λ f. omega arith) (omega arith) shows)
+  still told h files names paths shows d (inr e) = absurd e
+
+  may_pass : MayPass by_images k (Session.committed_server g cells) (Session.store_committed g cells) [] 0 (Session.barrier g cells)
+  may_pass = record {
+    store = refl;
+    lends = record { files = λ f n h. absurd h; names = inl refl };
+    last = inl refl;
+    others = λ told b z l. refl;
+    own = λ told f x h. absurd h;
+    inside = λ told h had shows. still told h _ _ _ shows;
+    end = λ told h has shows. shows;
+  }
+
+  after_pass : IsSound by_images k (at_word 1 5) (Session.after_barrier g cells ∷ rest ∷ [])
+  after_pass = remake_sound keeps by_images k (at_word 1 5) (Session.committed_server g cells ∷ rest ∷ []) 0 (Session.committed_server g cells) (Session.after_barrier g cells) after_commit refl
+      (pass_remakes by_images k 1 (Session.committed_server g cells) (Session.store_committed g cells) [] 0 (Session.barrier g cells) may_pass)
+
+  may_check : MayCheckpoint by_images k (Session.after_barrier g cells) (committed_names names_then (Session.nothing_new g cells)) (Session.store_settled g cells) (Session.nothing_freed g cells)
+  may_check = record {
+    names = refl;
+    store = refl;
+    blocks = λ b. refl;
+    fewer = λ b h. h;
+    apart = λ b h none. none;
+    last = inl refl;
+    others = λ told b z l. refl;
+    own = λ told f x h. absurd h;
+    inside = λ told h had shows. still told h _ _ _ shows;
+    end = λ told h is shows. shows;
+  }
+
+  after_checkpoint : IsSound by_images k (at_word 1 5) (Session.checked_server g cells ∷ rest ∷ [])
+  after_checkpoint = remake_sound keeps by_images k (at_word 1 5) (Session.after_barrier g cells ∷ rest ∷ []) 0 (Session.after_barrier g cells) (Session.checked_server g cells) after_pass refl
+      (checkpoint_remakes by_images k 1 (Session.after_barrier g cells) (committed_names names_then (Session.nothing_new g cells)) (Session.store_settled g cells) (Session.nothing_freed g cells) may_check)
+
+  may_fail : MayFail by_images k (Session.checked_server g cells) (Session.store_emptied g cells) (Session.device_fault g cells)
+  may_fail = record {
+    store = refl;
+    running = refl;
+    new = refl;
+    last = inl refl;
+    others = λ told b z l. refl;
+    own = λ told f x h. absurd h;
+    inside = λ told h had shows. still told h _ _ _ shows;
+  }
+
+  after_failure : IsSound by_images k (at_word 1 5) (Session.stopped_server g cells ∷ rest ∷ [])
+  after_failure = remake_sound keeps by_images k (at_word 1 5) (Session.checked_server g cells ∷ rest ∷ []) 0 (Session.checked_server g cells) (Session.stopped_server g cells) after_checkpoint refl
+      (fail_remakes by_images k 1 (Session.checked_server g cells) (Session.store_emptied g cells) (Session.device_fault g cells) may_fail)
+
+  may_answer : MayAnswer (Session.stopped_server g cells) (Session.store_stopped g cells) (2 ∷ [])
+  may_answer = record { store = refl; new = λ n. once n (ℕ_discrete n 2) (ℕ_discrete n 1) }
+    where
+      once : (n : ℕ) → Dec (n ≡ 2) → Dec (n ≡ 1) → times n (2 ∷ 1 ∷ []) ≤ 1
+      once n (yes e) d = let a : times n (2 ∷ 1 ∷ []) ≡ times 2 (2 ∷ 1 ∷ []) = ap (λ m. times m (2 ∷ 1 ∷ [])) e in omega arith
+      once n (no a) (yes e) = let z : times n (2 ∷ 1 ∷ []) ≡ times 1 (2 ∷ 1 ∷ []) = ap (λ m. times m (2 ∷ 1 ∷ [])) e in omega arith
+      once n (no a) (no b) = let x : one (eqb n 2) ≡ 0 = ap one (ne_eqb n 2 a) in let y : one (eqb n 1) ≡ 0 = ap one (ne_eqb n 1 b) in omega arith
+
+  after_answer : IsSound by_images k (at_word 1 5) (Session.answered_server g cells ∷ rest ∷ [])
+  after_answer = remake_sound keeps by_images k (at_word 1 5) (Session.stopped_server g cells ∷ rest ∷ []) 0 (Session.stopped_server g cells) (Session.answered_server g cells) after_failure refl
+      (answer_remakes by_images k 1 (Session.stopped_server g cells) (Session.store_stopped g cells) (2 ∷ []) (Session.too_few g cells ∷ []) may_answer)
+
   after_join : IsSound by_images k (at_word 1 5) (Session.together g cells ∷ Rattle.ufs_sound.specs.Parts.spent ∷ [])
-  after_join = join_sound by_images k (at_word 1 5) (Session.committed_server g cells ∷ Session.at_rest g cells ∷ []) 0 1 (Session.committed_server g cells) (Session.at_rest g cells) after_commit refl (λ e. cc) refl
+  after_join = join_sound by_images k (at_word 1 5) (Session.answered_server g cells ∷ Session.at_rest g cells ∷ []) 0 1 (Session.answered_server g cells) (Session.at_rest g cells) after_answer refl (λ e. cc) refl
 
   no_file : (t : PosixTree) → IsTree t → IsIn (Session.together g cells) t → (f : ℕ) → is_some (fin.get t.bytes f) ≡ false
   no_file t is within f =
       is.live f
-      ∙ (λ j. list_any (is_node_of f) (fin.values (sym (within.paths tt (Rattle.ufs_sound.specs.Events.committed_names names_then (Session.nothing_new g cells)) (inl refl)) j)) || open_by t.fds root_alone.fds f (λ c. sym (within.holds tt (Rattle.ufs_sound.specs.Events.committed_names names_then (Session.nothing_new g cells)) (inl refl) c f) ∙ sym (can.free c f)) j)
+      ∙ (λ j. list_any (is_node_of f) (fin.values (sym (within.paths tt (Session.last_names g cells) (inl refl)) j)) || open_by t.fds root_alone.fds f (λ c. sym (within.holds tt (Session.last_names g cells) (inl refl) c f) ∙ sym (can.free c f)) j)
       ∙ sym (can.tree.live f) ∙ ap is_some (fin.get-empty nat_cmp f)
 
   abbrev has_all : HoldsAll k (Session.together g cells)
   has_all = record {
     clients = λ c. omega arith;
-    names = Rattle.ufs_sound.specs.Events.committed_names names_then (Session.nothing_new g cells);
+    names = Session.last_names g cells;
     has_names = refl;
     store = Session.last_store g cells;
     has_store = refl;
@@ -207,6 +288,10 @@ module _ (keeps : KeepsTrees) (local : Locality) (makes : MakesOneFile) (g : Geo
     after_move = after_move;
     after_turn = after_turn;
     after_commit = after_commit;
+    after_pass = after_pass;
+    after_checkpoint = after_checkpoint;
+    after_failure = after_failure;
+    after_answer = after_answer;
     after_join = after_join;
     at_end = ends_whole keeps by_images k (at_word 1 5) (Session.together g cells ∷ Rattle.ufs_sound.specs.Parts.spent ∷ []) 0 (Session.together g cells) after_join refl has_all;
   }

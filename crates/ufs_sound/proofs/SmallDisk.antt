@@ -3,6 +3,8 @@ use Rattle.std.proofs.Common.{◌≡◌, ℕ, ◌+◌, ◌≤◌, List, [], ◌�
 use Rattle.std.specs.List.{range_with_len}
 use Rattle.std.specs.Ordering.{nat_cmp}
 use Rattle.std.specs.FinMap as fin
+use Rattle.std.specs.Cmp.{nat_cmp_total}
+use Rattle.ufs_model.specs.FileBytes.{bytes_of}
 use Rattle.std.specs.FinMap.{entries-insert, get-from_entries}
 use Rattle.ufs_model.specs.Order.{path_cmp}
 use Rattle.ufs_model.specs.PosixTree.{root}
@@ -56,3 +58,7 @@ has_one_file = record {
   walk = refl;
   node = ap (λ (t : PosixTree). node_at t.paths small_path) tree_is ∙ node_is;
 }
+
+-- its file has no bytes
+pub no_bytes : (opened_file (disk small_disk) 0).bytes ≡ []
+no_bytes = ap (λ (t : PosixTree). bytes_of t.bytes 0) tree_is ∙ ap (λ o. unwrap_or o []) (get-from_entries nat_cmp_total ((0, []) ∷ []) 0)

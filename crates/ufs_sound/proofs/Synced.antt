@@ -22,7 +22,7 @@ use Rattle.ufs_sound.proofs.Asking.{ask_sound}
 use Rattle.ufs_sound.proofs.Drawn.{draw_sound}
 use Rattle.ufs_sound.proofs.Drawable.{sync_may_draw}
 use Rattle.ufs_sound.proofs.Writable.{write_may_draw}
-use Rattle.ufs_sound.proofs.Happening.{commit_remakes}
+use Rattle.ufs_sound.proofs.Happening.FileCommit.{commit_remakes}
 use Rattle.ufs_sound.proofs.Marking.{remake_sound}
 use Rattle.ufs_sound.proofs.OneTicket.{set_at}
 

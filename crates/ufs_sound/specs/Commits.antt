@@ -108,12 +108,8 @@ abbrev pub FewerShow : Type 0
 FewerShow = (start : PosixTree) (history : List Entry) (files more : ℕ → ℕ) (names last : ℕ) (paths : Option Paths) (cells : Cells) → ((file : ℕ) → files file ≤ more file) → names ≤ last
     → ShowsImages start history more last paths cells → ShowsImages start history files names None cells
 
--- each image of the state is one of these two
-abbrev pub IsBetween : Cells → Cells → Cells → Type 0
-IsBetween one other cells = (image : Image) → IsImage (state_of cells) image
-    → ((a : Image) × IsImage (state_of one) a × (opens (length cells) image ≡ opens (length one) a)) ⊎ ((b : Image) × IsImage (state_of other) b × (opens (length cells) image ≡ opens (length other) b))
-
--- A state between two that show so many changes shows them.
-abbrev pub BetweenShows : Type 0
-BetweenShows = (start : PosixTree) (history : List Entry) (files : ℕ → ℕ) (names : ℕ) (one other cells : Cells) → IsBetween one other cells
-    → ShowsImages start history files names None one → ShowsImages start history files names None other → ShowsImages start history files names None cells
+-- Each image of the state comes from one of the old state: it opens as that one does, or where that one opens to a tree, to a
+-- tree that stands so to it.
+abbrev pub TreesMayGo : (PathNodes → PathNodes → Type 0) → Cells → Cells → Type 0
+TreesMayGo Goes old cells = (image : Image) → IsImage (state_of cells) image → (other : Image) × IsImage (state_of old) other
+    × ((opens (length cells) image ≡ opens (length old) other) ⊎ ((before : ImageTree) → opens (length old) other ≡ Ok before → OpensTo (Goes (nodes_of before)) (length cells) image))

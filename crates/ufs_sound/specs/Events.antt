@@ -1,5 +1,5 @@
 -- Events without an entry, each with what it asks of its own hand: blocks move, a store turn begins, parts learn, and the
--- store commits, checkpoints, fails or refuses.
+-- store writes a block, commits, checkpoints, fails or refuses.
 use Rattle.std.specs.Prelude.{ℕ, ◌+◌, ◌≤◌, ◌≡◌, ◌⊎◌, eqb, true, false, List, [], ◌∷◌, ◌++◌, length, Some, None, slice_get}
 use Rattle.std.specs.FinMap as fin
 use Rattle.std.specs.Ordering.{nat_cmp}
@@ -9,7 +9,7 @@ use Rattle.ufs_sound.specs.Owned.{Has, count, times}
 use Rattle.ufs_prefix.specs.Changes.{changes_of, name_changes}
 use Rattle.ufs_sound.specs.Parts.{Cells, FilePart, NamesPart, Shortage, Start, StorePart, View, only_one, uses, committed}
 use Rattle.ufs_sound.specs.Explained.{Showing}
-use Rattle.ufs_sound.specs.DiskBytes.{block_on, is_loaded}
+use Rattle.ufs_sound.specs.DiskBytes.{block_on, block_in, is_loaded}
 use Rattle.ufs_sound.specs.Parts.{IsDiskTold}
 
 -- ---- blocks go between held parts
@@ -57,6 +57,47 @@ turn_begun tickets lent lent_names s = record s { past = record { states = s.sta
 
 abbrev pub turning : ℕ → List (ℕ × ℕ) → ℕ → StorePart → View → View
 turning tickets lent lent_names s v = record v { store = (tt, turn_begun tickets lent lent_names s) ∷ []; seen = tickets }
+
+-- ---- a block is written, or a barrier passed
+
+-- the states that the disk passed, and the one in which it is
+pub record Passage : Type 0 where
+  pub through : List Cells
+  pub state : Cells
+
+-- Nothing more is committed, and the paths stay.
+abbrev pub passed : ℕ → List (ℕ × ℕ) → ℕ → Passage → StorePart → StorePart
+passed tickets lent lent_names c s = record s {
+  past = record { states = s.state ∷ c.through; from = s.mark; to = tickets } ∷ s.past;
+  state = c.state;
+  mark = tickets;
+  lent = lent;
+  lent_names = lent_names;
+}
+
+abbrev pub passing : ℕ → List (ℕ × ℕ) → ℕ → Passage → StorePart → View → View
+passing tickets lent lent_names c s v = record v { store = (tt, passed tickets lent lent_names c s) ∷ []; seen = tickets }
+
+-- The history has the changes of the hand's parts.
+pub record HasHand (k : Start) (v : View) (h : List Entry) : Type 0 where
+  pub files : (g : ℕ) (x : FilePart) → Has (g, x) v.files → changes_of g k.tree h ≡ x.changes
+  pub names : (p : NamesPart) → Has (tt, p) v.names → name_changes k.tree h ≡ p.changes
+
+-- The history has the changes of the hand's parts that were lent to the store since its last mark.
+pub record HadLent (k : Start) (v : View) (s : StorePart) (h : List Entry) : Type 0 where
+  pub files : (g : ℕ) (x : FilePart) → Has (g, x) v.files → Has (g, length x.changes) s.lent → changes_of g k.tree h ≡ x.changes
+  pub names : (p : NamesPart) → Has (tt, p) v.names → s.lent_names ≡ length p.changes → name_changes k.tree h ≡ p.changes
+
+-- The disk shows on its way what it showed. A block of a file that isn't in memory has the file's bytes then, or what it had.
+pub record MayPass (S : Showing) (k : Start) (v : View) (s : StorePart) (lent : List (ℕ × ℕ)) (lent_names : ℕ) (c : Passage) : Type 0 where
+  pub store : v.store ≡ (tt, s) ∷ []
+  pub lends : IsLent v lent lent_names
+  pub last : (c.state ≡ s.state) ⊎ Has c.state c.through
+  pub others : IsDiskTold k → (b : ℕ) → uses b v ≡ 0 → 1 ≤ uses b k.view → block_on c.state b ≡ block_on s.state b
+  pub own : IsDiskTold k → (g : ℕ) (x : FilePart) → Has (g, x) v.files → (place b : ℕ) → slice_get x.blocks place ≡ Some b → is_loaded x place ≡ false
+      → (block_on c.state b ≡ block_in x.bytes place) ⊎ (block_on c.state b ≡ block_on s.state b)
+  pub inside : IsDiskTold k → (h : List Entry) → HadLent k v s h → S.Shows k.tree h (committed s) s.names s.paths s.state → (d : Cells) → Has d c.through → S.Shows k.tree h (committed s) s.names None d
+  pub end : IsDiskTold k → (h : List Entry) → HasHand k v h → S.Shows k.tree h (committed s) s.names s.paths s.state → S.Shows k.tree h (committed s) s.names s.paths c.state
 
 -- ---- what is committed is told to the parts that are lent
 
@@ -156,11 +197,6 @@ pub record MayCommitNames (S : Showing) (k : Start) (tickets : ℕ) (v : View) (
   pub end : IsDiskTold k → (h : List Entry) → name_changes k.tree h ≡ p.changes → S.Shows k.tree h (committed s) s.names s.paths s.state → S.Shows k.tree h (committed s) (length p.changes) (Some p.paths) c.state
 
 -- ---- a commit or a checkpoint fails
-
--- The history has the changes of the hand's parts that were lent to the store since its last mark.
-pub record HadLent (k : Start) (v : View) (s : StorePart) (h : List Entry) : Type 0 where
-  pub files : (g : ℕ) (x : FilePart) → Has (g, x) v.files → Has (g, length x.changes) s.lent → changes_of g k.tree h ≡ x.changes
-  pub names : (p : NamesPart) → Has (tt, p) v.names → s.lent_names ≡ length p.changes → name_changes k.tree h ≡ p.changes
 
 -- The fault's number, and the states that the disk passed, to the one in which it was left.
 pub record Failure : Type 0 where

@@ -14,7 +14,7 @@ use Rattle.ufs_sound.specs.Draws.{Leaves, drawn, MayDraw}
 use Rattle.ufs_sound.specs.Marks.{MayAsk, asking, MayRemake}
 use Rattle.ufs_sound.specs.Whole.{CanOpen, HoldsAll, IsWhole}
 use Rattle.ufs_sound.specs.Clock.{looked, ticked}
-use Rattle.ufs_sound.specs.Events.{Moved, moved, MayMove, IsLent, turning, told_files, MayTell, committing, MayCommitFile, NamesCommit, naming, MayCommitNames, Failure, failing, MayFail, Checkpoint, checkpointing, MayCheckpoint, answering, MayAnswer}
+use Rattle.ufs_sound.specs.Events.{Moved, moved, MayMove, IsLent, turning, Passage, passing, MayPass, told_files, MayTell, committing, MayCommitFile, NamesCommit, naming, MayCommitNames, Failure, failing, MayFail, Checkpoint, checkpointing, MayCheckpoint, answering, MayAnswer}
 use Rattle.ufs_sound.specs.Leasing.{MayGrant, granting, MayGiveBack, giving_back}
 use Rattle.ufs_sound.specs.Known.{Knows}
 
@@ -75,6 +75,10 @@ MovesAreMarks S = (k : Start) (tickets : ℕ) (v : View) (m : Moved) → MayMove
 abbrev pub TurnsAreMarks : Showing → Type 0
 TurnsAreMarks S = (k : Start) (tickets : ℕ) (v : View) (s : StorePart) (lent : List (ℕ × ℕ)) (lent_names : ℕ) → v.store ≡ (tt, s) ∷ [] → IsLent v lent lent_names
     → MayRemake S k tickets v (turning tickets lent lent_names s v)
+
+abbrev pub PassagesAreMarks : Showing → Type 0
+PassagesAreMarks S = (k : Start) (tickets : ℕ) (v : View) (s : StorePart) (lent : List (ℕ × ℕ)) (lent_names : ℕ) (c : Passage) → MayPass S k v s lent lent_names c
+    → MayRemake S k tickets v (passing tickets lent lent_names c s v)
 
 abbrev pub TellsAreMarks : Showing → Type 0
 TellsAreMarks S = (k : Start) (tickets : ℕ) (v : View) (s : StorePart) (files : List (ℕ × FilePart)) → MayTell v s files → MayRemake S k tickets v (told_files tickets files v)

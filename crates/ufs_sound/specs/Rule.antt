@@ -25,10 +25,6 @@ pub record IsRuled (S : Showing) (k : Start) (s : State (Unit {0}) View) : Type 
 abbrev pub Drew : Fresh → Leaves → View × List (ℕ × Unit {0}) → ℕ → View × List (ℕ × Unit {0}) → Type 0
 Drew f l v n w = (w ≡ (drawn (n % clock_step) f l v.0, v.1)) × (v.0.seen ≤ n % clock_step)
 
--- what a draw leaves that is made only while the word is still this one: else nothing
-abbrev pub DrewAt : ℕ → Fresh → Leaves → View × List (ℕ × Unit {0}) → ℕ → View × List (ℕ × Unit {0}) → Type 0
-DrewAt old f l v n w = (n ≡ old → w ≡ (drawn (old % clock_step) f l v.0, v.1)) × (n ≢ old → w ≡ v)
-
 -- what a mark leaves: it may look at the tickets
 abbrev pub Marked : (ℕ → View) → View × List (ℕ × Unit {0}) → ℕ → View × List (ℕ × Unit {0}) → Type 0
 Marked w v n u = (u ≡ (w (n % clock_step), v.1)) × (v.0.seen ≤ n % clock_step)
@@ -40,6 +36,11 @@ word_at n = record { tickets = n % clock_step; clock = n / clock_step }
 -- no hand has seen more than the number has
 abbrev pub IsSeenBy : ℕ → View → Type 0
 IsSeenBy n v = (v.seen ≤ n % clock_step) × (v.clock ≤ n / clock_step)
+
+-- What a draw leaves that is made only while the word is still this one. Else nothing, and the word isn't one from before
+-- what the hand has seen.
+abbrev pub DrewAt : ℕ → Fresh → Leaves → View × List (ℕ × Unit {0}) → ℕ → View × List (ℕ × Unit {0}) → Type 0
+DrewAt old f l v n w = (n ≡ old → w ≡ (drawn (old % clock_step) f l v.0, v.1)) × (n ≢ old → (w ≡ v) × IsSeenBy n v.0)
 
 -- what a look leaves
 abbrev pub Looked : View × List (ℕ × Unit {0}) → ℕ → View × List (ℕ × Unit {0}) → Type 0

@@ -1,4 +1,5 @@
--- A short session over a new disk: a step of each kind, and what each hand has after it.
+-- A short session over a new disk, which tells what it holds: a step of each kind but those of leases, and what each hand has
+-- after it.
 use Rattle.std.specs.Prelude.{ℕ, ◌≤◌, [], ◌∷◌, take, drop}
 use Rattle.std.specs.FinMap as fin
 use Rattle.ufs_base.specs.Images.{Image}
@@ -11,12 +12,13 @@ use Rattle.ufs_model.specs.declared.data.Op.TheVariants as op
 use Rattle.ufs_model.specs.declared.data.PartName.TheVariants as part
 use Rattle.ufs_model.specs.declared.data.Reply.TheVariants as reply
 use Rattle.ufs_sound.specs.declared.fresh.Fresh.{Fresh}
-use Rattle.ufs_sound.specs.Parts.{Cells, NamesPart, StorePart, View, Word, Start, kept_of, given_of, both_of, spent}
+use Rattle.ufs_sound.specs.Parts.{Cells, NamesPart, Shortage, StorePart, View, Word, Start, kept_of, given_of, both_of, spent}
 use Rattle.ufs_sound.specs.Sound.{IsSound}
 use Rattle.ufs_sound.specs.Draws.{Leaves, drawn}
 use Rattle.ufs_sound.specs.Marks.{asking}
 use Rattle.ufs_sound.specs.Clock.{looked, at_clock, ticked}
-use Rattle.ufs_sound.specs.Events.{Moved, moved, turn_begun, turning, NamesCommit, names_committed, naming}
+use Rattle.ufs_sound.specs.Events as event
+use Rattle.ufs_sound.specs.Events.{Moved, moved, turn_begun, turning, Passage, passed, passing, NamesCommit, names_committed, committed_names, naming, Failure, failed, failing, Checkpoint, checkpointed, freed_names, checkpointing, answering}
 use Rattle.ufs_sound.specs.Whole.{IsWhole, idle_client}
 use Rattle.ufs_sound.specs.ByImages.{by_images}
 use Rattle.ufs_sound.specs.First.{settled_cells, EndsAt, primary_pool, new_names, new_store, new_view, new_start}
@@ -83,11 +85,54 @@ module _ (g : Geometry) (cells : Cells) where
   abbrev pub committed_server : View
   committed_server = naming 1 names_then nothing_new (turn_begun 1 [] 0 store_then) in_turn
 
+  -- a barrier passes
+  abbrev pub store_committed : StorePart
+  store_committed = names_committed 1 names_then nothing_new (turn_begun 1 [] 0 store_then)
+
+  abbrev pub barrier : Passage
+  barrier = record { through = cells ∷ []; state = cells }
+
+  abbrev pub after_barrier : View
+  after_barrier = passing 1 [] 0 barrier store_committed committed_server
+
+  -- a checkpoint finds nothing to write home
+  abbrev pub store_settled : StorePart
+  store_settled = passed 1 [] 0 barrier store_committed
+
+  abbrev pub nothing_freed : Checkpoint
+  nothing_freed = record { dirs = []; blocks = []; freed = []; through = cells ∷ []; state = cells }
+
+  abbrev pub checked_server : View
+  checked_server = checkpointing 1 (committed_names names_then nothing_new) nothing_freed store_settled after_barrier
+
+  -- the next commit fails, and the store stops
+  abbrev pub store_emptied : StorePart
+  store_emptied = checkpointed 1 (committed_names names_then nothing_new) nothing_freed store_settled
+
+  abbrev pub device_fault : Failure
+  device_fault = record { fault = 1; through = cells ∷ []; state = cells }
+
+  abbrev pub stopped_server : View
+  stopped_server = failing 1 device_fault store_emptied checked_server
+
+  -- a read fails, and there are too few blocks
+  abbrev pub store_stopped : StorePart
+  store_stopped = failed 1 device_fault store_emptied
+
+  abbrev pub too_few : Shortage
+  too_few = record { need = 3; had = 0; pool = 2 }
+
+  abbrev pub answered_server : View
+  answered_server = answering 1 (2 ∷ []) (too_few ∷ []) store_stopped stopped_server
+
   abbrev pub together : View
-  together = both_of committed_server at_rest
+  together = both_of answered_server at_rest
+
+  abbrev pub last_names : NamesPart
+  last_names = freed_names (committed_names names_then nothing_new) nothing_freed
 
   abbrev pub last_store : StorePart
-  last_store = names_committed 1 names_then nothing_new (turn_begun 1 [] 0 store_then)
+  last_store = event.answered (2 ∷ []) (too_few ∷ []) store_stopped
 
 -- Each state is sound, and the last hand knows one whole history.
 pub record IsShortSession (k : Start) (g : Geometry) (cells : Cells) : Type 0 where
@@ -100,6 +145,10 @@ pub record IsShortSession (k : Start) (g : Geometry) (cells : Cells) : Type 0 wh
   pub after_move : IsSound by_images k (at_word 1 5) (supplied g cells ∷ at_rest g cells ∷ [])
   pub after_turn : IsSound by_images k (at_word 1 5) (in_turn g cells ∷ at_rest g cells ∷ [])
   pub after_commit : IsSound by_images k (at_word 1 5) (committed_server g cells ∷ at_rest g cells ∷ [])
+  pub after_pass : IsSound by_images k (at_word 1 5) (after_barrier g cells ∷ at_rest g cells ∷ [])
+  pub after_checkpoint : IsSound by_images k (at_word 1 5) (checked_server g cells ∷ at_rest g cells ∷ [])
+  pub after_failure : IsSound by_images k (at_word 1 5) (stopped_server g cells ∷ at_rest g cells ∷ [])
+  pub after_answer : IsSound by_images k (at_word 1 5) (answered_server g cells ∷ at_rest g cells ∷ [])
   pub after_join : IsSound by_images k (at_word 1 5) (together g cells ∷ spent ∷ [])
   pub at_end : IsWhole by_images k (at_word 1 5) (together g cells) (last_store g cells)
 

@@ -1,8 +1,8 @@
 // What the steps of hands mean, apart from the table: each a law that an empty function's contract states.
 ghost use Rattle.ufs_sound.specs.Covers.{CoversAsSynced};
 ghost use Rattle.ufs_sound.specs.Shown.{OpeningsShow, SameTreesShow};
-ghost use Rattle.ufs_sound.specs.Commits.{BlockWritesShow, FileCommitsShow, NameCommitsShow, UnbornAreFresh, FewerShow, BetweenShows};
-ghost use Rattle.ufs_sound.specs.Meets.{FileCommitsMay, NameCommitsMay};
+ghost use Rattle.ufs_sound.specs.Commits.{BlockWritesShow, FileCommitsShow, NameCommitsShow, UnbornAreFresh, FewerShow};
+ghost use Rattle.ufs_sound.specs.Meets.{PassagesMay, FileCommitsMay, NameCommitsMay, FailuresMay, CheckpointsMay, NothingIsDone, NothingIsWritten, WritesAreDone, FileCommitsAreDone, NameCommitsAreDone};
 ghost use Rattle.ufs_sound.specs.ByImages.{by_images};
 ghost use Rattle.ufs_sound.specs.First.{NewDiskOpens, BlindDisksOpen};
 ghost use Rattle.ufs_sound.specs.Opened.{OpenedDisksServe, SettledDisksOpen};
@@ -13,7 +13,7 @@ ghost use Rattle.ufs_sound.specs.Synced.{WritesAreSynced};
 ghost use Rattle.ufs_sound.specs.Leased.{LeasesAreServed};
 ghost use Rattle.ufs_layout.specs.Areas.{IsGeometry};
 ghost use Rattle.ufs_sound.specs.Durable.{StoresAreExplained, ImagesAreExplained};
-ghost use Rattle.ufs_sound.specs.Laws.{BeginIsSound, SplitKeeps, JoinKeeps, DrawKeeps, AskKeeps, RemakeKeeps, GrantKeeps, GiveBackKeeps, CloseIsWhole, LookKeeps, TickKeeps, MovesAreMarks, TurnsAreMarks, TellsAreMarks, CommitsAreMarks, NameCommitsAreMarks, FailedCommitsAreMarks, CheckpointsAreMarks, AnswersAreMarks, HandsKnow};
+ghost use Rattle.ufs_sound.specs.Laws.{BeginIsSound, SplitKeeps, JoinKeeps, DrawKeeps, AskKeeps, RemakeKeeps, GrantKeeps, GiveBackKeeps, CloseIsWhole, LookKeeps, TickKeeps, MovesAreMarks, TurnsAreMarks, PassagesAreMarks, TellsAreMarks, CommitsAreMarks, NameCommitsAreMarks, FailedCommitsAreMarks, CheckpointsAreMarks, AnswersAreMarks, HandsKnow};
 
 use ufs_image::new_image_law;
 use ufs_layout::Geometry;
@@ -69,11 +69,12 @@ pub fn the_clock_is_read_and_moved<P: Promise>()
     ensures tick { TickKeeps P.shows }
 {}
 
-/// Blocks that move, a store turn that begins, what is told to a file, a commit of a file and one of names, a commit or a
-/// checkpoint that fails, a checkpoint, reads that failed and blocks that weren't there are events without an entry.
+/// Blocks that move, a store turn that begins, blocks that are written, what is told to a file, a commit of a file and one of
+/// names, a call that fails, a checkpoint, reads that failed and blocks that weren't there are events without an entry.
 pub fn events_are_marks<P: Promise>()
     ensures moves { MovesAreMarks P.shows }
     ensures turns { TurnsAreMarks P.shows }
+    ensures passages { PassagesAreMarks P.shows }
     ensures tells { TellsAreMarks P.shows }
     ensures commits { CommitsAreMarks P.shows }
     ensures name_commits { NameCommitsAreMarks P.shows }
@@ -126,13 +127,28 @@ pub fn commits_show_changes()
     ensures names { NameCommitsShow }
     ensures unborn { UnbornAreFresh }
     ensures fewer { FewerShow }
-    ensures between { BetweenShows }
 {}
 
-/// The conditions of commits are met by the trees to which the disk's images open.
+/// The conditions of what the store does are met by the trees to which the disk's images open: of a write, a commit of a file
+/// and one of names, a call that fails, and a checkpoint.
 pub fn images_meet_commits()
+    ensures passages { PassagesMay }
     ensures file { FileCommitsMay }
     ensures names { NameCommitsMay }
+    ensures failures { FailuresMay }
+    ensures checkpoints { CheckpointsMay }
+{
+    images_show_trees();
+}
+
+/// What a call may have done before it failed: nothing, a write, a commit of a file or one of names; and a barrier writes
+/// nothing.
+pub fn calls_that_fail_may_have_done()
+    ensures nothing { NothingIsDone }
+    ensures unwritten { NothingIsWritten }
+    ensures write { WritesAreDone }
+    ensures file { FileCommitsAreDone }
+    ensures names { NameCommitsAreDone }
 {}
 
 /// Every image that a crash may have left since the opening opens to a tree that the history explains: by the store's part

@@ -8,7 +8,7 @@ use Rattle.ufs_model.specs.Paths.{whole_of}
 use Rattle.ufs_model.specs.PosixTree.{PosixTree, Files, IsTree, desc_at, is_number, is_live}
 use Rattle.ufs_model.specs.Walk.{node_at, file_of}
 use Rattle.ufs_model.specs.Directories.{renamed}
-use Rattle.ufs_model.specs.Descriptors.{Mode, opened, closed, moved, desc_of}
+use Rattle.ufs_model.specs.Descriptors.{Mode, opened, closed, moved, desc_of, mode_of_open}
 use Rattle.ufs_model.specs.FileBytes.{bytes_of, content, put_at, resized, place_of}
 use Rattle.ufs_model.specs.Posix.{change, with_fd, with_bytes, forget, open_node, written, write_fd, rename_path, new_fd, file_bytes}
 use Rattle.ufs_model.specs.History.{IsReplyTo, goes_on}
@@ -183,7 +183,7 @@ module _ (t : PosixTree) (f : ℕ) where
       by false = gone (record t { paths = renamed t.paths from to }) (file_of (map.get t.paths to)) stay
 
   pub change_goes_on : IsTree t → (client : ℕ) (request : Op) → GoesOn t f (change t client request).bytes (cond (is_number f (file_changed t client request)) (change_asked t client request) [])
-  change_goes_on is client (op.OpenFile path read write creat excl trunc append) = opens is client (whole_of path) (record { read = read; write = write; creat = creat; excl = excl; trunc = trunc; append = append }) (node_at t.paths path) (λ g e. node_live t is path g e)
+  change_goes_on is client (op.OpenFile path read write creat excl trunc append) = opens is client (whole_of path) (mode_of_open read write creat excl trunc append) (node_at t.paths path) (λ g e. node_live t is path g e)
   change_goes_on is client (op.Close fd) = gone (record t { fds = map.remove t.fds (client, fd) }) (opened t client fd).file stay
   change_goes_on is client (op.Read fd n) = stay
   change_goes_on is client (op.Write fd data') =

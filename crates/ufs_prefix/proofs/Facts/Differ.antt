@@ -5,7 +5,7 @@ use Rattle.ufs_base.specs.Choices.{refused_if}
 use Rattle.ufs_model.specs.Paths.{whole_of, text_refusal, is_root}
 use Rattle.ufs_model.specs.PosixTree.{PosixTree, Paths, IsTree, stands}
 use Rattle.ufs_model.specs.Walk.{node_at, file_of, walk_refusal}
-use Rattle.ufs_model.specs.Descriptors.{Mode}
+use Rattle.ufs_model.specs.Descriptors.{Mode, mode_of_open}
 use Rattle.ufs_model.specs.Refusals.{own_refusal, refusal}
 use Rattle.ufs_model.specs.Posix.{posix, served, change, open_node, forget, without_path}
 use Rattle.ufs_model.specs.Laws.{RenameLeaves}
@@ -67,7 +67,7 @@ rename_there t client from to e =
 
 change_differs : RenameLeaves → (t : PosixTree) → IsTree t → (client : ℕ) (request : Op) → refusal t client request ≡ None → changes_names t request ≡ true → t.paths ≡ (change t client request).paths → ⊥
 change_differs leaves t is client (op.OpenFile path read write creat excl trunc append) e c =
-    open_differs t client path (record { read = read; write = write; creat = creat; excl = excl; trunc = trunc; append = append }) c
+    open_differs t client path (mode_of_open read write creat excl trunc append) c
 change_differs leaves t is client (op.Mkdir path) e c =
     let own = first_none (text_refusal path) _ e in
     let walk = first_none (walk_refusal t.paths path) _ own.1 in

@@ -5,7 +5,7 @@ use Rattle.ufs_model.specs.Paths.{whole_of}
 use Rattle.ufs_model.specs.PosixTree.{PosixTree, is_live}
 use Rattle.ufs_model.specs.Walk.{node_at, file_of}
 use Rattle.ufs_model.specs.Directories.{renamed}
-use Rattle.ufs_model.specs.Descriptors.{Mode, opened, moved, desc_of}
+use Rattle.ufs_model.specs.Descriptors.{Mode, opened, moved, desc_of, mode_of_open}
 use Rattle.ufs_model.specs.FileBytes.{content, put_at, place_of}
 use Rattle.ufs_model.specs.Refusals.{refusal}
 use Rattle.ufs_model.specs.Posix.{posix, served, answer, change, with_fd, with_bytes, forget, open_node, written, write_fd, rename_path, new_fd, stat_reply}
@@ -130,7 +130,7 @@ names_renamed t from to e = by (bytes_eq from to) e
     by false e = cc
 
 names_kept : (t : PosixTree) (client : ℕ) (request : Op) → changes_names t request ≡ false → names_of (change t client request) ≡ names_of t
-names_kept t client (op.OpenFile path read write creat excl trunc append) e = names_open t client (whole_of path) (record { read = read; write = write; creat = creat; excl = excl; trunc = trunc; append = append }) (node_at t.paths path) e
+names_kept t client (op.OpenFile path read write creat excl trunc append) e = names_open t client (whole_of path) (mode_of_open read write creat excl trunc append) (node_at t.paths path) e
 names_kept t client (op.Close fd) e = names_forget _ (opened t client fd).file
 names_kept t client (op.Read fd n) e = refl
 names_kept t client (op.Write fd data') e = names_write_fd t client fd data'
@@ -169,7 +169,7 @@ next_renamed t from to =
     ]
 
 next_change : (t : PosixTree) (client : ℕ) (request : Op) → t.next ≤ (change t client request).next
-next_change t client (op.OpenFile path read write creat excl trunc append) = next_open t client (whole_of path) (record { read = read; write = write; creat = creat; excl = excl; trunc = trunc; append = append }) (node_at t.paths path)
+next_change t client (op.OpenFile path read write creat excl trunc append) = next_open t client (whole_of path) (mode_of_open read write creat excl trunc append) (node_at t.paths path)
 next_change t client (op.Mkdir path) = omega arith
 next_change t client (op.Rmdir path) = let e = ap (λ (n : NameState). n.next) (names_forget (record t { paths = map.remove t.paths (whole_of path) }) (file_of (map.get t.paths (whole_of path)))) in omega (arith, e)
 next_change t client (op.Unlink path) = let e = ap (λ (n : NameState). n.next) (names_forget (record t { paths = map.remove t.paths (whole_of path) }) (file_of (map.get t.paths (whole_of path)))) in omega (arith, e)

@@ -6,7 +6,7 @@ use Rattle.ufs_model.specs.Paths.{whole_of}
 use Rattle.ufs_model.specs.PosixTree.{PosixTree, Paths, IsTree}
 use Rattle.ufs_model.specs.Walk.{node_at, file_of}
 use Rattle.ufs_model.specs.Directories.{renamed, renamed_path}
-use Rattle.ufs_model.specs.Descriptors.{Mode}
+use Rattle.ufs_model.specs.Descriptors.{Mode, mode_of_open}
 use Rattle.ufs_model.specs.FileBytes.{bytes_of}
 use Rattle.ufs_model.specs.Posix.{change, open_node, forget, without_path, rename_path}
 use Rattle.ufs_model.specs.Laws.{KeepsTrees}
@@ -117,7 +117,7 @@ opened_or (Some n) e = cc
 
 named_change : (t : PosixTree) (client : ℕ) (request : Op) (f : ℕ) → changes_names t request ≡ true → NamesNoOther t (change t client request) f
 named_change t client (op.OpenFile path read write creat excl trunc append) f e =
-    let m : Mode = record { read = read; write = write; creat = creat; excl = excl; trunc = trunc; append = append } in
+    let m : Mode = mode_of_open read write creat excl trunc append in
     subst (λ (o : Option Node). NamesNoOther t (open_node t client (whole_of path) m o) f) (sym (opened_or (node_at t.paths path) e)) (named_open t client (whole_of path) m f)
 named_change t client (op.Mkdir path) f e = named_dir t (whole_of path) f
 named_change t client (op.Rmdir path) f e = named_less t (whole_of path) f

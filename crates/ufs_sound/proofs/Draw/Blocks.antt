@@ -1,76 +1,28 @@
 -- After a draw committed blocks are kept, and the disk has what isn't in memory.
-use Rattle.std.proofs.Common.{◌≡◌, ℕ, ◌+◌, ◌<◌, ◌≤◌, eqb, List, [], ◌++◌, Some, None, sym, ap, ◌∙◌, subst, ⊎_elim, arith}
+use Rattle.std.proofs.Common.{◌≡◌, ℕ, ◌+◌, ◌≤◌, eqb, List, [], ◌++◌, Some, None, sym, ap, ◌∙◌, subst, ⊎_elim, arith}
 use Rattle.std.specs.FinMap as fin
-use mathlib.Core.Option.{some}
 use native.Mathlib.Decide.{dec_le}
-use lib.ListN.{get_elem?}
 use Rattle.ufs_model.specs.PosixTree.{PosixTree}
 use Rattle.ufs_model.specs.Touched.{holds}
-use Rattle.ufs_model.specs.declared.data.Entry.{Entry}
-use Rattle.ufs_model.specs.declared.data.Lease.{Lease}
 use Rattle.ufs_sound.specs.Owned.{present, Has, count}
 use Rattle.std.specs.Prelude.{slice_get}
 use Rattle.ufs_prefix.specs.Changes.{change_of}
 use Rattle.ufs_sound.specs.Covers.{step_in}
-use Rattle.ufs_sound.specs.Parts.{FilePart, NamesPart, StorePart, View, World, Start, only_one, is_holder}
-use Rattle.ufs_sound.specs.Sound.{IsSound}
+use Rattle.ufs_sound.specs.Parts.{FilePart, NamesPart, StorePart, only_one, is_holder}
 use Rattle.ufs_sound.specs.CommittedHeld.{IsCommittedHeld}
 use Rattle.ufs_sound.specs.DiskBytes.{HasDiskBytes, IsOnDisk}
 use Rattle.ufs_sound.specs.Holds.{AreHoldsTrue}
-use Rattle.ufs_sound.specs.Draws.{Leaves, new_file, DrawsOn, MayDraw}
+use Rattle.ufs_sound.specs.Draws.{new_file}
 use Rattle.ufs_sound.proofs.Owning.{has_count, replaced_else, replaced_count}
 use Rattle.ufs_sound.proofs.Keys.{itself, alike}
 use Rattle.ufs_sound.proofs.Exchange.{value_is, names_single}
-use Rattle.ufs_sound.proofs.Draw.Setting
-use Rattle.ufs_sound.proofs.Draw.Setting.{Draw, push, names_kept, names_same, rising}
+use Rattle.ufs_sound.proofs.Draw.Setting.{Draw, outcome, push, names_kept, names_same, rising}
 use Rattle.ufs_sound.proofs.Draw.Cases.{file_case, names_case, store_same}
 use Rattle.ufs_sound.specs.Parts.{IsDiskTold}
 
 module _ (draw : Draw) where
-  abbrev k : Start
-  k = draw.k
-
-  abbrev views : List View
-  views = draw.views
-
-  abbrev i : ℕ
-  i = draw.i
-
-  abbrev v : View
-  v = draw.v
-
-  abbrev l : Leaves
-  l = draw.l
-
-  abbrev live : (x : Lease) → Has x draw.known → draw.word.clock < x.until
-  live = draw.live
-
-  abbrev o : IsSound draw.S draw.k draw.word draw.views
-  o = draw.o
-
-  abbrev at : get_elem? draw.views draw.i ≡ some draw.v
-  at = draw.at
-
-  abbrev m : MayDraw draw.f draw.v draw.l draw.known
-  m = draw.m
-
-  abbrev e : Entry
-  e = Setting.e draw
-
-  abbrev before : PosixTree
-  before = Setting.before draw
-
-  abbrev w : View
-  w = Setting.w draw
-
-  abbrev next_world : World
-  next_world = Setting.next_world draw
-
-  abbrev longer : List Entry
-  longer = Setting.longer draw
-
-  abbrev d : DrawsOn draw.f draw.m.self draw.v draw.l (Setting.before draw)
-  d = Setting.d draw
+  open draw use {k, views, i, v, l, live, o, at, m}
+  open outcome draw use {e, before, w, next_world, longer, d}
 
   -- ---- blocks
 

@@ -1,69 +1,21 @@
 -- Which part is whose after a draw, and what each part is then.
 use Rattle.std.proofs.Common.{◌≡◌, ℕ, ◌≢◌, ◌⊎◌, cond, eqb, eq-eqb, ne_eqb, List, [], ◌∷◌, ◌++◌, set, Some, None, sym, refl, ap, ◌∙◌, subst, inl, inr, ⊎_elim}
-use mathlib.Core.Option.{some}
 use native.Mathlib.Decide.{ℕ_discrete}
-use lib.ListN.{get_elem?}
-use Rattle.ufs_model.specs.PosixTree.{PosixTree}
 use Rattle.ufs_model.specs.declared.data.Entry.{Entry}
-use Rattle.ufs_sound.specs.declared.fresh.Fresh.{Fresh}
 use Rattle.ufs_sound.specs.Owned.{Has, count}
 use Rattle.ufs_prefix.specs.Changes.{change_of, names_by}
 use Rattle.ufs_sound.specs.Covers.{step_in}
-use Rattle.ufs_sound.specs.Parts.{AskedPart, ClientPart, FilePart, NamesPart, StorePart, View, World, Start, only_one}
-use Rattle.ufs_sound.specs.Sound.{IsSound}
+use Rattle.ufs_sound.specs.Parts.{AskedPart, ClientPart, FilePart, NamesPart, StorePart, View, only_one}
 use Rattle.ufs_sound.specs.OneHand.{IsHeld, DoPartsStay}
-use Rattle.ufs_sound.specs.Draws.{Leaves, entry_of, client_after, new_file, DrawsOn, MayDraw}
+use Rattle.ufs_sound.specs.Draws.{entry_of, client_after, new_file}
 use Rattle.ufs_sound.proofs.Owning.{has_append, replaced_present, has_each, replaced_back}
 use Rattle.ufs_sound.proofs.Keys.{itself, alike}
 use Rattle.ufs_sound.proofs.Exchange.{KeepsNames, world_after, value_after, value_case, value_is, store_is, names_single, names_are, clients_single, held_exchange}
-use Rattle.ufs_sound.proofs.Draw.Setting
-use Rattle.ufs_sound.proofs.Draw.Setting.{Draw, client_counts, names_kept, fresh_files, single_clients, other_client}
+use Rattle.ufs_sound.proofs.Draw.Setting.{Draw, outcome, client_counts, names_kept, fresh_files, single_clients, other_client}
 
 module _ (draw : Draw) where
-  abbrev k : Start
-  k = draw.k
-
-  abbrev views : List View
-  views = draw.views
-
-  abbrev i : ℕ
-  i = draw.i
-
-  abbrev v : View
-  v = draw.v
-
-  abbrev f : Fresh
-  f = draw.f
-
-  abbrev l : Leaves
-  l = draw.l
-
-  abbrev o : IsSound draw.S draw.k draw.word draw.views
-  o = draw.o
-
-  abbrev at : get_elem? draw.views draw.i ≡ some draw.v
-  at = draw.at
-
-  abbrev m : MayDraw draw.f draw.v draw.l draw.known
-  m = draw.m
-
-  abbrev e : Entry
-  e = Setting.e draw
-
-  abbrev before : PosixTree
-  before = Setting.before draw
-
-  abbrev w : View
-  w = Setting.w draw
-
-  abbrev next_world : World
-  next_world = Setting.next_world draw
-
-  abbrev longer : List Entry
-  longer = Setting.longer draw
-
-  abbrev d : DrawsOn draw.f draw.m.self draw.v draw.l (Setting.before draw)
-  d = Setting.d draw
+  open draw use {k, views, i, v, f, l, o, at, m}
+  open outcome draw use {e, before, w, next_world, longer, d}
 
   pub held_after : IsHeld (set views i w) next_world
   held_after = held_exchange views i v w at o.world o.one_hand (names_kept draw) d.single (fresh_files draw)

@@ -1,47 +1,19 @@
 -- After a draw the states of the disk show the history.
-use Rattle.std.proofs.Common.{◌≡◌, ℕ, suc, ◌≤◌, List, [], ◌∷◌, length, sym, subst, arith, length-append}
+use Rattle.std.proofs.Common.{◌≡◌, ℕ, suc, ◌≤◌, [], ◌∷◌, length, sym, subst, arith, length-append}
 use native.Mathlib.Decide.{dec_le}
-use Rattle.ufs_model.specs.Laws.{KeepsTrees}
-use Rattle.ufs_model.specs.declared.data.Entry.{Entry}
 use Rattle.std.specs.Prelude.{take}
 use Rattle.ufs_prefix.specs.Changes.{changes_of, name_changes}
-use Rattle.ufs_sound.specs.Parts.{committed, World, Word, Start}
-use Rattle.ufs_sound.specs.Sound.{IsSound}
-use Rattle.ufs_sound.specs.Explained.{AreStatesExplained, Showing}
+use Rattle.ufs_sound.specs.Parts.{committed}
+use Rattle.ufs_sound.specs.Explained.{AreStatesExplained}
 use Rattle.ufs_sound.proofs.Lists.{take_push, take_whole}
-use Rattle.ufs_sound.proofs.Draw.Setting
 use Rattle.ufs_sound.proofs.Draw.Cases.{store_same}
 use Rattle.ufs_sound.proofs.Draw.History.{legal_after}
-use Rattle.ufs_sound.proofs.Draw.Setting.{Draw}
+use Rattle.ufs_sound.proofs.Draw.Setting.{Draw, outcome}
 use Rattle.ufs_sound.specs.Parts.{IsDiskTold}
 
 module _ (draw : Draw) where
-  abbrev keeps : KeepsTrees
-  keeps = draw.keeps
-
-  abbrev S : Showing
-  S = draw.S
-
-  abbrev k : Start
-  k = draw.k
-
-  abbrev word : Word
-  word = draw.word
-
-  abbrev o : IsSound draw.S draw.k draw.word draw.views
-  o = draw.o
-
-  abbrev e : Entry
-  e = Setting.e draw
-
-  abbrev next_world : World
-  next_world = Setting.next_world draw
-
-  abbrev longer : List Entry
-  longer = Setting.longer draw
-
-  abbrev next_word : Word
-  next_word = Setting.next_word draw
+  open draw use {keeps, S, k, word, o}
+  open outcome draw use {e, next_world, longer, next_word}
 
   -- ---- the disk
 

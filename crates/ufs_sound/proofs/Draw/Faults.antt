@@ -1,25 +1,20 @@
 -- After a draw each fault excuses one entry, the clock is true, and an asked client is answered.
 use Rattle.std.proofs.Common.{◌≡◌, ℕ, suc, ◌+◌, ◌≤◌, ◌≢◌, ◌⊎◌, Bool, true, false, cond, eqb, eqb-true, eq-eqb, ne_eqb, List, [], ◌∷◌, ◌++◌, set, Some, None, sym, refl, ap, ◌∙◌, subst, inl, inr, ⊎_elim, arith}
 use Rattle.std.specs.FinMap as fin
-use mathlib.Core.Option.{some}
 use native.Mathlib.Decide.{ℕ_discrete}
-use lib.ListN.{get_elem?}
 use Rattle.ufs_model.specs.declared.data.Entry.{Entry}
 use Rattle.ufs_model.specs.declared.data.Excuse.TheVariants as excuse
 use Rattle.ufs_model.specs.declared.data.Reply.{Reply}
 use Rattle.ufs_model.specs.declared.data.Reply.TheVariants as reply
-use Rattle.ufs_sound.specs.declared.fresh.Fresh.{Fresh}
 use Rattle.ufs_sound.specs.Owned.{one, Has, times}
 use Rattle.ufs_sound.specs.Owned.{less}
-use Rattle.ufs_sound.specs.Parts.{Shortage, AskedPart, ClientPart, NamesPart, View, World, Word}
-use Rattle.ufs_sound.specs.Sound.{IsSound}
+use Rattle.ufs_sound.specs.Parts.{Shortage, AskedPart, ClientPart, NamesPart, View}
 use Rattle.ufs_sound.specs.FaultsOnce.{AreFaultsOnce, told, tells}
 use Rattle.ufs_sound.specs.ClockTrue.{IsClockTrue}
 use Rattle.ufs_sound.specs.Asked.{IsAskedTrue, IsStill, IsAnswered}
-use Rattle.ufs_sound.specs.Draws.{left_faults, Leaves, MayDraw}
+use Rattle.ufs_sound.specs.Draws.{left_faults}
 use Rattle.ufs_sound.proofs.Owning.{total_set, all_set, weigh_append, same_some, none_some}
-use Rattle.ufs_sound.proofs.Draw.Setting
-use Rattle.ufs_sound.proofs.Draw.Setting.{Draw, self_there}
+use Rattle.ufs_sound.proofs.Draw.Setting.{Draw, outcome, self_there}
 use Rattle.ufs_sound.proofs.Draw.Cases.{client_case, names_case, asked_same, store_same, last_in}
 
 times_less : (n b : ℕ) (bs : List ℕ) → 1 ≤ times b bs → times n (less b bs) + one (eqb b n) ≡ times n bs
@@ -43,47 +38,8 @@ faults_left (reply.Excused _) fs n l = omega arith
 faults_left _ fs n l = omega arith
 
 module _ (draw : Draw) where
-  abbrev word : Word
-  word = draw.word
-
-  abbrev views : List View
-  views = draw.views
-
-  abbrev i : ℕ
-  i = draw.i
-
-  abbrev v : View
-  v = draw.v
-
-  abbrev f : Fresh
-  f = draw.f
-
-  abbrev l : Leaves
-  l = draw.l
-
-  abbrev o : IsSound draw.S draw.k draw.word draw.views
-  o = draw.o
-
-  abbrev at : get_elem? draw.views draw.i ≡ some draw.v
-  at = draw.at
-
-  abbrev m : MayDraw draw.f draw.v draw.l draw.known
-  m = draw.m
-
-  abbrev e : Entry
-  e = Setting.e draw
-
-  abbrev w : View
-  w = Setting.w draw
-
-  abbrev next_world : World
-  next_world = Setting.next_world draw
-
-  abbrev longer : List Entry
-  longer = Setting.longer draw
-
-  abbrev next_word : Word
-  next_word = Setting.next_word draw
+  open draw use {word, views, i, v, f, l, o, at, m}
+  open outcome draw use {e, w, next_world, longer, next_word}
 
   -- ---- faults, clock and asked requests
 

@@ -1,80 +1,29 @@
 -- After a draw the history is legal, and the parts are those of the tree to which it leads.
-use Rattle.std.proofs.Common.{◌≡◌, ℕ, ◌≤◌, true, cond, eqb, eq-eqb, ne_eqb, List, [], ◌∷◌, ◌++◌, Some, None, is_some, sym, ap, ◌∙◌, subst, inl, inr, ⊎_elim, arith, append-nil}
+use Rattle.std.proofs.Common.{◌≡◌, ℕ, ◌≤◌, true, cond, eqb, eq-eqb, ne_eqb, [], ◌∷◌, ◌++◌, Some, None, is_some, sym, ap, ◌∙◌, subst, inl, inr, ⊎_elim, arith, append-nil}
 use Rattle.std.specs.FinMap as fin
-use mathlib.Core.Option.{some}
 use native.Mathlib.Decide.{dec_le, ℕ_discrete}
-use lib.ListN.{get_elem?}
 use Rattle.ufs_model.specs.PosixTree.{PosixTree, IsTree, desc_at}
 use Rattle.ufs_model.specs.History.{IsLegal}
 use Rattle.ufs_model.proofs.Facts.Histories.{legal-push}
-use Rattle.ufs_model.specs.declared.data.Entry.{Entry}
 use Rattle.ufs_model.specs.declared.data.Excuse.TheVariants as excuse
 use Rattle.ufs_model.specs.declared.data.Reply.TheVariants as reply
-use Rattle.ufs_sound.specs.declared.fresh.Fresh.{Fresh}
 use Rattle.ufs_sound.specs.Owned.{one, present, Has, count, times}
 use Rattle.ufs_prefix.specs.Changes.{change_of, changes_of, names_by, name_changes}
 use Rattle.ufs_prefix.proofs.Facts.Histories.{changes_of-push, name_changes-push}
 use Rattle.ufs_sound.specs.Covers.{step_in}
-use Rattle.ufs_sound.specs.Parts.{ClientPart, FilePart, NamesPart, View, World, Start, only_one}
-use Rattle.ufs_sound.specs.Sound.{IsSound}
+use Rattle.ufs_sound.specs.Parts.{ClientPart, FilePart, NamesPart, View, only_one}
 use Rattle.ufs_sound.specs.Legal.{IsOneHistory, FitsFile, FitsNames}
 use Rattle.ufs_sound.specs.FaultsOnce.{told}
-use Rattle.ufs_sound.specs.Draws.{Leaves, entry_of, client_after, new_file, DrawsOn, MayDraw}
+use Rattle.ufs_sound.specs.Draws.{entry_of, client_after, new_file}
 use Rattle.ufs_sound.proofs.Owning.{has_each, replaced_back, replaced_else, replaced_count, total_at}
 use Rattle.ufs_sound.proofs.Keys.{itself, alike}
 use Rattle.ufs_sound.proofs.Drawing.{tells_new}
 use Rattle.ufs_sound.proofs.Exchange.{value_case, names_single, names_are}
-use Rattle.ufs_sound.proofs.Draw.Setting
-use Rattle.ufs_sound.proofs.Draw.Setting.{Draw, there_or, is_in, push, names_kept, single_clients, other_client, descs_stay, file_stays, unchanged, names_same, names_unchanged, unborn_unchanged, rising, tree_kept}
+use Rattle.ufs_sound.proofs.Draw.Setting.{Draw, outcome, there_or, is_in, push, names_kept, single_clients, other_client, descs_stay, file_stays, unchanged, names_same, names_unchanged, unborn_unchanged, rising, tree_kept}
 
 module _ (draw : Draw) where
-  abbrev k : Start
-  k = draw.k
-
-  abbrev views : List View
-  views = draw.views
-
-  abbrev i : ℕ
-  i = draw.i
-
-  abbrev v : View
-  v = draw.v
-
-  abbrev f : Fresh
-  f = draw.f
-
-  abbrev l : Leaves
-  l = draw.l
-
-  abbrev o : IsSound draw.S draw.k draw.word draw.views
-  o = draw.o
-
-  abbrev at : get_elem? draw.views draw.i ≡ some draw.v
-  at = draw.at
-
-  abbrev m : MayDraw draw.f draw.v draw.l draw.known
-  m = draw.m
-
-  abbrev e : Entry
-  e = Setting.e draw
-
-  abbrev before : PosixTree
-  before = Setting.before draw
-
-  abbrev after : PosixTree
-  after = Setting.after draw
-
-  abbrev w : View
-  w = Setting.w draw
-
-  abbrev next_world : World
-  next_world = Setting.next_world draw
-
-  abbrev longer : List Entry
-  longer = Setting.longer draw
-
-  abbrev d : DrawsOn draw.f draw.m.self draw.v draw.l (Setting.before draw)
-  d = Setting.d draw
+  open draw use {k, views, i, v, f, l, o, at, m}
+  open outcome draw use {e, before, after, w, next_world, longer, d}
 
   -- ---- the parts after the entry
 

@@ -1,13 +1,9 @@
 -- After a draw the leases are true.
-use Rattle.std.proofs.Common.{◌≡◌, ℕ, ◌*◌, ◌<◌, ◌≤◌, ◌≢◌, true, eqb, List, [], ◌∷◌, ◌++◌, length, Option, Some, None, is_some, unwrap_or, sym, refl, ap, ◌∙◌, subst, inl, inr, ⊎_elim, arith}
+use Rattle.std.proofs.Common.{◌≡◌, ℕ, ◌*◌, ◌<◌, ◌≤◌, ◌≢◌, true, eqb, [], ◌∷◌, ◌++◌, length, Option, Some, None, is_some, unwrap_or, sym, refl, ap, ◌∙◌, subst, inl, inr, ⊎_elim, arith}
 use Rattle.std.specs.FinMap as fin
-use mathlib.Core.Option.{some}
 use native.Mathlib.Decide.{dec_le, ℕ_discrete}
-use lib.ListN.{get_elem?}
-use Rattle.ufs_model.specs.PosixTree.{PosixTree}
 use Rattle.ufs_model.specs.History.{tree_after}
 use Rattle.ufs_model.specs.Touched.{holds}
-use Rattle.ufs_model.specs.declared.data.Entry.{Entry}
 use Rattle.ufs_model.specs.declared.data.PartName.{PartName}
 use Rattle.ufs_model.specs.declared.data.PartName.TheVariants as part
 use Rattle.std.specs.Option.{option_map}
@@ -19,70 +15,19 @@ use Rattle.ufs_model.proofs.Facts.Held.{holds_by, holder}
 use Rattle.ufs_model.proofs.Facts.Live.{held_has, number_is}
 use Rattle.ufs_sound.specs.LeasesTrue.{AreLeasesTrue, IsTrueOf, IsLeaseHeld, IsListed, IsListedIn, leased_file}
 use Rattle.ufs_sound.proofs.Keys.{one_itself, one_alike}
-use Rattle.ufs_sound.specs.declared.fresh.Fresh.{Fresh}
 use Rattle.ufs_sound.specs.Owned.{one, Has, count}
-use Rattle.ufs_sound.specs.Parts.{ClientPart, FilePart, NamesPart, View, World, Word, Start, only_one}
-use Rattle.ufs_sound.specs.Sound.{IsSound}
+use Rattle.ufs_sound.specs.Parts.{ClientPart, FilePart, NamesPart, only_one}
 use Rattle.ufs_sound.specs.FaultsOnce.{told}
-use Rattle.ufs_sound.specs.Draws.{Leaves, entry_of, IsFileAfter, DrawsOn, MayDraw}
+use Rattle.ufs_sound.specs.Draws.{entry_of, IsFileAfter}
 use Rattle.ufs_sound.proofs.Owning.{has_count, count_has, same_some, replaced_here, replaced_else}
 use Rattle.ufs_sound.proofs.Keys.{itself, alike}
 use Rattle.ufs_sound.proofs.Exchange.{names_are}
-use Rattle.ufs_sound.proofs.Draw.Setting
-use Rattle.ufs_sound.proofs.Draw.Setting.{Draw, self_there, push, descs_stay, file_stays, names_same, tree_kept}
+use Rattle.ufs_sound.proofs.Draw.Setting.{Draw, outcome, self_there, push, descs_stay, file_stays, names_same, tree_kept}
 use Rattle.ufs_sound.proofs.Draw.Cases.{client_case, names_case}
 
 module _ (draw : Draw) where
-  abbrev k : Start
-  k = draw.k
-
-  abbrev word : Word
-  word = draw.word
-
-  abbrev views : List View
-  views = draw.views
-
-  abbrev i : ℕ
-  i = draw.i
-
-  abbrev v : View
-  v = draw.v
-
-  abbrev f : Fresh
-  f = draw.f
-
-  abbrev l : Leaves
-  l = draw.l
-
-  abbrev o : IsSound draw.S draw.k draw.word draw.views
-  o = draw.o
-
-  abbrev at : get_elem? draw.views draw.i ≡ some draw.v
-  at = draw.at
-
-  abbrev m : MayDraw draw.f draw.v draw.l draw.known
-  m = draw.m
-
-  abbrev e : Entry
-  e = Setting.e draw
-
-  abbrev before : PosixTree
-  before = Setting.before draw
-
-  abbrev after : PosixTree
-  after = Setting.after draw
-
-  abbrev w : View
-  w = Setting.w draw
-
-  abbrev next_world : World
-  next_world = Setting.next_world draw
-
-  abbrev longer : List Entry
-  longer = Setting.longer draw
-
-  abbrev d : DrawsOn draw.f draw.m.self draw.v draw.l (Setting.before draw)
-  d = Setting.d draw
+  open draw use {k, word, views, i, v, f, l, o, at, m}
+  open outcome draw use {e, before, after, w, next_world, longer, d}
 
   -- ---- leases
 

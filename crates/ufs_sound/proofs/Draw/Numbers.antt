@@ -1,26 +1,20 @@
 -- After a draw the committed numbers cover what is acknowledged.
 use Rattle.std.proofs.Common.{◌≡◌, ℕ, ◌≤◌, false, eqb, List, [], ◌∷◌, ◌++◌, length, Some, sym, ap, ◌∙◌, subst, ⊎_elim, arith}
-use mathlib.Core.Option.{some}
-use lib.ListN.{get_elem?}
 use Rattle.ufs_model.specs.PosixTree.{PosixTree}
 use Rattle.ufs_model.specs.declared.data.Entry.{Entry}
 use Rattle.ufs_model.specs.declared.data.Reply.TheVariants as reply
-use Rattle.ufs_model.specs.declared.data.Lease.{Lease}
-use Rattle.ufs_sound.specs.declared.fresh.Fresh.{Fresh}
 use Rattle.ufs_sound.specs.Owned.{Has, count}
 use Rattle.ufs_prefix.specs.Changes.{change_of, changes_of, name_changes}
 use Rattle.ufs_sound.specs.Covers.{step_in, SyncsFile, SyncsNames, CoversFile, CoversNames, CoversBirths, IsBornBy}
-use Rattle.ufs_sound.specs.Parts.{committed, FilePart, NamesPart, StorePart, View, World, Start}
-use Rattle.ufs_sound.specs.Sound.{IsSound}
+use Rattle.ufs_sound.specs.Parts.{committed, FilePart, NamesPart, StorePart}
 use Rattle.ufs_sound.specs.CommittedNumbers.{IsCommittedNames, AreCommittedNumbers}
-use Rattle.ufs_sound.specs.Draws.{Leaves, new_file, DrawsOn}
+use Rattle.ufs_sound.specs.Draws.{new_file}
 use Rattle.ufs_sound.proofs.Owning.{count_has, same_some}
 use Rattle.ufs_sound.proofs.Keys.{itself, alike}
 use Rattle.ufs_sound.proofs.Covering.{changes_front, more_changes, more_names, born_push, covers_file_push, covers_names_push, covers_births_push}
 use Rattle.ufs_sound.proofs.Exchange.{names_are}
-use Rattle.ufs_sound.proofs.Draw.Setting
 use Rattle.ufs_sound.proofs.Draw.Cases.{file_case, names_case, store_same}
-use Rattle.ufs_sound.proofs.Draw.Setting.{Draw}
+use Rattle.ufs_sound.proofs.Draw.Setting.{Draw, outcome}
 
 covers_none : (t : PosixTree) (h : List Entry) (g : ℕ) → changes_of g t h ≡ [] → CoversFile t h g 0
 covers_none t h g none a b x is done syncs = let l = changes_front t a (x ∷ b) g in let n = ap (λ z. length (changes_of g t z)) is in let z = ap length none in omega arith
@@ -29,50 +23,8 @@ no_has : {D : Type 0} (ps : List (ℕ × D)) (g : ℕ) (x : D) → count eqb g p
 no_has ps g x z h = let c = count_has eqb itself alike g x ps h in absurd (omega arith)
 
 module _ (draw : Draw) where
-  abbrev k : Start
-  k = draw.k
-
-  abbrev views : List View
-  views = draw.views
-
-  abbrev i : ℕ
-  i = draw.i
-
-  abbrev v : View
-  v = draw.v
-
-  abbrev f : Fresh
-  f = draw.f
-
-  abbrev l : Leaves
-  l = draw.l
-
-  abbrev known : List Lease
-  known = draw.known
-
-  abbrev o : IsSound draw.S draw.k draw.word draw.views
-  o = draw.o
-
-  abbrev at : get_elem? draw.views draw.i ≡ some draw.v
-  at = draw.at
-
-  abbrev e : Entry
-  e = Setting.e draw
-
-  abbrev before : PosixTree
-  before = Setting.before draw
-
-  abbrev w : View
-  w = Setting.w draw
-
-  abbrev next_world : World
-  next_world = Setting.next_world draw
-
-  abbrev longer : List Entry
-  longer = Setting.longer draw
-
-  abbrev d : DrawsOn draw.f draw.m.self draw.v draw.l (Setting.before draw)
-  d = Setting.d draw
+  open draw use {k, views, i, v, f, l, known, o, at}
+  open outcome draw use {e, before, w, next_world, longer, d}
 
   -- ---- what is committed
 

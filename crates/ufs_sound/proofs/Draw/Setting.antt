@@ -282,3 +282,18 @@ module _ (draw : Draw) where
       (λ x. subst IsTree (sym (tree_stays before f.client f.op f.reply x)) o.legal.tree)
       (λ x. subst IsTree (sym (tree_served before f.client f.op f.reply x)) (keeps before f.client f.op o.legal.tree))
       (excused_or f.reply)
+
+-- ---- by short names, for the files of the letters
+
+pub record Outcome (draw : Draw) : Type 0 where
+  pub e : Entry
+  pub before : PosixTree
+  pub after : PosixTree
+  pub w : View
+  pub next_world : World
+  pub longer : List Entry
+  pub next_word : Word
+  pub d : DrawsOn draw.f draw.m.self draw.v draw.l (tree_after draw.k.tree draw.o.history)
+
+abbrev pub outcome : (draw : Draw) → Outcome draw
+outcome draw = record { e = e draw; before = before draw; after = after draw; w = w draw; next_world = next_world draw; longer = longer draw; next_word = next_word draw; d = d draw }

@@ -1,75 +1,23 @@
 -- After a draw each ticket has one entry, and each client's entries are numbered in their order.
 use Rattle.std.proofs.Common.{◌≡◌, ℕ, ◌<◌, ◌≤◌, ◌≢◌, eqb, List, [], ◌∷◌, ◌++◌, length, map, Some, None, sym, ap, ◌∙◌, subst, ⊎_elim, arith, length-append}
-use mathlib.Core.Option.{some}
 use native.Mathlib.Decide.{ℕ_discrete}
-use lib.ListN.{get_elem?}
 use Rattle.ufs_model.specs.PosixTree.{PosixTree}
 use Rattle.ufs_model.specs.History.{entries_of}
 use Rattle.ufs_model.specs.declared.data.Entry.{Entry}
-use Rattle.ufs_sound.specs.declared.fresh.Fresh.{Fresh}
 use Rattle.ufs_sound.specs.Owned.{present}
 use Rattle.std.specs.List.{range_with_len}
-use Rattle.ufs_model.specs.Laws.{MakesOneFile}
 use Rattle.ufs_model.proofs.Facts.Histories.{own-push, others-push, numbers-push}
-use Rattle.ufs_sound.specs.Parts.{ClientPart, View, World, Word, Start}
-use Rattle.ufs_sound.specs.Sound.{IsSound}
+use Rattle.ufs_sound.specs.Parts.{ClientPart, View}
 use Rattle.ufs_sound.specs.TicketsOnce.{AreTicketsOnce}
-use Rattle.ufs_sound.specs.Draws.{Leaves, MayDraw}
 use Rattle.ufs_sound.proofs.Owning.{replaced_present, none_some}
 use Rattle.ufs_sound.proofs.Keys.{itself, alike}
 use Rattle.ufs_sound.proofs.Covering.{excused_or, tree_served, tree_stays}
-use Rattle.ufs_sound.proofs.Draw.Setting
-use Rattle.ufs_sound.proofs.Draw.Setting.{Draw, self_there, push, client_counts}
+use Rattle.ufs_sound.proofs.Draw.Setting.{Draw, outcome, self_there, push, client_counts}
 use Rattle.ufs_sound.proofs.Draw.Cases.{client_case, last_in}
 
 module _ (draw : Draw) where
-  abbrev makes : MakesOneFile
-  makes = draw.makes
-
-  abbrev k : Start
-  k = draw.k
-
-  abbrev views : List View
-  views = draw.views
-
-  abbrev i : ℕ
-  i = draw.i
-
-  abbrev v : View
-  v = draw.v
-
-  abbrev f : Fresh
-  f = draw.f
-
-  abbrev l : Leaves
-  l = draw.l
-
-  abbrev o : IsSound draw.S draw.k draw.word draw.views
-  o = draw.o
-
-  abbrev at : get_elem? draw.views draw.i ≡ some draw.v
-  at = draw.at
-
-  abbrev m : MayDraw draw.f draw.v draw.l draw.known
-  m = draw.m
-
-  abbrev e : Entry
-  e = Setting.e draw
-
-  abbrev before : PosixTree
-  before = Setting.before draw
-
-  abbrev w : View
-  w = Setting.w draw
-
-  abbrev next_world : World
-  next_world = Setting.next_world draw
-
-  abbrev longer : List Entry
-  longer = Setting.longer draw
-
-  abbrev next_word : Word
-  next_word = Setting.next_word draw
+  open draw use {makes, k, views, i, v, f, l, o, at, m}
+  open outcome draw use {e, before, w, next_world, longer, next_word}
 
   -- ---- tickets
 

@@ -1,4 +1,5 @@
 use Rattle.std.proofs.Common.{◌≡◌, ◌∙◌, inl, inr, ℕ, refl, length, sym, subst, arith, rules}
+use Rattle.ufs_disk.specs.Disk.{IsImage, IsPartlyWritten}
 use Rattle.ufs_disk.specs.Moments.{LeavesOnly, reads}
 use Rattle.ufs_disk.proofs.Images.{seen_is_image}
 use Rattle.ufs_disk.proofs.Noted.{on_err}
@@ -13,6 +14,7 @@ use Rattle.ufs_overlay.specs.Over.{IsHomeWritten}
 use Rattle.ufs_overlay.specs.Seen as overlaid
 use Rattle.ufs_ledger.proofs.Wholes.{images_of, sized_images}
 use Rattle.ufs_ledger.proofs.Emptying.{crash1, crash2, crash3, crash4, crash5, ledger1, ledger2, ledger3, ledger4, ledger5_tried, ledger5, ready5}
+use Rattle.ufs_ledger.proofs.Data.{data_quiet, data_more, data_home, data_headed, data_stays}
 use Rattle.ufs_ledger.proofs.calls.checkpoint.Goals as goal
 
 pub returns-in_err-barrier-clause-crash : goal.returns-in_err-barrier-clause-crash
@@ -310,3 +312,104 @@ returns-clause-ok g c told l by log =
       later = omega (arith, c.requires.next, later);
       ready = subst (λ (x : ℕ × ℕ). IsReady k.geometry x.0 x.1 k.number m5.state) (λ i. (sym c.restart.ensures.epoch i, sym c.restart.ensures.used i)) ready;
     }
+
+pub returns-in_err-barrier-clause-data : goal.returns-in_err-barrier-clause-data
+returns-in_err-barrier-clause-data g c told l by has =
+    let j = c.args.journal.now in
+    let log = l.now.log in
+    let keeps = g.D.Disk.keeps in
+    let m0 = g.D.Disk.moments c.args.disk.now in
+    let m1 = g.D.Disk.moments c.barrier.new.self in
+    let so1 = data_quiet j.geometry log keeps m0 m1 (c.barrier.ensures.crash told) in
+    so1
+
+pub returns-in_err-write_home-clause-data : goal.returns-in_err-write_home-clause-data
+returns-in_err-write_home-clause-data g c told l by has =
+    let j = c.args.journal.now in
+    let log = l.now.log in
+    let keeps = g.D.Disk.keeps in
+    let m0 = g.D.Disk.moments c.args.disk.now in
+    let m1 = g.D.Disk.moments c.barrier.new.self in
+    let so1 = data_quiet j.geometry log keeps m0 m1 (c.barrier.ensures.crash told) in
+    let m2 = g.D.Disk.moments c.write_home.new.disk in
+    let still1 = c.in_ok-barrier.ensures.ok told in
+    let run2 = subst (λ (x : Geometry). LeavesOnly keeps (IsHomeWritten x log m1.state) m1 m2) c.requires.over (c.write_home.ensures.crash told log has (λ image left sector touched i. still1 image left i sector)) in
+    let so2 = data_more j.geometry log keeps m0 m1 m2 (IsHomeWritten j.geometry log m1.state) so1 run2 (data_home j.geometry log m1.state) in
+    so2
+
+pub returns-in_err-barrier-2-clause-data : goal.returns-in_err-barrier-2-clause-data
+returns-in_err-barrier-2-clause-data g c told l by has =
+    let j = c.args.journal.now in
+    let log = l.now.log in
+    let keeps = g.D.Disk.keeps in
+    let m0 = g.D.Disk.moments c.args.disk.now in
+    let m1 = g.D.Disk.moments c.barrier.new.self in
+    let so1 = data_quiet j.geometry log keeps m0 m1 (c.barrier.ensures.crash told) in
+    let m2 = g.D.Disk.moments c.write_home.new.disk in
+    let still1 = c.in_ok-barrier.ensures.ok told in
+    let run2 = subst (λ (x : Geometry). LeavesOnly keeps (IsHomeWritten x log m1.state) m1 m2) c.requires.over (c.write_home.ensures.crash told log has (λ image left sector touched i. still1 image left i sector)) in
+    let so2 = data_more j.geometry log keeps m0 m1 m2 (IsHomeWritten j.geometry log m1.state) so1 run2 (data_home j.geometry log m1.state) in
+    let m3 = g.D.Disk.moments c.barrier-2.new.self in
+    let so3 = data_more j.geometry log keeps m0 m2 m3 (IsImage m2.state) so2 (c.barrier-2.ensures.crash told) (data_stays j.geometry log m2.state) in
+    so3
+
+pub returns-in_err-write-clause-data : goal.returns-in_err-write-clause-data
+returns-in_err-write-clause-data g c told l by has =
+    let j = c.args.journal.now in
+    let log = l.now.log in
+    let keeps = g.D.Disk.keeps in
+    let m0 = g.D.Disk.moments c.args.disk.now in
+    let m1 = g.D.Disk.moments c.barrier.new.self in
+    let so1 = data_quiet j.geometry log keeps m0 m1 (c.barrier.ensures.crash told) in
+    let m2 = g.D.Disk.moments c.write_home.new.disk in
+    let still1 = c.in_ok-barrier.ensures.ok told in
+    let run2 = subst (λ (x : Geometry). LeavesOnly keeps (IsHomeWritten x log m1.state) m1 m2) c.requires.over (c.write_home.ensures.crash told log has (λ image left sector touched i. still1 image left i sector)) in
+    let so2 = data_more j.geometry log keeps m0 m1 m2 (IsHomeWritten j.geometry log m1.state) so1 run2 (data_home j.geometry log m1.state) in
+    let m3 = g.D.Disk.moments c.barrier-2.new.self in
+    let so3 = data_more j.geometry log keeps m0 m2 m3 (IsImage m2.state) so2 (c.barrier-2.ensures.crash told) (data_stays j.geometry log m2.state) in
+    let m4 = g.D.Disk.moments c.write.new.self in
+    let long : length c.super_sector-sector.result ≡ 512 = search rules in
+    let so4 = data_more j.geometry log keeps m0 m3 m4 (IsPartlyWritten 0 c.super_sector-sector.result m3.state) so3 (c.write.ensures.crash told) (λ image part. data_headed j.geometry log c.super_sector-sector.result m3.state image long part) in
+    so4
+
+pub returns-in_err-barrier-3-clause-data : goal.returns-in_err-barrier-3-clause-data
+returns-in_err-barrier-3-clause-data g c told l by has =
+    let j = c.args.journal.now in
+    let log = l.now.log in
+    let keeps = g.D.Disk.keeps in
+    let m0 = g.D.Disk.moments c.args.disk.now in
+    let m1 = g.D.Disk.moments c.barrier.new.self in
+    let so1 = data_quiet j.geometry log keeps m0 m1 (c.barrier.ensures.crash told) in
+    let m2 = g.D.Disk.moments c.write_home.new.disk in
+    let still1 = c.in_ok-barrier.ensures.ok told in
+    let run2 = subst (λ (x : Geometry). LeavesOnly keeps (IsHomeWritten x log m1.state) m1 m2) c.requires.over (c.write_home.ensures.crash told log has (λ image left sector touched i. still1 image left i sector)) in
+    let so2 = data_more j.geometry log keeps m0 m1 m2 (IsHomeWritten j.geometry log m1.state) so1 run2 (data_home j.geometry log m1.state) in
+    let m3 = g.D.Disk.moments c.barrier-2.new.self in
+    let so3 = data_more j.geometry log keeps m0 m2 m3 (IsImage m2.state) so2 (c.barrier-2.ensures.crash told) (data_stays j.geometry log m2.state) in
+    let m4 = g.D.Disk.moments c.write.new.self in
+    let long : length c.super_sector-sector.result ≡ 512 = search rules in
+    let so4 = data_more j.geometry log keeps m0 m3 m4 (IsPartlyWritten 0 c.super_sector-sector.result m3.state) so3 (c.write.ensures.crash told) (λ image part. data_headed j.geometry log c.super_sector-sector.result m3.state image long part) in
+    let m5 = g.D.Disk.moments c.barrier-3.new.self in
+    let so5 = data_more j.geometry log keeps m0 m4 m5 (IsImage m4.state) so4 (c.barrier-3.ensures.crash told) (data_stays j.geometry log m4.state) in
+    so5
+
+pub returns-clause-data : goal.returns-clause-data
+returns-clause-data g c told l by has =
+    let j = c.args.journal.now in
+    let log = l.now.log in
+    let keeps = g.D.Disk.keeps in
+    let m0 = g.D.Disk.moments c.args.disk.now in
+    let m1 = g.D.Disk.moments c.barrier.new.self in
+    let so1 = data_quiet j.geometry log keeps m0 m1 (c.barrier.ensures.crash told) in
+    let m2 = g.D.Disk.moments c.write_home.new.disk in
+    let still1 = c.in_ok-barrier.ensures.ok told in
+    let run2 = subst (λ (x : Geometry). LeavesOnly keeps (IsHomeWritten x log m1.state) m1 m2) c.requires.over (c.write_home.ensures.crash told log has (λ image left sector touched i. still1 image left i sector)) in
+    let so2 = data_more j.geometry log keeps m0 m1 m2 (IsHomeWritten j.geometry log m1.state) so1 run2 (data_home j.geometry log m1.state) in
+    let m3 = g.D.Disk.moments c.barrier-2.new.self in
+    let so3 = data_more j.geometry log keeps m0 m2 m3 (IsImage m2.state) so2 (c.barrier-2.ensures.crash told) (data_stays j.geometry log m2.state) in
+    let m4 = g.D.Disk.moments c.write.new.self in
+    let long : length c.super_sector-sector.result ≡ 512 = search rules in
+    let so4 = data_more j.geometry log keeps m0 m3 m4 (IsPartlyWritten 0 c.super_sector-sector.result m3.state) so3 (c.write.ensures.crash told) (λ image part. data_headed j.geometry log c.super_sector-sector.result m3.state image long part) in
+    let m5 = g.D.Disk.moments c.barrier-3.new.self in
+    let so5 = data_more j.geometry log keeps m0 m4 m5 (IsImage m4.state) so4 (c.barrier-3.ensures.crash told) (data_stays j.geometry log m4.state) in
+    so5

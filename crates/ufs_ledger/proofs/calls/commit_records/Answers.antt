@@ -1,11 +1,14 @@
 use Rattle.std.proofs.Common.{◌∙◌, inl, inr, ℕ, sym, subst, arith}
 use Rattle.ufs_layout.specs.declared.geometry.Geometry.{Geometry}
+use Rattle.ufs_layout.specs.declared.records.Committed.{Committed}
 use Rattle.ufs_journal.specs.Kept.{IsReady, IsUnused}
-use Rattle.ufs_disk.specs.Moments.{reads}
+use Rattle.ufs_journal.specs.Written.{IsAppended, IsMaybeCommitted}
+use Rattle.ufs_disk.specs.Moments.{LeavesOnly, reads}
 use Rattle.ufs_disk.proofs.Noted.{on_err}
 use Rattle.ufs_ledger.specs.Ledger.{IsLedgerOf}
 use Rattle.ufs_ledger.specs.Changes.{committing, committed_one, settled}
-use Rattle.ufs_ledger.proofs.Committing.{unused_less, crash1, ledger1, ready1, unused1, crash2, err2, applies2, crash3, err3, ok3, on_ok_cases, ready_to, open_to, applies_to}
+use Rattle.ufs_ledger.proofs.Data.{data_quiet, data_more, data_appended, data_committed}
+use Rattle.ufs_ledger.proofs.Committing.{ready_less, unused_less, crash1, ledger1, ready1, unused1, crash2, err2, applies2, crash3, err3, ok3, on_ok_cases, ready_to, open_to, applies_to}
 use Rattle.ufs_ledger.proofs.calls.commit_records.Goals as goal
 
 pub returns-in_err-barrier-clause-crash : goal.returns-in_err-barrier-clause-crash
@@ -181,3 +184,46 @@ returns-clause-unused g c told = on_ok_cases c.commit.result _ (λ at l by go ot
     let kept = c.append.ensures.same in
     let free3 = c.commit.ensures.unused told rs open2 other ne (subst (λ (x : Geometry × ℕ). IsUnused x.0 x.1 other m2.state) (λ i. (sym kept.0 i, sym kept.1 i)) free2) in
     subst (λ (x : Geometry × ℕ). IsUnused x.0 x.1 other m3.state) (λ i. (kept.0 i, kept.1 i)) free3)
+
+pub returns-in_err-barrier-clause-data : goal.returns-in_err-barrier-clause-data
+returns-in_err-barrier-clause-data g c told l by go =
+    data_quiet c.args.journal.now.geometry l.now.log g.D.Disk.keeps (g.D.Disk.moments c.args.disk.now) (g.D.Disk.moments c.barrier.new.self) (c.barrier.ensures.crash told)
+
+pub returns-in_err-append-clause-data : goal.returns-in_err-append-clause-data
+returns-in_err-append-clause-data g c told l by go =
+    let j = c.args.journal.now in
+    let m0 = g.D.Disk.moments c.args.disk.now in
+    let m1 = g.D.Disk.moments c.barrier.new.self in
+    let m2 = g.D.Disk.moments c.append.new.disk in
+    let run1 = c.barrier.ensures.crash told in
+    let ready = ready_less j.geometry j.epoch j.used j.number m0.state m1.state run1.after by.ready in
+    let unused = unused_less j.geometry j.epoch c.args.txn m0.state m1.state run1.after go.unused in
+    data_more j.geometry l.now.log g.D.Disk.keeps m0 m1 m2 (IsAppended j.geometry j.epoch m1.state) (data_quiet j.geometry l.now.log g.D.Disk.keeps m0 m1 run1) (c.append.ensures.crash told ready unused) (data_appended j.geometry l.now.log j.epoch m1.state)
+
+pub returns-clause-data : goal.returns-clause-data
+returns-clause-data g c told l by go =
+    let size = g.D.Disk.size c.args.disk.now in
+    let j = c.args.journal.now in
+    let k = c.append.new.self in
+    let rs = c.args.records.now in
+    let m0 = g.D.Disk.moments c.args.disk.now in
+    let m1 = g.D.Disk.moments c.barrier.new.self in
+    let m2 = g.D.Disk.moments c.append.new.disk in
+    let m3 = g.D.Disk.moments c.commit.new.disk in
+    let folds = c.fold_law.ensures.folds in
+    let more = c.fold_law.ensures.one_more in
+    let run1 = c.barrier.ensures.crash told in
+    let same = c.barrier.ensures.content told in
+    let still = c.in_ok-barrier.ensures.ok told in
+    let ready = ready1 size g.D.Disk.keeps j l c.args.txn rs m0 m1 by go folds more run1 same in
+    let unused = unused1 size g.D.Disk.keeps j l c.args.txn rs m0 m1 by go folds more run1 same in
+    let run2 = c.append.ensures.crash told ready unused in
+    let ready2 = ready_to j k c.append.ensures.same m2.state (c.in_ok-append.ensures.ready told ready unused) in
+    let open2 = open_to j k c.append.ensures.same c.args.txn rs m2.state (c.in_ok-append.ensures.open told ready unused) in
+    let fits2 = applies_to j k c.append.ensures.same rs (reads m2) (applies2 size g.D.Disk.keeps j l c.args.txn rs m0 m1 by go folds more run1 same m2 still run2) in
+    let one : Committed = record { number = k.number; records = rs } in
+    let run3 : LeavesOnly g.D.Disk.keeps (IsMaybeCommitted j.geometry k.epoch one m2.state) m2 m3 =
+    subst (λ x. LeavesOnly g.D.Disk.keeps (IsMaybeCommitted x k.epoch one m2.state) m2 m3) c.append.ensures.same.0 (c.commit.ensures.crash told ready2 rs open2 fits2) in
+    data_more j.geometry l.now.log g.D.Disk.keeps m0 m2 m3 (IsMaybeCommitted j.geometry k.epoch one m2.state)
+    (data_more j.geometry l.now.log g.D.Disk.keeps m0 m1 m2 (IsAppended j.geometry j.epoch m1.state) (data_quiet j.geometry l.now.log g.D.Disk.keeps m0 m1 run1) run2 (data_appended j.geometry l.now.log j.epoch m1.state))
+    run3 (data_committed j.geometry l.now.log k.epoch one m2.state)

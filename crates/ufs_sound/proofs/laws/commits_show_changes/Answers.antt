@@ -1,4 +1,4 @@
-use Rattle.ufs_sound.proofs.Commits.{block_writes_show, file_commits_show, name_commits_show, unborn_are_fresh, fewer_show, between_shows}
+use Rattle.ufs_sound.proofs.Commits.{block_writes_show, file_commits_show, name_commits_show, unborn_are_fresh, fewer_show}
 use Rattle.ufs_sound.proofs.laws.commits_show_changes.Goals as goal
 
 pub returns-clause-blocks : goal.returns-clause-blocks
@@ -12,9 +12,6 @@ returns-clause-names c = name_commits_show
 
 pub returns-clause-fewer : goal.returns-clause-fewer
 returns-clause-fewer c = fewer_show
-
-pub returns-clause-between : goal.returns-clause-between
-returns-clause-between c = between_shows
 
 pub returns-clause-unborn : goal.returns-clause-unborn
 returns-clause-unborn c = unborn_are_fresh

@@ -1,5 +1,12 @@
-use Rattle.ufs_sound.proofs.Happening.{move_remakes, turn_remakes, tell_remakes, commit_remakes, naming_remakes}
-use Rattle.ufs_sound.proofs.Refusing.{fail_remakes, checkpoint_remakes, answer_remakes}
+use Rattle.ufs_sound.proofs.Happening.Moving.{move_remakes}
+use Rattle.ufs_sound.proofs.Happening.Turning.{turn_remakes}
+use Rattle.ufs_sound.proofs.Happening.Passing.{pass_remakes}
+use Rattle.ufs_sound.proofs.Happening.Telling.{tell_remakes}
+use Rattle.ufs_sound.proofs.Happening.FileCommit.{commit_remakes}
+use Rattle.ufs_sound.proofs.Happening.NameCommit.{naming_remakes}
+use Rattle.ufs_sound.proofs.Happening.Failing.{fail_remakes}
+use Rattle.ufs_sound.proofs.Happening.Checking.{checkpoint_remakes}
+use Rattle.ufs_sound.proofs.Happening.Answering.{answer_remakes}
 use Rattle.ufs_sound.proofs.laws.events_are_marks.Goals as goal
 
 pub returns-clause-moves : goal.returns-clause-moves
@@ -7,6 +14,9 @@ returns-clause-moves g c k n v m may = move_remakes g.P.Promise.shows k n v m ma
 
 pub returns-clause-turns : goal.returns-clause-turns
 returns-clause-turns g c k n v s lent lent_names has l = turn_remakes g.P.Promise.shows k n v s has lent lent_names l
+
+pub returns-clause-passages : goal.returns-clause-passages
+returns-clause-passages g c k n v s lent lent_names passage may = pass_remakes g.P.Promise.shows k n v s lent lent_names passage may
 
 pub returns-clause-tells : goal.returns-clause-tells
 returns-clause-tells g c k n v s fs may = tell_remakes g.P.Promise.shows k n v s fs may

@@ -1,0 +1,101 @@
+-- Images of a disk's state, and of its cells.
+use Rattle.std.proofs.Common.{◌≡◌, ◌⊎◌, ℕ, zero, suc, ◌+◌, ◌<◌, ◌≤◌, inl, inr, ⊎_elim, Bool, true, false, [], length, map, Some, unwrap_or, ap, sym, refl, ◌∙◌, subst, arith}
+use Rattle.std.specs.Prelude.{Ok, nat_lt, if◌then◌else◌, slice_get}
+use Rattle.std.specs.List.{range_with_len}
+use Rattle.std.proofs.lemmas.Bool.Decides.{nat_tests}
+use Rattle.std.proofs.lemmas.Option.{slice_get_past}
+use Rattle.ufs_base.specs.Images.{Image}
+use Rattle.ufs_disk.specs.Disk.{Cell, State, IsAmong, IsImage, possible, seen}
+use Rattle.ufs_disk.proofs.Images.{seen_is_image}
+use Rattle.ufs_image.specs.Opens.{ImageTree, opens}
+use Rattle.ufs_model.specs.Start.{PathNodes}
+use Rattle.ufs_sound.specs.Parts.{Cells}
+use Rattle.ufs_sound.specs.DiskBytes.{empty_cell, state_of}
+use Rattle.ufs_sound.specs.Shown.{nodes_of, OpensTo, OpensAs}
+use Rattle.ufs_sound.specs.Commits.{TreesGo, TreesMayGo}
+use Rattle.ufs_store_steps.specs.Cells.{cells_of, AreCellsOf}
+
+get_range : {X : Type 0} (f : ℕ → X) (n from k : ℕ) → k < n → slice_get (map f (range_with_len from n)) k ≡ Some (f (from + k))
+get_range f zero from k low = absurd (omega (arith, low))
+get_range f (suc n) from zero low = ap (λ m. Some (f m)) (let e : from ≡ from + 0 = omega arith in e)
+get_range f (suc n) from (suc k) low = get_range f n (from + 1) k (omega (arith, low)) ∙ ap (λ m. Some (f m)) (let e : from + 1 + k ≡ from + suc k = omega arith in e)
+
+length_range : {X : Type 0} (f : ℕ → X) (n from : ℕ) → length (map f (range_with_len from n)) ≡ n
+length_range f zero from = refl
+length_range f (suc n) from = let i = length_range f n (from + 1) in omega (arith, i)
+
+pub cells_are_there : (sectors : ℕ) (state : State) → AreCellsOf sectors state (cells_of sectors state)
+cells_are_there sectors state = record { size = length_range state sectors 0; each = λ sector low. get_range state sectors 0 sector low ∙ ap (λ k. Some (state k)) (let e : 0 + sector ≡ sector = omega arith in e) }
+
+module _ (sectors : ℕ) (state : State) (cells : Cells) (are : AreCellsOf sectors state cells) where
+  pub cell_within : (s : ℕ) → s < sectors → state_of cells s ≡ state s
+  cell_within s low = ap (λ o. unwrap_or o empty_cell) (are.each s low)
+
+  cell_past : (s : ℕ) → sectors ≤ s → state_of cells s ≡ empty_cell
+  cell_past s high = ap (λ o. unwrap_or o empty_cell) (slice_get_past cells s (let size = are.size in omega (arith, size, high)))
+
+  -- an image of the cells, with what a read gives past the disk's end
+  abbrev pub whole : Image → Image
+  whole image s = if nat_lt s sectors then image s else seen state s
+
+  pub whole_left : (image : Image) → IsImage (state_of cells) image → IsImage state (whole image)
+  whole_left image left s = by (nat_lt s sectors) refl
+    where
+      by : (b : Bool) → nat_lt s sectors ≡ b → IsAmong (possible (state s)) (if b then image s else seen state s)
+      by true e = let low : s < sectors = grind (arith, nat_tests, e) in subst (λ (c : Cell). IsAmong (possible c) (image s)) (cell_within s low) (left s)
+      by false e = seen_is_image state s
+
+  pub whole_same : (image : Image) (s : ℕ) → s < sectors → whole image s ≡ image s
+  whole_same image s low = ap (λ b. if b then image s else seen state s) (let e : nat_lt s sectors ≡ true = grind (arith, nat_tests, low) in e)
+
+  -- an image of the state, with nothing past the disk's end
+  abbrev pub cut : Image → Image
+  cut image s = if nat_lt s sectors then image s else []
+
+  pub cut_left : (image : Image) → IsImage state image → IsImage (state_of cells) (cut image)
+  cut_left image left s = by (nat_lt s sectors) refl
+    where
+      by : (b : Bool) → nat_lt s sectors ≡ b → IsAmong (possible (state_of cells s)) (if b then image s else [])
+      by true e = let low : s < sectors = grind (arith, nat_tests, e) in subst (λ (c : Cell). IsAmong (possible c) (image s)) (sym (cell_within s low)) (left s)
+      by false e = let high : sectors ≤ s = grind (arith, nat_tests, e) in subst (λ (c : Cell). IsAmong (possible c) []) (sym (cell_past s high)) (inl refl)
+
+  pub cut_same : (image : Image) (s : ℕ) → s < sectors → image s ≡ cut image s
+  cut_same image s low = sym (ap (λ b. if b then image s else []) (let e : nat_lt s sectors ≡ true = grind (arith, nat_tests, low) in e))
+
+-- ---- what is shown of the states holds of their cells
+
+-- one image goes on from another
+abbrev pub ImageGoes : ℕ → (PathNodes → PathNodes → Type 0) → Image → Image → Type 0
+ImageGoes sectors Goes before image = (tree : ImageTree) → opens sectors before ≡ Ok tree → OpensTo (Goes (nodes_of tree)) sectors image
+
+-- an image opens by the sectors of the disk
+abbrev pub OpensWithin : ℕ → State → Type 0
+OpensWithin sectors state = (image other : Image) → IsImage state image → ((s : ℕ) → s < sectors → image s ≡ other s) → opens sectors other ≡ opens sectors image
+
+module _ (sectors : ℕ) (old new : State) (one other : Cells) (a : AreCellsOf sectors old one) (b : AreCellsOf sectors new other) (was : OpensWithin sectors old) (is : OpensWithin sectors new) where
+  opens_whole : (image : Image) → IsImage (state_of other) image → opens (length other) image ≡ opens sectors (whole sectors new other b image)
+  opens_whole image left = ap (λ n. opens n image) b.size ∙ is (whole sectors new other b image) image (whole_left sectors new other b image left) (whole_same sectors new other b image)
+
+  opens_cut : (image : Image) → IsImage old image → opens (length one) (cut sectors old one a image) ≡ opens sectors image
+  opens_cut image left = ap (λ n. opens n (cut sectors old one a image)) a.size ∙ was image (cut sectors old one a image) left (cut_same sectors old one a image)
+
+  pub cells_open_as : ((image : Image) → IsImage new image → (before : Image) × IsImage old before × (opens sectors image ≡ opens sectors before)) → OpensAs one other
+  cells_open_as step image left =
+      let x = step (whole sectors new other b image) (whole_left sectors new other b image left) in
+      (cut sectors old one a x.0, cut_left sectors old one a x.0 x.1, opens_whole image left ∙ x.2 ∙ sym (opens_cut x.0 x.1))
+
+  module _ (Goes : PathNodes → PathNodes → Type 0) where
+    goes_on : (image before : Image) → IsImage (state_of other) image → IsImage old before → ImageGoes sectors Goes before (whole sectors new other b image)
+        → (tree : ImageTree) → opens (length one) (cut sectors old one a before) ≡ Ok tree → OpensTo (Goes (nodes_of tree)) (length other) image
+    goes_on image before left from goes tree opened =
+        let there = goes tree (sym (opens_cut before from) ∙ opened) in (there.0, opens_whole image left ∙ there.1, there.2)
+
+    pub cells_go : ((image : Image) → IsImage new image → (before : Image) × IsImage old before × ImageGoes sectors Goes before image) → TreesGo Goes one other
+    cells_go step image left =
+        let x = step (whole sectors new other b image) (whole_left sectors new other b image left) in
+        (cut sectors old one a x.0, cut_left sectors old one a x.0 x.1, goes_on image x.0 left x.1 x.2)
+
+    pub cells_may_go : ((image : Image) → IsImage new image → (before : Image) × IsImage old before × ((opens sectors image ≡ opens sectors before) ⊎ ImageGoes sectors Goes before image)) → TreesMayGo Goes one other
+    cells_may_go step image left =
+        let x = step (whole sectors new other b image) (whole_left sectors new other b image left) in
+        (cut sectors old one a x.0, cut_left sectors old one a x.0 x.1, ⊎_elim (λ same. inl (opens_whole image left ∙ same ∙ sym (opens_cut x.0 x.1))) (λ goes. inr (goes_on image x.0 left x.1 goes)) x.2)

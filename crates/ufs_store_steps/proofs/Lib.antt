@@ -1,0 +1,10 @@
+pub mod Within
+pub mod Cells
+pub mod Shows
+pub mod Stands
+pub mod Quiet
+pub mod CommitSteps
+pub mod FileSteps
+pub mod NameSteps
+pub mod WriteSteps
+pub mod Runs

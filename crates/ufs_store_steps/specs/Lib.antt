@@ -1,0 +1,4 @@
+pub mod Cells
+pub mod Files
+pub mod Steps
+pub mod Runs

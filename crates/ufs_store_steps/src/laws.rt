@@ -1,0 +1,60 @@
+// What the store's calls leave, by the ledger, is what marks of the sound state ask for: each law is the contract of a
+// function that does nothing.
+ghost use Rattle.ufs_store_steps.specs.Runs.{CheckpointRuns, FileCommitRuns, LastIsPassed, NameCommitRuns, QuietRuns, WriteRuns};
+ghost use Rattle.ufs_store_steps.specs.Steps.{BlocksRead, CellsAreThere, CheckpointsOpenAlike, EmptiedOpensAlike, FileCommitsGo, FileCommitsMayGo, FilesCommitBytes, NameCommitsGo, NameCommitsMayGo, QuietCallsOpenAlike, StoredHasFiles, WritesGo};
+
+use ufs_layout::Geometry;
+
+/// A disk's state as the sound state has it, and which files it has.
+pub fn cell_law(geometry: &Geometry)
+    ensures cells { CellsAreThere }
+    ensures blocks { BlocksRead }
+    ensures files { StoredHasFiles geometry.now }
+{
+    let _geometry = geometry;
+}
+
+/// A read, a barrier and a checkpoint, passed or failed, and each moment of them.
+pub fn checkpoint_step_law(geometry: &Geometry)
+    ensures quiet { QuietCallsOpenAlike geometry.now }
+    ensures checkpoint { CheckpointsOpenAlike geometry.now }
+    ensures emptied { EmptiedOpensAlike geometry.now }
+{
+    let _geometry = geometry;
+}
+
+/// A write, passed or failed, and each moment of it.
+pub fn write_step_law(geometry: &Geometry)
+    ensures { WritesGo geometry.now }
+{
+    let _geometry = geometry;
+}
+
+/// A commit of a file: what it commits, what it leaves on the way or where it failed, and where it passed.
+pub fn file_step_law(geometry: &Geometry)
+    ensures bytes { FilesCommitBytes geometry.now }
+    ensures tried { FileCommitsMayGo geometry.now }
+    ensures done { FileCommitsGo geometry.now }
+{
+    let _geometry = geometry;
+}
+
+/// A commit of names: what it leaves on the way or where it failed, and where it passed.
+pub fn name_step_law(geometry: &Geometry)
+    ensures tried { NameCommitsMayGo geometry.now }
+    ensures done { NameCommitsGo geometry.now }
+{
+    let _geometry = geometry;
+}
+
+/// The same at each state that a call passes, on a disk that keeps its moments.
+pub fn run_step_law(geometry: &Geometry)
+    ensures last { LastIsPassed }
+    ensures quiet { QuietRuns geometry.now }
+    ensures checkpoint { CheckpointRuns geometry.now }
+    ensures write { WriteRuns geometry.now }
+    ensures file { FileCommitRuns geometry.now }
+    ensures names { NameCommitRuns geometry.now }
+{
+    let _geometry = geometry;
+}
