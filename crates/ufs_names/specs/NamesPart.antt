@@ -74,6 +74,8 @@ IsNamedOnce paths = (p q : List ℕ) (f : ℕ) → map.get paths p ≡ Some (nod
 pub record AreInodesOf (tree : NameTable) (held : Holdings) : Type 0 where
   pub inode : (f : ℕ) (h : Holding) → map.get held f ≡ Some h → file_at tree h.inode ≡ Some f
   pub live : (i f : ℕ) → file_at tree i ≡ Some f → IsSome (map.get held f)
+  -- and no other inode is the file's
+  pub own : (i f : ℕ) → file_at tree i ≡ Some f → (holding_of held f).inode ≡ i
 
 -- The part is that of the tree: joined with the descriptors of the clients and the bytes of the files it is the tree.
 pub record IsPartOf (n : NamesPart) (t : PosixTree) : Type 0 where

@@ -1,13 +1,13 @@
 -- Blocks of directories, of files and of the pool, and why a request of names gets none.
-use Rattle.std.specs.Prelude.{ℕ, ◌≡◌, ◌⊎◌, ◌↔◌, None, true, false, ⊤, ⊥}
+use Rattle.std.specs.Prelude.{ℕ, ◌≡◌, ◌⊎◌, ◌↔◌, None, true, false, ⊤}
 use Rattle.std.specs.FinSet as set
 use Rattle.ufs_bitmap.specs.Blocks.{BlockSet}
 use Rattle.ufs_bitmap.specs.Taking.{has}
 use Rattle.ufs_dirs.specs.Directory.{has_block}
 use Rattle.ufs_dir_tree.specs.DirTable.{DirTable, blocks_at, found_at}
-use Rattle.ufs_dir_tree.specs.DirCalls as dirs
+use Rattle.ufs_dir_tree.specs.DirCalls as dir_calls
 use Rattle.ufs_dir_tree.specs.DirCalls.{names_above, LacksRoom, LacksSpace}
-use Rattle.ufs_files.specs.Files as files
+use Rattle.ufs_files.specs.Files as file_set
 use Rattle.ufs_files.specs.Files.{Files}
 use Rattle.ufs_model.specs.Paths.{components}
 use Rattle.ufs_model.specs.declared.data.Excuse.{Excuse}
@@ -19,13 +19,13 @@ use Rattle.ufs_model.specs.declared.data.Op.TheVariants as op
 
 -- No block is of two of these: of a directory, of a file, and of the pool.
 pub record AreApart (t : DirTable) (fs : Files) (pool : BlockSet) : Type 0 where
-  pub dirs : dirs.IsApart t pool
-  pub files : files.AreApart fs pool
-  pub mixed : (i f b : ℕ) → has_block (blocks_at t i) b ≡ true → has (files.blocks_at fs f) b ≡ false
+  pub dirs : dir_calls.IsApart t pool
+  pub files : file_set.AreApart fs pool
+  pub mixed : (i f b : ℕ) → has_block (blocks_at t i) b ≡ true → has (file_set.blocks_at fs f) b ≡ false
 
 -- a directory, a file or the pool has the block
 abbrev pub HasBlock : DirTable → Files → BlockSet → ℕ → Type 0
-HasBlock t fs pool b = (set.contains pool b ≡ true) ⊎ (((i : ℕ) × (has_block (blocks_at t i) b ≡ true)) ⊎ files.HasBlock fs b)
+HasBlock t fs pool b = (set.contains pool b ≡ true) ⊎ (((i : ℕ) × (has_block (blocks_at t i) b ≡ true)) ⊎ file_set.HasBlock fs b)
 
 -- Together they have the blocks that they had.
 abbrev pub HaveTheSame : DirTable → Files → BlockSet → DirTable → Files → BlockSet → Type 0

@@ -1,18 +1,17 @@
 -- One step of the names' part, with the files that it is lent and the pool.
 use Rattle.std.specs.Prelude.{ℕ, ◌≡◌, ◌≢◌, ◌+◌, List, Bool, true, false, Option, Some, None, IsSome, unwrap_or, if◌then◌else◌}
 use Rattle.std.specs.FinMap as map
-use Rattle.std.specs.FinSet as set
 use Rattle.ufs_bitmap.specs.Blocks.{BlockSet}
-use Rattle.ufs_dir_tree.specs.DirTable as dirs
 use Rattle.ufs_dir_tree.specs.declared.found.Found.{Found}
 use Rattle.ufs_dir_tree.specs.declared.found.Found.TheVariants.{Dir, File}
 use Rattle.ufs_file.specs.Hand.{FileState}
-use Rattle.ufs_files.specs.Files as files
 use Rattle.ufs_files.specs.Files.{Files}
 use Rattle.ufs_model.specs.PosixTree.{PosixTree}
 use Rattle.ufs_model.specs.Refusals.{refusal}
 use Rattle.ufs_model.specs.declared.data.Ask.{Ask}
-use Rattle.ufs_name_tree.specs.NameTable.{NameTable, file_at, node_at}
+use Rattle.ufs_model.specs.Walk.{file_of}
+use Rattle.ufs_name_tree.specs.NameTable.{file_at, node_at}
+use Rattle.ufs_name_tree.specs.Nodes.{SetsNode}
 use Rattle.ufs_names.specs.NamesPart.{NamesPart, Holdings, unheld, holding_of, with_holder, without_name, is_kept, settled}
 use Rattle.ufs_names.specs.Calls.{HaveInodes, no_bytes}
 use Rattle.ufs_names.specs.Space.{AreApart, HaveTheSame}
@@ -30,33 +29,43 @@ pub record KeepsSpace (old new : NamesPart) (fs fs' : Files) (pool pool' : Block
 
 -- ---- a file goes that nothing keeps any more
 
--- A file of which this is known now, and which something keeps: nothing else changes.
-pub record StaysWith (old new : NamesPart) (fs fs' : Files) (pool pool' : BlockSet) : Type 0 where
-  pub tree : new.tree ≡ old.tree
+-- No inode gets or loses a number, and the files that are here stay.
+pub record StaysWith (old new : NamesPart) (fs fs' : Files) : Type 0 where
+  pub numbers : (i : ℕ) → file_at new.tree i ≡ file_at old.tree i
   pub files : fs' ≡ fs
-  pub pool_is : pool' ≡ pool
 
--- It goes: its hand, its blocks and its inode.
-pub record GoesAway (old new : NamesPart) (fs fs' : Files) (pool pool' : BlockSet) (file inode : ℕ) : Type 0 where
+-- The file is no more: its inode has no number, and its hand isn't here.
+pub record GoesAway (old new : NamesPart) (fs fs' : Files) (file inode : ℕ) : Type 0 where
   pub files : fs' ≡ map.remove fs file
-  pub pool_is : pool' ≡ set.union pool (set.from_list (files.blocks_at fs file))
-  pub inode_gone : file_at new.tree inode ≡ None
+  pub unnumbered : file_at new.tree inode ≡ None
   pub others : (j : ℕ) → j ≢ inode → file_at new.tree j ≡ file_at old.tree j
-  pub free : new.tree.dirs.free ≡ set.insert old.tree.dirs.free inode
-  pub blocks : (i : ℕ) → dirs.blocks_at new.tree.dirs i ≡ dirs.blocks_at old.tree.dirs i
 
--- This is known of the file now.
-pub record Settles (old new : NamesPart) (fs fs' : Files) (pool pool' : BlockSet) (file : ℕ) (h : Holding) : Type 0 where
-  pub nodes : (names : List (List ℕ)) → node_at new.tree names ≡ node_at old.tree names
+-- This is known of the file now; where nothing keeps it, it goes.
+pub record Settles (old new : NamesPart) (fs fs' : Files) (file : ℕ) (h : Holding) : Type 0 where
   pub held : new.held ≡ settled old.held file h
   pub next : new.next ≡ old.next
-  pub kept : is_kept h ≡ true → StaysWith old new fs fs' pool pool'
-  pub gone : is_kept h ≡ false → GoesAway old new fs fs' pool pool' file h.inode
+  pub kept : is_kept h ≡ true → StaysWith old new fs fs'
+  pub gone : is_kept h ≡ false → GoesAway old new fs fs' file h.inode
 
--- the same for the file of what had a name
-abbrev pub SettlesNode : NamesPart → NamesPart → Files → Files → BlockSet → BlockSet → Option ℕ → Type 0
-SettlesNode old new fs fs' pool pool' None = (new ≡ old) × (StaysWith old new fs fs' pool pool')
-SettlesNode old new fs fs' pool pool' (Some file) = Settles old new fs fs' pool pool' file (without_name (holding_of old.held file))
+-- No file comes or goes.
+pub record KeepsFiles (old new : NamesPart) (fs fs' : Files) : Type 0 where
+  pub held : new.held ≡ old.held
+  pub next : new.next ≡ old.next
+  pub stays : StaysWith old new fs fs'
+
+-- the file of what had a name has none now
+abbrev pub LosesName : NamesPart → NamesPart → Files → Files → Option ℕ → Type 0
+LosesName old new fs fs' None = KeepsFiles old new fs fs'
+LosesName old new fs fs' (Some file) = Settles old new fs fs' file (without_name (holding_of old.held file))
+
+-- where that file goes, its hand is here
+abbrev pub GoesHere : NamesPart → Files → Option ℕ → Type 0
+GoesHere n fs lost = (f : ℕ) → lost ≡ Some f → is_kept (without_name (holding_of n.held f)) ≡ false → IsSome (map.get fs f)
+
+-- Nothing stands at the names any more, and its file lost its name.
+pub record Removes (old new : NamesPart) (fs fs' : Files) (names : List (List ℕ)) : Type 0 where
+  pub nodes : SetsNode (node_at old.tree) (node_at new.tree) names None
+  pub file : LosesName old new fs fs' (file_of (node_at old.tree names))
 
 -- ---- opening
 

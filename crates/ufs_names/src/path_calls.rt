@@ -33,7 +33,7 @@ impl Names {
     ghost use Rattle.ufs_names.specs.NamesPart.{IsPartOf, AreInodesOf};
     ghost use Rattle.ufs_names.specs.PathCalls.{path_asked, IsAllowed, IsStat, IsList};
     ghost use Rattle.ufs_names.specs.Space.{AreApart, IsCause};
-    ghost use Rattle.ufs_names.specs.Steps.{KeepsSpace, MayServe, SettlesNode};
+    ghost use Rattle.ufs_names.specs.Steps.{GoesHere, KeepsSpace, MayServe, Removes};
 
     /// A request on one path, whose text isn't refused.
     pub(crate) fn serve_path(
@@ -186,7 +186,7 @@ impl Names {
         requires may_go { MayGo self.old.tree.dirs path.now }
         requires found { look.found ≡ found_at self.old.tree.dirs path.now }
         requires inodes { AreInodesOf self.old.tree self.old.held }
-        requires here { GoesHere self.old files.old look.found }
+        requires here { GoesHere self.old files.old (file_of (node_at self.old.tree path.now)) }
         requires apart { AreApart self.old.tree.dirs files.old pool.old }
         ensures removed { Removes self.old self.new files.old files.new path.now }
         ensures space { KeepsSpace self.old self.new files.old files.new pool.old pool.new }
