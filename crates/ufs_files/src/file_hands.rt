@@ -1,5 +1,8 @@
 // Files by their numbers.
 ghost use Rattle.std.specs.Prelude.{◌≡◌};
+ghost use Rattle.std.specs.FinSet as set;
+ghost use Rattle.ufs_bitmap.specs.Taking.{IsApart, set_of};
+ghost use Rattle.ufs_extent.specs.Runs.{blocks_of};
 
 use std::alloc::Global;
 use std::collections::BTreeMap;
@@ -19,9 +22,14 @@ pub struct FileHands {
 impl Model for FileHands {
     ghost use Rattle.std.specs.Ordering.{nat_cmp};
     ghost use Rattle.ufs_calls.specs.Seen.{seen};
+    ghost use Rattle.std.specs.Coded.{coded_ℕ};
+    ghost use Rattle.std.specs.FinMap as map;
+    ghost use Rattle.ufs_file.specs.contracts.hand.FileHand as hand;
     ghost use Rattle.ufs_files.specs.Files.{Files, AreNumbered};
 
     ghost Value = { Files };
+
+    ghost coded = { map.code coded_ℕ hand.the_row.coded };
 
     ghost view = { λ m. seen nat_cmp (λ k. k) m.hands };
 
@@ -71,7 +79,9 @@ impl FileHands {
         ensures ok { OnOk result (self.new ≡ map.insert self.old file (record { file = file; inode = inode; extents = []; content = no_content })) }
         ensures err { OnErr result (self.new ≡ self.old) }
     {
-        todo!()
+        let hand = FileHand::make(self.alloc, file, inode)?;
+        self.replace(file, hand)?;
+        Ok(())
     }
 
     /// Cuts the file to no byte. Its blocks are the pool's.
@@ -83,7 +93,15 @@ impl FileHands {
         ensures err { OnErr result (self.new ≡ self.old) }
         ensures err_pool { OnErr result (pool.new ≡ pool.old) }
     {
-        todo!()
+        let Some(hand) = self.get(file) else {
+            unreachable!()
+        };
+        let fresh = FileHand::make(self.alloc, file, hand.inode())?;
+        match self.replace(file, fresh) {
+            Ok(Some(old)) => give_back(old, pool),
+            _ => unreachable!(),
+        }
+        Ok(())
     }
 
     /// The file is no more, and its blocks are the pool's. Takes no memory.
@@ -93,7 +111,10 @@ impl FileHands {
         ensures gone { self.new ≡ map.remove self.old file }
         ensures pool { pool.new ≡ set.union pool.old (set.from_list (blocks_at self.old file)) }
     {
-        todo!()
+        let Some(hand) = self.take(file) else {
+            unreachable!()
+        };
+        give_back(hand, pool);
     }
 
     /// Serves a request on a descriptor of a file that is here, as `FileHand::apply` does.
@@ -116,6 +137,39 @@ impl FileHands {
         ensures pool { is_excused result.entry.reply ≡ true → pool.new ≡ pool.old }
         ensures desc { is_excused result.entry.reply ≡ true → result.desc ≡ ask.desc }
     {
-        todo!()
+        let Some(hand) = self.hands.get_mut(&file) else {
+            unreachable!()
+        };
+        hand.apply(ask, by, ticket, pool)
     }
+
+    // Puts a hand in the place of the one that was there, which is the answer.
+    fn replace(&mut self, file: u32, hand: FileHand) -> Result<Option<FileHand>, Memory>
+        requires number { hand.file ≡ file }
+        ensures ok { OnOk result (self.new ≡ map.insert self.old file hand) }
+        ensures old { IfOk result (λ old. old ≡ map.get self.old file) }
+        ensures absent { OnErr result (map.get self.old file ≡ None) }
+        ensures err { OnErr result (self.new ≡ self.old) }
+    {
+        let old = self.hands.insert(file, hand)?;
+        Ok(old)
+    }
+
+    // Takes the hand of this number out.
+    fn take(&mut self, file: u32) -> Option<FileHand>
+        ensures value { result ≡ map.get self.old file }
+        ensures gone { self.new ≡ map.remove self.old file }
+    {
+        let _count = self.hands.len();
+        self.hands.remove(&file)
+    }
+}
+
+// The file's blocks are the pool's, and the hand is no more.
+fn give_back(hand: FileHand, pool: &mut Pool)
+    requires { IsApart pool.old (blocks_of hand.extents) }
+    ensures { pool.new ≡ set.union pool.old (set_of hand.extents) }
+{
+    let runs = hand.drop_blocks();
+    give_runs(pool, runs.as_slice());
 }
