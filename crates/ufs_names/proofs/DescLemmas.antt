@@ -37,7 +37,7 @@ module _ (n : NamesPart) (t u : PosixTree) (part : IsPartOf n t) (tree : IsTree 
   pub part_like : IsPartOf (record n { bytes = bytes }) u
   part_like = record {
     tree = tree;
-    paths = subst (Stands n.dirs) (sym like.paths) part.paths;
+    paths = subst (Stands (node_at n.tree)) (sym like.paths) part.paths;
     once = subst IsNamedOnce (sym like.paths) part.once;
     bytes = is;
     next = part.next ∙ sym like.next;

@@ -18,11 +18,12 @@ use Rattle.ufs_model.specs.Paths.{component_refusal, components_refusal, whole_p
 use Rattle.ufs_model.specs.PosixTree.{Paths, IsNamespace, stands, has_dir}
 use Rattle.ufs_model.specs.declared.data.Errno.{Errno}
 use Rattle.ufs_dirs.specs.Names.{AreNamesIn}
-use Rattle.ufs_names.specs.DirCalls.{IsBare}
-use Rattle.ufs_names.specs.DirTable.{DirTable, IsDirTable, slots_at, found_at, found_of, node_of, step}
+use Rattle.ufs_dir_tree.specs.DirCalls.{IsBare}
+use Rattle.ufs_dir_tree.specs.DirTable.{DirTable, IsDirTable, slots_at, found_at, found_of, step}
+use Rattle.ufs_name_tree.specs.NameTable.{node_of}
 use Rattle.ufs_names.specs.Stands.{Stands}
-use Rattle.ufs_names.specs.declared.found.Found.{Found}
-use Rattle.ufs_names.specs.declared.found.Found.TheVariants.{Dir}
+use Rattle.ufs_dir_tree.specs.declared.found.Found.{Found}
+use Rattle.ufs_dir_tree.specs.declared.found.Found.TheVariants.{Dir}
 use Rattle.ufs_path.specs.Names.{IsName}
 use Rattle.ufs_dirs.proofs.Facts.{same_names_in}
 use Rattle.ufs_names.proofs.PathLemmas.{name_of, entry_path, is_entry, name_of_entry, entry_is, names_rising, any_mapped}
@@ -34,7 +35,7 @@ plain_name name h = record { some = lt-ltb 0 (length name) h.some; free = h.no_s
 allowed_name : (name : List ℕ) → IsName name → component_refusal name ≡ None
 allowed_name name h = rw (h.printable, h.no_dots, le-ltb 58 (length name) h.short) refl
 
-some_mapped : (o : Option DentryForm) → is_some (option_map node_of (option_map found_of o)) ≡ is_some o
+some_mapped : (o : Option DentryForm) → is_some (option_map (node_of n.tree) (option_map found_of o)) ≡ is_some o
 some_mapped None = refl
 some_mapped (Some e) = refl
 
@@ -44,7 +45,7 @@ module _ (t : DirTable) (paths : Paths) (tree : IsNamespace (stands paths) (has_
     stands_named : (name : List ℕ) → IsPlain name → component_refusal name ≡ None → stands paths (entry_path names name) ≡ is_some (entry_of (slots_at t i) name)
     stands_named name one pass =
         ap is_some (at (names ++ name ∷ []) (plain_append names (name ∷ []) plain (one, tt)) (allowed_append names (name ∷ []) allowed (ap (λ (o : Option Errno). first_of o None) pass)))
-        ∙ ap (λ (o : Option Found). is_some (option_map node_of o)) (walk-append t (Some (Dir 0)) names (name ∷ []) ∙ ap (λ o. step t o name) dir)
+        ∙ ap (λ (o : Option Found). is_some (option_map (node_of n.tree) o)) (walk-append t (Some (Dir 0)) names (name ∷ []) ∙ ap (λ o. step t o name) dir)
         ∙ some_mapped (entry_of (slots_at t i) name)
 
     -- a name in its slots is an entry's

@@ -19,8 +19,9 @@ use Rattle.ufs_model.specs.declared.data.Op.TheVariants as op
 use Rattle.ufs_model.proofs.Facts.Lookups.{same_some, inserted_else}
 use Rattle.ufs_model.proofs.Facts.Live.{held_has, number_is}
 use Rattle.ufs_model.proofs.Facts.Held.{holder}
-use Rattle.ufs_names.specs.DirTable.{DirTable, node_at}
-use Rattle.ufs_names.specs.DirCalls.{SetsNode}
+use Rattle.ufs_dir_tree.specs.DirTable.{DirTable}
+use Rattle.ufs_name_tree.specs.NameTable.{node_at}
+use Rattle.ufs_name_tree.specs.Nodes.{SetsNode}
 use Rattle.ufs_names.specs.NamesPart.{NamesPart, IsPartOf, holding_of, is_kept, unheld, with_holder}
 use Rattle.ufs_names.specs.declared.holding.Holding.{Holding}
 use Rattle.ufs_names.proofs.NameLists.{names_of}
@@ -102,12 +103,12 @@ module _ (n : NamesPart) (t : PosixTree) (part : IsPartOf n t) (client fd : ℕ)
     abbrev new_holding : Holding
     new_holding = with_holder (record unheld { linked = true }) client
 
-    made_next : SetsNode (node_at n.dirs) (node_at d) (components path) (Some (File t.next)) → IsTree (with_fd (with_file t (whole_of path)) client fd (desc_of m (Some t.next)))
+    made_next : SetsNode (node_at n.tree) (node_at d) (components path) (Some (File t.next)) → IsTree (with_fd (with_file t (whole_of path)) client fd (desc_of m (Some t.next)))
         → IsPartOf (record n { dirs = d; held = map.insert n.held t.next new_holding; bytes = map.insert n.bytes t.next []; next = t.next + 1 })
         (with_fd (with_file t (whole_of path)) client fd (desc_of m (Some t.next)))
     made_next sets tree =
         part_known (record n { dirs = d; bytes = map.insert n.bytes t.next []; next = t.next + 1 }) (with_fd (with_file t (whole_of path)) client fd (desc_of m (Some t.next))) t.next new_holding (record {
-          paths = stands_put n.dirs d t.paths part.paths (components path) (names_of path text) (File t.next) sets;
+          paths = stands_put (node_at n.tree) d t.paths part.paths (components path) (names_of path text) (File t.next) sets;
           once = once_file t.paths part.once (whole_of path) t.next (next_unnamed t part.tree);
           bytes = ap (λ (b : Files). map.insert b t.next []) part.bytes;
           next = refl;
@@ -126,13 +127,13 @@ module _ (n : NamesPart) (t : PosixTree) (part : IsPartOf n t) (client fd : ℕ)
             client_else (replicate 16 false) client c true not ∙ nobody 16 c ∙ sym (next_unheld t part.tree c)
             ∙ sym (holds_else t.fds client fd (desc_of m (Some t.next)) c t.next (λ is e. not is) free)
 
-    made_file : (k : ℕ) → k ≡ t.next → SetsNode (node_at n.dirs) (node_at d) (components path) (Some (File k)) → IsTree (with_fd (with_file t (whole_of path)) client fd (desc_of m (Some t.next)))
+    made_file : (k : ℕ) → k ≡ t.next → SetsNode (node_at n.tree) (node_at d) (components path) (Some (File k)) → IsTree (with_fd (with_file t (whole_of path)) client fd (desc_of m (Some t.next)))
         → IsPartOf (record n { dirs = d; held = map.insert n.held k new_holding; bytes = map.insert n.bytes k []; next = k + 1 })
         (with_fd (with_file t (whole_of path)) client fd (desc_of m (Some t.next)))
     made_file k is sets tree =
         subst (λ (k : ℕ). IsPartOf (record n { dirs = d; held = map.insert n.held k new_holding; bytes = map.insert n.bytes k []; next = k + 1 })
         (with_fd (with_file t (whole_of path)) client fd (desc_of m (Some t.next)))) (sym is)
-        (made_next (subst (λ (k : ℕ). SetsNode (node_at n.dirs) (node_at d) (components path) (Some (File k))) is sets) tree)
+        (made_next (subst (λ (k : ℕ). SetsNode (node_at n.tree) (node_at d) (components path) (Some (File k))) is sets) tree)
 
 -- ---- a path is opened
 
@@ -153,23 +154,23 @@ module _ (keeps : KeepsTrees) (n : NamesPart) (t : PosixTree) (client : ℕ) (pa
   tree : IsTree (open_at (walk.node_at t.paths path))
   tree = tree_after keeps t client (op.OpenFile path read write creat excl trunc append) part.tree e
 
-  at : (o : Option Node) → node_at n.dirs (components path) ≡ o → walk.node_at t.paths path ≡ o
-  at o is = met_at n.dirs t.paths part.paths path text ∙ is
+  at : (o : Option Node) → node_at n.tree (components path) ≡ o → walk.node_at t.paths path ≡ o
+  at o is = met_at (node_at n.tree) t.paths part.paths path text ∙ is
 
-  by_node : (n' : NamesPart) (o : Option Node) → node_at n.dirs (components path) ≡ o → (IsTree (open_at o) → IsPartOf n' (open_at o)) → IsPartOf n' (open_at (walk.node_at t.paths path))
+  by_node : (n' : NamesPart) (o : Option Node) → node_at n.tree (components path) ≡ o → (IsTree (open_at o) → IsPartOf n' (open_at o)) → IsPartOf n' (open_at (walk.node_at t.paths path))
   by_node n' o is goes =
       subst (λ (o : Option Node). IsPartOf n' (open_at o)) (sym (at o is)) (goes (subst (λ (o : Option Node). IsTree (open_at o)) (at o is) tree))
 
-  pub part_open_dir : node_at n.dirs (components path) ≡ Some Dir → IsPartOf n (change t client (op.OpenFile path read write creat excl trunc append))
+  pub part_open_dir : node_at n.tree (components path) ≡ Some Dir → IsPartOf n (change t client (op.OpenFile path read write creat excl trunc append))
   part_open_dir is = by_node n (Some Dir) is (opened_dir n t part client (new_fd t client) free mode)
 
-  pub part_open_file : (f : ℕ) → node_at n.dirs (components path) ≡ Some (File f) → length (holding_of n.held f).clients ≡ 16 → client < 16
+  pub part_open_file : (f : ℕ) → node_at n.tree (components path) ≡ Some (File f) → length (holding_of n.held f).clients ≡ 16 → client < 16
       → IsPartOf (record n { held = map.insert n.held f (with_holder (holding_of n.held f) client); bytes = cond {A = Files} trunc (map.insert n.bytes f []) n.bytes }) (change t client (op.OpenFile path read write creat excl trunc append))
   part_open_file f is sixteen less =
       by_node (record n { held = map.insert n.held f (with_holder (holding_of n.held f) client); bytes = cond {A = Files} trunc (map.insert n.bytes f []) n.bytes }) (Some (File f)) is
       (opened_file n t part client (new_fd t client) free mode f (omega (arith, sixteen)) trunc)
 
-  pub part_open_new : (d : DirTable) → node_at n.dirs (components path) ≡ None → client < 16 → SetsNode (node_at n.dirs) (node_at d) (components path) (Some (File n.next))
+  pub part_open_new : (d : DirTable) → node_at n.tree (components path) ≡ None → client < 16 → SetsNode (node_at n.tree) (node_at d) (components path) (Some (File n.next))
       → IsPartOf (record n { dirs = d; held = map.insert n.held n.next (with_holder (record unheld { linked = true }) client); bytes = map.insert n.bytes n.next []; next = n.next + 1 }) (change t client (op.OpenFile path read write creat excl trunc append))
   part_open_new d is less sets =
       by_node (record n { dirs = d; held = map.insert n.held n.next (with_holder (record unheld { linked = true }) client); bytes = map.insert n.bytes n.next []; next = n.next + 1 }) None is

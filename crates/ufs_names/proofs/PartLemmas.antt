@@ -14,8 +14,9 @@ use Rattle.ufs_model.specs.declared.data.Op.TheVariants as op
 use Rattle.ufs_model.specs.declared.data.Node.TheVariants.{Dir}
 use Rattle.ufs_model.proofs.Facts.Pieces.{bytes_same}
 use Rattle.ufs_model.proofs.Facts.Renames.{MayRename}
-use Rattle.ufs_names.specs.DirTable.{DirTable, node_at}
-use Rattle.ufs_names.specs.DirCalls.{SetsNode, MovesNodes}
+use Rattle.ufs_dir_tree.specs.DirTable.{DirTable}
+use Rattle.ufs_name_tree.specs.NameTable.{node_at}
+use Rattle.ufs_name_tree.specs.Nodes.{SetsNode, MovesNodes}
 use Rattle.ufs_names.specs.NamesPart.{NamesPart, IsPartOf, settled_node}
 use Rattle.ufs_names.proofs.NameLists.{names_of}
 use Rattle.ufs_names.proofs.WalkLinks.{met, met_at}
@@ -38,46 +39,46 @@ goes_on n t client asked request is e part =
 module _ (keeps : KeepsTrees) (n : NamesPart) (t : PosixTree) (client : ℕ) (part : IsPartOf n t) (d : DirTable) where
   -- ---- a directory comes or goes
 
-  pub part_mkdir : (path : List ℕ) → refusal t client (op.Mkdir path) ≡ None → SetsNode (node_at n.dirs) (node_at d) (components path) (Some Dir) → IsPartOf (record n { dirs = d }) (change t client (op.Mkdir path))
+  pub part_mkdir : (path : List ℕ) → refusal t client (op.Mkdir path) ≡ None → SetsNode (node_at n.tree) (node_at d) (components path) (Some Dir) → IsPartOf (record n { tree = d }) (change t client (op.Mkdir path))
   part_mkdir path e sets =
       let may = mkdir_allowed t client path e in
       part_paths n t part d (map.insert t.paths (whole_of path) Dir)
-      (stands_put n.dirs d t.paths part.paths (components path) (names_of path may.0.text) Dir sets)
+      (stands_put (node_at n.tree) d t.paths part.paths (components path) (names_of path may.0.text) Dir sets)
       (once_dir t.paths part.once (whole_of path))
       (λ f. named_dir t.paths (whole_of path) f may.1)
       (tree_after keeps t client (op.Mkdir path) part.tree e)
 
   -- a name goes, and its file where nothing keeps it
-  part_without : (path : List ℕ) → text_refusal path ≡ None → IsTree (without_path t (whole_of path)) → SetsNode (node_at n.dirs) (node_at d) (components path) None
-      → IsPartOf (settled_node (record n { dirs = d }) (file_of (map.get t.paths (whole_of path)))) (without_path t (whole_of path))
+  part_without : (path : List ℕ) → text_refusal path ≡ None → IsTree (without_path t (whole_of path)) → SetsNode (node_at n.tree) (node_at d) (components path) None
+      → IsPartOf (settled_node (record n { tree = d }) (file_of (map.get t.paths (whole_of path)))) (without_path t (whole_of path))
   part_without path text tree sets =
       part_unnamed n t part d (map.remove t.paths (whole_of path))
-      (stands_gone n.dirs d t.paths part.paths (components path) (names_of path text) sets)
+      (stands_gone (node_at n.tree) d t.paths part.paths (components path) (names_of path text) sets)
       (once_gone t.paths part.once (whole_of path))
       (file_of (map.get t.paths (whole_of path)))
       (λ f stood. unnamed_gone t.paths (whole_of path) f part.once stood)
       (λ f other. named_left t.paths (whole_of path) f other)
       tree
 
-  pub part_rmdir : (path : List ℕ) → refusal t client (op.Rmdir path) ≡ None → SetsNode (node_at n.dirs) (node_at d) (components path) None → IsPartOf (record n { dirs = d }) (change t client (op.Rmdir path))
+  pub part_rmdir : (path : List ℕ) → refusal t client (op.Rmdir path) ≡ None → SetsNode (node_at n.tree) (node_at d) (components path) None → IsPartOf (record n { tree = d }) (change t client (op.Rmdir path))
   part_rmdir path e sets =
       let may = rmdir_allowed t client path e in
-      subst (λ o. IsPartOf (settled_node (record n { dirs = d }) (file_of o)) (without_path t (whole_of path))) may.2
+      subst (λ o. IsPartOf (settled_node (record n { tree = d }) (file_of o)) (without_path t (whole_of path))) may.2
       (part_without path may.0.text (tree_after keeps t client (op.Rmdir path) part.tree e) sets)
 
   -- ---- a file's name goes
 
-  pub part_unlink : (path : List ℕ) → refusal t client (op.Unlink path) ≡ None → SetsNode (node_at n.dirs) (node_at d) (components path) None
-      → IsPartOf (settled_node (record n { dirs = d }) (file_of (node_at n.dirs (components path)))) (change t client (op.Unlink path))
+  pub part_unlink : (path : List ℕ) → refusal t client (op.Unlink path) ≡ None → SetsNode (node_at n.tree) (node_at d) (components path) None
+      → IsPartOf (settled_node (record n { tree = d }) (file_of (node_at n.tree (components path)))) (change t client (op.Unlink path))
   part_unlink path e sets =
       let may = unlink_allowed t client path e in
-      subst (λ o. IsPartOf (settled_node (record n { dirs = d }) (file_of o)) (without_path t (whole_of path))) (met_at n.dirs t.paths part.paths path may.0.text)
+      subst (λ o. IsPartOf (settled_node (record n { tree = d }) (file_of o)) (without_path t (whole_of path))) (met_at (node_at n.tree) t.paths part.paths path may.0.text)
       (part_without path may.0.text (tree_after keeps t client (op.Unlink path) part.tree e) sets)
 
   -- ---- a new name
 
-  part_renamed : (from to : List (List ℕ)) → IsRenamed t.paths from to → (whole_path from ≡ whole_path to → ⊥) → IsTree (rename_path t (whole_path from) (whole_path to)) → MovesNodes (node_at n.dirs) (node_at d) from to
-      → IsPartOf (settled_node (record n { dirs = d }) (file_of (node_at n.dirs to))) (rename_path t (whole_path from) (whole_path to))
+  part_renamed : (from to : List (List ℕ)) → IsRenamed t.paths from to → (whole_path from ≡ whole_path to → ⊥) → IsTree (rename_path t (whole_path from) (whole_path to)) → MovesNodes (node_at n.tree) (node_at d) from to
+      → IsPartOf (settled_node (record n { tree = d }) (file_of (node_at n.tree to))) (rename_path t (whole_path from) (whole_path to))
   part_renamed [] to is other tree moves = let some = is.old_some in cc
   part_renamed (f ∷ fs) [] is other tree moves = let some = is.new_some in cc
   part_renamed (f ∷ fs) (g ∷ gs) is other tree moves = by (bytes_eq (whole_path (f ∷ fs)) (whole_path (g ∷ gs))) (bytes_differ _ _ other) tree
@@ -86,10 +87,10 @@ module _ (keeps : KeepsTrees) (n : NamesPart) (t : PosixTree) (client : ℕ) (pa
       may = may_rename t.paths part.tree.namespace f fs g gs is (bytes_differ (whole_path (f ∷ fs)) (whole_path (g ∷ gs)) other)
 
       done : IsTree (forget (record t { paths = renamed t.paths (whole_path (f ∷ fs)) (whole_path (g ∷ gs)) }) (file_of (map.get t.paths (whole_path (g ∷ gs)))))
-          → IsPartOf (settled_node (record n { dirs = d }) (file_of (map.get t.paths (whole_path (g ∷ gs))))) (forget (record t { paths = renamed t.paths (whole_path (f ∷ fs)) (whole_path (g ∷ gs)) }) (file_of (map.get t.paths (whole_path (g ∷ gs)))))
+          → IsPartOf (settled_node (record n { tree = d }) (file_of (map.get t.paths (whole_path (g ∷ gs))))) (forget (record t { paths = renamed t.paths (whole_path (f ∷ fs)) (whole_path (g ∷ gs)) }) (file_of (map.get t.paths (whole_path (g ∷ gs)))))
       done tree =
           part_unnamed n t part d (renamed t.paths (whole_path (f ∷ fs)) (whole_path (g ∷ gs)))
-          (stands_renamed n.dirs d t.paths part.paths f fs g gs may (old_names t.paths (f ∷ fs) (g ∷ gs) is) moves)
+          (stands_renamed (node_at n.tree) d t.paths part.paths f fs g gs may (old_names t.paths (f ∷ fs) (g ∷ gs) is) moves)
           (once_renamed t.paths part.once f fs g gs may)
           (file_of (map.get t.paths (whole_path (g ∷ gs))))
           (λ h stood. unnamed_renamed t.paths f fs g gs may h part.once stood)
@@ -98,15 +99,15 @@ module _ (keeps : KeepsTrees) (n : NamesPart) (t : PosixTree) (client : ℕ) (pa
 
       by : (b : Bool) → b ≡ false
           → IsTree (cond {A = PosixTree} b t (forget (record t { paths = renamed t.paths (whole_path (f ∷ fs)) (whole_path (g ∷ gs)) }) (file_of (map.get t.paths (whole_path (g ∷ gs))))))
-          → IsPartOf (settled_node (record n { dirs = d }) (file_of (node_at n.dirs (g ∷ gs))))
+          → IsPartOf (settled_node (record n { tree = d }) (file_of (node_at n.tree (g ∷ gs))))
           (cond {A = PosixTree} b t (forget (record t { paths = renamed t.paths (whole_path (f ∷ fs)) (whole_path (g ∷ gs)) }) (file_of (map.get t.paths (whole_path (g ∷ gs))))))
       by true e tree = cc
       by false e tree =
-          subst (λ o. IsPartOf (settled_node (record n { dirs = d }) (file_of o)) (forget (record t { paths = renamed t.paths (whole_path (f ∷ fs)) (whole_path (g ∷ gs)) }) (file_of (map.get t.paths (whole_path (g ∷ gs))))))
-          (met n.dirs t.paths part.paths (g ∷ gs) (new_names t.paths (f ∷ fs) (g ∷ gs) is)) (done tree)
+          subst (λ o. IsPartOf (settled_node (record n { tree = d }) (file_of o)) (forget (record t { paths = renamed t.paths (whole_path (f ∷ fs)) (whole_path (g ∷ gs)) }) (file_of (map.get t.paths (whole_path (g ∷ gs))))))
+          (met (node_at n.tree) t.paths part.paths (g ∷ gs) (new_names t.paths (f ∷ fs) (g ∷ gs) is)) (done tree)
 
-  pub part_rename : (from to : List ℕ) → refusal t client (op.Rename from to) ≡ None → (whole_of from ≡ whole_of to → ⊥) → MovesNodes (node_at n.dirs) (node_at d) (components from) (components to)
-      → IsPartOf (settled_node (record n { dirs = d }) (file_of (node_at n.dirs (components to)))) (change t client (op.Rename from to))
+  pub part_rename : (from to : List ℕ) → refusal t client (op.Rename from to) ≡ None → (whole_of from ≡ whole_of to → ⊥) → MovesNodes (node_at n.tree) (node_at d) (components from) (components to)
+      → IsPartOf (settled_node (record n { tree = d }) (file_of (node_at n.tree (components to)))) (change t client (op.Rename from to))
   part_rename from to e other moves =
       part_renamed (components from) (components to) (rename_allowed t client from to part.tree e) other (tree_after keeps t client (op.Rename from to) part.tree e) moves
 

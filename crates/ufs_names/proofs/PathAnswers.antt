@@ -15,11 +15,11 @@ use Rattle.ufs_model.specs.declared.data.Op.TheVariants as op
 use Rattle.ufs_model.specs.declared.data.Reply.{Reply}
 use Rattle.ufs_model.specs.declared.data.Reply.TheVariants as reply
 use Rattle.ufs_model.proofs.Facts.Allowed.{first_none}
-use Rattle.ufs_names.specs.DirTable.{node_of}
+use Rattle.ufs_name_tree.specs.NameTable.{node_of}
 use Rattle.ufs_names.specs.NamesPart.{NamesPart}
 use Rattle.ufs_names.specs.PathCalls.{IsAllowed, IsStat, IsList}
-use Rattle.ufs_names.specs.declared.found.Found.{Found}
-use Rattle.ufs_names.specs.declared.found.Found.TheVariants.{Dir, File}
+use Rattle.ufs_dir_tree.specs.declared.found.Found.{Found}
+use Rattle.ufs_dir_tree.specs.declared.found.Found.TheVariants.{Dir, File}
 use Rattle.ufs_names.proofs.EntryLemmas.{entry_names_are, names_are_entries, count_is_entries}
 use Rattle.ufs_names.proofs.PathConditions.{are_names, let_be, named, stands_found}
 
@@ -28,7 +28,7 @@ module _ (n : NamesPart) (t : PosixTree) (ask : Ask) (names : List (List ℕ)) w
   pub stat_replied : (found : Option Found) → IsAllowed t ask n names found → (p : List ℕ) → ask.op ≡ op.Stat p → (r : Reply) → IsStat n found r → r ≡ answer t ask.client ask.op
   stat_replied found is p of r told = by found is told ∙ sym (ap (stat_reply t (whole_of p)) (stands_found n t ask names found is (op.Stat p) of p refl)) ∙ sym (ap (answer t ask.client) of)
     where
-      by : (found : Option Found) → IsAllowed t ask n names found → IsStat n found r → r ≡ stat_reply t (whole_of p) (option_map node_of found)
+      by : (found : Option Found) → IsAllowed t ask n names found → IsStat n found r → r ≡ stat_reply t (whole_of p) (option_map (node_of n.tree) found)
       by None is told = told
       by (Some (Dir i)) is told =
           let are = are_names n t ask names (Some (Dir i)) is in
@@ -56,7 +56,7 @@ module _ (n : NamesPart) (t : PosixTree) (ask : Ask) (names : List (List ℕ)) w
           let own = first_none (text_refusal p) _ (let_be n t ask names found is (op.List p) of) in
           (first_none (walk_refusal t.paths p) _ own.1).1
 
-      by : (found : Option Found) → list_refusal (option_map node_of found) ≡ None → (i : ℕ) × (found ≡ Some (Dir i))
+      by : (found : Option Found) → list_refusal (option_map (node_of n.tree) found) ≡ None → (i : ℕ) × (found ≡ Some (Dir i))
       by None e = cc
       by (Some (Dir i)) e = (i, refl)
       by (Some (File f)) e = cc

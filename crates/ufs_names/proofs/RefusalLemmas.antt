@@ -3,8 +3,9 @@ use Rattle.std.proofs.Common.{◌≡◌, ℕ, zero, suc, ◌+◌, ◌-◌, ◌�
 use Rattle.ufs_base.specs.Choices.{first_of}
 use Rattle.ufs_model.specs.Walk.{dir_refusal}
 use Rattle.ufs_model.specs.declared.data.Errno.{Errno}
-use Rattle.ufs_names.specs.DirCalls.{Nodes, refusal_by}
-use Rattle.ufs_names.specs.DirTable.{DirTable, node_at}
+use Rattle.ufs_name_tree.specs.Nodes.{Nodes, refusal_by}
+use Rattle.ufs_dir_tree.specs.DirTable.{DirTable}
+use Rattle.ufs_name_tree.specs.NameTable.{node_at}
 
 module _ (at : Nodes) where
   refused_on : (above names : List (List ℕ)) (n : ℕ) → suc n < length names

@@ -19,12 +19,14 @@ use Rattle.ufs_model.specs.declared.data.Errno.{Errno}
 use Rattle.ufs_model.specs.declared.data.Op.TheVariants as op
 use Rattle.ufs_model.specs.declared.data.Reply.{Reply}
 use Rattle.ufs_model.specs.declared.data.Reply.TheVariants.{Done}
-use Rattle.ufs_names.specs.DirTable.{IsDirTable, found_at, node_at, node_of}
-use Rattle.ufs_names.specs.DirCalls.{MayGo, MayMove, MovesNodes}
+use Rattle.ufs_dir_tree.specs.DirTable.{IsDirTable, found_at}
+use Rattle.ufs_name_tree.specs.NameTable.{node_at, node_of}
+use Rattle.ufs_dir_tree.specs.DirCalls.{MayGo, MayMove}
+use Rattle.ufs_name_tree.specs.Nodes.{MovesNodes}
 use Rattle.ufs_names.specs.NamesPart.{NamesPart, IsPartOf, settled_node}
 use Rattle.ufs_names.specs.Calls.{IsServed}
-use Rattle.ufs_names.specs.declared.found.Found.{Found}
-use Rattle.ufs_names.specs.declared.found.Found.TheVariants.{File}
+use Rattle.ufs_dir_tree.specs.declared.found.Found.{Found}
+use Rattle.ufs_dir_tree.specs.declared.found.Found.TheVariants.{File}
 use Rattle.ufs_names.proofs.NameLists.{AreNames, names_of}
 use Rattle.ufs_names.proofs.WalkLinks.{met_at}
 use Rattle.ufs_names.proofs.PartFacts.{file_told}
@@ -52,8 +54,8 @@ module _ (n : NamesPart) (t : PosixTree) (ask : Ask) (part : IsPartOf n t) (old 
 
   module _ (from to : List (List ℕ)) (e : from ≡ components old) (e' : to ≡ components new) where
     -- the file that stands at the new name is known of
-    pub replaced_held : (found : Option Found) → found ≡ found_at n.dirs to → (f : ℕ) → found ≡ Some (File f) → IsSome (map.get n.held f)
-    replaced_held found at f is = (file_told n t part to f (subst AreNames (sym e') (names_of new texts.1)) (ap (option_map node_of) (sym at ∙ is))).1
+    pub replaced_held : (found : Option Found) → found ≡ found_at n.tree.dirs to → (f : ℕ) → found ≡ Some (File f) → IsSome (map.get n.held f)
+    replaced_held found at f is = (file_told n t part to f (subst AreNames (sym e') (names_of new texts.1)) (ap (option_map (node_of n.tree)) (sym at ∙ is))).1
 
     apart_whole : whole_path from ≢ whole_path to → whole_of old ≢ whole_of new
     apart_whole other h = other (ap whole_path e ∙ h ∙ sym (ap whole_path e'))
@@ -62,24 +64,24 @@ module _ (n : NamesPart) (t : PosixTree) (ask : Ask) (part : IsPartOf n t) (old 
       let_be : refusal t ask.client (op.Rename old new) ≡ None
       let_be = ap (refusal t ask.client) (sym of) ∙ rename_refused None passed
 
-      may_go : IsDirTable n.dirs → whole_of old ≢ whole_of new → MayGo n.dirs (components new)
+      may_go : IsDirTable n.tree.dirs → whole_of old ≢ whole_of new → MayGo n.tree.dirs (components new)
       may_go table other i dir =
           let is = rename_allowed t ask.client old new part.tree let_be in
-          let there : has_dir t.paths (whole_of new) ≡ true = ap is_dir (met_at n.dirs t.paths part.paths new texts.1 ∙ ap (option_map node_of) dir) in
+          let there : has_dir t.paths (whole_of new) ≡ true = ap is_dir (met_at (node_at n.tree) t.paths part.paths new texts.1 ∙ ap (option_map (node_of n.tree)) dir) in
           bare_if_no_entries n.dirs t.paths part.tree.namespace table part.paths (components new) is.new_plain is.new_allowed i dir
           (last_false _ _ (has_entries t.paths (whole_of new)) (ap not (bytes_differ (whole_of old) (whole_of new) other)) there is.bare)
 
-      pub rename_may : IsDirTable n.dirs → whole_path from ≢ whole_path to → MayMove n.dirs from to
+      pub rename_may : IsDirTable n.tree.dirs → whole_path from ≢ whole_path to → MayMove n.tree.dirs from to
       rename_may table other =
-          subst (λ l. MayMove n.dirs l to) (sym e) (subst (MayMove n.dirs (components old)) (sym e')
+          subst (λ l. MayMove n.tree.dirs l to) (sym e) (subst (MayMove n.tree.dirs (components old)) (sym e')
           (rename_moves n t part ask.client old new let_be (apart_whole other) (may_go table (apart_whole other))))
 
       module _ (keeps : KeepsTrees) (now : NamesPart) where
         served_with : IsPartOf now (change t ask.client (op.Rename old new)) → IsServed t ask now Done None
         served_with goes = subst (λ (r : Reply). IsServed t ask now r None) (ap (answer t ask.client) of) (served_as t ask now (op.Rename old new) None of let_be goes refl)
 
-        pub served_rename : (whole_path from ≡ whole_path to → now ≡ n) → (whole_path from ≢ whole_path to → MovesNodes (node_at n.dirs) (node_at now.dirs) from to)
-            → (whole_path from ≢ whole_path to → now ≡ settled_node (record n { dirs = now.dirs }) (file_of (node_at n.dirs to))) → IsServed t ask now Done None
+        pub served_rename : (whole_path from ≡ whole_path to → now ≡ n) → (whole_path from ≢ whole_path to → MovesNodes (node_at n.tree) (node_at now.tree) from to)
+            → (whole_path from ≢ whole_path to → now ≡ settled_node (record n { tree = now.tree }) (file_of (node_at n.tree to))) → IsServed t ask now Done None
         served_rename same moves settled = by (one_or_apart path_total path_same (whole_path from) (whole_path to))
           where
             by : (whole_path from ≡ whole_path to) ⊎ (whole_path from ≡ whole_path to → ⊥) → IsServed t ask now Done None
@@ -87,6 +89,6 @@ module _ (n : NamesPart) (t : PosixTree) (ask : Ask) (part : IsPartOf n t) (old 
                 served_with (subst (λ (n' : NamesPart). IsPartOf n' (change t ask.client (op.Rename old new))) (sym (same h))
                 (part_same_name n t ask.client part old new (sym (ap whole_path e) ∙ h ∙ ap whole_path e')))
             by (inr other) =
-                served_with (subst (λ (n' : NamesPart). IsPartOf n' (change t ask.client (op.Rename old new))) (sym (settled other ∙ ap (λ l. settled_node (record n { dirs = now.dirs }) (file_of (node_at n.dirs l))) e'))
+                served_with (subst (λ (n' : NamesPart). IsPartOf n' (change t ask.client (op.Rename old new))) (sym (settled other ∙ ap (λ l. settled_node (record n { tree = now.tree }) (file_of (node_at n.tree l))) e'))
                 (part_rename keeps n t ask.client part now.dirs old new let_be (apart_whole other)
-                (subst (MovesNodes (node_at n.dirs) (node_at now.dirs) (components old)) e' (subst (λ l. MovesNodes (node_at n.dirs) (node_at now.dirs) l to) e (moves other)))))
+                (subst (MovesNodes (node_at n.tree) (node_at now.tree) (components old)) e' (subst (λ l. MovesNodes (node_at n.tree) (node_at now.tree) l to) e (moves other)))))

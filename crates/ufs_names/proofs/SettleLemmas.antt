@@ -10,7 +10,7 @@ use Rattle.ufs_model.specs.PosixTree.{PosixTree, Paths, Files, IsTree, is_live}
 use Rattle.ufs_model.specs.Touched.{holds}
 use Rattle.ufs_model.specs.Posix.{forget}
 use Rattle.ufs_model.proofs.Facts.Lookups.{same_some, inserted_here, inserted_else, removed_here, removed_else}
-use Rattle.ufs_names.specs.DirTable.{DirTable}
+use Rattle.ufs_dir_tree.specs.DirTable.{DirTable}
 use Rattle.ufs_names.specs.Stands.{Stands}
 use Rattle.ufs_names.specs.NamesPart.{NamesPart, IsPartOf, IsNamedOnce, is_linked, is_holder, is_kept, holding_of, settled, settled_node, without_name}
 use Rattle.ufs_names.specs.declared.holding.Holding.{Holding}
@@ -19,7 +19,7 @@ use Rattle.ufs_names.proofs.HolderLemmas.{from_marked, kept_is_live}
 
 -- The part is that of the tree, but what is known of one file, which is this now.
 pub record IsPartBut (n : NamesPart) (t : PosixTree) (g : ℕ) (h : Holding) : Type 0 where
-  pub paths : Stands n.dirs t.paths
+  pub paths : Stands (node_at n.tree) t.paths
   pub once : IsNamedOnce t.paths
   pub bytes : n.bytes ≡ t.bytes
   pub next : n.next ≡ t.next
@@ -124,7 +124,7 @@ module _ (n : NamesPart) (t : PosixTree) (g : ℕ) (h : Holding) (is : IsPartBut
 
 module _ (n : NamesPart) (t : PosixTree) (part : IsPartOf n t) (d : DirTable) (paths : Paths) (stands : Stands d paths) (once : IsNamedOnce paths) where
   -- the same files are named
-  pub part_paths : ((f : ℕ) → is_named paths f ≡ is_named t.paths f) → IsTree (record t { paths = paths }) → IsPartOf (record n { dirs = d }) (record t { paths = paths })
+  pub part_paths : ((f : ℕ) → is_named paths f ≡ is_named t.paths f) → IsTree (record t { paths = paths }) → IsPartOf (record n { tree = d }) (record t { paths = paths })
   part_paths same tree = record {
     tree = tree;
     paths = stands;
@@ -138,9 +138,9 @@ module _ (n : NamesPart) (t : PosixTree) (part : IsPartOf n t) (d : DirTable) (p
 
   -- the same but one
   pub part_unnamed : (lost : Option ℕ) → ((f : ℕ) → lost ≡ Some f → is_named paths f ≡ false) → ((f : ℕ) → (lost ≡ Some f → ⊥) → is_named paths f ≡ is_named t.paths f)
-      → IsTree (forget (record t { paths = paths }) lost) → IsPartOf (settled_node (record n { dirs = d }) lost) (forget (record t { paths = paths }) lost)
+      → IsTree (forget (record t { paths = paths }) lost) → IsPartOf (settled_node (record n { tree = d }) lost) (forget (record t { paths = paths }) lost)
   part_unnamed None gone same tree = part_paths (λ f. same f (λ e. cc)) tree
-  part_unnamed (Some g) gone same tree = part_settled (record n { dirs = d }) (record t { paths = paths }) g (without_name (holding_of n.held g)) (record {
+  part_unnamed (Some g) gone same tree = part_settled (record n { tree = d }) (record t { paths = paths }) g (without_name (holding_of n.held g)) (record {
     paths = stands;
     once = once;
     bytes = part.bytes;

@@ -10,8 +10,9 @@ use Rattle.ufs_model.proofs.Facts.Orders.{path_total, path_same}
 use Rattle.ufs_model.proofs.Facts.Lookups.{one_or_apart, inserted_here, inserted_else, removed_here, removed_else}
 use Rattle.ufs_model.proofs.Facts.Pieces.{ArePlain, Moves, Stays, components_of, components_plain, plain_append, plain_back, same_names, front_of, front_append}
 use Rattle.ufs_model.proofs.Facts.Renames.{MayRename, case_of, no_clash, plain_rest, was, is_now}
-use Rattle.ufs_names.specs.DirTable.{DirTable, node_at}
-use Rattle.ufs_names.specs.DirCalls.{SetsNode, MovesNodes}
+use Rattle.ufs_dir_tree.specs.DirTable.{DirTable}
+use Rattle.ufs_name_tree.specs.NameTable.{node_at}
+use Rattle.ufs_name_tree.specs.Nodes.{SetsNode, MovesNodes}
 use Rattle.ufs_names.specs.Stands.{Stands}
 use Rattle.ufs_names.proofs.NameLists.{AreNames, names_append, names_back}
 use Rattle.ufs_names.proofs.WalkLinks.{met}

@@ -18,7 +18,8 @@ use Rattle.ufs_model.proofs.Facts.Orders.{path_total, path_same}
 use Rattle.ufs_model.proofs.Facts.Pieces.{ArePlain, same_names}
 use Rattle.ufs_model.proofs.Facts.Starts.{start_is_tree, root_is_tree, start_of-root}
 use Rattle.ufs_model.specs.Start.{path_root}
-use Rattle.ufs_names.specs.DirTable.{DirTable, node_at}
+use Rattle.ufs_dir_tree.specs.DirTable.{DirTable}
+use Rattle.ufs_name_tree.specs.NameTable.{node_at}
 use Rattle.ufs_names.specs.NamesPart.{IsPartOf, holding_of, unheld}
 use Rattle.ufs_names.specs.declared.holding.Holding.{Holding}
 use Rattle.ufs_names.proofs.SettleLemmas.{nobody}

@@ -5,8 +5,9 @@ use Rattle.ufs_base.specs.Choices.{first_of}
 use Rattle.ufs_model.specs.Paths.{components, text_refusal, whole_path, whole_of}
 use Rattle.ufs_model.specs.PosixTree.{Paths}
 use Rattle.ufs_model.specs.Walk.{dir_refusal, walk_refusal, walk_refusal_from}
-use Rattle.ufs_names.specs.DirTable.{DirTable, node_at}
-use Rattle.ufs_names.specs.DirCalls.{refusal_by}
+use Rattle.ufs_dir_tree.specs.DirTable.{DirTable}
+use Rattle.ufs_name_tree.specs.NameTable.{node_at}
+use Rattle.ufs_name_tree.specs.Nodes.{refusal_by}
 use Rattle.ufs_names.specs.Stands.{Stands}
 use Rattle.ufs_names.proofs.NameLists.{AreNames, names_of, names_front}
 

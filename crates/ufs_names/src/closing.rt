@@ -1,0 +1,46 @@
+// Descriptors that are closed.
+use crate::names::{Names, Served};
+use ufs_bitmap::Pool;
+use ufs_files::FileHands;
+use ufs_model::{Ask, Op, Reply, a_request_keeps_the_tree};
+
+impl Names {
+    ghost use Rattle.std.specs.Prelude.{◌≡◌, ◌<◌, ℕ, None};
+    ghost use Rattle.ufs_model.specs.PosixTree.{PosixTree};
+    ghost use Rattle.ufs_model.specs.Refusals.{own_refusal};
+    ghost use Rattle.ufs_model.specs.declared.data.Op.TheVariants as op;
+    ghost use Rattle.ufs_names.specs.Calls.{IsAsked, IsServed};
+    ghost use Rattle.ufs_names.specs.Space.{AreApart};
+    ghost use Rattle.ufs_names.specs.Steps.{KeepsSpace};
+
+    /// A `close` that its client can't refuse. The file goes where this was the last hold of one that no path names.
+    pub(crate) fn close(&mut self, ask: &Ask, files: &mut FileHands, pool: &mut Pool) -> Served
+        requires client { ask.now.client < 16 }
+        requires close { (fd : ℕ) × (ask.now.op ≡ op.Close fd) }
+        requires asked { (t : PosixTree) × IsAsked t self.old ask.now files.old × (own_refusal t ask.now.client ask.now.op ≡ None) }
+        requires apart { AreApart self.old.tree.dirs files.old pool.old }
+        ensures ok { (t : PosixTree) → IsAsked t self.old ask.now files.old → own_refusal t ask.now.client ask.now.op ≡ None → IsServed t ask.now self.new files.old files.new result.reply result.desc }
+        ensures space { KeepsSpace self.old self.new files.old files.new pool.old pool.new }
+    {
+        a_request_keeps_the_tree();
+        if let Some(desc) = ask.desc {
+            if let Some(file) = desc.file {
+                if ask.last {
+                    self.let_go(ask.client, file, files, pool);
+                }
+            }
+        }
+        Served {
+            reply: Reply::Done,
+            desc: None,
+        }
+    }
+
+    /// The client holds the file no more.
+    fn let_go(&mut self, client: u8, file: u32, files: &mut FileHands, pool: &mut Pool) {
+        let Some(holding) = self.held.get(file) else {
+            unreachable!()
+        };
+        self.settle(file, holding.without(client), files, pool);
+    }
+}
