@@ -18,16 +18,16 @@ neither : (a b : Bool) → (a || b) ≡ false → (a ≡ false) × (b ≡ false)
 neither true b h = cc
 neither false b h = (refl, h)
 
-either : (a b : Bool) → (a || b) ≡ true → (a ≡ true) ⊎ (b ≡ true)
+pub either : (a b : Bool) → (a || b) ≡ true → (a ≡ true) ⊎ (b ≡ true)
 either true b h = inl refl
 either false b h = inr h
 
-from_either : (a b : Bool) → (a ≡ true) ⊎ (b ≡ true) → (a || b) ≡ true
+pub from_either : (a b : Bool) → (a ≡ true) ⊎ (b ≡ true) → (a || b) ≡ true
 from_either true b h = refl
 from_either false b (inl h) = cc
 from_either false b (inr h) = h
 
-not_both : (x : Bool) → (x ≡ true → ⊥) → x ≡ false
+pub not_both : (x : Bool) → (x ≡ true → ⊥) → x ≡ false
 not_both true not = absurd (not refl)
 not_both false not = refl
 
