@@ -2,24 +2,33 @@
 use crate::dir_entry::{clear_at, give_room_at, put_at, take_out_at};
 use crate::dir_tree::{DIRECTORY, DirTree};
 use crate::found::Kind;
-use crate::space::{give_inode, take_inode};
+use crate::space::{give_inode, lowest_inode, take_inode};
 use ufs_bitmap::Pool;
 use ufs_layout::Dentry;
 use ufs_model::Excuse;
 use ufs_path::PathText;
 
 impl DirTree {
-    ghost use Rattle.std.specs.Prelude.{◌≡◌, ◌≢◌, ◌<◌, ◌∷◌, ◌++◌, ℕ, List, [], Some, None, IsSome, IfOk, IfErr, OnOk, OnErr, length};
+    ghost use Rattle.std.specs.Prelude.{◌≡◌, ◌≢◌, ◌<◌, ◌∷◌, ◌++◌, ℕ, List, [], Some, None, IsSome, IfOk, IfErr, IfSome, IfNone, OnOk, OnErr, length};
     ghost use Rattle.std.specs.Option.{option_map};
     ghost use Rattle.std.specs.FinSet as set;
     ghost use Rattle.ufs_dirs.specs.Directory.{entry_of};
-    ghost use Rattle.ufs_dir_tree.specs.Space.{TakesLowest};
+    ghost use Rattle.ufs_dir_tree.specs.Space.{IsLowest, TakesLowest};
     ghost use Rattle.ufs_dir_tree.specs.DirTable.{DirTable, IsDirTable, IsUsed, dir_at, slots_at, found_of, inode_of, found_at};
     ghost use Rattle.ufs_dir_tree.specs.DirCalls.{names_above, found_as, IsBare, IsUnmet, MayGo, SetsFound, MovesFounds, MayMove, IsApart, HasRoom, GetsRoom, SpendsBlock, SpendsNone, FreesInode, Frees, IsRoomCause, IsSpaceCause, LacksRoom, LacksSpace};
     ghost use Rattle.ufs_dir_tree.specs.DirEdits.{IsMet, IsLoose, NothingFrom, SameEntries, ChangesOne, SetsEntry, ClearsName};
     ghost use Rattle.ufs_dir_tree.specs.declared.found.Found.{Found};
     ghost use Rattle.ufs_dir_tree.specs.declared.found.Found.TheVariants as found;
     ghost use Rattle.ufs_path.specs.Names.{IsName};
+
+    /// The lowest free inode, which the next `add` takes; `None` where none is free. No inode comes or goes.
+    pub fn next_inode(&mut self) -> Option<u32>
+        ensures some { IfSome result (IsLowest self.old.free) }
+        ensures none { IfNone result (self.old.free ≡ set.empty) }
+        ensures same { self.new ≡ self.old }
+    {
+        lowest_inode(&mut self.free)
+    }
 
     /// Puts a new inode, the lowest free one, at a path at which nothing stands, in the directory that `look` told. Where each slot of its directory is
     /// used that takes the pool's lowest block.
