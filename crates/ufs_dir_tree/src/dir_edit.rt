@@ -51,6 +51,7 @@ impl DirTree {
         ensures err { OnErr result (self.new ≡ self.old) }
         ensures err_pool { OnErr result (pool.new ≡ pool.old) }
         ensures apart { IsApart self.new pool.new }
+        ensures table { IsDirTable self.new }
     {
         match self.make(dir, kind, pool) {
             Ok(inode) => {
@@ -75,6 +76,7 @@ impl DirTree {
         ensures unmet { (f : Found) → found_at self.old path.now ≡ Some f → IsUnmet self.new (inode_of f) }
         ensures inodes { length self.new.dirs ≡ length self.old.dirs }
         ensures apart { IsApart self.new pool.new }
+        ensures table { IsDirTable self.new }
     {
         self.drop_entry(dir, path.last(), pool);
     }
@@ -104,6 +106,7 @@ impl DirTree {
         ensures err { OnErr result (self.new ≡ self.old) }
         ensures err_pool { OnErr result (pool.new ≡ pool.old) }
         ensures apart { IsApart self.new pool.new }
+        ensures table { IsDirTable self.new }
     {
         let name = to.last();
         match self.clear_name(to_dir, name, pool) {
@@ -148,6 +151,7 @@ impl DirTree {
         ensures err { OnErr result (self.new ≡ self.old) }
         ensures err_pool { OnErr result (pool.new ≡ pool.old) }
         ensures apart { IsApart self.new pool.new }
+        ensures table { IsDirTable self.new }
     {
         if self.entry(dir, name).is_some() {
             self.drop_entry(dir, name, pool);
@@ -227,6 +231,7 @@ impl DirTree {
         requires loose { IsLoose self.old (found_of (record { inode = inode; kind = kind; name = name.now })) }
         ensures entries { SetsEntry self.old.dirs self.new.dirs dir name.now (Some (record { inode = inode; kind = kind; name = name.now })) }
         ensures free { self.new.free ≡ self.old.free }
+        ensures table { IsDirTable self.new }
     {
         put_at(
             &mut self.dirs,
