@@ -137,7 +137,8 @@ fn no_files(alloc: Global, count: usize) -> Result<Vec<Option<u32>>, Memory>
     ensures none { IfOk result (λ files. (i : ℕ) → slice_index_or files.items i None ≡ None) }
 {
     let mut files = Vec::with_capacity(alloc, count)?;
-    for _ in 0..count {
+    for made in 0..count {
+        let _ = made;
         files.push(None)?;
     }
     Ok(files)
