@@ -15,10 +15,11 @@ impl DirTree {
     ghost use Rattle.ufs_dirs.specs.Directory.{entry_of};
     ghost use Rattle.ufs_dir_tree.specs.Space.{IsLowest, TakesLowest};
     ghost use Rattle.ufs_dir_tree.specs.DirTable.{DirTable, IsDirTable, IsUsed, dir_at, slots_at, found_of, inode_of, found_at};
-    ghost use Rattle.ufs_dir_tree.specs.DirCalls.{names_above, found_as, IsBare, IsUnmet, MayGo, SetsFound, MovesFounds, MayMove, IsApart, HasRoom, GetsRoom, SpendsBlock, SpendsNone, FreesInode, Frees, IsRoomCause, IsSpaceCause, LacksRoom, LacksSpace};
+    ghost use Rattle.ufs_dir_tree.specs.DirCalls.{names_above, found_as, IsBare, IsUnmet, MayGo, SetsFound, MovesFounds, MayMove, IsApart, IsListed, HasRoom, GetsRoom, SpendsBlock, SpendsNone, FreesInode, Frees, IsRoomCause, IsSpaceCause, LacksRoom, LacksSpace};
     ghost use Rattle.ufs_dir_tree.specs.DirEdits.{IsMet, IsLoose, NothingFrom, SameEntries, ChangesOne, SetsEntry, ClearsName};
     ghost use Rattle.ufs_dir_tree.specs.declared.found.Found.{Found};
     ghost use Rattle.ufs_dir_tree.specs.declared.found.Found.TheVariants as found;
+    ghost use Rattle.ufs_model.specs.declared.data.Excuse.TheVariants as excuse;
     ghost use Rattle.ufs_path.specs.Names.{IsName};
 
     /// The lowest free inode, which the next `add` takes; `None` where none is free. No inode comes or goes.
@@ -48,6 +49,7 @@ impl DirTree {
         ensures inodes { length self.new.dirs ≡ length self.old.dirs }
         ensures block { OnOk result (SpendsBlock self.old self.new pool.old pool.new (names_above path.now)) }
         ensures cause { IfErr result (LacksSpace self.old pool.old (names_above path.now)) }
+        ensures listed { IfErr result (λ x. x ≢ excuse.Inodes → IsListed (dir_at self.old dir)) }
         ensures err { OnErr result (self.new ≡ self.old) }
         ensures err_pool { OnErr result (pool.new ≡ pool.old) }
         ensures apart { IsApart self.new pool.new }
@@ -103,6 +105,7 @@ impl DirTree {
         ensures inodes { length self.new.dirs ≡ length self.old.dirs }
         ensures absent { OnErr result (found_at self.old to.now ≡ None) }
         ensures cause { IfErr result (LacksRoom self.old pool.old (names_above to.now)) }
+        ensures listed { OnErr result (IsListed (dir_at self.old to_dir)) }
         ensures err { OnErr result (self.new ≡ self.old) }
         ensures err_pool { OnErr result (pool.new ≡ pool.old) }
         ensures apart { IsApart self.new pool.new }
@@ -148,6 +151,7 @@ impl DirTree {
         ensures free { OnOk result (entry_of (slots_at self.old dir) name.now ≡ None → self.new.free ≡ self.old.free) }
         ensures absent { OnErr result (entry_of (slots_at self.old dir) name.now ≡ None) }
         ensures cause { IfErr result (IsRoomCause (dir_at self.old dir) pool.old) }
+        ensures listed { OnErr result (IsListed (dir_at self.old dir)) }
         ensures err { OnErr result (self.new ≡ self.old) }
         ensures err_pool { OnErr result (pool.new ≡ pool.old) }
         ensures apart { IsApart self.new pool.new }
@@ -171,6 +175,7 @@ impl DirTree {
         ensures free { self.new.free ≡ self.old.free }
         ensures same { SameEntries self.old.dirs self.new.dirs }
         ensures cause { IfErr result (IsRoomCause (dir_at self.old dir) pool.old) }
+        ensures listed { IsListed (dir_at self.old dir) }
         ensures err { OnErr result (self.new ≡ self.old) }
         ensures err_pool { OnErr result (pool.new ≡ pool.old) }
         ensures apart { IsApart self.new pool.new }
@@ -192,6 +197,7 @@ impl DirTree {
         ensures loose { IfOk result (λ i. IsLoose self.new (found_as kind i)) }
         ensures bare { IfOk result (λ i. NothingFrom self.new (Some (found_as kind i))) }
         ensures cause { IfErr result (IsSpaceCause self.old dir pool.old) }
+        ensures listed { IfErr result (λ x. x ≢ excuse.Inodes → IsListed (dir_at self.old dir)) }
         ensures err { OnErr result (self.new ≡ self.old) }
         ensures err_pool { OnErr result (pool.new ≡ pool.old) }
         ensures apart { IsApart self.new pool.new }
