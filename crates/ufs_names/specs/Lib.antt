@@ -4,3 +4,4 @@ pub mod Calls
 pub mod PathCalls
 pub mod Space
 pub mod Steps
+pub mod Laws

@@ -5,9 +5,11 @@ mod closing;
 mod hold_map;
 mod holding;
 mod keep;
+mod laws;
 mod names;
 mod opening;
 mod path_calls;
 mod renaming;
 
+pub use laws::a_file_request_keeps_the_names;
 pub use names::Names;
