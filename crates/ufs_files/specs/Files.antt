@@ -16,9 +16,9 @@ Files = map.FinMap nat_cmp FileState
 abbrev pub AreNumbered : Files → Type 0
 AreNumbered files = (f : ℕ) (s : FileState) → map.get files f ≡ Some s → s.file ≡ f
 
--- Each is that part of the tree.
+-- Each has its own number and is that part of the tree.
 abbrev pub AreFilesOf : Files → PosixTree → Type 0
-AreFilesOf files t = (f : ℕ) (s : FileState) → map.get files f ≡ Some s → IsFileOf s t
+AreFilesOf files t = (f : ℕ) (s : FileState) → map.get files f ≡ Some s → (s.file ≡ f) × IsFileOf s t
 
 -- the blocks of the file of this number
 abbrev pub blocks_at : Files → ℕ → List ℕ
