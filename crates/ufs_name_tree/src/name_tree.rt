@@ -1,5 +1,5 @@
 // Directories, and the numbers of files.
-ghost use Rattle.std.specs.Prelude.{◌≡◌, Some, None, IfOk, length};
+ghost use Rattle.std.specs.Prelude.{◌≡◌, ℕ, Some, None, IfOk, length, slice_index_or};
 
 use std::alloc::Global;
 use std::marker::Model;
@@ -29,7 +29,7 @@ impl Model for NameTree {
 }
 
 impl NameTree {
-    ghost use Rattle.std.specs.Prelude.{◌≢◌, ◌≤◌, ◌<◌, ◌+◌, ◌-◌, ◌↔◌, ℕ, List, [], IfErr, IsTrue};
+    ghost use Rattle.std.specs.Prelude.{◌≢◌, ◌≤◌, ◌<◌, ◌+◌, ◌-◌, ◌↔◌, ℕ, List, [], IfErr, IfSome, IfNone, IsTrue};
     ghost use Rattle.std.specs.Option.{option_map};
     ghost use Rattle.std.specs.FinSet as set;
     ghost use Rattle.ufs_extent.specs.Runs.{blocks_from};
@@ -137,7 +137,8 @@ fn no_files(alloc: Global, count: usize) -> Result<Vec<Option<u32>>, Memory>
     ensures none { IfOk result (λ files. (i : ℕ) → slice_index_or files.items i None ≡ None) }
 {
     let mut files = Vec::with_capacity(alloc, count)?;
-    for _ in 0..count {
+    for made in 0..count {
+        let _ = made;
         files.push(None)?;
     }
     Ok(files)

@@ -1,0 +1,5 @@
+pub mod NodeMaps
+pub mod Founds
+pub mod KeptFiles
+pub mod TableEdits
+pub mod NumberEdits
