@@ -13,10 +13,11 @@ use Rattle.ufs_model.specs.declared.data.Node.TheVariants.{Dir, File}
 use Rattle.ufs_model.specs.declared.data.Op.TheVariants as op
 use Rattle.ufs_model.proofs.Facts.Walks.{is_dir-some, dir_of_path}
 use Rattle.ufs_dir_tree.specs.DirTable.{DirTable, found_at}
-use Rattle.ufs_name_tree.specs.NameTable.{node_at, node_of}
+use Rattle.ufs_name_tree.specs.NameTable.{NameTable, node_at, node_of}
 use Rattle.ufs_dir_tree.specs.DirCalls.{names_above, MayGo, MayMove}
 use Rattle.ufs_names.specs.NamesPart.{NamesPart, IsPartOf}
 use Rattle.ufs_dir_tree.specs.declared.found.Found.{Found}
+use Rattle.ufs_dir_tree.specs.declared.found.Found.TheVariants as found
 use Rattle.ufs_names.proofs.NameLists.{AreNames, names_of, names_front}
 use Rattle.ufs_names.proofs.WalkLinks.{met, met_at}
 use Rattle.ufs_names.proofs.StandsLemmas.{not_new}
@@ -26,7 +27,7 @@ use Rattle.ufs_names.proofs.AllowedLemmas.{bytes_differ, IsReached, mkdir_allowe
 -- Something may be put at the names.
 pub record IsFree (d : DirTable) (names : List (List ℕ)) : Type 0 where
   pub below : names ≢ []
-  pub parent : node_at d (names_above names) ≡ Some Dir
+  pub parent : (i : ℕ) × (found_at d (names_above names) ≡ Some (found.Dir i))
   pub absent : found_at d names ≡ None
 
 -- Something stands at the names, which isn't the root.
@@ -35,13 +36,19 @@ pub record IsTaken (d : DirTable) (names : List (List ℕ)) : Type 0 where
   pub there : IsSome (found_at d names)
 
 -- nothing is met where no node stands, and something where one does
-pub none_found : (o : Option Found) → option_map (node_of n.tree) o ≡ None → o ≡ None
-none_found None e = refl
-none_found (Some x) e = cc
+pub none_found : (t : NameTable) (o : Option Found) → option_map (node_of t) o ≡ None → o ≡ None
+none_found t None e = refl
+none_found t (Some x) e = cc
 
-pub some_found : (o : Option Found) (w : Node) → option_map (node_of n.tree) o ≡ Some w → IsSome o
-some_found None w e = cc
-some_found (Some x) w e = refl
+pub some_found : (t : NameTable) (o : Option Found) (w : Node) → option_map (node_of t) o ≡ Some w → IsSome o
+some_found t None w e = cc
+some_found t (Some x) w e = refl
+
+-- a directory is met where one stands
+pub dir_found : (t : NameTable) (o : Option Found) → option_map (node_of t) o ≡ Some Dir → (i : ℕ) × (o ≡ Some (found.Dir i))
+dir_found t None e = cc
+dir_found t (Some (found.Dir i)) e = (i, refl)
+dir_found t (Some (found.File i)) e = cc
 
 some_names : (names : List (List ℕ)) → not (has_component names) ≡ false → names ≢ []
 some_names [] e = λ _. cc
@@ -67,14 +74,14 @@ module _ (n : NamesPart) (t : PosixTree) (part : IsPartOf n t) where
   free_at : (path : List ℕ) → IsReached t.paths path → walk.node_at t.paths path ≡ None → IsFree n.tree.dirs (components path)
   free_at path reached none = record {
     below = not_root path (λ e. let no : Some Dir ≡ None = sym e ∙ none in cc);
-    parent = dir_above (components path) (names_of path reached.text) (dir_of_path t.paths path part.tree.namespace reached.walk);
-    absent = none_found _ (sym (met_at (node_at n.tree) t.paths part.paths path reached.text) ∙ none);
+    parent = dir_found n.tree _ (dir_above (components path) (names_of path reached.text) (dir_of_path t.paths path part.tree.namespace reached.walk));
+    absent = none_found n.tree _ (sym (met_at (node_at n.tree) t.paths part.paths path reached.text) ∙ none);
   }
 
   taken_at : (path : List ℕ) → IsReached t.paths path → components path ≢ [] → (w : Node) → walk.node_at t.paths path ≡ Some w → IsTaken n.tree.dirs (components path)
   taken_at path reached below w at = record {
     below = below;
-    there = some_found _ w (sym (met_at (node_at n.tree) t.paths part.paths path reached.text) ∙ at);
+    there = some_found n.tree _ w (sym (met_at (node_at n.tree) t.paths part.paths path reached.text) ∙ at);
   }
 
   module _ (client : ℕ) where
@@ -103,7 +110,6 @@ module _ (n : NamesPart) (t : PosixTree) (part : IsPartOf n t) where
       stands = stands;
       from_below = λ e. cc;
       to_below = λ e. cc;
-      parent = dir_above (g ∷ gs) (new_names t.paths (f ∷ fs) (g ∷ gs) is) is.parent;
       outside = λ rest e. not_new t.paths f fs g gs (may_rename t.paths part.tree.namespace f fs g gs is (bytes_differ (whole_path (f ∷ fs)) (whole_path (g ∷ gs)) other)) rest (sym e);
       replaced = goes;
     }
@@ -113,7 +119,7 @@ module _ (n : NamesPart) (t : PosixTree) (part : IsPartOf n t) where
           where
             by : (o : Option Node) → map.get t.paths (whole_path (f ∷ fs)) ≡ o → is_some o ≡ true → IsSome (found_at n.tree.dirs (f ∷ fs))
             by None at there = cc
-            by (Some w) at there = some_found _ w (sym (met (node_at n.tree) t.paths part.paths (f ∷ fs) (old_names t.paths (f ∷ fs) (g ∷ gs) is)) ∙ at)
+            by (Some w) at there = some_found n.tree _ w (sym (met (node_at n.tree) t.paths part.paths (f ∷ fs) (old_names t.paths (f ∷ fs) (g ∷ gs) is)) ∙ at)
 
     -- what is replaced may go, as the caller has looked at it
     pub rename_moves : (from to : List ℕ) → refusal t client (op.Rename from to) ≡ None → (whole_of from ≡ whole_of to → ⊥) → MayGo n.tree.dirs (components to) → MayMove n.tree.dirs (components from) (components to)

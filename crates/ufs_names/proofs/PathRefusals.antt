@@ -88,8 +88,8 @@ entries_told n t part table names are None at b is dir = cc
 entries_told n t part table names are (Some (File f)) at b is dir = cc
 entries_told n t part table names are (Some (Dir i)) at b is dir =
     same_test b (has_entries t.paths (whole_path names))
-    (λ e. no_entries_if_bare n.dirs t.paths part.tree.namespace table part.paths names are.plain are.allowed i (sym at) (is.0 e i refl))
-    (λ e. is.1 (λ j same. subst (λ i. IsBare (slots_at n.tree.dirs i)) (number i j same) (bare_if_no_entries n.dirs t.paths part.tree.namespace table part.paths names are.plain are.allowed i (sym at) e)))
+    (λ e. no_entries_if_bare n.tree t.paths part.tree.namespace table part.paths names are.plain are.allowed i (sym at) (is.0 e i refl))
+    (λ e. is.1 (λ j same. subst (λ i. IsBare (slots_at n.tree.dirs i)) (number i j same) (bare_if_no_entries n.tree t.paths part.tree.namespace table part.paths names are.plain are.allowed i (sym at) e)))
   where
     number : (i j : ℕ) → Some (Dir i) ≡ Some (Dir j) → i ≡ j
     number i j same = cc

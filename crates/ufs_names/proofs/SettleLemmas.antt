@@ -113,7 +113,7 @@ nobody (suc count) (suc client) = nobody count client
 
 module _ (n : NamesPart) (t : PosixTree) (g : ℕ) (h : Holding) (is : IsPartBut n t g h) (new : NamesPart) (fs fs' : Files) (settles : Settles n new fs fs' g h) (paths : Stands (node_at new.tree) t.paths) where
   -- this is known of the file from now on
-  part_known : is_kept h ≡ true → IsTree t → IsPartOf new t
+  pub part_known : is_kept h ≡ true → IsTree t → IsPartOf new t
   part_known kept tree = record {
     tree = tree;
     paths = paths;
