@@ -47,7 +47,7 @@ impl Names {
         ensures ok { OnOk result (Opens self.old self.new files.old files.new client trunc look.found) }
         ensures nodes { OnOk result (look.found ≡ None → SetsNode (node_at self.old.tree) (node_at self.new.tree) path.now (Some (node.File self.old.next))) }
         ensures clients { OnOk result ((i f : ℕ) → look.found ≡ Some (met.File i) → file_at self.old.tree i ≡ Some f → length (holding_of self.old.held f).clients ≡ 16) }
-        ensures space { KeepsSpace self.old self.new files.old files.new pool.old pool.new }
+        ensures space { OnOk result (KeepsSpace self.old self.new files.old files.new pool.old pool.new) }
         ensures cause { IfErr result (λ x. x ≢ excuse.Memory → (look.found ≡ None) × LacksSpace self.old.tree.dirs pool.old (names_above path.now) x) }
         ensures err { OnErr result (self.new ≡ self.old) }
         ensures err_files { OnErr result (files.new ≡ files.old) }
@@ -87,7 +87,7 @@ impl Names {
         ensures file { IfOk result (λ file. file ≡ self.old.next) }
         ensures ok { OnOk result (AddsFile self.old self.new files.old files.new client) }
         ensures nodes { OnOk result (SetsNode (node_at self.old.tree) (node_at self.new.tree) path.now (Some (node.File self.old.next))) }
-        ensures space { KeepsSpace self.old self.new files.old files.new pool.old pool.new }
+        ensures space { OnOk result (KeepsSpace self.old self.new files.old files.new pool.old pool.new) }
         ensures cause { IfErr result (LacksSpace self.old.tree.dirs pool.old (names_above path.now)) }
         ensures err { OnErr result (self.new ≡ self.old) }
         ensures err_files { OnErr result (files.new ≡ files.old) }
@@ -139,7 +139,7 @@ impl Names {
         ensures file { IfOk result (λ file. file_at self.old.tree inode ≡ Some file) }
         ensures ok { IfOk result (OpensFile self.old self.new files.old files.new client trunc) }
         ensures clients { (f : ℕ) → file_at self.old.tree inode ≡ Some f → length (holding_of self.old.held f).clients ≡ 16 }
-        ensures space { KeepsSpace self.old self.new files.old files.new pool.old pool.new }
+        ensures space { OnOk result (KeepsSpace self.old self.new files.old files.new pool.old pool.new) }
         ensures cause { IfErr result (λ x. x ≡ excuse.Memory) }
         ensures err { OnErr result (self.new ≡ self.old) }
         ensures err_files { OnErr result (files.new ≡ files.old) }

@@ -49,7 +49,7 @@ impl Names {
         requires path { option_map components (path_asked ask.now.op) ≡ Some path.now }
         requires apart { AreApart self.old.tree.dirs files.old pool.old }
         ensures ok { IfOk result (λ s. (t : PosixTree) → IsAsked t self.old ask.now files.old → own_refusal t ask.now.client ask.now.op ≡ None → IsServed t ask.now self.new files.old files.new s.reply s.desc) }
-        ensures space { KeepsSpace self.old self.new files.old files.new pool.old pool.new }
+        ensures space { OnOk result (KeepsSpace self.old self.new files.old files.new pool.old pool.new) }
         ensures cause { IfErr result (IsCause self.old.tree.dirs pool.old ask.now.op) }
         ensures due { OnErr result ((t : PosixTree) → IsAsked t self.old ask.now files.old → own_refusal t ask.now.client ask.now.op ≡ None → MayServe t ask.now) }
         ensures err { OnErr result (self.new ≡ self.old) }
@@ -127,7 +127,7 @@ impl Names {
         requires dir { path.now ≢ [] → found_at self.old.tree.dirs (names_above path.now) ≡ Some (met.Dir look.dir) }
         requires apart { AreApart self.old.tree.dirs files.old pool.old }
         ensures ok { IfOk result (λ desc. (t : PosixTree) → IsAllowed t ask.now self.old files.old path.now look.found → IsServed t ask.now self.new files.old files.new (answer t ask.now.client ask.now.op) desc) }
-        ensures space { KeepsSpace self.old self.new files.old files.new pool.old pool.new }
+        ensures space { OnOk result (KeepsSpace self.old self.new files.old files.new pool.old pool.new) }
         ensures cause { IfErr result (IsCause self.old.tree.dirs pool.old ask.now.op) }
         ensures err { OnErr result (self.new ≡ self.old) }
         ensures err_files { OnErr result (files.new ≡ files.old) }
@@ -166,7 +166,7 @@ impl Names {
         ensures nodes { OnOk result (SetsNode (node_at self.old.tree) (node_at self.new.tree) path.now (Some node.Dir)) }
         ensures ok { OnOk result (self.new ≡ record self.old { tree = self.new.tree }) }
         ensures files { self.new.tree.files ≡ self.old.tree.files }
-        ensures space { KeepsSpace self.old self.new files.now files.now pool.old pool.new }
+        ensures space { OnOk result (KeepsSpace self.old self.new files.now files.now pool.old pool.new) }
         ensures cause { IfErr result (LacksSpace self.old.tree.dirs pool.old (names_above path.now)) }
         ensures err { OnErr result (self.new ≡ self.old) }
         ensures err_pool { OnErr result (pool.new ≡ pool.old) }
