@@ -154,7 +154,7 @@ impl Names {
         requires asked { (t : PosixTree) × IsAsked t self.old ask.now files.old }
         requires apart { AreApart self.old.tree.dirs files.old pool.old }
         ensures ok { IfOk result (λ s. (t : PosixTree) → IsAsked t self.old ask.now files.old → IsServed t ask.now self.new files.old files.new s.reply s.desc) }
-        ensures space { KeepsSpace self.old self.new files.old files.new pool.old pool.new }
+        ensures space { OnOk result (KeepsSpace self.old self.new files.old files.new pool.old pool.new) }
         ensures cause { IfErr result (IsCause self.old.tree.dirs pool.old ask.now.op) }
         ensures due { OnErr result ((t : PosixTree) → IsAsked t self.old ask.now files.old → MayServe t ask.now) }
         ensures err { OnErr result (self.new ≡ self.old) }
