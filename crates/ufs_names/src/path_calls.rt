@@ -166,7 +166,9 @@ impl Names {
                 self.remove_name(look, path, files, pool);
                 Ok(None)
             }
-            _ => Ok(None),
+            Op::Stat { .. } => Ok(None),
+            Op::List { .. } => Ok(None),
+            _ => unreachable!(),
         }
     }
 
