@@ -9,12 +9,13 @@ impl NameTree {
     ghost use Rattle.std.specs.Prelude.{◌≡◌, ◌≢◌, ℕ, List, [], Some, None, IsSome, IfOk, IfErr, OnOk, OnErr, length, slice_set};
     ghost use Rattle.std.specs.FinSet as set;
     ghost use Rattle.ufs_dir_tree.specs.Space.{TakesLowest};
-    ghost use Rattle.ufs_dir_tree.specs.DirTable.{blocks_at, found_at};
-    ghost use Rattle.ufs_dir_tree.specs.DirCalls.{names_above, MayGo, MayMove, IsApart, SpendsBlock, Frees, LacksRoom, LacksSpace};
+    ghost use Rattle.ufs_dir_tree.specs.DirTable.{dir_at, blocks_at, found_at};
+    ghost use Rattle.ufs_dir_tree.specs.DirCalls.{names_above, MayGo, MayMove, IsApart, IsListed, SpendsBlock, Frees, LacksRoom, LacksSpace};
     ghost use Rattle.ufs_dir_tree.specs.declared.found.Found.TheVariants as found;
+    ghost use Rattle.ufs_model.specs.declared.data.Excuse.TheVariants as excuse;
     ghost use Rattle.ufs_model.specs.declared.data.Node.TheVariants as node;
     ghost use Rattle.ufs_name_tree.specs.Nodes.{SetsNode, MovesNodes};
-    ghost use Rattle.ufs_name_tree.specs.NameTable.{IsNameTable, IsNumbered, file_at, node_at};
+    ghost use Rattle.ufs_name_tree.specs.NameTable.{IsNameTable, file_at, node_at};
 
     /// Puts a new directory at a path at which nothing stands, in the directory that `look` told. It has the lowest
     /// free inode. Where each slot of the directory above is used that takes the pool's lowest block.
@@ -28,9 +29,11 @@ impl NameTree {
         ensures files { self.new.files ≡ self.old.files }
         ensures block { OnOk result (SpendsBlock self.old.dirs self.new.dirs pool.old pool.new (names_above path.now)) }
         ensures cause { IfErr result (LacksSpace self.old.dirs pool.old (names_above path.now)) }
+        ensures listed { IfErr result (λ x. x ≢ excuse.Inodes → IsListed (dir_at self.old.dirs dir)) }
         ensures err { OnErr result (self.new ≡ self.old) }
         ensures err_pool { OnErr result (pool.new ≡ pool.old) }
         ensures apart { IsApart self.new.dirs pool.new }
+        ensures table { IsNameTable self.new }
     {
         self.dirs.add(dir, path, Kind::Dir, pool)
     }
@@ -56,9 +59,11 @@ impl NameTree {
         ensures unnumbered { IfOk result (λ i. file_at self.old i ≡ None) }
         ensures block { OnOk result (SpendsBlock self.old.dirs self.new.dirs pool.old pool.new (names_above path.now)) }
         ensures cause { IfErr result (LacksSpace self.old.dirs pool.old (names_above path.now)) }
+        ensures listed { IfErr result (λ x. x ≢ excuse.Inodes → IsListed (dir_at self.old.dirs dir)) }
         ensures err { OnErr result (self.new ≡ self.old) }
         ensures err_pool { OnErr result (pool.new ≡ pool.old) }
         ensures apart { IsApart self.new.dirs pool.new }
+        ensures table { IsNameTable self.new }
     {
         match self.dirs.add(dir, path, Kind::File, pool) {
             Ok(inode) => {
@@ -81,6 +86,7 @@ impl NameTree {
         ensures files { self.new.files ≡ self.old.files }
         ensures freed { Frees self.old.dirs self.new.dirs pool.old pool.new (found_at self.old.dirs path.now) }
         ensures apart { IsApart self.new.dirs pool.new }
+        ensures table { IsNameTable self.new }
     {
         self.dirs.remove(dir, path, pool);
     }
@@ -106,9 +112,11 @@ impl NameTree {
         ensures free { OnOk result (found_at self.old.dirs to.now ≡ None → self.new.dirs.free ≡ self.old.dirs.free) }
         ensures absent { OnErr result (found_at self.old.dirs to.now ≡ None) }
         ensures cause { IfErr result (LacksRoom self.old.dirs pool.old (names_above to.now)) }
+        ensures listed { OnErr result (IsListed (dir_at self.old.dirs to_dir)) }
         ensures err { OnErr result (self.new ≡ self.old) }
         ensures err_pool { OnErr result (pool.new ≡ pool.old) }
         ensures apart { IsApart self.new.dirs pool.new }
+        ensures table { IsNameTable self.new }
     {
         self.dirs.rename(from_dir, from, to_dir, to, pool)
     }
@@ -128,6 +136,7 @@ impl NameTree {
         ensures blocks { (i : ℕ) → blocks_at self.new.dirs i ≡ blocks_at self.old.dirs i }
         ensures pool { pool.new ≡ pool.old }
         ensures apart { IsApart self.new.dirs pool.new }
+        ensures table { IsNameTable self.new }
     {
         self.dirs.free_inode(inode, pool);
         self.files[inode as usize] = None;
