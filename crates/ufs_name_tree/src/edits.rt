@@ -9,8 +9,9 @@ impl NameTree {
     ghost use Rattle.std.specs.Prelude.{◌≡◌, ◌≢◌, ℕ, List, [], Some, None, IsSome, IfOk, IfErr, OnOk, OnErr, length, slice_set};
     ghost use Rattle.std.specs.FinSet as set;
     ghost use Rattle.ufs_dir_tree.specs.Space.{TakesLowest};
-    ghost use Rattle.ufs_dir_tree.specs.DirTable.{dir_at, blocks_at, found_at};
-    ghost use Rattle.ufs_dir_tree.specs.DirCalls.{names_above, MayGo, MayMove, IsApart, IsListed, SpendsBlock, Frees, LacksRoom, LacksSpace};
+    ghost use Rattle.ufs_dir_tree.specs.DirTable.{dir_at, blocks_at, inode_of, found_at};
+    ghost use Rattle.ufs_dir_tree.specs.DirCalls.{names_above, SetsFound, MovesFounds, IsUnmet, MayGo, MayMove, IsApart, IsListed, SpendsBlock, Frees, LacksRoom, LacksSpace};
+    ghost use Rattle.ufs_dir_tree.specs.declared.found.Found.{Found};
     ghost use Rattle.ufs_dir_tree.specs.declared.found.Found.TheVariants as found;
     ghost use Rattle.ufs_model.specs.declared.data.Excuse.TheVariants as excuse;
     ghost use Rattle.ufs_model.specs.declared.data.Node.TheVariants as node;
@@ -25,6 +26,7 @@ impl NameTree {
         requires absent { found_at self.old.dirs path.now ≡ None }
         requires apart { IsApart self.old.dirs pool.old }
         ensures ok { OnOk result (SetsNode (node_at self.old) (node_at self.new) path.now (Some node.Dir)) }
+        ensures found { IfOk result (λ i. SetsFound (found_at self.old.dirs) (found_at self.new.dirs) path.now (Some (found.Dir i))) }
         ensures inode { IfOk result (TakesLowest self.old.dirs.free self.new.dirs.free) }
         ensures files { self.new.files ≡ self.old.files }
         ensures block { OnOk result (SpendsBlock self.old.dirs self.new.dirs pool.old pool.new (names_above path.now)) }
@@ -32,6 +34,7 @@ impl NameTree {
         ensures listed { IfErr result (λ x. x ≢ excuse.Inodes → IsListed (dir_at self.old.dirs dir)) }
         ensures err { OnErr result (self.new ≡ self.old) }
         ensures err_pool { OnErr result (pool.new ≡ pool.old) }
+        ensures inodes { length self.new.dirs.dirs ≡ length self.old.dirs.dirs }
         ensures apart { IsApart self.new.dirs pool.new }
         ensures table { IsNameTable self.new }
     {
@@ -52,6 +55,7 @@ impl NameTree {
         requires fresh { (i : ℕ) → file_at self.old i ≢ Some file }
         requires apart { IsApart self.old.dirs pool.old }
         ensures ok { OnOk result (SetsNode (node_at self.old) (node_at self.new) path.now (Some (node.File file))) }
+        ensures found { IfOk result (λ i. SetsFound (found_at self.old.dirs) (found_at self.new.dirs) path.now (Some (found.File i))) }
         ensures inode { IfOk result (TakesLowest self.old.dirs.free self.new.dirs.free) }
         ensures files { IfOk result (λ i. self.new.files ≡ slice_set self.old.files i (Some file)) }
         ensures numbered { IfOk result (λ i. file_at self.new i ≡ Some file) }
@@ -62,6 +66,7 @@ impl NameTree {
         ensures listed { IfErr result (λ x. x ≢ excuse.Inodes → IsListed (dir_at self.old.dirs dir)) }
         ensures err { OnErr result (self.new ≡ self.old) }
         ensures err_pool { OnErr result (pool.new ≡ pool.old) }
+        ensures inodes { length self.new.dirs.dirs ≡ length self.old.dirs.dirs }
         ensures apart { IsApart self.new.dirs pool.new }
         ensures table { IsNameTable self.new }
     {
@@ -83,8 +88,12 @@ impl NameTree {
         requires may_go { MayGo self.old.dirs path.now }
         requires apart { IsApart self.old.dirs pool.old }
         ensures nodes { SetsNode (node_at self.old) (node_at self.new) path.now None }
+        ensures found { SetsFound (found_at self.old.dirs) (found_at self.new.dirs) path.now None }
+        // no name stands for it any more
+        ensures unmet { (f : Found) → found_at self.old.dirs path.now ≡ Some f → IsUnmet self.new.dirs (inode_of f) }
         ensures files { self.new.files ≡ self.old.files }
         ensures freed { Frees self.old.dirs self.new.dirs pool.old pool.new (found_at self.old.dirs path.now) }
+        ensures inodes { length self.new.dirs.dirs ≡ length self.old.dirs.dirs }
         ensures apart { IsApart self.new.dirs pool.new }
         ensures table { IsNameTable self.new }
     {
@@ -106,6 +115,8 @@ impl NameTree {
         requires may_move { MayMove self.old.dirs from.now to.now }
         requires apart { IsApart self.old.dirs pool.old }
         ensures ok { OnOk result (MovesNodes (node_at self.old) (node_at self.new) from.now to.now) }
+        ensures found { OnOk result (MovesFounds (found_at self.old.dirs) (found_at self.new.dirs) from.now to.now) }
+        ensures unmet { OnOk result ((f : Found) → found_at self.old.dirs to.now ≡ Some f → IsUnmet self.new.dirs (inode_of f)) }
         ensures files { self.new.files ≡ self.old.files }
         ensures replaced { OnOk result (IsSome (found_at self.old.dirs to.now) → Frees self.old.dirs self.new.dirs pool.old pool.new (found_at self.old.dirs to.now)) }
         ensures block { OnOk result (found_at self.old.dirs to.now ≡ None → SpendsBlock self.old.dirs self.new.dirs pool.old pool.new (names_above to.now)) }
@@ -115,6 +126,7 @@ impl NameTree {
         ensures listed { OnErr result (IsListed (dir_at self.old.dirs to_dir)) }
         ensures err { OnErr result (self.new ≡ self.old) }
         ensures err_pool { OnErr result (pool.new ≡ pool.old) }
+        ensures inodes { length self.new.dirs.dirs ≡ length self.old.dirs.dirs }
         ensures apart { IsApart self.new.dirs pool.new }
         ensures table { IsNameTable self.new }
     {
@@ -135,6 +147,7 @@ impl NameTree {
         ensures free { self.new.dirs.free ≡ set.insert self.old.dirs.free inode }
         ensures blocks { (i : ℕ) → blocks_at self.new.dirs i ≡ blocks_at self.old.dirs i }
         ensures pool { pool.new ≡ pool.old }
+        ensures inodes { length self.new.dirs.dirs ≡ length self.old.dirs.dirs }
         ensures apart { IsApart self.new.dirs pool.new }
         ensures table { IsNameTable self.new }
     {
