@@ -73,6 +73,12 @@ impl NameTree {
         self.dirs.look(path)
     }
 
+    /// What holds of every table holds of this one, whatever was asked of the tree.
+    pub fn is_table(&self)
+        ensures { IsNameTable self.now }
+    {
+    }
+
     /// The number of the file that the inode is; `None` where it is no file's.
     pub fn file(&self, inode: u32) -> Option<u32>
         ensures { result ≡ file_at self.now inode }

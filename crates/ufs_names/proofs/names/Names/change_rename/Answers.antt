@@ -23,7 +23,7 @@ use Rattle.ufs_names.proofs.names.Names.change_rename.Goals as goal
 
 -- two texts that differ spell different paths
 differ : (a b : List ℕ) (from to : List (List ℕ)) (eq : Bool) → eq ≡ bytes_eq a b → eq ≡ false → a ≡ whole_path from → b ≡ whole_path to → whole_path from ≢ whole_path to
-differ a b from to eq is no e e' h = let yes = bytes_same a b (e ∙ h ∙ sym e') in let both : true ≡ false = sym yes ∙ sym is ∙ no in cc
+differ a b from to eq is not e e' h = let yes = bytes_same a b (e ∙ h ∙ sym e') in let both : true ≡ false = sym yes ∙ sym is ∙ not in cc
 
 -- The names that were renamed, of a tree that the part had.
 module _ (n : NamesPart) (inside tree : NameTable) (is : inside ≡ n.tree) (from to : List (List ℕ)) (found : Option Found) (met : found ≡ found_at n.tree.dirs to) (files : tree.files ≡ inside.files) where
