@@ -77,6 +77,7 @@ impl NameTree {
     pub fn is_table(&self)
         ensures { IsNameTable self.now }
     {
+        let _ = &self.files;
     }
 
     /// The number of the file that the inode is; `None` where it is no file's.
