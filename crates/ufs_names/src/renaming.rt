@@ -133,6 +133,7 @@ impl Names {
         requires from_dir { found_at self.old.tree.dirs (names_above from.now) ≡ Some (met.Dir step.from.dir) }
         requires to_dir { found_at self.old.tree.dirs (names_above to.now) ≡ Some (met.Dir step.to.dir) }
         requires found { step.to.found ≡ found_at self.old.tree.dirs to.now }
+        requires table { IsNameTable self.old.tree }
         requires may { whole_path from.now ≢ whole_path to.now → MayMove self.old.tree.dirs from.now to.now }
         requires inodes { AreInodesOf self.old.tree self.old.held }
         requires here { whole_path from.now ≢ whole_path to.now → GoesHere self.old files.old (file_of (node_at self.old.tree to.now)) }
