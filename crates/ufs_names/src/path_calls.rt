@@ -14,13 +14,13 @@ use ufs_model::{Ask, Desc, Errno, Excuse, Node, Op, Reply, a_request_keeps_the_t
 use ufs_path::PathText;
 
 impl Names {
-    ghost use Rattle.std.specs.Prelude.{◌≡◌, ◌≢◌, ◌<◌, ◌^◌, ℕ, List, [], Some, None, IsSome, IfOk, IfErr, OnOk, OnErr};
+    ghost use Rattle.std.specs.Prelude.{◌≡◌, ◌≢◌, ◌<◌, ◌^◌, ℕ, List, [], Some, None, IsSome, IfOk, IfErr, OnOk, OnErr, length};
     ghost use Rattle.std.specs.Option.{option_map};
     ghost use Rattle.std.specs.FinMap as map;
     ghost use Rattle.ufs_dir_tree.specs.DirTable.{found_at};
     ghost use Rattle.ufs_dir_tree.specs.DirCalls.{names_above, MayGo, LacksSpace};
     ghost use Rattle.ufs_dir_tree.specs.declared.found.Found.TheVariants as met;
-    ghost use Rattle.ufs_model.specs.Asks.{IsAsk};
+    ghost use Rattle.ufs_file.specs.Hand.{FileState};
     ghost use Rattle.ufs_model.specs.Paths.{components};
     ghost use Rattle.ufs_model.specs.PosixTree.{PosixTree};
     ghost use Rattle.ufs_model.specs.Posix.{answer};
@@ -87,7 +87,6 @@ impl Names {
 
     /// A file's size, or the number of a directory's entries.
     fn stat(&self, found: Option<Found>, files: &FileHands) -> Reply
-        requires here { (i f : ℕ) → found ≡ Some (met.File i) → file_at self.now.tree i ≡ Some f → IsSome (map.get files.now f) }
         ensures { IsStat self.now files.now found result }
     {
         match found {
@@ -98,6 +97,19 @@ impl Names {
                 size: self.size(inode, files),
             },
             None => Reply::Done,
+        }
+    }
+
+    /// How many bytes the file of this inode has, where its hand is here.
+    fn size(&self, inode: u32, files: &FileHands) -> u64
+        ensures { (f : ℕ) (s : FileState) → file_at self.now.tree inode ≡ Some f → map.get files.now f ≡ Some s → result ≡ length s.content.bytes }
+    {
+        let Some(file) = self.tree.file(inode) else {
+            return 0;
+        };
+        match files.get(file) {
+            Some(hand) => hand.size(),
+            None => 0,
         }
     }
 
@@ -154,7 +166,9 @@ impl Names {
                 self.remove_name(look, path, files, pool);
                 Ok(None)
             }
-            _ => Ok(None),
+            Op::Stat { .. } => Ok(None),
+            Op::List { .. } => Ok(None),
+            _ => unreachable!(),
         }
     }
 
@@ -172,10 +186,8 @@ impl Names {
         ensures err_pool { OnErr result (pool.new ≡ pool.old) }
     {
         let _ = files;
-        match self.tree.add_dir(dir, path, pool) {
-            Ok(_) => Ok(()),
-            Err(excuse) => Err(excuse),
-        }
+        self.tree.add_dir(dir, path, pool)?;
+        Ok(())
     }
 
     /// A name goes, and with it the file that nothing keeps any more.
