@@ -189,28 +189,28 @@ module _ (n : NamesPart) (t : PosixTree) (ask : Ask) (fs : Files) (asked : IsAsk
   let_be : refusal t ask.client (op.Close fd) ≡ None
   let_be = ap (λ o. first_of o None) own_close
 
-  open : (d : Desc) × (map.get t.fds (ask.client, fd) ≡ Some d)
-  open = is_open (desc_at t ask.client fd) (passed _ _ own_close)
+  at_fd : (d : Desc) × (map.get t.fds (ask.client, fd) ≡ Some d)
+  at_fd = is_open (desc_at t ask.client fd) (passed _ _ own_close)
 
-  told : ask.desc ≡ Some open.0
-  told = asked.asked.desc ∙ ap (λ (r : Op). desc_of_fd t.fds ask.client (fd_named r)) of ∙ open.1
+  told : ask.desc ≡ Some at_fd.0
+  told = asked.asked.desc ∙ ap (λ (r : Op). desc_of_fd t.fds ask.client (fd_named r)) of ∙ at_fd.1
 
-  last_is : ask.last ≡ is_last_of t.fds ask.client fd open.0.file
-  last_is = asked.asked.last ∙ ap (is_last t.fds ask.client) of ∙ ap (λ (o : Option Desc). is_last_of t.fds ask.client fd (file_in o)) open.1
+  last_is : ask.last ≡ is_last_of t.fds ask.client fd at_fd.0.file
+  last_is = asked.asked.last ∙ ap (is_last t.fds ask.client) of ∙ ap (λ (o : Option Desc). is_last_of t.fds ask.client fd (file_in o)) at_fd.1
 
-  opened_is : (opened t ask.client fd).file ≡ open.0.file
-  opened_is = ap (λ (o : Option Desc). (unwrap_or o closed).file) open.1
+  opened_is : (opened t ask.client fd).file ≡ at_fd.0.file
+  opened_is = ap (λ (o : Option Desc). (unwrap_or o closed).file) at_fd.1
 
   abbrev after : PosixTree
   after = record t { fds = map.remove t.fds (ask.client, fd) }
 
   module _ (f : ℕ) (names_it : file_in ask.desc ≡ Some f) where
-    file_is : open.0.file ≡ Some f
+    file_is : at_fd.0.file ≡ Some f
     file_is = ap file_in (sym told) ∙ names_it
 
     -- the file of the descriptor is told of
     pub held_told : is_some (map.get n.held f) ≡ true
-    held_told = part.told f ∙ has_bytes n t part fs asked.files ask.client fd open.0 open.1 f file_is
+    held_told = part.told f ∙ has_bytes n t part fs asked.files ask.client fd at_fd.0 at_fd.1 f file_is
 
     none_left : ask.last ≡ true → holds (map.remove t.fds (ask.client, fd)) ask.client f ≡ false
     none_left last = closed_not _ (ap (is_last_of t.fds ask.client fd) (sym file_is) ∙ sym last_is ∙ last)
@@ -220,8 +220,8 @@ module _ (n : NamesPart) (t : PosixTree) (ask : Ask) (fs : Files) (asked : IsAsk
     goes_here last gone =
         reached_here t ask fs asked.gathered own (op.Close fd) of f
         (inr (subst (λ (o : Option ℕ). touched.IsPartOf (dropped_part (forget after o) o) (name.File f)) (sym (opened_is ∙ file_is))
-            (dropped after f (sym (dead_now n t part fs asked.files ask.client fd open.0 open.1 f file_is (none_left last)) ∙ gone))))
-        (has_bytes n t part fs asked.files ask.client fd open.0 open.1 f file_is)
+            (dropped after f (sym (dead_now n t part fs asked.files ask.client fd at_fd.0 at_fd.1 f file_is (none_left last)) ∙ gone))))
+        (has_bytes n t part fs asked.files ask.client fd at_fd.0 at_fd.1 f file_is)
 
     -- no walk leads to it then
     pub goes_unmet : IsNameTable n.tree → is_kept (without_holder (holding_of n.held f) ask.client) ≡ false → (names : List (List ℕ)) → found_at n.tree.dirs names ≡ Some (met.File (holding_of n.held f).inode) → ⊥
@@ -237,7 +237,7 @@ module _ (n : NamesPart) (t : PosixTree) (ask : Ask) (fs : Files) (asked : IsAsk
     closes : Closes t (change t ask.client (op.Close fd)) new fs fs'
     closes =
         subst (λ (o : Option ℕ). Closes t (forget after o) new fs fs') (sym opened_is)
-        (closed_any n t part fs asked.files ask.client fd open.0 open.1 new fs' nodes open.0.file refl ask.last last_is
+        (closed_any n t part fs asked.files ask.client fd at_fd.0 at_fd.1 new fs' nodes at_fd.0.file refl ask.last last_is
             (λ f e last gone. goes_here f (ap file_in told ∙ e) last gone)
             (subst (λ (o : Option Desc). LetsGo n new fs fs' ask.client ask.last (file_in o)) told goes)
             (subst (λ (o : Option ℕ). IsTree (forget after o)) opened_is (tree_after keeps t ask.client (op.Close fd) part.tree let_be)))

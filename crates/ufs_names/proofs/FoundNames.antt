@@ -21,13 +21,13 @@ module _ (t : DirTable) (is : IsDirTable t) where
   walked at [] f met = record { plain = tt; allowed = refl }
   walked None (name ∷ names) f met = absurd (from_nothing names f met)
   walked (Some (File i)) (name ∷ names) f met = absurd (from_nothing names f met)
-  walked (Some (Dir i)) (name ∷ names) f met = by (entry_of (slots_at t i) name) refl met
+  walked (Some (Dir i)) (name ∷ names) f met = by (entry_of (slots_at t i) name) refl met (λ d. walked (Some (found_of d)) names f)
     where
-      by : (o : Option DentryForm) → entry_of (slots_at t i) name ≡ o → walk_from t (option_map found_of o) names ≡ Some f → AreNames (name ∷ names)
-      by None e met = absurd (from_nothing names f met)
-      by (Some d) e met =
+      by : (o : Option DentryForm) → entry_of (slots_at t i) name ≡ o → walk_from t (option_map found_of o) names ≡ Some f → ((d : DentryForm) → walk_from t (Some (found_of d)) names ≡ Some f → AreNames names) → AreNames (name ∷ names)
+      by None e met rest = absurd (from_nothing names f met)
+      by (Some d) e met go =
           let may = is.names i name (ap is_some e) in
-          let rest = walked (Some (found_of d)) names f met in
+          let rest = go d met in
           record {
             plain = (plain_name name may, rest.plain);
             allowed = ap (λ (o : Option Errno). first_of o (components_refusal names)) (allowed_name name may) ∙ rest.allowed;
