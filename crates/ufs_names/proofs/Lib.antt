@@ -1,11 +1,13 @@
 pub mod AddLemmas
 pub mod AllowedLemmas
+pub mod CauseLemmas
 pub mod ClosePartLemmas
 pub mod ConditionLemmas
 pub mod DescAfterLemmas
 pub mod EntryLemmas
 pub mod FileLemmas
 pub mod FileRequestLemmas
+pub mod FoundNames
 pub mod GatheredLemmas
 pub mod HolderLemmas
 pub mod KeepsSpaceLemmas
@@ -31,5 +33,5 @@ pub mod SpaceLemmas
 pub mod StandsLemmas
 pub mod StartLemmas
 pub mod UndoneLemmas
+pub mod UnnamedLemmas
 pub mod WalkLinks
-pub mod CauseLemmas

@@ -53,7 +53,7 @@ impl Names {
     ghost use Rattle.ufs_dir_tree.specs.DirTable.{dir_at, found_at, no_dir};
     ghost use Rattle.ufs_extent.specs.Runs.{blocks_from};
     ghost use Rattle.ufs_model.specs.Asks.{IsAsk};
-    ghost use Rattle.ufs_model.specs.Excuses.{ExcuseFits};
+    ghost use Rattle.ufs_model.specs.Excuses.{ExcuseFits, is_memory};
     ghost use Rattle.ufs_model.specs.History.{is_excused};
     ghost use Rattle.ufs_model.specs.Paths.{whole_path};
     ghost use Rattle.ufs_model.specs.PosixTree.{PosixTree, root_alone};
@@ -156,7 +156,7 @@ impl Names {
         ensures ok { IfOk result (λ s. (t : PosixTree) → IsAsked t self.old ask.now files.old → IsServed t ask.now self.new files.old files.new s.reply s.desc) }
         ensures space { OnOk result (KeepsSpace self.old self.new files.old files.new pool.old pool.new) }
         ensures cause { IfErr result (IsCause self.old.tree.dirs pool.old ask.now.op) }
-        ensures due { OnErr result ((t : PosixTree) → IsAsked t self.old ask.now files.old → MayServe t ask.now) }
+        ensures due { IfErr result (λ x. is_memory x ≡ false → (t : PosixTree) → IsAsked t self.old ask.now files.old → MayServe t ask.now) }
         ensures err { OnErr result (self.new ≡ self.old) }
         ensures err_files { OnErr result (files.new ≡ files.old) }
         ensures err_pool { OnErr result (pool.new ≡ pool.old) }
