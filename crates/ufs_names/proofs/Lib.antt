@@ -7,6 +7,7 @@ pub mod DescAfterLemmas
 pub mod EntryLemmas
 pub mod FileLemmas
 pub mod FileRequestLemmas
+pub mod FitsLemmas
 pub mod FoundNames
 pub mod GatheredLemmas
 pub mod HolderLemmas

@@ -154,10 +154,10 @@ impl Names {
                 }
                 None => unreachable!(),
             },
-            Op::Mkdir { .. } => {
-                self.add_dir(look.dir, path, pool, files)?;
-                Ok(None)
-            }
+            Op::Mkdir { .. } => match self.add_dir(look.dir, path, pool, files) {
+                Ok(()) => Ok(None),
+                Err(excuse) => Err(excuse),
+            },
             Op::Rmdir { .. } => {
                 self.remove_name(look, path, files, pool);
                 Ok(None)

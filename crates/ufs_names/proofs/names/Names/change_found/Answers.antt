@@ -1,7 +1,9 @@
-use Rattle.std.proofs.Common.{◌≡◌, Some, None, is_some, ap, refl, sym, subst, ◌∙◌}
+use Rattle.std.proofs.Common.{◌≡◌, ℕ, List, Option, Some, None, is_some, ap, refl, sym, subst, ◌∙◌}
+use Rattle.std.specs.Prelude.{slice_index_or}
 use Rattle.std.specs.FinMap as map
 use Rattle.ufs_calls.specs.Modes.{mode_asked, mode_of}
 use Rattle.ufs_model.specs.Descriptors.{Mode, desc_of}
+use Rattle.ufs_model.specs.declared.data.Op.TheVariants as op
 use Rattle.ufs_model.proofs.Facts.Lookups.{same_some}
 use Rattle.ufs_names.specs.NamesPart.{NamesPart}
 use Rattle.ufs_names.proofs.CauseLemmas.{cause_mkdir}
@@ -32,11 +34,21 @@ returns-in_ok-file-in-Some-clause-ok c t is =
 pub add_dir-requires-clause-absent : goal.add_dir-requires-clause-absent
 add_dir-requires-clause-absent c = let a = c.requires.allowed in (mkdir_may c.args.self.now c.args.files.now a.0 c.args.ask.now c.args.path.now c.args.look.found a.1 c.in-Mkdir.path c.in-Mkdir.is).absent
 
-pub returns-in_err-add_dir-in-Mkdir-clause-cause : goal.returns-in_err-add_dir-in-Mkdir-clause-cause
-returns-in_err-add_dir-in-Mkdir-clause-cause c = ?
+pub returns-in-Err-clause-cause : goal.returns-in-Err-clause-cause
+returns-in-Err-clause-cause c =
+    let a = c.requires.allowed in
+    let absent = (mkdir_may c.args.self.now c.args.files.now a.0 c.args.ask.now c.args.path.now c.args.look.found a.1 c.in-Mkdir.path c.in-Mkdir.is).absent in
+    let at = named c.args.self.now c.args.files.now a.0 c.args.ask.now c.args.path.now c.args.look.found a.1 (op.Mkdir c.in-Mkdir.path) c.in-Mkdir.is c.in-Mkdir.path refl in
+    cause_mkdir c.args.self.now.tree.dirs c.args.pool.now c.args.path.now c.in-Mkdir.path at c.in-Err.excuse c.args.ask.now.op c.in-Mkdir.is absent c.in-Err.ensures.cause
 
-pub returns-in_ok-add_dir-in-Mkdir-clause-ok : goal.returns-in_ok-add_dir-in-Mkdir-clause-ok
-returns-in_ok-add_dir-in-Mkdir-clause-ok c t is = ?
+pub returns-in-Ok-clause-ok : goal.returns-in-Ok-clause-ok
+returns-in-Ok-clause-ok c t is =
+    let done = c.in-Ok.ensures in
+    served_mkdir c.a_request_keeps_the_tree.ensures c.args.self.now c.args.files.now t c.args.ask.now c.args.path.now c.args.look.found is c.add_dir.new.self c.args.files.now c.in-Mkdir.path c.in-Mkdir.is done.nodes (record {
+      held = ap (λ (n : NamesPart). n.held) done.ok;
+      next = ap (λ (n : NamesPart). n.next) done.ok;
+      stays = record { numbers = λ i. ap (λ (l : List (Option ℕ)). slice_index_or l i None) c.add_dir.ensures.files; files = refl };
+    })
 
 pub remove_name-requires-clause-stands : goal.remove_name-requires-clause-stands
 remove_name-requires-clause-stands c = let a = c.requires.allowed in (rmdir_may c.args.self.now c.args.files.now a.0 c.args.ask.now c.args.path.now c.args.look.found a.1 c.in-Rmdir.path c.in-Rmdir.is).0.there
@@ -65,3 +77,10 @@ returns-in-Unlink-clause-ok c t is =
     served_unlink c.a_request_keeps_the_tree.ensures c.args.self.now c.args.files.now t c.args.ask.now c.args.path.now c.args.look.found is c.remove_name-in-Unlink.new.self c.remove_name-in-Unlink.new.files c.remove_name-in-Unlink.ensures.removed c.in-Unlink.path c.in-Unlink.is
     (unlink_here c.a_request_keeps_the_tree.ensures c.args.self.now c.args.files.now t c.args.ask.now c.args.path.now c.args.look.found is c.args.self.now c.args.files.now c.in-Unlink.path c.in-Unlink.is)
 
+pub returns-in-Stat-clause-ok : goal.returns-in-Stat-clause-ok
+returns-in-Stat-clause-ok c t is =
+    served_stat c.a_request_keeps_the_tree.ensures c.args.self.now c.args.files.now t c.args.ask.now c.args.path.now c.args.look.found is c.args.self.now c.args.files.now c.in-Stat.path c.in-Stat.is
+
+pub returns-in-List-clause-ok : goal.returns-in-List-clause-ok
+returns-in-List-clause-ok c t is =
+    served_list c.a_request_keeps_the_tree.ensures c.args.self.now c.args.files.now t c.args.ask.now c.args.path.now c.args.look.found is c.args.self.now c.args.files.now c.in-List.path c.in-List.is
