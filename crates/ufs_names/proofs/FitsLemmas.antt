@@ -55,3 +55,7 @@ module _ (n : NamesPart) (t : PosixTree) (part : IsPartOf n t) (table : IsNameTa
   space_told (excuse.Blocks need had) listed makes cause = room_told (excuse.Blocks need had) (listed (λ e. cc)) cause.1
   space_told excuse.Inodes listed makes cause = makes refl
   space_told (excuse.Extents need) listed makes cause = room_told (excuse.Extents need) (listed (λ e. cc)) cause.1
+
+-- want of memory excuses any request
+pub memory_fits : (t : PosixTree) (client : ℕ) (request : Op) → ExcuseFits t client request excuse.Memory
+memory_fits t client request = record { due = λ e. cc; told = tt }

@@ -53,7 +53,7 @@ impl Names {
     ghost use Rattle.ufs_dir_tree.specs.DirTable.{dir_at, found_at, no_dir};
     ghost use Rattle.ufs_extent.specs.Runs.{blocks_from};
     ghost use Rattle.ufs_model.specs.Asks.{IsAsk};
-    ghost use Rattle.ufs_model.specs.Excuses.{ExcuseFits, is_memory};
+    ghost use Rattle.ufs_model.specs.Excuses.{ExcuseFits};
     ghost use Rattle.ufs_model.specs.History.{is_excused};
     ghost use Rattle.ufs_model.specs.Paths.{whole_path};
     ghost use Rattle.ufs_model.specs.PosixTree.{PosixTree, root_alone};
@@ -65,7 +65,7 @@ impl Names {
     ghost use Rattle.ufs_names.specs.Calls.{HaveInodes, IsAsked, IsOfNames, IsServed};
     ghost use Rattle.ufs_names.specs.NamesPart.{IsPartOf};
     ghost use Rattle.ufs_names.specs.Space.{AreApart, HaveTheSame, IsCause};
-    ghost use Rattle.ufs_names.specs.Steps.{KeepsSpace, MayServe};
+    ghost use Rattle.ufs_names.specs.Steps.{KeepsSpace};
 
     /// The root alone, of so many inodes, and no file.
     pub fn new(alloc: Global, inodes: u32) -> Result<Names, Memory>
@@ -156,7 +156,7 @@ impl Names {
         ensures ok { IfOk result (λ s. (t : PosixTree) → IsAsked t self.old ask.now files.old → IsServed t ask.now self.new files.old files.new s.reply s.desc) }
         ensures space { OnOk result (KeepsSpace self.old self.new files.old files.new pool.old pool.new) }
         ensures cause { IfErr result (IsCause self.old.tree.dirs pool.old ask.now.op) }
-        ensures due { IfErr result (λ x. is_memory x ≡ false → (t : PosixTree) → IsAsked t self.old ask.now files.old → MayServe t ask.now) }
+        ensures fits { IfErr result (λ x. (t : PosixTree) → IsAsked t self.old ask.now files.old → ExcuseFits t ask.now.client ask.now.op x) }
         ensures err { OnErr result (self.new ≡ self.old) }
         ensures err_files { OnErr result (files.new ≡ files.old) }
         ensures err_pool { OnErr result (pool.new ≡ pool.old) }

@@ -20,9 +20,10 @@ impl Names {
     ghost use Rattle.std.specs.Prelude.{◌≡◌, ◌≢◌, ◌↔◌, ℕ, List, [], Some, None, false, IsSome, IfOk, IfErr, OnOk, OnErr};
     ghost use Rattle.std.specs.Option.{option_map};
     ghost use Rattle.std.specs.FinMap as map;
-    ghost use Rattle.ufs_dir_tree.specs.DirTable.{found_at, slots_at};
-    ghost use Rattle.ufs_dir_tree.specs.DirCalls.{names_above, IsBare, MayMove, LacksRoom};
+    ghost use Rattle.ufs_dir_tree.specs.DirTable.{dir_at, found_at, slots_at};
+    ghost use Rattle.ufs_dir_tree.specs.DirCalls.{names_above, IsBare, IsListed, MayMove, LacksRoom};
     ghost use Rattle.ufs_dir_tree.specs.declared.found.Found.TheVariants as met;
+    ghost use Rattle.ufs_model.specs.Excuses.{ExcuseFits};
     ghost use Rattle.ufs_model.specs.Paths.{components, text_refusal, whole_path};
     ghost use Rattle.ufs_model.specs.PosixTree.{PosixTree};
     ghost use Rattle.ufs_model.specs.Refusals as refusals;
@@ -35,7 +36,7 @@ impl Names {
     ghost use Rattle.ufs_names.specs.NamesPart.{IsPartOf, AreInodesOf};
     ghost use Rattle.ufs_names.specs.PathCalls.{RefusesRename};
     ghost use Rattle.ufs_names.specs.Space.{AreApart, IsCause};
-    ghost use Rattle.ufs_names.specs.Steps.{GoesHere, KeepsSpace, LosesName, MayServe};
+    ghost use Rattle.ufs_names.specs.Steps.{GoesHere, KeepsSpace, LosesName};
 
     /// A `rename`, of which no text is refused.
     pub(crate) fn rename(
@@ -52,7 +53,7 @@ impl Names {
         ensures ok { IfOk result (λ s. (t : PosixTree) → IsAsked t self.old ask.now files.old → own_refusal t ask.now.client ask.now.op ≡ None → IsServed t ask.now self.new files.old files.new s.reply s.desc) }
         ensures space { OnOk result (KeepsSpace self.old self.new files.old files.new pool.old pool.new) }
         ensures cause { IfErr result (IsCause self.old.tree.dirs pool.old ask.now.op) }
-        ensures due { OnErr result ((t : PosixTree) → IsAsked t self.old ask.now files.old → own_refusal t ask.now.client ask.now.op ≡ None → MayServe t ask.now) }
+        ensures fits { IfErr result (λ x. (t : PosixTree) → IsAsked t self.old ask.now files.old → own_refusal t ask.now.client ask.now.op ≡ None → ExcuseFits t ask.now.client ask.now.op x) }
         ensures err { OnErr result (self.new ≡ self.old) }
         ensures err_files { OnErr result (files.new ≡ files.old) }
         ensures err_pool { OnErr result (pool.new ≡ pool.old) }
@@ -145,6 +146,7 @@ impl Names {
         ensures space { OnOk result (KeepsSpace self.old self.new files.old files.new pool.old pool.new) }
         ensures cause { IfErr result (LacksRoom self.old.tree.dirs pool.old (names_above to.now)) }
         ensures absent { OnErr result (found_at self.old.tree.dirs to.now ≡ None) }
+        ensures listed { OnErr result (IsListed (dir_at self.old.tree.dirs step.to.dir)) }
         ensures err { OnErr result (self.new ≡ self.old) }
         ensures err_files { OnErr result (files.new ≡ files.old) }
         ensures err_pool { OnErr result (pool.new ≡ pool.old) }
