@@ -1,5 +1,5 @@
 -- A `rename` that isn't refused is served.
-use Rattle.std.proofs.Common.{◌≡◌, ◌≢◌, ℕ, ◌⊎◌, inl, inr, List, [], ◌∷◌, Bool, true, false, cond, is_some, bytes_eq, not, ◌&&◌, Option, Some, None, ap, refl, sym, subst, ◌∙◌}
+use Rattle.std.proofs.Common.{◌≡◌, ◌≢◌, ℕ, ◌⊎◌, inl, inr, List, [], ◌∷◌, Bool, true, false, cond, is_none, is_some, bytes_eq, not, ◌&&◌, Option, Some, None, ap, refl, sym, subst, ◌∙◌}
 use Rattle.std.specs.Prelude.{IsSome}
 use Rattle.std.specs.Option.{option_map}
 use Rattle.std.specs.FinMap as map
@@ -20,14 +20,17 @@ use Rattle.ufs_model.specs.Touched as touched
 use Rattle.ufs_model.specs.Touched.{dropped_part, reached, replaced_part}
 use Rattle.ufs_model.specs.declared.data.Excuse.{Excuse}
 use Rattle.ufs_model.specs.declared.data.Excuse.TheVariants as excuse
+use Rattle.ufs_model.specs.Excuses.{ExcuseFits}
+use Rattle.ufs_model.specs.declared.data.Op.{Op}
 use Rattle.ufs_model.specs.declared.data.Op.TheVariants as op
 use Rattle.ufs_model.specs.declared.data.PartName.{PartName}
 use Rattle.ufs_model.specs.declared.data.PartName.TheVariants as name
 use Rattle.ufs_model.specs.declared.data.Reply.{Reply}
 use Rattle.ufs_model.specs.declared.data.Reply.TheVariants.{Done}
 use Rattle.ufs_bitmap.specs.Blocks.{BlockSet}
-use Rattle.ufs_dir_tree.specs.DirTable.{DirTable, found_at}
-use Rattle.ufs_dir_tree.specs.DirCalls.{LacksRoom, MayGo, MayMove, names_above}
+use Rattle.ufs_dir_tree.specs.DirTable.{DirTable, dir_at, found_at}
+use Rattle.ufs_dir_tree.specs.DirCalls.{IsListed, LacksRoom, MayGo, MayMove, names_above}
+use Rattle.ufs_dir_tree.specs.declared.found.Found.TheVariants.{Dir}
 use Rattle.ufs_files.specs.Files.{Files}
 use Rattle.ufs_name_tree.specs.NameTable.{IsNameTable, node_at, node_of}
 use Rattle.ufs_name_tree.specs.Nodes.{MovesNodes}
@@ -41,9 +44,10 @@ use Rattle.ufs_names.proofs.PartLemmas.{part_rename, part_same_name, stood_has}
 use Rattle.ufs_model.proofs.Facts.Pieces.{bytes_same}
 use Rattle.ufs_model.proofs.NewNameLemmas.{IsRenamed, may_rename, rename_allowed}
 use Rattle.ufs_names.proofs.AllowedLemmas.{bytes_differ}
-use Rattle.ufs_names.proofs.ConditionLemmas.{rename_moves}
+use Rattle.ufs_names.proofs.ConditionLemmas.{names_above_are, rename_moves}
 use Rattle.ufs_names.proofs.EntryLemmas.{bare_if_no_entries}
 use Rattle.ufs_names.proofs.FileLemmas.{FilesGo, files_same}
+use Rattle.ufs_names.proofs.FitsLemmas.{room_told}
 use Rattle.ufs_names.proofs.GatheredLemmas.{dropped, goes_here, reached_here}
 use Rattle.ufs_names.proofs.LinkLemmas.{is_named, unnamed_renamed}
 use Rattle.ufs_names.proofs.PathChanges.{files_lose}
@@ -140,6 +144,17 @@ module _ (n : NamesPart) (t : PosixTree) (ask : Ask) (fs : Files) (asked : IsAsk
       pub rename_here : whole_path from ≢ whole_path to → GoesHere n fs (file_of (node_at n.tree to))
       rename_here other =
           subst (λ l. GoesHere n fs (file_of (node_at n.tree l))) (sym e') (subst (λ o. GoesHere n fs (file_of o)) stands_there (here_lost (apart_whole other)))
+
+      -- a new name that gets no room
+      pub rename_fits : IsNameTable n.tree → (dir : ℕ) → found_at n.tree.dirs (names_above to) ≡ Some (Dir dir) → found_at n.tree.dirs to ≡ None → IsListed (dir_at n.tree.dirs dir) → (pool : BlockSet) (x : Excuse)
+          → LacksRoom n.tree.dirs pool (names_above to) x → ExcuseFits t ask.client ask.op x
+      rename_fits table dir at absent listed pool x lacks = subst (λ (r : Op). ExcuseFits t ask.client r x) (sym of) (record {
+        due = λ other. let_be;
+        told = room_told n t part table (names_above to) (names_above_are to (subst AreNames (sym e') (names_of new texts.1))) dir at ask.client (op.Rename old new)
+            (ap is_none (stands_there ∙ ap (λ l. node_at n.tree l) (sym e') ∙ ap (option_map (node_of n.tree)) absent))
+            (ap (λ l. whole_path (names_above l)) (sym e'))
+            pool x listed (lacks dir at);
+      })
 
       module _ (keeps : KeepsTrees) (now : NamesPart) (fs' : Files) where
         served_with : IsPartOf now (change t ask.client (op.Rename old new)) → FilesGo t (change t ask.client (op.Rename old new)) fs fs' → IsServed t ask now fs fs' Done None

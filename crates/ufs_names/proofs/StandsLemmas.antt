@@ -45,7 +45,7 @@ module _ (nodes nodes' : Nodes) (paths : Paths) (was_so : Stands nodes paths) (n
 -- ---- a new name
 
 -- the names go on from these, or don't
-pub begin_or_not : (front names : List (List ℕ)) → ((rest : List (List ℕ)) × (names ≡ front ++ rest)) ⊎ ((rest : List (List ℕ)) → names ≡ front ++ rest → ⊥)
+begin_or_not : (front names : List (List ℕ)) → ((rest : List (List ℕ)) × (names ≡ front ++ rest)) ⊎ ((rest : List (List ℕ)) → names ≡ front ++ rest → ⊥)
 begin_or_not [] names = inl (names, refl)
 begin_or_not (x ∷ xs) [] = inr (λ rest e. cc)
 begin_or_not (x ∷ xs) (y ∷ ys) = by (one_or_apart path_total path_same y x) (begin_or_not xs ys)

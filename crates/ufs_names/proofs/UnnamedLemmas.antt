@@ -1,4 +1,4 @@
--- What had a name and has none now: no walk leads to it, and its file is that of before.
+-- What had a name and has none now: its file is that of before, and its directory exchanged blocks with the pool.
 use Rattle.std.proofs.Common.{◌≡◌, ◌≢◌, ℕ, ◌⊎◌, inl, inr, List, [], ◌++◌, true, Option, Some, None, is_some, unwrap_or, ap, refl, sym, ◌∙◌}
 use Rattle.std.proofs.lemmas.List.{append-nil}
 use Rattle.std.specs.Option.{option_map}
@@ -28,44 +28,6 @@ same_nodes t t' same (Some (File i)) = ap (λ o. Some (node.File (unwrap_or o 0)
 
 pub same_numbers : (t t' : NameTable) → t'.files ≡ t.files → (i : ℕ) → file_at t' i ≡ file_at t i
 same_numbers t t' same i = ap (λ (files : List (Option ℕ)). file_at (record { dirs = t.dirs; files = files }) i) same
-
-module _ (t : NameTable) (is : IsNameTable t) (place : List (List ℕ)) (i f : ℕ) (there : found_at t.dirs place ≡ Some (File i)) (numbered : file_at t i ≡ Some f) where
-  -- a file stands at one place
-  pub one_place : (names : List (List ℕ)) → node_at t names ≡ Some (node.File f) → names ≡ place
-  one_place names at = by (found_at t.dirs names) refl at
-    where
-      by : (o : Option Found) → found_at t.dirs names ≡ o → option_map (node_of t) o ≡ Some (node.File f) → names ≡ place
-      by None e h = cc
-      by (Some (Dir j)) e h = cc
-      by (Some (File j)) e h =
-          let g = from_some (file_at t j) (is.named names j e) in
-          let told : node.File (unwrap_or (file_at t j) 0) ≡ node.File f = same_some (node.File (unwrap_or (file_at t j) 0)) (node.File f) h in
-          let known : node.File g.0 ≡ node.File f = sym (ap (λ o. node.File (unwrap_or o 0)) g.1) ∙ told in
-          let same : g.0 ≡ f = cc in
-          is.table.once names place (File j) (File i) e there (is.once j i f (g.1 ∙ ap Some same) numbered)
-
-  module _ (t' : NameTable) (still : file_at t' i ≡ Some f) where
-    stands_now : (names : List (List ℕ)) → found_at t'.dirs names ≡ Some (File i) → node_at t' names ≡ Some (node.File f)
-    stands_now names at = ap (option_map (node_of t')) at ∙ ap (λ o. Some (node.File (unwrap_or o 0))) still
-
-    -- nothing stands at its place any more
-    pub unmet_gone : SetsNode (node_at t) (node_at t') place None → (names : List (List ℕ)) → found_at t'.dirs names ≡ Some (File i) → ⊥
-    unmet_gone sets names at = elsewhere (one_place names (sym (sets.others names elsewhere) ∙ stands_now names at))
-      where
-        elsewhere : names ≡ place → ⊥
-        elsewhere e = let none : Some (node.File f) ≡ None = sym (stands_now names at) ∙ ap (node_at t') e ∙ sets.this in cc
-
-    -- something else stands there, which had another place
-    pub unmet_replaced : (from : List (List ℕ)) → MovesNodes (node_at t) (node_at t') from place → ((rest : List (List ℕ)) → place ≢ from ++ rest) → (names : List (List ℕ)) → found_at t'.dirs names ≡ Some (File i) → ⊥
-    unmet_replaced from moves outside names at = by (begin_or_not place names) (begin_or_not from names)
-      where
-        now : node_at t' names ≡ Some (node.File f)
-        now = stands_now names at
-
-        by : ((rest : List (List ℕ)) × (names ≡ place ++ rest)) ⊎ ((rest : List (List ℕ)) → names ≡ place ++ rest → ⊥) → ((rest : List (List ℕ)) × (names ≡ from ++ rest)) ⊎ ((rest : List (List ℕ)) → names ≡ from ++ rest → ⊥) → ⊥
-        by (inl a) b = outside a.0 (sym (one_place (from ++ a.0) (sym (moves.moved a.0) ∙ sym (ap (node_at t') a.1) ∙ now)))
-        by (inr not) (inl b) = let none : Some (node.File f) ≡ None = sym now ∙ ap (node_at t') b.1 ∙ moves.gone b.0 in cc
-        by (inr not) (inr never) = not [] (one_place names (sym (moves.others names never not) ∙ now) ∙ sym (append-nil place))
 
 -- ---- what its file lost
 

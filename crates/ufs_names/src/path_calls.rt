@@ -207,6 +207,8 @@ impl Names {
         ensures removed { Removes self.old self.new files.old files.new path.now }
         ensures space { KeepsSpace self.old self.new files.old files.new pool.old pool.new }
     {
+        // A file that was met has its number.
+        self.tree.is_table();
         self.tree.remove(look.dir, path, pool);
         self.forget_name(look.found, files, pool);
     }

@@ -18,12 +18,8 @@ use Rattle.ufs_names.specs.Space.{AreApart}
 use Rattle.ufs_names.specs.Steps.{KeepsSpace, LosesName}
 use Rattle.ufs_names.proofs.KeepsSpaceLemmas.{keeps_dirs, keeps_then}
 use Rattle.ufs_names.proofs.SpaceLemmas.{DirExchanges, dir_apart}
-use Rattle.ufs_names.proofs.UnnamedLemmas.{loses_before, name_put, same_nodes, same_numbers, unmet_replaced}
+use Rattle.ufs_names.proofs.UnnamedLemmas.{loses_before, name_put, same_nodes, same_numbers}
 use Rattle.ufs_names.proofs.names.Names.change_rename.Goals as goal
-
--- two texts that differ spell different paths
-differ : (a b : List ℕ) (from to : List (List ℕ)) (eq : Bool) → eq ≡ bytes_eq a b → eq ≡ false → a ≡ whole_path from → b ≡ whole_path to → whole_path from ≢ whole_path to
-differ a b from to eq is not e e' h = let yes = bytes_same a b (e ∙ h ∙ sym e') in let both : true ≡ false = sym yes ∙ sym is ∙ not in cc
 
 -- The names that were renamed, of a tree that the part had.
 module _ (n : NamesPart) (inside tree : NameTable) (is : inside ≡ n.tree) (from to : List (List ℕ)) (found : Option Found) (met : found ≡ found_at n.tree.dirs to) (files : tree.files ≡ inside.files) where
@@ -35,12 +31,6 @@ module _ (n : NamesPart) (inside tree : NameTable) (is : inside ≡ n.tree) (fro
 
   named_still : IsNameTable n.tree → (i : ℕ) → found ≡ Some (File i) → is_some (file_at tree i) ≡ true
   named_still table i at = ap is_some (numbers i) ∙ named table i at
-
-  unmet_now : IsNameTable n.tree → MovesNodes (node_at inside) (node_at tree) from to → MayMove n.tree.dirs from to → (i : ℕ) (names : List (List ℕ)) → found ≡ Some (File i) → found_at tree.dirs names ≡ Some (File i) → ⊥
-  unmet_now table moves may i names at there =
-      let f = from_some (file_at n.tree i) (named table i at) in
-      unmet_replaced n.tree table to i f.0 (sym met ∙ at) f.1 tree (numbers i ∙ f.1) from
-      (subst (λ (t : NameTable). MovesNodes (node_at t) (node_at tree) from to) is moves) may.outside names there
 
   same_lost : option_map (node_of tree) found ≡ node_at n.tree to
   same_lost = same_nodes n.tree tree numbers found ∙ ap (option_map (node_of n.tree)) met
@@ -58,9 +48,7 @@ forget_name-requires-clause-numbered c i at =
 
 pub forget_name-requires-clause-unmet : goal.forget_name-requires-clause-unmet
 forget_name-requires-clause-unmet c i names at there =
-    let other = differ c.whole.result.now c.whole-2.result.now c.args.from.now c.args.to.now c.eq.result c.eq.ensures c.if-eq.false c.whole.ensures.value c.whole-2.ensures.value in
-    unmet_now c.args.self.now c.self.inside.tree c.rename.new.self (ap (λ (n : NamesPart). n.tree) c.self.view_is) c.args.from.now c.args.to.now c.args.step.to.found c.requires.found c.in_ok-rename.ensures.files
-    c.requires.table c.in_ok-rename.ensures.ok (c.requires.may other) i names at there
+    c.in_ok-rename.ensures.unmet (File i) (ap (λ (n : NamesPart). found_at n.tree.dirs c.args.to.now) c.self.view_is ∙ sym c.requires.found ∙ at) names (File i) there refl
 
 pub forget_name-requires-clause-apart : goal.forget_name-requires-clause-apart
 forget_name-requires-clause-apart c =
