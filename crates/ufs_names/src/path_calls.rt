@@ -151,10 +151,10 @@ impl Names {
         a_request_keeps_the_tree();
         match &ask.op {
             Op::OpenFile { .. } => match Mode::of(&ask.op) {
-                Some(mode) => {
-                    let file = self.open(ask.client, path, look, mode.trunc, files, pool)?;
-                    Ok(Some(mode.desc(file)))
-                }
+                Some(mode) => match self.open(ask.client, path, look, mode.trunc, files, pool) {
+                    Ok(file) => Ok(Some(mode.desc(file))),
+                    Err(excuse) => Err(excuse),
+                },
                 None => unreachable!(),
             },
             Op::Mkdir { .. } => match self.add_dir(look.dir, path, pool, files) {
