@@ -21,7 +21,6 @@ impl Names {
     ghost use Rattle.ufs_dir_tree.specs.DirCalls.{names_above, MayGo, LacksSpace};
     ghost use Rattle.ufs_dir_tree.specs.declared.found.Found.TheVariants as met;
     ghost use Rattle.ufs_file.specs.Hand.{FileState};
-    ghost use Rattle.ufs_model.specs.Excuses.{ExcuseFits};
     ghost use Rattle.ufs_model.specs.Paths.{components};
     ghost use Rattle.ufs_model.specs.PosixTree.{PosixTree};
     ghost use Rattle.ufs_model.specs.Posix.{answer};
@@ -53,7 +52,6 @@ impl Names {
         ensures space { OnOk result (KeepsSpace self.old self.new files.old files.new pool.old pool.new) }
         ensures cause { IfErr result (IsCause self.old.tree.dirs pool.old ask.now.op) }
         ensures due { OnErr result ((t : PosixTree) → IsAsked t self.old ask.now files.old → own_refusal t ask.now.client ask.now.op ≡ None → MayServe t ask.now) }
-        ensures fits { IfErr result (λ x. (t : PosixTree) → IsAsked t self.old ask.now files.old → own_refusal t ask.now.client ask.now.op ≡ None → ExcuseFits t ask.now.client ask.now.op x) }
         ensures err { OnErr result (self.new ≡ self.old) }
         ensures err_files { OnErr result (files.new ≡ files.old) }
         ensures err_pool { OnErr result (pool.new ≡ pool.old) }
