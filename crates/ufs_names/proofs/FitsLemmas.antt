@@ -54,7 +54,6 @@ module _ (n : NamesPart) (t : PosixTree) (part : IsPartOf n t) (table : IsNameTa
   space_told (excuse.Stopped fault) listed makes cause = tt
   space_told (excuse.Blocks need had) listed makes cause = room_told (excuse.Blocks need had) (listed (λ e. cc) (λ e. cc)) cause.1
   space_told excuse.Inodes listed makes cause = makes refl
-<<<<<<< HEAD
   space_told (excuse.Extents need) listed makes cause = room_told (excuse.Extents need) (listed (λ e. cc) (λ e. cc)) cause.1
 
 -- a request that isn't refused, and is excused so
@@ -73,10 +72,6 @@ by_memory t client request (excuse.Stopped fault) other = other (λ e. cc)
 by_memory t client request (excuse.Blocks need had) other = other (λ e. cc)
 by_memory t client request excuse.Inodes other = other (λ e. cc)
 by_memory t client request (excuse.Extents need) other = other (λ e. cc)
-=======
-  space_told (excuse.Extents need) listed makes cause = room_told (excuse.Extents need) (listed (λ e. cc)) cause.1
 
--- want of memory excuses any request
 pub memory_fits : (t : PosixTree) (client : ℕ) (request : Op) → ExcuseFits t client request excuse.Memory
-memory_fits t client request = record { due = λ e. cc; told = tt }
->>>>>>> 585bfbf50b9432c0c875e831e408ac8781e6c577
+memory_fits t client request = fits_memory t client request excuse.Memory refl
