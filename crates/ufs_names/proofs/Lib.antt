@@ -21,6 +21,7 @@ pub mod PartLemmas
 pub mod PathAnswers
 pub mod PathChanges
 pub mod PathConditions
+pub mod PathFits
 pub mod PathLemmas
 pub mod PathRefusals
 pub mod RefusedLemmas

@@ -9,6 +9,7 @@ use Rattle.ufs_names.specs.NamesPart.{NamesPart}
 use Rattle.ufs_names.proofs.CauseLemmas.{cause_mkdir}
 use Rattle.ufs_names.proofs.FileLemmas.{next_absent}
 use Rattle.ufs_names.proofs.PathConditions.{mkdir_may, named, rmdir_may, unlink_may}
+use Rattle.ufs_names.proofs.PathFits.{fits_mkdir, fits_open}
 use Rattle.ufs_names.proofs.PathChanges.{emptied_here, rmdir_here, unlink_here, served_list, served_mkdir, served_open, served_rmdir, served_stat, served_unlink}
 use Rattle.ufs_names.proofs.names.Names.change_found.Goals as goal
 
@@ -84,3 +85,9 @@ returns-in-Stat-clause-ok c t is =
 pub returns-in-List-clause-ok : goal.returns-in-List-clause-ok
 returns-in-List-clause-ok c t is =
     served_list c.a_request_keeps_the_tree.ensures c.args.self.now c.args.files.now t c.args.ask.now c.args.path.now c.args.look.found is c.args.self.now c.args.files.now c.in-List.path c.in-List.is
+
+pub returns-in-Err-clause-fits : goal.returns-in-Err-clause-fits
+returns-in-Err-clause-fits c t is =
+    fits_mkdir c.args.self.now c.args.files.now t c.args.ask.now c.args.path.now c.args.look.found is c.args.look.dir
+    (c.requires.dir (mkdir_may c.args.self.now c.args.files.now t c.args.ask.now c.args.path.now c.args.look.found is c.in-Mkdir.path c.in-Mkdir.is).below)
+    c.args.pool.now c.in-Err.excuse (λ not. c.in-Err.ensures.listed) c.in-Mkdir.path c.in-Mkdir.is c.in-Err.ensures.cause
