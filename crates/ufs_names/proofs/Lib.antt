@@ -37,3 +37,4 @@ pub mod StartLemmas
 pub mod UndoneLemmas
 pub mod UnnamedLemmas
 pub mod WalkLinks
+pub mod SyncLemmas
