@@ -70,8 +70,10 @@ impl Names {
         let Ok(reply) = self.answer_found(ask, look.found, files) else {
             return Err(Excuse::Memory);
         };
-        let desc = self.change_found(ask, path, look, files, pool)?;
-        Ok(Served { reply, desc })
+        match self.change_found(ask, path, look, files, pool) {
+            Ok(desc) => Ok(Served { reply, desc }),
+            Err(excuse) => Err(excuse),
+        }
     }
 
     /// The reply to a request that isn't refused.
