@@ -1,5 +1,5 @@
 -- Free slots of a directory.
-use Rattle.std.proofs.Common.{◌≡◌, ℕ, suc, ◌<◌, ◌≤◌, ◌&&◌, List, [], ◌∷◌, ◌++◌, replicate, sym, Bool, true, false, cond, length, set, ap, refl, ◌∙◌, arith, length-set}
+use Rattle.std.proofs.Common.{◌≡◌, ℕ, suc, ◌*◌, ◌%◌, ◌<◌, ◌≤◌, ◌&&◌, List, [], ◌∷◌, ◌++◌, replicate, sym, Bool, true, false, cond, length, set, ap, refl, ◌∙◌, arith, length-set}
 use Rattle.std.specs.List.{list_all, count_by}
 use Rattle.std.proofs.lemmas.Bool.{false_from_ne_true, and_parts, true≢false}
 use Rattle.std.proofs.lemmas.List.{get_or-set_same}
@@ -7,9 +7,10 @@ use Rattle.std.proofs.lemmas.List.Folds.{list_all_at}
 use Rattle.std.proofs.lemmas.List.Sums.{sum_by-cons}
 use Rattle.ufs_layout.specs.DentryForm.{free_slot, is_named}
 use Rattle.ufs_dirs.specs.Directory.{Directory}
+use Rattle.ufs_dirs.specs.Names.{AreNamesIn}
 use Rattle.ufs_dirs.specs.Changes.{IsSlot, place_of, with_entry}
 use Rattle.ufs_dirs.specs.declared.Slot.{Slot}
-use Rattle.ufs_dir_tree.specs.DirCalls.{HasRoom, IsFull}
+use Rattle.ufs_dir_tree.specs.DirCalls.{HasRoom, IsFull, IsListed}
 
 abbrev one_if : Bool → ℕ
 one_if b = cond b 1 0
@@ -78,3 +79,14 @@ room_added d new e = ap (list_all is_named) e ∙ all_behind is_named d.slots (r
 
 pub full_or_room : (d : Directory) → IsFull d → HasRoom d → ⊥
 full_or_room d full room = true≢false (sym full ∙ room)
+
+-- what the count of a directory's names tells
+pub is_listed : (d : Directory) (n : ℕ) → n ≡ count_by is_named d.slots → length d.slots ≡ 64 * length d.blocks → ((names : List (List ℕ)) → AreNamesIn d.slots names → n ≡ length names) → (names : List (List ℕ)) × AreNamesIn d.slots names → IsListed d
+is_listed d n counted sized each some = record {
+  names = some.0;
+  listed = some.1;
+  whole = λ full. blocks_of (length some.0) (length d.blocks) (omega (arith, each some.0 some.1, counted, all_count is_named d.slots full, sized));
+}
+  where
+    blocks_of : (k m : ℕ) → k ≡ 64 * m → k % 64 ≡ 0
+    blocks_of k m e = omega arith

@@ -7,7 +7,7 @@ use Rattle.ufs_dir_tree.specs.declared.found.Found.{Found}
 use Rattle.ufs_dir_tree.proofs.Prefixes.{Begins, NotBegins, begins_or_not}
 
 -- the names are these, or others
-same_or_not : (path names : List (List ℕ)) → (names ≡ path) ⊎ (names ≢ path)
+pub same_or_not : (path names : List (List ℕ)) → (names ≡ path) ⊎ (names ≢ path)
 same_or_not path names = by (begins_or_not path names)
   where
     longer : (y : List ℕ) (ys : List (List ℕ)) → path ≢ path ++ y ∷ ys

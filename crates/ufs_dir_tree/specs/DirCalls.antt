@@ -1,9 +1,11 @@
 -- What the calls on a tree's directories answer, and what they change.
-use Rattle.std.specs.Prelude.{ℕ, ◌≡◌, ◌≢◌, ◌-◌, ◌<◌, List, [], ◌∷◌, ◌++◌, Option, Some, None, IsSome, ⊤, length, take, true, false}
+use Rattle.std.specs.Prelude.{ℕ, ◌≡◌, ◌≢◌, ◌-◌, ◌%◌, ◌<◌, List, [], ◌∷◌, ◌++◌, Option, Some, None, IsSome, ⊤, length, take, true, false}
 use Rattle.std.specs.List.{list_all}
 use Rattle.std.specs.FinSet as set
 use Rattle.ufs_layout.specs.DentryForm.{DentryForm, is_named}
+use Rattle.ufs_base.specs.declared.sizes.TheConstants.{SLOTS_PER_BLOCK}
 use Rattle.ufs_dirs.specs.Directory.{Directory, entry_of, has_block}
+use Rattle.ufs_dirs.specs.Names.{AreNamesIn}
 use Rattle.ufs_bitmap.specs.Blocks.{BlockSet}
 use Rattle.ufs_base.specs.Choices.{first_of}
 use Rattle.ufs_model.specs.declared.data.Errno.{Errno}
@@ -88,6 +90,12 @@ IsApart t pool = (i b : ℕ) → has_block (blocks_at t i) b ≡ true → set.co
 -- each slot is used
 abbrev pub IsFull : Directory → Type 0
 IsFull d = list_all is_named d.slots ≡ true
+
+-- The directory has a list of its names. Where each slot is used they fill whole blocks.
+pub record IsListed (d : Directory) : Type 0 where
+  pub names : List (List ℕ)
+  pub listed : AreNamesIn d.slots names
+  pub whole : IsFull d → length names % SLOTS_PER_BLOCK ≡ 0
 
 -- some slot is free
 abbrev pub HasRoom : Directory → Type 0

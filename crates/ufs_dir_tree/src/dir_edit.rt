@@ -2,24 +2,34 @@
 use crate::dir_entry::{clear_at, give_room_at, put_at, take_out_at};
 use crate::dir_tree::{DIRECTORY, DirTree};
 use crate::found::Kind;
-use crate::space::{give_inode, take_inode};
+use crate::space::{give_inode, lowest_inode, take_inode};
 use ufs_bitmap::Pool;
 use ufs_layout::Dentry;
 use ufs_model::Excuse;
 use ufs_path::PathText;
 
 impl DirTree {
-    ghost use Rattle.std.specs.Prelude.{◌≡◌, ◌≢◌, ◌<◌, ◌∷◌, ◌++◌, ℕ, List, [], Some, None, IsSome, IfOk, IfErr, OnOk, OnErr, length};
+    ghost use Rattle.std.specs.Prelude.{◌≡◌, ◌≢◌, ◌<◌, ◌∷◌, ◌++◌, ℕ, List, [], Some, None, IsSome, IfOk, IfErr, IfSome, IfNone, OnOk, OnErr, length};
     ghost use Rattle.std.specs.Option.{option_map};
     ghost use Rattle.std.specs.FinSet as set;
     ghost use Rattle.ufs_dirs.specs.Directory.{entry_of};
-    ghost use Rattle.ufs_dir_tree.specs.Space.{TakesLowest};
+    ghost use Rattle.ufs_dir_tree.specs.Space.{IsLowest, TakesLowest};
     ghost use Rattle.ufs_dir_tree.specs.DirTable.{DirTable, IsDirTable, IsUsed, dir_at, slots_at, found_of, inode_of, found_at};
-    ghost use Rattle.ufs_dir_tree.specs.DirCalls.{names_above, found_as, IsBare, IsUnmet, MayGo, SetsFound, MovesFounds, MayMove, IsApart, HasRoom, GetsRoom, SpendsBlock, SpendsNone, FreesInode, Frees, IsRoomCause, IsSpaceCause, LacksRoom, LacksSpace};
+    ghost use Rattle.ufs_dir_tree.specs.DirCalls.{names_above, found_as, IsBare, IsUnmet, MayGo, SetsFound, MovesFounds, MayMove, IsApart, IsListed, HasRoom, GetsRoom, SpendsBlock, SpendsNone, FreesInode, Frees, IsRoomCause, IsSpaceCause, LacksRoom, LacksSpace};
     ghost use Rattle.ufs_dir_tree.specs.DirEdits.{IsMet, IsLoose, NothingFrom, SameEntries, ChangesOne, SetsEntry, ClearsName};
     ghost use Rattle.ufs_dir_tree.specs.declared.found.Found.{Found};
     ghost use Rattle.ufs_dir_tree.specs.declared.found.Found.TheVariants as found;
+    ghost use Rattle.ufs_model.specs.declared.data.Excuse.TheVariants as excuse;
     ghost use Rattle.ufs_path.specs.Names.{IsName};
+
+    /// The lowest free inode, which the next `add` takes; `None` where none is free. No inode comes or goes.
+    pub fn next_inode(&mut self) -> Option<u32>
+        ensures some { IfSome result (IsLowest self.old.free) }
+        ensures none { IfNone result (self.old.free ≡ set.empty) }
+        ensures same { self.new ≡ self.old }
+    {
+        lowest_inode(&mut self.free)
+    }
 
     /// Puts a new inode, the lowest free one, at a path at which nothing stands, in the directory that `look` told. Where each slot of its directory is
     /// used that takes the pool's lowest block.
@@ -39,9 +49,11 @@ impl DirTree {
         ensures inodes { length self.new.dirs ≡ length self.old.dirs }
         ensures block { OnOk result (SpendsBlock self.old self.new pool.old pool.new (names_above path.now)) }
         ensures cause { IfErr result (LacksSpace self.old pool.old (names_above path.now)) }
+        ensures listed { IfErr result (λ x. x ≢ excuse.Inodes → IsListed (dir_at self.old dir)) }
         ensures err { OnErr result (self.new ≡ self.old) }
         ensures err_pool { OnErr result (pool.new ≡ pool.old) }
         ensures apart { IsApart self.new pool.new }
+        ensures table { IsDirTable self.new }
     {
         match self.make(dir, kind, pool) {
             Ok(inode) => {
@@ -66,6 +78,7 @@ impl DirTree {
         ensures unmet { (f : Found) → found_at self.old path.now ≡ Some f → IsUnmet self.new (inode_of f) }
         ensures inodes { length self.new.dirs ≡ length self.old.dirs }
         ensures apart { IsApart self.new pool.new }
+        ensures table { IsDirTable self.new }
     {
         self.drop_entry(dir, path.last(), pool);
     }
@@ -92,9 +105,11 @@ impl DirTree {
         ensures inodes { length self.new.dirs ≡ length self.old.dirs }
         ensures absent { OnErr result (found_at self.old to.now ≡ None) }
         ensures cause { IfErr result (LacksRoom self.old pool.old (names_above to.now)) }
+        ensures listed { OnErr result (IsListed (dir_at self.old to_dir)) }
         ensures err { OnErr result (self.new ≡ self.old) }
         ensures err_pool { OnErr result (pool.new ≡ pool.old) }
         ensures apart { IsApart self.new pool.new }
+        ensures table { IsDirTable self.new }
     {
         let name = to.last();
         match self.clear_name(to_dir, name, pool) {
@@ -136,9 +151,11 @@ impl DirTree {
         ensures free { OnOk result (entry_of (slots_at self.old dir) name.now ≡ None → self.new.free ≡ self.old.free) }
         ensures absent { OnErr result (entry_of (slots_at self.old dir) name.now ≡ None) }
         ensures cause { IfErr result (IsRoomCause (dir_at self.old dir) pool.old) }
+        ensures listed { OnErr result (IsListed (dir_at self.old dir)) }
         ensures err { OnErr result (self.new ≡ self.old) }
         ensures err_pool { OnErr result (pool.new ≡ pool.old) }
         ensures apart { IsApart self.new pool.new }
+        ensures table { IsDirTable self.new }
     {
         if self.entry(dir, name).is_some() {
             self.drop_entry(dir, name, pool);
@@ -158,6 +175,7 @@ impl DirTree {
         ensures free { self.new.free ≡ self.old.free }
         ensures same { SameEntries self.old.dirs self.new.dirs }
         ensures cause { IfErr result (IsRoomCause (dir_at self.old dir) pool.old) }
+        ensures listed { IsListed (dir_at self.old dir) }
         ensures err { OnErr result (self.new ≡ self.old) }
         ensures err_pool { OnErr result (pool.new ≡ pool.old) }
         ensures apart { IsApart self.new pool.new }
@@ -179,6 +197,7 @@ impl DirTree {
         ensures loose { IfOk result (λ i. IsLoose self.new (found_as kind i)) }
         ensures bare { IfOk result (λ i. NothingFrom self.new (Some (found_as kind i))) }
         ensures cause { IfErr result (IsSpaceCause self.old dir pool.old) }
+        ensures listed { IfErr result (λ x. x ≢ excuse.Inodes → IsListed (dir_at self.old dir)) }
         ensures err { OnErr result (self.new ≡ self.old) }
         ensures err_pool { OnErr result (pool.new ≡ pool.old) }
         ensures apart { IsApart self.new pool.new }
@@ -218,6 +237,7 @@ impl DirTree {
         requires loose { IsLoose self.old (found_of (record { inode = inode; kind = kind; name = name.now })) }
         ensures entries { SetsEntry self.old.dirs self.new.dirs dir name.now (Some (record { inode = inode; kind = kind; name = name.now })) }
         ensures free { self.new.free ≡ self.old.free }
+        ensures table { IsDirTable self.new }
     {
         put_at(
             &mut self.dirs,

@@ -7,7 +7,7 @@ ghost use Rattle.ufs_dirs.specs.Directory.{entry_of, has_block};
 ghost use Rattle.ufs_dirs.specs.Changes.{SetsName};
 ghost use Rattle.ufs_dir_tree.specs.Space.{extents_of};
 ghost use Rattle.ufs_dir_tree.specs.DirTable.{no_dir};
-ghost use Rattle.ufs_dir_tree.specs.DirCalls.{HasRoom, IsFull, GetsRoom, IsRoomCause};
+ghost use Rattle.ufs_dir_tree.specs.DirCalls.{HasRoom, IsFull, IsListed, GetsRoom, IsRoomCause};
 ghost use Rattle.ufs_dir_tree.specs.DirEdits.{HasNone, IsAddCause, SameNames, RoomsIn, ChangesOne, SetsEntry, dir_in};
 
 use crate::space::{extents_with, give_block, give_blocks, take_block};
@@ -53,6 +53,7 @@ fn give_room(dir: &mut DirBlocks, pool: &mut Pool) -> Result<(), Excuse>
     ensures cause { IfErr result (IsRoomCause dir.old pool.old) }
     ensures err { OnErr result (dir.new ≡ dir.old) }
     ensures err_pool { OnErr result (pool.new ≡ pool.old) }
+    ensures listed { IsListed dir.old }
 {
     if (dir.count() as usize) / SLOTS_PER_BLOCK < dir.blocks().len() {
         return Ok(());
@@ -122,6 +123,7 @@ pub(crate) fn give_room_at(
     ensures cause { IfErr result (IsRoomCause (dir_in dirs.old.items dir) pool.old) }
     ensures err { OnErr result (dirs.new.items ≡ dirs.old.items) }
     ensures err_pool { OnErr result (pool.new ≡ pool.old) }
+    ensures listed { IsListed (dir_in dirs.old.items dir) }
 {
     give_room(&mut dirs[dir], pool)
 }

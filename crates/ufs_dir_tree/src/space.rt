@@ -40,6 +40,23 @@ pub(crate) fn give_inode(free: &mut Bitmap, inode: u32)
     });
 }
 
+/// The lowest free inode, which stays free: it is taken and given back, since a look from the first one on would pass
+/// all those in use.
+pub(crate) fn lowest_inode(free: &mut Bitmap) -> Option<u32>
+    requires small { free.old.blocks ≤ 65536 }
+    ensures some { IfSome result (IsLowest free.old.free) }
+    ensures none { IfNone result (free.old.free ≡ set.empty) }
+    ensures same { free.new ≡ free.old }
+{
+    match take_inode(free) {
+        Some(inode) => {
+            give_inode(free, inode);
+            Some(inode)
+        }
+        None => None,
+    }
+}
+
 /// The pool's lowest block.
 pub(crate) fn take_block(pool: &mut Pool) -> Option<u32>
     ensures taken { IfSome result (TakesLowest pool.old pool.new) }

@@ -17,12 +17,14 @@ use Rattle.ufs_model.specs.declared.data.Op.{Op}
 use Rattle.ufs_model.specs.declared.data.Op.TheVariants as op
 use Rattle.ufs_model.proofs.Facts.Allowed.{first_none}
 use Rattle.ufs_model.proofs.Facts.Lookups.{same_some}
-use Rattle.ufs_names.specs.DirTable.{IsDirTable, slots_at, found_at, node_at, node_of}
-use Rattle.ufs_names.specs.DirCalls.{refusal_by, IsBare}
+use Rattle.ufs_dir_tree.specs.DirTable.{IsDirTable, slots_at, found_at}
+use Rattle.ufs_name_tree.specs.NameTable.{NameTable, IsNameTable, node_at, node_of}
+use Rattle.ufs_dir_tree.specs.DirCalls.{IsBare}
+use Rattle.ufs_name_tree.specs.Nodes.{refusal_by}
 use Rattle.ufs_names.specs.NamesPart.{NamesPart, IsPartOf}
 use Rattle.ufs_names.specs.PathCalls.{path_asked, end_refusal}
-use Rattle.ufs_names.specs.declared.found.Found.{Found}
-use Rattle.ufs_names.specs.declared.found.Found.TheVariants.{Dir, File}
+use Rattle.ufs_dir_tree.specs.declared.found.Found.{Found}
+use Rattle.ufs_dir_tree.specs.declared.found.Found.TheVariants.{Dir, File}
 use Rattle.ufs_names.proofs.NameLists.{AreNames, names_of}
 use Rattle.ufs_names.proofs.WalkLinks.{met_at, path_refused_alike}
 use Rattle.ufs_names.proofs.EntryLemmas.{no_entries_if_bare, bare_if_no_entries}
@@ -80,14 +82,14 @@ same_test true false to back = back refl
 same_test false true to back = sym (to refl)
 
 -- what the directories tell of entries
-pub entries_told : (n : NamesPart) (t : PosixTree) → IsPartOf n t → IsDirTable n.dirs → (names : List (List ℕ)) → AreNames names → (found : Option Found) → found ≡ found_at n.dirs names
-    → (b : Bool) → (b ≡ false) ↔ ((i : ℕ) → found ≡ Some (Dir i) → IsBare (slots_at n.dirs i)) → option_map node_of found ≡ Some node.Dir → b ≡ has_entries t.paths (whole_path names)
+pub entries_told : (n : NamesPart) (t : PosixTree) → IsPartOf n t → IsDirTable n.tree.dirs → (names : List (List ℕ)) → AreNames names → (found : Option Found) → found ≡ found_at n.tree.dirs names
+    → (b : Bool) → (b ≡ false) ↔ ((i : ℕ) → found ≡ Some (Dir i) → IsBare (slots_at n.tree.dirs i)) → option_map (node_of n.tree) found ≡ Some node.Dir → b ≡ has_entries t.paths (whole_path names)
 entries_told n t part table names are None at b is dir = cc
 entries_told n t part table names are (Some (File f)) at b is dir = cc
 entries_told n t part table names are (Some (Dir i)) at b is dir =
     same_test b (has_entries t.paths (whole_path names))
-    (λ e. no_entries_if_bare n.dirs t.paths part.tree.namespace table part.paths names are.plain are.allowed i (sym at) (is.0 e i refl))
-    (λ e. is.1 (λ j same. subst (λ i. IsBare (slots_at n.dirs i)) (number i j same) (bare_if_no_entries n.dirs t.paths part.tree.namespace table part.paths names are.plain are.allowed i (sym at) e)))
+    (λ e. no_entries_if_bare n.tree t.paths part.tree.namespace table part.paths names are.plain are.allowed i (sym at) (is.0 e i refl))
+    (λ e. is.1 (λ j same. subst (λ i. IsBare (slots_at n.tree.dirs i)) (number i j same) (bare_if_no_entries n.tree t.paths part.tree.namespace table part.paths names are.plain are.allowed i (sym at) e)))
   where
     number : (i j : ℕ) → Some (Dir i) ≡ Some (Dir j) → i ≡ j
     number i j same = cc
@@ -106,19 +108,27 @@ module _ (n : NamesPart) (t : PosixTree) (part : IsPartOf n t) (client : ℕ) (r
   by_tree : refusal t client request ≡ by_path t client request path
   by_tree = ap (λ (o : Option Errno). first_of o (tree_refusal t client request)) own ∙ refused_by_path t client request path (path_of (path_asked request) names on).1
 
-  walked : (o : Option Errno) → refusal_by (node_at n.dirs) [] names ≡ o → walk_refusal t.paths path ≡ o
-  walked o e = sym (path_refused_alike n.dirs t.paths part.paths path text) ∙ ap (refusal_by (node_at n.dirs) []) are_names ∙ e
+  walked : (o : Option Errno) → refusal_by (node_at n.tree) [] names ≡ o → walk_refusal t.paths path ≡ o
+  walked o e = sym (path_refused_alike (node_at n.tree) t.paths part.paths path text) ∙ ap (refusal_by (node_at n.tree) []) are_names ∙ e
 
   -- by the walk
-  pub refused_by_walk : (e : Errno) → refusal_by (node_at n.dirs) [] names ≡ Some e → refusal t client request ≡ Some e
+  pub refused_by_walk : (e : Errno) → refusal_by (node_at n.tree) [] names ≡ Some e → refusal t client request ≡ Some e
   refused_by_walk e is = by_tree ∙ ap (λ (o : Option Errno). first_of o (end_refusal (is_root path) (walk.node_at t.paths path) (has_entries t.paths (whole_of path)) request)) (walked (Some e) is)
 
   -- by what stands at its end
-  pub refused_by_end : IsDirTable n.dirs → refusal_by (node_at n.dirs) [] names ≡ None → (found : Option Found) → found ≡ found_at n.dirs names → (root entries : Bool) → IsTrue root ↔ (names ≡ [])
-      → (entries ≡ false) ↔ ((i : ℕ) → found ≡ Some (Dir i) → IsBare (slots_at n.dirs i)) → refusal t client request ≡ end_refusal root (option_map node_of found) entries request
+  pub refused_by_end : IsDirTable n.tree.dirs → refusal_by (node_at n.tree) [] names ≡ None → (found : Option Found) → found ≡ found_at n.tree.dirs names → (root entries : Bool) → IsTrue root ↔ (names ≡ [])
+      → (entries ≡ false) ↔ ((i : ℕ) → found ≡ Some (Dir i) → IsBare (slots_at n.tree.dirs i)) → refusal t client request ≡ end_refusal root (option_map (node_of n.tree) found) entries request
   refused_by_end table passed found met root entries at_root told =
       by_tree ∙ ap (λ (o : Option Errno). first_of o (end_refusal (is_root path) (walk.node_at t.paths path) (has_entries t.paths (whole_of path)) request)) (walked None passed)
       ∙ ap (λ b. end_refusal b (walk.node_at t.paths path) (has_entries t.paths (whole_of path)) request) (ap (λ (l : List (List ℕ)). not (has_component l)) are_names ∙ sym (root_is root names at_root))
-      ∙ ap (λ o. end_refusal root o (has_entries t.paths (whole_of path)) request) (met_at n.dirs t.paths part.paths path text ∙ ap (node_at n.dirs) are_names ∙ ap (option_map node_of) (sym met))
-      ∙ sym (end_by_entries root (option_map node_of found) entries (has_entries t.paths (whole_of path)) request (λ dir.
+      ∙ ap (λ o. end_refusal root o (has_entries t.paths (whole_of path)) request) (met_at (node_at n.tree) t.paths part.paths path text ∙ ap (node_at n.tree) are_names ∙ ap (option_map (node_of n.tree)) (sym met))
+      ∙ sym (end_by_entries root (option_map (node_of n.tree) found) entries (has_entries t.paths (whole_of path)) request (λ dir.
       entries_told n t part table names (subst AreNames are_names (names_of path text)) found met entries told dir ∙ ap (λ l. has_entries t.paths (whole_path l)) (sym are_names)))
+
+  -- by what was looked at, of the same names
+  pub refused_by_look : (tree : NameTable) → tree ≡ n.tree → IsNameTable tree → refusal_by (node_at tree) [] names ≡ None → (found : Option Found) → found ≡ found_at tree.dirs names → (root entries : Bool) → IsTrue root ↔ (names ≡ [])
+      → (entries ≡ false) ↔ ((i : ℕ) → found ≡ Some (Dir i) → IsBare (slots_at n.tree.dirs i)) → (stood : Option Node) → stood ≡ option_map (node_of tree) found → (r : Option Errno) → r ≡ end_refusal root stood entries request
+      → refusal t client request ≡ r
+  refused_by_look tree same table passed found met root entries at_root told stood stood_is r is =
+      refused_by_end (subst (λ (d : NameTable). IsDirTable d.dirs) same table.table) (subst (λ (d : NameTable). refusal_by (node_at d) [] names ≡ None) same passed) found (met ∙ ap (λ (d : NameTable). found_at d.dirs names) same) root entries at_root told
+      ∙ ap (λ (o : Option Node). end_refusal root o entries request) (sym (stood_is ∙ ap (λ (d : NameTable). option_map (node_of d) found) same)) ∙ sym is

@@ -1,5 +1,6 @@
 -- A refusal is served: POSIX's reply, and nothing has changed.
 use Rattle.std.proofs.Common.{◌≡◌, Option, Some, ap, refl, sym, subst, ◌∙◌}
+use Rattle.ufs_files.specs.Files.{Files, AreFilesOf}
 use Rattle.ufs_model.specs.PosixTree.{PosixTree}
 use Rattle.ufs_model.specs.Posix.{posix, served}
 use Rattle.ufs_model.specs.Refusals.{refusal}
@@ -13,6 +14,7 @@ use Rattle.ufs_model.specs.declared.data.Reply.{Reply}
 use Rattle.ufs_model.specs.declared.data.Reply.TheVariants.{Refused}
 use Rattle.ufs_names.specs.NamesPart.{NamesPart, IsPartOf}
 use Rattle.ufs_names.specs.Calls.{IsServed}
+use Rattle.ufs_names.proofs.FileLemmas.{FilesGo, files_same}
 
 -- an `open` that is refused has no descriptor, and any other request the one that it names
 told_refused : (request : Op) (e : Errno) → fd_told request (Refused e) ≡ fd_named request
@@ -33,15 +35,20 @@ told_refused (op.Rename from to) e = refl
 told_refused (op.Stat path) e = refl
 told_refused (op.List path) e = refl
 
-pub served_refused : (n : NamesPart) (t : PosixTree) (ask : Ask) (e : Errno) (reply : Reply) (desc : Option Desc) → IsPartOf n t → IsAsk t ask → refusal t ask.client ask.op ≡ Some e
-    → reply ≡ Refused e → desc ≡ ask.desc → IsServed t ask n reply desc
-served_refused n t ask e reply desc part asked is reply_is desc_is =
-    subst (λ (k : Reply × Option Desc). IsServed t ask n k.0 k.1) (λ i. (sym reply_is i, sym desc_is i)) (record {
+pub served_refused : (n : NamesPart) (t : PosixTree) (ask : Ask) (fs : Files) (e : Errno) (reply : Reply) (desc : Option Desc) → IsPartOf n t → AreFilesOf fs t → IsAsk t ask → refusal t ask.client ask.op ≡ Some e
+    → reply ≡ Refused e → desc ≡ ask.desc → IsServed t ask n fs fs reply desc
+served_refused n t ask fs e reply desc part files asked is reply_is desc_is =
+    subst (λ (k : Reply × Option Desc). IsServed t ask n fs fs k.0 k.1) (λ i. (sym reply_is i, sym desc_is i)) (record {
       replied = ap (λ (p : PosixTree × Reply). p.1) (sym whole);
       goes_on = subst (λ (p : PosixTree × Reply). IsPartOf n p.0) (sym whole) part;
+      files = go.files;
       told = subst (λ (p : PosixTree × Reply). IsDescAfter t.fds p.0.fds ask.client (fd_told ask.op (Refused e)) ask.desc) (sym whole)
           (record { this = asked.desc ∙ ap (desc_of_fd t.fds ask.client) (sym (told_refused ask.op e)); others = λ c m apart. refl });
+      go_on = go.go_on;
     })
   where
     whole : posix t ask.client ask.op ≡ (t, Refused e)
     whole = ap (served t ask.client ask.op) is
+
+    go : FilesGo t (posix t ask.client ask.op).0 fs fs
+    go = subst (λ (p : PosixTree × Reply). FilesGo t p.0 fs fs) (sym whole) (files_same t t part.tree fs fs files refl (λ f. refl))

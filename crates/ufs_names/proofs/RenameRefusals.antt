@@ -13,11 +13,13 @@ use Rattle.ufs_model.specs.declared.data.Errno.{Errno}
 use Rattle.ufs_model.specs.declared.data.Errno.TheVariants.{Ebusy, Einval, Eisdir, Enotdir, Enotempty, Enoent}
 use Rattle.ufs_model.specs.declared.data.Node.{Node}
 use Rattle.ufs_model.specs.declared.data.Node.TheVariants as node
-use Rattle.ufs_names.specs.DirTable.{DirTable, IsDirTable, slots_at, found_at, node_at, node_of}
-use Rattle.ufs_names.specs.DirCalls.{refusal_by, IsBare}
+use Rattle.ufs_dir_tree.specs.DirTable.{IsDirTable, slots_at, found_at}
+use Rattle.ufs_name_tree.specs.NameTable.{NameTable, node_at, node_of}
+use Rattle.ufs_dir_tree.specs.DirCalls.{IsBare}
+use Rattle.ufs_name_tree.specs.Nodes.{refusal_by}
 use Rattle.ufs_names.specs.NamesPart.{NamesPart, IsPartOf}
-use Rattle.ufs_names.specs.declared.found.Found.{Found}
-use Rattle.ufs_names.specs.declared.found.Found.TheVariants.{Dir}
+use Rattle.ufs_dir_tree.specs.declared.found.Found.{Found}
+use Rattle.ufs_dir_tree.specs.declared.found.Found.TheVariants.{Dir}
 use Rattle.ufs_names.proofs.NameLists.{AreNames, names_of}
 use Rattle.ufs_names.proofs.WalkLinks.{met}
 use Rattle.ufs_names.proofs.ResolveLemmas.{node_resolved, walk_resolved}
@@ -37,22 +39,22 @@ replaced_by_entries old (Some node.Dir) below same a b e = ap (replaced old (Som
 replaced_by_entries old (Some (node.File f)) below same a b e = refl
 
 module _ (n : NamesPart) (t : PosixTree) (part : IsPartOf n t) (from to : List (List ℕ)) (are : AreNames from) (are' : AreNames to) where
-  pub replaced_is : IsDirTable n.dirs → (old new : Option Found) → old ≡ found_at n.dirs from → new ≡ found_at n.dirs to → (entries : Bool) → (entries ≡ false) ↔ ((i : ℕ) → new ≡ Some (Dir i) → IsBare (slots_at n.dirs i))
-      → replaced (option_map node_of old) (option_map node_of new) (is_below (whole_path from) (whole_path to)) (bytes_eq (whole_path from) (whole_path to)) entries ≡ replace_refusal t.paths (whole_path from) (whole_path to)
+  pub replaced_is : IsDirTable n.tree.dirs → (old new : Option Found) → old ≡ found_at n.tree.dirs from → new ≡ found_at n.tree.dirs to → (entries : Bool) → (entries ≡ false) ↔ ((i : ℕ) → new ≡ Some (Dir i) → IsBare (slots_at n.tree.dirs i))
+      → replaced (option_map (node_of n.tree) old) (option_map (node_of n.tree) new) (is_below (whole_path from) (whole_path to)) (bytes_eq (whole_path from) (whole_path to)) entries ≡ replace_refusal t.paths (whole_path from) (whole_path to)
   replaced_is table old new at at' entries told =
-      replaced_by_entries (option_map node_of old) (option_map node_of new) (is_below (whole_path from) (whole_path to)) (bytes_eq (whole_path from) (whole_path to)) entries (has_entries t.paths (whole_path to))
+      replaced_by_entries (option_map (node_of n.tree) old) (option_map (node_of n.tree) new) (is_below (whole_path from) (whole_path to)) (bytes_eq (whole_path from) (whole_path to)) entries (has_entries t.paths (whole_path to))
       (entries_told n t part table to are' new at' entries told)
-      ∙ ap (λ o. replaced o (option_map node_of new) (is_below (whole_path from) (whole_path to)) (bytes_eq (whole_path from) (whole_path to)) (has_entries t.paths (whole_path to)))
-      (ap (option_map node_of) at ∙ sym (met n.dirs t.paths part.paths from are))
+      ∙ ap (λ o. replaced o (option_map (node_of n.tree) new) (is_below (whole_path from) (whole_path to)) (bytes_eq (whole_path from) (whole_path to)) (has_entries t.paths (whole_path to)))
+      (ap (option_map (node_of n.tree)) at ∙ sym (met (node_at n.tree) t.paths part.paths from are))
       ∙ ap (λ o. replaced (map.get t.paths (whole_path from)) o (is_below (whole_path from) (whole_path to)) (bytes_eq (whole_path from) (whole_path to)) (has_entries t.paths (whole_path to)))
-      (ap (option_map node_of) at' ∙ sym (met n.dirs t.paths part.paths to are'))
+      (ap (option_map (node_of n.tree)) at' ∙ sym (met (node_at n.tree) t.paths part.paths to are'))
 
 -- ---- the whole order
 
 abbrev by_steps : Bool → Option Errno → Option Node → Option Errno → Option Errno → Option Errno
 by_steps root way o way' last = first_of (refused_if root Ebusy) (first_of way (first_of (refused_if (is_none o) Enoent) (first_of way' last)))
 
-module _ (n : NamesPart) (t : PosixTree) (part : IsPartOf n t) (d : DirTable) (same : d ≡ n.dirs) (from to : List (List ℕ)) (old new : List ℕ) (text : text_refusal old ≡ None) (text' : text_refusal new ≡ None)
+module _ (n : NamesPart) (t : PosixTree) (part : IsPartOf n t) (d : NameTable) (same : d ≡ n.tree) (from to : List (List ℕ)) (old new : List ℕ) (text : text_refusal old ≡ None) (text' : text_refusal new ≡ None)
     (e : from ≡ components old) (e' : to ≡ components new) where
   are : AreNames from
   are = subst AreNames (sym e) (names_of old text)
@@ -80,19 +82,19 @@ module _ (n : NamesPart) (t : PosixTree) (part : IsPartOf n t) (d : DirTable) (s
       refused_from err is =
           below_root ∙ ap (λ way. by_steps false way (map.get t.paths (whole_path from)) (walk_refusal_from t.paths [] to) (replace_refusal t.paths (whole_path from) (whole_path to))) (walk_resolved n t part d same from are (Some err) is)
 
-      module _ (passed : refusal_by (node_at d) [] from ≡ None) (o : Option Found) (at : o ≡ found_at d from) where
-        to_node : rename_refusal t.paths old new ≡ by_steps false None (option_map node_of o) (walk_refusal_from t.paths [] to) (replace_refusal t.paths (whole_path from) (whole_path to))
+      module _ (passed : refusal_by (node_at d) [] from ≡ None) (o : Option Found) (at : o ≡ found_at d.dirs from) where
+        to_node : rename_refusal t.paths old new ≡ by_steps false None (option_map (node_of n.tree) o) (walk_refusal_from t.paths [] to) (replace_refusal t.paths (whole_path from) (whole_path to))
         to_node =
             below_root ∙ ap (λ way. by_steps false way (map.get t.paths (whole_path from)) (walk_refusal_from t.paths [] to) (replace_refusal t.paths (whole_path from) (whole_path to))) (walk_resolved n t part d same from are None passed)
             ∙ ap (λ o. by_steps false None o (walk_refusal_from t.paths [] to) (replace_refusal t.paths (whole_path from) (whole_path to))) (node_resolved n t part d same from are o at)
 
         pub refused_missing : o ≡ None → rename_refusal t.paths old new ≡ Some Enoent
-        refused_missing none = to_node ∙ ap (λ o. by_steps false None (option_map node_of o) (walk_refusal_from t.paths [] to) (replace_refusal t.paths (whole_path from) (whole_path to))) none
+        refused_missing none = to_node ∙ ap (λ o. by_steps false None (option_map (node_of n.tree) o) (walk_refusal_from t.paths [] to) (replace_refusal t.paths (whole_path from) (whole_path to))) none
 
         module _ (w : Found) (some : o ≡ Some w) where
           to_walk : (r : Option Errno) → refusal_by (node_at d) [] to ≡ r → rename_refusal t.paths old new ≡ first_of r (replace_refusal t.paths (whole_path from) (whole_path to))
           to_walk r is =
-              to_node ∙ ap (λ o. by_steps false None (option_map node_of o) (walk_refusal_from t.paths [] to) (replace_refusal t.paths (whole_path from) (whole_path to))) some
+              to_node ∙ ap (λ o. by_steps false None (option_map (node_of n.tree) o) (walk_refusal_from t.paths [] to) (replace_refusal t.paths (whole_path from) (whole_path to))) some
               ∙ ap (λ way. first_of way (replace_refusal t.paths (whole_path from) (whole_path to))) (walk_resolved n t part d same to are' r is)
 
           pub refused_to : (err : Errno) → refusal_by (node_at d) [] to ≡ Some err → rename_refusal t.paths old new ≡ Some err

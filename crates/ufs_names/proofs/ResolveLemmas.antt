@@ -11,10 +11,11 @@ use Rattle.ufs_model.specs.declared.data.Errno.{Errno}
 use Rattle.ufs_model.specs.declared.data.Errno.TheVariants.{Enoent}
 use Rattle.ufs_model.specs.declared.data.Node.{Node}
 use Rattle.ufs_model.proofs.Facts.Pieces.{ArePlain, components_plain}
-use Rattle.ufs_names.specs.DirTable.{DirTable, found_at, node_at, node_of}
-use Rattle.ufs_names.specs.DirCalls.{refusal_by}
+use Rattle.ufs_dir_tree.specs.DirTable.{found_at}
+use Rattle.ufs_name_tree.specs.NameTable.{NameTable, node_at, node_of}
+use Rattle.ufs_name_tree.specs.Nodes.{refusal_by}
 use Rattle.ufs_names.specs.NamesPart.{NamesPart, IsPartOf}
-use Rattle.ufs_names.specs.declared.found.Found.{Found}
+use Rattle.ufs_dir_tree.specs.declared.found.Found.{Found}
 use Rattle.ufs_names.proofs.NameLists.{AreNames}
 use Rattle.ufs_names.proofs.WalkLinks.{met, refused_alike}
 
@@ -25,17 +26,17 @@ names_of_whole names e is = record {
   allowed = ap components_refusal (sym e) ∙ is.allowed;
 }
 
-module _ (n : NamesPart) (t : PosixTree) (part : IsPartOf n t) (d : DirTable) (same : d ≡ n.dirs) (names : List (List ℕ)) (are : AreNames names) where
-  pub node_resolved : (o : Option Found) → o ≡ found_at d names → map.get t.paths (whole_path names) ≡ option_map node_of o
-  node_resolved o e = met n.dirs t.paths part.paths names are ∙ ap (λ (d : DirTable). node_at d names) (sym same) ∙ ap (option_map node_of) (sym e)
+module _ (n : NamesPart) (t : PosixTree) (part : IsPartOf n t) (d : NameTable) (same : d ≡ n.tree) (names : List (List ℕ)) (are : AreNames names) where
+  pub node_resolved : (o : Option Found) → o ≡ found_at d.dirs names → map.get t.paths (whole_path names) ≡ option_map (node_of n.tree) o
+  node_resolved o e = met (node_at n.tree) t.paths part.paths names are ∙ ap (λ (d : NameTable). option_map (node_of n.tree) (found_at d.dirs names)) (sym same) ∙ ap (option_map (node_of n.tree)) (sym e)
 
   pub walk_resolved : (o : Option Errno) → refusal_by (node_at d) [] names ≡ o → walk_refusal_from t.paths [] names ≡ o
-  walk_resolved o e = sym (refused_alike n.dirs t.paths part.paths [] names are) ∙ ap (λ (d : DirTable). refusal_by (node_at d) [] names) (sym same) ∙ e
+  walk_resolved o e = sym (refused_alike (node_at n.tree) t.paths part.paths [] names are) ∙ ap (λ (d : NameTable). refusal_by (node_at d) [] names) (sym same) ∙ e
 
   abbrev refused : Option Errno → Option Node → Option Errno
   refused way o = first_of way (refused_if (is_none o) Enoent)
 
-  pub missing_resolved : refusal_by (node_at d) [] names ≡ None → None ≡ found_at d names → refused (walk_refusal_from t.paths [] names) (map.get t.paths (whole_path names)) ≡ Some Enoent
+  pub missing_resolved : refusal_by (node_at d) [] names ≡ None → None ≡ found_at d.dirs names → refused (walk_refusal_from t.paths [] names) (map.get t.paths (whole_path names)) ≡ Some Enoent
   missing_resolved passed none = ap (λ way. refused way (map.get t.paths (whole_path names))) (walk_resolved None passed) ∙ ap (refused None) (node_resolved None none)
 
   pub refused_resolved : (e : Errno) → refusal_by (node_at d) [] names ≡ Some e → refused (walk_refusal_from t.paths [] names) (map.get t.paths (whole_path names)) ≡ Some e

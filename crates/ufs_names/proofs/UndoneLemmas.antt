@@ -6,15 +6,11 @@ use Rattle.std.specs.FinMap as map
 use Rattle.std.specs.FinMap.{nat_cmp-IsAntisymmetric}
 use Rattle.std.specs.Ordering.{nat_cmp}
 use Rattle.ufs_calls.proofs.Facts.Inserts.{remove_inserted}
-use Rattle.ufs_model.specs.PosixTree.{Files}
-use Rattle.ufs_names.specs.DirTable.{DirTable}
+use Rattle.ufs_name_tree.specs.NameTable.{NameTable}
 use Rattle.ufs_names.specs.NamesPart.{NamesPart, Holdings}
 
-abbrev pub part_by : DirTable → Files → Holdings → ℕ → NamesPart
-part_by dirs bytes held next = record { dirs = dirs; bytes = bytes; held = held; next = next }
-
-pub same_part : (d d' : DirTable) (b b' : Files) (h h' : Holdings) (next : ℕ) → d ≡ d' → b ≡ b' → h ≡ h' → part_by d b h next ≡ part_by d' b' h' next
-same_part d d' b b' h h' next p q r i = record { dirs = p i; bytes = q i; held = r i; next = next }
+pub same_part : (t t' : NameTable) (h h' : Holdings) (next : ℕ) → t ≡ t' → h ≡ h' → ◌≡◌ {A = NamesPart} (record { tree = t; held = h; next = next }) (record { tree = t'; held = h'; next = next })
+same_part t t' h h' next p q i = record { tree = p i; held = q i; next = next }
 
 pub undone : {X : Type 0} (old added now : map.FinMap nat_cmp X) (k : ℕ) (v : X) → map.get old k ≡ None → added ≡ map.insert old k v → now ≡ map.remove added k → now ≡ old
 undone old added now k v none add remove =

@@ -1,103 +1,62 @@
--- What the file calls answer and change, by the names' part and what a request's descriptor stands for.
-use Rattle.std.specs.Prelude.{ℕ, ◌+◌, ◌≡◌, List, Bool, ◌==◌, not, nat_lt, length, if◌then◌else◌, Option, Some, None, unwrap_or, true}
+-- What the namespace answers, and how its part, the files that it is lent and the pool go on.
+use Rattle.std.specs.Prelude.{ℕ, ◌≡◌, ◌≢◌, ◌⊎◌, Bool, ◌==◌, ◌&&◌, ◌||◌, List, [], true, Option, Some, None, IsSome, is_some}
 use Rattle.std.specs.FinMap as map
-use Rattle.ufs_base.specs.Choices.{refused_if}
-use Rattle.ufs_model.specs.PosixTree.{PosixTree, Files}
-use Rattle.ufs_model.specs.Descriptors.{closed, moved, seek_to, is_offset}
-use Rattle.ufs_model.specs.FileBytes.{content, part, put_at, resized, place_of, is_past, max_size}
-use Rattle.ufs_model.specs.Asks.{IsDescAfter, fd_told}
-use Rattle.ufs_model.specs.OpKinds.{is_on_fd}
+use Rattle.ufs_file.specs.Content.{no_content}
+use Rattle.ufs_file.specs.Hand.{FileState}
+use Rattle.ufs_files.specs.Files.{Files, AreFilesOf}
+use Rattle.ufs_model.specs.PosixTree.{PosixTree}
+use Rattle.ufs_model.specs.Asks.{IsAsk, IsDescAfter, fd_told, file_in}
+use Rattle.ufs_model.specs.FileCalls.{is_on_file}
 use Rattle.ufs_model.specs.Posix.{posix}
-use Rattle.ufs_model.specs.declared.data.Actor.{Actor}
-use Rattle.ufs_model.specs.declared.data.Op.{Op}
-use Rattle.ufs_model.specs.declared.data.Op.TheVariants as op
-use Rattle.ufs_model.specs.declared.data.Reply.{Reply}
-use Rattle.ufs_model.specs.declared.data.Reply.TheVariants.{Done, Count, At, Got}
-use Rattle.ufs_model.specs.declared.data.Errno.{Errno}
-use Rattle.ufs_model.specs.declared.data.Errno.TheVariants.{Efbig, Einval}
-use Rattle.ufs_model.specs.declared.data.Desc.{Desc}
+use Rattle.ufs_model.specs.Touched as touched
+use Rattle.ufs_model.specs.Touched.{touched_parts}
 use Rattle.ufs_model.specs.declared.data.Ask.{Ask}
-use Rattle.ufs_model.specs.declared.data.Entry.{Entry}
-use Rattle.ufs_names.specs.NamesPart.{NamesPart, IsPartOf, settled, holding_of, without_holder}
+use Rattle.ufs_model.specs.declared.data.Desc.{Desc}
+use Rattle.ufs_model.specs.declared.data.PartName.TheVariants as part
+use Rattle.ufs_model.specs.declared.data.Reply.{Reply}
+use Rattle.ufs_names.specs.NamesPart.{NamesPart, Holdings, IsPartOf}
+use Rattle.ufs_names.specs.declared.holding.Holding.{Holding}
 
--- ---- requests on a descriptor
+-- ---- before
 
--- the request is on a descriptor, or a `sync`
-abbrev pub names_no_path : Op → Bool
-names_no_path op.Sync = true
-names_no_path request = is_on_fd request
+-- The namespace serves it: it isn't a request on a descriptor of a file that touches that file alone.
+abbrev pub IsOfNames : Ask → Type 0
+IsOfNames ask = is_on_file ask.op ≡ true → file_in ask.desc ≡ None
 
--- what a request's descriptor stands for; one that isn't open allows nothing
-abbrev pub desc_or_closed : Option Desc → Desc
-desc_or_closed d = unwrap_or d closed
+-- Of each live file that the request touches the hand is here.
+abbrev pub AreGathered : PosixTree → Ask → Files → Type 0
+AreGathered t ask fs = (f : ℕ) → touched.IsPartOf (touched_parts t ask.client ask.op) (part.File f) → IsSome (map.get t.bytes f) → IsSome (map.get fs f)
 
--- the offset to which a `seek` leads
-abbrev pub offset_by : Files → Desc → Op → Option ℕ
-offset_by bytes d (op.Seek fd from by) = seek_to from by d (length (content bytes d.file))
-offset_by bytes d _ = None
+-- The part, the files and what the client tells are the tree's, and of the files those that the request touches are here.
+pub record IsAsked (t : PosixTree) (n : NamesPart) (ask : Ask) (fs : Files) : Type 0 where
+  pub part : IsPartOf n t
+  pub asked : IsAsk t ask
+  pub files : AreFilesOf fs t
+  pub gathered : AreGathered t ask fs
 
--- Why a request that its client can't refuse is refused by where it leads.
-abbrev pub place_refusal : Files → Desc → Op → Option Errno
-place_refusal bytes d (op.Write fd data') = refused_if (is_past (place_of d (content bytes d.file)) data') Efbig
-place_refusal bytes d (op.Pwrite fd data' at) = refused_if (is_past at data') Efbig
-place_refusal bytes d (op.Trunc fd size) = refused_if (nat_lt max_size size) Efbig
-place_refusal bytes d (op.Seek fd from by) = refused_if (not (is_offset (offset_by bytes d (op.Seek fd from by)))) Einval
-place_refusal bytes d _ = None
+-- ---- afterwards
 
-abbrev pub open_answer : Files → Desc → Op → Reply
-open_answer bytes d (op.Read fd n) = Got (part (content bytes d.file) d.at n)
-open_answer bytes d (op.Write fd data') = Count (length data')
-open_answer bytes d (op.Pread fd n at) = Got (part (content bytes d.file) at n)
-open_answer bytes d (op.Pwrite fd data' at) = Count (length data')
-open_answer bytes d (op.Seek fd from by) = At (unwrap_or (offset_by bytes d (op.Seek fd from by)) 0)
-open_answer bytes d _ = Done
+-- a file without a byte
+abbrev pub no_bytes : ℕ → ℕ → FileState
+no_bytes file inode = record { file = file; inode = inode; extents = []; content = no_content }
 
--- the descriptor afterwards
-abbrev pub desc_after : Files → Desc → Op → Option Desc
-desc_after bytes d (op.Close fd) = None
-desc_after bytes d (op.Read fd n) = Some (moved d (d.at + length (part (content bytes d.file) d.at n)))
-desc_after bytes d (op.Write fd data') = if length data' == 0 then Some d else Some (moved d (place_of d (content bytes d.file) + length data'))
-desc_after bytes d (op.Seek fd from by) = Some (moved d (unwrap_or (offset_by bytes d (op.Seek fd from by)) 0))
-desc_after bytes d _ = Some d
+-- A file that stays is as it was, or was emptied; the one that is new has no byte. Of those that are here, and the new
+-- one, just the live ones are here.
+pub record FilesGoOn (before after : PosixTree) (old new : Files) : Type 0 where
+  pub here : (f : ℕ) → is_some (map.get new f) ≡ ((is_some (map.get old f) || (f == before.next)) && is_some (map.get after.bytes f))
+  pub stays : (f : ℕ) (s r : FileState) → map.get old f ≡ Some s → map.get new f ≡ Some r → (r ≡ s) ⊎ (r ≡ no_bytes f s.inode)
+  -- and no file changes that isn't here
+  pub others : (f : ℕ) → map.get old f ≡ None → f ≢ before.next → map.get after.bytes f ≡ map.get before.bytes f
 
--- bytes are written into a file from a place on; no byte changes nothing
-abbrev pub bytes_written : Files → Option ℕ → ℕ → List ℕ → Files
-bytes_written bytes None at data' = bytes
-bytes_written bytes (Some file) at data' = if length data' == 0 then bytes else map.insert bytes file (put_at (content bytes (Some file)) at data')
-
-abbrev pub bytes_resized : Files → Option ℕ → ℕ → Files
-bytes_resized bytes None size = bytes
-bytes_resized bytes (Some file) size = map.insert bytes file (resized (content bytes (Some file)) size)
-
-abbrev pub bytes_after : Files → Desc → Op → Files
-bytes_after bytes d (op.Write fd data') = bytes_written bytes d.file (place_of d (content bytes d.file)) data'
-bytes_after bytes d (op.Pwrite fd data' at) = bytes_written bytes d.file at data'
-bytes_after bytes d (op.Trunc fd size) = bytes_resized bytes d.file size
-bytes_after bytes d _ = bytes
-
--- the client holds the file no more, where this was its last descriptor of it
-abbrev pub let_go : NamesPart → ℕ → Bool → Option ℕ → NamesPart
-let_go n client last None = n
-let_go n client last (Some file) = if last then settled n file (without_holder (holding_of n.held file) client) else n
-
--- the part after a request on a descriptor
-abbrev pub part_after : NamesPart → ℕ → Bool → Desc → Op → NamesPart
-part_after n client last d (op.Close fd) = let_go n client last d.file
-part_after n client last d request = record n { bytes = bytes_after n.bytes d request }
-
--- ---- all requests
-
--- the entry is that of the request, and tells who served it
-pub record IsEntryOf (ask : Ask) (by : Actor) (ticket : ℕ) (entry : Entry) : Type 0 where
-  pub ticket_is : entry.ticket ≡ ticket
-  pub client : entry.client ≡ ask.client
-  pub seq : entry.seq ≡ ask.seq
-  pub server : entry.by ≡ by
-  pub asked : entry.op ≡ ask.op
-
--- The reply is POSIX's on the tree, and the part goes on with the tree; this is what the request's descriptor
--- stands for afterwards.
-pub record IsServed (t : PosixTree) (ask : Ask) (new : NamesPart) (reply : Reply) (desc : Option Desc) : Type 0 where
+-- The reply is POSIX's on the tree, and the part and the files go on with the tree; this is what the request's
+-- descriptor stands for afterwards.
+pub record IsServed (t : PosixTree) (ask : Ask) (new : NamesPart) (fs fs' : Files) (reply : Reply) (desc : Option Desc) : Type 0 where
   pub replied : reply ≡ (posix t ask.client ask.op).1
   pub goes_on : IsPartOf new (posix t ask.client ask.op).0
+  pub files : AreFilesOf fs' (posix t ask.client ask.op).0
   pub told : IsDescAfter t.fds (posix t ask.client ask.op).0.fds ask.client (fd_told ask.op reply) desc
+  pub go_on : FilesGoOn t (posix t ask.client ask.op).0 fs fs'
+
+-- Each file that is here has the inode that is told of it.
+abbrev pub HaveInodes : Holdings → Files → Type 0
+HaveInodes held fs = (f : ℕ) (s : FileState) (h : Holding) → map.get fs f ≡ Some s → map.get held f ≡ Some h → s.inode ≡ h.inode

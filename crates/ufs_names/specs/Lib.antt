@@ -1,7 +1,7 @@
-pub mod DirTable
-pub mod DirCalls
-pub mod DirEdits
 pub mod Stands
 pub mod NamesPart
 pub mod Calls
 pub mod PathCalls
+pub mod Space
+pub mod Steps
+pub mod Laws

@@ -1,27 +1,29 @@
 -- What the requests on paths answer and change, by what is found there.
-use Rattle.std.specs.Prelude.{ℕ, ◌≡◌, ◌+◌, List, [], length, Bool, true, Option, Some, None, is_some, is_none, if◌then◌else◌}
+use Rattle.std.specs.Prelude.{ℕ, ◌≡◌, List, length, Bool, Option, Some, None, is_some, is_none}
 use Rattle.std.specs.FinMap as map
 use Rattle.std.specs.Option.{option_map}
-use Rattle.ufs_model.specs.Asks.{IsAsk}
-use Rattle.ufs_model.specs.FileBytes.{bytes_of}
-use Rattle.ufs_model.specs.PosixTree.{PosixTree}
 use Rattle.ufs_base.specs.Choices.{first_of, refused_if}
+use Rattle.ufs_dir_tree.specs.DirTable.{slots_at, found_at}
+use Rattle.ufs_dir_tree.specs.declared.found.Found.{Found}
+use Rattle.ufs_dir_tree.specs.declared.found.Found.TheVariants.{Dir, File}
+use Rattle.ufs_dirs.specs.Names.{AreNamesIn}
+use Rattle.ufs_file.specs.Hand.{FileState}
+use Rattle.ufs_files.specs.Files.{Files}
 use Rattle.ufs_model.specs.Paths.{components, text_refusal}
+use Rattle.ufs_model.specs.PosixTree.{PosixTree}
 use Rattle.ufs_model.specs.Walk.{is_file}
 use Rattle.ufs_model.specs.Refusals.{open_refusal, unlink_refusal, list_refusal, rename_refusal, refusal}
+use Rattle.ufs_model.specs.declared.data.Ask.{Ask}
 use Rattle.ufs_model.specs.declared.data.Errno.{Errno}
 use Rattle.ufs_model.specs.declared.data.Errno.TheVariants.{Eexist, Enoent, Ebusy, Enotdir, Enotempty}
 use Rattle.ufs_model.specs.declared.data.Node.{Node}
 use Rattle.ufs_model.specs.declared.data.Op.{Op}
 use Rattle.ufs_model.specs.declared.data.Op.TheVariants as op
-use Rattle.ufs_model.specs.declared.data.Ask.{Ask}
 use Rattle.ufs_model.specs.declared.data.Reply.{Reply}
 use Rattle.ufs_model.specs.declared.data.Reply.TheVariants as reply
-use Rattle.ufs_names.specs.DirTable.{DirTable, IsDirTable, slots_at, found_at}
-use Rattle.ufs_dirs.specs.Names.{AreNamesIn}
-use Rattle.ufs_names.specs.NamesPart.{NamesPart, IsPartOf, holding_of, unheld, with_holder}
-use Rattle.ufs_names.specs.declared.found.Found.{Found}
-use Rattle.ufs_names.specs.declared.found.Found.TheVariants.{Dir, File}
+use Rattle.ufs_name_tree.specs.NameTable.{IsNameTable, file_at}
+use Rattle.ufs_names.specs.Calls.{IsAsked}
+use Rattle.ufs_names.specs.NamesPart.{NamesPart, IsPartOf}
 
 -- the path of a request on one path
 abbrev pub path_asked : Op → Option (List ℕ)
@@ -46,51 +48,26 @@ end_refusal at_root node has_entries (op.Stat path) = refused_if (is_none node) 
 end_refusal at_root node has_entries (op.List path) = list_refusal node
 end_refusal at_root _ has_entries _ = None
 
--- ---- opening
-
--- the client holds a file that a path names and that has no bytes
-abbrev pub with_new_file : NamesPart → DirTable → ℕ → NamesPart
-with_new_file n dirs client = record n {
-  dirs = dirs;
-  held = map.insert n.held n.next (with_holder (record unheld { linked = true }) client);
-  bytes = map.insert n.bytes n.next [];
-  next = n.next + 1;
-}
-
--- the client holds the file, which `trunc` empties
-abbrev pub with_open_file : NamesPart → ℕ → Bool → ℕ → NamesPart
-with_open_file n client trunc file = record n {
-  held = map.insert n.held file (with_holder (holding_of n.held file) client);
-  bytes = if trunc then map.insert n.bytes file [] else n.bytes;
-}
-
--- the part after an `open` of what was found; where nothing was, these are the directories now
-abbrev pub opened_part : NamesPart → DirTable → ℕ → Bool → Option Found → NamesPart
-opened_part n dirs client trunc None = with_new_file n dirs client
-opened_part n dirs client trunc (Some (Dir i)) = n
-opened_part n dirs client trunc (Some (File f)) = with_open_file n client trunc f
-
 -- ---- answers
 
 -- What a `stat` is answered: the number of a directory's names, or the number of a file's bytes.
-abbrev pub IsStat : NamesPart → Option Found → Reply → Type 0
-IsStat n None r = r ≡ reply.Done
-IsStat n (Some (Dir i)) r = (names : List (List ℕ)) → AreNamesIn (slots_at n.dirs i) names → r ≡ reply.IsDir (length names)
-IsStat n (Some (File f)) r = r ≡ reply.IsFile (length (bytes_of n.bytes f))
+abbrev pub IsStat : NamesPart → Files → Option Found → Reply → Type 0
+IsStat n fs None r = r ≡ reply.Done
+IsStat n fs (Some (Dir i)) r = (names : List (List ℕ)) → AreNamesIn (slots_at n.tree.dirs i) names → r ≡ reply.IsDir (length names)
+IsStat n fs (Some (File i)) r = (f : ℕ) (s : FileState) → file_at n.tree i ≡ Some f → map.get fs f ≡ Some s → r ≡ reply.IsFile (length s.content.bytes)
 
 -- What a `list` is answered: a directory's names.
 abbrev pub IsList : NamesPart → Option Found → Reply → Type 0
-IsList n (Some (Dir i)) r = (names : List (List ℕ)) × (AreNamesIn (slots_at n.dirs i) names × (r ≡ reply.Names names))
+IsList n (Some (Dir i)) r = (names : List (List ℕ)) × (AreNamesIn (slots_at n.tree.dirs i) names × (r ≡ reply.Names names))
 IsList n _ r = Unit {0}
 
 -- The request is on the path of these names, at which this was found, and isn't refused.
-pub record IsAllowed (t : PosixTree) (ask : Ask) (n : NamesPart) (names : List (List ℕ)) (found : Option Found) : Type 0 where
-  pub part : IsPartOf n t
-  pub asked : IsAsk t ask
+pub record IsAllowed (t : PosixTree) (ask : Ask) (n : NamesPart) (fs : Files) (names : List (List ℕ)) (found : Option Found) : Type 0 where
+  pub all : IsAsked t n ask fs
   pub allowed : refusal t ask.client ask.op ≡ None
   pub path : option_map components (path_asked ask.op) ≡ Some names
-  pub met : found ≡ found_at n.dirs names
-  pub table : IsDirTable n.dirs
+  pub met : found ≡ found_at n.tree.dirs names
+  pub table : IsNameTable n.tree
 
 -- In each tree of the part a `rename` between paths of these names, whose texts aren't refused, is refused so.
 abbrev pub RefusesRename : NamesPart → List (List ℕ) → List (List ℕ) → Option Errno → Type 0

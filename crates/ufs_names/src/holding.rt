@@ -4,9 +4,10 @@ ghost use Rattle.std.specs.Prelude.{◌≡◌};
 /// How many clients there may be.
 pub const CLIENTS: usize = 16;
 
-/// Whether a path names a file, and which clients have it open.
+/// A file's inode, whether a path names it, and which clients have it open.
 #[derive(Clone, Copy, Debug, PartialEq, Eq)]
 pub struct Holding {
+    pub inode: u32,
     pub linked: bool,
     pub clients: [bool; 16],
 }
@@ -20,6 +21,7 @@ impl Holding {
         ensures { result ≡ unheld }
     {
         Holding {
+            inode: 0,
             linked: false,
             clients: [false; 16],
         }

@@ -1,18 +1,15 @@
 //! The namespace: what stands at each path, over the blocks of directories, and what a server answers by it.
 #![tactic(auto)]
 
-mod dir_edit;
-mod dir_entry;
-mod dir_tree;
-mod found;
+mod closing;
 mod hold_map;
 mod holding;
 mod keep;
+mod laws;
 mod names;
-mod open_calls;
 mod opening;
 mod path_calls;
 mod renaming;
 
-pub use found::Found;
-pub use names::{Applied, Names};
+pub use laws::a_file_request_keeps_the_names;
+pub use names::Names;

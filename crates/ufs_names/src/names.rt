@@ -1,25 +1,27 @@
-// The names' part: what a server answers to each file call.
+// The names' part: what a server answers to each request that isn't one file's alone.
 ghost use Rattle.std.specs.Prelude.{◌≡◌};
 ghost use Rattle.ufs_model.specs.declared.data.Reply.TheVariants.{Refused};
-ghost use Rattle.ufs_names.specs.Calls.{IsEntryOf};
+ghost use Rattle.ufs_file.specs.Hand.{IsEntryOf};
 
-use crate::dir_tree::DirTree;
-use crate::found::Found;
 use crate::hold_map::HoldMap;
 use std::alloc::Global;
 use std::marker::Model;
 use ufs_base::Memory;
-use ufs_calls::{FileMap, own_refusal, text};
+use ufs_bitmap::Pool;
+use ufs_calls::{own_refusal, text};
+use ufs_dir_tree::Found;
+use ufs_file::Applied;
+use ufs_files::FileHands;
 use ufs_model::{Actor, Ask, Desc, Entry, Errno, Excuse, Op, Reply};
+use ufs_name_tree::NameTree;
 use ufs_path::{PathText, names_stay_in_whole_paths, whole_paths_may_stand};
 
-/// The namespace, with the bytes of the files. Its directories stand in blocks, and a file that no path names stays
-/// until its last client closes it.
+/// The namespace: directories, which file each name stands for, and who holds each file. It has no bytes of files. A
+/// file that no path names stays until its last client closes it.
 #[derive(Drop)]
 pub struct Names {
     pub(crate) alloc: Global,
-    pub(crate) dirs: DirTree,
-    pub(crate) bytes: FileMap,
+    pub(crate) tree: NameTree,
     pub(crate) held: HoldMap,
     /// The next file number.
     pub(crate) next: u32,
@@ -32,49 +34,52 @@ impl Model for Names {
 
     ghost coded = { part_code };
 
-    ghost view = { λ n. record { dirs = n.dirs; bytes = n.bytes; held = n.held; next = n.next } };
-}
-
-/// What a request was answered.
-#[derive(Drop)]
-pub struct Applied {
-    pub entry: Entry,
-    /// What the request's descriptor stands for afterwards; `None` where there is none.
-    pub desc: Option<Desc>,
+    ghost view = { λ n. record { tree = n.tree; held = n.held; next = n.next } };
 }
 
 /// A reply that is no excuse, and what the request's descriptor stands for afterwards.
 #[derive(Drop)]
-pub struct Served {
+pub(crate) struct Served {
     pub reply: Reply,
     pub desc: Option<Desc>,
 }
 
 impl Names {
-    ghost use Rattle.std.specs.Prelude.{◌≡◌, ◌<◌, ◌^◌, [], true, false, Some, None, IfOk, IfErr, OnErr, is_none};
+    ghost use Rattle.std.specs.Prelude.{◌≡◌, ◌≢◌, ◌≤◌, ◌<◌, ◌^◌, ◌+◌, ◌-◌, ℕ, [], true, false, length, Some, None, IfOk, IfErr, OnOk, OnErr, is_none};
     ghost use Rattle.std.specs.FinMap as map;
-    ghost use Rattle.ufs_model.specs.PosixTree.{PosixTree, root_alone};
+    ghost use Rattle.std.specs.FinSet as set;
     ghost use Rattle.ufs_base.specs.Choices.{first_of, refused_if};
-    ghost use Rattle.ufs_model.specs.Paths.{whole_path};
-    ghost use Rattle.ufs_model.specs.Walk.{walk_refusal_from};
-    ghost use Rattle.ufs_model.specs.Bounds.{IsBounded};
-    ghost use Rattle.ufs_model.specs.History.{is_excused};
+    ghost use Rattle.ufs_bitmap.specs.Blocks.{BlockSet};
+    ghost use Rattle.ufs_dir_tree.specs.DirTable.{dir_at, found_at, no_dir};
+    ghost use Rattle.ufs_extent.specs.Runs.{blocks_from};
     ghost use Rattle.ufs_model.specs.Asks.{IsAsk};
-    ghost use Rattle.ufs_model.specs.declared.data.Reply.TheVariants as reply;
-    ghost use Rattle.ufs_model.specs.declared.data.Excuse.TheVariants as excuse;
+    ghost use Rattle.ufs_model.specs.Excuses.{ExcuseFits};
+    ghost use Rattle.ufs_model.specs.History.{is_excused};
+    ghost use Rattle.ufs_model.specs.Paths.{whole_path};
+    ghost use Rattle.ufs_model.specs.PosixTree.{PosixTree, root_alone};
+    ghost use Rattle.ufs_model.specs.Walk.{walk_refusal_from};
     ghost use Rattle.ufs_model.specs.declared.data.Errno.TheVariants.{Enoent};
-    ghost use Rattle.ufs_names.specs.DirTable.{IsDirTable, found_at, node_of};
+    ghost use Rattle.ufs_model.specs.declared.data.Excuse.{Excuse};
+    ghost use Rattle.ufs_model.specs.declared.data.Reply.TheVariants as reply;
+    ghost use Rattle.ufs_name_tree.specs.NameTable.{IsNameTable, node_of};
+    ghost use Rattle.ufs_names.specs.Calls.{HaveInodes, IsAsked, IsOfNames, IsServed};
     ghost use Rattle.ufs_names.specs.NamesPart.{IsPartOf};
-    ghost use Rattle.ufs_names.specs.Calls.{IsEntryOf, IsServed};
+    ghost use Rattle.ufs_names.specs.Space.{AreApart, HaveTheSame, IsCause};
+    ghost use Rattle.ufs_names.specs.Steps.{KeepsSpace};
 
-    /// The root alone, and no file.
-    pub fn new(alloc: Global) -> Result<Names, Memory>
-        ensures { IfOk result (λ n. IsPartOf n root_alone) }
+    /// The root alone, of so many inodes, and no file.
+    pub fn new(alloc: Global, inodes: u32) -> Result<Names, Memory>
+        requires some { 1 ≤ inodes }
+        requires few { inodes < 65536 }
+        ensures part { IfOk result (λ n. IsPartOf n root_alone) }
+        ensures inodes { IfOk result (λ n. length n.tree.dirs.dirs ≡ inodes + 1) }
+        ensures free { IfOk result (λ n. n.tree.dirs.free ≡ set.from_list (blocks_from 2 (inodes + 1 - 2))) }
+        ensures bare { IfOk result (λ n. (i : ℕ) → dir_at n.tree.dirs i ≡ no_dir) }
+        ensures apart { IfOk result (λ n. (pool : BlockSet) → AreApart n.tree.dirs map.empty pool) }
     {
         Ok(Names {
             alloc,
-            dirs: DirTree::new(alloc)?,
-            bytes: FileMap::new(alloc),
+            tree: NameTree::new(alloc, inodes)?,
             held: HoldMap::new(alloc),
             next: 0,
         })
@@ -82,11 +87,11 @@ impl Names {
 
     /// What stands at a path, by one look-up for each of its names: ENOENT where a name is missing, ENOTDIR where
     /// one that isn't the last is a file (POSIX.1-2017, 4.13). It is what a walk from the root meets, so two paths have
-    /// one directory's number only where their names are the same. Takes no memory.
+    /// one inode only where their names are the same. Takes no memory.
     pub fn resolve(&self, path: &PathText) -> Result<Found, Errno>
-        ensures found { IfOk result (λ found. (t : PosixTree) → IsPartOf self.now t → map.get t.paths (whole_path path.now) ≡ Some (node_of found)) }
-        ensures met { IfOk result (λ found. found_at self.now.dirs path.now ≡ Some found) }
-        ensures table { IsDirTable self.now.dirs }
+        ensures found { IfOk result (λ found. (t : PosixTree) → IsPartOf self.now t → map.get t.paths (whole_path path.now) ≡ Some (node_of self.now.tree found)) }
+        ensures met { IfOk result (λ found. found_at self.now.tree.dirs path.now ≡ Some found) }
+        ensures table { IsNameTable self.now.tree }
         ensures passed { IfOk result (λ found. (t : PosixTree) → IsPartOf self.now t → walk_refusal_from t.paths [] path.now ≡ None) }
         ensures refused { IfErr result (λ e. (t : PosixTree) → IsPartOf self.now t
             → first_of (walk_refusal_from t.paths [] path.now) (refused_if (is_none (map.get t.paths (whole_path path.now))) Enoent) ≡ Some e) }
@@ -95,51 +100,76 @@ impl Names {
         names_stay_in_whole_paths();
         whole_paths_may_stand();
         let _count = path.len();
-        match self.dirs.look(path) {
-            Ok(Some(found)) => Ok(found),
-            Ok(None) => Err(Errno::Enoent),
+        match self.tree.look(path) {
+            Ok(look) => match look.found {
+                Some(found) => Ok(found),
+                None => Err(Errno::Enoent),
+            },
             Err(e) => Err(e),
         }
     }
 
-    /// Serves a request: POSIX's reply on the tree that this part and the descriptors of the clients make, and the
-    /// part goes on with that tree. Where memory is wanting the reply is that excuse, and nothing has changed.
+    /// Serves a request that isn't on a file's descriptor and that file's alone: POSIX's reply on the tree that this
+    /// part, the files and the descriptors of the clients make, and part and files go on with that tree. Of the files
+    /// that the request touches the hands are in `files`; afterwards it also has the file that the request made, and
+    /// none that it dropped. Where room is wanting the reply is the excuse for its cause, and nothing has changed.
     /// File numbers stay below 2^31. The caller gives the ticket, and says who serves.
-    pub fn apply(&mut self, ask: Ask, by: Actor, ticket: u64) -> Applied
+    pub fn apply(
+        &mut self,
+        ask: Ask,
+        by: Actor,
+        ticket: u64,
+        files: &mut FileHands,
+        pool: &mut Pool,
+    ) -> Applied
         requires client { ask.client < 16 }
-        requires bounded { IsBounded ask.op }
         requires numbers { self.old.next < 2 ^ 31 }
-        requires asked { (t : PosixTree) × IsPartOf self.old t × IsAsk t ask }
+        requires kind { IsOfNames ask }
+        requires asked { (t : PosixTree) × IsAsked t self.old ask files.old }
+        requires apart { AreApart self.old.tree.dirs files.old pool.old }
         ensures entry { IsEntryOf ask by ticket result.entry }
-        ensures served { is_excused result.entry.reply ≡ false → (t : PosixTree) → IsPartOf self.old t → IsAsk t ask → IsServed t ask self.new result.entry.reply result.desc }
-        ensures memory { is_excused result.entry.reply ≡ true → result.entry.reply ≡ reply.Excused excuse.Memory }
+        ensures served { is_excused result.entry.reply ≡ false → (t : PosixTree) → IsAsked t self.old ask files.old → IsServed t ask self.new files.old files.new result.entry.reply result.desc }
+        ensures cause { (x : Excuse) → result.entry.reply ≡ reply.Excused x → IsCause self.old.tree.dirs pool.old ask.op x }
+        ensures fits { (x : Excuse) → result.entry.reply ≡ reply.Excused x → (t : PosixTree) → IsAsked t self.old ask files.old → ExcuseFits t ask.client ask.op x }
         ensures unchanged { is_excused result.entry.reply ≡ true → self.new ≡ self.old }
+        ensures files { is_excused result.entry.reply ≡ true → files.new ≡ files.old }
+        ensures pool { is_excused result.entry.reply ≡ true → pool.new ≡ pool.old }
         ensures desc { is_excused result.entry.reply ≡ true → result.desc ≡ ask.desc }
+        ensures inodes { HaveInodes self.old.held files.old → HaveInodes self.new.held files.new }
+        ensures together { HaveTheSame self.old.tree.dirs files.old pool.old self.new.tree.dirs files.new pool.new }
+        ensures apart { AreApart self.new.tree.dirs files.new pool.new }
     {
         let desc = ask.desc;
-        match self.serve(&ask) {
+        match self.serve(&ask, files, pool) {
             Ok(served) => answered(ask, by, ticket, served.reply, served.desc),
-            Err(Memory) => answered(ask, by, ticket, Reply::Excused(Excuse::Memory), desc),
+            Err(excuse) => answered(ask, by, ticket, Reply::Excused(excuse), desc),
         }
     }
 
-    /// The same, with want of memory as the error.
-    fn serve(&mut self, ask: &Ask) -> Result<Served, Memory>
+    /// The same, with the excuse as the error.
+    fn serve(&mut self, ask: &Ask, files: &mut FileHands, pool: &mut Pool) -> Result<Served, Excuse>
         requires client { ask.now.client < 16 }
-        requires bounded { IsBounded ask.now.op }
         requires numbers { self.old.next < 2 ^ 31 }
-        requires asked { (t : PosixTree) × IsPartOf self.old t × IsAsk t ask.now }
-        ensures ok { IfOk result (λ s. (t : PosixTree) → IsPartOf self.old t → IsAsk t ask.now → IsServed t ask.now self.new s.reply s.desc) }
+        requires kind { IsOfNames ask.now }
+        requires asked { (t : PosixTree) × IsAsked t self.old ask.now files.old }
+        requires apart { AreApart self.old.tree.dirs files.old pool.old }
+        ensures ok { IfOk result (λ s. (t : PosixTree) → IsAsked t self.old ask.now files.old → IsServed t ask.now self.new files.old files.new s.reply s.desc) }
+        ensures space { OnOk result (KeepsSpace self.old self.new files.old files.new pool.old pool.new) }
+        ensures cause { IfErr result (IsCause self.old.tree.dirs pool.old ask.now.op) }
+        ensures fits { IfErr result (λ x. (t : PosixTree) → IsAsked t self.old ask.now files.old → ExcuseFits t ask.now.client ask.now.op x) }
         ensures err { OnErr result (self.new ≡ self.old) }
+        ensures err_files { OnErr result (files.new ≡ files.old) }
+        ensures err_pool { OnErr result (pool.new ≡ pool.old) }
     {
         if let Some(e) = own_refusal(&ask.op, ask.desc, ask.fd) {
             return Ok(refused(ask, e));
         }
         match &ask.op {
             Op::Rename { from, to } => {
-                let from = text(self.alloc, from)?;
-                let to = text(self.alloc, to)?;
-                self.rename(ask, &from, &to)
+                let (Ok(from), Ok(to)) = (text(self.alloc, from), text(self.alloc, to)) else {
+                    return Err(Excuse::Memory);
+                };
+                self.rename(ask, &from, &to, files, pool)
             }
             Op::OpenFile { path, .. }
             | Op::Mkdir { path }
@@ -147,10 +177,24 @@ impl Names {
             | Op::Unlink { path }
             | Op::Stat { path }
             | Op::List { path } => {
-                let path = text(self.alloc, path)?;
-                self.serve_path(ask, &path)
+                let Ok(path) = text(self.alloc, path) else {
+                    return Err(Excuse::Memory);
+                };
+                self.serve_path(ask, &path, files, pool)
             }
-            _ => self.serve_open(ask),
+            Op::Close { .. } => Ok(self.close(ask, files, pool)),
+            // A directory's descriptor has nothing to write.
+            Op::Fsync { .. } | Op::Sync => Ok(Served {
+                reply: Reply::Done,
+                desc: ask.desc,
+            }),
+            // Of a file alone, or refused where there is none.
+            Op::Read { .. }
+            | Op::Write { .. }
+            | Op::Pread { .. }
+            | Op::Pwrite { .. }
+            | Op::Seek { .. }
+            | Op::Trunc { .. } => unreachable!(),
         }
     }
 }

@@ -1,6 +1,6 @@
 use Rattle.std.proofs.Common.{ℕ, List, length, ap, arith}
 use Rattle.ufs_dir_tree.specs.DirCalls.{IsFull}
-use Rattle.ufs_dir_tree.proofs.RoomLemmas.{room_left, all_used}
+use Rattle.ufs_dir_tree.proofs.RoomLemmas.{room_left, all_used, is_listed}
 use Rattle.ufs_dir_tree.proofs.SpaceLemmas.{taken_absent, back_again}
 use Rattle.ufs_dir_tree.proofs.GivesRoom.{cause_of_add, lacks_block, gets_block, gets_none}
 use Rattle.ufs_dir_tree.proofs.dir_entry.give_room.Goals as goal
@@ -33,3 +33,15 @@ returns-in-Err-clause-cause c =
 
 pub returns-in-Err-clause-err_pool : goal.returns-in-Err-clause-err_pool
 returns-in-Err-clause-err_pool c = back_again c.args.pool.now c.take_block.new.pool c.give_block.new.pool c.in-Some.block c.in-Some.ensures.taken c.give_block.ensures
+
+pub returns-then-count-blocks-clause-listed : goal.returns-then-count-blocks-clause-listed
+returns-then-count-blocks-clause-listed c = is_listed c.args.dir.now c.count.result c.count.ensures.count c.count.ensures.whole.sized c.count.ensures.names c.count.ensures.listed
+
+pub returns-in_default-clause-listed : goal.returns-in_default-clause-listed
+returns-in_default-clause-listed c = is_listed c.args.dir.now c.count.result c.count.ensures.count c.count.ensures.whole.sized c.count.ensures.names c.count.ensures.listed
+
+pub returns-in-Ok-clause-listed : goal.returns-in-Ok-clause-listed
+returns-in-Ok-clause-listed c = is_listed c.args.dir.now c.count.result c.count.ensures.count c.count.ensures.whole.sized c.count.ensures.names c.count.ensures.listed
+
+pub returns-in-Err-clause-listed : goal.returns-in-Err-clause-listed
+returns-in-Err-clause-listed c = is_listed c.args.dir.now c.count.result c.count.ensures.count c.count.ensures.whole.sized c.count.ensures.names c.count.ensures.listed

@@ -1,4 +1,4 @@
-use Rattle.std.proofs.Common.{ap, sym, ◌∙◌}
+use Rattle.std.proofs.Common.{ap, sym, refl, ◌∙◌}
 use Rattle.ufs_dir_tree.specs.DirTable.{DirTable}
 use Rattle.ufs_dir_tree.proofs.SpaceLemmas.{empty_of_none, some_of_len}
 use Rattle.ufs_dir_tree.proofs.GivesRoom.{space_cause}
@@ -16,3 +16,6 @@ returns-in-Err-clause-cause c =
     space_cause c.args.self.now c.args.dir c.args.pool.now c.in-Err.excuse
     (λ e. some_of_len c.self.inside.free.free (λ none. c.if-count-eq0.false (c.count.ensures ∙ none)) (ap (λ (t : DirTable). t.free) c.self.view_is ∙ e))
     c.in-Err.ensures.cause
+
+pub returns-then-count-eq0-clause-listed : goal.returns-then-count-eq0-clause-listed
+returns-then-count-eq0-clause-listed c other = absurd (other refl)

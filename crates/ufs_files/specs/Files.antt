@@ -1,0 +1,38 @@
+-- Files by their numbers, and the trees and blocks that are theirs.
+use Rattle.std.specs.Prelude.{ℕ, ◌≡◌, ◌≢◌, List, [], true, false, Option, Some, None}
+use Rattle.std.specs.Ordering.{nat_cmp}
+use Rattle.std.specs.FinMap as map
+use Rattle.ufs_bitmap.specs.Blocks.{BlockSet}
+use Rattle.ufs_bitmap.specs.Taking.{IsApart, has}
+use Rattle.ufs_extent.specs.Runs.{blocks_of}
+use Rattle.ufs_file.specs.Hand.{FileState, IsFileOf}
+use Rattle.ufs_model.specs.PosixTree.{PosixTree}
+
+-- files by number
+abbrev pub Files : Type 0
+Files = map.FinMap nat_cmp FileState
+
+-- each stands under its own number
+abbrev pub AreNumbered : Files → Type 0
+AreNumbered files = (f : ℕ) (s : FileState) → map.get files f ≡ Some s → s.file ≡ f
+
+-- Each stands under its own number, and is that part of the tree.
+abbrev pub AreFilesOf : Files → PosixTree → Type 0
+AreFilesOf files t = (f : ℕ) (s : FileState) → map.get files f ≡ Some s → (s.file ≡ f) × IsFileOf s t
+
+-- the blocks of the file of this number
+abbrev pub blocks_at : Files → ℕ → List ℕ
+blocks_at files f = of (map.get files f)
+  where
+    of : Option FileState → List ℕ
+    of None = []
+    of (Some s) = blocks_of s.extents
+
+-- No block of a file is in the pool or stands twice, and no two files have a block in common.
+pub record AreApart (files : Files) (pool : BlockSet) : Type 0 where
+  pub each : (f : ℕ) → IsApart pool (blocks_at files f)
+  pub pairwise : (f g b : ℕ) → f ≢ g → has (blocks_at files f) b ≡ true → has (blocks_at files g) b ≡ false
+
+-- a file has the block
+abbrev pub HasBlock : Files → ℕ → Type 0
+HasBlock files b = (f : ℕ) × (has (blocks_at files f) b ≡ true)

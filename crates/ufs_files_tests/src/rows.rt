@@ -1,0 +1,134 @@
+// A file that is made, written, emptied and removed.
+ghost use Rattle.std.specs.Prelude.{◌≡◌, ◌+◌, ◌≤◌, IfOk, Some, IsSome, length, true};
+ghost use Rattle.std.specs.FinMap as map;
+ghost use Rattle.ufs_bitmap.specs.Blocks.{BlockSet};
+ghost use Rattle.ufs_bitmap.specs.Taking.{IsApart};
+ghost use Rattle.ufs_files.specs.Files.{blocks_at};
+ghost use Rattle.ufs_model.specs.Bounds.{IsBounded};
+
+use std::alloc::Global;
+use ufs_base::Memory;
+use ufs_bitmap::Pool;
+use ufs_extent::Run;
+use ufs_file::Applied;
+use ufs_files::FileHands;
+use ufs_model::{Actor, Ask, Bytes, Desc, Excuse, Op, Reply};
+
+/// So many blocks from 20 on.
+fn pool_of(alloc: Global, length: u32) -> Result<Pool, Memory>
+    requires some { 1 ≤ length }
+    requires inside { 20 + length ≤ 65536 }
+{
+    let mut pool = Pool::make(alloc)?;
+    pool.give(Run { start: 20, length });
+    Ok(pool)
+}
+
+/// One file, of inode 3, with no byte.
+fn one_file(alloc: Global) -> Result<FileHands, Memory>
+    ensures here { IfOk result (λ files. IsSome (map.get files 7)) }
+    ensures apart { IfOk result (λ files. (pool : BlockSet) → IsApart pool (blocks_at files 7)) }
+{
+    let mut files = FileHands::new(alloc);
+    files.make(7, 3)?;
+    Ok(files)
+}
+
+/// Writes so many bytes from the file's start on.
+fn written(
+    alloc: Global,
+    files: &mut FileHands,
+    pool: &mut Pool,
+    count: usize,
+) -> Result<Applied, Memory>
+    requires here { IsSome (map.get files.old 7) }
+    requires apart { IsApart pool.old (blocks_at files.old 7) }
+    requires few { count ≤ 5000 }
+    ensures here { IsSome (map.get files.new 7) }
+    ensures apart { IsApart pool.new (blocks_at files.new 7) }
+{
+    let ask = Ask {
+        client: 0,
+        seq: 0,
+        op: Op::Pwrite {
+            fd: 3,
+            bytes: filled(alloc, count)?,
+            at: 0,
+        },
+        desc: Some(open_on(7)),
+        fd: 0,
+        last: false,
+    };
+    Ok(files.apply(7, ask, Actor::Primary, 0, pool))
+}
+
+fn filled(alloc: Global, count: usize) -> Result<Bytes, Memory>
+    ensures { IfOk result (λ bytes. length bytes ≡ count) }
+{
+    Ok(Bytes::from_vec(vec![in alloc; 97; count]?))
+}
+
+/// A descriptor of the file with leave to read and write, at its start.
+fn open_on(file: u32) -> Desc
+    ensures { result.file ≡ Some file }
+{
+    Desc {
+        file: Some(file),
+        at: 0,
+        read: true,
+        write: true,
+        append: false,
+    }
+}
+
+/// The inode and the size of the file.
+fn inode_and_size(files: &FileHands) -> Option<(u32, u64)> {
+    match files.get(7) {
+        Some(hand) => Some((hand.inode(), hand.size())),
+        None => None,
+    }
+}
+
+#[test]
+fn an_emptied_file_gives_its_blocks_back(rt: HostRuntime) -> Result<(), Memory> {
+    let alloc = rt.alloc();
+    let mut pool = pool_of(alloc, 10)?;
+    let mut files = one_file(alloc)?;
+    let done = written(alloc, &mut files, &mut pool, 5_000)?;
+    assert!(rt; matches!(done.entry.reply, Reply::Count(5_000)));
+    assert_eq!(rt; inode_and_size(&files), Some((3, 5_000)));
+    assert_eq!(rt; pool.count(), 8);
+    files.empty(7, &mut pool)?;
+    assert_eq!(rt; inode_and_size(&files), Some((3, 0)));
+    assert_eq!(rt; pool.count(), 10);
+    Ok(())
+}
+
+#[test]
+fn a_removed_file_gives_its_blocks_back(rt: HostRuntime) -> Result<(), Memory> {
+    let alloc = rt.alloc();
+    let mut pool = pool_of(alloc, 10)?;
+    let mut files = one_file(alloc)?;
+    let _done = written(alloc, &mut files, &mut pool, 5_000)?;
+    files.remove(7, &mut pool);
+    assert_eq!(rt; inode_and_size(&files), None);
+    assert_eq!(rt; pool.count(), 10);
+    Ok(())
+}
+
+#[test]
+fn a_pool_that_is_too_small_changes_nothing(rt: HostRuntime) -> Result<(), Memory> {
+    let alloc = rt.alloc();
+    let mut pool = pool_of(alloc, 1)?;
+    let mut files = one_file(alloc)?;
+    let done = written(alloc, &mut files, &mut pool, 5_000)?;
+    assert!(rt;
+        matches!(
+            done.entry.reply,
+            Reply::Excused(Excuse::Blocks { need: 2, had: 1 })
+        )
+    );
+    assert_eq!(rt; inode_and_size(&files), Some((3, 0)));
+    assert_eq!(rt; pool.count(), 1);
+    Ok(())
+}

@@ -1,0 +1,7 @@
+//! The names of a tree: its directories by their inodes, and the number of each file that has a name.
+#![tactic(auto)]
+
+mod edits;
+mod name_tree;
+
+pub use name_tree::NameTree;

@@ -1,7 +1,0 @@
-use Rattle.std.proofs.Common.{◌≡◌, take, Some}
-use Rattle.ufs_names.specs.DirTable.{found_at}
-use Rattle.ufs_names.specs.declared.found.Found.TheVariants.{Dir}
-use Rattle.ufs_names.proofs.dir_tree.DirTree.parent.Given as goal
-
-abbrev pub invariant-loop-i : goal.invariant-loop-i
-invariant-loop-i l = found_at l.self (take l.i l.path) ≡ Some (Dir l.dir)

@@ -1,7 +1,0 @@
-use Rattle.std.proofs.Common.{◌≡◌, ℕ, List, take}
-use Rattle.ufs_dirs.specs.Names.{AreNamesIn}
-use Rattle.ufs_names.proofs.dir_tree.names_in.Given as goal
-
--- the first names of the list, which there is
-abbrev pub invariant-loop-rank : goal.invariant-loop-rank
-invariant-loop-rank l = (all : List (List ℕ)) → AreNamesIn l.blocks.slots all → l.names.items ≡ take l.rank all
