@@ -6,7 +6,7 @@ use Rattle.ufs_damage.specs.Meaning.{meaning}
 use Rattle.ufs_damage.specs.declared.damage.Damage.{Damage}
 use Rattle.ufs_image.specs.Damage as image
 use Rattle.ufs_quiet.specs.DamageLines.{damage_line, damage_lines}
-use Rattle.ufs_quiet.proofs.PrintLemmas.{split_at, taken_more}
+use Rattle.ufs_quiet.proofs.ListLines.{split_at, taken_more}
 
 abbrev pub own_line : Damage → List ℕ
 own_line d = damage_line (meaning d)

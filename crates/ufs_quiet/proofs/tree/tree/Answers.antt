@@ -11,7 +11,7 @@ pub returns-in-Ok-clause-answer : goal.returns-in-Ok-clause-answer
 returns-in-Ok-clause-answer g c =
     let d = formatting g.D.Disk.tells g.D.Disk.size g.D.Disk.moments g.D.Disk.faults c.args.disk.now c.tree_heads.new.disk in
     let is = c.in-Ok.ensures.heads in
-    let same : head_lines c.as_slice.result.now ≡ tree_lines is.tree = ap head_lines c.as_slice.ensures ∙ tree_lines_are c.in-Ok.heads.items is.tree is.same in
+    let same : head_lines c.as_slice.result.now ≡ tree_lines is.tree = ap head_lines c.as_slice.ensures.value ∙ tree_lines_are c.in-Ok.heads.items is.tree is.same in
     answer_map (EndsPrinting (head_lines c.as_slice.result.now)) (EndsTree d) (writing g.K.Sink.held g.K.Sink.faults c.args.sink.now c.print_whole.new.sink) c.print_whole.result
     (λ ending text e. tree_shown d is.tree is.opened c.in-Ok.ensures.passed ending text (subst (λ (l : List ℕ). EndsPrinting l ending text) same e)) c.print_whole.ensures
 
