@@ -1,9 +1,11 @@
 // Checkpoints.
-ghost use Rattle.std.specs.Prelude.{ℕ, Bool, List, ◌≡◌, ◌≢◌, ◌≤◌, ◌<◌, ◌+◌, ◌-◌, ◌^◌, ◌∷◌, ◌⊎◌, [], IsTrue, true, false, None, Some, Ok, Err, OnOk, OnErr, IfErr, IfOk};
+ghost use Rattle.std.specs.Prelude.{ℕ, Bool, List, ◌≡◌, ◌≢◌, ◌≤◌, ◌<◌, ◌+◌, ◌-◌, ◌*◌, ◌^◌, ◌∷◌, ◌⊎◌, [], IsTrue, true, false, None, Some, Ok, Err, OnOk, OnErr, IfErr, IfOk};
 ghost use Rattle.std.specs.List.{list_all};
-ghost use Rattle.ufs_disk.specs.Moments.{LeavesOnly};
+ghost use Rattle.ufs_base.specs.declared.sizes.TheConstants.{SECTORS_PER_BLOCK};
+ghost use Rattle.ufs_disk.specs.Disk.{IsSettled};
+ghost use Rattle.ufs_disk.specs.Moments.{LeavesOnly, reads};
 ghost use Rattle.ufs_image.specs.Fold.{is_in_range};
-ghost use Rattle.ufs_layout.specs.Areas.{sector_count};
+ghost use Rattle.ufs_layout.specs.Areas.{first_of_inodes, sector_count};
 ghost use Rattle.ufs_layout.specs.Filled.{sector_count_of};
 ghost use Rattle.ufs_layout.specs.Records.{is_record};
 ghost use Rattle.ufs_ledger.specs.Ledger.{Ledger, IsLedgerOf, IsLeftBy};
@@ -35,6 +37,9 @@ pub(crate) fn begin_next<D: Disk>(
     ensures number { tables.new.journal.number ≡ tables.old.journal.number }
     ensures geometry { tables.new.journal.geometry ≡ tables.old.journal.geometry }
     ensures blocks { tables.new.unassigned ≡ tables.old.unassigned }
+    ensures settled { IsTrue D.tells → OnOk result (IsSettled (D.moments disk.new).state) }
+    ensures bitmap { IsTrue D.tells → (l : Ledger) → HasLedger (state_of (D.size disk.old) (D.moments disk.old) (D.faults disk.old) tables.old) l → OnOk result ((sector : ℕ) → SECTORS_PER_BLOCK ≤ sector → sector < SECTORS_PER_BLOCK * first_of_inodes tables.old.journal.geometry
+        → reads (D.moments disk.new) sector ≡ reads (D.moments disk.old) sector) }
     ensures size { D.size disk.new ≡ D.size disk.old }
     ensures cause { IsTold (D.faults disk.old) (D.faults disk.new) (fault_in result) }
     ensures stop { tables.new.stop ≡ fault_in result }
