@@ -1,3 +1,4 @@
 pub mod Stages
 pub mod Kept
 pub mod Rooms
+pub mod Moves
