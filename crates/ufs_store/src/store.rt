@@ -30,6 +30,9 @@ use ufs_ilog::{InodeLog, NamesLog};
 use ufs_layout::Super;
 use ufs_ledger::{read_data, settle, write_data};
 
+/// The blocks that a pool gets besides those that are missing.
+const MORE: u32 = 64;
+
 /// A disk with its journal, what is committed in it and not yet home, and the blocks that nobody has.
 #[derive(Drop)]
 pub struct Store<D: Disk> {
@@ -284,7 +287,8 @@ impl<D: Disk> Door for Store<D> {
         if had < missing {
             return Err(StoreFault::NoSpace { need: missing, had });
         }
-        move_lowest(&mut self.tables.unassigned, pool, missing + 64);
+        let want = missing + (had - missing).min(MORE);
+        move_lowest(&mut self.tables.unassigned, pool, want);
         Ok(())
     }
 
