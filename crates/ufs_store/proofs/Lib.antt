@@ -2,3 +2,4 @@ pub mod Stages
 pub mod Kept
 pub mod Rooms
 pub mod Moves
+pub mod Deltas

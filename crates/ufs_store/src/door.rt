@@ -105,16 +105,12 @@ pub trait Door {
     fn commit_file(&mut self, log: &mut InodeLog, freed: Runs) -> Result<u64, Uncommitted>
         requires inode { is_inode_number (geometry_of_store (store self.old)) log.old.inode ≡ true }
         requires apart { MayReturn (store self.old).unassigned freed }
-        ensures crash { IsTrue tells → log.old.noted ≢ log.old.committed → (l : Ledger) → HasLedger (store self.old) l
-            → ((records : List LogRecord) → IsDelta log.old.inode log.old.committed log.old.noted records → MayCommitNext (store self.old) records l)
-            → (records : List LogRecord) × IsDelta log.old.inode log.old.committed log.old.noted records
-            × LeavesOnly keeps (IsLeftByAny (store self.old).sectors (stages (store self.old) records l)) (store self.old).moments (store self.new).moments }
-        ensures ok { IsTrue tells → log.old.noted ≢ log.old.committed → OnOk result ((l : Ledger) → HasLedger (store self.old) l
-            → ((records : List LogRecord) → IsDelta log.old.inode log.old.committed log.old.noted records → MayCommitNext (store self.old) records l)
-            → (records : List LogRecord) × IsDelta log.old.inode log.old.committed log.old.noted records × HasLedger (store self.new) (after_commit (store self.old) records l)) }
-        ensures device { IsTrue tells → log.old.noted ≢ log.old.committed → (fault : ℕ) → answer_of result ≡ Err (refusal.Device fault) → (l : Ledger) → HasLedger (store self.old) l
-            → ((records : List LogRecord) → IsDelta log.old.inode log.old.committed log.old.noted records → MayCommitNext (store self.old) records l)
-            → (records : List LogRecord) × IsDelta log.old.inode log.old.committed log.old.noted records × HasAny (store self.new) (stages (store self.old) records l) }
+        ensures crash { IsTrue tells → (records : List LogRecord) → IsDelta log.old.inode log.old.committed log.old.noted records → log.old.noted ≢ log.old.committed → (l : Ledger) → HasLedger (store self.old) l → MayCommitNext (store self.old) records l
+            → LeavesOnly keeps (IsLeftByAny (store self.old).sectors (stages (store self.old) records l)) (store self.old).moments (store self.new).moments }
+        ensures ok { IsTrue tells → (records : List LogRecord) → IsDelta log.old.inode log.old.committed log.old.noted records → log.old.noted ≢ log.old.committed
+            → OnOk result ((l : Ledger) → HasLedger (store self.old) l → MayCommitNext (store self.old) records l → HasLedger (store self.new) (after_commit (store self.old) records l)) }
+        ensures device { IsTrue tells → (records : List LogRecord) → IsDelta log.old.inode log.old.committed log.old.noted records → log.old.noted ≢ log.old.committed
+            → (fault : ℕ) → answer_of result ≡ Err (refusal.Device fault) → (l : Ledger) → HasLedger (store self.old) l → MayCommitNext (store self.old) records l → HasAny (store self.new) (stages (store self.old) records l) }
         ensures memory { IsTrue tells → answer_of result ≡ Err refusal.Memory → (l : Ledger) → HasLedger (store self.old) l → HasLedger (store self.new) l ⊎ HasLedger (store self.new) (checkpointed false (store self.old) l) }
 
         // With nothing to commit.
