@@ -3,3 +3,4 @@ pub mod Kept
 pub mod Rooms
 pub mod Moves
 pub mod Deltas
+pub mod Marking

@@ -58,7 +58,7 @@ impl<D: Disk> Store<D> {
         ensures crash { IsTrue D.tells → IsMountable (D.size disk) (D.moments disk).state head
             → IfOk result (λ s. LeavesOnly D.keeps (IsLeftBy (D.size disk) (marking head (reads (D.moments disk)))) (D.moments disk) (⟦<Store<D> as Door>⟧.store s).moments) }
         ensures err_crash { IsTrue D.tells → IsMountable (D.size disk) (D.moments disk).state head
-            → IfErr result (λ u. LeavesOnly D.keeps (IsLeftBy (D.size disk) (marking head (reads (D.moments disk)))) (D.moments disk) (D.moments u.disk)) }
+            → IfErr result (λ u. u.fault ≢ refusal.Memory → LeavesOnly D.keeps (IsLeftBy (D.size disk) (marking head (reads (D.moments disk)))) (D.moments disk) (D.moments u.disk)) }
         ensures ok { IsTrue D.tells → IsMountable (D.size disk) (D.moments disk).state head
             → IfOk result (λ s. HasLedger (⟦<Store<D> as Door>⟧.store s) (opening_ledger (in_use head) (reads (D.moments disk)))) }
         ensures going { IfOk result (λ s. (⟦<Store<D> as Door>⟧.store s).stop ≡ None) }
