@@ -4,3 +4,4 @@ pub mod Rooms
 pub mod Moves
 pub mod Deltas
 pub mod Marking
+pub mod Marks
