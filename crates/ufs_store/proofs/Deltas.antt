@@ -19,7 +19,7 @@ no_longer one other k n short long less =
     let in_one = long.in_one in
     let in_other = long.in_other in
     short.longest (omega (arith, less, in_one)) (omega (arith, less, in_other))
-        (sym (get_of_take one k n less) ∙ ap (λ (xs : List Run). slice_get xs k) long.same ∙ get_of_take other k n less)
+    (sym (get_of_take one k n less) ∙ ap (λ (xs : List Run). slice_get xs k) long.same ∙ get_of_take other k n less)
 
 one_front : (one other : List Run) (k n : ℕ) → IsSharedFront one other k → IsSharedFront one other n → k ≡ n
 one_front one other k n a b = by (nat_lt k n) refl (nat_lt n k) refl

@@ -93,5 +93,5 @@ module _ (sectors : ℕ) (keeps : Bool) (m0 : Moments) (before : Super) (bytes :
             let past : 0 < journal_sector (geometry_of before) place = omega arith in
             let off : (journal_sector (geometry_of before) place == 0) ≡ false = grind (arith, nat_tests, past) in
             let same : image (journal_sector (geometry_of before) place) ≡ home (journal_sector (geometry_of before) place) =
-                ap (λ (i : Image). i (journal_sector (geometry_of before) place)) (at_m2 image left) ∙ ap (λ b. if b then bytes else home (journal_sector (geometry_of before) place)) off in
+            ap (λ (i : Image). i (journal_sector (geometry_of before) place)) (at_m2 image left) ∙ ap (λ b. if b then bytes else home (journal_sector (geometry_of before) place)) off in
             subst (λ b. epoch_in b < before.epoch) (sym same) (is.earlier place under)

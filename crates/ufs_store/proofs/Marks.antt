@@ -16,10 +16,10 @@ use Rattle.ufs_layout.specs.declared.geometry.Geometry.{Geometry}
 use Rattle.ufs_bitmap.specs.Space.{HasBits, Space, used_bit}
 use Rattle.ufs_image.specs.Damage.{is_marked}
 use Rattle.ufs_image.proofs.Blocks.{block_same}
-use Rattle.ufs_journal.specs.Kept.{IsReady}
+use Rattle.ufs_journal.specs.Kept.{IsReady, IsUnused}
 use Rattle.ufs_ledger.specs.Ledger.{IsLedgerOf, IsLeftBy, Ledger}
 use Rattle.ufs_ledger.proofs.Bitmap.{no_bitmap}
-use Rattle.ufs_ledger.proofs.Frames.{ready_from}
+use Rattle.ufs_ledger.proofs.Frames.{ready_from, unused_from}
 use Rattle.ufs_ledger.proofs.Mixing.{elsewhere}
 
 -- The bits of the first blocks of the bitmap, up to this one, are those of the set.
@@ -44,7 +44,7 @@ module _ (s : Space) (k : ℕ) (bytes : List ℕ) (old new : Image) (from : 1 �
       let whole : 512 * (b / 4096) + b / 8 % 512 ≡ b / 8 = omega (arith, under) in
       let number : 8 * (4096 * (k - 1)) + b ≡ block = omega (arith, at) in
       let byte : slice_index (new (8 + block / 4096)) (block / 8 % 512) ≡ slice_index bytes (b / 8) =
-          (λ i. slice_index (new (sector i)) (place i)) ∙ byte_there (b / 4096) (b / 8 % 512) (omega (arith, under)) (omega arith) ∙ ap (slice_index bytes) whole in
+      (λ i. slice_index (new (sector i)) (place i)) ∙ byte_there (b / 4096) (b / 8 % 512) (omega (arith, under)) (omega arith) ∙ ap (slice_index bytes) whole in
       (λ i. bit_at (byte i) (bit i) == 1) ∙ ap (λ n. n == 1) (bits b (omega (arith, under, size))) ∙ ap (λ n. used_bit s n == 1) number
 
   before : (block : ℕ) → block < 32768 * (k - 1) → is_marked new block ≡ is_marked old block
@@ -89,6 +89,14 @@ module _ (g : Geometry) (k : ℕ) (bytes : List ℕ) (from : 1 ≤ k) (under : k
 
   pub still_ready : (m0 m1 : State) → Leaves (IsPartlyWritten (8 * k) bytes m0) m1 → (epoch used number : ℕ) → IsReady g epoch used number m0 → IsReady g epoch used number m1
   still_ready m0 m1 part epoch used number is = ready_from g epoch used number m0 m1
+      (λ image left. let one = part image left in record {
+        before = one.before;
+        left = one.left;
+        same = λ place less. sym (same_there one.before image one.mixed _ (inr (omega arith)));
+      }) is
+
+  pub still_unused : (m0 m1 : State) → Leaves (IsPartlyWritten (8 * k) bytes m0) m1 → (epoch txn : ℕ) → IsUnused g epoch txn m0 → IsUnused g epoch txn m1
+  still_unused m0 m1 part epoch txn is = unused_from g epoch txn m0 m1
       (λ image left. let one = part image left in record {
         before = one.before;
         left = one.left;

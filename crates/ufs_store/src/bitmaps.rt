@@ -28,6 +28,7 @@ pub(crate) fn write_bitmap<D: Disk>(
     ensures ledger { IsTrue D.tells → (l : Ledger) → geometry_of l.head ≡ geometry.now → l.maybe ≡ None → IsLedgerOf (D.size disk.old) (D.moments disk.old).state l
         → IsLedgerOf (D.size disk.new) (D.moments disk.new).state l }
     ensures ready { IsTrue D.tells → (epoch used number : ℕ) → IsReady geometry.now epoch used number (D.moments disk.old).state → IsReady geometry.now epoch used number (D.moments disk.new).state }
+    ensures unused { IsTrue D.tells → (epoch txn : ℕ) → IsUnused geometry.now epoch txn (D.moments disk.old).state → IsUnused geometry.now epoch txn (D.moments disk.new).state }
     ensures size { D.size disk.new ≡ D.size disk.old }
     ensures cause { HasCause (D.faults disk.old) (D.faults disk.new) result }
     ensures fault { IfErr result (λ fault. fault.number ≡ D.faults disk.new) }

@@ -1,5 +1,6 @@
 // The store.
 ghost use Rattle.std.specs.Prelude.{ℕ, List, ◌≡◌, ◌≢◌, ◌≤◌, ◌<◌, ◌+◌, ◌-◌, ◌⊎◌, ◌↔◌, IsTrue, true, false, None, Some, Ok, Err, OnOk, OnErr, IfErr, IfOk};
+ghost use Rattle.ufs_disk.specs.Disk.{IsSettled};
 ghost use Rattle.ufs_disk.specs.Moments.{LeavesOnly, reads};
 ghost use Rattle.ufs_ilog.specs.Deltas.{IsDelta};
 ghost use Rattle.ufs_layout.specs.Areas.{IsGeometry, first_of_data, is_inode_number, sector_count};
@@ -103,6 +104,7 @@ impl<D: Disk> Store<D> {
             → (home : ℕ → List ℕ) × IsLedgerOf (D.size result.disk) (D.moments result.disk).state (closed (⟦<Store<D> as Door>⟧.store self) home l)) }
         ensures marked { IsTrue D.tells → IsTrue emptied → OnOk result.ended ((l : Ledger) → HasLedger (⟦<Store<D> as Door>⟧.store self) l
             → MarksUsed (geometry_of_store (⟦<Store<D> as Door>⟧.store self)) (reads (D.moments result.disk)) (⟦<Store<D> as Door>⟧.store self).unassigned) }
+        ensures settled { IsTrue D.tells → IsTrue emptied → OnOk result.ended (IsSettled (D.moments result.disk).state) }
         ensures untouched { is_closing emptied (⟦<Store<D> as Door>⟧.store self).stop ≡ false → D.moments result.disk ≡ (⟦<Store<D> as Door>⟧.store self).moments }
         ensures stopped { (fault : ℕ) → (result.ended ≡ Err (refusal.Stopped fault)) ↔ ((⟦<Store<D> as Door>⟧.store self).stop ≡ Some fault) }
         ensures cause { IsTold (⟦<Store<D> as Door>⟧.store self).faults (D.faults result.disk) (fault_in result.ended) }
@@ -129,8 +131,7 @@ fn check_stop(tables: &Tables) -> Result<(), StoreFault>
     }
 }
 
-/// Writes the bitmap and everything home, and marks the image clean, unless the store has stopped or
-/// nothing is to be closed.
+/// Closes the image, unless the store has stopped or is to be left as it is.
 fn close_image<D: Disk>(tables: &mut Tables, disk: &mut D, emptied: bool) -> Result<(), StoreFault>
     requires large { sector_count tables.old.journal.geometry ≤ D.size disk.old }
     ensures crash { IsTrue D.tells → (l : Ledger) → HasLedger (state_of (D.size disk.old) (D.moments disk.old) (D.faults disk.old) tables.old) l
@@ -138,6 +139,7 @@ fn close_image<D: Disk>(tables: &mut Tables, disk: &mut D, emptied: bool) -> Res
     ensures ok { IsTrue D.tells → IsTrue emptied → OnOk result ((l : Ledger) → HasLedger (state_of (D.size disk.old) (D.moments disk.old) (D.faults disk.old) tables.old) l
         → (home : ℕ → List ℕ) × IsLedgerOf (D.size disk.new) (D.moments disk.new).state (closed (state_of (D.size disk.old) (D.moments disk.old) (D.faults disk.old) tables.old) home l)) }
     ensures marked { IsTrue D.tells → IsTrue emptied → OnOk result ((l : Ledger) → HasLedger (state_of (D.size disk.old) (D.moments disk.old) (D.faults disk.old) tables.old) l → MarksUsed tables.old.journal.geometry (reads (D.moments disk.new)) tables.old.unassigned) }
+    ensures settled { IsTrue D.tells → IsTrue emptied → OnOk result (IsSettled (D.moments disk.new).state) }
     ensures untouched { is_closing emptied tables.old.stop ≡ false → D.moments disk.new ≡ D.moments disk.old }
     ensures stopped { (fault : ℕ) → (result ≡ Err (refusal.Stopped fault)) ↔ (tables.old.stop ≡ Some fault) }
     ensures cause { IsTold (D.faults disk.old) (D.faults disk.new) (fault_in result) }
@@ -149,6 +151,23 @@ fn close_image<D: Disk>(tables: &mut Tables, disk: &mut D, emptied: bool) -> Res
     if !emptied {
         return Ok(());
     }
+    write_closing(tables, disk)
+}
+
+/// Writes the bitmap and everything home, and marks the image clean.
+fn write_closing<D: Disk>(tables: &mut Tables, disk: &mut D) -> Result<(), StoreFault>
+    requires going { tables.old.stop ≡ None }
+    requires large { sector_count tables.old.journal.geometry ≤ D.size disk.old }
+    ensures crash { IsTrue D.tells → (l : Ledger) → HasLedger (state_of (D.size disk.old) (D.moments disk.old) (D.faults disk.old) tables.old) l
+        → (home : ℕ → List ℕ) × LeavesOnly D.keeps (IsLeftByAny (D.size disk.old) (closing_stages (state_of (D.size disk.old) (D.moments disk.old) (D.faults disk.old) tables.old) home l)) (D.moments disk.old) (D.moments disk.new) }
+    ensures ok { IsTrue D.tells → OnOk result ((l : Ledger) → HasLedger (state_of (D.size disk.old) (D.moments disk.old) (D.faults disk.old) tables.old) l
+        → (home : ℕ → List ℕ) × IsLedgerOf (D.size disk.new) (D.moments disk.new).state (closed (state_of (D.size disk.old) (D.moments disk.old) (D.faults disk.old) tables.old) home l)) }
+    ensures marked { IsTrue D.tells → OnOk result ((l : Ledger) → HasLedger (state_of (D.size disk.old) (D.moments disk.old) (D.faults disk.old) tables.old) l → MarksUsed tables.old.journal.geometry (reads (D.moments disk.new)) tables.old.unassigned) }
+    ensures settled { IsTrue D.tells → OnOk result (IsSettled (D.moments disk.new).state) }
+    ensures cause { IsTold (D.faults disk.old) (D.faults disk.new) (fault_in result) }
+    ensures size { D.size disk.new ≡ D.size disk.old }
+    ensures refused { IfErr result (λ fault. IsTrue (is_own fault)) }
+{
     let geometry = tables.journal.geometry;
     if let Err(fault) = write_bitmap(disk, &geometry, &tables.unassigned) {
         return Err(stop_at(&mut tables.stop, fault));

@@ -4,7 +4,7 @@ use Rattle.ufs_disk.specs.Moments.{reads}
 use Rattle.ufs_disk.proofs.Runs.{joined, weaker}
 use Rattle.ufs_layout.specs.Areas.{first_of_inodes}
 use Rattle.ufs_ledger.specs.Ledger.{IsLedgerOf, IsLeftBy}
-use Rattle.ufs_store.proofs.Marks.{IsMarkedBelow, left_by, marked_more, still_ledger, still_ready}
+use Rattle.ufs_store.proofs.Marks.{IsMarkedBelow, left_by, marked_more, still_ledger, still_ready, still_unused}
 use Rattle.ufs_store.proofs.bitmaps.write_bitmap.Goals as goal
 
 pub returns-in_err-write-clause-crash : goal.returns-in_err-write-clause-crash
@@ -21,8 +21,8 @@ returns-in_err-write-clause-crash g c told l same none is =
     let from : 1 ≤ k = c.loop-block.auto.block in
     let under : k < first_of_inodes c.args.geometry.now = omega (arith, c.loop-block-test.true, c.first_of_inodes-block-end.ensures) in
     joined keeps (IsLeftBy size l) m0 mk mn (i.crash told l same none is)
-        (weaker keeps (IsPartlyWritten (8 * k) bytes mk.state) (IsLeftBy size l)
-        (left_by c.args.geometry.now k bytes from under long size l same none mk.state mn.state (i.ledger told l same none is) (c.write.ensures.crash told).after (c.write.ensures.content told)) mk mn (c.write.ensures.crash told))
+    (weaker keeps (IsPartlyWritten (8 * k) bytes mk.state) (IsLeftBy size l)
+    (left_by c.args.geometry.now k bytes from under long size l same none mk.state mn.state (i.ledger told l same none is) (c.write.ensures.crash told).after (c.write.ensures.content told)) mk mn (c.write.ensures.crash told))
 
 pub returns-in_err-write-clause-ledger : goal.returns-in_err-write-clause-ledger
 returns-in_err-write-clause-ledger g c told l same none is =
@@ -36,7 +36,7 @@ returns-in_err-write-clause-ledger g c told l same none is =
     let from : 1 ≤ k = c.loop-block.auto.block in
     let under : k < first_of_inodes c.args.geometry.now = omega (arith, c.loop-block-test.true, c.first_of_inodes-block-end.ensures) in
     subst (λ n. IsLedgerOf n mn.state l) (sym (c.write.ensures.size ∙ i.size))
-        (still_ledger c.args.geometry.now k bytes from under long size l same none mk.state mn.state (i.ledger told l same none is) (c.write.ensures.crash told).after (c.write.ensures.content told))
+    (still_ledger c.args.geometry.now k bytes from under long size l same none mk.state mn.state (i.ledger told l same none is) (c.write.ensures.crash told).after (c.write.ensures.content told))
 
 pub returns-in_err-write-clause-ready : goal.returns-in_err-write-clause-ready
 returns-in_err-write-clause-ready g c told epoch used number is =
@@ -48,6 +48,17 @@ returns-in_err-write-clause-ready g c told epoch used number is =
     let from : 1 ≤ k = c.loop-block.auto.block in
     let under : k < first_of_inodes c.args.geometry.now = omega (arith, c.loop-block-test.true, c.first_of_inodes-block-end.ensures) in
     still_ready c.args.geometry.now k bytes from under long mk.state mn.state (c.write.ensures.crash told).after epoch used number (c.loop-block.invariant.ready told epoch used number is)
+
+pub returns-in_err-write-clause-unused : goal.returns-in_err-write-clause-unused
+returns-in_err-write-clause-unused g c told epoch txn is =
+    let k = c.loop-block.block in
+    let mk = g.D.Disk.moments c.loop-block.disk in
+    let mn = g.D.Disk.moments c.write.new.self in
+    let bytes = c.put_bytes.new.bytes in
+    let long : length bytes ≡ 4096 = search rules in
+    let from : 1 ≤ k = c.loop-block.auto.block in
+    let under : k < first_of_inodes c.args.geometry.now = omega (arith, c.loop-block-test.true, c.first_of_inodes-block-end.ensures) in
+    still_unused c.args.geometry.now k bytes from under long mk.state mn.state (c.write.ensures.crash told).after epoch txn (c.loop-block.invariant.unused told epoch txn is)
 
 pub returns-clause-ledger : goal.returns-clause-ledger
 returns-clause-ledger g c told l same none is =
@@ -76,6 +87,7 @@ loop-block-preserved g c =
       ledger = λ told l same none is.
           still_ledger c.args.geometry.now k bytes from under long size l same none mk.state mn.state (i.ledger told l same none is) (c.write.ensures.crash told).after (c.write.ensures.content told);
       ready = λ told epoch used number is. still_ready c.args.geometry.now k bytes from under long mk.state mn.state (c.write.ensures.crash told).after epoch used number (i.ready told epoch used number is);
+      unused = λ told epoch txn is. still_unused c.args.geometry.now k bytes from under long mk.state mn.state (c.write.ensures.crash told).after epoch txn (i.unused told epoch txn is);
       size = c.write.ensures.size ∙ i.size;
       faults = c.in_ok-write.ensures.cause.passed ∙ i.faults;
     }

@@ -41,6 +41,6 @@ returns c =
     let free : BlockSet = c.loop-run.to.free in
     let old : Space = c.args.to.now in
     let all : free ≡ set.union old.free (set_of c.args.runs.now) =
-        sym (union_end free) ∙ ap (λ (l : List Run). set.union free (set_of l)) (sym (drop_all c.loop-run.run-index runs past)) ∙ c.loop-run.invariant.so_far
-        ∙ ap (λ (l : List Run). set.union old.free (set_of l)) c.as_slice-run-items.ensures.items in
+    sym (union_end free) ∙ ap (λ (l : List Run). set.union free (set_of l)) (sym (drop_all c.loop-run.run-index runs past)) ∙ c.loop-run.invariant.so_far
+    ∙ ap (λ (l : List Run). set.union old.free (set_of l)) c.as_slice-run-items.ensures.items in
     c.loop-run.invariant.range ∙ (λ i. record { first = old.first; blocks = old.blocks; free = all i })

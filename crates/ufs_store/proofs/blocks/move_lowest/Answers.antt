@@ -32,4 +32,4 @@ returns-in_default-clause-moved c =
     let kept : BlockSet = c.loop-left.from.free in
     let none : kept ≡ set.empty = c.in_default.ensures.none.0 refl in
     subst (λ (x : BlockSet). MovesLowest c.args.want c.args.from.now.free x c.args.pool.now c.loop-left.pool) (sym (ap (λ (s : Space). s.free) c.in_default.ensures.same))
-        (ends_moving c.args.want c.loop-left.left c.args.from.now.free kept c.args.pool.now c.loop-left.pool c.loop-left.invariant.moving (inr none))
+    (ends_moving c.args.want c.loop-left.left c.args.from.now.free kept c.args.pool.now c.loop-left.pool c.loop-left.invariant.moving (inr none))

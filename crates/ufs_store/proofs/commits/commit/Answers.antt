@@ -18,7 +18,7 @@ pub returns-then-tables-clause-crash : goal.returns-then-tables-clause-crash
 returns-then-tables-clause-crash g c told l has may =
     let s = state_of (g.D.Disk.size c.args.disk.now) (g.D.Disk.moments c.args.disk.now) (g.D.Disk.faults c.args.disk.now) c.args.tables.now in
     started g.D.Disk.keeps (IsLeftByAny (g.D.Disk.size c.args.disk.now) (stages s c.args.records.now l)) (g.D.Disk.moments c.args.disk.now)
-        (λ image left. at_first s c.args.records.now l (λ l. IsLeftBy (g.D.Disk.size c.args.disk.now) l image) (has.by.is.images image left))
+    (λ image left. at_first s c.args.records.now l (λ l. IsLeftBy (g.D.Disk.size c.args.disk.now) l image) (has.by.is.images image left))
 
 pub returns-in_err-make_room-clause-crash : goal.returns-in_err-make_room-clause-crash
 returns-in_err-make_room-clause-crash g c told l has may =
@@ -26,7 +26,7 @@ returns-in_err-make_room-clause-crash g c told l has may =
     let rs = c.args.records.now in
     let size = g.D.Disk.size c.args.disk.now in
     weaker g.D.Disk.keeps (IsLeftByAny size (room_stages s rs l)) (IsLeftByAny size (stages s rs l)) (λ image left. at_room s rs l (λ l. IsLeftBy size l image) left)
-        (g.D.Disk.moments c.args.disk.now) (g.D.Disk.moments c.make_room.new.disk) (c.make_room.ensures.crash told l has)
+    (g.D.Disk.moments c.args.disk.now) (g.D.Disk.moments c.make_room.new.disk) (c.make_room.ensures.crash told l has)
 
 pub returns-in_err-make_room-clause-device : goal.returns-in_err-make_room-clause-device
 returns-in_err-make_room-clause-device g c told fault is l has may =
@@ -50,7 +50,7 @@ returns-clause-crash g c told l has may =
     let run2 = c.commit_in_room.ensures.crash told (with_room s rs l) (c.in_ok-make_room.ensures.ok told l has) (may_in_room s rs l c.make_room.new.tables.journal.geometry (record { number = c.make_room.new.tables.journal.number; records = rs }) c.make_room.ensures.geometry same may) in
     let run2' = subst (λ (x : ℕ × Committed). LeavesOnly g.D.Disk.keeps (IsLeftByAny x.0 (commit_stages x.1 (with_room s rs l))) m1 m2) (λ i. (c.make_room.ensures.size i, same i)) run2 in
     joined g.D.Disk.keeps (IsLeftByAny size (stages s rs l)) m0 m1 m2 run1
-        (weaker g.D.Disk.keeps (IsLeftByAny size (commit_stages (next_commit s rs) (with_room s rs l))) (IsLeftByAny size (stages s rs l)) (λ image left. at_commit s rs l (λ l. IsLeftBy size l image) left) m1 m2 run2')
+    (weaker g.D.Disk.keeps (IsLeftByAny size (commit_stages (next_commit s rs) (with_room s rs l))) (IsLeftByAny size (stages s rs l)) (λ image left. at_commit s rs l (λ l. IsLeftBy size l image) left) m1 m2 run2')
 
 pub returns-clause-ok : goal.returns-clause-ok
 returns-clause-ok g c told =

@@ -16,13 +16,13 @@ pub returns-in-Ok-clause-crash : goal.returns-in-Ok-clause-crash
 returns-in-Ok-clause-crash g c told l has may =
     let t : Committed = record { number = c.args.tables.now.journal.number; records = c.args.records.now } in
     by_two (g.D.Disk.size c.args.disk.now) g.D.Disk.keeps l (committing t (settled l)) (g.D.Disk.moments c.args.disk.now) (g.D.Disk.moments c.commit_records.new.disk)
-        (c.commit_records.ensures.crash told l has.by (record { unused = has.unused c.args.tables.now.txn (omega arith); may = may }))
+    (c.commit_records.ensures.crash told l has.by (record { unused = has.unused c.args.tables.now.txn (omega arith); may = may }))
 
 pub returns-in-Err-clause-crash : goal.returns-in-Err-clause-crash
 returns-in-Err-clause-crash g c told l has may =
     let t : Committed = record { number = c.args.tables.now.journal.number; records = c.args.records.now } in
     by_two (g.D.Disk.size c.args.disk.now) g.D.Disk.keeps l (committing t (settled l)) (g.D.Disk.moments c.args.disk.now) (g.D.Disk.moments c.commit_records.new.disk)
-        (c.commit_records.ensures.crash told l has.by (record { unused = has.unused c.args.tables.now.txn (omega arith); may = may }))
+    (c.commit_records.ensures.crash told l has.by (record { unused = has.unused c.args.tables.now.txn (omega arith); may = may }))
 
 pub returns-in-Ok-clause-ok : goal.returns-in-Ok-clause-ok
 returns-in-Ok-clause-ok g c told l has may =

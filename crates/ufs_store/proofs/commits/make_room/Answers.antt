@@ -19,7 +19,7 @@ returns-clause-crash g c told l has =
     let s = state_of (g.D.Disk.size c.args.disk.now) (g.D.Disk.moments c.args.disk.now) (g.D.Disk.faults c.args.disk.now) c.args.tables.now in
     let full = lacks s c.args.records.now c.room.result c.sectors_needed.result c.room.ensures c.sectors_needed.ensures c.if-sectors_needed-room.false in
     subst (λ b. LeavesOnly g.D.Disk.keeps (IsLeftByAny (g.D.Disk.size c.args.disk.now) (if b then l ∷ [] else l ∷ beginning_next false s l ∷ [])) (g.D.Disk.moments c.args.disk.now) (g.D.Disk.moments c.begin_next.new.disk))
-        (sym full) (c.begin_next.ensures.crash told l has)
+    (sym full) (c.begin_next.ensures.crash told l has)
 
 pub returns-clause-ok : goal.returns-clause-ok
 returns-clause-ok g c told =

@@ -22,8 +22,8 @@ returns-in_err-write-clause-crash g c told before head is =
     let long : length c.put_super.new.sector ≡ 512 = search rules in
     let geometry : c.args.geometry.now ≡ geometry_of before = sym c.requires.same ∙ ap geometry_of head in
     crash1 size g.D.Disk.keeps m0 before c.put_super.new.sector is whole (c.put_super.ensures.read_back ∙ ap Some head) long
-        (subst HasOpeningLedger geometry c.mount_law.ensures) (subst BeginsQuietly c.sectors.ensures c.checkpoint_law.ensures.quietly) (subst BeginsAnew c.sectors.ensures c.checkpoint_law.ensures.anew) (subst BeginsForGood c.sectors.ensures c.checkpoint_law.ensures.good)
-        (g.D.Disk.moments c.write.new.self) (c.write.ensures.crash told)
+    (subst HasOpeningLedger geometry c.mount_law.ensures) (subst BeginsQuietly c.sectors.ensures c.checkpoint_law.ensures.quietly) (subst BeginsAnew c.sectors.ensures c.checkpoint_law.ensures.anew) (subst BeginsForGood c.sectors.ensures c.checkpoint_law.ensures.good)
+    (g.D.Disk.moments c.write.new.self) (c.write.ensures.crash told)
 
 pub returns-clause-crash : goal.returns-clause-crash
 returns-clause-crash g c told before head is =
@@ -33,8 +33,8 @@ returns-clause-crash g c told before head is =
     let long : length c.put_super.new.sector ≡ 512 = search rules in
     let geometry : c.args.geometry.now ≡ geometry_of before = sym c.requires.same ∙ ap geometry_of head in
     crash2 size g.D.Disk.keeps m0 before c.put_super.new.sector is whole (c.put_super.ensures.read_back ∙ ap Some head) long
-        (subst HasOpeningLedger geometry c.mount_law.ensures) (subst BeginsQuietly c.sectors.ensures c.checkpoint_law.ensures.quietly) (subst BeginsAnew c.sectors.ensures c.checkpoint_law.ensures.anew) (subst BeginsForGood c.sectors.ensures c.checkpoint_law.ensures.good)
-        (g.D.Disk.moments c.write.new.self) (c.write.ensures.crash told) (g.D.Disk.moments c.barrier.new.self) (c.barrier.ensures.crash told)
+    (subst HasOpeningLedger geometry c.mount_law.ensures) (subst BeginsQuietly c.sectors.ensures c.checkpoint_law.ensures.quietly) (subst BeginsAnew c.sectors.ensures c.checkpoint_law.ensures.anew) (subst BeginsForGood c.sectors.ensures c.checkpoint_law.ensures.good)
+    (g.D.Disk.moments c.write.new.self) (c.write.ensures.crash told) (g.D.Disk.moments c.barrier.new.self) (c.barrier.ensures.crash told)
 
 pub returns-clause-ok : goal.returns-clause-ok
 returns-clause-ok g c told = on_ok_weaker c.barrier.result (λ still before head is.

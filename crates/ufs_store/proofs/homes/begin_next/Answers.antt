@@ -16,7 +16,7 @@ returns-in-Ok-clause-crash g c told l has =
     let size = g.D.Disk.size c.args.disk.now in
     let home = block_at (home_of l (reads old)) in
     subst (λ (h : Super). LeavesOnly g.D.Disk.keeps (IsLeftByAny size (l ∷ beginning h home l ∷ [])) old new) c.in-Some.ensures
-        (by_two size g.D.Disk.keeps l (beginning c.in-Some.head home l) old new (c.checkpoint.ensures.crash told l has.by has.added))
+    (by_two size g.D.Disk.keeps l (beginning c.in-Some.head home l) old new (c.checkpoint.ensures.crash told l has.by has.added))
 
 pub returns-in-Ok-clause-ok : goal.returns-in-Ok-clause-ok
 returns-in-Ok-clause-ok g c told l has =
@@ -39,7 +39,7 @@ returns-in-Err-clause-crash g c told l has =
     let size = g.D.Disk.size c.args.disk.now in
     let home = block_at (home_of l (reads old)) in
     subst (λ (h : Super). LeavesOnly g.D.Disk.keeps (IsLeftByAny size (l ∷ beginning h home l ∷ [])) old new) c.in-Some.ensures
-        (by_two size g.D.Disk.keeps l (beginning c.in-Some.head home l) old new (c.checkpoint.ensures.crash told l has.by has.added))
+    (by_two size g.D.Disk.keeps l (beginning c.in-Some.head home l) old new (c.checkpoint.ensures.crash told l has.by has.added))
 
 pub returns-in-Ok-clause-bitmap : goal.returns-in-Ok-clause-bitmap
 returns-in-Ok-clause-bitmap g c told l has = c.in-Ok.ensures.bitmap told l.now.log has.added

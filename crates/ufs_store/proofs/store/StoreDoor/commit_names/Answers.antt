@@ -12,7 +12,7 @@ pub returns-in_err-number-clause-crash : goal.returns-in_err-number-clause-crash
 returns-in_err-number-clause-crash g c told some l has may =
     let s = state_of (g.D.Disk.size c.args.self.now.disk) (g.D.Disk.moments c.args.self.now.disk) (g.D.Disk.faults c.args.self.now.disk) c.args.self.now.tables in
     subst (λ (rs : List LogRecord). LeavesOnly g.D.Disk.keeps (IsLeftByAny (g.D.Disk.size c.args.self.now.disk) (stages s rs l)) (g.D.Disk.moments c.args.self.now.disk) (g.D.Disk.moments c.commit.new.disk)) c.records-2.ensures.records
-        (c.commit.ensures.crash told l has (subst (λ (rs : List LogRecord). MayCommitNext s rs l) (sym c.records-2.ensures.records) may))
+    (c.commit.ensures.crash told l has (subst (λ (rs : List LogRecord). MayCommitNext s rs l) (sym c.records-2.ensures.records) may))
 
 pub returns-in_err-number-clause-device : goal.returns-in_err-number-clause-device
 returns-in_err-number-clause-device g c told fault is l has may =
@@ -22,10 +22,10 @@ returns-in_err-number-clause-device g c told fault is l has may =
     let was = c.in_err-number.was in
     let failed : c.commit.result ≡ Err (refusal.Device fault) = cc in
     subst (λ (rs : List LogRecord). HasAny t (stages s rs l)) c.records-2.ensures.records
-        (c.commit.ensures.device told fault failed l has (subst (λ (rs : List LogRecord). MayCommitNext s rs l) (sym c.records-2.ensures.records) may))
+    (c.commit.ensures.device told fault failed l has (subst (λ (rs : List LogRecord). MayCommitNext s rs l) (sym c.records-2.ensures.records) may))
 
 pub returns-clause-crash : goal.returns-clause-crash
 returns-clause-crash g c told some l has may =
     let s = state_of (g.D.Disk.size c.args.self.now.disk) (g.D.Disk.moments c.args.self.now.disk) (g.D.Disk.faults c.args.self.now.disk) c.args.self.now.tables in
     subst (λ (rs : List LogRecord). LeavesOnly g.D.Disk.keeps (IsLeftByAny (g.D.Disk.size c.args.self.now.disk) (stages s rs l)) (g.D.Disk.moments c.args.self.now.disk) (g.D.Disk.moments c.commit.new.disk)) c.records-2.ensures.records
-        (c.commit.ensures.crash told l has (subst (λ (rs : List LogRecord). MayCommitNext s rs l) (sym c.records-2.ensures.records) may))
+    (c.commit.ensures.crash told l has (subst (λ (rs : List LogRecord). MayCommitNext s rs l) (sym c.records-2.ensures.records) may))
