@@ -12,7 +12,10 @@ use Rattle.ufs_image.specs.Journal.{well_spelled}
 use Rattle.ufs_layout.specs.declared.geometry.Geometry.{Geometry}
 use Rattle.ufs_journal.specs.Found.{is_of}
 use Rattle.ufs_journal.specs.Kept.{IsReady, IsUnused}
-use Rattle.ufs_ledger.specs.Ledger.{Ledger, is_held}
+use Rattle.ufs_disk.specs.Moments.{Moments}
+use Rattle.ufs_ledger.specs.Ledger.{IsLedgerOf, Ledger, is_held}
+use Rattle.ufs_store.specs.Ledgers.{HasLedger}
+use Rattle.ufs_store.specs.State.{StoreState}
 use Rattle.ufs_ledger.specs.Changes.{home_cells, settled_cell}
 use Rattle.ufs_ledger.proofs.Heading.{none_read}
 
@@ -58,3 +61,15 @@ numbers_from_one t =
     let from : 1 ≤ t.head.next = let e = back.1 in grind (arith, nat_tests, e) in
     let up = t.next in
     omega (arith, from, up)
+
+-- A store whose disk has the ledger still, and whose journal is as it was, still has it.
+pub still_has : (s : StoreState) (sectors : ℕ) (moments : Moments) (faults : ℕ) (l : Ledger) → HasLedger s l → IsLedgerOf sectors moments.state l → IsReady s.journal.geometry s.journal.epoch s.journal.used s.journal.number moments.state
+    → ((txn : ℕ) → s.txn ≤ txn → IsUnused s.journal.geometry s.journal.epoch txn moments.state) → HasLedger (record s { sectors = sectors; moments = moments; faults = faults }) l
+still_has s sectors moments faults l has is ready unused = record {
+  going = has.going;
+  by = record { is = is; none = has.by.none; geometry = has.by.geometry; epoch = has.by.epoch; later = has.by.later; ready = ready };
+  added = has.added;
+  numbered = has.numbered;
+  unused = unused;
+  settled = has.settled;
+}
