@@ -5,7 +5,7 @@ use Rattle.std.specs.List.{AllByRecursion}
 use Rattle.std.proofs.lemmas.Bool.{and_parts}
 use Rattle.std.proofs.lemmas.Bool.Decides.{nat_tests}
 use Rattle.ufs_disk.specs.Disk.{Cell, possible}
-use Rattle.ufs_layout.specs.Areas.{IsGeometry, sector_count, first_of_data, first_of_journal, is_data_sector, journal_sectors}
+use Rattle.ufs_layout.specs.Areas.{IsGeometry, sector_count, first_of_data, first_of_inodes, first_of_journal, is_data_sector, journal_sectors}
 use Rattle.ufs_layout.specs.Superblock.{geometry_of}
 use Rattle.ufs_base.specs.Images.{Image}
 use Rattle.ufs_image.specs.Images.{IsImageOf}
@@ -61,6 +61,13 @@ journal_there g log image place under =
     let high : k ≤ g.inodes = let t = (and_parts (nat_le 1 k) (nat_le k g.inodes) ranged).1 in grind (arith, nat_tests, t) in
     let low : 1 ≤ k = let t = (and_parts (nat_le 1 k) (nat_le k g.inodes) ranged).0 in grind (arith, nat_tests, t) in
     omega (arith, same, high, low)) log image
+
+pub bitmap_there : (g : Geometry) (log : List Committed) (image : Image) (sector : ℕ) → sector < 8 * first_of_inodes g → folded g log image sector ≡ image sector
+bitmap_there g log image sector under =
+    else_folded g sector (no_data g sector (omega (arith, under)))
+    (λ k ranged same.
+    let low : 1 ≤ k = let t = (and_parts (nat_le 1 k) (nat_le k g.inodes) ranged).0 in grind (arith, nat_tests, t) in
+    omega (arith, same, low, under)) log image
 
 -- ---- a mix
 

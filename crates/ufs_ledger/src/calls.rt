@@ -3,9 +3,13 @@ ghost use Rattle.std.specs.Prelude.{ℕ, ◌≡◌, ◌≢◌, ◌≤◌, ◌<�
 ghost use Rattle.std.specs.List.{list_all};
 ghost use Rattle.ufs_base.specs.Faults.{HasCause};
 ghost use Rattle.ufs_base.specs.declared.sizes.TheConstants.{BLOCK, SECTORS_PER_BLOCK};
+<<<<<<< HEAD
 ghost use Rattle.ufs_disk.specs.Disk.{IsImage, IsPartlyWritten};
+=======
+ghost use Rattle.ufs_disk.specs.Disk.{IsSettled};
+>>>>>>> 57cef8907d9d5d86b7a046d00f0f55e5ecd253f1
 ghost use Rattle.ufs_disk.specs.Moments.{LeavesOnly, reads};
-ghost use Rattle.ufs_layout.specs.Areas.{first_of_data, sector_count};
+ghost use Rattle.ufs_layout.specs.Areas.{first_of_data, first_of_inodes, sector_count};
 ghost use Rattle.ufs_layout.specs.Records.{is_record};
 ghost use Rattle.ufs_layout.specs.Superblock.{geometry_of, is_super, super_of};
 ghost use Rattle.ufs_layout.specs.declared.geometry.Geometry.{Geometry};
@@ -120,6 +124,8 @@ pub fn commit_records<D: Disk>(
         → (other : ℕ) → other ≢ txn → IsUnused journal.old.geometry journal.old.epoch other (D.moments disk.old).state → IsUnused journal.old.geometry journal.old.epoch other (D.moments disk.new).state) }
     ensures used { OnOk result (journal.new.used ≡ journal.old.used + sector_count_of records.now + 1) }
     ensures rises { OnOk result (journal.new.number ≡ min (journal.old.number + 1) (2 ^ 64 - 1)) }
+    ensures used_grows { journal.old.used ≤ journal.new.used }
+    ensures number_stays { OnErr result (journal.new.number ≡ journal.old.number) }
     ensures size { D.size disk.new ≡ D.size disk.old }
     ensures cause { HasCause (D.faults disk.old) (D.faults disk.new) result }
     ensures fault { IfErr result (λ fault. fault.number ≡ D.faults disk.new) }
@@ -174,6 +180,9 @@ pub fn checkpoint<D: Disk>(
         → IsLedgerOf (D.size disk.new) (D.moments disk.new).state l ⊎ IsLedgerOf (D.size disk.new) (D.moments disk.new).state (beginning head.now (block_at (home_of l (reads (D.moments disk.old)))) l)) }
     ensures ok { IsTrue D.tells → OnOk result ((l : Ledger) → IsLedgerBy journal.old (D.size disk.old) (D.moments disk.old).state l → overlaid.HasAdded overlay.now l.now.log
         → IsLedgerBy journal.new (D.size disk.new) (D.moments disk.new).state (emptied head.now (block_at (home_of l (reads (D.moments disk.old)))) l)) }
+    ensures settled { IsTrue D.tells → OnOk result (IsSettled (D.moments disk.new).state) }
+    ensures bitmap { IsTrue D.tells → (log : List Committed) → overlaid.HasAdded overlay.now log → OnOk result ((sector : ℕ) → SECTORS_PER_BLOCK ≤ sector → sector < SECTORS_PER_BLOCK * first_of_inodes journal.old.geometry
+        → reads (D.moments disk.new) sector ≡ reads (D.moments disk.old) sector) }
     ensures size { D.size disk.new ≡ D.size disk.old }
     ensures cause { HasCause (D.faults disk.old) (D.faults disk.new) result }
     ensures fault { IfErr result (λ fault. fault.number ≡ D.faults disk.new) }

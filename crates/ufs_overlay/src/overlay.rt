@@ -22,7 +22,7 @@ use std::alloc::Global;
 use ufs_base::{Memory, SECTOR};
 use ufs_disk::{Disk, Fault};
 use ufs_image::home_law;
-use ufs_layout::{Committed, Geometry};
+use ufs_layout::{Committed, Geometry, LogRecord};
 
 /// Committed transactions over the home sectors of an image.
 #[derive(Drop)]
@@ -60,14 +60,20 @@ impl Overlay {
         ensures err { (added : List Committed) → HasAdded self.old added → OnErr result (HasAdded self.new added) }
         ensures geometry { geometry_of self.new ≡ geometry_of self.old }
     {
-        let records = committed.records.as_slice();
-        put_all(
-            self.alloc,
-            &mut self.lists,
-            &self.geometry,
-            committed.number,
-            records,
-        )
+        self.add_records(committed.number, committed.records.as_slice())
+    }
+
+    /// Adds the transaction with this number and these records, of which its owner keeps its own.
+    pub fn add_records(&mut self, number: u64, records: &[LogRecord]) -> Result<(), Memory>
+        requires form { IsTrue (list_all is_record records.now) }
+        requires in_range { IsTrue (list_all (is_in_range (geometry_of self.old)) records.now) }
+        ensures ok { (added : List Committed) → HasAdded self.old added
+            → IsTrue (rise_above 0 (added ++ (record { number = number; records = records.now }) ∷ []))
+            → OnOk result (HasAdded self.new (added ++ (record { number = number; records = records.now }) ∷ [])) }
+        ensures err { (added : List Committed) → HasAdded self.old added → OnErr result (HasAdded self.new added) }
+        ensures geometry { geometry_of self.new ≡ geometry_of self.old }
+    {
+        put_all(self.alloc, &mut self.lists, &self.geometry, number, records)
     }
 
     /// No transaction is left. The home sectors have what they had been added for, and the next epoch is

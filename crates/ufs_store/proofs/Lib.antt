@@ -1,0 +1,7 @@
+pub mod Stages
+pub mod Kept
+pub mod Rooms
+pub mod Moves
+pub mod Deltas
+pub mod Marking
+pub mod Marks

@@ -1,0 +1,45 @@
+use Rattle.std.proofs.Common.{◌∷◌, [], refl, subst}
+use Rattle.ufs_disk.specs.Moments.{LeavesOnly, reads}
+use Rattle.ufs_image.specs.Images.{block_at}
+use Rattle.ufs_layout.specs.declared.superblock.Super.{Super}
+use Rattle.ufs_ledger.specs.Changes.{beginning, emptied, home_of}
+use Rattle.ufs_ledger.specs.Committing.{IsLedgerBy}
+use Rattle.ufs_store.specs.Ledgers.{IsLeftByAny}
+use Rattle.ufs_store.proofs.Stages.{by_two}
+use Rattle.ufs_store.proofs.Kept.{unused_at_first, home_is_settled}
+use Rattle.ufs_store.proofs.homes.begin_next.Goals as goal
+
+pub returns-in-Ok-clause-crash : goal.returns-in-Ok-clause-crash
+returns-in-Ok-clause-crash g c told l has =
+    let old = g.D.Disk.moments c.args.disk.now in
+    let new = g.D.Disk.moments c.checkpoint.new.disk in
+    let size = g.D.Disk.size c.args.disk.now in
+    let home = block_at (home_of l (reads old)) in
+    subst (λ (h : Super). LeavesOnly g.D.Disk.keeps (IsLeftByAny size (l ∷ beginning h home l ∷ [])) old new) c.in-Some.ensures
+    (by_two size g.D.Disk.keeps l (beginning c.in-Some.head home l) old new (c.checkpoint.ensures.crash told l has.by has.added))
+
+pub returns-in-Ok-clause-ok : goal.returns-in-Ok-clause-ok
+returns-in-Ok-clause-ok g c told l has =
+    let new = g.D.Disk.moments c.checkpoint.new.disk in
+    let home = block_at (home_of l (reads (g.D.Disk.moments c.args.disk.now))) in
+    let by = c.in-Ok.ensures.ok told l has.by has.added in
+    record {
+      going = c.requires.going;
+      by = subst (λ (h : Super). IsLedgerBy c.checkpoint.new.journal (g.D.Disk.size c.checkpoint.new.disk) new.state (emptied h home l)) c.in-Some.ensures by;
+      added = c.empty_after_epoch.ensures.none;
+      numbered = refl;
+      unused = λ txn _. unused_at_first c.checkpoint.new.journal.geometry c.checkpoint.new.journal.epoch c.checkpoint.new.journal.used c.checkpoint.new.journal.number txn new.state c.in-Ok.ensures.used by.ready;
+      settled = λ _ block. home_is_settled home l block;
+    }
+
+pub returns-in-Err-clause-crash : goal.returns-in-Err-clause-crash
+returns-in-Err-clause-crash g c told l has =
+    let old = g.D.Disk.moments c.args.disk.now in
+    let new = g.D.Disk.moments c.checkpoint.new.disk in
+    let size = g.D.Disk.size c.args.disk.now in
+    let home = block_at (home_of l (reads old)) in
+    subst (λ (h : Super). LeavesOnly g.D.Disk.keeps (IsLeftByAny size (l ∷ beginning h home l ∷ [])) old new) c.in-Some.ensures
+    (by_two size g.D.Disk.keeps l (beginning c.in-Some.head home l) old new (c.checkpoint.ensures.crash told l has.by has.added))
+
+pub returns-in-Ok-clause-bitmap : goal.returns-in-Ok-clause-bitmap
+returns-in-Ok-clause-bitmap g c told l has = c.in-Ok.ensures.bitmap told l.now.log has.added

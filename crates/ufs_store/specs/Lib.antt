@@ -1,0 +1,7 @@
+pub mod Refusals
+pub mod Blocks
+pub mod State
+pub mod Ledgers
+pub mod Mounting
+pub mod Closing
+pub mod Tables

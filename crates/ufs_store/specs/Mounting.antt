@@ -1,0 +1,30 @@
+-- Which disks are mounted.
+use Rattle.std.specs.Prelude.{ℕ, ◌≡◌, false, None, Ok}
+use Rattle.ufs_disk.specs.Disk.{State, IsSettled, seen}
+use Rattle.ufs_layout.specs.Superblock.{geometry_of}
+use Rattle.ufs_layout.specs.declared.superblock.Super.{Super}
+use Rattle.ufs_image.specs.Damage.{bad_tree}
+use Rattle.ufs_image.specs.Volume.{Volume, volume}
+use Rattle.ufs_base.specs.Images.{Image}
+use Rattle.ufs_image.specs.Images.{block_at}
+use Rattle.ufs_journal.specs.Kept.{HasEarlier}
+use Rattle.ufs_ledger.specs.Ledger.{Ledger}
+use Rattle.ufs_ledger.specs.Changes.{beginning, opening_ledger}
+
+-- The disk has an undamaged image with this superblock, in whose journal everything is of an earlier epoch, and nothing is
+-- pending on it.
+pub record IsMountable (sectors : ℕ) (state : State) (head : Super) : Type 0 where
+  pub settled : IsSettled state
+  pub as_volume : Volume
+  pub taken : volume sectors (seen state) ≡ Ok as_volume
+  pub headed : as_volume.head ≡ head
+  pub undamaged : bad_tree as_volume.geometry as_volume.image ≡ None
+  pub earlier : HasEarlier (geometry_of head) head.epoch (seen state)
+
+-- the superblock of an image in use
+abbrev pub in_use : Super → Super
+in_use head = record head { clean = false }
+
+-- what the disk may have while its image is marked in use
+abbrev pub marking : Super → Image → Ledger
+marking head image = beginning (in_use head) (block_at image) (opening_ledger head image)

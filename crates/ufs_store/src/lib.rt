@@ -1,0 +1,18 @@
+//! A store: a disk with its journal, what is committed and not yet home, and the blocks that nobody has.
+#![tactic(auto)]
+
+mod bitmaps;
+mod blocks;
+mod commits;
+mod direct;
+mod door;
+mod fault;
+mod heads;
+mod homes;
+mod store;
+mod tables;
+
+pub use direct::Direct;
+pub use door::Door;
+pub use fault::{Closed, StoreFault, Uncommitted, Unmounted};
+pub use store::Store;

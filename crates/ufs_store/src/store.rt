@@ -1,0 +1,318 @@
+// The store.
+ghost use Rattle.std.specs.Prelude.{ℕ, List, ◌≡◌, ◌≢◌, ◌≤◌, ◌<◌, ◌+◌, ◌-◌, ◌⊎◌, ◌↔◌, IsTrue, true, false, None, Some, Ok, Err, OnOk, OnErr, IfErr, IfOk};
+ghost use Rattle.ufs_disk.specs.Disk.{IsSettled};
+ghost use Rattle.ufs_disk.specs.Moments.{LeavesOnly, reads};
+ghost use Rattle.ufs_ilog.specs.Deltas.{IsDelta};
+ghost use Rattle.ufs_layout.specs.Areas.{IsGeometry, first_of_data, is_inode_number, sector_count};
+ghost use Rattle.ufs_layout.specs.Superblock.{geometry_of, is_super};
+ghost use Rattle.ufs_layout.specs.declared.records.LogRecord.{LogRecord};
+ghost use Rattle.ufs_ledger.specs.Changes.{opening_ledger, settled};
+ghost use Rattle.ufs_ledger.specs.Ledger.{IsLedgerOf, IsLeftBy, Ledger};
+ghost use Rattle.ufs_store.specs.Closing.{MarksUsed, closed, closing_stages, is_closing};
+ghost use Rattle.ufs_store.specs.Ledgers.{HasAny, HasLedger, IsLeftByAny, MayCommitNext, after_commit, checkpointed, stages};
+ghost use Rattle.ufs_store.specs.Mounting.{IsMountable, in_use, marking};
+ghost use Rattle.ufs_store.specs.Refusals.{IsTold, fault_in, fault_of, is_no_space, is_own, stop_after};
+ghost use Rattle.ufs_store.specs.State.{geometry_of_store};
+ghost use Rattle.ufs_store.specs.Tables.{state_of};
+ghost use Rattle.ufs_store.specs.declared.fault.StoreFault.TheVariants as refusal;
+
+use crate::bitmaps::write_bitmap;
+use crate::blocks::{give_runs, move_all, move_lowest};
+use crate::commits::commit;
+use crate::heads::mark_in_use;
+use crate::homes::begin_next;
+use crate::tables::{Tables, stop_at};
+use crate::{Closed, Door, StoreFault, Uncommitted, Unmounted};
+use std::alloc::Global;
+use ufs_bitmap::{Bitmap, Pool};
+use ufs_disk::Disk;
+use ufs_extent::Runs;
+use ufs_ilog::{InodeLog, NamesLog};
+use ufs_layout::Super;
+use ufs_ledger::{read_data, settle, write_data};
+
+/// The blocks that a pool gets besides those that are missing.
+const MORE: u32 = 64;
+
+/// A disk with its journal, what is committed in it and not yet home, and the blocks that nobody has.
+#[derive(Drop)]
+pub struct Store<D: Disk> {
+    disk: D,
+    tables: Tables,
+    ghost large: { sector_count tables.journal.geometry ≤ D.size disk },
+}
+
+impl<D: Disk> Store<D> {
+    /// Takes a disk with this superblock, on which all that is committed is home, and marks its image in
+    /// use. `free` has the blocks that nobody has.
+    pub fn mount(
+        alloc: Global,
+        mut disk: D,
+        head: Super,
+        free: Bitmap,
+    ) -> Result<Store<D>, Unmounted<D>>
+        requires limits { IsGeometry (geometry_of head) }
+        requires form { IsTrue (is_super 1 head) }
+        requires large { sector_count (geometry_of head) ≤ D.size disk }
+        requires first { free.first ≡ first_of_data (geometry_of head) }
+        requires blocks { free.blocks ≡ head.blocks }
+        ensures crash { IsTrue D.tells → IsMountable (D.size disk) (D.moments disk).state head
+            → IfOk result (λ s. LeavesOnly D.keeps (IsLeftBy (D.size disk) (marking head (reads (D.moments disk)))) (D.moments disk) (⟦<Store<D> as Door>⟧.store s).moments) }
+        ensures err_crash { IsTrue D.tells → IsMountable (D.size disk) (D.moments disk).state head
+            → IfErr result (λ u. u.fault ≢ refusal.Memory → LeavesOnly D.keeps (IsLeftBy (D.size disk) (marking head (reads (D.moments disk)))) (D.moments disk) (D.moments u.disk)) }
+        ensures ok { IsTrue D.tells → IsMountable (D.size disk) (D.moments disk).state head
+            → IfOk result (λ s. HasLedger (⟦<Store<D> as Door>⟧.store s) (opening_ledger (in_use head) (reads (D.moments disk)))) }
+        ensures going { IfOk result (λ s. (⟦<Store<D> as Door>⟧.store s).stop ≡ None) }
+        ensures unassigned { IfOk result (λ s. (⟦<Store<D> as Door>⟧.store s).unassigned ≡ free) }
+        ensures geometry { IfOk result (λ s. geometry_of_store (⟦<Store<D> as Door>⟧.store s) ≡ geometry_of head) }
+        ensures number { IfOk result (λ s. (⟦<Store<D> as Door>⟧.store s).journal.number ≡ head.next) }
+        ensures head { IfOk result (λ s. (⟦<Store<D> as Door>⟧.store s).head ≡ in_use head) }
+        ensures size { IfOk result (λ s. (⟦<Store<D> as Door>⟧.store s).sectors ≡ D.size disk) }
+        ensures passed { IfOk result (λ s. (⟦<Store<D> as Door>⟧.store s).faults ≡ D.faults disk) }
+        ensures cause { IfErr result (λ u. IsTold (D.faults disk) (D.faults u.disk) (fault_of u.fault)) }
+        ensures refused { IfErr result (λ u. IsTrue (is_own u.fault)) }
+        ensures memory { IfErr result (λ u. u.fault ≡ refusal.Memory → u.disk ≡ disk) }
+    {
+        let head = Super {
+            clean: false,
+            ..head
+        };
+        let Ok(tables) = Tables::make(alloc, &head, free) else {
+            return Err(Unmounted {
+                disk,
+                fault: StoreFault::Memory,
+            });
+        };
+        match mark_in_use(&mut disk, &tables.journal.geometry, &head) {
+            Ok(()) => Ok(Store { disk, tables }),
+            Err(fault) => Err(Unmounted {
+                disk,
+                fault: StoreFault::Device {
+                    fault: fault.number,
+                },
+            }),
+        }
+    }
+
+    /// Ends a store and gives its disk back. With `emptied`, where nothing is left to commit and every
+    /// pool was taken back, everything is written home, the bitmap too, and the image is marked clean.
+    /// Otherwise, or where the store has stopped, no call of the disk is made.
+    pub fn close(self, emptied: bool) -> Closed<D>
+        ensures crash { IsTrue D.tells → (l : Ledger) → HasLedger (⟦<Store<D> as Door>⟧.store self) l
+            → (home : ℕ → List ℕ) × LeavesOnly D.keeps (IsLeftByAny (⟦<Store<D> as Door>⟧.store self).sectors (closing_stages (⟦<Store<D> as Door>⟧.store self) home l)) (⟦<Store<D> as Door>⟧.store self).moments (D.moments result.disk) }
+        ensures ok { IsTrue D.tells → IsTrue emptied → OnOk result.ended ((l : Ledger) → HasLedger (⟦<Store<D> as Door>⟧.store self) l
+            → (home : ℕ → List ℕ) × IsLedgerOf (D.size result.disk) (D.moments result.disk).state (closed (⟦<Store<D> as Door>⟧.store self) home l)) }
+        ensures marked { IsTrue D.tells → IsTrue emptied → OnOk result.ended ((l : Ledger) → HasLedger (⟦<Store<D> as Door>⟧.store self) l
+            → MarksUsed (geometry_of_store (⟦<Store<D> as Door>⟧.store self)) (reads (D.moments result.disk)) (⟦<Store<D> as Door>⟧.store self).unassigned) }
+        ensures settled { IsTrue D.tells → IsTrue emptied → OnOk result.ended (IsSettled (D.moments result.disk).state) }
+        ensures untouched { is_closing emptied (⟦<Store<D> as Door>⟧.store self).stop ≡ false → D.moments result.disk ≡ (⟦<Store<D> as Door>⟧.store self).moments }
+        ensures stopped { (fault : ℕ) → (result.ended ≡ Err (refusal.Stopped fault)) ↔ ((⟦<Store<D> as Door>⟧.store self).stop ≡ Some fault) }
+        ensures cause { IsTold (⟦<Store<D> as Door>⟧.store self).faults (D.faults result.disk) (fault_in result.ended) }
+        ensures told { is_closing emptied (⟦<Store<D> as Door>⟧.store self).stop ≡ false → fault_in result.ended ≡ None }
+        ensures size { D.size result.disk ≡ (⟦<Store<D> as Door>⟧.store self).sectors }
+        ensures refused { IfErr result.ended (λ fault. is_no_space fault ≡ false) }
+    {
+        let Store {
+            mut disk,
+            mut tables,
+        } = self;
+        let ended = close_image(&mut tables, &mut disk, emptied);
+        Closed { disk, ended }
+    }
+}
+
+fn check_stop(tables: &Tables) -> Result<(), StoreFault>
+    ensures going { OnOk result (tables.now.stop ≡ None) }
+    ensures stopped { IfErr result (λ fault. (number : ℕ) × (tables.now.stop ≡ Some number) × (fault ≡ refusal.Stopped number)) }
+{
+    match tables.stop {
+        Some(fault) => Err(StoreFault::Stopped { fault }),
+        None => Ok(()),
+    }
+}
+
+/// Closes the image, unless the store has stopped or is to be left as it is.
+fn close_image<D: Disk>(tables: &mut Tables, disk: &mut D, emptied: bool) -> Result<(), StoreFault>
+    requires large { sector_count tables.old.journal.geometry ≤ D.size disk.old }
+    ensures crash { IsTrue D.tells → (l : Ledger) → HasLedger (state_of (D.size disk.old) (D.moments disk.old) (D.faults disk.old) tables.old) l
+        → (home : ℕ → List ℕ) × LeavesOnly D.keeps (IsLeftByAny (D.size disk.old) (closing_stages (state_of (D.size disk.old) (D.moments disk.old) (D.faults disk.old) tables.old) home l)) (D.moments disk.old) (D.moments disk.new) }
+    ensures ok { IsTrue D.tells → IsTrue emptied → OnOk result ((l : Ledger) → HasLedger (state_of (D.size disk.old) (D.moments disk.old) (D.faults disk.old) tables.old) l
+        → (home : ℕ → List ℕ) × IsLedgerOf (D.size disk.new) (D.moments disk.new).state (closed (state_of (D.size disk.old) (D.moments disk.old) (D.faults disk.old) tables.old) home l)) }
+    ensures marked { IsTrue D.tells → IsTrue emptied → OnOk result ((l : Ledger) → HasLedger (state_of (D.size disk.old) (D.moments disk.old) (D.faults disk.old) tables.old) l → MarksUsed tables.old.journal.geometry (reads (D.moments disk.new)) tables.old.unassigned) }
+    ensures settled { IsTrue D.tells → IsTrue emptied → OnOk result (IsSettled (D.moments disk.new).state) }
+    ensures untouched { is_closing emptied tables.old.stop ≡ false → D.moments disk.new ≡ D.moments disk.old }
+    ensures stopped { (fault : ℕ) → (result ≡ Err (refusal.Stopped fault)) ↔ (tables.old.stop ≡ Some fault) }
+    ensures cause { IsTold (D.faults disk.old) (D.faults disk.new) (fault_in result) }
+    ensures told { is_closing emptied tables.old.stop ≡ false → fault_in result ≡ None }
+    ensures size { D.size disk.new ≡ D.size disk.old }
+    ensures refused { IfErr result (λ fault. is_no_space fault ≡ false) }
+{
+    check_stop(tables)?;
+    if !emptied {
+        return Ok(());
+    }
+    write_closing(tables, disk)
+}
+
+/// Writes the bitmap and everything home, and marks the image clean.
+fn write_closing<D: Disk>(tables: &mut Tables, disk: &mut D) -> Result<(), StoreFault>
+    requires going { tables.old.stop ≡ None }
+    requires large { sector_count tables.old.journal.geometry ≤ D.size disk.old }
+    ensures crash { IsTrue D.tells → (l : Ledger) → HasLedger (state_of (D.size disk.old) (D.moments disk.old) (D.faults disk.old) tables.old) l
+        → (home : ℕ → List ℕ) × LeavesOnly D.keeps (IsLeftByAny (D.size disk.old) (closing_stages (state_of (D.size disk.old) (D.moments disk.old) (D.faults disk.old) tables.old) home l)) (D.moments disk.old) (D.moments disk.new) }
+    ensures ok { IsTrue D.tells → OnOk result ((l : Ledger) → HasLedger (state_of (D.size disk.old) (D.moments disk.old) (D.faults disk.old) tables.old) l
+        → (home : ℕ → List ℕ) × IsLedgerOf (D.size disk.new) (D.moments disk.new).state (closed (state_of (D.size disk.old) (D.moments disk.old) (D.faults disk.old) tables.old) home l)) }
+    ensures marked { IsTrue D.tells → OnOk result ((l : Ledger) → HasLedger (state_of (D.size disk.old) (D.moments disk.old) (D.faults disk.old) tables.old) l → MarksUsed tables.old.journal.geometry (reads (D.moments disk.new)) tables.old.unassigned) }
+    ensures settled { IsTrue D.tells → OnOk result (IsSettled (D.moments disk.new).state) }
+    ensures cause { IsTold (D.faults disk.old) (D.faults disk.new) (fault_in result) }
+    ensures size { D.size disk.new ≡ D.size disk.old }
+    ensures refused { IfErr result (λ fault. IsTrue (is_own fault)) }
+{
+    let geometry = tables.journal.geometry;
+    if let Err(fault) = write_bitmap(disk, &geometry, &tables.unassigned) {
+        return Err(stop_at(&mut tables.stop, fault));
+    }
+    begin_next(tables, disk, true)
+}
+
+/// Waits for what was written since the last barrier, if anything was.
+fn pass_barrier<D: Disk>(tables: &mut Tables, disk: &mut D) -> Result<(), StoreFault>
+    requires going { tables.old.stop ≡ None }
+    ensures crash { IsTrue D.tells → (l : Ledger) → HasLedger (state_of (D.size disk.old) (D.moments disk.old) (D.faults disk.old) tables.old) l → LeavesOnly D.keeps (IsLeftBy (D.size disk.old) l) (D.moments disk.old) (D.moments disk.new) }
+    ensures ok { IsTrue D.tells → OnOk result ((l : Ledger) → HasLedger (state_of (D.size disk.old) (D.moments disk.old) (D.faults disk.old) tables.old) l → HasLedger (state_of (D.size disk.new) (D.moments disk.new) (D.faults disk.new) tables.new) (settled l)) }
+    ensures err { IsTrue D.tells → OnErr result ((l : Ledger) → HasLedger (state_of (D.size disk.old) (D.moments disk.old) (D.faults disk.old) tables.old) l → IsLedgerOf (D.size disk.new) (D.moments disk.new).state l) }
+    ensures nothing { tables.old.unsettled ≡ false → (D.moments disk.new ≡ D.moments disk.old) × (D.faults disk.new ≡ D.faults disk.old) }
+    ensures number { tables.new.journal ≡ tables.old.journal }
+    ensures blocks { tables.new.unassigned ≡ tables.old.unassigned }
+    ensures size { D.size disk.new ≡ D.size disk.old }
+    ensures cause { IsTold (D.faults disk.old) (D.faults disk.new) (fault_in result) }
+    ensures stop { tables.new.stop ≡ fault_in result }
+    ensures refused { IfErr result (λ fault. fault ≡ refusal.Device (D.faults disk.new)) }
+{
+    if !tables.unsettled {
+        return Ok(());
+    }
+    match settle(disk) {
+        Ok(()) => {
+            tables.unsettled = false;
+            Ok(())
+        }
+        Err(fault) => Err(stop_at(&mut tables.stop, fault)),
+    }
+}
+
+/// Commits what a file's log has, or waits for what was written, and answers the last commit number.
+fn commit_delta<D: Disk>(
+    tables: &mut Tables,
+    disk: &mut D,
+    log: &mut InodeLog,
+) -> Result<u64, StoreFault>
+    requires large { sector_count tables.old.journal.geometry ≤ D.size disk.old }
+    requires inode { is_inode_number tables.old.journal.geometry log.old.inode ≡ true }
+    ensures crash { IsTrue D.tells → (records : List LogRecord) → IsDelta log.old.inode log.old.committed log.old.noted records → log.old.noted ≢ log.old.committed → (l : Ledger) → HasLedger (state_of (D.size disk.old) (D.moments disk.old) (D.faults disk.old) tables.old) l → MayCommitNext (state_of (D.size disk.old) (D.moments disk.old) (D.faults disk.old) tables.old) records l
+        → LeavesOnly D.keeps (IsLeftByAny (D.size disk.old) (stages (state_of (D.size disk.old) (D.moments disk.old) (D.faults disk.old) tables.old) records l)) (D.moments disk.old) (D.moments disk.new) }
+    ensures ok { IsTrue D.tells → (records : List LogRecord) → IsDelta log.old.inode log.old.committed log.old.noted records → log.old.noted ≢ log.old.committed
+        → OnOk result ((l : Ledger) → HasLedger (state_of (D.size disk.old) (D.moments disk.old) (D.faults disk.old) tables.old) l → MayCommitNext (state_of (D.size disk.old) (D.moments disk.old) (D.faults disk.old) tables.old) records l → HasLedger (state_of (D.size disk.new) (D.moments disk.new) (D.faults disk.new) tables.new) (after_commit (state_of (D.size disk.old) (D.moments disk.old) (D.faults disk.old) tables.old) records l)) }
+    ensures device { IsTrue D.tells → (records : List LogRecord) → IsDelta log.old.inode log.old.committed log.old.noted records → log.old.noted ≢ log.old.committed
+        → (fault : ℕ) → result ≡ Err (refusal.Device fault) → (l : Ledger) → HasLedger (state_of (D.size disk.old) (D.moments disk.old) (D.faults disk.old) tables.old) l → MayCommitNext (state_of (D.size disk.old) (D.moments disk.old) (D.faults disk.old) tables.old) records l → HasAny (state_of (D.size disk.new) (D.moments disk.new) (D.faults disk.new) tables.new) (stages (state_of (D.size disk.old) (D.moments disk.old) (D.faults disk.old) tables.old) records l) }
+    ensures memory { IsTrue D.tells → result ≡ Err refusal.Memory → (l : Ledger) → HasLedger (state_of (D.size disk.old) (D.moments disk.old) (D.faults disk.old) tables.old) l → HasLedger (state_of (D.size disk.new) (D.moments disk.new) (D.faults disk.new) tables.new) l ⊎ HasLedger (state_of (D.size disk.new) (D.moments disk.new) (D.faults disk.new) tables.new) (checkpointed false (state_of (D.size disk.old) (D.moments disk.old) (D.faults disk.old) tables.old) l) }
+    ensures empty_crash { IsTrue D.tells → log.old.noted ≡ log.old.committed → (l : Ledger) → HasLedger (state_of (D.size disk.old) (D.moments disk.old) (D.faults disk.old) tables.old) l → LeavesOnly D.keeps (IsLeftBy (D.size disk.old) l) (D.moments disk.old) (D.moments disk.new) }
+    ensures empty_ok { IsTrue D.tells → log.old.noted ≡ log.old.committed → OnOk result ((l : Ledger) → HasLedger (state_of (D.size disk.old) (D.moments disk.old) (D.faults disk.old) tables.old) l → HasLedger (state_of (D.size disk.new) (D.moments disk.new) (D.faults disk.new) tables.new) (settled l)) }
+    ensures empty_err { IsTrue D.tells → log.old.noted ≡ log.old.committed → OnErr result ((l : Ledger) → HasLedger (state_of (D.size disk.old) (D.moments disk.old) (D.faults disk.old) tables.old) l → IsLedgerOf (D.size disk.new) (D.moments disk.new).state l) }
+    ensures nothing { log.old.noted ≡ log.old.committed → tables.old.unsettled ≡ false → (D.moments disk.new ≡ D.moments disk.old) × (D.faults disk.new ≡ D.faults disk.old) }
+    ensures number { IfOk result (λ number. number ≡ tables.new.journal.number - 1) }
+    ensures rises { log.old.noted ≢ log.old.committed → OnOk result (tables.new.journal.number ≡ tables.old.journal.number + 1) }
+    ensures stays { log.old.noted ≡ log.old.committed → tables.new.journal.number ≡ tables.old.journal.number }
+    ensures emptied { OnOk result (log.new ≡ record log.old { committed = log.old.noted }) }
+    ensures kept { OnErr result (log.new ≡ log.old) }
+    ensures blocks { tables.new.unassigned ≡ tables.old.unassigned }
+    ensures geometry { tables.new.journal.geometry ≡ tables.old.journal.geometry }
+    ensures size { D.size disk.new ≡ D.size disk.old }
+    ensures stopped { (fault : ℕ) → (result ≡ Err (refusal.Stopped fault)) ↔ (tables.old.stop ≡ Some fault) }
+    ensures still { (fault : ℕ) → tables.old.stop ≡ Some fault → (state_of (D.size disk.new) (D.moments disk.new) (D.faults disk.new) tables.new) ≡ (state_of (D.size disk.old) (D.moments disk.old) (D.faults disk.old) tables.old) }
+    ensures cause { IsTold (D.faults disk.old) (D.faults disk.new) (fault_in result) }
+    ensures stop { tables.new.stop ≡ stop_after tables.old.stop (fault_in result) }
+    ensures refused { IfErr result (λ fault. is_no_space fault ≡ false) }
+{
+    check_stop(tables)?;
+    match log.delta()? {
+        Some(records) => {
+            let number = commit(tables, disk, &records)?;
+            log.cleared();
+            Ok(number)
+        }
+        None => {
+            pass_barrier(tables, disk)?;
+            Ok(tables.journal.number - 1)
+        }
+    }
+}
+
+impl<D: Disk> Door for Store<D> {
+    ghost use Rattle.ufs_store.specs.Tables.{state_of};
+
+    ghost tells = { D.tells };
+
+    ghost keeps = { D.keeps };
+
+    ghost store = { λ s. state_of (D.size s.disk) (D.moments s.disk) (D.faults s.disk) s.tables };
+
+    fn read_block(&mut self, block: u32, buf: &mut [u8]) -> Result<(), StoreFault> {
+        match read_data(&mut self.disk, block, buf) {
+            Ok(()) => Ok(()),
+            Err(fault) => Err(StoreFault::Device {
+                fault: fault.number,
+            }),
+        }
+    }
+
+    fn write_block(&mut self, block: u32, bytes: &[u8]) -> Result<(), StoreFault> {
+        check_stop(&self.tables)?;
+        match write_data(&mut self.disk, block, bytes) {
+            Ok(()) => {
+                self.tables.unsettled = true;
+                Ok(())
+            }
+            Err(fault) => Err(stop_at(&mut self.tables.stop, fault)),
+        }
+    }
+
+    fn commit_names(&mut self, log: &mut NamesLog) -> Result<u64, StoreFault> {
+        check_stop(&self.tables)?;
+        if log.records().as_slice().is_empty() {
+            return Ok(self.tables.journal.number - 1);
+        }
+        let number = commit(&mut self.tables, &mut self.disk, log.records())?;
+        log.cleared();
+        Ok(number)
+    }
+
+    fn commit_file(&mut self, log: &mut InodeLog, freed: Runs) -> Result<u64, Uncommitted> {
+        match commit_delta(&mut self.tables, &mut self.disk, log) {
+            Ok(number) => {
+                give_runs(&mut self.tables.unassigned, &freed);
+                Ok(number)
+            }
+            Err(fault) => Err(Uncommitted { freed, fault }),
+        }
+    }
+
+    fn give_pool(&mut self, pool: &mut Pool, missing: u32) -> Result<(), StoreFault> {
+        let had = self.tables.unassigned.count();
+        if had < missing {
+            return Err(StoreFault::NoSpace { need: missing, had });
+        }
+        let want = missing + (had - missing).min(MORE);
+        move_lowest(&mut self.tables.unassigned, pool, want);
+        Ok(())
+    }
+
+    fn take_back(&mut self, pool: &mut Pool) {
+        move_all(pool, &mut self.tables.unassigned);
+    }
+
+    fn checkpoint(&mut self) -> Result<(), StoreFault> {
+        check_stop(&self.tables)?;
+        begin_next(&mut self.tables, &mut self.disk, false)
+    }
+}

@@ -1,0 +1,103 @@
+// What a store keeps in memory beside its disk.
+ghost use Rattle.std.specs.Prelude.{◌≡◌, ◌+◌, ◌≤◌, ◌^◌, ℕ, [], IfSome, IfOk, IsTrue, IsNone, false, true, None, Some};
+ghost use Rattle.ufs_layout.specs.Areas.{IsGeometry, first_of_data};
+ghost use Rattle.ufs_layout.specs.Superblock.{geometry_of, is_super};
+ghost use Rattle.ufs_overlay.specs.Seen as overlaid;
+ghost use Rattle.ufs_disk.specs.Disk.{State, Leaves};
+ghost use Rattle.ufs_journal.specs.Kept.{HasEarlier, IsReady, IsUnused};
+ghost use Rattle.ufs_store.specs.declared.fault.StoreFault.TheVariants as refusal;
+
+use crate::StoreFault;
+use std::alloc::Global;
+use ufs_base::Memory;
+use ufs_bitmap::Bitmap;
+use ufs_disk::Fault;
+use ufs_journal::Journal;
+use ufs_layout::{Geometry, Super};
+use ufs_overlay::Overlay;
+
+/// The tables of a store.
+#[derive(Drop)]
+pub struct Tables {
+    /// The superblock of this epoch.
+    pub head: Super,
+    pub journal: Journal,
+    /// What is committed in the journal.
+    pub overlay: Overlay,
+    /// The next transaction of this epoch, from 1.
+    pub txn: u32,
+    /// The blocks of the data area that nobody has.
+    pub unassigned: Bitmap,
+    /// Whether a block was written since the last barrier.
+    pub unsettled: bool,
+    /// The failed write or barrier at which the store stopped.
+    pub stop: Option<u64>,
+    ghost headed: { geometry_of head ≡ journal.geometry },
+    ghost form: { IsTrue (is_super 1 head) },
+    ghost epoch: { head.epoch ≡ journal.epoch },
+    ghost next: { head.next ≤ journal.number },
+    ghost over: { overlaid.geometry_of overlay ≡ journal.geometry },
+    ghost from_one: { 1 ≤ txn },
+    ghost few: { txn ≤ journal.used + 1 },
+    ghost none_open: { stop ≡ None → journal.opened ≡ [] },
+    ghost first: { unassigned.first ≡ first_of_data journal.geometry },
+    ghost blocks: { unassigned.blocks ≡ journal.geometry.blocks },
+}
+
+impl Tables {
+    /// The tables of an image in which nothing is committed.
+    pub fn make(alloc: Global, head: &Super, unassigned: Bitmap) -> Result<Tables, Memory>
+        requires limits { IsGeometry (geometry_of head.now) }
+        requires form { IsTrue (is_super 1 head.now) }
+        requires first { unassigned.first ≡ first_of_data (geometry_of head.now) }
+        requires blocks { unassigned.blocks ≡ head.now.blocks }
+        ensures head { IfOk result (λ t. t.head ≡ head.now) }
+        ensures journal { IfOk result (λ t. (t.journal.geometry ≡ geometry_of head.now) × (t.journal.epoch ≡ head.now.epoch) × (t.journal.number ≡ head.now.next) × (t.journal.used ≡ 0)) }
+        ensures overlay { IfOk result (λ t. overlaid.HasAdded t.overlay []) }
+        ensures txn { IfOk result (λ t. t.txn ≡ 1) }
+        ensures unassigned { IfOk result (λ t. t.unassigned ≡ unassigned) }
+        ensures settled { IfOk result (λ t. t.unsettled ≡ false) }
+        ensures going { IfOk result (λ t. t.stop ≡ None) }
+        ensures ready { (state : State) → Leaves (HasEarlier (geometry_of head.now) head.now.epoch) state → IsReady (geometry_of head.now) head.now.epoch 0 head.now.next state }
+        ensures unused { (state : State) → Leaves (HasEarlier (geometry_of head.now) head.now.epoch) state → (txn : ℕ) → IsUnused (geometry_of head.now) head.now.epoch txn state }
+    {
+        let geometry = Geometry {
+            blocks: head.blocks,
+            inodes: head.inodes,
+            journal: head.journal,
+        };
+        Ok(Tables {
+            head: *head,
+            journal: Journal::make(alloc, &geometry, head)?,
+            overlay: Overlay::make(alloc, &geometry),
+            txn: 1,
+            unassigned,
+            unsettled: false,
+            stop: None,
+        })
+    }
+
+    /// The superblock of the next epoch; `None` where epochs are used up.
+    pub fn next_head(&self, clean: bool) -> Option<Super>
+        ensures { IfSome result (λ head. head ≡ record (self.now.head) { epoch = self.now.head.epoch + 1; next = self.now.journal.number; clean = clean }) }
+    {
+        let epoch = self.head.epoch.checked_add(1)?;
+        Some(Super {
+            epoch,
+            next: self.journal.number,
+            clean,
+            ..self.head
+        })
+    }
+}
+
+/// The store stops at this fault.
+pub(crate) fn stop_at(stop: &mut Option<u64>, fault: Fault) -> StoreFault
+    ensures stop { stop.new ≡ Some fault.number }
+    ensures told { result ≡ refusal.Device fault.number }
+{
+    *stop = Some(fault.number);
+    StoreFault::Device {
+        fault: fault.number,
+    }
+}
