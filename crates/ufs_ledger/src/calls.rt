@@ -3,11 +3,7 @@ ghost use Rattle.std.specs.Prelude.{ℕ, ◌≡◌, ◌≢◌, ◌≤◌, ◌<�
 ghost use Rattle.std.specs.List.{list_all};
 ghost use Rattle.ufs_base.specs.Faults.{HasCause};
 ghost use Rattle.ufs_base.specs.declared.sizes.TheConstants.{BLOCK, SECTORS_PER_BLOCK};
-<<<<<<< HEAD
-ghost use Rattle.ufs_disk.specs.Disk.{IsImage, IsPartlyWritten};
-=======
-ghost use Rattle.ufs_disk.specs.Disk.{IsSettled};
->>>>>>> 57cef8907d9d5d86b7a046d00f0f55e5ecd253f1
+ghost use Rattle.ufs_disk.specs.Disk.{IsImage, IsPartlyWritten, IsSettled};
 ghost use Rattle.ufs_disk.specs.Moments.{LeavesOnly, reads};
 ghost use Rattle.ufs_layout.specs.Areas.{first_of_data, first_of_inodes, sector_count};
 ghost use Rattle.ufs_layout.specs.Records.{is_record};

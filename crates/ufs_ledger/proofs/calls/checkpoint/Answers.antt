@@ -1,11 +1,7 @@
-<<<<<<< HEAD
-use Rattle.std.proofs.Common.{◌≡◌, ◌∙◌, inl, inr, ℕ, refl, length, sym, subst, arith, rules}
-use Rattle.ufs_disk.specs.Disk.{IsImage, IsPartlyWritten}
-=======
 use Rattle.std.proofs.Common.{◌≡◌, ◌∙◌, ◌*◌, ◌<◌, inl, inr, ℕ, false, refl, length, ap, sym, subst, arith, rules}
+use Rattle.ufs_disk.specs.Disk.{IsImage, IsPartlyWritten}
 use Rattle.std.specs.Prelude.{◌==◌, if◌then◌else◌}
 use Rattle.std.proofs.lemmas.Bool.Decides.{nat_tests}
->>>>>>> 57cef8907d9d5d86b7a046d00f0f55e5ecd253f1
 use Rattle.ufs_disk.specs.Moments.{LeavesOnly, reads}
 use Rattle.ufs_disk.proofs.Images.{put_one, seen_is_image}
 use Rattle.ufs_base.specs.Images.{Image}
@@ -22,11 +18,8 @@ use Rattle.ufs_overlay.specs.Over.{IsHomeWritten}
 use Rattle.ufs_overlay.specs.Seen as overlaid
 use Rattle.ufs_ledger.proofs.Wholes.{images_of, sized_images}
 use Rattle.ufs_ledger.proofs.Emptying.{crash1, crash2, crash3, crash4, crash5, ledger1, ledger2, ledger3, ledger4, ledger5_tried, ledger5, ready5}
-<<<<<<< HEAD
 use Rattle.ufs_ledger.proofs.Data.{data_quiet, data_more, data_home, data_headed, data_stays}
-=======
 use Rattle.ufs_ledger.proofs.Homing.{bitmap_there}
->>>>>>> 57cef8907d9d5d86b7a046d00f0f55e5ecd253f1
 use Rattle.ufs_ledger.proofs.calls.checkpoint.Goals as goal
 
 pub returns-in_err-barrier-clause-crash : goal.returns-in_err-barrier-clause-crash
@@ -325,7 +318,6 @@ returns-clause-ok g c told l by log =
       ready = subst (λ (x : ℕ × ℕ). IsReady k.geometry x.0 x.1 k.number m5.state) (λ i. (sym c.restart.ensures.epoch i, sym c.restart.ensures.used i)) ready;
     }
 
-<<<<<<< HEAD
 pub returns-in_err-barrier-clause-data : goal.returns-in_err-barrier-clause-data
 returns-in_err-barrier-clause-data g c told l by has =
     let j = c.args.journal.now in
@@ -426,7 +418,7 @@ returns-clause-data g c told l by has =
     let m5 = g.D.Disk.moments c.barrier-3.new.self in
     let so5 = data_more j.geometry log keeps m0 m4 m5 (IsImage m4.state) so4 (c.barrier-3.ensures.crash told) (data_stays j.geometry log m4.state) in
     so5
-=======
+
 pub returns-clause-bitmap : goal.returns-clause-bitmap
 returns-clause-bitmap g c told log added sector low under =
     let m1 = g.D.Disk.moments c.barrier.new.self in
@@ -441,4 +433,3 @@ returns-clause-bitmap g c told log added sector low under =
     ∙ c.in_ok-write_home.ensures.ok told log added sector
     ∙ bitmap_there (overlaid.geometry_of c.args.overlay.now) log (reads m1) sector under'
     ∙ ap (λ (i : Image). i sector) (c.barrier.ensures.content told)
->>>>>>> 57cef8907d9d5d86b7a046d00f0f55e5ecd253f1
