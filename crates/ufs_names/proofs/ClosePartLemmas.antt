@@ -220,7 +220,7 @@ module _ (n : NamesPart) (t : PosixTree) (ask : Ask) (fs : Files) (asked : IsAsk
     goes_here last gone =
         reached_here t ask fs asked.gathered own (op.Close fd) of f
         (inr (subst (λ (o : Option ℕ). touched.IsPartOf (dropped_part (forget after o) o) (name.File f)) (sym (opened_is ∙ file_is))
-            (dropped after f (sym (dead_now n t part fs asked.files ask.client fd at_fd.0 at_fd.1 f file_is (none_left last)) ∙ gone))))
+        (dropped after f (sym (dead_now n t part fs asked.files ask.client fd at_fd.0 at_fd.1 f file_is (none_left last)) ∙ gone))))
         (has_bytes n t part fs asked.files ask.client fd at_fd.0 at_fd.1 f file_is)
 
     -- no walk leads to it then
@@ -238,9 +238,9 @@ module _ (n : NamesPart) (t : PosixTree) (ask : Ask) (fs : Files) (asked : IsAsk
     closes =
         subst (λ (o : Option ℕ). Closes t (forget after o) new fs fs') (sym opened_is)
         (closed_any n t part fs asked.files ask.client fd at_fd.0 at_fd.1 new fs' nodes at_fd.0.file refl ask.last last_is
-            (λ f e last gone. goes_here f (ap file_in told ∙ e) last gone)
-            (subst (λ (o : Option Desc). LetsGo n new fs fs' ask.client ask.last (file_in o)) told goes)
-            (subst (λ (o : Option ℕ). IsTree (forget after o)) opened_is (tree_after keeps t ask.client (op.Close fd) part.tree let_be)))
+        (λ f e last gone. goes_here f (ap file_in told ∙ e) last gone)
+        (subst (λ (o : Option Desc). LetsGo n new fs fs' ask.client ask.last (file_in o)) told goes)
+        (subst (λ (o : Option ℕ). IsTree (forget after o)) opened_is (tree_after keeps t ask.client (op.Close fd) part.tree let_be)))
 
     pub served_close : IsServed t ask new fs fs' Done None
     served_close =

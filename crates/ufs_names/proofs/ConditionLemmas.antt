@@ -54,10 +54,6 @@ some_names : (names : List (List ℕ)) → not (has_component names) ≡ false �
 some_names [] e = λ _. cc
 some_names (name ∷ names) e = λ h. cc
 
-names_there : (names : List (List ℕ)) → has_component names ≡ true → names ≢ []
-names_there [] e = λ _. cc
-names_there (name ∷ names) e = λ h. cc
-
 -- the names above
 pub names_above_are : (names : List (List ℕ)) → AreNames names → AreNames (names_above names)
 names_above_are names are =

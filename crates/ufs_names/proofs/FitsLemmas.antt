@@ -72,6 +72,3 @@ by_memory t client request (excuse.Stopped fault) other = other (λ e. cc)
 by_memory t client request (excuse.Blocks need had) other = other (λ e. cc)
 by_memory t client request excuse.Inodes other = other (λ e. cc)
 by_memory t client request (excuse.Extents need) other = other (λ e. cc)
-
-pub memory_fits : (t : PosixTree) (client : ℕ) (request : Op) → ExcuseFits t client request excuse.Memory
-memory_fits t client request = fits_memory t client request excuse.Memory refl

@@ -24,7 +24,7 @@ pub reached_here : (t : PosixTree) (ask : Ask) (fs : Files) → AreGathered t as
     → (f : ℕ) → touched.IsPartOf (reached t ask.client request) (name.File f) → is_some (map.get t.bytes f) ≡ true → is_some (map.get fs f) ≡ true
 reached_here t ask fs gathered own request of f at has =
     gathered f (inr (subst (λ (o : Option Errno). touched.IsPartOf (cond {A = List PartName} (is_some o) [] (reached t ask.client ask.op)) (name.File f)) (sym own)
-        (subst (λ (r : Op). touched.IsPartOf (reached t ask.client r) (name.File f)) (sym of) at))) has
+    (subst (λ (r : Op). touched.IsPartOf (reached t ask.client r) (name.File f)) (sym of) at))) has
 
 -- what is live is told by paths and descriptors, which stay
 forget_live : (v : PosixTree) (g f : ℕ) → is_live (forget v (Some g)).paths (forget v (Some g)).fds f ≡ is_live v.paths v.fds f

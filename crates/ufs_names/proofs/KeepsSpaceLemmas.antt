@@ -72,12 +72,6 @@ goes_apart t fs fs' pool pool' f hands left apart = (file_apart t t (λ i. refl)
 -- ---- the kinds
 
 module _ (old new : NamesPart) (fs fs' : Files) (pool pool' : BlockSet) (apart : AreApart old.tree.dirs fs pool) where
-  -- nothing changes
-  pub keeps_all : new ≡ old → fs' ≡ fs → pool' ≡ pool → KeepsSpace old new fs fs' pool pool'
-  keeps_all same hands left =
-      subst (λ (k : NamesPart × (Files × BlockSet)). KeepsSpace old k.0 fs k.1.0 pool k.1.1) (λ i. (sym same i, (sym hands i, sym left i)))
-      (record { inodes = λ all. all; together = the_same old.tree.dirs fs pool; apart = apart })
-
   -- directories and pool exchange blocks
   pub keeps_dirs : DirExchanges old.tree.dirs new.tree.dirs pool pool' → new.held ≡ old.held → fs' ≡ fs → KeepsSpace old new fs fs' pool pool'
   keeps_dirs e held hands =

@@ -13,10 +13,6 @@ use Rattle.ufs_names.proofs.WalkLinks.{met}
 use Rattle.ufs_names.proofs.HolderLemmas.{kept_is_live}
 
 module _ (n : NamesPart) (t : PosixTree) (part : IsPartOf n t) where
-  -- a file is live exactly where something keeps it
-  pub live_is_kept : (f : ℕ) → is_live t.paths t.fds f ≡ is_kept (holding_of n.held f)
-  live_is_kept f = sym (kept_is_live (holding_of n.held f) t.paths t.fds f (part.linked f) (part.held f))
-
   -- a file that stands at some names has bytes, and its holders are told
   pub file_told : (names : List (List ℕ)) (f : ℕ) → AreNames names → node_at n.tree names ≡ Some (File f) → IsSome (map.get t.bytes f) × IsSome (map.get n.held f)
   file_told names f are at = (has, part.told f ∙ has)

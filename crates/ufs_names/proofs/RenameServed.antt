@@ -58,15 +58,6 @@ last_false true true c p q e = e
 last_false true false c p q e = cc
 last_false false b c p q e = cc
 
--- why a new name gets no room
-pub rename_cause : (d : DirTable) (pool : BlockSet) (old new : List ℕ) (x : Excuse) → found_at d (components new) ≡ None → LacksRoom d pool (names_above (components new)) x → IsCause d pool (op.Rename old new) x
-rename_cause d pool old new excuse.Memory absent lacks = tt
-rename_cause d pool old new (excuse.Device fault) absent lacks = (absent, lacks)
-rename_cause d pool old new (excuse.Stopped fault) absent lacks = (absent, lacks)
-rename_cause d pool old new excuse.Inodes absent lacks = (absent, lacks)
-rename_cause d pool old new (excuse.Blocks need had) absent lacks = (absent, lacks)
-rename_cause d pool old new (excuse.Extents need) absent lacks = (absent, lacks)
-
 -- the file that stood at the new name has no name any more
 renamed_unnamed : (n : NamesPart) (t : PosixTree) → IsPartOf n t → (from to : List (List ℕ)) → IsRenamed t.paths from to → (whole_path from ≡ whole_path to → ⊥) → (f : ℕ) → file_of (map.get t.paths (whole_path to)) ≡ Some f
     → is_named (renamed t.paths (whole_path from) (whole_path to)) f ≡ false

@@ -27,13 +27,10 @@ DirHas t b = (i : ℕ) × (has_block (blocks_at t i) b ≡ true)
 
 -- ---- nothing, and one after the other
 
-same_both : {A : Type 0} → A ↔ A
-same_both = ((λ x. x), (λ x. x))
-
 pub same_blocks : (t t' : DirTable) → ((i : ℕ) → blocks_at t' i ≡ blocks_at t i) → (b : ℕ) → (DirHas t' b → DirHas t b) × (DirHas t b → DirHas t' b)
 same_blocks t t' same b = (
-    (λ h. (h.0, ap (λ (l : List ℕ). has_block l b) (sym (same h.0)) ∙ h.1)),
-    (λ h. (h.0, ap (λ (l : List ℕ). has_block l b) (same h.0) ∙ h.1)),
+  (λ h. (h.0, ap (λ (l : List ℕ). has_block l b) (sym (same h.0)) ∙ h.1)),
+  (λ h. (h.0, ap (λ (l : List ℕ). has_block l b) (same h.0) ∙ h.1)),
 )
 
 pub the_same : (t : DirTable) (fs : Files) (pool : BlockSet) → HaveTheSame t fs pool t fs pool

@@ -54,7 +54,7 @@ pub forget_name-requires-clause-apart : goal.forget_name-requires-clause-apart
 forget_name-requires-clause-apart c =
     dir_apart c.args.self.now.tree.dirs c.rename.new.self.dirs c.args.files.now c.args.pool.now c.rename.new.pool
     (exchanged c.args.self.now c.self.inside.tree c.rename.new.self (ap (λ (n : NamesPart). n.tree) c.self.view_is) c.args.from.now c.args.to.now c.args.step.to.found c.requires.found c.in_ok-rename.ensures.files
-        c.args.pool.now c.rename.new.pool c.args.step.to.dir c.requires.to_dir c.in_ok-rename.ensures.replaced c.in_ok-rename.ensures.block c.in_ok-rename.ensures.apart)
+    c.args.pool.now c.rename.new.pool c.args.step.to.dir c.requires.to_dir c.in_ok-rename.ensures.replaced c.in_ok-rename.ensures.block c.in_ok-rename.ensures.apart)
     c.requires.apart
 
 pub returns-clause-loses : goal.returns-clause-loses
@@ -65,15 +65,15 @@ returns-clause-loses c other =
     (ap (λ (n : NamesPart). n.held) c.self.view_is) (ap (λ (n : NamesPart). n.next) c.self.view_is)
     (numbers c.args.self.now c.self.inside.tree c.rename.new.self is c.args.from.now c.args.to.now c.args.step.to.found c.requires.found c.in_ok-rename.ensures.files)
     (subst (λ (o : Option Node). LosesName mid c.forget_name.new.self c.args.files.now c.forget_name.new.files (file_of o))
-        (same_lost c.args.self.now c.self.inside.tree c.rename.new.self is c.args.from.now c.args.to.now c.args.step.to.found c.requires.found c.in_ok-rename.ensures.files)
-        c.forget_name.ensures.loses)
+    (same_lost c.args.self.now c.self.inside.tree c.rename.new.self is c.args.from.now c.args.to.now c.args.step.to.found c.requires.found c.in_ok-rename.ensures.files)
+    c.forget_name.ensures.loses)
 
 pub returns-clause-space : goal.returns-clause-space
 returns-clause-space c =
     let mid : NamesPart = record { tree = c.rename.new.self; held = c.self.inside.held; next = c.self.inside.next } in
     keeps_then c.args.self.now mid c.forget_name.new.self c.args.files.now c.args.files.now c.forget_name.new.files c.args.pool.now c.rename.new.pool c.forget_name.new.pool
     (keeps_dirs c.args.self.now mid c.args.files.now c.args.files.now c.args.pool.now c.rename.new.pool c.requires.apart
-        (exchanged c.args.self.now c.self.inside.tree c.rename.new.self (ap (λ (n : NamesPart). n.tree) c.self.view_is) c.args.from.now c.args.to.now c.args.step.to.found c.requires.found c.in_ok-rename.ensures.files
-            c.args.pool.now c.rename.new.pool c.args.step.to.dir c.requires.to_dir c.in_ok-rename.ensures.replaced c.in_ok-rename.ensures.block c.in_ok-rename.ensures.apart)
-        (ap (λ (n : NamesPart). n.held) c.self.view_is) refl)
+    (exchanged c.args.self.now c.self.inside.tree c.rename.new.self (ap (λ (n : NamesPart). n.tree) c.self.view_is) c.args.from.now c.args.to.now c.args.step.to.found c.requires.found c.in_ok-rename.ensures.files
+    c.args.pool.now c.rename.new.pool c.args.step.to.dir c.requires.to_dir c.in_ok-rename.ensures.replaced c.in_ok-rename.ensures.block c.in_ok-rename.ensures.apart)
+    (ap (λ (n : NamesPart). n.held) c.self.view_is) refl)
     c.forget_name.ensures.space

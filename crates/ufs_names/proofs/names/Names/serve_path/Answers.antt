@@ -28,28 +28,35 @@ answer_found-requires c =
     let a = c.requires.asked in
     let t = a.0 in
     let asked = a.1 in
-    let own = a.2 in
-    (t, (c.args.path.now, record {
-      all = asked;
-      allowed = refused_by_look c.args.self.now t asked.part c.args.ask.now.client c.args.ask.now.op c.args.path.now own c.requires.path c.self.inside.tree (ap (λ (n : NamesPart). n.tree) c.self.view_is) c.in-Ok.ensures.table c.in-Ok.ensures.passed c.in-Ok.look.found c.in-Ok.ensures.found c.is_root.result c.has_entries-has_entries.result c.is_root.ensures c.has_entries-has_entries.ensures c.node-node.result c.node-node.ensures c.end_refusal.result c.end_refusal.ensures ∙ c.in_default.is;
-      path = c.requires.path;
-      met = c.in-Ok.ensures.found ∙ ap (λ (n : NamesPart). found_at n.tree.dirs c.args.path.now) c.self.view_is;
-      table = subst IsNameTable (ap (λ (n : NamesPart). n.tree) c.self.view_is) c.in-Ok.ensures.table;
-    }))
+    let own = a.2 in (
+      t,
+      (
+        c.args.path.now,
+        record {
+          all = asked;
+          allowed = refused_by_look c.args.self.now t asked.part c.args.ask.now.client c.args.ask.now.op c.args.path.now own c.requires.path c.self.inside.tree (ap (λ (n : NamesPart). n.tree) c.self.view_is) c.in-Ok.ensures.table c.in-Ok.ensures.passed c.in-Ok.look.found c.in-Ok.ensures.found c.is_root.result c.has_entries-has_entries.result c.is_root.ensures c.has_entries-has_entries.ensures c.node-node.result c.node-node.ensures c.end_refusal.result c.end_refusal.ensures ∙ c.in_default.is;
+          path = c.requires.path;
+          met = c.in-Ok.ensures.found ∙ ap (λ (n : NamesPart). found_at n.tree.dirs c.args.path.now) c.self.view_is;
+          table = subst IsNameTable (ap (λ (n : NamesPart). n.tree) c.self.view_is) c.in-Ok.ensures.table;
+        },
+      ),
+    )
 
 pub change_found-requires-clause-allowed : goal.change_found-requires-clause-allowed
 change_found-requires-clause-allowed c =
     let a = c.requires.asked in
     let t = a.0 in
     let asked = a.1 in
-    let own = a.2 in
-    (t, record {
-      all = asked;
-      allowed = refused_by_look c.args.self.now t asked.part c.args.ask.now.client c.args.ask.now.op c.args.path.now own c.requires.path c.self.inside.tree (ap (λ (n : NamesPart). n.tree) c.self.view_is) c.in-Ok.ensures.table c.in-Ok.ensures.passed c.in-Ok.look.found c.in-Ok.ensures.found c.is_root.result c.has_entries-has_entries.result c.is_root.ensures c.has_entries-has_entries.ensures c.node-node.result c.node-node.ensures c.end_refusal.result c.end_refusal.ensures ∙ c.in_default.is;
-      path = c.requires.path;
-      met = c.in-Ok.ensures.found ∙ ap (λ (n : NamesPart). found_at n.tree.dirs c.args.path.now) c.self.view_is;
-      table = subst IsNameTable (ap (λ (n : NamesPart). n.tree) c.self.view_is) c.in-Ok.ensures.table;
-    })
+    let own = a.2 in (
+      t,
+      record {
+        all = asked;
+        allowed = refused_by_look c.args.self.now t asked.part c.args.ask.now.client c.args.ask.now.op c.args.path.now own c.requires.path c.self.inside.tree (ap (λ (n : NamesPart). n.tree) c.self.view_is) c.in-Ok.ensures.table c.in-Ok.ensures.passed c.in-Ok.look.found c.in-Ok.ensures.found c.is_root.result c.has_entries-has_entries.result c.is_root.ensures c.has_entries-has_entries.ensures c.node-node.result c.node-node.ensures c.end_refusal.result c.end_refusal.ensures ∙ c.in_default.is;
+        path = c.requires.path;
+        met = c.in-Ok.ensures.found ∙ ap (λ (n : NamesPart). found_at n.tree.dirs c.args.path.now) c.self.view_is;
+        table = subst IsNameTable (ap (λ (n : NamesPart). n.tree) c.self.view_is) c.in-Ok.ensures.table;
+      },
+    )
 
 pub returns-in-Err-change_found-clause-fits : goal.returns-in-Err-change_found-clause-fits
 returns-in-Err-change_found-clause-fits c t asked own =
