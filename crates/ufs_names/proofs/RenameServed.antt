@@ -1,6 +1,5 @@
 -- A `rename` that isn't refused is served.
-use Rattle.std.proofs.Common.{◌≡◌, ◌≢◌, ℕ, ◌⊎◌, inl, inr, List, [], ◌∷◌, Bool, true, false, cond, is_none, is_some, bytes_eq, not, ◌&&◌, Option, Some, None, ap, refl, sym, subst, ◌∙◌}
-use Rattle.std.specs.Prelude.{IsSome}
+use Rattle.std.proofs.Common.{◌≡◌, ◌≢◌, ℕ, ◌⊎◌, inl, inr, List, [], ◌∷◌, Bool, true, false, cond, is_none, is_some, not, ◌&&◌, Option, Some, None, ap, refl, sym, subst, ◌∙◌}
 use Rattle.std.specs.Option.{option_map}
 use Rattle.std.specs.FinMap as map
 use Rattle.ufs_model.specs.Directories.{has_entries, renamed}
@@ -19,7 +18,6 @@ use Rattle.ufs_model.specs.declared.data.Errno.{Errno}
 use Rattle.ufs_model.specs.Touched as touched
 use Rattle.ufs_model.specs.Touched.{dropped_part, reached, replaced_part}
 use Rattle.ufs_model.specs.declared.data.Excuse.{Excuse}
-use Rattle.ufs_model.specs.declared.data.Excuse.TheVariants as excuse
 use Rattle.ufs_model.specs.Excuses.{ExcuseFits}
 use Rattle.ufs_model.specs.declared.data.Op.{Op}
 use Rattle.ufs_model.specs.declared.data.Op.TheVariants as op
@@ -28,14 +26,13 @@ use Rattle.ufs_model.specs.declared.data.PartName.TheVariants as name
 use Rattle.ufs_model.specs.declared.data.Reply.{Reply}
 use Rattle.ufs_model.specs.declared.data.Reply.TheVariants.{Done}
 use Rattle.ufs_bitmap.specs.Blocks.{BlockSet}
-use Rattle.ufs_dir_tree.specs.DirTable.{DirTable, dir_at, found_at}
+use Rattle.ufs_dir_tree.specs.DirTable.{dir_at, found_at}
 use Rattle.ufs_dir_tree.specs.DirCalls.{IsListed, LacksRoom, MayGo, MayMove, names_above}
 use Rattle.ufs_dir_tree.specs.declared.found.Found.TheVariants.{Dir}
 use Rattle.ufs_files.specs.Files.{Files}
 use Rattle.ufs_name_tree.specs.NameTable.{IsNameTable, node_at, node_of}
 use Rattle.ufs_name_tree.specs.Nodes.{MovesNodes}
 use Rattle.ufs_names.specs.NamesPart.{NamesPart, IsPartOf}
-use Rattle.ufs_names.specs.Space.{IsCause}
 use Rattle.ufs_names.specs.Steps.{GoesHere, LosesName}
 use Rattle.ufs_names.specs.Calls.{IsAsked, IsServed}
 use Rattle.ufs_names.proofs.NameLists.{AreNames, names_of}

@@ -5,7 +5,7 @@ use Rattle.ufs_files.specs.Files.{Files}
 use Rattle.ufs_model.specs.Asks.{desc_of_fd, fd_named}
 use Rattle.ufs_model.specs.Posix.{answer}
 use Rattle.ufs_model.specs.PosixTree.{PosixTree}
-use Rattle.ufs_model.specs.Refusals.{own_refusal, refusal}
+use Rattle.ufs_model.specs.Refusals.{own_refusal}
 use Rattle.ufs_model.specs.declared.data.Ask.{Ask}
 use Rattle.ufs_model.specs.declared.data.Errno.{Errno}
 use Rattle.ufs_model.specs.declared.data.Op.{Op}

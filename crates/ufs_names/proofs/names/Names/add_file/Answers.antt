@@ -7,7 +7,7 @@ use Rattle.ufs_names.specs.declared.holding.Holding.{Holding}
 use Rattle.ufs_names.proofs.AddLemmas.{fresh_number, new_is_here, new_is_apart, pool_undone}
 use Rattle.ufs_names.proofs.KeepsSpaceLemmas.{keeps_made}
 use Rattle.ufs_names.proofs.SpaceLemmas.{block_spent}
-use Rattle.ufs_names.proofs.UndoneLemmas.{same_part, undone, on_is_err, not_err}
+use Rattle.ufs_names.proofs.UndoneLemmas.{same_part, undone, not_err}
 use Rattle.ufs_names.proofs.names.Names.add_file.Goals as goal
 
 pub add_file-requires-clause-fresh : goal.add_file-requires-clause-fresh

@@ -1,21 +1,15 @@
-use Rattle.std.proofs.Common.{◌≡◌, ◌≢◌, ℕ, List, Bool, true, false, Option, Some, None, is_some, ap, refl, sym, subst, ◌∙◌, bytes_eq}
+use Rattle.std.proofs.Common.{◌≡◌, ℕ, List, true, Option, Some, None, is_some, ap, refl, sym, subst, ◌∙◌}
 use Rattle.std.specs.Option.{option_map}
 use Rattle.ufs_bitmap.specs.Blocks.{BlockSet}
-use Rattle.ufs_dir_tree.specs.DirTable.{DirTable, found_at}
-use Rattle.ufs_dir_tree.specs.DirCalls.{IsApart, Frees, MayMove, SpendsBlock, names_above}
+use Rattle.ufs_dir_tree.specs.DirTable.{found_at}
+use Rattle.ufs_dir_tree.specs.DirCalls.{IsApart, Frees, SpendsBlock, names_above}
 use Rattle.ufs_dir_tree.specs.declared.found.Found.{Found}
 use Rattle.ufs_dir_tree.specs.declared.found.Found.TheVariants.{Dir, File}
-use Rattle.ufs_files.specs.Files.{Files}
-use Rattle.ufs_model.specs.Paths.{whole_path}
 use Rattle.ufs_model.specs.Walk.{file_of}
 use Rattle.ufs_model.specs.declared.data.Node.{Node}
-use Rattle.ufs_model.proofs.Facts.Lookups.{from_some}
-use Rattle.ufs_model.proofs.Facts.Pieces.{bytes_same}
 use Rattle.ufs_name_tree.specs.NameTable.{NameTable, IsNameTable, file_at, node_at, node_of}
-use Rattle.ufs_name_tree.specs.Nodes.{MovesNodes}
 use Rattle.ufs_names.specs.NamesPart.{NamesPart}
-use Rattle.ufs_names.specs.Space.{AreApart}
-use Rattle.ufs_names.specs.Steps.{KeepsSpace, LosesName}
+use Rattle.ufs_names.specs.Steps.{LosesName}
 use Rattle.ufs_names.proofs.KeepsSpaceLemmas.{keeps_dirs, keeps_then}
 use Rattle.ufs_names.proofs.SpaceLemmas.{DirExchanges, dir_apart}
 use Rattle.ufs_names.proofs.UnnamedLemmas.{loses_before, name_put, same_nodes, same_numbers}

@@ -1,6 +1,6 @@
-use Rattle.std.proofs.Common.{◌≡◌, true≢false, Some, None, is_some, ap, sym, ◌∙◌}
+use Rattle.std.proofs.Common.{true≢false, is_some, ap, sym, ◌∙◌}
 use Rattle.std.specs.FinMap as map
-use Rattle.ufs_names.specs.NamesPart.{NamesPart, Holdings, holding_of}
+use Rattle.ufs_names.specs.NamesPart.{NamesPart}
 use Rattle.ufs_names.specs.declared.holding.Holding.{Holding}
 use Rattle.ufs_name_tree.specs.NameTable.{file_at}
 use Rattle.ufs_names.proofs.AddLemmas.{held_here, keeps_opened, keeps_cut}

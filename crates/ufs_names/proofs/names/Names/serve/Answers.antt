@@ -1,4 +1,4 @@
-use Rattle.std.proofs.Common.{◌≡◌, Option, Some, ap, refl, sym, ◌∙◌}
+use Rattle.std.proofs.Common.{Option, ap, refl, sym, ◌∙◌}
 use Rattle.ufs_model.specs.declared.data.Excuse.TheVariants.{Memory}
 use Rattle.ufs_base.specs.Choices.{first_of}
 use Rattle.ufs_model.specs.Refusals.{tree_refusal}

@@ -1,4 +1,4 @@
-use Rattle.std.proofs.Common.{◌≡◌, [], None, Some, sym, ◌∙◌, ap, subst}
+use Rattle.std.proofs.Common.{◌≡◌, [], Some, sym, ◌∙◌, ap, subst}
 use Rattle.ufs_dir_tree.specs.DirTable.{found_at}
 use Rattle.ufs_model.specs.declared.data.Reply.{Reply}
 use Rattle.ufs_name_tree.specs.NameTable.{NameTable, IsNameTable, node_at}
