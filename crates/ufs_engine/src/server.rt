@@ -45,6 +45,7 @@ impl Model for Server {
 
 impl Server {
     ghost use Rattle.std.specs.Prelude.{◌≡◌, ◌<◌, ◌^◌, true, false, IfOk};
+    ghost use Rattle.std.specs.FinSet as set;
     ghost use Rattle.ufs_engine.specs.Played.{tells_fault};
     ghost use Rattle.ufs_engine.specs.Server.{IsCauseOf, IsServed, IsServerOf};
     ghost use Rattle.ufs_file.specs.Hand.{IsEntryOf};
@@ -75,6 +76,20 @@ impl Server {
             pool,
             geometry,
         })
+    }
+
+    /// The namespace.
+    pub fn names(&self) -> &Names
+        ensures { result.now ≡ self.now.names }
+    {
+        &self.names
+    }
+
+    /// How many blocks are free.
+    pub fn free_blocks(&self) -> u32
+        ensures { result ≡ set.len self.now.pool }
+    {
+        self.pool.count()
     }
 
     /// Serves a request: POSIX's reply on the tree that the server and the descriptors of the clients make, and the
