@@ -3,3 +3,5 @@ pub mod Founds
 pub mod KeptFiles
 pub mod TableEdits
 pub mod NumberEdits
+pub mod Facts
+pub mod ExcuseFacts

@@ -9,12 +9,14 @@ impl NameTree {
     ghost use Rattle.std.specs.Prelude.{◌≡◌, ◌≢◌, ℕ, List, [], Some, None, IsSome, IfOk, IfErr, OnOk, OnErr, length, slice_set};
     ghost use Rattle.std.specs.FinSet as set;
     ghost use Rattle.ufs_dir_tree.specs.Space.{TakesLowest};
-    ghost use Rattle.ufs_dir_tree.specs.DirTable.{blocks_at, found_at};
-    ghost use Rattle.ufs_dir_tree.specs.DirCalls.{names_above, MayGo, MayMove, IsApart, SpendsBlock, Frees, LacksRoom, LacksSpace};
+    ghost use Rattle.ufs_dir_tree.specs.DirTable.{dir_at, blocks_at, inode_of, found_at};
+    ghost use Rattle.ufs_dir_tree.specs.DirCalls.{names_above, SetsFound, MovesFounds, IsUnmet, MayGo, MayMove, IsApart, IsListed, SpendsBlock, Frees, LacksRoom, LacksSpace};
+    ghost use Rattle.ufs_dir_tree.specs.declared.found.Found.{Found};
     ghost use Rattle.ufs_dir_tree.specs.declared.found.Found.TheVariants as found;
+    ghost use Rattle.ufs_model.specs.declared.data.Excuse.TheVariants as excuse;
     ghost use Rattle.ufs_model.specs.declared.data.Node.TheVariants as node;
     ghost use Rattle.ufs_name_tree.specs.Nodes.{SetsNode, MovesNodes};
-    ghost use Rattle.ufs_name_tree.specs.NameTable.{IsNameTable, IsNumbered, file_at, node_at};
+    ghost use Rattle.ufs_name_tree.specs.NameTable.{IsNameTable, file_at, node_at};
 
     /// Puts a new directory at a path at which nothing stands, in the directory that `look` told. It has the lowest
     /// free inode. Where each slot of the directory above is used that takes the pool's lowest block.
@@ -24,13 +26,17 @@ impl NameTree {
         requires absent { found_at self.old.dirs path.now ≡ None }
         requires apart { IsApart self.old.dirs pool.old }
         ensures ok { OnOk result (SetsNode (node_at self.old) (node_at self.new) path.now (Some node.Dir)) }
+        ensures found { IfOk result (λ i. SetsFound (found_at self.old.dirs) (found_at self.new.dirs) path.now (Some (found.Dir i))) }
         ensures inode { IfOk result (TakesLowest self.old.dirs.free self.new.dirs.free) }
         ensures files { self.new.files ≡ self.old.files }
         ensures block { OnOk result (SpendsBlock self.old.dirs self.new.dirs pool.old pool.new (names_above path.now)) }
         ensures cause { IfErr result (LacksSpace self.old.dirs pool.old (names_above path.now)) }
+        ensures listed { IfErr result (λ x. x ≢ excuse.Inodes → IsListed (dir_at self.old.dirs dir)) }
         ensures err { OnErr result (self.new ≡ self.old) }
         ensures err_pool { OnErr result (pool.new ≡ pool.old) }
+        ensures inodes { length self.new.dirs.dirs ≡ length self.old.dirs.dirs }
         ensures apart { IsApart self.new.dirs pool.new }
+        ensures table { IsNameTable self.new }
     {
         self.dirs.add(dir, path, Kind::Dir, pool)
     }
@@ -49,6 +55,7 @@ impl NameTree {
         requires fresh { (i : ℕ) → file_at self.old i ≢ Some file }
         requires apart { IsApart self.old.dirs pool.old }
         ensures ok { OnOk result (SetsNode (node_at self.old) (node_at self.new) path.now (Some (node.File file))) }
+        ensures found { IfOk result (λ i. SetsFound (found_at self.old.dirs) (found_at self.new.dirs) path.now (Some (found.File i))) }
         ensures inode { IfOk result (TakesLowest self.old.dirs.free self.new.dirs.free) }
         ensures files { IfOk result (λ i. self.new.files ≡ slice_set self.old.files i (Some file)) }
         ensures numbered { IfOk result (λ i. file_at self.new i ≡ Some file) }
@@ -56,9 +63,12 @@ impl NameTree {
         ensures unnumbered { IfOk result (λ i. file_at self.old i ≡ None) }
         ensures block { OnOk result (SpendsBlock self.old.dirs self.new.dirs pool.old pool.new (names_above path.now)) }
         ensures cause { IfErr result (LacksSpace self.old.dirs pool.old (names_above path.now)) }
+        ensures listed { IfErr result (λ x. x ≢ excuse.Inodes → IsListed (dir_at self.old.dirs dir)) }
         ensures err { OnErr result (self.new ≡ self.old) }
         ensures err_pool { OnErr result (pool.new ≡ pool.old) }
+        ensures inodes { length self.new.dirs.dirs ≡ length self.old.dirs.dirs }
         ensures apart { IsApart self.new.dirs pool.new }
+        ensures table { IsNameTable self.new }
     {
         match self.dirs.add(dir, path, Kind::File, pool) {
             Ok(inode) => {
@@ -78,9 +88,14 @@ impl NameTree {
         requires may_go { MayGo self.old.dirs path.now }
         requires apart { IsApart self.old.dirs pool.old }
         ensures nodes { SetsNode (node_at self.old) (node_at self.new) path.now None }
+        ensures found { SetsFound (found_at self.old.dirs) (found_at self.new.dirs) path.now None }
+        // no name stands for it any more
+        ensures unmet { (f : Found) → found_at self.old.dirs path.now ≡ Some f → IsUnmet self.new.dirs (inode_of f) }
         ensures files { self.new.files ≡ self.old.files }
         ensures freed { Frees self.old.dirs self.new.dirs pool.old pool.new (found_at self.old.dirs path.now) }
+        ensures inodes { length self.new.dirs.dirs ≡ length self.old.dirs.dirs }
         ensures apart { IsApart self.new.dirs pool.new }
+        ensures table { IsNameTable self.new }
     {
         self.dirs.remove(dir, path, pool);
     }
@@ -100,15 +115,20 @@ impl NameTree {
         requires may_move { MayMove self.old.dirs from.now to.now }
         requires apart { IsApart self.old.dirs pool.old }
         ensures ok { OnOk result (MovesNodes (node_at self.old) (node_at self.new) from.now to.now) }
+        ensures found { OnOk result (MovesFounds (found_at self.old.dirs) (found_at self.new.dirs) from.now to.now) }
+        ensures unmet { OnOk result ((f : Found) → found_at self.old.dirs to.now ≡ Some f → IsUnmet self.new.dirs (inode_of f)) }
         ensures files { self.new.files ≡ self.old.files }
         ensures replaced { OnOk result (IsSome (found_at self.old.dirs to.now) → Frees self.old.dirs self.new.dirs pool.old pool.new (found_at self.old.dirs to.now)) }
         ensures block { OnOk result (found_at self.old.dirs to.now ≡ None → SpendsBlock self.old.dirs self.new.dirs pool.old pool.new (names_above to.now)) }
         ensures free { OnOk result (found_at self.old.dirs to.now ≡ None → self.new.dirs.free ≡ self.old.dirs.free) }
         ensures absent { OnErr result (found_at self.old.dirs to.now ≡ None) }
         ensures cause { IfErr result (LacksRoom self.old.dirs pool.old (names_above to.now)) }
+        ensures listed { OnErr result (IsListed (dir_at self.old.dirs to_dir)) }
         ensures err { OnErr result (self.new ≡ self.old) }
         ensures err_pool { OnErr result (pool.new ≡ pool.old) }
+        ensures inodes { length self.new.dirs.dirs ≡ length self.old.dirs.dirs }
         ensures apart { IsApart self.new.dirs pool.new }
+        ensures table { IsNameTable self.new }
     {
         self.dirs.rename(from_dir, from, to_dir, to, pool)
     }
@@ -127,7 +147,9 @@ impl NameTree {
         ensures free { self.new.dirs.free ≡ set.insert self.old.dirs.free inode }
         ensures blocks { (i : ℕ) → blocks_at self.new.dirs i ≡ blocks_at self.old.dirs i }
         ensures pool { pool.new ≡ pool.old }
+        ensures inodes { length self.new.dirs.dirs ≡ length self.old.dirs.dirs }
         ensures apart { IsApart self.new.dirs pool.new }
+        ensures table { IsNameTable self.new }
     {
         self.dirs.free_inode(inode, pool);
         self.files[inode as usize] = None;

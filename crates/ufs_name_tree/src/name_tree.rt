@@ -54,6 +54,7 @@ impl NameTree {
         ensures free { IfOk result (λ t. t.dirs.free ≡ set.from_list (blocks_from 2 (inodes + 1 - 2))) }
         ensures bare { IfOk result (λ t. (i : ℕ) → dir_at t.dirs i ≡ no_dir) }
         ensures apart { IfOk result (λ t. (pool : BlockSet) → IsApart t.dirs pool) }
+        ensures table { IfOk result (λ t. IsNameTable t) }
     {
         let dirs = DirTree::new(alloc, inodes)?;
         let files = no_files(alloc, inodes as usize + 1)?;
@@ -70,6 +71,13 @@ impl NameTree {
         ensures table { IsNameTable self.now }
     {
         self.dirs.look(path)
+    }
+
+    /// What holds of every table holds of this one, whatever was asked of the tree.
+    pub fn is_table(&self)
+        ensures { IsNameTable self.now }
+    {
+        let _ = &self.files;
     }
 
     /// The number of the file that the inode is; `None` where it is no file's.

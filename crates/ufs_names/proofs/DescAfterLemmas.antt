@@ -35,7 +35,7 @@ module _ (client : ℕ) (fd : ℕ) (c n : ℕ) (apart : (c ≢ client) ⊎ (Some
 
 -- ---- what leaves the descriptors
 
-forget_fds : (t : PosixTree) (lost : Option ℕ) → (forget t lost).fds ≡ t.fds
+pub forget_fds : (t : PosixTree) (lost : Option ℕ) → (forget t lost).fds ≡ t.fds
 forget_fds t None = refl
 forget_fds t (Some g) = by (is_live t.paths t.fds g)
   where

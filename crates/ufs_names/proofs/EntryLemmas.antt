@@ -29,10 +29,10 @@ use Rattle.ufs_dirs.proofs.Facts.{same_names_in}
 use Rattle.ufs_names.proofs.PathLemmas.{name_of, entry_path, is_entry, name_of_entry, entry_is, names_rising, any_mapped}
 use Rattle.ufs_dir_tree.proofs.WalkLemmas.{walk-append}
 
-plain_name : (name : List ℕ) → IsName name → IsPlain name
+pub plain_name : (name : List ℕ) → IsName name → IsPlain name
 plain_name name h = record { some = lt-ltb 0 (length name) h.some; free = h.no_slash }
 
-allowed_name : (name : List ℕ) → IsName name → component_refusal name ≡ None
+pub allowed_name : (name : List ℕ) → IsName name → component_refusal name ≡ None
 allowed_name name h = rw (h.printable, h.no_dots, le-ltb 58 (length name) h.short) refl
 
 some_mapped : (t : NameTable) (o : Option DentryForm) → is_some (option_map (node_of t) (option_map found_of o)) ≡ is_some o

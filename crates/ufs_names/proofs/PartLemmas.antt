@@ -39,7 +39,7 @@ goes_on n t client asked request is e part =
     subst (λ (r : Op). IsPartOf n (posix t client r).0) (sym is) (subst (λ (r : Option Errno). IsPartOf n (served t client request r).0) (sym e) part)
 
 -- a file that a path names has bytes
-stood_has : (t : PosixTree) → IsTree t → (whole : List ℕ) (f : ℕ) → file_of (map.get t.paths whole) ≡ Some f → is_some (map.get t.bytes f) ≡ true
+pub stood_has : (t : PosixTree) → IsTree t → (whole : List ℕ) (f : ℕ) → file_of (map.get t.paths whole) ≡ Some f → is_some (map.get t.bytes f) ≡ true
 stood_has t tree whole f stood = held_has t tree f (inl (whole, file_there (map.get t.paths whole) f stood))
 
 -- what stood at one whole path stands at another, which differs

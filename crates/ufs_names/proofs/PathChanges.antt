@@ -9,11 +9,11 @@ use Rattle.ufs_model.specs.Paths.{components, whole_of}
 use Rattle.ufs_model.specs.PosixTree.{PosixTree}
 use Rattle.ufs_model.specs.PosixTree as posix_tree
 use Rattle.ufs_model.specs.Touched as touched
-use Rattle.ufs_model.specs.Touched.{holds, reached, opened_part}
+use Rattle.ufs_model.specs.Touched.{dropped_part, holds, opened_part, reached, replaced_part}
 use Rattle.ufs_model.specs.declared.data.Errno.{Errno}
 use Rattle.ufs_model.specs.declared.data.PartName.TheVariants as part_name
 use Rattle.ufs_model.specs.Posix.{answer, change, forget, open_node, new_fd, with_bytes, with_fd}
-use Rattle.ufs_model.specs.Refusals.{refusal}
+use Rattle.ufs_model.specs.Refusals.{own_refusal, tree_refusal, refusal}
 use Rattle.ufs_model.specs.Walk as walk
 use Rattle.ufs_model.specs.Walk.{file_of}
 use Rattle.ufs_model.specs.Laws.{KeepsTrees}
@@ -41,8 +41,12 @@ use Rattle.ufs_names.proofs.AllowedLemmas.{rmdir_allowed}
 use Rattle.ufs_names.proofs.ServedLemmas.{served_as}
 use Rattle.ufs_names.proofs.FileLemmas.{FilesGo, files_same, files_emptied, files_made, files_settle}
 use Rattle.ufs_names.proofs.HolderLemmas.{kept_is_live}
-use Rattle.ufs_names.proofs.LinkLemmas.{is_named, unnamed_gone}
-use Rattle.ufs_names.proofs.PathConditions.{file_found, gathered, let_be, named, node_found, stands_found}
+use Rattle.ufs_names.proofs.LinkLemmas.{is_named, file_there, unnamed_gone}
+use Rattle.ufs_names.proofs.GatheredLemmas.{dropped, goes_here, reached_here}
+use Rattle.ufs_names.proofs.PartFacts.{file_told}
+use Rattle.ufs_model.specs.Asks.{desc_of_fd, fd_told}
+use Rattle.ufs_model.proofs.Facts.Allowed.{first_none}
+use Rattle.ufs_names.proofs.PathConditions.{are_names, file_found, gathered, let_be, named, node_found, stands_found}
 
 -- the descriptor that an `open` gives
 open_told : (t : PosixTree) (client : ℕ) (whole : List ℕ) (m : Mode) (o : Option Node) (next : ℕ) → next ≡ t.next
@@ -69,6 +73,18 @@ module _ (keeps : KeepsTrees) (n : NamesPart) (fs : Files) (t : PosixTree) (ask 
   abbrev part : IsPartOf n t
   part = is.all.part
 
+  -- nothing changes
+  served_same : (request : Op) → ask.op ≡ request → change t ask.client request ≡ t → None ≡ desc_of_fd (change t ask.client request).fds ask.client (fd_told request (answer t ask.client request)) → IsServed t ask n fs fs (answer t ask.client ask.op) None
+  served_same request of same none =
+      served_as t ask n fs fs request None of (let_be n fs t ask names found is request of) (subst (IsPartOf n) (sym same) part)
+      (files_same t (change t ask.client request) part.tree fs fs is.all.files refl (λ f. ap (λ (u : PosixTree). map.get u.bytes f) same)) none
+
+  pub served_stat : (p : List ℕ) → ask.op ≡ op.Stat p → IsServed t ask n fs fs (answer t ask.client ask.op) None
+  served_stat p of = served_same (op.Stat p) of refl refl
+
+  pub served_list : (p : List ℕ) → ask.op ≡ op.List p → IsServed t ask n fs fs (answer t ask.client ask.op) None
+  served_list p of = served_same (op.List p) of refl refl
+
   pub served_mkdir : (p : List ℕ) → ask.op ≡ op.Mkdir p → SetsNode (node_at n.tree) (node_at now.tree) names (Some node.Dir) → KeepsFiles n now fs fs' → IsServed t ask now fs fs' (answer t ask.client ask.op) None
   served_mkdir p of sets same =
       let free = let_be n fs t ask names found is (op.Mkdir p) of in
@@ -77,6 +93,32 @@ module _ (keeps : KeepsTrees) (n : NamesPart) (fs : Files) (t : PosixTree) (ask 
       (part_mkdir keeps n t ask.client part now fs fs' p free (subst (λ l. SetsNode (node_at n.tree) (node_at now.tree) l (Some node.Dir)) (sym at) sets) same)
       (files_same t (change t ask.client (op.Mkdir p)) part.tree fs fs' is.all.files same.stays.files (λ f. refl))
       refl
+
+  -- the hand of a file that goes with its name is here
+  pub rmdir_here : (p : List ℕ) → ask.op ≡ op.Rmdir p → GoesHere n fs (file_of (node_at n.tree names))
+  rmdir_here p of f e =
+      let free = let_be n fs t ask names found is (op.Rmdir p) of in
+      let dir = node_found n fs t ask names found is ∙ sym (stands_found n fs t ask names found is (op.Rmdir p) of p refl) ∙ (rmdir_allowed t ask.client p free).2 in
+      let no : None ≡ Some f = sym (ap file_of dir) ∙ e in
+      λ gone. cc
+
+  pub unlink_here : (p : List ℕ) → ask.op ≡ op.Unlink p → GoesHere n fs (file_of (node_at n.tree names))
+  unlink_here p of =
+      goes_here n t part fs (map.remove t.paths (whole_of p)) (file_of (node_at n.tree names)) (λ f e. unnamed_gone t.paths (whole_of p) f part.once (ap file_of stood ∙ e))
+      (λ f e dead. reached_here t ask fs is.all.gathered own (op.Unlink p) of f
+      (inr (subst (λ (r : Option Errno). touched.IsPartOf (if is_some r then [] else replaced_part t ask.client (op.Unlink p) (whole_of p)) (part_name.File f)) (sym free)
+      (subst (λ o. touched.IsPartOf (dropped_part (forget (record t { paths = map.remove t.paths (whole_of p) }) o) o) (part_name.File f)) (sym (ap file_of stood ∙ e))
+      (dropped (record t { paths = map.remove t.paths (whole_of p) }) f dead))))
+      (file_told n t part names f (are_names n fs t ask names found is) (file_there (node_at n.tree names) f e)).0)
+    where
+      free : refusal t ask.client (op.Unlink p) ≡ None
+      free = let_be n fs t ask names found is (op.Unlink p) of
+
+      own : own_refusal t ask.client ask.op ≡ None
+      own = (first_none (own_refusal t ask.client ask.op) (tree_refusal t ask.client ask.op) is.allowed).0
+
+      stood : walk.node_at t.paths p ≡ node_at n.tree names
+      stood = stands_found n fs t ask names found is (op.Unlink p) of p refl ∙ sym (node_found n fs t ask names found is)
 
   module _ (goes : Removes n now fs fs' names) where
     pub served_rmdir : (p : List ℕ) → ask.op ≡ op.Rmdir p → IsServed t ask now fs fs' (answer t ask.client ask.op) None

@@ -18,7 +18,7 @@ use Rattle.ufs_model.specs.declared.data.Op.TheVariants as op
 use Rattle.ufs_model.proofs.Facts.Allowed.{first_none}
 use Rattle.ufs_model.proofs.Facts.Lookups.{same_some}
 use Rattle.ufs_dir_tree.specs.DirTable.{IsDirTable, slots_at, found_at}
-use Rattle.ufs_name_tree.specs.NameTable.{node_at, node_of}
+use Rattle.ufs_name_tree.specs.NameTable.{NameTable, IsNameTable, node_at, node_of}
 use Rattle.ufs_dir_tree.specs.DirCalls.{IsBare}
 use Rattle.ufs_name_tree.specs.Nodes.{refusal_by}
 use Rattle.ufs_names.specs.NamesPart.{NamesPart, IsPartOf}
@@ -124,3 +124,11 @@ module _ (n : NamesPart) (t : PosixTree) (part : IsPartOf n t) (client : ℕ) (r
       ∙ ap (λ o. end_refusal root o (has_entries t.paths (whole_of path)) request) (met_at (node_at n.tree) t.paths part.paths path text ∙ ap (node_at n.tree) are_names ∙ ap (option_map (node_of n.tree)) (sym met))
       ∙ sym (end_by_entries root (option_map (node_of n.tree) found) entries (has_entries t.paths (whole_of path)) request (λ dir.
       entries_told n t part table names (subst AreNames are_names (names_of path text)) found met entries told dir ∙ ap (λ l. has_entries t.paths (whole_path l)) (sym are_names)))
+
+  -- by what was looked at, of the same names
+  pub refused_by_look : (tree : NameTable) → tree ≡ n.tree → IsNameTable tree → refusal_by (node_at tree) [] names ≡ None → (found : Option Found) → found ≡ found_at tree.dirs names → (root entries : Bool) → IsTrue root ↔ (names ≡ [])
+      → (entries ≡ false) ↔ ((i : ℕ) → found ≡ Some (Dir i) → IsBare (slots_at n.tree.dirs i)) → (node : Option Node) → node ≡ option_map (node_of tree) found → (r : Option Errno) → r ≡ end_refusal root node entries request
+      → refusal t client request ≡ r
+  refused_by_look tree same table passed found met root entries at_root told node node_is r is =
+      refused_by_end (subst (λ (d : NameTable). IsDirTable d.dirs) same table.table) (subst (λ (d : NameTable). refusal_by (node_at d) [] names ≡ None) same passed) found (met ∙ ap (λ (d : NameTable). found_at d.dirs names) same) root entries at_root told
+      ∙ ap (λ (o : Option Node). end_refusal root o entries request) (sym (node_is ∙ ap (λ (d : NameTable). option_map (node_of d) found) same)) ∙ sym is

@@ -13,8 +13,8 @@ use Rattle.ufs_model.specs.declared.data.Errno.{Errno}
 use Rattle.ufs_model.specs.declared.data.Errno.TheVariants.{Ebusy, Einval, Eisdir, Enotdir, Enotempty, Enoent}
 use Rattle.ufs_model.specs.declared.data.Node.{Node}
 use Rattle.ufs_model.specs.declared.data.Node.TheVariants as node
-use Rattle.ufs_dir_tree.specs.DirTable.{DirTable, IsDirTable, slots_at, found_at}
-use Rattle.ufs_name_tree.specs.NameTable.{node_at, node_of}
+use Rattle.ufs_dir_tree.specs.DirTable.{IsDirTable, slots_at, found_at}
+use Rattle.ufs_name_tree.specs.NameTable.{NameTable, node_at, node_of}
 use Rattle.ufs_dir_tree.specs.DirCalls.{IsBare}
 use Rattle.ufs_name_tree.specs.Nodes.{refusal_by}
 use Rattle.ufs_names.specs.NamesPart.{NamesPart, IsPartOf}
@@ -54,7 +54,7 @@ module _ (n : NamesPart) (t : PosixTree) (part : IsPartOf n t) (from to : List (
 abbrev by_steps : Bool → Option Errno → Option Node → Option Errno → Option Errno → Option Errno
 by_steps root way o way' last = first_of (refused_if root Ebusy) (first_of way (first_of (refused_if (is_none o) Enoent) (first_of way' last)))
 
-module _ (n : NamesPart) (t : PosixTree) (part : IsPartOf n t) (d : DirTable) (same : d ≡ n.dirs) (from to : List (List ℕ)) (old new : List ℕ) (text : text_refusal old ≡ None) (text' : text_refusal new ≡ None)
+module _ (n : NamesPart) (t : PosixTree) (part : IsPartOf n t) (d : NameTable) (same : d ≡ n.tree) (from to : List (List ℕ)) (old new : List ℕ) (text : text_refusal old ≡ None) (text' : text_refusal new ≡ None)
     (e : from ≡ components old) (e' : to ≡ components new) where
   are : AreNames from
   are = subst AreNames (sym e) (names_of old text)
@@ -82,7 +82,7 @@ module _ (n : NamesPart) (t : PosixTree) (part : IsPartOf n t) (d : DirTable) (s
       refused_from err is =
           below_root ∙ ap (λ way. by_steps false way (map.get t.paths (whole_path from)) (walk_refusal_from t.paths [] to) (replace_refusal t.paths (whole_path from) (whole_path to))) (walk_resolved n t part d same from are (Some err) is)
 
-      module _ (passed : refusal_by (node_at d) [] from ≡ None) (o : Option Found) (at : o ≡ found_at d from) where
+      module _ (passed : refusal_by (node_at d) [] from ≡ None) (o : Option Found) (at : o ≡ found_at d.dirs from) where
         to_node : rename_refusal t.paths old new ≡ by_steps false None (option_map (node_of n.tree) o) (walk_refusal_from t.paths [] to) (replace_refusal t.paths (whole_path from) (whole_path to))
         to_node =
             below_root ∙ ap (λ way. by_steps false way (map.get t.paths (whole_path from)) (walk_refusal_from t.paths [] to) (replace_refusal t.paths (whole_path from) (whole_path to))) (walk_resolved n t part d same from are None passed)

@@ -101,7 +101,7 @@ pub record IsPartBut (n : NamesPart) (t : PosixTree) (g : ℕ) (h : Holding) : T
   pub here : is_some (map.get n.held g) ≡ true
   pub inode : h.inode ≡ (holding_of n.held g).inode
 
-none_of : (a b : Bool) → (a || b) ≡ false → (a ≡ false) × (b ≡ false)
+pub none_of : (a b : Bool) → (a || b) ≡ false → (a ≡ false) × (b ≡ false)
 none_of true b e = cc
 none_of false b e = (refl, e)
 

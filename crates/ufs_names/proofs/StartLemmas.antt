@@ -19,9 +19,17 @@ use Rattle.ufs_model.proofs.Facts.Pieces.{ArePlain, same_names}
 use Rattle.ufs_model.proofs.Facts.Starts.{start_is_tree, root_is_tree, start_of-root}
 use Rattle.ufs_model.specs.Start.{path_root}
 use Rattle.ufs_dir_tree.specs.DirTable.{DirTable}
-use Rattle.ufs_name_tree.specs.NameTable.{node_at}
+use Rattle.ufs_dir_tree.specs.DirCalls.{IsApart}
+use Rattle.ufs_bitmap.specs.Blocks.{BlockSet}
+use Rattle.ufs_bitmap.proofs.TakingLemmas.{apart_none, has-none}
+use Rattle.ufs_files.specs.Files.{Files, blocks_at}
+use Rattle.ufs_files.proofs.MapLemmas.{blocks_none}
+use Rattle.ufs_name_tree.specs.NameTable.{NameTable, file_at, node_at}
 use Rattle.ufs_names.specs.NamesPart.{IsPartOf, holding_of, unheld}
 use Rattle.ufs_names.specs.declared.holding.Holding.{Holding}
+use Rattle.ufs_bitmap.specs.Taking as taking
+use Rattle.ufs_bitmap.specs.Taking.{has}
+use Rattle.ufs_names.specs.Space.{AreApart}
 use Rattle.ufs_names.proofs.SettleLemmas.{nobody}
 
 no_file : (path : List ℕ) (f : ℕ) → map.get root_alone.paths path ≡ Some (File f) → ⊥
@@ -41,21 +49,45 @@ none_open client f = false_from_ne_true _ (λ e. let at = holder map.empty clien
 unknown : (f : ℕ) → holding_of map.empty f ≡ unheld
 unknown f = ap (λ (o : Option Holding). unwrap_or o unheld) (get-empty nat_cmp f)
 
-module _ (d : DirTable) (top : node_at d [] ≡ Some Dir) (below : (names : List (List ℕ)) → names ≢ [] → node_at d names ≡ None) where
+module _ (d : NameTable) (top : node_at d [] ≡ Some Dir) (below : (names : List (List ℕ)) → names ≢ [] → node_at d names ≡ None) (bare : (i : ℕ) → file_at d i ≡ None) where
   stands : (names : List (List ℕ)) → ArePlain names → map.get root_alone.paths (whole_path names) ≡ node_at d names
   stands [] plain = inserted_here path_total path_same map.empty root Dir ∙ sym top
   stands (name ∷ names) plain =
       inserted_else path_total path_same map.empty root Dir (whole_path (name ∷ names)) (λ e. let same = same_names (name ∷ names) [] plain tt e in cc)
       ∙ get-empty path_cmp (whole_path (name ∷ names)) ∙ sym (below (name ∷ names) (λ e. cc))
 
-  pub first_part : IsPartOf (record { dirs = d; bytes = map.empty; held = map.empty; next = 0 }) root_alone
+  numbered_not : (i f : ℕ) → file_at d i ≡ Some f → ⊥
+  numbered_not i f at = let none = bare i in let no : Some f ≡ None = sym at ∙ none in cc
+
+  told_not : (f : ℕ) (h : Holding) → map.get {R = nat_cmp} map.empty f ≡ Some h → ⊥
+  told_not f h at = let none = get-empty {X = Holding} nat_cmp f in let no : Some h ≡ None = sym at ∙ none in cc
+
+  pub first_part : IsPartOf (record { tree = d; held = map.empty; next = 0 }) root_alone
   first_part = record {
     tree = subst IsTree start_of-root (start_is_tree path_root root_is_tree);
     paths = λ names plain allowed. stands names plain;
     once = λ p q f at at'. absurd (no_file p f at);
-    bytes = refl;
     next = refl;
     linked = λ f. ap (λ (h : Holding). h.linked) (unknown f) ∙ sym (none_named f);
     held = λ f client. ap (λ (h : Holding). slice_index_or h.clients client false) (unknown f) ∙ nobody 16 client ∙ sym (none_open client f);
     told = λ f. ap is_some (get-empty nat_cmp f) ∙ sym (ap is_some (get-empty nat_cmp f));
+    inodes = record {
+      inode = λ f h at. absurd (told_not f h at);
+      live = λ i f at. absurd (numbered_not i f at);
+      own = λ i f at. absurd (numbered_not i f at);
+    };
   }
+
+-- without a file there is no block of one
+pub first_apart : (d : DirTable) (pool : BlockSet) → IsApart d pool → AreApart d map.empty pool
+first_apart d pool apart = record {
+  dirs = apart;
+  files = record {
+    each = λ f. subst (taking.IsApart pool) (sym (none f)) (apart_none pool [] refl);
+    pairwise = λ f g b not h. ap (λ bs. has bs b) (none g) ∙ has-none b;
+  };
+  mixed = λ i f b h. ap (λ bs. has bs b) (none f) ∙ has-none b;
+}
+  where
+    none : (f : ℕ) → blocks_at map.empty f ≡ []
+    none f = blocks_none map.empty f (get-empty nat_cmp f)

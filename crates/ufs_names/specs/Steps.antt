@@ -12,7 +12,7 @@ use Rattle.ufs_model.specs.declared.data.Ask.{Ask}
 use Rattle.ufs_model.specs.Walk.{file_of}
 use Rattle.ufs_name_tree.specs.NameTable.{file_at, node_at}
 use Rattle.ufs_name_tree.specs.Nodes.{SetsNode}
-use Rattle.ufs_names.specs.NamesPart.{NamesPart, Holdings, unheld, holding_of, with_holder, without_name, is_kept, settled}
+use Rattle.ufs_names.specs.NamesPart.{NamesPart, Holdings, unheld, holding_of, with_holder, without_holder, without_name, is_kept, settled}
 use Rattle.ufs_names.specs.Calls.{HaveInodes, no_bytes}
 use Rattle.ufs_names.specs.Space.{AreApart, HaveTheSame}
 use Rattle.ufs_names.specs.declared.holding.Holding.{Holding}
@@ -66,6 +66,12 @@ GoesHere n fs lost = (f : ℕ) → lost ≡ Some f → is_kept (without_name (ho
 pub record Removes (old new : NamesPart) (fs fs' : Files) (names : List (List ℕ)) : Type 0 where
   pub nodes : SetsNode (node_at old.tree) (node_at new.tree) names None
   pub file : LosesName old new fs fs' (file_of (node_at old.tree names))
+
+-- A client lets go of the file of a descriptor, if this was its last hold of it.
+abbrev pub LetsGo : NamesPart → NamesPart → Files → Files → ℕ → Bool → Option ℕ → Type 0
+LetsGo old new fs fs' client last None = (new ≡ old) × (fs' ≡ fs)
+LetsGo old new fs fs' client false (Some file) = (new ≡ old) × (fs' ≡ fs)
+LetsGo old new fs fs' client true (Some file) = Settles old new fs fs' file (without_holder (holding_of old.held file) client)
 
 -- ---- opening
 

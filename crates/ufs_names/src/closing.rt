@@ -2,16 +2,18 @@
 use crate::names::{Names, Served};
 use ufs_bitmap::Pool;
 use ufs_files::FileHands;
-use ufs_model::{Ask, Op, Reply, a_request_keeps_the_tree};
+use ufs_model::{Ask, Reply, a_request_keeps_the_tree};
 
 impl Names {
-    ghost use Rattle.std.specs.Prelude.{◌≡◌, ◌<◌, ℕ, None};
+    ghost use Rattle.std.specs.Prelude.{◌≡◌, ◌<◌, ℕ, List, None};
+    ghost use Rattle.ufs_model.specs.Asks.{file_in};
     ghost use Rattle.ufs_model.specs.PosixTree.{PosixTree};
     ghost use Rattle.ufs_model.specs.Refusals.{own_refusal};
     ghost use Rattle.ufs_model.specs.declared.data.Op.TheVariants as op;
+    ghost use Rattle.ufs_name_tree.specs.NameTable.{node_at};
     ghost use Rattle.ufs_names.specs.Calls.{IsAsked, IsServed};
     ghost use Rattle.ufs_names.specs.Space.{AreApart};
-    ghost use Rattle.ufs_names.specs.Steps.{KeepsSpace};
+    ghost use Rattle.ufs_names.specs.Steps.{KeepsSpace, LetsGo};
 
     /// A `close` that its client can't refuse. The file goes where this was the last hold of one that no path names.
     pub(crate) fn close(&mut self, ask: &Ask, files: &mut FileHands, pool: &mut Pool) -> Served
@@ -23,24 +25,37 @@ impl Names {
         ensures space { KeepsSpace self.old self.new files.old files.new pool.old pool.new }
     {
         a_request_keeps_the_tree();
-        if let Some(desc) = ask.desc {
-            if let Some(file) = desc.file {
-                if ask.last {
-                    self.let_go(ask.client, file, files, pool);
-                }
-            }
-        }
+        self.let_go(ask, files, pool);
         Served {
             reply: Reply::Done,
             desc: None,
         }
     }
 
-    /// The client holds the file no more.
-    fn let_go(&mut self, client: u8, file: u32, files: &mut FileHands, pool: &mut Pool) {
+    /// The client lets go of the descriptor's file, if this was its last hold of it.
+    fn let_go(&mut self, ask: &Ask, files: &mut FileHands, pool: &mut Pool)
+        requires client { ask.now.client < 16 }
+        requires close { (fd : ℕ) × (ask.now.op ≡ op.Close fd) }
+        requires asked { (t : PosixTree) × IsAsked t self.old ask.now files.old × (own_refusal t ask.now.client ask.now.op ≡ None) }
+        requires apart { AreApart self.old.tree.dirs files.old pool.old }
+        ensures nodes { (names : List (List ℕ)) → node_at self.new.tree names ≡ node_at self.old.tree names }
+        ensures goes { LetsGo self.old self.new files.old files.new ask.now.client ask.now.last (file_in ask.now.desc) }
+        ensures space { KeepsSpace self.old self.new files.old files.new pool.old pool.new }
+    {
+        let Some(desc) = ask.desc else {
+            return;
+        };
+        let Some(file) = desc.file else {
+            return;
+        };
+        if !ask.last {
+            return;
+        }
         let Some(holding) = self.held.get(file) else {
             unreachable!()
         };
-        self.settle(file, holding.without(client), files, pool);
+        // No walk leads to a file that no path names.
+        self.tree.is_table();
+        self.settle(file, holding.without(ask.client), files, pool);
     }
 }

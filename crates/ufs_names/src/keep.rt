@@ -9,7 +9,7 @@ impl Names {
     ghost use Rattle.std.specs.FinMap as map;
     ghost use Rattle.ufs_dir_tree.specs.DirTable.{found_at};
     ghost use Rattle.ufs_dir_tree.specs.declared.found.Found.TheVariants as found;
-    ghost use Rattle.ufs_name_tree.specs.NameTable.{file_at};
+    ghost use Rattle.ufs_name_tree.specs.NameTable.{file_at, node_at};
     ghost use Rattle.ufs_names.specs.NamesPart.{holding_of, is_kept};
     ghost use Rattle.ufs_names.specs.Space.{AreApart};
     ghost use Rattle.ufs_names.specs.Steps.{KeepsSpace, Settles};
@@ -28,7 +28,8 @@ impl Names {
         requires here { is_kept holding ≡ false → IsSome (map.get files.old file) }
         requires unmet { is_kept holding ≡ false → (names : List (List ℕ)) → found_at self.old.tree.dirs names ≢ Some (found.File holding.inode) }
         requires apart { AreApart self.old.tree.dirs files.old pool.old }
-        ensures settles { Settles self.old self.new files.old files.new pool.old pool.new file holding }
+        ensures nodes { (names : List (List ℕ)) → node_at self.new.tree names ≡ node_at self.old.tree names }
+        ensures settles { Settles self.old self.new files.old files.new file holding }
         ensures space { KeepsSpace self.old self.new files.old files.new pool.old pool.new }
     {
         if !holding.is_kept() {

@@ -65,7 +65,7 @@ impl Names {
     ghost use Rattle.ufs_names.specs.Calls.{HaveInodes, IsAsked, IsOfNames, IsServed};
     ghost use Rattle.ufs_names.specs.NamesPart.{IsPartOf};
     ghost use Rattle.ufs_names.specs.Space.{AreApart, HaveTheSame, IsCause};
-    ghost use Rattle.ufs_names.specs.Steps.{KeepsSpace, MayServe};
+    ghost use Rattle.ufs_names.specs.Steps.{KeepsSpace};
 
     /// The root alone, of so many inodes, and no file.
     pub fn new(alloc: Global, inodes: u32) -> Result<Names, Memory>
@@ -154,9 +154,9 @@ impl Names {
         requires asked { (t : PosixTree) × IsAsked t self.old ask.now files.old }
         requires apart { AreApart self.old.tree.dirs files.old pool.old }
         ensures ok { IfOk result (λ s. (t : PosixTree) → IsAsked t self.old ask.now files.old → IsServed t ask.now self.new files.old files.new s.reply s.desc) }
-        ensures space { KeepsSpace self.old self.new files.old files.new pool.old pool.new }
+        ensures space { OnOk result (KeepsSpace self.old self.new files.old files.new pool.old pool.new) }
         ensures cause { IfErr result (IsCause self.old.tree.dirs pool.old ask.now.op) }
-        ensures due { OnErr result ((t : PosixTree) → IsAsked t self.old ask.now files.old → MayServe t ask.now) }
+        ensures fits { IfErr result (λ x. (t : PosixTree) → IsAsked t self.old ask.now files.old → ExcuseFits t ask.now.client ask.now.op x) }
         ensures err { OnErr result (self.new ≡ self.old) }
         ensures err_files { OnErr result (files.new ≡ files.old) }
         ensures err_pool { OnErr result (pool.new ≡ pool.old) }

@@ -41,6 +41,7 @@ impl Names {
         requires unheld { map.get self.old.held self.old.next ≡ None }
         requires absent { map.get files.old self.old.next ≡ None }
         requires inodes { AreInodesOf self.old.tree self.old.held }
+        requires numbered { (i : ℕ) → look.found ≡ Some (met.File i) → IsSome (file_at self.old.tree i) }
         requires here { trunc ≡ true → (i f : ℕ) → look.found ≡ Some (met.File i) → file_at self.old.tree i ≡ Some f → IsSome (map.get files.old f) }
         requires apart { AreApart self.old.tree.dirs files.old pool.old }
         ensures file { IfOk result (λ file. file ≡ file_named (option_map (node_of self.old.tree) look.found) self.old.next) }

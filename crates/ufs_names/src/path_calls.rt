@@ -14,13 +14,14 @@ use ufs_model::{Ask, Desc, Errno, Excuse, Node, Op, Reply, a_request_keeps_the_t
 use ufs_path::PathText;
 
 impl Names {
-    ghost use Rattle.std.specs.Prelude.{◌≡◌, ◌≢◌, ◌<◌, ◌^◌, ℕ, List, [], Some, None, IsSome, IfOk, IfErr, OnOk, OnErr};
+    ghost use Rattle.std.specs.Prelude.{◌≡◌, ◌≢◌, ◌<◌, ◌^◌, ℕ, List, [], Some, None, IsSome, IfOk, IfErr, OnOk, OnErr, length};
     ghost use Rattle.std.specs.Option.{option_map};
     ghost use Rattle.std.specs.FinMap as map;
     ghost use Rattle.ufs_dir_tree.specs.DirTable.{found_at};
     ghost use Rattle.ufs_dir_tree.specs.DirCalls.{names_above, MayGo, LacksSpace};
     ghost use Rattle.ufs_dir_tree.specs.declared.found.Found.TheVariants as met;
-    ghost use Rattle.ufs_model.specs.Asks.{IsAsk};
+    ghost use Rattle.ufs_file.specs.Hand.{FileState};
+    ghost use Rattle.ufs_model.specs.Excuses.{ExcuseFits};
     ghost use Rattle.ufs_model.specs.Paths.{components};
     ghost use Rattle.ufs_model.specs.PosixTree.{PosixTree};
     ghost use Rattle.ufs_model.specs.Posix.{answer};
@@ -52,6 +53,7 @@ impl Names {
         ensures space { OnOk result (KeepsSpace self.old self.new files.old files.new pool.old pool.new) }
         ensures cause { IfErr result (IsCause self.old.tree.dirs pool.old ask.now.op) }
         ensures due { OnErr result ((t : PosixTree) → IsAsked t self.old ask.now files.old → own_refusal t ask.now.client ask.now.op ≡ None → MayServe t ask.now) }
+        ensures fits { IfErr result (λ x. (t : PosixTree) → IsAsked t self.old ask.now files.old → own_refusal t ask.now.client ask.now.op ≡ None → ExcuseFits t ask.now.client ask.now.op x) }
         ensures err { OnErr result (self.new ≡ self.old) }
         ensures err_files { OnErr result (files.new ≡ files.old) }
         ensures err_pool { OnErr result (pool.new ≡ pool.old) }
@@ -87,7 +89,6 @@ impl Names {
 
     /// A file's size, or the number of a directory's entries.
     fn stat(&self, found: Option<Found>, files: &FileHands) -> Reply
-        requires here { (i f : ℕ) → found ≡ Some (met.File i) → file_at self.now.tree i ≡ Some f → IsSome (map.get files.now f) }
         ensures { IsStat self.now files.now found result }
     {
         match found {
@@ -98,6 +99,19 @@ impl Names {
                 size: self.size(inode, files),
             },
             None => Reply::Done,
+        }
+    }
+
+    /// How many bytes the file of this inode has, where its hand is here.
+    fn size(&self, inode: u32, files: &FileHands) -> u64
+        ensures { (f : ℕ) (s : FileState) → file_at self.now.tree inode ≡ Some f → map.get files.now f ≡ Some s → result ≡ length s.content.bytes }
+    {
+        let Some(file) = self.tree.file(inode) else {
+            return 0;
+        };
+        match files.get(file) {
+            Some(hand) => hand.size(),
+            None => 0,
         }
     }
 
@@ -142,10 +156,10 @@ impl Names {
                 }
                 None => unreachable!(),
             },
-            Op::Mkdir { .. } => {
-                self.add_dir(look.dir, path, pool, files)?;
-                Ok(None)
-            }
+            Op::Mkdir { .. } => match self.add_dir(look.dir, path, pool, files) {
+                Ok(()) => Ok(None),
+                Err(excuse) => Err(excuse),
+            },
             Op::Rmdir { .. } => {
                 self.remove_name(look, path, files, pool);
                 Ok(None)
@@ -154,7 +168,9 @@ impl Names {
                 self.remove_name(look, path, files, pool);
                 Ok(None)
             }
-            _ => Ok(None),
+            Op::Stat { .. } => Ok(None),
+            Op::List { .. } => Ok(None),
+            _ => unreachable!(),
         }
     }
 
@@ -172,10 +188,8 @@ impl Names {
         ensures err_pool { OnErr result (pool.new ≡ pool.old) }
     {
         let _ = files;
-        match self.tree.add_dir(dir, path, pool) {
-            Ok(_) => Ok(()),
-            Err(excuse) => Err(excuse),
-        }
+        self.tree.add_dir(dir, path, pool)?;
+        Ok(())
     }
 
     /// A name goes, and with it the file that nothing keeps any more.
@@ -191,6 +205,8 @@ impl Names {
         ensures removed { Removes self.old self.new files.old files.new path.now }
         ensures space { KeepsSpace self.old self.new files.old files.new pool.old pool.new }
     {
+        // A file that was met has its number.
+        self.tree.is_table();
         self.tree.remove(look.dir, path, pool);
         self.forget_name(look.found, files, pool);
     }

@@ -19,3 +19,6 @@ invariant_of-self c = by c.add.result c.add.ensures.ok c.add.ensures.inode c.add
     by (Ok i) sets takes spends same =
         added_dir t c.add.new.self c.self.invariant c.add.ensures.table c.add.ensures.inodes c.args.path.now (names_above c.args.path.now) c.args.pool.now c.add.new.pool i takes spends sets
     by (Err x) sets takes spends same = subst (λ (dirs : DirTable). IsNameTable (record { dirs = dirs; files = t.files })) (sym same) c.self.invariant
+
+pub returns-clause-table : goal.returns-clause-table
+returns-clause-table c = invariant_of-self c

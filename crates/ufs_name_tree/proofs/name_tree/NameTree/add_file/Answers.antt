@@ -19,3 +19,6 @@ returns-in-Ok-clause-ok c =
     let t : NameTable = record { dirs = c.self.inside.dirs; files = c.self.inside.files.items } in
     file_added t c.add.new.self c.self.invariant c.in-Ok.ensures.table c.in-Ok.ensures.inodes c.in-Ok.inode c.args.file c.in-Ok.ensures.inode c.args.path.now (names_above c.args.path.now) c.args.pool.now c.add.new.pool c.in-Ok.ensures.block c.in-Ok.ensures.ok
     c.args.self.now c.self.view_is
+
+pub returns-in-Ok-clause-table : goal.returns-in-Ok-clause-table
+returns-in-Ok-clause-table c = invariant_of-self c

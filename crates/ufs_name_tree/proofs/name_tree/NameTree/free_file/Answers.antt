@@ -23,3 +23,6 @@ returns-clause-pool c =
     let t : NameTable = record { dirs = c.self.inside.dirs; files = c.self.inside.files.items } in
     pool_same t c.free_inode.new.self c.self.invariant c.free_inode.ensures.table c.args.inode (some t c.args.self.now c.args.inode c.self.view_is c.requires.file) c.args.pool.now c.free_inode.new.pool c.free_inode.ensures.freed
     (unmet t c.args.self.now c.args.inode c.self.view_is c.requires.unmet) c.free_inode.ensures.found
+
+pub returns-clause-table : goal.returns-clause-table
+returns-clause-table c = invariant_of-self c

@@ -7,3 +7,6 @@ pub invariant_of-self : goal.invariant_of-self
 invariant_of-self c =
     let t : NameTable = record { dirs = c.self.inside.dirs; files = c.self.inside.files.items } in
     removed t c.remove.new.self c.self.invariant c.remove.ensures.table c.remove.ensures.inodes c.args.path.now c.args.pool.now c.remove.new.pool c.remove.ensures.found c.remove.ensures.freed
+
+pub returns-clause-table : goal.returns-clause-table
+returns-clause-table c = invariant_of-self c

@@ -34,3 +34,6 @@ returns-clause-ok c = on_ok_weaker c.rename.result all_moved c.rename.ensures.ok
 
     all_moved : MovesFounds (found_at t.dirs) (found_at u.dirs) c.args.from.now c.args.to.now → MovesNodes (node_at c.args.self.now) (node_at u) c.args.from.now c.args.to.now
     all_moved moves = subst (λ (before : NameTable). MovesNodes (node_at before) (node_at u) c.args.from.now c.args.to.now) c.self.view_is (moves_nodes t u (λ names i at. refl) c.args.from.now c.args.to.now moves)
+
+pub returns-clause-table : goal.returns-clause-table
+returns-clause-table c = invariant_of-self c

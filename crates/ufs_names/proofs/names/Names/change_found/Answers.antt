@@ -1,64 +1,86 @@
-use Rattle.std.proofs.Common.{ap, ◌∙◌}
-use Rattle.ufs_calls.specs.Modes.{mode_of}
-use Rattle.ufs_model.specs.Descriptors.{desc_of}
-use Rattle.ufs_names.proofs.PathConditions.{file_found, mkdir_may, open_may, rmdir_may, unlink_may}
-use Rattle.ufs_names.proofs.PathChanges.{served_mkdir, served_rmdir, served_unlink, served_open}
+use Rattle.std.proofs.Common.{◌≡◌, ℕ, List, Option, Some, None, is_some, ap, refl, sym, subst, ◌∙◌}
+use Rattle.std.specs.Prelude.{slice_index_or}
+use Rattle.std.specs.FinMap as map
+use Rattle.ufs_calls.specs.Modes.{mode_asked, mode_of}
+use Rattle.ufs_model.specs.Descriptors.{Mode, desc_of}
+use Rattle.ufs_model.specs.declared.data.Op.TheVariants as op
+use Rattle.ufs_model.proofs.Facts.Lookups.{same_some}
+use Rattle.ufs_names.specs.NamesPart.{NamesPart}
+use Rattle.ufs_names.proofs.CauseLemmas.{cause_mkdir}
+use Rattle.ufs_names.proofs.FileLemmas.{next_absent}
+use Rattle.ufs_names.proofs.PathConditions.{mkdir_may, named, rmdir_may, unlink_may}
+use Rattle.ufs_names.proofs.PathChanges.{emptied_here, rmdir_here, unlink_here, served_list, served_mkdir, served_open, served_rmdir, served_stat, served_unlink}
 use Rattle.ufs_names.proofs.names.Names.change_found.Goals as goal
 
-pub open-requires-clause-parent : goal.open-requires-clause-parent
-open-requires-clause-parent c none =
+pub open-requires-clause-absent : goal.open-requires-clause-absent
+open-requires-clause-absent c =
+    let a = c.requires.allowed in
+    ap (map.get c.args.files.now) a.1.all.part.next ∙ next_absent a.0 a.0 a.1.all.part.tree c.args.files.now c.args.files.now a.1.all.files
+
+pub open-requires-clause-here : goal.open-requires-clause-here
+open-requires-clause-here c cut i f at numbered =
     let a = c.requires.allowed in
     let o = c.in-OpenFile in
-    (open_may c.args.self.now a.0 c.args.ask.now c.args.path.now c.args.found a.1 o.path o.read o.write o.creat o.excl o.trunc o.append o.is none).parent
-
-pub open-requires-clause-held : goal.open-requires-clause-held
-open-requires-clause-held c f at = let a = c.requires.allowed in (file_found c.args.self.now a.0 c.args.ask.now c.args.path.now c.args.found a.1 f at).1
-
-pub open-requires-clause-bytes : goal.open-requires-clause-bytes
-open-requires-clause-bytes c f at = let a = c.requires.allowed in (file_found c.args.self.now a.0 c.args.ask.now c.args.path.now c.args.found a.1 f at).0
+    let s = emptied_here c.a_request_keeps_the_tree.ensures c.args.self.now c.args.files.now a.0 c.args.ask.now c.args.path.now c.args.look.found a.1 c.args.self.now c.args.files.now o.path o.read o.write o.creat o.excl o.trunc o.append o.is i f at numbered (sym (ap (λ (m : Mode). m.trunc) (same_some (mode_of c.in-Some.mode) _ (c.in-Some.ensures ∙ ap mode_asked o.is))) ∙ cut) in
+    ap is_some s.1
 
 pub returns-in_ok-file-in-Some-clause-ok : goal.returns-in_ok-file-in-Some-clause-ok
 returns-in_ok-file-in-Some-clause-ok c t is =
     let o = c.in-OpenFile in
     let done = c.in_ok-file-in-Some.ensures in
-    served_open c.a_request_keeps_the_tree.ensures c.args.self.now t c.args.ask.now c.args.path.now c.args.found is c.open.new.self o.path o.read o.write o.creat o.excl o.trunc o.append o.is c.requires.client
-    (mode_of c.in-Some.mode) c.in-Some.ensures done.dirs done.clients done.ok c.desc.result (c.desc.ensures ∙ ap (desc_of (mode_of c.in-Some.mode)) done.file)
-
-pub add_dir-requires-clause-parent : goal.add_dir-requires-clause-parent
-add_dir-requires-clause-parent c = let a = c.requires.allowed in (mkdir_may c.args.self.now a.0 c.args.ask.now c.args.path.now c.args.found a.1 c.in-Mkdir.path c.in-Mkdir.is).parent
+    served_open c.a_request_keeps_the_tree.ensures c.args.self.now c.args.files.now t c.args.ask.now c.args.path.now c.args.look.found is c.open.new.self c.open.new.files o.path o.read o.write o.creat o.excl o.trunc o.append o.is c.requires.client
+    (mode_of c.in-Some.mode) c.in-Some.ensures done.nodes done.clients done.ok c.desc.result (c.desc.ensures ∙ ap (desc_of (mode_of c.in-Some.mode)) done.file)
 
 pub add_dir-requires-clause-absent : goal.add_dir-requires-clause-absent
-add_dir-requires-clause-absent c = let a = c.requires.allowed in (mkdir_may c.args.self.now a.0 c.args.ask.now c.args.path.now c.args.found a.1 c.in-Mkdir.path c.in-Mkdir.is).absent
+add_dir-requires-clause-absent c = let a = c.requires.allowed in (mkdir_may c.args.self.now c.args.files.now a.0 c.args.ask.now c.args.path.now c.args.look.found a.1 c.in-Mkdir.path c.in-Mkdir.is).absent
 
-pub returns-in_ok-add_dir-in-Mkdir-clause-ok : goal.returns-in_ok-add_dir-in-Mkdir-clause-ok
-returns-in_ok-add_dir-in-Mkdir-clause-ok c t is =
-    let done = c.in_ok-add_dir-in-Mkdir.ensures in
-    served_mkdir c.a_request_keeps_the_tree.ensures c.args.self.now t c.args.ask.now c.args.path.now c.args.found is c.add_dir.new.self c.in-Mkdir.path c.in-Mkdir.is done.dirs done.ok
+pub returns-in-Err-clause-cause : goal.returns-in-Err-clause-cause
+returns-in-Err-clause-cause c =
+    let a = c.requires.allowed in
+    let absent = (mkdir_may c.args.self.now c.args.files.now a.0 c.args.ask.now c.args.path.now c.args.look.found a.1 c.in-Mkdir.path c.in-Mkdir.is).absent in
+    let at = named c.args.self.now c.args.files.now a.0 c.args.ask.now c.args.path.now c.args.look.found a.1 (op.Mkdir c.in-Mkdir.path) c.in-Mkdir.is c.in-Mkdir.path refl in
+    cause_mkdir c.args.self.now.tree.dirs c.args.pool.now c.args.path.now c.in-Mkdir.path at c.in-Err.excuse c.args.ask.now.op c.in-Mkdir.is absent c.in-Err.ensures.cause
+
+pub returns-in-Ok-clause-ok : goal.returns-in-Ok-clause-ok
+returns-in-Ok-clause-ok c t is =
+    let done = c.in-Ok.ensures in
+    served_mkdir c.a_request_keeps_the_tree.ensures c.args.self.now c.args.files.now t c.args.ask.now c.args.path.now c.args.look.found is c.add_dir.new.self c.args.files.now c.in-Mkdir.path c.in-Mkdir.is done.nodes (record {
+      held = ap (λ (n : NamesPart). n.held) done.ok;
+      next = ap (λ (n : NamesPart). n.next) done.ok;
+      stays = record { numbers = λ i. ap (λ (l : List (Option ℕ)). slice_index_or l i None) c.add_dir.ensures.files; files = refl };
+    })
 
 pub remove_name-requires-clause-stands : goal.remove_name-requires-clause-stands
-remove_name-requires-clause-stands c = let a = c.requires.allowed in (rmdir_may c.args.self.now a.0 c.args.ask.now c.args.path.now c.args.found a.1 c.in-Rmdir.path c.in-Rmdir.is).0.there
+remove_name-requires-clause-stands c = let a = c.requires.allowed in (rmdir_may c.args.self.now c.args.files.now a.0 c.args.ask.now c.args.path.now c.args.look.found a.1 c.in-Rmdir.path c.in-Rmdir.is).0.there
 
 pub remove_name-requires-clause-may_go : goal.remove_name-requires-clause-may_go
-remove_name-requires-clause-may_go c = let a = c.requires.allowed in (rmdir_may c.args.self.now a.0 c.args.ask.now c.args.path.now c.args.found a.1 c.in-Rmdir.path c.in-Rmdir.is).1
+remove_name-requires-clause-may_go c = let a = c.requires.allowed in (rmdir_may c.args.self.now c.args.files.now a.0 c.args.ask.now c.args.path.now c.args.look.found a.1 c.in-Rmdir.path c.in-Rmdir.is).1
 
-pub remove_name-requires-clause-held : goal.remove_name-requires-clause-held
-remove_name-requires-clause-held c f at = let a = c.requires.allowed in (file_found c.args.self.now a.0 c.args.ask.now c.args.path.now c.args.found a.1 f at).1
+pub remove_name-requires-clause-here : goal.remove_name-requires-clause-here
+remove_name-requires-clause-here c = let a = c.requires.allowed in rmdir_here c.a_request_keeps_the_tree.ensures c.args.self.now c.args.files.now a.0 c.args.ask.now c.args.path.now c.args.look.found a.1 c.args.self.now c.args.files.now c.in-Rmdir.path c.in-Rmdir.is
+
+pub remove_name-requires-in-Unlink-clause-stands : goal.remove_name-requires-in-Unlink-clause-stands
+remove_name-requires-in-Unlink-clause-stands c = let a = c.requires.allowed in (unlink_may c.args.self.now c.args.files.now a.0 c.args.ask.now c.args.path.now c.args.look.found a.1 c.in-Unlink.path c.in-Unlink.is).0.there
+
+pub remove_name-requires-in-Unlink-clause-may_go : goal.remove_name-requires-in-Unlink-clause-may_go
+remove_name-requires-in-Unlink-clause-may_go c = let a = c.requires.allowed in (unlink_may c.args.self.now c.args.files.now a.0 c.args.ask.now c.args.path.now c.args.look.found a.1 c.in-Unlink.path c.in-Unlink.is).1
+
+pub remove_name-requires-in-Unlink-clause-here : goal.remove_name-requires-in-Unlink-clause-here
+remove_name-requires-in-Unlink-clause-here c = let a = c.requires.allowed in unlink_here c.a_request_keeps_the_tree.ensures c.args.self.now c.args.files.now a.0 c.args.ask.now c.args.path.now c.args.look.found a.1 c.args.self.now c.args.files.now c.in-Unlink.path c.in-Unlink.is
 
 pub returns-in-Rmdir-clause-ok : goal.returns-in-Rmdir-clause-ok
 returns-in-Rmdir-clause-ok c t is =
-    let done = c.remove_name.ensures in
-    served_rmdir c.a_request_keeps_the_tree.ensures c.args.self.now t c.args.ask.now c.args.path.now c.args.found is c.remove_name.new.self done.dirs done.settled c.in-Rmdir.path c.in-Rmdir.is
-
-pub remove_name-requires-in-Unlink-clause-stands : goal.remove_name-requires-in-Unlink-clause-stands
-remove_name-requires-in-Unlink-clause-stands c = let a = c.requires.allowed in (unlink_may c.args.self.now a.0 c.args.ask.now c.args.path.now c.args.found a.1 c.in-Unlink.path c.in-Unlink.is).0.there
-
-pub remove_name-requires-in-Unlink-clause-may_go : goal.remove_name-requires-in-Unlink-clause-may_go
-remove_name-requires-in-Unlink-clause-may_go c = let a = c.requires.allowed in (unlink_may c.args.self.now a.0 c.args.ask.now c.args.path.now c.args.found a.1 c.in-Unlink.path c.in-Unlink.is).1
-
-pub remove_name-requires-in-Unlink-clause-held : goal.remove_name-requires-in-Unlink-clause-held
-remove_name-requires-in-Unlink-clause-held c f at = let a = c.requires.allowed in (file_found c.args.self.now a.0 c.args.ask.now c.args.path.now c.args.found a.1 f at).1
+    served_rmdir c.a_request_keeps_the_tree.ensures c.args.self.now c.args.files.now t c.args.ask.now c.args.path.now c.args.look.found is c.remove_name.new.self c.remove_name.new.files c.remove_name.ensures.removed c.in-Rmdir.path c.in-Rmdir.is
 
 pub returns-in-Unlink-clause-ok : goal.returns-in-Unlink-clause-ok
 returns-in-Unlink-clause-ok c t is =
-    let done = c.remove_name-in-Unlink.ensures in
-    served_unlink c.a_request_keeps_the_tree.ensures c.args.self.now t c.args.ask.now c.args.path.now c.args.found is c.remove_name-in-Unlink.new.self done.dirs done.settled c.in-Unlink.path c.in-Unlink.is
+    served_unlink c.a_request_keeps_the_tree.ensures c.args.self.now c.args.files.now t c.args.ask.now c.args.path.now c.args.look.found is c.remove_name-in-Unlink.new.self c.remove_name-in-Unlink.new.files c.remove_name-in-Unlink.ensures.removed c.in-Unlink.path c.in-Unlink.is
+    (unlink_here c.a_request_keeps_the_tree.ensures c.args.self.now c.args.files.now t c.args.ask.now c.args.path.now c.args.look.found is c.args.self.now c.args.files.now c.in-Unlink.path c.in-Unlink.is)
+
+pub returns-in-Stat-clause-ok : goal.returns-in-Stat-clause-ok
+returns-in-Stat-clause-ok c t is =
+    served_stat c.a_request_keeps_the_tree.ensures c.args.self.now c.args.files.now t c.args.ask.now c.args.path.now c.args.look.found is c.args.self.now c.args.files.now c.in-Stat.path c.in-Stat.is
+
+pub returns-in-List-clause-ok : goal.returns-in-List-clause-ok
+returns-in-List-clause-ok c t is =
+    served_list c.a_request_keeps_the_tree.ensures c.args.self.now c.args.files.now t c.args.ask.now c.args.path.now c.args.look.found is c.args.self.now c.args.files.now c.in-List.path c.in-List.is

@@ -1,0 +1,5 @@
+//! Tests of a tree's names: what no clause says, and each call once.
+#![tactic(auto)]
+
+#[cfg(test)]
+mod names;
