@@ -80,7 +80,7 @@ fn a_session_goes_on_after_an_excuse(rt: HostRuntime) -> Result<(), Fail> {
     let session = serve(alloc, &mut server, script(alloc, text)?.clients);
     assert!(rt; session.ended == Ok(()));
     let told = lines(alloc, &session)?;
-    let wanted = "0.0 fd 3\n0.1 err ENOSPC\n0.2 count 1\n0.3 ok\n0.4 ok\n0.5 fd 3\n0.6 count 1\n";
+    let wanted = "0.0 fd 3\n0.1 err ENOSPC\n0.2 n 1\n0.3 ok\n0.4 ok\n0.5 fd 3\n0.6 n 1\n";
     assert!(rt; told.as_slice() == wanted.as_bytes());
     assert_eq!(rt; server.free_blocks(), 0);
     Ok(())
