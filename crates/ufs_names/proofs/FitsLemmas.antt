@@ -22,7 +22,7 @@ use Rattle.ufs_names.proofs.NameLists.{AreNames}
 
 -- a request that adds a name where the directory may be full needs a block
 needs_one : (t : PosixTree) (client : ℕ) (request : Op) → adds_name t request ≡ true → may_be_full t (grown_dir request) ≡ true → needed t client request ≡ 1
-needs_one t client request adds full = by (adds_name t request) (may_be_full t (grown_dir request)) adds full
+needs_one t client request adds full = by (adds_name t request) (may_be_full t (grown_dir request)) _ adds full
   where
     by : (a b : Bool) (other : ℕ) → a ≡ true → b ≡ true → cond a (cond b 1 0) other ≡ 1
     by true true other p q = refl
@@ -42,20 +42,36 @@ module _ (n : NamesPart) (t : PosixTree) (part : IsPartOf n t) (table : IsNameTa
   room_told (excuse.Device fault) listed cause = tt
   room_told (excuse.Stopped fault) listed cause = tt
   room_told (excuse.Blocks need had) listed cause = (cause.1.needed ∙ sym (needs_block listed cause.0), cause.1.fewer)
-  room_told excuse.Inodes listed cause = cc
+  room_told excuse.Inodes listed cause = absurd cause
   room_told (excuse.Extents need) listed cause =
       let most = one_extent_more n.tree.dirs i need pool table.table cause.1 in
       let one = needs_block listed cause.0 in
       (cause.1.more, omega (arith, most, one))
 
-  pub space_told : (x : Excuse) → (x ≢ excuse.Inodes → IsListed (dir_at n.tree.dirs i)) → (x ≡ excuse.Inodes → makes_node t request ≡ true) → IsSpaceCause n.tree.dirs i pool x → IsExcuseOf t client request x
+  pub space_told : (x : Excuse) → (x ≢ excuse.Memory → x ≢ excuse.Inodes → IsListed (dir_at n.tree.dirs i)) → (x ≡ excuse.Inodes → makes_node t request ≡ true) → IsSpaceCause n.tree.dirs i pool x → IsExcuseOf t client request x
   space_told excuse.Memory listed makes cause = tt
   space_told (excuse.Device fault) listed makes cause = tt
   space_told (excuse.Stopped fault) listed makes cause = tt
-  space_told (excuse.Blocks need had) listed makes cause = room_told (excuse.Blocks need had) (listed (λ e. cc)) cause.1
+  space_told (excuse.Blocks need had) listed makes cause = room_told (excuse.Blocks need had) (listed (λ e. cc) (λ e. cc)) cause.1
   space_told excuse.Inodes listed makes cause = makes refl
-  space_told (excuse.Extents need) listed makes cause = room_told (excuse.Extents need) (listed (λ e. cc)) cause.1
+  space_told (excuse.Extents need) listed makes cause = room_told (excuse.Extents need) (listed (λ e. cc) (λ e. cc)) cause.1
 
--- want of memory excuses any request
+-- a request that isn't refused, and is excused so
+pub fits_told : (t : PosixTree) (client : ℕ) (request : Op) (x : Excuse) → refusal t client request ≡ None → IsExcuseOf t client request x → ExcuseFits t client request x
+fits_told t client request x allowed told = record { due = λ _. allowed; told = told }
+
+-- want of memory excuses anything
+pub fits_memory : (t : PosixTree) (client : ℕ) (request : Op) (x : Excuse) → x ≡ excuse.Memory → ExcuseFits t client request x
+fits_memory t client request x is = subst (ExcuseFits t client request) (sym is) (record { due = λ e. cc; told = tt })
+
+-- either memory is wanting, or not
+pub by_memory : (t : PosixTree) (client : ℕ) (request : Op) (x : Excuse) → (x ≢ excuse.Memory → ExcuseFits t client request x) → ExcuseFits t client request x
+by_memory t client request excuse.Memory other = fits_memory t client request excuse.Memory refl
+by_memory t client request (excuse.Device fault) other = other (λ e. cc)
+by_memory t client request (excuse.Stopped fault) other = other (λ e. cc)
+by_memory t client request (excuse.Blocks need had) other = other (λ e. cc)
+by_memory t client request excuse.Inodes other = other (λ e. cc)
+by_memory t client request (excuse.Extents need) other = other (λ e. cc)
+
 pub memory_fits : (t : PosixTree) (client : ℕ) (request : Op) → ExcuseFits t client request excuse.Memory
-memory_fits t client request = record { due = λ e. cc; told = tt }
+memory_fits t client request = fits_memory t client request excuse.Memory refl

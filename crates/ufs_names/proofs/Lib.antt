@@ -21,6 +21,7 @@ pub mod PartLemmas
 pub mod PathAnswers
 pub mod PathChanges
 pub mod PathConditions
+pub mod PathFits
 pub mod PathLemmas
 pub mod PathRefusals
 pub mod RefusedLemmas
@@ -36,3 +37,4 @@ pub mod StartLemmas
 pub mod UndoneLemmas
 pub mod UnnamedLemmas
 pub mod WalkLinks
+pub mod SyncLemmas

@@ -127,8 +127,8 @@ module _ (n : NamesPart) (t : PosixTree) (part : IsPartOf n t) (client : ℕ) (r
 
   -- by what was looked at, of the same names
   pub refused_by_look : (tree : NameTable) → tree ≡ n.tree → IsNameTable tree → refusal_by (node_at tree) [] names ≡ None → (found : Option Found) → found ≡ found_at tree.dirs names → (root entries : Bool) → IsTrue root ↔ (names ≡ [])
-      → (entries ≡ false) ↔ ((i : ℕ) → found ≡ Some (Dir i) → IsBare (slots_at n.tree.dirs i)) → (node : Option Node) → node ≡ option_map (node_of tree) found → (r : Option Errno) → r ≡ end_refusal root node entries request
+      → (entries ≡ false) ↔ ((i : ℕ) → found ≡ Some (Dir i) → IsBare (slots_at n.tree.dirs i)) → (stood : Option Node) → stood ≡ option_map (node_of tree) found → (r : Option Errno) → r ≡ end_refusal root stood entries request
       → refusal t client request ≡ r
-  refused_by_look tree same table passed found met root entries at_root told node node_is r is =
+  refused_by_look tree same table passed found met root entries at_root told stood stood_is r is =
       refused_by_end (subst (λ (d : NameTable). IsDirTable d.dirs) same table.table) (subst (λ (d : NameTable). refusal_by (node_at d) [] names ≡ None) same passed) found (met ∙ ap (λ (d : NameTable). found_at d.dirs names) same) root entries at_root told
-      ∙ ap (λ (o : Option Node). end_refusal root o entries request) (sym (node_is ∙ ap (λ (d : NameTable). option_map (node_of d) found) same)) ∙ sym is
+      ∙ ap (λ (o : Option Node). end_refusal root o entries request) (sym (stood_is ∙ ap (λ (d : NameTable). option_map (node_of d) found) same)) ∙ sym is

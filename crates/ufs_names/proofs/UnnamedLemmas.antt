@@ -16,7 +16,6 @@ use Rattle.ufs_name_tree.specs.Nodes.{SetsNode, MovesNodes}
 use Rattle.ufs_names.specs.NamesPart.{NamesPart, holding_of, is_kept, settled, without_name}
 use Rattle.ufs_names.specs.Steps.{KeepsFiles, LosesName, Settles}
 use Rattle.ufs_names.proofs.SpaceLemmas.{DirExchanges, block_spent, freed}
-use Rattle.ufs_names.proofs.StandsLemmas.{begin_or_not}
 
 -- ---- numbers
 

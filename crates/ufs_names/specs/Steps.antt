@@ -6,9 +6,6 @@ use Rattle.ufs_dir_tree.specs.declared.found.Found.{Found}
 use Rattle.ufs_dir_tree.specs.declared.found.Found.TheVariants.{Dir, File}
 use Rattle.ufs_file.specs.Hand.{FileState}
 use Rattle.ufs_files.specs.Files.{Files}
-use Rattle.ufs_model.specs.PosixTree.{PosixTree}
-use Rattle.ufs_model.specs.Refusals.{refusal}
-use Rattle.ufs_model.specs.declared.data.Ask.{Ask}
 use Rattle.ufs_model.specs.Walk.{file_of}
 use Rattle.ufs_name_tree.specs.NameTable.{file_at, node_at}
 use Rattle.ufs_name_tree.specs.Nodes.{SetsNode}
@@ -16,10 +13,6 @@ use Rattle.ufs_names.specs.NamesPart.{NamesPart, Holdings, unheld, holding_of, w
 use Rattle.ufs_names.specs.Calls.{HaveInodes, no_bytes}
 use Rattle.ufs_names.specs.Space.{AreApart, HaveTheSame}
 use Rattle.ufs_names.specs.declared.holding.Holding.{Holding}
-
--- the tree refuses the request for nothing
-abbrev pub MayServe : PosixTree → Ask → Type 0
-MayServe t ask = refusal t ask.client ask.op ≡ None
 
 -- Directories, files and pool stay apart and have together what they had, and files have the inodes that are told.
 pub record KeepsSpace (old new : NamesPart) (fs fs' : Files) (pool pool' : BlockSet) : Type 0 where

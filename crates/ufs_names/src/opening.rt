@@ -12,8 +12,8 @@ impl Names {
     ghost use Rattle.std.specs.Option.{option_map};
     ghost use Rattle.std.specs.FinMap as map;
     ghost use Rattle.ufs_calls.specs.Modes.{file_named};
-    ghost use Rattle.ufs_dir_tree.specs.DirTable.{found_at};
-    ghost use Rattle.ufs_dir_tree.specs.DirCalls.{names_above, LacksSpace};
+    ghost use Rattle.ufs_dir_tree.specs.DirTable.{dir_at, found_at};
+    ghost use Rattle.ufs_dir_tree.specs.DirCalls.{names_above, IsListed, LacksSpace};
     ghost use Rattle.ufs_dir_tree.specs.declared.found.Found.TheVariants as met;
     ghost use Rattle.ufs_model.specs.declared.data.Excuse.TheVariants as excuse;
     ghost use Rattle.ufs_model.specs.declared.data.Node.TheVariants as node;
@@ -50,6 +50,7 @@ impl Names {
         ensures clients { OnOk result ((i f : ℕ) → look.found ≡ Some (met.File i) → file_at self.old.tree i ≡ Some f → length (holding_of self.old.held f).clients ≡ 16) }
         ensures space { OnOk result (KeepsSpace self.old self.new files.old files.new pool.old pool.new) }
         ensures cause { IfErr result (λ x. x ≢ excuse.Memory → (look.found ≡ None) × LacksSpace self.old.tree.dirs pool.old (names_above path.now) x) }
+        ensures listed { IfErr result (λ x. x ≢ excuse.Memory → x ≢ excuse.Inodes → IsListed (dir_at self.old.tree.dirs look.dir)) }
         ensures err { OnErr result (self.new ≡ self.old) }
         ensures err_files { OnErr result (files.new ≡ files.old) }
         ensures err_pool { OnErr result (pool.new ≡ pool.old) }
@@ -90,6 +91,7 @@ impl Names {
         ensures nodes { OnOk result (SetsNode (node_at self.old.tree) (node_at self.new.tree) path.now (Some (node.File self.old.next))) }
         ensures space { OnOk result (KeepsSpace self.old self.new files.old files.new pool.old pool.new) }
         ensures cause { IfErr result (LacksSpace self.old.tree.dirs pool.old (names_above path.now)) }
+        ensures listed { IfErr result (λ x. x ≢ excuse.Memory → x ≢ excuse.Inodes → IsListed (dir_at self.old.tree.dirs dir)) }
         ensures err { OnErr result (self.new ≡ self.old) }
         ensures err_files { OnErr result (files.new ≡ files.old) }
         ensures err_pool { OnErr result (pool.new ≡ pool.old) }

@@ -17,16 +17,17 @@ impl Names {
     ghost use Rattle.std.specs.Prelude.{◌≡◌, ◌≢◌, ◌<◌, ◌^◌, ℕ, List, [], Some, None, IsSome, IfOk, IfErr, OnOk, OnErr, length};
     ghost use Rattle.std.specs.Option.{option_map};
     ghost use Rattle.std.specs.FinMap as map;
-    ghost use Rattle.ufs_dir_tree.specs.DirTable.{found_at};
-    ghost use Rattle.ufs_dir_tree.specs.DirCalls.{names_above, MayGo, LacksSpace};
+    ghost use Rattle.ufs_dir_tree.specs.DirTable.{dir_at, found_at};
+    ghost use Rattle.ufs_dir_tree.specs.DirCalls.{names_above, IsListed, MayGo, LacksSpace};
     ghost use Rattle.ufs_dir_tree.specs.declared.found.Found.TheVariants as met;
     ghost use Rattle.ufs_file.specs.Hand.{FileState};
-    ghost use Rattle.ufs_model.specs.Excuses.{ExcuseFits};
     ghost use Rattle.ufs_model.specs.Paths.{components};
     ghost use Rattle.ufs_model.specs.PosixTree.{PosixTree};
     ghost use Rattle.ufs_model.specs.Posix.{answer};
     ghost use Rattle.ufs_model.specs.Refusals.{own_refusal};
     ghost use Rattle.ufs_model.specs.Walk.{file_of};
+    ghost use Rattle.ufs_model.specs.Excuses.{ExcuseFits};
+    ghost use Rattle.ufs_model.specs.declared.data.Excuse.TheVariants as excuse;
     ghost use Rattle.ufs_model.specs.declared.data.Node.TheVariants as node;
     ghost use Rattle.ufs_name_tree.specs.NameTable.{file_at, node_at};
     ghost use Rattle.ufs_name_tree.specs.Nodes.{SetsNode};
@@ -34,7 +35,7 @@ impl Names {
     ghost use Rattle.ufs_names.specs.NamesPart.{IsPartOf, AreInodesOf};
     ghost use Rattle.ufs_names.specs.PathCalls.{path_asked, IsAllowed, IsStat, IsList};
     ghost use Rattle.ufs_names.specs.Space.{AreApart, IsCause};
-    ghost use Rattle.ufs_names.specs.Steps.{GoesHere, KeepsSpace, MayServe, Removes};
+    ghost use Rattle.ufs_names.specs.Steps.{GoesHere, KeepsSpace, Removes};
 
     /// A request on one path, whose text isn't refused.
     pub(crate) fn serve_path(
@@ -52,7 +53,6 @@ impl Names {
         ensures ok { IfOk result (λ s. (t : PosixTree) → IsAsked t self.old ask.now files.old → own_refusal t ask.now.client ask.now.op ≡ None → IsServed t ask.now self.new files.old files.new s.reply s.desc) }
         ensures space { OnOk result (KeepsSpace self.old self.new files.old files.new pool.old pool.new) }
         ensures cause { IfErr result (IsCause self.old.tree.dirs pool.old ask.now.op) }
-        ensures due { OnErr result ((t : PosixTree) → IsAsked t self.old ask.now files.old → own_refusal t ask.now.client ask.now.op ≡ None → MayServe t ask.now) }
         ensures fits { IfErr result (λ x. (t : PosixTree) → IsAsked t self.old ask.now files.old → own_refusal t ask.now.client ask.now.op ≡ None → ExcuseFits t ask.now.client ask.now.op x) }
         ensures err { OnErr result (self.new ≡ self.old) }
         ensures err_files { OnErr result (files.new ≡ files.old) }
@@ -70,8 +70,10 @@ impl Names {
         let Ok(reply) = self.answer_found(ask, look.found, files) else {
             return Err(Excuse::Memory);
         };
-        let desc = self.change_found(ask, path, look, files, pool)?;
-        Ok(Served { reply, desc })
+        match self.change_found(ask, path, look, files, pool) {
+            Ok(desc) => Ok(Served { reply, desc }),
+            Err(excuse) => Err(excuse),
+        }
     }
 
     /// The reply to a request that isn't refused.
@@ -142,6 +144,7 @@ impl Names {
         requires apart { AreApart self.old.tree.dirs files.old pool.old }
         ensures ok { IfOk result (λ desc. (t : PosixTree) → IsAllowed t ask.now self.old files.old path.now look.found → IsServed t ask.now self.new files.old files.new (answer t ask.now.client ask.now.op) desc) }
         ensures space { OnOk result (KeepsSpace self.old self.new files.old files.new pool.old pool.new) }
+        ensures fits { IfErr result (λ x. (t : PosixTree) → IsAllowed t ask.now self.old files.old path.now look.found → ExcuseFits t ask.now.client ask.now.op x) }
         ensures cause { IfErr result (IsCause self.old.tree.dirs pool.old ask.now.op) }
         ensures err { OnErr result (self.new ≡ self.old) }
         ensures err_files { OnErr result (files.new ≡ files.old) }
@@ -150,10 +153,10 @@ impl Names {
         a_request_keeps_the_tree();
         match &ask.op {
             Op::OpenFile { .. } => match Mode::of(&ask.op) {
-                Some(mode) => {
-                    let file = self.open(ask.client, path, look, mode.trunc, files, pool)?;
-                    Ok(Some(mode.desc(file)))
-                }
+                Some(mode) => match self.open(ask.client, path, look, mode.trunc, files, pool) {
+                    Ok(file) => Ok(Some(mode.desc(file))),
+                    Err(excuse) => Err(excuse),
+                },
                 None => unreachable!(),
             },
             Op::Mkdir { .. } => match self.add_dir(look.dir, path, pool, files) {
@@ -184,6 +187,7 @@ impl Names {
         ensures files { self.new.tree.files ≡ self.old.tree.files }
         ensures space { OnOk result (KeepsSpace self.old self.new files.now files.now pool.old pool.new) }
         ensures cause { IfErr result (LacksSpace self.old.tree.dirs pool.old (names_above path.now)) }
+        ensures listed { IfErr result (λ x. x ≢ excuse.Inodes → IsListed (dir_at self.old.tree.dirs dir)) }
         ensures err { OnErr result (self.new ≡ self.old) }
         ensures err_pool { OnErr result (pool.new ≡ pool.old) }
     {

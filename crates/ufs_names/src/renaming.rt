@@ -61,13 +61,13 @@ impl Names {
         a_request_keeps_the_tree();
         match self.rename_refusal(from, to) {
             Err(e) => Ok(refused(ask, e)),
-            Ok(step) => {
-                self.change_rename(from, to, step, files, pool)?;
-                Ok(Served {
+            Ok(step) => match self.change_rename(from, to, step, files, pool) {
+                Ok(()) => Ok(Served {
                     reply: Reply::Done,
                     desc: None,
-                })
-            }
+                }),
+                Err(excuse) => Err(excuse),
+            },
         }
     }
 

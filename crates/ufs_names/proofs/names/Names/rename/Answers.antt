@@ -1,6 +1,6 @@
 use Rattle.std.proofs.Common.{Some, None}
 use Rattle.ufs_names.proofs.RefusedLemmas.{served_refused}
-use Rattle.ufs_names.proofs.RenameServed.{texts, rename_refused, rename_here, rename_may, served_rename}
+use Rattle.ufs_names.proofs.RenameServed.{texts, rename_fits, rename_refused, rename_here, rename_may, served_rename}
 use Rattle.ufs_names.proofs.names.Names.rename.Goals as goal
 
 pub returns-in-Err-clause-ok : goal.returns-in-Err-clause-ok
@@ -10,6 +10,14 @@ returns-in-Err-clause-ok c t asked own =
     served_refused c.args.self.now t c.args.ask.now c.args.files.now c.in-Err.e c.refused.result.reply c.refused.result.desc asked.part asked.files asked.asked
     (rename_refused c.args.self.now t c.args.ask.now c.args.files.now asked p.0 p.1.0 p.1.1 own (Some c.in-Err.e) (c.in-Err.ensures.refused t p.0 p.1.0 asked.part text.0 text.1 p.1.2 p.1.3))
     c.refused.ensures.reply c.refused.ensures.desc
+
+pub returns-in-Err-change_rename-clause-fits : goal.returns-in-Err-change_rename-clause-fits
+returns-in-Err-change_rename-clause-fits c t asked own =
+    let p = c.requires.paths in
+    let text = texts c.args.self.now t c.args.ask.now c.args.files.now asked p.0 p.1.0 p.1.1 own in
+    let is = c.in-Err-change_rename.ensures in
+    rename_fits c.args.self.now t c.args.ask.now c.args.files.now asked p.0 p.1.0 p.1.1 own c.args.from.now c.args.to.now p.1.2 p.1.3 (c.in-Ok.ensures.passed t p.0 p.1.0 asked.part text.0 text.1 p.1.2 p.1.3)
+    c.in-Ok.ensures.table c.in-Ok.step.to.dir c.in-Ok.ensures.to_dir is.absent is.listed c.args.pool.now c.in-Err-change_rename.excuse is.cause
 
 pub change_rename-requires-clause-may : goal.change_rename-requires-clause-may
 change_rename-requires-clause-may c =
@@ -25,10 +33,10 @@ change_rename-requires-clause-here c other =
     let text = texts c.args.self.now a.0 c.args.ask.now c.args.files.now a.1 p.0 p.1.0 p.1.1 a.2 in
     rename_here c.args.self.now a.0 c.args.ask.now c.args.files.now a.1 p.0 p.1.0 p.1.1 a.2 c.args.from.now c.args.to.now p.1.2 p.1.3 (c.in-Ok.ensures.passed a.0 p.0 p.1.0 a.1.part text.0 text.1 p.1.2 p.1.3) other
 
-pub returns-in_ok-change_rename-in-Ok-clause-ok : goal.returns-in_ok-change_rename-in-Ok-clause-ok
-returns-in_ok-change_rename-in-Ok-clause-ok c t asked own =
+pub returns-in-Ok-change_rename-clause-ok : goal.returns-in-Ok-change_rename-clause-ok
+returns-in-Ok-change_rename-clause-ok c t asked own =
     let p = c.requires.paths in
     let text = texts c.args.self.now t c.args.ask.now c.args.files.now asked p.0 p.1.0 p.1.1 own in
-    let done = c.in_ok-change_rename-in-Ok.ensures in
+    let done = c.in-Ok-change_rename.ensures in
     served_rename c.args.self.now t c.args.ask.now c.args.files.now asked p.0 p.1.0 p.1.1 own c.args.from.now c.args.to.now p.1.2 p.1.3 (c.in-Ok.ensures.passed t p.0 p.1.0 asked.part text.0 text.1 p.1.2 p.1.3)
     c.a_request_keeps_the_tree.ensures c.change_rename.new.self c.change_rename.new.files done.same done.same_files done.moved done.loses

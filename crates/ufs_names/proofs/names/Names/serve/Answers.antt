@@ -1,0 +1,35 @@
+use Rattle.std.proofs.Common.{◌≡◌, Option, Some, ap, refl, sym, ◌∙◌}
+use Rattle.ufs_model.specs.declared.data.Excuse.TheVariants.{Memory}
+use Rattle.ufs_base.specs.Choices.{first_of}
+use Rattle.ufs_model.specs.Refusals.{tree_refusal}
+use Rattle.ufs_model.specs.declared.data.Errno.{Errno}
+use Rattle.ufs_names.proofs.FitsLemmas.{fits_memory}
+use Rattle.ufs_names.proofs.RefusedLemmas.{served_refused}
+use Rattle.ufs_names.proofs.SyncLemmas.{served_either}
+use Rattle.ufs_names.proofs.names.Names.serve.Goals as goal
+
+pub returns-in-Some-clause-ok : goal.returns-in-Some-clause-ok
+returns-in-Some-clause-ok c t asked =
+    let own = sym (c.own_refusal.ensures t c.args.ask.now.client asked.asked.desc asked.asked.fd) ∙ c.in-Some.is in
+    served_refused c.args.self.now t c.args.ask.now c.args.files.now c.in-Some.e c.refused.result.reply c.refused.result.desc asked.part asked.files asked.asked
+    (ap (λ (o : Option Errno). first_of o (tree_refusal t c.args.ask.now.client c.args.ask.now.op)) own)
+    c.refused.ensures.reply c.refused.ensures.desc
+
+pub returns-in_default-2-clause-fits : goal.returns-in_default-2-clause-fits
+returns-in_default-2-clause-fits c t asked = fits_memory t c.args.ask.now.client c.args.ask.now.op Memory refl
+
+pub returns-in_default-text-clause-fits : goal.returns-in_default-text-clause-fits
+returns-in_default-text-clause-fits c t asked = fits_memory t c.args.ask.now.client c.args.ask.now.op Memory refl
+
+pub rename-requires-clause-asked : goal.rename-requires-clause-asked
+rename-requires-clause-asked c = let a = c.requires.asked in (a.0, a.1, sym (c.own_refusal.ensures a.0 c.args.ask.now.client a.1.asked.desc a.1.asked.fd) ∙ c.in_default.is)
+
+pub serve_path-requires-clause-asked : goal.serve_path-requires-clause-asked
+serve_path-requires-clause-asked c = let a = c.requires.asked in (a.0, a.1, sym (c.own_refusal.ensures a.0 c.args.ask.now.client a.1.asked.desc a.1.asked.fd) ∙ c.in_default.is)
+
+pub close-requires-clause-asked : goal.close-requires-clause-asked
+close-requires-clause-asked c = let a = c.requires.asked in (a.0, a.1, sym (c.own_refusal.ensures a.0 c.args.ask.now.client a.1.asked.desc a.1.asked.fd) ∙ c.in_default.is)
+
+pub returns-in-Fsync-clause-ok : goal.returns-in-Fsync-clause-ok
+returns-in-Fsync-clause-ok c t asked =
+    served_either c.args.self.now t c.args.ask.now c.args.files.now asked c.in-Fsync.is (sym (c.own_refusal.ensures t c.args.ask.now.client asked.asked.desc asked.asked.fd) ∙ c.in_default.is)
