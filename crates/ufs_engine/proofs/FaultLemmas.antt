@@ -1,26 +1,23 @@
 -- An excuse of the names is for want of memory or room: no device is asked.
-use Rattle.std.proofs.Common.{◌≡◌, ℕ, List, [], ◌∷◌, ◌++◌, Bool, true, false, length, ◌-◌, take, drop, Option, Some, None, ap, refl, sym, subst, ◌∙◌}
+use Rattle.std.proofs.Common.{◌≡◌, ℕ, List, [], ◌∷◌, ◌++◌, false, length, ◌-◌, drop, Option, Some, None, ap, refl, sym, subst, ◌∙◌}
 use Rattle.std.specs.Option.{option_map}
-use Rattle.std.specs.FinMap as map
-use Rattle.std.specs.FinSet as set
 use Rattle.std.proofs.lemmas.List.{take-append-drop}
 use Rattle.ufs_bitmap.specs.Blocks.{BlockSet}
-use Rattle.ufs_dir_tree.specs.DirTable.{DirTable, found_at}
+use Rattle.ufs_dir_tree.specs.DirTable.{found_at}
 use Rattle.ufs_dir_tree.specs.DirCalls.{names_above}
 use Rattle.ufs_dir_tree.specs.declared.found.Found.{Found}
 use Rattle.ufs_dir_tree.specs.declared.found.Found.TheVariants.{Dir, File}
 use Rattle.ufs_file.specs.Hand.{FileState, IsExcusedFor}
 use Rattle.ufs_base.specs.Choices.{first_of}
-use Rattle.ufs_model.specs.Excuses.{is_memory, ExcuseFits}
-use Rattle.ufs_model.specs.Paths.{components, components_refusal, component_refusal, text_refusal, whole_path, is_root}
-use Rattle.ufs_model.specs.PosixTree.{PosixTree, has_dir}
+use Rattle.ufs_model.specs.Excuses.{ExcuseFits}
+use Rattle.ufs_model.specs.Paths.{components, components_refusal, component_refusal, text_refusal}
+use Rattle.ufs_model.specs.PosixTree.{PosixTree}
 use Rattle.ufs_model.specs.Refusals.{refusal, own_refusal, tree_refusal}
-use Rattle.ufs_model.specs.Walk.{walk_refusal, is_file}
+use Rattle.ufs_model.specs.Walk.{walk_refusal}
 use Rattle.ufs_model.specs.declared.data.Desc.{Desc}
 use Rattle.ufs_model.specs.declared.data.Errno.{Errno}
 use Rattle.ufs_model.specs.declared.data.Excuse.{Excuse}
 use Rattle.ufs_model.specs.declared.data.Excuse.TheVariants as excuse
-use Rattle.ufs_model.specs.declared.data.Node.{Node}
 use Rattle.ufs_model.specs.declared.data.Node.TheVariants as node
 use Rattle.ufs_model.specs.declared.data.Op.{Op}
 use Rattle.ufs_model.specs.declared.data.Op.TheVariants as op

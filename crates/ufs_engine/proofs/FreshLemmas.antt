@@ -1,5 +1,5 @@
 -- A server of a fresh image: the root alone, and each block of the data area is free.
-use Rattle.std.proofs.Common.{◌≡◌, ◌↔◌, ℕ, ◌+◌, ◌-◌, ◌<◌, ◌≤◌, ◌⊎◌, inl, inr, List, [], Bool, true, false, Some, None, is_some, ap, refl, sym, subst, arith, ◌∙◌}
+use Rattle.std.proofs.Common.{◌≡◌, ℕ, ◌-◌, ◌<◌, ◌≤◌, inl, inr, List, true, Some, is_some, ap, sym, subst, arith, ◌∙◌}
 use Rattle.std.specs.Ordering.{nat_cmp}
 use Rattle.std.specs.FinMap as map
 use Rattle.std.specs.FinMap.{get-empty}
@@ -9,8 +9,7 @@ use Rattle.ufs_bitmap.specs.Blocks.{BlockSet, run_set}
 use Rattle.ufs_bitmap.specs.Taking.{has}
 use Rattle.ufs_bitmap.proofs.SetLemmas.{empty_union, has-run_set}
 use Rattle.ufs_bitmap.proofs.TakingLemmas.{has-none, in_run}
-use Rattle.ufs_dir_tree.specs.DirTable as dir_table
-use Rattle.ufs_dir_tree.specs.DirTable.{DirTable, dir_at, no_dir}
+use Rattle.ufs_dir_tree.specs.DirTable.{dir_at, no_dir}
 use Rattle.ufs_dirs.specs.Directory.{Directory, has_block}
 use Rattle.ufs_extent.specs.Runs.{end_of}
 use Rattle.ufs_extent.specs.declared.Run.{Run}
@@ -21,7 +20,6 @@ use Rattle.ufs_files.proofs.MapLemmas.{blocks_none}
 use Rattle.ufs_layout.specs.Areas.{first_of_data}
 use Rattle.ufs_layout.specs.declared.geometry.Geometry.{Geometry}
 use Rattle.ufs_model.specs.PosixTree.{root_alone}
-use Rattle.ufs_names.specs.Calls.{HaveInodes}
 use Rattle.ufs_names.specs.NamesPart.{NamesPart, IsPartOf}
 use Rattle.ufs_names.specs.Space.{AreApart, HasBlock}
 use Rattle.ufs_engine.specs.Server.{ServerState, IsDataBlock, IsServerOf, IsSound}

@@ -1,12 +1,11 @@
 -- A server serves a request by one of its parts, and goes on with the tree.
-use Rattle.std.proofs.Common.{◌≡◌, ◌≢◌, ◌↔◌, ℕ, ◌⊎◌, inl, inr, Bool, true, false, ◌||◌, ◌&&◌, eqb, List, Option, Some, None, is_some, ap, refl, sym, subst, ◌∙◌}
+use Rattle.std.proofs.Common.{◌≡◌, ◌≢◌, ℕ, ◌⊎◌, inl, inr, Bool, true, false, ◌||◌, ◌&&◌, eqb, Option, Some, None, is_some, ap, refl, sym, subst, ◌∙◌}
 use Rattle.std.specs.Prelude.{IsSome}
 use Rattle.std.proofs.lemmas.Bool.{eq-eqb}
 use Rattle.std.specs.FinMap as map
-use Rattle.std.specs.FinSet as set
 use Rattle.ufs_bitmap.specs.Blocks.{BlockSet}
 use Rattle.ufs_file.specs.Hand.{FileState, IsFileOf, IsOf, IsPosix}
-use Rattle.ufs_files.specs.Files.{Files, AreFilesOf, blocks_at}
+use Rattle.ufs_files.specs.Files.{Files, AreFilesOf}
 use Rattle.ufs_files.proofs.MapLemmas.{one_or_apart}
 use Rattle.ufs_files.proofs.ExchangeLemmas.{Exchanges}
 use Rattle.ufs_model.specs.Asks.{IsAsk, IsDescAfter, desc_of_fd, fd_named, fd_told, file_in}
@@ -19,13 +18,13 @@ use Rattle.ufs_model.specs.declared.data.Op.{Op}
 use Rattle.ufs_model.specs.declared.data.Op.TheVariants as op
 use Rattle.ufs_model.specs.declared.data.Reply.{Reply}
 use Rattle.ufs_model.proofs.Facts.Live.{held_has}
-use Rattle.ufs_model.proofs.Facts.Lookups.{from_some, same_some, there_or_not}
+use Rattle.ufs_model.proofs.Facts.Lookups.{same_some}
 use Rattle.ufs_names.specs.Calls as calls
 use Rattle.ufs_names.specs.Calls.{IsAsked, IsOfNames, HaveInodes}
 use Rattle.ufs_names.specs.NamesPart.{NamesPart, IsPartOf}
-use Rattle.ufs_names.specs.Space.{AreApart, HasBlock, HaveTheSame}
+use Rattle.ufs_names.specs.Space.{AreApart, HaveTheSame}
 use Rattle.ufs_names.proofs.SpaceLemmas.{file_apart, file_together}
-use Rattle.ufs_engine.specs.Server.{ServerState, IsDataBlock, IsServerOf, IsServed, IsSound}
+use Rattle.ufs_engine.specs.Server.{ServerState, IsServerOf, IsServed, IsSound}
 
 -- a request on a file's descriptor tells of that descriptor
 pub told_named : (request : Op) (r : Reply) → is_on_file request ≡ true → fd_told request r ≡ fd_named request

@@ -1,8 +1,6 @@
-use Rattle.std.proofs.Common.{◌≡◌, ℕ, Some, ap, sym, subst, refl, ◌∙◌}
+use Rattle.std.proofs.Common.{ap, sym, subst, refl, ◌∙◌}
 use Rattle.std.specs.Prelude.{IsSome}
 use Rattle.std.specs.FinMap as map
-use Rattle.ufs_file.specs.Hand.{IsExcusedFor}
-use Rattle.ufs_model.specs.PosixTree.{PosixTree}
 use Rattle.ufs_model.proofs.Facts.Lookups.{from_some}
 use Rattle.ufs_engine.specs.Played.{tells_fault}
 use Rattle.ufs_engine.specs.Server.{ServerState, IsCauseOf, IsServerOf}
