@@ -21,6 +21,7 @@ CRATES = os.path.join(TOP, "crates")
 PLAIN = os.path.join(CRATES, "ufs_plain", "out", "ufs_plain")
 RUNS = 3
 REQUESTS = 65536  # the most that one client may have
+NODES = 4000  # an image has 4,095 inodes beside the root's, and an open file that no path names keeps its own
 SEED = 1
 
 
@@ -99,7 +100,7 @@ class Mix:
     def open_one(self):
         if len(self.open) == 64:
             return self.close()
-        if not self.files or self.rng.random() < 0.6:
+        if not self.files or (self.rng.random() < 0.6 and len(self.dirs) + len(self.files) < NODES):
             return self.make()
         return self.take_fd("open %s %s" % (self.rng.choice(self.files).path(), self.rng.choice(["r", "rw", "rw"])))
 
@@ -203,11 +204,12 @@ def many_directories():
 
 
 def one_directory():
-    """8,192 directories and 9,558 files in the root; each file is written and read."""
-    lines = ["mkdir /d%d" % i for i in range(8192)]
-    for i in range(9558):
-        lines += ["open /f%d rw creat" % i, "write 3 %s" % ("61" * 32), "open /f%d r creat" % i, "pread 4 64 0",
-                  "close 4", "close 3"]
+    """2,000 directories and 2,000 files in the root; each file is written and read five times."""
+    lines = ["mkdir /d%d" % i for i in range(2000)]
+    for _ in range(5):
+        for i in range(2000):
+            lines += ["open /f%d rw creat" % i, "write 3 %s" % ("61" * 32), "open /f%d r creat" % i, "pread 4 64 0",
+                      "close 4", "close 3"]
     return lines[:REQUESTS]
 
 

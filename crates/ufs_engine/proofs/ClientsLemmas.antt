@@ -6,16 +6,16 @@ use Rattle.std.specs.FinMap as map
 use Rattle.std.specs.FinMap.{get-empty}
 use Rattle.std.proofs.lemmas.Bool.{cases_eq, ne_eqb}
 use Rattle.std.proofs.lemmas.List.{length-append, append-nil, append_assoc}
-use Rattle.ufs_model.specs.History.{IsLegal, IsLegalFrom, IsInOrder, IsComplete, AreUnexcused, DoTicketsRise, AreTicketsOnce, tickets_of, goes_on, joined, entries_of, requests_of}
+use Rattle.ufs_model.specs.History.{IsLegal, IsLegalFrom, IsInOrder, IsComplete, DoTicketsRise, AreTicketsOnce, tickets_of, goes_on, joined, entries_of, requests_of}
 use Rattle.ufs_model.specs.PosixTree.{PosixTree, root_alone}
 use Rattle.ufs_model.proofs.Facts.Histories.{order_none}
 use Rattle.ufs_model.specs.declared.data.Entry.{Entry}
 use Rattle.ufs_model.specs.declared.data.Op.{Op}
 use Rattle.ufs_model.specs.declared.data.Actor.TheVariants.{Primary}
 use Rattle.ufs_engine.specs.declared.played.EndFault.{EndFault}
-use Rattle.ufs_engine.specs.Played.{transcript, AreServedBy, IsMerged, IsPlayed}
+use Rattle.ufs_engine.specs.Played.{transcript, AreServedBy, AreFaultless, IsMerged, IsPlayed}
+use Rattle.ufs_engine.specs.Server.{ServerState, IsServerOf}
 use Rattle.ufs_engine.specs.Serving.{tree_of, IsReached, IsNewcomer, GoesOn, IsDone}
-use Rattle.ufs_names.specs.NamesPart.{NamesPart, IsPartOf}
 
 get_here : {X : Type 0} (front : List X) (x : X) (rest : List X) → slice_get (front ++ x ∷ rest) (length front) ≡ Some x
 get_here [] x rest = refl
@@ -69,7 +69,7 @@ once_rising (e ∷ history) rising = (apart_from e.ticket history rising.0, once
 
 -- ---- all clients
 
-pub record AreServing (clients : List (List Op)) (told : List (List Entry)) (names : NamesPart) (count first : ℕ) (done rest : List (List Op)) : Type 0 where
+pub record AreServing (clients : List (List Op)) (told : List (List Entry)) (state : ServerState) (count first : ℕ) (done rest : List (List Op)) : Type 0 where
   pub whole : done ++ rest ≡ clients
   pub short : length clients ≤ 16
   pub counted : length done ≡ count
@@ -77,16 +77,16 @@ pub record AreServing (clients : List (List Op)) (told : List (List Entry)) (nam
   pub first_is : first ≡ length (joined told)
   pub few : length (joined told) ≤ count * 65536
   pub legal : IsLegal root_alone (joined told)
-  pub reached : IsReached (joined told) names
+  pub reached : IsReached (joined told) state
   pub ordered : IsInOrder clients (joined told)
-  pub unexcused : AreUnexcused (joined told)
+  pub faultless : AreFaultless (joined told)
   pub server : AreServedBy Primary (joined told)
   pub complete : (c : ℕ) → c < count → length (entries_of c (joined told)) ≡ length (requests_of clients c)
   pub each : (c : ℕ) → entries_of c (joined told) ≡ transcript told c
   pub fresh : (c fd : ℕ) → count ≤ c → map.get (tree_of (joined told)).fds (c, fd) ≡ None
 
-pub none_served : (clients : List (List Op)) (told : List (List Entry)) (names : NamesPart) → told ≡ [] → length clients ≤ 16 → IsPartOf names root_alone → AreServing clients told names 0 0 [] clients
-none_served clients told names none short part = subst (λ (l : List (List Entry)). AreServing clients l names 0 0 [] clients) (sym none) (record {
+pub none_served : (clients : List (List Op)) (told : List (List Entry)) (server : ServerState) → told ≡ [] → length clients ≤ 16 → IsServerOf server root_alone → AreServing clients told server 0 0 [] clients
+none_served clients told server none short part = subst (λ (l : List (List Entry)). AreServing clients l server 0 0 [] clients) (sym none) (record {
   whole = refl;
   short = short;
   counted = refl;
@@ -94,16 +94,16 @@ none_served clients told names none short part = subst (λ (l : List (List Entry
   first_is = refl;
   few = omega arith;
   legal = record { entries = tt; faults = tt };
-  reached = record { part = part; next = omega arith };
+  reached = record { is = part; next = omega arith };
   ordered = order_none clients;
-  unexcused = tt;
+  faultless = tt;
   server = tt;
   complete = λ c low. absurd (omega (arith, low));
   each = λ c. refl;
   fresh = λ c fd low. get-empty _ (c, fd);
 })
 
-module _ (clients : List (List Op)) (told : List (List Entry)) (names : NamesPart) (count first : ℕ) (done rest : List (List Op)) (is : AreServing clients told names count first done rest) where
+module _ (clients : List (List Op)) (told : List (List Entry)) (server : ServerState) (count first : ℕ) (done rest : List (List Op)) (is : AreServing clients told server count first done rest) where
   pub merged : IsMerged told (joined told)
   merged = record { rising = rising_from 0 root_alone (joined told) is.legal.entries; each = is.each }
 
@@ -137,13 +137,13 @@ module _ (clients : List (List Op)) (told : List (List Entry)) (names : NamesPar
     merged = merged;
     each = λ ok. each_told (none ok);
     legal = is.legal;
+    faultless = is.faultless;
     server = is.server;
     ordered = is.ordered;
     complete = λ ok. all_served (none ok);
-    unexcused = λ ok. is.unexcused;
   }
 
-module _ (clients : List (List Op)) (told : List (List Entry)) (names : NamesPart) (count first : ℕ) (done : List (List Op)) (requests : List Op) (rest : List (List Op)) (is : AreServing clients told names count first done (requests ∷ rest)) where
+module _ (clients : List (List Op)) (told : List (List Entry)) (server : ServerState) (count first : ℕ) (done : List (List Op)) (requests : List Op) (rest : List (List Op)) (is : AreServing clients told server count first done (requests ∷ rest)) where
   total : length clients ≡ count + 1 + length rest
   total = ap (λ (l : List (List Op)). length l) (sym is.whole) ∙ length-append done (requests ∷ rest) ∙ (let n = is.counted in omega (arith, n))
 
@@ -189,8 +189,11 @@ module _ (clients : List (List Op)) (told : List (List Entry)) (names : NamesPar
     pub server_more : AreServedBy Primary (joined (told ++ mine ∷ []))
     server_more = subst (AreServedBy Primary) (sym one_list) (goes.server is.server)
 
-    pub reached_more : (new_names : NamesPart) → IsReached (joined told ++ mine) new_names → IsReached (joined (told ++ mine ∷ [])) new_names
-    reached_more new_names left = subst (λ (h : List Entry). IsReached h new_names) (sym one_list) left
+    pub faultless_more : AreFaultless (joined (told ++ mine ∷ []))
+    faultless_more = subst AreFaultless (sym one_list) (goes.faultless is.faultless)
+
+    pub reached_more : (new_server : ServerState) → IsReached (joined told ++ mine) new_server → IsReached (joined (told ++ mine ∷ [])) new_server
+    reached_more new_server left = subst (λ (h : List Entry). IsReached h new_server) (sym one_list) left
 
     -- a session that ends behind this client
     pub played_more : (r : Result (Unit {0}) EndFault) → IsErr r → IsPlayed clients (told ++ mine ∷ []) r (joined (told ++ mine ∷ []))
@@ -198,13 +201,13 @@ module _ (clients : List (List Op)) (told : List (List Entry)) (names : NamesPar
       merged = merged_more;
       each = λ ok. absurd (not_ok r err ok);
       legal = legal_more;
+      faultless = faultless_more;
       server = server_more;
       ordered = ordered_more;
       complete = λ ok. absurd (not_ok r err ok);
-      unexcused = λ ok. absurd (not_ok r err ok);
     }
 
-    module _ (new_names : NamesPart) (left : IsReached (joined told ++ mine) new_names) (isdone : IsDone (joined told) count requests mine) where
+    module _ (new_server : ServerState) (left : IsReached (joined told ++ mine) new_server) (isdone : IsDone (joined told) count requests mine) where
       complete_more : (c : ℕ) → c < count + 1 → length (entries_of c (joined (told ++ mine ∷ []))) ≡ length (requests_of clients c)
       complete_more c less = by (cases_eq count c)
         where
@@ -217,7 +220,7 @@ module _ (clients : List (List Op)) (told : List (List Entry)) (names : NamesPar
       longer : length (joined (told ++ mine ∷ [])) ≡ length (joined told) + length mine
       longer = ap (λ (l : List Entry). length l) one_list ∙ length-append (joined told) mine
 
-      pub one_client_more : AreServing clients (told ++ mine ∷ []) new_names (count + 1) (first + length mine) (done ++ requests ∷ []) rest
+      pub one_client_more : AreServing clients (told ++ mine ∷ []) new_server (count + 1) (first + length mine) (done ++ requests ∷ []) rest
       one_client_more = record {
         whole = append_assoc done (requests ∷ []) rest ∙ is.whole;
         short = is.short;
@@ -226,9 +229,9 @@ module _ (clients : List (List Op)) (told : List (List Entry)) (names : NamesPar
         first_is = ap (λ (n : ℕ). n + length mine) is.first_is ∙ sym longer;
         few = omega (arith, longer, is.few, goes.few);
         legal = legal_more;
-        reached = reached_more new_names left;
+        reached = reached_more new_server left;
         ordered = ordered_more;
-        unexcused = subst AreUnexcused (sym one_list) (isdone.unexcused is.unexcused);
+        faultless = faultless_more;
         server = server_more;
         complete = complete_more;
         each = each_more;

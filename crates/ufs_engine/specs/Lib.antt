@@ -1,3 +1,4 @@
 pub mod Played
 pub mod Clients
+pub mod Server
 pub mod Serving

@@ -50,10 +50,10 @@ impl ToldLists {
     }
 }
 
-/// Why a session ended before each request was answered.
+/// Why a session ended before each request was answered. A request that is excused doesn't end it.
 #[derive(Clone, Copy, Debug, PartialEq, Eq)]
 pub enum EndFault {
-    /// Memory ran out.
+    /// No memory was left for a server, or to keep an entry or a transcript.
     Memory,
 }
 

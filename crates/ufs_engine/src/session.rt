@@ -1,32 +1,26 @@
 // Playing a script on one thread.
 ghost use Rattle.std.specs.Prelude.{◌-◌, ◌≡◌, ◌≤◌, ◌<◌, ◌*◌, ◌++◌, [], List, OnOk, length};
 ghost use Rattle.ufs_model.specs.PosixTree.{root_alone};
-ghost use Rattle.ufs_model.specs.History.{IsLegal, AreTicketsOnce, is_excused, joined, tree_after};
+ghost use Rattle.ufs_model.specs.History.{IsLegal, AreTicketsOnce, joined, tree_after};
 ghost use Rattle.ufs_model.specs.declared.data.Entry.{Entry};
-ghost use Rattle.ufs_names.specs.NamesPart.{IsPartOf};
 ghost use Rattle.ufs_engine.specs.Played.{IsPlayed};
+ghost use Rattle.ufs_engine.specs.Server.{IsServerOf};
 ghost use Rattle.ufs_engine.specs.Serving.{IsReached, IsNewcomer, GoesOn, IsDone, tree_of};
 
 use crate::client::{ask, keep};
 use crate::played::{EndFault, Played, Session, ToldLists};
+use crate::server::{FRESH, Server};
 use std::alloc::Global;
 use ufs_base::{MAX_CLIENTS, MAX_REQUESTS, Memory};
 use ufs_disk::Disk;
 use ufs_fds::FdTable;
-use ufs_model::{Actor, Entry, EntryList, Reply, a_request_makes_one_file_at_most};
-use ufs_names::Names;
+use ufs_model::{Actor, Entry, EntryList, a_request_makes_one_file_at_most};
 use ufs_script::{OpList, OpLists, Script};
 
-fn is_excused(reply: &Reply) -> bool
-    ensures { result ≡ is_excused reply.now }
-{
-    matches!(reply, Reply::Excused(_))
-}
-
-/// Serves a client's requests one by one, and adds the entries to its transcript. Whatever ends it, the namespace is
-/// what the entries tell.
+/// Serves a client's requests one by one, and adds the entries to its transcript; an excuse is a reply like others.
+/// Whatever ends it, the server is what the entries tell.
 fn serve_client(
-    names: &mut Names,
+    server: &mut Server,
     earlier: &Vec<EntryList>,
     client: u8,
     first: u64,
@@ -37,11 +31,11 @@ fn serve_client(
     requires few { length (joined earlier.now.items) ≤ (MAX_CLIENTS - 1) * MAX_REQUESTS }
     requires first { first ≡ length (joined earlier.now.items) }
     requires legal { IsLegal root_alone (joined earlier.now.items) }
-    requires reached { IsReached (joined earlier.now.items) names.old }
+    requires reached { IsReached (joined earlier.now.items) server.old }
     requires newcomer { IsNewcomer (joined earlier.now.items) client }
     requires none { told.old.items ≡ [] }
     ensures goes_on { GoesOn (joined earlier.now.items) client requests told.new.items }
-    ensures left { IsReached (joined earlier.now.items ++ told.new.items) names.new }
+    ensures left { IsReached (joined earlier.now.items ++ told.new.items) server.new }
     ensures done { OnOk result (IsDone (joined earlier.now.items) client requests told.new.items) }
 {
     a_request_makes_one_file_at_most();
@@ -51,13 +45,9 @@ fn serve_client(
         // Room for the entry comes first, so that nothing is served that isn't told.
         told.reserve(1)?;
         let asked = ask(&fds, client, seq, op);
-        let applied = names.apply(asked, Actor::Primary, first + u64::from(seq));
+        let applied = server.apply(asked, Actor::Primary, first + u64::from(seq));
         keep(&mut fds, &applied.entry, applied.desc);
-        let excused = is_excused(&applied.entry.reply);
         told.push(applied.entry).unwrap();
-        if excused {
-            return Err(Memory);
-        }
         seq += 1;
     }
     Ok(())
@@ -66,14 +56,14 @@ fn serve_client(
 /// Serves the clients, one after another.
 fn serve_clients(
     alloc: Global,
-    names: &mut Names,
+    server: &mut Server,
     clients: OpLists,
     told: &mut Vec<EntryList>,
 ) -> Result<(), EndFault>
-    requires part { IsPartOf names.old root_alone }
+    requires fresh { IsServerOf server.old root_alone }
     requires none { told.old.items ≡ [] }
     ensures played { IsPlayed clients told.new.items result (joined told.new.items) }
-    ensures left { IsPartOf names.new (tree_of (joined told.new.items)) }
+    ensures left { IsServerOf server.new (tree_of (joined told.new.items)) }
 {
     let mut client = 0u8;
     let mut first = 0u64;
@@ -83,7 +73,7 @@ fn serve_clients(
             return Err(EndFault::Memory);
         }
         let mut mine = Vec::new(alloc);
-        let ended = serve_client(names, told, client, first, requests, &mut mine);
+        let ended = serve_client(server, told, client, first, requests, &mut mine);
         first += mine.len() as u64;
         told.push(EntryList::from_vec(mine)).unwrap();
         ended?;
@@ -92,15 +82,17 @@ fn serve_clients(
     Ok(())
 }
 
-/// Serves the clients by a namespace that begins with the root alone, client 0 first. The entries are numbered as they
-/// are served. Want of memory ends the session; whatever ends it, the namespace is the tree after what was told.
-pub fn serve(alloc: Global, names: &mut Names, clients: OpLists) -> Session
-    requires { IsPartOf names.old root_alone }
-    ensures played { (history : List Entry) × IsPlayed clients result.told result.ended history × IsPartOf names.new (tree_after root_alone history) }
+/// Serves the clients by a server that begins with the root alone, client 0 first. The entries are numbered as they
+/// are served. A request that is excused changes nothing, and the session goes on with the next one; it ends before
+/// its end only where no memory is left to keep an entry or a transcript. Whatever ends it, the server is the tree
+/// after what was told.
+pub fn serve(alloc: Global, server: &mut Server, clients: OpLists) -> Session
+    requires { IsServerOf server.old root_alone }
+    ensures played { (history : List Entry) × IsPlayed clients result.told result.ended history × IsServerOf server.new (tree_after root_alone history) }
     ensures once { AreTicketsOnce (joined result.told) }
 {
     let mut told = Vec::new(alloc);
-    let ended = serve_clients(alloc, names, clients, &mut told);
+    let ended = serve_clients(alloc, server, clients, &mut told);
     Session {
         told: ToldLists::from_vec(told),
         ended,
@@ -121,15 +113,15 @@ pub fn play<D: Disk>(alloc: Global, script: Script, _lease: u32, disk: D) -> Pla
     }
 }
 
-/// Serves the clients by a new namespace.
+/// Serves the clients by a new server.
 fn play_from_root(alloc: Global, clients: OpLists) -> Session
     ensures played { (history : List Entry) × IsPlayed clients result.told result.ended history }
     ensures once { AreTicketsOnce (joined result.told) }
 {
-    match Names::new(alloc) {
-        Ok(names) => {
-            let mut names = names;
-            serve(alloc, &mut names, clients)
+    match Server::new(alloc, FRESH) {
+        Ok(server) => {
+            let mut server = server;
+            serve(alloc, &mut server, clients)
         }
         Err(Memory) => {
             let none = Vec::new(alloc);

@@ -127,6 +127,7 @@ impl FileHands {
         ensures entry { IsEntryOf ask by ticket result.entry }
         ensures here { IsSome (map.get self.new file) }
         ensures others { (f : ℕ) → f ≢ file → map.get self.new f ≡ map.get self.old f }
+        ensures number { (r : FileState) → map.get self.new file ≡ Some r → r.file ≡ file }
         ensures inode { (s r : FileState) → map.get self.old file ≡ Some s → map.get self.new file ≡ Some r → r.inode ≡ s.inode }
         ensures excused { (x : Excuse) → result.entry.reply ≡ reply.Excused x → (s : FileState) (d : Desc) → map.get self.old file ≡ Some s → ask.desc ≡ Some d → IsExcusedFor s d ask.op pool.old x }
         ensures posix { is_excused result.entry.reply ≡ false → (s r : FileState) (t : PosixTree) → map.get self.old file ≡ Some s → map.get self.new file ≡ Some r → IsFileOf s t → IsAsk t ask → IsPosix t ask r result.entry.reply result.desc }

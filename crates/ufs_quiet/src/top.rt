@@ -181,8 +181,8 @@ pub fn quiet<S: Source, K: Sink, D: Disk>(
     ensures answer { IsAnswer (Ends (asked words.now.items) (reading S.left S.faults source.old source.new) (formatting D.tells D.size D.moments D.faults disk result.disk))
         (writing K.held K.faults sink.old sink.new) result.status }
     // `play` with status 0: the source was read to its end, and its bytes are a script. There is one history, in
-    // which one POSIX tree, that begins with the root alone, gives every reply, and which holds each request of the
-    // script once in its client's order. The sink got the lines of that history's replies, and nothing else.
+    // which one POSIX tree, that begins with the root alone, gives every reply or the reply is an excuse that fits, and
+    // which holds each request of the script once in its client's order. The sink got the lines of that history's replies, and nothing else.
     ensures done { result.status ≡ 0 → asked words.now.items ≡ Some command.Play → (script : Script) × (history : List Entry)
         × IsServed (S.left source.old) (S.left source.new) script history
         × Appends (K.held sink.old) (K.held sink.new) (replies_text script history) }

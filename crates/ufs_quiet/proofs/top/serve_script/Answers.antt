@@ -16,7 +16,7 @@ returns-in-Ok-clause-answer g c =
     let is = c.play-played.ensures.played.1 in
     let well : c.play-played.result.ended ≡ Ok tt = c.in-Ok.is in
     answer_map (EndsPrinting (lines_of (joined told))) (EndsServing script) (writing g.K.Sink.held g.K.Sink.faults c.args.sink.now c.print_told.new.sink) c.print_told.result
-    (served_by script history (lines_of (joined told)) (record { legal = is.legal; ordered = is.ordered; complete = is.complete well; unexcused = is.unexcused well }) (output_is told history (length script.clients) is.merged (is.each well)))
+    (served_by script history (lines_of (joined told)) (record { legal = is.legal; ordered = is.ordered; complete = is.complete well; faultless = is.faultless }) (output_is told history (length script.clients) is.merged (is.each well)))
     c.print_told.ensures
 
 pub returns-clause-answer : goal.returns-clause-answer

@@ -50,6 +50,13 @@ returns-clause-others c =
     let is = written c.self.inside.hands c.args.self.now c.args.file c.in-Some.hand.now c.self.view_is c.in-Some.ensures.value (c.get_mut.follows.lender c.apply.new.self) c.apply.new.self (c.get_mut.follows.holds c.apply.new.self).0 in
     same_else c.args.self.now _ c.args.file c.in-Some.hand.now c.apply.new.self there is
 
+pub returns-clause-number : goal.returns-clause-number
+returns-clause-number c r b =
+    let there = was c.self.inside.hands c.args.self.now c.args.file c.in-Some.hand.now c.self.view_is c.in-Some.ensures.value in
+    let is = written c.self.inside.hands c.args.self.now c.args.file c.in-Some.hand.now c.self.view_is c.in-Some.ensures.value (c.get_mut.follows.lender c.apply.new.self) c.apply.new.self (c.get_mut.follows.holds c.apply.new.self).0 in
+    let number = c.self.invariant c.args.file c.in-Some.hand.now (was c.self.inside.hands _ c.args.file c.in-Some.hand.now refl c.in-Some.ensures.value) in
+    ap (λ (x : FileState). x.file) (sym (the_new c.args.self.now _ c.args.file c.in-Some.hand.now c.apply.new.self there is r b)) ∙ c.apply.ensures.number ∙ number
+
 pub returns-clause-inode : goal.returns-clause-inode
 returns-clause-inode c s r a b =
     let there = was c.self.inside.hands c.args.self.now c.args.file c.in-Some.hand.now c.self.view_is c.in-Some.ensures.value in
