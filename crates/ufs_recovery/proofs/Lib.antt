@@ -1,0 +1,5 @@
+pub mod Epochs
+pub mod Heads
+pub mod Home
+pub mod Pruned
+pub mod Headed

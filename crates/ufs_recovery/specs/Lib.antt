@@ -1,0 +1,4 @@
+pub mod Cleared
+pub mod Home
+pub mod Marks
+pub mod Recovered

@@ -1,0 +1,4 @@
+//! Recovery of an image in use, so that a stop at any moment leaves the same tree.
+#![tactic(auto)]
+
+mod sector;
