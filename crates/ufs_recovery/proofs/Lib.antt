@@ -3,3 +3,4 @@ pub mod Heads
 pub mod Home
 pub mod Pruned
 pub mod Headed
+pub mod Homing

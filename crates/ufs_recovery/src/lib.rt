@@ -1,4 +1,5 @@
 //! Recovery of an image in use, so that a stop at any moment leaves the same tree.
 #![tactic(auto)]
 
+mod bringing;
 mod sector;
