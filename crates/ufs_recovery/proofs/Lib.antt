@@ -4,3 +4,4 @@ pub mod Home
 pub mod Pruned
 pub mod Headed
 pub mod Homing
+pub mod OneMore

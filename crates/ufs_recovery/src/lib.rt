@@ -2,4 +2,5 @@
 #![tactic(auto)]
 
 mod bringing;
+mod clearing;
 mod sector;
