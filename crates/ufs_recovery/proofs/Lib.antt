@@ -5,3 +5,4 @@ pub mod Pruned
 pub mod Headed
 pub mod Homing
 pub mod OneMore
+pub mod Clears

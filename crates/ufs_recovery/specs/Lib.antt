@@ -1,4 +1,5 @@
 pub mod Cleared
 pub mod Home
 pub mod Marks
+pub mod Orphans
 pub mod Recovered
