@@ -6,3 +6,4 @@ pub mod Headed
 pub mod Homing
 pub mod OneMore
 pub mod Clears
+pub mod Phases

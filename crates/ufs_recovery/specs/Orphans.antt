@@ -2,8 +2,14 @@
 use Rattle.std.specs.Prelude.{ℕ, ◌≡◌, ◌≢◌, ◌+◌, ◌⊎◌, Some, None, length}
 use Rattle.std.specs.List.{slice_get}
 use Rattle.ufs_layout.specs.declared.geometry.Geometry.{Geometry}
-use Rattle.ufs_image.specs.Catalog.{Catalog}
+use Rattle.ufs_base.specs.Images.{Image}
+use Rattle.ufs_layout.specs.Superblock.{geometry_of}
+use Rattle.ufs_layout.specs.declared.superblock.Super.{Super}
+use Rattle.ufs_image.specs.Catalog.{Catalog, IsInode, catalog_at}
 use Rattle.ufs_image.specs.Changes.{IsReached, IsUnreached}
+use Rattle.ufs_image.specs.Images.{form_at}
+use Rattle.ufs_recovery.specs.Home.{IsAtHome}
+use Rattle.ufs_recovery.specs.Recovered.{HasNoOrphans}
 use Rattle.ufs_recovery.specs.Cleared.{Numbers}
 
 -- Where a number stands, no walk meets the inode, which has this commit number.
@@ -22,3 +28,16 @@ pub record AreOrphanDirs (g : Geometry) (c : Catalog) (numbers : Numbers) : Type
   pub unreached : AreUnreached c numbers
   pub dirs : (place number : ℕ) → slice_get numbers place ≡ Some (Some number) → (c.forms (place + 1)).kind ≡ 2
   pub others : (place : ℕ) → slice_get numbers place ≡ Some None → IsReached c (place + 1) ⊎ ((c.forms (place + 1)).kind ≢ 2)
+
+-- The image is at home, and these numbers stand for its orphans and for the directories among them.
+pub record MayPrune (sectors : ℕ) (head : Super) (image : Image) (g : Geometry) (numbers dirs : Numbers) : Type 0 where
+  pub home : IsAtHome sectors head image
+  pub geometry : g ≡ geometry_of head
+  pub all : AreOrphans (geometry_of head) (catalog_at (geometry_of head) image) numbers
+  pub all_dirs : AreOrphanDirs (geometry_of head) (catalog_at (geometry_of head) image) dirs
+
+-- It is at home still, without orphans, and each inode has the commit number that it had.
+pub record IsPruned (sectors : ℕ) (head : Super) (before after : Image) : Type 0 where
+  pub home : IsAtHome sectors head after
+  pub named : HasNoOrphans (geometry_of head) after
+  pub numbers : (inode : ℕ) → IsInode (geometry_of head) inode → (form_at (geometry_of head) after inode).number ≡ (form_at (geometry_of head) before inode).number

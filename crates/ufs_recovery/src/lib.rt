@@ -3,4 +3,5 @@
 
 mod bringing;
 mod clearing;
+mod pruning;
 mod sector;
