@@ -7,3 +7,4 @@ pub mod Homing
 pub mod OneMore
 pub mod Clears
 pub mod Phases
+pub mod Bits

@@ -1,6 +1,7 @@
 //! Recovery of an image in use, so that a stop at any moment leaves the same tree.
 #![tactic(auto)]
 
+mod bitmap;
 mod bringing;
 mod clearing;
 mod pruning;
