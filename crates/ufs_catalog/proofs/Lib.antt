@@ -1,4 +1,5 @@
 pub mod Quiet
 mod Heads
 mod Blocks
+mod Pieces
 mod Rows

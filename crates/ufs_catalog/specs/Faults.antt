@@ -1,10 +1,10 @@
 -- Why an image isn't read.
-use Rattle.std.specs.Prelude.{◌≡◌, ℕ, Option, Some}
+use Rattle.std.specs.Prelude.{◌≡◌, ℕ, Option, Some, Result, Err}
 use Rattle.ufs_base.specs.Faults.{RoseTo}
 use Rattle.ufs_image.specs.Volume.{Refusal}
 use Rattle.ufs_image.specs.Volume as image
 use Rattle.ufs_catalog.specs.declared.fault.RecoverFault.{RecoverFault}
-use Rattle.ufs_catalog.specs.declared.fault.RecoverFault.TheVariants.{NoSuperblock, BadVersion, BadGeometry, BadRecord, BadTree, NotBuilt, Device, Memory}
+use Rattle.ufs_catalog.specs.declared.fault.RecoverFault.TheVariants.{NoSuperblock, BadVersion, BadGeometry, BadRecord, BadTree, Device, Memory}
 
 -- what a fault says of the disk's count of faults
 abbrev pub HasFaultCause : ℕ → ℕ → RecoverFault → Type 0
@@ -13,13 +13,11 @@ HasFaultCause before now (BadVersion found) = now ≡ before
 HasFaultCause before now (BadGeometry number) = now ≡ before
 HasFaultCause before now (BadRecord sector) = now ≡ before
 HasFaultCause before now (BadTree inode) = now ≡ before
-HasFaultCause before now NotBuilt = now ≡ before
 HasFaultCause before now (Device fault) = RoseTo before now fault
 HasFaultCause before now Memory = now ≡ before
 
 -- It is no cause that the image has.
 abbrev pub IsOutside : RecoverFault → Type 0
-IsOutside NotBuilt = ⊥
 IsOutside (Device fault) = Unit {0}
 IsOutside Memory = Unit {0}
 IsOutside _ = ⊥
@@ -31,6 +29,15 @@ IsRefusal found (BadVersion version) = found ≡ Some (image.BadVersion version)
 IsRefusal found (BadGeometry number) = found ≡ Some (image.BadGeometry number)
 IsRefusal found (BadRecord sector) = found ≡ Some (image.BadRecord sector)
 IsRefusal found (BadTree inode) = found ≡ Some (image.BadTree inode)
-IsRefusal found NotBuilt = ⊥
 IsRefusal found (Device fault) = Unit {0}
 IsRefusal found Memory = Unit {0}
+
+-- The same of what an image gives, or of why it gives nothing.
+abbrev pub IsWhyNot : {X : Type 0} → Result X Refusal → RecoverFault → Type 0
+IsWhyNot given NoSuperblock = given ≡ Err image.NoSuperblock
+IsWhyNot given (BadVersion version) = given ≡ Err (image.BadVersion version)
+IsWhyNot given (BadGeometry number) = given ≡ Err (image.BadGeometry number)
+IsWhyNot given (BadRecord sector) = given ≡ Err (image.BadRecord sector)
+IsWhyNot given (BadTree inode) = given ≡ Err (image.BadTree inode)
+IsWhyNot given (Device fault) = Unit {0}
+IsWhyNot given Memory = Unit {0}

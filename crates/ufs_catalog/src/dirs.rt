@@ -4,6 +4,7 @@ ghost use Rattle.std.specs.List.{list_any};
 ghost use Rattle.std.specs.Option.{option_to_list};
 ghost use Rattle.std.specs.List.{range_with_len};
 ghost use Rattle.std.specs.Prelude.{false};
+ghost use Rattle.ufs_base.specs.Images.{Image};
 ghost use Rattle.ufs_base.specs.declared.sizes.TheConstants.{BLOCK};
 ghost use Rattle.ufs_disk.specs.Moments.{reads};
 ghost use Rattle.ufs_layout.specs.Areas.{IsGeometry, sector_count};
@@ -11,6 +12,7 @@ ghost use Rattle.ufs_layout.specs.DentryForm.{dentry_of};
 ghost use Rattle.ufs_image.specs.Images.{inode_at};
 ghost use Rattle.ufs_image.specs.Nodes.{blocks_of, dirs_of, leaves_data, read_block, sound_node};
 ghost use Rattle.ufs_catalog.specs.Faults.{HasFaultCause, IsOutside};
+ghost use Rattle.ufs_catalog.specs.Folded.{IsFolded};
 ghost use Rattle.ufs_catalog.specs.Reading.{IsReadOnly};
 ghost use Rattle.ufs_catalog.specs.Told.{slots_in};
 
@@ -21,6 +23,7 @@ use ufs_base::BLOCK;
 use ufs_damage::{ReadDir, is_sound};
 use ufs_disk::Disk;
 use ufs_layout::{Dentry, Extent, Geometry, Inode, get_dentry};
+use ufs_overlay::Overlay;
 
 const DIRECTORY: u8 = 2;
 
@@ -48,12 +51,13 @@ fn read_extent<D: Disk>(
     slots: &mut Vec<Option<Dentry>>,
     disk: &mut D,
     geometry: &Geometry,
+    overlay: &Overlay,
     extent: &Extent,
 ) -> Result<(), RecoverFault>
     requires geometry { IsGeometry geometry.now }
     requires large { sector_count geometry.now ≤ D.size disk.old }
     requires inside { extent.now.start + extent.now.length ≤ geometry.now.blocks }
-    ensures slots { IsTrue D.tells → OnOk result (slots.new.items ≡ slots.old.items ++ flat_map (read_block (reads (D.moments disk.old))) (range_with_len extent.now.start extent.now.length)) }
+    ensures slots { IsTrue D.tells → (image : Image) → IsFolded overlay.now (reads (D.moments disk.old)) image → OnOk result (slots.new.items ≡ slots.old.items ++ flat_map (read_block image) (range_with_len extent.now.start extent.now.length)) }
     ensures read_only { IsTrue D.tells → IsReadOnly D.keeps (D.moments disk.old) (D.moments disk.new) }
     ensures size { D.size disk.new ≡ D.size disk.old }
     ensures passed { OnOk result (D.faults disk.new ≡ D.faults disk.old) }
@@ -62,7 +66,7 @@ fn read_extent<D: Disk>(
 {
     let mut bytes = [0; BLOCK];
     for place in 0..extent.length {
-        read_block(disk, extent.start + place, &mut bytes)?;
+        read_block(disk, overlay, extent.start + place, &mut bytes)?;
         push_slots(slots, &bytes)?;
     }
     Ok(())
@@ -73,12 +77,13 @@ fn read_slots<D: Disk>(
     alloc: Global,
     disk: &mut D,
     geometry: &Geometry,
+    overlay: &Overlay,
     form: &Inode,
 ) -> Result<Vec<Option<Dentry>>, RecoverFault>
     requires geometry { IsGeometry geometry.now }
     requires large { sector_count geometry.now ≤ D.size disk.old }
     requires inside { list_any (leaves_data geometry.now) form.now.extents ≡ false }
-    ensures slots { IsTrue D.tells → IfOk result (λ s. s.items ≡ flat_map (read_block (reads (D.moments disk.old))) (blocks_of form.now)) }
+    ensures slots { IsTrue D.tells → (image : Image) → IsFolded overlay.now (reads (D.moments disk.old)) image → IfOk result (λ s. s.items ≡ flat_map (read_block image) (blocks_of form.now)) }
     ensures read_only { IsTrue D.tells → IsReadOnly D.keeps (D.moments disk.old) (D.moments disk.new) }
     ensures size { D.size disk.new ≡ D.size disk.old }
     ensures passed { OnOk result (D.faults disk.new ≡ D.faults disk.old) }
@@ -87,7 +92,7 @@ fn read_slots<D: Disk>(
 {
     let mut slots = Vec::new(alloc);
     for extent in form.used_extents() {
-        read_extent(&mut slots, disk, geometry, extent)?;
+        read_extent(&mut slots, disk, geometry, overlay, extent)?;
     }
     Ok(slots)
 }
@@ -104,14 +109,15 @@ pub(crate) fn read_dir<D: Disk>(
     alloc: Global,
     disk: &mut D,
     geometry: &Geometry,
+    overlay: &Overlay,
     inode: u32,
     form: &Option<Inode>,
     dirs: &mut Vec<ReadDir>,
 ) -> Result<(), RecoverFault>
     requires geometry { IsGeometry geometry.now }
     requires large { sector_count geometry.now ≤ D.size disk.old }
-    ensures dirs { IsTrue D.tells → inode_at geometry.now (reads (D.moments disk.old)) inode ≡ form.now → OnOk result
-        (dirs.new.items ≡ dirs.old.items ++ dirs_of (reads (D.moments disk.old)) (option_to_list (sound_node geometry.now (reads (D.moments disk.old)) inode))) }
+    ensures dirs { IsTrue D.tells → (image : Image) → IsFolded overlay.now (reads (D.moments disk.old)) image → inode_at geometry.now image inode ≡ form.now → OnOk result
+        (dirs.new.items ≡ dirs.old.items ++ dirs_of image (option_to_list (sound_node geometry.now image inode))) }
     ensures read_only { IsTrue D.tells → IsReadOnly D.keeps (D.moments disk.old) (D.moments disk.new) }
     ensures size { D.size disk.new ≡ D.size disk.old }
     ensures passed { OnOk result (D.faults disk.new ≡ D.faults disk.old) }
@@ -127,7 +133,7 @@ pub(crate) fn read_dir<D: Disk>(
     if !is_sound(geometry, inode, form) {
         return Ok(());
     }
-    let slots = read_slots(alloc, disk, geometry, found)?;
+    let slots = read_slots(alloc, disk, geometry, overlay, found)?;
     push_dir(dirs, ReadDir::from_slots(inode, slots))?;
     Ok(())
 }

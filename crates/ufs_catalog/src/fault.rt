@@ -15,8 +15,6 @@ pub enum RecoverFault {
     BadRecord { sector: u32 },
     /// The lowest inode that a damage is told of.
     BadTree { inode: u32 },
-    /// Transactions are committed that aren't written home. To read under them isn't built yet.
-    NotBuilt,
     /// A call of the disk failed; the disk's count of faults after it.
     Device { fault: u64 },
     /// No memory.

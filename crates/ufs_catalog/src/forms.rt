@@ -1,11 +1,13 @@
 // The inode table.
 ghost use Rattle.std.specs.Prelude.{◌≡◌, ◌≤◌, ◌++◌, ◌∷◌, [], map, length, IsTrue, IfOk, IfErr, OnOk};
+ghost use Rattle.ufs_base.specs.Images.{Image};
 ghost use Rattle.ufs_base.specs.declared.sizes.TheConstants.{BLOCK};
 ghost use Rattle.ufs_disk.specs.Moments.{reads};
 ghost use Rattle.ufs_layout.specs.Areas.{IsGeometry, sector_count, all_inodes};
 ghost use Rattle.ufs_layout.specs.InodeForm.{inode_of};
 ghost use Rattle.ufs_image.specs.Images.{inode_at};
 ghost use Rattle.ufs_catalog.specs.Faults.{HasFaultCause, IsOutside};
+ghost use Rattle.ufs_catalog.specs.Folded.{IsFolded};
 ghost use Rattle.ufs_catalog.specs.Reading.{IsReadOnly};
 ghost use Rattle.ufs_catalog.specs.Told.{forms_in};
 
@@ -15,6 +17,7 @@ use std::alloc::{AllocError, Global};
 use ufs_base::BLOCK;
 use ufs_disk::Disk;
 use ufs_layout::{Geometry, Inode, get_inode};
+use ufs_overlay::Overlay;
 
 fn push_form(forms: &mut Vec<Option<Inode>>, sector: &[u8]) -> Result<(), AllocError>
     requires { length sector.now ≡ 512 }
@@ -43,10 +46,11 @@ pub(crate) fn read_forms<D: Disk>(
     alloc: Global,
     disk: &mut D,
     geometry: &Geometry,
+    overlay: &Overlay,
 ) -> Result<Vec<Option<Inode>>, RecoverFault>
     requires geometry { IsGeometry geometry.now }
     requires large { sector_count geometry.now ≤ D.size disk.old }
-    ensures forms { IsTrue D.tells → IfOk result (λ f. f.items ≡ map (inode_at geometry.now (reads (D.moments disk.old))) (all_inodes geometry.now)) }
+    ensures forms { IsTrue D.tells → (image : Image) → IsFolded overlay.now (reads (D.moments disk.old)) image → IfOk result (λ f. f.items ≡ map (inode_at geometry.now image) (all_inodes geometry.now)) }
     ensures count { IfOk result (λ f. length f.items ≡ geometry.now.inodes) }
     ensures read_only { IsTrue D.tells → IsReadOnly D.keeps (D.moments disk.old) (D.moments disk.new) }
     ensures size { D.size disk.new ≡ D.size disk.old }
@@ -60,7 +64,7 @@ pub(crate) fn read_forms<D: Disk>(
     let mut bytes = [0; BLOCK];
     for place in 0..end - start {
         let count = (geometry.inodes - 8 * place).min(8);
-        read_block(disk, start + place, &mut bytes)?;
+        read_block(disk, overlay, start + place, &mut bytes)?;
         push_forms(&mut forms, &bytes, count)?;
     }
     Ok(forms)

@@ -1,5 +1,5 @@
-//! What an image says of its inodes and directories, read from a disk: the superblock, the inode table and
-//! the blocks of directories, each once.
+//! What a folded image says of its inodes and directories, read from a disk under the transactions that are
+//! committed: the superblock, the inode table and the blocks of directories, each once.
 #![tactic(auto)]
 
 mod dirs;

@@ -3,7 +3,9 @@ use Rattle.std.specs.Prelude.{ℕ, ◌≡◌, List, map, Option, Some, None, Ok,
 use Rattle.ufs_image.specs.Damage.{bad_tree}
 use Rattle.ufs_image.specs.Volume.{volume}
 use Rattle.ufs_damage.specs.Findings.{AreFindingsOf}
-use Rattle.ufs_opening.specs.declared.opening.Opened.{Opened}
+use Rattle.ufs_overlay.specs.Seen.{HasAdded}
+use Rattle.ufs_volume.specs.Volumes.{committed_in, folded_image, volume_in}
+use Rattle.ufs_opening.specs.declared.opened.Opened.{Opened}
 use Rattle.std.specs.FinMap as fin
 use Rattle.std.specs.FinMap.{from_entries}
 use Rattle.ufs_base.specs.Images.{Image}
@@ -41,8 +43,10 @@ pub record AreReadable (g : Geometry) (disk : Image) (forms : List (Option Inode
 abbrev pub paths_of : List PathEntry → List (List ℕ)
 paths_of es = map (λ (e : PathEntry). e.path) es
 
--- The image was opened: it is taken as it reads, and nothing of its tree is damaged.
+-- The image was opened: there is a volume, whose overlay has what is committed, these are its findings, and nothing of
+-- its tree is damaged.
 pub record IsOpened (o : Opened) (sectors : ℕ) (disk : Image) : Type 0 where
-  pub taken : volume sectors disk ≡ Ok (record { head = o.head.head; geometry = o.head.geometry; image = disk })
-  pub found : AreFindingsOf o.head.geometry disk o.findings
-  pub whole : bad_tree o.head.geometry disk ≡ None
+  pub taken : volume sectors disk ≡ Ok (volume_in o.volume disk)
+  pub added : HasAdded o.volume.overlay (committed_in o.volume disk)
+  pub found : AreFindingsOf o.volume.head.geometry (folded_image o.volume disk) o.findings
+  pub whole : bad_tree o.volume.head.geometry (folded_image o.volume disk) ≡ None

@@ -1,12 +1,14 @@
 // The bytes of files.
 ghost use Rattle.std.specs.Prelude.{◌≡◌, ◌≤◌, ◌+◌, ◌++◌, flat_map, false, not, IsTrue, IfOk, IfErr, OnOk};
 ghost use Rattle.std.specs.List.{list_any, range_with_len};
+ghost use Rattle.ufs_base.specs.Images.{Image};
 ghost use Rattle.ufs_disk.specs.Moments.{reads};
 ghost use Rattle.ufs_layout.specs.Areas.{IsGeometry, sector_count};
 ghost use Rattle.ufs_image.specs.Images.{block_at};
 ghost use Rattle.ufs_image.specs.Nodes.{leaves_data};
 ghost use Rattle.ufs_image.specs.Opens.{file_bytes};
 ghost use Rattle.ufs_catalog.specs.Faults.{HasFaultCause, IsOutside};
+ghost use Rattle.ufs_catalog.specs.Folded.{IsFolded};
 ghost use Rattle.ufs_catalog.specs.Reading.{IsReadOnly};
 
 use std::alloc::{AllocError, Global};
@@ -14,6 +16,7 @@ use ufs_base::BLOCK;
 use ufs_catalog::{RecoverFault, read_block};
 use ufs_disk::Disk;
 use ufs_layout::{Extent, Geometry, Inode};
+use ufs_overlay::Overlay;
 
 fn append(bytes: &mut Vec<u8>, block: &[u8]) -> Result<(), AllocError>
     ensures { OnOk result (bytes.new.items ≡ bytes.old.items ++ block.now) }
@@ -27,12 +30,13 @@ fn read_extent<D: Disk>(
     bytes: &mut Vec<u8>,
     disk: &mut D,
     geometry: &Geometry,
+    overlay: &Overlay,
     extent: &Extent,
 ) -> Result<(), RecoverFault>
     requires geometry { IsGeometry geometry.now }
     requires large { sector_count geometry.now ≤ D.size disk.old }
     requires inside { extent.now.start + extent.now.length ≤ geometry.now.blocks }
-    ensures bytes { IsTrue D.tells → OnOk result (bytes.new.items ≡ bytes.old.items ++ flat_map (block_at (reads (D.moments disk.old))) (range_with_len extent.now.start extent.now.length)) }
+    ensures bytes { IsTrue D.tells → (image : Image) → IsFolded overlay.now (reads (D.moments disk.old)) image → OnOk result (bytes.new.items ≡ bytes.old.items ++ flat_map (block_at image) (range_with_len extent.now.start extent.now.length)) }
     ensures read_only { IsTrue D.tells → IsReadOnly D.keeps (D.moments disk.old) (D.moments disk.new) }
     ensures size { D.size disk.new ≡ D.size disk.old }
     ensures passed { OnOk result (D.faults disk.new ≡ D.faults disk.old) }
@@ -41,7 +45,7 @@ fn read_extent<D: Disk>(
 {
     let mut block = [0; BLOCK];
     for place in 0..extent.length {
-        read_block(disk, extent.start + place, &mut block)?;
+        read_block(disk, overlay, extent.start + place, &mut block)?;
         append(bytes, &block)?;
     }
     Ok(())
@@ -68,12 +72,13 @@ pub(crate) fn read_file<D: Disk>(
     alloc: Global,
     disk: &mut D,
     geometry: &Geometry,
+    overlay: &Overlay,
     form: &Inode,
 ) -> Result<Vec<u8>, RecoverFault>
     requires geometry { IsGeometry geometry.now }
     requires large { sector_count geometry.now ≤ D.size disk.old }
     requires inside { list_any (leaves_data geometry.now) form.now.extents ≡ false }
-    ensures bytes { IsTrue D.tells → IfOk result (λ b. b.items ≡ file_bytes (reads (D.moments disk.old)) form.now) }
+    ensures bytes { IsTrue D.tells → (image : Image) → IsFolded overlay.now (reads (D.moments disk.old)) image → IfOk result (λ b. b.items ≡ file_bytes image form.now) }
     ensures read_only { IsTrue D.tells → IsReadOnly D.keeps (D.moments disk.old) (D.moments disk.new) }
     ensures size { D.size disk.new ≡ D.size disk.old }
     ensures passed { OnOk result (D.faults disk.new ≡ D.faults disk.old) }
@@ -82,7 +87,7 @@ pub(crate) fn read_file<D: Disk>(
 {
     let mut bytes = Vec::new(alloc);
     for extent in form.used_extents() {
-        read_extent(&mut bytes, disk, geometry, extent)?;
+        read_extent(&mut bytes, disk, geometry, overlay, extent)?;
     }
     bytes.truncate(form.size as usize);
     Ok(bytes)

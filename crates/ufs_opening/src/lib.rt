@@ -1,11 +1,13 @@
-//! Opening an image: why it stands for no tree, or the tree that it stands for.
+//! Opening an image: why it stands for no tree, or the tree that it stands for, as its committed transactions leave
+//! it.
 #![tactic(auto)]
 
 mod files;
-mod journal;
+mod opened;
 mod opening;
 mod tree;
 
-pub use opening::{Opened, open};
+pub use opened::Opened;
+pub use opening::open;
 pub use tree::tree_of;
 pub use ufs_catalog::RecoverFault;

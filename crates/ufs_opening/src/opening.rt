@@ -8,21 +8,17 @@ ghost use Rattle.ufs_image.specs.Volume.{volume};
 ghost use Rattle.ufs_damage.specs.Findings.{AreFindingsOf};
 ghost use Rattle.ufs_catalog.specs.Faults.{HasFaultCause};
 ghost use Rattle.ufs_catalog.specs.Reading.{IsReadOnly};
+ghost use Rattle.ufs_overlay.specs.Seen.{HasAdded};
+ghost use Rattle.ufs_volume.specs.Volumes.{committed_in, folded_image, volume_in};
 ghost use Rattle.ufs_opening.specs.Told.{IsBlame, TellsWhy};
 
-use crate::journal::open_head;
+use crate::opened::Opened;
 use std::alloc::Global;
-use ufs_catalog::{ImageHead, RecoverFault, read_findings};
+use ufs_catalog::{RecoverFault, read_findings};
 use ufs_damage::{Findings, damage_of};
 use ufs_disk::Disk;
 use ufs_layout::Geometry;
-
-/// An image that stands for a tree: its superblock, and what was read of its inodes and directories.
-#[derive(Drop)]
-pub struct Opened {
-    pub head: ImageHead,
-    pub findings: Findings,
-}
+use ufs_volume::read_volume;
 
 // Refuses an image of whose tree something is damaged, by the lowest inode that is blamed.
 fn refuse_damage(
@@ -45,24 +41,27 @@ fn refuse_damage(
     }
 }
 
-/// Opens an image, or tells why it stands for no tree. Reads the superblock, each sector of the journal, and
-/// each block of the inode table and of directories; writes nothing.
+/// Opens an image, or tells why it stands for no tree. Reads the superblock, each sector of the journal, and of the
+/// folded image each block of the inode table and of directories; writes nothing.
 pub fn open<D: Disk>(alloc: Global, disk: &mut D) -> Result<Opened, RecoverFault>
-    ensures taken { IsTrue D.tells → IfOk result (λ o. volume (D.size disk.old) (reads (D.moments disk.old)) ≡ Ok (record { head = o.head.head; geometry = o.head.geometry; image = reads (D.moments disk.old) })) }
-    ensures found { IsTrue D.tells → IfOk result (λ o. AreFindingsOf o.head.geometry (reads (D.moments disk.old)) o.findings) }
-    ensures whole { IsTrue D.tells → IfOk result (λ o. bad_tree o.head.geometry (reads (D.moments disk.old)) ≡ None) }
-    ensures counted { IfOk result (λ o. length o.findings.forms ≡ o.head.geometry.inodes) }
-    ensures large { IfOk result (λ o. sector_count o.head.geometry ≤ D.size disk.old) }
+    ensures taken { IsTrue D.tells → IfOk result (λ o. volume (D.size disk.old) (reads (D.moments disk.old)) ≡ Ok (volume_in o.volume (reads (D.moments disk.old)))) }
+    ensures added { IsTrue D.tells → IfOk result (λ o. HasAdded o.volume.overlay (committed_in o.volume (reads (D.moments disk.old)))) }
+    ensures count { IsTrue D.tells → IfOk result (λ o. o.volume.committed ≡ length (committed_in o.volume (reads (D.moments disk.old)))) }
+    ensures found { IsTrue D.tells → IfOk result (λ o. AreFindingsOf o.volume.head.geometry (folded_image o.volume (reads (D.moments disk.old))) o.findings) }
+    ensures whole { IsTrue D.tells → IfOk result (λ o. bad_tree o.volume.head.geometry (folded_image o.volume (reads (D.moments disk.old))) ≡ None) }
+    ensures counted { IfOk result (λ o. length o.findings.forms ≡ o.volume.head.geometry.inodes) }
+    ensures large { IfOk result (λ o. sector_count o.volume.head.geometry ≤ D.size disk.old) }
     ensures refused { IsTrue D.tells → IfErr result (TellsWhy (D.size disk.old) (reads (D.moments disk.old))) }
     ensures read_only { IsTrue D.tells → IsReadOnly D.keeps (D.moments disk.old) (D.moments disk.new) }
     ensures size { D.size disk.new ≡ D.size disk.old }
     ensures passed { OnOk result (D.faults disk.new ≡ D.faults disk.old) }
     ensures cause { IfErr result (HasFaultCause (D.faults disk.old) (D.faults disk.new)) }
 {
-    let head = open_head(alloc, disk)?;
-    let findings = read_findings(alloc, disk, &head.geometry)?;
-    match refuse_damage(alloc, &head.geometry, &findings) {
-        Ok(()) => Ok(Opened { head, findings }),
+    let volume = read_volume(alloc, disk)?;
+    let geometry = &volume.head.geometry;
+    let findings = read_findings(alloc, disk, geometry, &volume.overlay)?;
+    match refuse_damage(alloc, geometry, &findings) {
+        Ok(()) => Ok(Opened { volume, findings }),
         Err(fault) => Err(fault),
     }
 }

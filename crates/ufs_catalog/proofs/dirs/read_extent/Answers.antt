@@ -1,13 +1,15 @@
-use Rattle.std.proofs.Common.{◌≡◌, ◌<◌, ◌≤◌, ◌+◌, ◌*◌, ℕ, ◌++◌, length, ap, sym, ◌∙◌, arith, append_assoc}
+use Rattle.std.proofs.Common.{◌≡◌, ◌<◌, ◌≤◌, ◌+◌, ◌*◌, ℕ, ◌++◌, length, take, drop, length-drop, ap, sym, ◌∙◌, subst, arith, append_assoc}
 use Rattle.std.specs.Prelude.{flat_map}
 use Rattle.std.specs.List.{range_with_len}
 use Rattle.ufs_base.specs.Images.{Image}
 use Rattle.ufs_disk.specs.Moments.{reads}
-use Rattle.ufs_disk.proofs.Images.{seen_is_image}
+use Rattle.ufs_catalog.specs.Folded.{IsFolded}
 use Rattle.ufs_image.specs.Images.{block_at}
 use Rattle.ufs_image.specs.Nodes.{read_block}
 use Rattle.ufs_image.proofs.Written.{rows}
 use Rattle.ufs_catalog.specs.Told.{slots_in}
+use Rattle.std.proofs.lemmas.Grind.{common_steps}
+use Rattle.ufs_catalog.proofs.Pieces.{sectors_long}
 use Rattle.ufs_catalog.proofs.Rows.{flat_more}
 use Rattle.ufs_catalog.proofs.Quiet.{read_more}
 use Rattle.ufs_catalog.proofs.dirs.read_extent.Goals as goal
@@ -23,17 +25,16 @@ returns-in_err-push_slots-clause-read_only g c told =
 pub loop-place-preserved : goal.loop-place-preserved
 loop-place-preserved g c =
     let i = c.loop-place.invariant in
-    let image = reads (g.D.Disk.moments c.args.disk.now) in
     let block = c.args.extent.now.start + c.loop-place.place in
     let old = c.args.slots.now.items in
-    let before = flat_map (read_block image) (range_with_len c.args.extent.now.start c.loop-place.place) in
-    let fits : 8 * block + 8 ≤ g.D.Disk.size c.args.disk.now = omega (arith, c.requires.inside, c.requires.large) in
-    let inside : (s : ℕ) → s < 8 * block + 8 → s < g.D.Disk.size c.args.disk.now = λ s less. omega (arith, less, fits) in
     record {
-      slots = λ told.
-          let long : (s : ℕ) → 8 * block ≤ s → s < 8 * block + 8 → length (image s) ≡ 512 = λ s from less. ((g.met.D.Disk.whole told c.args.disk.now).within _ (inside s less) _ (seen_is_image (g.D.Disk.moments c.args.disk.now).state s)).sized in
+      slots = λ told image is.
+          let here = subst (λ (d : Image). IsFolded c.args.overlay.now d image) (sym (i.read_only told).content) is in
+          let before = flat_map (read_block image) (range_with_len c.args.extent.now.start c.loop-place.place) in
+          let sized : length c.read_block.new.buf ≡ 4096 = grind (arith, common_steps) in
+          let long : (s : ℕ) → 8 * block ≤ s → s < 8 * block + 8 → length (image s) ≡ 512 = sectors_long image (8 * block) c.read_block.new.buf sized (c.in_ok-read_block.ensures.sectors told image here) in
           c.in_ok-push_slots.ensures
-          ∙ (λ k. i.slots told k ++ slots_in 64 ((c.in_ok-read_block.ensures.bytes told ∙ ap (λ (d : Image). block_at d block) (i.read_only told).content) k))
+          ∙ (λ k. i.slots told image is k ++ slots_in 64 (c.in_ok-read_block.ensures.bytes told image here k))
           ∙ ap (λ l. (old ++ before) ++ l) (sym (rows image (8 * block) 8 long))
           ∙ append_assoc old before (read_block image block)
           ∙ ap (λ l. old ++ l) (sym (flat_more (read_block image) c.args.extent.now.start c.loop-place.place));

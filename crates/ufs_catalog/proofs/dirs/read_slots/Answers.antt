@@ -1,8 +1,10 @@
-use Rattle.std.proofs.Common.{◌≡◌, ◌<◌, [], ◌∷◌, ◌++◌, length, take, get_or, ap, sym, ◌∙◌, arith}
+use Rattle.std.proofs.Common.{◌≡◌, ◌<◌, [], ◌∷◌, ◌++◌, length, take, get_or, ap, sym, ◌∙◌, subst, arith}
 use Rattle.std.specs.Prelude.{flat_map}
 use Rattle.std.specs.List.{range_with_len}
 use Rattle.std.proofs.lemmas.List.{append-nil, take_more}
+use Rattle.ufs_base.specs.Images.{Image}
 use Rattle.ufs_disk.specs.Moments.{reads}
+use Rattle.ufs_catalog.specs.Folded.{IsFolded}
 use Rattle.ufs_layout.specs.declared.inode.Extent.{Extent}
 use Rattle.ufs_image.specs.Nodes.{read_block}
 use Rattle.ufs_catalog.proofs.Rows.{flat_append}
@@ -19,14 +21,12 @@ loop-extent-preserved g c =
     let k = c.loop-extent.extent-index in
     let xs = c.args.form.now.extents in
     let none : Extent = record { start = 0; length = 0 } in
-    let image = reads (g.D.Disk.moments c.args.disk.now) in
     let items : c.used_extents-extent-items.result.now ≡ xs = c.used_extents-extent-items.ensures in
     let less : k < length xs = let long = ap (length {A = Extent}) items in omega (arith, c.loop-extent-test.true, long) in
     record {
-      slots = λ told.
-          let content : reads (g.D.Disk.moments c.loop-extent.disk) ≡ image = (i.read_only told).content in
-          c.in_ok-read_extent.ensures.slots told
-          ∙ (λ j. i.slots told j ++ flat_map (read_block (content j)) (range_with_len (get_or (items j) k none).start (get_or (items j) k none).length))
+      slots = λ told image is.
+          c.in_ok-read_extent.ensures.slots told image (subst (λ (d : Image). IsFolded c.args.overlay.now d image) (sym (i.read_only told).content) is)
+          ∙ (λ j. i.slots told image is j ++ flat_map (read_block image) (range_with_len (get_or (items j) k none).start (get_or (items j) k none).length))
           ∙ sym (flat_append (read_block image) (flat_map (λ (e : Extent). range_with_len e.start e.length) (take k xs)) (range_with_len (get_or xs k none).start (get_or xs k none).length))
           ∙ sym (ap (flat_map (read_block image))
           (ap (flat_map (λ (e : Extent). range_with_len e.start e.length)) (take_more xs k none less)

@@ -1,6 +1,8 @@
 use Rattle.std.proofs.Common.{◌≡◌, IsTrue, map}
 use Rattle.std.specs.List.{range_with_len, filter_map}
+use Rattle.ufs_base.specs.Images.{Image}
 use Rattle.ufs_disk.specs.Moments.{reads}
+use Rattle.ufs_catalog.specs.Folded.{IsFolded}
 use Rattle.ufs_catalog.specs.Reading.{IsReadOnly}
 use Rattle.ufs_layout.specs.Areas.{all_inodes}
 use Rattle.ufs_image.specs.Images.{inode_at}
@@ -12,7 +14,7 @@ invariant-loop-i g l =
     let disk = g.D.Disk in
     let first = disk.moments l.fn.disk in
     record {
-      dirs : IsTrue disk.tells → l.forms ≡ map (inode_at l.geometry (reads first)) (all_inodes l.geometry) → l.dirs.items ≡ dirs_of (reads first) (filter_map (sound_node l.geometry (reads first)) (range_with_len 1 l.i));
+      dirs : IsTrue disk.tells → (image : Image) → IsFolded l.overlay (reads first) image → l.forms ≡ map (inode_at l.geometry image) (all_inodes l.geometry) → l.dirs.items ≡ dirs_of image (filter_map (sound_node l.geometry image) (range_with_len 1 l.i));
       read_only : IsTrue disk.tells → IsReadOnly disk.keeps first (disk.moments l.disk);
       size : disk.size l.disk ≡ disk.size l.fn.disk;
       faults : disk.faults l.disk ≡ disk.faults l.fn.disk;

@@ -1,10 +1,11 @@
-use Rattle.std.proofs.Common.{◌≡◌, ◌<◌, ◌≤◌, ◌+◌, ◌*◌, ℕ, ◌++◌, length, ap, ◌∙◌, arith}
+use Rattle.std.proofs.Common.{◌≡◌, ◌<◌, ◌≤◌, ◌+◌, ◌*◌, ℕ, ◌++◌, length, ap, sym, ◌∙◌, subst, arith}
 use Rattle.std.specs.Prelude.{map, min}
 use Rattle.std.specs.List.{range_with_len}
 use Rattle.std.proofs.lemmas.List.{length-append}
 use Rattle.std.proofs.lemmas.List.FromFn.{length-map-range_with_len}
 use Rattle.ufs_base.specs.Images.{Image}
 use Rattle.ufs_disk.specs.Moments.{reads}
+use Rattle.ufs_catalog.specs.Folded.{IsFolded}
 use Rattle.ufs_layout.specs.Areas.{sector_of_inode}
 use Rattle.ufs_layout.specs.InodeForm.{inode_of}
 use Rattle.ufs_image.specs.Images.{inode_at}
@@ -25,7 +26,6 @@ returns-in_err-push_forms-clause-read_only g c told =
 pub loop-place-preserved : goal.loop-place-preserved
 loop-place-preserved g c =
     let i = c.loop-place.invariant in
-    let image = reads (g.D.Disk.moments c.args.disk.now) in
     let geometry = c.args.geometry.now in
     let place = c.loop-place.place in
     let n = c.min-count.result in
@@ -38,10 +38,10 @@ loop-place-preserved g c =
     let long : length (forms_in n c.read_block.new.buf) ≡ n = length-map-range_with_len (λ k. inode_of (piece c.read_block.new.buf k)) 0 n in
     record {
       count = ap length c.in_ok-push_forms.ensures ∙ length-append c.loop-place.forms.items (forms_in n c.read_block.new.buf) ∙ (λ k. (i.count ∙ here) k + long k) ∙ next;
-      forms = λ told.
-          let are : AreSectors image first c.read_block.new.buf = λ k less. c.in_ok-read_block.ensures.sectors told k less ∙ ap (λ (d : Image). d (first + k)) (i.read_only told).content in
+      forms = λ told image is.
+          let are : AreSectors image first c.read_block.new.buf = c.in_ok-read_block.ensures.sectors told image (subst (λ (d : Image). IsFolded c.args.overlay.now d image) (sym (i.read_only told).content) is) in
           c.in_ok-push_forms.ensures
-          ∙ (λ k. (i.forms told ∙ ap (λ m. map (inode_at geometry image) (range_with_len 1 m)) here) k ++ forms_are geometry image c.read_block.new.buf first (1 + 8 * place) n few are at k)
+          ∙ (λ k. (i.forms told image is ∙ ap (λ m. map (inode_at geometry image) (range_with_len 1 m)) here) k ++ forms_are geometry image c.read_block.new.buf first (1 + 8 * place) n few are at k)
           ∙ map_append (inode_at geometry image) 1 (8 * place) n
           ∙ ap (λ m. map (inode_at geometry image) (range_with_len 1 m)) next;
       read_only = λ told. read_more g.D.Disk.keeps (g.D.Disk.moments c.args.disk.now) (g.D.Disk.moments c.loop-place.disk) (g.D.Disk.moments c.read_block.new.disk) (i.read_only told) (c.read_block.ensures.read_only told);

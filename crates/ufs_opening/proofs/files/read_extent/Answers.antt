@@ -1,8 +1,9 @@
-use Rattle.std.proofs.Common.{◌+◌, ◌++◌, ap, sym, ◌∙◌, append_assoc}
+use Rattle.std.proofs.Common.{◌+◌, ◌++◌, ap, sym, ◌∙◌, subst, append_assoc}
 use Rattle.std.specs.Prelude.{flat_map}
 use Rattle.std.specs.List.{range_with_len}
 use Rattle.ufs_base.specs.Images.{Image}
 use Rattle.ufs_disk.specs.Moments.{reads}
+use Rattle.ufs_catalog.specs.Folded.{IsFolded}
 use Rattle.ufs_image.specs.Images.{block_at}
 use Rattle.ufs_catalog.proofs.Quiet.{read_more}
 use Rattle.ufs_opening.proofs.Rows.{flat_more}
@@ -19,14 +20,13 @@ returns-in_err-append-clause-read_only g c told =
 pub loop-place-preserved : goal.loop-place-preserved
 loop-place-preserved g c =
     let i = c.loop-place.invariant in
-    let image = reads (g.D.Disk.moments c.args.disk.now) in
     let block = c.args.extent.now.start + c.loop-place.place in
     let old = c.args.bytes.now.items in
-    let before = flat_map (block_at image) (range_with_len c.args.extent.now.start c.loop-place.place) in
     record {
-      bytes = λ told.
+      bytes = λ told image is.
+          let before = flat_map (block_at image) (range_with_len c.args.extent.now.start c.loop-place.place) in
           c.in_ok-append.ensures
-          ∙ (λ k. i.bytes told k ++ (c.in_ok-read_block.ensures.bytes told ∙ ap (λ (d : Image). block_at d block) (i.read_only told).content) k)
+          ∙ (λ k. i.bytes told image is k ++ c.in_ok-read_block.ensures.bytes told image (subst (λ (d : Image). IsFolded c.args.overlay.now d image) (sym (i.read_only told).content) is) k)
           ∙ append_assoc old before (block_at image block)
           ∙ ap (λ l. old ++ l) (sym (flat_more (block_at image) c.args.extent.now.start c.loop-place.place));
       read_only = λ told. read_more g.D.Disk.keeps (g.D.Disk.moments c.args.disk.now) (g.D.Disk.moments c.loop-place.disk) (g.D.Disk.moments c.read_block.new.disk) (i.read_only told) (c.read_block.ensures.read_only told);

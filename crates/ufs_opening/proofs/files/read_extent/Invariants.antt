@@ -1,7 +1,9 @@
 use Rattle.std.proofs.Common.{◌≡◌, ◌++◌, IsTrue}
 use Rattle.std.specs.Prelude.{flat_map}
 use Rattle.std.specs.List.{range_with_len}
+use Rattle.ufs_base.specs.Images.{Image}
 use Rattle.ufs_disk.specs.Moments.{reads}
+use Rattle.ufs_catalog.specs.Folded.{IsFolded}
 use Rattle.ufs_catalog.specs.Reading.{IsReadOnly}
 use Rattle.ufs_image.specs.Images.{block_at}
 use Rattle.ufs_opening.proofs.files.read_extent.Given as goal
@@ -11,7 +13,7 @@ invariant-loop-place g l =
     let disk = g.D.Disk in
     let first = disk.moments l.fn.disk in
     record {
-      bytes : IsTrue disk.tells → l.bytes.items ≡ l.fn.bytes.items ++ flat_map (block_at (reads first)) (range_with_len l.extent.start l.place);
+      bytes : IsTrue disk.tells → (image : Image) → IsFolded l.overlay (reads first) image → l.bytes.items ≡ l.fn.bytes.items ++ flat_map (block_at image) (range_with_len l.extent.start l.place);
       read_only : IsTrue disk.tells → IsReadOnly disk.keeps first (disk.moments l.disk);
       size : disk.size l.disk ≡ disk.size l.fn.disk;
       faults : disk.faults l.disk ≡ disk.faults l.fn.disk;

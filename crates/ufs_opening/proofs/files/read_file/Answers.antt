@@ -1,8 +1,10 @@
-use Rattle.std.proofs.Common.{◌≡◌, ◌<◌, List, [], ◌∷◌, ◌++◌, length, take, get_or, ap, sym, ◌∙◌, arith}
+use Rattle.std.proofs.Common.{◌≡◌, ◌<◌, List, [], ◌∷◌, ◌++◌, length, take, get_or, ap, sym, ◌∙◌, subst, arith}
 use Rattle.std.specs.Prelude.{flat_map}
 use Rattle.std.specs.List.{range_with_len}
 use Rattle.std.proofs.lemmas.List.{append-nil, take_more, take_all}
+use Rattle.ufs_base.specs.Images.{Image}
 use Rattle.ufs_disk.specs.Moments.{reads}
+use Rattle.ufs_catalog.specs.Folded.{IsFolded}
 use Rattle.ufs_layout.specs.InodeForm.{InodeForm}
 use Rattle.ufs_layout.specs.declared.inode.Extent.{Extent}
 use Rattle.ufs_image.specs.Images.{block_at}
@@ -20,14 +22,12 @@ loop-extent-preserved g c =
     let k = c.loop-extent.extent-index in
     let xs = c.args.form.now.extents in
     let none : Extent = record { start = 0; length = 0 } in
-    let image = reads (g.D.Disk.moments c.args.disk.now) in
     let items : c.used_extents-extent-items.result.now ≡ xs = c.used_extents-extent-items.ensures in
     let less : k < length xs = let long = ap (length {A = Extent}) items in omega (arith, c.loop-extent-test.true, long) in
     record {
-      bytes = λ told.
-          let content : reads (g.D.Disk.moments c.loop-extent.disk) ≡ image = (i.read_only told).content in
-          c.in_ok-read_extent.ensures.bytes told
-          ∙ (λ j. i.bytes told j ++ flat_map (block_at (content j)) (range_with_len (get_or (items j) k none).start (get_or (items j) k none).length))
+      bytes = λ told image is.
+          c.in_ok-read_extent.ensures.bytes told image (subst (λ (d : Image). IsFolded c.args.overlay.now d image) (sym (i.read_only told).content) is)
+          ∙ (λ j. i.bytes told image is j ++ flat_map (block_at image) (range_with_len (get_or (items j) k none).start (get_or (items j) k none).length))
           ∙ sym (flat_append (block_at image) (flat_map (λ (e : Extent). range_with_len e.start e.length) (take k xs)) (range_with_len (get_or xs k none).start (get_or xs k none).length))
           ∙ sym (ap (flat_map (block_at image))
           (ap (flat_map (λ (e : Extent). range_with_len e.start e.length)) (take_more xs k none less)
@@ -39,12 +39,11 @@ loop-extent-preserved g c =
     }
 
 pub returns-clause-bytes : goal.returns-clause-bytes
-returns-clause-bytes g c told =
-    let image = reads (g.D.Disk.moments c.args.disk.now) in
+returns-clause-bytes g c told image is =
     let xs = c.args.form.now.extents in
     let k = c.loop-extent.extent-index in
     let long = ap (length {A = Extent}) c.used_extents-extent-items.ensures in
     let all : k ≡ length xs = omega (arith, long) in
     c.truncate.ensures.items
     ∙ ap (λ (f : InodeForm). take f.size c.loop-extent.bytes.items) c.form.view_is
-    ∙ ap (take c.args.form.now.size) (c.loop-extent.invariant.bytes told ∙ ap (λ (l : List Extent). flat_map (block_at image) (flat_map (λ (e : Extent). range_with_len e.start e.length) l)) (ap (λ n. take n xs) all ∙ take_all (length xs) xs (omega arith)))
+    ∙ ap (take c.args.form.now.size) (c.loop-extent.invariant.bytes told image is ∙ ap (λ (l : List Extent). flat_map (block_at image) (flat_map (λ (e : Extent). range_with_len e.start e.length) l)) (ap (λ n. take n xs) all ∙ take_all (length xs) xs (omega arith)))

@@ -1,5 +1,7 @@
 use Rattle.std.proofs.Common.{◌≡◌, IsTrue, take, map}
+use Rattle.ufs_base.specs.Images.{Image}
 use Rattle.ufs_disk.specs.Moments.{reads}
+use Rattle.ufs_catalog.specs.Folded.{IsFolded}
 use Rattle.ufs_catalog.specs.Reading.{IsReadOnly}
 use Rattle.ufs_walk.specs.Walked.{AreInodes, entry_of, pairs_of}
 use Rattle.ufs_walk.specs.declared.places.PathAt.{PathAt}
@@ -12,7 +14,7 @@ invariant-loop-place g l =
     let first = disk.moments l.fn.disk in
     record {
       paths : paths_of l.entries.items ≡ map (λ (p : PathAt). p.path.items) (take l.place l.places);
-      entries : IsTrue disk.tells → AreReadable l.geometry (reads first) l.forms → AreInodes l.geometry (pairs_of l.places) → shown l.entries.items ≡ map (entry_of l.geometry (reads first)) (pairs_of (take l.place l.places));
+      entries : IsTrue disk.tells → (image : Image) → IsFolded l.overlay (reads first) image → AreReadable l.geometry image l.forms → AreInodes l.geometry (pairs_of l.places) → shown l.entries.items ≡ map (entry_of l.geometry image) (pairs_of (take l.place l.places));
       read_only : IsTrue disk.tells → IsReadOnly disk.keeps first (disk.moments l.disk);
       size : disk.size l.disk ≡ disk.size l.fn.disk;
       faults : disk.faults l.disk ≡ disk.faults l.fn.disk;

@@ -13,20 +13,20 @@ use Rattle.ufs_opening.proofs.tree.tree_of.Goals as goal
 
 pub returns-clause-tree : goal.returns-clause-tree
 returns-clause-tree g c told =
-    let image = reads (g.D.Disk.moments c.args.disk.now) in
-    let content : reads (g.D.Disk.moments c.open.new.disk) ≡ image = (c.open.ensures.read_only told).content in
-    let is : IsOpened c.in_ok-opened.opened (g.D.Disk.size c.args.disk.now) image =
-    record { taken = c.in_ok-opened.ensures.taken told; found = c.in_ok-opened.ensures.found told; whole = c.in_ok-opened.ensures.whole told } in
+    let disk = reads (g.D.Disk.moments c.args.disk.now) in
+    let content : reads (g.D.Disk.moments c.open.new.disk) ≡ disk = (c.open.ensures.read_only told).content in
+    let e = c.in_ok-opened.ensures in
+    let is : IsOpened c.in_ok-opened.opened (g.D.Disk.size c.args.disk.now) disk = record { taken = e.taken told; added = e.added told; found = e.found told; whole = e.whole told } in
     subst (λ (d : Image). IfOk c.tree_in.result (λ (t : PathNodes). opens (g.D.Disk.size c.args.disk.now) d ≡ Ok (image_tree t))) content
     (c.tree_in.ensures.tree told (g.D.Disk.size c.args.disk.now) (subst (IsOpened c.in_ok-opened.opened (g.D.Disk.size c.args.disk.now)) (sym content) is))
 
 pub returns-clause-refused : goal.returns-clause-refused
 returns-clause-refused g c told =
-    let image = reads (g.D.Disk.moments c.args.disk.now) in
-    let content : reads (g.D.Disk.moments c.open.new.disk) ≡ image = (c.open.ensures.read_only told).content in
-    let is : IsOpened c.in_ok-opened.opened (g.D.Disk.size c.args.disk.now) image =
-    record { taken = c.in_ok-opened.ensures.taken told; found = c.in_ok-opened.ensures.found told; whole = c.in_ok-opened.ensures.whole told } in
-    if_err c.tree_in.result IsOutside (TellsWhy (g.D.Disk.size c.args.disk.now) image) (why_outside (g.D.Disk.size c.args.disk.now) image)
+    let disk = reads (g.D.Disk.moments c.args.disk.now) in
+    let content : reads (g.D.Disk.moments c.open.new.disk) ≡ disk = (c.open.ensures.read_only told).content in
+    let e = c.in_ok-opened.ensures in
+    let is : IsOpened c.in_ok-opened.opened (g.D.Disk.size c.args.disk.now) disk = record { taken = e.taken told; added = e.added told; found = e.found told; whole = e.whole told } in
+    if_err c.tree_in.result IsOutside (TellsWhy (g.D.Disk.size c.args.disk.now) disk) (why_outside (g.D.Disk.size c.args.disk.now) disk)
     (c.tree_in.ensures.outside told (g.D.Disk.size c.args.disk.now) (subst (IsOpened c.in_ok-opened.opened (g.D.Disk.size c.args.disk.now)) (sym content) is))
 
 pub returns-clause-read_only : goal.returns-clause-read_only

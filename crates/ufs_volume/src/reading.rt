@@ -1,0 +1,64 @@
+// Reading the volume on a disk.
+ghost use Rattle.std.specs.Prelude.{◌≡◌, ◌≤◌, ℕ, Ok, length, IsTrue, IfOk, IfErr, OnOk};
+ghost use Rattle.ufs_disk.specs.Moments.{reads};
+ghost use Rattle.ufs_layout.specs.Areas.{sector_count};
+ghost use Rattle.ufs_image.specs.Volume.{volume};
+ghost use Rattle.ufs_overlay.specs.Over.{rise_above};
+ghost use Rattle.ufs_overlay.specs.Seen.{HasAdded};
+ghost use Rattle.ufs_catalog.specs.Faults.{HasFaultCause, IsOutside, IsWhyNot};
+ghost use Rattle.ufs_catalog.specs.Reading.{IsReadOnly};
+ghost use Rattle.ufs_volume.specs.Journals.{AreFoldable};
+ghost use Rattle.ufs_volume.specs.Volumes.{committed_in, volume_in};
+
+use crate::overlaid::{overlay_of, read_journal};
+use crate::volume::FoldedVolume;
+use std::alloc::Global;
+use ufs_catalog::{ImageHead, RecoverFault, read_head};
+use ufs_disk::Disk;
+use ufs_layout::CommittedList;
+
+// The volume with these transactions.
+fn with_list(
+    alloc: Global,
+    head: ImageHead,
+    list: &CommittedList,
+) -> Result<FoldedVolume, RecoverFault>
+    ensures head { IfOk result (λ v. v.head ≡ head) }
+    ensures added { IsTrue (rise_above 0 list.now) → IfOk result (λ v. HasAdded v.overlay list.now) }
+    ensures count { IfOk result (λ v. v.committed ≡ length list.now) }
+    ensures outside { AreFoldable head.geometry list.now → IfErr result IsOutside }
+    ensures calm { IfErr result (λ f. (before : ℕ) → HasFaultCause before before f) }
+{
+    let transactions = list.as_slice();
+    let overlay = overlay_of(alloc, &head.geometry, transactions)?;
+    let Ok(committed) = u32::try_from(transactions.len()) else {
+        return Err(RecoverFault::Memory);
+    };
+    Ok(FoldedVolume {
+        head,
+        overlay,
+        committed,
+    })
+}
+
+/// The volume on a disk, or the first cause for which there is none. Reads the superblock, each sector of the
+/// journal once, and of the inode table those sectors that records of committed transactions name; writes
+/// nothing.
+pub fn read_volume<D: Disk>(alloc: Global, disk: &mut D) -> Result<FoldedVolume, RecoverFault>
+    ensures taken { IsTrue D.tells → IfOk result (λ v. volume (D.size disk.old) (reads (D.moments disk.old)) ≡ Ok (volume_in v (reads (D.moments disk.old)))) }
+    ensures added { IsTrue D.tells → IfOk result (λ v. HasAdded v.overlay (committed_in v (reads (D.moments disk.old)))) }
+    ensures count { IsTrue D.tells → IfOk result (λ v. v.committed ≡ length (committed_in v (reads (D.moments disk.old)))) }
+    ensures large { IfOk result (λ v. sector_count v.head.geometry ≤ D.size disk.old) }
+    ensures refused { IsTrue D.tells → IfErr result (IsWhyNot (volume (D.size disk.old) (reads (D.moments disk.old)))) }
+    ensures read_only { IsTrue D.tells → IsReadOnly D.keeps (D.moments disk.old) (D.moments disk.new) }
+    ensures size { D.size disk.new ≡ D.size disk.old }
+    ensures passed { OnOk result (D.faults disk.new ≡ D.faults disk.old) }
+    ensures cause { IfErr result (HasFaultCause (D.faults disk.old) (D.faults disk.new)) }
+{
+    let head = read_head(disk)?;
+    let list = read_journal(alloc, disk, &head)?;
+    match with_list(alloc, head, &list) {
+        Ok(volume) => Ok(volume),
+        Err(fault) => Err(fault),
+    }
+}

@@ -1,0 +1,17 @@
+// A volume with what is committed in its journal.
+ghost use Rattle.std.specs.Prelude.{◌≡◌};
+ghost use Rattle.ufs_overlay.specs.Seen.{geometry_of};
+
+use ufs_catalog::ImageHead;
+use ufs_overlay::Overlay;
+
+/// A volume: its superblock, and the transactions that are committed in its journal and may not be home yet.
+#[derive(Drop)]
+pub struct FoldedVolume {
+    pub head: ImageHead,
+    /// These transactions, over the home sectors.
+    pub overlay: Overlay,
+    /// How many they are.
+    pub committed: u32,
+    pub ghost same: { geometry_of overlay ≡ head.geometry },
+}
