@@ -8,3 +8,5 @@ pub mod OneMore
 pub mod Clears
 pub mod Phases
 pub mod Bits
+pub mod Alike
+pub mod Closing
