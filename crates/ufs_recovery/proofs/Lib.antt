@@ -10,3 +10,4 @@ pub mod Phases
 pub mod Bits
 pub mod Alike
 pub mod Closing
+pub mod Reaching
