@@ -10,4 +10,6 @@ pub mod Phases
 pub mod Bits
 pub mod Alike
 pub mod Closing
-pub mod Reaching
+pub mod Told
+pub mod Marked
+pub mod Begun

@@ -75,3 +75,9 @@ pub get_there : {X : Type 0} (xs : List X) (k : ℕ) (d : X) → k < length xs �
 get_there [] k d less = absurd (omega (arith, less))
 get_there (x ∷ xs) zero d less = refl
 get_there (x ∷ xs) (suc k) d less = get_there xs k d (omega (arith, less))
+
+-- whatever is read past the end
+pub any_default : {X : Type 0} (xs : List X) (k : ℕ) (d e : X) → k < length xs → get_or xs k d ≡ get_or xs k e
+any_default [] k d e less = absurd (omega (arith, less))
+any_default (x ∷ xs) zero d e less = refl
+any_default (x ∷ xs) (suc k) d e less = any_default xs k d e (omega (arith, less))

@@ -1,8 +1,9 @@
 -- Inodes that are used and that no walk from the root meets.
-use Rattle.std.specs.Prelude.{ℕ, ◌≡◌, ◌≢◌, ◌+◌, ◌⊎◌, Some, None, length}
+use Rattle.std.specs.Prelude.{ℕ, ◌≡◌, ◌≢◌, ◌+◌, ◌<◌, ◌⊎◌, List, Bool, true, false, ◌==◌, if◌then◌else◌, Option, Some, None, length, slice_index_or}
 use Rattle.std.specs.List.{slice_get}
 use Rattle.ufs_layout.specs.declared.geometry.Geometry.{Geometry}
 use Rattle.ufs_base.specs.Images.{Image}
+use Rattle.ufs_layout.specs.InodeForm.{InodeForm}
 use Rattle.ufs_layout.specs.Superblock.{geometry_of}
 use Rattle.ufs_layout.specs.declared.superblock.Super.{Super}
 use Rattle.ufs_image.specs.Catalog.{Catalog, IsInode, catalog_at}
@@ -41,3 +42,31 @@ pub record IsPruned (sectors : ℕ) (head : Super) (before after : Image) : Type
   pub home : IsAtHome sectors head after
   pub named : HasNoOrphans (geometry_of head) after
   pub numbers : (inode : ℕ) → IsInode (geometry_of head) inode → (form_at (geometry_of head) after inode).number ≡ (form_at (geometry_of head) before inode).number
+
+-- ---- what is read of them
+
+-- the commit number of an inode that is used and that no walk meets
+abbrev pub orphan_number : Option InodeForm → Bool → Option ℕ
+orphan_number None reached = None
+orphan_number (Some form) true = None
+orphan_number (Some form) false = if form.kind == 0 then None else Some form.number
+
+-- the same of a directory
+abbrev pub orphan_dir_number : Option InodeForm → Bool → Option ℕ
+orphan_dir_number None reached = None
+orphan_dir_number (Some form) true = None
+orphan_dir_number (Some form) false = if form.kind == 2 then Some form.number else None
+
+-- Each place has what the test makes of the form and the mark there.
+abbrev pub AreTold : (Option InodeForm → Bool → Option ℕ) → List (Option InodeForm) → List Bool → Numbers → Type 0
+AreTold test forms marks numbers = (place : ℕ) → place < length numbers → slice_get numbers place ≡ Some (test (slice_index_or forms place None) (slice_index_or marks place false))
+
+-- No place has a number.
+abbrev pub HasNone : Numbers → Type 0
+HasNone numbers = (place number : ℕ) → slice_get numbers place ≡ Some (Some number) → ⊥
+
+-- The marks say of each inode, that of inode 1 first, whether a walk from the root meets it.
+pub record AreReachedMarks (g : Geometry) (c : Catalog) (marks : List Bool) : Type 0 where
+  pub sized : length marks ≡ g.inodes
+  pub reached : (place : ℕ) → slice_get marks place ≡ Some true → IsReached c (place + 1)
+  pub others : (place : ℕ) → slice_get marks place ≡ Some false → IsUnreached c (place + 1)

@@ -4,5 +4,10 @@
 mod bitmap;
 mod bringing;
 mod clearing;
+
+mod orphans;
 mod pruning;
+mod reaching;
 mod sector;
+mod steps;
+mod superblocks;

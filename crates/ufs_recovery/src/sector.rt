@@ -40,7 +40,7 @@ pub(crate) fn put_head<D: Disk>(disk: &mut D, head: &Super) -> Result<(), Fault>
     requires form { IsTrue (is_super 1 head.now) }
     requires some { 0 < D.size disk.old }
     ensures settled { IsTrue D.tells → OnOk result (IsSettled (D.moments disk.new).state) }
-    ensures home { IsTrue D.tells → IsBroughtHome (D.size disk.old) (reads (D.moments disk.old)) head.now → OnOk result (IsAtHome (D.size disk.old) head.now (reads (D.moments disk.new))) }
+    ensures home { IsTrue D.tells → OnOk result (IsBroughtHome (D.size disk.old) (reads (D.moments disk.old)) head.now → IsAtHome (D.size disk.old) head.now (reads (D.moments disk.new))) }
     ensures others { IsTrue D.tells → OnOk result ((sector : ℕ) → sector ≢ 0 → reads (D.moments disk.new) sector ≡ reads (D.moments disk.old) sector) }
     ensures tree { IsTrue D.tells → IsSettled (D.moments disk.old).state → IsBroughtHome (D.size disk.old) (reads (D.moments disk.old)) head.now → KeepsTree D.keeps (D.size disk.old) (D.moments disk.old) (D.moments disk.new) }
     ensures size { D.size disk.new ≡ D.size disk.old }

@@ -13,7 +13,7 @@ returns-in_err-put_sector-clause-tree g c told settled brought =
     weaker _ _ _ (head_tree (g.D.Disk.size c.args.disk.now) (g.D.Disk.moments c.args.disk.now).state c.args.head.now c.head_sector.result c.head_sector.ensures brought settled) _ _ (c.put_sector.ensures.crash told)
 
 pub returns-clause-home : goal.returns-clause-home
-returns-clause-home g c told brought = on_ok_weaker c.barrier.result (λ settled.
+returns-clause-home g c told = on_ok_weaker c.barrier.result (λ settled brought.
     subst (IsAtHome (g.D.Disk.size c.args.disk.now) c.args.head.now) (sym (c.barrier.ensures.content told ∙ c.in_ok-put_sector.ensures.written told))
     (head_there (g.D.Disk.size c.args.disk.now) (g.D.Disk.moments c.args.disk.now).state c.args.head.now c.head_sector.result c.head_sector.ensures brought)) (c.barrier.ensures.ok told)
 
