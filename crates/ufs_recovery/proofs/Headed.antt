@@ -8,6 +8,7 @@ use Rattle.ufs_disk.proofs.Runs.{weaker, joined}
 use Rattle.ufs_layout.specs.Superblock.{super_of}
 use Rattle.ufs_layout.specs.declared.superblock.Super.{Super}
 use Rattle.ufs_image.specs.Opens.{opens}
+use Rattle.ufs_catalog.specs.Reading.{IsReadOnly}
 use Rattle.ufs_recovery.specs.Cleared.{HasSectorPut}
 use Rattle.ufs_recovery.specs.Home.{IsAtHome, IsBroughtHome, OpensAlike, KeepsTree}
 use Rattle.ufs_recovery.proofs.Home.{headed_home, headed_tree}
@@ -52,3 +53,7 @@ module _ (sectors : ℕ) (old : State) (new : Super) (bytes : List ℕ) (spelled
           ap (opens sectors) (e ∙ ap (put 0 bytes) was)
           ∙ headed_tree sectors brought.image brought.as_volume brought.catalog brought.is (seen old) brought.all new bytes spelled brought.geometry brought.earlier
           ∙ sym brought.same
+
+-- Nothing is pending after reads.
+pub still_settled : (keeps : Bool) (old new : Moments) → IsReadOnly keeps old new → IsSettled old.state → IsSettled new.state
+still_settled keeps old new read settled image left = settled image (read.crash.after image left) ∙ sym read.content

@@ -19,7 +19,7 @@ use Rattle.ufs_image.specs.Sound.{HasDentry}
 use Rattle.ufs_image.specs.Walks.{inode_of as met_by}
 use Rattle.ufs_recovery.specs.Cleared.{cleared, Numbers, IsMixedCleared, AreClearedBelow, IsPartlyCleared}
 use Rattle.ufs_recovery.specs.Home.{IsAtHome, OpensAlike}
-use Rattle.ufs_recovery.specs.Orphans.{AreUnreached, AreOrphans, AreOrphanDirs, IsPruned}
+use Rattle.ufs_recovery.specs.Orphans.{AreUnreached, AreOrphans, AreOrphanDirs, HasNone, IsPruned, MayPrune}
 use Rattle.ufs_recovery.specs.Recovered.{HasNoOrphans}
 use Rattle.ufs_recovery.proofs.Pruned.{HasNoBlocks, no_slots, named_reached}
 use Rattle.ufs_recovery.proofs.Clears.{get_short, each_form, each_pruned, each_number, now_home, now_tree, now_walks}
@@ -185,3 +185,26 @@ cleared_by kind g h numbers others image e f = subst (λ (p : Geometry × Number
 pub on_ok_both : {T E : Type 0} (P Q : Type 0) (r : Result T E) → OnOk r P → OnOk r Q → OnOk r (P × Q)
 on_ok_both P Q (Ok x) p q = (p, q)
 on_ok_both P Q (Err e) p q = tt
+
+-- ---- where there are none
+
+pub none_pruned : (sectors : ℕ) (head : Super) (image : Image) (g : Geometry) (all dirs numbers : Numbers) → MayPrune sectors head image g all dirs → numbers ≡ all → HasNone numbers → IsPruned sectors head image image
+none_pruned sectors head image g all dirs numbers may same none = record { home = may.home; named = named; numbers = λ k ranged. refl }
+  where
+    named : HasNoOrphans (geometry_of head) image
+    named k ranged used = by (get_or all (k - 1) None) (there_or all (geometry_of head).inodes k may.all.sized ranged.from_one ranged.within)
+      where
+        up : k - 1 + 1 ≡ k
+        up = one_up k ranged.from_one
+
+        by : (o : Option ℕ) → slice_get all (k - 1) ≡ Some o → IsReached (catalog_at (geometry_of head) image) k
+        by (Some number) e = absurd (none (k - 1) number (ap (λ (l : Numbers). slice_get l (k - 1)) same ∙ e))
+        by None e = other (may.all.others (k - 1) e)
+          where
+            other : IsReached (catalog_at (geometry_of head) image) (k - 1 + 1) ⊎ ((form_at (geometry_of head) image (k - 1 + 1)).kind ≡ 0) → IsReached (catalog_at (geometry_of head) image) k
+            other (inl is) = subst (IsReached (catalog_at (geometry_of head) image)) up is
+            other (inr free) = absurd (used (ap (λ n. (form_at (geometry_of head) image n).kind) (sym up) ∙ free))
+
+pub always_ok : {T E : Type 0} {P : Type 0} (r : Result T E) → P → OnOk r P
+always_ok (Ok x) p = p
+always_ok (Err e) p = tt

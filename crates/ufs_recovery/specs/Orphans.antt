@@ -9,6 +9,8 @@ use Rattle.ufs_layout.specs.declared.superblock.Super.{Super}
 use Rattle.ufs_image.specs.Catalog.{Catalog, IsInode, catalog_at}
 use Rattle.ufs_image.specs.Changes.{IsReached, IsUnreached}
 use Rattle.ufs_image.specs.Images.{form_at}
+use Rattle.ufs_image.specs.Nodes.{sound_nodes}
+use Rattle.ufs_damage.specs.Findings.{AreFindingsOf, CatalogRead}
 use Rattle.ufs_recovery.specs.Home.{IsAtHome}
 use Rattle.ufs_recovery.specs.Recovered.{HasNoOrphans}
 use Rattle.ufs_recovery.specs.Cleared.{Numbers}
@@ -70,3 +72,9 @@ pub record AreReachedMarks (g : Geometry) (c : Catalog) (marks : List Bool) : Ty
   pub sized : length marks ≡ g.inodes
   pub reached : (place : ℕ) → slice_get marks place ≡ Some true → IsReached c (place + 1)
   pub others : (place : ℕ) → slice_get marks place ≡ Some false → IsUnreached c (place + 1)
+
+-- What was read of an image that has the same inodes.
+pub record IsReadOf (g : Geometry) (image : Image) (findings : CatalogRead) : Type 0 where
+  pub read : Image
+  pub are : AreFindingsOf g read findings
+  pub nodes : sound_nodes g image ≡ sound_nodes g read

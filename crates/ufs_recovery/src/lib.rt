@@ -5,7 +5,9 @@ mod bitmap;
 mod bringing;
 mod clearing;
 
+mod freeing;
 mod orphans;
+mod plan;
 mod pruning;
 mod reaching;
 mod sector;
