@@ -13,3 +13,4 @@ pub mod Closing
 pub mod Told
 pub mod Marked
 pub mod Begun
+pub mod Planned
