@@ -14,3 +14,5 @@ pub mod Told
 pub mod Marked
 pub mod Begun
 pub mod Planned
+pub mod Finished
+pub mod Moved

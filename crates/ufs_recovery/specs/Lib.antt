@@ -1,4 +1,5 @@
 pub mod Cleared
+pub mod Finished
 pub mod Home
 pub mod Marks
 pub mod Orphans

@@ -5,6 +5,7 @@ mod bitmap;
 mod bringing;
 mod clearing;
 
+mod finishing;
 mod freeing;
 mod orphans;
 mod plan;
