@@ -1,4 +1,5 @@
 pub mod Quiet
+pub mod Outside
 mod Heads
 mod Blocks
 mod Pieces

@@ -41,3 +41,8 @@ IsWhyNot given (BadRecord sector) = given ≡ Err (image.BadRecord sector)
 IsWhyNot given (BadTree inode) = given ≡ Err (image.BadTree inode)
 IsWhyNot given (Device fault) = Unit {0}
 IsWhyNot given Memory = Unit {0}
+
+-- It blames no inode.
+abbrev pub BlamesNone : RecoverFault → Type 0
+BlamesNone (BadTree inode) = ⊥
+BlamesNone _ = Unit {0}

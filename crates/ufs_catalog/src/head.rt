@@ -5,7 +5,7 @@ ghost use Rattle.ufs_disk.specs.Moments.{reads};
 ghost use Rattle.ufs_layout.specs.Areas.{IsGeometry, sector_count};
 ghost use Rattle.ufs_layout.specs.Superblock.{super_fields, geometry_of};
 ghost use Rattle.ufs_image.specs.Volume.{head_of, head_refusal};
-ghost use Rattle.ufs_catalog.specs.Faults.{HasFaultCause, IsRefusal};
+ghost use Rattle.ufs_catalog.specs.Faults.{BlamesNone, HasFaultCause, IsRefusal};
 ghost use Rattle.ufs_catalog.specs.Heads.{size_refusal};
 ghost use Rattle.ufs_catalog.specs.Reading.{IsReadOnly};
 
@@ -31,6 +31,7 @@ fn with_geometry(sectors: u32, head: Super) -> Result<ImageHead, RecoverFault>
     ensures large { IfOk result (λ h. sector_count h.geometry ≤ sectors) }
     ensures refused { IfErr result (IsRefusal (size_refusal sectors (geometry_of head))) }
     ensures calm { IfErr result (λ f. (before : ℕ) → HasFaultCause before before f) }
+    ensures blames_none { IfErr result BlamesNone }
 {
     match Geometry::make(head.blocks, head.inodes, head.journal) {
         Ok(geometry) => {
@@ -54,6 +55,7 @@ fn judge(sectors: u32, bytes: &[u8]) -> Result<ImageHead, RecoverFault>
     ensures large { IfOk result (λ h. sector_count h.geometry ≤ sectors) }
     ensures refused { IfErr result (IsRefusal (head_refusal sectors (λ _. bytes.now))) }
     ensures calm { IfErr result (λ f. (before : ℕ) → HasFaultCause before before f) }
+    ensures blames_none { IfErr result BlamesNone }
 {
     let Some(version) = super_version(bytes) else {
         return Err(RecoverFault::NoSuperblock);
@@ -73,6 +75,7 @@ pub fn read_head<D: Disk>(disk: &mut D) -> Result<ImageHead, RecoverFault>
     ensures taken { IsTrue D.tells → IfOk result (λ h. head_refusal (D.size disk.old) (reads (D.moments disk.old)) ≡ None) }
     ensures large { IfOk result (λ h. sector_count h.geometry ≤ D.size disk.old) }
     ensures refused { IsTrue D.tells → IfErr result (IsRefusal (head_refusal (D.size disk.old) (reads (D.moments disk.old)))) }
+    ensures blames_none { IfErr result BlamesNone }
     ensures read_only { IsTrue D.tells → IsReadOnly D.keeps (D.moments disk.old) (D.moments disk.new) }
     ensures size { D.size disk.new ≡ D.size disk.old }
     ensures passed { OnOk result (D.faults disk.new ≡ D.faults disk.old) }

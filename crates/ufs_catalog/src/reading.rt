@@ -5,7 +5,7 @@ ghost use Rattle.ufs_base.specs.declared.sizes.TheConstants.{BLOCK, MAX_BLOCKS, 
 ghost use Rattle.ufs_disk.specs.Disk.{IsRange, bytes_from};
 ghost use Rattle.ufs_disk.specs.Moments.{reads};
 ghost use Rattle.ufs_image.specs.Images.{block_at};
-ghost use Rattle.ufs_catalog.specs.Faults.{HasFaultCause, IsOutside};
+ghost use Rattle.ufs_catalog.specs.Faults.{BlamesNone, HasFaultCause, IsOutside};
 ghost use Rattle.ufs_catalog.specs.Folded.{IsFolded};
 ghost use Rattle.ufs_catalog.specs.Reading.{IsReadOnly, AreSectors};
 
@@ -29,6 +29,7 @@ pub(crate) fn read_at<D: Disk>(
     ensures size { D.size disk.new ≡ D.size disk.old }
     ensures passed { OnOk result (D.faults disk.new ≡ D.faults disk.old) }
     ensures cause { IfErr result (HasFaultCause (D.faults disk.old) (D.faults disk.new)) }
+    ensures blames_none { IfErr result BlamesNone }
     ensures outside { IfErr result IsOutside }
 {
     match disk.read(sector, buf) {

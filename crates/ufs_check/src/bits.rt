@@ -1,4 +1,4 @@
-// The bitmap on a disk beside the used blocks.
+// The bitmap of a folded image beside the used blocks.
 ghost use Rattle.std.specs.Prelude.{ℕ, List, Bool, ◌≡◌, ◌≤◌, ◌<◌, ◌+◌, ◌*◌, ◌++◌, length, map, take, drop, IsTrue, IfErr, OnOk};
 ghost use Rattle.std.specs.List.{range_with_len};
 ghost use Rattle.ufs_base.specs.Images.{Image};
@@ -9,6 +9,7 @@ ghost use Rattle.ufs_image.specs.Nodes.{Node};
 ghost use Rattle.ufs_image.specs.Damage.{BitmapDiffers, differing, all_bits};
 ghost use Rattle.ufs_damage.specs.Taken.{AreTaken};
 ghost use Rattle.ufs_catalog.specs.Faults.{HasFaultCause, IsOutside};
+ghost use Rattle.ufs_catalog.specs.Folded.{IsFolded};
 ghost use Rattle.ufs_catalog.specs.Reading.{AreSectors, IsReadOnly};
 
 use ufs_base::{BLOCK, Memory, SECTOR};
@@ -16,6 +17,7 @@ use ufs_catalog::{RecoverFault, read_block};
 use ufs_damage::{DamageList, TakenBlocks};
 use ufs_disk::Disk;
 use ufs_layout::Geometry;
+use ufs_overlay::Overlay;
 
 /// The sectors of a block.
 const SECTORS: u32 = 8;
@@ -41,6 +43,7 @@ fn compare_sectors(
 // Reads a block of the bitmap and compares it; places count from the bitmap's first block.
 fn compare_block<D: Disk>(
     disk: &mut D,
+    overlay: &Overlay,
     list: &mut DamageList,
     taken: &TakenBlocks,
     block: u32,
@@ -49,7 +52,7 @@ fn compare_block<D: Disk>(
     requires few { place < 256 }
     requires there { block ≡ first_of_bitmap + place }
     requires inside { 8 * block + 8 ≤ D.size disk.old }
-    ensures told { IsTrue D.tells → OnOk result ((g : Geometry) (nodes : List Node) → AreTaken g nodes taken.now → (n : ℕ) → n ≡ 8 * BLOCK → list.new ≡ list.old ++ map BitmapDiffers (differing g (reads (D.moments disk.old)) nodes (range_with_len (32768 * place) n))) }
+    ensures told { IsTrue D.tells → (image : Image) → IsFolded overlay.now (reads (D.moments disk.old)) image → OnOk result ((g : Geometry) (nodes : List Node) → AreTaken g nodes taken.now → (n : ℕ) → n ≡ 8 * BLOCK → list.new ≡ list.old ++ map BitmapDiffers (differing g image nodes (range_with_len (32768 * place) n))) }
     ensures read_only { IsTrue D.tells → IsReadOnly D.keeps (D.moments disk.old) (D.moments disk.new) }
     ensures size { D.size disk.new ≡ D.size disk.old }
     ensures passed { OnOk result (D.faults disk.new ≡ D.faults disk.old) }
@@ -57,7 +60,7 @@ fn compare_block<D: Disk>(
     ensures outside { IfErr result IsOutside }
 {
     let mut bytes = [0; BLOCK];
-    read_block(disk, block, &mut bytes)?;
+    read_block(disk, overlay, block, &mut bytes)?;
     match compare_sectors(list, taken, place, &bytes) {
         Ok(()) => Ok(()),
         Err(Memory) => Err(RecoverFault::Memory),
@@ -68,12 +71,13 @@ fn compare_block<D: Disk>(
 pub(crate) fn compare_bits<D: Disk>(
     disk: &mut D,
     geometry: &Geometry,
+    overlay: &Overlay,
     taken: &TakenBlocks,
     list: &mut DamageList,
 ) -> Result<(), RecoverFault>
     requires geometry { IsGeometry geometry.now }
     requires large { sector_count geometry.now ≤ D.size disk.old }
-    ensures told { IsTrue D.tells → OnOk result ((nodes : List Node) → AreTaken geometry.now nodes taken.now → list.new ≡ list.old ++ map BitmapDiffers (differing geometry.now (reads (D.moments disk.old)) nodes (all_bits geometry.now))) }
+    ensures told { IsTrue D.tells → (image : Image) → IsFolded overlay.now (reads (D.moments disk.old)) image → OnOk result ((nodes : List Node) → AreTaken geometry.now nodes taken.now → list.new ≡ list.old ++ map BitmapDiffers (differing geometry.now image nodes (all_bits geometry.now))) }
     ensures read_only { IsTrue D.tells → IsReadOnly D.keeps (D.moments disk.old) (D.moments disk.new) }
     ensures size { D.size disk.new ≡ D.size disk.old }
     ensures passed { OnOk result (D.faults disk.new ≡ D.faults disk.old) }
@@ -83,7 +87,7 @@ pub(crate) fn compare_bits<D: Disk>(
     let count = geometry.bitmap_blocks();
     let first = geometry.first_of_inodes() - count;
     for place in 0..count {
-        compare_block(disk, list, taken, first + place, place)?;
+        compare_block(disk, overlay, list, taken, first + place, place)?;
     }
     Ok(())
 }

@@ -8,18 +8,19 @@ ghost use Rattle.ufs_image.specs.Nodes.{sound_nodes};
 ghost use Rattle.ufs_image.specs.Opens.{damage_list};
 ghost use Rattle.ufs_damage.specs.Findings.{AreFindingsOf};
 ghost use Rattle.ufs_damage.specs.Taken.{AreTaken};
-ghost use Rattle.ufs_catalog.specs.Faults.{HasFaultCause, IsOutside};
+ghost use Rattle.ufs_catalog.specs.Faults.{BlamesNone, HasFaultCause, IsOutside, IsWhyNot};
+ghost use Rattle.ufs_catalog.specs.Folded.{IsFolded};
 ghost use Rattle.ufs_catalog.specs.Reading.{IsReadOnly};
-ghost use Rattle.ufs_check.specs.Refused.{IsCheckRefusal};
 
 use crate::bits::compare_bits;
-use crate::journal::has_commits;
 use std::alloc::Global;
 use ufs_base::Memory;
-use ufs_catalog::{ImageHead, RecoverFault, read_findings, read_head};
+use ufs_catalog::{RecoverFault, read_findings};
 use ufs_damage::{DamageList, Findings, TakenBlocks, damage_of, taken_blocks};
 use ufs_disk::Disk;
 use ufs_layout::Geometry;
+use ufs_overlay::Overlay;
+use ufs_volume::{FoldedVolume, read_volume};
 
 // The damage of the tree, and the used blocks.
 fn told(
@@ -41,60 +42,60 @@ fn told_of<D: Disk>(
     alloc: Global,
     disk: &mut D,
     geometry: &Geometry,
+    overlay: &Overlay,
 ) -> Result<(DamageList, TakenBlocks), RecoverFault>
     requires geometry { IsGeometry geometry.now }
     requires large { sector_count geometry.now ≤ D.size disk.old }
-    ensures list { IsTrue D.tells → IfOk result (λ both. both.0 ≡ tree_damage geometry.now (reads (D.moments disk.old))) }
-    ensures taken { IsTrue D.tells → IfOk result (λ both. AreTaken geometry.now (sound_nodes geometry.now (reads (D.moments disk.old))) both.1) }
+    ensures list { IsTrue D.tells → (image : Image) → IsFolded overlay.now (reads (D.moments disk.old)) image → IfOk result (λ both. both.0 ≡ tree_damage geometry.now image) }
+    ensures taken { IsTrue D.tells → (image : Image) → IsFolded overlay.now (reads (D.moments disk.old)) image → IfOk result (λ both. AreTaken geometry.now (sound_nodes geometry.now image) both.1) }
     ensures read_only { IsTrue D.tells → IsReadOnly D.keeps (D.moments disk.old) (D.moments disk.new) }
     ensures size { D.size disk.new ≡ D.size disk.old }
     ensures passed { OnOk result (D.faults disk.new ≡ D.faults disk.old) }
     ensures cause { IfErr result (HasFaultCause (D.faults disk.old) (D.faults disk.new)) }
     ensures outside { IfErr result IsOutside }
 {
-    let findings = read_findings(alloc, disk, geometry)?;
+    let findings = read_findings(alloc, disk, geometry, overlay)?;
     match told(alloc, geometry, &findings) {
         Ok(both) => Ok(both),
         Err(Memory) => Err(RecoverFault::Memory),
     }
 }
 
-// The damage of an image with nothing to fold.
-fn check_home<D: Disk>(
+// The damage of a volume.
+fn check_volume<D: Disk>(
     alloc: Global,
     disk: &mut D,
-    image: &ImageHead,
+    volume: &FoldedVolume,
 ) -> Result<DamageList, RecoverFault>
-    requires { sector_count image.now.geometry ≤ D.size disk.old }
-    ensures list { IsTrue D.tells → IfOk result (λ list. list ≡ damage image.now.head.clean image.now.geometry (reads (D.moments disk.old))) }
+    requires { sector_count volume.now.head.geometry ≤ D.size disk.old }
+    ensures list { IsTrue D.tells → (image : Image) → IsFolded volume.now.overlay (reads (D.moments disk.old)) image → IfOk result (λ list. list ≡ damage volume.now.head.head.clean volume.now.head.geometry image) }
     ensures read_only { IsTrue D.tells → IsReadOnly D.keeps (D.moments disk.old) (D.moments disk.new) }
     ensures size { D.size disk.new ≡ D.size disk.old }
     ensures passed { OnOk result (D.faults disk.new ≡ D.faults disk.old) }
     ensures cause { IfErr result (HasFaultCause (D.faults disk.old) (D.faults disk.new)) }
     ensures outside { IfErr result IsOutside }
 {
-    let (mut list, taken) = told_of(alloc, disk, &image.geometry)?;
-    if !image.head.clean {
+    let geometry = &volume.head.geometry;
+    let (mut list, taken) = told_of(alloc, disk, geometry, &volume.overlay)?;
+    if !volume.head.head.clean {
         return Ok(list);
     }
-    compare_bits(disk, &image.geometry, &taken, &mut list)?;
+    compare_bits(disk, geometry, &volume.overlay, &taken, &mut list)?;
     Ok(list)
 }
 
-/// Every damage of the image on the disk, in the order of the definition. Reads the journal, the inode table
-/// and the blocks of directories once, and on a clean image the bitmap; writes nothing. A damaged tree is
-/// never a refusal here. `NotBuilt` where transactions are committed that aren't written home.
+/// Every damage of the image on the disk as its committed transactions leave it, in the order of the definition.
+/// Reads the journal, the inode table and the blocks of directories once, and on a clean image the bitmap; writes
+/// nothing. A damaged tree is never a refusal here.
 pub fn check<D: Disk>(alloc: Global, disk: &mut D) -> Result<DamageList, RecoverFault>
     ensures list { IsTrue D.tells → IfOk result (λ list. damage_list (D.size disk.old) (reads (D.moments disk.old)) ≡ Ok list) }
-    ensures refused { IsTrue D.tells → IfErr result (IsCheckRefusal (D.size disk.old) (reads (D.moments disk.old))) }
+    ensures refused { IsTrue D.tells → IfErr result (IsWhyNot (damage_list (D.size disk.old) (reads (D.moments disk.old)))) }
+    ensures blames_none { IfErr result BlamesNone }
     ensures read_only { IsTrue D.tells → IsReadOnly D.keeps (D.moments disk.old) (D.moments disk.new) }
     ensures size { D.size disk.new ≡ D.size disk.old }
     ensures passed { OnOk result (D.faults disk.new ≡ D.faults disk.old) }
     ensures cause { IfErr result (HasFaultCause (D.faults disk.old) (D.faults disk.new)) }
 {
-    let image = read_head(disk)?;
-    if has_commits(alloc, disk, &image)? {
-        return Err(RecoverFault::NotBuilt);
-    }
-    check_home(alloc, disk, &image)
+    let volume = read_volume(alloc, disk)?;
+    check_volume(alloc, disk, &volume)
 }

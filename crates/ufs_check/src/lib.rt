@@ -3,6 +3,5 @@
 
 mod bits;
 mod checking;
-mod journal;
 
 pub use checking::check;

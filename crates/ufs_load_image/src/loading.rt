@@ -3,7 +3,7 @@ ghost use Rattle.std.specs.Prelude.{ℕ, ◌≡◌, ◌≤◌, None, Some, Ok, l
 ghost use Rattle.std.specs.FinSet as set;
 ghost use Rattle.ufs_base.specs.Images.{Image};
 ghost use Rattle.ufs_disk.specs.Moments.{reads};
-ghost use Rattle.ufs_layout.specs.Areas.{IsGeometry, all_inodes, first_of_data};
+ghost use Rattle.ufs_layout.specs.Areas.{IsGeometry, all_inodes, first_of_data, sector_count};
 ghost use Rattle.ufs_image.specs.Images.{form_at};
 ghost use Rattle.ufs_image.specs.Catalog.{IsCatalogOf, catalog_at};
 ghost use Rattle.ufs_image.specs.Damage.{bad_tree};
@@ -12,6 +12,8 @@ ghost use Rattle.ufs_image.specs.Volume.{volume};
 ghost use Rattle.ufs_damage.specs.Findings.{AreFindingsOf};
 ghost use Rattle.ufs_catalog.specs.Faults.{HasFaultCause};
 ghost use Rattle.ufs_catalog.specs.Reading.{IsReadOnly};
+ghost use Rattle.ufs_overlay.specs.Seen.{HasAdded};
+ghost use Rattle.ufs_volume.specs.Volumes.{committed_in, folded_image, volume_in};
 ghost use Rattle.ufs_opening.specs.Told.{TellsWhy};
 ghost use Rattle.ufs_load_image.specs.Loaded.{is_free_block};
 
@@ -19,18 +21,19 @@ use crate::free::free_blocks;
 use std::alloc::Global;
 use ufs_base::Memory;
 use ufs_bitmap::Bitmap;
-use ufs_catalog::{ImageHead, RecoverFault};
+use ufs_catalog::RecoverFault;
 use ufs_damage::{Findings, taken_blocks};
 use ufs_disk::Disk;
 use ufs_image::damage_law;
 use ufs_layout::Geometry;
 use ufs_opening::{Opened, open};
+use ufs_volume::FoldedVolume;
 
-/// What a server begins with: the superblock, the inodes (none of which is off its form), the directories with
-/// their slots, and the free blocks of the data area.
+/// What a server begins with: the volume, the inodes (none of which is off its form) and the directories with their
+/// slots as the committed transactions leave them, and the free blocks of the data area.
 #[derive(Drop)]
 pub struct Loaded {
-    pub head: ImageHead,
+    pub volume: FoldedVolume,
     pub findings: Findings,
     pub free: Bitmap,
 }
@@ -49,37 +52,40 @@ fn free_of(alloc: Global, geometry: &Geometry, findings: &Findings) -> Result<Bi
 
 // What was read is that of a sound catalog.
 fn with_free(alloc: Global, opened: Opened) -> Result<Loaded, Memory>
-    requires counted { length opened.findings.forms ≡ opened.head.geometry.inodes }
-    ensures head { IfOk result (λ l. l.head ≡ opened.head) }
+    requires counted { length opened.findings.forms ≡ opened.volume.head.geometry.inodes }
+    ensures volume { IfOk result (λ l. l.volume ≡ opened.volume) }
     ensures findings { IfOk result (λ l. l.findings ≡ opened.findings) }
-    ensures first { IfOk result (λ l. l.free.first ≡ first_of_data opened.head.geometry) }
-    ensures blocks { IfOk result (λ l. l.free.blocks ≡ opened.head.geometry.blocks) }
-    ensures free { IfOk result (λ l. (image : Image) → AreFindingsOf opened.head.geometry image opened.findings → (b : ℕ) → set.contains l.free.free b ≡ is_free_block opened.head.geometry image b) }
-    ensures catalog { (image : Image) → bad_tree opened.head.geometry image ≡ None → IsCatalogOf opened.head.geometry image (catalog_at opened.head.geometry image) }
-    ensures sound { (image : Image) → bad_tree opened.head.geometry image ≡ None → IsSoundCatalog opened.head.geometry (catalog_at opened.head.geometry image) }
+    ensures first { IfOk result (λ l. l.free.first ≡ first_of_data opened.volume.head.geometry) }
+    ensures blocks { IfOk result (λ l. l.free.blocks ≡ opened.volume.head.geometry.blocks) }
+    ensures free { IfOk result (λ l. (image : Image) → AreFindingsOf opened.volume.head.geometry image opened.findings → (b : ℕ) → set.contains l.free.free b ≡ is_free_block opened.volume.head.geometry image b) }
+    ensures catalog { (image : Image) → bad_tree opened.volume.head.geometry image ≡ None → IsCatalogOf opened.volume.head.geometry image (catalog_at opened.volume.head.geometry image) }
+    ensures sound { (image : Image) → bad_tree opened.volume.head.geometry image ≡ None → IsSoundCatalog opened.volume.head.geometry (catalog_at opened.volume.head.geometry image) }
 {
-    let Opened { head, findings } = opened;
-    damage_law(&head.geometry);
-    let free = free_of(alloc, &head.geometry, &findings)?;
+    let Opened { volume, findings } = opened;
+    damage_law(&volume.head.geometry);
+    let free = free_of(alloc, &volume.head.geometry, &findings)?;
     Ok(Loaded {
-        head,
+        volume,
         findings,
         free,
     })
 }
 
 /// Loads an image that stands for a tree, or tells why it stands for none. Which blocks are free comes from
-/// the inodes; the bitmap isn't read. Reads the superblock, each sector of the journal, and each block of the
-/// inode table and of directories; writes nothing.
+/// the inodes as the committed transactions leave them; the bitmap isn't read. Reads the superblock, each sector of
+/// the journal, and each block of the inode table and of directories; writes nothing.
 pub fn load<D: Disk>(alloc: Global, disk: &mut D) -> Result<Loaded, RecoverFault>
-    ensures taken { IsTrue D.tells → IfOk result (λ l. volume (D.size disk.old) (reads (D.moments disk.old)) ≡ Ok (record { head = l.head.head; geometry = l.head.geometry; image = reads (D.moments disk.old) })) }
-    ensures found { IsTrue D.tells → IfOk result (λ l. AreFindingsOf l.head.geometry (reads (D.moments disk.old)) l.findings) }
-    ensures forms { IsTrue D.tells → IfOk result (λ l. l.findings.forms ≡ map (λ inode. Some (form_at l.head.geometry (reads (D.moments disk.old)) inode)) (all_inodes l.head.geometry)) }
-    ensures catalog { IsTrue D.tells → IfOk result (λ l. IsCatalogOf l.head.geometry (reads (D.moments disk.old)) (catalog_at l.head.geometry (reads (D.moments disk.old)))) }
-    ensures sound { IsTrue D.tells → IfOk result (λ l. IsSoundCatalog l.head.geometry (catalog_at l.head.geometry (reads (D.moments disk.old)))) }
-    ensures first { IfOk result (λ l. l.free.first ≡ first_of_data l.head.geometry) }
-    ensures blocks { IfOk result (λ l. l.free.blocks ≡ l.head.geometry.blocks) }
-    ensures free { IsTrue D.tells → IfOk result (λ l. (b : ℕ) → set.contains l.free.free b ≡ is_free_block l.head.geometry (reads (D.moments disk.old)) b) }
+    ensures taken { IsTrue D.tells → IfOk result (λ l. volume (D.size disk.old) (reads (D.moments disk.old)) ≡ Ok (volume_in l.volume (reads (D.moments disk.old)))) }
+    ensures added { IsTrue D.tells → IfOk result (λ l. HasAdded l.volume.overlay (committed_in l.volume (reads (D.moments disk.old)))) }
+    ensures count { IsTrue D.tells → IfOk result (λ l. l.volume.committed ≡ length (committed_in l.volume (reads (D.moments disk.old)))) }
+    ensures found { IsTrue D.tells → IfOk result (λ l. AreFindingsOf l.volume.head.geometry (folded_image l.volume (reads (D.moments disk.old))) l.findings) }
+    ensures forms { IsTrue D.tells → IfOk result (λ l. l.findings.forms ≡ map (λ inode. Some (form_at l.volume.head.geometry (folded_image l.volume (reads (D.moments disk.old))) inode)) (all_inodes l.volume.head.geometry)) }
+    ensures catalog { IsTrue D.tells → IfOk result (λ l. IsCatalogOf l.volume.head.geometry (folded_image l.volume (reads (D.moments disk.old))) (catalog_at l.volume.head.geometry (folded_image l.volume (reads (D.moments disk.old))))) }
+    ensures sound { IsTrue D.tells → IfOk result (λ l. IsSoundCatalog l.volume.head.geometry (catalog_at l.volume.head.geometry (folded_image l.volume (reads (D.moments disk.old))))) }
+    ensures first { IfOk result (λ l. l.free.first ≡ first_of_data l.volume.head.geometry) }
+    ensures blocks { IfOk result (λ l. l.free.blocks ≡ l.volume.head.geometry.blocks) }
+    ensures free { IsTrue D.tells → IfOk result (λ l. (b : ℕ) → set.contains l.free.free b ≡ is_free_block l.volume.head.geometry (folded_image l.volume (reads (D.moments disk.old))) b) }
+    ensures large { IfOk result (λ l. sector_count l.volume.head.geometry ≤ D.size disk.old) }
     ensures refused { IsTrue D.tells → IfErr result (TellsWhy (D.size disk.old) (reads (D.moments disk.old))) }
     ensures read_only { IsTrue D.tells → IsReadOnly D.keeps (D.moments disk.old) (D.moments disk.new) }
     ensures size { D.size disk.new ≡ D.size disk.old }

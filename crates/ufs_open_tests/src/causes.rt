@@ -2,6 +2,7 @@
 use crate::images::{cause, gives, new_disk, sector_of, set_sector};
 use std::alloc::Global;
 use std::test::Fail;
+use ufs_base::SECTOR;
 use ufs_catalog::RecoverFault;
 use ufs_disk::PlainDisk;
 use ufs_opening::tree_of;
@@ -53,44 +54,36 @@ fn a_new_image_has_the_root_alone(rt: HostRuntime) -> Result<(), Fail> {
     Ok(())
 }
 
-// Whether a new image with one byte of its superblock set to ff isn't opened for this cause.
-fn spoiled(alloc: Global, at: usize, wanted: RecoverFault) -> bool {
-    gives(alloc, 0, at, 255, Some(wanted))
+// The cause for which a new image isn't opened where this byte of its superblock is ff; none where it is opened.
+fn cause_of_byte(at: usize) -> Option<RecoverFault> {
+    match at {
+        0..=7 | 40..=511 => Some(RecoverFault::NoSuperblock),
+        8 => Some(RecoverFault::BadVersion { found: 255 }),
+        9 => Some(RecoverFault::BadVersion { found: 65_281 }),
+        10 => Some(RecoverFault::BadVersion { found: 16_711_681 }),
+        11 => Some(RecoverFault::BadVersion {
+            found: 4_278_190_081,
+        }),
+        12 | 13 => Some(RecoverFault::BadGeometry { number: 5 }),
+        14 | 15 => Some(RecoverFault::BadGeometry { number: 1 }),
+        17..=19 => Some(RecoverFault::BadGeometry { number: 2 }),
+        21..=23 => Some(RecoverFault::BadGeometry { number: 3 }),
+        _ => None,
+    }
 }
 
 #[test]
-fn bytes_that_no_superblock_has(rt: HostRuntime) -> Result<(), Fail> {
-    let none = RecoverFault::NoSuperblock;
-    assert!(rt; spoiled(rt.alloc(), 0, none));
-    assert!(rt; spoiled(rt.alloc(), 7, none));
-    assert!(rt; spoiled(rt.alloc(), 40, none));
-    assert!(rt; spoiled(rt.alloc(), 41, none));
-    assert!(rt; spoiled(rt.alloc(), 511, none));
+fn each_byte_of_the_superblock_has_its_cause(rt: HostRuntime) -> Result<(), Fail> {
+    for at in 0..SECTOR {
+        assert!(rt; gives(rt.alloc(), 0, at, 255, cause_of_byte(at)));
+    }
     Ok(())
 }
 
 #[test]
-fn another_version_is_told(rt: HostRuntime) -> Result<(), Fail> {
-    assert!(rt; spoiled(rt.alloc(), 8, RecoverFault::BadVersion { found: 255 }));
-    assert!(rt; spoiled(rt.alloc(), 9, RecoverFault::BadVersion { found: 65_281 }));
-    Ok(())
-}
-
-#[test]
-fn each_limit_of_the_geometry_has_its_number(rt: HostRuntime) -> Result<(), Fail> {
-    assert!(rt; spoiled(rt.alloc(), 14, RecoverFault::BadGeometry { number: 1 }));
-    assert!(rt; spoiled(rt.alloc(), 17, RecoverFault::BadGeometry { number: 2 }));
-    assert!(rt; spoiled(rt.alloc(), 21, RecoverFault::BadGeometry { number: 3 }));
-    assert!(rt;
-        gives(
-            rt.alloc(),
-            0,
-            21,
-            2,
-            Some(RecoverFault::BadGeometry { number: 4 })
-        )
-    );
-    assert!(rt; spoiled(rt.alloc(), 12, RecoverFault::BadGeometry { number: 5 }));
+fn a_geometry_without_data_is_the_fourth(rt: HostRuntime) -> Result<(), Fail> {
+    let none_left = Some(RecoverFault::BadGeometry { number: 4 });
+    assert!(rt; gives(rt.alloc(), 0, 21, 2, none_left));
     Ok(())
 }
 

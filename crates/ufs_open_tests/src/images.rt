@@ -75,14 +75,39 @@ pub fn gives(
     set_byte(&mut disk, sector, at, value) && cause(alloc, &mut disk) == wanted
 }
 
-/// The sector of a file with one extent.
-pub fn file(start: u8, length: u8, size: u8) -> [u8; SECTOR] {
+/// The sector of an inode with one extent. A directory's size is that of its blocks.
+pub fn inode(kind: u8, start: u8, length: u8, size: u16) -> [u8; SECTOR] {
     let mut bytes = [0; SECTOR];
-    bytes[0] = 1;
+    let size = size.to_le_bytes();
+    bytes[0] = kind;
     bytes[1] = 1;
     bytes[2] = 1;
-    bytes[8] = size;
+    bytes[8] = size[0];
+    bytes[9] = size[1];
     bytes[64] = start;
     bytes[68] = length;
     bytes
+}
+
+/// The sector of a file with one extent.
+pub fn file(start: u8, length: u8, size: u8) -> [u8; SECTOR] {
+    inode(1, start, length, u16::from(size))
+}
+
+/// A dentry in the slot that begins at this byte; a longer name than the slot holds is left out.
+pub fn put_name(sector: &mut [u8; SECTOR], at: usize, inode: u8, kind: u8, name: &[u8]) {
+    if at > SECTOR - 64 || name.len() > 58 {
+        return;
+    }
+    sector[at] = inode;
+    sector[at + 4] = kind;
+    sector[at + 5] = name.len() as u8;
+    for place in 0..name.len() {
+        sector[at + 6 + place] = name[place];
+    }
+}
+
+/// Says that the image is in use, so that its bitmap has no meaning.
+pub fn mark_in_use(disk: &mut PlainDisk) -> bool {
+    set_byte(disk, 0, 40, 0)
 }

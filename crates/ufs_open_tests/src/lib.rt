@@ -1,4 +1,4 @@
-//! Tests of opening and loading an image: what no clause says, and the causes of worked images.
+//! Tests of opening, loading and checking an image: what no clause says, and the causes of worked images, in use too.
 #![tactic(auto)]
 
 #[cfg(test)]
@@ -6,6 +6,10 @@ mod causes;
 #[cfg(test)]
 mod damaged;
 #[cfg(test)]
+mod folded;
+#[cfg(test)]
 mod images;
+#[cfg(test)]
+mod kinds;
 #[cfg(test)]
 mod loads;

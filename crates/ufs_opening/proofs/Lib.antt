@@ -1,4 +1,6 @@
 mod Why
 mod Rows
+mod Fronts
+mod Lengths
 mod Trees
 mod Forms

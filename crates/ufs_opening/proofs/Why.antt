@@ -1,38 +1,20 @@
 -- Why an image stands for no tree, step by step.
-use Rattle.std.proofs.Common.{◌≡◌, ℕ, Option, Some, Ok, Err, ap, ◌∙◌}
+use Rattle.std.proofs.Common.{◌≡◌, ℕ, Ok, ap, ◌∙◌}
 use Rattle.std.specs.Prelude.{Result}
 use Rattle.ufs_base.specs.Images.{Image}
 use Rattle.ufs_image.specs.Damage.{bad_tree}
 use Rattle.ufs_image.specs.Volume.{Refusal, Volume, volume}
-use Rattle.ufs_image.specs.Volume as image
 use Rattle.ufs_image.specs.Opens.{opens, entries_of, by_damage, tree_of}
-use Rattle.ufs_catalog.specs.Faults.{IsOutside, IsWhyNot}
+use Rattle.ufs_catalog.specs.Faults.{IsWhyNot}
+use Rattle.ufs_catalog.proofs.Outside.{why_then}
 use Rattle.ufs_catalog.specs.declared.fault.RecoverFault.{RecoverFault}
 use Rattle.ufs_catalog.specs.declared.fault.RecoverFault.TheVariants.{NoSuperblock, BadVersion, BadGeometry, BadRecord, BadTree, Device, Memory}
 use Rattle.ufs_opening.specs.Told.{TellsWhy, IsBlame}
 
 module _ (sectors : ℕ) (disk : Image) where
-  by_refusal : (r : Refusal) → volume sectors disk ≡ Err r → opens sectors disk ≡ Err r
-  by_refusal r is = ap (λ (v : Result Volume Refusal). tree_of (entries_of v)) is
-
   -- there is no volume
   pub why_volume : (f : RecoverFault) → IsWhyNot (volume sectors disk) f → TellsWhy sectors disk f
-  why_volume NoSuperblock is = by_refusal image.NoSuperblock is
-  why_volume (BadVersion found) is = by_refusal (image.BadVersion found) is
-  why_volume (BadGeometry number) is = by_refusal (image.BadGeometry number) is
-  why_volume (BadRecord sector) is = by_refusal (image.BadRecord sector) is
-  why_volume (BadTree inode) is = by_refusal (image.BadTree inode) is
-  why_volume (Device fault) is = tt
-  why_volume Memory is = tt
-
-  pub why_outside : (f : RecoverFault) → IsOutside f → TellsWhy sectors disk f
-  why_outside NoSuperblock is = absurd is
-  why_outside (BadVersion found) is = absurd is
-  why_outside (BadGeometry number) is = absurd is
-  why_outside (BadRecord sector) is = absurd is
-  why_outside (BadTree inode) is = absurd is
-  why_outside (Device fault) is = tt
-  why_outside Memory is = tt
+  why_volume = why_then (volume sectors disk) (opens sectors disk) (λ r is. ap (λ (v : Result Volume Refusal). tree_of (entries_of v)) is)
 
   pub why_damage : (v : Volume) → volume sectors disk ≡ Ok v → (f : RecoverFault) → IsBlame (bad_tree v.geometry v.image) f → TellsWhy sectors disk f
   why_damage v taken NoSuperblock is = absurd is

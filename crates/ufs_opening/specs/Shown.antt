@@ -1,5 +1,5 @@
 -- The tree of an image, as the file calls see it.
-use Rattle.std.specs.Prelude.{ℕ, ◌≡◌, List, map, Option, Some, None, Ok, false}
+use Rattle.std.specs.Prelude.{ℕ, ◌≡◌, List, length, map, Option, Some, None, Ok, false}
 use Rattle.ufs_image.specs.Damage.{bad_tree}
 use Rattle.ufs_image.specs.Volume.{volume}
 use Rattle.ufs_damage.specs.Findings.{AreFindingsOf}
@@ -12,10 +12,10 @@ use Rattle.ufs_base.specs.Images.{Image}
 use Rattle.ufs_layout.specs.Areas.{all_inodes}
 use Rattle.ufs_layout.specs.InodeForm.{InodeForm}
 use Rattle.ufs_layout.specs.declared.geometry.Geometry.{Geometry}
-use Rattle.ufs_image.specs.Images.{inode_at}
+use Rattle.ufs_image.specs.Images.{form_at, inode_at}
 use Rattle.ufs_image.specs.Catalog.{IsInode}
 use Rattle.ufs_image.specs.Nodes.{is_bad_inode, is_bad_extent}
-use Rattle.ufs_image.specs.Opens.{NodeBytes, ImageTree}
+use Rattle.ufs_image.specs.Opens.{NodeBytes, ImageTree, file_bytes}
 use Rattle.ufs_image.specs.Opens as image
 use Rattle.ufs_model.specs.Start.{PathNodes}
 use Rattle.ufs_model.specs.declared.data.PathEntry.{PathEntry}
@@ -31,17 +31,19 @@ bytes_of_node (node.File bytes) = Some bytes
 abbrev pub image_tree : PathNodes → ImageTree
 image_tree nodes = from_entries (map {B = image.PathEntry} (λ (e : List ℕ × PathNode). (e.0, bytes_of_node e.1)) (fin.entries nodes))
 
-abbrev pub shown : List PathEntry → List image.PathEntry
-shown es = map {B = image.PathEntry} (λ (e : PathEntry). (e.path, bytes_of_node e.node)) es
+abbrev pub shown_entry : PathEntry → image.PathEntry
+shown_entry e = (e.path, bytes_of_node e.node)
 
--- The forms are those of the image, and none of them is off its form or leaves the data area.
+abbrev pub shown : List PathEntry → List image.PathEntry
+shown es = map {B = image.PathEntry} shown_entry es
+
+-- The forms are those of the image, and none of them is off its form, leaves the data area or is short of blocks.
 pub record AreReadable (g : Geometry) (disk : Image) (forms : List (Option InodeForm)) : Type 0 where
   pub forms_are : forms ≡ map (inode_at g disk) (all_inodes g)
   pub on_form : (inode : ℕ) → IsInode g inode → is_bad_inode g disk inode ≡ false
   pub inside : (inode : ℕ) → IsInode g inode → is_bad_extent g disk inode ≡ false
-
-abbrev pub paths_of : List PathEntry → List (List ℕ)
-paths_of es = map (λ (e : PathEntry). e.path) es
+  -- a file has as many bytes as its size says
+  pub sized : (inode : ℕ) → IsInode g inode → length (file_bytes disk (form_at g disk inode)) ≡ (form_at g disk inode).size
 
 -- The image was opened: there is a volume, whose overlay has what is committed, these are its findings, and nothing of
 -- its tree is damaged.

@@ -3,11 +3,14 @@
 #![tactic(auto)]
 
 mod files;
+mod head;
 mod opened;
 mod opening;
+mod reading;
 mod tree;
 
+pub use head::{NodeHead, PathHead};
 pub use opened::Opened;
 pub use opening::open;
-pub use tree::tree_of;
+pub use tree::{tree_heads, tree_of};
 pub use ufs_catalog::RecoverFault;

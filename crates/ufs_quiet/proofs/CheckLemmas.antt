@@ -7,10 +7,9 @@ use Rattle.ufs_image.specs.Damage.{Damage}
 use Rattle.ufs_image.specs.Opens.{damage_list}
 use Rattle.ufs_image.specs.Volume.{Refusal}
 use Rattle.ufs_image.specs.Volume as image
-use Rattle.ufs_catalog.specs.Faults.{HasFaultCause}
+use Rattle.ufs_catalog.specs.Faults.{HasFaultCause, IsWhyNot}
 use Rattle.ufs_catalog.specs.declared.fault.RecoverFault.{RecoverFault}
 use Rattle.ufs_catalog.specs.declared.fault.RecoverFault.TheVariants as recover
-use Rattle.ufs_check.specs.Refused.{IsCheckRefusal}
 use Rattle.ufs_quiet.specs.declared.ending.Ending.{Ending}
 use Rattle.ufs_quiet.specs.declared.ending.Ending.TheVariants.{Done, Usage, BadGeometry, NotBuilt, BadScript, TooSmall, NoTree, DeviceFault, OutOfMemory, SourceFault, Damaged}
 use Rattle.ufs_quiet.specs.declared.words.Command.{Command}
@@ -36,13 +35,12 @@ list_told d list has calm SourceFault text e = absurd e
 list_told d list has calm Damaged text e = (calm, list, e.0, has, e.1)
 
 -- why there is none is told
-pub list_refused : (d : Formatting) (f : RecoverFault) → HasFaultCause d.before d.now f → (IsTrue d.tells → IsCheckRefusal d.sectors d.image f) → EndsCheck d (ending_of f) (line_of f)
+pub list_refused : (d : Formatting) (f : RecoverFault) → HasFaultCause d.before d.now f → (IsTrue d.tells → IsWhyNot (damage_list d.sectors d.image) f) → EndsCheck d (ending_of f) (line_of f)
 list_refused d recover.NoSuperblock cause why = (cause, image.NoSuperblock, why, refl)
 list_refused d (recover.BadVersion found) cause why = (cause, image.BadVersion found, why, refl)
 list_refused d (recover.BadGeometry number) cause why = (cause, image.BadGeometry number, why, refl)
 list_refused d (recover.BadRecord sector) cause why = (cause, image.BadRecord sector, why, refl)
-list_refused d (recover.BadTree inode) cause why = (cause, image.BadTree inode, (λ tells. absurd (why tells)), refl)
-list_refused d recover.NotBuilt cause why = (cause, why, refl)
+list_refused d (recover.BadTree inode) cause why = (cause, image.BadTree inode, why, refl)
 list_refused d (recover.Device fault) cause why = (cause.rose, ap device_line cause.number)
 list_refused d recover.Memory cause why = (cause, refl)
 
@@ -58,7 +56,6 @@ data ByStatus (d : Formatting) (status : ℕ) (text : List ℕ) : Type 0 where
   clean : status ≡ 0 → HasDamage d [] → text ≡ clean_line → ByStatus d status text
   damaged : status ≡ 8 → Listed d text → ByStatus d status text
   refused : status ≡ 3 → Refused d text → ByStatus d status text
-  committed : status ≡ 2 → (IsTrue d.tells → IsCheckRefusal d.sectors d.image recover.NotBuilt) → ByStatus d status text
   device : status ≡ 4 → d.now ≡ raised d.before → ByStatus d status text
   memory : status ≡ 5 → ByStatus d status text
 
@@ -66,7 +63,7 @@ by_status : (d : Formatting) (status : ℕ) (ending : Ending) (text : List ℕ) 
 by_status d status Done text is e = clean is e.1 e.2
 by_status d status Usage text is e = absurd e
 by_status d status (BadGeometry bad) text is e = absurd e
-by_status d status NotBuilt text is e = committed is e.1
+by_status d status NotBuilt text is e = absurd e
 by_status d status BadScript text is e = absurd e
 by_status d status TooSmall text is e = absurd e
 by_status d status NoTree text is e = refused is (e.1, e.2, e.3)
@@ -79,7 +76,6 @@ clean_by : (d : Formatting) (status : ℕ) (text : List ℕ) → status ≡ 0 �
 clean_by d status text zero (clean is h t) = (h, t)
 clean_by d status text zero (damaged is l) = absurd (omega (arith, zero, is))
 clean_by d status text zero (refused is r) = absurd (omega (arith, zero, is))
-clean_by d status text zero (committed is c) = absurd (omega (arith, zero, is))
 clean_by d status text zero (device is e) = absurd (omega (arith, zero, is))
 clean_by d status text zero (memory is) = absurd (omega (arith, zero, is))
 
@@ -87,7 +83,6 @@ damaged_by : (d : Formatting) (status : ℕ) (text : List ℕ) → status ≡ 8 
 damaged_by d status text eight (clean is h t) = absurd (omega (arith, eight, is))
 damaged_by d status text eight (damaged is l) = l
 damaged_by d status text eight (refused is r) = absurd (omega (arith, eight, is))
-damaged_by d status text eight (committed is c) = absurd (omega (arith, eight, is))
 damaged_by d status text eight (device is e) = absurd (omega (arith, eight, is))
 damaged_by d status text eight (memory is) = absurd (omega (arith, eight, is))
 
@@ -95,42 +90,30 @@ refused_by : (d : Formatting) (status : ℕ) (text : List ℕ) → status ≡ 3 
 refused_by d status text three (clean is h t) = absurd (omega (arith, three, is))
 refused_by d status text three (damaged is l) = absurd (omega (arith, three, is))
 refused_by d status text three (refused is r) = r
-refused_by d status text three (committed is c) = absurd (omega (arith, three, is))
 refused_by d status text three (device is e) = absurd (omega (arith, three, is))
 refused_by d status text three (memory is) = absurd (omega (arith, three, is))
 
-committed_by : (d : Formatting) (status : ℕ) (text : List ℕ) → status ≡ 2 → IsTrue d.tells → ByStatus d status text → IsCheckRefusal d.sectors d.image recover.NotBuilt
-committed_by d status text two tells (clean is h t) = absurd (omega (arith, two, is))
-committed_by d status text two tells (damaged is l) = absurd (omega (arith, two, is))
-committed_by d status text two tells (refused is r) = absurd (omega (arith, two, is))
-committed_by d status text two tells (committed is c) = c tells
-committed_by d status text two tells (device is e) = absurd (omega (arith, two, is))
-committed_by d status text two tells (memory is) = absurd (omega (arith, two, is))
-
 module _ (d : Formatting) (status : ℕ) (text : List ℕ) (tells : IsTrue d.tells) (calm : d.now ≡ raised d.before → ⊥) where
-  whole_by : damage_list d.sectors d.image ≡ Ok [] → ByStatus d status text → (status ≡ 0) ⊎ ((status ≡ 5) ⊎ (status ≡ 2))
+  whole_by : damage_list d.sectors d.image ≡ Ok [] → ByStatus d status text → (status ≡ 0) ⊎ (status ≡ 5)
   whole_by none (clean is h t) = inl is
   whole_by none (damaged is l) = absurd (l.1 (let both : Ok l.0 ≡ Ok [] = sym (l.2 tells) ∙ none in cc))
   whole_by none (refused is r) = let both : Ok [] ≡ Err r.0 = sym none ∙ r.1 tells in cc
-  whole_by none (committed is c) = inr (inr is)
   whole_by none (device is e) = absurd (calm e)
-  whole_by none (memory is) = inr (inl is)
+  whole_by none (memory is) = inr is
 
-  listed_by : (list : List Damage) → (list ≡ [] → ⊥) → damage_list d.sectors d.image ≡ Ok list → ByStatus d status text → (status ≡ 8) ⊎ ((status ≡ 5) ⊎ (status ≡ 2))
+  listed_by : (list : List Damage) → (list ≡ [] → ⊥) → damage_list d.sectors d.image ≡ Ok list → ByStatus d status text → (status ≡ 8) ⊎ (status ≡ 5)
   listed_by list some has (clean is h t) = absurd (some (let both : Ok list ≡ Ok [] = sym has ∙ h tells in cc))
   listed_by list some has (damaged is l) = inl is
   listed_by list some has (refused is r) = let both : Ok list ≡ Err r.0 = sym has ∙ r.1 tells in cc
-  listed_by list some has (committed is c) = inr (inr is)
   listed_by list some has (device is e) = absurd (calm e)
-  listed_by list some has (memory is) = inr (inl is)
+  listed_by list some has (memory is) = inr is
 
-  unlisted_by : (refusal : Refusal) → damage_list d.sectors d.image ≡ Err refusal → ByStatus d status text → (status ≡ 3) ⊎ ((status ≡ 5) ⊎ (status ≡ 2))
+  unlisted_by : (refusal : Refusal) → damage_list d.sectors d.image ≡ Err refusal → ByStatus d status text → (status ≡ 3) ⊎ (status ≡ 5)
   unlisted_by refusal none (clean is h t) = let both : Err refusal ≡ Ok [] = sym none ∙ h tells in cc
   unlisted_by refusal none (damaged is l) = let both : Err refusal ≡ Ok l.0 = sym none ∙ l.2 tells in cc
   unlisted_by refusal none (refused is r) = inl is
-  unlisted_by refusal none (committed is c) = inr (inr is)
   unlisted_by refusal none (device is e) = absurd (calm e)
-  unlisted_by refusal none (memory is) = inr (inl is)
+  unlisted_by refusal none (memory is) = inr is
 
 -- ---- of the whole answer, where the words are `check`
 
@@ -159,17 +142,12 @@ module _ (words : Option Command) (is : words ≡ Some command.Check) (r : Readi
       let s = refused_by d status x.0 three x.1 in
       (s.0, s.1 tells, subst (Appends w.held w.holds) s.2 x.2)
 
-  pub check_committed : status ≡ 2 → IsCheckRefusal d.sectors d.image recover.NotBuilt
-  check_committed two =
-      let x = told (λ e. cc) in
-      committed_by d status x.0 two tells x.1
-
   module _ (calm : d.now ≡ raised d.before → ⊥) (quiet : w.now ≡ raised w.before → ⊥) where
-    pub clean_whole : damage_list d.sectors d.image ≡ Ok [] → (status ≡ 0) ⊎ ((status ≡ 5) ⊎ (status ≡ 2))
+    pub clean_whole : damage_list d.sectors d.image ≡ Ok [] → (status ≡ 0) ⊎ (status ≡ 5)
     clean_whole none = let x = told (λ s. quiet (a.rose s)) in whole_by d status x.0 tells calm none x.1
 
-    pub damaged_whole : (list : List Damage) → (list ≡ [] → ⊥) → damage_list d.sectors d.image ≡ Ok list → (status ≡ 8) ⊎ ((status ≡ 5) ⊎ (status ≡ 2))
+    pub damaged_whole : (list : List Damage) → (list ≡ [] → ⊥) → damage_list d.sectors d.image ≡ Ok list → (status ≡ 8) ⊎ (status ≡ 5)
     damaged_whole list some has = let x = told (λ s. quiet (a.rose s)) in listed_by d status x.0 tells calm list some has x.1
 
-    pub refused_whole : (refusal : Refusal) → damage_list d.sectors d.image ≡ Err refusal → (status ≡ 3) ⊎ ((status ≡ 5) ⊎ (status ≡ 2))
+    pub refused_whole : (refusal : Refusal) → damage_list d.sectors d.image ≡ Err refusal → (status ≡ 3) ⊎ (status ≡ 5)
     refused_whole refusal none = let x = told (λ s. quiet (a.rose s)) in unlisted_by d status x.0 tells calm refusal none x.1

@@ -1,5 +1,6 @@
 pub mod WordLemmas
 pub mod WriteLemmas
+pub mod ListLines
 pub mod PrintLemmas
 pub mod AnswerLemmas
 pub mod PlayLemmas

@@ -1,5 +1,5 @@
 -- The lines of the entries so far, and those to come.
-use Rattle.std.proofs.Common.{◌≡◌, inl, inr, ℕ, ◌+◌, ◌<◌, ◌≤◌, List, [], ◌∷◌, ◌++◌, ap, sym, refl, ◌∙◌, length, take, drop, get_or, append_assoc, zero, suc, arith}
+use Rattle.std.proofs.Common.{◌≡◌, inr, subst, ℕ, ◌+◌, ◌<◌, ◌≤◌, List, [], ◌∷◌, ◌++◌, ap, sym, refl, ◌∙◌, length, take, drop, get_or, append_assoc, zero, suc, arith}
 use Rattle.std.proofs.lemmas.List.{append-nil, take_more, take-append-drop}
 use Rattle.std.proofs.Math.Seq.{drop-cons}
 use Rattle.ufs_engine.specs.Played.{IsMerged, transcript}
@@ -7,11 +7,9 @@ use Rattle.ufs_model.specs.History.{joined}
 use Rattle.ufs_model.specs.declared.data.Entry.{Entry}
 use Rattle.std.specs.Fmt.{decimal}
 use Rattle.ufs_script.specs.Output.{lines_of, line_text, reply_text, output_of}
-use Rattle.ufs_quiet.proofs.WriteLemmas.{IsEnded, ended_both}
-
-lines_of-append : (xs ys : List Entry) → lines_of (xs ++ ys) ≡ lines_of xs ++ lines_of ys
-lines_of-append [] ys = refl
-lines_of-append (x ∷ xs) ys = ap (λ rest. line_text x.client x.seq x.reply ++ rest) (lines_of-append xs ys) ∙ sym (append_assoc _ (lines_of xs) (lines_of ys))
+use Rattle.std.specs.Prelude.{flat_map}
+use Rattle.ufs_quiet.proofs.ListLines.{all_ended, lines-append, split_at, taken_more}
+use Rattle.ufs_quiet.proofs.WriteLemmas.{IsEnded}
 
 joined-append : (xs ys : List (List Entry)) → joined (xs ++ ys) ≡ joined xs ++ joined ys
 joined-append [] ys = refl
@@ -20,22 +18,13 @@ joined-append (x ∷ xs) ys = ap (λ rest. x ++ rest) (joined-append xs ys) ∙ 
 abbrev pub own_line : Entry → List ℕ
 own_line e = line_text e.client e.seq e.reply
 
-module _ {X : Type 0} (xs : List X) (i : ℕ) (x : X) (below : i < length xs) (is : x ≡ get_or xs i x) where
-  -- a list, at a place
-  pub split_at : xs ≡ take i xs ++ x ∷ drop (suc i) xs
-  split_at = sym (take-append-drop i xs) ∙ ap (λ r. take i xs ++ r) (drop-cons xs i x below ∙ ap (λ y. y ∷ drop (suc i) xs) (sym is))
+-- the lines of entries, by the line of each
+pub lines_are : (h : List Entry) → lines_of h ≡ flat_map own_line h
+lines_are [] = refl
+lines_are (e ∷ h) = ap (λ rest. own_line e ++ rest) (lines_are h)
 
-  pub taken_more : take (i + 1) xs ≡ take i xs ++ x ∷ []
-  taken_more = take_more xs i x below ∙ ap (λ y. take i xs ++ y ∷ []) (sym is)
-
--- an entry adds its line
-module _ (h : List Entry) (i : ℕ) (e : Entry) (below : i < length h) (is : e ≡ get_or h i e) where
-  pub with_own : lines_of (take (i + 1) h) ≡ lines_of (take i h) ++ own_line e
-  with_own = ap lines_of (taken_more h i e below is) ∙ lines_of-append (take i h) (e ∷ []) ∙ ap (λ r. lines_of (take i h) ++ r) (append-nil (own_line e))
-
-  -- all lines: those before the entry, its own, and those after it
-  pub all_lines : lines_of h ≡ (lines_of (take i h) ++ own_line e) ++ lines_of (drop (suc i) h)
-  all_lines = ap lines_of (split_at h i e below is) ∙ lines_of-append (take i h) (e ∷ drop (suc i) h) ∙ sym (append_assoc (lines_of (take i h)) (own_line e) (lines_of (drop (suc i) h)))
+lines_of-append : (xs ys : List Entry) → lines_of (xs ++ ys) ≡ lines_of xs ++ lines_of ys
+lines_of-append xs ys = lines_are (xs ++ ys) ∙ lines-append own_line xs ys ∙ (λ i. sym (lines_are xs) i ++ sym (lines_are ys) i)
 
 -- a transcript adds its lines
 module _ (told : List (List Entry)) (i : ℕ) (list : List Entry) (below : i < length told) (is : list ≡ get_or told i list) where
@@ -50,9 +39,11 @@ module _ (told : List (List Entry)) (i : ℕ) (list : List Entry) (below : i < l
       ∙ sym (append_assoc (lines_of (joined (take i told))) (lines_of list) (lines_of (joined (drop (suc i) told))))
 
 -- lines end with a line end
+pub own_ended : (e : Entry) → IsEnded (own_line e)
+own_ended e = inr (decimal e.client ++ 46 ∷ decimal e.seq ++ 32 ∷ reply_text e.reply, refl)
+
 pub lines_ended : (h : List Entry) → IsEnded (lines_of h)
-lines_ended [] = inl refl
-lines_ended (e ∷ h) = ended_both (own_line e) (lines_of h) (inr (decimal e.client ++ 46 ∷ decimal e.seq ++ 32 ∷ reply_text e.reply, refl)) (lines_ended h)
+lines_ended h = subst IsEnded (sym (lines_are h)) (all_ended own_line own_ended h)
 
 -- ---- the lines of the transcripts are those of the history
 

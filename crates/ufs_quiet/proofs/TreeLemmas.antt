@@ -9,7 +9,7 @@ use Rattle.ufs_image.specs.Volume as image
 use Rattle.ufs_catalog.specs.Faults.{HasFaultCause}
 use Rattle.ufs_catalog.specs.declared.fault.RecoverFault.{RecoverFault}
 use Rattle.ufs_catalog.specs.declared.fault.RecoverFault.TheVariants as recover
-use Rattle.ufs_opening.specs.Told.{HasCommits, TellsWhy}
+use Rattle.ufs_opening.specs.Told.{TellsWhy}
 use Rattle.ufs_quiet.specs.declared.ending.Ending.{Ending}
 use Rattle.ufs_quiet.specs.declared.ending.Ending.TheVariants.{Done, Usage, BadGeometry, NotBuilt, BadScript, TooSmall, NoTree, DeviceFault, OutOfMemory, SourceFault, Damaged}
 use Rattle.ufs_quiet.specs.declared.words.Command.{Command}
@@ -40,7 +40,6 @@ tree_refused d (recover.BadVersion found) cause why = (cause, image.BadVersion f
 tree_refused d (recover.BadGeometry number) cause why = (cause, image.BadGeometry number, why, refl)
 tree_refused d (recover.BadRecord sector) cause why = (cause, image.BadRecord sector, why, refl)
 tree_refused d (recover.BadTree inode) cause why = (cause, image.BadTree inode, why, refl)
-tree_refused d recover.NotBuilt cause why = (cause, why, refl)
 tree_refused d (recover.Device fault) cause why = (cause.rose, ap device_line cause.number)
 tree_refused d recover.Memory cause why = (cause, inl refl)
 
@@ -51,7 +50,6 @@ calm_by before now (recover.BadVersion found) status cause is other sink = cause
 calm_by before now (recover.BadGeometry number) status cause is other sink = cause
 calm_by before now (recover.BadRecord sector) status cause is other sink = cause
 calm_by before now (recover.BadTree inode) status cause is other sink = cause
-calm_by before now recover.NotBuilt status cause is other sink = cause
 calm_by before now (recover.Device fault) status cause (inl is) other sink = absurd (other is)
 calm_by before now (recover.Device fault) status cause (inr is) other sink = absurd (sink is)
 calm_by before now recover.Memory status cause is other sink = cause
@@ -67,7 +65,6 @@ Refused d text = (refusal : Refusal) × (IsTrue d.tells → opens d.sectors d.im
 data ByStatus (d : Formatting) (status : ℕ) (text : List ℕ) : Type 0 where
   shown : status ≡ 0 → Shown d text → ByStatus d status text
   refused : status ≡ 3 → Refused d text → ByStatus d status text
-  committed : status ≡ 2 → (IsTrue d.tells → HasCommits d.sectors d.image) → ByStatus d status text
   device : status ≡ 4 → d.now ≡ raised d.before → ByStatus d status text
   memory : status ≡ 5 → ByStatus d status text
 
@@ -75,7 +72,7 @@ by_status : (d : Formatting) (status : ℕ) (ending : Ending) (text : List ℕ) 
 by_status d status Done text is e = shown is (e.1, e.2, e.3)
 by_status d status Usage text is e = absurd e
 by_status d status (BadGeometry bad) text is e = absurd e
-by_status d status NotBuilt text is e = committed is e.1
+by_status d status NotBuilt text is e = absurd e
 by_status d status BadScript text is e = absurd e
 by_status d status TooSmall text is e = absurd e
 by_status d status NoTree text is e = refused is (e.1, e.2, e.3)
@@ -87,38 +84,27 @@ by_status d status Damaged text is e = absurd e
 shown_by : (d : Formatting) (status : ℕ) (text : List ℕ) → status ≡ 0 → ByStatus d status text → Shown d text
 shown_by d status text zero (shown is s) = s
 shown_by d status text zero (refused is r) = absurd (omega (arith, zero, is))
-shown_by d status text zero (committed is c) = absurd (omega (arith, zero, is))
 shown_by d status text zero (device is e) = absurd (omega (arith, zero, is))
 shown_by d status text zero (memory is) = absurd (omega (arith, zero, is))
 
 refused_by : (d : Formatting) (status : ℕ) (text : List ℕ) → status ≡ 3 → ByStatus d status text → Refused d text
 refused_by d status text three (shown is s) = absurd (omega (arith, three, is))
 refused_by d status text three (refused is r) = r
-refused_by d status text three (committed is c) = absurd (omega (arith, three, is))
 refused_by d status text three (device is e) = absurd (omega (arith, three, is))
 refused_by d status text three (memory is) = absurd (omega (arith, three, is))
 
-committed_by : (d : Formatting) (status : ℕ) (text : List ℕ) → status ≡ 2 → IsTrue d.tells → ByStatus d status text → HasCommits d.sectors d.image
-committed_by d status text two tells (shown is s) = absurd (omega (arith, two, is))
-committed_by d status text two tells (refused is r) = absurd (omega (arith, two, is))
-committed_by d status text two tells (committed is c) = c tells
-committed_by d status text two tells (device is e) = absurd (omega (arith, two, is))
-committed_by d status text two tells (memory is) = absurd (omega (arith, two, is))
-
 module _ (d : Formatting) (status : ℕ) (text : List ℕ) (tells : IsTrue d.tells) (calm : d.now ≡ raised d.before → ⊥) where
-  opened_by : (tree : ImageTree) → opens d.sectors d.image ≡ Ok tree → ByStatus d status text → (status ≡ 0) ⊎ ((status ≡ 5) ⊎ (status ≡ 2))
+  opened_by : (tree : ImageTree) → opens d.sectors d.image ≡ Ok tree → ByStatus d status text → (status ≡ 0) ⊎ (status ≡ 5)
   opened_by tree opened (shown is s) = inl is
   opened_by tree opened (refused is r) = let both : Ok tree ≡ Err r.0 = sym opened ∙ r.1 tells in cc
-  opened_by tree opened (committed is c) = inr (inr is)
   opened_by tree opened (device is e) = absurd (calm e)
-  opened_by tree opened (memory is) = inr (inl is)
+  opened_by tree opened (memory is) = inr is
 
-  unopened_by : (refusal : Refusal) → opens d.sectors d.image ≡ Err refusal → ByStatus d status text → (status ≡ 3) ⊎ ((status ≡ 5) ⊎ (status ≡ 2))
+  unopened_by : (refusal : Refusal) → opens d.sectors d.image ≡ Err refusal → ByStatus d status text → (status ≡ 3) ⊎ (status ≡ 5)
   unopened_by refusal none (shown is s) = let both : Err refusal ≡ Ok s.0 = sym none ∙ s.1 tells in cc
   unopened_by refusal none (refused is r) = inl is
-  unopened_by refusal none (committed is c) = inr (inr is)
   unopened_by refusal none (device is e) = absurd (calm e)
-  unopened_by refusal none (memory is) = inr (inl is)
+  unopened_by refusal none (memory is) = inr is
 
 -- ---- of the whole answer, where the words are `tree`
 
@@ -141,14 +127,9 @@ module _ (words : Option Command) (is : words ≡ Some command.Tree) (r : Readin
       let s = refused_by d status x.0 three x.1 in
       (s.0, s.1 tells, subst (Appends w.held w.holds) s.2 x.2)
 
-  pub tree_committed : status ≡ 2 → HasCommits d.sectors d.image
-  tree_committed two =
-      let x = told (λ e. cc) in
-      committed_by d status x.0 two tells x.1
-
   module _ (calm : d.now ≡ raised d.before → ⊥) (quiet : w.now ≡ raised w.before → ⊥) where
-    pub tree_complete : (tree : ImageTree) → opens d.sectors d.image ≡ Ok tree → (status ≡ 0) ⊎ ((status ≡ 5) ⊎ (status ≡ 2))
+    pub tree_complete : (tree : ImageTree) → opens d.sectors d.image ≡ Ok tree → (status ≡ 0) ⊎ (status ≡ 5)
     tree_complete tree opened = let x = told (λ s. quiet (a.rose s)) in opened_by d status x.0 tells calm tree opened x.1
 
-    pub tree_refused_whole : (refusal : Refusal) → opens d.sectors d.image ≡ Err refusal → (status ≡ 3) ⊎ ((status ≡ 5) ⊎ (status ≡ 2))
+    pub tree_refused_whole : (refusal : Refusal) → opens d.sectors d.image ≡ Err refusal → (status ≡ 3) ⊎ (status ≡ 5)
     tree_refused_whole refusal none = let x = told (λ s. quiet (a.rose s)) in unopened_by d status x.0 tells calm refusal none x.1

@@ -11,8 +11,6 @@ use Rattle.ufs_image.specs.Volume.{Refusal}
 use Rattle.ufs_image.specs.Volume as image
 use Rattle.ufs_catalog.specs.declared.fault.RecoverFault.{RecoverFault}
 use Rattle.ufs_catalog.specs.declared.fault.RecoverFault.TheVariants as recover
-use Rattle.ufs_opening.specs.Told.{HasCommits}
-use Rattle.ufs_check.specs.Refused.{IsCheckRefusal}
 use Rattle.ufs_script.specs.Reading.{ReadsBreak}
 use Rattle.ufs_script.specs.declared.script.Script.{Script}
 use Rattle.ufs_script.specs.declared.fault.ScriptFault.{ScriptFault}
@@ -117,7 +115,6 @@ EndsMkfs g d _ text = ⊥
 
 -- how a command ends that can't read the image
 abbrev pub ending_of : RecoverFault → Ending
-ending_of recover.NotBuilt = NotBuilt
 ending_of (recover.Device fault) = DeviceFault
 ending_of recover.Memory = OutOfMemory
 ending_of _ = NoTree
@@ -129,7 +126,6 @@ line_of (recover.BadVersion found) = refusal_line (image.BadVersion found)
 line_of (recover.BadGeometry number) = refusal_line (image.BadGeometry number)
 line_of (recover.BadRecord sector) = refusal_line (image.BadRecord sector)
 line_of (recover.BadTree inode) = refusal_line (image.BadTree inode)
-line_of recover.NotBuilt = not_built_line
 line_of (recover.Device fault) = device_line fault
 line_of recover.Memory = memory_line
 
@@ -141,7 +137,6 @@ StandsFor d tree = IsTrue d.tells → opens d.sectors d.image ≡ Ok tree
 abbrev pub EndsTree : Formatting → Ending → List ℕ → Type 0
 EndsTree d Done text = (d.now ≡ d.before) × (tree : ImageTree) × StandsFor d tree × (text ≡ tree_lines tree)
 EndsTree d NoTree text = (d.now ≡ d.before) × (refusal : Refusal) × (IsTrue d.tells → opens d.sectors d.image ≡ Err refusal) × (text ≡ refusal_line refusal)
-EndsTree d NotBuilt text = (d.now ≡ d.before) × (IsTrue d.tells → HasCommits d.sectors d.image) × (text ≡ not_built_line)
 EndsTree d DeviceFault text = (d.now ≡ raised d.before) × (text ≡ device_line d.now)
 EndsTree d OutOfMemory text = (d.now ≡ d.before) × ((text ≡ memory_line)
     ⊎ ((tree : ImageTree) × (front : List ℕ) × StandsFor d tree × AreFirstLines front (tree_lines tree) × (text ≡ front ++ memory_line)))
@@ -164,7 +159,6 @@ abbrev pub EndsCheck : Formatting → Ending → List ℕ → Type 0
 EndsCheck d Done text = (d.now ≡ d.before) × HasDamage d [] × (text ≡ clean_line)
 EndsCheck d Damaged text = (d.now ≡ d.before) × (list : List Damage) × (list ≢ []) × HasDamage d list × (text ≡ damage_lines list)
 EndsCheck d NoTree text = (d.now ≡ d.before) × (refusal : Refusal) × (IsTrue d.tells → damage_list d.sectors d.image ≡ Err refusal) × (text ≡ refusal_line refusal)
-EndsCheck d NotBuilt text = (d.now ≡ d.before) × (IsTrue d.tells → IsCheckRefusal d.sectors d.image recover.NotBuilt) × (text ≡ not_built_line)
 EndsCheck d DeviceFault text = (d.now ≡ raised d.before) × (text ≡ device_line d.now)
 EndsCheck d OutOfMemory text = (d.now ≡ d.before) × (text ≡ memory_line)
 EndsCheck d _ text = ⊥

@@ -5,8 +5,9 @@ use Rattle.std.specs.FinMap.{entries}
 use Rattle.ufs_script.specs.Spelling.{data_text}
 use Rattle.ufs_image.specs.Opens.{NodeBytes, PathEntry, ImageTree}
 use Rattle.ufs_image.specs.Volume.{Refusal, NoSuperblock, BadVersion, BadGeometry, BadRecord, BadTree}
-use Rattle.ufs_model.specs.declared.data.PathEntry as model
-use Rattle.ufs_opening.specs.Shown.{shown}
+use Rattle.ufs_opening.specs.declared.head.NodeHead.{NodeHead}
+use Rattle.ufs_opening.specs.declared.head.NodeHead.TheVariants.{Dir, File}
+use Rattle.ufs_opening.specs.declared.head.PathHead.{PathHead}
 use Rattle.ufs_quiet.specs.Texts.{line}
 
 -- the most bytes of a file that its line shows
@@ -29,9 +30,21 @@ tree_line e = node_line e.0 e.1
 abbrev pub tree_lines : ImageTree → List ℕ
 tree_lines tree = flat_map tree_line (entries tree)
 
--- the same of a list of paths
-abbrev pub entry_lines : List model.PathEntry → List ℕ
-entry_lines es = flat_map tree_line (shown es)
+-- ---- the same of what was read of the tree
+
+-- a file's first bytes, and a plus behind them where it has more
+abbrev pub front_text : ℕ → List ℕ → List ℕ
+front_text size front = data_text front ++ (if nat_le size most_shown then [] else codes "+")
+
+abbrev pub node_head_line : List ℕ → NodeHead → List ℕ
+node_head_line path Dir = line (codes "dir " ++ path)
+node_head_line path (File size front) = line (codes "file " ++ path ++ 32 ∷ decimal size ++ 32 ∷ front_text size front)
+
+abbrev pub head_line : PathHead → List ℕ
+head_line h = node_head_line h.path h.node
+
+abbrev pub head_lines : List PathHead → List ℕ
+head_lines hs = flat_map head_line hs
 
 -- ---- why there is none
 

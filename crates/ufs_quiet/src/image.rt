@@ -74,7 +74,6 @@ pub fn tell_refusal<K: Sink>(sink: &mut K, fault: RecoverFault) -> u8
         RecoverFault::BadGeometry { number } => tell_number(sink, "BadGeometry", u32::from(number)),
         RecoverFault::BadRecord { sector } => tell_number(sink, "BadRecord", sector),
         RecoverFault::BadTree { inode } => tell_number(sink, "BadTree", inode),
-        RecoverFault::NotBuilt => finish(sink, Ending::NotBuilt),
         RecoverFault::Device { fault } => tell_device(sink, fault),
         RecoverFault::Memory => finish(sink, Ending::OutOfMemory),
     }

@@ -5,13 +5,10 @@ ghost use Rattle.ufs_base.specs.Faults.{raised};
 ghost use Rattle.ufs_disk.specs.Moments.{LeavesOnly};
 ghost use Rattle.ufs_catalog.specs.Reading.{IsReadOnly};
 ghost use Rattle.ufs_disk.specs.Moments.{reads};
-ghost use Rattle.ufs_check.specs.Refused.{IsCheckRefusal};
-ghost use Rattle.ufs_catalog.specs.declared.fault.RecoverFault.TheVariants as recover;
 ghost use Rattle.ufs_image.specs.Damage.{Damage};
 ghost use Rattle.ufs_image.specs.Opens.{ImageTree, opens, damage_list};
 ghost use Rattle.ufs_quiet.specs.DamageLines.{clean_line, damage_lines};
 ghost use Rattle.ufs_image.specs.Volume.{Refusal};
-ghost use Rattle.ufs_opening.specs.Told.{HasCommits};
 ghost use Rattle.ufs_quiet.specs.TreeLines.{tree_lines, refusal_line};
 ghost use Rattle.ufs_layout.specs.Areas.{geometry_refusal, sector_count};
 ghost use Rattle.ufs_layout.specs.declared.geometry.Geometry.{Geometry};
@@ -233,17 +230,14 @@ pub fn quiet<S: Source, K: Sink, D: Disk>(
     // `tree` with status 3: it stands for none, and the sink got the line of the cause, and nothing else.
     ensures no_tree { IsTrue D.tells → result.status ≡ 3 → asked words.now.items ≡ Some command.Tree → (refusal : Refusal)
         × (opens (D.size disk) (reads (D.moments disk)) ≡ Err refusal) × Appends (K.held sink.old) (K.held sink.new) (refusal_line refusal) }
-    // `tree` with status 2: transactions are committed in its journal, which isn't built yet.
-    ensures committed { IsTrue D.tells → result.status ≡ 2 → asked words.now.items ≡ Some command.Tree → HasCommits (D.size disk) (reads (D.moments disk)) }
-    // An image that stands for a tree is printed, unless memory runs out, a count of faults rises, or there are such
-    // transactions.
+    // An image that stands for a tree is printed, unless memory runs out or a count of faults rises.
     ensures complete_tree { IsTrue D.tells → (tree : ImageTree) → asked words.now.items ≡ Some command.Tree
         → opens (D.size disk) (reads (D.moments disk)) ≡ Ok tree → D.faults result.disk ≢ raised (D.faults disk) → K.faults sink.new ≢ raised (K.faults sink.old)
-        → (result.status ≡ 0) ⊎ ((result.status ≡ 5) ⊎ (result.status ≡ 2)) }
+        → (result.status ≡ 0) ⊎ (result.status ≡ 5) }
     // With the same exceptions one that stands for none is refused.
     ensures refused_tree { IsTrue D.tells → (refusal : Refusal) → asked words.now.items ≡ Some command.Tree
         → opens (D.size disk) (reads (D.moments disk)) ≡ Err refusal → D.faults result.disk ≢ raised (D.faults disk) → K.faults sink.new ≢ raised (K.faults sink.old)
-        → (result.status ≡ 3) ⊎ ((result.status ≡ 5) ⊎ (result.status ≡ 2)) }
+        → (result.status ≡ 3) ⊎ (result.status ≡ 5) }
     // `check` with status 0: nothing is damaged, and the sink got the line that says so, and nothing else.
     ensures clean { IsTrue D.tells → result.status ≡ 0 → asked words.now.items ≡ Some command.Check
         → (damage_list (D.size disk) (reads (D.moments disk)) ≡ Ok []) × Appends (K.held sink.old) (K.held sink.new) clean_line }
@@ -253,19 +247,16 @@ pub fn quiet<S: Source, K: Sink, D: Disk>(
     // `check` with status 3: the image isn't looked at, and the sink got the line of the cause, and nothing else.
     ensures no_list { IsTrue D.tells → result.status ≡ 3 → asked words.now.items ≡ Some command.Check → (refusal : Refusal)
         × (damage_list (D.size disk) (reads (D.moments disk)) ≡ Err refusal) × Appends (K.held sink.old) (K.held sink.new) (refusal_line refusal) }
-    // `check` with status 2: transactions are committed in its journal, which isn't built yet.
-    ensures committed_check { IsTrue D.tells → result.status ≡ 2 → asked words.now.items ≡ Some command.Check → IsCheckRefusal (D.size disk) (reads (D.moments disk)) recover.NotBuilt }
-    // Each image gets the status of what it is, unless memory runs out, a count of faults rises, or there are such
-    // transactions.
+    // Each image gets the status of what it is, unless memory runs out or a count of faults rises.
     ensures complete_clean { IsTrue D.tells → asked words.now.items ≡ Some command.Check
         → damage_list (D.size disk) (reads (D.moments disk)) ≡ Ok [] → D.faults result.disk ≢ raised (D.faults disk) → K.faults sink.new ≢ raised (K.faults sink.old)
-        → (result.status ≡ 0) ⊎ ((result.status ≡ 5) ⊎ (result.status ≡ 2)) }
+        → (result.status ≡ 0) ⊎ (result.status ≡ 5) }
     ensures complete_damaged { IsTrue D.tells → (list : List Damage) → list ≢ [] → asked words.now.items ≡ Some command.Check
         → damage_list (D.size disk) (reads (D.moments disk)) ≡ Ok list → D.faults result.disk ≢ raised (D.faults disk) → K.faults sink.new ≢ raised (K.faults sink.old)
-        → (result.status ≡ 8) ⊎ ((result.status ≡ 5) ⊎ (result.status ≡ 2)) }
+        → (result.status ≡ 8) ⊎ (result.status ≡ 5) }
     ensures refused_check { IsTrue D.tells → (refusal : Refusal) → asked words.now.items ≡ Some command.Check
         → damage_list (D.size disk) (reads (D.moments disk)) ≡ Err refusal → D.faults result.disk ≢ raised (D.faults disk) → K.faults sink.new ≢ raised (K.faults sink.old)
-        → (result.status ≡ 3) ⊎ ((result.status ≡ 5) ⊎ (result.status ≡ 2)) }
+        → (result.status ≡ 3) ⊎ (result.status ≡ 5) }
 {
     a_longer_text_breaks_alike();
     answer(alloc, words, source, sink, disk)

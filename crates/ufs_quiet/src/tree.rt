@@ -1,8 +1,7 @@
 // Printing the tree that an image stands for.
 ghost use Rattle.std.specs.Prelude.{◌≡◌, ◌≢◌, IsTrue};
 ghost use Rattle.ufs_catalog.specs.Reading.{IsReadOnly};
-ghost use Rattle.ufs_opening.specs.Shown.{image_tree};
-ghost use Rattle.ufs_quiet.specs.TreeLines.{tree_lines};
+ghost use Rattle.ufs_quiet.specs.TreeLines.{head_lines};
 ghost use Rattle.ufs_quiet.specs.Seen.{formatting, writing};
 ghost use Rattle.ufs_quiet.specs.Endings.{EndsPrinting, EndsTree, IsAnswer};
 
@@ -10,33 +9,33 @@ use crate::ending::Ending;
 use crate::finish::{SINK_FAULT, finish};
 use crate::image::tell_refusal;
 use crate::print::PrintFault;
-use crate::tree_lines::print_tree;
+use crate::tree_lines::{MOST_SHOWN, print_heads};
 use std::alloc::Global;
 use ufs_disk::Disk;
 use ufs_io::Sink;
-use ufs_model::PathTree;
-use ufs_opening::tree_of;
+use ufs_opening::{PathHead, tree_heads};
 
-// Writes the lines of a tree, and then ends.
-fn print_whole<K: Sink>(alloc: Global, sink: &mut K, tree: &PathTree) -> u8
-    ensures { IsAnswer (EndsPrinting (tree_lines (image_tree tree.now))) (writing K.held K.faults sink.old sink.new) result }
+// Writes the lines of what stands at these paths, and then ends.
+fn print_whole<K: Sink>(alloc: Global, sink: &mut K, heads: &[PathHead]) -> u8
+    ensures { IsAnswer (EndsPrinting (head_lines heads.now)) (writing K.held K.faults sink.old sink.new) result }
 {
-    match print_tree(alloc, sink, tree) {
+    match print_heads(alloc, sink, heads) {
         Ok(()) => Ending::Done.status(),
         Err(PrintFault::Memory) => finish(sink, Ending::OutOfMemory),
         Err(PrintFault::Sink) => SINK_FAULT,
     }
 }
 
-/// Prints the tree that the image on a disk stands for, or why it stands for none. Writes nothing on it.
+/// Prints the tree that the image on a disk stands for, or why it stands for none. Writes nothing on it, and reads
+/// of a file no block behind the bytes that its line shows.
 pub fn tree<K: Sink, D: Disk>(alloc: Global, sink: &mut K, disk: &mut D) -> u8
     ensures answer { IsAnswer (EndsTree (formatting D.tells D.size D.moments D.faults disk.old disk.new)) (writing K.held K.faults sink.old sink.new) result }
     ensures read_only { IsTrue D.tells → IsReadOnly D.keeps (D.moments disk.old) (D.moments disk.new) }
     ensures size { D.size disk.new ≡ D.size disk.old }
     ensures disk_told { result ≢ 4 → result ≢ 7 → D.faults disk.new ≡ D.faults disk.old }
 {
-    match tree_of(alloc, disk) {
-        Ok(tree) => print_whole(alloc, sink, &tree),
+    match tree_heads(alloc, disk, Some(MOST_SHOWN)) {
+        Ok(heads) => print_whole(alloc, sink, heads.as_slice()),
         Err(fault) => tell_refusal(sink, fault),
     }
 }

@@ -11,7 +11,7 @@ use Rattle.ufs_layout.proofs.Spelled.{some_if-some}
 use Rattle.ufs_image.specs.BadSectors.{bad_sector}
 use Rattle.ufs_image.specs.Volume.{Refusal, Volume, NoSuperblock, BadVersion, volume, volume_of, head_of, head_refusal, by_head, by_journal, lacks_magic, has_other_version, is_off_form}
 use Rattle.ufs_image.specs.Volume as image
-use Rattle.ufs_catalog.specs.Faults.{IsRefusal, IsOutside, IsWhyNot}
+use Rattle.ufs_catalog.specs.Faults.{IsRefusal, IsWhyNot}
 use Rattle.ufs_catalog.specs.declared.fault.RecoverFault.{RecoverFault}
 use Rattle.ufs_catalog.specs.declared.fault.RecoverFault.TheVariants.{NoSuperblock as no_superblock, BadVersion as bad_version, BadGeometry as bad_geometry, BadRecord as bad_record, BadTree as bad_tree, Device, Memory}
 use Rattle.ufs_catalog.specs.declared.head.ImageHead.{ImageHead}
@@ -83,15 +83,6 @@ module _ (sectors : ℕ) (disk : Image) where
     why_journal (bad_tree inode) is = absurd is
     why_journal (Device fault) is = tt
     why_journal Memory is = tt
-
-pub why_outside : {X : Type 0} (given : Result X Refusal) (f : RecoverFault) → IsOutside f → IsWhyNot given f
-why_outside given no_superblock is = absurd is
-why_outside given (bad_version found) is = absurd is
-why_outside given (bad_geometry number) is = absurd is
-why_outside given (bad_record sector) is = absurd is
-why_outside given (bad_tree inode) is = absurd is
-why_outside given (Device fault) is = tt
-why_outside given Memory is = tt
 
 -- ---- what was read behind the superblock, while the disk still reads as before
 module _ (sectors : ℕ) (disk mid : Image) (content : mid ≡ disk) (h : ImageHead) (head : h.head ≡ head_of disk) (taken : head_refusal sectors disk ≡ None) where

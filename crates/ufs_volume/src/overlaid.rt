@@ -7,7 +7,7 @@ ghost use Rattle.ufs_image.specs.Journal.{committed};
 ghost use Rattle.ufs_image.specs.BadSectors.{bad_sector};
 ghost use Rattle.ufs_overlay.specs.Over.{rise_above};
 ghost use Rattle.ufs_overlay.specs.Seen.{HasAdded, geometry_of};
-ghost use Rattle.ufs_catalog.specs.Faults.{HasFaultCause, IsOutside};
+ghost use Rattle.ufs_catalog.specs.Faults.{BlamesNone, HasFaultCause, IsOutside};
 ghost use Rattle.ufs_catalog.specs.Reading.{IsReadOnly};
 ghost use Rattle.ufs_volume.specs.Journals.{AreFoldable, IsFoldable, IsJournalRefusal, of_scan};
 
@@ -21,7 +21,8 @@ use ufs_overlay::Overlay;
 use ufs_scan::{ScanFault, scan};
 
 fn of_scan(fault: ScanFault) -> RecoverFault
-    ensures { result ≡ of_scan fault }
+    ensures value { result ≡ of_scan fault }
+    ensures blames_none { BlamesNone result }
 {
     match fault {
         ScanFault::BadRecord { sector } => RecoverFault::BadRecord { sector },
@@ -40,6 +41,7 @@ pub(crate) fn read_journal<D: Disk>(
     ensures committed { IsTrue D.tells → IfOk result (λ list. list ≡ committed image.now.geometry image.now.head.epoch (reads (D.moments disk.old))) }
     ensures whole { IsTrue D.tells → OnOk result (bad_sector image.now.geometry image.now.head (reads (D.moments disk.old)) ≡ None) }
     ensures bad { IsTrue D.tells → IfErr result (IsJournalRefusal (bad_sector image.now.geometry image.now.head (reads (D.moments disk.old)))) }
+    ensures blames_none { IfErr result BlamesNone }
     ensures read_only { IsTrue D.tells → IsReadOnly D.keeps (D.moments disk.old) (D.moments disk.new) }
     ensures size { D.size disk.new ≡ D.size disk.old }
     ensures passed { OnOk result (D.faults disk.new ≡ D.faults disk.old) }
@@ -60,6 +62,7 @@ fn add_one(overlay: &mut Overlay, geometry: &Geometry, one: &Committed) -> Resul
     ensures geometry { geometry_of overlay.new ≡ geometry_of overlay.old }
     ensures outside { IsFoldable geometry.now one.now → IfErr result IsOutside }
     ensures calm { IfErr result (λ f. (before : ℕ) → HasFaultCause before before f) }
+    ensures blames_none { IfErr result BlamesNone }
 {
     if !can_fold(geometry, one.records.as_slice()) {
         return Err(RecoverFault::BadRecord {
@@ -83,6 +86,7 @@ pub(crate) fn overlay_of(
     ensures geometry { IfOk result (λ o. geometry_of o ≡ geometry.now) }
     ensures outside { AreFoldable geometry.now list.now → IfErr result IsOutside }
     ensures calm { IfErr result (λ f. (before : ℕ) → HasFaultCause before before f) }
+    ensures blames_none { IfErr result BlamesNone }
 {
     let mut overlay = Overlay::make(alloc, geometry);
     for at in 0..list.len() {

@@ -5,7 +5,7 @@ ghost use Rattle.ufs_layout.specs.Areas.{sector_count};
 ghost use Rattle.ufs_image.specs.Volume.{volume};
 ghost use Rattle.ufs_overlay.specs.Over.{rise_above};
 ghost use Rattle.ufs_overlay.specs.Seen.{HasAdded};
-ghost use Rattle.ufs_catalog.specs.Faults.{HasFaultCause, IsOutside, IsWhyNot};
+ghost use Rattle.ufs_catalog.specs.Faults.{BlamesNone, HasFaultCause, IsOutside, IsWhyNot};
 ghost use Rattle.ufs_catalog.specs.Reading.{IsReadOnly};
 ghost use Rattle.ufs_volume.specs.Journals.{AreFoldable};
 ghost use Rattle.ufs_volume.specs.Volumes.{committed_in, volume_in};
@@ -28,6 +28,7 @@ fn with_list(
     ensures count { IfOk result (λ v. v.committed ≡ length list.now) }
     ensures outside { AreFoldable head.geometry list.now → IfErr result IsOutside }
     ensures calm { IfErr result (λ f. (before : ℕ) → HasFaultCause before before f) }
+    ensures blames_none { IfErr result BlamesNone }
 {
     let transactions = list.as_slice();
     let overlay = overlay_of(alloc, &head.geometry, transactions)?;
@@ -50,6 +51,7 @@ pub fn read_volume<D: Disk>(alloc: Global, disk: &mut D) -> Result<FoldedVolume,
     ensures count { IsTrue D.tells → IfOk result (λ v. v.committed ≡ length (committed_in v (reads (D.moments disk.old)))) }
     ensures large { IfOk result (λ v. sector_count v.head.geometry ≤ D.size disk.old) }
     ensures refused { IsTrue D.tells → IfErr result (IsWhyNot (volume (D.size disk.old) (reads (D.moments disk.old)))) }
+    ensures blames_none { IfErr result BlamesNone }
     ensures read_only { IsTrue D.tells → IsReadOnly D.keeps (D.moments disk.old) (D.moments disk.new) }
     ensures size { D.size disk.new ≡ D.size disk.old }
     ensures passed { OnOk result (D.faults disk.new ≡ D.faults disk.old) }

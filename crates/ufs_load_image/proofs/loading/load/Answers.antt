@@ -1,4 +1,5 @@
-use Rattle.std.proofs.Common.{Some, map, ap, sym, ◌∙◌, subst}
+use Rattle.std.proofs.Common.{◌≡◌, Some, map, ap, sym, ◌∙◌, subst}
+use Rattle.ufs_base.specs.Images.{Image}
 use Rattle.ufs_disk.specs.Moments.{reads}
 use Rattle.ufs_layout.specs.Areas.{all_inodes}
 use Rattle.ufs_image.specs.Images.{inode_at, form_at}
@@ -6,21 +7,43 @@ use Rattle.ufs_image.specs.Catalog.{IsCatalogOf, catalog_at}
 use Rattle.ufs_image.specs.Sound.{IsSoundCatalog}
 use Rattle.ufs_image.proofs.Holders.{inode_in}
 use Rattle.ufs_image.proofs.Journals.{map-same}
-use Rattle.ufs_damage.specs.Findings.{CatalogRead}
-use Rattle.ufs_catalog.specs.declared.head.ImageHead.{ImageHead}
+use Rattle.ufs_damage.specs.Findings.{AreFindingsOf, CatalogRead}
+use Rattle.ufs_volume.specs.Volumes.{folded_image}
+use Rattle.ufs_volume.specs.declared.volume.FoldedVolume.{FoldedVolume}
+use Rattle.ufs_load_image.specs.Loaded.{is_free_block}
 use Rattle.ufs_load_image.proofs.loading.load.Goals as goal
+
+pub returns-in-Ok-clause-found : goal.returns-in-Ok-clause-found
+returns-in-Ok-clause-found g c told =
+    let v = c.in_ok-opened.opened.volume in
+    let disk = reads (g.D.Disk.moments c.args.disk.now) in
+    subst (λ (x : FoldedVolume). AreFindingsOf x.head.geometry (folded_image x disk) c.in-Ok.loaded.findings) (sym c.in-Ok.ensures.volume)
+    (subst (AreFindingsOf v.head.geometry (folded_image v disk)) (sym c.in-Ok.ensures.findings) (c.in_ok-opened.ensures.found told))
+
+pub returns-in-Ok-clause-catalog : goal.returns-in-Ok-clause-catalog
+returns-in-Ok-clause-catalog g c told =
+    let disk = reads (g.D.Disk.moments c.args.disk.now) in
+    subst (λ (x : FoldedVolume). IsCatalogOf x.head.geometry (folded_image x disk) (catalog_at x.head.geometry (folded_image x disk))) (sym c.in-Ok.ensures.volume)
+    (c.in-Ok.ensures.catalog (folded_image c.in_ok-opened.opened.volume disk) (c.in_ok-opened.ensures.whole told))
+
+pub returns-in-Ok-clause-free : goal.returns-in-Ok-clause-free
+returns-in-Ok-clause-free g c told b =
+    let disk = reads (g.D.Disk.moments c.args.disk.now) in
+    c.in-Ok.ensures.free (folded_image c.in_ok-opened.opened.volume disk) (c.in_ok-opened.ensures.found told) b
+    ∙ ap (λ (x : FoldedVolume). is_free_block x.head.geometry (folded_image x disk) b) (sym c.in-Ok.ensures.volume)
 
 pub returns-in-Ok-clause-forms : goal.returns-in-Ok-clause-forms
 returns-in-Ok-clause-forms g c told =
-    let image = reads (g.D.Disk.moments c.args.disk.now) in
-    let h = c.in_ok-opened.opened.head in
-    let is : IsCatalogOf h.geometry image (catalog_at h.geometry image) = c.in-Ok.ensures.catalog image (c.in_ok-opened.ensures.whole told) in
+    let v = c.in_ok-opened.opened.volume in
+    let disk = reads (g.D.Disk.moments c.args.disk.now) in
+    let image : Image = folded_image v disk in
+    let is : IsCatalogOf v.head.geometry image (catalog_at v.head.geometry image) = c.in-Ok.ensures.catalog image (c.in_ok-opened.ensures.whole told) in
     ap (λ (f : CatalogRead). f.forms) c.in-Ok.ensures.findings ∙ (c.in_ok-opened.ensures.found told).forms
-    ∙ map-same (inode_at h.geometry image) (λ inode. Some (form_at h.geometry image inode)) (all_inodes h.geometry) (λ inode there. is.forms inode (inode_in h.geometry inode there))
-    ∙ ap (λ (x : ImageHead). map (λ inode. Some (form_at x.geometry image inode)) (all_inodes x.geometry)) (sym c.in-Ok.ensures.head)
+    ∙ map-same (inode_at v.head.geometry image) (λ inode. Some (form_at v.head.geometry image inode)) (all_inodes v.head.geometry) (λ inode there. is.forms inode (inode_in v.head.geometry inode there))
+    ∙ ap (λ (x : FoldedVolume). map (λ inode. Some (form_at x.head.geometry (folded_image x disk) inode)) (all_inodes x.head.geometry)) (sym c.in-Ok.ensures.volume)
 
 pub returns-in-Ok-clause-sound : goal.returns-in-Ok-clause-sound
 returns-in-Ok-clause-sound g c told =
-    let image = reads (g.D.Disk.moments c.args.disk.now) in
-    subst (λ (h : ImageHead). IsSoundCatalog h.geometry (catalog_at h.geometry image)) (sym c.in-Ok.ensures.head)
-    (c.in-Ok.ensures.sound image (c.in_ok-opened.ensures.whole told))
+    let disk = reads (g.D.Disk.moments c.args.disk.now) in
+    subst (λ (x : FoldedVolume). IsSoundCatalog x.head.geometry (catalog_at x.head.geometry (folded_image x disk))) (sym c.in-Ok.ensures.volume)
+    (c.in-Ok.ensures.sound (folded_image c.in_ok-opened.opened.volume disk) (c.in_ok-opened.ensures.whole told))

@@ -1,4 +1,4 @@
-use Rattle.std.proofs.Common.{◌≡◌, ◌++◌, IsTrue}
+use Rattle.std.proofs.Common.{◌≡◌, ◌++◌, IsTrue, ℕ, List}
 use Rattle.std.specs.Prelude.{flat_map}
 use Rattle.std.specs.List.{range_with_len}
 use Rattle.ufs_base.specs.Images.{Image}
@@ -6,6 +6,7 @@ use Rattle.ufs_disk.specs.Moments.{reads}
 use Rattle.ufs_catalog.specs.Folded.{IsFolded}
 use Rattle.ufs_catalog.specs.Reading.{IsReadOnly}
 use Rattle.ufs_image.specs.Images.{block_at}
+use Rattle.ufs_opening.specs.Heads.{IsFrontOf}
 use Rattle.ufs_opening.proofs.files.read_extent.Given as goal
 
 abbrev pub invariant-loop-place : goal.invariant-loop-place
@@ -13,7 +14,7 @@ invariant-loop-place g l =
     let disk = g.D.Disk in
     let first = disk.moments l.fn.disk in
     record {
-      bytes : IsTrue disk.tells → (image : Image) → IsFolded l.overlay (reads first) image → l.bytes.items ≡ l.fn.bytes.items ++ flat_map (block_at image) (range_with_len l.extent.start l.place);
+      bytes : IsTrue disk.tells → (image : Image) → IsFolded l.overlay (reads first) image → (whole : List ℕ) → IsFrontOf l.enough l.fn.bytes.items whole → IsFrontOf l.enough l.bytes.items (whole ++ flat_map (block_at image) (range_with_len l.extent.start l.place));
       read_only : IsTrue disk.tells → IsReadOnly disk.keeps first (disk.moments l.disk);
       size : disk.size l.disk ≡ disk.size l.fn.disk;
       faults : disk.faults l.disk ≡ disk.faults l.fn.disk;

@@ -2,8 +2,8 @@ use Rattle.ufs_quiet.specs.Commands.{asked}
 use Rattle.ufs_quiet.specs.Seen.{reading, writing, formatting}
 use Rattle.ufs_quiet.proofs.MkfsLemmas.{mkfs_complete}
 use Rattle.ufs_quiet.proofs.PlayLemmas.{play_done, play_complete, play_broken}
-use Rattle.ufs_quiet.proofs.TreeLemmas.{tree_printed, tree_refusal, tree_committed, tree_complete, tree_refused_whole}
-use Rattle.ufs_quiet.proofs.CheckLemmas.{check_clean, check_damaged, check_refusal, check_committed, clean_whole, damaged_whole, refused_whole}
+use Rattle.ufs_quiet.proofs.TreeLemmas.{tree_printed, tree_refusal, tree_complete, tree_refused_whole}
+use Rattle.ufs_quiet.proofs.CheckLemmas.{check_clean, check_damaged, check_refusal, clean_whole, damaged_whole, refused_whole}
 use Rattle.ufs_quiet.proofs.top.quiet.Goals as goal
 
 pub returns-clause-complete_mkfs : goal.returns-clause-complete_mkfs
@@ -44,12 +44,6 @@ returns-clause-no_tree g c tells status is =
     (formatting g.D.Disk.tells g.D.Disk.size g.D.Disk.moments g.D.Disk.faults c.args.disk c.answer.result.disk)
     (writing g.K.Sink.held g.K.Sink.faults c.args.sink.now c.answer.new.sink) c.answer.result.status c.answer.ensures.answer tells status
 
-pub returns-clause-committed : goal.returns-clause-committed
-returns-clause-committed g c tells status is =
-    tree_committed (asked c.args.words.now.items) is (reading g.S.Source.left g.S.Source.faults c.args.source.now c.answer.new.source)
-    (formatting g.D.Disk.tells g.D.Disk.size g.D.Disk.moments g.D.Disk.faults c.args.disk c.answer.result.disk)
-    (writing g.K.Sink.held g.K.Sink.faults c.args.sink.now c.answer.new.sink) c.answer.result.status c.answer.ensures.answer tells status
-
 pub returns-clause-complete_tree : goal.returns-clause-complete_tree
 returns-clause-complete_tree g c tells tree is opened calm quiet =
     tree_complete (asked c.args.words.now.items) is (reading g.S.Source.left g.S.Source.faults c.args.source.now c.answer.new.source)
@@ -77,12 +71,6 @@ returns-clause-damaged g c tells status is =
 pub returns-clause-no_list : goal.returns-clause-no_list
 returns-clause-no_list g c tells status is =
     check_refusal (asked c.args.words.now.items) is (reading g.S.Source.left g.S.Source.faults c.args.source.now c.answer.new.source)
-    (formatting g.D.Disk.tells g.D.Disk.size g.D.Disk.moments g.D.Disk.faults c.args.disk c.answer.result.disk)
-    (writing g.K.Sink.held g.K.Sink.faults c.args.sink.now c.answer.new.sink) c.answer.result.status c.answer.ensures.answer tells status
-
-pub returns-clause-committed_check : goal.returns-clause-committed_check
-returns-clause-committed_check g c tells status is =
-    check_committed (asked c.args.words.now.items) is (reading g.S.Source.left g.S.Source.faults c.args.source.now c.answer.new.source)
     (formatting g.D.Disk.tells g.D.Disk.size g.D.Disk.moments g.D.Disk.faults c.args.disk c.answer.result.disk)
     (writing g.K.Sink.held g.K.Sink.faults c.args.sink.now c.answer.new.sink) c.answer.result.status c.answer.ensures.answer tells status
 

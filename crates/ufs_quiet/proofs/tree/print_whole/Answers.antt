@@ -1,7 +1,6 @@
 use Rattle.std.proofs.Common.{refl}
-use Rattle.ufs_opening.specs.Shown.{image_tree}
 use Rattle.ufs_quiet.specs.Texts.{memory_line}
-use Rattle.ufs_quiet.specs.TreeLines.{tree_lines}
+use Rattle.ufs_quiet.specs.TreeLines.{head_lines}
 use Rattle.ufs_quiet.specs.Endings.{EndsPrinting}
 use Rattle.ufs_quiet.specs.declared.ending.Ending.TheVariants.{Done, OutOfMemory}
 use Rattle.ufs_quiet.proofs.AnswerLemmas.{answer_after}
@@ -12,14 +11,14 @@ returns-in-Err-Memory g c =
     let held = g.K.Sink.held in
     let faults = g.K.Sink.faults in
     let got = c.in-Err-Memory.ensures.memory cc in
-    answer_after OutOfMemory memory_line got.0 (EndsPrinting (tree_lines (image_tree c.args.tree.now))) (held c.args.sink.now) (held c.print_tree.new.sink) (held c.finish.new.sink)
-    (faults c.args.sink.now) (faults c.print_tree.new.sink) (faults c.finish.new.sink) c.finish.result
+    answer_after OutOfMemory memory_line got.0 (EndsPrinting (head_lines c.args.heads.now)) (held c.args.sink.now) (held c.print_heads.new.sink) (held c.finish.new.sink)
+    (faults c.args.sink.now) (faults c.print_heads.new.sink) (faults c.finish.new.sink) c.finish.result
     got.2 (c.in-Err-Memory.ensures.told (λ e. cc)) (got.0, got.1, refl) c.finish.ensures.answer
 
 pub returns-in-Ok : goal.returns-in-Ok
 returns-in-Ok g c =
     record {
-      whole = λ n. (Done, tree_lines (image_tree c.args.tree.now), c.status.ensures, refl, c.in-Ok.ensures.ok);
+      whole = λ n. (Done, head_lines c.args.heads.now, c.status.ensures, refl, c.in-Ok.ensures.ok);
       told = λ n. c.in-Ok.ensures.told (λ e. cc);
       rose = λ e. let is = c.status.ensures in cc;
       cut = λ e. let is = c.status.ensures in cc;
@@ -32,5 +31,5 @@ returns-in-Err-Sink g c =
       whole = λ n. absurd (n refl);
       told = λ n. absurd (n refl);
       rose = λ e. c.in-Err-Sink.ensures.rose cc;
-      cut = λ e. (Done, tree_lines (image_tree c.args.tree.now), got.0, refl, got.1, got.2);
+      cut = λ e. (Done, head_lines c.args.heads.now, got.0, refl, got.1, got.2);
     }

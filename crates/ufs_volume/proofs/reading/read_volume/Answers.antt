@@ -7,7 +7,8 @@ use Rattle.ufs_layout.specs.declared.records.Committed.{Committed}
 use Rattle.ufs_overlay.specs.Seen.{HasAdded}
 use Rattle.ufs_catalog.specs.Faults.{HasFaultCause}
 use Rattle.ufs_catalog.proofs.Quiet.{read_more}
-use Rattle.ufs_volume.proofs.Why.{why_head, why_outside, why_read, rises, folds_all, volume_is, list_is}
+use Rattle.ufs_catalog.proofs.Outside.{why_outside}
+use Rattle.ufs_volume.proofs.Why.{why_head, why_read, rises, folds_all, volume_is, list_is}
 use Rattle.ufs_volume.proofs.reading.read_volume.Goals as goal
 
 pub returns-in_err-head-clause-refused : goal.returns-in_err-head-clause-refused
