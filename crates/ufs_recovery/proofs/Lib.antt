@@ -16,3 +16,4 @@ pub mod Begun
 pub mod Planned
 pub mod Finished
 pub mod Moved
+pub mod Ends

@@ -4,13 +4,15 @@
 mod bitmap;
 mod bringing;
 mod clearing;
-
 mod finishing;
 mod freeing;
 mod orphans;
 mod plan;
 mod pruning;
 mod reaching;
+mod recovery;
 mod sector;
 mod steps;
 mod superblocks;
+
+pub use recovery::recover;
