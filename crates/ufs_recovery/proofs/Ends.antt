@@ -1,0 +1,141 @@
+-- What a recovery begins with and how it ends.
+use Rattle.std.proofs.Common.{◌≡◌, ◌≢◌, ℕ, ◌+◌, ◌*◌, ◌<◌, ◌≤◌, inl, inr, List, [], ◌∷◌, length, Bool, true, false, None, Some, ap, sym, refl, ◌∙◌, subst, arith}
+use Rattle.std.specs.Prelude.{IsTrue, ◌==◌, ◌&&◌, not, nat_lt, MatchResult, Result, Ok, Err}
+use Rattle.std.specs.List.{list_all}
+use Rattle.std.specs.FinMap.{from_entries}
+use Rattle.std.proofs.lemmas.Bool.{and_parts}
+use Rattle.std.proofs.lemmas.Bool.Decides.{nat_tests}
+use Rattle.ufs_base.specs.Images.{Image}
+use Rattle.ufs_disk.specs.Disk.{State, IsSettled, seen}
+use Rattle.ufs_layout.specs.Areas.{first_of_journal, journal_sectors}
+use Rattle.ufs_layout.specs.Superblock.{geometry_of}
+use Rattle.ufs_layout.specs.declared.superblock.Super.{Super}
+use Rattle.ufs_layout.specs.declared.records.Committed.{Committed}
+use Rattle.ufs_catalog.specs.Faults.{IsOutside, IsWhyNot}
+use Rattle.ufs_catalog.specs.declared.fault.RecoverFault.{RecoverFault}
+use Rattle.ufs_catalog.specs.declared.fault.RecoverFault.TheVariants.{NoSuperblock, BadVersion, BadGeometry, BadRecord, BadTree, Device, Memory}
+use Rattle.ufs_damage.specs.Findings.{AreFindingsOf, CatalogRead}
+use Rattle.ufs_image.specs.Agree.{IsOfJournal}
+use Rattle.ufs_image.specs.Damage.{bad_tree}
+use Rattle.ufs_image.specs.Journal.{committed, epoch_in}
+use Rattle.ufs_image.specs.Opens.{ImageTree, opens, walked, entries_of, tree_of, by_damage}
+use Rattle.ufs_image.specs.Proper.{IsProperImage, IsProperVolume, IsProperClean}
+use Rattle.ufs_image.specs.Volume as image
+use Rattle.ufs_image.specs.Volume.{Refusal, Volume, volume, volume_of, head_of}
+use Rattle.ufs_image.proofs.Empty.{in_range}
+use Rattle.ufs_image.proofs.Journals.{taken}
+use Rattle.ufs_image.proofs.Lists.{IsIn}
+use Rattle.ufs_overlay.specs.Seen.{HasAdded}
+use Rattle.ufs_volume.specs.Volumes.{committed_in, folded_image, volume_in}
+use Rattle.ufs_volume.specs.declared.volume.FoldedVolume.{FoldedVolume}
+use Rattle.ufs_recovery.specs.Finished.{MayWriteBack, IsWrittenBack}
+use Rattle.ufs_recovery.specs.Recovered.{IsProperDisk, IsCleanDisk, IsRecovered, log_of}
+use Rattle.ufs_recovery.proofs.Epochs.{none_committed}
+
+-- ---- a proper image
+
+-- its volume
+pub proper_volume : (sectors : ℕ) (image : Image) → IsProperImage sectors image → (v : Volume) × (volume sectors image ≡ Ok v) × IsProperVolume image v
+proper_volume sectors image is = by (volume sectors image) refl is
+  where
+    by : (r : Result Volume Refusal) → volume sectors image ≡ r → MatchResult r (IsProperVolume image) (λ _. ⊥) → (v : Volume) × (volume sectors image ≡ Ok v) × IsProperVolume image v
+    by (Ok v) e is = (v, e, is)
+    by (Err refusal) e none = absurd none
+
+pub proper_opens : (sectors : ℕ) (image : Image) → IsProperImage sectors image → (tree : ImageTree) × (opens sectors image ≡ Ok tree)
+proper_opens sectors image is =
+    let v = proper_volume sectors image is in
+    (from_entries (walked v.0), ap (λ r. tree_of (entries_of r)) v.1 ∙ ap (λ b. tree_of (by_damage v.0 b)) v.2.has_tree)
+
+same_volume : (v w : Volume) → ◌≡◌ {A = Result Volume Refusal} (Ok v) (Ok w) → v ≡ w
+same_volume v w e = cc
+
+-- the same of the volume that is known
+pub proper_of : (sectors : ℕ) (image : Image) (v : Volume) → volume sectors image ≡ Ok v → IsProperImage sectors image → IsProperVolume image v
+proper_of sectors image v e is = let at = proper_volume sectors image is in subst (IsProperVolume image) (same_volume at.0 v (sym at.1 ∙ e)) at.2
+
+all_pass : (p : ℕ → Bool) (xs : List ℕ) → IsTrue (list_all p xs) → (x : ℕ) → IsIn x xs → p x ≡ true
+all_pass p [] all x there = absurd there
+all_pass p (y ∷ xs) all x (inl same) = ap p same ∙ (and_parts (p y) (list_all p xs) all).0
+all_pass p (y ∷ xs) all x (inr there) = all_pass p xs (and_parts (p y) (list_all p xs) all).1 x there
+
+pub none_later : (image : Image) (v : Volume) → IsProperVolume image v → (sector : ℕ) → IsOfJournal v.geometry sector → epoch_in (image sector) ≤ v.head.epoch
+none_later image v is sector of =
+    let t = all_pass (λ s. not (nat_lt v.head.epoch (epoch_in (image s)))) (journal_sectors v.geometry) is.none_later sector (in_range (8 * first_of_journal v.geometry) v.geometry.journal sector of.from of.below) in
+    grind (arith, nat_tests, t)
+
+no_entry : (image : Image) (v : Volume) → IsProperClean v image → (sector : ℕ) → IsOfJournal v.geometry sector → epoch_in (image sector) ≢ v.head.epoch
+no_entry image v is sector of same =
+    let t = all_pass (λ s. not (epoch_in (image s) == v.head.epoch)) (journal_sectors v.geometry) is.no_entry sector (in_range (8 * first_of_journal v.geometry) v.geometry.journal sector of.from of.below) in
+    grind (arith, nat_tests, t, same)
+
+-- Nothing is committed in the epoch of a proper image that is clean.
+pub none_in_clean : (sectors : ℕ) (image : Image) → IsProperImage sectors image → (head_of image).clean ≡ true → log_of image ≡ []
+none_in_clean sectors image is clean = of at.0 (taken sectors image at.0 at.1).same at.2
+  where
+    at : (v : Volume) × (volume sectors image ≡ Ok v) × IsProperVolume image v
+    at = proper_volume sectors image is
+
+    of : (v : Volume) → v ≡ volume_of (head_of image) image → IsProperVolume image v → log_of image ≡ []
+    of v same proper =
+        let here : IsProperVolume image (volume_of (head_of image) image) = subst (IsProperVolume image) same proper in
+        none_committed (geometry_of (head_of image)) (head_of image).epoch image (no_entry image (volume_of (head_of image) image) (here.if_clean clean))
+
+-- ---- faults
+
+pub outside_tells : {X : Type 0} (given : Result X Refusal) (f : RecoverFault) → IsOutside f → IsWhyNot given f
+outside_tells given NoSuperblock is = absurd is
+outside_tells given (BadVersion v) is = absurd is
+outside_tells given (BadGeometry n) is = absurd is
+outside_tells given (BadRecord s) is = absurd is
+outside_tells given (BadTree i) is = absurd is
+outside_tells given (Device fault) is = is
+outside_tells given Memory is = is
+
+clash : (tree : ImageTree) (r : Refusal) → ◌≡◌ {A = Result ImageTree Refusal} (Ok tree) (Err r) → ⊥
+clash tree r e = cc
+
+pub only_outside : (sectors : ℕ) (disk : Image) → IsProperImage sectors disk → (f : RecoverFault) → IsWhyNot (opens sectors disk) f → IsOutside f
+only_outside sectors disk is f why = by f why
+  where
+    at : (tree : ImageTree) × (opens sectors disk ≡ Ok tree)
+    at = proper_opens sectors disk is
+
+    by : (f : RecoverFault) → IsWhyNot (opens sectors disk) f → IsOutside f
+    by NoSuperblock why = absurd (clash at.0 image.NoSuperblock (sym at.1 ∙ why))
+    by (BadVersion v) why = absurd (clash at.0 (image.BadVersion v) (sym at.1 ∙ why))
+    by (BadGeometry n) why = absurd (clash at.0 (image.BadGeometry n) (sym at.1 ∙ why))
+    by (BadRecord s) why = absurd (clash at.0 (image.BadRecord s) (sym at.1 ∙ why))
+    by (BadTree i) why = absurd (clash at.0 (image.BadTree i) (sym at.1 ∙ why))
+    by (Device fault) why = why
+    by Memory why = why
+
+-- ---- the volume that was read
+
+module _ (sectors : ℕ) (image : Image) (v : FoldedVolume) (is : volume sectors image ≡ Ok (volume_in v image)) where
+  pub head_same : v.head.head ≡ head_of image
+  head_same = ap (λ (u : Volume). u.head) (taken sectors image (volume_in v image) is).same
+
+  pub log_same : committed_in v image ≡ log_of image
+  log_same = ap (λ (u : Volume). committed u.geometry u.head.epoch image) (taken sectors image (volume_in v image) is).same
+
+  pub may_write_back : (findings : CatalogRead) → HasAdded v.overlay (committed_in v image) → AreFindingsOf v.head.geometry (folded_image v image) findings → bad_tree v.head.geometry (folded_image v image) ≡ None
+      → IsProperImage sectors image → MayWriteBack sectors image v findings
+  may_write_back findings added found whole proper = record {
+    taken = is;
+    added = added;
+    found = found;
+    whole = whole;
+    none_later = none_later image (volume_in v image) (proper_of sectors image (volume_in v image) is proper);
+  }
+
+  pub is_recovered : (used : ℕ) (after : Image) → IsWrittenBack sectors v.head.head used after → IsRecovered image after
+  is_recovered used after written = of (subst (λ h. IsWrittenBack sectors h used after) head_same written)
+    where
+      of : IsWrittenBack sectors (head_of image) used after → IsRecovered image after
+      of w = record { head = w.head_is; known = w.known; inodes = w.inodes; named = w.named }
+
+pub is_clean : (sectors : ℕ) (state : State) (head : Super) (used : ℕ) → IsSettled state → IsWrittenBack sectors head used (seen state) → IsCleanDisk sectors state
+is_clean sectors state head used settled written =
+    let clean : (head_of (seen state)).clean ≡ true = ap (λ (h : Super). h.clean) written.head_is in
+    record { proper = record { settled = settled; proper = written.proper }; clean = clean; empty = none_in_clean sectors (seen state) written.proper clean }

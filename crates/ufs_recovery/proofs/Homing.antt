@@ -1,0 +1,85 @@
+-- What is committed is written home.
+use Rattle.std.proofs.Common.{◌≡◌, ℕ, ◌+◌, ◌*◌, ◌<◌, ◌≤◌, ◌⊎◌, inl, inr, List, Bool, true, false, ap, sym, refl, ◌∙◌, subst, arith}
+use Rattle.std.specs.Prelude.{nat_le, nat_lt}
+use Rattle.std.proofs.lemmas.Bool.{and_parts}
+use Rattle.std.proofs.lemmas.Bool.Decides.{nat_tests}
+use Rattle.ufs_base.specs.Images.{Image}
+use Rattle.ufs_disk.specs.Disk.{State, IsSettled, IsWhole, seen}
+use Rattle.ufs_disk.proofs.Images.{seen_is_image}
+use Rattle.ufs_layout.specs.Areas.{first_of_data, first_of_journal, is_data_sector}
+use Rattle.ufs_layout.specs.declared.geometry.Geometry.{Geometry}
+use Rattle.ufs_layout.specs.declared.records.Committed.{Committed}
+use Rattle.ufs_image.specs.Agree.{IsOfJournal}
+use Rattle.ufs_image.specs.Catalog.{catalog_at}
+use Rattle.ufs_image.specs.Fold.{folded}
+use Rattle.ufs_image.specs.Images.{IsImageOf}
+use Rattle.ufs_image.specs.Journal.{committed}
+use Rattle.ufs_image.specs.Opens.{opens}
+use Rattle.ufs_image.specs.Volume.{Volume, volume_of, head_of}
+use Rattle.ufs_image.proofs.Home.{stops_anywhere}
+use Rattle.ufs_image.proofs.Journals.{taken}
+use Rattle.ufs_image.proofs.Mixed.{else_folded}
+use Rattle.ufs_overlay.specs.Over.{IsHomeWritten}
+use Rattle.ufs_overlay.specs.Seen as overlaid
+use Rattle.ufs_overlay.specs.declared.overlay.Overlay.{Overlay}
+use Rattle.ufs_recovery.specs.Home.{IsOver, OpensAlike}
+
+-- ---- where nothing is folded
+
+no_data : (g : Geometry) (sector : ℕ) → sector < 8 * first_of_data g → is_data_sector g sector ≡ false
+no_data g sector low = by (is_data_sector g sector) refl
+  where
+    by : (b : Bool) → is_data_sector g sector ≡ b → is_data_sector g sector ≡ false
+    by false e = e
+    by true e = let t = (and_parts (nat_le (8 * first_of_data g) sector) (nat_lt sector (8 * g.blocks)) e).0 in let high : 8 * first_of_data g ≤ sector = grind (arith, nat_tests, t) in absurd (omega (arith, low, high))
+
+pub zero_unfolded : (g : Geometry) (log : List Committed) (image : Image) → folded g log image 0 ≡ image 0
+zero_unfolded g log image = else_folded g 0 (no_data g 0 (omega arith)) (λ k ranged same. omega (arith, same)) log image
+
+pub journal_unfolded : (g : Geometry) (log : List Committed) (image : Image) (sector : ℕ) → IsOfJournal g sector → folded g log image sector ≡ image sector
+journal_unfolded g log image sector of =
+    let from = of.from in
+    let under = of.below in
+    else_folded g sector (no_data g sector (omega (arith, under)))
+    (λ k ranged same.
+    let high : k ≤ g.inodes = let t = (and_parts (nat_le 1 k) (nat_le k g.inodes) ranged).1 in grind (arith, nat_tests, t) in
+    let low : 1 ≤ k = let t = (and_parts (nat_le 1 k) (nat_le k g.inodes) ranged).0 in grind (arith, nat_tests, t) in
+    omega (arith, same, high, low, from)) log image
+
+-- ---- the folded image
+
+-- it is what folding makes of the image
+pub volume_image : (sectors : ℕ) (image : Image) (v : Volume) (overlay : Overlay) → IsOver sectors image v overlay → v.image ≡ folded v.geometry (committed v.geometry v.head.epoch image) image
+volume_image sectors image v overlay over =
+    let same : v ≡ volume_of (head_of image) image = (taken sectors image v over.is.taken).same in
+    subst (λ (u : Volume). u.image ≡ folded u.geometry (committed u.geometry u.head.epoch image) image) (sym same) refl
+
+-- with the words of the overlay
+pub folds_to : (sectors : ℕ) (image : Image) (v : Volume) (overlay : Overlay) → IsOver sectors image v overlay
+    → v.image ≡ folded (overlaid.geometry_of overlay) (committed v.geometry v.head.epoch image) image
+folds_to sectors image v overlay over = volume_image sectors image v overlay over ∙ ap (λ g. folded g (committed v.geometry v.head.epoch image) image) (sym over.geometry)
+
+module _ (sectors : ℕ) (state : State) (v : Volume) (overlay : Overlay) (over : IsOver sectors (seen state) v overlay) (settled : IsSettled state) (whole : IsWhole sectors state) where
+  sized : IsImageOf sectors (seen state)
+  sized sector less = whole.within sector less (seen state sector) (seen_is_image state sector)
+
+  -- Whatever of it is home, a crash leaves the same tree.
+  pub home_tree : (image : Image) → IsHomeWritten (overlaid.geometry_of overlay) (committed v.geometry v.head.epoch (seen state)) state image → OpensAlike sectors (seen state) image
+  home_tree image from =
+      stops_anywhere sectors (seen state) image v (catalog_at v.geometry v.image) sized over.is
+      (by 0 (from.mixed 0) (zero_unfolded (overlaid.geometry_of overlay) (committed v.geometry v.head.epoch (seen state)) (seen state)))
+      (λ s low under. by s (from.mixed s) (journal_unfolded (overlaid.geometry_of overlay) (committed v.geometry v.head.epoch (seen state)) (seen state) s (subst (λ g. IsOfJournal g s) (sym over.geometry) (record { from = low; below = under }))))
+      (λ s low. mixed s (from.mixed s))
+    where
+      was : from.before ≡ seen state
+      was = settled from.before from.left
+
+      by : (s : ℕ) → (image s ≡ from.before s) ⊎ (image s ≡ folded (overlaid.geometry_of overlay) (committed v.geometry v.head.epoch (seen state)) from.before s)
+          → folded (overlaid.geometry_of overlay) (committed v.geometry v.head.epoch (seen state)) (seen state) s ≡ seen state s → image s ≡ seen state s
+      by s (inl e) still = e ∙ ap (λ (d : Image). d s) was
+      by s (inr e) still = e ∙ ap (λ (d : Image). folded (overlaid.geometry_of overlay) (committed v.geometry v.head.epoch (seen state)) d s) was ∙ still
+
+      mixed : (s : ℕ) → (image s ≡ from.before s) ⊎ (image s ≡ folded (overlaid.geometry_of overlay) (committed v.geometry v.head.epoch (seen state)) from.before s)
+          → (image s ≡ seen state s) ⊎ (image s ≡ v.image s)
+      mixed s (inl e) = inl (e ∙ ap (λ (d : Image). d s) was)
+      mixed s (inr e) = inr (e ∙ ap (λ (d : Image). folded (overlaid.geometry_of overlay) (committed v.geometry v.head.epoch (seen state)) d s) was ∙ ap (λ (d : Image). d s) (sym (folds_to sectors (seen state) v overlay over)))

@@ -1,0 +1,59 @@
+use Rattle.std.proofs.Common.{◌≡◌, ◌+◌, ◌-◌, ◌*◌, ◌<◌, ℕ, length, ap, sym, refl, ◌∙◌, subst, arith}
+use Rattle.std.proofs.lemmas.Result.{on_ok_weaker}
+use Rattle.ufs_base.specs.Images.{Image}
+use Rattle.ufs_disk.specs.Moments.{reads}
+use Rattle.ufs_disk.proofs.Runs.{started, goes_on_quietly}
+use Rattle.ufs_layout.specs.Areas.{bitmap_blocks}
+use Rattle.ufs_recovery.specs.Marks.{AgreeOffBitmap, HasAnyBitmap, HasBits, IsMarkedBelow}
+use Rattle.ufs_recovery.proofs.Bits.{none_marked, any_first, marked_on, agrees_on, any_on}
+use Rattle.ufs_recovery.proofs.bitmap.write_bitmap.Goals as goal
+
+pub loop-place-init : goal.loop-place-init
+loop-place-init g c = record {
+  marked = λ told. none_marked c.args.taken.now (reads (g.D.Disk.moments c.args.disk.now));
+  others = λ told s out. refl;
+  crash = λ told. started _ _ _ (any_first c.args.geometry.now (g.D.Disk.moments c.args.disk.now).state);
+  size = refl;
+  faults = refl;
+}
+
+pub returns-in_err-write-clause-crash : goal.returns-in_err-write-clause-crash
+returns-in_err-write-clause-crash g c told =
+    let block = c.first_of_inodes.result - c.bitmap_blocks-count.result + c.loop-place.place in
+    let inodes = c.first_of_inodes.ensures in
+    let count = c.bitmap_blocks-count.ensures in
+    let less = c.loop-place-test.true in
+    let at : block ≡ 1 + c.loop-place.place = omega (arith, inodes, count) in
+    any_on c.args.geometry.now c.args.taken.now c.loop-place.place block at (omega (arith, less, count)) c.fill_bits.new.bytes (omega arith) c.fill_bits.ensures _ _ _ _ (c.loop-place.invariant.crash told) (c.write.ensures.crash told)
+
+pub loop-place-preserved : goal.loop-place-preserved
+loop-place-preserved g c =
+    let i = c.loop-place.invariant in
+    let block = c.first_of_inodes.result - c.bitmap_blocks-count.result + c.loop-place.place in
+    let inodes = c.first_of_inodes.ensures in
+    let count = c.bitmap_blocks-count.ensures in
+    let less = c.loop-place-test.true in
+    let at : block ≡ 1 + c.loop-place.place = omega (arith, inodes, count) in
+    let within : c.loop-place.place < bitmap_blocks c.args.geometry.now = omega (arith, less, count) in
+    let sized : length c.fill_bits.new.bytes ≡ 4096 = omega arith in
+    record {
+      marked = λ told. marked_on c.args.geometry.now c.args.taken.now c.loop-place.place block at within c.fill_bits.new.bytes sized c.fill_bits.ensures _ _ (c.in_ok-write.ensures.ok told) (i.marked told);
+      others = λ told. agrees_on c.args.geometry.now c.args.taken.now c.loop-place.place block at within c.fill_bits.new.bytes sized c.fill_bits.ensures _ _ _ (c.in_ok-write.ensures.ok told) (i.others told);
+      crash = λ told. any_on c.args.geometry.now c.args.taken.now c.loop-place.place block at within c.fill_bits.new.bytes sized c.fill_bits.ensures _ _ _ _ (i.crash told) (c.write.ensures.crash told);
+      size = c.write.ensures.size ∙ i.size;
+      faults = c.in_ok-write.ensures.cause.passed ∙ i.faults;
+    }
+
+pub returns-clause-marked : goal.returns-clause-marked
+returns-clause-marked g c told = on_ok_weaker c.barrier.result (λ settled.
+    let count = c.bitmap_blocks-count.ensures in
+    let all : c.loop-place.place ≡ bitmap_blocks c.args.geometry.now = omega (arith, count) in
+    subst (λ n. IsMarkedBelow c.args.taken.now (32768 * n) (reads (g.D.Disk.moments c.barrier.new.self))) all
+    (subst (λ (d : Image). IsMarkedBelow c.args.taken.now (32768 * c.loop-place.place) d) (sym (c.barrier.ensures.content told)) (c.loop-place.invariant.marked told))) (c.barrier.ensures.ok told)
+
+pub returns-clause-others : goal.returns-clause-others
+returns-clause-others g c told = on_ok_weaker c.barrier.result (λ settled s out.
+    ap (λ (d : Image). d s) (c.barrier.ensures.content told) ∙ c.loop-place.invariant.others told s out) (c.barrier.ensures.ok told)
+
+pub returns-clause-crash : goal.returns-clause-crash
+returns-clause-crash g c told = goes_on_quietly _ (HasAnyBitmap c.args.geometry.now (g.D.Disk.moments c.args.disk.now).state) _ _ _ (c.loop-place.invariant.crash told) (c.barrier.ensures.crash told)

@@ -1,0 +1,7 @@
+use Rattle.std.proofs.Common.{◌≡◌, ℕ, ◌<◌, ◌≤◌, Some}
+use Rattle.std.specs.List.{slice_get}
+use Rattle.ufs_layout.specs.InodeForm.{InodeForm}
+use Rattle.ufs_recovery.proofs.orphans.highest_number.Given as goal
+
+abbrev pub invariant-loop-place : goal.invariant-loop-place
+invariant-loop-place l = (place : ℕ) (form : InodeForm) → place < l.place → slice_get l.forms place ≡ Some (Some form) → form.number ≤ l.highest

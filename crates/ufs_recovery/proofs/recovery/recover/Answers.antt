@@ -1,0 +1,153 @@
+use Rattle.std.proofs.Common.{◌≡◌, length, true, false, ap, sym, ◌∙◌, subst, arith}
+use Rattle.std.proofs.lemmas.Result.{err_from_is_err_and}
+use Rattle.ufs_base.specs.Images.{Image}
+use Rattle.ufs_disk.specs.Moments.{reads}
+use Rattle.ufs_image.specs.Proper.{IsProperImage}
+use Rattle.ufs_image.specs.Volume.{head_of}
+use Rattle.ufs_layout.specs.declared.records.Committed.{Committed}
+use Rattle.ufs_layout.specs.declared.superblock.Super.{Super}
+use Rattle.ufs_recovery.specs.Finished.{MayWriteBack, IsWrittenBack}
+use Rattle.ufs_recovery.specs.Home.{KeepsTree}
+use Rattle.ufs_recovery.specs.Recovered.{IsCleanDisk}
+use Rattle.ufs_recovery.proofs.Ends.{head_same, is_clean, is_recovered, log_same, may_write_back, none_in_clean, only_outside}
+use Rattle.ufs_recovery.proofs.Headed.{keeps_settled, kept_on, still_settled}
+use Rattle.ufs_recovery.proofs.recovery.recover.Goals as goal
+
+pub returns-in_err-opened-clause-tree : goal.returns-in_err-opened-clause-tree
+returns-in_err-opened-clause-tree g c told proper = keeps_settled _ (g.D.Disk.size c.args.disk.now) _ _ proper.settled (c.open.ensures.read_only told).crash
+
+pub returns-in_err-opened-clause-outside : goal.returns-in_err-opened-clause-outside
+returns-in_err-opened-clause-outside g c told proper =
+    let p = err_from_is_err_and c.from_residual.result c.from_residual.ensures.1 in
+    rw (p.1, p.2) (only_outside (g.D.Disk.size c.args.disk.now) (reads (g.D.Disk.moments c.args.disk.now)) proper c.in_err-opened.field-0.0 (c.in_err-opened.ensures.refused told))
+
+pub returns-then-opened-clause-found : goal.returns-then-opened-clause-found
+returns-then-opened-clause-found g c told =
+    let size = g.D.Disk.size c.args.disk.now in
+    let old = g.D.Disk.moments c.args.disk.now in
+    let image = reads (g.D.Disk.moments c.args.disk.now) in
+    let v = c.in_ok-opened.opened.volume in
+    let is = c.in_ok-opened.ensures.taken told in
+    c.in_ok-opened.ensures.count told ∙ ap (length {A = Committed}) (log_same size image v is)
+
+pub returns-then-opened-clause-clean : goal.returns-then-opened-clause-clean
+returns-then-opened-clause-clean g c told proper =
+    let size = g.D.Disk.size c.args.disk.now in
+    let old = g.D.Disk.moments c.args.disk.now in
+    let image = reads (g.D.Disk.moments c.args.disk.now) in
+    let v = c.in_ok-opened.opened.volume in
+    let is = c.in_ok-opened.ensures.taken told in
+    let back = sym (c.open.ensures.read_only told).content in
+    let clean : (head_of image).clean ≡ true = sym (ap (λ (h : Super). h.clean) (head_same size image v is)) ∙ c.if-opened.true in
+    record {
+      proper = record {
+        settled = still_settled g.D.Disk.keeps old (g.D.Disk.moments c.open.new.disk) (c.open.ensures.read_only told) proper.settled;
+        proper = subst (λ (d : Image). IsProperImage size d) back proper.proper;
+      };
+      clean = subst (λ (d : Image). (head_of d).clean ≡ true) back clean;
+      empty = none_in_clean size (reads (g.D.Disk.moments c.open.new.disk)) (subst (λ (d : Image). IsProperImage size d) back proper.proper) (subst (λ (d : Image). (head_of d).clean ≡ true) back clean);
+    }
+
+pub returns-then-opened-clause-tree : goal.returns-then-opened-clause-tree
+returns-then-opened-clause-tree g c told proper = keeps_settled _ (g.D.Disk.size c.args.disk.now) _ _ proper.settled (c.open.ensures.read_only told).crash
+
+pub returns-then-opened-clause-recovered : goal.returns-then-opened-clause-recovered
+returns-then-opened-clause-recovered g c told proper used =
+    let size = g.D.Disk.size c.args.disk.now in
+    let old = g.D.Disk.moments c.args.disk.now in
+    let image = reads (g.D.Disk.moments c.args.disk.now) in
+    let v = c.in_ok-opened.opened.volume in
+    let is = c.in_ok-opened.ensures.taken told in
+    let isnt : false ≡ true = sym used ∙ sym (ap (λ (h : Super). h.clean) (head_same size image v is)) ∙ c.if-opened.true in
+    absurd (grind (arith, isnt))
+
+pub returns-in-Ok-clause-found : goal.returns-in-Ok-clause-found
+returns-in-Ok-clause-found g c told =
+    let size = g.D.Disk.size c.args.disk.now in
+    let old = g.D.Disk.moments c.args.disk.now in
+    let image = reads (g.D.Disk.moments c.args.disk.now) in
+    let v = c.in_ok-opened.opened.volume in
+    let is = c.in_ok-opened.ensures.taken told in
+    c.in_ok-opened.ensures.count told ∙ ap (length {A = Committed}) (log_same size image v is)
+
+pub returns-in-Ok-clause-clean : goal.returns-in-Ok-clause-clean
+returns-in-Ok-clause-clean g c told proper =
+    let size = g.D.Disk.size c.args.disk.now in
+    let old = g.D.Disk.moments c.args.disk.now in
+    let image = reads (g.D.Disk.moments c.args.disk.now) in
+    let v = c.in_ok-opened.opened.volume in
+    let is = c.in_ok-opened.ensures.taken told in
+    let mid = g.D.Disk.moments c.open.new.disk in
+    let settled = still_settled g.D.Disk.keeps old mid (c.open.ensures.read_only told) proper.settled in
+    let can : MayWriteBack size image v c.in_ok-opened.opened.findings = may_write_back size image v is c.in_ok-opened.opened.findings (c.in_ok-opened.ensures.added told) (c.in_ok-opened.ensures.found told) (c.in_ok-opened.ensures.whole told) proper.proper in
+    let can_mid : MayWriteBack (g.D.Disk.size c.open.new.disk) (reads mid) v c.in_ok-opened.opened.findings =
+    subst (λ n. MayWriteBack n (reads mid) v c.in_ok-opened.opened.findings) (sym c.open.ensures.size) (subst (λ (d : Image). MayWriteBack size d v c.in_ok-opened.opened.findings) (sym (c.open.ensures.read_only told).content) can) in
+    let written : IsWrittenBack size v.head.head c.last_number-used.result (reads (g.D.Disk.moments c.write_back.new.disk)) =
+    subst (λ n. IsWrittenBack n v.head.head c.last_number-used.result (reads (g.D.Disk.moments c.write_back.new.disk))) c.open.ensures.size (c.in-Ok.ensures.written told settled can_mid) in
+    is_clean size (g.D.Disk.moments c.write_back.new.disk).state v.head.head c.last_number-used.result (c.in-Ok.ensures.settled told) written
+
+pub returns-in-Ok-clause-tree : goal.returns-in-Ok-clause-tree
+returns-in-Ok-clause-tree g c told proper =
+    let size = g.D.Disk.size c.args.disk.now in
+    let old = g.D.Disk.moments c.args.disk.now in
+    let image = reads (g.D.Disk.moments c.args.disk.now) in
+    let v = c.in_ok-opened.opened.volume in
+    let is = c.in_ok-opened.ensures.taken told in
+    let mid = g.D.Disk.moments c.open.new.disk in
+    let settled = still_settled g.D.Disk.keeps old mid (c.open.ensures.read_only told) proper.settled in
+    let can : MayWriteBack size image v c.in_ok-opened.opened.findings = may_write_back size image v is c.in_ok-opened.opened.findings (c.in_ok-opened.ensures.added told) (c.in_ok-opened.ensures.found told) (c.in_ok-opened.ensures.whole told) proper.proper in
+    let can_mid : MayWriteBack (g.D.Disk.size c.open.new.disk) (reads mid) v c.in_ok-opened.opened.findings =
+    subst (λ n. MayWriteBack n (reads mid) v c.in_ok-opened.opened.findings) (sym c.open.ensures.size) (subst (λ (d : Image). MayWriteBack size d v c.in_ok-opened.opened.findings) (sym (c.open.ensures.read_only told).content) can) in
+    kept_on g.D.Disk.keeps size old mid (g.D.Disk.moments c.write_back.new.disk) (keeps_settled g.D.Disk.keeps size old mid proper.settled (c.open.ensures.read_only told).crash)
+    (subst (λ n. KeepsTree g.D.Disk.keeps n mid (g.D.Disk.moments c.write_back.new.disk)) c.open.ensures.size (c.write_back.ensures.tree told settled can_mid))
+
+pub returns-in-Ok-clause-recovered : goal.returns-in-Ok-clause-recovered
+returns-in-Ok-clause-recovered g c told proper used =
+    let size = g.D.Disk.size c.args.disk.now in
+    let old = g.D.Disk.moments c.args.disk.now in
+    let image = reads (g.D.Disk.moments c.args.disk.now) in
+    let v = c.in_ok-opened.opened.volume in
+    let is = c.in_ok-opened.ensures.taken told in
+    let mid = g.D.Disk.moments c.open.new.disk in
+    let settled = still_settled g.D.Disk.keeps old mid (c.open.ensures.read_only told) proper.settled in
+    let can : MayWriteBack size image v c.in_ok-opened.opened.findings = may_write_back size image v is c.in_ok-opened.opened.findings (c.in_ok-opened.ensures.added told) (c.in_ok-opened.ensures.found told) (c.in_ok-opened.ensures.whole told) proper.proper in
+    let can_mid : MayWriteBack (g.D.Disk.size c.open.new.disk) (reads mid) v c.in_ok-opened.opened.findings =
+    subst (λ n. MayWriteBack n (reads mid) v c.in_ok-opened.opened.findings) (sym c.open.ensures.size) (subst (λ (d : Image). MayWriteBack size d v c.in_ok-opened.opened.findings) (sym (c.open.ensures.read_only told).content) can) in
+    let written : IsWrittenBack size v.head.head c.last_number-used.result (reads (g.D.Disk.moments c.write_back.new.disk)) =
+    subst (λ n. IsWrittenBack n v.head.head c.last_number-used.result (reads (g.D.Disk.moments c.write_back.new.disk))) c.open.ensures.size (c.in-Ok.ensures.written told settled can_mid) in
+    is_recovered size image v is c.last_number-used.result (reads (g.D.Disk.moments c.write_back.new.disk)) written
+
+pub returns-in-Ok-clause-quiet : goal.returns-in-Ok-clause-quiet
+returns-in-Ok-clause-quiet g c told clean =
+    let size = g.D.Disk.size c.args.disk.now in
+    let old = g.D.Disk.moments c.args.disk.now in
+    let image = reads (g.D.Disk.moments c.args.disk.now) in
+    let v = c.in_ok-opened.opened.volume in
+    let is = c.in_ok-opened.ensures.taken told in
+    let isnt : false ≡ true = sym c.if-opened.false ∙ ap (λ (h : Super). h.clean) (head_same size image v is) ∙ clean in
+    absurd (grind (arith, isnt))
+
+pub returns-clause-tree : goal.returns-clause-tree
+returns-clause-tree g c told proper =
+    let size = g.D.Disk.size c.args.disk.now in
+    let old = g.D.Disk.moments c.args.disk.now in
+    let image = reads (g.D.Disk.moments c.args.disk.now) in
+    let v = c.in_ok-opened.opened.volume in
+    let is = c.in_ok-opened.ensures.taken told in
+    let mid = g.D.Disk.moments c.open.new.disk in
+    let settled = still_settled g.D.Disk.keeps old mid (c.open.ensures.read_only told) proper.settled in
+    let can : MayWriteBack size image v c.in_ok-opened.opened.findings = may_write_back size image v is c.in_ok-opened.opened.findings (c.in_ok-opened.ensures.added told) (c.in_ok-opened.ensures.found told) (c.in_ok-opened.ensures.whole told) proper.proper in
+    let can_mid : MayWriteBack (g.D.Disk.size c.open.new.disk) (reads mid) v c.in_ok-opened.opened.findings =
+    subst (λ n. MayWriteBack n (reads mid) v c.in_ok-opened.opened.findings) (sym c.open.ensures.size) (subst (λ (d : Image). MayWriteBack size d v c.in_ok-opened.opened.findings) (sym (c.open.ensures.read_only told).content) can) in
+    kept_on g.D.Disk.keeps size old mid (g.D.Disk.moments c.write_back.new.disk) (keeps_settled g.D.Disk.keeps size old mid proper.settled (c.open.ensures.read_only told).crash)
+    (subst (λ n. KeepsTree g.D.Disk.keeps n mid (g.D.Disk.moments c.write_back.new.disk)) c.open.ensures.size (c.write_back.ensures.tree told settled can_mid))
+
+pub returns-clause-quiet : goal.returns-clause-quiet
+returns-clause-quiet g c told clean =
+    let size = g.D.Disk.size c.args.disk.now in
+    let old = g.D.Disk.moments c.args.disk.now in
+    let image = reads (g.D.Disk.moments c.args.disk.now) in
+    let v = c.in_ok-opened.opened.volume in
+    let is = c.in_ok-opened.ensures.taken told in
+    let isnt : false ≡ true = sym c.if-opened.false ∙ ap (λ (h : Super). h.clean) (head_same size image v is) ∙ clean in
+    absurd (grind (arith, isnt))

@@ -1,0 +1,6 @@
+pub mod Cleared
+pub mod Finished
+pub mod Home
+pub mod Marks
+pub mod Orphans
+pub mod Recovered

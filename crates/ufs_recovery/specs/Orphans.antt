@@ -1,0 +1,80 @@
+-- Inodes that are used and that no walk from the root meets.
+use Rattle.std.specs.Prelude.{ℕ, ◌≡◌, ◌≢◌, ◌+◌, ◌<◌, ◌⊎◌, List, Bool, true, false, ◌==◌, if◌then◌else◌, Option, Some, None, length, slice_index_or}
+use Rattle.std.specs.List.{slice_get}
+use Rattle.ufs_layout.specs.declared.geometry.Geometry.{Geometry}
+use Rattle.ufs_base.specs.Images.{Image}
+use Rattle.ufs_layout.specs.InodeForm.{InodeForm}
+use Rattle.ufs_layout.specs.Superblock.{geometry_of}
+use Rattle.ufs_layout.specs.declared.superblock.Super.{Super}
+use Rattle.ufs_image.specs.Catalog.{Catalog, IsInode, catalog_at}
+use Rattle.ufs_image.specs.Changes.{IsReached, IsUnreached}
+use Rattle.ufs_image.specs.Images.{form_at}
+use Rattle.ufs_image.specs.Nodes.{sound_nodes}
+use Rattle.ufs_damage.specs.Findings.{AreFindingsOf, CatalogRead}
+use Rattle.ufs_recovery.specs.Home.{IsAtHome}
+use Rattle.ufs_recovery.specs.Recovered.{HasNoOrphans}
+use Rattle.ufs_recovery.specs.Cleared.{Numbers}
+
+-- Where a number stands, no walk meets the inode, which has this commit number.
+abbrev pub AreUnreached : Catalog → Numbers → Type 0
+AreUnreached c numbers = (place number : ℕ) → slice_get numbers place ≡ Some (Some number) → IsUnreached c (place + 1) × (number ≡ (c.forms (place + 1)).number)
+
+-- Numbers stand for all orphans.
+pub record AreOrphans (g : Geometry) (c : Catalog) (numbers : Numbers) : Type 0 where
+  pub sized : length numbers ≡ g.inodes
+  pub unreached : AreUnreached c numbers
+  pub others : (place : ℕ) → slice_get numbers place ≡ Some None → IsReached c (place + 1) ⊎ ((c.forms (place + 1)).kind ≡ 0)
+
+-- Numbers stand for the directories among them.
+pub record AreOrphanDirs (g : Geometry) (c : Catalog) (numbers : Numbers) : Type 0 where
+  pub sized : length numbers ≡ g.inodes
+  pub unreached : AreUnreached c numbers
+  pub dirs : (place number : ℕ) → slice_get numbers place ≡ Some (Some number) → (c.forms (place + 1)).kind ≡ 2
+  pub others : (place : ℕ) → slice_get numbers place ≡ Some None → IsReached c (place + 1) ⊎ ((c.forms (place + 1)).kind ≢ 2)
+
+-- The image is at home, and these numbers stand for its orphans and for the directories among them.
+pub record MayPrune (sectors : ℕ) (head : Super) (image : Image) (g : Geometry) (numbers dirs : Numbers) : Type 0 where
+  pub home : IsAtHome sectors head image
+  pub geometry : g ≡ geometry_of head
+  pub all : AreOrphans (geometry_of head) (catalog_at (geometry_of head) image) numbers
+  pub all_dirs : AreOrphanDirs (geometry_of head) (catalog_at (geometry_of head) image) dirs
+
+-- It is at home still, without orphans, and each inode has the commit number that it had.
+pub record IsPruned (sectors : ℕ) (head : Super) (before after : Image) : Type 0 where
+  pub home : IsAtHome sectors head after
+  pub named : HasNoOrphans (geometry_of head) after
+  pub numbers : (inode : ℕ) → IsInode (geometry_of head) inode → (form_at (geometry_of head) after inode).number ≡ (form_at (geometry_of head) before inode).number
+
+-- ---- what is read of them
+
+-- the commit number of an inode that is used and that no walk meets
+abbrev pub orphan_number : Option InodeForm → Bool → Option ℕ
+orphan_number None reached = None
+orphan_number (Some form) true = None
+orphan_number (Some form) false = if form.kind == 0 then None else Some form.number
+
+-- the same of a directory
+abbrev pub orphan_dir_number : Option InodeForm → Bool → Option ℕ
+orphan_dir_number None reached = None
+orphan_dir_number (Some form) true = None
+orphan_dir_number (Some form) false = if form.kind == 2 then Some form.number else None
+
+-- Each place has what the test makes of the form and the mark there.
+abbrev pub AreTold : (Option InodeForm → Bool → Option ℕ) → List (Option InodeForm) → List Bool → Numbers → Type 0
+AreTold test forms marks numbers = (place : ℕ) → place < length numbers → slice_get numbers place ≡ Some (test (slice_index_or forms place None) (slice_index_or marks place false))
+
+-- No place has a number.
+abbrev pub HasNone : Numbers → Type 0
+HasNone numbers = (place number : ℕ) → slice_get numbers place ≡ Some (Some number) → ⊥
+
+-- The marks say of each inode, that of inode 1 first, whether a walk from the root meets it.
+pub record AreReachedMarks (g : Geometry) (c : Catalog) (marks : List Bool) : Type 0 where
+  pub sized : length marks ≡ g.inodes
+  pub reached : (place : ℕ) → slice_get marks place ≡ Some true → IsReached c (place + 1)
+  pub others : (place : ℕ) → slice_get marks place ≡ Some false → IsUnreached c (place + 1)
+
+-- What was read of an image that has the same inodes.
+pub record IsReadOf (g : Geometry) (image : Image) (findings : CatalogRead) : Type 0 where
+  pub read : Image
+  pub are : AreFindingsOf g read findings
+  pub nodes : sound_nodes g image ≡ sound_nodes g read

@@ -1,0 +1,40 @@
+-- What a recovery begins with and what it leaves.
+use Rattle.std.specs.Prelude.{ℕ, ◌≡◌, ◌≢◌, ◌<◌, ◌≤◌, ◌+◌, List, [], true}
+use Rattle.ufs_base.specs.Images.{Image}
+use Rattle.ufs_disk.specs.Disk.{State, IsSettled, seen}
+use Rattle.ufs_layout.specs.Superblock.{geometry_of}
+use Rattle.ufs_layout.specs.declared.geometry.Geometry.{Geometry}
+use Rattle.ufs_layout.specs.declared.records.Committed.{Committed}
+use Rattle.ufs_image.specs.Catalog.{IsInode, catalog_at}
+use Rattle.ufs_image.specs.Changes.{IsReached}
+use Rattle.ufs_image.specs.Images.{form_at}
+use Rattle.ufs_image.specs.Journal.{committed}
+use Rattle.ufs_image.specs.Proper.{IsProperImage}
+use Rattle.ufs_image.specs.Volume.{head_of}
+
+-- Nothing is pending, and what the disk reads is proper.
+pub record IsProperDisk (sectors : ℕ) (state : State) : Type 0 where
+  pub settled : IsSettled state
+  pub proper : IsProperImage sectors (seen state)
+
+-- the transactions that are committed in the journal
+abbrev pub log_of : Image → List Committed
+log_of image = committed (geometry_of (head_of image)) (head_of image).epoch image
+
+-- Each used inode is met by a walk from the root.
+abbrev pub HasNoOrphans : Geometry → Image → Type 0
+HasNoOrphans g image = (inode : ℕ) → IsInode g inode → (form_at g image inode).kind ≢ 0 → IsReached (catalog_at g image) inode
+
+-- What was in use is clean, in the next epoch, its next commit number is above those of all inodes, and no inode is used without
+-- a name.
+pub record IsRecovered (before after : Image) : Type 0 where
+  pub head : head_of after ≡ record (head_of before) { version = 1; epoch = (head_of before).epoch + 1; next = (head_of after).next; clean = true }
+  pub known : (head_of before).next ≤ (head_of after).next
+  pub inodes : (inode : ℕ) → IsInode (geometry_of (head_of before)) inode → (form_at (geometry_of (head_of before)) after inode).number < (head_of after).next
+  pub named : HasNoOrphans (geometry_of (head_of before)) after
+
+-- Nothing is pending, what the disk reads is proper and marked clean, and nothing is committed in its epoch.
+pub record IsCleanDisk (sectors : ℕ) (state : State) : Type 0 where
+  pub proper : IsProperDisk sectors state
+  pub clean : (head_of (seen state)).clean ≡ true
+  pub empty : log_of (seen state) ≡ []

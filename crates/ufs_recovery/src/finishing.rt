@@ -1,0 +1,86 @@
+// A recovery from its plan to the end.
+ghost use Rattle.std.specs.Prelude.{ℕ, ◌≡◌, ◌≤◌, length, IsTrue, IfErr, OnOk};
+ghost use Rattle.ufs_catalog.specs.Faults.{HasFaultCause, IsOutside};
+ghost use Rattle.ufs_disk.specs.Disk.{IsSettled};
+ghost use Rattle.ufs_disk.specs.Moments.{reads};
+ghost use Rattle.ufs_layout.specs.Areas.{IsGeometry, sector_count};
+ghost use Rattle.ufs_layout.specs.Superblock.{is_super};
+ghost use Rattle.ufs_recovery.specs.Finished.{HasFinished, IsWrittenBack, MayFinish, MayWriteBack};
+ghost use Rattle.ufs_recovery.specs.Home.{KeepsTree};
+
+use crate::freeing::free_orphans;
+use crate::plan::{Plan, make_plan};
+use crate::steps::{begin, close};
+use std::alloc::Global;
+use ufs_catalog::RecoverFault;
+use ufs_damage::Findings;
+use ufs_disk::Disk;
+use ufs_layout::Geometry;
+use ufs_volume::FoldedVolume;
+
+// What is left once the next epoch has begun.
+fn finish<D: Disk>(
+    alloc: Global,
+    disk: &mut D,
+    geometry: &Geometry,
+    findings: &Findings,
+    plan: &Plan,
+) -> Result<(), RecoverFault>
+    requires geometry { IsGeometry geometry.now }
+    requires large { sector_count geometry.now ≤ D.size disk.old }
+    requires read { length findings.now.forms ≡ geometry.now.inodes }
+    requires counted { length plan.now.orphans.numbers.items ≡ geometry.now.inodes }
+    requires counted_dirs { length plan.now.orphans.dirs.items ≡ geometry.now.inodes }
+    requires form { IsTrue (is_super 1 plan.now.head) }
+    ensures settled { IsTrue D.tells → OnOk result (IsSettled (D.moments disk.new).state) }
+    ensures finished { IsTrue D.tells → OnOk result (IsSettled (D.moments disk.old).state
+        → MayFinish (D.size disk.old) plan.now.head (reads (D.moments disk.old)) geometry.now findings.now plan.now.orphans.numbers.items plan.now.orphans.dirs.items
+        → HasFinished (D.size disk.old) plan.now.head (reads (D.moments disk.new))) }
+    ensures tree { IsTrue D.tells → IsSettled (D.moments disk.old).state
+        → MayFinish (D.size disk.old) plan.now.head (reads (D.moments disk.old)) geometry.now findings.now plan.now.orphans.numbers.items plan.now.orphans.dirs.items
+        → KeepsTree D.keeps (D.size disk.old) (D.moments disk.old) (D.moments disk.new) }
+    ensures size { D.size disk.new ≡ D.size disk.old }
+    ensures passed { OnOk result (D.faults disk.new ≡ D.faults disk.old) }
+    ensures cause { IfErr result (HasFaultCause (D.faults disk.old) (D.faults disk.new)) }
+    ensures outside { IfErr result IsOutside }
+{
+    let taken = free_orphans(alloc, disk, geometry, findings, &plan.orphans)?;
+    match close(disk, geometry, &taken, &plan.head) {
+        Ok(()) => Ok(()),
+        Err(fault) => Err(RecoverFault::Device {
+            fault: fault.number,
+        }),
+    }
+}
+
+// Makes an image in use clean: writes home what is committed, begins the next epoch, frees the orphans, writes the
+// bitmap and marks the image clean, each behind a barrier. `used` is the highest commit number in the journal.
+pub(crate) fn write_back<D: Disk>(
+    alloc: Global,
+    disk: &mut D,
+    volume: &FoldedVolume,
+    findings: &Findings,
+    used: u64,
+) -> Result<(), RecoverFault>
+    requires large { sector_count volume.now.head.geometry ≤ D.size disk.old }
+    requires read { length findings.now.forms ≡ volume.now.head.geometry.inodes }
+    ensures settled { IsTrue D.tells → OnOk result (IsSettled (D.moments disk.new).state) }
+    ensures written { IsTrue D.tells → OnOk result (IsSettled (D.moments disk.old).state → MayWriteBack (D.size disk.old) (reads (D.moments disk.old)) volume.now findings.now
+        → IsWrittenBack (D.size disk.old) volume.now.head.head used (reads (D.moments disk.new))) }
+    ensures tree { IsTrue D.tells → IsSettled (D.moments disk.old).state → MayWriteBack (D.size disk.old) (reads (D.moments disk.old)) volume.now findings.now
+        → KeepsTree D.keeps (D.size disk.old) (D.moments disk.old) (D.moments disk.new) }
+    ensures size { D.size disk.new ≡ D.size disk.old }
+    ensures passed { OnOk result (D.faults disk.new ≡ D.faults disk.old) }
+    ensures cause { IfErr result (HasFaultCause (D.faults disk.old) (D.faults disk.new)) }
+    ensures outside { IfErr result IsOutside }
+{
+    let Ok(plan) = make_plan(alloc, &volume.head, findings, used) else {
+        return Err(RecoverFault::Memory);
+    };
+    match begin(disk, &volume.overlay, &plan.head) {
+        Ok(()) => finish(alloc, disk, &volume.head.geometry, findings, &plan),
+        Err(fault) => Err(RecoverFault::Device {
+            fault: fault.number,
+        }),
+    }
+}

@@ -1,0 +1,126 @@
+// Orphans are freed where there are any, and the used blocks are told.
+ghost use Rattle.std.specs.Prelude.{ℕ, ◌≡◌, ◌≤◌, length, IsTrue, IfOk, IfErr, OnOk};
+ghost use Rattle.ufs_base.specs.Images.{Image};
+ghost use Rattle.ufs_catalog.specs.Faults.{HasFaultCause, IsOutside};
+ghost use Rattle.ufs_catalog.specs.Reading.{IsReadOnly};
+ghost use Rattle.ufs_damage.specs.Findings.{AreFindingsOf};
+ghost use Rattle.ufs_damage.specs.Taken.{AreTaken};
+ghost use Rattle.ufs_disk.specs.Disk.{IsSettled};
+ghost use Rattle.ufs_disk.specs.Moments.{reads};
+ghost use Rattle.ufs_image.specs.Nodes.{sound_nodes};
+ghost use Rattle.ufs_layout.specs.Areas.{IsGeometry, sector_count};
+ghost use Rattle.ufs_layout.specs.declared.superblock.Super.{Super};
+ghost use Rattle.ufs_recovery.specs.Home.{KeepsTree};
+ghost use Rattle.ufs_recovery.specs.Orphans.{IsPruned, IsReadOf, MayPrune};
+
+use crate::orphans::has_none;
+use crate::pruning::{Orphans, prune};
+use std::alloc::Global;
+use ufs_base::Memory;
+use ufs_catalog::{RecoverFault, read_findings};
+use ufs_damage::{Findings, TakenBlocks, taken_blocks};
+use ufs_disk::Disk;
+use ufs_layout::Geometry;
+use ufs_overlay::Overlay;
+
+fn used_blocks(
+    alloc: Global,
+    geometry: &Geometry,
+    findings: &Findings,
+) -> Result<TakenBlocks, RecoverFault>
+    requires geometry { IsGeometry geometry.now }
+    requires counted { length findings.now.forms ≡ geometry.now.inodes }
+    ensures taken { IfOk result (λ t. (image : Image) → AreFindingsOf geometry.now image findings.now → AreTaken geometry.now (sound_nodes geometry.now image) t) }
+    ensures calm { IfErr result (λ f. (before : ℕ) → HasFaultCause before before f) }
+    ensures outside { IfErr result IsOutside }
+{
+    match taken_blocks(alloc, geometry, findings) {
+        Ok(taken) => Ok(taken),
+        Err(Memory) => Err(RecoverFault::Memory),
+    }
+}
+
+// The used blocks as the disk has them, where nothing is committed that isn't home.
+fn read_used_blocks<D: Disk>(
+    alloc: Global,
+    disk: &mut D,
+    geometry: &Geometry,
+) -> Result<TakenBlocks, RecoverFault>
+    requires geometry { IsGeometry geometry.now }
+    requires large { sector_count geometry.now ≤ D.size disk.old }
+    ensures taken { IsTrue D.tells → IfOk result (λ t. AreTaken geometry.now (sound_nodes geometry.now (reads (D.moments disk.old))) t) }
+    ensures read_only { IsTrue D.tells → IsReadOnly D.keeps (D.moments disk.old) (D.moments disk.new) }
+    ensures size { D.size disk.new ≡ D.size disk.old }
+    ensures passed { OnOk result (D.faults disk.new ≡ D.faults disk.old) }
+    ensures cause { IfErr result (HasFaultCause (D.faults disk.old) (D.faults disk.new)) }
+    ensures outside { IfErr result IsOutside }
+{
+    let overlay = Overlay::make(alloc, geometry);
+    let findings = read_findings(alloc, disk, geometry, &overlay)?;
+    match used_blocks(alloc, geometry, &findings) {
+        Ok(taken) => Ok(taken),
+        Err(fault) => Err(fault),
+    }
+}
+
+fn prune_or_fault<D: Disk>(
+    disk: &mut D,
+    geometry: &Geometry,
+    orphans: &Orphans,
+) -> Result<(), RecoverFault>
+    requires geometry { IsGeometry geometry.now }
+    requires large { sector_count geometry.now ≤ D.size disk.old }
+    requires counted { length orphans.now.numbers.items ≡ geometry.now.inodes }
+    requires counted_dirs { length orphans.now.dirs.items ≡ geometry.now.inodes }
+    ensures settled { IsTrue D.tells → OnOk result (IsSettled (D.moments disk.new).state) }
+    ensures pruned { IsTrue D.tells → OnOk result ((head : Super) → MayPrune (D.size disk.old) head (reads (D.moments disk.old)) geometry.now orphans.now.numbers.items orphans.now.dirs.items
+        → IsPruned (D.size disk.old) head (reads (D.moments disk.old)) (reads (D.moments disk.new))) }
+    ensures tree { IsTrue D.tells → IsSettled (D.moments disk.old).state → (head : Super) → MayPrune (D.size disk.old) head (reads (D.moments disk.old)) geometry.now orphans.now.numbers.items orphans.now.dirs.items
+        → KeepsTree D.keeps (D.size disk.old) (D.moments disk.old) (D.moments disk.new) }
+    ensures size { D.size disk.new ≡ D.size disk.old }
+    ensures passed { OnOk result (D.faults disk.new ≡ D.faults disk.old) }
+    ensures cause { IfErr result (HasFaultCause (D.faults disk.old) (D.faults disk.new)) }
+    ensures outside { IfErr result IsOutside }
+{
+    match prune(disk, geometry, orphans) {
+        Ok(()) => Ok(()),
+        Err(fault) => Err(RecoverFault::Device {
+            fault: fault.number,
+        }),
+    }
+}
+
+// Frees the orphans, if there are any, and answers the used blocks of the image then. `findings` are those of an
+// image with the same inodes; where orphans are freed, the inodes are read again.
+pub(crate) fn free_orphans<D: Disk>(
+    alloc: Global,
+    disk: &mut D,
+    geometry: &Geometry,
+    findings: &Findings,
+    orphans: &Orphans,
+) -> Result<TakenBlocks, RecoverFault>
+    requires geometry { IsGeometry geometry.now }
+    requires large { sector_count geometry.now ≤ D.size disk.old }
+    requires read { length findings.now.forms ≡ geometry.now.inodes }
+    requires counted { length orphans.now.numbers.items ≡ geometry.now.inodes }
+    requires counted_dirs { length orphans.now.dirs.items ≡ geometry.now.inodes }
+    ensures settled { IsTrue D.tells → IsSettled (D.moments disk.old).state → OnOk result (IsSettled (D.moments disk.new).state) }
+    ensures pruned { IsTrue D.tells → OnOk result ((head : Super) → MayPrune (D.size disk.old) head (reads (D.moments disk.old)) geometry.now orphans.now.numbers.items orphans.now.dirs.items
+        → IsPruned (D.size disk.old) head (reads (D.moments disk.old)) (reads (D.moments disk.new))) }
+    ensures taken { IsTrue D.tells → IfOk result (λ t. IsReadOf geometry.now (reads (D.moments disk.old)) findings.now → AreTaken geometry.now (sound_nodes geometry.now (reads (D.moments disk.new))) t) }
+    ensures tree { IsTrue D.tells → IsSettled (D.moments disk.old).state → (head : Super) → MayPrune (D.size disk.old) head (reads (D.moments disk.old)) geometry.now orphans.now.numbers.items orphans.now.dirs.items
+        → KeepsTree D.keeps (D.size disk.old) (D.moments disk.old) (D.moments disk.new) }
+    ensures size { D.size disk.new ≡ D.size disk.old }
+    ensures passed { OnOk result (D.faults disk.new ≡ D.faults disk.old) }
+    ensures cause { IfErr result (HasFaultCause (D.faults disk.old) (D.faults disk.new)) }
+    ensures outside { IfErr result IsOutside }
+{
+    if has_none(&orphans.numbers) {
+        return used_blocks(alloc, geometry, findings);
+    }
+    prune_or_fault(disk, geometry, orphans)?;
+    match read_used_blocks(alloc, disk, geometry) {
+        Ok(taken) => Ok(taken),
+        Err(fault) => Err(fault),
+    }
+}
