@@ -4,4 +4,4 @@ mod OffLemmas
 mod ReadSector
 mod ReadThere
 pub mod Turns
-mod Windows
+pub mod Windows

@@ -84,8 +84,10 @@ impl Found {
     }
 
     pub fn is_commit(&self) -> bool
-        ensures { result ≡ has_commit self.now }
+        ensures value { result ≡ has_commit self.now }
+        ensures small { self.now.1.index < 65536 }
     {
+        let _index = self.index;
         self.commit.is_some()
     }
 

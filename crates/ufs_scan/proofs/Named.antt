@@ -1,19 +1,27 @@
 -- What keeps too many, from the standings of the inodes that records name.
-use Rattle.std.proofs.Common.{◌≡◌, inl, inr, ℕ, ◌+◌, ◌-◌, ◌<◌, ◌≤◌, List, [], ◌∷◌, ◌++◌, Bool, true, false, ◌&&◌, ◌||◌, length, get_or, set, refl, ap, sym, ◌∙◌, arith}
+use Rattle.std.proofs.Common.{◌≡◌, inl, inr, ℕ, zero, suc, ◌+◌, ◌-◌, ◌*◌, ◌<◌, ◌≤◌, List, [], ◌∷◌, ◌++◌, Bool, true, false, ◌&&◌, ◌||◌, length, take, get_or, set, refl, ap, sym, ◌∙◌, subst, arith}
 use Rattle.std.specs.Prelude.{if◌then◌else◌, ◌==◌, map, nat_le, nat_lt, min}
-use Rattle.std.specs.List.{list_any, range_with_len}
-use Rattle.std.proofs.lemmas.Bool.{cases_eq, eq-eqb, and_parts, leb-true, eqb-true}
-use Rattle.std.proofs.lemmas.List.{get_or-set_same, get_or-set_other, get_or-map, length-set, length-map}
+use Rattle.std.specs.List.{All, filter, list_any, range_with_len}
+use Rattle.std.proofs.lemmas.List.Elements.{All-append, All-cons, All-nil, All-head, All-tail}
+use Rattle.std.proofs.lemmas.Bool.{cases_eq, eq-eqb, and_parts, leb-true, eqb-true, false≢true}
+use Rattle.std.proofs.lemmas.List.{get_or-set_same, get_or-set_other, get_or-map, length-set, length-map, take_more}
 use Rattle.std.proofs.lemmas.List.FromFn.{get_or-map-range_with_len, length-range_with_len}
 use Rattle.ufs_base.specs.Images.{Image}
 use Rattle.ufs_layout.specs.Areas.{is_inode_number}
-use Rattle.ufs_image.specs.Journal.{PlacedRecord, Transaction}
+use Rattle.ufs_image.specs.Journal.{FoundSector, PlacedRecord, Transaction}
 use Rattle.ufs_layout.specs.declared.geometry.Geometry.{Geometry}
 use Rattle.ufs_layout.specs.declared.records.LogRecord.{LogRecord}
 use Rattle.ufs_layout.specs.declared.records.LogRecord.TheVariants.{Delta, Place, Free}
-use Rattle.ufs_scan.specs.Standings.{standing_at, no_standing, changed, stepped, outkeeps, behind, rested, out_in, out_of, standings, standing_of, marked_at, marked_by, marked_in, marked_of, marked_standing, marked_standings, AreMarked}
+use Rattle.ufs_scan.specs.Standings.{standing_at, no_standing, changed, stepped, outkeeps, behind, rested, out_in, out_of, standings, standing_of, marked_standing, marked_standings}
 use Rattle.ufs_scan.specs.declared.standing.Standing.{Standing}
-use Rattle.ufs_scan.proofs.RestedAgain.{names, named}
+use Rattle.ufs_scan.specs.Chains.{chain_key, edits_at, AreChains}
+use Rattle.ufs_scan.specs.Edits.{Edit, edits_of}
+use Rattle.ufs_scan.specs.Folding.{IsFit}
+use Rattle.ufs_scan.specs.Gathered.{placed_below, transaction_in, HasParts}
+use Rattle.ufs_scan.specs.declared.chains.Chain.{Chain}
+use Rattle.ufs_scan.proofs.PerInode.{effect_of, doings}
+use Rattle.ufs_scan.proofs.Placed.{placed_are}
+use Rattle.ufs_scan.proofs.Names.{names, named}
 
 or_right : (a b : Bool) → b ≡ true → (a || b) ≡ true
 or_right true b is = refl
@@ -109,79 +117,92 @@ module _ (g : Geometry) (N : ℕ → Bool) where
       λ i. out_same t.number t.records here (map rested xs) (map rested ys) (rested_same xs ys are) i
       ++ all_same ts (λ k lt is. has k lt (or_right (named g k t.records) (named_by k ts) is)) (behind g t.number t.records (map rested xs)) (behind g t.number t.records (map rested ys)) (behind_same t.number t.records here (map rested xs) (map rested ys) (rested_same xs ys are)) i
 
--- ---- marks
-
-module _ (g : Geometry) (k : ℕ) where
-  stays_at : (c : Bool) (m : List Bool) (i : ℕ) → k < length m → get_or m k false ≡ true → get_or (if c then set m i true else m) k false ≡ true
-  stays_at true m i lt is = elim (cases_eq k i) [
-    | inl at ↦ (λ j. get_or (set m i true) (at j) false) ∙ get_or-set_same m i true false (omega (arith, at, lt))
-    | inr ne ↦ get_or-set_other m i k true false ne ∙ is
-  ]
-  stays_at false m i lt is = is
-
-  stays_by : (r : LogRecord) (m : List Bool) → k < length m → get_or m k false ≡ true → get_or (marked_by g r m) k false ≡ true
-  stays_by (Delta inode kind size keep extents) m lt is = stays_at (is_inode_number g inode) m (inode - 1) lt is
-  stays_by (Place sector slot dentry) m lt is = is
-  stays_by (Free inode) m lt is = stays_at (is_inode_number g inode) m (inode - 1) lt is
-
-  long_if : (c : Bool) (m : List Bool) (i : ℕ) → length (if c then set m i true else m) ≡ length m
-  long_if true m i = length-set m i true
-  long_if false m i = refl
-
-  long_by : (r : LogRecord) (m : List Bool) → length (marked_by g r m) ≡ length m
-  long_by (Delta inode kind size keep extents) m = long_if (is_inode_number g inode) m (inode - 1)
-  long_by (Place sector slot dentry) m = refl
-  long_by (Free inode) m = long_if (is_inode_number g inode) m (inode - 1)
-
-  long_in : (ps : List PlacedRecord) (m : List Bool) → length (marked_in g ps m) ≡ length m
-  long_in [] m = refl
-  long_in (p ∷ ps) m = long_in ps (marked_by g p.1 m) ∙ long_by p.1 m
-
-  stays_in : (ps : List PlacedRecord) (m : List Bool) → k < length m → get_or m k false ≡ true → get_or (marked_in g ps m) k false ≡ true
-  stays_in [] m lt is = is
-  stays_in (p ∷ ps) m lt is = stays_in ps (marked_by g p.1 m) (omega (arith, lt, long_by p.1 m)) (stays_by p.1 m lt is)
-
-  stays_of : (ts : List Transaction) (m : List Bool) → k < length m → get_or m k false ≡ true → get_or (marked_of g ts m) k false ≡ true
-  stays_of [] m lt is = is
-  stays_of (t ∷ ts) m lt is = stays_of ts (marked_in g t.records m) (omega (arith, lt, long_in t.records m)) (stays_in t.records m lt is)
-
-  comes_at : (inode : ℕ) (m : List Bool) → k < length m → (is_inode_number g inode && inode - 1 == k) ≡ true → get_or (marked_at g inode m) k false ≡ true
-  comes_at inode m lt is =
-      let parts = and_parts (is_inode_number g inode) (inode - 1 == k) is in
-      let at : inode - 1 ≡ k = eqb-true (inode - 1) k parts.1 in
-      (λ i. get_or (if parts.0 i then set m (at i) true else m) k false) ∙ get_or-set_same m k true false lt
-
-  comes_by : (r : LogRecord) (m : List Bool) → k < length m → names g k r ≡ true → get_or (marked_by g r m) k false ≡ true
-  comes_by (Delta inode kind size keep extents) m lt is = comes_at inode m lt is
-  comes_by (Place sector slot dentry) m lt is = grind (arith, is)
-  comes_by (Free inode) m lt is = comes_at inode m lt is
-
-  comes_in : (ps : List PlacedRecord) (m : List Bool) → k < length m → named g k ps ≡ true → get_or (marked_in g ps m) k false ≡ true
-  comes_in [] m lt is = grind (arith, is)
-  comes_in (p ∷ ps) m lt is = by (names g k p.1) refl is (λ rest. comes_in ps (marked_by g p.1 m) (omega (arith, lt, long_by p.1 m)) rest)
-    where
-      by : (a : Bool) → names g k p.1 ≡ a → (a || named g k ps) ≡ true → (named g k ps ≡ true → get_or (marked_in g ps (marked_by g p.1 m)) k false ≡ true) → get_or (marked_in g ps (marked_by g p.1 m)) k false ≡ true
-      by true one either more = stays_in ps (marked_by g p.1 m) (omega (arith, lt, long_by p.1 m)) (comes_by p.1 m lt one)
-      by false one either more = more either
-
-  comes_of : (ts : List Transaction) (m : List Bool) → k < length m → list_any (λ (t : Transaction). named g k t.records) ts ≡ true → get_or (marked_of g ts m) k false ≡ true
-  comes_of [] m lt is = grind (arith, is)
-  comes_of (t ∷ ts) m lt is = by (named g k t.records) refl is (λ rest. comes_of ts (marked_in g t.records m) (omega (arith, lt, long_in t.records m)) rest)
-    where
-      by : (a : Bool) → named g k t.records ≡ a → (a || list_any (λ (t : Transaction). named g k t.records) ts) ≡ true → (list_any (λ (t : Transaction). named g k t.records) ts ≡ true → get_or (marked_of g ts (marked_in g t.records m)) k false ≡ true) → get_or (marked_of g ts (marked_in g t.records m)) k false ≡ true
-      by true one either more = stays_of ts (marked_in g t.records m) (omega (arith, lt, long_in t.records m)) (comes_in t.records m lt one)
-      by false one either more = more either
-
-pub marked_out : (g : Geometry) (ts : List Transaction) (marks : List Bool) (image : Image) → AreMarked g ts marks → out_of g ts (marked_standings g marks image) ≡ out_of g ts (standings g image image)
-marked_out g ts marks image are = all_same g (λ k. get_or (marked_of g ts are.0) k false) ts has (marked_standings g marks image) (standings g image image) record {
+pub marked_out : (g : Geometry) (ts : List Transaction) (marks : List Bool) (image : Image) → ((k : ℕ) → k < g.inodes → list_any (λ (t : Transaction). named g k t.records) ts ≡ true → get_or marks k false ≡ true)
+    → out_of g ts (marked_standings g marks image) ≡ out_of g ts (standings g image image)
+marked_out g ts marks image has = all_same g (λ k. get_or marks k false) ts has (marked_standings g marks image) (standings g image image) record {
   one = length-map (range_with_len 1 g.inodes) (marked_standing g marks image) ∙ length-range_with_len 1 g.inodes;
   two = length-map (range_with_len 1 g.inodes) (standing_of g image image) ∙ length-range_with_len 1 g.inodes;
   same = λ k d lt is.
       let at : 1 + k - 1 ≡ k = omega arith in
       get_or-map-range_with_len (marked_standing g marks image) 1 g.inodes k (1 + k) d lt refl
-      ∙ (λ i. if (ap (λ n. get_or marks n false) at ∙ ap (λ m. get_or m k false) are.1.1 ∙ is) i then standing_of g image image (1 + k) else no_standing)
+      ∙ (λ i. if (ap (λ n. get_or marks n false) at ∙ is) i then standing_of g image image (1 + k) else no_standing)
       ∙ sym (get_or-map-range_with_len (standing_of g image image) 1 g.inodes k (1 + k) d lt refl);
 }
+
+-- no transaction is begun
+pub marked_still : (g : Geometry) (marks : List Bool) (image : Image) → map rested (marked_standings g marks image) ≡ marked_standings g marks image
+marked_still g marks image = from 1 g.inodes
   where
-    has : (k : ℕ) → k < g.inodes → list_any (λ (t : Transaction). named g k t.records) ts ≡ true → get_or (marked_of g ts are.0) k false ≡ true
-    has k lt is = comes_of g k ts are.0 (omega (arith, lt, are.1.0)) is
+    one : (b : Bool) (k : ℕ) → rested (if b then standing_of g image image k else no_standing) ≡ (if b then standing_of g image image k else no_standing)
+    one true k = refl
+    one false k = refl
+
+    from : (a n : ℕ) → map rested (map (marked_standing g marks image) (range_with_len a n)) ≡ map (marked_standing g marks image) (range_with_len a n)
+    from a zero = refl
+    from a (suc n) = λ i. one (get_or marks (a - 1) false) a i ∷ from (a + 1) n i
+
+-- ---- what the chains name
+
+none_named : (g : Geometry) (k : ℕ) (ps : List PlacedRecord) → doings g k ps ≡ [] → named g k ps ≡ false
+none_named g k [] none = refl
+none_named g k (p ∷ ps) none = by (names g k p.1) refl none (none_named g k ps)
+  where
+    by : (b : Bool) → names g k p.1 ≡ b → (if b then effect_of p.0 p.1 ∷ [] else []) ++ doings g k ps ≡ [] → (doings g k ps ≡ [] → named g k ps ≡ false) → (names g k p.1 || named g k ps) ≡ false
+    by true is nothing more = grind (arith, nothing)
+    by false is nothing more = (λ i. is i || named g k ps) ∙ more nothing
+
+chain_at : (p : Chain → Bool) (cs : List Chain) → list_any p cs ≡ true → (q : ℕ) × ((c : Chain) × ((q < length cs) × ((c ≡ get_or cs q c) × (p c ≡ true))))
+chain_at p [] some = absurd (false≢true some)
+chain_at p (c ∷ cs) some = pick (p c) refl some (chain_at p cs)
+  where
+    pick : (b : Bool) → p c ≡ b → (b || list_any p cs) ≡ true → (list_any p cs ≡ true → (q : ℕ) × ((x : Chain) × ((q < length cs) × ((x ≡ get_or cs q x) × (p x ≡ true)))))
+        → (q : ℕ) × ((x : Chain) × ((q < length (c ∷ cs)) × ((x ≡ get_or (c ∷ cs) q x) × (p x ≡ true))))
+    pick true is either more = (0, (c, (omega arith, (refl, is))))
+    pick false is either more = let r = more either in (suc r.0, (r.1.0, (omega (arith, r.1.1.0), (r.1.1.1.0, r.1.1.1.1))))
+
+pub marked_named : (g : Geometry) → g.inodes < 4294967296 → (all parts : List FoundSector) → HasParts all parts → All (λ (f : FoundSector). f.1.index < 65536) parts → (chains : List Chain) → AreChains (edits_of g parts) chains → All (λ (c : Chain). IsFit g.inodes c) chains
+    → (marks : List Bool) → All (λ (c : Chain). get_or marks (c.inode - 1) false ≡ true) chains → (commits : List FoundSector) → All (λ (f : FoundSector). f.1.index < 65536) commits
+    → (k : ℕ) → k < g.inodes → list_any (λ (t : Transaction). named g k t.records) (map (transaction_in all) commits) ≡ true → get_or marks k false ≡ true
+marked_named g few all parts has small chains are fit marks marked [] low k lt some = absurd (false≢true some)
+marked_named g few all parts has small chains are fit marks marked (f ∷ fs) low k lt some =
+    pick (named g k (transaction_in all f).records) refl some (marked_named g few all parts has small chains are fit marks marked fs (All-tail (λ (f : FoundSector). f.1.index < 65536) f fs low) k lt)
+  where
+    key : ℕ
+    key = f.1.txn * 4294967296 + (k + 1)
+
+    fits : f.1.index < 65536
+    fits = All-head (λ (f : FoundSector). f.1.index < 65536) f fs low
+
+    each : doings g k (placed_below all f.1.txn f.1.index) ≡ map (λ (e : Edit). e.does) (filter (λ (e : Edit). nat_lt e.index f.1.index) (edits_at key (edits_of g parts)))
+    each = ap (doings g k) (sym (has f.1.txn f.1.index fits)) ∙ placed_are g few k lt f.1.txn f.1.index fits parts small
+
+    by : (b : Bool) → list_any (λ (c : Chain). chain_key c == key) chains ≡ b → named g k (placed_below all f.1.txn f.1.index) ≡ true → get_or marks k false ≡ true
+    by true some_ is =
+        let r = chain_at (λ (c : Chain). chain_key c == key) chains some_ in
+        let fits_ : IsFit g.inodes r.1.0 = subst (λ (c : Chain). IsFit g.inodes c) (sym r.1.1.1.0) (fit r.0 r.1.0 r.1.1.0) in
+        let keys = eqb-true (chain_key r.1.0) key r.1.1.1.1 in
+        let at : r.1.0.inode - 1 ≡ k = omega (arith, keys, fits_.low, fits_.high, few, lt) in
+        ap (λ n. get_or marks n false) (sym at) ∙ ap (λ (c : Chain). get_or marks (c.inode - 1) false) r.1.1.1.0 ∙ marked r.0 r.1.0 r.1.1.0
+    by false none is =
+        absurd (false≢true (sym (none_named g k (placed_below all f.1.txn f.1.index) (each ∙ ap (λ (l : List Edit). map (λ (e : Edit). e.does) (filter (λ (e : Edit). nat_lt e.index f.1.index) l)) (are.every key none))) ∙ is))
+
+    pick : (b : Bool) → named g k (placed_below all f.1.txn f.1.index) ≡ b → (b || list_any (λ (t : Transaction). named g k t.records) (map (transaction_in all) fs)) ≡ true
+        → (list_any (λ (t : Transaction). named g k t.records) (map (transaction_in all) fs) ≡ true → get_or marks k false ≡ true) → get_or marks k false ≡ true
+    pick true is either more = by (list_any (λ (c : Chain). chain_key c == key) chains) refl is
+    pick false is either more = more either
+
+-- one mark more
+pub marked_more : (chains : List Chain) (i : ℕ) (c : Chain) (marks new : List Bool) → i < length chains → c ≡ get_or chains i c → new ≡ set marks (c.inode - 1) true → c.inode - 1 < length marks
+    → All (λ (x : Chain). get_or marks (x.inode - 1) false ≡ true) (take i chains) → All (λ (x : Chain). get_or new (x.inode - 1) false ≡ true) (take (i + 1) chains)
+marked_more chains i c marks new lt is put inside marked =
+    subst (λ (m : List Bool). All (λ (x : Chain). get_or m (x.inode - 1) false ≡ true) (take (i + 1) chains)) (sym put)
+    (subst (λ (l : List Chain). All (λ (x : Chain). get_or (set marks (c.inode - 1) true) (x.inode - 1) false ≡ true) l) (sym (take_more chains i c lt ∙ ap (λ (x : Chain). take i chains ++ x ∷ []) (sym is)))
+    (All-append (λ (x : Chain). get_or (set marks (c.inode - 1) true) (x.inode - 1) false ≡ true) (take i chains) (c ∷ [])
+    (λ k d less. stays (get_or (take i chains) k d).inode (marked k d less))
+    (All-cons (λ (x : Chain). get_or (set marks (c.inode - 1) true) (x.inode - 1) false ≡ true) c [] (get_or-set_same marks (c.inode - 1) true false inside) (All-nil (λ (x : Chain). get_or (set marks (c.inode - 1) true) (x.inode - 1) false ≡ true)))))
+  where
+    stays : (inode : ℕ) → get_or marks (inode - 1) false ≡ true → get_or (set marks (c.inode - 1) true) (inode - 1) false ≡ true
+    stays inode there = elim (cases_eq (inode - 1) (c.inode - 1)) [
+      | inl at ↦ (λ j. get_or (set marks (c.inode - 1) true) (at j) false) ∙ get_or-set_same marks (c.inode - 1) true false inside
+      | inr ne ↦ get_or-set_other marks (c.inode - 1) (inode - 1) true false ne ∙ there
+    ]

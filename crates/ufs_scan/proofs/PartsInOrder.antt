@@ -16,12 +16,12 @@ use Rattle.ufs_found.proofs.Noted.{range_more}
 use Rattle.ufs_found.proofs.Buckets.{at, under, one_more, same_part, flat_of, same_range, filter_both, filter_none}
 use Rattle.ufs_scan.proofs.Stable.{rising_map}
 
-filter_alike : {X : Type 0} (p q : X → Bool) (xs : List X) → All (λ x. p x ≡ q x) xs → filter p xs ≡ filter q xs
+pub filter_alike : {X : Type 0} (p q : X → Bool) (xs : List X) → All (λ x. p x ≡ q x) xs → filter p xs ≡ filter q xs
 filter_alike p q [] every = refl
 filter_alike p q (x ∷ xs) every =
     λ i. if All-head (λ x. p x ≡ q x) x xs every i then x ∷ filter_alike p q xs (All-tail (λ x. p x ≡ q x) x xs every) i else filter_alike p q xs (All-tail (λ x. p x ≡ q x) x xs every) i
 
-and_swap : (a b : Bool) → (a && b) ≡ (b && a)
+pub and_swap : (a b : Bool) → (a && b) ≡ (b && a)
 and_swap true true = refl
 and_swap true false = refl
 and_swap false true = refl

@@ -27,7 +27,7 @@ rising_map g key [] = refl
 rising_map g key (x ∷ xs) = ap (placed_by key (g x)) (rising_map g key xs) ∙ placed_map g key x (rising_by (λ x. key (g x)) xs)
 
 module _ {X : Type 0} (key : X → ℕ) where
-  cons_up : (y : X) (ys : List X) → All (λ o. key y ≤ key o) ys → IsNonDecreasingBy key ys → IsNonDecreasingBy key (y ∷ ys)
+  pub cons_up : (y : X) (ys : List X) → All (λ o. key y ≤ key o) ys → IsNonDecreasingBy key ys → IsNonDecreasingBy key (y ∷ ys)
   cons_up y ys above up zero zero d le lt = omega arith
   cons_up y ys above up zero (suc j) d le lt = above j d (omega (arith, lt))
   cons_up y ys above up (suc i) zero d le lt = absurd (omega (arith, le))
@@ -40,6 +40,10 @@ module _ {X : Type 0} (key : X → ℕ) where
       by : (b : Bool) → All P (placed_by key x ys) → All P (if b then x ∷ y ∷ ys else y ∷ placed_by key x ys)
       by true rest = All-cons P x (y ∷ ys) one every
       by false rest = All-cons P y (placed_by key x ys) (All-head P y ys every) rest
+
+  pub all_rising : (P : X → Type 0) (xs : List X) → All P xs → All P (rising_by key xs)
+  all_rising P [] every = every
+  all_rising P (x ∷ xs) every = all_placed P x (rising_by key xs) (All-head P x xs every) (all_rising P xs (All-tail P x xs every))
 
   placed_up : (x : X) (ys : List X) → IsNonDecreasingBy key ys → IsNonDecreasingBy key (placed_by key x ys)
   placed_up x [] up = cons_up x [] (All-nil (λ o. key x ≤ key o)) up

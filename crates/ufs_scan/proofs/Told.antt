@@ -1,30 +1,77 @@
 -- The lowest sector that is off, by what was read.
-use Rattle.std.proofs.Common.{◌≡◌, ℕ, List, Bool, Option, refl, ap, sym, ◌∙◌}
-use Rattle.ufs_layout.specs.Areas.{IsGeometry}
+use Rattle.std.proofs.Common.{◌≡◌, ℕ, ◌-◌, ◌*◌, ◌<◌, List, Bool, true, false, Option, length, get_or, refl, ap, sym, ◌∙◌, subst}
+use Rattle.std.specs.Prelude.{map}
+use Rattle.std.specs.List.{All, filter}
+use Rattle.std.specs.List.Sorted.{IsPermutation}
+use Rattle.std.proofs.lemmas.List.{length-map}
+use Rattle.std.proofs.lemmas.List.FromFn.{length-range_with_len}
+use Rattle.ufs_layout.specs.Areas.{IsGeometry, first_of_journal}
+use Rattle.ufs_layout.specs.Words.{rising_by}
 use Rattle.ufs_base.specs.Images.{Image}
-use Rattle.ufs_image.specs.Journal.{FoundSector, Transaction, transactions, well_spelled, sectors_of_epoch}
+use Rattle.ufs_image.specs.Journal.{FoundSector, has_records, has_commit, transactions, well_spelled, sectors_of_epoch}
 use Rattle.ufs_image.specs.BadSectors.{overkept, bad_sector}
 use Rattle.ufs_layout.specs.declared.geometry.Geometry.{Geometry}
 use Rattle.ufs_layout.specs.declared.superblock.Super.{Super}
 use Rattle.ufs_found.specs.Read.{misspelled}
 use Rattle.ufs_found.specs.Off.{lower, lowest_of, first_off}
-use Rattle.ufs_scan.specs.Standings.{standings, out_of, AreMarked, marked_standings}
+use Rattle.ufs_found.specs.Sorted.{number_of}
+use Rattle.ufs_scan.specs.Chains.{AreChains}
+use Rattle.ufs_scan.specs.Edits.{edits_of}
+use Rattle.ufs_scan.specs.Folding.{IsFit, IsFoldable, TailIsKnown}
+use Rattle.ufs_scan.specs.Gathered.{transaction_in, HasParts}
+use Rattle.ufs_scan.specs.Standings.{standings, out_of, marked_standing, marked_standings}
+use Rattle.ufs_scan.specs.declared.chains.Chain.{Chain}
 use Rattle.ufs_scan.specs.declared.standing.Standing.{Standing}
+use Rattle.ufs_scan.proofs.ChainsFit.{few_inodes}
 use Rattle.ufs_scan.proofs.Lowest.{bad_is}
 use Rattle.ufs_scan.proofs.InJournal.{overkept_inside, transactions_fit}
 use Rattle.ufs_scan.proofs.Overkept.{out_is}
-use Rattle.ufs_scan.proofs.Named.{marked_out}
+use Rattle.ufs_scan.proofs.Named.{marked_out, marked_still, marked_named}
+use Rattle.ufs_scan.proofs.PartsInOrder.{in_numbers}
+use Rattle.ufs_scan.proofs.Tails.{Rising, rising_found, tails_known}
 
-pub told_bad : (g : Geometry) → IsGeometry g → (head : Super) (image mid : Image) → mid ≡ image
-    → (wrong : Option ℕ) → wrong ≡ misspelled (sectors_of_epoch g head.epoch image) → (found : List FoundSector) → found ≡ well_spelled (sectors_of_epoch g head.epoch image)
-    → (off : Option ℕ) → off ≡ first_off g head.next found → (list : List Transaction) → list ≡ transactions found → (marks : List Bool) → AreMarked g list marks → (stand : List Standing) → stand ≡ marked_standings g marks mid
-    → (out : Option ℕ) → out ≡ lowest_of (out_of g list stand) → (both all : Option ℕ) → both ≡ lower wrong off → all ≡ lower both out → bad_sector g head image ≡ all
-told_bad g taken head image mid same wrong w found f off o list l marks are stand s out u both all b a =
-    let ts : List Transaction = transactions (well_spelled (sectors_of_epoch g head.epoch image)) in
-    let kept : out_of g list stand ≡ overkept g (transactions (well_spelled (sectors_of_epoch g head.epoch image))) image =
-    ap (out_of g list) s ∙ marked_out g list marks mid are
-    ∙ ap (λ (x : List Transaction). out_of g x (standings g mid mid)) (l ∙ ap transactions f)
-    ∙ ap (out_of g (transactions (well_spelled (sectors_of_epoch g head.epoch image)))) (λ i. standings g (same i) (same i))
-    ∙ out_is g taken (transactions (well_spelled (sectors_of_epoch g head.epoch image))) image image (transactions_fit g head.epoch image) in
-    bad_is g head image (overkept g (transactions (well_spelled (sectors_of_epoch g head.epoch image))) image) refl (overkept_inside g head.epoch image)
-    ∙ sym (a ∙ (λ i. lower (b i) (u i)) ∙ (λ i. lower (lower (w i) ((o ∙ ap (first_off g head.next) f) i)) (lowest_of (kept i))))
+-- what was read of a journal
+pub record IsRead (g : Geometry) (head : Super) (image : Image) (found parts commits : List FoundSector) (chains : List Chain) : Type 0 where
+  pub spelled : found ≡ well_spelled (sectors_of_epoch g head.epoch image)
+  pub has : HasParts found parts
+  pub same : IsPermutation (filter has_records found) parts
+  pub small : All (λ (f : FoundSector). f.1.index < 65536) parts
+  pub linked : AreChains (edits_of g parts) chains
+  pub fit : All (λ (c : Chain). IsFit g.inodes c) chains
+  pub numbers : commits ≡ rising_by number_of (filter has_commit found)
+  pub low : All (λ (f : FoundSector). f.1.index < 65536) commits
+
+module _ (g : Geometry) (taken : IsGeometry g) (head : Super) (image : Image) (found parts commits : List FoundSector) (chains : List Chain) (read : IsRead g head image found parts commits chains) where
+  in_order : Rising found
+  in_order = subst (λ (l : List FoundSector). Rising l) (sym read.spelled) (rising_found head.epoch image (8 * first_of_journal g) g.journal)
+
+  pub txns : map (transaction_in found) commits ≡ transactions (well_spelled (sectors_of_epoch g head.epoch image))
+  txns = ap (map (transaction_in found)) read.numbers ∙ sym (in_numbers found) ∙ ap transactions read.spelled
+
+  module _ (mid : Image) (same : mid ≡ image) (marks : List Bool) (marked : All (λ (c : Chain). get_or marks (c.inode - 1) false ≡ true) chains) (stand : List Standing) (stand_is : stand ≡ marked_standings g marks mid) where
+    foldable : (wrong off known : Option ℕ) → off ≡ first_off g head.next found → known ≡ lower wrong off → IsFoldable g found parts chains commits stand known
+    foldable wrong off known off_is known_is = record {
+      has = read.has;
+      small = read.small;
+      linked = read.linked;
+      few = few_inodes g taken;
+      sized = ap length stand_is ∙ length-map (Rattle.std.specs.List.range_with_len 1 g.inodes) (marked_standing g marks mid) ∙ length-range_with_len 1 g.inodes;
+      still = ap (map Rattle.ufs_scan.specs.Standings.rested) stand_is ∙ marked_still g marks mid ∙ sym stand_is;
+      tails = subst (λ (l : List FoundSector). All (TailIsKnown (edits_of g parts) known) l) (sym read.numbers) (tails_known g head.next found in_order parts read.same wrong off known off_is known_is);
+    }
+
+    kept : out_of g (map (transaction_in found) commits) stand ≡ overkept g (transactions (well_spelled (sectors_of_epoch g head.epoch image))) image
+    kept =
+        ap (out_of g (map (transaction_in found) commits)) stand_is
+        ∙ marked_out g (map (transaction_in found) commits) marks mid (marked_named g (few_inodes g taken) found parts read.has read.small chains read.linked read.fit marks marked commits read.low)
+        ∙ (λ i. out_of g (txns i) (standings g (same i) (same i)))
+        ∙ out_is g taken (transactions (well_spelled (sectors_of_epoch g head.epoch image))) image image (transactions_fit g head.epoch image)
+
+    pub told_bad : (wrong off known lowest : Option ℕ) → wrong ≡ misspelled (sectors_of_epoch g head.epoch image) → off ≡ first_off g head.next found → known ≡ lower wrong off
+        → ((h : Geometry) (all some : List FoundSector) → IsFoldable h all some chains commits stand known → lowest ≡ lower known (lowest_of (out_of h (map (transaction_in all) commits) stand)))
+        → bad_sector g head image ≡ lowest
+    told_bad wrong off known lowest wrong_is off_is known_is folded =
+        bad_is g head image (overkept g (transactions (well_spelled (sectors_of_epoch g head.epoch image))) image) refl (overkept_inside g head.epoch image)
+        ∙ sym (folded g found parts (foldable wrong off known off_is known_is)
+        ∙ (λ i. lower (known_is i) (lowest_of (kept i)))
+        ∙ (λ i. lower (lower (wrong_is i) ((off_is ∙ ap (first_off g head.next) read.spelled) i)) (lowest_of (overkept g (transactions (well_spelled (sectors_of_epoch g head.epoch image))) image))))

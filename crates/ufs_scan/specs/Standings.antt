@@ -1,5 +1,5 @@
 -- How each inode stands while records are folded.
-use Rattle.std.specs.Prelude.{◌≡◌, ℕ, ◌+◌, ◌-◌, List, [], ◌∷◌, ◌++◌, length, slice_set, slice_index_or, map, min, unwrap_or, Bool, true, false, ◌&&◌, nat_lt, if◌then◌else◌}
+use Rattle.std.specs.Prelude.{ℕ, ◌+◌, ◌-◌, List, [], ◌∷◌, ◌++◌, length, slice_set, slice_index_or, map, min, unwrap_or, Bool, false, ◌&&◌, nat_lt, if◌then◌else◌}
 use Rattle.ufs_layout.specs.Areas.{all_inodes, is_inode_number}
 use Rattle.ufs_image.specs.Journal.{PlacedRecord, Transaction}
 use Rattle.ufs_layout.specs.InodeForm.{inode_of, free_inode}
@@ -52,48 +52,10 @@ behind g number (p ∷ ps) all = behind g number ps (stepped g number p.1 all)
 abbrev pub rested : Standing → Standing
 rested one = record { before = one.number; number = one.number; count = one.count }
 
--- only the inodes of these records
-abbrev pub rested_at : Geometry → ℕ → List Standing → List Standing
-rested_at g inode all = if is_inode_number g inode then slice_set all (inode - 1) (rested (standing_at all inode)) else all
-
-abbrev pub rested_by : Geometry → LogRecord → List Standing → List Standing
-rested_by g (Delta inode kind size keep extents) all = rested_at g inode all
-rested_by g (Place sector slot dentry) all = all
-rested_by g (Free inode) all = rested_at g inode all
-
-abbrev pub rested_in : Geometry → List PlacedRecord → List Standing → List Standing
-rested_in g [] all = all
-rested_in g (p ∷ ps) all = rested_in g ps (rested_by g p.1 all)
-
 -- the same of several transactions
 abbrev pub out_of : Geometry → List Transaction → List Standing → List ℕ
 out_of g [] all = []
 out_of g (t ∷ ts) all = out_in g t.number t.records (map rested all) ++ out_of g ts (behind g t.number t.records (map rested all))
-
-abbrev pub behind_all : Geometry → List Transaction → List Standing → List Standing
-behind_all g [] all = all
-behind_all g (t ∷ ts) all = behind_all g ts (behind g t.number t.records (map rested all))
-
--- the inodes that records name, marked at their places
-abbrev pub marked_at : Geometry → ℕ → List Bool → List Bool
-marked_at g inode marks = if is_inode_number g inode then slice_set marks (inode - 1) true else marks
-
-abbrev pub marked_by : Geometry → LogRecord → List Bool → List Bool
-marked_by g (Delta inode kind size keep extents) marks = marked_at g inode marks
-marked_by g (Place sector slot dentry) marks = marks
-marked_by g (Free inode) marks = marked_at g inode marks
-
-abbrev pub marked_in : Geometry → List PlacedRecord → List Bool → List Bool
-marked_in g [] marks = marks
-marked_in g (p ∷ ps) marks = marked_in g ps (marked_by g p.1 marks)
-
-abbrev pub marked_of : Geometry → List Transaction → List Bool → List Bool
-marked_of g [] marks = marks
-marked_of g (t ∷ ts) marks = marked_of g ts (marked_in g t.records marks)
-
--- Those of these transactions are marked, whatever else is.
-abbrev pub AreMarked : Geometry → List Transaction → List Bool → Type 0
-AreMarked g ts marks = (before : List Bool) × ((length before ≡ g.inodes) × (marks ≡ marked_of g ts before))
 
 -- of the inodes that are marked
 abbrev pub marked_standing : Geometry → List Bool → Image → ℕ → Standing

@@ -1,13 +1,12 @@
 // The transactions that have a commit, with their records.
 ghost use Rattle.std.specs.Prelude.{◌≡◌, ◌++◌, List, IfOk, OnOk};
 ghost use Rattle.std.specs.List.Sorted.{IsNonDecreasingBy};
-ghost use Rattle.ufs_image.specs.Journal.{records_in, transactions};
+ghost use Rattle.ufs_image.specs.Journal.{records_in};
 ghost use Rattle.ufs_scan.specs.Gathered.{placed_in, transaction_in, HasParts};
 ghost use Rattle.ufs_found.specs.Sorted.{place_of};
 ghost use Rattle.ufs_image.specs.Journal.{FoundSector, committed_of};
 ghost use Rattle.std.specs.Prelude.{flat_map, map};
 
-use crate::order::commits_in_order;
 use std::alloc::{AllocError, Global};
 use std::marker::Model;
 use ufs_found::{Found, between, place};
@@ -89,19 +88,17 @@ fn with_parts<'a>(parts: &'a [&'a Found], one: &Found) -> Committing<'a>
     }
 }
 
-// The transactions that have a commit, by rising number.
+// The transactions of these commits.
 pub(crate) fn gather<'a>(
     alloc: Global,
-    all: &[Found],
     parts: &'a [&'a Found],
+    commits: &[&Found],
 ) -> Result<Vec<Committing<'a>>, AllocError>
     requires in_order { IsNonDecreasingBy (λ b. place_of b.now) parts.now }
-    requires parts { HasParts all.now (map (λ b. b.now) parts.now) }
-    ensures { IfOk result (λ list. list.items ≡ transactions all.now) }
+    ensures { (all : List FoundSector) → HasParts all (map (λ b. b.now) parts.now) → IfOk result (λ list. list.items ≡ map (transaction_in all) (map (λ b. b.now) commits.now)) }
 {
-    let commits = commits_in_order(alloc, all)?;
     let mut list = Vec::with_capacity(alloc, commits.len())?;
-    for one in &commits {
+    for one in commits {
         list.push(with_parts(parts, one))?;
     }
     Ok(list)

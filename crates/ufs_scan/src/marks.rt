@@ -1,13 +1,11 @@
 // The inodes that records name.
-ghost use Rattle.std.specs.Prelude.{◌≡◌, ◌≤◌, ◌-◌, ℕ, List, Bool, true, length, slice_set, IfOk};
-ghost use Rattle.ufs_scan.specs.Gathered.{placed_in};
-ghost use Rattle.ufs_scan.specs.Standings as by;
+ghost use Rattle.std.specs.Prelude.{◌≡◌, ◌≤◌, ◌-◌, true, false, length, slice_set, slice_index_or, IfOk};
+ghost use Rattle.std.specs.List.{All};
+ghost use Rattle.ufs_scan.specs.Folding as fold;
 
-use crate::gathered::Committing;
-use crate::standing::is_inode;
+use crate::chains::Chain;
 use std::alloc::{AllocError, Global};
-use ufs_found::Found;
-use ufs_layout::{Geometry, LogRecord};
+use ufs_layout::Geometry;
 
 fn put_mark(marks: &mut Vec<bool>, inode: u32)
     requires low { 1 ≤ inode }
@@ -19,70 +17,19 @@ fn put_mark(marks: &mut Vec<bool>, inode: u32)
     marks[place] = true;
 }
 
-fn mark_inode(geometry: &Geometry, marks: &mut Vec<bool>, inode: u32)
-    requires { length marks.old.items ≡ geometry.now.inodes }
-    ensures marked { marks.new.items ≡ by.marked_at geometry.now inode marks.old.items }
-    ensures sized { length marks.new.items ≡ length marks.old.items }
-{
-    if is_inode(geometry, inode) {
-        put_mark(marks, inode);
-    }
-}
-
-fn mark_change(geometry: &Geometry, marks: &mut Vec<bool>, change: &LogRecord)
-    requires { length marks.old.items ≡ geometry.now.inodes }
-    ensures marked { marks.new.items ≡ by.marked_by geometry.now change.now marks.old.items }
-    ensures sized { length marks.new.items ≡ length marks.old.items }
-{
-    match change {
-        LogRecord::Delta { inode, .. } => mark_inode(geometry, marks, *inode),
-        LogRecord::Place { .. } => {}
-        LogRecord::Free { inode } => mark_inode(geometry, marks, *inode),
-    }
-}
-
-fn mark_sector(geometry: &Geometry, marks: &mut Vec<bool>, one: &Found)
-    requires { length marks.old.items ≡ geometry.now.inodes }
-    ensures marked { marks.new.items ≡ by.marked_in geometry.now (placed_in one.now) marks.old.items }
-    ensures sized { length marks.new.items ≡ length marks.old.items }
-{
-    let records = one.records();
-    for change in records {
-        mark_change(geometry, marks, change);
-    }
-}
-
-fn mark_one(geometry: &Geometry, marks: &mut Vec<bool>, one: &Committing<'_>)
-    requires { length marks.old.items ≡ geometry.now.inodes }
-    ensures marked { marks.new.items ≡ by.marked_in geometry.now one.now.records marks.old.items }
-    ensures sized { length marks.new.items ≡ length marks.old.items }
-{
-    let sectors = one.sectors();
-    for sector in sectors {
-        mark_sector(geometry, marks, sector);
-    }
-}
-
-fn mark_all(geometry: &Geometry, marks: &mut Vec<bool>, list: &[Committing<'_>])
-    requires { length marks.old.items ≡ geometry.now.inodes }
-    ensures marked { marks.new.items ≡ by.marked_of geometry.now list.now marks.old.items }
-    ensures sized { length marks.new.items ≡ length marks.old.items }
-{
-    for one in list {
-        mark_one(geometry, marks, one);
-    }
-}
-
-// A mark for each inode that a record of these transactions names.
+// A mark for the inode of each chain.
 pub(crate) fn marked(
     alloc: Global,
     geometry: &Geometry,
-    list: &[Committing<'_>],
+    chains: &[Chain<'_>],
 ) -> Result<Vec<bool>, AllocError>
-    ensures marks { IfOk result (λ marks. by.AreMarked geometry.now list.now marks.items) }
+    requires { All (λ c. fold.IsFit geometry.now.inodes c) chains.now }
+    ensures marks { IfOk result (λ marks. All (λ c. slice_index_or marks.items (c.inode - 1) false ≡ true) chains.now) }
     ensures sized { IfOk result (λ marks. length marks.items ≡ geometry.now.inodes) }
 {
     let mut marks = vec![in alloc; false; geometry.inodes as usize]?;
-    mark_all(geometry, &mut marks, list);
+    for chain in chains {
+        put_mark(&mut marks, chain.inode);
+    }
     Ok(marks)
 }

@@ -8,19 +8,20 @@ ghost use Rattle.ufs_image.specs.BadSectors.{bad_sector};
 ghost use Rattle.ufs_scan.specs.Faults.{HasFaultCause, NamesSector};
 
 use crate::ScanFault;
+use crate::chains::chains_in;
+use crate::folding::lowest_off;
 use crate::gathered::{copy_all, gather};
 use crate::marks::marked;
-use crate::order::parts_in_places;
+use crate::order::{commits_in_order, parts_in_places};
 use crate::reading::{read_journal, read_standings};
-use crate::standing::lowest_out;
 use std::alloc::Global;
 use ufs_disk::Disk;
 use ufs_found::{first_off, lower};
 use ufs_layout::{CommittedList, Geometry, Super};
 
 /// The committed transactions of the superblock's epoch, by rising number; or the lowest sector of the
-/// journal that is off. It reads each sector of the
-/// journal once, and of the inode table those that records of committed transactions name; it writes nothing.
+/// journal that is off. It reads each sector of the journal once, and of the inode table those that records
+/// name; it writes nothing.
 pub fn scan<D: Disk>(
     alloc: Global,
     disk: &mut D,
@@ -41,12 +42,17 @@ pub fn scan<D: Disk>(
     let sectors = read_journal(alloc, disk, geometry, head.epoch)?;
     let off = first_off(alloc, geometry, head.next, &sectors.found)?;
     let parts = parts_in_places(alloc, &sectors.found)?;
-    let list = gather(alloc, &sectors.found, &parts)?;
-    let marks = marked(alloc, geometry, &list)?;
+    let commits = commits_in_order(alloc, &sectors.found)?;
+    let chains = chains_in(alloc, geometry, &parts)?;
+    let marks = marked(alloc, geometry, &chains)?;
     let standings = read_standings(alloc, disk, geometry, &marks)?;
-    let out = lowest_out(alloc, geometry, standings, &list)?;
-    match lower(lower(sectors.misspelled, off), out) {
+    let known = lower(sectors.misspelled, off);
+    let lowest = lowest_off(alloc, &chains, &commits, standings, known)?;
+    match lowest {
         Some(sector) => Err(ScanFault::BadRecord { sector }),
-        None => Ok(copy_all(alloc, &list)?),
+        None => {
+            let list = gather(alloc, &parts, &commits)?;
+            Ok(copy_all(alloc, &list)?)
+        }
     }
 }

@@ -1,0 +1,11 @@
+use Rattle.std.proofs.Common.{rules, nat_le}
+use Rattle.std.proofs.lemmas.List.Sorted.{IsPartitionPoint-from_clause, IsPartitionedBy-leb}
+use Rattle.ufs_found.proofs.Windows.{before_point}
+use Rattle.ufs_scan.specs.Edits.{key_of}
+use Rattle.ufs_scan.proofs.chains.up_to_key.Goals as goal
+
+pub returns : goal.returns
+returns c =
+    let parted = IsPartitionedBy-leb (λ s. key_of s.edit) _ c.args.key c.requires in
+    before_point (λ s. nat_le (key_of s.edit) c.args.key) _ _
+    (IsPartitionPoint-from_clause (λ s. nat_le (key_of s.edit) c.args.key) _ _ c.partition_point-to.ensures.partitioned parted (λ a r q k. search rules))
