@@ -68,7 +68,7 @@ rename_cause d pool old new (excuse.Blocks need had) absent lacks = (absent, lac
 rename_cause d pool old new (excuse.Extents need) absent lacks = (absent, lacks)
 
 -- the file that stood at the new name has no name any more
-renamed_unnamed : (n : NamesPart) (t : PosixTree) → IsPartOf n t → (from to : List (List ℕ)) → IsRenamed t.paths from to → (whole_path from ≡ whole_path to → ⊥) → (f : ℕ) → file_of (map.get t.paths (whole_path to)) ≡ Some f
+pub renamed_unnamed : (n : NamesPart) (t : PosixTree) → IsPartOf n t → (from to : List (List ℕ)) → IsRenamed t.paths from to → (whole_path from ≡ whole_path to → ⊥) → (f : ℕ) → file_of (map.get t.paths (whole_path to)) ≡ Some f
     → is_named (renamed t.paths (whole_path from) (whole_path to)) f ≡ false
 renamed_unnamed n t part [] to is other h stood = let some = is.old_some in cc
 renamed_unnamed n t part (f ∷ fs) [] is other h stood = let some = is.new_some in cc

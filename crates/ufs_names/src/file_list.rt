@@ -1,6 +1,11 @@
 // Numbers of files.
+ghost use Rattle.std.specs.BTreeMap.{keys};
+ghost use Rattle.std.specs.Prelude.{◌≡◌, IfOk};
+
 use crate::hold_map::HoldMap;
+use crate::holding::Holding;
 use std::alloc::Global;
+use std::collections::BTreeMap;
 use std::marker::Model;
 use ufs_base::Memory;
 
@@ -57,12 +62,22 @@ impl FileList {
 impl HoldMap {
     ghost use Rattle.std.specs.Prelude.{◌≡◌, IfOk};
     ghost use Rattle.std.specs.FinMap as map;
+    ghost use Rattle.std.specs.List.Sorted.{IsStrictlyIncreasing};
 
-    /// The files that it tells of, rising.
+    /// The files that it tells of.
     pub(crate) fn files(&self, alloc: Global) -> Result<FileList, Memory>
-        ensures { IfOk result (λ files. files ≡ map.keys self.now) }
+        ensures files { IfOk result (λ files. files ≡ map.keys self.now) }
+        ensures rising { IfOk result (λ files. IsStrictlyIncreasing files) }
     {
-        let files = self.entries.keys().copied().collect(alloc)?;
+        let _count = self.entries.len();
+        let files = keys_of(alloc, &self.entries)?;
         Ok(FileList::from_vec(files))
     }
+}
+
+fn keys_of(alloc: Global, entries: &BTreeMap<u32, Holding>) -> Result<Vec<u32>, Memory>
+    ensures { IfOk result (λ files. files.items ≡ keys entries.now) }
+{
+    let files = entries.keys().copied().collect(alloc)?;
+    Ok(files)
 }
