@@ -70,12 +70,12 @@ module _ (t : PosixTree) where
       by (inr at) has = (is f).1 (at, has)
 
   pub one_file : (file : Option ℕ) → ((f : ℕ) → file ≡ Some f → IsSome (fin.get t.bytes f)) → IsFileIn t (file_part file) file
-  one_file None has = nothing
+  one_file None has f = nothing f
   one_file (Some g) has f = (λ e. (inl (ap (λ o. part.File (unwrap_or o 0)) (sym e)), has f e), λ h. by h.0)
     where
       by : (part.File f ≡ part.File g) ⊎ ⊥ → Some g ≡ Some f
       by (inl e) = let same : f ≡ g = cc in ap Some (sym same)
-      by (inr no) = absurd no
+      by (inr never) = absurd never
 
   -- a file that is still to be made isn't live
   none_made : IsTree t → IsFileIn t (part.File t.next ∷ []) None
@@ -86,7 +86,7 @@ module _ (t : PosixTree) where
           let same : f ≡ t.next = cc in
           let less : f < t.next = tree.numbered f has in
           absurd (omega (arith, same, less))
-      by (inr no) has = absurd no
+      by (inr never) has = absurd never
 
   -- what an `open` cuts
   cut_needs : IsTree t → (node : Option Node) → ((f : ℕ) → file_of node ≡ Some f → IsSome (fin.get t.bytes f)) → (trunc : Bool)
@@ -255,7 +255,7 @@ module _ (n : NamesPart) (t : PosixTree) (is : IsPartOf n t) (client : ℕ) wher
     left = record t { fds = fin.remove t.fds (client, fd) }
 
     none_here : AreFilesOf fin.empty t
-    none_here f s e = let none : None ≡ Some s = sym (get-empty f) ∙ e in cc
+    none_here f s e = let none : None ≡ Some s = sym (get-empty nat_cmp f) ∙ e in cc
 
     -- the client holds the file on
     still_live : (f : ℕ) → holds left.fds client f ≡ true → is_live t.paths left.fds f ≡ true
@@ -310,7 +310,7 @@ module _ (t : PosixTree) (client : ℕ) (request : Op) (free : is_some (own_refu
 
 no_refusal : (o : Option Errno) → is_some o ≡ false → o ≡ None
 no_refusal None e = refl
-no_refusal (Some e) no = cc
+no_refusal (Some e) refused = cc
 
 pub may_go_on : (t : PosixTree) (client : ℕ) (request : Op) → is_some (own_refusal t client request) ≡ false → own_refusal t client request ≡ None
 may_go_on t client request free = no_refusal (own_refusal t client request) free
@@ -345,11 +345,11 @@ key_is f g e = one_key nat_cmp_total nat_cmp-IsAntisymmetric f g e
 
 each_part : (keys : List ℕ) (f : ℕ) → has_key keys f ≡ true → touched.IsPartOf (map (λ file. part.File file) keys) (part.File f)
 each_part [] f e = cc
-each_part (k ∷ ks) f e = by (eq_by_cmp nat_cmp f k) refl e
+each_part (k ∷ ks) f e = by (eq_by_cmp nat_cmp f k) refl e (λ rest. each_part ks f rest)
   where
-    by : (b : Bool) → eq_by_cmp nat_cmp f k ≡ b → (b || has_key ks f) ≡ true → touched.IsPartOf (map (λ file. part.File file) (k ∷ ks)) (part.File f)
-    by true same e = inl (ap (λ f. part.File f) (key_is f k same))
-    by false same e = inr (each_part ks f e)
+    by : (b : Bool) → eq_by_cmp nat_cmp f k ≡ b → (b || has_key ks f) ≡ true → (has_key ks f ≡ true → touched.IsPartOf (map (λ file. part.File file) ks) (part.File f)) → touched.IsPartOf (map (λ file. part.File file) (k ∷ ks)) (part.File f)
+    by true same e rest = inl (ap (λ f. part.File f) (key_is f k same))
+    by false same e rest = inr (rest e)
 
 pub all_live : (n : NamesPart) (t : PosixTree) → IsPartOf n t → (client : ℕ) → AreFilesIn t (touched_parts t client op.Sync) (fin.keys n.held)
 all_live n t is client f = (
@@ -358,3 +358,7 @@ all_live n t is client f = (
     (inr (inr (each_part (fin.keys t.bytes) f (sym (contains_key-keys t.bytes f) ∙ has))), has),
   λ h. Contains-from_any key_is f (fin.keys n.held) (sym (contains_key-keys n.held f) ∙ is.told f ∙ h.1),
 )
+
+pub sync_needs : (n : NamesPart) (t : PosixTree) → IsPartOf n t → (client : ℕ) (request : Op) → request ≡ op.Sync → (files : List ℕ) → files ≡ fin.keys n.held → AreFilesIn t (touched_parts t client request) files
+sync_needs n t is client request of files all =
+    subst (λ (r : Op). AreFilesIn t (touched_parts t client r) files) (sym of) (subst (AreFilesIn t (touched_parts t client op.Sync)) (sym all) (all_live n t is client))

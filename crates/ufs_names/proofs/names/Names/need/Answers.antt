@@ -9,7 +9,7 @@ use Rattle.ufs_names.proofs.names.Names.need.Goals as goal
 pub returns-in_ok-to-in-Rename : goal.returns-in_ok-to-in-Rename
 returns-in_ok-to-in-Rename c t part asked own =
     subst (λ (r : Op). IsFileIn t (reached t c.args.ask.now.client r) c.need_of_rename.result) (sym c.in-Rename.is)
-    (c.need_of_rename.ensures t c.args.ask.now.client c.in-Rename.from.now c.in-Rename.to.now part (ap (own_refusal t c.args.ask.now.client) (sym c.in-Rename.is) ∙ own) c.in_ok-from-in-Rename.ensures c.in_ok-to-in-Rename.ensures)
+    (c.need_of_rename.ensures t c.args.ask.now.client c.in-Rename.from c.in-Rename.to part (ap (own_refusal t c.args.ask.now.client) (sym c.in-Rename.is) ∙ own) c.in_ok-from-in-Rename.ensures c.in_ok-to-in-Rename.ensures)
 
 pub returns-in-Close : goal.returns-in-Close
 returns-in-Close c t part asked own =
