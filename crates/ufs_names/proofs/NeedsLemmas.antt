@@ -1,6 +1,6 @@
 -- Which live files a request touches, by what the names know of them.
-use Rattle.std.proofs.Common.{◌≡◌, ℕ, zero, suc, ◌<◌, ◌⊎◌, inl, inr, List, [], ◌∷◌, ◌++◌, Bool, true, false, cond, not, ◌||◌, map, Option, Some, None, is_some, is_none, unwrap_or, arith, ap, refl, sym, subst, ◌∙◌, bytes_eq, append_assoc}
-use Rattle.std.specs.Prelude.{IsSome, Contains, ◌↔◌}
+use Rattle.std.proofs.Common.{◌≡◌, ℕ, zero, suc, ◌<◌, ◌⊎◌, inl, inr, List, [], ◌∷◌, ◌++◌, Bool, true, false, cond, ◌||◌, map, Option, Some, None, is_some, is_none, unwrap_or, arith, ap, refl, sym, subst, ◌∙◌, bytes_eq, append_assoc}
+use Rattle.std.specs.Prelude.{IsSome, Contains}
 use Rattle.std.specs.Cmp.{nat_cmp_total, eq_by_cmp_equiv}
 use Rattle.std.specs.FinMap as fin
 use Rattle.std.specs.FinMap.{nat_cmp-IsAntisymmetric, contains_key-keys, get-empty}
@@ -19,7 +19,7 @@ use Rattle.ufs_model.specs.Directories.{renamed}
 use Rattle.ufs_model.specs.Paths.{components, text_refusal, whole_path, whole_of}
 use Rattle.ufs_model.specs.Posix.{forget}
 use Rattle.ufs_model.specs.PosixTree.{PosixTree, Paths, IsNamespace, IsTree, has_dir, is_live, stands}
-use Rattle.ufs_model.specs.Refusals.{own_refusal, refusal, rename_refusal, tree_refusal}
+use Rattle.ufs_model.specs.Refusals.{own_refusal, refusal, tree_refusal}
 use Rattle.ufs_model.specs.Touched as touched
 use Rattle.ufs_model.specs.Touched.{dropped_part, file_part, holds, opened_part, reached, replaced_part, touched_parts}
 use Rattle.ufs_model.specs.Walk as walk
@@ -46,7 +46,7 @@ use Rattle.ufs_names.specs.NamesPart.{NamesPart, IsPartOf, holding_of, is_kept, 
 use Rattle.ufs_names.specs.Needs.{AreFilesIn, AreHere, IsFileIn, listed, needed_found, unkept, unkept_closed, unkept_unnamed}
 use Rattle.ufs_names.specs.PathCalls.{path_asked}
 use Rattle.ufs_names.specs.declared.holding.Holding.{Holding}
-use Rattle.ufs_names.proofs.ClosePartLemmas.{dead_now, has_bytes}
+use Rattle.ufs_names.proofs.ClosePartLemmas.{closed_not, dead_now, has_bytes, open_not}
 use Rattle.ufs_names.proofs.GatheredLemmas.{forget_live}
 use Rattle.ufs_names.proofs.HolderLemmas.{kept_is_live}
 use Rattle.ufs_names.proofs.LinkLemmas.{is_named, unnamed_gone}
@@ -113,15 +113,6 @@ module _ (t : PosixTree) where
   live_needs v None live = nothing
   live_needs v (Some g) live = subst (λ (b : Bool). IsFileIn t (cond {A = List PartName} b [] (part.File g ∷ [])) None) (sym (live g refl)) nothing
 
--- a hold ends or goes on
-ends : (b : Bool) → true ≡ not b → b ≡ false
-ends true e = cc
-ends false e = refl
-
-goes_on : (b : Bool) → false ≡ not b → b ≡ true
-goes_on true e = refl
-goes_on false e = cc
-
 -- ---- what stands is reached
 
 -- the walk to a path that stands isn't refused
@@ -160,9 +151,9 @@ module _ (n : NamesPart) (t : PosixTree) (is : IsPartOf n t) (client : ℕ) wher
       by (Some w) at =
           let way : walk_refusal t.paths path ≡ None = walk_reaches t.paths is.tree.namespace [] (components path) (components_plain path) (ap is_some at) in
           let passed : refusal t client (op.Stat path) ≡ None =
-              ap (λ (o : Option Errno). first_of o (tree_refusal t client (op.Stat path))) text
-              ∙ ap (λ (o : Option Errno). first_of o (refused_if (is_none (walk.node_at t.paths path)) Enoent)) way
-              ∙ ap (λ (o : Option Node). refused_if (is_none o) Enoent) at in
+          ap (λ (o : Option Errno). first_of o (tree_refusal t client (op.Stat path))) text
+          ∙ ap (λ (o : Option Errno). first_of o (refused_if (is_none (walk.node_at t.paths path)) Enoent)) way
+          ∙ ap (λ (o : Option Node). refused_if (is_none o) Enoent) at in
           let no : None ≡ Some e = sym passed ∙ refused in
           cc
 
@@ -268,9 +259,9 @@ module _ (n : NamesPart) (t : PosixTree) (is : IsPartOf n t) (client : ℕ) wher
     file_closed d there None of last told = nothing t
     file_closed d there (Some f) of true told =
         drop_needs t left f (without_holder (holding_of n.held f) client) (has_bytes n t is fin.empty none_here client fd d there f of)
-        (dead_now n t is fin.empty none_here client fd d there f of (ends (holds left.fds client f) told))
+        (dead_now n t is fin.empty none_here client fd d there f of (closed_not _ (sym told)))
     file_closed d there (Some f) of false told =
-        live_needs t (forget left (Some f)) (Some f) (λ g e. subst (λ g. is_live (forget left (Some f)).paths (forget left (Some f)).fds g ≡ true) (same_some f g e) (forget_live left f f ∙ still_live f (goes_on (holds left.fds client f) told)))
+        live_needs t (forget left (Some f)) (Some f) (λ g e. subst (λ g. is_live (forget left (Some f)).paths (forget left (Some f)).fds g ≡ true) (same_some f g e) (forget_live left f f ∙ still_live f (open_not _ (sym told))))
 
     desc_closed : (o : Option Desc) → fin.get t.fds (client, fd) ≡ o → (last : Bool) → last ≡ is_last_of t.fds client fd (file_in o)
         → IsFileIn t (dropped_part (forget left (unwrap_or o closed).file) (unwrap_or o closed).file) (unkept_closed n.held client last (file_in o))
@@ -285,14 +276,6 @@ close_needs n t is ask told fd of =
 
 -- ---- the whole list
 
--- what its client refuses touches no file
-pub nothing_needed : (t : PosixTree) (client : ℕ) (request : Op) → is_some (own_refusal t client request) ≡ true → IsFileIn t (touched_parts t client request) None
-nothing_needed t client request refused f = (λ e. cc, λ h. by h.0)
-  where
-    by : (part.File f ≡ part.Client client) ⊎ touched.IsPartOf (cond {A = List PartName} (is_some (own_refusal t client request)) [] (reached t client request)) (part.File f) → None ≡ Some f
-    by (inl e) = cc
-    by (inr at) = absurd (subst (λ (b : Bool). touched.IsPartOf (cond {A = List PartName} b [] (reached t client request)) (part.File f)) refused at)
-
 module _ (t : PosixTree) (client : ℕ) (request : Op) (free : is_some (own_refusal t client request) ≡ false) where
   -- what a request touches beside its client
   to_reached : (f : ℕ) → touched.IsPartOf (touched_parts t client request) (part.File f) → touched.IsPartOf (reached t client request) (part.File f)
@@ -305,18 +288,15 @@ module _ (t : PosixTree) (client : ℕ) (request : Op) (free : is_some (own_refu
   from_reached : (f : ℕ) → touched.IsPartOf (reached t client request) (part.File f) → touched.IsPartOf (touched_parts t client request) (part.File f)
   from_reached f at = inr (subst (λ (b : Bool). touched.IsPartOf (cond {A = List PartName} b [] (reached t client request)) (part.File f)) (sym free) at)
 
-  pub all_needed : (file : Option ℕ) → IsFileIn t (reached t client request) file → IsFileIn t (touched_parts t client request) file
+  all_needed : (file : Option ℕ) → IsFileIn t (reached t client request) file → IsFileIn t (touched_parts t client request) file
   all_needed file is f = (λ e. let h = (is f).0 e in (from_reached f h.0, h.1), λ h. (is f).1 (to_reached f h.0, h.1))
 
 no_refusal : (o : Option Errno) → is_some o ≡ false → o ≡ None
 no_refusal None e = refl
 no_refusal (Some e) refused = cc
 
-pub may_go_on : (t : PosixTree) (client : ℕ) (request : Op) → is_some (own_refusal t client request) ≡ false → own_refusal t client request ≡ None
-may_go_on t client request free = no_refusal (own_refusal t client request) free
-
 -- one file, as a list
-pub listed_is : (t : PosixTree) (parts : List PartName) (file : Option ℕ) → IsFileIn t parts file → AreFilesIn t parts (listed file)
+listed_is : (t : PosixTree) (parts : List PartName) (file : Option ℕ) → IsFileIn t parts file → AreFilesIn t parts (listed file)
 listed_is t parts None is f = (λ h. absurd (omega (arith, h.1)), λ h. let no : None ≡ Some f = (is f).1 h in cc)
 listed_is t parts (Some g) is f = (λ h. (is f).0 (there h), λ h. one ((is f).1 h))
   where
@@ -326,6 +306,13 @@ listed_is t parts (Some g) is f = (λ h. (is f).0 (there h), λ h. one ((is f).1
 
     one : Some g ≡ Some f → Contains (g ∷ []) f
     one e = (0, omega arith, same_some g f e)
+
+-- what a request touches that its client doesn't refuse
+pub one_needed : (t : PosixTree) (client : ℕ) (request : Op) → is_some (own_refusal t client request) ≡ false → (file : Option ℕ) → (own_refusal t client request ≡ None → IsFileIn t (reached t client request) file)
+    → (files : List ℕ) → files ≡ listed file → AreFilesIn t (touched_parts t client request) files
+one_needed t client request free file needs files is =
+    subst (AreFilesIn t (touched_parts t client request)) (sym is)
+    (listed_is t (touched_parts t client request) file (all_needed t client request free file (needs (no_refusal (own_refusal t client request) free))))
 
 pub listed_rises : (file : Option ℕ) → IsStrictlyIncreasing (listed file)
 listed_rises None k less = absurd (omega (arith, less))
@@ -351,11 +338,11 @@ each_part (k ∷ ks) f e = by (eq_by_cmp nat_cmp f k) refl e (λ rest. each_part
     by true same e rest = inl (ap (λ f. part.File f) (key_is f k same))
     by false same e rest = inr (rest e)
 
-pub all_live : (n : NamesPart) (t : PosixTree) → IsPartOf n t → (client : ℕ) → AreFilesIn t (touched_parts t client op.Sync) (fin.keys n.held)
+all_live : (n : NamesPart) (t : PosixTree) → IsPartOf n t → (client : ℕ) → AreFilesIn t (touched_parts t client op.Sync) (fin.keys n.held)
 all_live n t is client f = (
   λ h.
-    let has : is_some (fin.get t.bytes f) ≡ true = sym (is.told f) ∙ contains_key-keys n.held f ∙ list_any-from_Contains (eq_by_cmp_equiv nat_cmp_total) f (fin.keys n.held) h in
-    (inr (inr (each_part (fin.keys t.bytes) f (sym (contains_key-keys t.bytes f) ∙ has))), has),
+      let has : is_some (fin.get t.bytes f) ≡ true = sym (is.told f) ∙ contains_key-keys n.held f ∙ list_any-from_Contains (eq_by_cmp_equiv nat_cmp_total) f (fin.keys n.held) h in
+      (inr (inr (each_part (fin.keys t.bytes) f (sym (contains_key-keys t.bytes f) ∙ has))), has),
   λ h. Contains-from_any key_is f (fin.keys n.held) (sym (contains_key-keys n.held f) ∙ is.told f ∙ h.1),
 )
 

@@ -87,13 +87,7 @@ impl Names {
         ensures { result ≡ needed_found self.now.held request.now file }
     {
         match request {
-            Op::OpenFile { trunc, .. } => {
-                if *trunc {
-                    file
-                } else {
-                    None
-                }
-            }
+            Op::OpenFile { trunc, .. } => { if *trunc { file } else { None } }
             Op::Unlink { .. } => self.without_name(file),
             Op::Stat { .. } => file,
             _ => None,

@@ -1,4 +1,4 @@
-use Rattle.std.proofs.Common.{◌≡◌, ℕ, Option, None, ap, sym, subst, ◌∙◌}
+use Rattle.std.proofs.Common.{ℕ, Option, ap, sym, subst, ◌∙◌}
 use Rattle.ufs_model.specs.Refusals.{own_refusal}
 use Rattle.ufs_model.specs.Touched.{reached}
 use Rattle.ufs_model.specs.declared.data.Op.{Op}

@@ -1,4 +1,4 @@
-use Rattle.std.proofs.Common.{◌≡◌, ℕ, [], Option, Some, None, ap, sym, subst, ◌∙◌}
+use Rattle.std.proofs.Common.{◌≡◌, ℕ, [], Option, Some, ap, sym, subst, ◌∙◌}
 use Rattle.ufs_model.specs.Touched.{reached}
 use Rattle.ufs_model.specs.Walk.{file_of}
 use Rattle.ufs_name_tree.specs.NameTable.{NameTable, node_at}

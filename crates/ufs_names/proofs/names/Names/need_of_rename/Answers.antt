@@ -1,8 +1,7 @@
-use Rattle.std.proofs.Common.{◌≡◌, ℕ, List, Option, None, ap, sym, subst, ◌∙◌, bytes_eq}
+use Rattle.std.proofs.Common.{◌≡◌, ℕ, List, Option, ap, sym, subst, ◌∙◌, bytes_eq}
 use Rattle.std.specs.Option.{option_map}
 use Rattle.std.specs.FinMap as map
 use Rattle.ufs_base.specs.Choices.{first_of}
-use Rattle.ufs_dir_tree.specs.DirTable.{found_at}
 use Rattle.ufs_dir_tree.specs.declared.found.Found.{Found}
 use Rattle.ufs_model.proofs.Facts.Allowed.{first_none}
 use Rattle.ufs_model.specs.Paths.{text_refusal, whole_path, whole_of}
@@ -10,7 +9,6 @@ use Rattle.ufs_model.specs.Refusals.{rename_refusal}
 use Rattle.ufs_model.specs.Touched.{reached}
 use Rattle.ufs_model.specs.Walk.{file_of}
 use Rattle.ufs_model.specs.declared.data.Errno.{Errno}
-use Rattle.ufs_model.specs.declared.data.Node.{Node}
 use Rattle.ufs_model.specs.declared.data.Op.TheVariants as op
 use Rattle.ufs_name_tree.specs.NameTable.{NameTable, node_at, node_of}
 use Rattle.ufs_names.specs.NamesPart.{NamesPart}
@@ -36,9 +34,9 @@ returns c t client a b part own e e' =
     let free = ap (λ (o : Option Errno). first_of o (rename_refusal t.paths a b)) own ∙ c.in-Ok.ensures.passed t a b part text.0 text.1 e e' in
     let other = sym (c.eq.ensures ∙ compared c.whole.result.now c.whole-2.result.now c.args.from.now c.args.to.now a b c.whole.ensures.value c.whole-2.ensures.value (ap whole_path e) (ap whole_path e')) ∙ c.if-eq.false in
     let stood : c.node.result ≡ map.get t.paths (whole_of b) =
-        c.node.ensures ∙ ap (λ (d : NameTable). option_map (node_of d) c.in-Ok.step.to.found) (ap (λ (n : NamesPart). n.tree) c.self.view_is)
-        ∙ ap (λ (o : Option Found). option_map (node_of c.args.self.now.tree) o) c.in-Ok.ensures.found
-        ∙ ap (node_at c.args.self.now.tree) e' ∙ sym (met_at (node_at c.args.self.now.tree) t.paths part.paths b text.1) in
+    c.node.ensures ∙ ap (λ (d : NameTable). option_map (node_of d) c.in-Ok.step.to.found) (ap (λ (n : NamesPart). n.tree) c.self.view_is)
+    ∙ ap (λ (o : Option Found). option_map (node_of c.args.self.now.tree) o) c.in-Ok.ensures.found
+    ∙ ap (node_at c.args.self.now.tree) e' ∙ sym (met_at (node_at c.args.self.now.tree) t.paths part.paths b text.1) in
     subst (λ (o : Option ℕ). IsFileIn t (reached t client (op.Rename a b)) o)
     (sym (c.without_name.ensures ∙ ap (unkept_unnamed c.args.self.now.held) (c.file_of.ensures ∙ ap file_of stood)))
     (new_name_needs c.args.self.now t part client a b free other)
