@@ -1,5 +1,5 @@
 -- What holds of a request on a path that isn't refused.
-use Rattle.std.proofs.Common.{◌≡◌, ℕ, List, [], ◌∷◌, ◌++◌, Bool, true, false, not, Option, Some, None, is_none, ap, refl, ◌∙◌, bytes_eq}
+use Rattle.std.proofs.Common.{◌≡◌, ℕ, List, Bool, true, false, not, Option, Some, None, is_none, refl, bytes_eq}
 use Rattle.std.specs.FinMap as map
 use Rattle.ufs_base.specs.Choices.{refused_if}
 use Rattle.ufs_model.specs.Paths.{text_refusal, is_root}
@@ -8,7 +8,7 @@ use Rattle.ufs_model.specs.Walk.{walk_refusal, node_at, is_file}
 use Rattle.ufs_model.specs.Descriptors.{Mode, lowest_free, is_mode}
 use Rattle.ufs_model.specs.Posix.{new_fd}
 use Rattle.ufs_model.specs.Refusals.{own_refusal, refusal}
-use Rattle.ufs_model.specs.declared.data.Errno.TheVariants.{Einval, Ebusy, Eisdir, Enoent, Enotdir, Emfile}
+use Rattle.ufs_model.specs.declared.data.Errno.TheVariants.{Einval, Ebusy, Enoent, Enotdir, Emfile}
 use Rattle.ufs_model.specs.declared.data.Node.{Node}
 use Rattle.ufs_model.specs.declared.data.Node.TheVariants.{Dir, File}
 use Rattle.ufs_model.specs.declared.data.Op.TheVariants as op

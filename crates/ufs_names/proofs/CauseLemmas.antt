@@ -1,5 +1,5 @@
 -- Why a request that adds a name is excused.
-use Rattle.std.proofs.Common.{◌≡◌, ◌≢◌, ℕ, List, Bool, None, ap, refl, sym, subst}
+use Rattle.std.proofs.Common.{◌≡◌, ◌≢◌, ℕ, List, None, sym, subst}
 use Rattle.ufs_bitmap.specs.Blocks.{BlockSet}
 use Rattle.ufs_dir_tree.specs.DirCalls.{names_above, LacksSpace}
 use Rattle.ufs_dir_tree.specs.DirTable.{DirTable, found_at}

@@ -5,7 +5,6 @@ use Rattle.std.specs.FinMap as map
 use Rattle.std.specs.Option.{option_map}
 use Rattle.ufs_base.specs.Choices.{first_of}
 use Rattle.ufs_dir_tree.specs.DirTable.{found_at}
-use Rattle.ufs_dir_tree.specs.declared.found.Found.{Found}
 use Rattle.ufs_dir_tree.specs.declared.found.Found.TheVariants as met
 use Rattle.ufs_files.specs.Files.{Files, AreFilesOf}
 use Rattle.ufs_model.specs.Paths.{whole_path}
@@ -15,11 +14,10 @@ use Rattle.ufs_model.specs.Touched.{dropped_part, holds, reached}
 use Rattle.ufs_model.specs.Descriptors.{closed, opened}
 use Rattle.ufs_model.specs.Posix.{answer, change, forget}
 use Rattle.ufs_model.specs.Refusals.{own_refusal, refusal}
-use Rattle.ufs_model.specs.Asks.{IsAsk, desc_of_fd, fd_named, is_last, is_last_of, file_in}
+use Rattle.ufs_model.specs.Asks.{desc_of_fd, fd_named, is_last, is_last_of, file_in}
 use Rattle.ufs_model.specs.Laws.{KeepsTrees}
 use Rattle.ufs_model.specs.declared.data.Ask.{Ask}
 use Rattle.ufs_model.specs.declared.data.Desc.{Desc}
-use Rattle.ufs_model.specs.declared.data.Node.{Node}
 use Rattle.ufs_model.specs.declared.data.Node.TheVariants as node
 use Rattle.ufs_model.specs.declared.data.Op.{Op}
 use Rattle.ufs_model.specs.declared.data.Op.TheVariants as op
@@ -30,10 +28,9 @@ use Rattle.ufs_model.proofs.Facts.Orders.{fd_total, fd_same}
 use Rattle.ufs_model.proofs.Facts.Live.{held_has, held_live, number_is, is_itself}
 use Rattle.ufs_model.proofs.Facts.Allowed.{passed}
 use Rattle.ufs_model.proofs.Facts.Held.{holder, held}
-use Rattle.ufs_name_tree.specs.NameTable.{IsNameTable, file_at, node_at, node_of}
-use Rattle.ufs_names.specs.Stands.{Stands}
-use Rattle.ufs_names.specs.Calls.{AreGathered, IsAsked, IsServed}
-use Rattle.ufs_names.specs.NamesPart.{NamesPart, IsPartOf, holding_of, is_kept, is_linked, without_holder}
+use Rattle.ufs_name_tree.specs.NameTable.{IsNameTable, node_at, node_of}
+use Rattle.ufs_names.specs.Calls.{IsAsked, IsServed}
+use Rattle.ufs_names.specs.NamesPart.{NamesPart, IsPartOf, holding_of, is_kept, without_holder}
 use Rattle.ufs_names.specs.Steps.{LetsGo, Settles}
 use Rattle.ufs_names.specs.declared.holding.Holding.{Holding}
 use Rattle.ufs_names.proofs.LinkLemmas.{is_named_from, number_apart}
@@ -220,7 +217,7 @@ module _ (n : NamesPart) (t : PosixTree) (ask : Ask) (fs : Files) (asked : IsAsk
     goes_here last gone =
         reached_here t ask fs asked.gathered own (op.Close fd) of f
         (inr (subst (λ (o : Option ℕ). touched.IsPartOf (dropped_part (forget after o) o) (name.File f)) (sym (opened_is ∙ file_is))
-            (dropped after f (sym (dead_now n t part fs asked.files ask.client fd at_fd.0 at_fd.1 f file_is (none_left last)) ∙ gone))))
+        (dropped after f (sym (dead_now n t part fs asked.files ask.client fd at_fd.0 at_fd.1 f file_is (none_left last)) ∙ gone))))
         (has_bytes n t part fs asked.files ask.client fd at_fd.0 at_fd.1 f file_is)
 
     -- no walk leads to it then
@@ -238,9 +235,9 @@ module _ (n : NamesPart) (t : PosixTree) (ask : Ask) (fs : Files) (asked : IsAsk
     closes =
         subst (λ (o : Option ℕ). Closes t (forget after o) new fs fs') (sym opened_is)
         (closed_any n t part fs asked.files ask.client fd at_fd.0 at_fd.1 new fs' nodes at_fd.0.file refl ask.last last_is
-            (λ f e last gone. goes_here f (ap file_in told ∙ e) last gone)
-            (subst (λ (o : Option Desc). LetsGo n new fs fs' ask.client ask.last (file_in o)) told goes)
-            (subst (λ (o : Option ℕ). IsTree (forget after o)) opened_is (tree_after keeps t ask.client (op.Close fd) part.tree let_be)))
+        (λ f e last gone. goes_here f (ap file_in told ∙ e) last gone)
+        (subst (λ (o : Option Desc). LetsGo n new fs fs' ask.client ask.last (file_in o)) told goes)
+        (subst (λ (o : Option ℕ). IsTree (forget after o)) opened_is (tree_after keeps t ask.client (op.Close fd) part.tree let_be)))
 
     pub served_close : IsServed t ask new fs fs' Done None
     served_close =

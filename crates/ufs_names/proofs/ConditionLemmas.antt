@@ -22,7 +22,7 @@ use Rattle.ufs_names.proofs.NameLists.{AreNames, names_of, names_front}
 use Rattle.ufs_names.proofs.WalkLinks.{met, met_at}
 use Rattle.ufs_names.proofs.StandsLemmas.{not_new}
 use Rattle.ufs_model.proofs.NewNameLemmas.{IsRenamed, rename_allowed, may_rename}
-use Rattle.ufs_names.proofs.AllowedLemmas.{bytes_differ, IsReached, mkdir_allowed, rmdir_allowed, unlink_allowed, open_allowed, old_names, new_names}
+use Rattle.ufs_names.proofs.AllowedLemmas.{bytes_differ, IsReached, mkdir_allowed, rmdir_allowed, unlink_allowed, open_allowed, old_names}
 
 -- Something may be put at the names.
 pub record IsFree (d : DirTable) (names : List (List ℕ)) : Type 0 where
@@ -53,10 +53,6 @@ dir_found t (Some (found.File i)) e = cc
 some_names : (names : List (List ℕ)) → not (has_component names) ≡ false → names ≢ []
 some_names [] e = λ _. cc
 some_names (name ∷ names) e = λ h. cc
-
-names_there : (names : List (List ℕ)) → has_component names ≡ true → names ≢ []
-names_there [] e = λ _. cc
-names_there (name ∷ names) e = λ h. cc
 
 -- the names above
 pub names_above_are : (names : List (List ℕ)) → AreNames names → AreNames (names_above names)

@@ -1,5 +1,5 @@
 -- The files that are lent go on with the tree: they stay, go, are emptied or are new.
-use Rattle.std.proofs.Common.{◌≡◌, ℕ, ◌⊎◌, inl, inr, List, [], Bool, true, false, cond, ◌||◌, ◌&&◌, eqb, Option, Some, None, is_some, ap, refl, sym, subst, arith, ◌∙◌}
+use Rattle.std.proofs.Common.{◌≡◌, ℕ, ◌⊎◌, inl, inr, List, [], Bool, true, false, cond, ◌||◌, ◌&&◌, eqb, Some, None, is_some, ap, refl, sym, subst, arith, ◌∙◌}
 use Rattle.std.proofs.lemmas.Bool.{eqb-true, eq-eqb}
 use Rattle.std.specs.Cmp.{nat_cmp_total}
 use Rattle.std.specs.FinMap as map

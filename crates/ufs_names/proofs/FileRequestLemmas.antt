@@ -1,8 +1,8 @@
 -- What a request on a descriptor of a file leaves of a tree.
-use Rattle.std.proofs.Common.{◌≡◌, ℕ, ◌⊎◌, inl, inr, List, [], ◌∷◌, Bool, true, false, cond, ◌||◌, Option, Some, None, is_some, unwrap_or, ap, refl, sym, subst, ◌∙◌}
+use Rattle.std.proofs.Common.{◌≡◌, ℕ, inl, inr, List, [], Bool, true, false, cond, ◌||◌, Option, Some, None, is_some, unwrap_or, ap, refl, sym, subst, ◌∙◌}
 use Rattle.std.specs.List.{list_any}
 use Rattle.std.specs.FinMap as map
-use Rattle.ufs_model.specs.Asks.{IsAsk, desc_of_fd, fd_named, file_in}
+use Rattle.ufs_model.specs.Asks.{desc_of_fd, fd_named, file_in}
 use Rattle.ufs_model.specs.Descriptors.{closed, opened}
 use Rattle.ufs_model.specs.FileCalls.{is_on_file}
 use Rattle.ufs_model.specs.Posix.{posix}
@@ -10,7 +10,6 @@ use Rattle.ufs_model.specs.PosixTree.{PosixTree, Paths, IsTree, is_live, is_node
 use Rattle.ufs_model.specs.Refusals.{own_refusal}
 use Rattle.ufs_model.specs.Touched as touched
 use Rattle.ufs_model.specs.Touched.{IsSamePart, file_part, holds, open_part, reached, touched_parts}
-use Rattle.ufs_model.specs.declared.data.Ask.{Ask}
 use Rattle.ufs_model.specs.declared.data.Desc.{Desc}
 use Rattle.ufs_model.specs.declared.data.Op.{Op}
 use Rattle.ufs_model.specs.declared.data.Op.TheVariants as op

@@ -1,13 +1,12 @@
 -- An excuse with its cause fits the request.
-use Rattle.std.proofs.Common.{◌≡◌, ◌≢◌, ℕ, ◌+◌, ◌%◌, ◌≤◌, ◌<◌, List, [], length, Bool, true, false, cond, ◌&&◌, eqb, Option, Some, None, is_none, ap, refl, sym, subst, ◌∙◌, arith}
+use Rattle.std.proofs.Common.{◌≡◌, ◌≢◌, ℕ, ◌%◌, List, length, Bool, true, false, cond, eqb, Some, None, ap, refl, sym, subst, ◌∙◌, arith}
 use Rattle.std.proofs.lemmas.Bool.{eq-eqb}
 use Rattle.ufs_base.specs.declared.sizes.TheConstants.{SLOTS_PER_BLOCK}
 use Rattle.ufs_bitmap.specs.Blocks.{BlockSet}
 use Rattle.ufs_dir_tree.specs.DirCalls.{IsFull, IsListed, IsRoomCause, IsSpaceCause}
 use Rattle.ufs_dir_tree.specs.DirTable.{dir_at, found_at}
 use Rattle.ufs_dir_tree.specs.declared.found.Found.TheVariants as found
-use Rattle.ufs_model.specs.Directories.{entry_count}
-use Rattle.ufs_model.specs.Excuses.{ExcuseFits, IsExcuseOf, adds_name, grown_dir, is_memory, makes_node, may_be_full, needed}
+use Rattle.ufs_model.specs.Excuses.{ExcuseFits, IsExcuseOf, adds_name, grown_dir, makes_node, may_be_full, needed}
 use Rattle.ufs_model.specs.Paths.{whole_path}
 use Rattle.ufs_model.specs.PosixTree.{PosixTree}
 use Rattle.ufs_model.specs.Refusals.{refusal}
@@ -72,6 +71,3 @@ by_memory t client request (excuse.Stopped fault) other = other (λ e. cc)
 by_memory t client request (excuse.Blocks need had) other = other (λ e. cc)
 by_memory t client request excuse.Inodes other = other (λ e. cc)
 by_memory t client request (excuse.Extents need) other = other (λ e. cc)
-
-pub memory_fits : (t : PosixTree) (client : ℕ) (request : Op) → ExcuseFits t client request excuse.Memory
-memory_fits t client request = fits_memory t client request excuse.Memory refl

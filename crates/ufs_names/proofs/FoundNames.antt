@@ -4,7 +4,7 @@ use Rattle.std.specs.Option.{option_map}
 use Rattle.ufs_base.specs.Choices.{first_of}
 use Rattle.ufs_dirs.specs.Directory.{entry_of}
 use Rattle.ufs_layout.specs.DentryForm.{DentryForm}
-use Rattle.ufs_dir_tree.specs.DirTable.{DirTable, IsDirTable, found_at, found_of, slots_at, step, walk_from}
+use Rattle.ufs_dir_tree.specs.DirTable.{DirTable, IsDirTable, found_at, found_of, slots_at, walk_from}
 use Rattle.ufs_dir_tree.specs.declared.found.Found.{Found}
 use Rattle.ufs_dir_tree.specs.declared.found.Found.TheVariants.{Dir, File}
 use Rattle.ufs_dir_tree.proofs.WalkLemmas.{walk_none}

@@ -1,6 +1,5 @@
 -- A file that goes with a request is one that the request touches, so its hand is here.
-use Rattle.std.proofs.Common.{◌≡◌, ℕ, ◌⊎◌, inl, inr, List, [], ◌∷◌, Bool, true, false, cond, Option, Some, None, is_some, ap, refl, sym, subst, ◌∙◌}
-use Rattle.std.specs.Prelude.{slice_index_or}
+use Rattle.std.proofs.Common.{◌≡◌, ℕ, inl, inr, List, [], ◌∷◌, Bool, true, false, cond, Option, Some, None, is_some, refl, sym, subst, ◌∙◌}
 use Rattle.std.specs.FinMap as map
 use Rattle.ufs_files.specs.Files.{Files}
 use Rattle.ufs_model.specs.Posix.{forget}
@@ -14,7 +13,7 @@ use Rattle.ufs_model.specs.declared.data.Op.{Op}
 use Rattle.ufs_model.specs.declared.data.PartName.{PartName}
 use Rattle.ufs_model.specs.declared.data.PartName.TheVariants as name
 use Rattle.ufs_names.specs.Calls.{AreGathered}
-use Rattle.ufs_names.specs.NamesPart.{NamesPart, IsPartOf, holding_of, is_kept, without_name}
+use Rattle.ufs_names.specs.NamesPart.{NamesPart, IsPartOf, holding_of, without_name}
 use Rattle.ufs_names.specs.Steps.{GoesHere}
 use Rattle.ufs_names.proofs.LinkLemmas.{is_named}
 use Rattle.ufs_names.proofs.HolderLemmas.{kept_is_live}
@@ -24,7 +23,7 @@ pub reached_here : (t : PosixTree) (ask : Ask) (fs : Files) → AreGathered t as
     → (f : ℕ) → touched.IsPartOf (reached t ask.client request) (name.File f) → is_some (map.get t.bytes f) ≡ true → is_some (map.get fs f) ≡ true
 reached_here t ask fs gathered own request of f at has =
     gathered f (inr (subst (λ (o : Option Errno). touched.IsPartOf (cond {A = List PartName} (is_some o) [] (reached t ask.client ask.op)) (name.File f)) (sym own)
-        (subst (λ (r : Op). touched.IsPartOf (reached t ask.client r) (name.File f)) (sym of) at))) has
+    (subst (λ (r : Op). touched.IsPartOf (reached t ask.client r) (name.File f)) (sym of) at))) has
 
 -- what is live is told by paths and descriptors, which stay
 pub forget_live : (v : PosixTree) (g f : ℕ) → is_live (forget v (Some g)).paths (forget v (Some g)).fds f ≡ is_live v.paths v.fds f

@@ -1,6 +1,6 @@
 -- Each kind of change keeps space: directories, files and pool stay apart and have together what they had, and files
 -- have the inodes that are told.
-use Rattle.std.proofs.Common.{◌≡◌, ℕ, ◌⊎◌, inl, inr, true, Some, None, [], is_some, ap, refl, sym, subst, ◌∙◌}
+use Rattle.std.proofs.Common.{◌≡◌, ℕ, ◌⊎◌, inl, inr, true, Some, None, is_some, ap, refl, sym, subst, ◌∙◌}
 use Rattle.std.specs.Cmp.{nat_cmp_total}
 use Rattle.std.specs.FinMap as map
 use Rattle.std.specs.FinMap.{nat_cmp-IsAntisymmetric}
@@ -72,12 +72,6 @@ goes_apart t fs fs' pool pool' f hands left apart = (file_apart t t (λ i. refl)
 -- ---- the kinds
 
 module _ (old new : NamesPart) (fs fs' : Files) (pool pool' : BlockSet) (apart : AreApart old.tree.dirs fs pool) where
-  -- nothing changes
-  pub keeps_all : new ≡ old → fs' ≡ fs → pool' ≡ pool → KeepsSpace old new fs fs' pool pool'
-  keeps_all same hands left =
-      subst (λ (k : NamesPart × (Files × BlockSet)). KeepsSpace old k.0 fs k.1.0 pool k.1.1) (λ i. (sym same i, (sym hands i, sym left i)))
-      (record { inodes = λ all. all; together = the_same old.tree.dirs fs pool; apart = apart })
-
   -- directories and pool exchange blocks
   pub keeps_dirs : DirExchanges old.tree.dirs new.tree.dirs pool pool' → new.held ≡ old.held → fs' ≡ fs → KeepsSpace old new fs fs' pool pool'
   keeps_dirs e held hands =

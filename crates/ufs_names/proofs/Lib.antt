@@ -35,6 +35,7 @@ pub mod SettleLemmas
 pub mod SpaceLemmas
 pub mod StandsLemmas
 pub mod StartLemmas
+pub mod SyncLemmas
 pub mod UndoneLemmas
 pub mod UnnamedLemmas
 pub mod WalkLinks

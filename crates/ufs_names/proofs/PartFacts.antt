@@ -1,22 +1,17 @@
 -- What the part of a tree knows of a file.
-use Rattle.std.proofs.Common.{◌≡◌, ℕ, List, true, Some, is_some, inl, ap, sym, ◌∙◌}
+use Rattle.std.proofs.Common.{◌≡◌, ℕ, List, true, Some, is_some, inl, ◌∙◌}
 use Rattle.std.specs.Prelude.{IsSome}
 use Rattle.std.specs.FinMap as map
 use Rattle.ufs_model.specs.Paths.{whole_path}
-use Rattle.ufs_model.specs.PosixTree.{PosixTree, is_live}
+use Rattle.ufs_model.specs.PosixTree.{PosixTree}
 use Rattle.ufs_model.specs.declared.data.Node.TheVariants.{File}
 use Rattle.ufs_model.proofs.Facts.Live.{held_has}
 use Rattle.ufs_name_tree.specs.NameTable.{node_at}
-use Rattle.ufs_names.specs.NamesPart.{NamesPart, IsPartOf, holding_of, is_kept}
+use Rattle.ufs_names.specs.NamesPart.{NamesPart, IsPartOf}
 use Rattle.ufs_names.proofs.NameLists.{AreNames}
 use Rattle.ufs_names.proofs.WalkLinks.{met}
-use Rattle.ufs_names.proofs.HolderLemmas.{kept_is_live}
 
 module _ (n : NamesPart) (t : PosixTree) (part : IsPartOf n t) where
-  -- a file is live exactly where something keeps it
-  pub live_is_kept : (f : ℕ) → is_live t.paths t.fds f ≡ is_kept (holding_of n.held f)
-  live_is_kept f = sym (kept_is_live (holding_of n.held f) t.paths t.fds f (part.linked f) (part.held f))
-
   -- a file that stands at some names has bytes, and its holders are told
   pub file_told : (names : List (List ℕ)) (f : ℕ) → AreNames names → node_at n.tree names ≡ Some (File f) → IsSome (map.get t.bytes f) × IsSome (map.get n.held f)
   file_told names f are at = (has, part.told f ∙ has)

@@ -1,8 +1,7 @@
 -- The excuses of requests on one path fit them.
-use Rattle.std.proofs.Common.{◌≡◌, ◌≢◌, ℕ, List, Bool, true, false, ◌&&◌, not, Option, Some, None, is_none, ap, refl, sym, subst, ◌∙◌}
+use Rattle.std.proofs.Common.{◌≡◌, ◌≢◌, ℕ, List, Bool, true, false, not, Option, Some, None, is_none, ap, refl, sym, subst, ◌∙◌}
 use Rattle.std.specs.Option.{option_map}
 use Rattle.std.proofs.lemmas.Bool.{and_from}
-use Rattle.ufs_base.specs.Choices.{first_of, refused_if}
 use Rattle.ufs_bitmap.specs.Blocks.{BlockSet}
 use Rattle.ufs_dir_tree.specs.DirCalls.{names_above, IsListed, LacksSpace}
 use Rattle.ufs_dir_tree.specs.DirTable.{dir_at, found_at}
@@ -15,12 +14,10 @@ use Rattle.ufs_model.specs.PosixTree.{PosixTree}
 use Rattle.ufs_model.specs.Refusals.{open_refusal, own_refusal, refusal, tree_refusal}
 use Rattle.ufs_model.specs.Walk as walk
 use Rattle.ufs_model.specs.Walk.{walk_refusal}
-use Rattle.ufs_model.specs.Descriptors.{Mode}
 use Rattle.ufs_model.specs.declared.data.Ask.{Ask}
 use Rattle.ufs_model.specs.declared.data.Errno.TheVariants.{Enoent}
 use Rattle.ufs_model.specs.declared.data.Excuse.{Excuse}
 use Rattle.ufs_model.specs.declared.data.Excuse.TheVariants as excuse
-use Rattle.ufs_model.specs.declared.data.Node.{Node}
 use Rattle.ufs_model.specs.declared.data.Op.{Op}
 use Rattle.ufs_model.specs.declared.data.Op.TheVariants as op
 use Rattle.ufs_model.proofs.Facts.Allowed.{first_none, passed}

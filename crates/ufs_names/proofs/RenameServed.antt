@@ -1,6 +1,5 @@
 -- A `rename` that isn't refused is served.
-use Rattle.std.proofs.Common.{◌≡◌, ◌≢◌, ℕ, ◌⊎◌, inl, inr, List, [], ◌∷◌, Bool, true, false, cond, is_none, is_some, bytes_eq, not, ◌&&◌, Option, Some, None, ap, refl, sym, subst, ◌∙◌}
-use Rattle.std.specs.Prelude.{IsSome}
+use Rattle.std.proofs.Common.{◌≡◌, ◌≢◌, ℕ, ◌⊎◌, inl, inr, List, [], ◌∷◌, Bool, true, false, cond, is_none, is_some, not, ◌&&◌, Option, Some, None, ap, refl, sym, subst, ◌∙◌}
 use Rattle.std.specs.Option.{option_map}
 use Rattle.std.specs.FinMap as map
 use Rattle.ufs_model.specs.Directories.{has_entries, renamed}
@@ -19,7 +18,6 @@ use Rattle.ufs_model.specs.declared.data.Errno.{Errno}
 use Rattle.ufs_model.specs.Touched as touched
 use Rattle.ufs_model.specs.Touched.{dropped_part, reached, replaced_part}
 use Rattle.ufs_model.specs.declared.data.Excuse.{Excuse}
-use Rattle.ufs_model.specs.declared.data.Excuse.TheVariants as excuse
 use Rattle.ufs_model.specs.Excuses.{ExcuseFits}
 use Rattle.ufs_model.specs.declared.data.Op.{Op}
 use Rattle.ufs_model.specs.declared.data.Op.TheVariants as op
@@ -28,14 +26,13 @@ use Rattle.ufs_model.specs.declared.data.PartName.TheVariants as name
 use Rattle.ufs_model.specs.declared.data.Reply.{Reply}
 use Rattle.ufs_model.specs.declared.data.Reply.TheVariants.{Done}
 use Rattle.ufs_bitmap.specs.Blocks.{BlockSet}
-use Rattle.ufs_dir_tree.specs.DirTable.{DirTable, dir_at, found_at}
+use Rattle.ufs_dir_tree.specs.DirTable.{dir_at, found_at}
 use Rattle.ufs_dir_tree.specs.DirCalls.{IsListed, LacksRoom, MayGo, MayMove, names_above}
 use Rattle.ufs_dir_tree.specs.declared.found.Found.TheVariants.{Dir}
 use Rattle.ufs_files.specs.Files.{Files}
 use Rattle.ufs_name_tree.specs.NameTable.{IsNameTable, node_at, node_of}
 use Rattle.ufs_name_tree.specs.Nodes.{MovesNodes}
 use Rattle.ufs_names.specs.NamesPart.{NamesPart, IsPartOf}
-use Rattle.ufs_names.specs.Space.{IsCause}
 use Rattle.ufs_names.specs.Steps.{GoesHere, LosesName}
 use Rattle.ufs_names.specs.Calls.{IsAsked, IsServed}
 use Rattle.ufs_names.proofs.NameLists.{AreNames, names_of}
@@ -57,15 +54,6 @@ last_false : (a b c : Bool) → a ≡ true → b ≡ true → (a && (b && c)) �
 last_false true true c p q e = e
 last_false true false c p q e = cc
 last_false false b c p q e = cc
-
--- why a new name gets no room
-pub rename_cause : (d : DirTable) (pool : BlockSet) (old new : List ℕ) (x : Excuse) → found_at d (components new) ≡ None → LacksRoom d pool (names_above (components new)) x → IsCause d pool (op.Rename old new) x
-rename_cause d pool old new excuse.Memory absent lacks = tt
-rename_cause d pool old new (excuse.Device fault) absent lacks = (absent, lacks)
-rename_cause d pool old new (excuse.Stopped fault) absent lacks = (absent, lacks)
-rename_cause d pool old new excuse.Inodes absent lacks = (absent, lacks)
-rename_cause d pool old new (excuse.Blocks need had) absent lacks = (absent, lacks)
-rename_cause d pool old new (excuse.Extents need) absent lacks = (absent, lacks)
 
 -- the file that stood at the new name has no name any more
 pub renamed_unnamed : (n : NamesPart) (t : PosixTree) → IsPartOf n t → (from to : List (List ℕ)) → IsRenamed t.paths from to → (whole_path from ≡ whole_path to → ⊥) → (f : ℕ) → file_of (map.get t.paths (whole_path to)) ≡ Some f

@@ -13,7 +13,7 @@ use Rattle.ufs_model.specs.Posix.{forget}
 use Rattle.ufs_model.proofs.Facts.Lookups.{same_some, from_some, inserted_here, inserted_else, removed_here, removed_else, left_was}
 use Rattle.ufs_name_tree.specs.NameTable.{NameTable, file_at, node_at}
 use Rattle.ufs_names.specs.Stands.{Stands}
-use Rattle.ufs_names.specs.NamesPart.{NamesPart, Holdings, IsPartOf, AreInodesOf, IsNamedOnce, is_linked, is_holder, is_kept, unheld, holding_of, settled, without_name}
+use Rattle.ufs_names.specs.NamesPart.{NamesPart, Holdings, IsPartOf, AreInodesOf, IsNamedOnce, is_linked, is_holder, is_kept, unheld, holding_of, without_name}
 use Rattle.ufs_names.specs.Steps.{KeepsFiles, LosesName, Settles}
 use Rattle.ufs_names.specs.declared.holding.Holding.{Holding}
 use Rattle.ufs_names.proofs.LinkLemmas.{is_named, number_apart, holding_put, holding_else, holding_gone, holding_left}

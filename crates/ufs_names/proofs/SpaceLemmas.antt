@@ -1,17 +1,16 @@
 -- Directories, files and the pool exchange blocks: no block comes to have two of them, and together they have what
 -- they had.
-use Rattle.std.proofs.Common.{◌≡◌, ◌≢◌, ◌↔◌, ℕ, ◌⊎◌, inl, inr, List, [], ◌∷◌, ◌++◌, Bool, true, false, not, ◌||◌, ◌&&◌, eqb, Option, Some, None, ap, refl, sym, subst, ◌∙◌}
+use Rattle.std.proofs.Common.{◌≡◌, ℕ, ◌⊎◌, inl, inr, List, Bool, true, false, not, ◌||◌, ◌&&◌, eqb, Option, Some, None, ap, refl, sym, ◌∙◌}
 use Rattle.std.proofs.lemmas.Bool.{eqb-true, eq-eqb, true≢false}
 use Rattle.std.specs.FinSet as set
 use Rattle.std.specs.List.{list_all}
 use Rattle.ufs_layout.specs.DentryForm.{is_named}
 use Rattle.ufs_bitmap.specs.Blocks.{BlockSet}
-use Rattle.ufs_bitmap.specs.Taking as taking
 use Rattle.ufs_bitmap.specs.Taking.{has}
 use Rattle.ufs_bitmap.proofs.SetLemmas.{has-remove, has-union}
 use Rattle.ufs_dirs.specs.Directory.{has_block}
 use Rattle.ufs_dir_tree.specs.DirTable.{DirTable, blocks_at, dir_at, found_at}
-use Rattle.ufs_dir_tree.specs.DirCalls.{IsApart, IsFull, HasRoom, TakesBlock, GetsRoom, SpendsBlock, FreesInode, SpendsNone, Frees}
+use Rattle.ufs_dir_tree.specs.DirCalls.{IsApart, TakesBlock, GetsRoom, SpendsBlock, FreesInode, Frees}
 use Rattle.ufs_dir_tree.specs.declared.found.Found.{Found}
 use Rattle.ufs_dir_tree.specs.declared.found.Found.TheVariants.{Dir, File}
 use Rattle.ufs_dir_tree.proofs.SpaceLemmas.{has-push, listed-is}
@@ -27,13 +26,10 @@ DirHas t b = (i : ℕ) × (has_block (blocks_at t i) b ≡ true)
 
 -- ---- nothing, and one after the other
 
-same_both : {A : Type 0} → A ↔ A
-same_both = ((λ x. x), (λ x. x))
-
 pub same_blocks : (t t' : DirTable) → ((i : ℕ) → blocks_at t' i ≡ blocks_at t i) → (b : ℕ) → (DirHas t' b → DirHas t b) × (DirHas t b → DirHas t' b)
 same_blocks t t' same b = (
-    (λ h. (h.0, ap (λ (l : List ℕ). has_block l b) (sym (same h.0)) ∙ h.1)),
-    (λ h. (h.0, ap (λ (l : List ℕ). has_block l b) (same h.0) ∙ h.1)),
+  (λ h. (h.0, ap (λ (l : List ℕ). has_block l b) (sym (same h.0)) ∙ h.1)),
+  (λ h. (h.0, ap (λ (l : List ℕ). has_block l b) (same h.0) ∙ h.1)),
 )
 
 pub the_same : (t : DirTable) (fs : Files) (pool : BlockSet) → HaveTheSame t fs pool t fs pool

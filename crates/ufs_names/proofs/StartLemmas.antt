@@ -22,7 +22,7 @@ use Rattle.ufs_dir_tree.specs.DirTable.{DirTable}
 use Rattle.ufs_dir_tree.specs.DirCalls.{IsApart}
 use Rattle.ufs_bitmap.specs.Blocks.{BlockSet}
 use Rattle.ufs_bitmap.proofs.TakingLemmas.{apart_none, has-none}
-use Rattle.ufs_files.specs.Files.{Files, blocks_at}
+use Rattle.ufs_files.specs.Files.{blocks_at}
 use Rattle.ufs_files.proofs.MapLemmas.{blocks_none}
 use Rattle.ufs_name_tree.specs.NameTable.{NameTable, file_at, node_at}
 use Rattle.ufs_names.specs.NamesPart.{IsPartOf, holding_of, unheld}

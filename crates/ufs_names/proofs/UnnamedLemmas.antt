@@ -1,6 +1,5 @@
 -- What had a name and has none now: its file is that of before, and its directory exchanged blocks with the pool.
-use Rattle.std.proofs.Common.{◌≡◌, ◌≢◌, ℕ, ◌⊎◌, inl, inr, List, [], ◌++◌, true, Option, Some, None, is_some, unwrap_or, ap, refl, sym, ◌∙◌}
-use Rattle.std.proofs.lemmas.List.{append-nil}
+use Rattle.std.proofs.Common.{◌≡◌, ℕ, ◌⊎◌, inl, inr, List, true, Option, Some, None, is_some, unwrap_or, ap, refl, sym, ◌∙◌}
 use Rattle.std.specs.Option.{option_map}
 use Rattle.ufs_bitmap.specs.Blocks.{BlockSet}
 use Rattle.ufs_dir_tree.specs.DirTable.{DirTable, found_at}
@@ -8,13 +7,11 @@ use Rattle.ufs_dir_tree.specs.DirCalls.{IsApart, Frees, SpendsBlock, names_above
 use Rattle.ufs_dir_tree.specs.declared.found.Found.{Found}
 use Rattle.ufs_dir_tree.specs.declared.found.Found.TheVariants.{Dir, File}
 use Rattle.ufs_files.specs.Files.{Files}
-use Rattle.ufs_model.specs.declared.data.Node.{Node}
 use Rattle.ufs_model.specs.declared.data.Node.TheVariants as node
-use Rattle.ufs_model.proofs.Facts.Lookups.{from_some, same_some, there_or_not}
-use Rattle.ufs_name_tree.specs.NameTable.{NameTable, IsNameTable, file_at, node_at, node_of}
-use Rattle.ufs_name_tree.specs.Nodes.{SetsNode, MovesNodes}
+use Rattle.ufs_model.proofs.Facts.Lookups.{there_or_not}
+use Rattle.ufs_name_tree.specs.NameTable.{NameTable, file_at, node_of}
 use Rattle.ufs_names.specs.NamesPart.{NamesPart, holding_of, is_kept, settled, without_name}
-use Rattle.ufs_names.specs.Steps.{KeepsFiles, LosesName, Settles}
+use Rattle.ufs_names.specs.Steps.{LosesName}
 use Rattle.ufs_names.proofs.SpaceLemmas.{DirExchanges, block_spent, freed}
 
 -- ---- numbers

@@ -1,5 +1,5 @@
 -- What the namespace answers, and how its part, the files that it is lent and the pool go on.
-use Rattle.std.specs.Prelude.{ℕ, ◌≡◌, ◌≢◌, ◌⊎◌, Bool, ◌==◌, ◌&&◌, ◌||◌, List, [], true, Option, Some, None, IsSome, is_some}
+use Rattle.std.specs.Prelude.{ℕ, ◌≡◌, ◌≢◌, ◌⊎◌, ◌==◌, ◌&&◌, ◌||◌, [], true, Option, Some, None, IsSome, is_some}
 use Rattle.std.specs.FinMap as map
 use Rattle.ufs_file.specs.Content.{no_content}
 use Rattle.ufs_file.specs.Hand.{FileState}

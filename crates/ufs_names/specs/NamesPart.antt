@@ -1,5 +1,5 @@
 -- The part of the names, and the trees that it is a part of.
-use Rattle.std.specs.Prelude.{ℕ, ◌≡◌, ◌||◌, Bool, true, false, List, Option, Some, None, IsSome, is_some, unwrap_or, slice_index_or, slice_set, if◌then◌else◌, replicate, refl}
+use Rattle.std.specs.Prelude.{ℕ, ◌≡◌, ◌||◌, Bool, true, false, List, Some, IsSome, is_some, unwrap_or, slice_index_or, slice_set, if◌then◌else◌, replicate, refl}
 use Rattle.std.specs.List.{list_any}
 use Rattle.std.specs.Ordering.{nat_cmp}
 use Rattle.std.specs.FinMap as map

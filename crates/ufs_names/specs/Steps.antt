@@ -1,5 +1,5 @@
 -- One step of the names' part, with the files that it is lent and the pool.
-use Rattle.std.specs.Prelude.{ℕ, ◌≡◌, ◌≢◌, ◌+◌, List, Bool, true, false, Option, Some, None, IsSome, unwrap_or, if◌then◌else◌}
+use Rattle.std.specs.Prelude.{ℕ, ◌≡◌, ◌≢◌, ◌+◌, List, Bool, true, false, Option, Some, None, IsSome, unwrap_or}
 use Rattle.std.specs.FinMap as map
 use Rattle.ufs_bitmap.specs.Blocks.{BlockSet}
 use Rattle.ufs_dir_tree.specs.declared.found.Found.{Found}
@@ -9,7 +9,7 @@ use Rattle.ufs_files.specs.Files.{Files}
 use Rattle.ufs_model.specs.Walk.{file_of}
 use Rattle.ufs_name_tree.specs.NameTable.{file_at, node_at}
 use Rattle.ufs_name_tree.specs.Nodes.{SetsNode}
-use Rattle.ufs_names.specs.NamesPart.{NamesPart, Holdings, unheld, holding_of, with_holder, without_holder, without_name, is_kept, settled}
+use Rattle.ufs_names.specs.NamesPart.{NamesPart, unheld, holding_of, with_holder, without_holder, without_name, is_kept, settled}
 use Rattle.ufs_names.specs.Calls.{HaveInodes, no_bytes}
 use Rattle.ufs_names.specs.Space.{AreApart, HaveTheSame}
 use Rattle.ufs_names.specs.declared.holding.Holding.{Holding}

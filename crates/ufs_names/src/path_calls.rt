@@ -70,12 +70,19 @@ impl Names {
         let Ok(reply) = self.answer_found(ask, look.found, files) else {
             return Err(Excuse::Memory);
         };
-        let desc = self.change_found(ask, path, look, files, pool)?;
-        Ok(Served { reply, desc })
+        match self.change_found(ask, path, look, files, pool) {
+            Ok(desc) => Ok(Served { reply, desc }),
+            Err(excuse) => Err(excuse),
+        }
     }
 
     /// The reply to a request that isn't refused.
-    fn answer_found(&self, ask: &Ask, found: Option<Found>, files: &FileHands) -> Result<Reply, Memory>
+    fn answer_found(
+        &self,
+        ask: &Ask,
+        found: Option<Found>,
+        files: &FileHands,
+    ) -> Result<Reply, Memory>
         requires { (t : PosixTree) × ((names : List (List ℕ)) × IsAllowed t ask.now self.now files.now names found) }
         ensures { IfOk result (λ reply. (t : PosixTree) (names : List (List ℕ)) → IsAllowed t ask.now self.now files.now names found → reply ≡ answer t ask.now.client ask.now.op) }
     {
@@ -175,7 +182,13 @@ impl Names {
         }
     }
 
-    fn add_dir(&mut self, dir: u32, path: &PathText, pool: &mut Pool, files: &FileHands) -> Result<(), Excuse>
+    fn add_dir(
+        &mut self,
+        dir: u32,
+        path: &PathText,
+        pool: &mut Pool,
+        files: &FileHands,
+    ) -> Result<(), Excuse>
         requires below { path.now ≢ [] }
         requires dir { found_at self.old.tree.dirs (names_above path.now) ≡ Some (met.Dir dir) }
         requires absent { found_at self.old.tree.dirs path.now ≡ None }

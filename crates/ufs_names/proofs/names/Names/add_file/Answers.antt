@@ -7,7 +7,7 @@ use Rattle.ufs_names.specs.declared.holding.Holding.{Holding}
 use Rattle.ufs_names.proofs.AddLemmas.{fresh_number, new_is_here, new_is_apart, pool_undone}
 use Rattle.ufs_names.proofs.KeepsSpaceLemmas.{keeps_made}
 use Rattle.ufs_names.proofs.SpaceLemmas.{block_spent}
-use Rattle.ufs_names.proofs.UndoneLemmas.{same_part, undone, on_is_err, not_err}
+use Rattle.ufs_names.proofs.UndoneLemmas.{same_part, undone, not_err}
 use Rattle.ufs_names.proofs.names.Names.add_file.Goals as goal
 
 pub add_file-requires-clause-fresh : goal.add_file-requires-clause-fresh
@@ -25,7 +25,7 @@ returns-in-Ok-clause-space c =
     let next = ap (λ (n : NamesPart). n.next) c.self.view_is in
     let tree = c.in-Some.ensures.same ∙ ap (λ (n : NamesPart). n.tree) c.self.view_is in
     let spent = block_spent n.tree.dirs c.add_file.new.self.dirs c.args.pool.now c.add_file.new.pool _ c.args.dir c.requires.parent
-        (subst (λ (t : NameTable). SpendsBlock t.dirs c.add_file.new.self.dirs c.args.pool.now c.add_file.new.pool (names_above c.args.path.now)) tree c.in-Ok.ensures.block) c.add_file.ensures.apart in
+    (subst (λ (t : NameTable). SpendsBlock t.dirs c.add_file.new.self.dirs c.args.pool.now c.add_file.new.pool (names_above c.args.path.now)) tree c.in-Ok.ensures.block) c.add_file.ensures.apart in
     keeps_made n _ c.args.files.now c.make.new.self c.args.pool.now c.add_file.new.pool c.requires.apart c.self.inside.next c.in-Some.inode c.with.result
     (ap (map.get c.args.files.now) next ∙ c.requires.no_file) (ap (λ (h : Holding). h.inode) c.with.ensures) spent
     (not_err c.put.result c.is_err.result c.is_err.ensures.value c.if-is_err.false c.put.ensures.ok ∙ ap (λ (n : NamesPart). map.insert n.held c.self.inside.next c.with.result) c.self.view_is)

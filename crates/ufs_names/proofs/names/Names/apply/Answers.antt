@@ -1,9 +1,5 @@
 use Rattle.std.proofs.Common.{◌≡◌, true, ap, sym, ◌∙◌}
-use Rattle.ufs_model.specs.Excuses.{ExcuseFits}
 use Rattle.ufs_model.specs.History.{is_excused}
-use Rattle.ufs_model.specs.declared.data.Excuse.{Excuse}
-use Rattle.ufs_model.specs.declared.data.Reply.{Reply}
-use Rattle.ufs_model.specs.declared.data.Reply.TheVariants as reply
 use Rattle.ufs_names.proofs.ReplyLemmas.{served_plain}
 use Rattle.ufs_names.proofs.names.Names.apply.Goals as goal
 use Rattle.ufs_names.proofs.names.Names.apply.Goals.{After-answered}

@@ -1,4 +1,4 @@
-use Rattle.std.proofs.Common.{◌≡◌, ℕ, List, Option, Some, None, is_some, ap, refl, sym, subst, ◌∙◌}
+use Rattle.std.proofs.Common.{ℕ, List, Option, None, is_some, ap, refl, sym, ◌∙◌}
 use Rattle.std.specs.Prelude.{slice_index_or}
 use Rattle.std.specs.FinMap as map
 use Rattle.ufs_calls.specs.Modes.{mode_asked, mode_of}
@@ -97,7 +97,7 @@ pub returns-in-Err-clause-fits : goal.returns-in-Err-clause-fits
 returns-in-Err-clause-fits c t is =
     let o = c.in-OpenFile in
     by_memory t c.args.ask.now.client c.args.ask.now.op c.in-Err.excuse (λ not.
-        let absent = (c.in-Err.ensures.cause not).0 in
-        fits_open c.args.self.now c.args.files.now t c.args.ask.now c.args.path.now c.args.look.found is c.args.look.dir
-        (c.requires.dir (open_may c.args.self.now c.args.files.now t c.args.ask.now c.args.path.now c.args.look.found is o.path o.read o.write o.creat o.excl o.trunc o.append o.is absent).below)
-        c.args.pool.now c.in-Err.excuse c.in-Err.ensures.listed o.path o.read o.write o.creat o.excl o.trunc o.append o.is c.in-Err.ensures.cause)
+    let absent = (c.in-Err.ensures.cause not).0 in
+    fits_open c.args.self.now c.args.files.now t c.args.ask.now c.args.path.now c.args.look.found is c.args.look.dir
+    (c.requires.dir (open_may c.args.self.now c.args.files.now t c.args.ask.now c.args.path.now c.args.look.found is o.path o.read o.write o.creat o.excl o.trunc o.append o.is absent).below)
+    c.args.pool.now c.in-Err.excuse c.in-Err.ensures.listed o.path o.read o.write o.creat o.excl o.trunc o.append o.is c.in-Err.ensures.cause)

@@ -1,21 +1,15 @@
-use Rattle.std.proofs.Common.{◌≡◌, ◌≢◌, ℕ, List, Bool, true, false, Option, Some, None, is_some, ap, refl, sym, subst, ◌∙◌, bytes_eq}
+use Rattle.std.proofs.Common.{◌≡◌, ℕ, List, true, Option, Some, None, is_some, ap, refl, sym, subst, ◌∙◌}
 use Rattle.std.specs.Option.{option_map}
 use Rattle.ufs_bitmap.specs.Blocks.{BlockSet}
-use Rattle.ufs_dir_tree.specs.DirTable.{DirTable, found_at}
-use Rattle.ufs_dir_tree.specs.DirCalls.{IsApart, Frees, MayMove, SpendsBlock, names_above}
+use Rattle.ufs_dir_tree.specs.DirTable.{found_at}
+use Rattle.ufs_dir_tree.specs.DirCalls.{IsApart, Frees, SpendsBlock, names_above}
 use Rattle.ufs_dir_tree.specs.declared.found.Found.{Found}
 use Rattle.ufs_dir_tree.specs.declared.found.Found.TheVariants.{Dir, File}
-use Rattle.ufs_files.specs.Files.{Files}
-use Rattle.ufs_model.specs.Paths.{whole_path}
 use Rattle.ufs_model.specs.Walk.{file_of}
 use Rattle.ufs_model.specs.declared.data.Node.{Node}
-use Rattle.ufs_model.proofs.Facts.Lookups.{from_some}
-use Rattle.ufs_model.proofs.Facts.Pieces.{bytes_same}
 use Rattle.ufs_name_tree.specs.NameTable.{NameTable, IsNameTable, file_at, node_at, node_of}
-use Rattle.ufs_name_tree.specs.Nodes.{MovesNodes}
 use Rattle.ufs_names.specs.NamesPart.{NamesPart}
-use Rattle.ufs_names.specs.Space.{AreApart}
-use Rattle.ufs_names.specs.Steps.{KeepsSpace, LosesName}
+use Rattle.ufs_names.specs.Steps.{LosesName}
 use Rattle.ufs_names.proofs.KeepsSpaceLemmas.{keeps_dirs, keeps_then}
 use Rattle.ufs_names.proofs.SpaceLemmas.{DirExchanges, dir_apart}
 use Rattle.ufs_names.proofs.UnnamedLemmas.{loses_before, name_put, same_nodes, same_numbers}
@@ -54,7 +48,7 @@ pub forget_name-requires-clause-apart : goal.forget_name-requires-clause-apart
 forget_name-requires-clause-apart c =
     dir_apart c.args.self.now.tree.dirs c.rename.new.self.dirs c.args.files.now c.args.pool.now c.rename.new.pool
     (exchanged c.args.self.now c.self.inside.tree c.rename.new.self (ap (λ (n : NamesPart). n.tree) c.self.view_is) c.args.from.now c.args.to.now c.args.step.to.found c.requires.found c.in_ok-rename.ensures.files
-        c.args.pool.now c.rename.new.pool c.args.step.to.dir c.requires.to_dir c.in_ok-rename.ensures.replaced c.in_ok-rename.ensures.block c.in_ok-rename.ensures.apart)
+    c.args.pool.now c.rename.new.pool c.args.step.to.dir c.requires.to_dir c.in_ok-rename.ensures.replaced c.in_ok-rename.ensures.block c.in_ok-rename.ensures.apart)
     c.requires.apart
 
 pub returns-clause-loses : goal.returns-clause-loses
@@ -65,15 +59,15 @@ returns-clause-loses c other =
     (ap (λ (n : NamesPart). n.held) c.self.view_is) (ap (λ (n : NamesPart). n.next) c.self.view_is)
     (numbers c.args.self.now c.self.inside.tree c.rename.new.self is c.args.from.now c.args.to.now c.args.step.to.found c.requires.found c.in_ok-rename.ensures.files)
     (subst (λ (o : Option Node). LosesName mid c.forget_name.new.self c.args.files.now c.forget_name.new.files (file_of o))
-        (same_lost c.args.self.now c.self.inside.tree c.rename.new.self is c.args.from.now c.args.to.now c.args.step.to.found c.requires.found c.in_ok-rename.ensures.files)
-        c.forget_name.ensures.loses)
+    (same_lost c.args.self.now c.self.inside.tree c.rename.new.self is c.args.from.now c.args.to.now c.args.step.to.found c.requires.found c.in_ok-rename.ensures.files)
+    c.forget_name.ensures.loses)
 
 pub returns-clause-space : goal.returns-clause-space
 returns-clause-space c =
     let mid : NamesPart = record { tree = c.rename.new.self; held = c.self.inside.held; next = c.self.inside.next } in
     keeps_then c.args.self.now mid c.forget_name.new.self c.args.files.now c.args.files.now c.forget_name.new.files c.args.pool.now c.rename.new.pool c.forget_name.new.pool
     (keeps_dirs c.args.self.now mid c.args.files.now c.args.files.now c.args.pool.now c.rename.new.pool c.requires.apart
-        (exchanged c.args.self.now c.self.inside.tree c.rename.new.self (ap (λ (n : NamesPart). n.tree) c.self.view_is) c.args.from.now c.args.to.now c.args.step.to.found c.requires.found c.in_ok-rename.ensures.files
-            c.args.pool.now c.rename.new.pool c.args.step.to.dir c.requires.to_dir c.in_ok-rename.ensures.replaced c.in_ok-rename.ensures.block c.in_ok-rename.ensures.apart)
-        (ap (λ (n : NamesPart). n.held) c.self.view_is) refl)
+    (exchanged c.args.self.now c.self.inside.tree c.rename.new.self (ap (λ (n : NamesPart). n.tree) c.self.view_is) c.args.from.now c.args.to.now c.args.step.to.found c.requires.found c.in_ok-rename.ensures.files
+    c.args.pool.now c.rename.new.pool c.args.step.to.dir c.requires.to_dir c.in_ok-rename.ensures.replaced c.in_ok-rename.ensures.block c.in_ok-rename.ensures.apart)
+    (ap (λ (n : NamesPart). n.held) c.self.view_is) refl)
     c.forget_name.ensures.space

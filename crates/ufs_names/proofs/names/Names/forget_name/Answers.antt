@@ -1,4 +1,4 @@
-use Rattle.std.proofs.Common.{◌≡◌, true, false, Some, None, is_some, ap, sym, ◌∙◌}
+use Rattle.std.proofs.Common.{◌≡◌, true, false, is_some, ap, sym, ◌∙◌}
 use Rattle.std.specs.FinMap as map
 use Rattle.ufs_name_tree.specs.NameTable.{file_at}
 use Rattle.ufs_names.specs.NamesPart.{NamesPart}
@@ -7,8 +7,8 @@ use Rattle.ufs_names.proofs.names.Names.forget_name.Goals as goal
 pub unreachable-requires-in_default-get : goal.unreachable-requires-in_default-get
 unreachable-requires-in_default-get c =
     let here =
-        c.requires.inodes.live c.in-Some-File.inode c.in-Some.file
-        (ap (λ (n : NamesPart). file_at n.tree c.in-Some-File.inode) (sym c.self.view_is) ∙ sym c.file.ensures ∙ c.in-Some.is) in
+    c.requires.inodes.live c.in-Some-File.inode c.in-Some.file
+    (ap (λ (n : NamesPart). file_at n.tree c.in-Some-File.inode) (sym c.self.view_is) ∙ sym c.file.ensures ∙ c.in-Some.is) in
     let none = ap (λ (n : NamesPart). map.get n.held c.in-Some.file) (sym c.self.view_is) ∙ sym c.get.ensures ∙ c.in_default-get.is in
     let no : true ≡ false = sym here ∙ ap is_some none in
     cc

@@ -1,6 +1,6 @@
-use Rattle.std.proofs.Common.{◌≡◌, true≢false, Some, None, is_some, ap, sym, ◌∙◌}
+use Rattle.std.proofs.Common.{true≢false, is_some, ap, sym, ◌∙◌}
 use Rattle.std.specs.FinMap as map
-use Rattle.ufs_names.specs.NamesPart.{NamesPart, Holdings, holding_of}
+use Rattle.ufs_names.specs.NamesPart.{NamesPart}
 use Rattle.ufs_names.specs.declared.holding.Holding.{Holding}
 use Rattle.ufs_name_tree.specs.NameTable.{file_at}
 use Rattle.ufs_names.proofs.AddLemmas.{held_here, keeps_opened, keeps_cut}
@@ -24,8 +24,9 @@ returns-clause-space c =
     let same = ap (λ (h : Holding). h.inode) c.with.ensures ∙ sym (ap (λ (h : Holding). h.inode) (holding_is n.held c.in-Some.file c.in-Some-get.holding known)) in
     let held = c.in-Ok.ensures.ok ∙ ap (λ (n : NamesPart). map.insert n.held c.in-Some.file c.with.result) c.self.view_is in
     elim c.else-trunc.branch [
-      else-trunc-via-then-trunc+else-is_err w ↦ keeps_cut n c.requires.inodes c.in-Some.file c.args.inode at _ c.args.files.now c.else-trunc.files c.args.pool.now c.else-trunc.pool c.requires.apart (ap (λ (n : NamesPart). n.tree) c.self.view_is) c.with.result same held
+      | else-trunc-via-then-trunc+else-is_err w ↦ keeps_cut n c.requires.inodes c.in-Some.file c.args.inode at _ c.args.files.now c.else-trunc.files c.args.pool.now c.else-trunc.pool c.requires.apart (ap (λ (n : NamesPart). n.tree) c.self.view_is) c.with.result same held
           (c.requires.here w.if-trunc.true c.in-Some.file at)
           (λ s of. w.files-is ∙ not_err w.empty.result w.is_err.result w.is_err.ensures.value w.if-is_err.false w.empty.ensures.ok s of)
           (w.pool-is ∙ not_err w.empty.result w.is_err.result w.is_err.ensures.value w.if-is_err.false w.empty.ensures.pool)
-    | else-trunc-via-else-trunc w ↦ keeps_opened n c.requires.inodes c.in-Some.file c.args.inode at _ c.args.files.now c.else-trunc.files c.args.pool.now c.else-trunc.pool c.requires.apart (ap (λ (n : NamesPart). n.tree) c.self.view_is) c.with.result same held w.files-is w.pool-is ]
+      | else-trunc-via-else-trunc w ↦ keeps_opened n c.requires.inodes c.in-Some.file c.args.inode at _ c.args.files.now c.else-trunc.files c.args.pool.now c.else-trunc.pool c.requires.apart (ap (λ (n : NamesPart). n.tree) c.self.view_is) c.with.result same held w.files-is w.pool-is
+    ]

@@ -1,8 +1,6 @@
-use Rattle.std.proofs.Common.{◌≡◌, Option, Some, is_some, ap, refl, sym, subst, ◌∙◌}
-use Rattle.std.specs.Option.{option_map}
+use Rattle.std.proofs.Common.{ap, refl, sym, subst, ◌∙◌}
 use Rattle.ufs_dir_tree.specs.DirTable.{found_at}
 use Rattle.ufs_dir_tree.specs.declared.found.Found.TheVariants.{File}
-use Rattle.ufs_name_tree.specs.NameTable.{file_at}
 use Rattle.ufs_names.specs.NamesPart.{NamesPart}
 use Rattle.ufs_names.proofs.KeepsSpaceLemmas.{keeps_dirs, keeps_then}
 use Rattle.ufs_names.proofs.SpaceLemmas.{DirExchanges, dir_apart, freed}
@@ -16,7 +14,7 @@ pub forget_name-requires-clause-apart : goal.forget_name-requires-clause-apart
 forget_name-requires-clause-apart c =
     dir_apart c.args.self.now.tree.dirs c.remove.new.self.dirs c.args.files.now c.args.pool.now c.remove.new.pool
     (subst (λ (n : NamesPart). DirExchanges n.tree.dirs c.remove.new.self.dirs c.args.pool.now c.remove.new.pool) c.self.view_is
-        (freed c.self.inside.tree.dirs c.remove.new.self.dirs c.args.pool.now c.remove.new.pool (found_at c.self.inside.tree.dirs c.args.path.now) c.remove.ensures.freed c.remove.ensures.apart))
+    (freed c.self.inside.tree.dirs c.remove.new.self.dirs c.args.pool.now c.remove.new.pool (found_at c.self.inside.tree.dirs c.args.path.now) c.remove.ensures.freed c.remove.ensures.apart))
     c.requires.apart
 
 pub returns-clause-space : goal.returns-clause-space
@@ -24,7 +22,7 @@ returns-clause-space c =
     let mid : NamesPart = record { tree = c.remove.new.self; held = c.self.inside.held; next = c.self.inside.next } in
     keeps_then c.args.self.now mid c.forget_name.new.self c.args.files.now c.args.files.now c.forget_name.new.files c.args.pool.now c.remove.new.pool c.forget_name.new.pool
     (keeps_dirs c.args.self.now mid c.args.files.now c.args.files.now c.args.pool.now c.remove.new.pool c.requires.apart
-        (subst (λ (n : NamesPart). DirExchanges n.tree.dirs c.remove.new.self.dirs c.args.pool.now c.remove.new.pool) c.self.view_is
-            (freed c.self.inside.tree.dirs c.remove.new.self.dirs c.args.pool.now c.remove.new.pool (found_at c.self.inside.tree.dirs c.args.path.now) c.remove.ensures.freed c.remove.ensures.apart))
-        (ap (λ (n : NamesPart). n.held) c.self.view_is) refl)
+    (subst (λ (n : NamesPart). DirExchanges n.tree.dirs c.remove.new.self.dirs c.args.pool.now c.remove.new.pool) c.self.view_is
+    (freed c.self.inside.tree.dirs c.remove.new.self.dirs c.args.pool.now c.remove.new.pool (found_at c.self.inside.tree.dirs c.args.path.now) c.remove.ensures.freed c.remove.ensures.apart))
+    (ap (λ (n : NamesPart). n.held) c.self.view_is) refl)
     c.forget_name.ensures.space

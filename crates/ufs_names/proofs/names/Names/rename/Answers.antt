@@ -1,4 +1,4 @@
-use Rattle.std.proofs.Common.{Some, None}
+use Rattle.std.proofs.Common.{Some}
 use Rattle.ufs_names.proofs.RefusedLemmas.{served_refused}
 use Rattle.ufs_names.proofs.RenameServed.{texts, rename_fits, rename_refused, rename_here, rename_may, served_rename}
 use Rattle.ufs_names.proofs.names.Names.rename.Goals as goal

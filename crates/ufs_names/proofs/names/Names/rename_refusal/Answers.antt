@@ -1,4 +1,4 @@
-use Rattle.std.proofs.Common.{rules, ◌≡◌, Some, None, ap, sym, ◌∙◌}
+use Rattle.std.proofs.Common.{ap, sym, ◌∙◌}
 use Rattle.ufs_names.specs.NamesPart.{NamesPart}
 use Rattle.ufs_names.proofs.RenameRefusals.{refused_from, refused_missing, refused_to, refused_replaced}
 use Rattle.ufs_names.proofs.names.Names.rename_refusal.Goals as goal

@@ -1,6 +1,5 @@
-use Rattle.std.proofs.Common.{rules, ◌≡◌, Some, None, ap, sym, ◌∙◌}
+use Rattle.std.proofs.Common.{Some, ap, sym, ◌∙◌}
 use Rattle.ufs_names.specs.NamesPart.{NamesPart}
-use Rattle.ufs_names.proofs.NameLists.{AreNames}
 use Rattle.ufs_names.proofs.ResolveLemmas.{names_of_whole, node_resolved, walk_resolved, missing_resolved, refused_resolved}
 use Rattle.ufs_names.proofs.names.Names.resolve.Goals as goal
 

@@ -1,10 +1,11 @@
-use Rattle.std.proofs.Common.{◌≡◌, Option, Some, ap, refl, sym, ◌∙◌}
+use Rattle.std.proofs.Common.{Option, ap, refl, sym, ◌∙◌}
 use Rattle.ufs_model.specs.declared.data.Excuse.TheVariants.{Memory}
 use Rattle.ufs_base.specs.Choices.{first_of}
 use Rattle.ufs_model.specs.Refusals.{tree_refusal}
 use Rattle.ufs_model.specs.declared.data.Errno.{Errno}
 use Rattle.ufs_names.proofs.FitsLemmas.{fits_memory}
 use Rattle.ufs_names.proofs.RefusedLemmas.{served_refused}
+use Rattle.ufs_names.proofs.SyncLemmas.{served_either}
 use Rattle.ufs_names.proofs.names.Names.serve.Goals as goal
 
 pub returns-in-Some-clause-ok : goal.returns-in-Some-clause-ok
@@ -28,3 +29,7 @@ serve_path-requires-clause-asked c = let a = c.requires.asked in (a.0, a.1, sym 
 
 pub close-requires-clause-asked : goal.close-requires-clause-asked
 close-requires-clause-asked c = let a = c.requires.asked in (a.0, a.1, sym (c.own_refusal.ensures a.0 c.args.ask.now.client a.1.asked.desc a.1.asked.fd) ∙ c.in_default.is)
+
+pub returns-in-Fsync-clause-ok : goal.returns-in-Fsync-clause-ok
+returns-in-Fsync-clause-ok c t asked =
+    served_either c.args.self.now t c.args.ask.now c.args.files.now asked c.in-Fsync.is (sym (c.own_refusal.ensures t c.args.ask.now.client asked.asked.desc asked.asked.fd) ∙ c.in_default.is)

@@ -1,4 +1,4 @@
-use Rattle.std.proofs.Common.{◌≡◌, [], Result, Ok, Err, OnErr, Option, None, Some, sym, ◌∙◌, ap, subst}
+use Rattle.std.proofs.Common.{◌≡◌, [], Some, sym, ◌∙◌, ap, subst}
 use Rattle.ufs_dir_tree.specs.DirTable.{found_at}
 use Rattle.ufs_model.specs.declared.data.Reply.{Reply}
 use Rattle.ufs_name_tree.specs.NameTable.{NameTable, IsNameTable, node_at}
@@ -28,41 +28,38 @@ answer_found-requires c =
     let a = c.requires.asked in
     let t = a.0 in
     let asked = a.1 in
-    let own = a.2 in
-    (t, (c.args.path.now, record {
-      all = asked;
-      allowed = refused_by_look c.args.self.now t asked.part c.args.ask.now.client c.args.ask.now.op c.args.path.now own c.requires.path c.self.inside.tree (ap (λ (n : NamesPart). n.tree) c.self.view_is) c.in-Ok.ensures.table c.in-Ok.ensures.passed c.in-Ok.look.found c.in-Ok.ensures.found c.is_root.result c.has_entries-has_entries.result c.is_root.ensures c.has_entries-has_entries.ensures c.node-node.result c.node-node.ensures c.end_refusal.result c.end_refusal.ensures ∙ c.in_default.is;
-      path = c.requires.path;
-      met = c.in-Ok.ensures.found ∙ ap (λ (n : NamesPart). found_at n.tree.dirs c.args.path.now) c.self.view_is;
-      table = subst IsNameTable (ap (λ (n : NamesPart). n.tree) c.self.view_is) c.in-Ok.ensures.table;
-    }))
-
-pub returns-in_default-answer_found-clause-due : goal.returns-in_default-answer_found-clause-due
-returns-in_default-answer_found-clause-due c t asked own = refused_by_look c.args.self.now t asked.part c.args.ask.now.client c.args.ask.now.op c.args.path.now own c.requires.path c.self.inside.tree (ap (λ (n : NamesPart). n.tree) c.self.view_is) c.in-Ok.ensures.table c.in-Ok.ensures.passed c.in-Ok.look.found c.in-Ok.ensures.found c.is_root.result c.has_entries-has_entries.result c.is_root.ensures c.has_entries-has_entries.ensures c.node-node.result c.node-node.ensures c.end_refusal.result c.end_refusal.ensures ∙ c.in_default.is
+    let own = a.2 in (
+      t,
+      (
+        c.args.path.now,
+        record {
+          all = asked;
+          allowed = refused_by_look c.args.self.now t asked.part c.args.ask.now.client c.args.ask.now.op c.args.path.now own c.requires.path c.self.inside.tree (ap (λ (n : NamesPart). n.tree) c.self.view_is) c.in-Ok.ensures.table c.in-Ok.ensures.passed c.in-Ok.look.found c.in-Ok.ensures.found c.is_root.result c.has_entries-has_entries.result c.is_root.ensures c.has_entries-has_entries.ensures c.node-node.result c.node-node.ensures c.end_refusal.result c.end_refusal.ensures ∙ c.in_default.is;
+          path = c.requires.path;
+          met = c.in-Ok.ensures.found ∙ ap (λ (n : NamesPart). found_at n.tree.dirs c.args.path.now) c.self.view_is;
+          table = subst IsNameTable (ap (λ (n : NamesPart). n.tree) c.self.view_is) c.in-Ok.ensures.table;
+        },
+      ),
+    )
 
 pub change_found-requires-clause-allowed : goal.change_found-requires-clause-allowed
 change_found-requires-clause-allowed c =
     let a = c.requires.asked in
     let t = a.0 in
     let asked = a.1 in
-    let own = a.2 in
-    (t, record {
-      all = asked;
-      allowed = refused_by_look c.args.self.now t asked.part c.args.ask.now.client c.args.ask.now.op c.args.path.now own c.requires.path c.self.inside.tree (ap (λ (n : NamesPart). n.tree) c.self.view_is) c.in-Ok.ensures.table c.in-Ok.ensures.passed c.in-Ok.look.found c.in-Ok.ensures.found c.is_root.result c.has_entries-has_entries.result c.is_root.ensures c.has_entries-has_entries.ensures c.node-node.result c.node-node.ensures c.end_refusal.result c.end_refusal.ensures ∙ c.in_default.is;
-      path = c.requires.path;
-      met = c.in-Ok.ensures.found ∙ ap (λ (n : NamesPart). found_at n.tree.dirs c.args.path.now) c.self.view_is;
-      table = subst IsNameTable (ap (λ (n : NamesPart). n.tree) c.self.view_is) c.in-Ok.ensures.table;
-    })
+    let own = a.2 in (
+      t,
+      record {
+        all = asked;
+        allowed = refused_by_look c.args.self.now t asked.part c.args.ask.now.client c.args.ask.now.op c.args.path.now own c.requires.path c.self.inside.tree (ap (λ (n : NamesPart). n.tree) c.self.view_is) c.in-Ok.ensures.table c.in-Ok.ensures.passed c.in-Ok.look.found c.in-Ok.ensures.found c.is_root.result c.has_entries-has_entries.result c.is_root.ensures c.has_entries-has_entries.ensures c.node-node.result c.node-node.ensures c.end_refusal.result c.end_refusal.ensures ∙ c.in_default.is;
+        path = c.requires.path;
+        met = c.in-Ok.ensures.found ∙ ap (λ (n : NamesPart). found_at n.tree.dirs c.args.path.now) c.self.view_is;
+        table = subst IsNameTable (ap (λ (n : NamesPart). n.tree) c.self.view_is) c.in-Ok.ensures.table;
+      },
+    )
 
-on_err : {T E P : Type 0} (r : Result T E) → P → OnErr r P
-on_err (Ok x) p = tt
-on_err (Err e) p = p
-
-pub returns-in_err-desc-clause-due : goal.returns-in_err-desc-clause-due
-returns-in_err-desc-clause-due c = on_err c.from_residual.result (λ t asked own. refused_by_look c.args.self.now t asked.part c.args.ask.now.client c.args.ask.now.op c.args.path.now own c.requires.path c.self.inside.tree (ap (λ (n : NamesPart). n.tree) c.self.view_is) c.in-Ok.ensures.table c.in-Ok.ensures.passed c.in-Ok.look.found c.in-Ok.ensures.found c.is_root.result c.has_entries-has_entries.result c.is_root.ensures c.has_entries-has_entries.ensures c.node-node.result c.node-node.ensures c.end_refusal.result c.end_refusal.ensures ∙ c.in_default.is)
-
-pub returns-clause-ok : goal.returns-clause-ok
-returns-clause-ok c t asked own =
+pub returns-in-Err-change_found-clause-fits : goal.returns-in-Err-change_found-clause-fits
+returns-in-Err-change_found-clause-fits c t asked own =
     let is : IsAllowed t c.args.ask.now c.args.self.now c.args.files.now c.args.path.now c.in-Ok.look.found = record {
       all = asked;
       allowed = refused_by_look c.args.self.now t asked.part c.args.ask.now.client c.args.ask.now.op c.args.path.now own c.requires.path c.self.inside.tree (ap (λ (n : NamesPart). n.tree) c.self.view_is) c.in-Ok.ensures.table c.in-Ok.ensures.passed c.in-Ok.look.found c.in-Ok.ensures.found c.is_root.result c.has_entries-has_entries.result c.is_root.ensures c.has_entries-has_entries.ensures c.node-node.result c.node-node.ensures c.end_refusal.result c.end_refusal.ensures ∙ c.in_default.is;
@@ -70,4 +67,15 @@ returns-clause-ok c t asked own =
       met = c.in-Ok.ensures.found ∙ ap (λ (n : NamesPart). found_at n.tree.dirs c.args.path.now) c.self.view_is;
       table = subst IsNameTable (ap (λ (n : NamesPart). n.tree) c.self.view_is) c.in-Ok.ensures.table;
     } in
-    subst (λ (r : Reply). IsServed t c.args.ask.now c.change_found.new.self c.args.files.now c.change_found.new.files r c.in_ok-desc.desc) (sym (c.in-Ok-answer_found.ensures t c.args.path.now is)) (c.in_ok-desc.ensures.ok t is)
+    c.in-Err-change_found.ensures.fits t is
+
+pub returns-in-Ok-change_found-clause-ok : goal.returns-in-Ok-change_found-clause-ok
+returns-in-Ok-change_found-clause-ok c t asked own =
+    let is : IsAllowed t c.args.ask.now c.args.self.now c.args.files.now c.args.path.now c.in-Ok.look.found = record {
+      all = asked;
+      allowed = refused_by_look c.args.self.now t asked.part c.args.ask.now.client c.args.ask.now.op c.args.path.now own c.requires.path c.self.inside.tree (ap (λ (n : NamesPart). n.tree) c.self.view_is) c.in-Ok.ensures.table c.in-Ok.ensures.passed c.in-Ok.look.found c.in-Ok.ensures.found c.is_root.result c.has_entries-has_entries.result c.is_root.ensures c.has_entries-has_entries.ensures c.node-node.result c.node-node.ensures c.end_refusal.result c.end_refusal.ensures ∙ c.in_default.is;
+      path = c.requires.path;
+      met = c.in-Ok.ensures.found ∙ ap (λ (n : NamesPart). found_at n.tree.dirs c.args.path.now) c.self.view_is;
+      table = subst IsNameTable (ap (λ (n : NamesPart). n.tree) c.self.view_is) c.in-Ok.ensures.table;
+    } in
+    subst (λ (r : Reply). IsServed t c.args.ask.now c.change_found.new.self c.args.files.now c.change_found.new.files r c.in-Ok-change_found.desc) (sym (c.in-Ok-answer_found.ensures t c.args.path.now is)) (c.in-Ok-change_found.ensures.ok t is)

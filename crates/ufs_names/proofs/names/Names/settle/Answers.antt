@@ -1,7 +1,7 @@
-use Rattle.std.proofs.Common.{◌≡◌, ap, refl, sym, subst, ◌∙◌}
+use Rattle.std.proofs.Common.{ap, refl, sym, subst, ◌∙◌}
 use Rattle.std.specs.FinMap as map
 use Rattle.ufs_dir_tree.specs.DirTable.{DirTable, blocks_at}
-use Rattle.ufs_names.specs.NamesPart.{NamesPart, Holdings}
+use Rattle.ufs_names.specs.NamesPart.{NamesPart}
 use Rattle.ufs_names.specs.Space.{AreApart}
 use Rattle.ufs_names.proofs.KeepsSpaceLemmas.{goes_apart, keeps_gone, keeps_known}
 use Rattle.ufs_names.proofs.names.Names.settle.Goals as goal
