@@ -50,11 +50,11 @@ below_marked [] c e = cc
 below_marked (b ∷ clients) zero e = omega arith
 below_marked (b ∷ clients) (suc c) e = let rest = below_marked clients c e in omega (arith, rest)
 
-closed_not : (b : Bool) → not b ≡ true → b ≡ false
+pub closed_not : (b : Bool) → not b ≡ true → b ≡ false
 closed_not true e = cc
 closed_not false e = refl
 
-open_not : (b : Bool) → not b ≡ false → b ≡ true
+pub open_not : (b : Bool) → not b ≡ false → b ≡ true
 open_not true e = refl
 open_not false e = cc
 

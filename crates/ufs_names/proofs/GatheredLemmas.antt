@@ -26,7 +26,7 @@ reached_here t ask fs gathered own request of f at has =
     (subst (λ (r : Op). touched.IsPartOf (reached t ask.client r) (name.File f)) (sym of) at))) has
 
 -- what is live is told by paths and descriptors, which stay
-forget_live : (v : PosixTree) (g f : ℕ) → is_live (forget v (Some g)).paths (forget v (Some g)).fds f ≡ is_live v.paths v.fds f
+pub forget_live : (v : PosixTree) (g f : ℕ) → is_live (forget v (Some g)).paths (forget v (Some g)).fds f ≡ is_live v.paths v.fds f
 forget_live v g f = by (is_live v.paths v.fds g)
   where
     by : (b : Bool) → is_live (cond {A = PosixTree} b v (record v { bytes = map.remove v.bytes g })).paths (cond {A = PosixTree} b v (record v { bytes = map.remove v.bytes g })).fds f ≡ is_live v.paths v.fds f

@@ -14,6 +14,7 @@ pub mod HolderLemmas
 pub mod KeepsSpaceLemmas
 pub mod LinkLemmas
 pub mod NameLists
+pub mod NeedsLemmas
 pub mod OnceLemmas
 pub mod OpenPartLemmas
 pub mod PartFacts

@@ -56,7 +56,7 @@ last_false true false c p q e = cc
 last_false false b c p q e = cc
 
 -- the file that stood at the new name has no name any more
-renamed_unnamed : (n : NamesPart) (t : PosixTree) → IsPartOf n t → (from to : List (List ℕ)) → IsRenamed t.paths from to → (whole_path from ≡ whole_path to → ⊥) → (f : ℕ) → file_of (map.get t.paths (whole_path to)) ≡ Some f
+pub renamed_unnamed : (n : NamesPart) (t : PosixTree) → IsPartOf n t → (from to : List (List ℕ)) → IsRenamed t.paths from to → (whole_path from ≡ whole_path to → ⊥) → (f : ℕ) → file_of (map.get t.paths (whole_path to)) ≡ Some f
     → is_named (renamed t.paths (whole_path from) (whole_path to)) f ≡ false
 renamed_unnamed n t part [] to is other h stood = let some = is.old_some in cc
 renamed_unnamed n t part (f ∷ fs) [] is other h stood = let some = is.new_some in cc

@@ -5,3 +5,4 @@ pub mod PathCalls
 pub mod Space
 pub mod Steps
 pub mod Laws
+pub mod Needs

@@ -10,7 +10,7 @@ use std::marker::Model;
 /// Who holds each live file.
 #[derive(Drop)]
 pub struct HoldMap {
-    entries: BTreeMap<u32, Holding>,
+    pub(crate) entries: BTreeMap<u32, Holding>,
 }
 
 impl Model for HoldMap {

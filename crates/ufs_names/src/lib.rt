@@ -2,14 +2,17 @@
 #![tactic(auto)]
 
 mod closing;
+mod file_list;
 mod hold_map;
 mod holding;
 mod keep;
 mod laws;
 mod names;
+mod needs;
 mod opening;
 mod path_calls;
 mod renaming;
 
+pub use file_list::FileList;
 pub use laws::a_file_request_keeps_the_names;
 pub use names::Names;

@@ -228,7 +228,12 @@ impl Names {
 }
 
 /// By what stands at the end of the path.
-fn end_refusal(op: &Op, is_root: bool, node: Option<Node>, has_entries: bool) -> Option<Errno>
+pub(crate) fn end_refusal(
+    op: &Op,
+    is_root: bool,
+    node: Option<Node>,
+    has_entries: bool,
+) -> Option<Errno>
     ensures { result ≡ calls.end_refusal is_root node has_entries op.now }
 {
     match op {

@@ -11,9 +11,9 @@ use ufs_path::PathText;
 
 /// What was met at an old name and at a new one.
 #[derive(Clone, Copy)]
-struct Move {
-    from: Look,
-    to: Look,
+pub(crate) struct Move {
+    pub from: Look,
+    pub to: Look,
 }
 
 impl Names {
@@ -72,7 +72,7 @@ impl Names {
     }
 
     /// What was met at the two names, or why the old one may not become the new one.
-    fn rename_refusal(&self, from: &PathText, to: &PathText) -> Result<Move, Errno>
+    pub(crate) fn rename_refusal(&self, from: &PathText, to: &PathText) -> Result<Move, Errno>
         ensures refused { IfErr result (λ e. RefusesRename self.now from.now to.now (Some e)) }
         ensures passed { IfOk result (λ m. RefusesRename self.now from.now to.now None) }
         ensures from_dir { IfOk result (λ m. found_at self.now.tree.dirs (names_above from.now) ≡ Some (met.Dir m.from.dir)) }
