@@ -1,9 +1,10 @@
 -- Images of a disk's state, and of its cells.
-use Rattle.std.proofs.Common.{◌≡◌, ◌⊎◌, ℕ, zero, suc, ◌+◌, ◌<◌, ◌≤◌, inl, inr, ⊎_elim, Bool, true, false, [], length, map, Some, unwrap_or, ap, sym, refl, ◌∙◌, subst, arith}
+use Rattle.std.proofs.Common.{List, ◌∷◌, None, ◌≡◌, ◌⊎◌, ℕ, zero, suc, ◌+◌, ◌<◌, ◌≤◌, inl, inr, ⊎_elim, Bool, true, false, [], length, map, Some, unwrap_or, ap, sym, refl, ◌∙◌, subst, arith}
 use Rattle.std.specs.Prelude.{Ok, nat_lt, if◌then◌else◌, slice_get}
 use Rattle.std.specs.List.{range_with_len}
 use Rattle.std.proofs.lemmas.Bool.Decides.{nat_tests}
 use Rattle.std.proofs.lemmas.Option.{slice_get_past}
+use native.Mathlib.Decide.{dec_le}
 use Rattle.ufs_base.specs.Images.{Image}
 use Rattle.ufs_disk.specs.Disk.{Cell, State, IsAmong, IsImage, possible, seen}
 use Rattle.ufs_disk.proofs.Images.{seen_is_image}
@@ -26,6 +27,23 @@ length_range f (suc n) from = let i = length_range f n (from + 1) in omega (arit
 
 pub cells_are_there : (sectors : ℕ) (state : State) → AreCellsOf sectors state (cells_of sectors state)
 cells_are_there sectors state = record { size = length_range state sectors 0; each = λ sector low. get_range state sectors 0 sector low ∙ ap (λ k. Some (state k)) (let e : 0 + sector ≡ sector = omega arith in e) }
+
+same_list : {X : Type 0} (xs ys : List X) → ((i : ℕ) → slice_get xs i ≡ slice_get ys i) → xs ≡ ys
+same_list [] [] same = refl
+same_list [] (y ∷ ys) same = let e : None ≡ Some y = same 0 in cc
+same_list (x ∷ xs) [] same = let e : Some x ≡ None = same 0 in cc
+same_list (x ∷ xs) (y ∷ ys) same = let e : Some x ≡ Some y = same 0 in let first : x ≡ y = cc in let rest = same_list xs ys (λ i. same (suc i)) in λ j. first j ∷ rest j
+
+-- those are the only ones
+pub only_cells : (sectors : ℕ) (state : State) (cells : Cells) → AreCellsOf sectors state cells → cells_of sectors state ≡ cells
+only_cells sectors state cells are = same_list (cells_of sectors state) cells (λ i. at i (dec_le (i + 1) sectors))
+  where
+    there : AreCellsOf sectors state (cells_of sectors state)
+    there = cells_are_there sectors state
+
+    at : (i : ℕ) → Dec (i + 1 ≤ sectors) → slice_get (cells_of sectors state) i ≡ slice_get cells i
+    at i (yes l) = there.each i (omega arith) ∙ sym (are.each i (omega arith))
+    at i (no l) = slice_get_past (cells_of sectors state) i (let z = there.size in omega arith) ∙ sym (slice_get_past cells i (let z = are.size in omega arith))
 
 module _ (sectors : ℕ) (state : State) (cells : Cells) (are : AreCellsOf sectors state cells) where
   pub cell_within : (s : ℕ) → s < sectors → state_of cells s ≡ state s

@@ -1,5 +1,5 @@
 -- A commit, by the trees of what a crash leaves: each image is left by the stand of before, or by the one with the transaction.
-use Rattle.std.proofs.Common.{◌≡◌, ◌⊎◌, inl, inr, ⊎_elim, ℕ, ◌<◌, List, subst}
+use Rattle.std.proofs.Common.{◌≡◌, ◌⊎◌, inl, inr, ⊎_elim, ℕ, ◌<◌, subst}
 use Rattle.ufs_base.specs.Images.{Image}
 use Rattle.ufs_disk.specs.Disk.{Cell, State, IsImage, Leaves}
 use Rattle.ufs_layout.specs.Superblock.{geometry_of}
@@ -28,14 +28,16 @@ module _ (g : Geometry) (sectors : ℕ) (old new : State) (l : Ledger) (n : Numb
     → ImageGoes sectors Goes before image) where
   by_now : (image : Image) → IsImage new image → (blocks : ℕ → Cell) → IsLeft sectors l.head blocks l.now image → (before : Image) × IsImage old before × ((opens sectors image ≡ opens sectors before) ⊎ ImageGoes sectors Goes before image)
   by_now image at blocks left =
-      let k = data' image at in
-      (k.before, k.left, inl (one_tree_of sectors image k.before l.now l.now n n paths (shows_files g sectors l.head blocks l.now image left is.geometry n paths is.files) (was_shown g sectors old l n paths one is k.before k.left)
-      (same_files g sectors old l n paths one is image k)))
+      let k = data' image at in (
+        k.before,
+        k.left,
+        inl (one_tree_of sectors image k.before l.now l.now n n paths (shows_files g sectors l.head blocks l.now image left is.geometry n paths is.files) (was_shown g sectors old l n paths one is k.before k.left)
+            (same_files g sectors old l n paths one is image k)),
+      )
 
   by_after : (image : Image) → IsImage new image → IsLeft sectors l.head (settled l).blocks (with_one (geometry_of l.head) t l.now) image → (before : Image) × IsImage old before × ImageGoes sectors Goes before image
   by_after image at left =
-      let k = data' image at in
-      (
+      let k = data' image at in (
         k.before,
         k.left,
         goes image (subst (λ g. IsLeft sectors l.head (settled l).blocks (with_one g t l.now) image) is.geometry left) k.before (was_shown g sectors old l n paths one is k.before k.left) (same_files g sectors old l n paths one is image k),

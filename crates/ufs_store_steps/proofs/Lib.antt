@@ -8,3 +8,4 @@ pub mod FileSteps
 pub mod NameSteps
 pub mod WriteSteps
 pub mod Runs
+pub mod Marks

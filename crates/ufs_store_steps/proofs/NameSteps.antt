@@ -1,36 +1,29 @@
 -- A commit of names, by the trees of what a crash leaves.
-use Rattle.std.proofs.Common.{◌≡◌, ◌⊎◌, inl, inr, ⊎_elim, ℕ, ◌<◌, List, [], take, Bool, true, false, Option, Some, None, ap, sym, refl, ◌∙◌, subst}
+use Rattle.std.proofs.Common.{◌≡◌, ◌⊎◌, inl, inr, ℕ, List, [], take, Bool, true, false, Option, Some, None, ap, sym, refl, ◌∙◌, subst}
 use Rattle.std.specs.Prelude.{flat_map}
 use Rattle.std.specs.Option.{option_map}
 use Rattle.std.specs.FinMap as map
 use Rattle.ufs_base.specs.Images.{Image}
-use Rattle.ufs_disk.specs.Disk.{Cell, State, IsImage, Leaves}
 use Rattle.ufs_layout.specs.Superblock.{geometry_of}
 use Rattle.ufs_layout.specs.declared.geometry.Geometry.{Geometry}
 use Rattle.ufs_layout.specs.declared.records.Committed.{Committed}
 use Rattle.ufs_image.specs.Images.{block_at}
-use Rattle.ufs_image.specs.Opens.{opens}
 use Rattle.ufs_model.specs.PosixTree.{Paths}
 use Rattle.ufs_model.specs.declared.data.Node.{Node}
 use Rattle.ufs_model.specs.declared.data.Node.TheVariants.{Dir, File}
 use Rattle.ufs_prefix.specs.Explained.{IsNodeWith}
-use Rattle.ufs_ledger.specs.Ledger.{with_one, Ledger, IsLeft, IsLeftBy}
-use Rattle.ufs_ledger.specs.Changes.{committing, settled}
-use Rattle.ufs_ledger.specs.Data.{KeepsData}
+use Rattle.ufs_ledger.specs.Ledger.{with_one, Ledger, IsLeft}
+use Rattle.ufs_ledger.specs.Changes.{settled}
 use Rattle.ufs_ledger.specs.Kept.{Numbers, Shape, shape_of}
 use Rattle.ufs_ledger.proofs.Shapes.{content_of}
-use Rattle.ufs_ledger.proofs.States.{on_one}
-use Rattle.ufs_sound.specs.Parts.{Cells}
 use Rattle.ufs_sound.specs.Shown.{node_of, nodes_of}
 use Rattle.ufs_sound.specs.Commits.{IsKeptFile, IsCommittedFile, AreNamesCommitted}
-use Rattle.ufs_store_steps.specs.Cells.{AreCellsOf}
 use Rattle.ufs_store_steps.specs.Files.{IsKeptShape, CommitsPaths}
-use Rattle.ufs_store_steps.specs.Steps.{IsBefore, NameCommitsMayGo, NameCommitsGo}
-use Rattle.ufs_store_steps.proofs.Within.{left_within}
-use Rattle.ufs_store_steps.proofs.Cells.{ImageGoes, cells_go, cells_may_go}
+use Rattle.ufs_store_steps.specs.Steps.{NameCommitsMayGo, NameCommitsGo}
+use Rattle.ufs_store_steps.proofs.Cells.{ImageGoes}
 use Rattle.ufs_store_steps.proofs.CommitSteps.{commit_may_go, commit_goes}
-use Rattle.ufs_store_steps.proofs.Shows.{shown_node, file_content, ShowsFiles, nodes_at, shows_files, one_tree_of}
-use Rattle.ufs_store_steps.proofs.Stands.{was_within, was_shown, same_files, committing_left, committed_left, goes_by}
+use Rattle.ufs_store_steps.proofs.Shows.{shown_node, file_content, ShowsFiles, nodes_at, shows_files}
+use Rattle.ufs_store_steps.proofs.Stands.{goes_by}
 
 -- ---- trees
 

@@ -2,3 +2,4 @@ pub mod Cells
 pub mod Files
 pub mod Steps
 pub mod Runs
+pub mod Marks

@@ -1,9 +1,11 @@
 // What the store's calls leave, by the ledger, is what marks of the sound state ask for: each law is the contract of a
 // function that does nothing.
+ghost use Rattle.ufs_store_steps.specs.Marks.{CheckpointsMark, FailedFileCommitsMark, FileCommitsMark};
 ghost use Rattle.ufs_store_steps.specs.Runs.{CheckpointRuns, FileCommitRuns, LastIsPassed, NameCommitRuns, QuietRuns, WriteRuns};
 ghost use Rattle.ufs_store_steps.specs.Steps.{BlocksRead, CellsAreThere, CheckpointsOpenAlike, EmptiedOpensAlike, FileCommitsGo, FileCommitsMayGo, FilesCommitBytes, NameCommitsGo, NameCommitsMayGo, QuietCallsOpenAlike, StoredHasFiles, WritesGo};
 
 use ufs_layout::Geometry;
+use ufs_sound::images_show_trees;
 
 /// A disk's state as the sound state has it, and which files it has.
 pub fn cell_law(geometry: &Geometry)
@@ -57,4 +59,15 @@ pub fn run_step_law(geometry: &Geometry)
     ensures names { NameCommitRuns geometry.now }
 {
     let _geometry = geometry;
+}
+
+/// Whole marks: of a commit of a file that passed, of one that failed, and of a checkpoint, by the ledger's clauses and what a
+/// store knows of its own parts.
+pub fn mark_law(geometry: &Geometry)
+    ensures commit { FileCommitsMark geometry.now }
+    ensures failed { FailedFileCommitsMark geometry.now }
+    ensures checkpoint { CheckpointsMark geometry.now }
+{
+    let _geometry = geometry;
+    images_show_trees();
 }
