@@ -30,7 +30,7 @@ const HEAD: Super = Super {
 };
 
 /// A store on this disk.
-pub fn mounted<D: Disk>(alloc: Global, disk: D) -> Option<Store<D>>
+pub fn mounted<D: Disk + Drop>(alloc: Global, disk: D) -> Option<Store<D>>
     ensures { IfSome result (λ s. geometry_of_store (⟦<Store<D> as Door>⟧.store s) ≡ small) }
 {
     if disk.sectors() < SECTORS {
