@@ -1,5 +1,5 @@
 -- Images that are the same from the inode table on say the same.
-use Rattle.std.proofs.Common.{◌≡◌, ℕ, ◌+◌, ◌-◌, ◌*◌, ◌<◌, ◌≤◌, ◌⊎◌, inl, inr, List, map, Bool, Option, Some, unwrap_or, ap, sym, refl, ◌∙◌, subst, arith}
+use Rattle.std.proofs.Common.{◌≡◌, ℕ, ◌*◌, ◌≤◌, inl, List, map, Option, unwrap_or, ap, sym, ◌∙◌, arith}
 use Rattle.std.specs.Prelude.{not, ◌&&◌}
 use Rattle.std.specs.List.{list_any, filter_map, slice_get}
 use Rattle.ufs_base.specs.Choices.{some_if}
@@ -8,7 +8,7 @@ use Rattle.ufs_layout.specs.Areas.{first_of_inodes, first_of_data, sector_of_ino
 use Rattle.ufs_layout.specs.DentryForm.{free_slot}
 use Rattle.ufs_layout.specs.InodeForm.{InodeForm, inode_of, free_inode, is_used}
 use Rattle.ufs_layout.specs.declared.geometry.Geometry.{Geometry}
-use Rattle.ufs_image.specs.Catalog.{IsInode, HasBlock, catalog_at}
+use Rattle.ufs_image.specs.Catalog.{HasBlock, catalog_at}
 use Rattle.ufs_image.specs.Images.{inode_at, form_at}
 use Rattle.ufs_image.specs.Nodes.{blocks_of, is_bad_form, leaves_data, sound_nodes}
 use Rattle.ufs_image.specs.Sound.{IsSoundCatalog}

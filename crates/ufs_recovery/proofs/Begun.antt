@@ -1,22 +1,15 @@
 -- What is committed is home: the next epoch may begin.
-use Rattle.std.proofs.Common.{◌≡◌, ◌≢◌, ℕ, ◌+◌, ◌*◌, ◌/◌, ◌<◌, ◌≤◌, inl, inr, List, Bool, true, ap, sym, refl, ◌∙◌, subst, arith}
-use Rattle.std.specs.Prelude.{IsTrue}
+use Rattle.std.proofs.Common.{◌≡◌, ◌≢◌, ℕ, ◌+◌, ◌*◌, ◌/◌, ◌<◌, ◌≤◌, inr, List, Bool, true, ap, sym, refl, ◌∙◌, subst, arith}
 use Rattle.ufs_base.specs.Images.{Image}
-use Rattle.ufs_disk.specs.Disk.{IsSettled}
-use Rattle.ufs_disk.specs.Moments.{Moments, reads}
-use Rattle.ufs_disk.proofs.Images.{seen_is_image}
-use Rattle.ufs_layout.specs.Areas.{bitmap_blocks, first_of_inodes, IsGeometry}
+use Rattle.ufs_layout.specs.Areas.{bitmap_blocks, first_of_inodes}
 use Rattle.ufs_layout.specs.InodeForm.{InodeForm}
 use Rattle.ufs_layout.specs.Superblock.{geometry_of}
 use Rattle.ufs_layout.specs.declared.geometry.Geometry.{Geometry}
 use Rattle.ufs_layout.specs.declared.superblock.Super.{Super}
-use Rattle.ufs_damage.specs.Taken.{AreTaken}
-use Rattle.ufs_image.specs.Agree.{IsOfJournal}
 use Rattle.ufs_image.specs.Catalog.{catalog_at}
 use Rattle.ufs_image.specs.Damage.{is_marked}
-use Rattle.ufs_image.specs.Images.{form_at}
 use Rattle.ufs_image.specs.Journal.{committed, epoch_in}
-use Rattle.ufs_image.specs.Nodes.{sound_nodes, is_taken}
+use Rattle.ufs_image.specs.Nodes.{is_taken}
 use Rattle.ufs_image.specs.Opens.{opens}
 use Rattle.ufs_image.specs.Volume.{Volume}
 use Rattle.ufs_overlay.specs.declared.overlay.Overlay.{Overlay}
@@ -24,7 +17,6 @@ use Rattle.ufs_recovery.specs.Home.{IsAtHome, IsOver, IsBroughtHome, MayFollow, 
 use Rattle.ufs_recovery.specs.Marks.{AgreeOffBitmap, IsMarkedBelow}
 use Rattle.ufs_recovery.proofs.Alike.{form_alike, nodes_alike}
 use Rattle.ufs_recovery.proofs.Closing.{bitmap_home, closed_proper}
-use Rattle.ufs_recovery.proofs.Home.{is_geometry}
 use Rattle.ufs_recovery.proofs.Homing.{journal_unfolded, volume_image}
 
 pub brought : (sectors : ℕ) (image home : Image) (v : Volume) (overlay : Overlay) (new : Super) → IsOver sectors image v overlay → MayFollow image v new → ((sector : ℕ) → home sector ≡ v.image sector) → opens sectors home ≡ opens sectors image

@@ -1,7 +1,6 @@
 -- A block of the bitmap is written.
-use Rattle.std.proofs.Common.{◌≡◌, ◌≢◌, ℕ, ◌+◌, ◌-◌, ◌*◌, ◌/◌, ◌%◌, ◌^◌, ◌<◌, ◌≤◌, ◌⊎◌, inl, inr, List, length, take, drop, get_or, Bool, true, false, cond, ap, sym, refl, ◌∙◌, subst, arith}
+use Rattle.std.proofs.Common.{◌≡◌, ℕ, ◌+◌, ◌-◌, ◌*◌, ◌/◌, ◌%◌, ◌^◌, ◌<◌, ◌≤◌, ◌⊎◌, inl, inr, List, length, take, drop, get_or, Bool, true, false, ap, refl, ◌∙◌, arith}
 use Rattle.std.specs.Prelude.{◌==◌, if◌then◌else◌}
-use Rattle.std.specs.Int.{bit_at}
 use Rattle.std.proofs.lemmas.Bool.{cases_lt}
 use Rattle.std.proofs.lemmas.List.{get_or-take, get_or-drop}
 use Rattle.ufs_base.specs.Images.{Image}
@@ -11,7 +10,7 @@ use Rattle.ufs_disk.proofs.Flat.{length-pieces, pieces_at}
 use Rattle.ufs_disk.proofs.Images.{put_all_below, put_all_above, put_all_within}
 use Rattle.ufs_disk.proofs.Runs.{goes_on}
 use Rattle.ufs_image.specs.Damage.{is_marked}
-use Rattle.ufs_layout.specs.Areas.{first_of_inodes, bitmap_blocks}
+use Rattle.ufs_layout.specs.Areas.{bitmap_blocks}
 use Rattle.ufs_layout.specs.declared.geometry.Geometry.{Geometry}
 use Rattle.ufs_recovery.specs.Marks.{bit_of, HasBits, IsMarkedBelow, IsOffBitmap, AgreeOffBitmap, HasAnyBitmap}
 

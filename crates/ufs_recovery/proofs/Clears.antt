@@ -1,10 +1,9 @@
 -- An image in which inodes that no walk meets are cleared.
-use Rattle.std.proofs.Common.{◌≡◌, ◌≢◌, ℕ, zero, suc, ◌+◌, ◌-◌, ◌*◌, ◌<◌, ◌≤◌, ◌⊎◌, inl, inr, List, [], ◌∷◌, length, get_or, map, Bool, true, false, Option, Some, None, unwrap_or, ap, sym, refl, ◌∙◌, subst, arith}
-use Rattle.std.specs.Prelude.{flat_map, ◌==◌, if◌then◌else◌}
+use Rattle.std.proofs.Common.{◌≡◌, ℕ, zero, suc, ◌+◌, ◌-◌, ◌*◌, ◌<◌, ◌≤◌, ◌⊎◌, inl, inr, List, [], ◌∷◌, length, map, Option, Some, None, unwrap_or, ap, sym, ◌∙◌, subst, arith}
+use Rattle.std.specs.Prelude.{flat_map}
 use Rattle.std.specs.List.{slice_get, range_with_len}
-use Rattle.std.proofs.lemmas.Bool.{eqb-true}
 use Rattle.ufs_base.specs.Images.{Image}
-use Rattle.ufs_layout.specs.Areas.{IsGeometry, sector_of_inode, first_of_inodes, first_of_journal, first_of_data}
+use Rattle.ufs_layout.specs.Areas.{sector_of_inode, first_of_inodes, first_of_journal, first_of_data}
 use Rattle.ufs_layout.specs.InodeForm.{InodeForm, inode_of, free_inode}
 use Rattle.ufs_layout.specs.DentryForm.{DentryForm, free_slot}
 use Rattle.ufs_layout.specs.Superblock.{geometry_of}
@@ -12,24 +11,22 @@ use Rattle.ufs_layout.specs.declared.geometry.Geometry.{Geometry}
 use Rattle.ufs_layout.specs.declared.inode.Extent.{Extent}
 use Rattle.ufs_layout.specs.declared.superblock.Super.{Super}
 use Rattle.ufs_image.specs.Agree.{IsOfBlock, IsOfJournal}
-use Rattle.ufs_image.specs.Catalog.{Catalog, IsInode, HasBlock, IsCatalogOf, catalog_at, slots_in}
-use Rattle.ufs_image.specs.Changes.{IsReached, IsUnreached}
+use Rattle.ufs_image.specs.Catalog.{Catalog, IsInode, HasBlock, IsCatalogOf, catalog_at}
+use Rattle.ufs_image.specs.Changes.{IsUnreached}
 use Rattle.ufs_image.specs.Images.{inode_at, form_at}
 use Rattle.ufs_image.specs.Nodes.{blocks_of, read_block}
 use Rattle.ufs_image.specs.Opens.{opens}
 use Rattle.ufs_image.specs.Sound.{IsSoundCatalog, HasDentry}
-use Rattle.ufs_image.specs.Standing.{IsVolumeOf}
-use Rattle.ufs_image.specs.Volume.{Volume}
 use Rattle.ufs_image.specs.Walks.{inode_of as met_by, node_of}
 use Rattle.ufs_image.proofs.Blocks.{read_same}
 use Rattle.ufs_image.proofs.Depth.{root_in_range}
 use Rattle.ufs_image.proofs.Found.{reached}
 use Rattle.ufs_image.proofs.OneTree.{alike_tree, node_same}
-use Rattle.ufs_recovery.specs.Cleared.{cleared, sector_at, Numbers, IsClearedAt, IsMixedCleared, AreClearedBelow}
+use Rattle.ufs_recovery.specs.Cleared.{cleared, Numbers, IsClearedAt, IsMixedCleared}
 use Rattle.ufs_recovery.specs.Home.{IsAtHome}
 use Rattle.ufs_recovery.specs.Orphans.{AreUnreached}
 use Rattle.ufs_recovery.proofs.Home.{is_geometry, stays_home, block_low}
-use Rattle.ufs_recovery.proofs.Pruned.{HasNoBlocks, Prunes, no_slots, reached_same, pruned_sound, pruned_walks, had_block}
+use Rattle.ufs_recovery.proofs.Pruned.{HasNoBlocks, Prunes, reached_same, pruned_sound, pruned_walks, had_block}
 
 pub get_short : {X : Type 0} (xs : List X) (p : ℕ) (x : X) → slice_get xs p ≡ Some x → p < length xs
 get_short [] p x is = let no = is in cc
@@ -96,8 +93,10 @@ module _ (sectors : ℕ) (head : Super) (image : Image) (home : IsAtHome sectors
       by (inl e) = inl (ap (λ o. unwrap_or o (free_inode 0)) e)
       by (inr cl) =
           let form : form_at (geometry_of head) mix k ≡ cleared kind cl.0 = ap (λ o. unwrap_or o (free_inode 0)) cl.2 in
-          inr (subst (IsUnreached (catalog_at (geometry_of head) image)) (one_up k ranged) (unreached (k - 1) cl.0 cl.1).0,
-          record { extents = ap (λ (f : InodeForm). f.extents) form; size = ap (λ (f : InodeForm). f.size) form })
+          inr (
+            subst (IsUnreached (catalog_at (geometry_of head) image)) (one_up k ranged) (unreached (k - 1) cl.0 cl.1).0,
+            record { extents = ap (λ (f : InodeForm). f.extents) form; size = ap (λ (f : InodeForm). f.size) form },
+          )
 
   -- Each keeps its commit number.
   pub each_number : (k : ℕ) → IsInode (geometry_of head) k → (form_at (geometry_of head) mix k).number ≡ (form_at (geometry_of head) image k).number

@@ -1,16 +1,12 @@
 -- The bitmap is written, and the image is marked clean.
-use Rattle.std.proofs.Common.{◌≡◌, ◌≢◌, ℕ, ◌+◌, ◌*◌, ◌/◌, ◌<◌, ◌≤◌, ◌⊎◌, inl, inr, List, get_or, Bool, true, false, ap, sym, refl, ◌∙◌, subst, arith}
-use Rattle.std.specs.Prelude.{IsTrue, ◌==◌, ◌%◌, ◌^◌}
+use Rattle.std.proofs.Common.{◌≡◌, ℕ, ◌*◌, ◌<◌, inl, inr, List, Bool, sym, refl, ◌∙◌, subst, arith}
 use Rattle.ufs_base.specs.Images.{Image}
 use Rattle.ufs_disk.specs.Disk.{State, IsSettled, seen}
-use Rattle.ufs_layout.specs.Areas.{first_of_inodes, first_of_journal, bitmap_blocks, sector_of_inode}
+use Rattle.ufs_layout.specs.Areas.{bitmap_blocks, sector_of_inode}
 use Rattle.ufs_layout.specs.Superblock.{geometry_of}
 use Rattle.ufs_layout.specs.declared.superblock.Super.{Super}
 use Rattle.ufs_damage.specs.Taken.{AreTaken}
-use Rattle.ufs_image.specs.Agree.{IsOfJournal}
 use Rattle.ufs_image.specs.Catalog.{IsInode, IsCatalogOf, catalog_at}
-use Rattle.ufs_image.specs.Changes.{IsTakenBlock}
-use Rattle.ufs_image.specs.Damage.{is_marked}
 use Rattle.ufs_image.specs.Images.{form_at}
 use Rattle.ufs_image.specs.Nodes.{sound_nodes}
 use Rattle.ufs_image.specs.Opens.{opens}

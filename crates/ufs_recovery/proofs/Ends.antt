@@ -1,6 +1,6 @@
 -- What a recovery begins with and how it ends.
-use Rattle.std.proofs.Common.{◌≡◌, ◌≢◌, ℕ, ◌+◌, ◌*◌, ◌<◌, ◌≤◌, inl, inr, List, [], ◌∷◌, length, Bool, true, false, None, Some, ap, sym, refl, ◌∙◌, subst, arith}
-use Rattle.std.specs.Prelude.{IsTrue, ◌==◌, ◌&&◌, not, nat_lt, MatchResult, Result, Ok, Err}
+use Rattle.std.proofs.Common.{◌≡◌, ◌≢◌, ℕ, ◌*◌, ◌≤◌, inl, inr, List, [], ◌∷◌, Bool, true, None, ap, sym, refl, ◌∙◌, subst, arith}
+use Rattle.std.specs.Prelude.{IsTrue, ◌==◌, not, nat_lt, MatchResult, Result, Ok, Err}
 use Rattle.std.specs.List.{list_all}
 use Rattle.std.specs.FinMap.{from_entries}
 use Rattle.std.proofs.lemmas.Bool.{and_parts}
@@ -10,7 +10,6 @@ use Rattle.ufs_disk.specs.Disk.{State, IsSettled, seen}
 use Rattle.ufs_layout.specs.Areas.{first_of_journal, journal_sectors}
 use Rattle.ufs_layout.specs.Superblock.{geometry_of}
 use Rattle.ufs_layout.specs.declared.superblock.Super.{Super}
-use Rattle.ufs_layout.specs.declared.records.Committed.{Committed}
 use Rattle.ufs_catalog.specs.Faults.{IsOutside, IsWhyNot}
 use Rattle.ufs_catalog.specs.declared.fault.RecoverFault.{RecoverFault}
 use Rattle.ufs_catalog.specs.declared.fault.RecoverFault.TheVariants.{NoSuperblock, BadVersion, BadGeometry, BadRecord, BadTree, Device, Memory}
@@ -29,7 +28,7 @@ use Rattle.ufs_overlay.specs.Seen.{HasAdded}
 use Rattle.ufs_volume.specs.Volumes.{committed_in, folded_image, volume_in}
 use Rattle.ufs_volume.specs.declared.volume.FoldedVolume.{FoldedVolume}
 use Rattle.ufs_recovery.specs.Finished.{MayWriteBack, IsWrittenBack}
-use Rattle.ufs_recovery.specs.Recovered.{IsProperDisk, IsCleanDisk, IsRecovered, log_of}
+use Rattle.ufs_recovery.specs.Recovered.{IsCleanDisk, IsRecovered, log_of}
 use Rattle.ufs_recovery.proofs.Epochs.{none_committed}
 
 -- ---- a proper image

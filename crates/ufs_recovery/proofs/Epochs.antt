@@ -1,5 +1,5 @@
 -- An epoch of which the journal has nothing.
-use Rattle.std.proofs.Common.{◌≡◌, ◌≢◌, ℕ, ◌*◌, List, [], ◌∷◌, true, false, None, map, ap, sym, refl, ◌∙◌}
+use Rattle.std.proofs.Common.{◌≡◌, ◌≢◌, ℕ, ◌*◌, List, [], ◌∷◌, false, None, map, ap, refl, ◌∙◌}
 use Rattle.std.specs.Prelude.{◌==◌, Ok}
 use Rattle.std.specs.List.{find}
 use Rattle.ufs_base.specs.Images.{Image}

@@ -1,12 +1,11 @@
 -- From the next epoch on to the end.
-use Rattle.std.proofs.Common.{◌≡◌, ◌≢◌, ℕ, ◌+◌, ◌*◌, ◌<◌, ◌≤◌, List, Bool, true, ap, sym, refl, ◌∙◌, subst, arith}
+use Rattle.std.proofs.Common.{◌≡◌, ℕ, ◌+◌, ◌<◌, ◌≤◌, List, Bool, true, ap, sym, ◌∙◌, subst, arith}
 use Rattle.ufs_base.specs.Images.{Image}
 use Rattle.ufs_damage.specs.Findings.{CatalogRead}
 use Rattle.ufs_damage.specs.Taken.{AreTaken}
 use Rattle.ufs_image.specs.Catalog.{IsInode, IsCatalogOf, catalog_at}
 use Rattle.ufs_image.specs.Images.{form_at}
 use Rattle.ufs_image.specs.Nodes.{sound_nodes}
-use Rattle.ufs_image.specs.Standing.{IsVolumeOf}
 use Rattle.ufs_image.specs.Volume.{head_of}
 use Rattle.ufs_image.specs.Walks.{inode_of as met_by}
 use Rattle.ufs_image.proofs.Blamed.{undamaged}
@@ -22,7 +21,7 @@ use Rattle.ufs_volume.specs.Volumes.{folded_image, volume_in}
 use Rattle.ufs_volume.specs.declared.volume.FoldedVolume.{FoldedVolume}
 use Rattle.ufs_recovery.specs.Cleared.{Numbers}
 use Rattle.ufs_recovery.specs.Finished.{MayFinish, HasFinished, MayWriteBack, IsWrittenBack}
-use Rattle.ufs_recovery.specs.Home.{IsAtHome, IsOver, MayFollow, HasBegun, MayClose, HasClosed}
+use Rattle.ufs_recovery.specs.Home.{IsOver, MayFollow, HasBegun, MayClose, HasClosed}
 use Rattle.ufs_recovery.specs.Orphans.{AreOrphans, AreOrphanDirs, IsPruned}
 use Rattle.ufs_recovery.specs.Recovered.{HasNoOrphans}
 use Rattle.ufs_recovery.proofs.Alike.{AgreeBehind, form_alike, nodes_alike, walks_alike, orphans_alike}
@@ -100,6 +99,7 @@ module _ (sectors : ℕ) (image : Image) (v : FoldedVolume) (findings : CatalogR
             let less : (form_at (geometry_of head) (folded_image v image) k).number < head.next = subst (λ h. IsInode h k → (form_at h (folded_image v image) k).number < head.next) back (below k) ranged in
             omega (arith, same, less);
       }
+
     module _ (after : Image) (used : ℕ) (finished : HasFinished sectors head after) (version : head.version ≡ 1) (known : v.head.head.next ≤ head.next) (above : used < head.next)
         (of_head : v.head.geometry ≡ geometry_of v.head.head) where
       heads : head_of after ≡ record head { clean = true }

@@ -1,25 +1,22 @@
 -- Images in which all that is committed is home, and what they become.
-use Rattle.std.proofs.Common.{◌≡◌, ◌≢◌, ℕ, ◌+◌, ◌*◌, ◌<◌, ◌≤◌, ◌⊎◌, inl, inr, List, Bool, true, false, None, Some, ap, sym, refl, ◌∙◌, subst, arith}
-use Rattle.std.specs.Prelude.{Ok, ◌==◌, if◌then◌else◌}
+use Rattle.std.proofs.Common.{◌≡◌, ℕ, ◌<◌, ◌≤◌, List, Some, ap, sym, ◌∙◌, subst, arith}
+use Rattle.std.specs.Prelude.{Ok}
 use Rattle.std.specs.List.{slice_get}
-use Rattle.std.proofs.lemmas.Bool.Decides.{nat_tests}
 use Rattle.ufs_base.specs.Images.{Image}
 use Rattle.ufs_disk.specs.Disk.{put}
 use Rattle.ufs_disk.proofs.Images.{put_other}
-use Rattle.ufs_layout.specs.Areas.{IsGeometry, sector_count, sector_of_inode, is_inode_number, first_of_inodes, first_of_journal, first_of_data}
+use Rattle.ufs_layout.specs.Areas.{IsGeometry, sector_count, sector_of_inode, first_of_data}
 use Rattle.ufs_layout.specs.Superblock.{geometry_of, super_of}
 use Rattle.ufs_layout.specs.declared.geometry.Geometry.{Geometry}
 use Rattle.ufs_layout.specs.declared.superblock.Super.{Super}
-use Rattle.ufs_image.specs.Agree.{IsOfJournal, IsOfForm, IsOfDir}
+use Rattle.ufs_image.specs.Agree.{IsOfJournal}
 use Rattle.ufs_image.specs.Catalog.{Catalog, IsInode, IsCatalogOf, catalog_at}
-use Rattle.ufs_image.specs.Damage.{bad_tree}
 use Rattle.ufs_image.specs.Journal.{epoch_in}
 use Rattle.ufs_image.specs.Nodes.{blocks_of}
 use Rattle.ufs_image.specs.Opens.{opens}
 use Rattle.ufs_image.specs.Sound.{IsSoundCatalog}
 use Rattle.ufs_image.specs.Standing.{IsVolumeOf}
-use Rattle.ufs_image.specs.Volume.{Volume, volume, head_of, head_refusal, volume_of}
-use Rattle.ufs_image.proofs.Blamed.{undamaged}
+use Rattle.ufs_image.specs.Volume.{Volume, volume, head_of, head_refusal}
 use Rattle.ufs_image.proofs.Blocks.{catalog_same}
 use Rattle.ufs_image.proofs.Holders.{block_in_data}
 use Rattle.ufs_image.proofs.Journals.{taken}

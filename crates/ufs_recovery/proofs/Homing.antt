@@ -1,12 +1,12 @@
 -- What is committed is written home.
-use Rattle.std.proofs.Common.{◌≡◌, ℕ, ◌+◌, ◌*◌, ◌<◌, ◌≤◌, ◌⊎◌, inl, inr, List, Bool, true, false, ap, sym, refl, ◌∙◌, subst, arith}
+use Rattle.std.proofs.Common.{◌≡◌, ℕ, ◌*◌, ◌<◌, ◌≤◌, ◌⊎◌, inl, inr, List, Bool, true, false, ap, sym, refl, ◌∙◌, subst, arith}
 use Rattle.std.specs.Prelude.{nat_le, nat_lt}
 use Rattle.std.proofs.lemmas.Bool.{and_parts}
 use Rattle.std.proofs.lemmas.Bool.Decides.{nat_tests}
 use Rattle.ufs_base.specs.Images.{Image}
 use Rattle.ufs_disk.specs.Disk.{State, IsSettled, IsWhole, seen}
 use Rattle.ufs_disk.proofs.Images.{seen_is_image}
-use Rattle.ufs_layout.specs.Areas.{first_of_data, first_of_journal, is_data_sector}
+use Rattle.ufs_layout.specs.Areas.{first_of_data, is_data_sector}
 use Rattle.ufs_layout.specs.declared.geometry.Geometry.{Geometry}
 use Rattle.ufs_layout.specs.declared.records.Committed.{Committed}
 use Rattle.ufs_image.specs.Agree.{IsOfJournal}
@@ -14,7 +14,6 @@ use Rattle.ufs_image.specs.Catalog.{catalog_at}
 use Rattle.ufs_image.specs.Fold.{folded}
 use Rattle.ufs_image.specs.Images.{IsImageOf}
 use Rattle.ufs_image.specs.Journal.{committed}
-use Rattle.ufs_image.specs.Opens.{opens}
 use Rattle.ufs_image.specs.Volume.{Volume, volume_of, head_of}
 use Rattle.ufs_image.proofs.Home.{stops_anywhere}
 use Rattle.ufs_image.proofs.Journals.{taken}

@@ -1,5 +1,5 @@
 -- Marks of the inodes in a list.
-use Rattle.std.proofs.Common.{◌≡◌, ℕ, zero, suc, refl, ◌+◌, ◌<◌, ◌≤◌, ◌⊎◌, inl, inr, List, [], ◌∷◌, ◌++◌, length, get_or, map, replicate, Bool, true, false, Option, Some, None, ap, sym, ◌∙◌, subst, arith}
+use Rattle.std.proofs.Common.{◌≡◌, ℕ, zero, suc, refl, ◌+◌, ◌<◌, ◌≤◌, ◌⊎◌, inl, inr, List, [], ◌∷◌, ◌++◌, length, get_or, map, replicate, Bool, true, false, Option, Some, None, ap, sym, ◌∙◌, arith}
 use Rattle.std.specs.List.{slice_get}
 use Rattle.ufs_image.proofs.Lists.{IsIn, in_one, in_left, in_right}
 use Rattle.ufs_walk.specs.Walked.{Place, pairs_of}

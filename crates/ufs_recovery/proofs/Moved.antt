@@ -1,6 +1,5 @@
 -- The orphans of an image are those of one with the same inodes and walks.
-use Rattle.std.proofs.Common.{◌≡◌, ◌≢◌, ℕ, ◌+◌, ◌⊎◌, inl, inr, List, None, Some, ap, sym, ◌∙◌}
-use Rattle.std.specs.List.{slice_get}
+use Rattle.std.proofs.Common.{◌≡◌, ◌≢◌, ℕ, ◌+◌, ◌⊎◌, inl, inr, List, ap, sym, ◌∙◌}
 use Rattle.ufs_base.specs.Images.{Image}
 use Rattle.ufs_image.specs.Catalog.{catalog_at}
 use Rattle.ufs_image.specs.Changes.{IsReached, IsUnreached}

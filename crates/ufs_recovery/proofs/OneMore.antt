@@ -1,9 +1,9 @@
 -- Inodes are written anew, one after the other.
-use Rattle.std.proofs.Common.{◌≡◌, ◌≢◌, ℕ, zero, suc, ◌+◌, ◌*◌, ◌<◌, ◌≤◌, ◌⊎◌, inl, inr, List, [], ◌∷◌, length, get_or, Bool, Option, Some, ap, sym, refl, ◌∙◌, subst, arith}
+use Rattle.std.proofs.Common.{◌≡◌, ◌≢◌, ℕ, zero, suc, ◌+◌, ◌<◌, ◌⊎◌, inl, inr, List, [], ◌∷◌, length, get_or, Bool, Option, Some, ap, sym, refl, ◌∙◌, subst, arith}
 use Rattle.std.specs.List.{slice_get}
 use Rattle.std.proofs.lemmas.Bool.{cases_eq}
 use Rattle.ufs_base.specs.Images.{Image}
-use Rattle.ufs_disk.specs.Disk.{State, put, seen, IsImage}
+use Rattle.ufs_disk.specs.Disk.{State, put, IsImage}
 use Rattle.ufs_disk.specs.Moments.{Moments, LeavesOnly}
 use Rattle.ufs_disk.proofs.Images.{put_same, put_other}
 use Rattle.ufs_disk.proofs.Runs.{goes_on}

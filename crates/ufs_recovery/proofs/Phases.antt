@@ -41,7 +41,6 @@ mixed_tree sectors g kind numbers state settled tree image from =
 
 module _ (sectors : ℕ) (head : Super) (image : Image) (home : IsAtHome sectors head image) (all dirs : Numbers)
     (orphans : AreOrphans (geometry_of head) (catalog_at (geometry_of head) image) all) (orphan_dirs : AreOrphanDirs (geometry_of head) (catalog_at (geometry_of head) image) dirs) where
-
   -- ---- directories are emptied
 
   module _ (one : Image) (mixed : IsMixedCleared (geometry_of head) 2 dirs image one) where

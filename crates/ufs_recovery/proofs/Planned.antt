@@ -1,7 +1,7 @@
 -- The orphans among what was read.
-use Rattle.std.proofs.Common.{◌≡◌, ◌≢◌, ℕ, ◌+◌, ◌-◌, ◌<◌, ◌≤◌, ◌⊎◌, inl, inr, List, length, get_or, map, Bool, true, false, Option, Some, None, unwrap_or, ap, sym, refl, ◌∙◌, subst, arith}
+use Rattle.std.proofs.Common.{◌≡◌, ◌≢◌, ℕ, ◌+◌, ◌-◌, ◌<◌, ◌≤◌, ◌⊎◌, inl, inr, List, length, get_or, map, Bool, true, false, Option, Some, None, unwrap_or, ap, sym, refl, ◌∙◌, arith}
 use Rattle.std.specs.Prelude.{◌==◌, if◌then◌else◌}
-use Rattle.std.specs.List.{slice_get, range_with_len}
+use Rattle.std.specs.List.{slice_get}
 use Rattle.std.proofs.lemmas.Bool.{eqb-true}
 use Rattle.std.proofs.lemmas.Bool.Decides.{nat_tests}
 use Rattle.std.proofs.lemmas.List.FromFn.{get_or-map-range_with_len, length-map-range_with_len}
@@ -13,7 +13,7 @@ use Rattle.ufs_image.specs.Catalog.{IsInode, catalog_at}
 use Rattle.ufs_image.specs.Changes.{IsReached, IsUnreached}
 use Rattle.ufs_image.specs.Images.{inode_at, form_at}
 use Rattle.ufs_recovery.specs.Cleared.{Numbers}
-use Rattle.ufs_recovery.specs.Orphans.{AreOrphans, AreOrphanDirs, AreReachedMarks, AreTold, AreUnreached, orphan_number, orphan_dir_number}
+use Rattle.ufs_recovery.specs.Orphans.{AreOrphans, AreOrphanDirs, AreReachedMarks, AreTold, orphan_number, orphan_dir_number}
 use Rattle.ufs_recovery.proofs.Clears.{get_short}
 use Rattle.ufs_recovery.proofs.OneMore.{get_there}
 
@@ -73,9 +73,10 @@ module _ (g : Geometry) (image : Image) (forms : List (Option InodeForm)) (are :
       under place o e = let short = get_short numbers place o e in omega (arith, short, sized)
 
       unreached_by : (place number : ℕ) → place < g.inodes → IsChosen (get_or forms place None) (get_or marks place false) number → IsUnreached (catalog_at g image) (place + 1) × (number ≡ (form_at g image (place + 1)).number)
-      unreached_by place number less is =
-          (reached.others place (mark_there place false less is.unmarked),
-          is.same ∙ ap (λ o. (unwrap_or o (free_inode 0)).number) (sym (sym (form_there place less) ∙ is.there)))
+      unreached_by place number less is = (
+        reached.others place (mark_there place false less is.unmarked),
+        is.same ∙ ap (λ o. (unwrap_or o (free_inode 0)).number) (sym (sym (form_there place less) ∙ is.there)),
+      )
 
       test_is : (test : Option InodeForm → Bool → Option ℕ) → AreTold test forms marks numbers → (place : ℕ) (o : Option ℕ) → slice_get numbers place ≡ Some o → test (get_or forms place None) (get_or marks place false) ≡ o
       test_is test told place o e =

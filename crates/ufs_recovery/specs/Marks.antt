@@ -1,12 +1,11 @@
 -- The bits of the bitmap.
-use Rattle.std.specs.Prelude.{ℕ, ◌≡◌, ◌≢◌, ◌<◌, ◌≤◌, ◌+◌, ◌*◌, ◌/◌, ◌%◌, ◌⊎◌, List, Bool, false, slice_index, slice_index_or, length, if◌then◌else◌}
+use Rattle.std.specs.Prelude.{ℕ, ◌≡◌, ◌<◌, ◌≤◌, ◌+◌, ◌*◌, ◌⊎◌, List, Bool, false, slice_index, slice_index_or, length, if◌then◌else◌}
 use Rattle.std.specs.Int.{bit_at}
 use Rattle.ufs_base.specs.Images.{Image}
 use Rattle.ufs_base.specs.declared.sizes.TheConstants.{SECTORS_PER_BLOCK}
 use Rattle.ufs_disk.specs.Disk.{State, IsImage}
 use Rattle.ufs_layout.specs.Areas.{first_of_inodes}
 use Rattle.ufs_layout.specs.declared.geometry.Geometry.{Geometry}
-use Rattle.ufs_layout.specs.declared.geometry.TheConstants.{BLOCK_BITS}
 use Rattle.ufs_image.specs.Damage.{is_marked}
 
 -- the bit of a block by these marks; a block past them is free

@@ -1,10 +1,10 @@
-use Rattle.std.proofs.Common.{◌≡◌, ◌+◌, ◌-◌, ◌*◌, ◌<◌, ℕ, length, ap, sym, refl, ◌∙◌, subst, arith}
+use Rattle.std.proofs.Common.{◌≡◌, ◌+◌, ◌-◌, ◌*◌, ◌<◌, length, ap, sym, refl, ◌∙◌, subst, arith}
 use Rattle.std.proofs.lemmas.Result.{on_ok_weaker}
 use Rattle.ufs_base.specs.Images.{Image}
 use Rattle.ufs_disk.specs.Moments.{reads}
 use Rattle.ufs_disk.proofs.Runs.{started, goes_on_quietly}
 use Rattle.ufs_layout.specs.Areas.{bitmap_blocks}
-use Rattle.ufs_recovery.specs.Marks.{AgreeOffBitmap, HasAnyBitmap, HasBits, IsMarkedBelow}
+use Rattle.ufs_recovery.specs.Marks.{HasAnyBitmap, IsMarkedBelow}
 use Rattle.ufs_recovery.proofs.Bits.{none_marked, any_first, marked_on, agrees_on, any_on}
 use Rattle.ufs_recovery.proofs.bitmap.write_bitmap.Goals as goal
 

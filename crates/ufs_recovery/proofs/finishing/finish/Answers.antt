@@ -1,4 +1,4 @@
-use Rattle.std.proofs.Common.{◌≡◌, sym, ◌∙◌, subst}
+use Rattle.std.proofs.Common.{sym, subst}
 use Rattle.ufs_disk.specs.Moments.{reads}
 use Rattle.ufs_recovery.specs.Home.{KeepsTree, MayClose, HasClosed}
 use Rattle.ufs_recovery.specs.Orphans.{IsPruned}

@@ -1,5 +1,4 @@
-use Rattle.std.proofs.Common.{◌≡◌, ap, sym, ◌∙◌, subst}
-use Rattle.std.specs.Prelude.{OnOk}
+use Rattle.std.proofs.Common.{sym, subst}
 use Rattle.ufs_base.specs.Images.{Image}
 use Rattle.ufs_disk.specs.Moments.{reads}
 use Rattle.ufs_disk.proofs.Runs.{started}

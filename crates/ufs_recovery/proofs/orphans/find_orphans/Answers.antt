@@ -1,4 +1,4 @@
-use Rattle.std.proofs.Common.{◌≡◌, ◌<◌, ◌∷◌, [], ◌++◌, false, None, Option, length, get_or, ap, sym, ◌∙◌, arith}
+use Rattle.std.proofs.Common.{◌<◌, ◌∷◌, [], false, None, Option, length, get_or, ap, ◌∙◌, arith}
 use Rattle.std.proofs.lemmas.List.{length-append}
 use Rattle.ufs_layout.specs.InodeForm.{InodeForm}
 use Rattle.ufs_recovery.specs.Orphans.{orphan_dir_number, orphan_number}

@@ -1,14 +1,7 @@
-use Rattle.std.proofs.Common.{◌≡◌, ap, sym, ◌∙◌, subst}
 use Rattle.std.proofs.lemmas.Result.{on_ok_weaker}
-use Rattle.ufs_base.specs.Images.{Image}
-use Rattle.ufs_disk.specs.Moments.{LeavesOnly, reads}
+use Rattle.ufs_disk.specs.Moments.{reads}
 use Rattle.ufs_disk.proofs.Runs.{weaker}
-use Rattle.ufs_image.specs.Opens.{opens}
 use Rattle.ufs_layout.specs.Superblock.{geometry_of}
-use Rattle.ufs_layout.specs.declared.superblock.Super.{Super}
-use Rattle.ufs_recovery.specs.Cleared.{AreClearedBelow, IsMixedCleared}
-use Rattle.ufs_recovery.specs.Home.{KeepsTree}
-use Rattle.ufs_recovery.specs.Orphans.{MayPrune}
 use Rattle.ufs_recovery.proofs.Headed.{kept_on}
 use Rattle.ufs_recovery.proofs.Phases.{mixed_tree, mixed_by, cleared_by, tree_one, tree_two, is_pruned, on_ok_both}
 use Rattle.ufs_recovery.proofs.pruning.prune.Goals as goal

@@ -1,8 +1,8 @@
-use Rattle.std.proofs.Common.{◌≡◌, ◌<◌, ◌≤◌, ◌+◌, ℕ, ◌∷◌, [], ◌++◌, List, length, take, map, ap, sym, ◌∙◌, subst, arith}
+use Rattle.std.proofs.Common.{◌≡◌, ◌<◌, ◌+◌, ◌∷◌, [], ◌++◌, List, length, take, ap, sym, ◌∙◌, subst, arith}
 use Rattle.std.proofs.lemmas.List.{take_all, take_more}
 use Rattle.ufs_image.specs.Catalog.{catalog_at}
 use Rattle.ufs_image.proofs.Depth.{has_root}
-use Rattle.ufs_walk.specs.Walked.{Place, pairs_of}
+use Rattle.ufs_walk.specs.Walked.{pairs_of}
 use Rattle.ufs_walk.specs.declared.places.PathAt.{PathAt}
 use Rattle.ufs_recovery.proofs.Marked.{IsMarked, inodes_of, inodes_push, one_marked}
 use Rattle.ufs_recovery.proofs.Told.{told_reached, reached_told}

@@ -8,7 +8,6 @@ use Rattle.ufs_layout.specs.declared.records.Committed.{Committed}
 use Rattle.ufs_layout.specs.declared.superblock.Super.{Super}
 use Rattle.ufs_recovery.specs.Finished.{MayWriteBack, IsWrittenBack}
 use Rattle.ufs_recovery.specs.Home.{KeepsTree}
-use Rattle.ufs_recovery.specs.Recovered.{IsCleanDisk}
 use Rattle.ufs_recovery.proofs.Ends.{head_same, is_clean, is_recovered, log_same, may_write_back, none_in_clean, only_outside}
 use Rattle.ufs_recovery.proofs.Headed.{keeps_settled, kept_on, still_settled}
 use Rattle.ufs_recovery.proofs.recovery.recover.Goals as goal

@@ -1,0 +1,128 @@
+// A recovery that is stopped after each call of the disk, and then made again.
+use crate::images::{SECTORS, image_in_use};
+use std::alloc::Global;
+use std::test::Fail;
+use ufs_check::check;
+use ufs_disk::{Fuse, FuseDisk, PlainDisk};
+use ufs_load_image::load;
+use ufs_model::{PathEntry, PathNode};
+use ufs_opening::tree_of;
+use ufs_recovery::recover;
+
+fn is_hello(entries: &[PathEntry]) -> bool {
+    if entries.len() != 2 {
+        return false;
+    }
+    match &entries[1].node {
+        PathNode::Dir => false,
+        PathNode::File(bytes) => {
+            entries[1].path.as_slice() == b"/f".as_slice()
+                && bytes.as_slice() == b"hello".as_slice()
+        }
+    }
+}
+
+// Whether the disk opens to the tree of the image.
+fn opens_alike(alloc: Global, disk: &mut PlainDisk) -> bool {
+    match tree_of(alloc, disk) {
+        Ok(tree) => is_hello(tree.as_slice()),
+        Err(_) => false,
+    }
+}
+
+// Whether it is undamaged, with so many free blocks: those of inodes without a name are among them.
+fn has_free(alloc: Global, disk: &mut PlainDisk, blocks: u32) -> bool {
+    let Ok(loaded) = load(alloc, disk) else {
+        return false;
+    };
+    match check(alloc, disk) {
+        Ok(list) => list.as_slice().is_empty() && loaded.free.count() == blocks,
+        Err(_) => false,
+    }
+}
+
+// Whether a recovery makes a disk with these bytes clean, and a second one finds nothing.
+fn recovers(alloc: Global, bytes: Vec<u8>) -> bool {
+    if bytes.len() != 512 * SECTORS as usize {
+        return false;
+    }
+    let mut disk = PlainDisk::new(SECTORS, bytes);
+    recover(alloc, &mut disk).is_ok()
+        && opens_alike(alloc, &mut disk)
+        && recover(alloc, &mut disk) == Ok(0)
+}
+
+// A recovery on a disk that passes so many calls: whether it came to its end, and what a crash then leaves recovers.
+fn stopped(alloc: Global, bytes: &Vec<u8>, passes: u64, pick: u64) -> Option<bool> {
+    let Ok(copy) = bytes.clone() else {
+        return None;
+    };
+    if copy.len() != 512 * SECTORS as usize {
+        return None;
+    }
+    let Ok(mut disk) = FuseDisk::new(alloc, SECTORS, copy, Fuse { passes }) else {
+        return None;
+    };
+    let ended = recover(alloc, &mut disk).is_ok();
+    let Ok(left) = disk.crash(pick) else {
+        return None;
+    };
+    if recovers(alloc, left) {
+        Some(ended)
+    } else {
+        None
+    }
+}
+
+// Whether it may be stopped after each of its calls, where a crash leaves the image with this number.
+fn may_stop_anywhere(alloc: Global, pick: u64) -> bool {
+    let Some(bytes) = image_in_use(alloc) else {
+        return false;
+    };
+    for passes in 0..200 {
+        match stopped(alloc, &bytes, passes, pick) {
+            Some(true) => return true,
+            Some(false) => {}
+            None => return false,
+        }
+    }
+    false
+}
+
+#[test]
+fn a_recovery_may_be_stopped_before_each_barrier(rt: HostRuntime) -> Result<(), Fail> {
+    assert!(rt; may_stop_anywhere(rt.alloc(), 0));
+    Ok(())
+}
+
+#[test]
+fn a_recovery_may_be_stopped_after_one_write(rt: HostRuntime) -> Result<(), Fail> {
+    assert!(rt; may_stop_anywhere(rt.alloc(), 1));
+    Ok(())
+}
+
+#[test]
+fn a_recovery_may_be_stopped_after_another_write(rt: HostRuntime) -> Result<(), Fail> {
+    assert!(rt; may_stop_anywhere(rt.alloc(), 2));
+    Ok(())
+}
+
+#[test]
+fn a_recovery_may_be_stopped_after_two_writes(rt: HostRuntime) -> Result<(), Fail> {
+    assert!(rt; may_stop_anywhere(rt.alloc(), 3));
+    Ok(())
+}
+
+#[test]
+fn the_committed_transactions_are_counted(rt: HostRuntime) -> Result<(), Fail> {
+    let Some(bytes) = image_in_use(rt.alloc()) else {
+        return Err(Fail::new("no image"));
+    };
+    if bytes.len() != 512 * SECTORS as usize {
+        return Err(Fail::new("another size"));
+    }
+    let mut disk = PlainDisk::new(SECTORS, bytes);
+    assert!(rt; recover(rt.alloc(), &mut disk) == Ok(1));
+    assert!(rt; has_free(rt.alloc(), &mut disk, 50));
+    Ok(())
+}
