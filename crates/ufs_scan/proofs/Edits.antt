@@ -1,9 +1,11 @@
 -- What edits come to, one after the other.
 use Rattle.std.proofs.Common.{◌≡◌, inl, inr, ℕ, zero, suc, ◌+◌, ◌-◌, ◌<◌, ◌≤◌, List, [], ◌∷◌, ◌++◌, Bool, true, false, length, take, drop, get_or, drop-cons, add-one, refl, ap, sym, ◌∙◌, arith, append_assoc}
-use Rattle.std.specs.Prelude.{if◌then◌else◌, min, map, flat_map}
+use Rattle.std.specs.Prelude.{if◌then◌else◌, nat_lt, min, map, flat_map}
 use Rattle.std.specs.List.{All, filter}
-use Rattle.std.proofs.lemmas.Bool.{cases_lt}
-use Rattle.std.proofs.lemmas.List.{length-append, length-map, map-append, take-append-le, take_all, take-map, get_or-take, length-take}
+use Rattle.std.specs.List.Sorted.{IsNonDecreasingBy}
+use Rattle.std.proofs.lemmas.Bool.{cases_lt, lt-ltb}
+use Rattle.ufs_found.proofs.Buckets.{filter_all}
+use Rattle.std.proofs.lemmas.List.{length-append, length-map, map-append, take-append-le, take_all, take-map, get_or-take, get_or_default, length-take}
 use Rattle.std.proofs.lemmas.List.Elements.{All-nil, All-cons, All-head, All-tail}
 use Rattle.std.proofs.Math.ListN.{get_or-append}
 use Rattle.std.proofs.Math.Seq.{get_or-append_seam}
@@ -81,3 +83,12 @@ drop_taken xs p to x less le is =
 pub of_all : {X Y : Type 0} (now : X → Y) (P : Y → Type 0) (xs : List X) → All (λ x. P (now x)) xs → All P (map now xs)
 of_all now P [] every = All-nil P
 of_all now P (x ∷ xs) every = All-cons P (now x) (map now xs) (All-head (λ x. P (now x)) x xs every) (of_all now P xs (All-tail (λ x. P (now x)) x xs every))
+
+-- where the last stands below an index, all do
+pub all_below : (steps : List StepValue) (last : StepValue) (index : ℕ) → IsNonDecreasingBy (λ (s : StepValue). s.edit.index) steps → 0 < length steps → last ≡ get_or steps (length steps - 1) last → last.edit.index < index
+    → steps ≡ filter (λ (s : StepValue). nat_lt s.edit.index index) steps
+all_below steps last index up some is less =
+    sym (filter_all (λ (s : StepValue). nat_lt s.edit.index index) steps (λ k d lt.
+    let le = up k (length steps - 1) d (omega (arith, lt)) (omega (arith, some)) in
+    let end : get_or steps (length steps - 1) d ≡ last = get_or_default steps (length steps - 1) d last (omega (arith, some)) ∙ sym is in
+    lt-ltb _ index (omega (arith, le, less, ap (λ (s : StepValue). s.edit.index) end))))

@@ -35,13 +35,31 @@ impl Model for Fold {
     ghost view = { λ f. record { standings = f.standings.items; leasts = f.leasts.items; lowest = f.lowest } };
 }
 
-fn steps_below<'a, 'b>(steps: &'b [Step<'a>], index: u16) -> &'b [Step<'a>]
+fn search_below<'a, 'b>(steps: &'b [Step<'a>], index: u16) -> &'b [Step<'a>]
     requires { IsNonDecreasingBy (λ s. s.edit.index) steps.now }
     ensures kept { result.now ≡ fold.steps_below index steps.now }
     ensures front { result.now ≡ take (length result.now) steps.now }
 {
     let to = steps.partition_point(|step| step.index() < index);
     &steps[..to]
+}
+
+// All, where the last stands there: so it is where one commit ends a transaction.
+fn steps_below<'a, 'b>(steps: &'b [Step<'a>], index: u16) -> &'b [Step<'a>]
+    requires { IsNonDecreasingBy (λ s. s.edit.index) steps.now }
+    ensures kept { result.now ≡ fold.steps_below index steps.now }
+    ensures front { result.now ≡ take (length result.now) steps.now }
+{
+    match steps.last() {
+        None => steps,
+        Some(last) => {
+            if last.index() < index {
+                steps
+            } else {
+                search_below(steps, index)
+            }
+        }
+    }
 }
 
 fn lowest_outkept(steps: &[Step<'_>], count: u64) -> Option<u32>
