@@ -20,12 +20,12 @@ pub fn read_under_a_lease(alloc: Global) -> Result<Drawn, AllocError> {
     let path = Bytes::from_vec(b"/a".to_vec(alloc)?);
     let nothing = Bytes::from_vec(Vec::new(alloc));
     let none_read = Bytes::from_vec(Vec::new(alloc));
-    let first = opening(path);
+    let open = opening(path);
     let read = reading(none_read);
     let lease = whole_file(nothing);
     let parts = Parts::picked::<Brand>();
     let opened = Opened::open(alloc, parts)?;
-    Ok(session::<Brand>(opened, &first, &read, &lease))
+    Ok(session::<Brand>(opened, &open, &read, &lease))
 }
 
 fn opening(path: Bytes) -> Fresh
@@ -78,16 +78,16 @@ fn whole_file(bytes: Bytes) -> Lease
     }
 }
 
-fn session<N: Naming>(opened: Opened, first: &Fresh, read: &Fresh, whole: &Lease) -> Drawn
+fn session<N: Naming>(opened: Opened, open: &Fresh, read: &Fresh, whole: &Lease) -> Drawn
     requires name { (opened.table ≡ N.table) × (opened.start ≡ N.start) }
     requires start { N.start ≡ one_file }
-    requires first { first.now ≡ opens }
+    requires open { open.now ≡ opens }
     requires read { read.now ≡ reads }
     requires lease { whole.now ≡ lease }
 {
     let Begun { table, mut hand } = opened.named::<N>();
     let asked = hand.mark::<Brand>(&table) % STEP;
-    let ticket = hand.draw::<Brand>(&table, first);
+    let ticket = hand.draw::<Brand>(&table, open);
     grant::<N, Brand>(&table, &mut hand, asked, ticket);
     ask::<N, Brand>(&table, &mut hand, asked, ticket);
     let drawn = hand.draw_local::<Brand>(&table, whole, read);

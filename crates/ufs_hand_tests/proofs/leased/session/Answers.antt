@@ -16,7 +16,7 @@ mark-asked-requires g c = subst (λ (v : View). IsEvent g.N.Naming.start v open_
 
 pub draw-ticket-requires : goal.draw-ticket-requires
 draw-ticket-requires g c =
-    subst (λ (x : Fresh × View). MayDraw x.0 x.1 (open_leaves small_disk) []) (λ j. (sym c.requires.first j, sym c.mark-asked.ensures.parts j)) (may_open (c.mark-asked.result % clock_step))
+    subst (λ (x : Fresh × View). MayDraw x.0 x.1 (open_leaves small_disk) []) (λ j. (sym c.requires.open j, sym c.mark-asked.ensures.parts j)) (may_open (c.mark-asked.result % clock_step))
 
 pub draw_local-drawn-requires : goal.draw_local-drawn-requires
 draw_local-drawn-requires g c =
