@@ -1,1 +1,4 @@
 mod Walked
+mod Extents
+mod PlainNames
+mod Tables
