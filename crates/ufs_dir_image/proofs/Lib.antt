@@ -1,4 +1,4 @@
-mod Walked
+pub mod Walked
 mod Extents
-mod PlainNames
-mod Tables
+pub mod PlainNames
+pub mod Tables

@@ -53,7 +53,7 @@ bare_dir : (d : Directory) → d.blocks ≡ [] → d.slots ≡ [] → d ≡ no_d
 bare_dir d blocks slots i = record { blocks = blocks i; slots = slots i }
 
 module _ (g : Geometry) (image : Image) (c : Catalog) (t : DirTable) (some : 1 ≤ g.inodes) (is : IsCatalogOf g image c) (sound : IsSoundCatalog g c) (of : IsTableOf g c t) where
-  root_inside : IsInode g 1
+  pub root_inside : IsInode g 1
   root_inside = record { from_one = omega arith; within = some }
 
   inside_or_none : (i : ℕ) → IsInode g i ⊎ (dir_at t i ≡ no_dir)
@@ -68,10 +68,10 @@ module _ (g : Geometry) (image : Image) (c : Catalog) (t : DirTable) (some : 1 �
 
   -- ---- what is met
 
-  met_inode : (names : List (List ℕ)) (f : Found) → found_at t names ≡ Some f → (i : ℕ) × (cat.inode_of c names ≡ Some i) × (found_in c i ≡ f)
+  pub met_inode : (names : List (List ℕ)) (f : Found) → found_at t names ≡ Some f → (i : ℕ) × (cat.inode_of c names ≡ Some i) × (found_in c i ≡ f)
   met_inode names f e = option_map-some (found_in c) (cat.inode_of c names) f (sym (meets g c t sound of.slots root_inside names) ∙ e)
 
-  found_number : (i : ℕ) → inode_of (found_in c i) ≡ i
+  pub found_number : (i : ℕ) → inode_of (found_in c i) ≡ i
   found_number i = by ((c.forms i).kind == 2)
     where
       by : (b : Bool) → inode_of (if b then Dir i else File i) ≡ i
@@ -146,7 +146,7 @@ module _ (g : Geometry) (image : Image) (c : Catalog) (t : DirTable) (some : 1 �
       let piece = from_map dentry_of (pieces 8 64 (image of_sector.0)) (Some d) of_sector.2 in
       on_form dentry_fields dentry_bytes is_dentry piece.0 d (sym piece.2)
 
-  entry_name : (i : ℕ) (name : List ℕ) (d : DentryForm) → IsInode g i → entry_of (slots_in c i) name ≡ Some d → IsName name
+  pub entry_name : (i : ℕ) (name : List ℕ) (d : DentryForm) → IsInode g i → entry_of (slots_in c i) name ≡ Some d → IsName name
   entry_name i name d inside e =
       let there = found-some (has_name name) (slots_in c i) d e in
       let parts = and_parts (is_named d) (bytes_eq d.name name) there.2 in
