@@ -41,7 +41,7 @@ use Rattle.ufs_names_image.proofs.PathTexts.{whole_text, plain_pieces}
 
 -- ---- what stands, by its content
 
-no_content : (bytes : Files) (o : Option Node) → ((f : ℕ) → o ≡ Some (node.File f) → is_some (map.get bytes f) ≡ true) → content_of bytes o ≡ None → o ≡ None
+pub no_content : (bytes : Files) (o : Option Node) → ((f : ℕ) → o ≡ Some (node.File f) → is_some (map.get bytes f) ≡ true) → content_of bytes o ≡ None → o ≡ None
 no_content bytes None has e = refl
 no_content bytes (Some node.Dir) has e = cc
 no_content bytes (Some (node.File f)) has e = by (map.get bytes f) (has f refl) e

@@ -2,11 +2,19 @@
 #![tactic(auto)]
 
 ghost use Rattle.ufs_names_image.specs.Numbered.{NamesStandForTrees, NumbersNameOnce};
+ghost use Rattle.ufs_names_image.specs.Parts.{NamesAreParts};
 
 /// Directories of an image, with the numbers that a tree of the image's paths gives its files, have that tree's names.
 pub fn names_stand_law(sectors: usize)
     ensures stand { NamesStandForTrees sectors }
     ensures once { NumbersNameOnce }
+{
+    let _sectors = sectors;
+}
+
+/// And with nothing open they are the part of the names of that tree.
+pub fn names_part_law(sectors: usize)
+    ensures { NamesAreParts sectors }
 {
     let _sectors = sectors;
 }
