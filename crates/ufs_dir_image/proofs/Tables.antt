@@ -18,7 +18,7 @@ use Rattle.ufs_dirs.specs.Directory.{Directory, entry_of, has_name, has_block}
 use Rattle.ufs_path.specs.Names.{IsName}
 use Rattle.ufs_image.specs.Nodes.{blocks_of, read_sector}
 use Rattle.ufs_image.specs.Catalog.{Catalog, IsInode, HasBlock, IsCatalogOf, slots_in}
-use Rattle.ufs_image.specs.Sound.{IsSoundCatalog}
+use Rattle.ufs_image.specs.Sound.{IsSoundCatalog, HasDentry}
 use Rattle.ufs_image.specs.Walks as cat
 use Rattle.ufs_image.proofs.Lists.{IsIn, in_map, from_flat_map, from_map, found-some}
 use Rattle.ufs_image.proofs.Listed.{place_of_in, in_at_place}
@@ -51,6 +51,26 @@ place_of_block (x ∷ xs) b e = by (x == b) refl e (place_of_block xs b)
 
 bare_dir : (d : Directory) → d.blocks ≡ [] → d.slots ≡ [] → d ≡ no_dir
 bare_dir d blocks slots i = record { blocks = blocks i; slots = slots i }
+
+module _ (g : Geometry) (image : Image) (c : Catalog) (is : IsCatalogOf g image c) (sound : IsSoundCatalog g c) where
+  -- what a directory's slot has is on its form
+  slot_form : (i place : ℕ) (d : DentryForm) → IsInode g i → slice_get (slots_in c i) place ≡ Some d → is_dentry d ≡ true
+  slot_form i place d inside there =
+      let kind = dir_kind c i place d there in
+      let dir : (c.forms i).kind ≡ 2 = grind (arith, nat_tests, kind) in
+      let slots : slots_in c i ≡ flat_map c.slots (blocks_of (c.forms i)) = ap (λ b. if b then flat_map c.slots (blocks_of (c.forms i)) else []) kind in
+      let from = from_flat_map c.slots (blocks_of (c.forms i)) d (subst (IsIn d) slots (in_at_place d (slots_in c i) place there)) in
+      let at = place_of_in from.0 (blocks_of (c.forms i)) from.1 in
+      let read = is.slots from.0 (record { inode = i; place = at.0; has = record { in_range = inside; there = at.1 }; dir = dir }) in
+      let of_sector = from_flat_map (λ s. read_sector (image s)) (sectors_of_block from.0) (Some d) (subst (IsIn (Some d)) (sym read) (in_map Some (c.slots from.0) d from.2)) in
+      let piece = from_map dentry_of (pieces 8 64 (image of_sector.0)) (Some d) of_sector.2 in
+      on_form dentry_fields dentry_bytes is_dentry piece.0 d (sym piece.2)
+
+  -- so its name may stand in a path
+  pub dentry_name : (i place : ℕ) (d : DentryForm) → HasDentry g c i place d → IsName d.name
+  dentry_name i place d has =
+      let form = (and_parts (nat_le (length d.name) 58) _ (slot_form i place d has.in_range has.there)).0 in
+      plain-name d.name (sound.fit i place d has).plain has.named form
 
 module _ (g : Geometry) (image : Image) (c : Catalog) (t : DirTable) (some : 1 ≤ g.inodes) (is : IsCatalogOf g image c) (sound : IsSoundCatalog g c) (of : IsTableOf g c t) where
   pub root_inside : IsInode g 1
@@ -133,26 +153,11 @@ module _ (g : Geometry) (image : Image) (c : Catalog) (t : DirTable) (some : 1 �
 
   -- ---- names
 
-  -- what a directory's slot has is on its form
-  slot_form : (i place : ℕ) (d : DentryForm) → IsInode g i → slice_get (slots_in c i) place ≡ Some d → is_dentry d ≡ true
-  slot_form i place d inside there =
-      let kind = dir_kind c i place d there in
-      let dir : (c.forms i).kind ≡ 2 = grind (arith, nat_tests, kind) in
-      let slots : slots_in c i ≡ flat_map c.slots (blocks_of (c.forms i)) = ap (λ b. if b then flat_map c.slots (blocks_of (c.forms i)) else []) kind in
-      let from = from_flat_map c.slots (blocks_of (c.forms i)) d (subst (IsIn d) slots (in_at_place d (slots_in c i) place there)) in
-      let at = place_of_in from.0 (blocks_of (c.forms i)) from.1 in
-      let read = is.slots from.0 (record { inode = i; place = at.0; has = record { in_range = inside; there = at.1 }; dir = dir }) in
-      let of_sector = from_flat_map (λ s. read_sector (image s)) (sectors_of_block from.0) (Some d) (subst (IsIn (Some d)) (sym read) (in_map Some (c.slots from.0) d from.2)) in
-      let piece = from_map dentry_of (pieces 8 64 (image of_sector.0)) (Some d) of_sector.2 in
-      on_form dentry_fields dentry_bytes is_dentry piece.0 d (sym piece.2)
-
-  pub entry_name : (i : ℕ) (name : List ℕ) (d : DentryForm) → IsInode g i → entry_of (slots_in c i) name ≡ Some d → IsName name
+  entry_name : (i : ℕ) (name : List ℕ) (d : DentryForm) → IsInode g i → entry_of (slots_in c i) name ≡ Some d → IsName name
   entry_name i name d inside e =
       let there = found-some (has_name name) (slots_in c i) d e in
       let parts = and_parts (is_named d) (bytes_eq d.name name) there.2 in
-      let fit = sound.fit i there.0 d (record { in_range = inside; there = there.1; named = parts.0 }) in
-      let form = (and_parts (nat_le (length d.name) 58) _ (slot_form i there.0 d inside there.1)).0 in
-      subst IsName ((bytes_eq-Decides d.name name).0 parts.1) (plain-name d.name fit.plain parts.0 form)
+      subst IsName ((bytes_eq-Decides d.name name).0 parts.1) (dentry_name g image c is sound i there.0 d (record { in_range = inside; there = there.1; named = parts.0 }))
 
   names : (i : ℕ) (name : List ℕ) → IsSome (entry_of (slots_at t i) name) → IsName name
   names i name has = by (inside_or_none i)

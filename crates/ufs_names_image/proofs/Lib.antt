@@ -1,3 +1,4 @@
 mod Named
 mod Parted
 mod PathTexts
+mod Started

@@ -33,10 +33,11 @@ use Rattle.ufs_dir_image.specs.Meets.{found_in}
 use Rattle.ufs_dir_image.specs.Tables.{IsTableOf}
 use Rattle.ufs_dir_image.proofs.Walked.{meets}
 use Rattle.ufs_dir_image.proofs.Tables.{is_dir_table, met_inode, found_number}
+use Rattle.ufs_ledger.specs.Kept.{path_node_of}
 use Rattle.ufs_name_tree.specs.NameTable.{NameTable, IsNameTable, file_at, node_of, node_at}
 use Rattle.ufs_names.specs.NamesPart.{IsNamedOnce}
 use Rattle.ufs_names.specs.Stands.{Stands}
-use Rattle.ufs_names_image.specs.Numbered.{path_node_of, HasImage, IsFileAt, IsNumberedAs}
+use Rattle.ufs_names_image.specs.Numbered.{HasImage, IsFileAt, IsNumberedAs}
 use Rattle.ufs_names_image.proofs.PathTexts.{whole_text, plain_pieces}
 
 -- ---- what stands, by its content

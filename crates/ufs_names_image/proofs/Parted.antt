@@ -1,6 +1,6 @@
 -- The names of an image's directories are a part of the tree that it opens to.
-use Rattle.std.proofs.Common.{◌≡◌, ℕ, zero, suc, ◌≤◌, ◌⊎◌, inl, inr, List, [], Bool, true, false, Option, Some, None, is_some, ap, sym, refl, ◌∙◌, subst, get_or}
-use Rattle.std.specs.Prelude.{IsSome, unwrap_or, replicate}
+use Rattle.std.proofs.Common.{◌≡◌, ℕ, zero, suc, ◌≤◌, inl, inr, true, false, Option, Some, None, is_some, ap, sym, refl, ◌∙◌, get_or}
+use Rattle.std.specs.Prelude.{unwrap_or, replicate}
 use Rattle.std.specs.Option.{option_map}
 use Rattle.std.specs.List.{list_any}
 use Rattle.std.specs.FinMap as map
@@ -13,23 +13,21 @@ use Rattle.ufs_image.specs.Standing.{IsVolumeOf}
 use Rattle.ufs_image.specs.Volume.{Volume}
 use Rattle.ufs_image.specs.Walks as cat
 use Rattle.ufs_image.proofs.Depth.{has_root}
-use Rattle.ufs_image.proofs.Found.{same_some}
 use Rattle.ufs_image.proofs.Opening.{has_geometry}
 use Rattle.ufs_image.proofs.Paths.{standing}
 use Rattle.ufs_model.specs.Order.{fd_cmp}
 use Rattle.ufs_model.specs.PosixTree.{PosixTree, IsTree, is_node_of}
-use Rattle.ufs_model.specs.Start.{content_of}
 use Rattle.ufs_model.specs.Touched.{holds}
-use Rattle.ufs_model.specs.declared.data.Node.{Node}
 use Rattle.ufs_model.specs.declared.data.Node.TheVariants as node
 use Rattle.ufs_model.proofs.Facts.Held.{holder}
-use Rattle.ufs_model.proofs.Facts.Live.{Named, Held, HasBytes, held_has, has_held, node_is, is_itself, alike}
+use Rattle.ufs_model.proofs.Facts.Live.{Named, Held, held_has, has_held, node_is, is_itself, alike}
 use Rattle.ufs_model.proofs.Facts.Lookups.{passes, from_passes}
 use Rattle.ufs_model.proofs.Facts.Orders.{path_total, path_same}
+use Rattle.ufs_ledger.specs.Kept.{path_node_of}
 use Rattle.ufs_name_tree.specs.NameTable.{file_at}
 use Rattle.ufs_names.specs.NamesPart.{NamesPart, IsNamedOnce, IsPartOf, AreInodesOf, unheld, holding_of, is_linked, is_holder}
 use Rattle.ufs_names.specs.declared.holding.Holding.{Holding}
-use Rattle.ufs_names_image.specs.Numbered.{path_node_of, HasImage, IsFileAt}
+use Rattle.ufs_names_image.specs.Numbered.{HasImage}
 use Rattle.ufs_names_image.specs.Parts.{closed_file, IsNamesOf}
 use Rattle.ufs_names_image.proofs.Named.{no_content, names_stand}
 
@@ -43,7 +41,7 @@ some_is None e = cc
 some_is (Some x) e = (x, refl)
 
 module _ (sectors : ℕ) (image : Image) (v : Volume) (c : Catalog) (t : PosixTree) (n : NamesPart) (is : IsVolumeOf sectors image v c) (tree : IsTree t) (has : HasImage t (from_entries (walked v)))
-  (once : IsNamedOnce t.paths) (closed : t.fds ≡ map.empty) (of : IsNamesOf v.geometry c t n) where
+    (once : IsNamedOnce t.paths) (closed : t.fds ≡ map.empty) (of : IsNamesOf v.geometry c t n) where
   some : 1 ≤ v.geometry.inodes
   some = has_root v.geometry (has_geometry sectors image v is.taken).0
 

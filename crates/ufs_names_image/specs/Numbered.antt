@@ -1,29 +1,24 @@
 -- The names of an image's directories, with the numbers of its files.
-use Rattle.std.specs.Prelude.{ℕ, ◌≡◌, List, length, Some, None}
+use Rattle.std.specs.Prelude.{ℕ, ◌≡◌, List, length, Some}
 use Rattle.std.specs.Option.{option_map}
 use Rattle.std.specs.FinMap as map
 use Rattle.std.specs.FinMap.{from_entries}
 use Rattle.ufs_base.specs.Images.{Image}
 use Rattle.ufs_image.specs.Catalog.{Catalog}
-use Rattle.ufs_image.specs.Opens.{NodeBytes, ImageTree, walked}
+use Rattle.ufs_image.specs.Opens.{ImageTree, walked}
 use Rattle.ufs_image.specs.Standing.{IsVolumeOf}
 use Rattle.ufs_image.specs.Volume.{Volume}
 use Rattle.ufs_image.specs.Walks.{inode_of, path_text}
 use Rattle.ufs_model.specs.PosixTree.{PosixTree, Paths, IsTree}
 use Rattle.ufs_model.specs.Start.{IsNumberedByPath, content_of}
 use Rattle.ufs_model.specs.declared.data.Node.TheVariants.{File}
-use Rattle.ufs_model.specs.declared.data.PathNode.{PathNode}
-use Rattle.ufs_model.specs.declared.data.PathNode.TheVariants as path_node
+use Rattle.ufs_ledger.specs.Kept.{path_node_of}
 use Rattle.ufs_dir_image.specs.Tables.{IsTableOf}
 use Rattle.ufs_name_tree.specs.NameTable.{NameTable, IsNameTable, file_at, node_at}
 use Rattle.ufs_names.specs.NamesPart.{IsNamedOnce}
 use Rattle.ufs_names.specs.Stands.{Stands}
 
 -- ---- trees of an image
-
-abbrev pub path_node_of : NodeBytes → PathNode
-path_node_of None = path_node.Dir
-path_node_of (Some bytes) = path_node.File bytes
 
 -- The tree has the image's paths: directories, and files with their bytes.
 abbrev pub HasImage : PosixTree → ImageTree → Type 0
