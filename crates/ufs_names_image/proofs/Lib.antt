@@ -1,3 +1,4 @@
+mod Filed
 mod Named
 mod Parted
 mod PathTexts

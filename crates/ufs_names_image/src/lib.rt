@@ -1,6 +1,7 @@
 //! A server's names and an image's tree are one.
 #![tactic(auto)]
 
+ghost use Rattle.ufs_names_image.specs.Loaded.{FilesAreParts};
 ghost use Rattle.ufs_names_image.specs.Numbered.{NamesStandForTrees, NumbersNameOnce};
 ghost use Rattle.ufs_names_image.specs.Parts.{NamesAreParts};
 ghost use Rattle.ufs_names_image.specs.Starts.{ImagesArePathTrees, NamesArePartsOfStarts};
@@ -24,6 +25,13 @@ pub fn names_part_law(sectors: usize)
 pub fn image_start_law(sectors: usize)
     ensures paths { ImagesArePathTrees sectors }
     ensures part { NamesArePartsOfStarts sectors }
+{
+    let _sectors = sectors;
+}
+
+/// Files with an image's bytes are parts of that tree.
+pub fn files_part_law(sectors: usize)
+    ensures { FilesAreParts sectors }
 {
     let _sectors = sectors;
 }

@@ -1,0 +1,31 @@
+-- The files that a server begins with.
+use Rattle.std.specs.Prelude.{ℕ, ◌≡◌, Some}
+use Rattle.std.specs.FinMap as map
+use Rattle.std.specs.FinMap.{from_entries}
+use Rattle.ufs_base.specs.Images.{Image}
+use Rattle.ufs_image.specs.Catalog.{Catalog}
+use Rattle.ufs_image.specs.Opens.{file_bytes, walked}
+use Rattle.ufs_image.specs.Standing.{IsVolumeOf}
+use Rattle.ufs_image.specs.Volume.{Volume}
+use Rattle.ufs_file.specs.Hand.{FileState}
+use Rattle.ufs_files.specs.Files.{Files, AreFilesOf}
+use Rattle.ufs_model.specs.PosixTree.{PosixTree, IsTree}
+use Rattle.ufs_name_tree.specs.NameTable.{file_at}
+use Rattle.ufs_names.specs.Calls.{HaveInodes}
+use Rattle.ufs_names.specs.NamesPart.{NamesPart}
+use Rattle.ufs_names_image.specs.Numbered.{HasImage}
+use Rattle.ufs_names_image.specs.Parts.{IsNamesOf}
+
+-- It is the file with this number, and has the bytes that the image has at its inode.
+pub record IsRead (image : Image) (c : Catalog) (n : NamesPart) (file : ℕ) (s : FileState) : Type 0 where
+  pub number : s.file ≡ file
+  pub inode : file_at n.tree s.inode ≡ Some file
+  pub bytes : s.content.bytes ≡ file_bytes image (c.forms s.inode)
+
+abbrev pub AreRead : Image → Catalog → NamesPart → Files → Type 0
+AreRead image c n files = (file : ℕ) (s : FileState) → map.get files file ≡ Some s → IsRead image c n file s
+
+-- Files that are read so are parts of the tree that the image opens to, each with the inode that the names tell of it.
+abbrev pub FilesAreParts : ℕ → Type 0
+FilesAreParts sectors = (image : Image) (v : Volume) (c : Catalog) (t : PosixTree) (n : NamesPart) (files : Files) → IsVolumeOf sectors image v c → IsTree t → HasImage t (from_entries (walked v))
+    → IsNamesOf v.geometry c t n → AreRead v.image c n files → AreFilesOf files t × HaveInodes n.held files
