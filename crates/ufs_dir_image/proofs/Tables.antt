@@ -41,7 +41,7 @@ and_false true = refl
 and_false false = refl
 
 -- a block of a list stands at a place
-place_of_block : (blocks : List ℕ) (b : ℕ) → has_block blocks b ≡ true → (place : ℕ) × (slice_get blocks place ≡ Some b)
+pub place_of_block : (blocks : List ℕ) (b : ℕ) → has_block blocks b ≡ true → (place : ℕ) × (slice_get blocks place ≡ Some b)
 place_of_block [] b e = absurd cc
 place_of_block (x ∷ xs) b e = by (x == b) refl e (place_of_block xs b)
   where
@@ -179,7 +179,7 @@ module _ (g : Geometry) (image : Image) (c : Catalog) (t : DirTable) (some : 1 �
       by true has = place_of_block (blocks_of (c.forms i)) b has
       by false has = absurd cc
 
-  holds : (i b : ℕ) → has_block (blocks_at t i) b ≡ true → (place : ℕ) × HasBlock g c i place b
+  pub holds : (i b : ℕ) → has_block (blocks_at t i) b ≡ true → (place : ℕ) × HasBlock g c i place b
   holds i b has = by (inside_or_none i)
     where
       by : IsInode g i ⊎ (dir_at t i ≡ no_dir) → (place : ℕ) × HasBlock g c i place b

@@ -1,5 +1,5 @@
 -- The files of an image are parts of the tree that it opens to.
-use Rattle.std.proofs.Common.{◌≡◌, ℕ, ◌≤◌, List, Bool, true, false, Option, Some, None, ap, sym, refl, ◌∙◌}
+use Rattle.std.proofs.Common.{◌≡◌, ℕ, ◌≤◌, List, Bool, true, false, Option, Some, None, ap, sym, ◌∙◌}
 use Rattle.std.specs.Prelude.{◌==◌, if◌then◌else◌}
 use Rattle.std.specs.Option.{option_map}
 use Rattle.std.specs.FinMap as map
@@ -14,14 +14,11 @@ use Rattle.ufs_image.proofs.Depth.{has_root, root_in_range}
 use Rattle.ufs_image.proofs.Found.{reached, same_some}
 use Rattle.ufs_image.proofs.Opening.{has_geometry}
 use Rattle.ufs_image.proofs.Paths.{stands}
-use Rattle.ufs_file.specs.Hand.{FileState}
 use Rattle.ufs_files.specs.Files.{Files, AreFilesOf}
-use Rattle.ufs_model.specs.PosixTree.{PosixTree, IsTree}
+use Rattle.ufs_model.specs.PosixTree.{PosixTree}
 use Rattle.ufs_model.specs.Start.{content_of}
-use Rattle.ufs_model.specs.declared.data.Node.TheVariants as node
 use Rattle.ufs_model.specs.declared.data.PathNode.TheVariants as path_node
 use Rattle.ufs_ledger.specs.Kept.{path_node_of}
-use Rattle.ufs_name_tree.specs.NameTable.{file_at}
 use Rattle.ufs_names.specs.Calls.{HaveInodes}
 use Rattle.ufs_names.specs.NamesPart.{NamesPart}
 use Rattle.ufs_names.specs.declared.holding.Holding.{Holding}
@@ -36,7 +33,7 @@ with_bytes true (Some has) bytes e = cc
 with_bytes false (Some has) bytes e = let same : has ≡ bytes = cc in ap Some same
 
 module _ (sectors : ℕ) (image : Image) (v : Volume) (c : Catalog) (t : PosixTree) (n : NamesPart) (files : Files) (is : IsVolumeOf sectors image v c) (has : HasImage t (from_entries (walked v)))
-  (of : IsNamesOf v.geometry c t n) (read : AreRead v.image c n files) where
+    (of : IsNamesOf v.geometry c t n) (read : AreRead v.image c n files) where
   some : 1 ≤ v.geometry.inodes
   some = has_root v.geometry (has_geometry sectors image v is.taken).0
 
@@ -45,7 +42,7 @@ module _ (sectors : ℕ) (image : Image) (v : Volume) (c : Catalog) (t : PosixTr
       let pieces = (reached v.geometry c is.sound 1 at.names i (root_in_range v.geometry c is.sound some) at.met).1 in
       with_bytes ((c.forms i).kind == 2) (map.get t.bytes f) (file_bytes v.image (c.forms i))
       (sym (ap (content_of t.bytes) at.stands) ∙ has (cat.path_text at.names)
-          ∙ ap (option_map path_node_of) (stands v.geometry v.image c is.catalog is.sound some at.names pieces ∙ ap (option_map (cat.node_of v.image c)) at.met))
+      ∙ ap (option_map path_node_of) (stands v.geometry v.image c is.catalog is.sound some at.names pieces ∙ ap (option_map (cat.node_of v.image c)) at.met))
 
   pub are_files : AreFilesOf files t
   are_files f s e =

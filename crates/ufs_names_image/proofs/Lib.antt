@@ -1,3 +1,4 @@
+mod BlocksApart
 mod Filed
 mod Named
 mod Parted

@@ -1,7 +1,7 @@
 //! A server's names and an image's tree are one.
 #![tactic(auto)]
 
-ghost use Rattle.ufs_names_image.specs.Loaded.{FilesAreParts};
+ghost use Rattle.ufs_names_image.specs.Loaded.{BlocksAreApart, FilesAreParts};
 ghost use Rattle.ufs_names_image.specs.Numbered.{NamesStandForTrees, NumbersNameOnce};
 ghost use Rattle.ufs_names_image.specs.Parts.{NamesAreParts};
 ghost use Rattle.ufs_names_image.specs.Starts.{ImagesArePathTrees, NamesArePartsOfStarts};
@@ -29,9 +29,10 @@ pub fn image_start_law(sectors: usize)
     let _sectors = sectors;
 }
 
-/// Files with an image's bytes are parts of that tree.
+/// Files with an image's bytes are parts of that tree, and no block is in two places.
 pub fn files_part_law(sectors: usize)
-    ensures { FilesAreParts sectors }
+    ensures parts { FilesAreParts sectors }
+    ensures apart { BlocksAreApart sectors }
 {
     let _sectors = sectors;
 }
