@@ -1,5 +1,5 @@
 -- The files that a server begins with.
-use Rattle.std.specs.Prelude.{ℕ, ◌≡◌, Some, true}
+use Rattle.std.specs.Prelude.{ℕ, ◌≡◌, Some, true, false}
 use Rattle.std.specs.FinMap as map
 use Rattle.std.specs.FinSet as set
 use Rattle.std.specs.FinMap.{from_entries}
@@ -46,3 +46,8 @@ IsUntaken g c pool = (block : ℕ) → set.contains pool block ≡ true → IsTa
 abbrev pub BlocksAreApart : ℕ → Type 0
 BlocksAreApart sectors = (image : Image) (v : Volume) (c : Catalog) (t : PosixTree) (n : NamesPart) (files : Files) (pool : BlockSet) → IsVolumeOf sectors image v c → IsTree t → HasImage t (from_entries (walked v))
     → IsNamedOnce t.paths → IsNamesOf v.geometry c t n → AreRead v.image c n files → IsUntaken v.geometry c pool → AreApart n.tree.dirs files pool
+
+-- A pool of blocks that the image doesn't take is such a one.
+abbrev pub FreeIsUntaken : ℕ → Type 0
+FreeIsUntaken sectors = (image : Image) (v : Volume) (c : Catalog) (pool : BlockSet) → IsVolumeOf sectors image v c
+    → ((block : ℕ) → set.contains pool block ≡ true → image_nodes.is_taken v.geometry (image_nodes.sound_nodes v.geometry v.image) block ≡ false) → IsUntaken v.geometry c pool

@@ -1,7 +1,7 @@
 //! A server's names and an image's tree are one.
 #![tactic(auto)]
 
-ghost use Rattle.ufs_names_image.specs.Loaded.{BlocksAreApart, FilesAreParts};
+ghost use Rattle.ufs_names_image.specs.Loaded.{BlocksAreApart, FilesAreParts, FreeIsUntaken};
 ghost use Rattle.ufs_names_image.specs.Numbered.{NamesStandForTrees, NumbersNameOnce};
 ghost use Rattle.ufs_names_image.specs.Parts.{NamesAreParts};
 ghost use Rattle.ufs_names_image.specs.Starts.{ImagesArePathTrees, NamesArePartsOfStarts};
@@ -33,6 +33,7 @@ pub fn image_start_law(sectors: usize)
 pub fn files_part_law(sectors: usize)
     ensures parts { FilesAreParts sectors }
     ensures apart { BlocksAreApart sectors }
+    ensures free { FreeIsUntaken sectors }
 {
     let _sectors = sectors;
 }
