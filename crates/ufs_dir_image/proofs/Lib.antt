@@ -1,4 +1,5 @@
 pub mod Walked
 mod Extents
+mod Made
 pub mod PlainNames
 pub mod Tables

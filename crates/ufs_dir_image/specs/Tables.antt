@@ -30,3 +30,7 @@ pub record IsTableOf (g : Geometry) (c : Catalog) (t : DirTable) : Type 0 where
 -- What is true of every table of directories is true of that of an image's sound catalog.
 abbrev pub TablesAreDirTables : Geometry → Type 0
 TablesAreDirTables g = (image : Image) (c : Catalog) (t : DirTable) → IsCatalogOf g image c → IsSoundCatalog g c → IsTableOf g c t → IsDirTable t
+
+-- Each catalog has such a table.
+abbrev pub CatalogsHaveTables : Geometry → Type 0
+CatalogsHaveTables g = (c : Catalog) → (t : DirTable) × IsTableOf g c t
