@@ -1,1 +1,5 @@
-mod Walked
+pub mod Walked
+mod Extents
+mod Made
+pub mod PlainNames
+pub mod Tables

@@ -3,6 +3,7 @@
 
 ghost use Rattle.ufs_layout.specs.Areas.{IsGeometry};
 ghost use Rattle.ufs_dir_image.specs.Meets.{WalksMeet};
+ghost use Rattle.ufs_dir_image.specs.Tables.{CatalogsHaveTables, TablesAreDirTables};
 
 use ufs_layout::Geometry;
 
@@ -10,6 +11,16 @@ use ufs_layout::Geometry;
 pub fn walks_meet_law(geometry: &Geometry)
     requires { IsGeometry geometry.now }
     ensures { WalksMeet geometry.now }
+{
+    let _geometry = geometry;
+}
+
+/// The directories of an image's sound catalog, with the inodes that it leaves unused as the free ones, are a table
+/// of directories. Each catalog has them.
+pub fn dir_table_law(geometry: &Geometry)
+    requires { IsGeometry geometry.now }
+    ensures table { TablesAreDirTables geometry.now }
+    ensures made { CatalogsHaveTables geometry.now }
 {
     let _geometry = geometry;
 }

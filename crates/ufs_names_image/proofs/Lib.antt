@@ -1,0 +1,6 @@
+mod BlocksApart
+mod Filed
+mod Named
+mod Parted
+mod PathTexts
+mod Started

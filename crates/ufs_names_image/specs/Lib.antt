@@ -1,0 +1,4 @@
+pub mod Numbered
+pub mod Parts
+pub mod Starts
+pub mod Loaded

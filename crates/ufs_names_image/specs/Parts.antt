@@ -1,0 +1,37 @@
+-- The part of the names that a server begins with.
+use Rattle.std.specs.Prelude.{ℕ, ◌≡◌, Some, true, false, replicate}
+use Rattle.std.specs.FinMap as map
+use Rattle.std.specs.FinMap.{from_entries}
+use Rattle.ufs_base.specs.Images.{Image}
+use Rattle.ufs_layout.specs.declared.geometry.Geometry.{Geometry}
+use Rattle.ufs_image.specs.Catalog.{Catalog}
+use Rattle.ufs_image.specs.Opens.{walked}
+use Rattle.ufs_image.specs.Standing.{IsVolumeOf}
+use Rattle.ufs_image.specs.Volume.{Volume}
+use Rattle.ufs_model.specs.PosixTree.{PosixTree, IsTree}
+use Rattle.ufs_dir_image.specs.Tables.{IsTableOf}
+use Rattle.ufs_name_tree.specs.NameTable.{NameTable, file_at}
+use Rattle.ufs_names.specs.NamesPart.{NamesPart, Holdings, IsNamedOnce, IsPartOf}
+use Rattle.ufs_names.specs.declared.holding.Holding.{Holding}
+use Rattle.ufs_names_image.specs.Numbered.{HasImage, IsNumberedAs}
+
+-- what is known of a file that a path names and no client has open
+abbrev pub closed_file : ℕ → Holding
+closed_file inode = record { inode = inode; linked = true; clients = replicate 16 false }
+
+-- This is known of just the files that have numbers.
+pub record AreClosed (n : NameTable) (held : Holdings) : Type 0 where
+  pub each : (inode file : ℕ) → file_at n inode ≡ Some file → map.get held file ≡ Some (closed_file inode)
+  pub only : (file : ℕ) (h : Holding) → map.get held file ≡ Some h → file_at n h.inode ≡ Some file
+
+-- The directories are the catalog's, and the numbers of files are the tree's.
+pub record IsNamesOf (g : Geometry) (c : Catalog) (t : PosixTree) (n : NamesPart) : Type 0 where
+  pub dirs : IsTableOf g c n.tree.dirs
+  pub numbers : IsNumberedAs c n.tree t.paths
+  pub closed : AreClosed n.tree n.held
+  pub next : n.next ≡ t.next
+
+-- Where the image opens to the tree, and nothing is open in it, they are the tree's part.
+abbrev pub NamesAreParts : ℕ → Type 0
+NamesAreParts sectors = (image : Image) (v : Volume) (c : Catalog) (t : PosixTree) (n : NamesPart) → IsVolumeOf sectors image v c → IsTree t → HasImage t (from_entries (walked v)) → IsNamedOnce t.paths
+    → t.fds ≡ map.empty → IsNamesOf v.geometry c t n → IsPartOf n t
