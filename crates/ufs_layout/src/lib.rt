@@ -10,8 +10,6 @@ mod record_codec;
 mod record_decode;
 mod records;
 mod superblock;
-#[cfg(test)]
-mod tests;
 
 pub use dentry::{Dentry, get_dentry, put_dentry};
 pub use geometry::{BadGeometry, Geometry};

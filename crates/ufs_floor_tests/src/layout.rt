@@ -1,10 +1,10 @@
 // Vectors of the format, and each call once.
-use crate::{
+use std::alloc::AllocError;
+use ufs_layout::{
     Committed, CommittedList, Dentry, Extent, ExtentList, Geometry, Header, Inode, LogRecord,
     Records, Super, count_fitting, get_dentry, get_header, get_inode, get_records, get_super,
     put_dentry, put_header, put_inode, put_records, put_super, super_version,
 };
-use std::alloc::AllocError;
 
 const SUPER: [u8; 41] = [
     0x75, 0x46, 0x53, 0x49, 0x4d, 0x47, 0x30, 0x31, 1, 0, 0, 0, 0, 1, 0, 0, 0x20, 0, 0, 0, 0x40, 0,
