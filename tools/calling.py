@@ -1,16 +1,18 @@
 #!/usr/bin/env python3
-"""Puts the public contracts of each crate into its CALLING.md, as the source has them.
+"""Quotes the source in each crate's CALLING.md: its public contracts, and callers.
 
-    python3 tools/calling.py            writes them
-    python3 tools/calling.py --check    says which pages are behind, and ends with status 1 if one is
+    python3 tools/calling.py            writes the pages
+    python3 tools/calling.py --check    says which pages are behind or missing, and ends with status 1 if one is
 
-A page keeps what stands above the line `## Contracts`; what is below it is written here.
+What is below the line `## Contracts` is written here. Above it a page keeps its words, but the block of code
+behind a line that ends with "`crates/NAME/src/FILE.rt`, `fn NAME`:" is that function.
 """
 import pathlib
 import re
 import sys
 
 HEAD = "## Contracts\n"
+CALLER = re.compile(r"(`(crates/\w+/src/[\w/]+\.rt)`, `fn (\w+)`:\n\n```rust\n)(.*?)(```\n)", re.S)
 TOP = pathlib.Path(__file__).resolve().parent.parent
 ITEM = re.compile(r"^(\s*)(?:pub )?(?:const |ghost )?(fn|struct|enum|trait|type|const|static) (\w+)")
 IMPL = re.compile(r"^impl\b(?:<.*?>)?\s+(?:([\w:]+)(?:<.*>)?\s+for\s+)?(\w+)")
@@ -20,7 +22,7 @@ def listed():
     """The crates of crates.txt but those of tests, in its order."""
     lines = (TOP / "crates.txt").read_text().splitlines()
     crates = [line.split(":")[0] for line in lines if line and not line.startswith("#")]
-    return [crate for crate in crates if not crate.endswith("_tests")]
+    return [crate for crate in crates if not crate.endswith(("_tests", "_broken"))]
 
 
 def exported(root):
@@ -116,15 +118,13 @@ def module(text, names, every):
 
 
 def contracts(crate):
-    """What the page of a crate quotes, or nothing where it gives out nothing."""
+    """What the page of a crate quotes, or nothing where it gives out nothing. A program's modules are all shown."""
     source = TOP / "crates" / crate / "src"
     root = source / "lib.rt"
-    if not root.exists():
-        return ""
-    names, modules = exported(root.read_text())
+    names, modules = exported(root.read_text()) if root.exists() else (set(), set())
     parts = []
     for path in sorted(source.glob("*.rt"), key=lambda p: (p != root, p.name)):
-        items = module(path.read_text(), names, path.stem in modules)
+        items = module(path.read_text(), names, not root.exists() or path.stem in modules)
         if items:
             parts.append(f"\n### `src/{path.name}`\n\n```rust\n{laid_out(items)}\n```\n")
     return "".join(parts)
@@ -145,15 +145,32 @@ def laid_out(items):
     return "\n".join(lines + ["}"] if last else lines)
 
 
+def caller(found):
+    """A block of code that quotes a function, as its file has it."""
+    path = TOP / found.group(2)
+    lines = path.read_text().splitlines() if path.exists() else []
+    for at, line in enumerate(lines):
+        indent = re.match(rf"(\s*)(?:pub )?fn {found.group(3)}\b", line)
+        if indent:
+            end = lines.index(indent.group(1) + "}", at) + 1
+            body = [text[len(indent.group(1)) :] for text in lines[at:end]]
+            return found.group(1) + "".join(text + "\n" for text in body) + found.group(5)
+    return found.group(1) + found.group(5)
+
+
+def page_of(crate, old):
+    """The page of a crate with what it quotes."""
+    quoted = contracts(crate)
+    above = CALLER.sub(caller, old.split(HEAD)[0].rstrip() + "\n")
+    return above + (f"\n{HEAD}{quoted}" if quoted else "")
+
+
 def main():
     behind = []
     for crate in listed():
-        quoted = contracts(crate)
         page = TOP / "crates" / crate / "CALLING.md"
-        if not quoted:
-            continue
-        old = page.read_text() if page.exists() else f"# `{crate}`\n\n"
-        new = old.split(HEAD)[0].rstrip() + "\n\n" + HEAD + quoted
+        old = page.read_text() if page.exists() else ""
+        new = page_of(crate, old or f"# `{crate}`\n")
         if new != old:
             behind.append(str(page.relative_to(TOP)))
             if "--check" not in sys.argv:
