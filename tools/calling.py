@@ -5,14 +5,14 @@
     python3 tools/calling.py --check    says which pages are behind or missing, and ends with status 1 if one is
 
 What is below the line `## Contracts` is written here. Above it a page keeps its words, but the block of code
-behind a line that ends with "`crates/NAME/src/FILE.rt`, `fn NAME`:" is that function.
+behind a line that ends with "`crates/NAME/src/FILE.rt`, `fn NAME`:" is that function, without its clauses.
 """
 import pathlib
 import re
 import sys
 
 HEAD = "## Contracts\n"
-CALLER = re.compile(r"(`(crates/\w+/src/[\w/]+\.rt)`, `fn (\w+)`:\n\n```rust\n)(.*?)(```\n)", re.S)
+CALLER = re.compile(r"(`(crates/\w+/src/[\w/]+\.rt)`, `fn (\w+)`:\n\n```rust\n)(?:.*?)(```\n)", re.S)
 TOP = pathlib.Path(__file__).resolve().parent.parent
 ITEM = re.compile(r"^(\s*)(?:pub )?(?:const |ghost )?(fn|struct|enum|trait|type|const|static) (\w+)")
 IMPL = re.compile(r"^impl\b(?:<.*?>)?\s+(?:([\w:]+)(?:<.*>)?\s+for\s+)?(\w+)")
@@ -145,6 +145,14 @@ def laid_out(items):
     return "\n".join(lines + ["}"] if last else lines)
 
 
+def unclaused(body):
+    """A function without its clauses, which stand on the page of its own crate."""
+    first = next((at for at, line in enumerate(body) if re.match(r"    (requires|ensures)\b", line)), None)
+    if first is None or "{" not in body[first:]:
+        return body
+    return body[:first] + body[body.index("{", first) :]
+
+
 def caller(found):
     """A block of code that quotes a function, as its file has it."""
     path = TOP / found.group(2)
@@ -154,8 +162,8 @@ def caller(found):
         if indent:
             end = lines.index(indent.group(1) + "}", at) + 1
             body = [text[len(indent.group(1)) :] for text in lines[at:end]]
-            return found.group(1) + "".join(text + "\n" for text in body) + found.group(5)
-    return found.group(1) + found.group(5)
+            return found.group(1) + "".join(text + "\n" for text in unclaused(body)) + found.group(4)
+    return found.group(1) + found.group(4)
 
 
 def page_of(crate, old):
