@@ -61,10 +61,10 @@ def body_of(lines, at):
     if lines[at].rstrip().endswith((";", "}")):
         return taken, at + 1
     at += 1
-    while lines[at].rstrip() != indent + "}":
+    while not lines[at].startswith((indent + "}", indent + ")")):
         taken.append(lines[at].rstrip())
         at += 1
-    return taken + [indent + "}"], at + 1
+    return taken + [lines[at].rstrip()], at + 1
 
 
 def shown(lines):
@@ -155,15 +155,14 @@ def unclaused(body):
 
 def caller(found):
     """A block of code that quotes a function, as its file has it."""
-    path = TOP / found.group(2)
-    lines = path.read_text().splitlines() if path.exists() else []
+    lines = (TOP / found.group(2)).read_text().splitlines()
     for at, line in enumerate(lines):
         indent = re.match(rf"(\s*)(?:pub )?fn {found.group(3)}\b", line)
         if indent:
             end = lines.index(indent.group(1) + "}", at) + 1
             body = [text[len(indent.group(1)) :] for text in lines[at:end]]
             return found.group(1) + "".join(text + "\n" for text in unclaused(body)) + found.group(4)
-    return found.group(1) + found.group(4)
+    sys.exit(f"{found.group(2)} has no function {found.group(3)}, which a page quotes")
 
 
 def page_of(crate, old):
