@@ -1,5 +1,5 @@
 -- What folding takes of steps.
-use Rattle.std.specs.Prelude.{ℕ, List, map, min}
+use Rattle.std.specs.Prelude.{List, map, min}
 use Rattle.ufs_scan.specs.Edits.{StepValue}
 use Rattle.ufs_scan.specs.declared.chains.Chain.{Chain}
 use Rattle.ufs_scan.specs.declared.net.Net.{Net}

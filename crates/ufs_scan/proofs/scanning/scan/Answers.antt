@@ -1,17 +1,12 @@
 use Rattle.std.proofs.Common.{◌≡◌, ◌-◌, List, true, false, get_or, ap, sym, ◌∙◌, subst}
 use Rattle.std.specs.Prelude.{map}
-use Rattle.std.specs.List.{All, filter}
-use Rattle.std.specs.List.Sorted.{IsPermutation}
+use Rattle.std.specs.List.{All}
 use Rattle.ufs_disk.specs.Disk.{IsImage}
 use Rattle.ufs_disk.specs.Moments.{reads}
 use Rattle.ufs_disk.proofs.Runs.{goes_on_quietly}
-use Rattle.ufs_layout.specs.Words.{rising_by}
 use Rattle.ufs_layout.specs.declared.geometry.Geometry.{Geometry}
-use Rattle.ufs_image.specs.Journal.{FoundSector, has_records, has_commit, committed_of}
+use Rattle.ufs_image.specs.Journal.{FoundSector, committed_of}
 use Rattle.ufs_found.specs.Off.{lower, lowest_of, first_off}
-use Rattle.ufs_found.specs.Sorted.{number_of}
-use Rattle.ufs_scan.specs.Chains.{AreChains}
-use Rattle.ufs_scan.specs.Edits.{edits_of}
 use Rattle.ufs_scan.specs.Folding.{IsFoldable}
 use Rattle.ufs_scan.specs.Gathered.{transaction_in, HasParts}
 use Rattle.ufs_scan.specs.Standings.{out_of, marked_standings}

@@ -1,4 +1,4 @@
-use Rattle.std.proofs.Common.{◌≡◌, length, take, subst, sym, ap, ◌∙◌}
+use Rattle.std.proofs.Common.{length, take, subst, sym, ap, ◌∙◌}
 use Rattle.std.specs.Prelude.{map}
 use Rattle.std.proofs.lemmas.List.{take-map}
 use Rattle.ufs_scan.specs.Edits.{AreNets}

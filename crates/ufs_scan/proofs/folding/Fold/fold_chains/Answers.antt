@@ -1,8 +1,8 @@
-use Rattle.std.proofs.Common.{ap, sym, ◌∙◌, ◌+◌, ◌<◌, drop, take, arith}
+use Rattle.std.proofs.Common.{ap, sym, ◌∙◌, ◌+◌, drop, take, arith}
 use Rattle.ufs_scan.specs.Folding as fold
 use Rattle.ufs_scan.specs.Nets.{nets_of}
 use Rattle.ufs_scan.proofs.Edits.{drop_taken}
-use Rattle.ufs_scan.proofs.NetLemmas.{as_many, one_of}
+use Rattle.ufs_scan.proofs.NetLemmas.{one_of}
 use Rattle.ufs_scan.proofs.folding.Fold.fold_chains.Goals as goal
 
 pub fold_chain-requires-clause-nets : goal.fold_chain-requires-clause-nets
