@@ -41,6 +41,22 @@ pub record IsRead (g : Geometry) (head : Super) (image : Image) (found parts com
   pub numbers : commits ≡ rising_by number_of (filter has_commit found)
   pub low : All (λ (f : FoundSector). f.1.index < 65536) commits
 
+-- by what each call was given of it
+pub read_is : (g : Geometry) (head : Super) (image : Image) (found parts_found commits_found parts chains_parts commits : List FoundSector) (chains : List Chain) → parts_found ≡ found → commits_found ≡ found → chains_parts ≡ parts
+    → found ≡ well_spelled (sectors_of_epoch g head.epoch image) → HasParts parts_found parts → IsPermutation (filter has_records parts_found) parts → All (λ (f : FoundSector). f.1.index < 65536) parts
+    → AreChains (edits_of g chains_parts) chains → All (λ (c : Chain). IsFit g.inodes c) chains → commits ≡ rising_by number_of (filter has_commit commits_found) → All (λ (f : FoundSector). f.1.index < 65536) commits
+    → IsRead g head image found parts commits chains
+read_is g head image found parts_found commits_found parts chains_parts commits chains for_parts for_commits for_chains spelled has same small linked fit numbers low = record {
+  spelled = spelled;
+  has = subst (λ (l : List FoundSector). HasParts l parts) for_parts has;
+  same = subst (λ (l : List FoundSector). IsPermutation (filter has_records l) parts) for_parts same;
+  small = small;
+  linked = subst (λ (l : List FoundSector). AreChains (edits_of g l) chains) for_chains linked;
+  fit = fit;
+  numbers = numbers ∙ ap (λ (l : List FoundSector). rising_by number_of (filter has_commit l)) for_commits;
+  low = low;
+}
+
 module _ (g : Geometry) (taken : IsGeometry g) (head : Super) (image : Image) (found parts commits : List FoundSector) (chains : List Chain) (read : IsRead g head image found parts commits chains) where
   in_order : Rising found
   in_order = subst (λ (l : List FoundSector). Rising l) (sym read.spelled) (rising_found head.epoch image (8 * first_of_journal g) g.journal)

@@ -2,17 +2,20 @@
 // takes a step for each inode that its transaction names, however many records there are.
 ghost use Rattle.std.specs.Prelude.{◌≡◌, ◌≤◌, ◌<◌, nat_lt, List, length, map, take, drop, ℕ, None, slice_index_or, IfOk};
 ghost use Rattle.std.specs.List.{All};
-ghost use Rattle.std.specs.List.Sorted.{IsNonDecreasingBy, IsPartitionPoint};
+ghost use Rattle.std.specs.List.Sorted.{IsNonDecreasingBy};
 ghost use Rattle.ufs_found.specs.Off as off;
 ghost use Rattle.ufs_image.specs.Journal.{FoundSector};
 ghost use Rattle.ufs_layout.specs.declared.geometry.Geometry.{Geometry};
 ghost use Rattle.ufs_scan.specs.Edits as by;
 ghost use Rattle.ufs_scan.specs.Folding as fold;
 ghost use Rattle.ufs_scan.specs.Gathered.{transaction_in};
+ghost use Rattle.ufs_scan.specs.Nets as net;
 ghost use Rattle.ufs_scan.specs.Standings as stand;
 
 use crate::Standing;
 use crate::chains::Chain;
+use crate::net::Net;
+use crate::nets::{count_behind, nets_of, steps_below};
 use crate::steps::Step;
 use std::alloc::{AllocError, Global};
 use std::marker::Model;
@@ -33,33 +36,6 @@ impl Model for Fold {
     ghost Value = { State };
 
     ghost view = { λ f. record { standings = f.standings.items; leasts = f.leasts.items; lowest = f.lowest } };
-}
-
-fn search_below<'a, 'b>(steps: &'b [Step<'a>], index: u16) -> &'b [Step<'a>]
-    requires { IsNonDecreasingBy (λ s. s.edit.index) steps.now }
-    ensures kept { result.now ≡ fold.steps_below index steps.now }
-    ensures front { result.now ≡ take (length result.now) steps.now }
-{
-    let to = steps.partition_point(|step| step.index() < index);
-    &steps[..to]
-}
-
-// All, where the last stands there: so it is where one commit ends a transaction.
-fn steps_below<'a, 'b>(steps: &'b [Step<'a>], index: u16) -> &'b [Step<'a>]
-    requires { IsNonDecreasingBy (λ s. s.edit.index) steps.now }
-    ensures kept { result.now ≡ fold.steps_below index steps.now }
-    ensures front { result.now ≡ take (length result.now) steps.now }
-{
-    match steps.last() {
-        None => steps,
-        Some(last) => {
-            if last.index() < index {
-                steps
-            } else {
-                search_below(steps, index)
-            }
-        }
-    }
 }
 
 fn lowest_outkept(steps: &[Step<'_>], count: u64) -> Option<u32>
@@ -89,23 +65,19 @@ fn is_fewer(count: u64, least: Option<u64>) -> bool
     }
 }
 
-fn told(number: u64, steps: &[Step<'_>], one: Standing) -> Standing
-    requires { by.AreNets steps.now }
+fn told(number: u64, steps: &[Step<'_>], nets: &[Net], one: Standing) -> Standing
+    requires same { nets.now ≡ map net.net_of steps.now }
+    requires nets { by.AreNets steps.now }
     ensures { result ≡ fold.told number (by.effects steps.now) one }
 {
-    match steps.last() {
-        None => one,
-        Some(last) => {
-            if one.number < number {
-                Standing {
-                    before: number,
-                    number,
-                    count: last.from_before(one.count),
-                }
-            } else {
-                one
-            }
+    if is_newer(number, steps, &one) {
+        Standing {
+            before: number,
+            number,
+            count: count_behind(steps, nets, one.count),
         }
+    } else {
+        one
     }
 }
 
@@ -121,23 +93,33 @@ impl Fold {
     }
 
     // The steps of a chain below an index; the chain has this place.
-    fn fold_chain(&mut self, number: u64, index: u16, place: usize, chain: &Chain<'_>)
+    fn fold_chain(&mut self, number: u64, index: u16, place: usize, chain: &Chain<'_>, nets: &[Net])
         requires fit { fold.IsFit (length self.old.standings) chain.now }
+        requires nets { nets.now ≡ net.nets_of chain.now }
         requires place { place < length self.old.leasts }
         ensures folded { self.new ≡ fold.folded_at number index place chain.now self.old }
         ensures standings { length self.new.standings ≡ length self.old.standings }
         ensures leasts { length self.new.leasts ≡ length self.old.leasts }
     {
-        let steps = steps_below(&chain.steps, index);
+        let steps = steps_below(&chain.steps, nets, index);
         let inode = (chain.inode - 1) as usize;
         let one = self.standings[inode];
         self.note(number, place, steps, one);
-        self.standings[inode] = told(number, steps, one);
+        self.standings[inode] = told(number, steps, &nets[..steps.len()], one);
     }
 
     // Those from one place on and before another.
-    fn fold_chains(&mut self, number: u64, index: u16, chains: &[Chain<'_>], from: usize, to: usize)
+    fn fold_chains(
+        &mut self,
+        number: u64,
+        index: u16,
+        chains: &[Chain<'_>],
+        nets: &[Vec<Net>],
+        from: usize,
+        to: usize,
+    )
         requires fit { All (λ c. fold.IsFit (length self.old.standings) c) chains.now }
+        requires nets { map (λ v. v.items) nets.now ≡ map net.nets_of chains.now }
         requires leasts { length chains.now ≤ length self.old.leasts }
         requires to { to ≤ length chains.now }
         requires from { from ≤ to }
@@ -146,13 +128,14 @@ impl Fold {
         ensures leasts { length self.new.leasts ≡ length self.old.leasts }
     {
         for place in from..to {
-            self.fold_chain(number, index, place, &chains[place]);
+            self.fold_chain(number, index, place, &chains[place], &nets[place]);
         }
     }
 
     // The transaction of a commit.
-    fn fold_commit(&mut self, chains: &[Chain<'_>], commit: &Found)
+    fn fold_commit(&mut self, chains: &[Chain<'_>], nets: &[Vec<Net>], commit: &Found)
         requires fit { All (λ c. fold.IsFit (length self.old.standings) c) chains.now }
+        requires nets { map (λ v. v.items) nets.now ≡ map net.nets_of chains.now }
         requires leasts { length chains.now ≤ length self.old.leasts }
         requires order { IsNonDecreasingBy (λ c. c.txn) chains.now }
         ensures folded { fold.IsFolded chains.now commit.now self.old self.new }
@@ -162,7 +145,7 @@ impl Fold {
         let txn = commit.txn();
         let from = chains.partition_point(|chain| chain.txn < txn);
         let to = chains.partition_point(|chain| chain.txn <= txn);
-        self.fold_chains(commit.number(), commit.index(), chains, from, to);
+        self.fold_chains(commit.number(), commit.index(), chains, nets, from, to);
     }
 }
 
@@ -189,6 +172,7 @@ pub(crate) fn lowest_off(
     requires order { IsNonDecreasingBy (λ c. c.txn) chains.now }
     ensures { IfOk result (λ lowest. (g : Geometry) (all parts : List FoundSector) → fold.IsFoldable g all parts chains.now (map (λ b. b.now) commits.now) start.items known → lowest ≡ off.lower known (off.lowest_of (stand.out_of g (map (transaction_in all) (map (λ b. b.now) commits.now)) start.items))) }
 {
+    let nets = nets_of(alloc, chains)?;
     let leasts = no_leasts(alloc, chains.len())?;
     let mut fold = Fold {
         standings: start,
@@ -196,7 +180,7 @@ pub(crate) fn lowest_off(
         lowest: known,
     };
     for commit in commits {
-        fold.fold_commit(chains, commit);
+        fold.fold_commit(chains, &nets, commit);
     }
     Ok(fold.lowest)
 }

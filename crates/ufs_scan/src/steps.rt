@@ -5,7 +5,9 @@ ghost use Rattle.std.specs.List.Sorted.{IsNonDecreasingBy, IsStableByKey};
 ghost use Rattle.std.specs.Ordering.{nat_cmp};
 ghost use Rattle.ufs_layout.specs.Areas.{is_inode_number};
 ghost use Rattle.ufs_scan.specs.Edits as by;
+ghost use Rattle.ufs_scan.specs.Nets as net;
 
+use crate::net::Net;
 use crate::standing::is_inode;
 use std::alloc::{AllocError, Global};
 use std::marker::Model;
@@ -85,6 +87,18 @@ impl<'a> Step<'a> {
         ensures { result ≡ min self.now.kept count + self.now.gained }
     {
         count.min(u64::from(self.kept)) + u64::from(self.moved) + self.extents.len() as u64
+    }
+
+    // What its transaction has done up to it, in few bytes.
+    pub(crate) fn net(&self) -> Net
+        ensures { result ≡ net.net_of self.now }
+    {
+        let gained = u64::from(self.moved) + self.extents.len() as u64;
+        Net {
+            index: self.index,
+            kept: self.kept,
+            gained: gained.min(255) as u8,
+        }
     }
 
     // The first of its inode in its transaction.

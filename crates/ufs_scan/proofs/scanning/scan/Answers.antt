@@ -1,22 +1,17 @@
 use Rattle.std.proofs.Common.{◌≡◌, ◌-◌, List, true, false, get_or, ap, sym, ◌∙◌, subst}
 use Rattle.std.specs.Prelude.{map}
-use Rattle.std.specs.List.{All, filter}
-use Rattle.std.specs.List.Sorted.{IsPermutation}
+use Rattle.std.specs.List.{All}
 use Rattle.ufs_disk.specs.Disk.{IsImage}
 use Rattle.ufs_disk.specs.Moments.{reads}
 use Rattle.ufs_disk.proofs.Runs.{goes_on_quietly}
-use Rattle.ufs_layout.specs.Words.{rising_by}
 use Rattle.ufs_layout.specs.declared.geometry.Geometry.{Geometry}
-use Rattle.ufs_image.specs.Journal.{FoundSector, has_records, has_commit, committed_of}
+use Rattle.ufs_image.specs.Journal.{FoundSector, committed_of}
 use Rattle.ufs_found.specs.Off.{lower, lowest_of, first_off}
-use Rattle.ufs_found.specs.Sorted.{number_of}
-use Rattle.ufs_scan.specs.Chains.{AreChains}
-use Rattle.ufs_scan.specs.Edits.{edits_of}
 use Rattle.ufs_scan.specs.Folding.{IsFoldable}
 use Rattle.ufs_scan.specs.Gathered.{transaction_in, HasParts}
 use Rattle.ufs_scan.specs.Standings.{out_of, marked_standings}
 use Rattle.ufs_scan.specs.declared.chains.Chain.{Chain}
-use Rattle.ufs_scan.proofs.Told.{told_bad, txns}
+use Rattle.ufs_scan.proofs.Told.{read_is, told_bad, txns}
 use Rattle.ufs_scan.proofs.scanning.scan.Goals as goal
 
 pub returns-in_err-standings-clause-crash : goal.returns-in_err-standings-clause-crash
@@ -46,16 +41,8 @@ returns-clause-crash g c told =
 pub returns-in-Some-clause-bad : goal.returns-in-Some-clause-bad
 returns-in-Some-clause-bad g c told =
     told_bad c.args.geometry.now c.requires.geometry c.args.head.now (reads (g.D.Disk.moments c.args.disk.now)) c.in_ok-sectors.sectors.found.items (map (λ b. b.now) c.in_ok-parts.parts.items) (map (λ b. b.now) c.in_ok-commits.commits.items) c.in_ok-chains.chains.items
-    (record {
-      spelled = c.in_ok-sectors.ensures.found told;
-      has = subst (λ l. HasParts l (map (λ b. b.now) c.in_ok-parts.parts.items)) c.deref-2.ensures.value c.in_ok-parts.ensures.parts;
-      same = subst (λ l. IsPermutation (filter has_records l) (map (λ b. b.now) c.in_ok-parts.parts.items)) c.deref-2.ensures.value c.in_ok-parts.ensures.same;
-      small = c.in_ok-parts.ensures.small;
-      linked = subst (λ l. AreChains (edits_of c.args.geometry.now (map (λ b. b.now) l)) c.in_ok-chains.chains.items) c.deref-4.ensures.value c.in_ok-chains.ensures.chains;
-      fit = c.in_ok-chains.ensures.fit;
-      numbers = c.in_ok-commits.ensures.commits ∙ ap (λ l. rising_by number_of (filter has_commit l)) c.deref-3.ensures.value;
-      low = c.in_ok-commits.ensures.small;
-    })
+    (read_is c.args.geometry.now c.args.head.now (reads (g.D.Disk.moments c.args.disk.now)) c.in_ok-sectors.sectors.found.items c.deref-2.result.now c.deref-3.result.now (map (λ b. b.now) c.in_ok-parts.parts.items) (map (λ b. b.now) c.deref-4.result.now) (map (λ b. b.now) c.in_ok-commits.commits.items) c.in_ok-chains.chains.items
+    c.deref-2.ensures.value c.deref-3.ensures.value (ap (map (λ b. b.now)) c.deref-4.ensures.value) (c.in_ok-sectors.ensures.found told) c.in_ok-parts.ensures.parts c.in_ok-parts.ensures.same c.in_ok-parts.ensures.small c.in_ok-chains.ensures.chains c.in_ok-chains.ensures.fit c.in_ok-commits.ensures.commits c.in_ok-commits.ensures.small)
     (reads (g.D.Disk.moments c.read_journal.new.disk)) (c.read_journal.ensures.content told)
     c.in_ok-marks.marks.items (subst (λ l. All (λ (x : Chain). get_or c.in_ok-marks.marks.items (x.inode - 1) false ≡ true) l) c.deref-5.ensures.value c.in_ok-marks.ensures.marks)
     c.in_ok-standings.standings.items (c.in_ok-standings.ensures.list told ∙ ap (λ m. marked_standings c.args.geometry.now m (reads (g.D.Disk.moments c.read_journal.new.disk))) c.deref-6.ensures.value)
@@ -69,16 +56,8 @@ returns-in-Some-clause-bad g c told =
 pub returns-clause-whole : goal.returns-clause-whole
 returns-clause-whole g c told =
     told_bad c.args.geometry.now c.requires.geometry c.args.head.now (reads (g.D.Disk.moments c.args.disk.now)) c.in_ok-sectors.sectors.found.items (map (λ b. b.now) c.in_ok-parts.parts.items) (map (λ b. b.now) c.in_ok-commits.commits.items) c.in_ok-chains.chains.items
-    (record {
-      spelled = c.in_ok-sectors.ensures.found told;
-      has = subst (λ l. HasParts l (map (λ b. b.now) c.in_ok-parts.parts.items)) c.deref-2.ensures.value c.in_ok-parts.ensures.parts;
-      same = subst (λ l. IsPermutation (filter has_records l) (map (λ b. b.now) c.in_ok-parts.parts.items)) c.deref-2.ensures.value c.in_ok-parts.ensures.same;
-      small = c.in_ok-parts.ensures.small;
-      linked = subst (λ l. AreChains (edits_of c.args.geometry.now (map (λ b. b.now) l)) c.in_ok-chains.chains.items) c.deref-4.ensures.value c.in_ok-chains.ensures.chains;
-      fit = c.in_ok-chains.ensures.fit;
-      numbers = c.in_ok-commits.ensures.commits ∙ ap (λ l. rising_by number_of (filter has_commit l)) c.deref-3.ensures.value;
-      low = c.in_ok-commits.ensures.small;
-    })
+    (read_is c.args.geometry.now c.args.head.now (reads (g.D.Disk.moments c.args.disk.now)) c.in_ok-sectors.sectors.found.items c.deref-2.result.now c.deref-3.result.now (map (λ b. b.now) c.in_ok-parts.parts.items) (map (λ b. b.now) c.deref-4.result.now) (map (λ b. b.now) c.in_ok-commits.commits.items) c.in_ok-chains.chains.items
+    c.deref-2.ensures.value c.deref-3.ensures.value (ap (map (λ b. b.now)) c.deref-4.ensures.value) (c.in_ok-sectors.ensures.found told) c.in_ok-parts.ensures.parts c.in_ok-parts.ensures.same c.in_ok-parts.ensures.small c.in_ok-chains.ensures.chains c.in_ok-chains.ensures.fit c.in_ok-commits.ensures.commits c.in_ok-commits.ensures.small)
     (reads (g.D.Disk.moments c.read_journal.new.disk)) (c.read_journal.ensures.content told)
     c.in_ok-marks.marks.items (subst (λ l. All (λ (x : Chain). get_or c.in_ok-marks.marks.items (x.inode - 1) false ≡ true) l) c.deref-5.ensures.value c.in_ok-marks.ensures.marks)
     c.in_ok-standings.standings.items (c.in_ok-standings.ensures.list told ∙ ap (λ m. marked_standings c.args.geometry.now m (reads (g.D.Disk.moments c.read_journal.new.disk))) c.deref-6.ensures.value)
@@ -95,13 +74,5 @@ returns-clause-committed g c told =
     ∙ c.in_ok-list-in-None.ensures c.in_ok-sectors.sectors.found.items (subst (λ l. HasParts c.in_ok-sectors.sectors.found.items (map (λ b. b.now) l)) (sym c.deref-in-None.ensures.value) (subst (λ l. HasParts l (map (λ b. b.now) c.in_ok-parts.parts.items)) c.deref-2.ensures.value c.in_ok-parts.ensures.parts))
     ∙ ap (λ l. map (transaction_in c.in_ok-sectors.sectors.found.items) (map (λ b. b.now) l)) c.deref-in-None-2.ensures.value
     ∙ txns c.args.geometry.now c.requires.geometry c.args.head.now (reads (g.D.Disk.moments c.args.disk.now)) c.in_ok-sectors.sectors.found.items (map (λ b. b.now) c.in_ok-parts.parts.items) (map (λ b. b.now) c.in_ok-commits.commits.items) c.in_ok-chains.chains.items
-    (record {
-      spelled = c.in_ok-sectors.ensures.found told;
-      has = subst (λ l. HasParts l (map (λ b. b.now) c.in_ok-parts.parts.items)) c.deref-2.ensures.value c.in_ok-parts.ensures.parts;
-      same = subst (λ l. IsPermutation (filter has_records l) (map (λ b. b.now) c.in_ok-parts.parts.items)) c.deref-2.ensures.value c.in_ok-parts.ensures.same;
-      small = c.in_ok-parts.ensures.small;
-      linked = subst (λ l. AreChains (edits_of c.args.geometry.now (map (λ b. b.now) l)) c.in_ok-chains.chains.items) c.deref-4.ensures.value c.in_ok-chains.ensures.chains;
-      fit = c.in_ok-chains.ensures.fit;
-      numbers = c.in_ok-commits.ensures.commits ∙ ap (λ l. rising_by number_of (filter has_commit l)) c.deref-3.ensures.value;
-      low = c.in_ok-commits.ensures.small;
-    }))
+    (read_is c.args.geometry.now c.args.head.now (reads (g.D.Disk.moments c.args.disk.now)) c.in_ok-sectors.sectors.found.items c.deref-2.result.now c.deref-3.result.now (map (λ b. b.now) c.in_ok-parts.parts.items) (map (λ b. b.now) c.deref-4.result.now) (map (λ b. b.now) c.in_ok-commits.commits.items) c.in_ok-chains.chains.items
+    c.deref-2.ensures.value c.deref-3.ensures.value (ap (map (λ b. b.now)) c.deref-4.ensures.value) (c.in_ok-sectors.ensures.found told) c.in_ok-parts.ensures.parts c.in_ok-parts.ensures.same c.in_ok-parts.ensures.small c.in_ok-chains.ensures.chains c.in_ok-chains.ensures.fit c.in_ok-commits.ensures.commits c.in_ok-commits.ensures.small))
