@@ -3,8 +3,8 @@ ghost use Rattle.std.specs.Prelude.{◌≡◌, OnOk, OnErr, IfSome, None};
 ghost use Rattle.std.specs.FinMap as map;
 ghost use Rattle.ufs_model.specs.Descriptors.{moved};
 
+use crate::counts::{Counts, lower_file, raise_file};
 use crate::desc_map::DescMap;
-use crate::file_counts::FileCounts;
 use std::alloc::{AllocError, Global};
 use std::marker::Model;
 use ufs_model::Desc;
@@ -14,7 +14,7 @@ use ufs_model::Desc;
 pub struct FdMap {
     entries: DescMap,
     /// How many descriptors each file has.
-    opens: FileCounts,
+    opens: Counts<u32>,
 }
 
 impl Model for FdMap {
@@ -47,7 +47,7 @@ impl FdMap {
     {
         FdMap {
             entries: DescMap::new(alloc),
-            opens: FileCounts::new(alloc),
+            opens: Counts::new(alloc),
         }
     }
 
@@ -63,11 +63,11 @@ impl FdMap {
         ensures ok { OnOk result (self.new ≡ map.insert self.old (client, fd) desc) }
         ensures err { OnErr result (self.new ≡ self.old) }
     {
-        self.opens.raise(desc.file)?;
+        raise_file(&mut self.opens, desc.file)?;
         match self.entries.insert(client, fd, desc) {
             Ok(()) => Ok(()),
             Err(e) => {
-                self.opens.lower(desc.file);
+                lower_file(&mut self.opens, desc.file);
                 Err(e)
             }
         }
@@ -93,7 +93,7 @@ impl FdMap {
     {
         if let Some(desc) = self.get(client, fd) {
             self.entries.remove(client, fd);
-            self.opens.lower(desc.file);
+            lower_file(&mut self.opens, desc.file);
         }
     }
 
@@ -114,7 +114,7 @@ impl FdMap {
     pub fn has_file(&self, file: u32) -> bool
         ensures { result ≡ list_any (is_desc_of file) (map.values self.now) }
     {
-        self.opens.get(file) > 0
+        self.opens.get(&file) > 0
     }
 }
 

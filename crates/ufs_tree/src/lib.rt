@@ -3,10 +3,9 @@
 
 mod answer;
 mod change;
+mod counts;
 mod desc_map;
-mod dir_counts;
 mod fd_map;
-mod file_counts;
 mod legal;
 mod node_map;
 mod path;

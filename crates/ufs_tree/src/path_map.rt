@@ -5,11 +5,10 @@ ghost use Rattle.ufs_model.specs.Directories.{is_entry_of, last_name};
 ghost use Rattle.ufs_model.specs.Paths.{IsWhole, components};
 ghost use Rattle.ufs_model.specs.PosixTree.{is_number, is_node_of};
 ghost use Rattle.ufs_tree.specs.Below.{names_among};
-ghost use Rattle.ufs_tree.specs.Counted.{count_at};
+ghost use Rattle.ufs_tree.specs.Counted.{dir_count};
 ghost use Rattle.ufs_tree.specs.Moved.{moved};
 
-use crate::dir_counts::DirCounts;
-use crate::file_counts::FileCounts;
+use crate::counts::{Counts, lower_file, raise_file};
 use crate::node_map::NodeMap;
 use crate::path;
 use std::alloc::{AllocError, Global};
@@ -21,9 +20,9 @@ use ufs_model::{Bytes, NameList, Node};
 pub struct PathMap {
     nodes: NodeMap,
     /// How many entries each directory has.
-    entries: DirCounts,
+    entries: Counts<Vec<u8>>,
     /// How many paths name each file.
-    links: FileCounts,
+    links: Counts<u32>,
 }
 
 impl Model for PathMap {
@@ -60,8 +59,8 @@ impl PathMap {
     {
         PathMap {
             nodes: NodeMap::new(alloc),
-            entries: DirCounts::new(alloc),
-            links: FileCounts::new(alloc),
+            entries: Counts::new(alloc),
+            links: Counts::new(alloc),
         }
     }
 
@@ -79,11 +78,11 @@ impl PathMap {
         ensures err { OnErr result (self.new ≡ self.old) }
     {
         let file = number_of(node);
-        self.links.raise(file)?;
+        raise_file(&mut self.links, file)?;
         match place(&mut self.nodes, &mut self.entries, alloc, path, node) {
             Ok(()) => Ok(()),
             Err(e) => {
-                self.links.lower(file);
+                lower_file(&mut self.links, file);
                 Err(e)
             }
         }
@@ -96,7 +95,7 @@ impl PathMap {
         if let Some(node) = self.get(path) {
             self.nodes.remove(path);
             lower_parent(&mut self.entries, path);
-            self.links.lower(number_of(node));
+            lower_file(&mut self.links, number_of(node));
         }
     }
 
@@ -117,7 +116,7 @@ impl PathMap {
     pub fn names_file(&self, file: u32) -> bool
         ensures { result ≡ list_any (is_node_of file) (map.values self.now) }
     {
-        self.links.get(file) > 0
+        self.links.get(&file) > 0
     }
 
     /// The names of a directory's entries, in rising byte order.
@@ -166,12 +165,12 @@ impl PathMap {
         ensures ok { OnOk result (self.new ≡ map.insert self.old path.items node) }
         ensures err { OnErr result (self.new ≡ self.old) }
     {
-        self.links.raise(number_of(node))?;
+        raise_file(&mut self.links, number_of(node))?;
         match self.nodes.insert(path, node) {
             Ok(()) => {}
             Err(_) => unreachable!(),
         }
-        self.links.lower(number_of(old));
+        lower_file(&mut self.links, number_of(old));
         Ok(())
     }
 
@@ -236,21 +235,23 @@ fn number_of(node: Node) -> Option<u32>
 }
 
 // One entry more in the directory above.
-fn raise_parent(entries: &mut DirCounts, alloc: Global, path: &[u8]) -> Result<(), AllocError>
+fn raise_parent(entries: &mut Counts<Vec<u8>>, alloc: Global, path: &[u8]) -> Result<(), AllocError>
     requires { IsWhole path.now }
-    ensures ok { OnOk result ((d : List ℕ) → count_at entries.new d ≡ count_at entries.old d + (if is_entry_of d path.now then 1 else 0)) }
-    ensures err { OnErr result (entries.new ≡ entries.old) }
+    ensures ok { OnOk result ((d : List ℕ) → dir_count entries.new d ≡ dir_count entries.old d + (if is_entry_of d path.now then 1 else 0)) }
+    ensures err { OnErr result ((d : List ℕ) → dir_count entries.new d ≡ dir_count entries.old d) }
 {
     if path::is_root(path) {
         return Ok(());
     }
-    entries.raise(alloc, path::parent(path))
+    let dir = path::parent(path).to_vec(alloc)?;
+    entries.raise(dir)?;
+    Ok(())
 }
 
 // One entry less in the directory above. Takes no memory.
-fn lower_parent(entries: &mut DirCounts, path: &[u8])
+fn lower_parent(entries: &mut Counts<Vec<u8>>, path: &[u8])
     requires { IsWhole path.now }
-    ensures { (d : List ℕ) → count_at entries.new d ≡ count_at entries.old d - (if is_entry_of d path.now then 1 else 0) }
+    ensures { (d : List ℕ) → dir_count entries.new d ≡ dir_count entries.old d - (if is_entry_of d path.now then 1 else 0) }
 {
     if path::is_root(path) {
         return;
@@ -261,16 +262,16 @@ fn lower_parent(entries: &mut DirCounts, path: &[u8])
 // Puts a node at a path at which nothing stands, and counts it in the directory above.
 fn place(
     nodes: &mut NodeMap,
-    entries: &mut DirCounts,
+    entries: &mut Counts<Vec<u8>>,
     alloc: Global,
     path: Vec<u8>,
     node: Node,
 ) -> Result<(), AllocError>
     requires { IsWhole path.items }
     ensures ok { OnOk result (nodes.new ≡ map.insert nodes.old path.items node) }
-    ensures counted { OnOk result ((d : List ℕ) → count_at entries.new d ≡ count_at entries.old d + (if is_entry_of d path.items then 1 else 0)) }
+    ensures counted { OnOk result ((d : List ℕ) → dir_count entries.new d ≡ dir_count entries.old d + (if is_entry_of d path.items then 1 else 0)) }
     ensures err { OnErr result (nodes.new ≡ nodes.old) }
-    ensures err_counted { OnErr result ((d : List ℕ) → count_at entries.new d ≡ count_at entries.old d) }
+    ensures err_counted { OnErr result ((d : List ℕ) → dir_count entries.new d ≡ dir_count entries.old d) }
 {
     raise_parent(entries, alloc, path.as_slice())?;
     match nodes.insert(path, node) {
