@@ -1,0 +1,13 @@
+mod Extents
+mod Forms
+mod Tabled
+mod Bare
+mod Growing
+mod Putting
+mod Told
+mod Covers
+mod Sounded
+mod Committed
+mod Zeros
+mod Joined
+mod Commits

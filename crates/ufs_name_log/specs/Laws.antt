@@ -1,0 +1,59 @@
+-- What the records of a change of names do.
+use Rattle.std.specs.Prelude.{ℕ, ◌≡◌, ◌<◌, ◌+◌, ◌^◌, ◌++◌, List, Bool, true, IsTrue}
+use Rattle.ufs_layout.specs.declared.geometry.Geometry.{Geometry}
+use Rattle.ufs_layout.specs.declared.records.Committed.{Committed}
+use Rattle.ufs_image.specs.Catalog.{Catalog, IsInode, HasBlock, HasSlots}
+use Rattle.ufs_image.specs.Folding.{with_committed_in}
+use Rattle.ufs_image.specs.Sound.{IsSoundCatalog}
+use Rattle.ufs_dir_tree.specs.DirTable.{DirTable}
+use Rattle.ufs_dir_image.specs.Tables.{IsTableOf}
+use Rattle.ufs_ledger.specs.Ledger.{Stand, IsDataBlock, CoversDirs}
+use Rattle.ufs_ledger.specs.Changes.{MayCommit, with_free_block}
+use Rattle.ufs_name_log.specs.Steps.{DirState, Step, after_all, records_of}
+use Rattle.ufs_name_log.specs.Held.{HasState, IsZeroed, with_zeroed, MaySteps, HasSoundNames}
+
+-- the transaction that tells these steps
+abbrev pub change : ℕ → DirState → List Step → Committed
+change number s xs = record { number = number; records = records_of s xs }
+
+-- Each inode was last changed by an earlier commit.
+abbrev pub AreOlder : Geometry → Catalog → ℕ → Type 0
+AreOlder g c number = (inode : ℕ) → IsInode g inode → (c.forms inode).number < number
+
+-- A sound catalog whose blocks of directories are whole has the directories of its table, and sound names in them.
+abbrev pub SoundHasState : Geometry → Type 0
+SoundHasState g = (c : Catalog) (t : DirTable) (zeroed : ℕ → Bool) → let s = record { table = t; kinds = λ inode. (c.forms inode).kind; zeroed = zeroed } in
+    IsSoundCatalog g c → IsTableOf g c t → ((dir : ℕ) → (c.forms dir).kind ≡ 2 → HasSlots g c dir) → ((block : ℕ) → zeroed block ≡ true → IsZeroed g c block) → HasState g c s × HasSoundNames g s
+
+-- A block of zeros that no inode has is one more that a directory may take, once dentries may be spelled there.
+abbrev pub ZerosAreTaken : Geometry → Type 0
+ZerosAreTaken g = (s : Stand) (d : DirState) (block : ℕ) → HasState g s.catalog d → IsDataBlock g block → ((inode place : ℕ) → HasBlock g s.catalog inode place block → ⊥)
+    → HasState g (with_free_block block s).catalog (record d { zeroed = with_zeroed block d.zeroed })
+
+-- Behind the records of some steps the catalog has the directories that the steps make.
+abbrev pub StepsAreTold : Geometry → Type 0
+StepsAreTold g = (c : Catalog) (s : DirState) (xs : List Step) (number : ℕ) → HasState g c s → AreOlder g c number → MaySteps g s xs → HasState g (with_committed_in g (change number s xs) c) (after_all xs s)
+
+-- A catalog with sound names in its directories is sound.
+abbrev pub NamesLeaveSound : Geometry → Type 0
+NamesLeaveSound g = (c : Catalog) (s : DirState) → HasState g c s → HasSoundNames g s → IsSoundCatalog g c
+
+-- The steps may be committed where they leave sound names, and dentries are spelled in the blocks that directories take.
+abbrev pub StepsMayCommit : Geometry → Type 0
+StepsMayCommit g = (s : Stand) (d : DirState) (xs : List Step) (number : ℕ) → HasState g s.catalog d → CoversDirs g s → ((block : ℕ) → d.zeroed block ≡ true → IsTrue (s.dirs block)) → AreOlder g s.catalog number → number < 2 ^ 64
+    → MaySteps g d xs → HasSoundNames g (after_all xs d) → MayCommit g (change number d xs) s
+
+-- Then no inode has a later number than this transaction's, so a later one may be committed next.
+abbrev pub NumbersRise : Geometry → Type 0
+NumbersRise g = (c : Catalog) (s : DirState) (xs : List Step) (number : ℕ) → AreOlder g c number → AreOlder g (with_committed_in g (change number s xs) c) (number + 1)
+
+-- ---- several changes
+
+-- The records of two changes, one behind the other, are those of all their steps: so both may be committed as one.
+pub record IsJoined (g : Geometry) (s : DirState) (xs ys : List Step) : Type 0 where
+  pub records : records_of s (xs ++ ys) ≡ records_of s xs ++ records_of (after_all xs s) ys
+  pub state : after_all (xs ++ ys) s ≡ after_all ys (after_all xs s)
+  pub may : MaySteps g s xs → MaySteps g (after_all xs s) ys → MaySteps g s (xs ++ ys)
+
+abbrev pub ChangesJoin : Geometry → Type 0
+ChangesJoin g = (s : DirState) (xs ys : List Step) → IsJoined g s xs ys

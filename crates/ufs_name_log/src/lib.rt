@@ -1,0 +1,29 @@
+//! A change of names, and the records that tell it.
+#![tactic(auto)]
+
+ghost use Rattle.ufs_layout.specs.Areas.{IsGeometry};
+ghost use Rattle.ufs_name_log.specs.Laws.{ChangesJoin, NamesLeaveSound, NumbersRise, SoundHasState, StepsAreTold, StepsMayCommit, ZerosAreTaken};
+
+use ufs_layout::Geometry;
+
+/// What directories a stand has before a change.
+pub fn state_law(geometry: &Geometry)
+    requires { IsGeometry geometry.now }
+    ensures sound { SoundHasState geometry.now }
+    ensures zeros { ZerosAreTaken geometry.now }
+{
+    let _geometry = geometry;
+}
+
+/// The records of a change do to a catalog what its steps do to the directories, and where these have sound names they
+/// may be committed.
+pub fn change_law(geometry: &Geometry)
+    requires { IsGeometry geometry.now }
+    ensures told { StepsAreTold geometry.now }
+    ensures sound { NamesLeaveSound geometry.now }
+    ensures may { StepsMayCommit geometry.now }
+    ensures numbers { NumbersRise geometry.now }
+    ensures joined { ChangesJoin geometry.now }
+{
+    let _geometry = geometry;
+}
