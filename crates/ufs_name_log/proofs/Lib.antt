@@ -11,3 +11,6 @@ mod Committed
 mod Zeros
 mod Joined
 mod Commits
+mod Files
+mod NamesKept
+mod TableNames

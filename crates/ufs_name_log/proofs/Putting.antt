@@ -69,7 +69,7 @@ module _ (g : Geometry) (c : Catalog) (s : DirState) (has : HasState g c s) (ino
           let inside = may.in_dir.in_blocks in
           absurd (omega (arith, count, inside))
 
-  is_dir : (c.forms inode).kind ≡ 2
+  pub is_dir : (c.forms inode).kind ≡ 2
   is_dir = let t = dir_test in grind (arith, nat_tests, t)
 
   blocks_were : bs ≡ blocks_of (c.forms inode)

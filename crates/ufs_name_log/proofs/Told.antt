@@ -28,15 +28,15 @@ use Rattle.ufs_name_log.proofs.Bare.{bare_state}
 use Rattle.ufs_name_log.proofs.Growing.{grown_form, grown_state}
 use Rattle.ufs_name_log.proofs.Putting.{in_range, put_state}
 
-kept_none : (xs ys : List Extent) → take 0 xs ++ ys ≡ ys
+pub kept_none : (xs ys : List Extent) → take 0 xs ++ ys ≡ ys
 kept_none [] ys = refl
 kept_none (x ∷ xs) ys = refl
 
 module _ (g : Geometry) (number : ℕ) (before : Catalog) (older : AreOlder g before number) where
-  ranged : (i : ℕ) → IsInode g i → is_inode_number g i ≡ true
+  pub ranged : (i : ℕ) → IsInode g i → is_inode_number g i ≡ true
   ranged i inside = let from = inside.from_one in let most = inside.within in grind (arith, nat_tests, from, most)
 
-  newer : (i : ℕ) → IsInode g i → is_newer_in number before i ≡ true
+  pub newer : (i : ℕ) → IsInode g i → is_newer_in number before i ≡ true
   newer i inside = let below = older i inside in grind (arith, nat_tests, below)
 
   -- ---- a birth

@@ -1,3 +1,5 @@
 pub mod Steps
 pub mod Held
 pub mod Laws
+pub mod Files
+pub mod Names

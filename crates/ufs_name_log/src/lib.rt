@@ -2,6 +2,8 @@
 #![tactic(auto)]
 
 ghost use Rattle.ufs_layout.specs.Areas.{IsGeometry};
+ghost use Rattle.ufs_name_log.specs.Files.{BornAreEmpty, FilesAreUnset, NamesStandOn, OthersStay};
+ghost use Rattle.ufs_name_log.specs.Names.{NamesStaySound, TablesNameSoundly};
 ghost use Rattle.ufs_name_log.specs.Laws.{ChangesJoin, NamesLeaveSound, NumbersRise, SoundHasState, StepsAreTold, StepsMayCommit, ZerosAreTaken};
 
 use ufs_layout::Geometry;
@@ -24,6 +26,26 @@ pub fn change_law(geometry: &Geometry)
     ensures may { StepsMayCommit geometry.now }
     ensures numbers { NumbersRise geometry.now }
     ensures joined { ChangesJoin geometry.now }
+{
+    let _geometry = geometry;
+}
+
+/// A change leaves the files what they have, and the disk stands on behind its commit.
+pub fn files_law(geometry: &Geometry)
+    requires { IsGeometry geometry.now }
+    ensures others { OthersStay geometry.now }
+    ensures born { BornAreEmpty geometry.now }
+    ensures unset { FilesAreUnset geometry.now }
+    ensures stands { NamesStandOn geometry.now }
+{
+    let _geometry = geometry;
+}
+
+/// Which steps leave the names sound, and which tables have sound ones.
+pub fn names_law(geometry: &Geometry)
+    requires { IsGeometry geometry.now }
+    ensures stay { NamesStaySound geometry.now }
+    ensures table { TablesNameSoundly geometry.now }
 {
     let _geometry = geometry;
 }

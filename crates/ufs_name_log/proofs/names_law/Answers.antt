@@ -1,0 +1,9 @@
+use Rattle.ufs_name_log.proofs.NamesKept.{stays}
+use Rattle.ufs_name_log.proofs.TableNames.{sound_names}
+use Rattle.ufs_name_log.proofs.names_law.Goals as goal
+
+pub returns-clause-stay : goal.returns-clause-stay
+returns-clause-stay c s x sound may keeps = stays c.args.geometry.now s sound x may keeps
+
+pub returns-clause-table : goal.returns-clause-table
+returns-clause-table c s counted is well = sound_names c.args.geometry.now s counted is well
