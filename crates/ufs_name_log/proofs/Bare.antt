@@ -1,5 +1,5 @@
 -- An inode becomes one without blocks: it is born, or freed.
-use Rattle.std.proofs.Common.{◌≡◌, ◌≢◌, ℕ, ◌⊎◌, inl, inr, List, [], Bool, true, false, Some, length, ap, sym, refl, ◌∙◌, subst, arith}
+use Rattle.std.proofs.Common.{◌≡◌, ◌≢◌, ℕ, ◌⊎◌, inl, inr, List, [], ◌∷◌, Bool, true, false, Some, length, ap, sym, refl, ◌∙◌, subst, arith}
 use Rattle.std.specs.Prelude.{◌==◌, ◌&&◌, not, flat_map, if◌then◌else◌}
 use Rattle.std.specs.List.{slice_get, AllByRecursion}
 use Rattle.std.specs.FinSet as set
@@ -13,10 +13,10 @@ use Rattle.ufs_image.specs.Nodes.{blocks_of}
 use Rattle.ufs_image.specs.Catalog.{Catalog, IsInode, HasBlock, HasSlots, slots_in}
 use Rattle.ufs_image.specs.Sound.{IsInData}
 use Rattle.ufs_dirs.specs.Directory.{Directory}
-use Rattle.ufs_dir_tree.specs.DirTable.{DirTable, InodeSet, no_dir, dir_at, slots_at, blocks_at}
+use Rattle.ufs_dir_tree.specs.DirTable.{DirTable, InodeSet, no_dir, dir_at}
 use Rattle.ufs_dir_image.specs.Tables.{dir_blocks, is_free_inode}
 use Rattle.ufs_name_log.specs.Steps.{DirState, with_kind}
-use Rattle.ufs_name_log.specs.Held.{HasState, HasSoundForms, IsZeroed}
+use Rattle.ufs_name_log.specs.Held.{HasState, HasSoundForms}
 use Rattle.ufs_name_log.proofs.Forms.{reformed, form_here, form_else, block_now, kept_forms}
 use Rattle.ufs_name_log.proofs.Tabled.{kept_table}
 
@@ -94,11 +94,11 @@ module _ (g : Geometry) (c : Catalog) (s : DirState) (has : HasState g c s) (ino
       by (inr was) = has.sized dir (ap (λ (f : InodeForm). f.kind) (sym (form_else c inode form dir was.0)) ∙ is) block place was.1
 
   unheld : (block k place : ℕ) → s.zeroed block ≡ true → HasBlock g d k place block → ⊥
-  unheld block k place zero at = by (block_now c inode form g k place block at)
+  unheld block k place is_zero at = by (block_now c inode form g k place block at)
     where
       by : ((k ≡ inode) × (slice_get (blocks_of form) place ≡ Some block)) ⊎ ((k ≢ inode) × HasBlock g c k place block) → ⊥
       by (inl now) = none_at (blocks_of form) place block no_blocks now.1
-      by (inr was) = (has.zeroed block zero).unheld k place was.1
+      by (inr was) = (has.zeroed block is_zero).unheld k place was.1
 
   pub bare_state : HasState g d (record { table = u; kinds = with_kind inode form.kind s.kinds; zeroed = s.zeroed })
   bare_state = record {

@@ -1,5 +1,5 @@
 -- A change of names may be committed.
-use Rattle.std.proofs.Common.{◌≡◌, ℕ, ◌<◌, ◌≤◌, ◌+◌, ◌^◌, List, true, arith}
+use Rattle.std.proofs.Common.{◌≡◌, ℕ, ◌<◌, ◌+◌, ◌^◌, List, true, arith}
 use Rattle.std.specs.Prelude.{IsTrue}
 use Rattle.ufs_layout.specs.Areas.{IsGeometry}
 use Rattle.ufs_layout.specs.declared.geometry.Geometry.{Geometry}

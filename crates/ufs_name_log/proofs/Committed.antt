@@ -1,14 +1,13 @@
 -- The records of some steps may be committed.
-use Rattle.std.proofs.Common.{◌≡◌, ℕ, zero, suc, ◌+◌, ◌*◌, ◌/◌, ◌%◌, ◌^◌, ◌<◌, ◌≤◌, ◌⊎◌, inl, inr, List, [], ◌∷◌, ◌++◌, Bool, true, false, length, ap, sym, refl, ◌∙◌, subst, arith, length-append}
-use Rattle.std.specs.Prelude.{◌==◌, ◌&&◌, ◌||◌, nat_lt, nat_le, IsTrue, if◌then◌else◌}
-use Rattle.std.specs.List.{list_all, AllByRecursion}
-use Rattle.std.proofs.lemmas.Bool.{cases_eq, and_parts}
+use Rattle.std.proofs.Common.{◌≡◌, ℕ, ◌+◌, ◌^◌, ◌<◌, ◌≤◌, ◌⊎◌, inl, inr, List, [], ◌∷◌, ◌++◌, Bool, true, false, length, ap, refl, ◌∙◌, arith}
+use Rattle.std.specs.Prelude.{◌&&◌, ◌||◌, nat_lt, nat_le, IsTrue, if◌then◌else◌}
+use Rattle.std.specs.List.{list_all}
+use Rattle.std.proofs.lemmas.Bool.{and_parts}
 use Rattle.std.proofs.lemmas.Bool.Decides.{nat_tests}
 use Rattle.ufs_layout.specs.Areas.{IsGeometry}
-use Rattle.ufs_layout.specs.InodeForm.{InodeForm, is_extent, free_inode, FitsExtent}
-use Rattle.ufs_layout.specs.DentryForm.{DentryForm, is_named, is_dentry}
+use Rattle.ufs_layout.specs.InodeForm.{InodeForm, is_extent, free_inode}
+use Rattle.ufs_layout.specs.DentryForm.{is_dentry}
 use Rattle.ufs_layout.specs.Records.{is_record, FitsRecord}
-use Rattle.ufs_layout.specs.declared.inode.Extent.{Extent}
 use Rattle.ufs_layout.specs.declared.geometry.Geometry.{Geometry}
 use Rattle.ufs_layout.specs.declared.records.LogRecord.{LogRecord}
 use Rattle.ufs_layout.specs.declared.records.LogRecord.TheVariants.{Delta, Place, Free}
@@ -82,21 +81,21 @@ module _ (g : Geometry) (is : IsGeometry g) where
   kind_ok kind (inr e) = ap (λ k. (nat_le 1 k && nat_le k 2) && (nat_le 0 56 && true)) e
 
   spelled : (c : Catalog) (s : DirState) (x : Step) → HasState g c s → MayStep g s x → IsTrue (is_record (record_of s x)) × FitsRecord (record_of s x)
-  spelled c s (Born i kind) has may = (kind_ok kind may.known, small i may.in_range, omega arith, tt)
+  spelled c s (Born i kind) has may = (kind_ok kind may.known, (small i may.in_range, omega arith, tt))
   spelled c s (Grown i block) has may =
       let more : List ℕ = blocks_at s.table i ++ block ∷ [] in
       let few = may.extents in
       let told = length_told (extents_of more) in
       let count : nat_le (0 + length (log.extents_of (extents_of more))) 56 ≡ true = grind (arith, nat_tests, few, told) in
       let size = few_blocks g more (lie g c s has i block 0 may) is in
-      (ap (λ b. b && list_all is_extent (log.extents_of (extents_of more))) count ∙ extents_spelled g more (lie g c s has i block 0 may), small i may.in_range, omega (arith, size, few), extents_fit g more (lie g c s has i block 0 may) is)
+      (ap (λ b. b && list_all is_extent (log.extents_of (extents_of more))) count ∙ extents_spelled g more (lie g c s has i block 0 may), (small i may.in_range, omega (arith, size, few), extents_fit g more (lie g c s has i block 0 may) is))
   spelled c s (Put i slot d) has may =
       let at = lies g c s has i slot d may in
       let under = at.under in let most = is.most_blocks in
       let low = may.in_dir.in_sector in
       let first : nat_lt slot.slot 8 ≡ true = grind (arith, nat_tests, low) in
       let short = (and_parts (nat_le (length d.name) 58) _ may.form.spelled).0 in
-      (ap (λ b. b && is_dentry d) first ∙ may.form.spelled, omega (arith, under, most), may.form.inode, grind (arith, nat_tests, short))
+      (ap (λ b. b && is_dentry d) first ∙ may.form.spelled, (omega (arith, under, most), may.form.inode, grind (arith, nat_tests, short)))
   spelled c s (Freed i) has may = (refl, small i may.in_range)
 
   pub spelled_all : (number : ℕ) (before : Catalog) → AreOlder g before number → (c : Catalog) (s : DirState) (xs : List Step) → HasState g c s → MaySteps g s xs → AreSpelled (records_of s xs)

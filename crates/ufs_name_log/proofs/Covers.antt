@@ -1,5 +1,5 @@
 -- The blocks of directories stay among those in which dentries are spelled.
-use Rattle.std.proofs.Common.{◌≡◌, ◌≢◌, ℕ, zero, suc, ◌+◌, ◌<◌, ◌≤◌, leb, ◌⊎◌, inl, inr, List, [], ◌∷◌, ◌++◌, Bool, true, false, Some, length, set, get_or, ap, sym, refl, ◌∙◌, subst, arith}
+use Rattle.std.proofs.Common.{◌≡◌, ℕ, zero, suc, ◌<◌, ◌≤◌, leb, ◌⊎◌, inl, inr, List, [], ◌∷◌, ◌++◌, Bool, true, false, Some, length, set, get_or, ap, sym, refl, ◌∙◌, subst, arith}
 use Rattle.std.specs.Prelude.{◌==◌, IsTrue, if◌then◌else◌}
 use Rattle.std.specs.List.{slice_get}
 use Rattle.std.proofs.lemmas.Bool.Decides.{nat_tests, leb_tells}
@@ -8,14 +8,14 @@ use Rattle.ufs_layout.specs.declared.geometry.Geometry.{Geometry}
 use Rattle.ufs_dirs.specs.Directory.{Directory}
 use Rattle.ufs_dirs.specs.Changes.{with_entry}
 use Rattle.ufs_image.specs.Nodes.{blocks_of}
-use Rattle.ufs_image.specs.Catalog.{Catalog, IsInode, IsDirBlock, HasDirBlocks}
+use Rattle.ufs_image.specs.Catalog.{Catalog, IsInode, HasDirBlocks}
 use Rattle.ufs_dir_tree.specs.DirTable.{no_dir, dir_at, blocks_at}
 use Rattle.ufs_name_log.specs.Steps.{DirState, Step, Born, Grown, Put, Freed, grown, without_block, after, after_all}
 use Rattle.ufs_name_log.specs.Held.{HasState, MayStep, MaySteps}
 use Rattle.ufs_name_log.proofs.Growing.{split_at}
 
 -- an element of a list in which one was set
-set_or_same : {X : Type 0} (xs : List X) (i k : ℕ) (x d : X) → (get_or (set xs i x) k d ≡ x) ⊎ (get_or (set xs i x) k d ≡ get_or xs k d)
+pub set_or_same : {X : Type 0} (xs : List X) (i k : ℕ) (x d : X) → (get_or (set xs i x) k d ≡ x) ⊎ (get_or (set xs i x) k d ≡ get_or xs k d)
 set_or_same [] i k x d = inr refl
 set_or_same (y ∷ ys) zero zero x d = inl refl
 set_or_same (y ∷ ys) zero (suc k) x d = inr refl
@@ -50,8 +50,8 @@ module _ (g : Geometry) (these : ℕ → Bool) where
       rest b e = of (b == block) e
         where
           of : (v : Bool) → (if v then false else s.zeroed b) ≡ true → s.zeroed b ≡ true
-          of true no = absurd cc
-          of false yes = yes
+          of true off = absurd cc
+          of false on = on
   covered s (Put i slot d) may has = record { dirs = λ k p b at. by k p b at (set_or_same s.table.dirs i k (with_entry (dir_at s.table i) slot d) no_dir); zeroed = has.zeroed }
     where
       by : (k p b : ℕ) → slice_get (blocks_at (after (Put i slot d) s).table k) p ≡ Some b
@@ -87,11 +87,11 @@ module _ (g : Geometry) (these : ℕ → Bool) where
           where
             of : (v : Bool) → ((c.forms i).kind == 2) ≡ v → IsInode g i → slice_get (if v then blocks_of (c.forms i) else []) p ≡ Some b → IsTrue (these b)
             of true e inside there = covers b (record { inode = i; place = p; has = record { in_range = inside; there = there }; dir = grind (arith, nat_tests, e) })
-            of false e inside there = let no = there in absurd cc
+            of false e inside there = let clash = there in absurd cc
 
             by : IsInode g i ⊎ (dir_at s.table i ≡ no_dir) → IsTrue (these b)
             by (inl inside) = of ((c.forms i).kind == 2) refl inside (ap (λ xs. slice_get xs p) (sym (has.table.blocks i inside)) ∙ at)
-            by (inr none) = let no = of_dir (dir_at s.table i) no_dir p b none at in absurd cc
+            by (inr none) = let clash = of_dir (dir_at s.table i) no_dir p b none at in absurd cc
 
     pub covers_catalog : Covers s → HasDirBlocks g c these
     covers_catalog covers b is =

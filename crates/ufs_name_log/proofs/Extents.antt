@@ -1,5 +1,5 @@
 -- The blocks of a directory as extents.
-use Rattle.std.proofs.Common.{◌≡◌, ℕ, zero, suc, ◌+◌, ◌*◌, ◌≤◌, ◌<◌, ◌^◌, inl, inr, List, [], ◌∷◌, ◌++◌, Bool, true, false, length, map, ap, sym, refl, ◌∙◌, append_assoc, length-append, arith}
+use Rattle.std.proofs.Common.{◌≡◌, ℕ, zero, suc, ◌+◌, ◌*◌, ◌≤◌, ◌<◌, inl, inr, List, [], ◌∷◌, ◌++◌, Bool, true, false, length, map, ap, sym, refl, ◌∙◌, append_assoc, length-append, arith}
 use Rattle.std.specs.Prelude.{flat_map, ◌==◌, ◌&&◌, nat_le, if◌then◌else◌}
 use Rattle.std.specs.List.{range_with_len, list_all, AllByRecursion}
 use Rattle.std.proofs.lemmas.List.{append-nil}
@@ -59,7 +59,7 @@ module _ (g : Geometry) where
           let meets : l.start + l.length ≡ r.start = grind (arith, nat_tests, e) in
           let from = all.0.from in let some = all.0.some in let end = good.end in
           (record { from = from; end = omega (arith, meets, end); some = omega (arith, some) }, tt)
-      by false e = (all.0, good, tt)
+      by false e = (all.0, (good, tt))
   good_appended (l ∷ m ∷ rs) r all good = (all.0, good_appended (m ∷ rs) r all.1 good)
 
   good_all : (rs : List Run) (bs : List ℕ) → AllByRecursion (IsGoodRun g) rs → ((b : ℕ) → IsIn b bs → LiesIn g b) → AllByRecursion (IsGoodRun g) (appended_all rs (map one_block bs))

@@ -1,33 +1,28 @@
 -- What a change of names leaves of the files.
-use Rattle.std.proofs.Common.{◌≡◌, ◌≢◌, ℕ, ◌*◌, ◌/◌, ◌≤◌, ◌⊎◌, inl, inr, List, [], ◌∷◌, ◌++◌, Bool, true, false, Option, Some, None, length, ap, sym, refl, ◌∙◌, subst, arith}
-use Rattle.std.specs.Prelude.{◌==◌, ◌&&◌, ◌||◌, if◌then◌else◌}
+use Rattle.std.proofs.Common.{◌≡◌, ◌≢◌, ℕ, ◌*◌, ◌/◌, ◌⊎◌, inl, inr, List, [], ◌∷◌, ◌++◌, Bool, true, false, Option, Some, None, length, ap, sym, refl, ◌∙◌, subst, arith}
+use Rattle.std.specs.Prelude.{◌==◌, ◌||◌, if◌then◌else◌}
 use Rattle.std.specs.List.{slice_get, list_any}
-use Rattle.std.proofs.lemmas.Bool.{cases_eq}
 use Rattle.std.proofs.lemmas.Bool.Decides.{nat_tests}
 use Rattle.ufs_disk.specs.Disk.{Cell}
 use Rattle.ufs_layout.specs.InodeForm.{InodeForm, free_inode}
 use Rattle.ufs_layout.specs.declared.inode.Extent.{Extent}
 use Rattle.ufs_layout.specs.declared.geometry.Geometry.{Geometry}
-use Rattle.ufs_layout.specs.declared.records.LogRecord.{LogRecord}
 use Rattle.ufs_layout.specs.declared.records.Committed.{Committed}
 use Rattle.ufs_model.specs.PosixTree.{PosixTree}
-use Rattle.ufs_model.specs.FileBytes.{bytes_of}
 use Rattle.ufs_model.specs.declared.data.Entry.{Entry}
-use Rattle.ufs_prefix.specs.Changes.{changes_of, name_changes, names_after}
-use Rattle.ufs_prefix.specs.Stored.{IsNamed}
 use Rattle.ufs_image.specs.Fold.{is_in_range, after_delta}
 use Rattle.ufs_image.specs.Nodes.{blocks_of}
 use Rattle.ufs_image.specs.Catalog.{Catalog, IsInode, HasBlock}
 use Rattle.ufs_image.specs.Folding.{with_form, with_record_in, with_valid_in, with_records_in, with_committed_in, is_newer_in}
-use Rattle.ufs_image.proofs.Empty.{apart_false, false_if_not}
+use Rattle.ufs_image.proofs.Empty.{apart_false}
 use Rattle.ufs_dir_tree.specs.DirTable.{blocks_at}
 use Rattle.ufs_dir_tree.specs.Space.{extents_of}
 use Rattle.ufs_ilog.specs.Deltas as log
 use Rattle.ufs_ledger.specs.Ledger.{Stand, with_one, is_set_in, is_held}
-use Rattle.ufs_ledger.specs.Kept.{Numbers, Shape, shape_of, AlwaysShows, IsStandKept}
+use Rattle.ufs_ledger.specs.Kept.{Numbers, Shape, shape_of, IsStandKept}
 use Rattle.ufs_ledger.specs.Laws.{StandsOn}
 use Rattle.ufs_ledger.proofs.Held.{held_after}
-use Rattle.ufs_name_log.specs.Steps.{DirState, Step, Born, Grown, Put, Freed, after, after_all, dir_delta, record_of, records_of}
+use Rattle.ufs_name_log.specs.Steps.{DirState, Step, Born, Grown, Put, Freed, after, after_all, record_of, records_of}
 use Rattle.ufs_name_log.specs.Held.{HasState, MayStep, MaySteps}
 use Rattle.ufs_name_log.specs.Laws.{change, AreOlder}
 use Rattle.ufs_name_log.specs.Files.{is_of, is_touched, KeepsInode, MayGoOn}
@@ -91,7 +86,7 @@ module _ (g : Geometry) (number : ℕ) (before : Catalog) (older : AreOlder g be
       subst (λ (d : Catalog). IsBare (d.forms inode)) (sym catalog) (bare_at c i inode (free_inode number) (same_inode i inode is) (λ file. (refl, refl)))
 
   pub bare_all : (c : Catalog) (s : DirState) (xs : List Step) (inode : ℕ) → MaySteps g s xs → (is_touched xs inode ≡ true) ⊎ IsBare (c.forms inode) → IsBare ((with_records_in g number before (records_of s xs) c).forms inode)
-  bare_all c s [] inode may (inl no) = absurd cc
+  bare_all c s [] inode may (inl off) = absurd cc
   bare_all c s [] inode may (inr is) = is
   bare_all c s (x ∷ xs) inode may before' = bare_all (with_valid_in g number before (record_of s x) c) (after x s) xs inode may.1 (by (is_of inode x) refl before')
     where
@@ -124,7 +119,7 @@ module _ (g : Geometry) (number : ℕ) (before : Catalog) (older : AreOlder g be
       let same : next.forms inode ≡ c.forms inode = stays_valid g number before c s x inode parts.0 in
       ap (λ b. b || list_any (is_set_in block) (records_of (after x s) xs)) (unset c s x inode place block has may.0 at file)
       ∙ unset_all next (after x s) xs inode place block (told g number before older c s x has may.0) may.1 parts.1
-          (record { in_range = at.in_range; there = ap (λ (f : InodeForm). slice_get (blocks_of f) place) same ∙ at.there }) (ap (λ (f : InodeForm). f.kind) same ∙ file)
+      (record { in_range = at.in_range; there = ap (λ (f : InodeForm). slice_get (blocks_of f) place) same ∙ at.there }) (ap (λ (f : InodeForm). f.kind) same ∙ file)
 
 -- ---- how the disk stands on
 

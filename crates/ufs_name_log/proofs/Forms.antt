@@ -1,5 +1,5 @@
 -- An inode gets another form: what holds then of the forms and blocks.
-use Rattle.std.proofs.Common.{◌≡◌, ◌≢◌, ℕ, ◌*◌, ◌≤◌, ◌⊎◌, inl, inr, List, Bool, true, false, Some, length, ap, sym, refl, ◌∙◌, subst, arith}
+use Rattle.std.proofs.Common.{◌≡◌, ◌≢◌, ℕ, ◌*◌, ◌≤◌, ◌⊎◌, inl, inr, true, Some, length, ap, sym, ◌∙◌, subst, arith}
 use Rattle.std.specs.Prelude.{◌==◌, if◌then◌else◌}
 use Rattle.std.specs.List.{slice_get, AllByRecursion}
 use Rattle.std.proofs.lemmas.Bool.{cases_eq}
@@ -7,7 +7,7 @@ use Rattle.std.proofs.lemmas.Bool.Decides.{nat_tests}
 use Rattle.ufs_layout.specs.InodeForm.{InodeForm}
 use Rattle.ufs_layout.specs.declared.geometry.Geometry.{Geometry}
 use Rattle.ufs_image.specs.Nodes.{blocks_of}
-use Rattle.ufs_image.specs.Catalog.{Catalog, IsInode, HasBlock}
+use Rattle.ufs_image.specs.Catalog.{Catalog, HasBlock}
 use Rattle.ufs_image.specs.Sound.{IsInData}
 use Rattle.ufs_image.specs.Folding.{with_form}
 use Rattle.ufs_image.proofs.Empty.{apart_false}

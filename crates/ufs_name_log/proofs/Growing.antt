@@ -1,7 +1,7 @@
 -- A directory takes a block behind its others.
-use Rattle.std.proofs.Common.{◌≡◌, ◌≢◌, ℕ, zero, suc, ◌+◌, ◌*◌, ◌<◌, ◌≤◌, ◌⊎◌, inl, inr, List, [], ◌∷◌, ◌++◌, Bool, true, false, Some, length, replicate, set, ap, sym, refl, ◌∙◌, subst, arith}
+use Rattle.std.proofs.Common.{◌≡◌, ◌≢◌, ℕ, zero, suc, ◌*◌, ◌<◌, ◌⊎◌, inl, inr, List, [], ◌∷◌, ◌++◌, Bool, true, false, Some, length, replicate, ap, sym, refl, ◌∙◌, subst, arith}
 use Rattle.std.specs.Prelude.{◌==◌, ◌&&◌, not, flat_map, if◌then◌else◌}
-use Rattle.std.specs.List.{slice_get, AllByRecursion}
+use Rattle.std.specs.List.{slice_get}
 use Rattle.std.specs.FinSet as sets
 use Rattle.std.proofs.lemmas.Bool.{cases_eq}
 use Rattle.std.proofs.lemmas.Bool.Decides.{nat_tests}
@@ -10,11 +10,9 @@ use Rattle.std.proofs.lemmas.List.{append-nil, get_or-set_same, get_or-set_other
 use Rattle.ufs_layout.specs.Areas.{is_inode_number}
 use Rattle.ufs_layout.specs.DentryForm.{DentryForm, free_slot}
 use Rattle.ufs_layout.specs.InodeForm.{InodeForm, is_used}
-use Rattle.ufs_layout.specs.declared.inode.Extent.{Extent}
 use Rattle.ufs_layout.specs.declared.geometry.Geometry.{Geometry}
 use Rattle.ufs_image.specs.Nodes.{blocks_of}
 use Rattle.ufs_image.specs.Catalog.{Catalog, IsInode, HasBlock, HasSlots, slots_in}
-use Rattle.ufs_image.specs.Sound.{IsInData}
 use Rattle.ufs_image.proofs.Lists.{IsIn, in_one}
 use Rattle.ufs_dirs.specs.Directory.{Directory}
 use Rattle.ufs_dir_tree.specs.DirTable.{DirTable, no_dir, dir_at, slots_at, blocks_at}
@@ -102,7 +100,7 @@ module _ (g : Geometry) (c : Catalog) (s : DirState) (has : HasState g c s) (ino
       by : IsIn x bs ⊎ IsIn x (block ∷ []) → LiesIn g x
       by (inl old) = blocks_lie g (c.forms inode).extents (has.forms.in_data inode may.in_range) x (subst (IsIn x) blocks_were old)
       by (inr (inl same)) = let from = new.from in let under = new.under in record { from = omega (arith, same, from); under = omega (arith, same, under) }
-      by (inr (inr no)) = absurd no
+      by (inr (inr none)) = absurd none
 
   forms : HasSoundForms g d
   forms = kept_forms c inode grown_form g has.forms (λ e. refl) (extents_in_data g more lie) once apart (ap (λ xs. 4096 * length xs) (sym now_blocks))
@@ -163,19 +161,19 @@ module _ (g : Geometry) (c : Catalog) (s : DirState) (has : HasState g c s) (ino
   other_zeroed x is = by (x == block) refl is
     where
       by : (b : Bool) → (x == block) ≡ b → (if b then false else s.zeroed x) ≡ true → (x ≢ block) × (s.zeroed x ≡ true)
-      by true e no = absurd cc
-      by false e yes = ((λ same. let t : (x == block) ≡ true = grind (arith, nat_tests, same) in let no = sym e ∙ t in cc), yes)
+      by true e off = absurd cc
+      by false e on = ((λ same. let t : (x == block) ≡ true = grind (arith, nat_tests, same) in let clash = sym e ∙ t in cc), on)
 
   unheld : (x k place : ℕ) → x ≢ block → s.zeroed x ≡ true → HasBlock g d k place x → ⊥
-  unheld x k place other zero at = by (block_now c inode grown_form g k place x at)
+  unheld x k place other is_zero at = by (block_now c inode grown_form g k place x at)
     where
       here : HasBlock g c inode place x ⊎ ((place ≡ length bs) × (x ≡ block)) → ⊥
-      here (inl was) = (has.zeroed x zero).unheld inode place was
+      here (inl was) = (has.zeroed x is_zero).unheld inode place was
       here (inr now) = other now.1
 
       by : ((k ≡ inode) × (slice_get (blocks_of grown_form) place ≡ Some x)) ⊎ ((k ≢ inode) × HasBlock g c k place x) → ⊥
       by (inl now) = here (at_place place x now.1)
-      by (inr was) = (has.zeroed x zero).unheld k place was.1
+      by (inr was) = (has.zeroed x is_zero).unheld k place was.1
 
   pub grown_state : HasState g d (record { table = u; kinds = s.kinds; zeroed = without_block block s.zeroed })
   grown_state = record {

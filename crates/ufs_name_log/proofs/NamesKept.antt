@@ -1,5 +1,5 @@
 -- Steps that leave the names sound.
-use Rattle.std.proofs.Common.{◌≡◌, ◌≢◌, ℕ, zero, suc, ◌+◌, ◌<◌, ◌≤◌, ◌⊎◌, inl, inr, List, [], ◌∷◌, ◌++◌, Bool, true, false, Some, length, replicate, set, get_or, leb, ap, sym, refl, ◌∙◌, subst, arith}
+use Rattle.std.proofs.Common.{◌≡◌, ◌≢◌, ℕ, zero, suc, ◌<◌, ◌≤◌, ◌⊎◌, inl, inr, List, [], ◌∷◌, ◌++◌, true, false, Some, length, replicate, set, get_or, leb, ap, sym, refl, ◌∙◌, subst, arith}
 use Rattle.std.specs.Prelude.{◌==◌, if◌then◌else◌}
 use Rattle.std.specs.List.{slice_get}
 use Rattle.std.proofs.lemmas.Bool.{cases_eq}
@@ -10,7 +10,6 @@ use Rattle.ufs_layout.specs.declared.geometry.Geometry.{Geometry}
 use Rattle.ufs_dirs.specs.Directory.{Directory}
 use Rattle.ufs_dirs.specs.Changes.{place_of, with_entry}
 use Rattle.ufs_dirs.specs.declared.Slot.{Slot}
-use Rattle.ufs_image.specs.Catalog.{IsInode}
 use Rattle.ufs_dir_tree.specs.DirTable.{no_dir, dir_at, slots_at, blocks_at}
 use Rattle.ufs_name_log.specs.Steps.{DirState, Step, Born, Grown, Put, Freed, grown, with_kind, after}
 use Rattle.ufs_name_log.specs.Held.{HasName, FitsName, HasSoundNames, MayPut, MayStep}

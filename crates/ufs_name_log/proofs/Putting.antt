@@ -1,17 +1,16 @@
 -- A slot of a directory is set.
-use Rattle.std.proofs.Common.{◌≡◌, ◌≢◌, ℕ, zero, suc, ◌+◌, ◌*◌, ◌/◌, ◌%◌, ◌<◌, ◌≤◌, ◌⊎◌, inl, inr, List, [], ◌∷◌, ◌++◌, Bool, true, false, Some, length, set, get_or, ap, sym, refl, ◌∙◌, subst, arith, length-append}
-use Rattle.std.specs.Prelude.{◌==◌, ◌&&◌, flat_map, if◌then◌else◌}
+use Rattle.std.proofs.Common.{◌≡◌, ◌≢◌, ℕ, ◌+◌, ◌*◌, ◌/◌, ◌%◌, ◌<◌, ◌⊎◌, inl, inr, List, [], ◌∷◌, Bool, true, false, Some, length, set, get_or, ap, sym, refl, ◌∙◌, subst, arith, length-append}
+use Rattle.std.specs.Prelude.{◌==◌, flat_map, if◌then◌else◌}
 use Rattle.std.specs.List.{slice_get, position_or_len}
-use Rattle.std.proofs.lemmas.Bool.{cases_eq}
 use Rattle.std.proofs.lemmas.Bool.Decides.{nat_tests}
 use Rattle.std.proofs.lemmas.List.{get_or-set_same, get_or-set_other, length-set}
 use Rattle.std.proofs.lemmas.List.Sums.{passes_at_first}
 use Rattle.std.proofs.lemmas.Option.{slice_get-get_or}
-use Rattle.ufs_layout.specs.Areas.{is_data_sector, first_of_data}
+use Rattle.ufs_layout.specs.Areas.{is_data_sector}
 use Rattle.ufs_layout.specs.DentryForm.{DentryForm}
 use Rattle.ufs_layout.specs.declared.geometry.Geometry.{Geometry}
 use Rattle.ufs_image.specs.Nodes.{blocks_of}
-use Rattle.ufs_image.specs.Catalog.{Catalog, IsInode, HasBlock, HasSlots, slots_in}
+use Rattle.ufs_image.specs.Catalog.{Catalog, IsInode, HasBlock, slots_in}
 use Rattle.ufs_image.specs.Folding.{with_dentry}
 use Rattle.ufs_image.proofs.Lists.{IsIn}
 use Rattle.ufs_image.proofs.Listed.{place_of_in, in_at_place}
@@ -21,9 +20,8 @@ use Rattle.ufs_dirs.specs.Directory.{Directory}
 use Rattle.ufs_dirs.specs.Changes.{place_of, with_entry}
 use Rattle.ufs_dirs.specs.declared.Slot.{Slot}
 use Rattle.ufs_dir_tree.specs.DirTable.{DirTable, no_dir, dir_at, slots_at, blocks_at}
-use Rattle.ufs_dir_image.specs.Tables.{dir_blocks}
 use Rattle.ufs_name_log.specs.Steps.{DirState, with_dir}
-use Rattle.ufs_name_log.specs.Held.{HasState, HasSoundForms, MayPut, IsZeroed}
+use Rattle.ufs_name_log.specs.Held.{HasState, HasSoundForms, MayPut}
 use Rattle.ufs_name_log.proofs.Extents.{LiesIn, blocks_lie}
 use Rattle.ufs_name_log.proofs.Tabled.{kept_table}
 

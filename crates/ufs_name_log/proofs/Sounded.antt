@@ -1,9 +1,9 @@
 -- A catalog's soundness is that of its forms and of its names.
-use Rattle.std.proofs.Common.{◌≡◌, ℕ, List, Bool, true, Some, ap, sym, refl, ◌∙◌}
+use Rattle.std.proofs.Common.{◌≡◌, ℕ, Bool, true, ap, sym, refl, ◌∙◌}
 use Rattle.std.specs.List.{slice_get}
 use Rattle.ufs_layout.specs.DentryForm.{DentryForm}
 use Rattle.ufs_layout.specs.declared.geometry.Geometry.{Geometry}
-use Rattle.ufs_image.specs.Catalog.{Catalog, IsInode, HasSlots}
+use Rattle.ufs_image.specs.Catalog.{Catalog, HasSlots}
 use Rattle.ufs_image.specs.Sound.{IsSoundCatalog, HasDentry}
 use Rattle.ufs_dir_tree.specs.DirTable.{DirTable}
 use Rattle.ufs_dir_image.specs.Tables.{IsTableOf}

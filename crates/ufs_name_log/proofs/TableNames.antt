@@ -1,11 +1,11 @@
 -- The names of a table of directories are sound.
-use Rattle.std.proofs.Common.{◌≡◌, ◌≢◌, ℕ, zero, suc, ◌+◌, ◌<◌, ◌≤◌, ◌⊎◌, inl, inr, List, [], ◌∷◌, ◌++◌, Bool, true, false, Option, Some, None, is_some, length, get_or, leb, ap, sym, refl, ◌∙◌, subst, arith}
+use Rattle.std.proofs.Common.{◌≡◌, ℕ, ◌+◌, ◌<◌, ◌≤◌, ◌⊎◌, inl, inr, List, [], ◌∷◌, ◌++◌, Bool, true, false, Some, is_some, length, leb, ap, sym, refl, ◌∙◌, subst, arith}
 use Rattle.std.specs.Prelude.{◌==◌, ◌&&◌, not, nat_le, if◌then◌else◌}
 use Rattle.std.specs.Option.{option_map}
-use Rattle.std.specs.List.{slice_get, list_all, find}
+use Rattle.std.specs.List.{slice_get, list_all}
 use Rattle.std.specs.Str.{bytes_eq}
 use Rattle.std.proofs.lemmas.Bool.{and_parts}
-use Rattle.std.proofs.lemmas.Bool.Decides.{nat_tests, leb_tells}
+use Rattle.std.proofs.lemmas.Bool.Decides.{leb_tells}
 use Rattle.std.proofs.lemmas.Option.{get_or_from_slice_get, slice_get_within}
 use Rattle.std.proofs.lemmas.Slice.Eq.{bytes_eq-Decides}
 use Rattle.ufs_layout.specs.DentryForm.{DentryForm, free_slot, is_named}
@@ -13,12 +13,10 @@ use Rattle.ufs_layout.specs.declared.geometry.Geometry.{Geometry}
 use Rattle.ufs_dirs.specs.Directory.{entry_at, entry_of, has_name, NamesOnce}
 use Rattle.ufs_image.specs.Damage.{is_plain_name}
 use Rattle.ufs_image.proofs.Lists.{find-only}
-use Rattle.ufs_image.proofs.Empty.{both_true, false_if_not}
+use Rattle.ufs_image.proofs.Empty.{both_true}
 use Rattle.ufs_model.specs.Paths.{in_range, is_dots}
 use Rattle.ufs_path.specs.Names.{IsName}
-use Rattle.ufs_dir_tree.specs.DirTable.{DirTable, IsDirTable, slots_at, found_of, inode_of, found_at, step, walk_from}
-use Rattle.ufs_dir_tree.specs.DirEdits.{IsMet}
-use Rattle.ufs_dir_tree.specs.declared.found.Found.{Found}
+use Rattle.ufs_dir_tree.specs.DirTable.{IsDirTable, slots_at, found_of, inode_of, found_at, step}
 use Rattle.ufs_dir_tree.specs.declared.found.Found.TheVariants.{Dir, File}
 use Rattle.ufs_dir_tree.proofs.WalkLemmas.{walk-append}
 use Rattle.ufs_name_log.specs.Steps.{DirState}
@@ -94,9 +92,12 @@ module _ (g : Geometry) (s : DirState) (counted : length s.table.dirs ≡ g.inod
   -- a walk meets what a name stands for
   meets_name : (dir p : ℕ) (d : DentryForm) → HasName g s dir p d → (names : List (List ℕ)) × (found_at s.table names ≡ Some (Dir dir)) × (found_at s.table (names ++ d.name ∷ []) ≡ Some (found_of d))
   meets_name dir p d at =
-      let met = well.met dir p d at.there at.named in
-      (met.0, met.1, walk-append s.table (Some (Dir 1)) met.0 (d.name ∷ []) ∙ ap (λ o. step s.table o d.name) met.1
-          ∙ ap (option_map found_of) (stands_for (slots_at s.table dir) (well.dirs dir).names_once p d at.there at.named))
+      let met = well.met dir p d at.there at.named in (
+        met.0,
+        met.1,
+        walk-append s.table (Some (Dir 1)) met.0 (d.name ∷ []) ∙ ap (λ o. step s.table o d.name) met.1
+            ∙ ap (option_map found_of) (stands_for (slots_at s.table dir) (well.dirs dir).names_once p d at.there at.named),
+      )
 
   same_dir : (i j : ℕ) → Some (Dir i) ≡ Some (Dir j) → i ≡ j
   same_dir i j e = cc

@@ -1,11 +1,11 @@
 -- The table of a catalog in which one inode changed.
-use Rattle.std.proofs.Common.{◌≡◌, ◌≢◌, ℕ, ◌+◌, ◌⊎◌, inl, inr, List, Bool, length, ap, sym, refl, ◌∙◌, subst, arith}
+use Rattle.std.proofs.Common.{◌≡◌, ◌≢◌, ℕ, ◌⊎◌, inl, inr, length, ap, sym, ◌∙◌, subst, arith}
 use Rattle.std.specs.FinSet as set
 use Rattle.std.proofs.lemmas.Bool.{cases_eq}
 use Rattle.ufs_layout.specs.declared.geometry.Geometry.{Geometry}
 use Rattle.ufs_dirs.specs.Directory.{Directory}
 use Rattle.ufs_image.specs.Catalog.{Catalog, IsInode, slots_in}
-use Rattle.ufs_dir_tree.specs.DirTable.{DirTable, no_dir, dir_at, slots_at, blocks_at}
+use Rattle.ufs_dir_tree.specs.DirTable.{DirTable, dir_at, slots_at, blocks_at}
 use Rattle.ufs_dir_image.specs.Tables.{dir_blocks, is_free_inode, IsTableOf}
 
 module _ (g : Geometry) (c d : Catalog) (t u : DirTable) (inode : ℕ) (inside : IsInode g inode) (of : IsTableOf g c t)

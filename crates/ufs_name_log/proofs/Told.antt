@@ -1,27 +1,24 @@
 -- What the record of a step does, and the records of some steps.
-use Rattle.std.proofs.Common.{◌≡◌, ◌≢◌, ℕ, ◌<◌, ◌≤◌, ◌⊎◌, inl, inr, List, [], ◌∷◌, ◌++◌, Bool, true, false, length, take, ap, sym, refl, ◌∙◌, subst, arith}
+use Rattle.std.proofs.Common.{◌≡◌, ◌≢◌, ℕ, ◌<◌, ◌⊎◌, inl, inr, List, [], ◌∷◌, ◌++◌, Bool, true, false, length, take, ap, sym, refl, ◌∙◌, subst, arith}
 use Rattle.std.specs.Prelude.{◌==◌, ◌&&◌, ◌||◌, ◌*◌, not, flat_map, slice_set, if◌then◌else◌}
 use Rattle.std.specs.FinSet as set
-use Rattle.std.proofs.lemmas.Bool.{cases_eq}
 use Rattle.std.proofs.lemmas.Bool.Decides.{nat_tests}
 use Rattle.std.proofs.lemmas.List.{get_or-set_same, get_or-set_other, length-set}
 use Rattle.ufs_bitmap.proofs.SetLemmas.{has-insert, has-remove}
-use Rattle.ufs_layout.specs.Areas.{is_inode_number, is_data_sector}
-use Rattle.ufs_layout.specs.InodeForm.{InodeForm, is_used, free_inode}
+use Rattle.ufs_layout.specs.Areas.{is_inode_number}
+use Rattle.ufs_layout.specs.InodeForm.{is_used, free_inode}
 use Rattle.ufs_layout.specs.declared.inode.Extent.{Extent}
 use Rattle.ufs_layout.specs.declared.geometry.Geometry.{Geometry}
-use Rattle.ufs_layout.specs.declared.records.LogRecord.{LogRecord}
 use Rattle.ufs_image.specs.Fold.{after_delta}
 use Rattle.ufs_image.specs.Nodes.{blocks_of}
 use Rattle.ufs_image.specs.Catalog.{Catalog, IsInode}
 use Rattle.ufs_image.specs.Folding.{with_form, with_dentry, is_newer_in, with_valid_in, with_records_in}
 use Rattle.ufs_image.proofs.Empty.{apart_false}
-use Rattle.ufs_dirs.specs.declared.Slot.{Slot}
 use Rattle.ufs_dir_tree.specs.DirTable.{no_dir, dir_at, blocks_at}
 use Rattle.ufs_dir_image.specs.Tables.{is_free_inode}
 use Rattle.ufs_ilog.specs.Deltas as log
 use Rattle.ufs_dir_tree.specs.Space.{extents_of}
-use Rattle.ufs_name_log.specs.Steps.{DirState, Step, Born, Grown, Put, Freed, with_kind, after, after_all, record_of, records_of}
+use Rattle.ufs_name_log.specs.Steps.{DirState, Step, Born, Grown, Put, Freed, after, after_all, record_of, records_of}
 use Rattle.ufs_name_log.specs.Held.{HasState, MayBeBorn, MayStep, MaySteps}
 use Rattle.ufs_name_log.specs.Laws.{AreOlder}
 use Rattle.ufs_name_log.proofs.Bare.{bare_state}
@@ -107,9 +104,9 @@ module _ (g : Geometry) (number : ℕ) (before : Catalog) (older : AreOlder g be
       let t : (i == i) ≡ true = grind (arith, nat_tests) in
       let here : set.contains (set.insert s.table.free i) i ≡ true = has-insert s.table.free i i ∙ ap (λ b. b || set.contains s.table.free i) t in
       subst (λ x. HasState g x (after (Freed i) s)) (sym catalog)
-          (bare_state g c s has i (free_inode number) (slice_set s.table.dirs i no_dir) (set.insert s.table.free i) may.in_range refl refl (λ e. absurd (may.no_root e))
-          (length-set s.table.dirs i no_dir) (λ k other. get_or-set_other s.table.dirs i k no_dir no_dir other) (get_or-set_same s.table.dirs i no_dir no_dir within) here
-          (λ k other. has-insert s.table.free i k ∙ ap (λ b. b || set.contains s.table.free k) (apart_false k i other)))
+      (bare_state g c s has i (free_inode number) (slice_set s.table.dirs i no_dir) (set.insert s.table.free i) may.in_range refl refl (λ e. absurd (may.no_root e))
+      (length-set s.table.dirs i no_dir) (λ k other. get_or-set_other s.table.dirs i k no_dir no_dir other) (get_or-set_same s.table.dirs i no_dir no_dir within) here
+      (λ k other. has-insert s.table.free i k ∙ ap (λ b. b || set.contains s.table.free k) (apart_false k i other)))
 
   -- ---- and all
 

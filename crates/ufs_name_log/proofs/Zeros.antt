@@ -1,18 +1,18 @@
 -- A block of zeros is one that a directory may take.
-use Rattle.std.proofs.Common.{◌≡◌, ◌≢◌, ℕ, ◌≤◌, ◌<◌, inl, inr, List, [], Bool, true, false, length, replicate, ap, sym, refl, ◌∙◌, subst, arith}
-use Rattle.std.specs.Prelude.{◌==◌, flat_map, if◌then◌else◌}
+use Rattle.std.proofs.Common.{◌≡◌, ◌≢◌, ℕ, List, [], Bool, true, false, length, replicate, ap, sym, refl, ◌∙◌, subst, arith}
+use Rattle.std.specs.Prelude.{◌==◌, if◌then◌else◌}
 use Rattle.std.proofs.lemmas.Bool.Decides.{nat_tests}
 use Rattle.ufs_layout.specs.DentryForm.{DentryForm, free_slot}
 use Rattle.ufs_layout.specs.declared.geometry.Geometry.{Geometry}
 use Rattle.ufs_image.specs.Nodes.{blocks_of}
 use Rattle.ufs_image.specs.Catalog.{Catalog, IsInode, HasBlock, slots_in}
-use Rattle.ufs_image.proofs.Lists.{IsIn, flat_map-same}
+use Rattle.ufs_image.proofs.Lists.{flat_map-same}
 use Rattle.ufs_image.proofs.Listed.{place_of_in}
 use Rattle.ufs_image.proofs.Empty.{apart_false}
 use Rattle.ufs_ledger.specs.Ledger.{Stand, IsDataBlock}
 use Rattle.ufs_ledger.specs.Changes.{with_free_block}
 use Rattle.ufs_name_log.specs.Steps.{DirState}
-use Rattle.ufs_name_log.specs.Held.{HasState, HasSoundForms, IsZeroed, with_zeroed}
+use Rattle.ufs_name_log.specs.Held.{HasState, IsZeroed, with_zeroed}
 
 module _ (g : Geometry) (s : Stand) (x : DirState) (block : ℕ) (has : HasState g s.catalog x) (lies : IsDataBlock g block) (unheld : (inode place : ℕ) → HasBlock g s.catalog inode place block → ⊥) where
   abbrev c : Catalog
@@ -41,12 +41,12 @@ module _ (g : Geometry) (s : Stand) (x : DirState) (block : ℕ) (has : HasState
   zero_now b e = by (b == block) refl e
     where
       by : (v : Bool) → (b == block) ≡ v → (if v then true else x.zeroed b) ≡ true → IsZeroed g d b
-      by true same yes =
+      by true same on =
           let at : b ≡ block = grind (arith, nat_tests, same) in
           let from = lies.from in let under = lies.under in
           record { from = omega (arith, at, from); under = omega (arith, at, under); slots = ap d.slots at ∙ here; unheld = λ j p is. unheld j p (subst (HasBlock g c j p) at (was j p b is)) }
-      by false apart yes =
-          let old = x_zeroed b yes in
+      by false apart on =
+          let old = x_zeroed b on in
           let other : b ≢ block = (λ same. let t : (b == block) ≡ true = grind (arith, nat_tests, same) in let no = sym apart ∙ t in cc) in
           record { from = old.from; under = old.under; slots = other_slots b other ∙ old.slots; unheld = λ j p is. old.unheld j p (was j p b is) }
         where

@@ -20,10 +20,14 @@ change number s xs = record { number = number; records = records_of s xs }
 abbrev pub AreOlder : Geometry → Catalog → ℕ → Type 0
 AreOlder g c number = (inode : ℕ) → IsInode g inode → (c.forms inode).number < number
 
+-- the state of a catalog with this table
+abbrev pub state_of : Catalog → DirTable → (ℕ → Bool) → DirState
+state_of c t zeroed = record { table = t; kinds = λ inode. (c.forms inode).kind; zeroed = zeroed }
+
 -- A sound catalog whose blocks of directories are whole has the directories of its table, and sound names in them.
 abbrev pub SoundHasState : Geometry → Type 0
-SoundHasState g = (c : Catalog) (t : DirTable) (zeroed : ℕ → Bool) → let s = record { table = t; kinds = λ inode. (c.forms inode).kind; zeroed = zeroed } in
-    IsSoundCatalog g c → IsTableOf g c t → ((dir : ℕ) → (c.forms dir).kind ≡ 2 → HasSlots g c dir) → ((block : ℕ) → zeroed block ≡ true → IsZeroed g c block) → HasState g c s × HasSoundNames g s
+SoundHasState g = (c : Catalog) (t : DirTable) (zeroed : ℕ → Bool)
+    → IsSoundCatalog g c → IsTableOf g c t → ((dir : ℕ) → (c.forms dir).kind ≡ 2 → HasSlots g c dir) → ((block : ℕ) → zeroed block ≡ true → IsZeroed g c block) → HasState g c (state_of c t zeroed) × HasSoundNames g (state_of c t zeroed)
 
 -- A block of zeros that no inode has is one more that a directory may take, once dentries may be spelled there.
 abbrev pub ZerosAreTaken : Geometry → Type 0

@@ -1,5 +1,5 @@
 -- A change of names, step by step: what each step makes of the directories, and the record that tells it.
-use Rattle.std.specs.Prelude.{ℕ, ◌*◌, ◌==◌, List, [], ◌∷◌, ◌++◌, length, replicate, slice_set, Bool, true, false, if◌then◌else◌}
+use Rattle.std.specs.Prelude.{ℕ, ◌*◌, ◌==◌, List, [], ◌∷◌, ◌++◌, length, replicate, slice_set, Bool, false, if◌then◌else◌}
 use Rattle.std.specs.FinSet as set
 use Rattle.ufs_base.specs.declared.sizes.TheConstants.{BLOCK, SLOTS_PER_BLOCK}
 use Rattle.ufs_layout.specs.DentryForm.{DentryForm, free_slot}
