@@ -14,3 +14,5 @@ mod Commits
 mod Files
 mod NamesKept
 mod TableNames
+mod Orders
+mod Sized

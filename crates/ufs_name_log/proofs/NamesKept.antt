@@ -45,6 +45,18 @@ set_none [] i x = refl
 set_none (y ∷ ys) zero x = refl
 set_none (y ∷ ys) (suc i) x = set_none ys i x
 
+-- a directory of which a slot is set has a place in the table
+module _ (g : Geometry) (s : DirState) (i : ℕ) (slot : Slot) (d : DentryForm) (may : MayPut g s i slot d) where
+  pub has_dir : i < length s.table.dirs
+  has_dir = by (leb_tells (length s.table.dirs) i)
+    where
+      by : ((leb (length s.table.dirs) i ≡ true) × (length s.table.dirs ≤ i)) ⊎ ((leb (length s.table.dirs) i ≡ false) × (i < length s.table.dirs)) → i < length s.table.dirs
+      by (inl high) =
+          let none = ap (λ (x : Directory). length x.slots) (get_or_past s.table.dirs i no_dir high.1) in
+          let inside = may.in_dir.in_blocks in
+          absurd (omega (arith, none, inside))
+      by (inr low) = low.1
+
 module _ (g : Geometry) (s : DirState) (sound : HasSoundNames g s) where
   -- names that were there, with kinds that their inodes still have
   kept : (t : DirState) → ((dir p : ℕ) (e : DentryForm) → HasName g t dir p e → HasName g s dir p e × (t.kinds e.inode ≡ s.kinds e.inode)) → HasSoundNames g t
@@ -105,16 +117,6 @@ module _ (g : Geometry) (s : DirState) (sound : HasSoundNames g s) where
     abbrev place : ℕ
     place = place_of (blocks_at s.table i) slot
 
-    within : i < length s.table.dirs
-    within = by (leb_tells (length s.table.dirs) i)
-      where
-        by : ((leb (length s.table.dirs) i ≡ true) × (length s.table.dirs ≤ i)) ⊎ ((leb (length s.table.dirs) i ≡ false) × (i < length s.table.dirs)) → i < length s.table.dirs
-        by (inl high) =
-            let none = ap (λ (x : Directory). length x.slots) (get_or_past s.table.dirs i no_dir high.1) in
-            let inside = may.in_dir.in_blocks in
-            absurd (omega (arith, none, inside))
-        by (inr low) = low.1
-
     which : (dir p : ℕ) (e : DentryForm) → HasName g (after (Put i slot d) s) dir p e → ((dir ≡ i) × (p ≡ place) × (e ≡ d)) ⊎ HasName g s dir p e
     which dir p e at = by (cases_eq dir i)
       where
@@ -124,7 +126,7 @@ module _ (g : Geometry) (s : DirState) (sound : HasSoundNames g s) where
 
         by : (dir ≡ i) ⊎ (dir ≢ i) → ((dir ≡ i) × (p ≡ place) × (e ≡ d)) ⊎ HasName g s dir p e
         by (inl same) =
-            let now : dir_at (after (Put i slot d) s).table dir ≡ with_entry (dir_at s.table i) slot d = ap (dir_at (after (Put i slot d) s).table) same ∙ get_or-set_same s.table.dirs i (with_entry (dir_at s.table i) slot d) no_dir within in
+            let now : dir_at (after (Put i slot d) s).table dir ≡ with_entry (dir_at s.table i) slot d = ap (dir_at (after (Put i slot d) s).table) same ∙ get_or-set_same s.table.dirs i (with_entry (dir_at s.table i) slot d) no_dir (has_dir g s i slot d may) in
             here (get_set (slots_at s.table i) place p d e (ap (λ (x : Directory). slice_get x.slots p) (sym now) ∙ at.there)) same
         by (inr other) = inr (record { in_range = at.in_range; there = ap (λ (x : Directory). slice_get x.slots p) (sym (get_or-set_other s.table.dirs i dir (with_entry (dir_at s.table i) slot d) no_dir other)) ∙ at.there; named = at.named })
 

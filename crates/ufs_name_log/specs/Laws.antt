@@ -1,11 +1,15 @@
 -- What the records of a change of names do.
 use Rattle.std.specs.Prelude.{ℕ, ◌≡◌, ◌<◌, ◌+◌, ◌^◌, ◌++◌, List, Bool, true, IsTrue}
+use Rattle.std.specs.Option.{option_map}
+use Rattle.ufs_base.specs.Images.{Image}
 use Rattle.ufs_layout.specs.declared.geometry.Geometry.{Geometry}
 use Rattle.ufs_layout.specs.declared.records.Committed.{Committed}
-use Rattle.ufs_image.specs.Catalog.{Catalog, IsInode, HasBlock, HasSlots}
-use Rattle.ufs_image.specs.Folding.{with_committed_in}
+use Rattle.ufs_image.specs.Catalog.{Catalog, IsInode, HasBlock, HasDirBlocks, HasSlots}
+use Rattle.ufs_image.specs.Folding.{Spells, with_committed_in}
 use Rattle.ufs_image.specs.Sound.{IsSoundCatalog}
-use Rattle.ufs_dir_tree.specs.DirTable.{DirTable}
+use Rattle.ufs_image.specs.Walks.{inode_of}
+use Rattle.ufs_dir_tree.specs.DirTable.{DirTable, found_at}
+use Rattle.ufs_dir_image.specs.Meets.{found_in}
 use Rattle.ufs_dir_image.specs.Tables.{IsTableOf}
 use Rattle.ufs_ledger.specs.Ledger.{Stand, IsDataBlock, CoversDirs}
 use Rattle.ufs_ledger.specs.Changes.{MayCommit, with_free_block}
@@ -29,6 +33,10 @@ abbrev pub SoundHasState : Geometry → Type 0
 SoundHasState g = (c : Catalog) (t : DirTable) (zeroed : ℕ → Bool)
     → IsSoundCatalog g c → IsTableOf g c t → ((dir : ℕ) → (c.forms dir).kind ≡ 2 → HasSlots g c dir) → ((block : ℕ) → zeroed block ≡ true → IsZeroed g c block) → HasState g c (state_of c t zeroed) × HasSoundNames g (state_of c t zeroed)
 
+-- A catalog that an image spells has the slots of each directory's blocks.
+abbrev pub SpelledHaveSlots : Geometry → Type 0
+SpelledHaveSlots g = (whole : Bool) (these : ℕ → Bool) (image : Image) (c : Catalog) → Spells g whole these image c → HasDirBlocks g c these → (dir : ℕ) → (c.forms dir).kind ≡ 2 → HasSlots g c dir
+
 -- A block of zeros that no inode has is one more that a directory may take, once dentries may be spelled there.
 abbrev pub ZerosAreTaken : Geometry → Type 0
 ZerosAreTaken g = (s : Stand) (d : DirState) (block : ℕ) → HasState g s.catalog d → IsDataBlock g block → ((inode place : ℕ) → HasBlock g s.catalog inode place block → ⊥)
@@ -41,6 +49,10 @@ StepsAreTold g = (c : Catalog) (s : DirState) (xs : List Step) (number : ℕ) �
 -- A catalog with sound names in its directories is sound.
 abbrev pub NamesLeaveSound : Geometry → Type 0
 NamesLeaveSound g = (c : Catalog) (s : DirState) → HasState g c s → HasSoundNames g s → IsSoundCatalog g c
+
+-- And its walks are those through the table.
+abbrev pub NamesHaveWalks : Geometry → Type 0
+NamesHaveWalks g = (c : Catalog) (s : DirState) → HasState g c s → HasSoundNames g s → (names : List (List ℕ)) → found_at s.table names ≡ option_map (found_in c) (inode_of c names)
 
 -- The steps may be committed where they leave sound names, and dentries are spelled in the blocks that directories take.
 abbrev pub StepsMayCommit : Geometry → Type 0

@@ -9,7 +9,7 @@ use Rattle.ufs_dirs.specs.declared.Slot.{Slot}
 use Rattle.ufs_dir_tree.specs.DirTable.{DirTable, IsDirTable, dir_at, slots_at, blocks_at}
 use Rattle.ufs_dir_tree.specs.DirEdits.{IsMet}
 use Rattle.ufs_name_log.specs.Steps.{DirState, Step, Born, Grown, Put, Freed, after}
-use Rattle.ufs_name_log.specs.Held.{HasName, FitsName, MayStep, HasSoundNames}
+use Rattle.ufs_name_log.specs.Held.{HasName, FitsName, MayPut, MayStep, HasSoundNames}
 
 -- The name fits, and neither it nor its inode is there at another place.
 pub record IsNewName (g : Geometry) (s : DirState) (dir : ℕ) (slot : Slot) (d : DentryForm) : Type 0 where
@@ -43,3 +43,16 @@ pub record IsWellNamed (t : DirTable) (kinds : ℕ → ℕ) : Type 0 where
 -- A table of directories that is so has sound names.
 abbrev pub TablesNameSoundly : Geometry → Type 0
 TablesNameSoundly g = (s : DirState) → length s.table.dirs ≡ g.inodes + 1 → IsDirTable s.table → IsWellNamed s.table s.kinds → HasSoundNames g s
+
+-- ---- the order of slots
+
+-- Where the first may be set it may be behind the second, and both orders lead to the same.
+pub record IsEitherOrder (g : Geometry) (s : DirState) (i j : ℕ) (a b : Slot) (d e : DentryForm) : Type 0 where
+  pub may : MayPut g (after (Put j b e) s) i a d
+  pub same : after (Put i a d) (after (Put j b e) s) ≡ after (Put j b e) (after (Put i a d) s)
+
+-- Two slots may be set in either order. So the two of a rename stand in the order of their sectors, though a name that stands
+-- elsewhere too is no new one.
+abbrev pub PutsCommute : Geometry → Type 0
+PutsCommute g = (s : DirState) (i j : ℕ) (a b : Slot) (d e : DentryForm) → MayPut g s i a d → MayPut g s j b e → (i ≡ j → place_of (blocks_at s.table i) a ≢ place_of (blocks_at s.table i) b)
+    → IsEitherOrder g s i j a b d e

@@ -3,8 +3,8 @@
 
 ghost use Rattle.ufs_layout.specs.Areas.{IsGeometry};
 ghost use Rattle.ufs_name_log.specs.Files.{BornAreEmpty, FilesAreUnset, NamesStandOn, OthersStay};
-ghost use Rattle.ufs_name_log.specs.Names.{NamesStaySound, TablesNameSoundly};
-ghost use Rattle.ufs_name_log.specs.Laws.{ChangesJoin, NamesLeaveSound, NumbersRise, SoundHasState, StepsAreTold, StepsMayCommit, ZerosAreTaken};
+ghost use Rattle.ufs_name_log.specs.Names.{NamesStaySound, PutsCommute, TablesNameSoundly};
+ghost use Rattle.ufs_name_log.specs.Laws.{ChangesJoin, NamesHaveWalks, NamesLeaveSound, NumbersRise, SoundHasState, SpelledHaveSlots, StepsAreTold, StepsMayCommit, ZerosAreTaken};
 
 use ufs_layout::Geometry;
 
@@ -12,6 +12,7 @@ use ufs_layout::Geometry;
 pub fn state_law(geometry: &Geometry)
     requires { IsGeometry geometry.now }
     ensures sound { SoundHasState geometry.now }
+    ensures slots { SpelledHaveSlots geometry.now }
     ensures zeros { ZerosAreTaken geometry.now }
 {
     let _geometry = geometry;
@@ -23,6 +24,7 @@ pub fn change_law(geometry: &Geometry)
     requires { IsGeometry geometry.now }
     ensures told { StepsAreTold geometry.now }
     ensures sound { NamesLeaveSound geometry.now }
+    ensures walks { NamesHaveWalks geometry.now }
     ensures may { StepsMayCommit geometry.now }
     ensures numbers { NumbersRise geometry.now }
     ensures joined { ChangesJoin geometry.now }
@@ -46,6 +48,7 @@ pub fn names_law(geometry: &Geometry)
     requires { IsGeometry geometry.now }
     ensures stay { NamesStaySound geometry.now }
     ensures table { TablesNameSoundly geometry.now }
+    ensures order { PutsCommute geometry.now }
 {
     let _geometry = geometry;
 }

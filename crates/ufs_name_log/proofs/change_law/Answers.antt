@@ -1,6 +1,8 @@
 use Rattle.ufs_name_log.proofs.Commits.{leads, may_commit, rises}
 use Rattle.ufs_name_log.proofs.Sounded.{is_sound}
 use Rattle.ufs_name_log.proofs.Joined.{joined}
+use Rattle.std.proofs.Common.{arith}
+use Rattle.ufs_dir_image.proofs.Walked.{meets}
 use Rattle.ufs_name_log.proofs.change_law.Goals as goal
 
 pub returns-clause-told : goal.returns-clause-told
@@ -17,3 +19,7 @@ returns-clause-numbers c cat s xs number older = rises c.args.geometry.now cat s
 
 pub returns-clause-joined : goal.returns-clause-joined
 returns-clause-joined c s xs ys = joined c.args.geometry.now s xs ys
+
+pub returns-clause-walks : goal.returns-clause-walks
+returns-clause-walks c cat s has names walk =
+    meets c.args.geometry.now cat s.table (is_sound c.args.geometry.now cat s has names) has.table.slots (record { from_one = omega arith; within = omega (arith, c.requires.least_inodes) }) walk

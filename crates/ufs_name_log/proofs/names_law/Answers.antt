@@ -1,5 +1,6 @@
 use Rattle.ufs_name_log.proofs.NamesKept.{stays}
 use Rattle.ufs_name_log.proofs.TableNames.{sound_names}
+use Rattle.ufs_name_log.proofs.Orders.{either}
 use Rattle.ufs_name_log.proofs.names_law.Goals as goal
 
 pub returns-clause-stay : goal.returns-clause-stay
@@ -7,3 +8,6 @@ returns-clause-stay c s x sound may keeps = stays c.args.geometry.now s sound x 
 
 pub returns-clause-table : goal.returns-clause-table
 returns-clause-table c s counted is well = sound_names c.args.geometry.now s counted is well
+
+pub returns-clause-order : goal.returns-clause-order
+returns-clause-order c s i j a b d e may also apart = either c.args.geometry.now s i j a b d e may also apart

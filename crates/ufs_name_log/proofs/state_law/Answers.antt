@@ -1,5 +1,6 @@
 use Rattle.ufs_name_log.proofs.Sounded.{has_state, has_names}
 use Rattle.ufs_name_log.proofs.Zeros.{zeros_state}
+use Rattle.ufs_name_log.proofs.Sized.{spelled_slots}
 use Rattle.ufs_name_log.proofs.state_law.Goals as goal
 
 pub returns-clause-sound : goal.returns-clause-sound
@@ -7,3 +8,6 @@ returns-clause-sound c cat t zeroed sound of sized zeros = (has_state c.args.geo
 
 pub returns-clause-zeros : goal.returns-clause-zeros
 returns-clause-zeros c s d block has lies unheld = zeros_state c.args.geometry.now s d block has lies unheld
+
+pub returns-clause-slots : goal.returns-clause-slots
+returns-clause-slots c whole these image cat spells covers dir is block place has = spelled_slots c.args.geometry.now whole these image cat spells covers dir is block place has
