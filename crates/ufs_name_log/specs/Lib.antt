@@ -3,3 +3,4 @@ pub mod Held
 pub mod Laws
 pub mod Files
 pub mod Names
+pub mod Rows

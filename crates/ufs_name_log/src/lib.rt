@@ -4,6 +4,7 @@
 ghost use Rattle.ufs_layout.specs.Areas.{IsGeometry};
 ghost use Rattle.ufs_name_log.specs.Files.{BornAreEmpty, FilesAreUnset, NamesStandOn, OthersStay};
 ghost use Rattle.ufs_name_log.specs.Names.{NamesStaySound, PutsCommute, TablesNameSoundly};
+ghost use Rattle.ufs_name_log.specs.Rows.{BirthIsMet, BirthIsTold};
 ghost use Rattle.ufs_name_log.specs.Laws.{ChangesJoin, NamesHaveWalks, NamesLeaveSound, NumbersRise, SoundHasState, SpelledHaveSlots, StepsAreTold, StepsMayCommit, ZerosAreTaken};
 
 use ufs_layout::Geometry;
@@ -52,3 +53,9 @@ pub fn names_law(geometry: &Geometry)
 {
     let _geometry = geometry;
 }
+
+/// The birth of a file on a new image, and what stands in the root then.
+pub fn birth_row()
+    ensures records { BirthIsTold }
+    ensures met { BirthIsMet }
+{}
