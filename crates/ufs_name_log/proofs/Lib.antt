@@ -16,3 +16,4 @@ mod NamesKept
 mod TableNames
 mod Orders
 mod Sized
+mod CallNames

@@ -57,6 +57,22 @@ module _ (g : Geometry) (s : DirState) (i : ℕ) (slot : Slot) (d : DentryForm) 
           absurd (omega (arith, none, inside))
       by (inr low) = low.1
 
+  -- what stands there then: the new one in its slot, and elsewhere what stood there
+  pub set_name : (dir p : ℕ) (e : DentryForm) → HasName g (after (Put i slot d) s) dir p e
+      → ((dir ≡ i) × (p ≡ place_of (blocks_at s.table i) slot) × (e ≡ d)) ⊎ (HasName g s dir p e × (dir ≡ i → p ≢ place_of (blocks_at s.table i) slot))
+  set_name dir p e at = by (cases_eq dir i)
+    where
+      here : ((p ≡ place_of (blocks_at s.table i) slot) × (e ≡ d)) ⊎ ((p ≢ place_of (blocks_at s.table i) slot) × (slice_get (slots_at s.table i) p ≡ Some e)) → dir ≡ i
+          → ((dir ≡ i) × (p ≡ place_of (blocks_at s.table i) slot) × (e ≡ d)) ⊎ (HasName g s dir p e × (dir ≡ i → p ≢ place_of (blocks_at s.table i) slot))
+      here (inl new) same = inl (same, new.0, new.1)
+      here (inr old) same = inr (record { in_range = at.in_range; there = subst (λ n. slice_get (slots_at s.table n) p ≡ Some e) (sym same) old.1; named = at.named }, λ is. old.0)
+
+      by : (dir ≡ i) ⊎ (dir ≢ i) → ((dir ≡ i) × (p ≡ place_of (blocks_at s.table i) slot) × (e ≡ d)) ⊎ (HasName g s dir p e × (dir ≡ i → p ≢ place_of (blocks_at s.table i) slot))
+      by (inl same) =
+          let now : dir_at (after (Put i slot d) s).table dir ≡ with_entry (dir_at s.table i) slot d = ap (dir_at (after (Put i slot d) s).table) same ∙ get_or-set_same s.table.dirs i (with_entry (dir_at s.table i) slot d) no_dir has_dir in
+          here (get_set (slots_at s.table i) (place_of (blocks_at s.table i) slot) p d e (ap (λ (x : Directory). slice_get x.slots p) (sym now) ∙ at.there)) same
+      by (inr other) = inr (record { in_range = at.in_range; there = ap (λ (x : Directory). slice_get x.slots p) (sym (get_or-set_other s.table.dirs i dir (with_entry (dir_at s.table i) slot d) no_dir other)) ∙ at.there; named = at.named }, λ is. absurd (other is))
+
 module _ (g : Geometry) (s : DirState) (sound : HasSoundNames g s) where
   -- names that were there, with kinds that their inodes still have
   kept : (t : DirState) → ((dir p : ℕ) (e : DentryForm) → HasName g t dir p e → HasName g s dir p e × (t.kinds e.inode ≡ s.kinds e.inode)) → HasSoundNames g t
@@ -118,17 +134,11 @@ module _ (g : Geometry) (s : DirState) (sound : HasSoundNames g s) where
     place = place_of (blocks_at s.table i) slot
 
     which : (dir p : ℕ) (e : DentryForm) → HasName g (after (Put i slot d) s) dir p e → ((dir ≡ i) × (p ≡ place) × (e ≡ d)) ⊎ HasName g s dir p e
-    which dir p e at = by (cases_eq dir i)
+    which dir p e at = forget (set_name g s i slot d may dir p e at)
       where
-        here : ((p ≡ place) × (e ≡ d)) ⊎ ((p ≢ place) × (slice_get (slots_at s.table i) p ≡ Some e)) → dir ≡ i → ((dir ≡ i) × (p ≡ place) × (e ≡ d)) ⊎ HasName g s dir p e
-        here (inl new) same = inl (same, new.0, new.1)
-        here (inr old) same = inr (record { in_range = at.in_range; there = subst (λ n. slice_get (slots_at s.table n) p ≡ Some e) (sym same) old.1; named = at.named })
-
-        by : (dir ≡ i) ⊎ (dir ≢ i) → ((dir ≡ i) × (p ≡ place) × (e ≡ d)) ⊎ HasName g s dir p e
-        by (inl same) =
-            let now : dir_at (after (Put i slot d) s).table dir ≡ with_entry (dir_at s.table i) slot d = ap (dir_at (after (Put i slot d) s).table) same ∙ get_or-set_same s.table.dirs i (with_entry (dir_at s.table i) slot d) no_dir (has_dir g s i slot d may) in
-            here (get_set (slots_at s.table i) place p d e (ap (λ (x : Directory). slice_get x.slots p) (sym now) ∙ at.there)) same
-        by (inr other) = inr (record { in_range = at.in_range; there = ap (λ (x : Directory). slice_get x.slots p) (sym (get_or-set_other s.table.dirs i dir (with_entry (dir_at s.table i) slot d) no_dir other)) ∙ at.there; named = at.named })
+        forget : ((dir ≡ i) × (p ≡ place) × (e ≡ d)) ⊎ (HasName g s dir p e × (dir ≡ i → p ≢ place)) → ((dir ≡ i) × (p ≡ place) × (e ≡ d)) ⊎ HasName g s dir p e
+        forget (inl now) = inl now
+        forget (inr was) = inr was.0
 
     cleared : d ≡ free_slot → HasSoundNames g (after (Put i slot d) s)
     cleared free = kept (after (Put i slot d) s) (λ dir p e at. (old dir p e at (which dir p e at), refl))

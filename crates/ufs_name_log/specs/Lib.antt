@@ -4,3 +4,4 @@ pub mod Laws
 pub mod Files
 pub mod Names
 pub mod Rows
+pub mod Calls

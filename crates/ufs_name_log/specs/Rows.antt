@@ -1,5 +1,5 @@
 -- A change whose records and names are known: the birth of `/f` on a new image of 256 blocks.
-use Rattle.std.specs.Prelude.{ℕ, ◌≡◌, ◌==◌, List, [], ◌∷◌, if◌then◌else◌, Some}
+use Rattle.std.specs.Prelude.{◌≡◌, ◌==◌, List, [], ◌∷◌, if◌then◌else◌, Some}
 use Rattle.std.specs.FinSet as set
 use Rattle.ufs_layout.specs.DentryForm.{DentryForm}
 use Rattle.ufs_layout.specs.declared.records.LogRecord.TheVariants.{Delta, Place}

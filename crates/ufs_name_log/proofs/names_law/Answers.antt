@@ -1,6 +1,7 @@
 use Rattle.ufs_name_log.proofs.NamesKept.{stays}
 use Rattle.ufs_name_log.proofs.TableNames.{sound_names}
 use Rattle.ufs_name_log.proofs.Orders.{either}
+use Rattle.ufs_name_log.proofs.CallNames.{added, dropped, moved}
 use Rattle.ufs_name_log.proofs.names_law.Goals as goal
 
 pub returns-clause-stay : goal.returns-clause-stay
@@ -11,3 +12,12 @@ returns-clause-table c s counted is well = sound_names c.args.geometry.now s cou
 
 pub returns-clause-order : goal.returns-clause-order
 returns-clause-order c s i j a b d e may also apart = either c.args.geometry.now s i j a b d e may also apart
+
+pub returns-clause-add : goal.returns-clause-add
+returns-clause-add c s dir slot d sound may fresh no_root name none = added c.args.geometry.now s dir slot d sound may fresh no_root name none
+
+pub returns-clause-drop : goal.returns-clause-drop
+returns-clause-drop c s dir slot d sound stood may = dropped c.args.geometry.now s dir slot d sound stood may
+
+pub returns-clause-move_name : goal.returns-clause-move_name
+returns-clause-move_name c s from to old new d e sound stood inode kind name may none = moved c.args.geometry.now s from old d sound stood to new e inode kind name may none
