@@ -17,3 +17,4 @@ mod TableNames
 mod Orders
 mod Sized
 mod CallNames
+mod Numbered

@@ -5,3 +5,4 @@ pub mod Files
 pub mod Names
 pub mod Rows
 pub mod Calls
+pub mod Numbers

@@ -4,6 +4,7 @@
 ghost use Rattle.ufs_layout.specs.Areas.{IsGeometry};
 ghost use Rattle.ufs_name_log.specs.Files.{BornAreEmpty, FilesAreUnset, NamesStandOn, OthersStay};
 ghost use Rattle.ufs_name_log.specs.Calls.{AddingIsSound, DroppingIsSound, MovingIsSound};
+ghost use Rattle.ufs_name_log.specs.Numbers.{NamesNumberPaths};
 ghost use Rattle.ufs_name_log.specs.Names.{NamesStaySound, PutsCommute, TablesNameSoundly};
 ghost use Rattle.ufs_name_log.specs.Rows.{BirthIsMet, BirthIsTold};
 ghost use Rattle.ufs_name_log.specs.Laws.{ChangesJoin, NamesHaveWalks, NamesLeaveSound, NumbersRise, SoundHasState, SpelledHaveSlots, StepsAreTold, StepsMayCommit, ZerosAreTaken};
@@ -41,6 +42,7 @@ pub fn files_law(geometry: &Geometry)
     ensures born { BornAreEmpty geometry.now }
     ensures unset { FilesAreUnset geometry.now }
     ensures stands { NamesStandOn geometry.now }
+    ensures paths { NamesNumberPaths geometry.now }
 {
     let _geometry = geometry;
 }
@@ -51,9 +53,9 @@ pub fn names_law(geometry: &Geometry)
     ensures stay { NamesStaySound geometry.now }
     ensures table { TablesNameSoundly geometry.now }
     ensures order { PutsCommute geometry.now }
-    ensures add { AddingIsSound geometry.now }
-    ensures drop { DroppingIsSound geometry.now }
-    ensures move_name { MovingIsSound geometry.now }
+    ensures adding { AddingIsSound geometry.now }
+    ensures dropping { DroppingIsSound geometry.now }
+    ensures moving { MovingIsSound geometry.now }
 {
     let _geometry = geometry;
 }

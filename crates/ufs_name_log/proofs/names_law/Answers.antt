@@ -13,11 +13,11 @@ returns-clause-table c s counted is well = sound_names c.args.geometry.now s cou
 pub returns-clause-order : goal.returns-clause-order
 returns-clause-order c s i j a b d e may also apart = either c.args.geometry.now s i j a b d e may also apart
 
-pub returns-clause-add : goal.returns-clause-add
-returns-clause-add c s dir slot d sound may fresh no_root name none = added c.args.geometry.now s dir slot d sound may fresh no_root name none
+pub returns-clause-adding : goal.returns-clause-adding
+returns-clause-adding c s dir slot d sound may fresh no_root name none = added c.args.geometry.now s dir slot d sound may fresh no_root name none
 
-pub returns-clause-drop : goal.returns-clause-drop
-returns-clause-drop c s dir slot d sound stood may = dropped c.args.geometry.now s dir slot d sound stood may
+pub returns-clause-dropping : goal.returns-clause-dropping
+returns-clause-dropping c s dir slot d sound stood may = dropped c.args.geometry.now s dir slot d sound stood may
 
-pub returns-clause-move_name : goal.returns-clause-move_name
-returns-clause-move_name c s from to old new d e sound stood inode kind name may none = moved c.args.geometry.now s from old d sound stood to new e inode kind name may none
+pub returns-clause-moving : goal.returns-clause-moving
+returns-clause-moving c s from to old new d e sound stood inode kind name may none = moved c.args.geometry.now s from old d sound stood to new e inode kind name may none
