@@ -1,11 +1,9 @@
 -- The paths that the names tell are those of a catalog.
-use Rattle.std.proofs.Common.{◌≡◌, ℕ, List, Bool, true, false, Option, Some, None, ap, sym, refl, ◌∙◌, subst}
+use Rattle.std.proofs.Common.{◌≡◌, ℕ, List, Bool, true, false, Option, Some, None, ap, sym, refl, ◌∙◌}
 use Rattle.std.specs.Prelude.{◌==◌, IsSome, unwrap_or, if◌then◌else◌}
 use Rattle.std.specs.Option.{option_map}
-use Rattle.std.specs.FinMap as map
 use Rattle.ufs_layout.specs.declared.geometry.Geometry.{Geometry}
 use Rattle.ufs_model.specs.PosixTree.{Paths}
-use Rattle.ufs_model.specs.declared.data.Node.{Node}
 use Rattle.ufs_model.specs.declared.data.Node.TheVariants as node
 use Rattle.ufs_image.specs.Catalog.{Catalog, IsInode}
 use Rattle.ufs_image.specs.Walks as cat
