@@ -43,7 +43,7 @@ module _ (g : Geometry) (c : Catalog) (s : DirState) (has : HasState g c s) (ino
 
   forms : HasSoundForms g d
   forms = kept_forms c inode form g has.forms root (subst (AllByRecursion (IsInData g)) (sym bare) tt) (λ p q block a b. absurd (none_at (blocks_of form) p block no_blocks a)) (λ p j q block a b. absurd (none_at (blocks_of form) p block no_blocks a))
-      (let none = ap length no_blocks in omega (arith, sized, none))
+      (let none = ap length no_blocks in omega (arith, sized, none)) (λ is. let none = ap length no_blocks in omega (arith, sized, none))
 
   slots_here : slots_in d inode ≡ []
   slots_here = ap (λ (f : InodeForm). if f.kind == 2 then flat_map c.slots (blocks_of f) else []) (form_here c inode form) ∙ ap (λ bs. if form.kind == 2 then flat_map c.slots bs else []) no_blocks ∙ by (form.kind == 2)

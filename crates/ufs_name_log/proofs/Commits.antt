@@ -3,11 +3,12 @@ use Rattle.std.proofs.Common.{◌≡◌, ℕ, ◌<◌, ◌+◌, ◌^◌, List, t
 use Rattle.std.specs.Prelude.{IsTrue}
 use Rattle.ufs_layout.specs.Areas.{IsGeometry}
 use Rattle.ufs_layout.specs.declared.geometry.Geometry.{Geometry}
+use Rattle.ufs_layout.specs.declared.records.Committed.{Committed}
 use Rattle.ufs_image.specs.Catalog.{Catalog}
 use Rattle.ufs_image.specs.Folding.{with_committed_in}
 use Rattle.ufs_ledger.specs.Ledger.{Stand, CoversDirs}
 use Rattle.ufs_ledger.specs.Changes.{MayCommit}
-use Rattle.ufs_name_log.specs.Steps.{DirState, Step, after_all, records_of}
+use Rattle.ufs_name_log.specs.Steps.{DirState, Step, after_all}
 use Rattle.ufs_name_log.specs.Held.{HasState, MaySteps, HasSoundNames}
 use Rattle.ufs_name_log.specs.Laws.{change, AreOlder}
 use Rattle.ufs_name_log.proofs.Told.{told_all}
@@ -19,9 +20,9 @@ module _ (g : Geometry) where
   pub leads : (c : Catalog) (s : DirState) (xs : List Step) (number : ℕ) → HasState g c s → AreOlder g c number → MaySteps g s xs → HasState g (with_committed_in g (change number s xs) c) (after_all xs s)
   leads c s xs number has older may = told_all g number c older c s xs has may
 
-  pub rises : (c : Catalog) (s : DirState) (xs : List Step) (number : ℕ) → AreOlder g c number → AreOlder g (with_committed_in g (change number s xs) c) (number + 1)
-  rises c s xs number older inode inside =
-      let most = most_all g number c (records_of s xs) c (λ i there. let below = older i there in omega (arith, below)) inode inside in
+  pub rises : (c : Catalog) (t : Committed) → AreOlder g c t.number → AreOlder g (with_committed_in g t c) (t.number + 1)
+  rises c t older inode inside =
+      let most = most_all g t.number c t.records c (λ i there. let below = older i there in omega (arith, below)) inode inside in
       omega (arith, most)
 
   pub may_commit : IsGeometry g → (s : Stand) (d : DirState) (xs : List Step) (number : ℕ) → HasState g s.catalog d → CoversDirs g s → ((block : ℕ) → d.zeroed block ≡ true → IsTrue (s.dirs block)) → AreOlder g s.catalog number → number < 2 ^ 64

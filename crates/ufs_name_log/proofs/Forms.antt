@@ -44,7 +44,8 @@ module _ (c : Catalog) (inode : ℕ) (form : InodeForm) where
       (in_data : AllByRecursion (IsInData g) form.extents)
       (once : (p q block : ℕ) → slice_get (blocks_of form) p ≡ Some block → slice_get (blocks_of form) q ≡ Some block → p ≡ q)
       (apart : (p j q block : ℕ) → slice_get (blocks_of form) p ≡ Some block → HasBlock g c j q block → j ≡ inode)
-      (filled : form.size ≡ 4096 * length (blocks_of form)) where
+      (room : form.size ≤ 4096 * length (blocks_of form))
+      (whole : form.kind ≡ 2 → form.size ≡ 4096 * length (blocks_of form)) where
     now_once : (i j p q block : ℕ) → ((i ≡ inode) × (slice_get (blocks_of form) p ≡ Some block)) ⊎ ((i ≢ inode) × HasBlock g c i p block)
         → ((j ≡ inode) × (slice_get (blocks_of form) q ≡ Some block)) ⊎ ((j ≢ inode) × HasBlock g c j q block) → (i ≡ j) × (p ≡ q)
     now_once i j p q block (inl a) (inl b) = (a.0 ∙ sym b.0, once p q block a.1 b.1)
@@ -64,6 +65,6 @@ module _ (c : Catalog) (inode : ℕ) (form : InodeForm) where
       root = is_root;
       in_data = λ k inside. each_form (λ n f. AllByRecursion (IsInData g) f.extents) in_data k (sound.in_data k inside);
       blocks_once = λ i j p q block a b. now_once i j p q block (block_now g i p block a) (block_now g j q block b);
-      room = λ k inside. each_form (λ n f. f.size ≤ 4096 * length (blocks_of f)) (omega (arith, filled)) k (sound.room k inside);
-      whole = λ k inside. each_form (λ n f. f.kind ≡ 2 → f.size ≡ 4096 * length (blocks_of f)) (λ dir. filled) k (sound.whole k inside);
+      room = λ k inside. each_form (λ n f. f.size ≤ 4096 * length (blocks_of f)) room k (sound.room k inside);
+      whole = λ k inside. each_form (λ n f. f.kind ≡ 2 → f.size ≡ 4096 * length (blocks_of f)) whole k (sound.whole k inside);
     }

@@ -103,7 +103,10 @@ module _ (g : Geometry) (c : Catalog) (s : DirState) (has : HasState g c s) (ino
       by (inr (inr none)) = absurd none
 
   forms : HasSoundForms g d
-  forms = kept_forms c inode grown_form g has.forms (λ e. refl) (extents_in_data g more lie) once apart (ap (λ xs. 4096 * length xs) (sym now_blocks))
+  forms = kept_forms c inode grown_form g has.forms (λ e. refl) (extents_in_data g more lie) once apart (omega (arith, filled)) (λ is. filled)
+    where
+      filled : grown_form.size ≡ 4096 * length (blocks_of grown_form)
+      filled = ap (λ (xs : List ℕ). 4096 * length xs) (sym now_blocks)
 
   -- ---- the table
 

@@ -18,3 +18,4 @@ mod Orders
 mod Sized
 mod CallNames
 mod Numbered
+mod FileForms

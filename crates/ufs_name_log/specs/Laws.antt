@@ -1,11 +1,15 @@
 -- What the records of a change of names do.
-use Rattle.std.specs.Prelude.{ℕ, ◌≡◌, ◌<◌, ◌+◌, ◌^◌, ◌++◌, List, Bool, true, IsTrue}
+use Rattle.std.specs.Prelude.{ℕ, ◌≡◌, ◌<◌, ◌+◌, ◌^◌, ◌++◌, List, Bool, true, false, IsTrue, Some}
+use Rattle.std.specs.List.{slice_get}
 use Rattle.std.specs.Option.{option_map}
+use Rattle.ufs_layout.specs.InodeForm.{InodeForm}
 use Rattle.ufs_base.specs.Images.{Image}
 use Rattle.ufs_layout.specs.declared.geometry.Geometry.{Geometry}
 use Rattle.ufs_layout.specs.declared.records.Committed.{Committed}
 use Rattle.ufs_image.specs.Catalog.{Catalog, IsInode, HasBlock, HasDirBlocks, HasSlots}
-use Rattle.ufs_image.specs.Folding.{Spells, with_committed_in}
+use Rattle.ufs_image.specs.Folding.{Spells, with_form, with_committed_in}
+use Rattle.ufs_image.specs.Changes.{MayBecome}
+use Rattle.ufs_image.specs.Nodes.{blocks_of}
 use Rattle.ufs_image.specs.Sound.{IsSoundCatalog}
 use Rattle.ufs_image.specs.Walks.{inode_of}
 use Rattle.ufs_dir_tree.specs.DirTable.{DirTable, found_at}
@@ -59,9 +63,9 @@ abbrev pub StepsMayCommit : Geometry → Type 0
 StepsMayCommit g = (s : Stand) (d : DirState) (xs : List Step) (number : ℕ) → HasState g s.catalog d → CoversDirs g s → ((block : ℕ) → d.zeroed block ≡ true → IsTrue (s.dirs block)) → AreOlder g s.catalog number → number < 2 ^ 64
     → MaySteps g d xs → HasSoundNames g (after_all xs d) → MayCommit g (change number d xs) s
 
--- Then no inode has a later number than this transaction's, so a later one may be committed next.
+-- Behind a transaction no inode has a later number than its own, so a later one may be committed next.
 abbrev pub NumbersRise : Geometry → Type 0
-NumbersRise g = (c : Catalog) (s : DirState) (xs : List Step) (number : ℕ) → AreOlder g c number → AreOlder g (with_committed_in g (change number s xs) c) (number + 1)
+NumbersRise g = (c : Catalog) (t : Committed) → AreOlder g c t.number → AreOlder g (with_committed_in g t c) (t.number + 1)
 
 -- ---- several changes
 
@@ -73,3 +77,10 @@ pub record IsJoined (g : Geometry) (s : DirState) (xs ys : List Step) : Type 0 w
 
 abbrev pub ChangesJoin : Geometry → Type 0
 ChangesJoin g = (s : DirState) (xs ys : List Step) → IsJoined g s xs ys
+
+-- ---- other commits
+
+-- A file's new form leaves the directories as they are, where none of its blocks is one that a directory may take.
+abbrev pub FilesKeepState : Geometry → Type 0
+FilesKeepState g = (c : Catalog) (s : DirState) (inode : ℕ) (form : InodeForm) → HasState g c s → MayBecome g c inode form → ((place block : ℕ) → slice_get (blocks_of form) place ≡ Some block → s.zeroed block ≡ false)
+    → HasState g (with_form inode form c) s

@@ -7,16 +7,17 @@ ghost use Rattle.ufs_name_log.specs.Calls.{AddingIsSound, DroppingIsSound, Movin
 ghost use Rattle.ufs_name_log.specs.Numbers.{NamesNumberPaths};
 ghost use Rattle.ufs_name_log.specs.Names.{NamesStaySound, PutsCommute, TablesNameSoundly};
 ghost use Rattle.ufs_name_log.specs.Rows.{BirthIsMet, BirthIsTold};
-ghost use Rattle.ufs_name_log.specs.Laws.{ChangesJoin, NamesHaveWalks, NamesLeaveSound, NumbersRise, SoundHasState, SpelledHaveSlots, StepsAreTold, StepsMayCommit, ZerosAreTaken};
+ghost use Rattle.ufs_name_log.specs.Laws.{ChangesJoin, FilesKeepState, NamesHaveWalks, NamesLeaveSound, NumbersRise, SoundHasState, SpelledHaveSlots, StepsAreTold, StepsMayCommit, ZerosAreTaken};
 
 use ufs_layout::Geometry;
 
-/// What directories a stand has before a change.
+/// What directories a stand has, and what else leaves them.
 pub fn state_law(geometry: &Geometry)
     requires { IsGeometry geometry.now }
     ensures sound { SoundHasState geometry.now }
     ensures slots { SpelledHaveSlots geometry.now }
     ensures zeros { ZerosAreTaken geometry.now }
+    ensures file { FilesKeepState geometry.now }
 {
     let _geometry = geometry;
 }

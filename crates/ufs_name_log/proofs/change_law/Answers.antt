@@ -15,7 +15,7 @@ pub returns-clause-may : goal.returns-clause-may
 returns-clause-may c s d xs number has covers zeroed older below may names = may_commit c.args.geometry.now c.requires s d xs number has covers zeroed older below may names
 
 pub returns-clause-numbers : goal.returns-clause-numbers
-returns-clause-numbers c cat s xs number older = rises c.args.geometry.now cat s xs number older
+returns-clause-numbers c cat t older = rises c.args.geometry.now cat t older
 
 pub returns-clause-joined : goal.returns-clause-joined
 returns-clause-joined c s xs ys = joined c.args.geometry.now s xs ys
