@@ -2,5 +2,5 @@ mod BlocksApart
 mod Filed
 mod Named
 mod Parted
-mod PathTexts
+pub mod PathTexts
 mod Started
