@@ -1,0 +1,5 @@
+pub mod Places
+pub mod Behind
+pub mod Stages
+pub mod Cells
+pub mod Standing
