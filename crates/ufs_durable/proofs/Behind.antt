@@ -1,10 +1,10 @@
 -- Ledgers behind writes.
-use Rattle.std.proofs.Common.{◌≡◌, ℕ, ◌⊎◌, inl, inr, List, [], ◌∷◌, ◌++◌, Bool, true, false, ap, sym, refl, ◌∙◌, subst, append_assoc}
+use Rattle.std.proofs.Common.{◌≡◌, ℕ, inl, inr, List, [], ◌∷◌, ◌++◌, Bool, true, false, ap, sym, refl, ◌∙◌, subst, append_assoc}
 use Rattle.std.specs.Prelude.{◌==◌, if◌then◌else◌}
 use Rattle.ufs_base.specs.Images.{Image}
 use Rattle.ufs_disk.specs.Disk.{Cell, possible}
 use Rattle.ufs_disk.specs.Moments.{LeavesOnly, Moments}
-use Rattle.ufs_disk.proofs.Runs.{all_map, joined, weaker}
+use Rattle.ufs_disk.proofs.Runs.{all_map, started, weaker}
 use Rattle.ufs_image.specs.Images.{block_at}
 use Rattle.ufs_layout.specs.declared.superblock.Super.{Super}
 use Rattle.ufs_ledger.specs.Changes.{rewritten, tried, written}
@@ -111,3 +111,7 @@ one_tried block k bytes xs here same s image l may has = record {
       (subst (λ b. IsLedgerOf s.sectors s.moments.state (tried b bytes (block_at image block) l)) here
       (has (subst (λ y. MayWrite l block y) (sym same) (subst (λ b. MayWrite l b xs) (sym here) may))));
 }
+
+-- Before the first of them nothing else is left.
+pub run_begins : (sectors : ℕ) (keeps : Bool) (ws : List BlockWrite) (l : Ledger) (now : Moments) → IsLedgerOf sectors now.state l → LeavesOnly keeps (IsLeftBy sectors (with_writes ws l)) now now
+run_begins sectors keeps ws l now is = started keeps (IsLeftBy sectors (with_writes ws l)) now (λ image left. left_by_more sectors ws l image (is.images image left))

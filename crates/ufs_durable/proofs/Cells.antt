@@ -1,5 +1,5 @@
 -- What the cells of a file's blocks have behind the writes of its dirty ones.
-use Rattle.std.proofs.Common.{◌≡◌, ℕ, zero, suc, ◌+◌, ◌-◌, ◌<◌, ◌≤◌, ◌⊎◌, inl, inr, List, [], ◌∷◌, ◌++◌, Bool, true, false, Some, None, Option, length, take, replicate, get_or, unwrap_or, ap, sym, refl, ◌∙◌, subst, arith, length-append}
+use Rattle.std.proofs.Common.{◌≡◌, ℕ, zero, suc, ◌+◌, ◌-◌, ◌<◌, ◌≤◌, ◌⊎◌, inl, inr, List, [], ◌∷◌, ◌++◌, Bool, true, false, Some, Option, length, replicate, get_or, unwrap_or, ap, sym, refl, ◌∙◌, arith, length-append}
 use Rattle.std.specs.Prelude.{◌==◌, ◌*◌, drop, flat_map, nat_eq, if◌then◌else◌}
 use Rattle.std.specs.List.{AllByRecursion, IsDistinct, range_with_len, slice_get}
 use Rattle.std.proofs.lemmas.Bool.{cases_lt}

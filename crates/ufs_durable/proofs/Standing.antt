@@ -1,11 +1,11 @@
 -- How a file goes on standing on its ledger.
-use Rattle.std.proofs.Common.{◌≡◌, ℕ, zero, suc, ◌+◌, ◌-◌, ◌<◌, ◌≤◌, ◌⊎◌, inl, inr, List, [], ◌∷◌, ◌++◌, Bool, true, false, Some, None, Option, length, take, map, replicate, get_or, unwrap_or, ap, sym, refl, ◌∙◌, subst, arith}
-use Rattle.std.specs.Prelude.{◌==◌, ◌*◌, ◌/◌, ◌%◌, drop, flat_map, nat_lt, nat_le, if◌then◌else◌, IsTrue}
-use Rattle.std.specs.List.{AllByRecursion, list_any, range_with_len, slice_get}
+use Rattle.std.proofs.Common.{◌≡◌, ℕ, zero, suc, ◌+◌, ◌-◌, ◌<◌, ◌≤◌, ◌⊎◌, inl, inr, List, [], ◌∷◌, ◌++◌, Bool, true, false, Some, Option, length, take, replicate, get_or, unwrap_or, ap, sym, refl, ◌∙◌, subst, arith}
+use Rattle.std.specs.Prelude.{◌==◌, ◌*◌, ◌/◌, ◌%◌, drop, flat_map, if◌then◌else◌, IsTrue}
+use Rattle.std.specs.List.{list_any, range_with_len, slice_get}
 use Rattle.std.proofs.lemmas.Bool.Decides.{nat_tests}
 use Rattle.std.proofs.lemmas.List.{map-append, take-map, get_or-replicate, length-drop, length-replicate, length-take-le, take-append-drop}
 use Rattle.std.proofs.Common.{length-append}
-use Rattle.ufs_bitmap.specs.Taking.{IsApart}
+use Rattle.ufs_bitmap.proofs.TakingLemmas.{has-none}
 use Rattle.ufs_disk.specs.Disk.{Cell, possible}
 use Rattle.ufs_disk.specs.Moments.{reads}
 use Rattle.ufs_disk.proofs.Runs.{all_append}
@@ -13,7 +13,7 @@ use Rattle.ufs_extent.specs.declared.Run.{Run}
 use Rattle.ufs_extent.specs.Runs.{blocks_from, blocks_of}
 use Rattle.ufs_file.specs.Content.{block_bytes}
 use Rattle.ufs_ilog.specs.Deltas.{FileState as Noted, IsDelta, extents_of}
-use Rattle.ufs_image.specs.Catalog.{Catalog, IsInode}
+use Rattle.ufs_image.specs.Catalog.{IsInode}
 use Rattle.ufs_image.specs.Fold.{after_delta}
 use Rattle.ufs_image.specs.Folding.{is_newer_in, with_committed_in, with_form}
 use Rattle.ufs_image.specs.Images.{block_at}
@@ -247,3 +247,14 @@ shows_the_file l f noted stands same cleaned place byte under has =
     let off : slice_get f.file.content.dirty (place / 4096) ≡ Some false =
     got_back f.file.content.dirty false (place / 4096) inside ∙ ap Some (ap (λ (ds : List Bool). get_or ds (place / 4096) false) cleaned ∙ get_or-replicate (length f.file.content.dirty) (place / 4096) false false inside) in
     stands.clean (place / 4096) has.block at off (place % 4096) byte (omega arith) has.has ∙ byte_in_block f.file.content.bytes place under
+
+-- ---- what the type keeps
+
+pub noted_committed : (f : DurableState) → IsNoted f → IsNoted (file_committed f)
+noted_committed f noted = record {
+  inode = noted.inode;
+  runs = noted.runs;
+  size = noted.size;
+  marks = length-replicate (length f.file.content.dirty) false ∙ noted.marks;
+  apart = record { absent = λ b is. has-none b; once = noted.apart.once };
+}

@@ -1,5 +1,5 @@
 -- Blocks that are written one after the other, and what a disk has behind them.
-use Rattle.std.specs.Prelude.{ℕ, ◌≡◌, List, [], ◌∷◌, ◌++◌, flat_map, Bool, false, if◌then◌else◌, length, unwrap_or}
+use Rattle.std.specs.Prelude.{ℕ, ◌≡◌, List, [], ◌∷◌, ◌++◌, flat_map, false, if◌then◌else◌, length, unwrap_or}
 use Rattle.std.specs.List.{AllByRecursion, range_with_len, slice_get}
 use Rattle.ufs_disk.specs.Moments.{Moments}
 use Rattle.ufs_extent.specs.Runs.{blocks_of}

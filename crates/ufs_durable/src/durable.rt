@@ -83,7 +83,7 @@ impl DurableFile {
             → (between : Moments) × LeavesOnly D.keeps (IsLeftByAny (D.store door.old).sectors (stages (at_moments between (D.store door.old)) records (with_writes (writes_of self.old.file) l))) (D.store door.old).moments (D.store door.new).moments }
         ensures ok { IsTrue D.tells → (records : List LogRecord) → IsDelta self.old.log.inode self.old.log.committed self.old.log.noted records → self.old.log.noted ≢ self.old.log.committed
             → OnOk result ((l : Ledger) → HasLedger (D.store door.old) l → MayWriteAll l (writes_of self.old.file) → MayCommitNext (D.store door.old) records l
-                → HasCommitted (D.store door.old) (D.store door.new) records (with_writes (writes_of self.old.file) l)) }
+            → HasCommitted (D.store door.old) (D.store door.new) records (with_writes (writes_of self.old.file) l)) }
         ensures device { IsTrue D.tells → (records : List LogRecord) → IsDelta self.old.log.inode self.old.log.committed self.old.log.noted records → self.old.log.noted ≢ self.old.log.committed
             → (fault : ℕ) → result ≡ Err (refusal.Device fault) → (l : Ledger) → HasLedger (D.store door.old) l → MayWriteAll l (writes_of self.old.file) → MayCommitNext (D.store door.old) records l
             → HasTriedOne (D.store door.new) (writes_of self.old.file) l ⊎ ((between : Moments) × HasAny (D.store door.new) (stages (at_moments between (D.store door.old)) records (with_writes (writes_of self.old.file) l))) }
@@ -97,7 +97,7 @@ impl DurableFile {
             → OnOk result ((l : Ledger) → HasLedger (D.store door.old) l → MayWriteAll l (writes_of self.old.file) → HasLedger (D.store door.new) (settled (with_writes (writes_of self.old.file) l))) }
         ensures empty_device { IsTrue D.tells → self.old.log.noted ≡ self.old.log.committed
             → OnErr result ((l : Ledger) → HasLedger (D.store door.old) l → MayWriteAll l (writes_of self.old.file)
-                → HasTriedOne (D.store door.new) (writes_of self.old.file) l ⊎ IsLedgerOf (D.store door.new).sectors (D.store door.new).moments.state (with_writes (writes_of self.old.file) l)) }
+            → HasTriedOne (D.store door.new) (writes_of self.old.file) l ⊎ IsLedgerOf (D.store door.new).sectors (D.store door.new).moments.state (with_writes (writes_of self.old.file) l)) }
         ensures nothing { self.old.log.noted ≡ self.old.log.committed → writes_of self.old.file ≡ [] → (D.store door.old).unsettled ≡ false
             → ((D.store door.new).moments ≡ (D.store door.old).moments) × ((D.store door.new).faults ≡ (D.store door.old).faults) }
         ensures number { IfOk result (λ number. number ≡ last_commit (D.store door.new)) }

@@ -9,5 +9,4 @@ pub fn standing_law()
     ensures committed { StandsCommitted }
     ensures settled { StandsSettled }
     ensures shown { ShowsTheFile }
-{
-}
+{}

@@ -3,7 +3,6 @@ use Rattle.std.specs.Prelude.{IsTrue}
 use Rattle.ufs_disk.specs.Moments.{LeavesOnly}
 use Rattle.ufs_ledger.specs.Ledger.{IsLeftBy, Ledger}
 use Rattle.ufs_store.specs.Ledgers.{HasLedger}
-use Rattle.ufs_store.specs.State.{StoreState}
 use Rattle.ufs_durable.specs.Writes.{MayWriteAll, with_writes, writes_before, writes_of}
 use Rattle.ufs_durable.proofs.writes.write_dirty.Given as goal
 

@@ -1,7 +1,6 @@
-use Rattle.std.proofs.Common.{◌≡◌, ◌∙◌, ℕ, Some, Option, ap, length, sym, unwrap_or}
+use Rattle.std.proofs.Common.{◌≡◌, ◌∙◌, ℕ, Option, ap, length, sym, unwrap_or}
 use Rattle.std.proofs.lemmas.Result.{on_err_weaker}
 use Rattle.ufs_disk.specs.Moments.{reads}
-use Rattle.ufs_file.specs.Content.{block_bytes}
 use Rattle.ufs_durable.specs.Writes.{write_of}
 use Rattle.ufs_durable.proofs.Behind.{one_tried}
 use Rattle.ufs_durable.proofs.Cells.{length_block}
