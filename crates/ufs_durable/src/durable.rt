@@ -19,6 +19,14 @@ pub struct DurableFile {
     dropped: Runs,
 }
 
+/// What a file with its commits is made of.
+#[derive(Drop)]
+pub struct Parts {
+    pub hand: FileHand,
+    pub log: InodeLog,
+    pub dropped: Runs,
+}
+
 impl Model for DurableFile {
     ghost use Rattle.ufs_durable.specs.State.{DurableState, IsNoted};
 
@@ -61,6 +69,34 @@ impl DurableFile {
             log,
             dropped: Runs::new(alloc),
         })
+    }
+
+    /// A file with what is known of its commits.
+    pub fn from_parts(alloc: Global, parts: Parts) -> DurableFile
+        requires { IsNoted (record { file = parts.hand; log = parts.log; dropped = parts.dropped }) }
+        ensures { result ≡ record { file = parts.hand; log = parts.log; dropped = parts.dropped } }
+    {
+        let Parts { hand, log, dropped } = parts;
+        DurableFile {
+            alloc,
+            hand,
+            log,
+            dropped,
+        }
+    }
+
+    /// Its parts, as for a request that changes them.
+    pub fn into_parts(self) -> Parts
+        ensures file { result.hand ≡ self.file }
+        ensures log { result.log ≡ self.log }
+        ensures dropped { result.dropped ≡ self.dropped }
+        ensures noted { IsNoted self }
+    {
+        Parts {
+            hand: self.hand,
+            log: self.log,
+            dropped: self.dropped,
+        }
     }
 
     /// The file.

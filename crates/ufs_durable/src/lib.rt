@@ -5,5 +5,5 @@ mod durable;
 mod laws;
 mod writes;
 
-pub use durable::DurableFile;
+pub use durable::{DurableFile, Parts};
 pub use laws::standing_law;
