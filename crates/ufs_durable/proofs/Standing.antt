@@ -36,7 +36,7 @@ use Rattle.ufs_prefix.specs.FileChanges.{byte_at}
 use Rattle.ufs_durable.specs.State.{DurableState, IsNoted, file_committed}
 use Rattle.ufs_store.specs.Ledgers.{checkpointed}
 use Rattle.ufs_store.specs.State.{has_room, next_commit, next_head}
-use Rattle.ufs_durable.specs.Standing.{DirtyMayBeWritten, HaveOnly, IsFileBlock, ShowsTheFile, StandsCommitted, StandsFor, StandsSettled, StandsWhileWritten}
+use Rattle.ufs_durable.specs.Standing.{DirtyMayBeWritten, HaveOnly, IsFileBlock, ShowsAsCommitted, ShowsTheFile, StandsCommitted, StandsFor, StandsSettled, StandsWhileWritten}
 use Rattle.ufs_durable.specs.Writes.{BlockWrite, MayWriteAll, with_writes, write_at, write_of, writes_of}
 use Rattle.ufs_durable.proofs.Behind.{same_head, same_now}
 use Rattle.ufs_durable.proofs.Cells.{clean_cell, dirty_cell, got, got_back, length_block}
@@ -236,6 +236,15 @@ byte_in_block bytes place under =
     let at : place - p ≡ r = omega arith in
     sym (byte_taken (xs ++ zs) 4096 r whole small) ∙ byte_front xs zs r inside
     ∙ sym (ap (λ l. byte_at l place) (sym (take-append-drop p bytes)) ∙ byte_back (take p bytes) (drop p bytes) p place (length-take-le p bytes low) (omega arith) ∙ ap (byte_at xs) at)
+
+pub shows_as_committed : ShowsAsCommitted
+shows_as_committed l f number keep given noted stands whole place byte under has =
+    let all : take keep (l.now.catalog.forms f.file.inode).extents ++ extents_of given ≡ extents_of f.log.noted.runs =
+    ap (λ (es : List Extent). take keep es ++ extents_of given) stands.extents ∙ given_extents l f noted stands keep given whole in
+    let blocks : flat_map (λ (e : Extent). range_with_len e.start e.length) (take keep (l.now.catalog.forms f.file.inode).extents ++ extents_of given) ≡ blocks_of f.file.extents =
+    ap (flat_map (λ (e : Extent). range_with_len e.start e.length)) all ∙ blocks_are f.log.noted.runs ∙ ap blocks_of noted.runs in
+    let at : slice_get (blocks_of f.file.extents) (place / 4096) ≡ Some has.block = subst (λ bs. slice_get bs (place / 4096) ≡ Some has.block) blocks has.there in
+    all_settled l f noted stands (place / 4096) has.block at (place % 4096) byte (omega arith) has.has ∙ byte_in_block f.file.content.bytes place (let same = noted.size in omega (arith, under, same))
 
 pub shows_the_file : ShowsTheFile
 shows_the_file l f noted stands same cleaned place byte under has =

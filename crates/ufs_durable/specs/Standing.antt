@@ -1,12 +1,15 @@
 -- A file that stands on a ledger.
-use Rattle.std.specs.Prelude.{ℕ, ◌≡◌, ◌<◌, List, length, false, replicate, IsTrue, Some}
+use Rattle.std.specs.Prelude.{ℕ, ◌≡◌, ◌<◌, ◌++◌, List, length, take, false, replicate, IsTrue, Some}
 use Rattle.std.specs.List.{slice_get}
 use Rattle.ufs_base.specs.declared.sizes.TheConstants.{BLOCK}
 use Rattle.ufs_disk.specs.Disk.{possible}
+use Rattle.ufs_extent.specs.declared.Run.{Run}
 use Rattle.ufs_extent.specs.Runs.{blocks_of}
 use Rattle.ufs_file.specs.Content.{block_bytes}
 use Rattle.ufs_ilog.specs.Deltas.{IsDelta, extents_of}
 use Rattle.ufs_image.specs.Catalog.{IsInode}
+use Rattle.ufs_image.specs.Fold.{after_delta}
+use Rattle.ufs_image.specs.Nodes.{blocks_of as form_blocks}
 use Rattle.ufs_layout.specs.Superblock.{geometry_of}
 use Rattle.ufs_layout.specs.declared.records.LogRecord.{LogRecord}
 use Rattle.ufs_ledger.specs.Changes.{settled}
@@ -54,6 +57,14 @@ abbrev pub StandsCommitted : Type 0
 StandsCommitted = (s : StoreState) (records : List LogRecord) (l : Ledger) (f : DurableState) → IsNoted f → StandsFor l f → IsDelta f.log.inode f.log.committed f.log.noted records
     → (l.now.catalog.forms f.file.inode).number < s.journal.number → geometry_of (after_commit s records (with_writes (writes_of f.file) l)).head ≡ geometry_of l.head
     → StandsFor (after_commit s records (with_writes (writes_of f.file) l)) (file_committed f)
+
+-- Before that, behind the barrier with which the commit begins, whatever a crash leaves in the blocks that the inode is to have is
+-- what the file has: what a commit of a file asks.
+abbrev pub ShowsAsCommitted : Type 0
+ShowsAsCommitted = (l : Ledger) (f : DurableState) (number keep : ℕ) (given : List Run) → IsNoted f → StandsFor l f → take keep f.log.committed.runs ++ given ≡ f.log.noted.runs
+    → (place byte : ℕ) → place < f.log.noted.size
+    → MayHave (settled (with_writes (writes_of f.file) l)).blocks (record { size = f.log.noted.size; holds = form_blocks (after_delta (l.now.catalog.forms f.file.inode) number 1 f.log.noted.size keep (extents_of given)) }) place byte
+    → byte ≡ byte_at f.file.content.bytes place
 
 -- So it is behind a barrier, where nothing but bytes changed.
 abbrev pub StandsSettled : Type 0

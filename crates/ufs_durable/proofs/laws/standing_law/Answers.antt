@@ -1,4 +1,4 @@
-use Rattle.ufs_durable.proofs.Standing.{dirty_may, shows_the_file, stands_committed, stands_settled, stands_written}
+use Rattle.ufs_durable.proofs.Standing.{dirty_may, shows_as_committed, shows_the_file, stands_committed, stands_settled, stands_written}
 use Rattle.ufs_durable.proofs.laws.standing_law.Goals as goal
 
 pub returns-clause-may : goal.returns-clause-may
@@ -15,3 +15,6 @@ returns-clause-settled c = stands_settled
 
 pub returns-clause-shown : goal.returns-clause-shown
 returns-clause-shown c = shows_the_file
+
+pub returns-clause-asked : goal.returns-clause-asked
+returns-clause-asked c = shows_as_committed
