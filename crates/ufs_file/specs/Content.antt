@@ -1,7 +1,8 @@
 -- What a file has in memory, as callers see it.
-use Rattle.std.specs.Prelude.{ℕ, ◌+◌, ◌/◌, ◌%◌, ◌-◌, ◌==◌, List, [], ◌∷◌, ◌++◌, Bool, true, take, replicate, length, if◌then◌else◌}
+use Rattle.std.specs.Prelude.{ℕ, ◌+◌, ◌*◌, ◌/◌, ◌%◌, ◌-◌, ◌==◌, List, [], ◌∷◌, ◌++◌, Bool, true, false, take, drop, replicate, length, if◌then◌else◌}
 use Rattle.ufs_base.specs.declared.sizes.TheConstants.{BLOCK}
 use Rattle.ufs_model.specs.Excuses as excuses
+use Rattle.ufs_model.specs.FileBytes.{resized}
 use Rattle.ufs_file.specs.Lists.{over}
 
 -- A file's bytes, and by their places which of its blocks were written since they were read or made.
@@ -37,3 +38,11 @@ marks_cut dirty size = if size % BLOCK == 0 then take (size / BLOCK) dirty else 
 
 abbrev pub shortened : Content → ℕ → Content
 shortened c size = record { bytes = take size c.bytes; dirty = marks_cut c.dirty size }
+
+-- the block at a place, whole: with zeros behind the file's end
+abbrev pub block_bytes : List ℕ → ℕ → List ℕ
+block_bytes bytes place = resized (drop (BLOCK * place) bytes) BLOCK
+
+-- no block marked
+abbrev pub cleaned : Content → Content
+cleaned c = record c { dirty = replicate (length c.dirty) false }

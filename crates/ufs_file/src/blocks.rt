@@ -1,5 +1,5 @@
 // A file's blocks in memory, by their places in the file.
-ghost use Rattle.std.specs.Prelude.{◌≡◌, ◌+◌, ◌*◌, ◌/◌, ◌-◌, ◌^◌, ◌<◌, ◌≤◌, ◌++◌, [], ◌∷◌, length, take, drop, replicate, All, IfOk, OnOk, OnErr, slice_index, true};
+ghost use Rattle.std.specs.Prelude.{◌≡◌, ◌+◌, ◌*◌, ◌/◌, ◌-◌, ◌^◌, ◌<◌, ◌≤◌, ◌++◌, [], ◌∷◌, length, take, drop, replicate, All, IfOk, OnOk, OnErr, slice_index, true, false};
 ghost use Rattle.ufs_file.specs.Content.{block_count, marks_cut};
 ghost use Rattle.ufs_file.specs.Lists.{over};
 ghost use Rattle.ufs_file.specs.Table.{bytes_in, marks_of, IsWhole};
@@ -58,7 +58,7 @@ pub(crate) fn put_over(table: &mut Vec<Block>, at: usize, fresh: &[u8])
 }
 
 /// A part of the block at place k.
-fn piece(table: &[Block], k: usize, from: usize, count: usize) -> &[u8]
+pub(crate) fn piece(table: &[Block], k: usize, from: usize, count: usize) -> &[u8]
     requires whole { All IsWhole table.now }
     requires there { k < length table.now }
     requires inside { from + count ≤ BLOCK }
@@ -146,4 +146,30 @@ fn clear_at(table: &mut Vec<Block>, k: usize, from: usize)
 {
     let block = &mut table[k];
     clear_behind(block, from);
+}
+
+/// Marks the block at place k as not written.
+fn clean_at(table: &mut Vec<Block>, k: usize)
+    requires whole { All IsWhole table.old.items }
+    requires there { k < length table.old.items }
+    ensures whole { All IsWhole table.new.items }
+    ensures length { length table.new.items ≡ length table.old.items }
+    ensures bytes { bytes_in table.new.items ≡ bytes_in table.old.items }
+    ensures marks { marks_of table.new.items ≡ over (marks_of table.old.items) k (false ∷ []) }
+{
+    let block = &mut table[k];
+    block.dirty = false;
+}
+
+/// Marks every block as not written.
+pub(crate) fn clean_all(table: &mut Vec<Block>)
+    requires whole { All IsWhole table.old.items }
+    ensures whole { All IsWhole table.new.items }
+    ensures length { length table.new.items ≡ length table.old.items }
+    ensures bytes { bytes_in table.new.items ≡ bytes_in table.old.items }
+    ensures marks { marks_of table.new.items ≡ replicate (length table.old.items) false }
+{
+    for k in 0..table.len() {
+        clean_at(table, k);
+    }
 }

@@ -2,7 +2,7 @@
 ghost use Rattle.std.specs.Prelude.{◌≡◌, ◌+◌, ◌≤◌, ◌<◌, length, IfOk, OnOk, OnErr};
 ghost use Rattle.ufs_file.specs.Content.{Content, no_content, grown, written_over, shortened};
 
-use crate::blocks::{Block, cut_over, put_over, read_over, zero_blocks};
+use crate::blocks::{Block, clean_all, cut_over, piece, put_over, read_over, zero_blocks};
 use std::alloc::Global;
 use std::marker::Model;
 use ufs_base::{BLOCK, Memory};
@@ -29,9 +29,9 @@ impl Model for Blocks {
 }
 
 impl Blocks {
-    ghost use Rattle.std.specs.Prelude.{◌≡◌, ◌+◌, ◌≤◌, ◌<◌, length, max, slice_get, IfOk, OnOk, OnErr};
+    ghost use Rattle.std.specs.Prelude.{◌≡◌, ◌+◌, ◌≤◌, ◌<◌, length, max, slice_get, IfOk, OnOk, OnErr, IfSome, IfNone};
     ghost use Rattle.ufs_model.specs.FileBytes.{part, max_size};
-    ghost use Rattle.ufs_file.specs.Content.{Content, no_content, block_count, grown, written_over, shortened};
+    ghost use Rattle.ufs_file.specs.Content.{Content, no_content, block_bytes, block_count, cleaned, grown, written_over, shortened};
 
     /// No byte. Takes no memory.
     pub fn new(alloc: Global) -> Blocks
@@ -118,5 +118,24 @@ impl Blocks {
             Some(block) => Some(block.dirty),
             None => None,
         }
+    }
+
+    /// The block at this place, whole: with zeros behind the file's end.
+    pub fn block(&self, place: usize) -> Option<&[u8]>
+        ensures bytes { IfSome result (λ b. b.now ≡ block_bytes self.now.bytes place) }
+        ensures there { IfSome result (λ b. place < length self.now.dirty) }
+        ensures past { IfNone result (length self.now.dirty ≤ place) }
+    {
+        if place >= self.table.len() {
+            return None;
+        }
+        Some(piece(self.table.as_slice(), place, 0, BLOCK))
+    }
+
+    /// What was written is on a disk: no block is marked any more. Takes no memory.
+    pub fn clean(&mut self)
+        ensures { self.new ≡ cleaned self.old }
+    {
+        clean_all(&mut self.table);
     }
 }

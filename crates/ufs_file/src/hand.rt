@@ -53,7 +53,7 @@ impl Model for FileHand {
 }
 
 impl FileHand {
-    ghost use Rattle.std.specs.Prelude.{◌≡◌, ◌+◌, ◌-◌, ◌≤◌, ◌<◌, ◌^◌, [], length, All, false, IfOk, IfErr, OnOk, OnErr, Some, None, true, if◌then◌else◌, unwrap_or, slice_get};
+    ghost use Rattle.std.specs.Prelude.{◌≡◌, ◌+◌, ◌-◌, ◌≤◌, ◌<◌, ◌^◌, [], length, All, false, IfOk, IfErr, OnOk, OnErr, IfSome, IfNone, Some, None, true, if◌then◌else◌, unwrap_or, slice_get};
     ghost use Rattle.std.specs.FinSet as set;
     ghost use Rattle.ufs_model.specs.Bounds.{IsBounded};
     ghost use Rattle.ufs_model.specs.Descriptors as descriptors;
@@ -62,7 +62,7 @@ impl FileHand {
     ghost use Rattle.ufs_model.specs.declared.data.Reply.TheVariants.{Got};
     ghost use Rattle.ufs_model.specs.declared.data.Excuse.TheVariants as excuse;
     ghost use Rattle.ufs_extent.specs.Runs.{IsRun, blocks_of, appended_all};
-    ghost use Rattle.ufs_file.specs.Content.{no_content, block_count, shortened, written_over};
+    ghost use Rattle.ufs_file.specs.Content.{no_content, block_bytes, block_count, cleaned, shortened, written_over};
     ghost use Rattle.ufs_bitmap.specs.Taking.{IsApart, Takes, set_of};
     ghost use Rattle.ufs_model.specs.FileCalls.{is_on_file, place_refusal, file_refusal, file_answer, desc_after};
     ghost use Rattle.ufs_file.specs.Hand.{FileState, IsCause, IsChanged, lengthened, content_put, content_sized, content_after, missing, IsServed, IsExcusedFor, IsEntryOf, IsOf, IsFileOf, IsPosix};
@@ -154,11 +154,49 @@ impl FileHand {
         self.extents.as_slice()
     }
 
+    /// The same as the list that keeps them.
+    pub fn extent_list(&self) -> &Extents
+        ensures { result.now ≡ self.now.extents }
+    {
+        &self.extents
+    }
+
     /// Whether the block at this place was written since it was read or made.
     pub fn is_dirty(&self, place: usize) -> Option<bool>
         ensures { result ≡ slice_get self.now.content.dirty place }
     {
         self.blocks.is_dirty(place)
+    }
+
+    /// The bytes of the block at this place, with zeros behind the file's end.
+    pub fn block(&self, place: usize) -> Option<&[u8]>
+        ensures bytes { IfSome result (λ b. b.now ≡ block_bytes self.now.content.bytes place) }
+        ensures there { IfSome result (λ b. place < length self.now.content.dirty) }
+        ensures past { IfNone result (length self.now.content.dirty ≤ place) }
+    {
+        self.blocks.block(place)
+    }
+
+    /// Which block of the disk is at this place.
+    pub fn block_number(&self, place: u32) -> Option<u32>
+        ensures { result ≡ slice_get (blocks_of self.now.extents) place }
+    {
+        self.extents.block_of(place)
+    }
+
+    /// How many blocks it has.
+    pub fn block_count(&self) -> u32
+        ensures blocks { result ≡ length (blocks_of self.now.extents) }
+        ensures marks { result ≡ length self.now.content.dirty }
+    {
+        self.extents.block_count()
+    }
+
+    /// What was written is on a disk: no block is marked any more. Takes no memory.
+    pub fn clean(&mut self)
+        ensures { self.new ≡ record self.old { content = cleaned self.old.content } }
+    {
+        self.blocks.clean();
     }
 
     /// All its blocks; the file is no more. Takes no memory.

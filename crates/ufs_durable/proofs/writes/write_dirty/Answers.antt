@@ -1,0 +1,74 @@
+use Rattle.std.proofs.Common.{◌∙◌, ◌<◌, ℕ, length, ap, arith, refl, subst, sym}
+use Rattle.std.specs.Prelude.{OnErr}
+use Rattle.std.proofs.lemmas.Result.{err_from_is_err_and}
+use Rattle.ufs_ledger.specs.Ledger.{Ledger}
+use Rattle.ufs_store.specs.Ledgers.{HasLedger}
+use Rattle.ufs_store.specs.State.{StoreState}
+use Rattle.ufs_durable.specs.Writes.{HasTriedOne, MayWriteAll, with_writes, write_at, writes_before, writes_of}
+use Rattle.ufs_durable.proofs.Behind.{run_begins}
+use Rattle.ufs_durable.proofs.Places.{before_next}
+use Rattle.ufs_durable.proofs.Turns.{both_none, may_here, next_here, none_here, run_here, tried_here}
+use Rattle.ufs_durable.proofs.writes.write_dirty.Goals as goal
+
+pub loop-place-init : goal.loop-place-init
+loop-place-init g c =
+    let s = g.D.Door.store c.args.door.now in
+    record {
+      passed = refl;
+      crash = λ told m has may. run_begins s.sectors g.D.Door.keeps (writes_of c.args.hand.now) m s.moments has.by.is;
+      has = λ told m has may. has;
+      nothing = λ none. refl;
+      still = λ fault is. refl;
+    }
+
+pub returns-in_err-write_place-clause-crash : goal.returns-in_err-write_place-clause-crash
+returns-in_err-write_place-clause-crash g c told l has may =
+    let f = c.args.hand.now in
+    let k : ℕ = c.loop-place.place in
+    let i = c.loop-place.invariant in
+    let s0 = g.D.Door.store c.args.door.now in
+    let s1 = g.D.Door.store c.loop-place.door in
+    let s2 = g.D.Door.store c.write_place.new.door in
+    let less : k < length f.content.dirty = omega (arith, c.loop-place-test.true, c.block_count-place-end.ensures.marks) in
+    run_here f k less l g.D.Door.keeps s0 s1 s2.moments (ap (λ (s : StoreState). s.sectors) i.passed) (i.crash told l has may)
+    (c.write_place.ensures.crash told (with_writes (writes_before f k) l) (i.has told l has may) (may_here f k less l may))
+
+pub returns-in_err-write_place-clause-err : goal.returns-in_err-write_place-clause-err
+returns-in_err-write_place-clause-err g c told =
+    let f = c.args.hand.now in
+    let k : ℕ = c.loop-place.place in
+    let i = c.loop-place.invariant in
+    let s0 = g.D.Door.store c.args.door.now in
+    let s2 = g.D.Door.store c.write_place.new.door in
+    let less : k < length f.content.dirty = omega (arith, c.loop-place-test.true, c.block_count-place-end.ensures.marks) in
+    let tried : (l : Ledger) → HasLedger s0 l → MayWriteAll l (writes_of f) → HasTriedOne s2 (writes_of f) l =
+    λ l has may. tried_here f k less l s2 (c.in_err-write_place.ensures.err told (with_writes (writes_before f k) l) (i.has told l has may) (may_here f k less l may)) in
+    let p = err_from_is_err_and c.from_residual.result c.from_residual.ensures.1 in
+    subst (λ r. OnErr r ((l : Ledger) → HasLedger s0 l → MayWriteAll l (writes_of f) → HasTriedOne s2 (writes_of f) l)) (sym p.1) tried
+
+pub returns-in_err-write_place-clause-nothing : goal.returns-in_err-write_place-clause-nothing
+returns-in_err-write_place-clause-nothing g c none =
+    let f = c.args.hand.now in
+    let k : ℕ = c.loop-place.place in
+    let less : k < length f.content.dirty = omega (arith, c.loop-place-test.true, c.block_count-place-end.ensures.marks) in
+    let parts = none_here f k less none in
+    c.write_place.ensures.nothing parts.1 ∙ c.loop-place.invariant.nothing parts.0
+
+pub loop-place-preserved : goal.loop-place-preserved
+loop-place-preserved g c =
+    let f = c.args.hand.now in
+    let k : ℕ = c.loop-place.place in
+    let i = c.loop-place.invariant in
+    let s0 = g.D.Door.store c.args.door.now in
+    let s1 = g.D.Door.store c.loop-place.door in
+    let s2 = g.D.Door.store c.write_place.new.door in
+    let less : k < length f.content.dirty = omega (arith, c.loop-place-test.true, c.block_count-place-end.ensures.marks) in
+    record {
+      passed = c.in_ok-write_place.ensures.passed ∙ ap (λ (s : StoreState). record s { moments = s2.moments; unsettled = s2.unsettled }) i.passed;
+      crash = λ told l has may.
+          run_here f k less l g.D.Door.keeps s0 s1 s2.moments (ap (λ (s : StoreState). s.sectors) i.passed) (i.crash told l has may)
+          (c.write_place.ensures.crash told (with_writes (writes_before f k) l) (i.has told l has may) (may_here f k less l may));
+      has = λ told l has may. next_here f k less l s2 (c.in_ok-write_place.ensures.ok told (with_writes (writes_before f k) l) (i.has told l has may) (may_here f k less l may));
+      nothing = λ none. let parts = both_none (writes_before f k) (write_at f k) (sym (before_next f k) ∙ none) in c.write_place.ensures.nothing parts.1 ∙ i.nothing parts.0;
+      still = λ fault is. c.write_place.ensures.still fault (ap (λ (s : StoreState). s.stop) i.passed ∙ is) ∙ i.still fault is;
+    }

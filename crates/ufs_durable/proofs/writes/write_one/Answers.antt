@@ -1,0 +1,25 @@
+use Rattle.std.proofs.Common.{◌≡◌, ◌∙◌, ℕ, Option, ap, length, sym, unwrap_or}
+use Rattle.std.proofs.lemmas.Result.{on_err_weaker}
+use Rattle.ufs_disk.specs.Moments.{reads}
+use Rattle.ufs_durable.specs.Writes.{write_of}
+use Rattle.ufs_durable.proofs.Behind.{one_tried}
+use Rattle.ufs_durable.proofs.Cells.{length_block}
+use Rattle.ufs_durable.proofs.writes.write_one.Goals as goal
+
+pub write_block-requires-clause-sized : goal.write_block-requires-clause-sized
+write_block-requires-clause-sized g c = ap length c.in-Some-block.ensures.bytes ∙ length_block c.args.hand.now.content.bytes c.args.place
+
+pub returns-clause-err : goal.returns-clause-err
+returns-clause-err g c told =
+    let w = write_of c.args.hand.now c.args.place in
+    let s = g.D.Door.store c.write_block.new.self in
+    let block : c.in-Some.block ≡ w.block = ap (λ (o : Option ℕ). unwrap_or o 0) (sym c.in-Some.is ∙ c.block_number.ensures) in
+    on_err_weaker c.write_block.result
+    (λ tells l has may. one_tried c.in-Some.block w.block c.in-Some-block.bytes.now w.bytes block c.in-Some-block.ensures.bytes s (reads s.moments) l may.0 (λ here. tells l has here))
+    (c.write_block.ensures.err told)
+
+pub returns-clause-stopped : goal.returns-clause-stopped
+returns-clause-stopped g c fault is = (c.write_block.ensures.stopped fault).1 is
+
+pub returns-clause-earlier : goal.returns-clause-earlier
+returns-clause-earlier g c fault is = (c.write_block.ensures.stopped fault).0 is

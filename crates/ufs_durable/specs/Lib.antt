@@ -1,0 +1,3 @@
+pub mod State
+pub mod Writes
+pub mod Standing

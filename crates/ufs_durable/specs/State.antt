@@ -1,0 +1,32 @@
+-- A file, and what of it is committed.
+use Rattle.std.specs.Prelude.{◌≡◌, List, [], length}
+use Rattle.ufs_bitmap.specs.Taking.{IsApart, set_of}
+use Rattle.ufs_extent.specs.declared.Run.{Run}
+use Rattle.ufs_extent.specs.Runs.{blocks_of}
+use Rattle.ufs_file.specs.Content.{cleaned}
+use Rattle.ufs_file.specs.Hand.{FileState}
+use Rattle.ufs_ilog.specs.Deltas.{FileLog}
+
+pub record DurableState : Type 0 where
+  pub file : FileState
+  -- what its inode has since the last commit, and what it is to have
+  pub log : FileLog
+  -- the blocks that it dropped since then
+  pub dropped : List Run
+
+-- The log notes the file as it is, and each of its blocks has a mark. None of those that it dropped is its own, and none of its
+-- own stands twice.
+pub record IsNoted (f : DurableState) : Type 0 where
+  pub inode : f.log.inode ≡ f.file.inode
+  pub runs : f.log.noted.runs ≡ f.file.extents
+  pub size : f.log.noted.size ≡ length f.file.content.bytes
+  pub marks : length f.file.content.dirty ≡ length (blocks_of f.file.extents)
+  pub apart : IsApart (set_of f.dropped) (blocks_of f.file.extents)
+
+-- with no block marked
+abbrev pub file_cleaned : FileState → FileState
+file_cleaned f = record f { content = cleaned f.content }
+
+-- once it is committed
+abbrev pub file_committed : DurableState → DurableState
+file_committed f = record { file = file_cleaned f.file; log = record (f.log) { committed = f.log.noted }; dropped = [] }
