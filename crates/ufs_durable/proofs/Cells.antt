@@ -96,9 +96,6 @@ module _ (f : FileState) (once : IsDistinct nat_eq (blocks_of f.extents)) (marks
     inside : p < length (blocks_of f.extents)
     inside = (got (blocks_of f.extents) p k at).0
 
-    count : ℕ
-    count = length f.content.dirty
-
     before : AllByRecursion (IsElsewhere k) (writes_before f p)
     before = off_places p k 0 p at (let low = inside in omega (arith, low)) (inr (omega arith))
 

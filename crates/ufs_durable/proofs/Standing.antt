@@ -89,9 +89,6 @@ seen_has cell bytes e at byte under (inl is) = is ∙ ap (λ b. byte_at b at) e
 seen_has cell bytes e at byte under (inr none) = absurd none
 
 module _ (l : Ledger) (f : DurableState) (noted : IsNoted f) (stands : StandsFor l f) where
-  abbrev behind : Ledger
-  behind = with_writes (writes_of f.file) l
-
   marked : (place block : ℕ) → slice_get (blocks_of f.file.extents) place ≡ Some block → (slice_get f.file.content.dirty place ≡ Some true) ⊎ (slice_get f.file.content.dirty place ≡ Some false)
   marked place block at = by (get_or f.file.content.dirty place false) (got_back f.file.content.dirty false place (let under = (got (blocks_of f.file.extents) place block at).0 in let same = noted.marks in omega (arith, under, same)))
     where

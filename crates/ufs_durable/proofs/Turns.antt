@@ -15,9 +15,6 @@ both_none [] ys e = (refl, e)
 both_none (x ∷ xs) ys e = let no = e in absurd cc
 
 module _ (f : FileState) (k : ℕ) (less : k < length f.content.dirty) where
-  abbrev behind : List BlockWrite
-  behind = writes_behind f k (length f.content.dirty)
-
   split : writes_of f ≡ writes_before f k ++ (write_at f k ++ writes_behind f k (length f.content.dirty))
   split = writes_split f k (length f.content.dirty) less
 
