@@ -12,13 +12,12 @@ use Rattle.ufs_catalog.specs.declared.fault.RecoverFault.{RecoverFault}
 use Rattle.ufs_catalog.specs.declared.fault.RecoverFault.TheVariants as recover
 use Rattle.ufs_quiet.specs.declared.ending.Ending.{Ending}
 use Rattle.ufs_quiet.specs.declared.ending.Ending.TheVariants.{Done, Usage, BadGeometry, NotBuilt, BadScript, TooSmall, NoTree, DeviceFault, OutOfMemory, SourceFault, Damaged}
-use Rattle.ufs_quiet.specs.declared.words.Command.{Command}
-use Rattle.ufs_quiet.specs.declared.words.Command.TheVariants as command
 use Rattle.ufs_quiet.specs.Texts.{device_line}
 use Rattle.ufs_quiet.specs.TreeLines.{refusal_line}
 use Rattle.ufs_quiet.specs.DamageLines.{clean_line, damage_lines}
-use Rattle.ufs_quiet.specs.Seen.{Reading, Writing, Formatting}
-use Rattle.ufs_quiet.specs.Endings.{Ends, EndsListing, EndsCheck, HasDamage, IsAnswer, status_of, sink_status, ending_of, line_of}
+use Rattle.ufs_quiet.specs.Seen.{Writing, Formatting}
+use Rattle.ufs_quiet.specs.Told.{TellsCheck}
+use Rattle.ufs_quiet.specs.Endings.{EndsListing, EndsCheck, HasDamage, IsAnswer, status_of, sink_status, ending_of, line_of}
 
 -- the list is told
 pub list_told : (d : Formatting) (list : List Damage) → HasDamage d list → d.now ≡ d.before → (ending : Ending) (text : List ℕ) → EndsListing list ending text → EndsCheck d ending text
@@ -115,39 +114,36 @@ module _ (d : Formatting) (status : ℕ) (text : List ℕ) (tells : IsTrue d.tel
   unlisted_by refusal none (device is e) = absurd (calm e)
   unlisted_by refusal none (memory is) = inr is
 
--- ---- of the whole answer, where the words are `check`
+-- ---- of the whole answer
 
-module _ (words : Option Command) (is : words ≡ Some command.Check) (r : Reading) (d : Formatting) (w : Writing) (status : ℕ) (a : IsAnswer (Ends words r d) w status) (tells : IsTrue d.tells) where
+module _ (d : Formatting) (w : Writing) (status : ℕ) (a : IsAnswer (EndsCheck d) w status) (tells : IsTrue d.tells) where
   told : (status ≡ sink_status → ⊥) → (text : List ℕ) × ByStatus d status text × Appends w.held w.holds text
-  told other =
-      let x = a.whole other in
-      let e : EndsCheck d x.0 x.1 = subst (λ (c : Option Command). Ends c r d x.0 x.1) is x.3 in
-      (x.1, by_status d status x.0 x.1 x.2 e, x.4)
+  told other = let x = a.whole other in (x.1, by_status d status x.0 x.1 x.2 x.3, x.4)
 
-  pub check_clean : status ≡ 0 → (damage_list d.sectors d.image ≡ Ok []) × Appends w.held w.holds clean_line
+  check_clean : status ≡ 0 → (damage_list d.sectors d.image ≡ Ok []) × Appends w.held w.holds clean_line
   check_clean zero =
       let x = told (λ e. cc) in
       let s = clean_by d status x.0 zero x.1 in
       (s.0 tells, subst (Appends w.held w.holds) s.1 x.2)
 
-  pub check_damaged : status ≡ 8 → (list : List Damage) × (list ≢ []) × (damage_list d.sectors d.image ≡ Ok list) × Appends w.held w.holds (damage_lines list)
+  check_damaged : status ≡ 8 → (list : List Damage) × (list ≢ []) × (damage_list d.sectors d.image ≡ Ok list) × Appends w.held w.holds (damage_lines list)
   check_damaged eight =
       let x = told (λ e. cc) in
       let s = damaged_by d status x.0 eight x.1 in
       (s.0, s.1, s.2 tells, subst (Appends w.held w.holds) s.3 x.2)
 
-  pub check_refusal : status ≡ 3 → (refusal : Refusal) × (damage_list d.sectors d.image ≡ Err refusal) × Appends w.held w.holds (refusal_line refusal)
+  check_refusal : status ≡ 3 → (refusal : Refusal) × (damage_list d.sectors d.image ≡ Err refusal) × Appends w.held w.holds (refusal_line refusal)
   check_refusal three =
       let x = told (λ e. cc) in
       let s = refused_by d status x.0 three x.1 in
       (s.0, s.1 tells, subst (Appends w.held w.holds) s.2 x.2)
 
-  module _ (calm : d.now ≡ raised d.before → ⊥) (quiet : w.now ≡ raised w.before → ⊥) where
-    pub clean_whole : damage_list d.sectors d.image ≡ Ok [] → (status ≡ 0) ⊎ (status ≡ 5)
-    clean_whole none = let x = told (λ s. quiet (a.rose s)) in whole_by d status x.0 tells calm none x.1
-
-    pub damaged_whole : (list : List Damage) → (list ≡ [] → ⊥) → damage_list d.sectors d.image ≡ Ok list → (status ≡ 8) ⊎ (status ≡ 5)
-    damaged_whole list some has = let x = told (λ s. quiet (a.rose s)) in listed_by d status x.0 tells calm list some has x.1
-
-    pub refused_whole : (refusal : Refusal) → damage_list d.sectors d.image ≡ Err refusal → (status ≡ 3) ⊎ (status ≡ 5)
-    refused_whole refusal none = let x = told (λ s. quiet (a.rose s)) in unlisted_by d status x.0 tells calm refusal none x.1
+  pub check_told : TellsCheck d w status
+  check_told = record {
+    clean = check_clean;
+    damaged = check_damaged;
+    no_list = check_refusal;
+    complete_clean = λ none calm. let x = told (λ s. calm.sink (a.rose s)) in whole_by d status x.0 tells calm.disk none x.1;
+    complete_damaged = λ list some has calm. let x = told (λ s. calm.sink (a.rose s)) in listed_by d status x.0 tells calm.disk list some has x.1;
+    refused = λ refusal none calm. let x = told (λ s. calm.sink (a.rose s)) in unlisted_by d status x.0 tells calm.disk refusal none x.1;
+  }

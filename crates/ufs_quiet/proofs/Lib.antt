@@ -3,6 +3,7 @@ pub mod WriteLemmas
 pub mod ListLines
 pub mod PrintLemmas
 pub mod AnswerLemmas
+pub mod StatusLemmas
 pub mod PlayLemmas
 pub mod OptionLemmas
 pub mod MkfsLemmas
@@ -11,3 +12,6 @@ pub mod TextLemmas
 pub mod TreeLemmas
 pub mod DamageLemmas
 pub mod CheckLemmas
+pub mod RecoveryLemmas
+pub mod ToldLemmas
+pub mod LeftLemmas

@@ -1,32 +1,20 @@
--- How formatting ends, and which command it is.
-use Rattle.std.proofs.Common.{◌≡◌, ◌⊎◌, inl, inr, ◌≤◌, ℕ, List, Option, Some, None, ap, sym, subst, refl, ◌∙◌, arith}
+-- How formatting ends.
+use Rattle.std.proofs.Common.{◌≡◌, ◌⊎◌, inl, inr, ◌≤◌, ℕ, List, Some, None, ap, sym, subst, refl, ◌∙◌, arith}
+use Rattle.std.specs.Io.KnownBytes.{Appends}
 use Rattle.ufs_base.specs.Faults.{raised}
 use Rattle.ufs_layout.specs.Areas.{geometry_refusal, sector_count}
 use Rattle.ufs_layout.specs.declared.geometry.Geometry.{Geometry}
 use Rattle.ufs_base.specs.Faults.{RoseTo}
 use Rattle.ufs_quiet.specs.declared.ending.Ending.{Ending}
 use Rattle.ufs_quiet.specs.declared.ending.Ending.TheVariants.{Done, Usage, BadGeometry, NotBuilt, BadScript, TooSmall, NoTree, DeviceFault, OutOfMemory, SourceFault, Damaged}
-use Rattle.ufs_quiet.specs.declared.words.Command.{Command}
-use Rattle.ufs_quiet.specs.declared.words.Command.TheVariants as command
-use Rattle.ufs_quiet.specs.Commands.{mkfs_command, IsMkfs}
-use Rattle.ufs_quiet.specs.Texts.{device_line}
-use Rattle.ufs_quiet.specs.Seen.{Reading, Writing, Formatting}
-use Rattle.ufs_quiet.specs.Endings.{Ends, EndsMkfs, IsAnswer, status_of}
+use Rattle.ufs_quiet.specs.Texts.{device_line, made_line}
+use Rattle.ufs_quiet.specs.Seen.{Writing, Formatting}
+use Rattle.ufs_quiet.specs.Endings.{EndsMkfs, IsAnswer, status_of}
+use Rattle.ufs_quiet.specs.Told.{TellsMkfs}
 
 -- the number that is told is the disk's count
 pub device_told : (g : Geometry) (d : Formatting) (fault : ℕ) → geometry_refusal g ≡ None → sector_count g ≤ d.sectors → RoseTo d.before d.now fault → EndsMkfs g d DeviceFault (device_line fault)
 device_told g d fault taken large rose = (taken, large, rose.rose, ap device_line rose.number)
-
--- the three numbers of a command that has them
-abbrev asked : Option Command → Geometry
-asked (Some (command.Mkfs blocks inodes journal)) = record { blocks = blocks; inodes = inodes; journal = journal }
-asked _ = record { blocks = 0; inodes = 0; journal = 0 }
-
-pub same_geometry : (words : Option Command) (g h : Geometry) → words ≡ mkfs_command g → words ≡ mkfs_command h → g ≡ h
-same_geometry words g h p q = sym (ap asked p) ∙ ap asked q
-
-pub is_mkfs : (words : Option Command) (g : Geometry) → words ≡ mkfs_command g → IsMkfs words
-is_mkfs words g is = subst IsMkfs (sym is) tt
 
 module _ (g : Geometry) (d : Formatting) (taken : geometry_refusal g ≡ None) (large : sector_count g ≤ d.sectors) (calm : d.now ≡ raised d.before → ⊥) where
   -- formatting that may be done ends well, or for want of memory
@@ -43,9 +31,26 @@ module _ (g : Geometry) (d : Formatting) (taken : geometry_refusal g ≡ None) (
   ends_well SourceFault text e = absurd e
   ends_well Damaged text e = absurd e
 
-  pub mkfs_complete : (words : Option Command) (r : Reading) (w : Writing) (status : ℕ) → IsAnswer (Ends words r d) w status
-      → words ≡ mkfs_command g → (w.now ≡ raised w.before → ⊥) → (status ≡ 0) ⊎ (status ≡ 5)
-  mkfs_complete words r w status a is quiet =
-      let x = a.whole (λ s. quiet (a.rose s)) in
-      let e : EndsMkfs g d x.0 x.1 = subst (λ (c : Option Command). Ends c r d x.0 x.1) is x.3 in
-      elim (ends_well x.0 x.1 e) [ inl zero ↦ inl (x.2 ∙ zero) | inr five ↦ inr (x.2 ∙ five) ]
+-- the line of the numbers is told
+made_by : (g : Geometry) (d : Formatting) (ending : Ending) (text : List ℕ) → status_of ending ≡ 0 → EndsMkfs g d ending text → text ≡ made_line g
+made_by g d Done text zero e = e.3
+made_by g d Usage text zero e = absurd e
+made_by g d (BadGeometry bad) text zero e = cc
+made_by g d NotBuilt text zero e = absurd e
+made_by g d BadScript text zero e = absurd e
+made_by g d TooSmall text zero e = cc
+made_by g d NoTree text zero e = absurd e
+made_by g d DeviceFault text zero e = cc
+made_by g d OutOfMemory text zero e = cc
+made_by g d SourceFault text zero e = absurd e
+made_by g d Damaged text zero e = absurd e
+
+pub mkfs_told : (g : Geometry) (d : Formatting) (w : Writing) (status : ℕ) → IsAnswer (EndsMkfs g d) w status → TellsMkfs g d w status
+mkfs_told g d w status a = record {
+  made = λ zero.
+      let x = a.whole (λ e. cc) in
+      subst (Appends w.held w.holds) (made_by g d x.0 x.1 (sym x.2 ∙ zero) x.3) x.4;
+  complete = λ taken large calm.
+      let x = a.whole (λ s. calm.sink (a.rose s)) in
+      elim (ends_well g d taken large calm.disk x.0 x.1 x.3) [ inl zero ↦ inl (x.2 ∙ zero) | inr five ↦ inr (x.2 ∙ five) ];
+}

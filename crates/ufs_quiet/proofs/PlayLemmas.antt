@@ -10,12 +10,11 @@ use Rattle.ufs_script.specs.declared.script.Script.{Script}
 use Rattle.ufs_script.specs.declared.fault.ScriptFault.{ScriptFault}
 use Rattle.ufs_quiet.specs.declared.ending.Ending.{Ending}
 use Rattle.ufs_quiet.specs.declared.ending.Ending.TheVariants.{Done, Usage, BadGeometry, NotBuilt, BadScript, TooSmall, NoTree, DeviceFault, OutOfMemory, SourceFault, Damaged}
-use Rattle.ufs_quiet.specs.declared.words.Command.{Command}
-use Rattle.ufs_quiet.specs.declared.words.Command.TheVariants as command
 use Rattle.ufs_quiet.specs.Served.{IsServed, replies_text}
-use Rattle.ufs_quiet.specs.Seen.{Reading, Writing, Formatting}
+use Rattle.ufs_quiet.specs.Seen.{Reading, Writing}
 use Rattle.ufs_quiet.specs.Texts.{break_line}
-use Rattle.ufs_quiet.specs.Endings.{Ends, EndsPlay, IsAnswer, status_of}
+use Rattle.ufs_quiet.specs.Endings.{EndsPlay, IsAnswer, status_of}
+use Rattle.ufs_quiet.specs.Told.{TellsPlay}
 
 -- ---- the text that was read, of a source that tells its bytes
 
@@ -83,24 +82,24 @@ module _ (alike : LongerIsAlike) (text : List ℕ) (r : Reading) (left : r.left 
   broken_by f is held_old held_new SourceFault out e a = absurd (calm e.0)
   broken_by f is held_old held_new Damaged out e a = absurd e
 
--- ---- of the whole answer, where the words are `play`
+-- ---- of the whole answer
 
-module _ (words : Option Command) (is : words ≡ Some command.Play) (r : Reading) (d : Formatting) (w : Writing) (status : ℕ) (a : IsAnswer (Ends words r d) w status) where
-  as_play : (ending : Ending) (text : List ℕ) → Ends words r d ending text → EndsPlay r ending text
-  as_play ending text e = subst (λ (c : Option Command). Ends c r d ending text) is e
-
-  pub play_done : status ≡ 0 → (script : Script) × (history : List Entry) × IsServed r.left r.rest script history × Appends w.held w.holds (replies_text script history)
+module _ (r : Reading) (w : Writing) (status : ℕ) (a : IsAnswer (EndsPlay r) w status) where
+  play_done : status ≡ 0 → (script : Script) × (history : List Entry) × IsServed r.left r.rest script history × Appends w.held w.holds (replies_text script history)
   play_done zero =
       let x = a.whole (λ e. cc) in
-      done_by r w.held w.holds x.0 x.1 (sym x.2 ∙ zero) (as_play x.0 x.1 x.3) x.4
+      done_by r w.held w.holds x.0 x.1 (sym x.2 ∙ zero) x.3 x.4
 
-  pub play_complete : LongerIsAlike → (text : List ℕ) (script : Script) → r.left ≡ Some text → script_of text ≡ Ok script → (r.now ≡ raised r.before → ⊥) → (w.now ≡ raised w.before → ⊥) → (status ≡ 0) ⊎ (status ≡ 5)
+  play_complete : LongerIsAlike → (text : List ℕ) (script : Script) → r.left ≡ Some text → script_of text ≡ Ok script → (r.now ≡ raised r.before → ⊥) → (w.now ≡ raised w.before → ⊥) → (status ≡ 0) ⊎ (status ≡ 5)
   play_complete alike text script left taken calm quiet =
       let x = a.whole (λ s. quiet (a.rose s)) in
-      subst (λ (n : ℕ). (n ≡ 0) ⊎ (n ≡ 5)) (sym x.2) (served_by alike text r left calm script taken x.0 x.1 (as_play x.0 x.1 x.3))
+      subst (λ (n : ℕ). (n ≡ 0) ⊎ (n ≡ 5)) (sym x.2) (served_by alike text r left calm script taken x.0 x.1 x.3)
 
-  pub play_broken : LongerIsAlike → (text : List ℕ) (f : ScriptFault) → r.left ≡ Some text → script_of text ≡ Err f → (r.now ≡ raised r.before → ⊥) → (w.now ≡ raised w.before → ⊥)
+  play_broken : LongerIsAlike → (text : List ℕ) (f : ScriptFault) → r.left ≡ Some text → script_of text ≡ Err f → (r.now ≡ raised r.before → ⊥) → (w.now ≡ raised w.before → ⊥)
       → ((status ≡ 2) × Appends w.held w.holds (break_line f)) ⊎ (status ≡ 5)
   play_broken alike text f left broken calm quiet =
       let x = a.whole (λ s. quiet (a.rose s)) in
-      subst (λ (n : ℕ). ((n ≡ 2) × Appends w.held w.holds (break_line f)) ⊎ (n ≡ 5)) (sym x.2) (broken_by alike text r left calm f broken w.held w.holds x.0 x.1 (as_play x.0 x.1 x.3) x.4)
+      subst (λ (n : ℕ). ((n ≡ 2) × Appends w.held w.holds (break_line f)) ⊎ (n ≡ 5)) (sym x.2) (broken_by alike text r left calm f broken w.held w.holds x.0 x.1 x.3 x.4)
+
+  pub play_told : LongerIsAlike → TellsPlay r w status
+  play_told alike = record { done = play_done; complete = play_complete alike; broken = play_broken alike }

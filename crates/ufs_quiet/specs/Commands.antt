@@ -1,5 +1,5 @@
 -- The command line: a command, its positional words, then options, each at most once.
-use Rattle.std.specs.Prelude.{ℕ, List, [], ◌∷◌, Bool, true, false, ◌&&◌, ◌||◌, not, nat_le, length, if◌then◌else◌, Option, Some, None, ⊤, is_none, codes, map, string_bytes}
+use Rattle.std.specs.Prelude.{ℕ, List, [], ◌∷◌, Bool, true, false, ◌&&◌, ◌||◌, not, nat_le, length, if◌then◌else◌, Option, Some, None, is_none, codes, map, string_bytes}
 use Rattle.std.specs.Str.{bytes_eq}
 use Rattle.std.specs.declared.string.String.{String}
 use Rattle.ufs_layout.specs.declared.geometry.Geometry.{Geometry}
@@ -94,7 +94,7 @@ command_of (name ∷ words) =
     else (if bytes_eq name (codes "play") then play_with (options_of words)
     else (if bytes_eq name (codes "tree") then plain_with command.Tree (options_of words)
     else (if bytes_eq name (codes "check") then plain_with command.Check (options_of words)
-    else (if bytes_eq name (codes "recover") then plain_with command.NotBuilt (options_of words)
+    else (if bytes_eq name (codes "recover") then plain_with command.Recover (options_of words)
     else (if bytes_eq name (codes "bench") then bench_of words else None)))))
 
 -- the command that a program's words are
@@ -104,10 +104,6 @@ asked words = command_of (map string_bytes words)
 -- formatting with these numbers
 abbrev pub mkfs_command : Geometry → Option Command
 mkfs_command g = Some (command.Mkfs g.blocks g.inodes g.journal)
-
-abbrev pub IsMkfs : Option Command → Type 0
-IsMkfs (Some (command.Mkfs blocks inodes journal)) = ⊤
-IsMkfs _ = ⊥
 
 -- ---- the image
 

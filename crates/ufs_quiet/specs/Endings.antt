@@ -1,5 +1,5 @@
 -- How a command ends where the sink doesn't fail: why, and what it has written.
-use Rattle.std.specs.Prelude.{ℕ, ◌≡◌, ◌≢◌, ◌<◌, ◌≤◌, ◌⊎◌, List, [], ◌++◌, Option, Some, None, Ok, Err, IsTrue}
+use Rattle.std.specs.Prelude.{ℕ, ◌≡◌, ◌≢◌, ◌<◌, ◌≤◌, ◌⊎◌, List, [], ◌++◌, length, Option, Some, None, Ok, Err, IsTrue}
 use Rattle.std.specs.Io.KnownBytes.{Appends}
 use Rattle.ufs_base.specs.Faults.{raised}
 use Rattle.ufs_layout.specs.Areas.{geometry_refusal, sector_count}
@@ -7,10 +7,12 @@ use Rattle.ufs_layout.specs.declared.geometry.Geometry.{Geometry}
 use Rattle.ufs_model.specs.declared.data.Entry.{Entry}
 use Rattle.ufs_image.specs.Damage.{Damage}
 use Rattle.ufs_image.specs.Opens.{ImageTree, opens, damage_list}
+use Rattle.ufs_image.specs.Proper.{IsProperImage}
 use Rattle.ufs_image.specs.Volume.{Refusal}
 use Rattle.ufs_image.specs.Volume as image
 use Rattle.ufs_catalog.specs.declared.fault.RecoverFault.{RecoverFault}
 use Rattle.ufs_catalog.specs.declared.fault.RecoverFault.TheVariants as recover
+use Rattle.ufs_recovery.specs.Recovered.{log_of}
 use Rattle.ufs_script.specs.Reading.{ReadsBreak}
 use Rattle.ufs_script.specs.declared.script.Script.{Script}
 use Rattle.ufs_script.specs.declared.fault.ScriptFault.{ScriptFault}
@@ -20,7 +22,7 @@ use Rattle.ufs_quiet.specs.declared.ending.Ending.{Ending}
 use Rattle.ufs_quiet.specs.declared.ending.Ending.TheVariants.{Done, Usage, BadGeometry, NotBuilt, BadScript, TooSmall, NoTree, DeviceFault, OutOfMemory, SourceFault, Damaged}
 use Rattle.ufs_quiet.specs.declared.words.Command.{Command}
 use Rattle.ufs_quiet.specs.declared.words.Command.TheVariants as command
-use Rattle.ufs_quiet.specs.Texts.{IsFront, AreFirstLines, usage_line, bad_geometry_line, not_built_line, break_line, too_small_line, device_line, memory_line, source_line, made_line}
+use Rattle.ufs_quiet.specs.Texts.{IsFront, AreFirstLines, usage_line, bad_geometry_line, not_built_line, break_line, too_small_line, device_line, memory_line, source_line, made_line, recovered_line}
 use Rattle.ufs_quiet.specs.DamageLines.{clean_line, damage_lines}
 use Rattle.ufs_quiet.specs.TreeLines.{tree_lines, refusal_line}
 use Rattle.ufs_quiet.specs.Seen.{Reading, Writing, Formatting}
@@ -133,10 +135,14 @@ line_of recover.Memory = memory_line
 abbrev pub StandsFor : Formatting → ImageTree → Type 0
 StandsFor d tree = IsTrue d.tells → opens d.sectors d.image ≡ Ok tree
 
+-- It stands for none, and the text tells why.
+abbrev pub TellsNoTree : Formatting → List ℕ → Type 0
+TellsNoTree d text = (refusal : Refusal) × (IsTrue d.tells → opens d.sectors d.image ≡ Err refusal) × (text ≡ refusal_line refusal)
+
 -- What is seen of the disk allows `tree` this ending with this text.
 abbrev pub EndsTree : Formatting → Ending → List ℕ → Type 0
 EndsTree d Done text = (d.now ≡ d.before) × (tree : ImageTree) × StandsFor d tree × (text ≡ tree_lines tree)
-EndsTree d NoTree text = (d.now ≡ d.before) × (refusal : Refusal) × (IsTrue d.tells → opens d.sectors d.image ≡ Err refusal) × (text ≡ refusal_line refusal)
+EndsTree d NoTree text = (d.now ≡ d.before) × TellsNoTree d text
 EndsTree d DeviceFault text = (d.now ≡ raised d.before) × (text ≡ device_line d.now)
 EndsTree d OutOfMemory text = (d.now ≡ d.before) × ((text ≡ memory_line)
     ⊎ ((tree : ImageTree) × (front : List ℕ) × StandsFor d tree × AreFirstLines front (tree_lines tree) × (text ≡ front ++ memory_line)))
@@ -163,6 +169,26 @@ EndsCheck d DeviceFault text = (d.now ≡ raised d.before) × (text ≡ device_l
 EndsCheck d OutOfMemory text = (d.now ≡ d.before) × (text ≡ memory_line)
 EndsCheck d _ text = ⊥
 
+-- ---- what a recovery ends with
+
+-- The disk, if it tells what it holds, is an image that stands for some tree, and so many transactions are committed in
+-- its journal.
+pub record HasCommitted (d : Formatting) (count : ℕ) : Type 0 where
+  pub opened : IsTrue d.tells → (tree : ImageTree) × (opens d.sectors d.image ≡ Ok tree)
+  pub found : IsTrue d.tells → count ≡ length (log_of d.image)
+
+-- The disk, if it tells what it holds, is no proper image.
+abbrev pub IsImproper : Formatting → Type 0
+IsImproper d = IsTrue d.tells → ¬ IsProperImage d.sectors d.image
+
+-- What is seen of the disk allows `recover` this ending with this text.
+abbrev pub EndsRecovery : Formatting → Ending → List ℕ → Type 0
+EndsRecovery d Done text = (d.now ≡ d.before) × (count : ℕ) × HasCommitted d count × (text ≡ recovered_line count)
+EndsRecovery d NoTree text = (d.now ≡ d.before) × IsImproper d × TellsNoTree d text
+EndsRecovery d DeviceFault text = (d.now ≡ raised d.before) × (text ≡ device_line d.now)
+EndsRecovery d OutOfMemory text = (d.now ≡ d.before) × (text ≡ memory_line)
+EndsRecovery d _ text = ⊥
+
 -- ---- what any words end with
 
 -- What is seen of the source and of the disk allows a command this ending with this text.
@@ -172,6 +198,7 @@ Ends (Some command.NotBuilt) r d ending text = IsFixed NotBuilt ending text
 Ends (Some command.Play) r d ending text = EndsPlay r ending text
 Ends (Some command.Tree) r d ending text = EndsTree d ending text
 Ends (Some command.Check) r d ending text = EndsCheck d ending text
+Ends (Some command.Recover) r d ending text = EndsRecovery d ending text
 Ends (Some (command.Mkfs blocks inodes journal)) r d ending text = EndsMkfs (record { blocks = blocks; inodes = inodes; journal = journal }) d ending text
 
 -- A status, and what the sink got: the whole text of an ending that is allowed, or with one fault of the sink a front

@@ -5,4 +5,6 @@ pub mod Seen
 pub mod TreeLines
 pub mod DamageLines
 pub mod Endings
+pub mod Told
+pub mod Left
 pub mod Responses

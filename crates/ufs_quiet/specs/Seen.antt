@@ -37,3 +37,20 @@ writing held faults old new = record { held = held old; holds = held new; before
 -- of a disk
 abbrev pub formatting : {D : Type 0} → Bool → (D → ℕ) → (D → Moments) → (D → ℕ) → D → D → Formatting
 formatting tells size moments faults old new = record { tells = tells; sectors = size old; image = reads (moments old); before = faults old; now = faults new }
+
+-- A disk from what it was to what it is: whether it tells what it holds and keeps its moments, its sectors, its moments
+-- and its counts of faults before and now.
+pub record Course (D : Type 0) : Type 0 where
+  pub tells : Bool
+  pub keeps : Bool
+  pub sectors : ℕ
+  pub sectors_now : ℕ
+  pub old : D
+  pub new : D
+  pub from : Moments
+  pub to : Moments
+  pub before : ℕ
+  pub now : ℕ
+
+abbrev pub course : {D : Type 0} → Bool → Bool → (D → ℕ) → (D → Moments) → (D → ℕ) → D → D → Course D
+course tells keeps size moments faults old new = record { tells = tells; keeps = keeps; sectors = size old; sectors_now = size new; old = old; new = new; from = moments old; to = moments new; before = faults old; now = faults new }

@@ -56,6 +56,10 @@ source_line = line (codes "ufs: source fault")
 abbrev pub made_line : Geometry → List ℕ
 made_line g = line (codes "made " ++ decimal g.blocks ++ 32 ∷ decimal g.inodes ++ 32 ∷ decimal g.journal ++ 32 ∷ decimal (g.blocks - first_of_data g))
 
+-- how many transactions were committed
+abbrev pub recovered_line : ℕ → List ℕ
+recovered_line count = line (codes "recovered " ++ decimal count)
+
 -- the first of these bytes is the front of the second
 abbrev pub IsFront : List ℕ → List ℕ → Type 0
 IsFront front whole = (rest : List ℕ) × (front ++ rest ≡ whole)

@@ -10,6 +10,7 @@ mod image;
 mod mkfs;
 mod print;
 mod process;
+mod recover;
 mod response;
 mod top;
 mod tree;

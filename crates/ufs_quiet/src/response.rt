@@ -1,13 +1,9 @@
 // What the program answers: to its words, or to there being none.
-ghost use Rattle.std.specs.Prelude.{◌≡◌, ◌≢◌, ℕ, Some, IsTrue};
-ghost use Rattle.ufs_disk.specs.Moments.{LeavesOnly};
-ghost use Rattle.ufs_layout.specs.declared.geometry.Geometry.{Geometry};
-ghost use Rattle.ufs_recover.specs.Stopped.{IsNewDisk, IsStopped};
-ghost use Rattle.ufs_catalog.specs.Reading.{IsReadOnly};
-ghost use Rattle.ufs_quiet.specs.declared.words.Command.TheVariants as command;
-ghost use Rattle.ufs_quiet.specs.Commands.{mkfs_command, IsMkfs};
-ghost use Rattle.ufs_quiet.specs.Seen.{reading, writing, formatting};
+ghost use Rattle.std.specs.Prelude.{◌≡◌};
+ghost use Rattle.ufs_quiet.specs.Seen.{reading, writing, formatting, course};
 ghost use Rattle.ufs_quiet.specs.Endings.{IsAnswer};
+ghost use Rattle.ufs_quiet.specs.Left.{LeavesDisk, LeavesSource};
+ghost use Rattle.ufs_quiet.specs.Told.{Tells};
 ghost use Rattle.ufs_quiet.specs.Responses.{Responds, command_for, path_of};
 
 use crate::ending::Ending;
@@ -51,15 +47,11 @@ pub fn respond<S: Source, K: Sink, D: Disk>(
 ) -> Outcome<D>
     ensures answer { IsAnswer (Responds words.now (reading S.left S.faults source.old source.new) (formatting D.tells D.size D.moments D.faults disk result.disk))
         (writing K.held K.faults sink.old sink.new) result.status }
-    ensures formatted { IsTrue D.tells → result.status ≡ 0 → (g : Geometry) → command_for words.now ≡ mkfs_command g
-        → IsNewDisk g (D.size disk) (D.moments result.disk).state }
-    ensures crash { IsTrue D.tells → (g : Geometry) → command_for words.now ≡ mkfs_command g
-        → LeavesOnly D.keeps (IsStopped g (D.size disk) (D.moments disk).state) (D.moments disk) (D.moments result.disk) }
-    // What is no `mkfs` leaves the disk, and so does want of memory; `tree` and `check` only read it.
-    ensures unwritten { ¬ (IsMkfs (command_for words.now)) → command_for words.now ≢ Some command.Tree → command_for words.now ≢ Some command.Check → result.disk ≡ disk }
-    ensures starved { result.status ≡ 5 → command_for words.now ≢ Some command.Tree → command_for words.now ≢ Some command.Check → result.disk ≡ disk }
-    ensures read_only { IsTrue D.tells → command_for words.now ≡ Some command.Tree → IsReadOnly D.keeps (D.moments disk) (D.moments result.disk) }
-    ensures checked { IsTrue D.tells → command_for words.now ≡ Some command.Check → IsReadOnly D.keeps (D.moments disk) (D.moments result.disk) }
+    // Without words, and with those that name no image's file, disk and source are left as they were.
+    ensures told { Tells (command_for words.now) (reading S.left S.faults source.old source.new) (formatting D.tells D.size D.moments D.faults disk result.disk)
+        (writing K.held K.faults sink.old sink.new) result.status }
+    ensures disk { LeavesDisk (command_for words.now) result.status (course D.tells D.keeps D.size D.moments D.faults disk result.disk) }
+    ensures source { LeavesSource (command_for words.now) result.status (reading S.left S.faults source.old source.new) }
 {
     let ending = match words {
         Ok(words) => match image_of(words) {

@@ -22,6 +22,8 @@ pub enum Command {
     Tree,
     /// List what is damaged in the image.
     Check,
+    /// Make the image clean.
+    Recover,
     /// A command, or an option, that isn't built yet.
     NotBuilt,
 }
@@ -223,7 +225,7 @@ pub fn read_command(words: &[String]) -> Option<Command>
         return plain(Command::Check, rest);
     }
     if name == b"recover".as_slice() {
-        return plain(Command::NotBuilt, rest);
+        return plain(Command::Recover, rest);
     }
     if name == b"bench".as_slice() {
         return bench(rest);

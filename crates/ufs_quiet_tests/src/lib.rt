@@ -6,6 +6,8 @@ mod calls;
 #[cfg(test)]
 mod formats;
 #[cfg(test)]
+mod recoveries;
+#[cfg(test)]
 mod rows;
 #[cfg(test)]
 mod tests;

@@ -52,7 +52,7 @@ const UNREAD: [(&[&str], u8, &str); 28] = [
     (&["run", "1"], 1, USAGE),
     (&["tree"], 3, NO_SUPERBLOCK),
     (&["tree", "--trace"], 1, USAGE),
-    (&["recover", "--image", "f"], 2, NOT_BUILT),
+    (&["recover", "--image", "f"], 3, NO_SUPERBLOCK),
     (&["check"], 3, NO_SUPERBLOCK),
     (&["check", "--lease", "1"], 1, USAGE),
     (&["bench", "0000000007", "--lease", "0"], 2, NOT_BUILT),

@@ -8,26 +8,26 @@ use ufs_disk::{Disk, MemoryDisk, PlainDisk};
 
 const MADE: &str = "made 256 32 64 242\n";
 
-const NO_SUPERBLOCK: &str = "ufs: image: NoSuperblock\n";
+pub const NO_SUPERBLOCK: &str = "ufs: image: NoSuperblock\n";
 
 const TOO_SMALL: &str = "ufs: image: BadGeometry 5\n";
 
 // The line of a file of 65 bytes shows 64 of them.
-const FILES: &str =
+pub const FILES: &str =
     "dir /\nfile /e 0 -\nfile /f 65 61616161616161616161616161616161616161616161616161616161616161616161616161616161616161616161616161616161616161616161616161616161+\n";
 
 // The files' blocks aren't marked in the bitmap.
 const UNMARKED: &str = "damage BitmapDiffers 14\ndamage BitmapDiffers 15\n";
 
 // The first sectors of the inode table, and of the first two blocks of the data area.
-const INODES: u32 = 16;
+pub const INODES: u32 = 16;
 
 const ROOT_BLOCK: u32 = 112;
 
 const FILE_BLOCK: u32 = 120;
 
 // A command without words behind it, in calm.
-fn calm(words: &'static [&'static str], status: u8, text: &'static str) -> Call<'static> {
+pub fn calm(words: &'static [&'static str], status: u8, text: &'static str) -> Call<'static> {
     Call {
         words,
         script: "",
@@ -38,24 +38,24 @@ fn calm(words: &'static [&'static str], status: u8, text: &'static str) -> Call<
     }
 }
 
-fn making() -> Call<'static> {
+pub fn making() -> Call<'static> {
     calm(&["mkfs", "256", "32", "64"], 0, MADE)
 }
 
-fn tree(status: u8, text: &'static str) -> Call<'static> {
+pub fn tree(status: u8, text: &'static str) -> Call<'static> {
     calm(&["tree"], status, text)
 }
 
-fn check(status: u8, text: &'static str) -> Call<'static> {
+pub fn check(status: u8, text: &'static str) -> Call<'static> {
     calm(&["check"], status, text)
 }
 
-fn put_sector<R: Abort>(rt: &R, disk: &mut PlainDisk, at: u32, sector: &[u8; SECTOR]) {
+pub fn put_sector<R: Abort>(rt: &R, disk: &mut PlainDisk, at: u32, sector: &[u8; SECTOR]) {
     assert!(rt; at < disk.sectors() && disk.write(at, sector).is_ok());
 }
 
 // A sector with these bytes at these places, and zeros elsewhere.
-fn sector_of(bytes: &[(usize, u8)]) -> [u8; SECTOR] {
+pub fn sector_of(bytes: &[(usize, u8)]) -> [u8; SECTOR] {
     let mut sector = [0; SECTOR];
     for (place, byte) in bytes {
         if *place < SECTOR {
@@ -70,7 +70,7 @@ const ROOT: [(usize, u8); 6] = [(0, 2), (1, 1), (2, 1), (9, 16), (64, 14), (68, 
 
 const FILE: [(usize, u8); 6] = [(0, 1), (1, 1), (2, 1), (8, 65), (64, 15), (68, 1)];
 
-const EMPTY: [(usize, u8); 2] = [(0, 1), (2, 1)];
+pub const EMPTY: [(usize, u8); 2] = [(0, 1), (2, 1)];
 
 // The directory's names: `f` for the second inode and `e` for the third.
 const NAMES: [(usize, u8); 8] = [
@@ -84,7 +84,7 @@ const NAMES: [(usize, u8); 8] = [
     (70, 101),
 ];
 
-fn put_files<R: Abort>(rt: &R, disk: &mut PlainDisk) {
+pub fn put_files<R: Abort>(rt: &R, disk: &mut PlainDisk) {
     put_sector(rt, disk, INODES, &sector_of(&ROOT));
     put_sector(rt, disk, INODES + 1, &sector_of(&FILE));
     put_sector(rt, disk, INODES + 2, &sector_of(&EMPTY));

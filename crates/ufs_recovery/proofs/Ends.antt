@@ -118,6 +118,13 @@ module _ (sectors : ℕ) (image : Image) (v : FoldedVolume) (is : volume sectors
   pub log_same : committed_in v image ≡ log_of image
   log_same = ap (λ (u : Volume). committed u.geometry u.head.epoch image) (taken sectors image (volume_in v image) is).same
 
+  -- without blame it opens
+  pub opens_there : bad_tree v.head.geometry (folded_image v image) ≡ None → (tree : ImageTree) × (opens sectors image ≡ Ok tree)
+  opens_there whole = (from_entries (walked (volume_in v image)), ap (λ r. tree_of (entries_of r)) is ∙ ap (λ b. tree_of (by_damage (volume_in v image) b)) whole)
+
+  pub opens_not : bad_tree v.head.geometry (folded_image v image) ≡ None → (refusal : Refusal) → opens sectors image ≡ Err refusal → ⊥
+  opens_not whole refusal none = let at = opens_there whole in clash at.0 refusal (sym at.1 ∙ none)
+
   pub may_write_back : (findings : CatalogRead) → HasAdded v.overlay (committed_in v image) → AreFindingsOf v.head.geometry (folded_image v image) findings → bad_tree v.head.geometry (folded_image v image) ≡ None
       → IsProperImage sectors image → MayWriteBack sectors image v findings
   may_write_back findings added found whole proper = record {

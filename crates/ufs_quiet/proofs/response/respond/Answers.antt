@@ -1,6 +1,9 @@
-use Rattle.std.proofs.Common.{◌≡◌, Some, sym, subst, ◌∙◌, map, string_bytes}
-use Rattle.ufs_quiet.specs.Commands.{image_word, IsMkfs}
-use Rattle.ufs_quiet.specs.Seen.{reading, writing, formatting}
+use Rattle.std.proofs.Common.{◌≡◌, Option, Some, sym, subst, map, string_bytes}
+use Rattle.ufs_quiet.specs.declared.words.Command.{Command}
+use Rattle.ufs_quiet.specs.Commands.{image_word}
+use Rattle.ufs_quiet.specs.Seen.{reading, writing, formatting, course}
+use Rattle.ufs_quiet.specs.Told.{Tells}
+use Rattle.ufs_quiet.specs.Left.{LeavesDisk, LeavesSource}
 use Rattle.ufs_quiet.proofs.ResponseLemmas.{same_command, answered}
 use Rattle.ufs_quiet.proofs.response.respond.Goals as goal
 
@@ -11,34 +14,22 @@ returns-in-Some-clause-answer g c =
     (reading g.S.Source.left g.S.Source.faults c.args.source.now c.quiet.new.source) (formatting g.D.Disk.tells g.D.Disk.size g.D.Disk.moments g.D.Disk.faults c.args.disk c.quiet.result.disk)
     (writing g.K.Sink.held g.K.Sink.faults c.args.sink.now c.quiet.new.sink) c.quiet.result.status c.quiet.ensures.answer
 
-pub returns-in-Some-clause-crash : goal.returns-in-Some-clause-crash
-returns-in-Some-clause-crash g c tells h is =
+pub returns-in-Some-clause-told : goal.returns-in-Some-clause-told
+returns-in-Some-clause-told g c =
     let named : image_word (map string_bytes c.in-Ok.words.items) ≡ Some c.in-Some.field-0.now = sym c.in-Some.ensures in
-    c.quiet.ensures.crash tells h (sym (same_command c.args.words.now c.in-Ok.words c.in-Some.field-0.now c.in-Ok.is named) ∙ is)
+    subst (λ (x : Option Command). Tells x (reading g.S.Source.left g.S.Source.faults c.args.source.now c.quiet.new.source)
+    (formatting g.D.Disk.tells g.D.Disk.size g.D.Disk.moments g.D.Disk.faults c.args.disk c.quiet.result.disk)
+    (writing g.K.Sink.held g.K.Sink.faults c.args.sink.now c.quiet.new.sink) c.quiet.result.status)
+    (sym (same_command c.args.words.now c.in-Ok.words c.in-Some.field-0.now c.in-Ok.is named)) c.quiet.ensures.told
 
-pub returns-in-Some-clause-unwritten : goal.returns-in-Some-clause-unwritten
-returns-in-Some-clause-unwritten g c other no_tree no_check =
+pub returns-in-Some-clause-disk : goal.returns-in-Some-clause-disk
+returns-in-Some-clause-disk g c =
     let named : image_word (map string_bytes c.in-Ok.words.items) ≡ Some c.in-Some.field-0.now = sym c.in-Some.ensures in
-    let same = same_command c.args.words.now c.in-Ok.words c.in-Some.field-0.now c.in-Ok.is named in
-    c.quiet.ensures.unwritten (λ is. other (subst IsMkfs (sym same) is)) (λ is. no_tree (same ∙ is)) (λ is. no_check (same ∙ is))
+    subst (λ (x : Option Command). LeavesDisk x c.quiet.result.status (course g.D.Disk.tells g.D.Disk.keeps g.D.Disk.size g.D.Disk.moments g.D.Disk.faults c.args.disk c.quiet.result.disk))
+    (sym (same_command c.args.words.now c.in-Ok.words c.in-Some.field-0.now c.in-Ok.is named)) c.quiet.ensures.disk
 
-pub returns-in-Some-clause-starved : goal.returns-in-Some-clause-starved
-returns-in-Some-clause-starved g c five no_tree no_check =
+pub returns-in-Some-clause-source : goal.returns-in-Some-clause-source
+returns-in-Some-clause-source g c =
     let named : image_word (map string_bytes c.in-Ok.words.items) ≡ Some c.in-Some.field-0.now = sym c.in-Some.ensures in
-    let same = same_command c.args.words.now c.in-Ok.words c.in-Some.field-0.now c.in-Ok.is named in
-    c.quiet.ensures.starved five (λ is. no_tree (same ∙ is)) (λ is. no_check (same ∙ is))
-
-pub returns-in-Some-clause-read_only : goal.returns-in-Some-clause-read_only
-returns-in-Some-clause-read_only g c tells is =
-    let named : image_word (map string_bytes c.in-Ok.words.items) ≡ Some c.in-Some.field-0.now = sym c.in-Some.ensures in
-    c.quiet.ensures.read_only tells (sym (same_command c.args.words.now c.in-Ok.words c.in-Some.field-0.now c.in-Ok.is named) ∙ is)
-
-pub returns-in-Some-clause-checked : goal.returns-in-Some-clause-checked
-returns-in-Some-clause-checked g c tells is =
-    let named : image_word (map string_bytes c.in-Ok.words.items) ≡ Some c.in-Some.field-0.now = sym c.in-Some.ensures in
-    c.quiet.ensures.checked tells (sym (same_command c.args.words.now c.in-Ok.words c.in-Some.field-0.now c.in-Ok.is named) ∙ is)
-
-pub returns-in-Some-clause-formatted : goal.returns-in-Some-clause-formatted
-returns-in-Some-clause-formatted g c tells zero h is =
-    let named : image_word (map string_bytes c.in-Ok.words.items) ≡ Some c.in-Some.field-0.now = sym c.in-Some.ensures in
-    c.quiet.ensures.formatted tells zero h (sym (same_command c.args.words.now c.in-Ok.words c.in-Some.field-0.now c.in-Ok.is named) ∙ is)
+    subst (λ (x : Option Command). LeavesSource x c.quiet.result.status (reading g.S.Source.left g.S.Source.faults c.args.source.now c.quiet.new.source))
+    (sym (same_command c.args.words.now c.in-Ok.words c.in-Some.field-0.now c.in-Ok.is named)) c.quiet.ensures.source

@@ -8,7 +8,7 @@ use Rattle.ufs_layout.specs.declared.records.Committed.{Committed}
 use Rattle.ufs_layout.specs.declared.superblock.Super.{Super}
 use Rattle.ufs_recovery.specs.Finished.{MayWriteBack, IsWrittenBack}
 use Rattle.ufs_recovery.specs.Home.{KeepsTree}
-use Rattle.ufs_recovery.proofs.Ends.{head_same, is_clean, is_recovered, log_same, may_write_back, none_in_clean, only_outside}
+use Rattle.ufs_recovery.proofs.Ends.{head_same, is_clean, is_recovered, log_same, may_write_back, none_in_clean, only_outside, opens_not, opens_there}
 use Rattle.ufs_recovery.proofs.Headed.{keeps_settled, kept_on, still_settled}
 use Rattle.ufs_recovery.proofs.recovery.recover.Goals as goal
 
@@ -150,3 +150,27 @@ returns-clause-quiet g c told clean =
     let is = c.in_ok-opened.ensures.taken told in
     let isnt : false ≡ true = sym c.if-opened.false ∙ ap (λ (h : Super). h.clean) (head_same size image v is) ∙ clean in
     absurd (grind (arith, isnt))
+
+pub returns-then-opened-clause-opened : goal.returns-then-opened-clause-opened
+returns-then-opened-clause-opened g c told =
+    let size = g.D.Disk.size c.args.disk.now in
+    let image = reads (g.D.Disk.moments c.args.disk.now) in
+    opens_there size image c.in_ok-opened.opened.volume (c.in_ok-opened.ensures.taken told) (c.in_ok-opened.ensures.whole told)
+
+pub returns-in-Ok-clause-opened : goal.returns-in-Ok-clause-opened
+returns-in-Ok-clause-opened g c told =
+    let size = g.D.Disk.size c.args.disk.now in
+    let image = reads (g.D.Disk.moments c.args.disk.now) in
+    opens_there size image c.in_ok-opened.opened.volume (c.in_ok-opened.ensures.taken told) (c.in_ok-opened.ensures.whole told)
+
+pub returns-in-Ok-clause-unopened : goal.returns-in-Ok-clause-unopened
+returns-in-Ok-clause-unopened g c told refusal none =
+    let size = g.D.Disk.size c.args.disk.now in
+    let image = reads (g.D.Disk.moments c.args.disk.now) in
+    absurd (opens_not size image c.in_ok-opened.opened.volume (c.in_ok-opened.ensures.taken told) (c.in_ok-opened.ensures.whole told) refusal none)
+
+pub returns-clause-unopened : goal.returns-clause-unopened
+returns-clause-unopened g c told refusal none =
+    let size = g.D.Disk.size c.args.disk.now in
+    let image = reads (g.D.Disk.moments c.args.disk.now) in
+    absurd (opens_not size image c.in_ok-opened.opened.volume (c.in_ok-opened.ensures.taken told) (c.in_ok-opened.ensures.whole told) refusal none)

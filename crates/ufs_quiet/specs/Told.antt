@@ -1,0 +1,96 @@
+-- What a command's status says, and what the sink got then. Each status with each text stands in `Ends`; this is what
+-- it comes to for each command.
+use Rattle.std.specs.Prelude.{ℕ, ◌≡◌, ◌≢◌, ◌≤◌, ◌⊎◌, List, [], length, Option, Some, None, ⊤, Ok, Err, IsTrue}
+use Rattle.std.specs.Io.KnownBytes.{Appends}
+use Rattle.ufs_base.specs.Faults.{raised}
+use Rattle.ufs_image.specs.Damage.{Damage}
+use Rattle.ufs_image.specs.Opens.{ImageTree, opens, damage_list}
+use Rattle.ufs_image.specs.Proper.{IsProperImage}
+use Rattle.ufs_image.specs.Volume.{Refusal}
+use Rattle.ufs_layout.specs.Areas.{geometry_refusal, sector_count}
+use Rattle.ufs_layout.specs.declared.geometry.Geometry.{Geometry}
+use Rattle.ufs_model.specs.declared.data.Entry.{Entry}
+use Rattle.ufs_recovery.specs.Recovered.{log_of}
+use Rattle.ufs_script.specs.Script.{script_of}
+use Rattle.ufs_script.specs.declared.fault.ScriptFault.{ScriptFault}
+use Rattle.ufs_script.specs.declared.script.Script.{Script}
+use Rattle.ufs_quiet.specs.declared.words.Command.{Command}
+use Rattle.ufs_quiet.specs.declared.words.Command.TheVariants as command
+use Rattle.ufs_quiet.specs.Texts.{made_line, break_line, recovered_line}
+use Rattle.ufs_quiet.specs.TreeLines.{tree_lines, refusal_line}
+use Rattle.ufs_quiet.specs.DamageLines.{clean_line, damage_lines}
+use Rattle.ufs_quiet.specs.Served.{IsServed, replies_text}
+use Rattle.ufs_quiet.specs.Seen.{Reading, Writing, Formatting}
+
+-- No count of the disk and the sink rose.
+pub record AreCalm (d : Formatting) (w : Writing) : Type 0 where
+  pub disk : d.now ≢ raised d.before
+  pub sink : w.now ≢ raised w.before
+
+-- `play`
+pub record TellsPlay (r : Reading) (w : Writing) (status : ℕ) : Type 0 where
+  -- Status 0: the source was read to its end, and its bytes are a script. There is one history, in which one POSIX
+  -- tree, that begins with the root alone, gives every reply or the reply is an excuse that fits, and which holds each
+  -- request of the script once in its client's order. The sink got the lines of that history's replies, and nothing else.
+  pub done : status ≡ 0 → (script : Script) × (history : List Entry) × IsServed r.left r.rest script history × Appends w.held w.holds (replies_text script history)
+  -- Over a source that tells its bytes, a script is served, unless memory runs out or a count of faults rises.
+  pub complete : (text : List ℕ) (script : Script) → r.left ≡ Some text → script_of text ≡ Ok script → r.now ≢ raised r.before → w.now ≢ raised w.before → (status ≡ 0) ⊎ (status ≡ 5)
+  -- A text that is no script is told with the line and the cause of its first break.
+  pub broken : (text : List ℕ) (fault : ScriptFault) → r.left ≡ Some text → script_of text ≡ Err fault → r.now ≢ raised r.before → w.now ≢ raised w.before
+      → ((status ≡ 2) × Appends w.held w.holds (break_line fault)) ⊎ (status ≡ 5)
+
+-- `mkfs` of this geometry
+pub record TellsMkfs (g : Geometry) (d : Formatting) (w : Writing) (status : ℕ) : Type 0 where
+  -- Status 0: the sink got the line of the three numbers and the data blocks, and nothing else.
+  pub made : status ≡ 0 → Appends w.held w.holds (made_line g)
+  -- A geometry that is taken is formatted on a disk that is large enough, unless memory runs out or a count of faults
+  -- rises.
+  pub complete : geometry_refusal g ≡ None → sector_count g ≤ d.sectors → AreCalm d w → (status ≡ 0) ⊎ (status ≡ 5)
+
+-- `tree`, over a disk that tells what it holds
+pub record TellsTree (d : Formatting) (w : Writing) (status : ℕ) : Type 0 where
+  -- Status 0: the image stands for one tree, and the sink got the lines of that tree, and nothing else.
+  pub printed : status ≡ 0 → (tree : ImageTree) × (opens d.sectors d.image ≡ Ok tree) × Appends w.held w.holds (tree_lines tree)
+  -- Status 3: it stands for none, and the sink got the line of the cause, and nothing else.
+  pub no_tree : status ≡ 3 → (refusal : Refusal) × (opens d.sectors d.image ≡ Err refusal) × Appends w.held w.holds (refusal_line refusal)
+  -- An image that stands for a tree is printed and one that stands for none is refused, unless memory runs out or a
+  -- count of faults rises.
+  pub complete : (tree : ImageTree) → opens d.sectors d.image ≡ Ok tree → AreCalm d w → (status ≡ 0) ⊎ (status ≡ 5)
+  pub refused : (refusal : Refusal) → opens d.sectors d.image ≡ Err refusal → AreCalm d w → (status ≡ 3) ⊎ (status ≡ 5)
+
+-- `check`, over a disk that tells what it holds
+pub record TellsCheck (d : Formatting) (w : Writing) (status : ℕ) : Type 0 where
+  -- Status 0: nothing is damaged, and the sink got the line that says so, and nothing else.
+  pub clean : status ≡ 0 → (damage_list d.sectors d.image ≡ Ok []) × Appends w.held w.holds clean_line
+  -- Status 8: the sink got the lines of all that is damaged, which is something, and nothing else.
+  pub damaged : status ≡ 8 → (list : List Damage) × (list ≢ []) × (damage_list d.sectors d.image ≡ Ok list) × Appends w.held w.holds (damage_lines list)
+  -- Status 3: the image isn't looked at, and the sink got the line of the cause, and nothing else.
+  pub no_list : status ≡ 3 → (refusal : Refusal) × (damage_list d.sectors d.image ≡ Err refusal) × Appends w.held w.holds (refusal_line refusal)
+  -- Each image has the status of what it is, unless memory runs out or a count of faults rises.
+  pub complete_clean : damage_list d.sectors d.image ≡ Ok [] → AreCalm d w → (status ≡ 0) ⊎ (status ≡ 5)
+  pub complete_damaged : (list : List Damage) → list ≢ [] → damage_list d.sectors d.image ≡ Ok list → AreCalm d w → (status ≡ 8) ⊎ (status ≡ 5)
+  pub refused : (refusal : Refusal) → damage_list d.sectors d.image ≡ Err refusal → AreCalm d w → (status ≡ 3) ⊎ (status ≡ 5)
+
+-- `recover`, over a disk that tells what it holds
+pub record TellsRecovery (d : Formatting) (w : Writing) (status : ℕ) : Type 0 where
+  -- Status 0: the image stood for a tree, and the sink got the line of the number of transactions that were committed
+  -- in its journal, and nothing else.
+  pub recovered : status ≡ 0 → (tree : ImageTree) × (opens d.sectors d.image ≡ Ok tree) × Appends w.held w.holds (recovered_line (length (log_of d.image)))
+  -- Status 3: it stood for none, and the sink got the line of the cause, and nothing else.
+  pub no_tree : status ≡ 3 → (refusal : Refusal) × (opens d.sectors d.image ≡ Err refusal) × Appends w.held w.holds (refusal_line refusal)
+  -- An image that stands for a tree is recovered and one that stands for none is refused, unless memory runs out or a
+  -- count of faults rises.
+  pub complete : (tree : ImageTree) → opens d.sectors d.image ≡ Ok tree → AreCalm d w → (status ≡ 0) ⊎ (status ≡ 5)
+  pub refused : (refusal : Refusal) → opens d.sectors d.image ≡ Err refusal → AreCalm d w → (status ≡ 3) ⊎ (status ≡ 5)
+  -- A proper image is never refused.
+  pub proper : IsProperImage d.sectors d.image → status ≢ 3
+
+-- What a command tells. Of other words `Ends` says all: they have one status and one line.
+abbrev pub Tells : Option Command → Reading → Formatting → Writing → ℕ → Type 0
+Tells None r d w status = ⊤
+Tells (Some command.NotBuilt) r d w status = ⊤
+Tells (Some command.Play) r d w status = TellsPlay r w status
+Tells (Some (command.Mkfs blocks inodes journal)) r d w status = TellsMkfs (record { blocks = blocks; inodes = inodes; journal = journal }) d w status
+Tells (Some command.Tree) r d w status = IsTrue d.tells → TellsTree d w status
+Tells (Some command.Check) r d w status = IsTrue d.tells → TellsCheck d w status
+Tells (Some command.Recover) r d w status = IsTrue d.tells → TellsRecovery d w status
