@@ -9,7 +9,7 @@ ghost use Rattle.ufs_damage.specs.Findings.{AreFindingsOf};
 ghost use Rattle.ufs_catalog.specs.Faults.{HasFaultCause};
 ghost use Rattle.ufs_catalog.specs.Reading.{IsReadOnly};
 ghost use Rattle.ufs_overlay.specs.Seen.{HasAdded};
-ghost use Rattle.ufs_volume.specs.Volumes.{committed_in, folded_image, volume_in};
+ghost use Rattle.ufs_volume.specs.Volumes.{committed_in, folded_image, highest_number, volume_in};
 ghost use Rattle.ufs_opening.specs.Told.{IsBlame, TellsWhy};
 
 use crate::opened::Opened;
@@ -47,6 +47,7 @@ pub fn open<D: Disk>(alloc: Global, disk: &mut D) -> Result<Opened, RecoverFault
     ensures taken { IsTrue D.tells → IfOk result (λ o. volume (D.size disk.old) (reads (D.moments disk.old)) ≡ Ok (volume_in o.volume (reads (D.moments disk.old)))) }
     ensures added { IsTrue D.tells → IfOk result (λ o. HasAdded o.volume.overlay (committed_in o.volume (reads (D.moments disk.old)))) }
     ensures count { IsTrue D.tells → IfOk result (λ o. o.volume.committed ≡ length (committed_in o.volume (reads (D.moments disk.old)))) }
+    ensures highest { IsTrue D.tells → IfOk result (λ o. o.volume.highest ≡ highest_number (committed_in o.volume (reads (D.moments disk.old)))) }
     ensures found { IsTrue D.tells → IfOk result (λ o. AreFindingsOf o.volume.head.geometry (folded_image o.volume (reads (D.moments disk.old))) o.findings) }
     ensures whole { IsTrue D.tells → IfOk result (λ o. bad_tree o.volume.head.geometry (folded_image o.volume (reads (D.moments disk.old))) ≡ None) }
     ensures counted { IfOk result (λ o. length o.findings.forms ≡ o.volume.head.geometry.inodes) }

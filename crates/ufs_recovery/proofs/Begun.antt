@@ -11,12 +11,14 @@ use Rattle.ufs_image.specs.Damage.{is_marked}
 use Rattle.ufs_image.specs.Journal.{committed, epoch_in}
 use Rattle.ufs_image.specs.Nodes.{is_taken}
 use Rattle.ufs_image.specs.Opens.{opens}
+use Rattle.ufs_image.specs.Proper.{IsProperImage}
 use Rattle.ufs_image.specs.Volume.{Volume}
 use Rattle.ufs_overlay.specs.declared.overlay.Overlay.{Overlay}
 use Rattle.ufs_recovery.specs.Home.{IsAtHome, IsOver, IsBroughtHome, MayFollow, MayClose, HasClosed}
 use Rattle.ufs_recovery.specs.Marks.{AgreeOffBitmap, IsMarkedBelow}
 use Rattle.ufs_recovery.proofs.Alike.{form_alike, nodes_alike}
 use Rattle.ufs_recovery.proofs.Closing.{bitmap_home, closed_proper}
+use Rattle.ufs_recovery.proofs.Home.{home_proper}
 use Rattle.ufs_recovery.proofs.Homing.{journal_unfolded, volume_image}
 
 pub brought : (sectors : ℕ) (image home : Image) (v : Volume) (overlay : Overlay) (new : Super) → IsOver sectors image v overlay → MayFollow image v new → ((sector : ℕ) → home sector ≡ v.image sector) → opens sectors home ≡ opens sectors image
@@ -29,14 +31,17 @@ brought sectors image home v overlay new over may all same = record {
   all = all;
   same = same;
   geometry = may.geometry;
+  proper = λ after home others. home_proper sectors new after home may.in_use;
   earlier = λ s of.
       let stays : home s ≡ image s = all s ∙ ap (λ (d : Image). d s) (volume_image sectors image v overlay over) ∙ journal_unfolded v.geometry (committed v.geometry v.head.epoch image) image s of in
       subst (λ b. epoch_in b < new.epoch) (sym stays) (may.earlier s of);
 }
 
--- An image at home may get the same superblock, marked clean.
-pub closing : (sectors : ℕ) (head : Super) (image : Image) → IsAtHome sectors head image → IsBroughtHome sectors image (record head { clean = true })
-closing sectors head image home = record {
+-- An image at home may get the same superblock, marked clean, where it is proper then.
+pub closing : (sectors : ℕ) (head : Super) (image : Image) → IsAtHome sectors head image
+    → ((after : Image) → IsAtHome sectors (record head { clean = true }) after → ((sector : ℕ) → sector ≢ 0 → after sector ≡ image sector) → IsProperImage sectors after) → IsBroughtHome sectors image (record head { clean = true })
+closing sectors head image home proper = record {
+  proper = proper;
   image = image;
   as_volume = record { head = head; geometry = geometry_of head; image = image };
   catalog = catalog_at (geometry_of head) image;

@@ -1,5 +1,5 @@
 -- The bitmap is written, and the image is marked clean.
-use Rattle.std.proofs.Common.{◌≡◌, ℕ, ◌*◌, ◌<◌, inl, inr, List, Bool, sym, refl, ◌∙◌, subst, arith}
+use Rattle.std.proofs.Common.{◌≡◌, ℕ, ◌*◌, ◌<◌, inl, inr, List, Bool, false, sym, refl, ◌∙◌, subst, arith}
 use Rattle.ufs_base.specs.Images.{Image}
 use Rattle.ufs_disk.specs.Disk.{State, IsSettled, seen}
 use Rattle.ufs_layout.specs.Areas.{bitmap_blocks, sector_of_inode}
@@ -17,7 +17,7 @@ use Rattle.ufs_image.proofs.OneTree.{one_tree}
 use Rattle.ufs_image.proofs.Proper.{proper}
 use Rattle.ufs_recovery.specs.Home.{IsAtHome, OpensAlike}
 use Rattle.ufs_recovery.specs.Marks.{AgreeOffBitmap, HasAnyBitmap, IsMarkedBelow}
-use Rattle.ufs_recovery.proofs.Home.{stays_home, block_low}
+use Rattle.ufs_recovery.proofs.Home.{stays_home, block_low, home_proper}
 
 module _ (sectors : ℕ) (head : Super) (image : Image) (home : IsAtHome sectors head image) (mix : Image) (agree : AgreeOffBitmap (geometry_of head) image mix) where
   same_catalog : IsCatalogOf (geometry_of head) mix (catalog_at (geometry_of head) image)
@@ -37,10 +37,15 @@ module _ (sectors : ℕ) (head : Super) (image : Image) (home : IsAtHome sectors
       let low = block_low (geometry_of head) (catalog_at (geometry_of head) image) home.is.sound k of.place of.block ranged of.there in
       let at = of.of_block.same in sym (agree s (inr (omega (arith, low, at)))))
 
--- Whatever stands in the bitmap, a crash leaves the tree.
-pub any_bitmap_tree : (sectors : ℕ) (head : Super) (state : State) → IsSettled state → IsAtHome sectors head (seen state) → (image : Image) → HasAnyBitmap (geometry_of head) state image → OpensAlike sectors (seen state) image
-any_bitmap_tree sectors head state settled home image from =
-    bitmap_tree sectors head (seen state) home image (subst (λ (d : Image). AgreeOffBitmap (geometry_of head) d image) (settled from.before from.left) from.agrees)
+-- Whatever stands in the bitmap of an image in use, a crash leaves the tree.
+pub any_bitmap_tree : (sectors : ℕ) (head : Super) (state : State) → IsSettled state → IsAtHome sectors head (seen state) → head.clean ≡ false → (image : Image) → HasAnyBitmap (geometry_of head) state image
+    → OpensAlike sectors (seen state) image
+any_bitmap_tree sectors head state settled home in_use image from =
+    let agree = subst (λ (d : Image). AgreeOffBitmap (geometry_of head) d image) (settled from.before from.left) from.agrees in
+    record {
+      tree = bitmap_tree sectors head (seen state) home image agree;
+      proper = λ was. home_proper sectors head image (bitmap_home sectors head (seen state) home image agree) in_use;
+    }
 
 -- A clean image at home whose bitmap marks the used blocks, with its numbers behind, is proper.
 pub closed_proper : (sectors : ℕ) (head : Super) (image : Image) (marks : List Bool) → IsAtHome sectors head image

@@ -1,14 +1,16 @@
 -- What a recovery begins with and how it ends.
-use Rattle.std.proofs.Common.{◌≡◌, ◌≢◌, ℕ, ◌*◌, ◌≤◌, inl, inr, List, [], ◌∷◌, Bool, true, None, ap, sym, refl, ◌∙◌, subst, arith}
-use Rattle.std.specs.Prelude.{IsTrue, ◌==◌, not, nat_lt, MatchResult, Result, Ok, Err}
-use Rattle.std.specs.List.{list_all}
+use Rattle.std.proofs.Common.{◌≡◌, ◌≢◌, ℕ, ◌*◌, ◌<◌, ◌≤◌, inl, inr, List, [], ◌∷◌, Bool, true, None, ap, sym, refl, ◌∙◌, subst, arith}
+use Rattle.std.specs.Prelude.{max, IsTrue, ◌==◌, not, nat_lt, MatchResult, Result, Ok, Err}
+use Rattle.std.specs.List.{list_all, fold, AllByRecursion}
 use Rattle.std.specs.FinMap.{from_entries}
+use Rattle.std.proofs.Math.Nat.{le-max_left, le-max_right}
 use Rattle.std.proofs.lemmas.Bool.{and_parts}
 use Rattle.std.proofs.lemmas.Bool.Decides.{nat_tests}
 use Rattle.ufs_base.specs.Images.{Image}
 use Rattle.ufs_disk.specs.Disk.{State, IsSettled, seen}
 use Rattle.ufs_layout.specs.Areas.{first_of_journal, journal_sectors}
 use Rattle.ufs_layout.specs.Superblock.{geometry_of}
+use Rattle.ufs_layout.specs.declared.records.Committed.{Committed}
 use Rattle.ufs_layout.specs.declared.superblock.Super.{Super}
 use Rattle.ufs_catalog.specs.Faults.{IsOutside, IsWhyNot}
 use Rattle.ufs_catalog.specs.declared.fault.RecoverFault.{RecoverFault}
@@ -25,7 +27,7 @@ use Rattle.ufs_image.proofs.Empty.{in_range}
 use Rattle.ufs_image.proofs.Journals.{taken}
 use Rattle.ufs_image.proofs.Lists.{IsIn}
 use Rattle.ufs_overlay.specs.Seen.{HasAdded}
-use Rattle.ufs_volume.specs.Volumes.{committed_in, folded_image, volume_in}
+use Rattle.ufs_volume.specs.Volumes.{committed_in, folded_image, highest_number, volume_in}
 use Rattle.ufs_volume.specs.declared.volume.FoldedVolume.{FoldedVolume}
 use Rattle.ufs_recovery.specs.Finished.{MayWriteBack, IsWrittenBack}
 use Rattle.ufs_recovery.specs.Recovered.{IsCleanDisk, IsRecovered, log_of}
@@ -109,6 +111,17 @@ only_outside sectors disk is f why = by f why
     by (Device fault) why = why
     by Memory why = why
 
+-- ---- the highest of some commit numbers
+
+all_below : (first next : ℕ) (log : List Committed) → fold (λ highest (c : Committed). max highest c.number) first log < next → (first < next) × AllByRecursion (λ (c : Committed). c.number < next) log
+all_below first next [] less = (less, tt)
+all_below first next (c ∷ log) less =
+    let rest = all_below (max first c.number) next log less in
+    let most = rest.0 in
+    let left = le-max_left first c.number in
+    let right = le-max_right first c.number in
+    (omega (arith, left, most), (omega (arith, right, most), rest.1))
+
 -- ---- the volume that was read
 
 module _ (sectors : ℕ) (image : Image) (v : FoldedVolume) (is : volume sectors image ≡ Ok (volume_in v image)) where
@@ -135,11 +148,20 @@ module _ (sectors : ℕ) (image : Image) (v : FoldedVolume) (is : volume sectors
     none_later = none_later image (volume_in v image) (proper_of sectors image (volume_in v image) is proper);
   }
 
-  pub is_recovered : (used : ℕ) (after : Image) → IsWrittenBack sectors v.head.head used after → IsRecovered image after
-  is_recovered used after written = of (subst (λ h. IsWrittenBack sectors h used after) head_same written)
+  pub is_recovered : v.highest ≡ highest_number (committed_in v image) → (after : Image) → IsWrittenBack sectors v.head.head v.highest after → IsRecovered image after
+  is_recovered highest after written = of (subst (λ h. IsWrittenBack sectors h v.highest after) head_same written)
     where
-      of : IsWrittenBack sectors (head_of image) used after → IsRecovered image after
-      of w = record { head = w.head_is; known = w.known; inodes = w.inodes; named = w.named }
+      is_highest : v.highest ≡ highest_number (log_of image)
+      is_highest = highest ∙ ap highest_number log_same
+
+      of : IsWrittenBack sectors (head_of image) v.highest after → IsRecovered image after
+      of w = record {
+        head = w.head_is;
+        known = w.known;
+        inodes = w.inodes;
+        logged = (all_below 0 (head_of after).next (log_of image) (subst (λ n. n < (head_of after).next) is_highest w.above)).1;
+        named = w.named;
+      }
 
 pub is_clean : (sectors : ℕ) (state : State) (head : Super) (used : ℕ) → IsSettled state → IsWrittenBack sectors head used (seen state) → IsCleanDisk sectors state
 is_clean sectors state head used settled written =

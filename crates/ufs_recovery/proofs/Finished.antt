@@ -1,5 +1,5 @@
 -- From the next epoch on to the end.
-use Rattle.std.proofs.Common.{◌≡◌, ℕ, ◌+◌, ◌<◌, ◌≤◌, List, Bool, true, ap, sym, ◌∙◌, subst, arith}
+use Rattle.std.proofs.Common.{◌≡◌, ℕ, ◌+◌, ◌<◌, ◌≤◌, List, Bool, true, false, ap, sym, ◌∙◌, subst, arith}
 use Rattle.ufs_base.specs.Images.{Image}
 use Rattle.ufs_damage.specs.Findings.{CatalogRead}
 use Rattle.ufs_damage.specs.Taken.{AreTaken}
@@ -32,6 +32,7 @@ module _ (sectors : ℕ) (head : Super) (before mid : Image) (g : Geometry) (fin
   pub may_close : (marks : List Bool) → AreTaken g (sound_nodes g mid) marks → MayClose sectors head mid g marks
   may_close marks taken = record {
     home = pruned.home;
+    in_use = may.prune.in_use;
     geometry = may.prune.geometry;
     taken = subst (λ h. AreTaken h (sound_nodes h mid) marks) may.prune.geometry taken;
     numbers = λ k ranged. let same = pruned.numbers k ranged in let less = may.behind k ranged in omega (arith, same, less);
@@ -62,9 +63,9 @@ module _ (sectors : ℕ) (image : Image) (v : FoldedVolume) (findings : CatalogR
         added = may.added;
       }
 
-  module _ (head : Super) (geometry : geometry_of head ≡ v.head.geometry) (epoch : head.epoch ≡ v.head.head.epoch + 1) where
+  module _ (head : Super) (geometry : geometry_of head ≡ v.head.geometry) (epoch : head.epoch ≡ v.head.head.epoch + 1) (in_use : head.clean ≡ false) where
     pub may_follow : MayFollow image (volume_in v image) head
-    may_follow = record { geometry = geometry; earlier = λ s of. let most = may.none_later s of in omega (arith, most, epoch) }
+    may_follow = record { in_use = in_use; geometry = geometry; earlier = λ s of. let most = may.none_later s of in omega (arith, most, epoch) }
 
     module _ (mid : Image) (begun : HasBegun sectors (volume_in v image) head mid) (numbers dirs : Numbers)
         (orphans : AreOrphans v.head.geometry (catalog_at v.head.geometry (folded_image v image)) numbers) (orphan_dirs : AreOrphanDirs v.head.geometry (catalog_at v.head.geometry (folded_image v image)) dirs)
@@ -89,6 +90,7 @@ module _ (sectors : ℕ) (image : Image) (v : FoldedVolume) (findings : CatalogR
       may_finish = record {
         prune = record {
           home = begun.home;
+          in_use = in_use;
           geometry = back;
           all = orphans_moved (geometry_of head) (folded_image v image) mid walks_back form_back numbers (subst (λ h. AreOrphans h (catalog_at h (folded_image v image)) numbers) back orphans);
           all_dirs = dirs_moved (geometry_of head) (folded_image v image) mid walks_back form_back dirs (subst (λ h. AreOrphanDirs h (catalog_at h (folded_image v image)) dirs) back orphan_dirs);

@@ -1,5 +1,5 @@
 -- Images in which all that is committed is home, and what they become.
-use Rattle.std.proofs.Common.{◌≡◌, ℕ, ◌<◌, ◌≤◌, List, Some, ap, sym, ◌∙◌, subst, arith}
+use Rattle.std.proofs.Common.{◌≡◌, ℕ, ◌<◌, ◌≤◌, List, Bool, true, false, Some, ap, sym, ◌∙◌, subst, arith}
 use Rattle.std.specs.Prelude.{Ok}
 use Rattle.std.specs.List.{slice_get}
 use Rattle.ufs_base.specs.Images.{Image}
@@ -14,6 +14,7 @@ use Rattle.ufs_image.specs.Catalog.{Catalog, IsInode, IsCatalogOf, catalog_at}
 use Rattle.ufs_image.specs.Journal.{epoch_in}
 use Rattle.ufs_image.specs.Nodes.{blocks_of}
 use Rattle.ufs_image.specs.Opens.{opens}
+use Rattle.ufs_image.specs.Proper.{IsProperImage}
 use Rattle.ufs_image.specs.Sound.{IsSoundCatalog}
 use Rattle.ufs_image.specs.Standing.{IsVolumeOf}
 use Rattle.ufs_image.specs.Volume.{Volume, volume, head_of, head_refusal}
@@ -22,6 +23,7 @@ use Rattle.ufs_image.proofs.Holders.{block_in_data}
 use Rattle.ufs_image.proofs.Journals.{taken}
 use Rattle.ufs_image.proofs.Listed.{in_at_place}
 use Rattle.ufs_image.proofs.OneTree.{one_tree}
+use Rattle.ufs_image.proofs.Proper.{proper}
 use Rattle.ufs_image.proofs.Opening.{has_geometry}
 use Rattle.ufs_image.proofs.Read.{catalog_there}
 use Rattle.ufs_image.proofs.Whole.{sound_whole, whole_sound, whole_read, spelled_all}
@@ -68,6 +70,13 @@ module _ (sectors : ℕ) (head : Super) (image : Image) (is : IsAtHome sectors h
       is = canonical sectors mix (record { head = head; geometry = geometry_of head; image = mix }) d (record { taken = mix_taken; catalog = spelled; sound = sound });
       earlier = mix_earlier;
     }
+
+-- An image at home that is in use is proper.
+pub home_proper : (sectors : ℕ) (head : Super) (image : Image) → IsAtHome sectors head image → head.clean ≡ false → IsProperImage sectors image
+home_proper sectors head image home in_use =
+    proper sectors image (record { head = head; geometry = geometry_of head; image = image }) (catalog_at (geometry_of head) image) home.is
+    (λ s of. let less = home.earlier s of in omega (arith, less))
+    (λ clean. let no : false ≡ true = sym in_use ∙ clean in absurd (grind (arith, no)))
 
 -- ---- another superblock
 

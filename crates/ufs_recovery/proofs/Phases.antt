@@ -23,6 +23,7 @@ use Rattle.ufs_recovery.specs.Orphans.{AreUnreached, AreOrphans, AreOrphanDirs, 
 use Rattle.ufs_recovery.specs.Recovered.{HasNoOrphans}
 use Rattle.ufs_recovery.proofs.Pruned.{HasNoBlocks, no_slots, named_reached}
 use Rattle.ufs_recovery.proofs.Clears.{get_short, each_form, each_pruned, each_number, now_home, now_tree, now_walks}
+use Rattle.ufs_recovery.proofs.Home.{home_proper}
 use Rattle.ufs_recovery.proofs.OneMore.{get_there}
 
 one_up : (k : ℕ) → 1 ≤ k → k - 1 + 1 ≡ k
@@ -34,7 +35,7 @@ there_or numbers n k sized from most = get_there numbers (k - 1) None (omega (ar
 
 -- What a crash leaves is a mix of what the disk read.
 pub mixed_tree : (sectors : ℕ) (g : Geometry) (kind : ℕ) (numbers : Numbers) (state : State) → IsSettled state
-    → ((mix : Image) → IsMixedCleared g kind numbers (seen state) mix → opens sectors mix ≡ opens sectors (seen state))
+    → ((mix : Image) → IsMixedCleared g kind numbers (seen state) mix → OpensAlike sectors (seen state) mix)
     → (image : Image) → IsPartlyCleared g kind numbers state image → OpensAlike sectors (seen state) image
 mixed_tree sectors g kind numbers state settled tree image from =
     tree image (subst (λ (d : Image). IsMixedCleared g kind numbers d image) (settled from.before from.left) from.mixed)
@@ -58,11 +59,14 @@ module _ (sectors : ℕ) (head : Super) (image : Image) (home : IsAtHome sectors
         → (form_at (geometry_of head) one x.inode).kind ≡ (form_at (geometry_of head) image x.inode).kind
     named dir place x has now = kinds x.inode (home.is.sound.fit dir place x has).in_range
 
-    pub tree_one : opens sectors one ≡ opens sectors image
+    tree_one : opens sectors one ≡ opens sectors image
     tree_one = now_tree sectors head image home 2 dirs orphan_dirs.sized orphan_dirs.unreached one mixed named
 
     pub home_one : IsAtHome sectors head one
     home_one = now_home sectors head image home 2 dirs orphan_dirs.sized orphan_dirs.unreached one mixed named
+
+    pub alike_one : head.clean ≡ false → OpensAlike sectors image one
+    alike_one in_use = record { tree = tree_one; proper = λ was. home_proper sectors head one home_one in_use }
 
     walks_one : (names : List (List ℕ)) → met_by (catalog_at (geometry_of head) one) names ≡ met_by (catalog_at (geometry_of head) image) names
     walks_one = now_walks sectors head image home 2 dirs orphan_dirs.sized orphan_dirs.unreached one mixed named
@@ -132,11 +136,14 @@ module _ (sectors : ℕ) (head : Super) (image : Image) (home : IsAtHome sectors
             by (inl e) = ap (λ (f : InodeForm). f.kind) e
             by (inr b) = absurd (b.0 is.names is.met)
 
-        pub tree_two : opens sectors two ≡ opens sectors one
+        tree_two : opens sectors two ≡ opens sectors one
         tree_two = now_tree sectors head one home_one 0 all orphans.sized unreached_one two mixed_two named_two
 
         pub home_two : IsAtHome sectors head two
         home_two = now_home sectors head one home_one 0 all orphans.sized unreached_one two mixed_two named_two
+
+        pub alike_two : head.clean ≡ false → OpensAlike sectors one two
+        alike_two in_use = record { tree = tree_two; proper = λ was. home_proper sectors head two home_two in_use }
 
         walks_two : (names : List (List ℕ)) → met_by (catalog_at (geometry_of head) two) names ≡ met_by (catalog_at (geometry_of head) one) names
         walks_two = now_walks sectors head one home_one 0 all orphans.sized unreached_one two mixed_two named_two

@@ -41,7 +41,8 @@ pub record MayWriteBack (sectors : ℕ) (image : Image) (v : FoldedVolume) (find
   pub whole : bad_tree v.head.geometry (folded_image v image) ≡ None
   pub none_later : (sector : ℕ) → IsOfJournal v.head.geometry sector → epoch_in (image sector) ≤ v.head.head.epoch
 
--- The image is clean and proper in the next epoch, without orphans, and its next commit number is above those that were used.
+-- The image is clean and proper in the next epoch, without orphans, and its next commit number is above this one, which was
+-- used.
 pub record IsWrittenBack (sectors : ℕ) (head : Super) (used : ℕ) (after : Image) : Type 0 where
   pub proper : IsProperImage sectors after
   pub head_is : head_of after ≡ record head { version = 1; epoch = head.epoch + 1; next = (head_of after).next; clean = true }

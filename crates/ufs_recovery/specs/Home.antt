@@ -1,5 +1,5 @@
 -- Images in which all that is committed is home.
-use Rattle.std.specs.Prelude.{ℕ, ◌≡◌, ◌≢◌, ◌<◌, ◌≤◌, ◌*◌, List, Bool, true}
+use Rattle.std.specs.Prelude.{ℕ, ◌≡◌, ◌≢◌, ◌<◌, ◌≤◌, ◌*◌, List, Bool, true, false}
 use Rattle.ufs_base.specs.declared.sizes.TheConstants.{SECTORS_PER_BLOCK}
 use Rattle.ufs_damage.specs.Taken.{AreTaken}
 use Rattle.ufs_overlay.specs.Seen as overlaid
@@ -32,7 +32,8 @@ pub record IsOver (sectors : ℕ) (image : Image) (v : Volume) (overlay : Overla
   pub geometry : overlaid.geometry_of overlay ≡ v.geometry
   pub added : overlaid.HasAdded overlay (committed v.geometry v.head.epoch image)
 
--- All that is committed in an image is home, and no sector of the journal is of this superblock's epoch or of a later one.
+-- All that is committed in an image is home, no sector of the journal is of this superblock's epoch or of a later one, and
+-- with this superblock it is proper.
 pub record IsBroughtHome (sectors : ℕ) (home : Image) (new : Super) : Type 0 where
   pub image : Image
   pub as_volume : Volume
@@ -42,28 +43,34 @@ pub record IsBroughtHome (sectors : ℕ) (home : Image) (new : Super) : Type 0 w
   pub same : opens sectors home ≡ opens sectors image
   pub geometry : geometry_of new ≡ as_volume.geometry
   pub earlier : (sector : ℕ) → IsOfJournal as_volume.geometry sector → epoch_in (home sector) < new.epoch
+  pub proper : (after : Image) → IsAtHome sectors new after → ((sector : ℕ) → sector ≢ 0 → after sector ≡ home sector) → IsProperImage sectors after
 
--- It opens to the tree that the other one opens to, or for the same reason to none.
-abbrev pub OpensAlike : ℕ → Image → Image → Type 0
-OpensAlike sectors before image = opens sectors image ≡ opens sectors before
+-- It opens to the tree that the other one opens to, or for the same reason to none, and where that one is proper, so is it.
+pub record OpensAlike (sectors : ℕ) (before image : Image) : Type 0 where
+  pub tree : opens sectors image ≡ opens sectors before
+  pub proper : IsProperImage sectors before → IsProperImage sectors image
 
--- At each moment, both ends included, a crash leaves only images that open to the tree that the disk read at first.
+-- At each moment, both ends included, a crash leaves only images that open to the tree that the disk read at first, and that
+-- are proper where that was.
 abbrev pub KeepsTree : Bool → ℕ → Moments → Moments → Type 0
 KeepsTree keeps sectors old new = LeavesOnly keeps (OpensAlike sectors (reads old)) old new
 
--- This superblock may follow: it has the same geometry, and each sector of the journal is of an earlier epoch.
+-- This superblock may follow: it is in use and has the same geometry, and each sector of the journal is of an earlier epoch.
 pub record MayFollow (image : Image) (v : Volume) (new : Super) : Type 0 where
   pub geometry : geometry_of new ≡ v.geometry
   pub earlier : (sector : ℕ) → IsOfJournal v.geometry sector → epoch_in (image sector) < new.epoch
+  pub in_use : new.clean ≡ false
 
 -- It followed: all that was committed is home.
 pub record HasBegun (sectors : ℕ) (v : Volume) (new : Super) (image : Image) : Type 0 where
   pub home : IsAtHome sectors new image
   pub same : (sector : ℕ) → sector ≢ 0 → image sector ≡ v.image sector
 
--- The image may be marked clean by these marks: they are those of the used blocks, and the commit numbers are behind.
+-- The image is in use and may be marked clean by these marks: they are those of the used blocks, and the commit numbers are
+-- behind.
 pub record MayClose (sectors : ℕ) (head : Super) (image : Image) (g : Geometry) (marks : List Bool) : Type 0 where
   pub home : IsAtHome sectors head image
+  pub in_use : head.clean ≡ false
   pub geometry : g ≡ geometry_of head
   pub taken : AreTaken (geometry_of head) (sound_nodes (geometry_of head) image) marks
   pub numbers : (inode : ℕ) → IsInode (geometry_of head) inode → (form_at (geometry_of head) image inode).number < head.next

@@ -11,7 +11,9 @@ use Rattle.ufs_image.specs.Changes.{IsReached, IsUnreached}
 use Rattle.ufs_image.specs.Images.{form_at}
 use Rattle.ufs_image.specs.Nodes.{sound_nodes}
 use Rattle.ufs_damage.specs.Findings.{AreFindingsOf, CatalogRead}
-use Rattle.ufs_recovery.specs.Home.{IsAtHome}
+use Rattle.ufs_disk.specs.Disk.{IsSettled}
+use Rattle.ufs_disk.specs.Moments.{Moments, reads}
+use Rattle.ufs_recovery.specs.Home.{IsAtHome, KeepsTree}
 use Rattle.ufs_recovery.specs.Recovered.{HasNoOrphans}
 use Rattle.ufs_recovery.specs.Cleared.{Numbers}
 
@@ -32,9 +34,10 @@ pub record AreOrphanDirs (g : Geometry) (c : Catalog) (numbers : Numbers) : Type
   pub dirs : (place number : ℕ) → slice_get numbers place ≡ Some (Some number) → (c.forms (place + 1)).kind ≡ 2
   pub others : (place : ℕ) → slice_get numbers place ≡ Some None → IsReached c (place + 1) ⊎ ((c.forms (place + 1)).kind ≢ 2)
 
--- The image is at home, and these numbers stand for its orphans and for the directories among them.
+-- The image is at home and in use, and these numbers stand for its orphans and for the directories among them.
 pub record MayPrune (sectors : ℕ) (head : Super) (image : Image) (g : Geometry) (numbers dirs : Numbers) : Type 0 where
   pub home : IsAtHome sectors head image
+  pub in_use : head.clean ≡ false
   pub geometry : g ≡ geometry_of head
   pub all : AreOrphans (geometry_of head) (catalog_at (geometry_of head) image) numbers
   pub all_dirs : AreOrphanDirs (geometry_of head) (catalog_at (geometry_of head) image) dirs
@@ -44,6 +47,15 @@ pub record IsPruned (sectors : ℕ) (head : Super) (before after : Image) : Type
   pub home : IsAtHome sectors head after
   pub named : HasNoOrphans (geometry_of head) after
   pub numbers : (inode : ℕ) → IsInode (geometry_of head) inode → (form_at (geometry_of head) after inode).number ≡ (form_at (geometry_of head) before inode).number
+
+-- If these numbers stood for the orphans, they are freed.
+abbrev pub AreFreed : (sectors : ℕ) → Geometry → (numbers dirs : Numbers) → (before after : Image) → Type 0
+AreFreed sectors g numbers dirs before after = (head : Super) → MayPrune sectors head before g numbers dirs → IsPruned sectors head before after
+
+-- Meanwhile the tree is kept.
+abbrev pub KeepsTreeFreeing : Bool → (sectors : ℕ) → Geometry → (numbers dirs : Numbers) → Moments → Moments → Type 0
+KeepsTreeFreeing keeps sectors g numbers dirs old new =
+    IsSettled old.state → (head : Super) → MayPrune sectors head (reads old) g numbers dirs → KeepsTree keeps sectors old new
 
 -- ---- what is read of them
 

@@ -1,5 +1,6 @@
 -- What a recovery begins with and what it leaves.
 use Rattle.std.specs.Prelude.{ℕ, ◌≡◌, ◌≢◌, ◌<◌, ◌≤◌, ◌+◌, List, [], true}
+use Rattle.std.specs.List.{AllByRecursion}
 use Rattle.ufs_base.specs.Images.{Image}
 use Rattle.ufs_disk.specs.Disk.{State, IsSettled, seen}
 use Rattle.ufs_layout.specs.Superblock.{geometry_of}
@@ -25,12 +26,13 @@ log_of image = committed (geometry_of (head_of image)) (head_of image).epoch ima
 abbrev pub HasNoOrphans : Geometry → Image → Type 0
 HasNoOrphans g image = (inode : ℕ) → IsInode g inode → (form_at g image inode).kind ≢ 0 → IsReached (catalog_at g image) inode
 
--- What was in use is clean, in the next epoch, its next commit number is above those of all inodes, and no inode is used without
--- a name.
+-- What was in use is clean, in the next epoch, its next commit number is above those of all inodes and of all transactions that
+-- were committed, and no inode is used without a name.
 pub record IsRecovered (before after : Image) : Type 0 where
   pub head : head_of after ≡ record (head_of before) { version = 1; epoch = (head_of before).epoch + 1; next = (head_of after).next; clean = true }
   pub known : (head_of before).next ≤ (head_of after).next
   pub inodes : (inode : ℕ) → IsInode (geometry_of (head_of before)) inode → (form_at (geometry_of (head_of before)) after inode).number < (head_of after).next
+  pub logged : AllByRecursion (λ (c : Committed). c.number < (head_of after).next) (log_of before)
   pub named : HasNoOrphans (geometry_of (head_of before)) after
 
 -- Nothing is pending, what the disk reads is proper and marked clean, and nothing is committed in its epoch.

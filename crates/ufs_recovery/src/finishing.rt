@@ -54,19 +54,18 @@ fn finish<D: Disk>(
 }
 
 // Makes an image in use clean: writes home what is committed, begins the next epoch, frees the orphans, writes the
-// bitmap and marks the image clean, each behind a barrier. `used` is the highest commit number in the journal.
+// bitmap and marks the image clean, each behind a barrier.
 pub(crate) fn write_back<D: Disk>(
     alloc: Global,
     disk: &mut D,
     volume: &FoldedVolume,
     findings: &Findings,
-    used: u64,
 ) -> Result<(), RecoverFault>
     requires large { sector_count volume.now.head.geometry ≤ D.size disk.old }
     requires read { length findings.now.forms ≡ volume.now.head.geometry.inodes }
     ensures settled { IsTrue D.tells → OnOk result (IsSettled (D.moments disk.new).state) }
     ensures written { IsTrue D.tells → OnOk result (IsSettled (D.moments disk.old).state → MayWriteBack (D.size disk.old) (reads (D.moments disk.old)) volume.now findings.now
-        → IsWrittenBack (D.size disk.old) volume.now.head.head used (reads (D.moments disk.new))) }
+        → IsWrittenBack (D.size disk.old) volume.now.head.head volume.now.highest (reads (D.moments disk.new))) }
     ensures tree { IsTrue D.tells → IsSettled (D.moments disk.old).state → MayWriteBack (D.size disk.old) (reads (D.moments disk.old)) volume.now findings.now
         → KeepsTree D.keeps (D.size disk.old) (D.moments disk.old) (D.moments disk.new) }
     ensures size { D.size disk.new ≡ D.size disk.old }
@@ -74,7 +73,7 @@ pub(crate) fn write_back<D: Disk>(
     ensures cause { IfErr result (HasFaultCause (D.faults disk.old) (D.faults disk.new)) }
     ensures outside { IfErr result IsOutside }
 {
-    let Ok(plan) = make_plan(alloc, &volume.head, findings, used) else {
+    let Ok(plan) = make_plan(alloc, &volume.head, findings, volume.highest) else {
         return Err(RecoverFault::Memory);
     };
     match begin(disk, &volume.overlay, &plan.head) {

@@ -9,9 +9,7 @@ ghost use Rattle.ufs_disk.specs.Disk.{IsSettled};
 ghost use Rattle.ufs_disk.specs.Moments.{reads};
 ghost use Rattle.ufs_image.specs.Nodes.{sound_nodes};
 ghost use Rattle.ufs_layout.specs.Areas.{IsGeometry, sector_count};
-ghost use Rattle.ufs_layout.specs.declared.superblock.Super.{Super};
-ghost use Rattle.ufs_recovery.specs.Home.{KeepsTree};
-ghost use Rattle.ufs_recovery.specs.Orphans.{IsPruned, IsReadOf, MayPrune};
+ghost use Rattle.ufs_recovery.specs.Orphans.{AreFreed, IsReadOf, KeepsTreeFreeing};
 
 use crate::orphans::has_none;
 use crate::pruning::{Orphans, prune};
@@ -73,10 +71,8 @@ fn prune_or_fault<D: Disk>(
     requires counted { length orphans.now.numbers.items ≡ geometry.now.inodes }
     requires counted_dirs { length orphans.now.dirs.items ≡ geometry.now.inodes }
     ensures settled { IsTrue D.tells → OnOk result (IsSettled (D.moments disk.new).state) }
-    ensures pruned { IsTrue D.tells → OnOk result ((head : Super) → MayPrune (D.size disk.old) head (reads (D.moments disk.old)) geometry.now orphans.now.numbers.items orphans.now.dirs.items
-        → IsPruned (D.size disk.old) head (reads (D.moments disk.old)) (reads (D.moments disk.new))) }
-    ensures tree { IsTrue D.tells → IsSettled (D.moments disk.old).state → (head : Super) → MayPrune (D.size disk.old) head (reads (D.moments disk.old)) geometry.now orphans.now.numbers.items orphans.now.dirs.items
-        → KeepsTree D.keeps (D.size disk.old) (D.moments disk.old) (D.moments disk.new) }
+    ensures pruned { IsTrue D.tells → OnOk result (AreFreed (D.size disk.old) geometry.now orphans.now.numbers.items orphans.now.dirs.items (reads (D.moments disk.old)) (reads (D.moments disk.new))) }
+    ensures tree { IsTrue D.tells → KeepsTreeFreeing D.keeps (D.size disk.old) geometry.now orphans.now.numbers.items orphans.now.dirs.items (D.moments disk.old) (D.moments disk.new) }
     ensures size { D.size disk.new ≡ D.size disk.old }
     ensures passed { OnOk result (D.faults disk.new ≡ D.faults disk.old) }
     ensures cause { IfErr result (HasFaultCause (D.faults disk.old) (D.faults disk.new)) }
@@ -105,11 +101,9 @@ pub(crate) fn free_orphans<D: Disk>(
     requires counted { length orphans.now.numbers.items ≡ geometry.now.inodes }
     requires counted_dirs { length orphans.now.dirs.items ≡ geometry.now.inodes }
     ensures settled { IsTrue D.tells → IsSettled (D.moments disk.old).state → OnOk result (IsSettled (D.moments disk.new).state) }
-    ensures pruned { IsTrue D.tells → OnOk result ((head : Super) → MayPrune (D.size disk.old) head (reads (D.moments disk.old)) geometry.now orphans.now.numbers.items orphans.now.dirs.items
-        → IsPruned (D.size disk.old) head (reads (D.moments disk.old)) (reads (D.moments disk.new))) }
+    ensures pruned { IsTrue D.tells → OnOk result (AreFreed (D.size disk.old) geometry.now orphans.now.numbers.items orphans.now.dirs.items (reads (D.moments disk.old)) (reads (D.moments disk.new))) }
     ensures taken { IsTrue D.tells → IfOk result (λ t. IsReadOf geometry.now (reads (D.moments disk.old)) findings.now → AreTaken geometry.now (sound_nodes geometry.now (reads (D.moments disk.new))) t) }
-    ensures tree { IsTrue D.tells → IsSettled (D.moments disk.old).state → (head : Super) → MayPrune (D.size disk.old) head (reads (D.moments disk.old)) geometry.now orphans.now.numbers.items orphans.now.dirs.items
-        → KeepsTree D.keeps (D.size disk.old) (D.moments disk.old) (D.moments disk.new) }
+    ensures tree { IsTrue D.tells → KeepsTreeFreeing D.keeps (D.size disk.old) geometry.now orphans.now.numbers.items orphans.now.dirs.items (D.moments disk.old) (D.moments disk.new) }
     ensures size { D.size disk.new ≡ D.size disk.old }
     ensures passed { OnOk result (D.faults disk.new ≡ D.faults disk.old) }
     ensures cause { IfErr result (HasFaultCause (D.faults disk.old) (D.faults disk.new)) }

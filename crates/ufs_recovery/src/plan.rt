@@ -1,5 +1,5 @@
 // What a recovery does, known before it writes.
-ghost use Rattle.std.specs.Prelude.{ℕ, ◌≡◌, ◌≤◌, ◌<◌, ◌+◌, None, length, IsTrue, IfOk};
+ghost use Rattle.std.specs.Prelude.{ℕ, ◌≡◌, ◌≤◌, ◌<◌, ◌+◌, None, false, length, IsTrue, IfOk};
 ghost use Rattle.ufs_base.specs.Images.{Image};
 ghost use Rattle.ufs_damage.specs.Findings.{AreFindingsOf};
 ghost use Rattle.ufs_image.specs.Catalog.{IsInode, catalog_at};
@@ -43,6 +43,7 @@ pub(crate) fn make_plan(
     ensures geometry { IfOk result (λ p. geometry_of p.head ≡ image.now.geometry) }
     ensures version { IfOk result (λ p. p.head.version ≡ 1) }
     ensures form { IfOk result (λ p. IsTrue (is_super 1 p.head)) }
+    ensures in_use { IfOk result (λ p. p.head.clean ≡ false) }
     ensures known { IfOk result (λ p. image.now.head.next ≤ p.head.next) }
     ensures above { IfOk result (λ p. used < p.head.next) }
     ensures inodes { IfOk result (λ p. (folded : Image) → AreFindingsOf image.now.geometry folded findings.now → (inode : ℕ) → IsInode image.now.geometry inode → (form_at image.now.geometry folded inode).number < p.head.next) }

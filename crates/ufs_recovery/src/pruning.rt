@@ -4,9 +4,7 @@ ghost use Rattle.ufs_base.specs.Faults.{HasCause};
 ghost use Rattle.ufs_disk.specs.Disk.{IsSettled};
 ghost use Rattle.ufs_disk.specs.Moments.{reads};
 ghost use Rattle.ufs_layout.specs.Areas.{IsGeometry, sector_count};
-ghost use Rattle.ufs_layout.specs.declared.superblock.Super.{Super};
-ghost use Rattle.ufs_recovery.specs.Home.{KeepsTree};
-ghost use Rattle.ufs_recovery.specs.Orphans.{IsPruned, MayPrune};
+ghost use Rattle.ufs_recovery.specs.Orphans.{AreFreed, KeepsTreeFreeing};
 
 use crate::clearing::clear;
 use ufs_disk::{Disk, Fault};
@@ -39,10 +37,8 @@ pub(crate) fn prune<D: Disk>(
     requires counted { length orphans.now.numbers.items ≡ geometry.now.inodes }
     requires counted_dirs { length orphans.now.dirs.items ≡ geometry.now.inodes }
     ensures settled { IsTrue D.tells → OnOk result (IsSettled (D.moments disk.new).state) }
-    ensures pruned { IsTrue D.tells → OnOk result ((head : Super) → MayPrune (D.size disk.old) head (reads (D.moments disk.old)) geometry.now orphans.now.numbers.items orphans.now.dirs.items
-        → IsPruned (D.size disk.old) head (reads (D.moments disk.old)) (reads (D.moments disk.new))) }
-    ensures tree { IsTrue D.tells → IsSettled (D.moments disk.old).state → (head : Super) → MayPrune (D.size disk.old) head (reads (D.moments disk.old)) geometry.now orphans.now.numbers.items orphans.now.dirs.items
-        → KeepsTree D.keeps (D.size disk.old) (D.moments disk.old) (D.moments disk.new) }
+    ensures pruned { IsTrue D.tells → OnOk result (AreFreed (D.size disk.old) geometry.now orphans.now.numbers.items orphans.now.dirs.items (reads (D.moments disk.old)) (reads (D.moments disk.new))) }
+    ensures tree { IsTrue D.tells → KeepsTreeFreeing D.keeps (D.size disk.old) geometry.now orphans.now.numbers.items orphans.now.dirs.items (D.moments disk.old) (D.moments disk.new) }
     ensures size { D.size disk.new ≡ D.size disk.old }
     ensures cause { HasCause (D.faults disk.old) (D.faults disk.new) result }
     ensures number { IfErr result (λ fault. fault.number ≡ D.faults disk.new) }

@@ -15,25 +15,18 @@ use std::alloc::Global;
 use ufs_catalog::RecoverFault;
 use ufs_disk::Disk;
 use ufs_opening::open;
-use ufs_volume::FoldedVolume;
-
-// The highest commit number in the journal, where commits follow one another.
-fn last_number(volume: &FoldedVolume) -> u64 {
-    let before = volume.head.head.next.saturating_sub(1);
-    before.saturating_add(u64::from(volume.committed))
-}
 
 /// Makes the image on a disk clean, and answers how many transactions are committed in its journal. A clean image
 /// isn't written. Otherwise, each step behind a barrier: what is committed is written home, the next epoch begins,
 /// inodes without a name are freed, the bitmap is written, and the image is marked clean. Whatever stops it, the
-/// image stands for the same tree. Reads what `open` reads; where inodes are freed, the inode table and the
-/// directories are read once more. A fault of the disk ends it. Where the epochs or the commit numbers end, it is
-/// refused as by want of memory.
+/// image stands for the same tree and may be recovered again. Reads what `open` reads; where inodes are freed, the
+/// inode table and the directories are read once more. A fault of the disk ends it. Where the epochs or the commit
+/// numbers end, it is refused as by want of memory.
 pub fn recover<D: Disk>(alloc: Global, disk: &mut D) -> Result<u32, RecoverFault>
     ensures found { IsTrue D.tells → IfOk result (λ count. count ≡ length (log_of (reads (D.moments disk.old)))) }
     ensures clean { IsTrue D.tells → OnOk result (IsProperDisk (D.size disk.old) (D.moments disk.old).state → IsCleanDisk (D.size disk.old) (D.moments disk.new).state) }
 
-    // At each moment, also of a call that is refused, whatever a crash leaves opens to the same tree.
+    // At each moment, also of a call that is refused, whatever a crash leaves opens to the same tree and is proper.
     ensures tree { IsTrue D.tells → IsProperDisk (D.size disk.old) (D.moments disk.old).state → KeepsTree D.keeps (D.size disk.old) (D.moments disk.old) (D.moments disk.new) }
     ensures recovered { IsTrue D.tells → OnOk result (IsProperDisk (D.size disk.old) (D.moments disk.old).state → (head_of (reads (D.moments disk.old))).clean ≡ false → IsRecovered (reads (D.moments disk.old)) (reads (D.moments disk.new))) }
     ensures quiet { IsTrue D.tells → IsTrue (head_of (reads (D.moments disk.old))).clean → IsReadOnly D.keeps (D.moments disk.old) (D.moments disk.new) }
@@ -50,8 +43,7 @@ pub fn recover<D: Disk>(alloc: Global, disk: &mut D) -> Result<u32, RecoverFault
     if opened.volume.head.head.clean {
         return Ok(count);
     }
-    let used = last_number(&opened.volume);
-    match write_back(alloc, disk, &opened.volume, &opened.findings, used) {
+    match write_back(alloc, disk, &opened.volume, &opened.findings) {
         Ok(()) => Ok(count),
         Err(fault) => Err(fault),
     }

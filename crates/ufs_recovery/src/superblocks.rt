@@ -1,5 +1,5 @@
 // The superblocks that a recovery writes.
-ghost use Rattle.std.specs.Prelude.{ℕ, ◌≡◌, ◌≤◌, ◌<◌, ◌+◌, true, IsTrue, IfSome};
+ghost use Rattle.std.specs.Prelude.{ℕ, ◌≡◌, ◌≤◌, ◌<◌, ◌+◌, true, false, IsTrue, IfSome};
 ghost use Rattle.ufs_layout.specs.Superblock.{geometry_of, is_super};
 
 use ufs_layout::Super;
@@ -13,6 +13,7 @@ pub(crate) fn next_head(head: &Super, used: u64) -> Option<Super>
     ensures above { IfSome result (λ s. used < s.next) }
     ensures form { IfSome result (λ s. IsTrue (is_super 1 s)) }
     ensures version { IfSome result (λ s. s.version ≡ 1) }
+    ensures in_use { IfSome result (λ s. s.clean ≡ false) }
 {
     let epoch = head.epoch.checked_add(1)?;
     let next = used.max(head.next.saturating_sub(1)).checked_add(1)?;

@@ -1,5 +1,6 @@
 -- The volume that was read from a disk.
-use Rattle.std.specs.Prelude.{List}
+use Rattle.std.specs.Prelude.{ℕ, List, max}
+use Rattle.std.specs.List.{fold}
 use Rattle.ufs_base.specs.Images.{Image}
 use Rattle.ufs_layout.specs.declared.records.Committed.{Committed}
 use Rattle.ufs_image.specs.Journal.{committed}
@@ -17,3 +18,7 @@ folded_image v disk = folded v.head.geometry (committed_in v disk) disk
 
 abbrev pub volume_in : FoldedVolume → Image → Volume
 volume_in v disk = record { head = v.head.head; geometry = v.head.geometry; image = folded_image v disk }
+
+-- the highest of their commit numbers; 0 where there are none
+abbrev pub highest_number : List Committed → ℕ
+highest_number transactions = fold (λ highest (c : Committed). max highest c.number) 0 transactions

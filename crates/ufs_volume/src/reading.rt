@@ -8,14 +8,20 @@ ghost use Rattle.ufs_overlay.specs.Seen.{HasAdded};
 ghost use Rattle.ufs_catalog.specs.Faults.{BlamesNone, HasFaultCause, IsOutside, IsWhyNot};
 ghost use Rattle.ufs_catalog.specs.Reading.{IsReadOnly};
 ghost use Rattle.ufs_volume.specs.Journals.{AreFoldable};
-ghost use Rattle.ufs_volume.specs.Volumes.{committed_in, volume_in};
+ghost use Rattle.ufs_volume.specs.Volumes.{committed_in, highest_number, volume_in};
 
 use crate::overlaid::{overlay_of, read_journal};
 use crate::volume::FoldedVolume;
 use std::alloc::Global;
 use ufs_catalog::{ImageHead, RecoverFault, read_head};
 use ufs_disk::Disk;
-use ufs_layout::CommittedList;
+use ufs_layout::{Committed, CommittedList};
+
+fn highest_number(list: &[Committed]) -> u64
+    ensures { result ≡ highest_number list.now }
+{
+    list.iter().map(|one| one.number).max().unwrap_or(0)
+}
 
 // The volume with these transactions.
 fn with_list(
@@ -26,6 +32,7 @@ fn with_list(
     ensures head { IfOk result (λ v. v.head ≡ head) }
     ensures added { IsTrue (rise_above 0 list.now) → IfOk result (λ v. HasAdded v.overlay list.now) }
     ensures count { IfOk result (λ v. v.committed ≡ length list.now) }
+    ensures highest { IfOk result (λ v. v.highest ≡ highest_number list.now) }
     ensures outside { AreFoldable head.geometry list.now → IfErr result IsOutside }
     ensures calm { IfErr result (λ f. (before : ℕ) → HasFaultCause before before f) }
     ensures blames_none { IfErr result BlamesNone }
@@ -39,6 +46,7 @@ fn with_list(
         head,
         overlay,
         committed,
+        highest: highest_number(transactions),
     })
 }
 
@@ -49,6 +57,7 @@ pub fn read_volume<D: Disk>(alloc: Global, disk: &mut D) -> Result<FoldedVolume,
     ensures taken { IsTrue D.tells → IfOk result (λ v. volume (D.size disk.old) (reads (D.moments disk.old)) ≡ Ok (volume_in v (reads (D.moments disk.old)))) }
     ensures added { IsTrue D.tells → IfOk result (λ v. HasAdded v.overlay (committed_in v (reads (D.moments disk.old)))) }
     ensures count { IsTrue D.tells → IfOk result (λ v. v.committed ≡ length (committed_in v (reads (D.moments disk.old)))) }
+    ensures highest { IsTrue D.tells → IfOk result (λ v. v.highest ≡ highest_number (committed_in v (reads (D.moments disk.old)))) }
     ensures large { IfOk result (λ v. sector_count v.head.geometry ≤ D.size disk.old) }
     ensures refused { IsTrue D.tells → IfErr result (IsWhyNot (volume (D.size disk.old) (reads (D.moments disk.old)))) }
     ensures blames_none { IfErr result BlamesNone }

@@ -13,5 +13,7 @@ pub struct FoldedVolume {
     pub overlay: Overlay,
     /// How many they are.
     pub committed: u32,
+    /// The highest of their commit numbers; 0 where there are none.
+    pub highest: u64,
     pub ghost same: { geometry_of overlay ≡ head.geometry },
 }

@@ -81,9 +81,9 @@ returns-in-Ok-clause-clean g c told proper =
     let can : MayWriteBack size image v c.in_ok-opened.opened.findings = may_write_back size image v is c.in_ok-opened.opened.findings (c.in_ok-opened.ensures.added told) (c.in_ok-opened.ensures.found told) (c.in_ok-opened.ensures.whole told) proper.proper in
     let can_mid : MayWriteBack (g.D.Disk.size c.open.new.disk) (reads mid) v c.in_ok-opened.opened.findings =
     subst (λ n. MayWriteBack n (reads mid) v c.in_ok-opened.opened.findings) (sym c.open.ensures.size) (subst (λ (d : Image). MayWriteBack size d v c.in_ok-opened.opened.findings) (sym (c.open.ensures.read_only told).content) can) in
-    let written : IsWrittenBack size v.head.head c.last_number-used.result (reads (g.D.Disk.moments c.write_back.new.disk)) =
-    subst (λ n. IsWrittenBack n v.head.head c.last_number-used.result (reads (g.D.Disk.moments c.write_back.new.disk))) c.open.ensures.size (c.in-Ok.ensures.written told settled can_mid) in
-    is_clean size (g.D.Disk.moments c.write_back.new.disk).state v.head.head c.last_number-used.result (c.in-Ok.ensures.settled told) written
+    let written : IsWrittenBack size v.head.head v.highest (reads (g.D.Disk.moments c.write_back.new.disk)) =
+    subst (λ n. IsWrittenBack n v.head.head v.highest (reads (g.D.Disk.moments c.write_back.new.disk))) c.open.ensures.size (c.in-Ok.ensures.written told settled can_mid) in
+    is_clean size (g.D.Disk.moments c.write_back.new.disk).state v.head.head v.highest (c.in-Ok.ensures.settled told) written
 
 pub returns-in-Ok-clause-tree : goal.returns-in-Ok-clause-tree
 returns-in-Ok-clause-tree g c told proper =
@@ -112,9 +112,9 @@ returns-in-Ok-clause-recovered g c told proper used =
     let can : MayWriteBack size image v c.in_ok-opened.opened.findings = may_write_back size image v is c.in_ok-opened.opened.findings (c.in_ok-opened.ensures.added told) (c.in_ok-opened.ensures.found told) (c.in_ok-opened.ensures.whole told) proper.proper in
     let can_mid : MayWriteBack (g.D.Disk.size c.open.new.disk) (reads mid) v c.in_ok-opened.opened.findings =
     subst (λ n. MayWriteBack n (reads mid) v c.in_ok-opened.opened.findings) (sym c.open.ensures.size) (subst (λ (d : Image). MayWriteBack size d v c.in_ok-opened.opened.findings) (sym (c.open.ensures.read_only told).content) can) in
-    let written : IsWrittenBack size v.head.head c.last_number-used.result (reads (g.D.Disk.moments c.write_back.new.disk)) =
-    subst (λ n. IsWrittenBack n v.head.head c.last_number-used.result (reads (g.D.Disk.moments c.write_back.new.disk))) c.open.ensures.size (c.in-Ok.ensures.written told settled can_mid) in
-    is_recovered size image v is c.last_number-used.result (reads (g.D.Disk.moments c.write_back.new.disk)) written
+    let written : IsWrittenBack size v.head.head v.highest (reads (g.D.Disk.moments c.write_back.new.disk)) =
+    subst (λ n. IsWrittenBack n v.head.head v.highest (reads (g.D.Disk.moments c.write_back.new.disk))) c.open.ensures.size (c.in-Ok.ensures.written told settled can_mid) in
+    is_recovered size image v is (c.in_ok-opened.ensures.highest told) (reads (g.D.Disk.moments c.write_back.new.disk)) written
 
 pub returns-in-Ok-clause-quiet : goal.returns-in-Ok-clause-quiet
 returns-in-Ok-clause-quiet g c told clean =

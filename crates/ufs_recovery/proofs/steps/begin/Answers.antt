@@ -14,7 +14,7 @@ returns-clause-begun g c told =
     let mid = g.D.Disk.moments c.bring_home.new.disk in
     on_ok_weaker c.put_head.result (λ both v settled over may.
     let is : IsBroughtHome size (reads mid) c.args.head.now = brought size (reads (g.D.Disk.moments c.args.disk.now)) (reads mid) v c.args.overlay.now c.args.head.now over may (c.in_ok-bring_home.ensures.home told v over)
-    ((c.bring_home.ensures.tree told settled v over).after (reads mid) (seen_is_image mid.state)) in
+    ((c.bring_home.ensures.tree told settled v over).after (reads mid) (seen_is_image mid.state)).tree in
     record {
       home = subst (λ n. IsAtHome n c.args.head.now (reads (g.D.Disk.moments c.put_head.new.disk))) c.bring_home.ensures.size (both.0 (subst (λ n. IsBroughtHome n (reads mid) c.args.head.now) (sym c.bring_home.ensures.size) is));
       same = λ s other. both.1 s other ∙ c.in_ok-bring_home.ensures.home told v over s;
@@ -26,7 +26,7 @@ returns-clause-tree g c told v settled over may =
     let size = g.D.Disk.size c.args.disk.now in
     let mid = g.D.Disk.moments c.bring_home.new.disk in
     let is : IsBroughtHome size (reads mid) c.args.head.now = brought size (reads (g.D.Disk.moments c.args.disk.now)) (reads mid) v c.args.overlay.now c.args.head.now over may (c.in_ok-bring_home.ensures.home told v over)
-    ((c.bring_home.ensures.tree told settled v over).after (reads mid) (seen_is_image mid.state)) in
+    ((c.bring_home.ensures.tree told settled v over).after (reads mid) (seen_is_image mid.state)).tree in
     kept_on _ size _ _ _ (c.bring_home.ensures.tree told settled v over)
     (subst (λ n. KeepsTree g.D.Disk.keeps n mid (g.D.Disk.moments c.put_head.new.disk)) c.bring_home.ensures.size
     (c.put_head.ensures.tree told (c.in_ok-bring_home.ensures.settled told) (subst (λ n. IsBroughtHome n (reads mid) c.args.head.now) (sym c.bring_home.ensures.size) is)))

@@ -16,7 +16,7 @@ pub returns-in_err-write_bitmap-clause-tree : goal.returns-in_err-write_bitmap-c
 returns-in_err-write_bitmap-clause-tree g c told settled may =
     let size = g.D.Disk.size c.args.disk.now in
     let state = (g.D.Disk.moments c.args.disk.now).state in
-    weaker _ _ _ (λ image from. any_bitmap_tree size c.args.head.now state settled may.home image (subst (λ h. HasAnyBitmap h state image) may.geometry from)) _ _ (c.write_bitmap.ensures.crash told)
+    weaker _ _ _ (λ image from. any_bitmap_tree size c.args.head.now state settled may.home may.in_use image (subst (λ h. HasAnyBitmap h state image) may.geometry from)) _ _ (c.write_bitmap.ensures.crash told)
 
 pub returns-clause-closed : goal.returns-clause-closed
 returns-clause-closed g c told =
@@ -26,7 +26,8 @@ returns-clause-closed g c told =
     let after = reads (g.D.Disk.moments c.put_head.new.disk) in
     on_ok_weaker c.put_head.result (λ both settled may.
     let home1 = mid_home size c.args.head.now before mid c.args.geometry.now c.args.taken.now may (c.in_ok-write_bitmap.ensures.others told) in
-    let is : IsBroughtHome size mid c.closed.result = subst (IsBroughtHome size mid) (sym c.closed.ensures) (closing size c.args.head.now mid home1) in
+    let is : IsBroughtHome size mid c.closed.result = subst (IsBroughtHome size mid) (sym c.closed.ensures) (closing size c.args.head.now mid home1 (λ last home others.
+    (has_closed size c.args.head.now before mid last c.args.geometry.now c.args.taken.now may (c.in_ok-write_bitmap.ensures.others told) (c.in_ok-write_bitmap.ensures.marked told) others home).proper)) in
     let home2 : IsAtHome size (record (c.args.head.now) { clean = true }) after =
     subst (λ (h : Super). IsAtHome size h after) c.closed.ensures
     (subst (λ n. IsAtHome n c.closed.result after) c.write_bitmap.ensures.size (both.0 (subst (λ n. IsBroughtHome n mid c.closed.result) (sym c.write_bitmap.ensures.size) is))) in
@@ -40,8 +41,9 @@ returns-clause-tree g c told settled may =
     let before = reads (g.D.Disk.moments c.args.disk.now) in
     let mid = g.D.Disk.moments c.write_bitmap.new.disk in
     let home1 = mid_home size c.args.head.now before (reads mid) c.args.geometry.now c.args.taken.now may (c.in_ok-write_bitmap.ensures.others told) in
-    let is : IsBroughtHome size (reads mid) c.closed.result = subst (IsBroughtHome size (reads mid)) (sym c.closed.ensures) (closing size c.args.head.now (reads mid) home1) in
+    let is : IsBroughtHome size (reads mid) c.closed.result = subst (IsBroughtHome size (reads mid)) (sym c.closed.ensures) (closing size c.args.head.now (reads mid) home1 (λ last home others.
+    (has_closed size c.args.head.now before (reads mid) last c.args.geometry.now c.args.taken.now may (c.in_ok-write_bitmap.ensures.others told) (c.in_ok-write_bitmap.ensures.marked told) others home).proper)) in
     kept_on _ size _ _ _
-    (weaker _ _ _ (λ image from. any_bitmap_tree size c.args.head.now state settled may.home image (subst (λ h. HasAnyBitmap h state image) may.geometry from)) _ _ (c.write_bitmap.ensures.crash told))
+    (weaker _ _ _ (λ image from. any_bitmap_tree size c.args.head.now state settled may.home may.in_use image (subst (λ h. HasAnyBitmap h state image) may.geometry from)) _ _ (c.write_bitmap.ensures.crash told))
     (subst (λ n. KeepsTree g.D.Disk.keeps n mid (g.D.Disk.moments c.put_head.new.disk)) c.write_bitmap.ensures.size
     (c.put_head.ensures.tree told (c.in_ok-write_bitmap.ensures.settled told) (subst (λ n. IsBroughtHome n (reads mid) c.closed.result) (sym c.write_bitmap.ensures.size) is)))

@@ -8,6 +8,7 @@ use Rattle.ufs_overlay.specs.Seen.{HasAdded}
 use Rattle.ufs_catalog.specs.Faults.{HasFaultCause}
 use Rattle.ufs_catalog.proofs.Quiet.{read_more}
 use Rattle.ufs_catalog.proofs.Outside.{why_outside}
+use Rattle.ufs_volume.specs.Volumes.{highest_number}
 use Rattle.ufs_volume.proofs.Why.{why_head, why_read, rises, folds_all, volume_is, list_is}
 use Rattle.ufs_volume.proofs.reading.read_volume.Goals as goal
 
@@ -51,6 +52,14 @@ returns-in-Ok-clause-count g c told =
     let l = c.in_ok-list.ensures in
     c.in-Ok.ensures.count
     ∙ ap (length {A = Committed}) (list_is (g.D.Disk.size c.args.disk.now) (reads (g.D.Disk.moments c.args.disk.now)) (reads (g.D.Disk.moments c.read_head.new.disk)) (c.read_head.ensures.read_only told).content c.in_ok-head.head (e.head told) (e.taken told)
+    c.in_ok-list.list (l.committed told) (l.whole told) c.in-Ok.volume c.in-Ok.ensures.head)
+
+pub returns-in-Ok-clause-highest : goal.returns-in-Ok-clause-highest
+returns-in-Ok-clause-highest g c told =
+    let e = c.in_ok-head.ensures in
+    let l = c.in_ok-list.ensures in
+    c.in-Ok.ensures.highest
+    ∙ ap highest_number (list_is (g.D.Disk.size c.args.disk.now) (reads (g.D.Disk.moments c.args.disk.now)) (reads (g.D.Disk.moments c.read_head.new.disk)) (c.read_head.ensures.read_only told).content c.in_ok-head.head (e.head told) (e.taken told)
     c.in_ok-list.list (l.committed told) (l.whole told) c.in-Ok.volume c.in-Ok.ensures.head)
 
 pub returns-in-Ok-clause-read_only : goal.returns-in-Ok-clause-read_only
