@@ -1,0 +1,9 @@
+//! Tests of a store: each call on its happy path, and disks of whose calls some fail.
+#![tactic(auto)]
+
+#[cfg(test)]
+mod faults;
+#[cfg(test)]
+mod images;
+#[cfg(test)]
+mod sessions;
