@@ -10,10 +10,9 @@ use Rattle.ufs_layout.specs.declared.geometry.Geometry.{Geometry}
 use Rattle.ufs_image.specs.Images.{inode_at, form_at}
 use Rattle.ufs_image.specs.Catalog.{IsInode}
 use Rattle.ufs_image.specs.Nodes.{is_bad_form, leaves_data}
-use Rattle.ufs_image.specs.Opens.{NodeBytes, file_bytes, node_bytes}
+use Rattle.ufs_image.specs.Opens.{file_bytes, node_bytes}
 use Rattle.ufs_opening.specs.Heads.{cut, node_head}
 use Rattle.ufs_opening.specs.Shown.{AreReadable}
-use Rattle.ufs_opening.specs.declared.head.NodeHead.{NodeHead}
 use Rattle.ufs_opening.specs.declared.head.NodeHead.TheVariants.{Dir, File}
 
 module _ (g : Geometry) (disk : Image) (forms : List (Option InodeForm)) (read : AreReadable g disk forms) (inode : ℕ) (in_range : IsInode g inode) (at : ℕ) (place : at + 1 ≡ inode) where

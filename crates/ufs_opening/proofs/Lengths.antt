@@ -1,10 +1,10 @@
 -- A file of an undamaged volume has as many bytes as its size says.
-use Rattle.std.proofs.Common.{◌≡◌, ◌≢◌, ℕ, ◌+◌, ◌*◌, ◌-◌, ◌<◌, ◌≤◌, inl, inr, List, [], ◌∷◌, ◌++◌, Bool, true, false, length, take, min, replicate, refl, ap, sym, ◌∙◌, subst, arith, length-append}
+use Rattle.std.proofs.Common.{◌≡◌, ◌≢◌, ℕ, ◌*◌, ◌<◌, ◌≤◌, inl, inr, List, [], ◌∷◌, Bool, true, false, length, min, replicate, refl, ap, sym, ◌∙◌, subst, arith, length-append}
 use Rattle.std.specs.Prelude.{flat_map, ◌&&◌, nat_le, nat_lt, if◌then◌else◌}
 use Rattle.std.specs.List.{list_all}
 use Rattle.std.proofs.lemmas.Bool.{and_parts, cases_eq, eq-eqb, ne_eqb, le-leb, lt-ltb, leb-true, ltb-true}
 use Rattle.std.proofs.lemmas.List.{length-replicate, length-take}
-use Rattle.ufs_base.specs.Images.{Image, IsSector}
+use Rattle.ufs_base.specs.Images.{Image}
 use Rattle.ufs_disk.proofs.Zeros.{zeros_replicate}
 use Rattle.ufs_layout.specs.Areas.{first_of_data, is_data_sector, is_inode_number, sector_count, sector_of_inode, sectors_of_block}
 use Rattle.ufs_layout.specs.DentryForm.{dentry_bytes, is_dentry}

@@ -4,7 +4,7 @@ use Rattle.std.specs.Prelude.{map, IsTrue, Option, Result, ◌&&◌}
 use Rattle.std.specs.List.{AllByRecursion}
 use Rattle.std.specs.Ordering.{is_lt}
 use Rattle.std.specs.FinMap as fin
-use Rattle.std.specs.FinMap.{FinMap, from_entries, get-entries, get-from_entries, is_sorted, same_map}
+use Rattle.std.specs.FinMap.{from_entries, get-entries, get-from_entries, is_sorted, same_map}
 use Rattle.std.specs.FinMap.Entries.{below_all}
 use Rattle.ufs_base.specs.Images.{Image}
 use Rattle.ufs_layout.specs.declared.geometry.Geometry.{Geometry}

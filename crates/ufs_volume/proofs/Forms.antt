@@ -1,11 +1,10 @@
 -- What is committed can be folded.
-use Rattle.std.proofs.Common.{◌≡◌, ℕ, inl, inr, List, [], ◌∷◌, Bool, true, false, Option, Some, None, map, ap, sym, refl, ◌∙◌, subst}
-use Rattle.std.specs.Prelude.{flat_map, filter, ◌==◌, ◌&&◌, IsTrue}
+use Rattle.std.proofs.Common.{◌≡◌, inl, inr, List, [], ◌∷◌, Bool, true, Some, None, map, ap, refl, ◌∙◌, subst}
+use Rattle.std.specs.Prelude.{flat_map, ◌==◌, ◌&&◌}
 use Rattle.std.specs.List.{range_with_len, list_all, filter_map, AllByRecursion}
 use Rattle.std.proofs.lemmas.Bool.{and_parts}
 use Rattle.ufs_base.specs.Images.{Image}
 use Rattle.ufs_layout.specs.Records.{is_record}
-use Rattle.ufs_layout.specs.Words.{placed_by, rising_by}
 use Rattle.ufs_layout.specs.declared.geometry.Geometry.{Geometry}
 use Rattle.ufs_layout.specs.declared.superblock.Super.{Super}
 use Rattle.ufs_layout.specs.declared.records.LogRecord.{LogRecord}

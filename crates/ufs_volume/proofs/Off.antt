@@ -1,21 +1,21 @@
 -- What a journal with no sector that is off has.
-use Rattle.std.proofs.Common.{◌≡◌, ℕ, ◌+◌, inl, inr, List, [], ◌∷◌, Bool, true, false, Option, Some, None, length, map, ap, sym, refl, ◌∙◌, subst}
-use Rattle.std.specs.Prelude.{filter, ◌==◌, ◌&&◌, ◌||◌, not, nat_lt}
-use Rattle.std.specs.List.{list_any, list_all, filter_map, AllByRecursion}
+use Rattle.std.proofs.Common.{◌≡◌, ℕ, List, Bool, true, false, Some, None, ap, sym, refl, ◌∙◌, subst}
+use Rattle.std.specs.Prelude.{filter, ◌==◌, ◌&&◌, ◌||◌, not}
+use Rattle.std.specs.List.{list_any, list_all}
 use Rattle.std.specs.Str.{bytes_eq}
 use Rattle.std.specs.Option.{option_map}
 use Rattle.std.proofs.lemmas.Bool.{and_parts, eq-eqb}
 use Rattle.ufs_base.specs.Images.{Image}
 use Rattle.ufs_layout.specs.Areas.{journal_sectors}
 use Rattle.ufs_layout.specs.Records.{is_record}
-use Rattle.ufs_layout.specs.JournalHead.{is_header, header_fields}
+use Rattle.ufs_layout.specs.JournalHead.{is_header}
 use Rattle.ufs_layout.specs.JournalSector.{SectorContent, HasRecords, HasCommit, JournalSector, journal_of, journal_fields, journal_bytes, is_journal_sector, is_content, head_in}
 use Rattle.ufs_layout.specs.declared.geometry.Geometry.{Geometry}
 use Rattle.ufs_layout.specs.declared.superblock.Super.{Super}
 use Rattle.ufs_layout.specs.declared.records.LogRecord.{LogRecord}
 use Rattle.ufs_layout.proofs.Spelled.{some_if-some}
 use Rattle.ufs_image.specs.Fold.{is_in_range}
-use Rattle.ufs_image.specs.Journal.{ReadSector, FoundSector, Transaction, epoch_in, sectors_of_epoch, well_spelled, records_in, transactions}
+use Rattle.ufs_image.specs.Journal.{ReadSector, FoundSector, epoch_in, sectors_of_epoch, well_spelled, records_in, transactions}
 use Rattle.ufs_image.specs.BadSectors.{is_misspelled, is_off, is_repeated, lacks_records, is_behind_commit, is_old, shares_number, leaves_range, overkept, bad_sector}
 use Rattle.ufs_image.proofs.Lists.{IsIn, from_filter, from_map, from_filter_map}
 use Rattle.ufs_image.proofs.Found.{option_map-some}

@@ -2,16 +2,14 @@
 use Rattle.std.proofs.Common.{◌≡◌, ◌≢◌, ℕ, zero, suc, ◌+◌, ◌*◌, ◌<◌, ◌≤◌, inl, inr, List, [], ◌∷◌, Bool, true, false, Option, Some, None, map, ap, sym, refl, ◌∙◌, subst, arith}
 use Rattle.std.specs.Prelude.{filter, ◌==◌, ◌&&◌, not, nat_lt, nat_le, if◌then◌else◌, IsTrue}
 use Rattle.std.specs.List.{range_with_len, filter_map, cons_option, list_any, AllByRecursion}
-use Rattle.std.specs.Option.{option_map}
 use Rattle.std.proofs.lemmas.Bool.{lt-ltb, eq-eqb, ne_eqb}
 use Rattle.std.proofs.lemmas.Bool.Decides.{nat_tests}
 use Rattle.ufs_base.specs.Images.{Image}
 use Rattle.ufs_layout.specs.Words.{placed_by, rising_by}
-use Rattle.ufs_layout.specs.Areas.{journal_sectors, first_of_journal}
-use Rattle.ufs_layout.specs.JournalSector.{SectorContent, HasRecords, HasCommit, JournalSector, journal_of}
+use Rattle.ufs_layout.specs.Areas.{first_of_journal}
+use Rattle.ufs_layout.specs.JournalSector.{JournalSector, journal_of}
 use Rattle.ufs_layout.specs.declared.geometry.Geometry.{Geometry}
 use Rattle.ufs_layout.specs.declared.superblock.Super.{Super}
-use Rattle.ufs_layout.specs.declared.records.Committed.{Committed}
 use Rattle.ufs_image.specs.Journal.{ReadSector, FoundSector, Transaction, epoch_in, sectors_of_epoch, well_spelled, commit_in, records_before, transaction_of, transactions, committed_of, committed}
 use Rattle.ufs_image.specs.BadSectors.{is_another, is_old, shares_number, bad_sector}
 use Rattle.ufs_image.proofs.Lists.{IsIn, from_filter_map}

@@ -3,7 +3,6 @@ use Rattle.std.specs.Prelude.{flat_map}
 use Rattle.std.specs.List.{range_with_len}
 use Rattle.std.proofs.lemmas.List.{append-nil}
 use Rattle.ufs_base.specs.Images.{Image}
-use Rattle.ufs_disk.specs.Moments.{reads}
 use Rattle.ufs_catalog.specs.Folded.{IsFolded}
 use Rattle.ufs_image.specs.Images.{block_at}
 use Rattle.ufs_catalog.proofs.Quiet.{read_more, read_none}

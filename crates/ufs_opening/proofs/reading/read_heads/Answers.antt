@@ -2,7 +2,6 @@ use Rattle.std.proofs.Common.{◌≡◌, [], ◌∷◌, ◌++◌, take, get_or, 
 use Rattle.std.proofs.lemmas.List.{map_more, map-append}
 use Rattle.std.proofs.lemmas.Result.{err_from_is_err_and}
 use Rattle.ufs_base.specs.Images.{Image}
-use Rattle.ufs_disk.specs.Moments.{reads}
 use Rattle.ufs_image.specs.Opens as opens
 use Rattle.ufs_catalog.specs.Folded.{IsFolded}
 use Rattle.ufs_walk.specs.Walked.{Place, entry_of, pairs_of}

@@ -1,11 +1,11 @@
-use Rattle.std.proofs.Common.{◌≡◌, ◌<◌, ℕ, List, Option, true, length, map, ap, sym, ◌∙◌, subst, arith}
+use Rattle.std.proofs.Common.{◌≡◌, ◌<◌, ℕ, List, Option, length, map, ap, sym, ◌∙◌, subst, arith}
 use Rattle.std.specs.Prelude.{nat_le, nat_lt, ◌*◌}
 use Rattle.std.proofs.lemmas.Bool.{and_parts, ltb-true}
 use Rattle.std.proofs.lemmas.Result.{err_from_is_err_and}
 use Rattle.ufs_base.specs.Images.{Image}
 use Rattle.ufs_disk.specs.Moments.{reads}
 use Rattle.ufs_disk.proofs.Images.{seen_is_image}
-use Rattle.ufs_layout.specs.Areas.{first_of_data, is_data_sector, sector_count}
+use Rattle.ufs_layout.specs.Areas.{first_of_data, sector_count}
 use Rattle.ufs_layout.specs.InodeForm.{InodeForm}
 use Rattle.ufs_image.specs.Catalog.{catalog_at}
 use Rattle.ufs_image.specs.Sound.{IsSoundCatalog}

@@ -1,4 +1,3 @@
-use Rattle.std.proofs.Common.{◌≡◌}
 use Rattle.ufs_disk.specs.Moments.{reads}
 use Rattle.ufs_opening.proofs.Trees.{is_tree, whole_rising}
 use Rattle.ufs_opening.proofs.tree.tree_of.Goals as goal
