@@ -1,5 +1,5 @@
 -- What commands leave, by the command that the words are.
-use Rattle.std.proofs.Common.{◌≡◌, ℕ, List, Option, ap, sym, subst, refl}
+use Rattle.std.proofs.Common.{◌≡◌, ℕ, List, Option, sym, subst, refl}
 use Rattle.std.specs.Prelude.{◌≢◌}
 use Rattle.ufs_quiet.specs.declared.words.Command.{Command}
 use Rattle.ufs_quiet.specs.Seen.{Course}

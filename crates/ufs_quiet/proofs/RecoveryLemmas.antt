@@ -1,5 +1,5 @@
 -- What the endings of `recover` tell.
-use Rattle.std.proofs.Common.{◌≡◌, ◌⊎◌, inl, inr, ℕ, List, Ok, Err, ap, sym, subst, refl, ◌∙◌, arith, length}
+use Rattle.std.proofs.Common.{◌≡◌, ◌⊎◌, inl, inr, ℕ, List, Ok, Err, ap, sym, subst, refl, ◌∙◌}
 use Rattle.std.specs.Prelude.{IsTrue}
 use Rattle.std.specs.Io.KnownBytes.{Appends}
 use Rattle.ufs_image.specs.Opens.{ImageTree, opens}
@@ -10,11 +10,9 @@ use Rattle.ufs_catalog.specs.Faults.{HasFaultCause, IsOutside}
 use Rattle.ufs_catalog.specs.declared.fault.RecoverFault.{RecoverFault}
 use Rattle.ufs_catalog.specs.declared.fault.RecoverFault.TheVariants as recover
 use Rattle.ufs_opening.specs.Told.{TellsWhy}
-use Rattle.ufs_recovery.specs.Recovered.{log_of}
 use Rattle.ufs_quiet.specs.declared.ending.Ending.{Ending}
 use Rattle.ufs_quiet.specs.declared.ending.Ending.TheVariants.{Done, Usage, BadGeometry, NotBuilt, BadScript, TooSmall, NoTree, DeviceFault, OutOfMemory, SourceFault, Damaged}
 use Rattle.ufs_quiet.specs.Texts.{device_line, recovered_line}
-use Rattle.ufs_quiet.specs.TreeLines.{refusal_line}
 use Rattle.ufs_quiet.specs.Seen.{Writing, Formatting}
 use Rattle.ufs_quiet.specs.Endings.{EndsRecovery, HasCommitted, IsImproper, TellsNoTree, IsAnswer, status_of, sink_status, ending_of, line_of}
 use Rattle.ufs_quiet.specs.Told.{TellsRecovery}

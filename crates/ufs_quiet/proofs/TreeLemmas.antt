@@ -1,8 +1,7 @@
 -- What the endings of `tree` tell.
-use Rattle.std.proofs.Common.{◌≡◌, ◌⊎◌, inl, inr, ℕ, List, Option, Some, Ok, Err, ap, sym, subst, refl, ◌∙◌, arith}
+use Rattle.std.proofs.Common.{◌≡◌, ◌⊎◌, inl, inr, ℕ, List, Ok, Err, ap, sym, subst, refl, ◌∙◌}
 use Rattle.std.specs.Prelude.{IsTrue}
 use Rattle.std.specs.Io.KnownBytes.{Appends}
-use Rattle.ufs_base.specs.Faults.{raised}
 use Rattle.ufs_image.specs.Opens.{ImageTree, opens}
 use Rattle.ufs_image.specs.Volume.{Refusal}
 use Rattle.ufs_image.specs.Volume as image

@@ -1,5 +1,5 @@
 -- The lines of what is damaged in an image.
-use Rattle.std.specs.Prelude.{ℕ, List, [], ◌∷◌, ◌++◌, flat_map, codes}
+use Rattle.std.specs.Prelude.{ℕ, List, ◌∷◌, ◌++◌, flat_map, codes}
 use Rattle.std.specs.Fmt.{decimal}
 use Rattle.ufs_image.specs.Damage.{Damage, BadInode, BadExtent, SharedBlock, ShortExtents, BadDentry, FreeInode, NameTwice, TwoNames, BitmapDiffers}
 use Rattle.ufs_quiet.specs.Texts.{line}

@@ -1,5 +1,5 @@
 -- What a command does to a disk and to a source.
-use Rattle.std.specs.Prelude.{ℕ, ◌≡◌, ◌≢◌, ◌<◌, List, Bool, false, Option, Some, None, Err, IsTrue}
+use Rattle.std.specs.Prelude.{ℕ, ◌≡◌, ◌≢◌, ◌<◌, Bool, false, Option, Some, None, Err, IsTrue}
 use Rattle.ufs_catalog.specs.Reading.{IsReadOnly}
 use Rattle.ufs_disk.specs.Moments.{Moments, LeavesOnly, reads}
 use Rattle.ufs_image.specs.Opens.{opens}

@@ -19,12 +19,11 @@ pub const FILES: &str =
 // The files' blocks aren't marked in the bitmap.
 const UNMARKED: &str = "damage BitmapDiffers 14\ndamage BitmapDiffers 15\n";
 
-// The first sectors of the inode table, and of the first two blocks of the data area.
+// The first sector of the inode table.
 pub const INODES: u32 = 16;
 
-const ROOT_BLOCK: u32 = 112;
-
-const FILE_BLOCK: u32 = 120;
+// The first block of the data area.
+const DATA: u8 = 14;
 
 // A command without words behind it, in calm.
 pub fn calm(words: &'static [&'static str], status: u8, text: &'static str) -> Call<'static> {
@@ -65,10 +64,12 @@ pub fn sector_of(bytes: &[(usize, u8)]) -> [u8; SECTOR] {
     sector
 }
 
-// A directory of one block, a file of 65 bytes and an empty one.
-const ROOT: [(usize, u8); 6] = [(0, 2), (1, 1), (2, 1), (9, 16), (64, 14), (68, 1)];
+// A directory of one block, a file of 65 bytes and an empty one. Which blocks they have stands in byte 64.
+const ROOT: [(usize, u8); 5] = [(0, 2), (1, 1), (2, 1), (9, 16), (68, 1)];
 
-const FILE: [(usize, u8); 6] = [(0, 1), (1, 1), (2, 1), (8, 65), (64, 15), (68, 1)];
+const FILE: [(usize, u8); 5] = [(0, 1), (1, 1), (2, 1), (8, 65), (68, 1)];
+
+const BLOCK: usize = 64;
 
 pub const EMPTY: [(usize, u8); 2] = [(0, 1), (2, 1)];
 
@@ -84,12 +85,17 @@ const NAMES: [(usize, u8); 8] = [
     (70, 101),
 ];
 
-pub fn put_files<R: Abort>(rt: &R, disk: &mut PlainDisk) {
-    put_sector(rt, disk, INODES, &sector_of(&ROOT));
-    put_sector(rt, disk, INODES + 1, &sector_of(&FILE));
+// Puts them into a new image whose data area begins with this block.
+pub fn put_files<R: Abort>(rt: &R, disk: &mut PlainDisk, data: u8) {
+    let mut root = sector_of(&ROOT);
+    root[BLOCK] = data;
+    let mut file = sector_of(&FILE);
+    file[BLOCK] = data.saturating_add(1);
+    put_sector(rt, disk, INODES, &root);
+    put_sector(rt, disk, INODES + 1, &file);
     put_sector(rt, disk, INODES + 2, &sector_of(&EMPTY));
-    put_sector(rt, disk, ROOT_BLOCK, &sector_of(&NAMES));
-    put_sector(rt, disk, FILE_BLOCK, &[97; SECTOR]);
+    put_sector(rt, disk, 8 * u32::from(data), &sector_of(&NAMES));
+    put_sector(rt, disk, 8 * u32::from(data) + 8, &[97; SECTOR]);
 }
 
 #[test]
@@ -106,7 +112,7 @@ fn a_new_image_has_the_root_alone(rt: HostRuntime) -> Result<(), Fail> {
 fn files_are_shown(rt: HostRuntime) -> Result<(), Fail> {
     let disk = PlainDisk::zeros(rt.alloc(), 2_048)?;
     let mut disk = check_over(&rt, &making(), disk)?;
-    put_files(&rt, &mut disk);
+    put_files(&rt, &mut disk, DATA);
     let disk = check_over(&rt, &tree(0, FILES), disk)?;
     check_over(&rt, &check(8, UNMARKED), disk)?;
     Ok(())

@@ -1,11 +1,11 @@
-use Rattle.std.proofs.Common.{◌≡◌, Option, Some, None, sym, subst, refl, ap}
+use Rattle.std.proofs.Common.{◌≡◌, Option, Some, sym, subst, ap}
 use Rattle.ufs_layout.specs.declared.geometry.Geometry.{Geometry}
 use Rattle.ufs_quiet.specs.declared.words.Command.{Command}
 use Rattle.ufs_quiet.specs.declared.words.Command.TheVariants as command
 use Rattle.ufs_quiet.specs.Commands.{asked, mkfs_command}
 use Rattle.ufs_quiet.specs.Seen.{reading, writing, formatting, course}
 use Rattle.ufs_quiet.specs.Endings.{Ends, IsAnswer}
-use Rattle.ufs_quiet.proofs.LeftLemmas.{disk_left, source_left}
+use Rattle.ufs_quiet.proofs.LeftLemmas.{disk_left}
 use Rattle.ufs_quiet.proofs.top.answer.Goals as goal
 
 pub returns-in-Some-Mkfs-clause-answer : goal.returns-in-Some-Mkfs-clause-answer

@@ -1,4 +1,4 @@
-use Rattle.std.proofs.Common.{◌≡◌, List, ℕ, ap, sym, ◌∙◌, subst}
+use Rattle.std.proofs.Common.{◌≡◌, List, ℕ, ap, ◌∙◌, subst}
 use Rattle.ufs_quiet.specs.TreeLines.{head_lines, tree_lines}
 use Rattle.ufs_quiet.specs.Seen.{formatting, writing}
 use Rattle.ufs_quiet.specs.Endings.{EndsPrinting, EndsTree, ending_of, line_of}
