@@ -86,7 +86,9 @@ fn stopped<R: Abort + AllocGlobal>(
     pick: u64,
 ) -> Result<(u8, Vec<u8>), Fail> {
     let alloc = rt.alloc();
-    let disk = FuseDisk::new(alloc, SECTORS, image.to_vec(alloc)?, Fuse { passes })?;
+    let bytes = image.to_vec(alloc)?;
+    assert!(rt; bytes.len() == 512 * SECTORS as usize);
+    let disk = FuseDisk::new(alloc, SECTORS, bytes, Fuse { passes })?;
     let words = words(alloc, &["recover"])?;
     let mut source = PlainSource::new(Vec::new(alloc));
     let mut sink = MemorySink::new(alloc, Vec::new(alloc));
@@ -108,6 +110,7 @@ fn check_stop<R: Abort + AllocGlobal>(
     pick: u64,
 ) -> Result<u8, Fail> {
     let (status, left) = stopped(rt, image, passes, pick)?;
+    assert!(rt; left.len() == 512 * SECTORS as usize);
     let disk = PlainDisk::new(SECTORS, left);
     let disk = check_over(rt, &tree(0, FILES), disk)?;
     let disk = check_over(rt, &recover(0, RECOVERED), disk)?;
