@@ -1,0 +1,60 @@
+#!/usr/bin/env python3
+"""Makes the scripts of examples/ rows of a test: each is played, and must print what stands beside it.
+
+    python3 tools/examples.py            writes crates/ufs_quiet_tests/src/examples.rt
+    python3 tools/examples.py --check    ends with status 1 if that file is behind
+"""
+import pathlib
+import sys
+
+TOP = pathlib.Path(__file__).resolve().parent.parent
+FILE = TOP / "crates/ufs_quiet_tests/src/examples.rt"
+HEAD = """\
+// The scripts of `examples/`, each with its status and what it prints. `tools/examples.py` writes this file.
+use crate::calls::check_play;
+use std::test::Fail;
+
+const EXAMPLES: [(&str, u8, &str); {count}] = [
+"""
+TAIL = """\
+];
+
+#[test]
+fn the_examples_print_what_stands_beside_them(rt: HostRuntime) -> Result<(), Fail> {
+    for (script, status, text) in &EXAMPLES {
+        check_play(&rt, script, *status, text)?;
+    }
+    Ok(())
+}
+"""
+
+
+def literal(text):
+    """The text as a string literal on one line."""
+    for old, new in (("\\", "\\\\"), ('"', '\\"'), ("\n", "\\n"), ("\t", "\\t"), ("\r", "\\r")):
+        text = text.replace(old, new)
+    return f'"{text}"'
+
+
+def row(script):
+    """A script with its status, which is 2 where its text is refused, and what it prints."""
+    printed = script.with_suffix(".out").read_text()
+    status = 2 if printed.startswith("ufs: line ") else 0
+    parts = (literal(script.read_text()), str(status), literal(printed))
+    return "    (\n" + "".join(f"        {part},\n" for part in parts) + "    ),\n"
+
+
+def main():
+    scripts = sorted((TOP / "examples").glob("*.ufs"))
+    text = HEAD.replace("{count}", str(len(scripts))) + "".join(map(row, scripts)) + TAIL
+    if sys.argv[1:] == ["--check"]:
+        if not FILE.exists() or FILE.read_text() != text:
+            print(f"{FILE.relative_to(TOP)} is behind examples/: run python3 tools/examples.py")
+            return 1
+        return 0
+    FILE.write_text(text)
+    return 0
+
+
+if __name__ == "__main__":
+    sys.exit(main())
