@@ -14,7 +14,8 @@ use Rattle.ufs_owner.specs.Owners.{Files, standing_at, owner_at, nothing_known, 
 use Rattle.ufs_owner.specs.Records.{Kept}
 use Rattle.ufs_owner.specs.Counted.{AreKept}
 use Rattle.ufs_owner.proofs.PlaceLemmas.{ties_back, same_files}
-use Rattle.ufs_owner.proofs.CountLemmas.{count-insert, count-replace, count-remove, count-le, put_out}
+use Rattle.ufs_counts.proofs.CountLemmas.{values-insert, values-replace, values-remove}
+use Rattle.ufs_owner.proofs.CountLemmas.{count-le, put_out}
 
 abbrev pub out_one : Owner → ℕ
 out_one owner = cond (not (is_primary owner)) 1 0
@@ -59,12 +60,12 @@ module _ (k : Kept) (spare out : ℕ) (workers : List ℕ) (kept : AreKept k spa
 
   pub out_some : (file : ℕ) (old : Standing) → map.get k.files file ≡ Some old → out_one old.owner ≤ out
   out_some file old there =
-      let removed = count-remove nat_cmp (λ (s : Standing). not (is_primary s.owner)) nat_cmp_total nat_cmp-IsAntisymmetric k.files file old there in
+      let removed = values-remove nat_cmp (λ (s : Standing). not (is_primary s.owner)) nat_cmp_total nat_cmp-IsAntisymmetric k.files file old there in
       omega (arith, removed, kept.out_is)
 
   pub with_some : (file : ℕ) (old : Standing) → map.get k.files file ≡ Some old → (worker : ℕ) → worker < 256 → with_one worker old.owner ≤ slice_index workers worker
   with_some file old there worker low =
-      let removed = count-remove nat_cmp (λ (s : Standing). is_with worker s.owner) nat_cmp_total nat_cmp-IsAntisymmetric k.files file old there in
+      let removed = values-remove nat_cmp (λ (s : Standing). is_with worker s.owner) nat_cmp_total nat_cmp-IsAntisymmetric k.files file old there in
       omega (arith, removed, kept.workers_are worker low)
 
   pub AreKept-same : (k' : Kept) → k'.files ≡ k.files → spare ≤ k'.room → AreKept k' spare out workers
@@ -90,9 +91,9 @@ module _ (k : Kept) (spare out : ℕ) (workers : List ℕ) (kept : AreKept k spa
       pub AreKept-new : map.get k.files file ≡ None → out' ≡ out + out_one s.owner → ((w : ℕ) → w < 256 → slice_index workers' w ≡ slice_index workers w + with_one w s.owner) → AreKept k' spare' out' workers'
       AreKept-new none outs withs = record {
         known = known_more;
-        out_is = outs ∙ ap (λ n. n + out_one s.owner) kept.out_is ∙ sym (ap count_out is ∙ count-insert nat_cmp (λ (s : Standing). not (is_primary s.owner)) nat_cmp_total k.files file s none);
+        out_is = outs ∙ ap (λ n. n + out_one s.owner) kept.out_is ∙ sym (ap count_out is ∙ values-insert nat_cmp (λ (s : Standing). not (is_primary s.owner)) nat_cmp_total k.files file s none);
         length_is = long;
-        workers_are = λ w low. withs w low ∙ ap (λ n. n + with_one w s.owner) (kept.workers_are w low) ∙ sym (ap (count_with w) is ∙ count-insert nat_cmp (λ (s : Standing). is_with w s.owner) nat_cmp_total k.files file s none);
+        workers_are = λ w low. withs w low ∙ ap (λ n. n + with_one w s.owner) (kept.workers_are w low) ∙ sym (ap (count_with w) is ∙ values-insert nat_cmp (λ (s : Standing). is_with w s.owner) nat_cmp_total k.files file s none);
         room = room;
         in_range = range;
       }
@@ -101,9 +102,9 @@ module _ (k : Kept) (spare out : ℕ) (workers : List ℕ) (kept : AreKept k spa
       pub AreKept-change : (old : Standing) → map.get k.files file ≡ Some old → out' + out_one old.owner ≡ out + out_one s.owner → ((w : ℕ) → w < 256 → slice_index workers' w + with_one w old.owner ≡ slice_index workers w + with_one w s.owner) → AreKept k' spare' out' workers'
       AreKept-change old there outs withs = record {
         known = known_more;
-        out_is = let replaced = count-replace nat_cmp (λ (s : Standing). not (is_primary s.owner)) nat_cmp_total nat_cmp-IsAntisymmetric k.files file old s there in let at = ap count_out is in omega (arith, replaced, at, outs, kept.out_is);
+        out_is = let replaced = values-replace nat_cmp (λ (s : Standing). not (is_primary s.owner)) nat_cmp_total nat_cmp-IsAntisymmetric k.files file old s there in let at = ap count_out is in omega (arith, replaced, at, outs, kept.out_is);
         length_is = long;
-        workers_are = λ w low. let replaced = count-replace nat_cmp (λ (s : Standing). is_with w s.owner) nat_cmp_total nat_cmp-IsAntisymmetric k.files file old s there in let at = ap (count_with w) is in omega (arith, replaced, at, withs w low, kept.workers_are w low);
+        workers_are = λ w low. let replaced = values-replace nat_cmp (λ (s : Standing). is_with w s.owner) nat_cmp_total nat_cmp-IsAntisymmetric k.files file old s there in let at = ap (count_with w) is in omega (arith, replaced, at, withs w low, kept.workers_are w low);
         room = room;
         in_range = range;
       }
@@ -112,9 +113,9 @@ module _ (k : Kept) (spare out : ℕ) (workers : List ℕ) (kept : AreKept k spa
     pub AreKept-gone : k'.files ≡ map.remove k.files file → (old : Standing) → map.get k.files file ≡ Some old → out' + out_one old.owner ≡ out → ((w : ℕ) → w < 256 → slice_index workers' w + with_one w old.owner ≡ slice_index workers w) → AreKept k' spare' out' workers'
     AreKept-gone is old there outs withs = record {
       known = λ f t e. by f t (eqb file f) (sym (ap (λ m. map.get m f) is ∙ get-remove nat_cmp_total k.files file f ∙ ap (λ b. cond b None (map.get k.files f)) (ties_back f file)) ∙ e);
-      out_is = let removed = count-remove nat_cmp (λ (s : Standing). not (is_primary s.owner)) nat_cmp_total nat_cmp-IsAntisymmetric k.files file old there in let at = ap count_out is in omega (arith, removed, at, outs, kept.out_is);
+      out_is = let removed = values-remove nat_cmp (λ (s : Standing). not (is_primary s.owner)) nat_cmp_total nat_cmp-IsAntisymmetric k.files file old there in let at = ap count_out is in omega (arith, removed, at, outs, kept.out_is);
       length_is = long;
-      workers_are = λ w low. let removed = count-remove nat_cmp (λ (s : Standing). is_with w s.owner) nat_cmp_total nat_cmp-IsAntisymmetric k.files file old there in let at = ap (count_with w) is in omega (arith, removed, at, withs w low, kept.workers_are w low);
+      workers_are = λ w low. let removed = values-remove nat_cmp (λ (s : Standing). is_with w s.owner) nat_cmp_total nat_cmp-IsAntisymmetric k.files file old there in let at = ap (count_with w) is in omega (arith, removed, at, withs w low, kept.workers_are w low);
       room = room;
       in_range = range;
     }
@@ -193,7 +194,7 @@ standing_after files files' file s is =
   where
     by : (t : Bool) → cond t (map.insert (map.insert files file s) file s) (map.remove (map.insert files file s) file) ≡ cond t (map.insert files file s) (map.remove files file)
     by true = put_again (map.insert files file s) file s (get-insert nat_cmp_total files file s file ∙ ap (λ t. cond t (Some s) (map.get files file)) (ties_back file file ∙ eq-eqb file file refl))
-    by false = put_out nat_cmp (λ (s : Standing). true) nat_cmp_total nat_cmp-IsAntisymmetric files file s
+    by false = put_out nat_cmp_total nat_cmp-IsAntisymmetric files file s
 
 -- a file whose record was put has one
 pub known_put : (files files' : Files) (file : ℕ) (s : Standing) → files' ≡ map.insert files file s → IsSome (map.get files' file)

@@ -11,7 +11,7 @@ use Rattle.ufs_owner.specs.declared.owner.Owner.TheVariants.{Primary, Worker, Co
 use Rattle.ufs_owner.specs.declared.owner.Standing.{Standing}
 use Rattle.ufs_owner.specs.Owners.{Files, nothing_known, standing_at, owner_at, note_at, waiting_at, is_primary, is_coming, is_known, has_none, with_standing, with_owner, with_waiting, count_out}
 use Rattle.ufs_owner.proofs.PlaceLemmas.{ties_back}
-use Rattle.ufs_owner.proofs.CountLemmas.{count-remove}
+use Rattle.ufs_counts.proofs.CountLemmas.{values-remove}
 
 -- what a look-up finds in either form of the map
 found : (files : Files) (file other : ℕ) (s : Standing) (t : Bool) → standing_at (cond t (map.insert files file s) (map.remove files file)) other ≡ cond (eqb file other) (cond t s nothing_known) (standing_at files other)
@@ -92,4 +92,4 @@ none_out files file none = by (map.get files file) refl
 
     by : (o : Option Standing) → map.get files file ≡ o → (unwrap_or o nothing_known).owner ≡ Primary
     by None e = refl
-    by (Some s) e = here s.owner (let removed = count-remove nat_cmp (λ (s : Standing). not (is_primary s.owner)) nat_cmp_total nat_cmp-IsAntisymmetric files file s e in omega (arith, removed, none))
+    by (Some s) e = here s.owner (let removed = values-remove nat_cmp (λ (s : Standing). not (is_primary s.owner)) nat_cmp_total nat_cmp-IsAntisymmetric files file s e in omega (arith, removed, none))

@@ -21,7 +21,7 @@ use Rattle.ufs_model.specs.declared.data.Node.{Node}
 use Rattle.ufs_tree.specs.Counted.{CountsByFile, CountsByDir, count_at, file_count, dir_count, IsCountedByPath}
 use Rattle.ufs_model.proofs.Facts.Orders.{path_total, path_same}
 use Rattle.ufs_model.proofs.Facts.Rising.{entries-empty}
-use Rattle.ufs_tree.proofs.CountLemmas.{any-count, count-insert, count-remove, count-replace, count-values, count-keys}
+use Rattle.ufs_counts.proofs.CountLemmas.{any-count, count-insert, count-remove, count-replace, count-values, count-keys}
 
 abbrev links_of : Paths → ℕ → ℕ
 links_of paths f = count_by (is_node_of f) (map.values paths)

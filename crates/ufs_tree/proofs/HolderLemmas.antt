@@ -23,7 +23,7 @@ use Rattle.ufs_model.proofs.Facts.Lookups.{tied}
 use Rattle.ufs_model.proofs.Facts.Orders.{fd_total, fd_same, path_total}
 use Rattle.ufs_model.proofs.Facts.Pieces.{same_bytes}
 use Rattle.ufs_model.proofs.Facts.Rising.{entries-empty}
-use Rattle.ufs_tree.proofs.CountLemmas.{one_if, any-count, count-insert, count-remove, count-replace, count-values}
+use Rattle.ufs_counts.proofs.CountLemmas.{one_if, any-count, count-insert, count-remove, count-replace, count-values}
 
 -- two numbers tie where they are equal
 pub number_ties : (a b : ℕ) → eq_by_cmp nat_cmp a b ≡ eqb b a

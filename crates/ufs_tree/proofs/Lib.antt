@@ -1,6 +1,5 @@
 pub mod ListLemmas
 pub mod FdLemmas
-pub mod CountLemmas
 pub mod HolderLemmas
 pub mod PathLemmas
 pub mod CountedLemmas

@@ -6,7 +6,7 @@ use Rattle.std.specs.List.{count_by, list_any}
 use Rattle.std.specs.Ordering.{is_eq, eq_by_cmp}
 use Rattle.std.specs.Cmp.{IsTotalOrder}
 use Rattle.std.specs.Map.{keys_of, values_of}
-use Rattle.std.specs.FinMap.{FinMap, IsAntisymmetric, get, insert, remove, find, put, entries, entries-insert, get-entries, get-insert, get-remove, get_tied, same_map}
+use Rattle.std.specs.FinMap.{FinMap, IsAntisymmetric, get, insert, remove, find, put, entries, values, entries-insert, get-entries, get-insert, get-remove, get_tied, same_map}
 use Rattle.std.specs.FinMap.Entries.{by_order}
 use Rattle.std.proofs.lemmas.List.Sums.{sum_by-cons}
 use Rattle.std.proofs.lemmas.Bool.{lt-ltb}
@@ -17,7 +17,7 @@ module _ {X : Type 0} (p : X → Bool) where
   abbrev pub one_if : X → ℕ
   one_if v = cond (p v) 1 0
 
-  count-cons : (v : X) (vs : List X) → count_by p (v ∷ vs) ≡ one_if v + count_by p vs
+  pub count-cons : (v : X) (vs : List X) → count_by p (v ∷ vs) ≡ one_if v + count_by p vs
   count-cons v vs = sum_by-cons (λ x. cond (p x) 1 0) v vs
 
   above_none : (n : ℕ) → ltb 0 (1 + n) ≡ true
@@ -84,3 +84,23 @@ module _ {K X : Type 0} where
   pub count-keys : (p : K → Bool) (es : List (K × X)) → count_by p (keys_of es) ≡ count_by (λ (e : K × X). p e.0) es
   count-keys p [] = refl
   count-keys p (e ∷ es) = count-cons p e.0 (keys_of es) ∙ ap (λ n. one_if p e.0 + n) (count-keys p es) ∙ sym (count-cons (λ (e : K × X). p e.0) e es)
+
+-- ---- how the values of a map go on
+
+module _ {K X : Type 0} (R : K → K → Ordering) (p : X → Bool) where
+  abbrev of_value : K × X → Bool
+  of_value e = p e.1
+
+  count_values_of : (m : FinMap R X) → count_by p (values m) ≡ count_by of_value (entries m)
+  count_values_of m = count-values p (entries m)
+
+  module _ (o : IsTotalOrder R) where
+    pub values-insert : (m : FinMap R X) (k : K) (v : X) → get m k ≡ None → count_by p (values (insert m k v)) ≡ count_by p (values m) + one_if p v
+    values-insert m k v none = omega (arith, count_values_of (insert m k v), count-insert R of_value o m k v none, count_values_of m)
+
+    module _ (same : IsAntisymmetric R) where
+      pub values-remove : (m : FinMap R X) (k : K) (v : X) → get m k ≡ Some v → count_by p (values m) ≡ count_by p (values (remove m k)) + one_if p v
+      values-remove m k v there = omega (arith, count_values_of m, count-remove R of_value o same m k v there, count_values_of (remove m k))
+
+      pub values-replace : (m : FinMap R X) (k : K) (old v : X) → get m k ≡ Some old → count_by p (values (insert m k v)) + one_if p old ≡ count_by p (values m) + one_if p v
+      values-replace m k old v there = omega (arith, count_values_of (insert m k v), count-replace R of_value o same m k old v there, count_values_of m)
