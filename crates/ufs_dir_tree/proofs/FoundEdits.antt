@@ -1,11 +1,12 @@
 -- What stands at each path once a name is given or taken.
-use Rattle.std.proofs.Common.{◌≡◌, ◌≢◌, ℕ, ◌⊎◌, inl, inr, List, [], ◌∷◌, ◌++◌, Option, Some, None, IsSome, ap, sym, refl, ◌∙◌, subst}
+use Rattle.std.proofs.Common.{◌≡◌, ◌≢◌, ℕ, ◌-◌, length, get_or, arith, length-append, ◌⊎◌, inl, inr, List, [], ◌∷◌, ◌++◌, Option, Some, None, IsSome, ap, sym, refl, ◌∙◌, subst}
+use Rattle.std.proofs.Math.Seq.{get_or-append_seam}
 use Rattle.std.specs.Option.{option_map}
 use Rattle.std.proofs.lemmas.List.{append-nil}
 use Rattle.ufs_layout.specs.DentryForm.{DentryForm}
 use Rattle.ufs_dirs.specs.Directory.{Directory, entry_of}
 use Rattle.ufs_dir_tree.specs.DirTable.{DirTable, InodeSet, IsDirTable, slots_at, found_of, walk_from, found_at}
-use Rattle.ufs_dir_tree.specs.DirCalls.{IsBare, MayGo, SetsFound}
+use Rattle.ufs_dir_tree.specs.DirCalls.{last_name, IsBare, MayGo, SetsFound}
 use Rattle.ufs_dir_tree.specs.DirEdits.{SetsEntry, SameEntries, IsLoose, NothingFrom, ClearsName}
 use Rattle.ufs_dir_tree.specs.declared.found.Found.{Found}
 use Rattle.ufs_dir_tree.specs.declared.found.Found.TheVariants.{Dir, File}
@@ -26,6 +27,13 @@ some_after f None e = e
 pub none_before : {A B : Type 0} (f : A → B) (o : Option A) → option_map f o ≡ None → o ≡ None
 none_before f (Some x) e = cc
 none_before f None e = refl
+
+-- the last of a path's names
+pub last_is : (path above : List (List ℕ)) (x : List ℕ) → path ≡ above ++ x ∷ [] → last_name path ≡ x
+last_is path above x ends = ap last_name ends ∙ ap (λ (n : ℕ). get_or (above ++ x ∷ []) n []) (behind above) ∙ get_or-append_seam above x [] []
+  where
+    behind : (names : List (List ℕ)) → length (names ++ x ∷ []) - 1 ≡ length names
+    behind names = omega (arith, length-append names (x ∷ []))
 
 module _ (t : DirTable) where
   -- what stands at a name of a directory

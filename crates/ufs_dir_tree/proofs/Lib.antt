@@ -20,3 +20,7 @@ pub mod GotRoom
 pub mod GivesRoom
 pub mod DroppedEntries
 pub mod UnmetInodes
+pub mod StepLemmas
+pub mod PlaceLemmas
+pub mod MadeSteps
+pub mod GrownSteps

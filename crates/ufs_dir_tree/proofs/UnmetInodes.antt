@@ -1,5 +1,5 @@
 -- What lost its name is met by no walk.
-use Rattle.std.proofs.Common.{◌≡◌, ◌≢◌, ℕ, suc, ◌+◌, ◌⊎◌, inl, inr, List, [], ◌∷◌, ◌++◌, Some, None, length, ap, sym, refl, ◌∙◌, arith, length-append}
+use Rattle.std.proofs.Common.{◌≡◌, ◌≢◌, ℕ, ◌⊎◌, inl, inr, List, [], ◌∷◌, ◌++◌, Some, None, length, ap, sym, ◌∙◌, arith, length-append}
 use Rattle.std.proofs.lemmas.List.{append-nil}
 use Rattle.ufs_dir_tree.specs.DirTable.{DirTable, IsDirTable, inode_of, found_at}
 use Rattle.ufs_dir_tree.specs.DirCalls.{IsUnmet, SetsFound, MovesFounds, MayMove}

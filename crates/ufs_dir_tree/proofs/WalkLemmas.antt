@@ -1,13 +1,11 @@
 -- A walk through a table, name by name.
-use Rattle.std.proofs.Common.{◌≡◌, ℕ, zero, suc, ◌+◌, ◌≤◌, List, [], ◌∷◌, ◌++◌, take, Option, Some, None, ap, sym, refl, ◌∙◌, arith, add-one}
+use Rattle.std.proofs.Common.{◌≡◌, ℕ, ◌+◌, List, [], ◌∷◌, ◌++◌, take, Option, Some, None, ap, refl, ◌∙◌, add-one}
 use Rattle.std.proofs.Math.Seq.{take-suc}
 use Rattle.std.proofs.lemmas.Option.{get_or_from_slice_get, slice_get_within}
 use Rattle.std.specs.List.{slice_get}
-use Rattle.std.specs.Option.{option_map}
-use Rattle.ufs_dirs.specs.Directory.{entry_of}
-use Rattle.ufs_dir_tree.specs.DirTable.{DirTable, slots_at, step, walk_from, found_of, found_at}
+use Rattle.ufs_dir_tree.specs.DirTable.{DirTable, step, walk_from, found_at}
 use Rattle.ufs_dir_tree.specs.declared.found.Found.{Found}
-use Rattle.ufs_dir_tree.specs.declared.found.Found.TheVariants.{Dir, File}
+use Rattle.ufs_dir_tree.specs.declared.found.Found.TheVariants.{Dir}
 
 pub take_next : (names : List (List ℕ)) (i : ℕ) (name : List ℕ) → slice_get names i ≡ Some name → take (i + 1) names ≡ take i names ++ name ∷ []
 take_next names i name e =

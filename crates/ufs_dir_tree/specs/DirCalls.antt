@@ -1,11 +1,13 @@
 -- What the calls on a tree's directories answer, and what they change.
-use Rattle.std.specs.Prelude.{ℕ, ◌≡◌, ◌≢◌, ◌-◌, ◌%◌, ◌<◌, List, [], ◌∷◌, ◌++◌, Option, Some, None, IsSome, ⊤, length, take, true, false}
+use Rattle.std.specs.Prelude.{ℕ, ◌≡◌, ◌≢◌, ◌-◌, ◌%◌, ◌<◌, List, [], ◌∷◌, ◌++◌, Option, Some, None, IsSome, ⊤, length, take, slice_index_or, true, false}
 use Rattle.std.specs.List.{list_all}
 use Rattle.std.specs.FinSet as set
 use Rattle.ufs_layout.specs.DentryForm.{DentryForm, is_named}
 use Rattle.ufs_base.specs.declared.sizes.TheConstants.{SLOTS_PER_BLOCK}
 use Rattle.ufs_dirs.specs.Directory.{Directory, entry_of, has_block}
+use Rattle.ufs_dirs.specs.Changes.{IsSlotOf, entry_in}
 use Rattle.ufs_dirs.specs.Names.{AreNamesIn}
+use Rattle.ufs_dirs.specs.declared.Slot.{Slot}
 use Rattle.ufs_bitmap.specs.Blocks.{BlockSet}
 use Rattle.ufs_base.specs.Choices.{first_of}
 use Rattle.ufs_model.specs.declared.data.Errno.{Errno}
@@ -26,6 +28,10 @@ Founds = List (List ℕ) → Option Found
 -- the names but the last
 abbrev pub names_above : List (List ℕ) → List (List ℕ)
 names_above names = take (length names - 1) names
+
+-- the last one
+abbrev pub last_name : List (List ℕ) → List ℕ
+last_name names = slice_index_or names (length names - 1) []
 
 -- ---- answers
 
@@ -60,6 +66,11 @@ abbrev pub found_as : Kind → ℕ → Found
 found_as kind.File i = File i
 found_as kind.Dir i = Dir i
 
+-- as a dentry has it
+abbrev pub code_of : Kind → ℕ
+code_of kind.File = 1
+code_of kind.Dir = 2
+
 -- At these names stands this now, and elsewhere what stood there.
 pub record SetsFound (old new : Founds) (names : List (List ℕ)) (w : Option Found) : Type 0 where
   pub this : new names ≡ w
@@ -80,6 +91,11 @@ pub record MayMove (t : DirTable) (from to : List (List ℕ)) : Type 0 where
   -- the new name isn't at or below the old one, and what stands there may go
   pub outside : (rest : List (List ℕ)) → to ≢ from ++ rest
   pub replaced : MayGo t to
+
+-- The name stands in this slot, and for what is in it.
+pub record StandsAt (d : Directory) (name : List ℕ) (slot : Slot) : Type 0 where
+  pub place : IsSlotOf d name slot
+  pub entry : entry_of d.slots name ≡ Some (entry_in d slot)
 
 -- ---- space
 

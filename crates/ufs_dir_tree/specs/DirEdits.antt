@@ -1,15 +1,17 @@
 -- One change of a tree's directories.
-use Rattle.std.specs.Prelude.{ℕ, ◌≡◌, ◌≢◌, ◌<◌, List, [], ◌∷◌, ◌++◌, length, Option, Some, None, slice_index_or, ⊤, false, true}
+use Rattle.std.specs.Prelude.{ℕ, ◌≡◌, ◌≢◌, ◌*◌, ◌<◌, List, [], ◌∷◌, ◌++◌, length, Option, Some, None, slice_index_or, ⊤, false, true}
 use Rattle.std.specs.FinSet as set
+use Rattle.ufs_base.specs.declared.sizes.TheConstants.{SLOTS_PER_BLOCK}
 use Rattle.ufs_layout.specs.DentryForm.{DentryForm}
 use Rattle.ufs_dirs.specs.Directory.{Directory, entry_of, has_block}
 use Rattle.ufs_dirs.specs.Changes.{SetsName}
+use Rattle.ufs_dirs.specs.declared.Slot.{Slot}
 use Rattle.ufs_bitmap.specs.Blocks.{BlockSet}
 use Rattle.ufs_model.specs.declared.data.Excuse.{Excuse}
 use Rattle.ufs_model.specs.declared.data.Excuse.TheVariants as excuse
 use Rattle.ufs_dir_tree.specs.Space.{extents_of}
 use Rattle.ufs_dir_tree.specs.DirTable.{DirTable, IsDirTable, IsUsed, no_dir, slots_at, inode_of, walk_from, found_at}
-use Rattle.ufs_dir_tree.specs.DirCalls.{HasRoom}
+use Rattle.ufs_dir_tree.specs.DirCalls.{HasRoom, StandsAt}
 use Rattle.ufs_dir_tree.specs.declared.found.Found.{Found}
 use Rattle.ufs_dir_tree.specs.declared.found.Found.TheVariants.{Dir}
 
@@ -20,6 +22,10 @@ dir_in dirs i = slice_index_or dirs i no_dir
 -- none of the blocks is in the pool
 abbrev pub HasNone : BlockSet → List ℕ → Type 0
 HasNone pool blocks = (b : ℕ) → has_block blocks b ≡ true → set.contains pool b ≡ false
+
+-- Its blocks have so many slots.
+abbrev pub IsSized : Directory → Type 0
+IsSized d = length d.slots ≡ SLOTS_PER_BLOCK * length d.blocks
 
 -- Each name stands for what it did.
 abbrev pub SameNames : Directory → Directory → Type 0
@@ -44,6 +50,10 @@ pub record SetsEntry (old new : List Directory) (dir : ℕ) (name : List ℕ) (w
   pub one : ChangesOne old new dir
   pub names : SetsName (dir_in old dir) (dir_in new dir) name w
   pub blocks : (dir_in new dir).blocks ≡ (dir_in old dir).blocks
+
+-- Each name that stands in a slot now stood there before.
+abbrev pub KeepsPlaces : List Directory → List Directory → Type 0
+KeepsPlaces old new = (i : ℕ) (name : List ℕ) (slot : Slot) → StandsAt (dir_in new i) name slot → StandsAt (dir_in old i) name slot
 
 -- ---- what is met
 

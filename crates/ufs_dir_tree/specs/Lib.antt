@@ -2,3 +2,4 @@ pub mod DirTable
 pub mod DirCalls
 pub mod DirEdits
 pub mod Space
+pub mod Steps

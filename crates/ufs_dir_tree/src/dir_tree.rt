@@ -49,7 +49,7 @@ impl Model for DirTree {
 impl DirTree {
     ghost use Rattle.std.specs.Prelude.{◌≢◌, ◌≤◌, ◌<◌, ◌+◌, ◌-◌, ◌↔◌, List, [], None, IsTrue};
     ghost use Rattle.std.specs.FinSet as set;
-    ghost use Rattle.ufs_dirs.specs.Directory.{entry_of};
+    ghost use Rattle.ufs_dirs.specs.Directory.{IsDirectory, entry_of};
     ghost use Rattle.ufs_extent.specs.Runs.{blocks_from};
     ghost use Rattle.ufs_dir_tree.specs.DirTable.{IsDirTable, dir_at, slots_at, blocks_at, found_at};
     ghost use Rattle.ufs_dir_tree.specs.DirCalls.{refusal_by, names_above, IsApart, IsBare};
@@ -84,8 +84,18 @@ impl DirTree {
 
     // ---- answers
 
+    /// The dentry of the name in the directory.
+    pub fn dentry(&self, dir: u32, name: &[u8]) -> Option<Dentry>
+        ensures { result ≡ entry_of (slots_at self.now dir) name.now }
+    {
+        match self.dirs.get(dir as usize) {
+            Some(directory) => directory.find(name),
+            None => None,
+        }
+    }
+
     /// What the name stands for in the directory.
-    pub(crate) fn entry(&self, dir: u32, name: &[u8]) -> Option<Found>
+    pub fn entry(&self, dir: u32, name: &[u8]) -> Option<Found>
         ensures { result ≡ option_map found_of (entry_of (slots_at self.now dir) name.now) }
     {
         let Some(directory) = self.dirs.get(dir as usize) else {
@@ -148,7 +158,8 @@ impl DirTree {
 
     /// The directory's blocks, in order.
     pub fn blocks(&self, dir: u32) -> &[u32]
-        ensures { result.now ≡ blocks_at self.now dir }
+        ensures blocks { result.now ≡ blocks_at self.now dir }
+        ensures whole { IsDirectory (dir_at self.now dir) }
     {
         match self.dirs.get(dir as usize) {
             Some(directory) => directory.blocks(),

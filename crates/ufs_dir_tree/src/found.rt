@@ -26,7 +26,7 @@ pub enum Kind {
 impl Kind {
     ghost use Rattle.std.specs.Prelude.{◌≡◌, ℕ, List};
     ghost use Rattle.ufs_dir_tree.specs.DirTable.{found_of};
-    ghost use Rattle.ufs_dir_tree.specs.DirCalls.{found_as};
+    ghost use Rattle.ufs_dir_tree.specs.DirCalls.{code_of, found_as};
 
     /// The inode with this kind.
     pub fn found(self, inode: u32) -> Found
@@ -40,7 +40,8 @@ impl Kind {
 
     /// As a dentry has it.
     pub(crate) fn code(self) -> u8
-        ensures { (i : ℕ) (name : List ℕ) → found_of (record { inode = i; kind = result; name = name }) ≡ found_as self i }
+        ensures code { result ≡ code_of self }
+        ensures found { (i : ℕ) (name : List ℕ) → found_of (record { inode = i; kind = result; name = name }) ≡ found_as self i }
     {
         match self {
             Kind::File => 1,

@@ -5,7 +5,9 @@ mod dir_edit;
 mod dir_entry;
 mod dir_tree;
 mod found;
+mod place;
 mod space;
 
 pub use dir_tree::DirTree;
 pub use found::{Found, Kind, Look};
+pub use place::{Added, Moved};

@@ -56,7 +56,7 @@ fn add(tree: &mut DirTree, pool: &mut Pool, alloc: Global, path: &[u8], kind: Ki
         return REFUSED;
     }
     match tree.add(met.dir, &path, kind, pool) {
-        Ok(inode) => inode,
+        Ok(added) => added.inode,
         Err(excuse) => number_of(excuse),
     }
 }

@@ -41,7 +41,7 @@ impl Model for DirBlocks {
 impl DirBlocks {
     ghost use Rattle.ufs_dirs.specs.Names.{AreNamesIn};
     ghost use Rattle.ufs_dirs.specs.Reading.{IsBlockFault, IsReadSoFar, IsSlotFault, ReadsSlot};
-    ghost use Rattle.ufs_dirs.specs.Changes.{IsFreeSlot, IsLastName, IsLowestFree, IsNextName, IsSlot, IsSlotOf, SetsName, bytes_of_block, place_of, with_entry};
+    ghost use Rattle.ufs_dirs.specs.Changes.{IsFreeSlot, IsLastName, IsLowestFree, IsNextName, IsSlot, IsSlotOf, SetsName, bytes_of_block, entry_in, place_of, with_entry};
 
     /// No block, and so no name.
     pub fn new(alloc: Global) -> DirBlocks
@@ -221,6 +221,7 @@ impl DirBlocks {
     pub fn remove(&mut self, name: &[u8]) -> Slot
         requires { IsSome (entry_of self.old.slots name.now) }
         ensures slot { IsSlotOf self.old name.now result }
+        ensures was { entry_of self.old.slots name.now ≡ Some (entry_in self.old result) }
         ensures freed { self.new ≡ with_entry self.old result free_slot }
         ensures names { SetsName self.old self.new name.now None }
     {

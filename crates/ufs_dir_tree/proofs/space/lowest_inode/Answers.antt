@@ -1,5 +1,4 @@
-use Rattle.std.proofs.Common.{ℕ, ◌≡◌, sym, ◌∙◌}
-use Rattle.ufs_bitmap.specs.Blocks.{BlockSet}
+use Rattle.std.proofs.Common.{◌≡◌, ◌∙◌}
 use Rattle.ufs_bitmap.specs.Space.{Space}
 use Rattle.ufs_dir_tree.proofs.SpaceLemmas.{back_again, taken_absent}
 use Rattle.ufs_dir_tree.proofs.space.lowest_inode.Goals as goal

@@ -1,7 +1,9 @@
-use Rattle.std.proofs.Common.{[], ap, sym, refl, subst, ◌∙◌, arith}
+use Rattle.std.proofs.Common.{[], ◌∷◌, ap, sym, refl, subst, ◌∙◌, arith}
 use Rattle.ufs_dir_tree.specs.DirTable.{DirTable, IsDirTable, IsUsed, found_at}
 use Rattle.ufs_dir_tree.specs.DirCalls.{IsApart, IsUnmet}
 use Rattle.ufs_dir_tree.specs.declared.found.Found.TheVariants.{Dir}
+use Rattle.ufs_dir_tree.specs.Steps.{Freed, GoesBy}
+use Rattle.ufs_dir_tree.proofs.MadeSteps.{freed_made}
 use Rattle.ufs_dir_tree.proofs.FreedInodes.{freed_met, freed_table, freed_apart}
 use Rattle.ufs_dir_tree.proofs.dir_tree.DirTree.free_inode.Goals as goal
 use Rattle.ufs_dir_tree.proofs.dir_tree.DirTree.free_inode.Goals.{After-give_inode}
@@ -38,3 +40,13 @@ returns-clause-apart c =
 
 pub returns-clause-table : goal.returns-clause-table
 returns-clause-table c = table c
+
+pub returns-clause-steps : goal.returns-clause-steps
+returns-clause-steps c =
+    let new : DirTable = record { dirs = c.clear_at.new.dirs.items; free = c.give_inode.new.free.free } in
+    let cleared = c.clear_at.ensures.cleared in
+    let inserted = c.give_inode.ensures.free in
+    subst (λ (t : DirTable). GoesBy t new c.args.pool.now c.clear_at.new.pool (Freed c.args.inode ∷ [])) c.self.view_is
+    (freed_made (before c) new c.args.inode c.args.pool.now c.clear_at.new.pool
+    (subst (λ (t : DirTable). IsUsed t c.args.inode) (sym c.self.view_is) c.requires.used) (subst (λ (t : DirTable). IsUnmet t c.args.inode) (sym c.self.view_is) c.requires.unmet)
+    (λ i. record { dirs = cleared i; free = inserted i }) c.clear_at.ensures.pool)

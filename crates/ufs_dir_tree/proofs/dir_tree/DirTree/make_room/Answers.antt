@@ -1,7 +1,10 @@
-use Rattle.std.proofs.Common.{sym, subst, ◌∙◌, arith}
+use Rattle.std.specs.Prelude.{IfOk}
+use Rattle.std.proofs.Common.{◌<◌, length, OnOk, sym, subst, ◌∙◌, arith}
 use Rattle.ufs_dir_tree.specs.DirTable.{DirTable, IsDirTable, IsUsed}
 use Rattle.ufs_dir_tree.specs.DirCalls.{IsApart}
-use Rattle.ufs_dir_tree.specs.DirEdits.{IsMet}
+use Rattle.ufs_dir_tree.specs.DirEdits.{IsMet, KeepsPlaces}
+use Rattle.ufs_dir_tree.specs.Steps.{GoesBy, growing}
+use Rattle.ufs_dir_tree.proofs.GrownSteps.{room_steps, room_places}
 use Rattle.ufs_dir_tree.specs.declared.found.Found.TheVariants.{Dir}
 use Rattle.ufs_dir_tree.proofs.GotRoom.{either_kept, either_apart}
 use Rattle.ufs_dir_tree.proofs.SameWalks.{rooms_table}
@@ -43,3 +46,22 @@ returns-clause-apart c =
 
 pub returns-clause-table : goal.returns-clause-table
 returns-clause-table c = table c
+
+there : (c : After-give_room_at) → c.args.dir < length c.self.inside.dirs.items
+there c =
+    let met = subst (λ (t : DirTable). IsMet t c.args.dir) (sym c.self.view_is) c.requires.met in
+    let used : IsUsed (before c) c.args.dir = c.self.invariant.0.met met.0 (Dir c.args.dir) met.1 in
+    used.within
+
+pub returns-clause-steps : goal.returns-clause-steps
+returns-clause-steps c =
+    let e = c.give_room_at.ensures in
+    let met = subst (λ (t : DirTable). IsMet t c.args.dir) (sym c.self.view_is) c.requires.met in
+    subst (λ (t : DirTable). IfOk c.give_room_at.result (λ g. GoesBy t (behind c) c.args.pool.now c.give_room_at.new.pool (growing c.args.dir g))) c.self.view_is
+    (room_steps c.self.inside.dirs.items c.give_room_at.new.dirs.items c.self.inside.free.free c.args.dir (there c) c.args.pool.now c.give_room_at.new.pool met e.few c.give_room_at.result e.kept e.pool_kept e.grown e.taken)
+
+pub returns-clause-places : goal.returns-clause-places
+returns-clause-places c =
+    let e = c.give_room_at.ensures in
+    subst (λ (t : DirTable). OnOk c.give_room_at.result (KeepsPlaces t.dirs c.give_room_at.new.dirs.items)) c.self.view_is
+    (room_places c.self.inside.dirs.items c.give_room_at.new.dirs.items c.self.inside.free.free c.args.dir (there c) e.same.one e.sized c.give_room_at.result e.kept e.grown)

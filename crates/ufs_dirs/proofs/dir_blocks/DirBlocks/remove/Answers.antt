@@ -1,12 +1,12 @@
-use Rattle.std.proofs.Common.{◌≡◌, ℕ, List, Bool, cond, get_or, set, ap, sym, refl, ◌∙◌, subst, arith, None, is_some, length-set}
+use Rattle.std.proofs.Common.{◌≡◌, ℕ, List, Bool, cond, get_or, set, ap, sym, refl, ◌∙◌, subst, arith, None, Some, is_some, length-set}
 use Rattle.ufs_layout.specs.DentryForm.{DentryForm, free_slot}
-use Rattle.ufs_dirs.specs.Directory.{Directory, entry_of}
+use Rattle.ufs_dirs.specs.Directory.{Directory, entry_at, entry_of}
 use Rattle.ufs_dirs.specs.Index.{IsKept}
 use Rattle.std.specs.List.{insert, remove}
 use Rattle.std.proofs.lemmas.Bool.{false≢true}
 use Rattle.std.proofs.lemmas.List.{get_or_default}
-use Rattle.ufs_dirs.specs.Changes.{SetsName}
-use Rattle.ufs_dirs.proofs.NameLemmas.{entry_of-gap}
+use Rattle.ufs_dirs.specs.Changes.{SetsName, entry_in, place_of}
+use Rattle.ufs_dirs.proofs.NameLemmas.{entry_of-gap, entry_of-rank}
 use Rattle.ufs_dirs.proofs.ClearedLemmas.{cleared_names}
 use Rattle.ufs_dirs.proofs.FreeLemmas.{above_along}
 use Rattle.ufs_dirs.proofs.KeptLemmas.{rank_along, gap_along, kept_cleared}
@@ -67,3 +67,15 @@ returns-clause-names c =
     let names = cleared_names slots order rank c.self.invariant.0.index found.in_range blocks name found.same in
     subst (λ (d : Directory). SetsName d (record { blocks = blocks; slots = set slots c.index-place.result.now c.free_dentry.result }) name None) c.self.view_is
     (subst (λ (s : List DentryForm). SetsName (record { blocks = blocks; slots = slots }) (record { blocks = blocks; slots = s }) name None) (sym cleared) names)
+
+pub returns-clause-was : goal.returns-clause-was
+returns-clause-was c =
+    let slots = c.self.inside.slots.items in
+    let order = c.self.inside.order.items in
+    let name = c.args.name.now in
+    let rank = c.in-Ok.rank in
+    let found = rank_along slots c.as_slice.result.now order c.as_slice-2.result.now name name rank c.as_slice.ensures.value c.as_slice-2.ensures.value refl c.in-Ok.ensures.found in
+    let at : c.index-place.result.now ≡ get_or order rank 0 = c.index-place.ensures ∙ get_or_default order rank c.index-place.result.now 0 found.in_range in
+    let place = ap (λ (d : Directory). place_of d.blocks c.slot_at-slot.result) c.self.view_is ∙ c.slot_at-slot.ensures.place ∙ at in
+    subst (λ (d : Directory). entry_of d.slots name ≡ Some (entry_in d c.slot_at-slot.result)) c.self.view_is
+    (entry_of-rank slots order c.self.invariant.0.index name rank found ∙ ap (λ (p : ℕ). Some (entry_at slots p)) (sym place))
