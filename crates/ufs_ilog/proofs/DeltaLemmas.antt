@@ -13,7 +13,7 @@ use Rattle.ufs_layout.specs.Records.{is_record}
 use Rattle.ufs_layout.specs.declared.records.LogRecord.TheVariants.{Delta}
 use Rattle.ufs_ilog.specs.Deltas.{extents_of}
 
-extents_form : (runs : List Run) → All IsRun runs → list_all is_extent (extents_of runs) ≡ true
+pub extents_form : (runs : List Run) → All IsRun runs → list_all is_extent (extents_of runs) ≡ true
 extents_form [] every = refl
 extents_form (r ∷ rs) every = λ i. le-leb 1 r.length (All-head IsRun r rs every).0 i && extents_form rs (All-tail IsRun r rs every) i
 

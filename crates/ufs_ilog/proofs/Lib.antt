@@ -1,2 +1,3 @@
 pub mod FillingLemmas
 pub mod DeltaLemmas
+pub mod OrderLemmas

@@ -1,5 +1,5 @@
 -- The order of the records in a change of names.
-use Rattle.std.specs.Prelude.{ℕ, ◌+◌, ◌*◌, List, [], ◌∷◌, Bool, true, ◌==◌, ◌&&◌, ◌||◌, nat_lt, nat_le}
+use Rattle.std.specs.Prelude.{ℕ, ◌+◌, ◌*◌, List, [], ◌∷◌, Bool, true, ◌==◌, ◌&&◌, ◌||◌, nat_lt, nat_le, if◌then◌else◌}
 use Rattle.ufs_layout.specs.declared.records.LogRecord.{LogRecord}
 use Rattle.ufs_layout.specs.declared.records.LogRecord.TheVariants.{Delta, Place, Free}
 
@@ -23,3 +23,13 @@ abbrev pub is_in_order : List LogRecord → Bool
 is_in_order [] = true
 is_in_order (r ∷ []) = true
 is_in_order (r ∷ s ∷ rs) = may_follow r s && is_in_order (s ∷ rs)
+
+-- the records with one more, before the first that may follow it
+abbrev pub put_in_order : LogRecord → List LogRecord → List LogRecord
+put_in_order r [] = r ∷ []
+put_in_order r (s ∷ rs) = if may_follow r s then r ∷ s ∷ rs else s ∷ put_in_order r rs
+
+-- the records in their order; two that stand at one place in that which they had
+abbrev pub in_order : List LogRecord → List LogRecord
+in_order [] = []
+in_order (r ∷ rs) = put_in_order r (in_order rs)

@@ -1,3 +1,4 @@
 pub mod Deltas
 pub mod Changes
 pub mod Filling
+pub mod Notes

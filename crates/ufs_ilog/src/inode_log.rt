@@ -175,7 +175,8 @@ fn file_delta(
     Ok(Records::from_vec(records))
 }
 
-fn extents_from(alloc: Global, runs: &[Run]) -> Result<ExtentList, Memory>
+/// The runs as a record has them.
+pub fn extents_from(alloc: Global, runs: &[Run]) -> Result<ExtentList, Memory>
     ensures { IfOk result (λ list. list ≡ extents_of runs.now) }
 {
     let mut extents = Vec::with_capacity(alloc, runs.len())?;

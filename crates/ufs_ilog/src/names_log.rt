@@ -5,6 +5,7 @@ ghost use Rattle.ufs_layout.specs.Records.{is_record};
 ghost use Rattle.ufs_layout.specs.Filled.{sector_count_of};
 ghost use Rattle.ufs_ilog.specs.Changes.{is_in_order};
 
+use crate::change::Change;
 use std::alloc::Global;
 use std::marker::Model;
 use std::mem;
@@ -13,13 +14,6 @@ use ufs_layout::{LogRecord, Records, record_length};
 
 /// The bytes of content that a journal sector has room for.
 const CONTENT: usize = 488;
-
-/// One change of names: deltas by rising inode, dentry sets by rising sector and slot, frees by rising
-/// inode, in this order.
-#[derive(Drop)]
-pub struct Change {
-    pub records: Records,
-}
 
 /// The changes of names since the last commit, each whole, in their order. Contracts see their records.
 #[derive(Drop)]
@@ -53,6 +47,10 @@ impl NamesLog {
             records: Records::new(alloc),
             filling: Filling::NONE,
         }
+    }
+
+    pub(crate) fn alloc(&self) -> Global {
+        self.alloc
     }
 
     /// The change goes behind the others, whole.

@@ -15,7 +15,7 @@ use Rattle.ufs_image.specs.Sound.{IsInData}
 use Rattle.ufs_dirs.specs.Directory.{Directory}
 use Rattle.ufs_dir_tree.specs.DirTable.{DirTable, InodeSet, no_dir, dir_at}
 use Rattle.ufs_dir_image.specs.Tables.{dir_blocks, is_free_inode}
-use Rattle.ufs_name_log.specs.Steps.{DirState, with_kind}
+use Rattle.ufs_dir_tree.specs.Steps.{DirState, with_kind}
 use Rattle.ufs_name_log.specs.Held.{HasState, HasSoundForms}
 use Rattle.ufs_name_log.proofs.Forms.{reformed, form_here, form_else, block_now, kept_forms}
 use Rattle.ufs_name_log.proofs.Tabled.{kept_table}

@@ -13,10 +13,10 @@ use Rattle.ufs_dirs.specs.declared.Slot.{Slot}
 use Rattle.ufs_image.specs.Catalog.{IsInode}
 use Rattle.ufs_image.proofs.Empty.{both_true}
 use Rattle.ufs_dir_tree.specs.DirTable.{slots_at, blocks_at}
-use Rattle.ufs_name_log.specs.Steps.{DirState, Born, Put, Freed, after, after_all}
+use Rattle.ufs_dir_tree.specs.Steps.{DirState, Born, Put, Freed, after, after_all, adding, dropping, moving}
 use Rattle.ufs_name_log.specs.Held.{HasName, FitsName, MaySteps, HasSoundNames}
 use Rattle.ufs_name_log.specs.Names.{IsNewName}
-use Rattle.ufs_name_log.specs.Calls.{adding, dropping, moving, StandsIn}
+use Rattle.ufs_name_log.specs.Calls.{StandsIn}
 use Rattle.ufs_name_log.proofs.NamesKept.{stays, set_name}
 use Rattle.ufs_name_log.proofs.TableNames.{plain}
 

@@ -8,7 +8,7 @@ use Rattle.ufs_image.specs.Catalog.{Catalog}
 use Rattle.ufs_image.specs.Folding.{with_committed_in}
 use Rattle.ufs_ledger.specs.Ledger.{Stand, CoversDirs}
 use Rattle.ufs_ledger.specs.Changes.{MayCommit}
-use Rattle.ufs_name_log.specs.Steps.{DirState, Step, after_all}
+use Rattle.ufs_dir_tree.specs.Steps.{DirState, Step, after_all}
 use Rattle.ufs_name_log.specs.Held.{HasState, MaySteps, HasSoundNames}
 use Rattle.ufs_name_log.specs.Laws.{change, AreOlder}
 use Rattle.ufs_name_log.proofs.Told.{told_all}

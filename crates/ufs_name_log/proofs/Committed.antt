@@ -18,7 +18,8 @@ use Rattle.ufs_dir_tree.specs.DirTable.{blocks_at}
 use Rattle.ufs_dir_tree.specs.Space.{extents_of}
 use Rattle.ufs_ilog.specs.Deltas as log
 use Rattle.ufs_ledger.specs.Changes.{keeps_too_many_in, keeps_more_in}
-use Rattle.ufs_name_log.specs.Steps.{DirState, Step, Born, Grown, Put, Freed, after, record_of, records_of}
+use Rattle.ufs_dir_tree.specs.Steps.{DirState, Step, Born, Grown, Put, Freed, after}
+use Rattle.ufs_name_log.specs.Steps.{record_of, records_of}
 use Rattle.ufs_name_log.specs.Held.{HasState, MayStep, MaySteps}
 use Rattle.ufs_name_log.specs.Laws.{AreOlder}
 use Rattle.ufs_name_log.proofs.Extents.{extents_fit, extents_spelled, length_told, few_blocks}

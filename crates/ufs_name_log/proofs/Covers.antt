@@ -10,7 +10,7 @@ use Rattle.ufs_dirs.specs.Changes.{with_entry}
 use Rattle.ufs_image.specs.Nodes.{blocks_of}
 use Rattle.ufs_image.specs.Catalog.{Catalog, IsInode, HasDirBlocks}
 use Rattle.ufs_dir_tree.specs.DirTable.{no_dir, dir_at, blocks_at}
-use Rattle.ufs_name_log.specs.Steps.{DirState, Step, Born, Grown, Put, Freed, grown, without_block, after, after_all}
+use Rattle.ufs_dir_tree.specs.Steps.{DirState, Step, Born, Grown, Put, Freed, grown, without_block, after, after_all}
 use Rattle.ufs_name_log.specs.Held.{HasState, MayStep, MaySteps}
 use Rattle.ufs_name_log.proofs.Growing.{split_at}
 

@@ -10,7 +10,7 @@ use Rattle.ufs_image.specs.Nodes.{blocks_of}
 use Rattle.ufs_image.specs.Changes.{MayBecome}
 use Rattle.ufs_image.specs.Catalog.{Catalog, HasBlock, HasSlots, slots_in}
 use Rattle.ufs_dir_image.specs.Tables.{dir_blocks}
-use Rattle.ufs_name_log.specs.Steps.{DirState}
+use Rattle.ufs_dir_tree.specs.Steps.{DirState}
 use Rattle.ufs_name_log.specs.Held.{HasState, HasSoundForms}
 use Rattle.ufs_name_log.proofs.Forms.{reformed, form_here, form_else, block_now, kept_forms}
 use Rattle.ufs_name_log.proofs.Tabled.{kept_table}

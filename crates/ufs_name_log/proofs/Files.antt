@@ -22,7 +22,8 @@ use Rattle.ufs_ledger.specs.Ledger.{Stand, with_one, is_set_in, is_held}
 use Rattle.ufs_ledger.specs.Kept.{Numbers, Shape, shape_of, IsStandKept}
 use Rattle.ufs_ledger.specs.Laws.{StandsOn}
 use Rattle.ufs_ledger.proofs.Held.{held_after}
-use Rattle.ufs_name_log.specs.Steps.{DirState, Step, Born, Grown, Put, Freed, after, after_all, record_of, records_of}
+use Rattle.ufs_dir_tree.specs.Steps.{DirState, Step, Born, Grown, Put, Freed, after, after_all}
+use Rattle.ufs_name_log.specs.Steps.{record_of, records_of}
 use Rattle.ufs_name_log.specs.Held.{HasState, MayStep, MaySteps}
 use Rattle.ufs_name_log.specs.Laws.{change, AreOlder}
 use Rattle.ufs_name_log.specs.Files.{is_of, is_touched, KeepsInode, MayGoOn}

@@ -19,7 +19,7 @@ use Rattle.ufs_dir_tree.specs.DirTable.{DirTable, no_dir, dir_at, slots_at, bloc
 use Rattle.ufs_dir_tree.specs.Space.{extents_of}
 use Rattle.ufs_dir_image.specs.Tables.{dir_blocks, is_free_inode}
 use Rattle.ufs_ilog.specs.Deltas as log
-use Rattle.ufs_name_log.specs.Steps.{DirState, with_dir, without_block, grown}
+use Rattle.ufs_dir_tree.specs.Steps.{DirState, with_dir, without_block, grown}
 use Rattle.ufs_name_log.specs.Held.{HasState, HasSoundForms, MayGrow, IsZeroed}
 use Rattle.ufs_name_log.proofs.Extents.{LiesIn, blocks_are, extents_in_data, blocks_lie}
 use Rattle.ufs_name_log.proofs.Forms.{reformed, form_here, form_else, block_now, kept_forms}

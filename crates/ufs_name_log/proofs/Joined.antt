@@ -2,7 +2,8 @@
 use Rattle.std.proofs.Common.{◌≡◌, List, [], ◌∷◌, ◌++◌, ap, refl}
 use Rattle.ufs_layout.specs.declared.geometry.Geometry.{Geometry}
 use Rattle.ufs_layout.specs.declared.records.LogRecord.{LogRecord}
-use Rattle.ufs_name_log.specs.Steps.{DirState, Step, after, after_all, record_of, records_of}
+use Rattle.ufs_dir_tree.specs.Steps.{DirState, Step, after, after_all}
+use Rattle.ufs_name_log.specs.Steps.{record_of, records_of}
 use Rattle.ufs_name_log.specs.Held.{MaySteps}
 use Rattle.ufs_name_log.specs.Laws.{IsJoined}
 

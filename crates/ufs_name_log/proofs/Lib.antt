@@ -1,17 +1,17 @@
 mod Extents
-mod Forms
+pub mod Forms
 mod Tabled
 mod Bare
 mod Growing
-mod Putting
-mod Told
-mod Covers
+pub mod Putting
+pub mod Told
+pub mod Covers
 mod Sounded
 mod Committed
 mod Zeros
 mod Joined
 mod Commits
-mod Files
+pub mod Files
 mod NamesKept
 mod TableNames
 mod Orders
@@ -19,3 +19,4 @@ mod Sized
 mod CallNames
 mod Numbered
 mod FileForms
+pub mod Noted

@@ -11,7 +11,7 @@ use Rattle.ufs_dirs.specs.Directory.{Directory}
 use Rattle.ufs_dirs.specs.Changes.{place_of, with_entry}
 use Rattle.ufs_dirs.specs.declared.Slot.{Slot}
 use Rattle.ufs_dir_tree.specs.DirTable.{no_dir, dir_at, slots_at, blocks_at}
-use Rattle.ufs_name_log.specs.Steps.{DirState, Step, Born, Grown, Put, Freed, grown, with_kind, after}
+use Rattle.ufs_dir_tree.specs.Steps.{DirState, Step, Born, Grown, Put, Freed, grown, with_kind, after}
 use Rattle.ufs_name_log.specs.Held.{HasName, FitsName, HasSoundNames, MayPut, MayStep}
 use Rattle.ufs_name_log.specs.Names.{IsNewName, IsNameless, KeepsNames}
 use Rattle.ufs_name_log.proofs.Covers.{set_or_same}

@@ -13,7 +13,7 @@ use Rattle.ufs_dir_image.specs.Meets.{found_in}
 use Rattle.ufs_dir_image.proofs.Walked.{meets}
 use Rattle.ufs_ledger.specs.Kept.{Numbers, numbered, IsNumberedBy}
 use Rattle.ufs_name_tree.specs.NameTable.{NameTable, IsNameTable, file_at, node_of, node_at}
-use Rattle.ufs_name_log.specs.Steps.{DirState}
+use Rattle.ufs_dir_tree.specs.Steps.{DirState}
 use Rattle.ufs_name_log.specs.Held.{HasState, HasSoundNames}
 use Rattle.ufs_name_log.specs.Numbers.{ArePathsOf, AreNumbersOf}
 use Rattle.ufs_name_log.proofs.Sounded.{is_sound}

@@ -8,7 +8,7 @@ use Rattle.ufs_dirs.specs.Directory.{Directory}
 use Rattle.ufs_dirs.specs.Changes.{place_of, IsSlot, with_entry}
 use Rattle.ufs_dirs.specs.declared.Slot.{Slot}
 use Rattle.ufs_dir_tree.specs.DirTable.{no_dir, dir_at, blocks_at}
-use Rattle.ufs_name_log.specs.Steps.{DirState, Put, after}
+use Rattle.ufs_dir_tree.specs.Steps.{DirState, Put, after}
 use Rattle.ufs_name_log.specs.Held.{MayPut}
 use Rattle.ufs_name_log.specs.Names.{IsEitherOrder}
 use Rattle.ufs_name_log.proofs.NamesKept.{has_dir}

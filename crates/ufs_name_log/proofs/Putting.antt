@@ -20,7 +20,7 @@ use Rattle.ufs_dirs.specs.Directory.{Directory}
 use Rattle.ufs_dirs.specs.Changes.{place_of, with_entry}
 use Rattle.ufs_dirs.specs.declared.Slot.{Slot}
 use Rattle.ufs_dir_tree.specs.DirTable.{DirTable, no_dir, dir_at, slots_at, blocks_at}
-use Rattle.ufs_name_log.specs.Steps.{DirState, with_dir}
+use Rattle.ufs_dir_tree.specs.Steps.{DirState, with_dir}
 use Rattle.ufs_name_log.specs.Held.{HasState, HasSoundForms, MayPut}
 use Rattle.ufs_name_log.proofs.Extents.{LiesIn, blocks_lie}
 use Rattle.ufs_name_log.proofs.Tabled.{kept_table}

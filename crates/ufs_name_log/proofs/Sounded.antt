@@ -7,7 +7,7 @@ use Rattle.ufs_image.specs.Catalog.{Catalog, HasSlots}
 use Rattle.ufs_image.specs.Sound.{IsSoundCatalog, HasDentry}
 use Rattle.ufs_dir_tree.specs.DirTable.{DirTable}
 use Rattle.ufs_dir_image.specs.Tables.{IsTableOf}
-use Rattle.ufs_name_log.specs.Steps.{DirState}
+use Rattle.ufs_dir_tree.specs.Steps.{DirState}
 use Rattle.ufs_name_log.specs.Held.{HasState, IsZeroed, HasName, HasSoundNames}
 
 module _ (g : Geometry) (c : Catalog) (s : DirState) (has : HasState g c s) (names : HasSoundNames g s) where

@@ -19,7 +19,7 @@ use Rattle.ufs_path.specs.Names.{IsName}
 use Rattle.ufs_dir_tree.specs.DirTable.{IsDirTable, slots_at, found_of, inode_of, found_at, step}
 use Rattle.ufs_dir_tree.specs.declared.found.Found.TheVariants.{Dir, File}
 use Rattle.ufs_dir_tree.proofs.WalkLemmas.{walk-append}
-use Rattle.ufs_name_log.specs.Steps.{DirState}
+use Rattle.ufs_dir_tree.specs.Steps.{DirState}
 use Rattle.ufs_name_log.specs.Held.{HasName, HasSoundNames}
 use Rattle.ufs_name_log.specs.Names.{IsWellNamed}
 

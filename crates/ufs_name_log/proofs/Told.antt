@@ -18,7 +18,8 @@ use Rattle.ufs_dir_tree.specs.DirTable.{no_dir, dir_at, blocks_at}
 use Rattle.ufs_dir_image.specs.Tables.{is_free_inode}
 use Rattle.ufs_ilog.specs.Deltas as log
 use Rattle.ufs_dir_tree.specs.Space.{extents_of}
-use Rattle.ufs_name_log.specs.Steps.{DirState, Step, Born, Grown, Put, Freed, after, after_all, record_of, records_of}
+use Rattle.ufs_dir_tree.specs.Steps.{DirState, Step, Born, Grown, Put, Freed, after, after_all}
+use Rattle.ufs_name_log.specs.Steps.{record_of, records_of}
 use Rattle.ufs_name_log.specs.Held.{HasState, MayBeBorn, MayStep, MaySteps}
 use Rattle.ufs_name_log.specs.Laws.{AreOlder}
 use Rattle.ufs_name_log.proofs.Bare.{bare_state}

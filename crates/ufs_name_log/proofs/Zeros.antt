@@ -11,7 +11,7 @@ use Rattle.ufs_image.proofs.Listed.{place_of_in}
 use Rattle.ufs_image.proofs.Empty.{apart_false}
 use Rattle.ufs_ledger.specs.Ledger.{Stand, IsDataBlock}
 use Rattle.ufs_ledger.specs.Changes.{with_free_block}
-use Rattle.ufs_name_log.specs.Steps.{DirState}
+use Rattle.ufs_dir_tree.specs.Steps.{DirState}
 use Rattle.ufs_name_log.specs.Held.{HasState, IsZeroed, with_zeroed}
 
 module _ (g : Geometry) (s : Stand) (x : DirState) (block : ℕ) (has : HasState g s.catalog x) (lies : IsDataBlock g block) (unheld : (inode place : ℕ) → HasBlock g s.catalog inode place block → ⊥) where

@@ -1,5 +1,5 @@
 -- The changes of names that calls make, and that they leave the names sound.
-use Rattle.std.specs.Prelude.{ℕ, ◌≡◌, ◌≢◌, List, [], ◌∷◌, None}
+use Rattle.std.specs.Prelude.{ℕ, ◌≡◌, ◌≢◌, None}
 use Rattle.ufs_layout.specs.DentryForm.{DentryForm, free_slot}
 use Rattle.ufs_layout.specs.declared.geometry.Geometry.{Geometry}
 use Rattle.ufs_path.specs.Names.{IsName}
@@ -7,20 +7,8 @@ use Rattle.ufs_dirs.specs.Directory.{entry_of}
 use Rattle.ufs_dirs.specs.Changes.{place_of}
 use Rattle.ufs_dirs.specs.declared.Slot.{Slot}
 use Rattle.ufs_dir_tree.specs.DirTable.{slots_at, blocks_at}
-use Rattle.ufs_name_log.specs.Steps.{DirState, Step, Born, Put, Freed, after, after_all}
+use Rattle.ufs_dir_tree.specs.Steps.{DirState, Put, after, after_all, adding, dropping, moving}
 use Rattle.ufs_name_log.specs.Held.{HasName, MaySteps, HasSoundNames}
-
--- an inode is born, and gets a name in a directory
-abbrev pub adding : (dir : ℕ) (slot : Slot) (d : DentryForm) → List Step
-adding dir slot d = Born d.inode d.kind ∷ Put dir slot d ∷ []
-
--- a name goes, and its inode with it
-abbrev pub dropping : (dir : ℕ) (slot : Slot) (inode : ℕ) → List Step
-dropping dir slot inode = Put dir slot free_slot ∷ Freed inode ∷ []
-
--- a name goes, and its inode gets another one
-abbrev pub moving : (from : ℕ) (old : Slot) (to : ℕ) (new : Slot) (d : DentryForm) → List Step
-moving from old to new d = Put from old free_slot ∷ Put to new d ∷ []
 
 -- This stands in the slot.
 abbrev pub StandsIn : Geometry → DirState → ℕ → Slot → DentryForm → Type 0

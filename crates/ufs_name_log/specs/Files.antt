@@ -13,7 +13,8 @@ use Rattle.ufs_image.specs.Folding.{with_committed_in}
 use Rattle.ufs_ledger.specs.Ledger.{Stand, with_one, is_set_in}
 use Rattle.ufs_ledger.specs.Kept.{Numbers, IsNumberedBy, IsStandKept}
 use Rattle.ufs_ledger.specs.Laws.{StandsOn}
-use Rattle.ufs_name_log.specs.Steps.{DirState, Step, Born, Grown, Put, Freed, after_all, records_of}
+use Rattle.ufs_dir_tree.specs.Steps.{DirState, Step, Born, Grown, Put, Freed, after_all}
+use Rattle.ufs_name_log.specs.Steps.{records_of}
 use Rattle.ufs_name_log.specs.Held.{HasState, MaySteps}
 use Rattle.ufs_name_log.specs.Laws.{change, AreOlder}
 

@@ -16,7 +16,7 @@ use Rattle.ufs_image.specs.Catalog.{Catalog, IsInode, HasBlock, HasSlots}
 use Rattle.ufs_image.specs.Sound.{IsInData}
 use Rattle.ufs_image.specs.Written.{FitsDentryForm}
 use Rattle.ufs_dir_image.specs.Tables.{IsTableOf}
-use Rattle.ufs_name_log.specs.Steps.{DirState, Step, Born, Grown, Put, Freed, after}
+use Rattle.ufs_dir_tree.specs.Steps.{DirState, Step, Born, Grown, Put, Freed, after}
 
 -- ---- the catalog of a state
 

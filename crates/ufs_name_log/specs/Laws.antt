@@ -17,7 +17,8 @@ use Rattle.ufs_dir_image.specs.Meets.{found_in}
 use Rattle.ufs_dir_image.specs.Tables.{IsTableOf}
 use Rattle.ufs_ledger.specs.Ledger.{Stand, IsDataBlock, CoversDirs}
 use Rattle.ufs_ledger.specs.Changes.{MayCommit, with_free_block}
-use Rattle.ufs_name_log.specs.Steps.{DirState, Step, after_all, records_of}
+use Rattle.ufs_dir_tree.specs.Steps.{DirState, Step, after_all}
+use Rattle.ufs_name_log.specs.Steps.{records_of}
 use Rattle.ufs_name_log.specs.Held.{HasState, IsZeroed, with_zeroed, MaySteps, HasSoundNames}
 
 -- the transaction that tells these steps

@@ -6,3 +6,4 @@ pub mod Names
 pub mod Rows
 pub mod Calls
 pub mod Numbers
+pub mod Noted

@@ -8,7 +8,7 @@ use Rattle.ufs_dirs.specs.Directory.{IsDirectory}
 use Rattle.ufs_dirs.specs.declared.Slot.{Slot}
 use Rattle.ufs_dir_tree.specs.DirTable.{DirTable, IsDirTable, dir_at, slots_at, blocks_at}
 use Rattle.ufs_dir_tree.specs.DirEdits.{IsMet}
-use Rattle.ufs_name_log.specs.Steps.{DirState, Step, Born, Grown, Put, Freed, after}
+use Rattle.ufs_dir_tree.specs.Steps.{DirState, Step, Born, Grown, Put, Freed, after}
 use Rattle.ufs_name_log.specs.Held.{HasName, FitsName, MayPut, MayStep, HasSoundNames}
 
 -- The name fits, and neither it nor its inode is there at another place.

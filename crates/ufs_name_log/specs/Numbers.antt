@@ -8,7 +8,7 @@ use Rattle.ufs_image.specs.Catalog.{Catalog}
 use Rattle.ufs_image.specs.Walks.{path_text, ArePieces}
 use Rattle.ufs_ledger.specs.Kept.{Numbers, IsNumberedBy}
 use Rattle.ufs_name_tree.specs.NameTable.{NameTable, IsNameTable, file_at, node_at}
-use Rattle.ufs_name_log.specs.Steps.{DirState}
+use Rattle.ufs_dir_tree.specs.Steps.{DirState}
 use Rattle.ufs_name_log.specs.Held.{HasState, HasSoundNames}
 
 -- The paths are those that the names tell: at the text of each list of names what stands there, and none besides.

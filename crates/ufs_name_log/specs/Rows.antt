@@ -5,7 +5,8 @@ use Rattle.ufs_layout.specs.DentryForm.{DentryForm}
 use Rattle.ufs_layout.specs.declared.records.LogRecord.TheVariants.{Delta, Place}
 use Rattle.ufs_dir_tree.specs.DirTable.{no_dir, found_at}
 use Rattle.ufs_dir_tree.specs.declared.found.Found.TheVariants.{File}
-use Rattle.ufs_name_log.specs.Steps.{DirState, Step, Born, Grown, Put, after_all, records_of}
+use Rattle.ufs_dir_tree.specs.Steps.{DirState, Step, Born, Grown, Put, after_all}
+use Rattle.ufs_name_log.specs.Steps.{records_of}
 
 -- the root alone, inode 2 free, and block 14 zero
 abbrev pub new_state : DirState

@@ -4,6 +4,7 @@
 ghost use Rattle.ufs_layout.specs.Areas.{IsGeometry};
 ghost use Rattle.ufs_name_log.specs.Files.{BornAreEmpty, FilesAreUnset, NamesStandOn, OthersStay};
 ghost use Rattle.ufs_name_log.specs.Calls.{AddingIsSound, DroppingIsSound, MovingIsSound};
+ghost use Rattle.ufs_name_log.specs.Noted.{NotedMayBeMade, NotesAreRecords, NotesLeadOn};
 ghost use Rattle.ufs_name_log.specs.Numbers.{NamesNumberPaths};
 ghost use Rattle.ufs_name_log.specs.Names.{NamesStaySound, PutsCommute, TablesNameSoundly};
 ghost use Rattle.ufs_name_log.specs.Rows.{BirthIsMet, BirthIsTold};
@@ -44,6 +45,16 @@ pub fn files_law(geometry: &Geometry)
     ensures unset { FilesAreUnset geometry.now }
     ensures stands { NamesStandOn geometry.now }
     ensures paths { NamesNumberPaths geometry.now }
+{
+    let _geometry = geometry;
+}
+
+/// What a server noted of its names may be made on a disk, and is told by its records.
+pub fn noted_law(geometry: &Geometry)
+    requires { IsGeometry geometry.now }
+    ensures may { NotedMayBeMade geometry.now }
+    ensures records { NotesAreRecords }
+    ensures lead { NotesLeadOn }
 {
     let _geometry = geometry;
 }

@@ -5,3 +5,10 @@ pub mod TableEdits
 pub mod NumberEdits
 pub mod Facts
 pub mod ExcuseFacts
+pub mod ExtentLemmas
+pub mod StepOrder
+pub mod StepSwaps
+pub mod NoteKinds
+pub mod NoteEdits
+pub mod NoteChains
+pub mod EditNotes

@@ -1,5 +1,5 @@
 -- Tables in which one inode gets a number, or has it no more.
-use Rattle.std.proofs.Common.{◌≡◌, ◌≢◌, ℕ, ◌<◌, ◌⊎◌, inl, inr, List, [], Option, Some, None, IsSome, is_some, length, set, get_or, true, false, eqb, ap, sym, refl, ◌∙◌, subst, arith, length-set, get_or-set_same, get_or-set_other}
+use Rattle.std.proofs.Common.{◌≡◌, ◌≢◌, ℕ, ◌<◌, ◌⊎◌, inl, inr, List, [], Option, Some, None, IsSome, is_some, length, set, true, false, eqb, ap, sym, refl, ◌∙◌, subst, arith, length-set, get_or-set_same, get_or-set_other}
 use Rattle.std.specs.FinSet as fin
 use Rattle.std.proofs.lemmas.Bool.{true≢false}
 use Rattle.std.proofs.lemmas.Bool.Decides.{eqb_tells}
@@ -9,7 +9,6 @@ use Rattle.ufs_dirs.specs.Directory.{Directory}
 use Rattle.ufs_dir_tree.specs.Space.{TakesLowest}
 use Rattle.ufs_dir_tree.specs.DirTable.{DirTable, IsDirTable, IsUsed, blocks_at, found_at}
 use Rattle.ufs_dir_tree.specs.DirCalls.{SetsFound, SpendsBlock, FreesInode}
-use Rattle.ufs_dir_tree.specs.declared.found.Found.{Found}
 use Rattle.ufs_dir_tree.specs.declared.found.Found.TheVariants.{Dir, File}
 use Rattle.std.specs.Option.{option_map, unwrap_or}
 use Rattle.ufs_model.specs.declared.data.Node.{Node}
@@ -17,8 +16,8 @@ use Rattle.ufs_model.specs.declared.data.Node.TheVariants as node
 use Rattle.ufs_name_tree.specs.Nodes.{SetsNode}
 use Rattle.ufs_name_tree.specs.NameTable.{NameTable, IsNameTable, file_at, node_of, node_at}
 use Rattle.ufs_name_tree.proofs.NodeMaps.{sets_node}
-use Rattle.ufs_name_tree.proofs.Founds.{IsMetIn, came_or_was}
-use Rattle.ufs_name_tree.proofs.KeptFiles.{IsAsBefore, kept_files, one_freed, still_used, was_free}
+use Rattle.ufs_name_tree.proofs.Founds.{came_or_was}
+use Rattle.ufs_name_tree.proofs.KeptFiles.{kept_files, one_freed, still_used, was_free}
 
 same_or_other : (i j : ℕ) → (i ≡ j) ⊎ (i ≢ j)
 same_or_other i j = by (eqb_tells i j)
@@ -28,8 +27,8 @@ same_or_other i j = by (eqb_tells i j)
     by (inr other) = inr other.1
 
 module _ (t : NameTable) (dirs : DirTable) (i : ℕ) (w : Option ℕ) where
-  abbrev numbered : NameTable
-  numbered = record { dirs = dirs; files = set t.files i w }
+  abbrev pub numbered : NameTable
+  numbered = record { dirs = dirs; files = set t.files i w; noted = t.noted }
 
   pub other_number : (j : ℕ) → j ≢ i → file_at numbered j ≡ file_at t j
   other_number j other = get_or-set_other t.files i j w None other

@@ -1,20 +1,20 @@
 -- Each call leaves a table.
-use Rattle.std.proofs.Common.{◌≡◌, ◌≢◌, ℕ, ◌⊎◌, inl, inr, List, Option, Some, None, IsSome, length, true, false, ap, sym, refl, ◌∙◌, subst, Result, Ok, Err, OnOk, OnErr, IfOk}
+use Rattle.std.proofs.Common.{◌≡◌, ℕ, ◌⊎◌, inl, inr, List, Option, Some, None, IsSome, length, true, ap, sym, refl, ◌∙◌}
 use Rattle.std.specs.FinSet as set
 use Rattle.ufs_bitmap.specs.Blocks.{BlockSet}
 use Rattle.ufs_dir_tree.specs.Space.{TakesLowest}
-use Rattle.ufs_dir_tree.specs.DirTable.{DirTable, IsDirTable, IsUsed, IsFree, blocks_at, found_at}
-use Rattle.ufs_dir_tree.specs.DirCalls.{SetsFound, MovesFounds, SpendsBlock, Frees, FreesInode}
+use Rattle.ufs_dir_tree.specs.DirTable.{DirTable, IsDirTable, blocks_at, found_at}
+use Rattle.ufs_dir_tree.specs.DirCalls.{SetsFound, MovesFounds, SpendsBlock, Frees}
 use Rattle.ufs_dir_tree.specs.declared.found.Found.{Found}
 use Rattle.ufs_dir_tree.specs.declared.found.Found.TheVariants.{Dir, File}
 use Rattle.ufs_name_tree.specs.NameTable.{NameTable, IsNameTable, file_at}
 use Rattle.ufs_name_tree.proofs.Founds.{IsMetIn, came_or_was, was_left, was_moved}
-use Rattle.ufs_name_tree.proofs.KeptFiles.{IsAsBefore, kept_files, freed, still_used, was_free}
+use Rattle.ufs_name_tree.proofs.KeptFiles.{IsAsBefore, kept_files, freed, still_used}
 
 module _ (t : NameTable) (dirs : DirTable) (is : IsNameTable t) (table : IsDirTable dirs) (inodes : length dirs.dirs ≡ length t.dirs.dirs) where
   -- the same files over other directories
   abbrev over : NameTable
-  over = record { dirs = dirs; files = t.files }
+  over = record { dirs = dirs; files = t.files; noted = t.noted }
 
   counted_over : length over.files ≡ length over.dirs.dirs
   counted_over = is.counted ∙ sym inodes

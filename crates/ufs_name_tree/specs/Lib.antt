@@ -1,2 +1,4 @@
 pub mod Nodes
 pub mod NameTable
+pub mod Records
+pub mod Notes

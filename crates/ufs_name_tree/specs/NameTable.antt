@@ -7,12 +7,16 @@ use Rattle.ufs_model.specs.declared.data.Node.TheVariants as node
 use Rattle.ufs_dir_tree.specs.DirTable.{DirTable, IsDirTable, IsUsed, blocks_at, found_at, table_code}
 use Rattle.ufs_dir_tree.specs.declared.found.Found.{Found}
 use Rattle.ufs_dir_tree.specs.declared.found.Found.TheVariants.{Dir, File}
+use Rattle.ufs_ilog.specs.Notes.{Noted}
+use Rattle.ufs_ilog.specs.contracts.name_notes.NameNotes as notes
 use Rattle.ufs_name_tree.specs.Nodes.{Nodes}
 
 pub record NameTable : Type 0 where
   pub dirs : DirTable
   -- by inode from 0, the number of the file that it is; none where it is no file's
   pub files : List (Option ℕ)
+  -- the records of the changes that are noted, or none
+  pub noted : Noted
 
 -- the number of the file that the inode is
 abbrev pub file_at : NameTable → ℕ → Option ℕ
@@ -44,8 +48,8 @@ pub record IsNameTable (t : NameTable) : Type 0 where
   -- a file has one inode
   pub once : (i j f : ℕ) → file_at t i ≡ Some f → file_at t j ≡ Some f → i ≡ j
 
--- ---- stored as the pair of its parts
+-- ---- stored as the triple of its parts
 
 abbrev pub name_table_code : Coded NameTable
-name_table_code = code_by (DirTable × List (Option ℕ)) (coded× table_code (coded_list (coded_option coded_ℕ)))
-    (λ t. (t.dirs, t.files)) (λ p. record { dirs = p.0; files = p.1 }) (λ _. refl)
+name_table_code = code_by (DirTable × (List (Option ℕ) × Noted)) (coded× table_code (coded× (coded_list (coded_option coded_ℕ)) notes.the_row.coded))
+    (λ t. (t.dirs, (t.files, t.noted))) (λ p. record { dirs = p.0; files = p.1.0; noted = p.1.1 }) (λ _. refl)

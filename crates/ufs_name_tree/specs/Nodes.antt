@@ -1,5 +1,5 @@
 -- What stands at each list of names, as a tree has it: a directory, or a file by its number.
-use Rattle.std.specs.Prelude.{ℕ, ◌≡◌, ◌≢◌, List, [], ◌∷◌, ◌++◌, Option, Some, None}
+use Rattle.std.specs.Prelude.{ℕ, ◌≡◌, ◌≢◌, List, [], ◌∷◌, ◌++◌, Option, None}
 use Rattle.ufs_base.specs.Choices.{first_of}
 use Rattle.ufs_model.specs.Walk.{dir_refusal}
 use Rattle.ufs_model.specs.declared.data.Errno.{Errno}

@@ -1,7 +1,9 @@
 // Names that come, go and change.
 use crate::name_tree::NameTree;
+use crate::notes::{DIRECTORY, FILE, note_added, note_freed, note_moved, note_removed};
 use ufs_bitmap::Pool;
 use ufs_dir_tree::Kind;
+use ufs_layout::Dentry;
 use ufs_model::Excuse;
 use ufs_path::PathText;
 
@@ -17,6 +19,7 @@ impl NameTree {
     ghost use Rattle.ufs_model.specs.declared.data.Node.TheVariants as node;
     ghost use Rattle.ufs_name_tree.specs.Nodes.{SetsNode, MovesNodes};
     ghost use Rattle.ufs_name_tree.specs.NameTable.{IsNameTable, file_at, node_at};
+    ghost use Rattle.ufs_name_tree.specs.Notes.{GoesByNotes};
 
     /// Puts a new directory at a path at which nothing stands, in the directory that `look` told. It has the lowest
     /// free inode. Where each slot of the directory above is used that takes the pool's lowest block.
@@ -36,9 +39,18 @@ impl NameTree {
         ensures err_pool { OnErr result (pool.new ≡ pool.old) }
         ensures inodes { length self.new.dirs.dirs ≡ length self.old.dirs.dirs }
         ensures apart { IsApart self.new.dirs pool.new }
+        ensures noted { GoesByNotes self.old self.new pool.old }
         ensures table { IsNameTable self.new }
     {
-        self.dirs.add(dir, path, Kind::Dir, pool)
+        // Its slots fill its blocks, so a slot has one place.
+        let _blocks = self.dirs.blocks(dir);
+        let added = match self.dirs.add(dir, path, Kind::Dir, pool) {
+            Ok(added) => added,
+            Err(excuse) => return Err(excuse),
+        };
+        let dentry = Dentry::from_name(added.inode, DIRECTORY, path.last());
+        note_added(&mut self.notes, &self.dirs, dir, added, dentry);
+        Ok(added.inode)
     }
 
     /// The same for a file of this number, which has no inode yet.
@@ -68,19 +80,23 @@ impl NameTree {
         ensures err_pool { OnErr result (pool.new ≡ pool.old) }
         ensures inodes { length self.new.dirs.dirs ≡ length self.old.dirs.dirs }
         ensures apart { IsApart self.new.dirs pool.new }
+        ensures noted { GoesByNotes self.old self.new pool.old }
         ensures table { IsNameTable self.new }
     {
-        match self.dirs.add(dir, path, Kind::File, pool) {
-            Ok(inode) => {
-                self.files[inode as usize] = Some(file);
-                Ok(inode)
-            }
-            Err(excuse) => Err(excuse),
-        }
+        // Its slots fill its blocks, so a slot has one place.
+        let _blocks = self.dirs.blocks(dir);
+        let added = match self.dirs.add(dir, path, Kind::File, pool) {
+            Ok(added) => added,
+            Err(excuse) => return Err(excuse),
+        };
+        self.files[added.inode as usize] = Some(file);
+        let dentry = Dentry::from_name(added.inode, FILE, path.last());
+        note_added(&mut self.notes, &self.dirs, dir, added, dentry);
+        Ok(added.inode)
     }
 
     /// Takes away what stands at a path. A directory's inode is free then, and its blocks are the pool's. A file keeps
-    /// its inode and its number. Takes no memory.
+    /// its inode and its number. Takes no memory but for notes.
     pub fn remove(&mut self, dir: u32, path: &PathText, pool: &mut Pool)
         requires below { path.now ≢ [] }
         requires dir { found_at self.old.dirs (names_above path.now) ≡ Some (found.Dir dir) }
@@ -95,9 +111,14 @@ impl NameTree {
         ensures freed { Frees self.old.dirs self.new.dirs pool.old pool.new (found_at self.old.dirs path.now) }
         ensures inodes { length self.new.dirs.dirs ≡ length self.old.dirs.dirs }
         ensures apart { IsApart self.new.dirs pool.new }
+        ensures noted { GoesByNotes self.old self.new pool.old }
         ensures table { IsNameTable self.new }
     {
-        self.dirs.remove(dir, path, pool);
+        // Its slots fill its blocks, so a slot has one place.
+        let _blocks = self.dirs.blocks(dir);
+        let found = self.dirs.entry(dir, path.last());
+        let slot = self.dirs.remove(dir, path, pool);
+        note_removed(&mut self.notes, slot, found);
     }
 
     /// Gives what stands at `from`, with all below it, the name `to`. What stood there goes as by `remove`; where
@@ -128,13 +149,27 @@ impl NameTree {
         ensures err_pool { OnErr result (pool.new ≡ pool.old) }
         ensures inodes { length self.new.dirs.dirs ≡ length self.old.dirs.dirs }
         ensures apart { IsApart self.new.dirs pool.new }
+        ensures noted { GoesByNotes self.old self.new pool.old }
         ensures table { IsNameTable self.new }
     {
-        self.dirs.rename(from_dir, from, to_dir, to, pool)
+        // Their slots fill their blocks, so a slot has one place.
+        let _from_blocks = self.dirs.blocks(from_dir);
+        let _to_blocks = self.dirs.blocks(to_dir);
+        let found = self.dirs.entry(to_dir, to.last());
+        let Some(old) = self.dirs.dentry(from_dir, from.last()) else {
+            unreachable!()
+        };
+        let moved = match self.dirs.rename(from_dir, from, to_dir, to, pool) {
+            Ok(moved) => moved,
+            Err(excuse) => return Err(excuse),
+        };
+        let dentry = Dentry::from_name(old.inode, old.kind, to.last());
+        note_moved(&mut self.notes, &self.dirs, to_dir, moved, found, dentry);
+        Ok(())
     }
 
-    /// The file of this inode, which no name stands for, is no more: its inode is free. Takes no memory. Directories
-    /// and pool have the blocks that they had.
+    /// The file of this inode, which no name stands for, is no more: its inode is free. Takes no memory but for
+    /// notes. Directories and pool have the blocks that they had.
     pub fn free_file(&mut self, inode: u32, pool: &mut Pool)
         requires file { IsSome (file_at self.old inode) }
         requires unmet { (names : List (List ℕ)) → found_at self.old.dirs names ≢ Some (found.File inode) }
@@ -149,9 +184,11 @@ impl NameTree {
         ensures pool { pool.new ≡ pool.old }
         ensures inodes { length self.new.dirs.dirs ≡ length self.old.dirs.dirs }
         ensures apart { IsApart self.new.dirs pool.new }
+        ensures noted { GoesByNotes self.old self.new set.empty }
         ensures table { IsNameTable self.new }
     {
         self.dirs.free_inode(inode, pool);
         self.files[inode as usize] = None;
+        note_freed(&mut self.notes, inode);
     }
 }

@@ -3,5 +3,6 @@
 
 mod edits;
 mod name_tree;
+mod notes;
 
 pub use name_tree::NameTree;

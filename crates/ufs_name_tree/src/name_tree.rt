@@ -3,8 +3,10 @@ ghost use Rattle.std.specs.Prelude.{◌≡◌, ℕ, Some, None, IfOk, length, sl
 
 use std::alloc::Global;
 use std::marker::Model;
+use std::mem;
 use ufs_base::Memory;
 use ufs_dir_tree::{DirTree, Found, Look};
+use ufs_ilog::NameNotes;
 use ufs_model::{Errno, NameList, Node};
 use ufs_path::PathText;
 
@@ -14,6 +16,8 @@ pub struct NameTree {
     pub(crate) dirs: DirTree,
     /// By inode, from 0; `None` where it is no file's.
     pub(crate) files: Vec<Option<u32>>,
+    /// What a disk is to be told of the changes.
+    pub(crate) notes: NameNotes,
 }
 
 impl Model for NameTree {
@@ -23,9 +27,9 @@ impl Model for NameTree {
 
     ghost coded = { name_table_code };
 
-    ghost view = { λ t. record { dirs = t.dirs; files = t.files.items } };
+    ghost view = { λ t. record { dirs = t.dirs; files = t.files.items; noted = t.notes } };
 
-    ghost invariant = { λ t. IsNameTable (record { dirs = t.dirs; files = t.files.items }) };
+    ghost invariant = { λ t. IsNameTable (record { dirs = t.dirs; files = t.files.items; noted = t.notes }) };
 }
 
 impl NameTree {
@@ -41,7 +45,7 @@ impl NameTree {
     ghost use Rattle.ufs_dir_tree.specs.declared.found.Found.TheVariants as found;
     ghost use Rattle.ufs_model.specs.declared.data.Node.TheVariants as node;
     ghost use Rattle.ufs_name_tree.specs.Nodes.{refusal_by};
-    ghost use Rattle.ufs_name_tree.specs.NameTable.{IsNameTable, file_at, node_of, node_at};
+    ghost use Rattle.ufs_name_tree.specs.NameTable.{NameTable, IsNameTable, file_at, node_of, node_at};
 
     /// The root alone, of so many inodes.
     pub fn new(alloc: Global, inodes: u32) -> Result<NameTree, Memory>
@@ -54,12 +58,57 @@ impl NameTree {
         ensures free { IfOk result (λ t. t.dirs.free ≡ set.from_list (blocks_from 2 (inodes + 1 - 2))) }
         ensures bare { IfOk result (λ t. (i : ℕ) → dir_at t.dirs i ≡ no_dir) }
         ensures apart { IfOk result (λ t. (pool : BlockSet) → IsApart t.dirs pool) }
+        ensures unnoted { IfOk result (λ t. t.noted ≡ None) }
         ensures table { IfOk result (λ t. IsNameTable t) }
     {
         let dirs = DirTree::new(alloc, inodes)?;
         let files = no_files(alloc, inodes as usize + 1)?;
-        Ok(NameTree { dirs, files })
+        Ok(NameTree {
+            dirs,
+            files,
+            notes: NameNotes::off(),
+        })
     }
+
+    /// Of directories that were read, and of the numbers of files by inode from 0.
+    pub fn from_parts(dirs: DirTree, files: Vec<Option<u32>>) -> NameTree
+        requires { (t : NameTable) → t.dirs ≡ dirs → t.files ≡ files.items → IsNameTable t }
+        ensures dirs { result.dirs ≡ dirs }
+        ensures files { result.files ≡ files.items }
+        ensures unnoted { result.noted ≡ None }
+    {
+        NameTree {
+            dirs,
+            files,
+            notes: NameNotes::off(),
+        }
+    }
+
+    // ---- notes
+
+    /// From now on each change is noted. What was noted before is lost.
+    pub fn begin_notes(&mut self, alloc: Global)
+        ensures { self.new ≡ record self.old { noted = Some [] } }
+    {
+        self.notes = NameNotes::begin(alloc);
+    }
+
+    /// Lends the notes, for a commit. Until they are put back nothing is noted, and what is noted is lost then.
+    pub fn take_notes(&mut self) -> NameNotes
+        ensures notes { result ≡ self.old.noted }
+        ensures rest { self.new ≡ record self.old { noted = None } }
+    {
+        mem::replace(&mut self.notes, NameNotes::off())
+    }
+
+    /// Puts notes in the place of those that there are.
+    pub fn put_notes(&mut self, notes: NameNotes)
+        ensures { self.new ≡ record self.old { noted = notes } }
+    {
+        self.notes = notes;
+    }
+
+    // ---- answers
 
     /// What stands at the end of a path, and in which directory its last name is looked for, by one look-up for each
     /// of its names. The error is that of the first name but the last that is no directory (POSIX.1-2017, 4.13).

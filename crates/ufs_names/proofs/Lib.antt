@@ -39,3 +39,5 @@ pub mod SyncLemmas
 pub mod UndoneLemmas
 pub mod UnnamedLemmas
 pub mod WalkLinks
+mod ClosedLemmas
+pub mod NotedLemmas

@@ -6,3 +6,5 @@ pub mod Space
 pub mod Steps
 pub mod Laws
 pub mod Needs
+pub mod Closed
+pub mod Notes

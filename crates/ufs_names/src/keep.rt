@@ -7,9 +7,11 @@ use ufs_files::FileHands;
 impl Names {
     ghost use Rattle.std.specs.Prelude.{◌≡◌, ◌≢◌, ℕ, List, Some, false, IsSome};
     ghost use Rattle.std.specs.FinMap as map;
+    ghost use Rattle.std.specs.FinSet as set;
     ghost use Rattle.ufs_dir_tree.specs.DirTable.{found_at};
     ghost use Rattle.ufs_dir_tree.specs.declared.found.Found.TheVariants as found;
     ghost use Rattle.ufs_name_tree.specs.NameTable.{file_at, node_at};
+    ghost use Rattle.ufs_name_tree.specs.Notes.{GoesByNotes};
     ghost use Rattle.ufs_names.specs.NamesPart.{holding_of, is_kept};
     ghost use Rattle.ufs_names.specs.Space.{AreApart};
     ghost use Rattle.ufs_names.specs.Steps.{KeepsSpace, Settles};
@@ -31,6 +33,7 @@ impl Names {
         ensures nodes { (names : List (List ℕ)) → node_at self.new.tree names ≡ node_at self.old.tree names }
         ensures settles { Settles self.old self.new files.old files.new file holding }
         ensures space { KeepsSpace self.old self.new files.old files.new pool.old pool.new }
+        ensures noted { GoesByNotes self.old.tree self.new.tree set.empty }
     {
         if !holding.is_kept() {
             self.held.remove(file);

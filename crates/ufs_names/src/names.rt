@@ -62,6 +62,7 @@ impl Names {
     ghost use Rattle.ufs_model.specs.declared.data.Excuse.{Excuse};
     ghost use Rattle.ufs_model.specs.declared.data.Reply.TheVariants as reply;
     ghost use Rattle.ufs_name_tree.specs.NameTable.{IsNameTable, node_of};
+    ghost use Rattle.ufs_name_tree.specs.Notes.{GoesByNotes};
     ghost use Rattle.ufs_names.specs.Calls.{HaveInodes, IsAsked, IsOfNames, IsServed};
     ghost use Rattle.ufs_names.specs.NamesPart.{IsPartOf};
     ghost use Rattle.ufs_names.specs.Space.{AreApart, HaveTheSame, IsCause};
@@ -138,6 +139,8 @@ impl Names {
         ensures inodes { HaveInodes self.old.held files.old → HaveInodes self.new.held files.new }
         ensures together { HaveTheSame self.old.tree.dirs files.old pool.old self.new.tree.dirs files.new pool.new }
         ensures apart { AreApart self.new.tree.dirs files.new pool.new }
+        // what the disk is to be told of it is noted, where something is noted still
+        ensures noted { GoesByNotes self.old.tree self.new.tree pool.old }
     {
         let desc = ask.desc;
         match self.serve(&ask, files, pool) {
@@ -155,6 +158,7 @@ impl Names {
         requires apart { AreApart self.old.tree.dirs files.old pool.old }
         ensures ok { IfOk result (λ s. (t : PosixTree) → IsAsked t self.old ask.now files.old → IsServed t ask.now self.new files.old files.new s.reply s.desc) }
         ensures space { OnOk result (KeepsSpace self.old self.new files.old files.new pool.old pool.new) }
+        ensures noted { OnOk result (GoesByNotes self.old.tree self.new.tree pool.old) }
         ensures cause { IfErr result (IsCause self.old.tree.dirs pool.old ask.now.op) }
         ensures fits { IfErr result (λ x. (t : PosixTree) → IsAsked t self.old ask.now files.old → ExcuseFits t ask.now.client ask.now.op x) }
         ensures err { OnErr result (self.new ≡ self.old) }

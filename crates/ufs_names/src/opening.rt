@@ -19,6 +19,7 @@ impl Names {
     ghost use Rattle.ufs_model.specs.declared.data.Node.TheVariants as node;
     ghost use Rattle.ufs_name_tree.specs.NameTable.{file_at, node_at, node_of};
     ghost use Rattle.ufs_name_tree.specs.Nodes.{SetsNode};
+    ghost use Rattle.ufs_name_tree.specs.Notes.{GoesByNotes};
     ghost use Rattle.ufs_names.specs.NamesPart.{AreInodesOf, holding_of};
     ghost use Rattle.ufs_names.specs.Space.{AreApart};
     ghost use Rattle.ufs_names.specs.Steps.{AddsFile, KeepsSpace, Opens, OpensFile};
@@ -49,6 +50,7 @@ impl Names {
         ensures nodes { OnOk result (look.found ≡ None → SetsNode (node_at self.old.tree) (node_at self.new.tree) path.now (Some (node.File self.old.next))) }
         ensures clients { OnOk result ((i f : ℕ) → look.found ≡ Some (met.File i) → file_at self.old.tree i ≡ Some f → length (holding_of self.old.held f).clients ≡ 16) }
         ensures space { OnOk result (KeepsSpace self.old self.new files.old files.new pool.old pool.new) }
+        ensures noted { OnOk result (GoesByNotes self.old.tree self.new.tree pool.old) }
         ensures cause { IfErr result (λ x. x ≢ excuse.Memory → (look.found ≡ None) × LacksSpace self.old.tree.dirs pool.old (names_above path.now) x) }
         ensures listed { IfErr result (λ x. x ≢ excuse.Memory → x ≢ excuse.Inodes → IsListed (dir_at self.old.tree.dirs look.dir)) }
         ensures err { OnErr result (self.new ≡ self.old) }
@@ -90,6 +92,7 @@ impl Names {
         ensures ok { OnOk result (AddsFile self.old self.new files.old files.new client) }
         ensures nodes { OnOk result (SetsNode (node_at self.old.tree) (node_at self.new.tree) path.now (Some (node.File self.old.next))) }
         ensures space { OnOk result (KeepsSpace self.old self.new files.old files.new pool.old pool.new) }
+        ensures noted { OnOk result (GoesByNotes self.old.tree self.new.tree pool.old) }
         ensures cause { IfErr result (LacksSpace self.old.tree.dirs pool.old (names_above path.now)) }
         ensures listed { IfErr result (λ x. x ≢ excuse.Memory → x ≢ excuse.Inodes → IsListed (dir_at self.old.tree.dirs dir)) }
         ensures err { OnErr result (self.new ≡ self.old) }
@@ -143,6 +146,7 @@ impl Names {
         ensures ok { IfOk result (OpensFile self.old self.new files.old files.new client trunc) }
         ensures clients { (f : ℕ) → file_at self.old.tree inode ≡ Some f → length (holding_of self.old.held f).clients ≡ 16 }
         ensures space { OnOk result (KeepsSpace self.old self.new files.old files.new pool.old pool.new) }
+        ensures noted { OnOk result (GoesByNotes self.old.tree self.new.tree pool.old) }
         ensures cause { IfErr result (λ x. x ≡ excuse.Memory) }
         ensures err { OnErr result (self.new ≡ self.old) }
         ensures err_files { OnErr result (files.new ≡ files.old) }

@@ -31,6 +31,7 @@ impl Names {
     ghost use Rattle.ufs_model.specs.declared.data.Node.TheVariants as node;
     ghost use Rattle.ufs_name_tree.specs.NameTable.{file_at, node_at};
     ghost use Rattle.ufs_name_tree.specs.Nodes.{SetsNode};
+    ghost use Rattle.ufs_name_tree.specs.Notes.{GoesByNotes};
     ghost use Rattle.ufs_names.specs.Calls.{IsAsked, IsServed};
     ghost use Rattle.ufs_names.specs.NamesPart.{IsPartOf, AreInodesOf};
     ghost use Rattle.ufs_names.specs.PathCalls.{path_asked, IsAllowed, IsStat, IsList};
@@ -52,6 +53,7 @@ impl Names {
         requires apart { AreApart self.old.tree.dirs files.old pool.old }
         ensures ok { IfOk result (λ s. (t : PosixTree) → IsAsked t self.old ask.now files.old → own_refusal t ask.now.client ask.now.op ≡ None → IsServed t ask.now self.new files.old files.new s.reply s.desc) }
         ensures space { OnOk result (KeepsSpace self.old self.new files.old files.new pool.old pool.new) }
+        ensures noted { OnOk result (GoesByNotes self.old.tree self.new.tree pool.old) }
         ensures cause { IfErr result (IsCause self.old.tree.dirs pool.old ask.now.op) }
         ensures fits { IfErr result (λ x. (t : PosixTree) → IsAsked t self.old ask.now files.old → own_refusal t ask.now.client ask.now.op ≡ None → ExcuseFits t ask.now.client ask.now.op x) }
         ensures err { OnErr result (self.new ≡ self.old) }
@@ -149,6 +151,7 @@ impl Names {
         requires apart { AreApart self.old.tree.dirs files.old pool.old }
         ensures ok { IfOk result (λ desc. (t : PosixTree) → IsAllowed t ask.now self.old files.old path.now look.found → IsServed t ask.now self.new files.old files.new (answer t ask.now.client ask.now.op) desc) }
         ensures space { OnOk result (KeepsSpace self.old self.new files.old files.new pool.old pool.new) }
+        ensures noted { OnOk result (GoesByNotes self.old.tree self.new.tree pool.old) }
         ensures fits { IfErr result (λ x. (t : PosixTree) → IsAllowed t ask.now self.old files.old path.now look.found → ExcuseFits t ask.now.client ask.now.op x) }
         ensures cause { IfErr result (IsCause self.old.tree.dirs pool.old ask.now.op) }
         ensures err { OnErr result (self.new ≡ self.old) }
@@ -197,6 +200,7 @@ impl Names {
         ensures ok { OnOk result (self.new ≡ record self.old { tree = self.new.tree }) }
         ensures files { self.new.tree.files ≡ self.old.tree.files }
         ensures space { OnOk result (KeepsSpace self.old self.new files.now files.now pool.old pool.new) }
+        ensures noted { OnOk result (GoesByNotes self.old.tree self.new.tree pool.old) }
         ensures cause { IfErr result (LacksSpace self.old.tree.dirs pool.old (names_above path.now)) }
         ensures listed { IfErr result (λ x. x ≢ excuse.Inodes → IsListed (dir_at self.old.tree.dirs dir)) }
         ensures err { OnErr result (self.new ≡ self.old) }
@@ -219,6 +223,7 @@ impl Names {
         requires apart { AreApart self.old.tree.dirs files.old pool.old }
         ensures removed { Removes self.old self.new files.old files.new path.now }
         ensures space { KeepsSpace self.old self.new files.old files.new pool.old pool.new }
+        ensures noted { GoesByNotes self.old.tree self.new.tree pool.old }
     {
         // A file that was met has its number.
         self.tree.is_table();

@@ -20,6 +20,7 @@ impl Names {
     ghost use Rattle.std.specs.Prelude.{◌≡◌, ◌≢◌, ◌↔◌, ℕ, List, [], Some, None, false, IsSome, IfOk, IfErr, OnOk, OnErr};
     ghost use Rattle.std.specs.Option.{option_map};
     ghost use Rattle.std.specs.FinMap as map;
+    ghost use Rattle.std.specs.FinSet as set;
     ghost use Rattle.ufs_dir_tree.specs.DirTable.{dir_at, found_at, slots_at};
     ghost use Rattle.ufs_dir_tree.specs.DirCalls.{names_above, IsBare, IsListed, MayMove, LacksRoom};
     ghost use Rattle.ufs_dir_tree.specs.declared.found.Found.TheVariants as met;
@@ -32,6 +33,7 @@ impl Names {
     ghost use Rattle.ufs_model.specs.declared.data.Op.TheVariants as op;
     ghost use Rattle.ufs_name_tree.specs.NameTable.{IsNameTable, file_at, node_at, node_of};
     ghost use Rattle.ufs_name_tree.specs.Nodes.{MovesNodes};
+    ghost use Rattle.ufs_name_tree.specs.Notes.{GoesByNotes};
     ghost use Rattle.ufs_names.specs.Calls.{IsAsked, IsServed};
     ghost use Rattle.ufs_names.specs.NamesPart.{IsPartOf, AreInodesOf};
     ghost use Rattle.ufs_names.specs.PathCalls.{RefusesRename};
@@ -52,6 +54,7 @@ impl Names {
         requires apart { AreApart self.old.tree.dirs files.old pool.old }
         ensures ok { IfOk result (λ s. (t : PosixTree) → IsAsked t self.old ask.now files.old → own_refusal t ask.now.client ask.now.op ≡ None → IsServed t ask.now self.new files.old files.new s.reply s.desc) }
         ensures space { OnOk result (KeepsSpace self.old self.new files.old files.new pool.old pool.new) }
+        ensures noted { OnOk result (GoesByNotes self.old.tree self.new.tree pool.old) }
         ensures cause { IfErr result (IsCause self.old.tree.dirs pool.old ask.now.op) }
         ensures fits { IfErr result (λ x. (t : PosixTree) → IsAsked t self.old ask.now files.old → own_refusal t ask.now.client ask.now.op ≡ None → ExcuseFits t ask.now.client ask.now.op x) }
         ensures err { OnErr result (self.new ≡ self.old) }
@@ -144,6 +147,7 @@ impl Names {
         ensures moved { OnOk result (whole_path from.now ≢ whole_path to.now → MovesNodes (node_at self.old.tree) (node_at self.new.tree) from.now to.now) }
         ensures loses { OnOk result (whole_path from.now ≢ whole_path to.now → LosesName self.old self.new files.old files.new (file_of (node_at self.old.tree to.now))) }
         ensures space { OnOk result (KeepsSpace self.old self.new files.old files.new pool.old pool.new) }
+        ensures noted { OnOk result (GoesByNotes self.old.tree self.new.tree pool.old) }
         ensures cause { IfErr result (LacksRoom self.old.tree.dirs pool.old (names_above to.now)) }
         ensures absent { OnErr result (found_at self.old.tree.dirs to.now ≡ None) }
         ensures listed { OnErr result (IsListed (dir_at self.old.tree.dirs step.to.dir)) }
@@ -175,6 +179,7 @@ impl Names {
         ensures nodes { (names : List (List ℕ)) → node_at self.new.tree names ≡ node_at self.old.tree names }
         ensures loses { LosesName self.old self.new files.old files.new (file_of (option_map (node_of self.old.tree) found)) }
         ensures space { KeepsSpace self.old self.new files.old files.new pool.old pool.new }
+        ensures noted { GoesByNotes self.old.tree self.new.tree set.empty }
     {
         let Some(Found::File { inode }) = found else {
             return;

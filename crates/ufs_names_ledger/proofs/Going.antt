@@ -12,7 +12,7 @@ use Rattle.ufs_image.specs.Folding.{with_committed_in}
 use Rattle.ufs_dir_tree.specs.DirTable.{DirTable}
 use Rattle.ufs_ledger.specs.Ledger.{Stand}
 use Rattle.ufs_ledger.specs.Kept.{Numbers, IsNumberedBy}
-use Rattle.ufs_name_log.specs.Steps.{DirState, Step, after_all}
+use Rattle.ufs_dir_tree.specs.Steps.{DirState, Step, after_all}
 use Rattle.ufs_name_log.specs.Held.{HasState, MaySteps, HasSoundNames}
 use Rattle.ufs_name_log.specs.Laws.{change, AreOlder, StepsAreTold}
 use Rattle.ufs_name_log.specs.Files.{KeepsInode, MayGoOn}

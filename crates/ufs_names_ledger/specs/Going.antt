@@ -8,7 +8,7 @@ use Rattle.ufs_prefix.specs.Changes.{name_changes, names_after}
 use Rattle.ufs_prefix.specs.Stored.{IsNamed}
 use Rattle.ufs_ledger.specs.Ledger.{Stand}
 use Rattle.ufs_ledger.specs.Kept.{Numbers}
-use Rattle.ufs_name_log.specs.Steps.{DirState, Step, after_all}
+use Rattle.ufs_dir_tree.specs.Steps.{DirState, Step, after_all}
 use Rattle.ufs_name_log.specs.Held.{HasState, MaySteps, HasSoundNames}
 use Rattle.ufs_name_log.specs.Laws.{AreOlder}
 use Rattle.ufs_name_log.specs.Files.{KeepsInode, MayGoOn}

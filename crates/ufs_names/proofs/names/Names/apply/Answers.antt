@@ -1,6 +1,8 @@
+use Rattle.ufs_name_tree.proofs.NoteChains.{notes_same}
 use Rattle.std.proofs.Common.{◌≡◌, true, ap, sym, ◌∙◌}
 use Rattle.ufs_model.specs.History.{is_excused}
 use Rattle.ufs_names.proofs.ReplyLemmas.{served_plain}
+use Rattle.ufs_names.specs.NamesPart.{NamesPart}
 use Rattle.ufs_names.proofs.names.Names.apply.Goals as goal
 use Rattle.ufs_names.proofs.names.Names.apply.Goals.{After-answered}
 
@@ -25,3 +27,6 @@ returns-in-Ok-clause-files c e = absurd (plain c e)
 
 pub returns-in-Ok-clause-pool : goal.returns-in-Ok-clause-pool
 returns-in-Ok-clause-pool c e = absurd (plain c e)
+
+pub returns-in-Err-clause-noted : goal.returns-in-Err-clause-noted
+returns-in-Err-clause-noted c = notes_same c.args.self.now.tree c.serve.new.self.tree c.args.pool.now (ap (λ (n : NamesPart). n.tree) c.in-Err.ensures.err)

@@ -1,3 +1,4 @@
+use Rattle.ufs_name_tree.proofs.NoteChains.{notes_stay}
 use Rattle.std.proofs.Common.{ℕ, List, Option, None, is_some, ap, refl, sym, ◌∙◌}
 use Rattle.std.specs.Prelude.{slice_index_or}
 use Rattle.std.specs.FinMap as map
@@ -101,3 +102,9 @@ returns-in-Err-clause-fits c t is =
     fits_open c.args.self.now c.args.files.now t c.args.ask.now c.args.path.now c.args.look.found is c.args.look.dir
     (c.requires.dir (open_may c.args.self.now c.args.files.now t c.args.ask.now c.args.path.now c.args.look.found is o.path o.read o.write o.creat o.excl o.trunc o.append o.is absent).below)
     c.args.pool.now c.in-Err.excuse c.in-Err.ensures.listed o.path o.read o.write o.creat o.excl o.trunc o.append o.is c.in-Err.ensures.cause)
+
+pub returns-in-Stat-clause-noted : goal.returns-in-Stat-clause-noted
+returns-in-Stat-clause-noted c = notes_stay c.args.self.now.tree c.args.pool.now
+
+pub returns-in-List-clause-noted : goal.returns-in-List-clause-noted
+returns-in-List-clause-noted c = notes_stay c.args.self.now.tree c.args.pool.now

@@ -1,3 +1,5 @@
+use Rattle.ufs_name_tree.proofs.NoteChains.{notes_on, notes_stay}
+use Rattle.ufs_name_tree.specs.Notes.{GoesByNotes}
 use Rattle.std.proofs.Common.{◌≡◌, ℕ, List, true, Option, Some, None, is_some, ap, refl, sym, subst, ◌∙◌}
 use Rattle.std.specs.Option.{option_map}
 use Rattle.ufs_bitmap.specs.Blocks.{BlockSet}
@@ -71,3 +73,11 @@ returns-clause-space c =
     c.args.pool.now c.rename.new.pool c.args.step.to.dir c.requires.to_dir c.in_ok-rename.ensures.replaced c.in_ok-rename.ensures.block c.in_ok-rename.ensures.apart)
     (ap (λ (n : NamesPart). n.held) c.self.view_is) refl)
     c.forget_name.ensures.space
+
+pub returns-then-eq-clause-noted : goal.returns-then-eq-clause-noted
+returns-then-eq-clause-noted c = notes_stay c.args.self.now.tree c.args.pool.now
+
+pub returns-clause-noted : goal.returns-clause-noted
+returns-clause-noted c =
+    subst (λ (n : NamesPart). GoesByNotes n.tree c.forget_name.new.self.tree c.args.pool.now) c.self.view_is
+    (notes_on c.self.inside.tree c.rename.new.self c.forget_name.new.self.tree c.args.pool.now c.rename.ensures.noted c.forget_name.ensures.noted)

@@ -1,3 +1,5 @@
+use Rattle.std.specs.FinSet as set
+use Rattle.ufs_name_tree.proofs.NoteChains.{notes_stay}
 use Rattle.std.proofs.Common.{◌≡◌, true, false, is_some, ap, sym, ◌∙◌}
 use Rattle.std.specs.FinMap as map
 use Rattle.ufs_name_tree.specs.NameTable.{file_at}
@@ -12,3 +14,9 @@ unreachable-requires-in_default-get c =
     let none = ap (λ (n : NamesPart). map.get n.held c.in-Some.file) (sym c.self.view_is) ∙ sym c.get.ensures ∙ c.in_default-get.is in
     let no : true ≡ false = sym here ∙ ap is_some none in
     cc
+
+pub returns-in_default-clause-noted : goal.returns-in_default-clause-noted
+returns-in_default-clause-noted c = notes_stay c.args.self.now.tree set.empty
+
+pub returns-in_default-2-clause-noted : goal.returns-in_default-2-clause-noted
+returns-in_default-2-clause-noted c = notes_stay c.args.self.now.tree set.empty

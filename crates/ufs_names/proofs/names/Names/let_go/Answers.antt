@@ -1,3 +1,5 @@
+use Rattle.std.specs.FinSet as set
+use Rattle.ufs_name_tree.proofs.NoteChains.{notes_stay}
 use Rattle.std.proofs.Common.{◌≡◌, ℕ, true, false, Option, Some, is_some, ap, sym, subst, ◌∙◌}
 use Rattle.std.specs.FinMap as map
 use Rattle.ufs_dir_tree.specs.declared.found.Found.TheVariants as met
@@ -34,3 +36,9 @@ settle-requires-clause-unmet c gone names at =
     goes_unmet c.args.self.now a.0 c.args.ask.now c.args.files.now a.1 c.requires.close.0 c.requires.close.1 a.2 c.in-Some-file.file (ap file_in c.in-Some.is ∙ c.in-Some-file.is)
     (subst (λ (n : NamesPart). IsNameTable n.tree) c.self.view_is c.is_table.ensures) (ap is_kept (left _ c.args.self.now c.in-Some-file.file c.args.ask.now.client c.get.result c.in-Some-get.holding c.without.result c.self.view_is c.get.ensures c.in-Some-get.is c.without.ensures) ∙ gone) names
     (at ∙ ap (λ (h : Holding). Some (met.File h.inode)) (sym (left _ c.args.self.now c.in-Some-file.file c.args.ask.now.client c.get.result c.in-Some-get.holding c.without.result c.self.view_is c.get.ensures c.in-Some-get.is c.without.ensures)))
+
+pub returns-in_default-file-clause-noted : goal.returns-in_default-file-clause-noted
+returns-in_default-file-clause-noted c = notes_stay c.args.self.now.tree set.empty
+
+pub returns-then-not-ask-clause-noted : goal.returns-then-not-ask-clause-noted
+returns-then-not-ask-clause-noted c = notes_stay c.args.self.now.tree set.empty

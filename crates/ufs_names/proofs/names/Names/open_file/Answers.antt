@@ -1,3 +1,4 @@
+use Rattle.ufs_name_tree.proofs.NoteChains.{notes_same}
 use Rattle.std.proofs.Common.{true≢false, is_some, ap, sym, ◌∙◌}
 use Rattle.std.specs.FinMap as map
 use Rattle.ufs_names.specs.NamesPart.{NamesPart}
@@ -30,3 +31,6 @@ returns-clause-space c =
           (w.pool-is ∙ not_err w.empty.result w.is_err.result w.is_err.ensures.value w.if-is_err.false w.empty.ensures.pool)
       | else-trunc-via-else-trunc w ↦ keeps_opened n c.requires.inodes c.in-Some.file c.args.inode at _ c.args.files.now c.else-trunc.files c.args.pool.now c.else-trunc.pool c.requires.apart (ap (λ (n : NamesPart). n.tree) c.self.view_is) c.with.result same held w.files-is w.pool-is
     ]
+
+pub returns-clause-noted : goal.returns-clause-noted
+returns-clause-noted c = notes_same c.args.self.now.tree c.self.inside.tree c.args.pool.now (ap (λ (n : NamesPart). n.tree) c.self.view_is)

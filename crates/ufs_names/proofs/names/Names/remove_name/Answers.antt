@@ -1,3 +1,5 @@
+use Rattle.ufs_name_tree.proofs.NoteChains.{notes_on}
+use Rattle.ufs_name_tree.specs.Notes.{GoesByNotes}
 use Rattle.std.proofs.Common.{ap, refl, sym, subst, ◌∙◌}
 use Rattle.ufs_dir_tree.specs.DirTable.{found_at}
 use Rattle.ufs_dir_tree.specs.declared.found.Found.TheVariants.{File}
@@ -26,3 +28,8 @@ returns-clause-space c =
     (freed c.self.inside.tree.dirs c.remove.new.self.dirs c.args.pool.now c.remove.new.pool (found_at c.self.inside.tree.dirs c.args.path.now) c.remove.ensures.freed c.remove.ensures.apart))
     (ap (λ (n : NamesPart). n.held) c.self.view_is) refl)
     c.forget_name.ensures.space
+
+pub returns-clause-noted : goal.returns-clause-noted
+returns-clause-noted c =
+    subst (λ (n : NamesPart). GoesByNotes n.tree c.forget_name.new.self.tree c.args.pool.now) c.self.view_is
+    (notes_on c.self.inside.tree c.remove.new.self c.forget_name.new.self.tree c.args.pool.now c.remove.ensures.noted c.forget_name.ensures.noted)

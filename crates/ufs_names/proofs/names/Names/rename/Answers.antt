@@ -1,3 +1,4 @@
+use Rattle.ufs_name_tree.proofs.NoteChains.{notes_stay}
 use Rattle.std.proofs.Common.{Some}
 use Rattle.ufs_names.proofs.RefusedLemmas.{served_refused}
 use Rattle.ufs_names.proofs.RenameServed.{texts, rename_fits, rename_refused, rename_here, rename_may, served_rename}
@@ -40,3 +41,6 @@ returns-in-Ok-change_rename-clause-ok c t asked own =
     let done = c.in-Ok-change_rename.ensures in
     served_rename c.args.self.now t c.args.ask.now c.args.files.now asked p.0 p.1.0 p.1.1 own c.args.from.now c.args.to.now p.1.2 p.1.3 (c.in-Ok.ensures.passed t p.0 p.1.0 asked.part text.0 text.1 p.1.2 p.1.3)
     c.a_request_keeps_the_tree.ensures c.change_rename.new.self c.change_rename.new.files done.same done.same_files done.moved done.loses
+
+pub returns-in-Err-clause-noted : goal.returns-in-Err-clause-noted
+returns-in-Err-clause-noted c = notes_stay c.args.self.now.tree c.args.pool.now

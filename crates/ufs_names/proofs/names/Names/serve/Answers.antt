@@ -1,3 +1,4 @@
+use Rattle.ufs_name_tree.proofs.NoteChains.{notes_stay, notes_less}
 use Rattle.std.proofs.Common.{Option, ap, refl, sym, ◌∙◌}
 use Rattle.ufs_model.specs.declared.data.Excuse.TheVariants.{Memory}
 use Rattle.ufs_base.specs.Choices.{first_of}
@@ -33,3 +34,12 @@ close-requires-clause-asked c = let a = c.requires.asked in (a.0, a.1, sym (c.ow
 pub returns-in-Fsync-clause-ok : goal.returns-in-Fsync-clause-ok
 returns-in-Fsync-clause-ok c t asked =
     served_either c.args.self.now t c.args.ask.now c.args.files.now asked c.in-Fsync.is (sym (c.own_refusal.ensures t c.args.ask.now.client asked.asked.desc asked.asked.fd) ∙ c.in_default.is)
+
+pub returns-in-Some-clause-noted : goal.returns-in-Some-clause-noted
+returns-in-Some-clause-noted c = notes_stay c.args.self.now.tree c.args.pool.now
+
+pub returns-in-Fsync-clause-noted : goal.returns-in-Fsync-clause-noted
+returns-in-Fsync-clause-noted c = notes_stay c.args.self.now.tree c.args.pool.now
+
+pub returns-in-Close-clause-noted : goal.returns-in-Close-clause-noted
+returns-in-Close-clause-noted c = notes_less c.args.self.now.tree c.close.new.self.tree c.args.pool.now c.close.ensures.noted

@@ -1,3 +1,4 @@
+use Rattle.ufs_name_tree.proofs.NoteChains.{notes_stay}
 use Rattle.std.proofs.Common.{◌≡◌, [], Some, sym, ◌∙◌, ap, subst}
 use Rattle.ufs_dir_tree.specs.DirTable.{found_at}
 use Rattle.ufs_model.specs.declared.data.Reply.{Reply}
@@ -79,3 +80,9 @@ returns-in-Ok-change_found-clause-ok c t asked own =
       table = subst IsNameTable (ap (λ (n : NamesPart). n.tree) c.self.view_is) c.in-Ok.ensures.table;
     } in
     subst (λ (r : Reply). IsServed t c.args.ask.now c.change_found.new.self c.args.files.now c.change_found.new.files r c.in-Ok-change_found.desc) (sym (c.in-Ok-answer_found.ensures t c.args.path.now is)) (c.in-Ok-change_found.ensures.ok t is)
+
+pub returns-in-Err-clause-noted : goal.returns-in-Err-clause-noted
+returns-in-Err-clause-noted c = notes_stay c.args.self.now.tree c.args.pool.now
+
+pub returns-in-Some-clause-noted : goal.returns-in-Some-clause-noted
+returns-in-Some-clause-noted c = notes_stay c.args.self.now.tree c.args.pool.now

@@ -1,3 +1,5 @@
+use Rattle.ufs_name_tree.proofs.NoteChains.{notes_same}
+use Rattle.std.specs.FinSet as set
 use Rattle.std.proofs.Common.{ap, refl, sym, subst, ◌∙◌}
 use Rattle.std.specs.FinMap as map
 use Rattle.ufs_dir_tree.specs.DirTable.{DirTable, blocks_at}
@@ -26,3 +28,6 @@ returns-clause-space c =
     (ap (λ (n : NamesPart). n.tree) c.self.view_is)
     (c.in-Ok.ensures.ok ∙ ap (λ (n : NamesPart). map.insert n.held c.args.file c.args.holding) c.self.view_is)
     refl refl
+
+pub returns-clause-noted : goal.returns-clause-noted
+returns-clause-noted c = notes_same c.args.self.now.tree c.self.inside.tree set.empty (ap (λ (n : NamesPart). n.tree) c.self.view_is)

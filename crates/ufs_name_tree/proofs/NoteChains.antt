@@ -1,0 +1,91 @@
+-- Changes that are noted one behind the other.
+use Rattle.std.proofs.Common.{◌≡◌, inl, inr, List, [], ◌∷◌, ◌++◌, Option, Some, None, ap, sym, refl, ◌∙◌, subst}
+use Rattle.std.specs.FinSet as set
+use Rattle.std.specs.Ordering.{nat_cmp}
+use Rattle.std.proofs.lemmas.Bool.{true≢false}
+use Rattle.std.proofs.lemmas.List.{append-nil, append_assoc}
+use Rattle.ufs_bitmap.specs.Blocks.{BlockSet}
+use Rattle.ufs_layout.specs.declared.records.LogRecord.{LogRecord}
+use Rattle.ufs_dir_tree.specs.DirTable.{DirTable}
+use Rattle.ufs_dir_tree.specs.Steps.{DirState, Step, after, after_all, table_after, table_after_all}
+use Rattle.ufs_name_tree.specs.NameTable.{NameTable}
+use Rattle.ufs_name_tree.specs.Notes.{AreKindsOf, IsStateOf, MayNoteAll, GoesByNotes}
+use Rattle.ufs_name_tree.specs.Records.{record_of, records_of}
+use Rattle.ufs_name_tree.proofs.StepOrder.{all_after}
+
+records_on : (t : DirTable) (xs ys : List Step) → records_of t (xs ++ ys) ≡ records_of t xs ++ records_of (table_after_all xs t) ys
+records_on t [] ys = refl
+records_on t (x ∷ xs) ys = ap (λ (rs : List LogRecord). record_of t x ∷ rs) (records_on (table_after x t) xs ys)
+
+table_on : (t : DirTable) (xs ys : List Step) → table_after_all (xs ++ ys) t ≡ table_after_all ys (table_after_all xs t)
+table_on t [] ys = refl
+table_on t (x ∷ xs) ys = table_on (table_after x t) xs ys
+
+state_on : (s : DirState) (xs ys : List Step) → after_all (xs ++ ys) s ≡ after_all ys (after_all xs s)
+state_on s [] ys = refl
+state_on s (x ∷ xs) ys = state_on (after x s) xs ys
+
+may_on : (s : DirState) (xs ys : List Step) → MayNoteAll s xs → MayNoteAll (after_all xs s) ys → MayNoteAll s (xs ++ ys)
+may_on s [] ys first more = more
+may_on s (x ∷ xs) ys first more = (first.0, may_on (after x s) xs ys first.1 more)
+
+-- nothing changed
+pub notes_stay : (t : NameTable) (pool : BlockSet) → GoesByNotes t t pool
+notes_stay t pool = by t.noted refl
+  where
+    by : (n : Option (List LogRecord)) → t.noted ≡ n → GoesByNotes t t pool
+    by None none = inl none
+    by (Some records) some = inr (record {
+      steps = [];
+      noted = record { before = records; was = some; is = some ∙ ap Some (sym (append-nil records)) };
+      dirs = refl;
+      may = λ s is. tt;
+      kinds = λ s is. is.kinds;
+    })
+
+pub notes_same : (t u : NameTable) (pool : BlockSet) → u ≡ t → GoesByNotes t u pool
+notes_same t u pool same = subst (λ (x : NameTable). GoesByNotes t x pool) (sym same) (notes_stay t pool)
+
+-- a state in which any pool's blocks are zeros is one for no block
+no_block : (old : NameTable) (pool : BlockSet) (s : DirState) → IsStateOf old pool s → IsStateOf old set.empty s
+no_block old pool s is = record { table = is.table; kinds = is.kinds; zeroed = λ b held. absurd (true≢false (sym held ∙ set.contains-empty nat_cmp b)) }
+
+-- what takes no block takes none of any pool
+pub notes_less : (old new : NameTable) (pool : BlockSet) → GoesByNotes old new set.empty → GoesByNotes old new pool
+notes_less old new pool (inl gone) = inl gone
+notes_less old new pool (inr on) = inr (record {
+  steps = on.steps;
+  noted = on.noted;
+  dirs = on.dirs;
+  may = λ s is. on.may s (no_block old pool s is);
+  kinds = λ s is. on.kinds s (no_block old pool s is);
+})
+
+-- and one that takes no block may follow any
+pub notes_on : (old mid new : NameTable) (pool : BlockSet) → GoesByNotes old mid pool → GoesByNotes mid new set.empty → GoesByNotes old new pool
+notes_on old mid new pool one (inl gone) = inl gone
+notes_on old mid new pool (inl gone) (inr on) = let was = on.noted.was in absurd cc
+notes_on old mid new pool (inr one) (inr on) = inr (record {
+  steps = one.steps ++ on.steps;
+  noted = record {
+    before = one.noted.before;
+    was = one.noted.was;
+    is =
+        on.noted.is ∙ ap (λ (rs : List LogRecord). Some (rs ++ records_of mid.dirs on.steps)) before
+        ∙ ap Some (append_assoc one.noted.before (records_of old.dirs one.steps) (records_of mid.dirs on.steps)
+        ∙ ap (λ (rs : List LogRecord). one.noted.before ++ rs) (ap (λ (t : DirTable). records_of old.dirs one.steps ++ records_of t on.steps) one.dirs ∙ sym (records_on old.dirs one.steps on.steps)));
+  };
+  dirs = on.dirs ∙ ap (table_after_all on.steps) one.dirs ∙ sym (table_on old.dirs one.steps on.steps);
+  may = λ s is. may_on s one.steps on.steps (one.may s is) (on.may (after_all one.steps s) (between s is));
+  kinds = λ s is. subst (λ (u : DirState). AreKindsOf new u.kinds) (sym (state_on s one.steps on.steps)) (on.kinds (after_all one.steps s) (between s is));
+})
+  where
+    before : on.noted.before ≡ one.noted.before ++ records_of old.dirs one.steps
+    before = let same : Some on.noted.before ≡ Some (one.noted.before ++ records_of old.dirs one.steps) = sym on.noted.was ∙ one.noted.is in cc
+
+    between : (s : DirState) → IsStateOf old pool s → IsStateOf mid set.empty (after_all one.steps s)
+    between s is = record {
+      table = all_after s one.steps ∙ ap (table_after_all one.steps) is.table ∙ sym one.dirs;
+      kinds = one.kinds s is;
+      zeroed = λ b held. absurd (true≢false (sym held ∙ set.contains-empty nat_cmp b));
+    }

@@ -1,0 +1,79 @@
+-- What the notes of a tree's names say of a change of them.
+use Rattle.std.specs.Prelude.{ℕ, ◌≡◌, ◌≢◌, ◌*◌, ◌≤◌, ◌<◌, ◌⊎◌, ⊤, List, [], ◌∷◌, ◌++◌, length, true, IsTrue, Some, None}
+use Rattle.std.specs.FinSet as set
+use Rattle.ufs_base.specs.declared.sizes.TheConstants.{SLOTS_PER_BLOCK}
+use Rattle.ufs_layout.specs.DentryForm.{DentryForm, is_dentry}
+use Rattle.ufs_bitmap.specs.Blocks.{BlockSet}
+use Rattle.ufs_dirs.specs.Changes.{IsSlot}
+use Rattle.ufs_dirs.specs.declared.Slot.{Slot}
+use Rattle.ufs_dir_tree.specs.DirTable.{DirTable, IsUsed, dir_at, slots_at, blocks_at, found_at}
+use Rattle.ufs_dir_tree.specs.Space.{extents_of}
+use Rattle.ufs_dir_tree.specs.Steps.{DirState, Step, Born, Grown, Put, Freed, MayBear, after, after_all, table_after_all}
+use Rattle.ufs_dir_tree.specs.declared.found.Found.TheVariants.{Dir}
+use Rattle.ufs_ilog.specs.Notes.{IsNotedOn}
+use Rattle.ufs_name_tree.specs.NameTable.{NameTable, file_at}
+use Rattle.ufs_name_tree.specs.Records.{records_of}
+
+-- ---- the state of a disk
+
+-- A directory that is met has kind 2, a file's inode kind 1, and a free one kind 0.
+pub record AreKindsOf (n : NameTable) (kinds : ℕ → ℕ) : Type 0 where
+  pub dir : (i : ℕ) (names : List (List ℕ)) → found_at n.dirs names ≡ Some (Dir i) → kinds i ≡ 2
+  pub file : (i f : ℕ) → file_at n i ≡ Some f → kinds i ≡ 1
+  pub free : (i : ℕ) → set.contains n.dirs.free i ≡ true → kinds i ≡ 0
+
+-- The state has the directories and inodes of the names, and a directory may take each block of the pool.
+pub record IsStateOf (n : NameTable) (pool : BlockSet) (s : DirState) : Type 0 where
+  pub table : s.table ≡ n.dirs
+  pub kinds : AreKindsOf n s.kinds
+  pub zeroed : (b : ℕ) → set.contains pool b ≡ true → s.zeroed b ≡ true
+
+-- ---- which steps may be noted
+
+-- The directory takes a block that it may take. With it it lies in at most 56 extents.
+pub record MayNoteGrown (s : DirState) (dir block : ℕ) : Type 0 where
+  pub used : IsUsed s.table dir
+  pub is_dir : s.kinds dir ≡ 2
+  pub zeroed : s.zeroed block ≡ true
+  pub extents : length (extents_of (blocks_at s.table dir ++ block ∷ [])) ≤ 56
+
+-- The slot is one of the directory's, and the dentry is on its form.
+pub record MayNotePut (t : DirTable) (dir : ℕ) (slot : Slot) (d : DentryForm) : Type 0 where
+  pub used : IsUsed t dir
+  -- 64 slots a block
+  pub sized : length (slots_at t dir) ≡ SLOTS_PER_BLOCK * length (blocks_at t dir)
+  pub in_dir : IsSlot (dir_at t dir) slot
+  pub form : IsTrue (is_dentry d)
+  -- an inode of the table, or 0
+  pub inode : d.inode < length t.dirs
+
+-- The inode is used, and isn't the root.
+pub record MayNoteFreed (t : DirTable) (inode : ℕ) : Type 0 where
+  pub used : IsUsed t inode
+  pub no_root : inode ≢ 1
+
+-- It asks nothing of names, so that the slots that a call sets may be noted in the order of their sectors.
+abbrev pub MayNote : DirState → Step → Type 0
+MayNote s (Born i kind) = MayBear s.table i kind
+MayNote s (Grown i block) = MayNoteGrown s i block
+MayNote s (Put i slot d) = MayNotePut s.table i slot d
+MayNote s (Freed i) = MayNoteFreed s.table i
+
+-- each after those before it
+abbrev pub MayNoteAll : DirState → List Step → Type 0
+MayNoteAll s [] = ⊤
+MayNoteAll s (x ∷ xs) = MayNote s x × MayNoteAll (after x s) xs
+
+-- ---- a change
+
+-- Steps lead from the old names to the new ones, with blocks of this pool, and their records stand behind what was noted.
+pub record GoesNoted (old new : NameTable) (pool : BlockSet) : Type 0 where
+  pub steps : List Step
+  pub noted : IsNotedOn old.noted new.noted (records_of old.dirs steps)
+  pub dirs : new.dirs ≡ table_after_all steps old.dirs
+  pub may : (s : DirState) → IsStateOf old pool s → MayNoteAll s steps
+  pub kinds : (s : DirState) → IsStateOf old pool s → AreKindsOf new (after_all steps s).kinds
+
+-- The notes tell the change, or nothing is noted any more.
+abbrev pub GoesByNotes : NameTable → NameTable → BlockSet → Type 0
+GoesByNotes old new pool = (new.noted ≡ None) ⊎ GoesNoted old new pool

@@ -1,0 +1,310 @@
+// What the notes of a tree's names are told of a change.
+ghost use Rattle.std.specs.Prelude.{◌≡◌, ◌⊎◌, ◌<◌, ◌≤◌, ◌++◌, ◌∷◌, [], All, IfOk, IfSome, IsTrue, OnOk, length};
+ghost use Rattle.std.specs.List.{list_all};
+ghost use Rattle.ufs_base.specs.declared.sizes.TheConstants.{MAX_BLOCKS};
+ghost use Rattle.ufs_layout.specs.DentryForm.{free_slot, is_dentry};
+ghost use Rattle.ufs_layout.specs.Records.{is_record};
+ghost use Rattle.ufs_layout.specs.declared.records.LogRecord.TheVariants.{Free};
+ghost use Rattle.ufs_dir_tree.specs.DirTable.{IsDirTable};
+ghost use Rattle.ufs_dir_tree.specs.Space.{extents_of};
+ghost use Rattle.ufs_ilog.specs.Changes.{in_order, is_in_order};
+ghost use Rattle.ufs_ilog.specs.Deltas as log;
+ghost use Rattle.ufs_ilog.specs.Notes.{IsNotedBehind};
+ghost use Rattle.ufs_name_tree.specs.Records.{added_told, born_told, cleared_told, dir_delta, grown_told, moved_told, replaced_told, slot_told};
+
+use std::alloc::Global;
+use ufs_base::{BLOCK, Memory};
+use ufs_dir_tree::{Added, DirTree, Found, Moved};
+use ufs_dirs::Slot;
+use ufs_extent::{Extents, Run};
+use ufs_ilog::{Change, NameNotes, extents_from};
+use ufs_layout::{Dentry, ExtentList, LogRecord};
+
+/// The kind of a file's inode.
+pub(crate) const FILE: u8 = 1;
+
+/// The kind of a directory's inode.
+pub(crate) const DIRECTORY: u8 = 2;
+
+/// An inode that was born and got its name, in a directory that may have taken a block for it.
+pub(crate) fn note_added(
+    notes: &mut NameNotes,
+    dirs: &DirTree,
+    dir: u32,
+    added: Added,
+    dentry: Dentry,
+)
+    requires table { IsDirTable dirs.now }
+    requires slot { added.slot.slot < 8 }
+    requires form { IsTrue (is_dentry dentry) }
+    requires kind { (dentry.kind ≡ 1) ⊎ (dentry.kind ≡ 2) }
+    ensures { IsNotedBehind notes.old notes.new (in_order (added_told dirs.now dir added.grown added.slot dentry)) }
+{
+    let Some(alloc) = notes.alloc() else {
+        return;
+    };
+    match added_change(alloc, dirs, dir, added, dentry) {
+        Ok(change) => notes.note(change),
+        Err(_) => notes.lose(),
+    }
+}
+
+/// A name that went, with the inode of a directory that it stood for.
+pub(crate) fn note_removed(notes: &mut NameNotes, slot: Slot, found: Option<Found>)
+    requires slot { slot.slot < 8 }
+    ensures { IsNotedBehind notes.old notes.new (in_order (cleared_told slot found)) }
+{
+    let Some(alloc) = notes.alloc() else {
+        return;
+    };
+    match removed_change(alloc, slot, found) {
+        Ok(change) => notes.note(change),
+        Err(_) => notes.lose(),
+    }
+}
+
+/// A dentry that moved to another slot, and `found`, which had its name before.
+pub(crate) fn note_moved(
+    notes: &mut NameNotes,
+    dirs: &DirTree,
+    dir: u32,
+    moved: Moved,
+    found: Option<Found>,
+    dentry: Dentry,
+)
+    requires table { IsDirTable dirs.now }
+    requires left { moved.left.slot < 8 }
+    requires taken { moved.taken.slot < 8 }
+    requires dropped { IfSome moved.dropped (λ slot. slot.slot < 8) }
+    requires form { IsTrue (is_dentry dentry) }
+    ensures { IsNotedBehind notes.old notes.new (in_order (moved_told dirs.now dir moved found dentry)) }
+{
+    let Some(alloc) = notes.alloc() else {
+        return;
+    };
+    match moved_change(alloc, dirs, dir, moved, found, dentry) {
+        Ok(change) => notes.note(change),
+        Err(_) => notes.lose(),
+    }
+}
+
+/// A file's inode that is free.
+pub(crate) fn note_freed(notes: &mut NameNotes, inode: u32)
+    ensures { IsNotedBehind notes.old notes.new (Free inode ∷ []) }
+{
+    let Some(alloc) = notes.alloc() else {
+        return;
+    };
+    match freed_change(alloc, inode) {
+        Ok(change) => notes.note(change),
+        Err(_) => notes.lose(),
+    }
+}
+
+// ---- changes
+
+fn added_change(
+    alloc: Global,
+    dirs: &DirTree,
+    dir: u32,
+    added: Added,
+    dentry: Dentry,
+) -> Result<Change, Memory>
+    requires table { IsDirTable dirs.now }
+    requires slot { added.slot.slot < 8 }
+    requires form { IsTrue (is_dentry dentry) }
+    requires kind { (dentry.kind ≡ 1) ⊎ (dentry.kind ≡ 2) }
+    ensures records { IfOk result (λ c. c.records ≡ in_order (added_told dirs.now dir added.grown added.slot dentry)) }
+    ensures form { IfOk result (λ c. IsTrue (list_all is_record c.records)) }
+    ensures order { IfOk result (λ c. IsTrue (is_in_order c.records)) }
+{
+    let mut records = Vec::new(alloc);
+    tell_grown(alloc, &mut records, dirs, dir, added.grown)?;
+    tell_born(alloc, &mut records, dentry.inode, dentry.kind)?;
+    tell_slot(&mut records, added.slot, dentry)?;
+    Change::in_order(alloc, records)
+}
+
+fn removed_change(alloc: Global, slot: Slot, found: Option<Found>) -> Result<Change, Memory>
+    requires slot { slot.slot < 8 }
+    ensures records { IfOk result (λ c. c.records ≡ in_order (cleared_told slot found)) }
+    ensures form { IfOk result (λ c. IsTrue (list_all is_record c.records)) }
+    ensures order { IfOk result (λ c. IsTrue (is_in_order c.records)) }
+{
+    let mut records = Vec::new(alloc);
+    tell_cleared(&mut records, slot, found)?;
+    Change::in_order(alloc, records)
+}
+
+fn moved_change(
+    alloc: Global,
+    dirs: &DirTree,
+    dir: u32,
+    moved: Moved,
+    found: Option<Found>,
+    dentry: Dentry,
+) -> Result<Change, Memory>
+    requires table { IsDirTable dirs.now }
+    requires left { moved.left.slot < 8 }
+    requires taken { moved.taken.slot < 8 }
+    requires dropped { IfSome moved.dropped (λ slot. slot.slot < 8) }
+    requires form { IsTrue (is_dentry dentry) }
+    ensures records { IfOk result (λ c. c.records ≡ in_order (moved_told dirs.now dir moved found dentry)) }
+    ensures form { IfOk result (λ c. IsTrue (list_all is_record c.records)) }
+    ensures order { IfOk result (λ c. IsTrue (is_in_order c.records)) }
+{
+    let mut records = Vec::new(alloc);
+    tell_replaced(&mut records, moved.dropped, found)?;
+    tell_grown(alloc, &mut records, dirs, dir, moved.grown)?;
+    tell_slot(&mut records, moved.left, free_dentry())?;
+    tell_slot(&mut records, moved.taken, dentry)?;
+    Change::in_order(alloc, records)
+}
+
+fn freed_change(alloc: Global, inode: u32) -> Result<Change, Memory>
+    ensures records { IfOk result (λ c. c.records ≡ Free inode ∷ []) }
+    ensures form { IfOk result (λ c. IsTrue (list_all is_record c.records)) }
+    ensures order { IfOk result (λ c. IsTrue (is_in_order c.records)) }
+{
+    let mut records = Vec::new(alloc);
+    records.push(LogRecord::Free { inode })?;
+    Change::in_order(alloc, records)
+}
+
+// ---- their records, step by step
+
+/// A directory that took a block is told whole.
+fn tell_grown(
+    alloc: Global,
+    records: &mut Vec<LogRecord>,
+    dirs: &DirTree,
+    dir: u32,
+    grown: Option<u32>,
+) -> Result<(), Memory>
+    requires table { IsDirTable dirs.now }
+    requires form { IsTrue (list_all is_record records.old.items) }
+    ensures records { OnOk result (records.new.items ≡ records.old.items ++ grown_told dirs.now dir grown) }
+    ensures form { OnOk result (IsTrue (list_all is_record records.new.items)) }
+{
+    if grown.is_some() {
+        records.push(dir_record(alloc, dir, dirs.blocks(dir))?)?;
+    }
+    Ok(())
+}
+
+/// An inode that has nothing yet.
+fn tell_born(
+    alloc: Global,
+    records: &mut Vec<LogRecord>,
+    inode: u32,
+    kind: u8,
+) -> Result<(), Memory>
+    requires kind { (kind ≡ 1) ⊎ (kind ≡ 2) }
+    requires form { IsTrue (list_all is_record records.old.items) }
+    ensures records { OnOk result (records.new.items ≡ records.old.items ++ born_told inode kind ∷ []) }
+    ensures form { OnOk result (IsTrue (list_all is_record records.new.items)) }
+{
+    records.push(LogRecord::Delta {
+        inode,
+        kind,
+        size: 0,
+        keep: 0,
+        extents: ExtentList::from_vec(Vec::new(alloc)),
+    })?;
+    Ok(())
+}
+
+fn tell_slot(records: &mut Vec<LogRecord>, slot: Slot, dentry: Dentry) -> Result<(), Memory>
+    requires slot { slot.slot < 8 }
+    requires dentry { IsTrue (is_dentry dentry) }
+    requires form { IsTrue (list_all is_record records.old.items) }
+    ensures records { OnOk result (records.new.items ≡ records.old.items ++ slot_told slot dentry ∷ []) }
+    ensures form { OnOk result (IsTrue (list_all is_record records.new.items)) }
+{
+    records.push(LogRecord::Place {
+        sector: slot.sector,
+        slot: slot.slot,
+        dentry,
+    })?;
+    Ok(())
+}
+
+/// A name that goes, with the inode of a directory that it stood for.
+fn tell_cleared(
+    records: &mut Vec<LogRecord>,
+    slot: Slot,
+    found: Option<Found>,
+) -> Result<(), Memory>
+    requires slot { slot.slot < 8 }
+    requires form { IsTrue (list_all is_record records.old.items) }
+    ensures records { OnOk result (records.new.items ≡ records.old.items ++ cleared_told slot found) }
+    ensures form { OnOk result (IsTrue (list_all is_record records.new.items)) }
+{
+    tell_slot(records, slot, free_dentry())?;
+    if let Some(Found::Dir { inode }) = found {
+        records.push(LogRecord::Free { inode })?;
+    }
+    Ok(())
+}
+
+/// The same of a name that gave place to another, where there was one.
+fn tell_replaced(
+    records: &mut Vec<LogRecord>,
+    dropped: Option<Slot>,
+    found: Option<Found>,
+) -> Result<(), Memory>
+    requires slot { IfSome dropped (λ slot. slot.slot < 8) }
+    requires form { IsTrue (list_all is_record records.old.items) }
+    ensures records { OnOk result (records.new.items ≡ records.old.items ++ replaced_told dropped found) }
+    ensures form { OnOk result (IsTrue (list_all is_record records.new.items)) }
+{
+    match dropped {
+        Some(slot) => tell_cleared(records, slot, found),
+        None => Ok(()),
+    }
+}
+
+/// A directory with these blocks. The record keeps no extent and gives all.
+fn dir_record(alloc: Global, dir: u32, blocks: &[u32]) -> Result<LogRecord, Memory>
+    requires below { All (λ b. b < MAX_BLOCKS) blocks.now }
+    requires few { length (extents_of blocks.now) ≤ 56 }
+    requires count { length blocks.now ≤ MAX_BLOCKS }
+    ensures value { IfOk result (λ r. r ≡ dir_delta dir blocks.now) }
+    ensures form { IfOk result (λ r. IsTrue (is_record r)) }
+{
+    let runs = runs_of(alloc, blocks)?;
+    Ok(LogRecord::Delta {
+        inode: dir,
+        kind: DIRECTORY,
+        size: BLOCK as u64 * blocks.len() as u64,
+        keep: 0,
+        extents: extents_from(alloc, runs.as_slice())?,
+    })
+}
+
+/// The extents that the blocks lie in.
+fn runs_of(alloc: Global, blocks: &[u32]) -> Result<Extents, Memory>
+    requires below { All (λ b. b < MAX_BLOCKS) blocks.now }
+    requires few { length (extents_of blocks.now) ≤ 56 }
+    ensures { IfOk result (λ runs. runs ≡ extents_of blocks.now) }
+{
+    let mut runs = Extents::make(alloc)?;
+    for block in blocks {
+        let run = Run {
+            start: *block,
+            length: 1,
+        };
+        match runs.append(run) {
+            Ok(()) => {}
+            Err(_) => unreachable!(),
+        }
+    }
+    Ok(runs)
+}
+
+/// What stands in a slot that no name has.
+fn free_dentry() -> Dentry
+    ensures { result ≡ free_slot }
+{
+    Dentry::from_name(0, 0, &[])
+}
