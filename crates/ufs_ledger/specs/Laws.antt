@@ -189,6 +189,25 @@ BeginsAnew sectors = (l : Ledger) (home : Image) (new : Super) (bytes : List ℕ
 abbrev pub BeginsForGood : ℕ → Type 0
 BeginsForGood sectors = (l : Ledger) (home : Image) (new : Super) (bytes : List ℕ) → MayBegin sectors l home new bytes → IsLeftBy sectors (emptied new (block_at home) l) (put 0 bytes home)
 
+-- ---- an inode's new form is committed
+
+-- A form that a file's inode may get next: the commit is newer than the inode, keeps no more extents than there are, is on its form,
+-- and the form's blocks are the inode's own. No history is asked.
+pub record MayCommitForm (g : Geometry) (s : Stand) (inode number size keep : ℕ) (extents : List Extent) : Type 0 where
+  pub newer : (s.catalog.forms inode).number < number
+  pub keeps : keep ≤ length (s.catalog.forms inode).extents
+  pub fits : FitsCommitted (file_commit number inode size keep extents)
+  pub may : MayBecome g s.catalog inode (after_delta (s.catalog.forms inode) number 1 size keep extents)
+
+-- Then the store may commit its delta.
+abbrev pub FormsMayCommit : Type 0
+FormsMayCommit = (g : Geometry) (s : Stand) (inode number size keep : ℕ) (extents : List Extent) → IsSoundCatalog g s.catalog → CoversDirs g s → MayCommitForm g s inode number size keep extents
+    → MayCommit g (file_commit number inode size keep extents) s
+
+-- What a disk has committed is sound, and its directories are in the blocks where dentries are spelled.
+abbrev pub LedgersAreSound : Type 0
+LedgersAreSound = (sectors : ℕ) (state : State) (l : Ledger) → l.maybe ≡ None → IsLedgerOf sectors state l → IsSoundCatalog (geometry_of l.head) l.now.catalog × CoversDirs (geometry_of l.head) l.now
+
 -- ---- a file is committed
 
 abbrev pub raised : (ℕ → ℕ) → ℕ → ℕ → ℕ → ℕ

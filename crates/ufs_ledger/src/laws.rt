@@ -1,6 +1,6 @@
 // Laws of the definitions, each the contract of a function that does nothing.
 ghost use Rattle.ufs_layout.specs.Areas.{IsGeometry};
-ghost use Rattle.ufs_ledger.specs.Laws.{AppendsQuietly, BarriersKeep, BarriersSettle, BeginningIsKept, BeginsAnew, BeginsForGood, BeginsQuietly, CommitsForGood, CommitsKeep, CommitsOrNot, CommittedIsKept, CommittingIsKept, DirsShrink, EitherExplains, EmptiedIsKept, EntriesKeep, FewerAreKept, FilesCommit, FilesMayCommit, FreeBlocksKeep, HasOpeningLedger, HasTried, HasWritten, HomesQuietly, IgnoresBitmap, LedgersExplain, OpensAsKept, OpensMeanwhile, RunsExplain, RunsExplainMeanwhile, SettledIsKept, ShowsNow, WritesBlock, WritingKeeps, WrittenIsKept, ZerosJoin};
+ghost use Rattle.ufs_ledger.specs.Laws.{AppendsQuietly, BarriersKeep, BarriersSettle, BeginningIsKept, BeginsAnew, BeginsForGood, BeginsQuietly, CommitsForGood, CommitsKeep, CommitsOrNot, CommittedIsKept, CommittingIsKept, DirsShrink, EitherExplains, EmptiedIsKept, EntriesKeep, FewerAreKept, FilesCommit, FilesMayCommit, FormsMayCommit, FreeBlocksKeep, HasOpeningLedger, HasTried, HasWritten, HomesQuietly, IgnoresBitmap, LedgersAreSound, LedgersExplain, OpensAsKept, OpensMeanwhile, RunsExplain, RunsExplainMeanwhile, SettledIsKept, ShowsNow, WritesBlock, WritingKeeps, WrittenIsKept, ZerosJoin};
 
 use ufs_image::{damage_law, fold_law, walk_law};
 use ufs_layout::Geometry;
@@ -53,6 +53,12 @@ pub fn checkpoint_law(sectors: usize)
 {
     let _sectors = sectors;
 }
+
+/// What of an inode may be committed, whatever the history.
+pub fn form_law()
+    ensures sound { LedgersAreSound }
+    ensures may { FormsMayCommit }
+{}
 
 /// How the promise is kept, whichever disk it is of.
 pub fn promise_law(geometry: &Geometry)

@@ -6,4 +6,6 @@ mod calls;
 mod laws;
 
 pub use calls::{checkpoint, commit_records, read_data, settle, write_data};
-pub use laws::{block_law, checkpoint_law, commit_law, mount_law, opening_law, promise_law};
+pub use laws::{
+    block_law, checkpoint_law, commit_law, form_law, mount_law, opening_law, promise_law,
+};

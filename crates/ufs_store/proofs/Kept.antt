@@ -68,8 +68,11 @@ pub still_has : (s : StoreState) (sectors : â„•) (moments : Moments) (faults : â
 still_has s sectors moments faults l has is ready unused = record {
   going = has.going;
   by = record { is = is; none = has.by.none; geometry = has.by.geometry; epoch = has.by.epoch; later = has.by.later; ready = ready };
+  headed = has.headed;
   added = has.added;
   numbered = has.numbered;
   unused = unused;
   settled = has.settled;
+  older = has.older;
+  fits = has.fits;
 }

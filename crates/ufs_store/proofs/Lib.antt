@@ -5,3 +5,5 @@ pub mod Moves
 pub mod Deltas
 pub mod Marking
 pub mod Marks
+pub mod Numbers
+pub mod Cleaned

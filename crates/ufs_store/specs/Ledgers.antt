@@ -1,11 +1,13 @@
 -- The ledger of a store's disk, and how the store's calls change it.
-use Rattle.std.specs.Prelude.{ℕ, ◌≡◌, ◌≤◌, ◌⊎◌, List, [], ◌∷◌, Bool, true, false, if◌then◌else◌, nat_lt, None, IsTrue}
+use Rattle.std.specs.Prelude.{ℕ, ◌≡◌, ◌≤◌, ◌<◌, ◌^◌, ◌⊎◌, List, [], ◌∷◌, Bool, true, false, if◌then◌else◌, nat_lt, None, IsTrue}
 use Rattle.std.specs.List.{list_all}
 use Rattle.ufs_base.specs.Images.{Image}
 use Rattle.ufs_disk.specs.Moments.{reads}
 use Rattle.ufs_layout.specs.declared.records.LogRecord.{LogRecord}
 use Rattle.ufs_layout.specs.declared.records.Committed.{Committed}
+use Rattle.ufs_image.specs.Catalog.{IsInode}
 use Rattle.ufs_image.specs.Images.{block_at}
+use Rattle.ufs_layout.specs.Superblock.{geometry_of}
 use Rattle.ufs_journal.specs.Kept.{IsUnused}
 use Rattle.ufs_overlay.specs.Seen as overlaid
 use Rattle.ufs_ledger.specs.Ledger.{Ledger, IsLeftBy, IsLedgerOf}
@@ -14,14 +16,17 @@ use Rattle.ufs_ledger.specs.Committing.{IsLedgerBy}
 use Rattle.ufs_store.specs.State.{StoreState, geometry_of_store, has_room, next_commit, next_head}
 
 -- A store that hasn't stopped has this ledger on its disk, and knows it: its journal goes on behind what is committed, its
--- overlay has just that, and it knows whether anything is pending.
+-- overlay has just that, it knows whether anything is pending, and its next commit number is above each inode's.
 pub record HasLedger (s : StoreState) (l : Ledger) : Type 0 where
   pub going : s.stop ≡ None
   pub by : IsLedgerBy s.journal s.sectors s.moments.state l
+  pub headed : l.head ≡ s.head
   pub added : overlaid.HasAdded s.overlay l.now.log
   pub numbered : IsTrue (list_all (λ (t : Committed). nat_lt t.number s.journal.number) l.now.log)
   pub unused : (txn : ℕ) → s.txn ≤ txn → IsUnused s.journal.geometry s.journal.epoch txn s.moments.state
   pub settled : s.unsettled ≡ false → (block : ℕ) → (l.blocks block).older ≡ []
+  pub older : (inode : ℕ) → IsInode (geometry_of l.head) inode → (l.now.catalog.forms inode).number < s.journal.number
+  pub fits : s.journal.number < 2 ^ 64
 
 -- ---- one of several ledgers
 

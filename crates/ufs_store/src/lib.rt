@@ -9,10 +9,12 @@ mod door;
 mod fault;
 mod heads;
 mod homes;
+mod laws;
 mod store;
 mod tables;
 
 pub use direct::Direct;
 pub use door::Door;
 pub use fault::{Closed, StoreFault, Uncommitted, Unmounted};
+pub use laws::mounting_law;
 pub use store::Store;

@@ -1,11 +1,10 @@
-use Rattle.std.proofs.Common.{◌≡◌, ◌∙◌, ◌+◌, ◌<◌, ap, sym, arith, subst, rules}
+use Rattle.std.proofs.Common.{◌≡◌, ◌∙◌, ◌<◌, ap, sym, arith, subst, rules}
 use Rattle.std.specs.FinSet as set
 use Rattle.ufs_extent.specs.declared.Run.{Run}
 use Rattle.ufs_base.specs.declared.sizes.TheConstants.{MAX_BLOCKS}
 use Rattle.ufs_bitmap.specs.Blocks.{BlockSet, run_set}
 use Rattle.ufs_bitmap.specs.Space.{Space}
 use Rattle.ufs_bitmap.proofs.SetLemmas.{difference_from, len-difference_run}
-use Rattle.ufs_store.specs.Blocks.{AreInside}
 use Rattle.ufs_store.proofs.Moves.{IsReturning, goes_on_returning, ends_returning, ranged}
 use Rattle.ufs_store.proofs.blocks.move_all.Goals as goal
 

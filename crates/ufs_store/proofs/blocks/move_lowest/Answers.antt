@@ -1,4 +1,4 @@
-use Rattle.std.proofs.Common.{◌≡◌, ◌∙◌, ◌-◌, inl, inr, ap, refl, sym, subst, rules}
+use Rattle.std.proofs.Common.{◌≡◌, ◌-◌, inr, ap, refl, sym, subst}
 use Rattle.std.specs.FinSet as set
 use Rattle.ufs_extent.specs.declared.Run.{Run}
 use Rattle.ufs_bitmap.specs.Blocks.{BlockSet, run_set}

@@ -1,7 +1,6 @@
 use Rattle.std.proofs.Common.{◌≡◌, ℕ, ap, subst}
-use Rattle.std.specs.Prelude.{Err, OnOk}
+use Rattle.std.specs.Prelude.{Err}
 use Rattle.std.proofs.lemmas.Result.{err_from_is_err_and, on_ok_weaker}
-use Rattle.ufs_base.specs.Images.{Image}
 use Rattle.ufs_disk.specs.Moments.{LeavesOnly}
 use Rattle.ufs_disk.proofs.Runs.{joined, started, weaker}
 use Rattle.ufs_layout.specs.declared.records.Committed.{Committed}

@@ -1,5 +1,6 @@
-use Rattle.std.proofs.Common.{◌≡◌, ◌≢◌, ◌≤◌, ◌<◌, ◌+◌, ◌∙◌, ℕ, List, [], ◌∷◌, ◌++◌, refl, sym, subst, arith}
+use Rattle.std.proofs.Common.{◌≡◌, ◌≢◌, ◌+◌, ℕ, List, [], ◌∷◌, ◌++◌, refl, sym, subst, arith}
 use Rattle.std.specs.Prelude.{IsTrue}
+use Rattle.ufs_layout.specs.Superblock.{geometry_of}
 use Rattle.ufs_layout.specs.declared.geometry.Geometry.{Geometry}
 use Rattle.ufs_layout.specs.declared.records.LogRecord.{LogRecord}
 use Rattle.ufs_layout.specs.declared.records.Committed.{Committed}
@@ -10,6 +11,7 @@ use Rattle.ufs_ledger.specs.Changes.{committing, settled}
 use Rattle.ufs_ledger.specs.Committing.{MayGoOn}
 use Rattle.ufs_store.proofs.Stages.{by_two}
 use Rattle.ufs_store.proofs.Kept.{below_next, numbers_from_one, rises_on}
+use Rattle.ufs_store.proofs.Numbers.{below_more, committed_below}
 use Rattle.ufs_store.proofs.commits.commit_in_room.Goals as goal
 
 pub returns-in-Ok-clause-crash : goal.returns-in-Ok-clause-crash
@@ -38,6 +40,7 @@ returns-in-Ok-clause-ok g c told l has may =
     record {
       going = c.requires.going;
       by = c.in-Ok.ensures.next told under l has.by go;
+      headed = has.headed;
       added = subst (λ (rs : List LogRecord). overlaid.HasAdded c.add_records.new.self (l.now.log ++ (record { number = j.number; records = rs }) ∷ [])) c.as_slice.ensures
           (c.in_ok-add_records.ensures.ok l.now.log has.added (subst (λ (rs : List LogRecord). IsTrue (rise_above 0 (l.now.log ++ (record { number = j.number; records = rs }) ∷ []))) (sym c.as_slice.ensures) rising));
       numbered = below_next l.now.log t j.number k.number has.numbered refl more;
@@ -48,4 +51,6 @@ returns-in-Ok-clause-ok g c told l has may =
           subst (λ (x : Geometry × ℕ). IsUnused x.0 x.1 other new) (λ i. (same i, epoch i))
           (c.in-Ok.ensures.unused told l has.by go other apart (has.unused other (omega (arith, past))));
       settled = λ _ block. refl;
+      older = committed_below (geometry_of l.head) t l.now.catalog k.number (omega (arith, more)) (below_more (geometry_of l.head) (geometry_of l.head) l.now.catalog j.number k.number refl (omega (arith, more)) has.older);
+      fits = omega (arith, more, under);
     }

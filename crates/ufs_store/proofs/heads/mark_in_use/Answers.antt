@@ -2,7 +2,6 @@ use Rattle.std.proofs.Common.{◌≡◌, ◌∙◌, ℕ, Some, length, ap, sym, 
 use Rattle.std.proofs.lemmas.Result.{on_ok_weaker}
 use Rattle.ufs_disk.specs.Disk.{Leaves}
 use Rattle.ufs_layout.specs.Superblock.{geometry_of}
-use Rattle.ufs_layout.specs.declared.geometry.Geometry.{Geometry}
 use Rattle.ufs_layout.specs.declared.superblock.Super.{Super}
 use Rattle.ufs_journal.specs.Kept.{HasEarlier}
 use Rattle.ufs_ledger.specs.Changes.{opening_ledger}
@@ -10,7 +9,6 @@ use Rattle.ufs_ledger.specs.Laws.{BeginsAnew, BeginsForGood, BeginsQuietly, HasO
 use Rattle.ufs_ledger.specs.Ledger.{IsLedgerOf}
 use Rattle.ufs_ledger.proofs.Wholes.{images_of}
 use Rattle.ufs_disk.specs.Moments.{reads}
-use Rattle.ufs_store.specs.Mounting.{in_use}
 use Rattle.ufs_store.proofs.Marking.{crash1, crash2, earlier2, ledger2}
 use Rattle.ufs_store.proofs.heads.mark_in_use.Goals as goal
 

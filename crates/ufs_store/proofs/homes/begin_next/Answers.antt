@@ -1,12 +1,14 @@
-use Rattle.std.proofs.Common.{◌∷◌, [], refl, subst}
+use Rattle.std.proofs.Common.{◌∙◌, ◌+◌, ◌∷◌, [], refl, sym, subst, arith}
 use Rattle.ufs_disk.specs.Moments.{LeavesOnly, reads}
 use Rattle.ufs_image.specs.Images.{block_at}
+use Rattle.ufs_layout.specs.Superblock.{geometry_of}
 use Rattle.ufs_layout.specs.declared.superblock.Super.{Super}
 use Rattle.ufs_ledger.specs.Changes.{beginning, emptied, home_of}
 use Rattle.ufs_ledger.specs.Committing.{IsLedgerBy}
 use Rattle.ufs_store.specs.Ledgers.{IsLeftByAny}
 use Rattle.ufs_store.proofs.Stages.{by_two}
 use Rattle.ufs_store.proofs.Kept.{unused_at_first, home_is_settled}
+use Rattle.ufs_store.proofs.Numbers.{below_more}
 use Rattle.ufs_store.proofs.homes.begin_next.Goals as goal
 
 pub returns-in-Ok-clause-crash : goal.returns-in-Ok-clause-crash
@@ -23,13 +25,21 @@ returns-in-Ok-clause-ok g c told l has =
     let new = g.D.Disk.moments c.checkpoint.new.disk in
     let home = block_at (home_of l (reads (g.D.Disk.moments c.args.disk.now))) in
     let by = c.in-Ok.ensures.ok told l has.by has.added in
+    let head : Super = record (c.args.tables.now.head) { epoch = c.args.tables.now.head.epoch + 1; next = c.args.tables.now.journal.number; clean = c.args.clean } in
+    let there : IsLedgerBy c.checkpoint.new.journal (g.D.Disk.size c.checkpoint.new.disk) new.state (emptied head home l) =
+    subst (λ (h : Super). IsLedgerBy c.checkpoint.new.journal (g.D.Disk.size c.checkpoint.new.disk) new.state (emptied h home l)) c.in-Some.ensures by in
+    let same = there.geometry ∙ c.checkpoint.ensures.geometry ∙ sym has.by.geometry in
+    let still = c.checkpoint.ensures.number in
     record {
       going = c.requires.going;
-      by = subst (λ (h : Super). IsLedgerBy c.checkpoint.new.journal (g.D.Disk.size c.checkpoint.new.disk) new.state (emptied h home l)) c.in-Some.ensures by;
+      by = there;
+      headed = sym c.in-Some.ensures;
       added = c.empty_after_epoch.ensures.none;
       numbered = refl;
       unused = λ txn _. unused_at_first c.checkpoint.new.journal.geometry c.checkpoint.new.journal.epoch c.checkpoint.new.journal.used c.checkpoint.new.journal.number txn new.state c.in-Ok.ensures.used by.ready;
       settled = λ _ block. home_is_settled home l block;
+      older = below_more (geometry_of l.head) (geometry_of head) l.now.catalog c.args.tables.now.journal.number c.checkpoint.new.journal.number same (omega (arith, still)) has.older;
+      fits = let few = has.fits in omega (arith, few, still);
     }
 
 pub returns-in-Err-clause-crash : goal.returns-in-Err-clause-crash

@@ -1,6 +1,6 @@
-use Rattle.std.proofs.Common.{◌≡◌, ◌∙◌, List, Option, Some, sym, subst}
+use Rattle.std.proofs.Common.{◌≡◌, List, Option, sym, subst}
 use Rattle.std.specs.Prelude.{Err, IfSome}
-use Rattle.std.proofs.lemmas.Result.{err_from_is_err_and, on_ok_weaker}
+use Rattle.std.proofs.lemmas.Result.{err_from_is_err_and}
 use Rattle.ufs_disk.specs.Moments.{LeavesOnly}
 use Rattle.ufs_ilog.specs.Deltas.{IsDelta}
 use Rattle.ufs_layout.specs.declared.records.LogRecord.{LogRecord}

@@ -25,10 +25,13 @@ returns-in-Ok-clause-ok g c told l has =
         later = has.by.later;
         ready = c.settle.ensures.ready told j.geometry j.epoch j.used j.number has.by.ready;
       };
+      headed = has.headed;
       added = has.added;
       numbered = has.numbered;
       unused = λ txn low. c.settle.ensures.unused told j.geometry j.epoch txn (has.unused txn low);
       settled = λ _ block. refl;
+      older = has.older;
+      fits = has.fits;
     }
 
 pub returns-in-Err-clause-crash : goal.returns-in-Err-clause-crash

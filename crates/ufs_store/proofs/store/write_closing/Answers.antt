@@ -1,4 +1,4 @@
-use Rattle.std.proofs.Common.{◌≡◌, ◌∙◌, ◌+◌, ◌*◌, ◌<◌, ◌≤◌, ℕ, List, inl, [], ap, subst, arith}
+use Rattle.std.proofs.Common.{◌∙◌, ◌+◌, ◌*◌, ◌<◌, ℕ, List, inl, [], ap, subst, arith}
 use Rattle.std.specs.Prelude.{◌/◌, ◌%◌, ◌==◌, slice_index}
 use Rattle.std.specs.Int.{bit_at}
 use Rattle.std.proofs.lemmas.Result.{on_ok_weaker}
@@ -7,7 +7,7 @@ use Rattle.ufs_disk.proofs.Runs.{joined, weaker}
 use Rattle.ufs_image.specs.Images.{block_at}
 use Rattle.ufs_layout.specs.Areas.{first_of_inodes}
 use Rattle.ufs_ledger.specs.Changes.{home_of}
-use Rattle.ufs_ledger.specs.Ledger.{IsLeftBy, Ledger}
+use Rattle.ufs_ledger.specs.Ledger.{IsLeftBy}
 use Rattle.ufs_ledger.proofs.Committing.{on_ok_cases}
 use Rattle.ufs_store.specs.Closing.{closing_stages}
 use Rattle.ufs_store.specs.Ledgers.{IsLeftByAny}

@@ -1,4 +1,4 @@
-use Rattle.std.proofs.Common.{◌≡◌, ℕ, refl, sym, subst, arith}
+use Rattle.std.proofs.Common.{ℕ, refl, sym, subst, arith}
 use Rattle.ufs_disk.specs.Disk.{State}
 use Rattle.ufs_layout.specs.declared.geometry.Geometry.{Geometry}
 use Rattle.ufs_journal.specs.Kept.{IsReady, IsUnused}
@@ -30,8 +30,11 @@ returns-in-Ok-mark_in_use-clause-ok g c told is =
         later = omega (arith, number);
         ready = subst (λ (x : Geometry × ℕ × ℕ × ℕ). IsReady x.0 x.1 x.2 x.3 state) (λ i. (sym made.0 i, sym made.1 i, sym made.3 i, sym made.2 i)) (c.in-Ok.ensures.ready state earlier);
       };
+      headed = sym c.in-Ok.ensures.head;
       added = c.in-Ok.ensures.overlay;
       numbered = refl;
       unused = λ txn _. subst (λ (x : Geometry × ℕ). IsUnused x.0 x.1 txn state) (λ i. (sym made.0 i, sym made.1 i)) (c.in-Ok.ensures.unused state earlier txn);
       settled = λ _ _. refl;
+      older = λ inode ranged. let low = is.numbers inode ranged in omega (arith, low, number);
+      fits = omega (arith, number);
     }

@@ -13,8 +13,11 @@ returns-in-Ok-clause-ok g c told l has may =
         later = has.by.later;
         ready = c.write_data.ensures.ready told j.geometry j.epoch j.used j.number c.requires.there.from has.by.ready;
       };
+      headed = has.headed;
       added = has.added;
       numbered = has.numbered;
       unused = λ txn low. c.write_data.ensures.unused told j.geometry j.epoch txn c.requires.there.from (has.unused txn low);
       settled = λ none block. let off = none in cc;
+      older = has.older;
+      fits = has.fits;
     }
