@@ -26,6 +26,10 @@ pub same_now : (ws : List BlockWrite) (l : Ledger) → (with_writes ws l).now �
 same_now [] l = refl
 same_now (w ∷ ws) l = same_now ws (written w.block w.bytes l)
 
+pub same_maybe : (ws : List BlockWrite) (l : Ledger) → (with_writes ws l).maybe ≡ l.maybe
+same_maybe [] l = refl
+same_maybe (w ∷ ws) l = same_maybe ws (written w.block w.bytes l)
+
 -- ---- one after the other
 
 pub writes_append : (xs ys : List BlockWrite) (l : Ledger) → with_writes (xs ++ ys) l ≡ with_writes ys (with_writes xs l)

@@ -4,3 +4,12 @@ pub mod Turns
 pub mod Stages
 pub mod Cells
 pub mod Standing
+pub mod Fitting
+pub mod Committing
+pub mod Others
+pub mod Settling
+pub mod Requests
+pub mod Still
+pub mod Served
+pub mod Owned
+pub mod Histories

@@ -80,7 +80,7 @@ same_block l m block head now is = record {
 abbrev HaveAll : Ledger → DurableState → Type 0
 HaveAll l f = (place block : ℕ) → slice_get (blocks_of f.file.extents) place ≡ Some block → HaveOnly (possible (l.blocks block)) (block_bytes f.file.content.bytes place)
 
-settled_has : (cell : Cell) (bytes : List ℕ) → HaveOnly (possible cell) bytes → HaveOnly (possible (settled_cell cell)) bytes
+pub settled_has : (cell : Cell) (bytes : List ℕ) → HaveOnly (possible cell) bytes → HaveOnly (possible (settled_cell cell)) bytes
 settled_has cell bytes only at byte under (inl e) = only at byte under (has_byte_last cell.older cell.seen at byte e)
 settled_has cell bytes only at byte under (inr none) = absurd none
 
@@ -131,7 +131,7 @@ module _ (l : Ledger) (f : DurableState) (noted : IsNoted f) (stands : StandsFor
 
   -- ---- its new form is committed
 
-  given_extents : (keep : ℕ) (given : List Run) → take keep f.log.committed.runs ++ given ≡ f.log.noted.runs → take keep (extents_of f.log.committed.runs) ++ extents_of given ≡ extents_of f.log.noted.runs
+  pub given_extents : (keep : ℕ) (given : List Run) → take keep f.log.committed.runs ++ given ≡ f.log.noted.runs → take keep (extents_of f.log.committed.runs) ++ extents_of given ≡ extents_of f.log.noted.runs
   given_extents keep given whole =
       let as_extent : Run → Extent = λ r. record { start = r.start; length = r.length } in
       ap (λ (es : List Extent). es ++ extents_of given) (take-map as_extent keep f.log.committed.runs) ∙ sym (map-append as_extent (take keep f.log.committed.runs) given) ∙ ap extents_of whole
@@ -214,11 +214,11 @@ range_is : (first n : ℕ) → range_with_len first n ≡ blocks_from first n
 range_is first zero = refl
 range_is first (suc n) = ap (λ bs. first ∷ bs) (range_is (first + 1) n)
 
-blocks_are : (runs : List Run) → flat_map (λ (e : Extent). range_with_len e.start e.length) (extents_of runs) ≡ blocks_of runs
+pub blocks_are : (runs : List Run) → flat_map (λ (e : Extent). range_with_len e.start e.length) (extents_of runs) ≡ blocks_of runs
 blocks_are [] = refl
 blocks_are (r ∷ rs) = λ i. range_is r.start r.length i ++ blocks_are rs i
 
-byte_in_block : (bytes : List ℕ) (place : ℕ) → place < length bytes → byte_at (block_bytes bytes (place / 4096)) (place % 4096) ≡ byte_at bytes place
+pub byte_in_block : (bytes : List ℕ) (place : ℕ) → place < length bytes → byte_at (block_bytes bytes (place / 4096)) (place % 4096) ≡ byte_at bytes place
 byte_in_block bytes place under =
     let k = place / 4096 in
     let p = 4096 * k in

@@ -1,3 +1,6 @@
 pub mod State
 pub mod Writes
 pub mod Standing
+pub mod Committing
+pub mod Others
+pub mod Serving

@@ -1,7 +1,9 @@
 -- A file that stands on a ledger.
-use Rattle.std.specs.Prelude.{ℕ, ◌≡◌, ◌<◌, ◌++◌, List, length, take, false, replicate, IsTrue, Some}
+use Rattle.std.specs.Prelude.{ℕ, ◌≡◌, ◌<◌, ◌++◌, List, length, take, true, false, replicate, IsTrue, Option, Some}
 use Rattle.std.specs.List.{slice_get}
+use Rattle.std.specs.FinSet as set
 use Rattle.ufs_base.specs.declared.sizes.TheConstants.{BLOCK}
+use Rattle.ufs_bitmap.specs.Blocks.{BlockSet}
 use Rattle.ufs_disk.specs.Disk.{possible}
 use Rattle.ufs_extent.specs.declared.Run.{Run}
 use Rattle.ufs_extent.specs.Runs.{blocks_of}
@@ -15,9 +17,13 @@ use Rattle.ufs_layout.specs.declared.records.LogRecord.{LogRecord}
 use Rattle.ufs_ledger.specs.Changes.{settled}
 use Rattle.ufs_ledger.specs.Kept.{MayHave, shape_of}
 use Rattle.ufs_ledger.specs.Ledger.{HasByte, IsDataBlock, Ledger, is_held}
+use Rattle.ufs_model.specs.declared.data.Desc.{Desc}
+use Rattle.ufs_model.specs.declared.data.Op.{Op}
+use Rattle.ufs_model.specs.declared.data.Reply.{Reply}
 use Rattle.ufs_prefix.specs.FileChanges.{byte_at}
 use Rattle.ufs_store.specs.Ledgers.{after_commit}
 use Rattle.ufs_store.specs.State.{StoreState}
+use Rattle.ufs_durable.specs.Serving.{IsServedKept}
 use Rattle.ufs_durable.specs.State.{DurableState, IsNoted, file_committed}
 use Rattle.ufs_durable.specs.Writes.{MayWriteAll, with_writes, writes_of}
 
@@ -69,6 +75,11 @@ ShowsAsCommitted = (l : Ledger) (f : DurableState) (number keep : ℕ) (given : 
 -- So it is behind a barrier, where nothing but bytes changed.
 abbrev pub StandsSettled : Type 0
 StandsSettled = (l : Ledger) (f : DurableState) → IsNoted f → StandsFor l f → f.log.noted ≡ f.log.committed → StandsFor (settled (with_writes (writes_of f.file) l)) (file_committed f)
+
+-- So it does behind a request, where the pool has only blocks that a file may have.
+abbrev pub StandsServed : Type 0
+StandsServed = (l : Ledger) (f g : DurableState) (before after : BlockSet) (d : Desc) (request : Op) (reply : Reply) (desc : Option Desc) → IsNoted f → StandsFor l f
+    → ((block : ℕ) → set.contains before block ≡ true → IsFileBlock l block) → IsServedKept f g before after d request reply desc → StandsFor l g
 
 -- Where nothing is left to write or to commit, whatever a crash leaves of the file is what it has.
 abbrev pub ShowsTheFile : Type 0

@@ -1,5 +1,5 @@
 -- A file, and what of it is committed.
-use Rattle.std.specs.Prelude.{◌≡◌, List, [], length}
+use Rattle.std.specs.Prelude.{◌≡◌, ℕ, List, [], ◌++◌, length}
 use Rattle.ufs_bitmap.specs.Taking.{IsApart, set_of}
 use Rattle.ufs_extent.specs.declared.Run.{Run}
 use Rattle.ufs_extent.specs.Runs.{blocks_of}
@@ -7,12 +7,25 @@ use Rattle.ufs_file.specs.Content.{cleaned}
 use Rattle.ufs_file.specs.Hand.{FileState}
 use Rattle.ufs_ilog.specs.Deltas.{FileLog}
 
-pub record DurableState : Type 0 where
-  pub file : FileState
+-- what is known of a file's commits
+pub record CommitState : Type 0 where
   -- what its inode has since the last commit, and what it is to have
   pub log : FileLog
   -- the blocks that it dropped since then
   pub dropped : List Run
+
+-- a file, with what is known of its commits
+pub record DurableState : Type 0 where
+  pub file : FileState
+  pub log : FileLog
+  pub dropped : List Run
+
+abbrev pub state_of : FileState → CommitState → DurableState
+state_of f c = record { file = f; log = c.log; dropped = c.dropped }
+
+-- its blocks, and behind them those that it dropped
+abbrev pub blocks_held : DurableState → List ℕ
+blocks_held f = blocks_of f.file.extents ++ blocks_of f.dropped
 
 -- The log notes the file as it is, and each of its blocks has a mark. None of those that it dropped is its own, and none of its
 -- own stands twice.

@@ -1,9 +1,16 @@
-// Laws of the definitions, as the contract of a function that does nothing.
-ghost use Rattle.ufs_durable.specs.Standing.{DirtyMayBeWritten, ShowsAsCommitted, ShowsTheFile, StandsCommitted, StandsSettled, StandsWhileWritten};
+// Laws of the definitions, each the contract of a function that does nothing.
+ghost use Rattle.ufs_durable.specs.Committing.{BarriersShowAll, CommitsShowAll, CountsGoOn, DoneIsKept, FilesMayCommitNext, FitsInode, GoesByEntries, HasTreeBytes, OwnsCommitted, OwnsServed, StagesAreKept, WritesAreKept};
+ghost use Rattle.ufs_durable.specs.Others.{OwnsBehindCommit, StandsBehindBarrier, StandsBehindCheckpoint, StandsBehindCommit, StandsBehindWrites, StandsOnceCommitted};
+ghost use Rattle.ufs_durable.specs.Standing.{DirtyMayBeWritten, ShowsAsCommitted, ShowsTheFile, StandsCommitted, StandsServed, StandsSettled, StandsWhileWritten};
 
-/// A file stands on a ledger while its blocks are written and behind its commit; a crash leaves what it
-/// has then.
+use ufs_file::FileHand;
+use ufs_model::a_request_keeps_the_tree;
+use ufs_prefix::a_history_goes_by_its_changes;
+
+/// A file stands on a ledger behind each request, while its blocks are written, and behind its commit; a
+/// crash leaves what it has then.
 pub fn standing_law()
+    ensures served { StandsServed }
     ensures may { DirtyMayBeWritten }
     ensures written { StandsWhileWritten }
     ensures asked { ShowsAsCommitted }
@@ -11,3 +18,40 @@ pub fn standing_law()
     ensures settled { StandsSettled }
     ensures shown { ShowsTheFile }
 {}
+
+/// What a server has to know of a file to commit it, and what it knows afterwards, with the ledger kept by
+/// its history.
+pub fn committing_law()
+    ensures may { FilesMayCommitNext }
+    ensures written { WritesAreKept }
+    ensures shown { CommitsShowAll }
+    ensures stages { StagesAreKept }
+    ensures done { DoneIsKept }
+    ensures empty { BarriersShowAll }
+    ensures counts { CountsGoOn }
+    ensures own { OwnsCommitted }
+    ensures served { OwnsServed }
+    ensures entry { GoesByEntries }
+    ensures bytes { HasTreeBytes }
+{
+    a_request_keeps_the_tree();
+    a_history_goes_by_its_changes();
+}
+
+/// Files beside one that is written and committed.
+pub fn others_law()
+    ensures barrier { StandsBehindBarrier }
+    ensures checkpoint { StandsBehindCheckpoint }
+    ensures writes { StandsBehindWrites }
+    ensures commit { StandsBehindCommit }
+    ensures own { OwnsBehindCommit }
+    ensures itself { StandsOnceCommitted }
+{}
+
+/// An inode has room for each file that a server holds.
+pub fn fitting_law(hand: &FileHand)
+    ensures { FitsInode hand.now }
+{
+    let _size = hand.size();
+    let _runs = hand.extent_list().as_slice();
+}

@@ -1,9 +1,11 @@
-//! A file as a server holds it, with what of it is committed, and its `fsync`.
+//! A file as a server holds it, with what is known of its commits: its requests, and its `fsync`.
 #![tactic(auto)]
 
 mod durable;
 mod laws;
+mod serving;
 mod writes;
 
-pub use durable::{DurableFile, Parts};
-pub use laws::standing_law;
+pub use durable::{FileCommits, fsync};
+pub use laws::{committing_law, fitting_law, others_law, standing_law};
+pub use serving::apply;

@@ -1,47 +1,40 @@
 use Rattle.std.proofs.Common.{◌≡◌, ◌∙◌, inr, ap, subst, sym}
 use Rattle.std.specs.Prelude.{◌≢◌}
-use Rattle.ufs_disk.specs.Moments.{LeavesOnly}
-use Rattle.ufs_file.specs.Hand.{FileState}
 use Rattle.ufs_ilog.specs.Deltas.{FileLog, IsDelta}
-use Rattle.ufs_ledger.specs.Ledger.{IsLeftBy}
-use Rattle.ufs_store.specs.Ledgers.{HasLedger}
 use Rattle.ufs_store.specs.Refusals.{answer_of}
 use Rattle.ufs_store.specs.State.{StoreState}
-use Rattle.ufs_durable.specs.State.{DurableState, IsNoted}
-use Rattle.ufs_durable.specs.Writes.{MayWriteAll, with_writes, writes_of}
+use Rattle.ufs_durable.specs.State.{CommitState, IsNoted, state_of}
+use Rattle.ufs_durable.specs.Writes.{with_writes, writes_of}
 use Rattle.ufs_durable.proofs.Stages.{commit_whole, crash_early, crash_whole, device_whole, empty_whole, may_between, memory_whole}
 use Rattle.ufs_durable.proofs.Standing.{noted_committed}
-use Rattle.ufs_durable.proofs.durable.DurableFile.fsync.Goals as goal
+use Rattle.ufs_durable.proofs.durable.fsync.Goals as goal
 
 pub returns-in-Err-clause-crash : goal.returns-in-Err-clause-crash
 returns-in-Err-clause-crash g c told records delta some l has may next =
     let s = g.D.Door.store c.args.door.now in
     let mid = g.D.Door.store c.write_dirty.new.door in
-    let now = c.args.self.now.file in
-    let file : c.self.inside.hand ≡ now = ap (λ (v : DurableState). v.file) c.self.view_is in
-    let here : MayWriteAll l (writes_of c.self.inside.hand) = subst (λ (f : FileState). MayWriteAll l (writes_of f)) (sym file) may in
-    let front = subst (λ (f : FileState). LeavesOnly g.D.Door.keeps (IsLeftBy s.sectors (with_writes (writes_of f) l)) s.moments mid.moments) file (c.write_dirty.ensures.crash told l has here) in
+    let now = c.args.hand.now in
+    let front = c.write_dirty.ensures.crash told l has may in
     crash_early g.D.Door.keeps s records (with_writes (writes_of now) l) mid.moments front
 
-pub invariant_of-self : goal.invariant_of-self
-invariant_of-self g c =
-    let was : DurableState = record { file = c.self.inside.hand; log = c.self.inside.log; dropped = c.self.inside.dropped } in
+pub returns-in-Ok-clause-noted : goal.returns-in-Ok-clause-noted
+returns-in-Ok-clause-noted g c =
+    let inside : CommitState = record { log = c.commits.inside.log; dropped = c.commits.inside.dropped } in
+    let was = subst (λ (x : CommitState). IsNoted (state_of c.args.hand.now x)) (sym c.commits.view_is) c.requires.noted in
     let file = sym c.clean.ensures in
     let log = sym c.in-Ok.ensures.emptied in
     let none = sym (c.replace-dropped.ensures.after ∙ c.new.ensures) in
-    subst IsNoted (λ i. record { file = file i; log = log i; dropped = none i }) (noted_committed was c.self.invariant)
+    subst IsNoted (λ i. record { file = file i; log = log i; dropped = none i }) (noted_committed (state_of c.args.hand.now inside) was)
 
 pub returns-in-Ok-clause-crash : goal.returns-in-Ok-clause-crash
 returns-in-Ok-clause-crash g c told records delta some l has may next =
     let s = g.D.Door.store c.args.door.now in
     let mid = g.D.Door.store c.write_dirty.new.door in
-    let now = c.args.self.now.file in
-    let file : c.self.inside.hand ≡ now = ap (λ (v : DurableState). v.file) c.self.view_is in
-    let here : MayWriteAll l (writes_of c.self.inside.hand) = subst (λ (f : FileState). MayWriteAll l (writes_of f)) (sym file) may in
-    let front = subst (λ (f : FileState). LeavesOnly g.D.Door.keeps (IsLeftBy s.sectors (with_writes (writes_of f) l)) s.moments mid.moments) file (c.write_dirty.ensures.crash told l has here) in
+    let now = c.args.hand.now in
+    let front = c.write_dirty.ensures.crash told l has may in
     let new = g.D.Door.store c.commit_file.new.self in
-    let log : c.self.inside.log ≡ c.args.self.now.log = ap (λ (v : DurableState). v.log) c.self.view_is in
-    let held = subst (λ (f : FileState). HasLedger mid (with_writes (writes_of f) l)) file (c.in_default.ensures.ok told l has here) in
+    let log : c.commits.inside.log ≡ c.args.commits.now.log = ap (λ (v : CommitState). v.log) c.commits.view_is in
+    let held = c.in_default.ensures.ok told l has may in
     let change = subst (λ (x : FileLog). IsDelta x.inode x.committed x.noted records) (sym log) delta in
     let changed = subst (λ (x : FileLog). x.noted ≢ x.committed) (sym log) some in
     let goes = may_between s mid c.in_default.ensures.passed records (writes_of now) l next in
@@ -52,13 +45,11 @@ pub returns-in-Ok-clause-empty_crash : goal.returns-in-Ok-clause-empty_crash
 returns-in-Ok-clause-empty_crash g c told same l has may =
     let s = g.D.Door.store c.args.door.now in
     let mid = g.D.Door.store c.write_dirty.new.door in
-    let now = c.args.self.now.file in
-    let file : c.self.inside.hand ≡ now = ap (λ (v : DurableState). v.file) c.self.view_is in
-    let here : MayWriteAll l (writes_of c.self.inside.hand) = subst (λ (f : FileState). MayWriteAll l (writes_of f)) (sym file) may in
-    let front = subst (λ (f : FileState). LeavesOnly g.D.Door.keeps (IsLeftBy s.sectors (with_writes (writes_of f) l)) s.moments mid.moments) file (c.write_dirty.ensures.crash told l has here) in
+    let now = c.args.hand.now in
+    let front = c.write_dirty.ensures.crash told l has may in
     let new = g.D.Door.store c.commit_file.new.self in
-    let log : c.self.inside.log ≡ c.args.self.now.log = ap (λ (v : DurableState). v.log) c.self.view_is in
-    let held = subst (λ (f : FileState). HasLedger mid (with_writes (writes_of f) l)) file (c.in_default.ensures.ok told l has here) in
+    let log : c.commits.inside.log ≡ c.args.commits.now.log = ap (λ (v : CommitState). v.log) c.commits.view_is in
+    let held = c.in_default.ensures.ok told l has may in
     let still = subst (λ (x : FileLog). x.noted ≡ x.committed) (sym log) same in
     empty_whole s mid c.in_default.ensures.passed g.D.Door.keeps (with_writes (writes_of now) l) new.moments front (c.commit_file.ensures.empty_crash told still (with_writes (writes_of now) l) held)
 
@@ -66,13 +57,11 @@ pub returns-in-Err-commit_file-clause-crash : goal.returns-in-Err-commit_file-cl
 returns-in-Err-commit_file-clause-crash g c told records delta some l has may next =
     let s = g.D.Door.store c.args.door.now in
     let mid = g.D.Door.store c.write_dirty.new.door in
-    let now = c.args.self.now.file in
-    let file : c.self.inside.hand ≡ now = ap (λ (v : DurableState). v.file) c.self.view_is in
-    let here : MayWriteAll l (writes_of c.self.inside.hand) = subst (λ (f : FileState). MayWriteAll l (writes_of f)) (sym file) may in
-    let front = subst (λ (f : FileState). LeavesOnly g.D.Door.keeps (IsLeftBy s.sectors (with_writes (writes_of f) l)) s.moments mid.moments) file (c.write_dirty.ensures.crash told l has here) in
+    let now = c.args.hand.now in
+    let front = c.write_dirty.ensures.crash told l has may in
     let new = g.D.Door.store c.commit_file.new.self in
-    let log : c.self.inside.log ≡ c.args.self.now.log = ap (λ (v : DurableState). v.log) c.self.view_is in
-    let held = subst (λ (f : FileState). HasLedger mid (with_writes (writes_of f) l)) file (c.in_default.ensures.ok told l has here) in
+    let log : c.commits.inside.log ≡ c.args.commits.now.log = ap (λ (v : CommitState). v.log) c.commits.view_is in
+    let held = c.in_default.ensures.ok told l has may in
     let change = subst (λ (x : FileLog). IsDelta x.inode x.committed x.noted records) (sym log) delta in
     let changed = subst (λ (x : FileLog). x.noted ≢ x.committed) (sym log) some in
     let goes = may_between s mid c.in_default.ensures.passed records (writes_of now) l next in
@@ -83,13 +72,11 @@ pub returns-in-Err-commit_file-clause-empty_crash : goal.returns-in-Err-commit_f
 returns-in-Err-commit_file-clause-empty_crash g c told same l has may =
     let s = g.D.Door.store c.args.door.now in
     let mid = g.D.Door.store c.write_dirty.new.door in
-    let now = c.args.self.now.file in
-    let file : c.self.inside.hand ≡ now = ap (λ (v : DurableState). v.file) c.self.view_is in
-    let here : MayWriteAll l (writes_of c.self.inside.hand) = subst (λ (f : FileState). MayWriteAll l (writes_of f)) (sym file) may in
-    let front = subst (λ (f : FileState). LeavesOnly g.D.Door.keeps (IsLeftBy s.sectors (with_writes (writes_of f) l)) s.moments mid.moments) file (c.write_dirty.ensures.crash told l has here) in
+    let now = c.args.hand.now in
+    let front = c.write_dirty.ensures.crash told l has may in
     let new = g.D.Door.store c.commit_file.new.self in
-    let log : c.self.inside.log ≡ c.args.self.now.log = ap (λ (v : DurableState). v.log) c.self.view_is in
-    let held = subst (λ (f : FileState). HasLedger mid (with_writes (writes_of f) l)) file (c.in_default.ensures.ok told l has here) in
+    let log : c.commits.inside.log ≡ c.args.commits.now.log = ap (λ (v : CommitState). v.log) c.commits.view_is in
+    let held = c.in_default.ensures.ok told l has may in
     let still = subst (λ (x : FileLog). x.noted ≡ x.committed) (sym log) same in
     empty_whole s mid c.in_default.ensures.passed g.D.Door.keeps (with_writes (writes_of now) l) new.moments front (c.commit_file.ensures.empty_crash told still (with_writes (writes_of now) l) held)
 
@@ -97,12 +84,10 @@ pub returns-in-Ok-clause-ok : goal.returns-in-Ok-clause-ok
 returns-in-Ok-clause-ok g c told records delta some l has may next =
     let s = g.D.Door.store c.args.door.now in
     let mid = g.D.Door.store c.write_dirty.new.door in
-    let now = c.args.self.now.file in
-    let file : c.self.inside.hand ≡ now = ap (λ (v : DurableState). v.file) c.self.view_is in
-    let here : MayWriteAll l (writes_of c.self.inside.hand) = subst (λ (f : FileState). MayWriteAll l (writes_of f)) (sym file) may in
+    let now = c.args.hand.now in
     let new = g.D.Door.store c.commit_file.new.self in
-    let log : c.self.inside.log ≡ c.args.self.now.log = ap (λ (v : DurableState). v.log) c.self.view_is in
-    let held = subst (λ (f : FileState). HasLedger mid (with_writes (writes_of f) l)) file (c.in_default.ensures.ok told l has here) in
+    let log : c.commits.inside.log ≡ c.args.commits.now.log = ap (λ (v : CommitState). v.log) c.commits.view_is in
+    let held = c.in_default.ensures.ok told l has may in
     let change = subst (λ (x : FileLog). IsDelta x.inode x.committed x.noted records) (sym log) delta in
     let changed = subst (λ (x : FileLog). x.noted ≢ x.committed) (sym log) some in
     let goes = may_between s mid c.in_default.ensures.passed records (writes_of now) l next in
@@ -130,12 +115,10 @@ pub returns-in-Err-commit_file-clause-device : goal.returns-in-Err-commit_file-c
 returns-in-Err-commit_file-clause-device g c told records delta some fault e l has may next =
     let s = g.D.Door.store c.args.door.now in
     let mid = g.D.Door.store c.write_dirty.new.door in
-    let now = c.args.self.now.file in
-    let file : c.self.inside.hand ≡ now = ap (λ (v : DurableState). v.file) c.self.view_is in
-    let here : MayWriteAll l (writes_of c.self.inside.hand) = subst (λ (f : FileState). MayWriteAll l (writes_of f)) (sym file) may in
+    let now = c.args.hand.now in
     let new = g.D.Door.store c.commit_file.new.self in
-    let log : c.self.inside.log ≡ c.args.self.now.log = ap (λ (v : DurableState). v.log) c.self.view_is in
-    let held = subst (λ (f : FileState). HasLedger mid (with_writes (writes_of f) l)) file (c.in_default.ensures.ok told l has here) in
+    let log : c.commits.inside.log ≡ c.args.commits.now.log = ap (λ (v : CommitState). v.log) c.commits.view_is in
+    let held = c.in_default.ensures.ok told l has may in
     let change = subst (λ (x : FileLog). IsDelta x.inode x.committed x.noted records) (sym log) delta in
     let changed = subst (λ (x : FileLog). x.noted ≢ x.committed) (sym log) some in
     let goes = may_between s mid c.in_default.ensures.passed records (writes_of now) l next in
@@ -146,11 +129,9 @@ pub returns-in-Err-commit_file-clause-memory : goal.returns-in-Err-commit_file-c
 returns-in-Err-commit_file-clause-memory g c told e l has may =
     let s = g.D.Door.store c.args.door.now in
     let mid = g.D.Door.store c.write_dirty.new.door in
-    let now = c.args.self.now.file in
-    let file : c.self.inside.hand ≡ now = ap (λ (v : DurableState). v.file) c.self.view_is in
-    let here : MayWriteAll l (writes_of c.self.inside.hand) = subst (λ (f : FileState). MayWriteAll l (writes_of f)) (sym file) may in
+    let now = c.args.hand.now in
     let new = g.D.Door.store c.commit_file.new.self in
-    let log : c.self.inside.log ≡ c.args.self.now.log = ap (λ (v : DurableState). v.log) c.self.view_is in
-    let held = subst (λ (f : FileState). HasLedger mid (with_writes (writes_of f) l)) file (c.in_default.ensures.ok told l has here) in
+    let log : c.commits.inside.log ≡ c.args.commits.now.log = ap (λ (v : CommitState). v.log) c.commits.view_is in
+    let held = c.in_default.ensures.ok told l has may in
     memory_whole s mid c.in_default.ensures.passed new (with_writes (writes_of now) l)
     (c.commit_file.ensures.memory told (ap answer_of c.in-Err-commit_file.is ∙ e) (with_writes (writes_of now) l) held)

@@ -1,0 +1,388 @@
+-- Requests on a file with what is known of its commits.
+use Rattle.std.proofs.Common.{◌≡◌, ℕ, ◌-◌, ◌<◌, ◌≤◌, Bool, true, false, ◌||◌, List, [], ◌∷◌, ◌++◌, Option, Some, None, length, take, drop, ltb, ap, sym, refl, ◌∙◌, arith, subst, append_assoc}
+use Rattle.std.specs.FinSet as set
+use Rattle.std.specs.List.{IsDistinct}
+use Rattle.std.specs.Prelude.{nat_eq}
+use Rattle.std.proofs.lemmas.Bool.{ltb-true, ltb-false}
+use Rattle.std.proofs.lemmas.List.{take-append-drop, take_at}
+use Rattle.ufs_base.specs.declared.sizes.TheConstants.{MAX_EXTENTS}
+use Rattle.ufs_bitmap.specs.Blocks.{BlockSet}
+use Rattle.ufs_bitmap.specs.Taking.{IsApart, Takes, has}
+use Rattle.ufs_bitmap.proofs.SetLemmas.{has-union, same_blocks}
+use Rattle.ufs_bitmap.proofs.TakingLemmas.{distinct-append, distinct_apart, distinct_back, distinct_front, has-append, takes_all}
+use Rattle.ufs_extent.specs.declared.Run.{Run}
+use Rattle.ufs_extent.specs.Runs.{appended_all, blocks_of, last_runs}
+use Rattle.ufs_extent.proofs.PlaceLemmas.{blocks_of-first_runs, blocks_of-last_runs}
+use Rattle.ufs_extent.proofs.RunLemmas.{blocks_of-append}
+use Rattle.ufs_file.specs.Content.{Content, block_count}
+use Rattle.ufs_file.specs.Hand.{FileState, IsCause, IsEntryOf, IsExcusedFor, IsFileOf, IsOf, IsPosix, IsServed, LacksExtents, content_after, content_by, missing}
+use Rattle.ufs_file.proofs.HandLemmas.{apart_taken, blocks_of-all}
+use Rattle.ufs_ilog.specs.Deltas.{FileLog}
+use Rattle.ufs_model.specs.Asks.{IsAsk}
+use Rattle.ufs_model.specs.Excuses.{ExcuseFits}
+use Rattle.ufs_model.specs.FileCalls.{file_refusal}
+use Rattle.ufs_model.specs.History.{is_excused}
+use Rattle.ufs_model.specs.PosixTree.{PosixTree}
+use Rattle.ufs_model.specs.declared.data.Actor.{Actor}
+use Rattle.ufs_model.specs.declared.data.Ask.{Ask}
+use Rattle.ufs_model.specs.declared.data.Desc.{Desc}
+use Rattle.ufs_model.specs.declared.data.Entry.{Entry}
+use Rattle.ufs_model.specs.declared.data.Errno.{Errno}
+use Rattle.ufs_model.specs.declared.data.Excuse.{Excuse}
+use Rattle.ufs_model.specs.declared.data.Excuse.TheVariants as excuse
+use Rattle.ufs_model.specs.declared.data.Op.{Op}
+use Rattle.ufs_model.specs.declared.data.Reply.{Reply}
+use Rattle.ufs_model.specs.declared.data.Reply.TheVariants as reply
+use Rattle.ufs_durable.specs.Serving.{DropsOnly, IsApplied, IsServedKept, TakesOnly, TakesOrDrops, content_behind, noted_as}
+use Rattle.ufs_durable.specs.State.{DurableState, IsNoted, blocks_held}
+
+-- ---- owners in another order
+
+turned : (x y z : Bool) → ((x || y) || z) ≡ ((x || z) || y)
+turned true y z = refl
+turned false true true = refl
+turned false true false = refl
+turned false false true = refl
+turned false false false = refl
+
+has-three : (xs ys zs : List ℕ) (q : ℕ) → has ((xs ++ ys) ++ zs) q ≡ ((has xs q || has ys q) || has zs q)
+has-three xs ys zs q = has-append (xs ++ ys) zs q ∙ ap (λ (b : Bool). b || has zs q) (has-append xs ys q)
+
+has-turned : (xs ys zs : List ℕ) (q : ℕ) → has ((xs ++ ys) ++ zs) q ≡ has ((xs ++ zs) ++ ys) q
+has-turned xs ys zs q = has-three xs ys zs q ∙ turned (has xs q) (has ys q) (has zs q) ∙ sym (has-three xs zs ys q)
+
+pub apart_turned : (pool : BlockSet) (xs ys zs : List ℕ) → IsApart pool ((xs ++ ys) ++ zs) → IsApart pool ((xs ++ zs) ++ ys)
+apart_turned pool xs ys zs h = record {
+  absent = λ b e. h.absent b (has-turned xs ys zs b ∙ e);
+  once = distinct-append (xs ++ zs) ys (distinct-append xs zs (distinct_front xs ys front) (distinct_back (xs ++ ys) zs h.once) (λ q e. off_behind q (has-append xs ys q ∙ ap (λ (b : Bool). b || has ys q) e)))
+      (distinct_back xs ys front) (λ q e. by q (has xs q) (has ys q) refl refl (sym (has-append xs zs q) ∙ e));
+}
+  where
+    front : IsDistinct nat_eq (xs ++ ys)
+    front = distinct_front (xs ++ ys) zs h.once
+
+    off_behind : (q : ℕ) → has (xs ++ ys) q ≡ true → has zs q ≡ false
+    off_behind q e = distinct_apart (xs ++ ys) zs h.once q e
+
+    or_true : (b : Bool) → (b || true) ≡ true
+    or_true true = refl
+    or_true false = refl
+
+    by : (q : ℕ) (x y : Bool) → has xs q ≡ x → has ys q ≡ y → (has xs q || has zs q) ≡ true → has ys q ≡ false
+    by q x false ex ey e = ey
+    by q true true ex ey e = distinct_apart xs ys front q ex
+    by q false true ex ey e =
+        let none = off_behind q (has-append xs ys q ∙ ap (λ (b : Bool). has xs q || b) ey ∙ or_true (has xs q)) in
+        let wrong : false ≡ true = sym (λ i. ex i || none i) ∙ e in
+        absurd cc
+
+-- ---- what a file alone was answered
+
+pub record IsAlone (old new : FileState) (before after : BlockSet) (ask : Ask) (server : Actor) (ticket : ℕ) (entry : Entry) (desc : Option Desc) : Type 0 where
+  pub of_ask : IsEntryOf ask server ticket entry
+  pub served : is_excused entry.reply ≡ false → (d : Desc) → ask.desc ≡ Some d → IsServed old new before after d ask.op entry.reply desc
+  pub excused : (x : Excuse) → entry.reply ≡ reply.Excused x → (d : Desc) → ask.desc ≡ Some d → IsExcusedFor old d ask.op before x
+  pub posix : is_excused entry.reply ≡ false → (t : PosixTree) → IsFileOf old t → IsAsk t ask → IsPosix t ask new entry.reply desc
+  pub fits : (x : Excuse) → entry.reply ≡ reply.Excused x → (t : PosixTree) → IsFileOf old t → IsAsk t ask → ExcuseFits t ask.client ask.op x
+  pub few : length new.extents ≤ MAX_EXTENTS
+  pub file : is_excused entry.reply ≡ true → new ≡ old
+  pub pool : is_excused entry.reply ≡ true → after ≡ before
+  pub same_desc : is_excused entry.reply ≡ true → desc ≡ ask.desc
+
+-- a request that is of the file has a descriptor
+pub desc_there : (o : Option Desc) (file : ℕ) → IsOf o file → (d : Desc) × (o ≡ Some d)
+desc_there None file wrong = absurd wrong
+desc_there (Some d) file is = (d, refl)
+
+-- the log has the file already
+logged_already : (f : DurableState) → IsNoted f → noted_as f.file f.log ≡ f.log
+logged_already f noted = λ i. record { inode = f.log.inode; committed = f.log.committed; noted = record { runs = sym noted.runs i; size = sym noted.size i } }
+
+not_both : (r : Reply) → is_excused r ≡ false → is_excused r ≡ true → ⊥
+not_both r off on = let e : false ≡ true = sym off ∙ on in absurd cc
+
+pub unexcused : (r : Reply) → ((x : Excuse) → r ≡ reply.Excused x → ⊥) → is_excused r ≡ false
+unexcused (reply.Excused x) off = absurd (off x refl)
+unexcused reply.Done off = refl
+unexcused (reply.Fd fd) off = refl
+unexcused (reply.Count count) off = refl
+unexcused (reply.At at) off = refl
+unexcused (reply.Got bytes) off = refl
+unexcused (reply.IsFile size) off = refl
+unexcused (reply.IsDir entries) off = refl
+unexcused (reply.Names names) off = refl
+unexcused (reply.Refused e) off = refl
+
+-- a request that isn't refused alone changes how many blocks there are
+pub allowed_where_changed : (f : FileState) (d : Desc) (request : Op) → length (blocks_of f.extents) ≡ block_count (length f.content.bytes)
+    → (length (blocks_of f.extents) ≡ block_count (length (content_behind f d request).bytes) → ⊥) → file_refusal f.content.bytes d request ≡ None
+allowed_where_changed f d request whole changed = by (file_refusal f.content.bytes d request) refl
+  where
+    by : (o : Option Errno) → file_refusal f.content.bytes d request ≡ o → file_refusal f.content.bytes d request ≡ None
+    by None e = e
+    by (Some x) e = absurd (changed (whole ∙ ap (λ (o : Option Errno). block_count (length (content_by f.content d request o).bytes)) (sym e)))
+
+-- Memory ran out before anything changed.
+pub applied_not : (f : DurableState) (pool : BlockSet) (ask : Ask) (server : Actor) (ticket : ℕ) (entry : Entry) (desc : Option Desc) → IsEntryOf ask server ticket entry
+    → entry.reply ≡ reply.Excused excuse.Memory → desc ≡ ask.desc → length f.file.content.dirty ≡ length (blocks_of f.file.extents) → length f.file.extents ≤ MAX_EXTENTS
+    → ((d : Desc) → ask.desc ≡ Some d → file_refusal f.file.content.bytes d ask.op ≡ None) → IsApplied f f pool pool ask server ticket entry desc
+applied_not f pool ask server ticket entry desc of_ask told same marks few allowed =
+    let on : is_excused entry.reply ≡ true = ap is_excused told in
+    record {
+      of_ask = of_ask;
+      served = λ off. absurd (not_both entry.reply off on);
+      excused = λ x e d is. let both : reply.Excused excuse.Memory ≡ reply.Excused x = sym told ∙ e in
+          let one : excuse.Memory ≡ x = cc in
+          subst (IsExcusedFor f.file d ask.op pool) one (record { allowed = allowed d is; cause = tt });
+      posix = λ off. absurd (not_both entry.reply off on);
+      fits = λ x e t is asks. let both : reply.Excused excuse.Memory ≡ reply.Excused x = sym told ∙ e in
+          let one : excuse.Memory ≡ x = cc in
+          subst (ExcuseFits t ask.client ask.op) one (record { due = λ (e : true ≡ false). absurd cc; told = tt });
+      few = few;
+      marks = marks;
+      kept = λ e. refl;
+      pool = λ e. refl;
+      same_desc = λ e. same;
+    }
+
+module _ (f : DurableState) (new : FileState) (before after : BlockSet) (ask : Ask) (server : Actor) (ticket : ℕ) (entry : Entry) (desc : Option Desc) (noted : IsNoted f)
+    (alone : IsAlone f.file new before after ask server ticket entry desc) where
+  -- The file keeps its blocks, and maybe takes some.
+  pub applied_taking : length new.content.dirty ≡ length (blocks_of new.extents) → ((d : Desc) → ask.desc ≡ Some d → length (blocks_of f.file.extents) ≤ block_count (length (content_behind f.file d ask.op).bytes))
+      → IsApplied f (record { file = new; log = noted_as new f.log; dropped = f.dropped }) before after ask server ticket entry desc
+  applied_taking marks most = record {
+    of_ask = alone.of_ask;
+    served = λ off d is. let s = alone.served off d is in record {
+      replied = s.replied;
+      told = s.told;
+      bytes = s.bytes;
+      memory = s.memory;
+      same_file = s.same_file;
+      same_inode = s.same_inode;
+      blocks = record {
+        more = λ le. record { taken = s.blocks.more le; dropped = refl };
+        fewer = λ less. let long = most d is in let same = ap (λ (c : Content). block_count (length c.bytes)) s.memory in absurd (omega (arith, less, long, same));
+      };
+      logged = refl;
+    };
+    excused = alone.excused;
+    posix = alone.posix;
+    fits = alone.fits;
+    few = alone.few;
+    marks = marks;
+    kept = λ e. λ i. record { file = alone.file e i; log = (ap (λ (x : FileState). noted_as x f.log) (alone.file e) ∙ logged_already f noted) i; dropped = f.dropped };
+    pool = alone.pool;
+    same_desc = alone.same_desc;
+  }
+
+  -- Where it keeps just those, they lie where they lay.
+  pub extents_stay : (d : Desc) → ask.desc ≡ Some d → length (blocks_of f.file.extents) ≡ block_count (length (content_behind f.file d ask.op).bytes) → new.extents ≡ f.file.extents
+  extents_stay d is whole = by (is_excused entry.reply) refl
+    where
+      from_none : (n : ℕ) (runs : List Run) → n ≡ 0 → Takes before n runs after 0 → new.extents ≡ appended_all f.file.extents runs → new.extents ≡ f.file.extents
+      from_none n [] none turn e = e
+      from_none n (r ∷ rs) none turn e = (let some = turn.0 in absurd (omega (arith, some, none)))
+
+      by : (b : Bool) → is_excused entry.reply ≡ b → new.extents ≡ f.file.extents
+      by true e = ap (λ (x : FileState). x.extents) (alone.file e)
+      by false e =
+          let s = alone.served e d is in
+          let same : length (blocks_of f.file.extents) ≡ block_count (length new.content.bytes) = whole ∙ ap (λ (c : Content). block_count (length c.bytes)) (sym s.memory) in
+          let t = s.blocks.more (omega (arith, same)) in
+          from_none (block_count (length new.content.bytes) - length (blocks_of f.file.extents)) t.runs (omega (arith, same)) t.in_turn t.extents
+
+-- Nothing is taken from a pool of which nothing is wanted, and from no other.
+any_pool : (runs : List Run) (wanted : ℕ) (one other : BlockSet) (x : Excuse) → wanted ≡ 0 → IsCause runs wanted one x → IsCause runs wanted other x
+any_pool runs wanted one other excuse.Memory none cause = tt
+any_pool runs wanted one other (excuse.Device fault) none cause = cause
+any_pool runs wanted one other (excuse.Stopped fault) none cause = cause
+any_pool runs wanted one other excuse.Inodes none cause = cause
+any_pool runs wanted one other (excuse.Blocks need had) none cause = (let fewer = cause.fewer in let needed = cause.needed in absurd (omega (arith, fewer, needed, none)))
+any_pool runs wanted one other (excuse.Extents need) none cause = by cause.runs cause.in_turn cause.counted
+  where
+    by : (taken : List Run) → Takes one wanted taken cause.left 0 → need ≡ length (appended_all runs taken) → LacksExtents runs wanted other need
+    by [] turn counted = record { left = other; runs = []; in_turn = (refl, none); counted = counted; more = cause.more }
+    by (r ∷ rs) turn counted = (let some = turn.0 in absurd (omega (arith, some, none)))
+
+module _ (f : DurableState) (new : FileState) (own left : BlockSet) (ask : Ask) (server : Actor) (ticket : ℕ) (entry : Entry) (desc : Option Desc) (noted : IsNoted f)
+    (alone : IsAlone f.file new own left ask server ticket entry desc) (marks : length new.content.dirty ≡ length (blocks_of new.extents))
+    (count : ℕ) (fewer : count < length (blocks_of f.file.extents)) (is_count : (d : Desc) → ask.desc ≡ Some d → count ≡ block_count (length (content_behind f.file d ask.op).bytes)) (pool : BlockSet) where
+  -- The file keeps so many blocks and drops the others.
+  pub applied_cutting : is_excused entry.reply ≡ false → IsApplied f (record { file = new; log = noted_as new f.log; dropped = f.dropped ++ last_runs f.file.extents count }) pool pool ask server ticket entry desc
+  applied_cutting off = record {
+    of_ask = alone.of_ask;
+    served = λ _ d is. let s = alone.served off d is in
+        let same : count ≡ block_count (length new.content.bytes) = is_count d is ∙ ap (λ (c : Content). block_count (length c.bytes)) (sym s.memory) in
+        record {
+          replied = s.replied;
+          told = s.told;
+          bytes = s.bytes;
+          memory = s.memory;
+          same_file = s.same_file;
+          same_inode = s.same_inode;
+          blocks = record {
+            more = λ le. absurd (omega (arith, le, fewer, same));
+            fewer = λ less. record { extents = (s.blocks.fewer less).extents; dropped = ap (λ (n : ℕ). f.dropped ++ last_runs f.file.extents n) same; pool = refl };
+          };
+          logged = refl;
+        };
+    excused = λ x e. absurd (not_both entry.reply off (ap is_excused e));
+    posix = alone.posix;
+    fits = alone.fits;
+    few = alone.few;
+    marks = marks;
+    kept = λ e. absurd (not_both entry.reply off e);
+    pool = λ e. refl;
+    same_desc = alone.same_desc;
+  }
+
+  -- Memory ran out for it, and what was dropped already isn't.
+  pub applied_uncut : (rest : List Run) → is_excused entry.reply ≡ true → IsApplied f (record { file = new; log = f.log; dropped = take (length f.dropped) (f.dropped ++ rest) }) pool pool ask server ticket entry desc
+  applied_uncut rest on = record {
+    of_ask = alone.of_ask;
+    served = λ off. absurd (not_both entry.reply off on);
+    excused = λ x e d is. let was = alone.excused x e d is in let same = is_count d is in record {
+      allowed = was.allowed;
+      cause =
+          (let goes : block_count (length (content_behind f.file d ask.op).bytes) ≡ block_count (length (content_after f.file.content d ask.op).bytes) =
+          ap (λ (o : Option Errno). block_count (length (content_by f.file.content d ask.op o).bytes)) was.allowed in
+          any_pool f.file.extents (missing f.file d ask.op) own pool x (omega (arith, fewer, same, goes)) was.cause);
+    };
+    posix = alone.posix;
+    fits = alone.fits;
+    few = alone.few;
+    marks = marks;
+    kept = λ e. λ i. record { file = alone.file e i; log = f.log; dropped = take_at f.dropped rest (length f.dropped) refl i };
+    pool = λ e. refl;
+    same_desc = alone.same_desc;
+  }
+
+-- ---- what follows of it
+
+-- the file's own blocks are apart too
+pub own_apart : (pool : BlockSet) (xs ys : List ℕ) → IsApart pool (xs ++ ys) → IsApart pool xs
+own_apart pool xs ys h = record {
+  absent = λ b e. h.absent b (has-append xs ys b ∙ ap (λ (x : Bool). x || has ys b) e);
+  once = distinct_front xs ys h.once;
+}
+
+moved_over : (a x r y : Bool) → (a || ((x || r) || y)) ≡ ((a || r) || (x || y))
+moved_over true x r y = refl
+moved_over false true true y = refl
+moved_over false true false y = refl
+moved_over false false true y = refl
+moved_over false false false y = refl
+
+or_left : (x y b : Bool) → b ≡ (x || y) → x ≡ true → b ≡ true
+or_left x y b e is = e ∙ ap (λ (c : Bool). c || y) is
+
+module _ (f g : DurableState) (before after : BlockSet) (noted : IsNoted f) (apart : IsApart before (blocks_held f)) where
+  abbrev own : List ℕ
+  own = blocks_of f.file.extents
+
+  abbrev dropped : List ℕ
+  dropped = blocks_of f.dropped
+
+  module _ (n : ℕ) (t : TakesOnly f g before after n) where
+    abbrev fresh : List ℕ
+    fresh = blocks_of t.taken.runs
+
+    taken_is : blocks_held g ≡ (own ++ fresh) ++ dropped
+    taken_is = λ i. (ap blocks_of t.taken.extents ∙ blocks_of-all f.file.extents t.taken.runs) i ++ blocks_of (t.dropped i)
+
+    apart_behind_take : IsApart after (blocks_held g)
+    apart_behind_take = subst (IsApart after) (sym taken_is) (apart_turned after own dropped fresh (apart_taken before (own ++ dropped) n t.taken.runs after 0 apart t.taken.in_turn))
+
+    together_behind_take : set.union after (set.from_list (blocks_held g)) ≡ set.union before (set.from_list (blocks_held f))
+    together_behind_take = same_blocks _ _ (λ q.
+        has-union after (set.from_list (blocks_held g)) q
+        ∙ ap (λ (l : List ℕ). set.contains after q || has l q) taken_is
+        ∙ ap (λ (b : Bool). set.contains after q || b) (has-three own fresh dropped q)
+        ∙ moved_over (set.contains after q) (has own q) (has fresh q) (has dropped q)
+        ∙ (λ i. sym (takes_all before n t.taken.runs after 0 t.taken.in_turn q) i || sym (has-append own dropped q) i)
+        ∙ sym (has-union before (set.from_list (blocks_held f)) q))
+
+    within_take : (q : ℕ) → set.contains after q ≡ true → set.contains before q ≡ true
+    within_take q e = or_left (set.contains after q) (has fresh q) (set.contains before q) (takes_all before n t.taken.runs after 0 t.taken.in_turn q) e
+
+  module _ (n : ℕ) (t : DropsOnly f g before after n) where
+    abbrev kept : List ℕ
+    kept = take n own
+
+    abbrev rest : List ℕ
+    rest = drop n own
+
+    was : blocks_held f ≡ (kept ++ rest) ++ dropped
+    was = ap (λ (l : List ℕ). l ++ dropped) (sym (take-append-drop n own))
+
+    dropped_is : blocks_held g ≡ (kept ++ dropped) ++ rest
+    dropped_is = (λ i. (ap blocks_of t.extents ∙ blocks_of-first_runs f.file.extents n) i
+        ++ (ap blocks_of t.dropped ∙ blocks_of-append f.dropped (last_runs f.file.extents n) ∙ ap (λ (l : List ℕ). dropped ++ l) (blocks_of-last_runs f.file.extents n)) i)
+        ∙ sym (append_assoc kept dropped rest)
+
+    apart_behind_drop : IsApart after (blocks_held g)
+    apart_behind_drop = subst (λ (p : BlockSet). IsApart p (blocks_held g)) (sym t.pool) (subst (IsApart before) (sym dropped_is) (apart_turned before kept rest dropped (subst (IsApart before) was apart)))
+
+    together_behind_drop : set.union after (set.from_list (blocks_held g)) ≡ set.union before (set.from_list (blocks_held f))
+    together_behind_drop = ap (λ (p : BlockSet). set.union p (set.from_list (blocks_held g))) t.pool ∙ same_blocks _ _ (λ q.
+        has-union before (set.from_list (blocks_held g)) q
+        ∙ ap (λ (b : Bool). set.contains before q || b) (ap (λ (l : List ℕ). has l q) dropped_is ∙ has-turned kept dropped rest q ∙ ap (λ (l : List ℕ). has l q) (sym was))
+        ∙ sym (has-union before (set.from_list (blocks_held f)) q))
+
+  module _ (n : ℕ) (has_them : TakesOrDrops f g before after n) where
+    turn : (P : Type 0) → (length own ≤ n → P) → (n < length own → P) → P
+    turn P more fewer = by (ltb n (length own)) refl
+      where
+        by : (b : Bool) → ltb n (length own) ≡ b → P
+        by true e = fewer (ltb-true n (length own) e)
+        by false e = more (ltb-false n (length own) e)
+
+    apart_behind : IsApart after (blocks_held g)
+    apart_behind = turn (IsApart after (blocks_held g)) (λ le. apart_behind_take (n - length own) (has_them.more le)) (λ less. apart_behind_drop n (has_them.fewer less))
+
+    together_behind : set.union after (set.from_list (blocks_held g)) ≡ set.union before (set.from_list (blocks_held f))
+    together_behind = turn (set.union after (set.from_list (blocks_held g)) ≡ set.union before (set.from_list (blocks_held f))) (λ le. together_behind_take (n - length own) (has_them.more le)) (λ less. together_behind_drop n (has_them.fewer less))
+
+    within : (q : ℕ) → set.contains after q ≡ true → set.contains before q ≡ true
+    within q e = turn (set.contains before q ≡ true) (λ le. within_take (n - length own) (has_them.more le) q e) (λ less. sym (ap (λ (p : BlockSet). set.contains p q) (has_them.fewer less).pool) ∙ e)
+
+  module _ (ask : Ask) (server : Actor) (ticket : ℕ) (entry : Entry) (desc : Option Desc) (d : Desc) (is : ask.desc ≡ Some d) (applied : IsApplied f g before after ask server ticket entry desc) where
+    -- excused or served
+    either : (P : Type 0) → (g ≡ f → after ≡ before → P) → (IsServedKept f g before after d ask.op entry.reply desc → P) → P
+    either P none some = by (is_excused entry.reply) refl
+      where
+        by : (b : Bool) → is_excused entry.reply ≡ b → P
+        by true e = none (applied.kept e) (applied.pool e)
+        by false e = some (applied.served e d is)
+
+    pub goes_apart : IsApart after (blocks_held g)
+    goes_apart = either (IsApart after (blocks_held g)) (λ same pool. subst (λ (p : BlockSet). IsApart p (blocks_held g)) (sym pool) (subst (λ (x : DurableState). IsApart before (blocks_held x)) (sym same) apart))
+        (λ s. apart_behind (block_count (length g.file.content.bytes)) s.blocks)
+
+    pub goes_together : set.union after (set.from_list (blocks_held g)) ≡ set.union before (set.from_list (blocks_held f))
+    goes_together = either (set.union after (set.from_list (blocks_held g)) ≡ set.union before (set.from_list (blocks_held f))) (λ same pool. λ i. set.union (pool i) (set.from_list (blocks_held (same i))))
+        (λ s. together_behind (block_count (length g.file.content.bytes)) s.blocks)
+
+    pub goes_within : (q : ℕ) → set.contains after q ≡ true → set.contains before q ≡ true
+    goes_within q e = either (set.contains before q ≡ true) (λ same pool. sym (ap (λ (p : BlockSet). set.contains p q) pool) ∙ e) (λ s. within (block_count (length g.file.content.bytes)) s.blocks q e)
+
+    pub same_number : g.file.file ≡ f.file.file
+    same_number = either (g.file.file ≡ f.file.file) (λ same pool. ap (λ (x : DurableState). x.file.file) same) (λ s. s.same_file)
+
+    pub same_inode : g.file.inode ≡ f.file.inode
+    same_inode = either (g.file.inode ≡ f.file.inode) (λ same pool. ap (λ (x : DurableState). x.file.inode) same) (λ s. s.same_inode)
+
+    pub same_committed : g.log.committed ≡ f.log.committed
+    same_committed = either (g.log.committed ≡ f.log.committed) (λ same pool. ap (λ (x : DurableState). x.log.committed) same) (λ s. ap (λ (l : FileLog). l.committed) s.logged)
+
+    pub goes_noted : IsNoted g
+    goes_noted = either (IsNoted g) (λ same pool. subst IsNoted (sym same) noted) (λ s. record {
+      inode = ap (λ (l : FileLog). l.inode) s.logged ∙ noted.inode ∙ sym s.same_inode;
+      runs = ap (λ (l : FileLog). l.noted.runs) s.logged;
+      size = ap (λ (l : FileLog). l.noted.size) s.logged;
+      marks = applied.marks;
+      apart = record {
+        absent = λ b e. distinct_apart (blocks_of g.file.extents) (blocks_of g.dropped) goes_apart.once b e;
+        once = distinct_front (blocks_of g.file.extents) (blocks_of g.dropped) goes_apart.once;
+      };
+    })
