@@ -1,0 +1,200 @@
+-- A request on a file.
+use Rattle.std.proofs.Common.{◌≡◌, ◌≢◌, ℕ, ◌⊎◌, inl, inr, Bool, true, false, List, [], ◌∷◌, ◌++◌, Option, Some, is_some, ap, sym, refl, ◌∙◌, subst, arith}
+use Rattle.std.specs.Prelude.{IsSome}
+use Rattle.std.specs.FinMap as map
+use Rattle.std.specs.FinSet as set
+use Rattle.ufs_bitmap.specs.Blocks.{BlockSet}
+use Rattle.ufs_bitmap.specs.Taking.{IsApart, has}
+use Rattle.ufs_file.specs.Hand.{FileState, IsFileOf}
+use Rattle.ufs_files.specs.Files.{AreFilesOf}
+use Rattle.ufs_files.proofs.MapLemmas.{one_or_apart}
+use Rattle.ufs_image.specs.Changes.{IsTakenBlock}
+use Rattle.ufs_layout.specs.Superblock.{geometry_of}
+use Rattle.ufs_layout.specs.declared.geometry.Geometry.{Geometry}
+use Rattle.ufs_ledger.specs.Kept.{Counts}
+use Rattle.ufs_ledger.specs.Laws.{EntriesKeep}
+use Rattle.ufs_ledger.specs.Ledger.{Ledger}
+use Rattle.ufs_model.specs.Asks.{IsAsk, file_in}
+use Rattle.ufs_model.specs.FileCalls.{is_on_file}
+use Rattle.ufs_model.specs.History.{IsLegal, goes_on, is_excused, tree_after, tree_with}
+use Rattle.ufs_model.specs.Posix.{posix}
+use Rattle.ufs_model.specs.PosixTree.{PosixTree}
+use Rattle.ufs_model.specs.declared.data.Actor.{Actor}
+use Rattle.ufs_model.specs.declared.data.Ask.{Ask}
+use Rattle.ufs_model.specs.declared.data.Desc.{Desc}
+use Rattle.ufs_model.specs.declared.data.Entry.{Entry}
+use Rattle.ufs_model.specs.declared.data.Op.{Op}
+use Rattle.ufs_model.specs.declared.data.Reply.{Reply}
+use Rattle.ufs_model.specs.declared.data.Reply.TheVariants as reply
+use Rattle.ufs_names.specs.Calls.{HaveInodes}
+use Rattle.ufs_names.specs.Laws.{KeepsNames}
+use Rattle.ufs_names.specs.NamesPart.{IsPartOf}
+use Rattle.ufs_prefix.specs.Changes.{asks_commit}
+use Rattle.ufs_prefix.specs.StepLaws.{OthersAcknowledgeNothing}
+use Rattle.ufs_prefix.proofs.Facts.Histories.{tree_after-append}
+use Rattle.ufs_durable.specs.Committing.{HasOwnBlocks, OwnsServed}
+use Rattle.ufs_durable.specs.Serving.{IsApplied}
+use Rattle.ufs_durable.specs.Standing.{IsFileBlock, StandsFor, StandsServed}
+use Rattle.ufs_durable.specs.State.{DurableState, blocks_held}
+use Rattle.ufs_durable.proofs.Requests.{goes_apart, goes_noted, goes_together, goes_within, same_inode, same_number}
+use Rattle.ufs_stored.specs.Parts.{NamesOwn, OneFile, Parts, TheNames, ThePool, durable_in, with_file}
+use Rattle.ufs_stored.specs.Stored.{ArePartsOf, FileHasIt, IsFileStored, IsFileWhole, IsStored, with_born}
+use Rattle.ufs_stored.proofs.Entries.{counted_still, excuse_leaves, ledger_kept}
+use Rattle.ufs_stored.proofs.Puts.{durable_else, durable_here, either, other_file, here}
+use Rattle.ufs_stored.proofs.Spaced.{spaced_now}
+
+served_goes : (t : PosixTree) (client : ℕ) (request : Op) (r : Reply) → is_excused r ≡ false → tree_with t client request r ≡ (posix t client request).0
+served_goes t client request (reply.Excused x) e = absurd cc
+served_goes t client request reply.Done e = refl
+served_goes t client request (reply.Fd fd) e = refl
+served_goes t client request (reply.Count n) e = refl
+served_goes t client request (reply.At n) e = refl
+served_goes t client request (reply.Got bytes) e = refl
+served_goes t client request (reply.IsFile size) e = refl
+served_goes t client request (reply.IsDir entries) e = refl
+served_goes t client request (reply.Names names) e = refl
+served_goes t client request (reply.Refused x) e = refl
+
+-- ---- the parts
+
+module _ (p : Parts) (s : FileState) (x : DurableState) (pool : BlockSet) (old : map.get p.files s.file ≡ Some s) (number : x.file.file ≡ s.file) (inode : x.file.inode ≡ s.inode) (t t' : PosixTree) (parts : ArePartsOf p t)
+    (names : IsPartOf p.names t') (file : IsFileOf x.file t') (others : (f : ℕ) → f ≢ x.file.file → map.get t'.bytes f ≡ map.get t.bytes f) where
+  abbrev q : Parts
+  q = with_file x pool p
+
+  files_now : AreFilesOf q.files t'
+  files_now f r there = by (either x pool p f r there)
+    where
+      by : ((f ≡ x.file.file) × (r ≡ x.file)) ⊎ ((f ≢ x.file.file) × (map.get p.files f ≡ Some r)) → (r.file ≡ f) × IsFileOf r t'
+      by (inl both) = (ap (λ (y : FileState). y.file) both.1 ∙ sym both.0, subst (λ (y : FileState). IsFileOf y t') (sym both.1) file)
+      by (inr both) = let was = parts.files f r both.1 in (was.0, others r.file (λ e. both.0 (sym was.0 ∙ e)) ∙ was.1)
+
+  inodes_now : HaveInodes p.names.held q.files
+  inodes_now f r h there held = by (either x pool p f r there)
+    where
+      by : ((f ≡ x.file.file) × (r ≡ x.file)) ⊎ ((f ≢ x.file.file) × (map.get p.files f ≡ Some r)) → r.inode ≡ h.inode
+      by (inl both) = ap (λ (y : FileState). y.inode) both.1 ∙ inode ∙ parts.inodes f s h (ap (map.get p.files) (both.0 ∙ number) ∙ old) held
+      by (inr both) = parts.inodes f r h both.1 held
+
+  here_now : (f : ℕ) → IsSome (map.get p.names.held f) → IsSome (map.get q.files f)
+  here_now f live = by (one_or_apart f x.file.file)
+    where
+      by : (f ≡ x.file.file) ⊎ (f ≢ x.file.file) → IsSome (map.get q.files f)
+      by (inl is) = ap is_some (ap (map.get q.files) is ∙ here x pool p)
+      by (inr not) = ap is_some (other_file x pool p f not) ∙ parts.here f live
+
+  pub parts_now : ArePartsOf q t'
+  parts_now = record { names = names; files = files_now; inodes = inodes_now; here = here_now }
+
+-- ---- the whole
+
+module _ (g : Geometry) (keeps : EntriesKeep g) (nothing : OthersAcknowledgeNothing) (names_keep : KeepsNames) (stands : StandsServed) (owns : OwnsServed)
+    (l : Ledger) (u : BlockSet) (start : PosixTree) (history : List Entry) (entry : Entry) (k : Counts) (p : Parts) (s : FileState) (x : DurableState) (pool : BlockSet) (ask : Ask) (server : Actor) (ticket : ℕ) (desc : Option Desc) (d : Desc)
+    (same : geometry_of l.head ≡ g) (legal : IsLegal start (history ++ entry ∷ [])) (no_commit : asks_commit entry.op ≡ false) (old : map.get p.files s.file ≡ Some s) (kind : is_on_file ask.op ≡ true)
+    (asked : IsAsk (tree_after start history) ask) (is : ask.desc ≡ Some d) (of : d.file ≡ Some s.file) (applied : IsApplied (durable_in p.commits s) x p.pool pool ask server ticket entry desc) (st : IsStored l u start history k p) where
+  abbrev f : DurableState
+  f = durable_in p.commits s
+
+  abbrev t : PosixTree
+  t = tree_after start history
+
+  whole : IsFileWhole l k.numbers f
+  whole = st.each s.file s old
+
+  apart : IsApart p.pool (blocks_held f)
+  apart = record { absent = λ b held. by b held (set.contains p.pool b) refl; once = whole.once }
+    where
+      by : (b : ℕ) → has (blocks_held f) b ≡ true → (c : Bool) → set.contains p.pool b ≡ c → set.contains p.pool b ≡ false
+      by b held false e = e
+      by b held true e = (let clash = st.spaced.apart (OneFile s.file) ThePool b (record { hand = s; here = old; held = held }) e in absurd cc)
+
+  number : x.file.file ≡ s.file
+  number = same_number f x p.pool pool whole.noted apart ask server ticket entry desc d is applied
+
+  inode : x.file.inode ≡ s.inode
+  inode = same_inode f x p.pool pool whole.noted apart ask server ticket entry desc d is applied
+
+  apart_now : IsApart pool (blocks_held x)
+  apart_now = goes_apart f x p.pool pool whole.noted apart ask server ticket entry desc d is applied
+
+  -- excused or served
+  turn : (P : Type 0) → (is_excused entry.reply ≡ true → P) → (is_excused entry.reply ≡ false → P) → P
+  turn P on off = by (is_excused entry.reply) refl
+    where
+      by : (b : Bool) → is_excused entry.reply ≡ b → P
+      by true e = on e
+      by false e = off e
+
+  stands_now : (m : Ledger) → ((b : ℕ) → IsFileBlock l b → IsFileBlock m b) → StandsFor m f → StandsFor m x
+  stands_now m blocks stood = turn (StandsFor m x) (λ on. subst (StandsFor m) (sym (applied.kept on)) stood)
+      (λ off. stands m f x p.pool pool d ask.op entry.reply desc whole.noted stood (λ b pooled. blocks b (st.spaced.usable ThePool b (λ e. cc) pooled)) (applied.served off d is))
+
+  stored_now : IsFileStored l k.numbers f → IsFileStored l k.numbers x
+  stored_now (inl both) = inl (ap k.numbers.inode number ∙ both.0 ∙ ap Some (sym inode), stands_now l (λ b h. h) both.1)
+  stored_now (inr both) = inr (
+    ap k.numbers.inode number ∙ both.0,
+    subst (λ (i : ℕ). StandsFor (with_born i l) x) (sym inode) (stands_now (with_born s.inode l) (λ b h. record { data_block = h.data_block; no_dir = h.no_dir; unheld = h.unheld }) both.1),
+  )
+
+  -- no inode of the disk has a block of the pool
+  untaken : (b : ℕ) → set.contains p.pool b ≡ true → IsTakenBlock (geometry_of l.head) l.now.catalog b → ⊥
+  untaken b pooled (inl below) = (let from = (st.spaced.usable ThePool b (λ e. cc) pooled).data_block.from in omega (arith, below, from))
+  untaken b pooled (inr (i, place, at)) = by (st.spaced.held i place b at)
+    where
+      by : NamesOwn p b ⊎ FileHasIt p k.numbers i b → ⊥
+      by (inl names) = (let clash = st.spaced.apart ThePool TheNames b pooled names in cc)
+      by (inr file) = (let clash = st.spaced.apart ThePool (OneFile file.0) b pooled file.1 in cc)
+
+  own_now : HasOwnBlocks l x
+  own_now = turn (HasOwnBlocks l x) (λ on. subst (HasOwnBlocks l) (sym (applied.kept on)) whole.own) off
+    where
+      off : is_excused entry.reply ≡ false → HasOwnBlocks l x
+      off e = owns l f x p.pool pool d ask.op entry.reply desc whole.own untaken (applied.served e d is)
+
+  whole_now : IsFileWhole l k.numbers x
+  whole_now = record {
+    noted = goes_noted f x p.pool pool whole.noted apart ask server ticket entry desc d is applied;
+    once = apart_now.once;
+    own = own_now;
+    stored = stored_now whole.stored;
+  }
+
+  each_now : (file : ℕ) (r : FileState) → map.get (with_file x pool p).files file ≡ Some r → IsFileWhole l k.numbers (durable_in (with_file x pool p).commits r)
+  each_now file r there = by (either x pool p file r there)
+    where
+      by : ((file ≡ x.file.file) × (r ≡ x.file)) ⊎ ((file ≢ x.file.file) × (map.get p.files file ≡ Some r)) → IsFileWhole l k.numbers (durable_in (with_file x pool p).commits r)
+      by (inl both) = subst (IsFileWhole l k.numbers) (sym (ap (durable_in (with_file x pool p).commits) both.1 ∙ durable_here x pool p)) whole_now
+      by (inr both) = subst (IsFileWhole l k.numbers) (sym (durable_else x pool p r (λ e. both.0 (sym (st.parts.files file r both.1).0 ∙ e)))) (st.each file r both.1)
+
+  next : tree_after start (history ++ entry ∷ []) ≡ goes_on t entry
+  next = tree_after-append start history (entry ∷ [])
+
+  parts_after : ArePartsOf (with_file x pool p) (tree_after start (history ++ entry ∷ []))
+  parts_after = turn (ArePartsOf (with_file x pool p) (tree_after start (history ++ entry ∷ []))) on off
+    where
+      on : is_excused entry.reply ≡ true → ArePartsOf (with_file x pool p) (tree_after start (history ++ entry ∷ []))
+      on e = subst (ArePartsOf (with_file x pool p)) (sym (next ∙ excuse_leaves t entry.client entry.op entry.reply e))
+          (parts_now p s x pool old number inode t t st.parts st.parts.names (subst (λ (y : DurableState). IsFileOf y.file t) (sym (applied.kept e)) (st.parts.files s.file s old).1) (λ f not. refl))
+
+      off : is_excused entry.reply ≡ false → ArePartsOf (with_file x pool p) (tree_after start (history ++ entry ∷ []))
+      off e =
+          let stepped = applied.posix e t (st.parts.files s.file s old).1 asked in
+          let goes : goes_on t entry ≡ (posix t ask.client ask.op).0 = served_goes t entry.client entry.op entry.reply e ∙ (λ i. (posix t (applied.of_ask.client i) (applied.of_ask.asked i)).0) in
+          let named : IsSome (file_in ask.desc) = ap (λ (o : Option Desc). is_some (file_in o)) is ∙ ap is_some of in
+          subst (ArePartsOf (with_file x pool p)) (sym (next ∙ goes))
+          (parts_now p s x pool old number inode t (posix t ask.client ask.op).0 st.parts (names_keep p.names t ask st.parts.names asked kind named) stepped.goes_on stepped.others)
+
+  pub file_entry_kept : IsStored l u start (history ++ entry ∷ []) k (with_file x pool p)
+  file_entry_kept = record {
+    tree = st.tree;
+    legal = legal;
+    kept = ledger_kept g keeps l start history entry k same st.tree legal (nothing start history entry k.names k.files (inr no_commit)) st.kept;
+    parts = parts_after;
+    names = st.names;
+    counted = counted_still start history entry k st.kept.here.stored.made st.counted;
+    each = each_now;
+    spaced = spaced_now l u k.numbers p s x pool old number apart_now
+        (goes_together f x p.pool pool whole.noted apart ask server ticket entry desc d is applied)
+        (goes_within f x p.pool pool whole.noted apart ask server ticket entry desc d is applied)
+        (λ n r there. (st.parts.files n r there).0) st.spaced;
+  }

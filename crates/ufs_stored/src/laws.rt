@@ -1,0 +1,105 @@
+// Laws of the definitions, each the contract of a function that does nothing.
+ghost use Rattle.ufs_layout.specs.Areas.{IsGeometry};
+ghost use Rattle.ufs_stored.specs.Laws.{BlocksMove, CallsAreExplained, DirFsyncsKeep, EmptiedIsStored, ExcusesKeep, FileEntriesKeep, FilesAreCommitted, FilesAreSettled, FsyncsKeep, NameEntriesKeep, NamesAreCommitted, NamesAreCommitting, NamesMayCommit, NotesGoOn, QuietEntriesKeep, SettledIsStored, SpelledIsStored, StillEntriesKeep, StoredIsExplained, SyncsKeep, WrittenIsStored};
+
+use ufs_durable::{committing_law, others_law, standing_law};
+use ufs_layout::Geometry;
+use ufs_ledger::{opening_law, promise_law};
+use ufs_name_log::{change_law, files_law, noted_law, state_law};
+use ufs_names::a_file_request_keeps_the_names;
+use ufs_names_ledger::names_go_on_law;
+use ufs_prefix::{a_history_goes_by_its_changes, an_entry_keeps_what_is_shown};
+
+/// Whatever a crash leaves is explained.
+pub fn stored_explains(geometry: &Geometry)
+    requires { IsGeometry geometry.now }
+    ensures crash { StoredIsExplained geometry.now }
+    ensures calls { CallsAreExplained geometry.now }
+{
+    opening_law(geometry);
+}
+
+/// The history is longer by an entry: one that leaves the parts as they are, or one of the names.
+pub fn entry_law(geometry: &Geometry)
+    requires { IsGeometry geometry.now }
+    ensures quiet { QuietEntriesKeep geometry.now }
+    ensures still { StillEntriesKeep geometry.now }
+    ensures excused { ExcusesKeep geometry.now }
+    ensures names { NameEntriesKeep geometry.now }
+{
+    promise_law(geometry);
+    an_entry_keeps_what_is_shown();
+}
+
+/// The history is longer by an entry of a request on a file.
+pub fn file_entry_law(geometry: &Geometry)
+    requires { IsGeometry geometry.now }
+    ensures { FileEntriesKeep geometry.now }
+{
+    promise_law(geometry);
+    an_entry_keeps_what_is_shown();
+    a_file_request_keeps_the_names();
+    standing_law();
+    committing_law();
+}
+
+/// What an `fsync` or a `sync` acknowledges stands on the disk.
+pub fn sync_law(geometry: &Geometry)
+    requires { IsGeometry geometry.now }
+    ensures fsync { FsyncsKeep geometry.now }
+    ensures dir_fsync { DirFsyncsKeep geometry.now }
+    ensures sync { SyncsKeep geometry.now }
+{
+    promise_law(geometry);
+    an_entry_keeps_what_is_shown();
+}
+
+/// Blocks that directories took are made ready for a commit of names, and a checkpoint is made.
+pub fn ready_law(geometry: &Geometry)
+    requires { IsGeometry geometry.now }
+    ensures write { WrittenIsStored geometry.now }
+    ensures barrier { SettledIsStored geometry.now }
+    ensures spelled { SpelledIsStored geometry.now }
+    ensures checkpoint { EmptiedIsStored geometry.now }
+{
+    promise_law(geometry);
+    state_law(geometry);
+}
+
+/// Free blocks go between the server's pool and the store.
+pub fn pool_law()
+    ensures { BlocksMove }
+{}
+
+/// What the names' notes tell of a change goes on from the disk.
+pub fn notes_law(geometry: &Geometry)
+    requires { IsGeometry geometry.now }
+    ensures { NotesGoOn geometry.now }
+{
+    noted_law(geometry);
+    change_law(geometry);
+}
+
+/// The names are committed.
+pub fn names_commit_law(geometry: &Geometry)
+    requires { IsGeometry geometry.now }
+    ensures may { NamesMayCommit geometry.now }
+    ensures committing { NamesAreCommitting geometry.now }
+    ensures committed { NamesAreCommitted geometry.now }
+{
+    promise_law(geometry);
+    a_history_goes_by_its_changes();
+    change_law(geometry);
+    files_law(geometry);
+    names_go_on_law(geometry);
+}
+
+/// A file is committed, or settled where nothing but bytes changed.
+pub fn file_commit_law()
+    ensures committed { FilesAreCommitted }
+    ensures settled { FilesAreSettled }
+{
+    committing_law();
+    others_law();
+    standing_law();
+}

@@ -1,0 +1,9 @@
+//! How a server whose tree is on a disk keeps its promise, from one event to the next.
+#![tactic(auto)]
+
+mod laws;
+
+pub use laws::{
+    entry_law, file_commit_law, file_entry_law, names_commit_law, notes_law, pool_law, ready_law,
+    stored_explains, sync_law,
+};
