@@ -46,3 +46,7 @@ block_bytes bytes place = resized (drop (BLOCK * place) bytes) BLOCK
 -- no block marked
 abbrev pub cleaned : Content → Content
 cleaned c = record c { dirty = replicate (length c.dirty) false }
+
+-- bytes that were read, in as many blocks as they need
+abbrev pub as_read : List ℕ → Content
+as_read bytes = record { bytes = bytes; dirty = replicate (block_count (length bytes)) false }

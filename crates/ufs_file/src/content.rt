@@ -31,7 +31,7 @@ impl Model for Blocks {
 impl Blocks {
     ghost use Rattle.std.specs.Prelude.{◌≡◌, ◌+◌, ◌≤◌, ◌<◌, length, max, slice_get, IfOk, OnOk, OnErr, IfSome, IfNone};
     ghost use Rattle.ufs_model.specs.FileBytes.{part, max_size};
-    ghost use Rattle.ufs_file.specs.Content.{Content, no_content, block_bytes, block_count, cleaned, grown, written_over, shortened};
+    ghost use Rattle.ufs_file.specs.Content.{Content, no_content, as_read, block_bytes, block_count, cleaned, grown, written_over, shortened};
 
     /// No byte. Takes no memory.
     pub fn new(alloc: Global) -> Blocks
@@ -42,6 +42,30 @@ impl Blocks {
             size: 0,
             table: Vec::new(alloc),
         }
+    }
+
+    /// These bytes, with no block marked as written. It copies them.
+    pub fn from_bytes(alloc: Global, bytes: &[u8]) -> Result<Blocks, Memory>
+        requires { length bytes.now ≤ max_size }
+        ensures { IfOk result (λ b. b ≡ as_read bytes.now) }
+    {
+        let mut blocks = Blocks::new(alloc);
+        blocks.grow(bytes.len() as u64)?;
+        blocks.fill(bytes);
+        blocks.clean();
+        Ok(blocks)
+    }
+
+    // Writes over all bytes.
+    fn fill(&mut self, bytes: &[u8])
+        requires { length bytes.now ≡ length self.old.bytes }
+        ensures bytes { self.new.bytes ≡ bytes.now }
+        ensures marks { length self.new.dirty ≡ block_count (length bytes.now) }
+    {
+        if !bytes.is_empty() {
+            self.write(0, bytes);
+        }
+        let _size = self.size();
     }
 
     /// The file's size, in bytes.

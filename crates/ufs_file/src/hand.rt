@@ -62,7 +62,7 @@ impl FileHand {
     ghost use Rattle.ufs_model.specs.declared.data.Reply.TheVariants.{Got};
     ghost use Rattle.ufs_model.specs.declared.data.Excuse.TheVariants as excuse;
     ghost use Rattle.ufs_extent.specs.Runs.{IsRun, blocks_of, appended_all};
-    ghost use Rattle.ufs_file.specs.Content.{no_content, block_bytes, block_count, cleaned, shortened, written_over};
+    ghost use Rattle.ufs_file.specs.Content.{as_read, no_content, block_bytes, block_count, cleaned, shortened, written_over};
     ghost use Rattle.ufs_bitmap.specs.Taking.{IsApart, Takes, set_of};
     ghost use Rattle.ufs_model.specs.FileCalls.{is_on_file, place_refusal, file_refusal, file_answer, desc_after};
     ghost use Rattle.ufs_file.specs.Hand.{FileState, IsCause, IsChanged, lengthened, content_put, content_sized, content_after, missing, IsServed, IsExcusedFor, IsEntryOf, IsOf, IsFileOf, IsPosix};
@@ -86,6 +86,28 @@ impl FileHand {
             inode,
             extents: Extents::make(alloc)?,
             blocks: Blocks::new(alloc),
+        })
+    }
+
+    /// A file that was read: where its blocks lie, and its bytes, which are copied. No block is marked as written.
+    pub fn from_read(
+        alloc: Global,
+        file: u32,
+        inode: u32,
+        extents: Extents,
+        bytes: &[u8],
+    ) -> Result<FileHand, Memory>
+        requires small { length bytes.now ≤ max_size }
+        requires blocks { length (blocks_of extents) ≡ block_count (length bytes.now) }
+        ensures { IfOk result (λ h. h ≡ record { file = file; inode = inode; extents = extents; content = as_read bytes.now }) }
+    {
+        let blocks = Blocks::from_bytes(alloc, bytes)?;
+        Ok(FileHand {
+            alloc,
+            file,
+            inode,
+            extents,
+            blocks,
         })
     }
 

@@ -84,6 +84,17 @@ impl FileHands {
         Ok(())
     }
 
+    /// The file of this hand comes to the others. None of its number is here.
+    pub fn insert(&mut self, hand: FileHand) -> Result<(), Memory>
+        requires { map.get self.old hand.file ≡ None }
+        ensures ok { OnOk result (self.new ≡ map.insert self.old hand.file hand) }
+        ensures err { OnErr result (self.new ≡ self.old) }
+    {
+        let file = hand.file();
+        self.replace(file, hand)?;
+        Ok(())
+    }
+
     /// Cuts the file to no byte. Its blocks are the pool's.
     pub fn empty(&mut self, file: u32, pool: &mut Pool) -> Result<(), Memory>
         requires here { IsSome (map.get self.old file) }

@@ -1,6 +1,6 @@
-mod BlocksApart
-mod Filed
-mod Named
-mod Parted
+pub mod BlocksApart
+pub mod Filed
+pub mod Named
+pub mod Parted
 pub mod PathTexts
-mod Started
+pub mod Started

@@ -1,5 +1,5 @@
 -- The part of the names that a server begins with.
-use Rattle.std.specs.Prelude.{ℕ, ◌≡◌, Some, true, false, replicate}
+use Rattle.std.specs.Prelude.{ℕ, ◌≡◌}
 use Rattle.std.specs.FinMap as map
 use Rattle.std.specs.FinMap.{from_entries}
 use Rattle.ufs_base.specs.Images.{Image}
@@ -10,19 +10,9 @@ use Rattle.ufs_image.specs.Standing.{IsVolumeOf}
 use Rattle.ufs_image.specs.Volume.{Volume}
 use Rattle.ufs_model.specs.PosixTree.{PosixTree, IsTree}
 use Rattle.ufs_dir_image.specs.Tables.{IsTableOf}
-use Rattle.ufs_name_tree.specs.NameTable.{NameTable, file_at}
-use Rattle.ufs_names.specs.NamesPart.{NamesPart, Holdings, IsNamedOnce, IsPartOf}
-use Rattle.ufs_names.specs.declared.holding.Holding.{Holding}
+pub use Rattle.ufs_names.specs.Closed.{closed_file, AreClosed}
+use Rattle.ufs_names.specs.NamesPart.{NamesPart, IsNamedOnce, IsPartOf}
 use Rattle.ufs_names_image.specs.Numbered.{HasImage, IsNumberedAs}
-
--- what is known of a file that a path names and no client has open
-abbrev pub closed_file : ℕ → Holding
-closed_file inode = record { inode = inode; linked = true; clients = replicate 16 false }
-
--- This is known of just the files that have numbers.
-pub record AreClosed (n : NameTable) (held : Holdings) : Type 0 where
-  pub each : (inode file : ℕ) → file_at n inode ≡ Some file → map.get held file ≡ Some (closed_file inode)
-  pub only : (file : ℕ) (h : Holding) → map.get held file ≡ Some h → file_at n h.inode ≡ Some file
 
 -- The directories are the catalog's, and the numbers of files are the tree's.
 pub record IsNamesOf (g : Geometry) (c : Catalog) (t : PosixTree) (n : NamesPart) : Type 0 where

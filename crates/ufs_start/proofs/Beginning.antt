@@ -1,0 +1,64 @@
+-- What a server begins with on a disk, of what was loaded.
+use Rattle.std.proofs.Common.{◌≡◌, ℕ, ◌≤◌, ◌&&◌, not, List, Bool, true, false, Option, Some, None, slice_index_or, refl, sym, ◌∙◌}
+use Rattle.std.specs.Prelude.{Ok}
+use Rattle.ufs_base.specs.Images as images
+use Rattle.ufs_catalog.specs.Faults.{IsOutside}
+use Rattle.ufs_catalog.specs.declared.fault.RecoverFault.{RecoverFault}
+use Rattle.ufs_catalog.specs.declared.fault.RecoverFault.TheVariants.{NoSuperblock, BadVersion, BadGeometry, BadRecord, BadTree, Device, Memory}
+use Rattle.ufs_damage.specs.Findings.{AreFindingsOf, CatalogRead}
+use Rattle.ufs_image.specs.Catalog.{IsCatalogOf, catalog_at}
+use Rattle.ufs_image.specs.Images.{form_at}
+use Rattle.ufs_image.specs.Sound.{IsSoundCatalog}
+use Rattle.ufs_image.specs.Volume.{volume}
+use Rattle.ufs_image.proofs.Depth.{has_root, root_in_range}
+use Rattle.ufs_image.proofs.Found.{reached}
+use Rattle.ufs_layout.specs.Areas.{IsGeometry}
+use Rattle.ufs_layout.specs.declared.geometry.Geometry.{Geometry}
+use Rattle.ufs_layout.specs.declared.superblock.Super.{Super}
+use Rattle.ufs_name_tree.specs.NameTable.{file_at}
+use Rattle.ufs_names.specs.NamesPart.{NamesPart}
+use Rattle.ufs_opening.specs.Told.{TellsWhy}
+use Rattle.ufs_volume.specs.Volumes.{volume_in}
+use Rattle.ufs_volume.specs.declared.volume.FoldedVolume.{FoldedVolume}
+use Rattle.ufs_start.specs.Begun.{catalog_under, image_under}
+use Rattle.ufs_start.specs.Refused.{IsRefusedFile, TellsNoStart}
+use Rattle.ufs_start.specs.Starts.{AreNumbersOf, AreStartNames, IsLoaded}
+use Rattle.ufs_start.specs.declared.fault.StartFault.{StartFault}
+use Rattle.ufs_start.specs.declared.fault.StartFault.TheVariants.{Image, ExtraBlocks, TooLong}
+
+pub is_loaded : (v : FoldedVolume) (f : CatalogRead) (sectors : ℕ) (disk : images.Image) → volume sectors disk ≡ Ok (volume_in v disk) → IsCatalogOf v.head.geometry (image_under v.head disk) (catalog_under v.head disk)
+    → IsSoundCatalog v.head.geometry (catalog_under v.head disk) → AreFindingsOf v.head.geometry (image_under v.head disk) f → IsLoaded v.head.geometry f sectors disk v.head.head (image_under v.head disk)
+is_loaded v f sectors disk taken catalog sound found = record { standing = record { taken = taken; catalog = catalog; sound = sound }; found = found }
+
+-- a file that the names tell is an inode past 0, and has its number
+pub number_there : (g : Geometry) (f : CatalogRead) (sectors : ℕ) (disk : images.Image) (head : Super) (image : images.Image) (n : NamesPart) (numbers : List (Option ℕ)) → IsGeometry g → IsLoaded g f sectors disk head image → AreStartNames sectors disk g image n
+    → AreNumbersOf g image numbers → (inode file : ℕ) → file_at n.tree inode ≡ Some file → (1 ≤ inode) × (slice_index_or numbers inode None ≡ Some file)
+number_there g f sectors disk head image n numbers geometry l s are inode file e =
+    let at = s.names.numbers.only inode file e in
+    let sound = l.standing.sound in
+    ((reached g (catalog_at g image) sound 1 at.names inode (root_in_range g (catalog_at g image) sound (has_root g geometry)) at.met).0.from_one, are.each inode file at)
+
+-- ---- faults
+
+outside_why : (sectors : ℕ) (disk : images.Image) (fault : RecoverFault) → IsOutside fault → TellsWhy sectors disk fault
+outside_why sectors disk NoSuperblock is = absurd is
+outside_why sectors disk (BadVersion found) is = absurd is
+outside_why sectors disk (BadGeometry number) is = absurd is
+outside_why sectors disk (BadRecord sector) is = absurd is
+outside_why sectors disk (BadTree inode) is = absurd is
+outside_why sectors disk (Device fault) is = tt
+outside_why sectors disk Memory is = tt
+
+pub refused_file : (v : FoldedVolume) (sectors : ℕ) (disk : images.Image) → volume sectors disk ≡ Ok (volume_in v disk) → (fault : StartFault) → IsRefusedFile (form_at v.head.geometry (image_under v.head disk)) fault
+    → TellsNoStart sectors disk fault
+refused_file v sectors disk taken (Image fault) is = outside_why sectors disk fault is
+refused_file v sectors disk taken (ExtraBlocks inode) is = (volume_in v disk, taken, is)
+refused_file v sectors disk taken (TooLong inode) is = (volume_in v disk, taken, is)
+
+-- ---- free blocks
+
+pub untaken : (inside taken free : Bool) → free ≡ (inside && not taken) → free ≡ true → taken ≡ false
+untaken true true free are is = absurd (let no : false ≡ true = sym are ∙ is in cc)
+untaken true false free are is = refl
+untaken false true free are is = absurd (let no : false ≡ true = sym are ∙ is in cc)
+untaken false false free are is = refl

@@ -1,0 +1,120 @@
+-- The slots of a directory that is made of what was read.
+use Rattle.std.proofs.Common.{◌≡◌, ◌≢◌, ℕ, zero, suc, ◌+◌, ◌*◌, ◌/◌, ◌%◌, ◌<◌, ◌≤◌, Bool, true, false, List, [], ◌∷◌, ◌++◌, length, Option, Some, None, get_or, set, take, map, replicate, refl, ap, sym, ◌∙◌, subst, arith, ⊎_elim, eqb}
+use Rattle.std.specs.Prelude.{flat_map, if◌then◌else◌, nat_le, ◌==◌, ◌&&◌, ◌||◌}
+use Rattle.std.specs.List.{slice_get, range_with_len, position_or_len}
+use Rattle.std.proofs.lemmas.Bool.{and_parts, cases_lt}
+use Rattle.std.proofs.lemmas.Bool.Decides.{eqb_tells, nat_tests}
+use Rattle.std.proofs.lemmas.List.{ext_get_or, get_or-set_same, get_or-set_other, get_or-replicate, length-replicate, length-set, length-map, set-get_or}
+use Rattle.ufs_extent.specs.Runs as runs
+use Rattle.ufs_extent.specs.Runs.{blocks_from}
+use Rattle.ufs_layout.specs.DentryForm.{DentryForm, free_slot, is_dentry, is_named}
+use Rattle.ufs_layout.specs.declared.inode.Extent.{Extent}
+use Rattle.ufs_dirs.specs.Directory.{Directory, IsDirectory}
+use Rattle.ufs_dirs.specs.Changes.{place_of}
+use Rattle.ufs_dirs.specs.declared.Slot.{Slot}
+use Rattle.ufs_dirs.proofs.BlockLemmas.{position-distinct}
+use Rattle.ufs_start.specs.Extents.{run_of}
+
+-- ---- where the blocks lie
+
+from_range : (a n : ℕ) → blocks_from a n ≡ range_with_len a n
+from_range a zero = refl
+from_range a (suc n) = ap (λ l. a ∷ l) (from_range (a + 1) n)
+
+pub runs_blocks : (es : List Extent) → runs.blocks_of (map run_of es) ≡ flat_map (λ (e : Extent). range_with_len e.start e.length) es
+runs_blocks [] = refl
+runs_blocks (e ∷ es) = λ i. from_range e.start e.length i ++ runs_blocks es i
+
+take_suc : (xs : List ℕ) (k x : ℕ) → slice_get xs k ≡ Some x → take (suc k) xs ≡ take k xs ++ x ∷ []
+take_suc [] k x e = cc
+take_suc (y ∷ xs) zero x e = let same : y ≡ x = cc in ap (λ z. z ∷ []) same
+take_suc (y ∷ xs) (suc k) x e = ap (λ l. y ∷ l) (take_suc xs k x e)
+
+pub take_next : (xs : List ℕ) (k x : ℕ) → slice_get xs k ≡ Some x → take (k + 1) xs ≡ take k xs ++ x ∷ []
+take_next xs k x e = let next : k + 1 ≡ suc k = omega arith in ap (λ n. take n xs) next ∙ take_suc xs k x e
+
+-- ---- slots
+
+-- The first so many slots are what was read, and the others are free.
+pub record AreFilled (read : List (Option DentryForm)) (end : ℕ) (slots : List DentryForm) : Type 0 where
+  pub counted : length slots ≡ length read
+  pub filled : (k : ℕ) → k < end → k < length read → get_or read k None ≡ Some (get_or slots k free_slot)
+  pub rest : (k : ℕ) → end ≤ k → k < length read → get_or slots k free_slot ≡ free_slot
+
+pub none_filled : (read : List (Option DentryForm)) (slots : List DentryForm) → slots ≡ replicate (length read) free_slot → AreFilled read 0 slots
+none_filled read slots are = record {
+  counted = ap length are ∙ length-replicate {A = DentryForm} (length read) free_slot;
+  filled = λ k less inside. absurd (omega (arith, less));
+  rest = λ k from inside. ap (λ (l : List DentryForm). get_or l k free_slot) are ∙ get_or-replicate (length read) k free_slot free_slot inside;
+}
+
+-- a slot without a name is free
+unnamed : (d : DentryForm) → is_dentry d ≡ true → is_named d ≡ false → d ≡ free_slot
+unnamed d form none =
+    let parts = and_parts (nat_le (length d.name) 58) (is_named d || (d.inode == 0 && d.kind == 0)) form in
+    let zeros : (d.inode == 0 && d.kind == 0) ≡ true = sym (ap (λ b. b || (d.inode == 0 && d.kind == 0)) none) ∙ parts.1 in
+    let each = and_parts (d.inode == 0) (d.kind == 0) zeros in
+    let first = each.0 in
+    let second = each.1 in
+    let inode : d.inode ≡ 0 = grind (arith, nat_tests, first) in
+    let kind : d.kind ≡ 0 = grind (arith, nat_tests, second) in
+    let size : length d.name ≡ 0 = grind (arith, nat_tests, none) in
+    let name = empty d.name size in
+    λ i. record { inode = inode i; kind = kind i; name = name i }
+  where
+    empty : (xs : List ℕ) → length xs ≡ 0 → xs ≡ []
+    empty [] e = refl
+    empty (x ∷ xs) e = absurd (omega (arith, e))
+
+module _ (read : List (Option DentryForm)) (end : ℕ) (slots after : List DentryForm) (d : DentryForm) (so_far : AreFilled read end slots) (inside : end < length read) (is : get_or read end None ≡ Some d) where
+  others : (k : ℕ) → k ≢ end → get_or (set slots end d) k free_slot ≡ get_or slots k free_slot
+  others k differ = get_or-set_other slots end k d free_slot differ
+
+  filled_with : AreFilled read (end + 1) (set slots end d)
+  filled_with = record {
+    counted = length-set slots end d ∙ so_far.counted;
+    filled = λ k less within. ⊎_elim
+        (λ (same : (eqb k end ≡ true) × (k ≡ end)).
+        ap (λ n. get_or read n None) same.1 ∙ is ∙ ap Some (sym (ap (λ n. get_or (set slots end d) n free_slot) same.1 ∙ get_or-set_same slots end d free_slot (let counted = so_far.counted in omega (arith, counted, inside)))))
+        (λ (other : (eqb k end ≡ false) × (k ≢ end)). so_far.filled k (below k less other.1) within ∙ ap Some (sym (others k other.1)))
+        (eqb_tells k end);
+    rest = λ k from within. others k (λ same. omega (arith, from, same)) ∙ so_far.rest k (omega (arith, from)) within;
+  }
+    where
+      below : (k : ℕ) → k < end + 1 → k ≢ end → k < end
+      below k less other = ⊎_elim (λ (under : k < end). under) (λ (past : end ≤ k). absurd (other (omega (arith, less, past)))) (cases_lt k end)
+
+  still : d ≡ free_slot → set slots end d ≡ slots
+  still free = ap (set slots end) (free ∙ sym (so_far.rest end (omega arith) inside)) ∙ set-get_or slots end free_slot
+
+  pub one_filled : is_dentry d ≡ true → after ≡ (if is_named d then set slots end d else slots) → AreFilled read (end + 1) after
+  one_filled form e = by (is_named d) refl e
+    where
+      by : (b : Bool) → is_named d ≡ b → after ≡ (if b then set slots end d else slots) → AreFilled read (end + 1) after
+      by true named is = subst (AreFilled read (end + 1)) (sym is) filled_with
+      by false none is = subst (AreFilled read (end + 1)) (still (unnamed d form none) ∙ sym is) filled_with
+
+pub all_filled : (read : List (Option DentryForm)) (end : ℕ) (slots : List DentryForm) → length read ≤ end → AreFilled read end slots → read ≡ map Some slots
+all_filled read end slots long so_far =
+    ext_get_or None read (map Some slots) (sym so_far.counted ∙ sym (length-map slots Some))
+    (λ k inside. so_far.filled k (omega (arith, inside, long)) inside ∙ mapped slots k (let counted = so_far.counted in omega (arith, counted, inside)))
+  where
+    mapped : (xs : List DentryForm) (k : ℕ) → k < length xs → Some (get_or xs k free_slot) ≡ get_or (map Some xs) k None
+    mapped [] k less = absurd (omega (arith, less))
+    mapped (x ∷ xs) zero less = refl
+    mapped (x ∷ xs) (suc k) less = mapped xs k (omega (arith, less))
+
+-- ---- a slot by its place
+
+got : (xs : List ℕ) (i x : ℕ) → slice_get xs i ≡ Some x → (i < length xs) × (x ≡ get_or xs i 0)
+got [] i x e = cc
+got (y ∷ xs) zero x e = let same : x ≡ y = cc in (omega arith, same)
+got (y ∷ xs) (suc i) x e = let rest = got xs i x e in let less = rest.0 in (omega (arith, less), rest.1)
+
+pub place_is : (d : Directory) (s : Slot) (block place : ℕ) → IsDirectory d → slice_get d.blocks (place / 64) ≡ Some block → s.sector ≡ 8 * block + place % 64 / 8 → s.slot ≡ place % 8 → place_of d.blocks s ≡ place
+place_is d s block place is there sector slot =
+    let at = got d.blocks (place / 64) block there in
+    let of_block : s.sector / 8 ≡ block = omega (arith, sector) in
+    let in_block : s.sector % 8 ≡ place % 64 / 8 = omega (arith, sector) in
+    let first : position_or_len (λ b. b == s.sector / 8) d.blocks ≡ place / 64 = ap (λ n. position_or_len (λ b. b == n) d.blocks) of_block ∙ position-distinct d.blocks is.blocks_once (place / 64) block at.0 at.1 in
+    omega (arith, first, in_block, slot)

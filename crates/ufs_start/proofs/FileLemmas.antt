@@ -1,0 +1,77 @@
+-- Files that come to others, and the forms that were read.
+use Rattle.std.proofs.Common.{◌≡◌, ◌≢◌, ℕ, zero, suc, ◌+◌, ◌<◌, ◌≤◌, ◌⊎◌, inl, inr, List, [], ◌∷◌, Option, None, Some, length, get_or, slice_index_or, ap, sym, ◌∙◌, subst, arith}
+use Rattle.std.specs.Prelude.{IsSome, unwrap_or}
+use Rattle.std.specs.Ordering.{nat_cmp}
+use Rattle.std.specs.FinMap as fin
+use Rattle.std.proofs.lemmas.List.FromFn.{get_or-map-range_with_len, length-map-range_with_len}
+use Rattle.ufs_base.specs.Images.{Image}
+use Rattle.ufs_file.specs.Content.{as_read}
+use Rattle.ufs_file.specs.Hand.{FileState}
+use Rattle.ufs_files.specs.Files.{Files}
+use Rattle.ufs_files.proofs.MapLemmas.{one_or_apart, put_here, put_else, is_here}
+use Rattle.ufs_image.specs.Catalog.{Catalog}
+use Rattle.ufs_image.specs.Images.{inode_at, form_at}
+use Rattle.ufs_layout.specs.InodeForm.{InodeForm, free_inode}
+use Rattle.ufs_layout.specs.declared.geometry.Geometry.{Geometry}
+use Rattle.ufs_model.proofs.Facts.Lookups.{same_some}
+use Rattle.ufs_names.specs.NamesPart.{NamesPart}
+use Rattle.ufs_names_image.specs.Loaded.{IsRead, AreRead}
+use Rattle.ufs_start.specs.Files.{AreClean, AreFormsOf}
+
+-- ---- the form of an inode
+
+module _ (g : Geometry) (image : Image) (forms : List (Option InodeForm)) (are : AreFormsOf g image forms) (inode at : ℕ) (place : at + 1 ≡ inode) (within : inode ≤ length forms) where
+  inode_there : (o : Option InodeForm) → o ≡ get_or forms at o → inode_at g image inode ≡ o
+  inode_there o is =
+      let count : length forms ≡ g.inodes = ap length are ∙ length-map-range_with_len (inode_at g image) 1 g.inodes in
+      sym (is ∙ ap (λ (l : List (Option InodeForm)). get_or l at o) are ∙ get_or-map-range_with_len (inode_at g image) 1 g.inodes at inode o (omega (arith, place, within, count)) (omega (arith, place)))
+
+  pub form_there : (form : InodeForm) → Some form ≡ get_or forms at (Some form) → form_at g image inode ≡ form
+  form_there form is = ap (λ (o : Option InodeForm). unwrap_or o (free_inode 0)) (inode_there (Some form) is)
+
+-- ---- one file more
+
+module _ (files : Files) (file : ℕ) (s : FileState) where
+  -- what is under a number now is the new file, or was there
+  met : (other : ℕ) (r : FileState) → fin.get (fin.insert files file s) other ≡ Some r → ((other ≡ file) × (r ≡ s)) ⊎ (fin.get files other ≡ Some r)
+  met other r there = by (one_or_apart other file)
+    where
+      by : (other ≡ file) ⊎ (other ≢ file) → ((other ≡ file) × (r ≡ s)) ⊎ (fin.get files other ≡ Some r)
+      by (inl is) = inl (is, same_some r s (sym there ∙ ap (fin.get (fin.insert files file s)) is ∙ put_here files file s))
+      by (inr not) = inr (sym (put_else files file s other not) ∙ there)
+
+  pub read_with : (image : Image) (c : Catalog) (n : NamesPart) → AreRead image c n files → IsRead image c n file s → AreRead image c n (fin.insert files file s)
+  read_with image c n are is other r there = elim (met other r there) [
+    | inl new ↦ subst (λ (p : ℕ × FileState). IsRead image c n p.0 p.1) (λ k. (sym new.0 k, sym new.1 k)) is
+    | inr old ↦ are other r old
+  ]
+
+  pub clean_with : AreClean files → s.content ≡ as_read s.content.bytes → AreClean (fin.insert files file s)
+  clean_with clean is other r there = elim (met other r there) [
+    | inl new ↦ subst (λ (x : FileState). x.content ≡ as_read x.content.bytes) (sym new.1) is
+    | inr old ↦ clean other r old
+  ]
+
+  pub here_with : IsSome (fin.get (fin.insert files file s) file)
+  here_with = is_here (fin.insert files file s) file s (put_here files file s)
+
+  pub kept_with : (other : ℕ) → IsSome (fin.get files other) → IsSome (fin.get (fin.insert files file s) other)
+  kept_with other was = elim (one_or_apart other file) [
+    | inl is ↦ subst (λ f. IsSome (fin.get (fin.insert files file s) f)) (sym is) here_with
+    | inr not ↦ subst IsSome (sym (put_else files file s other not)) was
+  ]
+
+-- ---- none yet
+
+pub none_read : (image : Image) (c : Catalog) (n : NamesPart) (files : Files) → files ≡ fin.empty → AreRead image c n files
+none_read image c n files none file s there = let empty = fin.get-empty {X = FileState} nat_cmp file in let was = ap (λ (fs : Files). fin.get fs file) none in cc
+
+pub none_clean : (files : Files) → files ≡ fin.empty → AreClean files
+none_clean files none file s there = let empty = fin.get-empty {X = FileState} nat_cmp file in let was = ap (λ (fs : Files). fin.get fs file) none in cc
+
+-- ---- numbers by inode
+
+pub inside : (numbers : List (Option ℕ)) (inode file : ℕ) → slice_index_or numbers inode None ≡ Some file → inode < length numbers
+inside [] inode file e = let no = e in cc
+inside (x ∷ xs) zero file e = omega arith
+inside (x ∷ xs) (suc k) file e = let rest = inside xs k file e in omega (arith, rest)

@@ -1,0 +1,11 @@
+mod Places
+mod NumberLemmas
+mod Joined
+mod Named
+mod DirLemmas
+mod Copied
+mod FileLemmas
+mod Left
+mod Beginning
+mod TableLemmas
+mod Tabled

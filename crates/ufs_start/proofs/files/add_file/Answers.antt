@@ -1,0 +1,64 @@
+use Rattle.std.proofs.Common.{◌≡◌, ◌+◌, ◌-◌, ℕ, Option, None, Some, get_or, slice_index_or, refl, rules, ap, sym, ◌∙◌, subst, arith}
+use Rattle.std.specs.Prelude.{IsSome}
+use Rattle.std.specs.FinMap as map
+use Rattle.std.proofs.lemmas.Result.{err_from_is_err_and}
+use Rattle.ufs_files.specs.Files.{Files}
+use Rattle.ufs_image.specs.Catalog.{catalog_at}
+use Rattle.ufs_image.specs.Images.{form_at}
+use Rattle.ufs_image.specs.Nodes as nodes
+use Rattle.ufs_image.specs.Opens.{file_bytes}
+use Rattle.ufs_layout.specs.InodeForm.{InodeForm}
+use Rattle.ufs_model.proofs.Facts.Lookups.{same_some}
+use Rattle.ufs_name_tree.specs.NameTable.{file_at}
+use Rattle.ufs_names_image.specs.Loaded.{AreRead}
+use Rattle.ufs_start.specs.Files.{AreClean}
+use Rattle.ufs_start.proofs.FileLemmas.{clean_with, form_there, here_with, kept_with, read_with}
+use Rattle.ufs_start.proofs.files.add_file.Goals as goal
+
+pub returns-in_err-hand-clause-refused : goal.returns-in_err-hand-clause-refused
+returns-in_err-hand-clause-refused g c geometry image are =
+    let inode = c.args.inode in
+    let at : inode - 1 + 1 ≡ inode = let from = c.requires.from_one in omega (arith, from) in
+    let p = err_from_is_err_and c.from_residual.result c.from_residual.ensures.1 in
+    rw (p.1, p.2) (c.in_err-hand.ensures.refused (form_at geometry image)
+    (form_there geometry image c.args.forms.now are inode (inode - 1) at c.requires.form c.in-Some-forms.form
+    (sym c.in-Some-forms.is ∙ c.index-forms-inode.is ∙ ap (λ (o : Option InodeForm). get_or c.args.forms.now (inode - 1) o) c.in-Some-forms.is)))
+
+pub returns-clause-kept : goal.returns-clause-kept
+returns-clause-kept g c file was =
+    let files : Files = c.args.files.now in
+    let h = c.in_ok-hand.hand in
+    subst (λ (fs : Files). IsSome (map.get fs file)) (sym c.in_ok-insert.ensures.ok) (kept_with files h.file h file was)
+
+pub returns-clause-here : goal.returns-clause-here
+returns-clause-here g c file number =
+    let files : Files = c.args.files.now in
+    let h = c.in_ok-hand.hand in
+    let given : slice_index_or c.args.numbers.now c.args.inode None ≡ Some c.in-Some.file = search (rules, c.in-Some.is) in
+    let same : file ≡ c.in-Some.file = same_some file c.in-Some.file (sym number ∙ given) in
+    subst (λ (fs : Files). IsSome (map.get fs file)) (sym c.in_ok-insert.ensures.ok)
+    (subst (λ f. IsSome (map.get (map.insert files h.file h) f)) (c.in_ok-hand.ensures.file ∙ sym same) (here_with files h.file h))
+
+pub returns-clause-read : goal.returns-clause-read
+returns-clause-read g c told geometry image n is are numbered before =
+    let files : Files = c.args.files.now in
+    let inode = c.args.inode in
+    let h = c.in_ok-hand.hand in
+    let e = c.in_ok-hand.ensures in
+    let at : inode - 1 + 1 ≡ inode = let from = c.requires.from_one in omega (arith, from) in
+    let given : slice_index_or c.args.numbers.now inode None ≡ Some c.in-Some.file = search (rules, c.in-Some.is) in
+    let form : form_at geometry image inode ≡ c.in-Some-forms.form = form_there geometry image c.args.forms.now are inode (inode - 1) at c.requires.form c.in-Some-forms.form
+    (sym c.in-Some-forms.is ∙ c.index-forms-inode.is ∙ ap (λ (o : Option InodeForm). get_or c.args.forms.now (inode - 1) o) c.in-Some-forms.is) in
+    let here : c.in-Some-forms.form ≡ form_at geometry image h.inode = sym form ∙ ap (form_at geometry image) (sym e.inode) in
+    subst (λ (fs : Files). AreRead image (catalog_at geometry image) n fs) (sym c.in_ok-insert.ensures.ok)
+    (read_with files h.file h image (catalog_at geometry image) n before (record {
+      number = refl;
+      inode = ap (file_at n.tree) e.inode ∙ numbered inode c.in-Some.file given ∙ ap {B = Option ℕ} Some (sym e.file);
+      bytes = e.bytes told image is ∙ ap (file_bytes image) here;
+      blocks = e.blocks ∙ ap nodes.blocks_of here;
+    }))
+
+pub returns-clause-clean : goal.returns-clause-clean
+returns-clause-clean g c before =
+    let h = c.in_ok-hand.hand in
+    subst AreClean (sym c.in_ok-insert.ensures.ok) (clean_with c.args.files.now h.file h before c.in_ok-hand.ensures.clean)

@@ -1,0 +1,59 @@
+use Rattle.std.proofs.Common.{◌≡◌, ◌+◌, inl, inr, Option, None, length, slice_index_or, refl, ap, sym, ◌∙◌, subst, arith}
+use Rattle.std.specs.FinMap as map
+use Rattle.std.proofs.lemmas.Bool.{cases_lt}
+use Rattle.std.proofs.lemmas.Result.{err_from_is_err_and}
+use Rattle.ufs_base.specs.Images.{Image}
+use Rattle.ufs_catalog.specs.Folded.{IsFolded}
+use Rattle.ufs_catalog.proofs.Quiet.{read_more, read_none}
+use Rattle.ufs_image.specs.Catalog.{catalog_at}
+use Rattle.ufs_layout.specs.InodeForm.{InodeForm}
+use Rattle.ufs_start.proofs.FileLemmas.{inside, none_clean, none_read}
+use Rattle.ufs_start.proofs.files.files_of.Goals as goal
+
+pub loop-place-init : goal.loop-place-init
+loop-place-init g c =
+    let none : c.new-files.result ≡ map.empty = c.new-files.ensures in
+    record {
+      read = λ told geometry image n is found numbered. none_read image (catalog_at geometry image) n c.new-files.result none;
+      here = λ inode file from within number. absurd (omega (arith, from, within));
+      clean = none_clean c.new-files.result none;
+      read_only = λ told. read_none g.D.Disk.keeps (g.D.Disk.moments c.args.disk.now);
+      size = refl;
+      faults = refl;
+    }
+
+pub returns-in_err-add_file-clause-read_only : goal.returns-in_err-add_file-clause-read_only
+returns-in_err-add_file-clause-read_only g c told =
+    read_more g.D.Disk.keeps (g.D.Disk.moments c.args.disk.now) (g.D.Disk.moments c.loop-place.disk) (g.D.Disk.moments c.add_file.new.disk) (c.loop-place.invariant.read_only told) (c.add_file.ensures.read_only told)
+
+pub returns-in_err-add_file-clause-refused : goal.returns-in_err-add_file-clause-refused
+returns-in_err-add_file-clause-refused g c geometry image found =
+    let p = err_from_is_err_and c.from_residual.result c.from_residual.ensures.1 in
+    rw (p.1, p.2) (c.in_err-add_file.ensures.refused geometry image (c.forms-forms.ensures ∙ found.forms))
+
+pub loop-place-preserved : goal.loop-place-preserved
+loop-place-preserved g c =
+    let i = c.loop-place.invariant in
+    let e = c.in_ok-add_file.ensures in
+    let place = c.loop-place.place in
+    record {
+      read = λ told geometry image n is found numbered.
+          e.read told geometry image n (subst (λ (d : Image). IsFolded c.args.overlay.now d image) (sym (i.read_only told).content) is)
+          (c.forms-forms.ensures ∙ found.forms) numbered (i.read told geometry image n is found numbered);
+      here = λ inode file from within number. elim (cases_lt inode (place + 1)) [
+        | inl less ↦ e.kept file (i.here inode file from (omega (arith, less)) number)
+        | inr last ↦ (let at : inode ≡ place + 1 = omega (arith, within, last) in
+            e.here file (ap (λ k. slice_index_or c.args.numbers.now k None) (sym at) ∙ number))
+      ];
+      clean = e.clean i.clean;
+      read_only = λ told. read_more g.D.Disk.keeps (g.D.Disk.moments c.args.disk.now) (g.D.Disk.moments c.loop-place.disk) (g.D.Disk.moments c.add_file.new.disk) (i.read_only told) (c.add_file.ensures.read_only told);
+      size = c.add_file.ensures.size ∙ i.size;
+      faults = e.passed ∙ i.faults;
+    }
+
+pub returns-clause-here : goal.returns-clause-here
+returns-clause-here g c inode file from number =
+    let within = inside c.args.numbers.now inode file number in
+    let counted = c.requires in
+    let long = ap (length {A = Option InodeForm}) c.forms-forms.ensures in
+    c.loop-place.invariant.here inode file from (omega (arith, within, counted, long)) number

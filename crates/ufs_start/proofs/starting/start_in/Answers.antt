@@ -1,0 +1,88 @@
+use Rattle.std.proofs.Common.{ℕ, refl, sym, subst}
+use Rattle.std.specs.FinSet as set
+use Rattle.std.proofs.lemmas.Result.{err_from_is_err_and}
+use Rattle.ufs_base.specs.Images.{Image}
+use Rattle.ufs_bitmap.specs.Space.{is_between}
+use Rattle.ufs_disk.specs.Bytes.{image_of}
+use Rattle.ufs_image.specs.Images.{form_at}
+use Rattle.ufs_image.specs.Nodes.{is_taken, sound_nodes}
+use Rattle.ufs_layout.specs.Areas.{first_of_data}
+use Rattle.ufs_overlay.specs.Seen.{HasAdded}
+use Rattle.ufs_volume.specs.Volumes.{committed_in}
+use Rattle.ufs_names_image.specs.Loaded.{AreRead, IsUntaken}
+use Rattle.ufs_start.specs.Begun.{catalog_under, image_under, volume_under}
+use Rattle.ufs_start.specs.Refused.{IsRefusedFile}
+use Rattle.ufs_start.specs.Starts.{AreStartNames, IsLoaded}
+use Rattle.ufs_start.proofs.Beginning.{is_loaded, refused_file, untaken}
+use Rattle.ufs_start.proofs.starting.start_in.Goals as goal
+
+pub names_in-requires-clause-loaded : goal.names_in-requires-clause-loaded
+names_in-requires-clause-loaded c =
+    let l = c.in_ok-loaded.loaded in
+    let e = c.in_ok-loaded.ensures in
+    let disk : Image = image_of c.args.copy.now.bytes.items in
+    (c.args.copy.now.sectors, disk, l.volume.head.head, image_under l.volume.head disk, is_loaded l.volume l.findings c.args.copy.now.sectors disk (e.taken refl) (e.catalog refl) (e.sound refl) (e.found refl))
+
+pub files_in-requires-clause-added : goal.files_in-requires-clause-added
+files_in-requires-clause-added c =
+    let v = c.in_ok-loaded.loaded.volume in
+    subst (λ (d : Image). HasAdded v.overlay (committed_in v d)) (sym (c.load.ensures.read_only refl).content) (c.in_ok-loaded.ensures.added refl)
+
+pub files_in-requires-clause-loaded : goal.files_in-requires-clause-loaded
+files_in-requires-clause-loaded c =
+    let l = c.in_ok-loaded.loaded in
+    let e = c.in_ok-loaded.ensures in
+    let h = l.volume.head in
+    let disk : Image = image_of c.args.copy.now.bytes.items in
+    subst (λ (d : Image). IsLoaded h.geometry l.findings c.load.new.disk.sectors d h.head (image_under h d)) (sym (c.load.ensures.read_only refl).content)
+    (subst (λ (n : ℕ). IsLoaded h.geometry l.findings n disk h.head (image_under h disk)) (sym c.load.ensures.size)
+    (is_loaded l.volume l.findings c.args.copy.now.sectors disk (e.taken refl) (e.catalog refl) (e.sound refl) (e.found refl)))
+
+pub files_in-requires-clause-names : goal.files_in-requires-clause-names
+files_in-requires-clause-names c =
+    let l = c.in_ok-loaded.loaded in
+    let h = l.volume.head in
+    let disk : Image = image_of c.load.new.disk.bytes.items in
+    c.in_ok-names.ensures c.load.new.disk.sectors disk h.head (image_under h disk) (files_in-requires-clause-loaded c)
+
+pub returns-clause-begun : goal.returns-clause-begun
+returns-clause-begun c =
+    let l = c.in_ok-loaded.loaded in
+    let e = c.in_ok-loaded.ensures in
+    let v = l.volume in
+    let h = v.head in
+    let n = c.in_ok-names.names in
+    let files = c.in_ok-files.files in
+    let sectors = c.args.copy.now.sectors in
+    let disk : Image = image_of c.args.copy.now.bytes.items in
+    let image : Image = image_under h disk in
+    let loaded : IsLoaded h.geometry l.findings sectors disk h.head image = is_loaded v l.findings sectors disk (e.taken refl) (e.catalog refl) (e.sound refl) (e.found refl) in
+    let start : AreStartNames sectors disk h.geometry image n = c.in_ok-names.ensures sectors disk h.head image loaded in
+    let read : AreRead image (catalog_under h disk) n files = subst (λ (d : Image). AreRead (image_under h d) (catalog_under h d) n files) (c.load.ensures.read_only refl).content c.in_ok-files.ensures.read in
+    let parts = c.start_files_law.ensures.parts h.geometry l.findings sectors disk h.head image n files loaded start read in
+    let free : IsUntaken h.geometry (catalog_under h disk) l.free.free =
+    c.files_part_law.ensures.free disk (volume_under h disk) (catalog_under h disk) l.free.free loaded.standing
+    (λ b is. untaken (is_between (first_of_data h.geometry) h.geometry.blocks b) (is_taken h.geometry (sound_nodes h.geometry image) b) (set.contains l.free.free b) (e.free refl b) is) in
+    record {
+      standing = loaded.standing;
+      opened = start.opened;
+      table = start.names;
+      names = start.part;
+      read = read;
+      files = parts.0;
+      inodes = parts.1;
+      here = c.in_ok-files.ensures.here;
+      clean = c.in_ok-files.ensures.clean;
+      first = e.first;
+      blocks = e.blocks;
+      free = e.free refl;
+      apart = c.start_files_law.ensures.apart h.geometry l.findings sectors disk h.head image n files l.free.free loaded start read free;
+    }
+
+pub returns-in_err-files-clause-refused : goal.returns-in_err-files-clause-refused
+returns-in_err-files-clause-refused c =
+    let p = err_from_is_err_and c.from_residual-in_err-files.result c.from_residual-in_err-files.ensures.1 in
+    let v = c.in_ok-loaded.loaded.volume in
+    let disk : Image = image_of c.args.copy.now.bytes.items in
+    rw (p.1, p.2) (refused_file v c.args.copy.now.sectors disk (c.in_ok-loaded.ensures.taken refl) c.in_err-files.field-0.0
+    (subst (λ (d : Image). IsRefusedFile (form_at v.head.geometry (image_under v.head d)) c.in_err-files.field-0.0) (c.load.ensures.read_only refl).content c.in_err-files.ensures.refused))

@@ -1,0 +1,54 @@
+-- What a server begins with on a disk.
+use Rattle.std.specs.Prelude.{ℕ, ◌≡◌, Ok, Some, IsSome}
+use Rattle.std.specs.FinMap as map
+use Rattle.std.specs.FinSet as set
+use Rattle.ufs_base.specs.Images.{Image}
+use Rattle.ufs_catalog.specs.declared.head.ImageHead.{ImageHead}
+use Rattle.ufs_files.specs.Files.{AreFilesOf}
+use Rattle.ufs_image.specs.Catalog.{Catalog, catalog_at}
+use Rattle.ufs_image.specs.Fold.{folded}
+use Rattle.ufs_image.specs.Journal.{committed}
+use Rattle.ufs_image.specs.Opens.{ImageTree, opens}
+use Rattle.ufs_image.specs.Standing.{IsVolumeOf}
+use Rattle.ufs_image.specs.Volume.{Volume}
+use Rattle.ufs_layout.specs.Areas.{first_of_data}
+use Rattle.ufs_load_image.specs.Loaded.{is_free_block}
+use Rattle.ufs_name_tree.specs.NameTable.{file_at}
+use Rattle.ufs_names.specs.Calls.{HaveInodes}
+use Rattle.ufs_names.specs.NamesPart.{IsPartOf}
+use Rattle.ufs_names.specs.Space.{AreApart}
+use Rattle.ufs_names_image.specs.Loaded.{AreRead}
+use Rattle.ufs_names_image.specs.Parts.{IsNamesOf}
+use Rattle.ufs_names_image.specs.Starts.{image_start}
+use Rattle.ufs_start.specs.Files.{AreClean}
+use Rattle.ufs_start.specs.Starts.{tree_in}
+use Rattle.ufs_start.specs.declared.parts.Start.{Start}
+
+-- the disk's image under this superblock, as its committed transactions leave it
+abbrev pub image_under : ImageHead → Image → Image
+image_under h disk = folded h.geometry (committed h.geometry h.head.epoch disk) disk
+
+abbrev pub volume_under : ImageHead → Image → Volume
+volume_under h disk = record { head = h.head; geometry = h.geometry; image = image_under h disk }
+
+abbrev pub catalog_under : ImageHead → Image → Catalog
+catalog_under h disk = catalog_at h.geometry (image_under h disk)
+
+abbrev pub tree_under : ImageHead → Image → ImageTree
+tree_under h disk = tree_in h.geometry (image_under h disk)
+
+-- A server begins so on a disk of so many sectors.
+pub record IsBegun (sectors : ℕ) (disk : Image) (s : Start) : Type 0 where
+  pub standing : IsVolumeOf sectors disk (volume_under s.head disk) (catalog_under s.head disk)
+  pub opened : opens sectors disk ≡ Ok (tree_under s.head disk)
+  pub table : IsNamesOf s.head.geometry (catalog_under s.head disk) (image_start (tree_under s.head disk)) s.names
+  pub names : IsPartOf s.names (image_start (tree_under s.head disk))
+  pub read : AreRead (image_under s.head disk) (catalog_under s.head disk) s.names s.files
+  pub files : AreFilesOf s.files (image_start (tree_under s.head disk))
+  pub inodes : HaveInodes s.names.held s.files
+  pub here : (inode file : ℕ) → file_at s.names.tree inode ≡ Some file → IsSome (map.get s.files file)
+  pub clean : AreClean s.files
+  pub first : s.free.first ≡ first_of_data s.head.geometry
+  pub blocks : s.free.blocks ≡ s.head.geometry.blocks
+  pub free : (block : ℕ) → set.contains s.free.free block ≡ is_free_block s.head.geometry (image_under s.head disk) block
+  pub apart : AreApart s.names.tree.dirs s.files s.free.free

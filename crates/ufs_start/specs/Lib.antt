@@ -1,0 +1,7 @@
+pub mod Numbers
+pub mod Starts
+pub mod Extents
+pub mod Refused
+pub mod Begun
+pub mod Files
+pub mod Tables

@@ -1,0 +1,30 @@
+-- Numbers that are given to files in turn.
+use Rattle.std.specs.Prelude.{ℕ, ◌+◌, ◌-◌, ◌==◌, List, [], ◌∷◌, Bool, true, false, Option, Some, None, slice_set, slice_index_or}
+use Rattle.ufs_layout.specs.InodeForm.{InodeForm}
+use Rattle.ufs_walk.specs.Walked.{Place}
+
+abbrev pub is_dir_form : Option InodeForm → Bool
+is_dir_form None = false
+is_dir_form (Some form) = form.kind == 2
+
+-- by the forms of inode 1, 2, .. in order
+abbrev pub is_dir_in : List (Option InodeForm) → ℕ → Bool
+is_dir_in forms inode = is_dir_form (slice_index_or forms (inode - 1) None)
+
+-- a directory has no number
+abbrev pub after : Bool → ℕ → ℕ
+after true next = next
+after false next = next + 1
+
+abbrev pub noted : Bool → ℕ → ℕ → List (Option ℕ) → List (Option ℕ)
+noted true next inode files = files
+noted false next inode files = slice_set files inode (Some next)
+
+-- by inode, the numbers that the files of these places get in turn
+abbrev pub numbers_from : (ℕ → Bool) → ℕ → List Place → List (Option ℕ) → List (Option ℕ)
+numbers_from dir next [] files = files
+numbers_from dir next (p ∷ ps) files = numbers_from dir (after (dir p.1) next) ps (noted (dir p.1) next p.1 files)
+
+abbrev pub next_number : (ℕ → Bool) → ℕ → List Place → ℕ
+next_number dir next [] = next
+next_number dir next (p ∷ ps) = next_number dir (after (dir p.1) next) ps

@@ -1,0 +1,38 @@
+// Where an inode's blocks lie.
+ghost use Rattle.std.specs.Prelude.{◌≡◌, ◌++◌, ◌∷◌, [], IfOk, OnOk};
+ghost use Rattle.ufs_extent.specs.Runs as runs;
+ghost use Rattle.ufs_image.specs.Nodes as nodes;
+ghost use Rattle.ufs_start.specs.Extents.{run_of};
+
+use std::alloc::Global;
+use ufs_base::{MAX_EXTENTS, Memory};
+use ufs_extent::{Extents, Run, Runs};
+use ufs_layout::{Extent, Inode};
+
+/// The blocks of an inode, in the order of its bytes. An extent that leaves every image counts as want of memory: no
+/// sound image has one.
+pub(crate) fn extents_in(alloc: Global, form: &Inode) -> Result<Extents, Memory>
+    ensures { IfOk result (λ e. runs.blocks_of e ≡ nodes.blocks_of form.now) }
+{
+    let mut runs = Runs::new(alloc);
+    for extent in form.used_extents() {
+        push_run(&mut runs, extent)?;
+    }
+    if runs.as_slice().len() > MAX_EXTENTS {
+        return Err(Memory);
+    }
+    Extents::from_runs(alloc, runs.as_slice())
+}
+
+fn push_run(runs: &mut Runs, extent: &Extent) -> Result<(), Memory>
+    ensures { OnOk result (runs.new ≡ runs.old ++ run_of extent.now ∷ []) }
+{
+    let run = Run {
+        start: extent.start,
+        length: extent.length,
+    };
+    if !run.is_valid() {
+        return Err(Memory);
+    }
+    runs.push(run)
+}

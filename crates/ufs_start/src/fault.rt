@@ -1,0 +1,37 @@
+// Why a server can't begin with an image.
+use ufs_base::Memory;
+use ufs_catalog::RecoverFault;
+
+/// Why a server can't begin with an image.
+#[derive(Clone, Copy, Debug, PartialEq, Eq)]
+pub enum StartFault {
+    /// The image isn't read, or it stands for no tree.
+    Image(RecoverFault),
+    /// The file of this inode has more blocks than its size wants.
+    ExtraBlocks { inode: u32 },
+    /// The file of this inode has more than 16,777,216 bytes.
+    TooLong { inode: u32 },
+}
+
+impl From<RecoverFault> for StartFault {
+    ghost use Rattle.std.specs.Prelude.{◌≡◌};
+    ghost use Rattle.ufs_start.specs.declared.fault.StartFault.TheVariants as fault;
+
+    ghost from_gives = { λ f e. e ≡ fault.Image f };
+
+    fn from(fault: RecoverFault) -> StartFault {
+        StartFault::Image(fault)
+    }
+}
+
+impl From<Memory> for StartFault {
+    ghost use Rattle.std.specs.Prelude.{◌≡◌};
+    ghost use Rattle.ufs_catalog.specs.declared.fault.RecoverFault.TheVariants.{Memory};
+    ghost use Rattle.ufs_start.specs.declared.fault.StartFault.TheVariants as fault;
+
+    ghost from_gives = { λ _ e. e ≡ fault.Image Memory };
+
+    fn from(_: Memory) -> StartFault {
+        StartFault::Image(RecoverFault::Memory)
+    }
+}

@@ -1,0 +1,48 @@
+// The namespace of an image.
+ghost use Rattle.std.specs.Prelude.{ℕ, ◌≡◌, ◌+◌, length, IfOk};
+ghost use Rattle.ufs_base.specs.Images.{Image};
+ghost use Rattle.ufs_layout.specs.Areas.{IsGeometry};
+ghost use Rattle.ufs_layout.specs.declared.superblock.Super.{Super};
+ghost use Rattle.ufs_start.specs.Starts.{AreDirsOf, AreStartNames, IsLoaded, IsOfSome};
+
+use crate::numbers::numbers_of;
+use crate::tables::dirs_of;
+use std::alloc::Global;
+use ufs_base::Memory;
+use ufs_damage::Findings;
+use ufs_dir_tree::DirTree;
+use ufs_image::damage_law;
+use ufs_layout::Geometry;
+use ufs_name_tree::NameTree;
+use ufs_names::Names;
+
+// The namespace of an image over its directories.
+fn names_of(
+    alloc: Global,
+    geometry: &Geometry,
+    findings: &Findings,
+    dirs: DirTree,
+) -> Result<Names, Memory>
+    requires geometry { IsGeometry geometry.now }
+    requires loaded { IsOfSome geometry.now findings.now }
+    requires counted { length dirs.dirs ≡ geometry.now.inodes + 1 }
+    requires dirs { AreDirsOf geometry.now findings.now dirs }
+    ensures { IfOk result (λ n. (sectors : ℕ) (disk : Image) (head : Super) (image : Image) → IsLoaded geometry.now findings.now sectors disk head image → AreStartNames sectors disk geometry.now image n) }
+{
+    damage_law(geometry);
+    let numbers = numbers_of(alloc, geometry, findings)?;
+    let tree = NameTree::from_parts(dirs, numbers.files);
+    Names::closed(alloc, tree, geometry.inodes, numbers.next)
+}
+
+/// The namespace of an image that stands for a tree: its files are numbered from 0 by rising path, and nothing is open.
+/// The time goes by inodes, slots and paths, and at each name by the blocks and names of its directory. What no sound
+/// image has counts as want of memory, as do more names than there are numbers.
+pub fn names_in(alloc: Global, geometry: &Geometry, findings: &Findings) -> Result<Names, Memory>
+    requires geometry { IsGeometry geometry.now }
+    requires loaded { IsOfSome geometry.now findings.now }
+    ensures { IfOk result (λ n. (sectors : ℕ) (disk : Image) (head : Super) (image : Image) → IsLoaded geometry.now findings.now sectors disk head image → AreStartNames sectors disk geometry.now image n) }
+{
+    let dirs = dirs_of(alloc, geometry, findings)?;
+    names_of(alloc, geometry, findings, dirs)
+}

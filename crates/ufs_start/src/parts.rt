@@ -1,0 +1,15 @@
+// What a server begins with.
+use ufs_bitmap::Bitmap;
+use ufs_catalog::ImageHead;
+use ufs_files::FileHands;
+use ufs_names::Names;
+
+/// What a server begins with: the superblock, the namespace, the files with their bytes, and the free blocks of the
+/// data area.
+#[derive(Drop)]
+pub struct Start {
+    pub head: ImageHead,
+    pub names: Names,
+    pub files: FileHands,
+    pub free: Bitmap,
+}

@@ -1,0 +1,114 @@
+// What a server begins with, made of a disk.
+ghost use Rattle.std.specs.Prelude.{ℕ, ◌≡◌, Ok, Some, IsSome, IsTrue, IfOk, IfErr, OnOk};
+ghost use Rattle.std.specs.FinMap as map;
+ghost use Rattle.std.specs.FinSet as set;
+ghost use Rattle.ufs_disk.specs.Bytes.{image_of};
+ghost use Rattle.ufs_disk.specs.Moments.{reads};
+ghost use Rattle.ufs_catalog.specs.Reading.{IsReadOnly};
+ghost use Rattle.ufs_files.specs.Files.{AreFilesOf};
+ghost use Rattle.ufs_image.specs.Images.{form_at};
+ghost use Rattle.ufs_image.specs.Opens.{opens};
+ghost use Rattle.ufs_image.specs.Standing.{IsVolumeOf};
+ghost use Rattle.ufs_layout.specs.Areas.{first_of_data};
+ghost use Rattle.ufs_load_image.specs.Loaded.{is_free_block};
+ghost use Rattle.ufs_name_tree.specs.NameTable.{file_at};
+ghost use Rattle.ufs_names.specs.Calls.{HaveInodes};
+ghost use Rattle.ufs_names.specs.NamesPart.{IsPartOf};
+ghost use Rattle.ufs_names.specs.Space.{AreApart};
+ghost use Rattle.ufs_names_image.specs.Loaded.{AreRead};
+ghost use Rattle.ufs_names_image.specs.Parts.{IsNamesOf};
+ghost use Rattle.ufs_names_image.specs.Starts.{image_start};
+ghost use Rattle.ufs_overlay.specs.Seen.{HasAdded};
+ghost use Rattle.ufs_volume.specs.Volumes.{committed_in};
+ghost use Rattle.ufs_start.specs.Begun.{IsBegun, catalog_under, image_under, tree_under, volume_under};
+ghost use Rattle.ufs_start.specs.Files.{AreClean};
+ghost use Rattle.ufs_start.specs.Refused.{HasStartCause, IsRefusedFile, TellsNoStart};
+ghost use Rattle.ufs_start.specs.Starts.{AreStartNames, IsLoaded};
+
+use crate::copy::copy_of;
+use crate::fault::StartFault;
+use crate::files::files_of;
+use crate::laws::{start_files_law, start_numbers_law};
+use crate::names::names_in;
+use crate::numbers::numbers_of;
+use crate::parts::Start;
+use std::alloc::Global;
+use ufs_damage::Findings;
+use ufs_disk::{Disk, PlainDisk};
+use ufs_files::FileHands;
+use ufs_image::damage_law;
+use ufs_load_image::load;
+use ufs_names::Names;
+use ufs_names_image::files_part_law;
+use ufs_volume::FoldedVolume;
+
+// The files of a volume in memory, by the numbers that its names tell.
+fn files_in(
+    alloc: Global,
+    copy: &mut PlainDisk,
+    volume: &FoldedVolume,
+    findings: &Findings,
+    names: &Names,
+) -> Result<FileHands, StartFault>
+    requires added { HasAdded volume.now.overlay (committed_in volume.now (image_of copy.old.bytes.items)) }
+    requires loaded { IsLoaded volume.now.head.geometry findings.now copy.old.sectors (image_of copy.old.bytes.items) volume.now.head.head (image_under volume.now.head (image_of copy.old.bytes.items)) }
+    requires names { AreStartNames copy.old.sectors (image_of copy.old.bytes.items) volume.now.head.geometry (image_under volume.now.head (image_of copy.old.bytes.items)) names.now }
+    ensures read { IfOk result (AreRead (image_under volume.now.head (image_of copy.old.bytes.items)) (catalog_under volume.now.head (image_of copy.old.bytes.items)) names.now) }
+    ensures here { (inode file : ℕ) → file_at names.now.tree inode ≡ Some file → IfOk result (λ files. IsSome (map.get files file)) }
+    ensures clean { IfOk result AreClean }
+    ensures refused { IfErr result (IsRefusedFile (form_at volume.now.head.geometry (image_under volume.now.head (image_of copy.old.bytes.items)))) }
+    ensures calm { IfErr result (λ f. (count : ℕ) → HasStartCause count count f) }
+{
+    let geometry = &volume.head.geometry;
+    damage_law(geometry);
+    start_numbers_law();
+    let numbers = numbers_of(alloc, geometry, findings)?;
+    files_of(alloc, copy, &volume.overlay, findings, &numbers.files)
+}
+
+// What a server begins with, made of a disk in memory.
+fn start_in(alloc: Global, copy: &mut PlainDisk) -> Result<Start, StartFault>
+    ensures begun { IfOk result (IsBegun copy.old.sectors (image_of copy.old.bytes.items)) }
+    ensures refused { IfErr result (TellsNoStart copy.old.sectors (image_of copy.old.bytes.items)) }
+    ensures calm { IfErr result (λ f. (count : ℕ) → HasStartCause count count f) }
+{
+    start_files_law();
+    files_part_law(copy.sectors as usize);
+    let loaded = load(alloc, copy)?;
+    let volume = &loaded.volume;
+    let names = names_in(alloc, &volume.head.geometry, &loaded.findings)?;
+    let files = files_in(alloc, copy, volume, &loaded.findings, &names)?;
+    Ok(Start {
+        head: loaded.volume.head,
+        names,
+        files,
+        free: loaded.free,
+    })
+}
+
+/// Makes what a server begins with, over a copy of the disk in memory. Refuses a disk that opens to no tree, and one
+/// with a file that a server can't hold. Reads each sector of the disk once, in calls of 4,096 bytes; writes nothing.
+pub fn start_of<D: Disk>(alloc: Global, disk: &mut D) -> Result<Start, StartFault>
+    ensures standing { IsTrue D.tells → IfOk result (λ s. IsVolumeOf (D.size disk.old) (reads (D.moments disk.old)) (volume_under s.head (reads (D.moments disk.old))) (catalog_under s.head (reads (D.moments disk.old)))) }
+    ensures opened { IsTrue D.tells → IfOk result (λ s. opens (D.size disk.old) (reads (D.moments disk.old)) ≡ Ok (tree_under s.head (reads (D.moments disk.old)))) }
+    ensures table { IsTrue D.tells → IfOk result (λ s. IsNamesOf s.head.geometry (catalog_under s.head (reads (D.moments disk.old))) (image_start (tree_under s.head (reads (D.moments disk.old)))) s.names) }
+    ensures names { IsTrue D.tells → IfOk result (λ s. IsPartOf s.names (image_start (tree_under s.head (reads (D.moments disk.old))))) }
+    ensures read { IsTrue D.tells → IfOk result (λ s. AreRead (image_under s.head (reads (D.moments disk.old))) (catalog_under s.head (reads (D.moments disk.old))) s.names s.files) }
+    ensures files { IsTrue D.tells → IfOk result (λ s. AreFilesOf s.files (image_start (tree_under s.head (reads (D.moments disk.old))))) }
+    ensures free { IsTrue D.tells → IfOk result (λ s. (block : ℕ) → set.contains s.free.free block ≡ is_free_block s.head.geometry (image_under s.head (reads (D.moments disk.old))) block) }
+    ensures inodes { IfOk result (λ s. HaveInodes s.names.held s.files) }
+    ensures here { IfOk result (λ s. (inode file : ℕ) → file_at s.names.tree inode ≡ Some file → IsSome (map.get s.files file)) }
+    ensures clean { IfOk result (λ s. AreClean s.files) }
+    ensures first { IfOk result (λ s. s.free.first ≡ first_of_data s.head.geometry) }
+    ensures blocks { IfOk result (λ s. s.free.blocks ≡ s.head.geometry.blocks) }
+    ensures apart { IfOk result (λ s. AreApart s.names.tree.dirs s.files s.free.free) }
+    ensures refused { IsTrue D.tells → IfErr result (TellsNoStart (D.size disk.old) (reads (D.moments disk.old))) }
+    ensures read_only { IsTrue D.tells → IsReadOnly D.keeps (D.moments disk.old) (D.moments disk.new) }
+    ensures size { D.size disk.new ≡ D.size disk.old }
+    ensures passed { OnOk result (D.faults disk.new ≡ D.faults disk.old) }
+    ensures cause { IfErr result (HasStartCause (D.faults disk.old) (D.faults disk.new)) }
+{
+    let sectors = disk.sectors();
+    let mut copy = copy_of(alloc, disk, sectors)?;
+    start_in(alloc, &mut copy)
+}

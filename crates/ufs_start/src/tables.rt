@@ -1,0 +1,99 @@
+// The table of an image's directories. What no sound image has counts as want of memory here.
+ghost use Rattle.std.specs.Prelude.{ℕ, ◌≡◌, ◌<◌, ◌≤◌, ◌+◌, Some, length, slice_get, IfOk, OnOk};
+ghost use Rattle.ufs_image.specs.Nodes.{Dir};
+ghost use Rattle.ufs_layout.specs.Areas.{IsGeometry};
+ghost use Rattle.ufs_start.specs.Starts.{AreDirsOf, IsOfSome};
+ghost use Rattle.ufs_start.specs.Tables.{AreReadIn, AreSlotForms, IsAsRead, form_in};
+
+use crate::dirs::dir_of;
+use crate::free::free_inodes;
+use std::alloc::Global;
+use ufs_base::Memory;
+use ufs_damage::{Findings, ReadDir};
+use ufs_dir_image::dir_table_law;
+use ufs_dir_tree::DirTree;
+use ufs_dirs::DirBlocks;
+use ufs_image::damage_law;
+use ufs_layout::{Geometry, Inode};
+
+// The directory that was read of an inode with this form.
+fn read_of(alloc: Global, form: &Option<Inode>, read: &ReadDir) -> Result<DirBlocks, Memory>
+    requires forms { AreSlotForms read.now.slots }
+    ensures { IfOk result (IsAsRead form.now read.now.slots) }
+{
+    let Some(form) = form else {
+        return Err(Memory);
+    };
+    dir_of(alloc, form, read.slots())
+}
+
+// Puts an inode's directory behind those of the lower inodes: the one that was read next, where it is this inode's,
+// else one without blocks. The answer is the place of the one that is read next then.
+fn put_next(
+    alloc: Global,
+    table: &mut Vec<DirBlocks>,
+    findings: &Findings,
+    inode: u32,
+    next: usize,
+) -> Result<usize, Memory>
+    requires from_one { 1 ≤ inode }
+    requires within { inode ≤ length findings.now.forms }
+    requires behind { inode ≡ length table.old.items }
+    requires forms { (p : ℕ) (d : Dir) → slice_get findings.now.dirs p ≡ Some d → AreSlotForms d.slots }
+    requires so_far { AreReadIn findings.now.forms findings.now.dirs next table.old.items }
+    ensures counted { OnOk result (length table.new.items ≡ length table.old.items + 1) }
+    ensures so_far { IfOk result (λ n. AreReadIn findings.now.forms findings.now.dirs n table.new.items) }
+{
+    let read = findings.dirs();
+    if next >= read.len() || read[next].inode() != inode {
+        table.push(DirBlocks::new(alloc))?;
+        return Ok(next);
+    }
+    let forms = findings.forms();
+    let dir = read_of(alloc, &forms[inode as usize - 1], &read[next])?;
+    table.push(dir)?;
+    Ok(next + 1)
+}
+
+// The directories that were read, by inode from 0.
+fn all_dirs(
+    alloc: Global,
+    geometry: &Geometry,
+    findings: &Findings,
+) -> Result<Vec<DirBlocks>, Memory>
+    requires geometry { IsGeometry geometry.now }
+    requires counted { length findings.now.forms ≡ geometry.now.inodes }
+    requires forms { (p : ℕ) (d : Dir) → slice_get findings.now.dirs p ≡ Some d → AreSlotForms d.slots }
+    ensures counted { IfOk result (λ t. length t.items ≡ geometry.now.inodes + 1) }
+    ensures read { IfOk result (λ t. AreReadIn findings.now.forms findings.now.dirs (length findings.now.dirs) t.items) }
+{
+    let mut table = Vec::new(alloc);
+    table.push(DirBlocks::new(alloc))?;
+    let mut next = 0;
+    for inode in 1..geometry.inodes + 1 {
+        next = put_next(alloc, &mut table, findings, inode, next)?;
+    }
+    if next != findings.dirs().len() {
+        return Err(Memory);
+    }
+    Ok(table)
+}
+
+/// The directories of an image that stands for a tree, by what was read of it. The time goes by inodes and slots, and
+/// at each name by the blocks and names of its directory.
+pub(crate) fn dirs_of(
+    alloc: Global,
+    geometry: &Geometry,
+    findings: &Findings,
+) -> Result<DirTree, Memory>
+    requires geometry { IsGeometry geometry.now }
+    requires loaded { IsOfSome geometry.now findings.now }
+    ensures counted { IfOk result (λ t. length t.dirs ≡ geometry.now.inodes + 1) }
+    ensures dirs { IfOk result (AreDirsOf geometry.now findings.now) }
+{
+    damage_law(geometry);
+    dir_table_law(geometry);
+    let free = free_inodes(alloc, geometry, findings.forms())?;
+    let dirs = all_dirs(alloc, geometry, findings)?;
+    Ok(DirTree::from_parts(alloc, dirs, free))
+}

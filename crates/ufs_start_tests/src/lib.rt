@@ -1,0 +1,9 @@
+//! Tests of what a server begins with, made of an image.
+#![tactic(auto)]
+
+#[cfg(test)]
+mod copies;
+#[cfg(test)]
+mod files;
+#[cfg(test)]
+mod images;
