@@ -1,1 +1,1 @@
-mod Left
+pub mod Left

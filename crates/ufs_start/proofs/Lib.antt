@@ -5,7 +5,6 @@ mod Named
 mod DirLemmas
 mod Copied
 mod FileLemmas
-mod Left
 mod Beginning
 mod TableLemmas
 mod Tabled

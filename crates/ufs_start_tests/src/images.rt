@@ -6,6 +6,9 @@ use ufs_disk::{Disk, PlainDisk};
 use ufs_layout::Geometry;
 use ufs_recover::format;
 
+/// The sector of inode 1.
+pub const ROOT: u32 = 16;
+
 /// The sector of inode 2.
 pub const SECOND: u32 = 17;
 
@@ -27,16 +30,31 @@ pub fn set_sector(disk: &mut PlainDisk, sector: u32, bytes: &[u8; SECTOR]) -> bo
     sector < disk.sectors() && disk.write(sector, bytes).is_ok()
 }
 
-/// The sector of a file with one extent.
-pub fn file(start: u8, length: u8, size: u16) -> [u8; SECTOR] {
+/// The sector of an inode with one extent: 1 for a file, 2 for a directory.
+pub fn inode(kind: u8, start: u8, length: u8, size: u16) -> [u8; SECTOR] {
     let mut bytes = [0; SECTOR];
     let size = size.to_le_bytes();
-    bytes[0] = 1;
+    bytes[0] = kind;
     bytes[1] = 1;
     bytes[2] = 1;
     bytes[8] = size[0];
     bytes[9] = size[1];
     bytes[64] = start;
     bytes[68] = length;
+    bytes
+}
+
+/// The sector of a file with one extent.
+pub fn file(start: u8, length: u8, size: u16) -> [u8; SECTOR] {
+    inode(1, start, length, size)
+}
+
+/// A sector of slots, with a name of one byte in the second one.
+pub fn name(inode: u8, kind: u8, byte: u8) -> [u8; SECTOR] {
+    let mut bytes = [0; SECTOR];
+    bytes[64] = inode;
+    bytes[68] = kind;
+    bytes[69] = 1;
+    bytes[70] = byte;
     bytes
 }

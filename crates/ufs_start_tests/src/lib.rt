@@ -7,3 +7,5 @@ mod copies;
 mod files;
 #[cfg(test)]
 mod images;
+#[cfg(test)]
+mod starts;

@@ -2,7 +2,7 @@ use Rattle.std.proofs.Common.{ℕ, ◌≤◌, ◌+◌, ap, ◌∙◌, arith}
 use Rattle.std.specs.FinSet as set
 use Rattle.ufs_bitmap.specs.Space.{Space}
 use Rattle.ufs_start.specs.Tables.{is_used_in}
-use Rattle.ufs_start.proofs.Left.{left_first}
+use Rattle.ufs_load_image.proofs.Left.{left_first}
 use Rattle.ufs_start.proofs.free.free_inodes.Goals as goal
 
 pub loop-inode-init : goal.loop-inode-init

@@ -1,5 +1,5 @@
 use Rattle.std.proofs.Common.{◌≡◌, ◌≤◌, ◌+◌}
-use Rattle.ufs_start.proofs.Left.{AreLeft}
+use Rattle.ufs_load_image.proofs.Left.{AreLeft}
 use Rattle.ufs_start.specs.Tables.{is_used_in}
 use Rattle.ufs_start.proofs.free.free_inodes.Given as goal
 

@@ -1,7 +1,7 @@
 use Rattle.std.proofs.Common.{ap, ◌∙◌}
 use Rattle.std.specs.FinSet as set
 use Rattle.ufs_bitmap.specs.Space.{Space}
-use Rattle.ufs_start.proofs.Left.{taken_out}
+use Rattle.ufs_load_image.proofs.Left.{taken_out}
 use Rattle.ufs_start.proofs.free.leave_out.Goals as goal
 
 pub returns-then-used-clause-left : goal.returns-then-used-clause-left

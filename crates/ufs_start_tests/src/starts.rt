@@ -1,0 +1,83 @@
+// What a server begins with: the paths, the files and the free blocks of an image.
+use crate::images::{ROOT, file, inode, name, new_disk, set_sector};
+use std::alloc::Global;
+use std::test::Fail;
+use ufs_base::SECTOR;
+use ufs_dir_tree::Found;
+use ufs_disk::PlainDisk;
+use ufs_path::read_path;
+use ufs_start::{Start, start_of};
+
+// The root lies in block 20, with `f` in its first sector and `d` in its second; the directory `d` in block 30, with `g`.
+fn set_names(disk: &mut PlainDisk) -> bool {
+    set_sector(disk, 160, &name(3, 1, b'f'))
+        && set_sector(disk, 161, &name(2, 2, b'd'))
+        && set_sector(disk, 240, &name(4, 1, b'g'))
+}
+
+// `f` has a block, and `g` two.
+fn set_inodes(disk: &mut PlainDisk) -> bool {
+    set_sector(disk, ROOT, &inode(2, 20, 1, 4096))
+        && set_sector(disk, ROOT + 1, &inode(2, 30, 1, 4096))
+        && set_sector(disk, ROOT + 2, &file(40, 1, 5))
+        && set_sector(disk, ROOT + 3, &file(41, 2, 5000))
+        && set_sector(disk, 328, &[7; SECTOR])
+}
+
+fn started(alloc: Global) -> Option<Start> {
+    let mut disk = new_disk(alloc)?;
+    if !set_names(&mut disk) || !set_inodes(&mut disk) {
+        return None;
+    }
+    match start_of(alloc, &mut disk) {
+        Ok(start) => Some(start),
+        Err(_fault) => None,
+    }
+}
+
+fn found(alloc: Global, path: &[u8]) -> Option<Found> {
+    let start = started(alloc)?;
+    let Ok(path) = read_path(alloc, path) else {
+        return None;
+    };
+    match start.names.resolve(&path) {
+        Ok(found) => Some(found),
+        Err(_errno) => None,
+    }
+}
+
+// The inode, the size and the first byte of a file.
+fn kept(alloc: Global, number: u32) -> Option<(u32, u64, u8)> {
+    let start = started(alloc)?;
+    let hand = start.files.get(number)?;
+    let block = hand.block(0)?;
+    if block.is_empty() {
+        return None;
+    }
+    Some((hand.inode(), hand.size(), block[0]))
+}
+
+fn free_count(alloc: Global) -> Option<u32> {
+    let start = started(alloc)?;
+    Some(start.free.count())
+}
+
+#[test]
+fn paths_stand_for_their_inodes(rt: HostRuntime) -> Result<(), Fail> {
+    assert!(rt; found(rt.alloc(), b"/") == Some(Found::Dir { inode: 1 }));
+    assert!(rt; found(rt.alloc(), b"/f") == Some(Found::File { inode: 3 }));
+    assert!(rt; found(rt.alloc(), b"/d") == Some(Found::Dir { inode: 2 }));
+    assert!(rt; found(rt.alloc(), b"/d/g") == Some(Found::File { inode: 4 }));
+    assert!(rt; found(rt.alloc(), b"/g") == None);
+    Ok(())
+}
+
+// They have numbers by rising path. Of the 52 blocks for data two are of directories and three of files.
+#[test]
+fn files_are_here_and_what_nobody_has_is_free(rt: HostRuntime) -> Result<(), Fail> {
+    assert!(rt; kept(rt.alloc(), 0) == Some((4, 5000, 7)));
+    assert!(rt; kept(rt.alloc(), 1) == Some((3, 5, 0)));
+    assert!(rt; kept(rt.alloc(), 2) == None);
+    assert!(rt; free_count(rt.alloc()) == Some(47));
+    Ok(())
+}
