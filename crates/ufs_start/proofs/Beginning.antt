@@ -1,5 +1,5 @@
 -- What a server begins with on a disk, of what was loaded.
-use Rattle.std.proofs.Common.{◌≡◌, ℕ, ◌≤◌, ◌&&◌, not, List, Bool, true, false, Option, Some, None, slice_index_or, refl, sym, ◌∙◌}
+use Rattle.std.proofs.Common.{◌≡◌, ℕ, ◌≤◌, ◌&&◌, not, List, Bool, true, false, Option, Some, None, slice_index_or, refl, sym, ◌∙◌, subst}
 use Rattle.std.specs.Prelude.{Ok}
 use Rattle.ufs_base.specs.Images as images
 use Rattle.ufs_catalog.specs.Faults.{IsOutside}
@@ -20,11 +20,12 @@ use Rattle.ufs_names.specs.NamesPart.{NamesPart}
 use Rattle.ufs_opening.specs.Told.{TellsWhy}
 use Rattle.ufs_volume.specs.Volumes.{volume_in}
 use Rattle.ufs_volume.specs.declared.volume.FoldedVolume.{FoldedVolume}
-use Rattle.ufs_start.specs.Begun.{catalog_under, image_under}
+use Rattle.ufs_start.specs.Begun.{IsBegun, catalog_under, image_under}
 use Rattle.ufs_start.specs.Refused.{IsRefusedFile, TellsNoStart}
 use Rattle.ufs_start.specs.Starts.{AreNumbersOf, AreStartNames, IsLoaded}
 use Rattle.ufs_start.specs.declared.fault.StartFault.{StartFault}
 use Rattle.ufs_start.specs.declared.fault.StartFault.TheVariants.{Image, ExtraBlocks, TooLong}
+use Rattle.ufs_start.specs.declared.parts.Start.{Start}
 
 pub is_loaded : (v : FoldedVolume) (f : CatalogRead) (sectors : ℕ) (disk : images.Image) → volume sectors disk ≡ Ok (volume_in v disk) → IsCatalogOf v.head.geometry (image_under v.head disk) (catalog_under v.head disk)
     → IsSoundCatalog v.head.geometry (catalog_under v.head disk) → AreFindingsOf v.head.geometry (image_under v.head disk) f → IsLoaded v.head.geometry f sectors disk v.head.head (image_under v.head disk)
@@ -37,6 +38,12 @@ number_there g f sectors disk head image n numbers geometry l s are inode file e
     let at = s.names.numbers.only inode file e in
     let sound = l.standing.sound in
     ((reached g (catalog_at g image) sound 1 at.names inode (root_in_range g (catalog_at g image) sound (has_root g geometry)) at.met).0.from_one, are.each inode file at)
+
+-- ---- a copy
+
+-- what a server begins with on a copy of a disk, it begins with on the disk
+pub begun_there : {copied disk : images.Image} {count sectors : ℕ} → copied ≡ disk → count ≡ sectors → (s : Start) → IsBegun count copied s → IsBegun sectors disk s
+begun_there {copied} {disk} {count} {sectors} same counted s begun = subst (λ (d : images.Image). IsBegun sectors d s) same (subst (λ (n : ℕ). IsBegun n copied s) counted begun)
 
 -- ---- faults
 
