@@ -3,3 +3,4 @@ mod Extents
 mod Made
 pub mod PlainNames
 pub mod Tables
+pub mod WholeDirs

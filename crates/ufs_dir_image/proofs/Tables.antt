@@ -14,7 +14,7 @@ use Rattle.ufs_layout.specs.Areas.{is_inode_number, sectors_of_block, sector_of_
 use Rattle.ufs_layout.specs.InodeForm.{inode_fields, inode_bytes, is_inode, is_used}
 use Rattle.ufs_layout.specs.DentryForm.{DentryForm, dentry_fields, dentry_bytes, dentry_of, is_dentry, is_named}
 use Rattle.ufs_layout.specs.declared.geometry.Geometry.{Geometry}
-use Rattle.ufs_dirs.specs.Directory.{Directory, entry_of, has_name, has_block}
+use Rattle.ufs_dirs.specs.Directory.{Directory, IsDirectory, entry_of, has_name, has_block}
 use Rattle.ufs_path.specs.Names.{IsName}
 use Rattle.ufs_image.specs.Nodes.{blocks_of, read_sector}
 use Rattle.ufs_image.specs.Catalog.{Catalog, IsInode, HasBlock, IsCatalogOf, slots_in}
@@ -27,7 +27,7 @@ use Rattle.ufs_image.proofs.Depth.{once}
 use Rattle.ufs_image.proofs.Slots.{dir_kind}
 use Rattle.ufs_image.proofs.Holders.{on_form}
 use Rattle.ufs_dir_tree.specs.Space.{extents_of}
-use Rattle.ufs_dir_tree.specs.DirTable.{DirTable, IsDirTable, IsUsed, IsFree, no_dir, dir_at, slots_at, blocks_at, inode_of, found_at}
+use Rattle.ufs_dir_tree.specs.DirTable.{DirTable, IsDirTable, IsReached, IsUsed, IsFree, no_dir, dir_at, slots_at, blocks_at, inode_of, found_at}
 use Rattle.ufs_dir_tree.specs.declared.found.Found.{Found}
 use Rattle.ufs_dir_tree.specs.declared.found.Found.TheVariants.{Dir, File}
 use Rattle.ufs_dir_image.specs.Meets.{found_in}
@@ -54,7 +54,7 @@ bare_dir d blocks slots i = record { blocks = blocks i; slots = slots i }
 
 module _ (g : Geometry) (image : Image) (c : Catalog) (is : IsCatalogOf g image c) (sound : IsSoundCatalog g c) where
   -- what a directory's slot has is on its form
-  slot_form : (i place : ℕ) (d : DentryForm) → IsInode g i → slice_get (slots_in c i) place ≡ Some d → is_dentry d ≡ true
+  pub slot_form : (i place : ℕ) (d : DentryForm) → IsInode g i → slice_get (slots_in c i) place ≡ Some d → is_dentry d ≡ true
   slot_form i place d inside there =
       let kind = dir_kind c i place d there in
       let dir : (c.forms i).kind ≡ 2 = grind (arith, nat_tests, kind) in
@@ -76,7 +76,7 @@ module _ (g : Geometry) (image : Image) (c : Catalog) (t : DirTable) (some : 1 �
   pub root_inside : IsInode g 1
   root_inside = record { from_one = omega arith; within = some }
 
-  inside_or_none : (i : ℕ) → IsInode g i ⊎ (dir_at t i ≡ no_dir)
+  pub inside_or_none : (i : ℕ) → IsInode g i ⊎ (dir_at t i ≡ no_dir)
   inside_or_none zero = inr of.none
   inside_or_none (suc i) = by (nat_le (suc i) g.inodes) refl
     where
@@ -115,7 +115,7 @@ module _ (g : Geometry) (image : Image) (c : Catalog) (t : DirTable) (some : 1 �
     used = of.free i ∙ ap (λ b. not (not b) && is_inode_number g i) (ne_eqb (c.forms i).kind 0 used);
   }
 
-  met : (names : List (List ℕ)) (f : Found) → found_at t names ≡ Some f → IsUsed t (inode_of f)
+  pub met : (names : List (List ℕ)) (f : Found) → found_at t names ≡ Some f → IsUsed t (inode_of f)
   met names f e =
       let at = met_inode names f e in
       let root_used : (c.forms 1).kind ≢ 0 = λ none. let unlike : 2 ≡ 0 = sym sound.root ∙ none in absurd (omega (arith, unlike)) in
@@ -206,8 +206,8 @@ module _ (g : Geometry) (image : Image) (c : Catalog) (t : DirTable) (some : 1 �
       by (inl inside) = subst (λ blocks. length (extents_of blocks) ≤ 56) (sym (of.blocks i inside)) (of_kind ((c.forms i).kind == 2) inside)
       by (inr none) = subst (λ (d : Directory). length (extents_of d.blocks) ≤ 56) (sym none) (omega arith)
 
-  pub is_dir_table : IsDirTable t
-  is_dir_table = record {
+  pub is_dir_table : ((i : ℕ) → IsDirectory (dir_at t i)) → IsReached t → IsDirTable t
+  is_dir_table whole reached = record {
     root = omega (arith, some, of.counted);
     met = met;
     once = met_once;
@@ -215,4 +215,6 @@ module _ (g : Geometry) (image : Image) (c : Catalog) (t : DirTable) (some : 1 �
     names = names;
     apart = apart;
     extents = extents;
+    whole = whole;
+    reached = reached;
   }

@@ -8,7 +8,7 @@ use Rattle.ufs_layout.specs.declared.geometry.Geometry.{Geometry}
 use Rattle.ufs_image.specs.Nodes.{blocks_of}
 use Rattle.ufs_image.specs.Catalog.{Catalog, IsInode, IsCatalogOf}
 use Rattle.ufs_image.specs.Sound.{IsSoundCatalog}
-use Rattle.ufs_dir_tree.specs.DirTable.{DirTable, IsDirTable, no_dir, dir_at, blocks_at}
+use Rattle.ufs_dir_tree.specs.DirTable.{DirTable, IsDirTable, IsReached, no_dir, dir_at, blocks_at}
 use Rattle.ufs_dir_image.specs.Meets.{HasSlotsOf}
 
 -- the blocks of a directory, in the order of its bytes; a file has none as one
@@ -27,9 +27,10 @@ pub record IsTableOf (g : Geometry) (c : Catalog) (t : DirTable) : Type 0 where
   pub blocks : (inode : ℕ) → IsInode g inode → blocks_at t inode ≡ dir_blocks c inode
   pub free : (inode : ℕ) → set.contains t.free inode ≡ is_free_inode g c inode
 
--- What is true of every table of directories is true of that of an image's sound catalog.
+-- What is true of every table of directories is true of that of an image's sound catalog, where each directory with a
+-- name is met: a catalog may have a directory that no walk reaches.
 abbrev pub TablesAreDirTables : Geometry → Type 0
-TablesAreDirTables g = (image : Image) (c : Catalog) (t : DirTable) → IsCatalogOf g image c → IsSoundCatalog g c → IsTableOf g c t → IsDirTable t
+TablesAreDirTables g = (image : Image) (c : Catalog) (t : DirTable) → IsCatalogOf g image c → IsSoundCatalog g c → IsTableOf g c t → IsReached t → IsDirTable t
 
 -- Each catalog has such a table.
 abbrev pub CatalogsHaveTables : Geometry → Type 0

@@ -16,7 +16,7 @@ pub fn walks_meet_law(geometry: &Geometry)
 }
 
 /// The directories of an image's sound catalog, with the inodes that it leaves unused as the free ones, are a table
-/// of directories. Each catalog has them.
+/// of directories, where each one that has a name is met by a walk from the root. Each catalog has them.
 pub fn dir_table_law(geometry: &Geometry)
     requires { IsGeometry geometry.now }
     ensures table { TablesAreDirTables geometry.now }

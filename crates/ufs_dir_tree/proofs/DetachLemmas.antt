@@ -2,16 +2,17 @@
 use Rattle.std.proofs.Common.{◌≡◌, ◌≢◌, ℕ, ◌⊎◌, inl, inr, List, [], ◌∷◌, ◌++◌, Some, None, ap, sym, refl, ◌∙◌}
 use Rattle.ufs_layout.specs.DentryForm.{DentryForm}
 use Rattle.ufs_dirs.specs.Directory.{Directory, entry_of}
-use Rattle.ufs_dir_tree.specs.DirTable.{DirTable, IsDirTable, slots_at, found_of, inode_of, walk_from, found_at}
+use Rattle.ufs_dir_tree.specs.DirTable.{DirTable, slots_at, found_of, inode_of, walk_from, found_at}
 use Rattle.ufs_dir_tree.specs.DirEdits.{SetsEntry, IsLoose}
 use Rattle.ufs_dir_tree.specs.declared.found.Found.{Found}
 use Rattle.ufs_dir_tree.specs.declared.found.Found.TheVariants.{Dir}
 use Rattle.ufs_dir_tree.proofs.Prefixes.{Begins, NotBegins, begins_or_not, same_rest, no_more}
 use Rattle.ufs_dir_tree.proofs.WalkLemmas.{walk_none}
 use Rattle.ufs_dir_tree.proofs.WalkEdits.{walk-off}
+use Rattle.ufs_dir_tree.proofs.WalkedTables.{IsWalked}
 use Rattle.ufs_dir_tree.proofs.EntryEdits.{step-else, used-same, met_else, met_below, met_before, edited_table}
 
-module _ (t : DirTable) (dirs : List Directory) (p : ℕ) (x : List ℕ) (sets : SetsEntry t.dirs dirs p x None) (is : IsDirTable t) (above : List (List ℕ)) (met : found_at t above ≡ Some (Dir p)) where
+module _ (t : DirTable) (dirs : List Directory) (p : ℕ) (x : List ℕ) (sets : SetsEntry t.dirs dirs p x None) (is : IsWalked t) (above : List (List ℕ)) (met : found_at t above ≡ Some (Dir p)) where
   abbrev new : DirTable
   new = record { dirs = dirs; free = t.free }
 
@@ -30,7 +31,7 @@ module _ (t : DirTable) (dirs : List Directory) (p : ℕ) (x : List ℕ) (sets :
       by (inl begins) = let none = ap (found_at new) begins.1 ∙ gone begins.0 in absurd cc
       by (inr off) = (sym (met_else t dirs p x None sets is above met names off) ∙ e, off)
 
-  pub detached_table : IsDirTable new
+  pub detached_table : IsWalked new
   detached_table =
       edited_table t dirs p x None sets is above met (λ some. absurd cc)
       (λ names f e. is.met names f (came names f e).0)

@@ -7,13 +7,14 @@ use Rattle.ufs_layout.specs.DentryForm.{DentryForm}
 use Rattle.ufs_dirs.specs.Directory.{Directory, entry_of, has_block}
 use Rattle.ufs_path.specs.Names.{IsName}
 use Rattle.ufs_dir_tree.specs.Space.{extents_of}
-use Rattle.ufs_dir_tree.specs.DirTable.{DirTable, IsDirTable, IsUsed, IsFree, slots_at, blocks_at, found_of, inode_of, step, walk_from, found_at}
+use Rattle.ufs_dir_tree.specs.DirTable.{DirTable, IsUsed, IsFree, slots_at, blocks_at, found_of, inode_of, step, walk_from, found_at}
 use Rattle.ufs_dir_tree.specs.DirEdits.{SetsEntry}
 use Rattle.ufs_dir_tree.specs.declared.found.Found.{Found}
 use Rattle.ufs_dir_tree.specs.declared.found.Found.TheVariants.{Dir}
 use Rattle.ufs_dir_tree.proofs.Prefixes.{NotBegins, one_name, no_more}
 use Rattle.ufs_dir_tree.proofs.WalkLemmas.{walk-append}
 use Rattle.ufs_dir_tree.proofs.WalkEdits.{met_off}
+use Rattle.ufs_dir_tree.proofs.WalkedTables.{IsWalked}
 
 module _ (t : DirTable) (dirs : List Directory) (p : ℕ) (x : List ℕ) (w : Option DentryForm) (sets : SetsEntry t.dirs dirs p x w) where
   abbrev pub edited : DirTable
@@ -32,6 +33,18 @@ module _ (t : DirTable) (dirs : List Directory) (p : ℕ) (x : List ℕ) (w : Op
   pub step-else : (i : ℕ) (name : List ℕ) → (i ≡ p → name ≢ x) → step edited (Some (Dir i)) name ≡ step t (Some (Dir i)) name
   step-else i name off = ap (option_map found_of) (entry-else i name off)
 
+  -- a name that stands for something now is the one, or stood for something before
+  pub entry_was : (i : ℕ) (name : List ℕ) → IsSome (entry_of (slots_at edited i) name) → ((i ≡ p) × (name ≡ x)) ⊎ IsSome (entry_of (slots_at t i) name)
+  entry_was i name some = by (cases_eq i p) (one_name name x)
+    where
+      was : (i ≡ p → name ≢ x) → IsSome (entry_of (slots_at t i) name)
+      was off = subst IsSome (entry-else i name off) some
+
+      by : (i ≡ p) ⊎ (i ≢ p) → (name ≡ x) ⊎ (name ≢ x) → ((i ≡ p) × (name ≡ x)) ⊎ IsSome (entry_of (slots_at t i) name)
+      by (inl at) (inl same) = inl (at, same)
+      by (inl at) (inr other) = inr (was (λ _. other))
+      by (inr apart) same = inr (was (λ at. absurd (apart at)))
+
   -- each directory has the blocks that it had
   pub blocks-same : (i : ℕ) → blocks_at edited i ≡ blocks_at t i
   blocks-same i = by (cases_eq i p)
@@ -43,7 +56,7 @@ module _ (t : DirTable) (dirs : List Directory) (p : ℕ) (x : List ℕ) (w : Op
   pub used-same : (i : ℕ) → IsUsed t i → IsUsed edited i
   used-same i u = record { from_one = u.from_one; within = omega (arith, u.within, sets.one.counted); used = u.used }
 
-  module _ (is : IsDirTable t) (above : List (List ℕ)) (met : found_at t above ≡ Some (Dir p)) where
+  module _ (is : IsWalked t) (above : List (List ℕ)) (met : found_at t above ≡ Some (Dir p)) where
     abbrev pub here : List (List ℕ)
     here = above ++ x ∷ []
 
@@ -70,7 +83,7 @@ module _ (t : DirTable) (dirs : List Directory) (p : ℕ) (x : List ℕ) (w : Op
         ∙ ap (λ at. walk_from t at (x ∷ rest)) met
         ∙ ap (λ e. walk_from t (option_map found_of e) rest) stood
 
-    -- ---- what is true of each table
+    -- ---- what stays true
 
     pub names_kept : (IsSome w → IsName x) → (i : ℕ) (name : List ℕ) → IsSome (entry_of (slots_at edited i) name) → IsName name
     names_kept allowed i name some = by (cases_eq i p) (one_name name x)
@@ -98,9 +111,9 @@ module _ (t : DirTable) (dirs : List Directory) (p : ℕ) (x : List ℕ) (w : Op
           bare = sets.one.others i (not_free i held) ∙ free.bare;
         }
 
-    -- a table, where what is met has inodes in use, each by one walk
+    -- where what is met has inodes in use, each by one walk
     pub edited_table : (IsSome w → IsName x) → ((names : List (List ℕ)) (f : Found) → found_at edited names ≡ Some f → IsUsed t (inode_of f))
-        → ((names others : List (List ℕ)) (f g : Found) → found_at edited names ≡ Some f → found_at edited others ≡ Some g → inode_of f ≡ inode_of g → names ≡ others) → IsDirTable edited
+        → ((names others : List (List ℕ)) (f g : Found) → found_at edited names ≡ Some f → found_at edited others ≡ Some g → inode_of f ≡ inode_of g → names ≡ others) → IsWalked edited
     edited_table allowed used once = record {
       root = omega (arith, is.root, sets.one.counted);
       met = λ names f at. used-same (inode_of f) (used names f at);

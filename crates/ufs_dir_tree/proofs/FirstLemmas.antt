@@ -2,7 +2,7 @@
 use Rattle.std.proofs.Common.{◌≡◌, ◌≢◌, ℕ, ◌<◌, ◌+◌, ◌-◌, List, [], ◌∷◌, length, Some, None, ap, sym, refl, ◌∙◌, subst, arith}
 use Rattle.std.specs.Option.{option_map}
 use Rattle.std.specs.FinSet as set
-use Rattle.ufs_dirs.specs.Directory.{Directory, entry_of, has_block}
+use Rattle.ufs_dirs.specs.Directory.{Directory, IsDirectory, entry_of, has_block}
 use Rattle.std.proofs.lemmas.Bool.{true≢false}
 use Rattle.ufs_bitmap.specs.Blocks.{BlockSet}
 use Rattle.ufs_dir_tree.specs.DirCalls.{IsApart}
@@ -13,6 +13,7 @@ use Rattle.ufs_dir_tree.specs.DirTable.{DirTable, InodeSet, IsDirTable, IsUsed, 
 use Rattle.ufs_dir_tree.specs.declared.found.Found.{Found}
 use Rattle.ufs_dir_tree.specs.declared.found.Found.TheVariants.{Dir}
 use Rattle.ufs_dir_tree.proofs.WalkLemmas.{walk_none}
+use Rattle.ufs_dir_tree.proofs.WalkedTables.{whole_none}
 
 module _ (t : DirTable) (bare : (i : ℕ) → dir_at t i ≡ no_dir) where
   no_entry : (i : ℕ) (name : List ℕ) → entry_of (slots_at t i) name ≡ None
@@ -37,6 +38,8 @@ module _ (t : DirTable) (bare : (i : ℕ) → dir_at t i ≡ no_dir) where
     free = λ i held. let range = has-blocks_between 2 size i (ap (λ (s : InodeSet). set.contains s i) (sym free) ∙ held) in record { from_one = omega arith; within = omega arith; bare = bare i };
     names = λ i name some. let none = no_entry i name in absurd cc;
     apart = λ i j b other has. ap (λ (d : Directory). has_block d.blocks b) (bare j);
+    whole = λ i. subst (λ (d : Directory). IsDirectory d) (sym (bare i)) whole_none;
+    reached = λ i name some. let none = no_entry i name in absurd cc;
     extents = λ i. let none = ap (λ (d : Directory). length (extents_of d.blocks)) (bare i) in omega (arith, none);
   }
 

@@ -15,6 +15,7 @@ use Rattle.ufs_dir_tree.proofs.WalkLemmas.{walk-append, walk_none, none_below}
 use Rattle.ufs_dir_tree.proofs.WalkEdits.{walk-same, met_off}
 use Rattle.ufs_dir_tree.proofs.EntryEdits.{met_else}
 use Rattle.ufs_dir_tree.proofs.AttachLemmas.{now_below}
+use Rattle.ufs_dir_tree.proofs.WalkedTables.{walked}
 
 pub some_before : {A B : Type 0} (f : A → B) (o : Option A) → IsSome (option_map f o) → IsSome o
 some_before f (Some x) e = refl
@@ -102,7 +103,7 @@ cleared_found t new path may_go off none = record {
 
 module _ (t new : DirTable) (p : ℕ) (x : List ℕ) (clears : ClearsName t new p x) (above : List (List ℕ)) (met : found_at t above ≡ Some (Dir p)) where
   pub cleared_off : (names : List (List ℕ)) → NotBegins (above ++ x ∷ []) names → found_at new names ≡ found_at t names
-  cleared_off names off = met_off t new p x clears.others clears.before above met names off
+  cleared_off names off = met_off t new p x clears.others (walked t clears.before) above met names off
 
   pub cleared_above : found_at new above ≡ Some (Dir p)
   cleared_above = cleared_off above (λ rest. no_more above x rest) ∙ met
@@ -129,10 +130,10 @@ module _ (old t new : DirTable) (p : ℕ) (above : List (List ℕ)) (x : List �
 
   given_found : SetsFound (found_at old) (found_at given) there (Some (found_of e))
   given_found = record {
-    this = ap (found_at given) (sym (append-nil there)) ∙ now_below t new.dirs p x e sets is above met_then loose [];
+    this = ap (found_at given) (sym (append-nil there)) ∙ now_below t new.dirs p x e sets (walked t is) above met_then loose [];
     others = λ other apart. others_by old given there
-        (λ names off. met_else t new.dirs p x (Some e) sets is above met_then names off ∙ as_before names)
-        (λ y ys. now_below t new.dirs p x e sets is above met_then loose (y ∷ ys) ∙ bare y ys)
+        (λ names off. met_else t new.dirs p x (Some e) sets (walked t is) above met_then names off ∙ as_before names)
+        (λ y ys. now_below t new.dirs p x e sets (walked t is) above met_then loose (y ∷ ys) ∙ bare y ys)
         (λ y ys. none_below old there (y ∷ ys) (ap (found_at old) (sym ends) ∙ absent)) other apart;
   }
 

@@ -3,7 +3,7 @@ use Rattle.std.proofs.Common.{◌≡◌, ◌≢◌, ℕ, ◌≤◌, ◌⊎◌, i
 use Rattle.std.specs.FinSet as set
 use Rattle.std.specs.Ordering.{nat_cmp}
 use Rattle.std.proofs.lemmas.Bool.{cases_eq, ne_eqb, false_from_ne_true, true≢false}
-use Rattle.ufs_dirs.specs.Directory.{Directory, entry_of, has_block}
+use Rattle.ufs_dirs.specs.Directory.{Directory, IsDirectory, entry_of, has_block}
 use Rattle.ufs_bitmap.specs.Blocks.{BlockSet}
 use Rattle.ufs_bitmap.proofs.SetLemmas.{has-insert, has-union}
 use Rattle.ufs_dir_tree.specs.Space.{extents_of}
@@ -14,6 +14,7 @@ use Rattle.ufs_dir_tree.specs.declared.found.Found.{Found}
 use Rattle.ufs_dir_tree.proofs.WalkEdits.{met_past}
 use Rattle.ufs_dir_tree.proofs.SameWalks.{same_table}
 use Rattle.ufs_dir_tree.proofs.SpaceLemmas.{listed-is}
+use Rattle.ufs_dir_tree.proofs.WalkedTables.{whole_none, whole_one}
 
 module _ (t : DirTable) (dirs : List Directory) (free : InodeSet) (k : ℕ) (one : ChangesOne t.dirs dirs k) (cleared : dir_in dirs k ≡ no_dir) (inserted : free ≡ set.insert t.free k) where
   abbrev freed : DirTable
@@ -91,6 +92,7 @@ module _ (t : DirTable) (dirs : List Directory) (free : InodeSet) (k : ℕ) (one
 
     pub freed_table : IsDirTable freed
     freed_table = same_table t freed freed_met is one.counted in_use free_now named (record { apart = apart_now; extents = extents_now })
+        (whole_one t freed k one is.whole (subst (λ (d : Directory). IsDirectory d) (sym cleared) whole_none))
 
     module _ (pool after : BlockSet) (apart : IsApart t pool) (given : after ≡ set.union pool (set.from_list (blocks_at t k))) where
       pub freed_apart : IsApart freed after

@@ -5,8 +5,8 @@ use Rattle.std.proofs.lemmas.List.{get_or-set_same}
 use Rattle.ufs_bitmap.specs.Blocks.{BlockSet}
 use Rattle.ufs_dirs.specs.Directory.{Directory}
 use Rattle.ufs_dir_tree.specs.Space.{TakesLowest, extents_of}
-use Rattle.ufs_dir_tree.specs.DirTable.{DirTable, InodeSet, no_dir}
-use Rattle.ufs_dir_tree.specs.DirEdits.{ChangesOne, IsMet, IsSized, KeepsPlaces, dir_in}
+use Rattle.ufs_dir_tree.specs.DirTable.{DirTable, InodeSet, IsMet, no_dir}
+use Rattle.ufs_dir_tree.specs.DirEdits.{ChangesOne, IsSized, KeepsPlaces, dir_in}
 use Rattle.ufs_dir_tree.specs.Steps.{GoesBy, grown, growing}
 use Rattle.ufs_dir_tree.proofs.StepLemmas.{goes_nowhere}
 use Rattle.ufs_dir_tree.proofs.MadeSteps.{grown_made}

@@ -1,5 +1,6 @@
 pub mod Prefixes
 pub mod WalkLemmas
+pub mod WalkedTables
 pub mod WalkEdits
 pub mod RefusalLemmas
 pub mod BareLemmas
@@ -14,6 +15,9 @@ pub mod DetachLemmas
 pub mod AttachLemmas
 pub mod FoundEdits
 pub mod MoveEdits
+pub mod ReachedEdits
+pub mod PassedNames
+pub mod NamedPlaces
 pub mod TakenInodes
 pub mod FreedInodes
 pub mod GotRoom

@@ -9,9 +9,8 @@ use Rattle.ufs_dirs.specs.Directory.{entry_of}
 use Rattle.ufs_dirs.specs.Changes.{IsFreeSlot, IsSlot}
 use Rattle.ufs_dirs.specs.declared.Slot.{Slot}
 use Rattle.ufs_dir_tree.specs.Space.{IsLowest, TakesLowest, extents_of}
-use Rattle.ufs_dir_tree.specs.DirTable.{DirTable, IsDirTable, IsUsed, dir_at, slots_at, blocks_at}
+use Rattle.ufs_dir_tree.specs.DirTable.{DirTable, IsDirTable, IsMet, IsUsed, dir_at, slots_at, blocks_at}
 use Rattle.ufs_dir_tree.specs.DirCalls.{IsUnmet, code_of}
-use Rattle.ufs_dir_tree.specs.DirEdits.{IsMet}
 use Rattle.ufs_dir_tree.specs.declared.found.Kind.{Kind}
 use Rattle.ufs_dir_tree.specs.declared.found.Kind.TheVariants as kind
 use Rattle.ufs_dir_tree.specs.Steps.{Step, Born, Grown, Put, Freed, GoesBy, table_after}

@@ -1,21 +1,26 @@
 -- What stands at each path once a name is moved: the new name is cleared, the old one is taken out, and what it stood
 -- for gets the new one.
-use Rattle.std.proofs.Common.{◌≡◌, ◌≢◌, ℕ, ◌⊎◌, inl, inr, List, [], ◌∷◌, ◌++◌, Some, None, IsSome, ap, sym, refl, ◌∙◌, subst, append_assoc}
+use Rattle.std.proofs.Common.{◌≡◌, ◌≢◌, ℕ, ◌+◌, ◌-◌, ◌<◌, ◌⊎◌, inl, inr, List, [], ◌∷◌, ◌++◌, Some, None, IsSome, length, take, ap, sym, refl, ◌∙◌, subst, append_assoc, arith, add-one}
+use Rattle.std.specs.Option.{option_map}
+use Rattle.std.proofs.Math.Seq.{take-length, take-suc}
 use Rattle.std.proofs.lemmas.Bool.{cases_eq}
 use Rattle.std.proofs.lemmas.List.{append-nil}
 use Rattle.ufs_layout.specs.DentryForm.{DentryForm}
 use Rattle.ufs_dirs.specs.Directory.{Directory, entry_of}
-use Rattle.ufs_dir_tree.specs.DirTable.{DirTable, InodeSet, IsDirTable, slots_at, found_of, walk_from, found_at}
-use Rattle.ufs_dir_tree.specs.DirCalls.{MayMove, MovesFounds}
+use Rattle.ufs_dir_tree.specs.DirTable.{DirTable, IsMet, IsReached, slots_at, blocks_at, found_of, walk_from, found_at}
+use Rattle.ufs_dir_tree.specs.DirCalls.{MayMove, MovesFounds, last_name, names_above}
 use Rattle.ufs_dir_tree.specs.DirEdits.{SetsEntry, ClearsName, IsLoose}
 use Rattle.ufs_dir_tree.specs.declared.found.Found.{Found}
 use Rattle.ufs_dir_tree.specs.declared.found.Found.TheVariants.{Dir}
-use Rattle.ufs_dir_tree.proofs.Prefixes.{Begins, NotBegins, one_name, one_begins, no_more}
+use Rattle.ufs_dir_tree.proofs.Prefixes.{Begins, NotBegins, begins_or_not, one_name, one_begins, no_more}
+use Rattle.ufs_path.specs.Names.{IsName}
+use Rattle.ufs_dir_tree.proofs.WalkedTables.{IsWalked, walked}
+use Rattle.ufs_dir_tree.proofs.WalkLemmas.{none_below}
 use Rattle.ufs_dir_tree.proofs.WalkEdits.{met_off}
-use Rattle.ufs_dir_tree.proofs.EntryEdits.{met_else}
-use Rattle.ufs_dir_tree.proofs.DetachLemmas.{gone, moved_below}
-use Rattle.ufs_dir_tree.proofs.AttachLemmas.{now_below}
-use Rattle.ufs_dir_tree.proofs.FoundEdits.{entry_met, some_before, nothing_below, met_by_dirs}
+use Rattle.ufs_dir_tree.proofs.EntryEdits.{entry_was, blocks-same, met_else}
+use Rattle.ufs_dir_tree.proofs.DetachLemmas.{gone, moved_below, detached_table, detached_loose}
+use Rattle.ufs_dir_tree.proofs.AttachLemmas.{now_below, attached_table}
+use Rattle.ufs_dir_tree.proofs.FoundEdits.{entry_met, nothing_below}
 
 -- neither of the two names is at or below the other
 module _ (t : DirTable) (from to : List (List ℕ)) (may : MayMove t from to) where
@@ -37,77 +42,135 @@ ends_at t from to f x g y ef eg may = subst (λ to. MayMove t (f ++ x ∷ []) to
 above_off : (above : List (List ℕ)) (x : List ℕ) (names : List (List ℕ)) → NotBegins names (above ++ x ∷ []) → NotBegins names above
 above_off above x names off rest e = off (rest ++ x ∷ []) (ap (λ l. l ++ x ∷ []) e ∙ append_assoc names rest (x ∷ []))
 
-module _ (t : DirTable) (f : List (List ℕ)) (x : List ℕ) (g : List (List ℕ)) (y : List ℕ) (old_dir new_dir : ℕ) (may : MayMove t (f ++ x ∷ []) (g ++ y ∷ [])) (met_f : found_at t f ≡ Some (Dir old_dir)) (met_g : found_at t g ≡ Some (Dir new_dir)) where
+-- a path is the names above its last one, and that one
+pub ends : (path : List (List ℕ)) → path ≢ [] → path ≡ names_above path ++ last_name path ∷ []
+ends [] some = absurd (some refl)
+ends (x ∷ xs) some =
+    let last = length (x ∷ xs) - 1 in
+    let within : last < length (x ∷ xs) = omega arith in
+    let next : length (x ∷ xs) ≡ last + 1 = omega arith in
+    sym (take-length (x ∷ xs)) ∙ ap (λ n. take n (x ∷ xs)) (next ∙ add-one last) ∙ take-suc (x ∷ xs) last [] within
+
+-- ---- the new name is cleared
+
+module _ (t : DirTable) (from to g : List (List ℕ)) (y : List ℕ) (new_dir : ℕ) (may : MayMove t from to) (ends_to : to ≡ g ++ y ∷ []) (met_g : found_at t g ≡ Some (Dir new_dir)) (cleared : DirTable) (clears : ClearsName t cleared new_dir y) where
+  met_still : (names : List (List ℕ)) → NotBegins to names → found_at cleared names ≡ found_at t names
+  met_still names off = met_off t cleared new_dir y clears.others (walked t clears.before) g met_g names (λ rest e. off rest (e ∙ ap (λ l. l ++ rest) (sym ends_to)))
+
+  from_stays : (rest : List (List ℕ)) → found_at cleared (from ++ rest) ≡ found_at t (from ++ rest)
+  from_stays rest = met_still (from ++ rest) (λ more e. apart t from to may rest more e)
+
+  pub target_met : found_at cleared g ≡ Some (Dir new_dir)
+  target_met = met_still g (λ rest e. no_more g y rest (e ∙ ap (λ l. l ++ rest) ends_to)) ∙ met_g
+
+  pub target_bare : found_at cleared to ≡ None
+  target_bare = ap (found_at cleared) ends_to ∙ entry_met cleared g y new_dir target_met ∙ ap (option_map found_of) clears.this
+
+  pub source_met : (f : List (List ℕ)) (x : List ℕ) (old_dir : ℕ) → from ≡ f ++ x ∷ [] → found_at t f ≡ Some (Dir old_dir) → found_at cleared f ≡ Some (Dir old_dir)
+  source_met f x old_dir ends_from met_f = met_still f (above_off f x to (λ rest e. apart t from to may [] rest (append-nil from ∙ ends_from ∙ e))) ∙ met_f
+
+  pub may_still : MayMove cleared from to
+  may_still = record {
+    stands = subst IsSome (sym (ap (found_at cleared) (sym (append-nil from)) ∙ from_stays [] ∙ ap (found_at t) (append-nil from))) may.stands;
+    from_below = may.from_below;
+    to_below = may.to_below;
+    outside = may.outside;
+    replaced = λ i at. let none = target_bare in absurd cc;
+  }
+
+  pub moves_on : (new : DirTable) → MovesFounds (found_at cleared) (found_at new) from to → MovesFounds (found_at t) (found_at new) from to
+  moves_on new moves = record {
+    moved = λ rest. moves.moved rest ∙ from_stays rest;
+    gone = moves.gone;
+    others = λ other off_from off_to. moves.others other off_from off_to ∙ met_still other off_to;
+  }
+
+-- ---- the old name is taken out
+
+module _ (t : DirTable) (f : List (List ℕ)) (x : List ℕ) (g : List (List ℕ)) (y : List ℕ) (old_dir new_dir : ℕ) (may : MayMove t (f ++ x ∷ []) (g ++ y ∷ [])) (met_f : found_at t f ≡ Some (Dir old_dir)) (met_g : found_at t g ≡ Some (Dir new_dir)) (is : IsWalked t) (absent : entry_of (slots_at t new_dir) y ≡ None)
+    (left : List Directory) (takes : SetsEntry t.dirs left old_dir x None) where
   abbrev from : List (List ℕ)
   from = f ++ x ∷ []
 
   abbrev to : List (List ℕ)
   to = g ++ y ∷ []
 
+  abbrev between : DirTable
+  between = record { dirs = left; free = t.free }
+
   from_off : (rest : List (List ℕ)) → NotBegins to (from ++ rest)
   from_off rest more = apart t from to may rest more
 
-  -- ---- the new name is cleared
+  met2 : (names : List (List ℕ)) → NotBegins from names → found_at between names ≡ found_at t names
+  met2 names off = met_else t left old_dir x None takes is f met_f names off
 
-  module _ (t1 : DirTable) (clears : ClearsName t t1 new_dir y) where
-    met1 : (names : List (List ℕ)) → NotBegins to names → found_at t1 names ≡ found_at t names
-    met1 names off = met_off t t1 new_dir y clears.others clears.before g met_g names off
+  gone2 : (rest : List (List ℕ)) → found_at between (from ++ rest) ≡ None
+  gone2 rest = gone t left old_dir x takes is f met_f rest
 
-    pub met1_f : found_at t1 f ≡ Some (Dir old_dir)
-    met1_f = met1 f (above_off f x to (λ rest e. from_off [] rest (append-nil from ∙ e))) ∙ met_f
+  pub met2_g : found_at between g ≡ Some (Dir new_dir)
+  met2_g = met2 g (above_off g y from may.outside) ∙ met_g
 
-    pub met1_g : found_at t1 g ≡ Some (Dir new_dir)
-    met1_g = met1 g (λ rest. no_more g y rest) ∙ met_g
+  is2 : IsWalked between
+  is2 = detached_table t left old_dir x takes is f met_f
 
-    pub stands1 : IsSome (entry_of (slots_at t1 old_dir) x)
-    stands1 =
-        let same = sym (entry_met t1 f x old_dir met1_f) ∙ met1 from (λ rest e. from_off [] rest (append-nil from ∙ e)) in
-        some_before found_of (entry_of (slots_at t1 old_dir) x) (subst IsSome (sym same) may.stands)
+  pub absent2 : entry_of (slots_at between new_dir) y ≡ None
+  absent2 = by (cases_eq new_dir old_dir) (one_name y x)
+    where
+      by : (new_dir ≡ old_dir) ⊎ (new_dir ≢ old_dir) → (y ≡ x) ⊎ (y ≢ x) → entry_of (slots_at between new_dir) y ≡ None
+      by (inr other) same = ap (λ (d : Directory). entry_of d.slots y) (takes.one.others new_dir other) ∙ absent
+      by (inl at) (inl same) = (λ k. entry_of (slots_at between (at k)) (same k)) ∙ takes.names.this
+      by (inl at) (inr other) = ap (λ j. entry_of (slots_at between j) y) at ∙ takes.names.others y other ∙ ap (λ j. entry_of (slots_at t j) y) (sym at) ∙ absent
 
-    -- ---- the old name is taken out
+  -- ---- what it stood for gets the new name
 
-    module _ (t2 : DirTable) (takes : SetsEntry t1.dirs t2.dirs old_dir x None) where
-      met2 : (names : List (List ℕ)) → NotBegins from names → found_at t2 names ≡ found_at t1 names
-      met2 names off = met_by_dirs t2 t2.dirs t1.free refl names ∙ met_else t1 t2.dirs old_dir x None takes clears.table f met1_f names off
+  module _ (e named : DentryForm) (was : entry_of (slots_at t old_dir) x ≡ Some e) (same : found_of e ≡ found_of named) (given : List Directory) (gives : SetsEntry left given new_dir y (Some named)) where
+    abbrev moved : DirTable
+    moved = record { dirs = given; free = t.free }
 
-      gone2 : (rest : List (List ℕ)) → found_at t2 (from ++ rest) ≡ None
-      gone2 rest = met_by_dirs t2 t2.dirs t1.free refl (from ++ rest) ∙ gone t1 t2.dirs old_dir x takes clears.table f met1_f rest
+    loose_named : IsLoose between (found_of named)
+    loose_named = subst (λ (n : Found). IsLoose between n) same (detached_loose t left old_dir x takes is f met_f e was)
 
-      pub met2_g : found_at t2 g ≡ Some (Dir new_dir)
-      met2_g = met2 g (above_off g y from may.outside) ∙ met1_g
+    met3 : (names : List (List ℕ)) → NotBegins to names → found_at moved names ≡ found_at between names
+    met3 names off = met_else between given new_dir y (Some named) gives is2 g met2_g names off
 
-      pub absent2 : entry_of (slots_at t2 new_dir) y ≡ None
-      absent2 = by (cases_eq new_dir old_dir) (one_name y x)
-        where
-          by : (new_dir ≡ old_dir) ⊎ (new_dir ≢ old_dir) → (y ≡ x) ⊎ (y ≢ x) → entry_of (slots_at t2 new_dir) y ≡ None
-          by (inr other) same = ap (λ (d : Directory). entry_of d.slots y) (takes.one.others new_dir other) ∙ clears.this
-          by (inl at) (inl same) = (λ k. entry_of (slots_at t2 (at k)) (same k)) ∙ takes.names.this
-          by (inl at) (inr other) = ap (λ j. entry_of (slots_at t2 j) y) at ∙ takes.names.others y other ∙ ap (λ j. entry_of (slots_at t1 j) y) (sym at) ∙ clears.this
+    moved3 : (rest : List (List ℕ)) → found_at moved (to ++ rest) ≡ found_at t (from ++ rest)
+    moved3 rest =
+        now_below between given new_dir y named gives is2 g met2_g loose_named rest
+        ∙ ap (λ n. walk_from between (Some n) rest) (sym same)
+        ∙ moved_below t left old_dir x takes is f met_f e was rest
 
-      -- ---- what it stood for gets the new name
+    pub moves_founds : MovesFounds (found_at t) (found_at moved) from to
+    moves_founds = record {
+      moved = λ rest. moved3 rest;
+      gone = λ rest. met3 (from ++ rest) (from_off rest) ∙ gone2 rest;
+      others = λ other off_from off_to. met3 other off_to ∙ met2 other off_from;
+    }
 
-      module _ (e named : DentryForm) (was : entry_of (slots_at t1 old_dir) x ≡ Some e) (same : found_of e ≡ found_of named) (free2 : t2.free ≡ t1.free) (is2 : IsDirTable t2) (loose : IsLoose t2 (found_of e)) (t3 : DirTable) (gives : SetsEntry t2.dirs t3.dirs new_dir y (Some named)) where
-        loose_named : IsLoose t2 (found_of named)
-        loose_named = subst (λ (n : Found). IsLoose t2 n) same loose
+    pub moved_walked : IsName y → IsWalked moved
+    moved_walked allowed = attached_table between given new_dir y named gives is2 g met2_g loose_named allowed
 
-        met3 : (names : List (List ℕ)) → NotBegins to names → found_at t3 names ≡ found_at t2 names
-        met3 names off = met_by_dirs t3 t3.dirs t2.free refl names ∙ met_else t2 t3.dirs new_dir y (Some named) gives is2 g met2_g names off
+    pub moved_blocks : (i : ℕ) → blocks_at moved i ≡ blocks_at t i
+    moved_blocks i = blocks-same between given new_dir y (Some named) gives i ∙ blocks-same t left old_dir x None takes i
 
-        from_e : (rest : List (List ℕ)) → walk_from t2 (Some (found_of e)) rest ≡ found_at t1 (from ++ rest)
-        from_e rest =
-            ap (λ (l : InodeSet). walk_from (record { dirs = t2.dirs; free = l }) (Some (found_of e)) rest) free2
-            ∙ moved_below t1 t2.dirs old_dir x takes clears.table f met1_f e was rest
+    -- what was met is met, where it stood or where it was moved to
+    still_met : (i : ℕ) → IsMet t i → IsMet moved i
+    still_met i met = by (begins_or_not from met.0) (begins_or_not to met.0)
+      where
+        by : Begins from met.0 ⊎ NotBegins from met.0 → Begins to met.0 ⊎ NotBegins to met.0 → IsMet moved i
+        by (inl begins) there = (to ++ begins.0, moved3 begins.0 ∙ ap (found_at t) (sym begins.1) ∙ met.1)
+        by (inr off) (inl begins) =
+            let none = ap (found_at t) begins.1 ∙ none_below t to begins.0 (entry_met t g y new_dir met_g ∙ ap (option_map found_of) absent) in
+            let stood = met.1 in
+            absurd cc
+        by (inr off) (inr away) = (met.0, met3 met.0 away ∙ met2 met.0 off ∙ met.1)
 
-        moved3 : (rest : List (List ℕ)) → found_at t3 (to ++ rest) ≡ found_at t (from ++ rest)
-        moved3 rest =
-            met_by_dirs t3 t3.dirs t2.free refl (to ++ rest)
-            ∙ now_below t2 t3.dirs new_dir y named gives is2 g met2_g loose_named rest
-            ∙ ap (λ n. walk_from t2 (Some n) rest) (sym same)
-            ∙ from_e rest ∙ met1 (from ++ rest) (from_off rest)
+    was_met : IsReached t → (i : ℕ) (name : List ℕ) → ((i ≡ old_dir) × (name ≡ x)) ⊎ IsSome (entry_of (slots_at t i) name) → IsSome (entry_of (slots_at between i) name) → IsMet moved i
+    was_met reached i name (inl here) some = let none = (λ k. entry_of (slots_at between (here.0 k)) (here.1 k)) ∙ takes.names.this in let gone = subst IsSome none some in absurd cc
+    was_met reached i name (inr old) some = still_met i (reached i name old)
 
-        pub moves_founds : MovesFounds (found_at t) (found_at t3) from to
-        moves_founds = record {
-          moved = λ rest. moved3 rest;
-          gone = λ rest. met3 (from ++ rest) (from_off rest) ∙ gone2 rest;
-          others = λ other off_from off_to. met3 other off_to ∙ met2 other off_from ∙ met1 other off_to;
-        }
+    pub moved_reached : IsReached t → IsReached moved
+    moved_reached reached i name some = by (entry_was between given new_dir y (Some named) gives i name some)
+      where
+        by : ((i ≡ new_dir) × (name ≡ y)) ⊎ IsSome (entry_of (slots_at between i) name) → IsMet moved i
+        by (inl here) = (g, met3 g (λ rest. no_more g y rest) ∙ met2_g ∙ ap (λ j. Some (Dir j)) (sym here.0))
+        by (inr old) = was_met reached i name (entry_was t left old_dir x None takes i name old) old

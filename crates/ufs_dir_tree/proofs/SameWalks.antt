@@ -9,6 +9,7 @@ use Rattle.ufs_dir_tree.specs.DirEdits.{RoomsIn, SameEntries, dir_in}
 use Rattle.ufs_dir_tree.specs.declared.found.Found.{Found}
 use Rattle.ufs_dir_tree.specs.declared.found.Found.TheVariants.{Dir}
 use Rattle.ufs_dir_tree.proofs.WalkEdits.{walk-same}
+use Rattle.ufs_dir_tree.proofs.WalkedTables.{AreWhole}
 
 -- what is true of the blocks of directories
 pub record AreKept (t : DirTable) : Type 0 where
@@ -24,8 +25,8 @@ module _ (t new : DirTable) (met_same : (names : List (List ℕ)) → found_at n
       record { from_one = used.from_one; within = omega (arith, used.within, counted); used = in_use names f met }
 
   pub same_table : ((names : List (List ℕ)) (f : Found) → found_at t names ≡ Some f → set.contains new.free (inode_of f) ≡ false) → ((i : ℕ) → set.contains new.free i ≡ true → IsFree new i)
-      → ((i : ℕ) (name : List ℕ) → IsSome (entry_of (dir_in new.dirs i).slots name) → IsSome (entry_of (dir_in t.dirs i).slots name)) → AreKept new → IsDirTable new
-  same_table in_use free named kept = record {
+      → ((i : ℕ) (name : List ℕ) → IsSome (entry_of (dir_in new.dirs i).slots name) → IsSome (entry_of (dir_in t.dirs i).slots name)) → AreKept new → AreWhole new → IsDirTable new
+  same_table in_use free named kept whole = record {
     root = omega (arith, is.root, counted);
     met = met_alike in_use;
     once = λ names others f g at too same. is.once names others f g (sym (met_same names) ∙ at) (sym (met_same others) ∙ too) same;
@@ -33,6 +34,8 @@ module _ (t new : DirTable) (met_same : (names : List (List ℕ)) → found_at n
     names = λ i name some. is.names i name (named i name some);
     apart = kept.apart;
     extents = kept.extents;
+    whole = whole;
+    reached = λ i name some. let was = is.reached i name (named i name some) in (was.0, met_same was.0 ∙ was.1);
   }
 
 -- ---- more free slots
@@ -49,8 +52,8 @@ module _ (t : DirTable) (dirs : List Directory) (p : ℕ) (rooms : RoomsIn t.dir
   roomy = record { dirs = dirs; free = t.free }
 
   -- where what the one directory is met by is a walk, it isn't free
-  pub rooms_table : IsDirTable t → (above : List (List ℕ)) → found_at t above ≡ Some (Dir p) → AreKept roomy → IsDirTable roomy
-  rooms_table is above met kept =
+  pub rooms_table : IsDirTable t → (above : List (List ℕ)) → found_at t above ≡ Some (Dir p) → AreKept roomy → AreWhole roomy → IsDirTable roomy
+  rooms_table is above met kept whole =
       same_table t roomy (walk-same t roomy same_rooms (Some (Dir 1))) is rooms.one.counted
       (λ names f at. let used = is.met names f at in used.used)
       (λ i held. let free = is.free i held in record {
@@ -59,4 +62,4 @@ module _ (t : DirTable) (dirs : List Directory) (p : ℕ) (rooms : RoomsIn t.dir
         bare = rooms.one.others i (λ at. let used = is.met above (Dir p) met in let in_use = used.used in let held = ap (set.contains t.free) (sym at) ∙ held in cc) ∙ free.bare;
       })
       (λ i name some. subst IsSome (same_rooms i name) some)
-      kept
+      kept whole

@@ -54,12 +54,12 @@ file_goes old mid p slot o k pool stood cleared = subst (λ (o : Option Found). 
 
 -- ---- a name moves
 
-pub name_moves : (t0 t1 t2 t3 : DirTable) (p q : BlockSet) (xs : List Step) (f : ℕ) (old : Slot) (g : ℕ) (new : Slot) (d e : DentryForm) → d ≡ e → GoesBy t0 t1 p q xs → GoesBy t1 t2 q q (Put f old free_slot ∷ []) → GoesBy t2 t3 q q (Put g new d ∷ [])
-    → GoesBy t0 t3 p q (xs ++ moving f old g new e)
-name_moves t0 t1 t2 t3 p q xs f old g new d e same cleared left taken =
-    let put = subst (λ (d : DentryForm). GoesBy t2 t3 q q (Put g new d ∷ [])) same taken in
-    let both = goes_on t1 t2 t3 q q q (Put f old free_slot ∷ []) (Put g new e ∷ []) left put in
-    goes_on t0 t1 t3 p q q xs (moving f old g new e) cleared both
+pub name_moves : (t mid new : DirTable) (pool : BlockSet) (f : ℕ) (left : Slot) (g : ℕ) (taken : Slot) (d e : DentryForm) → d ≡ e → GoesBy t mid pool pool (Put f left free_slot ∷ []) → GoesBy mid new pool pool (Put g taken d ∷ []) → GoesBy t new pool pool (moving f left g taken e)
+name_moves t mid new pool f left g taken d e same cleared put =
+    goes_on t mid new pool pool pool (Put f left free_slot ∷ []) (Put g taken e ∷ []) cleared (subst (λ (d : DentryForm). GoesBy mid new pool pool (Put g taken d ∷ [])) same put)
+
+pub some_same : (d e : DentryForm) → Some d ≡ Some e → d ≡ e
+some_same d e same = cc
 
 -- it is the dentry that stood there before another name was cleared
 pub same_entry : (t new : DirTable) (g : ℕ) (y : List ℕ) (f : ℕ) (x : List ℕ) (e : DentryForm) (slot : Slot) → ClearsName t new g y → entry_of (slots_at new f) x ≡ Some e → StandsAt (dir_at t f) x slot → e ≡ entry_in (dir_at t f) slot

@@ -69,7 +69,7 @@ module _ (dirs : List Directory) (free left : InodeSet) (i : ℕ) (takes : Takes
   taken_table =
       same_table before taken met_taken is refl
       (λ names f at. let used = is.met names f at in still_used (inode_of f) used.used)
-      free_taken (λ j name some. some) (record { apart = is.apart; extents = is.extents })
+      free_taken (λ j name some. some) (record { apart = is.apart; extents = is.extents }) is.whole
 
   unmet_taken : IsUnmet taken i
   unmet_taken names f at same =

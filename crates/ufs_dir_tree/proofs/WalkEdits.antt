@@ -2,13 +2,14 @@
 use Rattle.std.proofs.Common.{◌≡◌, ◌≢◌, ℕ, List, [], ◌∷◌, ◌++◌, Option, Some, None, ap, sym, refl, ◌∙◌, append_assoc}
 use Rattle.std.specs.Option.{option_map}
 use Rattle.ufs_dirs.specs.Directory.{entry_of}
-use Rattle.ufs_dir_tree.specs.DirTable.{DirTable, IsDirTable, slots_at, found_of, step, walk_from, found_at}
+use Rattle.ufs_dir_tree.specs.DirTable.{DirTable, slots_at, found_of, step, walk_from, found_at}
 use Rattle.ufs_dir_tree.specs.DirEdits.{SameEntries, SameNames, dir_in}
 use Rattle.ufs_dir_tree.specs.DirCalls.{IsUnmet}
 use Rattle.ufs_dir_tree.specs.declared.found.Found.{Found}
 use Rattle.ufs_dir_tree.specs.declared.found.Found.TheVariants.{Dir, File}
 use Rattle.ufs_dir_tree.proofs.Prefixes.{NotBegins}
 use Rattle.ufs_dir_tree.proofs.WalkLemmas.{walk_none}
+use Rattle.ufs_dir_tree.proofs.WalkedTables.{IsWalked}
 
 module _ (t new : DirTable) where
   -- a walk that passes no directory at a name that was set
@@ -43,7 +44,7 @@ module _ (t new : DirTable) where
 
   -- a walk that doesn't begin with the names that lead there
   pub met_off : (p : ℕ) (x : List ℕ) → ((i : ℕ) (name : List ℕ) → (i ≡ p → name ≢ x) → entry_of (slots_at new i) name ≡ entry_of (slots_at t i) name)
-      → IsDirTable t → (above : List (List ℕ)) → found_at t above ≡ Some (Dir p) → (names : List (List ℕ)) → NotBegins (above ++ x ∷ []) names → found_at new names ≡ found_at t names
+      → IsWalked t → (above : List (List ℕ)) → found_at t above ≡ Some (Dir p) → (names : List (List ℕ)) → NotBegins (above ++ x ∷ []) names → found_at new names ≡ found_at t names
   met_off p x same is above met names off =
       walk-off p x (λ i name else. ap (option_map found_of) (same i name else)) (Some (Dir 1)) names
       (λ a b e at. off b (e ∙ ap (λ l. l ++ x ∷ b) (is.once a above (Dir p) (Dir p) at met refl) ∙ sym (append_assoc above (x ∷ []) b)))

@@ -13,7 +13,6 @@ use Rattle.ufs_dir_tree.specs.Space.{extents_of}
 use Rattle.ufs_dir_tree.specs.DirTable.{DirTable, IsDirTable, IsUsed, no_dir, slots_at, inode_of, walk_from, found_at}
 use Rattle.ufs_dir_tree.specs.DirCalls.{HasRoom, StandsAt}
 use Rattle.ufs_dir_tree.specs.declared.found.Found.{Found}
-use Rattle.ufs_dir_tree.specs.declared.found.Found.TheVariants.{Dir}
 
 -- the directory of this inode
 abbrev pub dir_in : List Directory → ℕ → Directory
@@ -56,10 +55,6 @@ abbrev pub KeepsPlaces : List Directory → List Directory → Type 0
 KeepsPlaces old new = (i : ℕ) (name : List ℕ) (slot : Slot) → StandsAt (dir_in new i) name slot → StandsAt (dir_in old i) name slot
 
 -- ---- what is met
-
--- a walk from the root meets the directory
-abbrev pub IsMet : DirTable → ℕ → Type 0
-IsMet t i = (names : List (List ℕ)) × (found_at t names ≡ Some (Dir i))
 
 -- Nothing leads here: each inode that a walk from here meets is in use, is met by that walk alone, and by none from
 -- the root.

@@ -5,7 +5,7 @@ use Rattle.std.specs.Ordering.{nat_cmp}
 use Rattle.std.specs.FinSet as set
 use Rattle.std.specs.Coded.{Coded, code_by, coded×, coded_ℕ, coded_list}
 use Rattle.ufs_layout.specs.DentryForm.{DentryForm}
-use Rattle.ufs_dirs.specs.Directory.{Directory, entry_of, has_block}
+use Rattle.ufs_dirs.specs.Directory.{Directory, IsDirectory, entry_of, has_block}
 use Rattle.ufs_path.specs.Names.{IsName}
 use Rattle.ufs_dir_tree.specs.Space.{extents_of}
 use Rattle.ufs_dir_tree.specs.declared.found.Found.{Found}
@@ -71,6 +71,14 @@ pub record IsFree (t : DirTable) (i : ℕ) : Type 0 where
   pub within : i < length t.dirs
   pub bare : dir_at t i ≡ no_dir
 
+-- a walk from the root meets the directory
+abbrev pub IsMet : DirTable → ℕ → Type 0
+IsMet t i = (names : List (List ℕ)) × (found_at t names ≡ Some (Dir i))
+
+-- a directory in which a name stands is met
+abbrev pub IsReached : DirTable → Type 0
+IsReached t = (i : ℕ) (name : List ℕ) → IsSome (entry_of (slots_at t i) name) → IsMet t i
+
 -- what is true of every table
 pub record IsDirTable (t : DirTable) : Type 0 where
   pub root : 1 < length t.dirs
@@ -83,6 +91,9 @@ pub record IsDirTable (t : DirTable) : Type 0 where
   -- a block is in one directory alone
   pub apart : (i j b : ℕ) → i ≢ j → has_block (blocks_at t i) b ≡ true → has_block (blocks_at t j) b ≡ false
   pub extents : (i : ℕ) → length (extents_of (blocks_at t i)) ≤ 56
+  -- each directory is one: its slots fill its blocks, and no name stands in two of them
+  pub whole : (i : ℕ) → IsDirectory (dir_at t i)
+  pub reached : IsReached t
 
 -- ---- stored as the pair of its parts
 

@@ -9,9 +9,8 @@ use Rattle.ufs_dirs.specs.Directory.{Directory, entry_of}
 use Rattle.ufs_dirs.specs.Changes.{IsSlot, entry_in, with_entry}
 use Rattle.ufs_dirs.specs.declared.Slot.{Slot}
 use Rattle.ufs_dir_tree.specs.Space.{extents_of}
-use Rattle.ufs_dir_tree.specs.DirTable.{DirTable, IsFree, IsUsed, no_dir, dir_at, blocks_at}
+use Rattle.ufs_dir_tree.specs.DirTable.{DirTable, IsFree, IsMet, IsUsed, no_dir, dir_at, blocks_at}
 use Rattle.ufs_dir_tree.specs.DirCalls.{IsUnmet}
-use Rattle.ufs_dir_tree.specs.DirEdits.{IsMet}
 use Rattle.ufs_dir_tree.specs.declared.found.Found.{Found}
 use Rattle.ufs_dir_tree.specs.declared.found.Found.TheVariants.{Dir}
 

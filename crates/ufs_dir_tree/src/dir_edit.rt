@@ -19,9 +19,9 @@ impl DirTree {
     ghost use Rattle.ufs_dirs.specs.Changes.{entry_in};
     ghost use Rattle.ufs_dirs.specs.Directory.{entry_of};
     ghost use Rattle.ufs_dir_tree.specs.Space.{IsLowest, TakesLowest};
-    ghost use Rattle.ufs_dir_tree.specs.DirTable.{DirTable, IsDirTable, IsUsed, dir_at, slots_at, found_of, inode_of, found_at};
+    ghost use Rattle.ufs_dir_tree.specs.DirTable.{DirTable, IsDirTable, IsMet, IsUsed, dir_at, slots_at, blocks_at, found_of, inode_of, found_at};
     ghost use Rattle.ufs_dir_tree.specs.DirCalls.{names_above, last_name, found_as, code_of, IsBare, IsUnmet, MayGo, SetsFound, MovesFounds, MayMove, StandsAt, IsApart, IsListed, HasRoom, GetsRoom, SpendsBlock, SpendsNone, FreesInode, Frees, IsRoomCause, IsSpaceCause, LacksRoom, LacksSpace};
-    ghost use Rattle.ufs_dir_tree.specs.DirEdits.{IsMet, IsLoose, NothingFrom, SameEntries, KeepsPlaces, ChangesOne, SetsEntry, ClearsName};
+    ghost use Rattle.ufs_dir_tree.specs.DirEdits.{IsLoose, NothingFrom, SameEntries, KeepsPlaces, ChangesOne, SetsEntry, ClearsName};
     ghost use Rattle.ufs_dir_tree.specs.Steps.{Born, Put, Freed, GoesBy, adding, moving, growing, clearing, replacing};
     ghost use Rattle.ufs_dir_tree.specs.declared.found.Found.{Found};
     ghost use Rattle.ufs_dir_tree.specs.declared.found.Found.TheVariants as found;
@@ -133,13 +133,11 @@ impl DirTree {
         ensures apart { IsApart self.new pool.new }
         ensures table { IsDirTable self.new }
     {
-        let name = to.last();
-        match self.clear_name(to_dir, name, pool) {
+        match self.clear_name(to_dir, to.last(), pool) {
             Ok(cleared) => {
-                let Taken { entry, slot } = self.detach(from_dir, from.last());
-                let taken = self.attach(to_dir, name, entry.inode, entry.kind);
+                let Passed { left, taken } = self.pass(from_dir, from, to_dir, to);
                 Ok(Moved {
-                    left: slot,
+                    left,
                     taken,
                     dropped: cleared.dropped,
                     grown: cleared.grown,
@@ -296,10 +294,11 @@ impl DirTree {
         )
     }
 
-    /// Takes the name out of the directory. Nothing leads any more to what it stood for.
+    /// Takes a name out of the directory below which nothing stands. Nothing leads any more to what it stood for.
     fn detach(&mut self, dir: u32, name: &[u8]) -> Taken
         requires met { IsMet self.old dir }
         requires stands { IsSome (entry_of (slots_at self.old dir) name.now) }
+        requires may_go { (i : ℕ) → option_map found_of (entry_of (slots_at self.old dir) name.now) ≡ Some (found.Dir i) → IsBare (slots_at self.old i) }
         ensures was { entry_of (slots_at self.old dir) name.now ≡ Some result.entry }
         ensures slot { StandsAt (dir_at self.old dir) name.now result.slot }
         ensures steps { (pool : BlockSet) → GoesBy self.old self.new pool pool (Put dir result.slot free_slot ∷ []) }
@@ -312,6 +311,29 @@ impl DirTree {
         ensures table { IsDirTable self.new }
     {
         take_out_at(&mut self.dirs, dir as usize, name)
+    }
+
+    /// Gives what stands at `from`, with all below it, the name `to`, at which nothing stands, in a free slot.
+    fn pass(&mut self, from_dir: u32, from: &PathText, to_dir: u32, to: &PathText) -> Passed
+        requires from_dir { found_at self.old (names_above from.now) ≡ Some (found.Dir from_dir) }
+        requires to_dir { found_at self.old (names_above to.now) ≡ Some (found.Dir to_dir) }
+        requires may_move { MayMove self.old from.now to.now }
+        requires absent { found_at self.old to.now ≡ None }
+        requires room { HasRoom (dir_at self.old to_dir) }
+        ensures moved { MovesFounds (found_at self.old) (found_at self.new) from.now to.now }
+        ensures left { StandsAt (dir_at self.old from_dir) (last_name from.now) result.left }
+        ensures steps { (pool : BlockSet) → GoesBy self.old self.new pool pool (moving from_dir result.left to_dir result.taken (record (entry_in (dir_at self.old from_dir) result.left) { name = last_name to.now })) }
+        ensures blocks { (i : ℕ) → blocks_at self.new i ≡ blocks_at self.old i }
+        ensures free { self.new.free ≡ self.old.free }
+        ensures inodes { length self.new.dirs ≡ length self.old.dirs }
+        ensures table { IsDirTable self.new }
+    {
+        let Taken { entry, slot } = take_out_at(&mut self.dirs, from_dir as usize, from.last());
+        let moved = Dentry::from_name(entry.inode, entry.kind, to.last());
+        Passed {
+            left: slot,
+            taken: put_at(&mut self.dirs, to_dir as usize, moved),
+        }
     }
 
     /// Takes the name out of the directory. The inode of a directory that it stood for is free. Takes no memory.
@@ -342,6 +364,13 @@ impl DirTree {
 struct Cleared {
     dropped: Option<Slot>,
     grown: Option<u32>,
+}
+
+/// The slot that a moved dentry left and the one that it stands in now.
+#[derive(Clone, Copy)]
+struct Passed {
+    left: Slot,
+    taken: Slot,
 }
 
 /// A new inode, and the block that the directory took for its name, if it did.

@@ -3,7 +3,7 @@ ghost use Rattle.std.specs.Prelude.{◌≡◌, ◌<◌, ◌≤◌, ◌++◌, ◌
 ghost use Rattle.std.specs.List.{IsDistinct};
 ghost use Rattle.std.specs.FinSet as set;
 ghost use Rattle.ufs_layout.specs.DentryForm.{free_slot, is_dentry, is_named};
-ghost use Rattle.ufs_dirs.specs.Directory.{entry_of, has_block};
+ghost use Rattle.ufs_dirs.specs.Directory.{IsDirectory, entry_of, has_block};
 ghost use Rattle.ufs_dirs.specs.Changes.{IsFreeSlot, SetsName, with_entry};
 ghost use Rattle.ufs_dir_tree.specs.Space.{TakesLowest, extents_of};
 ghost use Rattle.ufs_dir_tree.specs.DirTable.{no_dir};
@@ -31,6 +31,7 @@ fn add_block(dir: &mut DirBlocks, block: u32) -> Result<(), Excuse>
     requires small { block < 65536 }
     requires absent { has_block dir.old.blocks block ≡ false }
     requires few { length (extents_of dir.old.blocks) ≤ 56 }
+    ensures whole { IsDirectory dir.new }
     ensures blocks { OnOk result (dir.new.blocks ≡ dir.old.blocks ++ block ∷ []) }
     ensures grown { OnOk result (dir.new ≡ grown block dir.old) }
     ensures room { OnOk result (HasRoom dir.new) }
@@ -58,6 +59,7 @@ fn give_room(dir: &mut DirBlocks, pool: &mut Pool) -> Result<Option<u32>, Excuse
     ensures room { OnOk result (HasRoom dir.new) }
     ensures gets { OnOk result (GetsRoom dir.old dir.new pool.old pool.new) }
     ensures sized { IsSized dir.old }
+    ensures whole { IsDirectory dir.new }
     ensures kept { IfOk result (λ g. IfNone g (dir.new ≡ dir.old)) }
     ensures pool_kept { IfOk result (λ g. IfNone g (pool.new ≡ pool.old)) }
     ensures grown { IfOk result (λ g. IfSome g (λ b. dir.new ≡ grown b dir.old)) }
@@ -92,6 +94,7 @@ fn put_in(dir: &mut DirBlocks, entry: Dentry) -> Slot
     requires room { HasRoom dir.old }
     ensures names { SetsName dir.old dir.new entry.name (Some entry) }
     ensures blocks { dir.new.blocks ≡ dir.old.blocks }
+    ensures whole { IsDirectory dir.new }
     ensures free { IsFreeSlot dir.old result }
     ensures placed { dir.new ≡ with_entry dir.old result entry }
 {
@@ -101,6 +104,7 @@ fn put_in(dir: &mut DirBlocks, entry: Dentry) -> Slot
 /// Takes the name's entry out.
 fn take_out(dir: &mut DirBlocks, name: &[u8]) -> Taken
     requires { IsSome (entry_of dir.old.slots name.now) }
+    ensures whole { IsDirectory dir.new }
     ensures was { entry_of dir.old.slots name.now ≡ Some result.entry }
     ensures slot { StandsAt dir.old name.now result.slot }
     ensures freed { dir.new ≡ with_entry dir.old result.slot free_slot }
@@ -137,6 +141,7 @@ pub(crate) fn give_room_at(
     ensures room { OnOk result (HasRoom (dir_in dirs.new.items dir)) }
     ensures gets { OnOk result (GetsRoom (dir_in dirs.old.items dir) (dir_in dirs.new.items dir) pool.old pool.new) }
     ensures sized { IsSized (dir_in dirs.old.items dir) }
+    ensures whole { IsDirectory (dir_in dirs.new.items dir) }
     ensures kept { IfOk result (λ g. IfNone g (dirs.new.items ≡ dirs.old.items)) }
     ensures pool_kept { IfOk result (λ g. IfNone g (pool.new ≡ pool.old)) }
     ensures grown { IfOk result (λ g. IfSome g (λ b. dirs.new.items ≡ slice_set dirs.old.items dir (grown b (dir_in dirs.old.items dir)))) }
@@ -159,6 +164,7 @@ pub(crate) fn put_at(dirs: &mut Vec<DirBlocks>, dir: usize, entry: Dentry) -> Sl
     requires absent { entry_of (dir_in dirs.old.items dir).slots entry.name ≡ None }
     requires room { HasRoom (dir_in dirs.old.items dir) }
     ensures entries { SetsEntry dirs.old.items dirs.new.items dir entry.name (Some entry) }
+    ensures whole { IsDirectory (dir_in dirs.new.items dir) }
     ensures free { IsFreeSlot (dir_in dirs.old.items dir) result }
     ensures placed { dirs.new.items ≡ slice_set dirs.old.items dir (with_entry (dir_in dirs.old.items dir) result entry) }
 {
@@ -169,6 +175,7 @@ pub(crate) fn put_at(dirs: &mut Vec<DirBlocks>, dir: usize, entry: Dentry) -> Sl
 pub(crate) fn take_out_at(dirs: &mut Vec<DirBlocks>, dir: usize, name: &[u8]) -> Taken
     requires there { dir < length dirs.old.items }
     requires stands { IsSome (entry_of (dir_in dirs.old.items dir).slots name.now) }
+    ensures whole { IsDirectory (dir_in dirs.new.items dir) }
     ensures was { entry_of (dir_in dirs.old.items dir).slots name.now ≡ Some result.entry }
     ensures slot { StandsAt (dir_in dirs.old.items dir) name.now result.slot }
     ensures freed { dirs.new.items ≡ slice_set dirs.old.items dir (with_entry (dir_in dirs.old.items dir) result.slot free_slot) }

@@ -146,6 +146,7 @@ impl DirBlocks {
     pub fn add_block(&mut self, block: u32) -> Result<(), Memory>
         requires below { block < MAX_BLOCKS }
         requires absent { has_block self.old.blocks block ≡ false }
+        ensures whole { IsDirectory self.new }
         ensures ok { OnOk result (self.new ≡ record { blocks = self.old.blocks ++ block ∷ []; slots = self.old.slots ++ replicate SLOTS_PER_BLOCK free_slot }) }
         ensures names { (name : List ℕ) → entry_of self.new.slots name ≡ entry_of self.old.slots name }
         ensures err { OnErr result (self.new ≡ self.old) }
@@ -189,6 +190,7 @@ impl DirBlocks {
         requires form { IsTrue (is_dentry dentry) }
         requires named { IsTrue (is_named dentry) }
         requires absent { entry_of self.old.slots dentry.name ≡ None }
+        ensures whole { IsDirectory self.new }
         ensures lowest { IfOk result (IsLowestFree self.old) }
         ensures placed { IfOk result (λ s. self.new ≡ with_entry self.old s dentry) }
         ensures names { OnOk result (SetsName self.old self.new dentry.name (Some dentry)) }
@@ -220,6 +222,7 @@ impl DirBlocks {
     /// Frees the slot of the name, and tells which it is. Takes no memory.
     pub fn remove(&mut self, name: &[u8]) -> Slot
         requires { IsSome (entry_of self.old.slots name.now) }
+        ensures whole { IsDirectory self.new }
         ensures slot { IsSlotOf self.old name.now result }
         ensures was { entry_of self.old.slots name.now ≡ Some (entry_in self.old result) }
         ensures freed { self.new ≡ with_entry self.old result free_slot }

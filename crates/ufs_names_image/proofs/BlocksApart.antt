@@ -35,7 +35,7 @@ use Rattle.ufs_names.specs.Space.{AreApart}
 use Rattle.ufs_names_image.specs.Loaded.{AreRead, IsUntaken}
 use Rattle.ufs_names_image.specs.Numbered.{HasImage}
 use Rattle.ufs_names_image.specs.Parts.{IsNamesOf}
-use Rattle.ufs_names_image.proofs.Named.{is_name_table}
+use Rattle.ufs_names_image.proofs.Named.{bare}
 
 module _ (sectors : ℕ) (image : Image) (v : Volume) (c : Catalog) (t : PosixTree) (n : NamesPart) (files : Files) (pool : BlockSet) (is : IsVolumeOf sectors image v c) (tree : IsTree t)
     (like : HasImage t (from_entries (walked v))) (once : IsNamedOnce t.paths) (of : IsNamesOf v.geometry c t n) (read : AreRead v.image c n files) (untaken : IsUntaken v.geometry c pool) where
@@ -106,9 +106,8 @@ module _ (sectors : ℕ) (image : Image) (v : Volume) (c : Catalog) (t : PosixTr
           let p = dir_holds i b held in
           let q = file_holds f b too in
           let inode = (is.sound.blocks_once i q.0.inode p.0 q.2 b p.1 q.3).0 in
-          let table = is_name_table sectors image v c n.tree t is tree like once of.dirs of.numbers in
-          let bare : blocks_at n.tree.dirs i ≡ [] = table.bare i f (ap (file_at n.tree) inode ∙ (read f q.0 q.1).inode) in
-          let none : false ≡ true = subst (λ bs. has_block bs b ≡ true) bare held in
+          let none_of : blocks_at n.tree.dirs i ≡ [] = bare sectors image v c n.tree t is tree like once of.dirs of.numbers i f (ap (file_at n.tree) inode ∙ (read f q.0 q.1).inode) in
+          let none : false ≡ true = subst (λ bs. has_block bs b ≡ true) none_of held in
           absurd cc
 
   pub are_apart : AreApart n.tree.dirs files pool

@@ -26,13 +26,14 @@ use Rattle.ufs_model.specs.declared.data.Node.TheVariants as node
 use Rattle.ufs_model.specs.declared.data.PathNode.TheVariants as path_node
 use Rattle.ufs_model.proofs.Facts.Live.{held_has}
 use Rattle.ufs_model.proofs.Facts.Orders.{path_total, path_same}
-use Rattle.ufs_dir_tree.specs.DirTable.{IsDirTable, IsUsed, blocks_at, inode_of, found_at}
+use Rattle.ufs_dir_tree.specs.DirTable.{IsReached, IsUsed, blocks_at, inode_of, found_at}
 use Rattle.ufs_dir_tree.specs.declared.found.Found.{Found}
 use Rattle.ufs_dir_tree.specs.declared.found.Found.TheVariants.{Dir, File}
 use Rattle.ufs_dir_image.specs.Meets.{found_in}
 use Rattle.ufs_dir_image.specs.Tables.{IsTableOf}
 use Rattle.ufs_dir_image.proofs.Walked.{meets}
-use Rattle.ufs_dir_image.proofs.Tables.{is_dir_table, met_inode, found_number}
+use Rattle.ufs_dir_image.proofs.Tables.{is_dir_table, met, met_inode, found_number}
+use Rattle.ufs_dir_image.proofs.WholeDirs.{whole_dirs}
 use Rattle.ufs_ledger.specs.Kept.{path_node_of}
 use Rattle.ufs_name_tree.specs.NameTable.{NameTable, IsNameTable, file_at, node_of, node_at}
 use Rattle.ufs_names.specs.NamesPart.{IsNamedOnce}
@@ -81,9 +82,6 @@ module _ (sectors : ℕ) (image : Image) (v : Volume) (c : Catalog) (n : NameTab
     (once : IsNamedOnce t.paths) (of : IsTableOf v.geometry c n.dirs) (given : IsNumberedAs c n t.paths) where
   some : 1 ≤ v.geometry.inodes
   some = has_root v.geometry (has_geometry sectors image v is.taken).0
-
-  table : IsDirTable n.dirs
-  table = is_dir_table v.geometry v.image c n.dirs some is.catalog is.sound of
 
   root_inside : IsInode v.geometry 1
   root_inside = root_in_range v.geometry c is.sound some
@@ -152,7 +150,7 @@ module _ (sectors : ℕ) (image : Image) (v : Volume) (c : Catalog) (n : NameTab
   used i f e =
       let at = given.only i f e in
       let found : found_at n.dirs at.names ≡ Some (found_in c i) = meets v.geometry c n.dirs is.sound of.slots root_inside at.names ∙ ap (option_map (found_in c)) at.met in
-      subst (IsUsed n.dirs) (number_of i) (table.met at.names (found_in c i) found)
+      subst (IsUsed n.dirs) (number_of i) (met v.geometry v.image c n.dirs some is.catalog is.sound of at.names (found_in c i) found)
 
   no_dir : (i f : ℕ) (names : List (List ℕ)) → file_at n i ≡ Some f → found_at n.dirs names ≢ Some (Dir i)
   no_dir i f names e found =
@@ -161,7 +159,7 @@ module _ (sectors : ℕ) (image : Image) (v : Volume) (c : Catalog) (n : NameTab
       let both : true ≡ false = sym (found_dir i at.0 at.2) ∙ ap (λ k. (c.forms k).kind == 2) same ∙ is_no_dir i f e in
       absurd cc
 
-  bare : (i f : ℕ) → file_at n i ≡ Some f → blocks_at n.dirs i ≡ []
+  pub bare : (i f : ℕ) → file_at n i ≡ Some f → blocks_at n.dirs i ≡ []
   bare i f e =
       let at = given.only i f e in
       of.blocks i (reached v.geometry c is.sound 1 at.names i root_inside at.met).0 ∙ ap (λ b. if b then blocks_of (c.forms i) else []) (is_no_dir i f e)
@@ -175,9 +173,9 @@ module _ (sectors : ℕ) (image : Image) (v : Volume) (c : Catalog) (n : NameTab
       let names : a.names ≡ b.names = same_texts a.names b.names pieces_a pieces_b (once (cat.path_text a.names) (cat.path_text b.names) f a.stands b.stands) in
       same_some i j (sym a.met ∙ ap (cat.inode_of c) names ∙ b.met)
 
-  pub is_name_table : IsNameTable n
-  is_name_table = record {
-    table = table;
+  pub is_name_table : IsReached n.dirs → IsNameTable n
+  is_name_table reached = record {
+    table = is_dir_table v.geometry v.image c n.dirs some is.catalog is.sound of (whole_dirs v.geometry v.image c n.dirs some (has_geometry sectors image v is.taken).0.most_blocks is.catalog is.sound of) reached;
     counted = given.counted;
     named = named;
     used = used;

@@ -13,6 +13,7 @@ use Rattle.ufs_model.specs.PosixTree.{PosixTree, Paths, IsTree}
 use Rattle.ufs_model.specs.Start.{IsNumberedByPath, content_of}
 use Rattle.ufs_model.specs.declared.data.Node.TheVariants.{File}
 use Rattle.ufs_ledger.specs.Kept.{path_node_of}
+use Rattle.ufs_dir_tree.specs.DirTable.{IsReached}
 use Rattle.ufs_dir_image.specs.Tables.{IsTableOf}
 use Rattle.ufs_name_tree.specs.NameTable.{NameTable, IsNameTable, file_at, node_at}
 use Rattle.ufs_names.specs.NamesPart.{IsNamedOnce}
@@ -40,11 +41,11 @@ pub record IsNumberedAs (c : Catalog) (n : NameTable) (paths : Paths) : Type 0 w
 
 -- ---- laws
 
--- Of an image that opens to a tree, the directories and the files' numbers in a tree of its paths make a table of names,
--- and that tree's paths stand for what it tells.
+-- Of an image that opens to a tree, the directories, where each one with a name is met, and the files' numbers in a tree
+-- of its paths make a table of names, and that tree's paths stand for what it tells.
 abbrev pub NamesStandForTrees : ℕ → Type 0
 NamesStandForTrees sectors = (image : Image) (v : Volume) (c : Catalog) (n : NameTable) (t : PosixTree) → IsVolumeOf sectors image v c → IsTree t → HasImage t (from_entries (walked v)) → IsNamedOnce t.paths
-    → IsTableOf v.geometry c n.dirs → IsNumberedAs c n t.paths → IsNameTable n × Stands (node_at n) t.paths
+    → IsTableOf v.geometry c n.dirs → IsNumberedAs c n t.paths → IsReached n.dirs → IsNameTable n × Stands (node_at n) t.paths
 
 -- Files that are numbered by rising path have one name each.
 abbrev pub NumbersNameOnce : Type 0

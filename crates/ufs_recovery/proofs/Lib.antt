@@ -10,7 +10,6 @@ pub mod Phases
 pub mod Bits
 pub mod Alike
 pub mod Closing
-pub mod Told
 pub mod Marked
 pub mod Begun
 pub mod Planned

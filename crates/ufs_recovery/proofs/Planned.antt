@@ -13,7 +13,8 @@ use Rattle.ufs_image.specs.Catalog.{IsInode, catalog_at}
 use Rattle.ufs_image.specs.Changes.{IsReached, IsUnreached}
 use Rattle.ufs_image.specs.Images.{inode_at, form_at}
 use Rattle.ufs_recovery.specs.Cleared.{Numbers}
-use Rattle.ufs_recovery.specs.Orphans.{AreOrphans, AreOrphanDirs, AreReachedMarks, AreTold, orphan_number, orphan_dir_number}
+use Rattle.ufs_walk.specs.Reached.{AreReachedMarks}
+use Rattle.ufs_recovery.specs.Orphans.{AreOrphans, AreOrphanDirs, AreTold, orphan_number, orphan_dir_number}
 use Rattle.ufs_recovery.proofs.Clears.{get_short}
 use Rattle.ufs_recovery.proofs.OneMore.{get_there}
 

@@ -79,12 +79,6 @@ AreTold test forms marks numbers = (place : ℕ) → place < length numbers → 
 abbrev pub HasNone : Numbers → Type 0
 HasNone numbers = (place number : ℕ) → slice_get numbers place ≡ Some (Some number) → ⊥
 
--- The marks say of each inode, that of inode 1 first, whether a walk from the root meets it.
-pub record AreReachedMarks (g : Geometry) (c : Catalog) (marks : List Bool) : Type 0 where
-  pub sized : length marks ≡ g.inodes
-  pub reached : (place : ℕ) → slice_get marks place ≡ Some true → IsReached c (place + 1)
-  pub others : (place : ℕ) → slice_get marks place ≡ Some false → IsUnreached c (place + 1)
-
 -- What was read of an image that has the same inodes.
 pub record IsReadOf (g : Geometry) (image : Image) (findings : CatalogRead) : Type 0 where
   pub read : Image

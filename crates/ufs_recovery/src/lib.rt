@@ -9,7 +9,6 @@ mod freeing;
 mod orphans;
 mod plan;
 mod pruning;
-mod reaching;
 mod recovery;
 mod sector;
 mod steps;

@@ -11,13 +11,13 @@ ghost use Rattle.ufs_recovery.specs.Orphans.{AreOrphanDirs, AreOrphans};
 
 use crate::orphans::{find_orphans, highest_number};
 use crate::pruning::Orphans;
-use crate::reaching::reached_inodes;
 use crate::superblocks::next_head;
 use std::alloc::Global;
 use ufs_base::Memory;
 use ufs_catalog::ImageHead;
 use ufs_damage::Findings;
 use ufs_layout::Super;
+use ufs_walk::reached_inodes;
 
 /// The orphans that are to be freed, and the superblock of the next epoch.
 #[derive(Drop)]

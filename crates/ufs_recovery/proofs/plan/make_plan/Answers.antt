@@ -1,6 +1,6 @@
 use Rattle.std.proofs.Common.{Option, length, ap, sym, ◌∙◌, subst, arith}
 use Rattle.ufs_layout.specs.InodeForm.{InodeForm}
-use Rattle.ufs_recovery.specs.Orphans.{AreReachedMarks}
+use Rattle.ufs_walk.specs.Reached.{AreReachedMarks}
 use Rattle.ufs_image.specs.Catalog.{catalog_at}
 use Rattle.ufs_recovery.proofs.Planned.{are_orphans, are_orphan_dirs, number_below}
 use Rattle.ufs_recovery.proofs.plan.make_plan.Goals as goal

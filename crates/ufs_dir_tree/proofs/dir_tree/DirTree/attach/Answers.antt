@@ -3,10 +3,11 @@ use Rattle.std.specs.Prelude.{slice_set}
 use Rattle.ufs_dirs.specs.Changes.{with_entry}
 use Rattle.ufs_dirs.specs.Directory.{Directory, entry_of}
 use Rattle.ufs_layout.specs.DentryForm.{DentryForm}
-use Rattle.ufs_dir_tree.specs.DirTable.{DirTable, IsDirTable, dir_at, slots_at, found_of}
+use Rattle.ufs_dir_tree.specs.DirTable.{DirTable, IsDirTable, IsMet, dir_at, slots_at, found_of}
 use Rattle.ufs_dir_tree.specs.Steps.{Put, GoesBy}
-use Rattle.ufs_dir_tree.specs.DirEdits.{IsMet, IsLoose, SetsEntry}
-use Rattle.ufs_dir_tree.proofs.AttachLemmas.{attached_table}
+use Rattle.ufs_dir_tree.specs.DirEdits.{IsLoose, SetsEntry}
+use Rattle.ufs_dir_tree.proofs.AttachLemmas.{attached_table, attached_reached}
+use Rattle.ufs_dir_tree.proofs.WalkedTables.{as_table, walked, whole_one}
 use Rattle.ufs_dir_tree.proofs.MadeSteps.{named_form, put_made}
 use Rattle.ufs_dir_tree.proofs.dir_tree.DirTree.attach.Goals as goal
 use Rattle.ufs_dir_tree.proofs.dir_tree.DirTree.attach.Goals.{After-put_at}
@@ -20,7 +21,13 @@ table c =
     let e : DentryForm = record { inode = c.args.inode; kind = c.args.kind; name = c.args.name.now } in
     let met = subst (λ (t : DirTable). IsMet t c.args.dir) (sym c.self.view_is) c.requires.met in
     let loose = subst (λ (t : DirTable). IsLoose t (found_of e)) (sym c.self.view_is) c.requires.loose in
-    attached_table t c.put_at.new.dirs.items c.args.dir c.args.name.now e (sets c) c.self.invariant.0 met.0 met.1 loose c.requires.named
+    let new : DirTable = record { dirs = c.put_at.new.dirs.items; free = t.free } in
+    let is = c.self.invariant.0 in
+    let absent = ap (λ (t : DirTable). entry_of (slots_at t c.args.dir) c.args.name.now) c.self.view_is ∙ c.requires.absent in
+    let one = sets c in
+    as_table new (attached_table t new.dirs c.args.dir c.args.name.now e one (walked t is) met.0 met.1 loose c.requires.named)
+    (whole_one t new c.args.dir one.one is.whole c.put_at.ensures.whole)
+    (attached_reached t new.dirs c.args.dir c.args.name.now e one (walked t is) met.0 met.1 loose absent is.reached)
 
 pub invariant_of-self : goal.invariant_of-self
 invariant_of-self c = let one = sets c in (table c, c.self.invariant.1, c.self.invariant.2 ∙ sym one.one.counted, omega (arith, one.one.counted, c.self.invariant.3))

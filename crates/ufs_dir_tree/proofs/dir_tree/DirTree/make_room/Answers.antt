@@ -1,13 +1,14 @@
 use Rattle.std.specs.Prelude.{IfOk}
 use Rattle.std.proofs.Common.{◌<◌, length, OnOk, sym, subst, ◌∙◌, arith}
-use Rattle.ufs_dir_tree.specs.DirTable.{DirTable, IsDirTable, IsUsed}
+use Rattle.ufs_dir_tree.specs.DirTable.{DirTable, IsDirTable, IsMet, IsUsed}
 use Rattle.ufs_dir_tree.specs.DirCalls.{IsApart}
-use Rattle.ufs_dir_tree.specs.DirEdits.{IsMet, KeepsPlaces}
+use Rattle.ufs_dir_tree.specs.DirEdits.{KeepsPlaces}
 use Rattle.ufs_dir_tree.specs.Steps.{GoesBy, growing}
 use Rattle.ufs_dir_tree.proofs.GrownSteps.{room_steps, room_places}
 use Rattle.ufs_dir_tree.specs.declared.found.Found.TheVariants.{Dir}
 use Rattle.ufs_dir_tree.proofs.GotRoom.{either_kept, either_apart}
 use Rattle.ufs_dir_tree.proofs.SameWalks.{rooms_table}
+use Rattle.ufs_dir_tree.proofs.WalkedTables.{whole_one}
 use Rattle.ufs_dir_tree.proofs.dir_tree.DirTree.make_room.Goals as goal
 use Rattle.ufs_dir_tree.proofs.dir_tree.DirTree.make_room.Goals.{After-give_room_at}
 
@@ -33,6 +34,7 @@ table c =
     let met = subst (λ (t : DirTable). IsMet t c.args.dir) (sym c.self.view_is) c.requires.met in
     rooms_table (before c) c.give_room_at.new.dirs.items c.args.dir e.same c.self.invariant.0 met.0 met.1
     (either_kept (before c) (behind c) c.args.dir c.args.pool.now c.give_room_at.new.pool e.same.one (apart c) c.self.invariant.0 e.few c.give_room_at.result e.gets e.err)
+    (whole_one (before c) (behind c) c.args.dir e.same.one c.self.invariant.0.whole e.whole)
 
 pub invariant_of-self : goal.invariant_of-self
 invariant_of-self c =

@@ -66,3 +66,6 @@ returns-clause-ok c =
 
 pub returns-clause-names : goal.returns-clause-names
 returns-clause-names c name = ap (λ (d : Directory). entry_of d.slots name) (returns-clause-ok c) ∙ entry_of-added c.args.self.now.slots name
+
+pub returns-clause-whole : goal.returns-clause-whole
+returns-clause-whole c = (invariant_of-self-2 c).0.directory

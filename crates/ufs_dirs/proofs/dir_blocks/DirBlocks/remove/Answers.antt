@@ -79,3 +79,6 @@ returns-clause-was c =
     let place = ap (λ (d : Directory). place_of d.blocks c.slot_at-slot.result) c.self.view_is ∙ c.slot_at-slot.ensures.place ∙ at in
     subst (λ (d : Directory). entry_of d.slots name ≡ Some (entry_in d c.slot_at-slot.result)) c.self.view_is
     (entry_of-rank slots order c.self.invariant.0.index name rank found ∙ ap (λ (p : ℕ). Some (entry_at slots p)) (sym place))
+
+pub returns-clause-whole : goal.returns-clause-whole
+returns-clause-whole c = (invariant_of-self c).0.directory

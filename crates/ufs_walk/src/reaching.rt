@@ -6,14 +6,14 @@ ghost use Rattle.ufs_damage.specs.Findings.{AreFindingsOf};
 ghost use Rattle.ufs_image.specs.Catalog.{catalog_at};
 ghost use Rattle.ufs_image.specs.Damage.{bad_tree};
 ghost use Rattle.ufs_layout.specs.Areas.{IsGeometry};
-ghost use Rattle.ufs_recovery.specs.Orphans.{AreReachedMarks};
+ghost use Rattle.ufs_walk.specs.Reached.{AreReachedMarks};
 
+use crate::walk::places_of;
 use std::alloc::Global;
 use ufs_base::Memory;
 use ufs_damage::Findings;
 use ufs_image::damage_law;
 use ufs_layout::Geometry;
-use ufs_walk::places_of;
 
 // Marks an inode, that of inode 1 first.
 fn mark(marks: &mut Vec<bool>, inode: u32)
@@ -35,8 +35,9 @@ fn no_marks(alloc: Global, count: usize) -> Result<Vec<bool>, Memory>
     Ok(marks)
 }
 
-// For each inode of an undamaged image, that of inode 1 first, whether a walk from the root meets it.
-pub(crate) fn reached_inodes(
+/// For each inode of an undamaged image, that of inode 1 first, whether a walk from the root meets it. Takes time that is
+/// linear in the names, with a logarithm.
+pub fn reached_inodes(
     alloc: Global,
     findings: &Findings,
     geometry: &Geometry,

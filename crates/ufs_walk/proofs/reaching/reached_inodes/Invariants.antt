@@ -1,6 +1,6 @@
 use Rattle.std.proofs.Common.{◌≡◌, length, take}
-use Rattle.ufs_recovery.proofs.Marked.{IsMarked, inodes_of}
-use Rattle.ufs_recovery.proofs.reaching.reached_inodes.Given as goal
+use Rattle.ufs_walk.proofs.Marked.{IsMarked, inodes_of}
+use Rattle.ufs_walk.proofs.reaching.reached_inodes.Given as goal
 
 abbrev pub invariant-loop-at : goal.invariant-loop-at
 invariant-loop-at l = record {

@@ -4,9 +4,9 @@ use Rattle.ufs_image.specs.Catalog.{catalog_at}
 use Rattle.ufs_image.proofs.Depth.{has_root}
 use Rattle.ufs_walk.specs.Walked.{pairs_of}
 use Rattle.ufs_walk.specs.declared.places.PathAt.{PathAt}
-use Rattle.ufs_recovery.proofs.Marked.{IsMarked, inodes_of, inodes_push, one_marked}
-use Rattle.ufs_recovery.proofs.Told.{told_reached, reached_told}
-use Rattle.ufs_recovery.proofs.reaching.reached_inodes.Goals as goal
+use Rattle.ufs_walk.proofs.Marked.{IsMarked, inodes_of, inodes_push, one_marked}
+use Rattle.ufs_walk.proofs.Reached.{told_reached, reached_told}
+use Rattle.ufs_walk.proofs.reaching.reached_inodes.Goals as goal
 
 pub loop-at-preserved : goal.loop-at-preserved
 loop-at-preserved c =
