@@ -23,10 +23,11 @@ use Rattle.ufs_ledger.specs.Kept.{Numbers, Shape, shape_of, IsStandKept}
 use Rattle.ufs_ledger.specs.Laws.{StandsOn}
 use Rattle.ufs_ledger.proofs.Held.{held_after}
 use Rattle.ufs_dir_tree.specs.Steps.{DirState, Step, Born, Grown, Put, Freed, after, after_all}
+use Rattle.ufs_name_tree.specs.Notes.{is_of, is_touched}
 use Rattle.ufs_name_log.specs.Steps.{record_of, records_of}
 use Rattle.ufs_name_log.specs.Held.{HasState, MayStep, MaySteps}
 use Rattle.ufs_name_log.specs.Laws.{change, AreOlder}
-use Rattle.ufs_name_log.specs.Files.{is_of, is_touched, KeepsInode, MayGoOn}
+use Rattle.ufs_name_log.specs.Files.{KeepsInode, MayGoOn}
 use Rattle.ufs_name_log.proofs.Forms.{form_here, form_else}
 use Rattle.ufs_name_log.proofs.Putting.{holds, is_dir}
 use Rattle.ufs_name_log.proofs.Told.{ranged, newer, kept_none, told, told_all}

@@ -13,7 +13,7 @@ mod Joined
 mod Commits
 pub mod Files
 mod NamesKept
-mod TableNames
+pub mod TableNames
 mod Orders
 mod Sized
 mod CallNames

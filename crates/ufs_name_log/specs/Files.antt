@@ -1,5 +1,5 @@
 -- What a change of names leaves of the files, and how the disk stands on.
-use Rattle.std.specs.Prelude.{ℕ, ◌≡◌, ◌≤◌, ◌⊎◌, ◌==◌, List, [], length, Bool, true, false, Some, None}
+use Rattle.std.specs.Prelude.{ℕ, ◌≡◌, ◌≤◌, ◌⊎◌, List, [], length, true, false, Some, None}
 use Rattle.std.specs.List.{list_any}
 use Rattle.ufs_disk.specs.Disk.{Cell}
 use Rattle.ufs_layout.specs.declared.geometry.Geometry.{Geometry}
@@ -13,21 +13,11 @@ use Rattle.ufs_image.specs.Folding.{with_committed_in}
 use Rattle.ufs_ledger.specs.Ledger.{Stand, with_one, is_set_in}
 use Rattle.ufs_ledger.specs.Kept.{Numbers, IsNumberedBy, IsStandKept}
 use Rattle.ufs_ledger.specs.Laws.{StandsOn}
-use Rattle.ufs_dir_tree.specs.Steps.{DirState, Step, Born, Grown, Put, Freed, after_all}
+use Rattle.ufs_dir_tree.specs.Steps.{DirState, Step, after_all}
+use Rattle.ufs_name_tree.specs.Notes.{is_touched}
 use Rattle.ufs_name_log.specs.Steps.{records_of}
 use Rattle.ufs_name_log.specs.Held.{HasState, MaySteps}
 use Rattle.ufs_name_log.specs.Laws.{change, AreOlder}
-
--- the step gives this inode another form
-abbrev pub is_of : ℕ → Step → Bool
-is_of inode (Born i kind) = i == inode
-is_of inode (Grown i block) = i == inode
-is_of inode (Put i slot d) = false
-is_of inode (Freed i) = i == inode
-
--- one of them does
-abbrev pub is_touched : List Step → ℕ → Bool
-is_touched xs inode = list_any (is_of inode) xs
 
 -- Each other inode has the form that it had.
 abbrev pub OthersStay : Geometry → Type 0

@@ -6,8 +6,7 @@ use Rattle.ufs_layout.specs.declared.geometry.Geometry.{Geometry}
 use Rattle.ufs_dirs.specs.Changes.{place_of}
 use Rattle.ufs_dirs.specs.Directory.{IsDirectory}
 use Rattle.ufs_dirs.specs.declared.Slot.{Slot}
-use Rattle.ufs_dir_tree.specs.DirTable.{DirTable, IsDirTable, dir_at, slots_at, blocks_at}
-use Rattle.ufs_dir_tree.specs.DirEdits.{IsMet}
+use Rattle.ufs_dir_tree.specs.DirTable.{DirTable, IsDirTable, IsMet, dir_at, slots_at, blocks_at}
 use Rattle.ufs_dir_tree.specs.Steps.{DirState, Step, Born, Grown, Put, Freed, after}
 use Rattle.ufs_name_log.specs.Held.{HasName, FitsName, MayPut, MayStep, HasSoundNames}
 

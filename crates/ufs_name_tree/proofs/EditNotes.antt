@@ -13,17 +13,19 @@ use Rattle.ufs_dirs.specs.Changes.{with_entry}
 use Rattle.ufs_dirs.specs.declared.Slot.{Slot}
 use Rattle.ufs_dir_tree.specs.DirTable.{DirTable, IsDirTable, no_dir, dir_at, blocks_at, found_at, found_of, inode_of}
 use Rattle.ufs_dir_tree.specs.DirCalls.{IsUnmet, Frees}
-use Rattle.ufs_dir_tree.specs.Steps.{DirState, Born, Grown, Put, Freed, GoesBy, grown, with_kind, table_after, table_after_all, adding, growing, clearing}
+use Rattle.ufs_dir_tree.specs.Steps.{DirState, Born, Grown, Put, Freed, GoesBy, MayMakeAll, grown, with_kind, table_after, table_after_all, adding, growing, clearing}
 use Rattle.ufs_dir_tree.specs.declared.found.Found.{Found}
 use Rattle.ufs_dir_tree.specs.declared.found.Found.TheVariants.{Dir, File}
 use Rattle.ufs_ilog.specs.Changes.{in_order}
 use Rattle.ufs_ilog.specs.Notes.{IsNotedBehind}
 use Rattle.ufs_name_tree.specs.NameTable.{NameTable, IsNameTable, file_at}
-use Rattle.ufs_name_tree.specs.Notes.{AreKindsOf, IsStateOf, GoesByNotes}
+use Rattle.ufs_name_tree.specs.Notes.{AreKindsOf, HasKinds, IsOfKind, IsStateOf, GoesByNotes}
 use Rattle.ufs_name_tree.specs.Records.{records_of, dir_delta, born_told, slot_told, grown_told, cleared_told, replaced_told, added_told}
 use Rattle.ufs_name_tree.proofs.Founds.{IsMetIn}
 use Rattle.ufs_name_tree.proofs.NoteEdits.{known_of, may_add, may_clear, may_free, may_move, swaps_of_add, swaps_of_clear, swaps_of_move, kinds_added, kinds_cleared, kinds_moved, renaming, NotBoth, goes_noted}
+use Rattle.ufs_name_tree.proofs.NoteFiles.{TouchesFiles, files_stay, file_goes, no_file_cleared, no_file_moved}
 use Rattle.ufs_name_tree.proofs.NoteKinds.{kinds_gone, kinds_without}
+use Rattle.ufs_name_tree.proofs.NoteNames.{kinds_of_add, kinds_of_clear, kinds_of_move}
 use Rattle.ufs_name_tree.proofs.StepSwaps.{put_alike}
 
 -- the same names with other notes
@@ -94,12 +96,16 @@ module _ (from to : ℕ) (left taken : Slot) (d : DentryForm) (t u : DirTable) w
 
 module _ (t u : NameTable) (is : IsNameTable t) (pool after : BlockSet) where
   module _ (dir : ℕ) (above : List (List ℕ)) (met : found_at t.dirs above ≡ Some (Dir dir)) (whole : IsDirectory (dir_at t.dirs dir)) (slot : Slot) where
+    born_kind : (g : Option ℕ) (d : DentryForm) → MayMakeAll t.dirs pool (growing dir g ++ adding dir slot d) → IsOfKind d
+    born_kind None d may = may.0.known
+    born_kind (Some b) d may = may.1.0.known
+
     pub add_noted : (g : Option ℕ) (d e : DentryForm) → e ≡ d → GoesBy t.dirs u.dirs pool after (growing dir g ++ adding dir slot d) → ((s : DirState) → IsStateOf t pool s → AreKindsOf u (with_kind d.inode d.kind s.kinds))
-        → IsNotedBehind t.noted u.noted (in_order (added_told u.dirs dir g slot e)) → GoesByNotes t u pool
-    add_noted g d e same goes kinds noted =
+        → TouchesFiles t u (growing dir g ++ adding dir slot d) → IsNotedBehind t.noted u.noted (in_order (added_told u.dirs dir g slot e)) → GoesByNotes t u pool
+    add_noted g d e same goes kinds files noted =
         let known = known_of t.dirs above dir is.table met whole in
         goes_noted t u pool dir above met (growing dir g ++ adding dir slot d) (swaps_of_add dir slot g d) goes.table (may_add t.dirs pool dir g slot d known goes.may)
-        (λ s at. subst (AreKindsOf u) (sym (kinds_added dir slot g d s)) (kinds s at))
+        (λ s at. subst (AreKindsOf u) (sym (kinds_added dir slot g d s)) (kinds s at)) files (λ has. kinds_of_add dir g slot d (born_kind g d goes.may))
         (in_order (added_told u.dirs dir g slot e)) (ap (λ (x : DentryForm). in_order (added_told u.dirs dir g slot x)) same ∙ ap in_order (told_add t.dirs u.dirs dir g slot d known.used.within goes.table)) noted
 
     pub remove_noted : (path : List (List ℕ)) (o e : Option Found) → e ≡ o → o ≡ found_at t.dirs path → GoesBy t.dirs u.dirs pool after (clearing dir slot o) → ((j : ℕ) → IsMetIn u.dirs (Dir j) → IsMetIn t.dirs (Dir j)) → u.files ≡ t.files
@@ -108,18 +114,20 @@ module _ (t u : NameTable) (is : IsNameTable t) (pool after : BlockSet) where
         let known = known_of t.dirs above dir is.table met whole in
         goes_noted t u pool dir above met (clearing dir slot o) (swaps_of_clear dir slot o) goes.table (may_clear t.dirs pool dir slot o known goes.may)
         (λ s at. subst (AreKindsOf u) (sym (kinds_cleared dir slot o s)) (kinds_gone t u s.kinds is at.kinds dirs files path pool after o stood unmet (λ some. frees) (λ none. let no = sym (ap (λ (x : Option Found). is_some x) none) ∙ stands in absurd cc)))
+        (files_stay t is u (clearing dir slot o) files (no_file_cleared t is path o stood dir slot)) (λ has. kinds_of_clear dir slot o)
         (in_order (cleared_told slot e)) (ap (λ (x : Option Found). in_order (cleared_told slot x)) same ∙ ap in_order (told_clear t.dirs dir slot o)) noted
 
   module _ (from to : ℕ) (source target : List (List ℕ)) (from_met : found_at t.dirs source ≡ Some (Dir from)) (to_met : found_at t.dirs target ≡ Some (Dir to)) (from_whole : IsDirectory (dir_at t.dirs from)) (to_whole : IsDirectory (dir_at t.dirs to)) (left taken : Slot) where
-    pub rename_noted : (path : List (List ℕ)) (dropped : Option Slot) (o e : Option Found) (g : Option ℕ) (d f : DentryForm) → d.inode < length t.dirs.dirs → f ≡ d → e ≡ o → o ≡ found_at t.dirs path → ((slot : Slot) → dropped ≡ Some slot → g ≡ None) → (dropped ≡ None → o ≡ None)
+    pub rename_noted : (path : List (List ℕ)) (dropped : Option Slot) (o e : Option Found) (g : Option ℕ) (d f : DentryForm) → d.inode < length t.dirs.dirs → (HasKinds t.dirs → IsOfKind d) → f ≡ d → e ≡ o → o ≡ found_at t.dirs path → ((slot : Slot) → dropped ≡ Some slot → g ≡ None) → (dropped ≡ None → o ≡ None)
         → GoesBy t.dirs u.dirs pool after (renaming from to left taken d dropped o g) → ((j : ℕ) → IsMetIn u.dirs (Dir j) → IsMetIn t.dirs (Dir j)) → u.files ≡ t.files
         → ((f : Found) → found_at t.dirs path ≡ Some f → IsUnmet u.dirs (inode_of f)) → (IsSome o → Frees t.dirs u.dirs pool after o) → (o ≡ None → u.dirs.free ≡ t.dirs.free)
         → IsNotedBehind t.noted u.noted (in_order (replaced_told dropped e ++ grown_told u.dirs to g ++ slot_told left free_slot ∷ slot_told taken f ∷ [])) → GoesByNotes t u pool
-    rename_noted path dropped o e g d f inode same found stood not_both none goes dirs files unmet frees free noted =
+    rename_noted path dropped o e g d f inode kind same found stood not_both none goes dirs files unmet frees free noted =
         let known_from = known_of t.dirs source from is.table from_met from_whole in
         let known_to = known_of t.dirs target to is.table to_met to_whole in
         goes_noted t u pool to target to_met (renaming from to left taken d dropped o g) (swaps_of_move from to left taken d dropped o g not_both) goes.table (may_move from to left taken d t.dirs pool dropped o g not_both known_from known_to inode goes.may)
         (λ s at. subst (AreKindsOf u) (sym (kinds_moved from to left taken d dropped o g s none)) (kinds_gone t u s.kinds is at.kinds dirs files path pool after o stood unmet frees free))
+        (files_stay t is u (renaming from to left taken d dropped o g) files (no_file_moved t is path o stood from to target to_met left taken d dropped g)) (λ has. kinds_of_move from to left taken d dropped o g (kind has))
         (in_order (replaced_told dropped e ++ grown_told u.dirs to g ++ slot_told left free_slot ∷ slot_told taken f ∷ []))
         ((λ i. in_order (replaced_told dropped (found i) ++ grown_told u.dirs to g ++ slot_told left free_slot ∷ slot_told taken (same i) ∷ []))
         ∙ ap in_order (told_move from to left taken d t.dirs u.dirs dropped o g not_both known_from.used.within known_to.used.within goes.table)) noted
@@ -130,6 +138,7 @@ module _ (t u : NameTable) (is : IsNameTable t) (pool after : BlockSet) where
   free_noted i numbered goes dirs free gone others noted =
       goes_noted t u set.empty 1 [] refl (Freed i ∷ []) (tt, tt) goes.table (may_free t.dirs set.empty 1 pool i goes.may)
       (λ s at. kinds_without t u s.kinds at.kinds dirs (λ j f has. numbered_before j f (cases_eq j i) has) i free (λ j met same. no_dir_of (file_at t i) numbered refl j met same) (λ j f has same. let no = sym has ∙ ap (file_at u) same ∙ gone in absurd cc))
+      (file_goes t is u i gone others) (λ has. (tt, tt))
       (Free i ∷ []) refl noted
     where
       numbered_before : (j f : ℕ) → (j ≡ i) ⊎ (j ≢ i) → file_at u j ≡ Some f → file_at t j ≡ Some f

@@ -9,6 +9,8 @@ pub mod ExtentLemmas
 pub mod StepOrder
 pub mod StepSwaps
 pub mod NoteKinds
+pub mod NoteFiles
+pub mod NoteNames
 pub mod NoteEdits
 pub mod NoteChains
 pub mod EditNotes

@@ -1,5 +1,5 @@
 -- Changes that are noted one behind the other.
-use Rattle.std.proofs.Common.{◌≡◌, inl, inr, List, [], ◌∷◌, ◌++◌, Option, Some, None, ap, sym, refl, ◌∙◌, subst}
+use Rattle.std.proofs.Common.{◌≡◌, ℕ, inl, inr, List, [], ◌∷◌, ◌++◌, Option, Some, None, ap, sym, refl, ◌∙◌, subst}
 use Rattle.std.specs.FinSet as set
 use Rattle.std.specs.Ordering.{nat_cmp}
 use Rattle.std.proofs.lemmas.Bool.{true≢false}
@@ -8,9 +8,10 @@ use Rattle.ufs_bitmap.specs.Blocks.{BlockSet}
 use Rattle.ufs_layout.specs.declared.records.LogRecord.{LogRecord}
 use Rattle.ufs_dir_tree.specs.DirTable.{DirTable}
 use Rattle.ufs_dir_tree.specs.Steps.{DirState, Step, after, after_all, table_after, table_after_all}
-use Rattle.ufs_name_tree.specs.NameTable.{NameTable}
-use Rattle.ufs_name_tree.specs.Notes.{AreKindsOf, IsStateOf, MayNoteAll, GoesByNotes}
+use Rattle.ufs_name_tree.specs.NameTable.{NameTable, IsNameTable, file_at}
+use Rattle.ufs_name_tree.specs.Notes.{AreKindsOf, IsStateOf, MayNoteAll, GoesByNotes, is_touched}
 use Rattle.ufs_name_tree.specs.Records.{record_of, records_of}
+use Rattle.ufs_name_tree.proofs.NoteFiles.{or_none, or_first, touched_on}
 use Rattle.ufs_name_tree.proofs.StepOrder.{all_after}
 
 records_on : (t : DirTable) (xs ys : List Step) → records_of t (xs ++ ys) ≡ records_of t xs ++ records_of (table_after_all xs t) ys
@@ -29,9 +30,16 @@ may_on : (s : DirState) (xs ys : List Step) → MayNoteAll s xs → MayNoteAll (
 may_on s [] ys first more = more
 may_on s (x ∷ xs) ys first more = (first.0, may_on (after x s) xs ys first.1 more)
 
+-- a file has one inode
+abbrev pub HasOneInode : NameTable → Type 0
+HasOneInode t = (i j f : ℕ) → file_at t i ≡ Some f → file_at t j ≡ Some f → i ≡ j
+
+pub one_inode : (t : NameTable) → IsNameTable t → (u : NameTable) → t ≡ u → HasOneInode u
+one_inode t is u same = subst HasOneInode same is.once
+
 -- nothing changed
-pub notes_stay : (t : NameTable) (pool : BlockSet) → GoesByNotes t t pool
-notes_stay t pool = by t.noted refl
+pub notes_stay : (t : NameTable) (pool : BlockSet) → HasOneInode t → GoesByNotes t t pool
+notes_stay t pool once = by t.noted refl
   where
     by : (n : Option (List LogRecord)) → t.noted ≡ n → GoesByNotes t t pool
     by None none = inl none
@@ -41,10 +49,14 @@ notes_stay t pool = by t.noted refl
       dirs = refl;
       may = λ s is. tt;
       kinds = λ s is. is.kinds;
+      kept = λ i f at now. refl;
+      given = λ i f none now. absurd (none i now);
+      stayed = λ i j f at now. once i j f now at;
+      named = λ has. has;
     })
 
-pub notes_same : (t u : NameTable) (pool : BlockSet) → u ≡ t → GoesByNotes t u pool
-notes_same t u pool same = subst (λ (x : NameTable). GoesByNotes t x pool) (sym same) (notes_stay t pool)
+pub notes_same : (t u : NameTable) (pool : BlockSet) → HasOneInode t → u ≡ t → GoesByNotes t u pool
+notes_same t u pool once same = subst (λ (x : NameTable). GoesByNotes t x pool) (sym same) (notes_stay t pool once)
 
 -- a state in which any pool's blocks are zeros is one for no block
 no_block : (old : NameTable) (pool : BlockSet) (s : DirState) → IsStateOf old pool s → IsStateOf old set.empty s
@@ -59,13 +71,21 @@ notes_less old new pool (inr on) = inr (record {
   dirs = on.dirs;
   may = λ s is. on.may s (no_block old pool s is);
   kinds = λ s is. on.kinds s (no_block old pool s is);
+  kept = on.kept;
+  given = on.given;
+  stayed = on.stayed;
+  named = on.named;
 })
 
--- and one that takes no block may follow any
-pub notes_on : (old mid new : NameTable) (pool : BlockSet) → GoesByNotes old mid pool → GoesByNotes mid new set.empty → GoesByNotes old new pool
-notes_on old mid new pool one (inl gone) = inl gone
-notes_on old mid new pool (inl gone) (inr on) = let was = on.noted.was in absurd cc
-notes_on old mid new pool (inr one) (inr on) = inr (record {
+-- each file's inode now is one that it had
+abbrev pub GivesNoInode : NameTable → NameTable → Type 0
+GivesNoInode old new = (i f : ℕ) → file_at new i ≡ Some f → file_at old i ≡ Some f
+
+-- and one that takes no block and gives no file an inode may follow any
+pub notes_on : (old mid new : NameTable) (pool : BlockSet) → GoesByNotes old mid pool → GoesByNotes mid new set.empty → GivesNoInode mid new → GoesByNotes old new pool
+notes_on old mid new pool one (inl gone) was = inl gone
+notes_on old mid new pool (inl gone) (inr on) was = let some = on.noted.was in absurd cc
+notes_on old mid new pool (inr one) (inr on) was = inr (record {
   steps = one.steps ++ on.steps;
   noted = record {
     before = one.noted.before;
@@ -78,6 +98,10 @@ notes_on old mid new pool (inr one) (inr on) = inr (record {
   dirs = on.dirs ∙ ap (table_after_all on.steps) one.dirs ∙ sym (table_on old.dirs one.steps on.steps);
   may = λ s is. may_on s one.steps on.steps (one.may s is) (on.may (after_all one.steps s) (between s is));
   kinds = λ s is. subst (λ (u : DirState). AreKindsOf new u.kinds) (sym (state_on s one.steps on.steps)) (on.kinds (after_all one.steps s) (between s is));
+  kept = λ i f at now. touched_on one.steps on.steps i ∙ or_none (is_touched one.steps i) (is_touched on.steps i) (one.kept i f at (was i f now)) (on.kept i f (was i f now) now);
+  given = λ i f none now. touched_on one.steps on.steps i ∙ or_first (is_touched one.steps i) (is_touched on.steps i) (one.given i f none (was i f now));
+  stayed = λ i j f at now. one.stayed i j f at (was i f now);
+  named = λ has. on.named (one.named has);
 })
   where
     before : on.noted.before ≡ one.noted.before ++ records_of old.dirs one.steps

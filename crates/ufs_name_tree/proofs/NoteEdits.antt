@@ -18,9 +18,11 @@ use Rattle.ufs_dir_tree.specs.declared.found.Found.TheVariants.{Dir, File}
 use Rattle.ufs_ilog.specs.Changes.{in_order}
 use Rattle.ufs_ilog.specs.Notes.{IsNotedBehind}
 use Rattle.ufs_name_tree.specs.NameTable.{NameTable}
-use Rattle.ufs_name_tree.specs.Notes.{AreKindsOf, IsStateOf, MayNoteAll, MayNoteFreed, GoesByNotes}
+use Rattle.ufs_name_tree.specs.Notes.{AreKindsOf, HasKinds, IsStateOf, MayNoteAll, MayNoteFreed, GoesByNotes}
 use Rattle.ufs_name_tree.specs.Records.{records_of}
+use Rattle.ufs_name_tree.proofs.NoteFiles.{TouchesFiles, ordered_touches}
 use Rattle.ufs_name_tree.proofs.NoteKinds.{kinds_after}
+use Rattle.ufs_name_tree.proofs.NoteNames.{PutKinds, kinds_all}
 use Rattle.ufs_name_tree.proofs.StepOrder.{IsSameChange, MaySwapAll, ordered, told, told_is, all_after, order_goes}
 use Rattle.ufs_name_tree.proofs.StepSwaps.{IsKnown, put_alike, put_counted, slot_alike, back, put_known, put_known_set, puts_swap, freed_swaps, grown_swaps}
 
@@ -188,7 +190,7 @@ module _ (dir : ℕ) (slot : Slot) where
 -- ---- a change
 
 module _ (old new : NameTable) (pool : BlockSet) (dir : ℕ) (above : List (List ℕ)) (met : found_at old.dirs above ≡ Some (Dir dir)) (xs : List Step) (swaps : MaySwapAll xs) (leads : new.dirs ≡ table_after_all xs old.dirs)
-    (may : MayBeNoted old.dirs pool dir xs) (kinds : (s : DirState) → IsStateOf old pool s → AreKindsOf new (after_all xs s).kinds) where
+    (may : MayBeNoted old.dirs pool dir xs) (kinds : (s : DirState) → IsStateOf old pool s → AreKindsOf new (after_all xs s).kinds) (files : TouchesFiles old new xs) (puts : HasKinds old.dirs → PutKinds xs) where
   -- a state in which they may, whatever the inodes are
   abbrev some : DirState
   some = record { table = old.dirs; kinds = λ i. 2; zeroed = λ b. true }
@@ -211,4 +213,8 @@ module _ (old new : NameTable) (pool : BlockSet) (dir : ℕ) (above : List (List
         dirs = leads ∙ sym (all_after some xs) ∙ ap (λ (u : DirState). u.table) (sym same.same) ∙ all_after some (ordered xs);
         may = λ s is. let now = in_state s is in now.may;
         kinds = λ s is. let now = in_state s is in subst (λ (u : DirState). AreKindsOf new u.kinds) (sym now.same) (kinds s is);
+        kept = λ i f at now. ordered_touches xs i ∙ files.kept i f at now;
+        given = λ i f none now. ordered_touches xs i ∙ files.given i f none now;
+        stayed = files.stayed;
+        named = λ has. subst HasKinds (sym leads) (kinds_all xs old.dirs (puts has) has);
       })

@@ -1,8 +1,9 @@
 -- What the notes of a tree's names say of a change of them.
-use Rattle.std.specs.Prelude.{ℕ, ◌≡◌, ◌≢◌, ◌*◌, ◌≤◌, ◌<◌, ◌⊎◌, ⊤, List, [], ◌∷◌, ◌++◌, length, true, IsTrue, Some, None}
+use Rattle.std.specs.Prelude.{ℕ, ◌≡◌, ◌≢◌, ◌*◌, ◌≤◌, ◌<◌, ◌⊎◌, ◌==◌, ⊤, List, [], ◌∷◌, ◌++◌, length, Bool, true, false, IsTrue, Some, None}
+use Rattle.std.specs.List.{list_any, slice_get}
 use Rattle.std.specs.FinSet as set
 use Rattle.ufs_base.specs.declared.sizes.TheConstants.{SLOTS_PER_BLOCK}
-use Rattle.ufs_layout.specs.DentryForm.{DentryForm, is_dentry}
+use Rattle.ufs_layout.specs.DentryForm.{DentryForm, is_dentry, is_named}
 use Rattle.ufs_bitmap.specs.Blocks.{BlockSet}
 use Rattle.ufs_dirs.specs.Changes.{IsSlot}
 use Rattle.ufs_dirs.specs.declared.Slot.{Slot}
@@ -64,6 +65,29 @@ abbrev pub MayNoteAll : DirState → List Step → Type 0
 MayNoteAll s [] = ⊤
 MayNoteAll s (x ∷ xs) = MayNote s x × MayNoteAll (after x s) xs
 
+-- ---- which inodes steps touch
+
+-- the step gives this inode another form
+abbrev pub is_of : ℕ → Step → Bool
+is_of inode (Born i kind) = i == inode
+is_of inode (Grown i block) = i == inode
+is_of inode (Put i slot d) = false
+is_of inode (Freed i) = i == inode
+
+-- one of them does
+abbrev pub is_touched : List Step → ℕ → Bool
+is_touched xs inode = list_any (is_of inode) xs
+
+-- ---- what names stand for
+
+-- a file, or a directory
+abbrev pub IsOfKind : DentryForm → Type 0
+IsOfKind d = (d.kind ≡ 1) ⊎ (d.kind ≡ 2)
+
+-- so each name does
+abbrev pub HasKinds : DirTable → Type 0
+HasKinds t = (i place : ℕ) (d : DentryForm) → slice_get (slots_at t i) place ≡ Some d → is_named d ≡ true → IsOfKind d
+
 -- ---- a change
 
 -- Steps lead from the old names to the new ones, with blocks of this pool, and their records stand behind what was noted.
@@ -73,6 +97,14 @@ pub record GoesNoted (old new : NameTable) (pool : BlockSet) : Type 0 where
   pub dirs : new.dirs ≡ table_after_all steps old.dirs
   pub may : (s : DirState) → IsStateOf old pool s → MayNoteAll s steps
   pub kinds : (s : DirState) → IsStateOf old pool s → AreKindsOf new (after_all steps s).kinds
+  -- they don't touch the inode of a file that keeps it
+  pub kept : (i f : ℕ) → file_at old i ≡ Some f → file_at new i ≡ Some f → is_touched steps i ≡ false
+  -- they touch the inode of a file that had none
+  pub given : (i f : ℕ) → ((j : ℕ) → file_at old j ≢ Some f) → file_at new i ≡ Some f → is_touched steps i ≡ true
+  -- and no file has another inode than it had
+  pub stayed : (i j f : ℕ) → file_at old j ≡ Some f → file_at new i ≡ Some f → i ≡ j
+  -- each name stands for a file or a directory still
+  pub named : HasKinds old.dirs → HasKinds new.dirs
 
 -- The notes tell the change, or nothing is noted any more.
 abbrev pub GoesByNotes : NameTable → NameTable → BlockSet → Type 0

@@ -9,21 +9,35 @@ use Rattle.ufs_files.specs.Files.{Files, AreFilesOf}
 use Rattle.ufs_model.specs.PosixTree.{PosixTree, IsTree, is_live}
 use Rattle.ufs_model.specs.PosixTree as tree
 use Rattle.ufs_model.specs.Posix.{forget}
-use Rattle.ufs_model.proofs.Facts.Lookups.{same_some, there_or_not, inserted_here, inserted_else, removed_here, removed_else}
+use Rattle.ufs_model.proofs.Facts.Lookups.{from_some, same_some, there_or_not, inserted_here, inserted_else, removed_here, removed_else}
 use Rattle.ufs_names.specs.NamesPart.{NamesPart, is_kept}
 use Rattle.ufs_names.specs.Calls.{FilesGoOn, no_bytes}
 use Rattle.ufs_names.specs.Steps.{Settles}
 use Rattle.ufs_names.specs.declared.holding.Holding.{Holding}
 use Rattle.ufs_names.proofs.LinkLemmas.{number_apart}
 
--- The files are those of the next tree, and went on to it.
-pub record FilesGo (t u : PosixTree) (fs fs' : Files) : Type 0 where
+-- The files are those of the next tree, and went on to it; and one that changed has other bytes in it, or is one of these.
+pub record FilesGoBut (These : ℕ → Type 0) (t u : PosixTree) (fs fs' : Files) : Type 0 where
+  pub tree : IsTree t
   pub files : AreFilesOf fs' u
   pub go_on : FilesGoOn t u fs fs'
+  pub changed : (f : ℕ) → (map.get fs' f ≡ map.get fs f) ⊎ ((map.get u.bytes f ≡ map.get t.bytes f → ⊥) ⊎ These f)
+
+-- Each that changed has.
+abbrev pub FilesGo : PosixTree → PosixTree → Files → Files → Type 0
+FilesGo t u fs fs' = FilesGoBut (λ _. ⊥) t u fs fs'
+
+pub but_these : (These : ℕ → Type 0) (t u : PosixTree) (fs fs' : Files) → FilesGo t u fs fs' → FilesGoBut These t u fs fs'
+but_these These t u fs fs' go = record { tree = go.tree; files = go.files; go_on = go.go_on; changed = λ f. by f (go.changed f) }
+  where
+    by : (f : ℕ) → (map.get fs' f ≡ map.get fs f) ⊎ ((map.get u.bytes f ≡ map.get t.bytes f → ⊥) ⊎ ⊥) → (map.get fs' f ≡ map.get fs f) ⊎ ((map.get u.bytes f ≡ map.get t.bytes f → ⊥) ⊎ These f)
+    by f (inl same) = inl same
+    by f (inr (inl differs)) = inr (inl differs)
+    by f (inr (inr never)) = absurd never
 
 -- ---- each file
 
-module _ (t u : PosixTree) (fs fs' : Files) (f : ℕ) where
+module _ (These : ℕ → Type 0) (t u : PosixTree) (fs fs' : Files) (f : ℕ) where
   -- it is as it was
   pub record Stays : Type 0 where
     pub hand : map.get fs' f ≡ map.get fs f
@@ -35,8 +49,9 @@ module _ (t u : PosixTree) (fs fs' : Files) (f : ℕ) where
     pub hand : map.get fs' f ≡ None
     pub bytes : map.get u.bytes f ≡ None
 
-  -- it was here, and has no byte any more
+  -- it is one of these, was here, and has no byte any more
   pub record Empties : Type 0 where
+    pub this : These f
     pub old : FileState
     pub was : map.get fs f ≡ Some old
     pub hand : map.get fs' f ≡ Some (no_bytes f old.inode)
@@ -99,13 +114,13 @@ module _ (t u : PosixTree) (is : IsTree t) (fs fs' : Files) (files : AreFilesOf 
       by (inl at) = let some = has_bytes t.next at.0 at.1 in let none = next_none in let no : Some at.0.content.bytes ≡ None = sym some ∙ none in cc
       by (inr none) = none
 
-  module _ (goes : (f : ℕ) → GoesOn t u fs fs' f) where
+  module _ (These : ℕ → Type 0) (goes : (f : ℕ) → GoesOn These t u fs fs' f) where
     fresh : (f i : ℕ) (r : FileState) → map.get fs' f ≡ Some (no_bytes f i) → map.get u.bytes f ≡ Some [] → map.get fs' f ≡ Some r → (r.file ≡ f) × IsFileOf r u
     fresh f i r hand bytes at =
         let same : no_bytes f i ≡ r = same_some (no_bytes f i) r (sym hand ∙ at) in
         (ap (λ (s : FileState). s.file) (sym same), subst (λ (s : FileState). IsFileOf s u) same bytes)
 
-    files_now : (f : ℕ) (r : FileState) → map.get fs' f ≡ Some r → GoesOn t u fs fs' f → (r.file ≡ f) × IsFileOf r u
+    files_now : (f : ℕ) (r : FileState) → map.get fs' f ≡ Some r → GoesOn These t u fs fs' f → (r.file ≡ f) × IsFileOf r u
     files_now f r at (inl s) =
         let here = files f r (sym s.hand ∙ at) in
         (here.0, ap (map.get u.bytes) here.0 ∙ s.bytes ∙ ap (map.get t.bytes) (sym here.0) ∙ here.1)
@@ -113,7 +128,7 @@ module _ (t u : PosixTree) (is : IsTree t) (fs fs' : Files) (files : AreFilesOf 
     files_now f r at (inr (inr (inl e))) = fresh f e.old.inode r e.hand e.bytes at
     files_now f r at (inr (inr (inr m))) = fresh f m.inode r m.hand m.bytes at
 
-    here_now : (f : ℕ) → GoesOn t u fs fs' f → is_some (map.get fs' f) ≡ ((is_some (map.get fs f) || eqb f t.next) && is_some (map.get u.bytes f))
+    here_now : (f : ℕ) → GoesOn These t u fs fs' f → is_some (map.get fs' f) ≡ ((is_some (map.get fs f) || eqb f t.next) && is_some (map.get u.bytes f))
     here_now f (inl s) = by (there_or_not (map.get fs f))
       where
         by : ((r : FileState) × (map.get fs f ≡ Some r)) ⊎ (map.get fs f ≡ None) → is_some (map.get fs' f) ≡ ((is_some (map.get fs f) || eqb f t.next) && is_some (map.get u.bytes f))
@@ -123,41 +138,60 @@ module _ (t u : PosixTree) (is : IsTree t) (fs fs' : Files) (files : AreFilesOf 
     here_now f (inr (inr (inl e))) = both _ _ _ _ (ap is_some e.hand) (ap is_some e.was) (ap is_some e.bytes)
     here_now f (inr (inr (inr m))) = new_both _ _ _ _ (ap is_some m.hand) (eq-eqb f t.next m.next) (ap is_some m.bytes)
 
-    stays_now : (f : ℕ) (s r : FileState) → map.get fs f ≡ Some s → map.get fs' f ≡ Some r → GoesOn t u fs fs' f → (r ≡ s) ⊎ (r ≡ no_bytes f s.inode)
+    stays_now : (f : ℕ) (s r : FileState) → map.get fs f ≡ Some s → map.get fs' f ≡ Some r → GoesOn These t u fs fs' f → (r ≡ s) ⊎ (r ≡ no_bytes f s.inode)
     stays_now f s r at at' (inl o) = inl (same_some r s (sym at' ∙ o.hand ∙ at))
     stays_now f s r at at' (inr (inl g)) = let none : Some r ≡ None = sym at' ∙ g.hand in cc
     stays_now f s r at at' (inr (inr (inl e))) =
         inr (same_some r (no_bytes f s.inode) (sym at' ∙ e.hand ∙ ap (λ (o : FileState). Some (no_bytes f o.inode)) (same_some e.old s (sym e.was ∙ at))))
     stays_now f s r at at' (inr (inr (inr m))) = let none : Some s ≡ None = sym at ∙ ap (map.get fs) m.next ∙ next_absent in cc
 
-    others_now : (f : ℕ) → map.get fs f ≡ None → (f ≡ t.next → ⊥) → GoesOn t u fs fs' f → map.get u.bytes f ≡ map.get t.bytes f
+    born_now : (f : ℕ) (r : FileState) → map.get fs f ≡ None → map.get fs' f ≡ Some r → GoesOn These t u fs fs' f → r ≡ no_bytes f r.inode
+    born_now f r none at (inl s) = let no : Some r ≡ None = sym at ∙ s.hand ∙ none in cc
+    born_now f r none at (inr (inl g)) = let no : Some r ≡ None = sym at ∙ g.hand in cc
+    born_now f r none at (inr (inr (inl e))) = let no : Some e.old ≡ None = sym e.was ∙ none in cc
+    born_now f r none at (inr (inr (inr m))) =
+        let same : r ≡ no_bytes f m.inode = same_some r (no_bytes f m.inode) (sym at ∙ m.hand) in same ∙ ap (no_bytes f) (sym (ap (λ (s : FileState). s.inode) same))
+
+    changed_now : (f : ℕ) → GoesOn These t u fs fs' f → (map.get fs' f ≡ map.get fs f) ⊎ ((map.get u.bytes f ≡ map.get t.bytes f → ⊥) ⊎ These f)
+    changed_now f (inl s) = inl s.hand
+    changed_now f (inr (inl g)) = inr (inl (λ same. by (from_some (map.get fs f) g.was) same))
+      where
+        by : (s : FileState) × (map.get fs f ≡ Some s) → map.get u.bytes f ≡ map.get t.bytes f → ⊥
+        by at same = let no : None ≡ Some at.0.content.bytes = sym g.bytes ∙ same ∙ has_bytes f at.0 at.1 in cc
+    changed_now f (inr (inr (inl e))) = inr (inr e.this)
+    changed_now f (inr (inr (inr m))) = inr (inl (λ same. let no : Some [] ≡ None = sym m.bytes ∙ same ∙ ap (map.get t.bytes) m.next ∙ next_none in cc))
+
+    others_now : (f : ℕ) → map.get fs f ≡ None → (f ≡ t.next → ⊥) → GoesOn These t u fs fs' f → map.get u.bytes f ≡ map.get t.bytes f
     others_now f none not (inl s) = s.bytes
     others_now f none not (inr (inl g)) = let no : true ≡ false = sym g.was ∙ ap is_some none in cc
     others_now f none not (inr (inr (inl e))) = let no : Some e.old ≡ None = sym e.was ∙ none in cc
     others_now f none not (inr (inr (inr m))) = absurd (not m.next)
 
-    pub files_go : FilesGo t u fs fs'
+    pub files_go : FilesGoBut These t u fs fs'
     files_go = record {
+      tree = is;
       files = λ f r at. files_now f r at (goes f);
       go_on = record {
         here = λ f. here_now f (goes f);
         stays = λ f s r at at'. stays_now f s r at at' (goes f);
+        born = λ f r none at. born_now f r none at (goes f);
         others = λ f none not. others_now f none not (goes f);
       };
+      changed = λ f. changed_now f (goes f);
     }
 
   -- ---- one file
 
   -- none changes
   pub files_same : fs' ≡ fs → ((f : ℕ) → map.get u.bytes f ≡ map.get t.bytes f) → FilesGo t u fs fs'
-  files_same same bytes = files_go (λ f. inl (record { hand = ap (λ (m : Files). map.get m f) same; bytes = bytes f }))
+  files_same same bytes = files_go (λ _. ⊥) (λ f. inl (record { hand = ap (λ (m : Files). map.get m f) same; bytes = bytes f }))
 
   module _ (g : ℕ) where
     -- it goes
     pub files_gone : is_some (map.get fs g) ≡ true → fs' ≡ map.remove fs g → u.bytes ≡ map.remove t.bytes g → FilesGo t u fs fs'
-    files_gone was hands bytes = files_go (λ f. by f (number_apart f g))
+    files_gone was hands bytes = files_go (λ _. ⊥) (λ f. by f (number_apart f g))
       where
-        by : (f : ℕ) → (f ≡ g) ⊎ (f ≡ g → ⊥) → GoesOn t u fs fs' f
+        by : (f : ℕ) → (f ≡ g) ⊎ (f ≡ g → ⊥) → GoesOn (λ _. ⊥) t u fs fs' f
         by f (inl e) = inr (inl (record {
           was = ap (λ f. is_some (map.get fs f)) e ∙ was;
           hand = ap (map.get fs') e ∙ ap (λ (m : Files). map.get m g) hands ∙ removed_here nat_cmp_total nat_cmp-IsAntisymmetric fs g;
@@ -169,11 +203,12 @@ module _ (t u : PosixTree) (is : IsTree t) (fs fs' : Files) (files : AreFilesOf 
         })
 
     -- it has no byte any more
-    pub files_emptied : (s : FileState) → map.get fs g ≡ Some s → fs' ≡ map.insert fs g (no_bytes g s.inode) → u.bytes ≡ map.insert t.bytes g [] → FilesGo t u fs fs'
-    files_emptied s was hands bytes = files_go (λ f. by f (number_apart f g))
+    pub files_emptied : (These : ℕ → Type 0) → These g → (s : FileState) → map.get fs g ≡ Some s → fs' ≡ map.insert fs g (no_bytes g s.inode) → u.bytes ≡ map.insert t.bytes g [] → FilesGoBut These t u fs fs'
+    files_emptied These this s was hands bytes = files_go These (λ f. by f (number_apart f g))
       where
-        by : (f : ℕ) → (f ≡ g) ⊎ (f ≡ g → ⊥) → GoesOn t u fs fs' f
+        by : (f : ℕ) → (f ≡ g) ⊎ (f ≡ g → ⊥) → GoesOn These t u fs fs' f
         by f (inl e) = inr (inr (inl (record {
+          this = subst These (sym e) this;
           old = s;
           was = ap (map.get fs) e ∙ was;
           hand = ap (map.get fs') e ∙ ap (λ (m : Files). map.get m g) hands ∙ inserted_here nat_cmp_total nat_cmp-IsAntisymmetric fs g (no_bytes g s.inode) ∙ ap (λ n. Some (no_bytes n s.inode)) (sym e);
@@ -186,9 +221,9 @@ module _ (t u : PosixTree) (is : IsTree t) (fs fs' : Files) (files : AreFilesOf 
 
   -- it is new
   pub files_made : (i : ℕ) → fs' ≡ map.insert fs t.next (no_bytes t.next i) → u.bytes ≡ map.insert t.bytes t.next [] → FilesGo t u fs fs'
-  files_made i hands bytes = files_go (λ f. by f (number_apart f t.next))
+  files_made i hands bytes = files_go (λ _. ⊥) (λ f. by f (number_apart f t.next))
     where
-      by : (f : ℕ) → (f ≡ t.next) ⊎ (f ≡ t.next → ⊥) → GoesOn t u fs fs' f
+      by : (f : ℕ) → (f ≡ t.next) ⊎ (f ≡ t.next → ⊥) → GoesOn (λ _. ⊥) t u fs fs' f
       by f (inl e) = inr (inr (inr (record {
         inode = i;
         next = e;

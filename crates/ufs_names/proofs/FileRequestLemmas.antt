@@ -94,14 +94,14 @@ module _ (n : NamesPart) (t u : PosixTree) (part : IsPartOf n t) (tree : IsTree 
     inodes = part.inodes;
   }
 
+pub same_part : (t : PosixTree) (p : PartName) → IsSamePart p t t
+same_part t (name.Client client) = λ fd. refl
+same_part t (name.Asked client) = tt
+same_part t (name.File file) = refl
+same_part t name.Names = (refl, refl, λ client file. refl)
+same_part t name.Store = tt
+
 pub keeps_names : KeepsNames
 keeps_names n t ask part asked kind some =
     part_like n t (posix t ask.client ask.op).0 part (keeps t ask.client ask.op part.tree)
-    ((local t t ask.client ask.op part.tree part.tree (λ p h. same p)).others name.Names (untouched t ask.client ask.op kind (ap (λ (o : Option Desc). is_some (file_in o)) (sym asked.desc) ∙ some)))
-  where
-    same : (p : PartName) → IsSamePart p t t
-    same (name.Client client) = λ fd. refl
-    same (name.Asked client) = tt
-    same (name.File file) = refl
-    same name.Names = (refl, refl, λ client file. refl)
-    same name.Store = tt
+    ((local t t ask.client ask.op part.tree part.tree (λ p h. same_part t p)).others name.Names (untouched t ask.client ask.op kind (ap (λ (o : Option Desc). is_some (file_in o)) (sym asked.desc) ∙ some)))

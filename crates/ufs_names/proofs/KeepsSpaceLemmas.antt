@@ -1,6 +1,6 @@
 -- Each kind of change keeps space: directories, files and pool stay apart and have together what they had, and files
 -- have the inodes that are told.
-use Rattle.std.proofs.Common.{◌≡◌, ℕ, ◌⊎◌, inl, inr, true, Some, None, is_some, ap, refl, sym, subst, ◌∙◌}
+use Rattle.std.proofs.Common.{◌≡◌, ℕ, ◌⊎◌, inl, inr, length, true, Some, None, is_some, ap, refl, sym, subst, ◌∙◌}
 use Rattle.std.specs.Cmp.{nat_cmp_total}
 use Rattle.std.specs.FinMap as map
 use Rattle.std.specs.FinMap.{nat_cmp-IsAntisymmetric}
@@ -63,6 +63,7 @@ keeps_then old mid new fs gs hs pool qool rool first second = record {
   inodes = λ all. second.inodes (first.inodes all);
   together = and_then old.tree.dirs mid.tree.dirs new.tree.dirs fs gs hs pool qool rool first.together second.together;
   apart = second.apart;
+  counted = second.counted ∙ first.counted;
 }
 
 -- what stays of directories and pool where a file goes
@@ -73,21 +74,23 @@ goes_apart t fs fs' pool pool' f hands left apart = (file_apart t t (λ i. refl)
 
 module _ (old new : NamesPart) (fs fs' : Files) (pool pool' : BlockSet) (apart : AreApart old.tree.dirs fs pool) where
   -- directories and pool exchange blocks
-  pub keeps_dirs : DirExchanges old.tree.dirs new.tree.dirs pool pool' → new.held ≡ old.held → fs' ≡ fs → KeepsSpace old new fs fs' pool pool'
-  keeps_dirs e held hands =
+  pub keeps_dirs : DirExchanges old.tree.dirs new.tree.dirs pool pool' → length new.tree.dirs.dirs ≡ length old.tree.dirs.dirs → new.held ≡ old.held → fs' ≡ fs → KeepsSpace old new fs fs' pool pool'
+  keeps_dirs e counted held hands =
       subst (λ (hs : Files). KeepsSpace old new fs hs pool pool') (sym hands)
       (record {
         inodes = λ all. subst (λ (m : Holdings). HaveInodes m fs) (sym held) all;
         together = dir_together old.tree.dirs new.tree.dirs fs pool pool' e;
         apart = dir_apart old.tree.dirs new.tree.dirs fs pool pool' e apart;
+        counted = counted;
       })
 
   -- a file and the pool exchange blocks
-  keeps_file : (f : ℕ) → Exchanges fs fs' pool pool' f → ((i : ℕ) → blocks_at new.tree.dirs i ≡ blocks_at old.tree.dirs i) → (HaveInodes old.held fs → HaveInodes new.held fs') → KeepsSpace old new fs fs' pool pool'
-  keeps_file f e same inodes = record {
+  keeps_file : (f : ℕ) → Exchanges fs fs' pool pool' f → ((i : ℕ) → blocks_at new.tree.dirs i ≡ blocks_at old.tree.dirs i) → length new.tree.dirs.dirs ≡ length old.tree.dirs.dirs → (HaveInodes old.held fs → HaveInodes new.held fs') → KeepsSpace old new fs fs' pool pool'
+  keeps_file f e same counted inodes = record {
     inodes = inodes;
     together = file_together old.tree.dirs new.tree.dirs same fs fs' pool pool' f e;
     apart = file_apart old.tree.dirs new.tree.dirs same fs fs' pool pool' f e apart;
+    counted = counted;
   }
 
   module _ (f : ℕ) where
@@ -100,29 +103,31 @@ module _ (old new : NamesPart) (fs fs' : Files) (pool pool' : BlockSet) (apart :
           inodes = λ all. subst (λ (m : Holdings). HaveInodes m fs) (sym held) (inodes_known old.held fs all f h here same);
           together = subst (λ (t : NameTable). HaveTheSame old.tree.dirs fs pool t.dirs fs pool) (sym tree) (the_same old.tree.dirs fs pool);
           apart = subst (λ (t : NameTable). AreApart t.dirs fs pool) (sym tree) apart;
+          counted = ap (λ (t : NameTable). length t.dirs.dirs) tree;
         })
 
     -- a file goes
-    pub keeps_gone : ((i : ℕ) → blocks_at new.tree.dirs i ≡ blocks_at old.tree.dirs i) → new.held ≡ map.remove old.held f → fs' ≡ map.remove fs f → pool' ≡ set.union pool (set.from_list (file_set.blocks_at fs f))
+    pub keeps_gone : ((i : ℕ) → blocks_at new.tree.dirs i ≡ blocks_at old.tree.dirs i) → length new.tree.dirs.dirs ≡ length old.tree.dirs.dirs → new.held ≡ map.remove old.held f → fs' ≡ map.remove fs f → pool' ≡ set.union pool (set.from_list (file_set.blocks_at fs f))
         → KeepsSpace old new fs fs' pool pool'
-    keeps_gone same held hands left =
-        keeps_file f (removed fs fs' pool pool' f hands left) same
+    keeps_gone same counted held hands left =
+        keeps_file f (removed fs fs' pool pool' f hands left) same counted
         (λ all. subst (λ (k : Holdings × Files). HaveInodes k.0 k.1) (λ i. (sym held i, sym hands i)) (inodes_left old.held fs all f))
 
     -- a file is emptied, and this is known of it now
     pub keeps_emptied : (s : FileState) (h : Holding) → (HaveInodes old.held fs → h.inode ≡ s.inode) → new.tree ≡ old.tree → new.held ≡ map.insert old.held f h → fs' ≡ map.insert fs f (no_bytes f s.inode)
         → pool' ≡ set.union pool (set.from_list (file_set.blocks_at fs f)) → KeepsSpace old new fs fs' pool pool'
     keeps_emptied s h same tree held hands left =
-        keeps_file f (emptied fs fs' pool pool' f (no_bytes f s.inode) refl hands left) (λ i. ap (λ (t : NameTable). blocks_at t.dirs i) tree)
+        keeps_file f (emptied fs fs' pool pool' f (no_bytes f s.inode) refl hands left) (λ i. ap (λ (t : NameTable). blocks_at t.dirs i) tree) (ap (λ (t : NameTable). length t.dirs.dirs) tree)
         (λ all. subst (λ (k : Holdings × Files). HaveInodes k.0 k.1) (λ i. (sym held i, sym hands i)) (inodes_with old.held fs all f s.inode h (no_bytes f s.inode) (same all) refl))
 
     -- a file is new, and a directory may get a block for its name
-    pub keeps_made : (i : ℕ) (h : Holding) → map.get fs f ≡ None → h.inode ≡ i → DirExchanges old.tree.dirs new.tree.dirs pool pool' → new.held ≡ map.insert old.held f h → fs' ≡ map.insert fs f (no_bytes f i)
+    pub keeps_made : (i : ℕ) (h : Holding) → map.get fs f ≡ None → h.inode ≡ i → DirExchanges old.tree.dirs new.tree.dirs pool pool' → length new.tree.dirs.dirs ≡ length old.tree.dirs.dirs → new.held ≡ map.insert old.held f h → fs' ≡ map.insert fs f (no_bytes f i)
         → KeepsSpace old new fs fs' pool pool'
-    keeps_made i h absent same e held hands = record {
+    keeps_made i h absent same e counted held hands = record {
       inodes = λ all. subst (λ (k : Holdings × Files). HaveInodes k.0 k.1) (λ j. (sym held j, sym hands j)) (inodes_with old.held fs all f i h (no_bytes f i) same refl);
       together = and_then old.tree.dirs old.tree.dirs new.tree.dirs fs fs' fs' pool pool pool' (file_together old.tree.dirs old.tree.dirs (λ j. refl) fs fs' pool pool f comes) (dir_together old.tree.dirs new.tree.dirs fs' pool pool' e);
       apart = dir_apart old.tree.dirs new.tree.dirs fs' pool pool' e (file_apart old.tree.dirs old.tree.dirs (λ j. refl) fs fs' pool pool f comes apart);
+      counted = counted;
     }
       where
         comes : Exchanges fs fs' pool pool f

@@ -1,5 +1,5 @@
 -- Which live files a request touches, by what the names know of them.
-use Rattle.std.proofs.Common.{◌≡◌, ℕ, zero, suc, ◌<◌, ◌⊎◌, inl, inr, List, [], ◌∷◌, ◌++◌, Bool, true, false, cond, ◌||◌, map, Option, Some, None, is_some, is_none, unwrap_or, arith, ap, refl, sym, subst, ◌∙◌, bytes_eq, append_assoc}
+use Rattle.std.proofs.Common.{◌≡◌, ℕ, zero, suc, ◌<◌, ◌≤◌, ◌⊎◌, length, inl, inr, List, [], ◌∷◌, ◌++◌, Bool, true, false, cond, ◌||◌, map, Option, Some, None, is_some, is_none, unwrap_or, arith, ap, refl, sym, subst, ◌∙◌, bytes_eq, append_assoc}
 use Rattle.std.specs.Prelude.{IsSome, Contains}
 use Rattle.std.specs.Cmp.{nat_cmp_total, eq_by_cmp_equiv}
 use Rattle.std.specs.FinMap as fin
@@ -317,6 +317,10 @@ one_needed t client request free file needs files is =
 pub listed_rises : (file : Option ℕ) → IsStrictlyIncreasing (listed file)
 listed_rises None k less = absurd (omega (arith, less))
 listed_rises (Some g) k less = absurd (omega (arith, less))
+
+pub listed_few : (file : Option ℕ) (files : List ℕ) → files ≡ listed file → length files ≤ 1
+listed_few None files is = let none = ap (λ (xs : List ℕ). length xs) is in omega (arith, none)
+listed_few (Some g) files is = let one = ap (λ (xs : List ℕ). length xs) is in omega (arith, one)
 
 -- Where the hands of these are here, the request has what it touches.
 pub are_gathered : (t : PosixTree) (ask : Ask) (files : List ℕ) (fs : Files) → AreFilesIn t (touched_parts t ask.client ask.op) files → AreHere files fs → AreGathered t ask fs

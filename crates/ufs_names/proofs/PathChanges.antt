@@ -31,22 +31,22 @@ use Rattle.ufs_file.specs.Hand.{FileState}
 use Rattle.ufs_files.specs.Files.{Files, AreFilesOf}
 use Rattle.ufs_names.specs.NamesPart.{NamesPart, IsPartOf, holding_of, without_name}
 use Rattle.ufs_names.specs.Steps.{GoesHere, KeepsFiles, LosesName, Opens, OpensFile, Removes}
-use Rattle.ufs_names.specs.Calls.{IsServed, no_bytes}
+use Rattle.ufs_names.specs.Calls.{IsServed, IsTouched, no_bytes}
 use Rattle.ufs_names.specs.PathCalls.{IsAllowed}
 use Rattle.ufs_dir_tree.specs.declared.found.Found.{Found}
 use Rattle.ufs_dir_tree.specs.declared.found.Found.TheVariants.{Dir, File}
 use Rattle.ufs_names.proofs.PartLemmas.{part_mkdir, part_rmdir, part_unlink}
 use Rattle.ufs_names.proofs.OpenPartLemmas.{part_open_dir, part_open_file, part_open_new}
 use Rattle.ufs_names.proofs.AllowedLemmas.{rmdir_allowed}
-use Rattle.ufs_names.proofs.ServedLemmas.{served_as}
-use Rattle.ufs_names.proofs.FileLemmas.{FilesGo, files_same, files_emptied, files_made, files_settle}
+use Rattle.ufs_names.proofs.ServedLemmas.{served_as, served_but}
+use Rattle.ufs_names.proofs.FileLemmas.{FilesGo, FilesGoBut, but_these, files_same, files_emptied, files_made, files_settle}
 use Rattle.ufs_names.proofs.HolderLemmas.{kept_is_live}
 use Rattle.ufs_names.proofs.LinkLemmas.{is_named, file_there, unnamed_gone}
 use Rattle.ufs_names.proofs.GatheredLemmas.{dropped, goes_here, reached_here}
 use Rattle.ufs_names.proofs.PartFacts.{file_told}
 use Rattle.ufs_model.specs.Asks.{desc_of_fd, fd_told}
 use Rattle.ufs_model.proofs.Facts.Allowed.{first_none}
-use Rattle.ufs_names.proofs.PathConditions.{are_names, file_found, gathered, let_be, named, node_found, stands_found}
+use Rattle.ufs_names.proofs.PathConditions.{are_names, file_found, gathered, let_be, named, node_found, stands_found, touches}
 
 -- the descriptor that an `open` gives
 open_told : (t : PosixTree) (client : ℕ) (whole : List ℕ) (m : Mode) (o : Option Node) (next : ℕ) → next ≡ t.next
@@ -178,32 +178,41 @@ module _ (keeps : KeepsTrees) (n : NamesPart) (fs : Files) (t : PosixTree) (ask 
         part_open_file keeps n t ask.client part p read write creat excl trunc append free file.0 (ap (node_at n.tree) at ∙ file.2) (sixteen i file.0 refl file.1) less file.3 now fs fs' opened
 
     -- the file that `trunc` empties is here
-    pub emptied_here : (i f : ℕ) → found ≡ Some (File i) → file_at n.tree i ≡ Some f → trunc ≡ true → (s : FileState) × (map.get fs f ≡ Some s)
-    emptied_here i f e numbered cut =
+    cut_reached : (i f : ℕ) → found ≡ Some (File i) → file_at n.tree i ≡ Some f → trunc ≡ true → touched.IsPartOf (reached t ask.client ask.op) (part_name.File f) × IsSome (map.get t.bytes f)
+    cut_reached i f e numbered cut =
         let file = file_found n fs t ask names found is i e in
         let same = same_some file.0 f (sym file.1 ∙ numbered) in
-        let stands : walk.node_at t.paths p ≡ Some (node.File f) = stands_found n fs t ask names found is request of p refl ∙ sym (node_found n fs t ask names found is) ∙ file.2 ∙ ap (λ f. Some (node.File f)) same in
-        gathered n fs t ask names found is f (subst (λ (r : Op). touched.IsPartOf (reached t ask.client r) (part_name.File f)) (sym of)
-        (inr (subst (λ (r : Option Errno). touched.IsPartOf (if is_some r then [] else opened_part t.next (is_some (walk.node_at t.paths p)) (file_of (walk.node_at t.paths p)) trunc) (part_name.File f)) (sym free)
-        (subst (λ (o : Option Node). touched.IsPartOf (opened_part t.next (is_some o) (file_of o) trunc) (part_name.File f)) (sym stands)
-        (subst (λ b. touched.IsPartOf (if b then part_name.File f ∷ [] else []) (part_name.File f)) (sym cut) (inl refl))))))
-        (subst (λ f. IsSome (map.get t.bytes f)) same file.3)
+        let stands : walk.node_at t.paths p ≡ Some (node.File f) = stands_found n fs t ask names found is request of p refl ∙ sym (node_found n fs t ask names found is) ∙ file.2 ∙ ap (λ f. Some (node.File f)) same in (
+          subst (λ (r : Op). touched.IsPartOf (reached t ask.client r) (part_name.File f)) (sym of)
+              (inr (subst (λ (r : Option Errno). touched.IsPartOf (if is_some r then [] else opened_part t.next (is_some (walk.node_at t.paths p)) (file_of (walk.node_at t.paths p)) trunc) (part_name.File f)) (sym free)
+              (subst (λ (o : Option Node). touched.IsPartOf (opened_part t.next (is_some o) (file_of o) trunc) (part_name.File f)) (sym stands)
+              (subst (λ b. touched.IsPartOf (if b then part_name.File f ∷ [] else []) (part_name.File f)) (sym cut) (inl refl))))),
+          subst (λ f. IsSome (map.get t.bytes f)) same file.3,
+        )
 
-    files_opened : (o : Option Found) → found ≡ o → Opens n now fs fs' ask.client trunc o → FilesGo t (open_node t ask.client (whole_of p) mode (option_map (node_of n.tree) o)) fs fs'
+    pub emptied_here : (i f : ℕ) → found ≡ Some (File i) → file_at n.tree i ≡ Some f → trunc ≡ true → (s : FileState) × (map.get fs f ≡ Some s)
+    emptied_here i f e numbered cut = let has = cut_reached i f e numbered cut in gathered n fs t ask names found is f has.0 has.1
+
+    still : (u : PosixTree) → FilesGo t u fs fs' → FilesGoBut (IsTouched t ask) t u fs fs'
+    still u go = but_these (IsTouched t ask) t u fs fs' go
+
+    files_opened : (o : Option Found) → found ≡ o → Opens n now fs fs' ask.client trunc o → FilesGoBut (IsTouched t ask) t (open_node t ask.client (whole_of p) mode (option_map (node_of n.tree) o)) fs fs'
     files_opened None e adds =
-        files_made t (open_node t ask.client (whole_of p) mode None) part.tree fs fs' is.all.files adds.inode (adds.files ∙ ap (λ k. map.insert fs k (no_bytes k adds.inode)) part.next) refl
-    files_opened (Some (Dir i)) e opens = files_same t (open_node t ask.client (whole_of p) mode (Some node.Dir)) part.tree fs fs' is.all.files opens.1 (λ f. refl)
+        still (open_node t ask.client (whole_of p) mode None) (files_made t (open_node t ask.client (whole_of p) mode None) part.tree fs fs' is.all.files adds.inode (adds.files ∙ ap (λ k. map.insert fs k (no_bytes k adds.inode)) part.next) refl)
+    files_opened (Some (Dir i)) e opens =
+        still (open_node t ask.client (whole_of p) mode (Some node.Dir)) (files_same t (open_node t ask.client (whole_of p) mode (Some node.Dir)) part.tree fs fs' is.all.files opens.1 (λ f. refl))
     files_opened (Some (File i)) e opens =
         let file = file_found n fs t ask names found is i e in
         let opened = subst (OpensFile n now fs fs' ask.client trunc) (ap (λ o. unwrap_or o 0) file.1) opens in
-        subst (λ f. FilesGo t (open_node t ask.client (whole_of p) mode (Some (node.File f))) fs fs') (sym (ap (λ o. unwrap_or o 0) file.1)) (by file.0 file.1 opened trunc refl)
+        subst (λ f. FilesGoBut (IsTouched t ask) t (open_node t ask.client (whole_of p) mode (Some (node.File f))) fs fs') (sym (ap (λ o. unwrap_or o 0) file.1)) (by file.0 file.1 opened trunc refl)
       where
         by : (f : ℕ) → file_at n.tree i ≡ Some f → OpensFile n now fs fs' ask.client trunc f → (b : Bool) → trunc ≡ b
-            → FilesGo t (with_fd (cond {A = PosixTree} b (with_bytes t (Some f) []) t) ask.client (new_fd t ask.client) (desc_of mode (Some f))) fs fs'
+            → FilesGoBut (IsTouched t ask) t (with_fd (cond {A = PosixTree} b (with_bytes t (Some f) []) t) ask.client (new_fd t ask.client) (desc_of mode (Some f))) fs fs'
         by f numbered opened true cut =
             let hand = emptied_here i f e numbered cut in
-            files_emptied t (with_fd (with_bytes t (Some f) []) ask.client (new_fd t ask.client) (desc_of mode (Some f))) part.tree fs fs' is.all.files f hand.0 hand.1 (opened.emptied cut hand.0 hand.1) refl
-        by f numbered opened false keep = files_same t (with_fd t ask.client (new_fd t ask.client) (desc_of mode (Some f))) part.tree fs fs' is.all.files (opened.kept keep) (λ f. refl)
+            files_emptied t (with_fd (with_bytes t (Some f) []) ask.client (new_fd t ask.client) (desc_of mode (Some f))) part.tree fs fs' is.all.files f (IsTouched t ask) (touches n fs t ask names found is f (cut_reached i f e numbered cut).0) hand.0 hand.1 (opened.emptied cut hand.0 hand.1) refl
+        by f numbered opened false keep =
+            still (with_fd t ask.client (new_fd t ask.client) (desc_of mode (Some f))) (files_same t (with_fd t ask.client (new_fd t ask.client) (desc_of mode (Some f))) part.tree fs fs' is.all.files (opened.kept keep) (λ f. refl))
 
     pub served_open : ask.client < 16 → (m : Mode) → Some m ≡ mode_asked ask.op → (found ≡ None → SetsNode (node_at n.tree) (node_at now.tree) names (Some (node.File n.next)))
         → ((i f : ℕ) → found ≡ Some (File i) → file_at n.tree i ≡ Some f → length (holding_of n.held f).clients ≡ 16) → Opens n now fs fs' ask.client m.trunc found
@@ -211,9 +220,9 @@ module _ (keeps : KeepsTrees) (n : NamesPart) (fs : Files) (t : PosixTree) (ask 
     served_open less m asked sets sixteen opens desc told =
         let m_is = same_some m mode (asked ∙ ap mode_asked of) in
         let opened = subst (λ (m : Mode). Opens n now fs fs' ask.client m.trunc found) m_is opens in
-        served_as t ask now fs fs' request (Some desc) of free
+        served_but t ask now fs fs' request (Some desc) of free
         (part_opened found refl less sets sixteen opened)
-        (subst (λ (u : PosixTree). FilesGo t u fs fs') (sym (opened_node found refl)) (files_opened found refl opened))
+        (subst (λ (u : PosixTree). FilesGoBut (IsTouched t ask) t u fs fs') (sym (opened_node found refl)) (files_opened found refl opened))
         (ap Some told ∙ ap (λ (m : Mode). Some (desc_of m (file_named (option_map (node_of n.tree) found) n.next))) m_is
         ∙ ap (λ o. Some (desc_of mode (file_named o n.next))) (sym (stands_found n fs t ask names found is request of p refl))
         ∙ open_told t ask.client (whole_of p) mode (walk.node_at t.paths p) n.next part.next)

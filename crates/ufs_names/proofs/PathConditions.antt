@@ -26,6 +26,7 @@ use Rattle.ufs_name_tree.specs.NameTable.{file_at, node_at, node_of}
 use Rattle.ufs_dir_tree.specs.DirCalls.{IsBare, MayGo}
 use Rattle.ufs_file.specs.Hand.{FileState}
 use Rattle.ufs_files.specs.Files.{Files}
+use Rattle.ufs_names.specs.Calls.{IsTouched}
 use Rattle.ufs_names.specs.NamesPart.{NamesPart}
 use Rattle.ufs_names.specs.PathCalls.{path_asked, IsAllowed}
 use Rattle.ufs_dir_tree.specs.declared.found.Found.{Found}
@@ -127,8 +128,11 @@ module _ (n : NamesPart) (fs : Files) (t : PosixTree) (ask : Ask) (names : List 
   -- ---- what is gathered
 
   -- what a request on the path reaches is here, where it has bytes
+  pub touches : (f : ℕ) → touched.IsPartOf (reached t ask.client ask.op) (part.File f) → IsTouched t ask f
+  touches f at = inr (subst (λ (o : Option Errno). touched.IsPartOf (if is_some o then [] else reached t ask.client ask.op) (part.File f)) (sym own) at)
+
   pub gathered : (f : ℕ) → touched.IsPartOf (reached t ask.client ask.op) (part.File f) → IsSome (map.get t.bytes f) → (s : FileState) × (map.get fs f ≡ Some s)
-  gathered f at has = from_some (map.get fs f) (is.all.gathered f (inr (subst (λ (o : Option Errno). touched.IsPartOf (if is_some o then [] else reached t ask.client ask.op) (part.File f)) (sym own) at)) has)
+  gathered f at has = from_some (map.get fs f) (is.all.gathered f (touches f at) has)
 
   -- a file of which the size is asked is here
   pub hand_found : (i : ℕ) → found ≡ Some (File i) → (p : List ℕ) → ask.op ≡ op.Stat p → (f : ℕ) → file_at n.tree i ≡ Some f → (s : FileState) × (map.get fs f ≡ Some s)

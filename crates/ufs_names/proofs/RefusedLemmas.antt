@@ -45,6 +45,7 @@ served_refused n t ask fs e reply desc part files asked is reply_is desc_is =
       told = subst (λ (p : PosixTree × Reply). IsDescAfter t.fds p.0.fds ask.client (fd_told ask.op (Refused e)) ask.desc) (sym whole)
           (record { this = asked.desc ∙ ap (desc_of_fd t.fds ask.client) (sym (told_refused ask.op e)); others = λ c m apart. refl });
       go_on = go.go_on;
+      untouched = λ f not. refl;
     })
   where
     whole : posix t ask.client ask.op ≡ (t, Refused e)

@@ -45,8 +45,13 @@ no_bytes file inode = record { file = file; inode = inode; extents = []; content
 pub record FilesGoOn (before after : PosixTree) (old new : Files) : Type 0 where
   pub here : (f : ℕ) → is_some (map.get new f) ≡ ((is_some (map.get old f) || (f == before.next)) && is_some (map.get after.bytes f))
   pub stays : (f : ℕ) (s r : FileState) → map.get old f ≡ Some s → map.get new f ≡ Some r → (r ≡ s) ⊎ (r ≡ no_bytes f s.inode)
+  pub born : (f : ℕ) (r : FileState) → map.get old f ≡ None → map.get new f ≡ Some r → r ≡ no_bytes f r.inode
   -- and no file changes that isn't here
   pub others : (f : ℕ) → map.get old f ≡ None → f ≢ before.next → map.get after.bytes f ≡ map.get before.bytes f
+
+-- the request touches the file
+abbrev pub IsTouched : PosixTree → Ask → ℕ → Type 0
+IsTouched t ask f = touched.IsPartOf (touched_parts t ask.client ask.op) (part.File f)
 
 -- The reply is POSIX's on the tree, and the part and the files go on with the tree; this is what the request's
 -- descriptor stands for afterwards.
@@ -56,6 +61,8 @@ pub record IsServed (t : PosixTree) (ask : Ask) (new : NamesPart) (fs fs' : File
   pub files : AreFilesOf fs' (posix t ask.client ask.op).0
   pub told : IsDescAfter t.fds (posix t ask.client ask.op).0.fds ask.client (fd_told ask.op reply) desc
   pub go_on : FilesGoOn t (posix t ask.client ask.op).0 fs fs'
+  -- a file that the request doesn't touch is as it was
+  pub untouched : (f : ℕ) → (IsTouched t ask f → ⊥) → map.get fs' f ≡ map.get fs f
 
 -- Each file that is here has the inode that is told of it.
 abbrev pub HaveInodes : Holdings → Files → Type 0

@@ -1,5 +1,5 @@
 -- One step of the names' part, with the files that it is lent and the pool.
-use Rattle.std.specs.Prelude.{ℕ, ◌≡◌, ◌≢◌, ◌+◌, List, Bool, true, false, Option, Some, None, IsSome, unwrap_or}
+use Rattle.std.specs.Prelude.{ℕ, ◌≡◌, ◌≢◌, ◌+◌, List, length, Bool, true, false, Option, Some, None, IsSome, unwrap_or}
 use Rattle.std.specs.FinMap as map
 use Rattle.ufs_bitmap.specs.Blocks.{BlockSet}
 use Rattle.ufs_dir_tree.specs.declared.found.Found.{Found}
@@ -14,11 +14,13 @@ use Rattle.ufs_names.specs.Calls.{HaveInodes, no_bytes}
 use Rattle.ufs_names.specs.Space.{AreApart, HaveTheSame}
 use Rattle.ufs_names.specs.declared.holding.Holding.{Holding}
 
--- Directories, files and pool stay apart and have together what they had, and files have the inodes that are told.
+-- Directories, files and pool stay apart and have together what they had, files have the inodes that are told, and the table has as
+-- many inodes as it had.
 pub record KeepsSpace (old new : NamesPart) (fs fs' : Files) (pool pool' : BlockSet) : Type 0 where
   pub inodes : HaveInodes old.held fs → HaveInodes new.held fs'
   pub together : HaveTheSame old.tree.dirs fs pool new.tree.dirs fs' pool'
   pub apart : AreApart new.tree.dirs fs' pool'
+  pub counted : length new.tree.dirs.dirs ≡ length old.tree.dirs.dirs
 
 -- ---- a file goes that nothing keeps any more
 

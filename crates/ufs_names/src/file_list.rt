@@ -4,6 +4,7 @@ ghost use Rattle.std.specs.Prelude.{◌≡◌, IfOk};
 
 use crate::hold_map::HoldMap;
 use crate::holding::Holding;
+use crate::names::Names;
 use std::alloc::Global;
 use std::collections::BTreeMap;
 use std::marker::Model;
@@ -72,6 +73,18 @@ impl HoldMap {
         let _count = self.entries.len();
         let files = keys_of(alloc, &self.entries)?;
         Ok(FileList::from_vec(files))
+    }
+}
+
+impl Names {
+    ghost use Rattle.std.specs.Prelude.{◌≡◌, IfOk};
+    ghost use Rattle.std.specs.FinMap as map;
+
+    /// The live files, by rising number.
+    pub fn live(&self) -> Result<FileList, Memory>
+        ensures { IfOk result (λ files. files ≡ map.keys self.now.held) }
+    {
+        self.held.files(self.alloc)
     }
 }
 

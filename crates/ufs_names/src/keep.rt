@@ -41,6 +41,8 @@ impl Names {
             self.tree.free_file(holding.inode, pool);
             return;
         }
+        // A file has one inode.
+        self.tree.is_table();
         match self.held.put(file, holding) {
             Ok(()) => {}
             Err(_) => unreachable!(),

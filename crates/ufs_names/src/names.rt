@@ -139,6 +139,7 @@ impl Names {
         ensures inodes { HaveInodes self.old.held files.old → HaveInodes self.new.held files.new }
         ensures together { HaveTheSame self.old.tree.dirs files.old pool.old self.new.tree.dirs files.new pool.new }
         ensures apart { AreApart self.new.tree.dirs files.new pool.new }
+        ensures counted { length self.new.tree.dirs.dirs ≡ length self.old.tree.dirs.dirs }
         // what the disk is to be told of it is noted, where something is noted still
         ensures noted { GoesByNotes self.old.tree self.new.tree pool.old }
     {

@@ -12,7 +12,7 @@ use ufs_model::{Ask, Op};
 use ufs_path::PathText;
 
 impl Names {
-    ghost use Rattle.std.specs.Prelude.{◌≡◌, ◌≢◌, ◌<◌, ℕ, List, Option, Some, None, IfOk};
+    ghost use Rattle.std.specs.Prelude.{◌≡◌, ◌≢◌, ◌<◌, ◌≤◌, ℕ, List, length, Option, Some, None, IfOk};
     ghost use Rattle.std.specs.List.Sorted.{IsStrictlyIncreasing};
     ghost use Rattle.std.specs.Option.{option_map};
     ghost use Rattle.ufs_files.specs.Files.{Files};
@@ -35,6 +35,8 @@ impl Names {
         ensures needed { IfOk result (λ files. (t : PosixTree) → IsPartOf self.now t → IsAsk t ask.now → AreFilesIn t (touched_parts t ask.now.client ask.now.op) files) }
         ensures gathered { IfOk result (λ files. (t : PosixTree) (fs : Files) → IsPartOf self.now t → IsAsk t ask.now → AreHere files fs → AreGathered t ask.now fs) }
         ensures rising { IfOk result (λ files. IsStrictlyIncreasing files) }
+        // all for a `sync`, and else one at most
+        ensures few { ask.now.op ≢ op.Sync → IfOk result (λ files. length files ≤ 1) }
     {
         if own_refusal(&ask.op, ask.desc, ask.fd).is_some() {
             return FileList::of(self.alloc, None);

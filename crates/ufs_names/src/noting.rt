@@ -4,6 +4,7 @@ use ufs_ilog::NameNotes;
 
 impl Names {
     ghost use Rattle.std.specs.Prelude.{◌≡◌, Some, None, []};
+    ghost use Rattle.ufs_name_tree.specs.NameTable.{IsNameTable};
     ghost use Rattle.ufs_names.specs.Notes.{with_notes};
 
     /// From now on each change is noted. What was noted before is lost.
@@ -19,6 +20,13 @@ impl Names {
         ensures rest { self.new ≡ with_notes None self.old }
     {
         self.tree.take_notes()
+    }
+
+    /// What holds of every table holds of these names', whatever was asked of them.
+    pub fn is_table(&self)
+        ensures { IsNameTable self.now.tree }
+    {
+        self.tree.is_table();
     }
 
     /// Puts notes in the place of those that there are.

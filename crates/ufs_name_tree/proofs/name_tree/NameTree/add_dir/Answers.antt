@@ -7,7 +7,8 @@ use Rattle.ufs_dir_tree.proofs.FoundEdits.{last_is}
 use Rattle.ufs_name_tree.specs.NameTable.{NameTable, IsNameTable}
 use Rattle.ufs_name_tree.specs.Notes.{GoesByNotes}
 use Rattle.ufs_name_tree.proofs.EditNotes.{renoted, add_noted}
-use Rattle.ufs_name_tree.proofs.NoteChains.{notes_same}
+use Rattle.ufs_name_tree.proofs.NoteChains.{one_inode, notes_same}
+use Rattle.ufs_name_tree.proofs.NoteFiles.{dir_comes}
 use Rattle.ufs_name_tree.proofs.NoteKinds.{kinds_of_dir}
 use Rattle.ufs_name_tree.proofs.TableEdits.{added_dir}
 use Rattle.ufs_name_tree.proofs.name_tree.NameTree.add_dir.Goals as goal
@@ -28,7 +29,7 @@ returns-clause-table c = invariant_of-self-2 c
 pub returns-in-Err-clause-noted : goal.returns-in-Err-clause-noted
 returns-in-Err-clause-noted c =
     let t : NameTable = record { dirs = c.self.inside.dirs; files = c.self.inside.files.items; noted = c.self.inside.notes } in
-    notes_same c.args.self.now (record t { dirs = c.add.new.self }) c.args.pool.now (ap (λ (dirs : DirTable). record t { dirs = dirs }) c.in-Err.ensures.err ∙ c.self.view_is)
+    notes_same c.args.self.now (record t { dirs = c.add.new.self }) c.args.pool.now (one_inode t c.self.invariant c.args.self.now c.self.view_is) (ap (λ (dirs : DirTable). record t { dirs = dirs }) c.in-Err.ensures.err ∙ c.self.view_is)
 
 pub returns-clause-noted : goal.returns-clause-noted
 returns-clause-noted c =
@@ -42,4 +43,5 @@ returns-clause-noted c =
     let same : c.from_name-dentry.result ≡ d = c.from_name-dentry.ensures ∙ ap (λ (x : List ℕ). record d { name = x }) (sym (last_is path (names_above path) c.last.result.now c.last.ensures.value)) in
     subst (λ (x : NameTable). GoesByNotes x u c.args.pool.now) c.self.view_is
     (add_noted t u c.self.invariant c.args.pool.now c.add.new.pool c.args.dir (names_above path) met c.blocks-blocks.ensures.whole added.slot added.grown d c.from_name-dentry.result same is.steps
-    (λ s at. kinds_of_dir t u s.kinds c.self.invariant at.kinds added.inode is.inode path is.ok refl) c.note_added.ensures)
+    (λ s at. kinds_of_dir t u s.kinds c.self.invariant at.kinds added.inode is.inode path is.ok refl)
+    (dir_comes t c.self.invariant c.args.pool.now c.args.dir (names_above path) met added.slot d added.grown is.steps.may u refl) c.note_added.ensures)

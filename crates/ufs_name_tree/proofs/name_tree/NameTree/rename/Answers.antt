@@ -1,8 +1,9 @@
 use Rattle.std.proofs.Common.{◌≡◌, ℕ, List, Option, Some, None, IsSome, ap, sym, refl, subst, ◌∙◌}
 use Rattle.std.specs.Option.{option_map}
-use Rattle.ufs_layout.specs.DentryForm.{DentryForm}
+use Rattle.std.proofs.lemmas.Option.{slice_get-get_or}
+use Rattle.ufs_layout.specs.DentryForm.{DentryForm, free_slot}
 use Rattle.ufs_dirs.specs.Directory.{entry_of}
-use Rattle.ufs_dirs.specs.Changes.{entry_in}
+use Rattle.ufs_dirs.specs.Changes.{entry_in, place_of}
 use Rattle.ufs_dirs.specs.declared.Slot.{Slot}
 use Rattle.ufs_dir_tree.specs.DirTable.{DirTable, dir_at, slots_at, found_at, found_of}
 use Rattle.ufs_dir_tree.specs.DirCalls.{names_above, last_name}
@@ -14,7 +15,7 @@ use Rattle.ufs_name_tree.specs.Notes.{GoesByNotes}
 use Rattle.ufs_name_tree.proofs.EditNotes.{renoted, rename_noted, met_inode, if_some, if_none}
 use Rattle.ufs_name_tree.proofs.Founds.{was_moved}
 use Rattle.ufs_name_tree.proofs.NodeMaps.{moves_nodes}
-use Rattle.ufs_name_tree.proofs.NoteChains.{notes_same}
+use Rattle.ufs_name_tree.proofs.NoteChains.{one_inode, notes_same}
 use Rattle.ufs_name_tree.proofs.TableEdits.{renamed}
 use Rattle.ufs_name_tree.proofs.name_tree.NameTree.rename.Goals as goal
 
@@ -51,7 +52,7 @@ returns-clause-ok c =
 pub returns-in-Err-clause-noted : goal.returns-in-Err-clause-noted
 returns-in-Err-clause-noted c =
     let t : NameTable = record { dirs = c.self.inside.dirs; files = c.self.inside.files.items; noted = c.self.inside.notes } in
-    notes_same c.args.self.now (record t { dirs = c.rename.new.self }) c.args.pool.now (ap (λ (dirs : DirTable). record t { dirs = dirs }) c.in-Err.ensures.err ∙ c.self.view_is)
+    notes_same c.args.self.now (record t { dirs = c.rename.new.self }) c.args.pool.now (one_inode t c.self.invariant c.args.self.now c.self.view_is) (ap (λ (dirs : DirTable). record t { dirs = dirs }) c.in-Err.ensures.err ∙ c.self.view_is)
 
 pub returns-clause-noted : goal.returns-clause-noted
 returns-clause-noted c =
@@ -74,6 +75,7 @@ returns-clause-noted c =
     path_met t.dirs from (names_above from) c.last-2.result.now c.args.from_dir c.last-2.ensures.value from_met ∙ ap (option_map found_of) (ap (entry_of (slots_at t.dirs c.args.from_dir)) (sym from_name) ∙ is.left.entry) in
     subst (λ (x : NameTable). GoesByNotes x u c.args.pool.now) c.self.view_is
     (rename_noted t u c.self.invariant c.args.pool.now c.rename.new.pool c.args.from_dir c.args.to_dir (names_above from) (names_above to) from_met to_met c.blocks-from_blocks.ensures.whole c.blocks-to_blocks.ensures.whole moved.left moved.taken
-    to moved.dropped (found_at t.dirs to) c.entry-found.result moved.grown d c.from_name-dentry.result (met_inode t.dirs from left c.self.invariant.table met_from) same found refl
+    to moved.dropped (found_at t.dirs to) c.entry-found.result moved.grown d c.from_name-dentry.result (met_inode t.dirs from left c.self.invariant.table met_from)
+    (λ has. has c.args.from_dir (place_of (dir_at t.dirs c.args.from_dir).blocks moved.left) left (slice_get-get_or (slots_at t.dirs c.args.from_dir) (place_of (dir_at t.dirs c.args.from_dir).blocks moved.left) free_slot is.left.place.slot.in_blocks) is.left.place.used) same found refl
     (λ slot at. if_some (λ (s : Slot). moved.grown ≡ None) moved.dropped slot is.not_grown at) (λ none. if_none (found_at t.dirs to ≡ None) moved.dropped is.not_dropped none)
     is.steps (λ j at. was_moved t.dirs u.dirs from to at.0 (Dir j) is.ok at.1) refl is.unmet is.replaced is.free c.note_moved.ensures)

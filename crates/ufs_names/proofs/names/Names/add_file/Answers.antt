@@ -1,4 +1,4 @@
-use Rattle.std.proofs.Common.{ap, subst, ◌∙◌}
+use Rattle.std.proofs.Common.{length, ap, subst, ◌∙◌}
 use Rattle.std.specs.FinMap as map
 use Rattle.ufs_name_tree.specs.NameTable.{NameTable}
 use Rattle.ufs_dir_tree.specs.DirCalls.{names_above, SpendsBlock}
@@ -27,7 +27,7 @@ returns-in-Ok-clause-space c =
     let spent = block_spent n.tree.dirs c.add_file.new.self.dirs c.args.pool.now c.add_file.new.pool _ c.args.dir c.requires.parent
     (subst (λ (t : NameTable). SpendsBlock t.dirs c.add_file.new.self.dirs c.args.pool.now c.add_file.new.pool (names_above c.args.path.now)) tree c.in-Ok.ensures.block) c.add_file.ensures.apart in
     keeps_made n _ c.args.files.now c.make.new.self c.args.pool.now c.add_file.new.pool c.requires.apart c.self.inside.next c.in-Some.inode c.with.result
-    (ap (map.get c.args.files.now) next ∙ c.requires.no_file) (ap (λ (h : Holding). h.inode) c.with.ensures) spent
+    (ap (map.get c.args.files.now) next ∙ c.requires.no_file) (ap (λ (h : Holding). h.inode) c.with.ensures) spent (c.add_file.ensures.inodes ∙ ap (λ (t : NameTable). length t.dirs.dirs) tree)
     (not_err c.put.result c.is_err.result c.is_err.ensures.value c.if-is_err.false c.put.ensures.ok ∙ ap (λ (n : NamesPart). map.insert n.held c.self.inside.next c.with.result) c.self.view_is)
     (not_err c.make.result c.is_err-2.result c.is_err-2.ensures.value c.if-is_err-2.false c.make.ensures.ok)
 

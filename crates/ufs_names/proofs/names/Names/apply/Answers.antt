@@ -3,6 +3,7 @@ use Rattle.std.proofs.Common.{◌≡◌, true, ap, sym, ◌∙◌}
 use Rattle.ufs_model.specs.History.{is_excused}
 use Rattle.ufs_names.proofs.ReplyLemmas.{served_plain}
 use Rattle.ufs_names.specs.NamesPart.{NamesPart}
+use Rattle.ufs_names.proofs.NotedLemmas.{one_told}
 use Rattle.ufs_names.proofs.names.Names.apply.Goals as goal
 use Rattle.ufs_names.proofs.names.Names.apply.Goals.{After-answered}
 
@@ -29,4 +30,4 @@ pub returns-in-Ok-clause-pool : goal.returns-in-Ok-clause-pool
 returns-in-Ok-clause-pool c e = absurd (plain c e)
 
 pub returns-in-Err-clause-noted : goal.returns-in-Err-clause-noted
-returns-in-Err-clause-noted c = notes_same c.args.self.now.tree c.serve.new.self.tree c.args.pool.now (ap (λ (n : NamesPart). n.tree) c.in-Err.ensures.err)
+returns-in-Err-clause-noted c = notes_same c.args.self.now.tree c.serve.new.self.tree c.args.pool.now (one_told c.args.self.now.tree c.args.self.now.held c.requires.asked.1.part.inodes) (ap (λ (n : NamesPart). n.tree) c.in-Err.ensures.err)

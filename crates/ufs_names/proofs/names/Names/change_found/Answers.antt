@@ -13,6 +13,7 @@ use Rattle.ufs_names.proofs.PathConditions.{mkdir_may, open_may, named, rmdir_ma
 use Rattle.ufs_names.proofs.FitsLemmas.{by_memory}
 use Rattle.ufs_names.proofs.PathFits.{fits_mkdir, fits_open}
 use Rattle.ufs_names.proofs.PathChanges.{emptied_here, rmdir_here, unlink_here, served_list, served_mkdir, served_open, served_rmdir, served_stat, served_unlink}
+use Rattle.ufs_names.proofs.NotedLemmas.{one_told}
 use Rattle.ufs_names.proofs.names.Names.change_found.Goals as goal
 
 pub open-requires-clause-absent : goal.open-requires-clause-absent
@@ -104,7 +105,7 @@ returns-in-Err-clause-fits c t is =
     c.args.pool.now c.in-Err.excuse c.in-Err.ensures.listed o.path o.read o.write o.creat o.excl o.trunc o.append o.is c.in-Err.ensures.cause)
 
 pub returns-in-Stat-clause-noted : goal.returns-in-Stat-clause-noted
-returns-in-Stat-clause-noted c = notes_stay c.args.self.now.tree c.args.pool.now
+returns-in-Stat-clause-noted c = notes_stay c.args.self.now.tree c.args.pool.now (one_told c.args.self.now.tree c.args.self.now.held c.requires.allowed.1.all.part.inodes)
 
 pub returns-in-List-clause-noted : goal.returns-in-List-clause-noted
-returns-in-List-clause-noted c = notes_stay c.args.self.now.tree c.args.pool.now
+returns-in-List-clause-noted c = notes_stay c.args.self.now.tree c.args.pool.now (one_told c.args.self.now.tree c.args.self.now.held c.requires.allowed.1.all.part.inodes)

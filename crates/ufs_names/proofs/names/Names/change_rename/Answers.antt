@@ -1,6 +1,6 @@
 use Rattle.ufs_name_tree.proofs.NoteChains.{notes_on, notes_stay}
 use Rattle.ufs_name_tree.specs.Notes.{GoesByNotes}
-use Rattle.std.proofs.Common.{◌≡◌, ℕ, List, true, Option, Some, None, is_some, ap, refl, sym, subst, ◌∙◌}
+use Rattle.std.proofs.Common.{◌≡◌, ℕ, List, length, true, Option, Some, None, is_some, ap, refl, sym, subst, ◌∙◌}
 use Rattle.std.specs.Option.{option_map}
 use Rattle.ufs_bitmap.specs.Blocks.{BlockSet}
 use Rattle.ufs_dir_tree.specs.DirTable.{found_at}
@@ -15,6 +15,7 @@ use Rattle.ufs_names.specs.Steps.{LosesName}
 use Rattle.ufs_names.proofs.KeepsSpaceLemmas.{keeps_dirs, keeps_then}
 use Rattle.ufs_names.proofs.SpaceLemmas.{DirExchanges, dir_apart}
 use Rattle.ufs_names.proofs.UnnamedLemmas.{loses_before, name_put, same_nodes, same_numbers}
+use Rattle.ufs_names.proofs.NotedLemmas.{one_told, loses_gives_none}
 use Rattle.ufs_names.proofs.names.Names.change_rename.Goals as goal
 
 -- The names that were renamed, of a tree that the part had.
@@ -71,13 +72,16 @@ returns-clause-space c =
     (keeps_dirs c.args.self.now mid c.args.files.now c.args.files.now c.args.pool.now c.rename.new.pool c.requires.apart
     (exchanged c.args.self.now c.self.inside.tree c.rename.new.self (ap (λ (n : NamesPart). n.tree) c.self.view_is) c.args.from.now c.args.to.now c.args.step.to.found c.requires.found c.in_ok-rename.ensures.files
     c.args.pool.now c.rename.new.pool c.args.step.to.dir c.requires.to_dir c.in_ok-rename.ensures.replaced c.in_ok-rename.ensures.block c.in_ok-rename.ensures.apart)
-    (ap (λ (n : NamesPart). n.held) c.self.view_is) refl)
+    (c.rename.ensures.inodes ∙ ap (λ (n : NamesPart). length n.tree.dirs.dirs) c.self.view_is) (ap (λ (n : NamesPart). n.held) c.self.view_is) refl)
     c.forget_name.ensures.space
 
 pub returns-then-eq-clause-noted : goal.returns-then-eq-clause-noted
-returns-then-eq-clause-noted c = notes_stay c.args.self.now.tree c.args.pool.now
+returns-then-eq-clause-noted c = notes_stay c.args.self.now.tree c.args.pool.now (one_told c.args.self.now.tree c.args.self.now.held c.requires.inodes)
 
 pub returns-clause-noted : goal.returns-clause-noted
 returns-clause-noted c =
+    let mid : NamesPart = record { tree = c.rename.new.self; held = c.self.inside.held; next = c.self.inside.next } in
+    let lost = file_of (option_map (node_of c.rename.new.self) c.args.step.to.found) in
     subst (λ (n : NamesPart). GoesByNotes n.tree c.forget_name.new.self.tree c.args.pool.now) c.self.view_is
-    (notes_on c.self.inside.tree c.rename.new.self c.forget_name.new.self.tree c.args.pool.now c.rename.ensures.noted c.forget_name.ensures.noted)
+    (notes_on c.self.inside.tree c.rename.new.self c.forget_name.new.self.tree c.args.pool.now c.rename.ensures.noted c.forget_name.ensures.noted
+    (loses_gives_none mid c.forget_name.new.self c.args.files.now c.forget_name.new.files lost c.forget_name.ensures.loses))

@@ -4,6 +4,7 @@ use Rattle.std.proofs.Common.{◌≡◌, true, false, is_some, ap, sym, ◌∙�
 use Rattle.std.specs.FinMap as map
 use Rattle.ufs_name_tree.specs.NameTable.{file_at}
 use Rattle.ufs_names.specs.NamesPart.{NamesPart}
+use Rattle.ufs_names.proofs.NotedLemmas.{one_told}
 use Rattle.ufs_names.proofs.names.Names.forget_name.Goals as goal
 
 pub unreachable-requires-in_default-get : goal.unreachable-requires-in_default-get
@@ -16,7 +17,7 @@ unreachable-requires-in_default-get c =
     cc
 
 pub returns-in_default-clause-noted : goal.returns-in_default-clause-noted
-returns-in_default-clause-noted c = notes_stay c.args.self.now.tree set.empty
+returns-in_default-clause-noted c = notes_stay c.args.self.now.tree set.empty (one_told c.args.self.now.tree c.args.self.now.held c.requires.inodes)
 
 pub returns-in_default-2-clause-noted : goal.returns-in_default-2-clause-noted
-returns-in_default-2-clause-noted c = notes_stay c.args.self.now.tree set.empty
+returns-in_default-2-clause-noted c = notes_stay c.args.self.now.tree set.empty (one_told c.args.self.now.tree c.args.self.now.held c.requires.inodes)

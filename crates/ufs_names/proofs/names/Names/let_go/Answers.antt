@@ -9,6 +9,7 @@ use Rattle.ufs_names.specs.NamesPart.{NamesPart, holding_of, is_kept, without_ho
 use Rattle.ufs_names.specs.declared.holding.Holding.{Holding}
 use Rattle.ufs_names.proofs.ClosePartLemmas.{goes_here, goes_unmet, held_told}
 use Rattle.ufs_names.proofs.SettleLemmas.{holding_is}
+use Rattle.ufs_names.proofs.NotedLemmas.{one_told}
 use Rattle.ufs_names.proofs.names.Names.let_go.Goals as goal
 
 pub unreachable-requires : goal.unreachable-requires
@@ -38,7 +39,7 @@ settle-requires-clause-unmet c gone names at =
     (at ∙ ap (λ (h : Holding). Some (met.File h.inode)) (sym (left _ c.args.self.now c.in-Some-file.file c.args.ask.now.client c.get.result c.in-Some-get.holding c.without.result c.self.view_is c.get.ensures c.in-Some-get.is c.without.ensures)))
 
 pub returns-in_default-file-clause-noted : goal.returns-in_default-file-clause-noted
-returns-in_default-file-clause-noted c = notes_stay c.args.self.now.tree set.empty
+returns-in_default-file-clause-noted c = notes_stay c.args.self.now.tree set.empty (one_told c.args.self.now.tree c.args.self.now.held c.requires.asked.1.part.inodes)
 
 pub returns-then-not-ask-clause-noted : goal.returns-then-not-ask-clause-noted
-returns-then-not-ask-clause-noted c = notes_stay c.args.self.now.tree set.empty
+returns-then-not-ask-clause-noted c = notes_stay c.args.self.now.tree set.empty (one_told c.args.self.now.tree c.args.self.now.held c.requires.asked.1.part.inodes)

@@ -1,4 +1,4 @@
-use Rattle.std.proofs.Common.{◌≡◌, is_some, ap, sym, subst, ◌∙◌}
+use Rattle.std.proofs.Common.{◌≡◌, ◌≤◌, length, is_some, ap, sym, subst, ◌∙◌}
 use Rattle.std.proofs.lemmas.Result.{IfOk-weaker}
 use Rattle.std.specs.FinMap as map
 use Rattle.std.specs.List.Sorted.{IsStrictlyIncreasing}
@@ -9,7 +9,7 @@ use Rattle.ufs_model.specs.Touched.{touched_parts}
 use Rattle.ufs_names.specs.Calls.{AreGathered}
 use Rattle.ufs_names.specs.NamesPart.{NamesPart, IsPartOf}
 use Rattle.ufs_names.specs.Needs.{AreFilesIn, AreHere, listed}
-use Rattle.ufs_names.proofs.NeedsLemmas.{are_gathered, listed_rises, one_needed, sync_needs}
+use Rattle.ufs_names.proofs.NeedsLemmas.{are_gathered, listed_few, listed_rises, one_needed, sync_needs}
 use Rattle.ufs_names.proofs.names.Names.needs.Goals as goal
 
 pub returns-in-Sync-clause-needed : goal.returns-in-Sync-clause-needed
@@ -37,4 +37,5 @@ returns-in_ok-need-in_default c = record {
       are_gathered t c.args.ask.now files fs (one_needed t c.args.ask.now.client c.args.ask.now.op (ap is_some (sym own) ∙ sym c.is_some.ensures ∙ c.if-is_some.false) c.in_ok-need-in_default.field-0 (c.in_ok-need-in_default.ensures t part asked) files e) here)
       c.of-in_default.ensures;
   rising = IfOk-weaker c.of-in_default.result (λ files. files ≡ listed c.in_ok-need-in_default.field-0) (λ files. IsStrictlyIncreasing files) (λ files e. subst IsStrictlyIncreasing (sym e) (listed_rises c.in_ok-need-in_default.field-0)) c.of-in_default.ensures;
+  few = λ other. IfOk-weaker c.of-in_default.result (λ files. files ≡ listed c.in_ok-need-in_default.field-0) (λ files. length files ≤ 1) (λ files e. listed_few c.in_ok-need-in_default.field-0 files e) c.of-in_default.ensures;
 }

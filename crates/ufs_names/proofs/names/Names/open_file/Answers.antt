@@ -7,6 +7,7 @@ use Rattle.ufs_name_tree.specs.NameTable.{file_at}
 use Rattle.ufs_names.proofs.AddLemmas.{held_here, keeps_opened, keeps_cut}
 use Rattle.ufs_names.proofs.SettleLemmas.{holding_is}
 use Rattle.ufs_names.proofs.UndoneLemmas.{not_err}
+use Rattle.ufs_names.proofs.NotedLemmas.{one_told}
 use Rattle.ufs_names.proofs.names.Names.open_file.Goals as goal
 use Rattle.ufs_names.proofs.names.Names.open_file.Goals.{else-trunc-via-then-trunc+else-is_err, else-trunc-via-else-trunc}
 
@@ -33,4 +34,4 @@ returns-clause-space c =
     ]
 
 pub returns-clause-noted : goal.returns-clause-noted
-returns-clause-noted c = notes_same c.args.self.now.tree c.self.inside.tree c.args.pool.now (ap (λ (n : NamesPart). n.tree) c.self.view_is)
+returns-clause-noted c = notes_same c.args.self.now.tree c.self.inside.tree c.args.pool.now (one_told c.args.self.now.tree c.args.self.now.held c.requires.inodes) (ap (λ (n : NamesPart). n.tree) c.self.view_is)

@@ -2,6 +2,7 @@ use Rattle.ufs_name_tree.proofs.NoteChains.{notes_stay}
 use Rattle.std.proofs.Common.{Some}
 use Rattle.ufs_names.proofs.RefusedLemmas.{served_refused}
 use Rattle.ufs_names.proofs.RenameServed.{texts, rename_fits, rename_refused, rename_here, rename_may, served_rename}
+use Rattle.ufs_names.proofs.NotedLemmas.{one_told}
 use Rattle.ufs_names.proofs.names.Names.rename.Goals as goal
 
 pub returns-in-Err-clause-ok : goal.returns-in-Err-clause-ok
@@ -43,4 +44,4 @@ returns-in-Ok-change_rename-clause-ok c t asked own =
     c.a_request_keeps_the_tree.ensures c.change_rename.new.self c.change_rename.new.files done.same done.same_files done.moved done.loses
 
 pub returns-in-Err-clause-noted : goal.returns-in-Err-clause-noted
-returns-in-Err-clause-noted c = notes_stay c.args.self.now.tree c.args.pool.now
+returns-in-Err-clause-noted c = notes_stay c.args.self.now.tree c.args.pool.now (one_told c.args.self.now.tree c.args.self.now.held c.requires.asked.1.part.inodes)

@@ -7,6 +7,7 @@ use Rattle.ufs_model.specs.declared.data.Errno.{Errno}
 use Rattle.ufs_names.proofs.FitsLemmas.{fits_memory}
 use Rattle.ufs_names.proofs.RefusedLemmas.{served_refused}
 use Rattle.ufs_names.proofs.SyncLemmas.{served_either}
+use Rattle.ufs_names.proofs.NotedLemmas.{one_told}
 use Rattle.ufs_names.proofs.names.Names.serve.Goals as goal
 
 pub returns-in-Some-clause-ok : goal.returns-in-Some-clause-ok
@@ -36,10 +37,10 @@ returns-in-Fsync-clause-ok c t asked =
     served_either c.args.self.now t c.args.ask.now c.args.files.now asked c.in-Fsync.is (sym (c.own_refusal.ensures t c.args.ask.now.client asked.asked.desc asked.asked.fd) ∙ c.in_default.is)
 
 pub returns-in-Some-clause-noted : goal.returns-in-Some-clause-noted
-returns-in-Some-clause-noted c = notes_stay c.args.self.now.tree c.args.pool.now
+returns-in-Some-clause-noted c = notes_stay c.args.self.now.tree c.args.pool.now (one_told c.args.self.now.tree c.args.self.now.held c.requires.asked.1.part.inodes)
 
 pub returns-in-Fsync-clause-noted : goal.returns-in-Fsync-clause-noted
-returns-in-Fsync-clause-noted c = notes_stay c.args.self.now.tree c.args.pool.now
+returns-in-Fsync-clause-noted c = notes_stay c.args.self.now.tree c.args.pool.now (one_told c.args.self.now.tree c.args.self.now.held c.requires.asked.1.part.inodes)
 
 pub returns-in-Close-clause-noted : goal.returns-in-Close-clause-noted
 returns-in-Close-clause-noted c = notes_less c.args.self.now.tree c.close.new.self.tree c.args.pool.now c.close.ensures.noted

@@ -9,6 +9,7 @@ use Rattle.ufs_names.specs.NamesPart.{NamesPart}
 use Rattle.ufs_names.specs.PathCalls.{IsAllowed}
 use Rattle.ufs_names.proofs.RefusedLemmas.{served_refused}
 use Rattle.ufs_names.proofs.PathRefusals.{refused_by_walk, refused_by_look}
+use Rattle.ufs_names.proofs.NotedLemmas.{one_told}
 use Rattle.ufs_names.proofs.names.Names.serve_path.Goals as goal
 
 pub returns-in-Err-clause-ok : goal.returns-in-Err-clause-ok
@@ -82,7 +83,7 @@ returns-in-Ok-change_found-clause-ok c t asked own =
     subst (λ (r : Reply). IsServed t c.args.ask.now c.change_found.new.self c.args.files.now c.change_found.new.files r c.in-Ok-change_found.desc) (sym (c.in-Ok-answer_found.ensures t c.args.path.now is)) (c.in-Ok-change_found.ensures.ok t is)
 
 pub returns-in-Err-clause-noted : goal.returns-in-Err-clause-noted
-returns-in-Err-clause-noted c = notes_stay c.args.self.now.tree c.args.pool.now
+returns-in-Err-clause-noted c = notes_stay c.args.self.now.tree c.args.pool.now (one_told c.args.self.now.tree c.args.self.now.held c.requires.asked.1.part.inodes)
 
 pub returns-in-Some-clause-noted : goal.returns-in-Some-clause-noted
-returns-in-Some-clause-noted c = notes_stay c.args.self.now.tree c.args.pool.now
+returns-in-Some-clause-noted c = notes_stay c.args.self.now.tree c.args.pool.now (one_told c.args.self.now.tree c.args.self.now.held c.requires.asked.1.part.inodes)
