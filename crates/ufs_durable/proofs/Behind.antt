@@ -1,15 +1,15 @@
 -- Ledgers behind writes.
-use Rattle.std.proofs.Common.{◌≡◌, ℕ, inl, inr, List, [], ◌∷◌, ◌++◌, Bool, true, false, ap, sym, refl, ◌∙◌, subst, append_assoc}
+use Rattle.std.proofs.Common.{◌≡◌, ℕ, inl, inr, List, [], ◌∷◌, ◌++◌, Bool, true, false, Some, None, ap, sym, refl, ◌∙◌, subst, append_assoc}
 use Rattle.std.specs.Prelude.{◌==◌, if◌then◌else◌}
 use Rattle.ufs_base.specs.Images.{Image}
-use Rattle.ufs_disk.specs.Disk.{Cell, possible}
+use Rattle.ufs_disk.specs.Disk.{Cell, State, possible, seen}
 use Rattle.ufs_disk.specs.Moments.{LeavesOnly, Moments}
 use Rattle.ufs_disk.proofs.Runs.{all_map, started, weaker}
 use Rattle.ufs_image.specs.Images.{block_at}
 use Rattle.ufs_layout.specs.declared.superblock.Super.{Super}
 use Rattle.ufs_ledger.specs.Changes.{rewritten, tried, written}
 use Rattle.ufs_ledger.specs.Laws.{MayWrite}
-use Rattle.ufs_ledger.specs.Ledger.{HasByte, IsLedgerOf, IsLeft, IsLeftBy, IsMixOf, Ledger, Stand}
+use Rattle.ufs_ledger.specs.Ledger.{HasByte, IsLedgerOf, IsLeft, IsLeftBy, IsMixOf, Ledger, Stand, is_held}
 use Rattle.ufs_ledger.proofs.Mixing.{has_byte_more}
 use Rattle.ufs_ledger.proofs.States.{with_cells}
 use Rattle.ufs_prefix.specs.FileChanges.{byte_at}
@@ -100,12 +100,21 @@ tried_within s all xs ys zs l whole one = record {
   whole = whole ∙ ap (λ ws. xs ++ (ws ++ zs)) one.whole ∙ ap (λ ws. xs ++ ws) (append_assoc one.before (one.one ∷ one.behind) zs) ∙ sym (append_assoc xs one.before (one.one ∷ (one.behind ++ zs)));
   reads = one.reads;
   has = subst (λ m. IsLedgerOf s.sectors s.moments.state (tried one.one.block one.one.bytes one.reads m)) (sym (writes_append xs one.before l)) one.has;
+  mixed = λ free. subst (λ m. IsMixOf (possible ((written one.one.block one.one.bytes m).blocks one.one.block)) one.reads) (sym (writes_append xs one.before l))
+      (one.mixed (subst (λ (t : Stand). is_held t.log one.one.block ≡ false) (sym (same_now xs l)) free));
 }
+
+-- what the block reads as then is of what it was and what was to be written
+pub mixed_then : (sectors : ℕ) (l : Ledger) (block : ℕ) (bytes : List ℕ) (state : State) → l.maybe ≡ None → MayWrite l block bytes → is_held l.now.log block ≡ false → IsLeftBy sectors (written block bytes l) (seen state)
+    → IsMixOf (possible ((written block bytes l).blocks block)) (block_at (seen state) block)
+mixed_then sectors l block bytes state none may free (inl left) = left.contents block may.data_block free
+mixed_then sectors l block bytes state none may free (inr both) = (let no = sym none ∙ both.1 in absurd cc)
 
 -- one write alone
 pub one_tried : (block k : ℕ) (bytes xs : List ℕ) → block ≡ k → bytes ≡ xs → (s : StoreState) (image : Image) (l : Ledger) → MayWrite l k xs
-    → (MayWrite l block bytes → IsLedgerOf s.sectors s.moments.state (tried block bytes (block_at image block) l)) → HasTriedOne s ((record { block = k; bytes = xs }) ∷ []) l
-one_tried block k bytes xs here same s image l may has = record {
+    → (MayWrite l block bytes → IsLedgerOf s.sectors s.moments.state (tried block bytes (block_at image block) l))
+    → (MayWrite l block bytes → is_held l.now.log block ≡ false → IsMixOf (possible ((written block bytes l).blocks block)) (block_at image block)) → HasTriedOne s ((record { block = k; bytes = xs }) ∷ []) l
+one_tried block k bytes xs here same s image l may has mixed = record {
   before = [];
   one = record { block = k; bytes = xs };
   behind = [];
@@ -113,8 +122,13 @@ one_tried block k bytes xs here same s image l may has = record {
   reads = block_at image block;
   has = subst (λ y. IsLedgerOf s.sectors s.moments.state (tried k y (block_at image block) l)) same
       (subst (λ b. IsLedgerOf s.sectors s.moments.state (tried b bytes (block_at image block) l)) here
-      (has (subst (λ y. MayWrite l block y) (sym same) (subst (λ b. MayWrite l b xs) (sym here) may))));
+      (has may_here));
+  mixed = λ free. subst (λ y. IsMixOf (possible ((written k y l).blocks k)) (block_at image block)) same
+      (subst (λ b. IsMixOf (possible ((written b bytes l).blocks b)) (block_at image block)) here (mixed may_here (subst (λ b. is_held l.now.log b ≡ false) (sym here) free)));
 }
+  where
+    may_here : MayWrite l block bytes
+    may_here = subst (λ y. MayWrite l block y) (sym same) (subst (λ b. MayWrite l b xs) (sym here) may)
 
 -- Before the first of them nothing else is left.
 pub run_begins : (sectors : ℕ) (keeps : Bool) (ws : List BlockWrite) (l : Ledger) (now : Moments) → IsLedgerOf sectors now.state l → LeavesOnly keeps (IsLeftBy sectors (with_writes ws l)) now now

@@ -1,14 +1,14 @@
 -- How a file goes on standing on its ledger.
 use Rattle.std.proofs.Common.{◌≡◌, ℕ, zero, suc, ◌+◌, ◌-◌, ◌<◌, ◌≤◌, ◌⊎◌, inl, inr, List, [], ◌∷◌, ◌++◌, Bool, true, false, Some, Option, length, take, replicate, get_or, unwrap_or, ap, sym, refl, ◌∙◌, subst, arith}
 use Rattle.std.specs.Prelude.{◌==◌, ◌*◌, ◌/◌, ◌%◌, drop, flat_map, if◌then◌else◌, IsTrue}
-use Rattle.std.specs.List.{list_any, range_with_len, slice_get}
+use Rattle.std.specs.List.{AllByRecursion, list_any, range_with_len, slice_get}
 use Rattle.std.proofs.lemmas.Bool.Decides.{nat_tests}
 use Rattle.std.proofs.lemmas.List.{map-append, take-map, get_or-replicate, length-drop, length-replicate, length-take-le, take-append-drop}
 use Rattle.std.proofs.Common.{length-append}
 use Rattle.ufs_bitmap.proofs.TakingLemmas.{has-none}
 use Rattle.ufs_disk.specs.Disk.{Cell, possible}
 use Rattle.ufs_disk.specs.Moments.{reads}
-use Rattle.ufs_disk.proofs.Runs.{all_append}
+use Rattle.ufs_disk.proofs.Runs.{all_append, all_map}
 use Rattle.ufs_extent.specs.declared.Run.{Run}
 use Rattle.ufs_extent.specs.Runs.{blocks_from, blocks_of}
 use Rattle.ufs_file.specs.Content.{block_bytes}
@@ -37,15 +37,19 @@ use Rattle.ufs_durable.specs.State.{DurableState, IsNoted, file_committed}
 use Rattle.ufs_store.specs.Ledgers.{checkpointed}
 use Rattle.ufs_store.specs.State.{has_room, next_commit, next_head}
 use Rattle.ufs_durable.specs.Standing.{DirtyMayBeWritten, HaveOnly, IsFileBlock, ShowsAsCommitted, ShowsTheFile, StandsCommitted, StandsFor, StandsSettled, StandsWhileWritten}
-use Rattle.ufs_durable.specs.Writes.{BlockWrite, MayWriteAll, with_writes, write_at, write_of, writes_of}
+use Rattle.ufs_durable.specs.Writes.{BlockWrite, with_writes, write_at, write_of, writes_of}
 use Rattle.ufs_durable.proofs.Behind.{same_head, same_now}
 use Rattle.ufs_durable.proofs.Cells.{clean_cell, dirty_cell, got, got_back, length_block}
 
 -- ---- its dirty blocks may be written
 
+-- each is a whole block that a file may have
+abbrev pub IsReady : Ledger → BlockWrite → Type 0
+IsReady l w = IsFileBlock l w.block × (length w.bytes ≡ 4096)
+
 module _ (l : Ledger) (f : DurableState) (noted : IsNoted f) (stands : StandsFor l f) where
-  may_at : (place : ℕ) → place < length f.file.content.dirty → MayWriteAll l (write_at f.file place)
-  may_at place under = by (unwrap_or (slice_get f.file.content.dirty place) false)
+  ready_at : (place : ℕ) → place < length f.file.content.dirty → AllByRecursion (IsReady l) (write_at f.file place)
+  ready_at place under = by (unwrap_or (slice_get f.file.content.dirty place) false)
     where
       there : slice_get (blocks_of f.file.extents) place ≡ Some (get_or (blocks_of f.file.extents) place 0)
       there = got_back (blocks_of f.file.extents) 0 place (let same = noted.marks in omega (arith, under, same))
@@ -53,18 +57,22 @@ module _ (l : Ledger) (f : DurableState) (noted : IsNoted f) (stands : StandsFor
       here : IsFileBlock l (write_of f.file place).block
       here = subst (IsFileBlock l) (sym (ap (λ (o : Option ℕ). unwrap_or o 0) there)) (stands.blocks place (get_or (blocks_of f.file.extents) place 0) there)
 
-      by : (b : Bool) → MayWriteAll l (if b then write_of f.file place ∷ [] else [])
-      by true = (record { data_block = here.data_block; no_dir = here.no_dir; size = length_block f.file.content.bytes place }, tt)
+      by : (b : Bool) → AllByRecursion (IsReady l) (if b then write_of f.file place ∷ [] else [])
+      by true = ((here, length_block f.file.content.bytes place), tt)
       by false = tt
 
-  may_places : (from n : ℕ) → from + n ≤ length f.file.content.dirty → MayWriteAll l (flat_map (write_at f.file) (range_with_len from n))
-  may_places from zero inside = tt
-  may_places from (suc n) inside =
-      all_append (λ (w : BlockWrite). MayWrite l w.block w.bytes) (write_at f.file from) (flat_map (write_at f.file) (range_with_len (from + 1) n))
-      (may_at from (omega (arith, inside))) (may_places (from + 1) n (omega (arith, inside)))
+  ready_places : (from n : ℕ) → from + n ≤ length f.file.content.dirty → AllByRecursion (IsReady l) (flat_map (write_at f.file) (range_with_len from n))
+  ready_places from zero inside = tt
+  ready_places from (suc n) inside =
+      all_append (IsReady l) (write_at f.file from) (flat_map (write_at f.file) (range_with_len (from + 1) n))
+      (ready_at from (omega (arith, inside))) (ready_places (from + 1) n (omega (arith, inside)))
+
+  pub writes_ready : AllByRecursion (IsReady l) (writes_of f.file)
+  writes_ready = ready_places 0 (length f.file.content.dirty) (omega arith)
 
 pub dirty_may : DirtyMayBeWritten
-dirty_may l f noted stands = may_places l f noted stands 0 (length f.file.content.dirty) (omega arith)
+dirty_may l f noted stands = all_map (IsReady l) (λ (w : BlockWrite). MayWrite l w.block w.bytes)
+    (λ w is. record { data_block = is.0.data_block; no_dir = is.0.no_dir; size = is.1 }) (writes_of f.file) (writes_ready l f noted stands)
 
 -- ---- another ledger with the same stand
 

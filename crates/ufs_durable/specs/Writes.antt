@@ -1,6 +1,7 @@
 -- Blocks that are written one after the other, and what a disk has behind them.
 use Rattle.std.specs.Prelude.{ℕ, ◌≡◌, List, [], ◌∷◌, ◌++◌, flat_map, false, if◌then◌else◌, length, unwrap_or}
 use Rattle.std.specs.List.{AllByRecursion, range_with_len, slice_get}
+use Rattle.ufs_disk.specs.Disk.{possible}
 use Rattle.ufs_disk.specs.Moments.{Moments}
 use Rattle.ufs_extent.specs.Runs.{blocks_of}
 use Rattle.ufs_file.specs.Content.{block_bytes}
@@ -9,7 +10,7 @@ use Rattle.ufs_layout.specs.declared.geometry.Geometry.{Geometry}
 use Rattle.ufs_layout.specs.declared.records.LogRecord.{LogRecord}
 use Rattle.ufs_ledger.specs.Changes.{tried, written}
 use Rattle.ufs_ledger.specs.Laws.{MayWrite}
-use Rattle.ufs_ledger.specs.Ledger.{IsDataBlock, IsLedgerOf, Ledger}
+use Rattle.ufs_ledger.specs.Ledger.{IsDataBlock, IsLedgerOf, IsMixOf, Ledger, is_held}
 use Rattle.ufs_store.specs.Ledgers.{HasLedger, after_commit}
 use Rattle.ufs_store.specs.State.{StoreState}
 
@@ -38,6 +39,8 @@ pub record HasTriedOne (s : StoreState) (ws : List BlockWrite) (l : Ledger) : Ty
   -- what the block reads as then
   pub reads : List ℕ
   pub has : IsLedgerOf s.sectors s.moments.state (tried one.block one.bytes reads (with_writes before l))
+  -- which is of what it was and what was to be written
+  pub mixed : is_held l.now.log one.block ≡ false → IsMixOf (possible ((written one.block one.bytes (with_writes before l)).blocks one.block)) reads
 
 -- ---- a file
 

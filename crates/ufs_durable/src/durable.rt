@@ -23,7 +23,7 @@ use std::alloc::Global;
 use std::marker::Model;
 use std::mem;
 use ufs_base::Memory;
-use ufs_extent::Runs;
+use ufs_extent::{Extents, Runs};
 use ufs_file::FileHand;
 use ufs_ilog::InodeLog;
 use ufs_store::{Door, StoreFault};
@@ -65,6 +65,16 @@ impl FileCommits {
         ensures { result.now ≡ self.now.dropped }
     {
         &self.dropped
+    }
+
+    /// Notes that the file, which had these runs, has no byte any more. What becomes of its blocks is the caller's matter.
+    /// Takes no memory.
+    pub fn note_emptied(&mut self, before: &Extents, none: &Extents)
+        requires before { before.now ≡ self.old.log.noted.runs }
+        requires none { none.now ≡ [] }
+        ensures { self.new ≡ record self.old { log = record (self.old.log) { noted = record { runs = []; size = 0 } } } }
+    {
+        self.log.note(before, none, 0);
     }
 }
 

@@ -155,8 +155,15 @@ impl FileHands {
         hand.apply(ask, by, ticket, pool)
     }
 
-    // Puts a hand in the place of the one that was there, which is the answer.
-    fn replace(&mut self, file: u32, hand: FileHand) -> Result<Option<FileHand>, Memory>
+    /// Each stands under its own number.
+    pub fn are_numbered(&self)
+        ensures { AreNumbered self.now }
+    {
+        let _count = self.hands.len();
+    }
+
+    /// Puts a hand in the place of the one that was there, which is the answer. Where one was there no memory is taken.
+    pub fn replace(&mut self, file: u32, hand: FileHand) -> Result<Option<FileHand>, Memory>
         requires number { hand.file ≡ file }
         ensures ok { OnOk result (self.new ≡ map.insert self.old file hand) }
         ensures old { IfOk result (λ old. old ≡ map.get self.old file) }

@@ -4,6 +4,7 @@ use ufs_bitmap::Pool;
 use ufs_disk::Disk;
 use ufs_extent::Runs;
 use ufs_ilog::{InodeLog, NamesLog};
+use ufs_layout::Geometry;
 
 /// Goes to a store that it borrows.
 #[derive(Drop)]
@@ -18,12 +19,24 @@ impl<'a, D: Disk> Door for Direct<'a, D> {
 
     ghost store = { λ d. ⟦<Store<D> as Door>⟧.store d.store.now };
 
+    fn geometry(&self) -> Geometry {
+        self.store.geometry()
+    }
+
+    fn stopped(&self) -> Option<u64> {
+        self.store.stopped()
+    }
+
     fn read_block(&mut self, block: u32, buf: &mut [u8]) -> Result<(), StoreFault> {
         self.store.read_block(block, buf)
     }
 
     fn write_block(&mut self, block: u32, bytes: &[u8]) -> Result<(), StoreFault> {
         self.store.write_block(block, bytes)
+    }
+
+    fn settle(&mut self) -> Result<(), StoreFault> {
+        self.store.settle()
     }
 
     fn commit_names(&mut self, log: &mut NamesLog) -> Result<u64, StoreFault> {
@@ -45,4 +58,6 @@ impl<'a, D: Disk> Door for Direct<'a, D> {
     fn checkpoint(&mut self) -> Result<(), StoreFault> {
         self.store.checkpoint()
     }
+
+    ghost whole = { λ told d. D.whole told d.store.now.disk };
 }

@@ -5,11 +5,12 @@ ghost use Rattle.std.specs.FinSet as set;
 ghost use Rattle.ufs_base.specs.Faults.{HasCause};
 ghost use Rattle.ufs_base.specs.declared.sizes.TheConstants.{BLOCK};
 ghost use Rattle.ufs_bitmap.specs.Taking.{set_of};
+ghost use Rattle.ufs_disk.specs.Disk.{IsWhole};
 ghost use Rattle.ufs_disk.specs.Moments.{LeavesOnly, reads};
 ghost use Rattle.ufs_ilog.specs.Deltas.{IsDelta};
 ghost use Rattle.ufs_image.specs.Fold.{is_in_range};
 ghost use Rattle.ufs_image.specs.Images.{block_at};
-ghost use Rattle.ufs_layout.specs.Areas.{is_inode_number};
+ghost use Rattle.ufs_layout.specs.Areas.{IsGeometry, first_of_data, is_inode_number};
 ghost use Rattle.ufs_layout.specs.Filled.{sector_count_of};
 ghost use Rattle.ufs_layout.specs.Superblock.{geometry_of};
 ghost use Rattle.ufs_layout.specs.declared.records.LogRecord.{LogRecord};
@@ -26,6 +27,7 @@ use crate::{StoreFault, Uncommitted};
 use ufs_bitmap::Pool;
 use ufs_extent::Runs;
 use ufs_ilog::{InodeLog, NamesLog};
+use ufs_layout::Geometry;
 
 /// The calls of a store.
 ///
@@ -40,6 +42,18 @@ pub trait Door {
 
     /// The store.
     ghost store: { Self → StoreState };
+
+    /// The form of the disk.
+    fn geometry(&self) -> Geometry
+        ensures is { result ≡ geometry_of_store (store self.now) }
+        ensures form { IsGeometry result }
+        // what is unassigned is of the data area
+        ensures first { (store self.now).unassigned.first ≡ first_of_data result }
+        ensures blocks { (store self.now).unassigned.blocks ≡ result.blocks };
+
+    /// The failed write or barrier at which the store stopped.
+    fn stopped(&self) -> Option<u64>
+        ensures { result ≡ (store self.now).stop };
 
     /// Reads a block of the data area. A fault stops nothing; after it `buf` may hold anything.
     fn read_block(&mut self, block: u32, buf: &mut [u8]) -> Result<(), StoreFault>
@@ -65,6 +79,21 @@ pub trait Door {
         ensures ok { IsTrue tells → OnOk result ((l : Ledger) → HasLedger (store self.old) l → MayWrite l block bytes.now → HasLedger (store self.new) (written block bytes.now l)) }
         ensures err { IsTrue tells → OnErr result ((l : Ledger) → HasLedger (store self.old) l → MayWrite l block bytes.now
             → IsLedgerOf (store self.new).sectors (store self.new).moments.state (tried block bytes.now (block_at (reads (store self.new).moments) block) l)) }
+        ensures rest { store self.new ≡ record (store self.old) { moments = (store self.new).moments; faults = (store self.new).faults; unsettled = (store self.new).unsettled; stop = (store self.new).stop } }
+        ensures stopped { (fault : ℕ) → (result ≡ Err (refusal.Stopped fault)) ↔ ((store self.old).stop ≡ Some fault) }
+        ensures still { (fault : ℕ) → (store self.old).stop ≡ Some fault → store self.new ≡ store self.old }
+        ensures cause { IsTold (store self.old).faults (store self.new).faults (fault_in result) }
+        ensures stop { (store self.new).stop ≡ stop_after (store self.old).stop (fault_in result) }
+        ensures refused { IfErr result (λ fault. IsTrue (is_of_disk fault)) };
+
+    /// Waits until all that was written is on the disk for good. Where no block was written since the last
+    /// barrier, nothing is done.
+    fn settle(&mut self) -> Result<(), StoreFault>
+        ensures crash { IsTrue tells → (l : Ledger) → HasLedger (store self.old) l
+            → LeavesOnly keeps (IsLeftBy (store self.old).sectors l) (store self.old).moments (store self.new).moments }
+        ensures ok { IsTrue tells → OnOk result ((l : Ledger) → HasLedger (store self.old) l → HasLedger (store self.new) (settled l)) }
+        ensures err { IsTrue tells → OnErr result ((l : Ledger) → HasLedger (store self.old) l → IsLedgerOf (store self.new).sectors (store self.new).moments.state l) }
+        ensures nothing { (store self.old).unsettled ≡ false → store self.new ≡ store self.old }
         ensures rest { store self.new ≡ record (store self.old) { moments = (store self.new).moments; faults = (store self.new).faults; unsettled = (store self.new).unsettled; stop = (store self.new).stop } }
         ensures stopped { (fault : ℕ) → (result ≡ Err (refusal.Stopped fault)) ↔ ((store self.old).stop ≡ Some fault) }
         ensures still { (fault : ℕ) → (store self.old).stop ≡ Some fault → store self.new ≡ store self.old }
@@ -169,4 +198,7 @@ pub trait Door {
         ensures cause { IsTold (store self.old).faults (store self.new).faults (fault_in result) }
         ensures stop { (store self.new).stop ≡ stop_after (store self.old).stop (fault_in result) }
         ensures refused { IfErr result (λ fault. is_no_space fault ≡ false) };
+
+    /// Whatever a crash leaves in a sector is 512 bytes.
+    ghost whole: { IsTrue tells → (door : Self) → IsWhole (store door).sectors (store door).moments.state };
 }

@@ -28,7 +28,7 @@ use ufs_bitmap::{Bitmap, Pool};
 use ufs_disk::Disk;
 use ufs_extent::Runs;
 use ufs_ilog::{InodeLog, NamesLog};
-use ufs_layout::Super;
+use ufs_layout::{Geometry, Super};
 use ufs_ledger::{read_data, settle, write_data};
 
 /// The blocks that a pool gets besides those that are missing.
@@ -182,6 +182,9 @@ fn pass_barrier<D: Disk>(tables: &mut Tables, disk: &mut D) -> Result<(), StoreF
     ensures ok { IsTrue D.tells → OnOk result ((l : Ledger) → HasLedger (state_of (D.size disk.old) (D.moments disk.old) (D.faults disk.old) tables.old) l → HasLedger (state_of (D.size disk.new) (D.moments disk.new) (D.faults disk.new) tables.new) (settled l)) }
     ensures err { IsTrue D.tells → OnErr result ((l : Ledger) → HasLedger (state_of (D.size disk.old) (D.moments disk.old) (D.faults disk.old) tables.old) l → IsLedgerOf (D.size disk.new) (D.moments disk.new).state l) }
     ensures nothing { tables.old.unsettled ≡ false → (D.moments disk.new ≡ D.moments disk.old) × (D.faults disk.new ≡ D.faults disk.old) }
+    ensures idle { tables.old.unsettled ≡ false → state_of (D.size disk.new) (D.moments disk.new) (D.faults disk.new) tables.new ≡ state_of (D.size disk.old) (D.moments disk.old) (D.faults disk.old) tables.old }
+    ensures rest { state_of (D.size disk.new) (D.moments disk.new) (D.faults disk.new) tables.new
+        ≡ record (state_of (D.size disk.old) (D.moments disk.old) (D.faults disk.old) tables.old) { moments = D.moments disk.new; faults = D.faults disk.new; unsettled = tables.new.unsettled; stop = tables.new.stop } }
     ensures number { tables.new.journal ≡ tables.old.journal }
     ensures blocks { tables.new.unassigned ≡ tables.old.unassigned }
     ensures size { D.size disk.new ≡ D.size disk.old }
@@ -257,6 +260,14 @@ impl<D: Disk> Door for Store<D> {
 
     ghost store = { λ s. state_of (D.size s.disk) (D.moments s.disk) (D.faults s.disk) s.tables };
 
+    fn geometry(&self) -> Geometry {
+        self.tables.journal.geometry
+    }
+
+    fn stopped(&self) -> Option<u64> {
+        self.tables.stop
+    }
+
     fn read_block(&mut self, block: u32, buf: &mut [u8]) -> Result<(), StoreFault> {
         match read_data(&mut self.disk, block, buf) {
             Ok(()) => Ok(()),
@@ -275,6 +286,11 @@ impl<D: Disk> Door for Store<D> {
             }
             Err(fault) => Err(stop_at(&mut self.tables.stop, fault)),
         }
+    }
+
+    fn settle(&mut self) -> Result<(), StoreFault> {
+        check_stop(&self.tables)?;
+        pass_barrier(&mut self.tables, &mut self.disk)
     }
 
     fn commit_names(&mut self, log: &mut NamesLog) -> Result<u64, StoreFault> {
@@ -315,4 +331,6 @@ impl<D: Disk> Door for Store<D> {
         check_stop(&self.tables)?;
         begin_next(&mut self.tables, &mut self.disk, false)
     }
+
+    ghost whole = { λ told s. D.whole told s.disk };
 }

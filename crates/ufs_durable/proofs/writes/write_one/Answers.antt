@@ -2,7 +2,9 @@ use Rattle.std.proofs.Common.{◌≡◌, ◌∙◌, ℕ, Option, ap, length, sym
 use Rattle.std.proofs.lemmas.Result.{on_err_weaker}
 use Rattle.ufs_disk.specs.Moments.{reads}
 use Rattle.ufs_durable.specs.Writes.{write_of}
-use Rattle.ufs_durable.proofs.Behind.{one_tried}
+use Rattle.ufs_disk.specs.Disk.{seen}
+use Rattle.ufs_disk.proofs.Images.{seen_is_image}
+use Rattle.ufs_durable.proofs.Behind.{mixed_then, one_tried}
 use Rattle.ufs_durable.proofs.Cells.{length_block}
 use Rattle.ufs_durable.proofs.writes.write_one.Goals as goal
 
@@ -15,7 +17,8 @@ returns-clause-err g c told =
     let s = g.D.Door.store c.write_block.new.self in
     let block : c.in-Some.block ≡ w.block = ap (λ (o : Option ℕ). unwrap_or o 0) (sym c.in-Some.is ∙ c.block_number.ensures) in
     on_err_weaker c.write_block.result
-    (λ tells l has may. one_tried c.in-Some.block w.block c.in-Some-block.bytes.now w.bytes block c.in-Some-block.ensures.bytes s (reads s.moments) l may.0 (λ here. tells l has here))
+    (λ tells l has may. one_tried c.in-Some.block w.block c.in-Some-block.bytes.now w.bytes block c.in-Some-block.ensures.bytes s (reads s.moments) l may.0 (λ here. tells l has here)
+    (λ here free. mixed_then _ l c.in-Some.block c.in-Some-block.bytes.now s.moments.state has.by.none here free ((c.write_block.ensures.crash told l has here).after (seen s.moments.state) (seen_is_image s.moments.state))))
     (c.write_block.ensures.err told)
 
 pub returns-clause-stopped : goal.returns-clause-stopped
