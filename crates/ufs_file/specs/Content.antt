@@ -47,6 +47,10 @@ block_bytes bytes place = resized (drop (BLOCK * place) bytes) BLOCK
 abbrev pub cleaned : Content → Content
 cleaned c = record c { dirty = replicate (length c.dirty) false }
 
+-- one block marked
+abbrev pub marked : Content → ℕ → Content
+marked c place = record c { dirty = over c.dirty place (true ∷ []) }
+
 -- bytes that were read, in as many blocks as they need
 abbrev pub as_read : List ℕ → Content
 as_read bytes = record { bytes = bytes; dirty = replicate (block_count (length bytes)) false }

@@ -148,17 +148,17 @@ fn clear_at(table: &mut Vec<Block>, k: usize, from: usize)
     clear_behind(block, from);
 }
 
-/// Marks the block at place k as not written.
-fn clean_at(table: &mut Vec<Block>, k: usize)
+/// Marks the block at place k as written, or as not.
+pub(crate) fn mark_at(table: &mut Vec<Block>, k: usize, dirty: bool)
     requires whole { All IsWhole table.old.items }
     requires there { k < length table.old.items }
     ensures whole { All IsWhole table.new.items }
     ensures length { length table.new.items ≡ length table.old.items }
     ensures bytes { bytes_in table.new.items ≡ bytes_in table.old.items }
-    ensures marks { marks_of table.new.items ≡ over (marks_of table.old.items) k (false ∷ []) }
+    ensures marks { marks_of table.new.items ≡ over (marks_of table.old.items) k (dirty ∷ []) }
 {
     let block = &mut table[k];
-    block.dirty = false;
+    block.dirty = dirty;
 }
 
 /// Marks every block as not written.
@@ -170,6 +170,6 @@ pub(crate) fn clean_all(table: &mut Vec<Block>)
     ensures marks { marks_of table.new.items ≡ replicate (length table.old.items) false }
 {
     for k in 0..table.len() {
-        clean_at(table, k);
+        mark_at(table, k, false);
     }
 }

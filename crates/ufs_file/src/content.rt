@@ -2,7 +2,7 @@
 ghost use Rattle.std.specs.Prelude.{◌≡◌, ◌+◌, ◌≤◌, ◌<◌, length, IfOk, OnOk, OnErr};
 ghost use Rattle.ufs_file.specs.Content.{Content, no_content, grown, written_over, shortened};
 
-use crate::blocks::{Block, clean_all, cut_over, piece, put_over, read_over, zero_blocks};
+use crate::blocks::{Block, clean_all, cut_over, mark_at, piece, put_over, read_over, zero_blocks};
 use std::alloc::Global;
 use std::marker::Model;
 use ufs_base::{BLOCK, Memory};
@@ -31,7 +31,7 @@ impl Model for Blocks {
 impl Blocks {
     ghost use Rattle.std.specs.Prelude.{◌≡◌, ◌+◌, ◌≤◌, ◌<◌, length, max, slice_get, IfOk, OnOk, OnErr, IfSome, IfNone};
     ghost use Rattle.ufs_model.specs.FileBytes.{part, max_size};
-    ghost use Rattle.ufs_file.specs.Content.{Content, no_content, as_read, block_bytes, block_count, cleaned, grown, written_over, shortened};
+    ghost use Rattle.ufs_file.specs.Content.{Content, no_content, as_read, block_bytes, block_count, cleaned, grown, marked, written_over, shortened};
 
     /// No byte. Takes no memory.
     pub fn new(alloc: Global) -> Blocks
@@ -161,5 +161,13 @@ impl Blocks {
         ensures { self.new ≡ cleaned self.old }
     {
         clean_all(&mut self.table);
+    }
+
+    /// The block at this place is to be written: the disk has other bytes behind the file's end. Takes no memory.
+    pub fn mark(&mut self, place: usize)
+        requires { place < length self.old.dirty }
+        ensures { self.new ≡ marked self.old place }
+    {
+        mark_at(&mut self.table, place, true);
     }
 }

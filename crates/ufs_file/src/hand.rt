@@ -62,7 +62,7 @@ impl FileHand {
     ghost use Rattle.ufs_model.specs.declared.data.Reply.TheVariants.{Got};
     ghost use Rattle.ufs_model.specs.declared.data.Excuse.TheVariants as excuse;
     ghost use Rattle.ufs_extent.specs.Runs.{IsRun, blocks_of, appended_all};
-    ghost use Rattle.ufs_file.specs.Content.{as_read, no_content, block_bytes, block_count, cleaned, shortened, written_over};
+    ghost use Rattle.ufs_file.specs.Content.{as_read, no_content, block_bytes, block_count, cleaned, marked, shortened, written_over};
     ghost use Rattle.ufs_bitmap.specs.Taking.{IsApart, Takes, set_of};
     ghost use Rattle.ufs_model.specs.FileCalls.{is_on_file, place_refusal, file_refusal, file_answer, desc_after};
     ghost use Rattle.ufs_file.specs.Hand.{FileState, IsCause, IsChanged, lengthened, content_put, content_sized, content_after, missing, IsServed, IsExcusedFor, IsEntryOf, IsOf, IsFileOf, IsPosix};
@@ -219,6 +219,14 @@ impl FileHand {
         ensures { self.new ≡ record self.old { content = cleaned self.old.content } }
     {
         self.blocks.clean();
+    }
+
+    /// The block at this place is to be written: the disk has other bytes there, behind the file's end. Takes no memory.
+    pub fn mark(&mut self, place: usize)
+        requires { place < length self.old.content.dirty }
+        ensures { self.new ≡ record self.old { content = marked self.old.content place } }
+    {
+        self.blocks.mark(place);
     }
 
     /// All its blocks; the file is no more. Takes no memory.

@@ -2,7 +2,7 @@
 use Rattle.std.proofs.Common.{◌≡◌, ℕ, ◌≤◌, ◌&&◌, not, List, Bool, true, false, Option, Some, None, slice_index_or, refl, sym, ◌∙◌, subst}
 use Rattle.std.specs.Prelude.{Ok}
 use Rattle.ufs_base.specs.Images as images
-use Rattle.ufs_catalog.specs.Faults.{IsOutside}
+use Rattle.ufs_catalog.specs.Faults.{HasFaultCause, IsOutside}
 use Rattle.ufs_catalog.specs.declared.fault.RecoverFault.{RecoverFault}
 use Rattle.ufs_catalog.specs.declared.fault.RecoverFault.TheVariants.{NoSuperblock, BadVersion, BadGeometry, BadRecord, BadTree, Device, Memory}
 use Rattle.ufs_damage.specs.Findings.{AreFindingsOf, CatalogRead}
@@ -21,10 +21,10 @@ use Rattle.ufs_opening.specs.Told.{TellsWhy}
 use Rattle.ufs_volume.specs.Volumes.{volume_in}
 use Rattle.ufs_volume.specs.declared.volume.FoldedVolume.{FoldedVolume}
 use Rattle.ufs_start.specs.Begun.{IsBegun, catalog_under, image_under}
-use Rattle.ufs_start.specs.Refused.{IsRefusedFile, TellsNoStart}
-use Rattle.ufs_start.specs.Starts.{AreNumbersOf, AreStartNames, IsLoaded}
+use Rattle.ufs_start.specs.Refused.{HasStartCause, IsNamesFault, IsRefusedFile, TellsNoStart}
+use Rattle.ufs_start.specs.Starts.{AreNumbersOf, AreStartNames, IsLoaded, IsUndamaged}
 use Rattle.ufs_start.specs.declared.fault.StartFault.{StartFault}
-use Rattle.ufs_start.specs.declared.fault.StartFault.TheVariants.{Image, ExtraBlocks, TooLong}
+use Rattle.ufs_start.specs.declared.fault.StartFault.TheVariants.{Image, Unreached, ExtraBlocks, TooLong}
 use Rattle.ufs_start.specs.declared.parts.Start.{Start}
 
 pub is_loaded : (v : FoldedVolume) (f : CatalogRead) (sectors : ℕ) (disk : images.Image) → volume sectors disk ≡ Ok (volume_in v disk) → IsCatalogOf v.head.geometry (image_under v.head disk) (catalog_under v.head disk)
@@ -59,8 +59,22 @@ outside_why sectors disk Memory is = tt
 pub refused_file : (v : FoldedVolume) (sectors : ℕ) (disk : images.Image) → volume sectors disk ≡ Ok (volume_in v disk) → (fault : StartFault) → IsRefusedFile (form_at v.head.geometry (image_under v.head disk)) fault
     → TellsNoStart sectors disk fault
 refused_file v sectors disk taken (Image fault) is = outside_why sectors disk fault is
+refused_file v sectors disk taken (Unreached inode) is = absurd is
 refused_file v sectors disk taken (ExtraBlocks inode) is = (volume_in v disk, taken, is)
 refused_file v sectors disk taken (TooLong inode) is = (volume_in v disk, taken, is)
+
+pub refused_names : (v : FoldedVolume) (f : CatalogRead) (sectors : ℕ) (disk : images.Image) → volume sectors disk ≡ Ok (volume_in v disk) → IsUndamaged v.head.geometry (image_under v.head disk) f → (fault : StartFault) → IsNamesFault v.head.geometry f fault
+    → TellsNoStart sectors disk fault
+refused_names v f sectors disk taken undamaged (Image fault) is = subst (TellsWhy sectors disk) (sym is) tt
+refused_names v f sectors disk taken undamaged (Unreached inode) is = (volume_in v disk, taken, is (image_under v.head disk) undamaged)
+refused_names v f sectors disk taken undamaged (ExtraBlocks inode) is = absurd is
+refused_names v f sectors disk taken undamaged (TooLong inode) is = absurd is
+
+pub calm_names : (g : Geometry) (f : CatalogRead) (fault : StartFault) → IsNamesFault g f fault → (count : ℕ) → HasStartCause count count fault
+calm_names g f (Image fault) is count = subst (HasFaultCause count count) (sym is) refl
+calm_names g f (Unreached inode) is count = refl
+calm_names g f (ExtraBlocks inode) is count = refl
+calm_names g f (TooLong inode) is count = refl
 
 -- ---- free blocks
 

@@ -1,22 +1,22 @@
 -- Files that come to others, and the forms that were read.
 use Rattle.std.proofs.Common.{◌≡◌, ◌≢◌, ℕ, zero, suc, ◌+◌, ◌<◌, ◌≤◌, ◌⊎◌, inl, inr, List, [], ◌∷◌, Option, None, Some, length, get_or, slice_index_or, ap, sym, ◌∙◌, subst, arith}
-use Rattle.std.specs.Prelude.{IsSome, unwrap_or}
+use Rattle.std.specs.Prelude.{IsSome, flat_map, unwrap_or}
 use Rattle.std.specs.Ordering.{nat_cmp}
 use Rattle.std.specs.FinMap as fin
 use Rattle.std.proofs.lemmas.List.FromFn.{get_or-map-range_with_len, length-map-range_with_len}
 use Rattle.ufs_base.specs.Images.{Image}
-use Rattle.ufs_file.specs.Content.{as_read}
 use Rattle.ufs_file.specs.Hand.{FileState}
 use Rattle.ufs_files.specs.Files.{Files}
 use Rattle.ufs_files.proofs.MapLemmas.{one_or_apart, put_here, put_else, is_here}
 use Rattle.ufs_image.specs.Catalog.{Catalog}
-use Rattle.ufs_image.specs.Images.{inode_at, form_at}
+use Rattle.ufs_image.specs.Images.{block_at, inode_at, form_at}
+use Rattle.ufs_image.specs.Nodes as nodes
 use Rattle.ufs_layout.specs.InodeForm.{InodeForm, free_inode}
 use Rattle.ufs_layout.specs.declared.geometry.Geometry.{Geometry}
 use Rattle.ufs_model.proofs.Facts.Lookups.{same_some}
 use Rattle.ufs_names.specs.NamesPart.{NamesPart}
 use Rattle.ufs_names_image.specs.Loaded.{IsRead, AreRead}
-use Rattle.ufs_start.specs.Files.{AreClean, AreFormsOf}
+use Rattle.ufs_start.specs.Files.{AreFormsOf, AreLaid, AreLoaded, IsLaid, loaded}
 
 -- ---- the form of an inode
 
@@ -46,10 +46,16 @@ module _ (files : Files) (file : ℕ) (s : FileState) where
     | inr old ↦ are other r old
   ]
 
-  pub clean_with : AreClean files → s.content ≡ as_read s.content.bytes → AreClean (fin.insert files file s)
-  clean_with clean is other r there = elim (met other r there) [
-    | inl new ↦ subst (λ (x : FileState). x.content ≡ as_read x.content.bytes) (sym new.1) is
-    | inr old ↦ clean other r old
+  pub loaded_with : (image : Image) (c : Catalog) → AreLoaded image c files → s.content ≡ loaded (flat_map (block_at image) (nodes.blocks_of (c.forms s.inode))) (c.forms s.inode).size → AreLoaded image c (fin.insert files file s)
+  loaded_with image c are is other r there = elim (met other r there) [
+    | inl new ↦ subst (λ (x : FileState). x.content ≡ loaded (flat_map (block_at image) (nodes.blocks_of (c.forms x.inode))) (c.forms x.inode).size) (sym new.1) is
+    | inr old ↦ are other r old
+  ]
+
+  pub laid_with : (c : Catalog) → AreLaid c files → IsLaid c s → AreLaid c (fin.insert files file s)
+  laid_with c are is other r there = elim (met other r there) [
+    | inl new ↦ subst (IsLaid c) (sym new.1) is
+    | inr old ↦ are other r old
   ]
 
   pub here_with : IsSome (fin.get (fin.insert files file s) file)
@@ -66,8 +72,11 @@ module _ (files : Files) (file : ℕ) (s : FileState) where
 pub none_read : (image : Image) (c : Catalog) (n : NamesPart) (files : Files) → files ≡ fin.empty → AreRead image c n files
 none_read image c n files none file s there = let empty = fin.get-empty {X = FileState} nat_cmp file in let was = ap (λ (fs : Files). fin.get fs file) none in cc
 
-pub none_clean : (files : Files) → files ≡ fin.empty → AreClean files
-none_clean files none file s there = let empty = fin.get-empty {X = FileState} nat_cmp file in let was = ap (λ (fs : Files). fin.get fs file) none in cc
+pub none_loaded : (image : Image) (c : Catalog) (files : Files) → files ≡ fin.empty → AreLoaded image c files
+none_loaded image c files none file s there = let empty = fin.get-empty {X = FileState} nat_cmp file in let was = ap (λ (fs : Files). fin.get fs file) none in cc
+
+pub none_laid : (c : Catalog) (files : Files) → files ≡ fin.empty → AreLaid c files
+none_laid c files none file s there = let empty = fin.get-empty {X = FileState} nat_cmp file in let was = ap (λ (fs : Files). fin.get fs file) none in cc
 
 -- ---- numbers by inode
 

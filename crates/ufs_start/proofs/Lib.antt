@@ -8,3 +8,4 @@ mod FileLemmas
 mod Beginning
 mod TableLemmas
 mod Tabled
+mod Reaching

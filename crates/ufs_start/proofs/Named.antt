@@ -9,6 +9,7 @@ use Rattle.ufs_image.specs.Opens.{opens}
 use Rattle.ufs_image.specs.Volume.{Volume}
 use Rattle.ufs_image.proofs.Opening.{opens_to}
 use Rattle.ufs_damage.specs.Findings.{CatalogRead}
+use Rattle.ufs_dir_tree.specs.DirTable.{IsReached}
 use Rattle.ufs_dir_image.specs.Tables.{IsTableOf}
 use Rattle.ufs_model.specs.PosixTree.{PosixTree}
 use Rattle.ufs_model.specs.Start.{IsPathTree}
@@ -65,10 +66,10 @@ module _ (g : Geometry) (f : CatalogRead) (sectors : ℕ) (disk : Image) (head :
     only = λ i file e. told.only i file (ap (λ (l : List (Option ℕ)). get_or l i None) (sym are) ∙ e);
   }
 
-  pub name_table : (n : NameTable) (files : List (Option ℕ)) → n.files ≡ files → length n.files ≡ length n.dirs.dirs → AreNumbersOf g image files → IsTableOf g c n.dirs → IsNameTable n
-  name_table n files are counted told table =
+  pub name_table : (n : NameTable) (files : List (Option ℕ)) → n.files ≡ files → length n.files ≡ length n.dirs.dirs → AreNumbersOf g image files → IsTableOf g c n.dirs → IsReached n.dirs → IsNameTable n
+  name_table n files are counted told table reached =
       is_name_table sectors disk v c n start loaded.standing (start_is_tree (paths_of (tree_in g image)) path_tree) contents (named_once start (start_is_numbered (paths_of (tree_in g image)))) table
-      (numbered n files are counted told)
+      (numbered n files are counted told) reached
 
   pub start_names : (n : NamesPart) (files : List (Option ℕ)) → n.tree.files ≡ files → length n.tree.files ≡ length n.tree.dirs.dirs → AreNumbersOf g image files → IsTableOf g c n.tree.dirs
       → AreClosed n.tree n.held → n.next ≡ start.next → AreStartNames sectors disk g image n

@@ -4,6 +4,7 @@ use Rattle.std.specs.FinMap as map
 use Rattle.std.specs.FinSet as set
 use Rattle.ufs_base.specs.Images.{Image}
 use Rattle.ufs_catalog.specs.declared.head.ImageHead.{ImageHead}
+use Rattle.ufs_dir_tree.specs.DirTable.{IsReached}
 use Rattle.ufs_files.specs.Files.{AreFilesOf}
 use Rattle.ufs_image.specs.Catalog.{Catalog, catalog_at}
 use Rattle.ufs_image.specs.Fold.{folded}
@@ -20,7 +21,7 @@ use Rattle.ufs_names.specs.Space.{AreApart}
 use Rattle.ufs_names_image.specs.Loaded.{AreRead}
 use Rattle.ufs_names_image.specs.Parts.{IsNamesOf}
 use Rattle.ufs_names_image.specs.Starts.{image_start}
-use Rattle.ufs_start.specs.Files.{AreClean}
+use Rattle.ufs_start.specs.Files.{AreLaid, AreLoaded}
 use Rattle.ufs_start.specs.Starts.{tree_in}
 use Rattle.ufs_start.specs.declared.parts.Start.{Start}
 
@@ -43,11 +44,14 @@ pub record IsBegun (sectors : ℕ) (disk : Image) (s : Start) : Type 0 where
   pub opened : opens sectors disk ≡ Ok (tree_under s.head disk)
   pub table : IsNamesOf s.head.geometry (catalog_under s.head disk) (image_start (tree_under s.head disk)) s.names
   pub names : IsPartOf s.names (image_start (tree_under s.head disk))
+  -- each directory that has a name is met
+  pub reached : IsReached s.names.tree.dirs
   pub read : AreRead (image_under s.head disk) (catalog_under s.head disk) s.names s.files
   pub files : AreFilesOf s.files (image_start (tree_under s.head disk))
   pub inodes : HaveInodes s.names.held s.files
   pub here : (inode file : ℕ) → file_at s.names.tree inode ≡ Some file → IsSome (map.get s.files file)
-  pub clean : AreClean s.files
+  pub loaded : AreLoaded (image_under s.head disk) (catalog_under s.head disk) s.files
+  pub laid : AreLaid (catalog_under s.head disk) s.files
   pub first : s.free.first ≡ first_of_data s.head.geometry
   pub blocks : s.free.blocks ≡ s.head.geometry.blocks
   pub free : (block : ℕ) → set.contains s.free.free block ≡ is_free_block s.head.geometry (image_under s.head disk) block

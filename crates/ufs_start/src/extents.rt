@@ -1,5 +1,5 @@
 // Where an inode's blocks lie.
-ghost use Rattle.std.specs.Prelude.{◌≡◌, ◌++◌, ◌∷◌, [], IfOk, OnOk};
+ghost use Rattle.std.specs.Prelude.{◌≡◌, ◌++◌, ◌∷◌, [], map, IfOk, OnOk};
 ghost use Rattle.ufs_extent.specs.Runs as runs;
 ghost use Rattle.ufs_image.specs.Nodes as nodes;
 ghost use Rattle.ufs_start.specs.Extents.{run_of};
@@ -12,7 +12,8 @@ use ufs_layout::{Extent, Inode};
 /// The blocks of an inode, in the order of its bytes. An extent that leaves every image counts as want of memory: no
 /// sound image has one.
 pub(crate) fn extents_in(alloc: Global, form: &Inode) -> Result<Extents, Memory>
-    ensures { IfOk result (λ e. runs.blocks_of e ≡ nodes.blocks_of form.now) }
+    ensures runs { IfOk result (λ e. e ≡ map run_of form.now.extents) }
+    ensures blocks { IfOk result (λ e. runs.blocks_of e ≡ nodes.blocks_of form.now) }
 {
     let mut runs = Runs::new(alloc);
     for extent in form.used_extents() {

@@ -1,5 +1,5 @@
 // The files of an image, with their bytes. What no sound image has counts as want of memory here.
-ghost use Rattle.std.specs.Prelude.{ℕ, ◌≡◌, ◌≤◌, ◌<◌, ◌+◌, ◌*◌, ◌++◌, length, flat_map, None, Some, IsSome, slice_index_or, IsTrue, IfOk, IfErr, OnOk};
+ghost use Rattle.std.specs.Prelude.{ℕ, ◌≡◌, ◌≤◌, ◌<◌, ◌+◌, ◌-◌, ◌*◌, ◌++◌, true, if◌then◌else◌, length, map as mapped, flat_map, None, Some, IsSome, slice_index_or, IsTrue, IfOk, IfErr, OnOk};
 ghost use Rattle.std.specs.FinMap as map;
 ghost use Rattle.ufs_base.specs.Images.{Image};
 ghost use Rattle.ufs_base.specs.declared.sizes.TheConstants.{BLOCK};
@@ -9,17 +9,19 @@ ghost use Rattle.ufs_catalog.specs.Folded.{IsFolded};
 ghost use Rattle.ufs_catalog.specs.Reading.{IsReadOnly};
 ghost use Rattle.ufs_damage.specs.Findings.{AreFindingsOf};
 ghost use Rattle.ufs_extent.specs.Runs as runs;
-ghost use Rattle.ufs_file.specs.Content.{as_read, block_count};
+ghost use Rattle.ufs_file.specs.Content.{as_read, block_count, marked};
 ghost use Rattle.ufs_image.specs.Catalog.{catalog_at};
 ghost use Rattle.ufs_image.specs.Images.{block_at, form_at};
 ghost use Rattle.ufs_image.specs.Nodes as nodes;
 ghost use Rattle.ufs_image.specs.Opens.{file_bytes};
 ghost use Rattle.ufs_layout.specs.InodeForm.{InodeForm};
+ghost use Rattle.ufs_layout.specs.Words.{is_zeros};
 ghost use Rattle.ufs_layout.specs.declared.geometry.Geometry.{Geometry};
 ghost use Rattle.ufs_model.specs.FileBytes.{max_size};
 ghost use Rattle.ufs_names.specs.NamesPart.{NamesPart};
 ghost use Rattle.ufs_names_image.specs.Loaded.{AreRead};
-ghost use Rattle.ufs_start.specs.Files.{AreClean, AreFormsOf, HasNumbers};
+ghost use Rattle.ufs_start.specs.Extents.{run_of};
+ghost use Rattle.ufs_start.specs.Files.{AreFormsOf, AreLaid, AreLoaded, HasNumbers, has_rest, loaded};
 ghost use Rattle.ufs_start.specs.Refused.{HasStartCause, IsRefusedFile};
 
 use crate::copy::append;
@@ -94,6 +96,7 @@ fn read_blocks<D: Disk>(
 // The blocks of a file, unless a server can't hold it.
 fn file_extents(alloc: Global, form: &Inode, inode: u32) -> Result<Extents, StartFault>
     ensures size { OnOk result (form.now.size ≤ max_size) }
+    ensures runs { IfOk result (λ e. e ≡ mapped run_of form.now.extents) }
     ensures blocks { IfOk result (λ e. runs.blocks_of e ≡ nodes.blocks_of form.now) }
     ensures count { IfOk result (λ e. length (runs.blocks_of e) ≡ block_count form.now.size) }
     ensures cause { IfErr result (λ f. (before : ℕ) → HasStartCause before before f) }
@@ -113,6 +116,33 @@ fn file_extents(alloc: Global, form: &Inode, inode: u32) -> Result<Extents, Star
     Ok(extents)
 }
 
+fn has_only_zeros(bytes: &[u8]) -> bool
+    ensures { result ≡ is_zeros bytes.now }
+{
+    bytes.iter().all(|b| *b == 0)
+}
+
+// Whether other bytes than zeros stand behind a file's end.
+fn is_followed(bytes: &[u8], size: usize) -> bool
+    requires { size ≤ length bytes.now }
+    ensures { result ≡ has_rest bytes.now size }
+{
+    !has_only_zeros(&bytes[size..])
+}
+
+// The last block of a file is to be written where the disk has other bytes behind the file's end: they would show once
+// the file grows.
+fn mark_end(hand: &mut FileHand, rest: bool)
+    requires { rest ≡ true → 1 ≤ length hand.old.content.dirty }
+    ensures content { hand.new.content ≡ (if rest then marked hand.old.content (length hand.old.content.dirty - 1) else hand.old.content) }
+    ensures else_kept { hand.new ≡ record hand.old { content = hand.new.content } }
+{
+    if rest {
+        let last = hand.block_count() - 1;
+        hand.mark(last as usize);
+    }
+}
+
 // A file with its blocks and bytes, and this number.
 fn file_in<D: Disk>(
     alloc: Global,
@@ -124,9 +154,12 @@ fn file_in<D: Disk>(
 ) -> Result<FileHand, StartFault>
     ensures file { IfOk result (λ h. h.file ≡ file) }
     ensures inode { IfOk result (λ h. h.inode ≡ inode) }
+    ensures runs { IfOk result (λ h. h.extents ≡ mapped run_of form.now.extents) }
+    ensures count { IfOk result (λ h. length (runs.blocks_of h.extents) ≡ block_count form.now.size) }
+    ensures marks { IfOk result (λ h. length h.content.dirty ≡ length (runs.blocks_of h.extents)) }
     ensures blocks { IfOk result (λ h. runs.blocks_of h.extents ≡ nodes.blocks_of form.now) }
     ensures bytes { IsTrue D.tells → (image : Image) → IsFolded overlay.now (reads (D.moments disk.old)) image → IfOk result (λ h. h.content.bytes ≡ file_bytes image form.now) }
-    ensures clean { IfOk result (λ h. h.content ≡ as_read h.content.bytes) }
+    ensures loaded { IsTrue D.tells → (image : Image) → IsFolded overlay.now (reads (D.moments disk.old)) image → IfOk result (λ h. h.content ≡ loaded (flat_map (block_at image) (nodes.blocks_of form.now)) form.now.size) }
     ensures read_only { IsTrue D.tells → IsReadOnly D.keeps (D.moments disk.old) (D.moments disk.new) }
     ensures size { D.size disk.new ≡ D.size disk.old }
     ensures passed { OnOk result (D.faults disk.new ≡ D.faults disk.old) }
@@ -135,8 +168,11 @@ fn file_in<D: Disk>(
 {
     let extents = file_extents(alloc, form, inode)?;
     let mut bytes = read_blocks(alloc, disk, overlay, &extents)?;
-    bytes.truncate(form.size as usize);
-    let hand = FileHand::from_read(alloc, file, inode, extents, &bytes)?;
+    let size = form.size as usize;
+    let rest = is_followed(&bytes, size);
+    bytes.truncate(size);
+    let mut hand = FileHand::from_read(alloc, file, inode, extents, &bytes)?;
+    mark_end(&mut hand, rest);
     Ok(hand)
 }
 
@@ -157,7 +193,9 @@ fn add_file<D: Disk>(
     ensures here { OnOk result ((file : ℕ) → slice_index_or numbers.now inode None ≡ Some file → IsSome (map.get files.new file)) }
     ensures read { IsTrue D.tells → (g : Geometry) (image : Image) (n : NamesPart) → IsFolded overlay.now (reads (D.moments disk.old)) image → AreFormsOf g image forms.now → HasNumbers n.tree numbers.now
         → AreRead image (catalog_at g image) n files.old → OnOk result (AreRead image (catalog_at g image) n files.new) }
-    ensures clean { AreClean files.old → OnOk result (AreClean files.new) }
+    ensures loaded { IsTrue D.tells → (g : Geometry) (image : Image) → IsFolded overlay.now (reads (D.moments disk.old)) image → AreFormsOf g image forms.now
+        → AreLoaded image (catalog_at g image) files.old → OnOk result (AreLoaded image (catalog_at g image) files.new) }
+    ensures laid { (g : Geometry) (image : Image) → AreFormsOf g image forms.now → AreLaid (catalog_at g image) files.old → OnOk result (AreLaid (catalog_at g image) files.new) }
     ensures read_only { IsTrue D.tells → IsReadOnly D.keeps (D.moments disk.old) (D.moments disk.new) }
     ensures size { D.size disk.new ≡ D.size disk.old }
     ensures passed { OnOk result (D.faults disk.new ≡ D.faults disk.old) }
@@ -191,7 +229,8 @@ pub fn files_of<D: Disk>(
     requires counted { length numbers.now ≡ length findings.now.forms + 1 }
     ensures read { IsTrue D.tells → (g : Geometry) (image : Image) (n : NamesPart) → IsFolded overlay.now (reads (D.moments disk.old)) image → AreFindingsOf g image findings.now → HasNumbers n.tree numbers.now → IfOk result (AreRead image (catalog_at g image) n) }
     ensures here { (inode file : ℕ) → 1 ≤ inode → slice_index_or numbers.now inode None ≡ Some file → IfOk result (λ files. IsSome (map.get files file)) }
-    ensures clean { IfOk result AreClean }
+    ensures loaded { IsTrue D.tells → (g : Geometry) (image : Image) → IsFolded overlay.now (reads (D.moments disk.old)) image → AreFindingsOf g image findings.now → IfOk result (AreLoaded image (catalog_at g image)) }
+    ensures laid { (g : Geometry) (image : Image) → AreFindingsOf g image findings.now → IfOk result (AreLaid (catalog_at g image)) }
     ensures read_only { IsTrue D.tells → IsReadOnly D.keeps (D.moments disk.old) (D.moments disk.new) }
     ensures size { D.size disk.new ≡ D.size disk.old }
     ensures passed { OnOk result (D.faults disk.new ≡ D.faults disk.old) }

@@ -11,6 +11,7 @@ mod laws;
 mod names;
 mod numbers;
 mod parts;
+mod reached;
 mod starting;
 mod tables;
 

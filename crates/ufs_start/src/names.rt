@@ -1,10 +1,13 @@
 // The namespace of an image.
-ghost use Rattle.std.specs.Prelude.{ℕ, ◌≡◌, ◌+◌, length, IfOk};
+ghost use Rattle.std.specs.Prelude.{ℕ, ◌≡◌, ◌+◌, length, IfOk, IfErr};
 ghost use Rattle.ufs_base.specs.Images.{Image};
 ghost use Rattle.ufs_layout.specs.Areas.{IsGeometry};
 ghost use Rattle.ufs_layout.specs.declared.superblock.Super.{Super};
+ghost use Rattle.ufs_dir_tree.specs.DirTable.{IsReached};
+ghost use Rattle.ufs_start.specs.Refused.{IsNamesFault};
 ghost use Rattle.ufs_start.specs.Starts.{AreDirsOf, AreStartNames, IsLoaded, IsOfSome};
 
+use crate::fault::StartFault;
 use crate::numbers::numbers_of;
 use crate::tables::dirs_of;
 use std::alloc::Global;
@@ -27,7 +30,9 @@ fn names_of(
     requires loaded { IsOfSome geometry.now findings.now }
     requires counted { length dirs.dirs ≡ geometry.now.inodes + 1 }
     requires dirs { AreDirsOf geometry.now findings.now dirs }
-    ensures { IfOk result (λ n. (sectors : ℕ) (disk : Image) (head : Super) (image : Image) → IsLoaded geometry.now findings.now sectors disk head image → AreStartNames sectors disk geometry.now image n) }
+    requires reached { IsReached dirs }
+    ensures reached { IfOk result (λ n. IsReached n.tree.dirs) }
+    ensures names { IfOk result (λ n. (sectors : ℕ) (disk : Image) (head : Super) (image : Image) → IsLoaded geometry.now findings.now sectors disk head image → AreStartNames sectors disk geometry.now image n) }
 {
     damage_law(geometry);
     let numbers = numbers_of(alloc, geometry, findings)?;
@@ -37,12 +42,20 @@ fn names_of(
 
 /// The namespace of an image that stands for a tree: its files are numbered from 0 by rising path, and nothing is open.
 /// The time goes by inodes, slots and paths, and at each name by the blocks and names of its directory. What no sound
-/// image has counts as want of memory, as do more names than there are numbers.
-pub fn names_in(alloc: Global, geometry: &Geometry, findings: &Findings) -> Result<Names, Memory>
+/// image has counts as want of memory, as do more names than there are numbers. An image is refused of which a directory
+/// has a name and isn't reached from the root.
+pub fn names_in(
+    alloc: Global,
+    geometry: &Geometry,
+    findings: &Findings,
+) -> Result<Names, StartFault>
     requires geometry { IsGeometry geometry.now }
     requires loaded { IsOfSome geometry.now findings.now }
-    ensures { IfOk result (λ n. (sectors : ℕ) (disk : Image) (head : Super) (image : Image) → IsLoaded geometry.now findings.now sectors disk head image → AreStartNames sectors disk geometry.now image n) }
+    ensures reached { IfOk result (λ n. IsReached n.tree.dirs) }
+    ensures names { IfOk result (λ n. (sectors : ℕ) (disk : Image) (head : Super) (image : Image) → IsLoaded geometry.now findings.now sectors disk head image → AreStartNames sectors disk geometry.now image n) }
+    ensures fault { IfErr result (IsNamesFault geometry.now findings.now) }
 {
     let dirs = dirs_of(alloc, geometry, findings)?;
-    names_of(alloc, geometry, findings, dirs)
+    let names = names_of(alloc, geometry, findings, dirs)?;
+    Ok(names)
 }

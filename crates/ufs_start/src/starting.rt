@@ -2,6 +2,7 @@
 ghost use Rattle.std.specs.Prelude.{ℕ, ◌≡◌, Ok, Some, IsSome, IsTrue, IfOk, IfErr, OnOk};
 ghost use Rattle.std.specs.FinMap as map;
 ghost use Rattle.std.specs.FinSet as set;
+ghost use Rattle.ufs_base.specs.Images.{Image};
 ghost use Rattle.ufs_disk.specs.Bytes.{image_of};
 ghost use Rattle.ufs_disk.specs.Moments.{reads};
 ghost use Rattle.ufs_catalog.specs.Reading.{IsReadOnly};
@@ -21,7 +22,7 @@ ghost use Rattle.ufs_names_image.specs.Starts.{image_start};
 ghost use Rattle.ufs_overlay.specs.Seen.{HasAdded};
 ghost use Rattle.ufs_volume.specs.Volumes.{committed_in};
 ghost use Rattle.ufs_start.specs.Begun.{IsBegun, catalog_under, image_under, tree_under, volume_under};
-ghost use Rattle.ufs_start.specs.Files.{AreClean};
+ghost use Rattle.ufs_start.specs.Files.{AreLaid, AreLoaded};
 ghost use Rattle.ufs_start.specs.Refused.{HasStartCause, IsRefusedFile, TellsNoStart};
 ghost use Rattle.ufs_start.specs.Starts.{AreStartNames, IsLoaded};
 
@@ -55,7 +56,8 @@ fn files_in(
     requires names { AreStartNames copy.old.sectors (image_of copy.old.bytes.items) volume.now.head.geometry (image_under volume.now.head (image_of copy.old.bytes.items)) names.now }
     ensures read { IfOk result (AreRead (image_under volume.now.head (image_of copy.old.bytes.items)) (catalog_under volume.now.head (image_of copy.old.bytes.items)) names.now) }
     ensures here { (inode file : ℕ) → file_at names.now.tree inode ≡ Some file → IfOk result (λ files. IsSome (map.get files file)) }
-    ensures clean { IfOk result AreClean }
+    ensures loaded { IfOk result (AreLoaded (image_under volume.now.head (image_of copy.old.bytes.items)) (catalog_under volume.now.head (image_of copy.old.bytes.items))) }
+    ensures laid { IfOk result (AreLaid (catalog_under volume.now.head (image_of copy.old.bytes.items))) }
     ensures refused { IfErr result (IsRefusedFile (form_at volume.now.head.geometry (image_under volume.now.head (image_of copy.old.bytes.items)))) }
     ensures calm { IfErr result (λ f. (count : ℕ) → HasStartCause count count f) }
 {
@@ -76,6 +78,7 @@ fn start_in(alloc: Global, copy: &mut PlainDisk) -> Result<Start, StartFault>
     files_part_law(copy.sectors as usize);
     let loaded = load(alloc, copy)?;
     let volume = &loaded.volume;
+    damage_law(&volume.head.geometry);
     let names = names_in(alloc, &volume.head.geometry, &loaded.findings)?;
     let files = files_in(alloc, copy, volume, &loaded.findings, &names)?;
     Ok(Start {
@@ -87,7 +90,8 @@ fn start_in(alloc: Global, copy: &mut PlainDisk) -> Result<Start, StartFault>
 }
 
 /// Makes what a server begins with, over a copy of the disk in memory. Refuses a disk that opens to no tree, and one
-/// with a file that a server can't hold. Reads each sector of the disk once, in calls of 4,096 bytes; writes nothing.
+/// with a file that a server can't hold or with a directory that has names and that no path leads to. Reads each sector
+/// of the disk once, in calls of 4,096 bytes; writes nothing.
 pub fn start_of<D: Disk>(alloc: Global, disk: &mut D) -> Result<Start, StartFault>
     ensures standing { IsTrue D.tells → IfOk result (λ s. IsVolumeOf (D.size disk.old) (reads (D.moments disk.old)) (volume_under s.head (reads (D.moments disk.old))) (catalog_under s.head (reads (D.moments disk.old)))) }
     ensures opened { IsTrue D.tells → IfOk result (λ s. opens (D.size disk.old) (reads (D.moments disk.old)) ≡ Ok (tree_under s.head (reads (D.moments disk.old)))) }
@@ -96,9 +100,10 @@ pub fn start_of<D: Disk>(alloc: Global, disk: &mut D) -> Result<Start, StartFaul
     ensures read { IsTrue D.tells → IfOk result (λ s. AreRead (image_under s.head (reads (D.moments disk.old))) (catalog_under s.head (reads (D.moments disk.old))) s.names s.files) }
     ensures files { IsTrue D.tells → IfOk result (λ s. AreFilesOf s.files (image_start (tree_under s.head (reads (D.moments disk.old))))) }
     ensures free { IsTrue D.tells → IfOk result (λ s. (block : ℕ) → set.contains s.free.free block ≡ is_free_block s.head.geometry (image_under s.head (reads (D.moments disk.old))) block) }
+    ensures begun { IfOk result (λ s. (image : Image) × IsBegun (D.size disk.old) image s × (IsTrue D.tells → image ≡ reads (D.moments disk.old))) }
     ensures inodes { IfOk result (λ s. HaveInodes s.names.held s.files) }
     ensures here { IfOk result (λ s. (inode file : ℕ) → file_at s.names.tree inode ≡ Some file → IsSome (map.get s.files file)) }
-    ensures clean { IfOk result (λ s. AreClean s.files) }
+    ensures loaded { IsTrue D.tells → IfOk result (λ s. AreLoaded (image_under s.head (reads (D.moments disk.old))) (catalog_under s.head (reads (D.moments disk.old))) s.files) }
     ensures first { IfOk result (λ s. s.free.first ≡ first_of_data s.head.geometry) }
     ensures blocks { IfOk result (λ s. s.free.blocks ≡ s.head.geometry.blocks) }
     ensures apart { IfOk result (λ s. AreApart s.names.tree.dirs s.files s.free.free) }

@@ -1,12 +1,16 @@
 // The table of an image's directories. What no sound image has counts as want of memory here.
-ghost use Rattle.std.specs.Prelude.{ℕ, ◌≡◌, ◌<◌, ◌≤◌, ◌+◌, Some, length, slice_get, IfOk, OnOk};
+ghost use Rattle.std.specs.Prelude.{ℕ, ◌≡◌, ◌<◌, ◌≤◌, ◌+◌, Some, length, slice_get, IfOk, IfErr, OnOk};
 ghost use Rattle.ufs_image.specs.Nodes.{Dir};
 ghost use Rattle.ufs_layout.specs.Areas.{IsGeometry};
+ghost use Rattle.ufs_dir_tree.specs.DirTable.{IsReached};
+ghost use Rattle.ufs_start.specs.Refused.{IsNamesFault};
 ghost use Rattle.ufs_start.specs.Starts.{AreDirsOf, IsOfSome};
 ghost use Rattle.ufs_start.specs.Tables.{AreReadIn, AreSlotForms, IsAsRead, form_in};
 
 use crate::dirs::dir_of;
+use crate::fault::StartFault;
 use crate::free::free_inodes;
+use crate::reached::unreached;
 use std::alloc::Global;
 use ufs_base::Memory;
 use ufs_damage::{Findings, ReadDir};
@@ -15,6 +19,7 @@ use ufs_dir_tree::DirTree;
 use ufs_dirs::DirBlocks;
 use ufs_image::damage_law;
 use ufs_layout::{Geometry, Inode};
+use ufs_walk::reached_inodes;
 
 // The directory that was read of an inode with this form.
 fn read_of(alloc: Global, form: &Option<Inode>, read: &ReadDir) -> Result<DirBlocks, Memory>
@@ -79,21 +84,27 @@ fn all_dirs(
     Ok(table)
 }
 
-/// The directories of an image that stands for a tree, by what was read of it. The time goes by inodes and slots, and
-/// at each name by the blocks and names of its directory.
+/// The directories of an image that stands for a tree, by what was read of it. Refuses one that has a name and that no
+/// walk meets. The time goes by inodes, slots and paths, and at each name by the blocks and names of its directory.
 pub(crate) fn dirs_of(
     alloc: Global,
     geometry: &Geometry,
     findings: &Findings,
-) -> Result<DirTree, Memory>
+) -> Result<DirTree, StartFault>
     requires geometry { IsGeometry geometry.now }
     requires loaded { IsOfSome geometry.now findings.now }
     ensures counted { IfOk result (λ t. length t.dirs ≡ geometry.now.inodes + 1) }
     ensures dirs { IfOk result (AreDirsOf geometry.now findings.now) }
+    ensures reached { IfOk result IsReached }
+    ensures fault { IfErr result (IsNamesFault geometry.now findings.now) }
 {
     damage_law(geometry);
     dir_table_law(geometry);
     let free = free_inodes(alloc, geometry, findings.forms())?;
     let dirs = all_dirs(alloc, geometry, findings)?;
+    let marks = reached_inodes(alloc, findings, geometry)?;
+    if let Some(inode) = unreached(dirs.as_slice(), marks.as_slice()) {
+        return Err(StartFault::Unreached { inode });
+    }
     Ok(DirTree::from_parts(alloc, dirs, free))
 }

@@ -63,7 +63,7 @@ fn byte_at(files: &FileHands, place: usize, at: usize) -> Option<u8> {
     Some(block[at])
 }
 
-// Its size, the number of its second block, and whether that was written.
+// Its size, the number of its second block, and whether that is to be written.
 fn kept(files: &FileHands) -> Option<(u64, u32, bool)> {
     let hand = files.get(FILE)?;
     Some((hand.size(), hand.block_number(1)?, hand.is_dirty(1)?))
@@ -97,13 +97,21 @@ fn a_file_has_the_bytes_of_its_blocks(rt: HostRuntime) -> Result<(), Fail> {
     assert!(rt; byte_with(rt.alloc(), &form, 0, 512) == Some(0));
     assert!(rt; byte_with(rt.alloc(), &form, 1, 0) == Some(8));
     assert!(rt; byte_with(rt.alloc(), &form, 1, 903) == Some(9));
-    assert!(rt; kept_with(rt.alloc(), &form) == Some((5000, 21, false)));
     Ok(())
 }
 
 #[test]
 fn bytes_behind_the_end_of_a_file_are_not_its_own(rt: HostRuntime) -> Result<(), Fail> {
     assert!(rt; byte_with(rt.alloc(), &file(20, 2, 5000), 1, 904) == Some(0));
+    Ok(())
+}
+
+#[test]
+fn a_last_block_is_to_be_written_where_other_bytes_stand_behind_the_end(
+    rt: HostRuntime,
+) -> Result<(), Fail> {
+    assert!(rt; kept_with(rt.alloc(), &file(20, 2, 5000)) == Some((5000, 21, true)));
+    assert!(rt; kept_with(rt.alloc(), &file(20, 2, 5120)) == Some((5120, 21, false)));
     Ok(())
 }
 

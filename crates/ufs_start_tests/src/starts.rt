@@ -6,7 +6,7 @@ use ufs_base::SECTOR;
 use ufs_dir_tree::Found;
 use ufs_disk::PlainDisk;
 use ufs_path::read_path;
-use ufs_start::{Start, start_of};
+use ufs_start::{Start, StartFault, start_of};
 
 // The root lies in block 20, with `f` in its first sector and `d` in its second; the directory `d` in block 30, with `g`.
 fn set_names(disk: &mut PlainDisk) -> bool {
@@ -62,6 +62,24 @@ fn free_count(alloc: Global) -> Option<u32> {
     Some(start.free.count())
 }
 
+// The directory of inode 5 has `h`, and no name stands for it.
+fn set_cut_off(disk: &mut PlainDisk) -> bool {
+    set_sector(disk, ROOT + 4, &inode(2, 50, 1, 4096))
+        && set_sector(disk, 401, &name(6, 1, b'h'))
+        && set_sector(disk, ROOT + 5, &file(51, 1, 5))
+}
+
+fn fault_cut_off(alloc: Global) -> Option<StartFault> {
+    let mut disk = new_disk(alloc)?;
+    if !set_names(&mut disk) || !set_inodes(&mut disk) || !set_cut_off(&mut disk) {
+        return None;
+    }
+    match start_of(alloc, &mut disk) {
+        Ok(_start) => None,
+        Err(fault) => Some(fault),
+    }
+}
+
 #[test]
 fn paths_stand_for_their_inodes(rt: HostRuntime) -> Result<(), Fail> {
     assert!(rt; found(rt.alloc(), b"/") == Some(Found::Dir { inode: 1 }));
@@ -79,5 +97,11 @@ fn files_are_here_and_what_nobody_has_is_free(rt: HostRuntime) -> Result<(), Fai
     assert!(rt; kept(rt.alloc(), 1) == Some((3, 5, 0)));
     assert!(rt; kept(rt.alloc(), 2) == None);
     assert!(rt; free_count(rt.alloc()) == Some(47));
+    Ok(())
+}
+
+#[test]
+fn a_directory_that_no_path_leads_to_is_refused(rt: HostRuntime) -> Result<(), Fail> {
+    assert!(rt; fault_cut_off(rt.alloc()) == Some(StartFault::Unreached { inode: 5 }));
     Ok(())
 }

@@ -12,10 +12,10 @@ loop-k-preserved c =
     let k : ℕ = c.loop-k.k in
     let there : k < length (marks_of old) = omega (arith, c.loop-k-test.true, c.len-k-end.ensures, length-map old (λ (b : Block). b.dirty)) in
     record {
-      whole = c.clean_at.ensures.whole;
-      count = c.clean_at.ensures.length ∙ c.loop-k.invariant.count;
-      bytes = c.clean_at.ensures.bytes ∙ c.loop-k.invariant.bytes;
-      marks = c.clean_at.ensures.marks ∙ ap (λ (l : List Bool). over l k (false ∷ [])) c.loop-k.invariant.marks ∙ over_next (marks_of old) k false there;
+      whole = c.mark_at.ensures.whole;
+      count = c.mark_at.ensures.length ∙ c.loop-k.invariant.count;
+      bytes = c.mark_at.ensures.bytes ∙ c.loop-k.invariant.bytes;
+      marks = c.mark_at.ensures.marks ∙ ap (λ (l : List Bool). over l k (false ∷ [])) c.loop-k.invariant.marks ∙ over_next (marks_of old) k false there;
     }
 
 pub returns-clause-marks : goal.returns-clause-marks

@@ -21,11 +21,18 @@ loop-extent-preserved c =
     ∙ (λ i. c.loop-extent.invariant i ++ run_of (get_or (items i) k none) ∷ [])
     ∙ sym (map_more run_of xs k none (omega (arith, c.loop-extent-test.true, long)))
 
-pub returns : goal.returns
-returns c =
+pub returns-clause-runs : goal.returns-clause-runs
+returns-clause-runs c =
     let xs = c.args.form.now.extents in
     let long = ap (length {A = Extent}) c.used_extents-extent-items.ensures in
     let all : take c.loop-extent.extent-index xs ≡ xs = take_all c.loop-extent.extent-index xs (omega (arith, c.loop-extent-test.false, long)) in
-    if_ok c.from_runs.result (λ (e : List Run). e ≡ c.as_slice-2.result.now) (λ (e : List Run). runs.blocks_of e ≡ nodes.blocks_of c.args.form.now)
-    (λ e is. ap runs.blocks_of (is ∙ c.as_slice-2.ensures.items ∙ c.loop-extent.invariant ∙ ap (map run_of) all) ∙ runs_blocks xs)
+    if_ok c.from_runs.result (λ (e : List Run). e ≡ c.as_slice-2.result.now) (λ (e : List Run). e ≡ map run_of xs)
+    (λ e is. is ∙ c.as_slice-2.ensures.items ∙ c.loop-extent.invariant ∙ ap (map run_of) all)
     c.from_runs.ensures
+
+pub returns-clause-blocks : goal.returns-clause-blocks
+returns-clause-blocks c =
+    let xs = c.args.form.now.extents in
+    if_ok c.from_runs.result (λ (e : List Run). e ≡ map run_of xs) (λ (e : List Run). runs.blocks_of e ≡ nodes.blocks_of c.args.form.now)
+    (λ e is. ap runs.blocks_of is ∙ runs_blocks xs)
+    (returns-clause-runs c)

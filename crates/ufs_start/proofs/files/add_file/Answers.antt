@@ -1,18 +1,20 @@
 use Rattle.std.proofs.Common.{◌≡◌, ◌+◌, ◌-◌, ℕ, Option, None, Some, get_or, slice_index_or, refl, rules, ap, sym, ◌∙◌, subst, arith}
-use Rattle.std.specs.Prelude.{IsSome}
+use Rattle.std.specs.Prelude.{IsSome, flat_map, map as list_map}
 use Rattle.std.specs.FinMap as map
 use Rattle.std.proofs.lemmas.Result.{err_from_is_err_and}
+use Rattle.ufs_file.specs.Content.{block_count}
 use Rattle.ufs_files.specs.Files.{Files}
 use Rattle.ufs_image.specs.Catalog.{catalog_at}
-use Rattle.ufs_image.specs.Images.{form_at}
+use Rattle.ufs_image.specs.Images.{block_at, form_at}
 use Rattle.ufs_image.specs.Nodes as nodes
 use Rattle.ufs_image.specs.Opens.{file_bytes}
 use Rattle.ufs_layout.specs.InodeForm.{InodeForm}
 use Rattle.ufs_model.proofs.Facts.Lookups.{same_some}
 use Rattle.ufs_name_tree.specs.NameTable.{file_at}
 use Rattle.ufs_names_image.specs.Loaded.{AreRead}
-use Rattle.ufs_start.specs.Files.{AreClean}
-use Rattle.ufs_start.proofs.FileLemmas.{clean_with, form_there, here_with, kept_with, read_with}
+use Rattle.ufs_start.specs.Extents.{run_of}
+use Rattle.ufs_start.specs.Files.{AreLaid, AreLoaded, loaded}
+use Rattle.ufs_start.proofs.FileLemmas.{form_there, here_with, kept_with, laid_with, loaded_with, read_with}
 use Rattle.ufs_start.proofs.files.add_file.Goals as goal
 
 pub returns-in_err-hand-clause-refused : goal.returns-in_err-hand-clause-refused
@@ -58,7 +60,31 @@ returns-clause-read g c told geometry image n is are numbered before =
       blocks = e.blocks ∙ ap nodes.blocks_of here;
     }))
 
-pub returns-clause-clean : goal.returns-clause-clean
-returns-clause-clean g c before =
+pub returns-clause-loaded : goal.returns-clause-loaded
+returns-clause-loaded g c told geometry image is are before =
+    let inode = c.args.inode in
     let h = c.in_ok-hand.hand in
-    subst AreClean (sym c.in_ok-insert.ensures.ok) (clean_with c.args.files.now h.file h before c.in_ok-hand.ensures.clean)
+    let e = c.in_ok-hand.ensures in
+    let at : inode - 1 + 1 ≡ inode = let from = c.requires.from_one in omega (arith, from) in
+    let form : form_at geometry image inode ≡ c.in-Some-forms.form = form_there geometry image c.args.forms.now are inode (inode - 1) at c.requires.form c.in-Some-forms.form
+    (sym c.in-Some-forms.is ∙ c.index-forms-inode.is ∙ ap (λ (o : Option InodeForm). get_or c.args.forms.now (inode - 1) o) c.in-Some-forms.is) in
+    let here : c.in-Some-forms.form ≡ form_at geometry image h.inode = sym form ∙ ap (form_at geometry image) (sym e.inode) in
+    subst (AreLoaded image (catalog_at geometry image)) (sym c.in_ok-insert.ensures.ok)
+    (loaded_with c.args.files.now h.file h image (catalog_at geometry image) before
+    (e.loaded told image is ∙ ap (λ (f : InodeForm). loaded (flat_map (block_at image) (nodes.blocks_of f)) f.size) here))
+
+pub returns-clause-laid : goal.returns-clause-laid
+returns-clause-laid g c geometry image are before =
+    let inode = c.args.inode in
+    let h = c.in_ok-hand.hand in
+    let e = c.in_ok-hand.ensures in
+    let at : inode - 1 + 1 ≡ inode = let from = c.requires.from_one in omega (arith, from) in
+    let form : form_at geometry image inode ≡ c.in-Some-forms.form = form_there geometry image c.args.forms.now are inode (inode - 1) at c.requires.form c.in-Some-forms.form
+    (sym c.in-Some-forms.is ∙ c.index-forms-inode.is ∙ ap (λ (o : Option InodeForm). get_or c.args.forms.now (inode - 1) o) c.in-Some-forms.is) in
+    let here : c.in-Some-forms.form ≡ form_at geometry image h.inode = sym form ∙ ap (form_at geometry image) (sym e.inode) in
+    subst (λ (fs : Files). AreLaid (catalog_at geometry image) fs) (sym c.in_ok-insert.ensures.ok)
+    (laid_with c.args.files.now h.file h (catalog_at geometry image) before (record {
+      extents = e.runs ∙ ap (λ (f : InodeForm). list_map run_of f.extents) here;
+      count = e.count ∙ ap (λ (f : InodeForm). block_count f.size) here;
+      marks = e.marks;
+    }))

@@ -7,7 +7,7 @@ use Rattle.ufs_catalog.specs.Folded.{IsFolded}
 use Rattle.ufs_catalog.proofs.Quiet.{read_more, read_none}
 use Rattle.ufs_image.specs.Catalog.{catalog_at}
 use Rattle.ufs_layout.specs.InodeForm.{InodeForm}
-use Rattle.ufs_start.proofs.FileLemmas.{inside, none_clean, none_read}
+use Rattle.ufs_start.proofs.FileLemmas.{inside, none_laid, none_loaded, none_read}
 use Rattle.ufs_start.proofs.files.files_of.Goals as goal
 
 pub loop-place-init : goal.loop-place-init
@@ -16,7 +16,8 @@ loop-place-init g c =
     record {
       read = λ told geometry image n is found numbered. none_read image (catalog_at geometry image) n c.new-files.result none;
       here = λ inode file from within number. absurd (omega (arith, from, within));
-      clean = none_clean c.new-files.result none;
+      loaded = λ told geometry image is found. none_loaded image (catalog_at geometry image) c.new-files.result none;
+      laid = λ geometry image found. none_laid (catalog_at geometry image) c.new-files.result none;
       read_only = λ told. read_none g.D.Disk.keeps (g.D.Disk.moments c.args.disk.now);
       size = refl;
       faults = refl;
@@ -45,7 +46,9 @@ loop-place-preserved g c =
         | inr last ↦ (let at : inode ≡ place + 1 = omega (arith, within, last) in
             e.here file (ap (λ k. slice_index_or c.args.numbers.now k None) (sym at) ∙ number))
       ];
-      clean = e.clean i.clean;
+      loaded = λ told geometry image is found.
+          e.loaded told geometry image (subst (λ (d : Image). IsFolded c.args.overlay.now d image) (sym (i.read_only told).content) is) (c.forms-forms.ensures ∙ found.forms) (i.loaded told geometry image is found);
+      laid = λ geometry image found. e.laid geometry image (c.forms-forms.ensures ∙ found.forms) (i.laid geometry image found);
       read_only = λ told. read_more g.D.Disk.keeps (g.D.Disk.moments c.args.disk.now) (g.D.Disk.moments c.loop-place.disk) (g.D.Disk.moments c.add_file.new.disk) (i.read_only told) (c.add_file.ensures.read_only told);
       size = c.add_file.ensures.size ∙ i.size;
       faults = e.passed ∙ i.faults;

@@ -10,7 +10,7 @@ use Rattle.ufs_image.specs.Catalog.{catalog_at}
 use Rattle.ufs_layout.specs.declared.geometry.Geometry.{Geometry}
 use Rattle.ufs_names.specs.NamesPart.{NamesPart}
 use Rattle.ufs_names_image.specs.Loaded.{AreRead}
-use Rattle.ufs_start.specs.Files.{AreClean, HasNumbers}
+use Rattle.ufs_start.specs.Files.{AreLaid, AreLoaded, HasNumbers}
 use Rattle.ufs_start.proofs.files.files_of.Given as goal
 
 abbrev pub invariant-loop-place : goal.invariant-loop-place
@@ -20,7 +20,8 @@ invariant-loop-place g l =
     record {
       read : IsTrue disk.tells → (geometry : Geometry) (image : Image) (n : NamesPart) → IsFolded l.overlay (reads first) image → AreFindingsOf geometry image l.findings → HasNumbers n.tree l.numbers → AreRead image (catalog_at geometry image) n l.files;
       here : (inode file : ℕ) → 1 ≤ inode → inode ≤ l.place → slice_index_or l.numbers inode None ≡ Some file → IsSome (map.get l.files file);
-      clean : AreClean l.files;
+      loaded : IsTrue disk.tells → (geometry : Geometry) (image : Image) → IsFolded l.overlay (reads first) image → AreFindingsOf geometry image l.findings → AreLoaded image (catalog_at geometry image) l.files;
+      laid : (geometry : Geometry) (image : Image) → AreFindingsOf geometry image l.findings → AreLaid (catalog_at geometry image) l.files;
       read_only : IsTrue disk.tells → IsReadOnly disk.keeps first (disk.moments l.disk);
       size : disk.size l.disk ≡ disk.size l.fn.disk;
       faults : disk.faults l.disk ≡ disk.faults l.fn.disk;

@@ -1,12 +1,13 @@
 use Rattle.std.proofs.Common.{◌≡◌, ℕ, length, ap, sym, ◌∙◌, subst}
 use Rattle.ufs_base.specs.Images.{Image}
 use Rattle.ufs_image.specs.Catalog.{catalog_at}
-use Rattle.ufs_dir_tree.specs.DirTable.{DirTable}
+use Rattle.ufs_dir_tree.specs.DirTable.{DirTable, IsReached}
 use Rattle.ufs_dir_image.specs.Tables.{IsTableOf}
 use Rattle.ufs_layout.specs.declared.superblock.Super.{Super}
 use Rattle.ufs_name_tree.specs.NameTable.{NameTable}
 use Rattle.ufs_names.specs.Closed.{AreClosed}
 use Rattle.ufs_names.specs.NamesPart.{NamesPart}
+use Rattle.ufs_walk.proofs.Maps.{if_ok}
 use Rattle.ufs_start.specs.Starts.{AreStartNames, IsLoaded, IsUndamaged}
 use Rattle.ufs_start.proofs.Named.{if_all, name_table, start_names}
 use Rattle.ufs_start.proofs.names.names_of.Goals as goal
@@ -26,12 +27,20 @@ from_parts-tree-requires c t dirs_are files_are =
     (ap length files_are ∙ c.in_ok-numbers.ensures.counted ∙ sym c.requires.counted ∙ ap (λ (d : DirTable). length d.dirs) (sym dirs_are))
     (c.in_ok-numbers.ensures.numbers l.3 undamaged)
     (subst (IsTableOf g (catalog_at g l.3)) (sym dirs_are) (c.requires.dirs l.3 undamaged))
+    (subst (λ (d : DirTable). IsReached d) (sym dirs_are) c.requires.reached)
 
 pub closed-requires-clause-counted : goal.closed-requires-clause-counted
 closed-requires-clause-counted c = ap length c.from_parts-tree.ensures.files ∙ c.in_ok-numbers.ensures.counted
 
-pub returns : goal.returns
-returns c =
+pub returns-clause-reached : goal.returns-clause-reached
+returns-clause-reached c =
+    let tree = c.from_parts-tree.result in
+    if_ok c.closed.result (λ (n : NamesPart). n.tree ≡ tree) (λ (n : NamesPart). IsReached n.tree.dirs)
+    (λ n is. subst (λ (d : DirTable). IsReached d) (sym (ap (λ (t : NameTable). t.dirs) is ∙ c.from_parts-tree.ensures.dirs)) c.requires.reached)
+    c.closed.ensures.tree
+
+pub returns-clause-names : goal.returns-clause-names
+returns-clause-names c =
     let g = c.args.geometry.now in
     let f = c.args.findings.now in
     let tree = c.from_parts-tree.result in

@@ -54,3 +54,14 @@ pub returns-clause-refused : goal.returns-clause-refused
 returns-clause-refused c =
     let h = c.args.volume.now.head in
     c.files_of.ensures.refused h.geometry (image_under h (image_of c.args.copy.now.bytes.items)) c.requires.loaded.found
+
+pub returns-clause-laid : goal.returns-clause-laid
+returns-clause-laid c =
+    let h = c.args.volume.now.head in
+    c.files_of.ensures.laid h.geometry (image_under h (image_of c.args.copy.now.bytes.items)) c.requires.loaded.found
+
+pub returns-clause-loaded : goal.returns-clause-loaded
+returns-clause-loaded c =
+    let h = c.args.volume.now.head in
+    let disk : Image = image_of c.args.copy.now.bytes.items in
+    c.files_of.ensures.loaded refl h.geometry (image_under h disk) (is_folded c.args.volume.now disk c.requires.added) c.requires.loaded.found

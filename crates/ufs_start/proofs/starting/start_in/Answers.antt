@@ -11,9 +11,10 @@ use Rattle.ufs_overlay.specs.Seen.{HasAdded}
 use Rattle.ufs_volume.specs.Volumes.{committed_in}
 use Rattle.ufs_names_image.specs.Loaded.{AreRead, IsUntaken}
 use Rattle.ufs_start.specs.Begun.{catalog_under, image_under, volume_under}
+use Rattle.ufs_start.specs.Files.{AreLaid, AreLoaded}
 use Rattle.ufs_start.specs.Refused.{IsRefusedFile}
-use Rattle.ufs_start.specs.Starts.{AreStartNames, IsLoaded}
-use Rattle.ufs_start.proofs.Beginning.{is_loaded, refused_file, untaken}
+use Rattle.ufs_start.specs.Starts.{AreStartNames, IsLoaded, IsUndamaged}
+use Rattle.ufs_start.proofs.Beginning.{calm_names, is_loaded, refused_file, refused_names, untaken}
 use Rattle.ufs_start.proofs.starting.start_in.Goals as goal
 
 pub names_in-requires-clause-loaded : goal.names_in-requires-clause-loaded
@@ -43,7 +44,7 @@ files_in-requires-clause-names c =
     let l = c.in_ok-loaded.loaded in
     let h = l.volume.head in
     let disk : Image = image_of c.load.new.disk.bytes.items in
-    c.in_ok-names.ensures c.load.new.disk.sectors disk h.head (image_under h disk) (files_in-requires-clause-loaded c)
+    c.in_ok-names.ensures.names c.load.new.disk.sectors disk h.head (image_under h disk) (files_in-requires-clause-loaded c)
 
 pub returns-clause-begun : goal.returns-clause-begun
 returns-clause-begun c =
@@ -57,8 +58,10 @@ returns-clause-begun c =
     let disk : Image = image_of c.args.copy.now.bytes.items in
     let image : Image = image_under h disk in
     let loaded : IsLoaded h.geometry l.findings sectors disk h.head image = is_loaded v l.findings sectors disk (e.taken refl) (e.catalog refl) (e.sound refl) (e.found refl) in
-    let start : AreStartNames sectors disk h.geometry image n = c.in_ok-names.ensures sectors disk h.head image loaded in
+    let start : AreStartNames sectors disk h.geometry image n = c.in_ok-names.ensures.names sectors disk h.head image loaded in
     let read : AreRead image (catalog_under h disk) n files = subst (λ (d : Image). AreRead (image_under h d) (catalog_under h d) n files) (c.load.ensures.read_only refl).content c.in_ok-files.ensures.read in
+    let laid : AreLaid (catalog_under h disk) files = subst (λ (d : Image). AreLaid (catalog_under h d) files) (c.load.ensures.read_only refl).content c.in_ok-files.ensures.laid in
+    let contents : AreLoaded image (catalog_under h disk) files = subst (λ (d : Image). AreLoaded (image_under h d) (catalog_under h d) files) (c.load.ensures.read_only refl).content c.in_ok-files.ensures.loaded in
     let parts = c.start_files_law.ensures.parts h.geometry l.findings sectors disk h.head image n files loaded start read in
     let free : IsUntaken h.geometry (catalog_under h disk) l.free.free =
     c.files_part_law.ensures.free disk (volume_under h disk) (catalog_under h disk) l.free.free loaded.standing
@@ -68,11 +71,13 @@ returns-clause-begun c =
       opened = start.opened;
       table = start.names;
       names = start.part;
+      reached = c.in_ok-names.ensures.reached;
       read = read;
       files = parts.0;
       inodes = parts.1;
       here = c.in_ok-files.ensures.here;
-      clean = c.in_ok-files.ensures.clean;
+      loaded = contents;
+      laid = laid;
       first = e.first;
       blocks = e.blocks;
       free = e.free refl;
@@ -86,3 +91,24 @@ returns-in_err-files-clause-refused c =
     let disk : Image = image_of c.args.copy.now.bytes.items in
     rw (p.1, p.2) (refused_file v c.args.copy.now.sectors disk (c.in_ok-loaded.ensures.taken refl) c.in_err-files.field-0.0
     (subst (λ (d : Image). IsRefusedFile (form_at v.head.geometry (image_under v.head d)) c.in_err-files.field-0.0) (c.load.ensures.read_only refl).content c.in_err-files.ensures.refused))
+
+pub returns-in_err-names-clause-refused : goal.returns-in_err-names-clause-refused
+returns-in_err-names-clause-refused c =
+    let p = err_from_is_err_and c.from_residual-in_err-names.result c.from_residual-in_err-names.ensures.1 in
+    let l = c.in_ok-loaded.loaded in
+    let e = c.in_ok-loaded.ensures in
+    let v = l.volume in
+    let h = v.head in
+    let g = h.geometry in
+    let sectors = c.args.copy.now.sectors in
+    let disk : Image = image_of c.args.copy.now.bytes.items in
+    let image : Image = image_under h disk in
+    let loaded : IsLoaded g l.findings sectors disk h.head image = is_loaded v l.findings sectors disk (e.taken refl) (e.catalog refl) (e.sound refl) (e.found refl) in
+    let undamaged : IsUndamaged g image l.findings = record { found = loaded.found; whole = (c.damage_law.ensures.whole image (catalog_under h disk) loaded.standing.catalog loaded.standing.sound).1 } in
+    rw (p.1, p.2) (refused_names v l.findings sectors disk (e.taken refl) undamaged c.in_err-names.field-0.0 c.in_err-names.ensures.fault)
+
+pub returns-in_err-names-clause-calm : goal.returns-in_err-names-clause-calm
+returns-in_err-names-clause-calm c =
+    let p = err_from_is_err_and c.from_residual-in_err-names.result c.from_residual-in_err-names.ensures.1 in
+    let l = c.in_ok-loaded.loaded in
+    rw (p.1, p.2) (calm_names l.volume.head.geometry l.findings c.in_err-names.field-0.0 c.in_err-names.ensures.fault)

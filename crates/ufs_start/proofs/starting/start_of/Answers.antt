@@ -1,4 +1,4 @@
-use Rattle.std.proofs.Common.{◌∙◌}
+use Rattle.std.proofs.Common.{ℕ, ◌∙◌, subst}
 use Rattle.ufs_disk.specs.Bytes.{image_of}
 use Rattle.ufs_start.specs.Begun.{IsBegun}
 use Rattle.ufs_start.specs.declared.parts.Start.{Start}
@@ -30,3 +30,19 @@ pub returns-clause-free : goal.returns-clause-free
 returns-clause-free g c told =
     if_ok c.start_in.result (IsBegun c.in_ok-copy.copy.sectors (image_of c.in_ok-copy.copy.bytes.items)) _
     (λ (s : Start) begun. (begun_there (c.in_ok-copy.ensures.whole told c.sectors-sectors.ensures) (c.in_ok-copy.ensures.sectors ∙ c.sectors-sectors.ensures) s begun).free) c.start_in.ensures.begun
+
+pub returns-clause-begun : goal.returns-clause-begun
+returns-clause-begun g c =
+    let copy = c.in_ok-copy.copy in
+    if_ok c.start_in.result (IsBegun copy.sectors (image_of copy.bytes.items)) _
+    (λ (s : Start) begun. (
+      image_of copy.bytes.items,
+      subst (λ (n : ℕ). IsBegun n (image_of copy.bytes.items) s) (c.in_ok-copy.ensures.sectors ∙ c.sectors-sectors.ensures) begun,
+      λ told. c.in_ok-copy.ensures.whole told c.sectors-sectors.ensures,
+    ))
+    c.start_in.ensures.begun
+
+pub returns-clause-loaded : goal.returns-clause-loaded
+returns-clause-loaded g c told =
+    if_ok c.start_in.result (IsBegun c.in_ok-copy.copy.sectors (image_of c.in_ok-copy.copy.bytes.items)) _
+    (λ (s : Start) begun. (begun_there (c.in_ok-copy.ensures.whole told c.sectors-sectors.ensures) (c.in_ok-copy.ensures.sectors ∙ c.sectors-sectors.ensures) s begun).loaded) c.start_in.ensures.begun
