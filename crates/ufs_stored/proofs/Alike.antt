@@ -34,44 +34,22 @@ pub record IsAlike (l m : Ledger) (fresh : List ℕ) : Type 0 where
   pub unheld : (block : ℕ) → is_held l.now.log block ≡ false → is_held m.now.log block ≡ false
   pub less : (block : ℕ) (bytes : List ℕ) → has fresh block ≡ false → is_held l.now.log block ≡ false → HaveOnly (possible (l.blocks block)) bytes → HaveOnly (possible (m.blocks block)) bytes
 
-module _ (l m : Ledger) (u : BlockSet) (start : PosixTree) (history : List Entry) (k : Counts) (p : Parts) (st : IsStored l u start history k p) (alike : IsAlike l m p.fresh) where
+-- The ledger has the same catalog, with its dentries in the same blocks, and each file is stored there.
+module _ (l m : Ledger) (u : BlockSet) (start : PosixTree) (history : List Entry) (k : Counts) (p : Parts) (st : IsStored l u start history k p)
+    (head : geometry_of m.head ≡ geometry_of l.head) (catalog : m.now.catalog ≡ l.now.catalog) (dirs : m.now.dirs ≡ l.now.dirs) (unheld : (block : ℕ) → is_held l.now.log block ≡ false → is_held m.now.log block ≡ false)
+    (stored : (file : ℕ) (s : FileState) → map.get p.files file ≡ Some s → IsFileStored l k.numbers (durable_in p.commits s) → IsFileStored m k.numbers (durable_in p.commits s)) where
   moved : (P : Geometry → Catalog → Type 0) → P (geometry_of l.head) l.now.catalog → P (geometry_of m.head) m.now.catalog
-  moved P x = subst (λ (c : Catalog). P (geometry_of m.head) c) (sym alike.catalog) (subst (λ (g : Geometry). P g l.now.catalog) (sym alike.head) x)
+  moved P x = subst (λ (c : Catalog). P (geometry_of m.head) c) (sym catalog) (subst (λ (g : Geometry). P g l.now.catalog) (sym head) x)
 
   back : (P : Geometry → Catalog → Type 0) → P (geometry_of m.head) m.now.catalog → P (geometry_of l.head) l.now.catalog
-  back P x = subst (λ (c : Catalog). P (geometry_of l.head) c) alike.catalog (subst (λ (g : Geometry). P g m.now.catalog) alike.head x)
+  back P x = subst (λ (c : Catalog). P (geometry_of l.head) c) catalog (subst (λ (g : Geometry). P g m.now.catalog) head x)
 
   file_block : (block : ℕ) → IsFileBlock l block → IsFileBlock m block
   file_block block was = record {
     data_block = moved (λ g c. IsDataBlock g block) was.data_block;
-    no_dir = subst (λ (d : ℕ → Bool). IsTrue (d block) → ⊥) (sym alike.dirs) was.no_dir;
-    unheld = alike.unheld block was.unheld;
+    no_dir = subst (λ (d : ℕ → Bool). IsTrue (d block) → ⊥) (sym dirs) was.no_dir;
+    unheld = unheld block was.unheld;
   }
-
-  -- a file's block isn't fresh
-  no_fresh : (file : ℕ) (s : FileState) → map.get p.files file ≡ Some s → (place block : ℕ) → slice_get (blocks_of s.extents) place ≡ Some block → has p.fresh block ≡ false
-  no_fresh file s here place block at = by (has p.fresh block) refl
-    where
-      by : (b : Bool) → has p.fresh block ≡ b → has p.fresh block ≡ false
-      by false e = e
-      by true e = (let clash = st.spaced.apart (OneFile file) TheNames block (record { hand = s; here = here; held = held_at (durable_in p.commits s) place block at }) (inl e) in absurd cc)
-
-  stands : (a b : Ledger) (h : DurableState) → ((place block : ℕ) → slice_get (blocks_of h.file.extents) place ≡ Some block → has p.fresh block ≡ false)
-      → a.head ≡ l.head → b.head ≡ m.head → a.blocks ≡ l.blocks → b.blocks ≡ m.blocks → a.now.dirs ≡ l.now.dirs → b.now.dirs ≡ m.now.dirs → a.now.log ≡ l.now.log → b.now.log ≡ m.now.log
-      → b.now.catalog.forms h.file.inode ≡ a.now.catalog.forms h.file.inode → StandsFor a h → StandsFor b h
-  stands a b h off ha hb ba bb da db la lb form stood = stands_still a b h (ap geometry_of hb ∙ alike.head ∙ sym (ap geometry_of ha)) form (db ∙ alike.dirs ∙ sym da)
-      (λ block free. ap (λ log. is_held log block) lb ∙ alike.unheld block (sym (ap (λ log. is_held log block) la) ∙ free))
-      (λ place block bytes at free only. subst (λ (cells : ℕ → Cell). HaveOnly (possible (cells block)) bytes) (sym bb)
-      (alike.less block bytes (off place block at) (sym (ap (λ log. is_held log block) la) ∙ free) (subst (λ (cells : ℕ → Cell). HaveOnly (possible (cells block)) bytes) ba only)))
-      stood
-
-  stored : (file : ℕ) (s : FileState) → map.get p.files file ≡ Some s → IsFileStored l k.numbers (durable_in p.commits s) → IsFileStored m k.numbers (durable_in p.commits s)
-  stored file s here (inl both) = inl (both.0, stands l m (durable_in p.commits s) (no_fresh file s here) refl refl refl refl refl refl refl refl (ap (λ (c : Catalog). c.forms s.inode) alike.catalog) both.1)
-  stored file s here (inr both) = inr (
-    both.0,
-    stands (with_born s.inode l) (with_born s.inode m) (durable_in p.commits s) (no_fresh file s here) refl refl refl refl refl refl refl refl
-        (ap (λ (c : Catalog). (with_form s.inode empty_form c).forms s.inode) alike.catalog) both.1,
-  )
 
   whole : (file : ℕ) (s : FileState) → map.get p.files file ≡ Some s → IsFileWhole l k.numbers (durable_in p.commits s) → IsFileWhole m k.numbers (durable_in p.commits s)
   whole file s here was = record {
@@ -107,12 +85,13 @@ module _ (l m : Ledger) (u : BlockSet) (start : PosixTree) (history : List Entry
   spelled block (inl free) = inl (file_block block free)
   spelled block (inr is) = inr (record {
     data_block = moved (λ g c. IsDataBlock g block) is.data_block;
-    spelled = subst (λ (d : ℕ → Bool). IsTrue (d block)) (sym alike.dirs) is.spelled;
-    slots = ap (λ (c : Catalog). c.slots block) alike.catalog ∙ is.slots;
+    spelled = subst (λ (d : ℕ → Bool). IsTrue (d block)) (sym dirs) is.spelled;
+    slots = ap (λ (c : Catalog). c.slots block) catalog ∙ is.slots;
+    unheld = unheld block is.unheld;
   })
 
-  pub alike_stored : IsLedgerKept m start history k k → IsStored m u start history k p
-  alike_stored kept = record {
+  pub same_stored : IsLedgerKept m start history k k → IsStored m u start history k p
+  same_stored kept = record {
     tree = st.tree;
     legal = st.legal;
     kept = kept;
@@ -128,3 +107,32 @@ module _ (l m : Ledger) (u : BlockSet) (start : PosixTree) (history : List Entry
       held = λ inode place block at. st.spaced.held inode place block (back (λ g c. HasBlock g c inode place block) at);
     };
   }
+
+module _ (l m : Ledger) (u : BlockSet) (start : PosixTree) (history : List Entry) (k : Counts) (p : Parts) (st : IsStored l u start history k p) (alike : IsAlike l m p.fresh) where
+  -- a file's block isn't fresh
+  no_fresh : (file : ℕ) (s : FileState) → map.get p.files file ≡ Some s → (place block : ℕ) → slice_get (blocks_of s.extents) place ≡ Some block → has p.fresh block ≡ false
+  no_fresh file s here place block at = by (has p.fresh block) refl
+    where
+      by : (b : Bool) → has p.fresh block ≡ b → has p.fresh block ≡ false
+      by false e = e
+      by true e = (let clash = st.spaced.apart (OneFile file) TheNames block (record { hand = s; here = here; held = held_at (durable_in p.commits s) place block at }) (inl e) in absurd cc)
+
+  stands : (a b : Ledger) (h : DurableState) → ((place block : ℕ) → slice_get (blocks_of h.file.extents) place ≡ Some block → has p.fresh block ≡ false)
+      → a.head ≡ l.head → b.head ≡ m.head → a.blocks ≡ l.blocks → b.blocks ≡ m.blocks → a.now.dirs ≡ l.now.dirs → b.now.dirs ≡ m.now.dirs → a.now.log ≡ l.now.log → b.now.log ≡ m.now.log
+      → b.now.catalog.forms h.file.inode ≡ a.now.catalog.forms h.file.inode → StandsFor a h → StandsFor b h
+  stands a b h off ha hb ba bb da db la lb form stood = stands_still a b h (ap geometry_of hb ∙ alike.head ∙ sym (ap geometry_of ha)) form (db ∙ alike.dirs ∙ sym da)
+      (λ block free. ap (λ log. is_held log block) lb ∙ alike.unheld block (sym (ap (λ log. is_held log block) la) ∙ free))
+      (λ place block bytes at free only. subst (λ (cells : ℕ → Cell). HaveOnly (possible (cells block)) bytes) (sym bb)
+      (alike.less block bytes (off place block at) (sym (ap (λ log. is_held log block) la) ∙ free) (subst (λ (cells : ℕ → Cell). HaveOnly (possible (cells block)) bytes) ba only)))
+      stood
+
+  stored : (file : ℕ) (s : FileState) → map.get p.files file ≡ Some s → IsFileStored l k.numbers (durable_in p.commits s) → IsFileStored m k.numbers (durable_in p.commits s)
+  stored file s here (inl both) = inl (both.0, stands l m (durable_in p.commits s) (no_fresh file s here) refl refl refl refl refl refl refl refl (ap (λ (c : Catalog). c.forms s.inode) alike.catalog) both.1)
+  stored file s here (inr both) = inr (
+    both.0,
+    stands (with_born s.inode l) (with_born s.inode m) (durable_in p.commits s) (no_fresh file s here) refl refl refl refl refl refl refl refl
+        (ap (λ (c : Catalog). (with_form s.inode empty_form c).forms s.inode) alike.catalog) both.1,
+  )
+
+  pub alike_stored : IsLedgerKept m start history k k → IsStored m u start history k p
+  alike_stored kept = same_stored l m u start history k p st alike.head alike.catalog alike.dirs alike.unheld stored kept

@@ -28,13 +28,13 @@ use Rattle.ufs_stored.specs.Parts.{Parts}
 use Rattle.ufs_stored.specs.Stored.{AreCounted, ArePartsOf, IsStored}
 
 -- the promise of the ledger
-pub ledger_kept : (g : Geometry) → EntriesKeep g → (l : Ledger) (start : PosixTree) (history : List Entry) (entry : Entry) (k : Counts) → geometry_of l.head ≡ g → IsTree start → IsLegal start (history ++ entry ∷ [])
-    → IsAckCovered start history entry k.names k.files → IsLedgerKept l start history k k → IsLedgerKept l start (history ++ entry ∷ []) k k
-ledger_kept g keeps l start history entry k same tree legal ack kept =
+pub ledger_kept : (g : Geometry) → EntriesKeep g → (l : Ledger) (start : PosixTree) (history : List Entry) (entry : Entry) (k maybe : Counts) → geometry_of l.head ≡ g → IsTree start → IsLegal start (history ++ entry ∷ [])
+    → IsAckCovered start history entry k.names k.files → IsAckCovered start history entry maybe.names maybe.files → IsLedgerKept l start history k maybe → IsLedgerKept l start (history ++ entry ∷ []) k maybe
+ledger_kept g keeps l start history entry k maybe same tree legal ack other_ack kept =
     let keep = subst EntriesKeep (sym same) keeps in
     record {
       here = keep l.blocks l.now start history entry k.names k.files k.numbers tree legal ack kept.here;
-      there = λ other is. let t = kept.there other is in (t.0, keep l.blocks other.stand start history entry k.names k.files k.numbers tree legal ack t.1);
+      there = λ other is. let t = kept.there other is in (t.0, keep l.blocks other.stand start history entry maybe.names maybe.files maybe.numbers tree legal other_ack t.1);
     }
 
 -- what is counted
@@ -54,7 +54,7 @@ pub entry_kept : (g : Geometry) → EntriesKeep g → (l : Ledger) (unassigned :
 entry_kept g keeps l unassigned start history entry k p same legal ack after st = record {
   tree = st.tree;
   legal = legal;
-  kept = ledger_kept g keeps l start history entry k same st.tree legal ack st.kept;
+  kept = ledger_kept g keeps l start history entry k k same st.tree legal ack ack st.kept;
   parts = after;
   names = st.names;
   counted = counted_still start history entry k st.kept.here.stored.made st.counted;
@@ -76,7 +76,7 @@ excuse_leaves t client request (reply.IsDir entries) e = absurd cc
 excuse_leaves t client request (reply.Names names) e = absurd cc
 excuse_leaves t client request (reply.Refused x) e = absurd cc
 
-no_ok : (r : Reply) → is_excused r ≡ true → is_ok r ≡ false
+pub no_ok : (r : Reply) → is_excused r ≡ true → is_ok r ≡ false
 no_ok (reply.Excused x) e = refl
 no_ok reply.Done e = absurd cc
 no_ok (reply.Fd fd) e = absurd cc
@@ -131,7 +131,7 @@ change_leaves t client (op.Rename from to) e = absurd cc
 change_leaves t client (op.Stat path) e = refl
 change_leaves t client (op.List path) e = refl
 
-tree_left : (t : PosixTree) (entry : Entry) → leaves_tree entry.op ≡ true → goes_on t entry ≡ t
+pub tree_left : (t : PosixTree) (entry : Entry) → leaves_tree entry.op ≡ true → goes_on t entry ≡ t
 tree_left t entry still =
     with_leaves t entry.client entry.op (served_leaves t entry.client entry.op (change_leaves t entry.client entry.op still) (refusal t entry.client entry.op)) entry.reply
 

@@ -274,6 +274,7 @@ module _ (s : StoreState) (between : Moments) (records : List LogRecord) (l : Le
     spelled = subst (λ (d : ℕ → Bool). IsTrue (d b)) (sym dirs_is) is.spelled;
     slots = ap (λ (c : Catalog). c.slots b) catalog_is
         ∙ ap (λ v. v b) (slots_same g t f.inode x.log.noted.size delta.keep (extents_of delta.given) records_are l.now.catalog) ∙ is.slots;
+    unheld = held_behind b (free_at (has_room s2 records) b is.unheld);
   }
 
   pub file_committed_stored : IsStored m u2 start history k2 q

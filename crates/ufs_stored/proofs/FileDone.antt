@@ -12,6 +12,7 @@ use Rattle.ufs_bitmap.proofs.SetLemmas.{has-union}
 use Rattle.ufs_bitmap.proofs.TakingLemmas.{has-append}
 use Rattle.ufs_extent.specs.Runs.{blocks_of}
 use Rattle.ufs_file.specs.Hand.{FileState}
+use Rattle.ufs_files.specs.Files.{AreNumbered}
 use Rattle.ufs_files.proofs.MapLemmas.{one_or_apart}
 use Rattle.ufs_image.specs.Catalog.{HasBlock}
 use Rattle.ufs_layout.specs.Superblock.{geometry_of}
@@ -26,7 +27,7 @@ use Rattle.ufs_model.proofs.Facts.Lookups.{same_some}
 use Rattle.ufs_prefix.specs.Changes.{changes_of}
 use Rattle.ufs_durable.specs.Committing.{all_shown}
 use Rattle.ufs_durable.specs.Standing.{IsFileBlock}
-use Rattle.ufs_durable.specs.State.{DurableState, blocks_held, file_committed}
+use Rattle.ufs_durable.specs.State.{DurableState, IsNoted, blocks_held, file_committed}
 use Rattle.ufs_durable.proofs.Served.{has_at}
 use Rattle.ufs_stored.specs.Parts.{FileOwns, NamesOwn, OneFile, Owner, Owns, Parts, TheNames, ThePool, Unassigned, durable_in, with_file}
 use Rattle.ufs_stored.specs.Stored.{AreCounted, AreNamesStored, FileHasIt, IsFileWhole, IsSpelled, IsStored}
@@ -52,6 +53,92 @@ pub record IsDone (l m : Ledger) (start : PosixTree) (history : List Entry) (k :
   pub spelled : (b : ℕ) → IsSpelled l b → IsSpelled m b
   pub block_before : (inode place b : ℕ) → HasBlock (geometry_of m.head) m.now.catalog inode place b
       → ((inode ≡ f.inode) × (slice_get (blocks_of f.extents) place ≡ Some b)) ⊎ ((inode ≢ f.inode) × HasBlock (geometry_of l.head) l.now.catalog inode place b)
+
+-- ---- blocks
+
+-- what the file dropped is unassigned now
+module _ (u : BlockSet) (p : Parts) (f : FileState) (at : map.get p.files f.file ≡ Some f) (noted : IsNoted (durable_in p.commits f)) (numbered : AreNumbered p.files)
+    (apart_then : (one other : Owner) (b : ℕ) → Owns p u one b → Owns p u other b → one ≡ other) where
+  abbrev it : DurableState
+  it = durable_in p.commits f
+
+  abbrev put : DurableState
+  put = file_committed (durable_in p.commits f)
+
+  abbrev next : Parts
+  next = with_file (file_committed (durable_in p.commits f)) p.pool p
+
+  abbrev more : BlockSet
+  more = set.union u (set_of (durable_in p.commits f).dropped)
+
+  union_is : (b : ℕ) → set.contains more b ≡ (set.contains u b || has (blocks_of it.dropped) b)
+  union_is b = has-union u (set_of it.dropped) b
+
+  own_or_dropped : (b : ℕ) → has (blocks_held it) b ≡ (has (blocks_of f.extents) b || has (blocks_of it.dropped) b)
+  own_or_dropped b = has-append (blocks_of f.extents) (blocks_of it.dropped) b
+
+  pub held_own : (b : ℕ) → has (blocks_held put) b ≡ has (blocks_of f.extents) b
+  held_own b = ap (λ (bs : List ℕ). has bs b) (append-nil (blocks_of f.extents))
+
+  pub mine : (b : ℕ) → has (blocks_held it) b ≡ true → FileOwns p f.file b
+  mine b is = record { hand = f; here = at; held = is }
+
+  pub dropped_mine : (b : ℕ) → has (blocks_of it.dropped) b ≡ true → FileOwns p f.file b
+  dropped_mine b is = mine b (own_or_dropped b ∙ by (has (blocks_of f.extents) b))
+    where
+      by : (v : Bool) → (v || has (blocks_of it.dropped) b) ≡ true
+      by true = refl
+      by false = is
+
+  own_now : (file b : ℕ) → file ≡ f.file → FileOwns next file b → has (blocks_of f.extents) b ≡ true
+  own_now file b is owns = by (either put p.pool p file owns.hand owns.here)
+    where
+      by : ((file ≡ f.file) × (owns.hand ≡ put.file)) ⊎ ((file ≢ f.file) × (map.get p.files file ≡ Some owns.hand)) → has (blocks_of f.extents) b ≡ true
+      by (inl both) = sym (held_own b) ∙ sym (ap (λ (d : DurableState). has (blocks_held d) b) (ap (durable_in next.commits) both.1 ∙ durable_here put p.pool p)) ∙ owns.held
+      by (inr both) = absurd (both.0 is)
+
+  abbrev pub Before : Owner → ℕ → Type 0
+  Before o b = Owns p u o b ⊎ ((o ≡ Unassigned) × (has (blocks_of it.dropped) b ≡ true))
+
+  before_file : (file b : ℕ) → FileOwns next file b → (file ≡ f.file) ⊎ (file ≢ f.file) → FileOwns p file b
+  before_file file b owns (inl is) =
+      let own = own_now file b is owns in
+      subst (λ n. FileOwns p n b) (sym is) (mine b (own_or_dropped b ∙ ap (λ (v : Bool). v || has (blocks_of it.dropped) b) own))
+  before_file file b owns (inr not) = by (either put p.pool p file owns.hand owns.here)
+    where
+      by : ((file ≡ f.file) × (owns.hand ≡ put.file)) ⊎ ((file ≢ f.file) × (map.get p.files file ≡ Some owns.hand)) → FileOwns p file b
+      by (inl both) = absurd (not both.0)
+      by (inr both) = record {
+        hand = owns.hand;
+        here = both.1;
+        held = sym (ap (λ (d : DurableState). has (blocks_held d) b) (durable_else put p.pool p owns.hand (λ e. not (sym (numbered file owns.hand both.1) ∙ e)))) ∙ owns.held;
+      }
+
+  pub before : (o : Owner) (b : ℕ) → Owns next more o b → Before o b
+  before (OneFile file) b owns = inl (before_file file b owns (one_or_apart file f.file))
+  before ThePool b owns = inl owns
+  before TheNames b owns = inl owns
+  before Unassigned b owns = by (or_case (set.contains u b) (has (blocks_of it.dropped) b) (sym (union_is b) ∙ owns))
+    where
+      by : (set.contains u b ≡ true) ⊎ (has (blocks_of it.dropped) b ≡ true) → Before Unassigned b
+      by (inl was) = inl was
+      by (inr new) = inr (refl, new)
+
+  -- what the file dropped is nobody else's
+  no_other : (o : Owner) (b : ℕ) → has (blocks_of it.dropped) b ≡ true → Owns p u o b → Owns next more o b → ⊥
+  no_other o b gone had now =
+      let is : OneFile f.file ≡ o = apart_then (OneFile f.file) o b (dropped_mine b gone) had in
+      let own = own_now f.file b refl (subst (λ (a : Owner). Owns next more a b) (sym is) now) in
+      clash (has (blocks_of it.dropped) b) gone (noted.apart.absent b own)
+
+  pub apart_now : (one two : Owner) (b : ℕ) → Owns next more one b → Owns next more two b → one ≡ two
+  apart_now one two b a c = by (before one b a) (before two b c)
+    where
+      by : Before one b → Before two b → one ≡ two
+      by (inl had) (inl too) = apart_then one two b had too
+      by (inr new) (inr too) = new.0 ∙ sym too.0
+      by (inr new) (inl too) = absurd (no_other two b new.1 too c)
+      by (inl had) (inr new) = absurd (no_other one b new.1 had a)
 
 module _ (l m : Ledger) (u : BlockSet) (start : PosixTree) (history : List Entry) (k : Counts) (p : Parts) (f : FileState) (at : map.get p.files f.file ≡ Some f) (st : IsStored l u start history k p) (done : IsDone l m start history k p f) where
   abbrev x : DurableState
@@ -82,83 +169,15 @@ module _ (l m : Ledger) (u : BlockSet) (start : PosixTree) (history : List Entry
       by (inl both) = subst (IsFileWhole m k.numbers) (sym (ap (durable_in q.commits) both.1 ∙ durable_here y p.pool p)) done.itself
       by (inr both) = subst (IsFileWhole m k.numbers) (sym (durable_else y p.pool p h (λ e. both.0 (sym (st.parts.files file h both.1).0 ∙ e)))) (done.others file h both.1 both.0)
 
-  -- ---- blocks
-
-  union_is : (b : ℕ) → set.contains u2 b ≡ (set.contains u b || has (blocks_of x.dropped) b)
-  union_is b = has-union u (set_of x.dropped) b
-
-  own_or_dropped : (b : ℕ) → has (blocks_held x) b ≡ (has (blocks_of f.extents) b || has (blocks_of x.dropped) b)
-  own_or_dropped b = has-append (blocks_of f.extents) (blocks_of x.dropped) b
-
-  held_own : (b : ℕ) → has (blocks_held y) b ≡ has (blocks_of f.extents) b
-  held_own b = ap (λ (bs : List ℕ). has bs b) (append-nil (blocks_of f.extents))
-
-  mine : (b : ℕ) → has (blocks_held x) b ≡ true → FileOwns p f.file b
-  mine b is = record { hand = f; here = at; held = is }
-
-  dropped_mine : (b : ℕ) → has (blocks_of x.dropped) b ≡ true → FileOwns p f.file b
-  dropped_mine b is = mine b (own_or_dropped b ∙ by (has (blocks_of f.extents) b))
-    where
-      by : (v : Bool) → (v || has (blocks_of x.dropped) b) ≡ true
-      by true = refl
-      by false = is
-
-  own_now : (file b : ℕ) → file ≡ f.file → FileOwns q file b → has (blocks_of f.extents) b ≡ true
-  own_now file b is owns = by (either y p.pool p file owns.hand owns.here)
-    where
-      by : ((file ≡ f.file) × (owns.hand ≡ y.file)) ⊎ ((file ≢ f.file) × (map.get p.files file ≡ Some owns.hand)) → has (blocks_of f.extents) b ≡ true
-      by (inl both) = sym (held_own b) ∙ sym (ap (λ (d : DurableState). has (blocks_held d) b) (ap (durable_in q.commits) both.1 ∙ durable_here y p.pool p)) ∙ owns.held
-      by (inr both) = absurd (both.0 is)
-
-  abbrev Before : Owner → ℕ → Type 0
-  Before o b = Owns p u o b ⊎ ((o ≡ Unassigned) × (has (blocks_of x.dropped) b ≡ true))
-
-  before_file : (file b : ℕ) → FileOwns q file b → (file ≡ f.file) ⊎ (file ≢ f.file) → FileOwns p file b
-  before_file file b owns (inl is) =
-      let own = own_now file b is owns in
-      subst (λ n. FileOwns p n b) (sym is) (mine b (own_or_dropped b ∙ ap (λ (v : Bool). v || has (blocks_of x.dropped) b) own))
-  before_file file b owns (inr not) = by (either y p.pool p file owns.hand owns.here)
-    where
-      by : ((file ≡ f.file) × (owns.hand ≡ y.file)) ⊎ ((file ≢ f.file) × (map.get p.files file ≡ Some owns.hand)) → FileOwns p file b
-      by (inl both) = absurd (not both.0)
-      by (inr both) = record {
-        hand = owns.hand;
-        here = both.1;
-        held = sym (ap (λ (d : DurableState). has (blocks_held d) b) (durable_else y p.pool p owns.hand (λ e. not (sym (st.parts.files file owns.hand both.1).0 ∙ e)))) ∙ owns.held;
-      }
-
-  before : (o : Owner) (b : ℕ) → Owns q u2 o b → Before o b
-  before (OneFile file) b owns = inl (before_file file b owns (one_or_apart file f.file))
-  before ThePool b owns = inl owns
-  before TheNames b owns = inl owns
-  before Unassigned b owns = by (or_case (set.contains u b) (has (blocks_of x.dropped) b) (sym (union_is b) ∙ owns))
-    where
-      by : (set.contains u b ≡ true) ⊎ (has (blocks_of x.dropped) b ≡ true) → Before Unassigned b
-      by (inl was) = inl was
-      by (inr new) = inr (refl, new)
-
-  -- what the file dropped is nobody else's
-  no_other : (o : Owner) (b : ℕ) → has (blocks_of x.dropped) b ≡ true → Owns p u o b → Owns q u2 o b → ⊥
-  no_other o b gone had now =
-      let is : OneFile f.file ≡ o = st.spaced.apart (OneFile f.file) o b (dropped_mine b gone) had in
-      let own = own_now f.file b refl (subst (λ (a : Owner). Owns q u2 a b) (sym is) now) in
-      clash (has (blocks_of x.dropped) b) gone (whole.noted.apart.absent b own)
-
-  apart_now : (one two : Owner) (b : ℕ) → Owns q u2 one b → Owns q u2 two b → one ≡ two
-  apart_now one two b a c = by (before one b a) (before two b c)
-    where
-      by : Before one b → Before two b → one ≡ two
-      by (inl had) (inl too) = st.spaced.apart one two b had too
-      by (inr new) (inr too) = new.0 ∙ sym too.0
-      by (inr new) (inl too) = absurd (no_other two b new.1 too c)
-      by (inl had) (inr new) = absurd (no_other one b new.1 had a)
+  numbered : AreNumbered p.files
+  numbered file h here = (st.parts.files file h here).0
 
   usable_now : (o : Owner) (b : ℕ) → o ≢ TheNames → Owns q u2 o b → IsFileBlock m b
-  usable_now o b not owns = by (before o b owns)
+  usable_now o b not owns = by (before u p f at whole.noted numbered st.spaced.apart o b owns)
     where
-      by : Before o b → IsFileBlock m b
+      by : Before u p f at whole.noted numbered st.spaced.apart o b → IsFileBlock m b
       by (inl had) = done.file_block b (st.spaced.usable o b not had)
-      by (inr new) = done.file_block b (st.spaced.usable (OneFile f.file) b (λ e. cc) (dropped_mine b new.1))
+      by (inr new) = done.file_block b (st.spaced.usable (OneFile f.file) b (λ e. cc) (dropped_mine u p f at whole.noted numbered st.spaced.apart b new.1))
 
   spelled : (b : ℕ) → IsFileBlock l b ⊎ IsSpelled l b → IsFileBlock m b ⊎ IsSpelled m b
   spelled b (inl free) = inl (done.file_block b free)
@@ -168,14 +187,14 @@ module _ (l m : Ledger) (u : BlockSet) (start : PosixTree) (history : List Entry
   unheld_now inode place b fresh had = by (done.block_before inode place b had)
     where
       by : ((inode ≡ f.inode) × (slice_get (blocks_of f.extents) place ≡ Some b)) ⊎ ((inode ≢ f.inode) × HasBlock g l.now.catalog inode place b) → ⊥
-      by (inl own) = (let no = st.spaced.apart (OneFile f.file) TheNames b (mine b (held_at x place b own.1)) (inl fresh) in cc)
+      by (inl own) = (let no = st.spaced.apart (OneFile f.file) TheNames b (mine u p f at whole.noted numbered st.spaced.apart b (held_at x place b own.1)) (inl fresh) in cc)
       by (inr was) = st.spaced.unheld inode place b fresh was.1
 
   held_now : (inode place b : ℕ) → HasBlock (geometry_of m.head) m.now.catalog inode place b → NamesOwn q b ⊎ FileHasIt q k.numbers inode b
   held_now inode place b had = by (done.block_before inode place b had)
     where
-      it : FileHasIt p k.numbers inode b → inode ≢ f.inode → FileHasIt q k.numbers inode b
-      it file apart =
+      stays : FileHasIt p k.numbers inode b → inode ≢ f.inode → FileHasIt q k.numbers inode b
+      stays file apart =
           let not : file.0 ≢ f.file = (λ is. apart (same_some inode f.inode (sym file.2 ∙ ap k.numbers.inode is ∙ done.number))) in (
             file.0,
             record {
@@ -188,7 +207,7 @@ module _ (l m : Ledger) (u : BlockSet) (start : PosixTree) (history : List Entry
 
       old : NamesOwn p b ⊎ FileHasIt p k.numbers inode b → inode ≢ f.inode → NamesOwn q b ⊎ FileHasIt q k.numbers inode b
       old (inl names) apart = inl names
-      old (inr file) apart = inr (it file apart)
+      old (inr file) apart = inr (stays file apart)
 
       by : ((inode ≡ f.inode) × (slice_get (blocks_of f.extents) place ≡ Some b)) ⊎ ((inode ≢ f.inode) × HasBlock g l.now.catalog inode place b) → NamesOwn q b ⊎ FileHasIt q k.numbers inode b
       by (inl own) = inr (
@@ -196,7 +215,7 @@ module _ (l m : Ledger) (u : BlockSet) (start : PosixTree) (history : List Entry
         record {
           hand = y.file;
           here = here y p.pool p;
-          held = ap (λ (d : DurableState). has (blocks_held d) b) (durable_here y p.pool p) ∙ held_own b ∙ has_at (blocks_of f.extents) place b own.1;
+          held = ap (λ (d : DurableState). has (blocks_held d) b) (durable_here y p.pool p) ∙ held_own u p f at whole.noted numbered st.spaced.apart b ∙ has_at (blocks_of f.extents) place b own.1;
         },
         done.number ∙ ap Some (sym own.0),
       )
@@ -227,5 +246,5 @@ module _ (l m : Ledger) (u : BlockSet) (start : PosixTree) (history : List Entry
     names = done.names;
     counted = counted_now;
     each = each_now;
-    spaced = record { apart = apart_now; usable = usable_now; fresh = λ b is. spelled b (st.spaced.fresh b is); unheld = unheld_now; held = held_now };
+    spaced = record { apart = apart_now u p f at whole.noted numbered st.spaced.apart; usable = usable_now; fresh = λ b is. spelled b (st.spaced.fresh b is); unheld = unheld_now; held = held_now };
   }

@@ -41,7 +41,7 @@ use Rattle.ufs_stored.specs.Parts.{NamesOwn, OneFile, Parts, TheNames, ThePool, 
 use Rattle.ufs_stored.specs.Stored.{ArePartsOf, FileHasIt, IsFileStored, IsFileWhole, IsStored, with_born}
 use Rattle.ufs_stored.proofs.Entries.{counted_still, excuse_leaves, ledger_kept}
 use Rattle.ufs_stored.proofs.Puts.{durable_else, durable_here, either, other_file, here}
-use Rattle.ufs_stored.proofs.Spaced.{spaced_now}
+use Rattle.ufs_stored.proofs.Spaced.{pool_apart, spaced_now}
 
 served_goes : (t : PosixTree) (client : ℕ) (request : Op) (r : Reply) → is_excused r ≡ false → tree_with t client request r ≡ (posix t client request).0
 served_goes t client request (reply.Excused x) e = absurd cc
@@ -86,6 +86,38 @@ module _ (p : Parts) (s : FileState) (x : DurableState) (pool : BlockSet) (old :
   pub parts_now : ArePartsOf q t'
   parts_now = record { names = names; files = files_now; inodes = inodes_now; here = here_now }
 
+-- excused or served
+turn : (r : Reply) (P : Type 0) → (is_excused r ≡ true → P) → (is_excused r ≡ false → P) → P
+turn r P on off = by (is_excused r) refl
+  where
+    by : (b : Bool) → is_excused r ≡ b → P
+    by true e = on e
+    by false e = off e
+
+module _ (names_keep : KeepsNames) (start : PosixTree) (history : List Entry) (entry : Entry) (p : Parts) (s : FileState) (x : DurableState) (pool : BlockSet) (ask : Ask) (server : Actor) (ticket : ℕ) (desc : Option Desc) (d : Desc)
+    (old : map.get p.files s.file ≡ Some s) (kind : is_on_file ask.op ≡ true) (asked : IsAsk (tree_after start history) ask) (is : ask.desc ≡ Some d) (of : d.file ≡ Some s.file)
+    (applied : IsApplied (durable_in p.commits s) x p.pool pool ask server ticket entry desc) (number : x.file.file ≡ s.file) (inode : x.file.inode ≡ s.inode) (parts : ArePartsOf p (tree_after start history)) where
+  abbrev before : PosixTree
+  before = tree_after start history
+
+  next : tree_after start (history ++ entry ∷ []) ≡ goes_on before entry
+  next = tree_after-append start history (entry ∷ [])
+
+  pub parts_after : ArePartsOf (with_file x pool p) (tree_after start (history ++ entry ∷ []))
+  parts_after = turn entry.reply (ArePartsOf (with_file x pool p) (tree_after start (history ++ entry ∷ []))) on off
+    where
+      on : is_excused entry.reply ≡ true → ArePartsOf (with_file x pool p) (tree_after start (history ++ entry ∷ []))
+      on e = subst (ArePartsOf (with_file x pool p)) (sym (next ∙ excuse_leaves before entry.client entry.op entry.reply e))
+          (parts_now p s x pool old number inode before before parts parts.names (subst (λ (y : DurableState). IsFileOf y.file before) (sym (applied.kept e)) (parts.files s.file s old).1) (λ f not. refl))
+
+      off : is_excused entry.reply ≡ false → ArePartsOf (with_file x pool p) (tree_after start (history ++ entry ∷ []))
+      off e =
+          let stepped = applied.posix e before (parts.files s.file s old).1 asked in
+          let goes : goes_on before entry ≡ (posix before ask.client ask.op).0 = served_goes before entry.client entry.op entry.reply e ∙ (λ i. (posix before (applied.of_ask.client i) (applied.of_ask.asked i)).0) in
+          let named : IsSome (file_in ask.desc) = ap (λ (o : Option Desc). is_some (file_in o)) is ∙ ap is_some of in
+          subst (ArePartsOf (with_file x pool p)) (sym (next ∙ goes))
+          (parts_now p s x pool old number inode before (posix before ask.client ask.op).0 parts (names_keep p.names before ask parts.names asked kind named) stepped.goes_on stepped.others)
+
 -- ---- the whole
 
 module _ (g : Geometry) (keeps : EntriesKeep g) (nothing : OthersAcknowledgeNothing) (names_keep : KeepsNames) (stands : StandsServed) (owns : OwnsServed)
@@ -95,18 +127,11 @@ module _ (g : Geometry) (keeps : EntriesKeep g) (nothing : OthersAcknowledgeNoth
   abbrev f : DurableState
   f = durable_in p.commits s
 
-  abbrev t : PosixTree
-  t = tree_after start history
-
   whole : IsFileWhole l k.numbers f
   whole = st.each s.file s old
 
   apart : IsApart p.pool (blocks_held f)
-  apart = record { absent = λ b held. by b held (set.contains p.pool b) refl; once = whole.once }
-    where
-      by : (b : ℕ) → has (blocks_held f) b ≡ true → (c : Bool) → set.contains p.pool b ≡ c → set.contains p.pool b ≡ false
-      by b held false e = e
-      by b held true e = (let clash = st.spaced.apart (OneFile s.file) ThePool b (record { hand = s; here = old; held = held }) e in absurd cc)
+  apart = pool_apart u p s old whole.once st.spaced.apart
 
   number : x.file.file ≡ s.file
   number = same_number f x p.pool pool whole.noted apart ask server ticket entry desc d is applied
@@ -117,16 +142,8 @@ module _ (g : Geometry) (keeps : EntriesKeep g) (nothing : OthersAcknowledgeNoth
   apart_now : IsApart pool (blocks_held x)
   apart_now = goes_apart f x p.pool pool whole.noted apart ask server ticket entry desc d is applied
 
-  -- excused or served
-  turn : (P : Type 0) → (is_excused entry.reply ≡ true → P) → (is_excused entry.reply ≡ false → P) → P
-  turn P on off = by (is_excused entry.reply) refl
-    where
-      by : (b : Bool) → is_excused entry.reply ≡ b → P
-      by true e = on e
-      by false e = off e
-
   stands_now : (m : Ledger) → ((b : ℕ) → IsFileBlock l b → IsFileBlock m b) → StandsFor m f → StandsFor m x
-  stands_now m blocks stood = turn (StandsFor m x) (λ on. subst (StandsFor m) (sym (applied.kept on)) stood)
+  stands_now m blocks stood = turn entry.reply (StandsFor m x) (λ on. subst (StandsFor m) (sym (applied.kept on)) stood)
       (λ off. stands m f x p.pool pool d ask.op entry.reply desc whole.noted stood (λ b pooled. blocks b (st.spaced.usable ThePool b (λ e. cc) pooled)) (applied.served off d is))
 
   stored_now : IsFileStored l k.numbers f → IsFileStored l k.numbers x
@@ -146,7 +163,7 @@ module _ (g : Geometry) (keeps : EntriesKeep g) (nothing : OthersAcknowledgeNoth
       by (inr file) = (let clash = st.spaced.apart ThePool (OneFile file.0) b pooled file.1 in cc)
 
   own_now : HasOwnBlocks l x
-  own_now = turn (HasOwnBlocks l x) (λ on. subst (HasOwnBlocks l) (sym (applied.kept on)) whole.own) off
+  own_now = turn entry.reply (HasOwnBlocks l x) (λ on. subst (HasOwnBlocks l) (sym (applied.kept on)) whole.own) off
     where
       off : is_excused entry.reply ≡ false → HasOwnBlocks l x
       off e = owns l f x p.pool pool d ask.op entry.reply desc whole.own untaken (applied.served e d is)
@@ -166,30 +183,12 @@ module _ (g : Geometry) (keeps : EntriesKeep g) (nothing : OthersAcknowledgeNoth
       by (inl both) = subst (IsFileWhole l k.numbers) (sym (ap (durable_in (with_file x pool p).commits) both.1 ∙ durable_here x pool p)) whole_now
       by (inr both) = subst (IsFileWhole l k.numbers) (sym (durable_else x pool p r (λ e. both.0 (sym (st.parts.files file r both.1).0 ∙ e)))) (st.each file r both.1)
 
-  next : tree_after start (history ++ entry ∷ []) ≡ goes_on t entry
-  next = tree_after-append start history (entry ∷ [])
-
-  parts_after : ArePartsOf (with_file x pool p) (tree_after start (history ++ entry ∷ []))
-  parts_after = turn (ArePartsOf (with_file x pool p) (tree_after start (history ++ entry ∷ []))) on off
-    where
-      on : is_excused entry.reply ≡ true → ArePartsOf (with_file x pool p) (tree_after start (history ++ entry ∷ []))
-      on e = subst (ArePartsOf (with_file x pool p)) (sym (next ∙ excuse_leaves t entry.client entry.op entry.reply e))
-          (parts_now p s x pool old number inode t t st.parts st.parts.names (subst (λ (y : DurableState). IsFileOf y.file t) (sym (applied.kept e)) (st.parts.files s.file s old).1) (λ f not. refl))
-
-      off : is_excused entry.reply ≡ false → ArePartsOf (with_file x pool p) (tree_after start (history ++ entry ∷ []))
-      off e =
-          let stepped = applied.posix e t (st.parts.files s.file s old).1 asked in
-          let goes : goes_on t entry ≡ (posix t ask.client ask.op).0 = served_goes t entry.client entry.op entry.reply e ∙ (λ i. (posix t (applied.of_ask.client i) (applied.of_ask.asked i)).0) in
-          let named : IsSome (file_in ask.desc) = ap (λ (o : Option Desc). is_some (file_in o)) is ∙ ap is_some of in
-          subst (ArePartsOf (with_file x pool p)) (sym (next ∙ goes))
-          (parts_now p s x pool old number inode t (posix t ask.client ask.op).0 st.parts (names_keep p.names t ask st.parts.names asked kind named) stepped.goes_on stepped.others)
-
   pub file_entry_kept : IsStored l u start (history ++ entry ∷ []) k (with_file x pool p)
   file_entry_kept = record {
     tree = st.tree;
     legal = legal;
-    kept = ledger_kept g keeps l start history entry k same st.tree legal (nothing start history entry k.names k.files (inr no_commit)) st.kept;
-    parts = parts_after;
+    kept = (let ack = nothing start history entry k.names k.files (inr no_commit) in ledger_kept g keeps l start history entry k k same st.tree legal ack ack st.kept);
+    parts = parts_after names_keep start history entry p s x pool ask server ticket desc d old kind asked is of applied number inode st.parts;
     names = st.names;
     counted = counted_still start history entry k st.kept.here.stored.made st.counted;
     each = each_now;

@@ -98,6 +98,7 @@ module _ (s : StoreState) (l : Ledger) (u : BlockSet) (start : PosixTree) (histo
     data_block = moved (λ h a. IsDataBlock h b) is.data_block;
     spelled = moved (λ h a. IsTrue (a.dirs b)) is.spelled;
     slots = moved (λ h a. a.catalog.slots b ≡ replicate SLOTS_PER_BLOCK free_slot) is.slots;
+    unheld = moved (λ h a. is_held a.log b ≡ false) is.unheld;
   }
 
   blocks_now : form_blocks (l.now.catalog.forms f.inode) ≡ blocks_of f.extents

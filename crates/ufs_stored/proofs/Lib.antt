@@ -1,20 +1,24 @@
-mod Entries
-mod Puts
-mod Spaced
-mod FileEntries
+pub mod Entries
+pub mod Puts
+pub mod Spaced
+pub mod FileEntries
 mod Places
-mod Alike
-mod Zeros
+pub mod Alike
+pub mod Zeros
 mod Steps
+pub mod Numbered
+pub mod Unfresh
 mod NameCommits
 mod Live
 mod OneDelta
-mod FileDone
-mod FileCommits
-mod FileSettles
+pub mod FileDone
+pub mod FileCommits
+pub mod FileSettles
 mod NamesLaw
 mod Fresh
 mod NameEntries
 mod NewFiles
 mod NotesLaw
-mod Pools
+pub mod Pools
+mod OnDisk
+mod Stopping

@@ -35,13 +35,14 @@ use Rattle.ufs_model.specs.PosixTree.{PosixTree}
 use Rattle.ufs_model.specs.declared.data.Entry.{Entry}
 use Rattle.ufs_model.proofs.Facts.Live.{held_has}
 use Rattle.ufs_model.proofs.Facts.Lookups.{from_some, same_some}
-use Rattle.ufs_name_log.specs.Files.{BornAreEmpty, KeepsInode, MayGoOn, NamesStandOn, OthersStay, is_touched}
+use Rattle.ufs_name_log.specs.Files.{BornAreEmpty, KeepsInode, MayGoOn, NamesStandOn, OthersStay}
 use Rattle.ufs_name_log.specs.Held.{HasName, HasSoundNames, HasState}
 use Rattle.ufs_name_log.specs.Laws.{AreOlder, StepsAreTold, StepsMayCommit, change}
 use Rattle.ufs_dir_tree.specs.Steps.{DirState, Step, after_all}
 use Rattle.ufs_name_log.proofs.Covers.{covers_table}
 use Rattle.ufs_name_log.proofs.Forms.{form_here}
 use Rattle.ufs_name_tree.specs.NameTable.{IsNameTable, file_at}
+use Rattle.ufs_name_tree.specs.Notes.{is_touched}
 use Rattle.ufs_names.specs.NamesPart.{IsPartOf}
 use Rattle.ufs_names.specs.declared.holding.Holding.{Holding}
 use Rattle.ufs_names_ledger.specs.Going.{NamesMayGoOn}
@@ -56,7 +57,9 @@ use Rattle.ufs_durable.proofs.Served.{has_at}
 use Rattle.ufs_stored.specs.Parts.{NamesOwn, OneFile, Owner, Owns, Parts, TheNames, ThePool, Unassigned, durable_in}
 use Rattle.ufs_stored.specs.Stored.{AreNamesNoted, FileHasIt, IsFileStored, IsSpelled, IsStored, empty_form, with_born, with_fresh}
 use Rattle.ufs_stored.specs.Laws.{all_named, with_names_committed}
+use Rattle.ufs_stored.proofs.Numbered.{alone_now, born_now, live, names_now, numbered}
 use Rattle.ufs_stored.proofs.Places.{held_at}
+use Rattle.ufs_stored.proofs.Unfresh.{before, never, part_committed, sound_zeroed}
 use Rattle.ufs_stored.proofs.Steps.{bare_after, others, unset_in}
 
 not_false : (b : Bool) → b ≡ false → not b ≡ true
@@ -105,22 +108,16 @@ module _ (l : Ledger) (u : BlockSet) (start : PosixTree) (history : List Entry) 
 
   -- ---- the names
 
-  live : (file : ℕ) → IsNamed tree.paths file → IsSome (map.get p.names.held file)
-  live file named = st.parts.names.told file ∙ held_has tree st.parts.names.tree file (inl named)
-
-  names_now : NamesGoByChanges → names_after start history more ≡ names_of tree
-  names_now by = subst (λ (h : List Entry). names_after start h more ≡ names_of tree) (append-nil history) (by start history [] st.legal)
-
   go : NamesGoByChanges → NamesMayGoOn g → MayGoOn g l.now d xs number start history k.names more k.numbers (numbers_of p.names)
   go by names = names l.now d xs number start history k.names more k.numbers p.names tree state older n.may n.sound
       (record { dirs = n.dirs; sound = table; part = st.parts.names; files = n.kinds.file })
-      (record { made = omega arith; paths = ap (λ (s : NameState). s.paths) (sym (names_now by)); next = omega arith })
+      (record { made = omega arith; paths = ap (λ (s : NameState). s.paths) (sym (names_now l u start history k p st by)); next = omega arith })
       st.kept.here.stored.made each
     where
       each : (count file : ℕ) → more ≤ count → count ≤ length (name_changes start history) → IsNamed (names_after start history count).paths file → KeepsInode xs k.numbers (numbers_of p.names) file
       each count file from to named =
           let is : count ≡ more = omega (arith, from, to) in
-          n.live file (live file (subst (λ (s : NameState). IsNamed s.paths file) (ap (names_after start history) is ∙ names_now by) named))
+          n.live file (live l u start history k p st file (subst (λ (s : NameState). IsNamed s.paths file) (ap (names_after start history) is ∙ names_now l u start history k p st by) named))
 
   pub goes_on_by : NamesGoByChanges → NamesMayGoOn g → NamesStandOn g → SettledIsKept g → GoesOnBy g l t start history k k2
   goes_on_by by names stand settle = stand (settled l).blocks l.now d xs number start history k.names more k.files k.numbers (numbers_of p.names) (settle l start history k k refl none st.kept).here (go by names)
@@ -163,43 +160,10 @@ module _ (l : Ledger) (u : BlockSet) (start : PosixTree) (history : List Entry) 
     file_block : (owner : Owner) (b : ℕ) → owner ≢ TheNames → Owns p u owner b → IsFileBlock l b → IsFileBlock m b
     file_block owner b off owns was = record { data_block = was.data_block; no_dir = was.no_dir; unheld = held_after l.now.log t b was.unheld (owned_outside owner b off owns) }
 
-    owns_before : (owner : Owner) (b : ℕ) → owner ≢ TheNames → Owns p2 u owner b → Owns p u owner b
-    owns_before (OneFile f) b off owns = record { hand = owns.hand; here = owns.here; held = owns.held }
-    owns_before ThePool b off owns = owns
-    owns_before Unassigned b off owns = owns
-    owns_before TheNames b off owns = absurd (off refl)
-
-    -- nothing is fresh any more
-    never : (b : ℕ) → has [] b ≡ true → ⊥
-    never b is = (let clash = sym is ∙ has-none b in cc)
-
-    names_before : (b : ℕ) → NamesOwn p2 b → NamesOwn p b
-    names_before b (inl fresh) = absurd (never b fresh)
-    names_before b (inr rest) = inr rest
-
-    before : (owner : Owner) (b : ℕ) → Owns p2 u owner b → Owns p u owner b
-    before (OneFile f) b owns = record { hand = owns.hand; here = owns.here; held = owns.held }
-    before ThePool b owns = owns
-    before Unassigned b owns = owns
-    before TheNames b owns = names_before b owns
-
     -- ---- files
 
-    -- the file is live, with its own inode
-    numbered : (file : ℕ) (s : FileState) → map.get p.files file ≡ Some s → IsSome (map.get p.names.held file) × ((numbers_of p.names).inode file ≡ Some s.inode)
-    numbered file s here = by (from_some (map.get p.names.held file) there)
-      where
-        is : s.file ≡ file
-        is = (st.parts.files file s here).0
-
-        there : is_some (map.get p.names.held file) ≡ true
-        there = st.parts.names.told file ∙ ap (λ f. is_some (map.get tree.bytes f)) (sym is) ∙ ap is_some (st.parts.files file s here).1
-
-        by : (h : Holding) × (map.get p.names.held file ≡ Some h) → IsSome (map.get p.names.held file) × ((numbers_of p.names).inode file ≡ Some s.inode)
-        by (h, at) = (there, ap (option_map (λ (h : Holding). h.inode)) at ∙ ap Some (sym (st.parts.inodes file s h here at)))
-
     has_it : (inode b : ℕ) → FileHasIt p k.numbers inode b → FileHasIt p2 (numbers_of p.names) inode b
-    has_it inode b file = by (n.live file.0 (numbered file.0 file.1.hand file.1.here).0)
+    has_it inode b file = by (n.live file.0 (numbered l u start history k p st file.0 file.1.hand file.1.here).0)
       where
         by : KeepsInode xs k.numbers (numbers_of p.names) file.0 → FileHasIt p2 (numbers_of p.names) inode b
         by (inl same) = (file.0, record { hand = file.1.hand; here = file.1.here; held = file.1.held }, same.0 ∙ file.2)
@@ -258,16 +222,16 @@ module _ (l : Ledger) (u : BlockSet) (start : PosixTree) (history : List Entry) 
     }
 
     stored : (file : ℕ) (s : FileState) → map.get p.files file ≡ Some s → IsFileStored l k.numbers (durable_in p.commits s) → IsFileStored m (numbers_of p.names) (durable_in p.commits s)
-    stored file s here was = inl (ap (numbers_of p.names).inode is ∙ (numbered file s here).1, by (subst (KeepsInode xs k.numbers (numbers_of p.names)) (sym is) (n.live file (numbered file s here).0)) was)
+    stored file s here was = inl (ap (numbers_of p.names).inode is ∙ (numbered l u start history k p st file s here).1, by (subst (KeepsInode xs k.numbers (numbers_of p.names)) (sym is) (n.live file (numbered l u start history k p st file s here).0)) was)
       where
         is : s.file ≡ file
         is = (st.parts.files file s here).0
 
         mine : (numbers_of p.names).inode s.file ≡ Some s.inode
-        mine = ap (numbers_of p.names).inode is ∙ (numbered file s here).1
+        mine = ap (numbers_of p.names).inode is ∙ (numbered l u start history k p st file s here).1
 
         kind_now : IsInode g s.inode → (c2.forms s.inode).kind ≡ 1
-        kind_now inside = led.kinds s.inode inside ∙ n.kinds.file s.inode file (at_inode (from_some (map.get p.names.held file) (numbered file s here).0))
+        kind_now inside = led.kinds s.inode inside ∙ n.kinds.file s.inode file (at_inode (from_some (map.get p.names.held file) (numbered l u start history k p st file s here).0))
           where
             at_inode : (h : Holding) × (map.get p.names.held file ≡ Some h) → file_at p.names.tree s.inode ≡ Some file
             at_inode (h, at) = ap (file_at p.names.tree) (st.parts.inodes file s h here at) ∙ st.parts.names.inodes.inode file h at
@@ -304,35 +268,12 @@ module _ (l : Ledger) (u : BlockSet) (start : PosixTree) (history : List Entry) 
                     kinds : (v : Bool) → ((c2.forms inode).kind == 2) ≡ v → ⊥
                     kinds true e =
                         let dir : (c2.forms inode).kind ≡ 2 = grind (arith, nat_tests, e) in
-                        (let clash = st.spaced.apart (OneFile file) TheNames b owns (names_before b (is_dir_block inode q b at dir)) in cc)
+                        (let clash = st.spaced.apart (OneFile file) TheNames b owns (before p u TheNames b (is_dir_block inode q b at dir)) in cc)
                     kinds false e =
                         let form = c2.forms inode in
                         nothing_at form.extents form.kind form.size form.number q b (bare inode on (λ dir. let clash = sym e ∙ ap (λ v. v == 2) dir in cc)) at.there
 
     -- ---- the whole
-
-    names_part : IsPartOf p2.names tree
-    names_part = record {
-      tree = st.parts.names.tree;
-      paths = st.parts.names.paths;
-      once = st.parts.names.once;
-      next = st.parts.names.next;
-      linked = st.parts.names.linked;
-      held = st.parts.names.held;
-      told = st.parts.names.told;
-      inodes = record { inode = st.parts.names.inodes.inode; live = st.parts.names.inodes.live; own = st.parts.names.inodes.own };
-    }
-
-    -- the sound names of a state are those of one with other blocks of zeros
-    named : (dir place : ℕ) (e : DentryForm) → HasName g (with_fresh [] (after_all xs d)) dir place e → HasName g (after_all xs d) dir place e
-    named dir place e at = record { in_range = at.in_range; there = at.there; named = at.named }
-
-    sound_now : HasSoundNames g (with_fresh [] (after_all xs d))
-    sound_now = record {
-      fit = λ dir place e at. let f = n.sound.fit dir place e (named dir place e at) in record { plain = f.plain; in_range = f.in_range; kind = f.kind; used = f.used; no_root = f.no_root };
-      names_once = λ dir p q e f a b same. n.sound.names_once dir p q e f (named dir p e a) (named dir q f b) same;
-      inodes_once = λ dir other p q e f a b same. n.sound.inodes_once dir other p q e f (named dir p e a) (named other q f b) same;
-    }
 
     noted_anew : AreNamesNoted m (numbers_of p.names) [] p2.names
     noted_anew = record {
@@ -343,7 +284,7 @@ module _ (l : Ledger) (u : BlockSet) (start : PosixTree) (history : List Entry) 
       may = tt;
       dirs = n.dirs;
       kinds = record { dir = n.kinds.dir; file = n.kinds.file; free = n.kinds.free };
-      sound = sound_now;
+      sound = sound_zeroed g (after_all xs d) (has []) n.sound;
       live = λ file is. inl (refl, λ inode at. refl);
     }
 
@@ -352,31 +293,15 @@ module _ (l : Ledger) (u : BlockSet) (start : PosixTree) (history : List Entry) 
       tree = st.tree;
       legal = st.legal;
       kept = kept;
-      parts = record { names = names_part; files = st.parts.files; inodes = st.parts.inodes; here = st.parts.here };
+      parts = record { names = part_committed p tree st.parts.names; files = st.parts.files; inodes = st.parts.inodes; here = st.parts.here };
       names = inr noted_anew;
-      counted = record { born = born_now; alone = alone_now; made = st.counted.made };
+      counted = record { born = born_now l u start history k p st by; alone = alone_now l u start history k p st; made = st.counted.made };
       each = λ file s here. let w = st.each file s here in record { noted = w.noted; once = w.once; own = own file s here w.own w.stored; stored = stored file s here w.stored };
       spaced = record {
-        apart = λ one other b a c. st.spaced.apart one other b (before one b a) (before other b c);
-        usable = λ owner b off owns. file_block owner b off (before owner b owns) (st.spaced.usable owner b off (before owner b owns));
+        apart = λ one other b a c. st.spaced.apart one other b (before p u one b a) (before p u other b c);
+        usable = λ owner b off owns. file_block owner b off (before p u owner b owns) (st.spaced.usable owner b off (before p u owner b owns));
         fresh = λ b is. absurd (never b is);
         unheld = λ inode place b is at. never b is;
         held = held_now;
       };
     }
-      where
-        holding : (file : ℕ) (o : Option Holding) → map.get p.names.held file ≡ o → IsSome (option_map (λ (h : Holding). h.inode) o) → IsSome (map.get p.names.held file)
-        holding file None e some = (let off = some in absurd cc)
-        holding file (Some h) e some = ap is_some e
-
-        born_now : (file : ℕ) → IsSome ((numbers_of p.names).inode file) → file < (names_after start history more).next
-        born_now file some =
-            let there : is_some (map.get tree.bytes file) ≡ true = sym (st.parts.names.told file) ∙ holding file (map.get p.names.held file) refl some in
-            subst (λ (s : NameState). file < s.next) (sym (names_now by)) (st.parts.names.tree.numbered file there)
-
-        at_inode : (file inode : ℕ) (o : Option Holding) → map.get p.names.held file ≡ o → option_map (λ (h : Holding). h.inode) o ≡ Some inode → file_at p.names.tree inode ≡ Some file
-        at_inode file inode None e is = (let off = is in absurd cc)
-        at_inode file inode (Some h) e is = ap (file_at p.names.tree) (sym (same_some h.inode inode is)) ∙ st.parts.names.inodes.inode file h e
-
-        alone_now : (file other inode : ℕ) → (numbers_of p.names).inode file ≡ Some inode → (numbers_of p.names).inode other ≡ Some inode → other ≡ file
-        alone_now file other inode a b = same_some other file (sym (at_inode other inode (map.get p.names.held other) refl b) ∙ at_inode file inode (map.get p.names.held file) refl a)

@@ -17,12 +17,12 @@ use Rattle.ufs_layout.specs.declared.records.LogRecord.{LogRecord}
 use Rattle.ufs_ledger.specs.Kept.{Numbers}
 use Rattle.ufs_ledger.specs.Ledger.{Ledger}
 use Rattle.ufs_model.proofs.Facts.Lookups.{same_some}
-use Rattle.ufs_name_log.specs.Files.{KeepsInode, is_of, is_touched}
+use Rattle.ufs_name_log.specs.Files.{KeepsInode}
 use Rattle.ufs_name_log.specs.Held.{HasName, HasSoundNames, MaySteps}
 use Rattle.ufs_name_log.specs.Laws.{ChangesJoin}
 use Rattle.ufs_name_log.specs.Noted.{NotedMayBeMade, NotesAreRecords, NotesLeadOn}
 use Rattle.ufs_name_log.specs.Steps.{records_of}
-use Rattle.ufs_name_tree.specs.Notes.{AreKindsOf, GoesNoted, IsStateOf}
+use Rattle.ufs_name_tree.specs.Notes.{AreKindsOf, GoesNoted, IsStateOf, is_of, is_touched}
 use Rattle.ufs_name_tree.specs.Records as tables
 use Rattle.ufs_names.specs.NamesPart.{NamesPart}
 use Rattle.ufs_names_ledger.specs.Numbers.{numbers_of}
@@ -40,7 +40,7 @@ or_false a b e f = ap (λ (v : Bool). v || b) e ∙ f
 module _ (l : Ledger) (numbers : Numbers) (fresh lent : List ℕ) (old new : NamesPart) (pool : BlockSet) (made : NotedMayBeMade (geometry_of l.head)) (told : NotesAreRecords) (lead : NotesLeadOn) (join : ChangesJoin (geometry_of l.head))
     (n : AreNamesNoted l numbers fresh old) (go : GoesNoted old.tree new.tree pool) (counted : length old.tree.dirs.dirs ≡ (geometry_of l.head).inodes + 1)
     (is_lent : (b : ℕ) → set.contains pool b ≡ true → has lent b ≡ true) (apart : (b : ℕ) → has lent b ≡ true → has fresh b ≡ false)
-    (sound : (s : DirState) → s.table ≡ old.tree.dirs → HasSoundNames (geometry_of l.head) s → HasSoundNames (geometry_of l.head) (after_all go.steps s))
+    (sound : (s : DirState) → IsStateOf old.tree pool s → HasSoundNames (geometry_of l.head) s → HasSoundNames (geometry_of l.head) (after_all go.steps s))
     (keeps : KeepsNumbers numbers old new go.steps) where
   abbrev g : Geometry
   g = geometry_of l.head
@@ -121,7 +121,7 @@ module _ (l : Ledger) (numbers : Numbers) (fresh lent : List ℕ) (old new : Nam
     may = (join more xs ys).may (may_more_all g (has lent) s more xs has_more n.may) may_then;
     dirs = ap (λ (a : DirState). a.table) (join more xs ys).state ∙ sym (lead mid ys) ∙ ap (table_after_all ys) state.table ∙ sym go.dirs;
     kinds = subst (λ (a : DirState). AreKindsOf new.tree a.kinds) (sym (join more xs ys).state) (go.kinds mid state);
-    sound = subst (HasSoundNames g) (sym (join more xs ys).state) (sound mid state.table sound_mid);
+    sound = subst (HasSoundNames g) (sym (join more xs ys).state) (sound mid state sound_mid);
     live = live_now;
   }
     where

@@ -57,7 +57,7 @@ pub name_entry_kept : (g : Geometry) → EntriesKeep g → (l : Ledger) (u : Blo
 name_entry_kept g keeps l u start history entry k p next same legal ack parts names files spaced st = record {
   tree = st.tree;
   legal = legal;
-  kept = ledger_kept g keeps l start history entry k same st.tree legal ack st.kept;
+  kept = ledger_kept g keeps l start history entry k k same st.tree legal ack ack st.kept;
   parts = parts;
   names = names;
   counted = counted_still start history entry k st.kept.here.stored.made st.counted;

@@ -16,7 +16,7 @@ use Rattle.ufs_dir_tree.specs.Steps.{DirState, Step, Born, Grown, Put, Freed, af
 use Rattle.ufs_name_log.specs.Steps.{record_of, records_of}
 use Rattle.ufs_name_log.specs.Held.{HasState, MayStep, MaySteps}
 use Rattle.ufs_name_log.specs.Laws.{AreOlder}
-use Rattle.ufs_name_log.specs.Files.{is_of, is_touched}
+use Rattle.ufs_name_tree.specs.Notes.{is_of, is_touched}
 use Rattle.ufs_name_log.proofs.Covers.{Covers, covered_all, covers_catalog}
 use Rattle.ufs_name_log.proofs.Files.{stays_all}
 use Rattle.ufs_name_log.proofs.Forms.{form_here}

@@ -54,7 +54,7 @@ module _ (g : Geometry) (l : Ledger) (u : BlockSet) (start : PosixTree) (history
   }
 
   -- no file has it on the disk
-  no_place : (block : ℕ) → has p.fresh block ≡ true → (file place : ℕ) (o : Option ℕ) → k.numbers.inode file ≡ o → slice_get (shape_of l.now.catalog o).holds place ≡ Some block → ⊥
+  pub no_place : (block : ℕ) → has p.fresh block ≡ true → (file place : ℕ) (o : Option ℕ) → k.numbers.inode file ≡ o → slice_get (shape_of l.now.catalog o).holds place ≡ Some block → ⊥
   no_place block fresh file place None is at = (let no = at in cc)
   no_place block fresh file place (Some inode) is at = st.spaced.unheld inode place block fresh (record { in_range = (st.kept.here.stored.inodes file inode is).0; there = at })
 
@@ -87,7 +87,7 @@ module _ (l : Ledger) (u : BlockSet) (start : PosixTree) (history : List Entry) 
   apart : (other : ℕ) → other ≢ block → (if other == block then true else l.now.dirs other) ≡ l.now.dirs other
   apart other not = ap (λ (b : Bool). if b then true else l.now.dirs other) (apart_false other block not)
 
-  file_block : (other : ℕ) → other ≢ block → IsFileBlock l other → IsFileBlock m other
+  pub file_block : (other : ℕ) → other ≢ block → IsFileBlock l other → IsFileBlock m other
   file_block other not was = record { data_block = was.data_block; no_dir = λ is. was.no_dir (subst IsTrue (apart other not) is); unheld = was.unheld }
 
   -- another owner's block is another one
@@ -134,11 +134,12 @@ module _ (l : Ledger) (u : BlockSet) (start : PosixTree) (history : List Entry) 
       by place other (inl there) = inl there
       by place other (inr off) = inr (λ is. off (taken other is))
 
-  spelled : IsSpelled m block
+  pub spelled : IsSpelled m block
   spelled = record {
     data_block = free.data_block;
     spelled = subst IsTrue (sym (ap (λ (b : Bool). if b then true else l.now.dirs block) here)) refl;
     slots = ap (λ (b : Bool). if b then replicate SLOTS_PER_BLOCK free_slot else l.now.catalog.slots block) here;
+    unheld = free.unheld;
   }
     where
       here : (block == block) ≡ true
@@ -151,6 +152,7 @@ module _ (l : Ledger) (u : BlockSet) (start : PosixTree) (history : List Entry) 
     data_block = was.data_block;
     spelled = subst IsTrue (sym (apart other not)) was.spelled;
     slots = ap (λ (b : Bool). if b then replicate SLOTS_PER_BLOCK free_slot else l.now.catalog.slots other) (apart_false other block not) ∙ was.slots;
+    unheld = was.unheld;
   })
 
   module _ (zeros : ZerosAreTaken (geometry_of l.head)) where

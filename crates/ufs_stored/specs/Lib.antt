@@ -1,3 +1,6 @@
 pub mod Parts
 pub mod Stored
 pub mod Laws
+pub mod Sound
+pub mod OnDisk
+pub mod OnDiskLaws

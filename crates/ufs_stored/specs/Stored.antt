@@ -13,7 +13,7 @@ use Rattle.ufs_layout.specs.DentryForm.{free_slot}
 use Rattle.ufs_layout.specs.InodeForm.{InodeForm}
 use Rattle.ufs_layout.specs.Superblock.{geometry_of}
 use Rattle.ufs_ledger.specs.Kept.{Counts, IsLedgerKept, Numbers}
-use Rattle.ufs_ledger.specs.Ledger.{IsDataBlock, Ledger}
+use Rattle.ufs_ledger.specs.Ledger.{IsDataBlock, Ledger, is_held}
 use Rattle.ufs_model.specs.History.{IsLegal, tree_after}
 use Rattle.ufs_model.specs.PosixTree.{IsTree, PosixTree}
 use Rattle.ufs_model.specs.declared.data.Entry.{Entry}
@@ -80,11 +80,12 @@ IsFileStored l numbers f =
 abbrev pub FileHasIt : Parts → Numbers → (inode block : ℕ) → Type 0
 FileHasIt p numbers inode block = (file : ℕ) × FileOwns p file block × (numbers.inode file ≡ Some inode)
 
--- Dentries may be set in the block: it spells free slots.
+-- Dentries may be set in the block: it spells free slots, and nothing is folded in it.
 pub record IsSpelled (l : Ledger) (block : ℕ) : Type 0 where
   pub data_block : IsDataBlock (geometry_of l.head) block
   pub spelled : IsTrue (l.now.dirs block)
   pub slots : l.now.catalog.slots block ≡ replicate SLOTS_PER_BLOCK free_slot
+  pub unheld : is_held l.now.log block ≡ false
 
 -- No block is two owners'. Whoever has a block that isn't the names' may give it to a file; and a fresh one may be written, or is
 -- spelled already. What an inode of the disk has is that file's, or the names'.

@@ -1,5 +1,6 @@
 // Laws of the definitions, each the contract of a function that does nothing.
 ghost use Rattle.ufs_layout.specs.Areas.{IsGeometry};
+ghost use Rattle.ufs_stored.specs.OnDiskLaws.{AllIsSynced, BarriersStop, CheckpointsStop, CommitsStop, FileIsSynced, NamesAreSynced, OnDiskIsExcused, OnDiskIsExplained, OnDiskIsRefused, OnDiskStaysStill, WritesStop};
 ghost use Rattle.ufs_stored.specs.Laws.{BlocksMove, CallsAreExplained, DirFsyncsKeep, EmptiedIsStored, ExcusesKeep, FileEntriesKeep, FilesAreCommitted, FilesAreSettled, FsyncsKeep, NameEntriesKeep, NamesAreCommitted, NamesAreCommitting, NamesMayCommit, NotesGoOn, QuietEntriesKeep, SettledIsStored, SpelledIsStored, StillEntriesKeep, StoredIsExplained, SyncsKeep, WrittenIsStored};
 
 use ufs_durable::{committing_law, others_law, standing_law};
@@ -102,4 +103,31 @@ pub fn file_commit_law()
     committing_law();
     others_law();
     standing_law();
+}
+
+/// A server stays on its disk, also once its store has stopped.
+pub fn on_disk_law(geometry: &Geometry)
+    requires { IsGeometry geometry.now }
+    ensures explained { OnDiskIsExplained geometry.now }
+    ensures excused { OnDiskIsExcused geometry.now }
+    ensures still { OnDiskStaysStill geometry.now }
+    ensures refused { OnDiskIsRefused geometry.now }
+    ensures names_synced { NamesAreSynced geometry.now }
+    ensures file_synced { FileIsSynced geometry.now }
+    ensures all_synced { AllIsSynced geometry.now }
+{
+    opening_law(geometry);
+    promise_law(geometry);
+    an_entry_keeps_what_is_shown();
+}
+
+/// Where a store stops its server stays on the disk.
+pub fn stopping_law(geometry: &Geometry)
+    requires { IsGeometry geometry.now }
+    ensures barrier { BarriersStop geometry.now }
+    ensures write { WritesStop geometry.now }
+    ensures checkpoint { CheckpointsStop geometry.now }
+    ensures commit { CommitsStop geometry.now }
+{
+    promise_law(geometry);
 }

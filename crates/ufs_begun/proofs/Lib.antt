@@ -1,0 +1,4 @@
+mod Facts
+mod Kept
+mod Owned
+mod Begun

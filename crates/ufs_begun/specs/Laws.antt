@@ -1,0 +1,40 @@
+-- A server begins with what its disk has.
+use Rattle.std.specs.Prelude.{ℕ, ◌≡◌, []}
+use Rattle.std.specs.FinSet as set
+use Rattle.ufs_base.specs.Images.{Image}
+use Rattle.ufs_bitmap.specs.Blocks.{BlockSet}
+use Rattle.ufs_disk.specs.Disk.{Leaves, State, seen}
+use Rattle.ufs_files.specs.Files.{Files}
+use Rattle.ufs_image.specs.Images.{IsImageOf}
+use Rattle.ufs_image.specs.Volume.{Volume}
+use Rattle.ufs_journal.specs.Kept.{HasEarlier}
+use Rattle.ufs_layout.specs.declared.geometry.Geometry.{Geometry}
+use Rattle.ufs_ledger.specs.Changes.{opening_ledger}
+use Rattle.ufs_names.specs.NamesPart.{NamesPart}
+use Rattle.ufs_store.specs.Ledgers.{HasLedger}
+use Rattle.ufs_store.specs.Mounting.{IsMountable, in_use}
+use Rattle.ufs_store.specs.State.{StoreState, geometry_of_store}
+use Rattle.ufs_stored.specs.OnDisk.{IsGoing}
+use Rattle.ufs_stored.specs.Sound.{IsSoundServer}
+use Rattle.ufs_stored.specs.Stored.{IsStored}
+use Rattle.ufs_begun.specs.Parts.{AllAreNamed, AreOrphaned, IsOpened, begun_counts, begun_parts, start_in}
+
+-- The parts are sound, whatever else the disk has.
+abbrev pub BeginsSound : Type 0
+BeginsSound = (sectors : ℕ) (disk : Image) (v : Volume) (n : NamesPart) (files : Files) (free orphaned : BlockSet) → IsOpened sectors disk v n files free → AreOrphaned v n orphaned
+    → IsSoundServer v.geometry free (begun_parts n files orphaned)
+
+-- With nothing in the journal, the server is stored on the ledger that the disk has once it is marked in use.
+abbrev pub BeginsStored : Geometry → Type 0
+BeginsStored g = (sectors : ℕ) (disk : Image) (v : Volume) (n : NamesPart) (files : Files) (free orphaned : BlockSet) → v.geometry ≡ g → IsImageOf sectors disk → IsOpened sectors disk v n files free → AreOrphaned v n orphaned
+    → HasEarlier v.geometry v.head.epoch disk → IsStored (opening_ledger (in_use v.head) disk) free (start_in v) [] (begun_counts n) (begun_parts n files orphaned)
+
+-- So it goes on, beside the store of the mounted disk, from the tree that the image stands for.
+abbrev pub BeginsOnDisk : Geometry → Type 0
+BeginsOnDisk g = (sectors : ℕ) (state : State) (v : Volume) (n : NamesPart) (files : Files) (orphaned : BlockSet) (store : StoreState) → v.geometry ≡ g → Leaves (IsImageOf sectors) state → IsMountable sectors state v.head
+    → HasLedger store (opening_ledger (in_use v.head) (seen state)) → geometry_of_store store ≡ v.geometry → IsOpened sectors (seen state) v n files store.unassigned.free → AreOrphaned v n orphaned
+    → IsGoing store (start_in v) [] (begun_parts n files orphaned)
+
+-- Where all files have names, no block is such a one.
+abbrev pub WholeHaveNone : Type 0
+WholeHaveNone = (sectors : ℕ) (disk : Image) (v : Volume) (n : NamesPart) (files : Files) (free : BlockSet) → IsOpened sectors disk v n files free → AllAreNamed v n → AreOrphaned v n set.empty

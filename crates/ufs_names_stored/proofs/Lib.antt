@@ -1,0 +1,10 @@
+mod Blocks
+mod NewFiles
+mod Owners
+mod Emptied
+mod Numbers
+mod Named
+mod Sounds
+mod Spaced
+mod OnDisk
+mod Serving

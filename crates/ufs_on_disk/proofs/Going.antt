@@ -1,0 +1,154 @@
+-- A server on a disk goes on by an entry, and by free blocks that move.
+use Rattle.std.proofs.Common.{◌≡◌, ◌⊎◌, inl, inr, ℕ, false, true, Option, Some, List, [], ◌∷◌, ◌++◌, is_some, ap, sym, refl, ◌∙◌, subst}
+use Rattle.std.specs.Prelude.{IsSome}
+use Rattle.std.specs.FinMap as map
+use Rattle.ufs_bitmap.specs.Blocks.{BlockSet}
+use Rattle.ufs_bitmap.specs.Taking.{IsApart}
+use Rattle.ufs_file.specs.Hand.{FileState, IsFileOf, IsPosix}
+use Rattle.ufs_layout.specs.Superblock.{geometry_of}
+use Rattle.ufs_layout.specs.declared.geometry.Geometry.{Geometry}
+use Rattle.ufs_ledger.specs.Laws.{EntriesKeep}
+use Rattle.ufs_ledger.specs.Ledger.{Ledger}
+use Rattle.ufs_ledger.proofs.Promise.{entry_kept}
+use Rattle.ufs_model.specs.Asks.{IsAsk, file_in}
+use Rattle.ufs_model.specs.FileCalls.{is_on_file}
+use Rattle.ufs_model.specs.History.{IsLegal, is_excused, tree_after}
+use Rattle.ufs_model.specs.Laws.{KeepsTrees}
+use Rattle.ufs_model.specs.Posix.{posix}
+use Rattle.ufs_model.specs.PosixTree.{PosixTree}
+use Rattle.ufs_model.specs.declared.data.Actor.{Actor}
+use Rattle.ufs_model.specs.declared.data.Ask.{Ask}
+use Rattle.ufs_model.specs.declared.data.Desc.{Desc}
+use Rattle.ufs_model.specs.declared.data.Entry.{Entry}
+use Rattle.ufs_names.specs.Laws.{KeepsNames}
+use Rattle.ufs_prefix.specs.Changes.{asks_commit}
+use Rattle.ufs_prefix.specs.Explained.{IsAckCovered}
+use Rattle.ufs_prefix.specs.StepLaws.{OthersAcknowledgeNothing}
+use Rattle.ufs_durable.specs.Committing.{OwnsServed}
+use Rattle.ufs_durable.specs.Serving.{IsApplied}
+use Rattle.ufs_durable.specs.Standing.{StandsServed}
+use Rattle.ufs_durable.specs.State.{DurableState, blocks_held}
+use Rattle.ufs_durable.proofs.Requests.{same_inode, same_number}
+use Rattle.ufs_store.specs.Ledgers.{HasLedger}
+use Rattle.ufs_store.specs.State.{StoreState, geometry_of_store}
+use Rattle.ufs_stored.specs.Laws.{MovesBlocks}
+use Rattle.ufs_stored.specs.OnDisk.{HasStopped, IsGoing, IsOnDisk}
+use Rattle.ufs_stored.specs.Parts.{Parts, durable_in, with_file}
+use Rattle.ufs_stored.specs.Sound.{IsFileSound, IsSoundServer}
+use Rattle.ufs_stored.specs.Stored.{ArePartsOf}
+use Rattle.ufs_stored.proofs.Entries.{ledger_kept}
+use Rattle.ufs_stored.proofs.FileEntries.{file_entry_kept, parts_after, parts_now}
+use Rattle.ufs_stored.proofs.Pools.{blocks_move}
+use Rattle.ufs_stored.proofs.Spaced.{pool_apart}
+use Rattle.ufs_on_disk.specs.Requests.{FileRequestsGoOn, FreeBlocksGoOn, PartsByExcuses, PartsByFileRequests, with_free}
+
+pub entries_keep : KeepsTrees → (g : Geometry) → EntriesKeep g
+entries_keep trees g blocks s start history entry names files n is legal acked kept = entry_kept g blocks s start history names files n kept trees is entry legal.entries acked
+
+-- ---- a store that has stopped
+
+pub stopped_kept : KeepsTrees → (s : StoreState) (start : PosixTree) (history : List Entry) (entry : Entry) (p q : Parts) → IsLegal start (history ++ entry ∷ [])
+    → ((names : ℕ) (files : ℕ → ℕ) → IsAckCovered start history entry names files) → ArePartsOf q (tree_after start (history ++ entry ∷ [])) → HasStopped s start history p → HasStopped s start (history ++ entry ∷ []) q
+stopped_kept trees s start history entry p q legal ack parts st = record {
+  stopped = st.stopped;
+  ledger = st.ledger;
+  now = st.now;
+  maybe = st.maybe;
+  has = st.has;
+  formed = st.formed;
+  tree = st.tree;
+  legal = legal;
+  kept = ledger_kept (geometry_of st.ledger.head) (entries_keep trees (geometry_of st.ledger.head)) st.ledger start history entry st.now st.maybe refl st.tree legal (ack st.now.names st.now.files) (ack st.maybe.names st.maybe.files) st.kept;
+  parts = parts;
+}
+
+-- ---- free blocks
+
+same_ledger : (s : StoreState) (free : BlockSet) (l : Ledger) → HasLedger s l → HasLedger (with_free free s) l
+same_ledger s free l h =
+    record { going = h.going; by = h.by; headed = h.headed; added = h.added; numbered = h.numbered; unused = h.unused; settled = h.settled; older = h.older; fits = h.fits }
+
+pub free_blocks_go_on : FreeBlocksGoOn
+free_blocks_go_on s start history p pool rest moves on = by on
+  where
+    by : IsOnDisk s start history p → IsOnDisk (with_free rest s) start history (record p { pool = pool })
+    by (inl going) = inl (record {
+      ledger = going.ledger;
+      counts = going.counts;
+      has = same_ledger s rest going.ledger going.has;
+      formed = going.formed;
+      stored = blocks_move going.ledger s.unassigned.free rest start history going.counts p pool moves going.stored;
+    })
+    by (inr st) = inr (record {
+      stopped = st.stopped;
+      ledger = st.ledger;
+      now = st.now;
+      maybe = st.maybe;
+      has = st.has;
+      formed = st.formed;
+      tree = st.tree;
+      legal = st.legal;
+      kept = st.kept;
+      parts = record { names = st.parts.names; files = st.parts.files; inodes = st.parts.inodes; here = st.parts.here };
+    })
+
+-- ---- a request on a file
+
+pub requests_go_on : KeepsTrees → OthersAcknowledgeNothing → KeepsNames → StandsServed → OwnsServed → FileRequestsGoOn
+requests_go_on trees nothing names_keep stands owns s start history entry p f next pool ask server ticket desc d legal no_commit old kind asked is of applied sound on = by on
+  where
+    whole : IsFileSound (geometry_of_store s) (durable_in p.commits f)
+    whole = sound.each f.file f old
+
+    apart : IsApart p.pool (blocks_held (durable_in p.commits f))
+    apart = pool_apart s.unassigned.free p f old whole.once sound.apart
+
+    number : next.file.file ≡ f.file
+    number = same_number (durable_in p.commits f) next p.pool pool whole.noted apart ask server ticket entry desc d is applied
+
+    inode : next.file.inode ≡ f.inode
+    inode = same_inode (durable_in p.commits f) next p.pool pool whole.noted apart ask server ticket entry desc d is applied
+
+    ack : (names : ℕ) (files : ℕ → ℕ) → IsAckCovered start history entry names files
+    ack names files = nothing start history entry names files (inr no_commit)
+
+    by : IsOnDisk s start history p → IsOnDisk s start (history ++ entry ∷ []) (with_file next pool p)
+    by (inl going) = inl (record {
+      ledger = going.ledger;
+      counts = going.counts;
+      has = going.has;
+      formed = going.formed;
+      stored = file_entry_kept (geometry_of_store s) (entries_keep trees (geometry_of_store s)) nothing names_keep stands owns going.ledger s.unassigned.free start history entry going.counts p f next pool ask server ticket desc d
+          going.formed legal no_commit old kind asked is of applied going.stored;
+    })
+    by (inr stopped) = inr (stopped_kept trees s start history entry p (with_file next pool p) legal ack
+        (parts_after names_keep start history entry p f next pool ask server ticket desc d old kind asked is of applied number inode stopped.parts) stopped)
+
+-- ---- the parts
+
+pub parts_by_requests : KeepsNames → PartsByFileRequests
+parts_by_requests names_keep g u t entry p f next pool ask server ticket desc d old kind asked is of applied sound served parts =
+    parts_now p f next pool old number inode t (posix t ask.client ask.op).0 parts (names_keep p.names t ask parts.names asked kind named) stepped.goes_on stepped.others
+  where
+    whole : IsFileSound g (durable_in p.commits f)
+    whole = sound.each f.file f old
+
+    apart : IsApart p.pool (blocks_held (durable_in p.commits f))
+    apart = pool_apart u p f old whole.once sound.apart
+
+    number : next.file.file ≡ f.file
+    number = same_number (durable_in p.commits f) next p.pool pool whole.noted apart ask server ticket entry desc d is applied
+
+    inode : next.file.inode ≡ f.inode
+    inode = same_inode (durable_in p.commits f) next p.pool pool whole.noted apart ask server ticket entry desc d is applied
+
+    stepped : IsPosix t ask next.file entry.reply desc
+    stepped = applied.posix served t (parts.files f.file f old).1 asked
+
+    named : IsSome (file_in ask.desc)
+    named = ap (λ (o : Option Desc). is_some (file_in o)) is ∙ ap is_some of
+
+pub parts_by_excuses : PartsByExcuses
+parts_by_excuses t entry p f next pool ask server ticket desc old applied excused parts =
+    let same = applied.kept excused in
+    parts_now p f next pool old (ap (λ (y : DurableState). y.file.file) same) (ap (λ (y : DurableState). y.file.inode) same) t t parts parts.names (subst (λ (y : DurableState). IsFileOf y.file t) (sym same) (parts.files f.file f old).1) (λ n not. refl)

@@ -1,0 +1,9 @@
+pub mod Going
+pub mod Sound
+pub mod Told
+pub mod Fronts
+pub mod Syncing
+pub mod Failing
+pub mod Writing
+pub mod Ready
+pub mod Forgetting

@@ -1,0 +1,67 @@
+-- What a call of the disk that failed leaves.
+use Rattle.std.proofs.Common.{◌≡◌, ℕ, Bool, true, false, None, List, [], ◌∷◌, ap, sym, refl, ◌∙◌, inl, inr}
+use Rattle.std.specs.Prelude.{IsSome, if◌then◌else◌}
+use Rattle.ufs_bitmap.specs.Taking.{has}
+use Rattle.ufs_disk.specs.Moments.{reads}
+use Rattle.ufs_image.specs.Images.{block_at}
+use Rattle.ufs_layout.specs.Superblock.{geometry_of}
+use Rattle.ufs_layout.specs.declared.geometry.Geometry.{Geometry}
+use Rattle.ufs_layout.specs.declared.records.LogRecord.{LogRecord}
+use Rattle.ufs_ledger.specs.Changes.{committing, home_of, settled, tried, written}
+use Rattle.ufs_ledger.specs.Kept.{Counts, IsLedgerKept}
+use Rattle.ufs_ledger.specs.Laws.{BeginningIsKept, EmptiedIsKept, WrittenIsKept}
+use Rattle.ufs_ledger.specs.Ledger.{IsLedgerOf, Ledger}
+use Rattle.ufs_model.specs.PosixTree.{PosixTree}
+use Rattle.ufs_model.specs.declared.data.Entry.{Entry}
+use Rattle.ufs_store.specs.Ledgers.{HasAny, HasLedger, beginning_next, checkpointed, commit_stages, stages, with_room}
+use Rattle.ufs_store.specs.State.{StoreState, geometry_of_store, has_room, next_commit, next_head}
+use Rattle.ufs_stored.specs.OnDisk.{HasStopped}
+use Rattle.ufs_stored.specs.Parts.{Parts}
+use Rattle.ufs_stored.specs.Stored.{IsStored}
+use Rattle.ufs_stored.proofs.Zeros.{no_place}
+
+module _ (g : Geometry) (s : StoreState) (l : Ledger) (start : PosixTree) (history : List Entry) (k : Counts) (p : Parts) (same : geometry_of_store s ≡ g) (formed : geometry_of l.head ≡ g) (stop : IsSome s.stop)
+    (st : IsStored l s.unassigned.free start history k p) where
+  -- with a ledger that the history explains
+  stops_with : (m : Ledger) (now maybe : Counts) → geometry_of m.head ≡ g → IsLedgerOf s.sectors s.moments.state m → IsLedgerKept m start history now maybe → HasStopped s start history p
+  stops_with m now maybe form has kept = record { stopped = stop; ledger = m; now = now; maybe = maybe; has = has; formed = form ∙ sym same; tree = st.tree; legal = st.legal; kept = kept; parts = st.parts }
+
+  pub barrier_stops : IsLedgerOf s.sectors s.moments.state l → HasStopped s start history p
+  barrier_stops has = stops_with l k k formed has st.kept
+
+  pub write_stops : WrittenIsKept g → (block : ℕ) (bytes seen : List ℕ) → l.maybe ≡ None → has p.fresh block ≡ true → IsLedgerOf s.sectors s.moments.state (tried block bytes seen l) → HasStopped s start history p
+  write_stops keeps block bytes seen none fresh has =
+      let free = no_place g l s.unassigned.free start history k p formed st block fresh in
+      let once = keeps l block bytes start history k k formed none (λ file place at i less under. absurd (free file place (k.numbers.inode file) refl at)) st.kept in
+      stops_with (tried block bytes seen l) k k formed has
+      (keeps (written block bytes l) block seen start history k k formed none (λ file place at i less under. absurd (free file place (k.numbers.inode file) refl at)) once)
+
+  module _ (old : StoreState) (led : HasLedger old l) where
+    next_form : geometry_of (next_head false old) ≡ g
+    next_form = ap geometry_of (sym led.headed) ∙ formed
+
+    begun : BeginningIsKept g → IsLedgerKept (beginning_next false old l) start history k k
+    begun keeps = keeps l (next_head false old) (block_at (home_of l (reads old.moments))) start history k k formed next_form st.kept
+
+    pub checkpoint_stops : BeginningIsKept g → HasAny s (l ∷ beginning_next false old l ∷ []) → HasStopped s start history p
+    checkpoint_stops keeps (inl is) = stops_with l k k formed is st.kept
+    checkpoint_stops keeps (inr (inl is)) = stops_with (beginning_next false old l) k k formed is (begun keeps)
+    checkpoint_stops keeps (inr (inr none)) = absurd none
+
+    pub commit_stops : BeginningIsKept g → EmptiedIsKept g → (records : List LogRecord) (next : Counts) → HasAny s (stages old records l)
+        → IsLedgerKept (committing (next_commit old records) (settled (with_room old records l))) start history k next → HasStopped s start history p
+    commit_stops begins empties records next any kept = by (has_room old records) any kept
+      where
+        done : IsLedgerKept (checkpointed false old l) start history k k
+        done = empties l (next_head false old) (block_at (home_of l (reads old.moments))) start history k k formed next_form st.kept
+
+        by : (b : Bool) → HasAny s (if b then commit_stages (next_commit old records) l else l ∷ beginning_next false old l ∷ commit_stages (next_commit old records) (checkpointed false old l))
+            → IsLedgerKept (committing (next_commit old records) (settled (if b then l else checkpointed false old l))) start history k next → HasStopped s start history p
+        by true (inl is) kept = stops_with l k k formed is st.kept
+        by true (inr (inl is)) kept = stops_with (committing (next_commit old records) (settled l)) k next formed is kept
+        by true (inr (inr none)) kept = absurd none
+        by false (inl is) kept = stops_with l k k formed is st.kept
+        by false (inr (inl is)) kept = stops_with (beginning_next false old l) k k formed is (begun begins)
+        by false (inr (inr (inl is))) kept = stops_with (checkpointed false old l) k k next_form is done
+        by false (inr (inr (inr (inl is)))) kept = stops_with (committing (next_commit old records) (settled (checkpointed false old l))) k next next_form is kept
+        by false (inr (inr (inr (inr none)))) kept = absurd none

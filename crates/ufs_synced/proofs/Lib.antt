@@ -1,0 +1,7 @@
+mod Beginning
+mod Writing
+mod Joining
+mod Committing
+mod There
+mod Everything
+mod Stops

@@ -1,0 +1,64 @@
+use Rattle.std.proofs.Common.{◌≡◌, ◌≢◌, ◌∙◌, ℕ, true, false, inl, inr, List, [], ap, eqb-true, length, refl, sym, subst}
+use Rattle.std.specs.Prelude.{◌==◌, Err, IfErr, IsSome, IsTrue, OnErr, Some}
+use Rattle.std.proofs.lemmas.List.{nil_from_length}
+use Rattle.std.proofs.lemmas.Result.{err_from_is_err_and}
+use Rattle.ufs_layout.specs.declared.records.LogRecord.{LogRecord}
+use Rattle.ufs_model.specs.PosixTree.{PosixTree}
+use Rattle.ufs_model.specs.declared.data.Entry.{Entry}
+use Rattle.ufs_name_tree.specs.NameTable.{IsNameTable}
+use Rattle.ufs_store.specs.Refusals.{fault_in, is_no_space, is_own}
+use Rattle.ufs_store.specs.State.{StoreState, geometry_of_store}
+use Rattle.ufs_store.specs.declared.fault.StoreFault.TheVariants as refusal
+use Rattle.ufs_stored.specs.OnDisk.{IsGoing, IsOnDisk}
+use Rattle.ufs_stored.specs.Parts.{Parts}
+use Rattle.ufs_synced.specs.Laws.{IsBeside}
+use Rattle.ufs_synced.proofs.Stops.{commit_err, from_err, own_alone, stop_is}
+use Rattle.ufs_synced.proofs.commits.commit_log.Goals as goal
+
+pub returns-then-is_empty-clause-ok : goal.returns-then-is_empty-clause-ok
+returns-then-is_empty-clause-ok g c told start history p same noted table go =
+    let is = c.as_slice.ensures ∙ c.records.ensures.records in
+    let none : c.args.log.now ≡ [] = nil_from_length c.args.log.now (eqb-true (length c.args.log.now) 0 (ap (λ (xs : List LogRecord). length xs == 0) (sym is) ∙ sym c.is_empty.ensures ∙ c.if-is_empty.true)) in
+    c.names_law.ensures.nothing (g.D.Door.store c.args.door.now) start history p (sym c.geometry-geometry.ensures.is) (noted ∙ ap Some none) table go
+
+pub returns-clause-ok : goal.returns-clause-ok
+returns-clause-ok g c told start history p same noted table go =
+    let mid = g.D.Door.store c.make_ready.new.door in
+    let new = g.D.Door.store c.commit_names.new.self in
+    let old_form = ap geometry_of_store c.make_ready.ensures.rest ∙ sym c.geometry-geometry.ensures.is in
+    let beside : IsBeside c.geometry-geometry.result mid new = record { old_form = old_form; new_form = c.commit_names.ensures.geometry ∙ old_form; unassigned = c.commit_names.ensures.blocks } in
+    let is = c.as_slice.ensures ∙ c.records.ensures.records in
+    let some : c.args.log.now ≢ [] = λ e.
+    let on : (length c.args.log.now == 0) ≡ true = ap (λ (xs : List LogRecord). length xs == 0) e in
+    let off : (length c.args.log.now == 0) ≡ false = ap (λ (xs : List LogRecord). length xs == 0) (sym is) ∙ sym c.is_empty.ensures ∙ c.if-is_empty.false in
+    let clash = sym on ∙ off in cc in
+    c.names_law.ensures.commit mid new start history p c.args.log.now beside noted table (c.in_ok-commit_names.ensures.ok told some) (c.in_ok-make_ready.ensures.ok told start history p same go)
+
+pub returns-in_err-commit_names-clause-err : goal.returns-in_err-commit_names-clause-err
+returns-in_err-commit_names-clause-err g c told =
+    let old = g.D.Door.store c.args.door.now in
+    let mid = g.D.Door.store c.make_ready.new.door in
+    let new = g.D.Door.store c.commit_names.new.self in
+    let old_form = ap geometry_of_store c.make_ready.ensures.rest ∙ sym c.geometry-geometry.ensures.is in
+    let beside : IsBeside c.geometry-geometry.result mid new = record { old_form = old_form; new_form = c.commit_names.ensures.geometry ∙ old_form; unassigned = c.commit_names.ensures.blocks } in
+    let going = ap (λ (s : StoreState). s.stop) c.in_ok-make_ready.ensures.passed ∙ c.requires.going in
+    let stays : (start : PosixTree) (history : List Entry) (p : Parts) → p.fresh ≡ c.args.fresh.now → p.names.tree.noted ≡ Some c.args.log.now → IsNameTable p.names.tree → IsGoing old start history p → IsOnDisk new start history p =
+    λ start history p same noted table go.
+    let ready = c.in_ok-make_ready.ensures.ok told start history p same go in
+    from_err c.commit_names.result _ c.in_err-commit_names.was (commit_err c.commit_names.result c.commit_names.ensures.refused
+    (λ fault e. let clash = sym going ∙ (c.commit_names.ensures.stopped fault).0 e in cc)
+    (λ fault e. inr (c.names_law.ensures.stop mid new start history p c.args.log.now beside noted table
+    (subst IsSome (sym (stop_is mid.stop new.stop _ going c.commit_names.ensures.stop ∙ ap fault_in e)) refl) (c.commit_names.ensures.device told fault e) ready))
+    (λ e. inl (c.names_law.ensures.memory mid new start history p beside (c.commit_names.ensures.memory told e) ready))) in
+    let p = err_from_is_err_and c.from_residual-in_err-commit_names.result c.from_residual-in_err-commit_names.ensures.1 in
+    subst (λ r. OnErr r ((start : PosixTree) (history : List Entry) (p : Parts) → p.fresh ≡ c.args.fresh.now → p.names.tree.noted ≡ Some c.args.log.now → IsNameTable p.names.tree → IsGoing old start history p → IsOnDisk new start history p)) (sym p.1) stays
+
+pub returns-in_err-commit_names-clause-refused : goal.returns-in_err-commit_names-clause-refused
+returns-in_err-commit_names-clause-refused g c =
+    let p = err_from_is_err_and c.from_residual-in_err-commit_names.result c.from_residual-in_err-commit_names.ensures.1 in
+    let was = c.in_err-commit_names.was in
+    let failed : c.commit_names.result ≡ Err p.0 = cc in
+    let going = ap (λ (s : StoreState). s.stop) c.in_ok-make_ready.ensures.passed ∙ c.requires.going in
+    subst (λ r. IfErr r (λ fault. IsTrue (is_own fault))) (sym p.1)
+    (own_alone p.0 (subst (λ r. IfErr r (λ fault. is_no_space fault ≡ false)) failed c.commit_names.ensures.refused)
+    (λ fault e. let clash = sym going ∙ (c.commit_names.ensures.stopped fault).0 (failed ∙ ap Err e) in cc))

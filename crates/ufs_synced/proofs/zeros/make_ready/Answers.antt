@@ -1,0 +1,68 @@
+use Rattle.std.proofs.Common.{◌≡◌, ◌∙◌, ℕ, List, ap, sym, subst}
+use Rattle.std.specs.Prelude.{IsSome, OnErr}
+use Rattle.std.proofs.lemmas.Result.{err_from_is_err_and, on_ok_weaker}
+use Rattle.ufs_ledger.specs.Changes.{settled}
+use Rattle.ufs_ledger.specs.Ledger.{IsLedgerOf, Ledger}
+use Rattle.ufs_model.specs.PosixTree.{PosixTree}
+use Rattle.ufs_model.specs.declared.data.Entry.{Entry}
+use Rattle.ufs_store.specs.Ledgers.{HasLedger}
+use Rattle.ufs_store.specs.State.{StoreState, geometry_of_store}
+use Rattle.ufs_stored.specs.OnDisk.{HasStopped, IsGoing}
+use Rattle.ufs_stored.specs.Parts.{Parts}
+use Rattle.ufs_synced.specs.Laws.{IsBeside}
+use Rattle.ufs_synced.proofs.Stops.{device_alone, has_stopped, on_err_cases, passed_ok, stop_is}
+use Rattle.ufs_synced.proofs.zeros.make_ready.Goals as goal
+
+pub returns-in_err-write_zeros-clause-err : goal.returns-in_err-write_zeros-clause-err
+returns-in_err-write_zeros-clause-err g c told =
+    let old = g.D.Door.store c.args.door.now in
+    let new = g.D.Door.store c.write_zeros.new.door in
+    let stops : (start : PosixTree) (history : List Entry) (p : Parts) → p.fresh ≡ c.args.fresh.now → IsGoing old start history p → HasStopped new start history p =
+    λ start history p same go. c.in_err-write_zeros.ensures.err told start history p same (c.zeros_law.ensures.begin old start history p go) in
+    let p = err_from_is_err_and c.from_residual.result c.from_residual.ensures.1 in
+    subst (λ r. OnErr r ((start : PosixTree) (history : List Entry) (p : Parts) → p.fresh ≡ c.args.fresh.now → IsGoing old start history p → HasStopped new start history p)) (sym p.1) stops
+
+pub returns-clause-ok : goal.returns-clause-ok
+returns-clause-ok g c told =
+    let old = g.D.Door.store c.args.door.now in
+    let mid = g.D.Door.store c.write_zeros.new.door in
+    let new = g.D.Door.store c.settle.new.self in
+    let beside : IsBeside c.geometry-geometry.result mid new = record {
+      old_form = ap geometry_of_store c.write_zeros.ensures.rest ∙ sym c.geometry-geometry.ensures.is;
+      new_form = ap geometry_of_store c.settle.ensures.rest ∙ ap geometry_of_store c.write_zeros.ensures.rest ∙ sym c.geometry-geometry.ensures.is;
+      unassigned = ap (λ (s : StoreState). s.unassigned) c.settle.ensures.rest;
+    } in
+    on_ok_weaker c.settle.result (λ barrier start history p same go. c.zeros_law.ensures.barrier mid new start history p beside (g.met.D.Door.whole told c.settle.new.self) barrier
+    (c.in_ok-write_zeros.ensures.ok told start history p same (c.zeros_law.ensures.begin old start history p go))) (c.settle.ensures.ok told)
+
+pub returns-clause-err : goal.returns-clause-err
+returns-clause-err g c told =
+    let old = g.D.Door.store c.args.door.now in
+    let mid = g.D.Door.store c.write_zeros.new.door in
+    let new = g.D.Door.store c.settle.new.self in
+    let beside : IsBeside c.geometry-geometry.result mid new = record {
+      old_form = ap geometry_of_store c.write_zeros.ensures.rest ∙ sym c.geometry-geometry.ensures.is;
+      new_form = ap geometry_of_store c.settle.ensures.rest ∙ ap geometry_of_store c.write_zeros.ensures.rest ∙ sym c.geometry-geometry.ensures.is;
+      unassigned = ap (λ (s : StoreState). s.unassigned) c.settle.ensures.rest;
+    } in
+    let going = ap (λ (s : StoreState). s.stop) c.in_ok-write_zeros.ensures.passed ∙ c.requires.going in
+    let device = device_alone mid.stop new.stop going c.settle.result c.settle.ensures.refused c.settle.ensures.stopped in
+    let stopped = has_stopped mid.stop new.stop going c.settle.result (stop_is mid.stop new.stop _ going c.settle.ensures.stop) device in
+    on_err_cases c.settle.result _ (λ at start history p same go. c.zeros_law.ensures.barrier_fails mid new start history p p.fresh beside (at (IsSome new.stop) stopped)
+    (at ((l : Ledger) → HasLedger mid l → IsLedgerOf new.sectors new.moments.state l) (c.settle.ensures.err told))
+    (c.in_ok-write_zeros.ensures.ok told start history p same (c.zeros_law.ensures.begin old start history p go)))
+
+pub returns-clause-stop : goal.returns-clause-stop
+returns-clause-stop g c = stop_is _ _ _ (ap (λ (s : StoreState). s.stop) c.in_ok-write_zeros.ensures.passed ∙ c.requires.going) c.settle.ensures.stop
+
+pub returns-clause-refused : goal.returns-clause-refused
+returns-clause-refused g c = device_alone (g.D.Door.store c.write_zeros.new.door).stop (g.D.Door.store c.settle.new.self).stop (ap (λ (s : StoreState). s.stop) c.in_ok-write_zeros.ensures.passed ∙ c.requires.going) c.settle.result c.settle.ensures.refused c.settle.ensures.stopped
+
+pub returns-clause-passed : goal.returns-clause-passed
+returns-clause-passed g c =
+    let old = g.D.Door.store c.args.door.now in
+    let mid = g.D.Door.store c.write_zeros.new.door in
+    let new = g.D.Door.store c.settle.new.self in
+    let going = ap (λ (s : StoreState). s.stop) c.in_ok-write_zeros.ensures.passed ∙ c.requires.going in
+    on_ok_weaker c.settle.result (λ passed. passed ∙ ap (λ (s : StoreState). record s { moments = new.moments; unsettled = new.unsettled }) c.in_ok-write_zeros.ensures.passed)
+    (passed_ok c.settle.result mid new going c.settle.ensures.rest c.settle.ensures.cause c.settle.ensures.stop)

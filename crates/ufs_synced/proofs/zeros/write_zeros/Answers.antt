@@ -1,0 +1,58 @@
+use Rattle.std.proofs.Common.{◌∙◌, ◌≡◌, ◌<◌, ◌+◌, ℕ, suc, List, [], ap, arith, refl, subst, sym, take, length}
+use Rattle.std.specs.Prelude.{OnErr, Some, slice_get, slice_index_or}
+use Rattle.std.proofs.lemmas.Option.{slice_get-get_or}
+use Rattle.std.proofs.lemmas.Result.{err_from_is_err_and}
+use Rattle.ufs_bitmap.specs.Taking.{has}
+use Rattle.ufs_durable.proofs.Served.{has_at}
+use Rattle.ufs_layout.specs.declared.geometry.Geometry.{Geometry}
+use Rattle.ufs_ledger.specs.Ledger.{IsDataBlock}
+use Rattle.ufs_model.specs.PosixTree.{PosixTree}
+use Rattle.ufs_model.specs.declared.data.Entry.{Entry}
+use Rattle.ufs_model.proofs.Facts.Histories.{take-push}
+use Rattle.ufs_store.specs.State.{StoreState, geometry_of_store}
+use Rattle.ufs_stored.specs.OnDisk.{HasStopped}
+use Rattle.ufs_stored.specs.Parts.{Parts}
+use Rattle.ufs_synced.specs.Ready.{HasZeros}
+use Rattle.ufs_synced.proofs.zeros.write_zeros.Goals as goal
+
+pub loop-place-init : goal.loop-place-init
+loop-place-init g c = record { passed = refl; zero = λ told start history p is z. z }
+
+pub write_zero-requires-clause-there : goal.write_zero-requires-clause-there
+write_zero-requires-clause-there g c =
+    let fresh = c.args.fresh.now in
+    let k : ℕ = c.loop-place.place in
+    let less : k < length fresh = omega (arith, c.loop-place-test.true) in
+    let block : ℕ = slice_index_or fresh k 0 in
+    subst (λ (h : Geometry). IsDataBlock h block) (sym (ap geometry_of_store c.loop-place.invariant.passed)) (c.requires.there block (has_at fresh k block (slice_get-get_or fresh k 0 less)))
+
+pub returns-in_err-write_zero-clause-err : goal.returns-in_err-write_zero-clause-err
+returns-in_err-write_zero-clause-err g c told =
+    let fresh = c.args.fresh.now in
+    let k : ℕ = c.loop-place.place in
+    let i = c.loop-place.invariant in
+    let less : k < length fresh = omega (arith, c.loop-place-test.true) in
+    let block : ℕ = slice_index_or fresh k 0 in
+    let at : slice_get fresh k ≡ Some block = slice_get-get_or fresh k 0 less in
+    let old = g.D.Door.store c.args.door.now in
+    let new = g.D.Door.store c.write_zero.new.door in
+    let stops : (start : PosixTree) (history : List Entry) (p : Parts) → p.fresh ≡ fresh → HasZeros old start history p [] → HasStopped new start history p =
+    λ start history p same z. c.in_err-write_zero.ensures.err told start history p (take k fresh) (ap (λ (xs : List ℕ). has xs block) same ∙ has_at fresh k block at) (i.zero told start history p same z) in
+    let p = err_from_is_err_and c.from_residual.result c.from_residual.ensures.1 in
+    subst (λ r. OnErr r ((start : PosixTree) (history : List Entry) (p : Parts) → p.fresh ≡ fresh → HasZeros old start history p [] → HasStopped new start history p)) (sym p.1) stops
+
+pub loop-place-preserved : goal.loop-place-preserved
+loop-place-preserved g c =
+    let fresh = c.args.fresh.now in
+    let k : ℕ = c.loop-place.place in
+    let i = c.loop-place.invariant in
+    let less : k < length fresh = omega (arith, c.loop-place-test.true) in
+    let block : ℕ = slice_index_or fresh k 0 in
+    let at : slice_get fresh k ≡ Some block = slice_get-get_or fresh k 0 less in
+    let new = g.D.Door.store c.write_zero.new.door in
+    let next : suc k ≡ k + 1 = omega arith in
+    record {
+      passed = c.in_ok-write_zero.ensures.passed ∙ ap (λ (s : StoreState). record s { moments = new.moments; unsettled = new.unsettled }) i.passed;
+      zero = λ told start history p same z. subst (HasZeros new start history p) (sym (take-push fresh k block at) ∙ ap (λ (n : ℕ). take n fresh) next)
+          (c.in_ok-write_zero.ensures.ok told start history p (take k fresh) (ap (λ (xs : List ℕ). has xs block) same ∙ has_at fresh k block at) (i.zero told start history p same z));
+    }

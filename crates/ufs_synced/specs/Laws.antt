@@ -1,0 +1,77 @@
+-- How a server's names come to the disk.
+use Rattle.std.specs.Prelude.{ℕ, ◌≡◌, ◌⊎◌, List, [], ◌∷◌, ◌++◌, IsSome, true, false, Some}
+use Rattle.std.specs.FinMap as map
+use Rattle.ufs_bitmap.specs.Taking.{has}
+use Rattle.ufs_disk.specs.Disk.{IsWhole}
+use Rattle.ufs_layout.specs.declared.geometry.Geometry.{Geometry}
+use Rattle.ufs_layout.specs.declared.records.LogRecord.{LogRecord}
+use Rattle.ufs_ledger.specs.Changes.{settled, tried, written}
+use Rattle.ufs_ledger.specs.Laws.{MayWrite}
+use Rattle.ufs_ledger.specs.Ledger.{IsLedgerOf, Ledger}
+use Rattle.ufs_model.specs.PosixTree.{PosixTree}
+use Rattle.ufs_model.specs.declared.data.Entry.{Entry}
+use Rattle.ufs_name_tree.specs.NameTable.{IsNameTable}
+use Rattle.ufs_store.specs.Ledgers.{HasAny, HasLedger, MayCommitNext, after_commit, checkpointed, stages}
+use Rattle.ufs_store.specs.State.{StoreState, geometry_of_store}
+use Rattle.ufs_stored.specs.Laws.{with_names_committed}
+use Rattle.ufs_stored.specs.OnDisk.{HasAll, HasFiles, HasNames, HasStopped, IsGoing}
+use Rattle.ufs_stored.specs.Parts.{Parts}
+use Rattle.ufs_synced.specs.Ready.{HasSpelled, HasZeros, zeros}
+
+-- The second state has the first one's form and free blocks.
+pub record IsBeside (g : Geometry) (old new : StoreState) : Type 0 where
+  pub old_form : geometry_of_store old ≡ g
+  pub new_form : geometry_of_store new ≡ g
+  pub unassigned : new.unassigned ≡ old.unassigned
+
+-- ---- blocks that directories took
+
+-- Each of them may be written.
+abbrev pub ZerosBegin : Type 0
+ZerosBegin = (s : StoreState) (start : PosixTree) (history : List Entry) (p : Parts) → IsGoing s start history p → HasZeros s start history p []
+
+-- One gets zeros.
+abbrev pub ZerosGoOn : Geometry → Type 0
+ZerosGoOn g = (old new : StoreState) (start : PosixTree) (history : List Entry) (p : Parts) (done : List ℕ) (block : ℕ) → IsBeside g old new → has p.fresh block ≡ true
+    → ((l : Ledger) → HasLedger old l → MayWrite l block zeros → HasLedger new (written block zeros l)) → HasZeros old start history p done → HasZeros new start history p (done ++ block ∷ [])
+
+-- That failed.
+abbrev pub ZerosStop : Geometry → Type 0
+ZerosStop g = (old new : StoreState) (start : PosixTree) (history : List Entry) (p : Parts) (done : List ℕ) (block : ℕ) (seen : List ℕ) → IsBeside g old new → has p.fresh block ≡ true → IsSome new.stop
+    → ((l : Ledger) → HasLedger old l → MayWrite l block zeros → IsLedgerOf new.sectors new.moments.state (tried block zeros seen l)) → HasZeros old start history p done → HasStopped new start history p
+
+-- Once all of them read as zeros a barrier makes them ready.
+abbrev pub ZerosSettle : Geometry → Type 0
+ZerosSettle g = (old new : StoreState) (start : PosixTree) (history : List Entry) (p : Parts) → IsBeside g old new → IsWhole new.sectors new.moments.state
+    → ((l : Ledger) → HasLedger old l → HasLedger new (settled l)) → HasZeros old start history p p.fresh → HasSpelled new start history p
+
+-- That failed.
+abbrev pub BarriersFail : Geometry → Type 0
+BarriersFail g = (old new : StoreState) (start : PosixTree) (history : List Entry) (p : Parts) (done : List ℕ) → IsBeside g old new → IsSome new.stop
+    → ((l : Ledger) → HasLedger old l → IsLedgerOf new.sectors new.moments.state l) → HasZeros old start history p done → HasStopped new start history p
+
+-- ---- the commit
+
+-- The names are committed.
+abbrev pub NamesCommit : Geometry → Type 0
+NamesCommit g = (old new : StoreState) (start : PosixTree) (history : List Entry) (p : Parts) (records : List LogRecord) → IsBeside g old new → p.names.tree.noted ≡ Some records → IsNameTable p.names.tree
+    → ((l : Ledger) → HasLedger old l → MayCommitNext old records l → HasLedger new (after_commit old records l)) → HasSpelled old start history p → HasNames new start history (with_names_committed p)
+
+-- The disk failed meanwhile.
+abbrev pub NamesStop : Geometry → Type 0
+NamesStop g = (old new : StoreState) (start : PosixTree) (history : List Entry) (p : Parts) (records : List LogRecord) → IsBeside g old new → p.names.tree.noted ≡ Some records → IsNameTable p.names.tree → IsSome new.stop
+    → ((l : Ledger) → HasLedger old l → MayCommitNext old records l → HasAny new (stages old records l)) → HasSpelled old start history p → HasStopped new start history p
+
+-- Memory was wanting, at most after a checkpoint.
+abbrev pub NamesWait : Geometry → Type 0
+NamesWait g = (old new : StoreState) (start : PosixTree) (history : List Entry) (p : Parts) → IsBeside g old new
+    → ((l : Ledger) → HasLedger old l → HasLedger new l ⊎ HasLedger new (checkpointed false old l)) → HasSpelled old start history p → IsGoing new start history p
+
+-- Where all changes of each live file stand there too, everything does: no other file has changes that a path shows.
+abbrev pub AllAreThere : Geometry → Type 0
+AllAreThere g = (s : StoreState) (start : PosixTree) (history : List Entry) (p : Parts) (done : List ℕ) → geometry_of_store s ≡ g → ((file : ℕ) → IsSome (map.get p.names.held file) → has done file ≡ true)
+    → HasFiles s start history p done → HasAll s start history p
+
+-- Where nothing is noted all changes of names stand on the disk.
+abbrev pub NamesAreThere : Geometry → Type 0
+NamesAreThere g = (s : StoreState) (start : PosixTree) (history : List Entry) (p : Parts) → geometry_of_store s ≡ g → p.names.tree.noted ≡ Some [] → IsNameTable p.names.tree → IsGoing s start history p → HasNames s start history (with_names_committed p)

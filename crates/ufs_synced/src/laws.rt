@@ -1,0 +1,53 @@
+// Laws of the definitions, each the contract of a function that does nothing.
+ghost use Rattle.ufs_layout.specs.Areas.{IsGeometry};
+ghost use Rattle.ufs_synced.specs.Laws.{AllAreThere, BarriersFail, NamesAreThere, NamesCommit, NamesStop, NamesWait, ZerosBegin, ZerosGoOn, ZerosSettle, ZerosStop};
+
+use ufs_layout::Geometry;
+use ufs_ledger::{form_law, promise_law};
+use ufs_model::a_request_keeps_the_tree;
+use ufs_name_log::files_law;
+use ufs_names_ledger::names_go_on_law;
+use ufs_prefix::a_history_goes_by_its_changes;
+use ufs_stored::{names_commit_law, ready_law, stopping_law};
+
+/// The blocks that directories took are made ready for a commit of names.
+pub fn zeros_law(geometry: &Geometry)
+    requires { IsGeometry geometry.now }
+    ensures begin { ZerosBegin }
+    ensures write { ZerosGoOn geometry.now }
+    ensures write_fails { ZerosStop geometry.now }
+    ensures barrier { ZerosSettle geometry.now }
+    ensures barrier_fails { BarriersFail geometry.now }
+{
+    form_law();
+    ready_law(geometry);
+    stopping_law(geometry);
+}
+
+/// The names are committed.
+pub fn names_law(geometry: &Geometry)
+    requires { IsGeometry geometry.now }
+    ensures commit { NamesCommit geometry.now }
+    ensures stop { NamesStop geometry.now }
+    ensures memory { NamesWait geometry.now }
+    ensures nothing { NamesAreThere geometry.now }
+{
+    form_law();
+    promise_law(geometry);
+    ready_law(geometry);
+    stopping_law(geometry);
+    names_commit_law(geometry);
+    a_history_goes_by_its_changes();
+    files_law(geometry);
+    names_go_on_law(geometry);
+}
+
+/// All changes of each live file stand on the disk.
+pub fn all_law(geometry: &Geometry)
+    requires { IsGeometry geometry.now }
+    ensures { AllAreThere geometry.now }
+{
+    promise_law(geometry);
+    a_request_keeps_the_tree();
+    a_history_goes_by_its_changes();
+}
