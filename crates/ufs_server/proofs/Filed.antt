@@ -1,0 +1,53 @@
+-- Files that were committed, one after the other.
+use Rattle.std.proofs.Common.{◌≡◌, ℕ, eqb, Bool, true, false, ◌||◌, List, [], ◌∷◌, ◌++◌, Option, None, Some, is_some, ap, sym, refl, ◌∙◌, arith}
+use Rattle.std.specs.Prelude.{IsSome}
+use Rattle.std.specs.FinMap as map
+use Rattle.std.specs.FinMap as map
+use Rattle.std.specs.FinSet as set
+use Rattle.std.specs.Cmp.{nat_cmp_total}
+use Rattle.std.proofs.lemmas.Bool.Decides.{nat_tests}
+use Rattle.ufs_bitmap.specs.Taking.{has}
+use Rattle.ufs_bitmap.proofs.SetLemmas.{has-insert}
+use Rattle.ufs_bitmap.proofs.TakingLemmas.{has-append, has-none}
+use Rattle.ufs_model.specs.PosixTree.{PosixTree}
+use Rattle.ufs_model.specs.declared.data.Entry.{Entry}
+use Rattle.ufs_names.specs.NamesPart.{Holdings}
+use Rattle.ufs_store.specs.Refusals.{stop_after}
+use Rattle.ufs_store.specs.State.{StoreState}
+use Rattle.ufs_stored.specs.OnDisk.{HasFile, HasFiles, HasNames}
+use Rattle.ufs_stored.specs.Parts.{Parts}
+
+turn : (a b : Bool) → (a || b) ≡ (b || (a || false))
+turn true true = refl
+turn true false = refl
+turn false true = refl
+turn false false = refl
+
+turned : (xs : List ℕ) (file other : ℕ) → has (file ∷ xs) other ≡ has (xs ++ file ∷ []) other
+turned xs file other =
+    has-insert (set.from_list xs) file other ∙ turn (eqb other file) (has xs other)
+    ∙ ap (λ (b : Bool). has xs other || (eqb other file || b)) (sym (has-none other))
+    ∙ ap (λ (b : Bool). has xs other || b) (sym (has-insert (set.from_list []) file other))
+    ∙ sym (has-append xs (file ∷ []) other)
+
+module _ (s : StoreState) (start : PosixTree) (history : List Entry) (p : Parts) where
+  pub none_yet : HasNames s start history p → HasFiles s start history p []
+  none_yet names = record { names = names; files = λ file is. (let clash = sym is ∙ has-none file in absurd cc) }
+
+  pub one_more : (xs : List ℕ) (file : ℕ) → HasFiles s start history p (file ∷ xs) → HasFiles s start history p (xs ++ file ∷ [])
+  one_more xs file h = record { names = h.names; files = λ other is. h.files other (turned xs file other ∙ is) }
+
+-- one file of them has all its changes on the disk
+pub has_file : (s : StoreState) (start : PosixTree) (history : List Entry) (p : Parts) (file : ℕ) → IsSome (map.get p.names.held file) → HasFiles s start history p (file ∷ []) → HasFile s start history p file
+has_file s start history p file live files =
+    let self : eqb file file ≡ true = grind (arith, nat_tests) in
+    record { going = files.names.going; there = files.names.numbered file live; changes = files.files file (has-insert (set.from_list []) file file ∙ ap (λ (b : Bool). b || has [] file) self) }
+
+-- a call that passed stops nothing
+pub stop_stays : (o : Option ℕ) → stop_after o None ≡ o
+stop_stays None = refl
+stop_stays (Some fault) = refl
+
+-- the numbers of the files that are held
+pub keys_are : (m : Holdings) (file : ℕ) → has (map.keys m) file ≡ is_some (map.get m file)
+keys_are m file = set.contains-from_list nat_cmp_total (map.keys m) file ∙ sym (map.contains_key-keys m file)

@@ -1,0 +1,54 @@
+-- The pool gets the blocks that the store has.
+use Rattle.std.proofs.Common.{◌≡◌, ℕ, ◌⊎◌, inl, inr, Bool, true, false, ◌||◌, ◌&&◌, not, Result, Ok, Err, OnErr, ap, sym, refl, ◌∙◌, subst}
+use Rattle.std.specs.Prelude.{OnOk}
+use Rattle.std.specs.FinSet as set
+use Rattle.ufs_bitmap.specs.Blocks.{BlockSet}
+use Rattle.ufs_bitmap.proofs.SetLemmas.{has-difference, has-union}
+use Rattle.ufs_layout.specs.declared.geometry.Geometry.{Geometry}
+use Rattle.ufs_store.specs.Blocks.{AreApart, MovesLowest}
+use Rattle.ufs_store.specs.State.{StoreState}
+use Rattle.ufs_stored.specs.Laws.{MovesBlocks}
+use Rattle.ufs_stored.specs.Parts.{Parts, ThePool, Unassigned}
+use Rattle.ufs_stored.specs.Sound.{IsSoundServer}
+
+one_or_other : (to from kept : Bool) → (to || (from && not kept)) ≡ true → (to ≡ true) ⊎ (from ≡ true)
+one_or_other true from kept e = inl refl
+one_or_other false true kept e = inr refl
+one_or_other false false kept e = absurd cc
+
+not_kept : (to from kept : Bool) → (to || (from && not kept)) ≡ true → (kept ≡ true → from ≡ true) → (to ≡ true → from ≡ false) → kept ≡ false
+not_kept to from false e within apart = refl
+not_kept true true true e within apart = (let clash = apart refl in absurd cc)
+not_kept true false true e within apart = (let clash = within refl in absurd cc)
+not_kept false true true e within apart = absurd cc
+not_kept false false true e within apart = absurd cc
+
+module _ (want : ℕ) (from kept to gained : BlockSet) (apart : AreApart to from) (moves : MovesLowest want from kept to gained) where
+  is : (b : ℕ) → set.contains gained b ≡ (set.contains to b || (set.contains from b && not (set.contains kept b)))
+  is b = ap (λ (s : BlockSet). set.contains s b) moves.given ∙ has-union to (set.difference from kept) b ∙ ap (λ (c : Bool). set.contains to b || c) (has-difference from kept b)
+
+  pub moves_blocks : MovesBlocks to from gained kept
+  moves_blocks = record {
+    pool = λ b e. one_or_other (set.contains to b) (set.contains from b) (set.contains kept b) (sym (is b) ∙ e);
+    store = λ b e. inr (moves.within b e);
+    apart = λ b e. not_kept (set.contains to b) (set.contains from b) (set.contains kept b) (sym (is b) ∙ e) (moves.within b) (apart b);
+  }
+
+pub moves_none : (from to : BlockSet) → AreApart to from → MovesBlocks to from to from
+moves_none from to apart = record { pool = λ b e. inl e; store = λ b e. inr e; apart = apart }
+
+-- So it is whether the store gave blocks or had too few.
+pub moved_by : {T X : Type 0} (r : Result T X) (want : ℕ) (old new : StoreState) (to gained : BlockSet) → AreApart to old.unassigned.free
+    → OnOk r (MovesLowest want old.unassigned.free new.unassigned.free to gained) → OnErr r ((new ≡ old) × (gained ≡ to)) → MovesBlocks to old.unassigned.free gained new.unassigned.free
+moved_by (Ok x) want old new to gained apart moves same = moves_blocks want old.unassigned.free new.unassigned.free to gained apart moves
+moved_by (Err x) want old new to gained apart moves same =
+    subst (λ (s : StoreState). MovesBlocks to old.unassigned.free gained s.unassigned.free) (sym same.0)
+    (subst (λ (b : BlockSet). MovesBlocks to old.unassigned.free b old.unassigned.free) (sym same.1) (moves_none old.unassigned.free to apart))
+
+-- what the store has the pool hasn't
+pub store_apart : (g : Geometry) (free : BlockSet) (p : Parts) → IsSoundServer g free p → AreApart p.pool free
+store_apart g free p sound b pooled = by (set.contains free b) refl
+  where
+    by : (c : Bool) → set.contains free b ≡ c → set.contains free b ≡ false
+    by false e = e
+    by true e = (let clash = sound.apart ThePool Unassigned b pooled e in absurd cc)

@@ -1,0 +1,14 @@
+mod Asked
+mod Committed
+mod FileCommitting
+mod FileServing
+mod Filed
+mod Gathering
+mod Holding
+mod Known
+mod NamesGoOn
+mod NamesServed
+mod Replied
+mod Syncs
+mod Touch
+mod Touching

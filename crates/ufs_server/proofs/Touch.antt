@@ -1,0 +1,92 @@
+-- The file that a request touches, and what is known of its commits.
+use Rattle.std.proofs.Common.{◌≡◌, ◌≢◌, ℕ, ◌≤◌, ◌⊎◌, inl, inr, List, [], ◌∷◌, Option, Some, None, is_some, length, ap, sym, refl, ◌∙◌, subst, arith}
+use Rattle.std.specs.Prelude.{Contains, IsSome, slice_index_or, unwrap_or}
+use Rattle.std.specs.List.{slice_get}
+use Rattle.std.specs.Cmp.{nat_cmp_total}
+use Rattle.std.specs.FinMap as map
+use Rattle.std.specs.FinMap.{nat_cmp-IsAntisymmetric}
+use Rattle.ufs_bitmap.specs.Blocks.{BlockSet}
+use Rattle.ufs_durable.specs.State.{CommitState, DurableState, IsNoted, state_of}
+use Rattle.ufs_file.specs.Hand.{FileState}
+use Rattle.ufs_files.specs.Files.{AreNumbered}
+use Rattle.ufs_files.proofs.MapLemmas.{one_or_apart}
+use Rattle.ufs_layout.specs.declared.geometry.Geometry.{Geometry}
+use Rattle.ufs_model.specs.Asks.{IsAsk}
+use Rattle.ufs_model.specs.PosixTree.{PosixTree}
+use Rattle.ufs_model.specs.Touched.{touched_parts}
+use Rattle.ufs_model.specs.declared.data.Ask.{Ask}
+use Rattle.ufs_model.proofs.Facts.Lookups.{from_some, inserted_else, inserted_here, same_some}
+use Rattle.ufs_names.specs.Calls.{IsAsked}
+use Rattle.ufs_names.specs.Needs.{AreFilesIn}
+use Rattle.ufs_on_disk.specs.Syncs.{TellsTheSame}
+use Rattle.ufs_stored.specs.Parts.{Commits, Parts, committed_as, durable_in}
+use Rattle.ufs_stored.specs.Sound.{IsSoundServer}
+use Rattle.ufs_stored.specs.Stored.{ArePartsOf}
+use Rattle.ufs_server.specs.Server.{commits_in}
+
+-- ---- the file
+
+module _ (p : Parts) (t : PosixTree) (parts : ArePartsOf p t) where
+  -- a live file is here
+  pub live_here : (f : ℕ) → IsSome (map.get t.bytes f) → IsSome (map.get p.files f)
+  live_here f live = parts.here f (parts.names.told f ∙ live)
+
+  -- and a file that is here is live
+  pub here_live : (f : ℕ) → IsSome (map.get p.files f) → IsSome (map.get t.bytes f)
+  here_live f is = let at = from_some (map.get p.files f) is in let of = parts.files f at.0 at.1 in ap (λ (k : ℕ). is_some (map.get t.bytes k)) (sym of.0) ∙ ap is_some of.1
+
+-- ---- its commits
+
+module _ (p : Parts) (file : ℕ) (s : FileState) (at : map.get p.files file ≡ Some s) (numbered : AreNumbered p.files) (known : (f : ℕ) → map.get p.files f ≡ None → map.get p.commits f ≡ None) where
+  abbrev pub told : Commits
+  told = map.insert p.commits file (commits_in p.commits file s)
+
+  pub tells_the_same : TellsTheSame p told
+  tells_the_same = record { each = λ f o here. each f o here (one_or_apart f file); known = λ f none. of f none (one_or_apart f file) }
+    where
+      each : (f : ℕ) (o : FileState) → map.get p.files f ≡ Some o → (f ≡ file) ⊎ (f ≢ file) → durable_in told o ≡ durable_in p.commits o
+      each f o here (inl is) =
+          let same : s ≡ o = same_some s o (sym at ∙ ap (map.get p.files) (sym is) ∙ here) in
+          let number : o.file ≡ file = numbered f o here ∙ is in
+          ap (λ (c : Option CommitState). state_of o (unwrap_or c (committed_as o))) (ap (map.get told) number ∙ inserted_here nat_cmp_total nat_cmp-IsAntisymmetric p.commits file (commits_in p.commits file s))
+          ∙ ap (λ (c : CommitState). state_of o c) (ap (commits_in p.commits file) same ∙ ap (λ (k : ℕ). commits_in p.commits k o) (sym number))
+      each f o here (inr not) =
+          let number = numbered f o here in
+          ap (λ (c : Option CommitState). state_of o (unwrap_or c (committed_as o))) (inserted_else nat_cmp_total nat_cmp-IsAntisymmetric p.commits file (commits_in p.commits file s) o.file (λ is. not (sym number ∙ is)))
+
+      of : (f : ℕ) → map.get p.files f ≡ None → (f ≡ file) ⊎ (f ≢ file) → map.get told f ≡ None
+      of f none (inl is) = let clash : None ≡ Some s = sym none ∙ ap (map.get p.files) is ∙ at in cc
+      of f none (inr not) = inserted_else nat_cmp_total nat_cmp-IsAntisymmetric p.commits file (commits_in p.commits file s) f not ∙ known f none
+
+  pub known_here : IsSome (map.get told file)
+  known_here = ap is_some (inserted_here nat_cmp_total nat_cmp-IsAntisymmetric p.commits file (commits_in p.commits file s))
+
+  -- what is known notes the file's runs
+  pub notes_runs : IsNoted (durable_in p.commits s) → (c : CommitState) → map.get told file ≡ Some c → s.extents ≡ c.log.noted.runs
+  notes_runs noted c there =
+      let is : c ≡ commits_in p.commits file s = same_some c (commits_in p.commits file s) (sym there ∙ inserted_here nat_cmp_total nat_cmp-IsAntisymmetric p.commits file (commits_in p.commits file s)) in
+      sym (ap (λ (c : CommitState). c.log.noted.runs) (is ∙ ap (λ (k : ℕ). commits_in p.commits k s) (sym (numbered file s at))) ∙ noted.runs)
+
+-- ---- what a request asks
+
+pub asked_here : (p : Parts) (t : PosixTree) (ask : Ask) → ArePartsOf p t → IsAsk t ask → IsAsked t p.names ask p.files
+asked_here p t ask parts asked = record { part = parts.names; asked = asked; files = parts.files; gathered = λ f at live. live_here p t parts f live }
+
+-- ---- the first of one at most
+
+pub only_one : (files : List ℕ) (file f : ℕ) → length files ≤ 1 → slice_get files 0 ≡ Some file → Contains files f → file ≡ f
+only_one [] file f few first has = let clash = first in absurd cc
+only_one (x ∷ []) file f few first has =
+    let within = has.1 in
+    let none : has.0 ≡ 0 = omega (arith, within) in
+    let here : x ≡ file = cc in
+    sym here ∙ sym (ap (λ (k : ℕ). slice_index_or (x ∷ []) k f) none) ∙ has.2
+only_one (x ∷ y ∷ files) file f few first has = absurd (omega (arith, few))
+
+pub first_is_in : (files : List ℕ) (file : ℕ) → slice_get files 0 ≡ Some file → Contains files file
+first_is_in [] file first = let clash = first in absurd cc
+first_is_in (x ∷ files) file first = (0, omega arith, cc)
+
+pub none_in : (files : List ℕ) (f : ℕ) → slice_get files 0 ≡ None → Contains files f → ⊥
+none_in [] f none has = let within = has.1 in omega (arith, within)
+none_in (x ∷ files) f none has = let clash = none in cc

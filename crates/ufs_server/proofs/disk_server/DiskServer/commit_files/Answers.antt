@@ -1,0 +1,73 @@
+use Rattle.std.proofs.Common.{◌∙◌, ◌≡◌, ◌<◌, ◌≤◌, ◌+◌, ℕ, suc, List, ap, arith, refl, subst, sym, take, length}
+use Rattle.std.specs.Prelude.{IsSome, Some, slice_get, slice_index_or}
+use Rattle.std.specs.FinMap as map
+use Rattle.std.proofs.lemmas.List.{take_all}
+use Rattle.std.proofs.lemmas.Option.{slice_get-get_or}
+use Rattle.ufs_durable.proofs.Served.{has_at}
+use Rattle.ufs_model.proofs.Facts.Histories.{take-push}
+use Rattle.ufs_names.specs.NamesPart.{NamesPart}
+use Rattle.ufs_model.specs.PosixTree.{PosixTree}
+use Rattle.ufs_model.specs.declared.data.Entry.{Entry}
+use Rattle.ufs_stored.specs.OnDisk.{HasFiles, HasNames, IsOnDisk}
+use Rattle.ufs_server.proofs.Filed.{none_yet, one_more, stop_stays}
+use Rattle.ufs_server.proofs.Replied.{on_err}
+use Rattle.ufs_server.proofs.disk_server.DiskServer.commit_files.Goals as goal
+
+pub loop-place-init : goal.loop-place-init
+loop-place-init g c = record {
+  files = λ told start history has. none_yet (g.D.Door.store c.args.door.now) start history c.args.self.now has;
+  same = λ t parts. parts;
+  names = refl;
+  sound = c.requires.sound;
+  geometry = refl;
+  sectors = refl;
+  faults = refl;
+  stop = refl;
+}
+
+pub commit_here-requires-clause-held : goal.commit_here-requires-clause-held
+commit_here-requires-clause-held g c =
+    let files = c.args.files.now in
+    let k : ℕ = c.loop-place.place in
+    let less : k < length files = omega (arith, c.loop-place-test.true) in
+    let file : ℕ = slice_index_or files k 0 in
+    subst (λ (n : NamesPart). IsSome (map.get n.held file)) (sym c.loop-place.invariant.names) (c.requires.held file (has_at files k file (slice_get-get_or files k 0 less)))
+
+pub commit_here-requires-clause-sound : goal.commit_here-requires-clause-sound
+commit_here-requires-clause-sound g c = c.loop-place.invariant.sound
+
+pub loop-place-preserved : goal.loop-place-preserved
+loop-place-preserved g c =
+    let files = c.args.files.now in
+    let k : ℕ = c.loop-place.place in
+    let i = c.loop-place.invariant in
+    let less : k < length files = omega (arith, c.loop-place-test.true) in
+    let file : ℕ = slice_index_or files k 0 in
+    let at : slice_get files k ≡ Some file = slice_get-get_or files k 0 less in
+    let new = g.D.Door.store c.commit_here.new.door in
+    let after = c.commit_here.new.self in
+    let next : suc k ≡ k + 1 = omega arith in
+    record {
+      files = λ told start history has. subst (HasFiles new start history after) (sym (take-push files k file at) ∙ ap (λ (n : ℕ). take n files) next)
+          (one_more new start history after (take k files) file (c.in_ok-commit_here.ensures.ok told start history (take k files) (i.files told start history has)));
+      same = λ t parts. c.commit_here.ensures.same t (i.same t parts);
+      names = c.commit_here.ensures.names ∙ i.names;
+      sound = c.commit_here.ensures.sound;
+      geometry = c.commit_here.ensures.geometry ∙ i.geometry;
+      sectors = c.commit_here.ensures.sectors ∙ i.sectors;
+      faults = c.in_ok-commit_here.ensures.cause ∙ i.faults;
+      stop = c.in_ok-commit_here.ensures.stop ∙ stop_stays (g.D.Door.store c.loop-place.door).stop ∙ i.stop;
+    }
+
+pub returns-in_err-commit_here-clause-err : goal.returns-in_err-commit_here-clause-err
+returns-in_err-commit_here-clause-err g c told =
+    let old = g.D.Door.store c.args.door.now in
+    let new = g.D.Door.store c.commit_here.new.door in
+    on_err c.from_residual.result ((start : PosixTree) (history : List Entry) → HasNames old start history c.args.self.now → IsOnDisk new start history c.commit_here.new.self)
+    (λ start history has. c.in_err-commit_here.ensures.err told start history (c.loop-place.invariant.files told start history has).names)
+
+pub returns-clause-ok : goal.returns-clause-ok
+returns-clause-ok g c told start history has =
+    let files = c.args.files.now in
+    let over : length files ≤ c.loop-place.place = omega (arith, c.loop-place-test.false) in
+    subst (HasFiles (g.D.Door.store c.loop-place.door) start history c.loop-place.self) (take_all c.loop-place.place files over) (c.loop-place.invariant.files told start history has)

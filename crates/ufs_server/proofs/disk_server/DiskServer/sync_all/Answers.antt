@@ -1,0 +1,33 @@
+use Rattle.std.proofs.Common.{◌∙◌, ◌≡◌, ℕ, true, List, ap, is_some, subst, sym}
+use Rattle.std.specs.Prelude.{IsSome}
+use Rattle.std.specs.FinMap as map
+use Rattle.std.proofs.lemmas.Result.{on_err_weaker, on_ok_weaker}
+use Rattle.ufs_bitmap.specs.Taking.{has}
+use Rattle.ufs_names.specs.NamesPart.{Holdings, NamesPart}
+use Rattle.ufs_store.specs.State.{geometry_of_store}
+use Rattle.ufs_stored.specs.Parts.{Parts}
+use Rattle.ufs_server.proofs.Filed.{keys_are}
+use Rattle.ufs_server.proofs.disk_server.DiskServer.sync_all.Goals as goal
+
+pub commit_files-requires-clause-held : goal.commit_files-requires-clause-held
+commit_files-requires-clause-held g c file is =
+    let p = c.args.self.now in
+    let keys : c.as_slice.result.now ≡ map.keys p.names.held = c.as_slice.ensures ∙ c.in-Ok.ensures ∙ ap (λ (x : Parts). map.keys x.names.held) c.self.view_is in
+    let held : c.sync_names.new.self.names.held ≡ p.names.held = ap (λ (x : Parts). x.names.held) c.sync_names.ensures.rest in
+    subst (λ (m : Holdings). IsSome (map.get m file)) (sym held) (sym (keys_are p.names.held file) ∙ ap (λ (xs : List ℕ). has xs file) (sym keys) ∙ is)
+
+pub returns-clause-ok : goal.returns-clause-ok
+returns-clause-ok g c told =
+    let p = c.args.self.now in
+    let keys : c.as_slice.result.now ≡ map.keys p.names.held = c.as_slice.ensures ∙ c.in-Ok.ensures ∙ ap (λ (x : Parts). map.keys x.names.held) c.self.view_is in
+    let held : c.commit_files.new.self.names.held ≡ p.names.held = ap (λ (n : NamesPart). n.held) c.commit_files.ensures.names ∙ ap (λ (x : Parts). x.names.held) c.sync_names.ensures.rest in
+    let form = c.commit_files.ensures.geometry ∙ c.sync_names.ensures.geometry ∙ sym c.geometry-geometry.ensures.is in
+    let all : (file : ℕ) → IsSome (map.get c.commit_files.new.self.names.held file) → has c.as_slice.result.now file ≡ true =
+    λ file is. ap (λ (xs : List ℕ). has xs file) keys ∙ keys_are p.names.held file ∙ ap (λ (m : Holdings). is_some (map.get m file)) (sym held) ∙ is in
+    on_ok_weaker c.commit_files.result
+    (λ files start history on_disk. c.all_law.ensures (g.D.Door.store c.commit_files.new.door) start history c.commit_files.new.self c.as_slice.result.now form all (files start history (c.in_ok-sync_names.ensures.ok told start history on_disk)))
+    (c.commit_files.ensures.ok told)
+
+pub returns-clause-err : goal.returns-clause-err
+returns-clause-err g c told =
+    on_err_weaker c.commit_files.result (λ stays start history on_disk. stays start history (c.in_ok-sync_names.ensures.ok told start history on_disk)) (c.commit_files.ensures.err told)

@@ -1,0 +1,24 @@
+use Rattle.std.proofs.Common.{◌≡◌, [], sym, subst}
+use Rattle.std.specs.Prelude.{IsSome}
+use Rattle.std.specs.FinMap as map
+use Rattle.std.proofs.lemmas.Result.{on_err_weaker, on_ok_weaker}
+use Rattle.ufs_names.specs.NamesPart.{NamesPart}
+use Rattle.ufs_stored.specs.Parts.{Parts}
+use Rattle.ufs_server.proofs.Filed.{has_file, none_yet}
+use Rattle.ufs_server.proofs.disk_server.DiskServer.sync_file.Goals as goal
+
+pub returns-clause-ok : goal.returns-clause-ok
+returns-clause-ok g c told =
+    let s1 = g.D.Door.store c.sync_names.new.door in
+    let s2 = g.D.Door.store c.commit_file.new.door in
+    let p1 = c.sync_names.new.self in
+    let p2 = c.commit_file.new.self in
+    let first : IsSome (map.get p1.names.held c.args.file) = subst (λ (p : Parts). IsSome (map.get p.names.held c.args.file)) (sym c.sync_names.ensures.rest) c.requires.held in
+    let live : IsSome (map.get p2.names.held c.args.file) = subst (λ (n : NamesPart). IsSome (map.get n.held c.args.file)) (sym c.commit_file.ensures.names) first in
+    on_ok_weaker c.commit_file.result
+    (λ files start history on. has_file s2 start history p2 c.args.file live (files start history [] (none_yet s1 start history p1 (c.in_ok-sync_names.ensures.ok told start history on))))
+    (c.commit_file.ensures.ok told)
+
+pub returns-clause-err : goal.returns-clause-err
+returns-clause-err g c told =
+    on_err_weaker c.commit_file.result (λ stays start history on. stays start history (c.in_ok-sync_names.ensures.ok told start history on)) (c.commit_file.ensures.err told)

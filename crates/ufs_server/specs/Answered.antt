@@ -1,0 +1,64 @@
+-- What a server on a disk answers.
+use Rattle.std.specs.Prelude.{ℕ, ◌≡◌, ⊤, Bool, true, false, Option, Some, None, Result, Ok, Err}
+use Rattle.ufs_model.specs.Asks.{IsDescAfter, fd_told}
+use Rattle.ufs_model.specs.Posix.{posix}
+use Rattle.ufs_model.specs.PosixTree.{PosixTree}
+use Rattle.ufs_model.specs.declared.data.Ask.{Ask}
+use Rattle.ufs_model.specs.declared.data.Desc.{Desc}
+use Rattle.ufs_model.specs.declared.data.Excuse.{Excuse}
+use Rattle.ufs_model.specs.declared.data.Excuse.TheVariants as excuse
+use Rattle.ufs_model.specs.declared.data.Reply.{Reply}
+use Rattle.ufs_model.specs.declared.data.Reply.TheVariants as reply
+use Rattle.ufs_stored.specs.Parts.{Parts}
+use Rattle.ufs_stored.specs.Stored.{ArePartsOf}
+
+-- The reply is POSIX's on the tree, and the parts go on with the tree; this is what the request's descriptor stands for
+-- afterwards.
+pub record IsAnswered (t : PosixTree) (ask : Ask) (new : Parts) (reply : Reply) (desc : Option Desc) : Type 0 where
+  pub replied : reply ≡ (posix t ask.client ask.op).1
+  pub goes_on : ArePartsOf new (posix t ask.client ask.op).0
+  pub told : IsDescAfter t.fds (posix t ask.client ask.op).0.fds ask.client (fd_told ask.op reply) desc
+
+-- ---- faults
+
+-- the number of a fault of the disk in this call
+abbrev pub device_of : Excuse → Option ℕ
+device_of (excuse.Device fault) = Some fault
+device_of _ = None
+
+abbrev pub device_in : Reply → Option ℕ
+device_in (reply.Excused x) = device_of x
+device_in _ = None
+
+abbrev pub device_told : {T : Type 0} → Result T Excuse → Option ℕ
+device_told (Ok x) = None
+device_told (Err x) = device_of x
+
+-- the number of the fault at which the store stopped earlier
+abbrev pub stopped_of : Excuse → Option ℕ
+stopped_of (excuse.Stopped fault) = Some fault
+stopped_of _ = None
+
+abbrev pub stopped_in : Reply → Option ℕ
+stopped_in (reply.Excused x) = stopped_of x
+stopped_in _ = None
+
+-- ---- what is synced
+
+-- Memory was wanting, or the disk failed: now, or earlier.
+abbrev pub is_of_store : Excuse → Bool
+is_of_store excuse.Memory = true
+is_of_store (excuse.Device fault) = true
+is_of_store (excuse.Stopped fault) = true
+is_of_store _ = false
+
+-- the reply to a request that asks for a commit and isn't refused
+abbrev pub IsSyncReply : Reply → Type 0
+IsSyncReply reply.Done = ⊤
+IsSyncReply (reply.Excused x) = is_of_store x ≡ true
+IsSyncReply _ = ⊥
+
+-- what is answered to a request that was synced, or wasn't
+abbrev pub reply_to : {T : Type 0} → Result T Excuse → Reply
+reply_to (Ok x) = reply.Done
+reply_to (Err x) = reply.Excused x

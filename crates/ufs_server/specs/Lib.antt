@@ -1,0 +1,3 @@
+pub mod Server
+pub mod Answered
+pub mod Touching

@@ -1,0 +1,43 @@
+-- The file that a request of names may empty or drop.
+use Rattle.std.specs.Prelude.{ℕ, ◌≡◌, ◌⊎◌, ◌↔◌, [], true, Option, None, Some, IsSome}
+use Rattle.std.specs.FinMap as map
+use Rattle.std.specs.FinSet as set
+use Rattle.ufs_bitmap.specs.Blocks.{BlockSet}
+use Rattle.ufs_durable.specs.State.{CommitState}
+use Rattle.ufs_model.specs.PosixTree.{PosixTree}
+use Rattle.ufs_model.specs.Posix.{posix}
+use Rattle.ufs_model.specs.declared.data.Ask.{Ask}
+use Rattle.ufs_model.specs.declared.data.Desc.{Desc}
+use Rattle.ufs_model.specs.declared.data.Reply.{Reply}
+use Rattle.ufs_names_stored.specs.Requests.{IsNamesRequest}
+use Rattle.ufs_names_stored.specs.Serving.{HasLeft, HasSettled}
+use Rattle.ufs_stored.specs.Parts.{Commits, Parts}
+use Rattle.ufs_server.specs.Answered.{IsAnswered}
+use Rattle.ufs_server.specs.declared.touched.Touched.{Touched}
+
+-- its number, if there is one
+abbrev pub file_touched : Option Touched → Option ℕ
+file_touched None = None
+file_touched (Some touched) = Some touched.file
+
+-- Something is known of its commits, and the log notes these runs.
+pub record IsReadied (commits : Commits) (touched : Touched) : Type 0 where
+  pub known : IsSome (map.get commits touched.file)
+  pub before : (c : CommitState) → map.get commits touched.file ≡ Some c → touched.before ≡ c.log.noted.runs
+  pub none : touched.none ≡ []
+
+abbrev pub AreReadied : Commits → Option Touched → Type 0
+AreReadied commits None = Unit {0}
+AreReadied commits (Some touched) = IsReadied commits touched
+
+-- What is known of its commits is settled, and what it dropped is the names' where it went.
+pub record IsSettled (old new : Parts) (touched : Option ℕ) : Type 0 where
+  pub settled : HasSettled old new touched
+  pub dropped : (block : ℕ) → (set.contains new.dropped block ≡ true) ↔ ((set.contains old.dropped block ≡ true) ⊎ HasLeft old new touched block)
+
+-- The request is answered, and leaves the parts as one of the names does.
+pub record IsServedByNames (t : PosixTree) (ask : Ask) (old new : Parts) (reply : Reply) (desc : Option Desc) : Type 0 where
+  pub answered : IsAnswered t ask new reply desc
+  pub lent : BlockSet
+  pub left : BlockSet
+  pub request : IsNamesRequest t (posix t ask.client ask.op).0 old new lent left

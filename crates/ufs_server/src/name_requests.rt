@@ -1,0 +1,172 @@
+// Requests of names.
+ghost use Rattle.std.specs.Prelude.{ℕ, ◌≡◌, ◌<◌, ◌≤◌, ◌+◌, ◌^◌, ◌++◌, ◌∷◌, [], List, length, vec_capacity, IsTrue, IsSome, Some, true, false};
+ghost use Rattle.std.specs.FinMap as map;
+ghost use Rattle.std.specs.FinSet as set;
+ghost use Rattle.ufs_bitmap.specs.Blocks.{BlockSet};
+ghost use Rattle.ufs_engine.specs.Played.{tells_fault};
+ghost use Rattle.ufs_file.specs.Hand.{IsEntryOf};
+ghost use Rattle.ufs_layout.specs.declared.geometry.Geometry.{Geometry};
+ghost use Rattle.ufs_model.specs.Asks.{IsAsk};
+ghost use Rattle.ufs_model.specs.Excuses.{ExcuseFits};
+ghost use Rattle.ufs_model.specs.History.{IsLegal, is_excused, tree_after};
+ghost use Rattle.ufs_model.specs.PosixTree.{PosixTree};
+ghost use Rattle.ufs_model.specs.declared.data.Actor.{Actor};
+ghost use Rattle.ufs_model.specs.declared.data.Ask.{Ask};
+ghost use Rattle.ufs_model.specs.declared.data.Entry.{Entry};
+ghost use Rattle.ufs_model.specs.declared.data.Excuse.{Excuse};
+ghost use Rattle.ufs_model.specs.declared.data.Reply.TheVariants as reply;
+ghost use Rattle.ufs_names.specs.Calls.{IsOfNames, IsTouched};
+ghost use Rattle.ufs_pouring.specs.Lent.{listed};
+ghost use Rattle.ufs_prefix.specs.Changes.{asks_commit};
+ghost use Rattle.ufs_store.specs.State.{geometry_of_store};
+ghost use Rattle.ufs_stored.specs.OnDisk.{IsOnDisk};
+ghost use Rattle.ufs_stored.specs.Sound.{IsSoundServer};
+ghost use Rattle.ufs_stored.specs.Stored.{ArePartsOf};
+ghost use Rattle.ufs_server.specs.Answered.{IsAnswered};
+ghost use Rattle.ufs_server.specs.Touching.{AreReadied, IsServedByNames, file_touched};
+
+use crate::disk_server::DiskServer;
+use crate::file_requests::out_of_memory;
+use crate::touched::Touched;
+use ufs_file::Applied;
+use ufs_model::{Actor, Ask, Entry, Excuse, Reply};
+use ufs_names_stored::{names_request_law, served_names_law};
+use ufs_on_disk::{file_request_law, told_law};
+use ufs_pouring::{lend, pour};
+use ufs_store::Door;
+use ufs_stored::on_disk_law;
+
+impl DiskServer {
+    /// Serves a request of the names that asks for no commit.
+    pub(crate) fn serve_names<D: Door>(
+        &mut self,
+        door: &mut D,
+        ask: Ask,
+        by: Actor,
+        ticket: u64,
+    ) -> Applied
+        requires client { ask.client < 16 }
+        requires numbers { self.old.names.next < 2 ^ 31 }
+        requires kind { IsOfNames ask }
+        requires unsynced { asks_commit ask.op ≡ false }
+        requires asked { (t : PosixTree) × ArePartsOf self.old t × IsAsk t ask }
+        requires sound { IsSoundServer (geometry_of_store (D.store door.old)) (D.store door.old).unassigned.free self.old }
+        ensures entry { IsEntryOf ask by ticket result.entry }
+        ensures served { is_excused result.entry.reply ≡ false → (t : PosixTree) → ArePartsOf self.old t → IsAsk t ask → IsAnswered t ask self.new result.entry.reply result.desc }
+        ensures fits { (x : Excuse) → result.entry.reply ≡ reply.Excused x → (t : PosixTree) → ArePartsOf self.old t → IsAsk t ask → ExcuseFits t ask.client ask.op x }
+        ensures unchanged { is_excused result.entry.reply ≡ true → (t : PosixTree) → ArePartsOf self.old t → ArePartsOf self.new t }
+        ensures desc { is_excused result.entry.reply ≡ true → result.desc ≡ ask.desc }
+        ensures on_disk { IsTrue D.tells → (start : PosixTree) (history : List Entry) → IsAsk (tree_after start history) ask → IsLegal start (history ++ result.entry ∷ [])
+            → IsOnDisk (D.store door.old) start history self.old → IsOnDisk (D.store door.new) start (history ++ result.entry ∷ []) self.new }
+        ensures sound { IsSoundServer (geometry_of_store (D.store door.new)) (D.store door.new).unassigned.free self.new }
+        ensures calm { tells_fault result.entry.reply ≡ false }
+        // only free blocks go between the store and the pool
+        ensures store { D.store door.new ≡ record (D.store door.old) { unassigned = record ((D.store door.old).unassigned) { free = (D.store door.new).unassigned.free } } }
+    {
+        file_request_law();
+        told_law();
+        served_names_law();
+        let geometry = door.geometry();
+        on_disk_law(&geometry);
+        names_request_law(&geometry);
+        self.gather(door);
+        let Ok(touched) = self.touch(&ask) else {
+            return out_of_memory(ask, by, ticket);
+        };
+        let (fd, last) = (ask.fd, ask.last);
+        let first = self.apply_names(ask, by, ticket, &touched, false);
+        if !lacks_block(&first.entry.reply) {
+            return first;
+        }
+        self.apply_names(again(first, fd, last), by, ticket, &touched, true)
+    }
+
+    /// Serves a request of the names, and settles what is known of the file that it touched. Directories are lent one
+    /// block of the pool where `lends` says so, and took it then: without it the request had no space. An excuse changes
+    /// nothing.
+    fn apply_names(
+        &mut self,
+        ask: Ask,
+        by: Actor,
+        ticket: u64,
+        touched: &Option<Touched>,
+        lends: bool,
+    ) -> Applied
+        requires client { ask.client < 16 }
+        requires numbers { self.old.names.next < 2 ^ 31 }
+        requires kind { IsOfNames ask }
+        requires asked { (t : PosixTree) × ArePartsOf self.old t × IsAsk t ask }
+        requires sound { (g : Geometry) × (free : BlockSet) × IsSoundServer g free self.old }
+        requires readied { AreReadied self.old.commits touched.now }
+        requires alone { (t : PosixTree) → ArePartsOf self.old t → IsAsk t ask → (f : ℕ) → IsTouched t ask f → IsSome (map.get self.old.files f) → file_touched touched.now ≡ Some f }
+        ensures entry { IsEntryOf ask by ticket result.entry }
+        ensures served { is_excused result.entry.reply ≡ false → (t : PosixTree) → ArePartsOf self.old t → IsAsk t ask → IsServedByNames t ask self.old self.new result.entry.reply result.desc }
+        ensures fits { (x : Excuse) → result.entry.reply ≡ reply.Excused x → (t : PosixTree) → ArePartsOf self.old t → IsAsk t ask → ExcuseFits t ask.client ask.op x }
+        ensures calm { tells_fault result.entry.reply ≡ false }
+        ensures unchanged { is_excused result.entry.reply ≡ true → self.new ≡ self.old }
+        ensures desc { is_excused result.entry.reply ≡ true → result.desc ≡ ask.desc }
+    {
+        served_names_law();
+        self.names.is_table();
+        if self.fresh.reserve(1).is_err() {
+            return out_of_memory(ask, by, ticket);
+        }
+        let block = lend(&mut self.pool, &mut self.lent, lends);
+        let applied = self
+            .names
+            .apply(ask, by, ticket, &mut self.files, &mut self.lent);
+        if tells_excuse(&applied.entry.reply) {
+            pour(&mut self.lent, &mut self.pool);
+            return applied;
+        }
+        take_lent(&mut self.fresh, block);
+        pour(&mut self.lent, &mut self.dropped);
+        self.settle(touched);
+        self.names.is_table();
+        applied
+    }
+}
+
+/// The block that was lent, if one was, is a directory's from now on. There is room for it.
+fn take_lent(fresh: &mut Vec<u32>, block: Option<u32>)
+    requires { length fresh.old.items + 1 ≤ vec_capacity fresh.old }
+    ensures { fresh.new.items ≡ fresh.old.items ++ listed block }
+{
+    if let Some(block) = block {
+        fresh.push(block).unwrap();
+    }
+}
+
+fn tells_excuse(reply: &Reply) -> bool
+    ensures { result ≡ is_excused reply.now }
+{
+    matches!(reply, Reply::Excused(_))
+}
+
+/// Directories had no block to take.
+fn lacks_block(reply: &Reply) -> bool
+    ensures { result ≡ true → is_excused reply.now ≡ true }
+{
+    matches!(reply, Reply::Excused(Excuse::Blocks { .. }))
+}
+
+/// The request of an answer that changed nothing.
+fn again(applied: Applied, fd: u32, last: bool) -> Ask
+    ensures { (ask : Ask) (by : Actor) (ticket : ℕ) → IsEntryOf ask by ticket applied.entry → applied.desc ≡ ask.desc → ask.fd ≡ fd → ask.last ≡ last → result ≡ ask }
+{
+    let Applied { entry, desc } = applied;
+    let Entry {
+        client,
+        seq,
+        op,
+        ..
+    } = entry;
+    Ask {
+        client,
+        seq,
+        op,
+        desc,
+        fd,
+        last,
+    }
+}

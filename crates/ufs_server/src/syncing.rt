@@ -1,0 +1,89 @@
+// What is synced: names, a file, everything.
+ghost use Rattle.std.specs.Prelude.{ℕ, ◌≡◌, ◌≢◌, ◌<◌, ◌↔◌, ◌∷◌, List, Some, None, IsSome, IsTrue, IfErr, OnOk, OnErr, Err, true, false};
+ghost use Rattle.std.specs.FinMap as map;
+ghost use Rattle.ufs_model.specs.PosixTree.{PosixTree};
+ghost use Rattle.ufs_model.specs.declared.data.Entry.{Entry};
+ghost use Rattle.ufs_model.specs.declared.data.Excuse.TheVariants as excuse;
+ghost use Rattle.ufs_names.specs.Notes.{with_notes};
+ghost use Rattle.ufs_store.specs.Refusals.{IsTold, fault_of, is_no_space, stop_after};
+ghost use Rattle.ufs_store.specs.State.{geometry_of_store};
+ghost use Rattle.ufs_store.specs.declared.fault.StoreFault.TheVariants as refusal;
+ghost use Rattle.ufs_stored.specs.OnDisk.{HasFile, HasFiles, HasNames, IsOnDisk};
+ghost use Rattle.ufs_stored.specs.Sound.{IsSoundServer};
+ghost use Rattle.ufs_stored.specs.Stored.{ArePartsOf};
+ghost use Rattle.ufs_server.specs.Answered.{device_of, device_told, is_of_store};
+
+use crate::disk_server::DiskServer;
+use ufs_model::Excuse;
+use ufs_store::{Door, StoreFault};
+use ufs_synced::commit_notes;
+
+impl DiskServer {
+    /// Commits the names, where they changed since their last commit. Directories' fresh blocks are zeros before.
+    pub(crate) fn sync_names<D: Door>(&mut self, door: &mut D) -> Result<(), Excuse>
+        requires sound { IsSoundServer (geometry_of_store (D.store door.old)) (D.store door.old).unassigned.free self.old }
+        ensures ok { IsTrue D.tells → OnOk result ((start : PosixTree) (history : List Entry) → IsOnDisk (D.store door.old) start history self.old → HasNames (D.store door.new) start history self.new) }
+        ensures err { IsTrue D.tells → OnErr result ((start : PosixTree) (history : List Entry) → IsOnDisk (D.store door.old) start history self.old → IsOnDisk (D.store door.new) start history self.new) }
+        ensures same { (t : PosixTree) → ArePartsOf self.old t → ArePartsOf self.new t }
+        ensures rest { self.new ≡ record self.old { names = with_notes self.new.names.tree.noted self.old.names; fresh = self.new.fresh } }
+        ensures sound { IsSoundServer (geometry_of_store (D.store door.new)) (D.store door.new).unassigned.free self.new }
+        ensures unassigned { (D.store door.new).unassigned ≡ (D.store door.old).unassigned }
+        ensures geometry { geometry_of_store (D.store door.new) ≡ geometry_of_store (D.store door.old) }
+        ensures sectors { (D.store door.new).sectors ≡ (D.store door.old).sectors }
+        ensures excused { IfErr result (λ x. is_of_store x ≡ true) }
+        ensures stopped { (fault : ℕ) → (result ≡ Err (excuse.Stopped fault)) → ((D.store door.old).stop ≡ Some fault) }
+        ensures refused { (fault : ℕ) → (D.store door.old).stop ≡ Some fault → result ≡ Err (excuse.Stopped fault) }
+        ensures cause { IsTold (D.store door.old).faults (D.store door.new).faults (device_told result) }
+        ensures stop { (D.store door.new).stop ≡ stop_after (D.store door.old).stop (device_told result) }
+    {
+        if let Some(fault) = door.stopped() {
+            return Err(Excuse::Stopped { fault });
+        }
+        self.names.is_table();
+        let mut notes = self.names.take_notes();
+        let committed = commit_notes(door, &mut notes, self.fresh.as_slice());
+        self.names.put_notes(notes);
+        match committed {
+            Ok(()) => {
+                self.fresh.clear();
+                Ok(())
+            }
+            Err(fault) => Err(excuse_of(fault)),
+        }
+    }
+
+    /// Commits the file, and the names before it where they changed: so it has its inode on the disk.
+    pub(crate) fn sync_file<D: Door>(&mut self, door: &mut D, file: u32) -> Result<(), Excuse>
+        requires here { IsSome (map.get self.old.files file) }
+        requires held { IsSome (map.get self.old.names.held file) }
+        requires sound { IsSoundServer (geometry_of_store (D.store door.old)) (D.store door.old).unassigned.free self.old }
+        ensures ok { IsTrue D.tells → OnOk result ((start : PosixTree) (history : List Entry) → IsOnDisk (D.store door.old) start history self.old → HasFile (D.store door.new) start history self.new file) }
+        ensures err { IsTrue D.tells → OnErr result ((start : PosixTree) (history : List Entry) → IsOnDisk (D.store door.old) start history self.old → IsOnDisk (D.store door.new) start history self.new) }
+        ensures same { (t : PosixTree) → ArePartsOf self.old t → ArePartsOf self.new t }
+        ensures sound { IsSoundServer (geometry_of_store (D.store door.new)) (D.store door.new).unassigned.free self.new }
+        ensures geometry { geometry_of_store (D.store door.new) ≡ geometry_of_store (D.store door.old) }
+        ensures sectors { (D.store door.new).sectors ≡ (D.store door.old).sectors }
+        ensures excused { IfErr result (λ x. is_of_store x ≡ true) }
+        ensures stopped { (fault : ℕ) → (result ≡ Err (excuse.Stopped fault)) → ((D.store door.old).stop ≡ Some fault) }
+        ensures refused { (fault : ℕ) → (D.store door.old).stop ≡ Some fault → result ≡ Err (excuse.Stopped fault) }
+        ensures cause { IsTold (D.store door.old).faults (D.store door.new).faults (device_told result) }
+        ensures stop { (D.store door.new).stop ≡ stop_after (D.store door.old).stop (device_told result) }
+    {
+        self.sync_names(door)?;
+        self.commit_file(door, file)
+    }
+}
+
+/// The excuse for a refusal of the store. Of want of room there is none here.
+pub(crate) fn excuse_of(fault: StoreFault) -> Excuse
+    ensures device { device_of result ≡ fault_of fault }
+    ensures stopped { (number : ℕ) → (result ≡ excuse.Stopped number) ↔ (fault ≡ refusal.Stopped number) }
+    ensures kind { is_no_space fault ≡ false → is_of_store result ≡ true }
+{
+    match fault {
+        StoreFault::Device { fault } => Excuse::Device { fault },
+        StoreFault::Stopped { fault } => Excuse::Stopped { fault },
+        StoreFault::NoSpace { need, had } => Excuse::Blocks { need, had },
+        StoreFault::Memory => Excuse::Memory,
+    }
+}
