@@ -21,18 +21,18 @@ get_here : {X : Type 0} (front : List X) (x : X) (rest : List X) → slice_get (
 get_here [] x rest = refl
 get_here (y ∷ front) x rest = get_here front x rest
 
-get_before : {X : Type 0} (front : List X) (x : X) (n : ℕ) → (n ≡ length front → ⊥) → slice_get (front ++ x ∷ []) n ≡ slice_get front n
+pub get_before : {X : Type 0} (front : List X) (x : X) (n : ℕ) → (n ≡ length front → ⊥) → slice_get (front ++ x ∷ []) n ≡ slice_get front n
 get_before [] x zero not = absurd (not refl)
 get_before [] x (suc n) not = refl
 get_before (y ∷ front) x zero not = refl
 get_before (y ∷ front) x (suc n) not = get_before front x n (λ e. not (omega (arith, e)))
 
-get_past : {X : Type 0} (xs : List X) (n : ℕ) → length xs ≤ n → slice_get xs n ≡ None
+pub get_past : {X : Type 0} (xs : List X) (n : ℕ) → length xs ≤ n → slice_get xs n ≡ None
 get_past [] n h = refl
 get_past (x ∷ xs) zero h = absurd (omega arith)
 get_past (x ∷ xs) (suc n) h = get_past xs n (omega arith)
 
-not_ok : {E : Type 0} (r : Result (Unit {0}) E) → IsErr r → r ≡ Ok tt → ⊥
+pub not_ok : {E : Type 0} (r : Result (Unit {0}) E) → IsErr r → r ≡ Ok tt → ⊥
 not_ok (Ok x) err ok = cc
 not_ok (Err e) err ok = cc
 
@@ -41,7 +41,7 @@ pub no_items : {X : Type 0} (xs : List X) → length xs ≡ 0 → xs ≡ []
 no_items [] e = refl
 no_items (x ∷ xs) e = absurd (omega arith)
 
-joined-push : (told : List (List Entry)) (mine : List Entry) → joined (told ++ mine ∷ []) ≡ joined told ++ mine
+pub joined-push : (told : List (List Entry)) (mine : List Entry) → joined (told ++ mine ∷ []) ≡ joined told ++ mine
 joined-push [] mine = append-nil mine
 joined-push (l ∷ told) mine = ap (λ (r : List Entry). l ++ r) (joined-push told mine) ∙ sym (append_assoc l (joined told) mine)
 
@@ -52,7 +52,7 @@ all_above low ticket t [] less legal = tt
 all_above low ticket t (e ∷ history) less legal =
     (let at = legal.0.numbered in omega (arith, at, less), all_above low (ticket + 1) (goes_on t e) history (omega (arith, less)) legal.1)
 
-rising_from : (ticket : ℕ) (t : PosixTree) (history : List Entry) → IsLegalFrom ticket t history → DoTicketsRise history
+pub rising_from : (ticket : ℕ) (t : PosixTree) (history : List Entry) → IsLegalFrom ticket t history → DoTicketsRise history
 rising_from ticket t [] legal = tt
 rising_from ticket t (e ∷ history) legal =
     (all_above e.ticket (ticket + 1) (goes_on t e) history (let at = legal.0.numbered in omega (arith, at)) legal.1, rising_from (ticket + 1) (goes_on t e) history legal.1)

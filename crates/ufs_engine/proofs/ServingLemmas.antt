@@ -31,7 +31,7 @@ use Rattle.ufs_engine.specs.Serving.{tree_of, IsReached, IsNewcomer, GoesOn, IsD
 use Rattle.ufs_file.specs.Hand.{IsEntryOf}
 use Rattle.ufs_engine.proofs.RangeLemmas.{ranged_after}
 
-get_here : {X : Type 0} (front : List X) (x : X) (rest : List X) → slice_get (front ++ x ∷ rest) (length front) ≡ Some x
+pub get_here : {X : Type 0} (front : List X) (x : X) (rest : List X) → slice_get (front ++ x ∷ rest) (length front) ≡ Some x
 get_here [] x rest = refl
 get_here (y ∷ front) x rest = get_here front x rest
 
@@ -50,16 +50,16 @@ tells_none : (history : List Entry) (entry : Entry) → tells_fault entry.reply 
 tells_none history entry e = each_entry (λ other. share_fault other.reply entry.reply ≡ false) (λ other. no_fault other.reply entry.reply e) history
 
 -- the tree goes on by a reply that is no excuse
-by_reply : (t : PosixTree) (client : ℕ) (request : Op) (r : Reply) → is_excused r ≡ false → tree_with t client request r ≡ (posix t client request).0
+pub by_reply : (t : PosixTree) (client : ℕ) (request : Op) (r : Reply) → is_excused r ≡ false → tree_with t client request r ≡ (posix t client request).0
 by_reply t client request (reply.Excused x) e = cc
 by_reply t client request _ e = refl
 
 -- an excused request is told with its own descriptor
-excused_named : (request : Op) (x : Excuse) → fd_told request (reply.Excused x) ≡ fd_named request
+pub excused_named : (request : Op) (x : Excuse) → fd_told request (reply.Excused x) ≡ fd_named request
 excused_named (op.OpenFile path read write creat excl trunc append) x = refl
 excused_named _ x = refl
 
-the_excuse : (r : Reply) → is_excused r ≡ true → (x : Excuse) × (r ≡ reply.Excused x)
+pub the_excuse : (r : Reply) → is_excused r ≡ true → (x : Excuse) × (r ≡ reply.Excused x)
 the_excuse (reply.Excused x) e = (x, refl)
 the_excuse _ e = cc
 

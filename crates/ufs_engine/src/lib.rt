@@ -6,6 +6,7 @@ mod played;
 mod server;
 mod session;
 
+pub use client::{ask, keep};
 pub use played::{EndFault, Played, Session, ToldLists};
 pub use server::{FRESH, Server};
 pub use session::{play, serve};

@@ -1,0 +1,24 @@
+use Rattle.std.proofs.Common.{◌≡◌, []}
+use Rattle.std.specs.Prelude.{IsTrue}
+use Rattle.ufs_model.specs.History.{joined}
+use Rattle.ufs_model.specs.PosixTree.{PosixTree}
+use Rattle.ufs_store.specs.State.{geometry_of_store}
+use Rattle.ufs_stored.specs.OnDisk.{IsOnDisk}
+use Rattle.ufs_stored.specs.Sound.{IsSoundServer}
+use Rattle.ufs_session.specs.Played.{MayBegin}
+use Rattle.ufs_session.specs.Told.{AreFaultsTold}
+use Rattle.ufs_session.proofs.ClientsLemmas.{AreServing}
+use Rattle.ufs_session.proofs.session.serve_clients.Given as goal
+
+abbrev pub invariant-loop-requests : goal.invariant-loop-requests
+invariant-loop-requests g l =
+    let first = g.D.Door.store l.fn.door in
+    let now = g.D.Door.store l.door in
+    record {
+      serving : (start : PosixTree) → MayBegin l.fn.server start → AreServing start l.fn.clients l.told.items l.server l.client l.first l.yielded l.requests-iterator.rest.items;
+      on_disk : IsTrue g.D.Door.tells → (start : PosixTree) → MayBegin l.fn.server start → IsOnDisk first start [] l.fn.server → IsOnDisk now start (joined l.told.items) l.server;
+      faults : AreFaultsTold first now (joined l.told.items);
+      sound : IsSoundServer (geometry_of_store now) now.unassigned.free l.server;
+      geometry : geometry_of_store now ≡ geometry_of_store first;
+      sectors : now.sectors ≡ first.sectors;
+    }

@@ -1,0 +1,32 @@
+-- What a session from a tree has told its clients.
+use Rattle.std.specs.Prelude.{ℕ, ◌≡◌, ◌+◌, ◌*◌, ◌^◌, ◌≤◌, List, Result, Ok, None, length}
+use Rattle.std.specs.FinMap as map
+use Rattle.ufs_base.specs.declared.limits.TheConstants.{MAX_CLIENTS, MAX_REQUESTS}
+use Rattle.ufs_model.specs.PosixTree.{PosixTree}
+use Rattle.ufs_model.specs.History.{IsLegal, IsInOrder, IsComplete}
+use Rattle.ufs_model.specs.declared.data.Actor.TheVariants.{Primary}
+use Rattle.ufs_model.specs.declared.data.Op.{Op}
+use Rattle.ufs_model.specs.declared.data.Entry.{Entry}
+use Rattle.ufs_engine.specs.Played.{AreServedBy, IsMerged}
+use Rattle.ufs_engine.specs.declared.played.EndFault.{EndFault}
+use Rattle.ufs_stored.specs.Parts.{Parts}
+use Rattle.ufs_stored.specs.Stored.{ArePartsOf}
+
+-- A session may begin with this tree, of which these are the parts: nothing is open in it, and file numbers stay small.
+pub record MayBegin (p : Parts) (start : PosixTree) : Type 0 where
+  pub parts : ArePartsOf p start
+  pub closed : (client fd : ℕ) → map.get start.fds (client, fd) ≡ None
+  pub numbers : start.next + MAX_CLIENTS * MAX_REQUESTS ≤ 2 ^ 31
+
+-- The transcripts are those of one history, in which a tree that begins as this one, and is served by one thread, gives
+-- each reply, or the reply is an excuse that fits and leaves the tree; no two excuses tell one fault. The history has
+-- each client's requests in its order, and all of them where the session ended well. The primary server serves each of
+-- them.
+pub record IsPlayedFrom (start : PosixTree) (clients : List (List Op)) (told : List (List Entry)) (ended : Result (Unit {0}) EndFault) (history : List Entry) : Type 0 where
+  pub merged : IsMerged told history
+  -- a transcript for each client
+  pub each : ended ≡ Ok tt → length told ≡ length clients
+  pub legal : IsLegal start history
+  pub server : AreServedBy Primary history
+  pub ordered : IsInOrder clients history
+  pub complete : ended ≡ Ok tt → IsComplete clients history

@@ -1,0 +1,135 @@
+// A session on one thread.
+ghost use Rattle.std.specs.Prelude.{◌-◌, ◌+◌, ◌^◌, ◌≡◌, ◌≤◌, ◌<◌, ◌*◌, ◌++◌, [], List, OnOk, IsTrue, length};
+ghost use Rattle.ufs_model.specs.PosixTree.{PosixTree};
+ghost use Rattle.ufs_model.specs.History.{AreTicketsOnce, entries_of, joined, tree_after};
+ghost use Rattle.ufs_store.specs.State.{geometry_of_store};
+ghost use Rattle.ufs_stored.specs.OnDisk.{IsOnDisk};
+ghost use Rattle.ufs_stored.specs.Sound.{IsSoundServer};
+ghost use Rattle.ufs_stored.specs.Stored.{ArePartsOf};
+ghost use Rattle.ufs_session.specs.Told.{AreFaultsTold};
+ghost use Rattle.ufs_session.specs.Played.{IsPlayedFrom, MayBegin};
+ghost use Rattle.ufs_session.specs.Serving.{AreUpTo, GoesOn, IsDone, IsReached, IsReady};
+
+use std::alloc::Global;
+use ufs_base::{MAX_CLIENTS, MAX_REQUESTS, Memory};
+use ufs_engine::{EndFault, Session, ToldLists, ask, keep};
+use ufs_fds::FdTable;
+use ufs_model::{Actor, Entry, EntryList, a_request_makes_one_file_at_most};
+use ufs_script::{OpList, OpLists};
+use ufs_server::DiskServer;
+use ufs_store::Door;
+
+/// Serves a client's requests one by one, and adds the entries to its transcript; an excuse is a reply like others.
+/// Whatever ends it, server and disk are what the entries tell.
+fn serve_client<D: Door>(
+    server: &mut DiskServer,
+    door: &mut D,
+    earlier: &Vec<EntryList>,
+    client: u8,
+    first: u64,
+    requests: OpList,
+    told: &mut Vec<Entry>,
+) -> Result<(), Memory>
+    requires client { client < MAX_CLIENTS }
+    requires few { length (joined earlier.now.items) ≤ (MAX_CLIENTS - 1) * MAX_REQUESTS }
+    requires first { first ≡ length (joined earlier.now.items) }
+    requires up_to { AreUpTo (D.store door.old).faults (joined earlier.now.items) }
+    requires counted { (D.store door.old).faults + MAX_REQUESTS < 2 ^ 64 }
+    requires ready { (start : PosixTree) × IsReady start (joined earlier.now.items) server.old client }
+    requires sound { IsSoundServer (geometry_of_store (D.store door.old)) (D.store door.old).unassigned.free server.old }
+    requires none { told.old.items ≡ [] }
+    ensures goes_on { GoesOn (joined earlier.now.items) client requests told.new.items }
+    ensures left { (start : PosixTree) → IsReady start (joined earlier.now.items) server.old client → IsReached start (joined earlier.now.items ++ told.new.items) server.new }
+    ensures done { OnOk result ((start : PosixTree) → IsReady start (joined earlier.now.items) server.old client → IsDone start (joined earlier.now.items) client requests told.new.items) }
+    ensures on_disk { IsTrue D.tells → (start : PosixTree) → IsReady start (joined earlier.now.items) server.old client
+        → IsOnDisk (D.store door.old) start (joined earlier.now.items) server.old → IsOnDisk (D.store door.new) start (joined earlier.now.items ++ told.new.items) server.new }
+    ensures faults { AreFaultsTold (D.store door.old) (D.store door.new) told.new.items }
+    ensures sound { IsSoundServer (geometry_of_store (D.store door.new)) (D.store door.new).unassigned.free server.new }
+    ensures geometry { geometry_of_store (D.store door.new) ≡ geometry_of_store (D.store door.old) }
+    ensures sectors { (D.store door.new).sectors ≡ (D.store door.old).sectors }
+{
+    a_request_makes_one_file_at_most();
+    let mut fds = FdTable::new();
+    let mut seq = 0u32;
+    for op in requests.into_vec() {
+        // Room for the entry comes first, so that nothing is served that isn't told.
+        told.reserve(1)?;
+        let asked = ask(&fds, client, seq, op);
+        let applied = server.apply(door, asked, Actor::Primary, first + u64::from(seq));
+        keep(&mut fds, &applied.entry, applied.desc);
+        told.push(applied.entry).unwrap();
+        seq += 1;
+    }
+    Ok(())
+}
+
+/// Serves the clients, one after another.
+fn serve_clients<D: Door>(
+    alloc: Global,
+    server: &mut DiskServer,
+    door: &mut D,
+    clients: OpLists,
+    told: &mut Vec<EntryList>,
+) -> Result<(), EndFault>
+    requires start { (start : PosixTree) × MayBegin server.old start }
+    requires counted { (D.store door.old).faults + MAX_CLIENTS * MAX_REQUESTS < 2 ^ 64 }
+    requires sound { IsSoundServer (geometry_of_store (D.store door.old)) (D.store door.old).unassigned.free server.old }
+    requires none { told.old.items ≡ [] }
+    ensures played { (start : PosixTree) → MayBegin server.old start → IsPlayedFrom start clients told.new.items result (joined told.new.items) }
+    ensures left { (start : PosixTree) → MayBegin server.old start → ArePartsOf server.new (tree_after start (joined told.new.items)) }
+    ensures on_disk { IsTrue D.tells → (start : PosixTree) → MayBegin server.old start
+        → IsOnDisk (D.store door.old) start [] server.old → IsOnDisk (D.store door.new) start (joined told.new.items) server.new }
+    ensures faults { AreFaultsTold (D.store door.old) (D.store door.new) (joined told.new.items) }
+    ensures sound { IsSoundServer (geometry_of_store (D.store door.new)) (D.store door.new).unassigned.free server.new }
+    ensures geometry { geometry_of_store (D.store door.new) ≡ geometry_of_store (D.store door.old) }
+    ensures sectors { (D.store door.new).sectors ≡ (D.store door.old).sectors }
+{
+    let mut client = 0u8;
+    let mut first = 0u64;
+    for requests in clients.into_vec() {
+        // Room for the transcript comes first.
+        if told.reserve(1).is_err() {
+            return Err(EndFault::Memory);
+        }
+        let mut mine = Vec::new(alloc);
+        let ended = serve_client(server, door, told, client, first, requests, &mut mine);
+        first += mine.len() as u64;
+        told.push(EntryList::from_vec(mine)).unwrap();
+        ended?;
+        client += 1;
+    }
+    Ok(())
+}
+
+/// Serves the clients by a server and the store that has its disk, client 0 first, so the transcripts one after another
+/// are the history. The entries are numbered as they are served. A request that is excused leaves the tree as it was,
+/// and the session goes on with the next one; it ends before its end only where no memory is left to keep an entry or
+/// a transcript. Whatever ends it, the server is the tree after what was told, and the disk keeps its promise for it.
+///
+/// The disk's count of faults is so far from its end that it rises at each fault of the session.
+pub fn serve<D: Door>(
+    alloc: Global,
+    server: &mut DiskServer,
+    door: &mut D,
+    clients: OpLists,
+) -> Session
+    requires start { (start : PosixTree) × MayBegin server.old start }
+    requires counted { (D.store door.old).faults + MAX_CLIENTS * MAX_REQUESTS < 2 ^ 64 }
+    requires sound { IsSoundServer (geometry_of_store (D.store door.old)) (D.store door.old).unassigned.free server.old }
+    ensures played { (start : PosixTree) → MayBegin server.old start → IsPlayedFrom start clients result.told result.ended (joined result.told) }
+    ensures left { (start : PosixTree) → MayBegin server.old start → ArePartsOf server.new (tree_after start (joined result.told)) }
+    ensures on_disk { IsTrue D.tells → (start : PosixTree) → MayBegin server.old start
+        → IsOnDisk (D.store door.old) start [] server.old → IsOnDisk (D.store door.new) start (joined result.told) server.new }
+    ensures once { AreTicketsOnce (joined result.told) }
+    ensures faults { AreFaultsTold (D.store door.old) (D.store door.new) (joined result.told) }
+    ensures sound { IsSoundServer (geometry_of_store (D.store door.new)) (D.store door.new).unassigned.free server.new }
+    ensures geometry { geometry_of_store (D.store door.new) ≡ geometry_of_store (D.store door.old) }
+    ensures sectors { (D.store door.new).sectors ≡ (D.store door.old).sectors }
+{
+    let mut told = Vec::new(alloc);
+    let ended = serve_clients(alloc, server, door, clients, &mut told);
+    Session {
+        told: ToldLists::from_vec(told),
+        ended,
+    }
+}
