@@ -179,9 +179,9 @@ module _ (s : StoreState) (l : Ledger) (f : DurableState) (has : HasLedger s l) 
           (subst (λ (x : Geometry × Stand). IsStandKept x.0 (settled (emptied head home r)).blocks x.1 start history now.names now.files now.numbers) (λ i. (same i, without_log (same_now (writes_of f.file) l i))) here))
 
     pub on_room : (between : Moments) (b : Bool)
-        → IsOn (settled (if b then r else checkpointed false (at_moments between s) r)).blocks (if b then r else checkpointed false (at_moments between s) r).now
+        → IsOn (settled (if b then r else checkpointed (at_moments between s) r)).blocks (if b then r else checkpointed (at_moments between s) r).now
     on_room between true = on_writes
-    on_room between false = on_home (next_head false s) (block_at (home_of r (reads between))) (ap geometry_of (sym has.headed))
+    on_room between false = on_home (next_head s) (block_at (home_of r (reads between))) (ap geometry_of (sym has.headed))
 
 pub commits_show_all : CommitsShowAll
 commits_show_all s between records l f start history now maybe it by_history kept =
@@ -201,17 +201,17 @@ module _ (keeps : KeepsTrees) (s : StoreState) (between : Moments) (records : Li
   home = block_at (home_of (with_writes (writes_of f.file) l) (reads between))
 
   abbrev in_room : Bool → Ledger
-  in_room b = if b then with_writes (writes_of f.file) l else checkpointed false (at_moments between s) (with_writes (writes_of f.file) l)
+  in_room b = if b then with_writes (writes_of f.file) l else checkpointed (at_moments between s) (with_writes (writes_of f.file) l)
 
   written_kept : IsLedgerKept written_all start history now now
   written_kept = kept_behind s l f it.has it.noted it.stands it.own start history now now by_history kept (writes_of f.file) [] (sym (append-nil (writes_of f.file)))
 
-  same_geometry : geometry_of (next_head false s) ≡ geometry_of written_all.head
+  same_geometry : geometry_of (next_head s) ≡ geometry_of written_all.head
   same_geometry = ap geometry_of (sym it.has.headed ∙ sym (same_head (writes_of f.file) l))
 
   room_kept : (b : Bool) → IsLedgerKept (in_room b) start history now now
   room_kept true = written_kept
-  room_kept false = emptied_is_kept written_all (next_head false s) home start history now now same_geometry written_kept
+  room_kept false = emptied_is_kept written_all (next_head s) home start history now now same_geometry written_kept
 
   room_head : (b : Bool) → geometry_of l.head ≡ geometry_of (in_room b).head
   room_head true = ap geometry_of (sym (same_head (writes_of f.file) l))
@@ -228,9 +228,9 @@ module _ (keeps : KeepsTrees) (s : StoreState) (between : Moments) (records : Li
       (on_room s l f it.has it.noted it.stands it.own it.fits records it.delta start history now by_history now kept between b))
 
   pub each_stage : (b : Bool) → AllByRecursion (λ (m : Ledger). (maybe : Counts) × IsLedgerKept m start history now maybe)
-      (if b then commit_stages (next_commit s records) written_all else written_all ∷ beginning_next false (at_moments between s) written_all ∷ commit_stages (next_commit s records) (checkpointed false (at_moments between s) written_all))
+      (if b then commit_stages (next_commit s records) written_all else written_all ∷ beginning_next (at_moments between s) written_all ∷ commit_stages (next_commit s records) (checkpointed (at_moments between s) written_all))
   each_stage true = ((now, written_kept), ((next, (goes_on true).0), tt))
-  each_stage false = ((now, written_kept), ((now, beginning_kept written_all (next_head false s) home start history now now same_geometry written_kept), ((now, room_kept false), ((next, (goes_on false).0), tt))))
+  each_stage false = ((now, written_kept), ((now, beginning_kept written_all (next_head s) home start history now now same_geometry written_kept), ((now, room_kept false), ((next, (goes_on false).0), tt))))
 
   pub done : (b : Bool) → IsLedgerKept (committed_one (next_commit s records) (in_room b)) start history next next
   done b = (goes_on b).1

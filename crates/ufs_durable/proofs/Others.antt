@@ -72,7 +72,7 @@ pub behind_home : (l : Ledger) (h : DurableState) (head : Super) (home : ℕ →
 behind_home l h head home same stands = stands_still l (emptied head home l) h same refl refl (λ block free. refl) (λ place block bytes at free only. home_has l home block bytes free only) stands
 
 pub behind_checkpoint : StandsBehindCheckpoint
-behind_checkpoint s clean l h has stands = behind_home l h (next_head clean s) (block_at (home_of l (reads s.moments))) (ap geometry_of (sym has.headed)) stands
+behind_checkpoint s l h has stands = behind_home l h (next_head s) (block_at (home_of l (reads s.moments))) (ap geometry_of (sym has.headed)) stands
 
 -- ---- another file's writes
 
@@ -149,7 +149,7 @@ module _ (s : StoreState) (between : Moments) (records : List LogRecord) (l : Le
   r = with_writes (writes_of f.file) l
 
   abbrev room : Bool → Ledger
-  room b = if b then r else checkpointed false (at_moments between s) r
+  room b = if b then r else checkpointed (at_moments between s) r
 
   headed : geometry_of s.head ≡ geometry_of r.head
   headed = ap geometry_of (sym has.headed ∙ sym (same_head (writes_of f.file) l))
@@ -167,7 +167,7 @@ module _ (s : StoreState) (between : Moments) (records : List LogRecord) (l : Le
 
   in_room : (b : Bool) (h : DurableState) → IsOther f h → StandsFor l h → StandsFor (room b) h
   in_room true h other stands = written_all h other stands
-  in_room false h other stands = behind_home r h (next_head false s) (block_at (home_of r (reads between))) headed (written_all h other stands)
+  in_room false h other stands = behind_home r h (next_head s) (block_at (home_of r (reads between))) headed (written_all h other stands)
 
   pub behind_commit : (h : DurableState) → IsOther f h → StandsFor l h → StandsFor (once_committed s between records f l) h
   behind_commit h other stands = behind_one f noted (next_commit s records) delta (room (has_room s records)) h other (in_room (has_room s records) h other stands)

@@ -15,7 +15,7 @@ use Rattle.ufs_durable.proofs.Behind.{same_now}
 pub first_stage : (P : Ledger → Type 0) (s : StoreState) (records : List LogRecord) (l : Ledger) → P l → AnyOf P (stages s records l)
 first_stage P s records l here = by (has_room s records)
   where
-    by : (b : Bool) → AnyOf P (if b then commit_stages (next_commit s records) l else l ∷ beginning_next false s l ∷ commit_stages (next_commit s records) (checkpointed false s l))
+    by : (b : Bool) → AnyOf P (if b then commit_stages (next_commit s records) l else l ∷ beginning_next s l ∷ commit_stages (next_commit s records) (checkpointed s l))
     by true = inl here
     by false = inl here
 
@@ -58,6 +58,6 @@ module _ (s mid : StoreState) (same : mid ≡ record s { moments = mid.moments; 
   pub device_whole : (new : StoreState) (records : List LogRecord) (l : Ledger) → HasAny new (stages mid records l) → (between : Moments) × HasAny new (stages (at_moments between s) records l)
   device_whole new records l has = (mid.moments, subst (λ (t : StoreState). HasAny new (stages t records l)) same has)
 
-  pub memory_whole : (new : StoreState) (l : Ledger) → HasLedger new l ⊎ HasLedger new (checkpointed false mid l) → HasLedger new l ⊎ ((between : Moments) × HasLedger new (checkpointed false (at_moments between s) l))
+  pub memory_whole : (new : StoreState) (l : Ledger) → HasLedger new l ⊎ HasLedger new (checkpointed mid l) → HasLedger new l ⊎ ((between : Moments) × HasLedger new (checkpointed (at_moments between s) l))
   memory_whole new l (inl has) = inl has
-  memory_whole new l (inr has) = inr (mid.moments, subst (λ (t : StoreState). HasLedger new (checkpointed false t l)) same has)
+  memory_whole new l (inr has) = inr (mid.moments, subst (λ (t : StoreState). HasLedger new (checkpointed t l)) same has)

@@ -197,17 +197,17 @@ module _ (l : Ledger) (f : DurableState) (noted : IsNoted f) (stands : StandsFor
 pub stands_committed : StandsCommitted
 stands_committed s records l f noted stands delta newer = by (has_room s records)
   where
-    by : (b : Bool) → geometry_of (if b then with_writes (writes_of f.file) l else checkpointed false s (with_writes (writes_of f.file) l)).head ≡ geometry_of l.head
-        → StandsFor (committed_one (next_commit s records) (if b then with_writes (writes_of f.file) l else checkpointed false s (with_writes (writes_of f.file) l))) (file_committed f)
+    by : (b : Bool) → geometry_of (if b then with_writes (writes_of f.file) l else checkpointed s (with_writes (writes_of f.file) l)).head ≡ geometry_of l.head
+        → StandsFor (committed_one (next_commit s records) (if b then with_writes (writes_of f.file) l else checkpointed s (with_writes (writes_of f.file) l))) (file_committed f)
     by true head =
         let now = same_now (writes_of f.file) l in
         committed_on l f noted stands (next_commit s records) delta newer (with_writes (writes_of f.file) l) head (ap (λ (x : Stand). x.catalog) now) (ap (λ (x : Stand). x.dirs) now)
         (λ block free. subst (λ (x : Stand). is_held x.log block ≡ false) (sym now) free) (all_settled l f noted stands)
     by false head =
         let now = same_now (writes_of f.file) l in
-        committed_on l f noted stands (next_commit s records) delta newer (checkpointed false s (with_writes (writes_of f.file) l)) head (ap (λ (x : Stand). x.catalog) now) (ap (λ (x : Stand). x.dirs) now)
+        committed_on l f noted stands (next_commit s records) delta newer (checkpointed s (with_writes (writes_of f.file) l)) head (ap (λ (x : Stand). x.catalog) now) (ap (λ (x : Stand). x.dirs) now)
         (λ block free. refl)
-        (all_home l f noted stands (next_head false s) (block_at (home_of (with_writes (writes_of f.file) l) (reads s.moments))))
+        (all_home l f noted stands (next_head s) (block_at (home_of (with_writes (writes_of f.file) l) (reads s.moments))))
 
 pub stands_written : StandsWhileWritten
 stands_written l f noted stands = while_written l f noted stands

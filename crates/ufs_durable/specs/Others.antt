@@ -1,5 +1,5 @@
 -- Files that stand on a ledger beside one that is written and committed.
-use Rattle.std.specs.Prelude.{ℕ, ◌≡◌, ◌≢◌, ◌++◌, Bool, List, Some}
+use Rattle.std.specs.Prelude.{ℕ, ◌≡◌, ◌≢◌, ◌++◌, List, Some}
 use Rattle.std.specs.List.{slice_get}
 use Rattle.ufs_disk.specs.Moments.{Moments}
 use Rattle.ufs_extent.specs.Runs.{blocks_of}
@@ -27,7 +27,7 @@ StandsBehindBarrier = (l : Ledger) (h : DurableState) → StandsFor l h → Stan
 
 -- behind a checkpoint,
 abbrev pub StandsBehindCheckpoint : Type 0
-StandsBehindCheckpoint = (s : StoreState) (clean : Bool) (l : Ledger) (h : DurableState) → HasLedger s l → StandsFor l h → StandsFor (checkpointed clean s l) h
+StandsBehindCheckpoint = (s : StoreState) (l : Ledger) (h : DurableState) → HasLedger s l → StandsFor l h → StandsFor (checkpointed s l) h
 
 -- behind each of another file's writes, in turn,
 abbrev pub StandsBehindWrites : Type 0

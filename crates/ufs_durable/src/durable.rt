@@ -100,7 +100,7 @@ pub fn fsync<D: Door>(
         → (fault : ℕ) → result ≡ Err (refusal.Device fault) → (l : Ledger) → HasLedger (D.store door.old) l → MayWriteAll l (writes_of hand.old) → MayCommitNext (D.store door.old) records l
         → HasTriedOne (D.store door.new) (writes_of hand.old) l ⊎ ((between : Moments) × HasAny (D.store door.new) (stages (at_moments between (D.store door.old)) records (with_writes (writes_of hand.old) l))) }
     ensures memory { IsTrue D.tells → result ≡ Err refusal.Memory → (l : Ledger) → HasLedger (D.store door.old) l → MayWriteAll l (writes_of hand.old)
-        → HasLedger (D.store door.new) (with_writes (writes_of hand.old) l) ⊎ ((between : Moments) × HasLedger (D.store door.new) (checkpointed false (at_moments between (D.store door.old)) (with_writes (writes_of hand.old) l))) }
+        → HasLedger (D.store door.new) (with_writes (writes_of hand.old) l) ⊎ ((between : Moments) × HasLedger (D.store door.new) (checkpointed (at_moments between (D.store door.old)) (with_writes (writes_of hand.old) l))) }
 
     // With nothing to commit but bytes.
     ensures empty_crash { IsTrue D.tells → commits.old.log.noted ≡ commits.old.log.committed → (l : Ledger) → HasLedger (D.store door.old) l → MayWriteAll l (writes_of hand.old)

@@ -1,7 +1,7 @@
 -- Images that agree where it matters are left alike.
 use Rattle.std.proofs.Common.{◌≡◌, ℕ, ◌≤◌, ◌⊎◌, inl, inr, [], ◌∷◌, ◌++◌, Bool, true, false, None, length, unwrap_or, ap, sym, refl, ◌∙◌, subst, arith}
 use Rattle.std.specs.Prelude.{nat_le, Ok, IsTrue}
-use Rattle.std.proofs.lemmas.Bool.{and_parts}
+use Rattle.std.proofs.lemmas.Bool.{and_parts, false≢true}
 use Rattle.std.proofs.lemmas.Bool.Decides.{nat_tests}
 use Rattle.ufs_disk.specs.Disk.{Cell, possible}
 use Rattle.ufs_layout.specs.Areas.{first_of_data, sector_of_inode, is_inode_number}
@@ -9,14 +9,16 @@ use Rattle.ufs_layout.specs.Superblock.{geometry_of}
 use Rattle.ufs_layout.specs.InodeForm.{inode_of, free_inode}
 use Rattle.ufs_base.specs.Images.{Image}
 use Rattle.ufs_image.specs.Images.{block_at}
-use Rattle.ufs_image.specs.Journal.{committed}
+use Rattle.ufs_image.specs.Journal.{committed, epoch_in}
 use Rattle.ufs_image.specs.BadSectors.{bad_sector}
 use Rattle.ufs_image.specs.Fold.{folded, with_committed}
+use Rattle.ufs_image.specs.Proper.{IsProperClean}
 use Rattle.ufs_image.specs.Volume.{Volume, volume, volume_of, head_of, head_refusal}
 use Rattle.ufs_layout.specs.declared.geometry.Geometry.{Geometry}
 use Rattle.ufs_layout.specs.declared.superblock.Super.{Super}
 use Rattle.ufs_layout.specs.declared.records.Committed.{Committed}
-use Rattle.ufs_journal.specs.Found.{IsOffJournal}
+use Rattle.ufs_journal.specs.Found.{IsOffJournal, journal_sector}
+use Rattle.ufs_journal.specs.Kept.{HasNoLater}
 use Rattle.ufs_journal.specs.Written.{IsOfEpoch, DiffersInEpoch, SaysTheSame, CommitsOne}
 use Rattle.ufs_image.specs.Catalog.{Catalog, IsInode}
 use Rattle.ufs_image.specs.Agree.{AgreeOn, IsOfBlock}
@@ -29,6 +31,10 @@ use Rattle.ufs_ledger.specs.Ledger.{IsDataBlock, IsMixOf, is_held, Stand, IsLeft
 use Rattle.ufs_ledger.specs.Changes.{MayCommit}
 use Rattle.ufs_ledger.proofs.Held.{held_before}
 use Rattle.ufs_ledger.proofs.Opened.{same_image}
+
+-- An image in use need not be as a clean one.
+pub not_clean : (head : Super) → head.clean ≡ false → (P : Type 0) → IsTrue head.clean → P
+not_clean head used P clean = absurd (false≢true (sym used ∙ clean))
 
 -- ---- areas
 
@@ -103,21 +109,32 @@ module _ (sectors : ℕ) (head : Super) (blocks : ℕ → Cell) (s : Stand) (bef
     same_contents block data' free =
         subst (IsMixOf (possible (blocks block))) (block_same before image block (λ s of. agree_off s (block_off (geometry_of head) block s data'.from of))) (left.contents block data' free)
 
-  pub says_same : (image : Image) → SaysTheSame (geometry_of head) head.epoch before image → IsLeft sectors head blocks s image
-  says_same image says = record {
+  -- The journal has no later epoch still.
+  latest_on : (image : Image) → DiffersInEpoch (geometry_of head) head.epoch before image → HasNoLater (geometry_of head) head.epoch image
+  latest_on image differs place under = by (differs (journal_sector (geometry_of head) place))
+    where
+      by : (image (journal_sector (geometry_of head) place) ≡ before (journal_sector (geometry_of head) place)) ⊎ IsOfEpoch (geometry_of head) head.epoch (journal_sector (geometry_of head) place) image
+          → epoch_in (image (journal_sector (geometry_of head) place)) ≤ head.epoch
+      by (inl same) = subst (λ b. epoch_in b ≤ head.epoch) (sym same) (left.latest place under)
+      by (inr of) = let is = of.epoch_is in omega (arith, is)
+
+  pub says_same : (image : Image) → head.clean ≡ false → SaysTheSame (geometry_of head) head.epoch before image → IsLeft sectors head blocks s image
+  says_same image used says = record {
     as_volume = volume_of head image;
     taken = taken_again image (agree_off image says.differs 0 (zero_off (geometry_of head))) (says.bad head refl ∙ no_bad);
     headed = refl;
     logged = says.same ∙ left.logged;
+    latest = latest_on image says.differs;
     spells = subst (λ log. Spells (geometry_of head) true s.dirs (folded (geometry_of head) log image) s.catalog) (sym (says.same ∙ left.logged)) (folds_spelled image says.differs);
     covers = left.covers;
     sound = left.sound;
     contents = same_contents image says.differs;
+    if_clean = not_clean head used (IsProperClean (volume_of head image) image);
   }
 
-  pub commits_one : FoldsCatalogs (geometry_of head) → FoldsOneMore (geometry_of head) → (t : Committed) (image : Image) → head.next ≤ t.number → MayCommit (geometry_of head) t s → CommitsOne (geometry_of head) head.epoch t before image
+  pub commits_one : FoldsCatalogs (geometry_of head) → FoldsOneMore (geometry_of head) → (t : Committed) (image : Image) → head.clean ≡ false → head.next ≤ t.number → MayCommit (geometry_of head) t s → CommitsOne (geometry_of head) head.epoch t before image
       → IsLeft sectors head blocks (with_one (geometry_of head) t s) image
-  commits_one folds one_more t image later may says =
+  commits_one folds one_more t image used later may says =
       let g : Geometry = geometry_of head in
       let log : committed g head.epoch image ≡ s.log ++ t ∷ [] = says.more ∙ ap (λ log. log ++ t ∷ []) left.logged in
       let after : Spells g true s.dirs (with_committed g t (folded g s.log image)) (with_committed_in g t s.catalog) = folds true s.dirs (folded g s.log image) s.catalog (t ∷ []) (folds_spelled image says.differs) (may.fits, tt) in
@@ -126,8 +143,10 @@ module _ (sectors : ℕ) (head : Super) (blocks : ℕ → Cell) (s : Stand) (bef
         taken = taken_again image (agree_off image says.differs 0 (zero_off g)) (says.bad head refl later ∙ no_bad);
         headed = refl;
         logged = log;
+        latest = latest_on image says.differs;
         spells = subst (λ i. Spells g true s.dirs i (with_committed_in g t s.catalog)) (sym (ap (λ log. folded g log image) log ∙ one_more s.log t image)) after;
         covers = may.covers;
         sound = may.sound;
         contents = λ block data' free. same_contents image says.differs block data' (held_before s.log t block free);
+        if_clean = not_clean head used (IsProperClean (volume_of head image) image);
       }

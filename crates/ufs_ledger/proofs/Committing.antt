@@ -63,20 +63,20 @@ maybe_ledger sectors state l t none is = record { images = λ image left. maybe_
 pub unsettled : (sectors : ℕ) (state : State) (l : Ledger) → IsLedgerOf sectors state (settled l) → IsLedgerOf sectors state l
 unsettled sectors state l is = record { images = λ image left. fewer_cells sectors l image (is.images image left); reads = is.reads }
 
-pub appended_ledger : (sectors : ℕ) (old new : State) (l : Ledger) → l.maybe ≡ None → IsSettled old → IsLedgerOf sectors old l → Leaves (IsAppended (geometry_of l.head) l.head.epoch old) new → IsLedgerOf sectors new l
-appended_ledger sectors old new l none still is run = record {
-  images = λ image left. appends sectors old l image none is (run image left);
+pub appended_ledger : (sectors : ℕ) (old new : State) (l : Ledger) → l.maybe ≡ None → l.head.clean ≡ false → IsSettled old → IsLedgerOf sectors old l → Leaves (IsAppended (geometry_of l.head) l.head.epoch old) new → IsLedgerOf sectors new l
+appended_ledger sectors old new l none used still is run = record {
+  images = λ image left. appends sectors old l image none used is (run image left);
   reads = λ block data' free. at block data' free (run (seen new) (seen_is_image new));
 }
   where
     at : (block : ℕ) → IsDataBlock (geometry_of l.head) block → is_held l.now.log block ≡ false → IsAppended (geometry_of l.head) l.head.epoch old (seen new) → block_at (seen new) block ≡ (l.blocks block).seen
     at block data' free one = same_data (geometry_of l.head) l.head.epoch one.before (seen new) one.says.differs block data' ∙ ap (λ i. block_at i block) (still one.before one.left) ∙ is.reads block data' free
 
-module _ (sectors : ℕ) (l : Ledger) (t : Committed) (folds : FoldsCatalogs (geometry_of l.head)) (one_more : FoldsOneMore (geometry_of l.head)) (none : l.maybe ≡ None) (later : l.head.next ≤ t.number) (may : MayCommit (geometry_of l.head) t l.now) where
+module _ (sectors : ℕ) (l : Ledger) (t : Committed) (folds : FoldsCatalogs (geometry_of l.head)) (one_more : FoldsOneMore (geometry_of l.head)) (none : l.maybe ≡ None) (used : l.head.clean ≡ false) (later : l.head.next ≤ t.number) (may : MayCommit (geometry_of l.head) t l.now) where
   -- a commit that failed
   pub tried_ledger : (first old new : State) → IsSettled first → IsLedgerOf sectors first l → Leaves (IsAppended (geometry_of l.head) l.head.epoch first) old → Leaves (IsMaybeCommitted (geometry_of l.head) l.head.epoch t old) new → IsLedgerOf sectors new (committing t l)
   tried_ledger first old new still is appended run = record {
-    images = λ image left. commits_or_not sectors old l t image folds one_more none (appended_ledger sectors first old l none still is appended) later may (run image left);
+    images = λ image left. commits_or_not sectors old l t image folds one_more none used (appended_ledger sectors first old l none used still is appended) later may (run image left);
     reads = λ block data' free. at block data' free (run (seen new) (seen_is_image new));
   }
     where
@@ -130,11 +130,11 @@ module _ (sectors : ℕ) (keeps : Bool) (j : Journal) (l : Ledger) (txn : ℕ) (
     settled1 = barrier_settles sectors m0.state m1.state l by.none by.is run1.after same still
 
     pub settled2 : IsLedgerOf sectors m2.state (settled l)
-    settled2 = appended_ledger sectors m1.state m2.state (settled l) by.none still settled1 run2'.after
+    settled2 = appended_ledger sectors m1.state m2.state (settled l) by.none by.in_use still settled1 run2'.after
 
     pub crash2 : LeavesOnly keeps AtEach m0 m2
     crash2 = joined keeps AtEach m0 m1 m2 crash1
-        (weaker keeps (IsAppended (geometry_of l.head) l.head.epoch m1.state) AtEach (λ image appended. inr (maybe_by sectors (settled l) one image by.none (appends sectors m1.state (settled l) image by.none settled1 appended))) m1 m2 run2')
+        (weaker keeps (IsAppended (geometry_of l.head) l.head.epoch m1.state) AtEach (λ image appended. inr (maybe_by sectors (settled l) one image by.none (appends sectors m1.state (settled l) image by.none by.in_use settled1 appended))) m1 m2 run2')
 
     pub err2 : IsLedgerOf sectors m2.state (committing one (settled l))
     err2 = maybe_ledger sectors m2.state (settled l) one by.none settled2
@@ -153,13 +153,13 @@ module _ (sectors : ℕ) (keeps : Bool) (j : Journal) (l : Ledger) (txn : ℕ) (
       pub crash3 : LeavesOnly keeps AtEach m0 m3
       crash3 = joined keeps AtEach m0 m2 m3 crash2
           (weaker keeps (IsMaybeCommitted (geometry_of l.head) l.head.epoch one m2.state) AtEach
-          (λ image maybe. inr (commits_or_not sectors m2.state (settled l) one image folds' one_more' by.none settled2 by.later may' maybe)) m2 m3 run3')
+          (λ image maybe. inr (commits_or_not sectors m2.state (settled l) one image folds' one_more' by.none by.in_use settled2 by.later may' maybe)) m2 m3 run3')
 
       pub err3 : IsLedgerOf sectors m3.state (committing one (settled l))
-      err3 = tried_ledger sectors (settled l) one folds' one_more' by.none by.later may' m1.state m2.state m3.state still settled1 run2'.after run3'.after
+      err3 = tried_ledger sectors (settled l) one folds' one_more' by.none by.in_use by.later may' m1.state m2.state m3.state still settled1 run2'.after run3'.after
 
       pub ok3 : IsSettled m3.state → CommitsOne k.geometry k.epoch (record { number = k.number; records = records }) (reads m2) (reads m3) → IsLedgerOf sectors m3.state (committed_one one l)
-      ok3 end commits = commits_for_good sectors m2.state m3.state (settled l) one folds' one_more' by.none settled2 by.later may' end
+      ok3 end commits = commits_for_good sectors m2.state m3.state (settled l) one folds' one_more' by.none by.in_use settled2 by.later may' end
           (subst (λ (x : Geometry × ℕ × ℕ). CommitsOne x.0 x.1 (record { number = x.2; records = records }) (reads m2) (reads m3)) (λ i. ((geometry ∙ sym by.geometry) i, (epoch ∙ sym by.epoch) i, number i)) commits)
 
 -- what each clause at Ok gives

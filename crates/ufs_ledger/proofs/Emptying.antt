@@ -32,7 +32,7 @@ abbrev seen_in : Cell → List ℕ
 seen_in c = c.seen
 
 module _ (sectors : ℕ) (keeps : Bool) (j : Journal) (l : Ledger) (new : Super) (bytes : List ℕ) (m0 m1 : Moments) (by : IsLedgerBy j sectors m0.state l) (whole : Leaves (IsImageOf sectors) m0.state)
-    (spelled : super_of 1 bytes ≡ Some new) (kept : geometry_of new ≡ geometry_of l.head) (later : j.epoch < new.epoch)
+    (spelled : super_of 1 bytes ≡ Some new) (kept : geometry_of new ≡ geometry_of l.head) (later : j.epoch < new.epoch) (used : new.clean ≡ false)
     (run1 : LeavesOnly keeps (IsImage m0.state) m0 m1) (same : reads m1 ≡ reads m0) where
   -- everything at home
   abbrev home : Image
@@ -45,10 +45,10 @@ module _ (sectors : ℕ) (keeps : Bool) (j : Journal) (l : Ledger) (new : Super)
   whole0 = whole (reads m0) (seen_is_image m0.state)
 
   left_home : IsLeft sectors l.head l.blocks l.now home
-  left_home = left_homing sectors l.head l.blocks l.now (reads m0) home seen0 whole0 (λ sector. inr refl)
+  left_home = left_homing sectors l.head l.blocks l.now (reads m0) home seen0 whole0 by.in_use (λ sector. inr refl)
 
   at_home : folded (geometry_of l.head) l.now.log home ≡ home
-  at_home = same_fold sectors l.head l.blocks l.now (reads m0) home seen0 whole0 (λ sector. inr refl)
+  at_home = same_fold sectors l.head l.blocks l.now (reads m0) home seen0 whole0 by.in_use (λ sector. inr refl)
 
   home_reads : (block : ℕ) → IsDataBlock (geometry_of l.head) block → is_held l.now.log block ≡ false → block_at home block ≡ (l.blocks block).seen
   home_reads block data' free = unheld_block (geometry_of l.head) block data'.from l.now.log (reads m0) free ∙ by.is.reads block data' free
@@ -65,7 +65,7 @@ module _ (sectors : ℕ) (keeps : Bool) (j : Journal) (l : Ledger) (new : Super)
 
   module _ (sized : IsImageOf sectors home) where
     begun : IsLeftBy sectors (beginning new (block_at home) l) home × IsLeftBy sectors (beginning new (block_at home) l) (put 0 bytes home) × IsLeftBy sectors (emptied new (block_at home) l) (put 0 bytes home)
-    begun = begins sectors l home new bytes sized left_home at_home home_reads free_home spelled kept
+    begun = begins sectors l home new bytes sized left_home at_home home_reads (let same = by.epoch in omega (arith, same, later)) free_home used spelled kept
 
   -- what a crash may leave at each moment
   abbrev AtEach : Image → Type 0
@@ -79,7 +79,7 @@ module _ (sectors : ℕ) (keeps : Bool) (j : Journal) (l : Ledger) (new : Super)
 
   module _ (still1 : IsSettled m1.state) (whole1 : Leaves (IsImageOf sectors) m1.state) (m2 : Moments) (run2 : LeavesOnly keeps (IsHomeWritten (geometry_of l.head) l.now.log m1.state) m1 m2) where
     pub crash2 : LeavesOnly keeps AtEach m0 m2
-    crash2 = joined keeps AtEach m0 m1 m2 crash1 (weaker keeps (IsHomeWritten (geometry_of l.head) l.now.log m1.state) AtEach (λ image part. inl (homes sectors m1.state l image whole1 by.none ledger1 part)) m1 m2 run2)
+    crash2 = joined keeps AtEach m0 m1 m2 crash1 (weaker keeps (IsHomeWritten (geometry_of l.head) l.now.log m1.state) AtEach (λ image part. inl (homes sectors m1.state l image whole1 by.none by.in_use ledger1 part)) m1 m2 run2)
 
     unheld_stays : (image : Image) → IsHomeWritten (geometry_of l.head) l.now.log m1.state image → (block : ℕ) → IsDataBlock (geometry_of l.head) block → is_held l.now.log block ≡ false → block_at image block ≡ block_at (reads m1) block
     unheld_stays image part block data' free = block_same image (reads m1) block (λ s of. at s of (part.mixed s))
@@ -93,7 +93,7 @@ module _ (sectors : ℕ) (keeps : Bool) (j : Journal) (l : Ledger) (new : Super)
 
     pub ledger2 : IsLedgerOf sectors m2.state l
     ledger2 = record {
-      images = λ image left. homes sectors m1.state l image whole1 by.none ledger1 (run2.after image left);
+      images = λ image left. homes sectors m1.state l image whole1 by.none by.in_use ledger1 (run2.after image left);
       reads = λ block data' free. unheld_stays (reads m2) (run2.after (reads m2) (seen_is_image m2.state)) block data' free ∙ ledger1.reads block data' free;
     }
 

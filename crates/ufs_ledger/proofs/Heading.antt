@@ -1,4 +1,4 @@
--- Another superblock is written, where everything is home: the disk is marked in use or clean, or the next epoch begins.
+-- Another superblock is written, where everything is home: the disk is marked in use, or the next epoch begins.
 use Rattle.std.proofs.Common.{◌≡◌, ℕ, ◌+◌, ◌*◌, ◌-◌, ◌<◌, ◌≤◌, inl, List, [], ◌∷◌, true, false, Some, None, is_none, take, map, ap, sym, refl, ◌∙◌, subst, arith}
 use Rattle.std.specs.Prelude.{◌==◌, ◌&&◌, ◌||◌, not, nat_le, nat_lt, Ok, option_map, if◌then◌else◌}
 use Rattle.std.specs.List.{find}
@@ -15,12 +15,14 @@ use Rattle.ufs_image.specs.Journal.{committed, sectors_of_epoch, transactions, w
 use Rattle.ufs_layout.specs.JournalSector.{journal_of}
 use Rattle.ufs_image.specs.BadSectors.{bad_sector, first_bad}
 use Rattle.ufs_image.specs.Fold.{folded}
+use Rattle.ufs_image.specs.Proper.{IsProperClean}
 use Rattle.ufs_image.specs.Volume.{NoSuperblock, BadVersion, BadGeometry}
 use Rattle.ufs_image.specs.Volume.{Volume, volume, volume_of, head_of, head_refusal, lacks_magic, has_other_version, is_off_form, bad_geometry, is_too_small}
 use Rattle.ufs_layout.specs.declared.geometry.Geometry.{Geometry}
 use Rattle.ufs_layout.specs.declared.superblock.Super.{Super}
 use Rattle.ufs_layout.proofs.Spelled.{spelled-some, some_if-some}
 use Rattle.ufs_journal.specs.Found.{journal_sector, IsFreeFrom}
+use Rattle.ufs_journal.specs.Kept.{HasNoLater}
 use Rattle.ufs_image.specs.Agree.{AgreeOn}
 use Rattle.ufs_image.specs.Sound.{IsSoundCatalog}
 use Rattle.ufs_image.specs.Folding.{Spells}
@@ -30,7 +32,7 @@ use Rattle.ufs_image.proofs.Opening.{second_none, not_refused, has_geometry}
 use Rattle.ufs_image.proofs.Blocks.{block_same, block_length}
 use Rattle.ufs_ledger.specs.Ledger.{IsDataBlock, IsMixOf, is_held, Stand, IsLeft, CoversDirs}
 use Rattle.ufs_ledger.proofs.Opened.{same_geometry}
-use Rattle.ufs_ledger.proofs.Alike.{spells_agree, spelled_folds}
+use Rattle.ufs_ledger.proofs.Alike.{not_clean, spells_agree, spelled_folds}
 
 find_nothing : (xs : List ℕ) → find (λ sector. false) xs ≡ None
 find_nothing [] = refl
@@ -58,7 +60,7 @@ module _ (g : Geometry) (epoch : ℕ) (image : Image) (free : IsFreeFrom g epoch
 -- ---- the superblock
 
 module _ (sectors : ℕ) (head new : Super) (blocks : ℕ → Cell) (s : Stand) (home : Image) (bytes : List ℕ) (left : IsLeft sectors head blocks s home) (spelled : super_of 1 bytes ≡ Some new) (kept : geometry_of new ≡ geometry_of head)
-    (whole : IsImageOf sectors home) (at_home : folded (geometry_of head) s.log home ≡ home) (free : IsFreeFrom (geometry_of head) new.epoch 0 home) where
+    (whole : IsImageOf sectors home) (at_home : folded (geometry_of head) s.log home ≡ home) (later : head.epoch ≤ new.epoch) (free : IsFreeFrom (geometry_of head) new.epoch 0 home) (used : new.clean ≡ false) where
   abbrev pub after : Image
   after = put 0 bytes home
 
@@ -116,6 +118,10 @@ module _ (sectors : ℕ) (head new : Super) (blocks : ℕ → Cell) (s : Stand) 
   free_after : IsFreeFrom (geometry_of new) new.epoch 0 after
   free_after = subst (λ g. IsFreeFrom g new.epoch 0 after) (sym kept) free_there
 
+  latest_after : HasNoLater (geometry_of new) new.epoch after
+  latest_after = subst (λ g. HasNoLater g new.epoch after) (sym kept)
+      (λ place under. let same = behind (journal_sector (geometry_of head) place) (omega arith) in let most = left.latest place under in subst (λ b. epoch_in b ≤ new.epoch) same (omega (arith, most, later)))
+
   taken_after : volume sectors after ≡ Ok (volume_of new after)
   taken_after =
       is_taken sectors after not_refused' (ap (λ (h : Super). bad_sector (geometry_of h) h after) fields ∙ none_bad (geometry_of new) new.epoch after free_after new refl)
@@ -127,6 +133,7 @@ module _ (sectors : ℕ) (head new : Super) (blocks : ℕ → Cell) (s : Stand) 
     taken = taken_after;
     headed = refl;
     logged = none_committed (geometry_of new) new.epoch after free_after;
+    latest = latest_after;
     spells = subst (λ g. Spells g true s.dirs (folded g (committed g new.epoch after) after) s.catalog) (sym kept)
         (subst (λ log. Spells (geometry_of head) true s.dirs (folded (geometry_of head) log after) s.catalog) (sym (none_committed (geometry_of head) new.epoch after free_there))
         (spells_agree (geometry_of head) Behind (λ inode ranged. omega arith) s.dirs home after s.catalog behind (λ block sector its from of. let at = of.same in omega (arith, from, at))
@@ -134,6 +141,7 @@ module _ (sectors : ℕ) (head new : Super) (blocks : ℕ → Cell) (s : Stand) 
     covers = subst (λ g. CoversDirs g s) (sym kept) left.covers;
     sound = subst (λ g. IsSoundCatalog g s.catalog) (sym kept) left.sound;
     contents = contents;
+    if_clean = not_clean new used (IsProperClean (volume_of new after) after);
   }
     where
       contents : (block : ℕ) → IsDataBlock (geometry_of new) block → is_held [] block ≡ false → IsMixOf (block_at home block ∷ []) (block_at after block)

@@ -9,8 +9,9 @@ use Rattle.ufs_layout.specs.Areas.{IsGeometry, sector_count, first_of_data, firs
 use Rattle.ufs_layout.specs.Superblock.{geometry_of}
 use Rattle.ufs_base.specs.Images.{Image}
 use Rattle.ufs_image.specs.Images.{IsImageOf}
-use Rattle.ufs_image.specs.Journal.{committed, sectors_of_epoch, transactions, well_spelled, committed_of}
+use Rattle.ufs_image.specs.Journal.{committed, epoch_in, sectors_of_epoch, transactions, well_spelled, committed_of}
 use Rattle.ufs_image.specs.Fold.{folded}
+use Rattle.ufs_image.specs.Proper.{IsProperClean}
 use Rattle.ufs_image.specs.Volume.{volume_of}
 use Rattle.ufs_layout.specs.declared.geometry.Geometry.{Geometry}
 use Rattle.ufs_layout.specs.declared.superblock.Super.{Super}
@@ -28,7 +29,7 @@ use Rattle.ufs_image.proofs.Blocks.{block_same}
 use Rattle.ufs_ledger.specs.Ledger.{IsMixOf, Stand, IsLeft}
 use Rattle.ufs_ledger.proofs.Held.{unheld_sector}
 use Rattle.ufs_ledger.proofs.Opened.{same_geometry}
-use Rattle.ufs_ledger.proofs.Alike.{taken_again, spelled_folds, no_bad}
+use Rattle.ufs_ledger.proofs.Alike.{not_clean, taken_again, spelled_folds, no_bad}
 use Rattle.ufs_ledger.proofs.Overkept.{no_bad_mixed}
 
 -- ---- where nothing is folded
@@ -71,7 +72,7 @@ bitmap_there g log image sector under =
 
 -- ---- a mix
 
-module _ (sectors : ℕ) (head : Super) (blocks : ℕ → Cell) (s : Stand) (before mix : Image) (left : IsLeft sectors head blocks s before) (bytes : IsImageOf sectors before)
+module _ (sectors : ℕ) (head : Super) (blocks : ℕ → Cell) (s : Stand) (before mix : Image) (left : IsLeft sectors head blocks s before) (bytes : IsImageOf sectors before) (used : head.clean ≡ false)
     (each : (sector : ℕ) → (mix sector ≡ before sector) ⊎ (mix sector ≡ folded (geometry_of head) s.log before sector)) where
   pub geometry : IsGeometry (geometry_of head) × (sector_count (geometry_of head) ≤ sectors)
   geometry =
@@ -110,9 +111,11 @@ module _ (sectors : ℕ) (head : Super) (blocks : ℕ → Cell) (s : Stand) (bef
         (λ sector. subst (λ log. (mix sector ≡ before sector) ⊎ (mix sector ≡ folded (geometry_of head) log before sector)) (sym left.logged) (each sector)) reads_same (no_bad sectors head blocks s before left));
     headed = refl;
     logged = log_same;
+    latest = λ place under. subst (λ b. epoch_in b ≤ head.epoch) (sym (unmoved (journal_sector (geometry_of head) place) (journal_there (geometry_of head) s.log before place under))) (left.latest place under);
     spells = subst (λ i. Spells (geometry_of head) true s.dirs i s.catalog) (sym (ap (λ log. folded (geometry_of head) log mix) log_same ∙ same_fold)) (spelled_folds sectors head blocks s before left);
     covers = left.covers;
     sound = left.sound;
     contents = λ block data' free. subst (IsMixOf (possible (blocks block)))
         (block_same before mix block (λ sector of. sym (unmoved sector (unheld_sector (geometry_of head) block data'.from sector of s.log before free)))) (left.contents block data' free);
+    if_clean = not_clean head used (IsProperClean (volume_of head mix) mix);
   }

@@ -128,6 +128,7 @@ joins_left sectors head blocks s image block whole data' free no_dir zeros left 
   taken = left.taken;
   headed = left.headed;
   logged = left.logged;
+  latest = left.latest;
   spells = record {
     forms = left.spells.forms;
     on_form = left.spells.on_form;
@@ -139,6 +140,7 @@ joins_left sectors head blocks s image block whole data' free no_dir zeros left 
   covers = covers_with (geometry_of head) s block left.covers no_dir left.sound;
   sound = sound_with (geometry_of head) s block left.covers no_dir left.sound;
   contents = left.contents;
+  if_clean = left.if_clean;
 }
   where
     same : (k : ℕ) → (k == block) ≡ true → k ≡ block
@@ -190,6 +192,7 @@ shrinks sectors state l dirs none is less covers = record {
       taken = left.taken;
       headed = left.headed;
       logged = left.logged;
+      latest = left.latest;
       spells = record {
         forms = left.spells.forms;
         on_form = left.spells.on_form;
@@ -201,4 +204,5 @@ shrinks sectors state l dirs none is less covers = record {
       covers = covers;
       sound = left.sound;
       contents = left.contents;
+      if_clean = left.if_clean;
     }

@@ -14,10 +14,12 @@ use Rattle.ufs_image.specs.Journal.{committed}
 use Rattle.ufs_image.specs.Damage.{bad_tree}
 use Rattle.ufs_image.specs.Nodes.{blocks_of}
 use Rattle.ufs_image.specs.Fold.{folded}
+use Rattle.ufs_image.specs.Proper.{IsProperClean}
 use Rattle.ufs_image.specs.Volume.{Volume, volume}
 use Rattle.ufs_layout.specs.declared.geometry.Geometry.{Geometry}
 use Rattle.ufs_layout.specs.declared.superblock.Super.{Super}
 use Rattle.ufs_journal.specs.Found.{IsFreeFrom}
+use Rattle.ufs_journal.specs.Kept.{HasEarlier, HasNoLater}
 use Rattle.ufs_image.specs.Catalog.{Catalog, IsDirBlock, HasDirBlocks, IsCatalogOf, catalog_at}
 use Rattle.ufs_image.specs.Sound.{IsSoundCatalog}
 use Rattle.ufs_image.specs.Folding.{Spells}
@@ -72,10 +74,13 @@ module _ (g : Geometry) (c : Catalog) where
       let there : list_any (λ b. b == block) (blocks_of (c.forms inode)) ≡ true = to_any (λ b. b == block) (blocks_of (c.forms inode)) block (in_at_place block (blocks_of (c.forms inode)) place has.there) self in
       to_any (λ i. (c.forms i).kind == 2 && list_any (λ b. b == block) (blocks_of (c.forms i))) (all_inodes g) inode (in_inodes g inode has.in_range) (λ i. is i && there i)
 
-module _ (sectors : ℕ) (image : Image) (v : Volume) (bytes : IsImageOf sectors image) (ok : volume sectors image ≡ Ok v) (good : bad_tree v.geometry v.image ≡ None) (free : IsFreeFrom v.geometry v.head.epoch 0 image)
-    (catalogs : HasCatalog v.geometry) (sounds : WholeIsSound v.geometry) where
+module _ (sectors : ℕ) (image : Image) (v : Volume) (bytes : IsImageOf sectors image) (ok : volume sectors image ≡ Ok v) (good : bad_tree v.geometry v.image ≡ None) (earlier : HasEarlier v.geometry v.head.epoch image)
+    (clean : IsTrue v.head.clean → IsProperClean v image) (catalogs : HasCatalog v.geometry) (sounds : WholeIsSound v.geometry) where
   same_geometry : v.geometry ≡ geometry_of v.head
   same_geometry = let is = taken sectors image v ok in ap (λ (v : Volume). v.geometry) is.same ∙ ap geometry_of (sym (ap (λ (v : Volume). v.head) is.same))
+
+  free : IsFreeFrom v.geometry v.head.epoch 0 image
+  free place low under = let less = earlier place under in grind (arith, nat_tests, less)
 
   logged : committed v.geometry v.head.epoch image ≡ []
   logged = none_committed v.geometry v.head.epoch image free
@@ -113,6 +118,7 @@ module _ (sectors : ℕ) (image : Image) (v : Volume) (bytes : IsImageOf sectors
     taken = ok;
     headed = refl;
     logged = subst (λ g. committed g v.head.epoch image ≡ []) same_geometry logged;
+    latest = subst (λ g. HasNoLater g v.head.epoch image) same_geometry (λ place under. let less = earlier place under in omega (arith, less));
     spells = subst (λ (x : Geometry × Image). Spells x.0 true (dir_blocks x.0 (catalog_at x.0 image)) x.1 (catalog_at x.0 image)) (λ i. (same_geometry i, sym unfolded i)) spelled;
     covers = dirs_cover (geometry_of v.head) (catalog_at (geometry_of v.head) image);
     sound = subst (λ g. IsSoundCatalog g (catalog_at g image)) same_geometry sound;
@@ -120,12 +126,13 @@ module _ (sectors : ℕ) (image : Image) (v : Volume) (bytes : IsImageOf sectors
       size = block_length image sectors bytes block (let under = data'.under in let room = subst (λ g. sector_count g ≤ sectors) same_geometry geometry.1 in omega (arith, under, room));
       each = λ place less. inl refl;
     };
+    if_clean = clean;
   }
 
 pub mounted : (sectors : ℕ) (state : State) (v : Volume) → Leaves (IsImageOf sectors) state → IsSettled state → volume sectors (seen state) ≡ Ok v → bad_tree v.geometry v.image ≡ None
-    → IsFreeFrom v.geometry v.head.epoch 0 (seen state) → HasCatalog v.geometry → WholeIsSound v.geometry → IsLedgerOf sectors state (opening_ledger v.head (seen state))
-mounted sectors state v whole still ok good free catalogs sounds = record {
+    → HasEarlier v.geometry v.head.epoch (seen state) → (IsTrue v.head.clean → IsProperClean v (seen state)) → HasCatalog v.geometry → WholeIsSound v.geometry → IsLedgerOf sectors state (opening_ledger v.head (seen state))
+mounted sectors state v whole still ok good earlier clean catalogs sounds = record {
   images = λ image left. subst (IsLeftBy sectors (opening_ledger v.head (seen state))) (sym (still image left))
-      (inl (left_there sectors (seen state) v (whole (seen state) (seen_is_image state)) ok good free catalogs sounds));
+      (inl (left_there sectors (seen state) v (whole (seen state) (seen_is_image state)) ok good earlier clean catalogs sounds));
   reads = λ block data' _. refl;
 }

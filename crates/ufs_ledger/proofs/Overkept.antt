@@ -1,4 +1,4 @@
--- Writing home, and the bitmap, spoil no record of the journal.
+-- Writing home spoils no record of the journal.
 use Rattle.std.proofs.Common.{◌≡◌, ℕ, ◌≤◌, ◌⊎◌, inl, inr, true, false, None, unwrap_or, ap, sym, ◌∙◌, subst, arith}
 use Rattle.std.specs.Prelude.{nat_le}
 use Rattle.std.specs.List.{AllByRecursion}
@@ -21,13 +21,7 @@ use Rattle.ufs_image.proofs.Home.{AllAlike, none_bad}
 use Rattle.ufs_image.proofs.Mixed.{AreLate, numbers}
 
 module _ (g : Geometry) where
-  -- no sector is off that wasn't, where each inode's sector is as before
-  pub no_bad_alike : (head : Super) (image mix : Image) → ((k : ℕ) → is_inode_number g k ≡ true → mix (sector_of_inode g k) ≡ image (sector_of_inode g k))
-      → sectors_of_epoch g head.epoch mix ≡ sectors_of_epoch g head.epoch image → bad_sector g head image ≡ None → bad_sector g head mix ≡ None
-  no_bad_alike head image mix same read none =
-      ap (first_bad g head.next mix) read ∙ none_bad g head.next image mix (sectors_of_epoch g head.epoch image) (λ k ranged. inl (same k ranged)) none
-
-  -- where some sectors are home
+  -- No sector is off that wasn't, where some sectors are home.
   pub no_bad_mixed : (sectors : ℕ) (head : Super) (image mix : Image) → IsGeometry g → sector_count g ≤ sectors → IsImageOf sectors image → AllByRecursion FitsCommitted (committed g head.epoch image)
       → ((s : ℕ) → (mix s ≡ image s) ⊎ (mix s ≡ folded g (committed g head.epoch image) image s)) → sectors_of_epoch g head.epoch mix ≡ sectors_of_epoch g head.epoch image
       → bad_sector g head image ≡ None → bad_sector g head mix ≡ None

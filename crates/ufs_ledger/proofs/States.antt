@@ -43,10 +43,12 @@ with_cells sectors head blocks others s image leads left = record {
   taken = left.taken;
   headed = left.headed;
   logged = left.logged;
+  latest = left.latest;
   spells = left.spells;
   covers = left.covers;
   sound = left.sound;
   contents = λ block data' free. leads block data' free (left.contents block data' free);
+  if_clean = left.if_clean;
 }
 
 -- a content that is the only one
@@ -95,7 +97,7 @@ barrier_settles sectors old new l none is no_more same settled' = record {
 
 -- ---- a block
 
-module _ (sectors : ℕ) (old : State) (l : Ledger) (block : ℕ) (bytes : List ℕ) (whole : Leaves (IsImageOf sectors) old) (none : l.maybe ≡ None) (is : IsLedgerOf sectors old l) (may : MayWrite l block bytes) where
+module _ (sectors : ℕ) (old : State) (l : Ledger) (block : ℕ) (bytes : List ℕ) (whole : Leaves (IsImageOf sectors) old) (none : l.maybe ≡ None) (used : l.head.clean ≡ false) (is : IsLedgerOf sectors old l) (may : MayWrite l block bytes) where
   here : (image : Image) → IsImage old image → IsLeft sectors l.head l.blocks l.now image
   here image left = on_one sectors l image none (is.images image left)
 
@@ -111,7 +113,7 @@ module _ (sectors : ℕ) (old : State) (l : Ledger) (block : ℕ) (bytes : List 
       (whole before left sector (omega (arith, fits, at, low, under))).sized
 
   left_now : (image : Image) → IsPartlyWritten (8 * block) bytes old image → IsLeft sectors l.head (rewritten block bytes l.blocks) l.now image
-  left_now image part = left_written sectors l.head l.blocks l.now part.before image block bytes (here part.before part.left) may.data_block may.no_dir may.size (long part.before part.left) part.mixed
+  left_now image part = left_written sectors l.head l.blocks l.now part.before image block bytes (here part.before part.left) used may.data_block may.no_dir may.size (long part.before part.left) part.mixed
 
   pub writing : (image : Image) → IsPartlyWritten (8 * block) bytes old image → IsLeftBy sectors (written block bytes l) image
   writing image part = inl (left_now image part)
@@ -152,27 +154,27 @@ module _ (sectors : ℕ) (old : State) (l : Ledger) (block : ℕ) (bytes : List 
 
 -- ---- the journal
 
-pub appends : (sectors : ℕ) (state : State) (l : Ledger) (image : Image) → l.maybe ≡ None → IsLedgerOf sectors state l → IsAppended (geometry_of l.head) l.head.epoch state image → IsLeftBy sectors l image
-appends sectors state l image none is appended =
-    inl (says_same sectors l.head l.blocks l.now appended.before (on_one sectors l appended.before none (is.images appended.before appended.left)) image appended.says)
+pub appends : (sectors : ℕ) (state : State) (l : Ledger) (image : Image) → l.maybe ≡ None → l.head.clean ≡ false → IsLedgerOf sectors state l → IsAppended (geometry_of l.head) l.head.epoch state image → IsLeftBy sectors l image
+appends sectors state l image none used is appended =
+    inl (says_same sectors l.head l.blocks l.now appended.before (on_one sectors l appended.before none (is.images appended.before appended.left)) image used appended.says)
 
-pub commits_or_not : (sectors : ℕ) (state : State) (l : Ledger) (t : Committed) (image : Image) → FoldsCatalogs (geometry_of l.head) → FoldsOneMore (geometry_of l.head) → l.maybe ≡ None → IsLedgerOf sectors state l → l.head.next ≤ t.number
+pub commits_or_not : (sectors : ℕ) (state : State) (l : Ledger) (t : Committed) (image : Image) → FoldsCatalogs (geometry_of l.head) → FoldsOneMore (geometry_of l.head) → l.maybe ≡ None → l.head.clean ≡ false → IsLedgerOf sectors state l → l.head.next ≤ t.number
     → MayCommit (geometry_of l.head) t l.now → IsMaybeCommitted (geometry_of l.head) l.head.epoch t state image → IsLeftBy sectors (committing t l) image
-commits_or_not sectors state l t image folds one_more none is later may maybe = by maybe.says
+commits_or_not sectors state l t image folds one_more none used is later may maybe = by maybe.says
   where
     before : IsLeft sectors l.head l.blocks l.now maybe.before
     before = on_one sectors l maybe.before none (is.images maybe.before maybe.left)
 
     by : SaysTheSame (geometry_of l.head) l.head.epoch maybe.before image ⊎ CommitsOne (geometry_of l.head) l.head.epoch t maybe.before image → IsLeftBy sectors (committing t l) image
-    by (inl same) = inl (says_same sectors l.head l.blocks l.now maybe.before before image same)
-    by (inr one) = inr (record { head = l.head; stand = with_one (geometry_of l.head) t l.now }, refl, commits_one sectors l.head l.blocks l.now maybe.before before folds one_more t image later may one)
+    by (inl same) = inl (says_same sectors l.head l.blocks l.now maybe.before before image used same)
+    by (inr one) = inr (record { head = l.head; stand = with_one (geometry_of l.head) t l.now }, refl, commits_one sectors l.head l.blocks l.now maybe.before before folds one_more t image used later may one)
 
-pub commits_for_good : (sectors : ℕ) (old new : State) (l : Ledger) (t : Committed) → FoldsCatalogs (geometry_of l.head) → FoldsOneMore (geometry_of l.head) → l.maybe ≡ None → IsLedgerOf sectors old l → l.head.next ≤ t.number
+pub commits_for_good : (sectors : ℕ) (old new : State) (l : Ledger) (t : Committed) → FoldsCatalogs (geometry_of l.head) → FoldsOneMore (geometry_of l.head) → l.maybe ≡ None → l.head.clean ≡ false → IsLedgerOf sectors old l → l.head.next ≤ t.number
     → MayCommit (geometry_of l.head) t l.now → IsSettled new → CommitsOne (geometry_of l.head) l.head.epoch t (seen old) (seen new) → IsLedgerOf sectors new (committed_one t l)
-commits_for_good sectors old new l t folds one_more none is later may settled' one =
+commits_for_good sectors old new l t folds one_more none used is later may settled' one =
     record {
       images = λ image left. subst (IsLeftBy sectors (committed_one t l)) (sym (settled' image left))
-          (inl (settles sectors l.head l.blocks (with_one (geometry_of l.head) t l.now) (seen new) reads (commits_one sectors l.head l.blocks l.now (seen old) before folds one_more t (seen new) later may one)));
+          (inl (settles sectors l.head l.blocks (with_one (geometry_of l.head) t l.now) (seen new) reads (commits_one sectors l.head l.blocks l.now (seen old) before folds one_more t (seen new) used later may one)));
       reads = reads;
     }
   where
@@ -186,16 +188,16 @@ commits_for_good sectors old new l t folds one_more none is later may settled' o
 
 -- ---- a checkpoint
 
-pub homes : (sectors : ℕ) (state : State) (l : Ledger) (image : Image) → Leaves (IsImageOf sectors) state → l.maybe ≡ None → IsLedgerOf sectors state l
+pub homes : (sectors : ℕ) (state : State) (l : Ledger) (image : Image) → Leaves (IsImageOf sectors) state → l.maybe ≡ None → l.head.clean ≡ false → IsLedgerOf sectors state l
     → IsHomeWritten (geometry_of l.head) l.now.log state image → IsLeftBy sectors l image
-homes sectors state l image whole none is part =
-    inl (left_homing sectors l.head l.blocks l.now part.before image (on_one sectors l part.before none (is.images part.before part.left)) (whole part.before part.left) part.mixed)
+homes sectors state l image whole none used is part =
+    inl (left_homing sectors l.head l.blocks l.now part.before image (on_one sectors l part.before none (is.images part.before part.left)) (whole part.before part.left) used part.mixed)
 
 pub begins : (sectors : ℕ) (l : Ledger) (home : Image) (new : Super) (bytes : List ℕ) → IsImageOf sectors home → IsLeft sectors l.head l.blocks l.now home
     → folded (geometry_of l.head) l.now.log home ≡ home → ((block : ℕ) → IsDataBlock (geometry_of l.head) block → is_held l.now.log block ≡ false → block_at home block ≡ (l.blocks block).seen)
-    → IsFreeFrom (geometry_of l.head) new.epoch 0 home → super_of 1 bytes ≡ Some new → geometry_of new ≡ geometry_of l.head
+    → l.head.epoch ≤ new.epoch → IsFreeFrom (geometry_of l.head) new.epoch 0 home → new.clean ≡ false → super_of 1 bytes ≡ Some new → geometry_of new ≡ geometry_of l.head
     → IsLeftBy sectors (beginning new (block_at home) l) home × IsLeftBy sectors (beginning new (block_at home) l) (put 0 bytes home) × IsLeftBy sectors (emptied new (block_at home) l) (put 0 bytes home)
-begins sectors l home new bytes whole left at_home reads free spelled kept =
+begins sectors l home new bytes whole left at_home reads later free used spelled kept =
     (inl old, inr (record { head = new; stand = without_log l.now }, refl, new'), inl new')
   where
     cell : (block : ℕ) → IsDataBlock (geometry_of l.head) block → (b : Bool) → is_held l.now.log block ≡ b → (if b then record { older = []; seen = block_at home block } else settled_cell (l.blocks block)) ≡ record { older = []; seen = block_at home block }
@@ -209,4 +211,4 @@ begins sectors l home new bytes whole left at_home reads free spelled kept =
     new' : IsLeft sectors new (home_cells (block_at home) l) (without_log l.now) (put 0 bytes home)
     new' = with_cells sectors new (λ block. record { older = []; seen = block_at home block }) (home_cells (block_at home) l) (without_log l.now) (put 0 bytes home)
         (λ block data' _ mix. subst (λ c. IsMixOf (possible c) (block_at (put 0 bytes home) block)) (sym (cell block (subst (λ g. IsDataBlock g block) kept data') (is_held l.now.log block) refl)) mix)
-        (left_headed sectors l.head new l.blocks l.now home bytes left spelled kept whole at_home free)
+        (left_headed sectors l.head new l.blocks l.now home bytes left spelled kept whole at_home later free used)

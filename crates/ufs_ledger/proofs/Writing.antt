@@ -8,9 +8,11 @@ use Rattle.ufs_layout.specs.Areas.{sector_of_inode, is_inode_number}
 use Rattle.ufs_layout.specs.Superblock.{geometry_of}
 use Rattle.ufs_base.specs.Images.{Image}
 use Rattle.ufs_image.specs.Images.{block_at}
-use Rattle.ufs_image.specs.Journal.{committed}
+use Rattle.ufs_image.specs.Journal.{committed, epoch_in}
 use Rattle.ufs_image.specs.Fold.{folded}
+use Rattle.ufs_image.specs.Proper.{IsProperClean}
 use Rattle.ufs_image.specs.Volume.{volume_of}
+use Rattle.ufs_journal.specs.Found.{journal_sector}
 use Rattle.ufs_layout.specs.declared.superblock.Super.{Super}
 use Rattle.ufs_image.specs.Agree.{AgreeOn, IsOfBlock, IsMetadata}
 use Rattle.ufs_image.specs.Folding.{Spells}
@@ -19,7 +21,7 @@ use Rattle.ufs_image.proofs.Agreeing.{folded_agrees}
 use Rattle.ufs_image.proofs.Blocks.{block_same}
 use Rattle.ufs_ledger.specs.Ledger.{IsDataBlock, IsMixOf, is_held, Stand, IsLeft}
 use Rattle.ufs_ledger.specs.Changes.{rewritten}
-use Rattle.ufs_ledger.proofs.Alike.{spells_agree, taken_again, spelled_folds, no_bad}
+use Rattle.ufs_ledger.proofs.Alike.{not_clean, spells_agree, taken_again, spelled_folds, no_bad}
 use Rattle.ufs_ledger.proofs.Mixing.{block_either, elsewhere, mix_written}
 
 -- a sector of no such block
@@ -34,7 +36,7 @@ apart_of block other sector apart of = by (cases_lt sector (8 * block)) (cases_l
     by (inr from) (inr high) = inr high
     by (inr from) (inl under) = let at = of.same in let low = of.in_block in absurd (apart (omega (arith, at, low, from, under)))
 
-module _ (sectors : ℕ) (head : Super) (blocks : ℕ → Cell) (s : Stand) (before image : Image) (block : ℕ) (bytes : List ℕ) (left : IsLeft sectors head blocks s before)
+module _ (sectors : ℕ) (head : Super) (blocks : ℕ → Cell) (s : Stand) (before image : Image) (block : ℕ) (bytes : List ℕ) (left : IsLeft sectors head blocks s before) (used : head.clean ≡ false)
     (data' : IsDataBlock (geometry_of head) block) (no_dir : IsTrue (s.dirs block) → ⊥) (size : length bytes ≡ 4096) (long : (sector : ℕ) → IsOfBlock block sector → length (before sector) ≡ 512)
     (mixed : Mixes before (overwritten (8 * block) bytes before) image) where
   agree : AgreeOn (IsApart block) before image
@@ -67,6 +69,7 @@ module _ (sectors : ℕ) (head : Super) (blocks : ℕ → Cell) (s : Stand) (bef
     taken = taken_again sectors head blocks s before left image (agree 0 (metadata 0 (omega arith))) (sym (bad_sector_agrees (geometry_of head) (IsApart block) metadata head before image agree) ∙ no_bad sectors head blocks s before left);
     headed = refl;
     logged = log_same;
+    latest = λ place under. subst (λ b. epoch_in b ≤ head.epoch) (agree (journal_sector (geometry_of head) place) (metadata (journal_sector (geometry_of head) place) (omega (arith, under)))) (left.latest place under);
     spells = subst (λ log. Spells (geometry_of head) true s.dirs (folded (geometry_of head) log image) s.catalog) (sym log_same)
         (spells_agree (geometry_of head) (IsApart block) table s.dirs (folded (geometry_of head) s.log before) (folded (geometry_of head) s.log image) s.catalog
         (folded_agrees (geometry_of head) (IsApart block) table s.log before image agree)
@@ -74,4 +77,5 @@ module _ (sectors : ℕ) (head : Super) (blocks : ℕ → Cell) (s : Stand) (bef
     covers = left.covers;
     sound = left.sound;
     contents = contents;
+    if_clean = not_clean head used (IsProperClean (volume_of head image) image);
   }

@@ -1,5 +1,5 @@
 -- What a store needs of its journal for the next commit.
-use Rattle.std.specs.Prelude.{ℕ, ◌≡◌, ◌≤◌, None, List}
+use Rattle.std.specs.Prelude.{ℕ, ◌≡◌, ◌≤◌, false, None, List}
 use Rattle.ufs_disk.specs.Disk.{State}
 use Rattle.ufs_layout.specs.Superblock.{geometry_of}
 use Rattle.ufs_layout.specs.declared.records.LogRecord.{LogRecord}
@@ -8,10 +8,11 @@ use Rattle.ufs_journal.specs.Kept.{IsReady, IsUnused}
 use Rattle.ufs_ledger.specs.Ledger.{Ledger, IsLedgerOf}
 use Rattle.ufs_ledger.specs.Changes.{MayCommit}
 
--- The disk has this ledger, nothing is committed besides, and the journal goes on behind what is committed.
+-- The disk has this ledger, nothing is committed besides, its image is in use, and the journal goes on behind what is committed.
 pub record IsLedgerBy (j : Journal) (sectors : ℕ) (state : State) (l : Ledger) : Type 0 where
   pub is : IsLedgerOf sectors state l
   pub none : l.maybe ≡ None
+  pub in_use : l.head.clean ≡ false
   pub geometry : geometry_of l.head ≡ j.geometry
   pub epoch : l.head.epoch ≡ j.epoch
   pub later : l.head.next ≤ j.number

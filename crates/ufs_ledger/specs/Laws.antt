@@ -4,12 +4,12 @@ use Rattle.std.specs.List.{slice_get}
 use Rattle.ufs_base.specs.declared.sizes.TheConstants.{BLOCK, SECTORS_PER_BLOCK}
 use Rattle.ufs_disk.specs.Disk.{Cell, State, IsImage, possible, Leaves, IsSettled, IsPartlyWritten, Mixes, overwritten, put, seen}
 use Rattle.ufs_disk.specs.Moments.{Moments, LeavesOnly}
-use Rattle.ufs_layout.specs.Areas.{first_of_inodes}
 use Rattle.ufs_layout.specs.Superblock.{geometry_of, super_of}
 use Rattle.ufs_base.specs.Images.{Image}
 use Rattle.ufs_image.specs.Images.{IsImageOf, block_at}
 use Rattle.ufs_image.specs.Fold.{folded, after_delta}
 use Rattle.ufs_image.specs.Damage.{bad_tree}
+use Rattle.ufs_image.specs.Proper.{IsProperClean, IsProperImage}
 use Rattle.ufs_image.specs.Volume.{Volume, volume}
 use Rattle.ufs_image.specs.Nodes.{blocks_of}
 use Rattle.ufs_layout.specs.declared.inode.Extent.{Extent}
@@ -21,6 +21,7 @@ use Rattle.ufs_model.specs.FileBytes.{bytes_of}
 use Rattle.ufs_model.specs.History.{IsLegal, tree_after}
 use Rattle.ufs_model.specs.declared.data.Entry.{Entry}
 use Rattle.ufs_journal.specs.Found.{IsFreeFrom}
+use Rattle.ufs_journal.specs.Kept.{HasEarlier}
 use Rattle.ufs_journal.specs.Written.{IsAppended, IsMaybeCommitted, CommitsOne}
 use Rattle.ufs_prefix.specs.FileChanges.{all_changed, byte_at}
 use Rattle.ufs_prefix.specs.Changes.{changes_of, name_changes, names_after}
@@ -34,7 +35,7 @@ use Rattle.ufs_image.specs.Changes.{MayBecome}
 use Rattle.ufs_image.specs.Folding.{FitsCommitted}
 use Rattle.ufs_image.specs.Folding.{file_commit}
 use Rattle.ufs_overlay.specs.Over.{IsHomeWritten}
-use Rattle.ufs_ledger.specs.Ledger.{IsDataBlock, HasByte, is_held, Stand, CoversDirs, with_one, IsLeft, Ledger, IsLeftBy, IsLedgerOf}
+use Rattle.ufs_ledger.specs.Ledger.{IsDataBlock, HasByte, is_held, Stand, CoversDirs, with_one, IsLeft, Standing, Ledger, IsLeftBy, IsLedgerOf}
 use Rattle.ufs_ledger.specs.Changes.{MayCommit, committing, settled, committed_one, rewritten, written, tried, beginning, emptied, with_dirs, with_free_block, opening_ledger}
 use Rattle.ufs_ledger.specs.Kept.{Numbers, IsNumberedBy, Shape, shape_of, MayHave, AlwaysShows, IsStandStored, IsStandKept, Counts, IsLedgerKept, IsLedgerStored, OpensExplained, OpensExplainedFrom}
 
@@ -53,6 +54,10 @@ OpensMeanwhile g = (sectors : ℕ) (head : Super) (blocks : ℕ → Cell) (s : S
 abbrev pub LedgersExplain : Geometry → Type 0
 LedgersExplain g = (sectors : ℕ) (l : Ledger) (image : Image) (start : PosixTree) (history : List Entry) (now maybe : Counts) → geometry_of l.head ≡ g → IsLeftBy sectors l image → IsLedgerKept l start history now maybe
     → OpensExplained sectors start history image
+
+-- Whatever a crash leaves is a proper image.
+abbrev pub LeftIsProper : Geometry → Type 0
+LeftIsProper g = (sectors : ℕ) (l : Ledger) (image : Image) → geometry_of l.head ≡ g → ((other : Standing) → l.maybe ≡ Some other → geometry_of other.head ≡ g) → IsLeftBy sectors l image → IsProperImage sectors image
 
 -- ---- how the promise is kept
 
@@ -119,17 +124,17 @@ pub record MayWrite (l : Ledger) (block : ℕ) (bytes : List ℕ) : Type 0 where
 
 -- At each moment of a write a crash leaves what the ledger has with one more content in that block.
 abbrev pub WritesBlock : ℕ → Type 0
-WritesBlock sectors = (old : State) (l : Ledger) (block : ℕ) (bytes : List ℕ) (image : Image) → Leaves (IsImageOf sectors) old → l.maybe ≡ None → IsLedgerOf sectors old l → MayWrite l block bytes
+WritesBlock sectors = (old : State) (l : Ledger) (block : ℕ) (bytes : List ℕ) (image : Image) → Leaves (IsImageOf sectors) old → l.maybe ≡ None → l.head.clean ≡ false → IsLedgerOf sectors old l → MayWrite l block bytes
     → IsPartlyWritten (SECTORS_PER_BLOCK * block) bytes old image → IsLeftBy sectors (written block bytes l) image
 
 -- So it is after a write that passed,
 abbrev pub HasWritten : ℕ → Type 0
-HasWritten sectors = (old new : State) (l : Ledger) (block : ℕ) (bytes : List ℕ) → Leaves (IsImageOf sectors) old → l.maybe ≡ None → IsLedgerOf sectors old l → MayWrite l block bytes
+HasWritten sectors = (old new : State) (l : Ledger) (block : ℕ) (bytes : List ℕ) → Leaves (IsImageOf sectors) old → l.maybe ≡ None → l.head.clean ≡ false → IsLedgerOf sectors old l → MayWrite l block bytes
     → Leaves (IsPartlyWritten (SECTORS_PER_BLOCK * block) bytes old) new → seen new ≡ overwritten (SECTORS_PER_BLOCK * block) bytes (seen old) → IsLedgerOf sectors new (written block bytes l)
 
 -- and after one that failed, which may have written some of the sectors.
 abbrev pub HasTried : ℕ → Type 0
-HasTried sectors = (old new : State) (l : Ledger) (block : ℕ) (bytes : List ℕ) → Leaves (IsImageOf sectors) old → l.maybe ≡ None → IsLedgerOf sectors old l → MayWrite l block bytes
+HasTried sectors = (old new : State) (l : Ledger) (block : ℕ) (bytes : List ℕ) → Leaves (IsImageOf sectors) old → l.maybe ≡ None → l.head.clean ≡ false → IsLedgerOf sectors old l → MayWrite l block bytes
     → Leaves (IsPartlyWritten (SECTORS_PER_BLOCK * block) bytes old) new → Mixes (seen old) (overwritten (SECTORS_PER_BLOCK * block) bytes (seen old)) (seen new)
     → IsLedgerOf sectors new (tried block bytes (block_at (seen new) block) l)
 
@@ -147,37 +152,39 @@ DirsShrink sectors = (state : State) (l : Ledger) (dirs : ℕ → Bool) → l.ma
 
 -- Appending leaves the ledger.
 abbrev pub AppendsQuietly : ℕ → Type 0
-AppendsQuietly sectors = (state : State) (l : Ledger) (image : Image) → l.maybe ≡ None → IsLedgerOf sectors state l → IsAppended (geometry_of l.head) l.head.epoch state image → IsLeftBy sectors l image
+AppendsQuietly sectors = (state : State) (l : Ledger) (image : Image) → l.maybe ≡ None → l.head.clean ≡ false → IsLedgerOf sectors state l → IsAppended (geometry_of l.head) l.head.epoch state image → IsLeftBy sectors l image
 
 -- At each moment of a commit a crash leaves what is committed, or the transaction besides.
 abbrev pub CommitsOrNot : Geometry → Type 0
-CommitsOrNot g = (sectors : ℕ) (state : State) (l : Ledger) (t : Committed) (image : Image) → geometry_of l.head ≡ g → l.maybe ≡ None → IsLedgerOf sectors state l → l.head.next ≤ t.number → MayCommit g t l.now
+CommitsOrNot g = (sectors : ℕ) (state : State) (l : Ledger) (t : Committed) (image : Image) → geometry_of l.head ≡ g → l.maybe ≡ None → l.head.clean ≡ false → IsLedgerOf sectors state l → l.head.next ≤ t.number → MayCommit g t l.now
     → IsMaybeCommitted g l.head.epoch t state image → IsLeftBy sectors (committing t l) image
 
 -- Where it succeeds, each crash leaves it.
 abbrev pub CommitsForGood : Geometry → Type 0
-CommitsForGood g = (sectors : ℕ) (old new : State) (l : Ledger) (t : Committed) → Leaves (IsImageOf sectors) new → geometry_of l.head ≡ g → l.maybe ≡ None → IsLedgerOf sectors old l → l.head.next ≤ t.number → MayCommit g t l.now
+CommitsForGood g = (sectors : ℕ) (old new : State) (l : Ledger) (t : Committed) → Leaves (IsImageOf sectors) new → geometry_of l.head ≡ g → l.maybe ≡ None → l.head.clean ≡ false → IsLedgerOf sectors old l → l.head.next ≤ t.number → MayCommit g t l.now
     → IsSettled new → CommitsOne g l.head.epoch t (seen old) (seen new) → IsLedgerOf sectors new (committed_one t l)
 
 -- ---- a checkpoint
 
 -- Writing home leaves the ledger.
 abbrev pub HomesQuietly : ℕ → Type 0
-HomesQuietly sectors = (state : State) (l : Ledger) (image : Image) → Leaves (IsImageOf sectors) state → l.maybe ≡ None → IsLedgerOf sectors state l
+HomesQuietly sectors = (state : State) (l : Ledger) (image : Image) → Leaves (IsImageOf sectors) state → l.maybe ≡ None → l.head.clean ≡ false → IsLedgerOf sectors state l
     → IsHomeWritten (geometry_of l.head) l.now.log state image → IsLeftBy sectors l image
 
--- Another superblock with the same geometry may be written: everything is home, as a read gives it, and nothing in the journal
--- has the superblock's epoch.
+-- Another superblock with the same geometry, of an image in use, may be written: everything is home, as a read gives it, its epoch
+-- is no earlier one, and nothing in the journal has it.
 pub record MayBegin (sectors : ℕ) (l : Ledger) (home : Image) (new : Super) (bytes : List ℕ) : Type 0 where
   pub whole : IsImageOf sectors home
   pub left : IsLeft sectors l.head l.blocks l.now home
   pub folds : folded (geometry_of l.head) l.now.log home ≡ home
   pub reads : (block : ℕ) → IsDataBlock (geometry_of l.head) block → is_held l.now.log block ≡ false → block_at home block ≡ (l.blocks block).seen
+  pub later : l.head.epoch ≤ new.epoch
   pub free : IsFreeFrom (geometry_of l.head) new.epoch 0 home
+  pub in_use : new.clean ≡ false
   pub spelled : super_of 1 bytes ≡ Some new
   pub geometry : geometry_of new ≡ geometry_of l.head
 
--- So the next epoch begins, and so a disk is marked in use, and clean: without the superblock it has the ledger that begins,
+-- So the next epoch begins, and so a disk is marked in use: without the superblock it has the ledger that begins,
 abbrev pub BeginsQuietly : ℕ → Type 0
 BeginsQuietly sectors = (l : Ledger) (home : Image) (new : Super) (bytes : List ℕ) → MayBegin sectors l home new bytes → IsLeftBy sectors (beginning new (block_at home) l) home
 
@@ -241,24 +248,20 @@ FilesCommit g = (blocks : ℕ → Cell) (s : Stand) (start : PosixTree) (history
     → IsSoundCatalog g s.catalog → CoversDirs g s → IsStandKept g blocks s start history names files n → MayCommitFile g blocks s start history files n file inode number size keep extents
     → StandsOn g blocks s (with_one g (file_commit number inode size keep extents) s) start history names names files (raised files file (length (changes_of file start history))) n n
 
--- ---- a directory's new block, and the bitmap
+-- ---- a directory's new block
 
 -- A block of zeros that becomes a directory's keeps the promise.
 abbrev pub FreeBlocksKeep : Geometry → Type 0
 FreeBlocksKeep g = (blocks : ℕ → Cell) (s : Stand) (block : ℕ) (start : PosixTree) (history : List Entry) (names : ℕ) (files : ℕ → ℕ) (n : Numbers) → IsSoundCatalog g s.catalog → CoversDirs g s → (IsTrue (s.dirs block) → ⊥)
     → IsStandKept g blocks s start history names files n → IsStandKept g blocks (with_free_block block s) start history names files n
 
--- The bitmap may have anything.
-abbrev pub IgnoresBitmap : ℕ → Type 0
-IgnoresBitmap sectors = (l : Ledger) (before image : Image) → l.maybe ≡ None → IsLeftBy sectors l before
-    → ((sector : ℕ) → (sector < SECTORS_PER_BLOCK) ⊎ (SECTORS_PER_BLOCK * first_of_inodes (geometry_of l.head) ≤ sector) → before sector ≡ image sector) → IsLeftBy sectors l image
-
 -- ---- a mount
 
--- A disk on which nothing is pending, which is taken and undamaged, and in whose journal nothing has the epoch, has a ledger.
+-- A disk on which nothing is pending, which is taken and undamaged, in whose journal everything is of an earlier epoch, and which
+-- is as a clean one is to be where it is marked so, has a ledger.
 abbrev pub HasOpeningLedger : Geometry → Type 0
 HasOpeningLedger g = (sectors : ℕ) (state : State) (v : Volume) → v.geometry ≡ g → Leaves (IsImageOf sectors) state → IsSettled state → volume sectors (seen state) ≡ Ok v → bad_tree v.geometry v.image ≡ None
-    → IsFreeFrom g v.head.epoch 0 (seen state) → IsLedgerOf sectors state (opening_ledger v.head (seen state))
+    → HasEarlier g v.head.epoch (seen state) → (IsTrue v.head.clean → IsProperClean v (seen state)) → IsLedgerOf sectors state (opening_ledger v.head (seen state))
 
 -- ---- runs of calls
 

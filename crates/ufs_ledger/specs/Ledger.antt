@@ -1,5 +1,5 @@
 -- A disk in the words of those above the store: a catalog, contents of blocks, and what is committed.
-use Rattle.std.specs.Prelude.{ℕ, ◌≡◌, ◌≤◌, ◌<◌, ◌/◌, ◌==◌, ◌⊎◌, List, [], ◌∷◌, ◌++◌, length, Bool, true, false, Option, Some, Ok}
+use Rattle.std.specs.Prelude.{ℕ, ◌≡◌, ◌≤◌, ◌<◌, ◌/◌, ◌==◌, ◌⊎◌, List, [], ◌∷◌, ◌++◌, length, Bool, true, false, IsTrue, Option, Some, Ok}
 use Rattle.std.specs.List.{list_any}
 use Rattle.ufs_base.specs.declared.sizes.TheConstants.{BLOCK, SECTORS_PER_BLOCK}
 use Rattle.ufs_disk.specs.Disk.{Cell, State, possible, seen, Leaves}
@@ -8,7 +8,9 @@ use Rattle.ufs_layout.specs.Superblock.{geometry_of}
 use Rattle.ufs_base.specs.Images.{Image}
 use Rattle.ufs_image.specs.Images.{block_at}
 use Rattle.ufs_image.specs.Journal.{committed}
+use Rattle.ufs_image.specs.Proper.{IsProperClean}
 use Rattle.ufs_image.specs.Volume.{Volume, volume}
+use Rattle.ufs_journal.specs.Kept.{HasNoLater}
 use Rattle.ufs_layout.specs.declared.geometry.Geometry.{Geometry}
 use Rattle.ufs_layout.specs.declared.superblock.Super.{Super}
 use Rattle.ufs_layout.specs.declared.records.LogRecord.{LogRecord}
@@ -62,17 +64,20 @@ CoversDirs g s = HasDirBlocks g s.catalog s.dirs
 abbrev pub with_one : Geometry → Committed → Stand → Stand
 with_one g t s = record { catalog = with_committed_in g t s.catalog; dirs = s.dirs; log = s.log ++ t ∷ [] }
 
--- The image is taken with this superblock, its journal has just these transactions, and its folded sectors spell this
--- catalog, which is sound. In the blocks where nothing is folded stand contents that the cells have.
+-- The image is taken with this superblock, its journal has just these transactions and nothing of a later epoch, and its folded
+-- sectors spell this catalog, which is sound. In the blocks where nothing is folded stand contents that the cells have. Where
+-- the superblock is marked clean, the image is as a clean one is to be.
 pub record IsLeft (sectors : ℕ) (head : Super) (blocks : ℕ → Cell) (s : Stand) (image : Image) : Type 0 where
   pub as_volume : Volume
   pub taken : volume sectors image ≡ Ok as_volume
   pub headed : as_volume.head ≡ head
   pub logged : committed (geometry_of head) head.epoch image ≡ s.log
+  pub latest : HasNoLater (geometry_of head) head.epoch image
   pub spells : Spells (geometry_of head) true s.dirs as_volume.image s.catalog
   pub covers : CoversDirs (geometry_of head) s
   pub sound : IsSoundCatalog (geometry_of head) s.catalog
   pub contents : (block : ℕ) → IsDataBlock (geometry_of head) block → is_held s.log block ≡ false → IsMixOf (possible (blocks block)) (block_at image block)
+  pub if_clean : IsTrue head.clean → IsProperClean as_volume image
 
 -- ---- the ledger
 

@@ -33,12 +33,12 @@ use ufs_overlay::Overlay;
 pub fn write_data<D: Disk>(disk: &mut D, block: u32, bytes: &[u8]) -> Result<(), Fault>
     requires inside { SECTORS_PER_BLOCK * block + SECTORS_PER_BLOCK ≤ D.size disk.old }
     requires sized { length bytes.now ≡ BLOCK }
-    ensures crash { IsTrue D.tells → (l : Ledger) → IsLedgerOf (D.size disk.old) (D.moments disk.old).state l → l.maybe ≡ None → MayWrite l block bytes.now
+    ensures crash { IsTrue D.tells → (l : Ledger) → IsLedgerOf (D.size disk.old) (D.moments disk.old).state l → l.maybe ≡ None → l.head.clean ≡ false → MayWrite l block bytes.now
         → LeavesOnly D.keeps (IsLeftBy (D.size disk.old) (written block bytes.now l)) (D.moments disk.old) (D.moments disk.new) }
     ensures images { IsTrue D.tells → LeavesOnly D.keeps (IsPartlyWritten (SECTORS_PER_BLOCK * block) bytes.now (D.moments disk.old).state) (D.moments disk.old) (D.moments disk.new) }
-    ensures ok { IsTrue D.tells → OnOk result ((l : Ledger) → IsLedgerOf (D.size disk.old) (D.moments disk.old).state l → l.maybe ≡ None → MayWrite l block bytes.now
+    ensures ok { IsTrue D.tells → OnOk result ((l : Ledger) → IsLedgerOf (D.size disk.old) (D.moments disk.old).state l → l.maybe ≡ None → l.head.clean ≡ false → MayWrite l block bytes.now
         → IsLedgerOf (D.size disk.new) (D.moments disk.new).state (written block bytes.now l)) }
-    ensures err { IsTrue D.tells → OnErr result ((l : Ledger) → IsLedgerOf (D.size disk.old) (D.moments disk.old).state l → l.maybe ≡ None → MayWrite l block bytes.now
+    ensures err { IsTrue D.tells → OnErr result ((l : Ledger) → IsLedgerOf (D.size disk.old) (D.moments disk.old).state l → l.maybe ≡ None → l.head.clean ≡ false → MayWrite l block bytes.now
         → IsLedgerOf (D.size disk.new) (D.moments disk.new).state (tried block bytes.now (block_at (reads (D.moments disk.new)) block) l)) }
     ensures ready { IsTrue D.tells → (g : Geometry) (epoch used number : ℕ) → first_of_data g ≤ block → IsReady g epoch used number (D.moments disk.old).state → IsReady g epoch used number (D.moments disk.new).state }
     ensures unused { IsTrue D.tells → (g : Geometry) (epoch txn : ℕ) → first_of_data g ≤ block → IsUnused g epoch txn (D.moments disk.old).state → IsUnused g epoch txn (D.moments disk.new).state }
@@ -142,8 +142,8 @@ fn super_sector(head: &Super) -> [u8; SECTOR]
 }
 
 /// Writes home all that is committed, and begins the next epoch with this superblock, whose fields but
-/// for the epoch, the next commit number and the clean mark are as before. The overlay keeps what it
-/// has; after success it may be emptied.
+/// for the epoch and the next commit number are as before. The overlay keeps what it has; after success
+/// it may be emptied.
 pub fn checkpoint<D: Disk>(
     overlay: &Overlay,
     journal: &mut Journal,
@@ -157,6 +157,7 @@ pub fn checkpoint<D: Disk>(
     requires over { overlaid.geometry_of overlay.now ≡ journal.old.geometry }
     requires later { journal.old.epoch < head.now.epoch }
     requires next { head.now.next ≤ journal.old.number }
+    requires in_use { head.now.clean ≡ false }
     ensures geometry { journal.new.geometry ≡ journal.old.geometry }
     ensures number { journal.new.number ≡ journal.old.number }
     ensures opened { journal.new.opened ≡ [] }

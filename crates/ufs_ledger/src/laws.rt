@@ -1,6 +1,6 @@
 // Laws of the definitions, each the contract of a function that does nothing.
 ghost use Rattle.ufs_layout.specs.Areas.{IsGeometry};
-ghost use Rattle.ufs_ledger.specs.Laws.{AppendsQuietly, BarriersKeep, BarriersSettle, BeginningIsKept, BeginsAnew, BeginsForGood, BeginsQuietly, CommitsForGood, CommitsKeep, CommitsOrNot, CommittedIsKept, CommittingIsKept, DirsShrink, EitherExplains, EmptiedIsKept, EntriesKeep, FewerAreKept, FilesCommit, FilesMayCommit, FormsMayCommit, FreeBlocksKeep, HasOpeningLedger, HasTried, HasWritten, HomesQuietly, IgnoresBitmap, LedgersAreSound, LedgersExplain, OpensAsKept, OpensMeanwhile, RunsExplain, RunsExplainMeanwhile, SettledIsKept, ShowsNow, WritesBlock, WritingKeeps, WrittenIsKept, ZerosJoin};
+ghost use Rattle.ufs_ledger.specs.Laws.{AppendsQuietly, BarriersKeep, BarriersSettle, BeginningIsKept, BeginsAnew, BeginsForGood, BeginsQuietly, CommitsForGood, CommitsKeep, CommitsOrNot, CommittedIsKept, CommittingIsKept, DirsShrink, EitherExplains, EmptiedIsKept, EntriesKeep, FewerAreKept, FilesCommit, FilesMayCommit, FormsMayCommit, FreeBlocksKeep, HasOpeningLedger, HasTried, HasWritten, HomesQuietly, LedgersAreSound, LedgersExplain, LeftIsProper, OpensAsKept, OpensMeanwhile, RunsExplain, RunsExplainMeanwhile, SettledIsKept, ShowsNow, WritesBlock, WritingKeeps, WrittenIsKept, ZerosJoin};
 
 use ufs_image::{damage_law, fold_law, walk_law};
 use ufs_layout::Geometry;
@@ -17,6 +17,13 @@ pub fn opening_law(geometry: &Geometry)
     ensures between { RunsExplainMeanwhile geometry.now }
 {
     walk_law(geometry);
+    fold_law(geometry);
+}
+
+/// Whatever a crash leaves is proper.
+pub fn proper_law(geometry: &Geometry)
+    ensures { LeftIsProper geometry.now }
+{
     fold_law(geometry);
 }
 
@@ -49,7 +56,6 @@ pub fn checkpoint_law(sectors: usize)
     ensures quietly { BeginsQuietly sectors }
     ensures anew { BeginsAnew sectors }
     ensures good { BeginsForGood sectors }
-    ensures bitmap { IgnoresBitmap sectors }
 {
     let _sectors = sectors;
 }

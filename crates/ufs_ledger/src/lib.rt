@@ -8,4 +8,5 @@ mod laws;
 pub use calls::{checkpoint, commit_records, read_data, settle, write_data};
 pub use laws::{
     block_law, checkpoint_law, commit_law, form_law, mount_law, opening_law, promise_law,
+    proper_law,
 };

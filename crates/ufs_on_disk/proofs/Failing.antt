@@ -156,16 +156,16 @@ module _ (old new : StoreState) (start : PosixTree) (history : List Entry) (p : 
       stops (tried one.one.block one.one.bytes one.reads (with_writes one.before l)) k (ap geometry_of (same_head one.before l)) one.has
       (tried_kept (with_writes one.before l) one.one one.reads start history k ready.1 (one.mixed ready.0.unheld) kept)
 
-  at_stage : (between : Moments) (records : List LogRecord) (b : Bool) → (w : Ledger) → geometry_of w.head ≡ geometry_of l.head → (t : Committed) → geometry_of (next_head false (at_moments between old)) ≡ geometry_of l.head
-      → AllByRecursion (λ (m : Ledger). (maybe : Counts) × IsLedgerKept m start history k maybe) (if b then commit_stages t w else w ∷ beginning_next false (at_moments between old) w ∷ commit_stages t (checkpointed false (at_moments between old) w))
-      → HasAny new (if b then commit_stages t w else w ∷ beginning_next false (at_moments between old) w ∷ commit_stages t (checkpointed false (at_moments between old) w)) → HasStopped new start history p
+  at_stage : (between : Moments) (records : List LogRecord) (b : Bool) → (w : Ledger) → geometry_of w.head ≡ geometry_of l.head → (t : Committed) → geometry_of (next_head (at_moments between old)) ≡ geometry_of l.head
+      → AllByRecursion (λ (m : Ledger). (maybe : Counts) × IsLedgerKept m start history k maybe) (if b then commit_stages t w else w ∷ beginning_next (at_moments between old) w ∷ commit_stages t (checkpointed (at_moments between old) w))
+      → HasAny new (if b then commit_stages t w else w ∷ beginning_next (at_moments between old) w ∷ commit_stages t (checkpointed (at_moments between old) w)) → HasStopped new start history p
   at_stage between records true w same t next kept (inl is) = stops w kept.0.0 same is kept.0.1
   at_stage between records true w same t next kept (inr (inl is)) = stops (committing t (settled w)) kept.1.0.0 same is kept.1.0.1
   at_stage between records true w same t next kept (inr (inr none)) = absurd none
   at_stage between records false w same t next kept (inl is) = stops w kept.0.0 same is kept.0.1
-  at_stage between records false w same t next kept (inr (inl is)) = stops (beginning_next false (at_moments between old) w) kept.1.0.0 same is kept.1.0.1
-  at_stage between records false w same t next kept (inr (inr (inl is))) = stops (checkpointed false (at_moments between old) w) kept.1.1.0.0 next is kept.1.1.0.1
-  at_stage between records false w same t next kept (inr (inr (inr (inl is)))) = stops (committing t (settled (checkpointed false (at_moments between old) w))) kept.1.1.1.0.0 next is kept.1.1.1.0.1
+  at_stage between records false w same t next kept (inr (inl is)) = stops (beginning_next (at_moments between old) w) kept.1.0.0 same is kept.1.0.1
+  at_stage between records false w same t next kept (inr (inr (inl is))) = stops (checkpointed (at_moments between old) w) kept.1.1.0.0 next is kept.1.1.0.1
+  at_stage between records false w same t next kept (inr (inr (inr (inl is)))) = stops (committing t (settled (checkpointed (at_moments between old) w))) kept.1.1.1.0.0 next is kept.1.1.1.0.1
   at_stage between records false w same t next kept (inr (inr (inr (inr none)))) = absurd none
 
   pub failed : HasStopped new start history p

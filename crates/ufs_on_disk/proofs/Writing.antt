@@ -1,5 +1,5 @@
 -- A file's blocks are written, and its commit lacks memory.
-use Rattle.std.proofs.Common.{◌≡◌, ◌≢◌, ℕ, ◌⊎◌, inl, inr, false, List, [], Some, ap, sym, refl, ◌∙◌, subst}
+use Rattle.std.proofs.Common.{◌≡◌, ◌≢◌, ℕ, ◌⊎◌, inl, inr, List, [], Some, ap, sym, refl, ◌∙◌, subst}
 use Rattle.std.specs.Prelude.{IsSome}
 use Rattle.std.specs.FinMap as map
 use Rattle.std.proofs.lemmas.List.{append-nil}
@@ -88,17 +88,17 @@ module _ (old new : StoreState) (start : PosixTree) (history : List Entry) (p : 
   free : (n : Ledger) → IsStored n old.unassigned.free start history k p → IsStored n new.unassigned.free start history k p
   free n st = subst (λ (u : Space). IsStored n u.free start history k p) (sym told.unfreed) st
 
-  goes : HasLedger new m ⊎ ((between : Moments) × HasLedger new (checkpointed false (at_moments between old) m)) → IsGoing new start history p
+  goes : HasLedger new m ⊎ ((between : Moments) × HasLedger new (checkpointed (at_moments between old) m)) → IsGoing new start history p
   goes (inl has) = record { ledger = m; counts = k; has = has; formed = has.by.geometry; stored = free m now_stored }
   goes (inr any) =
       let form : geometry_of m.head ≡ geometry_of_store old = ap geometry_of (same_head (writes_of f) l) ∙ go.formed in
       record {
-        ledger = checkpointed false (at_moments any.0 old) m;
+        ledger = checkpointed (at_moments any.0 old) m;
         counts = k;
         has = any.1;
         formed = any.1.by.geometry;
-        stored = free (checkpointed false (at_moments any.0 old) m)
-            (empties m old.unassigned.free start history k p (next_head false (at_moments any.0 old)) (block_at (home_of m (reads any.0))) form (ap geometry_of (sym go.has.headed) ∙ go.formed) now_stored);
+        stored = free (checkpointed (at_moments any.0 old) m)
+            (empties m old.unassigned.free start history k p (next_head (at_moments any.0 old)) (block_at (home_of m (reads any.0))) form (ap geometry_of (sym go.has.headed) ∙ go.formed) now_stored);
       }
 
   pub goes_on : IsGoing new start history p

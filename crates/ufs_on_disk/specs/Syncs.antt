@@ -40,7 +40,7 @@ pub record HasSynced (old new : StoreState) (f : DurableState) : Type 0 where
 -- Memory ran out before the commit: the file's blocks are written, and maybe a checkpoint is made.
 pub record HasWritten (old new : StoreState) (f : DurableState) : Type 0 where
   pub written : (l : Ledger) → HasLedger old l → MayWriteAll l (writes_of f.file)
-      → HasLedger new (with_writes (writes_of f.file) l) ⊎ ((between : Moments) × HasLedger new (checkpointed false (at_moments between old) (with_writes (writes_of f.file) l)))
+      → HasLedger new (with_writes (writes_of f.file) l) ⊎ ((between : Moments) × HasLedger new (checkpointed (at_moments between old) (with_writes (writes_of f.file) l)))
   pub unfreed : new.unassigned ≡ old.unassigned
   pub geometry : geometry_of_store new ≡ geometry_of_store old
 

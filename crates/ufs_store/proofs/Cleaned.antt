@@ -62,5 +62,6 @@ clean_disks_mount sectors state settled is clean =
       headed = refl;
       undamaged = proper.has_tree;
       earlier = earlier image v proper of_clean;
+      if_clean = proper.if_clean;
       numbers = below image v proper of_clean;
     }

@@ -67,7 +67,7 @@ pub still_has : (s : StoreState) (sectors : ℕ) (moments : Moments) (faults : �
     → ((txn : ℕ) → s.txn ≤ txn → IsUnused s.journal.geometry s.journal.epoch txn moments.state) → HasLedger (record s { sectors = sectors; moments = moments; faults = faults }) l
 still_has s sectors moments faults l has is ready unused = record {
   going = has.going;
-  by = record { is = is; none = has.by.none; geometry = has.by.geometry; epoch = has.by.epoch; later = has.by.later; ready = ready };
+  by = record { is = is; none = has.by.none; in_use = has.by.in_use; geometry = has.by.geometry; epoch = has.by.epoch; later = has.by.later; ready = ready };
   headed = has.headed;
   added = has.added;
   numbered = has.numbered;

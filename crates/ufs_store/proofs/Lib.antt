@@ -4,6 +4,5 @@ pub mod Rooms
 pub mod Moves
 pub mod Deltas
 pub mod Marking
-pub mod Marks
 pub mod Numbers
 pub mod Cleaned

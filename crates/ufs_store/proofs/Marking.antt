@@ -1,6 +1,6 @@
 -- An image is marked in use.
 use Rattle.std.proofs.Common.{◌≡◌, ◌∙◌, ◌⊎◌, ◌<◌, ◌≤◌, ℕ, List, Bool, inl, inr, None, Some, false, length, ap, refl, sym, subst, arith}
-use Rattle.std.specs.Prelude.{◌==◌, if◌then◌else◌, Ok}
+use Rattle.std.specs.Prelude.{◌==◌, if◌then◌else◌, IsTrue, Ok}
 use Rattle.std.proofs.lemmas.Bool.Decides.{nat_tests}
 use Rattle.ufs_base.specs.Images.{Image}
 use Rattle.ufs_disk.specs.Disk.{IsImage, IsPartlyWritten, IsSettled, Leaves, Mixes, overwritten, put, seen}
@@ -43,7 +43,8 @@ module _ (sectors : ℕ) (keeps : Bool) (m0 : Moments) (before : Super) (bytes :
 
   pub opens : IsLedgerOf sectors m0.state l
   opens = subst (λ (h : Super). IsLedgerOf sectors m0.state (opening_ledger h home)) is.headed
-      (opening sectors m0.state is.as_volume same_geometry whole is.settled is.taken is.undamaged (subst (λ (h : Super). IsFreeFrom (geometry_of before) h.epoch 0 home) (sym is.headed) free))
+      (opening sectors m0.state is.as_volume same_geometry whole is.settled is.taken is.undamaged (subst (λ (h : Super). HasEarlier (geometry_of before) h.epoch home) (sym is.headed) is.earlier)
+      (λ clean. is.if_clean (subst (λ (h : Super). IsTrue h.clean) is.headed clean)))
 
   begins : MayBegin sectors l home (in_use before) bytes
   begins = record {
@@ -51,7 +52,9 @@ module _ (sectors : ℕ) (keeps : Bool) (m0 : Moments) (before : Super) (bytes :
     left = on_one sectors l home refl (opens.images home (seen_is_image m0.state));
     folds = refl;
     reads = λ block _ _. refl;
+    later = omega arith;
     free = free;
+    in_use = refl;
     spelled = spelled;
     geometry = refl;
   }

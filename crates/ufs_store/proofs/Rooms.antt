@@ -14,7 +14,7 @@ module _ (s : StoreState) (records : List LogRecord) (l : Ledger) where
   t = next_commit s records
 
   abbrev stages_if : Bool → List Ledger
-  stages_if b = if b then commit_stages t l else l ∷ beginning_next false s l ∷ commit_stages t (checkpointed false s l)
+  stages_if b = if b then commit_stages t l else l ∷ beginning_next s l ∷ commit_stages t (checkpointed s l)
 
   -- before it
   pub at_first : (P : Ledger → Type 0) → P l → AnyOf P (stages s records l)
@@ -28,7 +28,7 @@ module _ (s : StoreState) (records : List LogRecord) (l : Ledger) where
   pub at_room : (P : Ledger → Type 0) → AnyOf P (room_stages s records l) → AnyOf P (stages s records l)
   at_room P any = by (has_room s records) any
     where
-      by : (b : Bool) → AnyOf P (if b then l ∷ [] else l ∷ beginning_next false s l ∷ []) → AnyOf P (stages_if b)
+      by : (b : Bool) → AnyOf P (if b then l ∷ [] else l ∷ beginning_next s l ∷ []) → AnyOf P (stages_if b)
       by true (inl here) = inl here
       by true (inr none) = absurd none
       by false (inl here) = inl here
@@ -39,7 +39,7 @@ module _ (s : StoreState) (records : List LogRecord) (l : Ledger) where
   pub at_commit : (P : Ledger → Type 0) → AnyOf P (commit_stages t (with_room s records l)) → AnyOf P (stages s records l)
   at_commit P any = by (has_room s records) any
     where
-      by : (b : Bool) → AnyOf P (commit_stages t (if b then l else checkpointed false s l)) → AnyOf P (stages_if b)
+      by : (b : Bool) → AnyOf P (commit_stages t (if b then l else checkpointed s l)) → AnyOf P (stages_if b)
       by true any = any
       by false any = inr (inr any)
 
@@ -50,6 +50,6 @@ module _ (s : StoreState) (records : List LogRecord) (l : Ledger) where
       here : MayCommit g u l.now
       here = subst (λ (x : Geometry × Committed). MayCommit x.0 x.1 l.now) (λ i. (sym same i, sym is i)) may
 
-      by : (b : Bool) → MayCommit g u (if b then l else checkpointed false s l).now
+      by : (b : Bool) → MayCommit g u (if b then l else checkpointed s l).now
       by true = here
       by false = record { fits = here.fits; keeps = here.keeps; covers = here.covers; sound = here.sound }

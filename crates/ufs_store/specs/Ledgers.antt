@@ -1,5 +1,5 @@
 -- The ledger of a store's disk, and how the store's calls change it.
-use Rattle.std.specs.Prelude.{ℕ, ◌≡◌, ◌≤◌, ◌<◌, ◌^◌, ◌⊎◌, List, [], ◌∷◌, Bool, true, false, if◌then◌else◌, nat_lt, None, IsTrue}
+use Rattle.std.specs.Prelude.{ℕ, ◌≡◌, ◌≤◌, ◌<◌, ◌^◌, ◌⊎◌, List, [], ◌∷◌, false, if◌then◌else◌, nat_lt, None, IsTrue}
 use Rattle.std.specs.List.{list_all}
 use Rattle.ufs_base.specs.Images.{Image}
 use Rattle.ufs_disk.specs.Moments.{reads}
@@ -45,22 +45,22 @@ HasAny s ls = AnyOf (IsLedgerOf s.sectors s.moments.state) ls
 -- ---- a checkpoint
 
 -- while the next epoch begins
-abbrev pub beginning_next : Bool → StoreState → Ledger → Ledger
-beginning_next clean s l = beginning (next_head clean s) (block_at (home_of l (reads s.moments))) l
+abbrev pub beginning_next : StoreState → Ledger → Ledger
+beginning_next s l = beginning (next_head s) (block_at (home_of l (reads s.moments))) l
 
 -- once it has begun
-abbrev pub checkpointed : Bool → StoreState → Ledger → Ledger
-checkpointed clean s l = emptied (next_head clean s) (block_at (home_of l (reads s.moments))) l
+abbrev pub checkpointed : StoreState → Ledger → Ledger
+checkpointed s l = emptied (next_head s) (block_at (home_of l (reads s.moments))) l
 
 -- ---- a commit
 
 -- Where the journal lacks room for these records, a checkpoint comes first.
 abbrev pub with_room : StoreState → List LogRecord → Ledger → Ledger
-with_room s records l = if has_room s records then l else checkpointed false s l
+with_room s records l = if has_room s records then l else checkpointed s l
 
 -- what the disk may have meanwhile
 abbrev pub room_stages : StoreState → List LogRecord → Ledger → List Ledger
-room_stages s records l = if has_room s records then l ∷ [] else l ∷ beginning_next false s l ∷ []
+room_stages s records l = if has_room s records then l ∷ [] else l ∷ beginning_next s l ∷ []
 
 -- These records may be committed next.
 abbrev pub MayCommitNext : StoreState → List LogRecord → Ledger → Type 0
@@ -78,4 +78,4 @@ commit_stages t l = l ∷ committing t (settled l) ∷ []
 abbrev pub stages : StoreState → List LogRecord → Ledger → List Ledger
 stages s records l =
     if has_room s records then commit_stages (next_commit s records) l
-    else l ∷ beginning_next false s l ∷ commit_stages (next_commit s records) (checkpointed false s l)
+    else l ∷ beginning_next s l ∷ commit_stages (next_commit s records) (checkpointed s l)

@@ -3,6 +3,5 @@ pub mod Blocks
 pub mod State
 pub mod Ledgers
 pub mod Mounting
-pub mod Closing
 pub mod Tables
 pub mod Laws

@@ -1,9 +1,10 @@
 -- Which disks are mounted.
-use Rattle.std.specs.Prelude.{ℕ, ◌≡◌, ◌<◌, false, None, Ok}
+use Rattle.std.specs.Prelude.{ℕ, ◌≡◌, ◌<◌, IsTrue, false, None, Ok}
 use Rattle.ufs_disk.specs.Disk.{State, IsSettled, seen}
 use Rattle.ufs_layout.specs.Superblock.{geometry_of}
 use Rattle.ufs_layout.specs.declared.superblock.Super.{Super}
 use Rattle.ufs_image.specs.Damage.{bad_tree}
+use Rattle.ufs_image.specs.Proper.{IsProperClean}
 use Rattle.ufs_image.specs.Volume.{Volume, volume}
 use Rattle.ufs_base.specs.Images.{Image}
 use Rattle.ufs_image.specs.Catalog.{IsInode}
@@ -12,8 +13,8 @@ use Rattle.ufs_journal.specs.Kept.{HasEarlier}
 use Rattle.ufs_ledger.specs.Ledger.{Ledger}
 use Rattle.ufs_ledger.specs.Changes.{beginning, opening_ledger}
 
--- The disk has an undamaged image with this superblock, in whose journal everything is of an earlier epoch, and whose inodes have
--- commit numbers below the next one, and nothing is pending on it.
+-- The disk has an undamaged image with this superblock, in whose journal everything is of an earlier epoch, which is as a clean one
+-- is to be where it is marked so, and whose inodes have commit numbers below the next one, and nothing is pending on it.
 pub record IsMountable (sectors : ℕ) (state : State) (head : Super) : Type 0 where
   pub settled : IsSettled state
   pub as_volume : Volume
@@ -21,6 +22,7 @@ pub record IsMountable (sectors : ℕ) (state : State) (head : Super) : Type 0 w
   pub headed : as_volume.head ≡ head
   pub undamaged : bad_tree as_volume.geometry as_volume.image ≡ None
   pub earlier : HasEarlier (geometry_of head) head.epoch (seen state)
+  pub if_clean : IsTrue head.clean → IsProperClean as_volume (seen state)
   pub numbers : (inode : ℕ) → IsInode (geometry_of head) inode → (form_at (geometry_of head) (seen state) inode).number < head.next
 
 -- the superblock of an image in use

@@ -44,6 +44,6 @@ has_room s records = nat_lt (s.journal.used + sector_count_of records) s.journal
 abbrev pub next_commit : StoreState → List LogRecord → Committed
 next_commit s records = record { number = s.journal.number; records = records }
 
--- the superblock that a checkpoint writes next; the image is marked clean by the last one
-abbrev pub next_head : Bool → StoreState → Super
-next_head clean s = record (s.head) { epoch = s.head.epoch + 1; next = s.journal.number; clean = clean }
+-- the superblock that a checkpoint writes next: the image is in use
+abbrev pub next_head : StoreState → Super
+next_head s = record (s.head) { epoch = s.head.epoch + 1; next = s.journal.number; clean = false }

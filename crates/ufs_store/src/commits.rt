@@ -37,7 +37,7 @@ pub(crate) fn commit<D: Disk>(
         → LeavesOnly D.keeps (IsLeftByAny (D.size disk.old) (stages (state_of (D.size disk.old) (D.moments disk.old) (D.faults disk.old) tables.old) records.now l)) (D.moments disk.old) (D.moments disk.new) }
     ensures ok { IsTrue D.tells → OnOk result ((l : Ledger) → HasLedger (state_of (D.size disk.old) (D.moments disk.old) (D.faults disk.old) tables.old) l → MayCommitNext (state_of (D.size disk.old) (D.moments disk.old) (D.faults disk.old) tables.old) records.now l → HasLedger (state_of (D.size disk.new) (D.moments disk.new) (D.faults disk.new) tables.new) (after_commit (state_of (D.size disk.old) (D.moments disk.old) (D.faults disk.old) tables.old) records.now l)) }
     ensures device { IsTrue D.tells → (fault : ℕ) → result ≡ Err (refusal.Device fault) → (l : Ledger) → HasLedger (state_of (D.size disk.old) (D.moments disk.old) (D.faults disk.old) tables.old) l → MayCommitNext (state_of (D.size disk.old) (D.moments disk.old) (D.faults disk.old) tables.old) records.now l → HasAny (state_of (D.size disk.new) (D.moments disk.new) (D.faults disk.new) tables.new) (stages (state_of (D.size disk.old) (D.moments disk.old) (D.faults disk.old) tables.old) records.now l) }
-    ensures memory { IsTrue D.tells → result ≡ Err refusal.Memory → (l : Ledger) → HasLedger (state_of (D.size disk.old) (D.moments disk.old) (D.faults disk.old) tables.old) l → HasLedger (state_of (D.size disk.new) (D.moments disk.new) (D.faults disk.new) tables.new) l ⊎ HasLedger (state_of (D.size disk.new) (D.moments disk.new) (D.faults disk.new) tables.new) (checkpointed false (state_of (D.size disk.old) (D.moments disk.old) (D.faults disk.old) tables.old) l) }
+    ensures memory { IsTrue D.tells → result ≡ Err refusal.Memory → (l : Ledger) → HasLedger (state_of (D.size disk.old) (D.moments disk.old) (D.faults disk.old) tables.old) l → HasLedger (state_of (D.size disk.new) (D.moments disk.new) (D.faults disk.new) tables.new) l ⊎ HasLedger (state_of (D.size disk.new) (D.moments disk.new) (D.faults disk.new) tables.new) (checkpointed (state_of (D.size disk.old) (D.moments disk.old) (D.faults disk.old) tables.old) l) }
     ensures number { IfOk result (λ number. number ≡ tables.old.journal.number) }
     ensures rises { OnOk result (tables.new.journal.number ≡ tables.old.journal.number + 1) }
     ensures geometry { tables.new.journal.geometry ≡ tables.old.journal.geometry }
@@ -80,7 +80,7 @@ fn make_room<D: Disk>(
     if sectors_needed(records) < tables.journal.room() as usize {
         return Ok(());
     }
-    begin_next(tables, disk, false)
+    begin_next(tables, disk)
 }
 
 /// The overlay gets the records first, so that what is committed is always in it.

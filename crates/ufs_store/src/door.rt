@@ -111,7 +111,7 @@ pub trait Door {
             → LeavesOnly keeps (IsLeftByAny (store self.old).sectors (stages (store self.old) log.old l)) (store self.old).moments (store self.new).moments }
         ensures ok { IsTrue tells → log.old ≢ [] → OnOk result ((l : Ledger) → HasLedger (store self.old) l → MayCommitNext (store self.old) log.old l → HasLedger (store self.new) (after_commit (store self.old) log.old l)) }
         ensures device { IsTrue tells → (fault : ℕ) → result ≡ Err (refusal.Device fault) → (l : Ledger) → HasLedger (store self.old) l → MayCommitNext (store self.old) log.old l → HasAny (store self.new) (stages (store self.old) log.old l) }
-        ensures memory { IsTrue tells → result ≡ Err refusal.Memory → (l : Ledger) → HasLedger (store self.old) l → HasLedger (store self.new) l ⊎ HasLedger (store self.new) (checkpointed false (store self.old) l) }
+        ensures memory { IsTrue tells → result ≡ Err refusal.Memory → (l : Ledger) → HasLedger (store self.old) l → HasLedger (store self.new) l ⊎ HasLedger (store self.new) (checkpointed (store self.old) l) }
         ensures nothing { log.old ≡ [] → store self.new ≡ store self.old }
         ensures done { log.old ≡ [] → (store self.old).stop ≡ None → result ≡ Ok (last_commit (store self.old)) }
         ensures number { IfOk result (λ number. number ≡ last_commit (store self.new)) }
@@ -140,7 +140,7 @@ pub trait Door {
             → OnOk result ((l : Ledger) → HasLedger (store self.old) l → MayCommitNext (store self.old) records l → HasLedger (store self.new) (after_commit (store self.old) records l)) }
         ensures device { IsTrue tells → (records : List LogRecord) → IsDelta log.old.inode log.old.committed log.old.noted records → log.old.noted ≢ log.old.committed
             → (fault : ℕ) → answer_of result ≡ Err (refusal.Device fault) → (l : Ledger) → HasLedger (store self.old) l → MayCommitNext (store self.old) records l → HasAny (store self.new) (stages (store self.old) records l) }
-        ensures memory { IsTrue tells → answer_of result ≡ Err refusal.Memory → (l : Ledger) → HasLedger (store self.old) l → HasLedger (store self.new) l ⊎ HasLedger (store self.new) (checkpointed false (store self.old) l) }
+        ensures memory { IsTrue tells → answer_of result ≡ Err refusal.Memory → (l : Ledger) → HasLedger (store self.old) l → HasLedger (store self.new) l ⊎ HasLedger (store self.new) (checkpointed (store self.old) l) }
 
         // With nothing to commit.
         ensures empty_crash { IsTrue tells → log.old.noted ≡ log.old.committed → (l : Ledger) → HasLedger (store self.old) l
@@ -184,9 +184,9 @@ pub trait Door {
     /// Writes home all that is committed, and begins the next epoch with the whole journal.
     fn checkpoint(&mut self) -> Result<(), StoreFault>
         ensures crash { IsTrue tells → (l : Ledger) → HasLedger (store self.old) l
-            → LeavesOnly keeps (IsLeftByAny (store self.old).sectors (l ∷ beginning_next false (store self.old) l ∷ [])) (store self.old).moments (store self.new).moments }
-        ensures ok { IsTrue tells → OnOk result ((l : Ledger) → HasLedger (store self.old) l → HasLedger (store self.new) (checkpointed false (store self.old) l)) }
-        ensures device { IsTrue tells → (fault : ℕ) → result ≡ Err (refusal.Device fault) → (l : Ledger) → HasLedger (store self.old) l → HasAny (store self.new) (l ∷ beginning_next false (store self.old) l ∷ []) }
+            → LeavesOnly keeps (IsLeftByAny (store self.old).sectors (l ∷ beginning_next (store self.old) l ∷ [])) (store self.old).moments (store self.new).moments }
+        ensures ok { IsTrue tells → OnOk result ((l : Ledger) → HasLedger (store self.old) l → HasLedger (store self.new) (checkpointed (store self.old) l)) }
+        ensures device { IsTrue tells → (fault : ℕ) → result ≡ Err (refusal.Device fault) → (l : Ledger) → HasLedger (store self.old) l → HasAny (store self.new) (l ∷ beginning_next (store self.old) l ∷ []) }
         ensures room { OnOk result ((store self.new).journal.used ≡ 0) }
         ensures memory { result ≡ Err refusal.Memory → store self.new ≡ store self.old }
         ensures number { last_commit (store self.new) ≡ last_commit (store self.old) }

@@ -40,10 +40,3 @@ pub struct Unmounted<D: Disk> {
     pub disk: D,
     pub fault: StoreFault,
 }
-
-/// A store that was closed: its disk, and how the closing ended.
-#[derive(Drop)]
-pub struct Closed<D: Disk> {
-    pub disk: D,
-    pub ended: Result<(), StoreFault>,
-}

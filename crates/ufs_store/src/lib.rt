@@ -1,7 +1,6 @@
 //! A store: a disk with its journal, what is committed and not yet home, and the blocks that nobody has.
 #![tactic(auto)]
 
-mod bitmaps;
 mod blocks;
 mod commits;
 mod direct;
@@ -15,6 +14,6 @@ mod tables;
 
 pub use direct::Direct;
 pub use door::Door;
-pub use fault::{Closed, StoreFault, Uncommitted, Unmounted};
+pub use fault::{StoreFault, Uncommitted, Unmounted};
 pub use laws::mounting_law;
 pub use store::Store;

@@ -1,6 +1,5 @@
 // The store.
 ghost use Rattle.std.specs.Prelude.{ℕ, List, ◌≡◌, ◌≢◌, ◌≤◌, ◌<◌, ◌+◌, ◌-◌, ◌⊎◌, ◌↔◌, IsTrue, true, false, None, Some, Ok, Err, OnOk, OnErr, IfErr, IfOk};
-ghost use Rattle.ufs_disk.specs.Disk.{IsSettled};
 ghost use Rattle.ufs_disk.specs.Moments.{LeavesOnly, reads};
 ghost use Rattle.ufs_ilog.specs.Deltas.{IsDelta};
 ghost use Rattle.ufs_layout.specs.Areas.{IsGeometry, first_of_data, is_inode_number, sector_count};
@@ -8,7 +7,6 @@ ghost use Rattle.ufs_layout.specs.Superblock.{geometry_of, is_super};
 ghost use Rattle.ufs_layout.specs.declared.records.LogRecord.{LogRecord};
 ghost use Rattle.ufs_ledger.specs.Changes.{opening_ledger, settled};
 ghost use Rattle.ufs_ledger.specs.Ledger.{IsLedgerOf, IsLeftBy, Ledger};
-ghost use Rattle.ufs_store.specs.Closing.{MarksUsed, closed, closing_stages, is_closing};
 ghost use Rattle.ufs_store.specs.Ledgers.{HasAny, HasLedger, IsLeftByAny, MayCommitNext, after_commit, checkpointed, stages};
 ghost use Rattle.ufs_store.specs.Mounting.{IsMountable, in_use, marking};
 ghost use Rattle.ufs_store.specs.Refusals.{IsTold, fault_in, fault_of, is_no_space, is_own, stop_after};
@@ -16,13 +14,12 @@ ghost use Rattle.ufs_store.specs.State.{geometry_of_store};
 ghost use Rattle.ufs_store.specs.Tables.{state_of};
 ghost use Rattle.ufs_store.specs.declared.fault.StoreFault.TheVariants as refusal;
 
-use crate::bitmaps::write_bitmap;
 use crate::blocks::{give_runs, move_all, move_lowest};
 use crate::commits::commit;
 use crate::heads::mark_in_use;
 use crate::homes::begin_next;
 use crate::tables::{Tables, stop_at};
-use crate::{Closed, Door, StoreFault, Uncommitted, Unmounted};
+use crate::{Door, StoreFault, Uncommitted, Unmounted};
 use std::alloc::Global;
 use ufs_bitmap::{Bitmap, Pool};
 use ufs_disk::Disk;
@@ -68,6 +65,7 @@ impl<D: Disk> Store<D> {
         ensures number { IfOk result (λ s. (⟦<Store<D> as Door>⟧.store s).journal.number ≡ head.next) }
         ensures head { IfOk result (λ s. (⟦<Store<D> as Door>⟧.store s).head ≡ in_use head) }
         ensures size { IfOk result (λ s. (⟦<Store<D> as Door>⟧.store s).sectors ≡ D.size disk) }
+        ensures err_size { IfErr result (λ u. D.size u.disk ≡ D.size disk) }
         ensures passed { IfOk result (λ s. (⟦<Store<D> as Door>⟧.store s).faults ≡ D.faults disk) }
         ensures cause { IfErr result (λ u. IsTold (D.faults disk) (D.faults u.disk) (fault_of u.fault)) }
         ensures refused { IfErr result (λ u. IsTrue (is_own u.fault)) }
@@ -94,30 +92,13 @@ impl<D: Disk> Store<D> {
         }
     }
 
-    /// Ends a store and gives its disk back. With `emptied`, where nothing is left to commit and every
-    /// pool was taken back, everything is written home, the bitmap too, and the image is marked clean.
-    /// Otherwise, or where the store has stopped, no call of the disk is made.
-    pub fn close(self, emptied: bool) -> Closed<D>
-        ensures crash { IsTrue D.tells → (l : Ledger) → HasLedger (⟦<Store<D> as Door>⟧.store self) l
-            → (home : ℕ → List ℕ) × LeavesOnly D.keeps (IsLeftByAny (⟦<Store<D> as Door>⟧.store self).sectors (closing_stages (⟦<Store<D> as Door>⟧.store self) home l)) (⟦<Store<D> as Door>⟧.store self).moments (D.moments result.disk) }
-        ensures ok { IsTrue D.tells → IsTrue emptied → OnOk result.ended ((l : Ledger) → HasLedger (⟦<Store<D> as Door>⟧.store self) l
-            → (home : ℕ → List ℕ) × IsLedgerOf (D.size result.disk) (D.moments result.disk).state (closed (⟦<Store<D> as Door>⟧.store self) home l)) }
-        ensures marked { IsTrue D.tells → IsTrue emptied → OnOk result.ended ((l : Ledger) → HasLedger (⟦<Store<D> as Door>⟧.store self) l
-            → MarksUsed (geometry_of_store (⟦<Store<D> as Door>⟧.store self)) (reads (D.moments result.disk)) (⟦<Store<D> as Door>⟧.store self).unassigned) }
-        ensures settled { IsTrue D.tells → IsTrue emptied → OnOk result.ended (IsSettled (D.moments result.disk).state) }
-        ensures untouched { is_closing emptied (⟦<Store<D> as Door>⟧.store self).stop ≡ false → D.moments result.disk ≡ (⟦<Store<D> as Door>⟧.store self).moments }
-        ensures stopped { (fault : ℕ) → (result.ended ≡ Err (refusal.Stopped fault)) ↔ ((⟦<Store<D> as Door>⟧.store self).stop ≡ Some fault) }
-        ensures cause { IsTold (⟦<Store<D> as Door>⟧.store self).faults (D.faults result.disk) (fault_in result.ended) }
-        ensures told { is_closing emptied (⟦<Store<D> as Door>⟧.store self).stop ≡ false → fault_in result.ended ≡ None }
-        ensures size { D.size result.disk ≡ (⟦<Store<D> as Door>⟧.store self).sectors }
-        ensures refused { IfErr result.ended (λ fault. is_no_space fault ≡ false) }
+    /// Ends a store and gives its disk back. Makes no call of the disk.
+    pub fn into_disk(self) -> D
+        ensures moments { D.moments result ≡ (⟦<Store<D> as Door>⟧.store self).moments }
+        ensures faults { D.faults result ≡ (⟦<Store<D> as Door>⟧.store self).faults }
+        ensures size { D.size result ≡ (⟦<Store<D> as Door>⟧.store self).sectors }
     {
-        let Store {
-            mut disk,
-            mut tables,
-        } = self;
-        let ended = close_image(&mut tables, &mut disk, emptied);
-        Closed { disk, ended }
+        self.disk
     }
 }
 
@@ -129,50 +110,6 @@ fn check_stop(tables: &Tables) -> Result<(), StoreFault>
         Some(fault) => Err(StoreFault::Stopped { fault }),
         None => Ok(()),
     }
-}
-
-/// Closes the image, unless the store has stopped or is to be left as it is.
-fn close_image<D: Disk>(tables: &mut Tables, disk: &mut D, emptied: bool) -> Result<(), StoreFault>
-    requires large { sector_count tables.old.journal.geometry ≤ D.size disk.old }
-    ensures crash { IsTrue D.tells → (l : Ledger) → HasLedger (state_of (D.size disk.old) (D.moments disk.old) (D.faults disk.old) tables.old) l
-        → (home : ℕ → List ℕ) × LeavesOnly D.keeps (IsLeftByAny (D.size disk.old) (closing_stages (state_of (D.size disk.old) (D.moments disk.old) (D.faults disk.old) tables.old) home l)) (D.moments disk.old) (D.moments disk.new) }
-    ensures ok { IsTrue D.tells → IsTrue emptied → OnOk result ((l : Ledger) → HasLedger (state_of (D.size disk.old) (D.moments disk.old) (D.faults disk.old) tables.old) l
-        → (home : ℕ → List ℕ) × IsLedgerOf (D.size disk.new) (D.moments disk.new).state (closed (state_of (D.size disk.old) (D.moments disk.old) (D.faults disk.old) tables.old) home l)) }
-    ensures marked { IsTrue D.tells → IsTrue emptied → OnOk result ((l : Ledger) → HasLedger (state_of (D.size disk.old) (D.moments disk.old) (D.faults disk.old) tables.old) l → MarksUsed tables.old.journal.geometry (reads (D.moments disk.new)) tables.old.unassigned) }
-    ensures settled { IsTrue D.tells → IsTrue emptied → OnOk result (IsSettled (D.moments disk.new).state) }
-    ensures untouched { is_closing emptied tables.old.stop ≡ false → D.moments disk.new ≡ D.moments disk.old }
-    ensures stopped { (fault : ℕ) → (result ≡ Err (refusal.Stopped fault)) ↔ (tables.old.stop ≡ Some fault) }
-    ensures cause { IsTold (D.faults disk.old) (D.faults disk.new) (fault_in result) }
-    ensures told { is_closing emptied tables.old.stop ≡ false → fault_in result ≡ None }
-    ensures size { D.size disk.new ≡ D.size disk.old }
-    ensures refused { IfErr result (λ fault. is_no_space fault ≡ false) }
-{
-    check_stop(tables)?;
-    if !emptied {
-        return Ok(());
-    }
-    write_closing(tables, disk)
-}
-
-/// Writes the bitmap and everything home, and marks the image clean.
-fn write_closing<D: Disk>(tables: &mut Tables, disk: &mut D) -> Result<(), StoreFault>
-    requires going { tables.old.stop ≡ None }
-    requires large { sector_count tables.old.journal.geometry ≤ D.size disk.old }
-    ensures crash { IsTrue D.tells → (l : Ledger) → HasLedger (state_of (D.size disk.old) (D.moments disk.old) (D.faults disk.old) tables.old) l
-        → (home : ℕ → List ℕ) × LeavesOnly D.keeps (IsLeftByAny (D.size disk.old) (closing_stages (state_of (D.size disk.old) (D.moments disk.old) (D.faults disk.old) tables.old) home l)) (D.moments disk.old) (D.moments disk.new) }
-    ensures ok { IsTrue D.tells → OnOk result ((l : Ledger) → HasLedger (state_of (D.size disk.old) (D.moments disk.old) (D.faults disk.old) tables.old) l
-        → (home : ℕ → List ℕ) × IsLedgerOf (D.size disk.new) (D.moments disk.new).state (closed (state_of (D.size disk.old) (D.moments disk.old) (D.faults disk.old) tables.old) home l)) }
-    ensures marked { IsTrue D.tells → OnOk result ((l : Ledger) → HasLedger (state_of (D.size disk.old) (D.moments disk.old) (D.faults disk.old) tables.old) l → MarksUsed tables.old.journal.geometry (reads (D.moments disk.new)) tables.old.unassigned) }
-    ensures settled { IsTrue D.tells → OnOk result (IsSettled (D.moments disk.new).state) }
-    ensures cause { IsTold (D.faults disk.old) (D.faults disk.new) (fault_in result) }
-    ensures size { D.size disk.new ≡ D.size disk.old }
-    ensures refused { IfErr result (λ fault. IsTrue (is_own fault)) }
-{
-    let geometry = tables.journal.geometry;
-    if let Err(fault) = write_bitmap(disk, &geometry, &tables.unassigned) {
-        return Err(stop_at(&mut tables.stop, fault));
-    }
-    begin_next(tables, disk, true)
 }
 
 /// Waits for what was written since the last barrier, if anything was.
@@ -218,7 +155,7 @@ fn commit_delta<D: Disk>(
         → OnOk result ((l : Ledger) → HasLedger (state_of (D.size disk.old) (D.moments disk.old) (D.faults disk.old) tables.old) l → MayCommitNext (state_of (D.size disk.old) (D.moments disk.old) (D.faults disk.old) tables.old) records l → HasLedger (state_of (D.size disk.new) (D.moments disk.new) (D.faults disk.new) tables.new) (after_commit (state_of (D.size disk.old) (D.moments disk.old) (D.faults disk.old) tables.old) records l)) }
     ensures device { IsTrue D.tells → (records : List LogRecord) → IsDelta log.old.inode log.old.committed log.old.noted records → log.old.noted ≢ log.old.committed
         → (fault : ℕ) → result ≡ Err (refusal.Device fault) → (l : Ledger) → HasLedger (state_of (D.size disk.old) (D.moments disk.old) (D.faults disk.old) tables.old) l → MayCommitNext (state_of (D.size disk.old) (D.moments disk.old) (D.faults disk.old) tables.old) records l → HasAny (state_of (D.size disk.new) (D.moments disk.new) (D.faults disk.new) tables.new) (stages (state_of (D.size disk.old) (D.moments disk.old) (D.faults disk.old) tables.old) records l) }
-    ensures memory { IsTrue D.tells → result ≡ Err refusal.Memory → (l : Ledger) → HasLedger (state_of (D.size disk.old) (D.moments disk.old) (D.faults disk.old) tables.old) l → HasLedger (state_of (D.size disk.new) (D.moments disk.new) (D.faults disk.new) tables.new) l ⊎ HasLedger (state_of (D.size disk.new) (D.moments disk.new) (D.faults disk.new) tables.new) (checkpointed false (state_of (D.size disk.old) (D.moments disk.old) (D.faults disk.old) tables.old) l) }
+    ensures memory { IsTrue D.tells → result ≡ Err refusal.Memory → (l : Ledger) → HasLedger (state_of (D.size disk.old) (D.moments disk.old) (D.faults disk.old) tables.old) l → HasLedger (state_of (D.size disk.new) (D.moments disk.new) (D.faults disk.new) tables.new) l ⊎ HasLedger (state_of (D.size disk.new) (D.moments disk.new) (D.faults disk.new) tables.new) (checkpointed (state_of (D.size disk.old) (D.moments disk.old) (D.faults disk.old) tables.old) l) }
     ensures empty_crash { IsTrue D.tells → log.old.noted ≡ log.old.committed → (l : Ledger) → HasLedger (state_of (D.size disk.old) (D.moments disk.old) (D.faults disk.old) tables.old) l → LeavesOnly D.keeps (IsLeftBy (D.size disk.old) l) (D.moments disk.old) (D.moments disk.new) }
     ensures empty_ok { IsTrue D.tells → log.old.noted ≡ log.old.committed → OnOk result ((l : Ledger) → HasLedger (state_of (D.size disk.old) (D.moments disk.old) (D.faults disk.old) tables.old) l → HasLedger (state_of (D.size disk.new) (D.moments disk.new) (D.faults disk.new) tables.new) (settled l)) }
     ensures empty_err { IsTrue D.tells → log.old.noted ≡ log.old.committed → OnErr result ((l : Ledger) → HasLedger (state_of (D.size disk.old) (D.moments disk.old) (D.faults disk.old) tables.old) l → IsLedgerOf (D.size disk.new) (D.moments disk.new).state l) }
@@ -329,7 +266,7 @@ impl<D: Disk> Door for Store<D> {
 
     fn checkpoint(&mut self) -> Result<(), StoreFault> {
         check_stop(&self.tables)?;
-        begin_next(&mut self.tables, &mut self.disk, false)
+        begin_next(&mut self.tables, &mut self.disk)
     }
 
     ghost whole = { λ told s. D.whole told s.disk };

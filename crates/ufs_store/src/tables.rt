@@ -78,14 +78,14 @@ impl Tables {
     }
 
     /// The superblock of the next epoch; `None` where epochs are used up.
-    pub fn next_head(&self, clean: bool) -> Option<Super>
-        ensures { IfSome result (λ head. head ≡ record (self.now.head) { epoch = self.now.head.epoch + 1; next = self.now.journal.number; clean = clean }) }
+    pub fn next_head(&self) -> Option<Super>
+        ensures { IfSome result (λ head. head ≡ record (self.now.head) { epoch = self.now.head.epoch + 1; next = self.now.journal.number; clean = false }) }
     {
         let epoch = self.head.epoch.checked_add(1)?;
         Some(Super {
             epoch,
             next: self.journal.number,
-            clean,
+            clean: false,
             ..self.head
         })
     }

@@ -78,11 +78,11 @@ checkpoint_runs g keeps sectors old new passed l n paths one head home kept is w
     subst (OpensAs one) (sym x.1) (checkpoints g sectors old.state x.0 l n paths one (cells_of sectors x.0) head home is (cells_are_there sectors x.0) same x.2 x.3)
 
 pub write_runs : (g : Geometry) → WriteRuns g
-write_runs g keeps sectors old new passed l n paths one block bytes v s kept is went whole may inside writes run d h =
+write_runs g keeps sectors old new passed l n paths one block bytes v s kept is went whole used may inside writes run d h =
     let each = each_passed (IsPartlyWritten (8 * block) bytes old.state) keeps kept old new passed went run in
     let x = one_passed (Leaves (IsPartlyWritten (8 * block) bytes old.state)) (Leaves (IsPartlyWritten (8 * block) bytes old.state)) sectors passed d h each each in
     subst (TreesMayGo (AreFilesWrittenBy v s paths) one) (sym x.1)
-    (may_go (AreFilesWrittenBy v s paths) one (cells_of sectors x.0) (writes_go g sectors old.state x.0 l n paths one (cells_of sectors x.0) block bytes v s is (cells_are_there sectors x.0) whole may inside writes x.2))
+    (may_go (AreFilesWrittenBy v s paths) one (cells_of sectors x.0) (writes_go g sectors old.state x.0 l n paths one (cells_of sectors x.0) block bytes v s is (cells_are_there sectors x.0) whole used may inside writes x.2))
 
 pub file_commit_runs : (g : Geometry) → FileCommitRuns g
 file_commit_runs g keeps sectors old new passed l n paths one t file bytes kept is went c data' run d h =

@@ -1,5 +1,5 @@
 -- A write of a file's block, by the trees of what a crash leaves.
-use Rattle.std.proofs.Common.{◌≡◌, ◌⊎◌, inl, inr, ⊎_elim, ℕ, suc, ◌+◌, ◌*◌, ◌<◌, ◌≤◌, List, [], ◌∷◌, length, Option, Some, None, ap, sym, refl, ◌∙◌, subst, arith}
+use Rattle.std.proofs.Common.{◌≡◌, ◌⊎◌, inl, inr, ⊎_elim, ℕ, suc, ◌+◌, ◌*◌, ◌<◌, ◌≤◌, List, [], ◌∷◌, length, Option, Some, None, false, ap, sym, refl, ◌∙◌, subst, arith}
 use Rattle.std.specs.Prelude.{◌/◌, ◌%◌, flat_map, slice_get}
 use Rattle.std.specs.Option.{option_map}
 use Rattle.std.specs.FinMap as map
@@ -62,12 +62,12 @@ module _ (pick : Pick) (shape : Shape) (long : (b : ℕ) → IsIn b shape.holds 
 -- ---- one image
 
 module _ (g : Geometry) (sectors : ℕ) (old : State) (l : Ledger) (n : Numbers) (paths : Paths) (one : Cells) (block : ℕ) (bytes : List ℕ) (v : View) (s : StorePart) (is : IsBefore g sectors old l n paths one)
-    (whole : Leaves (IsImageOf sectors) old) (may : MayWrite l block bytes) (inside : 8 * block + 8 ≤ sectors) (writes : WritesItsFiles v s l.now n block bytes) (image : Image) (part : IsPartlyWritten (8 * block) bytes old image) where
+    (whole : Leaves (IsImageOf sectors) old) (used : l.head.clean ≡ false) (may : MayWrite l block bytes) (inside : 8 * block + 8 ≤ sectors) (writes : WritesItsFiles v s l.now n block bytes) (image : Image) (part : IsPartlyWritten (8 * block) bytes old image) where
   before : Image
   before = part.before
 
   left : IsLeft sectors l.head (rewritten block bytes l.blocks) l.now image
-  left = on_one sectors (written block bytes l) image is.none (writing sectors old l block bytes whole is.none is.ledger may image part)
+  left = on_one sectors (written block bytes l) image is.none (writing sectors old l block bytes whole is.none used is.ledger may image part)
 
   x : ShowsFiles sectors part.before l.now n paths
   x = was_shown g sectors old l n paths one is part.before part.left
@@ -189,7 +189,7 @@ module _ (g : Geometry) (sectors : ℕ) (old : State) (l : Ledger) (n : Numbers)
   write_within again same = left_within sectors l.head (rewritten block bytes l.blocks) l.now image again left same
 
 pub writes_go : (g : Geometry) → WritesGo g
-writes_go g sectors old new l n paths one other block bytes v s is are whole may inside writes leaves =
+writes_go g sectors old new l n paths one other block bytes v s is are whole used may inside writes leaves =
     cells_go sectors old new one other is.told are (was_within g sectors old l n paths one is)
-    (λ image again left same. write_within g sectors old l n paths one block bytes v s is whole may inside writes image (leaves image left) again same) (AreFilesWrittenBy v s paths)
-    (λ image left. write_goes g sectors old l n paths one block bytes v s is whole may inside writes image (leaves image left))
+    (λ image again left same. write_within g sectors old l n paths one block bytes v s is whole used may inside writes image (leaves image left) again same) (AreFilesWrittenBy v s paths)
+    (λ image left. write_goes g sectors old l n paths one block bytes v s is whole used may inside writes image (leaves image left))

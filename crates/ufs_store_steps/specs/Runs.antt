@@ -1,5 +1,5 @@
 -- The same at each moment of a call, on a disk that keeps its moments: what a mark asks of the states on the way.
-use Rattle.std.specs.Prelude.{ℕ, ◌+◌, ◌*◌, ◌≡◌, ◌≤◌, ◌⊎◌, List, ◌++◌, map, Bool, IsTrue}
+use Rattle.std.specs.Prelude.{ℕ, ◌+◌, ◌*◌, ◌≡◌, ◌≤◌, ◌⊎◌, List, ◌++◌, map, Bool, IsTrue, false}
 use Rattle.ufs_base.specs.declared.sizes.TheConstants.{SECTORS_PER_BLOCK}
 use Rattle.ufs_disk.specs.Disk.{State, IsImage, IsPartlyWritten, Leaves}
 use Rattle.ufs_disk.specs.Moments.{Moments, all, LeavesOnly}
@@ -48,7 +48,7 @@ CheckpointRuns g = (keeps : Bool) (sectors : ℕ) (old new : Moments) (passed : 
 -- a write
 abbrev pub WriteRuns : Geometry → Type 0
 WriteRuns g = (keeps : Bool) (sectors : ℕ) (old new : Moments) (passed : List State) (l : Ledger) (n : Numbers) (paths : Paths) (one : Cells) (block : ℕ) (bytes : List ℕ) (v : View) (s : StorePart) → IsTrue keeps
-    → IsBefore g sectors old.state l n paths one → WentThrough old new passed → Leaves (IsImageOf sectors) old.state → MayWrite l block bytes → SECTORS_PER_BLOCK * block + SECTORS_PER_BLOCK ≤ sectors → WritesItsFiles v s l.now n block bytes
+    → IsBefore g sectors old.state l n paths one → WentThrough old new passed → Leaves (IsImageOf sectors) old.state → l.head.clean ≡ false → MayWrite l block bytes → SECTORS_PER_BLOCK * block + SECTORS_PER_BLOCK ≤ sectors → WritesItsFiles v s l.now n block bytes
     → LeavesOnly keeps (IsPartlyWritten (SECTORS_PER_BLOCK * block) bytes old.state) old new → (d : Cells) → Has d (passed_cells sectors passed) → TreesMayGo (AreFilesWrittenBy v s paths) one d
 
 -- a commit of a file

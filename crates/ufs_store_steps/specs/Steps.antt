@@ -82,7 +82,7 @@ WritesItsFiles v s stand n block bytes = (file place : ℕ) → slice_get (shape
 -- Each tree has the files written back, at each moment of the call, whether it passes or fails.
 abbrev pub WritesGo : Geometry → Type 0
 WritesGo g = (sectors : ℕ) (old new : State) (l : Ledger) (n : Numbers) (paths : Paths) (one other : Cells) (block : ℕ) (bytes : List ℕ) (v : View) (s : StorePart) → IsBefore g sectors old l n paths one → AreCellsOf sectors new other
-    → Leaves (IsImageOf sectors) old → MayWrite l block bytes → SECTORS_PER_BLOCK * block + SECTORS_PER_BLOCK ≤ sectors → WritesItsFiles v s l.now n block bytes
+    → Leaves (IsImageOf sectors) old → l.head.clean ≡ false → MayWrite l block bytes → SECTORS_PER_BLOCK * block + SECTORS_PER_BLOCK ≤ sectors → WritesItsFiles v s l.now n block bytes
     → Leaves (IsPartlyWritten (SECTORS_PER_BLOCK * block) bytes old) new → TreesGo (AreFilesWrittenBy v s paths) one other
 
 -- ---- a commit of a file

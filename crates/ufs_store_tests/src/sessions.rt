@@ -1,4 +1,4 @@
-// A session: a pool, a file's block, commits, checkpoints and the closing.
+// A session: a pool, a file's block, commits and checkpoints, and a recovery of its disk.
 use crate::images::{
     commit_file, commit_names, commit_sizes, fill, give_back, log_of_birth, log_of_file, mounted,
 };
@@ -9,6 +9,7 @@ use ufs_bitmap::Pool;
 use ufs_disk::{Disk, PlainDisk};
 use ufs_extent::{Extents, Run};
 use ufs_layout::{get_inode, get_super};
+use ufs_recovery::recover;
 use ufs_store::{Direct, Door, StoreFault};
 
 /// A sector of the disk; none where the disk ends before it.
@@ -28,7 +29,7 @@ fn head_of(disk: &mut PlainDisk) -> Option<(u64, u64, bool)> {
 }
 
 #[test]
-fn a_file_is_committed_and_the_image_closed(rt: HostRuntime) -> Result<(), Fail> {
+fn a_file_is_committed_and_the_disk_recovered(rt: HostRuntime) -> Result<(), Fail> {
     let alloc = rt.alloc();
     let Some(mut store) = mounted(alloc, PlainDisk::zeros(alloc, 2_048)?) else {
         assert!(rt; false, "not mounted");
@@ -58,13 +59,14 @@ fn a_file_is_committed_and_the_image_closed(rt: HostRuntime) -> Result<(), Fail>
     let mut read = [1; BLOCK];
     assert!(rt; store.read_block(15, &mut read).is_ok());
     assert!(rt; read == block);
-    let mut closed = store.close(true);
-    assert!(rt; closed.ended.is_ok());
-    assert!(rt; head_of(&mut closed.disk) == Some((2, 3, true)));
-    let inode = sector_of(&mut closed.disk, 17).and_then(|bytes| get_inode(&bytes));
+    let mut disk = store.into_disk();
+    assert!(rt; head_of(&mut disk) == Some((1, 1, false)));
+    assert!(rt; recover(alloc, &mut disk) == Ok(2));
+    assert!(rt; head_of(&mut disk) == Some((2, 3, true)));
+    let inode = sector_of(&mut disk, 17).and_then(|bytes| get_inode(&bytes));
     assert!(rt; inode.is_some_and(|inode| inode.size == 1 && inode.number == 2));
-    let bits = sector_of(&mut closed.disk, 8);
-    assert!(rt; bits.is_some_and(|bytes| &bytes[..3] == [255, 63, 0].as_slice()));
+    let bits = sector_of(&mut disk, 8);
+    assert!(rt; bits.is_some_and(|bytes| &bytes[..3] == [255, 255, 0].as_slice()));
     Ok(())
 }
 
@@ -75,18 +77,14 @@ fn head_after(alloc: Global, count: u64) -> Option<(u64, u64, bool)> {
     if commit_sizes(alloc, &mut store, &mut log, count)? != count {
         return None;
     }
-    let mut closed = store.close(true);
-    if closed.ended.is_err() {
-        return None;
-    }
-    head_of(&mut closed.disk)
+    head_of(&mut store.into_disk())
 }
 
 #[test]
 fn a_full_journal_is_written_home(rt: HostRuntime) -> Result<(), Fail> {
-    // A commit takes two of the 64 sectors.
-    for (count, epoch) in [(32, 2), (33, 3), (64, 3), (65, 4)] {
-        assert!(rt; head_after(rt.alloc(), count) == Some((epoch, count + 1, true)));
+    // A commit takes two of the 64 sectors. The superblock's next number is that of the first commit in its epoch.
+    for (count, epoch, next) in [(32, 1, 1), (33, 2, 33), (64, 2, 33), (65, 3, 65)] {
+        assert!(rt; head_after(rt.alloc(), count) == Some((epoch, next, false)));
     }
     Ok(())
 }

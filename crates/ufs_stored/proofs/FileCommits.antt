@@ -132,7 +132,7 @@ module _ (s : StoreState) (between : Moments) (records : List LogRecord) (l : Le
   -- ---- the ledger
 
   abbrev room_at : Bool → Ledger
-  room_at b = if b then r else checkpointed false s2 r
+  room_at b = if b then r else checkpointed s2 r
 
   head_at : (b : Bool) → geometry_of (room_at b).head ≡ g
   head_at true = ap geometry_of (same_head (writes_of f) l)
@@ -238,7 +238,7 @@ module _ (s : StoreState) (between : Moments) (records : List LogRecord) (l : Le
   born_room : (h : DurableState) → IsOther x h → StandsFor (with_born h.file.inode l) h → (b : Bool) → StandsFor (with_born h.file.inode (room_at b)) h
   born_room h apart stood true = born_written h apart stood
   born_room h apart stood false =
-      behind_home (with_born h.file.inode r) h (next_head false s2) (block_at (home_of r (reads between))) (ap geometry_of (sym led.headed ∙ sym (same_head (writes_of f) l)))
+      behind_home (with_born h.file.inode r) h (next_head s2) (block_at (home_of r (reads between))) (ap geometry_of (sym led.headed ∙ sym (same_head (writes_of f) l)))
       (born_written h apart stood)
 
   born_behind : (h : DurableState) → IsOther x h → StandsFor (with_born h.file.inode l) h → StandsFor (with_born h.file.inode m) h

@@ -1,7 +1,9 @@
 -- A server stays on its disk while entries are drawn, also once its store has stopped.
 use Rattle.std.proofs.Common.{◌≡◌, ◌⊎◌, true, false, None, Some, List, [], ◌∷◌, ◌++◌, ap, sym, ◌∙◌, subst, inl, inr, ℕ}
+use Rattle.ufs_disk.specs.Disk.{Leaves}
+use Rattle.ufs_image.specs.Proper.{IsProperImage}
 use Rattle.ufs_layout.specs.declared.geometry.Geometry.{Geometry}
-use Rattle.ufs_ledger.specs.Laws.{EntriesKeep, LedgersExplain}
+use Rattle.ufs_ledger.specs.Laws.{EntriesKeep, LedgersExplain, LeftIsProper}
 use Rattle.ufs_model.specs.Descriptors.{opened}
 use Rattle.ufs_model.specs.History.{IsLegal, is_excused, tree_after}
 use Rattle.ufs_model.specs.PosixTree.{PosixTree}
@@ -22,6 +24,11 @@ use Rattle.ufs_stored.proofs.Entries.{excuse_kept, excuse_leaves, ledger_kept, n
 pub explained : (g : Geometry) → LedgersExplain g → (s : StoreState) (start : PosixTree) (history : List Entry) (p : Parts) → geometry_of_store s ≡ g → IsOnDisk s start history p → IsExplainedBy s start history
 explained g explains s start history p same (inl go) image left = explains s.sectors go.ledger image start history go.counts go.counts (go.formed ∙ same) (go.has.by.is.images image left) go.stored.kept
 explained g explains s start history p same (inr st) image left = explains s.sectors st.ledger image start history st.now st.maybe (st.formed ∙ same) (st.has.images image left) st.kept
+
+pub on_disk_proper : (g : Geometry) → LeftIsProper g → (s : StoreState) (start : PosixTree) (history : List Entry) (p : Parts) → geometry_of_store s ≡ g → IsOnDisk s start history p → Leaves (IsProperImage s.sectors) s.moments.state
+on_disk_proper g proper s start history p same (inl go) image left =
+    proper s.sectors go.ledger image (go.formed ∙ same) (λ other there. (go.stored.kept.there other there).0 ∙ go.formed ∙ same) (go.has.by.is.images image left)
+on_disk_proper g proper s start history p same (inr st) image left = proper s.sectors st.ledger image (st.formed ∙ same) (λ other there. (st.kept.there other there).0 ∙ st.formed ∙ same) (st.has.images image left)
 
 module _ (g : Geometry) (keeps : EntriesKeep g) (s : StoreState) (start : PosixTree) (history : List Entry) (entry : Entry) (p : Parts) (same : geometry_of_store s ≡ g) (legal : IsLegal start (history ++ entry ∷ [])) where
   -- an entry that leaves the tree, of a store that has stopped

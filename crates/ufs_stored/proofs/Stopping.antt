@@ -37,31 +37,31 @@ module _ (g : Geometry) (s : StoreState) (l : Ledger) (start : PosixTree) (histo
       (keeps (written block bytes l) block seen start history k k formed none (λ file place at i less under. absurd (free file place (k.numbers.inode file) refl at)) once)
 
   module _ (old : StoreState) (led : HasLedger old l) where
-    next_form : geometry_of (next_head false old) ≡ g
+    next_form : geometry_of (next_head old) ≡ g
     next_form = ap geometry_of (sym led.headed) ∙ formed
 
-    begun : BeginningIsKept g → IsLedgerKept (beginning_next false old l) start history k k
-    begun keeps = keeps l (next_head false old) (block_at (home_of l (reads old.moments))) start history k k formed next_form st.kept
+    begun : BeginningIsKept g → IsLedgerKept (beginning_next old l) start history k k
+    begun keeps = keeps l (next_head old) (block_at (home_of l (reads old.moments))) start history k k formed next_form st.kept
 
-    pub checkpoint_stops : BeginningIsKept g → HasAny s (l ∷ beginning_next false old l ∷ []) → HasStopped s start history p
+    pub checkpoint_stops : BeginningIsKept g → HasAny s (l ∷ beginning_next old l ∷ []) → HasStopped s start history p
     checkpoint_stops keeps (inl is) = stops_with l k k formed is st.kept
-    checkpoint_stops keeps (inr (inl is)) = stops_with (beginning_next false old l) k k formed is (begun keeps)
+    checkpoint_stops keeps (inr (inl is)) = stops_with (beginning_next old l) k k formed is (begun keeps)
     checkpoint_stops keeps (inr (inr none)) = absurd none
 
     pub commit_stops : BeginningIsKept g → EmptiedIsKept g → (records : List LogRecord) (next : Counts) → HasAny s (stages old records l)
         → IsLedgerKept (committing (next_commit old records) (settled (with_room old records l))) start history k next → HasStopped s start history p
     commit_stops begins empties records next any kept = by (has_room old records) any kept
       where
-        done : IsLedgerKept (checkpointed false old l) start history k k
-        done = empties l (next_head false old) (block_at (home_of l (reads old.moments))) start history k k formed next_form st.kept
+        done : IsLedgerKept (checkpointed old l) start history k k
+        done = empties l (next_head old) (block_at (home_of l (reads old.moments))) start history k k formed next_form st.kept
 
-        by : (b : Bool) → HasAny s (if b then commit_stages (next_commit old records) l else l ∷ beginning_next false old l ∷ commit_stages (next_commit old records) (checkpointed false old l))
-            → IsLedgerKept (committing (next_commit old records) (settled (if b then l else checkpointed false old l))) start history k next → HasStopped s start history p
+        by : (b : Bool) → HasAny s (if b then commit_stages (next_commit old records) l else l ∷ beginning_next old l ∷ commit_stages (next_commit old records) (checkpointed old l))
+            → IsLedgerKept (committing (next_commit old records) (settled (if b then l else checkpointed old l))) start history k next → HasStopped s start history p
         by true (inl is) kept = stops_with l k k formed is st.kept
         by true (inr (inl is)) kept = stops_with (committing (next_commit old records) (settled l)) k next formed is kept
         by true (inr (inr none)) kept = absurd none
         by false (inl is) kept = stops_with l k k formed is st.kept
-        by false (inr (inl is)) kept = stops_with (beginning_next false old l) k k formed is (begun begins)
-        by false (inr (inr (inl is))) kept = stops_with (checkpointed false old l) k k next_form is done
-        by false (inr (inr (inr (inl is)))) kept = stops_with (committing (next_commit old records) (settled (checkpointed false old l))) k next next_form is kept
+        by false (inr (inl is)) kept = stops_with (beginning_next old l) k k formed is (begun begins)
+        by false (inr (inr (inl is))) kept = stops_with (checkpointed old l) k k next_form is done
+        by false (inr (inr (inr (inl is)))) kept = stops_with (committing (next_commit old records) (settled (checkpointed old l))) k next next_form is kept
         by false (inr (inr (inr (inr none)))) kept = absurd none

@@ -1,6 +1,8 @@
 -- What keeps a server on its disk, also once its store has stopped.
 use Rattle.std.specs.Prelude.{ℕ, ◌≡◌, List, [], ◌∷◌, ◌++◌, IsSome, true, false, Some, None}
 use Rattle.ufs_bitmap.specs.Taking.{has}
+use Rattle.ufs_disk.specs.Disk.{Leaves}
+use Rattle.ufs_image.specs.Proper.{IsProperImage}
 use Rattle.ufs_layout.specs.Superblock.{geometry_of}
 use Rattle.ufs_layout.specs.declared.geometry.Geometry.{Geometry}
 use Rattle.ufs_layout.specs.declared.records.LogRecord.{LogRecord}
@@ -26,6 +28,10 @@ use Rattle.ufs_stored.specs.Stored.{IsStored}
 -- The history explains whatever a crash leaves.
 abbrev pub OnDiskIsExplained : Geometry → Type 0
 OnDiskIsExplained g = (s : StoreState) (start : PosixTree) (history : List Entry) (p : Parts) → geometry_of_store s ≡ g → IsOnDisk s start history p → IsExplainedBy s start history
+
+-- It is a proper image.
+abbrev pub OnDiskIsProper : Geometry → Type 0
+OnDiskIsProper g = (s : StoreState) (start : PosixTree) (history : List Entry) (p : Parts) → geometry_of_store s ≡ g → IsOnDisk s start history p → Leaves (IsProperImage s.sectors) s.moments.state
 
 -- ---- an entry is drawn
 
@@ -74,7 +80,7 @@ WritesStop g = (s : StoreState) (l : Ledger) (start : PosixTree) (history : List
 -- At a checkpoint that failed.
 abbrev pub CheckpointsStop : Geometry → Type 0
 CheckpointsStop g = (old s : StoreState) (l : Ledger) (start : PosixTree) (history : List Entry) (counts : Counts) (p : Parts) → geometry_of_store s ≡ g → geometry_of l.head ≡ g → IsSome s.stop
-    → HasLedger old l → HasAny s (l ∷ beginning_next false old l ∷ []) → IsStored l s.unassigned.free start history counts p → HasStopped s start history p
+    → HasLedger old l → HasAny s (l ∷ beginning_next old l ∷ []) → IsStored l s.unassigned.free start history counts p → HasStopped s start history p
 
 -- At a commit that failed, where it would have kept the promise by these counts.
 abbrev pub CommitsStop : Geometry → Type 0

@@ -1,11 +1,11 @@
 // Laws of the definitions, each the contract of a function that does nothing.
 ghost use Rattle.ufs_layout.specs.Areas.{IsGeometry};
-ghost use Rattle.ufs_stored.specs.OnDiskLaws.{AllIsSynced, BarriersStop, CheckpointsStop, CommitsStop, FileIsSynced, NamesAreSynced, OnDiskIsExcused, OnDiskIsExplained, OnDiskIsRefused, OnDiskStaysStill, WritesStop};
+ghost use Rattle.ufs_stored.specs.OnDiskLaws.{AllIsSynced, BarriersStop, CheckpointsStop, CommitsStop, FileIsSynced, NamesAreSynced, OnDiskIsExcused, OnDiskIsExplained, OnDiskIsProper, OnDiskIsRefused, OnDiskStaysStill, WritesStop};
 ghost use Rattle.ufs_stored.specs.Laws.{BlocksMove, CallsAreExplained, DirFsyncsKeep, EmptiedIsStored, ExcusesKeep, FileEntriesKeep, FilesAreCommitted, FilesAreSettled, FsyncsKeep, NameEntriesKeep, NamesAreCommitted, NamesAreCommitting, NamesMayCommit, NotesGoOn, QuietEntriesKeep, SettledIsStored, SpelledIsStored, StillEntriesKeep, StoredIsExplained, SyncsKeep, WrittenIsStored};
 
 use ufs_durable::{committing_law, others_law, standing_law};
 use ufs_layout::Geometry;
-use ufs_ledger::{opening_law, promise_law};
+use ufs_ledger::{opening_law, promise_law, proper_law};
 use ufs_name_log::{change_law, files_law, noted_law, state_law};
 use ufs_names::a_file_request_keeps_the_names;
 use ufs_names_ledger::names_go_on_law;
@@ -109,6 +109,7 @@ pub fn file_commit_law()
 pub fn on_disk_law(geometry: &Geometry)
     requires { IsGeometry geometry.now }
     ensures explained { OnDiskIsExplained geometry.now }
+    ensures proper { OnDiskIsProper geometry.now }
     ensures excused { OnDiskIsExcused geometry.now }
     ensures still { OnDiskStaysStill geometry.now }
     ensures refused { OnDiskIsRefused geometry.now }
@@ -117,6 +118,7 @@ pub fn on_disk_law(geometry: &Geometry)
     ensures all_synced { AllIsSynced geometry.now }
 {
     opening_law(geometry);
+    proper_law(geometry);
     promise_law(geometry);
     an_entry_keeps_what_is_shown();
 }

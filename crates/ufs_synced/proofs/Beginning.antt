@@ -79,6 +79,7 @@ module _ (s : StoreState) (l : Ledger) (u : BlockSet) (start : PosixTree) (histo
     by = record {
       is = shrinks s.sectors s.moments.state l off led.by.none led.by.is fewer (covers (sound s.sectors s.moments.state l led.by.none led.by.is).1);
       none = led.by.none;
+      in_use = led.by.in_use;
       geometry = led.by.geometry;
       epoch = led.by.epoch;
       later = led.by.later;

@@ -48,32 +48,32 @@ module _ (g : Geometry) (old new : StoreState) (start : PosixTree) (history : Li
   moved : (m : Ledger) (c : Counts) (q : Parts) → IsStored m old.unassigned.free start history c q → IsStored m new.unassigned.free start history c q
   moved m c q st = subst (λ (u : Space). IsStored m u.free start history c q) (sym beside.unassigned) st
 
-  next_form : geometry_of (next_head false old) ≡ g
+  next_form : geometry_of (next_head old) ≡ g
   next_form = ap geometry_of (sym led.headed) ∙ formed
 
-  emptied_stored : EmptiedIsStored g → IsStored (checkpointed false old l) old.unassigned.free start history k p
-  emptied_stored empties = empties l old.unassigned.free start history k p (next_head false old) (block_at (home_of l (reads old.moments))) formed next_form h.stored
+  emptied_stored : EmptiedIsStored g → IsStored (checkpointed old l) old.unassigned.free start history k p
+  emptied_stored empties = empties l old.unassigned.free start history k p (next_head old) (block_at (home_of l (reads old.moments))) formed next_form h.stored
 
-  pub waits : EmptiedIsStored g → ((m : Ledger) → HasLedger old m → HasLedger new m ⊎ HasLedger new (checkpointed false old m)) → IsGoing new start history p
+  pub waits : EmptiedIsStored g → ((m : Ledger) → HasLedger old m → HasLedger new m ⊎ HasLedger new (checkpointed old m)) → IsGoing new start history p
   waits empties leaves = by (leaves l led)
     where
-      by : HasLedger new l ⊎ HasLedger new (checkpointed false old l) → IsGoing new start history p
+      by : HasLedger new l ⊎ HasLedger new (checkpointed old l) → IsGoing new start history p
       by (inl has) = record { ledger = l; counts = k; has = has; formed = formed ∙ sym beside.new_form; stored = moved l k p h.stored }
-      by (inr has) = record { ledger = checkpointed false old l; counts = k; has = has; formed = next_form ∙ sym beside.new_form; stored = moved (checkpointed false old l) k p (emptied_stored empties) }
+      by (inr has) = record { ledger = checkpointed old l; counts = k; has = has; formed = next_form ∙ sym beside.new_form; stored = moved (checkpointed old l) k p (emptied_stored empties) }
 
   -- ---- with room
 
   room_formed : (records : List LogRecord) → geometry_of (with_room old records l).head ≡ g
   room_formed records = by (has_room old records)
     where
-      by : (b : Bool) → geometry_of (if b then l else checkpointed false old l).head ≡ g
+      by : (b : Bool) → geometry_of (if b then l else checkpointed old l).head ≡ g
       by true = formed
       by false = next_form
 
   room_stored : EmptiedIsStored g → (records : List LogRecord) → IsStored (with_room old records l) old.unassigned.free start history k p
   room_stored empties records = by (has_room old records)
     where
-      by : (b : Bool) → IsStored (if b then l else checkpointed false old l) old.unassigned.free start history k p
+      by : (b : Bool) → IsStored (if b then l else checkpointed old l) old.unassigned.free start history k p
       by true = h.stored
       by false = emptied_stored empties
 
@@ -87,10 +87,10 @@ module _ (g : Geometry) (old new : StoreState) (start : PosixTree) (history : Li
     room_to_commit : HasNamesToCommit g (with_room old records l) p old.journal.number records
     room_to_commit = by (has_room old records)
       where
-        spelled : (block : ℕ) → IsSpelled l block → IsSpelled (checkpointed false old l) block
+        spelled : (block : ℕ) → IsSpelled l block → IsSpelled (checkpointed old l) block
         spelled block is = record { data_block = subst (λ x. IsDataBlock x block) (formed ∙ sym next_form) is.data_block; spelled = is.spelled; slots = is.slots; unheld = refl }
 
-        by : (b : Bool) → HasNamesToCommit g (if b then l else checkpointed false old l) p old.journal.number records
+        by : (b : Bool) → HasNamesToCommit g (if b then l else checkpointed old l) p old.journal.number records
         by true = to_commit
         by false = record { geometry = next_form; none = refl; noted = noted; table = table; ready = λ block fresh. spelled block (h.ready block fresh); older = older }
 

@@ -85,6 +85,7 @@ module _ (g : Geometry) (s : StoreState) (start : PosixTree) (history : List Ent
         by = record {
           is = joins s.sectors s.moments.state l block (images_of s.sectors s.moments.state whole) led.by.none led.by.is free.data_block free.unheld free.no_dir zero;
           none = led.by.none;
+          in_use = led.by.in_use;
           geometry = led.by.geometry;
           epoch = led.by.epoch;
           later = led.by.later;

@@ -65,7 +65,7 @@ NamesStop g = (old new : StoreState) (start : PosixTree) (history : List Entry) 
 -- Memory was wanting, at most after a checkpoint.
 abbrev pub NamesWait : Geometry → Type 0
 NamesWait g = (old new : StoreState) (start : PosixTree) (history : List Entry) (p : Parts) → IsBeside g old new
-    → ((l : Ledger) → HasLedger old l → HasLedger new l ⊎ HasLedger new (checkpointed false old l)) → HasSpelled old start history p → IsGoing new start history p
+    → ((l : Ledger) → HasLedger old l → HasLedger new l ⊎ HasLedger new (checkpointed old l)) → HasSpelled old start history p → IsGoing new start history p
 
 -- Where all changes of each live file stand there too, everything does: no other file has changes that a path shows.
 abbrev pub AllAreThere : Geometry → Type 0

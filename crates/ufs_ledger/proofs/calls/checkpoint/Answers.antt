@@ -33,7 +33,7 @@ returns-in_err-barrier-clause-crash g c told l by log =
     let whole = images_of size m0.state (g.met.D.Disk.whole told c.args.disk.now) in
     let run1 = c.barrier.ensures.crash told in
     let same = c.barrier.ensures.content told in
-    crash1 size g.D.Disk.keeps j l new c.super_sector-sector.result m0 m1 by whole c.super_sector-sector.ensures kept c.requires.later run1 same
+    crash1 size g.D.Disk.keeps j l new c.super_sector-sector.result m0 m1 by whole c.super_sector-sector.ensures kept c.requires.later c.requires.in_use run1 same
 
 pub returns-in_err-write_home-clause-crash : goal.returns-in_err-write_home-clause-crash
 returns-in_err-write_home-clause-crash g c told l by log =
@@ -51,7 +51,7 @@ returns-in_err-write_home-clause-crash g c told l by log =
     let m2 = g.D.Disk.moments c.write_home.new.disk in
     let over : overlaid.geometry_of c.args.overlay.now ≡ geometry_of l.head = c.requires.over ∙ sym by.geometry in
     let run2 = subst (λ (x : Geometry). LeavesOnly g.D.Disk.keeps (IsHomeWritten x l.now.log m1.state) m1 m2) over (c.write_home.ensures.crash told l.now.log log (λ image left sector touched i. still1 image left i sector)) in
-    crash2 size g.D.Disk.keeps j l new c.super_sector-sector.result m0 m1 by whole c.super_sector-sector.ensures kept c.requires.later run1 same still1 whole1 m2 run2
+    crash2 size g.D.Disk.keeps j l new c.super_sector-sector.result m0 m1 by whole c.super_sector-sector.ensures kept c.requires.later c.requires.in_use run1 same still1 whole1 m2 run2
 
 pub returns-in_err-barrier-2-clause-crash : goal.returns-in_err-barrier-2-clause-crash
 returns-in_err-barrier-2-clause-crash g c told l by log =
@@ -73,7 +73,7 @@ returns-in_err-barrier-2-clause-crash g c told l by log =
     let m3 = g.D.Disk.moments c.barrier-2.new.self in
     let run3 = c.barrier-2.ensures.crash told in
     let same3 = c.barrier-2.ensures.content told in
-    crash3 size g.D.Disk.keeps j l new c.super_sector-sector.result m0 m1 by whole c.super_sector-sector.ensures kept c.requires.later run1 same still1 whole1 m2 run2 done m3 run3 same3
+    crash3 size g.D.Disk.keeps j l new c.super_sector-sector.result m0 m1 by whole c.super_sector-sector.ensures kept c.requires.later c.requires.in_use run1 same still1 whole1 m2 run2 done m3 run3 same3
 
 pub returns-in_err-write-clause-crash : goal.returns-in_err-write-clause-crash
 returns-in_err-write-clause-crash g c told l by log =
@@ -100,7 +100,7 @@ returns-in_err-write-clause-crash g c told l by log =
     let long : length c.super_sector-sector.result ≡ 512 = search rules in
     let m4 = g.D.Disk.moments c.write.new.self in
     let run4 = c.write.ensures.crash told in
-    crash4 size g.D.Disk.keeps j l new c.super_sector-sector.result m0 m1 by whole c.super_sector-sector.ensures kept c.requires.later run1 same still1 whole1 m2 run2 done m3 run3 same3 still3 whole3 long m4 run4
+    crash4 size g.D.Disk.keeps j l new c.super_sector-sector.result m0 m1 by whole c.super_sector-sector.ensures kept c.requires.later c.requires.in_use run1 same still1 whole1 m2 run2 done m3 run3 same3 still3 whole3 long m4 run4
 
 pub returns-in_err-barrier-3-clause-crash : goal.returns-in_err-barrier-3-clause-crash
 returns-in_err-barrier-3-clause-crash g c told l by log =
@@ -131,7 +131,7 @@ returns-in_err-barrier-3-clause-crash g c told l by log =
     let m5 = g.D.Disk.moments c.barrier-3.new.self in
     let run5 = c.barrier-3.ensures.crash told in
     let same5 = c.barrier-3.ensures.content told in
-    crash5 size g.D.Disk.keeps j l new c.super_sector-sector.result m0 m1 by whole c.super_sector-sector.ensures kept c.requires.later run1 same still1 whole1 m2 run2 done m3 run3 same3 still3 whole3 long m4 run4 put4 m5 run5 same5
+    crash5 size g.D.Disk.keeps j l new c.super_sector-sector.result m0 m1 by whole c.super_sector-sector.ensures kept c.requires.later c.requires.in_use run1 same still1 whole1 m2 run2 done m3 run3 same3 still3 whole3 long m4 run4 put4 m5 run5 same5
 
 pub returns-in_err-barrier-clause-err : goal.returns-in_err-barrier-clause-err
 returns-in_err-barrier-clause-err g c told = on_err c.from_residual.result _ (λ l by log.
@@ -144,7 +144,7 @@ returns-in_err-barrier-clause-err g c told = on_err c.from_residual.result _ (λ
     let whole = images_of size m0.state (g.met.D.Disk.whole told c.args.disk.now) in
     let run1 = c.barrier.ensures.crash told in
     let same = c.barrier.ensures.content told in
-    inl (subst (λ n. IsLedgerOf n m1.state l) (sym (c.barrier.ensures.size)) (ledger1 size g.D.Disk.keeps j l new c.super_sector-sector.result m0 m1 by whole c.super_sector-sector.ensures kept c.requires.later run1 same)))
+    inl (subst (λ n. IsLedgerOf n m1.state l) (sym (c.barrier.ensures.size)) (ledger1 size g.D.Disk.keeps j l new c.super_sector-sector.result m0 m1 by whole c.super_sector-sector.ensures kept c.requires.later c.requires.in_use run1 same)))
 
 pub returns-in_err-write_home-clause-err : goal.returns-in_err-write_home-clause-err
 returns-in_err-write_home-clause-err g c told = on_err c.from_residual-in_err-write_home.result _ (λ l by log.
@@ -162,7 +162,7 @@ returns-in_err-write_home-clause-err g c told = on_err c.from_residual-in_err-wr
     let m2 = g.D.Disk.moments c.write_home.new.disk in
     let over : overlaid.geometry_of c.args.overlay.now ≡ geometry_of l.head = c.requires.over ∙ sym by.geometry in
     let run2 = subst (λ (x : Geometry). LeavesOnly g.D.Disk.keeps (IsHomeWritten x l.now.log m1.state) m1 m2) over (c.write_home.ensures.crash told l.now.log log (λ image left sector touched i. still1 image left i sector)) in
-    inl (subst (λ n. IsLedgerOf n m2.state l) (sym (c.write_home.ensures.size ∙ c.barrier.ensures.size)) (ledger2 size g.D.Disk.keeps j l new c.super_sector-sector.result m0 m1 by whole c.super_sector-sector.ensures kept c.requires.later run1 same still1 whole1 m2 run2)))
+    inl (subst (λ n. IsLedgerOf n m2.state l) (sym (c.write_home.ensures.size ∙ c.barrier.ensures.size)) (ledger2 size g.D.Disk.keeps j l new c.super_sector-sector.result m0 m1 by whole c.super_sector-sector.ensures kept c.requires.later c.requires.in_use run1 same still1 whole1 m2 run2)))
 
 pub returns-in_err-barrier-2-clause-err : goal.returns-in_err-barrier-2-clause-err
 returns-in_err-barrier-2-clause-err g c told = on_err c.from_residual-in_err-barrier-2.result _ (λ l by log.
@@ -184,7 +184,7 @@ returns-in_err-barrier-2-clause-err g c told = on_err c.from_residual-in_err-bar
     let m3 = g.D.Disk.moments c.barrier-2.new.self in
     let run3 = c.barrier-2.ensures.crash told in
     let same3 = c.barrier-2.ensures.content told in
-    inl (subst (λ n. IsLedgerOf n m3.state l) (sym (c.barrier-2.ensures.size ∙ c.write_home.ensures.size ∙ c.barrier.ensures.size)) (ledger3 size g.D.Disk.keeps j l new c.super_sector-sector.result m0 m1 by whole c.super_sector-sector.ensures kept c.requires.later run1 same still1 whole1 m2 run2 done m3 run3 same3)))
+    inl (subst (λ n. IsLedgerOf n m3.state l) (sym (c.barrier-2.ensures.size ∙ c.write_home.ensures.size ∙ c.barrier.ensures.size)) (ledger3 size g.D.Disk.keeps j l new c.super_sector-sector.result m0 m1 by whole c.super_sector-sector.ensures kept c.requires.later c.requires.in_use run1 same still1 whole1 m2 run2 done m3 run3 same3)))
 
 pub returns-in_err-write-clause-err : goal.returns-in_err-write-clause-err
 returns-in_err-write-clause-err g c told = on_err c.from_residual-in_err-write.result _ (λ l by log.
@@ -211,7 +211,7 @@ returns-in_err-write-clause-err g c told = on_err c.from_residual-in_err-write.r
     let long : length c.super_sector-sector.result ≡ 512 = search rules in
     let m4 = g.D.Disk.moments c.write.new.self in
     let run4 = c.write.ensures.crash told in
-    inr (subst (λ n. IsLedgerOf n m4.state (beginning new (block_at (home_of l (reads m0))) l)) (sym (c.write.ensures.size ∙ c.barrier-2.ensures.size ∙ c.write_home.ensures.size ∙ c.barrier.ensures.size)) (ledger4 size g.D.Disk.keeps j l new c.super_sector-sector.result m0 m1 by whole c.super_sector-sector.ensures kept c.requires.later run1 same still1 whole1 m2 run2 done m3 run3 same3 still3 whole3 long m4 run4)))
+    inr (subst (λ n. IsLedgerOf n m4.state (beginning new (block_at (home_of l (reads m0))) l)) (sym (c.write.ensures.size ∙ c.barrier-2.ensures.size ∙ c.write_home.ensures.size ∙ c.barrier.ensures.size)) (ledger4 size g.D.Disk.keeps j l new c.super_sector-sector.result m0 m1 by whole c.super_sector-sector.ensures kept c.requires.later c.requires.in_use run1 same still1 whole1 m2 run2 done m3 run3 same3 still3 whole3 long m4 run4)))
 
 pub returns-in_err-barrier-3-clause-err : goal.returns-in_err-barrier-3-clause-err
 returns-in_err-barrier-3-clause-err g c told = on_err c.from_residual-in_err-barrier-3.result _ (λ l by log.
@@ -242,7 +242,7 @@ returns-in_err-barrier-3-clause-err g c told = on_err c.from_residual-in_err-bar
     let m5 = g.D.Disk.moments c.barrier-3.new.self in
     let run5 = c.barrier-3.ensures.crash told in
     let same5 = c.barrier-3.ensures.content told in
-    inr (subst (λ n. IsLedgerOf n m5.state (beginning new (block_at (home_of l (reads m0))) l)) (sym (c.barrier-3.ensures.size ∙ c.write.ensures.size ∙ c.barrier-2.ensures.size ∙ c.write_home.ensures.size ∙ c.barrier.ensures.size)) (ledger5_tried size g.D.Disk.keeps j l new c.super_sector-sector.result m0 m1 by whole c.super_sector-sector.ensures kept c.requires.later run1 same still1 whole1 m2 run2 done m3 run3 same3 still3 whole3 long m4 run4 put4 m5 run5 same5)))
+    inr (subst (λ n. IsLedgerOf n m5.state (beginning new (block_at (home_of l (reads m0))) l)) (sym (c.barrier-3.ensures.size ∙ c.write.ensures.size ∙ c.barrier-2.ensures.size ∙ c.write_home.ensures.size ∙ c.barrier.ensures.size)) (ledger5_tried size g.D.Disk.keeps j l new c.super_sector-sector.result m0 m1 by whole c.super_sector-sector.ensures kept c.requires.later c.requires.in_use run1 same still1 whole1 m2 run2 done m3 run3 same3 still3 whole3 long m4 run4 put4 m5 run5 same5)))
 
 pub returns-clause-crash : goal.returns-clause-crash
 returns-clause-crash g c told l by log =
@@ -273,7 +273,7 @@ returns-clause-crash g c told l by log =
     let m5 = g.D.Disk.moments c.barrier-3.new.self in
     let run5 = c.barrier-3.ensures.crash told in
     let same5 = c.barrier-3.ensures.content told in
-    crash5 size g.D.Disk.keeps j l new c.super_sector-sector.result m0 m1 by whole c.super_sector-sector.ensures kept c.requires.later run1 same still1 whole1 m2 run2 done m3 run3 same3 still3 whole3 long m4 run4 put4 m5 run5 same5
+    crash5 size g.D.Disk.keeps j l new c.super_sector-sector.result m0 m1 by whole c.super_sector-sector.ensures kept c.requires.later c.requires.in_use run1 same still1 whole1 m2 run2 done m3 run3 same3 still3 whole3 long m4 run4 put4 m5 run5 same5
 
 pub returns-clause-ok : goal.returns-clause-ok
 returns-clause-ok g c told l by log =
@@ -307,11 +307,12 @@ returns-clause-ok g c told l by log =
     let still5 = c.in_ok-barrier-3.ensures.ok told in
     let k = c.restart.new.self in
     let later : k.number ≡ j.number = c.restart.ensures.same.1 in
-    let ready = c.restart.ensures.ready m5.state (ready5 size g.D.Disk.keeps j l new c.super_sector-sector.result m0 m1 by whole c.super_sector-sector.ensures kept c.requires.later run1 same still1 whole1 m2 run2 done m3 run3 same3 still3 whole3 long m4 run4 put4 m5 run5 same5 still5) in
+    let ready = c.restart.ensures.ready m5.state (ready5 size g.D.Disk.keeps j l new c.super_sector-sector.result m0 m1 by whole c.super_sector-sector.ensures kept c.requires.later c.requires.in_use run1 same still1 whole1 m2 run2 done m3 run3 same3 still3 whole3 long m4 run4 put4 m5 run5 same5 still5) in
     record {
       is = subst (λ n. IsLedgerOf n m5.state (emptied new (block_at (home_of l (reads m0))) l)) (sym (c.barrier-3.ensures.size ∙ c.write.ensures.size ∙ c.barrier-2.ensures.size ∙ c.write_home.ensures.size ∙ c.barrier.ensures.size))
-          (ledger5 size g.D.Disk.keeps j l new c.super_sector-sector.result m0 m1 by whole c.super_sector-sector.ensures kept c.requires.later run1 same still1 whole1 m2 run2 done m3 run3 same3 still3 whole3 long m4 run4 put4 m5 run5 same5 still5);
+          (ledger5 size g.D.Disk.keeps j l new c.super_sector-sector.result m0 m1 by whole c.super_sector-sector.ensures kept c.requires.later c.requires.in_use run1 same still1 whole1 m2 run2 done m3 run3 same3 still3 whole3 long m4 run4 put4 m5 run5 same5 still5);
       none = refl;
+      in_use = c.requires.in_use;
       geometry = c.requires.same ∙ sym c.restart.ensures.same.0;
       epoch = sym c.restart.ensures.epoch;
       later = omega (arith, c.requires.next, later);

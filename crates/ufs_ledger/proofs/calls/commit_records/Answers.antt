@@ -131,6 +131,7 @@ returns-clause-next g c told below = on_ok_cases c.commit.result _ (λ at l by g
       is = subst (λ n. IsLedgerOf n m3.state (committed_one (record { number = j.number; records = rs }) l)) (sym (c.commit.ensures.size ∙ c.append.ensures.size ∙ c.barrier.ensures.size))
           (ok3 size g.D.Disk.keeps j l c.args.txn rs m0 m1 by go folds more run1 same m2 still run2 k c.append.ensures.same.0 c.append.ensures.same.1 c.append.ensures.same.2 m3 run3 end (at _ (c.commit.ensures.committed told ready2 rs open2 fits2)));
       none = by.none;
+      in_use = by.in_use;
       geometry = by.geometry ∙ sym (kept.0 ∙ c.append.ensures.same.0);
       epoch = by.epoch ∙ sym (kept.1 ∙ c.append.ensures.same.1);
       later = omega (arith, by.later, grown, number, below);

@@ -13,11 +13,11 @@ use Rattle.ufs_ledger.proofs.States.{writing, wrote, tried_to}
 use Rattle.ufs_ledger.proofs.calls.write_data.Goals as goal
 
 pub returns-clause-crash : goal.returns-clause-crash
-returns-clause-crash g c told l is none may =
+returns-clause-crash g c told l is none used may =
     let old = g.D.Disk.moments c.args.disk.now in
     let size = g.D.Disk.size c.args.disk.now in
     weaker g.D.Disk.keeps (IsPartlyWritten (8 * c.args.block) c.args.bytes.now old.state) (IsLeftBy size (written c.args.block c.args.bytes.now l))
-    (λ image part. writing size old.state l c.args.block c.args.bytes.now (images_of size old.state (g.met.D.Disk.whole told c.args.disk.now)) none is may image part)
+    (λ image part. writing size old.state l c.args.block c.args.bytes.now (images_of size old.state (g.met.D.Disk.whole told c.args.disk.now)) none used is may image part)
     old (g.D.Disk.moments c.write.new.self) (c.write.ensures.crash told)
 
 pub returns-clause-ok : goal.returns-clause-ok
@@ -25,8 +25,8 @@ returns-clause-ok g c told =
     let old = g.D.Disk.moments c.args.disk.now in
     let size = g.D.Disk.size c.args.disk.now in
     on_ok_weaker c.write.result
-    (λ reads l is none may. subst (λ n. IsLedgerOf n (g.D.Disk.moments c.write.new.self).state (written c.args.block c.args.bytes.now l)) (sym c.write.ensures.size)
-    (wrote size old.state l c.args.block c.args.bytes.now (images_of size old.state (g.met.D.Disk.whole told c.args.disk.now)) none is may (g.D.Disk.moments c.write.new.self).state (c.write.ensures.crash told).after reads))
+    (λ reads l is none used may. subst (λ n. IsLedgerOf n (g.D.Disk.moments c.write.new.self).state (written c.args.block c.args.bytes.now l)) (sym c.write.ensures.size)
+    (wrote size old.state l c.args.block c.args.bytes.now (images_of size old.state (g.met.D.Disk.whole told c.args.disk.now)) none used is may (g.D.Disk.moments c.write.new.self).state (c.write.ensures.crash told).after reads))
     (c.write.ensures.ok told)
 
 pub returns-clause-err : goal.returns-clause-err
@@ -34,8 +34,8 @@ returns-clause-err g c told =
     let old = g.D.Disk.moments c.args.disk.now in
     let size = g.D.Disk.size c.args.disk.now in
     on_err c.write.result _
-    (λ l is none may. subst (λ n. IsLedgerOf n (g.D.Disk.moments c.write.new.self).state (tried c.args.block c.args.bytes.now (block_at (reads (g.D.Disk.moments c.write.new.self)) c.args.block) l)) (sym c.write.ensures.size)
-    (tried_to size old.state l c.args.block c.args.bytes.now (images_of size old.state (g.met.D.Disk.whole told c.args.disk.now)) none is may (g.D.Disk.moments c.write.new.self).state (c.write.ensures.crash told).after (c.write.ensures.content told)))
+    (λ l is none used may. subst (λ n. IsLedgerOf n (g.D.Disk.moments c.write.new.self).state (tried c.args.block c.args.bytes.now (block_at (reads (g.D.Disk.moments c.write.new.self)) c.args.block) l)) (sym c.write.ensures.size)
+    (tried_to size old.state l c.args.block c.args.bytes.now (images_of size old.state (g.met.D.Disk.whole told c.args.disk.now)) none used is may (g.D.Disk.moments c.write.new.self).state (c.write.ensures.crash told).after (c.write.ensures.content told)))
 
 pub returns-clause-ready : goal.returns-clause-ready
 returns-clause-ready g c told geometry epoch used number from is =

@@ -8,7 +8,7 @@ returns c = record {
   settled = λ old new l is no_more same none settled. barrier_settles c.args.sectors old new l none is no_more same settled;
   fewer = λ state l dirs none is less covers. shrinks c.args.sectors state l dirs none is less covers;
   zeros = λ state l block whole none is data' free no_dir zeros. joins c.args.sectors state l block whole none is data' free no_dir zeros;
-  write = λ old l block bytes image whole none is may. writing c.args.sectors old l block bytes whole none is may image;
-  written = λ old new l block bytes whole none is may. wrote c.args.sectors old l block bytes whole none is may new;
-  tried = λ old new l block bytes whole none is may. tried_to c.args.sectors old l block bytes whole none is may new;
+  write = λ old l block bytes image whole none used is may. writing c.args.sectors old l block bytes whole none used is may image;
+  written = λ old new l block bytes whole none used is may. wrote c.args.sectors old l block bytes whole none used is may new;
+  tried = λ old new l block bytes whole none used is may. tried_to c.args.sectors old l block bytes whole none used is may new;
 }

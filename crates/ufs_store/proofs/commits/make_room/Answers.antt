@@ -18,7 +18,7 @@ pub returns-clause-crash : goal.returns-clause-crash
 returns-clause-crash g c told l has =
     let s = state_of (g.D.Disk.size c.args.disk.now) (g.D.Disk.moments c.args.disk.now) (g.D.Disk.faults c.args.disk.now) c.args.tables.now in
     let full = lacks s c.args.records.now c.room.result c.sectors_needed.result c.room.ensures c.sectors_needed.ensures c.if-sectors_needed-room.false in
-    subst (λ b. LeavesOnly g.D.Disk.keeps (IsLeftByAny (g.D.Disk.size c.args.disk.now) (if b then l ∷ [] else l ∷ beginning_next false s l ∷ [])) (g.D.Disk.moments c.args.disk.now) (g.D.Disk.moments c.begin_next.new.disk))
+    subst (λ b. LeavesOnly g.D.Disk.keeps (IsLeftByAny (g.D.Disk.size c.args.disk.now) (if b then l ∷ [] else l ∷ beginning_next s l ∷ [])) (g.D.Disk.moments c.args.disk.now) (g.D.Disk.moments c.begin_next.new.disk))
     (sym full) (c.begin_next.ensures.crash told l has)
 
 pub returns-clause-ok : goal.returns-clause-ok
@@ -26,11 +26,11 @@ returns-clause-ok g c told =
     let s = state_of (g.D.Disk.size c.args.disk.now) (g.D.Disk.moments c.args.disk.now) (g.D.Disk.faults c.args.disk.now) c.args.tables.now in
     let t = state_of (g.D.Disk.size c.begin_next.new.disk) (g.D.Disk.moments c.begin_next.new.disk) (g.D.Disk.faults c.begin_next.new.disk) c.begin_next.new.tables in
     let full = lacks s c.args.records.now c.room.result c.sectors_needed.result c.room.ensures c.sectors_needed.ensures c.if-sectors_needed-room.false in
-    on_ok_weaker c.begin_next.result (λ goes l has. subst (λ b. HasLedger t (if b then l else checkpointed false s l)) (sym full) (goes l has)) (c.begin_next.ensures.ok told)
+    on_ok_weaker c.begin_next.result (λ goes l has. subst (λ b. HasLedger t (if b then l else checkpointed s l)) (sym full) (goes l has)) (c.begin_next.ensures.ok told)
 
 pub returns-clause-device : goal.returns-clause-device
 returns-clause-device g c told fault is l has =
     let s = state_of (g.D.Disk.size c.args.disk.now) (g.D.Disk.moments c.args.disk.now) (g.D.Disk.faults c.args.disk.now) c.args.tables.now in
     let t = state_of (g.D.Disk.size c.begin_next.new.disk) (g.D.Disk.moments c.begin_next.new.disk) (g.D.Disk.faults c.begin_next.new.disk) c.begin_next.new.tables in
     let full = lacks s c.args.records.now c.room.result c.sectors_needed.result c.room.ensures c.sectors_needed.ensures c.if-sectors_needed-room.false in
-    subst (λ b. HasAny t (if b then l ∷ [] else l ∷ beginning_next false s l ∷ [])) (sym full) (c.begin_next.ensures.device told fault is l has)
+    subst (λ b. HasAny t (if b then l ∷ [] else l ∷ beginning_next s l ∷ [])) (sym full) (c.begin_next.ensures.device told fault is l has)

@@ -1,4 +1,4 @@
-use Rattle.std.proofs.Common.{◌∙◌, ◌+◌, ◌∷◌, [], refl, sym, subst, arith}
+use Rattle.std.proofs.Common.{◌∙◌, ◌+◌, ◌∷◌, [], false, refl, sym, subst, arith}
 use Rattle.ufs_disk.specs.Moments.{LeavesOnly, reads}
 use Rattle.ufs_image.specs.Images.{block_at}
 use Rattle.ufs_layout.specs.Superblock.{geometry_of}
@@ -25,7 +25,7 @@ returns-in-Ok-clause-ok g c told l has =
     let new = g.D.Disk.moments c.checkpoint.new.disk in
     let home = block_at (home_of l (reads (g.D.Disk.moments c.args.disk.now))) in
     let by = c.in-Ok.ensures.ok told l has.by has.added in
-    let head : Super = record (c.args.tables.now.head) { epoch = c.args.tables.now.head.epoch + 1; next = c.args.tables.now.journal.number; clean = c.args.clean } in
+    let head : Super = record (c.args.tables.now.head) { epoch = c.args.tables.now.head.epoch + 1; next = c.args.tables.now.journal.number; clean = false } in
     let there : IsLedgerBy c.checkpoint.new.journal (g.D.Disk.size c.checkpoint.new.disk) new.state (emptied head home l) =
     subst (λ (h : Super). IsLedgerBy c.checkpoint.new.journal (g.D.Disk.size c.checkpoint.new.disk) new.state (emptied h home l)) c.in-Some.ensures by in
     let same = there.geometry ∙ c.checkpoint.ensures.geometry ∙ sym has.by.geometry in
@@ -50,6 +50,3 @@ returns-in-Err-clause-crash g c told l has =
     let home = block_at (home_of l (reads old)) in
     subst (λ (h : Super). LeavesOnly g.D.Disk.keeps (IsLeftByAny size (l ∷ beginning h home l ∷ [])) old new) c.in-Some.ensures
     (by_two size g.D.Disk.keeps l (beginning c.in-Some.head home l) old new (c.checkpoint.ensures.crash told l has.by has.added))
-
-pub returns-in-Ok-clause-bitmap : goal.returns-in-Ok-clause-bitmap
-returns-in-Ok-clause-bitmap g c told l has = c.in-Ok.ensures.bitmap told l.now.log has.added

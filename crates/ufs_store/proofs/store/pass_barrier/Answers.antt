@@ -20,6 +20,7 @@ returns-in-Ok-clause-ok g c told l has =
       by = record {
         is = c.in-Ok.ensures.ok told l has.by.is has.by.none;
         none = has.by.none;
+        in_use = has.by.in_use;
         geometry = has.by.geometry;
         epoch = has.by.epoch;
         later = has.by.later;

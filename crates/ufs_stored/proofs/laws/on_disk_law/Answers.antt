@@ -1,9 +1,12 @@
 use Rattle.std.proofs.Common.{inl, inr}
-use Rattle.ufs_stored.proofs.OnDisk.{all_synced, excused, explained, file_synced, names_synced, stays_still}
+use Rattle.ufs_stored.proofs.OnDisk.{all_synced, excused, explained, file_synced, names_synced, on_disk_proper, stays_still}
 use Rattle.ufs_stored.proofs.laws.on_disk_law.Goals as goal
 
 pub returns-clause-explained : goal.returns-clause-explained
 returns-clause-explained c s start history p same is = explained c.args.geometry.now c.opening_law.ensures.ledger s start history p same is
+
+pub returns-clause-proper : goal.returns-clause-proper
+returns-clause-proper c s start history p same is = on_disk_proper c.args.geometry.now c.proper_law.ensures s start history p same is
 
 pub returns-clause-excused : goal.returns-clause-excused
 returns-clause-excused c s start history entry p same legal is on_disk =

@@ -25,6 +25,7 @@ returns-in-Ok-mark_in_use-clause-ok g c told is =
       by = record {
         is = c.in-Ok-mark_in_use.ensures.ok told c.args.head refl is;
         none = refl;
+        in_use = refl;
         geometry = sym made.0;
         epoch = sym made.1;
         later = omega (arith, number);

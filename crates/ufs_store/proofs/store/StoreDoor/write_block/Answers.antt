@@ -6,8 +6,9 @@ returns-in-Ok-clause-ok g c told l has may =
     record {
       going = has.going;
       by = record {
-        is = c.in-Ok.ensures.ok told l has.by.is has.by.none may;
+        is = c.in-Ok.ensures.ok told l has.by.is has.by.none has.by.in_use may;
         none = has.by.none;
+        in_use = has.by.in_use;
         geometry = has.by.geometry;
         epoch = has.by.epoch;
         later = has.by.later;
