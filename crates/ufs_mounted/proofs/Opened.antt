@@ -1,9 +1,10 @@
 -- A server's start is what its image has.
-use Rattle.std.proofs.Common.{◌≡◌, ℕ, List, [], ◌∷◌, true, false, length, map as mapped, Some, ap, sym, refl, ◌∙◌, arith}
-use Rattle.std.specs.Prelude.{◌&&◌, not, slice_get}
+use Rattle.std.proofs.Common.{◌≡◌, ℕ, zero, suc, ◌+◌, ◌*◌, ◌<◌, ◌≤◌, List, [], ◌∷◌, true, false, length, map as mapped, Some, ap, sym, refl, ◌∙◌, arith, length-append}
+use Rattle.std.specs.Prelude.{◌&&◌, flat_map, not, slice_get}
 use Rattle.std.specs.FinMap as map
+use Rattle.std.specs.List.{range_with_len}
 use Rattle.std.specs.FinSet as set
-use Rattle.std.proofs.lemmas.Bool.{and_parts}
+use Rattle.std.proofs.lemmas.Bool.{and_from, and_parts, le-leb, lt-ltb}
 use Rattle.ufs_base.specs.Images.{Image}
 use Rattle.ufs_bitmap.specs.Space.{is_between}
 use Rattle.ufs_bitmap.proofs.SetLemmas.{between_tells}
@@ -12,16 +13,15 @@ use Rattle.ufs_file.specs.Hand.{FileState}
 use Rattle.ufs_ilog.specs.Deltas.{extents_of}
 use Rattle.ufs_image.specs.Catalog.{Catalog, IsInode}
 use Rattle.ufs_image.specs.Changes.{IsTakenBlock}
-use Rattle.ufs_image.specs.Images.{IsImageOf, block_at}
+use Rattle.ufs_image.specs.Images.{block_at}
 use Rattle.ufs_image.specs.Nodes as nodes
 use Rattle.ufs_image.proofs.Bits.{is_taken_block}
-use Rattle.ufs_image.proofs.Blocks.{block_length}
 use Rattle.ufs_image.proofs.Depth.{has_root, root_in_range}
 use Rattle.ufs_image.proofs.Found.{reached}
 use Rattle.ufs_image.proofs.Holders.{block_in_data}
 use Rattle.ufs_image.proofs.Lists.{IsIn}
 use Rattle.ufs_image.proofs.Opening.{has_geometry}
-use Rattle.ufs_layout.specs.Areas.{first_of_data}
+use Rattle.ufs_layout.specs.Areas.{first_of_data, sector_count}
 use Rattle.ufs_layout.specs.declared.geometry.Geometry.{Geometry}
 use Rattle.ufs_layout.specs.declared.inode.Extent.{Extent}
 use Rattle.ufs_ledger.specs.Ledger.{IsDataBlock}
@@ -37,7 +37,16 @@ extents_back : (es : List Extent) → es ≡ extents_of (mapped run_of es)
 extents_back [] = refl
 extents_back (e ∷ es) = ap (λ (rest : List Extent). e ∷ rest) (extents_back es)
 
-module _ (sectors : ℕ) (disk : Image) (s : Start) (whole : IsImageOf sectors (image_under s.head disk)) (is : IsBegun sectors disk s) where
+-- sectors of 512 bytes, one after the other
+range_sized : (image : Image) (a n : ℕ) → ((k : ℕ) → a ≤ k → k < a + n → length (image k) ≡ 512) → length (flat_map image (range_with_len a n)) ≡ 512 * n
+range_sized image a zero sized = omega arith
+range_sized image a (suc n) sized =
+    let first = sized a (omega arith) (omega arith) in
+    let rest = range_sized image (a + 1) n (λ k from under. sized k (omega (arith, from)) (omega (arith, under))) in
+    let whole = length-append (image a) (flat_map image (range_with_len (a + 1) n)) in
+    omega (arith, first, rest, whole)
+
+module _ (sectors : ℕ) (disk : Image) (s : Start) (is : IsBegun sectors disk s) where
   abbrev g : Geometry
   g = s.head.geometry
 
@@ -56,9 +65,9 @@ module _ (sectors : ℕ) (disk : Image) (s : Start) (whole : IsImageOf sectors (
   long : (inode : ℕ) → IsInode g inode → (block : ℕ) → IsIn block (nodes.blocks_of (c.forms inode)) → length (block_at image block) ≡ 4096
   long inode inside block at =
       let lies = block_in_data g (c.forms inode).extents block (is.standing.sound.in_data inode inside) at in
+      let from = lies.0 in
       let under = lies.1 in
-      let room = (has_geometry sectors disk (volume_under s.head disk) is.standing.taken).1 in
-      block_length image sectors whole block (omega (arith, under, room))
+      range_sized image (8 * block) 8 (λ k low high. is.sized k (and_from _ _ (le-leb (8 * first_of_data g) k (omega (arith, from, low))) (lt-ltb k (sector_count g) (omega (arith, under, high)))))
 
   laid : (file : ℕ) (f : FileState) → map.get s.files file ≡ Some f → IsLaid image c f
   laid file f at =
@@ -94,4 +103,4 @@ module _ (sectors : ℕ) (disk : Image) (s : Start) (whole : IsImageOf sectors (
   }
 
 pub starts_opened : StartsAreOpened
-starts_opened sectors disk s whole is = opened sectors disk s whole is
+starts_opened sectors disk s is = opened sectors disk s is

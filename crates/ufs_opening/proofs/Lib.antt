@@ -1,6 +1,6 @@
 mod Why
 mod Rows
 mod Fronts
-mod Lengths
+pub mod Lengths
 mod Trees
 mod Forms

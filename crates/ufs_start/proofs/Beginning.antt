@@ -1,6 +1,7 @@
 -- What a server begins with on a disk, of what was loaded.
-use Rattle.std.proofs.Common.{◌≡◌, ℕ, ◌≤◌, ◌&&◌, not, List, Bool, true, false, Option, Some, None, slice_index_or, refl, sym, ◌∙◌, subst}
+use Rattle.std.proofs.Common.{◌≡◌, ℕ, ◌<◌, ◌≤◌, length, arith, ◌&&◌, not, List, Bool, true, false, Option, Some, None, slice_index_or, refl, sym, ◌∙◌, subst}
 use Rattle.std.specs.Prelude.{Ok}
+use Rattle.std.proofs.lemmas.Bool.{and_parts, ltb-true}
 use Rattle.ufs_base.specs.Images as images
 use Rattle.ufs_catalog.specs.Faults.{HasFaultCause, IsOutside}
 use Rattle.ufs_catalog.specs.declared.fault.RecoverFault.{RecoverFault}
@@ -12,24 +13,33 @@ use Rattle.ufs_image.specs.Sound.{IsSoundCatalog}
 use Rattle.ufs_image.specs.Volume.{volume}
 use Rattle.ufs_image.proofs.Depth.{has_root, root_in_range}
 use Rattle.ufs_image.proofs.Found.{reached}
-use Rattle.ufs_layout.specs.Areas.{IsGeometry}
+use Rattle.ufs_layout.specs.Areas.{IsGeometry, is_data_sector, sector_count}
 use Rattle.ufs_layout.specs.declared.geometry.Geometry.{Geometry}
 use Rattle.ufs_layout.specs.declared.superblock.Super.{Super}
 use Rattle.ufs_name_tree.specs.NameTable.{file_at}
 use Rattle.ufs_names.specs.NamesPart.{NamesPart}
 use Rattle.ufs_opening.specs.Told.{TellsWhy}
-use Rattle.ufs_volume.specs.Volumes.{volume_in}
+use Rattle.ufs_opening.proofs.Lengths.{folded_sized}
+use Rattle.ufs_volume.specs.Volumes.{committed_in, volume_in}
 use Rattle.ufs_volume.specs.declared.volume.FoldedVolume.{FoldedVolume}
+use Rattle.ufs_volume.proofs.Folds.{can_fold}
 use Rattle.ufs_start.specs.Begun.{IsBegun, catalog_under, image_under}
 use Rattle.ufs_start.specs.Refused.{HasStartCause, IsNamesFault, IsRefusedFile, TellsNoStart}
 use Rattle.ufs_start.specs.Starts.{AreNumbersOf, AreStartNames, IsLoaded, IsUndamaged}
 use Rattle.ufs_start.specs.declared.fault.StartFault.{StartFault}
-use Rattle.ufs_start.specs.declared.fault.StartFault.TheVariants.{Image, Unreached, ExtraBlocks, TooLong}
+use Rattle.ufs_start.specs.declared.fault.StartFault.TheVariants.{Image, Unreached, Unnamed, ExtraBlocks, TooLong}
 use Rattle.ufs_start.specs.declared.parts.Start.{Start}
 
 pub is_loaded : (v : FoldedVolume) (f : CatalogRead) (sectors : ℕ) (disk : images.Image) → volume sectors disk ≡ Ok (volume_in v disk) → IsCatalogOf v.head.geometry (image_under v.head disk) (catalog_under v.head disk)
     → IsSoundCatalog v.head.geometry (catalog_under v.head disk) → AreFindingsOf v.head.geometry (image_under v.head disk) f → IsLoaded v.head.geometry f sectors disk v.head.head (image_under v.head disk)
 is_loaded v f sectors disk taken catalog sound found = record { standing = record { taken = taken; catalog = catalog; sound = sound }; found = found }
+
+-- what is committed leaves a sector of data its length
+pub sized_there : (v : FoldedVolume) (sectors : ℕ) (disk : images.Image) → volume sectors disk ≡ Ok (volume_in v disk) → sector_count v.head.geometry ≤ sectors → ((sector : ℕ) → sector < sectors → length (disk sector) ≡ 512)
+    → (sector : ℕ) → is_data_sector v.head.geometry sector ≡ true → length (image_under v.head disk sector) ≡ 512
+sized_there v sectors disk taken large sized sector within =
+    let under = ltb-true sector (sector_count v.head.geometry) (and_parts _ _ within).1 in
+    folded_sized v.head.geometry sector within (committed_in v disk) disk (can_fold sectors v disk taken) (sized sector (omega (arith, under, large)))
 
 -- a file that the names tell is an inode past 0, and has its number
 pub number_there : (g : Geometry) (f : CatalogRead) (sectors : ℕ) (disk : images.Image) (head : Super) (image : images.Image) (n : NamesPart) (numbers : List (Option ℕ)) → IsGeometry g → IsLoaded g f sectors disk head image → AreStartNames sectors disk g image n
@@ -60,6 +70,7 @@ pub refused_file : (v : FoldedVolume) (sectors : ℕ) (disk : images.Image) → 
     → TellsNoStart sectors disk fault
 refused_file v sectors disk taken (Image fault) is = outside_why sectors disk fault is
 refused_file v sectors disk taken (Unreached inode) is = absurd is
+refused_file v sectors disk taken (Unnamed inode) is = absurd is
 refused_file v sectors disk taken (ExtraBlocks inode) is = (volume_in v disk, taken, is)
 refused_file v sectors disk taken (TooLong inode) is = (volume_in v disk, taken, is)
 
@@ -67,12 +78,14 @@ pub refused_names : (v : FoldedVolume) (f : CatalogRead) (sectors : ℕ) (disk :
     → TellsNoStart sectors disk fault
 refused_names v f sectors disk taken undamaged (Image fault) is = subst (TellsWhy sectors disk) (sym is) tt
 refused_names v f sectors disk taken undamaged (Unreached inode) is = (volume_in v disk, taken, is (image_under v.head disk) undamaged)
+refused_names v f sectors disk taken undamaged (Unnamed inode) is = (volume_in v disk, taken, is (image_under v.head disk) undamaged)
 refused_names v f sectors disk taken undamaged (ExtraBlocks inode) is = absurd is
 refused_names v f sectors disk taken undamaged (TooLong inode) is = absurd is
 
 pub calm_names : (g : Geometry) (f : CatalogRead) (fault : StartFault) → IsNamesFault g f fault → (count : ℕ) → HasStartCause count count fault
 calm_names g f (Image fault) is count = subst (HasFaultCause count count) (sym is) refl
 calm_names g f (Unreached inode) is count = refl
+calm_names g f (Unnamed inode) is count = refl
 calm_names g f (ExtraBlocks inode) is count = refl
 calm_names g f (TooLong inode) is count = refl
 

@@ -170,13 +170,16 @@ module _ (g : Geometry) (image : Image) (f : CatalogRead) (geometry : IsGeometry
   some : 1 ≤ g.inodes
   some = has_root g geometry
 
-  dir_is : (i : ℕ) → IsInode g i → is_dir_in f.forms i ≡ ((form_at g image i).kind == 2)
-  dir_is i inside =
+  pub form_there : (i : ℕ) → IsInode g i → get_or f.forms (i - 1) None ≡ Some (form_at g image i)
+  form_there i inside =
       let from = inside.from_one in
       let most = inside.within in
-      let there : get_or f.forms (i - 1) None ≡ inode_at g image i =
-      ap (λ (l : List (Option InodeForm)). get_or l (i - 1) None) u.found.forms ∙ get_or-map-range_with_len (inode_at g image) 1 g.inodes (i - 1) i None (omega (arith, from, most)) (omega (arith, from)) in
-      ap is_dir_form (there ∙ is.forms i inside)
+      ap (λ (l : List (Option InodeForm)). get_or l (i - 1) None) u.found.forms
+      ∙ get_or-map-range_with_len (inode_at g image) 1 g.inodes (i - 1) i None (omega (arith, from, most)) (omega (arith, from))
+      ∙ is.forms i inside
+
+  dir_is : (i : ℕ) → IsInode g i → is_dir_in f.forms i ≡ ((form_at g image i).kind == 2)
+  dir_is i inside = ap is_dir_form (form_there i inside)
 
   numbers_same : (next : ℕ) (ps : List Place) (files : List (Option ℕ)) → AreInodes g ps → numbers_from (is_dir_in f.forms) next ps files ≡ numbers_from (λ i. (form_at g image i).kind == 2) next ps files
   numbers_same next [] files all = refl

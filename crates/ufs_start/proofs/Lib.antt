@@ -9,3 +9,4 @@ mod Beginning
 mod TableLemmas
 mod Tabled
 mod Reaching
+mod Unnumbered

@@ -1,18 +1,18 @@
 -- What a server begins with on a disk.
-use Rattle.std.specs.Prelude.{ℕ, ◌≡◌, Ok, Some, IsSome}
+use Rattle.std.specs.Prelude.{ℕ, ◌≡◌, ◌≤◌, ◌^◌, length, true, Ok, Some, IsSome}
 use Rattle.std.specs.FinMap as map
 use Rattle.std.specs.FinSet as set
 use Rattle.ufs_base.specs.Images.{Image}
 use Rattle.ufs_catalog.specs.declared.head.ImageHead.{ImageHead}
 use Rattle.ufs_dir_tree.specs.DirTable.{IsReached}
 use Rattle.ufs_files.specs.Files.{AreFilesOf}
-use Rattle.ufs_image.specs.Catalog.{Catalog, catalog_at}
+use Rattle.ufs_image.specs.Catalog.{Catalog, IsInode, catalog_at}
 use Rattle.ufs_image.specs.Fold.{folded}
 use Rattle.ufs_image.specs.Journal.{committed}
 use Rattle.ufs_image.specs.Opens.{ImageTree, opens}
 use Rattle.ufs_image.specs.Standing.{IsVolumeOf}
 use Rattle.ufs_image.specs.Volume.{Volume}
-use Rattle.ufs_layout.specs.Areas.{first_of_data}
+use Rattle.ufs_layout.specs.Areas.{first_of_data, is_data_sector}
 use Rattle.ufs_load_image.specs.Loaded.{is_free_block}
 use Rattle.ufs_name_tree.specs.NameTable.{file_at}
 use Rattle.ufs_names.specs.Calls.{HaveInodes}
@@ -41,11 +41,15 @@ tree_under h disk = tree_in h.geometry (image_under h disk)
 -- A server begins so on a disk of so many sectors.
 pub record IsBegun (sectors : ℕ) (disk : Image) (s : Start) : Type 0 where
   pub standing : IsVolumeOf sectors disk (volume_under s.head disk) (catalog_under s.head disk)
+  pub sized : (sector : ℕ) → is_data_sector s.head.geometry sector ≡ true → length (image_under s.head disk sector) ≡ 512
   pub opened : opens sectors disk ≡ Ok (tree_under s.head disk)
   pub table : IsNamesOf s.head.geometry (catalog_under s.head disk) (image_start (tree_under s.head disk)) s.names
   pub names : IsPartOf s.names (image_start (tree_under s.head disk))
   -- each directory that has a name is met
   pub reached : IsReached s.names.tree.dirs
+  -- each file is one that the names tell
+  pub named : (inode : ℕ) → IsInode s.head.geometry inode → ((catalog_under s.head disk).forms inode).kind ≡ 1 → IsSome (file_at s.names.tree inode)
+  pub few : s.names.next ≤ 2 ^ 30
   pub read : AreRead (image_under s.head disk) (catalog_under s.head disk) s.names s.files
   pub files : AreFilesOf s.files (image_start (tree_under s.head disk))
   pub inodes : HaveInodes s.names.held s.files

@@ -5,7 +5,7 @@ use Rattle.ufs_catalog.specs.Faults.{HasFaultCause, IsOutside}
 use Rattle.ufs_catalog.specs.declared.fault.RecoverFault.TheVariants.{Memory}
 use Rattle.ufs_damage.specs.Findings.{CatalogRead}
 use Rattle.ufs_file.specs.Content.{block_count}
-use Rattle.ufs_image.specs.Catalog.{Catalog, catalog_at}
+use Rattle.ufs_image.specs.Catalog.{Catalog, IsInode, catalog_at}
 use Rattle.ufs_image.specs.Changes.{IsUnreached}
 use Rattle.ufs_image.specs.Images.{form_at}
 use Rattle.ufs_image.specs.Nodes.{blocks_of}
@@ -18,12 +18,13 @@ use Rattle.ufs_model.specs.FileBytes.{max_size}
 use Rattle.ufs_opening.specs.Told.{TellsWhy}
 use Rattle.ufs_start.specs.Starts.{IsUndamaged}
 use Rattle.ufs_start.specs.declared.fault.StartFault.{StartFault}
-use Rattle.ufs_start.specs.declared.fault.StartFault.TheVariants.{Image, Unreached, ExtraBlocks, TooLong}
+use Rattle.ufs_start.specs.declared.fault.StartFault.TheVariants.{Image, Unreached, Unnamed, ExtraBlocks, TooLong}
 
 -- what a fault says of the disk's count of faults
 abbrev pub HasStartCause : ℕ → ℕ → StartFault → Type 0
 HasStartCause before now (Image fault) = HasFaultCause before now fault
 HasStartCause before now (Unreached inode) = now ≡ before
+HasStartCause before now (Unnamed inode) = now ≡ before
 HasStartCause before now (ExtraBlocks inode) = now ≡ before
 HasStartCause before now (TooLong inode) = now ≡ before
 
@@ -34,10 +35,18 @@ pub record IsCutOff (g : Geometry) (c : Catalog) (inode : ℕ) : Type 0 where
   pub stands : HasDentry g c inode place dentry
   pub unreached : IsUnreached c inode
 
--- Why there are no names: a directory of each image of which this was read is cut off, or memory is wanted.
+-- The inode is a file's, and no walk from the root meets it.
+pub record IsUnnamedFile (g : Geometry) (c : Catalog) (inode : ℕ) : Type 0 where
+  pub in_range : IsInode g inode
+  pub file : (c.forms inode).kind ≡ 1
+  pub unreached : IsUnreached c inode
+
+-- Why there are no names: a directory of each image of which this was read is cut off, a file of each has no name, or
+-- memory is wanted.
 abbrev pub IsNamesFault : Geometry → CatalogRead → StartFault → Type 0
 IsNamesFault g f (Image fault) = fault ≡ Memory
 IsNamesFault g f (Unreached inode) = (image : images.Image) → IsUndamaged g image f → IsCutOff g (catalog_at g image) inode
+IsNamesFault g f (Unnamed inode) = (image : images.Image) → IsUndamaged g image f → IsUnnamedFile g (catalog_at g image) inode
 IsNamesFault g f (ExtraBlocks inode) = ⊥
 IsNamesFault g f (TooLong inode) = ⊥
 
@@ -46,12 +55,15 @@ IsNamesFault g f (TooLong inode) = ⊥
 abbrev pub IsRefusedFile : (ℕ → InodeForm) → StartFault → Type 0
 IsRefusedFile forms (Image fault) = IsOutside fault
 IsRefusedFile forms (Unreached inode) = ⊥
+IsRefusedFile forms (Unnamed inode) = ⊥
 IsRefusedFile forms (ExtraBlocks inode) = block_count (forms inode).size < length (blocks_of (forms inode))
 IsRefusedFile forms (TooLong inode) = max_size < (forms inode).size
 
--- Why a server can't begin with this disk: it opens to no tree, a directory of its tree is cut off, or a file is refused.
+-- Why a server can't begin with this disk: it opens to no tree, a directory of it is cut off, a file of it has no name,
+-- or one is refused.
 abbrev pub TellsNoStart : ℕ → images.Image → StartFault → Type 0
 TellsNoStart sectors disk (Image fault) = TellsWhy sectors disk fault
 TellsNoStart sectors disk (Unreached inode) = (v : Volume) × (volume sectors disk ≡ Ok v) × IsCutOff v.geometry (catalog_at v.geometry v.image) inode
+TellsNoStart sectors disk (Unnamed inode) = (v : Volume) × (volume sectors disk ≡ Ok v) × IsUnnamedFile v.geometry (catalog_at v.geometry v.image) inode
 TellsNoStart sectors disk (ExtraBlocks inode) = (v : Volume) × (volume sectors disk ≡ Ok v) × IsRefusedFile (form_at v.geometry v.image) (ExtraBlocks inode)
 TellsNoStart sectors disk (TooLong inode) = (v : Volume) × (volume sectors disk ≡ Ok v) × IsRefusedFile (form_at v.geometry v.image) (TooLong inode)

@@ -1,9 +1,10 @@
 -- The tree that an undamaged image stands for, and the numbers of its files.
-use Rattle.std.specs.Prelude.{ℕ, ◌≡◌, List, [], ◌∷◌, Option, Some, None, Ok, slice_index_or}
+use Rattle.std.specs.Prelude.{ℕ, ◌≡◌, List, [], ◌∷◌, Option, Some, None, Ok, IsSome, slice_index_or}
 use Rattle.std.specs.FinMap.{from_entries}
 use Rattle.ufs_base.specs.Images.{Image}
 use Rattle.ufs_layout.specs.declared.geometry.Geometry.{Geometry}
-use Rattle.ufs_image.specs.Catalog.{catalog_at}
+use Rattle.ufs_image.specs.Catalog.{IsInode, catalog_at}
+use Rattle.ufs_image.specs.Images.{form_at}
 use Rattle.ufs_image.specs.Damage.{bad_tree}
 use Rattle.ufs_layout.specs.declared.superblock.Super.{Super}
 use Rattle.ufs_image.specs.Opens.{ImageTree, below, opens, root_entry}
@@ -11,6 +12,7 @@ use Rattle.ufs_image.specs.Standing.{IsVolumeOf}
 use Rattle.ufs_damage.specs.Findings.{CatalogRead, AreFindingsOf}
 use Rattle.ufs_bitmap.specs.Blocks.{BlockSet}
 use Rattle.ufs_files.specs.Files.{Files, AreFilesOf}
+use Rattle.ufs_name_tree.specs.NameTable.{NameTable, file_at}
 use Rattle.ufs_names.specs.Calls.{HaveInodes}
 use Rattle.ufs_names.specs.Space.{AreApart}
 use Rattle.ufs_names_image.specs.Loaded.{AreRead, IsUntaken}
@@ -34,6 +36,14 @@ pub record IsUndamaged (g : Geometry) (image : Image) (f : CatalogRead) : Type 0
 pub record AreNumbersOf (g : Geometry) (image : Image) (files : List (Option ℕ)) : Type 0 where
   pub each : (inode file : ℕ) → IsFileAt (catalog_at g image) (image_start (tree_in g image)).paths inode file → slice_index_or files inode None ≡ Some file
   pub only : (inode file : ℕ) → slice_index_or files inode None ≡ Some file → IsFileAt (catalog_at g image) (image_start (tree_in g image)).paths inode file
+
+-- By inode, each file of the image has a number.
+abbrev pub HaveNumbers : Geometry → Image → List (Option ℕ) → Type 0
+HaveNumbers g image files = (inode : ℕ) → IsInode g inode → (form_at g image inode).kind ≡ 1 → IsSome (slice_index_or files inode None)
+
+-- Each file of the image is one that the names tell.
+abbrev pub AreFilesNamed : Geometry → Image → NameTable → Type 0
+AreFilesNamed g image t = (inode : ℕ) → IsInode g inode → (form_at g image inode).kind ≡ 1 → IsSome (file_at t inode)
 
 -- This was read of an image of a disk of so many sectors, as its committed transactions leave it; the image stands for
 -- a tree.

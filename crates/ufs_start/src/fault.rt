@@ -9,6 +9,8 @@ pub enum StartFault {
     Image(RecoverFault),
     /// Names stand in the directory of this inode, and no path leads to it from the root.
     Unreached { inode: u32 },
+    /// The file of this inode has no name.
+    Unnamed { inode: u32 },
     /// The file of this inode has more blocks than its size wants.
     ExtraBlocks { inode: u32 },
     /// The file of this inode has more than 16,777,216 bytes.

@@ -14,6 +14,7 @@ mod parts;
 mod reached;
 mod starting;
 mod tables;
+mod unnamed;
 
 pub use copy::copy_of;
 pub use fault::StartFault;

@@ -16,6 +16,9 @@ use ufs_walk::{PathAt, places_of};
 
 const DIRECTORY: u8 = 2;
 
+// No sound image has more places than inodes, which are at most 65,535.
+const MOST: usize = 1 << 30;
+
 /// The number of the file that each inode is, from inode 0, and the next number.
 #[derive(Drop)]
 pub struct Numbers {
@@ -61,8 +64,9 @@ fn number_places(
     requires inside { AreInodes geometry.now (pairs_of places.now) }
     ensures files { IfOk result (λ n. n.files.items ≡ numbers_from (is_dir_in forms.now) 0 (pairs_of places.now) (replicate (geometry.now.inodes + 1) None)) }
     ensures next { IfOk result (λ n. n.next ≡ next_number (is_dir_in forms.now) 0 (pairs_of places.now)) }
+    ensures few { IfOk result (λ n. n.next ≤ 2 ^ 30) }
 {
-    if places.len() >= u32::MAX as usize {
+    if places.len() > MOST {
         return Err(Memory);
     }
     let mut files = vec![in alloc; None; geometry.inodes as usize + 1]?;
@@ -86,6 +90,7 @@ pub fn numbers_of(
     ensures counted { IfOk result (λ n. length n.files.items ≡ geometry.now.inodes + 1) }
     ensures numbers { IfOk result (λ n. (image : Image) → IsUndamaged geometry.now image findings.now → AreNumbersOf geometry.now image n.files.items) }
     ensures next { IfOk result (λ n. (image : Image) → IsUndamaged geometry.now image findings.now → n.next ≡ (image_start (tree_in geometry.now image)).next) }
+    ensures few { IfOk result (λ n. n.next ≤ 2 ^ 30) }
 {
     damage_law(geometry);
     let places = places_of(alloc, findings, geometry)?;

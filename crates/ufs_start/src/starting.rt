@@ -90,8 +90,8 @@ fn start_in(alloc: Global, copy: &mut PlainDisk) -> Result<Start, StartFault>
 }
 
 /// Makes what a server begins with, over a copy of the disk in memory. Refuses a disk that opens to no tree, and one
-/// with a file that a server can't hold or with a directory that has names and that no path leads to. Reads each sector
-/// of the disk once, in calls of 4,096 bytes; writes nothing.
+/// with a file that a server can't hold or that no path names, or with a directory that has names and that no path leads
+/// to. Reads each sector of the disk once, in calls of 4,096 bytes; writes nothing.
 pub fn start_of<D: Disk>(alloc: Global, disk: &mut D) -> Result<Start, StartFault>
     ensures standing { IsTrue D.tells → IfOk result (λ s. IsVolumeOf (D.size disk.old) (reads (D.moments disk.old)) (volume_under s.head (reads (D.moments disk.old))) (catalog_under s.head (reads (D.moments disk.old)))) }
     ensures opened { IsTrue D.tells → IfOk result (λ s. opens (D.size disk.old) (reads (D.moments disk.old)) ≡ Ok (tree_under s.head (reads (D.moments disk.old)))) }

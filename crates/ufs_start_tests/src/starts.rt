@@ -80,6 +80,22 @@ fn fault_cut_off(alloc: Global) -> Option<StartFault> {
     }
 }
 
+// The file of inode 5 has a block, and no name stands for it.
+fn set_unnamed(disk: &mut PlainDisk) -> bool {
+    set_sector(disk, ROOT + 4, &file(50, 1, 5))
+}
+
+fn fault_unnamed(alloc: Global) -> Option<StartFault> {
+    let mut disk = new_disk(alloc)?;
+    if !set_names(&mut disk) || !set_inodes(&mut disk) || !set_unnamed(&mut disk) {
+        return None;
+    }
+    match start_of(alloc, &mut disk) {
+        Ok(_start) => None,
+        Err(fault) => Some(fault),
+    }
+}
+
 #[test]
 fn paths_stand_for_their_inodes(rt: HostRuntime) -> Result<(), Fail> {
     assert!(rt; found(rt.alloc(), b"/") == Some(Found::Dir { inode: 1 }));
@@ -103,5 +119,11 @@ fn files_are_here_and_what_nobody_has_is_free(rt: HostRuntime) -> Result<(), Fai
 #[test]
 fn a_directory_that_no_path_leads_to_is_refused(rt: HostRuntime) -> Result<(), Fail> {
     assert!(rt; fault_cut_off(rt.alloc()) == Some(StartFault::Unreached { inode: 5 }));
+    Ok(())
+}
+
+#[test]
+fn a_file_that_no_path_names_is_refused(rt: HostRuntime) -> Result<(), Fail> {
+    assert!(rt; fault_unnamed(rt.alloc()) == Some(StartFault::Unnamed { inode: 5 }));
     Ok(())
 }

@@ -1,9 +1,10 @@
-use Rattle.std.proofs.Common.{ℕ, refl, sym, subst}
+use Rattle.std.proofs.Common.{ℕ, refl, sym, subst, arith}
 use Rattle.std.specs.FinSet as set
 use Rattle.std.proofs.lemmas.Result.{err_from_is_err_and}
 use Rattle.ufs_base.specs.Images.{Image}
 use Rattle.ufs_bitmap.specs.Space.{is_between}
 use Rattle.ufs_disk.specs.Bytes.{image_of}
+use Rattle.ufs_disk.specs.Whole.{sector_within}
 use Rattle.ufs_image.specs.Images.{form_at}
 use Rattle.ufs_image.specs.Nodes.{is_taken, sound_nodes}
 use Rattle.ufs_layout.specs.Areas.{first_of_data}
@@ -14,7 +15,7 @@ use Rattle.ufs_start.specs.Begun.{catalog_under, image_under, volume_under}
 use Rattle.ufs_start.specs.Files.{AreLaid, AreLoaded}
 use Rattle.ufs_start.specs.Refused.{IsRefusedFile}
 use Rattle.ufs_start.specs.Starts.{AreStartNames, IsLoaded, IsUndamaged}
-use Rattle.ufs_start.proofs.Beginning.{calm_names, is_loaded, refused_file, refused_names, untaken}
+use Rattle.ufs_start.proofs.Beginning.{calm_names, is_loaded, refused_file, refused_names, sized_there, untaken}
 use Rattle.ufs_start.proofs.starting.start_in.Goals as goal
 
 pub names_in-requires-clause-loaded : goal.names_in-requires-clause-loaded
@@ -58,6 +59,7 @@ returns-clause-begun c =
     let disk : Image = image_of c.args.copy.now.bytes.items in
     let image : Image = image_under h disk in
     let loaded : IsLoaded h.geometry l.findings sectors disk h.head image = is_loaded v l.findings sectors disk (e.taken refl) (e.catalog refl) (e.sound refl) (e.found refl) in
+    let undamaged : IsUndamaged h.geometry image l.findings = record { found = loaded.found; whole = (c.damage_law.ensures.whole image (catalog_under h disk) loaded.standing.catalog loaded.standing.sound).1 } in
     let start : AreStartNames sectors disk h.geometry image n = c.in_ok-names.ensures.names sectors disk h.head image loaded in
     let read : AreRead image (catalog_under h disk) n files = subst (λ (d : Image). AreRead (image_under h d) (catalog_under h d) n files) (c.load.ensures.read_only refl).content c.in_ok-files.ensures.read in
     let laid : AreLaid (catalog_under h disk) files = subst (λ (d : Image). AreLaid (catalog_under h d) files) (c.load.ensures.read_only refl).content c.in_ok-files.ensures.laid in
@@ -68,10 +70,14 @@ returns-clause-begun c =
     (λ b is. untaken (is_between (first_of_data h.geometry) h.geometry.blocks b) (is_taken h.geometry (sound_nodes h.geometry image) b) (set.contains l.free.free b) (e.free refl b) is) in
     record {
       standing = loaded.standing;
+      sized = λ sector within. sized_there v sectors disk (e.taken refl) e.large
+          (λ k less. (sector_within c.args.copy.now.bytes.items k c.args.copy.now.small_bytes (let long = c.args.copy.now.sized in omega (arith, long, less))).sized) sector within;
       opened = start.opened;
       table = start.names;
       names = start.part;
       reached = c.in_ok-names.ensures.reached;
+      named = c.in_ok-names.ensures.named image undamaged;
+      few = c.in_ok-names.ensures.few;
       read = read;
       files = parts.0;
       inodes = parts.1;
