@@ -14,7 +14,7 @@ use Rattle.ufs_model.proofs.Facts.Live.{held_has}
 use Rattle.ufs_store.specs.Refusals.{IsTold, stop_after}
 use Rattle.ufs_stored.specs.Parts.{Parts}
 use Rattle.ufs_stored.specs.Stored.{ArePartsOf}
-use Rattle.ufs_engine.specs.Played.{tells_fault}
+use Rattle.ufs_client.specs.Played.{tells_fault}
 use Rattle.ufs_server.specs.Answered.{device_in, stopped_in}
 
 -- ---- the file that a descriptor stands for

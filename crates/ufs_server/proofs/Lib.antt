@@ -12,3 +12,4 @@ mod Replied
 mod Syncs
 mod Touch
 mod Touching
+pub mod Beside

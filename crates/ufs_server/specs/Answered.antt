@@ -1,5 +1,6 @@
 -- What a server on a disk answers.
-use Rattle.std.specs.Prelude.{ℕ, ◌≡◌, ⊤, Bool, true, false, Option, Some, None, Result, Ok, Err}
+use Rattle.std.specs.Prelude.{ℕ, ◌≡◌, ◌⊎◌, ⊤, Bool, true, false, Option, Some, None, Result, Ok, Err}
+use Rattle.ufs_base.specs.Faults.{RoseTo}
 use Rattle.ufs_model.specs.Asks.{IsDescAfter, fd_told}
 use Rattle.ufs_model.specs.Posix.{posix}
 use Rattle.ufs_model.specs.PosixTree.{PosixTree}
@@ -9,6 +10,8 @@ use Rattle.ufs_model.specs.declared.data.Excuse.{Excuse}
 use Rattle.ufs_model.specs.declared.data.Excuse.TheVariants as excuse
 use Rattle.ufs_model.specs.declared.data.Reply.{Reply}
 use Rattle.ufs_model.specs.declared.data.Reply.TheVariants as reply
+use Rattle.ufs_store.specs.Refusals.{IsTold, stop_after}
+use Rattle.ufs_store.specs.State.{StoreState}
 use Rattle.ufs_stored.specs.Parts.{Parts}
 use Rattle.ufs_stored.specs.Stored.{ArePartsOf}
 
@@ -42,6 +45,36 @@ stopped_of _ = None
 abbrev pub stopped_in : Reply → Option ℕ
 stopped_in (reply.Excused x) = stopped_of x
 stopped_in _ = None
+
+-- ---- faults that no reply tells
+
+-- No call of the disk failed.
+pub record HasNoFault (old new : StoreState) : Type 0 where
+  pub faults : new.faults ≡ old.faults
+  pub stop : new.stop ≡ old.stop
+
+-- One failed, and the store stopped at it.
+pub record StopsAt (old new : StoreState) (fault : ℕ) : Type 0 where
+  pub going : old.stop ≡ None
+  pub rose : RoseTo old.faults new.faults fault
+  pub stop : new.stop ≡ Some fault
+
+abbrev pub IsUntold : StoreState → StoreState → Type 0
+IsUntold old new = HasNoFault old new ⊎ ((fault : ℕ) × StopsAt old new fault)
+
+-- The reply tells the call that failed, if one did.
+pub record TellsItsOwn (old new : StoreState) (reply : Reply) : Type 0 where
+  pub told : IsTold old.faults new.faults (device_in reply)
+  pub stop : new.stop ≡ stop_after old.stop (device_in reply)
+
+-- It tells none, and the store stopped at one beside it: later replies tell the stop.
+pub record TellsNone (old new : StoreState) (reply : Reply) : Type 0 where
+  pub none : device_in reply ≡ None
+  pub fault : ℕ
+  pub beside : StopsAt old new fault
+
+abbrev pub TellsFaults : StoreState → StoreState → Reply → Type 0
+TellsFaults old new reply = TellsItsOwn old new reply ⊎ TellsNone old new reply
 
 -- ---- what is synced
 

@@ -2,6 +2,7 @@
 use crate::commit_table::CommitTable;
 use std::alloc::Global;
 use std::marker::Model;
+use ufs_base::Memory;
 use ufs_bitmap::Pool;
 use ufs_files::FileHands;
 use ufs_names::Names;
@@ -38,4 +39,34 @@ impl Model for DiskServer {
     ghost view = { λ s. record { names = s.names; files = s.files; commits = s.commits; pool = s.pool; fresh = s.fresh.items; dropped = s.dropped } };
 
     ghost invariant = { λ s. s.lent ≡ set.empty };
+}
+
+impl DiskServer {
+    ghost use Rattle.std.specs.Prelude.{◌≡◌, [], Some, IfOk};
+    ghost use Rattle.std.specs.FinMap as map;
+    ghost use Rattle.std.specs.FinSet as set;
+    ghost use Rattle.ufs_names.specs.Notes.{with_notes};
+
+    /// A server of an image whose names and files are these, each as it is committed. All free blocks are the store's.
+    pub fn begin(alloc: Global, names: Names, files: FileHands) -> Result<DiskServer, Memory>
+        ensures names { IfOk result (λ s. s.names ≡ with_notes (Some []) names) }
+        ensures files { IfOk result (λ s. s.files ≡ files) }
+        ensures commits { IfOk result (λ s. s.commits ≡ map.empty) }
+        ensures pool { IfOk result (λ s. s.pool ≡ set.empty) }
+        ensures fresh { IfOk result (λ s. s.fresh ≡ []) }
+        ensures dropped { IfOk result (λ s. s.dropped ≡ set.empty) }
+    {
+        let mut names = names;
+        names.begin_notes();
+        Ok(DiskServer {
+            alloc,
+            names,
+            files,
+            commits: CommitTable::new(alloc),
+            pool: Pool::make(alloc)?,
+            lent: Pool::make(alloc)?,
+            fresh: Vec::new(alloc),
+            dropped: Pool::make(alloc)?,
+        })
+    }
 }

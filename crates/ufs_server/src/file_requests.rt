@@ -1,7 +1,7 @@
 // Requests on a file.
 ghost use Rattle.std.specs.Prelude.{ℕ, ◌≡◌, ◌++◌, ◌∷◌, [], List, IsSome, IsTrue, true, false};
 ghost use Rattle.std.specs.FinMap as map;
-ghost use Rattle.ufs_engine.specs.Played.{tells_fault};
+ghost use Rattle.ufs_client.specs.Played.{tells_fault};
 ghost use Rattle.ufs_file.specs.Hand.{IsEntryOf, IsOf};
 ghost use Rattle.ufs_model.specs.Asks.{IsAsk};
 ghost use Rattle.ufs_model.specs.Bounds.{IsBounded};

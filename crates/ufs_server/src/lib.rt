@@ -8,6 +8,7 @@ mod file_syncs;
 mod held_file;
 mod name_requests;
 mod requests;
+mod room;
 mod sync_all;
 mod sync_requests;
 mod syncing;

@@ -1,5 +1,5 @@
 // Requests.
-ghost use Rattle.std.specs.Prelude.{ℕ, ◌≡◌, ◌<◌, ◌^◌, ◌++◌, ◌∷◌, [], List, Some, IfSome, IfNone, IsTrue, true, false};
+ghost use Rattle.std.specs.Prelude.{ℕ, ◌≡◌, ◌<◌, ◌^◌, ◌++◌, ◌∷◌, [], List, Some, None, IfSome, IfNone, IsTrue, true, false};
 ghost use Rattle.ufs_file.specs.Hand.{IsEntryOf, IsOf};
 ghost use Rattle.ufs_model.specs.Asks.{IsAsk};
 ghost use Rattle.ufs_model.specs.Bounds.{IsBounded};
@@ -12,12 +12,11 @@ ghost use Rattle.ufs_model.specs.declared.data.Excuse.{Excuse};
 ghost use Rattle.ufs_model.specs.declared.data.Reply.TheVariants as reply;
 ghost use Rattle.ufs_names.specs.Calls.{IsOfNames};
 ghost use Rattle.ufs_prefix.specs.Changes.{asks_commit};
-ghost use Rattle.ufs_store.specs.Refusals.{IsTold, stop_after};
 ghost use Rattle.ufs_store.specs.State.{geometry_of_store};
 ghost use Rattle.ufs_stored.specs.OnDisk.{IsOnDisk};
 ghost use Rattle.ufs_stored.specs.Sound.{IsSoundServer};
 ghost use Rattle.ufs_stored.specs.Stored.{ArePartsOf};
-ghost use Rattle.ufs_server.specs.Answered.{IsAnswered, device_in, stopped_in};
+ghost use Rattle.ufs_server.specs.Answered.{IsAnswered, TellsFaults, device_in, stopped_in};
 
 use crate::disk_server::DiskServer;
 use ufs_file::Applied;
@@ -28,7 +27,9 @@ impl DiskServer {
     /// Serves a request: POSIX's reply on the tree that the server and the descriptors of the clients make, and the
     /// server goes on with that tree. What an `fsync` or a `sync` acknowledges is on the disk for good. Where room is
     /// wanting, or the disk fails, the reply is the excuse for it, and the tree is as it was. File numbers stay below
-    /// 2^31. The caller gives the ticket, and says who serves.
+    /// 2^31. The caller gives the ticket, and says who serves. Names may be committed before a request of names, to
+    /// make room for its notes. Where the disk fails in that the request is served all the same: the store has stopped,
+    /// and later replies tell it.
     pub fn apply<D: Door>(&mut self, door: &mut D, ask: Ask, by: Actor, ticket: u64) -> Applied
         requires client { ask.client < 16 }
         requires bounded { IsBounded ask.op }
@@ -46,15 +47,15 @@ impl DiskServer {
         ensures geometry { geometry_of_store (D.store door.new) ≡ geometry_of_store (D.store door.old) }
         ensures sectors { (D.store door.new).sectors ≡ (D.store door.old).sectors }
         ensures stopped { (fault : ℕ) → stopped_in result.entry.reply ≡ Some fault → (D.store door.old).stop ≡ Some fault }
-        ensures cause { IsTold (D.store door.old).faults (D.store door.new).faults (device_in result.entry.reply) }
-        ensures stop { (D.store door.new).stop ≡ stop_after (D.store door.old).stop (device_in result.entry.reply) }
+        ensures told { TellsFaults (D.store door.old) (D.store door.new) result.entry.reply }
+        ensures still { (fault : ℕ) → (D.store door.old).stop ≡ Some fault → device_in result.entry.reply ≡ None }
     {
         if is_sync(&ask.op) {
             return self.serve_sync(door, ask, by, ticket);
         }
         match file_asked(&ask) {
             Some(file) => self.serve_file(door, file, ask, by, ticket),
-            None => self.serve_names(door, ask, by, ticket),
+            None => self.serve_in_room(door, ask, by, ticket),
         }
     }
 }

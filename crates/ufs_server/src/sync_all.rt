@@ -20,7 +20,7 @@ use ufs_synced::all_law;
 impl DiskServer {
     /// Commits the names, and each live file, by rising number: no call of the disk is made for one of which nothing
     /// was written since its last commit.
-    pub(crate) fn sync_all<D: Door>(&mut self, door: &mut D) -> Result<(), Excuse>
+    pub fn sync_all<D: Door>(&mut self, door: &mut D) -> Result<(), Excuse>
         requires sound { IsSoundServer (geometry_of_store (D.store door.old)) (D.store door.old).unassigned.free self.old }
         ensures ok { IsTrue D.tells → OnOk result ((start : PosixTree) (history : List Entry) → IsOnDisk (D.store door.old) start history self.old → HasAll (D.store door.new) start history self.new) }
         ensures err { IsTrue D.tells → OnErr result ((start : PosixTree) (history : List Entry) → IsOnDisk (D.store door.old) start history self.old → IsOnDisk (D.store door.new) start history self.new) }

@@ -49,6 +49,7 @@ impl DiskServer {
         ensures stopped { (fault : ℕ) → stopped_in result.entry.reply ≡ Some fault → (D.store door.old).stop ≡ Some fault }
         ensures cause { IsTold (D.store door.old).faults (D.store door.new).faults (device_in result.entry.reply) }
         ensures stop { (D.store door.new).stop ≡ stop_after (D.store door.old).stop (device_in result.entry.reply) }
+        ensures still { (fault : ℕ) → (D.store door.old).stop ≡ Some fault → device_in result.entry.reply ≡ None }
     {
         let geometry = door.geometry();
         on_disk_law(&geometry);
@@ -75,6 +76,7 @@ impl DiskServer {
         ensures stopped { (fault : ℕ) → stopped_in result ≡ Some fault → (D.store door.old).stop ≡ Some fault }
         ensures cause { IsTold (D.store door.old).faults (D.store door.new).faults (device_in result) }
         ensures stop { (D.store door.new).stop ≡ stop_after (D.store door.old).stop (device_in result) }
+        ensures still { (fault : ℕ) → (D.store door.old).stop ≡ Some fault → device_in result ≡ None }
     {
         let geometry = door.geometry();
         on_disk_law(&geometry);

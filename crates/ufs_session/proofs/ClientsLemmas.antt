@@ -4,16 +4,15 @@ use Rattle.std.specs.Prelude.{slice_get}
 use Rattle.std.specs.FinMap as map
 use Rattle.std.proofs.lemmas.Bool.{cases_eq}
 use Rattle.std.proofs.lemmas.List.{length-append, append-nil, append_assoc}
-use Rattle.ufs_model.specs.History.{IsInOrder, IsComplete, joined, tree_after, entries_of, requests_of}
+use Rattle.ufs_model.specs.History.{AreFaultsOnce, IsInOrder, IsComplete, joined, tree_after, entries_of, requests_of}
 use Rattle.ufs_model.specs.PosixTree.{PosixTree}
 use Rattle.ufs_model.proofs.Facts.Histories.{order_none}
 use Rattle.ufs_model.specs.declared.data.Entry.{Entry}
 use Rattle.ufs_model.specs.declared.data.Op.{Op}
 use Rattle.ufs_model.specs.declared.data.Actor.TheVariants.{Primary}
-use Rattle.ufs_engine.specs.declared.played.EndFault.{EndFault}
-use Rattle.ufs_engine.specs.Played.{transcript, AreServedBy, IsMerged}
-use Rattle.ufs_engine.proofs.ServingLemmas.{get_here}
-use Rattle.ufs_engine.proofs.ClientsLemmas.{get_before, get_past, not_ok, joined-push, rising_from}
+use Rattle.ufs_client.specs.declared.played.EndFault.{EndFault}
+use Rattle.ufs_client.specs.Played.{transcript, AreServedBy, IsMerged}
+use Rattle.ufs_client.proofs.Lists.{get_before, get_here, get_past, joined-push, not_ok, rising_from}
 use Rattle.ufs_stored.specs.Parts.{Parts}
 use Rattle.ufs_session.specs.Played.{IsPlayedFrom, MayBegin}
 use Rattle.ufs_session.specs.Serving.{IsReached, IsReady, GoesOn, IsDone}
@@ -40,7 +39,7 @@ none_served start clients told p none short may = subst (λ (l : List (List Entr
   tolds = refl;
   first_is = refl;
   few = omega arith;
-  reached = record { legal = record { entries = tt; faults = tt }; parts = may.parts; next = omega arith; numbers = may.numbers };
+  reached = record { entries = tt; parts = may.parts; next = omega arith; numbers = may.numbers };
   ordered = order_none clients;
   server = tt;
   complete = λ c low. absurd (omega (arith, low));
@@ -50,7 +49,7 @@ none_served start clients told p none short may = subst (λ (l : List (List Entr
 
 module _ (start : PosixTree) (clients : List (List Op)) (told : List (List Entry)) (p : Parts) (count first : ℕ) (done rest : List (List Op)) (is : AreServing start clients told p count first done rest) where
   pub merged : IsMerged told (joined told)
-  merged = record { rising = rising_from 0 start (joined told) is.reached.legal.entries; each = is.each }
+  merged = record { rising = rising_from 0 start (joined told) is.reached.entries; each = is.each }
 
   all_told : rest ≡ [] → length clients ≡ count
   all_told none = ap (λ (l : List (List Op)). length l) (sym is.whole ∙ ap (λ (l : List (List Op)). done ++ l) none ∙ append-nil done) ∙ is.counted
@@ -77,11 +76,11 @@ module _ (start : PosixTree) (clients : List (List Op)) (told : List (List Entry
           ∙ sym (ap (λ o. length (unwrap_or o [])) (get_past clients c (omega (arith, high, all_told none))))
 
   -- a session that ends here
-  pub played_here : (r : Result (Unit {0}) EndFault) → (r ≡ Ok tt → rest ≡ []) → IsPlayedFrom start clients told r (joined told)
-  played_here r none = record {
+  pub played_here : AreFaultsOnce (joined told) → (r : Result (Unit {0}) EndFault) → (r ≡ Ok tt → rest ≡ []) → IsPlayedFrom start clients told r (joined told)
+  played_here faults r none = record {
     merged = merged;
     each = λ ok. each_told (none ok);
-    legal = is.reached.legal;
+    legal = record { entries = is.reached.entries; faults = faults };
     server = is.server;
     ordered = is.ordered;
     complete = λ ok. all_served (none ok);
@@ -133,11 +132,11 @@ module _ (start : PosixTree) (clients : List (List Op)) (told : List (List Entry
     server_more = subst (AreServedBy Primary) (sym one_list) (goes.server is.server)
 
     -- a session that ends behind this client
-    pub played_more : (r : Result (Unit {0}) EndFault) → IsErr r → IsPlayedFrom start clients (told ++ mine ∷ []) r (joined (told ++ mine ∷ []))
-    played_more r err = record {
-      merged = record { rising = rising_from 0 start (joined (told ++ mine ∷ [])) reached_more.legal.entries; each = each_more };
+    pub played_more : AreFaultsOnce (joined (told ++ mine ∷ [])) → (r : Result (Unit {0}) EndFault) → IsErr r → IsPlayedFrom start clients (told ++ mine ∷ []) r (joined (told ++ mine ∷ []))
+    played_more faults r err = record {
+      merged = record { rising = rising_from 0 start (joined (told ++ mine ∷ [])) reached_more.entries; each = each_more };
       each = λ ok. absurd (not_ok r err ok);
-      legal = reached_more.legal;
+      legal = record { entries = reached_more.entries; faults = faults };
       server = server_more;
       ordered = ordered_more;
       complete = λ ok. absurd (not_ok r err ok);

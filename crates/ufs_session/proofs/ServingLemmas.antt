@@ -6,7 +6,7 @@ use Rattle.std.specs.FinMap.{get-empty}
 use Rattle.std.specs.Ordering.{nat_cmp}
 use Rattle.std.proofs.lemmas.List.{length-append, append-nil, append_assoc}
 use Rattle.ufs_model.specs.Asks.{IsAsk, IsDescAfter, desc_of_fd, fd_named, fd_asked, fd_told, is_last}
-use Rattle.ufs_model.specs.History.{IsLegal, IsLegalEntry, IsExcused, IsInOrder, IsNext, TellsNewFault, is_excused, tree_after, tree_with, entries_of, requests_of}
+use Rattle.ufs_model.specs.History.{IsLegalFrom, IsLegalEntry, IsExcused, IsInOrder, IsNext, is_excused, tree_after, tree_with, entries_of, requests_of}
 use Rattle.ufs_model.specs.Excuses.{ExcuseFits}
 use Rattle.ufs_model.specs.Posix.{posix}
 use Rattle.ufs_model.specs.PosixTree.{PosixTree, Fds}
@@ -18,13 +18,14 @@ use Rattle.ufs_model.specs.declared.data.Excuse.{Excuse}
 use Rattle.ufs_model.specs.declared.data.Op.{Op}
 use Rattle.ufs_model.specs.declared.data.Reply.{Reply}
 use Rattle.ufs_model.specs.declared.data.Reply.TheVariants as reply
-use Rattle.ufs_model.proofs.Facts.Histories.{tree_after-push, all-push, legal-push, own-push, others-push, order-push}
+use Rattle.ufs_model.proofs.Facts.Histories.{tree_after-push, all-push, legal_from_push, own-push, others-push, order-push}
 use Rattle.ufs_fds.specs.Descriptors.{Descs, AreOf}
 use Rattle.ufs_file.specs.Hand.{IsEntryOf}
-use Rattle.ufs_engine.specs.Clients.{AreRanged}
-use Rattle.ufs_engine.specs.Played.{AreServedBy}
-use Rattle.ufs_engine.proofs.RangeLemmas.{ranged_after}
-use Rattle.ufs_engine.proofs.ServingLemmas.{get_here, by_reply, excused_named, the_excuse}
+use Rattle.ufs_client.specs.Clients.{AreRanged}
+use Rattle.ufs_client.specs.Played.{AreServedBy}
+use Rattle.ufs_client.proofs.RangeLemmas.{ranged_after}
+use Rattle.ufs_client.proofs.Lists.{get_here}
+use Rattle.ufs_client.proofs.Replies.{by_reply, excused_named, the_excuse}
 use Rattle.ufs_server.specs.Answered.{IsAnswered}
 use Rattle.ufs_stored.specs.Parts.{Parts}
 use Rattle.ufs_stored.specs.Stored.{ArePartsOf}
@@ -117,7 +118,7 @@ module _ (start : PosixTree) (client : ℕ) (requests : List Op) (before : List 
     longer entry = length-append told (entry ∷ []) ∙ ap (λ (n : ℕ). n + 1) is.long
 
     -- a request is left, so not all of them are told
-    pub few_so_far : length told + 1 ≤ 65536
+    few_so_far : length told + 1 ≤ 65536
     few_so_far =
         let count = ap (λ (l : List Op). length l) (sym is.whole) ∙ length-append done (request ∷ rest) in
         omega (arith, count, is.counted, is.long, is.short)
@@ -142,7 +143,7 @@ module _ (start : PosixTree) (client : ℕ) (requests : List Op) (before : List 
     }
 
     module _ (ask : Ask) (entry : Entry) (ticket : ℕ) (of : IsEntryOf ask Primary ticket entry) (ticket_is : ticket ≡ length before + seq)
-        (client_is : ask.client ≡ client) (seq_is : ask.seq ≡ seq) (op_is : ask.op ≡ request) (asked : IsAsk (tree_after start now) ask) (new_fault : TellsNewFault now entry)
+        (client_is : ask.client ≡ client) (seq_is : ask.seq ≡ seq) (op_is : ask.op ≡ request) (asked : IsAsk (tree_after start now) ask)
         (new : Parts) (new_table : Descs) (desc : Option Desc)
         (kept : (old new : Fds) (c : ℕ) → AreOf old c table → IsDescAfter old new c (fd_told entry.op entry.reply) desc → AreRanged old c → AreRanged new c → AreOf new c new_table) where
       numbered : entry.ticket ≡ length now
@@ -151,8 +152,8 @@ module _ (start : PosixTree) (client : ℕ) (requests : List Op) (before : List 
       range_is : AreRanged tree.fds ask.client
       range_is = subst (AreRanged tree.fds) (sym client_is) is.ranged
 
-      legal_now : IsLegalEntry (length now) tree entry → IsLegal start (now ++ entry ∷ [])
-      legal_now fits = legal-push start now entry is.reached.legal fits new_fault
+      legal_now : IsLegalEntry (length now) tree entry → IsLegalFrom 0 start (now ++ entry ∷ [])
+      legal_now fits = legal_from_push 0 start now entry is.reached.entries (subst (λ (n : ℕ). IsLegalEntry n tree entry) (omega arith) fits)
 
       -- whatever the reply: the parts are those of the tree that follows
       module _ (after : PosixTree) (fits : IsLegalEntry (length now) tree entry) (goes_to : tree_after start (before ++ (told ++ entry ∷ [])) ≡ after) (reached : ArePartsOf new after)
@@ -166,7 +167,7 @@ module _ (start : PosixTree) (client : ℕ) (requests : List Op) (before : List 
           goes = goes_more before client requests told entry is.goes (of.client ∙ client_is) (of.seq ∙ seq_is ∙ sym is.long)
               (asked_here ∙ ap Some (sym (of.asked ∙ op_is))) (few_more entry) of.server;
           reached = record {
-            legal = subst (IsLegal start) (sym (one_list before client requests told entry)) (legal_now fits);
+            entries = subst (IsLegalFrom 0 start) (sym (one_list before client requests told entry)) (legal_now fits);
             parts = subst (ArePartsOf new) (sym goes_to) reached;
             next = let count = length-append before (told ++ entry ∷ []) in let old = length-append before told in
                 let same = ap (λ (t : PosixTree). t.next) goes_to in omega (arith, count, old, longer entry, is.long, one_file, is.reached.next, same);

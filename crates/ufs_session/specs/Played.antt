@@ -7,8 +7,8 @@ use Rattle.ufs_model.specs.History.{IsLegal, IsInOrder, IsComplete}
 use Rattle.ufs_model.specs.declared.data.Actor.TheVariants.{Primary}
 use Rattle.ufs_model.specs.declared.data.Op.{Op}
 use Rattle.ufs_model.specs.declared.data.Entry.{Entry}
-use Rattle.ufs_engine.specs.Played.{AreServedBy, IsMerged}
-use Rattle.ufs_engine.specs.declared.played.EndFault.{EndFault}
+use Rattle.ufs_client.specs.Played.{AreServedBy, IsMerged}
+use Rattle.ufs_client.specs.declared.played.EndFault.{EndFault}
 use Rattle.ufs_stored.specs.Parts.{Parts}
 use Rattle.ufs_stored.specs.Stored.{ArePartsOf}
 

@@ -1,21 +1,19 @@
 -- How far the serving of clients has come.
-use Rattle.std.specs.Prelude.{ℕ, ◌≡◌, ◌≢◌, ◌+◌, ◌*◌, ◌^◌, ◌≤◌, List, [], ◌++◌, Some, None, length}
-use Rattle.std.specs.List.{AllByRecursion}
+use Rattle.std.specs.Prelude.{ℕ, ◌≡◌, ◌≢◌, ◌+◌, ◌*◌, ◌^◌, ◌≤◌, List, [], ◌++◌, None, length}
 use Rattle.std.specs.FinMap as map
 use Rattle.ufs_base.specs.declared.limits.TheConstants.{MAX_CLIENTS, MAX_REQUESTS}
 use Rattle.ufs_model.specs.PosixTree.{PosixTree}
-use Rattle.ufs_model.specs.History.{IsLegal, IsInOrder, tree_after, entries_of, requests_of}
+use Rattle.ufs_model.specs.History.{IsLegalFrom, IsInOrder, tree_after, entries_of, requests_of}
 use Rattle.ufs_model.specs.declared.data.Op.{Op}
 use Rattle.ufs_model.specs.declared.data.Entry.{Entry}
 use Rattle.ufs_model.specs.declared.data.Actor.TheVariants.{Primary}
-use Rattle.ufs_engine.specs.Played.{AreServedBy}
-use Rattle.ufs_server.specs.Answered.{device_in}
+use Rattle.ufs_client.specs.Played.{AreServedBy}
 use Rattle.ufs_stored.specs.Parts.{Parts}
 use Rattle.ufs_stored.specs.Stored.{ArePartsOf}
 
 -- A history that is served: the parts are those of the tree after it, and no more files were made than requests served.
 pub record IsReached (start : PosixTree) (history : List Entry) (p : Parts) : Type 0 where
-  pub legal : IsLegal start history
+  pub entries : IsLegalFrom 0 start history
   pub parts : ArePartsOf p (tree_after start history)
   pub next : (tree_after start history).next ≤ start.next + length history
   pub numbers : start.next + MAX_CLIENTS * MAX_REQUESTS ≤ 2 ^ 31
@@ -25,10 +23,6 @@ pub record IsReady (start : PosixTree) (history : List Entry) (p : Parts) (clien
   pub reached : IsReached start history p
   pub entries : entries_of client history ≡ []
   pub fds : (fd : ℕ) → map.get (tree_after start history).fds (client, fd) ≡ None
-
--- No fault has a higher number.
-abbrev pub AreUpTo : ℕ → List Entry → Type 0
-AreUpTo faults history = AllByRecursion (λ entry. (fault : ℕ) → device_in entry.reply ≡ Some fault → fault ≤ faults) history
 
 -- A client's transcript goes on from a history: the whole is in order, and these entries are the client's.
 pub record GoesOn (before : List Entry) (client : ℕ) (requests : List Op) (told : List Entry) : Type 0 where

@@ -1,18 +1,18 @@
 // A session on one thread.
-ghost use Rattle.std.specs.Prelude.{◌-◌, ◌+◌, ◌^◌, ◌≡◌, ◌≤◌, ◌<◌, ◌*◌, ◌++◌, [], List, OnOk, IsTrue, length};
+ghost use Rattle.std.specs.Prelude.{◌-◌, ◌+◌, ◌^◌, ◌≡◌, ◌≤◌, ◌<◌, ◌*◌, ◌++◌, [], List, None, OnOk, IsTrue, length};
 ghost use Rattle.ufs_model.specs.PosixTree.{PosixTree};
 ghost use Rattle.ufs_model.specs.History.{AreTicketsOnce, entries_of, joined, tree_after};
-ghost use Rattle.ufs_store.specs.State.{geometry_of_store};
+ghost use Rattle.ufs_store.specs.State.{StoreState, geometry_of_store};
 ghost use Rattle.ufs_stored.specs.OnDisk.{IsOnDisk};
 ghost use Rattle.ufs_stored.specs.Sound.{IsSoundServer};
 ghost use Rattle.ufs_stored.specs.Stored.{ArePartsOf};
 ghost use Rattle.ufs_session.specs.Told.{AreFaultsTold};
 ghost use Rattle.ufs_session.specs.Played.{IsPlayedFrom, MayBegin};
-ghost use Rattle.ufs_session.specs.Serving.{AreUpTo, GoesOn, IsDone, IsReached, IsReady};
+ghost use Rattle.ufs_session.specs.Serving.{GoesOn, IsDone, IsReached, IsReady};
 
 use std::alloc::Global;
 use ufs_base::{MAX_CLIENTS, MAX_REQUESTS, Memory};
-use ufs_engine::{EndFault, Session, ToldLists, ask, keep};
+use ufs_client::{EndFault, Session, ToldLists, ask, keep};
 use ufs_fds::FdTable;
 use ufs_model::{Actor, Entry, EntryList, a_request_makes_one_file_at_most};
 use ufs_script::{OpList, OpLists};
@@ -33,9 +33,8 @@ fn serve_client<D: Door>(
     requires client { client < MAX_CLIENTS }
     requires few { length (joined earlier.now.items) ≤ (MAX_CLIENTS - 1) * MAX_REQUESTS }
     requires first { first ≡ length (joined earlier.now.items) }
-    requires up_to { AreUpTo (D.store door.old).faults (joined earlier.now.items) }
-    requires counted { (D.store door.old).faults + MAX_REQUESTS < 2 ^ 64 }
     requires ready { (start : PosixTree) × IsReady start (joined earlier.now.items) server.old client }
+    requires faults { (begun : StoreState) × AreFaultsTold begun (D.store door.old) (joined earlier.now.items) }
     requires sound { IsSoundServer (geometry_of_store (D.store door.old)) (D.store door.old).unassigned.free server.old }
     requires none { told.old.items ≡ [] }
     ensures goes_on { GoesOn (joined earlier.now.items) client requests told.new.items }
@@ -72,11 +71,10 @@ fn serve_clients<D: Door>(
     told: &mut Vec<EntryList>,
 ) -> Result<(), EndFault>
     requires start { (start : PosixTree) × MayBegin server.old start }
-    requires counted { (D.store door.old).faults + MAX_CLIENTS * MAX_REQUESTS < 2 ^ 64 }
     requires sound { IsSoundServer (geometry_of_store (D.store door.old)) (D.store door.old).unassigned.free server.old }
     requires none { told.old.items ≡ [] }
     ensures played { (start : PosixTree) → MayBegin server.old start → IsPlayedFrom start clients told.new.items result (joined told.new.items) }
-    ensures left { (start : PosixTree) → MayBegin server.old start → ArePartsOf server.new (tree_after start (joined told.new.items)) }
+    ensures left { (start : PosixTree) → MayBegin server.old start → IsReached start (joined told.new.items) server.new }
     ensures on_disk { IsTrue D.tells → (start : PosixTree) → MayBegin server.old start
         → IsOnDisk (D.store door.old) start [] server.old → IsOnDisk (D.store door.new) start (joined told.new.items) server.new }
     ensures faults { AreFaultsTold (D.store door.old) (D.store door.new) (joined told.new.items) }
@@ -106,7 +104,8 @@ fn serve_clients<D: Door>(
 /// and the session goes on with the next one; it ends before its end only where no memory is left to keep an entry or
 /// a transcript. Whatever ends it, the server is the tree after what was told, and the disk keeps its promise for it.
 ///
-/// The disk's count of faults is so far from its end that it rises at each fault of the session.
+/// A store that meets a fault of its disk stops there: so a session meets one fault at most, and whoever is told that the
+/// store stopped is told that one, or the one at which it had stopped before.
 pub fn serve<D: Door>(
     alloc: Global,
     server: &mut DiskServer,
@@ -114,7 +113,6 @@ pub fn serve<D: Door>(
     clients: OpLists,
 ) -> Session
     requires start { (start : PosixTree) × MayBegin server.old start }
-    requires counted { (D.store door.old).faults + MAX_CLIENTS * MAX_REQUESTS < 2 ^ 64 }
     requires sound { IsSoundServer (geometry_of_store (D.store door.old)) (D.store door.old).unassigned.free server.old }
     ensures played { (start : PosixTree) → MayBegin server.old start → IsPlayedFrom start clients result.told result.ended (joined result.told) }
     ensures left { (start : PosixTree) → MayBegin server.old start → ArePartsOf server.new (tree_after start (joined result.told)) }
@@ -122,6 +120,7 @@ pub fn serve<D: Door>(
         → IsOnDisk (D.store door.old) start [] server.old → IsOnDisk (D.store door.new) start (joined result.told) server.new }
     ensures once { AreTicketsOnce (joined result.told) }
     ensures faults { AreFaultsTold (D.store door.old) (D.store door.new) (joined result.told) }
+    ensures calm { (D.store door.new).stop ≡ None → ((D.store door.new).faults ≡ (D.store door.old).faults) × ((D.store door.old).stop ≡ None) }
     ensures sound { IsSoundServer (geometry_of_store (D.store door.new)) (D.store door.new).unassigned.free server.new }
     ensures geometry { geometry_of_store (D.store door.new) ≡ geometry_of_store (D.store door.old) }
     ensures sectors { (D.store door.new).sectors ≡ (D.store door.old).sectors }

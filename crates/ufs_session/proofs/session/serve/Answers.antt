@@ -1,15 +1,34 @@
 use Rattle.std.proofs.Common.{List, sym, subst}
-use Rattle.ufs_model.specs.History.{joined, AreTicketsOnce}
+use Rattle.ufs_model.specs.History.{joined, tree_after, AreTicketsOnce}
 use Rattle.ufs_model.specs.declared.data.Entry.{Entry}
 use Rattle.ufs_stored.specs.OnDisk.{IsOnDisk}
-use Rattle.ufs_engine.proofs.ClientsLemmas.{once_rising}
+use Rattle.ufs_stored.specs.Stored.{ArePartsOf}
+use Rattle.ufs_client.proofs.Lists.{once_rising, rising_from}
+use Rattle.ufs_session.specs.Told.{AreFaultsTold}
+use Rattle.ufs_session.proofs.ToldLemmas.{calm_told}
 use Rattle.ufs_session.proofs.session.serve.Goals as goal
 
 pub returns-clause-once : goal.returns-clause-once
 returns-clause-once g c =
-    subst (λ (l : List (List Entry)). AreTicketsOnce (joined l)) (sym c.from_vec.ensures) (once_rising _ (c.serve_clients-ended.ensures.played c.requires.start.0 c.requires.start.1).merged.rising)
+    let start = c.requires.start.0 in
+    subst (λ (l : List (List Entry)). AreTicketsOnce (joined l)) (sym c.from_vec.ensures) (once_rising _ (rising_from 0 start _ (c.serve_clients-ended.ensures.left start c.requires.start.1).entries))
 
 pub returns-clause-on_disk : goal.returns-clause-on_disk
-returns-clause-on_disk g c told start may on =
+returns-clause-on_disk g c tells start may on =
     subst (λ (lists : List (List Entry)). IsOnDisk (g.D.Door.store c.serve_clients-ended.new.door) start (joined lists) c.serve_clients-ended.new.server) (sym c.from_vec.ensures)
-    (c.serve_clients-ended.ensures.on_disk told start may on)
+    (c.serve_clients-ended.ensures.on_disk tells start may on)
+
+pub returns-clause-faults : goal.returns-clause-faults
+returns-clause-faults g c =
+    let old = g.D.Door.store c.args.door.now in
+    let new = g.D.Door.store c.serve_clients-ended.new.door in
+    subst (λ (lists : List (List Entry)). AreFaultsTold old new (joined lists)) (sym c.from_vec.ensures) c.serve_clients-ended.ensures.faults
+
+pub returns-clause-left : goal.returns-clause-left
+returns-clause-left g c start may =
+    subst (λ (lists : List (List Entry)). ArePartsOf c.serve_clients-ended.new.server (tree_after start (joined lists))) (sym c.from_vec.ensures) (c.serve_clients-ended.ensures.left start may).parts
+
+pub returns-clause-calm : goal.returns-clause-calm
+returns-clause-calm g c none =
+    let s = c.serve_clients-ended in
+    calm_told (g.D.Door.store c.args.door.now) (g.D.Door.store s.new.door) (joined s.new.told.items) s.ensures.faults none

@@ -1,15 +1,15 @@
 use Rattle.std.proofs.Common.{◌≡◌, ◌++◌, ◌∷◌, [], ◌<◌, ℕ, List, ap, arith, refl, sym, ◌∙◌, subst, length, ◌+◌}
 use Rattle.std.proofs.lemmas.List.{append-nil, append_assoc}
-use Rattle.ufs_model.specs.History.{IsLegal, joined, tree_after}
+use Rattle.ufs_model.specs.History.{IsLegalFrom, joined, tree_after}
 use Rattle.ufs_model.specs.PosixTree.{PosixTree}
 use Rattle.ufs_model.specs.declared.data.Op.{Op}
 use Rattle.ufs_model.specs.declared.data.Entry.{Entry}
-use Rattle.ufs_engine.proofs.ServingLemmas.{pushed_on}
+use Rattle.ufs_client.proofs.Lists.{pushed_on}
 use Rattle.ufs_stored.specs.OnDisk.{IsOnDisk}
 use Rattle.ufs_session.specs.Serving.{IsReady}
 use Rattle.ufs_session.specs.Told.{AreFaultsTold}
-use Rattle.ufs_session.proofs.ServingLemmas.{IsServing, any_more, begins, few_so_far, is_ask, names_few}
-use Rattle.ufs_session.proofs.ToldLemmas.{few_devices, none_told, one_told, tells_new, told_on, up_to_more}
+use Rattle.ufs_session.proofs.ServingLemmas.{IsServing, any_more, begins, is_ask, names_few}
+use Rattle.ufs_session.proofs.ToldLemmas.{legal_told, none_told, one_told, told_on}
 use Rattle.ufs_session.proofs.session.serve_client.Goals as goal
 
 pub loop-op-init : goal.loop-op-init
@@ -17,12 +17,12 @@ loop-op-init g c =
     let s = g.D.Door.store c.args.door.now in
     let before = joined c.args.earlier.now.items in
     let items = c.into_iter-op-iterator.ensures.into_iter_gives.0 ∙ c.into_vec-op-items.ensures.value in
+    let whole = sym (append-nil before) ∙ ap (λ (l : List Entry). before ++ l) (sym c.requires.none) in
     record {
       serving = λ start ready.
           subst (λ (r : List Op). IsServing start c.args.client c.args.requests before c.args.server.now c.new-fds.result c.args.told.now.items 0 [] r) (sym items)
           (begins start c.args.client c.args.requests before c.args.server.now c.new-fds.result c.args.told.now.items c.new-fds.ensures c.requires.none c.into_vec-op-items.ensures.few ready);
-      on_disk = λ tells start ready is.
-          subst (λ (h : List Entry). IsOnDisk s start h c.args.server.now) (sym (append-nil before) ∙ ap (λ (l : List Entry). before ++ l) (sym c.requires.none)) is;
+      on_disk = λ tells start ready is. subst (λ (h : List Entry). IsOnDisk s start h c.args.server.now) whole is;
       faults = subst (AreFaultsTold s s) (sym c.requires.none) (none_told s);
       sound = c.requires.sound;
       geometry = refl;
@@ -67,29 +67,35 @@ loop-op-preserved g c =
     let asked = λ (start : PosixTree) (ready : IsReady start before c.args.server.now client).
     is_ask start client c.args.requests before l.server l.fds told l.seq l.yielded c.in-Some.op rest (so_far start ready) c.ask-asked.result e.client e.asked e.desc e.fd e.last in
     let ticket : c.args.first + c.from.result ≡ length before + l.seq = (λ i. c.requires.first i + c.from.ensures i) in
-    let few = few_so_far c.requires.ready.0 client c.args.requests before l.server l.fds told l.seq l.yielded c.in-Some.op rest (so_far c.requires.ready.0 c.requires.ready.1) in
-    let less : now.faults + 1 < 18446744073709551616 = omega (arith, few, few_devices told, l.invariant.faults.count, c.requires.counted) in
-    let new_fault = tells_new now.faults next.faults (before ++ told) entry (up_to_more first now before told c.requires.up_to l.invariant.faults) less a.cause in
     let pushed = pushed_on c.push.result _ _ told _ _ c.unwrap.ensures c.reserve.ensures.items c.push.ensures.items in
     let serving : (start : PosixTree) → IsReady start before c.args.server.now client
     → IsServing start client c.args.requests before c.apply-applied.new.self c.keep.new.fds (told ++ entry ∷ []) (l.seq + 1) (l.yielded ++ c.in-Some.op ∷ []) rest =
     λ start ready.
     any_more start client c.args.requests before l.server l.fds told l.seq l.yielded c.in-Some.op rest (so_far start ready)
-    c.ask-asked.result entry _ a.entry ticket e.client e.seq e.asked (asked start ready) new_fault c.apply-applied.new.self c.keep.new.fds c.apply-applied.result.desc c.keep.ensures
+    c.ask-asked.result entry _ a.entry ticket e.client e.seq e.asked (asked start ready) c.apply-applied.new.self c.keep.new.fds c.apply-applied.result.desc c.keep.ensures
     (λ plain. a.served plain (tree_after start (before ++ told)) (so_far start ready).reached.parts (asked start ready))
     (λ x excused. a.fits x excused (tree_after start (before ++ told)) (so_far start ready).reached.parts (asked start ready))
     (λ excused. a.unchanged excused (tree_after start (before ++ told)) (so_far start ready).reached.parts) a.desc
     (c.a_request_makes_one_file_at_most.ensures (tree_after start (before ++ told)) c.ask-asked.result.client c.ask-asked.result.op) in
+    let whole = append_assoc before told (entry ∷ []) ∙ ap (λ (t : List Entry). before ++ t) (sym pushed) in
+    let more : AreFaultsTold first next (told ++ entry ∷ []) = told_on first now next told (entry ∷ []) l.invariant.faults (one_told now next entry a.told a.still a.stopped) in
+    let begun = c.requires.faults.0 in
+    let all = subst (AreFaultsTold begun next) (sym (append_assoc before told (entry ∷ []))) (told_on begun first next before (told ++ entry ∷ []) c.requires.faults.1 more) in
     record {
       serving = λ start ready.
           subst (λ (t : List Entry). IsServing start client c.args.requests before c.apply-applied.new.self c.keep.new.fds t (l.seq + 1) (l.yielded ++ c.in-Some.op ∷ []) rest) (sym pushed) (serving start ready);
       on_disk = λ tells start ready is.
-          subst (λ (t : List Entry). IsOnDisk next start (before ++ t) c.apply-applied.new.self) (sym pushed)
-          (subst (λ (h : List Entry). IsOnDisk next start h c.apply-applied.new.self) (append_assoc before told (entry ∷ []))
-          (a.on_disk tells start (before ++ told) (asked start ready) (subst (IsLegal start) (sym (append_assoc before told (entry ∷ []))) (serving start ready).reached.legal)
-          (l.invariant.on_disk tells start ready is)));
-      faults = subst (AreFaultsTold first next) (sym pushed) (told_on first now next told (entry ∷ []) l.invariant.faults (one_told now next entry less a.cause a.stop a.stopped));
+          subst (λ (h : List Entry). IsOnDisk next start h c.apply-applied.new.self) whole
+          (a.on_disk tells start (before ++ told) (asked start ready)
+          (legal_told begun next start ((before ++ told) ++ entry ∷ []) all (subst (IsLegalFrom 0 start) (sym (append_assoc before told (entry ∷ []))) (serving start ready).reached.entries))
+          (l.invariant.on_disk tells start ready is));
+      faults = subst (AreFaultsTold first next) (sym pushed) more;
       sound = a.sound;
       geometry = a.geometry ∙ l.invariant.geometry;
       sectors = a.sectors ∙ l.invariant.sectors;
     }
+
+pub returns-in_err-reserve-clause-on_disk : goal.returns-in_err-reserve-clause-on_disk
+returns-in_err-reserve-clause-on_disk g c tells start ready is =
+    let l = c.loop-op in
+    subst (λ (told : List Entry). IsOnDisk (g.D.Door.store l.door) start (joined c.args.earlier.now.items ++ told) l.server) (sym c.reserve.ensures.items) (l.invariant.on_disk tells start ready is)

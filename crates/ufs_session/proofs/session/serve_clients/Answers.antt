@@ -1,18 +1,16 @@
 use Rattle.std.proofs.Common.{◌++◌, ◌∷◌, [], List, ap, arith, sym, refl, ◌∙◌, subst, length, ◌+◌, ℕ, Err}
-use Rattle.ufs_model.specs.History.{joined, tree_after}
+use Rattle.ufs_model.specs.History.{joined}
 use Rattle.ufs_model.specs.PosixTree.{PosixTree}
 use Rattle.ufs_model.specs.declared.data.Op.{Op}
 use Rattle.ufs_model.specs.declared.data.Entry.{Entry}
-use Rattle.ufs_engine.specs.declared.played.EndFault.TheVariants as fault
-use Rattle.ufs_engine.proofs.ClientsLemmas.{joined-push, no_items}
-use Rattle.ufs_engine.proofs.ServingLemmas.{pushed_on}
+use Rattle.ufs_client.specs.declared.played.EndFault.TheVariants as fault
+use Rattle.ufs_client.proofs.Lists.{joined-push, no_items, pushed_on}
 use Rattle.ufs_stored.specs.OnDisk.{IsOnDisk}
-use Rattle.ufs_stored.specs.Stored.{ArePartsOf}
 use Rattle.ufs_session.specs.Played.{IsPlayedFrom, MayBegin}
-use Rattle.ufs_session.specs.Serving.{AreUpTo}
+use Rattle.ufs_session.specs.Serving.{IsReached}
 use Rattle.ufs_session.specs.Told.{AreFaultsTold}
 use Rattle.ufs_session.proofs.ClientsLemmas.{AreServing, few, low, none_served, one_client_more, played_here, played_more, reached_more, ready}
-use Rattle.ufs_session.proofs.ToldLemmas.{few_devices, none_told, told_on, up_to_now}
+use Rattle.ufs_session.proofs.ToldLemmas.{none_told, once_told, told_on}
 use Rattle.ufs_session.proofs.session.serve_clients.Goals as goal
 
 pub loop-requests-init : goal.loop-requests-init
@@ -38,31 +36,26 @@ serve_client-ended-requires-clause-ready g c =
     let so_far = subst (λ (told : List (List Entry)). AreServing start c.args.clients told l.server l.client l.first l.yielded (c.in-Some.requests ∷ c.next.new.self.rest.items)) (sym c.reserve.ensures.items) next in
     (start, ready start c.args.clients c.reserve.new.self.items l.server l.client l.first l.yielded c.in-Some.requests c.next.new.self.rest.items so_far)
 
-pub serve_client-ended-requires-clause-up_to : goal.serve_client-ended-requires-clause-up_to
-serve_client-ended-requires-clause-up_to g c =
+pub serve_client-ended-requires-clause-faults : goal.serve_client-ended-requires-clause-faults
+serve_client-ended-requires-clause-faults g c =
     let l = c.loop-requests in
     let first = g.D.Door.store c.args.door.now in
     let now = g.D.Door.store l.door in
-    subst (λ (told : List (List Entry)). AreUpTo now.faults (joined told)) (sym c.reserve.ensures.items) (up_to_now first now (joined l.told.items) l.invariant.faults)
-
-pub serve_client-ended-requires-clause-counted : goal.serve_client-ended-requires-clause-counted
-serve_client-ended-requires-clause-counted g c =
-    let l = c.loop-requests in
-    let start = c.requires.start.0 in
-    let next = subst (λ (r : List (List Op)). AreServing start c.args.clients l.told.items l.server l.client l.first l.yielded r) c.in-Some.ensures.steps.0 (l.invariant.serving start c.requires.start.1) in
-    let short = few start c.args.clients l.told.items l.server l.client l.first l.yielded c.in-Some.requests c.next.new.self.rest.items next in
-    omega (arith, short, few_devices (joined l.told.items), l.invariant.faults.count, c.requires.counted)
+    (first, subst (λ (told : List (List Entry)). AreFaultsTold first now (joined told)) (sym c.reserve.ensures.items) l.invariant.faults)
 
 pub returns-then-is_err-clause-played : goal.returns-then-is_err-clause-played
 returns-then-is_err-clause-played g c start may =
     let l = c.loop-requests in
+    let first = g.D.Door.store c.args.door.now in
+    let now = g.D.Door.store l.door in
     subst (λ (told : List (List Entry)). IsPlayedFrom start c.args.clients told (Err fault.Memory) (joined told)) (sym c.reserve.ensures.items)
-    (played_here start c.args.clients l.told.items l.server l.client l.first l.yielded _ (l.invariant.serving start may) (Err fault.Memory) (λ ok. cc))
+    (played_here start c.args.clients l.told.items l.server l.client l.first l.yielded _ (l.invariant.serving start may)
+    (once_told first now (joined l.told.items) l.invariant.faults) (Err fault.Memory) (λ ok. cc))
 
 pub returns-then-is_err-clause-left : goal.returns-then-is_err-clause-left
 returns-then-is_err-clause-left g c start may =
     let l = c.loop-requests in
-    subst (λ (told : List (List Entry)). ArePartsOf l.server (tree_after start (joined told))) (sym c.reserve.ensures.items) (l.invariant.serving start may).reached.parts
+    subst (λ (told : List (List Entry)). IsReached start (joined told) l.server) (sym c.reserve.ensures.items) (l.invariant.serving start may).reached
 
 pub returns-then-is_err-clause-on_disk : goal.returns-then-is_err-clause-on_disk
 returns-then-is_err-clause-on_disk g c tells start may is =
@@ -77,14 +70,20 @@ returns-then-is_err-clause-faults g c =
 pub returns-in_err-ended-clause-played : goal.returns-in_err-ended-clause-played
 returns-in_err-ended-clause-played g c start may =
     let l = c.loop-requests in
+    let first = g.D.Door.store c.args.door.now in
+    let now = g.D.Door.store l.door in
     let next = subst (λ (r : List (List Op)). AreServing start c.args.clients l.told.items l.server l.client l.first l.yielded r) c.in-Some.ensures.steps.0 (l.invariant.serving start may) in
     let so_far = subst (λ (told : List (List Entry)). AreServing start c.args.clients told l.server l.client l.first l.yielded (c.in-Some.requests ∷ c.next.new.self.rest.items)) (sym c.reserve.ensures.items) next in
     let earlier = c.reserve.new.self.items in
     let s = c.serve_client-ended in
     let pushed = pushed_on c.push.result _ _ earlier _ _ c.unwrap.ensures refl c.push.ensures.items ∙ ap (λ (m : List Entry). earlier ++ m ∷ []) c.from_vec.ensures in
     let here = ready start c.args.clients earlier l.server l.client l.first l.yielded c.in-Some.requests c.next.new.self.rest.items so_far in
+    let later = g.D.Door.store s.new.door in
+    let was = subst (λ (told : List (List Entry)). AreFaultsTold first now (joined told)) (sym c.reserve.ensures.items) l.invariant.faults in
+    let faults = subst (AreFaultsTold first later) (sym (joined-push earlier s.new.told.items)) (told_on first now later (joined earlier) s.new.told.items was s.ensures.faults) in
     subst (λ (told : List (List Entry)). IsPlayedFrom start c.args.clients told c.from_residual.result (joined told)) (sym pushed)
-    (played_more start c.args.clients earlier l.server l.client l.first l.yielded c.in-Some.requests c.next.new.self.rest.items so_far s.new.told.items s.ensures.goes_on s.new.server (s.ensures.left start here) c.from_residual.result c.from_residual.ensures.0)
+    (played_more start c.args.clients earlier l.server l.client l.first l.yielded c.in-Some.requests c.next.new.self.rest.items so_far s.new.told.items s.ensures.goes_on s.new.server (s.ensures.left start here)
+    (once_told first later (joined (earlier ++ s.new.told.items ∷ [])) faults) c.from_residual.result c.from_residual.ensures.0)
 
 pub returns-in_err-ended-clause-left : goal.returns-in_err-ended-clause-left
 returns-in_err-ended-clause-left g c start may =
@@ -95,8 +94,8 @@ returns-in_err-ended-clause-left g c start may =
     let s = c.serve_client-ended in
     let pushed = pushed_on c.push.result _ _ earlier _ _ c.unwrap.ensures refl c.push.ensures.items ∙ ap (λ (m : List Entry). earlier ++ m ∷ []) c.from_vec.ensures in
     let here = ready start c.args.clients earlier l.server l.client l.first l.yielded c.in-Some.requests c.next.new.self.rest.items so_far in
-    subst (λ (told : List (List Entry)). ArePartsOf s.new.server (tree_after start (joined told))) (sym pushed)
-    (reached_more start c.args.clients earlier l.server l.client l.first l.yielded c.in-Some.requests c.next.new.self.rest.items so_far s.new.told.items s.ensures.goes_on s.new.server (s.ensures.left start here)).parts
+    subst (λ (told : List (List Entry)). IsReached start (joined told) s.new.server) (sym pushed)
+    (reached_more start c.args.clients earlier l.server l.client l.first l.yielded c.in-Some.requests c.next.new.self.rest.items so_far s.new.told.items s.ensures.goes_on s.new.server (s.ensures.left start here))
 
 pub returns-in_err-ended-clause-on_disk : goal.returns-in_err-ended-clause-on_disk
 returns-in_err-ended-clause-on_disk g c tells start may is =
@@ -140,6 +139,7 @@ loop-requests-preserved g c =
     let here = λ (start : PosixTree) (may : MayBegin c.args.server.now start). ready start c.args.clients earlier l.server l.client l.first l.yielded c.in-Some.requests rest (so_far start may) in
     let pushed = pushed_on c.push.result _ _ earlier _ _ c.unwrap.ensures refl c.push.ensures.items ∙ ap (λ (m : List Entry). earlier ++ m ∷ []) c.from_vec.ensures in
     let both = ap joined pushed ∙ joined-push earlier mine in
+    let was = subst (λ (told : List (List Entry)). AreFaultsTold first now (joined told)) (sym c.reserve.ensures.items) l.invariant.faults in
     record {
       serving = λ start may.
           subst (λ (n : ℕ). AreServing start c.args.clients c.push.new.self.items s.new.server (l.client + 1) (l.first + n) (l.yielded ++ c.in-Some.requests ∷ []) rest) (sym (c.len.ensures ∙ s.new.told.ok.0))
@@ -148,8 +148,7 @@ loop-requests-preserved g c =
       on_disk = λ tells start may is.
           subst (λ (h : List Entry). IsOnDisk later start h s.new.server) (sym both)
           (s.ensures.on_disk tells start (here start may) (subst (λ (told : List (List Entry)). IsOnDisk now start (joined told) l.server) (sym c.reserve.ensures.items) (l.invariant.on_disk tells start may is)));
-      faults = subst (AreFaultsTold first later) (sym both)
-          (told_on first now later (joined earlier) mine (subst (λ (told : List (List Entry)). AreFaultsTold first now (joined told)) (sym c.reserve.ensures.items) l.invariant.faults) s.ensures.faults);
+      faults = subst (AreFaultsTold first later) (sym both) (told_on first now later (joined earlier) mine was s.ensures.faults);
       sound = s.ensures.sound;
       geometry = s.ensures.geometry ∙ l.invariant.geometry;
       sectors = s.ensures.sectors ∙ l.invariant.sectors;
@@ -158,8 +157,11 @@ loop-requests-preserved g c =
 pub returns-clause-played : goal.returns-clause-played
 returns-clause-played g c start may =
     let l = c.loop-requests in
+    let first = g.D.Door.store c.args.door.now in
+    let now = g.D.Door.store l.door in
     let rest = l.requests-iterator.rest in
-    played_here start c.args.clients l.told.items l.server l.client l.first l.yielded rest.items (l.invariant.serving start may) _ (λ ok. no_items rest.items (sym rest.ok.0 ∙ c.in-None.ensures.steps.0))
+    played_here start c.args.clients l.told.items l.server l.client l.first l.yielded rest.items (l.invariant.serving start may)
+    (once_told first now (joined l.told.items) l.invariant.faults) _ (λ ok. no_items rest.items (sym rest.ok.0 ∙ c.in-None.ensures.steps.0))
 
 pub serve_client-ended-requires-clause-first : goal.serve_client-ended-requires-clause-first
 serve_client-ended-requires-clause-first g c =

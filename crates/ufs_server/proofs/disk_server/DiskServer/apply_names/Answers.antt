@@ -2,8 +2,8 @@ use Rattle.std.proofs.Common.{◌≡◌, ℕ, List, ◌++◌, true, false, is_so
 use Rattle.std.specs.Prelude.{IsSome}
 use Rattle.std.specs.FinMap as map
 use Rattle.std.specs.FinSet as set
-use Rattle.ufs_engine.specs.Played.{tells_fault}
-use Rattle.ufs_engine.proofs.FaultLemmas.{names_faultless, plain_faultless}
+use Rattle.ufs_client.specs.Played.{tells_fault}
+use Rattle.ufs_client.proofs.FaultLemmas.{names_faultless, plain_faultless}
 use Rattle.ufs_model.specs.Asks.{IsAsk}
 use Rattle.ufs_model.specs.Posix.{posix}
 use Rattle.ufs_model.specs.PosixTree.{PosixTree}

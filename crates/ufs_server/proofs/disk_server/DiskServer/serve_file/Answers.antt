@@ -1,7 +1,7 @@
 use Rattle.std.proofs.Common.{◌≡◌, ◌++◌, ◌∷◌, [], true, ap, sym, ◌∙◌, subst}
-use Rattle.ufs_engine.specs.Played.{tells_fault}
-use Rattle.ufs_engine.proofs.FaultLemmas.{file_faultless, plain_faultless}
-use Rattle.ufs_engine.proofs.ServerLemmas.{desc_there}
+use Rattle.ufs_client.specs.Played.{tells_fault}
+use Rattle.ufs_client.proofs.FaultLemmas.{file_faultless, plain_faultless}
+use Rattle.ufs_client.proofs.Replies.{desc_there}
 use Rattle.ufs_bitmap.specs.Blocks.{BlockSet}
 use Rattle.ufs_bitmap.specs.Taking.{IsApart}
 use Rattle.ufs_files.specs.Files.{AreNumbered}

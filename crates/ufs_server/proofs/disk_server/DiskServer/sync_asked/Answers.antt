@@ -1,13 +1,11 @@
-use Rattle.std.proofs.Common.{◌≡◌, ℕ, ◌⊎◌, inl, inr, Option, Some, None, ap, sym, subst, ◌∙◌}
+use Rattle.std.proofs.Common.{◌≡◌, ℕ, ◌⊎◌, inl, inr, Some, None, ap, sym, subst, ◌∙◌}
 use Rattle.ufs_model.specs.Descriptors.{opened}
 use Rattle.ufs_model.specs.History.{tree_after}
 use Rattle.ufs_model.specs.declared.data.Desc.{Desc}
-use Rattle.ufs_model.specs.declared.data.Op.{Op}
 use Rattle.ufs_model.specs.declared.data.Op.TheVariants as op
-use Rattle.ufs_model.specs.declared.data.Reply.{Reply}
 use Rattle.ufs_store.specs.Refusals.{IsTold, stop_after}
 use Rattle.ufs_store.specs.State.{geometry_of_store}
-use Rattle.ufs_server.specs.Answered.{IsSyncReply, device_in, stopped_in}
+use Rattle.ufs_server.specs.Answered.{IsSyncReply, device_in, device_told, stopped_in}
 use Rattle.ufs_server.proofs.Replied.{reply_device, reply_stopped, synced_entry}
 use Rattle.ufs_server.proofs.Syncs.{live_file, opened_is, reply_kind, which}
 use Rattle.ufs_server.proofs.disk_server.DiskServer.sync_asked.Goals as goal
@@ -35,6 +33,7 @@ returns-in_default g c =
       stopped = λ fault is. c.sync_all.ensures.stopped fault (reply_stopped r fault (sym (ap stopped_in told_reply) ∙ is));
       cause = subst (IsTold s0.faults s1.faults) (sym device) c.sync_all.ensures.cause;
       stop = c.sync_all.ensures.stop ∙ ap (stop_after s0.stop) (sym device);
+      still = λ fault is. device ∙ ap device_told (c.sync_all.ensures.refused fault is);
     }
   where
     by : ((fd : ℕ) × (c.args.ask.now.op ≡ op.Fsync fd)) ⊎ (c.args.ask.now.op ≡ op.Sync) → c.args.ask.now.op ≡ op.Sync
@@ -76,3 +75,9 @@ returns-in-None-clause-on_disk g c told start history entry client asked replied
     synced_entry c.sync_names.result entry _ _ _ (replied ∙ c.sync_reply-in-None.ensures) (c.sync_names.ensures.ok told) (c.sync_names.ensures.err told)
     (λ ok. c.on_disk_law.ensures.names_synced s1 start history entry p1 fd form legal (asked ∙ c.in-Fsync.is) none (ok start history on))
     (λ is err. c.on_disk_law.ensures.excused s1 start history entry p1 form legal is (err start history on))
+
+pub returns-in-Some-file-clause-still : goal.returns-in-Some-file-clause-still
+returns-in-Some-file-clause-still g c fault is = ap device_in c.sync_reply-in-Some-file.ensures ∙ reply_device c.sync_file.result ∙ ap device_told (c.sync_file.ensures.refused fault is)
+
+pub returns-in-None-clause-still : goal.returns-in-None-clause-still
+returns-in-None-clause-still g c fault is = ap device_in c.sync_reply-in-None.ensures ∙ reply_device c.sync_names.result ∙ ap device_told (c.sync_names.ensures.refused fault is)

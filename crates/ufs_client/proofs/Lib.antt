@@ -1,0 +1,5 @@
+pub mod TableLemmas
+pub mod RangeLemmas
+pub mod FaultLemmas
+pub mod Lists
+pub mod Replies

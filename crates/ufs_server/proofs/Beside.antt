@@ -1,0 +1,41 @@
+-- What replies tell of the disk's faults.
+use Rattle.std.proofs.Common.{◌≡◌, ◌∙◌, ℕ, inl, inr, false, Option, Some, None, ap, refl, subst, sym}
+use Rattle.ufs_client.specs.Played.{tells_fault}
+use Rattle.ufs_model.specs.declared.data.Excuse.TheVariants as excuse
+use Rattle.ufs_model.specs.declared.data.Reply.{Reply}
+use Rattle.ufs_model.specs.declared.data.Reply.TheVariants as reply
+use Rattle.ufs_store.specs.Refusals.{IsTold, stop_after}
+use Rattle.ufs_store.specs.State.{StoreState}
+use Rattle.ufs_server.specs.Answered.{IsUntold, TellsFaults, device_in}
+
+pub no_device : (r : Reply) → tells_fault r ≡ false → device_in r ≡ None
+no_device reply.Done calm = refl
+no_device (reply.Fd fd) calm = refl
+no_device (reply.Count n) calm = refl
+no_device (reply.At n) calm = refl
+no_device (reply.Got bytes) calm = refl
+no_device (reply.IsFile size) calm = refl
+no_device (reply.IsDir entries) calm = refl
+no_device (reply.Names names) calm = refl
+no_device (reply.Refused x) calm = refl
+no_device (reply.Excused excuse.Memory) calm = refl
+no_device (reply.Excused (excuse.Device fault)) calm = absurd cc
+no_device (reply.Excused (excuse.Stopped fault)) calm = refl
+no_device (reply.Excused (excuse.Blocks need had)) calm = refl
+no_device (reply.Excused excuse.Inodes) calm = refl
+no_device (reply.Excused (excuse.Extents need)) calm = refl
+
+stop_after-none : (stop : Option ℕ) → stop_after stop None ≡ stop
+stop_after-none None = refl
+stop_after-none (Some fault) = refl
+
+-- no call failed, and no fault is told
+pub calm_told : (old new : StoreState) (r : Reply) → tells_fault r ≡ false → new.faults ≡ old.faults → new.stop ≡ old.stop → TellsFaults old new r
+calm_told old new r calm faults stop =
+    let none = sym (no_device r calm) in
+    inl (record { told = subst (IsTold old.faults new.faults) none faults; stop = stop ∙ sym (stop_after-none old.stop) ∙ ap (stop_after old.stop) none })
+
+-- at most one failed that isn't told
+pub beside_told : (old new : StoreState) (r : Reply) → tells_fault r ≡ false → IsUntold old new → TellsFaults old new r
+beside_told old new r calm (inl none) = calm_told old new r calm none.faults none.stop
+beside_told old new r calm (inr (fault, at)) = inr (record { none = no_device r calm; fault = fault; beside = at })
