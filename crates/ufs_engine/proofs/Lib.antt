@@ -1,7 +1,5 @@
-pub mod TableLemmas
-pub mod RangeLemmas
-pub mod FaultLemmas
-pub mod ServerLemmas
-pub mod FreshLemmas
-pub mod ServingLemmas
-pub mod ClientsLemmas
+mod Starts
+mod Read
+mod Refused
+pub mod Ended
+pub mod EndLemmas

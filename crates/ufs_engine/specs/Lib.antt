@@ -1,4 +1,4 @@
-pub mod Played
-pub mod Clients
-pub mod Server
-pub mod Serving
+pub mod Begins
+pub mod Laws
+pub mod Closes
+pub mod Plays

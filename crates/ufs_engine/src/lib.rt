@@ -1,12 +1,12 @@
-//! Serving a session: all clients' requests by one server, and for each client a transcript.
+//! Sessions over a disk's image: how one begins and ends, and a script that is played in one.
 #![tactic(auto)]
 
-mod client;
-mod played;
-mod server;
-mod session;
+mod beginning;
+mod closing;
+mod laws;
+mod playing;
 
-pub use client::{ask, keep};
-pub use played::{EndFault, Played, Session, ToldLists};
-pub use server::{FRESH, Server};
-pub use session::{play, serve};
+pub use beginning::{Begun, Unbegun, begin};
+pub use closing::{CloseFault, Closed, close};
+pub use laws::{beginning_law, mounted_law};
+pub use playing::{PlayFault, Played, play};

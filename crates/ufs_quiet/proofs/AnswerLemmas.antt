@@ -2,18 +2,14 @@
 use Rattle.std.proofs.Common.{◌≡◌, inl, inr, ℕ, List, ◌++◌, Option, sym, subst, refl, ◌∙◌}
 use Rattle.std.specs.Io.KnownBytes.{Appends}
 use Rattle.ufs_base.specs.Faults.{raised}
-use Rattle.ufs_model.specs.declared.data.Entry.{Entry}
-use Rattle.ufs_script.specs.Reading.{ReadsScript, ReadsBreak}
+use Rattle.ufs_script.specs.Reading.{ReadsBreak}
 use Rattle.ufs_script.specs.Script.{IsOutside}
 use Rattle.ufs_script.specs.declared.fault.ScriptFault.{ScriptFault}
 use Rattle.ufs_script.specs.declared.fault.ScriptFault.TheVariants as fault
-use Rattle.ufs_script.specs.declared.script.Script.{Script}
 use Rattle.ufs_quiet.specs.declared.ending.Ending.{Ending}
-use Rattle.ufs_quiet.specs.declared.ending.Ending.TheVariants.{Done, Usage, BadGeometry, NotBuilt, BadScript, TooSmall, NoTree, DeviceFault, OutOfMemory, SourceFault, Damaged}
-use Rattle.ufs_quiet.specs.Texts.{AreFirstLines}
+use Rattle.ufs_quiet.specs.declared.ending.Ending.TheVariants.{OutOfMemory}
 use Rattle.ufs_quiet.specs.Seen.{Reading, Writing}
-use Rattle.ufs_quiet.specs.Served.{IsHistoryOf, replies_text}
-use Rattle.ufs_quiet.specs.Endings.{IsAnswer, IsLine, IsFixed, IsBreakLine, TellsFault, EndsPrinting, EndsServing, EndsPlay}
+use Rattle.ufs_quiet.specs.Endings.{IsAnswer, IsLine, IsFixed, IsBreakLine, TellsFault, EndsUnread}
 use Rattle.ufs_quiet.proofs.WriteLemmas.{appends_both, front_behind}
 
 -- what is allowed there is allowed here
@@ -50,42 +46,13 @@ answer_after wanted line front E old mid new before between now status wrote sam
     there : (ending : Ending) (text : List ℕ) → IsLine wanted line ending text → E ending (front ++ text)
     there ending text is = subst (λ (e : Ending). E e (front ++ text)) (sym is.0) (subst (λ (t : List ℕ). E wanted (front ++ t)) (sym is.1) allowed)
 
--- the lines that are printed are those of the script's history
-pub served_by : (script : Script) (history : List Entry) (lines : List ℕ) → IsHistoryOf script history → lines ≡ replies_text script history → (ending : Ending) (text : List ℕ) → EndsPrinting lines ending text → EndsServing script ending text
-served_by script history lines is all Done text e = (history, is, e ∙ all)
-served_by script history lines is all Usage text e = absurd e
-served_by script history lines is all (BadGeometry bad) text e = absurd e
-served_by script history lines is all NotBuilt text e = absurd e
-served_by script history lines is all BadScript text e = absurd e
-served_by script history lines is all TooSmall text e = absurd e
-served_by script history lines is all NoTree text e = absurd e
-served_by script history lines is all DeviceFault text e = absurd e
-served_by script history lines is all OutOfMemory text e = inr (history, e.0, is, subst (AreFirstLines e.0) all e.1, e.2)
-served_by script history lines is all SourceFault text e = absurd e
-served_by script history lines is all Damaged text e = absurd e
-
--- a script that is served was read
-pub read_and_served : (r : Reading) (script : Script) → ReadsScript r.left r.rest script → (ending : Ending) (text : List ℕ) → EndsServing script ending text → EndsPlay r ending text
-read_and_served r script read Done text e = (script, e.0, record { read = read; history_is = e.1 }, e.2)
-read_and_served r script read Usage text e = absurd e
-read_and_served r script read (BadGeometry bad) text e = absurd e
-read_and_served r script read NotBuilt text e = absurd e
-read_and_served r script read BadScript text e = absurd e
-read_and_served r script read TooSmall text e = absurd e
-read_and_served r script read NoTree text e = absurd e
-read_and_served r script read DeviceFault text e = absurd e
-read_and_served r script read OutOfMemory text e =
-    elim e [ inl none ↦ inl none | inr some ↦ inr (script, some.0, some.1, record { read = read; history_is = some.2 }, some.3, some.4) ]
-read_and_served r script read SourceFault text e = absurd e
-read_and_served r script read Damaged text e = absurd e
-
--- there was no memory before the first line
-pub no_memory : (r : Reading) (ending : Ending) (text : List ℕ) → IsFixed OutOfMemory ending text → EndsPlay r ending text
-no_memory r ending text e = subst (λ (x : Ending). EndsPlay r x text) (sym e.0) (inl e.1)
+-- there was no memory for a line
+pub no_memory : (r : Reading) (ending : Ending) (text : List ℕ) → IsFixed OutOfMemory ending text → EndsUnread r ending text
+no_memory r ending text e = subst (λ (x : Ending). EndsUnread r x text) (sym e.0) e.1
 
 -- a break is told, or there was no memory for its line
-pub break_told : (r : Reading) (f : ScriptFault) → ReadsBreak r.left r.rest f → (¬ IsOutside f) → (ending : Ending) (text : List ℕ) → IsBreakLine f ending text → EndsPlay r ending text
-break_told r f read inside ending text (inl e) = subst (λ (x : Ending). EndsPlay r x text) (sym e.0) (f, read, inside, e.1)
+pub break_told : (r : Reading) (f : ScriptFault) → ReadsBreak r.left r.rest f → (¬ IsOutside f) → (ending : Ending) (text : List ℕ) → IsBreakLine f ending text → EndsUnread r ending text
+break_told r f read inside ending text (inl e) = subst (λ (x : Ending). EndsUnread r x text) (sym e.0) (f, read, inside, e.1)
 break_told r f read inside ending text (inr e) = no_memory r ending text e
 
 -- a fault that is neither the source's nor want of memory is a break
@@ -103,11 +70,7 @@ inside fault.Source m s = absurd (s refl)
 inside fault.Memory m s = absurd (m refl)
 
 -- why there is no script is told
-pub fault_told : (r : Reading) (f : ScriptFault) → (f ≡ fault.Source → r.now ≡ raised r.before) → ((¬ IsOutside f) → ReadsBreak r.left r.rest f) → (ending : Ending) (text : List ℕ) → TellsFault f ending text → EndsPlay r ending text
+pub fault_told : (r : Reading) (f : ScriptFault) → (f ≡ fault.Source → r.now ≡ raised r.before) → ((¬ IsOutside f) → ReadsBreak r.left r.rest f) → (ending : Ending) (text : List ℕ) → TellsFault f ending text → EndsUnread r ending text
 fault_told r f rose read ending text (inl e) = no_memory r ending text e.1
-fault_told r f rose read ending text (inr (inl e)) = subst (λ (x : Ending). EndsPlay r x text) (sym e.1.0) (rose e.0, e.1.1)
+fault_told r f rose read ending text (inr (inl e)) = subst (λ (x : Ending). EndsUnread r x text) (sym e.1.0) (rose e.0, e.1.1)
 fault_told r f rose read ending text (inr (inr e)) = break_told r f (read e.0) e.0 ending text e.1
-
--- there was no memory to serve
-pub none_served : (script : Script) (ending : Ending) (text : List ℕ) → IsFixed OutOfMemory ending text → EndsServing script ending text
-none_served script ending text e = subst (λ (x : Ending). EndsServing script x text) (sym e.0) (inl e.1)

@@ -17,6 +17,7 @@ use Rattle.ufs_quiet.specs.TreeLines.{refusal_line}
 use Rattle.ufs_quiet.specs.DamageLines.{clean_line, damage_lines}
 use Rattle.ufs_quiet.specs.Seen.{Writing, Formatting}
 use Rattle.ufs_quiet.specs.Told.{TellsCheck}
+use Rattle.ufs_quiet.proofs.ProperLemmas.{proper_listed}
 use Rattle.ufs_quiet.specs.Endings.{EndsListing, EndsCheck, HasDamage, IsAnswer, status_of, sink_status, ending_of, line_of}
 
 -- the list is told
@@ -143,6 +144,7 @@ module _ (d : Formatting) (w : Writing) (status : ℕ) (a : IsAnswer (EndsCheck 
     clean = check_clean;
     damaged = check_damaged;
     no_list = check_refusal;
+    proper = λ proper three. let x = check_refusal three in proper_listed d.sectors d.image proper x.0 x.1;
     complete_clean = λ none calm. let x = told (λ s. calm.sink (a.rose s)) in whole_by d status x.0 tells calm.disk none x.1;
     complete_damaged = λ list some has calm. let x = told (λ s. calm.sink (a.rose s)) in listed_by d status x.0 tells calm.disk list some has x.1;
     refused = λ refusal none calm. let x = told (λ s. calm.sink (a.rose s)) in unlisted_by d status x.0 tells calm.disk refusal none x.1;

@@ -1,14 +1,58 @@
 -- What commands leave, by the command that the words are.
-use Rattle.std.proofs.Common.{◌≡◌, ℕ, List, Option, sym, subst, refl}
+use Rattle.std.proofs.Common.{◌≡◌, ◌∙◌, inl, inr, ℕ, List, [], Option, Some, ap, sym, subst, refl, arith}
 use Rattle.std.specs.Prelude.{◌≢◌}
+use Rattle.ufs_disk.specs.Disk.{Leaves}
+use Rattle.ufs_disk.specs.Moments.{Moments}
+use Rattle.ufs_image.specs.Proper.{IsProperImage}
+use Rattle.ufs_ledger.specs.Kept.{OpensExplained}
+use Rattle.ufs_model.specs.History.{joined}
+use Rattle.ufs_model.specs.declared.data.Entry.{Entry}
+use Rattle.ufs_engine.specs.Plays.{AreFaultsOf}
+use Rattle.ufs_script.specs.declared.fault.ScriptFault.{ScriptFault}
+use Rattle.ufs_quiet.specs.declared.ending.Ending.{Ending}
 use Rattle.ufs_quiet.specs.declared.words.Command.{Command}
-use Rattle.ufs_quiet.specs.Seen.{Course}
-use Rattle.ufs_quiet.specs.Left.{ActsOn, LeavesDisk, LeavesSource}
+use Rattle.ufs_quiet.specs.declared.words.Command.TheVariants as command
+use Rattle.ufs_quiet.specs.Laws.{StandsAsBegun}
+use Rattle.ufs_quiet.specs.Endings.{IsAnswer, TellsFault, status_of}
+use Rattle.ufs_quiet.specs.Seen.{Course, Writing}
+use Rattle.ufs_quiet.specs.Left.{ActsOn, LeavesDisk, LeavesSource, Plays}
 
 -- of the command that the words are
-pub disk_left : {D : Type 0} (words own : Option Command) (is : words ≡ own) (status : ℕ) (c : Course D) → ActsOn own status c → c.sectors_now ≡ c.sectors → (status ≢ 4 → status ≢ 7 → c.now ≡ c.before) → LeavesDisk words status c
-disk_left words own is status c acts size told = record { acts = subst (λ (o : Option Command). ActsOn o status c) (sym is) acts; size = size; told = told }
+pub disk_left : {D : Type 0} (words own : Option Command) (is : words ≡ own) (lists : List (List Entry)) (status : ℕ) (c : Course D) → ActsOn own lists status c → c.sectors_now ≡ c.sectors → (status ≢ 4 → status ≢ 7 → c.now ≡ c.before) → LeavesDisk words lists status c
+disk_left words own is lists status c acts size told = record { acts = subst (λ (o : Option Command). ActsOn o lists status c) (sym is) acts; size = size; told = λ four seven other. told four seven }
+
+-- of `play`
+pub played_left : {D : Type 0} (words : Option Command) (is : words ≡ Some command.Play) (lists : List (List Entry)) (status : ℕ) (c : Course D) → Plays lists status c → c.sectors_now ≡ c.sectors → (status ≢ 4 → status ≢ 7 → status ≢ 5 → c.now ≡ c.before) → LeavesDisk words lists status c
+played_left words is lists status c acts size told = record { acts = subst (λ (o : Option Command). ActsOn o lists status c) (sym is) acts; size = size; told = λ four seven other. told four seven (other is) }
 
 -- a source that isn't read
 pub source_left : (words : Option Command) (status : ℕ) (left : Option (List ℕ)) (count : ℕ) → LeavesSource words status (record { left = left; rest = left; before = count; now = count })
 source_left words status left count = record { told = λ a b. refl; unread = λ other. (refl, refl) }
+
+-- ---- where nobody is served
+
+pub none_faults : (before : ℕ) (told : List (List Entry)) → told ≡ [] → AreFaultsOf before (joined told)
+none_faults before told none = subst (λ (l : List (List Entry)). AreFaultsOf before (joined l)) (sym none) (record { devices = inl refl; stops = tt })
+
+-- what isn't served hasn't status 0
+unread_status : (f : ScriptFault) (ending : Ending) (text : List ℕ) → TellsFault f ending text → status_of ending ≡ 0 → ⊥
+unread_status f ending text (inl e) zero = let is : status_of ending ≡ 5 = ap status_of e.1.0 in omega (arith, zero, is)
+unread_status f ending text (inr (inl e)) zero = let is : status_of ending ≡ 6 = ap status_of e.1.0 in omega (arith, zero, is)
+unread_status f ending text (inr (inr (read, inl e))) zero = let is : status_of ending ≡ 2 = ap status_of e.0 in omega (arith, zero, is)
+unread_status f ending text (inr (inr (read, inr e))) zero = let is : status_of ending ≡ 5 = ap status_of e.0 in omega (arith, zero, is)
+
+pub never_done : (f : ScriptFault) (w : Writing) (status : ℕ) → IsAnswer (TellsFault f) w status → status ≡ 0 → ⊥
+never_done f w status a zero = let x = a.whole (λ e. cc) in unread_status f x.0 x.1 x.3 (sym x.2 ∙ zero)
+
+-- a disk that is left as it was
+pub unread_left : {D : Type 0} (c : Course D) (told : List (List Entry)) (status : ℕ) → StandsAsBegun c.sectors → told ≡ [] → c.new ≡ c.old → c.to ≡ c.from → (status ≡ 0 → ⊥) → Plays told status c
+unread_left c told status stands none untouched same other = record {
+  crash = λ may begun with. subst (λ (l : List (List Entry)). Leaves (OpensExplained c.sectors begun (joined l)) c.to.state) (sym none)
+      (subst (λ (m : Moments). Leaves (OpensExplained c.sectors begun []) m.state) (sym same) (stands c.from.state begun may.proper with));
+  proper = λ may. subst (λ (m : Moments). Leaves (IsProperImage c.sectors) m.state) (sym same)
+      (λ image is. subst (IsProperImage c.sectors) (sym (may.proper.settled image is)) may.proper.proper);
+  clean = λ may zero. absurd (other zero);
+  last = λ may begun with zero. absurd (other zero);
+  broken = λ two. untouched;
+  unread = λ six. untouched;
+}

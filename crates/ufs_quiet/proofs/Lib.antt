@@ -4,11 +4,14 @@ pub mod ListLines
 pub mod PrintLemmas
 pub mod AnswerLemmas
 pub mod StatusLemmas
+pub mod ServingLemmas
+pub mod LeavingLemmas
 pub mod PlayLemmas
 pub mod OptionLemmas
 pub mod MkfsLemmas
 pub mod ResponseLemmas
 pub mod TextLemmas
+pub mod ProperLemmas
 pub mod TreeLemmas
 pub mod DamageLemmas
 pub mod CheckLemmas

@@ -1,7 +1,7 @@
 -- The lines of the entries so far, and those to come.
 use Rattle.std.proofs.Common.{◌≡◌, inr, subst, ℕ, ◌+◌, ◌<◌, ◌≤◌, List, [], ◌∷◌, ◌++◌, ap, sym, refl, ◌∙◌, length, take, drop, get_or, append_assoc, zero, suc, arith}
 use Rattle.std.proofs.lemmas.List.{append-nil, take_more}
-use Rattle.ufs_engine.specs.Played.{IsMerged, transcript}
+use Rattle.ufs_client.specs.Played.{IsMerged, transcript}
 use Rattle.ufs_model.specs.History.{joined}
 use Rattle.ufs_model.specs.declared.data.Entry.{Entry}
 use Rattle.std.specs.Fmt.{decimal}

@@ -3,6 +3,7 @@ use Rattle.std.proofs.Common.{◌≡◌, ℕ, List, Option, Some, None, Result, 
 use Rattle.std.specs.Prelude.{is_some, if◌then◌else◌}
 use Rattle.std.specs.declared.string.String.{String}
 use Rattle.std.specs.declared.vec.Vec.{Vec}
+use Rattle.ufs_model.specs.declared.data.Entry.{Entry}
 use Rattle.ufs_quiet.specs.declared.words.Command.{Command}
 use Rattle.ufs_quiet.specs.declared.response.WordsFault.{WordsFault}
 use Rattle.ufs_quiet.specs.Commands.{asked, image_word}
@@ -20,7 +21,7 @@ module _ {Z : Type 0} (words : Result (Vec (String Z) Z) WordsFault) (own : Vec 
   pub same_command : command_for words ≡ asked own.items
   same_command = ap command_for is ∙ own_command
 
-  pub answered : (r : Reading) (d : Formatting) (w : Writing) (status : ℕ) → IsAnswer (Ends (asked own.items) r d) w status → IsAnswer (Responds words r d) w status
-  answered r d w status a =
-      subst (λ (x : Result (Vec (String Z) Z) WordsFault). IsAnswer (Responds x r d) w status) (sym is)
-      (subst (λ (x : Option Command). IsAnswer (Ends x r d) w status) (sym own_command) a)
+  pub answered : (r : Reading) (d : Formatting) (told : List (List Entry)) (w : Writing) (status : ℕ) → IsAnswer (Ends (asked own.items) r d told) w status → IsAnswer (Responds words r d told) w status
+  answered r d told w status a =
+      subst (λ (x : Result (Vec (String Z) Z) WordsFault). IsAnswer (Responds x r d told) w status) (sym is)
+      (subst (λ (x : Option Command). IsAnswer (Ends x r d told) w status) (sym own_command) a)

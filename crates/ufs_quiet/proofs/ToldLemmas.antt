@@ -1,5 +1,8 @@
 -- What each command tells.
-use Rattle.std.proofs.Common.{ℕ, Option, Some, None}
+use Rattle.std.proofs.Common.{ℕ, List, Option, Some, None}
+use Rattle.ufs_model.specs.History.{joined}
+use Rattle.ufs_model.specs.declared.data.Entry.{Entry}
+use Rattle.ufs_engine.specs.Plays.{AreFaultsOf}
 use Rattle.ufs_script.specs.Reading.{LongerIsAlike}
 use Rattle.ufs_quiet.specs.declared.words.Command.{Command}
 use Rattle.ufs_quiet.specs.declared.words.Command.TheVariants as command
@@ -12,11 +15,11 @@ use Rattle.ufs_quiet.proofs.TreeLemmas.{tree_told}
 use Rattle.ufs_quiet.proofs.CheckLemmas.{check_told}
 use Rattle.ufs_quiet.proofs.RecoveryLemmas.{recovery_told}
 
-pub tells : LongerIsAlike → (words : Option Command) (r : Reading) (d : Formatting) (w : Writing) (status : ℕ) → IsAnswer (Ends words r d) w status → Tells words r d w status
-tells alike None r d w status a = tt
-tells alike (Some command.NotBuilt) r d w status a = tt
-tells alike (Some command.Play) r d w status a = play_told r w status a alike
-tells alike (Some (command.Mkfs blocks inodes journal)) r d w status a = mkfs_told (record { blocks = blocks; inodes = inodes; journal = journal }) d w status a
-tells alike (Some command.Tree) r d w status a = λ known. tree_told d w status a known
-tells alike (Some command.Check) r d w status a = λ known. check_told d w status a known
-tells alike (Some command.Recover) r d w status a = λ known. recovery_told d w status a known
+pub tells : LongerIsAlike → (words : Option Command) (r : Reading) (d : Formatting) (told : List (List Entry)) (w : Writing) (status : ℕ) → AreFaultsOf d.before (joined told) → IsAnswer (Ends words r d told) w status → Tells words r d told w status
+tells alike None r d told w status faults a = tt
+tells alike (Some command.NotBuilt) r d told w status faults a = tt
+tells alike (Some command.Play) r d told w status faults a = play_told r d told w status a alike faults
+tells alike (Some (command.Mkfs blocks inodes journal)) r d told w status faults a = mkfs_told (record { blocks = blocks; inodes = inodes; journal = journal }) d w status a
+tells alike (Some command.Tree) r d told w status faults a = λ known. tree_told d w status a known
+tells alike (Some command.Check) r d told w status faults a = λ known. check_told d w status a known
+tells alike (Some command.Recover) r d told w status faults a = λ known. recovery_told d w status a known

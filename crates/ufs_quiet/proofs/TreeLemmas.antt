@@ -16,6 +16,7 @@ use Rattle.ufs_quiet.specs.TreeLines.{tree_lines}
 use Rattle.ufs_quiet.specs.Seen.{Writing, Formatting}
 use Rattle.ufs_quiet.specs.Endings.{EndsPrinting, EndsTree, StandsFor, TellsNoTree, IsAnswer, status_of, sink_status, ending_of, line_of}
 use Rattle.ufs_quiet.specs.Told.{TellsTree}
+use Rattle.ufs_quiet.proofs.ProperLemmas.{proper_opens}
 use Rattle.ufs_quiet.proofs.StatusLemmas.{ByStatus, good, none, device, memory, good_told, none_told, good_end, none_end}
 
 -- the lines of the tree are printed
@@ -89,5 +90,8 @@ module _ (d : Formatting) (w : Writing) (status : ℕ) (a : IsAnswer (EndsTree d
         let x = none_told (EndsTree d) (Shown d) (TellsNoTree d) d w status (by_status d status) a three in
         (x.1.0, x.1.1 known, subst (Appends w.held w.holds) x.1.2 x.2);
     complete = λ tree opened calm. good_end (EndsTree d) (Shown d) (TellsNoTree d) d w status (by_status d status) a calm (λ text. not_none d tree text known opened);
+    proper = λ proper three.
+        let x = none_told (EndsTree d) (Shown d) (TellsNoTree d) d w status (by_status d status) a three in
+        proper_opens d.sectors d.image proper x.1.0 (x.1.1 known);
     refused = λ refusal unopened calm. none_end (EndsTree d) (Shown d) (TellsNoTree d) d w status (by_status d status) a calm (λ text. not_shown d refusal text known unopened);
   }

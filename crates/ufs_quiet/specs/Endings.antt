@@ -1,10 +1,17 @@
 -- How a command ends where the sink doesn't fail: why, and what it has written.
-use Rattle.std.specs.Prelude.{ℕ, ◌≡◌, ◌≢◌, ◌<◌, ◌≤◌, ◌⊎◌, List, [], ◌++◌, length, Option, Some, None, Ok, Err, IsTrue}
+use Rattle.std.specs.Prelude.{ℕ, ◌≡◌, ◌≢◌, ◌<◌, ◌≤◌, ◌⊎◌, List, [], ◌++◌, length, Option, Some, None, Result, Ok, Err, IsTrue}
 use Rattle.std.specs.Io.KnownBytes.{Appends}
 use Rattle.ufs_base.specs.Faults.{raised}
+use Rattle.ufs_engine.specs.Begins.{TellsNoSession}
 use Rattle.ufs_layout.specs.Areas.{geometry_refusal, sector_count}
 use Rattle.ufs_layout.specs.declared.geometry.Geometry.{Geometry}
+use Rattle.ufs_model.specs.History.{joined}
 use Rattle.ufs_model.specs.declared.data.Entry.{Entry}
+use Rattle.ufs_engine.specs.Plays.{MayPlay}
+use Rattle.ufs_engine.specs.declared.playing.PlayFault.{PlayFault}
+use Rattle.ufs_engine.specs.declared.playing.PlayFault.TheVariants as ended
+use Rattle.ufs_start.specs.declared.fault.StartFault.{StartFault}
+use Rattle.ufs_start.specs.declared.fault.StartFault.TheVariants as start
 use Rattle.ufs_image.specs.Damage.{Damage}
 use Rattle.ufs_image.specs.Opens.{ImageTree, opens, damage_list}
 use Rattle.ufs_image.specs.Proper.{IsProperImage}
@@ -13,7 +20,8 @@ use Rattle.ufs_image.specs.Volume as image
 use Rattle.ufs_catalog.specs.declared.fault.RecoverFault.{RecoverFault}
 use Rattle.ufs_catalog.specs.declared.fault.RecoverFault.TheVariants as recover
 use Rattle.ufs_recovery.specs.Recovered.{log_of}
-use Rattle.ufs_script.specs.Reading.{ReadsBreak}
+use Rattle.ufs_script.specs.Output.{lines_of}
+use Rattle.ufs_script.specs.Reading.{ReadsBreak, ReadsScript}
 use Rattle.ufs_script.specs.declared.script.Script.{Script}
 use Rattle.ufs_script.specs.declared.fault.ScriptFault.{ScriptFault}
 use Rattle.ufs_script.specs.declared.fault.ScriptFault.TheVariants as fault
@@ -26,7 +34,7 @@ use Rattle.ufs_quiet.specs.Texts.{IsFront, AreFirstLines, usage_line, bad_geomet
 use Rattle.ufs_quiet.specs.DamageLines.{clean_line, damage_lines}
 use Rattle.ufs_quiet.specs.TreeLines.{tree_lines, refusal_line}
 use Rattle.ufs_quiet.specs.Seen.{Reading, Writing, Formatting}
-use Rattle.ufs_quiet.specs.Served.{IsServed, IsHistoryOf, replies_text}
+use Rattle.ufs_quiet.specs.Served.{EndsSession, IsCutSessionOf, IsSessionOf, TellsEnd}
 
 abbrev pub status_of : Ending → ℕ
 status_of Done = 0
@@ -85,22 +93,6 @@ EndsPrinting lines Done text = text ≡ lines
 EndsPrinting lines OutOfMemory text = (front : List ℕ) × AreFirstLines front lines × (text ≡ front ++ memory_line)
 EndsPrinting lines _ text = ⊥
 
--- a script is served, or memory runs out before, or behind the first of its reply lines
-abbrev pub EndsServing : Script → Ending → List ℕ → Type 0
-EndsServing script Done text = (history : List Entry) × IsHistoryOf script history × (text ≡ replies_text script history)
-EndsServing script OutOfMemory text = (text ≡ memory_line)
-    ⊎ ((history : List Entry) × (front : List ℕ) × IsHistoryOf script history × AreFirstLines front (replies_text script history) × (text ≡ front ++ memory_line))
-EndsServing script _ text = ⊥
-
--- What is seen of the source allows `play` this ending with this text.
-abbrev pub EndsPlay : Reading → Ending → List ℕ → Type 0
-EndsPlay r Done text = (script : Script) × (history : List Entry) × IsServed r.left r.rest script history × (text ≡ replies_text script history)
-EndsPlay r BadScript text = (f : ScriptFault) × ReadsBreak r.left r.rest f × (¬ IsOutside f) × (text ≡ break_line f)
-EndsPlay r OutOfMemory text = (text ≡ memory_line)
-    ⊎ ((script : Script) × (history : List Entry) × (front : List ℕ) × IsServed r.left r.rest script history × AreFirstLines front (replies_text script history) × (text ≡ front ++ memory_line))
-EndsPlay r SourceFault text = (r.now ≡ raised r.before) × (text ≡ source_line)
-EndsPlay r _ text = ⊥
-
 -- ---- what formatting ends with
 
 -- What is seen of the disk allows `mkfs` this ending with this text. Memory is wanted only where the geometry is taken
@@ -130,6 +122,19 @@ line_of (recover.BadRecord sector) = refusal_line (image.BadRecord sector)
 line_of (recover.BadTree inode) = refusal_line (image.BadTree inode)
 line_of (recover.Device fault) = device_line fault
 line_of recover.Memory = memory_line
+
+-- how `play` ends where no session begins
+abbrev pub start_ending : StartFault → Ending
+start_ending (start.Image fault) = ending_of fault
+start_ending _ = NoTree
+
+-- and with which line: what no server takes is told as a bad tree
+abbrev pub start_line : StartFault → List ℕ
+start_line (start.Image fault) = line_of fault
+start_line (start.Unreached inode) = refusal_line (image.BadTree inode)
+start_line (start.Unnamed inode) = refusal_line (image.BadTree inode)
+start_line (start.ExtraBlocks inode) = refusal_line (image.BadTree inode)
+start_line (start.TooLong inode) = refusal_line (image.BadTree inode)
 
 -- The disk, if it tells what it holds, is an image that stands for this tree.
 abbrev pub StandsFor : Formatting → ImageTree → Type 0
@@ -189,17 +194,68 @@ EndsRecovery d DeviceFault text = (d.now ≡ raised d.before) × (text ≡ devic
 EndsRecovery d OutOfMemory text = (d.now ≡ d.before) × (text ≡ memory_line)
 EndsRecovery d _ text = ⊥
 
+-- ---- what a session ends with
+
+-- these lines are written and behind them that of a fault of the disk, or memory runs out behind the first of the lines
+abbrev pub EndsBehind : List ℕ → ℕ → Ending → List ℕ → Type 0
+EndsBehind lines fault DeviceFault text = text ≡ lines ++ device_line fault
+EndsBehind lines fault OutOfMemory text = (front : List ℕ) × AreFirstLines front lines × (text ≡ front ++ memory_line)
+EndsBehind lines fault _ text = ⊥
+
+-- what is written where a session has ended so, whose transcripts have these lines
+abbrev pub EndsPlayed : Result (Unit {0}) PlayFault → List ℕ → Ending → List ℕ → Type 0
+EndsPlayed (Ok x) lines ending text = EndsPrinting lines ending text
+EndsPlayed (Err (ended.Image fault)) lines ending text = IsLine (start_ending fault) (start_line fault) ending text
+EndsPlayed (Err (ended.Device fault)) lines ending text = EndsBehind lines fault ending text
+EndsPlayed (Err (ended.Stopped fault)) lines ending text = EndsBehind lines fault ending text
+EndsPlayed (Err ended.Memory) lines ending text = IsFixed OutOfMemory ending text
+
+-- No session begins with the disk, and the text tells why.
+pub record TellsNoStart (d : Formatting) (text : List ℕ) : Type 0 where
+  pub fault : StartFault
+  pub ending_is : start_ending fault ≡ NoTree
+  pub text_is : text ≡ start_line fault
+  pub why : MayPlay d.tells d.sectors d.state → TellsNoSession d.sectors d.image fault
+  -- Of any disk that tells what it holds, and stands for no tree, the cause is told.
+  pub refused : IsTrue d.tells → (refusal : Refusal) → opens d.sectors d.image ≡ Err refusal → text ≡ refusal_line refusal
+
+-- What is seen of the disk and was told allows the serving of a script this ending with this text.
+-- Each request is answered, and the image is clean;
+abbrev pub EndsServing : Formatting → Script → List (List Entry) → Ending → List ℕ → Type 0
+EndsServing d script told Done text = IsSessionOf d script told × EndsSession d told (Ok tt) × (text ≡ lines_of (joined told))
+-- no session begins with the image;
+EndsServing d script told NoTree text = (told ≡ []) × (d.now ≡ d.before) × TellsNoStart d text
+-- a call of the disk failed as the session began, or each request is answered, and the line of a fault is behind the replies;
+EndsServing d script told DeviceFault text = ((told ≡ []) × (d.now ≡ raised d.before) × (text ≡ device_line d.now))
+    ⊎ (IsSessionOf d script told × (fault : ℕ) × TellsEnd d told fault × (text ≡ lines_of (joined told) ++ device_line fault))
+-- memory ran out before the first reply line, and some requests may have been answered, or behind one.
+EndsServing d script told OutOfMemory text = (IsCutSessionOf d script told × (text ≡ memory_line))
+    ⊎ (IsSessionOf d script told × (front : List ℕ) × AreFirstLines front (lines_of (joined told)) × (text ≡ front ++ memory_line))
+EndsServing d script told _ text = ⊥
+
+-- What is seen of the source allows this ending with this text where there is no script.
+abbrev pub EndsUnread : Reading → Ending → List ℕ → Type 0
+EndsUnread r BadScript text = (f : ScriptFault) × ReadsBreak r.left r.rest f × (¬ IsOutside f) × (text ≡ break_line f)
+EndsUnread r SourceFault text = (r.now ≡ raised r.before) × (text ≡ source_line)
+EndsUnread r OutOfMemory text = text ≡ memory_line
+EndsUnread r _ text = ⊥
+
+-- What is seen of the source and the disk and was told allows `play` this ending with this text: there is no script and
+-- nothing was told, or the source was read to its end, its bytes are a script, and it was served.
+abbrev pub EndsPlay : Reading → Formatting → List (List Entry) → Ending → List ℕ → Type 0
+EndsPlay r d told ending text = ((told ≡ []) × EndsUnread r ending text) ⊎ ((script : Script) × ReadsScript r.left r.rest script × EndsServing d script told ending text)
+
 -- ---- what any words end with
 
--- What is seen of the source and of the disk allows a command this ending with this text.
-abbrev pub Ends : Option Command → Reading → Formatting → Ending → List ℕ → Type 0
-Ends None r d ending text = IsFixed Usage ending text
-Ends (Some command.NotBuilt) r d ending text = IsFixed NotBuilt ending text
-Ends (Some command.Play) r d ending text = EndsPlay r ending text
-Ends (Some command.Tree) r d ending text = EndsTree d ending text
-Ends (Some command.Check) r d ending text = EndsCheck d ending text
-Ends (Some command.Recover) r d ending text = EndsRecovery d ending text
-Ends (Some (command.Mkfs blocks inodes journal)) r d ending text = EndsMkfs (record { blocks = blocks; inodes = inodes; journal = journal }) d ending text
+-- What is seen of the source and of the disk and was told to clients allows a command this ending with this text.
+abbrev pub Ends : Option Command → Reading → Formatting → List (List Entry) → Ending → List ℕ → Type 0
+Ends None r d told ending text = IsFixed Usage ending text
+Ends (Some command.NotBuilt) r d told ending text = IsFixed NotBuilt ending text
+Ends (Some command.Play) r d told ending text = EndsPlay r d told ending text
+Ends (Some command.Tree) r d told ending text = EndsTree d ending text
+Ends (Some command.Check) r d told ending text = EndsCheck d ending text
+Ends (Some command.Recover) r d told ending text = EndsRecovery d ending text
+Ends (Some (command.Mkfs blocks inodes journal)) r d told ending text = EndsMkfs (record { blocks = blocks; inodes = inodes; journal = journal }) d ending text
 
 -- A status, and what the sink got: the whole text of an ending that is allowed, or with one fault of the sink a front
 -- of it.

@@ -1,11 +1,20 @@
 -- What a command does to a disk and to a source.
-use Rattle.std.specs.Prelude.{ℕ, ◌≡◌, ◌≢◌, ◌<◌, Bool, false, Option, Some, None, Err, IsTrue}
+use Rattle.std.specs.Prelude.{ℕ, ◌≡◌, ◌≢◌, ◌<◌, List, Bool, false, Option, Some, None, Err, IsTrue}
+use Rattle.ufs_engine.specs.Begins.{BeginsWith}
 use Rattle.ufs_catalog.specs.Reading.{IsReadOnly}
+use Rattle.ufs_disk.specs.Disk.{Leaves}
 use Rattle.ufs_disk.specs.Moments.{Moments, LeavesOnly, reads}
 use Rattle.ufs_image.specs.Opens.{opens}
+use Rattle.ufs_image.specs.Proper.{IsProperImage}
 use Rattle.ufs_image.specs.Volume.{Refusal, head_of}
+use Rattle.ufs_last.specs.Last.{StandsForTree}
 use Rattle.ufs_layout.specs.Areas.{geometry_refusal, sector_count}
 use Rattle.ufs_layout.specs.declared.geometry.Geometry.{Geometry}
+use Rattle.ufs_ledger.specs.Kept.{OpensExplained}
+use Rattle.ufs_model.specs.History.{joined, tree_after}
+use Rattle.ufs_model.specs.PosixTree.{PosixTree}
+use Rattle.ufs_model.specs.declared.data.Entry.{Entry}
+use Rattle.ufs_engine.specs.Plays.{MayPlay}
 use Rattle.ufs_recover.specs.Stopped.{IsNewDisk, IsStopped}
 use Rattle.ufs_recovery.specs.Home.{KeepsTree}
 use Rattle.ufs_recovery.specs.Recovered.{IsCleanDisk, IsProperDisk, IsRecovered}
@@ -38,22 +47,35 @@ pub record Recovers (keeps : Bool) (sectors status : ℕ) (from to : Moments) : 
   pub quiet : IsTrue (head_of (reads from)).clean → IsReadOnly keeps from to
   pub refused : (refusal : Refusal) → opens sectors (reads from) ≡ Err refusal → IsReadOnly keeps from to
 
--- What a command does to the content of a disk: `tree` and `check` only read it, and what isn't listed leaves it.
-abbrev pub ActsOn : {D : Type 0} → Option Command → ℕ → Course D → Type 0
-ActsOn (Some (command.Mkfs blocks inodes journal)) status c = Formats (record { blocks = blocks; inodes = inodes; journal = journal }) status c
-ActsOn (Some command.Tree) status c = IsTrue c.tells → IsReadOnly c.keeps c.from c.to
-ActsOn (Some command.Check) status c = IsTrue c.tells → IsReadOnly c.keeps c.from c.to
-ActsOn (Some command.Recover) status c = IsTrue c.tells → Recovers c.keeps c.sectors status c.from c.to
-ActsOn (Some command.Play) status c = c.new ≡ c.old
-ActsOn (Some command.NotBuilt) status c = c.new ≡ c.old
-ActsOn None status c = c.new ≡ c.old
+-- `play`, of which the transcripts are these, over a disk whose image a session may begin with
+pub record Plays {D : Type 0} (told : List (List Entry)) (status : ℕ) (c : Course D) : Type 0 where
+  -- Whatever the status, what a crash leaves opens to a tree that the whole history explains: to the first changes of names,
+  -- and the first of each file, among them each that an acknowledged `fsync` or `sync` waited for.
+  pub crash : MayPlay c.tells c.sectors c.from.state → (start : PosixTree) → BeginsWith c.sectors (reads c.from) start → Leaves (OpensExplained c.sectors start (joined told)) c.to.state
+  pub proper : MayPlay c.tells c.sectors c.from.state → Leaves (IsProperImage c.sectors) c.to.state
+  -- Status 0: the disk is proper and clean, nothing is pending, and it stands for the tree behind the history.
+  pub clean : MayPlay c.tells c.sectors c.from.state → status ≡ 0 → IsCleanDisk c.sectors c.to.state
+  pub last : MayPlay c.tells c.sectors c.from.state → (start : PosixTree) → BeginsWith c.sectors (reads c.from) start → status ≡ 0 → StandsForTree c.sectors (tree_after start (joined told)) (reads c.to)
+  -- Where there is no script, it is as it was.
+  pub broken : status ≡ 2 → c.new ≡ c.old
+  pub unread : status ≡ 6 → c.new ≡ c.old
 
-pub record LeavesDisk {D : Type 0} (words : Option Command) (status : ℕ) (c : Course D) : Type 0 where
-  pub acts : ActsOn words status c
+-- What a command does to the content of a disk: `tree` and `check` only read it, and what isn't listed leaves it.
+abbrev pub ActsOn : {D : Type 0} → Option Command → List (List Entry) → ℕ → Course D → Type 0
+ActsOn (Some (command.Mkfs blocks inodes journal)) told status c = Formats (record { blocks = blocks; inodes = inodes; journal = journal }) status c
+ActsOn (Some command.Tree) told status c = IsTrue c.tells → IsReadOnly c.keeps c.from c.to
+ActsOn (Some command.Check) told status c = IsTrue c.tells → IsReadOnly c.keeps c.from c.to
+ActsOn (Some command.Recover) told status c = IsTrue c.tells → Recovers c.keeps c.sectors status c.from c.to
+ActsOn (Some command.Play) told status c = Plays told status c
+ActsOn (Some command.NotBuilt) told status c = c.new ≡ c.old
+ActsOn None told status c = c.new ≡ c.old
+
+pub record LeavesDisk {D : Type 0} (words : Option Command) (lists : List (List Entry)) (status : ℕ) (c : Course D) : Type 0 where
+  pub acts : ActsOn words lists status c
   -- It has as many sectors.
   pub size : c.sectors_now ≡ c.sectors
-  -- Any status but 4 and 7 leaves its count.
-  pub told : status ≢ 4 → status ≢ 7 → c.now ≡ c.before
+  -- Any status but 4 and 7, and for `play` but 5, leaves its count.
+  pub told : status ≢ 4 → status ≢ 7 → (words ≡ Some command.Play → status ≢ 5) → c.now ≡ c.before
 
 -- ---- sources
 

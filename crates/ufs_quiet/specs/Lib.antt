@@ -7,4 +7,5 @@ pub mod DamageLines
 pub mod Endings
 pub mod Told
 pub mod Left
+pub mod Laws
 pub mod Responses

@@ -2,6 +2,7 @@
 use Rattle.std.specs.Prelude.{ℕ, List, [], Option, None, Result, Ok, Err, map, string_bytes, unwrap_or, is_some, if◌then◌else◌}
 use Rattle.std.specs.declared.string.String.{String}
 use Rattle.std.specs.declared.vec.Vec.{Vec}
+use Rattle.ufs_model.specs.declared.data.Entry.{Entry}
 use Rattle.ufs_quiet.specs.declared.ending.Ending.{Ending}
 use Rattle.ufs_quiet.specs.declared.ending.Ending.TheVariants.{OutOfMemory}
 use Rattle.ufs_quiet.specs.declared.words.Command.{Command}
@@ -22,8 +23,8 @@ module _ {Z : Type 0} where
   command_for (Ok words) = if is_some (image_word (map string_bytes words.items)) then asked words.items else None
   command_for (Err f) = None
 
-  -- What is seen of the source and of the disk allows the program this ending with this text.
-  abbrev pub Responds : Result (Vec (String Z) Z) WordsFault → Reading → Formatting → Ending → List ℕ → Type 0
-  Responds (Ok words) r d ending text = Ends (command_for (Ok words)) r d ending text
-  Responds (Err NotText) r d ending text = Ends None r d ending text
-  Responds (Err Memory) r d ending text = IsFixed OutOfMemory ending text
+  -- What is seen of the source and of the disk and was told to clients allows the program this ending with this text.
+  abbrev pub Responds : Result (Vec (String Z) Z) WordsFault → Reading → Formatting → List (List Entry) → Ending → List ℕ → Type 0
+  Responds (Ok words) r d told ending text = Ends (command_for (Ok words)) r d told ending text
+  Responds (Err NotText) r d told ending text = Ends None r d told ending text
+  Responds (Err Memory) r d told ending text = IsFixed OutOfMemory ending text

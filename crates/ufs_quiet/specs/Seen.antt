@@ -1,6 +1,7 @@
 -- What is seen of a source, a sink and a disk over a command.
 use Rattle.std.specs.Prelude.{ℕ, Bool, List, Option}
 use Rattle.ufs_base.specs.Images.{Image}
+use Rattle.ufs_disk.specs.Disk.{State}
 use Rattle.ufs_disk.specs.Moments.{Moments, reads}
 
 -- A source: the bytes that it had left and has left, where it tells them, and its counts of faults before and now.
@@ -17,11 +18,12 @@ pub record Writing : Type 0 where
   pub before : ℕ
   pub now : ℕ
 
--- A disk: whether it tells what it holds, how many sectors it has, what it read as before, and its counts of faults
--- before and now.
+-- A disk: whether it tells what it holds, how many sectors it has, its state and what it read as before, and its counts of
+-- faults before and now.
 pub record Formatting : Type 0 where
   pub tells : Bool
   pub sectors : ℕ
+  pub state : State
   pub image : Image
   pub before : ℕ
   pub now : ℕ
@@ -36,7 +38,7 @@ writing held faults old new = record { held = held old; holds = held new; before
 
 -- of a disk
 abbrev pub formatting : {D : Type 0} → Bool → (D → ℕ) → (D → Moments) → (D → ℕ) → D → D → Formatting
-formatting tells size moments faults old new = record { tells = tells; sectors = size old; image = reads (moments old); before = faults old; now = faults new }
+formatting tells size moments faults old new = record { tells = tells; sectors = size old; state = (moments old).state; image = reads (moments old); before = faults old; now = faults new }
 
 -- A disk from what it was to what it is: whether it tells what it holds and keeps its moments, its sectors, its moments
 -- and its counts of faults before and now.

@@ -1,6 +1,6 @@
 -- What a command's status says, and what the sink got then. Each status with each text stands in `Ends`; this is what
 -- it comes to for each command.
-use Rattle.std.specs.Prelude.{ℕ, ◌≡◌, ◌≢◌, ◌≤◌, ◌⊎◌, List, [], length, Option, Some, None, ⊤, Ok, Err, IsTrue}
+use Rattle.std.specs.Prelude.{ℕ, ◌≡◌, ◌≢◌, ◌≤◌, ◌⊎◌, List, [], ◌++◌, length, Option, Some, None, ⊤, Ok, Err, IsTrue}
 use Rattle.std.specs.Io.KnownBytes.{Appends}
 use Rattle.ufs_base.specs.Faults.{raised}
 use Rattle.ufs_image.specs.Damage.{Damage}
@@ -9,17 +9,21 @@ use Rattle.ufs_image.specs.Proper.{IsProperImage}
 use Rattle.ufs_image.specs.Volume.{Refusal}
 use Rattle.ufs_layout.specs.Areas.{geometry_refusal, sector_count}
 use Rattle.ufs_layout.specs.declared.geometry.Geometry.{Geometry}
+use Rattle.ufs_model.specs.History.{joined}
 use Rattle.ufs_model.specs.declared.data.Entry.{Entry}
+use Rattle.ufs_engine.specs.Plays.{AreFaultsOf}
 use Rattle.ufs_recovery.specs.Recovered.{log_of}
+use Rattle.ufs_script.specs.Reading.{ReadsScript}
 use Rattle.ufs_script.specs.Script.{script_of}
 use Rattle.ufs_script.specs.declared.fault.ScriptFault.{ScriptFault}
 use Rattle.ufs_script.specs.declared.script.Script.{Script}
 use Rattle.ufs_quiet.specs.declared.words.Command.{Command}
 use Rattle.ufs_quiet.specs.declared.words.Command.TheVariants as command
-use Rattle.ufs_quiet.specs.Texts.{made_line, break_line, recovered_line}
+use Rattle.ufs_quiet.specs.Texts.{made_line, break_line, device_line, recovered_line}
 use Rattle.ufs_quiet.specs.TreeLines.{tree_lines, refusal_line}
 use Rattle.ufs_quiet.specs.DamageLines.{clean_line, damage_lines}
-use Rattle.ufs_quiet.specs.Served.{IsServed, replies_text}
+use Rattle.ufs_quiet.specs.Endings.{TellsNoStart}
+use Rattle.ufs_quiet.specs.Served.{EndsSession, IsSessionOf, TellsEnd, replies_text}
 use Rattle.ufs_quiet.specs.Seen.{Reading, Writing, Formatting}
 
 -- No count of the disk and the sink rose.
@@ -27,17 +31,30 @@ pub record AreCalm (d : Formatting) (w : Writing) : Type 0 where
   pub disk : d.now ≢ raised d.before
   pub sink : w.now ≢ raised w.before
 
--- `play`
-pub record TellsPlay (r : Reading) (w : Writing) (status : ℕ) : Type 0 where
-  -- Status 0: the source was read to its end, and its bytes are a script. There is one history, in which one POSIX
-  -- tree, that begins with the root alone, gives every reply or the reply is an excuse that fits, and which holds each
-  -- request of the script once in its client's order. The sink got the lines of that history's replies, and nothing else.
-  pub done : status ≡ 0 → (script : Script) × (history : List Entry) × IsServed r.left r.rest script history × Appends w.held w.holds (replies_text script history)
-  -- Over a source that tells its bytes, a script is served, unless memory runs out or a count of faults rises.
-  pub complete : (text : List ℕ) (script : Script) → r.left ≡ Some text → script_of text ≡ Ok script → r.now ≢ raised r.before → w.now ≢ raised w.before → (status ≡ 0) ⊎ (status ≡ 5)
+-- `play`, of which the transcripts are these
+pub record TellsPlay (r : Reading) (d : Formatting) (told : List (List Entry)) (w : Writing) (status : ℕ) : Type 0 where
+  -- Status 0: the source was read to its end, and its bytes are a script. There is one history, in which one POSIX tree,
+  -- that begins as the tree of the disk's image, gives every reply or the reply is an excuse that fits, and which holds
+  -- each request of the script once in its client's order. The sink got the lines of that history's replies, and nothing
+  -- else. No reply tells a fault of the disk.
+  pub done : status ≡ 0 → (script : Script) × ReadsScript r.left r.rest script × IsSessionOf d script told × EndsSession d told (Ok tt) × Appends w.held w.holds (replies_text script (joined told))
+  -- Status 3: no session begins with the image, and the sink got the line of the cause, and nothing else.
+  pub no_start : status ≡ 3 → (told ≡ []) × ((text : List ℕ) × TellsNoStart d text × Appends w.held w.holds text)
+  -- Status 4: a call of the disk failed as the session began, and the sink got the line of the fault; or each request was
+  -- answered, and it got the lines of the replies, and behind them that of the fault of the closing, or of the first that a
+  -- reply tells.
+  pub closing : status ≡ 4 → ((told ≡ []) × (d.now ≡ raised d.before) × Appends w.held w.holds (device_line d.now))
+      ⊎ ((script : Script) × ReadsScript r.left r.rest script × IsSessionOf d script told × (fault : ℕ) × TellsEnd d told fault × Appends w.held w.holds (replies_text script (joined told) ++ device_line fault))
+  -- The replies tell one fault of the disk at most, the first to which its count rose, and a reply that tells where the store
+  -- stopped tells that one.
+  pub faults : AreFaultsOf d.before (joined told)
+  -- Over a source that tells its bytes, a script is served, unless memory runs out, a count of faults rises, or no session
+  -- begins with the image.
+  pub complete : (text : List ℕ) (script : Script) → r.left ≡ Some text → script_of text ≡ Ok script → r.now ≢ raised r.before → AreCalm d w
+      → (status ≡ 0) ⊎ ((status ≡ 3) ⊎ (status ≡ 5))
   -- A text that is no script is told with the line and the cause of its first break.
   pub broken : (text : List ℕ) (fault : ScriptFault) → r.left ≡ Some text → script_of text ≡ Err fault → r.now ≢ raised r.before → w.now ≢ raised w.before
-      → ((status ≡ 2) × Appends w.held w.holds (break_line fault)) ⊎ (status ≡ 5)
+      → ((status ≡ 2) × (told ≡ []) × Appends w.held w.holds (break_line fault)) ⊎ (status ≡ 5)
 
 -- `mkfs` of this geometry
 pub record TellsMkfs (g : Geometry) (d : Formatting) (w : Writing) (status : ℕ) : Type 0 where
@@ -57,6 +74,8 @@ pub record TellsTree (d : Formatting) (w : Writing) (status : ℕ) : Type 0 wher
   -- count of faults rises.
   pub complete : (tree : ImageTree) → opens d.sectors d.image ≡ Ok tree → AreCalm d w → (status ≡ 0) ⊎ (status ≡ 5)
   pub refused : (refusal : Refusal) → opens d.sectors d.image ≡ Err refusal → AreCalm d w → (status ≡ 3) ⊎ (status ≡ 5)
+  -- A proper image is never refused.
+  pub proper : IsProperImage d.sectors d.image → status ≢ 3
 
 -- `check`, over a disk that tells what it holds
 pub record TellsCheck (d : Formatting) (w : Writing) (status : ℕ) : Type 0 where
@@ -70,6 +89,8 @@ pub record TellsCheck (d : Formatting) (w : Writing) (status : ℕ) : Type 0 whe
   pub complete_clean : damage_list d.sectors d.image ≡ Ok [] → AreCalm d w → (status ≡ 0) ⊎ (status ≡ 5)
   pub complete_damaged : (list : List Damage) → list ≢ [] → damage_list d.sectors d.image ≡ Ok list → AreCalm d w → (status ≡ 8) ⊎ (status ≡ 5)
   pub refused : (refusal : Refusal) → damage_list d.sectors d.image ≡ Err refusal → AreCalm d w → (status ≡ 3) ⊎ (status ≡ 5)
+  -- A proper image is never refused.
+  pub proper : IsProperImage d.sectors d.image → status ≢ 3
 
 -- `recover`, over a disk that tells what it holds
 pub record TellsRecovery (d : Formatting) (w : Writing) (status : ℕ) : Type 0 where
@@ -86,11 +107,11 @@ pub record TellsRecovery (d : Formatting) (w : Writing) (status : ℕ) : Type 0 
   pub proper : IsProperImage d.sectors d.image → status ≢ 3
 
 -- What a command tells. Of other words `Ends` says all: they have one status and one line.
-abbrev pub Tells : Option Command → Reading → Formatting → Writing → ℕ → Type 0
-Tells None r d w status = ⊤
-Tells (Some command.NotBuilt) r d w status = ⊤
-Tells (Some command.Play) r d w status = TellsPlay r w status
-Tells (Some (command.Mkfs blocks inodes journal)) r d w status = TellsMkfs (record { blocks = blocks; inodes = inodes; journal = journal }) d w status
-Tells (Some command.Tree) r d w status = IsTrue d.tells → TellsTree d w status
-Tells (Some command.Check) r d w status = IsTrue d.tells → TellsCheck d w status
-Tells (Some command.Recover) r d w status = IsTrue d.tells → TellsRecovery d w status
+abbrev pub Tells : Option Command → Reading → Formatting → List (List Entry) → Writing → ℕ → Type 0
+Tells None r d told w status = ⊤
+Tells (Some command.NotBuilt) r d told w status = ⊤
+Tells (Some command.Play) r d told w status = TellsPlay r d told w status
+Tells (Some (command.Mkfs blocks inodes journal)) r d told w status = TellsMkfs (record { blocks = blocks; inodes = inodes; journal = journal }) d w status
+Tells (Some command.Tree) r d told w status = IsTrue d.tells → TellsTree d w status
+Tells (Some command.Check) r d told w status = IsTrue d.tells → TellsCheck d w status
+Tells (Some command.Recover) r d told w status = IsTrue d.tells → TellsRecovery d w status

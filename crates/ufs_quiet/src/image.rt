@@ -4,7 +4,7 @@ ghost use Rattle.ufs_quiet.specs.Texts.{device_line};
 ghost use Rattle.ufs_quiet.specs.TreeLines.{numbered_line};
 ghost use Rattle.ufs_quiet.specs.Seen.{writing};
 ghost use Rattle.ufs_quiet.specs.declared.ending.Ending.TheVariants.{NoTree, DeviceFault};
-ghost use Rattle.ufs_quiet.specs.Endings.{IsAnswer, IsLine, ending_of, line_of, status_of, sink_status};
+ghost use Rattle.ufs_quiet.specs.Endings.{IsAnswer, IsLine, ending_of, line_of, start_ending, start_line, status_of, sink_status};
 
 use crate::ending::Ending;
 use crate::finish::{finish, tell};
@@ -12,6 +12,7 @@ use arrayvec::ArrayString;
 use itoa::Buffer;
 use ufs_io::Sink;
 use ufs_opening::RecoverFault;
+use ufs_start::StartFault;
 
 /// The line of a fault of the disk. It takes no memory.
 pub fn device_line(fault: u64) -> ArrayString<64>
@@ -49,7 +50,8 @@ fn tell_number<K: Sink>(sink: &mut K, name: &str, number: u32) -> u8
     tell(sink, Ending::NoTree, line.as_bytes())
 }
 
-fn tell_device<K: Sink>(sink: &mut K, fault: u64) -> u8
+/// Ends with the line of a fault of the disk. Takes no memory.
+pub fn tell_device<K: Sink>(sink: &mut K, fault: u64) -> u8
     ensures answer { IsAnswer (IsLine DeviceFault (device_line fault)) (writing K.held K.faults sink.old sink.new) result }
     ensures status { (result ≡ status_of DeviceFault) ⊎ (result ≡ sink_status) }
 {
@@ -76,5 +78,18 @@ pub fn tell_refusal<K: Sink>(sink: &mut K, fault: RecoverFault) -> u8
         RecoverFault::BadTree { inode } => tell_number(sink, "BadTree", inode),
         RecoverFault::Device { fault } => tell_device(sink, fault),
         RecoverFault::Memory => finish(sink, Ending::OutOfMemory),
+    }
+}
+
+/// Ends with why no session begins with an image; what no server takes is told as a bad tree. Takes no memory.
+pub fn tell_start<K: Sink>(sink: &mut K, fault: StartFault) -> u8
+    ensures { IsAnswer (IsLine (start_ending fault) (start_line fault)) (writing K.held K.faults sink.old sink.new) result }
+{
+    match fault {
+        StartFault::Image(fault) => tell_refusal(sink, fault),
+        StartFault::Unreached { inode } => tell_number(sink, "BadTree", inode),
+        StartFault::Unnamed { inode } => tell_number(sink, "BadTree", inode),
+        StartFault::ExtraBlocks { inode } => tell_number(sink, "BadTree", inode),
+        StartFault::TooLong { inode } => tell_number(sink, "BadTree", inode),
     }
 }

@@ -1,5 +1,6 @@
 // What the program answers: to its words, or to there being none.
-ghost use Rattle.std.specs.Prelude.{◌≡◌};
+ghost use Rattle.std.specs.Prelude.{◌≡◌, ◌≢◌, [], Some};
+ghost use Rattle.ufs_quiet.specs.declared.words.Command.TheVariants as command;
 ghost use Rattle.ufs_quiet.specs.Seen.{reading, writing, formatting, course};
 ghost use Rattle.ufs_quiet.specs.Endings.{IsAnswer};
 ghost use Rattle.ufs_quiet.specs.Left.{LeavesDisk, LeavesSource};
@@ -8,7 +9,8 @@ ghost use Rattle.ufs_quiet.specs.Responses.{Responds, command_for, path_of};
 
 use crate::ending::Ending;
 use crate::finish::finish;
-use crate::top::{Outcome, quiet};
+use crate::outcome::{Outcome, nothing_told};
+use crate::top::quiet;
 use crate::words::image_of;
 use std::alloc::Global;
 use ufs_disk::Disk;
@@ -45,13 +47,14 @@ pub fn respond<S: Source, K: Sink, D: Disk>(
     sink: &mut K,
     disk: D,
 ) -> Outcome<D>
-    ensures answer { IsAnswer (Responds words.now (reading S.left S.faults source.old source.new) (formatting D.tells D.size D.moments D.faults disk result.disk))
+    ensures answer { IsAnswer (Responds words.now (reading S.left S.faults source.old source.new) (formatting D.tells D.size D.moments D.faults disk result.disk) result.told)
         (writing K.held K.faults sink.old sink.new) result.status }
     // Without words, and with those that name no image's file, disk and source are left as they were.
-    ensures told { Tells (command_for words.now) (reading S.left S.faults source.old source.new) (formatting D.tells D.size D.moments D.faults disk result.disk)
+    ensures told { Tells (command_for words.now) (reading S.left S.faults source.old source.new) (formatting D.tells D.size D.moments D.faults disk result.disk) result.told
         (writing K.held K.faults sink.old sink.new) result.status }
-    ensures disk { LeavesDisk (command_for words.now) result.status (course D.tells D.keeps D.size D.moments D.faults disk result.disk) }
+    ensures disk { LeavesDisk (command_for words.now) result.told result.status (course D.tells D.keeps D.size D.moments D.faults disk result.disk) }
     ensures source { LeavesSource (command_for words.now) result.status (reading S.left S.faults source.old source.new) }
+    ensures served { command_for words.now ≢ Some command.Play → result.told ≡ [] }
 {
     let ending = match words {
         Ok(words) => match image_of(words) {
@@ -61,8 +64,10 @@ pub fn respond<S: Source, K: Sink, D: Disk>(
         Err(WordsFault::NotText) => Ending::Usage,
         Err(WordsFault::Memory) => Ending::OutOfMemory,
     };
+    let status = finish(sink, ending);
     Outcome {
-        status: finish(sink, ending),
+        status,
+        told: nothing_told(alloc),
         disk,
     }
 }

@@ -1,0 +1,117 @@
+-- A disk of which a server's start is read, and why no session begins with it.
+use Rattle.std.proofs.Common.{◌≡◌, ℕ, [], Bool, ap, sym, refl, ◌∙◌, subst}
+use Rattle.std.specs.Prelude.{Ok}
+use Rattle.ufs_base.specs.Images as images
+use Rattle.ufs_catalog.specs.Faults.{IsOutside, IsWhyNot}
+use Rattle.ufs_catalog.specs.Reading.{IsReadOnly}
+use Rattle.ufs_catalog.specs.declared.fault.RecoverFault.{RecoverFault}
+use Rattle.ufs_catalog.specs.declared.fault.RecoverFault.TheVariants.{NoSuperblock, BadVersion, BadGeometry, BadRecord, BadTree, Device, Memory}
+use Rattle.ufs_disk.specs.Disk.{Leaves, State, seen}
+use Rattle.ufs_disk.specs.Moments.{Moments, reads}
+use Rattle.ufs_disk.proofs.Images.{seen_is_image}
+use Rattle.ufs_image.specs.Opens.{ImageTree, opens}
+use Rattle.ufs_image.specs.Proper.{IsProperImage}
+use Rattle.ufs_image.specs.Volume.{head_of}
+use Rattle.ufs_ledger.specs.Kept.{OpensExplained, paths_of}
+use Rattle.ufs_model.specs.Laws.{KeepsTrees}
+use Rattle.ufs_model.specs.PosixTree.{PosixTree}
+use Rattle.ufs_model.proofs.ContentLemmas.{start_has_contents}
+use Rattle.ufs_model.proofs.Facts.Starts.{start_is_tree}
+use Rattle.ufs_names_image.specs.Starts.{image_start}
+use Rattle.ufs_names_image.proofs.Started.{image_is_tree}
+use Rattle.ufs_prefix.proofs.Facts.Ends.{start_explained}
+use Rattle.ufs_opening.specs.Told.{TellsWhy}
+use Rattle.ufs_recovery.specs.Home.{KeepsTree}
+use Rattle.ufs_recovery.specs.Recovered.{IsCleanDisk, IsProperDisk, log_of}
+use Rattle.ufs_recovery.proofs.Ends.{proper_opens}
+use Rattle.ufs_start.specs.Refused.{TellsNoStart}
+use Rattle.ufs_start.specs.declared.fault.StartFault.{StartFault}
+use Rattle.ufs_start.specs.declared.fault.StartFault.TheVariants.{Image, Unreached, Unnamed, ExtraBlocks, TooLong}
+use Rattle.ufs_engine.specs.Begins.{BeginsWith, TellsNoSession}
+
+-- ---- a tree, and what begins with it
+
+-- An image that opens to a tree is explained before the first request.
+explained_there : KeepsTrees → (sectors : ℕ) (image : images.Image) (tree : ImageTree) → opens sectors image ≡ Ok tree → OpensExplained sectors (image_start tree) [] image
+explained_there keeps sectors image tree e = record {
+  tree = tree;
+  opened = e;
+  explained = start_explained keeps (image_start tree) (start_is_tree (paths_of tree) (image_is_tree sectors image tree e)) (paths_of tree) (start_has_contents (paths_of tree));
+}
+
+pub begins_alike : (one other : ℕ) (image home : images.Image) (start : PosixTree) → opens other home ≡ opens one image → BeginsWith one image start → BeginsWith other home start
+begins_alike one other image home start same with_it = record { tree = with_it.tree; opened = same ∙ with_it.opened; start_is = with_it.start_is }
+
+begins_explained : KeepsTrees → (sectors : ℕ) (image : images.Image) (start : PosixTree) → BeginsWith sectors image start → OpensExplained sectors start [] image
+begins_explained keeps sectors image start with_it =
+    subst (λ (t : PosixTree). OpensExplained sectors t [] image) (sym with_it.start_is) (explained_there keeps sectors image with_it.tree with_it.opened)
+
+-- ---- a disk that was only read
+
+module _ (keeps : Bool) (old new : Moments) (read : IsReadOnly keeps old new) where
+  pub leaves_still : (P : images.Image → Type 0) → Leaves P old.state → Leaves P new.state
+  leaves_still P here image left = here image (read.crash.after image left)
+
+  pub clean_still : (sectors : ℕ) → IsCleanDisk sectors old.state → IsCleanDisk sectors new.state
+  clean_still sectors is = record {
+    proper = record {
+      settled = λ image left. is.proper.settled image (read.crash.after image left) ∙ sym read.content;
+      proper = subst (IsProperImage sectors) (sym read.content) is.proper.proper;
+    };
+    clean = ap (λ (image : images.Image). (head_of image).clean) read.content ∙ is.clean;
+    empty = ap log_of read.content ∙ is.empty;
+  }
+
+-- ---- of a clean disk
+
+pub clean_explained : KeepsTrees → (sectors : ℕ) (state : State) (start : PosixTree) → IsCleanDisk sectors state → BeginsWith sectors (seen state) start → Leaves (OpensExplained sectors start []) state
+clean_explained keeps sectors state start is with_it image left = subst (OpensExplained sectors start []) (sym (is.proper.settled image left)) (begins_explained keeps sectors (seen state) start with_it)
+
+pub clean_proper : (sectors : ℕ) (state : State) → IsCleanDisk sectors state → Leaves (IsProperImage sectors) state
+clean_proper sectors state is image left = subst (IsProperImage sectors) (sym (is.proper.settled image left)) is.proper.proper
+
+-- ---- of a disk that is recovered
+
+module _ (keeps : Bool) (sectors : ℕ) (old new : Moments) (kept : KeepsTree keeps sectors old new) where
+  pub same_tree : opens sectors (reads new) ≡ opens sectors (reads old)
+  same_tree = (kept.after (reads new) (seen_is_image new.state)).tree
+
+  pub recovery_explained : KeepsTrees → (start : PosixTree) → BeginsWith sectors (reads old) start → Leaves (OpensExplained sectors start []) new.state
+  recovery_explained trees start with_it image left = begins_explained trees sectors image start (begins_alike sectors sectors (reads old) image start (kept.after image left).tree with_it)
+
+  pub recovery_proper : IsProperDisk sectors old.state → Leaves (IsProperImage sectors) new.state
+  recovery_proper proper image left = (kept.after image left).proper proper.proper
+
+pub proper_begins : (sectors : ℕ) (state : State) → IsProperDisk sectors state → (start : PosixTree) × BeginsWith sectors (seen state) start
+proper_begins sectors state proper =
+    let opened = proper_opens sectors (seen state) proper.proper in
+    (image_start opened.0, record { tree = opened.0; opened = opened.1; start_is = refl })
+
+-- ---- why no session begins
+
+pub no_session : (sectors : ℕ) (image : images.Image) (fault : StartFault) → TellsNoStart sectors image fault → TellsNoSession sectors image fault
+no_session sectors image (Image fault) tells = tells
+no_session sectors image (Unreached inode) tells = (image, refl, tells)
+no_session sectors image (Unnamed inode) tells = (image, refl, tells)
+no_session sectors image (ExtraBlocks inode) tells = (image, refl, tells)
+no_session sectors image (TooLong inode) tells = (image, refl, tells)
+
+outside_why : (sectors : ℕ) (image : images.Image) (fault : RecoverFault) → IsOutside fault → TellsWhy sectors image fault
+outside_why sectors image NoSuperblock is = absurd is
+outside_why sectors image (BadVersion found) is = absurd is
+outside_why sectors image (BadGeometry number) is = absurd is
+outside_why sectors image (BadRecord sector) is = absurd is
+outside_why sectors image (BadTree inode) is = absurd is
+outside_why sectors image (Device fault) is = tt
+outside_why sectors image Memory is = tt
+
+pub outside_session : (sectors : ℕ) (image : images.Image) (u : StartFault) → (fault : RecoverFault) × (u ≡ Image fault) × IsOutside fault → TellsNoSession sectors image u
+outside_session sectors image u why = subst (TellsNoSession sectors image) (sym why.1) (outside_why sectors image why.0 why.2)
+
+-- of an image that opens to the same tree
+pub same_session : (sectors : ℕ) (image home : images.Image) → opens sectors home ≡ opens sectors image → (fault : StartFault) → TellsNoSession sectors home fault → TellsNoSession sectors image fault
+same_session sectors image home same (Image fault) tells = subst (λ o. IsWhyNot o fault) same tells
+same_session sectors image home same (Unreached inode) tells = (tells.0, tells.1 ∙ same, tells.2)
+same_session sectors image home same (Unnamed inode) tells = (tells.0, tells.1 ∙ same, tells.2)
+same_session sectors image home same (ExtraBlocks inode) tells = (tells.0, tells.1 ∙ same, tells.2)
+same_session sectors image home same (TooLong inode) tells = (tells.0, tells.1 ∙ same, tells.2)

@@ -1,0 +1,97 @@
+use Rattle.std.proofs.Common.{ℕ, [], refl, sym, ◌∙◌, subst}
+use Rattle.std.proofs.lemmas.Result.{MatchResult-weaker}
+use Rattle.ufs_base.specs.Images.{Image}
+use Rattle.ufs_disk.specs.Disk.{Leaves}
+use Rattle.ufs_disk.specs.Moments.{reads}
+use Rattle.ufs_image.specs.Opens.{opens}
+use Rattle.ufs_image.specs.Proper.{IsProperImage}
+use Rattle.ufs_ledger.specs.Kept.{OpensExplained}
+use Rattle.ufs_names_image.specs.Starts.{image_start}
+use Rattle.ufs_recovery.specs.Recovered.{IsCleanDisk}
+use Rattle.ufs_start.specs.Begun.{IsBegun, tree_under}
+use Rattle.ufs_start.specs.Refused.{HasStartCause}
+use Rattle.ufs_engine.proofs.Read.{begins_alike, clean_explained, clean_proper, clean_still, leaves_still, no_session, outside_session}
+use Rattle.ufs_engine.proofs.beginning.begin_clean.Goals as goal
+
+pub returns-in-Ok-clause-may : goal.returns-in-Ok-clause-may
+returns-in-Ok-clause-may g c =
+    let b = c.in-Ok.ensures.begun in
+    let start = image_start (tree_under c.in-Ok.start.head b.0) in
+    let begun : IsBegun (g.D.Disk.size c.start_of.new.disk) b.0 c.in-Ok.start = subst (λ (n : ℕ). IsBegun n b.0 c.in-Ok.start) (sym c.start_of.ensures.size) b.1 in
+    MatchResult-weaker c.mount.result (c.mount.ensures.may b.0 start begun (record { tree = tree_under c.in-Ok.start.head b.0; opened = begun.opened; start_is = refl })) (λ x may. (start, may)) (λ u none. none)
+
+pub returns-in-Ok-clause-size : goal.returns-in-Ok-clause-size
+returns-in-Ok-clause-size g c = MatchResult-weaker c.mount.result c.mount.ensures.size (λ x e. e ∙ c.start_of.ensures.size) (λ u none. none)
+
+pub returns-in-Ok-clause-passed : goal.returns-in-Ok-clause-passed
+returns-in-Ok-clause-passed g c = MatchResult-weaker c.mount.result c.mount.ensures.passed (λ x e. e ∙ c.in-Ok.ensures.passed) (λ u none. none)
+
+pub returns-in-Ok-clause-err_size : goal.returns-in-Ok-clause-err_size
+returns-in-Ok-clause-err_size g c = MatchResult-weaker c.mount.result c.mount.ensures.err_size (λ x none. none) (λ u e. e ∙ c.start_of.ensures.size)
+
+pub returns-in-Ok-clause-cause : goal.returns-in-Ok-clause-cause
+returns-in-Ok-clause-cause g c =
+    MatchResult-weaker c.mount.result c.mount.ensures.cause (λ x none. none) (λ u e. subst (λ (n : ℕ). HasStartCause n (g.D.Disk.faults u.disk) u.fault) c.in-Ok.ensures.passed e)
+
+pub returns-in-Ok-clause-parts : goal.returns-in-Ok-clause-parts
+returns-in-Ok-clause-parts g c told start with_it =
+    let b = c.in-Ok.ensures.begun in
+    let size = c.start_of.ensures.size in
+    let begun : IsBegun (g.D.Disk.size c.start_of.new.disk) b.0 c.in-Ok.start = subst (λ (n : ℕ). IsBegun n b.0 c.in-Ok.start) (sym size) b.1 in
+    c.mount.ensures.may b.0 start begun
+    (begins_alike (g.D.Disk.size c.args.disk) (g.D.Disk.size c.start_of.new.disk) (reads (g.D.Disk.moments c.args.disk)) b.0 start (λ i. opens (size i) (b.2 told i)) with_it)
+
+pub returns-in-Ok-clause-on_disk : goal.returns-in-Ok-clause-on_disk
+returns-in-Ok-clause-on_disk g c told clean start with_it =
+    let b = c.in-Ok.ensures.begun in
+    let size = c.start_of.ensures.size in
+    let read = c.start_of.ensures.read_only told in
+    let old = g.D.Disk.moments c.args.disk in
+    let new = g.D.Disk.moments c.start_of.new.disk in
+    let begun : IsBegun (g.D.Disk.size c.start_of.new.disk) (reads new) c.in-Ok.start = subst (λ (i : Image). IsBegun (g.D.Disk.size c.start_of.new.disk) i c.in-Ok.start) (b.2 told ∙ sym read.content) (subst (λ (n : ℕ). IsBegun n b.0 c.in-Ok.start) (sym size) b.1) in
+    c.mount.ensures.on_disk told (subst (λ (n : ℕ). IsCleanDisk n new.state) (sym size) (clean_still g.D.Disk.keeps old new read (g.D.Disk.size c.args.disk) clean)) begun start
+    (begins_alike (g.D.Disk.size c.args.disk) (g.D.Disk.size c.start_of.new.disk) (reads old) (reads new) start (λ i. opens (size i) (read.content i)) with_it)
+
+pub returns-in-Ok-clause-crash : goal.returns-in-Ok-clause-crash
+returns-in-Ok-clause-crash g c told clean start with_it =
+    let b = c.in-Ok.ensures.begun in
+    let size = c.start_of.ensures.size in
+    let read = c.start_of.ensures.read_only told in
+    let old = g.D.Disk.moments c.args.disk in
+    let new = g.D.Disk.moments c.start_of.new.disk in
+    let begun : IsBegun (g.D.Disk.size c.start_of.new.disk) (reads new) c.in-Ok.start = subst (λ (i : Image). IsBegun (g.D.Disk.size c.start_of.new.disk) i c.in-Ok.start) (b.2 told ∙ sym read.content) (subst (λ (n : ℕ). IsBegun n b.0 c.in-Ok.start) (sym size) b.1) in
+    MatchResult-weaker c.mount.result
+    (c.mount.ensures.crash told (subst (λ (n : ℕ). IsCleanDisk n new.state) (sym size) (clean_still g.D.Disk.keeps old new read (g.D.Disk.size c.args.disk) clean)) begun start
+    (begins_alike (g.D.Disk.size c.args.disk) (g.D.Disk.size c.start_of.new.disk) (reads old) (reads new) start (λ i. opens (size i) (read.content i)) with_it))
+    (λ x none. none) (λ u e. subst (λ (n : ℕ). Leaves (OpensExplained n start []) (g.D.Disk.moments u.disk).state) size e)
+
+pub returns-in-Ok-clause-proper : goal.returns-in-Ok-clause-proper
+returns-in-Ok-clause-proper g c told clean =
+    let b = c.in-Ok.ensures.begun in
+    let size = c.start_of.ensures.size in
+    let read = c.start_of.ensures.read_only told in
+    let old = g.D.Disk.moments c.args.disk in
+    let new = g.D.Disk.moments c.start_of.new.disk in
+    let begun : IsBegun (g.D.Disk.size c.start_of.new.disk) (reads new) c.in-Ok.start = subst (λ (i : Image). IsBegun (g.D.Disk.size c.start_of.new.disk) i c.in-Ok.start) (b.2 told ∙ sym read.content) (subst (λ (n : ℕ). IsBegun n b.0 c.in-Ok.start) (sym size) b.1) in
+    MatchResult-weaker c.mount.result (c.mount.ensures.proper told (subst (λ (n : ℕ). IsCleanDisk n new.state) (sym size) (clean_still g.D.Disk.keeps old new read (g.D.Disk.size c.args.disk) clean)) begun)
+    (λ x none. none) (λ u e. subst (λ (n : ℕ). Leaves (IsProperImage n) (g.D.Disk.moments u.disk).state) size e)
+
+pub returns-in-Ok-clause-refused : goal.returns-in-Ok-clause-refused
+returns-in-Ok-clause-refused g c told =
+    MatchResult-weaker c.mount.result c.mount.ensures.outside (λ x none. none) (λ u why. outside_session (g.D.Disk.size c.args.disk) (reads (g.D.Disk.moments c.args.disk)) u.fault why)
+
+pub returns-in-Err-clause-crash : goal.returns-in-Err-clause-crash
+returns-in-Err-clause-crash g c told clean start with_it =
+    let size = g.D.Disk.size c.args.disk in
+    let old = g.D.Disk.moments c.args.disk in
+    leaves_still g.D.Disk.keeps old (g.D.Disk.moments c.start_of.new.disk) (c.start_of.ensures.read_only told) (OpensExplained size start [])
+    (clean_explained c.a_request_keeps_the_tree.ensures size old.state start clean with_it)
+
+pub returns-in-Err-clause-proper : goal.returns-in-Err-clause-proper
+returns-in-Err-clause-proper g c told clean =
+    let size = g.D.Disk.size c.args.disk in
+    let old = g.D.Disk.moments c.args.disk in
+    leaves_still g.D.Disk.keeps old (g.D.Disk.moments c.start_of.new.disk) (c.start_of.ensures.read_only told) (IsProperImage size) (clean_proper size old.state clean)
+
+pub returns-in-Err-clause-refused : goal.returns-in-Err-clause-refused
+returns-in-Err-clause-refused g c told = no_session (g.D.Disk.size c.args.disk) (reads (g.D.Disk.moments c.args.disk)) c.in-Err.fault (c.in-Err.ensures.refused told)

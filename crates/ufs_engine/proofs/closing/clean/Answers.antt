@@ -1,0 +1,38 @@
+use Rattle.std.proofs.Common.{ℕ, subst}
+use Rattle.ufs_recovery.specs.Home.{KeepsTree}
+use Rattle.ufs_recovery.specs.Recovered.{IsCleanDisk, IsProperDisk}
+use Rattle.ufs_store.specs.Refusals.{IsTold}
+use Rattle.ufs_engine.specs.Closes.{device_told_by}
+use Rattle.ufs_engine.proofs.Ended.{as_it_was, cleaned, proper_behind}
+use Rattle.ufs_engine.proofs.closing.clean.Goals as goal
+
+pub returns-in-Err-clause-tree : goal.returns-in-Err-clause-tree
+returns-in-Err-clause-tree g c told proper =
+    as_it_was (g.D.Disk.size c.args.disk.now) (g.D.Disk.moments c.args.disk.now).state (g.D.Disk.moments c.barrier.new.self).state (c.barrier.ensures.crash told).after
+
+pub returns-in-Ok-clause-tree : goal.returns-in-Ok-clause-tree
+returns-in-Ok-clause-tree g c told =
+    let mid = g.D.Disk.moments c.barrier.new.self in
+    let new = g.D.Disk.moments c.recover.new.disk in
+    cleaned g.D.Disk.keeps (g.D.Disk.size c.args.disk.now) (g.D.Disk.moments c.args.disk.now).state mid new (c.barrier.ensures.content told) (c.in_default.ensures.ok told)
+    (subst (λ (sectors : ℕ). IsProperDisk sectors mid.state → KeepsTree g.D.Disk.keeps sectors mid new) c.barrier.ensures.size (c.recover.ensures.tree told))
+
+pub returns-in-Err-recover-clause-tree : goal.returns-in-Err-recover-clause-tree
+returns-in-Err-recover-clause-tree g c told =
+    let mid = g.D.Disk.moments c.barrier.new.self in
+    let new = g.D.Disk.moments c.recover.new.disk in
+    cleaned g.D.Disk.keeps (g.D.Disk.size c.args.disk.now) (g.D.Disk.moments c.args.disk.now).state mid new (c.barrier.ensures.content told) (c.in_default.ensures.ok told)
+    (subst (λ (sectors : ℕ). IsProperDisk sectors mid.state → KeepsTree g.D.Disk.keeps sectors mid new) c.barrier.ensures.size (c.recover.ensures.tree told))
+
+pub returns-in-Ok-clause-clean : goal.returns-in-Ok-clause-clean
+returns-in-Ok-clause-clean g c told proper =
+    let mid = g.D.Disk.moments c.barrier.new.self in
+    let new = g.D.Disk.moments c.recover.new.disk in
+    subst (λ (sectors : ℕ). IsProperDisk sectors mid.state → IsCleanDisk sectors new.state) c.barrier.ensures.size (c.in-Ok.ensures.clean told)
+    (proper_behind (g.D.Disk.size c.args.disk.now) (g.D.Disk.moments c.args.disk.now).state mid.state (c.barrier.ensures.content told) (c.in_default.ensures.ok told) proper)
+
+pub returns-in-Err-recover-clause-cause : goal.returns-in-Err-recover-clause-cause
+returns-in-Err-recover-clause-cause g c =
+    let now = g.D.Disk.faults c.recover.new.disk in
+    subst (λ (before : ℕ). IsTold before now (device_told_by c.unclean.result)) c.in_default.ensures.cause.passed
+    (c.unclean.ensures.cause (g.D.Disk.faults c.barrier.new.self) now c.in-Err-recover.ensures.cause)

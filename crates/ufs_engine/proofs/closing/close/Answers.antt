@@ -1,0 +1,85 @@
+use Rattle.std.proofs.Common.{◌≡◌, ◌∙◌, ℕ, Err, ap, sym, subst}
+use Rattle.std.proofs.lemmas.Result.{on_ok_weaker}
+use Rattle.ufs_engine.specs.Closes.{closing_fault}
+use Rattle.ufs_engine.specs.declared.closing.CloseFault.{CloseFault}
+use Rattle.ufs_model.specs.declared.data.Excuse.{Excuse}
+use Rattle.ufs_model.specs.declared.data.Excuse.TheVariants as excuse
+use Rattle.ufs_engine.specs.declared.closing.CloseFault.TheVariants as cause
+use Rattle.ufs_store.specs.Refusals.{IsTold}
+use Rattle.ufs_engine.proofs.Ended.{ended_clean, ended_explained, ended_last, ended_proper, stays_explained, stays_proper, tells_none, told_alike, told_behind}
+use Rattle.ufs_engine.proofs.closing.close.Goals as goal
+
+-- ---- it isn't made clean
+
+pub returns-in-Err-clause-crash : goal.returns-in-Err-clause-crash
+returns-in-Err-clause-crash g c told start history on_disk =
+    stays_explained c.geometry-geometry.result (g.D.Disk.size c.args.store.disk) _ start history _ (c.in-Err.ensures.err told start history on_disk) (c.sync_all.ensures.geometry ∙ sym c.geometry-geometry.ensures.is) c.sync_all.ensures.sectors
+    (g.D.Disk.moments c.into_disk.result) c.into_disk.ensures.moments c.on_disk_law.ensures.explained
+
+pub returns-in-Err-clause-proper : goal.returns-in-Err-clause-proper
+returns-in-Err-clause-proper g c told start history on_disk =
+    stays_proper c.geometry-geometry.result (g.D.Disk.size c.args.store.disk) _ start history _ (c.in-Err.ensures.err told start history on_disk) (c.sync_all.ensures.geometry ∙ sym c.geometry-geometry.ensures.is) c.sync_all.ensures.sectors
+    (g.D.Disk.moments c.into_disk.result) c.into_disk.ensures.moments c.on_disk_law.ensures.proper
+
+pub returns-in-Err-clause-size : goal.returns-in-Err-clause-size
+returns-in-Err-clause-size g c = c.into_disk.ensures.size ∙ c.sync_all.ensures.sectors
+
+pub returns-in-Err-clause-cause : goal.returns-in-Err-clause-cause
+returns-in-Err-clause-cause g c =
+    told_behind (g.D.Disk.faults c.args.store.disk) (g.D.Disk.faults c.into_disk.result) c.in-Err.excuse c.fault_of.result c.into_disk.ensures.faults c.fault_of.ensures.device c.in-Err.ensures.cause
+
+pub returns-in-Err-clause-stopped : goal.returns-in-Err-clause-stopped
+returns-in-Err-clause-stopped g c fault =
+    let alike = told_alike c.fault_of.result c.in-Err.excuse c.fault_of.ensures.stopped fault in (
+      λ e. let same : c.fault_of.result ≡ cause.Stopped fault = cc in c.in-Err.ensures.stopped fault (ap (λ (x : Excuse). Err x) (alike.0 same)),
+      λ e. let refused = c.in-Err.ensures.refused fault e in let same : c.in-Err.excuse ≡ excuse.Stopped fault = cc in ap (λ (x : CloseFault). Err x) (alike.1 same),
+    )
+
+-- ---- behind a recovery
+
+pub returns-clause-crash : goal.returns-clause-crash
+returns-clause-crash g c told start history on_disk =
+    ended_explained c.geometry-geometry.result c.on_disk_law.ensures.explained c.on_disk_law.ensures.proper c.last_law.ensures (g.D.Disk.size c.args.store.disk) _ start history _
+    (c.sync_all.ensures.geometry ∙ sym c.geometry-geometry.ensures.is) c.sync_all.ensures.sectors
+    (c.in_default.ensures.ok told start history on_disk) (g.D.Disk.moments c.into_disk-disk.result) (g.D.Disk.moments c.clean-ended.new.disk) c.into_disk-disk.ensures.moments
+    (g.D.Disk.size c.into_disk-disk.result) c.into_disk-disk.ensures.size (c.clean-ended.ensures.tree told)
+
+pub returns-clause-proper : goal.returns-clause-proper
+returns-clause-proper g c told start history on_disk =
+    ended_proper c.geometry-geometry.result c.on_disk_law.ensures.explained c.on_disk_law.ensures.proper c.last_law.ensures (g.D.Disk.size c.args.store.disk) _ start history _
+    (c.sync_all.ensures.geometry ∙ sym c.geometry-geometry.ensures.is) c.sync_all.ensures.sectors
+    (c.in_default.ensures.ok told start history on_disk) (g.D.Disk.moments c.into_disk-disk.result) (g.D.Disk.moments c.clean-ended.new.disk) c.into_disk-disk.ensures.moments
+    (g.D.Disk.size c.into_disk-disk.result) c.into_disk-disk.ensures.size (c.clean-ended.ensures.tree told)
+
+pub returns-clause-clean : goal.returns-clause-clean
+returns-clause-clean g c told =
+    on_ok_weaker c.clean-ended.result
+    (λ clean start history on_disk.
+    ended_clean c.geometry-geometry.result c.on_disk_law.ensures.explained c.on_disk_law.ensures.proper c.last_law.ensures (g.D.Disk.size c.args.store.disk) _ start history _
+    (c.sync_all.ensures.geometry ∙ sym c.geometry-geometry.ensures.is) c.sync_all.ensures.sectors
+    (c.in_default.ensures.ok told start history on_disk) (g.D.Disk.moments c.into_disk-disk.result) (g.D.Disk.moments c.clean-ended.new.disk) c.into_disk-disk.ensures.moments
+    (g.D.Disk.size c.into_disk-disk.result) c.into_disk-disk.ensures.size (c.clean-ended.ensures.tree told) clean)
+    (c.clean-ended.ensures.clean told)
+
+pub returns-clause-last : goal.returns-clause-last
+returns-clause-last g c told =
+    on_ok_weaker c.clean-ended.result
+    (λ _ start history on_disk.
+    ended_last c.geometry-geometry.result c.on_disk_law.ensures.explained c.on_disk_law.ensures.proper c.last_law.ensures (g.D.Disk.size c.args.store.disk) _ start history _
+    (c.sync_all.ensures.geometry ∙ sym c.geometry-geometry.ensures.is) c.sync_all.ensures.sectors
+    (c.in_default.ensures.ok told start history on_disk) (g.D.Disk.moments c.into_disk-disk.result) (g.D.Disk.moments c.clean-ended.new.disk) c.into_disk-disk.ensures.moments
+    (g.D.Disk.size c.into_disk-disk.result) c.into_disk-disk.ensures.size (c.clean-ended.ensures.tree told))
+    (c.clean-ended.ensures.clean told)
+
+pub returns-clause-size : goal.returns-clause-size
+returns-clause-size g c = c.clean-ended.ensures.size ∙ c.into_disk-disk.ensures.size ∙ c.sync_all.ensures.sectors
+
+pub returns-clause-cause : goal.returns-clause-cause
+returns-clause-cause g c =
+    subst (λ (before : ℕ). IsTold before (g.D.Disk.faults c.clean-ended.new.disk) (closing_fault c.clean-ended.result)) (c.into_disk-disk.ensures.faults ∙ c.in_default.ensures.cause) c.clean-ended.ensures.cause
+
+pub returns-clause-stopped : goal.returns-clause-stopped
+returns-clause-stopped g c fault = (
+  λ e. absurd (tells_none c.clean-ended.result fault c.clean-ended.ensures.going e),
+  λ e. let refused = c.in_default.ensures.refused fault e in cc,
+)

@@ -1,0 +1,157 @@
+// A session begins.
+ghost use Rattle.std.specs.Prelude.{ℕ, ◌≡◌, [], None, Ok, Err, IsTrue, IfOk, IfErr, OnOk};
+ghost use Rattle.ufs_engine.specs.Begins.{BeginsWith, TellsNoSession};
+ghost use Rattle.ufs_disk.specs.Disk.{Leaves};
+ghost use Rattle.ufs_disk.specs.Moments.{reads};
+ghost use Rattle.ufs_catalog.specs.Faults.{HasFaultCause, IsOutside};
+ghost use Rattle.ufs_catalog.specs.declared.fault.RecoverFault.{RecoverFault};
+ghost use Rattle.ufs_image.specs.Opens.{ImageTree, opens};
+ghost use Rattle.ufs_image.specs.Proper.{IsProperImage};
+ghost use Rattle.ufs_image.specs.Volume.{Refusal};
+ghost use Rattle.ufs_ledger.specs.Kept.{OpensExplained};
+ghost use Rattle.ufs_model.specs.PosixTree.{PosixTree};
+ghost use Rattle.ufs_opening.specs.Told.{TellsWhy};
+ghost use Rattle.ufs_recovery.specs.Recovered.{IsCleanDisk, IsProperDisk};
+ghost use Rattle.ufs_session.specs.Played.{MayBegin};
+ghost use Rattle.ufs_base.specs.Images.{Image};
+ghost use Rattle.ufs_start.specs.Begun.{IsBegun};
+ghost use Rattle.ufs_start.specs.Refused.{HasStartCause};
+ghost use Rattle.ufs_start.specs.declared.fault.StartFault.TheVariants as start;
+ghost use Rattle.ufs_store.specs.Refusals.{IsTold};
+ghost use Rattle.ufs_store.specs.Refusals as refusals;
+ghost use Rattle.ufs_store.specs.State.{geometry_of_store};
+ghost use Rattle.ufs_stored.specs.OnDisk.{IsOnDisk};
+ghost use Rattle.ufs_stored.specs.Sound.{IsSoundServer};
+
+use crate::laws::{beginning_law, mounted_law};
+use std::alloc::Global;
+use ufs_catalog::RecoverFault;
+use ufs_disk::Disk;
+use ufs_model::a_request_keeps_the_tree;
+use ufs_recovery::recover;
+use ufs_server::DiskServer;
+use ufs_start::{Start, StartFault, start_of};
+use ufs_store::{Door, Store, StoreFault};
+
+/// A server whose tree is on a disk, and the store that has the disk.
+#[derive(Drop)]
+pub struct Begun<D: Disk> {
+    pub server: DiskServer,
+    pub store: Store<D>,
+}
+
+/// No session begins: the disk, and why.
+#[derive(Drop)]
+pub struct Unbegun<D: Disk> {
+    pub disk: D,
+    pub fault: StartFault,
+}
+
+/// Begins a session on a disk: recovers its image where that is in use, reads what a server begins with, and marks the
+/// image in use. Nothing is served yet, so whatever a crash leaves stands for the tree that the disk stood for.
+pub fn begin<D: Disk>(alloc: Global, mut disk: D) -> Result<Begun<D>, Unbegun<D>>
+    // over any disk
+    ensures may { IfOk result (λ b. (start : PosixTree) × MayBegin b.server start) }
+    ensures sound { IfOk result (λ b. IsSoundServer (geometry_of_store (⟦<Store<D> as Door>⟧.store b.store)) (⟦<Store<D> as Door>⟧.store b.store).unassigned.free b.server) }
+    ensures going { IfOk result (λ b. (⟦<Store<D> as Door>⟧.store b.store).stop ≡ None) }
+    ensures size { IfOk result (λ b. (⟦<Store<D> as Door>⟧.store b.store).sectors ≡ D.size disk) }
+    ensures passed { IfOk result (λ b. (⟦<Store<D> as Door>⟧.store b.store).faults ≡ D.faults disk) }
+    ensures stands { IsTrue D.tells → OnOk result ((tree : ImageTree) × (opens (D.size disk) (reads (D.moments disk)) ≡ Ok tree)) }
+    ensures unopened { IsTrue D.tells → (refusal : Refusal) → opens (D.size disk) (reads (D.moments disk)) ≡ Err refusal
+        → IfErr result (λ u. (fault : RecoverFault) × (u.fault ≡ start.Image fault) × TellsWhy (D.size disk) (reads (D.moments disk)) fault) }
+    ensures err_size { IfErr result (λ u. D.size u.disk ≡ D.size disk) }
+    ensures cause { IfErr result (λ u. HasStartCause (D.faults disk) (D.faults u.disk) u.fault) }
+    // over a disk that tells what it holds and is proper
+    ensures opened { IsTrue D.tells → IsProperDisk (D.size disk) (D.moments disk).state → (start : PosixTree) × BeginsWith (D.size disk) (reads (D.moments disk)) start }
+    ensures parts { IsTrue D.tells → IsProperDisk (D.size disk) (D.moments disk).state → (start : PosixTree) → BeginsWith (D.size disk) (reads (D.moments disk)) start
+        → IfOk result (λ b. MayBegin b.server start) }
+    ensures on_disk { IsTrue D.tells → IsProperDisk (D.size disk) (D.moments disk).state → (start : PosixTree) → BeginsWith (D.size disk) (reads (D.moments disk)) start
+        → IfOk result (λ b. IsOnDisk (⟦<Store<D> as Door>⟧.store b.store) start [] b.server) }
+    ensures crash { IsTrue D.tells → IsProperDisk (D.size disk) (D.moments disk).state → (start : PosixTree) → BeginsWith (D.size disk) (reads (D.moments disk)) start
+        → IfErr result (λ u. Leaves (OpensExplained (D.size disk) start []) (D.moments u.disk).state) }
+    ensures proper { IsTrue D.tells → IsProperDisk (D.size disk) (D.moments disk).state → IfErr result (λ u. Leaves (IsProperImage (D.size disk)) (D.moments u.disk).state) }
+    ensures refused { IsTrue D.tells → IsProperDisk (D.size disk) (D.moments disk).state → IfErr result (λ u. TellsNoSession (D.size disk) (reads (D.moments disk)) u.fault) }
+{
+    a_request_keeps_the_tree();
+    match recover(alloc, &mut disk) {
+        Ok(_transactions) => begin_clean(alloc, disk),
+        Err(fault) => Err(Unbegun {
+            disk,
+            fault: StartFault::Image(fault),
+        }),
+    }
+}
+
+// The same of a disk whose image is clean, or which tells nothing.
+fn begin_clean<D: Disk>(alloc: Global, mut disk: D) -> Result<Begun<D>, Unbegun<D>>
+    ensures may { IfOk result (λ b. (start : PosixTree) × MayBegin b.server start) }
+    ensures sound { IfOk result (λ b. IsSoundServer (geometry_of_store (⟦<Store<D> as Door>⟧.store b.store)) (⟦<Store<D> as Door>⟧.store b.store).unassigned.free b.server) }
+    ensures going { IfOk result (λ b. (⟦<Store<D> as Door>⟧.store b.store).stop ≡ None) }
+    ensures size { IfOk result (λ b. (⟦<Store<D> as Door>⟧.store b.store).sectors ≡ D.size disk) }
+    ensures passed { IfOk result (λ b. (⟦<Store<D> as Door>⟧.store b.store).faults ≡ D.faults disk) }
+    ensures err_size { IfErr result (λ u. D.size u.disk ≡ D.size disk) }
+    ensures cause { IfErr result (λ u. HasStartCause (D.faults disk) (D.faults u.disk) u.fault) }
+    ensures parts { IsTrue D.tells → (start : PosixTree) → BeginsWith (D.size disk) (reads (D.moments disk)) start → IfOk result (λ b. MayBegin b.server start) }
+    ensures on_disk { IsTrue D.tells → IsCleanDisk (D.size disk) (D.moments disk).state → (start : PosixTree) → BeginsWith (D.size disk) (reads (D.moments disk)) start
+        → IfOk result (λ b. IsOnDisk (⟦<Store<D> as Door>⟧.store b.store) start [] b.server) }
+    ensures crash { IsTrue D.tells → IsCleanDisk (D.size disk) (D.moments disk).state → (start : PosixTree) → BeginsWith (D.size disk) (reads (D.moments disk)) start
+        → IfErr result (λ u. Leaves (OpensExplained (D.size disk) start []) (D.moments u.disk).state) }
+    ensures proper { IsTrue D.tells → IsCleanDisk (D.size disk) (D.moments disk).state → IfErr result (λ u. Leaves (IsProperImage (D.size disk)) (D.moments u.disk).state) }
+    ensures refused { IsTrue D.tells → IfErr result (λ u. TellsNoSession (D.size disk) (reads (D.moments disk)) u.fault) }
+{
+    a_request_keeps_the_tree();
+    match start_of(alloc, &mut disk) {
+        Ok(start) => mount(alloc, disk, start),
+        Err(fault) => Err(Unbegun { disk, fault }),
+    }
+}
+
+// Mounts the disk, of which this was read, and makes its server.
+fn mount<D: Disk>(alloc: Global, disk: D, parts: Start) -> Result<Begun<D>, Unbegun<D>>
+    requires begun { (image : Image) × IsBegun (D.size disk) image parts }
+    ensures may { (image : Image) (start : PosixTree) → IsBegun (D.size disk) image parts → BeginsWith (D.size disk) image start → IfOk result (λ b. MayBegin b.server start) }
+    ensures sound { IfOk result (λ b. IsSoundServer (geometry_of_store (⟦<Store<D> as Door>⟧.store b.store)) (⟦<Store<D> as Door>⟧.store b.store).unassigned.free b.server) }
+    ensures going { IfOk result (λ b. (⟦<Store<D> as Door>⟧.store b.store).stop ≡ None) }
+    ensures size { IfOk result (λ b. (⟦<Store<D> as Door>⟧.store b.store).sectors ≡ D.size disk) }
+    ensures passed { IfOk result (λ b. (⟦<Store<D> as Door>⟧.store b.store).faults ≡ D.faults disk) }
+    ensures err_size { IfErr result (λ u. D.size u.disk ≡ D.size disk) }
+    ensures cause { IfErr result (λ u. HasStartCause (D.faults disk) (D.faults u.disk) u.fault) }
+    ensures outside { IfErr result (λ u. (fault : RecoverFault) × (u.fault ≡ start.Image fault) × IsOutside fault) }
+    ensures on_disk { IsTrue D.tells → IsCleanDisk (D.size disk) (D.moments disk).state → IsBegun (D.size disk) (reads (D.moments disk)) parts
+        → (start : PosixTree) → BeginsWith (D.size disk) (reads (D.moments disk)) start → IfOk result (λ b. IsOnDisk (⟦<Store<D> as Door>⟧.store b.store) start [] b.server) }
+    ensures crash { IsTrue D.tells → IsCleanDisk (D.size disk) (D.moments disk).state → IsBegun (D.size disk) (reads (D.moments disk)) parts
+        → (start : PosixTree) → BeginsWith (D.size disk) (reads (D.moments disk)) start → IfErr result (λ u. Leaves (OpensExplained (D.size disk) start []) (D.moments u.disk).state) }
+    ensures proper { IsTrue D.tells → IsCleanDisk (D.size disk) (D.moments disk).state → IsBegun (D.size disk) (reads (D.moments disk)) parts
+        → IfErr result (λ u. Leaves (IsProperImage (D.size disk)) (D.moments u.disk).state) }
+{
+    let head = parts.head.head;
+    a_request_keeps_the_tree();
+    beginning_law();
+    mounted_law(&parts.head.geometry);
+    let Ok(server) = DiskServer::begin(alloc, parts.names, parts.files) else {
+        return Err(Unbegun {
+            disk,
+            fault: StartFault::Image(RecoverFault::Memory),
+        });
+    };
+    match Store::mount(alloc, disk, head, parts.free) {
+        Ok(store) => Ok(Begun { server, store }),
+        Err(unmounted) => Err(Unbegun {
+            disk: unmounted.disk,
+            fault: StartFault::Image(fault_of(unmounted.fault)),
+        }),
+    }
+}
+
+// A refusal of a mount, as one of an image.
+fn fault_of(fault: StoreFault) -> RecoverFault
+    ensures cause { (before now : ℕ) → IsTold before now (refusals.fault_of fault) → HasFaultCause before now result }
+    ensures outside { IsOutside result }
+{
+    match fault {
+        StoreFault::Device { fault } => RecoverFault::Device { fault },
+        StoreFault::Stopped { .. } | StoreFault::NoSpace { .. } | StoreFault::Memory => {
+            RecoverFault::Memory
+        }
+    }
+}

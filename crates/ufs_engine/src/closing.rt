@@ -1,0 +1,122 @@
+// A session ends.
+ghost use Rattle.std.specs.Prelude.{ℕ, ◌≡◌, ◌↔◌, List, Some, None, Err, IsTrue, IfErr, OnOk};
+ghost use Rattle.ufs_catalog.specs.Faults.{HasFaultCause};
+ghost use Rattle.ufs_engine.specs.Closes.{OpensAsLeft, closing_fault, device_told_by, stopped_at};
+ghost use Rattle.ufs_engine.specs.declared.closing.CloseFault.TheVariants as cause;
+ghost use Rattle.ufs_disk.specs.Disk.{Leaves};
+ghost use Rattle.ufs_disk.specs.Moments.{reads};
+ghost use Rattle.ufs_image.specs.Proper.{IsProperImage};
+ghost use Rattle.ufs_last.specs.Last.{StandsForTree};
+ghost use Rattle.ufs_ledger.specs.Kept.{OpensExplained};
+ghost use Rattle.ufs_model.specs.History.{tree_after};
+ghost use Rattle.ufs_model.specs.PosixTree.{PosixTree};
+ghost use Rattle.ufs_model.specs.declared.data.Entry.{Entry};
+ghost use Rattle.ufs_recovery.specs.Recovered.{IsCleanDisk};
+ghost use Rattle.ufs_server.specs.Answered.{device_of, stopped_of};
+ghost use Rattle.ufs_store.specs.Refusals.{IsTold};
+ghost use Rattle.ufs_store.specs.State.{geometry_of_store};
+ghost use Rattle.ufs_stored.specs.OnDisk.{IsOnDisk};
+ghost use Rattle.ufs_stored.specs.Sound.{IsSoundServer};
+
+use std::alloc::Global;
+use ufs_catalog::RecoverFault;
+use ufs_disk::Disk;
+use ufs_last::last_law;
+use ufs_model::Excuse;
+use ufs_recovery::recover;
+use ufs_server::DiskServer;
+use ufs_store::{Door, Store};
+use ufs_stored::on_disk_law;
+
+/// Why an image isn't made clean at a session's end. It is left in use.
+#[derive(Clone, Copy, Debug, PartialEq, Eq)]
+pub enum CloseFault {
+    /// A call of the disk failed in the closing; the disk's count of faults after it.
+    Device { fault: u64 },
+    /// The store had stopped at this fault before.
+    Stopped { fault: u64 },
+    /// No memory.
+    Memory,
+}
+
+/// A disk behind a session, and how the closing ended.
+#[derive(Drop)]
+pub struct Closed<D: Disk> {
+    pub disk: D,
+    pub ended: Result<(), CloseFault>,
+}
+
+/// Ends a session: commits everything, and then makes the image clean by a recovery, which frees what no path names and
+/// writes the bitmap of what the inodes have. Where the store has stopped, no call of the disk is made. Whatever ends
+/// it, what a crash leaves is explained by the history, and proper.
+pub fn close<D: Disk>(alloc: Global, server: DiskServer, store: Store<D>) -> Closed<D>
+    requires sound { IsSoundServer (geometry_of_store (⟦<Store<D> as Door>⟧.store store)) (⟦<Store<D> as Door>⟧.store store).unassigned.free server }
+    ensures crash { IsTrue D.tells → (start : PosixTree) (history : List Entry) → IsOnDisk (⟦<Store<D> as Door>⟧.store store) start history server
+        → Leaves (OpensExplained (⟦<Store<D> as Door>⟧.store store).sectors start history) (D.moments result.disk).state }
+    ensures proper { IsTrue D.tells → (start : PosixTree) (history : List Entry) → IsOnDisk (⟦<Store<D> as Door>⟧.store store) start history server
+        → Leaves (IsProperImage (⟦<Store<D> as Door>⟧.store store).sectors) (D.moments result.disk).state }
+    ensures clean { IsTrue D.tells → OnOk result.ended ((start : PosixTree) (history : List Entry) → IsOnDisk (⟦<Store<D> as Door>⟧.store store) start history server
+        → IsCleanDisk (⟦<Store<D> as Door>⟧.store store).sectors (D.moments result.disk).state) }
+    ensures last { IsTrue D.tells → OnOk result.ended ((start : PosixTree) (history : List Entry) → IsOnDisk (⟦<Store<D> as Door>⟧.store store) start history server
+        → StandsForTree (⟦<Store<D> as Door>⟧.store store).sectors (tree_after start history) (reads (D.moments result.disk))) }
+    ensures size { D.size result.disk ≡ (⟦<Store<D> as Door>⟧.store store).sectors }
+    ensures cause { IsTold (⟦<Store<D> as Door>⟧.store store).faults (D.faults result.disk) (closing_fault result.ended) }
+    ensures stopped { (fault : ℕ) → (result.ended ≡ Err (cause.Stopped fault)) ↔ ((⟦<Store<D> as Door>⟧.store store).stop ≡ Some fault) }
+{
+    let geometry = store.geometry();
+    on_disk_law(&geometry);
+    last_law(&geometry);
+    let mut server = server;
+    let mut store = store;
+    if let Err(excuse) = server.sync_all(&mut store) {
+        return Closed {
+            disk: store.into_disk(),
+            ended: Err(fault_of(excuse)),
+        };
+    }
+    let mut disk = store.into_disk();
+    let ended = clean(alloc, &mut disk);
+    Closed { disk, ended }
+}
+
+/// Waits for what was written, and makes the image clean.
+fn clean<D: Disk>(alloc: Global, disk: &mut D) -> Result<(), CloseFault>
+    ensures tree { IsTrue D.tells → Leaves (IsProperImage (D.size disk.old)) (D.moments disk.old).state → Leaves (OpensAsLeft (D.size disk.old) (D.moments disk.old).state) (D.moments disk.new).state }
+    ensures clean { IsTrue D.tells → OnOk result (Leaves (IsProperImage (D.size disk.old)) (D.moments disk.old).state → IsCleanDisk (D.size disk.old) (D.moments disk.new).state) }
+    ensures size { D.size disk.new ≡ D.size disk.old }
+    ensures cause { IsTold (D.faults disk.old) (D.faults disk.new) (closing_fault result) }
+    ensures going { IfErr result (λ fault. stopped_at fault ≡ None) }
+{
+    if let Err(fault) = disk.barrier() {
+        return Err(CloseFault::Device {
+            fault: fault.number,
+        });
+    }
+    match recover(alloc, disk) {
+        Ok(_) => Ok(()),
+        Err(fault) => Err(unclean(fault)),
+    }
+}
+
+/// Why the image isn't clean.
+fn unclean(fault: RecoverFault) -> CloseFault
+    ensures cause { (before now : ℕ) → HasFaultCause before now fault → IsTold before now (device_told_by result) }
+    ensures going { stopped_at result ≡ None }
+{
+    match fault {
+        RecoverFault::Device { fault } => CloseFault::Device { fault },
+        _ => CloseFault::Memory,
+    }
+}
+
+/// Why everything isn't committed.
+fn fault_of(excuse: Excuse) -> CloseFault
+    ensures device { device_told_by result ≡ device_of excuse }
+    ensures stopped { stopped_at result ≡ stopped_of excuse }
+{
+    match excuse {
+        Excuse::Device { fault } => CloseFault::Device { fault },
+        Excuse::Stopped { fault } => CloseFault::Stopped { fault },
+        _ => CloseFault::Memory,
+    }
+}

@@ -1,0 +1,158 @@
+-- How a session that was played ends, and what it leaves.
+use Rattle.std.proofs.Common.{◌≡◌, ◌⊎◌, inl, inr, ℕ, List, [], length, Result, Ok, Err, ap, sym, subst, refl, ◌∙◌}
+use Rattle.std.specs.Prelude.{IsTrue}
+use Rattle.ufs_engine.specs.Begins.{BeginsWith, TellsNoSession}
+use Rattle.ufs_catalog.specs.Faults.{IsWhyNot}
+use Rattle.ufs_catalog.specs.declared.fault.RecoverFault.{RecoverFault}
+use Rattle.ufs_catalog.specs.declared.fault.RecoverFault.TheVariants as recover
+use Rattle.ufs_image.specs.Opens.{opens}
+use Rattle.ufs_image.specs.Volume.{Refusal}
+use Rattle.ufs_image.specs.Volume as image
+use Rattle.ufs_model.specs.History.{joined}
+use Rattle.ufs_model.specs.PosixTree.{PosixTree}
+use Rattle.ufs_model.specs.declared.data.Entry.{Entry}
+use Rattle.ufs_opening.specs.Told.{TellsWhy}
+use Rattle.ufs_engine.specs.Plays.{ArePlayedFrom, IsEndFault, MayPlay, served_end}
+use Rattle.ufs_engine.specs.declared.playing.PlayFault.{PlayFault}
+use Rattle.ufs_engine.specs.declared.playing.PlayFault.TheVariants as ended
+use Rattle.ufs_script.specs.Output.{lines_of}
+use Rattle.ufs_script.specs.declared.script.Script.{Script}
+use Rattle.ufs_start.specs.Refused.{HasStartCause}
+use Rattle.ufs_start.specs.declared.fault.StartFault.{StartFault}
+use Rattle.ufs_start.specs.declared.fault.StartFault.TheVariants as start
+use Rattle.ufs_quiet.specs.declared.ending.Ending.{Ending}
+use Rattle.ufs_quiet.specs.declared.ending.Ending.TheVariants.{Done, Usage, BadGeometry, NotBuilt, BadScript, TooSmall, NoTree, DeviceFault, OutOfMemory, SourceFault, Damaged}
+use Rattle.ufs_quiet.specs.Seen.{Formatting}
+use Rattle.ufs_quiet.specs.Served.{IsCutSessionOf, IsSessionOf}
+use Rattle.ufs_quiet.specs.Texts.{device_line}
+use Rattle.ufs_quiet.specs.TreeLines.{refusal_line}
+use Rattle.ufs_quiet.specs.Endings.{EndsBehind, EndsPlayed, EndsPrinting, EndsServing, TellsNoStart, ending_of, line_of, start_ending, start_line}
+use Rattle.ufs_quiet.proofs.PrintLemmas.{output_is}
+
+-- what is known of a session that was played, and of the disk's counts
+pub record HasPlayed (d : Formatting) (script : Script) (told : List (List Entry)) (result : Result (Unit {0}) PlayFault) : Type 0 where
+  pub legal : (begun : PosixTree) × ArePlayedFrom begun script.clients told result
+  pub refused : (fault : StartFault) → result ≡ Err (ended.Image fault) → told ≡ []
+  pub opening : (fault : StartFault) → result ≡ Err (ended.Image fault) → HasStartCause d.before d.now fault
+  pub closing : IsEndFault d.before d.now (joined told) result
+  pub played : MayPlay d.tells d.sectors d.state → (begun : PosixTree) → BeginsWith d.sectors d.image begun → ArePlayedFrom begun script.clients told result
+  pub opened : MayPlay d.tells d.sectors d.state → (begun : PosixTree) × BeginsWith d.sectors d.image begun
+  pub why : MayPlay d.tells d.sectors d.state → (fault : StartFault) → result ≡ Err (ended.Image fault) → TellsNoSession d.sectors d.image fault
+  pub unopened : IsTrue d.tells → (refusal : Refusal) → opens d.sectors d.image ≡ Err refusal
+      → (result ≡ Err ended.Memory) ⊎ ((fault : RecoverFault) × (result ≡ Err (ended.Image (start.Image fault))) × TellsWhy d.sectors d.image fault)
+
+same_line : {X : Type 0} (given : Result X Refusal) (a b : Refusal) → given ≡ Err a → given ≡ Err b → refusal_line a ≡ refusal_line b
+same_line given a b is was = let both : Err a ≡ Err b = sym is ∙ was in let same : a ≡ b = cc in ap refusal_line same
+
+-- the cause for which an image stands for no tree is told
+told_why : {X : Type 0} (given : Result X Refusal) (f : RecoverFault) → IsWhyNot given f → (refusal : Refusal) → given ≡ Err refusal → ending_of f ≡ NoTree → line_of f ≡ refusal_line refusal
+told_why given recover.NoSuperblock why refusal is none = same_line given image.NoSuperblock refusal why is
+told_why given (recover.BadVersion found) why refusal is none = same_line given (image.BadVersion found) refusal why is
+told_why given (recover.BadGeometry number) why refusal is none = same_line given (image.BadGeometry number) refusal why is
+told_why given (recover.BadRecord sector) why refusal is none = same_line given (image.BadRecord sector) refusal why is
+told_why given (recover.BadTree inode) why refusal is none = same_line given (image.BadTree inode) refusal why is
+told_why given (recover.Device fault) why refusal is none = cc
+told_why given recover.Memory why refusal is none = cc
+
+-- ---- how it ends
+
+module _ (d : Formatting) (script : Script) (told : List (List Entry)) where
+  cut_session : (result : Result (Unit {0}) PlayFault) → HasPlayed d script told result → IsCutSessionOf d script told
+  cut_session result h = record {
+    any = let p = h.legal in (p.0, record { legal = p.1.legal; ordered = p.1.ordered });
+    opened = h.opened;
+    begun = λ may begun with. let p = h.played may begun with in record { legal = p.legal; ordered = p.ordered };
+  }
+
+  session : (result : Result (Unit {0}) PlayFault) → served_end result ≡ Ok tt → HasPlayed d script told result → IsSessionOf d script told
+  session result well h = record {
+    history_is = record {
+      any = let p = h.legal in (p.0, record { legal = p.1.legal; ordered = p.1.ordered; complete = p.1.complete well });
+      opened = h.opened;
+      begun = λ may begun with. let p = h.played may begun with in record { legal = p.legal; ordered = p.ordered; complete = p.complete well };
+    };
+    lines = let p = h.legal.1 in output_is told (joined told) (length script.clients) p.merged (p.each well);
+  }
+
+  -- none began
+  abbrev Cause : StartFault → Type 0
+  Cause fault = IsTrue d.tells → (refusal : Refusal) → opens d.sectors d.image ≡ Err refusal → (f : RecoverFault) × (start.Image f ≡ fault) × TellsWhy d.sectors d.image f
+
+  abbrev Why : StartFault → Type 0
+  Why fault = MayPlay d.tells d.sectors d.state → TellsNoSession d.sectors d.image fault
+
+  no_start : (fault : StartFault) → start_ending fault ≡ NoTree → Why fault → Cause fault → TellsNoStart d (start_line fault)
+  no_start fault is why cause = record {
+    fault = fault;
+    ending_is = is;
+    text_is = refl;
+    why = why;
+    refused = λ tells refusal none.
+        let x = cause tells refusal none in
+        ap start_line (sym x.1) ∙ told_why (opens d.sectors d.image) x.0 x.2 refusal none (ap start_ending x.1 ∙ is);
+  }
+
+  unbegun : (fault : StartFault) → told ≡ [] → HasStartCause d.before d.now fault → Why fault → Cause fault → IsCutSessionOf d script told → EndsServing d script told (start_ending fault) (start_line fault)
+  unbegun (start.Image recover.NoSuperblock) none count why cause cut = (none, count, no_start (start.Image recover.NoSuperblock) refl why cause)
+  unbegun (start.Image (recover.BadVersion found)) none count why cause cut = (none, count, no_start (start.Image (recover.BadVersion found)) refl why cause)
+  unbegun (start.Image (recover.BadGeometry number)) none count why cause cut = (none, count, no_start (start.Image (recover.BadGeometry number)) refl why cause)
+  unbegun (start.Image (recover.BadRecord sector)) none count why cause cut = (none, count, no_start (start.Image (recover.BadRecord sector)) refl why cause)
+  unbegun (start.Image (recover.BadTree inode)) none count why cause cut = (none, count, no_start (start.Image (recover.BadTree inode)) refl why cause)
+  unbegun (start.Image (recover.Device fault)) none count why cause cut = inl (none, count.rose, ap device_line count.number)
+  unbegun (start.Image recover.Memory) none count why cause cut = inl (cut, refl)
+  unbegun (start.Unreached inode) none count why cause cut = (none, count, no_start (start.Unreached inode) refl why cause)
+  unbegun (start.Unnamed inode) none count why cause cut = (none, count, no_start (start.Unnamed inode) refl why cause)
+  unbegun (start.ExtraBlocks inode) none count why cause cut = (none, count, no_start (start.ExtraBlocks inode) refl why cause)
+  unbegun (start.TooLong inode) none count why cause cut = (none, count, no_start (start.TooLong inode) refl why cause)
+
+  cause_of : (fault : StartFault) → HasPlayed d script told (Err (ended.Image fault)) → Cause fault
+  cause_of fault h tells refusal none = elim (h.unopened tells refusal none) [ inl memory ↦ absurd cc | inr x ↦ (x.0, cc, x.2) ]
+
+  -- each request was answered
+  well_ended : HasPlayed d script told (Ok tt) → (ending : Ending) (text : List ℕ) → EndsPrinting (lines_of (joined told)) ending text → EndsServing d script told ending text
+  well_ended h Done text e = (session (Ok tt) refl h, h.closing, e)
+  well_ended h Usage text e = absurd e
+  well_ended h (BadGeometry bad) text e = absurd e
+  well_ended h NotBuilt text e = absurd e
+  well_ended h BadScript text e = absurd e
+  well_ended h TooSmall text e = absurd e
+  well_ended h NoTree text e = absurd e
+  well_ended h DeviceFault text e = absurd e
+  well_ended h OutOfMemory text e = inr (session (Ok tt) refl h, e.0, e.1, e.2)
+  well_ended h SourceFault text e = absurd e
+  well_ended h Damaged text e = absurd e
+
+  device_ended : (fault : ℕ) → HasPlayed d script told (Err (ended.Device fault)) → (ending : Ending) (text : List ℕ) → EndsBehind (lines_of (joined told)) fault ending text → EndsServing d script told ending text
+  device_ended fault h Done text e = absurd e
+  device_ended fault h Usage text e = absurd e
+  device_ended fault h (BadGeometry bad) text e = absurd e
+  device_ended fault h NotBuilt text e = absurd e
+  device_ended fault h BadScript text e = absurd e
+  device_ended fault h TooSmall text e = absurd e
+  device_ended fault h NoTree text e = absurd e
+  device_ended fault h DeviceFault text e = inr (session (Err (ended.Device fault)) refl h, fault, inl h.closing, e)
+  device_ended fault h OutOfMemory text e = inr (session (Err (ended.Device fault)) refl h, e.0, e.1, e.2)
+  device_ended fault h SourceFault text e = absurd e
+  device_ended fault h Damaged text e = absurd e
+
+  stopped_ended : (fault : ℕ) → HasPlayed d script told (Err (ended.Stopped fault)) → (ending : Ending) (text : List ℕ) → EndsBehind (lines_of (joined told)) fault ending text → EndsServing d script told ending text
+  stopped_ended fault h Done text e = absurd e
+  stopped_ended fault h Usage text e = absurd e
+  stopped_ended fault h (BadGeometry bad) text e = absurd e
+  stopped_ended fault h NotBuilt text e = absurd e
+  stopped_ended fault h BadScript text e = absurd e
+  stopped_ended fault h TooSmall text e = absurd e
+  stopped_ended fault h NoTree text e = absurd e
+  stopped_ended fault h DeviceFault text e = inr (session (Err (ended.Stopped fault)) refl h, fault, inr h.closing, e)
+  stopped_ended fault h OutOfMemory text e = inr (session (Err (ended.Stopped fault)) refl h, e.0, e.1, e.2)
+  stopped_ended fault h SourceFault text e = absurd e
+  stopped_ended fault h Damaged text e = absurd e
+
+  pub played_ends : (result : Result (Unit {0}) PlayFault) → HasPlayed d script told result → (ending : Ending) (text : List ℕ) → EndsPlayed result (lines_of (joined told)) ending text → EndsServing d script told ending text
+  played_ends (Ok x) h ending text e = well_ended h ending text e
+  played_ends (Err (ended.Image fault)) h ending text e =
+      subst (λ (x : Ending). EndsServing d script told x text) (sym e.0)
+      (subst (EndsServing d script told (start_ending fault)) (sym e.1) (unbegun fault (h.refused fault refl) (h.opening fault refl) (λ may. h.why may fault refl) (cause_of fault h) (cut_session (Err (ended.Image fault)) h)))
+  played_ends (Err (ended.Device fault)) h ending text e = device_ended fault h ending text e
+  played_ends (Err (ended.Stopped fault)) h ending text e = stopped_ended fault h ending text e
+  played_ends (Err ended.Memory) h ending text e = subst (λ (x : Ending). EndsServing d script told x text) (sym e.0) (inl (cut_session (Err ended.Memory) h, e.1))

@@ -1,0 +1,126 @@
+// Serving a script over a disk's image.
+ghost use Rattle.std.specs.Prelude.{◌≡◌, ◌≢◌, []};
+ghost use Rattle.ufs_model.specs.History.{joined};
+ghost use Rattle.ufs_engine.specs.Plays.{AreFaultsOf};
+ghost use Rattle.ufs_script.specs.Output.{lines_of};
+ghost use Rattle.ufs_quiet.specs.Seen.{course, formatting, reading, writing};
+ghost use Rattle.ufs_quiet.specs.Endings.{EndsBehind, EndsPlay, EndsPlayed, EndsPrinting, EndsServing, IsAnswer, TellsFault};
+ghost use Rattle.ufs_quiet.specs.Left.{Plays};
+
+use crate::broken::tell_fault;
+use crate::ending::Ending;
+use crate::finish::{SINK_FAULT, finish};
+use crate::image::{tell_device, tell_start};
+use crate::laws::unserved_law;
+use crate::outcome::{Outcome, nothing_told};
+use crate::print::{PrintFault, print};
+use std::alloc::Global;
+use ufs_client::ToldLists;
+use ufs_disk::Disk;
+use ufs_engine::{PlayFault, play};
+use ufs_io::{Sink, Source};
+use ufs_script::{Script, ScriptFault, read_script};
+
+// Writes the lines of the clients' transcripts, and then ends.
+fn print_told<K: Sink>(alloc: Global, sink: &mut K, told: &ToldLists) -> u8
+    ensures { IsAnswer (EndsPrinting (lines_of (joined told.now))) (writing K.held K.faults sink.old sink.new) result }
+{
+    match print(alloc, sink, told.as_slice()) {
+        Ok(()) => Ending::Done.status(),
+        Err(PrintFault::Memory) => finish(sink, Ending::OutOfMemory),
+        Err(PrintFault::Sink) => SINK_FAULT,
+    }
+}
+
+// Writes them, and behind them the line of a fault of the disk.
+fn print_behind<K: Sink>(alloc: Global, sink: &mut K, told: &ToldLists, fault: u64) -> u8
+    ensures { IsAnswer (EndsBehind (lines_of (joined told.now)) fault) (writing K.held K.faults sink.old sink.new) result }
+{
+    match print(alloc, sink, told.as_slice()) {
+        Ok(()) => tell_device(sink, fault),
+        Err(PrintFault::Memory) => finish(sink, Ending::OutOfMemory),
+        Err(PrintFault::Sink) => SINK_FAULT,
+    }
+}
+
+// Writes what a session that ended so has told, or why none began.
+fn tell_played<K: Sink>(
+    alloc: Global,
+    sink: &mut K,
+    told: &ToldLists,
+    ended: Result<(), PlayFault>,
+) -> u8
+    ensures { IsAnswer (EndsPlayed ended (lines_of (joined told.now))) (writing K.held K.faults sink.old sink.new) result }
+{
+    match ended {
+        Ok(()) => print_told(alloc, sink, told),
+        Err(PlayFault::Image(fault)) => tell_start(sink, fault),
+        Err(PlayFault::Device { fault }) => print_behind(alloc, sink, told, fault),
+        Err(PlayFault::Stopped { fault }) => print_behind(alloc, sink, told, fault),
+        Err(PlayFault::Memory) => finish(sink, Ending::OutOfMemory),
+    }
+}
+
+// Serves a script over the disk's image, and writes its reply lines.
+fn serve_script<K: Sink, D: Disk>(
+    alloc: Global,
+    sink: &mut K,
+    script: Script,
+    disk: D,
+) -> Outcome<D>
+    ensures answer { IsAnswer (EndsServing (formatting D.tells D.size D.moments D.faults disk result.disk) script result.told) (writing K.held K.faults sink.old sink.new) result.status }
+    ensures faults { AreFaultsOf (D.faults disk) (joined result.told) }
+    ensures acts { Plays result.told result.status (course D.tells D.keeps D.size D.moments D.faults disk result.disk) }
+    ensures size { D.size result.disk ≡ D.size disk }
+    ensures disk_told { result.status ≢ 4 → result.status ≢ 7 → result.status ≢ 5 → D.faults result.disk ≡ D.faults disk }
+{
+    let played = play(alloc, script, 0, disk);
+    Outcome {
+        status: tell_played(alloc, sink, &played.told, played.ended),
+        told: played.told,
+        disk: played.disk,
+    }
+}
+
+// Ends with why there is no script. The disk is left as it was.
+fn leave_unread<K: Sink, D: Disk>(
+    alloc: Global,
+    sink: &mut K,
+    fault: ScriptFault,
+    disk: D,
+) -> Outcome<D>
+    ensures answer { IsAnswer (TellsFault fault) (writing K.held K.faults sink.old sink.new) result.status }
+    ensures told { result.told ≡ [] }
+    ensures untouched { result.disk ≡ disk }
+    ensures acts { Plays result.told result.status (course D.tells D.keeps D.size D.moments D.faults disk result.disk) }
+{
+    unserved_law(disk.sectors());
+    let status = tell_fault(alloc, sink, fault);
+    Outcome {
+        status,
+        told: nothing_told(alloc),
+        disk,
+    }
+}
+
+/// Reads a script, serves it over the disk's image, and writes its reply lines. The script is read whole before the disk
+/// is touched.
+pub fn read_and_serve<S: Source, K: Sink, D: Disk>(
+    alloc: Global,
+    source: &mut S,
+    sink: &mut K,
+    disk: D,
+) -> Outcome<D>
+    ensures answer { IsAnswer (EndsPlay (reading S.left S.faults source.old source.new) (formatting D.tells D.size D.moments D.faults disk result.disk) result.told)
+        (writing K.held K.faults sink.old sink.new) result.status }
+    ensures faults { AreFaultsOf (D.faults disk) (joined result.told) }
+    ensures acts { Plays result.told result.status (course D.tells D.keeps D.size D.moments D.faults disk result.disk) }
+    ensures size { D.size result.disk ≡ D.size disk }
+    ensures disk_told { result.status ≢ 4 → result.status ≢ 7 → result.status ≢ 5 → D.faults result.disk ≡ D.faults disk }
+    ensures source_told { result.status ≢ 6 → result.status ≢ 7 → S.faults source.new ≡ S.faults source.old }
+{
+    match read_script(alloc, source) {
+        Ok(script) => serve_script(alloc, sink, script, disk),
+        Err(fault) => leave_unread(alloc, sink, fault, disk),
+    }
+}
