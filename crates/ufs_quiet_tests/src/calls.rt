@@ -1,4 +1,5 @@
 // One call over a script in memory.
+use crate::trees::making;
 use std::alloc::{AllocError, Global};
 use std::process::Abort;
 use std::test::Fail;
@@ -54,20 +55,37 @@ pub fn check<R: Abort + AllocGlobal>(rt: &R, call: &Call) -> Result<(), Fail> {
     Ok(())
 }
 
-/// Plays a script in calm.
-pub fn check_play<R: Abort + AllocGlobal>(
+/// Makes the call over a new image, which is made by such a call on a disk of so many sectors.
+pub fn check_made<R: Abort + AllocGlobal>(
     rt: &R,
-    script: &str,
-    status: u8,
-    text: &str,
-) -> Result<(), Fail> {
-    let call = Call {
+    sectors: u32,
+    making: &Call,
+    call: &Call,
+) -> Result<PlainDisk, Fail> {
+    let disk = PlainDisk::zeros(rt.alloc(), sectors)?;
+    let disk = check_over(rt, making, disk)?;
+    check_over(rt, call, disk)
+}
+
+/// A script that is played in calm.
+pub fn playing<'a>(script: &'a str, status: u8, text: &'a str) -> Call<'a> {
+    Call {
         words: &["play"],
         script,
         reads: &[],
         writes: &[],
         status,
         text,
-    };
-    check(rt, &call)
+    }
+}
+
+/// Plays a script over a new image of 256 blocks.
+pub fn check_play<R: Abort + AllocGlobal>(
+    rt: &R,
+    script: &str,
+    status: u8,
+    text: &str,
+) -> Result<(), Fail> {
+    check_made(rt, 2_048, &making(), &playing(script, status, text))?;
+    Ok(())
 }

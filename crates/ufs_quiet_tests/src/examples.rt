@@ -1,5 +1,7 @@
-// The scripts of `examples/`, each with its status and what it prints. `tools/examples.py` writes this file.
-use crate::calls::check_play;
+// The scripts of `examples/`, each with its status and what it prints over a new image. `tools/examples.py` writes this
+// file.
+use crate::calls::{check_made, playing};
+use crate::trees::making_large;
 use std::test::Fail;
 
 const EXAMPLES: [(&str, u8, &str); 7] = [
@@ -43,7 +45,12 @@ const EXAMPLES: [(&str, u8, &str); 7] = [
 #[test]
 fn the_examples_print_what_stands_beside_them(rt: HostRuntime) -> Result<(), Fail> {
     for (script, status, text) in &EXAMPLES {
-        check_play(&rt, script, *status, text)?;
+        check_made(
+            &rt,
+            65_536,
+            &making_large(),
+            &playing(script, *status, text),
+        )?;
     }
     Ok(())
 }

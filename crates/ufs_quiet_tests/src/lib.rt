@@ -4,13 +4,25 @@
 #[cfg(test)]
 mod calls;
 #[cfg(test)]
+mod crashes;
+#[cfg(test)]
 mod examples;
+#[cfg(test)]
+mod faults;
 #[cfg(test)]
 mod formats;
 #[cfg(test)]
 mod recoveries;
 #[cfg(test)]
+mod rooms;
+#[cfg(test)]
 mod rows;
+#[cfg(test)]
+mod sessions;
+#[cfg(test)]
+mod spoiled;
+#[cfg(test)]
+mod stops;
 #[cfg(test)]
 mod tests;
 #[cfg(test)]

@@ -60,8 +60,8 @@ const BROKEN: [(&str, &str); 9] = [
     ("", "ufs: line 0: NoEnd\n"),
 ];
 
-// A script of one client, from its requests.
-fn script_of(alloc: Global, requests: &str) -> Result<String, AllocError> {
+/// A script of one client, from its requests.
+pub fn script_of(alloc: Global, requests: &str) -> Result<String, AllocError> {
     let mut script = String::from_str(alloc, "client 0\n")?;
     for request in requests.split(';') {
         script.push_str(request)?;
@@ -71,8 +71,8 @@ fn script_of(alloc: Global, requests: &str) -> Result<String, AllocError> {
     Ok(script)
 }
 
-// Its reply lines.
-fn lines_of(alloc: Global, replies: &str) -> Result<String, AllocError> {
+/// Its reply lines.
+pub fn lines_of(alloc: Global, replies: &str) -> Result<String, AllocError> {
     let mut lines = String::new(alloc);
     for (number, reply) in replies.split('/').enumerate() {
         let line = format!(in alloc; "0.{number} {reply}\n")?;
@@ -87,8 +87,8 @@ fn check_row<R: Abort + AllocGlobal>(rt: &R, requests: &str, replies: &str) -> R
     check_play(rt, script.as_str(), 0, lines.as_str())
 }
 
-// A text, so many times.
-fn push_times(all: &mut String, text: &str, times: u32) -> Result<(), AllocError> {
+/// A text, so many times.
+pub fn push_times(all: &mut String, text: &str, times: u32) -> Result<(), AllocError> {
     for _time in 0..times {
         all.push_str(text)?;
     }

@@ -1,5 +1,5 @@
 // The words, the images, and sources, sinks and disks that fail.
-use crate::calls::{Call, check, check_over, words};
+use crate::calls::{Call, check, check_made, check_over, words};
 use std::alloc::{AllocError, Global};
 use std::process::Abort;
 use std::test::Fail;
@@ -66,7 +66,7 @@ const UNREAD: [(&[&str], u8, &str); 28] = [
     (&["mkfs", "257", "32", "64"], 3, TOO_SMALL),
 ];
 
-// Words, the numbers of the reads and of the writes that fail, and the status and the text.
+// Words, the numbers of the reads and of the writes that fail, and the status and the text, over a new image.
 const FAULTS: [(&[&str], &[u64], &[u64], u8, &str); 9] = [
     (&["play"], &[], &[], 0, FIRST_REPLIES),
     (&["play", "--image", "f"], &[], &[], 0, FIRST_REPLIES),
@@ -116,7 +116,7 @@ fn faults_are_answered(rt: HostRuntime) -> Result<(), Fail> {
             status: *status,
             text: *text,
         };
-        check(&rt, &call)?;
+        check_made(&rt, 2_048, &making(0, MADE), &call)?;
     }
     Ok(())
 }

@@ -41,6 +41,16 @@ pub fn making() -> Call<'static> {
     calm(&["mkfs", "256", "32", "64"], 0, MADE)
 }
 
+/// Of 64 blocks, on 512 sectors.
+pub fn making_small() -> Call<'static> {
+    calm(&["mkfs", "64", "16", "64"], 0, "made 64 16 64 52\n")
+}
+
+/// Of 8,192 blocks, on 65,536 sectors.
+pub fn making_large() -> Call<'static> {
+    calm(&["mkfs", "8192", "64", "256"], 0, "made 8192 64 256 8150\n")
+}
+
 pub fn tree(status: u8, text: &'static str) -> Call<'static> {
     calm(&["tree"], status, text)
 }

@@ -1,9 +1,7 @@
-//! Tests of what serves: a directory's blocks, the namespace, sessions.
+//! Tests of what serves: a directory's blocks, sessions.
 #![tactic(auto)]
 
 #[cfg(test)]
 mod directories;
-#[cfg(test)]
-mod namespace;
 #[cfg(test)]
 mod sessions;

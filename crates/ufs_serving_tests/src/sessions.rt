@@ -3,9 +3,11 @@ use std::alloc::{AllocError, Global};
 use std::process::Abort;
 use std::test::Fail;
 use ufs_disk::PlainDisk;
-use ufs_engine::{EndFault, play};
+use ufs_engine::play;
 use ufs_io::PlainSource;
-use ufs_model::Reply;
+use ufs_layout::Geometry;
+use ufs_model::{Actor, Reply};
+use ufs_recover::format;
 use ufs_script::{Script, read_script, reply_line};
 use ufs_tree::serve;
 
@@ -93,17 +95,20 @@ fn script(alloc: Global, text: &str) -> Result<Script, Fail> {
     Ok(read_script(alloc, &mut source).ok().ok_or("no script")?)
 }
 
-// Plays the same requests by the engine and by the plain tree, and compares each reply. Answers how many of them are
+// A disk with a new image of 1,024 blocks.
+fn formatted(alloc: Global) -> Result<PlainDisk, Fail> {
+    let mut disk = PlainDisk::zeros(alloc, 8_192)?;
+    let geometry = Geometry::make(1_024, 128, 256).ok().ok_or("no geometry")?;
+    format(&mut disk, &geometry).ok().ok_or("not formatted")?;
+    Ok(disk)
+}
+
+// Plays the same requests over an image and by the plain tree, and compares each reply. Answers how many of them are
 // no refusal.
 fn compare<R: Abort + AllocGlobal>(rt: &R, text: &str) -> Result<u32, Fail> {
     let alloc = rt.alloc();
     let history = serve(alloc, script(alloc, text)?.clients)?;
-    let played = play(
-        alloc,
-        script(alloc, text)?,
-        0,
-        PlainDisk::new(0, Vec::new(alloc)),
-    );
+    let played = play(alloc, script(alloc, text)?, 0, formatted(alloc)?);
     assert!(rt; played.ended == Ok(()));
     let mut plain = history.as_slice().iter();
     let mut done = 0u32;
@@ -137,17 +142,13 @@ fn mixed_requests_have_the_replies_of_the_plain_tree(rt: HostRuntime) -> Result<
 fn transcripts_merge_by_their_tickets(rt: HostRuntime) -> Result<(), Fail> {
     let alloc = rt.alloc();
     let text = "client 0\nmkdir /a\nmkdir /b\nclient 1\nlist /\nclient 2\nend\n";
-    let played = play(
-        alloc,
-        script(alloc, text)?,
-        0,
-        PlainDisk::new(0, Vec::new(alloc)),
-    );
-    assert!(rt; played.ended != Err(EndFault::Memory));
+    let played = play(alloc, script(alloc, text)?, 0, formatted(alloc)?);
+    assert!(rt; played.ended == Ok(()));
     assert_eq!(rt; played.told.as_slice().len(), 3);
     let history = played.told.merged(alloc)?;
     for (place, entry) in history.as_slice().iter().enumerate() {
         assert_eq!(rt; entry.ticket, place as u64);
+        assert!(rt; entry.by == Actor::Primary);
     }
     Ok(())
 }

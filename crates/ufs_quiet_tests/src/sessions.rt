@@ -1,0 +1,82 @@
+// Sessions over an image: what is answered, what the image stands for behind them, and how they end.
+use crate::calls::{Call, check_over, playing};
+use crate::rows::{lines_of, push_times, script_of};
+use crate::trees::{calm, check, making, tree};
+use std::process::Abort;
+use std::test::Fail;
+use ufs_disk::{Disk, PlainDisk};
+
+// A session of one client: requests between semicolons, replies between slashes, and the tree behind it.
+type Row<'a> = (&'a str, &'a str, &'a str);
+
+const SESSIONS: [Row<'static>; 7] = [
+    (
+        "open /f rw creat;write 3 68656c6c6f;seek 3 set 0;read 3 10;read 3 1;close 3",
+        "fd 3/n 5/at 0/data 68656c6c6f/data -/ok",
+        "dir /\nfile /f 5 68656c6c6f\n",
+    ),
+    (
+        "open /f r;read 3 9",
+        "fd 3/data 68656c6c6f",
+        "dir /\nfile /f 5 68656c6c6f\n",
+    ),
+    (
+        "open /f rw;pwrite 3 61 4096;fsync 3;trunc 3 2;trunc 3 4;pread 3 9 0",
+        "fd 3/n 1/ok/ok/ok/data 68650000",
+        "dir /\nfile /f 4 68650000\n",
+    ),
+    (
+        "mkdir /a;mkdir /a/b;rename /f /a/b/g;open /a/b/g rw;pwrite 3 7a 1;sync;rename /a /c",
+        "ok/ok/ok/fd 3/n 1/ok/ok",
+        "dir /\ndir /c\ndir /c/b\nfile /c/b/g 4 687a0000\n",
+    ),
+    (
+        "open /c/b/g r;unlink /c/b/g;pread 3 9 0;open /h w creat;write 4 61;rmdir /c/b",
+        "fd 3/ok/data 687a0000/fd 4/n 1/ok",
+        "dir /\ndir /c\nfile /h 1 61\n",
+    ),
+    ("rmdir /c;unlink /h;sync", "ok/ok/ok", "dir /\n"),
+    ("list /", "names 0", "dir /\n"),
+];
+
+// Plays a row over the disk, and looks at what it leaves.
+fn check_session<R: Abort + AllocGlobal, D: Disk + Drop>(
+    rt: &R,
+    row: &Row,
+    disk: D,
+) -> Result<D, Fail> {
+    let script = script_of(rt.alloc(), row.0)?;
+    let lines = lines_of(rt.alloc(), row.1)?;
+    let disk = check_over(rt, &playing(script.as_str(), 0, lines.as_str()), disk)?;
+    let disk = check_over(rt, &check(0, "clean\n"), disk)?;
+    let shown = Call {
+        text: row.2,
+        ..calm(&["tree"], 0, "")
+    };
+    check_over(rt, &shown, disk)
+}
+
+#[test]
+fn sessions_follow_one_another(rt: HostRuntime) -> Result<(), Fail> {
+    let disk = PlainDisk::zeros(rt.alloc(), 2_048)?;
+    let mut disk = check_over(&rt, &making(), disk)?;
+    for row in &SESSIONS {
+        disk = check_session(&rt, row, disk)?;
+    }
+    Ok(())
+}
+
+// The notes of what is made and removed again fill the journal many times over.
+#[test]
+fn what_comes_and_goes_fills_no_journal(rt: HostRuntime) -> Result<(), Fail> {
+    let alloc = rt.alloc();
+    let mut requests = String::from_str(alloc, "mkdir /a;rmdir /a")?;
+    push_times(&mut requests, ";mkdir /a;rmdir /a", 299)?;
+    let mut replies = String::from_str(alloc, "ok/ok")?;
+    push_times(&mut replies, "/ok/ok", 299)?;
+    let row = (requests.as_str(), replies.as_str(), "dir /\n");
+    let disk = PlainDisk::zeros(alloc, 2_048)?;
+    let disk = check_over(&rt, &making(), disk)?;
+    check_session(&rt, &row, disk)?;
+    Ok(())
+}
