@@ -41,6 +41,7 @@ def seconds(folder, text):
         f.write(text)
     times = []
     for _ in range(RUNS):
+        subprocess.run([UFS, "mkfs", "65536", "4096", "4096", "--image", image], stdout=subprocess.DEVNULL)
         begin = time.monotonic()
         with open(script, "rb") as source, open(replies, "wb") as sink:
             status = subprocess.run([UFS, "play", "--image", image], stdin=source, stdout=sink).returncode

@@ -10,8 +10,10 @@ import sys
 TOP = pathlib.Path(__file__).resolve().parent.parent
 FILE = TOP / "crates/ufs_quiet_tests/src/examples.rt"
 HEAD = """\
-// The scripts of `examples/`, each with its status and what it prints. `tools/examples.py` writes this file.
-use crate::calls::check_play;
+// The scripts of `examples/`, each with its status and what it prints over a new image. `tools/examples.py` writes this
+// file.
+use crate::calls::{check_made, playing};
+use crate::trees::making_large;
 use std::test::Fail;
 
 const EXAMPLES: [(&str, u8, &str); {count}] = [
@@ -22,7 +24,12 @@ TAIL = """\
 #[test]
 fn the_examples_print_what_stands_beside_them(rt: HostRuntime) -> Result<(), Fail> {
     for (script, status, text) in &EXAMPLES {
-        check_play(&rt, script, *status, text)?;
+        check_made(
+            &rt,
+            65_536,
+            &making_large(),
+            &playing(script, *status, text),
+        )?;
     }
     Ok(())
 }
