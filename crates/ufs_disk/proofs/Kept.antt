@@ -4,7 +4,7 @@ use Rattle.std.specs.List.{AllByRecursion}
 use Rattle.std.proofs.lemmas.Bool.{cases_eq}
 use Rattle.ufs_base.specs.Images.{IsSector}
 use Rattle.ufs_disk.specs.Disk.{Cell, State, IsAmong, IsWhole, possible}
-use Rattle.ufs_disk.specs.Moments.{Moments, moved}
+use Rattle.ufs_disk.specs.Moments.{Moments, gone_to}
 use Rattle.ufs_disk.specs.Calls.{give, settled, written}
 use Rattle.ufs_disk.proofs.Images.{if_eq, if_ne, among_append, among_last}
 use Rattle.ufs_disk.proofs.Written.{given}
@@ -25,7 +25,7 @@ give_whole size s p state fits sector whole = record {
 pub written_whole : (ps : List (List ℕ)) (size s : ℕ) (m : Moments) → s + length ps ≤ size → AllByRecursion IsSector ps → IsWhole size m.state → IsWhole size (written s ps m).state
 written_whole [] size s m fits each whole = whole
 written_whole (p ∷ ps) size s m fits each whole =
-    written_whole ps size (s + 1) (moved (give s p m.state) m) (omega arith) each.1 (give_whole size s p m.state (omega arith) each.0 whole)
+    written_whole ps size (s + 1) (gone_to (give s p m.state) m) (omega arith) each.1 (give_whole size s p m.state (omega arith) each.0 whole)
 
 pub settled_whole : (size : ℕ) (state : State) → IsWhole size state → IsWhole size (settled state)
 settled_whole size state whole = record {

@@ -3,7 +3,7 @@ use Rattle.std.proofs.Common.{◌≡◌, inl, inr, ⊎_elim, ℕ, zero, suc, ◌
 use Rattle.std.proofs.lemmas.Bool.{cases_eq}
 use Rattle.ufs_base.specs.Images.{Image}
 use Rattle.ufs_disk.specs.Disk.{Cell, State, IsImage, Leaves, possible, seen, put, put_all, Mixes, IsMixedFrom}
-use Rattle.ufs_disk.specs.Moments.{Moments, moved, reads, LeavesOnly}
+use Rattle.ufs_disk.specs.Moments.{Moments, gone_to, reads, LeavesOnly}
 use Rattle.ufs_disk.specs.Calls.{give, settled, written}
 use Rattle.ufs_disk.proofs.Images.{if_eq, if_ne, image_of_give, mixes_with, mixes_without, unmixed, settled_leaves_no_more}
 use Rattle.ufs_disk.proofs.Runs.{started, joined, weaker}
@@ -14,17 +14,17 @@ given bytes cell = record { older = possible cell; seen = bytes }
 -- in front of the sectors that are written, behind them, and in them
 pub written_below : (ps : List (List ℕ)) (s k : ℕ) (m : Moments) → k < s → (written s ps m).state k ≡ m.state k
 written_below [] s k m lt = refl
-written_below (p ∷ ps) s k m lt = written_below ps (s + 1) k (moved (give s p m.state) m) (omega arith) ∙ if_ne k s (given p (m.state k)) (m.state k) (omega arith)
+written_below (p ∷ ps) s k m lt = written_below ps (s + 1) k (gone_to (give s p m.state) m) (omega arith) ∙ if_ne k s (given p (m.state k)) (m.state k) (omega arith)
 
 pub written_above : (ps : List (List ℕ)) (s k : ℕ) (m : Moments) → s + length ps ≤ k → (written s ps m).state k ≡ m.state k
 written_above [] s k m le = refl
-written_above (p ∷ ps) s k m le = written_above ps (s + 1) k (moved (give s p m.state) m) (omega arith) ∙ if_ne k s (given p (m.state k)) (m.state k) (omega arith)
+written_above (p ∷ ps) s k m le = written_above ps (s + 1) k (gone_to (give s p m.state) m) (omega arith) ∙ if_ne k s (given p (m.state k)) (m.state k) (omega arith)
 
 pub written_within : (ps : List (List ℕ)) (s i k : ℕ) (m : Moments) → k ≡ s + i → i < length ps → (written s ps m).state k ≡ given (get_or ps i []) (m.state k)
 written_within [] s i k m is lt = absurd (omega arith)
-written_within (p ∷ ps) s zero k m is lt = written_below ps (s + 1) k (moved (give s p m.state) m) (omega arith) ∙ if_eq k s (given p (m.state k)) (m.state k) (omega arith)
+written_within (p ∷ ps) s zero k m is lt = written_below ps (s + 1) k (gone_to (give s p m.state) m) (omega arith) ∙ if_eq k s (given p (m.state k)) (m.state k) (omega arith)
 written_within (p ∷ ps) s (suc i) k m is lt =
-    written_within ps (s + 1) i k (moved (give s p m.state) m) (omega arith) (omega arith) ∙ ap (given (get_or ps i [])) (if_ne k s (given p (m.state k)) (m.state k) (omega arith))
+    written_within ps (s + 1) i k (gone_to (give s p m.state) m) (omega arith) (omega arith) ∙ ap (given (get_or ps i [])) (if_ne k s (given p (m.state k)) (m.state k) (omega arith))
 
 -- what a read gives after a write
 seen_given : (s : ℕ) (piece : List ℕ) (state : State) → seen (give s piece state) ≡ put s piece (seen state)
@@ -39,7 +39,7 @@ seen_given s piece state = λ i k. at k i
 pub reads_written : (ps : List (List ℕ)) (s : ℕ) (m : Moments) → reads (written s ps m) ≡ put_all s ps (reads m)
 reads_written [] s m = refl
 reads_written (p ∷ ps) s m =
-    reads_written ps (s + 1) (moved (give s p m.state) m) ∙ ap (put_all (s + 1) ps) (seen_given s p m.state)
+    reads_written ps (s + 1) (gone_to (give s p m.state) m) ∙ ap (put_all (s + 1) ps) (seen_given s p m.state)
 
 -- an image of a write's rest, after its first sector was given, is one of the whole write
 mixed_more : (s : ℕ) (p : List ℕ) (ps : List (List ℕ)) (state : State) (image : Image) → IsMixedFrom (s + 1) ps (give s p state) image → IsMixedFrom s (p ∷ ps) state image
@@ -57,7 +57,7 @@ mixed_more s p ps state image from =
 pub written_leaves : (ps : List (List ℕ)) (s : ℕ) (m : Moments) → LeavesOnly true (IsMixedFrom s ps m.state) m (written s ps m)
 written_leaves [] s m = started true (IsMixedFrom s [] m.state) m (unmixed s [] m.state)
 written_leaves (p ∷ ps) s m =
-    let next : Moments = moved (give s p m.state) m in
+    let next : Moments = gone_to (give s p m.state) m in
     let here : Leaves (IsMixedFrom s (p ∷ ps) m.state) next.state = λ image left. mixed_more s p ps m.state image (unmixed (s + 1) ps next.state image left) in
     let rest : LeavesOnly true (IsMixedFrom (s + 1) ps next.state) next (written (s + 1) ps next) = written_leaves ps (s + 1) next in
     joined true (IsMixedFrom s (p ∷ ps) m.state) m next (written (s + 1) ps next)
@@ -65,7 +65,7 @@ written_leaves (p ∷ ps) s m =
     (weaker true (IsMixedFrom (s + 1) ps next.state) (IsMixedFrom s (p ∷ ps) m.state) (mixed_more s p ps m.state) next (written (s + 1) ps next) rest)
 
 -- at each moment of a barrier a crash leaves no more than before
-pub settled_leaves_only : (m : Moments) → LeavesOnly true (IsImage m.state) m (moved (settled m.state) m)
+pub settled_leaves_only : (m : Moments) → LeavesOnly true (IsImage m.state) m (gone_to (settled m.state) m)
 settled_leaves_only m = record {
   before = λ image left. left;
   after = settled_leaves_no_more m.state;

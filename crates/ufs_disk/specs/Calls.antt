@@ -2,7 +2,7 @@
 use Rattle.std.specs.Prelude.{◌≡◌, ◌⊎◌, ℕ, zero, suc, ◌+◌, ◌%◌, ◌/◌, true, false, List, [], ◌∷◌, ◌++◌, length, if◌then◌else◌, ◌==◌, slice_index_or, Result, OnOk, OnErr}
 use Rattle.ufs_base.specs.Faults.{raised}
 use Rattle.ufs_disk.specs.Disk.{State, possible, seen, sectors_of}
-use Rattle.ufs_disk.specs.Moments.{Moments, moved}
+use Rattle.ufs_disk.specs.Moments.{Moments, gone_to}
 use Rattle.ufs_disk.specs.declared.disk.Fault.{Fault}
 use Rattle.ufs_disk.specs.declared.medium.Request.{Request}
 use Rattle.ufs_disk.specs.declared.medium.Request.TheVariants.{Read, Write, Barrier}
@@ -19,12 +19,12 @@ settled state sector = record { older = []; seen = seen state sector }
 -- sectors from one on are written, one after the other
 abbrev pub written : ℕ → List (List ℕ) → Moments → Moments
 written sector [] moments = moments
-written sector (piece ∷ rest) moments = written (sector + 1) rest (moved (give sector piece moments.state) moments)
+written sector (piece ∷ rest) moments = written (sector + 1) rest (gone_to (give sector piece moments.state) moments)
 
 abbrev pub after_request : Request → Moments → Moments
 after_request (Read sector bytes) moments = moments
 after_request (Write sector bytes) moments = written sector (sectors_of bytes.items) moments
-after_request Barrier moments = moved (settled moments.state) moments
+after_request Barrier moments = gone_to (settled moments.state) moments
 
 -- a call that failed changes nothing
 abbrev pub after_call : Call → Moments → Moments

@@ -18,8 +18,8 @@ abbrev pub reads : Moments → Image
 reads moments = seen moments.state
 
 -- the disk went to another state
-abbrev pub moved : State → Moments → Moments
-moved state moments = record { earlier = all moments; state = state }
+abbrev pub gone_to : State → Moments → Moments
+gone_to state moments = record { earlier = all moments; state = state }
 
 -- of a disk that tells nothing
 abbrev pub untold : Moments

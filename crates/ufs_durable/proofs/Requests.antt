@@ -15,7 +15,7 @@ use Rattle.ufs_extent.specs.Runs.{appended_all, blocks_of, last_runs}
 use Rattle.ufs_extent.proofs.PlaceLemmas.{blocks_of-first_runs, blocks_of-last_runs}
 use Rattle.ufs_extent.proofs.RunLemmas.{blocks_of-append}
 use Rattle.ufs_file.specs.Content.{Content, block_count}
-use Rattle.ufs_file.specs.Hand.{FileState, IsCause, IsEntryOf, IsExcusedFor, IsFileOf, IsOf, IsPosix, IsServed, LacksExtents, content_after, content_by, missing}
+use Rattle.ufs_file.specs.Hand.{FileState, IsCause, IsEntryOf, IsExcusedFor, IsFileOf, IsOf, IsPosix, IsServedByFile, LacksExtents, content_after, content_by, missing}
 use Rattle.ufs_file.proofs.HandLemmas.{apart_taken, blocks_of-all}
 use Rattle.ufs_ilog.specs.Deltas.{FileLog}
 use Rattle.ufs_model.specs.Asks.{IsAsk}
@@ -80,7 +80,7 @@ apart_turned pool xs ys zs h = record {
 
 pub record IsAlone (old new : FileState) (before after : BlockSet) (ask : Ask) (server : Actor) (ticket : ℕ) (entry : Entry) (desc : Option Desc) : Type 0 where
   pub of_ask : IsEntryOf ask server ticket entry
-  pub served : is_excused entry.reply ≡ false → (d : Desc) → ask.desc ≡ Some d → IsServed old new before after d ask.op entry.reply desc
+  pub served : is_excused entry.reply ≡ false → (d : Desc) → ask.desc ≡ Some d → IsServedByFile old new before after d ask.op entry.reply desc
   pub excused : (x : Excuse) → entry.reply ≡ reply.Excused x → (d : Desc) → ask.desc ≡ Some d → IsExcusedFor old d ask.op before x
   pub posix : is_excused entry.reply ≡ false → (t : PosixTree) → IsFileOf old t → IsAsk t ask → IsPosix t ask new entry.reply desc
   pub fits : (x : Excuse) → entry.reply ≡ reply.Excused x → (t : PosixTree) → IsFileOf old t → IsAsk t ask → ExcuseFits t ask.client ask.op x

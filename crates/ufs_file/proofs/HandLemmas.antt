@@ -13,7 +13,7 @@ use Rattle.ufs_bitmap.proofs.SetLemmas.{has-union, same_blocks}
 use Rattle.ufs_file.specs.Lists.{over}
 use Rattle.ufs_file.specs.Content.{Content, block_count, grown, written_over, marks_cut, shortened}
 use Rattle.ufs_bitmap.specs.Taking.{Takes, IsApart, set_of, has}
-use Rattle.ufs_file.specs.Hand.{FileState, HasBlocks, IsChanged, IsServed, lengthened, content_put, content_after, content_by, IsOf, IsFileOf, IsPosix}
+use Rattle.ufs_file.specs.Hand.{FileState, HasBlocks, IsChanged, IsServedByFile, lengthened, content_put, content_after, content_by, IsOf, IsFileOf, IsPosix}
 use Rattle.ufs_model.specs.FileCalls.{Step, StepsArePosix, is_on_file, file_refusal, file_answer, file_step, step_by, desc_after, bytes_after}
 use Rattle.ufs_model.specs.History.{is_excused}
 use Rattle.ufs_model.specs.declared.data.Desc.{Desc}
@@ -231,7 +231,7 @@ content_bytes c d (op.List path) = refl
 
 pub served_is : (old new : FileState) (before after : BlockSet) (d : Desc) (request : Op) (r : Reply) (told : Desc) → file_refusal old.content.bytes d request ≡ None
     → IsChanged old new before after (content_after old.content d request) → r ≡ file_answer old.content.bytes d request → told ≡ desc_after old.content.bytes d request
-    → IsServed old new before after d request r (Some told)
+    → IsServedByFile old new before after d request r (Some told)
 served_is old new before after d request r told allowed h answered after_is =
     let bytes : List ℕ = old.content.bytes in
     let step : file_step bytes d request ≡ step_by bytes d request None = ap (step_by bytes d request) allowed in
@@ -308,7 +308,7 @@ has_together old new before after count h = by (ltb count (length (blocks_of old
 -- ---- the whole tree
 
 pub posix_is : StepsArePosix → (t : PosixTree) (ask : Ask) (old new : FileState) (before after : BlockSet) (d : Desc) (reply : Reply) (desc : Option Desc) → is_on_file ask.op ≡ true → ask.desc ≡ Some d
-    → IsOf (Some d) old.file → IsServed old new before after d ask.op reply desc → IsFileOf old t → IsAsk t ask → IsPosix t ask new reply desc
+    → IsOf (Some d) old.file → IsServedByFile old new before after d ask.op reply desc → IsFileOf old t → IsAsk t ask → IsPosix t ask new reply desc
 posix_is steps t ask old new before after d reply desc kind is named h held a =
     let s = steps t ask.client ask.op d old.file old.content.bytes kind (sym a.desc ∙ is) named held in
     record {

@@ -114,7 +114,7 @@ pub record IsChanged (old new : FileState) (before after : BlockSet) (content : 
 
 -- The reply and the descriptor are those of the step of the file's bytes, the file goes on by it, and it has the blocks
 -- for its new size.
-pub record IsServed (old new : FileState) (before after : BlockSet) (d : Desc) (request : Op) (reply : Reply) (desc : Option Desc) : Type 0 where
+pub record IsServedByFile (old new : FileState) (before after : BlockSet) (d : Desc) (request : Op) (reply : Reply) (desc : Option Desc) : Type 0 where
   pub replied : reply ≡ (file_step old.content.bytes d request).reply
   pub told : desc ≡ Some (file_step old.content.bytes d request).desc
   pub bytes : new.content.bytes ≡ (file_step old.content.bytes d request).bytes

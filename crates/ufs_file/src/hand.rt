@@ -65,7 +65,7 @@ impl FileHand {
     ghost use Rattle.ufs_file.specs.Content.{as_read, no_content, block_bytes, block_count, cleaned, marked, shortened, written_over};
     ghost use Rattle.ufs_bitmap.specs.Taking.{IsApart, Takes, set_of};
     ghost use Rattle.ufs_model.specs.FileCalls.{is_on_file, place_refusal, file_refusal, file_answer, desc_after};
-    ghost use Rattle.ufs_file.specs.Hand.{FileState, IsCause, IsChanged, lengthened, content_put, content_sized, content_after, missing, IsServed, IsExcusedFor, IsEntryOf, IsOf, IsFileOf, IsPosix};
+    ghost use Rattle.ufs_file.specs.Hand.{FileState, IsCause, IsChanged, lengthened, content_put, content_sized, content_after, missing, IsServedByFile, IsExcusedFor, IsEntryOf, IsOf, IsFileOf, IsPosix};
     ghost use Rattle.ufs_model.specs.PosixTree.{PosixTree};
     ghost use Rattle.ufs_model.specs.Asks.{IsAsk};
     ghost use Rattle.ufs_model.specs.Excuses.{ExcuseFits};
@@ -120,7 +120,7 @@ impl FileHand {
         requires named { IsOf ask.desc self.old.file }
         requires apart { IsApart pool.old (blocks_of self.old.extents) }
         ensures entry { IsEntryOf ask by ticket result.entry }
-        ensures served { is_excused result.entry.reply ≡ false → (d : Desc) → ask.desc ≡ Some d → IsServed self.old self.new pool.old pool.new d ask.op result.entry.reply result.desc }
+        ensures served { is_excused result.entry.reply ≡ false → (d : Desc) → ask.desc ≡ Some d → IsServedByFile self.old self.new pool.old pool.new d ask.op result.entry.reply result.desc }
         ensures excused { (x : Excuse) → result.entry.reply ≡ reply.Excused x → (d : Desc) → ask.desc ≡ Some d → IsExcusedFor self.old d ask.op pool.old x }
         ensures posix { is_excused result.entry.reply ≡ false → (t : PosixTree) → IsFileOf self.old t → IsAsk t ask → IsPosix t ask self.new result.entry.reply result.desc }
         ensures fits { (x : Excuse) → result.entry.reply ≡ reply.Excused x → (t : PosixTree) → IsFileOf self.old t → IsAsk t ask → ExcuseFits t ask.client ask.op x }
@@ -333,7 +333,7 @@ impl FileHand {
         requires kind { is_on_file op.now ≡ true }
         requires bounded { IsBounded op.now }
         requires apart { IsApart pool.old (blocks_of self.old.extents) }
-        ensures ok { IfOk result (λ s. IsServed self.old self.new pool.old pool.new desc op.now s.reply (Some s.desc)) }
+        ensures ok { IfOk result (λ s. IsServedByFile self.old self.new pool.old pool.new desc op.now s.reply (Some s.desc)) }
         ensures apart { OnOk result (IsApart pool.new (blocks_of self.new.extents)) }
         ensures number { self.new.file ≡ self.old.file }
         ensures inode { self.new.inode ≡ self.old.inode }

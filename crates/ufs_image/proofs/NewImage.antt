@@ -20,7 +20,7 @@ use Rattle.ufs_image.specs.BadSectors.{first_bad, bad_sector}
 use Rattle.ufs_image.specs.Nodes.{is_bad_form, is_bad_inode, is_bad_extent, leaves_data, sound_node, sound_nodes, is_taken, dirs_of}
 use Rattle.ufs_image.specs.Damage.{BadInode, BadExtent, TwoNames, BitmapDiffers, shared_block, has_two_names, same_bool, is_marked, differing, all_bits, damage, tree_damage, node_damage, inode_damage, bad_tree, lowest_blamed}
 use Rattle.ufs_image.specs.Volume.{Refusal, NoSuperblock, BadVersion, BadGeometry, lacks_magic, has_other_version, is_off_form, bad_geometry, is_too_small, head_of, head_refusal, by_head, by_journal, volume, volume_of}
-use Rattle.ufs_image.specs.Opens.{entry_and_below, names_in, below, walked, by_damage, entries_of, tree_of, damage_in, opens, root_entry, root_tree, damage_list}
+use Rattle.ufs_image.specs.Opens.{entry_and_below, names_in, below, walked, by_damage, entries_of, tree_from, damage_in, opens, root_entry, root_tree, damage_list}
 use Rattle.ufs_image.specs.Proper.{IsProperImage, IsProperVolume}
 use Rattle.ufs_layout.specs.Superblock.{new_super}
 use Rattle.ufs_image.specs.Formatted.{IsFormatted, new_root, new_volume}
@@ -196,8 +196,8 @@ walked_new g image is new =
 
 pub opens_new : (sectors : ℕ) (g : Geometry) (image : Image) → IsGeometry g → IsFormatted g image → sector_count g ≤ sectors → opens sectors image ≡ Ok root_tree
 opens_new sectors g image is new room =
-    ap (λ v. tree_of (entries_of v)) (volume_new sectors g image is new room)
-    ∙ ap (λ b. tree_of (by_damage (new_volume g image) b)) (no_bad_tree g image is new)
+    ap (λ v. tree_from (entries_of v)) (volume_new sectors g image is new room)
+    ∙ ap (λ b. tree_from (by_damage (new_volume g image) b)) (no_bad_tree g image is new)
     ∙ ap (λ paths. Ok (from_entries paths)) (walked_new g image is new)
 
 pub damage_new : (sectors : ℕ) (g : Geometry) (image : Image) → IsGeometry g → IsFormatted g image → sector_count g ≤ sectors → damage_list sectors image ≡ Ok []

@@ -10,7 +10,7 @@ use Rattle.ufs_base.specs.Images.{Image}
 use Rattle.ufs_image.specs.Images.{IsImageOf}
 use Rattle.ufs_image.specs.Damage.{bad_tree}
 use Rattle.ufs_image.specs.Volume.{Refusal, NoSuperblock, BadVersion, BadGeometry, BadTree, Volume, volume, head_of, lacks_magic, has_other_version, is_off_form, bad_geometry, is_too_small}
-use Rattle.ufs_image.specs.Opens.{ImageTree, walked, by_damage, entries_of, tree_of, opens, file_bytes}
+use Rattle.ufs_image.specs.Opens.{ImageTree, walked, by_damage, entries_of, tree_from, opens, file_bytes}
 use Rattle.ufs_layout.specs.declared.geometry.Geometry.{Geometry}
 use Rattle.ufs_layout.specs.declared.geometry.BadGeometry.TheVariants.{Blocks, Inodes, Journal, NoData}
 use Rattle.ufs_image.specs.Catalog.{Catalog, IsInode, IsCatalogOf, catalog_at}
@@ -74,25 +74,25 @@ has_geometry sectors image v e =
 
 pub opens_to : (sectors : ℕ) (image : Image) (v : Volume) (c : Catalog) → IsVolumeOf sectors image v c → opens sectors image ≡ Ok (from_entries (walked v))
 opens_to sectors image v c is =
-    ap (λ r. tree_of (entries_of r)) is.taken
-    ∙ ap (λ b. tree_of (by_damage v b)) (not_bad v.geometry v.image (sound_whole v.geometry v.image c is.catalog is.sound))
+    ap (λ r. tree_from (entries_of r)) is.taken
+    ∙ ap (λ b. tree_from (by_damage v b)) (not_bad v.geometry v.image (sound_whole v.geometry v.image c is.catalog is.sound))
 
 pub opened : (sectors : ℕ) (image : Image) (tree : ImageTree) → opens sectors image ≡ Ok tree → (v : Volume) × IsVolumeOf sectors image v (catalog_at v.geometry v.image) × (tree ≡ from_entries (walked v))
 opened sectors image tree e = by (volume sectors image) refl
   where
     of : (v : Volume) → volume sectors image ≡ Ok v → (b : Option ℕ) → bad_tree v.geometry v.image ≡ b → (v : Volume) × IsVolumeOf sectors image v (catalog_at v.geometry v.image) × (tree ≡ from_entries (walked v))
     of v is (Some inode) bad =
-        let no : ◌≡◌ {A = Result ImageTree Refusal} (Ok tree) (Err (BadTree inode)) = sym e ∙ ap (λ r. tree_of (entries_of r)) is ∙ ap (λ b. tree_of (by_damage v b)) bad in absurd cc
+        let no : ◌≡◌ {A = Result ImageTree Refusal} (Ok tree) (Err (BadTree inode)) = sym e ∙ ap (λ r. tree_from (entries_of r)) is ∙ ap (λ b. tree_from (by_damage v b)) bad in absurd cc
     of v is None good =
         let none = undamaged v.geometry v.image good in
         let there = catalog_there v.geometry v.image (whole_read v.geometry v.image none) (spelled_all v.geometry v.image none) in
         let least = (has_geometry sectors image v is).0.least_inodes in
         let some : 1 ≤ v.geometry.inodes = omega (arith, least) in
-        let ok : ◌≡◌ {A = Result ImageTree Refusal} (Ok tree) (Ok (from_entries (walked v))) = sym e ∙ ap (λ r. tree_of (entries_of r)) is ∙ ap (λ b. tree_of (by_damage v b)) good in
+        let ok : ◌≡◌ {A = Result ImageTree Refusal} (Ok tree) (Ok (from_entries (walked v))) = sym e ∙ ap (λ r. tree_from (entries_of r)) is ∙ ap (λ b. tree_from (by_damage v b)) good in
         (v, record { taken = is; catalog = there; sound = whole_sound v.geometry v.image (catalog_at v.geometry v.image) there some none }, cc)
 
     by : (r : Result Volume Refusal) → volume sectors image ≡ r → (v : Volume) × IsVolumeOf sectors image v (catalog_at v.geometry v.image) × (tree ≡ from_entries (walked v))
-    by (Err refusal) is = let no : ◌≡◌ {A = Result ImageTree Refusal} (Ok tree) (Err refusal) = sym e ∙ ap (λ r. tree_of (entries_of r)) is in absurd cc
+    by (Err refusal) is = let no : ◌≡◌ {A = Result ImageTree Refusal} (Ok tree) (Err refusal) = sym e ∙ ap (λ r. tree_from (entries_of r)) is in absurd cc
     by (Ok v) is = of v is (bad_tree v.geometry v.image) refl
 
 -- ---- what doesn't matter

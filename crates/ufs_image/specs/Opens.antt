@@ -68,13 +68,13 @@ entries_of (Err refusal) = Err refusal
 abbrev pub entries : ℕ → Image → Result (List PathEntry) Refusal
 entries sectors image = entries_of (volume sectors image)
 
-abbrev pub tree_of : Result (List PathEntry) Refusal → Result ImageTree Refusal
-tree_of (Ok paths) = Ok (from_entries paths)
-tree_of (Err refusal) = Err refusal
+abbrev pub tree_from : Result (List PathEntry) Refusal → Result ImageTree Refusal
+tree_from (Ok paths) = Ok (from_entries paths)
+tree_from (Err refusal) = Err refusal
 
 -- the tree, or why there is none
 abbrev pub opens : ℕ → Image → Result ImageTree Refusal
-opens sectors image = tree_of (entries sectors image)
+opens sectors image = tree_from (entries sectors image)
 
 -- the tree with the root alone
 abbrev pub root_tree : ImageTree

@@ -7,7 +7,7 @@ use Rattle.std.specs.FinMap as map
 use Rattle.std.specs.FinMap.{nat_cmp-IsAntisymmetric}
 use Rattle.ufs_base.specs.Choices.{first_of, refused_if}
 use Rattle.ufs_model.specs.PosixTree.{PosixTree}
-use Rattle.ufs_model.specs.Descriptors.{opened, closed, moved, seek_to, is_offset}
+use Rattle.ufs_model.specs.Descriptors.{opened, closed, with_offset, seek_to, is_offset}
 use Rattle.ufs_model.specs.FileBytes.{content, part, put_at, resized, place_of, is_past, max_size}
 use Rattle.ufs_model.specs.Refusals.{refusal, read_refusal, write_refusal, seek_refusal, trunc_refusal}
 use Rattle.ufs_model.specs.Asks.{IsDescAfter}
@@ -105,7 +105,7 @@ module _ (t : PosixTree) (client fd file : ℕ) (d : Desc) (there : map.get t.fd
   on_read : (n : ℕ) → Fits (op.Read fd n) (refusal t client (op.Read fd n)) (file_refusal bytes d (op.Read fd n))
   on_read n =
       fits (op.Read fd n) (refuses_read n) (λ i. Got (part (bytes_is i) (open_is i).at n))
-      (moved_to _ _ _ (λ i. moved (open_is i) ((open_is i).at + length (part (bytes_is i) (open_is i).at n))))
+      (moved_to _ _ _ (λ i. with_offset (open_is i) ((open_is i).at + length (part (bytes_is i) (open_is i).at n))))
 
   on_pread : (n at : ℕ) → Fits (op.Pread fd n at) (refusal t client (op.Pread fd n at)) (file_refusal bytes d (op.Pread fd n at))
   on_pread n at =
@@ -116,13 +116,13 @@ module _ (t : PosixTree) (client fd file : ℕ) (d : Desc) (there : map.get t.fd
       fits (op.Write fd fresh) (refuses_write fresh) refl (by (eqb (length fresh) 0))
     where
       by : (b : Bool) → to (cond {A = PosixTree} b t (with_fd (cond {A = PosixTree} b t (with_bytes t (opened t client fd).file (put_at (content t.bytes (opened t client fd).file) (place_of (opened t client fd) (content t.bytes (opened t client fd).file)) fresh))) client fd
-          (moved (opened t client fd) (place_of (opened t client fd) (content t.bytes (opened t client fd).file) + length fresh))))
-          (cond {A = List ℕ} b bytes (put_at bytes (place_of d bytes) fresh)) (cond {A = Desc} b d (moved d (place_of d bytes + length fresh))) (Count (length fresh))
+          (with_offset (opened t client fd) (place_of (opened t client fd) (content t.bytes (opened t client fd).file) + length fresh))))
+          (cond {A = List ℕ} b bytes (put_at bytes (place_of d bytes) fresh)) (cond {A = Desc} b d (with_offset d (place_of d bytes + length fresh))) (Count (length fresh))
       by true = stays _
       by false =
-          subst (λ (u : PosixTree). to u (put_at bytes (place_of d bytes) fresh) (moved d (place_of d bytes + length fresh)) (Count (length fresh)))
-          (sym (λ i. with_fd (with_bytes t (file_is i) (put_at (bytes_is i) (place_of (open_is i) (bytes_is i)) fresh)) client fd (moved (open_is i) (place_of (open_is i) (bytes_is i) + length fresh))))
-          (both (put_at bytes (place_of d bytes) fresh) (moved d (place_of d bytes + length fresh)) (Count (length fresh)))
+          subst (λ (u : PosixTree). to u (put_at bytes (place_of d bytes) fresh) (with_offset d (place_of d bytes + length fresh)) (Count (length fresh)))
+          (sym (λ i. with_fd (with_bytes t (file_is i) (put_at (bytes_is i) (place_of (open_is i) (bytes_is i)) fresh)) client fd (with_offset (open_is i) (place_of (open_is i) (bytes_is i) + length fresh))))
+          (both (put_at bytes (place_of d bytes) fresh) (with_offset d (place_of d bytes + length fresh)) (Count (length fresh)))
 
   on_pwrite : (fresh : List ℕ) (at : ℕ) → Fits (op.Pwrite fd fresh at) (refusal t client (op.Pwrite fd fresh at)) (file_refusal bytes d (op.Pwrite fd fresh at))
   on_pwrite fresh at =
@@ -139,7 +139,7 @@ module _ (t : PosixTree) (client fd file : ℕ) (d : Desc) (there : map.get t.fd
   on_seek from by =
       fits (op.Seek fd from by) (refuses_seek from by)
       (λ i. At (unwrap_or (seek_to from by (open_is i) (length (bytes_is i))) 0))
-      (moved_to _ _ _ (λ i. moved (open_is i) (unwrap_or (seek_to from by (open_is i) (length (bytes_is i))) 0)))
+      (moved_to _ _ _ (λ i. with_offset (open_is i) (unwrap_or (seek_to from by (open_is i) (length (bytes_is i))) 0)))
 
   on_trunc : (size : ℕ) → Fits (op.Trunc fd size) (refusal t client (op.Trunc fd size)) (file_refusal bytes d (op.Trunc fd size))
   on_trunc size =

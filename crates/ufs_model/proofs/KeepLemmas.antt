@@ -6,7 +6,7 @@ use Rattle.ufs_model.specs.Paths.{components, whole_of, parent_of, text_refusal,
 use Rattle.ufs_model.specs.PosixTree.{PosixTree, Fds, IsTree, desc_at, stands, has_dir, root}
 use Rattle.ufs_model.specs.Walk.{walk_refusal, node_at, is_file}
 use Rattle.ufs_model.specs.Directories.{has_entries}
-use Rattle.ufs_model.specs.Descriptors.{Mode, opened, closed, moved, desc_of, lowest_free, free_from, is_mode, mode_of_open}
+use Rattle.ufs_model.specs.Descriptors.{Mode, opened, closed, with_offset, desc_of, lowest_free, free_from, is_mode, mode_of_open}
 use Rattle.ufs_model.specs.FileBytes.{content, place_of, put_at}
 use Rattle.ufs_model.specs.Refusals.{read_refusal, write_refusal, seek_refusal, trunc_refusal, own_refusal, refusal}
 use Rattle.ufs_model.specs.Posix.{served, change, with_fd, with_bytes, with_file, open_node, close_fd, write_fd, written, new_fd}
@@ -48,9 +48,9 @@ may_cut None e = cc
 may_cut (Some d) e = refl
 
 -- a descriptor moves on
-keeps_moved : (t : PosixTree) → IsTree t → (client fd : ℕ) (d : Desc) (at : ℕ) → map.get t.fds (client, fd) ≡ Some d → IsTree (with_fd t client fd (moved d at))
+keeps_moved : (t : PosixTree) → IsTree t → (client fd : ℕ) (d : Desc) (at : ℕ) → map.get t.fds (client, fd) ≡ Some d → IsTree (with_fd t client fd (with_offset d at))
 keeps_moved t is client fd d at there =
-    keeps_fd t is client fd (moved d at)
+    keeps_fd t is client fd (with_offset d at)
     (λ f e. held_has t is f (inr ((client, fd), d, there, e)))
     (λ old e. ap (λ (d : Desc). d.file) (same_some d old (sym there ∙ e)))
 
@@ -64,7 +64,7 @@ module _ (t : PosixTree) (is : IsTree t) (client fd : ℕ) (is_there : is_none (
   keeps_close : IsTree (close_fd t client fd)
   keeps_close = forget_lost (record t { fds = map.remove t.fds (client, fd) }) (opened t client fd).file (keeps_closed t is client fd (opened t client fd) there)
 
-  keeps_step : (at : ℕ) → IsTree (with_fd t client fd (moved (opened t client fd) at))
+  keeps_step : (at : ℕ) → IsTree (with_fd t client fd (with_offset (opened t client fd) at))
   keeps_step at = keeps_moved t is client fd (opened t client fd) at there
 
   keeps_content : (v : List ℕ) → IsTree (with_bytes t (opened t client fd).file v)
@@ -74,10 +74,10 @@ module _ (t : PosixTree) (is : IsTree t) (client fd : ℕ) (is_there : is_none (
       by None e = is
       by (Some f) e = keeps_bytes t is f v (live f e)
 
-  keeps_content_step : (v : List ℕ) (at : ℕ) → IsTree (with_fd (with_bytes t (opened t client fd).file v) client fd (moved (opened t client fd) at))
+  keeps_content_step : (v : List ℕ) (at : ℕ) → IsTree (with_fd (with_bytes t (opened t client fd).file v) client fd (with_offset (opened t client fd) at))
   keeps_content_step v at = by (opened t client fd).file refl
     where
-      by : (o : Option ℕ) → (opened t client fd).file ≡ o → IsTree (with_fd (with_bytes t o v) client fd (moved (opened t client fd) at))
+      by : (o : Option ℕ) → (opened t client fd).file ≡ o → IsTree (with_fd (with_bytes t o v) client fd (with_offset (opened t client fd) at))
       by None e = keeps_step at
       by (Some f) e = keeps_moved (with_bytes t (Some f) v) (keeps_bytes t is f v (live f e)) client fd (opened t client fd) at there
 
@@ -95,7 +95,7 @@ module _ (t : PosixTree) (is : IsTree t) (client fd : ℕ) (is_there : is_none (
   keeps_write : (data' : List ℕ) → IsTree (write_fd t client fd data')
   keeps_write data' = by (eqb (length data') 0)
     where
-      by : (b : Bool) → IsTree (cond b t (with_fd (cond b t (with_bytes t (opened t client fd).file (put_at (content t.bytes (opened t client fd).file) place data'))) client fd (moved (opened t client fd) (place + length data'))))
+      by : (b : Bool) → IsTree (cond b t (with_fd (cond b t (with_bytes t (opened t client fd).file (put_at (content t.bytes (opened t client fd).file) place data'))) client fd (with_offset (opened t client fd) (place + length data'))))
       by true = is
       by false = keeps_content_step (put_at (content t.bytes (opened t client fd).file) place data') (place + length data')
 

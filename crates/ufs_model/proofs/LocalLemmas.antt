@@ -7,7 +7,7 @@ use Rattle.ufs_model.specs.Paths.{whole_of, is_root}
 use Rattle.ufs_model.specs.PosixTree.{PosixTree, Paths, desc_at}
 use Rattle.ufs_model.specs.Walk.{node_at, file_of, is_file, walk_refusal}
 use Rattle.ufs_model.specs.Directories.{has_entries}
-use Rattle.ufs_model.specs.Descriptors.{Mode, opened, closed, moved, mode_of_open}
+use Rattle.ufs_model.specs.Descriptors.{Mode, opened, closed, with_offset, mode_of_open}
 use Rattle.ufs_model.specs.FileBytes.{part, put_at, place_of, resized}
 use Rattle.ufs_model.specs.Refusals.{refusal, own_refusal, tree_refusal, read_refusal, write_refusal, seek_refusal, rmdir_refusal}
 use Rattle.ufs_model.specs.Posix.{posix, served, change, with_fd, with_bytes, forget, open_node, file_bytes, new_offset, bytes_read}
@@ -80,19 +80,19 @@ module _ (t u : PosixTree) (client : ℕ) where
       let desc = read_open (desc_at t client fd) own in
       let o = opened_same t u client _ fd agree in
       let b = bytes_same t u client fd agree in
-      fd_alone t u client _ agree fd desc.0 (moved (opened t client fd) ((opened t client fd).at + length (bytes_read t client fd n))) (moved (opened u client fd) ((opened u client fd).at + length (bytes_read u client fd n)))
-      desc.1 (ap (λ (o : Option Desc). (unwrap_or o closed).file) desc.1) (λ i. moved (o i) ((o i).at + length (part (b i) (o i).at n)))
+      fd_alone t u client _ agree fd desc.0 (with_offset (opened t client fd) ((opened t client fd).at + length (bytes_read t client fd n))) (with_offset (opened u client fd) ((opened u client fd).at + length (bytes_read u client fd n)))
+      desc.1 (ap (λ (o : Option Desc). (unwrap_or o closed).file) desc.1) (λ i. with_offset (o i) ((o i).at + length (part (b i) (o i).at n)))
   change_alike (op.Write fd fresh) own tree none agree =
       let desc = write_open (desc_at t client fd) own in
       let o = opened_same t u client _ fd agree in
       let b = bytes_same t u client fd agree in
       elim (eqb (length fresh) 0) as (λ b. Alike (name.Client client ∷ file_part (opened t client fd).file) client t u
-      (cond b t (with_fd (cond b t (with_bytes t (opened t client fd).file (put_at (file_bytes t client fd) (place_of (opened t client fd) (file_bytes t client fd)) fresh))) client fd (moved (opened t client fd) (place_of (opened t client fd) (file_bytes t client fd) + length fresh))))
-      (cond b u (with_fd (cond b u (with_bytes u (opened u client fd).file (put_at (file_bytes u client fd) (place_of (opened u client fd) (file_bytes u client fd)) fresh))) client fd (moved (opened u client fd) (place_of (opened u client fd) (file_bytes u client fd) + length fresh))))) [
+      (cond b t (with_fd (cond b t (with_bytes t (opened t client fd).file (put_at (file_bytes t client fd) (place_of (opened t client fd) (file_bytes t client fd)) fresh))) client fd (with_offset (opened t client fd) (place_of (opened t client fd) (file_bytes t client fd) + length fresh))))
+      (cond b u (with_fd (cond b u (with_bytes u (opened u client fd).file (put_at (file_bytes u client fd) (place_of (opened u client fd) (file_bytes u client fd)) fresh))) client fd (with_offset (opened u client fd) (place_of (opened u client fd) (file_bytes u client fd) + length fresh))))) [
         | true ↦ nothing t u client _ agree
         | false ↦ bytes_and_fd t u client _ agree fd (opened t client fd).file (opened u client fd).file _ _ desc.0 _ _
             (ap (λ (d : Desc). d.file) o) (λ i. put_at (b i) (place_of (o i) (b i)) fresh) (λ f at. at)
-            desc.1 (ap (λ (o : Option Desc). (unwrap_or o closed).file) desc.1) (λ i. moved (o i) (place_of (o i) (b i) + length fresh))
+            desc.1 (ap (λ (o : Option Desc). (unwrap_or o closed).file) desc.1) (λ i. with_offset (o i) (place_of (o i) (b i) + length fresh))
       ]
   change_alike (op.Pread fd n at) own tree none agree = nothing t u client _ agree
   change_alike (op.Pwrite fd fresh at) own tree none agree =
@@ -108,8 +108,8 @@ module _ (t u : PosixTree) (client : ℕ) where
       let desc = seek_open (desc_at t client fd) own in
       let request = op.Seek fd from by in
       let o = opened_same t u client (reached t client request) fd agree in
-      fd_alone t u client (reached t client request) agree fd desc.0 (moved (opened t client fd) (new_offset t client request)) (moved (opened u client fd) (new_offset u client request))
-      desc.1 (ap (λ (o : Option Desc). (unwrap_or o closed).file) desc.1) (λ i. moved (o i) (offset_same t u client fd from by agree i))
+      fd_alone t u client (reached t client request) agree fd desc.0 (with_offset (opened t client fd) (new_offset t client request)) (with_offset (opened u client fd) (new_offset u client request))
+      desc.1 (ap (λ (o : Option Desc). (unwrap_or o closed).file) desc.1) (λ i. with_offset (o i) (offset_same t u client fd from by agree i))
   change_alike (op.Trunc fd size) own tree none agree =
       let o = opened_same t u client _ fd agree in
       let b = bytes_same t u client fd agree in

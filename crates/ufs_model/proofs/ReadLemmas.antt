@@ -8,7 +8,7 @@ use Rattle.std.specs.FinMap as fin
 use Rattle.std.specs.FinMap.{nat_cmp-IsAntisymmetric}
 use Rattle.ufs_base.specs.Choices.{first_of, refused_if}
 use Rattle.ufs_model.specs.PosixTree.{PosixTree, desc_at}
-use Rattle.ufs_model.specs.Descriptors.{opened, closed, moved}
+use Rattle.ufs_model.specs.Descriptors.{opened, closed, with_offset}
 use Rattle.ufs_model.specs.FileBytes.{content, part, put_at, place_of}
 use Rattle.ufs_model.specs.Refusals.{refusal, own_refusal, read_refusal}
 use Rattle.ufs_model.specs.Posix.{posix, served, with_fd, with_bytes, written}
@@ -96,7 +96,7 @@ module _ (t : PosixTree) (client fd : ℕ) (fresh : List ℕ) where
   abbrev after_write : Bool → Option ℕ → Desc → PosixTree
   after_write none file d =
       let at = place_of d (content t.bytes file) in
-      cond none t (with_fd (cond none t (with_bytes t file (put_at (content t.bytes file) at fresh))) client fd (moved d (at + length fresh)))
+      cond none t (with_fd (cond none t (with_bytes t file (put_at (content t.bytes file) at fresh))) client fd (with_offset d (at + length fresh)))
 
   pub appended_is_read : (d : Desc) (file : ℕ) → (posix t client (op.Write fd fresh)).1 ≡ Count (length fresh) → desc_at t client fd ≡ Some d → d.file ≡ Some file → d.read ≡ true
       → (posix (posix t client (op.Write fd fresh)).0 client (op.Pread fd (length fresh) (place_of d (content t.bytes (Some file))))).1 ≡ Got fresh
@@ -112,8 +112,8 @@ module _ (t : PosixTree) (client fd : ℕ) (fresh : List ℕ) where
       by_test true empty = reads t client fd file (length fresh) (place_of d (content t.bytes (Some file))) d there named read ∙ ap Got (no_bytes fresh (content t.bytes (Some file)) (place_of d (content t.bytes (Some file))) empty)
       by_test false some =
           let at = place_of d (content t.bytes (Some file)) in
-          reads_put (after_write false (Some file) d) client fd file at (content t.bytes (Some file)) fresh (moved d (at + length fresh))
-          (inserted_here fd_total fd_same t.fds (client, fd) (moved d (at + length fresh))) named read
+          reads_put (after_write false (Some file) d) client fd file at (content t.bytes (Some file)) fresh (with_offset d (at + length fresh))
+          (inserted_here fd_total fd_same t.fds (client, fd) (with_offset d (at + length fresh))) named read
           (inserted_here nat_cmp_total nat_cmp-IsAntisymmetric t.bytes file (put_at (content t.bytes (Some file)) at fresh))
 
 pub written_read : WrittenIsRead

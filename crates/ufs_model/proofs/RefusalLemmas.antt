@@ -6,7 +6,7 @@ use Rattle.ufs_model.specs.Paths.{whole_of}
 use Rattle.ufs_model.specs.Walk.{node_at, file_of}
 use Rattle.std.specs.Str.{bytes_eq}
 use Rattle.ufs_model.specs.Posix.{served, answer, change, forget, with_bytes, with_fd, open_node, written, write_fd, without_path, rename_path, stat_reply, file_bytes}
-use Rattle.ufs_model.specs.Descriptors.{Mode, opened, moved, mode_of_open}
+use Rattle.ufs_model.specs.Descriptors.{Mode, opened, with_offset, mode_of_open}
 use Rattle.ufs_model.specs.Directories.{renamed}
 use Rattle.ufs_model.specs.FileBytes.{content, put_at, place_of, resized}
 use Rattle.ufs_model.specs.Refusals.{refusal}
@@ -79,7 +79,7 @@ write_next : (t : PosixTree) (client fd : ℕ) (fresh : List ℕ) → (write_fd 
 write_next t client fd fresh =
     let d = opened t client fd in
     let at = place_of d (content t.bytes d.file) in
-    either_next t t (with_fd (written t d.file at fresh) client fd (moved d (at + length fresh))) (eqb (length fresh) 0) refl (written_next t d.file at fresh)
+    either_next t t (with_fd (written t d.file at fresh) client fd (with_offset d (at + length fresh))) (eqb (length fresh) 0) refl (written_next t d.file at fresh)
 
 without_next : (t : PosixTree) (whole : List ℕ) → (without_path t whole).next ≡ t.next
 without_next t whole = forget_next (record t { paths = map.remove t.paths whole }) (file_of (map.get t.paths whole))

@@ -23,8 +23,8 @@ closed = record { file = None; at = 0; read = false; write = false; append = fal
 abbrev pub opened : PosixTree → ℕ → ℕ → Desc
 opened t client fd = unwrap_or (desc_at t client fd) closed
 
-abbrev pub moved : Desc → ℕ → Desc
-moved d at = record d { at = at }
+abbrev pub with_offset : Desc → ℕ → Desc
+with_offset d at = record d { at = at }
 
 -- ---- how a path is opened
 

@@ -3,7 +3,7 @@ use Rattle.std.specs.Prelude.{ℕ, ◌+◌, ◌≡◌, List, Bool, true, false, 
 use Rattle.std.specs.FinMap as map
 use Rattle.ufs_base.specs.Choices.{refused_if, first_of}
 use Rattle.ufs_model.specs.PosixTree.{PosixTree}
-use Rattle.ufs_model.specs.Descriptors.{moved, seek_to, is_offset}
+use Rattle.ufs_model.specs.Descriptors.{with_offset, seek_to, is_offset}
 use Rattle.ufs_model.specs.FileBytes.{part, put_at, resized, place_of, is_past, max_size}
 use Rattle.ufs_model.specs.Refusals.{refusal, own_refusal, read_refusal, write_refusal, seek_refusal, trunc_refusal}
 use Rattle.ufs_model.specs.Asks.{IsDescAfter, desc_of_fd, fd_named}
@@ -69,9 +69,9 @@ file_answer bytes d _ = Done
 
 -- the descriptor afterwards
 abbrev pub desc_after : List ℕ → Desc → Op → Desc
-desc_after bytes d (op.Read fd n) = moved d (d.at + length (part bytes d.at n))
-desc_after bytes d (op.Write fd fresh) = if length fresh == 0 then d else moved d (place_of d bytes + length fresh)
-desc_after bytes d (op.Seek fd from by) = moved d (unwrap_or (seek_to from by d (length bytes)) 0)
+desc_after bytes d (op.Read fd n) = with_offset d (d.at + length (part bytes d.at n))
+desc_after bytes d (op.Write fd fresh) = if length fresh == 0 then d else with_offset d (place_of d bytes + length fresh)
+desc_after bytes d (op.Seek fd from by) = with_offset d (unwrap_or (seek_to from by d (length bytes)) 0)
 desc_after bytes d _ = d
 
 -- the file's bytes afterwards

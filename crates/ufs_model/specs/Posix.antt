@@ -6,7 +6,7 @@ use Rattle.ufs_model.specs.Paths.{whole_of}
 use Rattle.ufs_model.specs.PosixTree.{PosixTree, is_live}
 use Rattle.ufs_model.specs.Walk.{node_at, file_of}
 use Rattle.ufs_model.specs.Directories.{entry_count, entry_names, renamed}
-use Rattle.ufs_model.specs.Descriptors.{Mode, opened, moved, desc_of, lowest_free, seek_to, mode_of_open}
+use Rattle.ufs_model.specs.Descriptors.{Mode, opened, with_offset, desc_of, lowest_free, seek_to, mode_of_open}
 use Rattle.ufs_model.specs.FileBytes.{content, part, put_at, resized, place_of}
 use Rattle.ufs_model.specs.Refusals.{refusal}
 use Rattle.ufs_model.specs.declared.data.Op.{Op}
@@ -99,7 +99,7 @@ abbrev pub write_fd : PosixTree → ℕ → ℕ → List ℕ → PosixTree
 write_fd t client fd data' =
     let d = opened t client fd in
     let at = place_of d (content t.bytes d.file) in
-    if length data' == 0 then t else with_fd (written t d.file at data') client fd (moved d (at + length data'))
+    if length data' == 0 then t else with_fd (written t d.file at data') client fd (with_offset d (at + length data'))
 
 -- a name goes, and what stood there with it
 abbrev pub without_path : PosixTree → List ℕ → PosixTree
@@ -117,11 +117,11 @@ change t client (op.OpenFile path read write creat excl trunc append) =
 change t client (op.Close fd) = close_fd t client fd
 change t client (op.Read fd n) =
     let d = opened t client fd in
-    with_fd t client fd (moved d (d.at + length (bytes_read t client fd n)))
+    with_fd t client fd (with_offset d (d.at + length (bytes_read t client fd n)))
 change t client (op.Write fd data') = write_fd t client fd data'
 change t client (op.Pread fd n at) = t
 change t client (op.Pwrite fd data' at) = written t (opened t client fd).file at data'
-change t client (op.Seek fd from by) = with_fd t client fd (moved (opened t client fd) (new_offset t client (op.Seek fd from by)))
+change t client (op.Seek fd from by) = with_fd t client fd (with_offset (opened t client fd) (new_offset t client (op.Seek fd from by)))
 change t client (op.Trunc fd size) = with_bytes t (opened t client fd).file (resized (file_bytes t client fd) size)
 change t client (op.Fsync fd) = t
 change t client op.Sync = t

@@ -6,7 +6,7 @@ use Rattle.ufs_model.specs.PosixTree.{PosixTree, Fds, is_live}
 use Rattle.ufs_model.specs.Walk.{node_at, file_of}
 use Rattle.ufs_model.specs.Directories.{renamed}
 use Rattle.ufs_model.specs.FileBytes.{content, place_of, put_at}
-use Rattle.ufs_model.specs.Descriptors.{Mode, opened, moved, desc_of}
+use Rattle.ufs_model.specs.Descriptors.{Mode, opened, with_offset, desc_of}
 use Rattle.ufs_model.specs.Posix.{posix, served, change, answer, forget, with_fd, with_bytes, written, open_node, write_fd, new_fd, rename_path}
 use Rattle.ufs_model.specs.Refusals.{refusal}
 use Rattle.ufs_model.specs.Asks.{IsDescAfter, desc_of_fd, fd_told}
@@ -79,7 +79,7 @@ write_others : (t : PosixTree) (client fd : ℕ) (data' : List ℕ) (c n : ℕ) 
 write_others t client fd data' c n apart = by (eqb (length data') 0)
   where
     by : (b : Bool) → map.get (cond {A = PosixTree} b t (with_fd (written t (opened t client fd).file (place_of (opened t client fd) (content t.bytes (opened t client fd).file)) data') client fd
-        (moved (opened t client fd) (place_of (opened t client fd) (content t.bytes (opened t client fd).file) + length data')))).fds (c, n) ≡ map.get t.fds (c, n)
+        (with_offset (opened t client fd) (place_of (opened t client fd) (content t.bytes (opened t client fd).file) + length data')))).fds (c, n) ≡ map.get t.fds (c, n)
     by true = refl
     by false =
         others_put client fd c n apart (written t (opened t client fd).file (place_of (opened t client fd) (content t.bytes (opened t client fd).file)) data').fds _

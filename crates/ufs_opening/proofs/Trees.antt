@@ -12,7 +12,7 @@ use Rattle.ufs_image.specs.Images.{form_at}
 use Rattle.ufs_image.specs.Catalog.{IsInode}
 use Rattle.ufs_image.specs.Damage.{bad_tree}
 use Rattle.ufs_image.specs.Volume.{Refusal, Volume, volume}
-use Rattle.ufs_image.specs.Opens.{opens, entries_of, by_damage, tree_of, node_bytes, walked, NodeBytes}
+use Rattle.ufs_image.specs.Opens.{opens, entries_of, by_damage, tree_from, node_bytes, walked, NodeBytes}
 use Rattle.ufs_image.specs.Opens as image
 use Rattle.ufs_model.specs.Order.{path_cmp}
 use Rattle.ufs_model.specs.PathEntries as entries
@@ -80,7 +80,7 @@ module _ (sectors : ℕ) (disk : Image) (v : Volume) (ps : List PathAt) (taken :
     (at : from_entries {R = path_cmp} (pairs_of ps) ≡ from_entries (places v.geometry v.image)) where
   opens_at : opens sectors disk ≡ Ok (from_entries (map (entry_of v.geometry v.image) (pairs_of ps)))
   opens_at =
-      ap (λ (w : Result Volume Refusal). tree_of (entries_of w)) taken ∙ ap (λ o. tree_of (by_damage v o)) whole
+      ap (λ (w : Result Volume Refusal). tree_from (entries_of w)) taken ∙ ap (λ o. tree_from (by_damage v o)) whole
       ∙ ap (λ (l : List image.PathEntry). Ok (from_entries l)) (walked_places v root)
       ∙ ap {B = Result image.ImageTree Refusal} Ok (sym (mapped_same {X = NodeBytes} (λ inode. node_bytes v.image (form_at v.geometry v.image inode)) (pairs_of ps) (places v.geometry v.image) at))
 

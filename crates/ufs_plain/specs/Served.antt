@@ -8,7 +8,7 @@ use Rattle.ufs_script.specs.declared.script.Script.{Script}
 
 -- One tree, which begins with the root alone, gives the history's replies; the history has each request of the script
 -- once, in its client's order; and the text is its reply lines, client by client.
-pub record IsServed (script : Script) (text : List ℕ) (history : List Entry) : Type 0 where
+pub record TellsReplies (script : Script) (text : List ℕ) (history : List Entry) : Type 0 where
   pub legal : IsLegal root_alone history
   pub ordered : IsInOrder script.clients history
   pub complete : IsComplete script.clients history

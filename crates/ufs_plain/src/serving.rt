@@ -2,7 +2,7 @@
 ghost use Rattle.std.specs.Prelude.{◌≡◌, ◌≢◌, List, Err, IfOk, IfErr};
 ghost use Rattle.ufs_base.specs.Faults.{raised};
 ghost use Rattle.ufs_model.specs.declared.data.Entry.{Entry};
-ghost use Rattle.ufs_plain.specs.Served.{IsServed};
+ghost use Rattle.ufs_plain.specs.Served.{TellsReplies};
 ghost use Rattle.ufs_script.specs.Reading.{ReadsScript, ReadsBreak};
 ghost use Rattle.ufs_script.specs.Script.{IsOutside};
 ghost use Rattle.ufs_script.specs.declared.script.Script.{Script};
@@ -15,7 +15,7 @@ use ufs_script::{Script, ScriptFault, read_script};
 use ufs_tree::serve;
 
 fn served(alloc: Global, script: Script) -> Result<Vec<u8>, Memory>
-    ensures { IfOk result (λ text. (history : List Entry) × IsServed script text.items history) }
+    ensures { IfOk result (λ text. (history : List Entry) × TellsReplies script text.items history) }
 {
     let clients = script.clients.as_slice().len() as u8;
     let history = serve(alloc, script.clients)?;
@@ -25,7 +25,7 @@ fn served(alloc: Global, script: Script) -> Result<Vec<u8>, Memory>
 /// Reads a script, serves it over a tree that begins with the root alone, and gives the text of its replies.
 pub fn replies<S: Source>(alloc: Global, source: &mut S) -> Result<Vec<u8>, ScriptFault>
     ensures ok { IfOk result (λ text. (script : Script) × (history : List Entry)
-        × ReadsScript (S.left source.old) (S.left source.new) script × IsServed script text.items history) }
+        × ReadsScript (S.left source.old) (S.left source.new) script × TellsReplies script text.items history) }
     ensures cause { result ≡ Err ScriptFault.Source → S.faults source.new ≡ raised (S.faults source.old) }
     ensures counted { result ≢ Err ScriptFault.Source → S.faults source.new ≡ S.faults source.old }
     ensures broken { IfErr result (λ fault. ¬ IsOutside fault → ReadsBreak (S.left source.old) (S.left source.new) fault) }

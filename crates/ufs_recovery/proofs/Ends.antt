@@ -19,7 +19,7 @@ use Rattle.ufs_damage.specs.Findings.{AreFindingsOf, CatalogRead}
 use Rattle.ufs_image.specs.Agree.{IsOfJournal}
 use Rattle.ufs_image.specs.Damage.{bad_tree}
 use Rattle.ufs_image.specs.Journal.{committed, epoch_in}
-use Rattle.ufs_image.specs.Opens.{ImageTree, opens, walked, entries_of, tree_of, by_damage}
+use Rattle.ufs_image.specs.Opens.{ImageTree, opens, walked, entries_of, tree_from, by_damage}
 use Rattle.ufs_image.specs.Proper.{IsProperImage, IsProperVolume, IsProperClean}
 use Rattle.ufs_image.specs.Volume as image
 use Rattle.ufs_image.specs.Volume.{Refusal, Volume, volume, volume_of, head_of}
@@ -46,7 +46,7 @@ proper_volume sectors image is = by (volume sectors image) refl is
 pub proper_opens : (sectors : ℕ) (image : Image) → IsProperImage sectors image → (tree : ImageTree) × (opens sectors image ≡ Ok tree)
 proper_opens sectors image is =
     let v = proper_volume sectors image is in
-    (from_entries (walked v.0), ap (λ r. tree_of (entries_of r)) v.1 ∙ ap (λ b. tree_of (by_damage v.0 b)) v.2.has_tree)
+    (from_entries (walked v.0), ap (λ r. tree_from (entries_of r)) v.1 ∙ ap (λ b. tree_from (by_damage v.0 b)) v.2.has_tree)
 
 same_volume : (v w : Volume) → ◌≡◌ {A = Result Volume Refusal} (Ok v) (Ok w) → v ≡ w
 same_volume v w e = cc
@@ -133,7 +133,7 @@ module _ (sectors : ℕ) (image : Image) (v : FoldedVolume) (is : volume sectors
 
   -- without blame it opens
   pub opens_there : bad_tree v.head.geometry (folded_image v image) ≡ None → (tree : ImageTree) × (opens sectors image ≡ Ok tree)
-  opens_there whole = (from_entries (walked (volume_in v image)), ap (λ r. tree_of (entries_of r)) is ∙ ap (λ b. tree_of (by_damage (volume_in v image) b)) whole)
+  opens_there whole = (from_entries (walked (volume_in v image)), ap (λ r. tree_from (entries_of r)) is ∙ ap (λ b. tree_from (by_damage (volume_in v image) b)) whole)
 
   pub opens_not : bad_tree v.head.geometry (folded_image v image) ≡ None → (refusal : Refusal) → opens sectors image ≡ Err refusal → ⊥
   opens_not whole refusal none = let at = opens_there whole in clash at.0 refusal (sym at.1 ∙ none)

@@ -19,7 +19,7 @@ use Rattle.ufs_model.specs.declared.data.Node.{Node}
 use Rattle.ufs_model.specs.Directories.{starts_with, is_below, has_entries, renamed, renamed_path}
 use Rattle.ufs_model.specs.Paths.{IsWhole}
 use Rattle.ufs_model.specs.PosixTree.{Paths, IsNamespace, stands, has_dir, root}
-use Rattle.ufs_tree.specs.Moved.{or_else, put_over, taken_away, moved}
+use Rattle.ufs_tree.specs.Moved.{or_else, put_over, taken_away, with_other_front}
 use Rattle.ufs_model.proofs.Facts.Orders.{path_total, path_same}
 use Rattle.ufs_calls.proofs.Facts.Maps.{looked}
 use Rattle.ufs_model.proofs.Facts.Lookups.{apart as lies_apart}
@@ -106,29 +106,29 @@ module _ (from to : List ℕ) where
     after-other [] out = refl
     after-other (e ∷ es) out = λ i. cond (tie_other e.0 out i) (Some e.1) (after-other es out i)
 
-    moved-other : (es : Nodes) → AllByRecursion (λ (e : List ℕ × Node). is_under from e.0 ≡ true) es → find path_cmp q (moved from to es) ≡ None
+    moved-other : (es : Nodes) → AllByRecursion (λ (e : List ℕ × Node). is_under from e.0 ≡ true) es → find path_cmp q (with_other_front from to es) ≡ None
     moved-other [] all = refl
     moved-other (e ∷ es) all = λ i. cond (other_name e.0 all.0 i) (Some e.1) (moved-other es all.1 i)
 
-  moved-under : (s : List ℕ) (es : Nodes) → AllByRecursion (λ (e : List ℕ × Node). is_under from e.0 ≡ true) es → find path_cmp (to ++ s) (moved from to es) ≡ find path_cmp (from ++ s) es
+  moved-under : (s : List ℕ) (es : Nodes) → AllByRecursion (λ (e : List ℕ × Node). is_under from e.0 ≡ true) es → find path_cmp (to ++ s) (with_other_front from to es) ≡ find path_cmp (from ++ s) es
   moved-under s [] all = refl
   moved-under s (e ∷ es) all =
       let same = ties-front to s (drop (length from) e.0) ∙ sym (ties-front from s (drop (length from) e.0)) ∙ ap (ties (from ++ s)) (sym (under_is from e.0 all.0).is) in
       λ i. cond (same i) (Some e.1) (moved-under s es all.1 i)
 
   -- the new names are in the order of the old ones
-  below-moved : (k : List ℕ) (es : Nodes) → k ≡ from ++ drop (length from) k → AllByRecursion (λ (e : List ℕ × Node). is_under from e.0 ≡ true) es → below_all path_cmp (to ++ drop (length from) k) (moved from to es) ≡ below_all path_cmp k es
+  below-moved : (k : List ℕ) (es : Nodes) → k ≡ from ++ drop (length from) k → AllByRecursion (λ (e : List ℕ × Node). is_under from e.0 ≡ true) es → below_all path_cmp (to ++ drop (length from) k) (with_other_front from to es) ≡ below_all path_cmp k es
   below-moved k [] is all = refl
   below-moved k (e ∷ es) is all =
       let same = cmp-front to (drop (length from) k) (drop (length from) e.0) ∙ sym (cmp-front from (drop (length from) k) (drop (length from) e.0))
       ∙ (λ i. path_cmp (sym is i) (sym (under_is from e.0 all.0).is i)) in
       λ i. is_lt (same i) && below-moved k es is all.1 i
 
-  rising-moved : (es : Nodes) → AllByRecursion (λ (e : List ℕ × Node). is_under from e.0 ≡ true) es → is_sorted path_cmp (moved from to es) ≡ is_sorted path_cmp es
+  rising-moved : (es : Nodes) → AllByRecursion (λ (e : List ℕ × Node). is_under from e.0 ≡ true) es → is_sorted path_cmp (with_other_front from to es) ≡ is_sorted path_cmp es
   rising-moved [] all = refl
   rising-moved (e ∷ es) all = λ i. below-moved e.0 es (under_is from e.0 all.0).is all.1 i && rising-moved es all.1 i
 
-  all_moved : (P : List ℕ → Type 0) (es : Nodes) → AllByRecursion (λ (e : List ℕ × Node). P (to ++ drop (length from) e.0)) es → AllByRecursion (λ (e : List ℕ × Node). P e.0) (moved from to es)
+  all_moved : (P : List ℕ → Type 0) (es : Nodes) → AllByRecursion (λ (e : List ℕ × Node). P (to ++ drop (length from) e.0)) es → AllByRecursion (λ (e : List ℕ × Node). P e.0) (with_other_front from to es)
   all_moved P [] all = tt
   all_moved P (e ∷ es) all = (all.0, all_moved P es all.1)
 
@@ -204,14 +204,14 @@ module _ (m : Paths) (from to : List ℕ) (node : Node) (olds : Nodes)
       (all_map (λ (e : List ℕ × Node). is_under from e.0 ≡ true) (λ (e : List ℕ × Node). length from ≤ length e.0)
       (λ e u. omega (arith, ap length (under_is from e.0 u).is, length-append from (drop (length from) e.0))) olds olds_under)
 
-  absent_each : AllByRecursion (λ (e : List ℕ × Node). fin.get m e.0 ≡ None) (moved from to olds)
+  absent_each : AllByRecursion (λ (e : List ℕ × Node). fin.get m e.0 ≡ None) (with_other_front from to olds)
   absent_each =
       all_moved from to (λ p. fin.get m p ≡ None) olds
       (all_map (λ (e : List ℕ × Node). is_below from e.0 ≡ true) (λ (e : List ℕ × Node). fin.get m (to ++ drop (length from) e.0) ≡ None)
       (λ e b. nothing_below (to ++ drop (length from) e.0) (ap (λ t. is_below to (to ++ t)) (rest_is from e.0 b) ∙ is_below_from to (drop (length (from ++ 47 ∷ [])) e.0))) olds olds_below)
 
-  pub news_absent : All (λ (e : List ℕ × Node). fin.get m e.0 ≡ None) (moved from to olds)
-  news_absent = All-from_recursion (λ (e : List ℕ × Node). fin.get m e.0 ≡ None) (moved from to olds) absent_each
+  pub news_absent : All (λ (e : List ℕ × Node). fin.get m e.0 ≡ None) (with_other_front from to olds)
+  news_absent = All-from_recursion (λ (e : List ℕ × Node). fin.get m e.0 ≡ None) (with_other_front from to olds) absent_each
 
   new_whole : (p : List ℕ) → IsWhole p → is_below from p ≡ true → IsWhole (to ++ drop (length from) p)
   new_whole p w b =
@@ -221,25 +221,25 @@ module _ (m : Paths) (from to : List ℕ) (node : Node) (olds : Nodes)
       subst (λ (t : List ℕ). IsWhole (to ++ t)) (sym (rest_is from p b))
       (with_rest to whole to_other r (rest_joined from from_whole from_other r old) (rest_allowed from from_whole from_other r old))
 
-  pub news_whole : All (λ (e : List ℕ × Node). IsWhole e.0) (moved from to olds)
+  pub news_whole : All (λ (e : List ℕ × Node). IsWhole e.0) (with_other_front from to olds)
   news_whole =
-      All-from_recursion (λ (e : List ℕ × Node). IsWhole e.0) (moved from to olds)
+      All-from_recursion (λ (e : List ℕ × Node). IsWhole e.0) (with_other_front from to olds)
       (all_moved from to IsWhole olds
       (all_map₂ (λ (e : List ℕ × Node). IsWhole e.0) (λ (e : List ℕ × Node). is_below from e.0 ≡ true) (λ (e : List ℕ × Node). IsWhole (to ++ drop (length from) e.0)) (λ e w b. new_whole e.0 w b) olds olds_whole olds_below))
 
-  pub news_rising : is_sorted path_cmp (moved from to olds) ≡ true
+  pub news_rising : is_sorted path_cmp (with_other_front from to olds) ≡ true
   news_rising =
       rising-moved from to olds olds_under
       ∙ ap (is_sorted path_cmp) are ∙ rising-filter path_cmp (λ (e : List ℕ × Node). starts_with (from ++ 47 ∷ []) e.0) (fin.entries m) (entries-rise m)
 
   -- want of memory at the last step undoes the others
-  pub all_undone : (put done : Paths) → ((q : List ℕ) → fin.get put q ≡ put_over (moved from to olds) (fin.get m q) q) → ((q : List ℕ) → fin.get done q ≡ taken_away (moved from to olds) (fin.get put q) q) → done ≡ m
-  all_undone put done = undone_list put m done (moved from to olds) absent_each
+  pub all_undone : (put done : Paths) → ((q : List ℕ) → fin.get put q ≡ put_over (with_other_front from to olds) (fin.get m q) q) → ((q : List ℕ) → fin.get done q ≡ taken_away (with_other_front from to olds) (fin.get put q) q) → done ≡ m
+  all_undone put done = undone_list put m done (with_other_front from to olds) absent_each
 
   -- ---- what stands at each path in the end
 
   abbrev in_the_end : List ℕ → Option Node
-  in_the_end q = cond (ties q from) None (taken_away olds (cond (ties q to) (Some node) (put_over (moved from to olds) (fin.get m q) q)) q)
+  in_the_end q = cond (ties q from) None (taken_away olds (cond (ties q to) (Some node) (put_over (with_other_front from to olds) (fin.get m q) q)) q)
 
   no_old : (s : List ℕ) → is_tail s ≡ true → find path_cmp (to ++ s) olds ≡ None
   no_old [] tail = find_olds (to ++ []) ∙ ap (λ b. cond b (fin.get m (to ++ [])) None) (ap (is_below from) (append-nil to) ∙ outside)
@@ -247,15 +247,15 @@ module _ (m : Paths) (from to : List ℕ) (node : Node) (olds : Nodes)
       let here = ap (λ c. fin.get m (to ++ c ∷ r)) (eqb-true b 47 tail) ∙ nothing_below (to ++ 47 ∷ r) (is_below_from to r) in
       find_olds (to ++ b ∷ r) ∙ ap (λ o. cond (is_below from (to ++ b ∷ r)) o None) here ∙ none_either (is_below from (to ++ b ∷ r))
 
-  put_there : (s : List ℕ) → is_tail s ≡ true → cond (ties (to ++ s) to) (Some node) (put_over (moved from to olds) (fin.get m (to ++ s)) (to ++ s)) ≡ fin.get m (from ++ s)
+  put_there : (s : List ℕ) → is_tail s ≡ true → cond (ties (to ++ s) to) (Some node) (put_over (with_other_front from to olds) (fin.get m (to ++ s)) (to ++ s)) ≡ fin.get m (from ++ s)
   put_there [] tail =
-      ap (λ b. cond b (Some node) (put_over (moved from to olds) (fin.get m (to ++ [])) (to ++ []))) (ap (λ p. ties p to) (append-nil to) ∙ tie_self to)
+      ap (λ b. cond b (Some node) (put_over (with_other_front from to olds) (fin.get m (to ++ [])) (to ++ []))) (ap (λ p. ties p to) (append-nil to) ∙ tie_self to)
       ∙ sym there ∙ ap (fin.get m) (sym (append-nil from))
   put_there (b ∷ r) tail =
       let slash = eqb-true b 47 tail in
       let here = ap (λ c. fin.get m (to ++ c ∷ r)) slash ∙ nothing_below (to ++ 47 ∷ r) (is_below_from to r) in
       let longer : to ++ b ∷ r ≡ to → ⊥ = λ is. absurd (omega (arith, ap length is, length-append to (b ∷ r))) in
-      ap (λ t. cond t (Some node) (put_over (moved from to olds) (fin.get m (to ++ b ∷ r)) (to ++ b ∷ r))) (not_tied (to ++ b ∷ r) to longer)
+      ap (λ t. cond t (Some node) (put_over (with_other_front from to olds) (fin.get m (to ++ b ∷ r)) (to ++ b ∷ r))) (not_tied (to ++ b ∷ r) to longer)
       ∙ (λ i. or_else (moved-under from to (b ∷ r) olds olds_under i) (here i))
       ∙ or_none (find path_cmp (from ++ b ∷ r) olds)
       ∙ find_olds (from ++ b ∷ r)
@@ -264,9 +264,9 @@ module _ (m : Paths) (from to : List ℕ) (node : Node) (olds : Nodes)
   end-under : (s : List ℕ) → is_tail s ≡ true → in_the_end (to ++ s) ≡ fin.get (renamed m from to) (to ++ s)
   end-under s tail =
       let es = fin.entries (fin.remove m to) in
-      ap (λ b. cond b None (taken_away olds (cond (ties (to ++ s) to) (Some node) (put_over (moved from to olds) (fin.get m (to ++ s)) (to ++ s))) (to ++ s)))
+      ap (λ b. cond b None (taken_away olds (cond (ties (to ++ s) to) (Some node) (put_over (with_other_front from to olds) (fin.get m (to ++ s)) (to ++ s))) (to ++ s)))
       (not_tied (to ++ s) from (λ is. not_both (is_under to from) (ap (is_under to) (sym is) ∙ under-append to s tail) from_outside))
-      ∙ ap (λ o. cond (is_some o) None (cond (ties (to ++ s) to) (Some node) (put_over (moved from to olds) (fin.get m (to ++ s)) (to ++ s)))) (no_old s tail)
+      ∙ ap (λ o. cond (is_some o) None (cond (ties (to ++ s) to) (Some node) (put_over (with_other_front from to olds) (fin.get m (to ++ s)) (to ++ s)))) (no_old s tail)
       ∙ put_there s tail
       ∙ sym (found_after (from ++ s) (λ is. not_both (is_under from to) (ap (is_under from) (sym is) ∙ under-append from s tail) to_outside))
       ∙ sym (after-under from to s es tail clear)
@@ -274,7 +274,7 @@ module _ (m : Paths) (from to : List ℕ) (node : Node) (olds : Nodes)
 
   end-other : (q : List ℕ) → is_under to q ≡ false → in_the_end q ≡ fin.get (renamed m from to) q
   end-other q away =
-      ap (λ b. cond (ties q from) None (taken_away olds (cond b (Some node) (put_over (moved from to olds) (fin.get m q) q)) q)) (not_tied q to differ)
+      ap (λ b. cond (ties q from) None (taken_away olds (cond b (Some node) (put_over (with_other_front from to olds) (fin.get m q) q)) q)) (not_tied q to differ)
       ∙ ap (λ o. cond (ties q from) None (taken_away olds (or_else o (fin.get m q)) q)) (moved-other from to q away olds olds_under)
       ∙ ap (λ o. cond (ties q from) None (cond (is_some o) None (fin.get m q))) (find_olds q)
       ∙ ap (λ b. cond b None (cond (is_some (cond (is_below from q) (fin.get m q) None)) None (fin.get m q))) (tie_bytes q from)
@@ -305,7 +305,7 @@ module _ (m : Paths) (from to : List ℕ) (node : Node) (olds : Nodes)
       by false e = end-other q e
 
   -- the four steps: the paths below under their new names, the node itself, and the old names taken away
-  pub renamed_is : (added set taken done : Paths) → ((q : List ℕ) → fin.get added q ≡ put_over (moved from to olds) (fin.get m q) q) → set ≡ fin.insert added to node
+  pub renamed_is : (added set taken done : Paths) → ((q : List ℕ) → fin.get added q ≡ put_over (with_other_front from to olds) (fin.get m q) q) → set ≡ fin.insert added to node
       → ((q : List ℕ) → fin.get taken q ≡ taken_away olds (fin.get set q) q) → done ≡ fin.remove taken from → done ≡ renamed m from to
   renamed_is added set taken done a s t d = same_map path_total path_same done (renamed m from to) (λ q.
       ap (λ (n : Paths). fin.get n q) d ∙ get-remove path_total taken from q

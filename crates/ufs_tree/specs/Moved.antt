@@ -18,5 +18,5 @@ abbrev pub taken_away : List (List ℕ × Node) → Option Node → List ℕ →
 taken_away nodes before path = if is_some (find path_cmp path nodes) then None else before
 
 -- the nodes, their paths with other bytes in the place of the first
-abbrev pub moved : List ℕ → List ℕ → List (List ℕ × Node) → List (List ℕ × Node)
-moved from to nodes = map (λ e. (to ++ drop (length from) e.0, e.1)) nodes
+abbrev pub with_other_front : List ℕ → List ℕ → List (List ℕ × Node) → List (List ℕ × Node)
+with_other_front from to nodes = map (λ e. (to ++ drop (length from) e.0, e.1)) nodes

@@ -1,7 +1,7 @@
 // What each client's descriptors stand for, with what has to be known of them without a search.
 ghost use Rattle.std.specs.Prelude.{◌≡◌, OnOk, OnErr, IfSome, None};
 ghost use Rattle.std.specs.FinMap as map;
-ghost use Rattle.ufs_model.specs.Descriptors.{moved};
+ghost use Rattle.ufs_model.specs.Descriptors.{with_offset};
 
 use crate::counts::{Counts, lower_file, raise_file};
 use crate::desc_map::DescMap;
@@ -39,7 +39,7 @@ impl FdMap {
     ghost use Rattle.std.specs.List.{list_any};
     ghost use Rattle.std.specs.FinMap as map;
     ghost use Rattle.ufs_model.specs.declared.data.Desc.{Desc};
-    ghost use Rattle.ufs_model.specs.Descriptors.{lowest_free, moved};
+    ghost use Rattle.ufs_model.specs.Descriptors.{lowest_free, with_offset};
     ghost use Rattle.ufs_model.specs.PosixTree.{is_desc_of};
 
     pub fn new(alloc: Global) -> Self
@@ -75,7 +75,7 @@ impl FdMap {
 
     /// Moves the offset of an open descriptor. Takes no memory.
     pub fn set_offset(&mut self, client: u8, fd: u64, at: u64)
-        ensures moved { (d : Desc) → map.get self.old (client, fd) ≡ Some d → self.new ≡ map.insert self.old (client, fd) (moved d at) }
+        ensures moved { (d : Desc) → map.get self.old (client, fd) ≡ Some d → self.new ≡ map.insert self.old (client, fd) (with_offset d at) }
         ensures none { map.get self.old (client, fd) ≡ None → self.new ≡ self.old }
     {
         let Some(desc) = self.get(client, fd) else {
@@ -119,7 +119,7 @@ impl FdMap {
 }
 
 fn moved(desc: Desc, at: u64) -> Desc
-    ensures { result ≡ moved desc at }
+    ensures { result ≡ with_offset desc at }
 {
     Desc { at, ..desc }
 }

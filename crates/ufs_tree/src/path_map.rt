@@ -6,7 +6,7 @@ ghost use Rattle.ufs_model.specs.Paths.{IsWhole, components};
 ghost use Rattle.ufs_model.specs.PosixTree.{is_number, is_node_of};
 ghost use Rattle.ufs_tree.specs.Below.{names_among};
 ghost use Rattle.ufs_tree.specs.Counted.{dir_count};
-ghost use Rattle.ufs_tree.specs.Moved.{moved};
+ghost use Rattle.ufs_tree.specs.Moved.{with_other_front};
 
 use crate::counts::{Counts, lower_file, raise_file};
 use crate::node_map::NodeMap;
@@ -320,7 +320,7 @@ fn moved(
     to: &[u8],
 ) -> Result<Vec<(Bytes, Node)>, AllocError>
     requires { All (λ e. length from.now ≤ length e.0) nodes.now }
-    ensures { IfOk result (λ news. news.items ≡ moved from.now to.now nodes.now) }
+    ensures { IfOk result (λ news. news.items ≡ with_other_front from.now to.now nodes.now) }
 {
     let mut news = Vec::new(alloc);
     for entry in nodes {

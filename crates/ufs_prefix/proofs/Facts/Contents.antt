@@ -8,7 +8,7 @@ use Rattle.ufs_model.specs.Paths.{whole_of}
 use Rattle.ufs_model.specs.PosixTree.{PosixTree, Files, IsTree, desc_at, is_number, is_live}
 use Rattle.ufs_model.specs.Walk.{node_at, file_of}
 use Rattle.ufs_model.specs.Directories.{renamed}
-use Rattle.ufs_model.specs.Descriptors.{Mode, opened, closed, moved, desc_of, mode_of_open}
+use Rattle.ufs_model.specs.Descriptors.{Mode, opened, closed, with_offset, desc_of, mode_of_open}
 use Rattle.ufs_model.specs.FileBytes.{bytes_of, content, put_at, resized, place_of}
 use Rattle.ufs_model.specs.Posix.{change, with_fd, with_bytes, forget, open_node, written, write_fd, rename_path, new_fd, file_bytes}
 use Rattle.ufs_model.specs.History.{IsReplyTo, goes_on}
@@ -145,7 +145,7 @@ module _ (t : PosixTree) (f : ℕ) where
       at : ℕ
       at = place_of (opened t client fd) (content t.bytes (opened t client fd).file)
 
-      by : (b : Bool) → (cond b t (with_fd (cond b t (with_bytes t (opened t client fd).file (put_at (content t.bytes (opened t client fd).file) (place_of (opened t client fd) (content t.bytes (opened t client fd).file)) data'))) client fd (moved (opened t client fd) (place_of (opened t client fd) (content t.bytes (opened t client fd).file) + length data')))).bytes
+      by : (b : Bool) → (cond b t (with_fd (cond b t (with_bytes t (opened t client fd).file (put_at (content t.bytes (opened t client fd).file) (place_of (opened t client fd) (content t.bytes (opened t client fd).file)) data'))) client fd (with_offset (opened t client fd) (place_of (opened t client fd) (content t.bytes (opened t client fd).file) + length data')))).bytes
           ≡ (cond b t (with_bytes t (opened t client fd).file (put_at (content t.bytes (opened t client fd).file) (place_of (opened t client fd) (content t.bytes (opened t client fd).file)) data'))).bytes
       by true = refl
       by false = refl

@@ -5,7 +5,7 @@ use Rattle.ufs_model.specs.Paths.{whole_of}
 use Rattle.ufs_model.specs.PosixTree.{PosixTree, is_live}
 use Rattle.ufs_model.specs.Walk.{node_at, file_of}
 use Rattle.ufs_model.specs.Directories.{renamed}
-use Rattle.ufs_model.specs.Descriptors.{Mode, opened, moved, desc_of, mode_of_open}
+use Rattle.ufs_model.specs.Descriptors.{Mode, opened, with_offset, desc_of, mode_of_open}
 use Rattle.ufs_model.specs.FileBytes.{content, put_at, place_of}
 use Rattle.ufs_model.specs.Refusals.{refusal}
 use Rattle.ufs_model.specs.Posix.{posix, served, answer, change, with_fd, with_bytes, forget, open_node, written, write_fd, rename_path, new_fd, stat_reply}
@@ -113,7 +113,7 @@ names_write_fd t client fd data' = by (eqb (length data') 0)
     d : Desc
     d = opened t client fd
 
-    by : (b : Bool) → names_of (cond b t (with_fd (written t (opened t client fd).file (place_of (opened t client fd) (content t.bytes (opened t client fd).file)) data') client fd (moved (opened t client fd) (place_of (opened t client fd) (content t.bytes (opened t client fd).file) + length data')))) ≡ names_of t
+    by : (b : Bool) → names_of (cond b t (with_fd (written t (opened t client fd).file (place_of (opened t client fd) (content t.bytes (opened t client fd).file)) data') client fd (with_offset (opened t client fd) (place_of (opened t client fd) (content t.bytes (opened t client fd).file) + length data')))) ≡ names_of t
     by true = refl
     by false = names_written t (opened t client fd).file (place_of (opened t client fd) (content t.bytes (opened t client fd).file)) data'
 

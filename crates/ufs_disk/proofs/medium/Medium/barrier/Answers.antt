@@ -1,6 +1,6 @@
 use Rattle.std.proofs.Common.{◌≡◌, true, sym, ◌∙◌, ap, subst}
 use Rattle.ufs_disk.specs.Disk.{IsImage}
-use Rattle.ufs_disk.specs.Moments.{LeavesOnly, moved}
+use Rattle.ufs_disk.specs.Moments.{LeavesOnly, gone_to}
 use Rattle.ufs_disk.specs.Bytes.{begun}
 use Rattle.ufs_disk.specs.Calls.{after_calls, settled}
 use Rattle.ufs_disk.specs.Pending.{held_state}
@@ -36,13 +36,13 @@ invariant_of-self-2 c =
     let m = begun c.args.self.now.first.items in
     let old = c.args.self.now.calls.items in
     let new = c.note.new.calls.items in
-    let is : after_calls new m ≡ moved (settled (after_calls old m).state) (after_calls old m) = after_passed m old new Barrier c.in_ok-note.ensures.ok in
+    let is : after_calls new m ≡ gone_to (settled (after_calls old m).state) (after_calls old m) = after_passed m old new Barrier c.in_ok-note.ensures.ok in
     record {
       in_range = c.args.self.now.in_range;
       sized = c.args.self.now.sized;
-      held = still_held (moved (settled (after_calls old m).state) (after_calls old m)) (after_calls new m) is _
+      held = still_held (gone_to (settled (after_calls old m).state) (after_calls old m)) (after_calls new m) is _
           (ap (held_state c.args.self.now.bytes.items) c.new.ensures.items ∙ ap settled c.args.self.now.held);
-      whole = still_whole (moved (settled (after_calls old m).state) (after_calls old m)) (after_calls new m) is c.args.self.now.sectors
+      whole = still_whole (gone_to (settled (after_calls old m).state) (after_calls old m)) (after_calls new m) is c.args.self.now.sectors
           (settled_whole c.args.self.now.sectors (after_calls old m).state c.args.self.now.whole);
     }
 

@@ -6,7 +6,7 @@ use Rattle.ufs_model.specs.Order.{path_cmp}
 use Rattle.ufs_model.specs.Paths.{IsWhole}
 use Rattle.ufs_model.specs.PosixTree.{Paths}
 use Rattle.ufs_model.specs.declared.data.Node.{Node}
-use Rattle.ufs_tree.specs.Moved.{put_over, taken_away, moved}
+use Rattle.ufs_tree.specs.Moved.{put_over, taken_away, with_other_front}
 use Rattle.ufs_tree.proofs.NameLemmas.{Nodes}
 use Rattle.ufs_tree.proofs.RenameLemmas.{long_enough, news_absent, news_whole, news_rising, all_undone, renamed_is}
 use Rattle.ufs_tree.proofs.path_map.PathMap.rename.Goals as goal
@@ -52,7 +52,7 @@ returns-in-Err-clause-err c =
     (λ q. c.in_ok-add_all.ensures.ok q ∙ ap (λ (es : Nodes). put_over es (map.get c.args.self.now q) q) (c.as_slice-2.ensures.value ∙ c.in_ok-news.ensures))
     (λ q. c.remove_all.ensures q
     ∙ ap (λ (es : Nodes). taken_away es (map.get c.put.new.self q) q) (c.as_slice-in-Err.ensures.value ∙ c.in_ok-news.ensures)
-    ∙ ap (λ (m : Paths). taken_away (moved c.args.from.now c.args.to.now c.as_slice.result.now) (map.get m q) q) c.in-Err.ensures.err)
+    ∙ ap (λ (m : Paths). taken_away (with_other_front c.args.from.now c.args.to.now c.as_slice.result.now) (map.get m q) q) c.in-Err.ensures.err)
 
 pub returns-clause-ok : goal.returns-clause-ok
 returns-clause-ok c =
