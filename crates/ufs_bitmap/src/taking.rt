@@ -28,7 +28,7 @@ pub fn take_runs(alloc: Global, pool: &mut Pool, want: u32) -> Result<Vec<Run>, 
     Ok(runs)
 }
 
-/// Takes the next run out of a pool that has so many blocks.
+// Takes the next run out of a pool that has so many blocks.
 fn take_run(pool: &mut Pool, want: u32) -> Run
     requires some { 1 ≤ want }
     requires enough { want ≤ set.len pool.old }

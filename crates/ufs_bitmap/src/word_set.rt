@@ -15,7 +15,7 @@ use ufs_extent::Run;
 pub(crate) struct WordSet {
     words: Vec<u64>,
     count: u32,
-    /// Each word below this one is 0.
+    // Each word below this one is 0.
     low: usize,
 }
 
@@ -84,7 +84,7 @@ impl WordSet {
         self.count -= 1;
     }
 
-    /// The lowest block of the set. The words below it aren't looked at again until a block comes into them.
+    // The lowest block of the set. The words below it aren't looked at again until a block comes into them.
     fn lowest(&mut self) -> Option<u32>
         ensures same { self.new ≡ self.old }
         ensures held { IfSome result (λ b. set.contains self.old.blocks b ≡ true) }
@@ -147,7 +147,7 @@ impl WordSet {
     }
 }
 
-/// The first word from `from` on that isn't 0, or the length.
+// The first word from `from` on that isn't 0, or the length.
 fn first_word(words: &[u64], from: usize) -> usize
     requires { from ≤ length words.now }
     ensures within { result ≤ length words.now }

@@ -1,4 +1,3 @@
-// The bytes of each file.
 ghost use Rattle.std.specs.Prelude.{◌≡◌, ◌≤◌, ◌+◌, ◌-◌, ◌++◌, ◌^◌, OnOk, OnErr, length, take, drop, replicate};
 ghost use Rattle.std.specs.FinMap as map;
 ghost use Rattle.ufs_model.specs.FileBytes.{put_at, resized};
@@ -151,6 +150,7 @@ impl FileMap {
     pub fn remove(&mut self, file: u32)
         ensures { self.new ≡ map.remove self.old file }
     {
+        // For the prover alone.
         let _count = self.entries.len();
         let _bytes = self.entries.remove(&file);
     }

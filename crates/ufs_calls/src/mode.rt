@@ -1,4 +1,3 @@
-// How a path is opened.
 use ufs_model::{Desc, Op};
 
 /// How a path is opened.

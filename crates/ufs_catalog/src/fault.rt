@@ -1,4 +1,3 @@
-// Why an image isn't read.
 use std::alloc::AllocError;
 
 /// Why an image isn't read.

@@ -1,4 +1,3 @@
-// The inode table.
 ghost use Rattle.std.specs.Prelude.{◌≡◌, ◌≤◌, ◌++◌, ◌∷◌, [], map, length, IsTrue, IfOk, IfErr, OnOk};
 ghost use Rattle.ufs_base.specs.Images.{Image};
 ghost use Rattle.ufs_base.specs.declared.sizes.TheConstants.{BLOCK};

@@ -14,7 +14,7 @@ use ufs_base::SECTOR;
 use ufs_disk::Disk;
 use ufs_overlay::Overlay;
 
-/// The sectors of a block.
+// The sectors of a block.
 const SECTORS: u32 = 8;
 
 // Reads whole sectors.

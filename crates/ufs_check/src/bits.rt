@@ -19,7 +19,7 @@ use ufs_disk::Disk;
 use ufs_layout::Geometry;
 use ufs_overlay::Overlay;
 
-/// The sectors of a block.
+// The sectors of a block.
 const SECTORS: u32 = 8;
 
 // Compares the eight sectors of a block of the bitmap; blocks count from the bitmap's first.

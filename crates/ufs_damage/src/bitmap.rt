@@ -13,7 +13,7 @@ ghost use Rattle.ufs_damage.specs.Taken.{AreTaken, bit_damage, bit_of};
 use crate::{Damage, DamageList, TakenBlocks};
 use ufs_base::{Memory, SECTOR, SECTORS_PER_BLOCK};
 
-/// The bits of a sector of the bitmap.
+// The bits of a sector of the bitmap.
 const SECTOR_BITS: u32 = 4_096;
 
 fn bit_of(bytes: &[u8], place: u32) -> bool

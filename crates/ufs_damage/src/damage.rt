@@ -1,4 +1,3 @@
-// Damage and lists of it.
 ghost use Rattle.std.specs.Prelude.{◌≡◌, ◌++◌, ◌∷◌, [], map, OnOk, OnErr};
 ghost use Rattle.std.specs.Option.{option_map, option_to_list};
 ghost use Rattle.ufs_damage.specs.Meaning.{meaning};

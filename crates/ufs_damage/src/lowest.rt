@@ -1,4 +1,3 @@
-// The lowest inode that is blamed.
 ghost use Rattle.std.specs.Prelude.{◌≡◌, ◌≤◌, map};
 ghost use Rattle.ufs_layout.specs.Areas.{is_inode_number};
 ghost use Rattle.ufs_image.specs.Damage.{blamed, lowest_blamed};

@@ -1,4 +1,3 @@
-// The first two holders of each number.
 ghost use Rattle.std.specs.Prelude.{ℕ, List, ◌≡◌, ◌<◌, ◌≤◌, ◌+◌, [], length, IfOk};
 ghost use Rattle.std.specs.List.{range_with_len};
 ghost use Rattle.ufs_damage.specs.Marks.{AreMarks, all_more, one_more, with_holder};

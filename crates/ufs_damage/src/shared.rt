@@ -22,6 +22,7 @@ fn mark_extents(marks: &mut [Held], geometry: &Geometry, inode: u32, extents: &[
     requires inside { list_any (leaves_data geometry.now) extents.now ≡ false }
     ensures { (holders : ℕ → List ℕ) → AreMarks marks.old holders → AreMarks marks.new (all_more holders inode (flat_map (λ (e : Extent). range_with_len e.start e.length) extents.now)) }
 {
+    // For the prover alone.
     let _blocks = geometry.blocks;
     for extent in extents {
         mark_run(marks, extent.start, extent.length, inode);

@@ -1,4 +1,3 @@
-// Blocks that are used.
 ghost use Rattle.std.specs.Prelude.{◌≡◌, ◌<◌, ◌^◌, false, length, slice_index_or, IfOk};
 ghost use Rattle.ufs_base.specs.Images.{Image};
 ghost use Rattle.ufs_layout.specs.Areas.{IsGeometry};

@@ -1,4 +1,3 @@
-// All damage of the tree.
 ghost use Rattle.std.specs.Prelude.{◌≡◌, length, IfOk};
 ghost use Rattle.ufs_base.specs.Images.{Image};
 ghost use Rattle.ufs_layout.specs.Areas.{IsGeometry};

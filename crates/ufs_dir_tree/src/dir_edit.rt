@@ -165,7 +165,7 @@ impl DirTree {
         give_inode(&mut self.free, inode);
     }
 
-    /// Drops the name, where it stands for something. Where it doesn't, sees to a free slot.
+    // Drops the name, where it stands for something. Where it doesn't, sees to a free slot.
     fn clear_name(&mut self, dir: u32, name: &[u8], pool: &mut Pool) -> Result<Cleared, Excuse>
         requires met { IsMet self.old dir }
         requires may_go { (i : ℕ) → option_map found_of (entry_of (slots_at self.old dir) name.now) ≡ Some (found.Dir i) → IsBare (slots_at self.old i) }
@@ -205,7 +205,7 @@ impl DirTree {
         }
     }
 
-    /// Sees to a free slot in the directory, and tells the block that it took for it.
+    // Sees to a free slot in the directory, and tells the block that it took for it.
     fn make_room(&mut self, dir: u32, pool: &mut Pool) -> Result<Option<u32>, Excuse>
         requires met { IsMet self.old dir }
         requires apart { IsApart self.old pool.old }
@@ -227,7 +227,7 @@ impl DirTree {
         give_room_at(&mut self.dirs, dir as usize, pool)
     }
 
-    /// Sees to a free slot in the directory, and to an inode that nothing names yet.
+    // Sees to a free slot in the directory, and to an inode that nothing names yet.
     fn make(&mut self, dir: u32, kind: Kind, pool: &mut Pool) -> Result<Made, Excuse>
         requires met { IsMet self.old dir }
         requires apart { IsApart self.old pool.old }
@@ -258,7 +258,7 @@ impl DirTree {
         }
     }
 
-    /// The lowest free inode. Nothing names it yet.
+    // The lowest free inode. Nothing names it yet.
     fn take(&mut self, kind: Kind) -> u32
         requires { self.old.free ≢ set.empty }
         ensures inode { TakesLowest self.old.free self.new.free result }
@@ -268,6 +268,7 @@ impl DirTree {
         ensures steps { (pool : BlockSet) → GoesBy self.old self.new pool pool (Born result (code_of kind) ∷ []) }
         ensures table { IsDirTable self.new }
     {
+        // For the prover alone.
         let _kind = kind;
         match take_inode(&mut self.free) {
             Some(inode) => inode,
@@ -275,7 +276,7 @@ impl DirTree {
         }
     }
 
-    /// Gives what nothing leads to a name in the directory, which has a free slot.
+    // Gives what nothing leads to a name in the directory, which has a free slot.
     fn attach(&mut self, dir: u32, name: &[u8], inode: u32, kind: u8) -> Slot
         requires met { IsMet self.old dir }
         requires named { IsName name.now }
@@ -294,7 +295,7 @@ impl DirTree {
         )
     }
 
-    /// Takes a name out of the directory below which nothing stands. Nothing leads any more to what it stood for.
+    // Takes a name out of the directory below which nothing stands. Nothing leads any more to what it stood for.
     fn detach(&mut self, dir: u32, name: &[u8]) -> Taken
         requires met { IsMet self.old dir }
         requires stands { IsSome (entry_of (slots_at self.old dir) name.now) }
@@ -313,7 +314,7 @@ impl DirTree {
         take_out_at(&mut self.dirs, dir as usize, name)
     }
 
-    /// Gives what stands at `from`, with all below it, the name `to`, at which nothing stands, in a free slot.
+    // Gives what stands at `from`, with all below it, the name `to`, at which nothing stands, in a free slot.
     fn pass(&mut self, from_dir: u32, from: &PathText, to_dir: u32, to: &PathText) -> Passed
         requires from_dir { found_at self.old (names_above from.now) ≡ Some (found.Dir from_dir) }
         requires to_dir { found_at self.old (names_above to.now) ≡ Some (found.Dir to_dir) }
@@ -336,7 +337,7 @@ impl DirTree {
         }
     }
 
-    /// Takes the name out of the directory. The inode of a directory that it stood for is free. Takes no memory.
+    // Takes the name out of the directory. The inode of a directory that it stood for is free. Takes no memory.
     fn drop_entry(&mut self, dir: u32, name: &[u8], pool: &mut Pool) -> Slot
         requires met { IsMet self.old dir }
         requires stands { IsSome (entry_of (slots_at self.old dir) name.now) }
@@ -358,22 +359,22 @@ impl DirTree {
     }
 }
 
-/// The slot of a name that was dropped, if it stood for something, and the block that the directory took else, if it
-/// did.
+// The slot of a name that was dropped, if it stood for something, and the block that the directory took else, if it
+// did.
 #[derive(Clone, Copy)]
 struct Cleared {
     dropped: Option<Slot>,
     grown: Option<u32>,
 }
 
-/// The slot that a moved dentry left and the one that it stands in now.
+// The slot that a moved dentry left and the one that it stands in now.
 #[derive(Clone, Copy)]
 struct Passed {
     left: Slot,
     taken: Slot,
 }
 
-/// A new inode, and the block that the directory took for its name, if it did.
+// A new inode, and the block that the directory took for its name, if it did.
 #[derive(Clone, Copy)]
 struct Made {
     inode: u32,

@@ -26,7 +26,7 @@ pub(crate) struct Taken {
     pub(crate) slot: Slot,
 }
 
-/// The block goes behind the others, which then lie in at most 56 extents.
+// The block goes behind the others, which then lie in at most 56 extents.
 fn add_block(dir: &mut DirBlocks, block: u32) -> Result<(), Excuse>
     requires small { block < 65536 }
     requires absent { has_block dir.old.blocks block ≡ false }
@@ -52,7 +52,7 @@ fn add_block(dir: &mut DirBlocks, block: u32) -> Result<(), Excuse>
     }
 }
 
-/// Adds the pool's lowest block where each slot is used.
+// Adds the pool's lowest block where each slot is used.
 fn give_room(dir: &mut DirBlocks, pool: &mut Pool) -> Result<Option<u32>, Excuse>
     requires apart { HasNone pool.old dir.old.blocks }
     requires few { length (extents_of dir.old.blocks) ≤ 56 }
@@ -86,7 +86,7 @@ fn give_room(dir: &mut DirBlocks, pool: &mut Pool) -> Result<Option<u32>, Excuse
     }
 }
 
-/// Puts the entry into a free slot.
+// Puts the entry into a free slot.
 fn put_in(dir: &mut DirBlocks, entry: Dentry) -> Slot
     requires form { IsTrue (is_dentry entry) }
     requires named { IsTrue (is_named entry) }
@@ -101,7 +101,7 @@ fn put_in(dir: &mut DirBlocks, entry: Dentry) -> Slot
     dir.insert(entry).unwrap()
 }
 
-/// Takes the name's entry out.
+// Takes the name's entry out.
 fn take_out(dir: &mut DirBlocks, name: &[u8]) -> Taken
     requires { IsSome (entry_of dir.old.slots name.now) }
     ensures whole { IsDirectory dir.new }
@@ -119,7 +119,7 @@ fn take_out(dir: &mut DirBlocks, name: &[u8]) -> Taken
     Taken { entry, slot }
 }
 
-/// No block is the directory's any more, and those that were are the pool's. Takes no memory.
+// No block is the directory's any more, and those that were are the pool's. Takes no memory.
 fn clear(alloc: Global, dir: &mut DirBlocks, pool: &mut Pool)
     requires { HasNone pool.old dir.old.blocks }
     ensures dir { dir.new ≡ no_dir }

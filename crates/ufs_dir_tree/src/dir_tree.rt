@@ -20,7 +20,7 @@ use ufs_path::PathText;
 /// The kind of a dentry that names a directory.
 pub(crate) const DIRECTORY: u8 = 2;
 
-/// The inode of the root.
+// The inode of the root.
 const ROOT: u32 = 1;
 
 /// The directories of a tree. A directory or a file may have another name without a look at what lies below it.
@@ -116,6 +116,7 @@ impl DirTree {
         ensures dir { IfOk result (λ l. path.now ≢ [] → found_at self.now (names_above path.now) ≡ Some (found.Dir l.dir)) }
         ensures table { IsDirTable self.now }
     {
+        // For the prover alone.
         let _ = &self.alloc;
         let mut dir = ROOT;
         let mut at = Some(Found::Dir { inode: ROOT });
@@ -168,20 +169,21 @@ impl DirTree {
     }
 }
 
-/// So many directories without blocks.
+// So many directories without blocks.
 fn bare_dirs(alloc: Global, count: usize) -> Result<Vec<DirBlocks>, Memory>
     ensures counted { IfOk result (λ dirs. length dirs.items ≡ count) }
     ensures bare { IfOk result (λ dirs. (i : ℕ) → dir_in dirs.items i ≡ no_dir) }
 {
     let mut dirs = Vec::with_capacity(alloc, count)?;
     for made in 0..count {
+        // For the prover alone.
         let _ = made;
         dirs.push(DirBlocks::new(alloc))?;
     }
     Ok(dirs)
 }
 
-/// What an entry names.
+// What an entry names.
 fn found_by(entry: Dentry) -> Found
     ensures { result ≡ found_of entry }
 {
@@ -192,7 +194,7 @@ fn found_by(entry: Dentry) -> Found
     }
 }
 
-/// The directory that a walk meets.
+// The directory that a walk meets.
 fn dir_met(at: Option<Found>) -> Result<u32, Errno>
     ensures ok { IfOk result (λ i. at ≡ Some (found.Dir i)) }
     ensures err { IfErr result (λ e. dir_refusal at ≡ Some e) }
@@ -204,7 +206,7 @@ fn dir_met(at: Option<Found>) -> Result<u32, Errno>
     }
 }
 
-/// The names of a directory, in rising byte order.
+// The names of a directory, in rising byte order.
 fn names_in(alloc: Global, blocks: &DirBlocks) -> Result<NameList, Memory>
     ensures { IfOk result (λ names. AreNamesIn blocks.now.slots names) }
 {

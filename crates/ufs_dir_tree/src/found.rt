@@ -1,4 +1,3 @@
-// What a walk meets.
 ghost use Rattle.std.specs.Prelude.{◌≡◌};
 
 /// What stands at a path, by its inode.

@@ -1,4 +1,3 @@
-// The bytes of slots.
 ghost use Rattle.std.specs.Prelude.{◌≡◌, ◌+◌, ◌*◌, ◌≤◌, ◌++◌, length, take, drop, All, IsTrue, flat_map};
 ghost use Rattle.ufs_layout.specs.DentryForm.{dentry_bytes, is_dentry};
 

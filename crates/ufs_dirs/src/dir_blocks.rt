@@ -1,4 +1,3 @@
-// The blocks of one directory.
 ghost use Rattle.std.specs.Prelude.{ℕ, List, ◌≡◌, ◌≢◌, ◌==◌, ◌+◌, ◌*◌, ◌<◌, ◌≤◌, ◌↔◌, [], ◌∷◌, ◌++◌, true, false, None, Some, IsTrue, IsSome, IsErr, IfOk, IfErr, IfSome, IfNone, OnOk, OnErr, length, replicate, slice_get, slice_set, is_err};
 ghost use Rattle.std.specs.List.{count_by, list_all, position, position_or_len};
 ghost use Rattle.ufs_layout.specs.DentryForm.{free_slot, is_dentry, is_named};
@@ -17,11 +16,11 @@ use ufs_layout::{Dentry, get_dentry};
 #[derive(Drop)]
 pub struct DirBlocks {
     blocks: Vec<u32>,
-    /// 64 a block.
+    // 64 a block.
     slots: Vec<Dentry>,
-    /// The places of the used slots, by rising name. There is room for the place of each slot.
+    // The places of the used slots, by rising name. There is room for the place of each slot.
     order: Vec<u32>,
-    /// The places of the free slots, the highest first. There is room for the place of each slot.
+    // The places of the free slots, the highest first. There is room for the place of each slot.
     free: Vec<u32>,
 }
 
@@ -240,7 +239,7 @@ impl DirBlocks {
         slot
     }
 
-    /// The slot at this place.
+    // The slot at this place.
     fn slot_at(&self, place: usize) -> Slot
         requires { place < length self.now.slots }
         ensures slot { IsSlot self.now result }
@@ -254,7 +253,7 @@ impl DirBlocks {
         }
     }
 
-    /// The place of this slot.
+    // The place of this slot.
     fn place_of(&self, slot: Slot) -> usize
         requires { IsSlot self.now slot }
         ensures { result ≡ place_of self.now.blocks slot }
@@ -265,7 +264,7 @@ impl DirBlocks {
             + usize::from(slot.slot)
     }
 
-    /// Puts what the bytes are the spelling of into the free slot at this place.
+    // Puts what the bytes are the spelling of into the free slot at this place.
     fn read_slot(&mut self, place: usize, bytes: &[u8]) -> Result<(), SlotFault>
         requires in_range { place < length self.old.slots }
         requires free { is_named (entry_at self.old.slots place) ≡ false }
@@ -289,7 +288,7 @@ impl DirBlocks {
         Ok(())
     }
 
-    /// Puts the dentry into the free slot at this place.
+    // Puts the dentry into the free slot at this place.
     fn fill(&mut self, place: usize, dentry: Dentry)
         requires form { IsTrue (is_dentry dentry) }
         requires named { IsTrue (is_named dentry) }
@@ -318,14 +317,14 @@ fn free_dentry() -> Dentry
     Dentry::from_name(0, 0, &[])
 }
 
-/// Where the block stands in the list.
+// Where the block stands in the list.
 fn position_of(blocks: &[u32], block: u32) -> Option<usize>
     ensures { result ≡ position (λ b. b == block) blocks.now }
 {
     blocks.iter().position(|b| *b == block)
 }
 
-/// Where the block stands in the list; its length where it doesn't.
+// Where the block stands in the list; its length where it doesn't.
 fn index_of(blocks: &[u32], block: u32) -> usize
     ensures { result ≡ position_or_len (λ b. b == block) blocks.now }
 {

@@ -1,4 +1,3 @@
-// The trait and its one error.
 ghost use Rattle.std.specs.Prelude.{◌≡◌, ◌<◌, ◌^◌, ◌/◌, ℕ, Bool, IsTrue, IfErr, List, length, OnOk};
 
 /// A call of a disk failed. The number is the disk's count of faults after that call.

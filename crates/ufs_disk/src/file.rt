@@ -1,4 +1,3 @@
-// A disk over a file of the system.
 ghost use Rattle.std.specs.Prelude.{◌≡◌, ◌≤◌, ◌<◌, ◌+◌, ◌^◌, length, true, false, IsTrue, OnOk, IfErr, Some, None, IsSome};
 ghost use Rattle.ufs_disk.specs.Moments.{untold};
 ghost use Rattle.ufs_base.specs.Faults.{HasCause};

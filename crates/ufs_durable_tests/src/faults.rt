@@ -10,7 +10,7 @@ use std::test::Fail;
 use ufs_disk::{Fuse, FuseDisk};
 use ufs_store::{Door, Store, StoreFault};
 
-/// A file of three blocks that were never written, over a disk that serves so many calls.
+// A file of three blocks that were never written, over a disk that serves so many calls.
 fn of_three(alloc: Global, passes: u64) -> Option<Session<FuseDisk>>
     ensures { IfSome result (λ s. IsReady (⟦<Store<FuseDisk> as Door>⟧.store s.store) (state_of s.hand s.commits) s.pool) }
 {

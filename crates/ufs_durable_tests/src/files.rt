@@ -4,7 +4,7 @@ use std::test::Fail;
 use ufs_disk::PlainDisk;
 use ufs_store::StoreFault;
 
-/// 300 blocks are never there: the answer tells how many are unassigned.
+// 300 blocks are never there: the answer tells how many are unassigned.
 fn lacking(had: u32) -> Result<(), StoreFault> {
     Err(StoreFault::NoSpace { need: 300, had })
 }

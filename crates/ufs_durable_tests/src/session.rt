@@ -37,7 +37,7 @@ pub struct Session<D: Disk> {
     pub pool: Pool,
 }
 
-/// A store on this disk, each of whose blocks is unassigned.
+// A store on this disk, each of whose blocks is unassigned.
 fn mounted<D: Disk + Drop>(alloc: Global, disk: D) -> Option<Store<D>>
     ensures geometry { IfSome result (λ s. geometry_of_store (⟦<Store<D> as Door>⟧.store s) ≡ small) }
     ensures unassigned { IfSome result (λ s. (⟦<Store<D> as Door>⟧.store s).unassigned ≡ all_free) }
@@ -147,6 +147,7 @@ impl<D: Disk> Session<D> {
         requires { IsReady (⟦<Store<D> as Door>⟧.store self.old.store) (state_of self.old.hand self.old.commits) self.old.pool }
         ensures { IsReady (⟦<Store<D> as Door>⟧.store self.new.store) (state_of self.new.hand self.new.commits) self.new.pool }
     {
+        // For the prover alone.
         let _runs = self.commits.dropped().as_slice();
         fsync(&mut self.store, &mut self.hand, &mut self.commits)
     }

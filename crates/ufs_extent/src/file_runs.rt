@@ -137,7 +137,7 @@ impl Extents {
         Ok(Runs::from_vec(rest))
     }
 
-    /// The block after the last one.
+    // The block after the last one.
     fn next_block(&self) -> Option<u32>
         ensures { result ≡ next_block self.now }
     {
@@ -147,7 +147,7 @@ impl Extents {
         }
     }
 
-    /// The run, which follows the last block, is joined to the last extent.
+    // The run, which follows the last block, is joined to the last extent.
     fn join(&mut self, run: Run)
         requires run { IsRun run }
         requires follows { next_block self.old ≡ Some run.start }
@@ -161,7 +161,7 @@ impl Extents {
         };
     }
 
-    /// Keeps the blocks before this place.
+    // Keeps the blocks before this place.
     fn shorten(&mut self, place: Place)
         requires there { slice_get self.old place.at ≡ Some place.run }
         requires inside { place.before < place.run.length }
@@ -178,7 +178,7 @@ impl Extents {
     }
 }
 
-/// The runs of the block at this place and of those behind it.
+// The runs of the block at this place and of those behind it.
 fn runs_from(alloc: Global, runs: &[Run], place: Place) -> Result<Vec<Run>, Memory>
     requires runs { All IsRun runs.now }
     requires there { slice_get runs.now place.at ≡ Some place.run }
@@ -194,7 +194,7 @@ fn runs_from(alloc: Global, runs: &[Run], place: Place) -> Result<Vec<Run>, Memo
     Ok(rest)
 }
 
-/// Where a block stands: in the run at place `at`, with `before` blocks of that run before it.
+// Where a block stands: in the run at place `at`, with `before` blocks of that run before it.
 #[derive(Clone, Copy)]
 struct Place {
     at: usize,

@@ -1,4 +1,3 @@
-// A list of runs.
 ghost use Rattle.std.specs.Prelude.{◌≡◌, [], ◌∷◌, ◌++◌, All, OnOk, OnErr};
 ghost use Rattle.ufs_extent.specs.Runs.{IsRun};
 

@@ -1,4 +1,3 @@
-// The table of a client's descriptors.
 ghost use Rattle.std.specs.Prelude.{◌≡◌};
 ghost use Rattle.ufs_model.specs.Asks.{file_in};
 ghost use Rattle.ufs_model.specs.PosixTree.{is_number};
@@ -10,7 +9,7 @@ use ufs_model::Desc;
 /// What a client's descriptors stand for. Their numbers are 3 to 66. No call takes memory.
 #[derive(Drop)]
 pub struct FdTable {
-    /// The bit `k` is set where descriptor `FIRST_FD + k` is open.
+    // The bit `k` is set where descriptor `FIRST_FD + k` is open.
     used: u64,
     slots: [Option<Desc>; MAX_FDS],
 }
@@ -100,7 +99,7 @@ impl FdTable {
         }
     }
 
-    /// Whether another descriptor is open on the file.
+    // Whether another descriptor is open on the file.
     fn has_other(&self, fd: u64, file: u32) -> bool
         requires { AreInRange self.now }
         ensures { (fds : Fds) (client : ℕ) → AreOf fds client self.now → result ≡ holds (map.remove fds (client, fd)) client file }
@@ -136,7 +135,7 @@ impl FdTable {
     }
 }
 
-/// Whether there is a descriptor, open on the file.
+// Whether there is a descriptor, open on the file.
 fn is_of(desc: Option<Desc>, file: u32) -> bool
     ensures { result ≡ is_number file (file_in desc) }
 {

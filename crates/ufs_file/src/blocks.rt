@@ -14,7 +14,7 @@ pub(crate) struct Block {
     pub(crate) dirty: bool,
 }
 
-/// Writes within one block.
+// Writes within one block.
 fn put_in(block: &mut Block, from: usize, fresh: &[u8])
     requires { from + length fresh.now ≤ length block.old.bytes.items }
     ensures bytes { block.new.bytes.items ≡ over block.old.bytes.items from fresh.now }
@@ -24,7 +24,7 @@ fn put_in(block: &mut Block, from: usize, fresh: &[u8])
     block.dirty = true;
 }
 
-/// Writes within the block at place k.
+// Writes within the block at place k.
 fn put_piece(table: &mut Vec<Block>, k: usize, from: usize, fresh: &[u8])
     requires whole { All IsWhole table.old.items }
     requires there { k < length table.old.items }
@@ -108,7 +108,7 @@ pub(crate) fn zero_blocks(alloc: Global, count: usize) -> Result<Vec<Block>, All
     Ok(table)
 }
 
-/// Zeros from a place in the block on.
+// Zeros from a place in the block on.
 fn clear_behind(block: &mut Block, from: usize)
     requires { from ≤ length block.old.bytes.items }
     ensures bytes { block.new.bytes.items ≡ take from block.old.bytes.items ++ replicate (length block.old.bytes.items - from) 0 }
@@ -134,7 +134,7 @@ pub(crate) fn cut_over(table: &mut Vec<Block>, size: usize)
     }
 }
 
-/// Zeros from a place in the block at place k on.
+// Zeros from a place in the block at place k on.
 fn clear_at(table: &mut Vec<Block>, k: usize, from: usize)
     requires whole { All IsWhole table.old.items }
     requires there { k < length table.old.items }

@@ -1,4 +1,3 @@
-// A file's bytes, as blocks in memory.
 ghost use Rattle.std.specs.Prelude.{◌≡◌, ◌+◌, ◌≤◌, ◌<◌, length, IfOk, OnOk, OnErr};
 ghost use Rattle.ufs_file.specs.Content.{Content, no_content, grown, written_over, shortened};
 
@@ -65,6 +64,7 @@ impl Blocks {
         if !bytes.is_empty() {
             self.write(0, bytes);
         }
+        // For the prover alone.
         let _size = self.size();
     }
 

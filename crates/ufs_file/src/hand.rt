@@ -33,7 +33,7 @@ pub struct Applied {
     pub desc: Option<Desc>,
 }
 
-/// A reply that is no excuse, and what the request's descriptor stands for afterwards.
+// A reply that is no excuse, and what the request's descriptor stands for afterwards.
 #[derive(Drop)]
 struct Served {
     reply: Reply,
@@ -236,22 +236,23 @@ impl FileHand {
         self.extents
     }
 
-    /// A file has no more extents than an inode has room for.
+    // A file has no more extents than an inode has room for.
     fn few(&self)
         ensures { length self.now.extents ≤ MAX_EXTENTS }
     {
         let kept = self.extents.as_slice();
+        // For the prover alone.
         let _few = kept.len();
     }
 
-    /// Where a `write` begins.
+    // Where a `write` begins.
     fn place(&self, desc: Desc) -> u64
         ensures { result ≡ file_bytes.place_of desc self.now.content.bytes }
     {
         place_of(desc, self.blocks.size())
     }
 
-    /// Where a `seek` leads; `None` where it is refused.
+    // Where a `seek` leads; `None` where it is refused.
     fn seek_place(&self, whence: Whence, by: i64, desc: Desc) -> Option<u64>
         ensures { result ≡ (if descriptors.is_offset (descriptors.seek_to whence by desc (length self.now.content.bytes))
             then descriptors.seek_to whence by desc (length self.now.content.bytes) else None) }
@@ -259,7 +260,7 @@ impl FileHand {
         seek_to(whence, by, desc, self.blocks.size())
     }
 
-    /// Where a `seek` leads that isn't refused.
+    // Where a `seek` leads that isn't refused.
     fn offset(&self, whence: Whence, by: i64, desc: Desc) -> u64
         requires { descriptors.is_offset (descriptors.seek_to whence by desc (length self.now.content.bytes)) ≡ true }
         ensures { result ≡ unwrap_or (descriptors.seek_to whence by desc (length self.now.content.bytes)) 0 }
@@ -270,7 +271,7 @@ impl FileHand {
         }
     }
 
-    /// By where the request leads.
+    // By where the request leads.
     fn place_refusal(&self, op: &Op, desc: Desc) -> Option<Errno>
         ensures { result ≡ place_refusal self.now.content.bytes desc op.now }
     {
@@ -286,7 +287,7 @@ impl FileHand {
         }
     }
 
-    /// At most n bytes, from a place on.
+    // At most n bytes, from a place on.
     fn read(&self, at: u64, n: u32) -> Result<Reply, Memory>
         ensures { IfOk result (λ reply. reply ≡ Got (file_bytes.part self.now.content.bytes at n)) }
     {
@@ -310,7 +311,7 @@ impl FileHand {
         }
     }
 
-    /// What the request's descriptor stands for afterwards.
+    // What the request's descriptor stands for afterwards.
     fn desc_after(&self, op: &Op, desc: Desc) -> Desc
         requires allowed { place_refusal self.now.content.bytes desc op.now ≡ None }
         ensures { result ≡ desc_after self.now.content.bytes desc op.now }
@@ -328,7 +329,7 @@ impl FileHand {
         }
     }
 
-    /// The reply to a request, and what its descriptor stands for afterwards, where no room is wanting.
+    // The reply to a request, and what its descriptor stands for afterwards, where no room is wanting.
     fn serve(&mut self, op: &Op, desc: Desc, pool: &mut Pool) -> Result<Served, Excuse>
         requires kind { is_on_file op.now ≡ true }
         requires bounded { IsBounded op.now }
@@ -359,7 +360,7 @@ impl FileHand {
         }
     }
 
-    /// Why a request is refused.
+    // Why a request is refused.
     fn refusal(&self, op: &Op, desc: Desc) -> Option<Errno>
         requires { is_on_file op.now ≡ true }
         ensures { result ≡ file_refusal self.now.content.bytes desc op.now }
@@ -370,18 +371,19 @@ impl FileHand {
         }
     }
 
-    /// How many extents the file would have with these runs behind the others.
+    // How many extents the file would have with these runs behind the others.
     fn count_with(&self, runs: &[Run]) -> u32
         requires runs { All IsRun runs.now }
         requires few { length runs.now ≤ 2 ^ 16 }
         ensures { result ≡ length (appended_all self.now.extents runs.now) }
     {
         let kept = self.extents.as_slice();
+        // For the prover alone.
         let _few = kept.len();
         self.extents.count_with(runs) as u32
     }
 
-    /// Takes so many blocks out of the pool, where the file has extents for them.
+    // Takes so many blocks out of the pool, where the file has extents for them.
     fn take(&self, need: u32, pool: &mut Pool) -> Result<Vec<Run>, Excuse>
         requires { need ≤ 2 ^ 16 }
         ensures taken { IfOk result (λ runs. Takes pool.old need runs.items pool.new 0) }
@@ -405,7 +407,7 @@ impl FileHand {
         Ok(runs)
     }
 
-    /// Lengthens the file, where it is shorter, with zeros in new blocks.
+    // Lengthens the file, where it is shorter, with zeros in new blocks.
     fn lengthen(&mut self, size: u64, pool: &mut Pool) -> Result<(), Excuse>
         requires small { size ≤ max_size }
         requires apart { IsApart pool.old (blocks_of self.old.extents) }
@@ -431,7 +433,7 @@ impl FileHand {
         Ok(())
     }
 
-    /// Cuts the file; the blocks that it has no use for are the pool's.
+    // Cuts the file; the blocks that it has no use for are the pool's.
     fn shorten(&mut self, size: u64, pool: &mut Pool) -> Result<(), Excuse>
         requires shorter { size < length self.old.content.bytes }
         requires small { size ≤ max_size }
@@ -451,7 +453,7 @@ impl FileHand {
         Ok(())
     }
 
-    /// Cuts the file, or extends it with zeros.
+    // Cuts the file, or extends it with zeros.
     fn resize(&mut self, size: u64, pool: &mut Pool) -> Result<(), Excuse>
         requires small { size ≤ max_size }
         requires apart { IsApart pool.old (blocks_of self.old.extents) }
@@ -469,7 +471,7 @@ impl FileHand {
         }
     }
 
-    /// What a request that isn't refused changes.
+    // What a request that isn't refused changes.
     fn change(&mut self, op: &Op, desc: Desc, pool: &mut Pool) -> Result<(), Excuse>
         requires allowed { place_refusal self.old.content.bytes desc op.now ≡ None }
         requires apart { IsApart pool.old (blocks_of self.old.extents) }
@@ -490,24 +492,26 @@ impl FileHand {
         }
     }
 
-    /// A file has the blocks for its size.
+    // A file has the blocks for its size.
     fn stays(&self)
         ensures { length (blocks_of self.now.extents) ≡ block_count (length self.now.content.bytes) }
     {
+        // For the prover alone.
         let _size = self.blocks.size();
     }
 
-    /// Writes over bytes that are there.
+    // Writes over bytes that are there.
     fn overwrite(&mut self, at: u64, fresh: &[u8])
         requires some { 0 < length fresh.now }
         requires inside { at + length fresh.now ≤ length self.old.content.bytes }
         ensures { self.new ≡ record self.old { content = written_over self.old.content at fresh.now } }
     {
+        // For the prover alone.
         let _size = self.blocks.size();
         self.blocks.write(at, fresh);
     }
 
-    /// Writes bytes from a place on; no byte changes nothing.
+    // Writes bytes from a place on; no byte changes nothing.
     fn put(&mut self, at: u64, fresh: &[u8], pool: &mut Pool) -> Result<(), Excuse>
         requires place { file_bytes.is_past at fresh.now ≡ false }
         requires apart { IsApart pool.old (blocks_of self.old.extents) }
@@ -549,7 +553,7 @@ fn answered(ask: Ask, by: Actor, ticket: u64, reply: Reply, desc: Option<Desc>) 
     }
 }
 
-/// Appends runs for which there is room.
+// Appends runs for which there is room.
 fn append_all(extents: &mut Extents, runs: &[Run])
     requires runs { All IsRun runs.now }
     requires few { length (appended_all extents.old runs.now) ≤ MAX_EXTENTS }
@@ -563,7 +567,7 @@ fn append_all(extents: &mut Extents, runs: &[Run])
     }
 }
 
-/// The descriptor with that offset.
+// The descriptor with that offset.
 fn moved(desc: Desc, at: u64) -> Desc
     ensures { result ≡ descriptors.moved desc at }
 {

@@ -1,4 +1,3 @@
-// One file.
 ghost use Rattle.std.specs.Prelude.{◌≡◌, ◌≤◌, Some, IfOk, length};
 ghost use Rattle.ufs_bitmap.specs.Blocks.{BlockSet};
 ghost use Rattle.ufs_bitmap.specs.Taking.{IsApart};
@@ -11,7 +10,7 @@ use ufs_bitmap::Pool;
 use ufs_file::{Applied, FileHand};
 use ufs_model::{Desc, Errno, Excuse, Op, Reply, Whence};
 
-/// A file of number 7, with no byte.
+// A file of number 7, with no byte.
 fn empty_file(alloc: Global) -> Result<FileHand, Memory>
     ensures number { IfOk result (λ h. h.file ≡ 7) }
     ensures apart { IfOk result (λ h. (pool : BlockSet) → IsApart pool (blocks_of h.extents)) }

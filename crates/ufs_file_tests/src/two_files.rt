@@ -12,7 +12,7 @@ use ufs_bitmap::Pool;
 use ufs_file::{Applied, FileHand};
 use ufs_model::{Bytes, Excuse, Op, Reply};
 
-/// Bytes go to a place in the first file, of number 7.
+// Bytes go to a place in the first file, of number 7.
 fn first_gets(
     first: &mut FileHand,
     second: &FileHand,
@@ -29,7 +29,7 @@ fn first_gets(
     applied(first, pool, Op::Pwrite { fd: 3, bytes, at }, open_on(7))
 }
 
-/// Bytes go to a place in the second file, of number 8.
+// Bytes go to a place in the second file, of number 8.
 fn second_gets(
     first: &FileHand,
     second: &mut FileHand,
@@ -46,8 +46,8 @@ fn second_gets(
     applied(second, pool, Op::Pwrite { fd: 4, bytes, at }, open_on(8))
 }
 
-/// On an image of 256 blocks whose root has block 14. The two files have each other block from 15 on, so neither can
-/// join a run; the last write of the second gets the block behind its own, since the first was refused it.
+// On an image of 256 blocks whose root has block 14. The two files have each other block from 15 on, so neither can
+// join a run; the last write of the second gets the block behind its own, since the first was refused it.
 #[test]
 fn the_fifty_seventh_extent_is_refused(rt: HostRuntime) -> Result<(), Memory> {
     let alloc = rt.alloc();

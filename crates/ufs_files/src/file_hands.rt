@@ -1,4 +1,3 @@
-// Files by their numbers.
 ghost use Rattle.std.specs.Prelude.{◌≡◌};
 ghost use Rattle.std.specs.FinSet as set;
 ghost use Rattle.ufs_bitmap.specs.Taking.{IsApart, set_of};
@@ -159,6 +158,7 @@ impl FileHands {
     pub fn are_numbered(&self)
         ensures { AreNumbered self.now }
     {
+        // For the prover alone.
         let _count = self.hands.len();
     }
 
@@ -179,6 +179,7 @@ impl FileHands {
         ensures value { result ≡ map.get self.old file }
         ensures gone { self.new ≡ map.remove self.old file }
     {
+        // For the prover alone.
         let _count = self.hands.len();
         self.hands.remove(&file)
     }

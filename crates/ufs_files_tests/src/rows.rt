@@ -14,7 +14,7 @@ use ufs_file::Applied;
 use ufs_files::FileHands;
 use ufs_model::{Actor, Ask, Bytes, Desc, Excuse, Op, Reply};
 
-/// So many blocks from 20 on.
+// So many blocks from 20 on.
 fn pool_of(alloc: Global, length: u32) -> Result<Pool, Memory>
     requires some { 1 ≤ length }
     requires inside { 20 + length ≤ 65536 }
@@ -24,7 +24,7 @@ fn pool_of(alloc: Global, length: u32) -> Result<Pool, Memory>
     Ok(pool)
 }
 
-/// One file, of inode 3, with no byte.
+// One file, of inode 3, with no byte.
 fn one_file(alloc: Global) -> Result<FileHands, Memory>
     ensures here { IfOk result (λ files. IsSome (map.get files 7)) }
     ensures apart { IfOk result (λ files. (pool : BlockSet) → IsApart pool (blocks_at files 7)) }
@@ -34,7 +34,7 @@ fn one_file(alloc: Global) -> Result<FileHands, Memory>
     Ok(files)
 }
 
-/// Writes so many bytes from the file's start on.
+// Writes so many bytes from the file's start on.
 fn written(
     alloc: Global,
     files: &mut FileHands,
@@ -68,7 +68,7 @@ fn filled(alloc: Global, count: usize) -> Result<Bytes, Memory>
     Ok(Bytes::from_vec(vec![in alloc; 97; count]?))
 }
 
-/// A descriptor of the file with leave to read and write, at its start.
+// A descriptor of the file with leave to read and write, at its start.
 fn open_on(file: u32) -> Desc
     ensures { result.file ≡ Some file }
 {
@@ -81,7 +81,7 @@ fn open_on(file: u32) -> Desc
     }
 }
 
-/// The inode and the size of the file.
+// The inode and the size of the file.
 fn inode_and_size(files: &FileHands) -> Option<(u32, u64)> {
     match files.get(7) {
         Some(hand) => Some((hand.inode(), hand.size())),

@@ -57,6 +57,7 @@ impl Found {
         ensures value { result ≡ has_records self.now }
         ensures small { self.now.1.index < 65536 }
     {
+        // For the prover alone.
         let _index = self.index;
         self.commit.is_none()
     }
@@ -87,6 +88,7 @@ impl Found {
         ensures value { result ≡ has_commit self.now }
         ensures small { self.now.1.index < 65536 }
     {
+        // For the prover alone.
         let _index = self.index;
         self.commit.is_some()
     }

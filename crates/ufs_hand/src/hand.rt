@@ -199,6 +199,7 @@ impl<N: Naming> Hand<N> {
         ensures parts { self.new ≡ drawn result fresh.now L.leaves self.old }
         ensures later { self.old.seen ≤ result }
     {
+        // For the prover alone.
         let _ = fresh;
         a_request_keeps_the_tree();
         a_request_is_local();
@@ -253,6 +254,7 @@ impl<N: Naming> Hand<N> {
         ensures drawn { result ≡ word → self.new ≡ drawn (word % clock_step) fresh.now L.leaves self.old }
         ensures lost { result ≢ word → (self.new ≡ self.old) × IsSeenBy result self.old }
     {
+        // For the prover alone.
         let _ = lease;
         let _ = fresh;
         a_request_keeps_the_tree();

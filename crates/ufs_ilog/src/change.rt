@@ -1,4 +1,3 @@
-// One change of names.
 ghost use Rattle.std.specs.Prelude.{◌≡◌, ◌<◌, ◌+◌, ◌≤◌, OnOk, IfOk, IsTrue, length};
 ghost use Rattle.std.specs.List.{list_all, position_or_len};
 ghost use Rattle.ufs_layout.specs.Records.{is_record};
@@ -27,6 +26,7 @@ impl Change {
         let count = records.len();
         let mut ordered = Vec::with_capacity(alloc, count)?;
         for done in 0..count {
+            // For the prover alone.
             let _ = done;
             let Some(last) = records.pop() else {
                 unreachable!()
@@ -39,7 +39,7 @@ impl Change {
     }
 }
 
-/// Puts the record before the first that may follow it.
+// Puts the record before the first that may follow it.
 fn put_in_order(records: &mut Vec<LogRecord>, added: LogRecord) -> Result<(), Memory>
     ensures { OnOk result (records.new.items ≡ put_in_order added records.old.items) }
 {
@@ -48,7 +48,7 @@ fn put_in_order(records: &mut Vec<LogRecord>, added: LogRecord) -> Result<(), Me
     Ok(())
 }
 
-/// How many records come before the first that may follow this one.
+// How many records come before the first that may follow this one.
 fn place_for(records: &[LogRecord], added: &LogRecord) -> usize
     ensures place { result ≡ position_or_len (may_follow added.now) records.now }
     ensures inside { result ≤ length records.now }

@@ -1,4 +1,3 @@
-// The log of one file.
 ghost use Rattle.std.specs.Prelude.{◌≡◌, ◌+◌, ◌≤◌, ◌↔◌, [], ◌∷◌, length, All, IfOk, IfSome, IsNone, IsTrue};
 ghost use Rattle.std.specs.Vec.{vec_capacity};
 ghost use Rattle.std.specs.List.{list_all};
@@ -14,7 +13,7 @@ use ufs_base::{MAX_EXTENTS, Memory};
 use ufs_extent::{Extents, Run};
 use ufs_layout::{Extent, ExtentList, LogRecord, Records};
 
-/// The kind of a file's inode.
+// The kind of a file's inode.
 const FILE: u8 = 1;
 
 /// What changed of a file since its last commit. Contracts see the state as committed last and the
@@ -23,7 +22,7 @@ const FILE: u8 = 1;
 pub struct InodeLog {
     alloc: Global,
     inode: u32,
-    /// Whether anything was noted since the last commit. Where nothing was, `committed` isn't read.
+    // Whether anything was noted since the last commit. Where nothing was, `committed` isn't read.
     is_noted: bool,
     committed: Vec<Run>,
     committed_size: u64,
@@ -127,7 +126,7 @@ impl InodeLog {
     }
 }
 
-/// Puts other runs in place of those in the list, which has room for them.
+// Puts other runs in place of those in the list, which has room for them.
 fn replace_all(list: &mut Vec<Run>, runs: &[Run])
     requires room { 56 ≤ vec_capacity list.old }
     requires few { length runs.now ≤ 56 }
@@ -138,7 +137,7 @@ fn replace_all(list: &mut Vec<Run>, runs: &[Run])
     list.extend_from_slice(runs).unwrap();
 }
 
-/// How many runs the longest front has that both lists share.
+// How many runs the longest front has that both lists share.
 fn shared_front(one: &[Run], other: &[Run]) -> usize
     ensures { IsSharedFront one.now other.now result }
 {
@@ -151,7 +150,7 @@ fn shared_front(one: &[Run], other: &[Run]) -> usize
     most
 }
 
-/// The delta of a file that keeps so many extents and has these behind them.
+// The delta of a file that keeps so many extents and has these behind them.
 fn file_delta(
     alloc: Global,
     inode: u32,

@@ -1,4 +1,3 @@
-// The log of the names, or nothing.
 ghost use Rattle.std.specs.Prelude.{◌≡◌, [], Some, None, IsSome, IsTrue, IfSome, ◌↔◌, is_some, is_none};
 ghost use Rattle.std.specs.List.{list_all};
 ghost use Rattle.ufs_layout.specs.Records.{is_record};

@@ -1,4 +1,3 @@
-// The log of the names.
 ghost use Rattle.std.specs.Prelude.{◌≡◌, ◌++◌, [], List, OnOk, OnErr, IsTrue};
 ghost use Rattle.std.specs.List.{list_all};
 ghost use Rattle.ufs_layout.specs.Records.{is_record};
@@ -12,7 +11,7 @@ use std::mem;
 use ufs_base::Memory;
 use ufs_layout::{LogRecord, Records, record_length};
 
-/// The bytes of content that a journal sector has room for.
+// The bytes of content that a journal sector has room for.
 const CONTENT: usize = 488;
 
 /// The changes of names since the last commit, each whole, in their order. Contracts see their records.
@@ -91,7 +90,7 @@ impl NamesLog {
     }
 }
 
-/// How far records fill sectors: how many these are, and the bytes used in the last one.
+// How far records fill sectors: how many these are, and the bytes used in the last one.
 #[derive(Clone, Copy)]
 struct Filling {
     sectors: u32,
@@ -109,7 +108,7 @@ impl Filling {
         used: 0,
     };
 
-    /// With one record more. `None` where the count would pass its type's end.
+    // With one record more. `None` where the count would pass its type's end.
     fn with_record(self, added: &LogRecord) -> Option<Filling>
         requires { IsTrue (is_record added.now) }
         ensures { (before : List LogRecord) → IsFilling self.sectors self.used before → IfSome result (λ f. IsFilling f.sectors f.used (before ++ added.now ∷ [])) }
@@ -128,7 +127,7 @@ impl Filling {
         })
     }
 
-    /// With these records more.
+    // With these records more.
     fn with_records(self, records: &[LogRecord]) -> Option<Filling>
         requires { IsTrue (list_all is_record records.now) }
         ensures { (before : List LogRecord) → IsFilling self.sectors self.used before → IfSome result (λ f. IsFilling f.sectors f.used (before ++ records.now)) }

@@ -1,4 +1,3 @@
-// The sinks in memory.
 ghost use Rattle.std.specs.Prelude.{◌≡◌, ◌<◌, [], None, Some, Contains, IfOk, IsErr, OnErr, OnOk, length};
 ghost use Rattle.std.specs.Io.{WritesAtMost};
 ghost use Rattle.std.specs.Io.KnownBytes.{WriteAppends};

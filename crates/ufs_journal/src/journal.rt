@@ -1,4 +1,3 @@
-// The journal of one epoch.
 ghost use Rattle.std.specs.Prelude.{◌≡◌, ◌≢◌, ◌≤◌, ◌<◌, ◌+◌, ◌-◌, ◌^◌, ◌++◌, ◌∷◌, [], ℕ, List, length, IsTrue, IsSome, IfOk, IfErr, OnOk, OnErr, None, min};
 ghost use Rattle.std.specs.List.{list_all};
 ghost use Rattle.ufs_disk.specs.Disk.{State, Leaves, IsSettled};

@@ -1,4 +1,3 @@
-// Dentries.
 ghost use Rattle.std.specs.Prelude.{◌≡◌, ◌+◌, ◌≤◌, ◌&&◌, ◌||◌, ◌==◌, nat_lt, length, take, drop, IsTrue, IfSome, Some};
 ghost use Rattle.ufs_layout.specs.Words.{is_zeros, padded};
 ghost use Rattle.ufs_layout.specs.DentryForm.{dentry_bytes, dentry_of, is_dentry};

@@ -1,4 +1,3 @@
-// The head of a journal sector.
 ghost use Rattle.std.specs.Prelude.{◌≡◌, length, IsTrue, IfSome, Some, drop, ◌==◌, ◌&&◌};
 ghost use Rattle.ufs_layout.specs.JournalHead.{header_bytes, header_fields, header_of, is_header};
 ghost use Rattle.ufs_layout.specs.Words.{byte_at, is_zeros};

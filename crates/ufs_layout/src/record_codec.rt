@@ -69,6 +69,7 @@ fn put_place(content: &mut [u8], at: usize, sector: u32, slot: u8, dentry: &Dent
     ensures spelling { content.new ≡ take at content.old ++ (2 ∷ little_bytes 4 sector ++ slot ∷ dentry_bytes dentry.now) ++ drop (at + 70) content.old }
     ensures in_range { (dentry.now.inode < 2 ^ 32) × (length dentry.now.name ≤ MAX_NAME) }
 {
+    // For the prover alone.
     let _inode = dentry.inode;
     let mut head = [0; 6];
     put_place_head(&mut head, sector, slot);

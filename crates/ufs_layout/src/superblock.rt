@@ -1,4 +1,3 @@
-// The superblock.
 ghost use Rattle.std.specs.Prelude.{◌≡◌, ◌≤◌, ◌++◌, ◌∷◌, [], length, IsTrue, IfSome, Some, take, drop, nat_le, ◌&&◌};
 ghost use Rattle.ufs_layout.specs.Superblock.{super_bytes, super_fields, super_of, is_super, clean_byte, magic};
 ghost use Rattle.ufs_base.specs.Choices.{some_if};

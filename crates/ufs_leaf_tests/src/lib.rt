@@ -8,7 +8,7 @@ mod nodes;
 #[cfg(test)]
 mod rings;
 
-/// The next of a row of numbers that look drawn by chance.
+// The next of a row of numbers that look drawn by chance.
 #[cfg(test)]
 fn drawn(seed: u32) -> u32 {
     seed.wrapping_mul(1_664_525).wrapping_add(1_013_904_223)

@@ -1,4 +1,3 @@
-// The load plan.
 ghost use Rattle.std.specs.Prelude.{IfOk, ◌<◌, ◌^◌, length};
 ghost use Rattle.ufs_load.specs.Laws.{AreOfFiles};
 
@@ -7,7 +6,7 @@ use std::test::Fail;
 use ufs_load::plan;
 use ufs_model::{Load, LoadList};
 
-/// Loads of the files 0, 1 and so on, each as its worker and its count.
+// Loads of the files 0, 1 and so on, each as its worker and its count.
 fn numbered(alloc: Global, rows: &[(u8, u32)]) -> Result<LoadList, AllocError>
     requires { length rows.now < 2 ^ 32 }
     ensures { IfOk result AreOfFiles }
@@ -24,7 +23,7 @@ fn numbered(alloc: Global, rows: &[(u8, u32)]) -> Result<LoadList, AllocError>
     Ok(LoadList::from_vec(loads))
 }
 
-/// The moves, as the files with where they go from and to.
+// The moves, as the files with where they go from and to.
 fn moves_of(
     alloc: Global,
     rows: &[(u8, u32)],

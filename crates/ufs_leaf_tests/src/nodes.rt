@@ -1,4 +1,3 @@
-// Nodes on lists.
 ghost use Rattle.std.specs.Prelude.{◌≡◌, true};
 ghost use Rattle.std.specs.FinSet as set;
 
@@ -7,10 +6,10 @@ use std::alloc::Global;
 use std::test::Fail;
 use ufs_links::{Links, Which};
 
-/// A number of a list that is far from 1 and in its bucket, where there are three buckets.
+// A number of a list that is far from 1 and in its bucket, where there are three buckets.
 const FAR: u32 = 4_294_967_293;
 
-/// Puts the node on a list of the kind, or takes it off the one that it is on.
+// Puts the node on a list of the kind, or takes it off the one that it is on.
 fn turned(links: &mut Links, which: Which, list: u32, node: u32, front: bool)
     requires { set.contains links.old.given node ≡ true }
     ensures { links.new.given ≡ links.old.given }
@@ -27,7 +26,7 @@ fn turned(links: &mut Links, which: Which, list: u32, node: u32, front: bool)
     }
 }
 
-/// The nodes of the list, from its front on.
+// The nodes of the list, from its front on.
 fn nodes_of(alloc: Global, links: &Links, which: Which, list: u32) -> Result<Vec<u32>, Fail> {
     let mut nodes = Vec::new(alloc);
     let mut at = links.front(which, list);
@@ -44,7 +43,7 @@ fn nodes_of(alloc: Global, links: &Links, which: Which, list: u32) -> Result<Vec
     Ok(nodes)
 }
 
-/// Nodes that are given out.
+// Nodes that are given out.
 #[derive(Drop)]
 struct Three {
     links: Links,
@@ -66,7 +65,7 @@ impl Three {
         Ok(Three { links, a, b, c })
     }
 
-    /// Turns one of the nodes, and tells which.
+    // Turns one of the nodes, and tells which.
     fn turned(&mut self, pick: u32, which: Which, list: u32, front: bool) -> u32 {
         match pick % 3 {
             0 => {
@@ -125,7 +124,7 @@ fn a_released_node_is_given_out_again(rt: HostRuntime) -> Result<(), Fail> {
     Ok(())
 }
 
-/// A walk of three nodes on and off two lists, beside plain lists.
+// A walk of three nodes on and off two lists, beside plain lists.
 #[test]
 fn a_walk_agrees_with_plain_lists(rt: HostRuntime) -> Result<(), Fail> {
     let alloc = rt.alloc();
@@ -152,7 +151,7 @@ fn a_walk_agrees_with_plain_lists(rt: HostRuntime) -> Result<(), Fail> {
     Ok(())
 }
 
-/// The number of the first list of the walk, or of the second.
+// The number of the first list of the walk, or of the second.
 fn number(list: u32) -> u32 {
     if list == 0 { 1 } else { FAR }
 }
@@ -174,7 +173,7 @@ fn turn(plain: &mut Vec<Vec<u32>>, list: usize, node: u32, front: bool) -> Resul
     Ok(())
 }
 
-/// Places for more nodes come while lists stand.
+// Places for more nodes come while lists stand.
 #[test]
 fn lists_stand_while_places_are_added(rt: HostRuntime) -> Result<(), Fail> {
     let alloc = rt.alloc();

@@ -1,4 +1,3 @@
-// Rings.
 use crate::drawn;
 use std::sync::Wait;
 use std::test::Fail;
@@ -6,7 +5,7 @@ use std::thread;
 use std::thread::join;
 use ufs_ring::{PlainRing, Ring, RuledRing, SharedRing, shared_ring};
 
-/// How many items go from one thread to the other.
+// How many items go from one thread to the other.
 const SENT: u32 = 500;
 
 #[test]
@@ -27,7 +26,7 @@ fn a_full_ring_gives_the_item_back(rt: HostRuntime) -> Result<(), Fail> {
     Ok(())
 }
 
-/// A walk of puts and takes beside a plain list of at most five.
+// A walk of puts and takes beside a plain list of at most five.
 #[test]
 fn a_walk_agrees_with_a_plain_list(rt: HostRuntime) -> Result<(), Fail> {
     let mut ring = PlainRing::make(rt.alloc(), 5)?;
@@ -70,7 +69,7 @@ fn send(rt: &impl Wait, queue: &SharedRing<u32>) {
     }
 }
 
-/// Whether the items come in the order in which they were sent.
+// Whether the items come in the order in which they were sent.
 fn receive(rt: &impl Wait, queue: &SharedRing<u32>) -> bool {
     let mut end = RuledRing::new(rt, queue);
     let mut in_order = true;

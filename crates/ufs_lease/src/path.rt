@@ -16,7 +16,7 @@ fn first_slash(text: &[u8]) -> Option<usize>
     text.iter().position(|b| *b == b'/')
 }
 
-/// How many slashes a text begins with.
+// How many slashes a text begins with.
 fn slashes(text: &[u8]) -> usize
     ensures count { result ≡ position_or_len (λ b. not (b == 47)) text.now }
     ensures within { result ≤ length text.now }
@@ -24,7 +24,7 @@ fn slashes(text: &[u8]) -> usize
     first_name_byte(text).unwrap_or(text.len())
 }
 
-/// How many bytes stand before its first slash.
+// How many bytes stand before its first slash.
 fn name_len(text: &[u8]) -> usize
     ensures count { result ≡ position_or_len (λ b. b == 47) text.now }
     ensures within { result ≤ length text.now }
@@ -32,7 +32,7 @@ fn name_len(text: &[u8]) -> usize
     first_slash(text).unwrap_or(text.len())
 }
 
-/// The first component of a text, and the text behind it.
+// The first component of a text, and the text behind it.
 fn first_name(text: &[u8]) -> Option<(&[u8], &[u8])>
     ensures none { IfNone result (components text.now ≡ []) }
     ensures some { IfSome result (λ cut. components text.now ≡ cut.0.now ∷ components cut.1.now) }

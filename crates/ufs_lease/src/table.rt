@@ -1,4 +1,3 @@
-// The leases on one part.
 ghost use Rattle.std.specs.Prelude.{◌↔◌, IsTrue};
 ghost use Rattle.ufs_lease.specs.Leases.{IsOnPath};
 
@@ -87,7 +86,7 @@ impl LeaseTable {
     }
 }
 
-/// Whether the lease says what the path, or one below it, names.
+// Whether the lease says what the path, or one below it, names.
 fn is_on_path(lease: &Lease, path: &[u8]) -> bool
     ensures { IsTrue result ↔ IsOnPath path.now lease.now }
 {

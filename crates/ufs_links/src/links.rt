@@ -20,11 +20,11 @@ pub enum Which {
 pub struct Links {
     first: NumberedLists,
     second: NumberedLists,
-    /// How many nodes there is room for.
+    // How many nodes there is room for.
     nodes: u32,
-    /// The nodes from this one on were never given out.
+    // The nodes from this one on were never given out.
     used: u32,
-    /// The nodes below `used` that were released.
+    // The nodes below `used` that were released.
     released: Vec<u32>,
 }
 

@@ -14,13 +14,13 @@ use ufs_base::Memory;
 /// list owns an empty one.
 #[derive(Drop)]
 pub(crate) struct NumberedLists {
-    /// The nodes in each slot.
+    // The nodes in each slot.
     slots: Lists,
-    /// The slots that aren't empty, in the buckets of their lists' numbers.
+    // The slots that aren't empty, in the buckets of their lists' numbers.
     buckets: Lists,
-    /// The number of the list in each slot that isn't empty.
+    // The number of the list in each slot that isn't empty.
     numbers: Vec<u32>,
-    /// The slot that each node owns, where it isn't the one of the node's own number.
+    // The slot that each node owns, where it isn't the one of the node's own number.
     own: Vec<Option<u32>>,
 }
 
@@ -141,7 +141,7 @@ impl NumberedLists {
     }
 }
 
-/// The bucket of a list.
+// The bucket of a list.
 fn bucket_of(buckets: &Lists, list: u32) -> u32
     requires { 0 < length buckets.now.lists }
     ensures bucket { result ≡ bucket_of buckets.now.lists list }
@@ -150,7 +150,7 @@ fn bucket_of(buckets: &Lists, list: u32) -> u32
     (list as u64 % buckets.list_count() as u64) as u32
 }
 
-/// The slot of a list that isn't empty.
+// The slot of a list that isn't empty.
 fn slot_of(numbers: &Vec<u32>, buckets: &Lists, list: u32) -> Option<u32>
     requires { (b s : ℕ) → has (nodes_in buckets.now.lists b) s ≡ true → s < vec_len numbers.now }
     ensures { result ≡ slot_in (number_at numbers.now.items) (nodes_in buckets.now.lists (bucket_of buckets.now.lists list)) list }
@@ -169,7 +169,7 @@ fn slot_of(numbers: &Vec<u32>, buckets: &Lists, list: u32) -> Option<u32>
     None
 }
 
-/// The slot that a node owns.
+// The slot that a node owns.
 fn own_slot(own: &Vec<Option<u32>>, node: u32) -> u32
     requires { node < vec_len own.now }
     ensures { result ≡ own_of own.now.items node }
@@ -180,7 +180,7 @@ fn own_slot(own: &Vec<Option<u32>>, node: u32) -> u32
     }
 }
 
-/// Gives an empty slot to a list.
+// Gives an empty slot to a list.
 fn name_slot(numbers: &mut Vec<u32>, buckets: &mut Lists, slot: u32, list: u32)
     requires some { 0 < length buckets.old.lists }
     requires there { slot < buckets.old.nodes }
@@ -196,7 +196,7 @@ fn name_slot(numbers: &mut Vec<u32>, buckets: &mut Lists, slot: u32, list: u32)
     buckets.add_front(bucket, slot);
 }
 
-/// A node leaves the slot, in which another stays: where the node owns it, the two swap what they own.
+// A node leaves the slot, in which another stays: where the node owns it, the two swap what they own.
 fn pass_slot(own: &mut Vec<Option<u32>>, slot: u32, node: u32, next: u32)
     requires node { node < vec_len own.old }
     requires next { next < vec_len own.old }
@@ -214,7 +214,7 @@ fn pass_slot(own: &mut Vec<Option<u32>>, slot: u32, node: u32, next: u32)
     }
 }
 
-/// Makes numbers for so many slots.
+// Makes numbers for so many slots.
 fn add_numbers(numbers: &mut Vec<u32>, count: usize) -> Result<(), Memory>
     requires { count < 2 ^ 32 }
     ensures same { (s : ℕ) → number_at numbers.new.items s ≡ number_at numbers.old.items s }
@@ -228,7 +228,7 @@ fn add_numbers(numbers: &mut Vec<u32>, count: usize) -> Result<(), Memory>
     Ok(())
 }
 
-/// Makes places for nodes below `count`, each of which owns the slot of its own number.
+// Makes places for nodes below `count`, each of which owns the slot of its own number.
 fn add_own(own: &mut Vec<Option<u32>>, count: usize) -> Result<(), Memory>
     ensures same { (n : ℕ) → own_of own.new.items n ≡ own_of own.old.items n }
     ensures kept { vec_len own.old ≤ vec_len own.new }
@@ -241,7 +241,7 @@ fn add_own(own: &mut Vec<Option<u32>>, count: usize) -> Result<(), Memory>
     Ok(())
 }
 
-/// Makes so many slots, and places in them for so many nodes.
+// Makes so many slots, and places in them for so many nodes.
 fn add_slots(slots: &mut Lists, count: usize) -> Result<(), Memory>
     requires { count < 2 ^ 32 }
     ensures same { (s : ℕ) → nodes_in slots.new.lists s ≡ nodes_in slots.old.lists s }
@@ -259,8 +259,8 @@ fn add_slots(slots: &mut Lists, count: usize) -> Result<(), Memory>
     Ok(())
 }
 
-/// Makes places for so many slots in as many buckets. Where there are too few buckets, the slots are sorted anew into
-/// twice as many or more.
+// Makes places for so many slots in as many buckets. Where there are too few buckets, the slots are sorted anew into
+// twice as many or more.
 fn add_buckets(
     numbers: &Vec<u32>,
     slots: &Lists,
@@ -285,7 +285,7 @@ fn add_buckets(
     Ok(())
 }
 
-/// So many buckets, with the slots that aren't empty.
+// So many buckets, with the slots that aren't empty.
 fn sorted(numbers: &Vec<u32>, slots: &Lists, count: usize) -> Result<Lists, Memory>
     requires numbered { length slots.now.lists ≤ vec_len numbers.now }
     requires few { vec_len numbers.now < 2 ^ 32 }
@@ -304,7 +304,7 @@ fn sorted(numbers: &Vec<u32>, slots: &Lists, count: usize) -> Result<Lists, Memo
     Ok(buckets)
 }
 
-/// Puts a slot that isn't empty into its bucket.
+// Puts a slot that isn't empty into its bucket.
 fn sort_slot(numbers: &Vec<u32>, slots: &Lists, buckets: &mut Lists, slot: u32)
     requires numbered { slot < vec_len numbers.now }
     requires there { slot < length slots.now.lists }

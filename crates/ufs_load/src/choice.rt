@@ -24,7 +24,7 @@ fn is_fit(load: &Load, from: u8, limit: u64) -> bool
     load.worker == from && load.count > 0 && (load.count as u64) < limit
 }
 
-/// The load that counts more, or has the lower file.
+// The load that counts more, or has the lower file.
 fn better(best: Option<Load>, load: Load) -> Load
     ensures { Beats best load result }
 {

@@ -1,4 +1,3 @@
-// The plan.
 ghost use Rattle.std.specs.Prelude.{◌≡◌, ◌<◌, ◌≤◌, ◌^◌, length, map, All, IfOk, OnOk};
 ghost use Rattle.ufs_load.specs.Plan.{IsNextMove, IsPlan, on_worker};
 ghost use Rattle.ufs_load.specs.Laws.{AreOfFiles};
@@ -31,7 +30,7 @@ pub fn plan(alloc: Global, loads: &LoadList, workers: u8, limit: u32) -> Result<
     Ok(MoveList::from_vec(moves))
 }
 
-/// The same loads. As their files are distinct, there are no more of them than there are files.
+// The same loads. As their files are distinct, there are no more of them than there are files.
 fn copied(alloc: Global, loads: &[Load]) -> Result<Vec<Load>, Memory>
     ensures same { IfOk result (λ v. v.items ≡ loads.now) }
     ensures files { OnOk result (All (λ l. l.file < 2 ^ 32) loads.now) }

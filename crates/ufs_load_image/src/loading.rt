@@ -1,4 +1,3 @@
-// Loading an image.
 ghost use Rattle.std.specs.Prelude.{ℕ, ◌≡◌, ◌≤◌, None, Some, Ok, length, map, IsTrue, IfOk, IfErr, OnOk};
 ghost use Rattle.std.specs.FinSet as set;
 ghost use Rattle.ufs_base.specs.Images.{Image};

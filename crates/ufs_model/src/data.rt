@@ -1,4 +1,3 @@
-// Requests and replies.
 use crate::lists::{Bytes, NameList};
 
 #[derive(Clone, Copy, Debug, PartialEq, Eq)]

@@ -1,4 +1,3 @@
-// One history of several.
 ghost use Rattle.std.specs.Prelude.{◌≡◌, ◌++◌, OnOk, IfOk};
 ghost use Rattle.std.specs.List.Sorted.{IsPermutation};
 ghost use Rattle.ufs_model.specs.History.{DoTicketsRise, AreTicketsOnce, joined};

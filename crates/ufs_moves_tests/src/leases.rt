@@ -88,7 +88,7 @@ fn a_removal_waits_for_the_leases_on_its_path_and_below(rt: HostRuntime) -> Resu
     Ok(())
 }
 
-/// How many leases of other clients end behind a time.
+// How many leases of other clients end behind a time.
 fn count_against(leases: &[(u8, u32)], client: u8, clock: u32) -> usize {
     leases
         .iter()

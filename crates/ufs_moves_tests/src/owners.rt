@@ -40,7 +40,7 @@ fn recall(table: &mut OwnerTable, file: u32, to: u8) -> Option<u8> {
     }
 }
 
-/// Takes a step where it may be taken, and tells the number that it answers, 0 where it answers none.
+// Takes a step where it may be taken, and tells the number that it answers, 0 where it answers none.
 fn take(table: &mut OwnerTable, file: u32, step: Step) -> Result<Option<u8>, Memory> {
     match (step, table.owner_of(file)) {
         (Step::Send(to), _) => send(table, file, to),
@@ -66,7 +66,7 @@ fn take(table: &mut OwnerTable, file: u32, step: Step) -> Result<Option<u8>, Mem
     }
 }
 
-/// A file as a test keeps it.
+// A file as a test keeps it.
 #[derive(Drop)]
 struct Plain {
     owner: Owner,

@@ -126,6 +126,7 @@ impl NameTree {
     pub fn is_table(&self)
         ensures { IsNameTable self.now }
     {
+        // For the prover alone.
         let _ = &self.files;
     }
 
@@ -188,13 +189,14 @@ impl NameTree {
     }
 }
 
-/// So many inodes that are no file's.
+// So many inodes that are no file's.
 fn no_files(alloc: Global, count: usize) -> Result<Vec<Option<u32>>, Memory>
     ensures counted { IfOk result (λ files. length files.items ≡ count) }
     ensures none { IfOk result (λ files. (i : ℕ) → slice_index_or files.items i None ≡ None) }
 {
     let mut files = Vec::with_capacity(alloc, count)?;
     for made in 0..count {
+        // For the prover alone.
         let _ = made;
         files.push(None)?;
     }

@@ -173,7 +173,7 @@ fn freed_change(alloc: Global, inode: u32) -> Result<Change, Memory>
 
 // ---- their records, step by step
 
-/// A directory that took a block is told whole.
+// A directory that took a block is told whole.
 fn tell_grown(
     alloc: Global,
     records: &mut Vec<LogRecord>,
@@ -192,7 +192,7 @@ fn tell_grown(
     Ok(())
 }
 
-/// An inode that has nothing yet.
+// An inode that has nothing yet.
 fn tell_born(
     alloc: Global,
     records: &mut Vec<LogRecord>,
@@ -229,7 +229,7 @@ fn tell_slot(records: &mut Vec<LogRecord>, slot: Slot, dentry: Dentry) -> Result
     Ok(())
 }
 
-/// A name that goes, with the inode of a directory that it stood for.
+// A name that goes, with the inode of a directory that it stood for.
 fn tell_cleared(
     records: &mut Vec<LogRecord>,
     slot: Slot,
@@ -247,7 +247,7 @@ fn tell_cleared(
     Ok(())
 }
 
-/// The same of a name that gave place to another, where there was one.
+// The same of a name that gave place to another, where there was one.
 fn tell_replaced(
     records: &mut Vec<LogRecord>,
     dropped: Option<Slot>,
@@ -264,7 +264,7 @@ fn tell_replaced(
     }
 }
 
-/// A directory with these blocks. The record keeps no extent and gives all.
+// A directory with these blocks. The record keeps no extent and gives all.
 fn dir_record(alloc: Global, dir: u32, blocks: &[u32]) -> Result<LogRecord, Memory>
     requires below { All (λ b. b < MAX_BLOCKS) blocks.now }
     requires few { length (extents_of blocks.now) ≤ 56 }
@@ -282,7 +282,7 @@ fn dir_record(alloc: Global, dir: u32, blocks: &[u32]) -> Result<LogRecord, Memo
     })
 }
 
-/// The extents that the blocks lie in.
+// The extents that the blocks lie in.
 fn runs_of(alloc: Global, blocks: &[u32]) -> Result<Extents, Memory>
     requires below { All (λ b. b < MAX_BLOCKS) blocks.now }
     requires few { length (extents_of blocks.now) ≤ 56 }
@@ -302,7 +302,7 @@ fn runs_of(alloc: Global, blocks: &[u32]) -> Result<Extents, Memory>
     Ok(runs)
 }
 
-/// What stands in a slot that no name has.
+// What stands in a slot that no name has.
 fn free_dentry() -> Dentry
     ensures { result ≡ free_slot }
 {

@@ -1,4 +1,3 @@
-// A namespace of which no file is open.
 ghost use Rattle.std.specs.Prelude.{◌≡◌, ◌+◌, ◌<◌, length, IfOk, OnOk};
 ghost use Rattle.ufs_names.specs.Closed.{AreClosed, with_closed};
 

@@ -1,4 +1,3 @@
-// Descriptors that are closed.
 use crate::names::{Names, Served};
 use ufs_bitmap::Pool;
 use ufs_files::FileHands;
@@ -35,7 +34,7 @@ impl Names {
         }
     }
 
-    /// The client lets go of the descriptor's file, if this was its last hold of it.
+    // The client lets go of the descriptor's file, if this was its last hold of it.
     fn let_go(&mut self, ask: &Ask, files: &mut FileHands, pool: &mut Pool)
         requires client { ask.now.client < 16 }
         requires close { (fd : ℕ) × (ask.now.op ≡ op.Close fd) }

@@ -1,4 +1,3 @@
-// Numbers of files.
 ghost use Rattle.std.specs.BTreeMap.{keys};
 ghost use Rattle.std.specs.Prelude.{◌≡◌, IfOk};
 
@@ -70,6 +69,7 @@ impl HoldMap {
         ensures files { IfOk result (λ files. files ≡ map.keys self.now) }
         ensures rising { IfOk result (λ files. IsStrictlyIncreasing files) }
     {
+        // For the prover alone.
         let _count = self.entries.len();
         let files = keys_of(alloc, &self.entries)?;
         Ok(FileList::from_vec(files))

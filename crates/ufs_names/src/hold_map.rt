@@ -1,4 +1,3 @@
-// Who holds each live file.
 ghost use Rattle.std.specs.Prelude.{◌≡◌, OnOk, OnErr};
 ghost use Rattle.std.specs.FinMap as map;
 
@@ -60,6 +59,7 @@ impl HoldMap {
     pub fn remove(&mut self, file: u32)
         ensures { self.new ≡ map.remove self.old file }
     {
+        // For the prover alone.
         let _count = self.entries.len();
         let _holding = self.entries.remove(&file);
     }

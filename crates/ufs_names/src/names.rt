@@ -100,6 +100,7 @@ impl Names {
         // Each name may stand in a path.
         names_stay_in_whole_paths();
         whole_paths_may_stand();
+        // For the prover alone.
         let _count = path.len();
         match self.tree.look(path) {
             Ok(look) => match look.found {
@@ -150,7 +151,7 @@ impl Names {
         }
     }
 
-    /// The same, with the excuse as the error.
+    // The same, with the excuse as the error.
     fn serve(&mut self, ask: &Ask, files: &mut FileHands, pool: &mut Pool) -> Result<Served, Excuse>
         requires client { ask.now.client < 16 }
         requires numbers { self.old.next < 2 ^ 31 }

@@ -1,4 +1,3 @@
-// The files that a request gathers.
 ghost use Rattle.std.specs.Prelude.{◌≡◌};
 ghost use Rattle.ufs_names.specs.Needs as needs;
 
@@ -47,7 +46,7 @@ impl Names {
         }
     }
 
-    /// The one live file that a request touches, which its client doesn't refuse: any but `sync`.
+    // The one live file that a request touches, which its client doesn't refuse: any but `sync`.
     fn need(&self, ask: &Ask) -> Result<Option<u32>, Memory>
         requires client { ask.now.client < 16 }
         requires kind { IsOfNames ask.now }
@@ -68,7 +67,7 @@ impl Names {
         }
     }
 
-    /// Of a request on one path.
+    // Of a request on one path.
     fn need_at(&self, ask: &Ask, path: &PathText) -> Option<u32>
         requires path { option_map components (path_asked ask.now.op) ≡ Some path.now }
         ensures { (t : PosixTree) → IsPartOf self.now t → own_refusal t ask.now.client ask.now.op ≡ None → IsFileIn t (reached t ask.now.client ask.now.op) result }
@@ -84,7 +83,7 @@ impl Names {
         }
     }
 
-    /// Of a file that was found: `open` cuts it, `stat` asks its size, and `unlink` takes its name.
+    // Of a file that was found: `open` cuts it, `stat` asks its size, and `unlink` takes its name.
     fn need_found(&self, request: &Op, file: Option<u32>) -> Option<u32>
         ensures { result ≡ needed_found self.now.held request.now file }
     {
@@ -96,7 +95,7 @@ impl Names {
         }
     }
 
-    /// The file at the new name goes. A name onto itself changes nothing.
+    // The file at the new name goes. A name onto itself changes nothing.
     fn need_of_rename(&self, from: &PathText, to: &PathText) -> Option<u32>
         ensures { (t : PosixTree) (client : ℕ) (a b : List ℕ) → IsPartOf self.now t → own_refusal t client (op.Rename a b) ≡ None → from.now ≡ components a → to.now ≡ components b → IsFileIn t (reached t client (op.Rename a b)) result }
     {
@@ -109,7 +108,7 @@ impl Names {
         self.without_name(file_of(self.tree.node(step.to.found)))
     }
 
-    /// The file of the descriptor goes with the last hold of it.
+    // The file of the descriptor goes with the last hold of it.
     fn need_of_close(&self, ask: &Ask) -> Option<u32>
         requires client { ask.now.client < 16 }
         ensures { result ≡ unkept_closed self.now.held ask.now.client ask.now.last (file_in ask.now.desc) }
@@ -126,7 +125,7 @@ impl Names {
         unkept(self.holding(file).without(ask.client), file)
     }
 
-    /// The file, where nothing keeps it without its name.
+    // The file, where nothing keeps it without its name.
     fn without_name(&self, file: Option<u32>) -> Option<u32>
         ensures { result ≡ unkept_unnamed self.now.held file }
     {
@@ -136,7 +135,7 @@ impl Names {
         unkept(self.holding(file).without_name(), file)
     }
 
-    /// What is known of the file.
+    // What is known of the file.
     fn holding(&self, file: u32) -> Holding
         ensures { result ≡ holding_of self.now.held file }
     {
@@ -147,7 +146,7 @@ impl Names {
     }
 }
 
-/// The file, where nothing keeps it.
+// The file, where nothing keeps it.
 fn unkept(holding: Holding, file: u32) -> Option<u32>
     ensures { result ≡ needs.unkept holding file }
 {

@@ -1,4 +1,3 @@
-// Paths that are opened.
 use crate::holding::Holding;
 use crate::names::Names;
 use ufs_bitmap::Pool;
@@ -70,7 +69,7 @@ impl Names {
         }
     }
 
-    /// A new file with no bytes, which the client holds. What can be undone comes first.
+    // A new file with no bytes, which the client holds. What can be undone comes first.
     fn add_file(
         &mut self,
         client: u8,
@@ -128,7 +127,7 @@ impl Names {
         }
     }
 
-    /// The client holds the file, which is emptied where it is asked for.
+    // The client holds the file, which is emptied where it is asked for.
     fn open_file(
         &mut self,
         client: u8,

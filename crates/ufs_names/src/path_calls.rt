@@ -1,4 +1,3 @@
-// Requests on one path.
 ghost use Rattle.std.specs.Prelude.{◌≡◌};
 ghost use Rattle.ufs_names.specs.PathCalls as calls;
 
@@ -78,7 +77,7 @@ impl Names {
         }
     }
 
-    /// The reply to a request that isn't refused.
+    // The reply to a request that isn't refused.
     fn answer_found(
         &self,
         ask: &Ask,
@@ -96,7 +95,7 @@ impl Names {
         }
     }
 
-    /// A file's size, or the number of a directory's entries.
+    // A file's size, or the number of a directory's entries.
     fn stat(&self, found: Option<Found>, files: &FileHands) -> Reply
         ensures { IsStat self.now files.now found result }
     {
@@ -111,7 +110,7 @@ impl Names {
         }
     }
 
-    /// How many bytes the file of this inode has, where its hand is here.
+    // How many bytes the file of this inode has, where its hand is here.
     fn size(&self, inode: u32, files: &FileHands) -> u64
         ensures { (f : ℕ) (s : FileState) → file_at self.now.tree inode ≡ Some f → map.get files.now f ≡ Some s → result ≡ length s.content.bytes }
     {
@@ -124,7 +123,7 @@ impl Names {
         }
     }
 
-    /// A directory's names.
+    // A directory's names.
     fn list(&self, found: Option<Found>) -> Result<Reply, Memory>
         requires { (i : ℕ) × (found ≡ Some (met.Dir i)) }
         ensures { IfOk result (λ reply. IsList self.now found reply) }
@@ -135,7 +134,7 @@ impl Names {
         }
     }
 
-    /// What a request that isn't refused changes, and the descriptor that it opens.
+    // What a request that isn't refused changes, and the descriptor that it opens.
     fn change_found(
         &mut self,
         ask: &Ask,
@@ -206,12 +205,13 @@ impl Names {
         ensures err { OnErr result (self.new ≡ self.old) }
         ensures err_pool { OnErr result (pool.new ≡ pool.old) }
     {
+        // For the prover alone.
         let _ = files;
         self.tree.add_dir(dir, path, pool)?;
         Ok(())
     }
 
-    /// A name goes, and with it the file that nothing keeps any more.
+    // A name goes, and with it the file that nothing keeps any more.
     fn remove_name(&mut self, look: Look, path: &PathText, files: &mut FileHands, pool: &mut Pool)
         requires below { path.now ≢ [] }
         requires dir { found_at self.old.tree.dirs (names_above path.now) ≡ Some (met.Dir look.dir) }

@@ -103,7 +103,7 @@ impl Names {
         }
     }
 
-    /// By what stands at the two names.
+    // By what stands at the two names.
     fn replace_refusal(
         &self,
         from: &PathText,
@@ -125,7 +125,7 @@ impl Names {
         )
     }
 
-    /// What stood at the new name goes. A name onto itself changes nothing.
+    // What stood at the new name goes. A name onto itself changes nothing.
     fn change_rename(
         &mut self,
         from: &PathText,

@@ -11,7 +11,7 @@ use ufs_load_image::load;
 use ufs_model::{PathEntry, PathNode};
 use ufs_opening::{NodeHead, PathHead, tree_heads, tree_of};
 
-/// The first sector of the journal, and that of the file's block.
+// The first sector of the journal, and that of the file's block.
 const JOURNAL: u32 = 32;
 
 const BYTES: u32 = 104;

@@ -8,10 +8,10 @@ use ufs_check::check;
 use ufs_damage::Damage;
 use ufs_disk::PlainDisk;
 
-/// The first sector of the root's block, which has its first eight slots.
+// The first sector of the root's block, which has its first eight slots.
 const SLOTS: u32 = 96;
 
-/// An inode with one extent.
+// An inode with one extent.
 #[derive(Clone, Copy)]
 struct Node {
     kind: u8,
@@ -20,14 +20,14 @@ struct Node {
     size: u16,
 }
 
-/// A dentry of a file; a free slot has no name.
+// A dentry of a file; a free slot has no name.
 #[derive(Clone, Copy)]
 struct Name {
     inode: u8,
     name: &'static [u8],
 }
 
-/// Inodes 2 and 3, the first two slots of the root, the damage, and who is blamed for it.
+// Inodes 2 and 3, the first two slots of the root, the damage, and who is blamed for it.
 #[derive(Clone, Copy)]
 struct Row {
     second: Node,
@@ -78,7 +78,7 @@ fn tells(alloc: Global, row: &Row) -> bool {
     listed && cause(alloc, &mut disk) == Some(RecoverFault::BadTree { inode: row.blamed })
 }
 
-/// A file of ten bytes in block 13.
+// A file of ten bytes in block 13.
 const ONE: Node = Node {
     kind: 1,
     start: 13,
@@ -86,7 +86,7 @@ const ONE: Node = Node {
     size: 10,
 };
 
-/// An empty file that holds block 14.
+// An empty file that holds block 14.
 const OTHER: Node = Node {
     kind: 1,
     start: 14,

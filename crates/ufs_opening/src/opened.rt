@@ -1,4 +1,3 @@
-// An image that stands for a tree.
 use ufs_damage::Findings;
 use ufs_volume::FoldedVolume;
 

@@ -1,4 +1,3 @@
-// Opening an image.
 ghost use Rattle.std.specs.Prelude.{◌≡◌, ◌≤◌, ℕ, None, Ok, length, IsTrue, IfOk, IfErr, OnOk};
 ghost use Rattle.ufs_base.specs.Images.{Image};
 ghost use Rattle.ufs_disk.specs.Moments.{reads};

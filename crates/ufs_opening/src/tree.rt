@@ -1,4 +1,3 @@
-// The tree that an image stands for.
 ghost use Rattle.std.specs.Prelude.{◌≡◌, ◌≤◌, ℕ, Ok, length, map, IsTrue, IfOk, IfErr, OnOk};
 ghost use Rattle.std.specs.FinMap.{is_sorted};
 ghost use Rattle.ufs_disk.specs.Moments.{reads};

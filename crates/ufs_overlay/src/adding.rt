@@ -88,7 +88,7 @@ fn put_one(
     )
 }
 
-/// Takes back the records that were put last.
+// Takes back the records that were put last.
 fn take_back(lists: &mut SectorLists, geometry: &Geometry, records: &[LogRecord])
     requires limits { IsGeometry geometry.now }
     requires in_range { IsTrue (list_all (is_in_range geometry.now) records.now) }

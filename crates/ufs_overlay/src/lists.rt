@@ -1,4 +1,3 @@
-// The records of each sector.
 ghost use Rattle.std.specs.Prelude.{◌≡◌, ◌≢◌, ◌≤◌, ◌<◌, ℕ, [], OnOk, OnErr, IfSome, IfNone};
 ghost use Rattle.ufs_overlay.specs.Lists.{lists_of, with_more, without_last};
 

@@ -1,4 +1,3 @@
-// The overlay.
 ghost use Rattle.std.specs.Prelude.{◌≡◌, ◌==◌, if◌then◌else◌, ◌≤◌, ◌<◌, ◌∷◌, ◌++◌, [], ℕ, List, false, length, IfSome, IfNone, IfErr, IsTrue, OnOk, OnErr};
 ghost use Rattle.std.specs.List.{list_all, AllByRecursion};
 ghost use Rattle.ufs_layout.specs.Areas.{IsGeometry, sector_count};
@@ -112,7 +111,7 @@ impl Overlay {
         step_all(buf, self.lists.at(sector));
     }
 
-    /// The lowest sector of the image, from this one on, that a transaction may change.
+    // The lowest sector of the image, from this one on, that a transaction may change.
     fn next_touched(&self, from: u32) -> Option<u32>
         ensures within { IfSome result (λ sector. (from ≤ sector) × (sector < sector_count (geometry_of self.now))) }
         ensures least { IfSome result (λ sector. (k : ℕ) → from ≤ k → k < sector → recorded self.now k ≡ []) }
@@ -126,7 +125,7 @@ impl Overlay {
         }
     }
 
-    /// Writes one sector home, if a transaction changes it.
+    // Writes one sector home, if a transaction changes it.
     fn write_sector<D: Disk>(&self, disk: &mut D, sector: u32) -> Result<(), Fault>
         requires inside { sector < D.size disk.old }
         ensures ok { IsTrue D.tells → (added : List Committed) → HasAdded self.now added → OnOk result
@@ -178,7 +177,7 @@ impl Overlay {
     }
 }
 
-/// Changes a sector as these records have it.
+// Changes a sector as these records have it.
 fn step_all(sector: &mut [u8], records: &[Numbered])
     requires sized { length sector.old ≡ 512 }
     requires form { IsTrue (list_all (λ (n : Numbered). is_record n.change) records.now) }

@@ -14,7 +14,7 @@ const NO_EXTENT: Extent = Extent {
     length: 0,
 };
 
-/// A free inode that contains commits up to this number.
+// A free inode that contains commits up to this number.
 fn free_inode(number: u64) -> Inode
     ensures value { result ≡ Rattle.ufs_layout.specs.InodeForm.free_inode number }
     ensures form { IsTrue (is_inode result) }
@@ -41,7 +41,7 @@ fn put_extents(places: &mut [Extent], at: usize, extents: &[Extent])
     places[at..at + extents.len()].copy_from_slice(extents);
 }
 
-/// The inode after a delta: its first extents stay, and the given ones follow.
+// The inode after a delta: its first extents stay, and the given ones follow.
 fn changed_inode(
     inode: &Inode,
     number: u64,

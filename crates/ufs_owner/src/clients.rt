@@ -1,4 +1,3 @@
-// Clients in the order in which they came.
 use std::alloc::Global;
 use std::marker::Model;
 use ufs_base::Memory;

@@ -169,14 +169,14 @@ impl Records {
     }
 }
 
-/// Whether the file isn't at the primary, or a client waits for it.
+// Whether the file isn't at the primary, or a client waits for it.
 fn is_known(standing: &Standing) -> bool
     ensures { result ≡ is_known standing.now }
 {
     standing.owner != Owner::Primary || !standing.waiting.is_empty()
 }
 
-/// Where the file's record is.
+// Where the file's record is.
 fn place_of(places: &HashMap<u32, usize>, file: u32) -> Option<usize>
     ensures { result ≡ hash.get nat_eq places.now file }
 {

@@ -1,4 +1,3 @@
-// The table of owners.
 ghost use Rattle.std.specs.Prelude.{◌≡◌, ◌+◌, ◌-◌, ◌<◌, ◌^◌, slice_index, slice_set, IsTrue};
 ghost use Rattle.ufs_owner.specs.Owners.{is_out, recalled};
 ghost use Rattle.ufs_owner.specs.declared.owner.Owner.TheVariants.{Coming};
@@ -17,11 +16,11 @@ use ufs_base::Memory;
 pub struct OwnerTable {
     alloc: Global,
     records: Records,
-    /// How many files may still be sent without memory.
+    // How many files may still be sent without memory.
     spare: u32,
-    /// How many files aren't at the primary.
+    // How many files aren't at the primary.
     out: u32,
-    /// How many files each worker has or is to have.
+    // How many files each worker has or is to have.
     workers: [u32; 256],
 }
 
@@ -82,7 +81,7 @@ impl OwnerTable {
         }
     }
 
-    /// The worker that is to have a file once it has come, 0 for the primary.
+    // The worker that is to have a file once it has come, 0 for the primary.
     fn note_of(&self, file: u32) -> u8
         ensures { result ≡ note_at self.now.files file }
     {
@@ -223,7 +222,7 @@ impl OwnerTable {
     }
 }
 
-/// The worker that has a file or is to have it.
+// The worker that has a file or is to have it.
 fn worker_of(owner: Owner) -> u8
     requires { IsTrue (is_out owner) }
     ensures { recalled owner ≡ Coming result }

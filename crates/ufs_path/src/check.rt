@@ -6,10 +6,10 @@ ghost use Rattle.ufs_path.specs.Faults.{name_fault as fault_of_name, names_fault
 
 use crate::fault::PathFault;
 
-/// The most bytes of a path.
+// The most bytes of a path.
 const MAX_PATH: usize = 1_023;
 
-/// The most bytes of a component.
+// The most bytes of a component.
 const MAX_NAME: usize = 58;
 
 /// Why the text is refused, `None` where it isn't. Takes no memory.
@@ -36,7 +36,7 @@ pub fn path_fault(path: &[u8]) -> Option<PathFault>
     None
 }
 
-/// Of the first component that has one.
+// Of the first component that has one.
 fn component_fault(path: &[u8]) -> Option<PathFault>
     ensures { result ≡ names_fault (paths.components path.now) }
 {
@@ -88,7 +88,7 @@ fn ends_in_slash(text: &[u8]) -> bool
     }
 }
 
-/// Whether it has no component.
+// Whether it has no component.
 fn is_slashes(text: &[u8]) -> bool
     ensures { result ≡ list_all (λ b. b == 47) text.now }
 {

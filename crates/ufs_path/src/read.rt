@@ -1,4 +1,3 @@
-// From a text to its components.
 ghost use Rattle.std.specs.Prelude.{◌≡◌, ℕ, List, ◌++◌, ◌∷◌, [], None, IfOk, OnOk, IfErr, IfSome, IfNone, IsOkUnless, length, nat_lt, filter};
 ghost use Rattle.ufs_model.specs.Paths.{components, text_refusal, whole_path};
 ghost use Rattle.ufs_path.specs.Faults.{first_fault, errno_of};
@@ -31,7 +30,7 @@ pub fn read_path(alloc: Global, path: &[u8]) -> Result<PathText, PathFault>
     }
 }
 
-/// A text that isn't refused, with its slashes made single.
+// A text that isn't refused, with its slashes made single.
 fn kept(alloc: Global, path: &[u8]) -> Result<PathText, AllocError>
     requires { text_refusal path.now ≡ None }
     ensures { IfOk result (λ text. text ≡ components path.now) }
@@ -45,7 +44,7 @@ fn kept(alloc: Global, path: &[u8]) -> Result<PathText, AllocError>
     Ok(PathText::from_parts(whole, ends))
 }
 
-/// One slash where there is no component.
+// One slash where there is no component.
 fn rooted(mut bytes: Vec<u8>) -> Result<Vec<u8>, AllocError>
     ensures { IfOk result (λ whole. (names : List (List ℕ)) → bytes.items ≡ joined names → whole.items ≡ whole_path names) }
 {
@@ -55,7 +54,7 @@ fn rooted(mut bytes: Vec<u8>) -> Result<Vec<u8>, AllocError>
     Ok(bytes)
 }
 
-/// Appends a component, and nothing for a piece between two slashes that stand together.
+// Appends a component, and nothing for a piece between two slashes that stand together.
 fn add_piece(bytes: &mut Vec<u8>, ends: &mut Vec<usize>, piece: &[u8]) -> Result<(), AllocError>
     ensures bytes { OnOk result (bytes.new.items ≡ bytes.old.items ++ joined (filter (λ name. nat_lt 0 (length name)) (piece.now ∷ []))) }
     ensures ends { OnOk result (ends.new.items ≡ ends.old.items ++ ends_from (length bytes.old.items) (filter (λ name. nat_lt 0 (length name)) (piece.now ∷ []))) }

@@ -4,9 +4,9 @@ use std::marker::Model;
 /// The components of a path whose text isn't refused. No call on it takes memory.
 #[derive(Drop)]
 pub struct PathText {
-    /// The whole path.
+    // The whole path.
     bytes: Vec<u8>,
-    /// The place in `bytes` where each component ends.
+    // The place in `bytes` where each component ends.
     ends: Vec<usize>,
 }
 
@@ -96,7 +96,7 @@ impl PathText {
         self.prefix(self.len().saturating_sub(1))
     }
 
-    /// The place where the first components end, with a slash before each.
+    // The place where the first components end, with a slash before each.
     fn end_of(&self, count: usize) -> usize
         requires { count ≤ length self.now }
         ensures { result ≡ length (joined (take count self.now)) }

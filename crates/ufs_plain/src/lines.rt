@@ -1,4 +1,3 @@
-// The reply lines of a history.
 ghost use Rattle.std.specs.Prelude.{◌≡◌, ◌++◌, IfOk, OnOk};
 ghost use Rattle.ufs_model.specs.History.{entries_of};
 ghost use Rattle.ufs_script.specs.Output.{lines_of, output_of};

@@ -1,4 +1,3 @@
-// From a script's text to the text of its replies.
 ghost use Rattle.std.specs.Prelude.{◌≡◌, ◌≢◌, List, Err, IfOk, IfErr};
 ghost use Rattle.ufs_base.specs.Faults.{raised};
 ghost use Rattle.ufs_model.specs.declared.data.Entry.{Entry};

@@ -11,7 +11,7 @@ use ufs_base::MAX_BLOCKS;
 use ufs_bitmap::Pool;
 use ufs_extent::Run;
 
-/// The block is the pool's. Takes no memory.
+// The block is the pool's. Takes no memory.
 fn add_block(pool: &mut Pool, block: u32)
     requires { block < MAX_BLOCKS }
     ensures { pool.new ≡ set.insert pool.old block }
@@ -24,7 +24,7 @@ fn add_block(pool: &mut Pool, block: u32)
     }
 }
 
-/// The run's blocks are the pool's. Takes no memory.
+// The run's blocks are the pool's. Takes no memory.
 fn add_run(pool: &mut Pool, run: Run)
     requires { IsRun run }
     ensures { pool.new ≡ set.union pool.old (run_set run) }
@@ -44,7 +44,7 @@ pub fn add_runs(pool: &mut Pool, runs: &[Run])
     }
 }
 
-/// One run of the one pool goes to the other.
+// One run of the one pool goes to the other.
 fn pour_run(from: &mut Pool, into: &mut Pool)
     ensures all { set.union into.new from.new ≡ set.union into.old from.old }
     ensures less { set.len from.new ≤ set.len from.old - 1 }

@@ -1,5 +1,3 @@
-// Why a disk isn't formatted.
-
 /// Why a disk isn't formatted.
 #[derive(Clone, Copy, Debug, PartialEq, Eq)]
 pub enum FormatFault {

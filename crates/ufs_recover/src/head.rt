@@ -1,4 +1,3 @@
-// The superblock's sector.
 ghost use Rattle.std.specs.Prelude.{◌≡◌, ◌<◌, ◌≢◌, ℕ, IsTrue, IfErr, OnOk};
 ghost use Rattle.ufs_disk.specs.Disk.{IsSettled, put};
 ghost use Rattle.ufs_disk.specs.Moments.{LeavesOnly, reads};

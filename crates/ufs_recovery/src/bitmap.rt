@@ -1,4 +1,3 @@
-// The bitmap.
 ghost use Rattle.std.specs.Prelude.{ℕ, ◌≡◌, ◌≤◌, ◌<◌, ◌+◌, ◌*◌, ◌^◌, length, IsTrue, IfErr, OnOk};
 ghost use Rattle.std.specs.Int.{bit_at};
 ghost use Rattle.ufs_base.specs.Faults.{HasCause};

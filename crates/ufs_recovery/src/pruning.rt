@@ -1,4 +1,3 @@
-// Orphans are freed.
 ghost use Rattle.std.specs.Prelude.{ℕ, ◌≡◌, ◌≤◌, length, IsTrue, IfErr, OnOk};
 ghost use Rattle.ufs_base.specs.Faults.{HasCause};
 ghost use Rattle.ufs_disk.specs.Disk.{IsSettled};
@@ -10,10 +9,10 @@ use crate::clearing::clear;
 use ufs_disk::{Disk, Fault};
 use ufs_layout::Geometry;
 
-/// The kind of a free inode.
+// The kind of a free inode.
 const FREE: u8 = 0;
 
-/// The kind of a directory.
+// The kind of a directory.
 const DIRECTORY: u8 = 2;
 
 /// For each inode of the image, that of inode 1 first, the commit number of an orphan.

@@ -1,4 +1,3 @@
-// Recovery.
 ghost use Rattle.std.specs.Prelude.{ℕ, ◌≡◌, false, length, Ok, Err, IsTrue, IfOk, IfErr, OnOk};
 ghost use Rattle.ufs_catalog.specs.Faults.{HasFaultCause, IsOutside};
 ghost use Rattle.ufs_catalog.specs.Reading.{IsReadOnly};

@@ -1,4 +1,3 @@
-// Writes of one sector.
 ghost use Rattle.std.specs.Prelude.{◌≡◌, ◌<◌, ◌≢◌, ℕ, IsTrue, IfErr, OnOk};
 ghost use Rattle.ufs_base.specs.Faults.{HasCause};
 ghost use Rattle.ufs_disk.specs.Disk.{IsSettled, put};

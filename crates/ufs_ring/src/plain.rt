@@ -43,7 +43,7 @@ impl<T> PlainRing<T> {
     }
 }
 
-/// A put is refused exactly where the ring is full, and a take exactly where it is empty.
+// A put is refused exactly where the ring is full, and a take exactly where it is empty.
 impl<T> Ring<T> for PlainRing<T> {
     ghost use Rattle.std.specs.Prelude.{◌≡◌, ◌<◌, ◌≤◌, [], ◌∷◌, ◌++◌, length};
     ghost use Rattle.circular_buffer.specs.Buffer.{buffer};

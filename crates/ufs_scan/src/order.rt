@@ -1,4 +1,3 @@
-// The record sectors by their transactions and indexes, and the commits by rising number.
 ghost use Rattle.std.specs.Prelude.{◌≡◌, ◌<◌, filter, map, IfOk};
 ghost use Rattle.std.specs.List.{All};
 ghost use Rattle.std.specs.List.Sorted.{IsNonDecreasingBy, IsPermutation};

@@ -1,4 +1,3 @@
-// The lines of a text.
 ghost use Rattle.std.specs.Prelude.{◌≡◌, ◌<◌, ◌∷◌, [], IfSome, IfNone, length};
 ghost use Rattle.ufs_script.specs.Lines.{ended_lines, unended_line};
 ghost use Rattle.ufs_script.specs.Lines as specs;

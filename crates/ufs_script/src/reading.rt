@@ -66,6 +66,7 @@ pub fn read_script<S: Source>(alloc: Global, source: &mut S) -> Result<Script, S
 {
     let text = read_all(alloc, source)?;
     let script = parse(alloc, text.as_slice())?;
+    // For the prover alone.
     let _clients = script.clients.as_slice();
     Ok(script)
 }

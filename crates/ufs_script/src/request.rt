@@ -21,7 +21,7 @@ pub struct Flags {
     pub append: bool,
 }
 
-/// No flag.
+// No flag.
 const NO_FLAGS: Flags = Flags {
     creat: false,
     excl: false,

@@ -24,7 +24,7 @@ pub struct Script {
 /// The greatest length of a script, in bytes.
 pub const MAX_SCRIPT: usize = 16_777_216;
 
-/// The draft of a text's lines with a line end, and what stands behind the last of them.
+// The draft of a text's lines with a line end, and what stands behind the last of them.
 #[derive(Drop)]
 struct Ended<'a> {
     draft: Draft,

@@ -1,4 +1,3 @@
-// The verbs of requests.
 ghost use Rattle.std.specs.Prelude.{◌≡◌};
 ghost use Rattle.ufs_script.specs.Requests as specs;
 

@@ -11,7 +11,7 @@ use ufs_recover::format;
 use ufs_script::{Script, read_script, reply_line};
 use ufs_tree::serve;
 
-/// How many requests each of three clients asks.
+// How many requests each of three clients asks.
 const REQUESTS: u32 = 200;
 
 fn next(state: &mut u64) -> u64 {

@@ -1,4 +1,3 @@
-// What a hand knows, as the value of a type of which none is made.
 use std::marker::{Model, PhantomData};
 
 /// What a hand knows. No value of it is made.

@@ -11,7 +11,7 @@ use ufs_base::{BLOCK, SECTOR};
 use ufs_catalog::RecoverFault;
 use ufs_disk::{Disk, PlainDisk};
 
-/// The sectors of a call.
+// The sectors of a call.
 const SECTORS: u32 = 8;
 
 pub(crate) fn append(bytes: &mut Vec<u8>, more: &[u8]) -> Result<(), AllocError>

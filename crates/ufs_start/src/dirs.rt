@@ -67,6 +67,7 @@ fn put_at(dir: &mut DirBlocks, block: u32, place: usize, dentry: &Dentry) -> Res
         return Err(Memory);
     }
     let slot = slot_at(block, place);
+    // For the prover alone.
     let _blocks = dir.blocks();
     if !dir.is_free(slot) {
         return Err(Memory);

@@ -1,4 +1,3 @@
-// Why a server can't begin with an image.
 use ufs_base::Memory;
 use ufs_catalog::RecoverFault;
 

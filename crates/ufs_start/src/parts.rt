@@ -1,4 +1,3 @@
-// What a server begins with.
 use ufs_bitmap::Bitmap;
 use ufs_catalog::ImageHead;
 use ufs_files::FileHands;

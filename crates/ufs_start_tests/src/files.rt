@@ -10,7 +10,7 @@ use ufs_opening::open;
 use ufs_overlay::Overlay;
 use ufs_start::{StartFault, files_of};
 
-/// The number of the file.
+// The number of the file.
 const FILE: u32 = 7;
 
 // An image in which inode 2 is this file. Its first block begins with 7, its second one with 8, and from that

@@ -1,4 +1,3 @@
-// Commits.
 ghost use Rattle.std.specs.Prelude.{ℕ, Bool, List, ◌≡◌, ◌≢◌, ◌≤◌, ◌<◌, ◌+◌, ◌-◌, ◌^◌, ◌∷◌, ◌⊎◌, [], IsTrue, true, false, None, Some, Ok, Err, OnOk, OnErr, IfErr, IfOk};
 ghost use Rattle.std.specs.List.{list_all};
 ghost use Rattle.ufs_disk.specs.Moments.{LeavesOnly};
@@ -83,7 +82,7 @@ fn make_room<D: Disk>(
     begin_next(tables, disk)
 }
 
-/// The overlay gets the records first, so that what is committed is always in it.
+// The overlay gets the records first, so that what is committed is always in it.
 fn commit_in_room<D: Disk>(
     tables: &mut Tables,
     disk: &mut D,

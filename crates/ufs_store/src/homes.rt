@@ -1,4 +1,3 @@
-// Checkpoints.
 ghost use Rattle.std.specs.Prelude.{ℕ, ◌≡◌, ◌≤◌, ◌∷◌, [], IsTrue, None, Some, Err, OnOk, IfErr};
 ghost use Rattle.ufs_disk.specs.Moments.{LeavesOnly};
 ghost use Rattle.ufs_layout.specs.Areas.{sector_count};

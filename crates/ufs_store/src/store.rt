@@ -1,4 +1,3 @@
-// The store.
 ghost use Rattle.std.specs.Prelude.{ℕ, List, ◌≡◌, ◌≢◌, ◌≤◌, ◌<◌, ◌+◌, ◌-◌, ◌⊎◌, ◌↔◌, IsTrue, true, false, None, Some, Ok, Err, OnOk, OnErr, IfErr, IfOk};
 ghost use Rattle.ufs_disk.specs.Moments.{LeavesOnly, reads};
 ghost use Rattle.ufs_ilog.specs.Deltas.{IsDelta};
@@ -28,7 +27,7 @@ use ufs_ilog::{InodeLog, NamesLog};
 use ufs_layout::{Geometry, Super};
 use ufs_ledger::{read_data, settle, write_data};
 
-/// The blocks that a pool gets besides those that are missing.
+// The blocks that a pool gets besides those that are missing.
 const MORE: u32 = 64;
 
 /// A disk with its journal, what is committed in it and not yet home, and the blocks that nobody has.
@@ -112,7 +111,7 @@ fn check_stop(tables: &Tables) -> Result<(), StoreFault>
     }
 }
 
-/// Waits for what was written since the last barrier, if anything was.
+// Waits for what was written since the last barrier, if anything was.
 fn pass_barrier<D: Disk>(tables: &mut Tables, disk: &mut D) -> Result<(), StoreFault>
     requires going { tables.old.stop ≡ None }
     ensures crash { IsTrue D.tells → (l : Ledger) → HasLedger (state_of (D.size disk.old) (D.moments disk.old) (D.faults disk.old) tables.old) l → LeavesOnly D.keeps (IsLeftBy (D.size disk.old) l) (D.moments disk.old) (D.moments disk.new) }
@@ -141,7 +140,7 @@ fn pass_barrier<D: Disk>(tables: &mut Tables, disk: &mut D) -> Result<(), StoreF
     }
 }
 
-/// Commits what a file's log has, or waits for what was written, and answers the last commit number.
+// Commits what a file's log has, or waits for what was written, and answers the last commit number.
 fn commit_delta<D: Disk>(
     tables: &mut Tables,
     disk: &mut D,

@@ -46,7 +46,7 @@ pub fn planned(alloc: Global, fails: Vec<u64>) -> Option<MemoryDisk> {
     MemoryDisk::new(alloc, SECTORS, bytes, fails).ok()
 }
 
-/// The birth of `/f` in block 14.
+// The birth of `/f` in block 14.
 fn birth(alloc: Global) -> Result<Records, Memory>
     ensures form { IfOk result (λ records. IsTrue (list_all is_record records)) }
     ensures order { IfOk result (λ records. IsTrue (is_in_order records)) }
@@ -133,7 +133,7 @@ pub fn commit_file<D: Disk>(
     store.commit_file(log, Runs::new(alloc))
 }
 
-/// Commits the file with this size.
+// Commits the file with this size.
 fn commit_size<D: Disk>(
     alloc: Global,
     store: &mut Store<D>,

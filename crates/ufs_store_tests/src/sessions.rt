@@ -12,7 +12,7 @@ use ufs_layout::{get_inode, get_super};
 use ufs_recovery::recover;
 use ufs_store::{Direct, Door, StoreFault};
 
-/// A sector of the disk; none where the disk ends before it.
+// A sector of the disk; none where the disk ends before it.
 fn sector_of(disk: &mut PlainDisk, sector: u32) -> Option<[u8; SECTOR]> {
     if sector >= disk.sectors() {
         return None;
@@ -22,7 +22,7 @@ fn sector_of(disk: &mut PlainDisk, sector: u32) -> Option<[u8; SECTOR]> {
     Some(bytes)
 }
 
-/// The epoch, the next commit number and whether it is clean.
+// The epoch, the next commit number and whether it is clean.
 fn head_of(disk: &mut PlainDisk) -> Option<(u64, u64, bool)> {
     let head = get_super(&sector_of(disk, 0)?)?;
     Some((head.epoch, head.next, head.clean))
@@ -70,7 +70,7 @@ fn a_file_is_committed_and_the_disk_recovered(rt: HostRuntime) -> Result<(), Fai
     Ok(())
 }
 
-/// The superblock that a session of so many commits of a file leaves.
+// The superblock that a session of so many commits of a file leaves.
 fn head_after(alloc: Global, count: u64) -> Option<(u64, u64, bool)> {
     let mut store = mounted(alloc, PlainDisk::zeros(alloc, 2_048).ok()?)?;
     let mut log = log_of_file(alloc).ok()?;

@@ -46,7 +46,7 @@ impl Parts {
         }
     }
 
-    /// A file's size, or the number of a directory's entries. A number of 2^32 or more can't be told.
+    // A file's size, or the number of a directory's entries. A number of 2^32 or more can't be told.
     fn stat(&self, path: &Bytes) -> Result<Reply, Memory>
         ensures { IfOk result (λ reply. reply ≡ posix.stat_reply (tree_of self.now) (whole_of path.now) (node_at self.now.paths path.now)) }
     {

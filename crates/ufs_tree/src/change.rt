@@ -20,7 +20,7 @@ impl Parts {
     ghost use Rattle.ufs_model.specs.declared.data.Op.TheVariants as op;
     ghost use Rattle.ufs_tree.specs.Parts.{tree_of};
 
-    /// A file that no path and no descriptor names leaves the bytes.
+    // A file that no path and no descriptor names leaves the bytes.
     fn forget(&mut self, file: Option<u32>)
         ensures { tree_of self.new ≡ posix.forget (tree_of self.old) file }
     {
@@ -32,7 +32,7 @@ impl Parts {
         }
     }
 
-    /// A new file with no bytes.
+    // A new file with no bytes.
     fn add_file(&mut self, path: Vec<u8>) -> Result<(), Memory>
         requires whole { IsWhole path.items }
         requires absent { map.get self.old.paths path.items ≡ None }
@@ -55,7 +55,7 @@ impl Parts {
         Ok(())
     }
 
-    /// Makes the file that is missing, or empties the one that is there where `trunc` asks for it.
+    // Makes the file that is missing, or empties the one that is there where `trunc` asks for it.
     fn make_or_empty(&mut self, whole: &[u8], node: Option<Node>, trunc: bool) -> Result<(), Memory>
         requires whole { IsWhole whole.now }
         requires there { node ≡ map.get self.old.paths whole.now }
@@ -74,7 +74,7 @@ impl Parts {
         }
     }
 
-    /// The descriptor is opened first, since that can be undone.
+    // The descriptor is opened first, since that can be undone.
     fn open(&mut self, client: u8, whole: &[u8], mode: Mode) -> Result<(), Memory>
         requires whole { IsWhole whole.now }
         requires free { is_none (descriptors.lowest_free self.old.fds client) ≡ false }
@@ -113,7 +113,7 @@ impl Parts {
         self.fds.set_offset(client, fd, desc.at + count as u64);
     }
 
-    /// Writes bytes into a file from a place on; no byte changes nothing.
+    // Writes bytes into a file from a place on; no byte changes nothing.
     fn put(&mut self, file: Option<u32>, at: u64, fresh: &[u8]) -> Result<(), Memory>
         requires size { length fresh.now ≤ 2 ^ 32 }
         requires place { is_past at fresh.now ≡ false }
@@ -169,7 +169,7 @@ impl Parts {
         Ok(())
     }
 
-    /// A name goes, and what stood there with it.
+    // A name goes, and what stood there with it.
     fn remove(&mut self, whole: &[u8])
         ensures { tree_of self.new ≡ posix.without_path (tree_of self.old) whole.now }
     {
@@ -198,7 +198,7 @@ impl Parts {
         Ok(())
     }
 
-    /// What a request on a descriptor changes.
+    // What a request on a descriptor changes.
     fn change_open(&mut self, client: u8, op: &Op) -> Result<(), Memory>
         requires bounded { IsBounded op.now }
         requires allowed { refusal (tree_of self.old) client op.now ≡ None }

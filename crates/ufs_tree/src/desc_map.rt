@@ -1,4 +1,3 @@
-// What each client's descriptors stand for.
 ghost use Rattle.std.specs.Prelude.{◌≡◌, OnOk, OnErr, None};
 ghost use Rattle.std.specs.FinMap as map;
 
@@ -59,6 +58,7 @@ impl DescMap {
     pub fn remove(&mut self, client: u8, fd: u64)
         ensures { self.new ≡ map.remove self.old (client, fd) }
     {
+        // For the prover alone.
         let _count = self.entries.len();
         let _desc = self.entries.remove(&(client, fd));
     }

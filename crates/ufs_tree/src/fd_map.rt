@@ -13,7 +13,7 @@ use ufs_model::Desc;
 #[derive(Drop)]
 pub struct FdMap {
     entries: DescMap,
-    /// How many descriptors each file has.
+    // How many descriptors each file has.
     opens: Counts<u32>,
 }
 

@@ -12,9 +12,9 @@ use ufs_model::{
     a_request_makes_one_file_at_most,
 };
 
-/// The most extents of a file or directory.
+// The most extents of a file or directory.
 const MAX_EXTENTS: u32 = 56;
-/// The entries that a block of a directory has room for.
+// The entries that a block of a directory has room for.
 const BLOCK_ENTRIES: u64 = 64;
 
 // ---- replies
@@ -70,14 +70,14 @@ fn excuse_of(reply: &Reply) -> Option<Excuse>
 
 // ---- what a request may need
 
-/// The blocks of so many bytes.
+// The blocks of so many bytes.
 fn blocks_of(size: u64) -> u64
     ensures { result ≡ blocks_of size }
 {
     size.div_ceil(4096)
 }
 
-/// The size of a file after a write that isn't refused.
+// The size of a file after a write that isn't refused.
 fn size_after(old: u64, at: u64, fresh: &Bytes) -> u64
     requires { file_bytes.is_past at fresh.now ≡ false }
     ensures { result ≡ file_bytes.size_after old at (length fresh.now) }
@@ -102,7 +102,7 @@ impl Parts {
     ghost use Rattle.ufs_tree.specs.Parts.{tree_of};
     ghost use Rattle.ufs_tree.specs.Told.{excuse_of};
 
-    /// What stands at the end of a path.
+    // What stands at the end of a path.
     fn node_at(&self, path: &Bytes) -> Result<Option<Node>, Memory>
         ensures { IfOk result (λ node. node ≡ node_at self.now.paths path.now) }
     {
@@ -135,7 +135,7 @@ impl Parts {
         }
     }
 
-    /// Whether the directory to which a request adds a name may have every slot used.
+    // Whether the directory to which a request adds a name may have every slot used.
     fn may_be_full(&self, op: &Op) -> Result<bool, Memory>
         requires adds { excuses.adds_name (tree_of self.now) op.now ≡ true }
         ensures { IfOk result (λ full. full ≡ excuses.may_be_full (tree_of self.now) (excuses.grown_dir op.now)) }
@@ -148,7 +148,7 @@ impl Parts {
         Ok(self.paths.entry_count(text.parent()) % BLOCK_ENTRIES == 0)
     }
 
-    /// The size of the file of a request that may change it.
+    // The size of the file of a request that may change it.
     fn old_size(&self, client: u8, op: &Op) -> u64
         ensures { result ≡ excuses.old_size (tree_of self.now) client op.now }
     {
@@ -160,7 +160,7 @@ impl Parts {
         }
     }
 
-    /// Its size after the request.
+    // Its size after the request.
     fn new_size(&self, client: u8, op: &Op, size: u64) -> u64
         requires allowed { refusal (tree_of self.now) client op.now ≡ None }
         requires size { size ≡ excuses.old_size (tree_of self.now) client op.now }
@@ -176,7 +176,7 @@ impl Parts {
         }
     }
 
-    /// The blocks that a request may need.
+    // The blocks that a request may need.
     fn needed(&self, client: u8, op: &Op) -> Result<u64, Memory>
         requires allowed { refusal (tree_of self.now) client op.now ≡ None }
         ensures { IfOk result (λ blocks. blocks ≡ excuses.needed (tree_of self.now) client op.now) }
@@ -190,7 +190,7 @@ impl Parts {
         Ok(blocks.saturating_sub(blocks_of(size)))
     }
 
-    /// Whether the excuse says of a request that isn't refused what is so.
+    // Whether the excuse says of a request that isn't refused what is so.
     fn is_excuse_of(&self, client: u8, op: &Op, excuse: Excuse) -> Result<bool, Memory>
         requires allowed { refusal (tree_of self.now) client op.now ≡ None }
         ensures { IfOk result (λ told. IsTrue told ↔ excuses.IsExcuseOf (tree_of self.now) client op.now excuse) }
@@ -221,7 +221,7 @@ impl Parts {
         self.is_excuse_of(client, op, excuse)
     }
 
-    /// Whether the reply, which isn't an excuse, is the tree's; where it is the tree goes on.
+    // Whether the reply, which isn't an excuse, is the tree's; where it is the tree goes on.
     fn reply_step(&mut self, client: u8, op: &Op, reply: &Reply) -> Result<bool, Memory>
         requires bounded { IsBounded op.now }
         requires tree { IsTree (tree_of self.old) }

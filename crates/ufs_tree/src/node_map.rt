@@ -1,4 +1,3 @@
-// What stands at each path.
 ghost use Rattle.std.specs.Prelude.{◌≡◌, ◌++◌, ◌∷◌, [], OnOk, OnErr, IfOk, None};
 ghost use Rattle.std.specs.FinMap as map;
 
@@ -65,6 +64,7 @@ impl NodeMap {
     pub fn remove(&mut self, path: &[u8])
         ensures { self.new ≡ map.remove self.old path.now }
     {
+        // For the prover alone.
         let _count = self.entries.len();
         let _node = self.entries.remove(path);
     }

@@ -19,9 +19,9 @@ use ufs_model::{Bytes, NameList, Node};
 #[derive(Drop)]
 pub struct PathMap {
     nodes: NodeMap,
-    /// How many entries each directory has.
+    // How many entries each directory has.
     entries: Counts<Vec<u8>>,
-    /// How many paths name each file.
+    // How many paths name each file.
     links: Counts<u32>,
 }
 

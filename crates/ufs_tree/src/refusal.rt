@@ -15,7 +15,7 @@ use ufs_calls::{
 use ufs_model::{Bytes, Desc, Errno, Op, Whence};
 use ufs_path::PathText;
 
-/// Each component but the last has to be a directory that is there.
+// Each component but the last has to be a directory that is there.
 fn walk_refusal(nodes: &PathMap, text: &PathText) -> Option<Errno>
     ensures { result ≡ walk_refusal_from nodes.now [] text.now }
 {
@@ -37,7 +37,7 @@ fn rmdir_refusal(nodes: &PathMap, text: &PathText) -> Option<Errno>
     )
 }
 
-/// A new name for what stands at one whole path, where another may stand.
+// A new name for what stands at one whole path, where another may stand.
 fn replace_refusal(nodes: &PathMap, from: &[u8], to: &[u8]) -> Option<Errno>
     ensures { result ≡ refusals.replace_refusal nodes.now from.now to.now }
 {
@@ -70,7 +70,7 @@ fn rename_refusal(nodes: &PathMap, from: &PathText, to: &PathText) -> Option<Err
 
 // ---- requests
 
-/// By what stands at the end of the request's path.
+// By what stands at the end of the request's path.
 fn end_refusal(nodes: &PathMap, text: &PathText, op: &Op) -> Option<Errno>
     ensures { (path : List ℕ) → text.now ≡ paths.components path → result ≡ end_refusal nodes.now path op.now }
 {
@@ -107,7 +107,7 @@ impl Parts {
         self.tree_refusal(client, op)
     }
 
-    /// What the descriptor that a request names stands for.
+    // What the descriptor that a request names stands for.
     fn desc_named(&self, client: u8, op: &Op) -> Option<Desc>
         ensures { result ≡ asks.desc_of_fd self.now.fds client (asks.fd_named op.now) }
     {
@@ -117,7 +117,7 @@ impl Parts {
         }
     }
 
-    /// The client's lowest free descriptor for an `open`, and 0 where none is free. No other request needs one.
+    // The client's lowest free descriptor for an `open`, and 0 where none is free. No other request needs one.
     fn fd_asked(&self, client: u8, op: &Op) -> u32
         ensures { result ≡ asks.fd_asked self.now.fds client op.now }
     {
@@ -127,14 +127,14 @@ impl Parts {
         }
     }
 
-    /// By flags, descriptors and texts.
+    // By flags, descriptors and texts.
     fn own_refusal(&self, client: u8, op: &Op) -> Option<Errno>
         ensures { result ≡ refusals.own_refusal (tree_of self.now) client op.now }
     {
         own_refusal(op, self.desc_named(client, op), self.fd_asked(client, op))
     }
 
-    /// Of a `write`, by where it ends.
+    // Of a `write`, by where it ends.
     fn write_refusal(&self, client: u8, fd: u64, fresh: &Bytes) -> Option<Errno>
         ensures { result ≡ refusals.tree_refusal (tree_of self.now) client (Write fd fresh.now) }
     {
@@ -143,7 +143,7 @@ impl Parts {
         size_refusal(is_past(at, fresh))
     }
 
-    /// Of a `seek`, by where it leads.
+    // Of a `seek`, by where it leads.
     fn seek_refusal(&self, client: u8, fd: u64, whence: Whence, by: i64) -> Option<Errno>
         ensures { result ≡ refusals.tree_refusal (tree_of self.now) client (Seek fd whence by) }
     {
@@ -180,7 +180,7 @@ impl Parts {
         }
     }
 
-    /// By what stands in the tree.
+    // By what stands in the tree.
     fn tree_refusal(&self, client: u8, op: &Op) -> Result<Option<Errno>, Memory>
         ensures { IfOk result (λ r. r ≡ refusals.tree_refusal (tree_of self.now) client op.now) }
     {

@@ -71,7 +71,7 @@ fn a_pool_takes_and_gives(rt: HostRuntime) -> Result<(), Fail> {
     Ok(())
 }
 
-/// A walk of takes and gives beside a list that says of each block whether it is free.
+// A walk of takes and gives beside a list that says of each block whether it is free.
 #[test]
 fn a_walk_agrees_with_a_plain_set(rt: HostRuntime) -> Result<(), Fail> {
     let mut bitmap = Bitmap::all_free(rt.alloc(), 0, 200)?;

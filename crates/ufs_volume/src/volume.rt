@@ -1,4 +1,3 @@
-// A volume with what is committed in its journal.
 ghost use Rattle.std.specs.Prelude.{◌≡◌};
 ghost use Rattle.ufs_overlay.specs.Seen.{geometry_of};
 

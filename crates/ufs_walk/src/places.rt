@@ -1,4 +1,3 @@
-// Which inode stands at each path.
 ghost use Rattle.std.specs.Prelude.{◌≡◌, ◌++◌, ◌∷◌, [], ℕ, List, OnOk, OnErr, IfOk, None};
 ghost use Rattle.std.specs.FinMap as map;
 
