@@ -16,7 +16,6 @@ ghost use Rattle.ufs_model.specs.History.{is_excused};
 ghost use Rattle.ufs_model.specs.PosixTree.{PosixTree};
 ghost use Rattle.ufs_model.specs.declared.data.Desc.{Desc};
 ghost use Rattle.ufs_model.specs.declared.data.Excuse.{Excuse};
-ghost use Rattle.ufs_model.specs.declared.data.Excuse.TheVariants as excuse;
 ghost use Rattle.ufs_model.specs.declared.data.Reply.TheVariants as reply;
 ghost use Rattle.ufs_durable.specs.State.{IsNoted, blocks_held, state_of};
 ghost use Rattle.ufs_durable.specs.Serving.{IsApplied, IsServedKept, content_behind, noted_as};
@@ -28,8 +27,8 @@ use ufs_base::{BLOCK, Memory};
 use ufs_bitmap::Pool;
 use ufs_calls::{MAX_SIZE, desc_refusal, is_past, place_of};
 use ufs_extent::{Extents, Run, Runs};
-use ufs_file::{Applied, FileHand};
-use ufs_model::{Actor, Ask, Bytes, Desc, Entry, Excuse, Op, Reply};
+use ufs_file::{Applied, FileHand, out_of_memory};
+use ufs_model::{Actor, Ask, Bytes, Desc, Op, Reply};
 
 /// Serves a request on a descriptor of the file, as `FileHand::apply` does, and notes what changed. Blocks
 /// that the file has no use for are dropped: they are nobody's until the file's next commit, and the pool
@@ -255,25 +254,6 @@ impl FileCommits {
         let mut dropped = mem::replace(&mut self.dropped, Runs::new(self.alloc)).into_vec();
         dropped.truncate(count);
         self.dropped = Runs::from_vec(dropped);
-    }
-}
-
-/// The excuse that memory ran out.
-fn out_of_memory(ask: Ask, by: Actor, ticket: u64) -> Applied
-    ensures entry { IsEntryOf ask by ticket result.entry }
-    ensures reply { result.entry.reply ≡ reply.Excused excuse.Memory }
-    ensures desc { result.desc ≡ ask.desc }
-{
-    Applied {
-        entry: Entry {
-            ticket,
-            client: ask.client,
-            seq: ask.seq,
-            by,
-            op: ask.op,
-            reply: Reply::Excused(Excuse::Memory),
-        },
-        desc: ask.desc,
     }
 }
 

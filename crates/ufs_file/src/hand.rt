@@ -4,6 +4,7 @@ ghost use Rattle.ufs_model.specs.Descriptors as descriptors;
 ghost use Rattle.ufs_extent.specs.Runs.{IsRun, appended_all};
 ghost use Rattle.ufs_file.specs.Hand.{IsEntryOf};
 
+use crate::answers::answered;
 use crate::content::Blocks;
 use std::alloc::Global;
 use std::marker::Model;
@@ -535,24 +536,6 @@ impl FileHand {
     }
 }
 
-fn answered(ask: Ask, by: Actor, ticket: u64, reply: Reply, desc: Option<Desc>) -> Applied
-    ensures entry { IsEntryOf ask by ticket result.entry }
-    ensures reply { result.entry.reply ≡ reply }
-    ensures desc { result.desc ≡ desc }
-{
-    Applied {
-        entry: Entry {
-            ticket,
-            client: ask.client,
-            seq: ask.seq,
-            by,
-            op: ask.op,
-            reply,
-        },
-        desc,
-    }
-}
-
 // Appends runs for which there is room.
 fn append_all(extents: &mut Extents, runs: &[Run])
     requires runs { All IsRun runs.now }
@@ -569,7 +552,7 @@ fn append_all(extents: &mut Extents, runs: &[Run])
 
 // The descriptor with that offset.
 fn moved(desc: Desc, at: u64) -> Desc
-    ensures { result ≡ descriptors.moved desc at }
+    ensures { result ≡ descriptors.with_offset desc at }
 {
     Desc { at, ..desc }
 }

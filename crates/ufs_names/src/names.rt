@@ -10,9 +10,9 @@ use ufs_base::Memory;
 use ufs_bitmap::Pool;
 use ufs_calls::{own_refusal, text};
 use ufs_dir_tree::Found;
-use ufs_file::Applied;
+use ufs_file::{Applied, answered};
 use ufs_files::FileHands;
-use ufs_model::{Actor, Ask, Desc, Entry, Errno, Excuse, Op, Reply};
+use ufs_model::{Actor, Ask, Desc, Errno, Excuse, Op, Reply};
 use ufs_name_tree::NameTree;
 use ufs_path::{PathText, names_stay_in_whole_paths, whole_paths_may_stand};
 
@@ -213,23 +213,5 @@ pub(crate) fn refused(ask: &Ask, errno: Errno) -> Served
     Served {
         reply: Reply::Refused(errno),
         desc: ask.desc,
-    }
-}
-
-fn answered(ask: Ask, by: Actor, ticket: u64, reply: Reply, desc: Option<Desc>) -> Applied
-    ensures entry { IsEntryOf ask by ticket result.entry }
-    ensures reply { result.entry.reply ≡ reply }
-    ensures desc { result.desc ≡ desc }
-{
-    Applied {
-        entry: Entry {
-            ticket,
-            client: ask.client,
-            seq: ask.seq,
-            by,
-            op: ask.op,
-            reply,
-        },
-        desc,
     }
 }
