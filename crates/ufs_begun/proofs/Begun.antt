@@ -74,8 +74,8 @@ module _ (sectors : ℕ) (disk : Image) (head : Super) (n : NamesPart) (files : 
     here = λ file there. let h = some_is (map.get n.held file) there in b.opened.here h.0.inode file (b.opened.names.inodes.inode file h.0 h.1);
   }
 
-  names : AreNamesNoted l m [] p.names
-  names =
+  names : ((block : ℕ) → set.contains orphaned block ≡ true → ⊥) → AreNamesNoted l m [] p.names
+  names none =
       let kinds = facts.kinds sectors disk head n files free orphaned image b in
       let sound = kept.sound_names sectors disk head n files free orphaned image b state slots number_paths tells have unborn whole in
       let dirs = kept.has_dirs sectors disk head n files free orphaned image b state slots number_paths tells have unborn whole in
@@ -94,6 +94,7 @@ module _ (sectors : ℕ) (disk : Image) (head : Super) (n : NamesPart) (files : 
           inodes_once = λ dir other q r d e at too. sound.inodes_once dir other q r d e (record { in_range = at.in_range; there = at.there; named = at.named }) (record { in_range = too.in_range; there = too.there; named = too.named });
         };
         live = λ file there. inl (refl, λ inode at. refl);
+        known = owned.known_block sectors disk head n files free orphaned image b none;
       }
 
   counted : AreCounted t [] k
@@ -108,13 +109,13 @@ module _ (sectors : ℕ) (disk : Image) (head : Super) (n : NamesPart) (files : 
       by file None e is = (let wrong = is in absurd cc)
       by file (Some h) e is = b.opened.names.tree.numbered file (sym (b.opened.names.told file) ∙ ap is_some e)
 
-  pub stored : IsStored l free t [] k p
-  stored = record {
+  pub stored : ((block : ℕ) → set.contains orphaned block ≡ true → ⊥) → IsStored l free t [] k p
+  stored none = record {
     tree = b.opened.names.tree;
     legal = record { entries = tt; faults = tt };
     kept = kept.kept sectors disk head n files free orphaned image b state slots number_paths tells have unborn whole;
     parts = parts;
-    names = inr names;
+    names = inr (names none);
     counted = counted;
     each = λ file f at. owned.file_whole sectors disk head n files free orphaned image b file f at whole;
     spaced = owned.spaced sectors disk head n files free orphaned image b;
@@ -145,29 +146,32 @@ module _ (sectors : ℕ) (disk : Image) (v : Volume) (n : NamesPart) (files : Fi
         ∙ ap (λ g. folded g (committed g v.head.epoch disk) disk) (sym same)
         ∙ ap (λ log. folded v.geometry log disk) (none_committed v.geometry v.head.epoch disk free_from)
 
-    pub begins_stored : IsStored (opening_ledger (in_use v.head) disk) free (start_in v) [] (begun_counts n) (begun_parts n files orphaned)
-    begins_stored =
+    pub begins_stored : ((block : ℕ) → set.contains orphaned block ≡ true → ⊥) → IsStored (opening_ledger (in_use v.head) disk) free (start_in v) [] (begun_counts n) (begun_parts n files orphaned)
+    begins_stored none =
         subst (λ (x : Image). IsStored (opening_ledger (in_use v.head) x) free (start_in v) [] (begun_counts n) (begun_parts n files orphaned)) unfolded
         (subst (λ (g : Geometry). IsStored (opening_ledger (in_use v.head) v.image) free (start_in (record { head = v.head; geometry = g; image = v.image })) [] (begun_counts n) (begun_parts n files orphaned)) (sym same)
-        (stored sectors disk v.head n files free orphaned v.image begins (subst SoundHasState same state) (subst SpelledHaveSlots same slots) (subst NamesNumberPaths same number_paths) tells have unborn (subst (IsImageOf sectors) (sym unfolded) whole)))
+        (stored sectors disk v.head n files free orphaned v.image begins (subst SoundHasState same state) (subst SpelledHaveSlots same slots) (subst NamesNumberPaths same number_paths) tells have unborn (subst (IsImageOf sectors) (sym unfolded) whole) none))
+
+none_in : (block : ℕ) → set.contains (set.empty {R = nat_cmp}) block ≡ true → ⊥
+none_in block there = (let clash : false ≡ true = sym (has-empty block) ∙ there in cc)
 
 pub begins_on_disk : (g : Geometry) → SoundHasState g → SpelledHaveSlots g → NamesNumberPaths g → PartsTellPaths → PartsHaveNumbers → UnbornHaveNone → BeginsOnDisk g
-begins_on_disk g state slots number_paths tells have unborn sectors disk v n files orphaned store geometry whole mountable has formed is are =
-    let at_head = same sectors (seen disk) v n files store.unassigned.free orphaned is are in
+begins_on_disk g state slots number_paths tells have unborn sectors disk v n files store geometry whole mountable has formed is are =
+    let at_head = same sectors (seen disk) v n files store.unassigned.free set.empty is are in
     record {
       ledger = opening_ledger (in_use v.head) (seen disk);
       counts = begun_counts n;
       has = has;
       formed = sym at_head ∙ sym formed;
-      stored = begins_stored sectors (seen disk) v n files store.unassigned.free orphaned is are
+      stored = begins_stored sectors (seen disk) v n files store.unassigned.free set.empty is are
           (subst SoundHasState (sym geometry) state) (subst SpelledHaveSlots (sym geometry) slots) (subst NamesNumberPaths (sym geometry) number_paths) tells have unborn
-          (whole (seen disk) (seen_is_image disk)) (subst (λ (g : Geometry). HasEarlier g v.head.epoch (seen disk)) (sym at_head) mountable.earlier);
+          (whole (seen disk) (seen_is_image disk)) (subst (λ (g : Geometry). HasEarlier g v.head.epoch (seen disk)) (sym at_head) mountable.earlier) none_in;
     }
 
 pub begins_there : (g : Geometry) → SoundHasState g → SpelledHaveSlots g → NamesNumberPaths g → PartsTellPaths → PartsHaveNumbers → UnbornHaveNone → BeginsStored g
-begins_there g state slots number_paths tells have unborn sectors disk v n files free orphaned geometry whole is are earlier =
-    begins_stored sectors disk v n files free orphaned is are
-    (subst SoundHasState (sym geometry) state) (subst SpelledHaveSlots (sym geometry) slots) (subst NamesNumberPaths (sym geometry) number_paths) tells have unborn whole earlier
+begins_there g state slots number_paths tells have unborn sectors disk v n files free geometry whole is are earlier =
+    begins_stored sectors disk v n files free set.empty is are
+    (subst SoundHasState (sym geometry) state) (subst SpelledHaveSlots (sym geometry) slots) (subst NamesNumberPaths (sym geometry) number_paths) tells have unborn whole earlier none_in
 
 pub whole_have_none : WholeHaveNone
 whole_have_none sectors disk v n files free is all block = (λ there. (let clash : false ≡ true = sym (has-empty block) ∙ there in absurd cc), none)

@@ -41,7 +41,7 @@ use Rattle.ufs_prefix.specs.FileChanges.{byte_at}
 use Rattle.ufs_store.specs.Mounting.{in_use}
 use Rattle.ufs_stored.specs.Parts.{FileOwns, NamesOwn, OneFile, Owner, Owns, Parts, TheNames, ThePool, Unassigned, committed_as, durable_in}
 use Rattle.ufs_stored.specs.Sound.{IsFileSound, IsSoundServer}
-use Rattle.ufs_stored.specs.Stored.{AreSpaced, FileHasIt, IsFileWhole}
+use Rattle.ufs_stored.specs.Stored.{AreSpaced, FileHasIt, IsFileWhole, IsKnownBlock}
 use Rattle.ufs_begun.proofs.Facts as facts
 use Rattle.ufs_begun.proofs.Facts.{Begins}
 use Rattle.ufs_begun.proofs.Kept as kept
@@ -173,6 +173,29 @@ module _ (sectors : ℕ) (disk : Image) (head : Super) (n : NamesPart) (files : 
       by false off (Some file) e = inr (file_has inode place block file at e)
       by false off None e = inl (inr (inl ((b.orphans block).1 (record { inode = inode; place = place; has = at; no_dir = off; unnamed = e }))))
 
+  -- each inode with a block is a directory or a live file, but for those that no path names
+  pub known_block : ((block : ℕ) → set.contains orphaned block ≡ true → ⊥) → (inode place block : ℕ) → HasBlock g c inode place block → IsKnownBlock m p.names [] inode block
+  known_block none inode place block at = by ((c.forms inode).kind == 2) refl (file_at n.tree inode) refl
+    where
+      by : (x : Bool) → ((c.forms inode).kind == 2) ≡ x → (o : Option ℕ) → file_at n.tree inode ≡ o → IsKnownBlock m p.names [] inode block
+      by true dir o e =
+          let blocks : blocks_at n.tree.dirs inode ≡ nodes.blocks_of (c.forms inode) = b.opened.table.dirs.blocks inode at.in_range ∙ ap (λ x. if x then nodes.blocks_of (c.forms inode) else []) dir in
+          inr (inl (ap (λ (xs : List ℕ). has xs block) blocks ∙ has_at (nodes.blocks_of (c.forms inode)) place block at.there))
+      by false off (Some file) e = inr (inr (file, b.opened.names.inodes.live inode file e, kept.has_number sectors disk head n files free orphaned image b inode file e))
+      by false off None e = absurd (none block ((b.orphans block).1 (record { inode = inode; place = place; has = at; no_dir = off; unnamed = e })))
+
+  parted : (dir block : ℕ) → set.contains orphaned block ≡ true → has (blocks_at n.tree.dirs dir) block ≡ false
+  parted dir block dropped = by (has (blocks_at n.tree.dirs dir) block) refl
+    where
+      by : (v : Bool) → has (blocks_at n.tree.dirs dir) block ≡ v → has (blocks_at n.tree.dirs dir) block ≡ false
+      by false off = off
+      by true on =
+          let o = (b.orphans block).0 dropped in
+          let at = holds g image c n.tree.dirs (facts.some sectors disk head n files free orphaned image b) b.opened.standing.catalog b.opened.standing.sound b.opened.table.dirs dir block
+          (sym (contains-from_list_nat (blocks_at n.tree.dirs dir) block) ∙ on) in
+          let same : o.inode ≡ dir = (b.opened.standing.sound.blocks_once o.inode dir o.place at.0 block o.has at.1).0 in
+          (let clash = sym o.no_dir ∙ ap (λ i. (c.forms i).kind == 2) same ∙ dir_kind dir at.0 block at.1 on in absurd cc)
+
   pub spaced : AreSpaced l free m p
   spaced = record {
     apart = apart;
@@ -240,4 +263,5 @@ module _ (sectors : ℕ) (disk : Image) (head : Super) (n : NamesPart) (files : 
     inodes = b.opened.inodes;
     known = λ file none. map.get-empty {X = CommitState} nat_cmp file;
     counted = b.opened.table.dirs.counted;
+    parted = parted;
   }

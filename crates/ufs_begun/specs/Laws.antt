@@ -24,16 +24,17 @@ abbrev pub BeginsSound : Type 0
 BeginsSound = (sectors : ℕ) (disk : Image) (v : Volume) (n : NamesPart) (files : Files) (free orphaned : BlockSet) → IsOpened sectors disk v n files free → AreOrphaned v n orphaned
     → IsSoundServer v.geometry free (begun_parts n files orphaned)
 
--- With nothing in the journal, the server is stored on the ledger that the disk has once it is marked in use.
+-- With nothing in the journal, and no block of a file without a name, the server is stored on the ledger that the disk has once it is
+-- marked in use.
 abbrev pub BeginsStored : Geometry → Type 0
-BeginsStored g = (sectors : ℕ) (disk : Image) (v : Volume) (n : NamesPart) (files : Files) (free orphaned : BlockSet) → v.geometry ≡ g → IsImageOf sectors disk → IsOpened sectors disk v n files free → AreOrphaned v n orphaned
-    → HasEarlier v.geometry v.head.epoch disk → IsStored (opening_ledger (in_use v.head) disk) free (start_in v) [] (begun_counts n) (begun_parts n files orphaned)
+BeginsStored g = (sectors : ℕ) (disk : Image) (v : Volume) (n : NamesPart) (files : Files) (free : BlockSet) → v.geometry ≡ g → IsImageOf sectors disk → IsOpened sectors disk v n files free → AreOrphaned v n set.empty
+    → HasEarlier v.geometry v.head.epoch disk → IsStored (opening_ledger (in_use v.head) disk) free (start_in v) [] (begun_counts n) (begun_parts n files set.empty)
 
 -- So it goes on, beside the store of the mounted disk, from the tree that the image stands for.
 abbrev pub BeginsOnDisk : Geometry → Type 0
-BeginsOnDisk g = (sectors : ℕ) (state : State) (v : Volume) (n : NamesPart) (files : Files) (orphaned : BlockSet) (store : StoreState) → v.geometry ≡ g → Leaves (IsImageOf sectors) state → IsMountable sectors state v.head
-    → HasLedger store (opening_ledger (in_use v.head) (seen state)) → geometry_of_store store ≡ v.geometry → IsOpened sectors (seen state) v n files store.unassigned.free → AreOrphaned v n orphaned
-    → IsGoing store (start_in v) [] (begun_parts n files orphaned)
+BeginsOnDisk g = (sectors : ℕ) (state : State) (v : Volume) (n : NamesPart) (files : Files) (store : StoreState) → v.geometry ≡ g → Leaves (IsImageOf sectors) state → IsMountable sectors state v.head
+    → HasLedger store (opening_ledger (in_use v.head) (seen state)) → geometry_of_store store ≡ v.geometry → IsOpened sectors (seen state) v n files store.unassigned.free → AreOrphaned v n set.empty
+    → IsGoing store (start_in v) [] (begun_parts n files set.empty)
 
 -- Where all files have names, no block is such a one.
 abbrev pub WholeHaveNone : Type 0

@@ -1,4 +1,3 @@
-// What is known of a file's commits, and its `fsync`.
 ghost use Rattle.std.specs.Prelude.{ℕ, List, ◌≡◌, ◌≢◌, ◌+◌, ◌⊎◌, ◌↔◌, [], length, IsTrue, false, true, None, Some, Ok, Err, OnOk, OnErr, IfOk, IfErr};
 ghost use Rattle.std.specs.FinSet as set;
 ghost use Rattle.ufs_bitmap.specs.Blocks.{BlockSet};
@@ -51,6 +50,7 @@ impl FileCommits {
         ensures fresh { IfOk result (λ c. c ≡ record { log = fresh_log hand.now.inode hand.now.extents (length hand.now.content.bytes); dropped = [] }) }
         ensures noted { IsApart (set.empty) (blocks_of hand.now.extents) → IfOk result (λ c. IsNoted (state_of hand.now c)) }
     {
+        // For the prover alone.
         let _marks = hand.block_count();
         let log = InodeLog::make(alloc, hand.inode(), hand.extent_list(), hand.size())?;
         Ok(FileCommits {

@@ -75,14 +75,14 @@ pub fn apply(
     }
 }
 
-/// How many blocks the file has behind a request.
+// How many blocks the file has behind a request.
 fn blocks_behind(hand: &FileHand, op: &Op, desc: Desc) -> u32
     ensures { result ≡ block_count (length (content_behind hand.now desc op.now).bytes) }
 {
     size_behind(hand, op, desc).div_ceil(BLOCK as u64) as u32
 }
 
-/// How many bytes the file has behind a request.
+// How many bytes the file has behind a request.
 fn size_behind(hand: &FileHand, op: &Op, desc: Desc) -> u64
     ensures size { result ≡ length (content_behind hand.now desc op.now).bytes }
     ensures small { result ≤ file_bytes.max_size }
@@ -99,7 +99,7 @@ fn size_behind(hand: &FileHand, op: &Op, desc: Desc) -> u64
     }
 }
 
-/// How many bytes a file of `held` bytes has once these are written, unless they end past the greatest size.
+// How many bytes a file of `held` bytes has once these are written, unless they end past the greatest size.
 fn end_behind(held: u64, at: u64, fresh: &Bytes) -> u64
     requires { held ≤ file_bytes.max_size }
     ensures size { result ≡ (if file_bytes.is_past at fresh.now then held else file_bytes.size_after held at (length fresh.now)) }
@@ -112,7 +112,7 @@ fn end_behind(held: u64, at: u64, fresh: &Bytes) -> u64
     held.max(at + count as u64)
 }
 
-/// Where the file takes blocks.
+// Where the file takes blocks.
 fn apply_growing(
     hand: &mut FileHand,
     commits: &mut FileCommits,
@@ -138,7 +138,7 @@ fn apply_growing(
     applied
 }
 
-/// Where the file keeps the blocks that it has.
+// Where the file keeps the blocks that it has.
 fn apply_in_place(
     hand: &mut FileHand,
     commits: &mut FileCommits,
@@ -160,7 +160,7 @@ fn apply_in_place(
     applied
 }
 
-/// Where the file keeps so many of its blocks, and drops the others. A pool of its own gets those.
+// Where the file keeps so many of its blocks, and drops the others. A pool of its own gets those.
 fn apply_cutting(
     hand: &mut FileHand,
     commits: &mut FileCommits,
@@ -195,19 +195,19 @@ fn apply_cutting(
     applied
 }
 
-/// What a cut needs.
+// What a cut needs.
 #[derive(Drop)]
 struct Cut {
-    /// The file's runs from before.
+    // The file's runs from before.
     before: Extents,
-    /// Those of the blocks that it drops.
+    // Those of the blocks that it drops.
     rest: Runs,
-    /// A pool that gets these.
+    // A pool that gets these.
     own: Pool,
 }
 
 impl Cut {
-    /// For a cut that leaves the file so many blocks.
+    // For a cut that leaves the file so many blocks.
     fn make(alloc: Global, hand: &FileHand, blocks: u32) -> Result<Cut, Memory>
         ensures before { IfOk result (λ c. c.before ≡ hand.now.extents) }
         ensures rest { IfOk result (λ c. c.rest ≡ last_runs hand.now.extents blocks) }
@@ -224,7 +224,7 @@ impl Cut {
 }
 
 impl FileCommits {
-    /// The log notes the file, which had these runs when it was noted last.
+    // The log notes the file, which had these runs when it was noted last.
     fn note(&mut self, before: &Extents, hand: &FileHand)
         requires { before.now ≡ self.old.log.noted.runs }
         ensures noted { self.new ≡ record self.old { log = noted_as hand.now self.old.log } }
@@ -234,7 +234,7 @@ impl FileCommits {
         self.log.note(before, hand.extent_list(), hand.size());
     }
 
-    /// These runs are dropped too.
+    // These runs are dropped too.
     fn drop_too(&mut self, runs: &[Run]) -> Result<(), Memory>
         requires { All IsRun runs.now }
         ensures ok { OnOk result (self.new ≡ record self.old { dropped = self.old.dropped ++ runs.now }) }
@@ -247,7 +247,7 @@ impl FileCommits {
         Ok(())
     }
 
-    /// No more than the first so many runs were dropped.
+    // No more than the first so many runs were dropped.
     fn drop_first(&mut self, count: usize)
         ensures { self.new ≡ record self.old { dropped = take count self.old.dropped } }
     {
@@ -257,12 +257,13 @@ impl FileCommits {
     }
 }
 
-/// A file has the blocks for its size, a mark for each, and no more extents than an inode has room for.
+// A file has the blocks for its size, a mark for each, and no more extents than an inode has room for.
 fn is_whole(hand: &FileHand)
     ensures marks { length hand.now.content.dirty ≡ length (blocks_of hand.now.extents) }
     ensures few { length hand.now.extents ≤ MAX_EXTENTS }
     ensures sized { length (blocks_of hand.now.extents) ≡ block_count (length hand.now.content.bytes) }
 {
+    // For the prover alone.
     let _marks = hand.block_count();
     let _few = hand.extents();
     let _blocks = hand.size();

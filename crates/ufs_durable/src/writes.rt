@@ -35,7 +35,7 @@ pub(crate) fn write_dirty<D: Door>(hand: &FileHand, door: &mut D) -> Result<(), 
     Ok(())
 }
 
-/// Writes the block at this place, if it is dirty.
+// Writes the block at this place, if it is dirty.
 fn write_place<D: Door>(hand: &FileHand, place: u32, door: &mut D) -> Result<(), StoreFault>
     requires blocks { AreDataBlocks (geometry_of_store (D.store door.old)) (blocks_of hand.now.extents) }
     requires there { place < length (blocks_of hand.now.extents) }
@@ -60,7 +60,7 @@ fn write_place<D: Door>(hand: &FileHand, place: u32, door: &mut D) -> Result<(),
     }
 }
 
-/// Writes the block at this place.
+// Writes the block at this place.
 fn write_one<D: Door>(hand: &FileHand, place: u32, door: &mut D) -> Result<(), StoreFault>
     requires blocks { AreDataBlocks (geometry_of_store (D.store door.old)) (blocks_of hand.now.extents) }
     requires there { place < length (blocks_of hand.now.extents) }

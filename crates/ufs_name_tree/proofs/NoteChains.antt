@@ -1,8 +1,8 @@
 -- Changes that are noted one behind the other.
-use Rattle.std.proofs.Common.{◌≡◌, ℕ, inl, inr, List, [], ◌∷◌, ◌++◌, Option, Some, None, ap, sym, refl, ◌∙◌, subst}
+use Rattle.std.proofs.Common.{◌≡◌, ◌≢◌, ℕ, ◌⊎◌, inl, inr, ◌||◌, true, List, [], ◌∷◌, ◌++◌, Option, Some, None, ap, sym, refl, ◌∙◌, subst}
 use Rattle.std.specs.FinSet as set
 use Rattle.std.specs.Ordering.{nat_cmp}
-use Rattle.std.proofs.lemmas.Bool.{true≢false}
+use Rattle.std.proofs.lemmas.Bool.{cases_eq, true≢false}
 use Rattle.std.proofs.lemmas.List.{append-nil, append_assoc}
 use Rattle.ufs_bitmap.specs.Blocks.{BlockSet}
 use Rattle.ufs_layout.specs.declared.records.LogRecord.{LogRecord}
@@ -11,7 +11,7 @@ use Rattle.ufs_dir_tree.specs.Steps.{DirState, Step, after, after_all, table_aft
 use Rattle.ufs_name_tree.specs.NameTable.{NameTable, IsNameTable, file_at}
 use Rattle.ufs_name_tree.specs.Notes.{AreKindsOf, IsStateOf, MayNoteAll, GoesByNotes, is_touched}
 use Rattle.ufs_name_tree.specs.Records.{record_of, records_of}
-use Rattle.ufs_name_tree.proofs.NoteFiles.{or_none, or_first, touched_on}
+use Rattle.ufs_name_tree.proofs.NoteFiles.{or_none, or_first, or_second, touched_on}
 use Rattle.ufs_name_tree.proofs.StepOrder.{all_after}
 
 records_on : (t : DirTable) (xs ys : List Step) → records_of t (xs ++ ys) ≡ records_of t xs ++ records_of (table_after_all xs t) ys
@@ -51,6 +51,7 @@ notes_stay t pool once = by t.noted refl
       kinds = λ s is. is.kinds;
       kept = λ i f at now. refl;
       given = λ i f none now. absurd (none i now);
+      gone = λ i f at off. absurd (off at);
       stayed = λ i j f at now. once i j f now at;
       named = λ has. has;
     })
@@ -73,6 +74,7 @@ notes_less old new pool (inr on) = inr (record {
   kinds = λ s is. on.kinds s (no_block old pool s is);
   kept = on.kept;
   given = on.given;
+  gone = on.gone;
   stayed = on.stayed;
   named = on.named;
 })
@@ -100,12 +102,21 @@ notes_on old mid new pool (inr one) (inr on) was = inr (record {
   kinds = λ s is. subst (λ (u : DirState). AreKindsOf new u.kinds) (sym (state_on s one.steps on.steps)) (on.kinds (after_all one.steps s) (between s is));
   kept = λ i f at now. touched_on one.steps on.steps i ∙ or_none (is_touched one.steps i) (is_touched on.steps i) (one.kept i f at (was i f now)) (on.kept i f (was i f now) now);
   given = λ i f none now. touched_on one.steps on.steps i ∙ or_first (is_touched one.steps i) (is_touched on.steps i) (one.given i f none (was i f now));
+  gone = λ i f at off. touched_on one.steps on.steps i ∙ goes i f at off (file_at mid i) refl;
   stayed = λ i j f at now. one.stayed i j f at (was i f now);
   named = λ has. on.named (one.named has);
 })
   where
     before : on.noted.before ≡ one.noted.before ++ records_of old.dirs one.steps
     before = let same : Some on.noted.before ≡ Some (one.noted.before ++ records_of old.dirs one.steps) = sym on.noted.was ∙ one.noted.is in cc
+
+    goes : (i f : ℕ) → file_at old i ≡ Some f → file_at new i ≢ Some f → (o : Option ℕ) → file_at mid i ≡ o → (is_touched one.steps i || is_touched on.steps i) ≡ true
+    goes i f at off None none = or_first (is_touched one.steps i) (is_touched on.steps i) (one.gone i f at (λ is. let no = sym none ∙ is in cc))
+    goes i f at off (Some k) some = by (cases_eq k f)
+      where
+        by : (k ≡ f) ⊎ (k ≢ f) → (is_touched one.steps i || is_touched on.steps i) ≡ true
+        by (inl same) = or_second (is_touched one.steps i) (is_touched on.steps i) (on.gone i f (some ∙ ap Some same) off)
+        by (inr other) = or_first (is_touched one.steps i) (is_touched on.steps i) (one.gone i f at (λ is. other (let both : Some k ≡ Some f = sym some ∙ is in cc)))
 
     between : (s : DirState) → IsStateOf old pool s → IsStateOf mid set.empty (after_all one.steps s)
     between s is = record {

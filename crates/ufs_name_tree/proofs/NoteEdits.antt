@@ -215,6 +215,7 @@ module _ (old new : NameTable) (pool : BlockSet) (dir : ℕ) (above : List (List
         kinds = λ s is. let now = in_state s is in subst (λ (u : DirState). AreKindsOf new u.kinds) (sym now.same) (kinds s is);
         kept = λ i f at now. ordered_touches xs i ∙ files.kept i f at now;
         given = λ i f none now. ordered_touches xs i ∙ files.given i f none now;
+        gone = λ i f at off. ordered_touches xs i ∙ files.gone i f at off;
         stayed = files.stayed;
         named = λ has. subst HasKinds (sym leads) (kinds_all xs old.dirs (puts has) has);
       })

@@ -20,6 +20,7 @@ use Rattle.ufs_name_tree.proofs.StepOrder.{goes_behind, put_step, ordered}
 pub record TouchesFiles (old new : NameTable) (xs : List Step) : Type 0 where
   pub kept : (i f : ℕ) → file_at old i ≡ Some f → file_at new i ≡ Some f → is_touched xs i ≡ false
   pub given : (i f : ℕ) → ((j : ℕ) → file_at old j ≢ Some f) → file_at new i ≡ Some f → is_touched xs i ≡ true
+  pub gone : (i f : ℕ) → file_at old i ≡ Some f → file_at new i ≢ Some f → is_touched xs i ≡ true
   pub stayed : (i j f : ℕ) → file_at old j ≡ Some f → file_at new i ≡ Some f → i ≡ j
 
 -- ---- in another order
@@ -106,23 +107,32 @@ module _ (t : NameTable) (is : IsNameTable t) where
   files_stay u xs files off = record {
     kept = λ i f at now. off i f at;
     given = λ i f none now. absurd (none i (was i f now));
+    gone = λ i f at off. absurd (off (still i f at));
     stayed = λ i j f at now. is.once i j f (was i f now) at;
   }
     where
       was : (i f : ℕ) → file_at u i ≡ Some f → file_at t i ≡ Some f
       was i f now = ap (λ (fs : List (Option ℕ)). file_at (record t { files = fs }) i) (sym files) ∙ now
 
+      still : (i f : ℕ) → file_at t i ≡ Some f → file_at u i ≡ Some f
+      still i f at = ap (λ (fs : List (Option ℕ)). file_at (record t { files = fs }) i) files ∙ at
+
   -- a file's inode is freed
   pub file_goes : (u : NameTable) (i : ℕ) → file_at u i ≡ None → ((j : ℕ) → j ≢ i → file_at u j ≡ file_at t j) → TouchesFiles t u (Freed i ∷ [])
   file_goes u i gone others = record {
     kept = λ j f at now. let was = before j f now (cases_eq j i) in other_inode i j (λ same. was.0 (sym same));
     given = λ j f none now. let was = before j f now (cases_eq j i) in absurd (none j was.1);
+    gone = λ j f at off. freed j f at off (cases_eq j i);
     stayed = λ j k f at now. let was = before j f now (cases_eq j i) in is.once j k f was.1 at;
   }
     where
       before : (j f : ℕ) → file_at u j ≡ Some f → (j ≡ i) ⊎ (j ≢ i) → (j ≢ i) × (file_at t j ≡ Some f)
       before j f now (inl same) = let no = sym now ∙ ap (file_at u) same ∙ gone in absurd cc
       before j f now (inr other) = (other, sym (others j other) ∙ now)
+
+      freed : (j f : ℕ) → file_at t j ≡ Some f → file_at u j ≢ Some f → (j ≡ i) ⊎ (j ≢ i) → is_touched (Freed i ∷ []) j ≡ true
+      freed j f at off (inl same) = ap (λ (k : ℕ). is_touched (Freed i ∷ []) k) same ∙ same_inode i false
+      freed j f at off (inr other) = absurd (off (others j other ∙ at))
 
   -- a name for a new inode
   module _ (pool : BlockSet) (dir : ℕ) (above : List (List ℕ)) (met : found_at t.dirs above ≡ Some (Dir dir)) (slot : Slot) (d : DentryForm) (g : Option ℕ) (may : MayMakeAll t.dirs pool (growing dir g ++ adding dir slot d)) where
@@ -150,6 +160,7 @@ module _ (t : NameTable) (is : IsNameTable t) where
     file_comes u file fresh here others = record {
       kept = λ j f at now. no_file_added j f at;
       given = λ j f none now. by j f none (before j f now (cases_eq j d.inode));
+      gone = λ j f at off. absurd (off (others j (λ same. not_born j f at (sym same)) ∙ at));
       stayed = λ j k f at now. of_old j k f at (before j f now (cases_eq j d.inode));
     }
       where

@@ -101,6 +101,8 @@ pub record GoesNoted (old new : NameTable) (pool : BlockSet) : Type 0 where
   pub kept : (i f : ℕ) → file_at old i ≡ Some f → file_at new i ≡ Some f → is_touched steps i ≡ false
   -- they touch the inode of a file that had none
   pub given : (i f : ℕ) → ((j : ℕ) → file_at old j ≢ Some f) → file_at new i ≡ Some f → is_touched steps i ≡ true
+  -- and that of a file that has it no more
+  pub gone : (i f : ℕ) → file_at old i ≡ Some f → file_at new i ≢ Some f → is_touched steps i ≡ true
   -- and no file has another inode than it had
   pub stayed : (i j f : ℕ) → file_at old j ≡ Some f → file_at new i ≡ Some f → i ≡ j
   -- each name stands for a file or a directory still

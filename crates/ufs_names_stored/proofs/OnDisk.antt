@@ -55,7 +55,7 @@ module _ (g : Geometry) (keeps : EntriesKeep g) (others : OthersAcknowledgeNothi
         subst (λ (fresh : List ℕ). AreNamesStored l k.numbers fresh next.names) (sym r.fresh)
         (notes l unassigned start history k p next.names r.taken lent go same sound.counted (λ b is. r.is_taken b ∙ is) (λ b is. r.pooled b (sym (r.is_taken b) ∙ is))
         (λ s state was. sound_then g tables p.names.tree next.names.tree r.was_table r.table lent go sound.counted r.counted s state was)
-        (keeps_numbers t u p next lent left r k.numbers unborn go) st)
+        (keeps_numbers t u p next lent left r k.numbers unborn go) r.after.inodes st)
 
     file_now : (f : ℕ) (s : FileState) → map.get next.files f ≡ Some s → ((o : FileState) × (map.get p.files f ≡ Some o)) ⊎ (map.get p.files f ≡ None) → StaysOrNew l k.numbers p next f s
     file_now f s here (inl at) = by (r.stay f at.0 s at.1 here)

@@ -8,6 +8,7 @@ use Rattle.ufs_bitmap.specs.Blocks.{BlockSet}
 use Rattle.ufs_bitmap.specs.Taking.{has}
 use Rattle.ufs_bitmap.proofs.TakingLemmas.{distinct_apart, has-append}
 use Rattle.ufs_dir_tree.specs.DirTable.{blocks_at}
+use Rattle.ufs_dirs.specs.Directory.{has_block}
 use Rattle.ufs_durable.specs.State.{DurableState, blocks_held}
 use Rattle.ufs_extent.specs.Runs.{blocks_of}
 use Rattle.ufs_file.specs.Hand.{FileState}
@@ -152,6 +153,27 @@ module _ (t u : PosixTree) (p next : Parts) (lent left unassigned : BlockSet) (r
           stays : StaysOrEmptied p next owns.hand at.0 → NamesOwn next b ⊎ FileOwns next f b
           stays (inl same) = inr (record { hand = at.0; here = at.1; held = ap (λ (d : DurableState). has (blocks_held d) b) same.1 ∙ held_dropped (durable_in p.commits owns.hand) b gone })
           stays (inr cut) = inr (record { hand = at.0; here = at.1; held = ap (λ (d : DurableState). has (blocks_held d) b) cut.1 ∙ held_dropped (emptied (durable_in p.commits owns.hand)) b gone })
+
+  -- No directory has what is dropped.
+  pub parted_now : ((dir b : ℕ) → set.contains p.dropped b ≡ true → has (blocks_at p.names.tree.dirs dir) b ≡ false) → (dir b : ℕ) → set.contains next.dropped b ≡ true → has (blocks_at next.names.tree.dirs dir) b ≡ false
+  parted_now parted dir b is = settle (has (blocks_at next.names.tree.dirs dir) b) refl
+    where
+      was_dropped : set.contains p.dropped b ≡ true → HasBlock p.names.tree.dirs p.files lent b → ⊥
+      was_dropped was (inl is_lent) = (let no = apart ThePool TheNames b (r.pooled b is_lent) (inr (inl was)) in cc)
+      was_dropped was (inr (inl at)) = clash _ (sym (has_same (blocks_at p.names.tree.dirs at.0) b) ∙ at.1) (parted at.0 b was)
+      was_dropped was (inr (inr file)) =
+          let has_it = at_from p.files file.0 b file.1 in
+          let no = apart (OneFile file.0) TheNames b (record { hand = has_it.0; here = has_it.1; held = held_own (durable_in p.commits has_it.0) b has_it.2 }) (inr (inl was)) in
+          cc
+
+      by : (set.contains p.dropped b ≡ true) ⊎ ((set.contains left b ≡ true) ⊎ HasGone p next b) → has_block (blocks_at next.names.tree.dirs dir) b ≡ true → ⊥
+      by (inl was) at = was_dropped was ((r.together b).0 (inr (inl (dir, at))))
+      by (inr (inl back)) at = clash (set.contains left b) back (r.apart.dirs dir b at)
+      by (inr (inr gone)) at = dropped_alone gone.file b gone.hand gone.was gone.held ((r.together b).0 (inr (inl (dir, at))))
+
+      settle : (v : Bool) → has (blocks_at next.names.tree.dirs dir) b ≡ v → has (blocks_at next.names.tree.dirs dir) b ≡ false
+      settle false off = off
+      settle true on = absurd (by ((r.dropped b).0 is) (has_same (blocks_at next.names.tree.dirs dir) b ∙ on))
 
   -- ---- owners
 

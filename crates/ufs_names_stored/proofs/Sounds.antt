@@ -20,7 +20,7 @@ use Rattle.ufs_names_stored.proofs.Blocks.{clash}
 use Rattle.ufs_names_stored.proofs.Emptied.{emptied_sound}
 use Rattle.ufs_names_stored.proofs.NewFiles.{is_committed}
 use Rattle.ufs_names_stored.proofs.Numbers.{in_table}
-use Rattle.ufs_names_stored.proofs.Owners.{apart_now, before}
+use Rattle.ufs_names_stored.proofs.Owners.{apart_now, before, parted_now}
 
 le_true : (a b : ℕ) → a ≤ b → nat_le a b ≡ true
 le_true a b le = grind (arith, le)
@@ -45,6 +45,7 @@ request_sound g unassigned t u p next lent left r sound = record {
   inodes = r.inodes;
   known = r.forgotten;
   counted = r.counted ∙ sound.counted;
+  parted = parted_now t u p next lent left unassigned r sound.apart once sound.parted;
 }
   where
     once : (f : ℕ) (s : FileState) → map.get p.files f ≡ Some s → IsDistinct nat_eq (blocks_held (durable_in p.commits s))

@@ -1,5 +1,5 @@
 -- A file's commit fails, and the store stops.
-use Rattle.std.proofs.Common.{◌≡◌, ◌≢◌, ℕ, ◌<◌, ◌≤◌, ◌⊎◌, inl, inr, Bool, true, false, List, [], ◌∷◌, ◌++◌, Some, None, length, ap, sym, refl, ◌∙◌, subst, append_assoc, arith}
+use Rattle.std.proofs.Common.{◌≡◌, ◌≢◌, ℕ, ◌<◌, ◌≤◌, ◌⊎◌, inl, inr, Bool, true, false, List, [], ◌∷◌, ◌++◌, Some, length, ap, sym, refl, ◌∙◌, subst, append_assoc, arith}
 use Rattle.std.specs.Prelude.{◌==◌, IsSome, if◌then◌else◌}
 use Rattle.std.specs.List.{AllByRecursion}
 use Rattle.std.specs.FinMap as map
@@ -11,19 +11,18 @@ use Rattle.ufs_disk.specs.Moments.{Moments}
 use Rattle.ufs_file.specs.Hand.{FileState}
 use Rattle.ufs_ilog.specs.Deltas.{IsDelta}
 use Rattle.ufs_layout.specs.Superblock.{geometry_of}
-use Rattle.ufs_layout.specs.declared.geometry.Geometry.{Geometry}
 use Rattle.ufs_layout.specs.declared.records.Committed.{Committed}
 use Rattle.ufs_layout.specs.declared.records.LogRecord.{LogRecord}
 use Rattle.ufs_ledger.specs.Changes.{committing, rewritten, settled, tried, written}
 use Rattle.ufs_ledger.specs.Kept.{Counts, IsLedgerKept}
-use Rattle.ufs_ledger.specs.Ledger.{HasByte, IsLedgerOf, IsMixOf, Ledger, is_held}
+use Rattle.ufs_ledger.specs.Ledger.{HasByte, IsLedgerOf, IsMixOf, Ledger}
 use Rattle.ufs_ledger.proofs.Mixing.{has_byte_last}
 use Rattle.ufs_ledger.proofs.Promise.{fewer_kept}
 use Rattle.ufs_model.specs.PosixTree.{PosixTree}
 use Rattle.ufs_model.specs.declared.data.Entry.{Entry}
 use Rattle.ufs_prefix.specs.FileChanges.{byte_at}
 use Rattle.ufs_durable.specs.Committing.{FilesMayCommitNext, FitsInode, HasToCommit, HasTreeBytes, IsFileBy, StagesAreKept, WritesAreKept}
-use Rattle.ufs_durable.specs.Standing.{DirtyMayBeWritten, IsFileBlock, StandsFor}
+use Rattle.ufs_durable.specs.Standing.{DirtyMayBeWritten, StandsFor}
 use Rattle.ufs_durable.specs.State.{DurableState}
 use Rattle.ufs_durable.specs.Writes.{BlockWrite, HasTriedOne, MayWriteAll, at_moments, with_writes, writes_of}
 use Rattle.ufs_durable.proofs.Behind.{same_head, writes_append}
@@ -33,9 +32,9 @@ use Rattle.ufs_store.specs.State.{StoreState, geometry_of_store, has_room, next_
 use Rattle.ufs_stored.specs.OnDisk.{HasNames, HasStopped, IsGoing}
 use Rattle.ufs_stored.specs.Parts.{Parts, durable_in}
 use Rattle.ufs_stored.specs.Stored.{IsFileWhole}
-use Rattle.ufs_stored.proofs.FileCommits.{inode_on_disk}
 use Rattle.ufs_on_disk.specs.Syncs.{FailedSyncsGoOn, HasFailed}
 use Rattle.ufs_on_disk.proofs.Fronts.{delta_of, same_or_not}
+use Rattle.ufs_on_disk.proofs.Live.{file_by_history, file_on_disk, file_to_commit, whole_file}
 
 -- what holds of one of them
 one_of : {X : Type 0} (P : X → Type 0) (xs ys : List X) (y : X) → AllByRecursion P (xs ++ y ∷ ys) → P y
@@ -115,18 +114,13 @@ module _ (old new : StoreState) (start : PosixTree) (history : List Entry) (p : 
   k = names.going.counts
 
   whole : IsFileWhole l k.numbers x
-  whole = go.stored.each f.file f at
+  whole = whole_file old start history p f at live names
 
   on_disk : (k.numbers.inode f.file ≡ Some f.inode) × StandsFor l x
-  on_disk = inode_on_disk l k.numbers x (names.numbered f.file live) whole.stored
+  on_disk = file_on_disk old start history p f at live names
 
   by_history : IsFileBy f start history k
-  by_history = record {
-    there = on_disk.0;
-    alone = λ other is. go.stored.counted.alone f.file other f.inode on_disk.0 is;
-    counted = go.stored.counted.made f.file;
-    bytes = tree_bytes f start history go.stored.tree go.stored.legal (go.stored.parts.files f.file f at).1;
-  }
+  by_history = file_by_history old start history p f at live names tree_bytes
 
   form : geometry_of l.head ≡ geometry_of_store new
   form = go.formed ∙ sym told.geometry
@@ -184,7 +178,7 @@ module _ (old new : StoreState) (start : PosixTree) (history : List Entry) (p : 
           (may old (delta_of x.log.inode x.log.committed x.log.noted).0 l x [] (to_commit (delta_of x.log.inode x.log.committed x.log.noted).0 (delta_of x.log.inode x.log.committed x.log.noted).1)))
         where
           to_commit : (records : List LogRecord) → IsDelta x.log.inode x.log.committed x.log.noted records → HasToCommit old records l x
-          to_commit records delta = record { has = go.has; noted = whole.noted; stands = on_disk.1; own = whole.own; fits = fits; delta = delta }
+          to_commit = file_to_commit old start history p f at live names fits
 
           full : HasTriedOne new (writes_of f) l ⊎ ((between : Moments) × HasAny new (stages (at_moments between old) (delta_of x.log.inode x.log.committed x.log.noted).0 (with_writes (writes_of f) l))) → HasStopped new start history p
           full (inl one) = at_write one

@@ -3,7 +3,9 @@ pub mod Sound
 pub mod Told
 pub mod Fronts
 pub mod Syncing
+mod Live
 pub mod Failing
 pub mod Writing
 pub mod Ready
 pub mod Forgetting
+mod Meanwhile

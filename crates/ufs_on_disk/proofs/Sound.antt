@@ -47,6 +47,7 @@ sound_by_free_blocks g u p pool v moves sound = record {
   inodes = sound.inodes;
   known = sound.known;
   counted = sound.counted;
+  parted = sound.parted;
 }
   where
     free : (b : ℕ) → (set.contains p.pool b ≡ true) ⊎ (set.contains u b ≡ true) → IsDataBlock g b
@@ -98,6 +99,7 @@ sound_by_requests g u entry p f x pool ask server ticket desc d numbered old is 
   inodes = inodes_put g p f x pool old number inode numbered sound.inodes;
   known = known_put g p f x pool old number inode numbered sound.known;
   counted = sound.counted;
+  parted = sound.parted;
 }
   where
     whole : IsFileSound g (durable_in p.commits f)
@@ -145,6 +147,7 @@ sound_by_syncs g u p f numbered at sound = record {
   inodes = inodes_put g p f (file_committed (durable_in p.commits f)) p.pool at refl refl numbered sound.inodes;
   known = known_put g p f (file_committed (durable_in p.commits f)) p.pool at refl refl numbered sound.known;
   counted = sound.counted;
+  parted = sound.parted;
 }
   where
     whole : IsFileSound g (durable_in p.commits f)

@@ -92,4 +92,5 @@ sound_as_told g u p commits tells sound = record {
   inodes = sound.inodes;
   known = tells.known;
   counted = sound.counted;
+  parted = sound.parted;
 }

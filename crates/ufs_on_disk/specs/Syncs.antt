@@ -1,11 +1,11 @@
 -- How a server on a disk goes on by the commit of a file.
-use Rattle.std.specs.Prelude.{◌≡◌, ◌≢◌, ℕ, ◌⊎◌, List, ◌∷◌, Some, None, IsSome, false, All}
+use Rattle.std.specs.Prelude.{◌≡◌, ◌≢◌, ℕ, ◌⊎◌, Bool, List, ◌∷◌, Some, None, IsSome, All}
 use Rattle.std.specs.FinMap as map
 use Rattle.std.specs.FinSet as set
 use Rattle.ufs_bitmap.specs.Blocks.{BlockSet}
 use Rattle.ufs_bitmap.specs.Space.{Space}
 use Rattle.ufs_bitmap.specs.Taking.{set_of}
-use Rattle.ufs_disk.specs.Moments.{Moments}
+use Rattle.ufs_disk.specs.Moments.{LeavesOnly, Moments}
 use Rattle.ufs_extent.specs.Runs.{IsRun, blocks_of}
 use Rattle.ufs_file.specs.Hand.{FileState}
 use Rattle.ufs_files.specs.Files.{AreNumbered}
@@ -14,16 +14,16 @@ use Rattle.ufs_layout.specs.Areas.{first_of_data}
 use Rattle.ufs_layout.specs.declared.geometry.Geometry.{Geometry}
 use Rattle.ufs_layout.specs.declared.records.LogRecord.{LogRecord}
 use Rattle.ufs_ledger.specs.Changes.{settled}
-use Rattle.ufs_ledger.specs.Ledger.{IsLedgerOf, Ledger}
+use Rattle.ufs_ledger.specs.Ledger.{IsLedgerOf, IsLeftBy, Ledger}
 use Rattle.ufs_model.specs.PosixTree.{PosixTree}
 use Rattle.ufs_model.specs.declared.data.Entry.{Entry}
 use Rattle.ufs_durable.specs.Committing.{FitsInode}
 use Rattle.ufs_durable.specs.State.{DurableState, file_committed}
 use Rattle.ufs_durable.specs.Writes.{AreDataBlocks, HasCommitted, HasTriedOne, MayWriteAll, at_moments, with_writes, writes_of}
 use Rattle.ufs_store.specs.Blocks.{MayReturn}
-use Rattle.ufs_store.specs.Ledgers.{HasAny, HasLedger, MayCommitNext, checkpointed, stages}
+use Rattle.ufs_store.specs.Ledgers.{HasAny, HasLedger, IsLeftByAny, MayCommitNext, checkpointed, stages}
 use Rattle.ufs_store.specs.State.{StoreState, geometry_of_store}
-use Rattle.ufs_stored.specs.OnDisk.{HasFiles, HasNames, HasStopped, IsGoing, IsOnDisk}
+use Rattle.ufs_stored.specs.OnDisk.{HasFiles, HasNames, HasStopped, IsExplainedBetween, IsGoing, IsOnDisk}
 use Rattle.ufs_stored.specs.Parts.{Commits, Parts, durable_in, with_file}
 use Rattle.ufs_stored.specs.Sound.{IsSoundServer}
 
@@ -53,6 +53,12 @@ pub record HasFailed (old new : StoreState) (f : DurableState) : Type 0 where
       → HasTriedOne new (writes_of f.file) l ⊎ IsLedgerOf new.sectors new.moments.state (with_writes (writes_of f.file) l)
   pub sectors : new.sectors ≡ old.sectors
   pub geometry : geometry_of_store new ≡ geometry_of_store old
+
+-- At each moment a crash leaves what one of the stages of the writes and the commit has.
+pub record LeavesStages (keeps : Bool) (old new : StoreState) (f : DurableState) : Type 0 where
+  pub changed : (records : List LogRecord) → IsDelta f.log.inode f.log.committed f.log.noted records → f.log.noted ≢ f.log.committed → (l : Ledger) → HasLedger old l → MayWriteAll l (writes_of f.file) → MayCommitNext old records l
+      → (between : Moments) × LeavesOnly keeps (IsLeftByAny old.sectors (stages (at_moments between old) records (with_writes (writes_of f.file) l))) old.moments new.moments
+  pub same : f.log.noted ≡ f.log.committed → (l : Ledger) → HasLedger old l → MayWriteAll l (writes_of f.file) → LeavesOnly keeps (IsLeftBy old.sectors (with_writes (writes_of f.file) l)) old.moments new.moments
 
 -- ---- what `fsync` asks
 
@@ -91,6 +97,11 @@ FailedSyncsGoOn = (old new : StoreState) (start : PosixTree) (history : List Ent
 abbrev pub WrittenSyncsGoOn : Geometry → Type 0
 WrittenSyncsGoOn g = (old new : StoreState) (start : PosixTree) (history : List Entry) (p : Parts) (f : FileState) → geometry_of_store old ≡ g → map.get p.files f.file ≡ Some f → IsSome (map.get p.names.held f.file)
     → HasWritten old new (durable_in p.commits f) → HasNames old start history p → IsGoing new start history p
+
+-- At each moment the history explains whatever a crash leaves.
+abbrev pub FileSyncsAreExplained : Geometry → Type 0
+FileSyncsAreExplained g = (keeps : Bool) (old new : StoreState) (start : PosixTree) (history : List Entry) (p : Parts) (f : FileState) → geometry_of_store old ≡ g → map.get p.files f.file ≡ Some f → IsSome (map.get p.names.held f.file)
+    → FitsInode f → LeavesStages keeps old new (durable_in p.commits f) → HasNames old start history p → IsExplainedBetween keeps old.sectors start history old.moments new.moments
 
 -- ---- the same told in other words
 

@@ -1,14 +1,14 @@
 // Laws of the definitions, each the contract of a function that does nothing.
 ghost use Rattle.ufs_layout.specs.Areas.{IsGeometry};
 ghost use Rattle.ufs_on_disk.specs.Requests.{FileRequestsGoOn, FreeBlocksGoOn, PartsByExcuses, PartsByFileRequests, SoundByFileRequests, SoundByFreeBlocks};
-ghost use Rattle.ufs_on_disk.specs.Syncs.{CommittedIsForgotten, FailedSyncsGoOn, FileSyncsGoOn, OnDiskAsTold, PutBackAsItWas, SoundAsTold, SoundByFileSyncs, SyncedAsTold, SyncsMayBegin, WrittenSyncsGoOn};
+ghost use Rattle.ufs_on_disk.specs.Syncs.{CommittedIsForgotten, FailedSyncsGoOn, FileSyncsAreExplained, FileSyncsGoOn, OnDiskAsTold, PutBackAsItWas, SoundAsTold, SoundByFileSyncs, SyncedAsTold, SyncsMayBegin, WrittenSyncsGoOn};
 
 use ufs_durable::{committing_law, others_law, standing_law};
 use ufs_layout::Geometry;
 use ufs_model::a_request_keeps_the_tree;
 use ufs_names::a_file_request_keeps_the_names;
 use ufs_prefix::an_entry_keeps_what_is_shown;
-use ufs_stored::{file_commit_law, ready_law};
+use ufs_stored::{always_law, file_commit_law, ready_law};
 
 /// Free blocks move, and requests on files are served.
 pub fn file_request_law()
@@ -54,6 +54,16 @@ pub fn file_memory_law(geometry: &Geometry)
     committing_law();
     standing_law();
     others_law();
+}
+
+/// At each moment of the commit of a file, whatever a crash leaves is explained and proper.
+pub fn file_moments_law(geometry: &Geometry)
+    requires { IsGeometry geometry.now }
+    ensures { FileSyncsAreExplained geometry.now }
+{
+    always_law(geometry);
+    committing_law();
+    standing_law();
 }
 
 /// What is known of commits may be told in other words.

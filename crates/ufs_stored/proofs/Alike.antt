@@ -75,6 +75,7 @@ module _ (l m : Ledger) (u : BlockSet) (start : PosixTree) (history : List Entry
     kinds = n.kinds;
     sound = moved (λ g c. HasSoundNames g (after_all n.steps (with_fresh p.fresh n.committed))) n.sound;
     live = n.live;
+    known = λ inode place block at. n.known inode place block (back (λ g c. HasBlock g c inode place block) at);
   }
 
   names : AreNamesStored l k.numbers p.fresh p.names → AreNamesStored m k.numbers p.fresh p.names

@@ -47,9 +47,9 @@ use Rattle.ufs_durable.proofs.Behind.{same_head, same_now}
 use Rattle.ufs_durable.proofs.Others.{behind_home, behind_writes, stands_still}
 use Rattle.ufs_durable.proofs.Standing.{blocks_are, noted_committed, settled_has}
 use Rattle.ufs_stored.specs.Parts.{OneFile, Parts, durable_in, with_file}
-use Rattle.ufs_stored.specs.Stored.{AreNamesNoted, AreNamesStored, IsFileStored, IsFileWhole, IsSpelled, IsStored, empty_form, with_born, with_fresh, with_none}
+use Rattle.ufs_stored.specs.Stored.{AreNamesNoted, AreNamesStored, IsFileStored, IsFileWhole, IsKnownBlock, IsSpelled, IsStored, empty_form, with_born, with_fresh, with_none}
 use Rattle.ufs_stored.proofs.FileDone.{clash, done_stored}
-use Rattle.ufs_stored.proofs.Live.{is_file}
+use Rattle.ufs_stored.proofs.Live.{is_file, live}
 use Rattle.ufs_stored.proofs.OneDelta.{form_else, slots_same, state_stays}
 use Rattle.ufs_stored.proofs.Places.{held_at}
 use Rattle.ufs_stored.proofs.Puts.{here}
@@ -221,7 +221,12 @@ module _ (s : StoreState) (between : Moments) (records : List LogRecord) (l : Le
     kinds = n.kinds;
     sound = subst (λ (h : Geometry). HasSoundNames h (after_all n.steps (with_fresh p.fresh n.committed))) (sym head_is) n.sound;
     live = n.live;
+    known = λ inode place b had. by inode place b (block_before inode place b had);
   }
+    where
+      by : (inode place b : ℕ) → ((inode ≡ f.inode) × (slice_get (blocks_of f.extents) place ≡ Some b)) ⊎ ((inode ≢ f.inode) × HasBlock g l.now.catalog inode place b) → IsKnownBlock k.numbers p.names n.steps inode b
+      by inode place b (inl mine) = inr (inr (f.file, live p (tree_after start history) st.parts f.file f at, on_disk.0 ∙ ap Some (sym mine.0)))
+      by inode place b (inr other) = n.known inode place b other.1
 
   names : AreNamesStored l k.numbers p.fresh p.names → AreNamesStored m k.numbers p.fresh p.names
   names (inl off) = inl off

@@ -22,6 +22,7 @@ use Rattle.ufs_layout.specs.declared.inode.Extent.{Extent}
 use Rattle.ufs_ledger.specs.Changes.{settled}
 use Rattle.ufs_ledger.specs.Kept.{Counts}
 use Rattle.ufs_ledger.specs.Ledger.{IsDataBlock, Ledger, Stand, is_held}
+use Rattle.ufs_model.specs.History.{tree_after}
 use Rattle.ufs_model.specs.PosixTree.{PosixTree}
 use Rattle.ufs_model.specs.declared.data.Entry.{Entry}
 use Rattle.ufs_name_log.specs.Held.{HasSoundNames, HasState, MaySteps}
@@ -37,9 +38,10 @@ use Rattle.ufs_durable.proofs.Behind.{same_head, same_now}
 use Rattle.ufs_durable.proofs.Others.{behind_barrier, behind_writes}
 use Rattle.ufs_durable.proofs.Standing.{blocks_are, noted_committed}
 use Rattle.ufs_stored.specs.Parts.{Parts, durable_in, with_file}
-use Rattle.ufs_stored.specs.Stored.{AreNamesNoted, AreNamesStored, IsFileStored, IsFileWhole, IsSpelled, IsStored, with_born, with_fresh, with_none}
+use Rattle.ufs_stored.specs.Stored.{AreNamesNoted, AreNamesStored, IsFileStored, IsFileWhole, IsKnownBlock, IsSpelled, IsStored, with_born, with_fresh, with_none}
 use Rattle.ufs_stored.proofs.FileCommits.{inode_on_disk, other_file_is, writes_born}
 use Rattle.ufs_stored.proofs.FileDone.{done_stored}
+use Rattle.ufs_stored.proofs.Live.{live}
 use Rattle.ufs_stored.proofs.Puts.{here}
 
 module _ (s : StoreState) (l : Ledger) (u : BlockSet) (start : PosixTree) (history : List Entry) (k : Counts) (p : Parts) (f : FileState) (led : HasLedger s l) (at : map.get p.files f.file ≡ Some f)
@@ -127,7 +129,12 @@ module _ (s : StoreState) (l : Ledger) (u : BlockSet) (start : PosixTree) (histo
     kinds = n.kinds;
     sound = moved (λ h a. HasSoundNames h (after_all n.steps (with_fresh p.fresh n.committed))) n.sound;
     live = n.live;
+    known = λ inode place b had. by inode place b (block_before inode place b had);
   }
+    where
+      by : (inode place b : ℕ) → ((inode ≡ f.inode) × (slice_get (blocks_of f.extents) place ≡ Some b)) ⊎ ((inode ≢ f.inode) × HasBlock g l.now.catalog inode place b) → IsKnownBlock k.numbers p.names n.steps inode b
+      by inode place b (inl mine) = inr (inr (f.file, live p (tree_after start history) st.parts f.file f at, on_disk.0 ∙ ap Some (sym mine.0)))
+      by inode place b (inr other) = n.known inode place b other.1
 
   names : AreNamesStored l k.numbers p.fresh p.names → AreNamesStored m k.numbers p.fresh p.names
   names (inl off) = inl off

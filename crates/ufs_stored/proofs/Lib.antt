@@ -2,7 +2,7 @@ pub mod Entries
 pub mod Puts
 pub mod Spaced
 pub mod FileEntries
-mod Places
+pub mod Places
 pub mod Alike
 pub mod Zeros
 mod Steps
@@ -16,9 +16,12 @@ pub mod FileCommits
 pub mod FileSettles
 mod NamesLaw
 mod Fresh
+mod Blocks
 mod NameEntries
 mod NewFiles
 mod NotesLaw
 pub mod Pools
 mod OnDisk
 mod Stopping
+mod Always
+pub mod Stretches

@@ -55,7 +55,7 @@ use Rattle.ufs_durable.specs.Standing.{HaveOnly, IsFileBlock, StandsFor}
 use Rattle.ufs_durable.proofs.Standing.{settled_has}
 use Rattle.ufs_durable.proofs.Served.{has_at}
 use Rattle.ufs_stored.specs.Parts.{NamesOwn, OneFile, Owner, Owns, Parts, TheNames, ThePool, Unassigned, durable_in}
-use Rattle.ufs_stored.specs.Stored.{AreNamesNoted, FileHasIt, IsFileStored, IsSpelled, IsStored, empty_form, with_born, with_fresh}
+use Rattle.ufs_stored.specs.Stored.{AreNamesNoted, FileHasIt, IsFileStored, IsKnownBlock, IsSpelled, IsStored, empty_form, with_born, with_fresh}
 use Rattle.ufs_stored.specs.Laws.{all_named, with_names_committed}
 use Rattle.ufs_stored.proofs.Numbered.{alone_now, born_now, live, names_now, numbered}
 use Rattle.ufs_stored.proofs.Places.{held_at}
@@ -177,11 +177,14 @@ module _ (l : Ledger) (u : BlockSet) (start : PosixTree) (history : List Entry) 
         let gone : slice_get (blocks_of (record { kind = kind; extents = []; size = size; number = number })) place ≡ Some b = ap (λ (x : List Extent). slice_get (blocks_of (record { kind = kind; extents = x; size = size; number = number })) place) (sym e) ∙ at in
         cc
 
-    is_dir_block : (inode place b : ℕ) → HasBlock g c2 inode place b → (c2.forms inode).kind ≡ 2 → NamesOwn p2 b
-    is_dir_block inode place b at dir =
+    in_table : (inode place b : ℕ) → HasBlock g c2 inode place b → (c2.forms inode).kind ≡ 2 → has (blocks_at p.names.tree.dirs inode) b ≡ true
+    in_table inode place b at dir =
         let blocks : blocks_at p.names.tree.dirs inode ≡ blocks_of (c2.forms inode) =
         ap (λ (x : DirTable). blocks_at x inode) (sym n.dirs) ∙ led.table.blocks inode at.in_range ∙ ap (λ (v : Bool). if v then blocks_of (c2.forms inode) else []) (ap (λ v. v == 2) dir) in
-        inr (inr (inode, has_at (blocks_at p.names.tree.dirs inode) place b (ap (λ (x : List ℕ). slice_get x place) blocks ∙ at.there)))
+        has_at (blocks_at p.names.tree.dirs inode) place b (ap (λ (x : List ℕ). slice_get x place) blocks ∙ at.there)
+
+    is_dir_block : (inode place b : ℕ) → HasBlock g c2 inode place b → (c2.forms inode).kind ≡ 2 → NamesOwn p2 b
+    is_dir_block inode place b at dir = inr (inr (inode, in_table inode place b at dir))
 
     held_now : (inode place b : ℕ) → HasBlock g c2 inode place b → NamesOwn p2 b ⊎ FileHasIt p2 (numbers_of p.names) inode b
     held_now inode place b at = by (is_touched xs inode) refl
@@ -286,7 +289,30 @@ module _ (l : Ledger) (u : BlockSet) (start : PosixTree) (history : List Entry) 
       kinds = record { dir = n.kinds.dir; file = n.kinds.file; free = n.kinds.free };
       sound = sound_zeroed g (after_all xs d) (has []) n.sound;
       live = λ file is. inl (refl, λ inode at. refl);
+      known = known_now;
     }
+      where
+        known_now : (inode place b : ℕ) → HasBlock (geometry_of m.head) m.now.catalog inode place b → IsKnownBlock (numbers_of p.names) p2.names [] inode b
+        known_now inode place b at = by (is_touched xs inode) refl
+          where
+            kinds : (v : Bool) → ((c2.forms inode).kind == 2) ≡ v → is_touched xs inode ≡ true → IsKnownBlock (numbers_of p.names) p2.names [] inode b
+            kinds true e on = inr (inl (in_table inode place b at (grind (arith, nat_tests, e))))
+            kinds false e on =
+                let form = c2.forms inode in
+                absurd (nothing_at form.extents form.kind form.size form.number place b (bare inode on (λ dir. let clash = sym e ∙ ap (λ v. v == 2) dir in cc)) at.there)
+
+            file : (f : ℕ) → IsSome (map.get p.names.held f) → k.numbers.inode f ≡ Some inode → KeepsInode xs k.numbers (numbers_of p.names) f → IsKnownBlock (numbers_of p.names) p2.names [] inode b
+            file f live number (inl same) = inr (inr (f, live, same.0 ∙ number))
+            file f live number (inr new) = (let clash = sym new.0 ∙ number in absurd cc)
+
+            old : is_touched xs inode ≡ false → IsKnownBlock k.numbers p.names xs inode b → IsKnownBlock (numbers_of p.names) p2.names [] inode b
+            old off (inl on) = (let clash = sym on ∙ off in absurd cc)
+            old off (inr (inl dir)) = inr (inl dir)
+            old off (inr (inr of)) = file of.0 of.1 of.2 (n.live of.0 of.1)
+
+            by : (v : Bool) → is_touched xs inode ≡ v → IsKnownBlock (numbers_of p.names) p2.names [] inode b
+            by true on = kinds ((c2.forms inode).kind == 2) refl on
+            by false off = old off (n.known inode place b (record { in_range = at.in_range; there = ap (λ (f : InodeForm). slice_get (blocks_of f) place) (sym (stay c d xs number inode off)) ∙ at.there }))
 
     pub committed_stored : NamesGoByChanges → IsLedgerKept m start history k2 k2 → IsStored m u start history k2 p2
     committed_stored by kept = record {

@@ -1,14 +1,15 @@
 -- The names' notes go on with a change.
-use Rattle.std.proofs.Common.{◌≡◌, ℕ, ◌+◌, ◌⊎◌, ◌||◌, inl, inr, List, ◌++◌, Bool, true, false, Some, None, length, ap, sym, refl, ◌∙◌, subst}
+use Rattle.std.proofs.Common.{◌≡◌, ◌≢◌, ℕ, ◌+◌, ◌⊎◌, ◌||◌, inl, inr, List, ◌++◌, Bool, true, false, Option, Some, None, is_some, length, ap, sym, refl, ◌∙◌, subst}
 use Rattle.std.specs.Prelude.{IsSome}
 use Rattle.std.specs.List.{slice_get}
+use Rattle.std.specs.Option.{option_map}
 use Rattle.std.specs.FinMap as map
 use Rattle.std.specs.FinSet as set
 use Rattle.std.proofs.lemmas.List.Folds.{list_any-append}
 use Rattle.ufs_bitmap.specs.Blocks.{BlockSet}
 use Rattle.ufs_bitmap.specs.Taking.{has}
 use Rattle.ufs_bitmap.proofs.TakingLemmas.{has-append}
-use Rattle.ufs_dir_tree.specs.DirTable.{DirTable, slots_at}
+use Rattle.ufs_dir_tree.specs.DirTable.{DirTable, blocks_at, slots_at}
 use Rattle.ufs_dir_tree.specs.Steps.{DirState, Step, after_all, table_after_all}
 use Rattle.ufs_layout.specs.DentryForm.{DentryForm}
 use Rattle.ufs_layout.specs.Superblock.{geometry_of}
@@ -16,18 +17,21 @@ use Rattle.ufs_layout.specs.declared.geometry.Geometry.{Geometry}
 use Rattle.ufs_layout.specs.declared.records.LogRecord.{LogRecord}
 use Rattle.ufs_ledger.specs.Kept.{Numbers}
 use Rattle.ufs_ledger.specs.Ledger.{Ledger}
-use Rattle.ufs_model.proofs.Facts.Lookups.{same_some}
+use Rattle.ufs_model.proofs.Facts.Lookups.{from_some, same_some}
 use Rattle.ufs_name_log.specs.Files.{KeepsInode}
 use Rattle.ufs_name_log.specs.Held.{HasName, HasSoundNames, MaySteps}
 use Rattle.ufs_name_log.specs.Laws.{ChangesJoin}
 use Rattle.ufs_name_log.specs.Noted.{NotedMayBeMade, NotesAreRecords, NotesLeadOn}
 use Rattle.ufs_name_log.specs.Steps.{records_of}
+use Rattle.ufs_name_tree.specs.NameTable.{file_at}
 use Rattle.ufs_name_tree.specs.Notes.{AreKindsOf, GoesNoted, IsStateOf, is_of, is_touched}
 use Rattle.ufs_name_tree.specs.Records as tables
-use Rattle.ufs_names.specs.NamesPart.{NamesPart}
+use Rattle.ufs_names.specs.NamesPart.{AreInodesOf, NamesPart}
+use Rattle.ufs_names.specs.declared.holding.Holding.{Holding}
 use Rattle.ufs_names_ledger.specs.Numbers.{numbers_of}
 use Rattle.ufs_stored.specs.Laws.{KeepsNumbers}
-use Rattle.ufs_stored.specs.Stored.{AreNamesNoted, with_fresh}
+use Rattle.ufs_stored.specs.Stored.{AreNamesNoted, IsKnownBlock, with_fresh}
+use Rattle.ufs_stored.proofs.Blocks.{blocks_stay}
 use Rattle.ufs_stored.proofs.Fresh.{HasMore, after_more_all, may_more_all}
 
 or_true : (a b : Bool) → b ≡ true → (a || b) ≡ true
@@ -41,7 +45,7 @@ module _ (l : Ledger) (numbers : Numbers) (fresh lent : List ℕ) (old new : Nam
     (n : AreNamesNoted l numbers fresh old) (go : GoesNoted old.tree new.tree pool) (counted : length old.tree.dirs.dirs ≡ (geometry_of l.head).inodes + 1)
     (is_lent : (b : ℕ) → set.contains pool b ≡ true → has lent b ≡ true) (apart : (b : ℕ) → has lent b ≡ true → has fresh b ≡ false)
     (sound : (s : DirState) → IsStateOf old.tree pool s → HasSoundNames (geometry_of l.head) s → HasSoundNames (geometry_of l.head) (after_all go.steps s))
-    (keeps : KeepsNumbers numbers old new go.steps) where
+    (keeps : KeepsNumbers numbers old new go.steps) (was : AreInodesOf old.tree old.held) (is : AreInodesOf new.tree new.held) where
   abbrev g : Geometry
   g = geometry_of l.head
 
@@ -112,6 +116,36 @@ module _ (l : Ledger) (numbers : Numbers) (fresh lent : List ℕ) (old new : Nam
       by (inl was) = stays (n.live file was.0) was.1 was.2
       by (inr born) = inr (born.0, λ inode at. touch inode ∙ or_true (is_touched xs inode) (is_touched ys inode) (born.1 inode at))
 
+  -- ---- whose the blocks are
+
+  touch : (inode : ℕ) → is_touched (xs ++ ys) inode ≡ (is_touched xs inode || is_touched ys inode)
+  touch inode = list_any-append (is_of inode) xs ys
+
+  -- a live file's inode on the disk is the file's in the table
+  at_inode : (file inode : ℕ) → IsSome (map.get old.held file) → numbers.inode file ≡ Some inode → file_at old.tree inode ≡ Some file
+  at_inode file inode live number = by (n.live file live) (from_some (map.get old.held file) live)
+    where
+      by : KeepsInode xs numbers (numbers_of old) file → (h : Holding) × (map.get old.held file ≡ Some h) → file_at old.tree inode ≡ Some file
+      by (inl same) (h, at) =
+          let told : Some inode ≡ Some h.inode = sym number ∙ sym same.0 ∙ ap (option_map (λ (h : Holding). h.inode)) at in
+          ap (file_at old.tree) (same_some inode h.inode told) ∙ was.inode file h at
+      by (inr new) held = (let clash = sym new.0 ∙ number in absurd cc)
+
+  known_now : (inode block : ℕ) → IsKnownBlock numbers old xs inode block → IsKnownBlock numbers new (xs ++ ys) inode block
+  known_now inode block (inl on) = inl (touch inode ∙ ap (λ (v : Bool). v || is_touched ys inode) on)
+  known_now inode block (inr (inl dir)) = by (is_touched ys inode) refl
+    where
+      by : (v : Bool) → is_touched ys inode ≡ v → IsKnownBlock numbers new (xs ++ ys) inode block
+      by true on = inl (touch inode ∙ or_true (is_touched xs inode) (is_touched ys inode) on)
+      by false off = inr (inl (ap (λ (t : DirTable). has (blocks_at t inode) block) go.dirs ∙ ap (λ (bs : List ℕ). has bs block) (blocks_stay ys old.tree.dirs inode off) ∙ dir))
+  known_now inode block (inr (inr file)) = by (map.get new.held file.0) refl
+    where
+      by : (o : Option Holding) → map.get new.held file.0 ≡ o → IsKnownBlock numbers new (xs ++ ys) inode block
+      by (Some h) some = inr (inr (file.0, ap is_some some, file.2))
+      by None none =
+          let gone : file_at new.tree inode ≢ Some file.0 = λ at. (let off = sym (ap is_some none) ∙ is.live inode file.0 at in cc) in
+          inl (touch inode ∙ or_true (is_touched xs inode) (is_touched ys inode) (go.gone inode file.0 (at_inode file.0 inode file.1 file.2) gone))
+
   pub names_noted : AreNamesNoted l numbers (fresh ++ lent) new
   names_noted = record {
     committed = n.committed;
@@ -123,6 +157,7 @@ module _ (l : Ledger) (numbers : Numbers) (fresh lent : List ℕ) (old new : Nam
     kinds = subst (λ (a : DirState). AreKindsOf new.tree a.kinds) (sym (join more xs ys).state) (go.kinds mid state);
     sound = subst (HasSoundNames g) (sym (join more xs ys).state) (sound mid state sound_mid);
     live = live_now;
+    known = λ inode place block at. known_now inode block (n.known inode place block at);
   }
     where
       noted_now : new.tree.noted ≡ Some (records_of more (xs ++ ys))

@@ -14,7 +14,7 @@ use Rattle.ufs_name_log.specs.Held.{HasSoundNames}
 use Rattle.ufs_name_log.specs.Laws.{ChangesJoin}
 use Rattle.ufs_name_log.specs.Noted.{NotedMayBeMade, NotesAreRecords, NotesLeadOn}
 use Rattle.ufs_name_tree.specs.Notes.{GoesNoted, IsStateOf}
-use Rattle.ufs_names.specs.NamesPart.{NamesPart}
+use Rattle.ufs_names.specs.NamesPart.{AreInodesOf, NamesPart}
 use Rattle.ufs_stored.specs.Laws.{KeepsNumbers}
 use Rattle.ufs_stored.specs.Parts.{Parts, TheNames, ThePool}
 use Rattle.ufs_stored.specs.Stored.{AreNamesStored, IsStored}
@@ -24,9 +24,9 @@ use Rattle.ufs_stored.proofs.NamesLaw.{none_or_some}
 pub notes_go_on : (g : Geometry) → NotedMayBeMade g → NotesAreRecords → NotesLeadOn → ChangesJoin g → (l : Ledger) (u : BlockSet) (start : PosixTree) (history : List Entry) (k : Counts) (p : Parts) (new : NamesPart) (lent : List ℕ) (pool : BlockSet)
     (go : GoesNoted p.names.tree new.tree pool) → geometry_of l.head ≡ g → length p.names.tree.dirs.dirs ≡ g.inodes + 1
     → ((b : ℕ) → set.contains pool b ≡ true → has lent b ≡ true) → ((b : ℕ) → has lent b ≡ true → set.contains p.pool b ≡ true)
-    → ((s : DirState) → IsStateOf p.names.tree pool s → HasSoundNames g s → HasSoundNames g (after_all go.steps s)) → KeepsNumbers k.numbers p.names new go.steps
+    → ((s : DirState) → IsStateOf p.names.tree pool s → HasSoundNames g s → HasSoundNames g (after_all go.steps s)) → KeepsNumbers k.numbers p.names new go.steps → AreInodesOf new.tree new.held
     → IsStored l u start history k p → AreNamesStored l k.numbers (p.fresh ++ lent) new
-notes_go_on g made told lead join l u start history k p new lent pool go same counted is_lent pooled sound keeps st = by st.names
+notes_go_on g made told lead join l u start history k p new lent pool go same counted is_lent pooled sound keeps inodes st = by st.names
   where
     off : (b : ℕ) → has lent b ≡ true → (v : Bool) → has p.fresh b ≡ v → has p.fresh b ≡ false
     off b is false e = e
@@ -35,4 +35,4 @@ notes_go_on g made told lead join l u start history k p new lent pool go same co
     by : AreNamesStored l k.numbers p.fresh p.names → AreNamesStored l k.numbers (p.fresh ++ lent) new
     by (inl gone) = absurd (none_or_some go.noted.before p.names.tree.noted gone go.noted.was)
     by (inr n) = inr (names_noted l k.numbers p.fresh lent p.names new pool (subst NotedMayBeMade (sym same) made) told lead (subst ChangesJoin (sym same) join) n go (counted ∙ ap (λ (h : Geometry). h.inodes + 1) (sym same)) is_lent
-        (λ b is. off b is (has p.fresh b) refl) (subst (λ (h : Geometry). (s : DirState) → IsStateOf p.names.tree pool s → HasSoundNames h s → HasSoundNames h (after_all go.steps s)) (sym same) sound) keeps)
+        (λ b is. off b is (has p.fresh b) refl) (subst (λ (h : Geometry). (s : DirState) → IsStateOf p.names.tree pool s → HasSoundNames h s → HasSoundNames h (after_all go.steps s)) (sym same) sound) keeps st.parts.names.inodes inodes)

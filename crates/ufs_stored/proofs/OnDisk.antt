@@ -19,7 +19,7 @@ use Rattle.ufs_stored.specs.Laws.{leaves_tree}
 use Rattle.ufs_stored.specs.OnDisk.{HasAll, HasFile, HasNames, HasStopped, IsExplainedBy, IsGoing, IsOnDisk}
 use Rattle.ufs_stored.specs.Parts.{Parts}
 use Rattle.ufs_stored.specs.Stored.{ArePartsOf}
-use Rattle.ufs_stored.proofs.Entries.{excuse_kept, excuse_leaves, ledger_kept, no_ok, still_kept, tree_left}
+use Rattle.ufs_stored.proofs.Entries.{entry_kept, excuse_kept, excuse_leaves, ledger_kept, no_ok, still_kept, tree_left}
 
 pub explained : (g : Geometry) → LedgersExplain g → (s : StoreState) (start : PosixTree) (history : List Entry) (p : Parts) → geometry_of_store s ≡ g → IsOnDisk s start history p → IsExplainedBy s start history
 explained g explains s start history p same (inl go) image left = explains s.sectors go.ledger image start history go.counts go.counts (go.formed ∙ same) (go.has.by.is.images image left) go.stored.kept
@@ -31,10 +31,10 @@ on_disk_proper g proper s start history p same (inl go) image left =
 on_disk_proper g proper s start history p same (inr st) image left = proper s.sectors st.ledger image (st.formed ∙ same) (λ other there. (st.kept.there other there).0 ∙ st.formed ∙ same) (st.has.images image left)
 
 module _ (g : Geometry) (keeps : EntriesKeep g) (s : StoreState) (start : PosixTree) (history : List Entry) (entry : Entry) (p : Parts) (same : geometry_of_store s ≡ g) (legal : IsLegal start (history ++ entry ∷ [])) where
-  -- an entry that leaves the tree, of a store that has stopped
-  stopped : tree_after start (history ++ entry ∷ []) ≡ tree_after start history → (st : HasStopped s start history p) → IsAckCovered start history entry st.now.names st.now.files → IsAckCovered start history entry st.maybe.names st.maybe.files
-      → HasStopped s start (history ++ entry ∷ []) p
-  stopped tree st now maybe = record {
+  -- an entry that leaves the parts, of a store that has stopped
+  stopped_beside : ArePartsOf p (tree_after start (history ++ entry ∷ [])) → (st : HasStopped s start history p) → IsAckCovered start history entry st.now.names st.now.files
+      → IsAckCovered start history entry st.maybe.names st.maybe.files → HasStopped s start (history ++ entry ∷ []) p
+  stopped_beside after st now maybe = record {
     stopped = st.stopped;
     ledger = st.ledger;
     now = st.now;
@@ -44,8 +44,23 @@ module _ (g : Geometry) (keeps : EntriesKeep g) (s : StoreState) (start : PosixT
     tree = st.tree;
     legal = legal;
     kept = ledger_kept g keeps st.ledger start history entry st.now st.maybe (st.formed ∙ same) st.tree legal now maybe st.kept;
-    parts = subst (ArePartsOf p) (sym tree) st.parts;
+    parts = after;
   }
+
+  -- ..and the tree
+  stopped : tree_after start (history ++ entry ∷ []) ≡ tree_after start history → (st : HasStopped s start history p) → IsAckCovered start history entry st.now.names st.now.files → IsAckCovered start history entry st.maybe.names st.maybe.files
+      → HasStopped s start (history ++ entry ∷ []) p
+  stopped tree st now maybe = stopped_beside (subst (ArePartsOf p) (sym tree) st.parts) st now maybe
+
+  pub stays_beside : OthersAcknowledgeNothing → (is_ok entry.reply ≡ false) ⊎ (asks_commit entry.op ≡ false) → ArePartsOf p (tree_after start (history ++ entry ∷ [])) → IsOnDisk s start history p → IsOnDisk s start (history ++ entry ∷ []) p
+  stays_beside others nothing after (inl go) = inl (record {
+    ledger = go.ledger;
+    counts = go.counts;
+    has = go.has;
+    formed = go.formed;
+    stored = entry_kept g keeps go.ledger s.unassigned.free start history entry go.counts p (go.formed ∙ same) legal (others start history entry go.counts.names go.counts.files nothing) after go.stored;
+  })
+  stays_beside others nothing after (inr st) = inr (stopped_beside after st (others start history entry st.now.names st.now.files nothing) (others start history entry st.maybe.names st.maybe.files nothing))
 
   pub excused : OthersAcknowledgeNothing → is_excused entry.reply ≡ true → IsOnDisk s start history p → IsOnDisk s start (history ++ entry ∷ []) p
   excused others is (inl go) = inl (record {

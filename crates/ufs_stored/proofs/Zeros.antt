@@ -170,6 +170,7 @@ module _ (l : Ledger) (u : BlockSet) (start : PosixTree) (history : List Entry) 
           kinds = n.kinds;
           sound = n.sound;
           live = n.live;
+          known = λ inode place other at. n.known inode place other (record { in_range = at.in_range; there = at.there });
         })
 
     pub spelled_stored : IsLedgerKept m start history k k → IsStored m u start history k p

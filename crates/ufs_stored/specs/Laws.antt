@@ -34,7 +34,7 @@ use Rattle.ufs_name_log.specs.Laws.{AreOlder}
 use Rattle.ufs_name_tree.specs.NameTable.{IsNameTable}
 use Rattle.ufs_name_tree.specs.Notes.{GoesNoted, IsStateOf, is_touched}
 use Rattle.ufs_names.specs.Calls.{no_bytes}
-use Rattle.ufs_names.specs.NamesPart.{NamesPart}
+use Rattle.ufs_names.specs.NamesPart.{AreInodesOf, NamesPart}
 use Rattle.ufs_names_ledger.specs.Numbers.{numbers_of}
 use Rattle.ufs_prefix.specs.Changes.{asks_commit, changes_of, name_changes}
 use Rattle.ufs_prefix.specs.Explained.{IsAckCovered}
@@ -221,7 +221,7 @@ abbrev pub NotesGoOn : Geometry → Type 0
 NotesGoOn g = (l : Ledger) (unassigned : BlockSet) (start : PosixTree) (history : List Entry) (counts : Counts) (p : Parts) (new : NamesPart) (lent : List ℕ) (pool : BlockSet) (go : GoesNoted p.names.tree new.tree pool) → geometry_of l.head ≡ g
     → length p.names.tree.dirs.dirs ≡ g.inodes + 1
     → ((block : ℕ) → set.contains pool block ≡ true → has lent block ≡ true) → ((block : ℕ) → has lent block ≡ true → set.contains p.pool block ≡ true)
-    → ((s : DirState) → IsStateOf p.names.tree pool s → HasSoundNames g s → HasSoundNames g (after_all go.steps s)) → KeepsNumbers counts.numbers p.names new go.steps
+    → ((s : DirState) → IsStateOf p.names.tree pool s → HasSoundNames g s → HasSoundNames g (after_all go.steps s)) → KeepsNumbers counts.numbers p.names new go.steps → AreInodesOf new.tree new.held
     → IsStored l unassigned start history counts p → AreNamesStored l counts.numbers (p.fresh ++ lent) new
 
 -- ---- an entry of the names

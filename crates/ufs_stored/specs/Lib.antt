@@ -4,3 +4,4 @@ pub mod Laws
 pub mod Sound
 pub mod OnDisk
 pub mod OnDiskLaws
+pub mod AlwaysLaws

@@ -1,8 +1,11 @@
 -- When a server's disk keeps its promise, also once its store has stopped.
-use Rattle.std.specs.Prelude.{ℕ, ◌≡◌, ◌≤◌, ◌⊎◌, List, IsSome, length, true}
+use Rattle.std.specs.Prelude.{ℕ, ◌≡◌, ◌≤◌, ◌⊎◌, Bool, List, IsSome, length, true}
 use Rattle.std.specs.FinMap as map
+use Rattle.ufs_base.specs.Images.{Image}
 use Rattle.ufs_bitmap.specs.Taking.{has}
 use Rattle.ufs_disk.specs.Disk.{Leaves}
+use Rattle.ufs_disk.specs.Moments.{LeavesOnly, Moments}
+use Rattle.ufs_image.specs.Proper.{IsProperImage}
 use Rattle.ufs_layout.specs.Superblock.{geometry_of}
 use Rattle.ufs_ledger.specs.Kept.{Counts, IsLedgerKept, OpensExplained}
 use Rattle.ufs_ledger.specs.Ledger.{IsLedgerOf, Ledger}
@@ -42,6 +45,15 @@ IsOnDisk s start history p = IsGoing s start history p ⊎ HasStopped s start hi
 -- The history explains whatever a crash leaves of the disk as it is.
 abbrev pub IsExplainedBy : StoreState → PosixTree → List Entry → Type 0
 IsExplainedBy s start history = Leaves (OpensExplained s.sectors start history) s.moments.state
+
+-- It opens to a tree that the history explains, and is proper.
+pub record IsExplainedImage (sectors : ℕ) (start : PosixTree) (history : List Entry) (image : Image) : Type 0 where
+  pub explained : OpensExplained sectors start history image
+  pub proper : IsProperImage sectors image
+
+-- At each moment from the one to the other the history explains whatever a crash leaves.
+abbrev pub IsExplainedBetween : Bool → ℕ → PosixTree → List Entry → Moments → Moments → Type 0
+IsExplainedBetween keeps sectors start history old new = LeavesOnly keeps (IsExplainedImage sectors start history) old new
 
 -- ---- what stands on the disk for good
 

@@ -1,5 +1,5 @@
 -- What keeps a server on its disk, also once its store has stopped.
-use Rattle.std.specs.Prelude.{ℕ, ◌≡◌, List, [], ◌∷◌, ◌++◌, IsSome, true, false, Some, None}
+use Rattle.std.specs.Prelude.{ℕ, ◌≡◌, ◌⊎◌, List, [], ◌∷◌, ◌++◌, IsSome, true, false, Some, None}
 use Rattle.ufs_bitmap.specs.Taking.{has}
 use Rattle.ufs_disk.specs.Disk.{Leaves}
 use Rattle.ufs_image.specs.Proper.{IsProperImage}
@@ -21,7 +21,7 @@ use Rattle.ufs_store.specs.State.{StoreState, geometry_of_store, next_commit}
 use Rattle.ufs_stored.specs.Laws.{leaves_tree}
 use Rattle.ufs_stored.specs.OnDisk.{HasAll, HasFile, HasNames, HasStopped, IsExplainedBy, IsOnDisk}
 use Rattle.ufs_stored.specs.Parts.{Parts}
-use Rattle.ufs_stored.specs.Stored.{IsStored}
+use Rattle.ufs_stored.specs.Stored.{ArePartsOf, IsStored}
 
 -- ---- what a crash leaves
 
@@ -49,6 +49,12 @@ OnDiskStaysStill g = (s : StoreState) (start : PosixTree) (history : List Entry)
 abbrev pub OnDiskIsRefused : Geometry → Type 0
 OnDiskIsRefused g = (s : StoreState) (start : PosixTree) (history : List Entry) (entry : Entry) (p : Parts) → geometry_of_store s ≡ g
     → IsLegal start (history ++ entry ∷ []) → leaves_tree entry.op ≡ true → is_ok entry.reply ≡ false → IsOnDisk s start history p → IsOnDisk s start (history ++ entry ∷ []) p
+
+-- One that leaves the parts as they are and acknowledges nothing: a client's own answer.
+abbrev pub OnDiskStaysBeside : Geometry → Type 0
+OnDiskStaysBeside g = (s : StoreState) (start : PosixTree) (history : List Entry) (entry : Entry) (p : Parts) → geometry_of_store s ≡ g
+    → IsLegal start (history ++ entry ∷ []) → (is_ok entry.reply ≡ false) ⊎ (asks_commit entry.op ≡ false) → ArePartsOf p (tree_after start (history ++ entry ∷ []))
+    → IsOnDisk s start history p → IsOnDisk s start (history ++ entry ∷ []) p
 
 -- An `fsync` of a directory, where all changes of names stand on the disk,
 abbrev pub NamesAreSynced : Geometry → Type 0

@@ -19,9 +19,10 @@ use Rattle.ufs_model.specs.PosixTree.{IsTree, PosixTree}
 use Rattle.ufs_model.specs.declared.data.Entry.{Entry}
 use Rattle.ufs_name_log.specs.Files.{KeepsInode}
 use Rattle.ufs_name_log.specs.Held.{HasSoundNames, HasState, MaySteps}
+use Rattle.ufs_dir_tree.specs.DirTable.{blocks_at}
 use Rattle.ufs_dir_tree.specs.Steps.{DirState, Step, after_all}
 use Rattle.ufs_name_log.specs.Steps.{records_of}
-use Rattle.ufs_name_tree.specs.Notes.{AreKindsOf}
+use Rattle.ufs_name_tree.specs.Notes.{AreKindsOf, is_touched}
 use Rattle.ufs_names.specs.Calls.{HaveInodes}
 use Rattle.ufs_names.specs.NamesPart.{IsPartOf, NamesPart}
 use Rattle.ufs_names_ledger.specs.Numbers.{numbers_of}
@@ -41,8 +42,15 @@ with_fresh fresh d = record d { zeroed = has fresh }
 abbrev pub with_none : DirState → DirState
 with_none d = record d { zeroed = λ _. false }
 
+-- The inode has this block on the disk as the names know it: as a directory does that has the block still, or as a live file; or the
+-- steps give the inode another form.
+abbrev pub IsKnownBlock : Numbers → NamesPart → List Step → (inode block : ℕ) → Type 0
+IsKnownBlock numbers n xs inode block =
+    (is_touched xs inode ≡ true)
+    ⊎ ((has (blocks_at n.tree.dirs inode) block ≡ true) ⊎ ((file : ℕ) × IsSome (map.get n.held file) × (numbers.inode file ≡ Some inode)))
+
 -- The disk has directories from which the noted records lead to the server's, once the fresh blocks are zeros; and each live file
--- keeps the inode that it has on the disk, or has one that the records give it.
+-- keeps the inode that it has on the disk, or has one that the records give it. No other inode has a block.
 pub record AreNamesNoted (l : Ledger) (numbers : Numbers) (fresh : List ℕ) (n : NamesPart) : Type 0 where
   pub committed : DirState
   pub steps : List Step
@@ -53,6 +61,7 @@ pub record AreNamesNoted (l : Ledger) (numbers : Numbers) (fresh : List ℕ) (n 
   pub kinds : AreKindsOf n.tree (after_all steps (with_fresh fresh committed)).kinds
   pub sound : HasSoundNames (geometry_of l.head) (after_all steps (with_fresh fresh committed))
   pub live : (file : ℕ) → IsSome (map.get n.held file) → KeepsInode steps numbers (numbers_of n) file
+  pub known : (inode place block : ℕ) → HasBlock (geometry_of l.head) l.now.catalog inode place block → IsKnownBlock numbers n steps inode block
 
 -- Where memory ran out for a note nothing is noted, and no names are committed any more.
 abbrev pub AreNamesStored : Ledger → Numbers → List ℕ → NamesPart → Type 0

@@ -1,6 +1,7 @@
 // Laws of the definitions, each the contract of a function that does nothing.
 ghost use Rattle.ufs_layout.specs.Areas.{IsGeometry};
-ghost use Rattle.ufs_stored.specs.OnDiskLaws.{AllIsSynced, BarriersStop, CheckpointsStop, CommitsStop, FileIsSynced, NamesAreSynced, OnDiskIsExcused, OnDiskIsExplained, OnDiskIsProper, OnDiskIsRefused, OnDiskStaysStill, WritesStop};
+ghost use Rattle.ufs_stored.specs.AlwaysLaws.{CheckpointsAreExplained, CommitsAreExplained, LedgersAreExplained, RestIsExplained, StagesAreExplained};
+ghost use Rattle.ufs_stored.specs.OnDiskLaws.{AllIsSynced, BarriersStop, CheckpointsStop, CommitsStop, FileIsSynced, NamesAreSynced, OnDiskIsExcused, OnDiskIsExplained, OnDiskIsProper, OnDiskIsRefused, OnDiskStaysBeside, OnDiskStaysStill, WritesStop};
 ghost use Rattle.ufs_stored.specs.Laws.{BlocksMove, CallsAreExplained, DirFsyncsKeep, EmptiedIsStored, ExcusesKeep, FileEntriesKeep, FilesAreCommitted, FilesAreSettled, FsyncsKeep, NameEntriesKeep, NamesAreCommitted, NamesAreCommitting, NamesMayCommit, NotesGoOn, QuietEntriesKeep, SettledIsStored, SpelledIsStored, StillEntriesKeep, StoredIsExplained, SyncsKeep, WrittenIsStored};
 
 use ufs_durable::{committing_law, others_law, standing_law};
@@ -113,6 +114,7 @@ pub fn on_disk_law(geometry: &Geometry)
     ensures excused { OnDiskIsExcused geometry.now }
     ensures still { OnDiskStaysStill geometry.now }
     ensures refused { OnDiskIsRefused geometry.now }
+    ensures beside { OnDiskStaysBeside geometry.now }
     ensures names_synced { NamesAreSynced geometry.now }
     ensures file_synced { FileIsSynced geometry.now }
     ensures all_synced { AllIsSynced geometry.now }
@@ -131,5 +133,19 @@ pub fn stopping_law(geometry: &Geometry)
     ensures checkpoint { CheckpointsStop geometry.now }
     ensures commit { CommitsStop geometry.now }
 {
+    promise_law(geometry);
+}
+
+/// At each moment of calls of a store, whatever a crash leaves is explained and proper.
+pub fn always_law(geometry: &Geometry)
+    requires { IsGeometry geometry.now }
+    ensures ledger { LedgersAreExplained geometry.now }
+    ensures stages { StagesAreExplained geometry.now }
+    ensures checkpoint { CheckpointsAreExplained geometry.now }
+    ensures commit { CommitsAreExplained geometry.now }
+    ensures rest { RestIsExplained geometry.now }
+{
+    opening_law(geometry);
+    proper_law(geometry);
     promise_law(geometry);
 }

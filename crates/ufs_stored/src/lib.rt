@@ -4,6 +4,6 @@
 mod laws;
 
 pub use laws::{
-    entry_law, file_commit_law, file_entry_law, names_commit_law, notes_law, on_disk_law, pool_law,
-    ready_law, stopping_law, stored_explains, sync_law,
+    always_law, entry_law, file_commit_law, file_entry_law, names_commit_law, notes_law,
+    on_disk_law, pool_law, ready_law, stopping_law, stored_explains, sync_law,
 };

@@ -24,28 +24,10 @@ use Rattle.ufs_stored.specs.OnDisk.{IsGoing}
 use Rattle.ufs_stored.specs.Parts.{Parts, TheNames, durable_in}
 use Rattle.ufs_stored.specs.Stored.{AreNamesNoted, AreNamesStored, IsFileStored, IsFileWhole, IsSpelled, IsStored, with_born}
 use Rattle.ufs_synced.specs.Ready.{HasZeros}
+use Rattle.ufs_synced.proofs.Fewer.{fewer_known, fewer_stored, file_block}
 
 clash : (b : Bool) → b ≡ true → b ≡ false → ⊥
 clash b is off = let no = sym is ∙ off in cc
-
--- ---- fewer blocks in which dentries may be set
-
-module _ (l : Ledger) (dirs : ℕ → Bool) (less : (block : ℕ) → IsTrue (dirs block) → IsTrue (l.now.dirs block)) where
-  abbrev m : Ledger
-  m = record l { now = with_dirs dirs l.now }
-
-  file_block : (block : ℕ) → IsFileBlock l block → IsFileBlock m block
-  file_block block was = record { data_block = was.data_block; no_dir = λ is. was.no_dir (less block is); unheld = was.unheld }
-
-  stands : (f : DurableState) → StandsFor l f → StandsFor m f
-  stands f stood = record {
-    in_range = stood.in_range;
-    kind = stood.kind;
-    size = stood.size;
-    extents = stood.extents;
-    blocks = λ place block at. file_block block (stood.blocks place block at);
-    clean = stood.clean;
-  }
 
 -- ---- none of those that directories took
 
@@ -74,62 +56,7 @@ module _ (s : StoreState) (l : Ledger) (u : BlockSet) (start : PosixTree) (histo
       by false apart = ap (λ (b : Bool). if b then false else l.now.dirs block) apart ∙ all block is
 
   pub plain_known : LedgersAreSound → HasLedger s plain
-  plain_known sound = record {
-    going = led.going;
-    by = record {
-      is = shrinks s.sectors s.moments.state l off led.by.none led.by.is fewer (covers (sound s.sectors s.moments.state l led.by.none led.by.is).1);
-      none = led.by.none;
-      in_use = led.by.in_use;
-      geometry = led.by.geometry;
-      epoch = led.by.epoch;
-      later = led.by.later;
-      ready = led.by.ready;
-    };
-    headed = led.headed;
-    added = led.added;
-    numbered = led.numbered;
-    unused = led.unused;
-    settled = led.settled;
-    older = led.older;
-    fits = led.fits;
-  }
-
-  kept : IsLedgerKept plain start history k k
-  kept = record {
-    here = record {
-      stored = record {
-        made = st.kept.here.stored.made;
-        paths = st.kept.here.stored.paths;
-        inodes = st.kept.here.stored.inodes;
-        unheld = st.kept.here.stored.unheld;
-        shown = st.kept.here.stored.shown;
-        fresh = st.kept.here.stored.fresh;
-      };
-      covers = st.kept.here.covers;
-    };
-    there = st.kept.there;
-  }
-
-  names : AreNamesStored l k.numbers p.fresh p.names → AreNamesStored plain k.numbers p.fresh p.names
-  names (inl none) = inl none
-  names (inr n) = inr (record {
-    committed = n.committed;
-    steps = n.steps;
-    has = n.has;
-    noted = n.noted;
-    may = n.may;
-    dirs = n.dirs;
-    kinds = n.kinds;
-    sound = n.sound;
-    live = n.live;
-  })
-
-  stored : (f : DurableState) → IsFileStored l k.numbers f → IsFileStored plain k.numbers f
-  stored f (inl both) = inl (both.0, stands l off fewer f both.1)
-  stored f (inr both) = inr (both.0, stands (with_born f.file.inode l) off fewer f both.1)
-
-  whole : (f : DurableState) → IsFileWhole l k.numbers f → IsFileWhole plain k.numbers f
-  whole f was = record { noted = was.noted; once = was.once; own = was.own; stored = stored f was.stored }
+  plain_known sound = fewer_known s l off fewer led (covers (sound s.sectors s.moments.state l led.by.none led.by.is).1)
 
   pub free : (block : ℕ) → has p.fresh block ≡ true → IsFileBlock plain block
   free block fresh = by (st.spaced.fresh block fresh)
@@ -139,22 +66,7 @@ module _ (s : StoreState) (l : Ledger) (u : BlockSet) (start : PosixTree) (histo
       by (inr is) = record { data_block = is.data_block; no_dir = never block fresh; unheld = is.unheld }
 
   pub plain_stored : IsStored plain u start history k p
-  plain_stored = record {
-    tree = st.tree;
-    legal = st.legal;
-    kept = kept;
-    parts = st.parts;
-    names = names st.names;
-    counted = st.counted;
-    each = λ file f here. whole (durable_in p.commits f) (st.each file f here);
-    spaced = record {
-      apart = st.spaced.apart;
-      usable = λ owner block not owns. file_block l off fewer block (st.spaced.usable owner block not owns);
-      fresh = λ block fresh. inl (free block fresh);
-      unheld = st.spaced.unheld;
-      held = st.spaced.held;
-    };
-  }
+  plain_stored = fewer_stored l off fewer u start history k p st (λ block fresh. inl (free block fresh))
 
 pub zeros_begin : LedgersAreSound → (s : StoreState) (start : PosixTree) (history : List Entry) (p : Parts) → IsGoing s start history p → HasZeros s start history p []
 zeros_begin sound s start history p go = record {

@@ -1,29 +1,27 @@
 -- The names are committed.
-use Rattle.std.proofs.Common.{◌≡◌, ℕ, ◌<◌, ◌≤◌, ◌^◌, ◌⊎◌, inl, inr, Bool, true, false, List, Some, None, length, ap, sym, refl, ◌∙◌, subst, arith}
+use Rattle.std.proofs.Common.{◌≡◌, ℕ, ◌⊎◌, inl, inr, Bool, true, false, List, Some, ap, sym, refl, ◌∙◌, subst, arith}
 use Rattle.std.specs.Prelude.{IsSome, if◌then◌else◌}
 use Rattle.ufs_bitmap.specs.Space.{Space}
 use Rattle.ufs_bitmap.specs.Taking.{has}
-use Rattle.ufs_disk.specs.Moments.{reads}
+use Rattle.ufs_disk.specs.Moments.{LeavesOnly, Moments, reads}
 use Rattle.ufs_image.specs.Catalog.{IsInode}
 use Rattle.ufs_image.specs.Images.{block_at}
-use Rattle.ufs_image.specs.Sound.{IsSoundCatalog}
 use Rattle.ufs_layout.specs.Superblock.{geometry_of}
 use Rattle.ufs_layout.specs.declared.geometry.Geometry.{Geometry}
-use Rattle.ufs_layout.specs.declared.records.Committed.{Committed}
 use Rattle.ufs_layout.specs.declared.records.LogRecord.{LogRecord}
-use Rattle.ufs_ledger.specs.Changes.{MayCommit, committed_one, committing, home_of, settled}
-use Rattle.ufs_ledger.specs.Kept.{Counts, IsLedgerKept}
+use Rattle.ufs_ledger.specs.Changes.{MayCommit, home_of}
+use Rattle.ufs_ledger.specs.Kept.{Counts}
 use Rattle.ufs_ledger.specs.Laws.{LedgersAreSound}
 use Rattle.ufs_ledger.specs.Ledger.{CoversDirs, IsDataBlock, Ledger}
 use Rattle.ufs_model.specs.PosixTree.{PosixTree}
 use Rattle.ufs_model.specs.declared.data.Entry.{Entry}
 use Rattle.ufs_name_log.specs.Laws.{AreOlder}
 use Rattle.ufs_name_tree.specs.NameTable.{IsNameTable}
-use Rattle.ufs_prefix.specs.Changes.{name_changes}
-use Rattle.ufs_store.specs.Ledgers.{HasAny, HasLedger, MayCommitNext, after_commit, checkpointed, stages, with_room}
+use Rattle.ufs_store.specs.Ledgers.{HasAny, HasLedger, IsLeftByAny, MayCommitNext, after_commit, checkpointed, stages, with_room}
 use Rattle.ufs_store.specs.State.{StoreState, geometry_of_store, has_room, next_commit, next_head}
+use Rattle.ufs_stored.specs.AlwaysLaws.{CommitsAreExplained}
 use Rattle.ufs_stored.specs.Laws.{EmptiedIsStored, HasNamesToCommit, NamesAreCommitted, NamesAreCommitting, NamesMayCommit, all_named, with_names_committed}
-use Rattle.ufs_stored.specs.OnDisk.{HasNames, HasStopped, IsGoing}
+use Rattle.ufs_stored.specs.OnDisk.{HasNames, HasStopped, IsExplainedBetween, IsGoing}
 use Rattle.ufs_stored.specs.OnDiskLaws.{CommitsStop}
 use Rattle.ufs_stored.specs.Parts.{Parts}
 use Rattle.ufs_stored.specs.Stored.{IsSpelled, IsStored}
@@ -119,3 +117,14 @@ module _ (g : Geometry) (old new : StoreState) (start : PosixTree) (history : Li
       stops empties meanwhile stop stopped leaves =
           stop old new records l start history k (all_named start history p.names k) p beside.new_form formed stopped led (leaves l led may)
           (meanwhile (with_room old records l) old.unassigned.free start history k p old.journal.number records room_to_commit (room_stored empties records)) (moved l k p h.stored)
+
+-- at each moment of the commit
+pub names_explained : (g : Geometry) → LedgersAreSound → NamesMayCommit g → EmptiedIsStored g → NamesAreCommitting g → CommitsAreExplained g → (keeps : Bool) (s : StoreState) (new : Moments) (start : PosixTree) (history : List Entry) (p : Parts)
+    (records : List LogRecord) → geometry_of_store s ≡ g → p.names.tree.noted ≡ Some records → IsNameTable p.names.tree
+    → ((m : Ledger) → HasLedger s m → MayCommitNext s records m → LeavesOnly keeps (IsLeftByAny s.sectors (stages s records m)) s.moments new) → HasSpelled s start history p → IsExplainedBetween keeps s.sectors start history s.moments new
+names_explained g sound mays empties meanwhile explained keeps s new start history p records same noted table run h =
+    let beside : IsBeside g s s = record { old_form = same; new_form = same; unassigned = refl } in
+    explained keeps s records s.moments new h.ledger start history h.counts (all_named start history p.names h.counts) (h.formed ∙ same) h.knows.headed h.stored.kept
+    (meanwhile (with_room s records h.ledger) s.unassigned.free start history h.counts p s.journal.number records (room_to_commit g s s start history p beside h records noted table)
+    (room_stored g s s start history p beside h empties records))
+    (run h.ledger h.knows (may g s s start history p beside h records noted table sound mays))

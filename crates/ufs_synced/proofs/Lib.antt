@@ -1,4 +1,6 @@
+mod Fewer
 mod Beginning
+mod Reclaiming
 mod Writing
 mod Joining
 mod Committing

@@ -34,11 +34,11 @@ use Rattle.ufs_store.specs.State.{StoreState, geometry_of_store}
 use Rattle.ufs_stored.specs.Laws.{all_named, with_names_committed}
 use Rattle.ufs_stored.specs.OnDisk.{HasNames, IsGoing}
 use Rattle.ufs_stored.specs.Parts.{NamesOwn, Parts, durable_in}
-use Rattle.ufs_stored.specs.Stored.{AreNamesNoted, AreNamesStored, FileHasIt, IsFileStored, IsFileWhole, IsStored, with_fresh, with_none}
+use Rattle.ufs_stored.specs.Stored.{AreNamesNoted, AreNamesStored, FileHasIt, IsFileStored, IsFileWhole, IsKnownBlock, IsStored, with_fresh, with_none}
 use Rattle.ufs_stored.proofs.Numbered.{alone_now, born_now, has_inode, live, names_now, numbered}
 use Rattle.ufs_stored.proofs.Unfresh.{before, never, part_committed, sound_zeroed}
 
-no_steps : (d : DirState) (xs : List Step) → records_of d xs ≡ [] → xs ≡ []
+pub no_steps : (d : DirState) (xs : List Step) → records_of d xs ≡ [] → xs ≡ []
 no_steps d [] none = refl
 no_steps d (x ∷ xs) none = (let no = none in cc)
 
@@ -133,7 +133,17 @@ module _ (l : Ledger) (u : BlockSet) (start : PosixTree) (history : List Entry) 
     kinds = record { dir = kinds.dir; file = kinds.file; free = kinds.free };
     sound = sound_zeroed g d (has []) sound;
     live = λ file is. inl (refl, λ inode at. refl);
+    known = λ inode place block at. known_now inode block (subst (λ (xs : List Step). IsKnownBlock k.numbers p.names xs inode block) empty (n.known inode place block at));
   }
+    where
+      known_now : (inode block : ℕ) → IsKnownBlock k.numbers p.names [] inode block → IsKnownBlock (numbers_of p.names) p2.names [] inode block
+      known_now inode block (inl on) = (let no = on in absurd cc)
+      known_now inode block (inr (inl dir)) = inr (inl dir)
+      known_now inode block (inr (inr file)) = by (keeps file.0 file.1)
+        where
+          by : KeepsInode [] k.numbers (numbers_of p.names) file.0 → IsKnownBlock (numbers_of p.names) p2.names [] inode block
+          by (inl same) = inr (inr (file.0, file.1, same.0 ∙ file.2))
+          by (inr new) = (let clash = sym new.0 ∙ file.2 in absurd cc)
 
   stored : (file : ℕ) (s : FileState) → map.get p.files file ≡ Some s → IsFileStored l k.numbers (durable_in p.commits s) → IsFileStored l (numbers_of p.names) (durable_in p.commits s)
   stored file s here was = inl (ap (numbers_of p.names).inode is ∙ mine.1, by was)

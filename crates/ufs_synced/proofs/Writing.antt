@@ -1,25 +1,27 @@
 -- Zeros are written over the blocks that directories took.
-use Rattle.std.proofs.Common.{◌≡◌, ℕ, Bool, true, false, List, [], ◌∷◌, ◌++◌, length, ap, sym, refl, ◌∙◌, subst}
+use Rattle.std.proofs.Common.{◌≡◌, ℕ, Bool, true, false, List, [], ◌∷◌, ◌++◌, ap, sym, refl, ◌∙◌, subst}
 use Rattle.std.specs.Prelude.{◌==◌, ◌||◌, IsSome, if◌then◌else◌}
 use Rattle.std.specs.FinSet as set
 use Rattle.std.proofs.lemmas.List.{length-replicate}
 use Rattle.ufs_base.specs.declared.sizes.TheConstants.{BLOCK}
-use Rattle.ufs_bitmap.specs.Blocks.{BlockSet}
 use Rattle.ufs_bitmap.specs.Space.{Space}
 use Rattle.ufs_bitmap.specs.Taking.{has}
 use Rattle.ufs_bitmap.proofs.SetLemmas.{has-insert}
 use Rattle.ufs_bitmap.proofs.TakingLemmas.{has-append, has-none}
-use Rattle.ufs_disk.specs.Disk.{Cell, possible}
+use Rattle.ufs_disk.specs.Disk.{possible}
+use Rattle.ufs_disk.specs.Moments.{LeavesOnly, Moments}
+use Rattle.ufs_disk.proofs.Runs.{started}
 use Rattle.ufs_layout.specs.declared.geometry.Geometry.{Geometry}
-use Rattle.ufs_ledger.specs.Changes.{settled, tried, written}
+use Rattle.ufs_ledger.specs.Changes.{tried, written}
 use Rattle.ufs_ledger.specs.Laws.{MayWrite}
-use Rattle.ufs_ledger.specs.Ledger.{IsLedgerOf, Ledger}
+use Rattle.ufs_ledger.specs.Ledger.{IsLedgerOf, IsLeftBy, Ledger}
 use Rattle.ufs_model.specs.PosixTree.{PosixTree}
 use Rattle.ufs_model.specs.declared.data.Entry.{Entry}
 use Rattle.ufs_store.specs.Ledgers.{HasLedger}
 use Rattle.ufs_store.specs.State.{StoreState, geometry_of_store}
+use Rattle.ufs_stored.specs.AlwaysLaws.{IsKeptLedger, LedgersAreExplained}
 use Rattle.ufs_stored.specs.Laws.{WrittenIsStored}
-use Rattle.ufs_stored.specs.OnDisk.{HasStopped}
+use Rattle.ufs_stored.specs.OnDisk.{HasStopped, IsExplainedBetween}
 use Rattle.ufs_stored.specs.OnDiskLaws.{BarriersStop, WritesStop}
 use Rattle.ufs_stored.specs.Parts.{Parts}
 use Rattle.ufs_stored.specs.Stored.{IsStored}
@@ -70,3 +72,25 @@ module _ (g : Geometry) (old new : StoreState) (start : PosixTree) (history : Li
 
   pub barrier_fails : BarriersStop g → IsSome new.stop → ((m : Ledger) → HasLedger old m → IsLedgerOf new.sectors new.moments.state m) → HasStopped new start history p
   barrier_fails stops stop leaves = stops new l start history z.counts p beside.new_form (z.formed ∙ beside.old_form) stop (leaves l z.knows) (moved l z.stored)
+
+-- ---- each moment
+
+module _ (g : Geometry) (s : StoreState) (start : PosixTree) (history : List Entry) (p : Parts) (done : List ℕ) (same : geometry_of_store s ≡ g) (z : HasZeros s start history p done) (explained : LedgersAreExplained g) (keeps : Bool) (new : Moments) where
+  here : IsKeptLedger g start history z.ledger
+  here = record { now = z.counts; maybe = z.counts; formed = z.formed ∙ same; kept = z.stored.kept }
+
+  pub zeros_explained : WrittenIsStored g → (block : ℕ) → has p.fresh block ≡ true → ((l : Ledger) → HasLedger s l → MayWrite l block zeros → LeavesOnly keeps (IsLeftBy s.sectors (written block zeros l)) s.moments new)
+      → IsExplainedBetween keeps s.sectors start history s.moments new
+  zeros_explained stored block fresh run =
+      let free = z.free block fresh in
+      let next = stored z.ledger s.unassigned.free start history z.counts p block zeros (z.formed ∙ same) z.knows.by.none fresh z.stored in
+      explained keeps s.sectors s.moments new (written block zeros z.ledger) start history (record { now = z.counts; maybe = z.counts; formed = z.formed ∙ same; kept = next.kept })
+      (run z.ledger z.knows (record { data_block = free.data_block; no_dir = free.no_dir; size = length-replicate {A = ℕ} BLOCK 0 }))
+
+  pub barrier_explained : ((l : Ledger) → HasLedger s l → LeavesOnly keeps (IsLeftBy s.sectors l) s.moments new) → IsExplainedBetween keeps s.sectors start history s.moments new
+  barrier_explained run = explained keeps s.sectors s.moments new z.ledger start history here (run z.ledger z.knows)
+
+pub zeros_stay : (g : Geometry) (keeps : Bool) (s : StoreState) (start : PosixTree) (history : List Entry) (p : Parts) (done : List ℕ) → geometry_of_store s ≡ g → HasZeros s start history p done → LedgersAreExplained g
+    → IsExplainedBetween keeps s.sectors start history s.moments s.moments
+zeros_stay g keeps s start history p done same z explained =
+    barrier_explained g s start history p done same z explained keeps s.moments (λ l knows. started keeps (IsLeftBy s.sectors l) s.moments knows.by.is.images)

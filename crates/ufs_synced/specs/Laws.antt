@@ -1,21 +1,26 @@
 -- How a server's names come to the disk.
-use Rattle.std.specs.Prelude.{ℕ, ◌≡◌, ◌⊎◌, List, [], ◌∷◌, ◌++◌, IsSome, true, false, Some}
+use Rattle.std.specs.Prelude.{ℕ, ◌≡◌, ◌⊎◌, Bool, List, [], ◌∷◌, ◌++◌, IsSome, true, Some, None}
 use Rattle.std.specs.FinMap as map
+use Rattle.std.specs.FinSet as set
+use Rattle.ufs_bitmap.specs.Blocks.{BlockSet}
 use Rattle.ufs_bitmap.specs.Taking.{has}
 use Rattle.ufs_disk.specs.Disk.{IsWhole}
+use Rattle.ufs_disk.specs.Moments.{LeavesOnly, Moments}
 use Rattle.ufs_layout.specs.declared.geometry.Geometry.{Geometry}
 use Rattle.ufs_layout.specs.declared.records.LogRecord.{LogRecord}
 use Rattle.ufs_ledger.specs.Changes.{settled, tried, written}
 use Rattle.ufs_ledger.specs.Laws.{MayWrite}
-use Rattle.ufs_ledger.specs.Ledger.{IsLedgerOf, Ledger}
+use Rattle.ufs_ledger.specs.Ledger.{IsLedgerOf, IsLeftBy, Ledger}
 use Rattle.ufs_model.specs.PosixTree.{PosixTree}
 use Rattle.ufs_model.specs.declared.data.Entry.{Entry}
 use Rattle.ufs_name_tree.specs.NameTable.{IsNameTable}
-use Rattle.ufs_store.specs.Ledgers.{HasAny, HasLedger, MayCommitNext, after_commit, checkpointed, stages}
+use Rattle.ufs_store.specs.Ledgers.{HasAny, HasLedger, IsLeftByAny, MayCommitNext, after_commit, beginning_next, checkpointed, stages}
 use Rattle.ufs_store.specs.State.{StoreState, geometry_of_store}
 use Rattle.ufs_stored.specs.Laws.{with_names_committed}
-use Rattle.ufs_stored.specs.OnDisk.{HasAll, HasFiles, HasNames, HasStopped, IsGoing}
+use Rattle.ufs_stored.specs.OnDisk.{HasAll, HasFiles, HasNames, HasStopped, IsExplainedBetween, IsGoing}
 use Rattle.ufs_stored.specs.Parts.{Parts}
+use Rattle.ufs_stored.specs.Sound.{IsSoundServer}
+use Rattle.ufs_stored.specs.Stored.{ArePartsOf}
 use Rattle.ufs_synced.specs.Ready.{HasSpelled, HasZeros, zeros}
 
 -- The second state has the first one's form and free blocks.
@@ -50,6 +55,20 @@ abbrev pub BarriersFail : Geometry → Type 0
 BarriersFail g = (old new : StoreState) (start : PosixTree) (history : List Entry) (p : Parts) (done : List ℕ) → IsBeside g old new → IsSome new.stop
     → ((l : Ledger) → HasLedger old l → IsLedgerOf new.sectors new.moments.state l) → HasZeros old start history p done → HasStopped new start history p
 
+-- At each moment of a write of zeros the history explains whatever a crash leaves,
+abbrev pub ZerosAreExplained : Geometry → Type 0
+ZerosAreExplained g = (keeps : Bool) (s : StoreState) (new : Moments) (start : PosixTree) (history : List Entry) (p : Parts) (done : List ℕ) (block : ℕ) → geometry_of_store s ≡ g → has p.fresh block ≡ true
+    → ((l : Ledger) → HasLedger s l → MayWrite l block zeros → LeavesOnly keeps (IsLeftBy s.sectors (written block zeros l)) s.moments new) → HasZeros s start history p done → IsExplainedBetween keeps s.sectors start history s.moments new
+
+-- so of the barrier behind them,
+abbrev pub BarriersAreExplained : Geometry → Type 0
+BarriersAreExplained g = (keeps : Bool) (s : StoreState) (new : Moments) (start : PosixTree) (history : List Entry) (p : Parts) (done : List ℕ) → geometry_of_store s ≡ g
+    → ((l : Ledger) → HasLedger s l → LeavesOnly keeps (IsLeftBy s.sectors l) s.moments new) → HasZeros s start history p done → IsExplainedBetween keeps s.sectors start history s.moments new
+
+-- and where no call is made.
+abbrev pub ZerosStay : Geometry → Type 0
+ZerosStay g = (keeps : Bool) (s : StoreState) (start : PosixTree) (history : List Entry) (p : Parts) (done : List ℕ) → geometry_of_store s ≡ g → HasZeros s start history p done → IsExplainedBetween keeps s.sectors start history s.moments s.moments
+
 -- ---- the commit
 
 -- The names are committed.
@@ -67,6 +86,11 @@ abbrev pub NamesWait : Geometry → Type 0
 NamesWait g = (old new : StoreState) (start : PosixTree) (history : List Entry) (p : Parts) → IsBeside g old new
     → ((l : Ledger) → HasLedger old l → HasLedger new l ⊎ HasLedger new (checkpointed old l)) → HasSpelled old start history p → IsGoing new start history p
 
+-- At each of its moments the history explains whatever a crash leaves.
+abbrev pub NamesAreExplained : Geometry → Type 0
+NamesAreExplained g = (keeps : Bool) (s : StoreState) (new : Moments) (start : PosixTree) (history : List Entry) (p : Parts) (records : List LogRecord) → geometry_of_store s ≡ g → p.names.tree.noted ≡ Some records → IsNameTable p.names.tree
+    → ((l : Ledger) → HasLedger s l → MayCommitNext s records l → LeavesOnly keeps (IsLeftByAny s.sectors (stages s records l)) s.moments new) → HasSpelled s start history p → IsExplainedBetween keeps s.sectors start history s.moments new
+
 -- Where all changes of each live file stand there too, everything does: no other file has changes that a path shows.
 abbrev pub AllAreThere : Geometry → Type 0
 AllAreThere g = (s : StoreState) (start : PosixTree) (history : List Entry) (p : Parts) (done : List ℕ) → geometry_of_store s ≡ g → ((file : ℕ) → IsSome (map.get p.names.held file) → has done file ≡ true)
@@ -75,3 +99,32 @@ AllAreThere g = (s : StoreState) (start : PosixTree) (history : List Entry) (p :
 -- Where nothing is noted all changes of names stand on the disk.
 abbrev pub NamesAreThere : Geometry → Type 0
 NamesAreThere g = (s : StoreState) (start : PosixTree) (history : List Entry) (p : Parts) → geometry_of_store s ≡ g → p.names.tree.noted ≡ Some [] → IsNameTable p.names.tree → IsGoing s start history p → HasNames s start history (with_names_committed p)
+
+-- ---- what is dropped
+
+-- Nothing of the names is noted, no block is fresh, and each live file is committed as it is.
+pub record HasNothingNoted (p : Parts) : Type 0 where
+  pub names : p.names.tree.noted ≡ Some []
+  pub fresh : p.fresh ≡ []
+  pub files : (file : ℕ) → IsSome (map.get p.names.held file) → map.get p.commits file ≡ None
+
+-- the parts once what is dropped is the pool's
+abbrev pub with_reclaimed : Parts → Parts
+with_reclaimed p = record p { pool = set.union p.pool p.dropped; dropped = set.empty }
+
+-- Then a checkpoint brings back all that is dropped: no inode on the disk has such a block, and no dentry is folded there.
+abbrev pub DroppedIsReclaimed : Geometry → Type 0
+DroppedIsReclaimed g = (old new : StoreState) (start : PosixTree) (history : List Entry) (p : Parts) → IsBeside g old new → HasNothingNoted p → IsSoundServer g old.unassigned.free p
+    → ((l : Ledger) → HasLedger old l → HasLedger new (checkpointed old l)) → IsGoing old start history p → IsGoing new start history (with_reclaimed p)
+
+-- The disk failed in the checkpoint.
+abbrev pub CheckpointsFail : Geometry → Type 0
+CheckpointsFail g = (old new : StoreState) (start : PosixTree) (history : List Entry) (p : Parts) → IsBeside g old new → IsSome new.stop
+    → ((l : Ledger) → HasLedger old l → HasAny new (l ∷ beginning_next old l ∷ [])) → IsGoing old start history p → HasStopped new start history p
+
+-- The parts are sound, and of the same tree.
+abbrev pub ReclaimedIsSound : Type 0
+ReclaimedIsSound = (g : Geometry) (unassigned : BlockSet) (p : Parts) → p.fresh ≡ [] → IsSoundServer g unassigned p → IsSoundServer g unassigned (with_reclaimed p)
+
+abbrev pub ReclaimedIsPart : Type 0
+ReclaimedIsPart = (p : Parts) (t : PosixTree) → ArePartsOf p t → ArePartsOf (with_reclaimed p) t

@@ -9,7 +9,7 @@ ghost use Rattle.ufs_store.specs.Refusals.{IsTold, fault_in, is_own};
 ghost use Rattle.ufs_store.specs.State.{geometry_of_store};
 ghost use Rattle.ufs_store.specs.declared.fault.StoreFault.TheVariants as refusal;
 ghost use Rattle.ufs_stored.specs.Laws.{with_names_committed};
-ghost use Rattle.ufs_stored.specs.OnDisk.{HasNames, IsGoing, IsOnDisk};
+ghost use Rattle.ufs_stored.specs.OnDisk.{HasNames, IsExplainedBetween, IsGoing, IsOnDisk};
 ghost use Rattle.ufs_stored.specs.Parts.{Parts};
 
 use crate::fitting::fits;
@@ -17,8 +17,9 @@ use crate::laws::names_law;
 use crate::zeros::make_ready;
 use ufs_ilog::{NameNotes, NamesLog};
 use ufs_store::{Door, StoreFault};
+use ufs_stored::always_law;
 
-/// Commits what the log has; before that directories' fresh blocks get zeros.
+// Commits what the log has; before that directories' fresh blocks get zeros.
 fn commit_log<D: Door>(door: &mut D, log: &mut NamesLog, fresh: &[u32]) -> Result<(), StoreFault>
     requires going { (D.store door.old).stop ≡ None }
     requires there { (block : ℕ) → has fresh.now block ≡ true → IsDataBlock (geometry_of_store (D.store door.old)) block }
@@ -26,6 +27,8 @@ fn commit_log<D: Door>(door: &mut D, log: &mut NamesLog, fresh: &[u32]) -> Resul
         → IsGoing (D.store door.old) start history p → HasNames (D.store door.new) start history (with_names_committed p)) }
     ensures err { IsTrue D.tells → OnErr result ((start : PosixTree) (history : List Entry) (p : Parts) → p.fresh ≡ fresh.now → p.names.tree.noted ≡ Some log.old → IsNameTable p.names.tree
         → IsGoing (D.store door.old) start history p → IsOnDisk (D.store door.new) start history p) }
+    ensures moments { IsTrue D.tells → (start : PosixTree) (history : List Entry) (p : Parts) → p.fresh ≡ fresh.now → p.names.tree.noted ≡ Some log.old → IsNameTable p.names.tree
+        → IsGoing (D.store door.old) start history p → IsExplainedBetween D.keeps (D.store door.old).sectors start history (D.store door.old).moments (D.store door.new).moments }
     ensures emptied { OnOk result (log.new ≡ []) }
     ensures kept { OnErr result (log.new ≡ log.old) }
     ensures unassigned { (D.store door.new).unassigned ≡ (D.store door.old).unassigned }
@@ -36,6 +39,7 @@ fn commit_log<D: Door>(door: &mut D, log: &mut NamesLog, fresh: &[u32]) -> Resul
     ensures refused { IfErr result (λ fault. IsTrue (is_own fault)) }
 {
     let geometry = door.geometry();
+    always_law(&geometry);
     names_law(&geometry);
     if log.records().as_slice().is_empty() {
         return Ok(());
@@ -63,6 +67,8 @@ pub fn commit_notes<D: Door>(
         → IsGoing (D.store door.old) start history p → HasNames (D.store door.new) start history (with_names_committed p)) }
     ensures err { IsTrue D.tells → OnErr result ((start : PosixTree) (history : List Entry) (p : Parts) → p.fresh ≡ fresh.now → p.names.tree.noted ≡ notes.old → IsNameTable p.names.tree
         → IsGoing (D.store door.old) start history p → IsOnDisk (D.store door.new) start history p) }
+    ensures moments { IsTrue D.tells → (start : PosixTree) (history : List Entry) (p : Parts) → p.fresh ≡ fresh.now → p.names.tree.noted ≡ notes.old → IsNameTable p.names.tree
+        → IsGoing (D.store door.old) start history p → IsExplainedBetween D.keeps (D.store door.old).sectors start history (D.store door.old).moments (D.store door.new).moments }
     ensures emptied { OnOk result (notes.new ≡ Some []) }
     ensures kept { OnErr result (notes.new ≡ notes.old) }
     ensures off { notes.old ≡ None → result ≡ Err refusal.Memory }
@@ -73,6 +79,8 @@ pub fn commit_notes<D: Door>(
     ensures stop { (D.store door.new).stop ≡ fault_in result }
     ensures refused { IfErr result (λ fault. IsTrue (is_own fault)) }
 {
+    let geometry = door.geometry();
+    always_law(&geometry);
     match notes.log() {
         Some(log) => commit_log(door, log, fresh),
         None => Err(StoreFault::Memory),

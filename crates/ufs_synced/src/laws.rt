@@ -1,6 +1,6 @@
 // Laws of the definitions, each the contract of a function that does nothing.
 ghost use Rattle.ufs_layout.specs.Areas.{IsGeometry};
-ghost use Rattle.ufs_synced.specs.Laws.{AllAreThere, BarriersFail, NamesAreThere, NamesCommit, NamesStop, NamesWait, ZerosBegin, ZerosGoOn, ZerosSettle, ZerosStop};
+ghost use Rattle.ufs_synced.specs.Laws.{AllAreThere, BarriersAreExplained, BarriersFail, CheckpointsFail, DroppedIsReclaimed, NamesAreExplained, NamesAreThere, NamesCommit, NamesStop, NamesWait, ReclaimedIsPart, ReclaimedIsSound, ZerosAreExplained, ZerosBegin, ZerosGoOn, ZerosSettle, ZerosStay, ZerosStop};
 
 use ufs_layout::Geometry;
 use ufs_ledger::{form_law, promise_law};
@@ -8,7 +8,7 @@ use ufs_model::a_request_keeps_the_tree;
 use ufs_name_log::files_law;
 use ufs_names_ledger::names_go_on_law;
 use ufs_prefix::a_history_goes_by_its_changes;
-use ufs_stored::{names_commit_law, ready_law, stopping_law};
+use ufs_stored::{always_law, names_commit_law, ready_law, stopping_law};
 
 /// The blocks that directories took are made ready for a commit of names.
 pub fn zeros_law(geometry: &Geometry)
@@ -18,8 +18,12 @@ pub fn zeros_law(geometry: &Geometry)
     ensures write_fails { ZerosStop geometry.now }
     ensures barrier { ZerosSettle geometry.now }
     ensures barrier_fails { BarriersFail geometry.now }
+    ensures write_moments { ZerosAreExplained geometry.now }
+    ensures barrier_moments { BarriersAreExplained geometry.now }
+    ensures rest { ZerosStay geometry.now }
 {
     form_law();
+    always_law(geometry);
     ready_law(geometry);
     stopping_law(geometry);
 }
@@ -31,8 +35,10 @@ pub fn names_law(geometry: &Geometry)
     ensures stop { NamesStop geometry.now }
     ensures memory { NamesWait geometry.now }
     ensures nothing { NamesAreThere geometry.now }
+    ensures moments { NamesAreExplained geometry.now }
 {
     form_law();
+    always_law(geometry);
     promise_law(geometry);
     ready_law(geometry);
     stopping_law(geometry);
@@ -50,4 +56,17 @@ pub fn all_law(geometry: &Geometry)
     promise_law(geometry);
     a_request_keeps_the_tree();
     a_history_goes_by_its_changes();
+}
+
+/// Where everything is committed, a checkpoint brings back what directories and removed files dropped.
+pub fn reclaim_law(geometry: &Geometry)
+    requires { IsGeometry geometry.now }
+    ensures reclaimed { DroppedIsReclaimed geometry.now }
+    ensures fails { CheckpointsFail geometry.now }
+    ensures sound { ReclaimedIsSound }
+    ensures parts { ReclaimedIsPart }
+{
+    form_law();
+    ready_law(geometry);
+    stopping_law(geometry);
 }

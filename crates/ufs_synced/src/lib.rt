@@ -7,4 +7,4 @@ mod laws;
 mod zeros;
 
 pub use commits::commit_notes;
-pub use laws::{all_law, names_law, zeros_law};
+pub use laws::{all_law, names_law, reclaim_law, zeros_law};

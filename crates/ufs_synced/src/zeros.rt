@@ -7,7 +7,7 @@ ghost use Rattle.ufs_model.specs.declared.data.Entry.{Entry};
 ghost use Rattle.ufs_store.specs.Refusals.{IsTold, fault_in};
 ghost use Rattle.ufs_store.specs.State.{geometry_of_store};
 ghost use Rattle.ufs_store.specs.declared.fault.StoreFault.TheVariants as refusal;
-ghost use Rattle.ufs_stored.specs.OnDisk.{HasStopped, IsGoing};
+ghost use Rattle.ufs_stored.specs.OnDisk.{HasStopped, IsExplainedBetween, IsGoing};
 ghost use Rattle.ufs_stored.specs.Parts.{Parts};
 ghost use Rattle.ufs_synced.specs.Ready.{HasSpelled, HasZeros};
 
@@ -15,7 +15,7 @@ use crate::laws::zeros_law;
 use ufs_base::BLOCK;
 use ufs_store::{Door, StoreFault};
 
-/// Writes zeros over a block that a directory took.
+// Writes zeros over a block that a directory took.
 fn write_zero<D: Door>(door: &mut D, block: u32) -> Result<(), StoreFault>
     requires going { (D.store door.old).stop ≡ None }
     requires there { IsDataBlock (geometry_of_store (D.store door.old)) block }
@@ -23,6 +23,8 @@ fn write_zero<D: Door>(door: &mut D, block: u32) -> Result<(), StoreFault>
         → HasZeros (D.store door.old) start history p done → HasZeros (D.store door.new) start history p (done ++ block ∷ [])) }
     ensures err { IsTrue D.tells → OnErr result ((start : PosixTree) (history : List Entry) (p : Parts) (done : List ℕ) → has p.fresh block ≡ true
         → HasZeros (D.store door.old) start history p done → HasStopped (D.store door.new) start history p) }
+    ensures moments { IsTrue D.tells → (start : PosixTree) (history : List Entry) (p : Parts) (done : List ℕ) → has p.fresh block ≡ true
+        → HasZeros (D.store door.old) start history p done → IsExplainedBetween D.keeps (D.store door.old).sectors start history (D.store door.old).moments (D.store door.new).moments }
     ensures passed { OnOk result (D.store door.new ≡ record (D.store door.old) { moments = (D.store door.new).moments; unsettled = (D.store door.new).unsettled }) }
     ensures rest { D.store door.new ≡ record (D.store door.old) { moments = (D.store door.new).moments; faults = (D.store door.new).faults; unsettled = (D.store door.new).unsettled; stop = (D.store door.new).stop } }
     ensures cause { IsTold (D.store door.old).faults (D.store door.new).faults (fault_in result) }
@@ -35,18 +37,22 @@ fn write_zero<D: Door>(door: &mut D, block: u32) -> Result<(), StoreFault>
     door.write_block(block, &zeros)
 }
 
-/// Writes zeros over each of these blocks.
+// Writes zeros over each of these blocks.
 fn write_zeros<D: Door>(door: &mut D, fresh: &[u32]) -> Result<(), StoreFault>
     requires going { (D.store door.old).stop ≡ None }
     requires there { (block : ℕ) → has fresh.now block ≡ true → IsDataBlock (geometry_of_store (D.store door.old)) block }
     ensures ok { IsTrue D.tells → OnOk result ((start : PosixTree) (history : List Entry) (p : Parts) → p.fresh ≡ fresh.now → HasZeros (D.store door.old) start history p [] → HasZeros (D.store door.new) start history p p.fresh) }
     ensures err { IsTrue D.tells → OnErr result ((start : PosixTree) (history : List Entry) (p : Parts) → p.fresh ≡ fresh.now → HasZeros (D.store door.old) start history p [] → HasStopped (D.store door.new) start history p) }
+    ensures moments { IsTrue D.tells → (start : PosixTree) (history : List Entry) (p : Parts) → p.fresh ≡ fresh.now → HasZeros (D.store door.old) start history p []
+        → IsExplainedBetween D.keeps (D.store door.old).sectors start history (D.store door.old).moments (D.store door.new).moments }
     ensures passed { OnOk result (D.store door.new ≡ record (D.store door.old) { moments = (D.store door.new).moments; unsettled = (D.store door.new).unsettled }) }
     ensures rest { D.store door.new ≡ record (D.store door.old) { moments = (D.store door.new).moments; faults = (D.store door.new).faults; unsettled = (D.store door.new).unsettled; stop = (D.store door.new).stop } }
     ensures cause { IsTold (D.store door.old).faults (D.store door.new).faults (fault_in result) }
     ensures stop { (D.store door.new).stop ≡ fault_in result }
     ensures refused { IfErr result (λ fault. (number : ℕ) × (fault ≡ refusal.Device number)) }
 {
+    let geometry = door.geometry();
+    zeros_law(&geometry);
     for place in 0..fresh.len() {
         write_zero(door, fresh[place])?;
     }
@@ -59,6 +65,8 @@ pub(crate) fn make_ready<D: Door>(door: &mut D, fresh: &[u32]) -> Result<(), Sto
     requires there { (block : ℕ) → has fresh.now block ≡ true → IsDataBlock (geometry_of_store (D.store door.old)) block }
     ensures ok { IsTrue D.tells → OnOk result ((start : PosixTree) (history : List Entry) (p : Parts) → p.fresh ≡ fresh.now → IsGoing (D.store door.old) start history p → HasSpelled (D.store door.new) start history p) }
     ensures err { IsTrue D.tells → OnErr result ((start : PosixTree) (history : List Entry) (p : Parts) → p.fresh ≡ fresh.now → IsGoing (D.store door.old) start history p → HasStopped (D.store door.new) start history p) }
+    ensures moments { IsTrue D.tells → (start : PosixTree) (history : List Entry) (p : Parts) → p.fresh ≡ fresh.now → IsGoing (D.store door.old) start history p
+        → IsExplainedBetween D.keeps (D.store door.old).sectors start history (D.store door.old).moments (D.store door.new).moments }
     ensures passed { OnOk result (D.store door.new ≡ record (D.store door.old) { moments = (D.store door.new).moments; unsettled = (D.store door.new).unsettled }) }
     ensures rest { D.store door.new ≡ record (D.store door.old) { moments = (D.store door.new).moments; faults = (D.store door.new).faults; unsettled = (D.store door.new).unsettled; stop = (D.store door.new).stop } }
     ensures cause { IsTold (D.store door.old).faults (D.store door.new).faults (fault_in result) }

@@ -1,5 +1,5 @@
 use Rattle.std.proofs.Common.{inl, inr}
-use Rattle.ufs_stored.proofs.OnDisk.{all_synced, excused, explained, file_synced, names_synced, on_disk_proper, stays_still}
+use Rattle.ufs_stored.proofs.OnDisk.{all_synced, excused, explained, file_synced, names_synced, on_disk_proper, stays_beside, stays_still}
 use Rattle.ufs_stored.proofs.laws.on_disk_law.Goals as goal
 
 pub returns-clause-explained : goal.returns-clause-explained
@@ -19,6 +19,10 @@ returns-clause-still c s start history entry p same legal still no_commit on_dis
 pub returns-clause-refused : goal.returns-clause-refused
 returns-clause-refused c s start history entry p same legal still no_ok on_disk =
     stays_still c.args.geometry.now c.promise_law.ensures.entry s start history entry p same legal c.an_entry_keeps_what_is_shown.ensures.other still (inl no_ok) on_disk
+
+pub returns-clause-beside : goal.returns-clause-beside
+returns-clause-beside c s start history entry p same legal nothing after on_disk =
+    stays_beside c.args.geometry.now c.promise_law.ensures.entry s start history entry p same legal c.an_entry_keeps_what_is_shown.ensures.other nothing after on_disk
 
 pub returns-clause-names_synced : goal.returns-clause-names_synced
 returns-clause-names_synced c s start history entry p fd same legal is named has =

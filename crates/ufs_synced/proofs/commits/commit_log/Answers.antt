@@ -1,4 +1,4 @@
-use Rattle.std.proofs.Common.{◌≡◌, ◌≢◌, ◌∙◌, ℕ, true, false, inl, inr, List, [], ap, eqb-true, length, refl, sym, subst}
+use Rattle.std.proofs.Common.{◌≡◌, ◌≢◌, ◌∙◌, true, false, inl, inr, List, [], ap, eqb-true, length, refl, sym, subst}
 use Rattle.std.specs.Prelude.{◌==◌, Err, IfErr, IsSome, IsTrue, OnErr, Some}
 use Rattle.std.proofs.lemmas.List.{nil_from_length}
 use Rattle.std.proofs.lemmas.Result.{err_from_is_err_and}
@@ -8,9 +8,9 @@ use Rattle.ufs_model.specs.declared.data.Entry.{Entry}
 use Rattle.ufs_name_tree.specs.NameTable.{IsNameTable}
 use Rattle.ufs_store.specs.Refusals.{fault_in, is_no_space, is_own}
 use Rattle.ufs_store.specs.State.{StoreState, geometry_of_store}
-use Rattle.ufs_store.specs.declared.fault.StoreFault.TheVariants as refusal
 use Rattle.ufs_stored.specs.OnDisk.{IsGoing, IsOnDisk}
 use Rattle.ufs_stored.specs.Parts.{Parts}
+use Rattle.ufs_stored.proofs.Stretches.{explained_joined}
 use Rattle.ufs_synced.specs.Laws.{IsBeside}
 use Rattle.ufs_synced.proofs.Stops.{commit_err, from_err, own_alone, stop_is}
 use Rattle.ufs_synced.proofs.commits.commit_log.Goals as goal
@@ -62,3 +62,44 @@ returns-in_err-commit_names-clause-refused g c =
     subst (λ r. IfErr r (λ fault. IsTrue (is_own fault))) (sym p.1)
     (own_alone p.0 (subst (λ r. IfErr r (λ fault. is_no_space fault ≡ false)) failed c.commit_names.ensures.refused)
     (λ fault e. let clash = sym going ∙ (c.commit_names.ensures.stopped fault).0 (failed ∙ ap Err e) in cc))
+
+pub returns-then-is_empty-clause-moments : goal.returns-then-is_empty-clause-moments
+returns-then-is_empty-clause-moments g c told start history p same noted table go =
+    c.always_law.ensures.rest g.D.Door.keeps (g.D.Door.store c.args.door.now) start history p (sym c.geometry-geometry.ensures.is) (inl go)
+
+pub returns-clause-moments : goal.returns-clause-moments
+returns-clause-moments g c told start history p same noted table go =
+    let old = g.D.Door.store c.args.door.now in
+    let mid = g.D.Door.store c.make_ready.new.door in
+    let new = g.D.Door.store c.commit_names.new.self in
+    let form = ap geometry_of_store c.make_ready.ensures.rest ∙ sym c.geometry-geometry.ensures.is in
+    let is = c.as_slice.ensures ∙ c.records.ensures.records in
+    let some : c.args.log.now ≢ [] = λ e.
+    let on : (length c.args.log.now == 0) ≡ true = ap (λ (xs : List LogRecord). length xs == 0) e in
+    let off : (length c.args.log.now == 0) ≡ false = ap (λ (xs : List LogRecord). length xs == 0) (sym is) ∙ sym c.is_empty.ensures ∙ c.if-is_empty.false in
+    let clash = sym on ∙ off in cc in
+    explained_joined g.D.Door.keeps start history old.sectors old.moments mid new.moments (ap (λ (s : StoreState). s.sectors) c.make_ready.ensures.rest)
+    (c.make_ready.ensures.moments told start history p same go)
+    (c.names_law.ensures.moments g.D.Door.keeps mid new.moments start history p c.args.log.now form noted table (c.commit_names.ensures.crash told some) (c.in_ok-make_ready.ensures.ok told start history p same go))
+
+pub returns-in_err-commit_names-clause-moments : goal.returns-in_err-commit_names-clause-moments
+returns-in_err-commit_names-clause-moments g c told start history p same noted table go =
+    let old = g.D.Door.store c.args.door.now in
+    let mid = g.D.Door.store c.make_ready.new.door in
+    let new = g.D.Door.store c.commit_names.new.self in
+    let form = ap geometry_of_store c.make_ready.ensures.rest ∙ sym c.geometry-geometry.ensures.is in
+    let is = c.as_slice.ensures ∙ c.records.ensures.records in
+    let some : c.args.log.now ≢ [] = λ e.
+    let on : (length c.args.log.now == 0) ≡ true = ap (λ (xs : List LogRecord). length xs == 0) e in
+    let off : (length c.args.log.now == 0) ≡ false = ap (λ (xs : List LogRecord). length xs == 0) (sym is) ∙ sym c.is_empty.ensures ∙ c.if-is_empty.false in
+    let clash = sym on ∙ off in cc in
+    explained_joined g.D.Door.keeps start history old.sectors old.moments mid new.moments (ap (λ (s : StoreState). s.sectors) c.make_ready.ensures.rest)
+    (c.make_ready.ensures.moments told start history p same go)
+    (c.names_law.ensures.moments g.D.Door.keeps mid new.moments start history p c.args.log.now form noted table (c.commit_names.ensures.crash told some) (c.in_ok-make_ready.ensures.ok told start history p same go))
+
+pub returns-then-not-fits-clause-moments : goal.returns-then-not-fits-clause-moments
+returns-then-not-fits-clause-moments g c told start history p same noted table go =
+    c.always_law.ensures.rest g.D.Door.keeps (g.D.Door.store c.args.door.now) start history p (sym c.geometry-geometry.ensures.is) (inl go)
+
+pub returns-in_err-make_ready-clause-moments : goal.returns-in_err-make_ready-clause-moments
+returns-in_err-make_ready-clause-moments g c told start history p same noted table go = c.make_ready.ensures.moments told start history p same go

@@ -1,7 +1,6 @@
-use Rattle.std.proofs.Common.{◌≡◌, ◌∙◌, ℕ, List, ap, sym, subst}
+use Rattle.std.proofs.Common.{◌≡◌, ◌∙◌, List, ap, sym, subst}
 use Rattle.std.specs.Prelude.{IsSome, OnErr}
 use Rattle.std.proofs.lemmas.Result.{err_from_is_err_and, on_ok_weaker}
-use Rattle.ufs_ledger.specs.Changes.{settled}
 use Rattle.ufs_ledger.specs.Ledger.{IsLedgerOf, Ledger}
 use Rattle.ufs_model.specs.PosixTree.{PosixTree}
 use Rattle.ufs_model.specs.declared.data.Entry.{Entry}
@@ -9,6 +8,7 @@ use Rattle.ufs_store.specs.Ledgers.{HasLedger}
 use Rattle.ufs_store.specs.State.{StoreState, geometry_of_store}
 use Rattle.ufs_stored.specs.OnDisk.{HasStopped, IsGoing}
 use Rattle.ufs_stored.specs.Parts.{Parts}
+use Rattle.ufs_stored.proofs.Stretches.{explained_joined}
 use Rattle.ufs_synced.specs.Laws.{IsBeside}
 use Rattle.ufs_synced.proofs.Stops.{device_alone, has_stopped, on_err_cases, passed_ok, stop_is}
 use Rattle.ufs_synced.proofs.zeros.make_ready.Goals as goal
@@ -66,3 +66,18 @@ returns-clause-passed g c =
     let going = ap (λ (s : StoreState). s.stop) c.in_ok-write_zeros.ensures.passed ∙ c.requires.going in
     on_ok_weaker c.settle.result (λ passed. passed ∙ ap (λ (s : StoreState). record s { moments = new.moments; unsettled = new.unsettled }) c.in_ok-write_zeros.ensures.passed)
     (passed_ok c.settle.result mid new going c.settle.ensures.rest c.settle.ensures.cause c.settle.ensures.stop)
+
+pub returns-in_err-write_zeros-clause-moments : goal.returns-in_err-write_zeros-clause-moments
+returns-in_err-write_zeros-clause-moments g c told start history p same go =
+    c.write_zeros.ensures.moments told start history p same (c.zeros_law.ensures.begin (g.D.Door.store c.args.door.now) start history p go)
+
+pub returns-clause-moments : goal.returns-clause-moments
+returns-clause-moments g c told start history p same go =
+    let old = g.D.Door.store c.args.door.now in
+    let mid = g.D.Door.store c.write_zeros.new.door in
+    let new = g.D.Door.store c.settle.new.self in
+    let z = c.zeros_law.ensures.begin old start history p go in
+    explained_joined g.D.Door.keeps start history old.sectors old.moments mid new.moments (ap (λ (s : StoreState). s.sectors) c.write_zeros.ensures.rest)
+    (c.write_zeros.ensures.moments told start history p same z)
+    (c.zeros_law.ensures.barrier_moments g.D.Door.keeps mid new.moments start history p p.fresh (ap geometry_of_store c.write_zeros.ensures.rest ∙ sym c.geometry-geometry.ensures.is) (c.settle.ensures.crash told)
+    (c.in_ok-write_zeros.ensures.ok told start history p same z))

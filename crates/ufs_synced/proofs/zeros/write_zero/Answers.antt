@@ -1,9 +1,9 @@
-use Rattle.std.proofs.Common.{◌≡◌, ◌∙◌, ℕ, ap, sym, refl}
+use Rattle.std.proofs.Common.{◌∙◌, ap, sym}
 use Rattle.std.specs.Prelude.{IsSome}
 use Rattle.std.proofs.lemmas.Result.{on_ok_weaker}
 use Rattle.ufs_disk.specs.Moments.{reads}
 use Rattle.ufs_image.specs.Images.{block_at}
-use Rattle.ufs_ledger.specs.Changes.{tried, written}
+use Rattle.ufs_ledger.specs.Changes.{tried}
 use Rattle.ufs_ledger.specs.Laws.{MayWrite}
 use Rattle.ufs_ledger.specs.Ledger.{IsLedgerOf, Ledger}
 use Rattle.ufs_store.specs.Ledgers.{HasLedger}
@@ -48,3 +48,8 @@ returns-clause-refused g c = device_alone (g.D.Door.store c.args.door.now).stop 
 pub returns-clause-passed : goal.returns-clause-passed
 returns-clause-passed g c =
     passed_ok c.write_block.result (g.D.Door.store c.args.door.now) (g.D.Door.store c.write_block.new.self) c.requires.going c.write_block.ensures.rest c.write_block.ensures.cause c.write_block.ensures.stop
+
+pub returns-clause-moments : goal.returns-clause-moments
+returns-clause-moments g c told start history p done fresh z =
+    c.zeros_law.ensures.write_moments g.D.Door.keeps (g.D.Door.store c.args.door.now) (g.D.Door.store c.write_block.new.self).moments start history p done c.args.block (sym c.geometry-geometry.ensures.is) fresh
+    (c.write_block.ensures.crash told) z

@@ -12,11 +12,16 @@ use Rattle.ufs_model.proofs.Facts.Histories.{take-push}
 use Rattle.ufs_store.specs.State.{StoreState, geometry_of_store}
 use Rattle.ufs_stored.specs.OnDisk.{HasStopped}
 use Rattle.ufs_stored.specs.Parts.{Parts}
+use Rattle.ufs_stored.proofs.Stretches.{explained_joined}
 use Rattle.ufs_synced.specs.Ready.{HasZeros}
 use Rattle.ufs_synced.proofs.zeros.write_zeros.Goals as goal
 
 pub loop-place-init : goal.loop-place-init
-loop-place-init g c = record { passed = refl; zero = λ told start history p is z. z }
+loop-place-init g c = record {
+  passed = refl;
+  moments = λ told start history p is z. c.zeros_law.ensures.rest g.D.Door.keeps (g.D.Door.store c.args.door.now) start history p [] (sym c.geometry-geometry.ensures.is) z;
+  zero = λ told start history p is z. z;
+}
 
 pub write_zero-requires-clause-there : goal.write_zero-requires-clause-there
 write_zero-requires-clause-there g c =
@@ -53,6 +58,24 @@ loop-place-preserved g c =
     let next : suc k ≡ k + 1 = omega arith in
     record {
       passed = c.in_ok-write_zero.ensures.passed ∙ ap (λ (s : StoreState). record s { moments = new.moments; unsettled = new.unsettled }) i.passed;
+      moments = λ told start history p same z. explained_joined g.D.Door.keeps start history (g.D.Door.store c.args.door.now).sectors (g.D.Door.store c.args.door.now).moments (g.D.Door.store c.loop-place.door) new.moments
+          (ap (λ (s : StoreState). s.sectors) i.passed) (i.moments told start history p same z)
+          (c.write_zero.ensures.moments told start history p (take k fresh) (ap (λ (xs : List ℕ). has xs block) same ∙ has_at fresh k block at) (i.zero told start history p same z));
       zero = λ told start history p same z. subst (HasZeros new start history p) (sym (take-push fresh k block at) ∙ ap (λ (n : ℕ). take n fresh) next)
           (c.in_ok-write_zero.ensures.ok told start history p (take k fresh) (ap (λ (xs : List ℕ). has xs block) same ∙ has_at fresh k block at) (i.zero told start history p same z));
     }
+
+pub returns-in_err-write_zero-clause-moments : goal.returns-in_err-write_zero-clause-moments
+returns-in_err-write_zero-clause-moments g c told start history p same z =
+    let fresh = c.args.fresh.now in
+    let k : ℕ = c.loop-place.place in
+    let i = c.loop-place.invariant in
+    let less : k < length fresh = omega (arith, c.loop-place-test.true) in
+    let block : ℕ = slice_index_or fresh k 0 in
+    let at : slice_get fresh k ≡ Some block = slice_get-get_or fresh k 0 less in
+    explained_joined g.D.Door.keeps start history (g.D.Door.store c.args.door.now).sectors (g.D.Door.store c.args.door.now).moments (g.D.Door.store c.loop-place.door) (g.D.Door.store c.write_zero.new.door).moments
+    (ap (λ (s : StoreState). s.sectors) i.passed) (i.moments told start history p same z)
+    (c.write_zero.ensures.moments told start history p (take k fresh) (ap (λ (xs : List ℕ). has xs block) same ∙ has_at fresh k block at) (i.zero told start history p same z))
+
+pub returns-clause-moments : goal.returns-clause-moments
+returns-clause-moments g c told start history p same z = c.loop-place.invariant.moments told start history p same z

@@ -1,0 +1,38 @@
+-- A live file of a server whose names stand on the disk.
+use Rattle.std.proofs.Common.{◌≡◌, Some}
+use Rattle.std.specs.Prelude.{List, IsSome}
+use Rattle.std.specs.FinMap as map
+use Rattle.ufs_file.specs.Hand.{FileState}
+use Rattle.ufs_ilog.specs.Deltas.{IsDelta}
+use Rattle.ufs_layout.specs.declared.records.LogRecord.{LogRecord}
+use Rattle.ufs_model.specs.PosixTree.{PosixTree}
+use Rattle.ufs_model.specs.declared.data.Entry.{Entry}
+use Rattle.ufs_durable.specs.Committing.{FitsInode, HasToCommit, HasTreeBytes, IsFileBy}
+use Rattle.ufs_durable.specs.Standing.{StandsFor}
+use Rattle.ufs_durable.specs.State.{DurableState}
+use Rattle.ufs_store.specs.State.{StoreState}
+use Rattle.ufs_stored.specs.OnDisk.{HasNames}
+use Rattle.ufs_stored.specs.Parts.{Parts, durable_in}
+use Rattle.ufs_stored.specs.Stored.{IsFileWhole}
+use Rattle.ufs_stored.proofs.FileCommits.{inode_on_disk}
+
+module _ (s : StoreState) (start : PosixTree) (history : List Entry) (p : Parts) (f : FileState) (at : map.get p.files f.file ≡ Some f) (live : IsSome (map.get p.names.held f.file)) (names : HasNames s start history p) where
+  abbrev x : DurableState
+  x = durable_in p.commits f
+
+  pub whole_file : IsFileWhole names.going.ledger names.going.counts.numbers x
+  whole_file = names.going.stored.each f.file f at
+
+  pub file_on_disk : (names.going.counts.numbers.inode f.file ≡ Some f.inode) × StandsFor names.going.ledger x
+  file_on_disk = inode_on_disk names.going.ledger names.going.counts.numbers x (names.numbered f.file live) whole_file.stored
+
+  pub file_by_history : HasTreeBytes → IsFileBy f start history names.going.counts
+  file_by_history tree_bytes = record {
+    there = file_on_disk.0;
+    alone = λ other is. names.going.stored.counted.alone f.file other f.inode file_on_disk.0 is;
+    counted = names.going.stored.counted.made f.file;
+    bytes = tree_bytes f start history names.going.stored.tree names.going.stored.legal (names.going.stored.parts.files f.file f at).1;
+  }
+
+  pub file_to_commit : FitsInode f → (records : List LogRecord) → IsDelta x.log.inode x.log.committed x.log.noted records → HasToCommit s records names.going.ledger x
+  file_to_commit fits records delta = record { has = names.going.has; noted = whole_file.noted; stands = file_on_disk.1; own = whole_file.own; fits = fits; delta = delta }

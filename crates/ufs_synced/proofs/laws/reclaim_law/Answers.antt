@@ -1,0 +1,14 @@
+use Rattle.ufs_synced.proofs.Reclaiming.{checkpoint_fails, reclaimed, reclaimed_part, reclaimed_sound}
+use Rattle.ufs_synced.proofs.laws.reclaim_law.Goals as goal
+
+pub returns-clause-reclaimed : goal.returns-clause-reclaimed
+returns-clause-reclaimed c = reclaimed c.args.geometry.now c.ready_law.ensures.checkpoint c.form_law.ensures.sound
+
+pub returns-clause-fails : goal.returns-clause-fails
+returns-clause-fails c = checkpoint_fails c.args.geometry.now c.stopping_law.ensures.checkpoint
+
+pub returns-clause-sound : goal.returns-clause-sound
+returns-clause-sound c = reclaimed_sound
+
+pub returns-clause-parts : goal.returns-clause-parts
+returns-clause-parts c = reclaimed_part
