@@ -24,6 +24,7 @@ sound_committed g u p s = record {
   inodes = s.inodes;
   known = s.known;
   counted = s.counted;
+  parted = s.parted;
 }
 
 -- A store that hasn't stopped goes on.

@@ -1,5 +1,5 @@
 -- A file of a server is committed: it is taken out, synced, and put back.
-use Rattle.std.proofs.Common.{◌≡◌, ◌≢◌, ℕ, ◌⊎◌, inl, inr, Option, Some, None, List, ◌∷◌, is_some, Result, Ok, Err, ap, sym, refl, ◌∙◌, subst}
+use Rattle.std.proofs.Common.{◌≡◌, ◌≢◌, ℕ, ◌⊎◌, inl, inr, Bool, Some, List, ◌∷◌, is_some, Result, Ok, Err, ap, sym, refl, ◌∙◌, subst}
 use Rattle.std.specs.Prelude.{All, IsSome}
 use Rattle.std.specs.Cmp.{nat_cmp_total}
 use Rattle.std.specs.FinMap as map
@@ -8,7 +8,6 @@ use Rattle.std.specs.FinSet as set
 use Rattle.ufs_bitmap.specs.Blocks.{BlockSet}
 use Rattle.ufs_bitmap.specs.Space.{Space}
 use Rattle.ufs_bitmap.specs.Taking.{set_of}
-use Rattle.ufs_extent.specs.declared.Run.{Run}
 use Rattle.ufs_extent.specs.Runs.{IsRun, blocks_of}
 use Rattle.ufs_file.specs.Hand.{FileState}
 use Rattle.ufs_files.specs.Files.{AreNumbered}
@@ -20,10 +19,10 @@ use Rattle.ufs_model.proofs.Facts.Lookups as lookups
 use Rattle.ufs_durable.specs.Committing.{FitsInode}
 use Rattle.ufs_durable.specs.State.{CommitState, DurableState, file_committed, state_of}
 use Rattle.ufs_durable.specs.Writes.{AreDataBlocks}
-use Rattle.ufs_on_disk.specs.Syncs.{CommittedIsForgotten, FailedSyncsGoOn, FileSyncsGoOn, HasFailed, HasSynced, HasWritten, IsSpaceOf, OnDiskAsTold, PutBackAsItWas, SoundAsTold, SoundByFileSyncs, SyncedAsTold, SyncsMayBegin, WrittenSyncsGoOn}
+use Rattle.ufs_on_disk.specs.Syncs.{CommittedIsForgotten, FailedSyncsGoOn, FileSyncsAreExplained, FileSyncsGoOn, HasFailed, HasSynced, HasWritten, IsSpaceOf, LeavesStages, OnDiskAsTold, PutBackAsItWas, SoundAsTold, SoundByFileSyncs, SyncedAsTold, SyncsMayBegin, WrittenSyncsGoOn}
 use Rattle.ufs_store.specs.Blocks.{MayReturn}
 use Rattle.ufs_store.specs.State.{StoreState, geometry_of_store}
-use Rattle.ufs_stored.specs.OnDisk.{HasFiles, HasNames, IsOnDisk}
+use Rattle.ufs_stored.specs.OnDisk.{HasFiles, HasNames, IsExplainedBetween, IsOnDisk}
 use Rattle.ufs_stored.specs.Parts.{Commits, Parts, durable_in, with_file}
 use Rattle.ufs_stored.specs.Sound.{IsSoundServer}
 use Rattle.ufs_stored.specs.Stored.{ArePartsOf}
@@ -68,6 +67,12 @@ module _ (s0 : StoreState) (p0 p2 : Parts) (file : ℕ) (hand : FileState) (know
 
     pub may_dropped : MayReturn s0.unassigned known.dropped
     may_dropped = subst (MayReturn s0.unassigned) dropped_is (may s0 p0 hand space is_at (subst (All IsRun) (sym dropped_is) valid) sound).dropped
+
+  -- ---- meanwhile
+
+  pub meanwhile : (keeps : Bool) (g : Geometry) (s1 : StoreState) → FileSyncsAreExplained g → geometry_of_store s0 ≡ g → IsSome (map.get p0.names.held file) → FitsInode hand → LeavesStages keeps s0 s1 (state_of hand known)
+      → (start : PosixTree) (history : List Entry) → HasNames s0 start history p0 → IsExplainedBetween keeps s0.sectors start history s0.moments s1.moments
+  meanwhile keeps g s1 law form live fits told start history names = law keeps s0 s1 start history p0 hand form is_at (live_at live) fits (subst (LeavesStages keeps s0 s1) is_held told) names
 
   -- ---- put back
 

@@ -23,6 +23,7 @@ use Rattle.ufs_prefix.specs.Changes.{asks_commit}
 use Rattle.ufs_durable.specs.Serving.{IsApplied}
 use Rattle.ufs_durable.specs.State.{CommitState, DurableState, IsNoted, blocks_held, state_of}
 use Rattle.ufs_on_disk.specs.Requests.{FileRequestsGoOn, FreeBlocksGoOn, PartsByExcuses, PartsByFileRequests, SoundByFileRequests, SoundByFreeBlocks, with_free}
+use Rattle.ufs_on_disk.specs.Syncs.{OnDiskAsTold, PutBackAsItWas}
 use Rattle.ufs_store.specs.State.{StoreState, geometry_of_store}
 use Rattle.ufs_stored.specs.Laws.{MovesBlocks}
 use Rattle.ufs_stored.specs.OnDisk.{IsOnDisk}
@@ -121,6 +122,13 @@ module _ (s1 : StoreState) (p1 p2 : Parts) (file : ℕ) (hand : FileState) (know
               (law (geometry_of_store s1) s1.unassigned.free t entry p1 hand y pool ask server ticket desc told.0 at kind asked told.1 of_hand applied_there sound served parts);
           told = subst (λ (fd : Option ℕ). IsDescAfter t.fds (posix t ask.client ask.op).0.fds ask.client fd desc) (sym (told_named ask.op entry.reply kind)) stepped.told;
         }
+
+    pub excused_on_disk : PutBackAsItWas → OnDiskAsTold → AreNumbered p1.files → is_excused entry.reply ≡ true → (start : PosixTree) (history : List Entry) → IsOnDisk s1 start history p1 → IsOnDisk s1 start history p4
+    excused_on_disk as_it_was told_as numbered e start history on =
+        let it = as_it_was (geometry_of_store s1) s1.unassigned.free p1 hand numbered at sound in
+        let same : y ≡ durable_in p1.commits hand = applied.kept e ∙ held hand there in
+        let before = final ∙ (λ i. with_file (same i) ((applied.pool e ∙ same_pool) i) p1) ∙ it.0 in
+        subst (IsOnDisk s1 start history) (sym before) (told_as s1 start history p1 (with_file (durable_in p1.commits hand) p1.pool p1).commits it.1 on)
 
     pub parts_at_last : PartsByExcuses → (t : PosixTree) → is_excused entry.reply ≡ true → ArePartsOf p1 t → ArePartsOf p4 t
     parts_at_last law t excused parts = subst (λ (p : Parts). ArePartsOf p t) (sym final) (law t entry p1 hand y pool ask server ticket desc at applied_there excused parts)

@@ -13,3 +13,4 @@ mod Syncs
 mod Touch
 mod Touching
 pub mod Beside
+mod Checkpoints

@@ -1,4 +1,3 @@
-// What is known of files' commits, by their numbers.
 ghost use Rattle.std.specs.Prelude.{◌≡◌};
 
 use std::alloc::Global;
@@ -74,6 +73,7 @@ impl CommitTable {
         ensures value { result ≡ map.get self.old file }
         ensures gone { self.new ≡ map.remove self.old file }
     {
+        // For the prover alone.
         let _count = self.table.len();
         self.table.remove(&file)
     }

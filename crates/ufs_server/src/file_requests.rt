@@ -1,4 +1,3 @@
-// Requests on a file.
 ghost use Rattle.std.specs.Prelude.{ℕ, ◌≡◌, ◌++◌, ◌∷◌, [], List, IsSome, IsTrue, true, false};
 ghost use Rattle.std.specs.FinMap as map;
 ghost use Rattle.ufs_client.specs.Played.{tells_fault};
@@ -12,7 +11,6 @@ ghost use Rattle.ufs_model.specs.PosixTree.{PosixTree};
 ghost use Rattle.ufs_model.specs.declared.data.Entry.{Entry};
 ghost use Rattle.ufs_model.specs.declared.data.Excuse.{Excuse};
 ghost use Rattle.ufs_model.specs.declared.data.Reply.TheVariants as reply;
-ghost use Rattle.ufs_model.specs.declared.data.Excuse.TheVariants as excuse;
 ghost use Rattle.ufs_on_disk.specs.Requests.{with_free};
 ghost use Rattle.ufs_prefix.specs.Changes.{asks_commit};
 ghost use Rattle.ufs_store.specs.State.{geometry_of_store};
@@ -24,9 +22,9 @@ ghost use Rattle.ufs_server.specs.Answered.{IsAnswered};
 
 use crate::disk_server::DiskServer;
 use ufs_durable::apply;
-use ufs_file::Applied;
-use ufs_model::{Actor, Ask, Entry, Excuse, Reply};
-use ufs_on_disk::file_request_law;
+use ufs_file::{Applied, out_of_memory};
+use ufs_model::{Actor, Ask};
+use ufs_on_disk::{file_request_law, told_law};
 use ufs_store::{Door, StoreFault};
 use ufs_stored::on_disk_law;
 
@@ -53,12 +51,14 @@ impl DiskServer {
         ensures desc { is_excused result.entry.reply ≡ true → result.desc ≡ ask.desc }
         ensures on_disk { IsTrue D.tells → (start : PosixTree) (history : List Entry) → IsAsk (tree_after start history) ask → IsLegal start (history ++ result.entry ∷ [])
             → IsOnDisk (D.store door.old) start history self.old → IsOnDisk (D.store door.new) start (history ++ result.entry ∷ []) self.new }
+        ensures excused { IsTrue D.tells → is_excused result.entry.reply ≡ true → (start : PosixTree) (history : List Entry) → IsOnDisk (D.store door.old) start history self.old → IsOnDisk (D.store door.new) start history self.new }
         ensures sound { IsSoundServer (geometry_of_store (D.store door.new)) (D.store door.new).unassigned.free self.new }
         ensures calm { tells_fault result.entry.reply ≡ false }
         // only free blocks go between the store and the pool
         ensures store { D.store door.new ≡ record (D.store door.old) { unassigned = record ((D.store door.old).unassigned) { free = (D.store door.new).unassigned.free } } }
     {
         file_request_law();
+        told_law();
         let geometry = door.geometry();
         on_disk_law(&geometry);
         self.files.are_numbered();
@@ -91,24 +91,5 @@ impl DiskServer {
             }
             _ => {}
         }
-    }
-}
-
-/// The excuse that memory ran out.
-pub(crate) fn out_of_memory(ask: Ask, by: Actor, ticket: u64) -> Applied
-    ensures entry { IsEntryOf ask by ticket result.entry }
-    ensures reply { result.entry.reply ≡ reply.Excused excuse.Memory }
-    ensures desc { result.desc ≡ ask.desc }
-{
-    Applied {
-        entry: Entry {
-            ticket,
-            client: ask.client,
-            seq: ask.seq,
-            by,
-            op: ask.op,
-            reply: Reply::Excused(Excuse::Memory),
-        },
-        desc: ask.desc,
     }
 }

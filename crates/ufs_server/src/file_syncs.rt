@@ -11,11 +11,11 @@ ghost use Rattle.ufs_model.specs.declared.data.Excuse.TheVariants as excuse;
 ghost use Rattle.ufs_durable.specs.Committing.{FitsInode};
 ghost use Rattle.ufs_durable.specs.State.{IsNoted, file_committed, state_of};
 ghost use Rattle.ufs_durable.specs.Writes.{AreDataBlocks};
-ghost use Rattle.ufs_on_disk.specs.Syncs.{HasFailed, HasSynced, HasWritten};
+ghost use Rattle.ufs_on_disk.specs.Syncs.{HasFailed, HasSynced, HasWritten, LeavesStages};
 ghost use Rattle.ufs_store.specs.Blocks.{MayReturn};
 ghost use Rattle.ufs_store.specs.Refusals.{IsTold, stop_after};
 ghost use Rattle.ufs_store.specs.State.{geometry_of_store};
-ghost use Rattle.ufs_stored.specs.OnDisk.{HasFiles, HasNames, IsOnDisk};
+ghost use Rattle.ufs_stored.specs.OnDisk.{HasFiles, HasNames, IsExplainedBetween, IsOnDisk};
 ghost use Rattle.ufs_stored.specs.Sound.{IsSoundServer};
 ghost use Rattle.ufs_stored.specs.Stored.{ArePartsOf};
 ghost use Rattle.ufs_server.specs.Answered.{device_told, is_of_store};
@@ -25,8 +25,9 @@ use crate::held_file::HeldFile;
 use crate::syncing::excuse_of;
 use ufs_durable::{fitting_law, fsync};
 use ufs_model::Excuse;
-use ufs_on_disk::{file_failure_law, file_memory_law, file_sync_law, told_law};
+use ufs_on_disk::{file_failure_law, file_memory_law, file_moments_law, file_sync_law, told_law};
 use ufs_store::Door;
+use ufs_stored::always_law;
 
 impl DiskServer {
     /// Commits a live file whose inode is on the disk, beside the files that were committed before.
@@ -36,8 +37,11 @@ impl DiskServer {
         requires sound { IsSoundServer (geometry_of_store (D.store door.old)) (D.store door.old).unassigned.free self.old }
         ensures ok { IsTrue D.tells → OnOk result ((start : PosixTree) (history : List Entry) (done : List ℕ) → HasFiles (D.store door.old) start history self.old done → HasFiles (D.store door.new) start history self.new (file ∷ done)) }
         ensures err { IsTrue D.tells → OnErr result ((start : PosixTree) (history : List Entry) → HasNames (D.store door.old) start history self.old → IsOnDisk (D.store door.new) start history self.new) }
+        ensures moments { IsTrue D.tells → (start : PosixTree) (history : List Entry) → HasNames (D.store door.old) start history self.old
+            → IsExplainedBetween D.keeps (D.store door.old).sectors start history (D.store door.old).moments (D.store door.new).moments }
         ensures same { (t : PosixTree) → ArePartsOf self.old t → ArePartsOf self.new t }
         ensures names { self.new.names ≡ self.old.names }
+        ensures fresh { self.new.fresh ≡ self.old.fresh }
         ensures here { (other : ℕ) → IsSome (map.get self.old.files other) → IsSome (map.get self.new.files other) }
         ensures forgotten { OnOk result ((other : ℕ) → IsSome (map.get self.new.commits other) → (other ≢ file) × IsSome (map.get self.old.commits other)) }
         ensures sound { IsSoundServer (geometry_of_store (D.store door.new)) (D.store door.new).unassigned.free self.new }
@@ -49,18 +53,21 @@ impl DiskServer {
         ensures cause { IsTold (D.store door.old).faults (D.store door.new).faults (device_told result) }
         ensures stop { (D.store door.new).stop ≡ stop_after (D.store door.old).stop (device_told result) }
     {
+        let geometry = door.geometry();
+        always_law(&geometry);
         if let Some(fault) = door.stopped() {
             return Err(Excuse::Stopped { fault });
         }
         file_sync_law();
         file_failure_law();
-        let geometry = door.geometry();
         file_memory_law(&geometry);
+        file_moments_law(&geometry);
         told_law();
         self.files.are_numbered();
         let Ok(mut held) = self.take_out(file) else {
             return Err(Excuse::Memory);
         };
+        // For the prover alone.
         let _runs = held.commits.dropped().as_slice();
         let told = sync_held(door, &mut held);
         self.put_back(held);
@@ -70,7 +77,7 @@ impl DiskServer {
     }
 }
 
-/// Commits a file that is out of its server.
+// Commits a file that is out of its server.
 fn sync_held<D: Door>(door: &mut D, held: &mut HeldFile) -> Result<(), Excuse>
     requires going { (D.store door.old).stop ≡ None }
     requires noted { IsNoted (state_of held.old.hand held.old.commits) }
@@ -79,6 +86,7 @@ fn sync_held<D: Door>(door: &mut D, held: &mut HeldFile) -> Result<(), Excuse>
     requires dropped { MayReturn (D.store door.old).unassigned held.old.commits.dropped }
     ensures ok { IsTrue D.tells → OnOk result (HasSynced (D.store door.old) (D.store door.new) (state_of held.old.hand held.old.commits)) }
     ensures err { IsTrue D.tells → OnErr result (HasWritten (D.store door.old) (D.store door.new) (state_of held.old.hand held.old.commits) ⊎ HasFailed (D.store door.old) (D.store door.new) (state_of held.old.hand held.old.commits)) }
+    ensures moments { IsTrue D.tells → LeavesStages D.keeps (D.store door.old) (D.store door.new) (state_of held.old.hand held.old.commits) }
     ensures fits { FitsInode held.old.hand }
     ensures committed { OnOk result (state_of held.new.hand held.new.commits ≡ file_committed (state_of held.old.hand held.old.commits)) }
     ensures kept { OnErr result (state_of held.new.hand held.new.commits ≡ state_of held.old.hand held.old.commits) }

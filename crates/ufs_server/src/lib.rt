@@ -9,6 +9,7 @@ mod held_file;
 mod name_requests;
 mod requests;
 mod room;
+mod space;
 mod sync_all;
 mod sync_requests;
 mod syncing;

@@ -1,4 +1,3 @@
-// Requests of names.
 ghost use Rattle.std.specs.Prelude.{ℕ, ◌≡◌, ◌<◌, ◌≤◌, ◌+◌, ◌^◌, ◌++◌, ◌∷◌, [], List, length, vec_capacity, IsTrue, IsSome, Some, true, false};
 ghost use Rattle.std.specs.FinMap as map;
 ghost use Rattle.std.specs.FinSet as set;
@@ -19,16 +18,15 @@ ghost use Rattle.ufs_names.specs.Calls.{IsOfNames, IsTouched};
 ghost use Rattle.ufs_pouring.specs.Lent.{listed};
 ghost use Rattle.ufs_prefix.specs.Changes.{asks_commit};
 ghost use Rattle.ufs_store.specs.State.{geometry_of_store};
-ghost use Rattle.ufs_stored.specs.OnDisk.{IsOnDisk};
+ghost use Rattle.ufs_stored.specs.OnDisk.{IsExplainedBetween, IsOnDisk};
 ghost use Rattle.ufs_stored.specs.Sound.{IsSoundServer};
 ghost use Rattle.ufs_stored.specs.Stored.{ArePartsOf};
-ghost use Rattle.ufs_server.specs.Answered.{IsAnswered};
+ghost use Rattle.ufs_server.specs.Answered.{IsAnswered, IsUntold};
 ghost use Rattle.ufs_server.specs.Touching.{AreReadied, IsServedByNames, file_touched};
 
 use crate::disk_server::DiskServer;
-use crate::file_requests::out_of_memory;
 use crate::touched::Touched;
-use ufs_file::Applied;
+use ufs_file::{Applied, out_of_memory};
 use ufs_model::{Actor, Ask, Entry, Excuse, Reply};
 use ufs_names_stored::{names_request_law, served_names_law};
 use ufs_on_disk::{file_request_law, told_law};
@@ -37,7 +35,7 @@ use ufs_store::Door;
 use ufs_stored::on_disk_law;
 
 impl DiskServer {
-    /// Serves a request of the names that asks for no commit.
+    /// Serves a request of the names that asks for no commit, after room was made for its notes.
     pub(crate) fn serve_names<D: Door>(
         &mut self,
         door: &mut D,
@@ -58,11 +56,16 @@ impl DiskServer {
         ensures desc { is_excused result.entry.reply ≡ true → result.desc ≡ ask.desc }
         ensures on_disk { IsTrue D.tells → (start : PosixTree) (history : List Entry) → IsAsk (tree_after start history) ask → IsLegal start (history ++ result.entry ∷ [])
             → IsOnDisk (D.store door.old) start history self.old → IsOnDisk (D.store door.new) start (history ++ result.entry ∷ []) self.new }
+        ensures excused { IsTrue D.tells → is_excused result.entry.reply ≡ true → (start : PosixTree) (history : List Entry) → IsOnDisk (D.store door.old) start history self.old → IsOnDisk (D.store door.new) start history self.new }
+        ensures moments { IsTrue D.tells → (start : PosixTree) (history : List Entry) → IsOnDisk (D.store door.old) start history self.old
+            → IsExplainedBetween D.keeps (D.store door.old).sectors start history (D.store door.old).moments (D.store door.new).moments }
         ensures sound { IsSoundServer (geometry_of_store (D.store door.new)) (D.store door.new).unassigned.free self.new }
+        ensures geometry { geometry_of_store (D.store door.new) ≡ geometry_of_store (D.store door.old) }
+        ensures sectors { (D.store door.new).sectors ≡ (D.store door.old).sectors }
         ensures calm { tells_fault result.entry.reply ≡ false }
-        // only free blocks go between the store and the pool
-        ensures store { D.store door.new ≡ record (D.store door.old) { unassigned = record ((D.store door.old).unassigned) { free = (D.store door.new).unassigned.free } } }
+        ensures untold { IsUntold (D.store door.old) (D.store door.new) }
     {
+        self.make_room(door);
         file_request_law();
         told_law();
         served_names_law();
@@ -81,9 +84,9 @@ impl DiskServer {
         self.apply_names(again(first, fd, last), by, ticket, &touched, true)
     }
 
-    /// Serves a request of the names, and settles what is known of the file that it touched. Directories are lent one
-    /// block of the pool where `lends` says so, and took it then: without it the request had no space. An excuse changes
-    /// nothing.
+    // Serves a request of the names, and settles what is known of the file that it touched. Directories are lent one
+    // block of the pool where `lends` says so, and took it then: without it the request had no space. An excuse changes
+    // nothing.
     fn apply_names(
         &mut self,
         ask: Ask,
@@ -127,7 +130,7 @@ impl DiskServer {
     }
 }
 
-/// The block that was lent, if one was, is a directory's from now on. There is room for it.
+// The block that was lent, if one was, is a directory's from now on. There is room for it.
 fn take_lent(fresh: &mut Vec<u32>, block: Option<u32>)
     requires { length fresh.old.items + 1 ≤ vec_capacity fresh.old }
     ensures { fresh.new.items ≡ fresh.old.items ++ listed block }
@@ -144,14 +147,14 @@ fn tells_excuse(reply: &Reply) -> bool
 }
 
 /// Directories had no block to take.
-fn lacks_block(reply: &Reply) -> bool
+pub(crate) fn lacks_block(reply: &Reply) -> bool
     ensures { result ≡ true → is_excused reply.now ≡ true }
 {
     matches!(reply, Reply::Excused(Excuse::Blocks { .. }))
 }
 
 /// The request of an answer that changed nothing.
-fn again(applied: Applied, fd: u32, last: bool) -> Ask
+pub(crate) fn again(applied: Applied, fd: u32, last: bool) -> Ask
     ensures { (ask : Ask) (by : Actor) (ticket : ℕ) → IsEntryOf ask by ticket applied.entry → applied.desc ≡ ask.desc → ask.fd ≡ fd → ask.last ≡ last → result ≡ ask }
 {
     let Applied { entry, desc } = applied;

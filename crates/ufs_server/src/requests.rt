@@ -1,19 +1,16 @@
-// Requests.
-ghost use Rattle.std.specs.Prelude.{ℕ, ◌≡◌, ◌<◌, ◌^◌, ◌++◌, ◌∷◌, [], List, Some, None, IfSome, IfNone, IsTrue, true, false};
-ghost use Rattle.ufs_file.specs.Hand.{IsEntryOf, IsOf};
+ghost use Rattle.std.specs.Prelude.{ℕ, ◌≡◌, ◌<◌, ◌^◌, ◌++◌, ◌∷◌, [], List, Some, None, IsTrue, true, false};
+ghost use Rattle.ufs_file.specs.Hand.{IsEntryOf};
 ghost use Rattle.ufs_model.specs.Asks.{IsAsk};
 ghost use Rattle.ufs_model.specs.Bounds.{IsBounded};
 ghost use Rattle.ufs_model.specs.Excuses.{ExcuseFits};
-ghost use Rattle.ufs_model.specs.FileCalls.{is_on_file};
 ghost use Rattle.ufs_model.specs.History.{IsLegal, is_excused, tree_after};
 ghost use Rattle.ufs_model.specs.PosixTree.{PosixTree};
 ghost use Rattle.ufs_model.specs.declared.data.Entry.{Entry};
 ghost use Rattle.ufs_model.specs.declared.data.Excuse.{Excuse};
 ghost use Rattle.ufs_model.specs.declared.data.Reply.TheVariants as reply;
-ghost use Rattle.ufs_names.specs.Calls.{IsOfNames};
 ghost use Rattle.ufs_prefix.specs.Changes.{asks_commit};
 ghost use Rattle.ufs_store.specs.State.{geometry_of_store};
-ghost use Rattle.ufs_stored.specs.OnDisk.{IsOnDisk};
+ghost use Rattle.ufs_stored.specs.OnDisk.{IsExplainedBetween, IsOnDisk};
 ghost use Rattle.ufs_stored.specs.Sound.{IsSoundServer};
 ghost use Rattle.ufs_stored.specs.Stored.{ArePartsOf};
 ghost use Rattle.ufs_server.specs.Answered.{IsAnswered, TellsFaults, device_in, stopped_in};
@@ -28,8 +25,8 @@ impl DiskServer {
     /// server goes on with that tree. What an `fsync` or a `sync` acknowledges is on the disk for good. Where room is
     /// wanting, or the disk fails, the reply is the excuse for it, and the tree is as it was. File numbers stay below
     /// 2^31. The caller gives the ticket, and says who serves. Names may be committed before a request of names, to
-    /// make room for its notes. Where the disk fails in that the request is served all the same: the store has stopped,
-    /// and later replies tell it.
+    /// make room for its notes, and everything where a request lacks blocks and some are dropped. Where the disk fails
+    /// in that the request is served all the same: the store has stopped, and later replies tell it.
     pub fn apply<D: Door>(&mut self, door: &mut D, ask: Ask, by: Actor, ticket: u64) -> Applied
         requires client { ask.client < 16 }
         requires bounded { IsBounded ask.op }
@@ -43,6 +40,8 @@ impl DiskServer {
         ensures desc { is_excused result.entry.reply ≡ true → result.desc ≡ ask.desc }
         ensures on_disk { IsTrue D.tells → (start : PosixTree) (history : List Entry) → IsAsk (tree_after start history) ask → IsLegal start (history ++ result.entry ∷ [])
             → IsOnDisk (D.store door.old) start history self.old → IsOnDisk (D.store door.new) start (history ++ result.entry ∷ []) self.new }
+        ensures moments { IsTrue D.tells → (start : PosixTree) (history : List Entry) → IsOnDisk (D.store door.old) start history self.old
+            → IsExplainedBetween D.keeps (D.store door.old).sectors start history (D.store door.old).moments (D.store door.new).moments }
         ensures sound { IsSoundServer (geometry_of_store (D.store door.new)) (D.store door.new).unassigned.free self.new }
         ensures geometry { geometry_of_store (D.store door.new) ≡ geometry_of_store (D.store door.old) }
         ensures sectors { (D.store door.new).sectors ≡ (D.store door.old).sectors }
@@ -53,41 +52,16 @@ impl DiskServer {
         if is_sync(&ask.op) {
             return self.serve_sync(door, ask, by, ticket);
         }
-        match file_asked(&ask) {
-            Some(file) => self.serve_file(door, file, ask, by, ticket),
-            None => self.serve_in_room(door, ask, by, ticket),
-        }
+        self.serve_in_space(door, ask, by, ticket)
     }
 }
 
-/// Whether the request asks that something is on the disk for good.
+// Whether the request asks that something is on the disk for good.
 fn is_sync(op: &Op) -> bool
     ensures { result ≡ asks_commit op.now }
 {
     match op {
         Op::Fsync { .. } | Op::Sync => true,
         _ => false,
-    }
-}
-
-/// The file of a request that asks for no commit, where it is on a file's descriptor and touches that file and its
-/// client alone.
-fn file_asked(ask: &Ask) -> Option<u32>
-    requires { asks_commit ask.now.op ≡ false }
-    ensures kind { IfSome result (λ file. is_on_file ask.now.op ≡ true) }
-    ensures file { IfSome result (λ file. IsOf ask.now.desc file) }
-    ensures names { IfNone result (IsOfNames ask.now) }
-{
-    match &ask.op {
-        Op::Read { .. }
-        | Op::Write { .. }
-        | Op::Pread { .. }
-        | Op::Pwrite { .. }
-        | Op::Seek { .. }
-        | Op::Trunc { .. } => match ask.desc {
-            Some(desc) => desc.file,
-            None => None,
-        },
-        _ => None,
     }
 }

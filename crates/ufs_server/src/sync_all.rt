@@ -1,5 +1,4 @@
-// Everything is synced.
-ghost use Rattle.std.specs.Prelude.{ℕ, ◌≡◌, ◌<◌, ◌∷◌, [], List, Some, None, IsSome, IsTrue, IfErr, OnOk, OnErr, Err, true, false};
+ghost use Rattle.std.specs.Prelude.{ℕ, ◌≡◌, ◌≢◌, ◌<◌, ◌∷◌, [], List, Some, None, IsSome, IsTrue, IfErr, OnOk, OnErr, Err, true, false};
 ghost use Rattle.std.specs.FinMap as map;
 ghost use Rattle.ufs_bitmap.specs.Taking.{has};
 ghost use Rattle.ufs_model.specs.PosixTree.{PosixTree};
@@ -7,14 +6,16 @@ ghost use Rattle.ufs_model.specs.declared.data.Entry.{Entry};
 ghost use Rattle.ufs_model.specs.declared.data.Excuse.TheVariants as excuse;
 ghost use Rattle.ufs_store.specs.Refusals.{IsTold, stop_after};
 ghost use Rattle.ufs_store.specs.State.{geometry_of_store};
-ghost use Rattle.ufs_stored.specs.OnDisk.{HasAll, HasFiles, HasNames, IsOnDisk};
+ghost use Rattle.ufs_stored.specs.OnDisk.{HasAll, HasFiles, HasNames, IsExplainedBetween, IsOnDisk};
 ghost use Rattle.ufs_stored.specs.Sound.{IsSoundServer};
 ghost use Rattle.ufs_stored.specs.Stored.{ArePartsOf};
+ghost use Rattle.ufs_synced.specs.Laws.{HasNothingNoted};
 ghost use Rattle.ufs_server.specs.Answered.{device_told, is_of_store};
 
 use crate::disk_server::DiskServer;
 use ufs_model::Excuse;
 use ufs_store::Door;
+use ufs_stored::always_law;
 use ufs_synced::all_law;
 
 impl DiskServer {
@@ -24,6 +25,9 @@ impl DiskServer {
         requires sound { IsSoundServer (geometry_of_store (D.store door.old)) (D.store door.old).unassigned.free self.old }
         ensures ok { IsTrue D.tells → OnOk result ((start : PosixTree) (history : List Entry) → IsOnDisk (D.store door.old) start history self.old → HasAll (D.store door.new) start history self.new) }
         ensures err { IsTrue D.tells → OnErr result ((start : PosixTree) (history : List Entry) → IsOnDisk (D.store door.old) start history self.old → IsOnDisk (D.store door.new) start history self.new) }
+        ensures nothing { OnOk result (HasNothingNoted self.new) }
+        ensures moments { IsTrue D.tells → (start : PosixTree) (history : List Entry) → IsOnDisk (D.store door.old) start history self.old
+            → IsExplainedBetween D.keeps (D.store door.old).sectors start history (D.store door.old).moments (D.store door.new).moments }
         ensures same { (t : PosixTree) → ArePartsOf self.old t → ArePartsOf self.new t }
         ensures sound { IsSoundServer (geometry_of_store (D.store door.new)) (D.store door.new).unassigned.free self.new }
         ensures geometry { geometry_of_store (D.store door.new) ≡ geometry_of_store (D.store door.old) }
@@ -34,11 +38,12 @@ impl DiskServer {
         ensures cause { IsTold (D.store door.old).faults (D.store door.new).faults (device_told result) }
         ensures stop { (D.store door.new).stop ≡ stop_after (D.store door.old).stop (device_told result) }
     {
+        let geometry = door.geometry();
+        always_law(&geometry);
+        all_law(&geometry);
         if let Some(fault) = door.stopped() {
             return Err(Excuse::Stopped { fault });
         }
-        let geometry = door.geometry();
-        all_law(&geometry);
         let Ok(live) = self.names.live() else {
             return Err(Excuse::Memory);
         };
@@ -46,14 +51,18 @@ impl DiskServer {
         self.commit_files(door, live.as_slice())
     }
 
-    /// Commits each of these live files.
+    // Commits each of these live files.
     fn commit_files<D: Door>(&mut self, door: &mut D, files: &[u32]) -> Result<(), Excuse>
         requires held { (file : ℕ) → has files.now file ≡ true → IsSome (map.get self.old.names.held file) }
         requires sound { IsSoundServer (geometry_of_store (D.store door.old)) (D.store door.old).unassigned.free self.old }
         ensures ok { IsTrue D.tells → OnOk result ((start : PosixTree) (history : List Entry) → HasNames (D.store door.old) start history self.old → HasFiles (D.store door.new) start history self.new files.now) }
         ensures err { IsTrue D.tells → OnErr result ((start : PosixTree) (history : List Entry) → HasNames (D.store door.old) start history self.old → IsOnDisk (D.store door.new) start history self.new) }
+        ensures moments { IsTrue D.tells → (start : PosixTree) (history : List Entry) → HasNames (D.store door.old) start history self.old
+            → IsExplainedBetween D.keeps (D.store door.old).sectors start history (D.store door.old).moments (D.store door.new).moments }
         ensures same { (t : PosixTree) → ArePartsOf self.old t → ArePartsOf self.new t }
         ensures names { self.new.names ≡ self.old.names }
+        ensures fresh { self.new.fresh ≡ self.old.fresh }
+        ensures forgotten { OnOk result ((file : ℕ) → has files.now file ≡ true → map.get self.new.commits file ≡ None) }
         ensures sound { IsSoundServer (geometry_of_store (D.store door.new)) (D.store door.new).unassigned.free self.new }
         ensures geometry { geometry_of_store (D.store door.new) ≡ geometry_of_store (D.store door.old) }
         ensures sectors { (D.store door.new).sectors ≡ (D.store door.old).sectors }
@@ -62,20 +71,26 @@ impl DiskServer {
         ensures cause { IsTold (D.store door.old).faults (D.store door.new).faults (device_told result) }
         ensures stop { (D.store door.new).stop ≡ stop_after (D.store door.old).stop (device_told result) }
     {
+        let geometry = door.geometry();
+        always_law(&geometry);
         for place in 0..files.len() {
             self.commit_here(door, files[place])?;
         }
         Ok(())
     }
 
-    /// Commits a live file, if it is here.
+    // Commits a live file, if it is here.
     fn commit_here<D: Door>(&mut self, door: &mut D, file: u32) -> Result<(), Excuse>
         requires held { IsSome (map.get self.old.names.held file) }
         requires sound { IsSoundServer (geometry_of_store (D.store door.old)) (D.store door.old).unassigned.free self.old }
         ensures ok { IsTrue D.tells → OnOk result ((start : PosixTree) (history : List Entry) (done : List ℕ) → HasFiles (D.store door.old) start history self.old done → HasFiles (D.store door.new) start history self.new (file ∷ done)) }
         ensures err { IsTrue D.tells → OnErr result ((start : PosixTree) (history : List Entry) → HasNames (D.store door.old) start history self.old → IsOnDisk (D.store door.new) start history self.new) }
+        ensures moments { IsTrue D.tells → (start : PosixTree) (history : List Entry) → HasNames (D.store door.old) start history self.old
+            → IsExplainedBetween D.keeps (D.store door.old).sectors start history (D.store door.old).moments (D.store door.new).moments }
         ensures same { (t : PosixTree) → ArePartsOf self.old t → ArePartsOf self.new t }
         ensures names { self.new.names ≡ self.old.names }
+        ensures fresh { self.new.fresh ≡ self.old.fresh }
+        ensures forgotten { OnOk result ((other : ℕ) → IsSome (map.get self.new.commits other) → (other ≢ file) × IsSome (map.get self.old.commits other)) }
         ensures sound { IsSoundServer (geometry_of_store (D.store door.new)) (D.store door.new).unassigned.free self.new }
         ensures geometry { geometry_of_store (D.store door.new) ≡ geometry_of_store (D.store door.old) }
         ensures sectors { (D.store door.new).sectors ≡ (D.store door.old).sectors }
@@ -84,6 +99,8 @@ impl DiskServer {
         ensures cause { IsTold (D.store door.old).faults (D.store door.new).faults (device_told result) }
         ensures stop { (D.store door.new).stop ≡ stop_after (D.store door.old).stop (device_told result) }
     {
+        let geometry = door.geometry();
+        always_law(&geometry);
         if self.files.get(file).is_none() {
             return Ok(());
         }

@@ -12,7 +12,7 @@ ghost use Rattle.ufs_model.specs.declared.data.Reply.TheVariants as reply;
 ghost use Rattle.ufs_prefix.specs.Changes.{asks_commit};
 ghost use Rattle.ufs_store.specs.Refusals.{IsTold, stop_after};
 ghost use Rattle.ufs_store.specs.State.{geometry_of_store};
-ghost use Rattle.ufs_stored.specs.OnDisk.{IsOnDisk};
+ghost use Rattle.ufs_stored.specs.OnDisk.{IsExplainedBetween, IsOnDisk};
 ghost use Rattle.ufs_stored.specs.Sound.{IsSoundServer};
 ghost use Rattle.ufs_stored.specs.Stored.{ArePartsOf};
 ghost use Rattle.ufs_server.specs.Answered.{IsAnswered, IsSyncReply, device_in, reply_to, stopped_in};
@@ -22,7 +22,7 @@ use ufs_calls::own_refusal;
 use ufs_file::Applied;
 use ufs_model::{Actor, Ask, Entry, Excuse, Op, Reply};
 use ufs_store::Door;
-use ufs_stored::on_disk_law;
+use ufs_stored::{always_law, on_disk_law};
 
 impl DiskServer {
     /// Serves an `fsync` or a `sync`.
@@ -43,6 +43,8 @@ impl DiskServer {
         ensures desc { is_excused result.entry.reply ≡ true → result.desc ≡ ask.desc }
         ensures on_disk { IsTrue D.tells → (start : PosixTree) (history : List Entry) → IsAsk (tree_after start history) ask → IsLegal start (history ++ result.entry ∷ [])
             → IsOnDisk (D.store door.old) start history self.old → IsOnDisk (D.store door.new) start (history ++ result.entry ∷ []) self.new }
+        ensures moments { IsTrue D.tells → (start : PosixTree) (history : List Entry) → IsOnDisk (D.store door.old) start history self.old
+            → IsExplainedBetween D.keeps (D.store door.old).sectors start history (D.store door.old).moments (D.store door.new).moments }
         ensures sound { IsSoundServer (geometry_of_store (D.store door.new)) (D.store door.new).unassigned.free self.new }
         ensures geometry { geometry_of_store (D.store door.new) ≡ geometry_of_store (D.store door.old) }
         ensures sectors { (D.store door.new).sectors ≡ (D.store door.old).sectors }
@@ -53,6 +55,7 @@ impl DiskServer {
     {
         let geometry = door.geometry();
         on_disk_law(&geometry);
+        always_law(&geometry);
         if let Some(errno) = own_refusal(&ask.op, ask.desc, ask.fd) {
             return replied(ask, by, ticket, Reply::Refused(errno));
         }
@@ -70,6 +73,8 @@ impl DiskServer {
         ensures on_disk { IsTrue D.tells → (start : PosixTree) (history : List Entry) (entry : Entry) → entry.client ≡ ask.now.client → entry.op ≡ ask.now.op → entry.reply ≡ result
             → IsAsk (tree_after start history) ask.now → own_refusal (tree_after start history) ask.now.client ask.now.op ≡ None → IsLegal start (history ++ entry ∷ [])
             → IsOnDisk (D.store door.old) start history self.old → IsOnDisk (D.store door.new) start (history ++ entry ∷ []) self.new }
+        ensures moments { IsTrue D.tells → (start : PosixTree) (history : List Entry) → IsOnDisk (D.store door.old) start history self.old
+            → IsExplainedBetween D.keeps (D.store door.old).sectors start history (D.store door.old).moments (D.store door.new).moments }
         ensures sound { IsSoundServer (geometry_of_store (D.store door.new)) (D.store door.new).unassigned.free self.new }
         ensures geometry { geometry_of_store (D.store door.new) ≡ geometry_of_store (D.store door.old) }
         ensures sectors { (D.store door.new).sectors ≡ (D.store door.old).sectors }
@@ -100,7 +105,7 @@ fn sync_reply(synced: Result<(), Excuse>) -> Reply
     }
 }
 
-/// The answer with this reply. The request's descriptor stays.
+// The answer with this reply. The request's descriptor stays.
 fn replied(ask: Ask, by: Actor, ticket: u64, reply: Reply) -> Applied
     ensures entry { IsEntryOf ask by ticket result.entry }
     ensures reply { result.entry.reply ≡ reply }

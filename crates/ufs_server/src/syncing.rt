@@ -1,5 +1,5 @@
 // What is synced: names, a file, everything.
-ghost use Rattle.std.specs.Prelude.{ℕ, ◌≡◌, ◌≢◌, ◌<◌, ◌↔◌, ◌∷◌, List, Some, None, IsSome, IsTrue, IfErr, OnOk, OnErr, Err, true, false};
+ghost use Rattle.std.specs.Prelude.{ℕ, ◌≡◌, ◌≢◌, ◌<◌, ◌↔◌, ◌∷◌, [], List, Some, None, IsSome, IsTrue, IfErr, OnOk, OnErr, Err, true, false};
 ghost use Rattle.std.specs.FinMap as map;
 ghost use Rattle.ufs_model.specs.PosixTree.{PosixTree};
 ghost use Rattle.ufs_model.specs.declared.data.Entry.{Entry};
@@ -8,7 +8,7 @@ ghost use Rattle.ufs_names.specs.Notes.{with_notes};
 ghost use Rattle.ufs_store.specs.Refusals.{IsTold, fault_of, is_no_space, stop_after};
 ghost use Rattle.ufs_store.specs.State.{geometry_of_store};
 ghost use Rattle.ufs_store.specs.declared.fault.StoreFault.TheVariants as refusal;
-ghost use Rattle.ufs_stored.specs.OnDisk.{HasFile, HasFiles, HasNames, IsOnDisk};
+ghost use Rattle.ufs_stored.specs.OnDisk.{HasFile, HasFiles, HasNames, IsExplainedBetween, IsOnDisk};
 ghost use Rattle.ufs_stored.specs.Sound.{IsSoundServer};
 ghost use Rattle.ufs_stored.specs.Stored.{ArePartsOf};
 ghost use Rattle.ufs_server.specs.Answered.{device_of, device_told, is_of_store};
@@ -16,6 +16,7 @@ ghost use Rattle.ufs_server.specs.Answered.{device_of, device_told, is_of_store}
 use crate::disk_server::DiskServer;
 use ufs_model::Excuse;
 use ufs_store::{Door, StoreFault};
+use ufs_stored::always_law;
 use ufs_synced::commit_notes;
 
 impl DiskServer {
@@ -24,8 +25,12 @@ impl DiskServer {
         requires sound { IsSoundServer (geometry_of_store (D.store door.old)) (D.store door.old).unassigned.free self.old }
         ensures ok { IsTrue D.tells → OnOk result ((start : PosixTree) (history : List Entry) → IsOnDisk (D.store door.old) start history self.old → HasNames (D.store door.new) start history self.new) }
         ensures err { IsTrue D.tells → OnErr result ((start : PosixTree) (history : List Entry) → IsOnDisk (D.store door.old) start history self.old → IsOnDisk (D.store door.new) start history self.new) }
+        ensures moments { IsTrue D.tells → (start : PosixTree) (history : List Entry) → IsOnDisk (D.store door.old) start history self.old
+            → IsExplainedBetween D.keeps (D.store door.old).sectors start history (D.store door.old).moments (D.store door.new).moments }
         ensures same { (t : PosixTree) → ArePartsOf self.old t → ArePartsOf self.new t }
         ensures rest { self.new ≡ record self.old { names = with_notes self.new.names.tree.noted self.old.names; fresh = self.new.fresh } }
+        ensures noted { OnOk result (self.new.names.tree.noted ≡ Some []) }
+        ensures fresh { OnOk result (self.new.fresh ≡ []) }
         ensures sound { IsSoundServer (geometry_of_store (D.store door.new)) (D.store door.new).unassigned.free self.new }
         ensures unassigned { (D.store door.new).unassigned ≡ (D.store door.old).unassigned }
         ensures geometry { geometry_of_store (D.store door.new) ≡ geometry_of_store (D.store door.old) }
@@ -36,6 +41,8 @@ impl DiskServer {
         ensures cause { IsTold (D.store door.old).faults (D.store door.new).faults (device_told result) }
         ensures stop { (D.store door.new).stop ≡ stop_after (D.store door.old).stop (device_told result) }
     {
+        let geometry = door.geometry();
+        always_law(&geometry);
         if let Some(fault) = door.stopped() {
             return Err(Excuse::Stopped { fault });
         }
@@ -59,6 +66,8 @@ impl DiskServer {
         requires sound { IsSoundServer (geometry_of_store (D.store door.old)) (D.store door.old).unassigned.free self.old }
         ensures ok { IsTrue D.tells → OnOk result ((start : PosixTree) (history : List Entry) → IsOnDisk (D.store door.old) start history self.old → HasFile (D.store door.new) start history self.new file) }
         ensures err { IsTrue D.tells → OnErr result ((start : PosixTree) (history : List Entry) → IsOnDisk (D.store door.old) start history self.old → IsOnDisk (D.store door.new) start history self.new) }
+        ensures moments { IsTrue D.tells → (start : PosixTree) (history : List Entry) → IsOnDisk (D.store door.old) start history self.old
+            → IsExplainedBetween D.keeps (D.store door.old).sectors start history (D.store door.old).moments (D.store door.new).moments }
         ensures same { (t : PosixTree) → ArePartsOf self.old t → ArePartsOf self.new t }
         ensures sound { IsSoundServer (geometry_of_store (D.store door.new)) (D.store door.new).unassigned.free self.new }
         ensures geometry { geometry_of_store (D.store door.new) ≡ geometry_of_store (D.store door.old) }

@@ -106,7 +106,7 @@ impl DiskServer {
 }
 
 impl CommitTable {
-    /// Notes that the file, which had these runs, has no byte any more. Takes no memory.
+    // Notes that the file, which had these runs, has no byte any more. Takes no memory.
     fn empty(&mut self, file: u32, before: &Extents, none: &Extents)
         requires known { IsSome (map.get self.old file) }
         requires before { (c : CommitState) → map.get self.old file ≡ Some c → before.now ≡ c.log.noted.runs }

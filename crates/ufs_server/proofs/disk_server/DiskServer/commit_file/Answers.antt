@@ -1,4 +1,4 @@
-use Rattle.std.proofs.Common.{◌≡◌, ap, sym, ◌∙◌, subst}
+use Rattle.std.proofs.Common.{ap, inl, sym, ◌∙◌, subst}
 use Rattle.std.specs.Prelude.{All}
 use Rattle.ufs_calls.proofs.Facts.Maps.{on_err}
 use Rattle.ufs_extent.specs.Runs.{IsRun}
@@ -10,7 +10,7 @@ use Rattle.ufs_on_disk.specs.Syncs.{IsSpaceOf}
 use Rattle.ufs_store.specs.State.{geometry_of_store}
 use Rattle.ufs_stored.specs.Parts.{Parts}
 use Rattle.ufs_server.proofs.FileServing.{whole}
-use Rattle.ufs_server.proofs.FileCommitting.{forgotten_done, here_done, here_failed, may_blocks, may_dropped, on_disk_failed, parts_done, parts_failed, sound_done, sound_failed, synced_done}
+use Rattle.ufs_server.proofs.FileCommitting.{forgotten_done, here_done, here_failed, may_blocks, may_dropped, meanwhile, on_disk_failed, parts_done, parts_failed, sound_done, sound_failed, synced_done}
 use Rattle.ufs_server.proofs.disk_server.DiskServer.commit_file.Goals as goal
 
 pub sync_held-told-requires-clause-noted : goal.sync_held-told-requires-clause-noted
@@ -245,3 +245,25 @@ returns-clause-sound g c =
     let y : DurableState = state_of c.sync_held-told.new.held.hand c.sync_held-told.new.held.commits in
     let v : Parts = record { names = c.self-2.inside.names; files = c.self-2.inside.files; commits = c.self-2.inside.commits; pool = c.self-2.inside.pool; fresh = c.self-2.inside.fresh.items; dropped = c.self-2.inside.dropped } in
     sound_done s0 p0 p2 file hand known sound held there number others numbered y c.put_back.new.self c.put_back.ensures c.in-Ok.ensures.back c.in_ok-told.ensures.committed c.told_law.ensures.forgotten v c.self-2.view_is c.take-committed.new.self c.take-committed.ensures.gone s1 c.file_sync_law.ensures.sound c.told_law.ensures.sound c.in_ok-told.ensures.freed c.sync_held-told.ensures.geometry
+
+pub returns-in_default-take_out-clause-moments : goal.returns-in_default-take_out-clause-moments
+returns-in_default-take_out-clause-moments g c told start history names =
+    c.always_law.ensures.rest g.D.Door.keeps (g.D.Door.store c.args.door.now) start history c.args.self.now (sym c.geometry-geometry.ensures.is) (inl names.going)
+
+pub returns-in_err-told-clause-moments : goal.returns-in_err-told-clause-moments
+returns-in_err-told-clause-moments g c told start history names =
+    let s0 = g.D.Door.store c.args.door.now in
+    let p0 = c.args.self.now in
+    let numbered : AreNumbered p0.files = subst AreNumbered (ap (λ (p : Parts). p.files) c.self.view_is) c.are_numbered.ensures in
+    meanwhile s0 p0 c.take_out.new.self c.args.file c.in-Ok.held.hand c.in-Ok.held.commits c.requires.sound c.in-Ok.ensures.held c.in-Ok.ensures.there c.in-Ok.ensures.number c.in-Ok.ensures.others numbered
+    g.D.Door.keeps c.geometry-geometry.result (g.D.Door.store c.sync_held-told.new.door) c.file_moments_law.ensures (sym c.geometry-geometry.ensures.is) c.requires.held c.sync_held-told.ensures.fits (c.sync_held-told.ensures.moments told)
+    start history names
+
+pub returns-clause-moments : goal.returns-clause-moments
+returns-clause-moments g c told start history names =
+    let s0 = g.D.Door.store c.args.door.now in
+    let p0 = c.args.self.now in
+    let numbered : AreNumbered p0.files = subst AreNumbered (ap (λ (p : Parts). p.files) c.self.view_is) c.are_numbered.ensures in
+    meanwhile s0 p0 c.take_out.new.self c.args.file c.in-Ok.held.hand c.in-Ok.held.commits c.requires.sound c.in-Ok.ensures.held c.in-Ok.ensures.there c.in-Ok.ensures.number c.in-Ok.ensures.others numbered
+    g.D.Door.keeps c.geometry-geometry.result (g.D.Door.store c.sync_held-told.new.door) c.file_moments_law.ensures (sym c.geometry-geometry.ensures.is) c.requires.held c.sync_held-told.ensures.fits (c.sync_held-told.ensures.moments told)
+    start history names

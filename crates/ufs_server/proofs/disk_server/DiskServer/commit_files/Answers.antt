@@ -1,23 +1,29 @@
-use Rattle.std.proofs.Common.{◌∙◌, ◌≡◌, ◌<◌, ◌≤◌, ◌+◌, ℕ, suc, List, ap, arith, refl, subst, sym, take, length}
+use Rattle.std.proofs.Common.{◌∙◌, ◌≡◌, ◌<◌, ◌≤◌, ◌+◌, ℕ, suc, List, ap, arith, inl, refl, subst, sym, take, length}
 use Rattle.std.specs.Prelude.{IsSome, Some, slice_get, slice_index_or}
 use Rattle.std.specs.FinMap as map
 use Rattle.std.proofs.lemmas.List.{take_all}
 use Rattle.std.proofs.lemmas.Option.{slice_get-get_or}
+use Rattle.ufs_bitmap.specs.Taking.{has}
+use Rattle.ufs_bitmap.proofs.TakingLemmas.{has-none}
 use Rattle.ufs_durable.proofs.Served.{has_at}
 use Rattle.ufs_model.proofs.Facts.Histories.{take-push}
 use Rattle.ufs_names.specs.NamesPart.{NamesPart}
 use Rattle.ufs_model.specs.PosixTree.{PosixTree}
 use Rattle.ufs_model.specs.declared.data.Entry.{Entry}
 use Rattle.ufs_stored.specs.OnDisk.{HasFiles, HasNames, IsOnDisk}
-use Rattle.ufs_server.proofs.Filed.{none_yet, one_more, stop_stays}
+use Rattle.ufs_server.proofs.Filed.{forgotten_more, none_yet, one_more, stop_stays}
+use Rattle.ufs_stored.proofs.Stretches.{explained_joined}
 use Rattle.ufs_server.proofs.Replied.{on_err}
 use Rattle.ufs_server.proofs.disk_server.DiskServer.commit_files.Goals as goal
 
 pub loop-place-init : goal.loop-place-init
 loop-place-init g c = record {
   files = λ told start history has. none_yet (g.D.Door.store c.args.door.now) start history c.args.self.now has;
+  moments = λ told start history has. c.always_law.ensures.rest g.D.Door.keeps (g.D.Door.store c.args.door.now) start history c.args.self.now (sym c.geometry-geometry.ensures.is) (inl has.going);
   same = λ t parts. parts;
   names = refl;
+  fresh = refl;
+  forgotten = λ file is. (let clash = sym is ∙ has-none file in absurd cc);
   sound = c.requires.sound;
   geometry = refl;
   sectors = refl;
@@ -50,8 +56,13 @@ loop-place-preserved g c =
     record {
       files = λ told start history has. subst (HasFiles new start history after) (sym (take-push files k file at) ∙ ap (λ (n : ℕ). take n files) next)
           (one_more new start history after (take k files) file (c.in_ok-commit_here.ensures.ok told start history (take k files) (i.files told start history has)));
+      moments = λ told start history has. explained_joined g.D.Door.keeps start history (g.D.Door.store c.args.door.now).sectors (g.D.Door.store c.args.door.now).moments (g.D.Door.store c.loop-place.door) new.moments
+          i.sectors (i.moments told start history has) (c.commit_here.ensures.moments told start history (i.files told start history has).names);
       same = λ t parts. c.commit_here.ensures.same t (i.same t parts);
       names = c.commit_here.ensures.names ∙ i.names;
+      fresh = c.commit_here.ensures.fresh ∙ i.fresh;
+      forgotten = λ other is. forgotten_more (take k files) file c.loop-place.self.commits after.commits c.in_ok-commit_here.ensures.forgotten i.forgotten other
+          (ap (λ (xs : List ℕ). has xs other) (sym (take-push files k file at) ∙ ap (λ (n : ℕ). take n files) next) ∙ is);
       sound = c.commit_here.ensures.sound;
       geometry = c.commit_here.ensures.geometry ∙ i.geometry;
       sectors = c.commit_here.ensures.sectors ∙ i.sectors;
@@ -71,3 +82,18 @@ returns-clause-ok g c told start history has =
     let files = c.args.files.now in
     let over : length files ≤ c.loop-place.place = omega (arith, c.loop-place-test.false) in
     subst (HasFiles (g.D.Door.store c.loop-place.door) start history c.loop-place.self) (take_all c.loop-place.place files over) (c.loop-place.invariant.files told start history has)
+
+pub returns-clause-forgotten : goal.returns-clause-forgotten
+returns-clause-forgotten g c file is =
+    let files = c.args.files.now in
+    let over : length files ≤ c.loop-place.place = omega (arith, c.loop-place-test.false) in
+    c.loop-place.invariant.forgotten file (ap (λ (xs : List ℕ). has xs file) (take_all c.loop-place.place files over) ∙ is)
+
+pub returns-in_err-commit_here-clause-moments : goal.returns-in_err-commit_here-clause-moments
+returns-in_err-commit_here-clause-moments g c told start history has =
+    let i = c.loop-place.invariant in
+    explained_joined g.D.Door.keeps start history (g.D.Door.store c.args.door.now).sectors (g.D.Door.store c.args.door.now).moments (g.D.Door.store c.loop-place.door) (g.D.Door.store c.commit_here.new.door).moments
+    i.sectors (i.moments told start history has) (c.commit_here.ensures.moments told start history (i.files told start history has).names)
+
+pub returns-clause-moments : goal.returns-clause-moments
+returns-clause-moments g c told start history has = c.loop-place.invariant.moments told start history has

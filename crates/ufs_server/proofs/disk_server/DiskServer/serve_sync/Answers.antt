@@ -1,12 +1,9 @@
-use Rattle.std.proofs.Common.{◌≡◌, ℕ, Option, Some, None, ap, sym, subst, ◌∙◌}
-use Rattle.ufs_model.specs.Asks.{IsAsk}
+use Rattle.std.proofs.Common.{◌≡◌, Option, Some, None, ap, sym, subst, ◌∙◌}
 use Rattle.ufs_model.specs.History.{tree_after}
-use Rattle.ufs_model.specs.PosixTree.{PosixTree}
 use Rattle.ufs_model.specs.Refusals.{own_refusal}
 use Rattle.ufs_model.specs.declared.data.Desc.{Desc}
 use Rattle.ufs_model.specs.declared.data.Reply.{Reply}
 use Rattle.ufs_model.specs.declared.data.Reply.TheVariants as reply
-use Rattle.ufs_store.specs.State.{geometry_of_store}
 use Rattle.ufs_prefix.specs.Steps.{is_ok}
 use Rattle.ufs_stored.specs.Laws.{leaves_tree}
 use Rattle.ufs_server.specs.Answered.{IsAnswered, IsSyncReply}
@@ -55,3 +52,7 @@ returns-clause-on_disk g c told start history asked legal on =
     let entry = c.replied-2.result.entry in
     let own : own_refusal (tree_after start history) ask.client ask.op ≡ None = sym (c.own_refusal.ensures (tree_after start history) ask.client asked.desc asked.fd) ∙ c.in_default.is in
     c.sync_asked-reply.ensures.on_disk told start history entry c.replied-2.ensures.entry.client c.replied-2.ensures.entry.asked c.replied-2.ensures.reply asked own legal on
+
+pub returns-in-Some-clause-moments : goal.returns-in-Some-clause-moments
+returns-in-Some-clause-moments g c told start history on =
+    c.always_law.ensures.rest g.D.Door.keeps (g.D.Door.store c.args.door.now) start history c.args.self.now (sym c.geometry-geometry.ensures.is) on

@@ -4,8 +4,8 @@ use Rattle.std.specs.FinMap as map
 use Rattle.std.proofs.lemmas.Result.{on_err_weaker, on_ok_weaker}
 use Rattle.ufs_bitmap.specs.Taking.{has}
 use Rattle.ufs_names.specs.NamesPart.{Holdings, NamesPart}
-use Rattle.ufs_store.specs.State.{geometry_of_store}
 use Rattle.ufs_stored.specs.Parts.{Parts}
+use Rattle.ufs_stored.proofs.Stretches.{explained_joined}
 use Rattle.ufs_server.proofs.Filed.{keys_are}
 use Rattle.ufs_server.proofs.disk_server.DiskServer.sync_all.Goals as goal
 
@@ -31,3 +31,32 @@ returns-clause-ok g c told =
 pub returns-clause-err : goal.returns-clause-err
 returns-clause-err g c told =
     on_err_weaker c.commit_files.result (λ stays start history on_disk. stays start history (c.in_ok-sync_names.ensures.ok told start history on_disk)) (c.commit_files.ensures.err told)
+
+pub returns-clause-nothing : goal.returns-clause-nothing
+returns-clause-nothing g c =
+    let p = c.args.self.now in
+    let keys : c.as_slice.result.now ≡ map.keys p.names.held = c.as_slice.ensures ∙ c.in-Ok.ensures ∙ ap (λ (x : Parts). map.keys x.names.held) c.self.view_is in
+    let held : c.commit_files.new.self.names.held ≡ p.names.held = ap (λ (n : NamesPart). n.held) c.commit_files.ensures.names ∙ ap (λ (x : Parts). x.names.held) c.sync_names.ensures.rest in
+    let all : (file : ℕ) → IsSome (map.get c.commit_files.new.self.names.held file) → has c.as_slice.result.now file ≡ true =
+    λ file is. ap (λ (xs : List ℕ). has xs file) keys ∙ keys_are p.names.held file ∙ ap (λ (m : Holdings). is_some (map.get m file)) (sym held) ∙ is in
+    on_ok_weaker c.commit_files.result
+    (λ forgotten. record {
+      names = ap (λ (n : NamesPart). n.tree.noted) c.commit_files.ensures.names ∙ c.in_ok-sync_names.ensures.noted;
+      fresh = c.commit_files.ensures.fresh ∙ c.in_ok-sync_names.ensures.fresh;
+      files = λ file is. forgotten file (all file is);
+    })
+    c.commit_files.ensures.forgotten
+
+pub returns-clause-moments : goal.returns-clause-moments
+returns-clause-moments g c told start history on =
+    let old = g.D.Door.store c.args.door.now in
+    explained_joined g.D.Door.keeps start history old.sectors old.moments (g.D.Door.store c.sync_names.new.door) (g.D.Door.store c.commit_files.new.door).moments c.sync_names.ensures.sectors
+    (c.sync_names.ensures.moments told start history on) (c.commit_files.ensures.moments told start history (c.in_ok-sync_names.ensures.ok told start history on))
+
+pub returns-in-Some-clause-moments : goal.returns-in-Some-clause-moments
+returns-in-Some-clause-moments g c told start history on =
+    c.always_law.ensures.rest g.D.Door.keeps (g.D.Door.store c.args.door.now) start history c.args.self.now (sym c.geometry-geometry.ensures.is) on
+
+pub returns-in_default-live-clause-moments : goal.returns-in_default-live-clause-moments
+returns-in_default-live-clause-moments g c told start history on =
+    c.always_law.ensures.rest g.D.Door.keeps (g.D.Door.store c.args.door.now) start history c.args.self.now (sym c.geometry-geometry.ensures.is) on

@@ -27,6 +27,7 @@ returns-in_default g c =
           synced_entry r entry _ _ _ (replied ∙ told_reply) (c.sync_all.ensures.ok told) (c.sync_all.ensures.err told)
           (λ ok. c.on_disk_law.ensures.all_synced s1 start history entry p1 form legal (asked ∙ is_sync) (ok start history on))
           (λ is err. c.on_disk_law.ensures.excused s1 start history entry p1 form legal is (err start history on));
+      moments = c.sync_all.ensures.moments;
       sound = c.sync_all.ensures.sound;
       geometry = c.sync_all.ensures.geometry;
       sectors = c.sync_all.ensures.sectors;

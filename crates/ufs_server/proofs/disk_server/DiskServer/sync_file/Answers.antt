@@ -1,9 +1,10 @@
-use Rattle.std.proofs.Common.{◌≡◌, [], sym, subst}
+use Rattle.std.proofs.Common.{[], sym, subst}
 use Rattle.std.specs.Prelude.{IsSome}
 use Rattle.std.specs.FinMap as map
 use Rattle.std.proofs.lemmas.Result.{on_err_weaker, on_ok_weaker}
 use Rattle.ufs_names.specs.NamesPart.{NamesPart}
 use Rattle.ufs_stored.specs.Parts.{Parts}
+use Rattle.ufs_stored.proofs.Stretches.{explained_joined}
 use Rattle.ufs_server.proofs.Filed.{has_file, none_yet}
 use Rattle.ufs_server.proofs.disk_server.DiskServer.sync_file.Goals as goal
 
@@ -22,3 +23,9 @@ returns-clause-ok g c told =
 pub returns-clause-err : goal.returns-clause-err
 returns-clause-err g c told =
     on_err_weaker c.commit_file.result (λ stays start history on. stays start history (c.in_ok-sync_names.ensures.ok told start history on)) (c.commit_file.ensures.err told)
+
+pub returns-clause-moments : goal.returns-clause-moments
+returns-clause-moments g c told start history on =
+    let old = g.D.Door.store c.args.door.now in
+    explained_joined g.D.Door.keeps start history old.sectors old.moments (g.D.Door.store c.sync_names.new.door) (g.D.Door.store c.commit_file.new.door).moments c.sync_names.ensures.sectors
+    (c.sync_names.ensures.moments told start history on) (c.commit_file.ensures.moments told start history (c.in_ok-sync_names.ensures.ok told start history on))

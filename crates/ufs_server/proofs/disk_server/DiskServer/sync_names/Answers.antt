@@ -1,4 +1,4 @@
-use Rattle.std.proofs.Common.{◌≡◌, ◌∙◌, ℕ, None, Some, List, [], ap, inl, refl, subst, sym}
+use Rattle.std.proofs.Common.{◌≡◌, ◌∙◌, ℕ, Some, List, [], ap, inl, subst, sym}
 use Rattle.std.specs.Prelude.{IsTrue}
 use Rattle.ufs_bitmap.specs.Space.{Space}
 use Rattle.ufs_bitmap.specs.Taking.{has}
@@ -82,3 +82,27 @@ returns-in-Err-clause-stopped g c fault e =
     let was = (c.excuse_of.ensures.stopped fault).0 is in
     let no = subst (λ (f : StoreFault). IsTrue (is_own f)) was c.in-Err.ensures.refused in
     absurd cc
+
+pub returns-in-Some-clause-moments : goal.returns-in-Some-clause-moments
+returns-in-Some-clause-moments g c told start history on_disk =
+    c.always_law.ensures.rest g.D.Door.keeps (g.D.Door.store c.args.door.now) start history c.args.self.now (sym c.geometry-geometry.ensures.is) on_disk
+
+pub returns-in-Ok-clause-moments : goal.returns-in-Ok-clause-moments
+returns-in-Ok-clause-moments g c told start history on_disk =
+    let p = c.args.self.now in
+    let old = g.D.Door.store c.args.door.now in
+    let fresh = sym (c.as_slice.ensures.value ∙ ap (λ (x : Parts). x.fresh) c.self.view_is) in
+    let noted = sym (c.take_notes-notes.ensures.notes ∙ ap (λ (x : Parts). x.names.tree.noted) c.self.view_is) in
+    let table = subst (λ (x : Parts). IsNameTable x.names.tree) c.self.view_is c.is_table.ensures in
+    let go = is_going old start history p (sym c.stopped.ensures ∙ c.in_default.is) on_disk in
+    c.commit_notes-committed.ensures.moments told start history p fresh noted table go
+
+pub returns-in-Err-clause-moments : goal.returns-in-Err-clause-moments
+returns-in-Err-clause-moments g c told start history on_disk =
+    let p = c.args.self.now in
+    let old = g.D.Door.store c.args.door.now in
+    let fresh = sym (c.as_slice.ensures.value ∙ ap (λ (x : Parts). x.fresh) c.self.view_is) in
+    let noted = sym (c.take_notes-notes.ensures.notes ∙ ap (λ (x : Parts). x.names.tree.noted) c.self.view_is) in
+    let table = subst (λ (x : Parts). IsNameTable x.names.tree) c.self.view_is c.is_table.ensures in
+    let go = is_going old start history p (sym c.stopped.ensures ∙ c.in_default.is) on_disk in
+    c.commit_notes-committed.ensures.moments told start history p fresh noted table go

@@ -1,0 +1,170 @@
+ghost use Rattle.std.specs.Prelude.{ℕ, ◌≡◌, ◌<◌, ◌^◌, ◌++◌, ◌∷◌, [], List, IfSome, IfNone, IsTrue, true, false};
+ghost use Rattle.ufs_client.specs.Played.{tells_fault};
+ghost use Rattle.ufs_file.specs.Hand.{IsEntryOf, IsOf};
+ghost use Rattle.ufs_model.specs.Asks.{IsAsk};
+ghost use Rattle.ufs_model.specs.Bounds.{IsBounded};
+ghost use Rattle.ufs_model.specs.Excuses.{ExcuseFits};
+ghost use Rattle.ufs_model.specs.FileCalls.{is_on_file};
+ghost use Rattle.ufs_model.specs.History.{IsLegal, is_excused, tree_after};
+ghost use Rattle.ufs_model.specs.PosixTree.{PosixTree};
+ghost use Rattle.ufs_model.specs.declared.data.Entry.{Entry};
+ghost use Rattle.ufs_model.specs.declared.data.Excuse.{Excuse};
+ghost use Rattle.ufs_model.specs.declared.data.Reply.TheVariants as reply;
+ghost use Rattle.ufs_names.specs.Calls.{IsOfNames};
+ghost use Rattle.ufs_prefix.specs.Changes.{asks_commit};
+ghost use Rattle.ufs_store.specs.State.{geometry_of_store};
+ghost use Rattle.ufs_stored.specs.OnDisk.{IsExplainedBetween, IsOnDisk};
+ghost use Rattle.ufs_stored.specs.Sound.{IsSoundServer};
+ghost use Rattle.ufs_stored.specs.Stored.{ArePartsOf};
+ghost use Rattle.ufs_synced.specs.Laws.{HasNothingNoted};
+ghost use Rattle.ufs_server.specs.Answered.{IsAnswered, IsUntold};
+
+use crate::disk_server::DiskServer;
+use crate::name_requests::{again, lacks_block};
+use ufs_file::Applied;
+use ufs_model::{Actor, Ask, Op};
+use ufs_pouring::pour;
+use ufs_store::Door;
+use ufs_stored::always_law;
+use ufs_synced::reclaim_law;
+
+impl DiskServer {
+    /// Serves a request that asks for no commit. Where blocks are wanting, and directories or removed files dropped
+    /// some, those come back, and it is served once more.
+    pub(crate) fn serve_in_space<D: Door>(
+        &mut self,
+        door: &mut D,
+        ask: Ask,
+        by: Actor,
+        ticket: u64,
+    ) -> Applied
+        requires client { ask.client < 16 }
+        requires bounded { IsBounded ask.op }
+        requires numbers { self.old.names.next < 2 ^ 31 }
+        requires unsynced { asks_commit ask.op ≡ false }
+        requires asked { (t : PosixTree) × ArePartsOf self.old t × IsAsk t ask }
+        requires sound { IsSoundServer (geometry_of_store (D.store door.old)) (D.store door.old).unassigned.free self.old }
+        ensures entry { IsEntryOf ask by ticket result.entry }
+        ensures served { is_excused result.entry.reply ≡ false → (t : PosixTree) → ArePartsOf self.old t → IsAsk t ask → IsAnswered t ask self.new result.entry.reply result.desc }
+        ensures fits { (x : Excuse) → result.entry.reply ≡ reply.Excused x → (t : PosixTree) → ArePartsOf self.old t → IsAsk t ask → ExcuseFits t ask.client ask.op x }
+        ensures unchanged { is_excused result.entry.reply ≡ true → (t : PosixTree) → ArePartsOf self.old t → ArePartsOf self.new t }
+        ensures desc { is_excused result.entry.reply ≡ true → result.desc ≡ ask.desc }
+        ensures on_disk { IsTrue D.tells → (start : PosixTree) (history : List Entry) → IsAsk (tree_after start history) ask → IsLegal start (history ++ result.entry ∷ [])
+            → IsOnDisk (D.store door.old) start history self.old → IsOnDisk (D.store door.new) start (history ++ result.entry ∷ []) self.new }
+        ensures moments { IsTrue D.tells → (start : PosixTree) (history : List Entry) → IsOnDisk (D.store door.old) start history self.old
+            → IsExplainedBetween D.keeps (D.store door.old).sectors start history (D.store door.old).moments (D.store door.new).moments }
+        ensures sound { IsSoundServer (geometry_of_store (D.store door.new)) (D.store door.new).unassigned.free self.new }
+        ensures geometry { geometry_of_store (D.store door.new) ≡ geometry_of_store (D.store door.old) }
+        ensures sectors { (D.store door.new).sectors ≡ (D.store door.old).sectors }
+        ensures calm { tells_fault result.entry.reply ≡ false }
+        ensures untold { IsUntold (D.store door.old) (D.store door.new) }
+    {
+        let (fd, last) = (ask.fd, ask.last);
+        let first = self.serve_once(door, ask, by, ticket);
+        if !lacks_block(&first.entry.reply) {
+            return first;
+        }
+        if self.dropped.count() == 0 {
+            return first;
+        }
+        self.reclaim(door);
+        self.serve_once(door, again(first, fd, last), by, ticket)
+    }
+
+    // Serves it with the blocks that are free.
+    fn serve_once<D: Door>(&mut self, door: &mut D, ask: Ask, by: Actor, ticket: u64) -> Applied
+        requires client { ask.client < 16 }
+        requires bounded { IsBounded ask.op }
+        requires numbers { self.old.names.next < 2 ^ 31 }
+        requires unsynced { asks_commit ask.op ≡ false }
+        requires asked { (t : PosixTree) × ArePartsOf self.old t × IsAsk t ask }
+        requires sound { IsSoundServer (geometry_of_store (D.store door.old)) (D.store door.old).unassigned.free self.old }
+        ensures entry { IsEntryOf ask by ticket result.entry }
+        ensures served { is_excused result.entry.reply ≡ false → (t : PosixTree) → ArePartsOf self.old t → IsAsk t ask → IsAnswered t ask self.new result.entry.reply result.desc }
+        ensures fits { (x : Excuse) → result.entry.reply ≡ reply.Excused x → (t : PosixTree) → ArePartsOf self.old t → IsAsk t ask → ExcuseFits t ask.client ask.op x }
+        ensures unchanged { is_excused result.entry.reply ≡ true → (t : PosixTree) → ArePartsOf self.old t → ArePartsOf self.new t }
+        ensures desc { is_excused result.entry.reply ≡ true → result.desc ≡ ask.desc }
+        ensures on_disk { IsTrue D.tells → (start : PosixTree) (history : List Entry) → IsAsk (tree_after start history) ask → IsLegal start (history ++ result.entry ∷ [])
+            → IsOnDisk (D.store door.old) start history self.old → IsOnDisk (D.store door.new) start (history ++ result.entry ∷ []) self.new }
+        ensures moments { IsTrue D.tells → (start : PosixTree) (history : List Entry) → IsOnDisk (D.store door.old) start history self.old
+            → IsExplainedBetween D.keeps (D.store door.old).sectors start history (D.store door.old).moments (D.store door.new).moments }
+        ensures sound { IsSoundServer (geometry_of_store (D.store door.new)) (D.store door.new).unassigned.free self.new }
+        ensures geometry { geometry_of_store (D.store door.new) ≡ geometry_of_store (D.store door.old) }
+        ensures sectors { (D.store door.new).sectors ≡ (D.store door.old).sectors }
+        ensures calm { tells_fault result.entry.reply ≡ false }
+        ensures untold { IsUntold (D.store door.old) (D.store door.new) }
+        ensures excused { IsTrue D.tells → is_excused result.entry.reply ≡ true → (start : PosixTree) (history : List Entry) → IsOnDisk (D.store door.old) start history self.old → IsOnDisk (D.store door.new) start history self.new }
+    {
+        let geometry = door.geometry();
+        always_law(&geometry);
+        match file_asked(&ask) {
+            Some(file) => self.serve_file(door, file, ask, by, ticket),
+            None => self.serve_names(door, ask, by, ticket),
+        }
+    }
+
+    // Commits everything and makes a checkpoint: so what directories and removed files dropped is free. That memory is
+    // wanting, or that the disk fails, is told by no answer, and nothing comes back then.
+    fn reclaim<D: Door>(&mut self, door: &mut D)
+        requires sound { IsSoundServer (geometry_of_store (D.store door.old)) (D.store door.old).unassigned.free self.old }
+        ensures on_disk { IsTrue D.tells → (start : PosixTree) (history : List Entry) → IsOnDisk (D.store door.old) start history self.old → IsOnDisk (D.store door.new) start history self.new }
+        ensures moments { IsTrue D.tells → (start : PosixTree) (history : List Entry) → IsOnDisk (D.store door.old) start history self.old
+            → IsExplainedBetween D.keeps (D.store door.old).sectors start history (D.store door.old).moments (D.store door.new).moments }
+        ensures same { (t : PosixTree) → ArePartsOf self.old t → ArePartsOf self.new t }
+        ensures sound { IsSoundServer (geometry_of_store (D.store door.new)) (D.store door.new).unassigned.free self.new }
+        ensures geometry { geometry_of_store (D.store door.new) ≡ geometry_of_store (D.store door.old) }
+        ensures sectors { (D.store door.new).sectors ≡ (D.store door.old).sectors }
+        ensures untold { IsUntold (D.store door.old) (D.store door.new) }
+    {
+        let synced = self.sync_all(door);
+        match synced {
+            Ok(()) => self.take_dropped(door),
+            Err(_excuse) => {}
+        }
+    }
+
+    // Makes a checkpoint, behind which what is dropped is the pool's.
+    fn take_dropped<D: Door>(&mut self, door: &mut D)
+        requires nothing { HasNothingNoted self.old }
+        requires sound { IsSoundServer (geometry_of_store (D.store door.old)) (D.store door.old).unassigned.free self.old }
+        ensures on_disk { IsTrue D.tells → (start : PosixTree) (history : List Entry) → IsOnDisk (D.store door.old) start history self.old → IsOnDisk (D.store door.new) start history self.new }
+        ensures moments { IsTrue D.tells → (start : PosixTree) (history : List Entry) → IsOnDisk (D.store door.old) start history self.old
+            → IsExplainedBetween D.keeps (D.store door.old).sectors start history (D.store door.old).moments (D.store door.new).moments }
+        ensures same { (t : PosixTree) → ArePartsOf self.old t → ArePartsOf self.new t }
+        ensures sound { IsSoundServer (geometry_of_store (D.store door.new)) (D.store door.new).unassigned.free self.new }
+        ensures geometry { geometry_of_store (D.store door.new) ≡ geometry_of_store (D.store door.old) }
+        ensures sectors { (D.store door.new).sectors ≡ (D.store door.old).sectors }
+        ensures untold { IsUntold (D.store door.old) (D.store door.new) }
+    {
+        let geometry = door.geometry();
+        reclaim_law(&geometry);
+        always_law(&geometry);
+        let passed = door.checkpoint();
+        match passed {
+            Ok(()) => pour(&mut self.dropped, &mut self.pool),
+            Err(_fault) => {}
+        }
+    }
+}
+
+// The file of a request that asks for no commit, where it is on a file's descriptor and touches that file and its
+// client alone.
+fn file_asked(ask: &Ask) -> Option<u32>
+    requires { asks_commit ask.now.op ≡ false }
+    ensures kind { IfSome result (λ file. is_on_file ask.now.op ≡ true) }
+    ensures file { IfSome result (λ file. IsOf ask.now.desc file) }
+    ensures names { IfNone result (IsOfNames ask.now) }
+{
+    match &ask.op {
+        Op::Read { .. }
+        | Op::Write { .. }
+        | Op::Pread { .. }
+        | Op::Pwrite { .. }
+        | Op::Seek { .. }
+        | Op::Trunc { .. } => match ask.desc {
+            Some(desc) => desc.file,
+            None => None,
+        },
+        _ => None,
+    }
+}
