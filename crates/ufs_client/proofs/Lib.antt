@@ -3,3 +3,4 @@ pub mod RangeLemmas
 pub mod FaultLemmas
 pub mod Lists
 pub mod Replies
+pub mod OwnLemmas

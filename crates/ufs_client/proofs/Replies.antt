@@ -1,6 +1,7 @@
 -- Replies, and the descriptors that they tell.
 use Rattle.std.proofs.Common.{◌≡◌, ℕ, true, false, Option, Some, None, refl}
 use Rattle.ufs_file.specs.Hand.{IsOf}
+use Rattle.ufs_client.specs.Played.{tells_fault}
 use Rattle.ufs_model.specs.Asks.{fd_named, fd_told}
 use Rattle.ufs_model.specs.History.{is_excused, tree_with}
 use Rattle.ufs_model.specs.Posix.{posix}
@@ -30,3 +31,8 @@ the_excuse _ e = cc
 pub desc_there : (o : Option Desc) (file : ℕ) → IsOf o file → (d : Desc) × (o ≡ Some d) × (d.file ≡ Some file)
 desc_there None file is = absurd is
 desc_there (Some d) file is = (d, refl, is)
+
+-- a reply that is no excuse tells no fault
+pub plain_calm : (r : Reply) → is_excused r ≡ false → tells_fault r ≡ false
+plain_calm (reply.Excused x) e = cc
+plain_calm _ e = refl

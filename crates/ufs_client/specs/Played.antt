@@ -1,8 +1,6 @@
 -- What a session has told its clients.
 use Rattle.std.specs.Prelude.{ℕ, ◌≡◌, List, [], Bool, true, false, unwrap_or, slice_get}
-use Rattle.std.specs.List.{AllByRecursion}
 use Rattle.ufs_model.specs.History.{DoTicketsRise, entries_of}
-use Rattle.ufs_model.specs.declared.data.Actor.{Actor}
 use Rattle.ufs_model.specs.declared.data.Entry.{Entry}
 use Rattle.ufs_model.specs.declared.data.Excuse.TheVariants as excuse
 use Rattle.ufs_model.specs.declared.data.Reply.{Reply}
@@ -11,10 +9,6 @@ use Rattle.ufs_model.specs.declared.data.Reply.TheVariants as reply
 -- a client's transcript; one that isn't there has no entry
 abbrev pub transcript : List (List Entry) → ℕ → List Entry
 transcript told client = unwrap_or (slice_get told client) []
-
--- each entry was served by this one
-abbrev pub AreServedBy : Actor → List Entry → Type 0
-AreServedBy server history = AllByRecursion (λ entry. entry.by ≡ server) history
 
 -- the reply tells a fault of a device, or that the server stopped for one
 abbrev pub tells_fault : Reply → Bool

@@ -10,7 +10,7 @@ use ufs_calls::fd_named;
 use ufs_fds::FdTable;
 use ufs_model::{Ask, Desc, Entry, Op, Reply};
 
-/// The descriptor of a request that was answered: the one that it names, or the one that it opened.
+// The descriptor of a request that was answered: the one that it names, or the one that it opened.
 fn fd_told(op: &Op, reply: &Reply) -> Option<u64>
     ensures { result ≡ fd_told op.now reply.now }
 {
@@ -23,7 +23,7 @@ fn fd_told(op: &Op, reply: &Reply) -> Option<u64>
     }
 }
 
-/// What the request's descriptor stands for.
+// What the request's descriptor stands for.
 fn desc_named(fds: &FdTable, op: &Op) -> Option<Desc>
     ensures { (all : Fds) (client : ℕ) → AreOf all client fds.now → result ≡ desc_of_fd all client (fd_named op.now) }
 {
@@ -33,7 +33,7 @@ fn desc_named(fds: &FdTable, op: &Op) -> Option<Desc>
     }
 }
 
-/// The lowest free descriptor for an `open`, and 0 for any other request, and where none is free.
+// The lowest free descriptor for an `open`, and 0 for any other request, and where none is free.
 fn fd_asked(fds: &FdTable, op: &Op) -> u32
     ensures { (all : Fds) (client : ℕ) → AreOf all client fds.now → result ≡ fd_asked all client op.now }
 {
@@ -43,7 +43,7 @@ fn fd_asked(fds: &FdTable, op: &Op) -> u32
     }
 }
 
-/// Whether the request is a `close` that ends the client's hold of a file.
+// Whether the request is a `close` that ends the client's hold of a file.
 fn is_last(fds: &FdTable, op: &Op) -> bool
     ensures { (all : Fds) (client : ℕ) → AreOf all client fds.now → result ≡ is_last all client op.now }
 {

@@ -2,7 +2,9 @@
 #![tactic(auto)]
 
 mod client;
+mod own;
 mod played;
 
 pub use client::{ask, keep};
+pub use own::{OwnAnswer, answer_own};
 pub use played::{EndFault, Session, ToldLists};

@@ -9,9 +9,8 @@ use Rattle.ufs_model.specs.PosixTree.{PosixTree}
 use Rattle.ufs_model.proofs.Facts.Histories.{order_none}
 use Rattle.ufs_model.specs.declared.data.Entry.{Entry}
 use Rattle.ufs_model.specs.declared.data.Op.{Op}
-use Rattle.ufs_model.specs.declared.data.Actor.TheVariants.{Primary}
 use Rattle.ufs_client.specs.declared.played.EndFault.{EndFault}
-use Rattle.ufs_client.specs.Played.{transcript, AreServedBy, IsMerged}
+use Rattle.ufs_client.specs.Played.{transcript, IsMerged}
 use Rattle.ufs_client.proofs.Lists.{get_before, get_here, get_past, joined-push, not_ok, rising_from}
 use Rattle.ufs_stored.specs.Parts.{Parts}
 use Rattle.ufs_session.specs.Played.{IsPlayedFrom, MayBegin}
@@ -26,7 +25,6 @@ pub record AreServing (start : PosixTree) (clients : List (List Op)) (told : Lis
   pub few : length (joined told) ≤ count * 65536
   pub reached : IsReached start (joined told) p
   pub ordered : IsInOrder clients (joined told)
-  pub server : AreServedBy Primary (joined told)
   pub complete : (c : ℕ) → c < count → length (entries_of c (joined told)) ≡ length (requests_of clients c)
   pub each : (c : ℕ) → entries_of c (joined told) ≡ transcript told c
   pub fresh : (c fd : ℕ) → count ≤ c → map.get (tree_after start (joined told)).fds (c, fd) ≡ None
@@ -39,9 +37,8 @@ none_served start clients told p none short may = subst (λ (l : List (List Entr
   tolds = refl;
   first_is = refl;
   few = omega arith;
-  reached = record { entries = tt; parts = may.parts; next = omega arith; numbers = may.numbers };
+  reached = record { entries = tt; servers = tt; parts = may.parts; next = omega arith; numbers = may.numbers };
   ordered = order_none clients;
-  server = tt;
   complete = λ c low. absurd (omega (arith, low));
   each = λ c. refl;
   fresh = λ c fd high. may.closed c fd;
@@ -81,7 +78,7 @@ module _ (start : PosixTree) (clients : List (List Op)) (told : List (List Entry
     merged = merged;
     each = λ ok. each_told (none ok);
     legal = record { entries = is.reached.entries; faults = faults };
-    server = is.server;
+    servers = is.reached.servers;
     ordered = is.ordered;
     complete = λ ok. all_served (none ok);
   }
@@ -128,16 +125,13 @@ module _ (start : PosixTree) (clients : List (List Op)) (told : List (List Entry
     ordered_more : IsInOrder clients (joined (told ++ mine ∷ []))
     ordered_more = subst (IsInOrder clients) (sym one_list) (goes.ordered clients is.ordered asked)
 
-    server_more : AreServedBy Primary (joined (told ++ mine ∷ []))
-    server_more = subst (AreServedBy Primary) (sym one_list) (goes.server is.server)
-
     -- a session that ends behind this client
     pub played_more : AreFaultsOnce (joined (told ++ mine ∷ [])) → (r : Result (Unit {0}) EndFault) → IsErr r → IsPlayedFrom start clients (told ++ mine ∷ []) r (joined (told ++ mine ∷ []))
     played_more faults r err = record {
       merged = record { rising = rising_from 0 start (joined (told ++ mine ∷ [])) reached_more.entries; each = each_more };
       each = λ ok. absurd (not_ok r err ok);
       legal = record { entries = reached_more.entries; faults = faults };
-      server = server_more;
+      servers = reached_more.servers;
       ordered = ordered_more;
       complete = λ ok. absurd (not_ok r err ok);
     }
@@ -165,7 +159,6 @@ module _ (start : PosixTree) (clients : List (List Op)) (told : List (List Entry
         few = omega (arith, longer, is.few, goes.few);
         reached = reached_more;
         ordered = ordered_more;
-        server = server_more;
         complete = complete_more;
         each = each_more;
         fresh = λ c fd high. ap (λ (h : List Entry). map.get (tree_after start h).fds (c, fd)) one_list

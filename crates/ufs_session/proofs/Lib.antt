@@ -1,3 +1,5 @@
 pub mod ToldLemmas
 pub mod ServingLemmas
 pub mod ClientsLemmas
+pub mod ThroughoutLemmas
+pub mod OwnLemmas

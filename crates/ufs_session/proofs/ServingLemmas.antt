@@ -10,7 +10,6 @@ use Rattle.ufs_model.specs.History.{IsLegalFrom, IsLegalEntry, IsExcused, IsInOr
 use Rattle.ufs_model.specs.Excuses.{ExcuseFits}
 use Rattle.ufs_model.specs.Posix.{posix}
 use Rattle.ufs_model.specs.PosixTree.{PosixTree, Fds}
-use Rattle.ufs_model.specs.declared.data.Actor.TheVariants.{Primary}
 use Rattle.ufs_model.specs.declared.data.Ask.{Ask}
 use Rattle.ufs_model.specs.declared.data.Desc.{Desc}
 use Rattle.ufs_model.specs.declared.data.Entry.{Entry}
@@ -18,13 +17,14 @@ use Rattle.ufs_model.specs.declared.data.Excuse.{Excuse}
 use Rattle.ufs_model.specs.declared.data.Op.{Op}
 use Rattle.ufs_model.specs.declared.data.Reply.{Reply}
 use Rattle.ufs_model.specs.declared.data.Reply.TheVariants as reply
-use Rattle.ufs_model.proofs.Facts.Histories.{tree_after-push, all-push, legal_from_push, own-push, others-push, order-push}
+use Rattle.ufs_model.proofs.Facts.Histories.{tree_after-push, legal_from_push, own-push, others-push, order-push}
 use Rattle.ufs_fds.specs.Descriptors.{Descs, AreOf}
 use Rattle.ufs_file.specs.Hand.{IsEntryOf}
 use Rattle.ufs_client.specs.Clients.{AreRanged}
-use Rattle.ufs_client.specs.Played.{AreServedBy}
+use Rattle.ufs_client.specs.Own.{AreServedFrom, server_of}
 use Rattle.ufs_client.proofs.RangeLemmas.{ranged_after}
 use Rattle.ufs_client.proofs.Lists.{get_here}
+use Rattle.ufs_client.proofs.OwnLemmas.{served-push}
 use Rattle.ufs_client.proofs.Replies.{by_reply, excused_named, the_excuse}
 use Rattle.ufs_server.specs.Answered.{IsAnswered}
 use Rattle.ufs_stored.specs.Parts.{Parts}
@@ -44,7 +44,7 @@ module _ (before : List Entry) (client : ℕ) (requests : List Op) (told : List 
   one_list = sym (append_assoc before told (entry ∷ []))
 
   module _ (goes : GoesOn before client requests told) (client_is : entry.client ≡ client) (number : entry.seq ≡ length told)
-      (asked : slice_get requests (length told) ≡ Some entry.op) (few : length more ≤ 65536) (server : entry.by ≡ Primary) where
+      (asked : slice_get requests (length told) ≡ Some entry.op) (few : length more ≤ 65536) where
     is_next : (clients : List (List Op)) → requests_of clients client ≡ requests → IsNext clients so_far entry
     is_next clients same = record {
       numbered = number ∙ ap (λ (l : List Entry). length l) (sym goes.own) ∙ ap (λ (c : ℕ). length (entries_of c so_far)) (sym client_is);
@@ -58,7 +58,6 @@ module _ (before : List Entry) (client : ℕ) (requests : List Op) (told : List 
           ∙ ap (λ (c : ℕ). entries_of c so_far ++ entry ∷ []) client_is ∙ ap (λ (l : List Entry). l ++ entry ∷ []) goes.own;
       others = λ c apart. ap (entries_of c) one_list ∙ others-push c so_far entry (λ e. apart (sym client_is ∙ e)) ∙ goes.others c apart;
       few = few;
-      server = λ by. subst (AreServedBy Primary) (sym one_list) (all-push (λ (e : Entry). e.by ≡ Primary) so_far entry (goes.server by) server);
     }
 
 -- ---- a client that is served
@@ -96,7 +95,6 @@ module _ (start : PosixTree) (client : ℕ) (requests : List Op) (before : List 
           own = ap (entries_of client) nil ∙ ready.entries;
           others = λ c apart. ap (entries_of c) nil;
           few = omega arith;
-          server = λ by. subst (AreServedBy Primary) (sym nil) by;
         };
         reached = subst (λ (h : List Entry). IsReached start h p) (sym nil) ready.reached;
         fds = λ c fd apart. ap (λ (h : List Entry). map.get (tree_after start h).fds (c, fd)) nil;
@@ -142,7 +140,7 @@ module _ (start : PosixTree) (client : ℕ) (requests : List Op) (before : List 
       last = last tree.fds client is.table_is ∙ (λ i. is_last tree.fds (sym client_is i) (sym op_is i));
     }
 
-    module _ (ask : Ask) (entry : Entry) (ticket : ℕ) (of : IsEntryOf ask Primary ticket entry) (ticket_is : ticket ≡ length before + seq)
+    module _ (ask : Ask) (entry : Entry) (ticket : ℕ) (of : IsEntryOf ask entry.by ticket entry) (by_is : entry.by ≡ server_of (tree_after start now) ask.client ask.op) (ticket_is : ticket ≡ length before + seq)
         (client_is : ask.client ≡ client) (seq_is : ask.seq ≡ seq) (op_is : ask.op ≡ request) (asked : IsAsk (tree_after start now) ask)
         (new : Parts) (new_table : Descs) (desc : Option Desc)
         (kept : (old new : Fds) (c : ℕ) → AreOf old c table → IsDescAfter old new c (fd_told entry.op entry.reply) desc → AreRanged old c → AreRanged new c → AreOf new c new_table) where
@@ -165,9 +163,11 @@ module _ (start : PosixTree) (client : ℕ) (requests : List Op) (before : List 
           counted = length-append done (request ∷ []) ∙ ap (λ (n : ℕ). n + 1) is.counted;
           long = longer entry;
           goes = goes_more before client requests told entry is.goes (of.client ∙ client_is) (of.seq ∙ seq_is ∙ sym is.long)
-              (asked_here ∙ ap Some (sym (of.asked ∙ op_is))) (few_more entry) of.server;
+              (asked_here ∙ ap Some (sym (of.asked ∙ op_is))) (few_more entry);
           reached = record {
             entries = subst (IsLegalFrom 0 start) (sym (one_list before client requests told entry)) (legal_now fits);
+            servers = subst (AreServedFrom start) (sym (one_list before client requests told entry)) (served-push start now entry is.reached.servers
+                (by_is ∙ (λ i. server_of tree (sym of.client i) (sym of.asked i))));
             parts = subst (ArePartsOf new) (sym goes_to) reached;
             next = let count = length-append before (told ++ entry ∷ []) in let old = length-append before told in
                 let same = ap (λ (t : PosixTree). t.next) goes_to in omega (arith, count, old, longer entry, is.long, one_file, is.reached.next, same);

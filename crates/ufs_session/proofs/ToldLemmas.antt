@@ -14,7 +14,7 @@ use Rattle.ufs_model.specs.declared.data.Reply.TheVariants as reply
 use Rattle.ufs_server.specs.Answered.{TellsFaults, device_in, stopped_in}
 use Rattle.ufs_store.specs.Refusals.{IsTold, stop_after}
 use Rattle.ufs_store.specs.State.{StoreState}
-use Rattle.ufs_session.specs.Told.{AreFaultsTold, AreToldStop, HadNoFault, HadOneFault, devices_in}
+use Rattle.ufs_session.specs.Told.{AreFaultsTold, HadNoFault, HadOneFault, devices_in}
 
 -- ---- no two entries tell one fault
 

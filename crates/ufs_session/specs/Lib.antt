@@ -1,3 +1,4 @@
 pub mod Told
 pub mod Played
 pub mod Serving
+pub mod Throughout

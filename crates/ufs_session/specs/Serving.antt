@@ -6,14 +6,14 @@ use Rattle.ufs_model.specs.PosixTree.{PosixTree}
 use Rattle.ufs_model.specs.History.{IsLegalFrom, IsInOrder, tree_after, entries_of, requests_of}
 use Rattle.ufs_model.specs.declared.data.Op.{Op}
 use Rattle.ufs_model.specs.declared.data.Entry.{Entry}
-use Rattle.ufs_model.specs.declared.data.Actor.TheVariants.{Primary}
-use Rattle.ufs_client.specs.Played.{AreServedBy}
+use Rattle.ufs_client.specs.Own.{AreServedFrom}
 use Rattle.ufs_stored.specs.Parts.{Parts}
 use Rattle.ufs_stored.specs.Stored.{ArePartsOf}
 
 -- A history that is served: the parts are those of the tree after it, and no more files were made than requests served.
 pub record IsReached (start : PosixTree) (history : List Entry) (p : Parts) : Type 0 where
   pub entries : IsLegalFrom 0 start history
+  pub servers : AreServedFrom start history
   pub parts : ArePartsOf p (tree_after start history)
   pub next : (tree_after start history).next ≤ start.next + length history
   pub numbers : start.next + MAX_CLIENTS * MAX_REQUESTS ≤ 2 ^ 31
@@ -30,7 +30,6 @@ pub record GoesOn (before : List Entry) (client : ℕ) (requests : List Op) (tol
   pub own : entries_of client (before ++ told) ≡ told
   pub others : (c : ℕ) → client ≢ c → entries_of c (before ++ told) ≡ entries_of c before
   pub few : length told ≤ MAX_REQUESTS
-  pub server : AreServedBy Primary before → AreServedBy Primary (before ++ told)
 
 -- ..and it answers each request; the other clients' descriptors stay.
 pub record IsDone (start : PosixTree) (before : List Entry) (client : ℕ) (requests : List Op) (told : List Entry) : Type 0 where

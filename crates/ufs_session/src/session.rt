@@ -1,7 +1,15 @@
-// A session on one thread.
-ghost use Rattle.std.specs.Prelude.{◌-◌, ◌+◌, ◌^◌, ◌≡◌, ◌≤◌, ◌<◌, ◌*◌, ◌++◌, [], List, None, OnOk, IsTrue, length};
+ghost use Rattle.std.specs.Prelude.{◌-◌, ◌+◌, ◌^◌, ◌≡◌, ◌≤◌, ◌<◌, ◌*◌, ◌++◌, ◌∷◌, [], ℕ, List, None, Some, OnOk, IsTrue, length, true, false};
+ghost use Rattle.ufs_client.specs.Own.{server_of};
+ghost use Rattle.ufs_file.specs.Hand.{IsEntryOf};
+ghost use Rattle.ufs_model.specs.Asks.{IsAsk};
+ghost use Rattle.ufs_model.specs.Bounds.{IsBounded};
+ghost use Rattle.ufs_model.specs.Excuses.{ExcuseFits};
 ghost use Rattle.ufs_model.specs.PosixTree.{PosixTree};
-ghost use Rattle.ufs_model.specs.History.{AreTicketsOnce, entries_of, joined, tree_after};
+ghost use Rattle.ufs_model.specs.History.{AreTicketsOnce, IsLegal, is_excused, joined, tree_after};
+ghost use Rattle.ufs_model.specs.declared.data.Entry.{Entry};
+ghost use Rattle.ufs_model.specs.declared.data.Excuse.{Excuse};
+ghost use Rattle.ufs_model.specs.declared.data.Reply.TheVariants as reply;
+ghost use Rattle.ufs_server.specs.Answered.{IsAnswered, TellsFaults, device_in, stopped_in};
 ghost use Rattle.ufs_store.specs.State.{StoreState, geometry_of_store};
 ghost use Rattle.ufs_stored.specs.OnDisk.{IsOnDisk};
 ghost use Rattle.ufs_stored.specs.Sound.{IsSoundServer};
@@ -9,18 +17,65 @@ ghost use Rattle.ufs_stored.specs.Stored.{ArePartsOf};
 ghost use Rattle.ufs_session.specs.Told.{AreFaultsTold};
 ghost use Rattle.ufs_session.specs.Played.{IsPlayedFrom, MayBegin};
 ghost use Rattle.ufs_session.specs.Serving.{GoesOn, IsDone, IsReached, IsReady};
+ghost use Rattle.ufs_session.specs.Throughout.{IsExplainedThroughout};
 
 use std::alloc::Global;
 use ufs_base::{MAX_CLIENTS, MAX_REQUESTS, Memory};
-use ufs_client::{EndFault, Session, ToldLists, ask, keep};
+use ufs_client::{EndFault, Session, ToldLists, answer_own, ask, keep};
 use ufs_fds::FdTable;
-use ufs_model::{Actor, Entry, EntryList, a_request_makes_one_file_at_most};
+use ufs_file::Applied;
+use ufs_model::{Actor, Ask, Entry, EntryList, a_request_makes_one_file_at_most};
 use ufs_script::{OpList, OpLists};
 use ufs_server::DiskServer;
 use ufs_store::Door;
+use ufs_stored::{always_law, on_disk_law};
 
-/// Serves a client's requests one by one, and adds the entries to its transcript; an excuse is a reply like others.
-/// Whatever ends it, server and disk are what the entries tell.
+// Serves a request: the client does where its descriptors tell the answer, and the server otherwise.
+fn serve_one<D: Door>(server: &mut DiskServer, door: &mut D, ask: Ask, ticket: u64) -> Applied
+    requires client { ask.client < MAX_CLIENTS }
+    requires bounded { IsBounded ask.op }
+    requires numbers { server.old.names.next < 2 ^ 31 }
+    requires asked { (t : PosixTree) × ArePartsOf server.old t × IsAsk t ask }
+    requires sound { IsSoundServer (geometry_of_store (D.store door.old)) (D.store door.old).unassigned.free server.old }
+    ensures entry { IsEntryOf ask result.entry.by ticket result.entry }
+    ensures by { (t : PosixTree) → IsAsk t ask → result.entry.by ≡ server_of t ask.client ask.op }
+    ensures served { is_excused result.entry.reply ≡ false → (t : PosixTree) → ArePartsOf server.old t → IsAsk t ask → IsAnswered t ask server.new result.entry.reply result.desc }
+    ensures fits { (x : Excuse) → result.entry.reply ≡ reply.Excused x → (t : PosixTree) → ArePartsOf server.old t → IsAsk t ask → ExcuseFits t ask.client ask.op x }
+    ensures unchanged { is_excused result.entry.reply ≡ true → (t : PosixTree) → ArePartsOf server.old t → ArePartsOf server.new t }
+    ensures desc { is_excused result.entry.reply ≡ true → result.desc ≡ ask.desc }
+    ensures on_disk { IsTrue D.tells → (start : PosixTree) (history : List Entry) → IsAsk (tree_after start history) ask → IsLegal start (history ++ result.entry ∷ [])
+        → IsOnDisk (D.store door.old) start history server.old → IsOnDisk (D.store door.new) start (history ++ result.entry ∷ []) server.new }
+    ensures moments { IsTrue D.tells → (start : PosixTree) (history : List Entry) → IsAsk (tree_after start history) ask → IsLegal start (history ++ result.entry ∷ [])
+        → IsOnDisk (D.store door.old) start history server.old
+        → IsExplainedThroughout D.keeps (D.store door.old).sectors start history (result.entry ∷ []) (D.store door.old).moments (D.store door.new).moments }
+    ensures sound { IsSoundServer (geometry_of_store (D.store door.new)) (D.store door.new).unassigned.free server.new }
+    ensures geometry { geometry_of_store (D.store door.new) ≡ geometry_of_store (D.store door.old) }
+    ensures sectors { (D.store door.new).sectors ≡ (D.store door.old).sectors }
+    ensures stopped { (fault : ℕ) → stopped_in result.entry.reply ≡ Some fault → (D.store door.old).stop ≡ Some fault }
+    ensures told { TellsFaults (D.store door.old) (D.store door.new) result.entry.reply }
+    ensures still { (fault : ℕ) → (D.store door.old).stop ≡ Some fault → device_in result.entry.reply ≡ None }
+{
+    let geometry = door.geometry();
+    on_disk_law(&geometry);
+    always_law(&geometry);
+    let Some(answer) = answer_own(&ask) else {
+        return server.apply(door, ask, Actor::Primary, ticket);
+    };
+    Applied {
+        entry: Entry {
+            ticket,
+            client: ask.client,
+            seq: ask.seq,
+            by: Actor::Client(ask.client),
+            op: ask.op,
+            reply: answer.reply,
+        },
+        desc: answer.desc,
+    }
+}
+
+// Serves a client's requests one by one, and adds the entries to its transcript; an excuse is a reply like others.
+// Whatever ends it, server and disk are what the entries tell.
 fn serve_client<D: Door>(
     server: &mut DiskServer,
     door: &mut D,
@@ -42,19 +97,24 @@ fn serve_client<D: Door>(
     ensures done { OnOk result ((start : PosixTree) → IsReady start (joined earlier.now.items) server.old client → IsDone start (joined earlier.now.items) client requests told.new.items) }
     ensures on_disk { IsTrue D.tells → (start : PosixTree) → IsReady start (joined earlier.now.items) server.old client
         → IsOnDisk (D.store door.old) start (joined earlier.now.items) server.old → IsOnDisk (D.store door.new) start (joined earlier.now.items ++ told.new.items) server.new }
+    ensures moments { IsTrue D.tells → (start : PosixTree) → IsReady start (joined earlier.now.items) server.old client
+        → IsOnDisk (D.store door.old) start (joined earlier.now.items) server.old
+        → IsExplainedThroughout D.keeps (D.store door.old).sectors start (joined earlier.now.items) told.new.items (D.store door.old).moments (D.store door.new).moments }
     ensures faults { AreFaultsTold (D.store door.old) (D.store door.new) told.new.items }
     ensures sound { IsSoundServer (geometry_of_store (D.store door.new)) (D.store door.new).unassigned.free server.new }
     ensures geometry { geometry_of_store (D.store door.new) ≡ geometry_of_store (D.store door.old) }
     ensures sectors { (D.store door.new).sectors ≡ (D.store door.old).sectors }
 {
     a_request_makes_one_file_at_most();
+    let geometry = door.geometry();
+    always_law(&geometry);
     let mut fds = FdTable::new();
     let mut seq = 0u32;
     for op in requests.into_vec() {
         // Room for the entry comes first, so that nothing is served that isn't told.
         told.reserve(1)?;
         let asked = ask(&fds, client, seq, op);
-        let applied = server.apply(door, asked, Actor::Primary, first + u64::from(seq));
+        let applied = serve_one(server, door, asked, first + u64::from(seq));
         keep(&mut fds, &applied.entry, applied.desc);
         told.push(applied.entry).unwrap();
         seq += 1;
@@ -62,7 +122,7 @@ fn serve_client<D: Door>(
     Ok(())
 }
 
-/// Serves the clients, one after another.
+// Serves the clients, one after another.
 fn serve_clients<D: Door>(
     alloc: Global,
     server: &mut DiskServer,
@@ -77,11 +137,15 @@ fn serve_clients<D: Door>(
     ensures left { (start : PosixTree) → MayBegin server.old start → IsReached start (joined told.new.items) server.new }
     ensures on_disk { IsTrue D.tells → (start : PosixTree) → MayBegin server.old start
         → IsOnDisk (D.store door.old) start [] server.old → IsOnDisk (D.store door.new) start (joined told.new.items) server.new }
+    ensures moments { IsTrue D.tells → (start : PosixTree) → MayBegin server.old start → IsOnDisk (D.store door.old) start [] server.old
+        → IsExplainedThroughout D.keeps (D.store door.old).sectors start [] (joined told.new.items) (D.store door.old).moments (D.store door.new).moments }
     ensures faults { AreFaultsTold (D.store door.old) (D.store door.new) (joined told.new.items) }
     ensures sound { IsSoundServer (geometry_of_store (D.store door.new)) (D.store door.new).unassigned.free server.new }
     ensures geometry { geometry_of_store (D.store door.new) ≡ geometry_of_store (D.store door.old) }
     ensures sectors { (D.store door.new).sectors ≡ (D.store door.old).sectors }
 {
+    let geometry = door.geometry();
+    always_law(&geometry);
     let mut client = 0u8;
     let mut first = 0u64;
     for requests in clients.into_vec() {
@@ -118,6 +182,8 @@ pub fn serve<D: Door>(
     ensures left { (start : PosixTree) → MayBegin server.old start → ArePartsOf server.new (tree_after start (joined result.told)) }
     ensures on_disk { IsTrue D.tells → (start : PosixTree) → MayBegin server.old start
         → IsOnDisk (D.store door.old) start [] server.old → IsOnDisk (D.store door.new) start (joined result.told) server.new }
+    ensures moments { IsTrue D.tells → (start : PosixTree) → MayBegin server.old start → IsOnDisk (D.store door.old) start [] server.old
+        → IsExplainedThroughout D.keeps (D.store door.old).sectors start [] (joined result.told) (D.store door.old).moments (D.store door.new).moments }
     ensures once { AreTicketsOnce (joined result.told) }
     ensures faults { AreFaultsTold (D.store door.old) (D.store door.new) (joined result.told) }
     ensures calm { (D.store door.new).stop ≡ None → ((D.store door.new).faults ≡ (D.store door.old).faults) × ((D.store door.old).stop ≡ None) }

@@ -1,9 +1,10 @@
-use Rattle.std.proofs.Common.{List, sym, subst}
+use Rattle.std.proofs.Common.{List, [], sym, subst}
 use Rattle.ufs_model.specs.History.{joined, tree_after, AreTicketsOnce}
 use Rattle.ufs_model.specs.declared.data.Entry.{Entry}
 use Rattle.ufs_stored.specs.OnDisk.{IsOnDisk}
 use Rattle.ufs_stored.specs.Stored.{ArePartsOf}
 use Rattle.ufs_client.proofs.Lists.{once_rising, rising_from}
+use Rattle.ufs_session.specs.Throughout.{IsExplainedThroughout}
 use Rattle.ufs_session.specs.Told.{AreFaultsTold}
 use Rattle.ufs_session.proofs.ToldLemmas.{calm_told}
 use Rattle.ufs_session.proofs.session.serve.Goals as goal
@@ -32,3 +33,10 @@ pub returns-clause-calm : goal.returns-clause-calm
 returns-clause-calm g c none =
     let s = c.serve_clients-ended in
     calm_told (g.D.Door.store c.args.door.now) (g.D.Door.store s.new.door) (joined s.new.told.items) s.ensures.faults none
+
+pub returns-clause-moments : goal.returns-clause-moments
+returns-clause-moments g c tells start may is =
+    let old = g.D.Door.store c.args.door.now in
+    let new = g.D.Door.store c.serve_clients-ended.new.door in
+    subst (λ (lists : List (List Entry)). IsExplainedThroughout g.D.Door.keeps old.sectors start [] (joined lists) old.moments new.moments) (sym c.from_vec.ensures)
+    (c.serve_clients-ended.ensures.moments tells start may is)

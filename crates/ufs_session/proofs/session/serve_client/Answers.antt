@@ -1,4 +1,4 @@
-use Rattle.std.proofs.Common.{◌≡◌, ◌++◌, ◌∷◌, [], ◌<◌, ℕ, List, ap, arith, refl, sym, ◌∙◌, subst, length, ◌+◌}
+use Rattle.std.proofs.Common.{◌≡◌, ◌++◌, ◌∷◌, [], ℕ, List, ap, refl, sym, ◌∙◌, subst, length, ◌+◌}
 use Rattle.std.proofs.lemmas.List.{append-nil, append_assoc}
 use Rattle.ufs_model.specs.History.{IsLegalFrom, joined, tree_after}
 use Rattle.ufs_model.specs.PosixTree.{PosixTree}
@@ -7,8 +7,10 @@ use Rattle.ufs_model.specs.declared.data.Entry.{Entry}
 use Rattle.ufs_client.proofs.Lists.{pushed_on}
 use Rattle.ufs_stored.specs.OnDisk.{IsOnDisk}
 use Rattle.ufs_session.specs.Serving.{IsReady}
+use Rattle.ufs_session.specs.Throughout.{IsExplainedThroughout}
 use Rattle.ufs_session.specs.Told.{AreFaultsTold}
 use Rattle.ufs_session.proofs.ServingLemmas.{IsServing, any_more, begins, is_ask, names_few}
+use Rattle.ufs_session.proofs.ThroughoutLemmas.{throughout_joined}
 use Rattle.ufs_session.proofs.ToldLemmas.{legal_told, none_told, one_told, told_on}
 use Rattle.ufs_session.proofs.session.serve_client.Goals as goal
 
@@ -23,22 +25,25 @@ loop-op-init g c =
           subst (λ (r : List Op). IsServing start c.args.client c.args.requests before c.args.server.now c.new-fds.result c.args.told.now.items 0 [] r) (sym items)
           (begins start c.args.client c.args.requests before c.args.server.now c.new-fds.result c.args.told.now.items c.new-fds.ensures c.requires.none c.into_vec-op-items.ensures.few ready);
       on_disk = λ tells start ready is. subst (λ (h : List Entry). IsOnDisk s start h c.args.server.now) whole is;
+      moments = λ tells start ready is.
+          subst (λ (told : List Entry). IsExplainedThroughout g.D.Door.keeps s.sectors start before told s.moments s.moments) (sym c.requires.none)
+          (c.always_law.ensures.rest g.D.Door.keeps s start before c.args.server.now (sym c.geometry-geometry.ensures.is) is);
       faults = subst (AreFaultsTold s s) (sym c.requires.none) (none_told s);
       sound = c.requires.sound;
       geometry = refl;
       sectors = refl;
     }
 
-pub apply-applied-requires-clause-numbers : goal.apply-applied-requires-clause-numbers
-apply-applied-requires-clause-numbers g c =
+pub serve_one-applied-requires-clause-numbers : goal.serve_one-applied-requires-clause-numbers
+serve_one-applied-requires-clause-numbers g c =
     let l = c.loop-op in
     let before = joined c.args.earlier.now.items in
     let start = c.requires.ready.0 in
     let so_far = subst (λ (r : List Op). IsServing start c.args.client c.args.requests before l.server l.fds l.told.items l.seq l.yielded r) c.in-Some.ensures.steps.0 (l.invariant.serving start c.requires.ready.1) in
     names_few start c.args.client c.args.requests before l.server l.fds l.told.items l.seq l.yielded c.in-Some.op c.next.new.self.rest.items so_far c.requires.few
 
-pub apply-applied-requires-clause-asked : goal.apply-applied-requires-clause-asked
-apply-applied-requires-clause-asked g c =
+pub serve_one-applied-requires-clause-asked : goal.serve_one-applied-requires-clause-asked
+serve_one-applied-requires-clause-asked g c =
     let e = c.ask-asked.ensures in
     let l = c.loop-op in
     let before = joined c.args.earlier.now.items in
@@ -52,13 +57,13 @@ apply-applied-requires-clause-asked g c =
 pub loop-op-preserved : goal.loop-op-preserved
 loop-op-preserved g c =
     let e = c.ask-asked.ensures in
-    let a = c.apply-applied.ensures in
+    let a = c.serve_one-applied.ensures in
     let l = c.loop-op in
     let client : ℕ = c.args.client in
     let first = g.D.Door.store c.args.door.now in
     let now = g.D.Door.store l.door in
-    let next = g.D.Door.store c.apply-applied.new.door in
-    let entry = c.apply-applied.result.entry in
+    let next = g.D.Door.store c.serve_one-applied.new.door in
+    let entry = c.serve_one-applied.result.entry in
     let before = joined c.args.earlier.now.items in
     let told = l.told.items in
     let rest = c.next.new.self.rest.items in
@@ -69,10 +74,10 @@ loop-op-preserved g c =
     let ticket : c.args.first + c.from.result ≡ length before + l.seq = (λ i. c.requires.first i + c.from.ensures i) in
     let pushed = pushed_on c.push.result _ _ told _ _ c.unwrap.ensures c.reserve.ensures.items c.push.ensures.items in
     let serving : (start : PosixTree) → IsReady start before c.args.server.now client
-    → IsServing start client c.args.requests before c.apply-applied.new.self c.keep.new.fds (told ++ entry ∷ []) (l.seq + 1) (l.yielded ++ c.in-Some.op ∷ []) rest =
+    → IsServing start client c.args.requests before c.serve_one-applied.new.server c.keep.new.fds (told ++ entry ∷ []) (l.seq + 1) (l.yielded ++ c.in-Some.op ∷ []) rest =
     λ start ready.
     any_more start client c.args.requests before l.server l.fds told l.seq l.yielded c.in-Some.op rest (so_far start ready)
-    c.ask-asked.result entry _ a.entry ticket e.client e.seq e.asked (asked start ready) c.apply-applied.new.self c.keep.new.fds c.apply-applied.result.desc c.keep.ensures
+    c.ask-asked.result entry _ a.entry (a.by (tree_after start (before ++ told)) (asked start ready)) ticket e.client e.seq e.asked (asked start ready) c.serve_one-applied.new.server c.keep.new.fds c.serve_one-applied.result.desc c.keep.ensures
     (λ plain. a.served plain (tree_after start (before ++ told)) (so_far start ready).reached.parts (asked start ready))
     (λ x excused. a.fits x excused (tree_after start (before ++ told)) (so_far start ready).reached.parts (asked start ready))
     (λ excused. a.unchanged excused (tree_after start (before ++ told)) (so_far start ready).reached.parts) a.desc
@@ -81,14 +86,19 @@ loop-op-preserved g c =
     let more : AreFaultsTold first next (told ++ entry ∷ []) = told_on first now next told (entry ∷ []) l.invariant.faults (one_told now next entry a.told a.still a.stopped) in
     let begun = c.requires.faults.0 in
     let all = subst (AreFaultsTold begun next) (sym (append_assoc before told (entry ∷ []))) (told_on begun first next before (told ++ entry ∷ []) c.requires.faults.1 more) in
+    let legal = λ (start : PosixTree) (ready : IsReady start before c.args.server.now client).
+    legal_told begun next start ((before ++ told) ++ entry ∷ []) all (subst (IsLegalFrom 0 start) (sym (append_assoc before told (entry ∷ []))) (serving start ready).reached.entries) in
     record {
       serving = λ start ready.
-          subst (λ (t : List Entry). IsServing start client c.args.requests before c.apply-applied.new.self c.keep.new.fds t (l.seq + 1) (l.yielded ++ c.in-Some.op ∷ []) rest) (sym pushed) (serving start ready);
+          subst (λ (t : List Entry). IsServing start client c.args.requests before c.serve_one-applied.new.server c.keep.new.fds t (l.seq + 1) (l.yielded ++ c.in-Some.op ∷ []) rest) (sym pushed) (serving start ready);
       on_disk = λ tells start ready is.
-          subst (λ (h : List Entry). IsOnDisk next start h c.apply-applied.new.self) whole
-          (a.on_disk tells start (before ++ told) (asked start ready)
-          (legal_told begun next start ((before ++ told) ++ entry ∷ []) all (subst (IsLegalFrom 0 start) (sym (append_assoc before told (entry ∷ []))) (serving start ready).reached.entries))
-          (l.invariant.on_disk tells start ready is));
+          subst (λ (h : List Entry). IsOnDisk next start h c.serve_one-applied.new.server) whole
+          (a.on_disk tells start (before ++ told) (asked start ready) (legal start ready) (l.invariant.on_disk tells start ready is));
+      moments = λ tells start ready is.
+          let one = subst (λ (n : ℕ). IsExplainedThroughout g.D.Door.keeps n start (before ++ told) (entry ∷ []) now.moments next.moments) l.invariant.sectors
+          (a.moments tells start (before ++ told) (asked start ready) (legal start ready) (l.invariant.on_disk tells start ready is)) in
+          subst (λ (t : List Entry). IsExplainedThroughout g.D.Door.keeps first.sectors start before t first.moments next.moments) (sym pushed)
+          (throughout_joined g.D.Door.keeps first.sectors start before told (entry ∷ []) first.moments now.moments next.moments (l.invariant.moments tells start ready is) one);
       faults = subst (AreFaultsTold first next) (sym pushed) more;
       sound = a.sound;
       geometry = a.geometry ∙ l.invariant.geometry;
@@ -99,3 +109,10 @@ pub returns-in_err-reserve-clause-on_disk : goal.returns-in_err-reserve-clause-o
 returns-in_err-reserve-clause-on_disk g c tells start ready is =
     let l = c.loop-op in
     subst (λ (told : List Entry). IsOnDisk (g.D.Door.store l.door) start (joined c.args.earlier.now.items ++ told) l.server) (sym c.reserve.ensures.items) (l.invariant.on_disk tells start ready is)
+
+pub returns-in_err-reserve-clause-moments : goal.returns-in_err-reserve-clause-moments
+returns-in_err-reserve-clause-moments g c tells start ready is =
+    let l = c.loop-op in
+    let s = g.D.Door.store c.args.door.now in
+    subst (λ (told : List Entry). IsExplainedThroughout g.D.Door.keeps s.sectors start (joined c.args.earlier.now.items) told s.moments (g.D.Door.store l.door).moments) (sym c.reserve.ensures.items)
+    (l.invariant.moments tells start ready is)

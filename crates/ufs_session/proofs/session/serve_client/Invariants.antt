@@ -6,6 +6,7 @@ use Rattle.ufs_store.specs.State.{geometry_of_store}
 use Rattle.ufs_stored.specs.OnDisk.{IsOnDisk}
 use Rattle.ufs_stored.specs.Sound.{IsSoundServer}
 use Rattle.ufs_session.specs.Serving.{IsReady}
+use Rattle.ufs_session.specs.Throughout.{IsExplainedThroughout}
 use Rattle.ufs_session.specs.Told.{AreFaultsTold}
 use Rattle.ufs_session.proofs.ServingLemmas.{IsServing}
 use Rattle.ufs_session.proofs.session.serve_client.Given as goal
@@ -18,6 +19,8 @@ invariant-loop-op g l =
     record {
       serving : (start : PosixTree) → IsReady start before l.fn.server l.fn.client → IsServing start l.fn.client l.fn.requests before l.server l.fds l.told.items l.seq l.yielded l.op-iterator.rest.items;
       on_disk : IsTrue g.D.Door.tells → (start : PosixTree) → IsReady start before l.fn.server l.fn.client → IsOnDisk first start before l.fn.server → IsOnDisk now start (before ++ l.told.items) l.server;
+      moments : IsTrue g.D.Door.tells → (start : PosixTree) → IsReady start before l.fn.server l.fn.client → IsOnDisk first start before l.fn.server
+          → IsExplainedThroughout g.D.Door.keeps first.sectors start before l.told.items first.moments now.moments;
       faults : AreFaultsTold first now l.told.items;
       sound : IsSoundServer (geometry_of_store now) now.unassigned.free l.server;
       geometry : geometry_of_store now ≡ geometry_of_store first;

@@ -8,8 +8,10 @@ use Rattle.ufs_client.proofs.Lists.{joined-push, no_items, pushed_on}
 use Rattle.ufs_stored.specs.OnDisk.{IsOnDisk}
 use Rattle.ufs_session.specs.Played.{IsPlayedFrom, MayBegin}
 use Rattle.ufs_session.specs.Serving.{IsReached}
+use Rattle.ufs_session.specs.Throughout.{IsExplainedThroughout}
 use Rattle.ufs_session.specs.Told.{AreFaultsTold}
 use Rattle.ufs_session.proofs.ClientsLemmas.{AreServing, few, low, none_served, one_client_more, played_here, played_more, reached_more, ready}
+use Rattle.ufs_session.proofs.ThroughoutLemmas.{throughout_joined}
 use Rattle.ufs_session.proofs.ToldLemmas.{none_told, once_told, told_on}
 use Rattle.ufs_session.proofs.session.serve_clients.Goals as goal
 
@@ -22,6 +24,9 @@ loop-requests-init g c =
           subst (λ (r : List (List Op)). AreServing start c.args.clients c.args.told.now.items c.args.server.now 0 0 [] r) (sym items)
           (none_served start c.args.clients c.args.told.now.items c.args.server.now c.requires.none c.into_vec-requests-items.ensures.few may);
       on_disk = λ tells start may is. subst (λ (told : List (List Entry)). IsOnDisk s start (joined told) c.args.server.now) (sym c.requires.none) is;
+      moments = λ tells start may is.
+          subst (λ (told : List (List Entry)). IsExplainedThroughout g.D.Door.keeps s.sectors start [] (joined told) s.moments s.moments) (sym c.requires.none)
+          (c.always_law.ensures.rest g.D.Door.keeps s start [] c.args.server.now (sym c.geometry-geometry.ensures.is) is);
       faults = subst (λ (told : List (List Entry)). AreFaultsTold s s (joined told)) (sym c.requires.none) (none_told s);
       sound = c.requires.sound;
       geometry = refl;
@@ -110,6 +115,26 @@ returns-in_err-ended-clause-on_disk g c tells start may is =
     subst (λ (told : List (List Entry)). IsOnDisk (g.D.Door.store s.new.door) start (joined told) s.new.server) (sym pushed)
     (subst (λ (h : List Entry). IsOnDisk (g.D.Door.store s.new.door) start h s.new.server) (sym (joined-push earlier s.new.told.items)) (s.ensures.on_disk tells start here was))
 
+pub returns-in_err-ended-clause-moments : goal.returns-in_err-ended-clause-moments
+returns-in_err-ended-clause-moments g c tells start may is =
+    let l = c.loop-requests in
+    let first = g.D.Door.store c.args.door.now in
+    let now = g.D.Door.store l.door in
+    let next = subst (λ (r : List (List Op)). AreServing start c.args.clients l.told.items l.server l.client l.first l.yielded r) c.in-Some.ensures.steps.0 (l.invariant.serving start may) in
+    let so_far = subst (λ (told : List (List Entry)). AreServing start c.args.clients told l.server l.client l.first l.yielded (c.in-Some.requests ∷ c.next.new.self.rest.items)) (sym c.reserve.ensures.items) next in
+    let earlier = c.reserve.new.self.items in
+    let s = c.serve_client-ended in
+    let later = g.D.Door.store s.new.door in
+    let mine = s.new.told.items in
+    let pushed = pushed_on c.push.result _ _ earlier _ _ c.unwrap.ensures refl c.push.ensures.items ∙ ap (λ (m : List Entry). earlier ++ m ∷ []) c.from_vec.ensures in
+    let both = ap joined pushed ∙ joined-push earlier mine in
+    let here = ready start c.args.clients earlier l.server l.client l.first l.yielded c.in-Some.requests c.next.new.self.rest.items so_far in
+    let on = subst (λ (told : List (List Entry)). IsOnDisk now start (joined told) l.server) (sym c.reserve.ensures.items) (l.invariant.on_disk tells start may is) in
+    let before = subst (λ (told : List (List Entry)). IsExplainedThroughout g.D.Door.keeps first.sectors start [] (joined told) first.moments now.moments) (sym c.reserve.ensures.items) (l.invariant.moments tells start may is) in
+    let behind = subst (λ (n : ℕ). IsExplainedThroughout g.D.Door.keeps n start (joined earlier) mine now.moments later.moments) l.invariant.sectors (s.ensures.moments tells start here on) in
+    subst (λ (h : List Entry). IsExplainedThroughout g.D.Door.keeps first.sectors start [] h first.moments later.moments) (sym both)
+    (throughout_joined g.D.Door.keeps first.sectors start [] (joined earlier) mine first.moments now.moments later.moments before behind)
+
 pub returns-in_err-ended-clause-faults : goal.returns-in_err-ended-clause-faults
 returns-in_err-ended-clause-faults g c =
     let l = c.loop-requests in
@@ -148,6 +173,12 @@ loop-requests-preserved g c =
       on_disk = λ tells start may is.
           subst (λ (h : List Entry). IsOnDisk later start h s.new.server) (sym both)
           (s.ensures.on_disk tells start (here start may) (subst (λ (told : List (List Entry)). IsOnDisk now start (joined told) l.server) (sym c.reserve.ensures.items) (l.invariant.on_disk tells start may is)));
+      moments = λ tells start may is.
+          let on = subst (λ (told : List (List Entry)). IsOnDisk now start (joined told) l.server) (sym c.reserve.ensures.items) (l.invariant.on_disk tells start may is) in
+          let before = subst (λ (told : List (List Entry)). IsExplainedThroughout g.D.Door.keeps first.sectors start [] (joined told) first.moments now.moments) (sym c.reserve.ensures.items) (l.invariant.moments tells start may is) in
+          let behind = subst (λ (n : ℕ). IsExplainedThroughout g.D.Door.keeps n start (joined earlier) mine now.moments later.moments) l.invariant.sectors (s.ensures.moments tells start (here start may) on) in
+          subst (λ (h : List Entry). IsExplainedThroughout g.D.Door.keeps first.sectors start [] h first.moments later.moments) (sym both)
+          (throughout_joined g.D.Door.keeps first.sectors start [] (joined earlier) mine first.moments now.moments later.moments before behind);
       faults = subst (AreFaultsTold first later) (sym both) (told_on first now later (joined earlier) mine was s.ensures.faults);
       sound = s.ensures.sound;
       geometry = s.ensures.geometry ∙ l.invariant.geometry;
@@ -184,3 +215,10 @@ overflow_add-client g c =
     let next = subst (λ (r : List (List Op)). AreServing start c.args.clients l.told.items l.server l.client l.first l.yielded r) c.in-Some.ensures.steps.0 (l.invariant.serving start c.requires.start.1) in
     let less = low start c.args.clients l.told.items l.server l.client l.first l.yielded c.in-Some.requests c.next.new.self.rest.items next in
     omega (arith, less)
+
+pub returns-then-is_err-clause-moments : goal.returns-then-is_err-clause-moments
+returns-then-is_err-clause-moments g c tells start may is =
+    let l = c.loop-requests in
+    let s = g.D.Door.store c.args.door.now in
+    subst (λ (told : List (List Entry)). IsExplainedThroughout g.D.Door.keeps s.sectors start [] (joined told) s.moments (g.D.Door.store l.door).moments) (sym c.reserve.ensures.items)
+    (l.invariant.moments tells start may is)

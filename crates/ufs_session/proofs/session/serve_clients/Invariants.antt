@@ -6,6 +6,7 @@ use Rattle.ufs_store.specs.State.{geometry_of_store}
 use Rattle.ufs_stored.specs.OnDisk.{IsOnDisk}
 use Rattle.ufs_stored.specs.Sound.{IsSoundServer}
 use Rattle.ufs_session.specs.Played.{MayBegin}
+use Rattle.ufs_session.specs.Throughout.{IsExplainedThroughout}
 use Rattle.ufs_session.specs.Told.{AreFaultsTold}
 use Rattle.ufs_session.proofs.ClientsLemmas.{AreServing}
 use Rattle.ufs_session.proofs.session.serve_clients.Given as goal
@@ -17,6 +18,8 @@ invariant-loop-requests g l =
     record {
       serving : (start : PosixTree) → MayBegin l.fn.server start → AreServing start l.fn.clients l.told.items l.server l.client l.first l.yielded l.requests-iterator.rest.items;
       on_disk : IsTrue g.D.Door.tells → (start : PosixTree) → MayBegin l.fn.server start → IsOnDisk first start [] l.fn.server → IsOnDisk now start (joined l.told.items) l.server;
+      moments : IsTrue g.D.Door.tells → (start : PosixTree) → MayBegin l.fn.server start → IsOnDisk first start [] l.fn.server
+          → IsExplainedThroughout g.D.Door.keeps first.sectors start [] (joined l.told.items) first.moments now.moments;
       faults : AreFaultsTold first now (joined l.told.items);
       sound : IsSoundServer (geometry_of_store now) now.unassigned.free l.server;
       geometry : geometry_of_store now ≡ geometry_of_store first;
