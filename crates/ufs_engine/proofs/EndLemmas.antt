@@ -37,7 +37,7 @@ played_as start clients told ended other history leads is = record {
   merged = is.merged;
   each = λ ok. is.each (as_ok ended other ok leads);
   legal = is.legal;
-  server = is.server;
+  servers = is.servers;
   ordered = is.ordered;
   complete = λ ok. is.complete (as_ok ended other ok leads);
 }
@@ -53,7 +53,7 @@ none_played start clients = record {
   merged = record { rising = tt; each = λ client. refl };
   each = λ ok. cc;
   legal = record { entries = tt; faults = tt };
-  server = tt;
+  servers = tt;
   ordered = order_none clients;
   complete = λ ok. cc;
 }

@@ -6,8 +6,9 @@ use Rattle.ufs_engine.specs.Closes.{OpensAsLeft, device_told_by, stopped_at}
 use Rattle.ufs_engine.specs.declared.closing.CloseFault.{CloseFault}
 use Rattle.ufs_engine.specs.declared.closing.CloseFault.TheVariants as cause
 use Rattle.ufs_disk.specs.Disk.{IsImage, IsSettled, Leaves, State, seen}
-use Rattle.ufs_disk.specs.Moments.{Moments, reads}
+use Rattle.ufs_disk.specs.Moments.{LeavesOnly, Moments, reads}
 use Rattle.ufs_disk.proofs.Images.{seen_is_image}
+use Rattle.ufs_disk.proofs.Runs.{goes_on, weaker}
 use Rattle.ufs_image.specs.Proper.{IsProperImage}
 use Rattle.ufs_last.specs.Last.{StandsForTree}
 use Rattle.ufs_last.specs.Laws.{AllIsLast}
@@ -23,15 +24,16 @@ use Rattle.ufs_recovery.specs.Recovered.{IsCleanDisk, IsProperDisk}
 use Rattle.ufs_server.specs.Answered.{device_of, stopped_of}
 use Rattle.ufs_store.specs.Refusals.{IsTold}
 use Rattle.ufs_store.specs.State.{StoreState, geometry_of_store}
-use Rattle.ufs_stored.specs.OnDisk.{HasAll, IsOnDisk}
+use Rattle.ufs_stored.specs.OnDisk.{HasAll, IsExplainedBetween, IsExplainedImage, IsOnDisk}
 use Rattle.ufs_stored.specs.OnDiskLaws.{OnDiskIsExplained, OnDiskIsProper}
 use Rattle.ufs_stored.specs.Parts.{Parts}
 
 -- ---- the image is made clean
 
 -- of a disk on which nothing else may be left
-pub as_it_was : (sectors : ℕ) (before after : State) → Leaves (IsImage before) after → Leaves (OpensAsLeft sectors before) after
-as_it_was sectors before after left image is = record { other = image; left = left image is; alike = record { tree = refl; proper = λ proper. proper } }
+pub as_it_was : (keeps : Bool) (sectors : ℕ) (old new : Moments) → LeavesOnly keeps (IsImage old.state) old new → LeavesOnly keeps (OpensAsLeft sectors old.state) old new
+as_it_was keeps sectors old new =
+    weaker keeps (IsImage old.state) (OpensAsLeft sectors old.state) (λ image is. record { other = image; left = is; alike = record { tree = refl; proper = λ proper. proper } }) old new
 
 -- behind a barrier
 pub proper_behind : (sectors : ℕ) (before after : State) → seen after ≡ seen before → IsSettled after → Leaves (IsProperImage sectors) before → IsProperDisk sectors after
@@ -41,13 +43,11 @@ proper_behind sectors before after same settled proper = record {
 }
 
 -- behind a recovery from there
-pub cleaned : (keeps : Bool) (sectors : ℕ) (before : State) (old new : Moments) → reads old ≡ seen before → IsSettled old.state → (IsProperDisk sectors old.state → KeepsTree keeps sectors old new)
-    → Leaves (IsProperImage sectors) before → Leaves (OpensAsLeft sectors before) new.state
-cleaned keeps sectors before old new same settled keeps_tree proper image is = record {
-  other = seen before;
-  left = seen_is_image before;
-  alike = subst (λ (other : Image). OpensAlike sectors other image) same ((keeps_tree (proper_behind sectors before old.state same settled proper)).after image is);
-}
+pub cleaned : (keeps : Bool) (sectors : ℕ) (old mid new : Moments) → LeavesOnly keeps (IsImage old.state) old mid → reads mid ≡ reads old → IsSettled mid.state → (IsProperDisk sectors mid.state → KeepsTree keeps sectors mid new)
+    → Leaves (IsProperImage sectors) old.state → LeavesOnly keeps (OpensAsLeft sectors old.state) old new
+cleaned keeps sectors old mid new waited same settled keeps_tree proper =
+    goes_on keeps (OpensAsLeft sectors old.state) (OpensAlike sectors (reads mid)) old mid new (as_it_was keeps sectors old mid waited) (keeps_tree (proper_behind sectors old.state mid.state same settled proper))
+    (λ image alike. record { other = reads old; left = seen_is_image old.state; alike = subst (λ (other : Image). OpensAlike sectors other image) same alike })
 
 -- ---- everything was committed before
 
@@ -57,35 +57,38 @@ left_by P sectors s after size same left = subst (λ (n : ℕ). Leaves (P n) aft
 
 module _ (g : Geometry) (sectors : ℕ) (s : StoreState) (start : PosixTree) (history : List Entry) (p : Parts) (on_disk : IsOnDisk s start history p)
     (formed : geometry_of_store s ≡ g) (size : s.sectors ≡ sectors) (after : Moments) (same : after ≡ s.moments) where
-  pub stays_explained : OnDiskIsExplained g → Leaves (OpensExplained sectors start history) after.state
+  stays_explained : OnDiskIsExplained g → Leaves (OpensExplained sectors start history) after.state
   stays_explained explains = left_by (λ n. OpensExplained n start history) sectors s after size same (explains s start history p formed on_disk)
 
-  pub stays_proper : OnDiskIsProper g → Leaves (IsProperImage sectors) after.state
+  stays_proper : OnDiskIsProper g → Leaves (IsProperImage sectors) after.state
   stays_proper is_proper = left_by IsProperImage sectors s after size same (is_proper s start history p formed on_disk)
 
 module _ (g : Geometry) (explains : OnDiskIsExplained g) (is_proper : OnDiskIsProper g) (is_last : AllIsLast g) (sectors : ℕ) (s : StoreState) (start : PosixTree) (history : List Entry) (p : Parts)
     (formed : geometry_of_store s ≡ g) (size : s.sectors ≡ sectors) (all : HasAll s start history p) (before after : Moments) (same : before ≡ s.moments)
-    (given : ℕ) (sized : given ≡ s.sectors) (cleans : Leaves (IsProperImage given) before.state → Leaves (OpensAsLeft given before.state) after.state) where
+    (given : ℕ) (sized : given ≡ s.sectors) (keeps : Bool) (cleans : Leaves (IsProperImage given) before.state → LeavesOnly keeps (OpensAsLeft given before.state) before after) where
   proper_given : Leaves (IsProperImage given) before.state
   proper_given = stays_proper g given s start history p (inl all.going) formed (sym sized) before same is_proper
 
-  as_left : Leaves (OpensAsLeft sectors before.state) after.state
-  as_left = subst (λ (n : ℕ). Leaves (OpensAsLeft n before.state) after.state) (sized ∙ size) (cleans proper_given)
+  as_left : LeavesOnly keeps (OpensAsLeft sectors before.state) before after
+  as_left = subst (λ (n : ℕ). LeavesOnly keeps (OpensAsLeft n before.state) before after) (sized ∙ size) (cleans proper_given)
 
-  pub ended_explained : Leaves (OpensExplained sectors start history) after.state
-  ended_explained image is =
-      let a = as_left image is in
+  left_explained : (image : Image) → OpensAsLeft sectors before.state image → IsExplainedImage sectors start history image
+  left_explained image a =
       let e = stays_explained g sectors s start history p (inl all.going) formed size before same explains a.other a.left in
-      record { tree = e.tree; opened = a.alike.tree ∙ e.opened; explained = e.explained }
+      record {
+        explained = record { tree = e.tree; opened = a.alike.tree ∙ e.opened; explained = e.explained };
+        proper = a.alike.proper (stays_proper g sectors s start history p (inl all.going) formed size before same is_proper a.other a.left);
+      }
 
-  pub ended_proper : Leaves (IsProperImage sectors) after.state
-  ended_proper image is =
-      let a = as_left image is in
-      a.alike.proper (stays_proper g sectors s start history p (inl all.going) formed size before same is_proper a.other a.left)
+  -- so it is from an earlier moment on
+  pub ended_explained : (old : Moments) → IsExplainedBetween keeps sectors start history old s.moments → IsExplainedBetween keeps sectors start history old after
+  ended_explained old synced =
+      goes_on keeps (IsExplainedImage sectors start history) (OpensAsLeft sectors before.state) old before after
+      (subst (λ (m : Moments). IsExplainedBetween keeps sectors start history old m) (sym same) synced) as_left left_explained
 
   pub ended_last : StandsForTree sectors (tree_after start history) (reads after)
   ended_last =
-      let a = as_left (reads after) (seen_is_image after.state) in
+      let a = as_left.after (reads after) (seen_is_image after.state) in
       let l = left_by (λ n. StandsForTree n (tree_after start history)) sectors s before size same (is_last s start history p formed all) a.other a.left in
       record { tree = l.tree; opened = a.alike.tree ∙ l.opened; contents = l.contents }
 

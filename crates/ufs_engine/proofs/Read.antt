@@ -6,9 +6,10 @@ use Rattle.ufs_catalog.specs.Faults.{IsOutside, IsWhyNot}
 use Rattle.ufs_catalog.specs.Reading.{IsReadOnly}
 use Rattle.ufs_catalog.specs.declared.fault.RecoverFault.{RecoverFault}
 use Rattle.ufs_catalog.specs.declared.fault.RecoverFault.TheVariants.{NoSuperblock, BadVersion, BadGeometry, BadRecord, BadTree, Device, Memory}
-use Rattle.ufs_disk.specs.Disk.{Leaves, State, seen}
+use Rattle.ufs_disk.specs.Disk.{IsImage, Leaves, State, seen}
 use Rattle.ufs_disk.specs.Moments.{Moments, reads}
 use Rattle.ufs_disk.proofs.Images.{seen_is_image}
+use Rattle.ufs_disk.proofs.Runs.{weaker}
 use Rattle.ufs_image.specs.Opens.{ImageTree, opens}
 use Rattle.ufs_image.specs.Proper.{IsProperImage}
 use Rattle.ufs_image.specs.Volume.{head_of}
@@ -21,12 +22,13 @@ use Rattle.ufs_names_image.specs.Starts.{image_start}
 use Rattle.ufs_names_image.proofs.Started.{image_is_tree}
 use Rattle.ufs_prefix.proofs.Facts.Ends.{start_explained}
 use Rattle.ufs_opening.specs.Told.{TellsWhy}
-use Rattle.ufs_recovery.specs.Home.{KeepsTree}
+use Rattle.ufs_recovery.specs.Home.{KeepsTree, OpensAlike}
 use Rattle.ufs_recovery.specs.Recovered.{IsCleanDisk, IsProperDisk, log_of}
 use Rattle.ufs_recovery.proofs.Ends.{proper_opens}
 use Rattle.ufs_start.specs.Refused.{TellsNoStart}
 use Rattle.ufs_start.specs.declared.fault.StartFault.{StartFault}
 use Rattle.ufs_start.specs.declared.fault.StartFault.TheVariants.{Image, Unreached, Unnamed, ExtraBlocks, TooLong}
+use Rattle.ufs_stored.specs.OnDisk.{IsExplainedBetween, IsExplainedImage}
 use Rattle.ufs_engine.specs.Begins.{BeginsWith, TellsNoSession}
 
 -- ---- a tree, and what begins with it
@@ -49,9 +51,6 @@ begins_explained keeps sectors image start with_it =
 -- ---- a disk that was only read
 
 module _ (keeps : Bool) (old new : Moments) (read : IsReadOnly keeps old new) where
-  pub leaves_still : (P : images.Image → Type 0) → Leaves P old.state → Leaves P new.state
-  leaves_still P here image left = here image (read.crash.after image left)
-
   pub clean_still : (sectors : ℕ) → IsCleanDisk sectors old.state → IsCleanDisk sectors new.state
   clean_still sectors is = record {
     proper = record {
@@ -64,11 +63,14 @@ module _ (keeps : Bool) (old new : Moments) (read : IsReadOnly keeps old new) wh
 
 -- ---- of a clean disk
 
-pub clean_explained : KeepsTrees → (sectors : ℕ) (state : State) (start : PosixTree) → IsCleanDisk sectors state → BeginsWith sectors (seen state) start → Leaves (OpensExplained sectors start []) state
-clean_explained keeps sectors state start is with_it image left = subst (OpensExplained sectors start []) (sym (is.proper.settled image left)) (begins_explained keeps sectors (seen state) start with_it)
+pub clean_explained : KeepsTrees → (sectors : ℕ) (state : State) (start : PosixTree) → IsCleanDisk sectors state → BeginsWith sectors (seen state) start → Leaves (IsExplainedImage sectors start []) state
+clean_explained trees sectors state start is with_it image left =
+    subst (IsExplainedImage sectors start []) (sym (is.proper.settled image left)) (record { explained = begins_explained trees sectors (seen state) start with_it; proper = is.proper.proper })
 
-pub clean_proper : (sectors : ℕ) (state : State) → IsCleanDisk sectors state → Leaves (IsProperImage sectors) state
-clean_proper sectors state is image left = subst (IsProperImage sectors) (sym (is.proper.settled image left)) is.proper.proper
+-- while it is only read
+pub reading_explained : KeepsTrees → (keeps : Bool) (sectors : ℕ) (old new : Moments) (start : PosixTree) → IsReadOnly keeps old new → IsCleanDisk sectors old.state → BeginsWith sectors (reads old) start → IsExplainedBetween keeps sectors start [] old new
+reading_explained trees keeps sectors old new start read is with_it =
+    weaker keeps (IsImage old.state) (IsExplainedImage sectors start []) (clean_explained trees sectors old.state start is with_it) old new read.crash
 
 -- ---- of a disk that is recovered
 
@@ -76,11 +78,10 @@ module _ (keeps : Bool) (sectors : ℕ) (old new : Moments) (kept : KeepsTree ke
   pub same_tree : opens sectors (reads new) ≡ opens sectors (reads old)
   same_tree = (kept.after (reads new) (seen_is_image new.state)).tree
 
-  pub recovery_explained : KeepsTrees → (start : PosixTree) → BeginsWith sectors (reads old) start → Leaves (OpensExplained sectors start []) new.state
-  recovery_explained trees start with_it image left = begins_explained trees sectors image start (begins_alike sectors sectors (reads old) image start (kept.after image left).tree with_it)
-
-  pub recovery_proper : IsProperDisk sectors old.state → Leaves (IsProperImage sectors) new.state
-  recovery_proper proper image left = (kept.after image left).proper proper.proper
+  pub recovery_explained : KeepsTrees → (start : PosixTree) → IsProperDisk sectors old.state → BeginsWith sectors (reads old) start → IsExplainedBetween keeps sectors start [] old new
+  recovery_explained trees start proper with_it =
+      weaker keeps (OpensAlike sectors (reads old)) (IsExplainedImage sectors start [])
+      (λ image alike. record { explained = begins_explained trees sectors image start (begins_alike sectors sectors (reads old) image start alike.tree with_it); proper = alike.proper proper.proper }) old new kept
 
 pub proper_begins : (sectors : ℕ) (state : State) → IsProperDisk sectors state → (start : PosixTree) × BeginsWith sectors (seen state) start
 proper_begins sectors state proper =

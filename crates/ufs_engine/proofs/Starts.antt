@@ -137,7 +137,7 @@ module _ (g : Geometry) (sectors : ℕ) (state : State) (s : Start) (is : IsRead
         (subst (λ (t : PosixTree). IsOnDisk store t [] (parts_of s)) (sym (same_start sectors (seen state) s is.begun start with_it)) on_it)
       where
         on_it : IsOnDisk store t [] (parts_of s)
-        on_it = inl (going sectors state v s.names s.files set.empty store is.geometry images (mountable mounts) has formed
+        on_it = inl (going sectors state v s.names s.files store is.geometry images (mountable mounts) has formed
             (subst (λ (u : Space). IsOpened sectors (seen state) v s.names s.files u.free) (sym free) (opened sectors (seen state) s is.begun))
             (none_orphaned sectors (seen state) s is.begun opened named none))
 
@@ -148,7 +148,7 @@ module _ (g : Geometry) (sectors : ℕ) (state : State) (s : Start) (is : IsRead
       kept : IsLedgerKept (opening_ledger (in_use head) (seen state)) t [] k k
       kept =
           let earlier = subst (λ (x : Geometry). HasEarlier x head.epoch (seen state)) (sym s.head.same) (mountable mounts).earlier in
-          (stored sectors (seen state) v s.names s.files s.free.free set.empty is.geometry (images (seen state) (seen_is_image state)) (opened sectors (seen state) s is.begun)
+          (stored sectors (seen state) v s.names s.files s.free.free is.geometry (images (seen state) (seen_is_image state)) (opened sectors (seen state) s is.begun)
           (none_orphaned sectors (seen state) s is.begun opened named none) earlier).kept
 
       kept_before : IsLedgerKept (opening_ledger head (seen state)) t [] k k

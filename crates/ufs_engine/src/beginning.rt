@@ -1,14 +1,10 @@
-// A session begins.
 ghost use Rattle.std.specs.Prelude.{ℕ, ◌≡◌, [], None, Ok, Err, IsTrue, IfOk, IfErr, OnOk};
 ghost use Rattle.ufs_engine.specs.Begins.{BeginsWith, TellsNoSession};
-ghost use Rattle.ufs_disk.specs.Disk.{Leaves};
 ghost use Rattle.ufs_disk.specs.Moments.{reads};
 ghost use Rattle.ufs_catalog.specs.Faults.{HasFaultCause, IsOutside};
 ghost use Rattle.ufs_catalog.specs.declared.fault.RecoverFault.{RecoverFault};
 ghost use Rattle.ufs_image.specs.Opens.{ImageTree, opens};
-ghost use Rattle.ufs_image.specs.Proper.{IsProperImage};
 ghost use Rattle.ufs_image.specs.Volume.{Refusal};
-ghost use Rattle.ufs_ledger.specs.Kept.{OpensExplained};
 ghost use Rattle.ufs_model.specs.PosixTree.{PosixTree};
 ghost use Rattle.ufs_opening.specs.Told.{TellsWhy};
 ghost use Rattle.ufs_recovery.specs.Recovered.{IsCleanDisk, IsProperDisk};
@@ -20,7 +16,7 @@ ghost use Rattle.ufs_start.specs.declared.fault.StartFault.TheVariants as start;
 ghost use Rattle.ufs_store.specs.Refusals.{IsTold};
 ghost use Rattle.ufs_store.specs.Refusals as refusals;
 ghost use Rattle.ufs_store.specs.State.{geometry_of_store};
-ghost use Rattle.ufs_stored.specs.OnDisk.{IsOnDisk};
+ghost use Rattle.ufs_stored.specs.OnDisk.{IsExplainedBetween, IsOnDisk};
 ghost use Rattle.ufs_stored.specs.Sound.{IsSoundServer};
 
 use crate::laws::{beginning_law, mounted_law};
@@ -48,7 +44,8 @@ pub struct Unbegun<D: Disk> {
 }
 
 /// Begins a session on a disk: recovers its image where that is in use, reads what a server begins with, and marks the
-/// image in use. Nothing is served yet, so whatever a crash leaves stands for the tree that the disk stood for.
+/// image in use. Nothing is served yet, so whatever a crash leaves, at each moment, stands for the tree that the disk
+/// stood for.
 pub fn begin<D: Disk>(alloc: Global, mut disk: D) -> Result<Begun<D>, Unbegun<D>>
     // over any disk
     ensures may { IfOk result (λ b. (start : PosixTree) × MayBegin b.server start) }
@@ -67,9 +64,10 @@ pub fn begin<D: Disk>(alloc: Global, mut disk: D) -> Result<Begun<D>, Unbegun<D>
         → IfOk result (λ b. MayBegin b.server start) }
     ensures on_disk { IsTrue D.tells → IsProperDisk (D.size disk) (D.moments disk).state → (start : PosixTree) → BeginsWith (D.size disk) (reads (D.moments disk)) start
         → IfOk result (λ b. IsOnDisk (⟦<Store<D> as Door>⟧.store b.store) start [] b.server) }
-    ensures crash { IsTrue D.tells → IsProperDisk (D.size disk) (D.moments disk).state → (start : PosixTree) → BeginsWith (D.size disk) (reads (D.moments disk)) start
-        → IfErr result (λ u. Leaves (OpensExplained (D.size disk) start []) (D.moments u.disk).state) }
-    ensures proper { IsTrue D.tells → IsProperDisk (D.size disk) (D.moments disk).state → IfErr result (λ u. Leaves (IsProperImage (D.size disk)) (D.moments u.disk).state) }
+    ensures moments { IsTrue D.tells → IsProperDisk (D.size disk) (D.moments disk).state → (start : PosixTree) → BeginsWith (D.size disk) (reads (D.moments disk)) start
+        → IfOk result (λ b. IsExplainedBetween D.keeps (D.size disk) start [] (D.moments disk) (⟦<Store<D> as Door>⟧.store b.store).moments) }
+    ensures err_moments { IsTrue D.tells → IsProperDisk (D.size disk) (D.moments disk).state → (start : PosixTree) → BeginsWith (D.size disk) (reads (D.moments disk)) start
+        → IfErr result (λ u. IsExplainedBetween D.keeps (D.size disk) start [] (D.moments disk) (D.moments u.disk)) }
     ensures refused { IsTrue D.tells → IsProperDisk (D.size disk) (D.moments disk).state → IfErr result (λ u. TellsNoSession (D.size disk) (reads (D.moments disk)) u.fault) }
 {
     a_request_keeps_the_tree();
@@ -94,9 +92,10 @@ fn begin_clean<D: Disk>(alloc: Global, mut disk: D) -> Result<Begun<D>, Unbegun<
     ensures parts { IsTrue D.tells → (start : PosixTree) → BeginsWith (D.size disk) (reads (D.moments disk)) start → IfOk result (λ b. MayBegin b.server start) }
     ensures on_disk { IsTrue D.tells → IsCleanDisk (D.size disk) (D.moments disk).state → (start : PosixTree) → BeginsWith (D.size disk) (reads (D.moments disk)) start
         → IfOk result (λ b. IsOnDisk (⟦<Store<D> as Door>⟧.store b.store) start [] b.server) }
-    ensures crash { IsTrue D.tells → IsCleanDisk (D.size disk) (D.moments disk).state → (start : PosixTree) → BeginsWith (D.size disk) (reads (D.moments disk)) start
-        → IfErr result (λ u. Leaves (OpensExplained (D.size disk) start []) (D.moments u.disk).state) }
-    ensures proper { IsTrue D.tells → IsCleanDisk (D.size disk) (D.moments disk).state → IfErr result (λ u. Leaves (IsProperImage (D.size disk)) (D.moments u.disk).state) }
+    ensures moments { IsTrue D.tells → IsCleanDisk (D.size disk) (D.moments disk).state → (start : PosixTree) → BeginsWith (D.size disk) (reads (D.moments disk)) start
+        → IfOk result (λ b. IsExplainedBetween D.keeps (D.size disk) start [] (D.moments disk) (⟦<Store<D> as Door>⟧.store b.store).moments) }
+    ensures err_moments { IsTrue D.tells → IsCleanDisk (D.size disk) (D.moments disk).state → (start : PosixTree) → BeginsWith (D.size disk) (reads (D.moments disk)) start
+        → IfErr result (λ u. IsExplainedBetween D.keeps (D.size disk) start [] (D.moments disk) (D.moments u.disk)) }
     ensures refused { IsTrue D.tells → IfErr result (λ u. TellsNoSession (D.size disk) (reads (D.moments disk)) u.fault) }
 {
     a_request_keeps_the_tree();
@@ -119,10 +118,12 @@ fn mount<D: Disk>(alloc: Global, disk: D, parts: Start) -> Result<Begun<D>, Unbe
     ensures outside { IfErr result (λ u. (fault : RecoverFault) × (u.fault ≡ start.Image fault) × IsOutside fault) }
     ensures on_disk { IsTrue D.tells → IsCleanDisk (D.size disk) (D.moments disk).state → IsBegun (D.size disk) (reads (D.moments disk)) parts
         → (start : PosixTree) → BeginsWith (D.size disk) (reads (D.moments disk)) start → IfOk result (λ b. IsOnDisk (⟦<Store<D> as Door>⟧.store b.store) start [] b.server) }
-    ensures crash { IsTrue D.tells → IsCleanDisk (D.size disk) (D.moments disk).state → IsBegun (D.size disk) (reads (D.moments disk)) parts
-        → (start : PosixTree) → BeginsWith (D.size disk) (reads (D.moments disk)) start → IfErr result (λ u. Leaves (OpensExplained (D.size disk) start []) (D.moments u.disk).state) }
-    ensures proper { IsTrue D.tells → IsCleanDisk (D.size disk) (D.moments disk).state → IsBegun (D.size disk) (reads (D.moments disk)) parts
-        → IfErr result (λ u. Leaves (IsProperImage (D.size disk)) (D.moments u.disk).state) }
+    ensures moments { IsTrue D.tells → IsCleanDisk (D.size disk) (D.moments disk).state → IsBegun (D.size disk) (reads (D.moments disk)) parts
+        → (start : PosixTree) → BeginsWith (D.size disk) (reads (D.moments disk)) start
+        → IfOk result (λ b. IsExplainedBetween D.keeps (D.size disk) start [] (D.moments disk) (⟦<Store<D> as Door>⟧.store b.store).moments) }
+    ensures err_moments { IsTrue D.tells → IsCleanDisk (D.size disk) (D.moments disk).state → IsBegun (D.size disk) (reads (D.moments disk)) parts
+        → (start : PosixTree) → BeginsWith (D.size disk) (reads (D.moments disk)) start
+        → IfErr result (λ u. IsExplainedBetween D.keeps (D.size disk) start [] (D.moments disk) (D.moments u.disk)) }
 {
     let head = parts.head.head;
     a_request_keeps_the_tree();

@@ -1,13 +1,11 @@
-// A session ends.
 ghost use Rattle.std.specs.Prelude.{ℕ, ◌≡◌, ◌↔◌, List, Some, None, Err, IsTrue, IfErr, OnOk};
 ghost use Rattle.ufs_catalog.specs.Faults.{HasFaultCause};
 ghost use Rattle.ufs_engine.specs.Closes.{OpensAsLeft, closing_fault, device_told_by, stopped_at};
 ghost use Rattle.ufs_engine.specs.declared.closing.CloseFault.TheVariants as cause;
 ghost use Rattle.ufs_disk.specs.Disk.{Leaves};
-ghost use Rattle.ufs_disk.specs.Moments.{reads};
+ghost use Rattle.ufs_disk.specs.Moments.{LeavesOnly, reads};
 ghost use Rattle.ufs_image.specs.Proper.{IsProperImage};
 ghost use Rattle.ufs_last.specs.Last.{StandsForTree};
-ghost use Rattle.ufs_ledger.specs.Kept.{OpensExplained};
 ghost use Rattle.ufs_model.specs.History.{tree_after};
 ghost use Rattle.ufs_model.specs.PosixTree.{PosixTree};
 ghost use Rattle.ufs_model.specs.declared.data.Entry.{Entry};
@@ -15,7 +13,7 @@ ghost use Rattle.ufs_recovery.specs.Recovered.{IsCleanDisk};
 ghost use Rattle.ufs_server.specs.Answered.{device_of, stopped_of};
 ghost use Rattle.ufs_store.specs.Refusals.{IsTold};
 ghost use Rattle.ufs_store.specs.State.{geometry_of_store};
-ghost use Rattle.ufs_stored.specs.OnDisk.{IsOnDisk};
+ghost use Rattle.ufs_stored.specs.OnDisk.{IsExplainedBetween, IsOnDisk};
 ghost use Rattle.ufs_stored.specs.Sound.{IsSoundServer};
 
 use std::alloc::Global;
@@ -48,13 +46,11 @@ pub struct Closed<D: Disk> {
 
 /// Ends a session: commits everything, and then makes the image clean by a recovery, which frees what no path names and
 /// writes the bitmap of what the inodes have. Where the store has stopped, no call of the disk is made. Whatever ends
-/// it, what a crash leaves is explained by the history, and proper.
+/// it, what a crash leaves at each moment is explained by the history, and proper.
 pub fn close<D: Disk>(alloc: Global, server: DiskServer, store: Store<D>) -> Closed<D>
     requires sound { IsSoundServer (geometry_of_store (⟦<Store<D> as Door>⟧.store store)) (⟦<Store<D> as Door>⟧.store store).unassigned.free server }
-    ensures crash { IsTrue D.tells → (start : PosixTree) (history : List Entry) → IsOnDisk (⟦<Store<D> as Door>⟧.store store) start history server
-        → Leaves (OpensExplained (⟦<Store<D> as Door>⟧.store store).sectors start history) (D.moments result.disk).state }
-    ensures proper { IsTrue D.tells → (start : PosixTree) (history : List Entry) → IsOnDisk (⟦<Store<D> as Door>⟧.store store) start history server
-        → Leaves (IsProperImage (⟦<Store<D> as Door>⟧.store store).sectors) (D.moments result.disk).state }
+    ensures moments { IsTrue D.tells → (start : PosixTree) (history : List Entry) → IsOnDisk (⟦<Store<D> as Door>⟧.store store) start history server
+        → IsExplainedBetween D.keeps (⟦<Store<D> as Door>⟧.store store).sectors start history (⟦<Store<D> as Door>⟧.store store).moments (D.moments result.disk) }
     ensures clean { IsTrue D.tells → OnOk result.ended ((start : PosixTree) (history : List Entry) → IsOnDisk (⟦<Store<D> as Door>⟧.store store) start history server
         → IsCleanDisk (⟦<Store<D> as Door>⟧.store store).sectors (D.moments result.disk).state) }
     ensures last { IsTrue D.tells → OnOk result.ended ((start : PosixTree) (history : List Entry) → IsOnDisk (⟦<Store<D> as Door>⟧.store store) start history server
@@ -79,9 +75,10 @@ pub fn close<D: Disk>(alloc: Global, server: DiskServer, store: Store<D>) -> Clo
     Closed { disk, ended }
 }
 
-/// Waits for what was written, and makes the image clean.
+// Waits for what was written, and makes the image clean.
 fn clean<D: Disk>(alloc: Global, disk: &mut D) -> Result<(), CloseFault>
-    ensures tree { IsTrue D.tells → Leaves (IsProperImage (D.size disk.old)) (D.moments disk.old).state → Leaves (OpensAsLeft (D.size disk.old) (D.moments disk.old).state) (D.moments disk.new).state }
+    ensures tree { IsTrue D.tells → Leaves (IsProperImage (D.size disk.old)) (D.moments disk.old).state
+        → LeavesOnly D.keeps (OpensAsLeft (D.size disk.old) (D.moments disk.old).state) (D.moments disk.old) (D.moments disk.new) }
     ensures clean { IsTrue D.tells → OnOk result (Leaves (IsProperImage (D.size disk.old)) (D.moments disk.old).state → IsCleanDisk (D.size disk.old) (D.moments disk.new).state) }
     ensures size { D.size disk.new ≡ D.size disk.old }
     ensures cause { IsTold (D.faults disk.old) (D.faults disk.new) (closing_fault result) }
@@ -98,7 +95,7 @@ fn clean<D: Disk>(alloc: Global, disk: &mut D) -> Result<(), CloseFault>
     }
 }
 
-/// Why the image isn't clean.
+// Why the image isn't clean.
 fn unclean(fault: RecoverFault) -> CloseFault
     ensures cause { (before now : ℕ) → HasFaultCause before now fault → IsTold before now (device_told_by result) }
     ensures going { stopped_at result ≡ None }
@@ -109,7 +106,7 @@ fn unclean(fault: RecoverFault) -> CloseFault
     }
 }
 
-/// Why everything isn't committed.
+// Why everything isn't committed.
 fn fault_of(excuse: Excuse) -> CloseFault
     ensures device { device_told_by result ≡ device_of excuse }
     ensures stopped { stopped_at result ≡ stopped_of excuse }

@@ -1,5 +1,5 @@
 // Playing a script on one thread.
-ghost use Rattle.std.specs.Prelude.{ℕ, ◌≡◌, ◌≢◌, ◌⊎◌, [], None, Err, IsOk, IsTrue, OnOk};
+ghost use Rattle.std.specs.Prelude.{ℕ, ◌≡◌, ◌≢◌, ◌⊎◌, [], Err, IsOk, IsTrue, OnOk};
 ghost use Rattle.ufs_engine.specs.Begins.{BeginsWith, TellsNoSession};
 ghost use Rattle.ufs_disk.specs.Disk.{Leaves};
 ghost use Rattle.ufs_disk.specs.Moments.{reads};
@@ -17,24 +17,21 @@ ghost use Rattle.ufs_opening.specs.Told.{TellsWhy};
 ghost use Rattle.ufs_engine.specs.Plays.{AreFaultsOf, IsEndFault, MayPlay, served_end};
 ghost use Rattle.ufs_engine.specs.declared.playing.PlayFault.TheVariants as ending;
 ghost use Rattle.ufs_recovery.specs.Recovered.{IsCleanDisk};
-ghost use Rattle.ufs_session.specs.Played.{IsPlayedFrom, MayBegin};
+ghost use Rattle.ufs_session.specs.Played.{IsPlayedFrom};
+ghost use Rattle.ufs_session.specs.Throughout.{IsExplainedThroughout};
 ghost use Rattle.ufs_start.specs.Refused.{HasStartCause};
 ghost use Rattle.ufs_start.specs.declared.fault.StartFault.{StartFault};
 ghost use Rattle.ufs_start.specs.declared.fault.StartFault.TheVariants as start;
-ghost use Rattle.ufs_store.specs.State.{geometry_of_store};
-ghost use Rattle.ufs_stored.specs.OnDisk.{IsOnDisk};
-ghost use Rattle.ufs_stored.specs.Sound.{IsSoundServer};
 
-use crate::beginning::{Begun, begin};
+use crate::beginning::begin;
 use crate::closing::{CloseFault, close};
 use std::alloc::Global;
 use ufs_catalog::RecoverFault;
 use ufs_client::{EndFault, ToldLists};
 use ufs_disk::Disk;
-use ufs_script::{OpLists, Script};
+use ufs_script::Script;
 use ufs_session::serve;
 use ufs_start::StartFault;
-use ufs_store::{Door, Store};
 
 /// Why a session isn't whole: no image to begin with, a fault of the closing, or want of memory.
 #[derive(Clone, Copy, Debug, PartialEq, Eq)]
@@ -60,9 +57,9 @@ pub struct Played<D: Disk> {
 /// Plays a script on one thread over the image of a disk: recovers an image that is in use, serves the clients' requests,
 /// client 0 first, commits everything and makes the image clean. No lease is granted yet.
 ///
-/// What is said of the disk holds as the call returns, whatever ended it, over every disk that fails from any call on:
-/// what a crash leaves of it is explained by the whole history, so it holds each change that an `fsync` or a `sync` has
-/// acknowledged.
+/// What is said of the disk holds whatever ended the call, over every disk that fails from any call on: what a crash leaves
+/// as it returns is explained by the whole history, so it holds each change that an `fsync` or a `sync` has acknowledged;
+/// and what a crash leaves at a moment before is explained so by the entries that were answered by then.
 pub fn play<D: Disk>(alloc: Global, script: Script, _lease: u32, disk: D) -> Played<D>
     // over any disk: some tree gives the replies
     ensures legal { (start : PosixTree) × IsPlayedFrom start script.clients result.told (served_end result.ended) (joined result.told) }
@@ -83,13 +80,25 @@ pub fn play<D: Disk>(alloc: Global, script: Script, _lease: u32, disk: D) -> Pla
     ensures crash { MayPlay D.tells (D.size disk) (D.moments disk).state → (start : PosixTree) → BeginsWith (D.size disk) (reads (D.moments disk)) start
         → Leaves (OpensExplained (D.size disk) start (joined result.told)) (D.moments result.disk).state }
     ensures proper { MayPlay D.tells (D.size disk) (D.moments disk).state → Leaves (IsProperImage (D.size disk)) (D.moments result.disk).state }
+    ensures moments { MayPlay D.tells (D.size disk) (D.moments disk).state → (start : PosixTree) → BeginsWith (D.size disk) (reads (D.moments disk)) start
+        → IsExplainedThroughout D.keeps (D.size disk) start [] (joined result.told) (D.moments disk) (D.moments result.disk) }
     ensures clean { MayPlay D.tells (D.size disk) (D.moments disk).state → OnOk result.ended (IsCleanDisk (D.size disk) (D.moments result.disk).state) }
     ensures last { MayPlay D.tells (D.size disk) (D.moments disk).state → (start : PosixTree) → BeginsWith (D.size disk) (reads (D.moments disk)) start
         → OnOk result.ended (StandsForTree (D.size disk) (tree_after start (joined result.told)) (reads (D.moments result.disk))) }
     ensures why { MayPlay D.tells (D.size disk) (D.moments disk).state → (fault : StartFault) → result.ended ≡ Err (ending.Image fault) → TellsNoSession (D.size disk) (reads (D.moments disk)) fault }
 {
     match begin(alloc, disk) {
-        Ok(begun) => serve_begun(alloc, script.clients, begun),
+        Ok(begun) => {
+            let mut server = begun.server;
+            let mut store = begun.store;
+            let session = serve(alloc, &mut server, &mut store, script.clients);
+            let closed = close(alloc, server, store);
+            Played {
+                told: session.told,
+                ended: whole_end(session.ended, closed.ended),
+                disk: closed.disk,
+            }
+        }
         Err(unbegun) => Played {
             told: ToldLists::from_vec(Vec::new(alloc)),
             ended: Err(unbegun_end(unbegun.fault)),
@@ -98,42 +107,7 @@ pub fn play<D: Disk>(alloc: Global, script: Script, _lease: u32, disk: D) -> Pla
     }
 }
 
-/// Serves the clients, and closes the image.
-fn serve_begun<D: Disk>(alloc: Global, clients: OpLists, begun: Begun<D>) -> Played<D>
-    requires start { (start : PosixTree) × MayBegin begun.server start }
-    requires sound { IsSoundServer (geometry_of_store (⟦<Store<D> as Door>⟧.store begun.store)) (⟦<Store<D> as Door>⟧.store begun.store).unassigned.free begun.server }
-    requires going { (⟦<Store<D> as Door>⟧.store begun.store).stop ≡ None }
-    ensures once { AreTicketsOnce (joined result.told) }
-    ensures begun { (fault : StartFault) → result.ended ≢ Err (ending.Image fault) }
-    ensures calm { OnOk result.ended (D.faults result.disk ≡ (⟦<Store<D> as Door>⟧.store begun.store).faults) }
-    ensures size { D.size result.disk ≡ (⟦<Store<D> as Door>⟧.store begun.store).sectors }
-    ensures faults { AreFaultsOf (⟦<Store<D> as Door>⟧.store begun.store).faults (joined result.told) }
-    ensures closing { IsEndFault (⟦<Store<D> as Door>⟧.store begun.store).faults (D.faults result.disk) (joined result.told) result.ended }
-    ensures played { (start : PosixTree) → MayBegin begun.server start
-        → IsPlayedFrom start clients result.told (served_end result.ended) (joined result.told) }
-    ensures crash { IsTrue D.tells → (start : PosixTree) → MayBegin begun.server start → IsOnDisk (⟦<Store<D> as Door>⟧.store begun.store) start [] begun.server
-        → Leaves (OpensExplained (⟦<Store<D> as Door>⟧.store begun.store).sectors start (joined result.told)) (D.moments result.disk).state }
-    ensures proper { IsTrue D.tells → (start : PosixTree) → MayBegin begun.server start → IsOnDisk (⟦<Store<D> as Door>⟧.store begun.store) start [] begun.server
-        → Leaves (IsProperImage (⟦<Store<D> as Door>⟧.store begun.store).sectors) (D.moments result.disk).state }
-    ensures clean { IsTrue D.tells → (start : PosixTree) → MayBegin begun.server start → IsOnDisk (⟦<Store<D> as Door>⟧.store begun.store) start [] begun.server
-        → OnOk result.ended (IsCleanDisk (⟦<Store<D> as Door>⟧.store begun.store).sectors (D.moments result.disk).state) }
-    ensures last { IsTrue D.tells → (start : PosixTree) → MayBegin begun.server start → IsOnDisk (⟦<Store<D> as Door>⟧.store begun.store) start [] begun.server
-        → OnOk result.ended (StandsForTree (⟦<Store<D> as Door>⟧.store begun.store).sectors (tree_after start (joined result.told)) (reads (D.moments result.disk))) }
-{
-    let Begun {
-        mut server,
-        mut store,
-    } = begun;
-    let session = serve(alloc, &mut server, &mut store, clients);
-    let closed = close(alloc, server, store);
-    Played {
-        told: session.told,
-        ended: whole_end(session.ended, closed.ended),
-        disk: closed.disk,
-    }
-}
-
-/// Why nothing was served.
+// Why nothing was served.
 fn unbegun_end(fault: StartFault) -> PlayFault
     ensures which { (result ≡ ending.Image fault) ⊎ ((result ≡ ending.Memory) × (fault ≡ start.Image image.Memory)) }
     ensures outside { result ≢ ending.Image (start.Image image.Memory) }
@@ -144,7 +118,7 @@ fn unbegun_end(fault: StartFault) -> PlayFault
     }
 }
 
-/// How a session ends that was served and closed so.
+// How a session ends that was served and closed so.
 fn whole_end(served: Result<(), EndFault>, closed: Result<(), CloseFault>) -> Result<(), PlayFault>
     ensures served { OnOk (served_end result) (IsOk served) }
     ensures closed { OnOk result (IsOk closed) }

@@ -1,13 +1,12 @@
 use Rattle.std.proofs.Common.{ℕ, [], ap, sym, ◌∙◌, subst}
 use Rattle.std.proofs.lemmas.Result.{MatchResult-weaker}
-use Rattle.ufs_disk.specs.Disk.{Leaves}
 use Rattle.ufs_disk.specs.Moments.{reads}
 use Rattle.ufs_image.specs.Opens.{opens}
-use Rattle.ufs_image.specs.Proper.{IsProperImage}
-use Rattle.ufs_ledger.specs.Kept.{OpensExplained}
 use Rattle.ufs_recovery.specs.Recovered.{IsCleanDisk}
+use Rattle.ufs_session.proofs.ThroughoutLemmas.{between_joined}
+use Rattle.ufs_stored.specs.OnDisk.{IsExplainedBetween}
 use Rattle.ufs_engine.specs.Begins.{TellsNoSession}
-use Rattle.ufs_engine.proofs.Read.{begins_alike, proper_begins, recovery_explained, recovery_proper, same_session, same_tree}
+use Rattle.ufs_engine.proofs.Read.{begins_alike, proper_begins, recovery_explained, same_session, same_tree}
 use Rattle.ufs_engine.proofs.beginning.begin.Goals as goal
 
 pub returns-in-Ok-clause-opened : goal.returns-in-Ok-clause-opened
@@ -30,23 +29,35 @@ returns-in-Ok-clause-on_disk g c told proper start with_it =
     c.begin_clean.ensures.on_disk told (subst (λ (n : ℕ). IsCleanDisk n new.state) (sym size) (c.in-Ok.ensures.clean told proper)) start
     (begins_alike (g.D.Disk.size c.args.disk) (g.D.Disk.size c.recover.new.disk) (reads old) (reads new) start same with_it)
 
-pub returns-in-Ok-clause-crash : goal.returns-in-Ok-clause-crash
-returns-in-Ok-clause-crash g c told proper start with_it =
-    let size = c.recover.ensures.size in
+pub returns-in-Ok-clause-moments : goal.returns-in-Ok-clause-moments
+returns-in-Ok-clause-moments g c told proper start with_it =
+    let size = g.D.Disk.size c.args.disk in
+    let sized = c.recover.ensures.size in
     let old = g.D.Disk.moments c.args.disk in
     let new = g.D.Disk.moments c.recover.new.disk in
-    let same = ap (λ (n : ℕ). opens n (reads new)) size ∙ same_tree g.D.Disk.keeps (g.D.Disk.size c.args.disk) old new (c.recover.ensures.tree told proper) in
+    let kept = c.recover.ensures.tree told proper in
+    let same = ap (λ (n : ℕ). opens n (reads new)) sized ∙ same_tree g.D.Disk.keeps size old new kept in
     MatchResult-weaker c.begin_clean.result
-    (c.begin_clean.ensures.crash told (subst (λ (n : ℕ). IsCleanDisk n new.state) (sym size) (c.in-Ok.ensures.clean told proper)) start
-    (begins_alike (g.D.Disk.size c.args.disk) (g.D.Disk.size c.recover.new.disk) (reads old) (reads new) start same with_it))
-    (λ x none. none) (λ u e. subst (λ (n : ℕ). Leaves (OpensExplained n start []) (g.D.Disk.moments u.disk).state) size e)
+    (c.begin_clean.ensures.moments told (subst (λ (n : ℕ). IsCleanDisk n new.state) (sym sized) (c.in-Ok.ensures.clean told proper)) start
+    (begins_alike size (g.D.Disk.size c.recover.new.disk) (reads old) (reads new) start same with_it))
+    (λ x e. between_joined g.D.Disk.keeps size start [] old new (g.D.Disk.moments x.store.disk) (recovery_explained g.D.Disk.keeps size old new kept c.a_request_keeps_the_tree.ensures start proper with_it)
+    (subst (λ (n : ℕ). IsExplainedBetween g.D.Disk.keeps n start [] new (g.D.Disk.moments x.store.disk)) sized e))
+    (λ u none. none)
 
-pub returns-in-Ok-clause-proper : goal.returns-in-Ok-clause-proper
-returns-in-Ok-clause-proper g c told proper =
-    let size = c.recover.ensures.size in
+pub returns-in-Ok-clause-err_moments : goal.returns-in-Ok-clause-err_moments
+returns-in-Ok-clause-err_moments g c told proper start with_it =
+    let size = g.D.Disk.size c.args.disk in
+    let sized = c.recover.ensures.size in
+    let old = g.D.Disk.moments c.args.disk in
     let new = g.D.Disk.moments c.recover.new.disk in
-    MatchResult-weaker c.begin_clean.result (c.begin_clean.ensures.proper told (subst (λ (n : ℕ). IsCleanDisk n new.state) (sym size) (c.in-Ok.ensures.clean told proper)))
-    (λ x none. none) (λ u e. subst (λ (n : ℕ). Leaves (IsProperImage n) (g.D.Disk.moments u.disk).state) size e)
+    let kept = c.recover.ensures.tree told proper in
+    let same = ap (λ (n : ℕ). opens n (reads new)) sized ∙ same_tree g.D.Disk.keeps size old new kept in
+    MatchResult-weaker c.begin_clean.result
+    (c.begin_clean.ensures.err_moments told (subst (λ (n : ℕ). IsCleanDisk n new.state) (sym sized) (c.in-Ok.ensures.clean told proper)) start
+    (begins_alike size (g.D.Disk.size c.recover.new.disk) (reads old) (reads new) start same with_it))
+    (λ x none. none)
+    (λ u e. between_joined g.D.Disk.keeps size start [] old new (g.D.Disk.moments u.disk) (recovery_explained g.D.Disk.keeps size old new kept c.a_request_keeps_the_tree.ensures start proper with_it)
+    (subst (λ (n : ℕ). IsExplainedBetween g.D.Disk.keeps n start [] new (g.D.Disk.moments u.disk)) sized e))
 
 pub returns-in-Ok-clause-refused : goal.returns-in-Ok-clause-refused
 returns-in-Ok-clause-refused g c told proper =
@@ -60,10 +71,6 @@ returns-in-Ok-clause-refused g c told proper =
 pub returns-in-Err-clause-opened : goal.returns-in-Err-clause-opened
 returns-in-Err-clause-opened g c told proper = proper_begins (g.D.Disk.size c.args.disk) (g.D.Disk.moments c.args.disk).state proper
 
-pub returns-in-Err-clause-crash : goal.returns-in-Err-clause-crash
-returns-in-Err-clause-crash g c told proper start =
-    recovery_explained g.D.Disk.keeps (g.D.Disk.size c.args.disk) (g.D.Disk.moments c.args.disk) (g.D.Disk.moments c.recover.new.disk) (c.recover.ensures.tree told proper) c.a_request_keeps_the_tree.ensures start
-
-pub returns-in-Err-clause-proper : goal.returns-in-Err-clause-proper
-returns-in-Err-clause-proper g c told proper =
-    recovery_proper g.D.Disk.keeps (g.D.Disk.size c.args.disk) (g.D.Disk.moments c.args.disk) (g.D.Disk.moments c.recover.new.disk) (c.recover.ensures.tree told proper) proper
+pub returns-in-Err-clause-err_moments : goal.returns-in-Err-clause-err_moments
+returns-in-Err-clause-err_moments g c told proper start with_it =
+    recovery_explained g.D.Disk.keeps (g.D.Disk.size c.args.disk) (g.D.Disk.moments c.args.disk) (g.D.Disk.moments c.recover.new.disk) (c.recover.ensures.tree told proper) c.a_request_keeps_the_tree.ensures start proper with_it

@@ -1,16 +1,15 @@
 use Rattle.std.proofs.Common.{ℕ, [], refl, sym, ◌∙◌, subst}
 use Rattle.std.proofs.lemmas.Result.{MatchResult-weaker}
 use Rattle.ufs_base.specs.Images.{Image}
-use Rattle.ufs_disk.specs.Disk.{Leaves}
 use Rattle.ufs_disk.specs.Moments.{reads}
 use Rattle.ufs_image.specs.Opens.{opens}
-use Rattle.ufs_image.specs.Proper.{IsProperImage}
-use Rattle.ufs_ledger.specs.Kept.{OpensExplained}
 use Rattle.ufs_names_image.specs.Starts.{image_start}
 use Rattle.ufs_recovery.specs.Recovered.{IsCleanDisk}
 use Rattle.ufs_start.specs.Begun.{IsBegun, tree_under}
+use Rattle.ufs_session.proofs.ThroughoutLemmas.{between_joined}
 use Rattle.ufs_start.specs.Refused.{HasStartCause}
-use Rattle.ufs_engine.proofs.Read.{begins_alike, clean_explained, clean_proper, clean_still, leaves_still, no_session, outside_session}
+use Rattle.ufs_stored.specs.OnDisk.{IsExplainedBetween}
+use Rattle.ufs_engine.proofs.Read.{begins_alike, clean_still, no_session, outside_session, reading_explained}
 use Rattle.ufs_engine.proofs.beginning.begin_clean.Goals as goal
 
 pub returns-in-Ok-clause-may : goal.returns-in-Ok-clause-may
@@ -52,46 +51,46 @@ returns-in-Ok-clause-on_disk g c told clean start with_it =
     c.mount.ensures.on_disk told (subst (λ (n : ℕ). IsCleanDisk n new.state) (sym size) (clean_still g.D.Disk.keeps old new read (g.D.Disk.size c.args.disk) clean)) begun start
     (begins_alike (g.D.Disk.size c.args.disk) (g.D.Disk.size c.start_of.new.disk) (reads old) (reads new) start (λ i. opens (size i) (read.content i)) with_it)
 
-pub returns-in-Ok-clause-crash : goal.returns-in-Ok-clause-crash
-returns-in-Ok-clause-crash g c told clean start with_it =
+pub returns-in-Ok-clause-moments : goal.returns-in-Ok-clause-moments
+returns-in-Ok-clause-moments g c told clean start with_it =
     let b = c.in-Ok.ensures.begun in
-    let size = c.start_of.ensures.size in
+    let size = g.D.Disk.size c.args.disk in
+    let sized = c.start_of.ensures.size in
     let read = c.start_of.ensures.read_only told in
     let old = g.D.Disk.moments c.args.disk in
     let new = g.D.Disk.moments c.start_of.new.disk in
-    let begun : IsBegun (g.D.Disk.size c.start_of.new.disk) (reads new) c.in-Ok.start = subst (λ (i : Image). IsBegun (g.D.Disk.size c.start_of.new.disk) i c.in-Ok.start) (b.2 told ∙ sym read.content) (subst (λ (n : ℕ). IsBegun n b.0 c.in-Ok.start) (sym size) b.1) in
+    let begun : IsBegun (g.D.Disk.size c.start_of.new.disk) (reads new) c.in-Ok.start = subst (λ (i : Image). IsBegun (g.D.Disk.size c.start_of.new.disk) i c.in-Ok.start) (b.2 told ∙ sym read.content) (subst (λ (n : ℕ). IsBegun n b.0 c.in-Ok.start) (sym sized) b.1) in
     MatchResult-weaker c.mount.result
-    (c.mount.ensures.crash told (subst (λ (n : ℕ). IsCleanDisk n new.state) (sym size) (clean_still g.D.Disk.keeps old new read (g.D.Disk.size c.args.disk) clean)) begun start
-    (begins_alike (g.D.Disk.size c.args.disk) (g.D.Disk.size c.start_of.new.disk) (reads old) (reads new) start (λ i. opens (size i) (read.content i)) with_it))
-    (λ x none. none) (λ u e. subst (λ (n : ℕ). Leaves (OpensExplained n start []) (g.D.Disk.moments u.disk).state) size e)
+    (c.mount.ensures.moments told (subst (λ (n : ℕ). IsCleanDisk n new.state) (sym sized) (clean_still g.D.Disk.keeps old new read size clean)) begun start
+    (begins_alike size (g.D.Disk.size c.start_of.new.disk) (reads old) (reads new) start (λ i. opens (sized i) (read.content i)) with_it))
+    (λ x e. between_joined g.D.Disk.keeps size start [] old new (g.D.Disk.moments x.store.disk) (reading_explained c.a_request_keeps_the_tree.ensures g.D.Disk.keeps size old new start read clean with_it)
+    (subst (λ (n : ℕ). IsExplainedBetween g.D.Disk.keeps n start [] new (g.D.Disk.moments x.store.disk)) sized e))
+    (λ u none. none)
 
-pub returns-in-Ok-clause-proper : goal.returns-in-Ok-clause-proper
-returns-in-Ok-clause-proper g c told clean =
+pub returns-in-Ok-clause-err_moments : goal.returns-in-Ok-clause-err_moments
+returns-in-Ok-clause-err_moments g c told clean start with_it =
     let b = c.in-Ok.ensures.begun in
-    let size = c.start_of.ensures.size in
+    let size = g.D.Disk.size c.args.disk in
+    let sized = c.start_of.ensures.size in
     let read = c.start_of.ensures.read_only told in
     let old = g.D.Disk.moments c.args.disk in
     let new = g.D.Disk.moments c.start_of.new.disk in
-    let begun : IsBegun (g.D.Disk.size c.start_of.new.disk) (reads new) c.in-Ok.start = subst (λ (i : Image). IsBegun (g.D.Disk.size c.start_of.new.disk) i c.in-Ok.start) (b.2 told ∙ sym read.content) (subst (λ (n : ℕ). IsBegun n b.0 c.in-Ok.start) (sym size) b.1) in
-    MatchResult-weaker c.mount.result (c.mount.ensures.proper told (subst (λ (n : ℕ). IsCleanDisk n new.state) (sym size) (clean_still g.D.Disk.keeps old new read (g.D.Disk.size c.args.disk) clean)) begun)
-    (λ x none. none) (λ u e. subst (λ (n : ℕ). Leaves (IsProperImage n) (g.D.Disk.moments u.disk).state) size e)
+    let begun : IsBegun (g.D.Disk.size c.start_of.new.disk) (reads new) c.in-Ok.start = subst (λ (i : Image). IsBegun (g.D.Disk.size c.start_of.new.disk) i c.in-Ok.start) (b.2 told ∙ sym read.content) (subst (λ (n : ℕ). IsBegun n b.0 c.in-Ok.start) (sym sized) b.1) in
+    MatchResult-weaker c.mount.result
+    (c.mount.ensures.err_moments told (subst (λ (n : ℕ). IsCleanDisk n new.state) (sym sized) (clean_still g.D.Disk.keeps old new read size clean)) begun start
+    (begins_alike size (g.D.Disk.size c.start_of.new.disk) (reads old) (reads new) start (λ i. opens (sized i) (read.content i)) with_it))
+    (λ x none. none)
+    (λ u e. between_joined g.D.Disk.keeps size start [] old new (g.D.Disk.moments u.disk) (reading_explained c.a_request_keeps_the_tree.ensures g.D.Disk.keeps size old new start read clean with_it)
+    (subst (λ (n : ℕ). IsExplainedBetween g.D.Disk.keeps n start [] new (g.D.Disk.moments u.disk)) sized e))
 
 pub returns-in-Ok-clause-refused : goal.returns-in-Ok-clause-refused
 returns-in-Ok-clause-refused g c told =
     MatchResult-weaker c.mount.result c.mount.ensures.outside (λ x none. none) (λ u why. outside_session (g.D.Disk.size c.args.disk) (reads (g.D.Disk.moments c.args.disk)) u.fault why)
 
-pub returns-in-Err-clause-crash : goal.returns-in-Err-clause-crash
-returns-in-Err-clause-crash g c told clean start with_it =
-    let size = g.D.Disk.size c.args.disk in
-    let old = g.D.Disk.moments c.args.disk in
-    leaves_still g.D.Disk.keeps old (g.D.Disk.moments c.start_of.new.disk) (c.start_of.ensures.read_only told) (OpensExplained size start [])
-    (clean_explained c.a_request_keeps_the_tree.ensures size old.state start clean with_it)
-
-pub returns-in-Err-clause-proper : goal.returns-in-Err-clause-proper
-returns-in-Err-clause-proper g c told clean =
-    let size = g.D.Disk.size c.args.disk in
-    let old = g.D.Disk.moments c.args.disk in
-    leaves_still g.D.Disk.keeps old (g.D.Disk.moments c.start_of.new.disk) (c.start_of.ensures.read_only told) (IsProperImage size) (clean_proper size old.state clean)
+pub returns-in-Err-clause-err_moments : goal.returns-in-Err-clause-err_moments
+returns-in-Err-clause-err_moments g c told clean start with_it =
+    reading_explained c.a_request_keeps_the_tree.ensures g.D.Disk.keeps (g.D.Disk.size c.args.disk) (g.D.Disk.moments c.args.disk) (g.D.Disk.moments c.start_of.new.disk) start
+    (c.start_of.ensures.read_only told) clean with_it
 
 pub returns-in-Err-clause-refused : goal.returns-in-Err-clause-refused
 returns-in-Err-clause-refused g c told = no_session (g.D.Disk.size c.args.disk) (reads (g.D.Disk.moments c.args.disk)) c.in-Err.fault (c.in-Err.ensures.refused told)

@@ -2,19 +2,19 @@ use Rattle.std.proofs.Common.{◌≡◌, ◌≤◌, [], refl, ap, sym, ◌∙◌
 use Rattle.ufs_bitmap.specs.Space.{Space}
 use Rattle.ufs_disk.specs.Disk.{State}
 use Rattle.ufs_disk.specs.Moments.{reads}
-use Rattle.ufs_image.specs.Proper.{IsProperImage}
+use Rattle.ufs_disk.proofs.Runs.{started, weaker}
 use Rattle.ufs_image.proofs.Opening.{has_geometry}
 use Rattle.ufs_layout.specs.Areas.{sector_count}
 use Rattle.ufs_layout.specs.declared.geometry.Geometry.{Geometry}
-use Rattle.ufs_ledger.specs.Kept.{OpensExplained}
 use Rattle.ufs_ledger.specs.Ledger.{IsLeftBy}
 use Rattle.ufs_session.specs.Played.{MayBegin}
 use Rattle.ufs_start.specs.Begun.{volume_under}
 use Rattle.ufs_store.specs.Mounting.{marking}
+use Rattle.ufs_stored.specs.OnDisk.{IsExplainedImage}
 use Rattle.ufs_stored.specs.Parts.{Parts}
 use Rattle.ufs_stored.specs.Sound.{IsSoundServer}
 use Rattle.ufs_engine.specs.Laws.{IsReadClean, parts_of}
-use Rattle.ufs_engine.proofs.Read.{clean_explained, clean_proper}
+use Rattle.ufs_engine.proofs.Read.{clean_explained}
 use Rattle.ufs_engine.proofs.Refused.{refused_leaves}
 use Rattle.ufs_engine.proofs.Starts.{is_form}
 use Rattle.ufs_engine.proofs.beginning.mount.Goals as goal
@@ -28,11 +28,11 @@ mount-requires-clause-large g c =
     let size = g.D.Disk.size c.args.disk in
     subst (λ (x : Geometry). sector_count x ≤ size) c.args.parts.head.same (has_geometry size b.0 (volume_under c.args.parts.head b.0) b.1.standing.taken).1
 
-pub returns-in_default-clause-crash : goal.returns-in_default-clause-crash
-returns-in_default-clause-crash g c told clean begun start = clean_explained c.a_request_keeps_the_tree.ensures (g.D.Disk.size c.args.disk) (g.D.Disk.moments c.args.disk).state start clean
-
-pub returns-in_default-clause-proper : goal.returns-in_default-clause-proper
-returns-in_default-clause-proper g c told clean begun = clean_proper (g.D.Disk.size c.args.disk) (g.D.Disk.moments c.args.disk).state clean
+pub returns-in_default-clause-err_moments : goal.returns-in_default-clause-err_moments
+returns-in_default-clause-err_moments g c told clean begun start with_it =
+    let size = g.D.Disk.size c.args.disk in
+    let old = g.D.Disk.moments c.args.disk in
+    started g.D.Disk.keeps (IsExplainedImage size start []) old (clean_explained c.a_request_keeps_the_tree.ensures size old.state start clean with_it)
 
 pub returns-in-Ok-mount-clause-may : goal.returns-in-Ok-mount-clause-may
 returns-in-Ok-mount-clause-may g c image start begun with_it =
@@ -61,27 +61,28 @@ returns-in-Ok-mount-clause-on_disk g c told clean begun start with_it =
     let is : IsReadClean c.args.parts.head.geometry size state c.args.parts = record { whole = g.met.D.Disk.whole told c.args.disk; clean = clean; begun = begun; geometry = refl } in
     c.mounted_law.ensures.going size state c.args.parts start _ c.in-Ok.server is with_it same (m.ok told (c.mounted_law.ensures.mountable size state c.args.parts is)) (m.geometry ∙ sym c.args.parts.head.same) m.unassigned
 
+pub returns-in-Ok-mount-clause-moments : goal.returns-in-Ok-mount-clause-moments
+returns-in-Ok-mount-clause-moments g c told clean begun start with_it =
+    let m = c.in-Ok-mount.ensures in
+    let size = g.D.Disk.size c.args.disk in
+    let old = g.D.Disk.moments c.args.disk in
+    let is : IsReadClean c.args.parts.head.geometry size old.state c.args.parts = record { whole = g.met.D.Disk.whole told c.args.disk; clean = clean; begun = begun; geometry = refl } in
+    let law = c.mounted_law.ensures in
+    weaker g.D.Disk.keeps (IsLeftBy size (marking c.args.parts.head.head (reads old))) (IsExplainedImage size start [])
+    (λ image left. record { explained = law.explained size old.state c.args.parts start image is with_it left; proper = law.proper size old.state c.args.parts image is left })
+    old (g.D.Disk.moments c.in-Ok-mount.store.disk) (m.crash told (law.mountable size old.state c.args.parts is))
+
 pub returns-in-Err-clause-cause : goal.returns-in-Err-clause-cause
 returns-in-Err-clause-cause g c = c.fault_of.ensures.cause (g.D.Disk.faults c.args.disk) (g.D.Disk.faults c.in-Err.unmounted.disk) c.in-Err.ensures.cause
 
-pub returns-in-Err-clause-crash : goal.returns-in-Err-clause-crash
-returns-in-Err-clause-crash g c told clean begun start with_it =
+pub returns-in-Err-clause-err_moments : goal.returns-in-Err-clause-err_moments
+returns-in-Err-clause-err_moments g c told clean begun start with_it =
     let m = c.in-Err.ensures in
     let size = g.D.Disk.size c.args.disk in
-    let state : State = (g.D.Disk.moments c.args.disk).state in
-    let is : IsReadClean c.args.parts.head.geometry size state c.args.parts = record { whole = g.met.D.Disk.whole told c.args.disk; clean = clean; begun = begun; geometry = refl } in
+    let old = g.D.Disk.moments c.args.disk in
+    let is : IsReadClean c.args.parts.head.geometry size old.state c.args.parts = record { whole = g.met.D.Disk.whole told c.args.disk; clean = clean; begun = begun; geometry = refl } in
     let law = c.mounted_law.ensures in
-    refused_leaves (OpensExplained size start []) (IsLeftBy size (marking c.args.parts.head.head (reads (g.D.Disk.moments c.args.disk)))) g.D.Disk.keeps
-    (g.D.Disk.moments c.args.disk) (g.D.Disk.moments c.in-Err.unmounted.disk) c.in-Err.unmounted.fault (λ memory. ap g.D.Disk.moments (m.memory memory)) (m.err_crash told (law.mountable size state c.args.parts is))
-    (λ image. law.explained size state c.args.parts start image is with_it) (clean_explained c.a_request_keeps_the_tree.ensures size state start clean with_it)
-
-pub returns-in-Err-clause-proper : goal.returns-in-Err-clause-proper
-returns-in-Err-clause-proper g c told clean begun =
-    let m = c.in-Err.ensures in
-    let size = g.D.Disk.size c.args.disk in
-    let state : State = (g.D.Disk.moments c.args.disk).state in
-    let is : IsReadClean c.args.parts.head.geometry size state c.args.parts = record { whole = g.met.D.Disk.whole told c.args.disk; clean = clean; begun = begun; geometry = refl } in
-    let law = c.mounted_law.ensures in
-    refused_leaves (IsProperImage size) (IsLeftBy size (marking c.args.parts.head.head (reads (g.D.Disk.moments c.args.disk)))) g.D.Disk.keeps
-    (g.D.Disk.moments c.args.disk) (g.D.Disk.moments c.in-Err.unmounted.disk) c.in-Err.unmounted.fault (λ memory. ap g.D.Disk.moments (m.memory memory)) (m.err_crash told (law.mountable size state c.args.parts is))
-    (λ image. law.proper size state c.args.parts image is) (clean_proper size state clean)
+    refused_leaves (IsExplainedImage size start []) (IsLeftBy size (marking c.args.parts.head.head (reads old))) g.D.Disk.keeps
+    old (g.D.Disk.moments c.in-Err.unmounted.disk) c.in-Err.unmounted.fault (λ memory. ap g.D.Disk.moments (m.memory memory)) (m.err_crash told (law.mountable size old.state c.args.parts is))
+    (λ image left. record { explained = law.explained size old.state c.args.parts start image is with_it left; proper = law.proper size old.state c.args.parts image is left })
+    (clean_explained c.a_request_keeps_the_tree.ensures size old.state start clean with_it)

@@ -8,20 +8,20 @@ use Rattle.ufs_engine.proofs.closing.clean.Goals as goal
 
 pub returns-in-Err-clause-tree : goal.returns-in-Err-clause-tree
 returns-in-Err-clause-tree g c told proper =
-    as_it_was (g.D.Disk.size c.args.disk.now) (g.D.Disk.moments c.args.disk.now).state (g.D.Disk.moments c.barrier.new.self).state (c.barrier.ensures.crash told).after
+    as_it_was g.D.Disk.keeps (g.D.Disk.size c.args.disk.now) (g.D.Disk.moments c.args.disk.now) (g.D.Disk.moments c.barrier.new.self) (c.barrier.ensures.crash told)
 
 pub returns-in-Ok-clause-tree : goal.returns-in-Ok-clause-tree
 returns-in-Ok-clause-tree g c told =
     let mid = g.D.Disk.moments c.barrier.new.self in
     let new = g.D.Disk.moments c.recover.new.disk in
-    cleaned g.D.Disk.keeps (g.D.Disk.size c.args.disk.now) (g.D.Disk.moments c.args.disk.now).state mid new (c.barrier.ensures.content told) (c.in_default.ensures.ok told)
+    cleaned g.D.Disk.keeps (g.D.Disk.size c.args.disk.now) (g.D.Disk.moments c.args.disk.now) mid new (c.barrier.ensures.crash told) (c.barrier.ensures.content told) (c.in_default.ensures.ok told)
     (subst (λ (sectors : ℕ). IsProperDisk sectors mid.state → KeepsTree g.D.Disk.keeps sectors mid new) c.barrier.ensures.size (c.recover.ensures.tree told))
 
 pub returns-in-Err-recover-clause-tree : goal.returns-in-Err-recover-clause-tree
 returns-in-Err-recover-clause-tree g c told =
     let mid = g.D.Disk.moments c.barrier.new.self in
     let new = g.D.Disk.moments c.recover.new.disk in
-    cleaned g.D.Disk.keeps (g.D.Disk.size c.args.disk.now) (g.D.Disk.moments c.args.disk.now).state mid new (c.barrier.ensures.content told) (c.in_default.ensures.ok told)
+    cleaned g.D.Disk.keeps (g.D.Disk.size c.args.disk.now) (g.D.Disk.moments c.args.disk.now) mid new (c.barrier.ensures.crash told) (c.barrier.ensures.content told) (c.in_default.ensures.ok told)
     (subst (λ (sectors : ℕ). IsProperDisk sectors mid.state → KeepsTree g.D.Disk.keeps sectors mid new) c.barrier.ensures.size (c.recover.ensures.tree told))
 
 pub returns-in-Ok-clause-clean : goal.returns-in-Ok-clause-clean

@@ -1,25 +1,22 @@
 use Rattle.std.proofs.Common.{◌≡◌, ◌∙◌, ℕ, Err, ap, sym, subst}
 use Rattle.std.proofs.lemmas.Result.{on_ok_weaker}
+use Rattle.ufs_disk.specs.Moments.{Moments}
 use Rattle.ufs_engine.specs.Closes.{closing_fault}
 use Rattle.ufs_engine.specs.declared.closing.CloseFault.{CloseFault}
 use Rattle.ufs_model.specs.declared.data.Excuse.{Excuse}
 use Rattle.ufs_model.specs.declared.data.Excuse.TheVariants as excuse
 use Rattle.ufs_engine.specs.declared.closing.CloseFault.TheVariants as cause
 use Rattle.ufs_store.specs.Refusals.{IsTold}
-use Rattle.ufs_engine.proofs.Ended.{ended_clean, ended_explained, ended_last, ended_proper, stays_explained, stays_proper, tells_none, told_alike, told_behind}
+use Rattle.ufs_stored.specs.OnDisk.{IsExplainedBetween}
+use Rattle.ufs_engine.proofs.Ended.{ended_clean, ended_explained, ended_last, tells_none, told_alike, told_behind}
 use Rattle.ufs_engine.proofs.closing.close.Goals as goal
 
 -- ---- it isn't made clean
 
-pub returns-in-Err-clause-crash : goal.returns-in-Err-clause-crash
-returns-in-Err-clause-crash g c told start history on_disk =
-    stays_explained c.geometry-geometry.result (g.D.Disk.size c.args.store.disk) _ start history _ (c.in-Err.ensures.err told start history on_disk) (c.sync_all.ensures.geometry ∙ sym c.geometry-geometry.ensures.is) c.sync_all.ensures.sectors
-    (g.D.Disk.moments c.into_disk.result) c.into_disk.ensures.moments c.on_disk_law.ensures.explained
-
-pub returns-in-Err-clause-proper : goal.returns-in-Err-clause-proper
-returns-in-Err-clause-proper g c told start history on_disk =
-    stays_proper c.geometry-geometry.result (g.D.Disk.size c.args.store.disk) _ start history _ (c.in-Err.ensures.err told start history on_disk) (c.sync_all.ensures.geometry ∙ sym c.geometry-geometry.ensures.is) c.sync_all.ensures.sectors
-    (g.D.Disk.moments c.into_disk.result) c.into_disk.ensures.moments c.on_disk_law.ensures.proper
+pub returns-in-Err-clause-moments : goal.returns-in-Err-clause-moments
+returns-in-Err-clause-moments g c told start history on_disk =
+    subst (λ (m : Moments). IsExplainedBetween g.D.Disk.keeps (g.D.Disk.size c.args.store.disk) start history (g.D.Disk.moments c.args.store.disk) m) (sym c.into_disk.ensures.moments)
+    (c.sync_all.ensures.moments told start history on_disk)
 
 pub returns-in-Err-clause-size : goal.returns-in-Err-clause-size
 returns-in-Err-clause-size g c = c.into_disk.ensures.size ∙ c.sync_all.ensures.sectors
@@ -37,19 +34,13 @@ returns-in-Err-clause-stopped g c fault =
 
 -- ---- behind a recovery
 
-pub returns-clause-crash : goal.returns-clause-crash
-returns-clause-crash g c told start history on_disk =
+pub returns-clause-moments : goal.returns-clause-moments
+returns-clause-moments g c told start history on_disk =
     ended_explained c.geometry-geometry.result c.on_disk_law.ensures.explained c.on_disk_law.ensures.proper c.last_law.ensures (g.D.Disk.size c.args.store.disk) _ start history _
     (c.sync_all.ensures.geometry ∙ sym c.geometry-geometry.ensures.is) c.sync_all.ensures.sectors
     (c.in_default.ensures.ok told start history on_disk) (g.D.Disk.moments c.into_disk-disk.result) (g.D.Disk.moments c.clean-ended.new.disk) c.into_disk-disk.ensures.moments
-    (g.D.Disk.size c.into_disk-disk.result) c.into_disk-disk.ensures.size (c.clean-ended.ensures.tree told)
-
-pub returns-clause-proper : goal.returns-clause-proper
-returns-clause-proper g c told start history on_disk =
-    ended_proper c.geometry-geometry.result c.on_disk_law.ensures.explained c.on_disk_law.ensures.proper c.last_law.ensures (g.D.Disk.size c.args.store.disk) _ start history _
-    (c.sync_all.ensures.geometry ∙ sym c.geometry-geometry.ensures.is) c.sync_all.ensures.sectors
-    (c.in_default.ensures.ok told start history on_disk) (g.D.Disk.moments c.into_disk-disk.result) (g.D.Disk.moments c.clean-ended.new.disk) c.into_disk-disk.ensures.moments
-    (g.D.Disk.size c.into_disk-disk.result) c.into_disk-disk.ensures.size (c.clean-ended.ensures.tree told)
+    (g.D.Disk.size c.into_disk-disk.result) c.into_disk-disk.ensures.size g.D.Disk.keeps (c.clean-ended.ensures.tree told)
+    (g.D.Disk.moments c.args.store.disk) (c.sync_all.ensures.moments told start history on_disk)
 
 pub returns-clause-clean : goal.returns-clause-clean
 returns-clause-clean g c told =
@@ -58,7 +49,7 @@ returns-clause-clean g c told =
     ended_clean c.geometry-geometry.result c.on_disk_law.ensures.explained c.on_disk_law.ensures.proper c.last_law.ensures (g.D.Disk.size c.args.store.disk) _ start history _
     (c.sync_all.ensures.geometry ∙ sym c.geometry-geometry.ensures.is) c.sync_all.ensures.sectors
     (c.in_default.ensures.ok told start history on_disk) (g.D.Disk.moments c.into_disk-disk.result) (g.D.Disk.moments c.clean-ended.new.disk) c.into_disk-disk.ensures.moments
-    (g.D.Disk.size c.into_disk-disk.result) c.into_disk-disk.ensures.size (c.clean-ended.ensures.tree told) clean)
+    (g.D.Disk.size c.into_disk-disk.result) c.into_disk-disk.ensures.size g.D.Disk.keeps (c.clean-ended.ensures.tree told) clean)
     (c.clean-ended.ensures.clean told)
 
 pub returns-clause-last : goal.returns-clause-last
@@ -68,7 +59,7 @@ returns-clause-last g c told =
     ended_last c.geometry-geometry.result c.on_disk_law.ensures.explained c.on_disk_law.ensures.proper c.last_law.ensures (g.D.Disk.size c.args.store.disk) _ start history _
     (c.sync_all.ensures.geometry ∙ sym c.geometry-geometry.ensures.is) c.sync_all.ensures.sectors
     (c.in_default.ensures.ok told start history on_disk) (g.D.Disk.moments c.into_disk-disk.result) (g.D.Disk.moments c.clean-ended.new.disk) c.into_disk-disk.ensures.moments
-    (g.D.Disk.size c.into_disk-disk.result) c.into_disk-disk.ensures.size (c.clean-ended.ensures.tree told))
+    (g.D.Disk.size c.into_disk-disk.result) c.into_disk-disk.ensures.size g.D.Disk.keeps (c.clean-ended.ensures.tree told))
     (c.clean-ended.ensures.clean told)
 
 pub returns-clause-size : goal.returns-clause-size

@@ -3,16 +3,19 @@ use Rattle.ufs_disk.specs.Disk.{Leaves}
 use Rattle.ufs_disk.specs.Moments.{reads}
 use Rattle.ufs_client.proofs.Lists.{once_rising}
 use Rattle.ufs_client.specs.declared.played.EndFault.{EndFault}
-use Rattle.ufs_image.specs.Proper.{IsProperImage}
 use Rattle.ufs_last.specs.Last.{StandsForTree}
 use Rattle.ufs_ledger.specs.Kept.{OpensExplained}
 use Rattle.ufs_model.specs.History.{AreTicketsOnce, joined, tree_after}
 use Rattle.ufs_model.specs.PosixTree.{root_alone}
 use Rattle.ufs_model.specs.declared.data.Entry.{Entry}
-use Rattle.ufs_engine.specs.Plays.{AreFaultsOf, served_end}
+use Rattle.ufs_engine.specs.Plays.{AreFaultsOf, IsEndFault, served_end}
 use Rattle.ufs_recovery.specs.Recovered.{IsCleanDisk}
 use Rattle.ufs_session.specs.Played.{IsPlayedFrom}
-use Rattle.ufs_engine.proofs.EndLemmas.{no_faults, none_played, not_served}
+use Rattle.ufs_session.specs.Throughout.{IsExplainedThroughout}
+use Rattle.ufs_session.proofs.ThroughoutLemmas.{throughout_after, throughout_before}
+use Rattle.ufs_store.specs.Tables.{state_of}
+use Rattle.ufs_stored.specs.OnDisk.{IsExplainedBetween}
+use Rattle.ufs_engine.proofs.EndLemmas.{both_ok, calm_end, end_fault, faults_of, no_faults, none_played, not_served, played_as}
 use Rattle.ufs_engine.proofs.playing.play.Goals as goal
 
 -- ---- a session was served
@@ -20,48 +23,124 @@ use Rattle.ufs_engine.proofs.playing.play.Goals as goal
 pub returns-in-Ok-clause-legal : goal.returns-in-Ok-clause-legal
 returns-in-Ok-clause-legal g c =
     let b = c.in-Ok.ensures in
-    (b.may.0, c.serve_begun.ensures.played b.may.0 b.may.1)
+    let s = c.serve-session in
+    let end = c.whole_end in
+    (b.may.0, played_as b.may.0 c.args.script.clients s.result.told s.result.ended (served_end end.result) (joined s.result.told) end.ensures.served (s.ensures.played b.may.0 b.may.1))
+
+pub returns-in-Ok-clause-faults : goal.returns-in-Ok-clause-faults
+returns-in-Ok-clause-faults g c =
+    let b = c.in-Ok.ensures in
+    let s = c.serve-session in
+    let after = s.new.door in
+    let old = state_of (g.D.Disk.size c.in-Ok.begun.store.disk) (g.D.Disk.moments c.in-Ok.begun.store.disk) (g.D.Disk.faults c.in-Ok.begun.store.disk) c.in-Ok.begun.store.tables in
+    let new = state_of (g.D.Disk.size after.disk) (g.D.Disk.moments after.disk) (g.D.Disk.faults after.disk) after.tables in
+    subst (λ (n : ℕ). AreFaultsOf n (joined s.result.told)) b.passed (faults_of old new b.going (joined s.result.told) s.ensures.faults)
+
+pub returns-in-Ok-clause-calm : goal.returns-in-Ok-clause-calm
+returns-in-Ok-clause-calm g c =
+    let b = c.in-Ok.ensures in
+    let s = c.serve-session in
+    let after = s.new.door in
+    let old = state_of (g.D.Disk.size c.in-Ok.begun.store.disk) (g.D.Disk.moments c.in-Ok.begun.store.disk) (g.D.Disk.faults c.in-Ok.begun.store.disk) c.in-Ok.begun.store.tables in
+    let new = state_of (g.D.Disk.size after.disk) (g.D.Disk.moments after.disk) (g.D.Disk.faults after.disk) after.tables in
+    let closing = c.close-closed in
+    let now = g.D.Disk.faults closing.result.disk in
+    subst (λ (n : ℕ). OnOk c.whole_end.result (now ≡ n)) b.passed
+    (calm_end old new now closing.result.ended s.ensures.calm closing.ensures.cause closing.ensures.stopped c.whole_end.result c.whole_end.ensures.closed)
+
+pub returns-in-Ok-clause-closing : goal.returns-in-Ok-clause-closing
+returns-in-Ok-clause-closing g c =
+    let b = c.in-Ok.ensures in
+    let s = c.serve-session in
+    let after = s.new.door in
+    let old = state_of (g.D.Disk.size c.in-Ok.begun.store.disk) (g.D.Disk.moments c.in-Ok.begun.store.disk) (g.D.Disk.faults c.in-Ok.begun.store.disk) c.in-Ok.begun.store.tables in
+    let new = state_of (g.D.Disk.size after.disk) (g.D.Disk.moments after.disk) (g.D.Disk.faults after.disk) after.tables in
+    let closing = c.close-closed in
+    let now = g.D.Disk.faults closing.result.disk in
+    let end = c.whole_end in
+    subst (λ (n : ℕ). IsEndFault n now (joined s.result.told) end.result) b.passed
+    (end_fault old new now closing.result.ended s.ensures.calm closing.ensures.cause closing.ensures.stopped
+    end.result end.ensures.closed end.ensures.device end.ensures.stopped (joined s.result.told) s.ensures.faults b.going)
+
+pub returns-in-Ok-clause-size : goal.returns-in-Ok-clause-size
+returns-in-Ok-clause-size g c =
+    let b = c.in-Ok.ensures in
+    let s = c.serve-session in
+    c.close-closed.ensures.size ∙ s.ensures.sectors ∙ b.size
 
 pub returns-in-Ok-clause-played : goal.returns-in-Ok-clause-played
 returns-in-Ok-clause-played g c may start begins =
     let b = c.in-Ok.ensures in
-    c.serve_begun.ensures.played start (b.parts may.told may.proper start begins)
+    let s = c.serve-session in
+    let end = c.whole_end in
+    played_as start c.args.script.clients s.result.told s.result.ended (served_end end.result) (joined s.result.told) end.ensures.served (s.ensures.played start (b.parts may.told may.proper start begins))
 
 pub returns-in-Ok-clause-opened : goal.returns-in-Ok-clause-opened
-returns-in-Ok-clause-opened g c may = c.begin.ensures.opened may.told may.proper
+returns-in-Ok-clause-opened g c may =
+    c.begin.ensures.opened may.told may.proper
 
 pub returns-in-Ok-clause-crash : goal.returns-in-Ok-clause-crash
-returns-in-Ok-clause-crash g c may start begins =
+returns-in-Ok-clause-crash g c may start begins image is =
     let b = c.in-Ok.ensures in
-    let s = c.serve_begun in
-    subst (λ (n : ℕ). Leaves (OpensExplained n start (joined s.result.told)) (g.D.Disk.moments s.result.disk).state) b.size
-    (s.ensures.crash may.told start (b.parts may.told may.proper start begins) (b.on_disk may.told may.proper start begins))
+    let s = c.serve-session in
+    let served = s.ensures.on_disk may.told start (b.parts may.told may.proper start begins) (b.on_disk may.told may.proper start begins) in
+    let ended = subst (λ (n : ℕ). IsExplainedBetween g.D.Disk.keeps n start (joined s.result.told) (g.D.Disk.moments s.new.door.disk) (g.D.Disk.moments c.close-closed.result.disk)) (s.ensures.sectors ∙ b.size)
+    (c.close-closed.ensures.moments may.told start (joined s.result.told) served) in
+    (ended.after image is).explained
 
 pub returns-in-Ok-clause-proper : goal.returns-in-Ok-clause-proper
-returns-in-Ok-clause-proper g c may =
+returns-in-Ok-clause-proper g c may image is =
     let b = c.in-Ok.ensures in
-    let s = c.serve_begun in
+    let s = c.serve-session in
     let from = c.begin.ensures.opened may.told may.proper in
-    subst (λ (n : ℕ). Leaves (IsProperImage n) (g.D.Disk.moments s.result.disk).state) b.size
-    (s.ensures.proper may.told from.0 (b.parts may.told may.proper from.0 from.1) (b.on_disk may.told may.proper from.0 from.1))
+    let start = from.0 in
+    let begins = from.1 in
+    let served = s.ensures.on_disk may.told start (b.parts may.told may.proper start begins) (b.on_disk may.told may.proper start begins) in
+    let ended = subst (λ (n : ℕ). IsExplainedBetween g.D.Disk.keeps n start (joined s.result.told) (g.D.Disk.moments s.new.door.disk) (g.D.Disk.moments c.close-closed.result.disk)) (s.ensures.sectors ∙ b.size)
+    (c.close-closed.ensures.moments may.told start (joined s.result.told) served) in
+    (ended.after image is).proper
+
+pub returns-in-Ok-clause-moments : goal.returns-in-Ok-clause-moments
+returns-in-Ok-clause-moments g c may start begins =
+    let b = c.in-Ok.ensures in
+    let s = c.serve-session in
+    let served = s.ensures.on_disk may.told start (b.parts may.told may.proper start begins) (b.on_disk may.told may.proper start begins) in
+    let ended = subst (λ (n : ℕ). IsExplainedBetween g.D.Disk.keeps n start (joined s.result.told) (g.D.Disk.moments s.new.door.disk) (g.D.Disk.moments c.close-closed.result.disk)) (s.ensures.sectors ∙ b.size)
+    (c.close-closed.ensures.moments may.told start (joined s.result.told) served) in
+    let size = g.D.Disk.size c.args.disk in
+    let old = g.D.Disk.moments c.args.disk in
+    let begun = g.D.Disk.moments c.in-Ok.begun.store.disk in
+    let told = joined s.result.told in
+    throughout_after g.D.Disk.keeps size start [] told old begun (g.D.Disk.moments c.close-closed.result.disk) (b.moments may.told may.proper start begins)
+    (throughout_before g.D.Disk.keeps size start [] told begun (g.D.Disk.moments s.new.door.disk) (g.D.Disk.moments c.close-closed.result.disk)
+    (subst (λ (n : ℕ). IsExplainedThroughout g.D.Disk.keeps n start [] told begun (g.D.Disk.moments s.new.door.disk)) b.size
+    (s.ensures.moments may.told start (b.parts may.told may.proper start begins) (b.on_disk may.told may.proper start begins))) ended)
 
 pub returns-in-Ok-clause-clean : goal.returns-in-Ok-clause-clean
 returns-in-Ok-clause-clean g c may =
     let b = c.in-Ok.ensures in
-    let s = c.serve_begun in
+    let s = c.serve-session in
     let from = c.begin.ensures.opened may.told may.proper in
-    subst (λ (n : ℕ). OnOk s.result.ended (IsCleanDisk n (g.D.Disk.moments s.result.disk).state)) b.size
-    (s.ensures.clean may.told from.0 (b.parts may.told may.proper from.0 from.1) (b.on_disk may.told may.proper from.0 from.1))
+    let start = from.0 in
+    let begins = from.1 in
+    let served = s.ensures.on_disk may.told start (b.parts may.told may.proper start begins) (b.on_disk may.told may.proper start begins) in
+    let closing = c.close-closed in
+    both_ok c.whole_end.result closing.result.ended
+    (λ leads. subst (λ (n : ℕ). IsCleanDisk n (g.D.Disk.moments closing.result.disk).state) (s.ensures.sectors ∙ b.size) (leads start (joined s.result.told) served))
+    c.whole_end.ensures.closed (closing.ensures.clean may.told)
 
 pub returns-in-Ok-clause-last : goal.returns-in-Ok-clause-last
 returns-in-Ok-clause-last g c may start begins =
     let b = c.in-Ok.ensures in
-    let s = c.serve_begun in
-    subst (λ (n : ℕ). OnOk s.result.ended (StandsForTree n (tree_after start (joined s.result.told)) (reads (g.D.Disk.moments s.result.disk)))) b.size
-    (s.ensures.last may.told start (b.parts may.told may.proper start begins) (b.on_disk may.told may.proper start begins))
+    let s = c.serve-session in
+    let served = s.ensures.on_disk may.told start (b.parts may.told may.proper start begins) (b.on_disk may.told may.proper start begins) in
+    let closing = c.close-closed in
+    both_ok c.whole_end.result closing.result.ended
+    (λ leads. subst (λ (n : ℕ). StandsForTree n (tree_after start (joined s.result.told)) (reads (g.D.Disk.moments closing.result.disk))) (s.ensures.sectors ∙ b.size) (leads start (joined s.result.told) served))
+    c.whole_end.ensures.closed (closing.ensures.last may.told)
 
 pub returns-in-Ok-clause-why : goal.returns-in-Ok-clause-why
-returns-in-Ok-clause-why g c may fault is = absurd (c.serve_begun.ensures.begun fault is)
+returns-in-Ok-clause-why g c may fault is = absurd (c.whole_end.ensures.begun fault is)
 
 -- ---- nothing was
 
@@ -89,7 +168,14 @@ pub returns-in-Err-clause-crash : goal.returns-in-Err-clause-crash
 returns-in-Err-clause-crash g c may start begins =
     let left = (g.D.Disk.moments c.in-Err.unbegun.disk).state in
     subst (λ (told : List (List Entry)). Leaves (OpensExplained (g.D.Disk.size c.args.disk) start (joined told)) left) (sym (c.from_vec.ensures ∙ c.new.ensures.items))
-    (c.in-Err.ensures.crash may.told may.proper start begins)
+    (λ image is. ((c.in-Err.ensures.err_moments may.told may.proper start begins).after image is).explained)
 
 pub returns-in-Err-clause-proper : goal.returns-in-Err-clause-proper
-returns-in-Err-clause-proper g c may = c.in-Err.ensures.proper may.told may.proper
+returns-in-Err-clause-proper g c may image is =
+    let from = c.begin.ensures.opened may.told may.proper in
+    ((c.in-Err.ensures.err_moments may.told may.proper from.0 from.1).after image is).proper
+
+pub returns-in-Err-clause-moments : goal.returns-in-Err-clause-moments
+returns-in-Err-clause-moments g c may start begins =
+    subst (λ (told : List (List Entry)). IsExplainedThroughout g.D.Disk.keeps (g.D.Disk.size c.args.disk) start [] (joined told) (g.D.Disk.moments c.args.disk) (g.D.Disk.moments c.in-Err.unbegun.disk))
+    (sym (c.from_vec.ensures ∙ c.new.ensures.items)) (c.in-Err.ensures.err_moments may.told may.proper start begins)
