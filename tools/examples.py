@@ -1,5 +1,6 @@
 #!/usr/bin/env python3
-"""Makes the scripts of examples/ rows of a test: each is played, and must print what stands beside it.
+"""Makes the scripts of examples/ rows of a test: each is played, with its trace where that stands beside it, and must print
+what stands there.
 
     python3 tools/examples.py            writes crates/ufs_quiet_tests/src/examples.rt
     python3 tools/examples.py --check    ends with status 1 if that file is behind
@@ -10,26 +11,25 @@ import sys
 TOP = pathlib.Path(__file__).resolve().parent.parent
 FILE = TOP / "crates/ufs_quiet_tests/src/examples.rt"
 HEAD = """\
-// The scripts of `examples/`, each with its status and what it prints over a new image. `tools/examples.py` writes this
-// file.
-use crate::calls::{check_made, playing};
+// The scripts of `examples/`, each with the words that play it, its status, and what it prints over a new image.
+// `tools/examples.py` writes this file.
+use crate::calls::{Call, check_made, playing};
 use crate::trees::making_large;
 use std::test::Fail;
 
-const EXAMPLES: [(&str, u8, &str); {count}] = [
+const EXAMPLES: [(&[&str], &str, u8, &str); {count}] = [
 """
 TAIL = """\
 ];
 
 #[test]
 fn the_examples_print_what_stands_beside_them(rt: HostRuntime) -> Result<(), Fail> {
-    for (script, status, text) in &EXAMPLES {
-        check_made(
-            &rt,
-            65_536,
-            &making_large(),
-            &playing(script, *status, text),
-        )?;
+    for (words, script, status, text) in &EXAMPLES {
+        let call = Call {
+            words: *words,
+            ..playing(script, *status, text)
+        };
+        check_made(&rt, 65_536, &making_large(), &call)?;
     }
     Ok(())
 }
@@ -44,10 +44,11 @@ def literal(text):
 
 
 def row(script):
-    """A script with its status, which is 2 where its text is refused, and what it prints."""
+    """A script with the words that play it, its status, which is 2 where its text is refused, and what it prints."""
     printed = script.with_suffix(".out").read_text()
+    words = '&["play", "--trace"]' if "\n# " in printed else '&["play"]'
     status = 2 if printed.startswith("ufs: line ") else 0
-    parts = (literal(script.read_text()), str(status), literal(printed))
+    parts = (words, literal(script.read_text()), str(status), literal(printed))
     return "    (\n" + "".join(f"        {part},\n" for part in parts) + "    ),\n"
 
 

@@ -1,17 +1,21 @@
 -- What commands leave, by the command that the words are.
 use Rattle.std.proofs.Common.{◌≡◌, ◌∙◌, inl, inr, ℕ, List, [], Option, Some, ap, sym, subst, refl, arith}
-use Rattle.std.specs.Prelude.{◌≢◌}
+use Rattle.std.specs.Prelude.{◌≢◌, Bool}
 use Rattle.ufs_disk.specs.Disk.{Leaves}
 use Rattle.ufs_disk.specs.Moments.{Moments}
+use Rattle.ufs_disk.proofs.Runs.{stays}
 use Rattle.ufs_image.specs.Proper.{IsProperImage}
 use Rattle.ufs_ledger.specs.Kept.{OpensExplained}
 use Rattle.ufs_model.specs.History.{joined}
 use Rattle.ufs_model.specs.declared.data.Entry.{Entry}
 use Rattle.ufs_engine.specs.Plays.{AreFaultsOf}
 use Rattle.ufs_script.specs.declared.fault.ScriptFault.{ScriptFault}
+use Rattle.ufs_session.specs.Throughout.{IsExplainedThroughout}
+use Rattle.ufs_stored.specs.OnDisk.{IsExplainedImage}
 use Rattle.ufs_quiet.specs.declared.ending.Ending.{Ending}
 use Rattle.ufs_quiet.specs.declared.words.Command.{Command}
 use Rattle.ufs_quiet.specs.declared.words.Command.TheVariants as command
+use Rattle.ufs_quiet.specs.Commands.{is_play}
 use Rattle.ufs_quiet.specs.Laws.{StandsAsBegun}
 use Rattle.ufs_quiet.specs.Endings.{IsAnswer, TellsFault, status_of}
 use Rattle.ufs_quiet.specs.Seen.{Course, Writing}
@@ -22,8 +26,8 @@ pub disk_left : {D : Type 0} (words own : Option Command) (is : words ≡ own) (
 disk_left words own is lists status c acts size told = record { acts = subst (λ (o : Option Command). ActsOn o lists status c) (sym is) acts; size = size; told = λ four seven other. told four seven }
 
 -- of `play`
-pub played_left : {D : Type 0} (words : Option Command) (is : words ≡ Some command.Play) (lists : List (List Entry)) (status : ℕ) (c : Course D) → Plays lists status c → c.sectors_now ≡ c.sectors → (status ≢ 4 → status ≢ 7 → status ≢ 5 → c.now ≡ c.before) → LeavesDisk words lists status c
-played_left words is lists status c acts size told = record { acts = subst (λ (o : Option Command). ActsOn o lists status c) (sym is) acts; size = size; told = λ four seven other. told four seven (other is) }
+pub played_left : {D : Type 0} (words : Option Command) (trace : Bool) (is : words ≡ Some (command.Play trace)) (lists : List (List Entry)) (status : ℕ) (c : Course D) → Plays lists status c → c.sectors_now ≡ c.sectors → (status ≢ 4 → status ≢ 7 → status ≢ 5 → c.now ≡ c.before) → LeavesDisk words lists status c
+played_left words trace is lists status c acts size told = record { acts = subst (λ (o : Option Command). ActsOn o lists status c) (sym is) acts; size = size; told = λ four seven other. told four seven (other (ap is_play is)) }
 
 -- a source that isn't read
 pub source_left : (words : Option Command) (status : ℕ) (left : Option (List ℕ)) (count : ℕ) → LeavesSource words status (record { left = left; rest = left; before = count; now = count })
@@ -51,6 +55,9 @@ unread_left c told status stands none untouched same other = record {
       (subst (λ (m : Moments). Leaves (OpensExplained c.sectors begun []) m.state) (sym same) (stands c.from.state begun may.proper with));
   proper = λ may. subst (λ (m : Moments). Leaves (IsProperImage c.sectors) m.state) (sym same)
       (λ image is. subst (IsProperImage c.sectors) (sym (may.proper.settled image is)) may.proper.proper);
+  always = λ may begun with. subst (λ (l : List (List Entry)). IsExplainedThroughout c.keeps c.sectors begun [] (joined l) c.from c.to) (sym none)
+      (stays c.keeps (IsExplainedImage c.sectors begun []) c.from c.to same
+      (λ image is. record { explained = stands c.from.state begun may.proper with image is; proper = subst (IsProperImage c.sectors) (sym (may.proper.settled image is)) may.proper.proper }));
   clean = λ may zero. absurd (other zero);
   last = λ may begun with zero. absurd (other zero);
   broken = λ two. untouched;

@@ -1,4 +1,5 @@
 -- What the endings of `play` tell.
+use Rattle.std.specs.Prelude.{Bool}
 use Rattle.std.proofs.Common.{◌≡◌, ℕ, ◌<◌, List, [], ◌++◌, length, Option, Some, None, Ok, Err, ◌⊎◌, inl, inr, ap, sym, subst, ◌∙◌, arith}
 use Rattle.std.proofs.lemmas.List.{append-nil}
 use Rattle.std.specs.Io.KnownBytes.{Appends}
@@ -6,14 +7,13 @@ use Rattle.ufs_base.specs.Faults.{raised}
 use Rattle.ufs_model.specs.History.{joined}
 use Rattle.ufs_model.specs.declared.data.Entry.{Entry}
 use Rattle.ufs_engine.specs.Plays.{AreFaultsOf}
-use Rattle.ufs_script.specs.Output.{lines_of}
 use Rattle.ufs_script.specs.Reading.{HasRead, LongerIsAlike, ReadsBreak, ReadsScript}
 use Rattle.ufs_script.specs.Script.{IsOutside, script_of, max_script}
 use Rattle.ufs_script.specs.declared.script.Script.{Script}
 use Rattle.ufs_script.specs.declared.fault.ScriptFault.{ScriptFault}
 use Rattle.ufs_quiet.specs.declared.ending.Ending.{Ending}
 use Rattle.ufs_quiet.specs.declared.ending.Ending.TheVariants.{Done, Usage, BadGeometry, NotBuilt, BadScript, TooSmall, NoTree, DeviceFault, OutOfMemory, SourceFault, Damaged}
-use Rattle.ufs_quiet.specs.Served.{EndsSession, IsSessionOf, TellsEnd, replies_text}
+use Rattle.ufs_quiet.specs.Served.{EndsSession, IsSessionOf, TellsEnd, session_lines, session_text, trace_part}
 use Rattle.ufs_quiet.specs.Seen.{Formatting, Reading, Writing}
 use Rattle.ufs_quiet.specs.Texts.{break_line, device_line}
 use Rattle.ufs_quiet.specs.Endings.{EndsPlay, EndsServing, EndsUnread, IsAnswer, TellsNoStart, sink_status, status_of}
@@ -32,12 +32,12 @@ read_alike alike text read (Some rest) has = by_rest alike text read rest has.ta
 
 -- ---- by the status
 
-abbrev IsWhole : Reading → Formatting → List (List Entry) → List ℕ → Type 0
-IsWhole r d told text = (script : Script) × ReadsScript r.left r.rest script × IsSessionOf d script told × EndsSession d told (Ok tt) × (text ≡ lines_of (joined told))
+abbrev IsWhole : Bool → Reading → Formatting → List (List Entry) → List ℕ → Type 0
+IsWhole trace r d told text = (script : Script) × ReadsScript r.left r.rest script × IsSessionOf d script told × EndsSession d told (Ok tt) × (text ≡ session_lines trace (joined told))
 
-abbrev IsStopped : Reading → Formatting → List (List Entry) → List ℕ → Type 0
-IsStopped r d told text = ((told ≡ []) × (d.now ≡ raised d.before) × (text ≡ device_line d.now))
-    ⊎ ((script : Script) × ReadsScript r.left r.rest script × IsSessionOf d script told × (fault : ℕ) × TellsEnd d told fault × (text ≡ lines_of (joined told) ++ device_line fault))
+abbrev IsStopped : Bool → Reading → Formatting → List (List Entry) → List ℕ → Type 0
+IsStopped trace r d told text = ((told ≡ []) × (d.now ≡ raised d.before) × (text ≡ device_line d.now))
+    ⊎ ((script : Script) × ReadsScript r.left r.rest script × IsSessionOf d script told × (fault : ℕ) × TellsEnd d told fault × (text ≡ session_lines trace (joined told) ++ device_line fault))
 
 abbrev IsBroken : Reading → List ℕ → Type 0
 IsBroken r text = (f : ScriptFault) × ReadsBreak r.left r.rest f × (¬ IsOutside f) × (text ≡ break_line f)
@@ -47,16 +47,16 @@ abbrev IsRead : Reading → Type 0
 IsRead r = (script : Script) × ReadsScript r.left r.rest script
 
 -- each status with what it says of the text
-data ByStatus (r : Reading) (d : Formatting) (told : List (List Entry)) (status : ℕ) (text : List ℕ) : Type 0 where
-  whole : status ≡ 0 → IsWhole r d told text → ByStatus r d told status text
-  unbegun : status ≡ 3 → IsRead r → told ≡ [] → TellsNoStart d text → ByStatus r d told status text
-  stopped : status ≡ 4 → IsRead r → IsStopped r d told text → ByStatus r d told status text
-  starved : status ≡ 5 → ByStatus r d told status text
-  broken : status ≡ 2 → told ≡ [] → IsBroken r text → ByStatus r d told status text
-  unread : status ≡ 6 → r.now ≡ raised r.before → ByStatus r d told status text
+data ByStatus (trace : Bool) (r : Reading) (d : Formatting) (told : List (List Entry)) (status : ℕ) (text : List ℕ) : Type 0 where
+  whole : status ≡ 0 → IsWhole trace r d told text → ByStatus trace r d told status text
+  unbegun : status ≡ 3 → IsRead r → told ≡ [] → TellsNoStart d text → ByStatus trace r d told status text
+  stopped : status ≡ 4 → IsRead r → IsStopped trace r d told text → ByStatus trace r d told status text
+  starved : status ≡ 5 → ByStatus trace r d told status text
+  broken : status ≡ 2 → told ≡ [] → IsBroken r text → ByStatus trace r d told status text
+  unread : status ≡ 6 → r.now ≡ raised r.before → ByStatus trace r d told status text
 
-module _ (r : Reading) (d : Formatting) (told : List (List Entry)) (status : ℕ) where
-  unread_by : told ≡ [] → (ending : Ending) (text : List ℕ) → status ≡ status_of ending → EndsUnread r ending text → ByStatus r d told status text
+module _ (trace : Bool) (r : Reading) (d : Formatting) (told : List (List Entry)) (status : ℕ) where
+  unread_by : told ≡ [] → (ending : Ending) (text : List ℕ) → status ≡ status_of ending → EndsUnread r ending text → ByStatus trace r d told status text
   unread_by none Done text is e = absurd e
   unread_by none Usage text is e = absurd e
   unread_by none (BadGeometry bad) text is e = absurd e
@@ -69,11 +69,11 @@ module _ (r : Reading) (d : Formatting) (told : List (List Entry)) (status : ℕ
   unread_by none SourceFault text is e = unread is e.0
   unread_by none Damaged text is e = absurd e
 
-  stopped_by : (script : Script) → ReadsScript r.left r.rest script → (text : List ℕ) → EndsServing d script told DeviceFault text → IsStopped r d told text
+  stopped_by : (script : Script) → ReadsScript r.left r.rest script → (text : List ℕ) → EndsServing trace d script told DeviceFault text → IsStopped trace r d told text
   stopped_by script read text (inl e) = inl e
   stopped_by script read text (inr e) = inr (script, read, e.0, e.1, e.2, e.3)
 
-  served_by : (script : Script) → ReadsScript r.left r.rest script → (ending : Ending) (text : List ℕ) → status ≡ status_of ending → EndsServing d script told ending text → ByStatus r d told status text
+  served_by : (script : Script) → ReadsScript r.left r.rest script → (ending : Ending) (text : List ℕ) → status ≡ status_of ending → EndsServing trace d script told ending text → ByStatus trace r d told status text
   served_by script read Done text is e = whole is (script, read, e.0, e.1, e.2)
   served_by script read Usage text is e = absurd e
   served_by script read (BadGeometry bad) text is e = absurd e
@@ -86,14 +86,14 @@ module _ (r : Reading) (d : Formatting) (told : List (List Entry)) (status : ℕ
   served_by script read SourceFault text is e = absurd e
   served_by script read Damaged text is e = absurd e
 
-  by_status : (ending : Ending) (text : List ℕ) → status ≡ status_of ending → EndsPlay r d told ending text → ByStatus r d told status text
+  by_status : (ending : Ending) (text : List ℕ) → status ≡ status_of ending → EndsPlay trace r d told ending text → ByStatus trace r d told status text
   by_status ending text is (inl e) = unread_by e.0 ending text is e.1
   by_status ending text is (inr e) = served_by e.0 e.1 ending text is e.2
 
   -- ---- what a status says
 
   module _ (text : List ℕ) where
-    whole_of : status ≡ 0 → ByStatus r d told status text → IsWhole r d told text
+    whole_of : status ≡ 0 → ByStatus trace r d told status text → IsWhole trace r d told text
     whole_of zero (whole is e) = e
     whole_of zero (unbegun is read none e) = absurd (omega (arith, zero, is))
     whole_of zero (stopped is read e) = absurd (omega (arith, zero, is))
@@ -101,7 +101,7 @@ module _ (r : Reading) (d : Formatting) (told : List (List Entry)) (status : ℕ
     whole_of zero (broken is none e) = absurd (omega (arith, zero, is))
     whole_of zero (unread is e) = absurd (omega (arith, zero, is))
 
-    unbegun_of : status ≡ 3 → ByStatus r d told status text → (told ≡ []) × TellsNoStart d text
+    unbegun_of : status ≡ 3 → ByStatus trace r d told status text → (told ≡ []) × TellsNoStart d text
     unbegun_of three (whole is e) = absurd (omega (arith, three, is))
     unbegun_of three (unbegun is read none e) = (none, e)
     unbegun_of three (stopped is read e) = absurd (omega (arith, three, is))
@@ -109,7 +109,7 @@ module _ (r : Reading) (d : Formatting) (told : List (List Entry)) (status : ℕ
     unbegun_of three (broken is none e) = absurd (omega (arith, three, is))
     unbegun_of three (unread is e) = absurd (omega (arith, three, is))
 
-    stopped_of : status ≡ 4 → ByStatus r d told status text → IsStopped r d told text
+    stopped_of : status ≡ 4 → ByStatus trace r d told status text → IsStopped trace r d told text
     stopped_of four (whole is e) = absurd (omega (arith, four, is))
     stopped_of four (unbegun is read none e) = absurd (omega (arith, four, is))
     stopped_of four (stopped is read e) = e
@@ -124,13 +124,13 @@ end_rose : (d : Formatting) (told : List (List Entry)) (fault : ℕ) → TellsEn
 end_rose d told fault (inl e) = e.1.rose
 end_rose d told fault (inr e) = e.rose
 
-stopped_rose : (r : Reading) (d : Formatting) (told : List (List Entry)) (text : List ℕ) → IsStopped r d told text → d.now ≡ raised d.before
-stopped_rose r d told text (inl e) = e.1
-stopped_rose r d told text (inr e) = end_rose d told e.3 e.4
+stopped_rose : (trace : Bool) (r : Reading) (d : Formatting) (told : List (List Entry)) (text : List ℕ) → IsStopped trace r d told text → d.now ≡ raised d.before
+stopped_rose trace r d told text (inl e) = e.1
+stopped_rose trace r d told text (inr e) = end_rose d told e.3 e.4
 
 -- ---- of a source that tells its bytes
 
-module _ (alike : LongerIsAlike) (text : List ℕ) (r : Reading) (left : r.left ≡ Some text) (calm : r.now ≡ raised r.before → ⊥) (d : Formatting) (told : List (List Entry)) (status : ℕ) where
+module _ (trace : Bool) (alike : LongerIsAlike) (text : List ℕ) (r : Reading) (left : r.left ≡ Some text) (calm : r.now ≡ raised r.before → ⊥) (d : Formatting) (told : List (List Entry)) (status : ℕ) where
   alike_read : (read : List ℕ) → HasRead r.left r.rest read → script_of read ≡ script_of text
   alike_read read has = read_alike alike text read r.rest (subst (λ (o : Option (List ℕ)). HasRead o r.rest read) left has)
 
@@ -141,16 +141,16 @@ module _ (alike : LongerIsAlike) (text : List ℕ) (r : Reading) (left : r.left 
   not_read f is e = let both : Ok e.0 ≡ Err f = sym e.1.2 ∙ alike_read e.1.0 e.1.1 ∙ is in cc
 
   -- a script is served, or no session begins, or memory runs out
-  complete_by : (script : Script) → script_of text ≡ Ok script → (d.now ≡ raised d.before → ⊥) → (out : List ℕ) → ByStatus r d told status out → (status ≡ 0) ⊎ ((status ≡ 3) ⊎ (status ≡ 5))
+  complete_by : (script : Script) → script_of text ≡ Ok script → (d.now ≡ raised d.before → ⊥) → (out : List ℕ) → ByStatus trace r d told status out → (status ≡ 0) ⊎ ((status ≡ 3) ⊎ (status ≡ 5))
   complete_by script is quiet out (whole at e) = inl at
   complete_by script is quiet out (unbegun at read none e) = inr (inl at)
-  complete_by script is quiet out (stopped at read e) = absurd (quiet (stopped_rose r d told out e))
+  complete_by script is quiet out (stopped at read e) = absurd (quiet (stopped_rose trace r d told out e))
   complete_by script is quiet out (starved at) = inr (inr at)
   complete_by script is quiet out (broken at none e) = absurd (not_broken script out is e)
   complete_by script is quiet out (unread at e) = absurd (calm e)
 
   -- a text that is no script is told with its first break, or memory runs out
-  broken_by : (f : ScriptFault) → script_of text ≡ Err f → (held holds : Option (List ℕ)) (out : List ℕ) → Appends held holds out → ByStatus r d told status out
+  broken_by : (f : ScriptFault) → script_of text ≡ Err f → (held holds : Option (List ℕ)) (out : List ℕ) → Appends held holds out → ByStatus trace r d told status out
       → ((status ≡ 2) × (told ≡ []) × Appends held holds (break_line f)) ⊎ (status ≡ 5)
   broken_by f is held holds out a (whole at e) = absurd (not_read f is (e.0, e.1))
   broken_by f is held holds out a (unbegun at read none e) = absurd (not_read f is read)
@@ -164,32 +164,32 @@ module _ (alike : LongerIsAlike) (text : List ℕ) (r : Reading) (left : r.left 
 
 -- ---- of the whole answer
 
-module _ (r : Reading) (d : Formatting) (told : List (List Entry)) (w : Writing) (status : ℕ) (a : IsAnswer (EndsPlay r d told) w status) where
-  seen : (status ≡ sink_status → ⊥) → (text : List ℕ) × ByStatus r d told status text × Appends w.held w.holds text
-  seen other = let x = a.whole other in (x.1, by_status r d told status x.0 x.1 x.2 x.3, x.4)
+module _ (trace : Bool) (r : Reading) (d : Formatting) (told : List (List Entry)) (w : Writing) (status : ℕ) (a : IsAnswer (EndsPlay trace r d told) w status) where
+  seen : (status ≡ sink_status → ⊥) → (text : List ℕ) × ByStatus trace r d told status text × Appends w.held w.holds text
+  seen other = let x = a.whole other in (x.1, by_status trace r d told status x.0 x.1 x.2 x.3, x.4)
 
-  stopped_got : (text : List ℕ) → Appends w.held w.holds text → IsStopped r d told text
+  stopped_got : (text : List ℕ) → Appends w.held w.holds text → IsStopped trace r d told text
       → ((told ≡ []) × (d.now ≡ raised d.before) × Appends w.held w.holds (device_line d.now))
-      ⊎ ((script : Script) × ReadsScript r.left r.rest script × IsSessionOf d script told × (fault : ℕ) × TellsEnd d told fault × Appends w.held w.holds (replies_text script (joined told) ++ device_line fault))
+      ⊎ ((script : Script) × ReadsScript r.left r.rest script × IsSessionOf d script told × (fault : ℕ) × TellsEnd d told fault × Appends w.held w.holds (session_text trace script (joined told) ++ device_line fault))
   stopped_got text got (inl e) = inl (e.0, e.1, subst (Appends w.held w.holds) e.2 got)
-  stopped_got text got (inr e) = inr (e.0, e.1, e.2, e.3, e.4, subst (Appends w.held w.holds) (e.5 ∙ ap (λ (l : List ℕ). l ++ device_line e.3) e.2.lines) got)
+  stopped_got text got (inr e) = inr (e.0, e.1, e.2, e.3, e.4, subst (Appends w.held w.holds) (e.5 ∙ ap (λ (l : List ℕ). (l ++ trace_part trace (joined told)) ++ device_line e.3) e.2.lines) got)
 
-  pub play_told : LongerIsAlike → AreFaultsOf d.before (joined told) → TellsPlay r d told w status
+  pub play_told : LongerIsAlike → AreFaultsOf d.before (joined told) → TellsPlay trace r d told w status
   play_told alike faults = record {
     done = λ zero.
         let x = seen (λ e. cc) in
-        let e = whole_of r d told status x.0 zero x.1 in
-        (e.0, e.1, e.2, e.3, subst (Appends w.held w.holds) (e.4 ∙ e.2.lines) x.2);
+        let e = whole_of trace r d told status x.0 zero x.1 in
+        (e.0, e.1, e.2, e.3, subst (Appends w.held w.holds) (e.4 ∙ ap (λ (l : List ℕ). l ++ trace_part trace (joined told)) e.2.lines) x.2);
     no_start = λ three.
         let x = seen (λ e. cc) in
-        let e = unbegun_of r d told status x.0 three x.1 in
+        let e = unbegun_of trace r d told status x.0 three x.1 in
         (e.0, (x.0, e.1, x.2));
-    closing = λ four. let x = seen (λ e. cc) in stopped_got x.0 x.2 (stopped_of r d told status x.0 four x.1);
+    closing = λ four. let x = seen (λ e. cc) in stopped_got x.0 x.2 (stopped_of trace r d told status x.0 four x.1);
     faults = faults;
     complete = λ text script left is calm quiet.
         let x = seen (λ s. quiet.sink (a.rose s)) in
-        complete_by alike text r left calm d told status script is quiet.disk x.0 x.1;
+        complete_by trace alike text r left calm d told status script is quiet.disk x.0 x.1;
     broken = λ text f left is calm quiet.
         let x = seen (λ s. quiet (a.rose s)) in
-        broken_by alike text r left calm d told status f is w.held w.holds x.0 x.2 x.1;
+        broken_by trace alike text r left calm d told status f is w.held w.holds x.0 x.2 x.1;
   }

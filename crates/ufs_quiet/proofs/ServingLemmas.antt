@@ -1,6 +1,6 @@
 -- How a session that was played ends, and what it leaves.
 use Rattle.std.proofs.Common.{◌≡◌, ◌⊎◌, inl, inr, ℕ, List, [], length, Result, Ok, Err, ap, sym, subst, refl, ◌∙◌}
-use Rattle.std.specs.Prelude.{IsTrue}
+use Rattle.std.specs.Prelude.{Bool, IsTrue}
 use Rattle.ufs_engine.specs.Begins.{BeginsWith, TellsNoSession}
 use Rattle.ufs_catalog.specs.Faults.{IsWhyNot}
 use Rattle.ufs_catalog.specs.declared.fault.RecoverFault.{RecoverFault}
@@ -15,7 +15,6 @@ use Rattle.ufs_opening.specs.Told.{TellsWhy}
 use Rattle.ufs_engine.specs.Plays.{ArePlayedFrom, IsEndFault, MayPlay, served_end}
 use Rattle.ufs_engine.specs.declared.playing.PlayFault.{PlayFault}
 use Rattle.ufs_engine.specs.declared.playing.PlayFault.TheVariants as ended
-use Rattle.ufs_script.specs.Output.{lines_of}
 use Rattle.ufs_script.specs.declared.script.Script.{Script}
 use Rattle.ufs_start.specs.Refused.{HasStartCause}
 use Rattle.ufs_start.specs.declared.fault.StartFault.{StartFault}
@@ -23,7 +22,7 @@ use Rattle.ufs_start.specs.declared.fault.StartFault.TheVariants as start
 use Rattle.ufs_quiet.specs.declared.ending.Ending.{Ending}
 use Rattle.ufs_quiet.specs.declared.ending.Ending.TheVariants.{Done, Usage, BadGeometry, NotBuilt, BadScript, TooSmall, NoTree, DeviceFault, OutOfMemory, SourceFault, Damaged}
 use Rattle.ufs_quiet.specs.Seen.{Formatting}
-use Rattle.ufs_quiet.specs.Served.{IsCutSessionOf, IsSessionOf}
+use Rattle.ufs_quiet.specs.Served.{IsCutSessionOf, IsSessionOf, session_lines}
 use Rattle.ufs_quiet.specs.Texts.{device_line}
 use Rattle.ufs_quiet.specs.TreeLines.{refusal_line}
 use Rattle.ufs_quiet.specs.Endings.{EndsBehind, EndsPlayed, EndsPrinting, EndsServing, TellsNoStart, ending_of, line_of, start_ending, start_line}
@@ -56,20 +55,20 @@ told_why given recover.Memory why refusal is none = cc
 
 -- ---- how it ends
 
-module _ (d : Formatting) (script : Script) (told : List (List Entry)) where
+module _ (trace : Bool) (d : Formatting) (script : Script) (told : List (List Entry)) where
   cut_session : (result : Result (Unit {0}) PlayFault) → HasPlayed d script told result → IsCutSessionOf d script told
   cut_session result h = record {
-    any = let p = h.legal in (p.0, record { legal = p.1.legal; ordered = p.1.ordered });
+    any = let p = h.legal in (p.0, record { legal = p.1.legal; ordered = p.1.ordered; servers = p.1.servers });
     opened = h.opened;
-    begun = λ may begun with. let p = h.played may begun with in record { legal = p.legal; ordered = p.ordered };
+    begun = λ may begun with. let p = h.played may begun with in record { legal = p.legal; ordered = p.ordered; servers = p.servers };
   }
 
   session : (result : Result (Unit {0}) PlayFault) → served_end result ≡ Ok tt → HasPlayed d script told result → IsSessionOf d script told
   session result well h = record {
     history_is = record {
-      any = let p = h.legal in (p.0, record { legal = p.1.legal; ordered = p.1.ordered; complete = p.1.complete well });
+      any = let p = h.legal in (p.0, record { legal = p.1.legal; ordered = p.1.ordered; servers = p.1.servers; complete = p.1.complete well });
       opened = h.opened;
-      begun = λ may begun with. let p = h.played may begun with in record { legal = p.legal; ordered = p.ordered; complete = p.complete well };
+      begun = λ may begun with. let p = h.played may begun with in record { legal = p.legal; ordered = p.ordered; servers = p.servers; complete = p.complete well };
     };
     lines = let p = h.legal.1 in output_is told (joined told) (length script.clients) p.merged (p.each well);
   }
@@ -92,7 +91,7 @@ module _ (d : Formatting) (script : Script) (told : List (List Entry)) where
         ap start_line (sym x.1) ∙ told_why (opens d.sectors d.image) x.0 x.2 refusal none (ap start_ending x.1 ∙ is);
   }
 
-  unbegun : (fault : StartFault) → told ≡ [] → HasStartCause d.before d.now fault → Why fault → Cause fault → IsCutSessionOf d script told → EndsServing d script told (start_ending fault) (start_line fault)
+  unbegun : (fault : StartFault) → told ≡ [] → HasStartCause d.before d.now fault → Why fault → Cause fault → IsCutSessionOf d script told → EndsServing trace d script told (start_ending fault) (start_line fault)
   unbegun (start.Image recover.NoSuperblock) none count why cause cut = (none, count, no_start (start.Image recover.NoSuperblock) refl why cause)
   unbegun (start.Image (recover.BadVersion found)) none count why cause cut = (none, count, no_start (start.Image (recover.BadVersion found)) refl why cause)
   unbegun (start.Image (recover.BadGeometry number)) none count why cause cut = (none, count, no_start (start.Image (recover.BadGeometry number)) refl why cause)
@@ -109,7 +108,7 @@ module _ (d : Formatting) (script : Script) (told : List (List Entry)) where
   cause_of fault h tells refusal none = elim (h.unopened tells refusal none) [ inl memory ↦ absurd cc | inr x ↦ (x.0, cc, x.2) ]
 
   -- each request was answered
-  well_ended : HasPlayed d script told (Ok tt) → (ending : Ending) (text : List ℕ) → EndsPrinting (lines_of (joined told)) ending text → EndsServing d script told ending text
+  well_ended : HasPlayed d script told (Ok tt) → (ending : Ending) (text : List ℕ) → EndsPrinting (session_lines trace (joined told)) ending text → EndsServing trace d script told ending text
   well_ended h Done text e = (session (Ok tt) refl h, h.closing, e)
   well_ended h Usage text e = absurd e
   well_ended h (BadGeometry bad) text e = absurd e
@@ -122,7 +121,7 @@ module _ (d : Formatting) (script : Script) (told : List (List Entry)) where
   well_ended h SourceFault text e = absurd e
   well_ended h Damaged text e = absurd e
 
-  device_ended : (fault : ℕ) → HasPlayed d script told (Err (ended.Device fault)) → (ending : Ending) (text : List ℕ) → EndsBehind (lines_of (joined told)) fault ending text → EndsServing d script told ending text
+  device_ended : (fault : ℕ) → HasPlayed d script told (Err (ended.Device fault)) → (ending : Ending) (text : List ℕ) → EndsBehind (session_lines trace (joined told)) fault ending text → EndsServing trace d script told ending text
   device_ended fault h Done text e = absurd e
   device_ended fault h Usage text e = absurd e
   device_ended fault h (BadGeometry bad) text e = absurd e
@@ -135,7 +134,7 @@ module _ (d : Formatting) (script : Script) (told : List (List Entry)) where
   device_ended fault h SourceFault text e = absurd e
   device_ended fault h Damaged text e = absurd e
 
-  stopped_ended : (fault : ℕ) → HasPlayed d script told (Err (ended.Stopped fault)) → (ending : Ending) (text : List ℕ) → EndsBehind (lines_of (joined told)) fault ending text → EndsServing d script told ending text
+  stopped_ended : (fault : ℕ) → HasPlayed d script told (Err (ended.Stopped fault)) → (ending : Ending) (text : List ℕ) → EndsBehind (session_lines trace (joined told)) fault ending text → EndsServing trace d script told ending text
   stopped_ended fault h Done text e = absurd e
   stopped_ended fault h Usage text e = absurd e
   stopped_ended fault h (BadGeometry bad) text e = absurd e
@@ -148,11 +147,11 @@ module _ (d : Formatting) (script : Script) (told : List (List Entry)) where
   stopped_ended fault h SourceFault text e = absurd e
   stopped_ended fault h Damaged text e = absurd e
 
-  pub played_ends : (result : Result (Unit {0}) PlayFault) → HasPlayed d script told result → (ending : Ending) (text : List ℕ) → EndsPlayed result (lines_of (joined told)) ending text → EndsServing d script told ending text
+  pub played_ends : (result : Result (Unit {0}) PlayFault) → HasPlayed d script told result → (ending : Ending) (text : List ℕ) → EndsPlayed result (session_lines trace (joined told)) ending text → EndsServing trace d script told ending text
   played_ends (Ok x) h ending text e = well_ended h ending text e
   played_ends (Err (ended.Image fault)) h ending text e =
-      subst (λ (x : Ending). EndsServing d script told x text) (sym e.0)
-      (subst (EndsServing d script told (start_ending fault)) (sym e.1) (unbegun fault (h.refused fault refl) (h.opening fault refl) (λ may. h.why may fault refl) (cause_of fault h) (cut_session (Err (ended.Image fault)) h)))
+      subst (λ (x : Ending). EndsServing trace d script told x text) (sym e.0)
+      (subst (EndsServing trace d script told (start_ending fault)) (sym e.1) (unbegun fault (h.refused fault refl) (h.opening fault refl) (λ may. h.why may fault refl) (cause_of fault h) (cut_session (Err (ended.Image fault)) h)))
   played_ends (Err (ended.Device fault)) h ending text e = device_ended fault h ending text e
   played_ends (Err (ended.Stopped fault)) h ending text e = stopped_ended fault h ending text e
-  played_ends (Err ended.Memory) h ending text e = subst (λ (x : Ending). EndsServing d script told x text) (sym e.0) (inl (cut_session (Err ended.Memory) h, e.1))
+  played_ends (Err ended.Memory) h ending text e = subst (λ (x : Ending). EndsServing trace d script told x text) (sym e.0) (inl (cut_session (Err ended.Memory) h, e.1))

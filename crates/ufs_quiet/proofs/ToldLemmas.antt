@@ -18,7 +18,7 @@ use Rattle.ufs_quiet.proofs.RecoveryLemmas.{recovery_told}
 pub tells : LongerIsAlike → (words : Option Command) (r : Reading) (d : Formatting) (told : List (List Entry)) (w : Writing) (status : ℕ) → AreFaultsOf d.before (joined told) → IsAnswer (Ends words r d told) w status → Tells words r d told w status
 tells alike None r d told w status faults a = tt
 tells alike (Some command.NotBuilt) r d told w status faults a = tt
-tells alike (Some command.Play) r d told w status faults a = play_told r d told w status a alike faults
+tells alike (Some (command.Play trace)) r d told w status faults a = play_told trace r d told w status a alike faults
 tells alike (Some (command.Mkfs blocks inodes journal)) r d told w status faults a = mkfs_told (record { blocks = blocks; inodes = inodes; journal = journal }) d w status a
 tells alike (Some command.Tree) r d told w status faults a = λ known. tree_told d w status a known
 tells alike (Some command.Check) r d told w status faults a = λ known. check_told d w status a known

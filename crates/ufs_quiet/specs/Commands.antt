@@ -66,10 +66,10 @@ abbrev pub mkfs_of : List (List ℕ) → Option Command
 mkfs_of (blocks ∷ inodes ∷ journal ∷ words) = mkfs_with (number_up_to most_u32 blocks) (number_up_to most_u32 inodes) (number_up_to most_u32 journal) (options_of words)
 mkfs_of _ = None
 
--- `play` with any options, of which leases and traces aren't built
+-- `play` with any options, of which leases aren't built
 abbrev pub play_with : Option Options → Option Command
 play_with None = None
-play_with (Some o) = if only_image o then Some command.Play else Some command.NotBuilt
+play_with (Some o) = if o.lease then Some command.NotBuilt else Some (command.Play o.trace)
 
 -- a command with no option but `--image`
 abbrev pub plain_with : Command → Option Options → Option Command
@@ -100,6 +100,11 @@ command_of (name ∷ words) =
 -- the command that a program's words are
 abbrev pub asked : {Z : Type 0} → List (String Z) → Option Command
 asked words = command_of (map string_bytes words)
+
+-- it is `play`, with a trace or without
+abbrev pub is_play : Option Command → Bool
+is_play (Some (command.Play trace)) = true
+is_play _ = false
 
 -- formatting with these numbers
 abbrev pub mkfs_command : Geometry → Option Command

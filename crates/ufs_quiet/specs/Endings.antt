@@ -1,5 +1,5 @@
 -- How a command ends where the sink doesn't fail: why, and what it has written.
-use Rattle.std.specs.Prelude.{ℕ, ◌≡◌, ◌≢◌, ◌<◌, ◌≤◌, ◌⊎◌, List, [], ◌++◌, length, Option, Some, None, Result, Ok, Err, IsTrue}
+use Rattle.std.specs.Prelude.{ℕ, ◌≡◌, ◌≢◌, ◌<◌, ◌≤◌, ◌⊎◌, Bool, List, [], ◌++◌, length, Option, Some, None, Result, Ok, Err, IsTrue}
 use Rattle.std.specs.Io.KnownBytes.{Appends}
 use Rattle.ufs_base.specs.Faults.{raised}
 use Rattle.ufs_engine.specs.Begins.{TellsNoSession}
@@ -20,7 +20,6 @@ use Rattle.ufs_image.specs.Volume as image
 use Rattle.ufs_catalog.specs.declared.fault.RecoverFault.{RecoverFault}
 use Rattle.ufs_catalog.specs.declared.fault.RecoverFault.TheVariants as recover
 use Rattle.ufs_recovery.specs.Recovered.{log_of}
-use Rattle.ufs_script.specs.Output.{lines_of}
 use Rattle.ufs_script.specs.Reading.{ReadsBreak, ReadsScript}
 use Rattle.ufs_script.specs.declared.script.Script.{Script}
 use Rattle.ufs_script.specs.declared.fault.ScriptFault.{ScriptFault}
@@ -34,7 +33,7 @@ use Rattle.ufs_quiet.specs.Texts.{IsFront, AreFirstLines, usage_line, bad_geomet
 use Rattle.ufs_quiet.specs.DamageLines.{clean_line, damage_lines}
 use Rattle.ufs_quiet.specs.TreeLines.{tree_lines, refusal_line}
 use Rattle.ufs_quiet.specs.Seen.{Reading, Writing, Formatting}
-use Rattle.ufs_quiet.specs.Served.{EndsSession, IsCutSessionOf, IsSessionOf, TellsEnd}
+use Rattle.ufs_quiet.specs.Served.{EndsSession, IsCutSessionOf, IsSessionOf, TellsEnd, session_lines}
 
 abbrev pub status_of : Ending → ℕ
 status_of Done = 0
@@ -202,7 +201,7 @@ EndsBehind lines fault DeviceFault text = text ≡ lines ++ device_line fault
 EndsBehind lines fault OutOfMemory text = (front : List ℕ) × AreFirstLines front lines × (text ≡ front ++ memory_line)
 EndsBehind lines fault _ text = ⊥
 
--- what is written where a session has ended so, whose transcripts have these lines
+-- what is written where a session has ended so, of which these lines are printed
 abbrev pub EndsPlayed : Result (Unit {0}) PlayFault → List ℕ → Ending → List ℕ → Type 0
 EndsPlayed (Ok x) lines ending text = EndsPrinting lines ending text
 EndsPlayed (Err (ended.Image fault)) lines ending text = IsLine (start_ending fault) (start_line fault) ending text
@@ -219,19 +218,19 @@ pub record TellsNoStart (d : Formatting) (text : List ℕ) : Type 0 where
   -- Of any disk that tells what it holds, and stands for no tree, the cause is told.
   pub refused : IsTrue d.tells → (refusal : Refusal) → opens d.sectors d.image ≡ Err refusal → text ≡ refusal_line refusal
 
--- What is seen of the disk and was told allows the serving of a script this ending with this text.
+-- What is seen of the disk and was told allows the serving of a script, with a trace or without, this ending with this text.
 -- Each request is answered, and the image is clean;
-abbrev pub EndsServing : Formatting → Script → List (List Entry) → Ending → List ℕ → Type 0
-EndsServing d script told Done text = IsSessionOf d script told × EndsSession d told (Ok tt) × (text ≡ lines_of (joined told))
+abbrev pub EndsServing : Bool → Formatting → Script → List (List Entry) → Ending → List ℕ → Type 0
+EndsServing trace d script told Done text = IsSessionOf d script told × EndsSession d told (Ok tt) × (text ≡ session_lines trace (joined told))
 -- no session begins with the image;
-EndsServing d script told NoTree text = (told ≡ []) × (d.now ≡ d.before) × TellsNoStart d text
--- a call of the disk failed as the session began, or each request is answered, and the line of a fault is behind the replies;
-EndsServing d script told DeviceFault text = ((told ≡ []) × (d.now ≡ raised d.before) × (text ≡ device_line d.now))
-    ⊎ (IsSessionOf d script told × (fault : ℕ) × TellsEnd d told fault × (text ≡ lines_of (joined told) ++ device_line fault))
--- memory ran out before the first reply line, and some requests may have been answered, or behind one.
-EndsServing d script told OutOfMemory text = (IsCutSessionOf d script told × (text ≡ memory_line))
-    ⊎ (IsSessionOf d script told × (front : List ℕ) × AreFirstLines front (lines_of (joined told)) × (text ≡ front ++ memory_line))
-EndsServing d script told _ text = ⊥
+EndsServing trace d script told NoTree text = (told ≡ []) × (d.now ≡ d.before) × TellsNoStart d text
+-- a call of the disk failed as the session began, or each request is answered, and the line of a fault is behind the lines;
+EndsServing trace d script told DeviceFault text = ((told ≡ []) × (d.now ≡ raised d.before) × (text ≡ device_line d.now))
+    ⊎ (IsSessionOf d script told × (fault : ℕ) × TellsEnd d told fault × (text ≡ session_lines trace (joined told) ++ device_line fault))
+-- memory ran out before the first line, and some requests may have been answered, or behind one.
+EndsServing trace d script told OutOfMemory text = (IsCutSessionOf d script told × (text ≡ memory_line))
+    ⊎ (IsSessionOf d script told × (front : List ℕ) × AreFirstLines front (session_lines trace (joined told)) × (text ≡ front ++ memory_line))
+EndsServing trace d script told _ text = ⊥
 
 -- What is seen of the source allows this ending with this text where there is no script.
 abbrev pub EndsUnread : Reading → Ending → List ℕ → Type 0
@@ -242,8 +241,8 @@ EndsUnread r _ text = ⊥
 
 -- What is seen of the source and the disk and was told allows `play` this ending with this text: there is no script and
 -- nothing was told, or the source was read to its end, its bytes are a script, and it was served.
-abbrev pub EndsPlay : Reading → Formatting → List (List Entry) → Ending → List ℕ → Type 0
-EndsPlay r d told ending text = ((told ≡ []) × EndsUnread r ending text) ⊎ ((script : Script) × ReadsScript r.left r.rest script × EndsServing d script told ending text)
+abbrev pub EndsPlay : Bool → Reading → Formatting → List (List Entry) → Ending → List ℕ → Type 0
+EndsPlay trace r d told ending text = ((told ≡ []) × EndsUnread r ending text) ⊎ ((script : Script) × ReadsScript r.left r.rest script × EndsServing trace d script told ending text)
 
 -- ---- what any words end with
 
@@ -251,7 +250,7 @@ EndsPlay r d told ending text = ((told ≡ []) × EndsUnread r ending text) ⊎ 
 abbrev pub Ends : Option Command → Reading → Formatting → List (List Entry) → Ending → List ℕ → Type 0
 Ends None r d told ending text = IsFixed Usage ending text
 Ends (Some command.NotBuilt) r d told ending text = IsFixed NotBuilt ending text
-Ends (Some command.Play) r d told ending text = EndsPlay r d told ending text
+Ends (Some (command.Play trace)) r d told ending text = EndsPlay trace r d told ending text
 Ends (Some command.Tree) r d told ending text = EndsTree d ending text
 Ends (Some command.Check) r d told ending text = EndsCheck d ending text
 Ends (Some command.Recover) r d told ending text = EndsRecovery d ending text

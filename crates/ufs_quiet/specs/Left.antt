@@ -1,5 +1,5 @@
 -- What a command does to a disk and to a source.
-use Rattle.std.specs.Prelude.{ℕ, ◌≡◌, ◌≢◌, ◌<◌, List, Bool, false, Option, Some, None, Err, IsTrue}
+use Rattle.std.specs.Prelude.{ℕ, ◌≡◌, ◌≢◌, ◌<◌, [], List, Bool, true, false, Option, Some, None, Err, IsTrue}
 use Rattle.ufs_engine.specs.Begins.{BeginsWith}
 use Rattle.ufs_catalog.specs.Reading.{IsReadOnly}
 use Rattle.ufs_disk.specs.Disk.{Leaves}
@@ -18,8 +18,10 @@ use Rattle.ufs_engine.specs.Plays.{MayPlay}
 use Rattle.ufs_recover.specs.Stopped.{IsNewDisk, IsStopped}
 use Rattle.ufs_recovery.specs.Home.{KeepsTree}
 use Rattle.ufs_recovery.specs.Recovered.{IsCleanDisk, IsProperDisk, IsRecovered}
+use Rattle.ufs_session.specs.Throughout.{IsExplainedThroughout}
 use Rattle.ufs_quiet.specs.declared.words.Command.{Command}
 use Rattle.ufs_quiet.specs.declared.words.Command.TheVariants as command
+use Rattle.ufs_quiet.specs.Commands.{is_play}
 use Rattle.ufs_quiet.specs.Seen.{Course, Reading}
 
 -- ---- disks
@@ -53,6 +55,9 @@ pub record Plays {D : Type 0} (told : List (List Entry)) (status : ℕ) (c : Cou
   -- and the first of each file, among them each that an acknowledged `fsync` or `sync` waited for.
   pub crash : MayPlay c.tells c.sectors c.from.state → (start : PosixTree) → BeginsWith c.sectors (reads c.from) start → Leaves (OpensExplained c.sectors start (joined told)) c.to.state
   pub proper : MayPlay c.tells c.sectors c.from.state → Leaves (IsProperImage c.sectors) c.to.state
+  -- So it is at each moment before: what a crash leaves there opens to a tree that the entries explain that were answered by
+  -- then, and is proper.
+  pub always : MayPlay c.tells c.sectors c.from.state → (start : PosixTree) → BeginsWith c.sectors (reads c.from) start → IsExplainedThroughout c.keeps c.sectors start [] (joined told) c.from c.to
   -- Status 0: the disk is proper and clean, nothing is pending, and it stands for the tree behind the history.
   pub clean : MayPlay c.tells c.sectors c.from.state → status ≡ 0 → IsCleanDisk c.sectors c.to.state
   pub last : MayPlay c.tells c.sectors c.from.state → (start : PosixTree) → BeginsWith c.sectors (reads c.from) start → status ≡ 0 → StandsForTree c.sectors (tree_after start (joined told)) (reads c.to)
@@ -66,7 +71,7 @@ ActsOn (Some (command.Mkfs blocks inodes journal)) told status c = Formats (reco
 ActsOn (Some command.Tree) told status c = IsTrue c.tells → IsReadOnly c.keeps c.from c.to
 ActsOn (Some command.Check) told status c = IsTrue c.tells → IsReadOnly c.keeps c.from c.to
 ActsOn (Some command.Recover) told status c = IsTrue c.tells → Recovers c.keeps c.sectors status c.from c.to
-ActsOn (Some command.Play) told status c = Plays told status c
+ActsOn (Some (command.Play trace)) told status c = Plays told status c
 ActsOn (Some command.NotBuilt) told status c = c.new ≡ c.old
 ActsOn None told status c = c.new ≡ c.old
 
@@ -75,7 +80,7 @@ pub record LeavesDisk {D : Type 0} (words : Option Command) (lists : List (List 
   -- It has as many sectors.
   pub size : c.sectors_now ≡ c.sectors
   -- Any status but 4 and 7, and for `play` but 5, leaves its count.
-  pub told : status ≢ 4 → status ≢ 7 → (words ≡ Some command.Play → status ≢ 5) → c.now ≡ c.before
+  pub told : status ≢ 4 → status ≢ 7 → (is_play words ≡ true → status ≢ 5) → c.now ≡ c.before
 
 -- ---- sources
 
@@ -83,4 +88,4 @@ pub record LeavesSource (words : Option Command) (status : ℕ) (r : Reading) : 
   -- Any status but 6 and 7 leaves its count.
   pub told : status ≢ 6 → status ≢ 7 → r.now ≡ r.before
   -- Only `play` reads it.
-  pub unread : words ≢ Some command.Play → (r.rest ≡ r.left) × (r.now ≡ r.before)
+  pub unread : is_play words ≡ false → (r.rest ≡ r.left) × (r.now ≡ r.before)

@@ -1,6 +1,7 @@
 pub mod Texts
 pub mod Commands
 pub mod Served
+pub mod Printed
 pub mod Seen
 pub mod TreeLines
 pub mod DamageLines

@@ -1,6 +1,6 @@
 -- What a command's status says, and what the sink got then. Each status with each text stands in `Ends`; this is what
 -- it comes to for each command.
-use Rattle.std.specs.Prelude.{ℕ, ◌≡◌, ◌≢◌, ◌≤◌, ◌⊎◌, List, [], ◌++◌, length, Option, Some, None, ⊤, Ok, Err, IsTrue}
+use Rattle.std.specs.Prelude.{ℕ, ◌≡◌, ◌≢◌, ◌≤◌, ◌⊎◌, Bool, List, [], ◌++◌, length, Option, Some, None, ⊤, Ok, Err, IsTrue}
 use Rattle.std.specs.Io.KnownBytes.{Appends}
 use Rattle.ufs_base.specs.Faults.{raised}
 use Rattle.ufs_image.specs.Damage.{Damage}
@@ -23,7 +23,7 @@ use Rattle.ufs_quiet.specs.Texts.{made_line, break_line, device_line, recovered_
 use Rattle.ufs_quiet.specs.TreeLines.{tree_lines, refusal_line}
 use Rattle.ufs_quiet.specs.DamageLines.{clean_line, damage_lines}
 use Rattle.ufs_quiet.specs.Endings.{TellsNoStart}
-use Rattle.ufs_quiet.specs.Served.{EndsSession, IsSessionOf, TellsEnd, replies_text}
+use Rattle.ufs_quiet.specs.Served.{EndsSession, IsSessionOf, TellsEnd, session_text}
 use Rattle.ufs_quiet.specs.Seen.{Reading, Writing, Formatting}
 
 -- No count of the disk and the sink rose.
@@ -31,20 +31,21 @@ pub record AreCalm (d : Formatting) (w : Writing) : Type 0 where
   pub disk : d.now ≢ raised d.before
   pub sink : w.now ≢ raised w.before
 
--- `play`, of which the transcripts are these
-pub record TellsPlay (r : Reading) (d : Formatting) (told : List (List Entry)) (w : Writing) (status : ℕ) : Type 0 where
+-- `play`, with a trace or without, of which the transcripts are these
+pub record TellsPlay (trace : Bool) (r : Reading) (d : Formatting) (told : List (List Entry)) (w : Writing) (status : ℕ) : Type 0 where
   -- Status 0: the source was read to its end, and its bytes are a script. There is one history, in which one POSIX tree,
   -- that begins as the tree of the disk's image, gives every reply or the reply is an excuse that fits, and which holds
-  -- each request of the script once in its client's order. The sink got the lines of that history's replies, and nothing
-  -- else. No reply tells a fault of the disk.
-  pub done : status ≡ 0 → (script : Script) × ReadsScript r.left r.rest script × IsSessionOf d script told × EndsSession d told (Ok tt) × Appends w.held w.holds (replies_text script (joined told))
+  -- each request of the script once in its client's order. The sink got the lines of that history's replies, behind them,
+  -- where a trace is asked for, those of that history's entries by their tickets, 0, 1, 2 and so on, and nothing else. No
+  -- reply tells a fault of the disk.
+  pub done : status ≡ 0 → (script : Script) × ReadsScript r.left r.rest script × IsSessionOf d script told × EndsSession d told (Ok tt) × Appends w.held w.holds (session_text trace script (joined told))
   -- Status 3: no session begins with the image, and the sink got the line of the cause, and nothing else.
   pub no_start : status ≡ 3 → (told ≡ []) × ((text : List ℕ) × TellsNoStart d text × Appends w.held w.holds text)
   -- Status 4: a call of the disk failed as the session began, and the sink got the line of the fault; or each request was
-  -- answered, and it got the lines of the replies, and behind them that of the fault of the closing, or of the first that a
-  -- reply tells.
+  -- answered, and it got the same lines as with status 0, and behind them that of the fault of the closing, or of the first
+  -- that a reply tells.
   pub closing : status ≡ 4 → ((told ≡ []) × (d.now ≡ raised d.before) × Appends w.held w.holds (device_line d.now))
-      ⊎ ((script : Script) × ReadsScript r.left r.rest script × IsSessionOf d script told × (fault : ℕ) × TellsEnd d told fault × Appends w.held w.holds (replies_text script (joined told) ++ device_line fault))
+      ⊎ ((script : Script) × ReadsScript r.left r.rest script × IsSessionOf d script told × (fault : ℕ) × TellsEnd d told fault × Appends w.held w.holds (session_text trace script (joined told) ++ device_line fault))
   -- The replies tell one fault of the disk at most, the first to which its count rose, and a reply that tells where the store
   -- stopped tells that one.
   pub faults : AreFaultsOf d.before (joined told)
@@ -110,7 +111,7 @@ pub record TellsRecovery (d : Formatting) (w : Writing) (status : ℕ) : Type 0 
 abbrev pub Tells : Option Command → Reading → Formatting → List (List Entry) → Writing → ℕ → Type 0
 Tells None r d told w status = ⊤
 Tells (Some command.NotBuilt) r d told w status = ⊤
-Tells (Some command.Play) r d told w status = TellsPlay r d told w status
+Tells (Some (command.Play trace)) r d told w status = TellsPlay trace r d told w status
 Tells (Some (command.Mkfs blocks inodes journal)) r d told w status = TellsMkfs (record { blocks = blocks; inodes = inodes; journal = journal }) d w status
 Tells (Some command.Tree) r d told w status = IsTrue d.tells → TellsTree d w status
 Tells (Some command.Check) r d told w status = IsTrue d.tells → TellsCheck d w status

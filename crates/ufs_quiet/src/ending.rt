@@ -1,4 +1,3 @@
-// How a command ends.
 ghost use Rattle.std.specs.Prelude.{◌≡◌};
 ghost use Rattle.ufs_quiet.specs.Texts.{bad_geometry_line};
 

@@ -1,4 +1,3 @@
-// Formatting a disk.
 ghost use Rattle.std.specs.Prelude.{◌≡◌, ◌≢◌, ◌<◌, None, IsTrue, IfOk};
 ghost use Rattle.ufs_disk.specs.Moments.{LeavesOnly};
 ghost use Rattle.ufs_layout.specs.Areas.{IsGeometry, geometry_refusal, sector_count};

@@ -1,4 +1,3 @@
-// What a command gives back.
 ghost use Rattle.std.specs.Prelude.{◌≡◌, []};
 
 use std::alloc::Global;

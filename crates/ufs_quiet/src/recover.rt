@@ -1,4 +1,3 @@
-// Recovering an image.
 ghost use Rattle.std.specs.Prelude.{◌≡◌, ◌≢◌, IsTrue};
 ghost use Rattle.ufs_quiet.specs.Left.{Recovers};
 ghost use Rattle.ufs_quiet.specs.Seen.{formatting, writing};

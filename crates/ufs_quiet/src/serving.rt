@@ -2,10 +2,10 @@
 ghost use Rattle.std.specs.Prelude.{◌≡◌, ◌≢◌, []};
 ghost use Rattle.ufs_model.specs.History.{joined};
 ghost use Rattle.ufs_engine.specs.Plays.{AreFaultsOf};
-ghost use Rattle.ufs_script.specs.Output.{lines_of};
 ghost use Rattle.ufs_quiet.specs.Seen.{course, formatting, reading, writing};
 ghost use Rattle.ufs_quiet.specs.Endings.{EndsBehind, EndsPlay, EndsPlayed, EndsPrinting, EndsServing, IsAnswer, TellsFault};
 ghost use Rattle.ufs_quiet.specs.Left.{Plays};
+ghost use Rattle.ufs_quiet.specs.Served.{session_lines};
 
 use crate::broken::tell_fault;
 use crate::ending::Ending;
@@ -22,10 +22,10 @@ use ufs_io::{Sink, Source};
 use ufs_script::{Script, ScriptFault, read_script};
 
 // Writes the lines of the clients' transcripts, and then ends.
-fn print_told<K: Sink>(alloc: Global, sink: &mut K, told: &ToldLists) -> u8
-    ensures { IsAnswer (EndsPrinting (lines_of (joined told.now))) (writing K.held K.faults sink.old sink.new) result }
+fn print_told<K: Sink>(alloc: Global, sink: &mut K, told: &ToldLists, trace: bool) -> u8
+    ensures { IsAnswer (EndsPrinting (session_lines trace (joined told.now))) (writing K.held K.faults sink.old sink.new) result }
 {
-    match print(alloc, sink, told.as_slice()) {
+    match print(alloc, sink, told.as_slice(), trace) {
         Ok(()) => Ending::Done.status(),
         Err(PrintFault::Memory) => finish(sink, Ending::OutOfMemory),
         Err(PrintFault::Sink) => SINK_FAULT,
@@ -33,10 +33,16 @@ fn print_told<K: Sink>(alloc: Global, sink: &mut K, told: &ToldLists) -> u8
 }
 
 // Writes them, and behind them the line of a fault of the disk.
-fn print_behind<K: Sink>(alloc: Global, sink: &mut K, told: &ToldLists, fault: u64) -> u8
-    ensures { IsAnswer (EndsBehind (lines_of (joined told.now)) fault) (writing K.held K.faults sink.old sink.new) result }
+fn print_behind<K: Sink>(
+    alloc: Global,
+    sink: &mut K,
+    told: &ToldLists,
+    trace: bool,
+    fault: u64,
+) -> u8
+    ensures { IsAnswer (EndsBehind (session_lines trace (joined told.now)) fault) (writing K.held K.faults sink.old sink.new) result }
 {
-    match print(alloc, sink, told.as_slice()) {
+    match print(alloc, sink, told.as_slice(), trace) {
         Ok(()) => tell_device(sink, fault),
         Err(PrintFault::Memory) => finish(sink, Ending::OutOfMemory),
         Err(PrintFault::Sink) => SINK_FAULT,
@@ -48,27 +54,29 @@ fn tell_played<K: Sink>(
     alloc: Global,
     sink: &mut K,
     told: &ToldLists,
+    trace: bool,
     ended: Result<(), PlayFault>,
 ) -> u8
-    ensures { IsAnswer (EndsPlayed ended (lines_of (joined told.now))) (writing K.held K.faults sink.old sink.new) result }
+    ensures { IsAnswer (EndsPlayed ended (session_lines trace (joined told.now))) (writing K.held K.faults sink.old sink.new) result }
 {
     match ended {
-        Ok(()) => print_told(alloc, sink, told),
+        Ok(()) => print_told(alloc, sink, told, trace),
         Err(PlayFault::Image(fault)) => tell_start(sink, fault),
-        Err(PlayFault::Device { fault }) => print_behind(alloc, sink, told, fault),
-        Err(PlayFault::Stopped { fault }) => print_behind(alloc, sink, told, fault),
+        Err(PlayFault::Device { fault }) => print_behind(alloc, sink, told, trace, fault),
+        Err(PlayFault::Stopped { fault }) => print_behind(alloc, sink, told, trace, fault),
         Err(PlayFault::Memory) => finish(sink, Ending::OutOfMemory),
     }
 }
 
-// Serves a script over the disk's image, and writes its reply lines.
+// Serves a script over the disk's image, and writes its reply lines, and its trace where that is asked for.
 fn serve_script<K: Sink, D: Disk>(
     alloc: Global,
     sink: &mut K,
     script: Script,
+    trace: bool,
     disk: D,
 ) -> Outcome<D>
-    ensures answer { IsAnswer (EndsServing (formatting D.tells D.size D.moments D.faults disk result.disk) script result.told) (writing K.held K.faults sink.old sink.new) result.status }
+    ensures answer { IsAnswer (EndsServing trace (formatting D.tells D.size D.moments D.faults disk result.disk) script result.told) (writing K.held K.faults sink.old sink.new) result.status }
     ensures faults { AreFaultsOf (D.faults disk) (joined result.told) }
     ensures acts { Plays result.told result.status (course D.tells D.keeps D.size D.moments D.faults disk result.disk) }
     ensures size { D.size result.disk ≡ D.size disk }
@@ -76,7 +84,7 @@ fn serve_script<K: Sink, D: Disk>(
 {
     let played = play(alloc, script, 0, disk);
     Outcome {
-        status: tell_played(alloc, sink, &played.told, played.ended),
+        status: tell_played(alloc, sink, &played.told, trace, played.ended),
         told: played.told,
         disk: played.disk,
     }
@@ -103,15 +111,16 @@ fn leave_unread<K: Sink, D: Disk>(
     }
 }
 
-/// Reads a script, serves it over the disk's image, and writes its reply lines. The script is read whole before the disk
-/// is touched.
+/// Reads a script, serves it over the disk's image, and writes its reply lines, and its trace where that is asked for. The
+/// script is read whole before the disk is touched.
 pub fn read_and_serve<S: Source, K: Sink, D: Disk>(
     alloc: Global,
     source: &mut S,
     sink: &mut K,
+    trace: bool,
     disk: D,
 ) -> Outcome<D>
-    ensures answer { IsAnswer (EndsPlay (reading S.left S.faults source.old source.new) (formatting D.tells D.size D.moments D.faults disk result.disk) result.told)
+    ensures answer { IsAnswer (EndsPlay trace (reading S.left S.faults source.old source.new) (formatting D.tells D.size D.moments D.faults disk result.disk) result.told)
         (writing K.held K.faults sink.old sink.new) result.status }
     ensures faults { AreFaultsOf (D.faults disk) (joined result.told) }
     ensures acts { Plays result.told result.status (course D.tells D.keeps D.size D.moments D.faults disk result.disk) }
@@ -120,7 +129,7 @@ pub fn read_and_serve<S: Source, K: Sink, D: Disk>(
     ensures source_told { result.status ≢ 6 → result.status ≢ 7 → S.faults source.new ≡ S.faults source.old }
 {
     match read_script(alloc, source) {
-        Ok(script) => serve_script(alloc, sink, script, disk),
+        Ok(script) => serve_script(alloc, sink, script, trace, disk),
         Err(fault) => leave_unread(alloc, sink, fault, disk),
     }
 }

@@ -1,9 +1,7 @@
-// The top call.
-ghost use Rattle.std.specs.Prelude.{◌≡◌, ◌≢◌, [], Some};
+ghost use Rattle.std.specs.Prelude.{◌≡◌, [], Some, false};
 ghost use Rattle.ufs_model.specs.History.{joined};
 ghost use Rattle.ufs_engine.specs.Plays.{AreFaultsOf};
-ghost use Rattle.ufs_quiet.specs.declared.words.Command.TheVariants as command;
-ghost use Rattle.ufs_quiet.specs.Commands.{asked};
+ghost use Rattle.ufs_quiet.specs.Commands.{asked, is_play};
 ghost use Rattle.ufs_quiet.specs.Seen.{Reading, reading, writing, formatting, course};
 ghost use Rattle.ufs_quiet.specs.Endings.{Ends, IsAnswer};
 ghost use Rattle.ufs_quiet.specs.Left.{LeavesDisk, LeavesSource};
@@ -26,7 +24,7 @@ use ufs_script::a_longer_text_breaks_alike;
 
 // The answer to a command that serves nobody.
 fn act<K: Sink, D: Disk>(alloc: Global, which: Command, sink: &mut K, disk: &mut D) -> u8
-    requires { which ≢ command.Play }
+    requires { is_play (Some which) ≡ false }
     ensures answer { (r : Reading) → IsAnswer (Ends (Some which) r (formatting D.tells D.size D.moments D.faults disk.old disk.new) []) (writing K.held K.faults sink.old sink.new) result }
     ensures disk { LeavesDisk (Some which) [] result (course D.tells D.keeps D.size D.moments D.faults disk.old disk.new) }
 {
@@ -47,7 +45,7 @@ fn act<K: Sink, D: Disk>(alloc: Global, which: Command, sink: &mut K, disk: &mut
         Command::Check => check(alloc, sink, disk),
         Command::Recover => recover(alloc, sink, disk),
         Command::NotBuilt => finish(sink, Ending::NotBuilt),
-        Command::Play => unreachable!(),
+        Command::Play { .. } => unreachable!(),
     }
 }
 
@@ -64,7 +62,7 @@ fn answer<S: Source, K: Sink, D: Disk>(
     ensures disk { LeavesDisk (asked words.now.items) result.told result.status (course D.tells D.keeps D.size D.moments D.faults disk result.disk) }
     ensures source { LeavesSource (asked words.now.items) result.status (reading S.left S.faults source.old source.new) }
     ensures faults { AreFaultsOf (D.faults disk) (joined result.told) }
-    ensures served { asked words.now.items ≢ Some command.Play → result.told ≡ [] }
+    ensures served { is_play (asked words.now.items) ≡ false → result.told ≡ [] }
 {
     let Some(which) = read_command(words.as_slice()) else {
         let status = finish(sink, Ending::Usage);
@@ -74,8 +72,8 @@ fn answer<S: Source, K: Sink, D: Disk>(
             disk,
         };
     };
-    if let Command::Play = which {
-        return read_and_serve(alloc, source, sink, disk);
+    if let Command::Play { trace } = which {
+        return read_and_serve(alloc, source, sink, trace, disk);
     }
     let mut disk = disk;
     let status = act(alloc, which, sink, &mut disk);
@@ -99,8 +97,8 @@ pub fn quiet<S: Source, K: Sink, D: Disk>(
     ensures answer { IsAnswer (Ends (asked words.now.items) (reading S.left S.faults source.old source.new) (formatting D.tells D.size D.moments D.faults disk result.disk) result.told)
         (writing K.held K.faults sink.old sink.new) result.status }
     // What the status says and the sink got, for each command: a history of the script's requests for `play`, in which the
-    // tree of the disk's image gives the replies, the new image's numbers for `mkfs`, the image's tree for `tree`, its
-    // damage for `check`, what was committed for `recover`.
+    // tree of the disk's image gives the replies, and its trace where that is asked for, the new image's numbers for
+    // `mkfs`, the image's tree for `tree`, its damage for `check`, what was committed for `recover`.
     ensures told { Tells (asked words.now.items) (reading S.left S.faults source.old source.new) (formatting D.tells D.size D.moments D.faults disk result.disk) result.told
         (writing K.held K.faults sink.old sink.new) result.status }
     // The disk: `play` leaves what its history explains, and clean with status 0, `mkfs` formats it, `recover` makes its
@@ -110,7 +108,7 @@ pub fn quiet<S: Source, K: Sink, D: Disk>(
     // The source: only `play` reads it, and its fault is told by status 6 or 7.
     ensures source { LeavesSource (asked words.now.items) result.status (reading S.left S.faults source.old source.new) }
     // Only `play` serves clients.
-    ensures served { asked words.now.items ≢ Some command.Play → result.told ≡ [] }
+    ensures served { is_play (asked words.now.items) ≡ false → result.told ≡ [] }
 {
     a_longer_text_breaks_alike();
     answer(alloc, words, source, sink, disk)

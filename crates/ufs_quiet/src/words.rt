@@ -16,8 +16,10 @@ pub enum Command {
         inodes: u32,
         journal: u32,
     },
-    /// Serve a script.
-    Play,
+    /// Serve a script, and print the trace of its history where that is asked for.
+    Play {
+        trace: bool,
+    },
     /// Print the tree that the image stands for.
     Tree,
     /// List what is damaged in the image.
@@ -36,7 +38,7 @@ pub struct Options {
     pub image: bool,
 }
 
-/// The greatest lease, in ticks.
+// The greatest lease, in ticks.
 const MOST_LEASE: u64 = 1_000;
 
 // A number of one to ten digits that is at most so much.
@@ -175,10 +177,10 @@ fn play(words: &[String]) -> Option<Command>
     ensures { result ≡ play_with (options_of (map string_bytes words.now)) }
 {
     let found = read_options(words)?;
-    if only_image(found) {
-        Some(Command::Play)
-    } else {
+    if found.lease {
         Some(Command::NotBuilt)
+    } else {
+        Some(Command::Play { trace: found.trace })
     }
 }
 

@@ -1,4 +1,3 @@
-// Writing a whole text to a sink.
 ghost use Rattle.std.specs.Prelude.{◌≡◌, ℕ, List, OnOk, OnErr};
 ghost use Rattle.std.specs.Io.KnownBytes.{Appends};
 ghost use Rattle.ufs_base.specs.Faults.{HasCause};

@@ -1,44 +1,31 @@
-use Rattle.std.proofs.Common.{rules, ℕ, List, take, drop, suc, ◌∙◌, sym, subst}
-use Rattle.std.specs.Io.KnownBytes.{Appends}
+use Rattle.std.proofs.Common.{rules, List, ℕ, sym, subst}
 use Rattle.ufs_model.specs.History.{joined}
-use Rattle.ufs_model.specs.declared.data.Entry.{Entry}
-use Rattle.ufs_script.specs.Output.{lines_of}
-use Rattle.ufs_quiet.proofs.WriteLemmas.{GotFront, GotLines, got_behind, got_longer, lines_behind, lines_longer, appends_both}
-use Rattle.ufs_quiet.proofs.PrintLemmas.{with_list, all_lists, lines_ended}
+use Rattle.ufs_quiet.specs.declared.print.LineKind.TheVariants as kind
+use Rattle.ufs_quiet.specs.Printed.{entry_lines}
+use Rattle.ufs_quiet.specs.Served.{trace_part}
+use Rattle.ufs_quiet.proofs.WriteLemmas.{GotFront, GotLines, got_behind, got_longer, lines_behind}
+use Rattle.ufs_quiet.proofs.PrintLemmas.{entries_ended, first_lines, traced}
 use Rattle.ufs_quiet.proofs.print.print.Goals as goal
 
-pub returns-in_err-print_client-clause-memory : goal.returns-in_err-print_client-clause-memory
-returns-in_err-print_client-clause-memory g c is =
+pub returns-in_err-print_lists-clause-cut : goal.returns-in_err-print_lists-clause-cut
+returns-in_err-print_lists-clause-cut g c is =
     let held = g.K.Sink.held in
-    let i = c.loop-list.list-index in
-    let told = c.args.told.now in
-    let list = c.list-item.result in
-    let own = subst (λ (l : List Entry). GotLines (held c.loop-list.sink) (held c.print_client.new.sink) (lines_of l)) c.as_slice.ensures (c.in_err-print_client.ensures.memory (search rules)) in
-    let got = lines_behind (held c.args.sink.now) (held c.loop-list.sink) (held c.print_client.new.sink) (lines_of (joined (take i told))) (lines_of list) (lines_ended (joined (take i told))) c.loop-list.invariant.written own in
-    subst (λ (whole : List ℕ). GotLines (held c.args.sink.now) (held c.print_client.new.sink) whole) (sym (all_lists told i list c.loop-list-test.true c.list-item.is))
-    (lines_longer (held c.args.sink.now) (held c.print_client.new.sink) _ (lines_of (joined (drop (suc i) told))) got)
+    let h = joined c.args.told.now in
+    subst (λ (whole : List ℕ). GotFront (held c.args.sink.now) (held c.print_lists.new.sink) whole) (sym (first_lines c.args.trace h))
+    (got_longer (held c.args.sink.now) (held c.print_lists.new.sink) (entry_lines kind.Reply h) (trace_part c.args.trace h) (c.in_err-print_lists.ensures.cut (search rules)))
 
-pub returns-in_err-print_client-clause-cut : goal.returns-in_err-print_client-clause-cut
-returns-in_err-print_client-clause-cut g c is =
+pub returns-in_err-print_lists-2-clause-memory : goal.returns-in_err-print_lists-2-clause-memory
+returns-in_err-print_lists-2-clause-memory g c is =
     let held = g.K.Sink.held in
-    let i = c.loop-list.list-index in
-    let told = c.args.told.now in
-    let list = c.list-item.result in
-    let own = subst (λ (l : List Entry). GotFront (held c.loop-list.sink) (held c.print_client.new.sink) (lines_of l)) c.as_slice.ensures (c.in_err-print_client.ensures.cut (search rules)) in
-    let got = got_behind (held c.args.sink.now) (held c.loop-list.sink) (held c.print_client.new.sink) (lines_of (joined (take i told))) (lines_of list) c.loop-list.invariant.written own in
-    subst (λ (whole : List ℕ). GotFront (held c.args.sink.now) (held c.print_client.new.sink) whole) (sym (all_lists told i list c.loop-list-test.true c.list-item.is))
-    (got_longer (held c.args.sink.now) (held c.print_client.new.sink) _ (lines_of (joined (drop (suc i) told))) got)
+    let h = joined c.args.told.now in
+    subst (λ (whole : List ℕ). GotLines (held c.args.sink.now) (held c.print_lists-2.new.sink) whole) (sym (traced c.args.trace h c.if-not-trace.false))
+    (lines_behind (held c.args.sink.now) (held c.print_lists.new.sink) (held c.print_lists-2.new.sink) (entry_lines kind.Reply h) (entry_lines kind.Trace h) (entries_ended kind.Reply h)
+    c.in_ok-print_lists.ensures.ok (c.in_err-print_lists-2.ensures.memory (search rules)))
 
-pub loop-list-preserved : goal.loop-list-preserved
-loop-list-preserved g c =
+pub returns-in_err-print_lists-2-clause-cut : goal.returns-in_err-print_lists-2-clause-cut
+returns-in_err-print_lists-2-clause-cut g c is =
     let held = g.K.Sink.held in
-    let i = c.loop-list.list-index in
-    let told = c.args.told.now in
-    let list = c.list-item.result in
-    let own = subst (λ (l : List Entry). Appends (held c.loop-list.sink) (held c.print_client.new.sink) (lines_of l)) c.as_slice.ensures c.in_ok-print_client.ensures.ok in
-    record {
-      same = c.in_ok-print_client.ensures.told (λ x. cc) ∙ c.loop-list.invariant.same;
-      written =
-          subst (λ (whole : List ℕ). Appends (held c.args.sink.now) (held c.print_client.new.sink) whole) (sym (with_list told i list c.loop-list-test.true c.list-item.is))
-          (appends_both (held c.args.sink.now) (held c.loop-list.sink) (held c.print_client.new.sink) (lines_of (joined (take i told))) (lines_of list) c.loop-list.invariant.written own);
-    }
+    let h = joined c.args.told.now in
+    subst (λ (whole : List ℕ). GotFront (held c.args.sink.now) (held c.print_lists-2.new.sink) whole) (sym (traced c.args.trace h c.if-not-trace.false))
+    (got_behind (held c.args.sink.now) (held c.print_lists.new.sink) (held c.print_lists-2.new.sink) (entry_lines kind.Reply h) (entry_lines kind.Trace h)
+    c.in_ok-print_lists.ensures.ok (c.in_err-print_lists-2.ensures.cut (search rules)))

@@ -1,6 +1,6 @@
-use Rattle.std.proofs.Common.{◌≡◌, Option, Some, sym, subst, ◌∙◌, map, string_bytes}
+use Rattle.std.proofs.Common.{◌≡◌, Option, Some, ap, sym, subst, ◌∙◌, map, string_bytes}
 use Rattle.ufs_quiet.specs.declared.words.Command.{Command}
-use Rattle.ufs_quiet.specs.Commands.{image_word}
+use Rattle.ufs_quiet.specs.Commands.{image_word, is_play}
 use Rattle.ufs_quiet.specs.Seen.{reading, writing, formatting, course}
 use Rattle.ufs_quiet.specs.Told.{Tells}
 use Rattle.ufs_quiet.specs.Left.{LeavesDisk, LeavesSource}
@@ -38,4 +38,4 @@ pub returns-in-Some-clause-served : goal.returns-in-Some-clause-served
 returns-in-Some-clause-served g c other =
     let named : image_word (map string_bytes c.in-Ok.words.items) ≡ Some c.in-Some.field-0.now = sym c.in-Some.ensures in
     let same = same_command c.args.words.now c.in-Ok.words c.in-Some.field-0.now c.in-Ok.is named in
-    c.quiet.ensures.served (λ is. other (same ∙ is))
+    c.quiet.ensures.served (sym (ap is_play same) ∙ other)

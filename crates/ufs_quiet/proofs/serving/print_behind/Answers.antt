@@ -2,7 +2,7 @@ use Rattle.std.proofs.Common.{List, ◌++◌, subst, refl}
 use Rattle.std.specs.Io.KnownBytes.{Appends}
 use Rattle.ufs_model.specs.History.{joined}
 use Rattle.ufs_model.specs.declared.data.Entry.{Entry}
-use Rattle.ufs_script.specs.Output.{lines_of}
+use Rattle.ufs_quiet.specs.Served.{session_lines}
 use Rattle.ufs_quiet.specs.Texts.{device_line, memory_line}
 use Rattle.ufs_quiet.specs.Endings.{EndsBehind}
 use Rattle.ufs_quiet.specs.declared.ending.Ending.TheVariants.{DeviceFault, OutOfMemory}
@@ -14,8 +14,8 @@ pub returns-in-Ok : goal.returns-in-Ok
 returns-in-Ok g c =
     let held = g.K.Sink.held in
     let faults = g.K.Sink.faults in
-    let lines = lines_of (joined c.args.told.now) in
-    let wrote = subst (λ (l : List (List Entry)). Appends (held c.args.sink.now) (held c.print.new.sink) (lines_of (joined l))) c.as_slice.ensures c.in-Ok.ensures.ok in
+    let lines = session_lines c.args.trace (joined c.args.told.now) in
+    let wrote = subst (λ (l : List (List Entry)). Appends (held c.args.sink.now) (held c.print.new.sink) (session_lines c.args.trace (joined l))) c.as_slice.ensures c.in-Ok.ensures.ok in
     answer_after DeviceFault (device_line c.args.fault) lines (EndsBehind lines c.args.fault) (held c.args.sink.now) (held c.print.new.sink) (held c.tell_device.new.sink)
     (faults c.args.sink.now) (faults c.print.new.sink) (faults c.tell_device.new.sink) c.tell_device.result
     wrote (c.in-Ok.ensures.told (λ e. cc)) refl c.tell_device.ensures.answer
@@ -24,16 +24,16 @@ pub returns-in-Err-Memory : goal.returns-in-Err-Memory
 returns-in-Err-Memory g c =
     let held = g.K.Sink.held in
     let faults = g.K.Sink.faults in
-    let got = subst (λ (l : List (List Entry)). GotLines (held c.args.sink.now) (held c.print.new.sink) (lines_of (joined l))) c.as_slice.ensures (c.in-Err-Memory.ensures.memory cc) in
-    answer_after OutOfMemory memory_line got.0 (EndsBehind (lines_of (joined c.args.told.now)) c.args.fault) (held c.args.sink.now) (held c.print.new.sink) (held c.finish.new.sink)
+    let got = subst (λ (l : List (List Entry)). GotLines (held c.args.sink.now) (held c.print.new.sink) (session_lines c.args.trace (joined l))) c.as_slice.ensures (c.in-Err-Memory.ensures.memory cc) in
+    answer_after OutOfMemory memory_line got.0 (EndsBehind (session_lines c.args.trace (joined c.args.told.now)) c.args.fault) (held c.args.sink.now) (held c.print.new.sink) (held c.finish.new.sink)
     (faults c.args.sink.now) (faults c.print.new.sink) (faults c.finish.new.sink) c.finish.result
     got.2 (c.in-Err-Memory.ensures.told (λ e. cc)) (got.0, got.1, refl) c.finish.ensures.answer
 
 pub returns-in-Err-Sink : goal.returns-in-Err-Sink
 returns-in-Err-Sink g c =
     let held = g.K.Sink.held in
-    let lines = lines_of (joined c.args.told.now) in
-    let got = subst (λ (l : List (List Entry)). GotFront (held c.args.sink.now) (held c.print.new.sink) (lines_of (joined l))) c.as_slice.ensures (c.in-Err-Sink.ensures.cut cc) in
+    let lines = session_lines c.args.trace (joined c.args.told.now) in
+    let got = subst (λ (l : List (List Entry)). GotFront (held c.args.sink.now) (held c.print.new.sink) (session_lines c.args.trace (joined l))) c.as_slice.ensures (c.in-Err-Sink.ensures.cut cc) in
     record {
       whole = λ n. absurd (n refl);
       told = λ n. absurd (n refl);

@@ -2,7 +2,7 @@ use Rattle.std.proofs.Common.{List, subst, refl}
 use Rattle.std.specs.Io.KnownBytes.{Appends}
 use Rattle.ufs_model.specs.History.{joined}
 use Rattle.ufs_model.specs.declared.data.Entry.{Entry}
-use Rattle.ufs_script.specs.Output.{lines_of}
+use Rattle.ufs_quiet.specs.Served.{session_lines}
 use Rattle.ufs_quiet.specs.Texts.{memory_line}
 use Rattle.ufs_quiet.specs.Endings.{EndsPrinting}
 use Rattle.ufs_quiet.specs.declared.ending.Ending.TheVariants.{Done, OutOfMemory}
@@ -14,17 +14,17 @@ pub returns-in-Err-Memory : goal.returns-in-Err-Memory
 returns-in-Err-Memory g c =
     let held = g.K.Sink.held in
     let faults = g.K.Sink.faults in
-    let got = subst (λ (l : List (List Entry)). GotLines (held c.args.sink.now) (held c.print.new.sink) (lines_of (joined l))) c.as_slice.ensures (c.in-Err-Memory.ensures.memory cc) in
-    answer_after OutOfMemory memory_line got.0 (EndsPrinting (lines_of (joined c.args.told.now))) (held c.args.sink.now) (held c.print.new.sink) (held c.finish.new.sink)
+    let got = subst (λ (l : List (List Entry)). GotLines (held c.args.sink.now) (held c.print.new.sink) (session_lines c.args.trace (joined l))) c.as_slice.ensures (c.in-Err-Memory.ensures.memory cc) in
+    answer_after OutOfMemory memory_line got.0 (EndsPrinting (session_lines c.args.trace (joined c.args.told.now))) (held c.args.sink.now) (held c.print.new.sink) (held c.finish.new.sink)
     (faults c.args.sink.now) (faults c.print.new.sink) (faults c.finish.new.sink) c.finish.result
     got.2 (c.in-Err-Memory.ensures.told (λ e. cc)) (got.0, got.1, refl) c.finish.ensures.answer
 
 pub returns-in-Ok : goal.returns-in-Ok
 returns-in-Ok g c =
     let held = g.K.Sink.held in
-    let wrote = subst (λ (l : List (List Entry)). Appends (held c.args.sink.now) (held c.print.new.sink) (lines_of (joined l))) c.as_slice.ensures c.in-Ok.ensures.ok in
+    let wrote = subst (λ (l : List (List Entry)). Appends (held c.args.sink.now) (held c.print.new.sink) (session_lines c.args.trace (joined l))) c.as_slice.ensures c.in-Ok.ensures.ok in
     record {
-      whole = λ n. (Done, lines_of (joined c.args.told.now), c.status.ensures, refl, wrote);
+      whole = λ n. (Done, session_lines c.args.trace (joined c.args.told.now), c.status.ensures, refl, wrote);
       told = λ n. c.in-Ok.ensures.told (λ e. cc);
       rose = λ e. let is = c.status.ensures in cc;
       cut = λ e. let is = c.status.ensures in cc;
@@ -33,10 +33,10 @@ returns-in-Ok g c =
 pub returns-in-Err-Sink : goal.returns-in-Err-Sink
 returns-in-Err-Sink g c =
     let held = g.K.Sink.held in
-    let got = subst (λ (l : List (List Entry)). GotFront (held c.args.sink.now) (held c.print.new.sink) (lines_of (joined l))) c.as_slice.ensures (c.in-Err-Sink.ensures.cut cc) in
+    let got = subst (λ (l : List (List Entry)). GotFront (held c.args.sink.now) (held c.print.new.sink) (session_lines c.args.trace (joined l))) c.as_slice.ensures (c.in-Err-Sink.ensures.cut cc) in
     record {
       whole = λ n. absurd (n refl);
       told = λ n. absurd (n refl);
       rose = λ e. c.in-Err-Sink.ensures.rose cc;
-      cut = λ e. (Done, lines_of (joined c.args.told.now), got.0, refl, got.1, got.2);
+      cut = λ e. (Done, session_lines c.args.trace (joined c.args.told.now), got.0, refl, got.1, got.2);
     }

@@ -11,7 +11,7 @@ returns-in-Ok-clause-answer g c =
     let r = reading g.S.Source.left g.S.Source.faults c.args.source.now c.read_script.new.source in
     let d = formatting g.D.Disk.tells g.D.Disk.size g.D.Disk.moments g.D.Disk.faults c.args.disk c.serve_script.result.disk in
     let told = c.serve_script.result.told in
-    answer_map (EndsServing d c.in-Ok.script told) (EndsPlay r d told) (writing g.K.Sink.held g.K.Sink.faults c.args.sink.now c.serve_script.new.sink) c.serve_script.result.status
+    answer_map (EndsServing c.args.trace d c.in-Ok.script told) (EndsPlay c.args.trace r d told) (writing g.K.Sink.held g.K.Sink.faults c.args.sink.now c.serve_script.new.sink) c.serve_script.result.status
     (λ ending text e. inr (c.in-Ok.script, c.in-Ok.ensures.script, e)) c.serve_script.ensures.answer
 
 pub returns-in-Err-clause-answer : goal.returns-in-Err-clause-answer
@@ -20,7 +20,7 @@ returns-in-Err-clause-answer g c =
     let d = formatting g.D.Disk.tells g.D.Disk.size g.D.Disk.moments g.D.Disk.faults c.args.disk c.leave_unread.result.disk in
     let told = c.leave_unread.result.told in
     let f = c.in-Err.fault in
-    answer_map (TellsFault f) (EndsPlay r d told) (writing g.K.Sink.held g.K.Sink.faults c.args.sink.now c.leave_unread.new.sink) c.leave_unread.result.status
+    answer_map (TellsFault f) (EndsPlay c.args.trace r d told) (writing g.K.Sink.held g.K.Sink.faults c.args.sink.now c.leave_unread.new.sink) c.leave_unread.result.status
     (λ ending text e. inl (c.leave_unread.ensures.told, fault_told r f (λ is. c.in-Err.ensures.cause (ap (λ (x : ScriptFault). Err x) is)) (λ inside. c.in-Err.ensures.broken f refl inside) ending text e))
     c.leave_unread.ensures.answer
 

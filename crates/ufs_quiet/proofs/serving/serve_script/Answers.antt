@@ -3,8 +3,8 @@ use Rattle.ufs_disk.specs.Moments.{reads}
 use Rattle.ufs_last.specs.Last.{StandsForTree}
 use Rattle.ufs_model.specs.History.{joined, tree_after}
 use Rattle.ufs_recovery.specs.Recovered.{IsCleanDisk}
-use Rattle.ufs_script.specs.Output.{lines_of}
 use Rattle.ufs_quiet.specs.Seen.{formatting, writing}
+use Rattle.ufs_quiet.specs.Served.{session_lines}
 use Rattle.ufs_quiet.specs.Endings.{EndsPlayed, EndsServing}
 use Rattle.ufs_quiet.proofs.AnswerLemmas.{answer_map}
 use Rattle.ufs_quiet.proofs.LeavingLemmas.{left_calm, never_unread, on_whole}
@@ -19,8 +19,8 @@ returns-clause-answer g c =
     let d = formatting g.D.Disk.tells g.D.Disk.size g.D.Disk.moments g.D.Disk.faults c.args.disk c.play-played.result.disk in
     let is = c.play-played.ensures in
     let has : HasPlayed d script told ended = record { legal = is.legal; refused = is.refused; opening = is.opening; closing = is.closing; played = is.played; opened = is.opened; why = is.why; unopened = is.unopened } in
-    answer_map (EndsPlayed ended (lines_of (joined told))) (EndsServing d script told) (writing g.K.Sink.held g.K.Sink.faults c.args.sink.now c.tell_played.new.sink) c.tell_played.result
-    (played_ends d script told ended has) c.tell_played.ensures
+    answer_map (EndsPlayed ended (session_lines c.args.trace (joined told))) (EndsServing c.args.trace d script told) (writing g.K.Sink.held g.K.Sink.faults c.args.sink.now c.tell_played.new.sink) c.tell_played.result
+    (played_ends c.args.trace d script told ended has) c.tell_played.ensures
 
 pub returns-clause-acts : goal.returns-clause-acts
 returns-clause-acts g c =
@@ -34,15 +34,16 @@ returns-clause-acts g c =
     record {
       crash = is.crash;
       proper = is.proper;
-      clean = λ may zero. on_whole ended (lines_of (joined told)) w status c.tell_played.ensures (IsCleanDisk size to.state) (is.clean may) zero;
-      last = λ may start with zero. on_whole ended (lines_of (joined told)) w status c.tell_played.ensures (StandsForTree size (tree_after start (joined told)) (reads to)) (is.last may start with) zero;
-      broken = λ two. absurd (never_unread ended (lines_of (joined told)) w status c.tell_played.ensures (inl two));
-      unread = λ six. absurd (never_unread ended (lines_of (joined told)) w status c.tell_played.ensures (inr six));
+      always = is.moments;
+      clean = λ may zero. on_whole ended (session_lines c.args.trace (joined told)) w status c.tell_played.ensures (IsCleanDisk size to.state) (is.clean may) zero;
+      last = λ may start with zero. on_whole ended (session_lines c.args.trace (joined told)) w status c.tell_played.ensures (StandsForTree size (tree_after start (joined told)) (reads to)) (is.last may start with) zero;
+      broken = λ two. absurd (never_unread ended (session_lines c.args.trace (joined told)) w status c.tell_played.ensures (inl two));
+      unread = λ six. absurd (never_unread ended (session_lines c.args.trace (joined told)) w status c.tell_played.ensures (inr six));
     }
 
 pub returns-clause-disk_told : goal.returns-clause-disk_told
 returns-clause-disk_told g c four seven five =
     let told = c.play-played.result.told in
     let w = writing g.K.Sink.held g.K.Sink.faults c.args.sink.now c.tell_played.new.sink in
-    left_calm c.play-played.result.ended (lines_of (joined told)) w c.tell_played.result c.tell_played.ensures (g.D.Disk.faults c.args.disk) (g.D.Disk.faults c.play-played.result.disk)
+    left_calm c.play-played.result.ended (session_lines c.args.trace (joined told)) w c.tell_played.result c.tell_played.ensures (g.D.Disk.faults c.args.disk) (g.D.Disk.faults c.play-played.result.disk)
     c.play-played.ensures.calm c.play-played.ensures.opening four seven five

@@ -1,7 +1,7 @@
-use Rattle.std.proofs.Common.{◌≡◌, ◌∙◌, Option, Some, ap, sym, subst, map, string_bytes}
+use Rattle.std.proofs.Common.{◌≡◌, ◌∙◌, true, false, Option, Some, ap, sym, subst, map, string_bytes}
 use Rattle.ufs_quiet.specs.declared.words.Command.{Command}
 use Rattle.ufs_quiet.specs.declared.words.Command.TheVariants as command
-use Rattle.ufs_quiet.specs.Commands.{asked, command_of}
+use Rattle.ufs_quiet.specs.Commands.{asked, command_of, is_play}
 use Rattle.ufs_quiet.specs.Seen.{reading, writing, formatting, course}
 use Rattle.ufs_quiet.specs.Endings.{Ends, IsAnswer}
 use Rattle.ufs_quiet.proofs.LeftLemmas.{none_faults, played_left}
@@ -9,22 +9,22 @@ use Rattle.ufs_quiet.proofs.top.answer.Goals as goal
 
 pub returns-in-Play-clause-answer : goal.returns-in-Play-clause-answer
 returns-in-Play-clause-answer g c =
-    let is : asked c.args.words.now.items ≡ Some command.Play = sym (ap (λ l. command_of (map string_bytes l)) c.as_slice.ensures.value) ∙ sym c.read_command.ensures ∙ c.in-Some.is ∙ ap (λ (x : Command). Some x) c.in-Play.is in
+    let is : asked c.args.words.now.items ≡ Some (command.Play c.in-Play.trace) = sym (ap (λ l. command_of (map string_bytes l)) c.as_slice.ensures.value) ∙ sym c.read_command.ensures ∙ c.in-Some.is ∙ ap (λ (x : Command). Some x) c.in-Play.is in
     let r = reading g.S.Source.left g.S.Source.faults c.args.source.now c.read_and_serve.new.source in
     let d = formatting g.D.Disk.tells g.D.Disk.size g.D.Disk.moments g.D.Disk.faults c.args.disk c.read_and_serve.result.disk in
     subst (λ (x : Option Command). IsAnswer (Ends x r d c.read_and_serve.result.told) (writing g.K.Sink.held g.K.Sink.faults c.args.sink.now c.read_and_serve.new.sink) c.read_and_serve.result.status) (sym is) c.read_and_serve.ensures.answer
 
 pub returns-in-Play-clause-disk : goal.returns-in-Play-clause-disk
 returns-in-Play-clause-disk g c =
-    let is : asked c.args.words.now.items ≡ Some command.Play = sym (ap (λ l. command_of (map string_bytes l)) c.as_slice.ensures.value) ∙ sym c.read_command.ensures ∙ c.in-Some.is ∙ ap (λ (x : Command). Some x) c.in-Play.is in
-    played_left (asked c.args.words.now.items) is c.read_and_serve.result.told c.read_and_serve.result.status
+    let is : asked c.args.words.now.items ≡ Some (command.Play c.in-Play.trace) = sym (ap (λ l. command_of (map string_bytes l)) c.as_slice.ensures.value) ∙ sym c.read_command.ensures ∙ c.in-Some.is ∙ ap (λ (x : Command). Some x) c.in-Play.is in
+    played_left (asked c.args.words.now.items) c.in-Play.trace is c.read_and_serve.result.told c.read_and_serve.result.status
     (course g.D.Disk.tells g.D.Disk.keeps g.D.Disk.size g.D.Disk.moments g.D.Disk.faults c.args.disk c.read_and_serve.result.disk)
     c.read_and_serve.ensures.acts c.read_and_serve.ensures.size c.read_and_serve.ensures.disk_told
 
 pub returns-in-Play-clause-source : goal.returns-in-Play-clause-source
 returns-in-Play-clause-source g c =
-    let is : asked c.args.words.now.items ≡ Some command.Play = sym (ap (λ l. command_of (map string_bytes l)) c.as_slice.ensures.value) ∙ sym c.read_command.ensures ∙ c.in-Some.is ∙ ap (λ (x : Command). Some x) c.in-Play.is in
-    record { told = c.read_and_serve.ensures.source_told; unread = λ other. absurd (other is) }
+    let is : asked c.args.words.now.items ≡ Some (command.Play c.in-Play.trace) = sym (ap (λ l. command_of (map string_bytes l)) c.as_slice.ensures.value) ∙ sym c.read_command.ensures ∙ c.in-Some.is ∙ ap (λ (x : Command). Some x) c.in-Play.is in
+    record { told = c.read_and_serve.ensures.source_told; unread = λ other. absurd (let played : true ≡ false = sym (ap is_play is) ∙ other in cc) }
 
 pub returns-in_default-clause-faults : goal.returns-in_default-clause-faults
 returns-in_default-clause-faults g c = none_faults (g.D.Disk.faults c.args.disk) c.nothing_told.result c.nothing_told.ensures
