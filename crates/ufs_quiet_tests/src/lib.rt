@@ -26,4 +26,6 @@ mod stops;
 #[cfg(test)]
 mod tests;
 #[cfg(test)]
+mod traces;
+#[cfg(test)]
 mod trees;

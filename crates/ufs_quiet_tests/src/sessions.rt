@@ -80,3 +80,21 @@ fn what_comes_and_goes_fills_no_journal(rt: HostRuntime) -> Result<(), Fail> {
     check_session(&rt, &row, disk)?;
     Ok(())
 }
+
+// Of 242 blocks the root has one. What a removed file had is wanted by the next one, and so is what a directory had.
+#[test]
+fn blocks_of_what_is_removed_come_back_in_the_session(rt: HostRuntime) -> Result<(), Fail> {
+    let alloc = rt.alloc();
+    let requests =
+        "open /f rw creat;write 3 987136*61;unlink /f;open /g rw creat;write 4 4096*62;close 3;write 4 983040*62;mkdir /d;open /d/x rw creat;close 4;unlink /g;write 3 983040*63;unlink /d/x;close 3;rmdir /d;open /h rw creat;write 3 987136*64";
+    let replies =
+        "fd 3/n 987136/ok/fd 4/err ENOSPC/ok/n 983040/ok/fd 3/ok/ok/n 983040/ok/ok/ok/fd 3/n 987136";
+    let mut shown = String::from_str(alloc, "dir /\nfile /h 987136 ")?;
+    push_times(&mut shown, "64", 64)?;
+    shown.push_str("+\n")?;
+    let row = (requests, replies, shown.as_str());
+    let disk = PlainDisk::zeros(alloc, 2_048)?;
+    let disk = check_over(&rt, &making(), disk)?;
+    check_session(&rt, &row, disk)?;
+    Ok(())
+}

@@ -57,7 +57,7 @@ const UNREAD: [(&[&str], u8, &str); 28] = [
     (&["check", "--lease", "1"], 1, USAGE),
     (&["bench", "0000000007", "--lease", "0"], 2, NOT_BUILT),
     (&["play", "--lease", "1000", "--trace"], 2, NOT_BUILT),
-    (&["play", "--trace", "--image", "--trace"], 2, NOT_BUILT),
+    (&["play", "--trace", "--image", "--trace"], 6, SOURCE_FAULT),
     (&["mkfs", "64", "16", "64"], 0, "made 64 16 64 52\n"),
     (&["mkfs", "63", "16", "64"], 1, "ufs: bad geometry 1\n"),
     (&["mkfs", "64", "15", "64"], 1, "ufs: bad geometry 2\n"),
@@ -67,7 +67,7 @@ const UNREAD: [(&[&str], u8, &str); 28] = [
 ];
 
 // Words, the numbers of the reads and of the writes that fail, and the status and the text, over a new image.
-const FAULTS: [(&[&str], &[u64], &[u64], u8, &str); 9] = [
+const FAULTS: [(&[&str], &[u64], &[u64], u8, &str); 10] = [
     (&["play"], &[], &[], 0, FIRST_REPLIES),
     (&["play", "--image", "f"], &[], &[], 0, FIRST_REPLIES),
     (&["play"], &[0], &[], 6, SOURCE_FAULT),
@@ -75,6 +75,7 @@ const FAULTS: [(&[&str], &[u64], &[u64], u8, &str); 9] = [
     (&["play"], &[], &[0], 7, ""),
     (&["play"], &[], &[2], 7, "0.0 ok\n0.1 fd 3\n"),
     (&["play"], &[0], &[0], 7, ""),
+    (&["play", "--trace"], &[], &[10], 7, FIRST_REPLIES),
     (MKFS, &[], &[0], 7, ""),
     (&["frob"], &[0], &[0], 7, ""),
 ];

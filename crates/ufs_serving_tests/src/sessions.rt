@@ -141,14 +141,20 @@ fn mixed_requests_have_the_replies_of_the_plain_tree(rt: HostRuntime) -> Result<
 #[test]
 fn transcripts_merge_by_their_tickets(rt: HostRuntime) -> Result<(), Fail> {
     let alloc = rt.alloc();
-    let text = "client 0\nmkdir /a\nmkdir /b\nclient 1\nlist /\nclient 2\nend\n";
+    let text = "client 0\nmkdir /a\nclose 3\nmkdir /b\nclient 1\nlist /\nclient 2\nend\n";
     let played = play(alloc, script(alloc, text)?, 0, formatted(alloc)?);
     assert!(rt; played.ended == Ok(()));
     assert_eq!(rt; played.told.as_slice().len(), 3);
     let history = played.told.merged(alloc)?;
     for (place, entry) in history.as_slice().iter().enumerate() {
         assert_eq!(rt; entry.ticket, place as u64);
-        assert!(rt; entry.by == Actor::Primary);
+        // That no descriptor 3 is open the client tells by itself.
+        let by = if place == 1 {
+            Actor::Client(0)
+        } else {
+            Actor::Primary
+        };
+        assert!(rt; entry.by == by);
     }
     Ok(())
 }
