@@ -22,7 +22,7 @@ use Rattle.ufs_ledger.specs.Ledger.{IsDataBlock}
 use Rattle.ufs_model.specs.PosixTree.{PosixTree}
 use Rattle.ufs_name_tree.specs.NameTable.{file_at}
 use Rattle.ufs_names.specs.Calls.{HaveInodes}
-use Rattle.ufs_names.specs.NamesPart.{IsPartOf, NamesPart}
+use Rattle.ufs_names.specs.NamesPart.{IsNamesPart, NamesPart}
 use Rattle.ufs_names.specs.Notes.{with_notes}
 use Rattle.ufs_names.specs.Space.{AreApart}
 use Rattle.ufs_names_image.specs.Loaded.{AreRead}
@@ -51,7 +51,7 @@ pub record IsLaid (image : Image) (c : Catalog) (s : FileState) : Type 0 where
 pub record IsOpened (sectors : ℕ) (disk : Image) (v : Volume) (n : NamesPart) (files : Files) (free : BlockSet) : Type 0 where
   pub standing : IsVolumeOf sectors disk v (catalog_of v)
   pub table : IsNamesOf v.geometry (catalog_of v) (start_in v) n
-  pub names : IsPartOf n (start_in v)
+  pub names : IsNamesPart n (start_in v)
   -- each directory that has a name is met
   pub reached : IsReached n.tree.dirs
   pub read : AreRead v.image (catalog_of v) n files

@@ -27,7 +27,7 @@ use Rattle.ufs_model.proofs.Facts.Allowed.{first_none, names_allowed}
 use Rattle.ufs_model.proofs.Facts.Pieces.{ArePlain, components_plain, plain_front}
 use Rattle.ufs_model.proofs.Facts.Walks.{dir_of_path, is_dir-some}
 use Rattle.ufs_name_tree.specs.NameTable.{NameTable, node_of}
-use Rattle.ufs_names.specs.NamesPart.{NamesPart, IsPartOf}
+use Rattle.ufs_names.specs.NamesPart.{NamesPart, IsNamesPart}
 use Rattle.ufs_names.specs.Space.{IsCause}
 use Rattle.ufs_client.specs.Played.{tells_fault}
 
@@ -44,7 +44,7 @@ dir_found t None e = cc
 dir_found t (Some (Dir i)) e = (i, refl)
 dir_found t (Some (File i)) e = cc
 
-module _ (n : NamesPart) (t : PosixTree) (part : IsPartOf n t) where
+module _ (n : NamesPart) (t : PosixTree) (part : IsNamesPart n t) where
   -- the names above the last of a path that isn't refused lead to a directory
   parent_found : (path : List ℕ) → text_refusal path ≡ None → walk_refusal t.paths path ≡ None → (i : ℕ) × (found_at n.tree.dirs (names_above (components path)) ≡ Some (Dir i))
   parent_found path text walk =

@@ -30,7 +30,7 @@ use Rattle.ufs_model.proofs.Facts.Allowed.{passed}
 use Rattle.ufs_model.proofs.Facts.Held.{holder, held}
 use Rattle.ufs_name_tree.specs.NameTable.{IsNameTable, node_at, node_of}
 use Rattle.ufs_names.specs.Calls.{IsAsked, IsServed}
-use Rattle.ufs_names.specs.NamesPart.{NamesPart, IsPartOf, holding_of, is_kept, without_holder}
+use Rattle.ufs_names.specs.NamesPart.{NamesPart, IsNamesPart, holding_of, is_kept, without_holder}
 use Rattle.ufs_names.specs.Steps.{LetsGo, Settles}
 use Rattle.ufs_names.specs.declared.holding.Holding.{Holding}
 use Rattle.ufs_names.proofs.LinkLemmas.{is_named_from, number_apart}
@@ -64,10 +64,10 @@ is_open (Some d) e = (d, refl)
 
 -- The part and the files of the next tree.
 record Closes (t u : PosixTree) (new : NamesPart) (fs fs' : Files) : Type 0 where
-  part : IsPartOf new u
+  part : IsNamesPart new u
   files : FilesGo t u fs fs'
 
-module _ (n : NamesPart) (t : PosixTree) (part : IsPartOf n t) (fs : Files) (files : AreFilesOf fs t) (client fd : ℕ) (d : Desc) (there : map.get t.fds (client, fd) ≡ Some d) where
+module _ (n : NamesPart) (t : PosixTree) (part : IsNamesPart n t) (fs : Files) (files : AreFilesOf fs t) (client fd : ℕ) (d : Desc) (there : map.get t.fds (client, fd) ≡ Some d) where
   -- the tree without the descriptor, its file not yet looked at
   abbrev without : PosixTree
   without = record t { fds = map.remove t.fds (client, fd) }
@@ -177,7 +177,7 @@ module _ (n : NamesPart) (t : PosixTree) (part : IsPartOf n t) (fs : Files) (fil
 -- ---- a request
 
 module _ (n : NamesPart) (t : PosixTree) (ask : Ask) (fs : Files) (asked : IsAsked t n ask fs) (fd : ℕ) (of : ask.op ≡ op.Close fd) (own : own_refusal t ask.client ask.op ≡ None) where
-  abbrev part : IsPartOf n t
+  abbrev part : IsNamesPart n t
   part = asked.part
 
   own_close : own_refusal t ask.client (op.Close fd) ≡ None

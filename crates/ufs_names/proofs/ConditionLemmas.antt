@@ -15,7 +15,7 @@ use Rattle.ufs_model.proofs.Facts.Walks.{is_dir-some, dir_of_path}
 use Rattle.ufs_dir_tree.specs.DirTable.{DirTable, found_at}
 use Rattle.ufs_name_tree.specs.NameTable.{NameTable, node_at, node_of}
 use Rattle.ufs_dir_tree.specs.DirCalls.{names_above, MayGo, MayMove}
-use Rattle.ufs_names.specs.NamesPart.{NamesPart, IsPartOf}
+use Rattle.ufs_names.specs.NamesPart.{NamesPart, IsNamesPart}
 use Rattle.ufs_dir_tree.specs.declared.found.Found.{Found}
 use Rattle.ufs_dir_tree.specs.declared.found.Found.TheVariants as found
 use Rattle.ufs_names.proofs.NameLists.{AreNames, names_of, names_front}
@@ -59,7 +59,7 @@ pub names_above_are : (names : List (List ℕ)) → AreNames names → AreNames 
 names_above_are names are =
     names_front (take (length names - 1) names) (drop (length names - 1) names) (subst AreNames (sym (take-append-drop (length names - 1) names)) are)
 
-module _ (n : NamesPart) (t : PosixTree) (part : IsPartOf n t) where
+module _ (n : NamesPart) (t : PosixTree) (part : IsNamesPart n t) where
   -- the root is a directory
   not_root : (path : List ℕ) → (walk.node_at t.paths path ≡ Some Dir → ⊥) → components path ≢ []
   not_root path other e = other (ap (λ names. map.get t.paths (whole_path names)) e ∙ is_dir-some _ part.tree.namespace.root_is_dir)

@@ -21,7 +21,7 @@ use Rattle.ufs_model.proofs.KeepLemmas.{keeps}
 use Rattle.ufs_model.proofs.LocalLemmas.{local}
 use Rattle.ufs_name_tree.specs.NameTable.{node_at}
 use Rattle.ufs_names.specs.Stands.{Stands}
-use Rattle.ufs_names.specs.NamesPart.{NamesPart, IsPartOf, IsNamedOnce}
+use Rattle.ufs_names.specs.NamesPart.{NamesPart, IsNamesPart, IsNamedOnce}
 use Rattle.ufs_names.specs.Laws.{KeepsNames}
 
 -- ---- the names are another part
@@ -76,13 +76,13 @@ module _ (t : PosixTree) (client : ℕ) where
 
 -- ---- which part goes on with it
 
-module _ (n : NamesPart) (t u : PosixTree) (part : IsPartOf n t) (tree : IsTree u) (like : IsSamePart name.Names t u) where
+module _ (n : NamesPart) (t u : PosixTree) (part : IsNamesPart n t) (tree : IsTree u) (like : IsSamePart name.Names t u) where
   live_alike : (f : ℕ) → is_live t.paths t.fds f ≡ is_live u.paths u.fds f
   live_alike f =
       ap (λ (paths : Paths). list_any (is_node_of f) (map.values paths) || list_any (is_desc_of f) (map.values t.fds)) like.0
       ∙ ap (λ b. list_any (is_node_of f) (map.values u.paths) || b) (open_by t.fds u.fds f (λ client. like.2 client f))
 
-  part_like : IsPartOf n u
+  part_like : IsNamesPart n u
   part_like = record {
     tree = tree;
     paths = subst (Stands (node_at n.tree)) like.0 part.paths;

@@ -15,7 +15,7 @@ use Rattle.ufs_model.specs.declared.data.Excuse.TheVariants as excuse
 use Rattle.ufs_model.specs.declared.data.Op.{Op}
 use Rattle.ufs_name_tree.specs.NameTable.{IsNameTable}
 use Rattle.ufs_name_tree.proofs.ExcuseFacts.{full_names, one_extent_more}
-use Rattle.ufs_names.specs.NamesPart.{NamesPart, IsPartOf}
+use Rattle.ufs_names.specs.NamesPart.{NamesPart, IsNamesPart}
 use Rattle.ufs_names.proofs.EntryLemmas.{count_is_entries}
 use Rattle.ufs_names.proofs.NameLists.{AreNames}
 
@@ -28,7 +28,7 @@ needs_one t client request adds full = by (adds_name t request) (may_be_full t (
     by true false other p q = cc
     by false b other p q = cc
 
-module _ (n : NamesPart) (t : PosixTree) (part : IsPartOf n t) (table : IsNameTable n.tree) (above : List (List ℕ)) (are : AreNames above) (i : ℕ) (at : found_at n.tree.dirs above ≡ Some (found.Dir i))
+module _ (n : NamesPart) (t : PosixTree) (part : IsNamesPart n t) (table : IsNameTable n.tree) (above : List (List ℕ)) (are : AreNames above) (i : ℕ) (at : found_at n.tree.dirs above ≡ Some (found.Dir i))
     (client : ℕ) (request : Op) (adds : adds_name t request ≡ true) (grown : grown_dir request ≡ whole_path above) (pool : BlockSet) where
   needs_block : IsListed (dir_at n.tree.dirs i) → IsFull (dir_at n.tree.dirs i) → needed t client request ≡ 1
   needs_block listed full =

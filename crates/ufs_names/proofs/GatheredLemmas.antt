@@ -13,7 +13,7 @@ use Rattle.ufs_model.specs.declared.data.Op.{Op}
 use Rattle.ufs_model.specs.declared.data.PartName.{PartName}
 use Rattle.ufs_model.specs.declared.data.PartName.TheVariants as name
 use Rattle.ufs_names.specs.Calls.{AreGathered}
-use Rattle.ufs_names.specs.NamesPart.{NamesPart, IsPartOf, holding_of, without_name}
+use Rattle.ufs_names.specs.NamesPart.{NamesPart, IsNamesPart, holding_of, without_name}
 use Rattle.ufs_names.specs.Steps.{GoesHere}
 use Rattle.ufs_names.proofs.LinkLemmas.{is_named}
 use Rattle.ufs_names.proofs.HolderLemmas.{kept_is_live}
@@ -39,7 +39,7 @@ dropped v f dead =
     subst (λ (b : Bool). touched.IsPartOf (cond {A = List PartName} b [] (name.File f ∷ [])) (name.File f)) (sym (forget_live v f f ∙ dead)) (inl refl)
 
 -- the file of what had a name
-pub goes_here : (n : NamesPart) (t : PosixTree) → IsPartOf n t → (fs : Files) (paths : Paths) (lost : Option ℕ) → ((f : ℕ) → lost ≡ Some f → is_named paths f ≡ false)
+pub goes_here : (n : NamesPart) (t : PosixTree) → IsNamesPart n t → (fs : Files) (paths : Paths) (lost : Option ℕ) → ((f : ℕ) → lost ≡ Some f → is_named paths f ≡ false)
     → ((f : ℕ) → lost ≡ Some f → is_live paths t.fds f ≡ false → is_some (map.get fs f) ≡ true) → GoesHere n fs lost
 goes_here n t part fs paths lost unnamed here f e gone =
     here f e (sym (kept_is_live (without_name (holding_of n.held f)) paths t.fds f (sym (unnamed f e)) (part.held f)) ∙ gone)

@@ -42,7 +42,7 @@ use Rattle.ufs_model.proofs.Facts.Walks.{dir_above, is_dir-some}
 use Rattle.ufs_model.proofs.NewNameLemmas.{rename_allowed}
 use Rattle.ufs_name_tree.specs.NameTable.{NameTable, node_at, node_of}
 use Rattle.ufs_names.specs.Calls.{AreGathered}
-use Rattle.ufs_names.specs.NamesPart.{NamesPart, IsPartOf, holding_of, is_kept, without_holder, without_name}
+use Rattle.ufs_names.specs.NamesPart.{NamesPart, IsNamesPart, holding_of, is_kept, without_holder, without_name}
 use Rattle.ufs_names.specs.Needs.{AreFilesIn, AreHere, IsFileIn, listed, needed_found, unkept, unkept_closed, unkept_unnamed}
 use Rattle.ufs_names.specs.PathCalls.{path_asked}
 use Rattle.ufs_names.specs.declared.holding.Holding.{Holding}
@@ -127,7 +127,7 @@ walk_reaches paths s above (name ∷ next ∷ names) plain there =
     ap (λ o. first_of (dir_refusal o) (walk_refusal_from paths (above ++ name ∷ []) (next ∷ names))) dir
     ∙ walk_reaches paths s (above ++ name ∷ []) (next ∷ names) plain' there'
 
-module _ (n : NamesPart) (t : PosixTree) (is : IsPartOf n t) (client : ℕ) where
+module _ (n : NamesPart) (t : PosixTree) (is : IsNamesPart n t) (client : ℕ) where
   -- what stands has bytes
   stood : (whole : List ℕ) (f : ℕ) → file_of (fin.get t.paths whole) ≡ Some f → IsSome (fin.get t.bytes f)
   stood whole f e = stood_has t is.tree whole f e
@@ -268,7 +268,7 @@ module _ (n : NamesPart) (t : PosixTree) (is : IsPartOf n t) (client : ℕ) wher
     desc_closed None there last told = nothing t
     desc_closed (Some d) there last told = file_closed d there d.file refl last told
 
-pub close_needs : (n : NamesPart) (t : PosixTree) → IsPartOf n t → (ask : Ask) → IsAsk t ask → (fd : ℕ) → ask.op ≡ op.Close fd → IsFileIn t (reached t ask.client ask.op) (unkept_closed n.held ask.client ask.last (file_in ask.desc))
+pub close_needs : (n : NamesPart) (t : PosixTree) → IsNamesPart n t → (ask : Ask) → IsAsk t ask → (fd : ℕ) → ask.op ≡ op.Close fd → IsFileIn t (reached t ask.client ask.op) (unkept_closed n.held ask.client ask.last (file_in ask.desc))
 close_needs n t is ask told fd of =
     subst (λ (r : Op). IsFileIn t (reached t ask.client r) (unkept_closed n.held ask.client ask.last (file_in ask.desc))) (sym of)
     (subst (λ (o : Option Desc). IsFileIn t (reached t ask.client (op.Close fd)) (unkept_closed n.held ask.client ask.last (file_in o))) (sym (told.desc ∙ ap (λ (r : Op). desc_of_fd t.fds ask.client (fd_named r)) of))
@@ -342,7 +342,7 @@ each_part (k ∷ ks) f e = by (eq_by_cmp nat_cmp f k) refl e (λ rest. each_part
     by true same e rest = inl (ap (λ f. part.File f) (key_is f k same))
     by false same e rest = inr (rest e)
 
-all_live : (n : NamesPart) (t : PosixTree) → IsPartOf n t → (client : ℕ) → AreFilesIn t (touched_parts t client op.Sync) (fin.keys n.held)
+all_live : (n : NamesPart) (t : PosixTree) → IsNamesPart n t → (client : ℕ) → AreFilesIn t (touched_parts t client op.Sync) (fin.keys n.held)
 all_live n t is client f = (
   λ h.
       let has : is_some (fin.get t.bytes f) ≡ true = sym (is.told f) ∙ contains_key-keys n.held f ∙ list_any-from_Contains (eq_by_cmp_equiv nat_cmp_total) f (fin.keys n.held) h in
@@ -350,6 +350,6 @@ all_live n t is client f = (
   λ h. Contains-from_any key_is f (fin.keys n.held) (sym (contains_key-keys n.held f) ∙ is.told f ∙ h.1),
 )
 
-pub sync_needs : (n : NamesPart) (t : PosixTree) → IsPartOf n t → (client : ℕ) (request : Op) → request ≡ op.Sync → (files : List ℕ) → files ≡ fin.keys n.held → AreFilesIn t (touched_parts t client request) files
+pub sync_needs : (n : NamesPart) (t : PosixTree) → IsNamesPart n t → (client : ℕ) (request : Op) → request ≡ op.Sync → (files : List ℕ) → files ≡ fin.keys n.held → AreFilesIn t (touched_parts t client request) files
 sync_needs n t is client request of files all =
     subst (λ (r : Op). AreFilesIn t (touched_parts t client r) files) (sym of) (subst (AreFilesIn t (touched_parts t client op.Sync)) (sym all) (all_live n t is client))

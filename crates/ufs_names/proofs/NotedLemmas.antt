@@ -11,7 +11,7 @@ use Rattle.ufs_dir_tree.specs.declared.found.Found.TheVariants.{Dir, File}
 use Rattle.ufs_name_tree.specs.NameTable.{NameTable, IsNameTable, node_of, node_at, file_at}
 use Rattle.ufs_name_tree.proofs.EditNotes.{renoted}
 use Rattle.ufs_name_tree.proofs.NoteChains.{HasOneInode, GivesNoInode}
-use Rattle.ufs_names.specs.NamesPart.{NamesPart, Holdings, IsPartOf, AreInodesOf, holding_of, is_kept, without_name}
+use Rattle.ufs_names.specs.NamesPart.{NamesPart, Holdings, IsNamesPart, AreInodesOf, holding_of, is_kept, without_name}
 use Rattle.ufs_names.specs.Notes.{with_notes, AreBeside}
 use Rattle.ufs_names.specs.Steps.{LosesName}
 
@@ -23,7 +23,7 @@ same_nodes n noted names = by (found_at n.tree.dirs names)
     by (Some (Dir i)) = refl
     by (Some (File i)) = refl
 
-same_part : (n : NamesPart) (noted : Noted) (t : PosixTree) → IsPartOf n t → IsPartOf (with_notes noted n) t
+same_part : (n : NamesPart) (noted : Noted) (t : PosixTree) → IsNamesPart n t → IsNamesPart (with_notes noted n) t
 same_part n noted t is =
     let inodes = is.inodes in
     record {

@@ -23,7 +23,7 @@ use Rattle.ufs_model.proofs.Facts.Held.{holder}
 use Rattle.ufs_name_tree.specs.NameTable.{NameTable, file_at, node_at}
 use Rattle.ufs_name_tree.specs.Nodes.{SetsNode}
 use Rattle.ufs_files.specs.Files.{Files}
-use Rattle.ufs_names.specs.NamesPart.{NamesPart, Holdings, IsPartOf, AreInodesOf, holding_of, is_holder, is_kept, is_linked, unheld, with_holder}
+use Rattle.ufs_names.specs.NamesPart.{NamesPart, Holdings, IsNamesPart, AreInodesOf, holding_of, is_holder, is_kept, is_linked, unheld, with_holder}
 use Rattle.ufs_names.specs.Stands.{Stands}
 use Rattle.ufs_names.specs.Steps.{AddsFile, OpensFile}
 use Rattle.ufs_names.specs.declared.holding.Holding.{Holding}
@@ -53,7 +53,7 @@ next_unheld t tree c = false_from_ne_true _ (λ e.
     omega (arith, below))
 
 -- nothing is known yet of the file whose number is still to be given
-pub next_untold : (n : NamesPart) (t : PosixTree) → IsPartOf n t → map.get n.held n.next ≡ None
+pub next_untold : (n : NamesPart) (t : PosixTree) → IsNamesPart n t → map.get n.held n.next ≡ None
 next_untold n t part = by (map.get n.held n.next) refl
   where
     by : (o : Option Holding) → map.get n.held n.next ≡ o → map.get n.held n.next ≡ None
@@ -107,9 +107,9 @@ inodes_added tree tree' held k inode h inodes untold is unused numbered others =
         let was = sym (others i not) ∙ at in
         ap (λ (h : Holding). h.inode) (holding_else held k h f (told i f was)) ∙ inodes.own i f was
 
-module _ (n : NamesPart) (t : PosixTree) (part : IsPartOf n t) (client fd : ℕ) (free : map.get t.fds (client, fd) ≡ None) (m : Mode) where
+module _ (n : NamesPart) (t : PosixTree) (part : IsNamesPart n t) (client fd : ℕ) (free : map.get t.fds (client, fd) ≡ None) (m : Mode) where
   -- a descriptor of a directory comes
-  opened_dir : IsTree (with_fd t client fd (desc_of m None)) → IsPartOf n (with_fd t client fd (desc_of m None))
+  opened_dir : IsTree (with_fd t client fd (desc_of m None)) → IsNamesPart n (with_fd t client fd (desc_of m None))
   opened_dir tree = record {
     tree = tree;
     paths = part.paths;
@@ -131,7 +131,7 @@ module _ (n : NamesPart) (t : PosixTree) (part : IsPartOf n t) (client fd : ℕ)
     -- a descriptor of a file, which may have other bytes
     opened_bytes : (bytes : posix_tree.Files) → ((g : ℕ) → (g ≡ f → ⊥) → is_some (map.get bytes g) ≡ is_some (map.get t.bytes g))
         → IsTree (record t { bytes = bytes; fds = map.insert t.fds (client, fd) (desc_of m (Some f)) })
-        → IsPartOf new (record t { bytes = bytes; fds = map.insert t.fds (client, fd) (desc_of m (Some f)) })
+        → IsNamesPart new (record t { bytes = bytes; fds = map.insert t.fds (client, fd) (desc_of m (Some f)) })
     opened_bytes bytes others tree =
         part_known n (record t { bytes = bytes; fds = map.insert t.fds (client, fd) (desc_of m (Some f)) }) f held_now (record {
           once = part.once;
@@ -159,7 +159,7 @@ module _ (n : NamesPart) (t : PosixTree) (part : IsPartOf n t) (client fd : ℕ)
             client_else (holding_of n.held f).clients client c true not ∙ part.held f c ∙ sym (holds_else t.fds client fd (desc_of m (Some f)) c f (λ is e. not is) free)
 
     opened_file : (b : Bool) → IsTree (with_fd (cond {A = PosixTree} b (with_bytes t (Some f) []) t) client fd (desc_of m (Some f)))
-        → IsPartOf new (with_fd (cond {A = PosixTree} b (with_bytes t (Some f) []) t) client fd (desc_of m (Some f)))
+        → IsNamesPart new (with_fd (cond {A = PosixTree} b (with_bytes t (Some f) []) t) client fd (desc_of m (Some f)))
     opened_file true tree = opened_bytes (map.insert t.bytes f []) (λ g not. ap is_some (inserted_else nat_cmp_total nat_cmp-IsAntisymmetric t.bytes f [] g not)) tree
     opened_file false tree = opened_bytes t.bytes (λ g not. refl) tree
 
@@ -173,7 +173,7 @@ module _ (n : NamesPart) (t : PosixTree) (part : IsPartOf n t) (client fd : ℕ)
     abbrev fds : Fds
     fds = map.insert t.fds (client, fd) (desc_of m (Some t.next))
 
-    made_file : IsTree (with_fd (with_file t (whole_of path)) client fd (desc_of m (Some t.next))) → IsPartOf new (with_fd (with_file t (whole_of path)) client fd (desc_of m (Some t.next)))
+    made_file : IsTree (with_fd (with_file t (whole_of path)) client fd (desc_of m (Some t.next))) → IsNamesPart new (with_fd (with_file t (whole_of path)) client fd (desc_of m (Some t.next)))
     made_file tree = record {
       tree = tree;
       paths = stands_put (node_at n.tree) (node_at new.tree) t.paths part.paths (components path) (names_of path text) (File t.next)
@@ -224,7 +224,7 @@ module _ (n : NamesPart) (t : PosixTree) (part : IsPartOf n t) (client fd : ℕ)
 
 -- ---- a path is opened
 
-module _ (keeps : KeepsTrees) (n : NamesPart) (t : PosixTree) (client : ℕ) (part : IsPartOf n t) (path : List ℕ) (read write creat excl trunc append : Bool)
+module _ (keeps : KeepsTrees) (n : NamesPart) (t : PosixTree) (client : ℕ) (part : IsNamesPart n t) (path : List ℕ) (read write creat excl trunc append : Bool)
     (e : refusal t client (op.OpenFile path read write creat excl trunc append) ≡ None) where
   abbrev mode : Mode
   mode = record { read = read; write = write; creat = creat; excl = excl; trunc = trunc; append = append }
@@ -244,18 +244,18 @@ module _ (keeps : KeepsTrees) (n : NamesPart) (t : PosixTree) (client : ℕ) (pa
   at : (o : Option Node) → node_at n.tree (components path) ≡ o → walk.node_at t.paths path ≡ o
   at o is = met_at (node_at n.tree) t.paths part.paths path text ∙ is
 
-  by_node : (n' : NamesPart) (o : Option Node) → node_at n.tree (components path) ≡ o → (IsTree (open_at o) → IsPartOf n' (open_at o)) → IsPartOf n' (open_at (walk.node_at t.paths path))
+  by_node : (n' : NamesPart) (o : Option Node) → node_at n.tree (components path) ≡ o → (IsTree (open_at o) → IsNamesPart n' (open_at o)) → IsNamesPart n' (open_at (walk.node_at t.paths path))
   by_node n' o is goes =
-      subst (λ (o : Option Node). IsPartOf n' (open_at o)) (sym (at o is)) (goes (subst (λ (o : Option Node). IsTree (open_at o)) (at o is) tree))
+      subst (λ (o : Option Node). IsNamesPart n' (open_at o)) (sym (at o is)) (goes (subst (λ (o : Option Node). IsTree (open_at o)) (at o is) tree))
 
-  pub part_open_dir : node_at n.tree (components path) ≡ Some Dir → IsPartOf n (change t client (op.OpenFile path read write creat excl trunc append))
+  pub part_open_dir : node_at n.tree (components path) ≡ Some Dir → IsNamesPart n (change t client (op.OpenFile path read write creat excl trunc append))
   part_open_dir is = by_node n (Some Dir) is (opened_dir n t part client (new_fd t client) free mode)
 
   pub part_open_file : (f : ℕ) → node_at n.tree (components path) ≡ Some (File f) → length (holding_of n.held f).clients ≡ 16 → client < 16 → is_some (map.get t.bytes f) ≡ true
-      → (new : NamesPart) (fs fs' : Files) → OpensFile n new fs fs' client trunc f → IsPartOf new (change t client (op.OpenFile path read write creat excl trunc append))
+      → (new : NamesPart) (fs fs' : Files) → OpensFile n new fs fs' client trunc f → IsNamesPart new (change t client (op.OpenFile path read write creat excl trunc append))
   part_open_file f is sixteen less has new fs fs' opens =
       by_node new (Some (File f)) is (opened_file n t part client (new_fd t client) free mode f (omega (arith, sixteen)) has new fs fs' trunc opens trunc)
 
   pub part_open_new : (new : NamesPart) (fs fs' : Files) → AddsFile n new fs fs' client → node_at n.tree (components path) ≡ None → client < 16 → SetsNode (node_at n.tree) (node_at new.tree) (components path) (Some (File n.next))
-      → IsPartOf new (change t client (op.OpenFile path read write creat excl trunc append))
+      → IsNamesPart new (change t client (op.OpenFile path read write creat excl trunc append))
   part_open_new new fs fs' adds is less sets = by_node new None is (made_file n t part client (new_fd t client) free mode new fs fs' adds path (at None is) text less sets)

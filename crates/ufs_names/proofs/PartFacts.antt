@@ -16,11 +16,11 @@ use Rattle.ufs_model.proofs.Facts.Live.{held_has}
 use Rattle.ufs_model.proofs.Facts.Lookups.{there_or_not}
 use Rattle.ufs_name_tree.specs.NameTable.{node_at}
 use Rattle.ufs_names.specs.Calls.{IsAsked, IsServed}
-use Rattle.ufs_names.specs.NamesPart.{NamesPart, IsPartOf}
+use Rattle.ufs_names.specs.NamesPart.{NamesPart, IsNamesPart}
 use Rattle.ufs_names.proofs.NameLists.{AreNames}
 use Rattle.ufs_names.proofs.WalkLinks.{met}
 
-module _ (n : NamesPart) (t : PosixTree) (part : IsPartOf n t) where
+module _ (n : NamesPart) (t : PosixTree) (part : IsNamesPart n t) where
   -- a file that stands at some names has bytes, and its holders are told
   pub file_told : (names : List (List ℕ)) (f : ℕ) → AreNames names → node_at n.tree names ≡ Some (File f) → IsSome (map.get t.bytes f) × IsSome (map.get n.held f)
   file_told names f are at = (has, part.told f ∙ has)

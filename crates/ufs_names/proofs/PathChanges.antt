@@ -29,7 +29,7 @@ use Rattle.ufs_name_tree.specs.NameTable.{file_at, node_at, node_of}
 use Rattle.ufs_name_tree.specs.Nodes.{SetsNode}
 use Rattle.ufs_file.specs.Hand.{FileState}
 use Rattle.ufs_files.specs.Files.{Files, AreFilesOf}
-use Rattle.ufs_names.specs.NamesPart.{NamesPart, IsPartOf, holding_of, without_name}
+use Rattle.ufs_names.specs.NamesPart.{NamesPart, IsNamesPart, holding_of, without_name}
 use Rattle.ufs_names.specs.Steps.{GoesHere, KeepsFiles, LosesName, Opens, OpensFile, Removes}
 use Rattle.ufs_names.specs.Calls.{IsServed, IsTouched, no_bytes}
 use Rattle.ufs_names.specs.PathCalls.{IsAllowed}
@@ -60,7 +60,7 @@ open_told t client whole m (Some (node.File f)) next e = by m.trunc
     by false = sym (inserted_here fd_total fd_same t.fds (client, new_fd t client) (desc_of m (Some f)))
 
 -- the file that lost its name goes where nothing keeps it
-pub files_lose : (n : NamesPart) (t : PosixTree) → IsPartOf n t → (fs fs' : Files) → AreFilesOf fs t → (now : NamesPart) (u : PosixTree) → u.bytes ≡ t.bytes → u.fds ≡ t.fds → (lost : Option ℕ)
+pub files_lose : (n : NamesPart) (t : PosixTree) → IsNamesPart n t → (fs fs' : Files) → AreFilesOf fs t → (now : NamesPart) (u : PosixTree) → u.bytes ≡ t.bytes → u.fds ≡ t.fds → (lost : Option ℕ)
     → ((f : ℕ) → lost ≡ Some f → is_named u.paths f ≡ false) → GoesHere n fs lost → LosesName n now fs fs' lost → FilesGo t (forget u lost) fs fs'
 files_lose n t part fs fs' files now u same fds None gone here keeps = files_same t u part.tree fs fs' files keeps.stays.files (λ f. ap (λ (m : posix_tree.Files). map.get m f) same)
 files_lose n t part fs fs' files now u same fds (Some g) gone here settles =
@@ -70,13 +70,13 @@ files_lose n t part fs fs' files now u same fds (Some g) gone here settles =
     (here g refl)
 
 module _ (keeps : KeepsTrees) (n : NamesPart) (fs : Files) (t : PosixTree) (ask : Ask) (names : List (List ℕ)) (found : Option Found) (is : IsAllowed t ask n fs names found) (now : NamesPart) (fs' : Files) where
-  abbrev part : IsPartOf n t
+  abbrev part : IsNamesPart n t
   part = is.all.part
 
   -- nothing changes
   served_same : (request : Op) → ask.op ≡ request → change t ask.client request ≡ t → None ≡ desc_of_fd (change t ask.client request).fds ask.client (fd_told request (answer t ask.client request)) → IsServed t ask n fs fs (answer t ask.client ask.op) None
   served_same request of same none =
-      served_as t ask n fs fs request None of (let_be n fs t ask names found is request of) (subst (IsPartOf n) (sym same) part)
+      served_as t ask n fs fs request None of (let_be n fs t ask names found is request of) (subst (IsNamesPart n) (sym same) part)
       (files_same t (change t ask.client request) part.tree fs fs is.all.files refl (λ f. ap (λ (u : PosixTree). map.get u.bytes f) same)) none
 
   pub served_stat : (p : List ℕ) → ask.op ≡ op.Stat p → IsServed t ask n fs fs (answer t ask.client ask.op) None
@@ -166,12 +166,12 @@ module _ (keeps : KeepsTrees) (n : NamesPart) (fs : Files) (t : PosixTree) (ask 
     opened_node o e = ap (open_node t ask.client (whole_of p) mode) (stands_found n fs t ask names found is request of p refl ∙ ap (option_map (node_of n.tree)) e)
 
     part_opened : (o : Option Found) → found ≡ o → ask.client < 16 → (o ≡ None → SetsNode (node_at n.tree) (node_at now.tree) names (Some (node.File n.next)))
-        → ((i f : ℕ) → o ≡ Some (File i) → file_at n.tree i ≡ Some f → length (holding_of n.held f).clients ≡ 16) → Opens n now fs fs' ask.client trunc o → IsPartOf now (change t ask.client request)
+        → ((i f : ℕ) → o ≡ Some (File i) → file_at n.tree i ≡ Some f → length (holding_of n.held f).clients ≡ 16) → Opens n now fs fs' ask.client trunc o → IsNamesPart now (change t ask.client request)
     part_opened None e less sets sixteen opens =
         part_open_new keeps n t ask.client part p read write creat excl trunc append free now fs fs' opens (met_as None e) less
         (subst (λ l. SetsNode (node_at n.tree) (node_at now.tree) l (Some (node.File n.next))) (sym at) (sets refl))
     part_opened (Some (Dir i)) e less sets sixteen opens =
-        subst (λ (n' : NamesPart). IsPartOf n' (change t ask.client request)) (sym opens.0) (part_open_dir keeps n t ask.client part p read write creat excl trunc append free (met_as (Some (Dir i)) e))
+        subst (λ (n' : NamesPart). IsNamesPart n' (change t ask.client request)) (sym opens.0) (part_open_dir keeps n t ask.client part p read write creat excl trunc append free (met_as (Some (Dir i)) e))
     part_opened (Some (File i)) e less sets sixteen opens =
         let file = file_found n fs t ask names found is i e in
         let opened = subst (OpensFile n now fs fs' ask.client trunc) (ap (λ o. unwrap_or o 0) file.1) opens in

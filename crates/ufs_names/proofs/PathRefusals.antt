@@ -21,7 +21,7 @@ use Rattle.ufs_dir_tree.specs.DirTable.{IsDirTable, slots_at, found_at}
 use Rattle.ufs_name_tree.specs.NameTable.{NameTable, IsNameTable, node_at, node_of}
 use Rattle.ufs_dir_tree.specs.DirCalls.{IsBare}
 use Rattle.ufs_name_tree.specs.Nodes.{refusal_by}
-use Rattle.ufs_names.specs.NamesPart.{NamesPart, IsPartOf}
+use Rattle.ufs_names.specs.NamesPart.{NamesPart, IsNamesPart}
 use Rattle.ufs_names.specs.PathCalls.{path_asked, end_refusal}
 use Rattle.ufs_dir_tree.specs.declared.found.Found.{Found}
 use Rattle.ufs_dir_tree.specs.declared.found.Found.TheVariants.{Dir, File}
@@ -82,7 +82,7 @@ same_test true false to back = back refl
 same_test false true to back = sym (to refl)
 
 -- what the directories tell of entries
-pub entries_told : (n : NamesPart) (t : PosixTree) → IsPartOf n t → IsDirTable n.tree.dirs → (names : List (List ℕ)) → AreNames names → (found : Option Found) → found ≡ found_at n.tree.dirs names
+pub entries_told : (n : NamesPart) (t : PosixTree) → IsNamesPart n t → IsDirTable n.tree.dirs → (names : List (List ℕ)) → AreNames names → (found : Option Found) → found ≡ found_at n.tree.dirs names
     → (b : Bool) → (b ≡ false) ↔ ((i : ℕ) → found ≡ Some (Dir i) → IsBare (slots_at n.tree.dirs i)) → option_map (node_of n.tree) found ≡ Some node.Dir → b ≡ has_entries t.paths (whole_path names)
 entries_told n t part table names are None at b is dir = cc
 entries_told n t part table names are (Some (File f)) at b is dir = cc
@@ -94,7 +94,7 @@ entries_told n t part table names are (Some (Dir i)) at b is dir =
     number : (i j : ℕ) → Some (Dir i) ≡ Some (Dir j) → i ≡ j
     number i j same = cc
 
-module _ (n : NamesPart) (t : PosixTree) (part : IsPartOf n t) (client : ℕ) (request : Op) (names : List (List ℕ)) (own : own_refusal t client request ≡ None)
+module _ (n : NamesPart) (t : PosixTree) (part : IsNamesPart n t) (client : ℕ) (request : Op) (names : List (List ℕ)) (own : own_refusal t client request ≡ None)
     (on : option_map components (path_asked request) ≡ Some names) where
   abbrev path : List ℕ
   path = (path_of (path_asked request) names on).0

@@ -12,7 +12,7 @@ use Rattle.ufs_model.specs.declared.data.Op.{Op}
 use Rattle.ufs_model.specs.declared.data.Op.TheVariants as op
 use Rattle.ufs_model.specs.declared.data.Reply.{Reply}
 use Rattle.ufs_model.specs.declared.data.Reply.TheVariants.{Refused}
-use Rattle.ufs_names.specs.NamesPart.{NamesPart, IsPartOf}
+use Rattle.ufs_names.specs.NamesPart.{NamesPart, IsNamesPart}
 use Rattle.ufs_names.specs.Calls.{IsServed}
 use Rattle.ufs_names.proofs.FileLemmas.{FilesGo, files_same}
 
@@ -35,12 +35,12 @@ told_refused (op.Rename from to) e = refl
 told_refused (op.Stat path) e = refl
 told_refused (op.List path) e = refl
 
-pub served_refused : (n : NamesPart) (t : PosixTree) (ask : Ask) (fs : Files) (e : Errno) (reply : Reply) (desc : Option Desc) → IsPartOf n t → AreFilesOf fs t → IsAsk t ask → refusal t ask.client ask.op ≡ Some e
+pub served_refused : (n : NamesPart) (t : PosixTree) (ask : Ask) (fs : Files) (e : Errno) (reply : Reply) (desc : Option Desc) → IsNamesPart n t → AreFilesOf fs t → IsAsk t ask → refusal t ask.client ask.op ≡ Some e
     → reply ≡ Refused e → desc ≡ ask.desc → IsServed t ask n fs fs reply desc
 served_refused n t ask fs e reply desc part files asked is reply_is desc_is =
     subst (λ (k : Reply × Option Desc). IsServed t ask n fs fs k.0 k.1) (λ i. (sym reply_is i, sym desc_is i)) (record {
       replied = ap (λ (p : PosixTree × Reply). p.1) (sym whole);
-      goes_on = subst (λ (p : PosixTree × Reply). IsPartOf n p.0) (sym whole) part;
+      goes_on = subst (λ (p : PosixTree × Reply). IsNamesPart n p.0) (sym whole) part;
       files = go.files;
       told = subst (λ (p : PosixTree × Reply). IsDescAfter t.fds p.0.fds ask.client (fd_told ask.op (Refused e)) ask.desc) (sym whole)
           (record { this = asked.desc ∙ ap (desc_of_fd t.fds ask.client) (sym (told_refused ask.op e)); others = λ c m apart. refl });

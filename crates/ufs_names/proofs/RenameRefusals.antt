@@ -17,7 +17,7 @@ use Rattle.ufs_dir_tree.specs.DirTable.{IsDirTable, slots_at, found_at}
 use Rattle.ufs_name_tree.specs.NameTable.{NameTable, node_at, node_of}
 use Rattle.ufs_dir_tree.specs.DirCalls.{IsBare}
 use Rattle.ufs_name_tree.specs.Nodes.{refusal_by}
-use Rattle.ufs_names.specs.NamesPart.{NamesPart, IsPartOf}
+use Rattle.ufs_names.specs.NamesPart.{NamesPart, IsNamesPart}
 use Rattle.ufs_dir_tree.specs.declared.found.Found.{Found}
 use Rattle.ufs_dir_tree.specs.declared.found.Found.TheVariants.{Dir}
 use Rattle.ufs_names.proofs.NameLists.{AreNames, names_of}
@@ -38,7 +38,7 @@ replaced_by_entries old None below same a b e = refl
 replaced_by_entries old (Some node.Dir) below same a b e = ap (replaced old (Some node.Dir) below same) (e refl)
 replaced_by_entries old (Some (node.File f)) below same a b e = refl
 
-module _ (n : NamesPart) (t : PosixTree) (part : IsPartOf n t) (from to : List (List ℕ)) (are : AreNames from) (are' : AreNames to) where
+module _ (n : NamesPart) (t : PosixTree) (part : IsNamesPart n t) (from to : List (List ℕ)) (are : AreNames from) (are' : AreNames to) where
   pub replaced_is : IsDirTable n.tree.dirs → (old new : Option Found) → old ≡ found_at n.tree.dirs from → new ≡ found_at n.tree.dirs to → (entries : Bool) → (entries ≡ false) ↔ ((i : ℕ) → new ≡ Some (Dir i) → IsBare (slots_at n.tree.dirs i))
       → replaced (option_map (node_of n.tree) old) (option_map (node_of n.tree) new) (is_below (whole_path from) (whole_path to)) (bytes_eq (whole_path from) (whole_path to)) entries ≡ replace_refusal t.paths (whole_path from) (whole_path to)
   replaced_is table old new at at' entries told =
@@ -54,7 +54,7 @@ module _ (n : NamesPart) (t : PosixTree) (part : IsPartOf n t) (from to : List (
 abbrev by_steps : Bool → Option Errno → Option Node → Option Errno → Option Errno → Option Errno
 by_steps root way o way' last = first_of (refused_if root Ebusy) (first_of way (first_of (refused_if (is_none o) Enoent) (first_of way' last)))
 
-module _ (n : NamesPart) (t : PosixTree) (part : IsPartOf n t) (d : NameTable) (same : d ≡ n.tree) (from to : List (List ℕ)) (old new : List ℕ) (text : text_refusal old ≡ None) (text' : text_refusal new ≡ None)
+module _ (n : NamesPart) (t : PosixTree) (part : IsNamesPart n t) (d : NameTable) (same : d ≡ n.tree) (from to : List (List ℕ)) (old new : List ℕ) (text : text_refusal old ≡ None) (text' : text_refusal new ≡ None)
     (e : from ≡ components old) (e' : to ≡ components new) where
   are : AreNames from
   are = subst AreNames (sym e) (names_of old text)

@@ -32,7 +32,7 @@ use Rattle.ufs_dir_tree.specs.declared.found.Found.TheVariants.{Dir}
 use Rattle.ufs_files.specs.Files.{Files}
 use Rattle.ufs_name_tree.specs.NameTable.{IsNameTable, node_at, node_of}
 use Rattle.ufs_name_tree.specs.Nodes.{MovesNodes}
-use Rattle.ufs_names.specs.NamesPart.{NamesPart, IsPartOf}
+use Rattle.ufs_names.specs.NamesPart.{NamesPart, IsNamesPart}
 use Rattle.ufs_names.specs.Steps.{GoesHere, LosesName}
 use Rattle.ufs_names.specs.Calls.{IsAsked, IsServed}
 use Rattle.ufs_names.proofs.NameLists.{AreNames, names_of}
@@ -56,7 +56,7 @@ last_false true false c p q e = cc
 last_false false b c p q e = cc
 
 -- the file that stood at the new name has no name any more
-pub renamed_unnamed : (n : NamesPart) (t : PosixTree) → IsPartOf n t → (from to : List (List ℕ)) → IsRenamed t.paths from to → (whole_path from ≡ whole_path to → ⊥) → (f : ℕ) → file_of (map.get t.paths (whole_path to)) ≡ Some f
+pub renamed_unnamed : (n : NamesPart) (t : PosixTree) → IsNamesPart n t → (from to : List (List ℕ)) → IsRenamed t.paths from to → (whole_path from ≡ whole_path to → ⊥) → (f : ℕ) → file_of (map.get t.paths (whole_path to)) ≡ Some f
     → is_named (renamed t.paths (whole_path from) (whole_path to)) f ≡ false
 renamed_unnamed n t part [] to is other h stood = let some = is.old_some in cc
 renamed_unnamed n t part (f ∷ fs) [] is other h stood = let some = is.new_some in cc
@@ -64,7 +64,7 @@ renamed_unnamed n t part (f ∷ fs) (g ∷ gs) is other h stood =
     unnamed_renamed t.paths f fs g gs (may_rename t.paths part.tree.namespace f fs g gs is (bytes_differ (whole_path (f ∷ fs)) (whole_path (g ∷ gs)) other)) h part.once stood
 
 module _ (n : NamesPart) (t : PosixTree) (ask : Ask) (fs : Files) (asked : IsAsked t n ask fs) (old new : List ℕ) (of : ask.op ≡ op.Rename old new) (own : own_refusal t ask.client ask.op ≡ None) where
-  abbrev part : IsPartOf n t
+  abbrev part : IsNamesPart n t
   part = asked.part
 
   allowed_own : first_of (text_refusal old) (text_refusal new) ≡ None
@@ -145,7 +145,7 @@ module _ (n : NamesPart) (t : PosixTree) (ask : Ask) (fs : Files) (asked : IsAsk
       })
 
       module _ (keeps : KeepsTrees) (now : NamesPart) (fs' : Files) where
-        served_with : IsPartOf now (change t ask.client (op.Rename old new)) → FilesGo t (change t ask.client (op.Rename old new)) fs fs' → IsServed t ask now fs fs' Done None
+        served_with : IsNamesPart now (change t ask.client (op.Rename old new)) → FilesGo t (change t ask.client (op.Rename old new)) fs fs' → IsServed t ask now fs fs' Done None
         served_with goes files =
             subst (λ (r : Reply). IsServed t ask now fs fs' r None) (ap (answer t ask.client) of) (served_as t ask now fs fs' (op.Rename old new) None of let_be goes files refl)
 
@@ -153,7 +153,7 @@ module _ (n : NamesPart) (t : PosixTree) (ask : Ask) (fs : Files) (asked : IsAsk
         served_same : whole_of old ≡ whole_of new → now ≡ n → fs' ≡ fs → IsServed t ask now fs fs' Done None
         served_same h same hands =
             served_with
-            (subst (λ (n' : NamesPart). IsPartOf n' (change t ask.client (op.Rename old new))) (sym same) (part_same_name n t ask.client part old new h))
+            (subst (λ (n' : NamesPart). IsNamesPart n' (change t ask.client (op.Rename old new))) (sym same) (part_same_name n t ask.client part old new h))
             (subst (λ (b : Bool). FilesGo t (cond {A = PosixTree} b t (forget moved lost)) fs fs') (sym (bytes_same (whole_of old) (whole_of new) h))
             (files_same t t part.tree fs fs' asked.files hands (λ f. refl)))
 

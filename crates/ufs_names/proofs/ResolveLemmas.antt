@@ -14,7 +14,7 @@ use Rattle.ufs_model.proofs.Facts.Pieces.{ArePlain, components_plain}
 use Rattle.ufs_dir_tree.specs.DirTable.{found_at}
 use Rattle.ufs_name_tree.specs.NameTable.{NameTable, node_at, node_of}
 use Rattle.ufs_name_tree.specs.Nodes.{refusal_by}
-use Rattle.ufs_names.specs.NamesPart.{NamesPart, IsPartOf}
+use Rattle.ufs_names.specs.NamesPart.{NamesPart, IsNamesPart}
 use Rattle.ufs_dir_tree.specs.declared.found.Found.{Found}
 use Rattle.ufs_names.proofs.NameLists.{AreNames}
 use Rattle.ufs_names.proofs.WalkLinks.{met, refused_alike}
@@ -26,7 +26,7 @@ names_of_whole names e is = record {
   allowed = ap components_refusal (sym e) ∙ is.allowed;
 }
 
-module _ (n : NamesPart) (t : PosixTree) (part : IsPartOf n t) (d : NameTable) (same : d ≡ n.tree) (names : List (List ℕ)) (are : AreNames names) where
+module _ (n : NamesPart) (t : PosixTree) (part : IsNamesPart n t) (d : NameTable) (same : d ≡ n.tree) (names : List (List ℕ)) (are : AreNames names) where
   pub node_resolved : (o : Option Found) → o ≡ found_at d.dirs names → map.get t.paths (whole_path names) ≡ option_map (node_of n.tree) o
   node_resolved o e = met (node_at n.tree) t.paths part.paths names are ∙ ap (λ (d : NameTable). option_map (node_of n.tree) (found_at d.dirs names)) (sym same) ∙ ap (option_map (node_of n.tree)) (sym e)
 

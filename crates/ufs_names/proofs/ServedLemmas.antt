@@ -12,7 +12,7 @@ use Rattle.ufs_model.specs.declared.data.Errno.{Errno}
 use Rattle.ufs_model.specs.declared.data.Op.{Op}
 use Rattle.ufs_model.specs.declared.data.PartName.TheVariants as name
 use Rattle.ufs_model.specs.declared.data.Reply.{Reply}
-use Rattle.ufs_names.specs.NamesPart.{NamesPart, IsPartOf}
+use Rattle.ufs_names.specs.NamesPart.{NamesPart, IsNamesPart}
 use Rattle.ufs_model.proofs.LocalLemmas.{local}
 use Rattle.ufs_names.specs.Calls.{IsServed, IsTouched}
 use Rattle.ufs_names.proofs.DescAfterLemmas.{desc_after_posix}
@@ -26,13 +26,13 @@ module _ (t : PosixTree) (ask : Ask) (n : NamesPart) (fs fs' : Files) where
   stays_untouched is f not (inr (inl differs)) = absurd (differs (sym ((local t t ask.client ask.op is is (λ other among. same_part t other)).others (name.File f) not)))
   stays_untouched is f not (inr (inr this)) = absurd (not this)
 
-  pub served_answer : (desc : Option Desc) → refusal t ask.client ask.op ≡ None → IsPartOf n (change t ask.client ask.op) → FilesGoBut (IsTouched t ask) t (change t ask.client ask.op) fs fs'
+  pub served_answer : (desc : Option Desc) → refusal t ask.client ask.op ≡ None → IsNamesPart n (change t ask.client ask.op) → FilesGoBut (IsTouched t ask) t (change t ask.client ask.op) fs fs'
       → desc ≡ desc_of_fd (change t ask.client ask.op).fds ask.client (fd_told ask.op (answer t ask.client ask.op)) → IsServed t ask n fs fs' (answer t ask.client ask.op) desc
   served_answer desc allowed part files told =
       let go = subst (λ (o : Option Errno). FilesGoBut (IsTouched t ask) t (served t ask.client ask.op o).0 fs fs') (sym allowed) files in
       subst (λ (x : Reply). IsServed t ask n fs fs' x desc) (ap (λ (o : Option Errno). (served t ask.client ask.op o).1) allowed) (record {
         replied = refl;
-        goes_on = subst (λ (o : Option Errno). IsPartOf n (served t ask.client ask.op o).0) (sym allowed) part;
+        goes_on = subst (λ (o : Option Errno). IsNamesPart n (served t ask.client ask.op o).0) (sym allowed) part;
         files = go.files;
         told = record {
           this = subst (λ (o : Option Errno). desc ≡ desc_of_fd (served t ask.client ask.op o).0.fds ask.client (fd_told ask.op (served t ask.client ask.op o).1)) (sym allowed) told;
@@ -43,15 +43,15 @@ module _ (t : PosixTree) (ask : Ask) (n : NamesPart) (fs fs' : Files) where
       })
 
   -- of a request of this form, where a file that it touches may have changed without other bytes
-  pub served_but : (request : Op) (desc : Option Desc) → ask.op ≡ request → refusal t ask.client request ≡ None → IsPartOf n (change t ask.client request)
+  pub served_but : (request : Op) (desc : Option Desc) → ask.op ≡ request → refusal t ask.client request ≡ None → IsNamesPart n (change t ask.client request)
       → FilesGoBut (IsTouched t ask) t (change t ask.client request) fs fs'
       → desc ≡ desc_of_fd (change t ask.client request).fds ask.client (fd_told request (answer t ask.client request)) → IsServed t ask n fs fs' (answer t ask.client ask.op) desc
   served_but request desc of allowed part files told =
-      served_answer desc (ap (refusal t ask.client) of ∙ allowed) (subst (λ (r : Op). IsPartOf n (change t ask.client r)) (sym of) part)
+      served_answer desc (ap (refusal t ask.client) of ∙ allowed) (subst (λ (r : Op). IsNamesPart n (change t ask.client r)) (sym of) part)
       (subst (λ (r : Op). FilesGoBut (IsTouched t ask) t (change t ask.client r) fs fs') (sym of) files)
       (subst (λ (r : Op). desc ≡ desc_of_fd (change t ask.client r).fds ask.client (fd_told r (answer t ask.client r))) (sym of) told)
 
   -- and where none may
-  pub served_as : (request : Op) (desc : Option Desc) → ask.op ≡ request → refusal t ask.client request ≡ None → IsPartOf n (change t ask.client request) → FilesGo t (change t ask.client request) fs fs'
+  pub served_as : (request : Op) (desc : Option Desc) → ask.op ≡ request → refusal t ask.client request ≡ None → IsNamesPart n (change t ask.client request) → FilesGo t (change t ask.client request) fs fs'
       → desc ≡ desc_of_fd (change t ask.client request).fds ask.client (fd_told request (answer t ask.client request)) → IsServed t ask n fs fs' (answer t ask.client ask.op) desc
   served_as request desc of allowed part files told = served_but request desc of allowed part (but_these (IsTouched t ask) t (change t ask.client request) fs fs' files) told

@@ -13,7 +13,7 @@ use Rattle.ufs_model.specs.Posix.{forget}
 use Rattle.ufs_model.proofs.Facts.Lookups.{same_some, from_some, inserted_here, inserted_else, removed_here, removed_else, left_was}
 use Rattle.ufs_name_tree.specs.NameTable.{NameTable, file_at, node_at}
 use Rattle.ufs_names.specs.Stands.{Stands}
-use Rattle.ufs_names.specs.NamesPart.{NamesPart, Holdings, IsPartOf, AreInodesOf, IsNamedOnce, is_linked, is_holder, is_kept, unheld, holding_of, without_name}
+use Rattle.ufs_names.specs.NamesPart.{NamesPart, Holdings, IsNamesPart, AreInodesOf, IsNamedOnce, is_linked, is_holder, is_kept, unheld, holding_of, without_name}
 use Rattle.ufs_names.specs.Steps.{KeepsFiles, LosesName, Settles}
 use Rattle.ufs_names.specs.declared.holding.Holding.{Holding}
 use Rattle.ufs_names.proofs.LinkLemmas.{is_named, number_apart, holding_put, holding_else, holding_gone, holding_left}
@@ -113,7 +113,7 @@ nobody (suc count) (suc client) = nobody count client
 
 module _ (n : NamesPart) (t : PosixTree) (g : ℕ) (h : Holding) (is : IsPartBut n t g h) (new : NamesPart) (fs fs' : Files) (settles : Settles n new fs fs' g h) (paths : Stands (node_at new.tree) t.paths) where
   -- this is known of the file from now on
-  pub part_known : is_kept h ≡ true → IsTree t → IsPartOf new t
+  pub part_known : is_kept h ≡ true → IsTree t → IsNamesPart new t
   part_known kept tree = record {
     tree = tree;
     paths = paths;
@@ -148,7 +148,7 @@ module _ (n : NamesPart) (t : PosixTree) (g : ℕ) (h : Holding) (is : IsPartBut
           ∙ sym has_bytes ∙ ap (λ f. is_some (map.get t.bytes f)) (sym e)
       told f (inr not) = ap is_some (inserted_else nat_cmp_total nat_cmp-IsAntisymmetric n.held g h f not) ∙ is.told f not
 
-  part_forgotten : is_kept h ≡ false → IsTree (record t { bytes = map.remove t.bytes g }) → IsPartOf new (record t { bytes = map.remove t.bytes g })
+  part_forgotten : is_kept h ≡ false → IsTree (record t { bytes = map.remove t.bytes g }) → IsNamesPart new (record t { bytes = map.remove t.bytes g })
   part_forgotten lost tree = record {
     tree = tree;
     paths = paths;
@@ -188,10 +188,10 @@ module _ (n : NamesPart) (t : PosixTree) (g : ℕ) (h : Holding) (is : IsPartBut
           ap is_some (removed_else nat_cmp_total nat_cmp-IsAntisymmetric n.held g f not) ∙ is.told f not
           ∙ sym (ap is_some (removed_else nat_cmp_total nat_cmp-IsAntisymmetric t.bytes g f not))
 
-  pub part_settled : IsTree (forget t (Some g)) → IsPartOf new (forget t (Some g))
+  pub part_settled : IsTree (forget t (Some g)) → IsNamesPart new (forget t (Some g))
   part_settled tree = by (is_kept h) (is_live t.paths t.fds g) refl (kept_is_live h t.paths t.fds g is.linked_here is.held_here) tree
     where
-      by : (a b : Bool) → is_kept h ≡ a → a ≡ b → IsTree (cond {A = PosixTree} b t (record t { bytes = map.remove t.bytes g })) → IsPartOf new (cond {A = PosixTree} b t (record t { bytes = map.remove t.bytes g }))
+      by : (a b : Bool) → is_kept h ≡ a → a ≡ b → IsTree (cond {A = PosixTree} b t (record t { bytes = map.remove t.bytes g })) → IsNamesPart new (cond {A = PosixTree} b t (record t { bytes = map.remove t.bytes g }))
       by true true e same tree = part_known e tree
       by true false e same tree = cc
       by false true e same tree = cc
@@ -199,9 +199,9 @@ module _ (n : NamesPart) (t : PosixTree) (g : ℕ) (h : Holding) (is : IsPartBut
 
 -- ---- other paths
 
-module _ (n : NamesPart) (t : PosixTree) (part : IsPartOf n t) (new : NamesPart) (fs fs' : Files) (paths : Paths) (stands : Stands (node_at new.tree) paths) (once : IsNamedOnce paths) where
+module _ (n : NamesPart) (t : PosixTree) (part : IsNamesPart n t) (new : NamesPart) (fs fs' : Files) (paths : Paths) (stands : Stands (node_at new.tree) paths) (once : IsNamedOnce paths) where
   -- the same files are named
-  pub part_paths : ((f : ℕ) → is_named paths f ≡ is_named t.paths f) → KeepsFiles n new fs fs' → IsTree (record t { paths = paths }) → IsPartOf new (record t { paths = paths })
+  pub part_paths : ((f : ℕ) → is_named paths f ≡ is_named t.paths f) → KeepsFiles n new fs fs' → IsTree (record t { paths = paths }) → IsNamesPart new (record t { paths = paths })
   part_paths same keeps tree = record {
     tree = tree;
     paths = stands;
@@ -216,7 +216,7 @@ module _ (n : NamesPart) (t : PosixTree) (part : IsPartOf n t) (new : NamesPart)
   -- the same but one, which has bytes
   pub part_unnamed : (lost : Option ℕ) → ((f : ℕ) → lost ≡ Some f → is_named paths f ≡ false) → ((f : ℕ) → (lost ≡ Some f → ⊥) → is_named paths f ≡ is_named t.paths f)
       → ((f : ℕ) → lost ≡ Some f → is_some (map.get t.bytes f) ≡ true) → LosesName n new fs fs' lost
-      → IsTree (forget (record t { paths = paths }) lost) → IsPartOf new (forget (record t { paths = paths }) lost)
+      → IsTree (forget (record t { paths = paths }) lost) → IsNamesPart new (forget (record t { paths = paths }) lost)
   part_unnamed None gone same has keeps tree = part_paths (λ f. same f (λ e. cc)) keeps tree
   part_unnamed (Some g) gone same has settles tree = part_settled n (record t { paths = paths }) g (without_name (holding_of n.held g)) (record {
     once = once;

@@ -25,7 +25,7 @@ use Rattle.ufs_bitmap.proofs.TakingLemmas.{apart_none, has-none}
 use Rattle.ufs_files.specs.Files.{blocks_at}
 use Rattle.ufs_files.proofs.MapLemmas.{blocks_none}
 use Rattle.ufs_name_tree.specs.NameTable.{NameTable, file_at, node_at}
-use Rattle.ufs_names.specs.NamesPart.{IsPartOf, holding_of, unheld}
+use Rattle.ufs_names.specs.NamesPart.{IsNamesPart, holding_of, unheld}
 use Rattle.ufs_names.specs.declared.holding.Holding.{Holding}
 use Rattle.ufs_bitmap.specs.Taking as taking
 use Rattle.ufs_bitmap.specs.Taking.{has}
@@ -62,7 +62,7 @@ module _ (d : NameTable) (top : node_at d [] ≡ Some Dir) (below : (names : Lis
   told_not : (f : ℕ) (h : Holding) → map.get {R = nat_cmp} map.empty f ≡ Some h → ⊥
   told_not f h at = let none = get-empty {X = Holding} nat_cmp f in let no : Some h ≡ None = sym at ∙ none in cc
 
-  pub first_part : IsPartOf (record { tree = d; held = map.empty; next = 0 }) root_alone
+  pub first_part : IsNamesPart (record { tree = d; held = map.empty; next = 0 }) root_alone
   first_part = record {
     tree = subst IsTree start_of-root (start_is_tree path_root root_is_tree);
     paths = λ names plain allowed. stands names plain;

@@ -14,7 +14,7 @@ use Rattle.ufs_model.specs.declared.data.Ask.{Ask}
 use Rattle.ufs_model.specs.declared.data.Desc.{Desc}
 use Rattle.ufs_model.specs.declared.data.PartName.TheVariants as part
 use Rattle.ufs_model.specs.declared.data.Reply.{Reply}
-use Rattle.ufs_names.specs.NamesPart.{NamesPart, Holdings, IsPartOf}
+use Rattle.ufs_names.specs.NamesPart.{NamesPart, Holdings, IsNamesPart}
 use Rattle.ufs_names.specs.declared.holding.Holding.{Holding}
 
 -- ---- before
@@ -29,7 +29,7 @@ AreGathered t ask fs = (f : ℕ) → touched.IsPartOf (touched_parts t ask.clien
 
 -- The part, the files and what the client tells are the tree's, and of the files those that the request touches are here.
 pub record IsAsked (t : PosixTree) (n : NamesPart) (ask : Ask) (fs : Files) : Type 0 where
-  pub part : IsPartOf n t
+  pub part : IsNamesPart n t
   pub asked : IsAsk t ask
   pub files : AreFilesOf fs t
   pub gathered : AreGathered t ask fs
@@ -57,7 +57,7 @@ IsTouched t ask f = touched.IsPartOf (touched_parts t ask.client ask.op) (part.F
 -- descriptor stands for afterwards.
 pub record IsServed (t : PosixTree) (ask : Ask) (new : NamesPart) (fs fs' : Files) (reply : Reply) (desc : Option Desc) : Type 0 where
   pub replied : reply ≡ (posix t ask.client ask.op).1
-  pub goes_on : IsPartOf new (posix t ask.client ask.op).0
+  pub goes_on : IsNamesPart new (posix t ask.client ask.op).0
   pub files : AreFilesOf fs' (posix t ask.client ask.op).0
   pub told : IsDescAfter t.fds (posix t ask.client ask.op).0.fds ask.client (fd_told ask.op reply) desc
   pub go_on : FilesGoOn t (posix t ask.client ask.op).0 fs fs'

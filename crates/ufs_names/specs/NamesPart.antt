@@ -78,7 +78,7 @@ pub record AreInodesOf (tree : NameTable) (held : Holdings) : Type 0 where
   pub own : (i f : ℕ) → file_at tree i ≡ Some f → (holding_of held f).inode ≡ i
 
 -- The part is that of the tree: joined with the descriptors of the clients and the bytes of the files it is the tree.
-pub record IsPartOf (n : NamesPart) (t : PosixTree) : Type 0 where
+pub record IsNamesPart (n : NamesPart) (t : PosixTree) : Type 0 where
   pub tree : IsTree t
   pub paths : Stands (node_at n.tree) t.paths
   pub once : IsNamedOnce t.paths

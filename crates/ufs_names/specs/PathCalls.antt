@@ -23,7 +23,7 @@ use Rattle.ufs_model.specs.declared.data.Reply.{Reply}
 use Rattle.ufs_model.specs.declared.data.Reply.TheVariants as reply
 use Rattle.ufs_name_tree.specs.NameTable.{IsNameTable, file_at}
 use Rattle.ufs_names.specs.Calls.{IsAsked}
-use Rattle.ufs_names.specs.NamesPart.{NamesPart, IsPartOf}
+use Rattle.ufs_names.specs.NamesPart.{NamesPart, IsNamesPart}
 
 -- the path of a request on one path
 abbrev pub path_asked : Op → Option (List ℕ)
@@ -71,4 +71,4 @@ pub record IsAllowed (t : PosixTree) (ask : Ask) (n : NamesPart) (fs : Files) (n
 
 -- In each tree of the part a `rename` between paths of these names, whose texts aren't refused, is refused so.
 abbrev pub RefusesRename : NamesPart → List (List ℕ) → List (List ℕ) → Option Errno → Type 0
-RefusesRename n from to r = (t : PosixTree) (old new : List ℕ) → IsPartOf n t → text_refusal old ≡ None → text_refusal new ≡ None → from ≡ components old → to ≡ components new → rename_refusal t.paths old new ≡ r
+RefusesRename n from to r = (t : PosixTree) (old new : List ℕ) → IsNamesPart n t → text_refusal old ≡ None → text_refusal new ≡ None → from ≡ components old → to ≡ components new → rename_refusal t.paths old new ≡ r

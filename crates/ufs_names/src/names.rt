@@ -64,7 +64,7 @@ impl Names {
     ghost use Rattle.ufs_name_tree.specs.NameTable.{IsNameTable, node_of};
     ghost use Rattle.ufs_name_tree.specs.Notes.{GoesByNotes};
     ghost use Rattle.ufs_names.specs.Calls.{HaveInodes, IsAsked, IsOfNames, IsServed};
-    ghost use Rattle.ufs_names.specs.NamesPart.{IsPartOf};
+    ghost use Rattle.ufs_names.specs.NamesPart.{IsNamesPart};
     ghost use Rattle.ufs_names.specs.Space.{AreApart, HaveTheSame, IsCause};
     ghost use Rattle.ufs_names.specs.Steps.{KeepsSpace};
 
@@ -72,7 +72,7 @@ impl Names {
     pub fn new(alloc: Global, inodes: u32) -> Result<Names, Memory>
         requires some { 1 ≤ inodes }
         requires few { inodes < 65536 }
-        ensures part { IfOk result (λ n. IsPartOf n root_alone) }
+        ensures part { IfOk result (λ n. IsNamesPart n root_alone) }
         ensures inodes { IfOk result (λ n. length n.tree.dirs.dirs ≡ inodes + 1) }
         ensures free { IfOk result (λ n. n.tree.dirs.free ≡ set.from_list (blocks_from 2 (inodes + 1 - 2))) }
         ensures bare { IfOk result (λ n. (i : ℕ) → dir_at n.tree.dirs i ≡ no_dir) }
@@ -90,11 +90,11 @@ impl Names {
     /// one that isn't the last is a file (POSIX.1-2017, 4.13). It is what a walk from the root meets, so two paths have
     /// one inode only where their names are the same. Takes no memory.
     pub fn resolve(&self, path: &PathText) -> Result<Found, Errno>
-        ensures found { IfOk result (λ found. (t : PosixTree) → IsPartOf self.now t → map.get t.paths (whole_path path.now) ≡ Some (node_of self.now.tree found)) }
+        ensures found { IfOk result (λ found. (t : PosixTree) → IsNamesPart self.now t → map.get t.paths (whole_path path.now) ≡ Some (node_of self.now.tree found)) }
         ensures met { IfOk result (λ found. found_at self.now.tree.dirs path.now ≡ Some found) }
         ensures table { IsNameTable self.now.tree }
-        ensures passed { IfOk result (λ found. (t : PosixTree) → IsPartOf self.now t → walk_refusal_from t.paths [] path.now ≡ None) }
-        ensures refused { IfErr result (λ e. (t : PosixTree) → IsPartOf self.now t
+        ensures passed { IfOk result (λ found. (t : PosixTree) → IsNamesPart self.now t → walk_refusal_from t.paths [] path.now ≡ None) }
+        ensures refused { IfErr result (λ e. (t : PosixTree) → IsNamesPart self.now t
             → first_of (walk_refusal_from t.paths [] path.now) (refused_if (is_none (map.get t.paths (whole_path path.now))) Enoent) ≡ Some e) }
     {
         // Each name may stand in a path.

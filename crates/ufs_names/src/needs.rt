@@ -22,7 +22,7 @@ impl Names {
     ghost use Rattle.ufs_model.specs.Touched.{touched_parts, reached};
     ghost use Rattle.ufs_model.specs.declared.data.Op.TheVariants as op;
     ghost use Rattle.ufs_names.specs.Calls.{IsOfNames, AreGathered};
-    ghost use Rattle.ufs_names.specs.NamesPart.{IsPartOf, holding_of};
+    ghost use Rattle.ufs_names.specs.NamesPart.{IsNamesPart, holding_of};
     ghost use Rattle.ufs_names.specs.Needs.{AreFilesIn, AreHere, IsFileIn, needed_found, unkept_closed, unkept_unnamed};
     ghost use Rattle.ufs_names.specs.PathCalls.{path_asked};
 
@@ -31,8 +31,8 @@ impl Names {
     pub fn needs(&self, ask: &Ask) -> Result<FileList, Memory>
         requires client { ask.now.client < 16 }
         requires kind { IsOfNames ask.now }
-        ensures needed { IfOk result (λ files. (t : PosixTree) → IsPartOf self.now t → IsAsk t ask.now → AreFilesIn t (touched_parts t ask.now.client ask.now.op) files) }
-        ensures gathered { IfOk result (λ files. (t : PosixTree) (fs : Files) → IsPartOf self.now t → IsAsk t ask.now → AreHere files fs → AreGathered t ask.now fs) }
+        ensures needed { IfOk result (λ files. (t : PosixTree) → IsNamesPart self.now t → IsAsk t ask.now → AreFilesIn t (touched_parts t ask.now.client ask.now.op) files) }
+        ensures gathered { IfOk result (λ files. (t : PosixTree) (fs : Files) → IsNamesPart self.now t → IsAsk t ask.now → AreHere files fs → AreGathered t ask.now fs) }
         ensures rising { IfOk result (λ files. IsStrictlyIncreasing files) }
         // all for a `sync`, and else one at most
         ensures few { ask.now.op ≢ op.Sync → IfOk result (λ files. length files ≤ 1) }
@@ -51,7 +51,7 @@ impl Names {
         requires client { ask.now.client < 16 }
         requires kind { IsOfNames ask.now }
         requires one { ask.now.op ≢ op.Sync }
-        ensures { IfOk result (λ file. (t : PosixTree) → IsPartOf self.now t → IsAsk t ask.now → own_refusal t ask.now.client ask.now.op ≡ None → IsFileIn t (reached t ask.now.client ask.now.op) file) }
+        ensures { IfOk result (λ file. (t : PosixTree) → IsNamesPart self.now t → IsAsk t ask.now → own_refusal t ask.now.client ask.now.op ≡ None → IsFileIn t (reached t ask.now.client ask.now.op) file) }
     {
         match &ask.op {
             Op::OpenFile { path, .. } | Op::Unlink { path } | Op::Stat { path } => {
@@ -70,7 +70,7 @@ impl Names {
     // Of a request on one path.
     fn need_at(&self, ask: &Ask, path: &PathText) -> Option<u32>
         requires path { option_map components (path_asked ask.now.op) ≡ Some path.now }
-        ensures { (t : PosixTree) → IsPartOf self.now t → own_refusal t ask.now.client ask.now.op ≡ None → IsFileIn t (reached t ask.now.client ask.now.op) result }
+        ensures { (t : PosixTree) → IsNamesPart self.now t → own_refusal t ask.now.client ask.now.op ≡ None → IsFileIn t (reached t ask.now.client ask.now.op) result }
     {
         let Ok(look) = self.tree.look(path) else {
             return None;
@@ -97,7 +97,7 @@ impl Names {
 
     // The file at the new name goes. A name onto itself changes nothing.
     fn need_of_rename(&self, from: &PathText, to: &PathText) -> Option<u32>
-        ensures { (t : PosixTree) (client : ℕ) (a b : List ℕ) → IsPartOf self.now t → own_refusal t client (op.Rename a b) ≡ None → from.now ≡ components a → to.now ≡ components b → IsFileIn t (reached t client (op.Rename a b)) result }
+        ensures { (t : PosixTree) (client : ℕ) (a b : List ℕ) → IsNamesPart self.now t → own_refusal t client (op.Rename a b) ≡ None → from.now ≡ components a → to.now ≡ components b → IsFileIn t (reached t client (op.Rename a b)) result }
     {
         let Ok(step) = self.rename_refusal(from, to) else {
             return None;

@@ -32,7 +32,7 @@ impl Names {
     ghost use Rattle.ufs_name_tree.specs.Nodes.{SetsNode};
     ghost use Rattle.ufs_name_tree.specs.Notes.{GoesByNotes};
     ghost use Rattle.ufs_names.specs.Calls.{IsAsked, IsServed};
-    ghost use Rattle.ufs_names.specs.NamesPart.{IsPartOf, AreInodesOf};
+    ghost use Rattle.ufs_names.specs.NamesPart.{IsNamesPart, AreInodesOf};
     ghost use Rattle.ufs_names.specs.PathCalls.{path_asked, IsAllowed, IsStat, IsList};
     ghost use Rattle.ufs_names.specs.Space.{AreApart, IsCause};
     ghost use Rattle.ufs_names.specs.Steps.{GoesHere, KeepsSpace, Removes};

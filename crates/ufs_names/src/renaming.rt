@@ -35,7 +35,7 @@ impl Names {
     ghost use Rattle.ufs_name_tree.specs.Nodes.{MovesNodes};
     ghost use Rattle.ufs_name_tree.specs.Notes.{GoesByNotes};
     ghost use Rattle.ufs_names.specs.Calls.{IsAsked, IsServed};
-    ghost use Rattle.ufs_names.specs.NamesPart.{IsPartOf, AreInodesOf};
+    ghost use Rattle.ufs_names.specs.NamesPart.{IsNamesPart, AreInodesOf};
     ghost use Rattle.ufs_names.specs.PathCalls.{RefusesRename};
     ghost use Rattle.ufs_names.specs.Space.{AreApart, IsCause};
     ghost use Rattle.ufs_names.specs.Steps.{GoesHere, KeepsSpace, LosesName};
@@ -114,7 +114,7 @@ impl Names {
         requires table { IsNameTable self.now.tree }
         requires old { Some old ≡ found_at self.now.tree.dirs from.now }
         requires new { new ≡ found_at self.now.tree.dirs to.now }
-        ensures { (t : PosixTree) (a b : List ℕ) → IsPartOf self.now t → text_refusal a ≡ None → text_refusal b ≡ None → from.now ≡ components a → to.now ≡ components b → result ≡ refusals.replace_refusal t.paths (whole_path from.now) (whole_path to.now) }
+        ensures { (t : PosixTree) (a b : List ℕ) → IsNamesPart self.now t → text_refusal a ≡ None → text_refusal b ≡ None → from.now ≡ components a → to.now ≡ components b → result ≡ refusals.replace_refusal t.paths (whole_path from.now) (whole_path to.now) }
     {
         replace_refusal(
             self.tree.node(Some(old)),

@@ -25,7 +25,7 @@ use Rattle.ufs_model.proofs.Facts.Lookups.{passes, from_passes}
 use Rattle.ufs_model.proofs.Facts.Orders.{path_total, path_same}
 use Rattle.ufs_ledger.specs.Kept.{path_node_of}
 use Rattle.ufs_name_tree.specs.NameTable.{file_at}
-use Rattle.ufs_names.specs.NamesPart.{NamesPart, IsNamedOnce, IsPartOf, AreInodesOf, unheld, holding_of, is_linked, is_holder}
+use Rattle.ufs_names.specs.NamesPart.{NamesPart, IsNamedOnce, IsNamesPart, AreInodesOf, unheld, holding_of, is_linked, is_holder}
 use Rattle.ufs_names.specs.declared.holding.Holding.{Holding}
 use Rattle.ufs_names_image.specs.Numbered.{HasImage}
 use Rattle.ufs_names_image.specs.Parts.{closed_file, IsNamesOf}
@@ -110,7 +110,7 @@ module _ (sectors : ℕ) (image : Image) (v : Volume) (c : Catalog) (t : PosixTr
     own = λ i f e. ap (λ o. (unwrap_or o unheld).inode) (of.closed.each i f e);
   }
 
-  pub is_part : IsPartOf n t
+  pub is_part : IsNamesPart n t
   is_part = record {
     tree = tree;
     paths = names_stand sectors image v c n.tree t is tree has once of.dirs of.numbers;

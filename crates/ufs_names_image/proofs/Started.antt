@@ -27,7 +27,7 @@ use Rattle.ufs_path.specs.Names.{IsName}
 use Rattle.ufs_prefix.proofs.Facts.Mapped.{get-mapped}
 use Rattle.ufs_ledger.specs.Kept.{path_node_of, paths_of}
 use Rattle.ufs_dir_image.proofs.Tables.{dentry_name}
-use Rattle.ufs_names.specs.NamesPart.{NamesPart, IsPartOf}
+use Rattle.ufs_names.specs.NamesPart.{NamesPart, IsNamesPart}
 use Rattle.ufs_names.proofs.EntryLemmas.{allowed_name}
 use Rattle.ufs_names_image.specs.Numbered.{HasImage}
 use Rattle.ufs_names_image.specs.Parts.{IsNamesOf}
@@ -126,7 +126,7 @@ module _ (sectors : ℕ) (image : Image) (v : Volume) (c : Catalog) (is : IsVolu
   pub walked_is_tree : IsPathTree (paths_of tree)
   walked_is_tree = record { root_is_dir = is_dir_at [] 1 refl root_dir; whole = whole; parents = parents }
 
-  pub walked_part : (n : NamesPart) → IsNamesOf v.geometry c (image_start tree) n → IsPartOf n (image_start tree)
+  pub walked_part : (n : NamesPart) → IsNamesOf v.geometry c (image_start tree) n → IsNamesPart n (image_start tree)
   walked_part n of =
       is_part sectors image v c (image_start tree) n is (start_is_tree (paths_of tree) walked_is_tree) contents
       (named_once (image_start tree) (start_is_numbered (paths_of tree))) refl of
@@ -142,7 +142,7 @@ image_is_tree sectors image tree e =
     subst (λ t. IsPathTree (paths_of t)) (sym is.2) (walked_is_tree sectors image is.0 _ is.1)
 
 pub image_part : (sectors : ℕ) (image : Image) (tree : ImageTree) (v : Volume) (c : Catalog) (n : NamesPart) → opens sectors image ≡ Ok tree → IsVolumeOf sectors image v c
-    → IsNamesOf v.geometry c (image_start tree) n → IsPartOf n (image_start tree)
+    → IsNamesOf v.geometry c (image_start tree) n → IsNamesPart n (image_start tree)
 image_part sectors image tree v c n e is of =
     let same : from_entries (walked v) ≡ tree = let to = opens_to sectors image v c is in cc in
-    subst (λ t. IsPartOf n (image_start t)) same (walked_part sectors image v c is n (subst (λ t. IsNamesOf v.geometry c (image_start t) n) (sym same) of))
+    subst (λ t. IsNamesPart n (image_start t)) same (walked_part sectors image v c is n (subst (λ t. IsNamesOf v.geometry c (image_start t) n) (sym same) of))

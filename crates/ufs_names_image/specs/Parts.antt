@@ -11,7 +11,7 @@ use Rattle.ufs_image.specs.Volume.{Volume}
 use Rattle.ufs_model.specs.PosixTree.{PosixTree, IsTree}
 use Rattle.ufs_dir_image.specs.Tables.{IsTableOf}
 pub use Rattle.ufs_names.specs.Closed.{closed_file, AreClosed}
-use Rattle.ufs_names.specs.NamesPart.{NamesPart, IsNamedOnce, IsPartOf}
+use Rattle.ufs_names.specs.NamesPart.{NamesPart, IsNamedOnce, IsNamesPart}
 use Rattle.ufs_names_image.specs.Numbered.{HasImage, IsNumberedAs}
 
 -- The directories are the catalog's, and the numbers of files are the tree's.
@@ -24,4 +24,4 @@ pub record IsNamesOf (g : Geometry) (c : Catalog) (t : PosixTree) (n : NamesPart
 -- Where the image opens to the tree, and nothing is open in it, they are the tree's part.
 abbrev pub NamesAreParts : ℕ → Type 0
 NamesAreParts sectors = (image : Image) (v : Volume) (c : Catalog) (t : PosixTree) (n : NamesPart) → IsVolumeOf sectors image v c → IsTree t → HasImage t (from_entries (walked v)) → IsNamedOnce t.paths
-    → t.fds ≡ map.empty → IsNamesOf v.geometry c t n → IsPartOf n t
+    → t.fds ≡ map.empty → IsNamesOf v.geometry c t n → IsNamesPart n t

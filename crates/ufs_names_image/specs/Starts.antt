@@ -8,7 +8,7 @@ use Rattle.ufs_image.specs.Volume.{Volume}
 use Rattle.ufs_model.specs.PosixTree.{PosixTree}
 use Rattle.ufs_model.specs.Start.{IsPathTree, start_of}
 use Rattle.ufs_ledger.specs.Kept.{paths_of}
-use Rattle.ufs_names.specs.NamesPart.{NamesPart, IsPartOf}
+use Rattle.ufs_names.specs.NamesPart.{NamesPart, IsNamesPart}
 use Rattle.ufs_names_image.specs.Parts.{IsNamesOf}
 
 -- The paths of an image's tree form one: the root and each parent are directories, and each path is whole.
@@ -22,4 +22,4 @@ image_start tree = start_of (paths_of tree)
 -- The directories of an image's catalog, with those numbers, are that tree's part of the names.
 abbrev pub NamesArePartsOfStarts : ℕ → Type 0
 NamesArePartsOfStarts sectors = (image : Image) (tree : ImageTree) (v : Volume) (c : Catalog) (n : NamesPart) → opens sectors image ≡ Ok tree → IsVolumeOf sectors image v c
-    → IsNamesOf v.geometry c (image_start tree) n → IsPartOf n (image_start tree)
+    → IsNamesOf v.geometry c (image_start tree) n → IsNamesPart n (image_start tree)

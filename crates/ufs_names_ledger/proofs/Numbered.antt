@@ -13,7 +13,7 @@ use Rattle.ufs_dir_tree.specs.DirTable.{found_at}
 use Rattle.ufs_dir_tree.specs.declared.found.Found.{Found}
 use Rattle.ufs_name_log.specs.Numbers.{ArePathsOf, AreNumbersOf}
 use Rattle.ufs_name_tree.specs.NameTable.{IsNameTable, node_of, node_at}
-use Rattle.ufs_names.specs.NamesPart.{NamesPart, IsPartOf, unheld, holding_of}
+use Rattle.ufs_names.specs.NamesPart.{NamesPart, IsNamesPart, unheld, holding_of}
 use Rattle.ufs_names.specs.declared.holding.Holding.{Holding}
 use Rattle.ufs_names.proofs.FoundNames.{found_names}
 use Rattle.ufs_names_image.proofs.PathTexts.{whole_text, plain_pieces, pieces_plain}
@@ -22,7 +22,7 @@ use Rattle.ufs_names_ledger.specs.Numbers.{numbers_of}
 none_or_some : {A : Type 0} (a : A) (o : Option A) → o ≡ None → o ≡ Some a → ⊥
 none_or_some a o e f = let clash = sym e ∙ f in cc
 
-module _ (n : NamesPart) (t : PosixTree) (table : IsNameTable n.tree) (part : IsPartOf n t) where
+module _ (n : NamesPart) (t : PosixTree) (table : IsNameTable n.tree) (part : IsNamesPart n t) where
   -- names that no path has
   no_path : (names : List (List ℕ)) (x : Errno) → ArePieces names → components_refusal names ≡ Some x → map.get t.paths (path_text names) ≡ None
   no_path names x pieces refused = by (map.get t.paths (path_text names)) refl
@@ -56,7 +56,7 @@ module _ (n : NamesPart) (t : PosixTree) (table : IsNameTable n.tree) (part : Is
         (components path, plain_pieces (components path) (components_plain path), sym whole.spelled ∙ whole_text (components path));
   }
 
-pub have_numbers : (n : NamesPart) (t : PosixTree) → IsPartOf n t → AreNumbersOf n.tree (numbers_of n)
+pub have_numbers : (n : NamesPart) (t : PosixTree) → IsNamesPart n t → AreNumbersOf n.tree (numbers_of n)
 have_numbers n t part = record {
   file = λ inode file at. ap (λ (o : Option ℕ). unwrap_or o 0) at;
   inode = λ inode file at. held inode file (map.get n.held file) refl (part.inodes.live inode file at) (part.inodes.own inode file at);
@@ -66,7 +66,7 @@ have_numbers n t part = record {
     held inode file None e some own = let clash = ap is_some (sym e) in let is : is_some (map.get n.held file) ≡ true = some in absurd cc
     held inode file (Some h) e some own = ap (option_map (λ (x : Holding). x.inode)) e ∙ ap Some (ap (λ (x : Option Holding). (unwrap_or x unheld).inode) (sym e) ∙ own)
 
-pub unborn : (n : NamesPart) (t : PosixTree) → IsPartOf n t → (file : ℕ) → t.next ≤ file → (numbers_of n).inode file ≡ None
+pub unborn : (n : NamesPart) (t : PosixTree) → IsNamesPart n t → (file : ℕ) → t.next ≤ file → (numbers_of n).inode file ≡ None
 unborn n t part file above = by (map.get n.held file) refl
   where
     by : (o : Option Holding) → map.get n.held file ≡ o → option_map (λ (h : Holding). h.inode) (map.get n.held file) ≡ None

@@ -13,14 +13,14 @@ use Rattle.ufs_name_log.specs.Held.{HasState, MaySteps, HasSoundNames}
 use Rattle.ufs_name_log.specs.Laws.{AreOlder}
 use Rattle.ufs_name_log.specs.Files.{KeepsInode, MayGoOn}
 use Rattle.ufs_name_tree.specs.NameTable.{IsNameTable, file_at}
-use Rattle.ufs_names.specs.NamesPart.{NamesPart, IsPartOf}
+use Rattle.ufs_names.specs.NamesPart.{NamesPart, IsNamesPart}
 use Rattle.ufs_names_ledger.specs.Numbers.{numbers_of}
 
 -- The names are a tree's, and have the directories after the change, with a file's inode for each number.
 pub record AreNamesBehind (d : DirState) (n : NamesPart) (t : PosixTree) : Type 0 where
   pub dirs : d.table ≡ n.tree.dirs
   pub sound : IsNameTable n.tree
-  pub part : IsPartOf n t
+  pub part : IsNamesPart n t
   pub files : (inode file : ℕ) → file_at n.tree inode ≡ Some file → d.kinds inode ≡ 1
 
 -- The tree has the names after so many of their changes.

@@ -6,7 +6,7 @@ use Rattle.ufs_model.specs.PosixTree.{PosixTree}
 use Rattle.ufs_ledger.specs.Kept.{Numbers}
 use Rattle.ufs_name_log.specs.Numbers.{ArePathsOf, AreNumbersOf}
 use Rattle.ufs_name_tree.specs.NameTable.{IsNameTable, file_at}
-use Rattle.ufs_names.specs.NamesPart.{NamesPart, IsPartOf}
+use Rattle.ufs_names.specs.NamesPart.{NamesPart, IsNamesPart}
 use Rattle.ufs_names.specs.declared.holding.Holding.{Holding}
 
 -- the inode of each live file, and the file of each inode
@@ -15,12 +15,12 @@ numbers_of n = record { inode = λ file. option_map (λ (h : Holding). h.inode) 
 
 -- The names of a tree tell its paths,
 abbrev pub PartsTellPaths : Type 0
-PartsTellPaths = (n : NamesPart) (t : PosixTree) → IsNameTable n.tree → IsPartOf n t → ArePathsOf n.tree t.paths
+PartsTellPaths = (n : NamesPart) (t : PosixTree) → IsNameTable n.tree → IsNamesPart n t → ArePathsOf n.tree t.paths
 
 -- with these numbers,
 abbrev pub PartsHaveNumbers : Type 0
-PartsHaveNumbers = (n : NamesPart) (t : PosixTree) → IsPartOf n t → AreNumbersOf n.tree (numbers_of n)
+PartsHaveNumbers = (n : NamesPart) (t : PosixTree) → IsNamesPart n t → AreNumbersOf n.tree (numbers_of n)
 
 -- and a file that is still to be born has no inode.
 abbrev pub UnbornHaveNone : Type 0
-UnbornHaveNone = (n : NamesPart) (t : PosixTree) → IsPartOf n t → (file : ℕ) → t.next ≤ file → (numbers_of n).inode file ≡ None
+UnbornHaveNone = (n : NamesPart) (t : PosixTree) → IsNamesPart n t → (file : ℕ) → t.next ≤ file → (numbers_of n).inode file ≡ None

@@ -12,7 +12,7 @@ use Rattle.ufs_model.specs.PosixTree.{PosixTree}
 use Rattle.ufs_name_tree.specs.NameTable.{IsNameTable}
 use Rattle.ufs_name_tree.specs.Notes.{GoesByNotes}
 use Rattle.ufs_names.specs.Calls.{FilesGoOn, HaveInodes, no_bytes}
-use Rattle.ufs_names.specs.NamesPart.{IsPartOf}
+use Rattle.ufs_names.specs.NamesPart.{IsNamesPart}
 use Rattle.ufs_names.specs.Space.{AreApart, HaveTheSame}
 use Rattle.ufs_stored.specs.Parts.{Parts, durable_in}
 use Rattle.ufs_stored.specs.Stored.{ArePartsOf}
@@ -44,7 +44,7 @@ pub record HasGone (p next : Parts) (block : ℕ) : Type 0 where
 -- are fresh now; and what they and the files gave back is dropped, with all that a file had dropped which is no more.
 pub record IsNamesRequest (t u : PosixTree) (p next : Parts) (lent left : BlockSet) : Type 0 where
   pub before : ArePartsOf p t
-  pub after : IsPartOf next.names u
+  pub after : IsNamesPart next.names u
   pub files : AreFilesOf next.files u
   pub go_on : FilesGoOn t u p.files next.files
   pub inodes : HaveInodes next.names.held next.files

@@ -22,7 +22,7 @@ use Rattle.ufs_model.specs.declared.data.Reply.TheVariants as reply
 use Rattle.ufs_model.proofs.Facts.Allowed.{passed, some_there}
 use Rattle.ufs_model.proofs.Facts.Histories.{tree_after-push}
 use Rattle.ufs_names.proofs.FileRequestLemmas.{keeps_names}
-use Rattle.ufs_names.specs.NamesPart.{IsPartOf}
+use Rattle.ufs_names.specs.NamesPart.{IsNamesPart}
 use Rattle.ufs_prefix.specs.Changes.{asks_commit}
 use Rattle.ufs_prefix.specs.Steps.{is_ok}
 use Rattle.ufs_server.specs.Answered.{IsAnswered, stopped_in}
@@ -74,8 +74,8 @@ module _ (p : Parts) (t : PosixTree) (ask : Ask) (answer : Reply) (desc : Option
     here = parts.here;
   }
     where
-      names : ((e : Errno) × (posix t ask.client ask.op ≡ (t, reply.Refused e))) ⊎ ((is_own_seek ask.op ≡ true) × (own_refusal t ask.client ask.op ≡ None)) → IsPartOf p.names after
-      names (inl refused) = subst (λ (x : PosixTree × Reply). IsPartOf p.names x.0) (sym refused.1) parts.names
+      names : ((e : Errno) × (posix t ask.client ask.op ≡ (t, reply.Refused e))) ⊎ ((is_own_seek ask.op ≡ true) × (own_refusal t ask.client ask.op ≡ None)) → IsNamesPart p.names after
+      names (inl refused) = subst (λ (x : PosixTree × Reply). IsNamesPart p.names x.0) (sym refused.1) parts.names
       names (inr seek) = keeps_names p.names t ask parts.names asked (seek_on_file ask.op seek.0)
           (ap (λ (o : Option Desc). is_some (file_in o)) asked.desc ∙ seek_has_file t ask.client ask.op seek.0 seek.1)
 

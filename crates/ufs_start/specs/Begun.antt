@@ -16,7 +16,7 @@ use Rattle.ufs_layout.specs.Areas.{first_of_data, is_data_sector}
 use Rattle.ufs_load_image.specs.Loaded.{is_free_block}
 use Rattle.ufs_name_tree.specs.NameTable.{file_at}
 use Rattle.ufs_names.specs.Calls.{HaveInodes}
-use Rattle.ufs_names.specs.NamesPart.{IsPartOf}
+use Rattle.ufs_names.specs.NamesPart.{IsNamesPart}
 use Rattle.ufs_names.specs.Space.{AreApart}
 use Rattle.ufs_names_image.specs.Loaded.{AreRead}
 use Rattle.ufs_names_image.specs.Parts.{IsNamesOf}
@@ -44,7 +44,7 @@ pub record IsBegun (sectors : ℕ) (disk : Image) (s : Start) : Type 0 where
   pub sized : (sector : ℕ) → is_data_sector s.head.geometry sector ≡ true → length (image_under s.head disk sector) ≡ 512
   pub opened : opens sectors disk ≡ Ok (tree_under s.head disk)
   pub table : IsNamesOf s.head.geometry (catalog_under s.head disk) (image_start (tree_under s.head disk)) s.names
-  pub names : IsPartOf s.names (image_start (tree_under s.head disk))
+  pub names : IsNamesPart s.names (image_start (tree_under s.head disk))
   -- each directory that has a name is met
   pub reached : IsReached s.names.tree.dirs
   -- each file is one that the names tell

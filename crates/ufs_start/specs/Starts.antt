@@ -19,7 +19,7 @@ use Rattle.ufs_names_image.specs.Loaded.{AreRead, IsUntaken}
 use Rattle.ufs_names_image.specs.Numbered.{IsFileAt}
 use Rattle.ufs_dir_tree.specs.DirTable.{DirTable}
 use Rattle.ufs_dir_image.specs.Tables.{IsTableOf}
-use Rattle.ufs_names.specs.NamesPart.{NamesPart, IsPartOf}
+use Rattle.ufs_names.specs.NamesPart.{NamesPart, IsNamesPart}
 use Rattle.ufs_names_image.specs.Parts.{IsNamesOf}
 use Rattle.ufs_names_image.specs.Starts.{image_start}
 
@@ -62,7 +62,7 @@ AreDirsOf g f t = (image : Image) → IsUndamaged g image f → IsTableOf g (cat
 pub record AreStartNames (sectors : ℕ) (disk : Image) (g : Geometry) (image : Image) (n : NamesPart) : Type 0 where
   pub opened : opens sectors disk ≡ Ok (tree_in g image)
   pub names : IsNamesOf g (catalog_at g image) (image_start (tree_in g image)) n
-  pub part : IsPartOf n (image_start (tree_in g image))
+  pub part : IsNamesPart n (image_start (tree_in g image))
 
 -- ---- laws
 

@@ -14,7 +14,7 @@ ghost use Rattle.ufs_layout.specs.Areas.{first_of_data};
 ghost use Rattle.ufs_load_image.specs.Loaded.{is_free_block};
 ghost use Rattle.ufs_name_tree.specs.NameTable.{file_at};
 ghost use Rattle.ufs_names.specs.Calls.{HaveInodes};
-ghost use Rattle.ufs_names.specs.NamesPart.{IsPartOf};
+ghost use Rattle.ufs_names.specs.NamesPart.{IsNamesPart};
 ghost use Rattle.ufs_names.specs.Space.{AreApart};
 ghost use Rattle.ufs_names_image.specs.Loaded.{AreRead};
 ghost use Rattle.ufs_names_image.specs.Parts.{IsNamesOf};
@@ -96,7 +96,7 @@ pub fn start_of<D: Disk>(alloc: Global, disk: &mut D) -> Result<Start, StartFaul
     ensures standing { IsTrue D.tells → IfOk result (λ s. IsVolumeOf (D.size disk.old) (reads (D.moments disk.old)) (volume_under s.head (reads (D.moments disk.old))) (catalog_under s.head (reads (D.moments disk.old)))) }
     ensures opened { IsTrue D.tells → IfOk result (λ s. opens (D.size disk.old) (reads (D.moments disk.old)) ≡ Ok (tree_under s.head (reads (D.moments disk.old)))) }
     ensures table { IsTrue D.tells → IfOk result (λ s. IsNamesOf s.head.geometry (catalog_under s.head (reads (D.moments disk.old))) (image_start (tree_under s.head (reads (D.moments disk.old)))) s.names) }
-    ensures names { IsTrue D.tells → IfOk result (λ s. IsPartOf s.names (image_start (tree_under s.head (reads (D.moments disk.old))))) }
+    ensures names { IsTrue D.tells → IfOk result (λ s. IsNamesPart s.names (image_start (tree_under s.head (reads (D.moments disk.old))))) }
     ensures read { IsTrue D.tells → IfOk result (λ s. AreRead (image_under s.head (reads (D.moments disk.old))) (catalog_under s.head (reads (D.moments disk.old))) s.names s.files) }
     ensures files { IsTrue D.tells → IfOk result (λ s. AreFilesOf s.files (image_start (tree_under s.head (reads (D.moments disk.old))))) }
     ensures free { IsTrue D.tells → IfOk result (λ s. (block : ℕ) → set.contains s.free.free block ≡ is_free_block s.head.geometry (image_under s.head (reads (D.moments disk.old))) block) }

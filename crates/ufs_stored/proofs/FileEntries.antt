@@ -28,7 +28,7 @@ use Rattle.ufs_model.specs.declared.data.Reply.{Reply}
 use Rattle.ufs_model.specs.declared.data.Reply.TheVariants as reply
 use Rattle.ufs_names.specs.Calls.{HaveInodes}
 use Rattle.ufs_names.specs.Laws.{KeepsNames}
-use Rattle.ufs_names.specs.NamesPart.{IsPartOf}
+use Rattle.ufs_names.specs.NamesPart.{IsNamesPart}
 use Rattle.ufs_prefix.specs.Changes.{asks_commit}
 use Rattle.ufs_prefix.specs.StepLaws.{OthersAcknowledgeNothing}
 use Rattle.ufs_prefix.proofs.Facts.Histories.{tree_after-append}
@@ -58,7 +58,7 @@ served_goes t client request (reply.Refused x) e = refl
 -- ---- the parts
 
 module _ (p : Parts) (s : FileState) (x : DurableState) (pool : BlockSet) (old : map.get p.files s.file ≡ Some s) (number : x.file.file ≡ s.file) (inode : x.file.inode ≡ s.inode) (t t' : PosixTree) (parts : ArePartsOf p t)
-    (names : IsPartOf p.names t') (file : IsFileOf x.file t') (others : (f : ℕ) → f ≢ x.file.file → map.get t'.bytes f ≡ map.get t.bytes f) where
+    (names : IsNamesPart p.names t') (file : IsFileOf x.file t') (others : (f : ℕ) → f ≢ x.file.file → map.get t'.bytes f ≡ map.get t.bytes f) where
   abbrev q : Parts
   q = with_file x pool p
 

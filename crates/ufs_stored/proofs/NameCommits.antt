@@ -43,7 +43,7 @@ use Rattle.ufs_name_log.proofs.Covers.{covers_table}
 use Rattle.ufs_name_log.proofs.Forms.{form_here}
 use Rattle.ufs_name_tree.specs.NameTable.{IsNameTable, file_at}
 use Rattle.ufs_name_tree.specs.Notes.{is_touched}
-use Rattle.ufs_names.specs.NamesPart.{IsPartOf}
+use Rattle.ufs_names.specs.NamesPart.{IsNamesPart}
 use Rattle.ufs_names.specs.declared.holding.Holding.{Holding}
 use Rattle.ufs_names_ledger.specs.Going.{NamesMayGoOn}
 use Rattle.ufs_names_ledger.specs.Numbers.{numbers_of}

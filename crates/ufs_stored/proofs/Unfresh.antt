@@ -8,7 +8,7 @@ use Rattle.ufs_layout.specs.DentryForm.{DentryForm}
 use Rattle.ufs_layout.specs.declared.geometry.Geometry.{Geometry}
 use Rattle.ufs_model.specs.PosixTree.{PosixTree}
 use Rattle.ufs_name_log.specs.Held.{HasName, HasSoundNames}
-use Rattle.ufs_names.specs.NamesPart.{IsPartOf}
+use Rattle.ufs_names.specs.NamesPart.{IsNamesPart}
 use Rattle.ufs_stored.specs.Laws.{with_names_committed}
 use Rattle.ufs_stored.specs.Parts.{NamesOwn, OneFile, Owner, Owns, Parts, TheNames, ThePool, Unassigned}
 
@@ -27,7 +27,7 @@ module _ (p : Parts) (u : BlockSet) where
   before Unassigned b owns = owns
   before TheNames b owns = names_before b owns
 
-pub part_committed : (p : Parts) (t : PosixTree) → IsPartOf p.names t → IsPartOf (with_names_committed p).names t
+pub part_committed : (p : Parts) (t : PosixTree) → IsNamesPart p.names t → IsNamesPart (with_names_committed p).names t
 part_committed p t part = record {
   tree = part.tree;
   paths = part.paths;

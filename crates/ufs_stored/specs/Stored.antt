@@ -24,7 +24,7 @@ use Rattle.ufs_dir_tree.specs.Steps.{DirState, Step, after_all}
 use Rattle.ufs_name_log.specs.Steps.{records_of}
 use Rattle.ufs_name_tree.specs.Notes.{AreKindsOf, is_touched}
 use Rattle.ufs_names.specs.Calls.{HaveInodes}
-use Rattle.ufs_names.specs.NamesPart.{IsPartOf, NamesPart}
+use Rattle.ufs_names.specs.NamesPart.{IsNamesPart, NamesPart}
 use Rattle.ufs_names_ledger.specs.Numbers.{numbers_of}
 use Rattle.ufs_prefix.specs.Changes.{changes_of, names_after}
 use Rattle.ufs_durable.specs.Committing.{HasOwnBlocks}
@@ -109,7 +109,7 @@ pub record AreSpaced (l : Ledger) (unassigned : BlockSet) (numbers : Numbers) (p
 
 -- Names and files are those of the tree, each file with the inode that the names tell, and each live file is here.
 pub record ArePartsOf (p : Parts) (t : PosixTree) : Type 0 where
-  pub names : IsPartOf p.names t
+  pub names : IsNamesPart p.names t
   pub files : AreFilesOf p.files t
   pub inodes : HaveInodes p.names.held p.files
   pub here : (file : ℕ) → IsSome (map.get p.names.held file) → IsSome (map.get p.files file)

@@ -8,7 +8,7 @@ use Rattle.ufs_model.specs.Asks.{IsAsk}
 use Rattle.ufs_model.specs.PosixTree.{PosixTree}
 use Rattle.ufs_model.specs.declared.data.Op.{Op}
 use Rattle.ufs_model.specs.declared.data.Op.TheVariants as op
-use Rattle.ufs_names.specs.NamesPart.{IsPartOf}
+use Rattle.ufs_names.specs.NamesPart.{IsNamesPart}
 use Rattle.ufs_on_disk.specs.Syncs.{TellsTheSame}
 use Rattle.ufs_prefix.specs.Changes.{asks_commit}
 use Rattle.ufs_stored.specs.Parts.{Commits, Parts}
@@ -22,13 +22,13 @@ no_sync request unsynced is = let clash : true ≡ false = sym (ap asks_commit i
 
 pub returns-in_default-clause-alone : goal.returns-in_default-clause-alone
 returns-in_default-clause-alone c t parts asked f is here =
-    let part = subst (λ (p : Parts). IsPartOf p.names t) (sym c.self.view_is) parts.names in
+    let part = subst (λ (p : Parts). IsNamesPart p.names t) (sym c.self.view_is) parts.names in
     let none : slice_get c.in_ok-needed.needed 0 ≡ None = sym (c.in_default.ensures.value ∙ ap (λ (xs : List ℕ). slice_get xs 0) c.as_slice.ensures) in
     absurd (none_in c.in_ok-needed.needed f none ((c.in_ok-needed.ensures.needed t part asked f).1 (is, here_live c.args.self.now t parts f here)))
 
 pub returns-clause-alone : goal.returns-clause-alone
 returns-clause-alone c t parts asked f is here =
-    let part = subst (λ (p : Parts). IsPartOf p.names t) (sym c.self.view_is) parts.names in
+    let part = subst (λ (p : Parts). IsNamesPart p.names t) (sym c.self.view_is) parts.names in
     let some : slice_get c.in_ok-needed.needed 0 ≡ Some c.in-Some.file.now = sym (c.in-Some.ensures.value ∙ ap (λ (xs : List ℕ). slice_get xs 0) c.as_slice.ensures) in
     ap Some (only_one c.in_ok-needed.needed c.in-Some.file.now f (c.in_ok-needed.ensures.few (no_sync c.args.ask.now.op c.requires.unsynced)) some
     ((c.in_ok-needed.ensures.needed t part asked f).1 (is, here_live c.args.self.now t parts f here)))
