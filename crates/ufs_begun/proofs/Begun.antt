@@ -27,7 +27,7 @@ use Rattle.ufs_ledger.specs.Kept.{Counts, Numbers}
 use Rattle.ufs_ledger.specs.Ledger.{Ledger}
 use Rattle.ufs_model.specs.PosixTree.{PosixTree}
 use Rattle.ufs_model.proofs.Facts.Lookups.{same_some}
-use Rattle.ufs_ledger.proofs.Heading.{none_committed}
+use Rattle.ufs_ledger.proofs.SuperblockPut.{none_committed}
 use Rattle.ufs_name_log.specs.Laws.{SoundHasState, SpelledHaveSlots}
 use Rattle.ufs_name_log.specs.Numbers.{NamesNumberPaths}
 use Rattle.ufs_name_tree.specs.NameTable.{file_at}
@@ -46,19 +46,19 @@ use Rattle.ufs_begun.proofs.Facts.{Begins, file_by, some_is}
 use Rattle.ufs_begun.proofs.Kept as kept
 use Rattle.ufs_begun.proofs.Owned as owned
 
-module _ (sectors : ℕ) (disk : Image) (head : Super) (n : NamesPart) (files : Files) (free orphaned : BlockSet) (image : Image) (b : Begins sectors disk head n files free orphaned image (geometry_of head))
-    (state : SoundHasState (geometry_of head)) (slots : SpelledHaveSlots (geometry_of head)) (number_paths : NamesNumberPaths (geometry_of head)) (tells : PartsTellPaths) (have : PartsHaveNumbers) (unborn : UnbornHaveNone) (whole : IsImageOf sectors image) where
+module _ (sectors : ℕ) (disk : Image) (superblock : Super) (n : NamesPart) (files : Files) (free orphaned : BlockSet) (image : Image) (b : Begins sectors disk superblock n files free orphaned image (geometry_of superblock))
+    (state : SoundHasState (geometry_of superblock)) (slots : SpelledHaveSlots (geometry_of superblock)) (number_paths : NamesNumberPaths (geometry_of superblock)) (tells : PartsTellPaths) (have : PartsHaveNumbers) (unborn : UnbornHaveNone) (whole : IsImageOf sectors image) where
   abbrev g : Geometry
-  g = geometry_of head
+  g = geometry_of superblock
 
   abbrev t : PosixTree
-  t = start_in (record { head = head; geometry = g; image = image })
+  t = start_in (record { superblock = superblock; geometry = g; image = image })
 
   abbrev p : Parts
   p = begun_parts n files orphaned
 
   abbrev l : Ledger
-  l = opening_ledger (in_use head) image
+  l = opening_ledger (in_use superblock) image
 
   abbrev m : Numbers
   m = numbers_of n
@@ -76,11 +76,11 @@ module _ (sectors : ℕ) (disk : Image) (head : Super) (n : NamesPart) (files : 
 
   names : ((block : ℕ) → set.contains orphaned block ≡ true → ⊥) → AreNamesNoted l m [] p.names
   names none =
-      let kinds = facts.kinds sectors disk head n files free orphaned image b in
-      let sound = kept.sound_names sectors disk head n files free orphaned image b state slots number_paths tells have unborn whole in
-      let dirs = kept.has_dirs sectors disk head n files free orphaned image b state slots number_paths tells have unborn whole in
+      let kinds = facts.kinds sectors disk superblock n files free orphaned image b in
+      let sound = kept.sound_names sectors disk superblock n files free orphaned image b state slots number_paths tells have unborn whole in
+      let dirs = kept.has_dirs sectors disk superblock n files free orphaned image b state slots number_paths tells have unborn whole in
       record {
-        committed = kept.dirs sectors disk head n files free orphaned image b state slots number_paths tells have unborn whole;
+        committed = kept.dirs sectors disk superblock n files free orphaned image b state slots number_paths tells have unborn whole;
         steps = [];
         has = record { forms = dirs.forms; table = dirs.table; kinds = dirs.kinds; sized = dirs.sized; zeroed = dirs.zeroed };
         noted = refl;
@@ -94,14 +94,14 @@ module _ (sectors : ℕ) (disk : Image) (head : Super) (n : NamesPart) (files : 
           inodes_once = λ dir other q r d e at too. sound.inodes_once dir other q r d e (record { in_range = at.in_range; there = at.there; named = at.named }) (record { in_range = too.in_range; there = too.there; named = too.named });
         };
         live = λ file there. inl (refl, λ inode at. refl);
-        known = owned.known_block sectors disk head n files free orphaned image b none;
+        known = owned.known_block sectors disk superblock n files free orphaned image b none;
       }
 
   counted : AreCounted t [] k
   counted = record {
     born = λ file there. by file (map.get n.held file) refl there;
     alone = λ file other inode at too.
-        same_some other file (sym (kept.number_at sectors disk head n files free orphaned image b other inode too) ∙ kept.number_at sectors disk head n files free orphaned image b file inode at);
+        same_some other file (sym (kept.number_at sectors disk superblock n files free orphaned image b other inode too) ∙ kept.number_at sectors disk superblock n files free orphaned image b file inode at);
     made = λ file. omega arith;
   }
     where
@@ -113,28 +113,28 @@ module _ (sectors : ℕ) (disk : Image) (head : Super) (n : NamesPart) (files : 
   stored none = record {
     tree = b.opened.names.tree;
     legal = record { entries = tt; faults = tt };
-    kept = kept.kept sectors disk head n files free orphaned image b state slots number_paths tells have unborn whole;
+    kept = kept.kept sectors disk superblock n files free orphaned image b state slots number_paths tells have unborn whole;
     parts = parts;
     names = inr (names none);
     counted = counted;
-    each = λ file f at. owned.file_whole sectors disk head n files free orphaned image b file f at whole;
-    spaced = owned.spaced sectors disk head n files free orphaned image b;
+    each = λ file f at. owned.file_whole sectors disk superblock n files free orphaned image b file f at whole;
+    spaced = owned.spaced sectors disk superblock n files free orphaned image b;
   }
 
 -- ---- of an image
 
 module _ (sectors : ℕ) (disk : Image) (v : Volume) (n : NamesPart) (files : Files) (free orphaned : BlockSet) (is : IsOpened sectors disk v n files free) (are : AreOrphaned v n orphaned) where
-  same : v.geometry ≡ geometry_of v.head
-  same = let is = taken sectors disk v is.standing.taken in ap (λ (v : Volume). v.geometry) is.same ∙ ap geometry_of (sym (ap (λ (v : Volume). v.head) is.same))
+  same : v.geometry ≡ geometry_of v.superblock
+  same = let is = taken sectors disk v is.standing.taken in ap (λ (v : Volume). v.geometry) is.same ∙ ap geometry_of (sym (ap (λ (v : Volume). v.superblock) is.same))
 
-  begins : Begins sectors disk v.head n files free orphaned v.image (geometry_of v.head)
-  begins = subst (Begins sectors disk v.head n files free orphaned v.image) same (record { opened = is; orphans = are })
+  begins : Begins sectors disk v.superblock n files free orphaned v.image (geometry_of v.superblock)
+  begins = subst (Begins sectors disk v.superblock n files free orphaned v.image) same (record { opened = is; orphans = are })
 
   pub begins_sound : IsSoundServer v.geometry free (begun_parts n files orphaned)
-  begins_sound = subst (λ (g : Geometry). IsSoundServer g free (begun_parts n files orphaned)) (sym same) (owned.sound sectors disk v.head n files free orphaned v.image begins)
+  begins_sound = subst (λ (g : Geometry). IsSoundServer g free (begun_parts n files orphaned)) (sym same) (owned.sound sectors disk v.superblock n files free orphaned v.image begins)
 
-  module _ (state : SoundHasState v.geometry) (slots : SpelledHaveSlots v.geometry) (number_paths : NamesNumberPaths v.geometry) (tells : PartsTellPaths) (have : PartsHaveNumbers) (unborn : UnbornHaveNone) (whole : IsImageOf sectors disk) (earlier : HasEarlier v.geometry v.head.epoch disk) where
-    free_from : IsFreeFrom v.geometry v.head.epoch 0 disk
+  module _ (state : SoundHasState v.geometry) (slots : SpelledHaveSlots v.geometry) (number_paths : NamesNumberPaths v.geometry) (tells : PartsTellPaths) (have : PartsHaveNumbers) (unborn : UnbornHaveNone) (whole : IsImageOf sectors disk) (earlier : HasEarlier v.geometry v.superblock.epoch disk) where
+    free_from : IsFreeFrom v.geometry v.superblock.epoch 0 disk
     free_from place from under = let less = earlier place under in grind (arith, nat_tests, less)
 
     -- nothing is folded
@@ -142,30 +142,30 @@ module _ (sectors : ℕ) (disk : Image) (v : Volume) (n : NamesPart) (files : Fi
     unfolded =
         let is = taken sectors disk v is.standing.taken in
         ap (λ (v : Volume). v.image) is.same
-        ∙ ap (λ (h : Super). folded (geometry_of h) (committed (geometry_of h) h.epoch disk) disk) (sym (ap (λ (v : Volume). v.head) is.same))
-        ∙ ap (λ g. folded g (committed g v.head.epoch disk) disk) (sym same)
-        ∙ ap (λ log. folded v.geometry log disk) (none_committed v.geometry v.head.epoch disk free_from)
+        ∙ ap (λ (h : Super). folded (geometry_of h) (committed (geometry_of h) h.epoch disk) disk) (sym (ap (λ (v : Volume). v.superblock) is.same))
+        ∙ ap (λ g. folded g (committed g v.superblock.epoch disk) disk) (sym same)
+        ∙ ap (λ log. folded v.geometry log disk) (none_committed v.geometry v.superblock.epoch disk free_from)
 
-    pub begins_stored : ((block : ℕ) → set.contains orphaned block ≡ true → ⊥) → IsStored (opening_ledger (in_use v.head) disk) free (start_in v) [] (begun_counts n) (begun_parts n files orphaned)
+    pub begins_stored : ((block : ℕ) → set.contains orphaned block ≡ true → ⊥) → IsStored (opening_ledger (in_use v.superblock) disk) free (start_in v) [] (begun_counts n) (begun_parts n files orphaned)
     begins_stored none =
-        subst (λ (x : Image). IsStored (opening_ledger (in_use v.head) x) free (start_in v) [] (begun_counts n) (begun_parts n files orphaned)) unfolded
-        (subst (λ (g : Geometry). IsStored (opening_ledger (in_use v.head) v.image) free (start_in (record { head = v.head; geometry = g; image = v.image })) [] (begun_counts n) (begun_parts n files orphaned)) (sym same)
-        (stored sectors disk v.head n files free orphaned v.image begins (subst SoundHasState same state) (subst SpelledHaveSlots same slots) (subst NamesNumberPaths same number_paths) tells have unborn (subst (IsImageOf sectors) (sym unfolded) whole) none))
+        subst (λ (x : Image). IsStored (opening_ledger (in_use v.superblock) x) free (start_in v) [] (begun_counts n) (begun_parts n files orphaned)) unfolded
+        (subst (λ (g : Geometry). IsStored (opening_ledger (in_use v.superblock) v.image) free (start_in (record { superblock = v.superblock; geometry = g; image = v.image })) [] (begun_counts n) (begun_parts n files orphaned)) (sym same)
+        (stored sectors disk v.superblock n files free orphaned v.image begins (subst SoundHasState same state) (subst SpelledHaveSlots same slots) (subst NamesNumberPaths same number_paths) tells have unborn (subst (IsImageOf sectors) (sym unfolded) whole) none))
 
 none_in : (block : ℕ) → set.contains (set.empty {R = nat_cmp}) block ≡ true → ⊥
 none_in block there = (let clash : false ≡ true = sym (has-empty block) ∙ there in cc)
 
 pub begins_on_disk : (g : Geometry) → SoundHasState g → SpelledHaveSlots g → NamesNumberPaths g → PartsTellPaths → PartsHaveNumbers → UnbornHaveNone → BeginsOnDisk g
 begins_on_disk g state slots number_paths tells have unborn sectors disk v n files store geometry whole mountable has formed is are =
-    let at_head = same sectors (seen disk) v n files store.unassigned.free set.empty is are in
+    let at_superblock = same sectors (seen disk) v n files store.unassigned.free set.empty is are in
     record {
-      ledger = opening_ledger (in_use v.head) (seen disk);
+      ledger = opening_ledger (in_use v.superblock) (seen disk);
       counts = begun_counts n;
       has = has;
-      formed = sym at_head ∙ sym formed;
+      formed = sym at_superblock ∙ sym formed;
       stored = begins_stored sectors (seen disk) v n files store.unassigned.free set.empty is are
           (subst SoundHasState (sym geometry) state) (subst SpelledHaveSlots (sym geometry) slots) (subst NamesNumberPaths (sym geometry) number_paths) tells have unborn
-          (whole (seen disk) (seen_is_image disk)) (subst (λ (g : Geometry). HasEarlier g v.head.epoch (seen disk)) (sym at_head) mountable.earlier) none_in;
+          (whole (seen disk) (seen_is_image disk)) (subst (λ (g : Geometry). HasEarlier g v.superblock.epoch (seen disk)) (sym at_superblock) mountable.earlier) none_in;
     }
 
 pub begins_there : (g : Geometry) → SoundHasState g → SpelledHaveSlots g → NamesNumberPaths g → PartsTellPaths → PartsHaveNumbers → UnbornHaveNone → BeginsStored g

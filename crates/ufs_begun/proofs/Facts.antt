@@ -41,9 +41,9 @@ use Rattle.ufs_prefix.proofs.Facts.Mapped.{get-mapped}
 use Rattle.ufs_begun.specs.Parts.{AreOrphaned, IsOpened, start_in}
 
 -- what is opened, by its parts
-pub record Begins (sectors : ℕ) (disk : Image) (head : Super) (n : NamesPart) (files : Files) (free orphaned : BlockSet) (image : Image) (g : Geometry) : Type 0 where
-  pub opened : IsOpened sectors disk (record { head = head; geometry = g; image = image }) n files free
-  pub orphans : AreOrphaned (record { head = head; geometry = g; image = image }) n orphaned
+pub record Begins (sectors : ℕ) (disk : Image) (superblock : Super) (n : NamesPart) (files : Files) (free orphaned : BlockSet) (image : Image) (g : Geometry) : Type 0 where
+  pub opened : IsOpened sectors disk (record { superblock = superblock; geometry = g; image = image }) n files free
+  pub orphans : AreOrphaned (record { superblock = superblock; geometry = g; image = image }) n orphaned
 
 pub some_is : {X : Type 0} (o : Option X) → IsSome o → (x : X) × (o ≡ Some x)
 some_is None is = absurd cc
@@ -75,12 +75,12 @@ file_by g image c is i place block at off = one_left (c.forms i).kind (few_kinds
         let clash = sym (ap (λ (xs : List ℕ). slice_get xs place) bare) ∙ at.there in
         cc
 
-module _ (sectors : ℕ) (disk : Image) (head : Super) (n : NamesPart) (files : Files) (free orphaned : BlockSet) (image : Image) (b : Begins sectors disk head n files free orphaned image (geometry_of head)) where
+module _ (sectors : ℕ) (disk : Image) (superblock : Super) (n : NamesPart) (files : Files) (free orphaned : BlockSet) (image : Image) (b : Begins sectors disk superblock n files free orphaned image (geometry_of superblock)) where
   abbrev pub g : Geometry
-  g = geometry_of head
+  g = geometry_of superblock
 
   abbrev pub v : Volume
-  v = record { head = head; geometry = g; image = image }
+  v = record { superblock = superblock; geometry = g; image = image }
 
   abbrev pub c : Catalog
   c = catalog_at g image

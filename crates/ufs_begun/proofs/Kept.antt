@@ -47,21 +47,21 @@ use Rattle.ufs_begun.specs.Parts.{start_in}
 use Rattle.ufs_begun.proofs.Facts as facts
 use Rattle.ufs_begun.proofs.Facts.{Begins, some_is}
 
-module _ (sectors : ℕ) (disk : Image) (head : Super) (n : NamesPart) (files : Files) (free orphaned : BlockSet) (image : Image) (b : Begins sectors disk head n files free orphaned image (geometry_of head)) where
+module _ (sectors : ℕ) (disk : Image) (superblock : Super) (n : NamesPart) (files : Files) (free orphaned : BlockSet) (image : Image) (b : Begins sectors disk superblock n files free orphaned image (geometry_of superblock)) where
   abbrev g : Geometry
-  g = geometry_of head
+  g = geometry_of superblock
 
   abbrev c : Catalog
   c = catalog_at g image
 
   abbrev t : PosixTree
-  t = start_in (record { head = head; geometry = g; image = image })
+  t = start_in (record { superblock = superblock; geometry = g; image = image })
 
   abbrev pub m : Numbers
   m = numbers_of n
 
   abbrev pub l : Ledger
-  l = opening_ledger (in_use head) image
+  l = opening_ledger (in_use superblock) image
 
   abbrev pub k : Counts
   k = record { names = 0; files = λ _. 0; numbers = m }
@@ -81,7 +81,7 @@ module _ (sectors : ℕ) (disk : Image) (head : Super) (n : NamesPart) (files : 
   pub hand_at : (inode file : ℕ) → file_at n.tree inode ≡ Some file → (s : FileState) × (map.get files file ≡ Some s) × (s.inode ≡ inode)
   hand_at inode file e =
       let at = some_is (map.get files file) (b.opened.here inode file e) in
-      (at.0, at.1, (facts.named sectors disk head n files free orphaned image b).once at.0.inode inode file (b.opened.read file at.0 at.1).inode e)
+      (at.0, at.1, (facts.named sectors disk superblock n files free orphaned image b).once at.0.inode inode file (b.opened.read file at.0 at.1).inode e)
 
   -- ---- blocks
 
@@ -96,18 +96,18 @@ module _ (sectors : ℕ) (disk : Image) (head : Super) (n : NamesPart) (files : 
         let at = place_of_in block (blocks_of (c.forms inode)) is in
         let lies = in_data inode at.0 block (record { in_range = inside; there = at.1 }) in
         let under = lies.under in
-        let room = (facts.formed sectors disk head n files free orphaned image b).1 in
+        let room = (facts.formed sectors disk superblock n files free orphaned image b).1 in
         block_length image sectors whole block (omega (arith, under, room))
 
     pub size_is : (inode : ℕ) → IsInode g inode → length (file_bytes image (c.forms inode)) ≡ (c.forms inode).size
-    size_is inode inside = sizes sectors image g c inode whole (facts.formed sectors disk head n files free orphaned image b).1 b.opened.standing.sound inside
+    size_is inode inside = sizes sectors image g c inode whole (facts.formed sectors disk superblock n files free orphaned image b).1 b.opened.standing.sound inside
 
   -- ---- the names
 
   module _ (state : SoundHasState g) (slots : SpelledHaveSlots g) (number_paths : NamesNumberPaths g) (tells : PartsTellPaths) (have : PartsHaveNumbers) (unborn : UnbornHaveNone) (whole : IsImageOf sectors image) where
     spelled : Spells g true (dir_blocks g c) image c
     spelled =
-        let formed = facts.formed sectors disk head n files free orphaned image b in
+        let formed = facts.formed sectors disk superblock n files free orphaned image b in
         spells g sectors image formed.0 formed.1 whole c (dir_blocks g c) b.opened.standing.catalog
         (λ block its.
         let of = of_dir g c block its in
@@ -131,7 +131,7 @@ module _ (sectors : ℕ) (disk : Image) (head : Super) (n : NamesPart) (files : 
 
     paths : IsNumberedBy c m t.paths
     paths =
-        let table = facts.named sectors disk head n files free orphaned image b in
+        let table = facts.named sectors disk superblock n files free orphaned image b in
         number_paths c dirs n.tree t.paths m has_dirs sound_names refl table (tells n t table b.opened.names) (have n t b.opened.names)
 
     -- ---- what a file shows
@@ -175,7 +175,7 @@ module _ (sectors : ℕ) (disk : Image) (head : Super) (n : NamesPart) (files : 
         let number = inode_of_named file at in
         let hand = hand_at number.0 file number.1 in
         subst (λ (o : Option ℕ). AlwaysShows l.blocks (shape_of c o) (bytes_of t.bytes file) [] 0) (sym (has_number number.0 file number.1))
-        (always number.0 (facts.inside sectors disk head n files free orphaned image b number.0 file number.1) (bytes_of t.bytes file)
+        (always number.0 (facts.inside sectors disk superblock n files free orphaned image b number.0 file number.1) (bytes_of t.bytes file)
         (bytes_are file hand.0 hand.1 ∙ ap (λ i. file_bytes image (c.forms i)) hand.2))
 
     shown_after : (count file : ℕ) → count ≤ length (name_changes t []) → IsNamed (names_after t [] count).paths file → AlwaysShows l.blocks (shape_of c (m.inode file)) (bytes_of t.bytes file) (changes_of file t []) 0
@@ -190,7 +190,7 @@ module _ (sectors : ℕ) (disk : Image) (head : Super) (n : NamesPart) (files : 
           paths = paths;
           inodes = λ file inode at.
               let e = number_at file inode at in
-              (facts.inside sectors disk head n files free orphaned image b inode file e, facts.is_file sectors disk head n files free orphaned image b inode file e);
+              (facts.inside sectors disk superblock n files free orphaned image b inode file e, facts.is_file sectors disk superblock n files free orphaned image b inode file e);
           unheld = λ inode place block has is. refl;
           shown = λ count file from made at. shown_after count file made at;
           fresh = λ file above. (refl, unborn n t b.opened.names file above);

@@ -53,9 +53,9 @@ unknown f = ap (λ (o : Option CommitState). state_of f (unwrap_or o (committed_
 held_is : (f : FileState) → blocks_held (durable_in map.empty f) ≡ runs.blocks_of f.extents
 held_is f = ap blocks_held (unknown f) ∙ append-nil (runs.blocks_of f.extents)
 
-module _ (sectors : ℕ) (disk : Image) (head : Super) (n : NamesPart) (files : Files) (free orphaned : BlockSet) (image : Image) (b : Begins sectors disk head n files free orphaned image (geometry_of head)) where
+module _ (sectors : ℕ) (disk : Image) (superblock : Super) (n : NamesPart) (files : Files) (free orphaned : BlockSet) (image : Image) (b : Begins sectors disk superblock n files free orphaned image (geometry_of superblock)) where
   abbrev g : Geometry
-  g = geometry_of head
+  g = geometry_of superblock
 
   abbrev c : Catalog
   c = catalog_at g image
@@ -86,8 +86,8 @@ module _ (sectors : ℕ) (disk : Image) (head : Super) (n : NamesPart) (files : 
       let at = place_of_block (runs.blocks_of s.extents) block there in (
         s.inode,
         at.0,
-        record { in_range = facts.inside sectors disk head n files free orphaned image b s.inode file r.inode; there = ap (λ (xs : List ℕ). slice_get xs at.0) (sym r.blocks) ∙ at.1 },
-        sym (ap (λ (x : Bool). owner_by x (file_at n.tree s.inode)) (facts.is_no_dir sectors disk head n files free orphaned image b s.inode file r.inode) ∙ ap (owner_by false) r.inode),
+        record { in_range = facts.inside sectors disk superblock n files free orphaned image b s.inode file r.inode; there = ap (λ (xs : List ℕ). slice_get xs at.0) (sym r.blocks) ∙ at.1 },
+        sym (ap (λ (x : Bool). owner_by x (file_at n.tree s.inode)) (facts.is_no_dir sectors disk superblock n files free orphaned image b s.inode file r.inode) ∙ ap (owner_by false) r.inode),
       )
 
   dir_kind : (dir place block : ℕ) → HasBlock g c dir place block → has (blocks_at n.tree.dirs dir) block ≡ true → ((c.forms dir).kind == 2) ≡ true
@@ -106,7 +106,7 @@ module _ (sectors : ℕ) (disk : Image) (head : Super) (n : NamesPart) (files : 
       let o = (b.orphans block).0 dropped in
       (o.inode, o.place, o.has, sym (ap (λ (x : Bool). owner_by x (file_at n.tree o.inode)) o.no_dir ∙ ap (owner_by false) o.unnamed))
   names_blocks block (inr (inr dir)) =
-      let at = holds g image c n.tree.dirs (facts.some sectors disk head n files free orphaned image b) b.opened.standing.catalog b.opened.standing.sound b.opened.table.dirs dir.0 block
+      let at = holds g image c n.tree.dirs (facts.some sectors disk superblock n files free orphaned image b) b.opened.standing.catalog b.opened.standing.sound b.opened.table.dirs dir.0 block
       (sym (contains-from_list_nat (blocks_at n.tree.dirs dir.0) block) ∙ dir.1) in
       (dir.0, at.0, at.1, sym (ap (λ (x : Bool). owner_by x (file_at n.tree dir.0)) (dir_kind dir.0 at.0 block at.1 dir.1)))
 
@@ -133,10 +133,10 @@ module _ (sectors : ℕ) (disk : Image) (head : Super) (n : NamesPart) (files : 
     where
       by : Known o block → IsDataBlock g block
       by (inl x) = (b.opened.untaken block x.1).0
-      by (inr x) = kept.in_data sectors disk head n files free orphaned image b x.0 x.1 block x.2
+      by (inr x) = kept.in_data sectors disk superblock n files free orphaned image b x.0 x.1 block x.2
 
   abbrev l : Ledger
-  l = opening_ledger (in_use head) image
+  l = opening_ledger (in_use superblock) image
 
   abbrev m : Numbers
   m = numbers_of n
@@ -154,13 +154,13 @@ module _ (sectors : ℕ) (disk : Image) (head : Super) (n : NamesPart) (files : 
   -- the file has what its inode has
   file_has : (inode place block file : ℕ) → HasBlock g c inode place block → file_at n.tree inode ≡ Some file → FileHasIt p m inode block
   file_has inode place block file at e =
-      let hand = kept.hand_at sectors disk head n files free orphaned image b inode file e in
+      let hand = kept.hand_at sectors disk superblock n files free orphaned image b inode file e in
       let s = hand.0 in
       let there : slice_get (runs.blocks_of s.extents) place ≡ Some block =
       ap (λ (xs : List ℕ). slice_get xs place) ((b.opened.read file s hand.1).blocks ∙ ap (λ i. nodes.blocks_of (c.forms i)) hand.2) ∙ at.there in (
         file,
         record { hand = s; here = hand.1; held = ap (λ (xs : List ℕ). has xs block) (held_is s) ∙ has_at (runs.blocks_of s.extents) place block there },
-        kept.has_number sectors disk head n files free orphaned image b inode file e,
+        kept.has_number sectors disk superblock n files free orphaned image b inode file e,
       )
 
   held : (inode place block : ℕ) → HasBlock g c inode place block → NamesOwn p block ⊎ FileHasIt p m inode block
@@ -181,7 +181,7 @@ module _ (sectors : ℕ) (disk : Image) (head : Super) (n : NamesPart) (files : 
       by true dir o e =
           let blocks : blocks_at n.tree.dirs inode ≡ nodes.blocks_of (c.forms inode) = b.opened.table.dirs.blocks inode at.in_range ∙ ap (λ x. if x then nodes.blocks_of (c.forms inode) else []) dir in
           inr (inl (ap (λ (xs : List ℕ). has xs block) blocks ∙ has_at (nodes.blocks_of (c.forms inode)) place block at.there))
-      by false off (Some file) e = inr (inr (file, b.opened.names.inodes.live inode file e, kept.has_number sectors disk head n files free orphaned image b inode file e))
+      by false off (Some file) e = inr (inr (file, b.opened.names.inodes.live inode file e, kept.has_number sectors disk superblock n files free orphaned image b inode file e))
       by false off None e = absurd (none block ((b.orphans block).1 (record { inode = inode; place = place; has = at; no_dir = off; unnamed = e })))
 
   parted : (dir block : ℕ) → set.contains orphaned block ≡ true → has (blocks_at n.tree.dirs dir) block ≡ false
@@ -191,7 +191,7 @@ module _ (sectors : ℕ) (disk : Image) (head : Super) (n : NamesPart) (files : 
       by false off = off
       by true on =
           let o = (b.orphans block).0 dropped in
-          let at = holds g image c n.tree.dirs (facts.some sectors disk head n files free orphaned image b) b.opened.standing.catalog b.opened.standing.sound b.opened.table.dirs dir block
+          let at = holds g image c n.tree.dirs (facts.some sectors disk superblock n files free orphaned image b) b.opened.standing.catalog b.opened.standing.sound b.opened.table.dirs dir block
           (sym (contains-from_list_nat (blocks_at n.tree.dirs dir) block) ∙ on) in
           let same : o.inode ≡ dir = (b.opened.standing.sound.blocks_once o.inode dir o.place at.0 block o.has at.1).0 in
           (let clash = sym o.no_dir ∙ ap (λ i. (c.forms i).kind == 2) same ∙ dir_kind dir at.0 block at.1 on in absurd cc)
@@ -225,7 +225,7 @@ module _ (sectors : ℕ) (disk : Image) (head : Super) (n : NamesPart) (files : 
 
     pub file_sound : IsFileSound g (durable_in p.commits f)
     file_sound = subst (IsFileSound g) (sym (unknown f))
-        (record { noted = noted; once = held_once; inode = facts.inode_number sectors disk head n files free orphaned image b f.inode (facts.inside sectors disk head n files free orphaned image b f.inode file number) })
+        (record { noted = noted; once = held_once; inode = facts.inode_number sectors disk superblock n files free orphaned image b f.inode (facts.inside sectors disk superblock n files free orphaned image b f.inode file number) })
 
     block_there : (place block : ℕ) → slice_get (runs.blocks_of f.extents) place ≡ Some block → IsFileBlock l block
     block_there place block there =
@@ -238,9 +238,9 @@ module _ (sectors : ℕ) (disk : Image) (head : Super) (n : NamesPart) (files : 
 
       stands : StandsFor l d
       stands = record {
-        in_range = facts.inside sectors disk head n files free orphaned image b f.inode file number;
-        kind = facts.is_file sectors disk head n files free orphaned image b f.inode file number;
-        size = sym (kept.size_is sectors disk head n files free orphaned image b whole f.inode (facts.inside sectors disk head n files free orphaned image b f.inode file number))
+        in_range = facts.inside sectors disk superblock n files free orphaned image b f.inode file number;
+        kind = facts.is_file sectors disk superblock n files free orphaned image b f.inode file number;
+        size = sym (kept.size_is sectors disk superblock n files free orphaned image b whole f.inode (facts.inside sectors disk superblock n files free orphaned image b f.inode file number))
             ∙ ap (λ (xs : List ℕ). length xs) (sym (b.opened.read file f at).bytes);
         extents = (b.opened.laid file f at).extents;
         blocks = block_there;
@@ -252,7 +252,7 @@ module _ (sectors : ℕ) (disk : Image) (head : Super) (n : NamesPart) (files : 
         noted = noted;
         once = held_once;
         own = λ place block there. inl there;
-        stored = inl (ap m.inode (b.opened.read file f at).number ∙ kept.has_number sectors disk head n files free orphaned image b f.inode file number, stands);
+        stored = inl (ap m.inode (b.opened.read file f at).number ∙ kept.has_number sectors disk superblock n files free orphaned image b f.inode file number, stands);
       })
 
   pub sound : IsSoundServer g free p

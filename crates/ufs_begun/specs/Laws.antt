@@ -28,12 +28,12 @@ BeginsSound = (sectors : ℕ) (disk : Image) (v : Volume) (n : NamesPart) (files
 -- marked in use.
 abbrev pub BeginsStored : Geometry → Type 0
 BeginsStored g = (sectors : ℕ) (disk : Image) (v : Volume) (n : NamesPart) (files : Files) (free : BlockSet) → v.geometry ≡ g → IsImageOf sectors disk → IsOpened sectors disk v n files free → AreOrphaned v n set.empty
-    → HasEarlier v.geometry v.head.epoch disk → IsStored (opening_ledger (in_use v.head) disk) free (start_in v) [] (begun_counts n) (begun_parts n files set.empty)
+    → HasEarlier v.geometry v.superblock.epoch disk → IsStored (opening_ledger (in_use v.superblock) disk) free (start_in v) [] (begun_counts n) (begun_parts n files set.empty)
 
 -- So it goes on, beside the store of the mounted disk, from the tree that the image stands for.
 abbrev pub BeginsOnDisk : Geometry → Type 0
-BeginsOnDisk g = (sectors : ℕ) (state : State) (v : Volume) (n : NamesPart) (files : Files) (store : StoreState) → v.geometry ≡ g → Leaves (IsImageOf sectors) state → IsMountable sectors state v.head
-    → HasLedger store (opening_ledger (in_use v.head) (seen state)) → geometry_of_store store ≡ v.geometry → IsOpened sectors (seen state) v n files store.unassigned.free → AreOrphaned v n set.empty
+BeginsOnDisk g = (sectors : ℕ) (state : State) (v : Volume) (n : NamesPart) (files : Files) (store : StoreState) → v.geometry ≡ g → Leaves (IsImageOf sectors) state → IsMountable sectors state v.superblock
+    → HasLedger store (opening_ledger (in_use v.superblock) (seen state)) → geometry_of_store store ≡ v.geometry → IsOpened sectors (seen state) v n files store.unassigned.free → AreOrphaned v n set.empty
     → IsGoing store (start_in v) [] (begun_parts n files set.empty)
 
 -- Where all files have names, no block is such a one.

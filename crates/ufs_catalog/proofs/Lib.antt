@@ -1,6 +1,6 @@
 pub mod Quiet
 pub mod Outside
-mod Heads
+mod Superblocks
 mod Blocks
 mod Pieces
 mod Rows

@@ -1,5 +1,5 @@
 pub mod Faults
 pub mod Reading
 pub mod Told
-pub mod Heads
+pub mod Superblocks
 pub mod Folded

@@ -6,10 +6,10 @@ mod dirs;
 mod fault;
 mod findings;
 mod forms;
-mod head;
 mod reading;
+mod superblock;
 
 pub use fault::RecoverFault;
 pub use findings::read_findings;
-pub use head::{ImageHead, read_head};
 pub use reading::read_block;
+pub use superblock::{ImageSuperblock, read_superblock};

@@ -14,5 +14,5 @@ module _ (sectors : ℕ) (disk : Image) where
   pub why_volume : (f : RecoverFault) → IsWhyNot (volume sectors disk) f → IsWhyNot (damage_list sectors disk) f
   why_volume = why_then (volume sectors disk) (damage_list sectors disk) (λ r is. ap (λ (v : Result Volume Refusal). damage_in v) is)
 
-  pub listed : (v : Volume) (list : List Damage) → volume sectors disk ≡ Ok v → list ≡ damage v.head.clean v.geometry v.image → damage_list sectors disk ≡ Ok list
+  pub listed : (v : Volume) (list : List Damage) → volume sectors disk ≡ Ok v → list ≡ damage v.superblock.clean v.geometry v.image → damage_list sectors disk ≡ Ok list
   listed v list taken is = ap (λ (w : Result Volume Refusal). damage_in w) taken ∙ ap {B = Result (List Damage) Refusal} Ok (sym is)

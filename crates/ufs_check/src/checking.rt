@@ -67,17 +67,17 @@ fn check_volume<D: Disk>(
     disk: &mut D,
     volume: &FoldedVolume,
 ) -> Result<DamageList, RecoverFault>
-    requires { sector_count volume.now.head.geometry ≤ D.size disk.old }
-    ensures list { IsTrue D.tells → (image : Image) → IsFolded volume.now.overlay (reads (D.moments disk.old)) image → IfOk result (λ list. list ≡ damage volume.now.head.head.clean volume.now.head.geometry image) }
+    requires { sector_count volume.now.superblock.geometry ≤ D.size disk.old }
+    ensures list { IsTrue D.tells → (image : Image) → IsFolded volume.now.overlay (reads (D.moments disk.old)) image → IfOk result (λ list. list ≡ damage volume.now.superblock.superblock.clean volume.now.superblock.geometry image) }
     ensures read_only { IsTrue D.tells → IsReadOnly D.keeps (D.moments disk.old) (D.moments disk.new) }
     ensures size { D.size disk.new ≡ D.size disk.old }
     ensures passed { OnOk result (D.faults disk.new ≡ D.faults disk.old) }
     ensures cause { IfErr result (HasFaultCause (D.faults disk.old) (D.faults disk.new)) }
     ensures outside { IfErr result IsOutside }
 {
-    let geometry = &volume.head.geometry;
+    let geometry = &volume.superblock.geometry;
     let (mut list, taken) = told_of(alloc, disk, geometry, &volume.overlay)?;
-    if !volume.head.head.clean {
+    if !volume.superblock.superblock.clean {
         return Ok(list);
     }
     compare_bits(disk, geometry, &volume.overlay, &taken, &mut list)?;

@@ -18,9 +18,9 @@ use Rattle.ufs_durable.specs.Writes.{BlockWrite, HasTriedOne, MayWriteAll, with_
 
 -- ---- what stays
 
-pub same_head : (ws : List BlockWrite) (l : Ledger) → (with_writes ws l).head ≡ l.head
-same_head [] l = refl
-same_head (w ∷ ws) l = same_head ws (written w.block w.bytes l)
+pub same_superblock : (ws : List BlockWrite) (l : Ledger) → (with_writes ws l).superblock ≡ l.superblock
+same_superblock [] l = refl
+same_superblock (w ∷ ws) l = same_superblock ws (written w.block w.bytes l)
 
 pub same_now : (ws : List BlockWrite) (l : Ledger) → (with_writes ws l).now ≡ l.now
 same_now [] l = refl
@@ -70,12 +70,12 @@ module _ (sectors : ℕ) (w : BlockWrite) where
   more_mixes : (blocks : ℕ → Cell) (k : ℕ) (bytes : List ℕ) → IsMixOf (possible (blocks k)) bytes → IsMixOf (possible (rewritten w.block w.bytes blocks k)) bytes
   more_mixes blocks k bytes mix = record { size = mix.size; each = λ place less. more_bytes blocks k place (byte_at bytes place) (mix.each place less) }
 
-  left_more : (head : Super) (blocks : ℕ → Cell) (s : Stand) (image : Image) → IsLeft sectors head blocks s image → IsLeft sectors head (rewritten w.block w.bytes blocks) s image
-  left_more head blocks s image left = with_cells sectors head blocks (rewritten w.block w.bytes blocks) s image (λ block _ _ mix. more_mixes blocks block (block_at image block) mix) left
+  left_more : (superblock : Super) (blocks : ℕ → Cell) (s : Stand) (image : Image) → IsLeft sectors superblock blocks s image → IsLeft sectors superblock (rewritten w.block w.bytes blocks) s image
+  left_more superblock blocks s image left = with_cells sectors superblock blocks (rewritten w.block w.bytes blocks) s image (λ block _ _ mix. more_mixes blocks block (block_at image block) mix) left
 
   pub left_by_one : (l : Ledger) (image : Image) → IsLeftBy sectors l image → IsLeftBy sectors (written w.block w.bytes l) image
-  left_by_one l image (inl left) = inl (left_more l.head l.blocks l.now image left)
-  left_by_one l image (inr (other, is, left)) = inr (other, is, left_more other.head l.blocks other.stand image left)
+  left_by_one l image (inl left) = inl (left_more l.superblock l.blocks l.now image left)
+  left_by_one l image (inr (other, is, left)) = inr (other, is, left_more other.superblock l.blocks other.stand image left)
 
 pub left_by_more : (sectors : ℕ) (ws : List BlockWrite) (l : Ledger) (image : Image) → IsLeftBy sectors l image → IsLeftBy sectors (with_writes ws l) image
 left_by_more sectors [] l image left = left

@@ -31,12 +31,12 @@ use Rattle.ufs_model.specs.declared.data.Entry.{Entry}
 use Rattle.ufs_prefix.specs.Changes.{changes_of}
 use Rattle.ufs_prefix.specs.FileChanges.{all_changed, byte_at}
 use Rattle.ufs_store.specs.Ledgers.{HasLedger, beginning_next, checkpointed, commit_stages}
-use Rattle.ufs_store.specs.State.{StoreState, has_room, next_commit, next_head}
+use Rattle.ufs_store.specs.State.{StoreState, has_room, next_commit, next_superblock}
 use Rattle.ufs_durable.specs.Committing.{CommitsShowAll, DoneIsKept, FitsInode, HasOwnBlocks, HasToCommit, IsFileBy, StagesAreKept, WritesAreKept, all_shown}
 use Rattle.ufs_durable.specs.Standing.{HaveOnly, StandsFor}
 use Rattle.ufs_durable.specs.State.{DurableState, IsNoted}
 use Rattle.ufs_durable.specs.Writes.{BlockWrite, at_moments, with_writes, write_at, write_of, writes_of}
-use Rattle.ufs_durable.proofs.Behind.{same_head, same_maybe, same_now}
+use Rattle.ufs_durable.proofs.Behind.{same_superblock, same_maybe, same_now}
 use Rattle.ufs_durable.proofs.Cells.{got_back}
 use Rattle.ufs_durable.proofs.Fitting.{blocks_here, covers, form, may_form, next_is, own_at, sound}
 use Rattle.ufs_durable.proofs.Still.{byte_of_block}
@@ -103,16 +103,16 @@ writes_are_kept s l f before behind start history now maybe has noted stands own
 module _ (s : StoreState) (l : Ledger) (f : DurableState) (has : HasLedger s l) (noted : IsNoted f) (stands : StandsFor l f) (own : HasOwnBlocks l f) (fits : FitsInode f.file)
     (records : List LogRecord) (delta : IsDelta f.log.inode f.log.committed f.log.noted records) (start : PosixTree) (history : List Entry) (now : Counts) (by_history : IsFileBy f.file start history now) where
   abbrev g : Geometry
-  g = geometry_of l.head
+  g = geometry_of l.superblock
 
   abbrev IsOn : (ℕ → Cell) → Stand → Type 0
   IsOn blocks t =
-      StandsOn (geometry_of l.head) blocks t (with_one (geometry_of l.head) (next_commit s records) t) start history now.names now.names now.files (raised now.files f.file.file (length (changes_of f.file.file start history))) now.numbers now.numbers
+      StandsOn (geometry_of l.superblock) blocks t (with_one (geometry_of l.superblock) (next_commit s records) t) start history now.names now.names now.files (raised now.files f.file.file (length (changes_of f.file.file start history))) now.numbers now.numbers
 
   -- over other cells and another log
   module _ (blocks : ℕ → Cell) (log : List Committed) (less : (block : ℕ) → is_held l.now.log block ≡ false → is_held log block ≡ false)
       (have : (place block : ℕ) → slice_get (blocks_of f.file.extents) place ≡ Some block → HaveOnly (possible (blocks block)) (block_bytes f.file.content.bytes place))
-      (kept : IsStandKept (geometry_of l.head) blocks (record (l.now) { log = log }) start history now.names now.files now.numbers) where
+      (kept : IsStandKept (geometry_of l.superblock) blocks (record (l.now) { log = log }) start history now.names now.files now.numbers) where
     same_blocks : form_blocks (form s l f has noted stands own fits delta.keep delta.given delta.front.in_one delta.whole) ≡ blocks_of f.file.extents
     same_blocks = blocks_here s l f has noted stands own fits delta.keep delta.given delta.front.in_one delta.whole
 
@@ -126,7 +126,7 @@ module _ (s : StoreState) (l : Ledger) (f : DurableState) (has : HasLedger s l) 
         by (inl under) = under
         by (inr above) = let off = sym by_history.there ∙ (kept.stored.fresh f.file.file above).1 in absurd cc
 
-    go : MayCommitFile (geometry_of l.head) blocks (record (l.now) { log = log }) start history now.files now.numbers f.file.file f.file.inode s.journal.number f.log.noted.size delta.keep (extents_of delta.given)
+    go : MayCommitFile (geometry_of l.superblock) blocks (record (l.now) { log = log }) start history now.files now.numbers f.file.file f.file.inode s.journal.number f.log.noted.size delta.keep (extents_of delta.given)
     go =
         let may = may_form s l f has noted stands own fits delta.keep delta.given delta.front.in_one delta.whole in
         record {
@@ -147,9 +147,9 @@ module _ (s : StoreState) (l : Ledger) (f : DurableState) (has : HasLedger s l) 
 
     pub on_log : IsOn blocks (record (l.now) { log = log })
     on_log =
-        subst (λ (t : Committed). StandsOn (geometry_of l.head) blocks (record (l.now) { log = log }) (with_one (geometry_of l.head) t (record (l.now) { log = log })) start history now.names now.names now.files (raised now.files f.file.file (length (changes_of f.file.file start history))) now.numbers now.numbers)
+        subst (λ (t : Committed). StandsOn (geometry_of l.superblock) blocks (record (l.now) { log = log }) (with_one (geometry_of l.superblock) t (record (l.now) { log = log })) start history now.names now.names now.files (raised now.files f.file.file (length (changes_of f.file.file start history))) now.numbers now.numbers)
         (next_is s l f has noted stands own records delta)
-        (stands_on (geometry_of l.head) blocks (record (l.now) { log = log }) start history now.names now.files now.numbers f.file.file f.file.inode s.journal.number f.log.noted.size delta.keep (extents_of delta.given)
+        (stands_on (geometry_of l.superblock) blocks (record (l.now) { log = log }) start history now.names now.files now.numbers f.file.file f.file.inode s.journal.number f.log.noted.size delta.keep (extents_of delta.given)
         (sound s l has) (covers s l has) kept go)
 
   module _ (maybe : Counts) (kept : IsLedgerKept l start history now maybe) where
@@ -167,21 +167,21 @@ module _ (s : StoreState) (l : Ledger) (f : DurableState) (has : HasLedger s l) 
         let here = (ledger_kept r start history now maybe r_none r_kept).1.here in
         subst (IsOn (settled r).blocks) (sym (same_now (writes_of f.file) l))
         (on_log (settled r).blocks l.now.log (λ block free. free) (all_settled l f noted stands)
-        (subst (λ (x : Super × Stand). IsStandKept (geometry_of x.0) (settled r).blocks x.1 start history now.names now.files now.numbers) (λ i. (same_head (writes_of f.file) l i, same_now (writes_of f.file) l i)) here))
+        (subst (λ (x : Super × Stand). IsStandKept (geometry_of x.0) (settled r).blocks x.1 start history now.names now.files now.numbers) (λ i. (same_superblock (writes_of f.file) l i, same_now (writes_of f.file) l i)) here))
 
-    module _ (head : Super) (home : ℕ → List ℕ) (same : geometry_of head ≡ geometry_of l.head) where
-      pub on_home : IsOn (settled (emptied head home r)).blocks (emptied head home r).now
+    module _ (superblock : Super) (home : ℕ → List ℕ) (same : geometry_of superblock ≡ geometry_of l.superblock) where
+      pub on_home : IsOn (settled (emptied superblock home r)).blocks (emptied superblock home r).now
       on_home =
-          let e_kept = emptied_is_kept r head home start history now maybe (same ∙ ap geometry_of (sym (same_head (writes_of f.file) l))) r_kept in
-          let here = (ledger_kept (emptied head home r) start history now now refl e_kept).1.here in
-          subst (IsOn (settled (emptied head home r)).blocks) (ap without_log (sym (same_now (writes_of f.file) l)))
-          (on_log (settled (emptied head home r)).blocks [] (λ block free. refl) (all_home l f noted stands head home)
-          (subst (λ (x : Geometry × Stand). IsStandKept x.0 (settled (emptied head home r)).blocks x.1 start history now.names now.files now.numbers) (λ i. (same i, without_log (same_now (writes_of f.file) l i))) here))
+          let e_kept = emptied_is_kept r superblock home start history now maybe (same ∙ ap geometry_of (sym (same_superblock (writes_of f.file) l))) r_kept in
+          let here = (ledger_kept (emptied superblock home r) start history now now refl e_kept).1.here in
+          subst (IsOn (settled (emptied superblock home r)).blocks) (ap without_log (sym (same_now (writes_of f.file) l)))
+          (on_log (settled (emptied superblock home r)).blocks [] (λ block free. refl) (all_home l f noted stands superblock home)
+          (subst (λ (x : Geometry × Stand). IsStandKept x.0 (settled (emptied superblock home r)).blocks x.1 start history now.names now.files now.numbers) (λ i. (same i, without_log (same_now (writes_of f.file) l i))) here))
 
     pub on_room : (between : Moments) (b : Bool)
         → IsOn (settled (if b then r else checkpointed (at_moments between s) r)).blocks (if b then r else checkpointed (at_moments between s) r).now
     on_room between true = on_writes
-    on_room between false = on_home (next_head s) (block_at (home_of r (reads between))) (ap geometry_of (sym has.headed))
+    on_room between false = on_home (next_superblock s) (block_at (home_of r (reads between))) (ap geometry_of (sym has.superblock_is))
 
 pub commits_show_all : CommitsShowAll
 commits_show_all s between records l f start history now maybe it by_history kept =
@@ -206,16 +206,16 @@ module _ (keeps : KeepsTrees) (s : StoreState) (between : Moments) (records : Li
   written_kept : IsLedgerKept written_all start history now now
   written_kept = kept_behind s l f it.has it.noted it.stands it.own start history now now by_history kept (writes_of f.file) [] (sym (append-nil (writes_of f.file)))
 
-  same_geometry : geometry_of (next_head s) ≡ geometry_of written_all.head
-  same_geometry = ap geometry_of (sym it.has.headed ∙ sym (same_head (writes_of f.file) l))
+  same_geometry : geometry_of (next_superblock s) ≡ geometry_of written_all.superblock
+  same_geometry = ap geometry_of (sym it.has.superblock_is ∙ sym (same_superblock (writes_of f.file) l))
 
   room_kept : (b : Bool) → IsLedgerKept (in_room b) start history now now
   room_kept true = written_kept
-  room_kept false = emptied_is_kept written_all (next_head s) home start history now now same_geometry written_kept
+  room_kept false = emptied_is_kept written_all (next_superblock s) home start history now now same_geometry written_kept
 
-  room_head : (b : Bool) → geometry_of l.head ≡ geometry_of (in_room b).head
-  room_head true = ap geometry_of (sym (same_head (writes_of f.file) l))
-  room_head false = ap geometry_of it.has.headed
+  room_superblock : (b : Bool) → geometry_of l.superblock ≡ geometry_of (in_room b).superblock
+  room_superblock true = ap geometry_of (sym (same_superblock (writes_of f.file) l))
+  room_superblock false = ap geometry_of it.has.superblock_is
 
   room_none : (b : Bool) → (in_room b).maybe ≡ None
   room_none true = same_maybe (writes_of f.file) l ∙ it.has.by.none
@@ -224,13 +224,13 @@ module _ (keeps : KeepsTrees) (s : StoreState) (between : Moments) (records : Li
   goes_on : (b : Bool) → IsLedgerKept (committing (next_commit s records) (settled (in_room b))) start history now next × IsLedgerKept (committed_one (next_commit s records) (in_room b)) start history next next
   goes_on b =
       ledger_goes_on (in_room b) (next_commit s records) start history now next keeps (room_none b) is legal.entries (room_kept b)
-      (subst (λ g. GoesOnBy g (in_room b) (next_commit s records) start history now next) (room_head b)
+      (subst (λ g. GoesOnBy g (in_room b) (next_commit s records) start history now next) (room_superblock b)
       (on_room s l f it.has it.noted it.stands it.own it.fits records it.delta start history now by_history now kept between b))
 
   pub each_stage : (b : Bool) → AllByRecursion (λ (m : Ledger). (maybe : Counts) × IsLedgerKept m start history now maybe)
       (if b then commit_stages (next_commit s records) written_all else written_all ∷ beginning_next (at_moments between s) written_all ∷ commit_stages (next_commit s records) (checkpointed (at_moments between s) written_all))
   each_stage true = ((now, written_kept), ((next, (goes_on true).0), tt))
-  each_stage false = ((now, written_kept), ((now, beginning_kept written_all (next_head s) home start history now now same_geometry written_kept), ((now, room_kept false), ((next, (goes_on false).0), tt))))
+  each_stage false = ((now, written_kept), ((now, beginning_kept written_all (next_superblock s) home start history now now same_geometry written_kept), ((now, room_kept false), ((next, (goes_on false).0), tt))))
 
   pub done : (b : Bool) → IsLedgerKept (committed_one (next_commit s records) (in_room b)) start history next next
   done b = (goes_on b).1

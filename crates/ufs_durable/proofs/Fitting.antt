@@ -75,17 +75,17 @@ back_all (x ∷ xs) ys every = back_all xs ys (All-tail IsRun x (xs ++ ys) every
 -- ---- what a store knows of its disk
 
 module _ (s : StoreState) (l : Ledger) (has : HasLedger s l) where
-  left : IsLeft s.sectors l.head l.blocks l.now (seen s.moments.state)
+  left : IsLeft s.sectors l.superblock l.blocks l.now (seen s.moments.state)
   left = on_one s.sectors l (seen s.moments.state) has.by.none (has.by.is.images (seen s.moments.state) (seen_is_image s.moments.state))
 
-  pub sound : IsSoundCatalog (geometry_of l.head) l.now.catalog
+  pub sound : IsSoundCatalog (geometry_of l.superblock) l.now.catalog
   sound = (ledgers_are_sound s.sectors s.moments.state l has.by.none has.by.is).0
 
-  pub covers : CoversDirs (geometry_of l.head) l.now
+  pub covers : CoversDirs (geometry_of l.superblock) l.now
   covers = (ledgers_are_sound s.sectors s.moments.state l has.by.none has.by.is).1
 
-  limits : IsGeometry (geometry_of l.head)
-  limits = subst IsGeometry (same_geometry s.sectors l.head l.blocks l.now (seen s.moments.state) left) (has_geometry s.sectors (seen s.moments.state) left.as_volume left.taken).0
+  limits : IsGeometry (geometry_of l.superblock)
+  limits = subst IsGeometry (same_geometry s.sectors l.superblock l.blocks l.now (seen s.moments.state) left) (has_geometry s.sectors (seen s.moments.state) left.as_volume left.taken).0
 
 -- ---- what is committed
 
@@ -100,10 +100,10 @@ module _ (s : StoreState) (l : Ledger) (f : DurableState) (has : HasLedger s l) 
   committed_blocks = ap (flat_map (λ (e : Extent). range_with_len e.start e.length)) stands.extents ∙ blocks_are f.log.committed.runs
 
   -- an inode that has one of them on the disk is its own, and has it at the same place
-  pub own_at : (place block : ℕ) → slice_get (blocks_of f.file.extents) place ≡ Some block → (j q : ℕ) → HasBlock (geometry_of l.head) l.now.catalog j q block → (j ≡ f.file.inode) × (q ≡ place)
+  pub own_at : (place block : ℕ) → slice_get (blocks_of f.file.extents) place ≡ Some block → (j q : ℕ) → HasBlock (geometry_of l.superblock) l.now.catalog j q block → (j ≡ f.file.inode) × (q ≡ place)
   own_at place block at j q other = by (own place block at)
     where
-      by : (slice_get (blocks_of f.log.committed.runs) place ≡ Some block) ⊎ (IsTakenBlock (geometry_of l.head) l.now.catalog block → ⊥) → (j ≡ f.file.inode) × (q ≡ place)
+      by : (slice_get (blocks_of f.log.committed.runs) place ≡ Some block) ⊎ (IsTakenBlock (geometry_of l.superblock) l.now.catalog block → ⊥) → (j ≡ f.file.inode) × (q ≡ place)
       by (inl here) = (sound s l has).blocks_once j f.file.inode q place block other (record { in_range = stands.in_range; there = ap (λ bs. slice_get bs place) committed_blocks ∙ here })
       by (inr free) = absurd (free (inr (j, q, other)))
 
@@ -120,12 +120,12 @@ module _ (s : StoreState) (l : Ledger) (f : DurableState) (has : HasLedger s l) 
     at_file : (place block : ℕ) → slice_get (form_blocks form) place ≡ Some block → slice_get (blocks_of f.file.extents) place ≡ Some block
     at_file place block at = sym (ap (λ bs. slice_get bs place) blocks_here) ∙ at
 
-    may : MayBecome (geometry_of l.head) l.now.catalog f.file.inode form
+    may : MayBecome (geometry_of l.superblock) l.now.catalog f.file.inode form
     may = record {
       in_range = stands.in_range;
       was_file = stands.kind;
       file = refl;
-      in_data = subst (AllByRecursion (IsInData (geometry_of l.head))) (sym extents_are) (runs_in_data (geometry_of l.head) f.file.extents fits.runs (λ place block at. (stands.blocks place block at).data_block));
+      in_data = subst (AllByRecursion (IsInData (geometry_of l.superblock))) (sym extents_are) (runs_in_data (geometry_of l.superblock) f.file.extents fits.runs (λ place block at. (stands.blocks place block at).data_block));
       room = let size = noted.size in let room = fits.room in let same : length (form_blocks form) ≡ length (blocks_of f.file.extents) = ap length blocks_here in omega (arith, size, room, same);
       once = λ p q block here there. one_place (blocks_of f.file.extents) noted.apart.once p q block (at_file p block here) (at_file q block there);
       apart = λ p j q block here there. (own_at p block (at_file p block here) j q there).0;
@@ -151,7 +151,7 @@ module _ (s : StoreState) (l : Ledger) (f : DurableState) (has : HasLedger s l) 
         let size : f.log.noted.size < 2 ^ 64 = let same = noted.size in let small = fits.size in omega (arith, same, small) in
         record { number = has.fits; records = ((on_form, (inode, size, runs_fit given given_runs)), tt) }
 
-    pub may_form : MayCommitForm (geometry_of l.head) l.now f.file.inode s.journal.number f.log.noted.size keep (extents_of given)
+    pub may_form : MayCommitForm (geometry_of l.superblock) l.now f.file.inode s.journal.number f.log.noted.size keep (extents_of given)
     may_form = record {
       newer = has.older f.file.inode stands.in_range;
       keeps = let same : length (l.now.catalog.forms f.file.inode).extents ≡ length f.log.committed.runs = ap length stands.extents ∙ length-map {B = Extent} f.log.committed.runs (λ (r : Run). record { start = r.start; length = r.length }) in omega (arith, kept, same);
@@ -172,7 +172,7 @@ module _ (s : StoreState) (l : Ledger) (f : DurableState) (has : HasLedger s l) 
     pub may_next : FitsInode f.file → (ws : List BlockWrite) → MayCommit s.journal.geometry (next_commit s records) (with_writes ws l).now
     may_next fits ws =
         subst (λ (x : Geometry × Committed × Stand). MayCommit x.0 x.1 x.2) (λ i. (has.by.geometry i, next_is i, sym (same_now ws l) i))
-        (forms_may_commit (geometry_of l.head) l.now f.file.inode s.journal.number f.log.noted.size delta.keep (extents_of delta.given) (sound s l has) (covers s l has)
+        (forms_may_commit (geometry_of l.superblock) l.now f.file.inode s.journal.number f.log.noted.size delta.keep (extents_of delta.given) (sound s l has) (covers s l has)
         (may_form fits delta.keep delta.given delta.front.in_one delta.whole))
 
 pub files_may_commit_next : FilesMayCommitNext

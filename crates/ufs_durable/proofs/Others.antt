@@ -29,13 +29,13 @@ use Rattle.ufs_ledger.specs.Changes.{committed_one, emptied, home_of, settled, s
 use Rattle.ufs_ledger.specs.Ledger.{IsDataBlock, Ledger, Stand, is_held, is_set_in}
 use Rattle.ufs_ledger.proofs.Held.{held_after}
 use Rattle.ufs_store.specs.Ledgers.{HasLedger, checkpointed}
-use Rattle.ufs_store.specs.State.{StoreState, has_room, next_commit, next_head}
+use Rattle.ufs_store.specs.State.{StoreState, has_room, next_commit, next_superblock}
 use Rattle.ufs_durable.specs.Committing.{HasOwnBlocks, once_committed}
 use Rattle.ufs_durable.specs.Others.{IsOther, OwnsBehindCommit, StandsBehindBarrier, StandsBehindCheckpoint, StandsBehindCommit, StandsBehindWrites, StandsOnceCommitted}
 use Rattle.ufs_durable.specs.Standing.{HaveOnly, StandsFor}
 use Rattle.ufs_durable.specs.State.{DurableState, IsNoted, file_committed}
 use Rattle.ufs_durable.specs.Writes.{BlockWrite, at_moments, with_writes, write_at, write_of, writes_of}
-use Rattle.ufs_durable.proofs.Behind.{same_head, same_now}
+use Rattle.ufs_durable.proofs.Behind.{same_superblock, same_now}
 use Rattle.ufs_durable.proofs.Cells.{IsElsewhere, got_back, untouched}
 use Rattle.ufs_durable.proofs.Committing.{front_all}
 use Rattle.ufs_durable.proofs.Fitting.{delta_is}
@@ -44,17 +44,17 @@ use Rattle.ufs_durable.proofs.Standing.{blocks_are, settled_has, stands_committe
 -- ---- another ledger
 
 -- A ledger on which its inode is as before, its blocks are still a file's, and a crash leaves no more of them.
-pub stands_still : (l m : Ledger) (h : DurableState) → geometry_of m.head ≡ geometry_of l.head → m.now.catalog.forms h.file.inode ≡ l.now.catalog.forms h.file.inode → m.now.dirs ≡ l.now.dirs
+pub stands_still : (l m : Ledger) (h : DurableState) → geometry_of m.superblock ≡ geometry_of l.superblock → m.now.catalog.forms h.file.inode ≡ l.now.catalog.forms h.file.inode → m.now.dirs ≡ l.now.dirs
     → ((block : ℕ) → is_held l.now.log block ≡ false → is_held m.now.log block ≡ false)
     → ((place block : ℕ) (bytes : List ℕ) → slice_get (blocks_of h.file.extents) place ≡ Some block → is_held l.now.log block ≡ false → HaveOnly (possible (l.blocks block)) bytes → HaveOnly (possible (m.blocks block)) bytes)
     → StandsFor l h → StandsFor m h
-stands_still l m h head form dirs unheld less stands = record {
-  in_range = subst (λ (g : Geometry). IsInode g h.file.inode) (sym head) stands.in_range;
+stands_still l m h superblock form dirs unheld less stands = record {
+  in_range = subst (λ (g : Geometry). IsInode g h.file.inode) (sym superblock) stands.in_range;
   kind = ap (λ (x : InodeForm). x.kind) form ∙ stands.kind;
   size = ap (λ (x : InodeForm). x.size) form ∙ stands.size;
   extents = ap (λ (x : InodeForm). x.extents) form ∙ stands.extents;
   blocks = λ place block at. let was = stands.blocks place block at in record {
-    data_block = subst (λ (g : Geometry). IsDataBlock g block) (sym head) was.data_block;
+    data_block = subst (λ (g : Geometry). IsDataBlock g block) (sym superblock) was.data_block;
     no_dir = subst (λ (d : ℕ → Bool). IsTrue (d block) → ⊥) (sym dirs) was.no_dir;
     unheld = unheld block was.unheld;
   };
@@ -68,11 +68,11 @@ home_has : (l : Ledger) (home : ℕ → List ℕ) (block : ℕ) (bytes : List �
     → HaveOnly (possible (if is_held l.now.log block then record { older = []; seen = home block } else settled_cell (l.blocks block))) bytes
 home_has l home block bytes free only = subst (λ b. HaveOnly (possible (if b then record { older = []; seen = home block } else settled_cell (l.blocks block))) bytes) (sym free) (settled_has (l.blocks block) bytes only)
 
-pub behind_home : (l : Ledger) (h : DurableState) (head : Super) (home : ℕ → List ℕ) → geometry_of head ≡ geometry_of l.head → StandsFor l h → StandsFor (emptied head home l) h
-behind_home l h head home same stands = stands_still l (emptied head home l) h same refl refl (λ block free. refl) (λ place block bytes at free only. home_has l home block bytes free only) stands
+pub behind_home : (l : Ledger) (h : DurableState) (superblock : Super) (home : ℕ → List ℕ) → geometry_of superblock ≡ geometry_of l.superblock → StandsFor l h → StandsFor (emptied superblock home l) h
+behind_home l h superblock home same stands = stands_still l (emptied superblock home l) h same refl refl (λ block free. refl) (λ place block bytes at free only. home_has l home block bytes free only) stands
 
 pub behind_checkpoint : StandsBehindCheckpoint
-behind_checkpoint s l h has stands = behind_home l h (next_head s) (block_at (home_of l (reads s.moments))) (ap geometry_of (sym has.headed)) stands
+behind_checkpoint s l h has stands = behind_home l h (next_superblock s) (block_at (home_of l (reads s.moments))) (ap geometry_of (sym has.superblock_is)) stands
 
 -- ---- another file's writes
 
@@ -105,7 +105,7 @@ module _ (l : Ledger) (f h : DurableState) (noted : IsNoted f) (other : IsOther 
   pub behind_writes : (before behind : List BlockWrite) → writes_of f.file ≡ before ++ behind → StandsFor l h → StandsFor (with_writes before l) h
   behind_writes before behind whole stands =
       let now = same_now before l in
-      stands_still l (with_writes before l) h (ap geometry_of (same_head before l)) (ap (λ (s : Stand). s.catalog.forms h.file.inode) now) (ap (λ (s : Stand). s.dirs) now)
+      stands_still l (with_writes before l) h (ap geometry_of (same_superblock before l)) (ap (λ (s : Stand). s.catalog.forms h.file.inode) now) (ap (λ (s : Stand). s.dirs) now)
       (λ block free. ap (λ (s : Stand). is_held s.log block) now ∙ free)
       (λ place block bytes at free only. subst (λ (c : Cell). HaveOnly (possible c) bytes)
       (sym (untouched before l block (front_all (IsElsewhere block) before behind (subst (AllByRecursion (IsElsewhere block)) whole (off_writes place block 0 (length f.file.content.dirty) at (omega arith)))))) only)
@@ -141,7 +141,7 @@ module _ (f : DurableState) (noted : IsNoted f) (t : Committed) (delta : IsDelta
   behind_one : (l : Ledger) (h : DurableState) → IsOther f h → StandsFor l h → StandsFor (committed_one t l) h
   behind_one l h other stands =
       let apart : (h.file.inode == f.file.inode) ≡ false = (let no = other.inode in grind (arith, nat_tests, no)) in
-      stands_still l (committed_one t l) h refl (form_else (geometry_of l.head) l.now.catalog h.file.inode apart) refl
+      stands_still l (committed_one t l) h refl (form_else (geometry_of l.superblock) l.now.catalog h.file.inode apart) refl
       (λ block free. held_after l.now.log t block free (ap (list_any (is_set_in block)) (delta_is f t.records noted delta))) (λ place block bytes at free only. settled_has (l.blocks block) bytes only) stands
 
 module _ (s : StoreState) (between : Moments) (records : List LogRecord) (l : Ledger) (f : DurableState) (has : HasLedger s l) (noted : IsNoted f) (delta : IsDelta f.log.inode f.log.committed f.log.noted records) where
@@ -151,12 +151,12 @@ module _ (s : StoreState) (between : Moments) (records : List LogRecord) (l : Le
   abbrev room : Bool → Ledger
   room b = if b then r else checkpointed (at_moments between s) r
 
-  headed : geometry_of s.head ≡ geometry_of r.head
-  headed = ap geometry_of (sym has.headed ∙ sym (same_head (writes_of f.file) l))
+  superblock_is : geometry_of s.superblock ≡ geometry_of r.superblock
+  superblock_is = ap geometry_of (sym has.superblock_is ∙ sym (same_superblock (writes_of f.file) l))
 
-  room_head : (b : Bool) → geometry_of (room b).head ≡ geometry_of l.head
-  room_head true = ap geometry_of (same_head (writes_of f.file) l)
-  room_head false = ap geometry_of (sym has.headed)
+  room_superblock : (b : Bool) → geometry_of (room b).superblock ≡ geometry_of l.superblock
+  room_superblock true = ap geometry_of (same_superblock (writes_of f.file) l)
+  room_superblock false = ap geometry_of (sym has.superblock_is)
 
   room_catalog : (b : Bool) → (room b).now.catalog ≡ l.now.catalog
   room_catalog true = ap (λ (x : Stand). x.catalog) (same_now (writes_of f.file) l)
@@ -167,14 +167,14 @@ module _ (s : StoreState) (between : Moments) (records : List LogRecord) (l : Le
 
   in_room : (b : Bool) (h : DurableState) → IsOther f h → StandsFor l h → StandsFor (room b) h
   in_room true h other stands = written_all h other stands
-  in_room false h other stands = behind_home r h (next_head s) (block_at (home_of r (reads between))) headed (written_all h other stands)
+  in_room false h other stands = behind_home r h (next_superblock s) (block_at (home_of r (reads between))) superblock_is (written_all h other stands)
 
   pub behind_commit : (h : DurableState) → IsOther f h → StandsFor l h → StandsFor (once_committed s between records f l) h
   behind_commit h other stands = behind_one f noted (next_commit s records) delta (room (has_room s records)) h other (in_room (has_room s records) h other stands)
 
   module _ (stands : StandsFor l f) where
     pub itself : StandsFor (once_committed s between records f l) (file_committed f)
-    itself = stands_committed (at_moments between s) records l f noted stands delta (has.older f.file.inode stands.in_range) (room_head (has_room s records))
+    itself = stands_committed (at_moments between s) records l f noted stands delta (has.older f.file.inode stands.in_range) (room_superblock (has_room s records))
 
     module _ (h : DurableState) (other : IsOther f h) (own : HasOwnBlocks l h) where
       abbrev m : Ledger
@@ -185,14 +185,14 @@ module _ (s : StoreState) (between : Moments) (records : List LogRecord) (l : Le
 
       form_before : (j : ℕ) → (j == f.file.inode) ≡ false → m.now.catalog.forms j ≡ l.now.catalog.forms j
       form_before j apart =
-          form_else f noted (next_commit s records) delta (geometry_of (room (has_room s records)).head) (room (has_room s records)).now.catalog j apart
+          form_else f noted (next_commit s records) delta (geometry_of (room (has_room s records)).superblock) (room (has_room s records)).now.catalog j apart
           ∙ ap (λ (c : Catalog). c.forms j) (room_catalog (has_room s records))
 
-      taken_before : (place block : ℕ) → slice_get (blocks_of h.file.extents) place ≡ Some block → IsTakenBlock (geometry_of m.head) m.now.catalog block → IsTakenBlock (geometry_of l.head) l.now.catalog block
-      taken_before place block at (inl low) = inl (subst (λ (g : Geometry). block < first_of_data g) (room_head (has_room s records)) low)
+      taken_before : (place block : ℕ) → slice_get (blocks_of h.file.extents) place ≡ Some block → IsTakenBlock (geometry_of m.superblock) m.now.catalog block → IsTakenBlock (geometry_of l.superblock) l.now.catalog block
+      taken_before place block at (inl low) = inl (subst (λ (g : Geometry). block < first_of_data g) (room_superblock (has_room s records)) low)
       taken_before place block at (inr (j, q, had)) = by (j == f.file.inode) refl
         where
-          by : (b : Bool) → (j == f.file.inode) ≡ b → IsTakenBlock (geometry_of l.head) l.now.catalog block
+          by : (b : Bool) → (j == f.file.inode) ≡ b → IsTakenBlock (geometry_of l.superblock) l.now.catalog block
           by true e =
               let same : j ≡ f.file.inode = grind (arith, nat_tests, e) in
               let here : slice_get (blocks_of f.file.extents) q ≡ Some block = sym (ap (λ bs. slice_get bs q) (ap (λ i. form_blocks (m.now.catalog.forms i)) same ∙ its_blocks)) ∙ had.there in
@@ -201,7 +201,7 @@ module _ (s : StoreState) (between : Moments) (records : List LogRecord) (l : Le
             j,
             q,
             record {
-              in_range = subst (λ (g : Geometry). IsInode g j) (room_head (has_room s records)) had.in_range;
+              in_range = subst (λ (g : Geometry). IsInode g j) (room_superblock (has_room s records)) had.in_range;
               there = sym (ap (λ (x : InodeForm). slice_get (form_blocks x) q) (form_before j e)) ∙ had.there;
             },
           )
@@ -209,8 +209,8 @@ module _ (s : StoreState) (between : Moments) (records : List LogRecord) (l : Le
       pub owned : HasOwnBlocks m h
       owned place block at = by (own place block at)
         where
-          by : (slice_get (blocks_of h.log.committed.runs) place ≡ Some block) ⊎ (IsTakenBlock (geometry_of l.head) l.now.catalog block → ⊥)
-              → (slice_get (blocks_of h.log.committed.runs) place ≡ Some block) ⊎ (IsTakenBlock (geometry_of m.head) m.now.catalog block → ⊥)
+          by : (slice_get (blocks_of h.log.committed.runs) place ≡ Some block) ⊎ (IsTakenBlock (geometry_of l.superblock) l.now.catalog block → ⊥)
+              → (slice_get (blocks_of h.log.committed.runs) place ≡ Some block) ⊎ (IsTakenBlock (geometry_of m.superblock) m.now.catalog block → ⊥)
           by (inl here) = inl here
           by (inr free) = inr (λ taken. free (taken_before place block at taken))
 

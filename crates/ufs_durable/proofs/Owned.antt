@@ -18,12 +18,12 @@ owns_served l f g before after d request reply desc own free served place block 
     committed : slice_get (blocks_of g.log.committed.runs) place ≡ slice_get (blocks_of f.log.committed.runs) place
     committed = ap (λ (x : FileLog). slice_get (blocks_of x.committed.runs) place) served.logged
 
-    was : (slice_get (blocks_of f.log.committed.runs) place ≡ Some block) ⊎ (IsTakenBlock (geometry_of l.head) l.now.catalog block → ⊥)
-        → (slice_get (blocks_of g.log.committed.runs) place ≡ Some block) ⊎ (IsTakenBlock (geometry_of l.head) l.now.catalog block → ⊥)
+    was : (slice_get (blocks_of f.log.committed.runs) place ≡ Some block) ⊎ (IsTakenBlock (geometry_of l.superblock) l.now.catalog block → ⊥)
+        → (slice_get (blocks_of g.log.committed.runs) place ≡ Some block) ⊎ (IsTakenBlock (geometry_of l.superblock) l.now.catalog block → ⊥)
     was (inl here) = inl (committed ∙ here)
     was (inr none) = inr none
 
     by : (slice_get (blocks_of f.file.extents) place ≡ Some block) ⊎ ((length (blocks_of f.file.extents) ≤ place) × (set.contains before block ≡ true))
-        → (slice_get (blocks_of g.log.committed.runs) place ≡ Some block) ⊎ (IsTakenBlock (geometry_of l.head) l.now.catalog block → ⊥)
+        → (slice_get (blocks_of g.log.committed.runs) place ≡ Some block) ⊎ (IsTakenBlock (geometry_of l.superblock) l.now.catalog block → ⊥)
     by (inl there) = was (own place block there)
     by (inr (past, its)) = inr (free block its)

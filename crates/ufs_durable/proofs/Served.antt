@@ -128,7 +128,7 @@ module _ (f g : DurableState) (before after : BlockSet) (d : Desc) (request : Op
         let inode = s.same_inode in
         let committed = ap (λ (x : FileLog). x.committed) s.logged in
         record {
-          in_range = subst (IsInode (geometry_of l.head)) (sym inode) stands.in_range;
+          in_range = subst (IsInode (geometry_of l.superblock)) (sym inode) stands.in_range;
           kind = ap (λ (i : ℕ). (l.now.catalog.forms i).kind) inode ∙ stands.kind;
           size = ap (λ (i : ℕ). (l.now.catalog.forms i).size) inode ∙ stands.size ∙ sym (ap (λ x. x.size) committed);
           extents = ap (λ (i : ℕ). (l.now.catalog.forms i).extents) inode ∙ stands.extents ∙ sym (ap (λ x. extents_of x.runs) committed);

@@ -93,14 +93,14 @@ module _ (keeps : KeepsTrees) (s : StoreState) (l : Ledger) (f : DurableState) (
           subst (λ o. AlwaysShows q.blocks (shape_of q.now.catalog o) (bytes_of start.bytes f.file.file) (changes_of f.file.file start history) count) (sym by_history.there) shown in
           inr (subst (λ k. AlwaysShows q.blocks (shape_of q.now.catalog (now.numbers.inode k)) (bytes_of start.bytes k) (changes_of k start history) count) here at)
 
-  on : StandsOn (geometry_of q.head) q.blocks q.now q.now start history now.names now.names now.files (raised now.files f.file.file count) now.numbers now.numbers
+  on : StandsOn (geometry_of q.superblock) q.blocks q.now q.now start history now.names now.names now.files (raised now.files f.file.file count) now.numbers now.numbers
   on =
       let was = settled_kept.here.stored in
       record { later = omega arith; made = was.made; paths = was.paths; inodes = was.inodes; unheld = was.unheld; rises = rises; each = each; fresh = fresh }
 
   pub all_shown_there : IsLedgerKept q start history (all_shown f.file start history now) (all_shown f.file start history now)
   all_shown_there = record {
-    here = commit_kept (geometry_of q.head) q.blocks q.now start history now.names now.files now.numbers settled_kept.here keeps is legal.entries q.now now.names (raised now.files f.file.file count) now.numbers on;
+    here = commit_kept (geometry_of q.superblock) q.blocks q.now start history now.names now.files now.numbers settled_kept.here keeps is legal.entries q.now now.names (raised now.files f.file.file count) now.numbers on;
     there = λ other some. let off = sym r_none ∙ some in absurd cc;
   }
 

@@ -35,10 +35,10 @@ use Rattle.ufs_ledger.proofs.Mixing.{byte_back, byte_front, byte_taken, has_byte
 use Rattle.ufs_prefix.specs.FileChanges.{byte_at}
 use Rattle.ufs_durable.specs.State.{DurableState, IsNoted, file_committed}
 use Rattle.ufs_store.specs.Ledgers.{checkpointed}
-use Rattle.ufs_store.specs.State.{has_room, next_commit, next_head}
+use Rattle.ufs_store.specs.State.{has_room, next_commit, next_superblock}
 use Rattle.ufs_durable.specs.Standing.{DirtyMayBeWritten, HaveOnly, IsFileBlock, ShowsAsCommitted, ShowsTheFile, StandsCommitted, StandsFor, StandsSettled, StandsWhileWritten}
 use Rattle.ufs_durable.specs.Writes.{BlockWrite, with_writes, write_at, write_of, writes_of}
-use Rattle.ufs_durable.proofs.Behind.{same_head, same_now}
+use Rattle.ufs_durable.proofs.Behind.{same_superblock, same_now}
 use Rattle.ufs_durable.proofs.Cells.{clean_cell, dirty_cell, got, got_back, length_block}
 
 -- ---- its dirty blocks may be written
@@ -76,9 +76,9 @@ dirty_may l f noted stands = all_map (IsReady l) (λ (w : BlockWrite). MayWrite 
 
 -- ---- another ledger with the same stand
 
-same_block : (l m : Ledger) (block : ℕ) → geometry_of m.head ≡ geometry_of l.head → m.now ≡ l.now → IsFileBlock l block → IsFileBlock m block
-same_block l m block head now is = record {
-  data_block = subst (λ (g : Geometry). IsDataBlock g block) (sym head) is.data_block;
+same_block : (l m : Ledger) (block : ℕ) → geometry_of m.superblock ≡ geometry_of l.superblock → m.now ≡ l.now → IsFileBlock l block → IsFileBlock m block
+same_block l m block superblock now is = record {
+  data_block = subst (λ (g : Geometry). IsDataBlock g block) (sym superblock) is.data_block;
   no_dir = subst (λ (s : Stand). IsTrue (s.dirs block) → ⊥) (sym now) is.no_dir;
   unheld = subst (λ (s : Stand). is_held s.log block ≡ false) (sym now) is.unheld;
 }
@@ -117,11 +117,11 @@ module _ (l : Ledger) (f : DurableState) (noted : IsNoted f) (stands : StandsFor
   while_written =
       let now = same_now (writes_of f.file) l in
       record {
-        in_range = subst (λ (h : Super). IsInode (geometry_of h) f.file.inode) (sym (same_head (writes_of f.file) l)) stands.in_range;
+        in_range = subst (λ (h : Super). IsInode (geometry_of h) f.file.inode) (sym (same_superblock (writes_of f.file) l)) stands.in_range;
         kind = subst (λ (s : Stand). (s.catalog.forms f.file.inode).kind ≡ 1) (sym now) stands.kind;
         size = subst (λ (s : Stand). (s.catalog.forms f.file.inode).size ≡ f.log.committed.size) (sym now) stands.size;
         extents = subst (λ (s : Stand). (s.catalog.forms f.file.inode).extents ≡ extents_of f.log.committed.runs) (sym now) stands.extents;
-        blocks = λ place block at. same_block l (with_writes (writes_of f.file) l) block (ap geometry_of (same_head (writes_of f.file) l)) now (stands.blocks place block at);
+        blocks = λ place block at. same_block l (with_writes (writes_of f.file) l) block (ap geometry_of (same_superblock (writes_of f.file) l)) now (stands.blocks place block at);
         clean = λ place block at is. subst (λ (c : Cell). HaveOnly (possible c) (block_bytes f.file.content.bytes place)) (sym (clean_cell f.file noted.apart.once noted.marks place block at l is)) (stands.clean place block at is);
       }
 
@@ -129,11 +129,11 @@ module _ (l : Ledger) (f : DurableState) (noted : IsNoted f) (stands : StandsFor
   once_settled same =
       let now = same_now (writes_of f.file) l in
       record {
-        in_range = subst (λ (h : Super). IsInode (geometry_of h) f.file.inode) (sym (same_head (writes_of f.file) l)) stands.in_range;
+        in_range = subst (λ (h : Super). IsInode (geometry_of h) f.file.inode) (sym (same_superblock (writes_of f.file) l)) stands.in_range;
         kind = subst (λ (s : Stand). (s.catalog.forms f.file.inode).kind ≡ 1) (sym now) stands.kind;
         size = subst (λ (s : Stand). (s.catalog.forms f.file.inode).size ≡ f.log.noted.size) (sym now) (stands.size ∙ ap (λ (n : Noted). n.size) (sym same));
         extents = subst (λ (s : Stand). (s.catalog.forms f.file.inode).extents ≡ extents_of f.log.noted.runs) (sym now) (stands.extents ∙ ap (λ (n : Noted). extents_of n.runs) (sym same));
-        blocks = λ place block at. same_block l (settled (with_writes (writes_of f.file) l)) block (ap geometry_of (same_head (writes_of f.file) l)) now (stands.blocks place block at);
+        blocks = λ place block at. same_block l (settled (with_writes (writes_of f.file) l)) block (ap geometry_of (same_superblock (writes_of f.file) l)) now (stands.blocks place block at);
         clean = λ place block at is. all_settled place block at;
       }
 
@@ -151,32 +151,32 @@ module _ (l : Ledger) (f : DurableState) (noted : IsNoted f) (stands : StandsFor
     records_are : t.records ≡ Delta f.file.inode 1 f.log.noted.size delta.keep (extents_of delta.given) ∷ []
     records_are = delta.is ∙ ap (λ i. Delta i 1 f.log.noted.size delta.keep (extents_of delta.given) ∷ []) noted.inode
 
-    form_after : (with_committed_in (geometry_of l.head) t l.now.catalog).forms f.file.inode ≡ form
+    form_after : (with_committed_in (geometry_of l.superblock) t l.now.catalog).forms f.file.inode ≡ form
     form_after =
-        let ranged : is_inode_number (geometry_of l.head) f.file.inode ≡ true = in_range (geometry_of l.head) f.file.inode stands.in_range in
+        let ranged : is_inode_number (geometry_of l.superblock) f.file.inode ≡ true = in_range (geometry_of l.superblock) f.file.inode stands.in_range in
         let later : is_newer_in t.number l.now.catalog f.file.inode ≡ true = grind (arith, nat_tests, newer) in
         let self : (f.file.inode == f.file.inode) ≡ true = grind (arith, nat_tests) in
-        ap (λ (rs : List LogRecord). (with_committed_in (geometry_of l.head) (record { number = t.number; records = rs }) l.now.catalog).forms f.file.inode) records_are
+        ap (λ (rs : List LogRecord). (with_committed_in (geometry_of l.superblock) (record { number = t.number; records = rs }) l.now.catalog).forms f.file.inode) records_are
         ∙ (λ i. (if ranged i then (if later i then with_form f.file.inode form l.now.catalog else l.now.catalog) else l.now.catalog).forms f.file.inode)
         ∙ ap (λ (b : Bool). if b then form else l.now.catalog.forms f.file.inode) self
 
     -- behind it, on a ledger whose catalog is as before
-    module _ (r : Ledger) (head : geometry_of r.head ≡ geometry_of l.head) (catalog : r.now.catalog ≡ l.now.catalog) (dirs : r.now.dirs ≡ l.now.dirs) (unheld : (block : ℕ) → is_held l.now.log block ≡ false → is_held r.now.log block ≡ false)
+    module _ (r : Ledger) (superblock : geometry_of r.superblock ≡ geometry_of l.superblock) (catalog : r.now.catalog ≡ l.now.catalog) (dirs : r.now.dirs ≡ l.now.dirs) (unheld : (block : ℕ) → is_held l.now.log block ≡ false → is_held r.now.log block ≡ false)
         (have : HaveAll (settled r) f) where
-      same_form : (with_committed_in (geometry_of r.head) t r.now.catalog).forms f.file.inode ≡ form
-      same_form = (λ i. (with_committed_in (head i) t (catalog i)).forms f.file.inode) ∙ form_after
+      same_form : (with_committed_in (geometry_of r.superblock) t r.now.catalog).forms f.file.inode ≡ form
+      same_form = (λ i. (with_committed_in (superblock i) t (catalog i)).forms f.file.inode) ∙ form_after
 
       held_none : (block : ℕ) → list_any (is_set_in block) t.records ≡ false
       held_none block = ap (list_any (is_set_in block)) records_are
 
       pub committed_on : StandsFor (committed_one t r) (file_committed f)
       committed_on = record {
-        in_range = subst (λ (g : Geometry). IsInode g f.file.inode) (sym head) stands.in_range;
+        in_range = subst (λ (g : Geometry). IsInode g f.file.inode) (sym superblock) stands.in_range;
         kind = ap (λ (x : InodeForm). x.kind) same_form;
         size = ap (λ (x : InodeForm). x.size) same_form;
         extents = ap (λ (x : InodeForm). x.extents) same_form ∙ ap (λ (es : List Extent). take delta.keep es ++ extents_of delta.given) stands.extents ∙ given_extents delta.keep delta.given delta.whole;
         blocks = λ place block at. let was = stands.blocks place block at in record {
-          data_block = subst (λ (g : Geometry). IsDataBlock g block) (sym head) was.data_block;
+          data_block = subst (λ (g : Geometry). IsDataBlock g block) (sym superblock) was.data_block;
           no_dir = subst (λ (d : ℕ → Bool). IsTrue (d block) → ⊥) (sym dirs) was.no_dir;
           unheld = held_after r.now.log t block (unheld block was.unheld) (held_none block);
         };
@@ -184,12 +184,12 @@ module _ (l : Ledger) (f : DurableState) (noted : IsNoted f) (stands : StandsFor
       }
 
 -- a checkpoint settles them too
-module _ (l : Ledger) (f : DurableState) (noted : IsNoted f) (stands : StandsFor l f) (head : Super) (home : ℕ → List ℕ) where
+module _ (l : Ledger) (f : DurableState) (noted : IsNoted f) (stands : StandsFor l f) (superblock : Super) (home : ℕ → List ℕ) where
   settled_twice : (block : ℕ) → is_held (with_writes (writes_of f.file) l).now.log block ≡ false
-      → settled_cell ((emptied head home (with_writes (writes_of f.file) l)).blocks block) ≡ settled_cell ((with_writes (writes_of f.file) l).blocks block)
+      → settled_cell ((emptied superblock home (with_writes (writes_of f.file) l)).blocks block) ≡ settled_cell ((with_writes (writes_of f.file) l).blocks block)
   settled_twice block free = ap (λ (b : Bool). settled_cell (if b then record { older = []; seen = home block } else settled_cell ((with_writes (writes_of f.file) l).blocks block))) free
 
-  pub all_home : HaveAll (settled (emptied head home (with_writes (writes_of f.file) l))) f
+  pub all_home : HaveAll (settled (emptied superblock home (with_writes (writes_of f.file) l))) f
   all_home place block at =
       let free = subst (λ (s : Stand). is_held s.log block ≡ false) (sym (same_now (writes_of f.file) l)) (stands.blocks place block at).unheld in
       subst (λ (c : Cell). HaveOnly (possible c) (block_bytes f.file.content.bytes place)) (sym (settled_twice block free)) (all_settled l f noted stands place block at)
@@ -197,17 +197,17 @@ module _ (l : Ledger) (f : DurableState) (noted : IsNoted f) (stands : StandsFor
 pub stands_committed : StandsCommitted
 stands_committed s records l f noted stands delta newer = by (has_room s records)
   where
-    by : (b : Bool) → geometry_of (if b then with_writes (writes_of f.file) l else checkpointed s (with_writes (writes_of f.file) l)).head ≡ geometry_of l.head
+    by : (b : Bool) → geometry_of (if b then with_writes (writes_of f.file) l else checkpointed s (with_writes (writes_of f.file) l)).superblock ≡ geometry_of l.superblock
         → StandsFor (committed_one (next_commit s records) (if b then with_writes (writes_of f.file) l else checkpointed s (with_writes (writes_of f.file) l))) (file_committed f)
-    by true head =
+    by true superblock =
         let now = same_now (writes_of f.file) l in
-        committed_on l f noted stands (next_commit s records) delta newer (with_writes (writes_of f.file) l) head (ap (λ (x : Stand). x.catalog) now) (ap (λ (x : Stand). x.dirs) now)
+        committed_on l f noted stands (next_commit s records) delta newer (with_writes (writes_of f.file) l) superblock (ap (λ (x : Stand). x.catalog) now) (ap (λ (x : Stand). x.dirs) now)
         (λ block free. subst (λ (x : Stand). is_held x.log block ≡ false) (sym now) free) (all_settled l f noted stands)
-    by false head =
+    by false superblock =
         let now = same_now (writes_of f.file) l in
-        committed_on l f noted stands (next_commit s records) delta newer (checkpointed s (with_writes (writes_of f.file) l)) head (ap (λ (x : Stand). x.catalog) now) (ap (λ (x : Stand). x.dirs) now)
+        committed_on l f noted stands (next_commit s records) delta newer (checkpointed s (with_writes (writes_of f.file) l)) superblock (ap (λ (x : Stand). x.catalog) now) (ap (λ (x : Stand). x.dirs) now)
         (λ block free. refl)
-        (all_home l f noted stands (next_head s) (block_at (home_of (with_writes (writes_of f.file) l) (reads s.moments))))
+        (all_home l f noted stands (next_superblock s) (block_at (home_of (with_writes (writes_of f.file) l) (reads s.moments))))
 
 pub stands_written : StandsWhileWritten
 stands_written l f noted stands = while_written l f noted stands

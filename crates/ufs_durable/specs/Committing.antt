@@ -43,7 +43,7 @@ pub record FitsInode (f : FileState) : Type 0 where
 -- Each of its blocks is the one that its inode has on the disk at the same place, or one that nobody has there.
 abbrev pub HasOwnBlocks : Ledger → DurableState → Type 0
 HasOwnBlocks l f = (place block : ℕ) → slice_get (blocks_of f.file.extents) place ≡ Some block
-    → (slice_get (blocks_of f.log.committed.runs) place ≡ Some block) ⊎ (IsTakenBlock (geometry_of l.head) l.now.catalog block → ⊥)
+    → (slice_get (blocks_of f.log.committed.runs) place ≡ Some block) ⊎ (IsTakenBlock (geometry_of l.superblock) l.now.catalog block → ⊥)
 
 -- By this history it has its bytes after all its changes, of which no more are on the disk than there are; there it has its inode
 -- for itself.
@@ -86,7 +86,7 @@ WritesAreKept = (s : StoreState) (l : Ledger) (f : DurableState) (before behind 
 abbrev pub CommitsShowAll : Type 0
 CommitsShowAll = (s : StoreState) (between : Moments) (records : List LogRecord) (l : Ledger) (f : DurableState) (start : PosixTree) (history : List Entry) (now maybe : Counts) → HasToCommit s records l f → IsFileBy f.file start history now
     → IsLedgerKept l start history now maybe
-    → GoesOnBy (geometry_of l.head) (with_room (at_moments between s) records (with_writes (writes_of f.file) l)) (next_commit s records) start history now (all_shown f.file start history now)
+    → GoesOnBy (geometry_of l.superblock) (with_room (at_moments between s) records (with_writes (writes_of f.file) l)) (next_commit s records) start history now (all_shown f.file start history now)
 
 -- So the ledger is kept: each that the disk may have while they are committed,
 abbrev pub StagesAreKept : Type 0
@@ -113,7 +113,7 @@ OwnsCommitted = (l : Ledger) (f : DurableState) → IsNoted f → HasOwnBlocks l
 -- So they are behind a request, where nobody has a block of the pool on the disk.
 abbrev pub OwnsServed : Type 0
 OwnsServed = (l : Ledger) (f g : DurableState) (before after : BlockSet) (d : Desc) (request : Op) (reply : Reply) (desc : Option Desc) → HasOwnBlocks l f
-    → ((block : ℕ) → set.contains before block ≡ true → IsTakenBlock (geometry_of l.head) l.now.catalog block → ⊥) → IsServedKept f g before after d request reply desc → HasOwnBlocks l g
+    → ((block : ℕ) → set.contains before block ≡ true → IsTakenBlock (geometry_of l.superblock) l.now.catalog block → ⊥) → IsServedKept f g before after d request reply desc → HasOwnBlocks l g
 
 -- Each file is by these counts what it was by the ones before.
 abbrev pub CountsGoOn : Type 0

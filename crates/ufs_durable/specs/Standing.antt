@@ -33,14 +33,14 @@ HaveOnly contents bytes = (at byte : ℕ) → at < BLOCK → HasByte contents at
 
 -- A file may have the block: it is of the data area, and no dentries are spelled or set in it.
 pub record IsFileBlock (l : Ledger) (block : ℕ) : Type 0 where
-  pub data_block : IsDataBlock (geometry_of l.head) block
+  pub data_block : IsDataBlock (geometry_of l.superblock) block
   pub no_dir : IsTrue (l.now.dirs block) → ⊥
   pub unheld : is_held l.now.log block ≡ false
 
 -- Its inode has on the disk what was committed last, and each of its blocks that isn't dirty has the file's bytes, whatever a
 -- crash leaves.
 pub record StandsFor (l : Ledger) (f : DurableState) : Type 0 where
-  pub in_range : IsInode (geometry_of l.head) f.file.inode
+  pub in_range : IsInode (geometry_of l.superblock) f.file.inode
   pub kind : (l.now.catalog.forms f.file.inode).kind ≡ 1
   pub size : (l.now.catalog.forms f.file.inode).size ≡ f.log.committed.size
   pub extents : (l.now.catalog.forms f.file.inode).extents ≡ extents_of f.log.committed.runs
@@ -61,7 +61,7 @@ StandsWhileWritten = (l : Ledger) (f : DurableState) → IsNoted f → StandsFor
 -- Behind the commit of what changed of it, with a higher number, it stands on the next ledger, with nothing left to write.
 abbrev pub StandsCommitted : Type 0
 StandsCommitted = (s : StoreState) (records : List LogRecord) (l : Ledger) (f : DurableState) → IsNoted f → StandsFor l f → IsDelta f.log.inode f.log.committed f.log.noted records
-    → (l.now.catalog.forms f.file.inode).number < s.journal.number → geometry_of (after_commit s records (with_writes (writes_of f.file) l)).head ≡ geometry_of l.head
+    → (l.now.catalog.forms f.file.inode).number < s.journal.number → geometry_of (after_commit s records (with_writes (writes_of f.file) l)).superblock ≡ geometry_of l.superblock
     → StandsFor (after_commit s records (with_writes (writes_of f.file) l)) (file_committed f)
 
 -- Before that, behind the barrier with which the commit begins, whatever a crash leaves in the blocks that the inode is to have is

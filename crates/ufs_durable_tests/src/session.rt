@@ -18,7 +18,7 @@ use ufs_store::{Door, Store, StoreFault};
 
 pub const SECTORS: u32 = 2_048;
 
-const HEAD: Super = Super {
+const SUPERBLOCK: Super = Super {
     version: 1,
     blocks: 256,
     inodes: 32,
@@ -46,7 +46,7 @@ fn mounted<D: Disk + Drop>(alloc: Global, disk: D) -> Option<Store<D>>
         return None;
     }
     let free = Bitmap::all_free(alloc, 14, 256).ok()?;
-    Store::mount(alloc, disk, HEAD, free).ok()
+    Store::mount(alloc, disk, SUPERBLOCK, free).ok()
 }
 
 /// A file with no byte, number 1 in inode 2, over a store on this disk.

@@ -12,7 +12,7 @@ use Rattle.ufs_disk.proofs.Images.{seen_is_image}
 use Rattle.ufs_disk.proofs.Runs.{weaker}
 use Rattle.ufs_image.specs.Opens.{ImageTree, opens}
 use Rattle.ufs_image.specs.Proper.{IsProperImage}
-use Rattle.ufs_image.specs.Volume.{head_of}
+use Rattle.ufs_image.specs.Volume.{superblock_of}
 use Rattle.ufs_ledger.specs.Kept.{OpensExplained, paths_of}
 use Rattle.ufs_model.specs.Laws.{KeepsTrees}
 use Rattle.ufs_model.specs.PosixTree.{PosixTree}
@@ -57,7 +57,7 @@ module _ (keeps : Bool) (old new : Moments) (read : IsReadOnly keeps old new) wh
       settled = λ image left. is.proper.settled image (read.crash.after image left) ∙ sym read.content;
       proper = subst (IsProperImage sectors) (sym read.content) is.proper.proper;
     };
-    clean = ap (λ (image : images.Image). (head_of image).clean) read.content ∙ is.clean;
+    clean = ap (λ (image : images.Image). (superblock_of image).clean) read.content ∙ is.clean;
     empty = ap log_of read.content ∙ is.empty;
   }
 

@@ -12,7 +12,7 @@ use Rattle.ufs_disk.specs.Disk.{Leaves, State, seen}
 use Rattle.ufs_disk.proofs.Images.{seen_is_image}
 use Rattle.ufs_image.specs.Images.{IsImageOf, block_at}
 use Rattle.ufs_image.specs.Proper.{IsProperImage}
-use Rattle.ufs_image.specs.Volume.{BadVersion, NoSuperblock, Volume, has_other_version, head_of, is_off_form, lacks_magic, volume}
+use Rattle.ufs_image.specs.Volume.{BadVersion, NoSuperblock, Volume, has_other_version, superblock_of, is_off_form, lacks_magic, volume}
 use Rattle.ufs_base.specs.Choices.{refused_if}
 use Rattle.ufs_image.proofs.Journals.{taken}
 use Rattle.ufs_image.proofs.Opening.{not_refused, second_none}
@@ -58,28 +58,28 @@ super_there None is = absurd (let no = is in cc)
 super_there (Some s) is = (s, refl)
 
 -- a superblock that is taken is on its form
-pub is_form : (sectors : ℕ) (image : Image) (v : Volume) → volume sectors image ≡ Ok v → is_super 1 v.head ≡ true
+pub is_form : (sectors : ℕ) (image : Image) (v : Volume) → volume sectors image ≡ Ok v → is_super 1 v.superblock ≡ true
 is_form sectors image v e =
     let t = taken sectors image v e in
-    let one = second_none (refused_if (lacks_magic sectors image) NoSuperblock) _ t.head in
-    let two = second_none (refused_if (has_other_version image) (BadVersion (head_of image).version)) _ one.1 in
+    let one = second_none (refused_if (lacks_magic sectors image) NoSuperblock) _ t.superblock in
+    let two = second_none (refused_if (has_other_version image) (BadVersion (superblock_of image).version)) _ one.1 in
     let three = second_none (refused_if (is_off_form image) NoSuperblock) _ two.1 in
     let found = super_there (super_of 1 (image 0)) (not_refused (is_off_form image) NoSuperblock three.0) in
     let s = super_fields (image 0) in
     let both = some_if-some (is_super 1 s && bytes_eq (super_bytes s) (image 0)) s found.0 found.1 in
-    ap (λ (v : Volume). is_super 1 v.head) t.same ∙ (and_parts (is_super 1 s) (bytes_eq (super_bytes s) (image 0)) both.0).0
+    ap (λ (v : Volume). is_super 1 v.superblock) t.same ∙ (and_parts (is_super 1 s) (bytes_eq (super_bytes s) (image 0)) both.0).0
 
 -- ---- of any image
 
 module _ (sectors : ℕ) (image : Image) (s : Start) (is : IsBegun sectors image s) where
   abbrev tree_of : PosixTree
-  tree_of = image_start (tree_under s.head image)
+  tree_of = image_start (tree_under s.superblock image)
 
   -- an image opens to one tree
-  pub same_start : (start : PosixTree) → BeginsWith sectors image start → start ≡ image_start (tree_under s.head image)
+  pub same_start : (start : PosixTree) → BeginsWith sectors image start → start ≡ image_start (tree_under s.superblock image)
   same_start start with_it =
-      let both : Ok with_it.tree ≡ Ok (tree_under s.head image) = sym with_it.opened ∙ is.opened in
-      let same : with_it.tree ≡ tree_under s.head image = cc in
+      let both : Ok with_it.tree ≡ Ok (tree_under s.superblock image) = sym with_it.opened ∙ is.opened in
+      let same : with_it.tree ≡ tree_under s.superblock image = cc in
       with_it.start_is ∙ ap image_start same
 
   are_parts : ArePartsOf (parts_of s) tree_of
@@ -99,39 +99,39 @@ module _ (sectors : ℕ) (image : Image) (s : Start) (is : IsBegun sectors image
   pub may_begin : (start : PosixTree) → BeginsWith sectors image start → MayBegin (parts_of s) start
   may_begin start with_it = subst (MayBegin (parts_of s)) (sym (same_start start with_it)) begins
 
-  pub none_orphaned : StartsAreOpened → StartsAreNamed → WholeHaveNone → AreOrphaned (volume_under s.head image) s.names set.empty
-  none_orphaned opened named none = none sectors image (volume_under s.head image) s.names s.files s.free.free (opened sectors image s is) (named sectors image s is)
+  pub none_orphaned : StartsAreOpened → StartsAreNamed → WholeHaveNone → AreOrphaned (volume_under s.superblock image) s.names set.empty
+  none_orphaned opened named none = none sectors image (volume_under s.superblock image) s.names s.files s.free.free (opened sectors image s is) (named sectors image s is)
 
-  pub are_sound : StartsAreOpened → StartsAreNamed → WholeHaveNone → BeginsSound → IsSoundServer s.head.geometry s.free.free (parts_of s)
-  are_sound opened named none sound = sound sectors image (volume_under s.head image) s.names s.files s.free.free set.empty (opened sectors image s is) (none_orphaned opened named none)
+  pub are_sound : StartsAreOpened → StartsAreNamed → WholeHaveNone → BeginsSound → IsSoundServer s.superblock.geometry s.free.free (parts_of s)
+  are_sound opened named none sound = sound sectors image (volume_under s.superblock image) s.names s.files s.free.free set.empty (opened sectors image s is) (none_orphaned opened named none)
 
 -- ---- of a clean disk
 
 module _ (g : Geometry) (sectors : ℕ) (state : State) (s : Start) (is : IsReadClean g sectors state s) where
-  abbrev head : Super
-  head = s.head.head
+  abbrev superblock : Super
+  superblock = s.superblock.superblock
 
   abbrev t : PosixTree
-  t = image_start (tree_under s.head (seen state))
+  t = image_start (tree_under s.superblock (seen state))
 
   abbrev v : Volume
-  v = volume_under s.head (seen state)
+  v = volume_under s.superblock (seen state)
 
-  same_head : head ≡ head_of (seen state)
-  same_head = ap (λ (v : Volume). v.head) (taken sectors (seen state) v is.begun.standing.taken).same
+  same_superblock : superblock ≡ superblock_of (seen state)
+  same_superblock = ap (λ (v : Volume). v.superblock) (taken sectors (seen state) v is.begun.standing.taken).same
 
-  same_geometry : geometry_of head ≡ g
-  same_geometry = sym s.head.same ∙ is.geometry
+  same_geometry : geometry_of superblock ≡ g
+  same_geometry = sym s.superblock.same ∙ is.geometry
 
-  pub mountable : CleanDisksMount → IsMountable sectors state head
-  mountable mounts = subst (IsMountable sectors state) (sym same_head) (mounts sectors state is.clean.proper.settled is.clean.proper.proper is.clean.clean)
+  pub mountable : CleanDisksMount → IsMountable sectors state superblock
+  mountable mounts = subst (IsMountable sectors state) (sym same_superblock) (mounts sectors state is.clean.proper.settled is.clean.proper.proper is.clean.clean)
 
   images : Leaves (IsImageOf sectors) state
   images image left sector less = is.whole.within sector less (image sector) (left sector)
 
   module _ (mounts : CleanDisksMount) (opened : StartsAreOpened) (named : StartsAreNamed) (none : WholeHaveNone) where
     pub goes_on : BeginsOnDisk g → (start : PosixTree) (store : StoreState) (p : Parts) → BeginsWith sectors (seen state) start → p ≡ parts_of s
-        → HasLedger store (opening_ledger (in_use head) (seen state)) → geometry_of_store store ≡ s.head.geometry → store.unassigned ≡ s.free → IsOnDisk store start [] p
+        → HasLedger store (opening_ledger (in_use superblock) (seen state)) → geometry_of_store store ≡ s.superblock.geometry → store.unassigned ≡ s.free → IsOnDisk store start [] p
     goes_on going start store p with_it same has formed free =
         subst (λ (p : Parts). IsOnDisk store start [] p) (sym same)
         (subst (λ (t : PosixTree). IsOnDisk store t [] (parts_of s)) (sym (same_start sectors (seen state) s is.begun start with_it)) on_it)
@@ -145,22 +145,22 @@ module _ (g : Geometry) (sectors : ℕ) (state : State) (s : Start) (is : IsRead
       abbrev k : Counts
       k = begun_counts s.names
 
-      kept : IsLedgerKept (opening_ledger (in_use head) (seen state)) t [] k k
+      kept : IsLedgerKept (opening_ledger (in_use superblock) (seen state)) t [] k k
       kept =
-          let earlier = subst (λ (x : Geometry). HasEarlier x head.epoch (seen state)) (sym s.head.same) (mountable mounts).earlier in
+          let earlier = subst (λ (x : Geometry). HasEarlier x superblock.epoch (seen state)) (sym s.superblock.same) (mountable mounts).earlier in
           (stored sectors (seen state) v s.names s.files s.free.free is.geometry (images (seen state) (seen_is_image state)) (opened sectors (seen state) s is.begun)
           (none_orphaned sectors (seen state) s is.begun opened named none) earlier).kept
 
-      kept_before : IsLedgerKept (opening_ledger head (seen state)) t [] k k
+      kept_before : IsLedgerKept (opening_ledger superblock (seen state)) t [] k k
       kept_before = record { here = kept.here; there = λ other at. (let no = at in absurd cc) }
 
-      pub marking_explained : BeginningIsKept g → LedgersExplain g → (start : PosixTree) (image : Image) → BeginsWith sectors (seen state) start → IsLeftBy sectors (marking head (seen state)) image → OpensExplained sectors start [] image
+      pub marking_explained : BeginningIsKept g → LedgersExplain g → (start : PosixTree) (image : Image) → BeginsWith sectors (seen state) start → IsLeftBy sectors (marking superblock (seen state)) image → OpensExplained sectors start [] image
       marking_explained beginning explain start image with_it left =
           subst (λ (t : PosixTree). OpensExplained sectors t [] image) (sym (same_start sectors (seen state) s is.begun start with_it))
-          (explain sectors (marking head (seen state)) image t [] k k same_geometry left
-          (beginning (opening_ledger head (seen state)) (in_use head) (block_at (seen state)) t [] k k same_geometry same_geometry kept_before))
+          (explain sectors (marking superblock (seen state)) image t [] k k same_geometry left
+          (beginning (opening_ledger superblock (seen state)) (in_use superblock) (block_at (seen state)) t [] k k same_geometry same_geometry kept_before))
 
-  pub marking_proper : LeftIsProper g → (image : Image) → IsLeftBy sectors (marking head (seen state)) image → IsProperImage sectors image
+  pub marking_proper : LeftIsProper g → (image : Image) → IsLeftBy sectors (marking superblock (seen state)) image → IsProperImage sectors image
   marking_proper proper image left =
-      proper sectors (marking head (seen state)) image same_geometry
-      (λ other at. (let same = same_some _ _ at in ap (λ (o : Standing). geometry_of o.head) (sym same) ∙ same_geometry)) left
+      proper sectors (marking superblock (seen state)) image same_geometry
+      (λ other at. (let same = same_some _ _ at in ap (λ (o : Standing). geometry_of o.superblock) (sym same) ∙ same_geometry)) left

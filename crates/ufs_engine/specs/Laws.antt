@@ -30,7 +30,7 @@ abbrev pub StartsMayBegin : Type 0
 StartsMayBegin = (sectors : ℕ) (image : Image) (s : Start) (start : PosixTree) → IsBegun sectors image s → BeginsWith sectors image start → MayBegin (parts_of s) start
 
 abbrev pub StartsAreSound : Type 0
-StartsAreSound = (sectors : ℕ) (image : Image) (s : Start) → IsBegun sectors image s → IsSoundServer s.head.geometry s.free.free (parts_of s)
+StartsAreSound = (sectors : ℕ) (image : Image) (s : Start) → IsBegun sectors image s → IsSoundServer s.superblock.geometry s.free.free (parts_of s)
 
 -- ---- of a clean disk
 
@@ -39,20 +39,20 @@ pub record IsReadClean (g : Geometry) (sectors : ℕ) (state : State) (s : Start
   pub whole : IsWhole sectors state
   pub clean : IsCleanDisk sectors state
   pub begun : IsBegun sectors (seen state) s
-  pub geometry : s.head.geometry ≡ g
+  pub geometry : s.superblock.geometry ≡ g
 
 abbrev pub CleanStartsMount : Geometry → Type 0
-CleanStartsMount g = (sectors : ℕ) (state : State) (s : Start) → IsReadClean g sectors state s → IsMountable sectors state s.head.head
+CleanStartsMount g = (sectors : ℕ) (state : State) (s : Start) → IsReadClean g sectors state s → IsMountable sectors state s.superblock.superblock
 
 -- With the ledger that the mount gives the server goes on from the tree that was read.
 abbrev pub StartsGoOn : Geometry → Type 0
 StartsGoOn g = (sectors : ℕ) (state : State) (s : Start) (start : PosixTree) (store : StoreState) (p : Parts) → IsReadClean g sectors state s → BeginsWith sectors (seen state) start → p ≡ parts_of s
-    → HasLedger store (opening_ledger (in_use s.head.head) (seen state)) → geometry_of_store store ≡ s.head.geometry → store.unassigned ≡ s.free → IsOnDisk store start [] p
+    → HasLedger store (opening_ledger (in_use s.superblock.superblock) (seen state)) → geometry_of_store store ≡ s.superblock.geometry → store.unassigned ≡ s.free → IsOnDisk store start [] p
 
 -- While the image is marked in use a crash leaves that tree, in a proper image.
 abbrev pub MarkingIsExplained : Geometry → Type 0
 MarkingIsExplained g = (sectors : ℕ) (state : State) (s : Start) (start : PosixTree) (image : Image) → IsReadClean g sectors state s → BeginsWith sectors (seen state) start
-    → IsLeftBy sectors (marking s.head.head (seen state)) image → OpensExplained sectors start [] image
+    → IsLeftBy sectors (marking s.superblock.superblock (seen state)) image → OpensExplained sectors start [] image
 
 abbrev pub MarkingIsProper : Geometry → Type 0
-MarkingIsProper g = (sectors : ℕ) (state : State) (s : Start) (image : Image) → IsReadClean g sectors state s → IsLeftBy sectors (marking s.head.head (seen state)) image → IsProperImage sectors image
+MarkingIsProper g = (sectors : ℕ) (state : State) (s : Start) (image : Image) → IsReadClean g sectors state s → IsLeftBy sectors (marking s.superblock.superblock (seen state)) image → IsProperImage sectors image

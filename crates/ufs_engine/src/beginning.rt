@@ -125,17 +125,17 @@ fn mount<D: Disk>(alloc: Global, disk: D, parts: Start) -> Result<Begun<D>, Unbe
         → (start : PosixTree) → BeginsWith (D.size disk) (reads (D.moments disk)) start
         → IfErr result (λ u. IsExplainedBetween D.keeps (D.size disk) start [] (D.moments disk) (D.moments u.disk)) }
 {
-    let head = parts.head.head;
+    let superblock = parts.superblock.superblock;
     a_request_keeps_the_tree();
     beginning_law();
-    mounted_law(&parts.head.geometry);
+    mounted_law(&parts.superblock.geometry);
     let Ok(server) = DiskServer::begin(alloc, parts.names, parts.files) else {
         return Err(Unbegun {
             disk,
             fault: StartFault::Image(RecoverFault::Memory),
         });
     };
-    match Store::mount(alloc, disk, head, parts.free) {
+    match Store::mount(alloc, disk, superblock, parts.free) {
         Ok(store) => Ok(Begun { server, store }),
         Err(unmounted) => Err(Unbegun {
             disk: unmounted.disk,

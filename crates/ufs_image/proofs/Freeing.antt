@@ -13,7 +13,7 @@ use Rattle.ufs_image.specs.Nodes.{blocks_of}
 use Rattle.ufs_image.specs.Journal.{sectors_of_epoch, well_spelled, transactions, committed_of, committed}
 use Rattle.ufs_image.specs.Fold.{folded}
 use Rattle.ufs_image.specs.BadSectors.{first_bad, bad_sector}
-use Rattle.ufs_image.specs.Volume.{Volume, head_of, head_refusal, volume, volume_of}
+use Rattle.ufs_image.specs.Volume.{Volume, superblock_of, superblock_refusal, volume, volume_of}
 use Rattle.ufs_image.specs.Opens.{opens}
 use Rattle.ufs_layout.specs.declared.geometry.Geometry.{Geometry}
 use Rattle.ufs_layout.specs.declared.superblock.Super.{Super}
@@ -46,21 +46,21 @@ still_late : (g : Geometry) (k : ℕ) (ranged : is_inode_number g k ≡ true) (t
 still_late g k ranged [] n m less all = tt
 still_late g k ranged (t ∷ ts) n m less all = ((λ is. let one = all.0 is in omega (arith, one, less)), still_late g k ranged ts n m less all.1)
 
-module _ (sectors : ℕ) (image mix : Image) (c d : Catalog) (bytes : IsImageOf sectors image) (is : IsVolumeOf sectors image (volume_of (head_of image) image) c) where
+module _ (sectors : ℕ) (image mix : Image) (c d : Catalog) (bytes : IsImageOf sectors image) (is : IsVolumeOf sectors image (volume_of (superblock_of image) image) c) where
   abbrev g : Geometry
-  g = geometry_of (head_of image)
+  g = geometry_of (superblock_of image)
 
   abbrev cs : List Committed
-  cs = committed (geometry_of (head_of image)) (head_of image).epoch image
+  cs = committed (geometry_of (superblock_of image)) (superblock_of image).epoch image
 
-  there : IsGeometry (geometry_of (head_of image)) × (sector_count (geometry_of (head_of image)) ≤ sectors)
-  there = has_geometry sectors image (volume_of (head_of image) image) is.taken
+  there : IsGeometry (geometry_of (superblock_of image)) × (sector_count (geometry_of (superblock_of image)) ≤ sectors)
+  there = has_geometry sectors image (volume_of (superblock_of image) image) is.taken
 
   some : 1 ≤ g.inodes
   some = let least = there.0.least_inodes in omega (arith, least)
 
   fit : AllByRecursion FitsCommitted cs
-  fit = committed_fit g sectors (head_of image).epoch image there.0 there.1 bytes
+  fit = committed_fit g sectors (superblock_of image).epoch image there.0 there.1 bytes
 
   bool_number : (k : ℕ) → IsInode g k → is_inode_number g k ≡ true
   bool_number k in_range = let from = in_range.from_one in let most = in_range.within in grind (arith, nat_tests, from, most)
@@ -82,38 +82,38 @@ module _ (sectors : ℕ) (image mix : Image) (c d : Catalog) (bytes : IsImageOf 
       let same : ((folded_in g cs (catalog_at g image)).forms k).number ≡ (c.forms k).number = ap (λ (f : InodeForm). f.number) (folded_form k (in_range k ranged)) in
       still_late g k ranged cs ((folded_in g cs (catalog_at g image)).forms k).number number (omega (arith, same, less)) (numbers g k ranged cs (catalog_at g image))
 
-  module _ (first : mix 0 ≡ image 0) (journal : (s : ℕ) → IsIn s (journal_sectors (geometry_of (head_of image))) → mix s ≡ image s)
-      (data' : (s : ℕ) → 8 * first_of_data (geometry_of (head_of image)) ≤ s → (mix s ≡ image s) ⊎ (mix s ≡ folded (geometry_of (head_of image)) (committed (geometry_of (head_of image)) (head_of image).epoch image) image s))
-      (frees : FreesUnnamed (geometry_of (head_of image)) c d)
-      (home : (k : ℕ) → IsInode (geometry_of (head_of image)) k → IsHome (image (sector_of_inode (geometry_of (head_of image)) k)) (mix (sector_of_inode (geometry_of (head_of image)) k)) (c.forms k) (d.forms k)) where
-    heads : head_of mix ≡ head_of image
-    heads = ap (λ b. head_of (λ _. b)) first
+  module _ (first : mix 0 ≡ image 0) (journal : (s : ℕ) → IsIn s (journal_sectors (geometry_of (superblock_of image))) → mix s ≡ image s)
+      (data' : (s : ℕ) → 8 * first_of_data (geometry_of (superblock_of image)) ≤ s → (mix s ≡ image s) ⊎ (mix s ≡ folded (geometry_of (superblock_of image)) (committed (geometry_of (superblock_of image)) (superblock_of image).epoch image) image s))
+      (frees : FreesUnnamed (geometry_of (superblock_of image)) c d)
+      (home : (k : ℕ) → IsInode (geometry_of (superblock_of image)) k → IsHome (image (sector_of_inode (geometry_of (superblock_of image)) k)) (mix (sector_of_inode (geometry_of (superblock_of image)) k)) (c.forms k) (d.forms k)) where
+    superblocks : superblock_of mix ≡ superblock_of image
+    superblocks = ap (λ b. superblock_of (λ _. b)) first
 
-    read_same' : sectors_of_epoch g (head_of image).epoch mix ≡ sectors_of_epoch g (head_of image).epoch image
-    read_same' = sectors_same g (head_of image).epoch image mix journal
+    read_same' : sectors_of_epoch g (superblock_of image).epoch mix ≡ sectors_of_epoch g (superblock_of image).epoch image
+    read_same' = sectors_same g (superblock_of image).epoch image mix journal
 
     -- what an inode's sector shows
     shown : (k : ℕ) → FitsForm (d.forms k) → mix (sector_of_inode g k) ≡ inode_bytes (d.forms k) → form_at g mix k ≡ d.forms k
     shown k fits e = ap (λ b. unwrap_or (inode_of b) (free_inode 0)) e ∙ ap (λ o. unwrap_or o (free_inode 0)) (inode-read (d.forms k) fits)
 
-    alike : (k : ℕ) → is_inode_number g k ≡ true → AllAlike g (transactions (well_spelled (sectors_of_epoch g (head_of image).epoch image))) image mix k
+    alike : (k : ℕ) → is_inode_number g k ≡ true → AllAlike g (transactions (well_spelled (sectors_of_epoch g (superblock_of image).epoch image))) image mix k
     alike k ranged = by (home k (in_range k ranged))
       where
-        by : IsHome (image (sector_of_inode g k)) (mix (sector_of_inode g k)) (c.forms k) (d.forms k) → AllAlike g (transactions (well_spelled (sectors_of_epoch g (head_of image).epoch image))) image mix k
+        by : IsHome (image (sector_of_inode g k)) (mix (sector_of_inode g k)) (c.forms k) (d.forms k) → AllAlike g (transactions (well_spelled (sectors_of_epoch g (superblock_of image).epoch image))) image mix k
         by (inl a) = inl a.0
         by (inr b) = inr (λ again. subst (AreLate g k again cs) (sym (ap (λ (f : InodeForm). f.number) (shown k b.0 b.2))) (all_late k again (d.forms k).number b.1))
 
-    mix_taken : volume sectors mix ≡ Ok (volume_of (head_of mix) mix)
-    mix_taken = is_taken sectors mix (ap (λ b. head_refusal sectors (λ _. b)) first ∙ (taken sectors image (volume_of (head_of image) image) is.taken).head)
-        (ap (λ (s : Super). bad_sector (geometry_of s) s mix) heads ∙ ap (first_bad g (head_of image).next mix) read_same'
-        ∙ none_bad g (head_of image).next image mix (sectors_of_epoch g (head_of image).epoch image) alike (taken sectors image (volume_of (head_of image) image) is.taken).journal)
+    mix_taken : volume sectors mix ≡ Ok (volume_of (superblock_of mix) mix)
+    mix_taken = is_taken sectors mix (ap (λ b. superblock_refusal sectors (λ _. b)) first ∙ (taken sectors image (volume_of (superblock_of image) image) is.taken).superblock)
+        (ap (λ (s : Super). bad_sector (geometry_of s) s mix) superblocks ∙ ap (first_bad g (superblock_of image).next mix) read_same'
+        ∙ none_bad g (superblock_of image).next image mix (sectors_of_epoch g (superblock_of image).epoch image) alike (taken sectors image (volume_of (superblock_of image) image) is.taken).journal)
 
     -- the folded mix
     after : Image
     after = folded g cs mix
 
-    same_volume : volume_of (head_of mix) mix ≡ record { head = head_of image; geometry = g; image = folded g cs mix }
-    same_volume = ap (λ (s : Super). volume_of s mix) heads ∙ (λ i. record { head = head_of image; geometry = g; image = folded g (map committed_of (transactions (well_spelled (read_same' i)))) mix })
+    same_volume : volume_of (superblock_of mix) mix ≡ record { superblock = superblock_of image; geometry = g; image = folded g cs mix }
+    same_volume = ap (λ (s : Super). volume_of s mix) superblocks ∙ (λ i. record { superblock = superblock_of image; geometry = g; image = folded g (map committed_of (transactions (well_spelled (read_same' i)))) mix })
 
     data_same : (s : ℕ) → 8 * first_of_data g ≤ s → folded g cs image s ≡ folded g cs mix s
     data_same s from = sym (mixed g sectors image mix cs there.0 there.1 bytes fit s (data' s from))
@@ -148,7 +148,7 @@ module _ (sectors : ℕ) (image mix : Image) (c d : Catalog) (bytes : IsImageOf 
           sym (read_same (folded g cs image) (folded g cs mix) b (λ s of. let at = of.same in data_same s (omega (arith, from, at)))) ∙ is.catalog.slots b (record { inode = in_dir.inode; place = in_dir.place; has = was; dir = kind }) ∙ ap (map Some) (sym (frees.slots b));
     }
 
-    mix_is : IsVolumeOf sectors mix (record { head = head_of image; geometry = g; image = folded g cs mix }) d
+    mix_is : IsVolumeOf sectors mix (record { superblock = superblock_of image; geometry = g; image = folded g cs mix }) d
     mix_is = record { taken = mix_taken ∙ ap Ok same_volume; catalog = catalog; sound = unnamed_sound g c d is.sound some frees }
 
     nodes : (names : List (List ℕ)) (i : ℕ) → met_by c names ≡ Some i → node_of (folded g cs image) c i ≡ node_of (folded g cs mix) d i
@@ -160,10 +160,10 @@ module _ (sectors : ℕ) (image mix : Image) (c d : Catalog) (bytes : IsImageOf 
 
     pub freeing : (w : Volume) × IsVolumeOf sectors mix w d × (w.geometry ≡ g) × (opens sectors mix ≡ opens sectors image)
     freeing = (
-      record { head = head_of image; geometry = g; image = folded g cs mix },
+      record { superblock = superblock_of image; geometry = g; image = folded g cs mix },
       mix_is,
       refl,
-      alike_tree sectors image mix (volume_of (head_of image) image) (record { head = head_of image; geometry = g; image = folded g cs mix }) c d is mix_is (unnamed_walks g c d is.sound some frees) nodes,
+      alike_tree sectors image mix (volume_of (superblock_of image) image) (record { superblock = superblock_of image; geometry = g; image = folded g cs mix }) c d is mix_is (unnamed_walks g c d is.sound some frees) nodes,
     )
 
 pub stops_freeing : (sectors : ℕ) (image mix : Image) (v : Volume) (c d : Catalog) → IsImageOf sectors image → IsVolumeOf sectors image v c → mix 0 ≡ image 0
@@ -173,16 +173,16 @@ pub stops_freeing : (sectors : ℕ) (image mix : Image) (v : Volume) (c d : Cata
     → (w : Volume) × IsVolumeOf sectors mix w d × (w.geometry ≡ v.geometry) × (opens sectors mix ≡ opens sectors image)
 stops_freeing sectors image mix v c d bytes is first = of v (sym (taken sectors image v is.taken).same) is
   where
-    of' : IsVolumeOf sectors image (volume_of (head_of image) image) c
-        → ((s : ℕ) → 8 * first_of_journal (geometry_of (head_of image)) ≤ s → s < 8 * first_of_journal (geometry_of (head_of image)) + (geometry_of (head_of image)).journal → mix s ≡ image s)
-        → ((s : ℕ) → 8 * first_of_data (geometry_of (head_of image)) ≤ s → (mix s ≡ image s) ⊎ (mix s ≡ (volume_of (head_of image) image).image s))
-        → FreesUnnamed (geometry_of (head_of image)) c d
-        → ((k : ℕ) → IsInode (geometry_of (head_of image)) k → IsHome (image (sector_of_inode (geometry_of (head_of image)) k)) (mix (sector_of_inode (geometry_of (head_of image)) k)) (c.forms k) (d.forms k))
-        → (w : Volume) × IsVolumeOf sectors mix w d × (w.geometry ≡ geometry_of (head_of image)) × (opens sectors mix ≡ opens sectors image)
+    of' : IsVolumeOf sectors image (volume_of (superblock_of image) image) c
+        → ((s : ℕ) → 8 * first_of_journal (geometry_of (superblock_of image)) ≤ s → s < 8 * first_of_journal (geometry_of (superblock_of image)) + (geometry_of (superblock_of image)).journal → mix s ≡ image s)
+        → ((s : ℕ) → 8 * first_of_data (geometry_of (superblock_of image)) ≤ s → (mix s ≡ image s) ⊎ (mix s ≡ (volume_of (superblock_of image) image).image s))
+        → FreesUnnamed (geometry_of (superblock_of image)) c d
+        → ((k : ℕ) → IsInode (geometry_of (superblock_of image)) k → IsHome (image (sector_of_inode (geometry_of (superblock_of image)) k)) (mix (sector_of_inode (geometry_of (superblock_of image)) k)) (c.forms k) (d.forms k))
+        → (w : Volume) × IsVolumeOf sectors mix w d × (w.geometry ≡ geometry_of (superblock_of image)) × (opens sectors mix ≡ opens sectors image)
     of' is journal data' frees home = freeing sectors image mix c d bytes is first
-        (λ s inside. let at = from_range (8 * first_of_journal (geometry_of (head_of image))) (geometry_of (head_of image)).journal s inside in journal s at.0 at.1) data' frees home
+        (λ s inside. let at = from_range (8 * first_of_journal (geometry_of (superblock_of image))) (geometry_of (superblock_of image)).journal s inside in journal s at.0 at.1) data' frees home
 
-    of : (v : Volume) → volume_of (head_of image) image ≡ v → IsVolumeOf sectors image v c
+    of : (v : Volume) → volume_of (superblock_of image) image ≡ v → IsVolumeOf sectors image v c
         → ((s : ℕ) → 8 * first_of_journal v.geometry ≤ s → s < 8 * first_of_journal v.geometry + v.geometry.journal → mix s ≡ image s)
         → ((s : ℕ) → 8 * first_of_data v.geometry ≤ s → (mix s ≡ image s) ⊎ (mix s ≡ v.image s))
         → FreesUnnamed v.geometry c d → ((k : ℕ) → IsInode v.geometry k → IsHome (image (sector_of_inode v.geometry k)) (mix (sector_of_inode v.geometry k)) (c.forms k) (d.forms k))

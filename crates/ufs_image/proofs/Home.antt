@@ -14,7 +14,7 @@ use Rattle.ufs_image.specs.Journal.{ReadSector, FoundSector, PlacedRecord, Trans
 use Rattle.ufs_image.specs.Fold.{is_in_range, is_newer, with_valid, with_committed, folded}
 use Rattle.ufs_image.specs.BadSectors.{keeps_too_many, overkept_in, overkept, is_misspelled, is_off, first_bad, bad_sector}
 use Rattle.ufs_image.specs.Nodes.{blocks_of}
-use Rattle.ufs_image.specs.Volume.{Volume, head_of, head_refusal, volume, volume_of}
+use Rattle.ufs_image.specs.Volume.{Volume, superblock_of, superblock_refusal, volume, volume_of}
 use Rattle.ufs_image.specs.Opens.{opens}
 use Rattle.ufs_layout.specs.declared.geometry.Geometry.{Geometry}
 use Rattle.ufs_layout.specs.declared.superblock.Super.{Super}
@@ -164,33 +164,33 @@ module _ (g : Geometry) where
 
 module _ (sectors : ℕ) (image mix : Image) (bytes : IsImageOf sectors image) (v : Volume) (c : Catalog) (is : IsVolumeOf sectors image v c) where
   abbrev s0 : Super
-  s0 = head_of image
+  s0 = superblock_of image
 
   abbrev g : Geometry
-  g = geometry_of (head_of image)
+  g = geometry_of (superblock_of image)
 
-  geometry_same : geometry_of (head_of image) ≡ v.geometry
+  geometry_same : geometry_of (superblock_of image) ≡ v.geometry
   geometry_same = ap (λ (u : Volume). u.geometry) (sym (taken sectors image v is.taken).same)
 
-  there : IsGeometry (geometry_of (head_of image)) × (sector_count (geometry_of (head_of image)) ≤ sectors)
+  there : IsGeometry (geometry_of (superblock_of image)) × (sector_count (geometry_of (superblock_of image)) ≤ sectors)
   there = let at = has_geometry sectors image v is.taken in (subst IsGeometry (sym geometry_same) at.0, subst (λ h. sector_count h ≤ sectors) (sym geometry_same) at.1)
 
   abbrev cs : List Committed
-  cs = committed (geometry_of (head_of image)) (head_of image).epoch image
+  cs = committed (geometry_of (superblock_of image)) (superblock_of image).epoch image
 
   fit : AllByRecursion FitsCommitted cs
-  fit = committed_fit g sectors (head_of image).epoch image there.0 there.1 bytes
+  fit = committed_fit g sectors (superblock_of image).epoch image there.0 there.1 bytes
 
   image_is : v.image ≡ folded g cs image
   image_is = ap (λ (u : Volume). u.image) (taken sectors image v is.taken).same
 
-  module _ (first : mix 0 ≡ image 0) (journal : (s : ℕ) → IsIn s (journal_sectors (geometry_of (head_of image))) → mix s ≡ image s)
-      (home : (s : ℕ) → 8 * first_of_inodes (geometry_of (head_of image)) ≤ s → (mix s ≡ image s) ⊎ (mix s ≡ folded (geometry_of (head_of image)) (committed (geometry_of (head_of image)) (head_of image).epoch image) image s)) where
-    heads : head_of mix ≡ head_of image
-    heads = ap (λ b. head_of (λ _. b)) first
+  module _ (first : mix 0 ≡ image 0) (journal : (s : ℕ) → IsIn s (journal_sectors (geometry_of (superblock_of image))) → mix s ≡ image s)
+      (home : (s : ℕ) → 8 * first_of_inodes (geometry_of (superblock_of image)) ≤ s → (mix s ≡ image s) ⊎ (mix s ≡ folded (geometry_of (superblock_of image)) (committed (geometry_of (superblock_of image)) (superblock_of image).epoch image) image s)) where
+    superblocks : superblock_of mix ≡ superblock_of image
+    superblocks = ap (λ b. superblock_of (λ _. b)) first
 
-    read_same : sectors_of_epoch g (head_of image).epoch mix ≡ sectors_of_epoch g (head_of image).epoch image
-    read_same = sectors_same g (head_of image).epoch image mix journal
+    read_same : sectors_of_epoch g (superblock_of image).epoch mix ≡ sectors_of_epoch g (superblock_of image).epoch image
+    read_same = sectors_same g (superblock_of image).epoch image mix journal
 
     in_range : (k : ℕ) → is_inode_number g k ≡ true → IsInode g k
     in_range k e =
@@ -198,42 +198,42 @@ module _ (sectors : ℕ) (image mix : Image) (bytes : IsImageOf sectors image) (
         let high = (and_parts (nat_le 1 k) (nat_le k g.inodes) e).1 in
         record { from_one = grind (arith, nat_tests, low); within = grind (arith, nat_tests, high) }
 
-    alike : (k : ℕ) → is_inode_number g k ≡ true → AllAlike g (transactions (well_spelled (sectors_of_epoch g (head_of image).epoch image))) image mix k
+    alike : (k : ℕ) → is_inode_number g k ≡ true → AllAlike g (transactions (well_spelled (sectors_of_epoch g (superblock_of image).epoch image))) image mix k
     alike k ranged = by (home (sector_of_inode g k) (omega arith))
       where
-        by : (mix (sector_of_inode g k) ≡ image (sector_of_inode g k)) ⊎ (mix (sector_of_inode g k) ≡ folded g cs image (sector_of_inode g k)) → AllAlike g (transactions (well_spelled (sectors_of_epoch g (head_of image).epoch image))) image mix k
+        by : (mix (sector_of_inode g k) ≡ image (sector_of_inode g k)) ⊎ (mix (sector_of_inode g k) ≡ folded g cs image (sector_of_inode g k)) → AllAlike g (transactions (well_spelled (sectors_of_epoch g (superblock_of image).epoch image))) image mix k
         by (inl same) = inl same
         by (inr done) =
             let after = folded_step g false (λ _. false) cs image (catalog_at g image) (shows g sectors image there.0 there.1 bytes) fit in
             let form : form_at g mix k ≡ (folded_in g cs (catalog_at g image)).forms k = ap (λ b. unwrap_or (inode_of b) (free_inode 0)) done ∙ after.forms k (in_range k ranged) in
             inr (λ again. subst (AreLate g k again cs) (sym (ap (λ (f : InodeForm). f.number) form)) (numbers g k again cs (catalog_at g image)))
 
-    head_there : head_refusal sectors mix ≡ None
-    head_there = ap (λ b. head_refusal sectors (λ _. b)) first ∙ (taken sectors image v is.taken).head
+    superblock_there : superblock_refusal sectors mix ≡ None
+    superblock_there = ap (λ b. superblock_refusal sectors (λ _. b)) first ∙ (taken sectors image v is.taken).superblock
 
-    bad_none : bad_sector g (head_of image) mix ≡ None
-    bad_none = ap (first_bad g (head_of image).next mix) read_same ∙ none_bad g (head_of image).next image mix (sectors_of_epoch g (head_of image).epoch image) alike (taken sectors image v is.taken).journal
+    bad_none : bad_sector g (superblock_of image) mix ≡ None
+    bad_none = ap (first_bad g (superblock_of image).next mix) read_same ∙ none_bad g (superblock_of image).next image mix (sectors_of_epoch g (superblock_of image).epoch image) alike (taken sectors image v is.taken).journal
 
-    mix_taken : volume sectors mix ≡ Ok (volume_of (head_of mix) mix)
-    mix_taken = is_taken sectors mix head_there (ap (λ (s : Super). bad_sector (geometry_of s) s mix) heads ∙ bad_none)
+    mix_taken : volume sectors mix ≡ Ok (volume_of (superblock_of mix) mix)
+    mix_taken = is_taken sectors mix superblock_there (ap (λ (s : Super). bad_sector (geometry_of s) s mix) superblocks ∙ bad_none)
 
-    same_volume : volume_of (head_of mix) mix ≡ volume_of (head_of image) mix
-    same_volume = ap (λ (s : Super). volume_of s mix) heads
+    same_volume : volume_of (superblock_of mix) mix ≡ volume_of (superblock_of image) mix
+    same_volume = ap (λ (s : Super). volume_of s mix) superblocks
 
-    folds : (s : ℕ) → 8 * first_of_inodes g ≤ s → folded g (committed g (head_of image).epoch mix) mix s ≡ folded g cs image s
+    folds : (s : ℕ) → 8 * first_of_inodes g ≤ s → folded g (committed g (superblock_of image).epoch mix) mix s ≡ folded g cs image s
     folds s from = ap (λ read. folded g (map committed_of (transactions (well_spelled read))) mix s) read_same ∙ mixed g sectors image mix cs there.0 there.1 bytes fit s (home s from)
 
-    agree : (s : ℕ) → 8 * first_of_inodes g ≤ s → v.image s ≡ (volume_of (head_of mix) mix).image s
+    agree : (s : ℕ) → 8 * first_of_inodes g ≤ s → v.image s ≡ (volume_of (superblock_of mix) mix).image s
     agree s from = ap (λ (i : Image). i s) image_is ∙ sym (folds s from) ∙ sym (ap (λ (u : Volume). u.image s) same_volume)
 
-    geometries : (volume_of (head_of mix) mix).geometry ≡ v.geometry
+    geometries : (volume_of (superblock_of mix) mix).geometry ≡ v.geometry
     geometries = ap (λ (u : Volume). u.geometry) same_volume ∙ geometry_same
 
-    mix_is : IsVolumeOf sectors mix (volume_of (head_of mix) mix) c
+    mix_is : IsVolumeOf sectors mix (volume_of (superblock_of mix) mix) c
     mix_is = record {
       taken = mix_taken;
-      catalog = subst (λ h. IsCatalogOf h (volume_of (head_of mix) mix).image c) (sym geometries) (catalog_same v.geometry v.image (volume_of (head_of mix) mix).image c is.catalog
-          (λ k ranged. subst (λ h. v.image (sector_of_inode h k) ≡ (volume_of (head_of mix) mix).image (sector_of_inode h k)) geometry_same (agree (sector_of_inode g k) (omega arith)))
+      catalog = subst (λ h. IsCatalogOf h (volume_of (superblock_of mix) mix).image c) (sym geometries) (catalog_same v.geometry v.image (volume_of (superblock_of mix) mix).image c is.catalog
+          (λ k ranged. subst (λ h. v.image (sector_of_inode h k) ≡ (volume_of (superblock_of mix) mix).image (sector_of_inode h k)) geometry_same (agree (sector_of_inode g k) (omega arith)))
           (λ s of. let low = block_low of.dir_block.inode of.dir_block.place of.block of.dir_block.has.in_range of.dir_block.has.there in let at = of.of_block.same in agree s (omega (arith, low, at))));
       sound = subst (λ h. IsSoundCatalog h c) (sym geometries) is.sound;
     }
@@ -245,7 +245,7 @@ module _ (sectors : ℕ) (image mix : Image) (bytes : IsImageOf sectors image) (
             omega (arith, here)
 
     pub stops : opens sectors mix ≡ opens sectors image
-    stops = one_tree sectors image mix v (volume_of (head_of mix) mix) c is mix_is geometries (λ k ranged s of. agree s (low k ranged s of))
+    stops = one_tree sectors image mix v (volume_of (superblock_of mix) mix) c is mix_is geometries (λ k ranged s of. agree s (low k ranged s of))
       where
         low : (k : ℕ) → IsInode v.geometry k → (s : ℕ) → IsOfForm (c.forms k) s → 8 * first_of_inodes g ≤ s
         low k ranged s of =
@@ -260,13 +260,13 @@ pub stops_anywhere : (sectors : ℕ) (image mix : Image) (v : Volume) (c : Catal
     → ((s : ℕ) → 8 * first_of_inodes v.geometry ≤ s → (mix s ≡ image s) ⊎ (mix s ≡ v.image s)) → opens sectors mix ≡ opens sectors image
 stops_anywhere sectors image mix v c bytes is first journal home =
     stops sectors image mix bytes v c is first
-    (λ s inside. let at = from_range (8 * first_of_journal (geometry_of (head_of image))) (geometry_of (head_of image)).journal s inside in
+    (λ s inside. let at = from_range (8 * first_of_journal (geometry_of (superblock_of image))) (geometry_of (superblock_of image)).journal s inside in
     journal s (subst (λ h. 8 * first_of_journal h ≤ s) same at.0) (subst (λ (h : Geometry). s < 8 * first_of_journal h + h.journal) same at.1))
     (λ s from. by s (home s (subst (λ h. 8 * first_of_inodes h ≤ s) same from)))
   where
-    same : geometry_of (head_of image) ≡ v.geometry
+    same : geometry_of (superblock_of image) ≡ v.geometry
     same = geometry_same sectors image mix bytes v c is
 
-    by : (s : ℕ) → (mix s ≡ image s) ⊎ (mix s ≡ v.image s) → (mix s ≡ image s) ⊎ (mix s ≡ folded (geometry_of (head_of image)) (committed (geometry_of (head_of image)) (head_of image).epoch image) image s)
+    by : (s : ℕ) → (mix s ≡ image s) ⊎ (mix s ≡ v.image s) → (mix s ≡ image s) ⊎ (mix s ≡ folded (geometry_of (superblock_of image)) (committed (geometry_of (superblock_of image)) (superblock_of image).epoch image) image s)
     by s (inl e) = inl e
     by s (inr e) = inr (e ∙ ap (λ (i : Image). i s) (image_is sectors image mix bytes v c is))

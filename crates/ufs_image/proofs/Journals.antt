@@ -12,7 +12,7 @@ use Rattle.ufs_layout.specs.JournalSector.{journal_of}
 use Rattle.ufs_image.specs.Journal.{ReadSector, FoundSector, PlacedRecord, Transaction, epoch_in, sectors_of_epoch, well_spelled, transactions, committed_of, committed}
 use Rattle.ufs_image.specs.Fold.{is_in_range, is_newer, with_valid, with_committed, folded}
 use Rattle.ufs_image.specs.BadSectors.{keeps_too_many, overkept_in, overkept, is_misspelled, is_off, first_bad, bad_sector}
-use Rattle.ufs_image.specs.Volume.{Refusal, Volume, head_of, head_refusal, by_head, by_journal, volume, volume_of}
+use Rattle.ufs_image.specs.Volume.{Refusal, Volume, superblock_of, superblock_refusal, by_superblock, by_journal, volume, volume_of}
 use Rattle.ufs_layout.specs.declared.geometry.Geometry.{Geometry}
 use Rattle.ufs_layout.specs.declared.superblock.Super.{Super}
 use Rattle.ufs_layout.specs.declared.records.LogRecord.{LogRecord}
@@ -99,43 +99,43 @@ same_ok x y e = cc
 
 -- what an image that is taken has
 pub record IsTaken (sectors : ℕ) (image : Image) (v : Volume) : Type 0 where
-  pub head : head_refusal sectors image ≡ None
-  pub journal : bad_sector (geometry_of (head_of image)) (head_of image) image ≡ None
-  pub same : v ≡ volume_of (head_of image) image
+  pub superblock : superblock_refusal sectors image ≡ None
+  pub journal : bad_sector (geometry_of (superblock_of image)) (superblock_of image) image ≡ None
+  pub same : v ≡ volume_of (superblock_of image) image
 
 pub taken : (sectors : ℕ) (image : Image) (v : Volume) → volume sectors image ≡ Ok v → IsTaken sectors image v
-taken sectors image v e = by (head_refusal sectors image) refl (bad_sector (geometry_of (head_of image)) (head_of image) image) refl
+taken sectors image v e = by (superblock_refusal sectors image) refl (bad_sector (geometry_of (superblock_of image)) (superblock_of image) image) refl
   where
-    by : (r : Option Refusal) → head_refusal sectors image ≡ r → (b : Option ℕ) → bad_sector (geometry_of (head_of image)) (head_of image) image ≡ b → IsTaken sectors image v
-    by (Some r) is b at = let no : Err r ≡ Ok v = sym (ap (by_head image) is) ∙ e in absurd cc
-    by None is (Some b) at = let no : by_journal image (Some b) ≡ Ok v = sym (ap (by_head image) is ∙ ap (by_journal image) at) ∙ e in absurd cc
-    by None is None at = let ok : Ok v ≡ Ok (volume_of (head_of image) image) = sym e ∙ ap (by_head image) is ∙ ap (by_journal image) at in record { head = is; journal = at; same = same_ok v (volume_of (head_of image) image) ok }
+    by : (r : Option Refusal) → superblock_refusal sectors image ≡ r → (b : Option ℕ) → bad_sector (geometry_of (superblock_of image)) (superblock_of image) image ≡ b → IsTaken sectors image v
+    by (Some r) is b at = let no : Err r ≡ Ok v = sym (ap (by_superblock image) is) ∙ e in absurd cc
+    by None is (Some b) at = let no : by_journal image (Some b) ≡ Ok v = sym (ap (by_superblock image) is ∙ ap (by_journal image) at) ∙ e in absurd cc
+    by None is None at = let ok : Ok v ≡ Ok (volume_of (superblock_of image) image) = sym e ∙ ap (by_superblock image) is ∙ ap (by_journal image) at in record { superblock = is; journal = at; same = same_ok v (volume_of (superblock_of image) image) ok }
 
-pub is_taken : (sectors : ℕ) (image : Image) → head_refusal sectors image ≡ None → bad_sector (geometry_of (head_of image)) (head_of image) image ≡ None → volume sectors image ≡ Ok (volume_of (head_of image) image)
-is_taken sectors image head journal = ap (by_head image) head ∙ ap (by_journal image) journal
+pub is_taken : (sectors : ℕ) (image : Image) → superblock_refusal sectors image ≡ None → bad_sector (geometry_of (superblock_of image)) (superblock_of image) image ≡ None → volume sectors image ≡ Ok (volume_of (superblock_of image) image)
+is_taken sectors image superblock journal = ap (by_superblock image) superblock ∙ ap (by_journal image) journal
 
 -- An image that agrees with one that is taken on what lies before the data area is taken too, and the folded images agree
 -- wherever the two do.
 pub taken_alike : (sectors : ℕ) (image other : Image) (v : Volume) (these : ℕ → Type 0) → volume sectors image ≡ Ok v → ((sector : ℕ) → IsMetadata v.geometry sector → these sector) → AgreeOn these image other
-    → (w : Volume) × (volume sectors other ≡ Ok w) × (w.geometry ≡ v.geometry) × (w.head ≡ v.head) × AgreeOn these v.image w.image
-taken_alike sectors image other v these e metadata agree = let is = taken sectors image v e in of v (sym is.same) metadata is.head is.journal
+    → (w : Volume) × (volume sectors other ≡ Ok w) × (w.geometry ≡ v.geometry) × (w.superblock ≡ v.superblock) × AgreeOn these v.image w.image
+taken_alike sectors image other v these e metadata agree = let is = taken sectors image v e in of v (sym is.same) metadata is.superblock is.journal
   where
-    of : (v : Volume) → volume_of (head_of image) image ≡ v → ((sector : ℕ) → IsMetadata v.geometry sector → these sector) → head_refusal sectors image ≡ None → bad_sector (geometry_of (head_of image)) (head_of image) image ≡ None
-        → (w : Volume) × (volume sectors other ≡ Ok w) × (w.geometry ≡ v.geometry) × (w.head ≡ v.head) × AgreeOn these v.image w.image
-    of v is metadata head journal =
-        let here : (sector : ℕ) → IsMetadata (geometry_of (head_of image)) sector → these sector = λ sector in_it. metadata sector (subst (λ (u : Volume). IsMetadata u.geometry sector) is in_it) in
-        let first : image 0 ≡ other 0 = agree 0 (here 0 (first_metadata (geometry_of (head_of image)))) in
-        let heads : head_of image ≡ head_of other = ap (λ bytes. head_of (λ _. bytes)) first in
-        let head_there : head_refusal sectors other ≡ None = sym (ap (λ bytes. head_refusal sectors (λ _. bytes)) first) ∙ head in
-        let journal_there : bad_sector (geometry_of (head_of other)) (head_of other) other ≡ None =
-        sym (ap (λ (s : Super). bad_sector (geometry_of s) s other) heads) ∙ sym (bad_sector_agrees (geometry_of (head_of image)) these here (head_of image) image other agree) ∙ journal in
-        let g : Geometry = geometry_of (head_of image) in
-        let cs : committed g (head_of image).epoch image ≡ committed g (head_of image).epoch other = committed_same g these here image other agree (head_of image).epoch in
-        let same_volume : volume_of (head_of image) other ≡ volume_of (head_of other) other = ap (λ (s : Super). volume_of s other) heads in
-        let folds : AgreeOn these (folded g (committed g (head_of image).epoch image) image) (folded g (committed g (head_of image).epoch image) other) = folded_agrees g these (table g these here) (committed g (head_of image).epoch image) image other agree in (
-          volume_of (head_of other) other,
-          is_taken sectors other head_there journal_there,
+    of : (v : Volume) → volume_of (superblock_of image) image ≡ v → ((sector : ℕ) → IsMetadata v.geometry sector → these sector) → superblock_refusal sectors image ≡ None → bad_sector (geometry_of (superblock_of image)) (superblock_of image) image ≡ None
+        → (w : Volume) × (volume sectors other ≡ Ok w) × (w.geometry ≡ v.geometry) × (w.superblock ≡ v.superblock) × AgreeOn these v.image w.image
+    of v is metadata superblock journal =
+        let here : (sector : ℕ) → IsMetadata (geometry_of (superblock_of image)) sector → these sector = λ sector in_it. metadata sector (subst (λ (u : Volume). IsMetadata u.geometry sector) is in_it) in
+        let first : image 0 ≡ other 0 = agree 0 (here 0 (first_metadata (geometry_of (superblock_of image)))) in
+        let superblocks : superblock_of image ≡ superblock_of other = ap (λ bytes. superblock_of (λ _. bytes)) first in
+        let superblock_there : superblock_refusal sectors other ≡ None = sym (ap (λ bytes. superblock_refusal sectors (λ _. bytes)) first) ∙ superblock in
+        let journal_there : bad_sector (geometry_of (superblock_of other)) (superblock_of other) other ≡ None =
+        sym (ap (λ (s : Super). bad_sector (geometry_of s) s other) superblocks) ∙ sym (bad_sector_agrees (geometry_of (superblock_of image)) these here (superblock_of image) image other agree) ∙ journal in
+        let g : Geometry = geometry_of (superblock_of image) in
+        let cs : committed g (superblock_of image).epoch image ≡ committed g (superblock_of image).epoch other = committed_same g these here image other agree (superblock_of image).epoch in
+        let same_volume : volume_of (superblock_of image) other ≡ volume_of (superblock_of other) other = ap (λ (s : Super). volume_of s other) superblocks in
+        let folds : AgreeOn these (folded g (committed g (superblock_of image).epoch image) image) (folded g (committed g (superblock_of image).epoch image) other) = folded_agrees g these (table g these here) (committed g (superblock_of image).epoch image) image other agree in (
+          volume_of (superblock_of other) other,
+          is_taken sectors other superblock_there journal_there,
           sym (ap (λ (u : Volume). u.geometry) same_volume) ∙ ap (λ (u : Volume). u.geometry) is,
-          sym (ap (λ (u : Volume). u.head) same_volume) ∙ ap (λ (u : Volume). u.head) is,
+          sym (ap (λ (u : Volume). u.superblock) same_volume) ∙ ap (λ (u : Volume). u.superblock) is,
           λ s in_these. sym (ap (λ (u : Volume). u.image s) is) ∙ folds s in_these ∙ ap (λ list. folded g list other s) cs ∙ ap (λ (u : Volume). u.image s) same_volume,
         )

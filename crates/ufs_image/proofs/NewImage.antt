@@ -19,7 +19,7 @@ use Rattle.ufs_image.specs.Journal.{ReadSector, epoch_in, sectors_of_epoch, well
 use Rattle.ufs_image.specs.BadSectors.{first_bad, bad_sector}
 use Rattle.ufs_image.specs.Nodes.{is_bad_form, is_bad_inode, is_bad_extent, leaves_data, sound_node, sound_nodes, is_taken, dirs_of}
 use Rattle.ufs_image.specs.Damage.{BadInode, BadExtent, TwoNames, BitmapDiffers, shared_block, has_two_names, same_bool, is_marked, differing, all_bits, damage, tree_damage, node_damage, inode_damage, bad_tree, lowest_blamed}
-use Rattle.ufs_image.specs.Volume.{Refusal, NoSuperblock, BadVersion, BadGeometry, lacks_magic, has_other_version, is_off_form, bad_geometry, is_too_small, head_of, head_refusal, by_head, by_journal, volume, volume_of}
+use Rattle.ufs_image.specs.Volume.{Refusal, NoSuperblock, BadVersion, BadGeometry, lacks_magic, has_other_version, is_off_form, bad_geometry, is_too_small, superblock_of, superblock_refusal, by_superblock, by_journal, volume, volume_of}
 use Rattle.ufs_image.specs.Opens.{entry_and_below, names_in, below, walked, by_damage, entries_of, tree_from, damage_in, opens, root_entry, root_tree, damage_list}
 use Rattle.ufs_image.specs.Proper.{IsProperImage, IsProperVolume}
 use Rattle.ufs_layout.specs.Superblock.{new_super}
@@ -44,8 +44,8 @@ fits_super g is = record {
   next = omega arith;
 }
 
-new_head : (g : Geometry) (image : Image) → IsGeometry g → IsFormatted g image → head_of image ≡ new_super g
-new_head g image is new = ap super_fields new.superblock ∙ super-back (new_super g) (fits_super g is)
+new_superblock : (g : Geometry) (image : Image) → IsGeometry g → IsFormatted g image → superblock_of image ≡ new_super g
+new_superblock g image is new = ap super_fields new.superblock ∙ super-back (new_super g) (fits_super g is)
 
 taken_geometry : (g : Geometry) → IsGeometry g → geometry_refusal g ≡ None
 taken_geometry g is = grind (arith, nat_tests, is)
@@ -54,13 +54,13 @@ all_none : (a b c e : Bool) (d : Option Refusal) (v w x y : Refusal) → a ≡ f
     → first_of (refused_if a v) (first_of (refused_if b w) (first_of (refused_if c x) (first_of d (refused_if e y)))) ≡ None
 all_none a b c e d v w x y is_a is_b is_c is_d is_e = rw (is_a, is_b, is_c, is_d, is_e) refl
 
-head_taken : (sectors : ℕ) (g : Geometry) (image : Image) → IsGeometry g → IsFormatted g image → sector_count g ≤ sectors → head_refusal sectors image ≡ None
-head_taken sectors g image is new room =
-    all_none (lacks_magic sectors image) (has_other_version image) (is_off_form image) (is_too_small sectors image) (bad_geometry image) NoSuperblock (BadVersion (head_of image).version) NoSuperblock (BadGeometry 5)
-    magic_there (ap (λ (s : Super). not (s.version == 1)) head) (ap is_none spelled_there) geometry_taken (ap (λ (s : Super). nat_lt sectors (sector_count (geometry_of s))) head ∙ large)
+superblock_taken : (sectors : ℕ) (g : Geometry) (image : Image) → IsGeometry g → IsFormatted g image → sector_count g ≤ sectors → superblock_refusal sectors image ≡ None
+superblock_taken sectors g image is new room =
+    all_none (lacks_magic sectors image) (has_other_version image) (is_off_form image) (is_too_small sectors image) (bad_geometry image) NoSuperblock (BadVersion (superblock_of image).version) NoSuperblock (BadGeometry 5)
+    magic_there (ap (λ (s : Super). not (s.version == 1)) superblock) (ap is_none spelled_there) geometry_taken (ap (λ (s : Super). nat_lt sectors (sector_count (geometry_of s))) superblock ∙ large)
   where
-    head : head_of image ≡ new_super g
-    head = new_head g image is new
+    superblock : superblock_of image ≡ new_super g
+    superblock = new_superblock g image is new
 
     some_sectors : (sectors == 0) ≡ false
     some_sectors = grind (arith, nat_tests, is.least_blocks)
@@ -72,7 +72,7 @@ head_taken sectors g image is new room =
     spelled_there = spelled-at super_fields super_bytes (is_super 1) (new_super g) (image 0) new.superblock (super-back (new_super g) (fits_super g is)) refl
 
     geometry_taken : bad_geometry image ≡ None
-    geometry_taken = ap (λ (s : Super). option_map (λ bad. BadGeometry (refusal_number bad)) (geometry_refusal (geometry_of s))) head ∙ ap (option_map (λ bad. BadGeometry (refusal_number bad))) (taken_geometry g is)
+    geometry_taken = ap (λ (s : Super). option_map (λ bad. BadGeometry (refusal_number bad)) (geometry_refusal (geometry_of s))) superblock ∙ ap (option_map (λ bad. BadGeometry (refusal_number bad))) (taken_geometry g is)
 
     large : nat_lt sectors (sector_count g) ≡ false
     large = grind (arith, nat_tests, room)
@@ -95,13 +95,13 @@ folded_none g image new = ap (λ read. folded g (map committed_of (transactions 
 
 pub volume_new : (sectors : ℕ) (g : Geometry) (image : Image) → IsGeometry g → IsFormatted g image → sector_count g ≤ sectors → volume sectors image ≡ Ok (new_volume g image)
 volume_new sectors g image is new room =
-    ap (by_head image) (head_taken sectors g image is new room)
-    ∙ ap (by_journal image) (ap (λ (s : Super). bad_sector (geometry_of s) s image) head ∙ nothing_bad g 1 image (sectors_of_epoch g 1 image) (no_sector g image new))
-    ∙ (λ i. Ok (volume_of (head i) image))
-    ∙ (λ i. Ok (record { head = new_super g; geometry = g; image = folded_none g image new i }))
+    ap (by_superblock image) (superblock_taken sectors g image is new room)
+    ∙ ap (by_journal image) (ap (λ (s : Super). bad_sector (geometry_of s) s image) superblock ∙ nothing_bad g 1 image (sectors_of_epoch g 1 image) (no_sector g image new))
+    ∙ (λ i. Ok (volume_of (superblock i) image))
+    ∙ (λ i. Ok (record { superblock = new_super g; geometry = g; image = folded_none g image new i }))
   where
-    head : head_of image ≡ new_super g
-    head = new_head g image is new
+    superblock : superblock_of image ≡ new_super g
+    superblock = new_superblock g image is new
 
 -- ---- inodes
 

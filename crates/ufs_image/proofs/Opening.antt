@@ -9,7 +9,7 @@ use Rattle.ufs_layout.specs.Superblock.{geometry_of}
 use Rattle.ufs_base.specs.Images.{Image}
 use Rattle.ufs_image.specs.Images.{IsImageOf}
 use Rattle.ufs_image.specs.Damage.{bad_tree}
-use Rattle.ufs_image.specs.Volume.{Refusal, NoSuperblock, BadVersion, BadGeometry, BadTree, Volume, volume, head_of, lacks_magic, has_other_version, is_off_form, bad_geometry, is_too_small}
+use Rattle.ufs_image.specs.Volume.{Refusal, NoSuperblock, BadVersion, BadGeometry, BadTree, Volume, volume, superblock_of, lacks_magic, has_other_version, is_off_form, bad_geometry, is_too_small}
 use Rattle.ufs_image.specs.Opens.{ImageTree, walked, by_damage, entries_of, tree_from, opens, file_bytes}
 use Rattle.ufs_layout.specs.declared.geometry.Geometry.{Geometry}
 use Rattle.ufs_layout.specs.declared.geometry.BadGeometry.TheVariants.{Blocks, Inodes, Journal, NoData}
@@ -60,15 +60,15 @@ is_geometry g e =
 pub has_geometry : (sectors : ℕ) (image : Image) (v : Volume) → volume sectors image ≡ Ok v → IsGeometry v.geometry × (sector_count v.geometry ≤ sectors)
 has_geometry sectors image v e =
     let is = taken sectors image v e in
-    let one = second_none (refused_if (lacks_magic sectors image) NoSuperblock) _ is.head in
-    let two = second_none (refused_if (has_other_version image) (BadVersion (head_of image).version)) _ one.1 in
+    let one = second_none (refused_if (lacks_magic sectors image) NoSuperblock) _ is.superblock in
+    let two = second_none (refused_if (has_other_version image) (BadVersion (superblock_of image).version)) _ one.1 in
     let three = second_none (refused_if (is_off_form image) NoSuperblock) _ two.1 in
     let four = second_none (bad_geometry image) _ three.1 in
-    let none : geometry_refusal (geometry_of (head_of image)) ≡ None = no_map (λ bad. BadGeometry (refusal_number bad)) (geometry_refusal (geometry_of (head_of image))) four.0 in
+    let none : geometry_refusal (geometry_of (superblock_of image)) ≡ None = no_map (λ bad. BadGeometry (refusal_number bad)) (geometry_refusal (geometry_of (superblock_of image))) four.0 in
     let small = not_refused (is_too_small sectors image) (BadGeometry 5) four.1 in
-    let room : sector_count (geometry_of (head_of image)) ≤ sectors = grind (arith, nat_tests, small) in
-    let same : geometry_of (head_of image) ≡ v.geometry = ap (λ (u : Volume). u.geometry) (sym is.same) in
-    (subst IsGeometry same (is_geometry (geometry_of (head_of image)) none), subst (λ g. sector_count g ≤ sectors) same room)
+    let room : sector_count (geometry_of (superblock_of image)) ≤ sectors = grind (arith, nat_tests, small) in
+    let same : geometry_of (superblock_of image) ≡ v.geometry = ap (λ (u : Volume). u.geometry) (sym is.same) in
+    (subst IsGeometry same (is_geometry (geometry_of (superblock_of image)) none), subst (λ g. sector_count g ≤ sectors) same room)
 
 -- ---- the tree
 
@@ -102,7 +102,7 @@ bool_number g inode is = let from = is.from_one in let most = is.within in grind
 
 pub ignores : (sectors : ℕ) (image other : Image) (v : Volume) (c : Catalog) (these : ℕ → Type 0) → IsVolumeOf sectors image v c
     → ((sector : ℕ) → IsMetadata v.geometry sector → these sector) → ((sector : ℕ) → IsOfDir v.geometry c sector → these sector) → AgreeOn these image other
-    → (w : Volume) × IsVolumeOf sectors other w c × (w.geometry ≡ v.geometry) × (w.head ≡ v.head) × AgreeOn these v.image w.image
+    → (w : Volume) × IsVolumeOf sectors other w c × (w.geometry ≡ v.geometry) × (w.superblock ≡ v.superblock) × AgreeOn these v.image w.image
 ignores sectors image other v c these is metadata dirs agree =
     let there = taken_alike sectors image other v these is.taken metadata agree in
     let same : IsCatalogOf v.geometry there.0.image c = catalog_same v.geometry v.image there.0.image c is.catalog (λ inode in_range. there.4 _ (metadata _ (inode_metadata v.geometry inode (bool_number v.geometry inode in_range)))) (λ s of. there.4 s (dirs s of)) in

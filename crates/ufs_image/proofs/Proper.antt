@@ -25,14 +25,14 @@ all_pass p [] each = refl
 all_pass p (x ∷ xs) each = let head = each x (inl refl) in let rest = all_pass p xs (λ y is. each y (inr is)) in λ i. head i && rest i
 
 pub proper : (sectors : ℕ) (image : Image) (v : Volume) (c : Catalog) → IsVolumeOf sectors image v c
-    → ((sector : ℕ) → IsOfJournal v.geometry sector → epoch_in (image sector) ≤ v.head.epoch)
-    → (IsTrue v.head.clean → IsClosed image v c) → IsProperImage sectors image
+    → ((sector : ℕ) → IsOfJournal v.geometry sector → epoch_in (image sector) ≤ v.superblock.epoch)
+    → (IsTrue v.superblock.clean → IsClosed image v c) → IsProperImage sectors image
 proper sectors image v c is none_later closed = subst (λ r. MatchResult r (IsProperVolume image) (λ _. ⊥)) (sym is.taken) (record {
   has_tree = not_bad v.geometry v.image (sound_whole v.geometry v.image c is.catalog is.sound);
-  none_later = all_pass (λ s. not (nat_lt v.head.epoch (epoch_in (image s)))) (journal_sectors v.geometry) (λ s inside. later s (none_later s (in_journal s inside)));
+  none_later = all_pass (λ s. not (nat_lt v.superblock.epoch (epoch_in (image s)))) (journal_sectors v.geometry) (λ s inside. later s (none_later s (in_journal s inside)));
   if_clean = λ clean. let is_closed = closed clean in record {
-    no_entry = all_pass (λ s. not (epoch_in (image s) == v.head.epoch)) (journal_sectors v.geometry) (λ s inside. other s (is_closed.no_entry s (in_journal s inside)));
-    numbers_below = all_pass (λ i. nat_lt (form_at v.geometry image i).number v.head.next) (all_inodes v.geometry) (λ i inside. let less = is_closed.numbers i (inode_in v.geometry i inside) in grind (arith, nat_tests, less));
+    no_entry = all_pass (λ s. not (epoch_in (image s) == v.superblock.epoch)) (journal_sectors v.geometry) (λ s inside. other s (is_closed.no_entry s (in_journal s inside)));
+    numbers_below = all_pass (λ i. nat_lt (form_at v.geometry image i).number v.superblock.next) (all_inodes v.geometry) (λ i inside. let less = is_closed.numbers i (inode_in v.geometry i inside) in grind (arith, nat_tests, less));
     undamaged = ap (λ b. damage b v.geometry v.image) clean ∙ marks_whole v.geometry v.image c is.catalog is.sound is_closed.bits.marked is_closed.bits.taken;
   };
 })
@@ -40,8 +40,8 @@ proper sectors image v c is none_later closed = subst (λ r. MatchResult r (IsPr
     in_journal : (s : ℕ) → IsIn s (journal_sectors v.geometry) → IsOfJournal v.geometry s
     in_journal s inside = let at = from_range (8 * first_of_journal v.geometry) v.geometry.journal s inside in record { from = at.0; below = at.1 }
 
-    later : (s : ℕ) → epoch_in (image s) ≤ v.head.epoch → not (nat_lt v.head.epoch (epoch_in (image s))) ≡ true
+    later : (s : ℕ) → epoch_in (image s) ≤ v.superblock.epoch → not (nat_lt v.superblock.epoch (epoch_in (image s))) ≡ true
     later s most = grind (arith, nat_tests, most)
 
-    other : (s : ℕ) → epoch_in (image s) ≢ v.head.epoch → not (epoch_in (image s) == v.head.epoch) ≡ true
-    other s apart = ap not (false_if_not (epoch_in (image s) == v.head.epoch) (λ e. apart (grind (arith, nat_tests, e))))
+    other : (s : ℕ) → epoch_in (image s) ≢ v.superblock.epoch → not (epoch_in (image s) == v.superblock.epoch) ≡ true
+    other s apart = ap not (false_if_not (epoch_in (image s) == v.superblock.epoch) (λ e. apart (grind (arith, nat_tests, e))))

@@ -33,8 +33,8 @@ data_begins = refl
 
 -- ---- the image
 
-abbrev head : Super
-head = record { version = 1; blocks = 64; inodes = 16; journal = 64; epoch = 1; next = 1; clean = false }
+abbrev superblock : Super
+superblock = record { version = 1; blocks = 64; inodes = 16; journal = 64; epoch = 1; next = 1; clean = false }
 
 abbrev one_block : ℕ → List Extent
 one_block block = record { start = block; length = 1 } ∷ []
@@ -55,7 +55,7 @@ commit txn number = journal_bytes (record { epoch = 1; txn = txn; index = 1; con
 
 abbrev worked : Image
 worked sector =
-    if sector == 0 then super_bytes head else
+    if sector == 0 then super_bytes superblock else
     if sector == 16 then inode_bytes new_root else
     if sector == 32 then records 1 birth else
     if sector == 33 then commit 1 1 else

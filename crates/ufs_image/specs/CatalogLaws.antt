@@ -67,8 +67,8 @@ HasGeometry sectors = (image : Image) (v : Volume) → volume sectors image ≡ 
 -- It is proper, if no journal sector has a later epoch, and it is closed where it is clean.
 abbrev pub IsProperByCatalog : ℕ → Type 0
 IsProperByCatalog sectors = (image : Image) (v : Volume) (c : Catalog) → IsVolumeOf sectors image v c
-    → ((sector : ℕ) → IsOfJournal v.geometry sector → epoch_in (image sector) ≤ v.head.epoch)
-    → (IsTrue v.head.clean → IsClosed image v c) → IsProperImage sectors image
+    → ((sector : ℕ) → IsOfJournal v.geometry sector → epoch_in (image sector) ≤ v.superblock.epoch)
+    → (IsTrue v.superblock.clean → IsClosed image v c) → IsProperImage sectors image
 
 -- ---- paths
 
@@ -115,7 +115,7 @@ pub record IsTakenAlike (sectors : ℕ) (other : Image) (v : Volume) (c : Catalo
   pub found : Volume
   pub has : IsVolumeOf sectors other found c
   pub geometry : found.geometry ≡ v.geometry
-  pub head : found.head ≡ v.head
+  pub superblock : found.superblock ≡ v.superblock
   pub agree : AgreeOn (λ sector. IsTrue (these sector)) v.image found.image
 
 -- Images that agree on what lies before the data area and on the blocks of directories have one catalog.

@@ -35,7 +35,7 @@ pub record IsFormatted (g : Geometry) (image : Image) : Type 0 where
 
 -- the new image, taken: nothing is folded over it
 abbrev pub new_volume : Geometry → Image → Volume
-new_volume g image = record { head = new_super g; geometry = g; image = image }
+new_volume g image = record { superblock = new_super g; geometry = g; image = image }
 
 abbrev pub new_form : ℕ → InodeForm
 new_form inode = if inode == 1 then new_root else free_inode 0

@@ -10,15 +10,15 @@ use Rattle.ufs_image.specs.Volume.{Volume, volume, damage_of}
 
 -- on a clean image the journal of this epoch is empty, commit numbers are behind, and nothing is damaged
 pub record IsProperClean (v : Volume) (image : Image) : Type 0 where
-  pub no_entry : IsTrue (list_all (λ s. not (epoch_in (image s) == v.head.epoch)) (journal_sectors v.geometry))
-  pub numbers_below : IsTrue (list_all (λ i. nat_lt (form_at v.geometry image i).number v.head.next) (all_inodes v.geometry))
+  pub no_entry : IsTrue (list_all (λ s. not (epoch_in (image s) == v.superblock.epoch)) (journal_sectors v.geometry))
+  pub numbers_below : IsTrue (list_all (λ i. nat_lt (form_at v.geometry image i).number v.superblock.next) (all_inodes v.geometry))
   pub undamaged : damage_of v ≡ []
 
 -- It opens to a tree, and no journal sector has a later epoch.
 pub record IsProperVolume (image : Image) (v : Volume) : Type 0 where
   pub has_tree : bad_tree v.geometry v.image ≡ None
-  pub none_later : IsTrue (list_all (λ s. not (nat_lt v.head.epoch (epoch_in (image s)))) (journal_sectors v.geometry))
-  pub if_clean : IsTrue v.head.clean → IsProperClean v image
+  pub none_later : IsTrue (list_all (λ s. not (nat_lt v.superblock.epoch (epoch_in (image s)))) (journal_sectors v.geometry))
+  pub if_clean : IsTrue v.superblock.clean → IsProperClean v image
 
 abbrev pub IsProperImage : ℕ → Image → Type 0
 IsProperImage sectors image = MatchResult (volume sectors image) (IsProperVolume image) (λ _. ⊥)

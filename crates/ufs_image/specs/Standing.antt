@@ -26,6 +26,6 @@ pub record MarksTaken (g : Geometry) (image : Image) (c : Catalog) : Type 0 wher
 
 -- what a clean image has beside a sound catalog
 pub record IsClosed (image : Image) (v : Volume) (c : Catalog) : Type 0 where
-  pub no_entry : (sector : ℕ) → IsOfJournal v.geometry sector → epoch_in (image sector) ≢ v.head.epoch
-  pub numbers : (inode : ℕ) → IsInode v.geometry inode → (form_at v.geometry image inode).number < v.head.next
+  pub no_entry : (sector : ℕ) → IsOfJournal v.geometry sector → epoch_in (image sector) ≢ v.superblock.epoch
+  pub numbers : (inode : ℕ) → IsInode v.geometry inode → (form_at v.geometry image inode).number < v.superblock.next
   pub bits : MarksTaken v.geometry v.image c

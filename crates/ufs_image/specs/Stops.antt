@@ -12,7 +12,7 @@ use Rattle.ufs_image.specs.Changes.{FreesUnnamed}
 
 -- The superblock and the journal stand.
 pub record KeepsJournal (v : Volume) (image mix : Image) : Type 0 where
-  pub head : mix 0 ≡ image 0
+  pub superblock : mix 0 ≡ image 0
   pub journal : (sector : ℕ) → IsOfJournal v.geometry sector → mix sector ≡ image sector
 
 -- Any sectors from this one on are as folding makes them, and the others as they were.

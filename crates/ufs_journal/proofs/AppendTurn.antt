@@ -34,11 +34,11 @@ pub says_on : (g : Geometry) (epoch : ℕ) (d e f : Image) → SaysTheSame g epo
 says_on g epoch d e f one two = record {
   differs = differs_on g epoch d e f one.differs two.differs;
   same = two.same ∙ one.same;
-  bad = λ head is. two.bad head is ∙ one.bad head is;
+  bad = λ superblock is. two.bad superblock is ∙ one.bad superblock is;
 }
 
 pub says_itself : (g : Geometry) (epoch : ℕ) (d : Image) → SaysTheSame g epoch d d
-says_itself g epoch d = record { differs = λ s. inl refl; same = refl; bad = λ head is. refl }
+says_itself g epoch d = record { differs = λ s. inl refl; same = refl; bad = λ superblock is. refl }
 
 module _ (g : Geometry) (epoch place : ℕ) (within : place < g.journal) where
   -- a sector of this epoch more

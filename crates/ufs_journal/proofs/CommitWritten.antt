@@ -72,20 +72,20 @@ module _ (g : Geometry) (epoch place : ℕ) (within : place < g.journal) (d : Im
   -- and the same sector is the lowest that is off
   pub commit_bad : list_any (λ k. length (record_sectors (found g epoch d) commit k) == 0) (range_with_len 0 count) ≡ false
       → keeps_more g number (folded g (committed g epoch d) d) one.records (folded g (committed g epoch d) d) ≡ false
-      → (head : Super) → head.epoch ≡ epoch → head.next ≤ number → bad_sector g head (put (journal_sector g place) bytes d) ≡ bad_sector g head d
-  commit_bad all_there fits head same new =
-      ap (λ e. first_bad g head.next (put (journal_sector g place) bytes d) (sectors_of_epoch g e (put (journal_sector g place) bytes d))) same
-      ∙ ap (first_bad g head.next (put (journal_sector g place) bytes d)) (read_after g epoch place within d blank bytes sector spells of_epoch)
-      ∙ same_lowest g head.next (journal_sector g place) sector (read_front g epoch place within d) (read_behind g epoch place within d) d (put (journal_sector g place) bytes d)
+      → (superblock : Super) → superblock.epoch ≡ epoch → superblock.next ≤ number → bad_sector g superblock (put (journal_sector g place) bytes d) ≡ bad_sector g superblock d
+  commit_bad all_there fits superblock same new =
+      ap (λ e. first_bad g superblock.next (put (journal_sector g place) bytes d) (sectors_of_epoch g e (put (journal_sector g place) bytes d))) same
+      ∙ ap (first_bad g superblock.next (put (journal_sector g place) bytes d)) (read_after g epoch place within d blank bytes sector spells of_epoch)
+      ∙ same_lowest g superblock.next (journal_sector g place) sector (read_front g epoch place within d) (read_behind g epoch place within d) d (put (journal_sector g place) bytes d)
       (λ f. is_from txn count f || reaches number f)
-      (off_other (journal_sector g place) epoch txn count number (front g epoch place within d blank) (behind g epoch place within d blank) g head.next)
+      (off_other (journal_sector g place) epoch txn count number (front g epoch place within d blank) (behind g epoch place within d blank) g superblock.next)
       (sym (ap (list_any (λ f. is_from txn count f || reaches number f)) same_there) ∙ any_either (is_from txn count) (reaches number) (found g epoch d) none_behind fresh)
-      (off_none (journal_sector g place) epoch txn count number (front g epoch place within d blank) (behind g epoch place within d blank) g head.next
+      (off_none (journal_sector g place) epoch txn count number (front g epoch place within d blank) (behind g epoch place within d blank) g superblock.next
       (sym (ap (list_any (is_from txn count)) same_there) ∙ none_behind) (sym (ap (list_any (reaches number)) same_there) ∙ fresh)
-      (sym (ap (λ (all : List FoundSector). list_any (λ k. length (record_sectors all commit k) == 0) (range_with_len 0 count)) same_there) ∙ all_there) (le-ltb number head.next new))
+      (sym (ap (λ (all : List FoundSector). list_any (λ k. length (record_sectors all commit k) == 0) (range_with_len 0 count)) same_there) ∙ all_there) (le-ltb number superblock.next new))
       (ap (λ ts. overkept g ts (put (journal_sector g place) bytes d)) transactions_there
       ∙ overkept_agree g (transactions there ++ record { number = number; records = records_before there commit } ∷ []) (put (journal_sector g place) bytes d) d (put_agree g place bytes d within)
       ∙ overkept_more g (transactions there) (record { number = number; records = records_before there commit }) d
       (subst (λ (all : List FoundSector). keeps_more g number (folded g (map committed_of (transactions all)) d) (without_places (records_before all commit)) (folded g (map committed_of (transactions all)) d) ≡ false) same_there fits))
-      ∙ sym (ap (first_bad g head.next d) (read_without g epoch place within d blank))
-      ∙ sym (ap (λ e. first_bad g head.next d (sectors_of_epoch g e d)) same)
+      ∙ sym (ap (first_bad g superblock.next d) (read_without g epoch place within d blank))
+      ∙ sym (ap (λ e. first_bad g superblock.next d (sectors_of_epoch g e d)) same)

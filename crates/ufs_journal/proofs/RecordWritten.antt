@@ -63,18 +63,18 @@ module _ (g : Geometry) (epoch place : ℕ) (within : place < g.journal) (d : Im
 
     -- and the same sector is the lowest that is off
     pub record_bad : list_any (is_at txn index) (found g epoch d) ≡ false → list_any (λ r. not (is_in_range g r)) records ≡ false
-        → (head : Super) → head.epoch ≡ epoch → bad_sector g head (put (journal_sector g place) bytes d) ≡ bad_sector g head d
-    record_bad single inside head same =
-        ap (λ e. first_bad g head.next (put (journal_sector g place) bytes d) (sectors_of_epoch g e (put (journal_sector g place) bytes d))) same
-        ∙ ap (first_bad g head.next (put (journal_sector g place) bytes d)) (read_after bytes sector spells of_epoch)
-        ∙ same_lowest g head.next (journal_sector g place) sector (read_front g epoch place within d) (read_behind g epoch place within d) d (put (journal_sector g place) bytes d)
+        → (superblock : Super) → superblock.epoch ≡ epoch → bad_sector g superblock (put (journal_sector g place) bytes d) ≡ bad_sector g superblock d
+    record_bad single inside superblock same =
+        ap (λ e. first_bad g superblock.next (put (journal_sector g place) bytes d) (sectors_of_epoch g e (put (journal_sector g place) bytes d))) same
+        ∙ ap (first_bad g superblock.next (put (journal_sector g place) bytes d)) (read_after bytes sector spells of_epoch)
+        ∙ same_lowest g superblock.next (journal_sector g place) sector (read_front g epoch place within d) (read_behind g epoch place within d) d (put (journal_sector g place) bytes d)
         (λ f. commits_txn txn f || is_at txn index f)
-        (off_other (journal_sector g place) epoch txn index records front behind g head.next)
+        (off_other (journal_sector g place) epoch txn index records front behind g superblock.next)
         (any_either (commits_txn txn) (is_at txn index) (front ++ behind) uncommitted_there single_there)
-        (off_none (journal_sector g place) epoch txn index records front behind g head.next uncommitted_there single_there inside)
+        (off_none (journal_sector g place) epoch txn index records front behind g superblock.next uncommitted_there single_there inside)
         (ap (λ ts. overkept g ts (put (journal_sector g place) bytes d)) transactions_there ∙ overkept_agree g (transactions (front ++ behind)) (put (journal_sector g place) bytes d) d (put_agree g place bytes d within))
-        ∙ sym (ap (first_bad g head.next d) (read_without g epoch place within d blank))
-        ∙ sym (ap (λ e. first_bad g head.next d (sectors_of_epoch g e d)) same)
+        ∙ sym (ap (first_bad g superblock.next d) (read_without g epoch place within d blank))
+        ∙ sym (ap (λ e. first_bad g superblock.next d (sectors_of_epoch g e d)) same)
       where
         single_there : list_any (is_at txn index) (front ++ behind) ≡ false
         single_there = sym (ap (list_any (is_at txn index)) found_before) ∙ single

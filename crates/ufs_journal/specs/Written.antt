@@ -38,7 +38,7 @@ DiffersInEpoch g epoch before image = (sector : ℕ) → (image sector ≡ befor
 pub record SaysTheSame (g : Geometry) (epoch : ℕ) (before image : Image) : Type 0 where
   pub differs : DiffersInEpoch g epoch before image
   pub same : committed g epoch image ≡ committed g epoch before
-  pub bad : (head : Super) → head.epoch ≡ epoch → bad_sector g head image ≡ bad_sector g head before
+  pub bad : (superblock : Super) → superblock.epoch ≡ epoch → bad_sector g superblock image ≡ bad_sector g superblock before
 
 -- It says the same as one that a crash might have left before.
 pub record IsAppended (g : Geometry) (epoch : ℕ) (state : State) (image : Image) : Type 0 where
@@ -51,7 +51,7 @@ pub record IsAppended (g : Geometry) (epoch : ℕ) (state : State) (image : Imag
 pub record CommitsOne (g : Geometry) (epoch : ℕ) (one : Committed) (before image : Image) : Type 0 where
   pub differs : DiffersInEpoch g epoch before image
   pub more : committed g epoch image ≡ committed g epoch before ++ one ∷ []
-  pub bad : (head : Super) → head.epoch ≡ epoch → head.next ≤ one.number → bad_sector g head image ≡ bad_sector g head before
+  pub bad : (superblock : Super) → superblock.epoch ≡ epoch → superblock.next ≤ one.number → bad_sector g superblock image ≡ bad_sector g superblock before
 
 -- It says the same as one that a crash might have left before, or commits this transaction besides.
 pub record IsMaybeCommitted (g : Geometry) (epoch : ℕ) (one : Committed) (state : State) (image : Image) : Type 0 where

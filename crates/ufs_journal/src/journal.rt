@@ -41,23 +41,27 @@ pub struct Journal {
 
 impl Journal {
     /// The journal of the superblock's epoch. It takes the memory of all later calls.
-    pub fn make(alloc: Global, geometry: &Geometry, head: &Super) -> Result<Journal, AllocError>
+    pub fn make(
+        alloc: Global,
+        geometry: &Geometry,
+        superblock: &Super,
+    ) -> Result<Journal, AllocError>
         requires { IsGeometry geometry.now }
         ensures geometry { IfOk result (λ j. j.geometry ≡ geometry.now) }
-        ensures epoch { IfOk result (λ j. j.epoch ≡ head.now.epoch) }
-        ensures number { IfOk result (λ j. j.number ≡ head.now.next) }
+        ensures epoch { IfOk result (λ j. j.epoch ≡ superblock.now.epoch) }
+        ensures number { IfOk result (λ j. j.number ≡ superblock.now.next) }
         ensures used { IfOk result (λ j. j.used ≡ 0) }
         ensures opened { IfOk result (λ j. j.opened ≡ []) }
 
         // A disk on which each sector of the journal has an earlier epoch.
-        ensures ready { (state : State) → Leaves (HasEarlier geometry.now head.now.epoch) state → IsReady geometry.now head.now.epoch 0 head.now.next state }
-        ensures unused { (state : State) → Leaves (HasEarlier geometry.now head.now.epoch) state → (txn : ℕ) → IsUnused geometry.now head.now.epoch txn state }
+        ensures ready { (state : State) → Leaves (HasEarlier geometry.now superblock.now.epoch) state → IsReady geometry.now superblock.now.epoch 0 superblock.now.next state }
+        ensures unused { (state : State) → Leaves (HasEarlier geometry.now superblock.now.epoch) state → (txn : ℕ) → IsUnused geometry.now superblock.now.epoch txn state }
     {
         Ok(Journal {
             geometry: *geometry,
-            epoch: head.epoch,
+            epoch: superblock.epoch,
             used: 0,
-            number: head.next,
+            number: superblock.next,
             opened: OpenList::make(alloc)?,
         })
     }

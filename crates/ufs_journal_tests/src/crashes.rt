@@ -1,5 +1,5 @@
 // Two transactions, stopped after each call of the disk: every image has those before, or the next one too.
-use crate::written::{HEAD, append_free, commit, geometry};
+use crate::written::{SUPERBLOCK, append_free, commit, geometry};
 use std::alloc::{AllocError, Global};
 use std::test::Fail;
 use ufs_base::SECTOR;
@@ -25,7 +25,7 @@ const ROWS: [(u64, usize, usize); 9] = [
 fn crashed(alloc: Global, passes: u64, pick: u64) -> Result<Vec<u8>, AllocError> {
     let zeros = vec![in alloc; 0u8; 2_048 * SECTOR]?;
     let mut disk = FuseDisk::new(alloc, 2_048, zeros, Fuse { passes })?;
-    let mut journal = Journal::make(alloc, &geometry(), &HEAD)?;
+    let mut journal = Journal::make(alloc, &geometry(), &SUPERBLOCK)?;
     for txn in [7, 8] {
         if append_free(alloc, &mut disk, &mut journal, txn, txn)? {
             let _ = commit(&mut disk, &mut journal, txn);
@@ -43,7 +43,7 @@ fn count_committed(alloc: Global, image: Vec<u8>) -> Option<usize> {
     if disk.sectors() < 2_048 {
         return None;
     }
-    let list = scan(alloc, &mut disk, &geometry(), &HEAD).ok()?;
+    let list = scan(alloc, &mut disk, &geometry(), &SUPERBLOCK).ok()?;
     let list = list.as_slice();
     let numbered = list
         .iter()

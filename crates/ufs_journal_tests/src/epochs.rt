@@ -1,5 +1,5 @@
 // Transactions of two sectors fill an epoch of 64 sectors by 32.
-use crate::written::{HEAD, append_free, commit, geometry};
+use crate::written::{SUPERBLOCK, append_free, commit, geometry};
 use std::test::Fail;
 use ufs_disk::PlainDisk;
 use ufs_journal::Journal;
@@ -7,7 +7,7 @@ use ufs_journal::Journal;
 #[test]
 fn epochs_hold_32_transactions_of_two_sectors(rt: HostRuntime) -> Result<(), Fail> {
     let mut disk = PlainDisk::zeros(rt.alloc(), 2_048)?;
-    let mut journal = Journal::make(rt.alloc(), &geometry(), &HEAD)?;
+    let mut journal = Journal::make(rt.alloc(), &geometry(), &SUPERBLOCK)?;
     for i in 0..201u32 {
         if i > 0 && i % 32 == 0 {
             assert_eq!(rt; journal.room(), 0);

@@ -1,5 +1,5 @@
 // The bytes of a transaction, and what a scan says of them.
-use crate::written::{HEAD, append_free, commit, geometry};
+use crate::written::{SUPERBLOCK, append_free, commit, geometry};
 use std::test::Fail;
 use ufs_base::SECTOR;
 use ufs_disk::{Disk, MemoryDisk, PlainDisk};
@@ -29,7 +29,7 @@ fn has_form(bytes: &[u8], sector: usize, form: &[u8]) -> bool {
 #[test]
 fn a_transaction_takes_two_sectors(rt: HostRuntime) -> Result<(), Fail> {
     let mut disk = PlainDisk::zeros(rt.alloc(), 2_048)?;
-    let mut journal = Journal::make(rt.alloc(), &geometry(), &HEAD)?;
+    let mut journal = Journal::make(rt.alloc(), &geometry(), &SUPERBLOCK)?;
     assert_eq!(rt; journal.room(), 64);
     assert!(rt; append_free(rt.alloc(), &mut disk, &mut journal, 7, 2)?);
     assert_eq!(rt; journal.room(), 62);
@@ -45,14 +45,14 @@ fn a_transaction_takes_two_sectors(rt: HostRuntime) -> Result<(), Fail> {
 fn a_fault_in_mid_stream_changes_nothing(rt: HostRuntime) -> Result<(), Fail> {
     let zeros = vec![in rt.alloc(); 0u8; 2_048 * SECTOR]?;
     let mut disk = MemoryDisk::new(rt.alloc(), 2_048, zeros, vec![in rt.alloc(); 0, 3, 8]?)?;
-    let mut journal = Journal::make(rt.alloc(), &geometry(), &HEAD)?;
+    let mut journal = Journal::make(rt.alloc(), &geometry(), &SUPERBLOCK)?;
     assert!(rt; !append_free(rt.alloc(), &mut disk, &mut journal, 7, 2)?);
     assert_eq!(rt; journal.room(), 64);
     assert!(rt; append_free(rt.alloc(), &mut disk, &mut journal, 7, 2)?);
     assert_eq!(rt; commit(&mut disk, &mut journal, 7), None);
     assert_eq!(rt; commit(&mut disk, &mut journal, 7), Some(1));
     assert!(rt; disk.sectors() == 2_048);
-    let found = scan(rt.alloc(), &mut disk, &geometry(), &HEAD);
+    let found = scan(rt.alloc(), &mut disk, &geometry(), &SUPERBLOCK);
     assert!(rt; matches!(&found, Err(ScanFault::Device { fault: 3 })));
     Ok(())
 }
@@ -61,13 +61,13 @@ fn a_fault_in_mid_stream_changes_nothing(rt: HostRuntime) -> Result<(), Fail> {
 #[test]
 fn a_repeated_sector_is_off(rt: HostRuntime) -> Result<(), Fail> {
     let mut disk = PlainDisk::zeros(rt.alloc(), 2_048)?;
-    let mut journal = Journal::make(rt.alloc(), &geometry(), &HEAD)?;
+    let mut journal = Journal::make(rt.alloc(), &geometry(), &SUPERBLOCK)?;
     assert!(rt; append_free(rt.alloc(), &mut disk, &mut journal, 7, 2)?);
     assert_eq!(rt; commit(&mut disk, &mut journal, 7), Some(1));
     let mut sector = [0; SECTOR];
     assert!(rt; disk.sectors() == 2_048 && disk.read(48, &mut sector).is_ok());
     assert!(rt; disk.write(60, &sector).is_ok());
-    let found = scan(rt.alloc(), &mut disk, &geometry(), &HEAD);
+    let found = scan(rt.alloc(), &mut disk, &geometry(), &SUPERBLOCK);
     assert!(rt; matches!(&found, Err(ScanFault::BadRecord { sector: 48 })));
     Ok(())
 }

@@ -7,7 +7,7 @@ use ufs_disk::Disk;
 use ufs_journal::{Journal, sectors_needed};
 use ufs_layout::{Geometry, LogRecord, Records, Super};
 
-pub(crate) const HEAD: Super = Super {
+pub(crate) const SUPERBLOCK: Super = Super {
     version: 1,
     blocks: 256,
     inodes: 32,

@@ -52,9 +52,9 @@ module _ (g : Geometry) (dirs : ℕ → Bool) where
       let rest = all_same number small before (with_valid g number before r now) b (with_valid_in g number b r c) rs sb (record_step g true dirs number small before now b c r sb sc spelled.0) spelled.1 in
       λ i. head i || rest i
 
-pub can_apply : (sectors : ℕ) (head : Super) (blocks : ℕ → Cell) (s : Stand) (image : Image) → IsLeft sectors head blocks s image → (t : Committed) → MayCommit (geometry_of head) t s → CanApply (geometry_of head) head.epoch t.number t.records image
-can_apply sectors head blocks s image left t may =
-    let g : Geometry = geometry_of head in
-    let spelled = spelled_folds sectors head blocks s image left in
+pub can_apply : (sectors : ℕ) (superblock : Super) (blocks : ℕ → Cell) (s : Stand) (image : Image) → IsLeft sectors superblock blocks s image → (t : Committed) → MayCommit (geometry_of superblock) t s → CanApply (geometry_of superblock) superblock.epoch t.number t.records image
+can_apply sectors superblock blocks s image left t may =
+    let g : Geometry = geometry_of superblock in
+    let spelled = spelled_folds sectors superblock blocks s image left in
     subst (λ log. keeps_more g t.number (folded g log image) t.records (folded g log image) ≡ false) (sym left.logged)
     (all_same g s.dirs t.number may.fits.number (folded g s.log image) (folded g s.log image) s.catalog s.catalog t.records spelled spelled may.fits.records ∙ may.keeps)

@@ -63,32 +63,32 @@ maybe_ledger sectors state l t none is = record { images = λ image left. maybe_
 pub unsettled : (sectors : ℕ) (state : State) (l : Ledger) → IsLedgerOf sectors state (settled l) → IsLedgerOf sectors state l
 unsettled sectors state l is = record { images = λ image left. fewer_cells sectors l image (is.images image left); reads = is.reads }
 
-pub appended_ledger : (sectors : ℕ) (old new : State) (l : Ledger) → l.maybe ≡ None → l.head.clean ≡ false → IsSettled old → IsLedgerOf sectors old l → Leaves (IsAppended (geometry_of l.head) l.head.epoch old) new → IsLedgerOf sectors new l
+pub appended_ledger : (sectors : ℕ) (old new : State) (l : Ledger) → l.maybe ≡ None → l.superblock.clean ≡ false → IsSettled old → IsLedgerOf sectors old l → Leaves (IsAppended (geometry_of l.superblock) l.superblock.epoch old) new → IsLedgerOf sectors new l
 appended_ledger sectors old new l none used still is run = record {
   images = λ image left. appends sectors old l image none used is (run image left);
   reads = λ block data' free. at block data' free (run (seen new) (seen_is_image new));
 }
   where
-    at : (block : ℕ) → IsDataBlock (geometry_of l.head) block → is_held l.now.log block ≡ false → IsAppended (geometry_of l.head) l.head.epoch old (seen new) → block_at (seen new) block ≡ (l.blocks block).seen
-    at block data' free one = same_data (geometry_of l.head) l.head.epoch one.before (seen new) one.says.differs block data' ∙ ap (λ i. block_at i block) (still one.before one.left) ∙ is.reads block data' free
+    at : (block : ℕ) → IsDataBlock (geometry_of l.superblock) block → is_held l.now.log block ≡ false → IsAppended (geometry_of l.superblock) l.superblock.epoch old (seen new) → block_at (seen new) block ≡ (l.blocks block).seen
+    at block data' free one = same_data (geometry_of l.superblock) l.superblock.epoch one.before (seen new) one.says.differs block data' ∙ ap (λ i. block_at i block) (still one.before one.left) ∙ is.reads block data' free
 
-module _ (sectors : ℕ) (l : Ledger) (t : Committed) (folds : FoldsCatalogs (geometry_of l.head)) (one_more : FoldsOneMore (geometry_of l.head)) (none : l.maybe ≡ None) (used : l.head.clean ≡ false) (later : l.head.next ≤ t.number) (may : MayCommit (geometry_of l.head) t l.now) where
+module _ (sectors : ℕ) (l : Ledger) (t : Committed) (folds : FoldsCatalogs (geometry_of l.superblock)) (one_more : FoldsOneMore (geometry_of l.superblock)) (none : l.maybe ≡ None) (used : l.superblock.clean ≡ false) (later : l.superblock.next ≤ t.number) (may : MayCommit (geometry_of l.superblock) t l.now) where
   -- a commit that failed
-  pub tried_ledger : (first old new : State) → IsSettled first → IsLedgerOf sectors first l → Leaves (IsAppended (geometry_of l.head) l.head.epoch first) old → Leaves (IsMaybeCommitted (geometry_of l.head) l.head.epoch t old) new → IsLedgerOf sectors new (committing t l)
+  pub tried_ledger : (first old new : State) → IsSettled first → IsLedgerOf sectors first l → Leaves (IsAppended (geometry_of l.superblock) l.superblock.epoch first) old → Leaves (IsMaybeCommitted (geometry_of l.superblock) l.superblock.epoch t old) new → IsLedgerOf sectors new (committing t l)
   tried_ledger first old new still is appended run = record {
     images = λ image left. commits_or_not sectors old l t image folds one_more none used (appended_ledger sectors first old l none used still is appended) later may (run image left);
     reads = λ block data' free. at block data' free (run (seen new) (seen_is_image new));
   }
     where
-      differs : (before image : Image) → SaysTheSame (geometry_of l.head) l.head.epoch before image ⊎ CommitsOne (geometry_of l.head) l.head.epoch t before image → DiffersInEpoch (geometry_of l.head) l.head.epoch before image
+      differs : (before image : Image) → SaysTheSame (geometry_of l.superblock) l.superblock.epoch before image ⊎ CommitsOne (geometry_of l.superblock) l.superblock.epoch t before image → DiffersInEpoch (geometry_of l.superblock) l.superblock.epoch before image
       differs before image (inl same) = same.differs
       differs before image (inr one) = one.differs
 
-      at : (block : ℕ) → IsDataBlock (geometry_of l.head) block → is_held l.now.log block ≡ false → IsMaybeCommitted (geometry_of l.head) l.head.epoch t old (seen new) → block_at (seen new) block ≡ (l.blocks block).seen
+      at : (block : ℕ) → IsDataBlock (geometry_of l.superblock) block → is_held l.now.log block ≡ false → IsMaybeCommitted (geometry_of l.superblock) l.superblock.epoch t old (seen new) → block_at (seen new) block ≡ (l.blocks block).seen
       at block data' free one =
           let from = appended one.before one.left in
-          same_data (geometry_of l.head) l.head.epoch one.before (seen new) (differs one.before (seen new) one.says) block data'
-          ∙ same_data (geometry_of l.head) l.head.epoch from.before one.before from.says.differs block data' ∙ ap (λ i. block_at i block) (still from.before from.left) ∙ is.reads block data' free
+          same_data (geometry_of l.superblock) l.superblock.epoch one.before (seen new) (differs one.before (seen new) one.says) block data'
+          ∙ same_data (geometry_of l.superblock) l.superblock.epoch from.before one.before from.says.differs block data' ∙ ap (λ i. block_at i block) (still from.before from.left) ∙ is.reads block data' free
 
 -- ---- by the journal
 
@@ -97,13 +97,13 @@ module _ (sectors : ℕ) (keeps : Bool) (j : Journal) (l : Ledger) (txn : ℕ) (
   abbrev one : Committed
   one = record { number = j.number; records = records }
 
-  folds' : FoldsCatalogs (geometry_of l.head)
+  folds' : FoldsCatalogs (geometry_of l.superblock)
   folds' = subst FoldsCatalogs (sym by.geometry) folds
 
-  one_more' : FoldsOneMore (geometry_of l.head)
+  one_more' : FoldsOneMore (geometry_of l.superblock)
   one_more' = subst FoldsOneMore (sym by.geometry) one_more
 
-  may' : MayCommit (geometry_of l.head) one l.now
+  may' : MayCommit (geometry_of l.superblock) one l.now
   may' = subst (λ g. MayCommit g one l.now) (sym by.geometry) go.may
 
   pub ledger1 : IsLedgerOf sectors m1.state l
@@ -123,7 +123,7 @@ module _ (sectors : ℕ) (keeps : Bool) (j : Journal) (l : Ledger) (txn : ℕ) (
   crash1 = weaker keeps (IsImage m0.state) AtEach (λ image left. inl (by.is.images image left)) m0 m1 run1
 
   module _ (m2 : Moments) (still : IsSettled m1.state) (run2 : LeavesOnly keeps (IsAppended j.geometry j.epoch m1.state) m1 m2) where
-    run2' : LeavesOnly keeps (IsAppended (geometry_of l.head) l.head.epoch m1.state) m1 m2
+    run2' : LeavesOnly keeps (IsAppended (geometry_of l.superblock) l.superblock.epoch m1.state) m1 m2
     run2' = subst (λ (x : Geometry × ℕ). LeavesOnly keeps (IsAppended x.0 x.1 m1.state) m1 m2) (λ i. (sym by.geometry i, sym by.epoch i)) run2
 
     settled1 : IsLedgerOf sectors m1.state (settled l)
@@ -134,7 +134,7 @@ module _ (sectors : ℕ) (keeps : Bool) (j : Journal) (l : Ledger) (txn : ℕ) (
 
     pub crash2 : LeavesOnly keeps AtEach m0 m2
     crash2 = joined keeps AtEach m0 m1 m2 crash1
-        (weaker keeps (IsAppended (geometry_of l.head) l.head.epoch m1.state) AtEach (λ image appended. inr (maybe_by sectors (settled l) one image by.none (appends sectors m1.state (settled l) image by.none by.in_use settled1 appended))) m1 m2 run2')
+        (weaker keeps (IsAppended (geometry_of l.superblock) l.superblock.epoch m1.state) AtEach (λ image appended. inr (maybe_by sectors (settled l) one image by.none (appends sectors m1.state (settled l) image by.none by.in_use settled1 appended))) m1 m2 run2')
 
     pub err2 : IsLedgerOf sectors m2.state (committing one (settled l))
     err2 = maybe_ledger sectors m2.state (settled l) one by.none settled2
@@ -142,17 +142,17 @@ module _ (sectors : ℕ) (keeps : Bool) (j : Journal) (l : Ledger) (txn : ℕ) (
     pub applies2 : CanApply j.geometry j.epoch j.number records (reads m2)
     applies2 =
         let left = on_one sectors (settled l) (reads m2) by.none (settled2.images (reads m2) (seen_is_image m2.state)) in
-        subst (λ (x : Geometry × ℕ). CanApply x.0 x.1 j.number records (reads m2)) (λ i. (by.geometry i, by.epoch i)) (can_apply sectors l.head (settled l).blocks l.now (reads m2) left one may')
+        subst (λ (x : Geometry × ℕ). CanApply x.0 x.1 j.number records (reads m2)) (λ i. (by.geometry i, by.epoch i)) (can_apply sectors l.superblock (settled l).blocks l.now (reads m2) left one may')
 
     module _ (k : Journal) (geometry : k.geometry ≡ j.geometry) (epoch : k.epoch ≡ j.epoch) (number : k.number ≡ j.number) (m3 : Moments)
         (run3 : LeavesOnly keeps (IsMaybeCommitted k.geometry k.epoch (record { number = k.number; records = records }) m2.state) m2 m3) where
-      run3' : LeavesOnly keeps (IsMaybeCommitted (geometry_of l.head) l.head.epoch one m2.state) m2 m3
+      run3' : LeavesOnly keeps (IsMaybeCommitted (geometry_of l.superblock) l.superblock.epoch one m2.state) m2 m3
       run3' = subst (λ (x : Geometry × ℕ × ℕ). LeavesOnly keeps (IsMaybeCommitted x.0 x.1 (record { number = x.2; records = records }) m2.state) m2 m3)
           (λ i. ((geometry ∙ sym by.geometry) i, (epoch ∙ sym by.epoch) i, number i)) run3
 
       pub crash3 : LeavesOnly keeps AtEach m0 m3
       crash3 = joined keeps AtEach m0 m2 m3 crash2
-          (weaker keeps (IsMaybeCommitted (geometry_of l.head) l.head.epoch one m2.state) AtEach
+          (weaker keeps (IsMaybeCommitted (geometry_of l.superblock) l.superblock.epoch one m2.state) AtEach
           (λ image maybe. inr (commits_or_not sectors m2.state (settled l) one image folds' one_more' by.none by.in_use settled2 by.later may' maybe)) m2 m3 run3')
 
       pub err3 : IsLedgerOf sectors m3.state (committing one (settled l))

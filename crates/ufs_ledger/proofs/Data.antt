@@ -55,8 +55,8 @@ module _ (g : Geometry) (log : List Committed) where
       at block data' free sector of (inr home) = home ∙ unheld_sector g block data'.from sector of log is.before free
 
   -- a write of the superblock
-  pub data_headed : (bytes : List ℕ) (state : State) (image : Image) → length bytes ≡ 512 → IsPartlyWritten 0 bytes state image → KeepsData g log state image
-  data_headed bytes state image size is = record { before = is.before; left = is.left; same = λ block data' free. block_same image is.before block (λ sector of. at sector (let from = data'.from in let same = of.same in omega arith) (mixed sector)) }
+  pub data_superblock_put : (bytes : List ℕ) (state : State) (image : Image) → length bytes ≡ 512 → IsPartlyWritten 0 bytes state image → KeepsData g log state image
+  data_superblock_put bytes state image size is = record { before = is.before; left = is.left; same = λ block data' free. block_same image is.before block (λ sector of. at sector (let from = data'.from in let same = of.same in omega arith) (mixed sector)) }
     where
       mixed : Mixes is.before (put 0 bytes is.before) image
       mixed = subst (λ i. Mixes is.before i image) (put_one 0 bytes is.before size) is.mixed

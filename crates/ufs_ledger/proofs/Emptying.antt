@@ -32,35 +32,35 @@ abbrev seen_in : Cell → List ℕ
 seen_in c = c.seen
 
 module _ (sectors : ℕ) (keeps : Bool) (j : Journal) (l : Ledger) (new : Super) (bytes : List ℕ) (m0 m1 : Moments) (by : IsLedgerBy j sectors m0.state l) (whole : Leaves (IsImageOf sectors) m0.state)
-    (spelled : super_of 1 bytes ≡ Some new) (kept : geometry_of new ≡ geometry_of l.head) (later : j.epoch < new.epoch) (used : new.clean ≡ false)
+    (spelled : super_of 1 bytes ≡ Some new) (kept : geometry_of new ≡ geometry_of l.superblock) (later : j.epoch < new.epoch) (used : new.clean ≡ false)
     (run1 : LeavesOnly keeps (IsImage m0.state) m0 m1) (same : reads m1 ≡ reads m0) where
   -- everything at home
   abbrev home : Image
-  home = folded (geometry_of l.head) l.now.log (reads m0)
+  home = folded (geometry_of l.superblock) l.now.log (reads m0)
 
-  seen0 : IsLeft sectors l.head l.blocks l.now (reads m0)
+  seen0 : IsLeft sectors l.superblock l.blocks l.now (reads m0)
   seen0 = on_one sectors l (reads m0) by.none (by.is.images (reads m0) (seen_is_image m0.state))
 
   whole0 : IsImageOf sectors (reads m0)
   whole0 = whole (reads m0) (seen_is_image m0.state)
 
-  left_home : IsLeft sectors l.head l.blocks l.now home
-  left_home = left_homing sectors l.head l.blocks l.now (reads m0) home seen0 whole0 by.in_use (λ sector. inr refl)
+  left_home : IsLeft sectors l.superblock l.blocks l.now home
+  left_home = left_homing sectors l.superblock l.blocks l.now (reads m0) home seen0 whole0 by.in_use (λ sector. inr refl)
 
-  at_home : folded (geometry_of l.head) l.now.log home ≡ home
-  at_home = same_fold sectors l.head l.blocks l.now (reads m0) home seen0 whole0 by.in_use (λ sector. inr refl)
+  at_home : folded (geometry_of l.superblock) l.now.log home ≡ home
+  at_home = same_fold sectors l.superblock l.blocks l.now (reads m0) home seen0 whole0 by.in_use (λ sector. inr refl)
 
-  home_reads : (block : ℕ) → IsDataBlock (geometry_of l.head) block → is_held l.now.log block ≡ false → block_at home block ≡ (l.blocks block).seen
-  home_reads block data' free = unheld_block (geometry_of l.head) block data'.from l.now.log (reads m0) free ∙ by.is.reads block data' free
+  home_reads : (block : ℕ) → IsDataBlock (geometry_of l.superblock) block → is_held l.now.log block ≡ false → block_at home block ≡ (l.blocks block).seen
+  home_reads block data' free = unheld_block (geometry_of l.superblock) block data'.from l.now.log (reads m0) free ∙ by.is.reads block data' free
 
-  home_journal : AgreeInJournal (geometry_of l.head) home (reads m0)
-  home_journal place under = journal_there (geometry_of l.head) l.now.log (reads m0) place under
+  home_journal : AgreeInJournal (geometry_of l.superblock) home (reads m0)
+  home_journal place under = journal_there (geometry_of l.superblock) l.now.log (reads m0) place under
 
-  free_home : IsFreeFrom (geometry_of l.head) new.epoch 0 home
+  free_home : IsFreeFrom (geometry_of l.superblock) new.epoch 0 home
   free_home place low under =
       let under' : place < j.geometry.journal = subst (λ (g : Geometry). place < g.journal) by.geometry under in
       let most = subst (λ (g : Geometry). epoch_in (reads m0 (journal_sector g place)) ≤ j.epoch) (sym by.geometry) (by.ready.latest (reads m0) (seen_is_image m0.state) place under') in
-      let is : epoch_in (reads m0 (journal_sector (geometry_of l.head) place)) < new.epoch = omega (arith, most, later) in
+      let is : epoch_in (reads m0 (journal_sector (geometry_of l.superblock) place)) < new.epoch = omega (arith, most, later) in
       ap (λ b. epoch_in b == new.epoch) (home_journal place under) ∙ grind (arith, nat_tests, is)
 
   module _ (sized : IsImageOf sectors home) where
@@ -77,19 +77,19 @@ module _ (sectors : ℕ) (keeps : Bool) (j : Journal) (l : Ledger) (new : Super)
   pub ledger1 : IsLedgerOf sectors m1.state l
   ledger1 = barrier_quiet sectors m0.state m1.state l by.is run1.after same
 
-  module _ (still1 : IsSettled m1.state) (whole1 : Leaves (IsImageOf sectors) m1.state) (m2 : Moments) (run2 : LeavesOnly keeps (IsHomeWritten (geometry_of l.head) l.now.log m1.state) m1 m2) where
+  module _ (still1 : IsSettled m1.state) (whole1 : Leaves (IsImageOf sectors) m1.state) (m2 : Moments) (run2 : LeavesOnly keeps (IsHomeWritten (geometry_of l.superblock) l.now.log m1.state) m1 m2) where
     pub crash2 : LeavesOnly keeps AtEach m0 m2
-    crash2 = joined keeps AtEach m0 m1 m2 crash1 (weaker keeps (IsHomeWritten (geometry_of l.head) l.now.log m1.state) AtEach (λ image part. inl (homes sectors m1.state l image whole1 by.none by.in_use ledger1 part)) m1 m2 run2)
+    crash2 = joined keeps AtEach m0 m1 m2 crash1 (weaker keeps (IsHomeWritten (geometry_of l.superblock) l.now.log m1.state) AtEach (λ image part. inl (homes sectors m1.state l image whole1 by.none by.in_use ledger1 part)) m1 m2 run2)
 
-    unheld_stays : (image : Image) → IsHomeWritten (geometry_of l.head) l.now.log m1.state image → (block : ℕ) → IsDataBlock (geometry_of l.head) block → is_held l.now.log block ≡ false → block_at image block ≡ block_at (reads m1) block
+    unheld_stays : (image : Image) → IsHomeWritten (geometry_of l.superblock) l.now.log m1.state image → (block : ℕ) → IsDataBlock (geometry_of l.superblock) block → is_held l.now.log block ≡ false → block_at image block ≡ block_at (reads m1) block
     unheld_stays image part block data' free = block_same image (reads m1) block (λ s of. at s of (part.mixed s))
       where
         was : part.before ≡ reads m1
         was = still1 part.before part.left
 
-        at : (s : ℕ) → IsOfBlock block s → (image s ≡ part.before s) ⊎ (image s ≡ folded (geometry_of l.head) l.now.log part.before s) → image s ≡ reads m1 s
+        at : (s : ℕ) → IsOfBlock block s → (image s ≡ part.before s) ⊎ (image s ≡ folded (geometry_of l.superblock) l.now.log part.before s) → image s ≡ reads m1 s
         at s of (inl is) = is ∙ ap (λ (i : Image). i s) was
-        at s of (inr is) = is ∙ unheld_sector (geometry_of l.head) block data'.from s of l.now.log part.before free ∙ ap (λ (i : Image). i s) was
+        at s of (inr is) = is ∙ unheld_sector (geometry_of l.superblock) block data'.from s of l.now.log part.before free ∙ ap (λ (i : Image). i s) was
 
     pub ledger2 : IsLedgerOf sectors m2.state l
     ledger2 = record {
@@ -97,9 +97,9 @@ module _ (sectors : ℕ) (keeps : Bool) (j : Journal) (l : Ledger) (new : Super)
       reads = λ block data' free. unheld_stays (reads m2) (run2.after (reads m2) (seen_is_image m2.state)) block data' free ∙ ledger1.reads block data' free;
     }
 
-    module _ (done : reads m2 ≡ folded (geometry_of l.head) l.now.log (reads m1)) (m3 : Moments) (run3 : LeavesOnly keeps (IsImage m2.state) m2 m3) (same3 : reads m3 ≡ reads m2) where
+    module _ (done : reads m2 ≡ folded (geometry_of l.superblock) l.now.log (reads m1)) (m3 : Moments) (run3 : LeavesOnly keeps (IsImage m2.state) m2 m3) (same3 : reads m3 ≡ reads m2) where
       at_m3 : reads m3 ≡ home
-      at_m3 = same3 ∙ done ∙ ap (folded (geometry_of l.head) l.now.log) same
+      at_m3 = same3 ∙ done ∙ ap (folded (geometry_of l.superblock) l.now.log) same
 
       pub crash3 : LeavesOnly keeps AtEach m0 m3
       crash3 = joined keeps AtEach m0 m2 m3 crash2 (weaker keeps (IsImage m2.state) AtEach (λ image left. crash2.after image left) m2 m3 run3)
@@ -117,30 +117,30 @@ module _ (sectors : ℕ) (keeps : Bool) (j : Journal) (l : Ledger) (new : Super)
             let one = mixes_one 0 bytes part.before image (subst (λ i. Mixes part.before i image) (put_one 0 bytes part.before size) part.mixed) in
             subst (λ b. (image ≡ b) ⊎ (image ≡ put 0 bytes b)) before one
 
-        headed : (image : Image) → (image ≡ home) ⊎ (image ≡ put 0 bytes home) → IsLeftBy sectors (beginning new (block_at home) l) image
-        headed image (inl is) = subst (IsLeftBy sectors (beginning new (block_at home) l)) (sym is) (begun sized).0
-        headed image (inr is) = subst (IsLeftBy sectors (beginning new (block_at home) l)) (sym is) (begun sized).1
+        superblock_put : (image : Image) → (image ≡ home) ⊎ (image ≡ put 0 bytes home) → IsLeftBy sectors (beginning new (block_at home) l) image
+        superblock_put image (inl is) = subst (IsLeftBy sectors (beginning new (block_at home) l)) (sym is) (begun sized).0
+        superblock_put image (inr is) = subst (IsLeftBy sectors (beginning new (block_at home) l)) (sym is) (begun sized).1
 
-        behind : (block : ℕ) → IsDataBlock (geometry_of l.head) block → block_at (put 0 bytes home) block ≡ block_at home block
+        behind : (block : ℕ) → IsDataBlock (geometry_of l.superblock) block → block_at (put 0 bytes home) block ≡ block_at home block
         behind block data' = block_same (put 0 bytes home) home block (λ sector of. ap (λ b. if b then bytes else home sector) (let at = of.same in let from = data'.from in let off : (sector == 0) ≡ false = (let past : 0 < sector = omega (arith, at, from) in grind (arith, nat_tests, past)) in off))
 
-        cell : (block : ℕ) → IsDataBlock (geometry_of l.head) block → (b : Bool) → is_held l.now.log block ≡ b → block_at home block ≡ seen_in (if b then record { older = []; seen = block_at home block } else record { older = []; seen = (l.blocks block).seen })
+        cell : (block : ℕ) → IsDataBlock (geometry_of l.superblock) block → (b : Bool) → is_held l.now.log block ≡ b → block_at home block ≡ seen_in (if b then record { older = []; seen = block_at home block } else record { older = []; seen = (l.blocks block).seen })
         cell block data' true e = refl
         cell block data' false e = home_reads block data' e
 
-        reads_on : (image : Image) → (image ≡ home) ⊎ (image ≡ put 0 bytes home) → (block : ℕ) → IsDataBlock (geometry_of l.head) block → block_at image block ≡ block_at home block
+        reads_on : (image : Image) → (image ≡ home) ⊎ (image ≡ put 0 bytes home) → (block : ℕ) → IsDataBlock (geometry_of l.superblock) block → block_at image block ≡ block_at home block
         reads_on image (inl is) block data' = ap (λ i. block_at i block) is
         reads_on image (inr is) block data' = ap (λ i. block_at i block) is ∙ behind block data'
 
         -- the superblock may be there or not
         pub ledger4 : IsLedgerOf sectors m4.state (beginning new (block_at home) l)
         ledger4 = record {
-          images = λ image left. headed image (one_or_other image (run4.after image left));
+          images = λ image left. superblock_put image (one_or_other image (run4.after image left));
           reads = λ block data' free. reads_on (reads m4) (one_or_other (reads m4) (run4.after (reads m4) (seen_is_image m4.state))) block data' ∙ cell block data' (is_held l.now.log block) refl;
         }
 
         pub crash4 : LeavesOnly keeps AtEach m0 m4
-        crash4 = joined keeps AtEach m0 m3 m4 crash3 (weaker keeps (IsPartlyWritten 0 bytes m3.state) AtEach (λ image part. inr (headed image (one_or_other image part))) m3 m4 run4)
+        crash4 = joined keeps AtEach m0 m3 m4 crash3 (weaker keeps (IsPartlyWritten 0 bytes m3.state) AtEach (λ image part. inr (superblock_put image (one_or_other image part))) m3 m4 run4)
 
         module _ (put4 : reads m4 ≡ overwritten 0 bytes (reads m3)) (m5 : Moments) (run5 : LeavesOnly keeps (IsImage m4.state) m4 m5) (same5 : reads m5 ≡ reads m4) where
           pub crash5 : LeavesOnly keeps AtEach m0 m5
@@ -156,7 +156,7 @@ module _ (sectors : ℕ) (keeps : Bool) (j : Journal) (l : Ledger) (new : Super)
           ledger5 still5 = record {
             images = λ image left. subst (IsLeftBy sectors (emptied new (block_at home) l)) (sym (still5 image left ∙ at_m5)) (begun sized).2;
             reads = λ block data' _.
-                let is : IsDataBlock (geometry_of l.head) block = subst (λ g. IsDataBlock g block) kept data' in
+                let is : IsDataBlock (geometry_of l.superblock) block = subst (λ g. IsDataBlock g block) kept data' in
                 ap (λ i. block_at i block) at_m5 ∙ behind block is ∙ cell block is (is_held l.now.log block) refl;
           }
 
@@ -166,7 +166,7 @@ module _ (sectors : ℕ) (keeps : Bool) (j : Journal) (l : Ledger) (new : Super)
                 before = reads m0;
                 left = seen_is_image m0.state;
                 same = λ place under.
-                    let under' : place < (geometry_of l.head).journal = subst (λ (g : Geometry). place < g.journal) (sym by.geometry) under in
+                    let under' : place < (geometry_of l.superblock).journal = subst (λ (g : Geometry). place < g.journal) (sym by.geometry) under in
                     ap (λ (i : Image). i (journal_sector j.geometry place)) (still5 image left ∙ at_m5)
                     ∙ ap (λ b. if b then bytes else home (journal_sector j.geometry place)) (let off : (journal_sector j.geometry place == 0) ≡ false = (let past : 0 < journal_sector j.geometry place = omega arith in grind (arith, nat_tests, past)) in off)
                     ∙ subst (λ (g : Geometry). home (journal_sector g place) ≡ reads m0 (journal_sector g place)) by.geometry (home_journal place under');

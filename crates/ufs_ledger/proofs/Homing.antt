@@ -72,50 +72,50 @@ bitmap_there g log image sector under =
 
 -- ---- a mix
 
-module _ (sectors : ℕ) (head : Super) (blocks : ℕ → Cell) (s : Stand) (before mix : Image) (left : IsLeft sectors head blocks s before) (bytes : IsImageOf sectors before) (used : head.clean ≡ false)
-    (each : (sector : ℕ) → (mix sector ≡ before sector) ⊎ (mix sector ≡ folded (geometry_of head) s.log before sector)) where
-  pub geometry : IsGeometry (geometry_of head) × (sector_count (geometry_of head) ≤ sectors)
+module _ (sectors : ℕ) (superblock : Super) (blocks : ℕ → Cell) (s : Stand) (before mix : Image) (left : IsLeft sectors superblock blocks s before) (bytes : IsImageOf sectors before) (used : superblock.clean ≡ false)
+    (each : (sector : ℕ) → (mix sector ≡ before sector) ⊎ (mix sector ≡ folded (geometry_of superblock) s.log before sector)) where
+  pub geometry : IsGeometry (geometry_of superblock) × (sector_count (geometry_of superblock) ≤ sectors)
   geometry =
       let is = has_geometry sectors before left.as_volume left.taken in
-      let same = same_geometry sectors head blocks s before left in
+      let same = same_geometry sectors superblock blocks s before left in
       (subst IsGeometry same is.0, subst (λ g. sector_count g ≤ sectors) same is.1)
 
-  good : AllByRecursion FitsCommitted (committed (geometry_of head) head.epoch before)
-  good = committed_fit (geometry_of head) sectors head.epoch before geometry.0 geometry.1 bytes
+  good : AllByRecursion FitsCommitted (committed (geometry_of superblock) superblock.epoch before)
+  good = committed_fit (geometry_of superblock) sectors superblock.epoch before geometry.0 geometry.1 bytes
 
   fit : AllByRecursion FitsCommitted s.log
   fit = subst (AllByRecursion FitsCommitted) left.logged good
 
-  unmoved : (sector : ℕ) → folded (geometry_of head) s.log before sector ≡ before sector → mix sector ≡ before sector
+  unmoved : (sector : ℕ) → folded (geometry_of superblock) s.log before sector ≡ before sector → mix sector ≡ before sector
   unmoved sector still = by (each sector)
     where
-      by : (mix sector ≡ before sector) ⊎ (mix sector ≡ folded (geometry_of head) s.log before sector) → mix sector ≡ before sector
+      by : (mix sector ≡ before sector) ⊎ (mix sector ≡ folded (geometry_of superblock) s.log before sector) → mix sector ≡ before sector
       by (inl same) = same
       by (inr done) = done ∙ still
 
-  reads_same : sectors_of_epoch (geometry_of head) head.epoch mix ≡ sectors_of_epoch (geometry_of head) head.epoch before
-  reads_same = sectors_same (geometry_of head) head.epoch before mix (λ sector is. unmoved sector (journal_unfolded (geometry_of head) s.log before sector is))
+  reads_same : sectors_of_epoch (geometry_of superblock) superblock.epoch mix ≡ sectors_of_epoch (geometry_of superblock) superblock.epoch before
+  reads_same = sectors_same (geometry_of superblock) superblock.epoch before mix (λ sector is. unmoved sector (journal_unfolded (geometry_of superblock) s.log before sector is))
 
-  log_same : committed (geometry_of head) head.epoch mix ≡ s.log
+  log_same : committed (geometry_of superblock) superblock.epoch mix ≡ s.log
   log_same = ap (λ read. map committed_of (transactions (well_spelled read))) reads_same ∙ left.logged
 
   -- it folds to the same
-  pub same_fold : folded (geometry_of head) s.log mix ≡ folded (geometry_of head) s.log before
-  same_fold = λ i sector. mixed (geometry_of head) sectors before mix s.log geometry.0 geometry.1 bytes fit sector (each sector) i
+  pub same_fold : folded (geometry_of superblock) s.log mix ≡ folded (geometry_of superblock) s.log before
+  same_fold = λ i sector. mixed (geometry_of superblock) sectors before mix s.log geometry.0 geometry.1 bytes fit sector (each sector) i
 
-  pub left_homing : IsLeft sectors head blocks s mix
+  pub left_homing : IsLeft sectors superblock blocks s mix
   left_homing = record {
-    as_volume = volume_of head mix;
-    taken = taken_again sectors head blocks s before left mix (sym (unmoved 0 (zero_unfolded (geometry_of head) s.log before)))
-        (no_bad_mixed (geometry_of head) sectors head before mix geometry.0 geometry.1 bytes good
-        (λ sector. subst (λ log. (mix sector ≡ before sector) ⊎ (mix sector ≡ folded (geometry_of head) log before sector)) (sym left.logged) (each sector)) reads_same (no_bad sectors head blocks s before left));
-    headed = refl;
+    as_volume = volume_of superblock mix;
+    taken = taken_again sectors superblock blocks s before left mix (sym (unmoved 0 (zero_unfolded (geometry_of superblock) s.log before)))
+        (no_bad_mixed (geometry_of superblock) sectors superblock before mix geometry.0 geometry.1 bytes good
+        (λ sector. subst (λ log. (mix sector ≡ before sector) ⊎ (mix sector ≡ folded (geometry_of superblock) log before sector)) (sym left.logged) (each sector)) reads_same (no_bad sectors superblock blocks s before left));
+    superblock_is = refl;
     logged = log_same;
-    latest = λ place under. subst (λ b. epoch_in b ≤ head.epoch) (sym (unmoved (journal_sector (geometry_of head) place) (journal_there (geometry_of head) s.log before place under))) (left.latest place under);
-    spells = subst (λ i. Spells (geometry_of head) true s.dirs i s.catalog) (sym (ap (λ log. folded (geometry_of head) log mix) log_same ∙ same_fold)) (spelled_folds sectors head blocks s before left);
+    latest = λ place under. subst (λ b. epoch_in b ≤ superblock.epoch) (sym (unmoved (journal_sector (geometry_of superblock) place) (journal_there (geometry_of superblock) s.log before place under))) (left.latest place under);
+    spells = subst (λ i. Spells (geometry_of superblock) true s.dirs i s.catalog) (sym (ap (λ log. folded (geometry_of superblock) log mix) log_same ∙ same_fold)) (spelled_folds sectors superblock blocks s before left);
     covers = left.covers;
     sound = left.sound;
     contents = λ block data' free. subst (IsMixOf (possible (blocks block)))
-        (block_same before mix block (λ sector of. sym (unmoved sector (unheld_sector (geometry_of head) block data'.from sector of s.log before free)))) (left.contents block data' free);
-    if_clean = not_clean head used (IsProperClean (volume_of head mix) mix);
+        (block_same before mix block (λ sector of. sym (unmoved sector (unheld_sector (geometry_of superblock) block data'.from sector of s.log before free)))) (left.contents block data' free);
+    if_clean = not_clean superblock used (IsProperClean (volume_of superblock mix) mix);
   }

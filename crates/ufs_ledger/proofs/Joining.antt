@@ -121,12 +121,12 @@ module _ (g : Geometry) (s : Stand) (block : ℕ) (covers : CoversDirs g s) (no_
 
 -- ---- what is left
 
-joins_left : (sectors : ℕ) (head : Super) (blocks : ℕ → Cell) (s : Stand) (image : Image) (block : ℕ) → IsImageOf sectors image → IsDataBlock (geometry_of head) block → is_held s.log block ≡ false → (IsTrue (s.dirs block) → ⊥)
-    → possible (blocks block) ≡ replicate 4096 0 ∷ [] → IsLeft sectors head blocks s image → IsLeft sectors head blocks (with_free_block block s) image
-joins_left sectors head blocks s image block whole data' free no_dir zeros left = record {
+joins_left : (sectors : ℕ) (superblock : Super) (blocks : ℕ → Cell) (s : Stand) (image : Image) (block : ℕ) → IsImageOf sectors image → IsDataBlock (geometry_of superblock) block → is_held s.log block ≡ false → (IsTrue (s.dirs block) → ⊥)
+    → possible (blocks block) ≡ replicate 4096 0 ∷ [] → IsLeft sectors superblock blocks s image → IsLeft sectors superblock blocks (with_free_block block s) image
+joins_left sectors superblock blocks s image block whole data' free no_dir zeros left = record {
   as_volume = left.as_volume;
   taken = left.taken;
-  headed = left.headed;
+  superblock_is = left.superblock_is;
   logged = left.logged;
   latest = left.latest;
   spells = record {
@@ -137,8 +137,8 @@ joins_left sectors head blocks s image block whole data' free no_dir zeros left 
     slots = λ k its. slots k (k == block) refl its;
     sized = λ k sector its of. sized k sector (k == block) refl its of;
   };
-  covers = covers_with (geometry_of head) s block left.covers no_dir left.sound;
-  sound = sound_with (geometry_of head) s block left.covers no_dir left.sound;
+  covers = covers_with (geometry_of superblock) s block left.covers no_dir left.sound;
+  sound = sound_with (geometry_of superblock) s block left.covers no_dir left.sound;
   contents = left.contents;
   if_clean = left.if_clean;
 }
@@ -146,19 +146,19 @@ joins_left sectors head blocks s image block whole data' free no_dir zeros left 
     same : (k : ℕ) → (k == block) ≡ true → k ≡ block
     same k e = grind (arith, nat_tests, e)
 
-    room : sector_count (geometry_of head) ≤ sectors
-    room = subst (λ g. sector_count g ≤ sectors) (same_geometry sectors head blocks s image left) (has_geometry sectors image left.as_volume left.taken).1
+    room : sector_count (geometry_of superblock) ≤ sectors
+    room = subst (λ g. sector_count g ≤ sectors) (same_geometry sectors superblock blocks s image left) (has_geometry sectors image left.as_volume left.taken).1
 
     empty : (sector : ℕ) → IsOfBlock block sector → left.as_volume.image sector ≡ empty_sector
     empty sector of =
         let under = data'.under in
         let at = of.same in
         let low = of.in_block in
-        ap (λ (i : Image). i sector) (same_image sectors head blocks s image left) ∙ unheld_sector (geometry_of head) block data'.from sector of s.log image free
+        ap (λ (i : Image). i sector) (same_image sectors superblock blocks s image left) ∙ unheld_sector (geometry_of superblock) block data'.from sector of s.log image free
         ∙ zero_sectors image block (λ k its. (whole k (let here = its.same in let slot = its.in_block in omega (arith, under, room, here, slot))).sized)
         (subst (λ xs. IsMixOf xs (block_at image block)) zeros (left.contents block data' free)) sector of
 
-    in_data : (k : ℕ) (b : Bool) → (k == block) ≡ b → IsTrue (if b then true else s.dirs k) → first_of_data (geometry_of head) ≤ k
+    in_data : (k : ℕ) (b : Bool) → (k == block) ≡ b → IsTrue (if b then true else s.dirs k) → first_of_data (geometry_of superblock) ≤ k
     in_data k true e its = let from = data'.from in omega (arith, from, same k e)
     in_data k false e its = left.spells.in_data k its
 
@@ -170,27 +170,27 @@ joins_left sectors head blocks s image block whole data' free no_dir zeros left 
     sized k sector true e its of = ap length (empty sector (subst (λ b. IsOfBlock b sector) (same k e) of)) ∙ length-replicate {A = ℕ} 512 0
     sized k sector false e its of = left.spells.sized k sector its of
 
-pub joins : (sectors : ℕ) (state : State) (l : Ledger) (block : ℕ) → Leaves (IsImageOf sectors) state → l.maybe ≡ None → IsLedgerOf sectors state l → IsDataBlock (geometry_of l.head) block → is_held l.now.log block ≡ false
+pub joins : (sectors : ℕ) (state : State) (l : Ledger) (block : ℕ) → Leaves (IsImageOf sectors) state → l.maybe ≡ None → IsLedgerOf sectors state l → IsDataBlock (geometry_of l.superblock) block → is_held l.now.log block ≡ false
     → (IsTrue (l.now.dirs block) → ⊥) → possible (l.blocks block) ≡ replicate 4096 0 ∷ [] → IsLedgerOf sectors state (record l { now = with_free_block block l.now })
 joins sectors state l block whole none is data' free no_dir zeros = record {
-  images = λ image left. inl (joins_left sectors l.head l.blocks l.now image block (whole image left) data' free no_dir zeros (on_one sectors l image none (is.images image left)));
+  images = λ image left. inl (joins_left sectors l.superblock l.blocks l.now image block (whole image left) data' free no_dir zeros (on_one sectors l image none (is.images image left)));
   reads = is.reads;
 }
 
 -- ---- fewer blocks of directories
 
-pub shrinks : (sectors : ℕ) (state : State) (l : Ledger) (dirs : ℕ → Bool) → l.maybe ≡ None → IsLedgerOf sectors state l → ((block : ℕ) → IsTrue (dirs block) → IsTrue (l.now.dirs block)) → CoversDirs (geometry_of l.head) (with_dirs dirs l.now)
+pub shrinks : (sectors : ℕ) (state : State) (l : Ledger) (dirs : ℕ → Bool) → l.maybe ≡ None → IsLedgerOf sectors state l → ((block : ℕ) → IsTrue (dirs block) → IsTrue (l.now.dirs block)) → CoversDirs (geometry_of l.superblock) (with_dirs dirs l.now)
     → IsLedgerOf sectors state (record l { now = with_dirs dirs l.now })
 shrinks sectors state l dirs none is less covers = record {
   images = λ image left. inl (of image (on_one sectors l image none (is.images image left)));
   reads = is.reads;
 }
   where
-    of : (image : Image) → IsLeft sectors l.head l.blocks l.now image → IsLeft sectors l.head l.blocks (with_dirs dirs l.now) image
+    of : (image : Image) → IsLeft sectors l.superblock l.blocks l.now image → IsLeft sectors l.superblock l.blocks (with_dirs dirs l.now) image
     of image left = record {
       as_volume = left.as_volume;
       taken = left.taken;
-      headed = left.headed;
+      superblock_is = left.superblock_is;
       logged = left.logged;
       latest = left.latest;
       spells = record {

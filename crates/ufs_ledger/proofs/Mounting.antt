@@ -33,7 +33,7 @@ use Rattle.ufs_image.proofs.Blocks.{block_length}
 use Rattle.ufs_image.proofs.Fits.{spells}
 use Rattle.ufs_ledger.specs.Ledger.{IsLeft, IsLeftBy, IsLedgerOf}
 use Rattle.ufs_ledger.specs.Changes.{dir_blocks, opening_ledger}
-use Rattle.ufs_ledger.proofs.Heading.{none_committed}
+use Rattle.ufs_ledger.proofs.SuperblockPut.{none_committed}
 
 from_any : {X : Type 0} (p : X → Bool) (xs : List X) → list_any p xs ≡ true → (x : X) × IsIn x xs × (p x ≡ true)
 from_any p [] e = let off = e in cc
@@ -74,23 +74,23 @@ module _ (g : Geometry) (c : Catalog) where
       let there : list_any (λ b. b == block) (blocks_of (c.forms inode)) ≡ true = to_any (λ b. b == block) (blocks_of (c.forms inode)) block (in_at_place block (blocks_of (c.forms inode)) place has.there) self in
       to_any (λ i. (c.forms i).kind == 2 && list_any (λ b. b == block) (blocks_of (c.forms i))) (all_inodes g) inode (in_inodes g inode has.in_range) (λ i. is i && there i)
 
-module _ (sectors : ℕ) (image : Image) (v : Volume) (bytes : IsImageOf sectors image) (ok : volume sectors image ≡ Ok v) (good : bad_tree v.geometry v.image ≡ None) (earlier : HasEarlier v.geometry v.head.epoch image)
-    (clean : IsTrue v.head.clean → IsProperClean v image) (catalogs : HasCatalog v.geometry) (sounds : WholeIsSound v.geometry) where
-  same_geometry : v.geometry ≡ geometry_of v.head
-  same_geometry = let is = taken sectors image v ok in ap (λ (v : Volume). v.geometry) is.same ∙ ap geometry_of (sym (ap (λ (v : Volume). v.head) is.same))
+module _ (sectors : ℕ) (image : Image) (v : Volume) (bytes : IsImageOf sectors image) (ok : volume sectors image ≡ Ok v) (good : bad_tree v.geometry v.image ≡ None) (earlier : HasEarlier v.geometry v.superblock.epoch image)
+    (clean : IsTrue v.superblock.clean → IsProperClean v image) (catalogs : HasCatalog v.geometry) (sounds : WholeIsSound v.geometry) where
+  same_geometry : v.geometry ≡ geometry_of v.superblock
+  same_geometry = let is = taken sectors image v ok in ap (λ (v : Volume). v.geometry) is.same ∙ ap geometry_of (sym (ap (λ (v : Volume). v.superblock) is.same))
 
-  free : IsFreeFrom v.geometry v.head.epoch 0 image
+  free : IsFreeFrom v.geometry v.superblock.epoch 0 image
   free place low under = let less = earlier place under in grind (arith, nat_tests, less)
 
-  logged : committed v.geometry v.head.epoch image ≡ []
-  logged = none_committed v.geometry v.head.epoch image free
+  logged : committed v.geometry v.superblock.epoch image ≡ []
+  logged = none_committed v.geometry v.superblock.epoch image free
 
   unfolded : v.image ≡ image
   unfolded =
       let is = taken sectors image v ok in
       ap (λ (v : Volume). v.image) is.same
-      ∙ ap (λ (h : Super). folded (geometry_of h) (committed (geometry_of h) h.epoch image) image) (sym (ap (λ (v : Volume). v.head) is.same))
-      ∙ ap (λ g. folded g (committed g v.head.epoch image) image) (sym same_geometry)
+      ∙ ap (λ (h : Super). folded (geometry_of h) (committed (geometry_of h) h.epoch image) image) (sym (ap (λ (v : Volume). v.superblock) is.same))
+      ∙ ap (λ g. folded g (committed g v.superblock.epoch image) image) (sym same_geometry)
       ∙ ap (λ log. folded v.geometry log image) logged
 
   whole : bad_tree v.geometry image ≡ None
@@ -112,15 +112,15 @@ module _ (sectors : ℕ) (image : Image) (v : Volume) (bytes : IsImageOf sectors
       let within = block_in_data v.geometry ((catalog_at v.geometry image).forms of.inode).extents block (sound.in_data of.inode of.has.in_range) (in_at_place block (blocks_of ((catalog_at v.geometry image).forms of.inode)) of.place of.has.there) in
       (within.0, within.1, has.slots block of))
 
-  left_there : IsLeft sectors v.head (λ block. record { older = []; seen = block_at image block }) (opening_ledger v.head image).now image
+  left_there : IsLeft sectors v.superblock (λ block. record { older = []; seen = block_at image block }) (opening_ledger v.superblock image).now image
   left_there = record {
     as_volume = v;
     taken = ok;
-    headed = refl;
-    logged = subst (λ g. committed g v.head.epoch image ≡ []) same_geometry logged;
-    latest = subst (λ g. HasNoLater g v.head.epoch image) same_geometry (λ place under. let less = earlier place under in omega (arith, less));
+    superblock_is = refl;
+    logged = subst (λ g. committed g v.superblock.epoch image ≡ []) same_geometry logged;
+    latest = subst (λ g. HasNoLater g v.superblock.epoch image) same_geometry (λ place under. let less = earlier place under in omega (arith, less));
     spells = subst (λ (x : Geometry × Image). Spells x.0 true (dir_blocks x.0 (catalog_at x.0 image)) x.1 (catalog_at x.0 image)) (λ i. (same_geometry i, sym unfolded i)) spelled;
-    covers = dirs_cover (geometry_of v.head) (catalog_at (geometry_of v.head) image);
+    covers = dirs_cover (geometry_of v.superblock) (catalog_at (geometry_of v.superblock) image);
     sound = subst (λ g. IsSoundCatalog g (catalog_at g image)) same_geometry sound;
     contents = λ block data' _. record {
       size = block_length image sectors bytes block (let under = data'.under in let room = subst (λ g. sector_count g ≤ sectors) same_geometry geometry.1 in omega (arith, under, room));
@@ -130,9 +130,9 @@ module _ (sectors : ℕ) (image : Image) (v : Volume) (bytes : IsImageOf sectors
   }
 
 pub mounted : (sectors : ℕ) (state : State) (v : Volume) → Leaves (IsImageOf sectors) state → IsSettled state → volume sectors (seen state) ≡ Ok v → bad_tree v.geometry v.image ≡ None
-    → HasEarlier v.geometry v.head.epoch (seen state) → (IsTrue v.head.clean → IsProperClean v (seen state)) → HasCatalog v.geometry → WholeIsSound v.geometry → IsLedgerOf sectors state (opening_ledger v.head (seen state))
+    → HasEarlier v.geometry v.superblock.epoch (seen state) → (IsTrue v.superblock.clean → IsProperClean v (seen state)) → HasCatalog v.geometry → WholeIsSound v.geometry → IsLedgerOf sectors state (opening_ledger v.superblock (seen state))
 mounted sectors state v whole still ok good earlier clean catalogs sounds = record {
-  images = λ image left. subst (IsLeftBy sectors (opening_ledger v.head (seen state))) (sym (still image left))
+  images = λ image left. subst (IsLeftBy sectors (opening_ledger v.superblock (seen state))) (sym (still image left))
       (inl (left_there sectors (seen state) v (whole (seen state) (seen_is_image state)) ok good earlier clean catalogs sounds));
   reads = λ block data' _. refl;
 }

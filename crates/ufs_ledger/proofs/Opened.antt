@@ -10,7 +10,7 @@ use Rattle.ufs_base.specs.Images.{Image}
 use Rattle.ufs_image.specs.Images.{block_at}
 use Rattle.ufs_image.specs.Journal.{committed}
 use Rattle.ufs_image.specs.Fold.{folded}
-use Rattle.ufs_image.specs.Volume.{Volume, head_of}
+use Rattle.ufs_image.specs.Volume.{Volume, superblock_of}
 use Rattle.ufs_image.specs.Opens.{ImageTree, NodeBytes, walked, opens, path_cmp, file_bytes}
 use Rattle.ufs_layout.specs.declared.superblock.Super.{Super}
 use Rattle.ufs_model.specs.PosixTree.{PosixTree, Paths}
@@ -78,50 +78,50 @@ module _ (v : Volume) (c : Catalog) (n : Numbers) (paths : Paths) (is : IsNumber
 
 -- ---- the pick of an image
 
-module _ (sectors : ℕ) (head : Super) (blocks : ℕ → Cell) (s : Stand) (image : Image) (left : IsLeft sectors head blocks s image) where
-  pub same_geometry : left.as_volume.geometry ≡ geometry_of head
-  same_geometry = let is = taken sectors image left.as_volume left.taken in ap (λ (v : Volume). v.geometry) is.same ∙ ap geometry_of (sym (ap (λ (v : Volume). v.head) is.same) ∙ left.headed)
+module _ (sectors : ℕ) (superblock : Super) (blocks : ℕ → Cell) (s : Stand) (image : Image) (left : IsLeft sectors superblock blocks s image) where
+  pub same_geometry : left.as_volume.geometry ≡ geometry_of superblock
+  same_geometry = let is = taken sectors image left.as_volume left.taken in ap (λ (v : Volume). v.geometry) is.same ∙ ap geometry_of (sym (ap (λ (v : Volume). v.superblock) is.same) ∙ left.superblock_is)
 
-  pub same_image : left.as_volume.image ≡ folded (geometry_of head) s.log image
+  pub same_image : left.as_volume.image ≡ folded (geometry_of superblock) s.log image
   same_image =
       let is = taken sectors image left.as_volume left.taken in
-      let heads : head_of image ≡ head = sym (ap (λ (v : Volume). v.head) is.same) ∙ left.headed in
-      ap (λ (v : Volume). v.image) is.same ∙ ap (λ (h : Super). folded (geometry_of h) (committed (geometry_of h) h.epoch image) image) heads ∙ ap (λ log. folded (geometry_of head) log image) left.logged
+      let superblocks : superblock_of image ≡ superblock = sym (ap (λ (v : Volume). v.superblock) is.same) ∙ left.superblock_is in
+      ap (λ (v : Volume). v.image) is.same ∙ ap (λ (h : Super). folded (geometry_of h) (committed (geometry_of h) h.epoch image) image) superblocks ∙ ap (λ log. folded (geometry_of superblock) log image) left.logged
 
-  pub picks : (block : ℕ) → IsDataBlock (geometry_of head) block → is_held s.log block ≡ false → IsMixOf (possible (blocks block)) (block_at left.as_volume.image block)
-  picks block data' free = subst (IsMixOf _) (sym (ap (λ (i : Image). block_at i block) same_image ∙ unheld_block (geometry_of head) block data'.from s.log image free)) (left.contents block data' free)
+  pub picks : (block : ℕ) → IsDataBlock (geometry_of superblock) block → is_held s.log block ≡ false → IsMixOf (possible (blocks block)) (block_at left.as_volume.image block)
+  picks block data' free = subst (IsMixOf _) (sym (ap (λ (i : Image). block_at i block) same_image ∙ unheld_block (geometry_of superblock) block data'.from s.log image free)) (left.contents block data' free)
 
   -- what is left is an image with its catalog
-  pub is_volume : SpellsDirs (geometry_of head) → IsVolumeOf sectors image left.as_volume s.catalog
+  pub is_volume : SpellsDirs (geometry_of superblock) → IsVolumeOf sectors image left.as_volume s.catalog
   is_volume spells_dirs = record {
     taken = left.taken;
     catalog = subst (λ g. IsCatalogOf g left.as_volume.image s.catalog) (sym same_geometry) (spells_dirs s.dirs left.as_volume.image s.catalog left.spells left.covers);
     sound = subst (λ g. IsSoundCatalog g s.catalog) (sym same_geometry) left.sound;
   }
 
-  module _ (start : PosixTree) (history : List Entry) (names : ℕ) (files : ℕ → ℕ) (n : Numbers) (stored : IsStandStored (geometry_of head) blocks s start history names files n) where
+  module _ (start : PosixTree) (history : List Entry) (names : ℕ) (files : ℕ → ℕ) (n : Numbers) (stored : IsStandStored (geometry_of superblock) blocks s start history names files n) where
     -- what the image has of each file
     abbrev content : ℕ → List ℕ
     content file = content_of (block_at left.as_volume.image) (shape_of s.catalog (n.inode file))
 
-    its : (file inode : ℕ) → n.inode file ≡ Some inode → IsInode (geometry_of head) inode × ((place block : ℕ) → HasBlock (geometry_of head) s.catalog inode place block → is_held s.log block ≡ false)
+    its : (file inode : ℕ) → n.inode file ≡ Some inode → IsInode (geometry_of superblock) inode × ((place block : ℕ) → HasBlock (geometry_of superblock) s.catalog inode place block → is_held s.log block ≡ false)
     its file inode at = let is = stored.inodes file inode at in (is.0, λ place block has. stored.unheld inode place block has is.1)
 
     stored_there : IsStored start history names files content
     stored_there = record {
       made = stored.made;
       each = λ count file from to named.
-          inode_shown (geometry_of head) blocks s (block_at left.as_volume.image) (n.inode file) (bytes_of start.bytes file) (changes_of file start history) (files file) left.sound (its file) picks (stored.shown count file from to named);
+          inode_shown (geometry_of superblock) blocks s (block_at left.as_volume.image) (n.inode file) (bytes_of start.bytes file) (changes_of file start history) (files file) left.sound (its file) picks (stored.shown count file from to named);
     }
 
-    opens_as_stored : SpellsDirs (geometry_of head) → StandsAtPaths left.as_volume → StandsNowhereElse left.as_volume
+    opens_as_stored : SpellsDirs (geometry_of superblock) → StandsAtPaths left.as_volume → StandsNowhereElse left.as_volume
         → (opens sectors image ≡ Ok (from_entries (walked left.as_volume))) × IsTreeWith (λ file bytes. bytes ≡ content file) (names_after start history names).paths (paths_of (from_entries (walked left.as_volume)))
     opens_as_stored spells_dirs at nowhere =
         let is = is_volume spells_dirs in
         (opens_to sectors image left.as_volume s.catalog is, has_paths left.as_volume s.catalog n (names_after start history names).paths stored.paths is.catalog is.sound at nowhere)
 
-  pub opens_explained : SpellsDirs (geometry_of head) → StandsAtPaths left.as_volume → StandsNowhereElse left.as_volume
-      → (start : PosixTree) (history : List Entry) (names : ℕ) (files : ℕ → ℕ) (n : Numbers) → IsStandKept (geometry_of head) blocks s start history names files n → OpensExplained sectors start history image
+  pub opens_explained : SpellsDirs (geometry_of superblock) → StandsAtPaths left.as_volume → StandsNowhereElse left.as_volume
+      → (start : PosixTree) (history : List Entry) (names : ℕ) (files : ℕ → ℕ) (n : Numbers) → IsStandKept (geometry_of superblock) blocks s start history names files n → OpensExplained sectors start history image
   opens_explained spells_dirs at nowhere start history names files n kept =
       let opened = opens_as_stored start history names files n kept.stored spells_dirs at nowhere in
       record {
@@ -131,8 +131,8 @@ module _ (sectors : ℕ) (head : Super) (blocks : ℕ → Cell) (s : Stand) (ima
             (stored_opens start history names files (content start history names files n kept.stored) (paths_of (from_entries (walked left.as_volume))) (stored_there start history names files n kept.stored) opened.1);
       }
 
-  pub opens_explained_from : SpellsDirs (geometry_of head) → StandsAtPaths left.as_volume → StandsNowhereElse left.as_volume
-      → (start : PosixTree) (history : List Entry) (from to names : ℕ) (files : ℕ → ℕ) (n : Numbers) → IsStandStored (geometry_of head) blocks s start (take from history) names files n → IsCovering start (take to history) names files
+  pub opens_explained_from : SpellsDirs (geometry_of superblock) → StandsAtPaths left.as_volume → StandsNowhereElse left.as_volume
+      → (start : PosixTree) (history : List Entry) (from to names : ℕ) (files : ℕ → ℕ) (n : Numbers) → IsStandStored (geometry_of superblock) blocks s start (take from history) names files n → IsCovering start (take to history) names files
       → OpensExplainedFrom sectors start history from to image
   opens_explained_from spells_dirs at nowhere start history from to names files n stored covers =
       let opened = opens_as_stored start (take from history) names files n stored spells_dirs at nowhere in

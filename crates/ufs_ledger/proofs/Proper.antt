@@ -37,13 +37,13 @@ none_later g epoch image latest = all_pass (λ s. not (nat_lt epoch (epoch_in (i
         let most : epoch_in (image s) ≤ epoch = subst (λ k. epoch_in (image k) ≤ epoch) same (latest (s - 8 * first_of_journal g) (omega (arith, from, under))) in
         grind (arith, nat_tests, most)
 
-pub left_proper : (sectors : ℕ) (head : Super) (blocks : ℕ → Cell) (s : Stand) (image : Image) → SpellsDirs (geometry_of head) → IsLeft sectors head blocks s image → IsProperImage sectors image
-left_proper sectors head blocks s image spells left =
-    let is = is_volume sectors head blocks s image left spells in
-    let same = same_geometry sectors head blocks s image left in
-    let latest : HasNoLater left.as_volume.geometry left.as_volume.head.epoch image = subst (λ (x : Geometry × Super). HasNoLater x.0 x.1.epoch image) (λ i. (sym same i, sym left.headed i)) left.latest in
+pub left_proper : (sectors : ℕ) (superblock : Super) (blocks : ℕ → Cell) (s : Stand) (image : Image) → SpellsDirs (geometry_of superblock) → IsLeft sectors superblock blocks s image → IsProperImage sectors image
+left_proper sectors superblock blocks s image spells left =
+    let is = is_volume sectors superblock blocks s image left spells in
+    let same = same_geometry sectors superblock blocks s image left in
+    let latest : HasNoLater left.as_volume.geometry left.as_volume.superblock.epoch image = subst (λ (x : Geometry × Super). HasNoLater x.0 x.1.epoch image) (λ i. (sym same i, sym left.superblock_is i)) left.latest in
     subst (λ r. MatchResult r (IsProperVolume image) (λ _. ⊥)) (sym is.taken) (record {
       has_tree = not_bad left.as_volume.geometry left.as_volume.image (sound_whole left.as_volume.geometry left.as_volume.image s.catalog is.catalog is.sound);
-      none_later = none_later left.as_volume.geometry left.as_volume.head.epoch image latest;
-      if_clean = λ clean. left.if_clean (subst (λ (h : Super). IsTrue h.clean) left.headed clean);
+      none_later = none_later left.as_volume.geometry left.as_volume.superblock.epoch image latest;
+      if_clean = λ clean. left.if_clean (subst (λ (h : Super). IsTrue h.clean) left.superblock_is clean);
     })

@@ -78,11 +78,11 @@ pub ledger_kept : (l : Ledger) (start : PosixTree) (history : List Entry) (now m
     × IsLedgerKept (settled l) start history now maybe
 ledger_kept l start history now maybe none kept = (
   λ block bytes is. record {
-    here = writing_kept (geometry_of l.head) l.blocks l.now start history now.names now.files now.numbers kept.here block bytes is;
+    here = writing_kept (geometry_of l.superblock) l.blocks l.now start history now.names now.files now.numbers kept.here block bytes is;
     there = λ other some. absurd (no_other l none other some);
   },
   record {
-    here = fewer_kept (geometry_of l.head) l.blocks l.now start history now.names now.files now.numbers kept.here (settled l).blocks (λ block place byte has. settled_less (l.blocks block) place byte has);
+    here = fewer_kept (geometry_of l.superblock) l.blocks l.now start history now.names now.files now.numbers kept.here (settled l).blocks (λ block place byte has. settled_less (l.blocks block) place byte has);
     there = λ other some. absurd (no_other l none other some);
   },
 )
@@ -90,39 +90,39 @@ ledger_kept l start history now maybe none kept = (
 -- ---- a commit
 
 pub ledger_goes_on : (l : Ledger) (t : Committed) (start : PosixTree) (history : List Entry) (now next : Counts) → KeepsTrees → l.maybe ≡ None → IsTree start → IsLegalFrom 0 start history → IsLedgerKept l start history now now
-    → StandsOn (geometry_of l.head) (settled l).blocks l.now (with_one (geometry_of l.head) t l.now) start history now.names next.names now.files next.files now.numbers next.numbers
+    → StandsOn (geometry_of l.superblock) (settled l).blocks l.now (with_one (geometry_of l.superblock) t l.now) start history now.names next.names now.files next.files now.numbers next.numbers
     → IsLedgerKept (committing t (settled l)) start history now next × IsLedgerKept (committed_one t l) start history next next
 ledger_goes_on l t start history now next keeps none is legal kept on = (
   record {
     here = still;
     there = λ other some.
-        let same : record { head = l.head; stand = with_one (geometry_of l.head) t l.now } ≡ other = cc in
-        (sym (ap (λ (o : Standing). geometry_of o.head) same), subst (λ (o : Standing). IsKeptBy (geometry_of l.head) (settled l).blocks o.stand start history next) same after);
+        let same : record { superblock = l.superblock; stand = with_one (geometry_of l.superblock) t l.now } ≡ other = cc in
+        (sym (ap (λ (o : Standing). geometry_of o.superblock) same), subst (λ (o : Standing). IsKeptBy (geometry_of l.superblock) (settled l).blocks o.stand start history next) same after);
   },
   record { here = after; there = λ other some. absurd (no_other l none other some) },
 )
   where
-    still : IsKeptBy (geometry_of l.head) (settled l).blocks l.now start history now
-    still = fewer_kept (geometry_of l.head) l.blocks l.now start history now.names now.files now.numbers kept.here (settled l).blocks (λ block place byte has. settled_less (l.blocks block) place byte has)
+    still : IsKeptBy (geometry_of l.superblock) (settled l).blocks l.now start history now
+    still = fewer_kept (geometry_of l.superblock) l.blocks l.now start history now.names now.files now.numbers kept.here (settled l).blocks (λ block place byte has. settled_less (l.blocks block) place byte has)
 
-    after : IsKeptBy (geometry_of l.head) (settled l).blocks (with_one (geometry_of l.head) t l.now) start history next
-    after = commit_kept (geometry_of l.head) (settled l).blocks l.now start history now.names now.files now.numbers still keeps is legal (with_one (geometry_of l.head) t l.now) next.names next.files next.numbers on
+    after : IsKeptBy (geometry_of l.superblock) (settled l).blocks (with_one (geometry_of l.superblock) t l.now) start history next
+    after = commit_kept (geometry_of l.superblock) (settled l).blocks l.now start history now.names now.files now.numbers still keeps is legal (with_one (geometry_of l.superblock) t l.now) next.names next.files next.numbers on
 
 -- ---- a checkpoint of the whole
 
-module _ (l : Ledger) (head : Super) (home : ℕ → List ℕ) (start : PosixTree) (history : List Entry) (now maybe : Counts) (same : geometry_of head ≡ geometry_of l.head) (kept : IsLedgerKept l start history now maybe) where
-  emptied_there : IsKeptBy (geometry_of l.head) (home_cells home l) (without_log l.now) start history now
-  emptied_there = emptied_kept (geometry_of l.head) l home start history now.names now.files now.numbers kept.here [] (λ block free. refl)
+module _ (l : Ledger) (superblock : Super) (home : ℕ → List ℕ) (start : PosixTree) (history : List Entry) (now maybe : Counts) (same : geometry_of superblock ≡ geometry_of l.superblock) (kept : IsLedgerKept l start history now maybe) where
+  emptied_there : IsKeptBy (geometry_of l.superblock) (home_cells home l) (without_log l.now) start history now
+  emptied_there = emptied_kept (geometry_of l.superblock) l home start history now.names now.files now.numbers kept.here [] (λ block free. refl)
 
-  pub beginning_kept : IsLedgerKept (beginning head home l) start history now now
+  pub beginning_kept : IsLedgerKept (beginning superblock home l) start history now now
   beginning_kept = record {
-    here = emptied_kept (geometry_of l.head) l home start history now.names now.files now.numbers kept.here l.now.log (λ block free. free);
+    here = emptied_kept (geometry_of l.superblock) l home start history now.names now.files now.numbers kept.here l.now.log (λ block free. free);
     there = λ other some.
-        let is : record { head = head; stand = without_log l.now } ≡ other = cc in
-        (sym (ap (λ (o : Standing). geometry_of o.head) is) ∙ same, subst (λ (o : Standing). IsKeptBy (geometry_of l.head) (home_cells home l) o.stand start history now) is emptied_there);
+        let is : record { superblock = superblock; stand = without_log l.now } ≡ other = cc in
+        (sym (ap (λ (o : Standing). geometry_of o.superblock) is) ∙ same, subst (λ (o : Standing). IsKeptBy (geometry_of l.superblock) (home_cells home l) o.stand start history now) is emptied_there);
   }
 
-  pub emptied_is_kept : IsLedgerKept (emptied head home l) start history now now
+  pub emptied_is_kept : IsLedgerKept (emptied superblock home l) start history now now
   emptied_is_kept = record {
     here = subst (λ g. IsKeptBy g (home_cells home l) (without_log l.now) start history now) (sym same) emptied_there;
     there = λ other some. absurd (let none = some in cc);

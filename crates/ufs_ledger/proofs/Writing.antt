@@ -36,22 +36,22 @@ apart_of block other sector apart of = by (cases_lt sector (8 * block)) (cases_l
     by (inr from) (inr high) = inr high
     by (inr from) (inl under) = let at = of.same in let low = of.in_block in absurd (apart (omega (arith, at, low, from, under)))
 
-module _ (sectors : ℕ) (head : Super) (blocks : ℕ → Cell) (s : Stand) (before image : Image) (block : ℕ) (bytes : List ℕ) (left : IsLeft sectors head blocks s before) (used : head.clean ≡ false)
-    (data' : IsDataBlock (geometry_of head) block) (no_dir : IsTrue (s.dirs block) → ⊥) (size : length bytes ≡ 4096) (long : (sector : ℕ) → IsOfBlock block sector → length (before sector) ≡ 512)
+module _ (sectors : ℕ) (superblock : Super) (blocks : ℕ → Cell) (s : Stand) (before image : Image) (block : ℕ) (bytes : List ℕ) (left : IsLeft sectors superblock blocks s before) (used : superblock.clean ≡ false)
+    (data' : IsDataBlock (geometry_of superblock) block) (no_dir : IsTrue (s.dirs block) → ⊥) (size : length bytes ≡ 4096) (long : (sector : ℕ) → IsOfBlock block sector → length (before sector) ≡ 512)
     (mixed : Mixes before (overwritten (8 * block) bytes before) image) where
   agree : AgreeOn (IsApart block) before image
   agree sector at = elsewhere block bytes before image size mixed sector at
 
-  metadata : (sector : ℕ) → IsMetadata (geometry_of head) sector → IsApart block sector
+  metadata : (sector : ℕ) → IsMetadata (geometry_of superblock) sector → IsApart block sector
   metadata sector low = let from = data'.from in inl (omega (arith, low, from))
 
-  table : (inode : ℕ) → is_inode_number (geometry_of head) inode ≡ true → IsApart block (sector_of_inode (geometry_of head) inode)
-  table inode is = metadata (sector_of_inode (geometry_of head) inode) (inode_metadata (geometry_of head) inode is)
+  table : (inode : ℕ) → is_inode_number (geometry_of superblock) inode ≡ true → IsApart block (sector_of_inode (geometry_of superblock) inode)
+  table inode is = metadata (sector_of_inode (geometry_of superblock) inode) (inode_metadata (geometry_of superblock) inode is)
 
-  log_same : committed (geometry_of head) head.epoch image ≡ s.log
-  log_same = sym (committed_same (geometry_of head) (IsApart block) metadata before image agree head.epoch) ∙ left.logged
+  log_same : committed (geometry_of superblock) superblock.epoch image ≡ s.log
+  log_same = sym (committed_same (geometry_of superblock) (IsApart block) metadata before image agree superblock.epoch) ∙ left.logged
 
-  contents : (k : ℕ) → IsDataBlock (geometry_of head) k → is_held s.log k ≡ false → IsMixOf (possible (rewritten block bytes blocks k)) (block_at image k)
+  contents : (k : ℕ) → IsDataBlock (geometry_of superblock) k → is_held s.log k ≡ false → IsMixOf (possible (rewritten block bytes blocks k)) (block_at image k)
   contents k is free = by (k == block) refl
     where
       by : (b : Bool) → (k == block) ≡ b → IsMixOf (possible (if b then record { older = possible (blocks k); seen = bytes } else blocks k)) (block_at image k)
@@ -63,19 +63,19 @@ module _ (sectors : ℕ) (head : Super) (blocks : ℕ → Cell) (s : Stand) (bef
           mix_written (possible (blocks k)) (block_at before k) bytes (block_at image k) (left.contents k is free)
           (block_either k bytes before image size (subst (λ b. (sector : ℕ) → IsOfBlock b sector → length (before sector) ≡ 512) same long) (subst (λ b. Mixes before (overwritten (8 * b) bytes before) image) same mixed))
 
-  pub left_written : IsLeft sectors head (rewritten block bytes blocks) s image
+  pub left_written : IsLeft sectors superblock (rewritten block bytes blocks) s image
   left_written = record {
-    as_volume = volume_of head image;
-    taken = taken_again sectors head blocks s before left image (agree 0 (metadata 0 (omega arith))) (sym (bad_sector_agrees (geometry_of head) (IsApart block) metadata head before image agree) ∙ no_bad sectors head blocks s before left);
-    headed = refl;
+    as_volume = volume_of superblock image;
+    taken = taken_again sectors superblock blocks s before left image (agree 0 (metadata 0 (omega arith))) (sym (bad_sector_agrees (geometry_of superblock) (IsApart block) metadata superblock before image agree) ∙ no_bad sectors superblock blocks s before left);
+    superblock_is = refl;
     logged = log_same;
-    latest = λ place under. subst (λ b. epoch_in b ≤ head.epoch) (agree (journal_sector (geometry_of head) place) (metadata (journal_sector (geometry_of head) place) (omega (arith, under)))) (left.latest place under);
-    spells = subst (λ log. Spells (geometry_of head) true s.dirs (folded (geometry_of head) log image) s.catalog) (sym log_same)
-        (spells_agree (geometry_of head) (IsApart block) table s.dirs (folded (geometry_of head) s.log before) (folded (geometry_of head) s.log image) s.catalog
-        (folded_agrees (geometry_of head) (IsApart block) table s.log before image agree)
-        (λ other sector its from of. apart_of block other sector (λ same. no_dir (subst (λ b. IsTrue (s.dirs b)) same its)) of) (spelled_folds sectors head blocks s before left));
+    latest = λ place under. subst (λ b. epoch_in b ≤ superblock.epoch) (agree (journal_sector (geometry_of superblock) place) (metadata (journal_sector (geometry_of superblock) place) (omega (arith, under)))) (left.latest place under);
+    spells = subst (λ log. Spells (geometry_of superblock) true s.dirs (folded (geometry_of superblock) log image) s.catalog) (sym log_same)
+        (spells_agree (geometry_of superblock) (IsApart block) table s.dirs (folded (geometry_of superblock) s.log before) (folded (geometry_of superblock) s.log image) s.catalog
+        (folded_agrees (geometry_of superblock) (IsApart block) table s.log before image agree)
+        (λ other sector its from of. apart_of block other sector (λ same. no_dir (subst (λ b. IsTrue (s.dirs b)) same its)) of) (spelled_folds sectors superblock blocks s before left));
     covers = left.covers;
     sound = left.sound;
     contents = contents;
-    if_clean = not_clean head used (IsProperClean (volume_of head image) image);
+    if_clean = not_clean superblock used (IsProperClean (volume_of superblock image) image);
   }

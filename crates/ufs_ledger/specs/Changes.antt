@@ -43,7 +43,7 @@ pub record MayCommit (g : Geometry) (t : Committed) (s : Stand) : Type 0 where
 
 -- while it is committed, and for good where that failed
 abbrev pub committing : Committed → Ledger → Ledger
-committing t l = record l { maybe = Some (record { head = l.head; stand = with_one (geometry_of l.head) t l.now }) }
+committing t l = record l { maybe = Some (record { superblock = l.superblock; stand = with_one (geometry_of l.superblock) t l.now }) }
 
 abbrev pub settled_cell : Cell → Cell
 settled_cell cell = record { older = []; seen = cell.seen }
@@ -54,7 +54,7 @@ settled l = record l { blocks = λ block. settled_cell (l.blocks block) }
 
 -- after a commit that succeeded
 abbrev pub committed_one : Committed → Ledger → Ledger
-committed_one t l = record l { now = with_one (geometry_of l.head) t l.now; blocks = λ block. settled_cell (l.blocks block) }
+committed_one t l = record l { now = with_one (geometry_of l.superblock) t l.now; blocks = λ block. settled_cell (l.blocks block) }
 
 -- ---- a write
 
@@ -77,7 +77,7 @@ without_log s = record s { log = [] }
 
 -- the disk as it reads once all is home
 abbrev pub home_of : Ledger → Image → Image
-home_of l image = folded (geometry_of l.head) l.now.log image
+home_of l image = folded (geometry_of l.superblock) l.now.log image
 
 -- what stands in the blocks once all is home; the others are settled
 abbrev pub home_cells : (ℕ → List ℕ) → Ledger → ℕ → Cell
@@ -85,11 +85,11 @@ home_cells home l block = if is_held l.now.log block then record { older = []; s
 
 -- while the next superblock is written, and for good where that failed
 abbrev pub beginning : Super → (ℕ → List ℕ) → Ledger → Ledger
-beginning head home l = record l { maybe = Some (record { head = head; stand = without_log l.now }); blocks = home_cells home l }
+beginning superblock home l = record l { maybe = Some (record { superblock = superblock; stand = without_log l.now }); blocks = home_cells home l }
 
 -- after a checkpoint that succeeded
 abbrev pub emptied : Super → (ℕ → List ℕ) → Ledger → Ledger
-emptied head home l = record { head = head; now = without_log l.now; maybe = None; blocks = home_cells home l }
+emptied superblock home l = record { superblock = superblock; now = without_log l.now; maybe = None; blocks = home_cells home l }
 
 -- ---- a directory's new block
 
@@ -109,9 +109,9 @@ dir_blocks g c block = list_any (λ inode. (c.forms inode).kind == 2 && list_any
 
 -- what a disk has on which nothing is pending and nothing is folded
 abbrev pub opening_ledger : Super → Image → Ledger
-opening_ledger head image = record {
-  head = head;
-  now = record { catalog = catalog_at (geometry_of head) image; dirs = dir_blocks (geometry_of head) (catalog_at (geometry_of head) image); log = [] };
+opening_ledger superblock image = record {
+  superblock = superblock;
+  now = record { catalog = catalog_at (geometry_of superblock) image; dirs = dir_blocks (geometry_of superblock) (catalog_at (geometry_of superblock) image); log = [] };
   maybe = None;
   blocks = λ block. record { older = []; seen = block_at image block };
 }

@@ -12,10 +12,10 @@ use Rattle.ufs_ledger.specs.Changes.{MayCommit}
 pub record IsLedgerBy (j : Journal) (sectors : ℕ) (state : State) (l : Ledger) : Type 0 where
   pub is : IsLedgerOf sectors state l
   pub none : l.maybe ≡ None
-  pub in_use : l.head.clean ≡ false
-  pub geometry : geometry_of l.head ≡ j.geometry
-  pub epoch : l.head.epoch ≡ j.epoch
-  pub later : l.head.next ≤ j.number
+  pub in_use : l.superblock.clean ≡ false
+  pub geometry : geometry_of l.superblock ≡ j.geometry
+  pub epoch : l.superblock.epoch ≡ j.epoch
+  pub later : l.superblock.next ≤ j.number
   pub ready : IsReady j.geometry j.epoch j.used j.number state
 
 -- These records may be committed next, as this transaction.

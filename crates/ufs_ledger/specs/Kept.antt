@@ -123,10 +123,10 @@ IsKeptBy g blocks s start history k = IsStandKept g blocks s start history k.nam
 
 -- So it is for what is committed, and for what a crash may leave too.
 pub record IsLedgerKept (l : Ledger) (start : PosixTree) (history : List Entry) (now maybe : Counts) : Type 0 where
-  pub here : IsKeptBy (geometry_of l.head) l.blocks l.now start history now
-  pub there : (other : Standing) → l.maybe ≡ Some other → (geometry_of other.head ≡ geometry_of l.head) × IsKeptBy (geometry_of l.head) l.blocks other.stand start history maybe
+  pub here : IsKeptBy (geometry_of l.superblock) l.blocks l.now start history now
+  pub there : (other : Standing) → l.maybe ≡ Some other → (geometry_of other.superblock ≡ geometry_of l.superblock) × IsKeptBy (geometry_of l.superblock) l.blocks other.stand start history maybe
 
 -- The same without what is acknowledged.
 pub record IsLedgerStored (l : Ledger) (start : PosixTree) (history : List Entry) (now maybe : Counts) : Type 0 where
-  pub here : IsStandStored (geometry_of l.head) l.blocks l.now start history now.names now.files now.numbers
-  pub there : (other : Standing) → l.maybe ≡ Some other → (geometry_of other.head ≡ geometry_of l.head) × IsStandStored (geometry_of l.head) l.blocks other.stand start history maybe.names maybe.files maybe.numbers
+  pub here : IsStandStored (geometry_of l.superblock) l.blocks l.now start history now.names now.files now.numbers
+  pub there : (other : Standing) → l.maybe ≡ Some other → (geometry_of other.superblock ≡ geometry_of l.superblock) × IsStandStored (geometry_of l.superblock) l.blocks other.stand start history maybe.names maybe.files maybe.numbers

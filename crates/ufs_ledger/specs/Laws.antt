@@ -41,23 +41,23 @@ use Rattle.ufs_ledger.specs.Kept.{Numbers, IsNumberedBy, Shape, shape_of, MayHav
 
 -- What a crash leaves opens to a tree that the history explains, where it is kept so.
 abbrev pub OpensAsKept : Geometry → Type 0
-OpensAsKept g = (sectors : ℕ) (head : Super) (blocks : ℕ → Cell) (s : Stand) (image : Image) (start : PosixTree) (history : List Entry) (names : ℕ) (files : ℕ → ℕ) (n : Numbers)
-    → geometry_of head ≡ g → IsLeft sectors head blocks s image → IsStandKept g blocks s start history names files n → OpensExplained sectors start history image
+OpensAsKept g = (sectors : ℕ) (superblock : Super) (blocks : ℕ → Cell) (s : Stand) (image : Image) (start : PosixTree) (history : List Entry) (names : ℕ) (files : ℕ → ℕ) (n : Numbers)
+    → geometry_of superblock ≡ g → IsLeft sectors superblock blocks s image → IsStandKept g blocks s start history names files n → OpensExplained sectors start history image
 
 -- What stands on the disk after the first entries, by numbers that cover what is acknowledged by more of them, is explained by
 -- each number of entries between.
 abbrev pub OpensMeanwhile : Geometry → Type 0
-OpensMeanwhile g = (sectors : ℕ) (head : Super) (blocks : ℕ → Cell) (s : Stand) (image : Image) (start : PosixTree) (history : List Entry) (from to names : ℕ) (files : ℕ → ℕ) (n : Numbers)
-    → geometry_of head ≡ g → IsLeft sectors head blocks s image → IsStandStored g blocks s start (take from history) names files n → IsCovering start (take to history) names files → OpensExplainedFrom sectors start history from to image
+OpensMeanwhile g = (sectors : ℕ) (superblock : Super) (blocks : ℕ → Cell) (s : Stand) (image : Image) (start : PosixTree) (history : List Entry) (from to names : ℕ) (files : ℕ → ℕ) (n : Numbers)
+    → geometry_of superblock ≡ g → IsLeft sectors superblock blocks s image → IsStandStored g blocks s start (take from history) names files n → IsCovering start (take to history) names files → OpensExplainedFrom sectors start history from to image
 
 -- So with a whole ledger.
 abbrev pub LedgersExplain : Geometry → Type 0
-LedgersExplain g = (sectors : ℕ) (l : Ledger) (image : Image) (start : PosixTree) (history : List Entry) (now maybe : Counts) → geometry_of l.head ≡ g → IsLeftBy sectors l image → IsLedgerKept l start history now maybe
+LedgersExplain g = (sectors : ℕ) (l : Ledger) (image : Image) (start : PosixTree) (history : List Entry) (now maybe : Counts) → geometry_of l.superblock ≡ g → IsLeftBy sectors l image → IsLedgerKept l start history now maybe
     → OpensExplained sectors start history image
 
 -- Whatever a crash leaves is a proper image.
 abbrev pub LeftIsProper : Geometry → Type 0
-LeftIsProper g = (sectors : ℕ) (l : Ledger) (image : Image) → geometry_of l.head ≡ g → ((other : Standing) → l.maybe ≡ Some other → geometry_of other.head ≡ g) → IsLeftBy sectors l image → IsProperImage sectors image
+LeftIsProper g = (sectors : ℕ) (l : Ledger) (image : Image) → geometry_of l.superblock ≡ g → ((other : Standing) → l.maybe ≡ Some other → geometry_of other.superblock ≡ g) → IsLeftBy sectors l image → IsProperImage sectors image
 
 -- ---- how the promise is kept
 
@@ -118,71 +118,71 @@ BarriersSettle sectors = (old new : State) (l : Ledger) → IsLedgerOf sectors o
 
 -- the block may be written: it is of the data area, and no dentry is spelled there
 pub record MayWrite (l : Ledger) (block : ℕ) (bytes : List ℕ) : Type 0 where
-  pub data_block : IsDataBlock (geometry_of l.head) block
+  pub data_block : IsDataBlock (geometry_of l.superblock) block
   pub no_dir : IsTrue (l.now.dirs block) → ⊥
   pub size : length bytes ≡ BLOCK
 
 -- At each moment of a write a crash leaves what the ledger has with one more content in that block.
 abbrev pub WritesBlock : ℕ → Type 0
-WritesBlock sectors = (old : State) (l : Ledger) (block : ℕ) (bytes : List ℕ) (image : Image) → Leaves (IsImageOf sectors) old → l.maybe ≡ None → l.head.clean ≡ false → IsLedgerOf sectors old l → MayWrite l block bytes
+WritesBlock sectors = (old : State) (l : Ledger) (block : ℕ) (bytes : List ℕ) (image : Image) → Leaves (IsImageOf sectors) old → l.maybe ≡ None → l.superblock.clean ≡ false → IsLedgerOf sectors old l → MayWrite l block bytes
     → IsPartlyWritten (SECTORS_PER_BLOCK * block) bytes old image → IsLeftBy sectors (written block bytes l) image
 
 -- So it is after a write that passed,
 abbrev pub HasWritten : ℕ → Type 0
-HasWritten sectors = (old new : State) (l : Ledger) (block : ℕ) (bytes : List ℕ) → Leaves (IsImageOf sectors) old → l.maybe ≡ None → l.head.clean ≡ false → IsLedgerOf sectors old l → MayWrite l block bytes
+HasWritten sectors = (old new : State) (l : Ledger) (block : ℕ) (bytes : List ℕ) → Leaves (IsImageOf sectors) old → l.maybe ≡ None → l.superblock.clean ≡ false → IsLedgerOf sectors old l → MayWrite l block bytes
     → Leaves (IsPartlyWritten (SECTORS_PER_BLOCK * block) bytes old) new → seen new ≡ overwritten (SECTORS_PER_BLOCK * block) bytes (seen old) → IsLedgerOf sectors new (written block bytes l)
 
 -- and after one that failed, which may have written some of the sectors.
 abbrev pub HasTried : ℕ → Type 0
-HasTried sectors = (old new : State) (l : Ledger) (block : ℕ) (bytes : List ℕ) → Leaves (IsImageOf sectors) old → l.maybe ≡ None → l.head.clean ≡ false → IsLedgerOf sectors old l → MayWrite l block bytes
+HasTried sectors = (old new : State) (l : Ledger) (block : ℕ) (bytes : List ℕ) → Leaves (IsImageOf sectors) old → l.maybe ≡ None → l.superblock.clean ≡ false → IsLedgerOf sectors old l → MayWrite l block bytes
     → Leaves (IsPartlyWritten (SECTORS_PER_BLOCK * block) bytes old) new → Mixes (seen old) (overwritten (SECTORS_PER_BLOCK * block) bytes (seen old)) (seen new)
     → IsLedgerOf sectors new (tried block bytes (block_at (seen new) block) l)
 
 -- A settled block of zeros in which nothing is folded may become a directory's: it spells free slots.
 abbrev pub ZerosJoin : ℕ → Type 0
-ZerosJoin sectors = (state : State) (l : Ledger) (block : ℕ) → Leaves (IsImageOf sectors) state → l.maybe ≡ None → IsLedgerOf sectors state l → IsDataBlock (geometry_of l.head) block → is_held l.now.log block ≡ false
+ZerosJoin sectors = (state : State) (l : Ledger) (block : ℕ) → Leaves (IsImageOf sectors) state → l.maybe ≡ None → IsLedgerOf sectors state l → IsDataBlock (geometry_of l.superblock) block → is_held l.now.log block ≡ false
     → (IsTrue (l.now.dirs block) → ⊥) → possible (l.blocks block) ≡ replicate BLOCK 0 ∷ [] → IsLedgerOf sectors state (record l { now = with_free_block block l.now })
 
 -- Blocks that no directory has any more may be left out: so a removed directory's block may become a file's.
 abbrev pub DirsShrink : ℕ → Type 0
-DirsShrink sectors = (state : State) (l : Ledger) (dirs : ℕ → Bool) → l.maybe ≡ None → IsLedgerOf sectors state l → ((block : ℕ) → IsTrue (dirs block) → IsTrue (l.now.dirs block)) → CoversDirs (geometry_of l.head) (with_dirs dirs l.now)
+DirsShrink sectors = (state : State) (l : Ledger) (dirs : ℕ → Bool) → l.maybe ≡ None → IsLedgerOf sectors state l → ((block : ℕ) → IsTrue (dirs block) → IsTrue (l.now.dirs block)) → CoversDirs (geometry_of l.superblock) (with_dirs dirs l.now)
     → IsLedgerOf sectors state (record l { now = with_dirs dirs l.now })
 
 -- ---- the journal
 
 -- Appending leaves the ledger.
 abbrev pub AppendsQuietly : ℕ → Type 0
-AppendsQuietly sectors = (state : State) (l : Ledger) (image : Image) → l.maybe ≡ None → l.head.clean ≡ false → IsLedgerOf sectors state l → IsAppended (geometry_of l.head) l.head.epoch state image → IsLeftBy sectors l image
+AppendsQuietly sectors = (state : State) (l : Ledger) (image : Image) → l.maybe ≡ None → l.superblock.clean ≡ false → IsLedgerOf sectors state l → IsAppended (geometry_of l.superblock) l.superblock.epoch state image → IsLeftBy sectors l image
 
 -- At each moment of a commit a crash leaves what is committed, or the transaction besides.
 abbrev pub CommitsOrNot : Geometry → Type 0
-CommitsOrNot g = (sectors : ℕ) (state : State) (l : Ledger) (t : Committed) (image : Image) → geometry_of l.head ≡ g → l.maybe ≡ None → l.head.clean ≡ false → IsLedgerOf sectors state l → l.head.next ≤ t.number → MayCommit g t l.now
-    → IsMaybeCommitted g l.head.epoch t state image → IsLeftBy sectors (committing t l) image
+CommitsOrNot g = (sectors : ℕ) (state : State) (l : Ledger) (t : Committed) (image : Image) → geometry_of l.superblock ≡ g → l.maybe ≡ None → l.superblock.clean ≡ false → IsLedgerOf sectors state l → l.superblock.next ≤ t.number → MayCommit g t l.now
+    → IsMaybeCommitted g l.superblock.epoch t state image → IsLeftBy sectors (committing t l) image
 
 -- Where it succeeds, each crash leaves it.
 abbrev pub CommitsForGood : Geometry → Type 0
-CommitsForGood g = (sectors : ℕ) (old new : State) (l : Ledger) (t : Committed) → Leaves (IsImageOf sectors) new → geometry_of l.head ≡ g → l.maybe ≡ None → l.head.clean ≡ false → IsLedgerOf sectors old l → l.head.next ≤ t.number → MayCommit g t l.now
-    → IsSettled new → CommitsOne g l.head.epoch t (seen old) (seen new) → IsLedgerOf sectors new (committed_one t l)
+CommitsForGood g = (sectors : ℕ) (old new : State) (l : Ledger) (t : Committed) → Leaves (IsImageOf sectors) new → geometry_of l.superblock ≡ g → l.maybe ≡ None → l.superblock.clean ≡ false → IsLedgerOf sectors old l → l.superblock.next ≤ t.number → MayCommit g t l.now
+    → IsSettled new → CommitsOne g l.superblock.epoch t (seen old) (seen new) → IsLedgerOf sectors new (committed_one t l)
 
 -- ---- a checkpoint
 
 -- Writing home leaves the ledger.
 abbrev pub HomesQuietly : ℕ → Type 0
-HomesQuietly sectors = (state : State) (l : Ledger) (image : Image) → Leaves (IsImageOf sectors) state → l.maybe ≡ None → l.head.clean ≡ false → IsLedgerOf sectors state l
-    → IsHomeWritten (geometry_of l.head) l.now.log state image → IsLeftBy sectors l image
+HomesQuietly sectors = (state : State) (l : Ledger) (image : Image) → Leaves (IsImageOf sectors) state → l.maybe ≡ None → l.superblock.clean ≡ false → IsLedgerOf sectors state l
+    → IsHomeWritten (geometry_of l.superblock) l.now.log state image → IsLeftBy sectors l image
 
 -- Another superblock with the same geometry, of an image in use, may be written: everything is home, as a read gives it, its epoch
 -- is no earlier one, and nothing in the journal has it.
 pub record MayBegin (sectors : ℕ) (l : Ledger) (home : Image) (new : Super) (bytes : List ℕ) : Type 0 where
   pub whole : IsImageOf sectors home
-  pub left : IsLeft sectors l.head l.blocks l.now home
-  pub folds : folded (geometry_of l.head) l.now.log home ≡ home
-  pub reads : (block : ℕ) → IsDataBlock (geometry_of l.head) block → is_held l.now.log block ≡ false → block_at home block ≡ (l.blocks block).seen
-  pub later : l.head.epoch ≤ new.epoch
-  pub free : IsFreeFrom (geometry_of l.head) new.epoch 0 home
+  pub left : IsLeft sectors l.superblock l.blocks l.now home
+  pub folds : folded (geometry_of l.superblock) l.now.log home ≡ home
+  pub reads : (block : ℕ) → IsDataBlock (geometry_of l.superblock) block → is_held l.now.log block ≡ false → block_at home block ≡ (l.blocks block).seen
+  pub later : l.superblock.epoch ≤ new.epoch
+  pub free : IsFreeFrom (geometry_of l.superblock) new.epoch 0 home
   pub in_use : new.clean ≡ false
   pub spelled : super_of 1 bytes ≡ Some new
-  pub geometry : geometry_of new ≡ geometry_of l.head
+  pub geometry : geometry_of new ≡ geometry_of l.superblock
 
 -- So the next epoch begins, and so a disk is marked in use: without the superblock it has the ledger that begins,
 abbrev pub BeginsQuietly : ℕ → Type 0
@@ -213,7 +213,7 @@ FormsMayCommit = (g : Geometry) (s : Stand) (inode number size keep : ℕ) (exte
 
 -- What a disk has committed is sound, and its directories are in the blocks where dentries are spelled.
 abbrev pub LedgersAreSound : Type 0
-LedgersAreSound = (sectors : ℕ) (state : State) (l : Ledger) → l.maybe ≡ None → IsLedgerOf sectors state l → IsSoundCatalog (geometry_of l.head) l.now.catalog × CoversDirs (geometry_of l.head) l.now
+LedgersAreSound = (sectors : ℕ) (state : State) (l : Ledger) → l.maybe ≡ None → IsLedgerOf sectors state l → IsSoundCatalog (geometry_of l.superblock) l.now.catalog × CoversDirs (geometry_of l.superblock) l.now
 
 -- ---- a file is committed
 
@@ -261,36 +261,36 @@ FreeBlocksKeep g = (blocks : ℕ → Cell) (s : Stand) (block : ℕ) (start : Po
 -- is as a clean one is to be where it is marked so, has a ledger.
 abbrev pub HasOpeningLedger : Geometry → Type 0
 HasOpeningLedger g = (sectors : ℕ) (state : State) (v : Volume) → v.geometry ≡ g → Leaves (IsImageOf sectors) state → IsSettled state → volume sectors (seen state) ≡ Ok v → bad_tree v.geometry v.image ≡ None
-    → HasEarlier g v.head.epoch (seen state) → (IsTrue v.head.clean → IsProperClean v (seen state)) → IsLedgerOf sectors state (opening_ledger v.head (seen state))
+    → HasEarlier g v.superblock.epoch (seen state) → (IsTrue v.superblock.clean → IsProperClean v (seen state)) → IsLedgerOf sectors state (opening_ledger v.superblock (seen state))
 
 -- ---- runs of calls
 
 -- Where the ledger is kept by a history, each moment of a run that leaves only what the ledger has is explained by it.
 abbrev pub RunsExplain : Geometry → Type 0
-RunsExplain g = (keeps : Bool) (sectors : ℕ) (old new : Moments) (l : Ledger) (start : PosixTree) (history : List Entry) (now maybe : Counts) → geometry_of l.head ≡ g → LeavesOnly keeps (IsLeftBy sectors l) old new
+RunsExplain g = (keeps : Bool) (sectors : ℕ) (old new : Moments) (l : Ledger) (start : PosixTree) (history : List Entry) (now maybe : Counts) → geometry_of l.superblock ≡ g → LeavesOnly keeps (IsLeftBy sectors l) old new
     → IsLedgerKept l start history now maybe → LeavesOnly keeps (OpensExplained sectors start history) old new
 
 -- While entries are drawn: where the ledger stores the first entries, by numbers that cover what is acknowledged by more of
 -- them, each moment is explained by each number of entries between.
 abbrev pub RunsExplainMeanwhile : Geometry → Type 0
-RunsExplainMeanwhile g = (keeps : Bool) (sectors : ℕ) (old new : Moments) (l : Ledger) (start : PosixTree) (history : List Entry) (from to : ℕ) (now maybe : Counts) → geometry_of l.head ≡ g → LeavesOnly keeps (IsLeftBy sectors l) old new
+RunsExplainMeanwhile g = (keeps : Bool) (sectors : ℕ) (old new : Moments) (l : Ledger) (start : PosixTree) (history : List Entry) (from to : ℕ) (now maybe : Counts) → geometry_of l.superblock ≡ g → LeavesOnly keeps (IsLeftBy sectors l) old new
     → IsLedgerStored l start (take from history) now maybe → IsCovering start (take to history) now.names now.files → IsCovering start (take to history) maybe.names maybe.files → LeavesOnly keeps (OpensExplainedFrom sectors start history from to) old new
 
 -- The same where it leaves what one of two ledgers has, as a commit and a checkpoint do.
 abbrev pub EitherExplains : Geometry → Type 0
-EitherExplains g = (keeps : Bool) (sectors : ℕ) (old new : Moments) (l m : Ledger) (start : PosixTree) (history : List Entry) (a b c d : Counts) → geometry_of l.head ≡ g → geometry_of m.head ≡ g
+EitherExplains g = (keeps : Bool) (sectors : ℕ) (old new : Moments) (l m : Ledger) (start : PosixTree) (history : List Entry) (a b c d : Counts) → geometry_of l.superblock ≡ g → geometry_of m.superblock ≡ g
     → LeavesOnly keeps (λ image. IsLeftBy sectors l image ⊎ IsLeftBy sectors m image) old new → IsLedgerKept l start history a b → IsLedgerKept m start history c d → LeavesOnly keeps (OpensExplained sectors start history) old new
 
 -- ---- how a whole ledger is kept
 
 -- by a write,
 abbrev pub WrittenIsKept : Geometry → Type 0
-WrittenIsKept g = (l : Ledger) (block : ℕ) (bytes : List ℕ) (start : PosixTree) (history : List Entry) (now maybe : Counts) → geometry_of l.head ≡ g → l.maybe ≡ None
+WrittenIsKept g = (l : Ledger) (block : ℕ) (bytes : List ℕ) (start : PosixTree) (history : List Entry) (now maybe : Counts) → geometry_of l.superblock ≡ g → l.maybe ≡ None
     → HasBytesNow l.now now.numbers start history block bytes → IsLedgerKept l start history now maybe → IsLedgerKept (written block bytes l) start history now maybe
 
 -- by a barrier,
 abbrev pub SettledIsKept : Geometry → Type 0
-SettledIsKept g = (l : Ledger) (start : PosixTree) (history : List Entry) (now maybe : Counts) → geometry_of l.head ≡ g → l.maybe ≡ None
+SettledIsKept g = (l : Ledger) (start : PosixTree) (history : List Entry) (now maybe : Counts) → geometry_of l.superblock ≡ g → l.maybe ≡ None
     → IsLedgerKept l start history now maybe → IsLedgerKept (settled l) start history now maybe
 
 -- The disk stands elsewhere behind this transaction, as the counts afterwards have it.
@@ -299,20 +299,20 @@ GoesOnBy g l t start history now next = StandsOn g (settled l).blocks l.now (wit
 
 -- by a commit, while it is under way and for good where it failed,
 abbrev pub CommittingIsKept : Geometry → Type 0
-CommittingIsKept g = (l : Ledger) (t : Committed) (start : PosixTree) (history : List Entry) (now next : Counts) → geometry_of l.head ≡ g → l.maybe ≡ None → IsTree start → IsLegal start history
+CommittingIsKept g = (l : Ledger) (t : Committed) (start : PosixTree) (history : List Entry) (now next : Counts) → geometry_of l.superblock ≡ g → l.maybe ≡ None → IsTree start → IsLegal start history
     → IsLedgerKept l start history now now → GoesOnBy g l t start history now next → IsLedgerKept (committing t (settled l)) start history now next
 
 -- and where it passed
 abbrev pub CommittedIsKept : Geometry → Type 0
-CommittedIsKept g = (l : Ledger) (t : Committed) (start : PosixTree) (history : List Entry) (now next : Counts) → geometry_of l.head ≡ g → l.maybe ≡ None → IsTree start → IsLegal start history
+CommittedIsKept g = (l : Ledger) (t : Committed) (start : PosixTree) (history : List Entry) (now next : Counts) → geometry_of l.superblock ≡ g → l.maybe ≡ None → IsTree start → IsLegal start history
     → IsLedgerKept l start history now now → GoesOnBy g l t start history now next → IsLedgerKept (committed_one t l) start history next next
 
 -- by a checkpoint, while the next epoch begins and for good where it failed,
 abbrev pub BeginningIsKept : Geometry → Type 0
-BeginningIsKept g = (l : Ledger) (head : Super) (home : ℕ → List ℕ) (start : PosixTree) (history : List Entry) (now maybe : Counts) → geometry_of l.head ≡ g → geometry_of head ≡ g
-    → IsLedgerKept l start history now maybe → IsLedgerKept (beginning head home l) start history now now
+BeginningIsKept g = (l : Ledger) (superblock : Super) (home : ℕ → List ℕ) (start : PosixTree) (history : List Entry) (now maybe : Counts) → geometry_of l.superblock ≡ g → geometry_of superblock ≡ g
+    → IsLedgerKept l start history now maybe → IsLedgerKept (beginning superblock home l) start history now now
 
 -- and where it passed
 abbrev pub EmptiedIsKept : Geometry → Type 0
-EmptiedIsKept g = (l : Ledger) (head : Super) (home : ℕ → List ℕ) (start : PosixTree) (history : List Entry) (now maybe : Counts) → geometry_of l.head ≡ g → geometry_of head ≡ g
-    → IsLedgerKept l start history now maybe → IsLedgerKept (emptied head home l) start history now now
+EmptiedIsKept g = (l : Ledger) (superblock : Super) (home : ℕ → List ℕ) (start : PosixTree) (history : List Entry) (now maybe : Counts) → geometry_of l.superblock ≡ g → geometry_of superblock ≡ g
+    → IsLedgerKept l start history now maybe → IsLedgerKept (emptied superblock home l) start history now now

@@ -67,28 +67,28 @@ with_one g t s = record { catalog = with_committed_in g t s.catalog; dirs = s.di
 -- The image is taken with this superblock, its journal has just these transactions and nothing of a later epoch, and its folded
 -- sectors spell this catalog, which is sound. In the blocks where nothing is folded stand contents that the cells have. Where
 -- the superblock is marked clean, the image is as a clean one is to be.
-pub record IsLeft (sectors : ℕ) (head : Super) (blocks : ℕ → Cell) (s : Stand) (image : Image) : Type 0 where
+pub record IsLeft (sectors : ℕ) (superblock : Super) (blocks : ℕ → Cell) (s : Stand) (image : Image) : Type 0 where
   pub as_volume : Volume
   pub taken : volume sectors image ≡ Ok as_volume
-  pub headed : as_volume.head ≡ head
-  pub logged : committed (geometry_of head) head.epoch image ≡ s.log
-  pub latest : HasNoLater (geometry_of head) head.epoch image
-  pub spells : Spells (geometry_of head) true s.dirs as_volume.image s.catalog
-  pub covers : CoversDirs (geometry_of head) s
-  pub sound : IsSoundCatalog (geometry_of head) s.catalog
-  pub contents : (block : ℕ) → IsDataBlock (geometry_of head) block → is_held s.log block ≡ false → IsMixOf (possible (blocks block)) (block_at image block)
-  pub if_clean : IsTrue head.clean → IsProperClean as_volume image
+  pub superblock_is : as_volume.superblock ≡ superblock
+  pub logged : committed (geometry_of superblock) superblock.epoch image ≡ s.log
+  pub latest : HasNoLater (geometry_of superblock) superblock.epoch image
+  pub spells : Spells (geometry_of superblock) true s.dirs as_volume.image s.catalog
+  pub covers : CoversDirs (geometry_of superblock) s
+  pub sound : IsSoundCatalog (geometry_of superblock) s.catalog
+  pub contents : (block : ℕ) → IsDataBlock (geometry_of superblock) block → is_held s.log block ≡ false → IsMixOf (possible (blocks block)) (block_at image block)
+  pub if_clean : IsTrue superblock.clean → IsProperClean as_volume image
 
 -- ---- the ledger
 
 -- a superblock, and what stands behind it
 pub record Standing : Type 0 where
-  pub head : Super
+  pub superblock : Super
   pub stand : Stand
 
 pub record Ledger : Type 0 where
   -- the superblock on the disk
-  pub head : Super
+  pub superblock : Super
   -- what is committed
   pub now : Stand
   -- behind a commit or a checkpoint that failed: what a crash may leave too
@@ -99,10 +99,10 @@ pub record Ledger : Type 0 where
 -- what a crash may leave
 abbrev pub IsLeftBy : ℕ → Ledger → Image → Type 0
 IsLeftBy sectors l image =
-    IsLeft sectors l.head l.blocks l.now image
-    ⊎ ((other : Standing) × (l.maybe ≡ Some other) × IsLeft sectors other.head l.blocks other.stand image)
+    IsLeft sectors l.superblock l.blocks l.now image
+    ⊎ ((other : Standing) × (l.maybe ≡ Some other) × IsLeft sectors other.superblock l.blocks other.stand image)
 
 -- A disk in this state has this ledger.
 pub record IsLedgerOf (sectors : ℕ) (state : State) (l : Ledger) : Type 0 where
   pub images : Leaves (IsLeftBy sectors l) state
-  pub reads : (block : ℕ) → IsDataBlock (geometry_of l.head) block → is_held l.now.log block ≡ false → block_at (seen state) block ≡ (l.blocks block).seen
+  pub reads : (block : ℕ) → IsDataBlock (geometry_of l.superblock) block → is_held l.now.log block ≡ false → block_at (seen state) block ≡ (l.blocks block).seen

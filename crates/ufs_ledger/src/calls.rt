@@ -33,12 +33,12 @@ use ufs_overlay::Overlay;
 pub fn write_data<D: Disk>(disk: &mut D, block: u32, bytes: &[u8]) -> Result<(), Fault>
     requires inside { SECTORS_PER_BLOCK * block + SECTORS_PER_BLOCK ≤ D.size disk.old }
     requires sized { length bytes.now ≡ BLOCK }
-    ensures crash { IsTrue D.tells → (l : Ledger) → IsLedgerOf (D.size disk.old) (D.moments disk.old).state l → l.maybe ≡ None → l.head.clean ≡ false → MayWrite l block bytes.now
+    ensures crash { IsTrue D.tells → (l : Ledger) → IsLedgerOf (D.size disk.old) (D.moments disk.old).state l → l.maybe ≡ None → l.superblock.clean ≡ false → MayWrite l block bytes.now
         → LeavesOnly D.keeps (IsLeftBy (D.size disk.old) (written block bytes.now l)) (D.moments disk.old) (D.moments disk.new) }
     ensures images { IsTrue D.tells → LeavesOnly D.keeps (IsPartlyWritten (SECTORS_PER_BLOCK * block) bytes.now (D.moments disk.old).state) (D.moments disk.old) (D.moments disk.new) }
-    ensures ok { IsTrue D.tells → OnOk result ((l : Ledger) → IsLedgerOf (D.size disk.old) (D.moments disk.old).state l → l.maybe ≡ None → l.head.clean ≡ false → MayWrite l block bytes.now
+    ensures ok { IsTrue D.tells → OnOk result ((l : Ledger) → IsLedgerOf (D.size disk.old) (D.moments disk.old).state l → l.maybe ≡ None → l.superblock.clean ≡ false → MayWrite l block bytes.now
         → IsLedgerOf (D.size disk.new) (D.moments disk.new).state (written block bytes.now l)) }
-    ensures err { IsTrue D.tells → OnErr result ((l : Ledger) → IsLedgerOf (D.size disk.old) (D.moments disk.old).state l → l.maybe ≡ None → l.head.clean ≡ false → MayWrite l block bytes.now
+    ensures err { IsTrue D.tells → OnErr result ((l : Ledger) → IsLedgerOf (D.size disk.old) (D.moments disk.old).state l → l.maybe ≡ None → l.superblock.clean ≡ false → MayWrite l block bytes.now
         → IsLedgerOf (D.size disk.new) (D.moments disk.new).state (tried block bytes.now (block_at (reads (D.moments disk.new)) block) l)) }
     ensures ready { IsTrue D.tells → (g : Geometry) (epoch used number : ℕ) → first_of_data g ≤ block → IsReady g epoch used number (D.moments disk.old).state → IsReady g epoch used number (D.moments disk.new).state }
     ensures unused { IsTrue D.tells → (g : Geometry) (epoch txn : ℕ) → first_of_data g ≤ block → IsUnused g epoch txn (D.moments disk.old).state → IsUnused g epoch txn (D.moments disk.new).state }
@@ -53,7 +53,7 @@ pub fn write_data<D: Disk>(disk: &mut D, block: u32, bytes: &[u8]) -> Result<(),
 pub fn read_data<D: Disk>(disk: &mut D, block: u32, buf: &mut [u8]) -> Result<(), Fault>
     requires inside { SECTORS_PER_BLOCK * block + SECTORS_PER_BLOCK ≤ D.size disk.old }
     requires sized { length buf.old ≡ BLOCK }
-    ensures bytes { IsTrue D.tells → OnOk result ((l : Ledger) → IsLedgerOf (D.size disk.old) (D.moments disk.old).state l → IsDataBlock (geometry_of l.head) block → is_held l.now.log block ≡ false
+    ensures bytes { IsTrue D.tells → OnOk result ((l : Ledger) → IsLedgerOf (D.size disk.old) (D.moments disk.old).state l → IsDataBlock (geometry_of l.superblock) block → is_held l.now.log block ≡ false
         → buf.new ≡ (l.blocks block).seen) }
     ensures crash { IsTrue D.tells → (l : Ledger) → IsLedgerOf (D.size disk.old) (D.moments disk.old).state l → LeavesOnly D.keeps (IsLeftBy (D.size disk.old) l) (D.moments disk.old) (D.moments disk.new) }
     ensures images { IsTrue D.tells → LeavesOnly D.keeps (IsImage (D.moments disk.old).state) (D.moments disk.old) (D.moments disk.new) }
@@ -132,12 +132,12 @@ pub fn commit_records<D: Disk>(
     journal.commit(disk, txn)
 }
 
-fn super_sector(head: &Super) -> [u8; SECTOR]
-    requires { IsTrue (is_super 1 head.now) }
-    ensures { super_of 1 result ≡ Some head.now }
+fn super_sector(superblock: &Super) -> [u8; SECTOR]
+    requires { IsTrue (is_super 1 superblock.now) }
+    ensures { super_of 1 result ≡ Some superblock.now }
 {
     let mut sector = [0; SECTOR];
-    put_super(&mut sector, head);
+    put_super(&mut sector, superblock);
     sector
 }
 
@@ -148,35 +148,35 @@ pub fn checkpoint<D: Disk>(
     overlay: &Overlay,
     journal: &mut Journal,
     disk: &mut D,
-    head: &Super,
+    superblock: &Super,
 ) -> Result<(), Fault>
     requires large { sector_count journal.old.geometry ≤ D.size disk.old }
     requires none { journal.old.opened ≡ [] }
-    requires form { IsTrue (is_super 1 head.now) }
-    requires same { geometry_of head.now ≡ journal.old.geometry }
+    requires form { IsTrue (is_super 1 superblock.now) }
+    requires same { geometry_of superblock.now ≡ journal.old.geometry }
     requires over { overlaid.geometry_of overlay.now ≡ journal.old.geometry }
-    requires later { journal.old.epoch < head.now.epoch }
-    requires next { head.now.next ≤ journal.old.number }
-    requires in_use { head.now.clean ≡ false }
+    requires later { journal.old.epoch < superblock.now.epoch }
+    requires next { superblock.now.next ≤ journal.old.number }
+    requires in_use { superblock.now.clean ≡ false }
     ensures geometry { journal.new.geometry ≡ journal.old.geometry }
     ensures number { journal.new.number ≡ journal.old.number }
     ensures opened { journal.new.opened ≡ [] }
-    ensures epoch { OnOk result (journal.new.epoch ≡ head.now.epoch) }
+    ensures epoch { OnOk result (journal.new.epoch ≡ superblock.now.epoch) }
     ensures used { OnOk result (journal.new.used ≡ 0) }
     ensures epoch_stays { OnErr result (journal.new.epoch ≡ journal.old.epoch) }
     ensures used_stays { OnErr result (journal.new.used ≡ journal.old.used) }
 
     // A crash leaves what it might have left, or the same behind the next superblock.
     ensures crash { IsTrue D.tells → (l : Ledger) → IsLedgerBy journal.old (D.size disk.old) (D.moments disk.old).state l → overlaid.HasAdded overlay.now l.now.log
-        → LeavesOnly D.keeps (λ image. IsLeftBy (D.size disk.old) l image ⊎ IsLeftBy (D.size disk.old) (beginning head.now (block_at (home_of l (reads (D.moments disk.old)))) l) image) (D.moments disk.old) (D.moments disk.new) }
+        → LeavesOnly D.keeps (λ image. IsLeftBy (D.size disk.old) l image ⊎ IsLeftBy (D.size disk.old) (beginning superblock.now (block_at (home_of l (reads (D.moments disk.old)))) l) image) (D.moments disk.old) (D.moments disk.new) }
 
     // It has in the blocks of files what it might have had.
     ensures data { IsTrue D.tells → (l : Ledger) → IsLedgerBy journal.old (D.size disk.old) (D.moments disk.old).state l → overlaid.HasAdded overlay.now l.now.log
         → LeavesOnly D.keeps (KeepsData journal.old.geometry l.now.log (D.moments disk.old).state) (D.moments disk.old) (D.moments disk.new) }
     ensures err { IsTrue D.tells → OnErr result ((l : Ledger) → IsLedgerBy journal.old (D.size disk.old) (D.moments disk.old).state l → overlaid.HasAdded overlay.now l.now.log
-        → IsLedgerOf (D.size disk.new) (D.moments disk.new).state l ⊎ IsLedgerOf (D.size disk.new) (D.moments disk.new).state (beginning head.now (block_at (home_of l (reads (D.moments disk.old)))) l)) }
+        → IsLedgerOf (D.size disk.new) (D.moments disk.new).state l ⊎ IsLedgerOf (D.size disk.new) (D.moments disk.new).state (beginning superblock.now (block_at (home_of l (reads (D.moments disk.old)))) l)) }
     ensures ok { IsTrue D.tells → OnOk result ((l : Ledger) → IsLedgerBy journal.old (D.size disk.old) (D.moments disk.old).state l → overlaid.HasAdded overlay.now l.now.log
-        → IsLedgerBy journal.new (D.size disk.new) (D.moments disk.new).state (emptied head.now (block_at (home_of l (reads (D.moments disk.old)))) l)) }
+        → IsLedgerBy journal.new (D.size disk.new) (D.moments disk.new).state (emptied superblock.now (block_at (home_of l (reads (D.moments disk.old)))) l)) }
     ensures settled { IsTrue D.tells → OnOk result (IsSettled (D.moments disk.new).state) }
     ensures bitmap { IsTrue D.tells → (log : List Committed) → overlaid.HasAdded overlay.now log → OnOk result ((sector : ℕ) → SECTORS_PER_BLOCK ≤ sector → sector < SECTORS_PER_BLOCK * first_of_inodes journal.old.geometry
         → reads (D.moments disk.new) sector ≡ reads (D.moments disk.old) sector) }
@@ -184,12 +184,12 @@ pub fn checkpoint<D: Disk>(
     ensures cause { HasCause (D.faults disk.old) (D.faults disk.new) result }
     ensures fault { IfErr result (λ fault. fault.number ≡ D.faults disk.new) }
 {
-    let sector = super_sector(head);
+    let sector = super_sector(superblock);
     disk.barrier()?;
     overlay.write_home(disk)?;
     disk.barrier()?;
     disk.write(0, &sector)?;
     disk.barrier()?;
-    journal.restart(head.epoch);
+    journal.restart(superblock.epoch);
     Ok(())
 }

@@ -51,18 +51,18 @@ fn free_of(alloc: Global, geometry: &Geometry, findings: &Findings) -> Result<Bi
 
 // What was read is that of a sound catalog.
 fn with_free(alloc: Global, opened: Opened) -> Result<Loaded, Memory>
-    requires counted { length opened.findings.forms ≡ opened.volume.head.geometry.inodes }
+    requires counted { length opened.findings.forms ≡ opened.volume.superblock.geometry.inodes }
     ensures volume { IfOk result (λ l. l.volume ≡ opened.volume) }
     ensures findings { IfOk result (λ l. l.findings ≡ opened.findings) }
-    ensures first { IfOk result (λ l. l.free.first ≡ first_of_data opened.volume.head.geometry) }
-    ensures blocks { IfOk result (λ l. l.free.blocks ≡ opened.volume.head.geometry.blocks) }
-    ensures free { IfOk result (λ l. (image : Image) → AreFindingsOf opened.volume.head.geometry image opened.findings → (b : ℕ) → set.contains l.free.free b ≡ is_free_block opened.volume.head.geometry image b) }
-    ensures catalog { (image : Image) → bad_tree opened.volume.head.geometry image ≡ None → IsCatalogOf opened.volume.head.geometry image (catalog_at opened.volume.head.geometry image) }
-    ensures sound { (image : Image) → bad_tree opened.volume.head.geometry image ≡ None → IsSoundCatalog opened.volume.head.geometry (catalog_at opened.volume.head.geometry image) }
+    ensures first { IfOk result (λ l. l.free.first ≡ first_of_data opened.volume.superblock.geometry) }
+    ensures blocks { IfOk result (λ l. l.free.blocks ≡ opened.volume.superblock.geometry.blocks) }
+    ensures free { IfOk result (λ l. (image : Image) → AreFindingsOf opened.volume.superblock.geometry image opened.findings → (b : ℕ) → set.contains l.free.free b ≡ is_free_block opened.volume.superblock.geometry image b) }
+    ensures catalog { (image : Image) → bad_tree opened.volume.superblock.geometry image ≡ None → IsCatalogOf opened.volume.superblock.geometry image (catalog_at opened.volume.superblock.geometry image) }
+    ensures sound { (image : Image) → bad_tree opened.volume.superblock.geometry image ≡ None → IsSoundCatalog opened.volume.superblock.geometry (catalog_at opened.volume.superblock.geometry image) }
 {
     let Opened { volume, findings } = opened;
-    damage_law(&volume.head.geometry);
-    let free = free_of(alloc, &volume.head.geometry, &findings)?;
+    damage_law(&volume.superblock.geometry);
+    let free = free_of(alloc, &volume.superblock.geometry, &findings)?;
     Ok(Loaded {
         volume,
         findings,
@@ -77,14 +77,14 @@ pub fn load<D: Disk>(alloc: Global, disk: &mut D) -> Result<Loaded, RecoverFault
     ensures taken { IsTrue D.tells → IfOk result (λ l. volume (D.size disk.old) (reads (D.moments disk.old)) ≡ Ok (volume_in l.volume (reads (D.moments disk.old)))) }
     ensures added { IsTrue D.tells → IfOk result (λ l. HasAdded l.volume.overlay (committed_in l.volume (reads (D.moments disk.old)))) }
     ensures count { IsTrue D.tells → IfOk result (λ l. l.volume.committed ≡ length (committed_in l.volume (reads (D.moments disk.old)))) }
-    ensures found { IsTrue D.tells → IfOk result (λ l. AreFindingsOf l.volume.head.geometry (folded_image l.volume (reads (D.moments disk.old))) l.findings) }
-    ensures forms { IsTrue D.tells → IfOk result (λ l. l.findings.forms ≡ map (λ inode. Some (form_at l.volume.head.geometry (folded_image l.volume (reads (D.moments disk.old))) inode)) (all_inodes l.volume.head.geometry)) }
-    ensures catalog { IsTrue D.tells → IfOk result (λ l. IsCatalogOf l.volume.head.geometry (folded_image l.volume (reads (D.moments disk.old))) (catalog_at l.volume.head.geometry (folded_image l.volume (reads (D.moments disk.old))))) }
-    ensures sound { IsTrue D.tells → IfOk result (λ l. IsSoundCatalog l.volume.head.geometry (catalog_at l.volume.head.geometry (folded_image l.volume (reads (D.moments disk.old))))) }
-    ensures first { IfOk result (λ l. l.free.first ≡ first_of_data l.volume.head.geometry) }
-    ensures blocks { IfOk result (λ l. l.free.blocks ≡ l.volume.head.geometry.blocks) }
-    ensures free { IsTrue D.tells → IfOk result (λ l. (b : ℕ) → set.contains l.free.free b ≡ is_free_block l.volume.head.geometry (folded_image l.volume (reads (D.moments disk.old))) b) }
-    ensures large { IfOk result (λ l. sector_count l.volume.head.geometry ≤ D.size disk.old) }
+    ensures found { IsTrue D.tells → IfOk result (λ l. AreFindingsOf l.volume.superblock.geometry (folded_image l.volume (reads (D.moments disk.old))) l.findings) }
+    ensures forms { IsTrue D.tells → IfOk result (λ l. l.findings.forms ≡ map (λ inode. Some (form_at l.volume.superblock.geometry (folded_image l.volume (reads (D.moments disk.old))) inode)) (all_inodes l.volume.superblock.geometry)) }
+    ensures catalog { IsTrue D.tells → IfOk result (λ l. IsCatalogOf l.volume.superblock.geometry (folded_image l.volume (reads (D.moments disk.old))) (catalog_at l.volume.superblock.geometry (folded_image l.volume (reads (D.moments disk.old))))) }
+    ensures sound { IsTrue D.tells → IfOk result (λ l. IsSoundCatalog l.volume.superblock.geometry (catalog_at l.volume.superblock.geometry (folded_image l.volume (reads (D.moments disk.old))))) }
+    ensures first { IfOk result (λ l. l.free.first ≡ first_of_data l.volume.superblock.geometry) }
+    ensures blocks { IfOk result (λ l. l.free.blocks ≡ l.volume.superblock.geometry.blocks) }
+    ensures free { IsTrue D.tells → IfOk result (λ l. (b : ℕ) → set.contains l.free.free b ≡ is_free_block l.volume.superblock.geometry (folded_image l.volume (reads (D.moments disk.old))) b) }
+    ensures large { IfOk result (λ l. sector_count l.volume.superblock.geometry ≤ D.size disk.old) }
     ensures refused { IsTrue D.tells → IfErr result (TellsWhy (D.size disk.old) (reads (D.moments disk.old))) }
     ensures read_only { IsTrue D.tells → IsReadOnly D.keeps (D.moments disk.old) (D.moments disk.new) }
     ensures size { D.size disk.new ≡ D.size disk.old }

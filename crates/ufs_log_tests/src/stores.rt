@@ -12,7 +12,7 @@ use ufs_layout::{Committed, Super, get_inode, get_super};
 use ufs_ledger::{checkpoint, commit_records, read_data, settle, write_data};
 use ufs_overlay::Overlay;
 
-const HEAD: Super = Super {
+const SUPERBLOCK: Super = Super {
     version: 1,
     blocks: 256,
     inodes: 32,
@@ -103,7 +103,7 @@ fn begin_next(disk: &mut PlainDisk, journal: &mut Journal, overlay: &Overlay) ->
 fn a_commit_is_written_home(rt: HostRuntime) -> Result<(), Fail> {
     let alloc = rt.alloc();
     let mut disk = PlainDisk::zeros(alloc, 2_048)?;
-    let mut journal = Journal::make(alloc, &small(), &HEAD)?;
+    let mut journal = Journal::make(alloc, &small(), &SUPERBLOCK)?;
     let overlay = overlay_of_birth(alloc)?;
     assert!(rt; commit_birth(alloc, &mut disk, &mut journal)? == Some(1));
     assert!(rt; begin_next(&mut disk, &mut journal, &overlay));

@@ -48,13 +48,13 @@ range_sized image a (suc n) sized =
 
 module _ (sectors : ℕ) (disk : Image) (s : Start) (is : IsBegun sectors disk s) where
   abbrev g : Geometry
-  g = s.head.geometry
+  g = s.superblock.geometry
 
   abbrev c : Catalog
-  c = catalog_under s.head disk
+  c = catalog_under s.superblock disk
 
   abbrev image : Image
-  image = image_under s.head disk
+  image = image_under s.superblock disk
 
   untaken : (block : ℕ) → set.contains s.free.free block ≡ true → IsDataBlock g block × (IsTakenBlock g c block → ⊥)
   untaken block there =
@@ -75,7 +75,7 @@ module _ (sectors : ℕ) (disk : Image) (s : Start) (is : IsBegun sectors disk s
       let l = is.laid file f at in
       let content = is.loaded file f at in
       let walk = is.table.numbers.only f.inode file r.inode in
-      let some = has_root g (has_geometry sectors disk (volume_under s.head disk) is.standing.taken).0 in
+      let some = has_root g (has_geometry sectors disk (volume_under s.superblock disk) is.standing.taken).0 in
       let inside = (reached g c is.standing.sound 1 walk.names f.inode (root_in_range g c is.standing.sound some) walk.met).0 in
       record {
         extents = extents_back (c.forms f.inode).extents ∙ ap extents_of (sym l.extents);
@@ -87,7 +87,7 @@ module _ (sectors : ℕ) (disk : Image) (s : Start) (is : IsBegun sectors disk s
             ∙ ap (λ (x : Content). block_bytes x.bytes place) (sym content);
       }
 
-  opened : IsOpened sectors disk (volume_under s.head disk) s.names s.files s.free.free
+  opened : IsOpened sectors disk (volume_under s.superblock disk) s.names s.files s.free.free
   opened = record {
     standing = is.standing;
     table = is.table;

@@ -7,8 +7,8 @@ use Rattle.ufs_start.specs.declared.parts.Start.{Start}
 
 -- Its names, files and free blocks are those of the image under its superblock.
 abbrev pub StartsAreOpened : Type 0
-StartsAreOpened = (sectors : ℕ) (disk : Image) (s : Start) → IsBegun sectors disk s → IsOpened sectors disk (volume_under s.head disk) s.names s.files s.free.free
+StartsAreOpened = (sectors : ℕ) (disk : Image) (s : Start) → IsBegun sectors disk s → IsOpened sectors disk (volume_under s.superblock disk) s.names s.files s.free.free
 
 -- Each file of the image is one that its names tell.
 abbrev pub StartsAreNamed : Type 0
-StartsAreNamed = (sectors : ℕ) (disk : Image) (s : Start) → IsBegun sectors disk s → AllAreNamed (volume_under s.head disk) s.names
+StartsAreNamed = (sectors : ℕ) (disk : Image) (s : Start) → IsBegun sectors disk s → AllAreNamed (volume_under s.superblock disk) s.names

@@ -44,7 +44,7 @@ module _ (g : Geometry) (keeps : EntriesKeep g) (others : OthersAcknowledgeNothi
   abbrev u : PosixTree
   u = tree_after start (history ++ entry ∷ [])
 
-  module _ (l : Ledger) (k : Counts) (same : geometry_of l.head ≡ g) (st : IsStored l unassigned start history k p) where
+  module _ (l : Ledger) (k : Counts) (same : geometry_of l.superblock ≡ g) (st : IsStored l unassigned start history k p) where
     -- no file that is still to be born has an inode on the disk
     unborn : (f : ℕ) → t.next ≤ f → k.numbers.inode f ≡ None
     unborn f past = (st.kept.here.stored.fresh f past).1
@@ -81,7 +81,7 @@ module _ (g : Geometry) (keeps : EntriesKeep g) (others : OthersAcknowledgeNothi
         (spaced_now t u p next lent left unassigned r l k.numbers st.spaced (λ f s at. (st.each f s at).once)) st
 
   -- the promise of a ledger of which it isn't known whether the last commit stands
-  kept_now : (l : Ledger) (now maybe : Counts) → geometry_of l.head ≡ g → IsTree start → IsLedgerKept l start history now maybe → IsLedgerKept l start (history ++ entry ∷ []) now maybe
+  kept_now : (l : Ledger) (now maybe : Counts) → geometry_of l.superblock ≡ g → IsTree start → IsLedgerKept l start history now maybe → IsLedgerKept l start (history ++ entry ∷ []) now maybe
   kept_now l now maybe same is kept =
       let keep = subst EntriesKeep (sym same) keeps in
       record {

@@ -38,7 +38,7 @@ module _ (t u : PosixTree) (p next : Parts) (lent left unassigned : BlockSet) (r
       by (inl was) = spaced.fresh b was
       by (inr is_lent) = inl (spaced.usable ThePool b (λ e. cc) (r.pooled b is_lent))
 
-  off_disk : (inode place b : ℕ) → has next.fresh b ≡ true → HasBlock (geometry_of l.head) l.now.catalog inode place b → ⊥
+  off_disk : (inode place b : ℕ) → has next.fresh b ≡ true → HasBlock (geometry_of l.superblock) l.now.catalog inode place b → ⊥
   off_disk inode place b is at = by (fresh_case b is)
     where
       off_pool : set.contains lent b ≡ true → NamesOwn p b ⊎ FileHasIt p numbers inode b → ⊥
@@ -49,7 +49,7 @@ module _ (t u : PosixTree) (p next : Parts) (lent left unassigned : BlockSet) (r
       by (inl was) = spaced.unheld inode place b was at
       by (inr is_lent) = off_pool is_lent (spaced.held inode place b at)
 
-  held_now : (inode place b : ℕ) → HasBlock (geometry_of l.head) l.now.catalog inode place b → NamesOwn next b ⊎ FileHasIt next numbers inode b
+  held_now : (inode place b : ℕ) → HasBlock (geometry_of l.superblock) l.now.catalog inode place b → NamesOwn next b ⊎ FileHasIt next numbers inode b
   held_now inode place b at = by (spaced.held inode place b at)
     where
       of_file : (f : ℕ) → numbers.inode f ≡ Some inode → NamesOwn next b ⊎ FileOwns next f b → NamesOwn next b ⊎ FileHasIt next numbers inode b

@@ -25,10 +25,10 @@ use Rattle.ufs_durable.specs.Committing.{FilesMayCommitNext, FitsInode, HasToCom
 use Rattle.ufs_durable.specs.Standing.{DirtyMayBeWritten, StandsFor}
 use Rattle.ufs_durable.specs.State.{DurableState}
 use Rattle.ufs_durable.specs.Writes.{BlockWrite, HasTriedOne, MayWriteAll, at_moments, with_writes, writes_of}
-use Rattle.ufs_durable.proofs.Behind.{same_head, writes_append}
+use Rattle.ufs_durable.proofs.Behind.{same_superblock, writes_append}
 use Rattle.ufs_durable.proofs.Standing.{IsReady, writes_ready}
 use Rattle.ufs_store.specs.Ledgers.{HasAny, beginning_next, checkpointed, commit_stages, stages}
-use Rattle.ufs_store.specs.State.{StoreState, geometry_of_store, has_room, next_commit, next_head}
+use Rattle.ufs_store.specs.State.{StoreState, geometry_of_store, has_room, next_commit, next_superblock}
 use Rattle.ufs_stored.specs.OnDisk.{HasNames, HasStopped, IsGoing}
 use Rattle.ufs_stored.specs.Parts.{Parts, durable_in}
 use Rattle.ufs_stored.specs.Stored.{IsFileWhole}
@@ -72,8 +72,8 @@ mix_has older seen reads place byte size mix is = by (has_byte_cases (older ++ s
 tried_kept : (l : Ledger) (w : BlockWrite) (reads : List ℕ) (start : PosixTree) (history : List Entry) (k : Counts) → length w.bytes ≡ 4096 → IsMixOf (possible ((written w.block w.bytes l).blocks w.block)) reads
     → IsLedgerKept (written w.block w.bytes l) start history k k → IsLedgerKept (tried w.block w.bytes reads l) start history k k
 tried_kept l w reads start history k size mix kept = record {
-  here = fewer_kept (geometry_of l.head) cells l.now start history k.names k.files k.numbers kept.here (rewritten w.block reads cells) less;
-  there = λ other is. let t = kept.there other is in (t.0, fewer_kept (geometry_of l.head) cells other.stand start history k.names k.files k.numbers t.1 (rewritten w.block reads cells) less);
+  here = fewer_kept (geometry_of l.superblock) cells l.now start history k.names k.files k.numbers kept.here (rewritten w.block reads cells) less;
+  there = λ other is. let t = kept.there other is in (t.0, fewer_kept (geometry_of l.superblock) cells other.stand start history k.names k.files k.numbers t.1 (rewritten w.block reads cells) less);
 }
   where
     cells : ℕ → Cell
@@ -122,10 +122,10 @@ module _ (old new : StoreState) (start : PosixTree) (history : List Entry) (p : 
   by_history : IsFileBy f start history k
   by_history = file_by_history old start history p f at live names tree_bytes
 
-  form : geometry_of l.head ≡ geometry_of_store new
+  form : geometry_of l.superblock ≡ geometry_of_store new
   form = go.formed ∙ sym told.geometry
 
-  stops : (m : Ledger) (maybe : Counts) → geometry_of m.head ≡ geometry_of l.head → IsLedgerOf new.sectors new.moments.state m → IsLedgerKept m start history k maybe → HasStopped new start history p
+  stops : (m : Ledger) (maybe : Counts) → geometry_of m.superblock ≡ geometry_of l.superblock → IsLedgerOf new.sectors new.moments.state m → IsLedgerKept m start history k maybe → HasStopped new start history p
   stops m maybe same has kept = record {
     stopped = told.stopped;
     ledger = m;
@@ -147,10 +147,10 @@ module _ (old new : StoreState) (start : PosixTree) (history : List Entry) (p : 
       let ready : IsReady l one.one = one_of (IsReady l) one.before one.behind one.one (subst (AllByRecursion (IsReady l)) one.whole (writes_ready l x whole.noted on_disk.1)) in
       let split : writes_of f ≡ (one.before ++ one.one ∷ []) ++ one.behind = one.whole ∙ sym (append_assoc one.before (one.one ∷ []) one.behind) in
       let kept = subst (λ (m : Ledger). IsLedgerKept m start history k k) (writes_append one.before (one.one ∷ []) l) (behind_writes (one.before ++ one.one ∷ []) one.behind split) in
-      stops (tried one.one.block one.one.bytes one.reads (with_writes one.before l)) k (ap geometry_of (same_head one.before l)) one.has
+      stops (tried one.one.block one.one.bytes one.reads (with_writes one.before l)) k (ap geometry_of (same_superblock one.before l)) one.has
       (tried_kept (with_writes one.before l) one.one one.reads start history k ready.1 (one.mixed ready.0.unheld) kept)
 
-  at_stage : (between : Moments) (records : List LogRecord) (b : Bool) → (w : Ledger) → geometry_of w.head ≡ geometry_of l.head → (t : Committed) → geometry_of (next_head (at_moments between old)) ≡ geometry_of l.head
+  at_stage : (between : Moments) (records : List LogRecord) (b : Bool) → (w : Ledger) → geometry_of w.superblock ≡ geometry_of l.superblock → (t : Committed) → geometry_of (next_superblock (at_moments between old)) ≡ geometry_of l.superblock
       → AllByRecursion (λ (m : Ledger). (maybe : Counts) × IsLedgerKept m start history k maybe) (if b then commit_stages t w else w ∷ beginning_next (at_moments between old) w ∷ commit_stages t (checkpointed (at_moments between old) w))
       → HasAny new (if b then commit_stages t w else w ∷ beginning_next (at_moments between old) w ∷ commit_stages t (checkpointed (at_moments between old) w)) → HasStopped new start history p
   at_stage between records true w same t next kept (inl is) = stops w kept.0.0 same is kept.0.1
@@ -173,7 +173,7 @@ module _ (old new : StoreState) (start : PosixTree) (history : List Entry) (p : 
         where
           empty : HasTriedOne new (writes_of f) l ⊎ IsLedgerOf new.sectors new.moments.state (with_writes (writes_of f) l) → HasStopped new start history p
           empty (inl one) = at_write one
-          empty (inr is) = stops (with_writes (writes_of f) l) k (ap geometry_of (same_head (writes_of f) l)) is (behind_writes (writes_of f) [] (sym (append-nil (writes_of f))))
+          empty (inr is) = stops (with_writes (writes_of f) l) k (ap geometry_of (same_superblock (writes_of f) l)) is (behind_writes (writes_of f) [] (sym (append-nil (writes_of f))))
       by (inr not) = full (told.changed (delta_of x.log.inode x.log.committed x.log.noted).0 (delta_of x.log.inode x.log.committed x.log.noted).1 not l go.has can
           (may old (delta_of x.log.inode x.log.committed x.log.noted).0 l x [] (to_commit (delta_of x.log.inode x.log.committed x.log.noted).0 (delta_of x.log.inode x.log.committed x.log.noted).1)))
         where
@@ -184,7 +184,7 @@ module _ (old new : StoreState) (start : PosixTree) (history : List Entry) (p : 
           full (inl one) = at_write one
           full (inr any) =
               let change = delta_of x.log.inode x.log.committed x.log.noted in
-              at_stage any.0 change.0 (has_room (at_moments any.0 old) change.0) (with_writes (writes_of f) l) (ap geometry_of (same_head (writes_of f) l)) (next_commit (at_moments any.0 old) change.0) (ap geometry_of (sym go.has.headed))
+              at_stage any.0 change.0 (has_room (at_moments any.0 old) change.0) (with_writes (writes_of f) l) (ap geometry_of (same_superblock (writes_of f) l)) (next_commit (at_moments any.0 old) change.0) (ap geometry_of (sym go.has.superblock_is))
               (staged old any.0 change.0 l x start history k (to_commit change.0 change.1) by_history go.stored.tree go.stored.legal go.stored.kept) any.1
 
 pub failed_syncs_go_on : WritesAreKept → StagesAreKept → FilesMayCommitNext → DirtyMayBeWritten → HasTreeBytes → FailedSyncsGoOn

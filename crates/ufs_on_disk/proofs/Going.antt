@@ -58,7 +58,7 @@ stopped_kept trees s start history entry p q legal ack parts st = record {
   formed = st.formed;
   tree = st.tree;
   legal = legal;
-  kept = ledger_kept (geometry_of st.ledger.head) (entries_keep trees (geometry_of st.ledger.head)) st.ledger start history entry st.now st.maybe refl st.tree legal (ack st.now.names st.now.files) (ack st.maybe.names st.maybe.files) st.kept;
+  kept = ledger_kept (geometry_of st.ledger.superblock) (entries_keep trees (geometry_of st.ledger.superblock)) st.ledger start history entry st.now st.maybe refl st.tree legal (ack st.now.names st.now.files) (ack st.maybe.names st.maybe.files) st.kept;
   parts = parts;
 }
 
@@ -66,7 +66,7 @@ stopped_kept trees s start history entry p q legal ack parts st = record {
 
 same_ledger : (s : StoreState) (free : BlockSet) (l : Ledger) → HasLedger s l → HasLedger (with_free free s) l
 same_ledger s free l h =
-    record { going = h.going; by = h.by; headed = h.headed; added = h.added; numbered = h.numbered; unused = h.unused; settled = h.settled; older = h.older; fits = h.fits }
+    record { going = h.going; by = h.by; superblock_is = h.superblock_is; added = h.added; numbered = h.numbered; unused = h.unused; settled = h.settled; older = h.older; fits = h.fits }
 
 pub free_blocks_go_on : FreeBlocksGoOn
 free_blocks_go_on s start history p pool rest moves on = by on

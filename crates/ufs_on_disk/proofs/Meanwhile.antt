@@ -19,9 +19,9 @@ use Rattle.ufs_durable.specs.Committing.{FilesMayCommitNext, FitsInode, HasToCom
 use Rattle.ufs_durable.specs.Standing.{DirtyMayBeWritten, StandsFor}
 use Rattle.ufs_durable.specs.State.{DurableState}
 use Rattle.ufs_durable.specs.Writes.{MayWriteAll, at_moments, with_writes, writes_of}
-use Rattle.ufs_durable.proofs.Behind.{same_head}
+use Rattle.ufs_durable.proofs.Behind.{same_superblock}
 use Rattle.ufs_store.specs.Ledgers.{beginning_next, checkpointed, commit_stages, stages}
-use Rattle.ufs_store.specs.State.{StoreState, geometry_of_store, has_room, next_commit, next_head}
+use Rattle.ufs_store.specs.State.{StoreState, geometry_of_store, has_room, next_commit, next_superblock}
 use Rattle.ufs_stored.specs.AlwaysLaws.{IsKeptLedger, LedgersAreExplained, StagesAreExplained}
 use Rattle.ufs_stored.specs.OnDisk.{HasNames, IsExplainedBetween, IsGoing}
 use Rattle.ufs_stored.specs.Parts.{Parts, durable_in}
@@ -33,10 +33,10 @@ use Rattle.ufs_on_disk.proofs.Live.{file_by_history, file_on_disk, file_to_commi
 -- ---- each stage
 
 module _ (g : Geometry) (start : PosixTree) (history : List Entry) (k : Counts) where
-  one : (m : Ledger) → geometry_of m.head ≡ g → (maybe : Counts) × IsLedgerKept m start history k maybe → IsKeptLedger g start history m
+  one : (m : Ledger) → geometry_of m.superblock ≡ g → (maybe : Counts) × IsLedgerKept m start history k maybe → IsKeptLedger g start history m
   one m formed kept = record { now = k; maybe = kept.0; formed = formed; kept = kept.1 }
 
-  each_stage : (s : StoreState) (t : Committed) (w : Ledger) (b : Bool) → geometry_of w.head ≡ g → geometry_of (next_head s) ≡ g
+  each_stage : (s : StoreState) (t : Committed) (w : Ledger) (b : Bool) → geometry_of w.superblock ≡ g → geometry_of (next_superblock s) ≡ g
       → AllByRecursion (λ (m : Ledger). (maybe : Counts) × IsLedgerKept m start history k maybe) (if b then commit_stages t w else w ∷ beginning_next s w ∷ commit_stages t (checkpointed s w))
       → AllByRecursion (IsKeptLedger g start history) (if b then commit_stages t w else w ∷ beginning_next s w ∷ commit_stages t (checkpointed s w))
   each_stage s t w true same next kept = (one w same kept.0, (one (committing t (settled w)) same kept.1.0, tt))
@@ -73,8 +73,8 @@ module _ (g : Geometry) (keeps : Bool) (old new : StoreState) (start : PosixTree
   can = dirty l x whole.noted on_disk.1
 
   -- behind the writes
-  formed : geometry_of (with_writes (writes_of f) l).head ≡ g
-  formed = ap geometry_of (same_head (writes_of f) l) ∙ go.formed ∙ form
+  formed : geometry_of (with_writes (writes_of f) l).superblock ≡ g
+  formed = ap geometry_of (same_superblock (writes_of f) l) ∙ go.formed ∙ form
 
   kept : IsLedgerKept (with_writes (writes_of f) l) start history k k
   kept = writes old l x (writes_of f) [] start history k k go.has whole.noted on_disk.1 whole.own by_history (sym (append-nil (writes_of f))) go.stored.kept
@@ -93,5 +93,5 @@ module _ (g : Geometry) (keeps : Bool) (old new : StoreState) (start : PosixTree
           let run = told.changed change.0 change.1 not l go.has can (may old change.0 l x [] (to_commit change.0 change.1)) in
           any keeps old.sectors old.moments new.moments (stages (at_moments run.0 old) change.0 (with_writes (writes_of f) l)) start history
           (each_stage g start history k (at_moments run.0 old) (next_commit (at_moments run.0 old) change.0) (with_writes (writes_of f) l) (has_room (at_moments run.0 old) change.0) formed
-          (ap geometry_of (sym go.has.headed) ∙ go.formed ∙ form) (staged old run.0 change.0 l x start history k (to_commit change.0 change.1) by_history go.stored.tree go.stored.legal go.stored.kept))
+          (ap geometry_of (sym go.has.superblock_is) ∙ go.formed ∙ form) (staged old run.0 change.0 l x start history k (to_commit change.0 change.1) by_history go.stored.tree go.stored.legal go.stored.kept))
           run.1

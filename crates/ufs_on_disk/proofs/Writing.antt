@@ -21,9 +21,9 @@ use Rattle.ufs_durable.specs.Others.{StandsBehindWrites}
 use Rattle.ufs_durable.specs.Standing.{DirtyMayBeWritten, StandsFor, StandsWhileWritten}
 use Rattle.ufs_durable.specs.State.{DurableState}
 use Rattle.ufs_durable.specs.Writes.{at_moments, with_writes, writes_of}
-use Rattle.ufs_durable.proofs.Behind.{same_head, same_now}
+use Rattle.ufs_durable.proofs.Behind.{same_superblock, same_now}
 use Rattle.ufs_store.specs.Ledgers.{HasLedger, checkpointed}
-use Rattle.ufs_store.specs.State.{StoreState, geometry_of_store, next_head}
+use Rattle.ufs_store.specs.State.{StoreState, geometry_of_store, next_superblock}
 use Rattle.ufs_stored.specs.Laws.{EmptiedIsStored}
 use Rattle.ufs_stored.specs.OnDisk.{HasNames, IsGoing}
 use Rattle.ufs_stored.specs.Parts.{Parts, durable_in}
@@ -81,7 +81,7 @@ module _ (old new : StoreState) (start : PosixTree) (history : List Entry) (p : 
       by (inr apart) = other apart was
 
   now_stored : IsStored m old.unassigned.free start history k p
-  now_stored = same_stored l m old.unassigned.free start history k p go.stored (ap geometry_of (same_head (writes_of f) l)) (ap (λ (s : Stand). s.catalog) (same_now (writes_of f) l)) (ap (λ (s : Stand). s.dirs) (same_now (writes_of f) l))
+  now_stored = same_stored l m old.unassigned.free start history k p go.stored (ap geometry_of (same_superblock (writes_of f) l)) (ap (λ (s : Stand). s.catalog) (same_now (writes_of f) l)) (ap (λ (s : Stand). s.dirs) (same_now (writes_of f) l))
       (λ block free. ap (λ (s : Stand). is_held s.log block) (same_now (writes_of f) l) ∙ free) stored
       (writes old l x (writes_of f) [] start history k k go.has whole.noted on_disk.1 whole.own by_history (sym (append-nil (writes_of f))) go.stored.kept)
 
@@ -91,14 +91,14 @@ module _ (old new : StoreState) (start : PosixTree) (history : List Entry) (p : 
   goes : HasLedger new m ⊎ ((between : Moments) × HasLedger new (checkpointed (at_moments between old) m)) → IsGoing new start history p
   goes (inl has) = record { ledger = m; counts = k; has = has; formed = has.by.geometry; stored = free m now_stored }
   goes (inr any) =
-      let form : geometry_of m.head ≡ geometry_of_store old = ap geometry_of (same_head (writes_of f) l) ∙ go.formed in
+      let form : geometry_of m.superblock ≡ geometry_of_store old = ap geometry_of (same_superblock (writes_of f) l) ∙ go.formed in
       record {
         ledger = checkpointed (at_moments any.0 old) m;
         counts = k;
         has = any.1;
         formed = any.1.by.geometry;
         stored = free (checkpointed (at_moments any.0 old) m)
-            (empties m old.unassigned.free start history k p (next_head (at_moments any.0 old)) (block_at (home_of m (reads any.0))) form (ap geometry_of (sym go.has.headed) ∙ go.formed) now_stored);
+            (empties m old.unassigned.free start history k p (next_superblock (at_moments any.0 old)) (block_at (home_of m (reads any.0))) form (ap geometry_of (sym go.has.superblock_is) ∙ go.formed) now_stored);
       }
 
   pub goes_on : IsGoing new start history p

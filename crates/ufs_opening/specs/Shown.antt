@@ -50,5 +50,5 @@ pub record AreReadable (g : Geometry) (disk : Image) (forms : List (Option Inode
 pub record IsOpened (o : Opened) (sectors : ℕ) (disk : Image) : Type 0 where
   pub taken : volume sectors disk ≡ Ok (volume_in o.volume disk)
   pub added : HasAdded o.volume.overlay (committed_in o.volume disk)
-  pub found : AreFindingsOf o.volume.head.geometry (folded_image o.volume disk) o.findings
-  pub whole : bad_tree o.volume.head.geometry (folded_image o.volume disk) ≡ None
+  pub found : AreFindingsOf o.volume.superblock.geometry (folded_image o.volume disk) o.findings
+  pub whole : bad_tree o.volume.superblock.geometry (folded_image o.volume disk) ≡ None

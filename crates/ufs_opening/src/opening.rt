@@ -47,10 +47,10 @@ pub fn open<D: Disk>(alloc: Global, disk: &mut D) -> Result<Opened, RecoverFault
     ensures added { IsTrue D.tells → IfOk result (λ o. HasAdded o.volume.overlay (committed_in o.volume (reads (D.moments disk.old)))) }
     ensures count { IsTrue D.tells → IfOk result (λ o. o.volume.committed ≡ length (committed_in o.volume (reads (D.moments disk.old)))) }
     ensures highest { IsTrue D.tells → IfOk result (λ o. o.volume.highest ≡ highest_number (committed_in o.volume (reads (D.moments disk.old)))) }
-    ensures found { IsTrue D.tells → IfOk result (λ o. AreFindingsOf o.volume.head.geometry (folded_image o.volume (reads (D.moments disk.old))) o.findings) }
-    ensures whole { IsTrue D.tells → IfOk result (λ o. bad_tree o.volume.head.geometry (folded_image o.volume (reads (D.moments disk.old))) ≡ None) }
-    ensures counted { IfOk result (λ o. length o.findings.forms ≡ o.volume.head.geometry.inodes) }
-    ensures large { IfOk result (λ o. sector_count o.volume.head.geometry ≤ D.size disk.old) }
+    ensures found { IsTrue D.tells → IfOk result (λ o. AreFindingsOf o.volume.superblock.geometry (folded_image o.volume (reads (D.moments disk.old))) o.findings) }
+    ensures whole { IsTrue D.tells → IfOk result (λ o. bad_tree o.volume.superblock.geometry (folded_image o.volume (reads (D.moments disk.old))) ≡ None) }
+    ensures counted { IfOk result (λ o. length o.findings.forms ≡ o.volume.superblock.geometry.inodes) }
+    ensures large { IfOk result (λ o. sector_count o.volume.superblock.geometry ≤ D.size disk.old) }
     ensures refused { IsTrue D.tells → IfErr result (TellsWhy (D.size disk.old) (reads (D.moments disk.old))) }
     ensures read_only { IsTrue D.tells → IsReadOnly D.keeps (D.moments disk.old) (D.moments disk.new) }
     ensures size { D.size disk.new ≡ D.size disk.old }
@@ -58,7 +58,7 @@ pub fn open<D: Disk>(alloc: Global, disk: &mut D) -> Result<Opened, RecoverFault
     ensures cause { IfErr result (HasFaultCause (D.faults disk.old) (D.faults disk.new)) }
 {
     let volume = read_volume(alloc, disk)?;
-    let geometry = &volume.head.geometry;
+    let geometry = &volume.superblock.geometry;
     let findings = read_findings(alloc, disk, geometry, &volume.overlay)?;
     match refuse_damage(alloc, geometry, &findings) {
         Ok(()) => Ok(Opened { volume, findings }),

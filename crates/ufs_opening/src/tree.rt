@@ -28,8 +28,8 @@ fn heads_in<D: Disk>(
     opened: &Opened,
     most: Option<usize>,
 ) -> Result<Vec<PathHead>, RecoverFault>
-    requires large { sector_count opened.now.volume.head.geometry ≤ D.size disk.old }
-    requires counted { length opened.now.findings.forms ≡ opened.now.volume.head.geometry.inodes }
+    requires large { sector_count opened.now.volume.superblock.geometry ≤ D.size disk.old }
+    requires counted { length opened.now.findings.forms ≡ opened.now.volume.superblock.geometry.inodes }
     ensures heads { (sectors : ℕ) → (IsTrue D.tells → IsOpened opened.now sectors (reads (D.moments disk.old))) → IfOk result (λ hs. HasHeads D.tells sectors (reads (D.moments disk.old)) most hs.items) }
     ensures outside { IsTrue D.tells → (sectors : ℕ) → IsOpened opened.now sectors (reads (D.moments disk.old)) → IfErr result IsOutside }
     ensures rising { IfOk result (λ hs. IsTrue (is_sorted path_cmp (pairs_of hs.items))) }
@@ -38,7 +38,7 @@ fn heads_in<D: Disk>(
     ensures passed { OnOk result (D.faults disk.new ≡ D.faults disk.old) }
     ensures cause { IfErr result (HasFaultCause (D.faults disk.old) (D.faults disk.new)) }
 {
-    let geometry = &opened.volume.head.geometry;
+    let geometry = &opened.volume.superblock.geometry;
     damage_law(geometry);
     let Ok(places) = places_of(alloc, &opened.findings, geometry) else {
         return Err(RecoverFault::Memory);

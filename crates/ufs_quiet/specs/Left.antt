@@ -6,7 +6,7 @@ use Rattle.ufs_disk.specs.Disk.{Leaves}
 use Rattle.ufs_disk.specs.Moments.{Moments, LeavesOnly, reads}
 use Rattle.ufs_image.specs.Opens.{opens}
 use Rattle.ufs_image.specs.Proper.{IsProperImage}
-use Rattle.ufs_image.specs.Volume.{Refusal, head_of}
+use Rattle.ufs_image.specs.Volume.{Refusal, superblock_of}
 use Rattle.ufs_last.specs.Last.{StandsForTree}
 use Rattle.ufs_layout.specs.Areas.{geometry_refusal, sector_count}
 use Rattle.ufs_layout.specs.declared.geometry.Geometry.{Geometry}
@@ -42,11 +42,11 @@ pub record Recovers (keeps : Bool) (sectors status : ℕ) (from to : Moments) : 
   -- Status 0: where the disk was proper, it is proper and clean, and nothing is pending;
   pub clean : status ≡ 0 → IsProperDisk sectors from.state → IsCleanDisk sectors to.state
   -- where it was in use, it is in the next epoch, with the commit numbers behind and no inode without a name.
-  pub recovered : status ≡ 0 → IsProperDisk sectors from.state → (head_of (reads from)).clean ≡ false → IsRecovered (reads from) (reads to)
+  pub recovered : status ≡ 0 → IsProperDisk sectors from.state → (superblock_of (reads from)).clean ≡ false → IsRecovered (reads from) (reads to)
   -- At each moment, whatever the status, a crash leaves a proper disk as an image of the same tree.
   pub tree : IsProperDisk sectors from.state → KeepsTree keeps sectors from to
   -- An image that is marked clean, and one that stands for no tree, are only read.
-  pub quiet : IsTrue (head_of (reads from)).clean → IsReadOnly keeps from to
+  pub quiet : IsTrue (superblock_of (reads from)).clean → IsReadOnly keeps from to
   pub refused : (refusal : Refusal) → opens sectors (reads from) ≡ Err refusal → IsReadOnly keeps from to
 
 -- `play`, of which the transcripts are these, over a disk whose image a session may begin with

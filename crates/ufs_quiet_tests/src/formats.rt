@@ -14,14 +14,14 @@ const OLD: u8 = 7;
 // The bytes of a new image: the superblock's, the bitmap's that aren't 0, and where data begins.
 #[derive(Clone, Copy)]
 struct Row {
-    head: [u8; 41],
+    superblock: [u8; 41],
     marks: [u8; 2],
     data: usize,
 }
 
 // 64 blocks, 16 inodes, 64 journal sectors.
 const SMALL: Row = Row {
-    head: [
+    superblock: [
         0x75, 0x46, 0x53, 0x49, 0x4d, 0x47, 0x30, 0x31, 1, 0, 0, 0, 0x40, 0, 0, 0, 0x10, 0, 0, 0,
         0x40, 0, 0, 0, 1, 0, 0, 0, 0, 0, 0, 0, 1, 0, 0, 0, 0, 0, 0, 0, 1,
     ],
@@ -31,7 +31,7 @@ const SMALL: Row = Row {
 
 // 256 blocks, 32 inodes, 64 journal sectors.
 const LARGER: Row = Row {
-    head: [
+    superblock: [
         0x75, 0x46, 0x53, 0x49, 0x4d, 0x47, 0x30, 0x31, 1, 0, 0, 0, 0, 1, 0, 0, 0x20, 0, 0, 0,
         0x40, 0, 0, 0, 1, 0, 0, 0, 0, 0, 0, 0, 1, 0, 0, 0, 0, 0, 0, 0, 1,
     ],
@@ -51,7 +51,7 @@ enum Left {
 // A byte of a new image.
 fn new_byte(row: &Row, i: usize) -> u8 {
     if i < 41 {
-        return row.head[i];
+        return row.superblock[i];
     }
     if i >= 4_096 && i < 4_098 {
         return row.marks[i - 4_096];

@@ -42,9 +42,9 @@ fn in_use<R: Abort + AllocGlobal>(rt: &R) -> Result<PlainDisk, Fail> {
     let mut disk = check_over(rt, &making(), disk)?;
     put_files(rt, &mut disk, DATA);
     put_sector(rt, &mut disk, INODES + 3, &sector_of(&EMPTY));
-    let mut head = read_sector(rt, &mut disk, 0);
-    head[CLEAN] = 0;
-    put_sector(rt, &mut disk, 0, &head);
+    let mut superblock = read_sector(rt, &mut disk, 0);
+    superblock[CLEAN] = 0;
+    put_sector(rt, &mut disk, 0, &superblock);
     Ok(disk)
 }
 
@@ -72,8 +72,8 @@ fn an_image_in_use_is_made_clean(rt: HostRuntime) -> Result<(), Fail> {
     let disk = check_over(&rt, &recover(0, RECOVERED), disk)?;
     let disk = check_over(&rt, &check(0, "clean\n"), disk)?;
     let mut disk = check_over(&rt, &tree(0, FILES), disk)?;
-    let head = read_sector(&rt, &mut disk, 0);
-    assert_eq!(rt; (head[EPOCH], head[CLEAN]), (2, 1));
+    let superblock = read_sector(&rt, &mut disk, 0);
+    assert_eq!(rt; (superblock[EPOCH], superblock[CLEAN]), (2, 1));
     check_over(&rt, &recover(0, RECOVERED), disk)?;
     Ok(())
 }

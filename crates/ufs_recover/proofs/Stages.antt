@@ -14,18 +14,18 @@ use Rattle.ufs_layout.specs.Superblock.{magic, super_bytes}
 use Rattle.ufs_layout.specs.InodeForm.{inode_bytes, free_inode}
 use Rattle.ufs_layout.specs.Superblock.{new_super}
 use Rattle.ufs_image.specs.Formatted.{IsFormatted, bitmap_below, empty_sector}
-use Rattle.ufs_image.specs.Volume.{NoSuperblock, BadVersion, BadGeometry, has_other_version, head_of, is_off_form, bad_geometry, is_too_small, lacks_magic, by_head}
+use Rattle.ufs_image.specs.Volume.{NoSuperblock, BadVersion, BadGeometry, has_other_version, superblock_of, is_off_form, bad_geometry, is_too_small, lacks_magic, by_superblock}
 use Rattle.ufs_image.specs.Laws.{OpensToRoot, BeginsWhole, BeginsProper}
 use Rattle.ufs_layout.specs.declared.geometry.Geometry.{Geometry}
 use Rattle.ufs_recover.specs.Tables.{HasZeroTails, IsOutside, IsTableSector, HasTablesBelow}
-use Rattle.ufs_recover.specs.Stopped.{IsNew, IsRefused, IsStopped, IsBlank, HasHeadPut}
+use Rattle.ufs_recover.specs.Stopped.{IsNew, IsRefused, IsStopped, IsBlank, HasSuperblockPut}
 
 -- ---- images
 
 -- with zeros in the superblock's sector it is refused
 pub refused : (sectors : ℕ) (image : Image) → IsBlank image → IsRefused sectors image
-refused sectors image blank = ap (λ (test : Bool). by_head image (first_of (refused_if test NoSuperblock)
-    (first_of (refused_if (has_other_version image) (BadVersion (head_of image).version))
+refused sectors image blank = ap (λ (test : Bool). by_superblock image (first_of (refused_if test NoSuperblock)
+    (first_of (refused_if (has_other_version image) (BadVersion (superblock_of image).version))
     (first_of (refused_if (is_off_form image) NoSuperblock)
     (first_of (bad_geometry image)
     (refused_if (is_too_small sectors image) (BadGeometry 5))))))) lacking
@@ -38,8 +38,8 @@ no_inode = refl
 
 -- with the superblock and the tables it is a new image
 pub formatted : (g : Geometry) (image : Image) → IsGeometry g → image 0 ≡ super_bytes (new_super g) → HasTablesBelow g (first_of_data g) image → IsFormatted g image
-formatted g image is head tables = record {
-  superblock = head;
+formatted g image is superblock tables = record {
+  superblock = superblock;
   bitmap = λ s under.
       let same : 8 * first_of_bitmap + s - 8 ≡ s = omega arith in
       (sector (8 * first_of_bitmap + s) (omega arith) (omega arith)).bitmap (omega arith) ∙ ap (bitmap_below (first_of_data g)) same;
@@ -75,9 +75,9 @@ module _ (g : Geometry) (sectors : ℕ) (is : IsGeometry g) (room : sector_count
 
   -- the superblock is put where the tables are
   pub put_new : (bytes : List ℕ) (d : Image) → bytes ≡ super_bytes (new_super g) → HasTablesBelow g (first_of_data g) d → IsNew g sectors (put 0 bytes d)
-  put_new bytes d head tables =
+  put_new bytes d superblock tables =
       let there : HasTablesBelow g (first_of_data g) (put 0 bytes d) = tables_stay g (first_of_data g) bytes d tables in
-      new_image (put 0 bytes d) (formatted g (put 0 bytes d) is (put_same 0 bytes d ∙ head) there) there
+      new_image (put 0 bytes d) (formatted g (put 0 bytes d) is (put_same 0 bytes d ∙ superblock) there) there
 
 -- ---- moments
 
@@ -87,8 +87,8 @@ on_ok_both P Q (Err e) p q = tt
 
 module _ (keeps : Bool) (g : Geometry) (sectors : ℕ) (first : Moments) where
   -- the superblock is taken out
-  pub taken_out : (new : Moments) → LeavesOnly keeps (HasHeadPut empty_sector first.state) first new → LeavesOnly keeps (IsStopped g sectors first.state) first new
-  taken_out new call = weaker keeps (HasHeadPut empty_sector first.state) (IsStopped g sectors first.state) (λ image from. ⊎_elim
+  pub taken_out : (new : Moments) → LeavesOnly keeps (HasSuperblockPut empty_sector first.state) first new → LeavesOnly keeps (IsStopped g sectors first.state) first new
+  taken_out new call = weaker keeps (HasSuperblockPut empty_sector first.state) (IsStopped g sectors first.state) (λ image from. ⊎_elim
       (λ same. inl (subst (IsImage first.state) (sym same) from.left))
       (λ same. inr (inl (refused sectors image (ap (λ (e : Image). e 0) same ∙ put_same 0 empty_sector from.before))))
       from.is) first new call
@@ -98,9 +98,9 @@ module _ (keeps : Bool) (g : Geometry) (sectors : ℕ) (first : Moments) where
   while_blank old new so_far call = goes_on keeps (IsStopped g sectors first.state) IsBlank first old new so_far call (λ image blank. inr (inl (refused sectors image blank)))
 
   -- the new one is put in
-  pub put_in : (bytes : List ℕ) (old new : Moments) → LeavesOnly keeps (IsStopped g sectors first.state) first old → LeavesOnly keeps (HasHeadPut bytes old.state) old new
+  pub put_in : (bytes : List ℕ) (old new : Moments) → LeavesOnly keeps (IsStopped g sectors first.state) first old → LeavesOnly keeps (HasSuperblockPut bytes old.state) old new
       → IsSettled old.state → IsBlank (reads old) → IsNew g sectors (put 0 bytes (reads old)) → LeavesOnly keeps (IsStopped g sectors first.state) first new
-  put_in bytes old new so_far call settled blank new_one = goes_on keeps (IsStopped g sectors first.state) (HasHeadPut bytes old.state) first old new so_far call (λ image from. ⊎_elim
+  put_in bytes old new so_far call settled blank new_one = goes_on keeps (IsStopped g sectors first.state) (HasSuperblockPut bytes old.state) first old new so_far call (λ image from. ⊎_elim
       (λ same. inr (inl (refused sectors image (ap (λ (e : Image). e 0) (same ∙ settled from.before from.left) ∙ blank))))
       (λ same. inr (inr (subst (IsNew g sectors) (sym (same ∙ ap (put 0 bytes) (settled from.before from.left))) new_one)))
       from.is)
@@ -110,5 +110,5 @@ pub blank_read : (keeps : Bool) (first old : Moments) → LeavesOnly keeps IsBla
 blank_read keeps first old run = run.after (reads old) (seen_is_image old.state)
 
 -- a sector outside is not the superblock's
-pub outside_head : (g : Geometry) (s : ℕ) → IsOutside g s → s ≢ 0
-outside_head g s outside zero = ⊎_elim (λ near. omega arith) (λ far. omega arith) outside
+pub outside_superblock : (g : Geometry) (s : ℕ) → IsOutside g s → s ≢ 0
+outside_superblock g s outside zero = ⊎_elim (λ near. omega arith) (λ far. omega arith) outside

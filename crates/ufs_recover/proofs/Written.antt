@@ -8,26 +8,26 @@ use Rattle.ufs_disk.proofs.Images.{mixed_one, put_one, put_other, put_all_below,
 use Rattle.ufs_disk.proofs.Flat.{length-pieces, pieces_at}
 use Rattle.ufs_disk.proofs.Runs.{weaker, goes_on, goes_on_quietly}
 use Rattle.ufs_recover.specs.Tables.{IsOutside, IsTableSector, IsTableBlock, HasTablesBelow}
-use Rattle.ufs_recover.specs.Stopped.{IsBlank, HasHeadPut}
+use Rattle.ufs_recover.specs.Stopped.{IsBlank, HasSuperblockPut}
 use Rattle.ufs_layout.specs.Areas.{first_of_data}
 use Rattle.ufs_layout.specs.declared.geometry.Geometry.{Geometry}
 
 -- ---- the superblock's sector
 
 module _ (keeps : Bool) (bytes : List ℕ) (sized : length bytes ≡ 512) (old mid : Moments) (write : LeavesOnly keeps (IsPartlyWritten 0 bytes old.state) old mid) where
-  has_head_put : (image : Image) → IsPartlyWritten 0 bytes old.state image → HasHeadPut bytes old.state image
-  has_head_put image from =
+  has_superblock_put : (image : Image) → IsPartlyWritten 0 bytes old.state image → HasSuperblockPut bytes old.state image
+  has_superblock_put image from =
       let one = mixed_one 0 bytes old.state image sized from in
       record { before = one.0; left = one.1; is = one.2 }
 
-  pub head_written : LeavesOnly keeps (HasHeadPut bytes old.state) old mid
-  head_written = weaker keeps (IsPartlyWritten 0 bytes old.state) (HasHeadPut bytes old.state) has_head_put old mid write
+  pub superblock_written : LeavesOnly keeps (HasSuperblockPut bytes old.state) old mid
+  superblock_written = weaker keeps (IsPartlyWritten 0 bytes old.state) (HasSuperblockPut bytes old.state) has_superblock_put old mid write
 
-  pub head_settled : (new : Moments) → LeavesOnly keeps (IsImage mid.state) mid new → LeavesOnly keeps (HasHeadPut bytes old.state) old new
-  head_settled new barrier = goes_on_quietly keeps (HasHeadPut bytes old.state) old mid new head_written barrier
+  pub superblock_settled : (new : Moments) → LeavesOnly keeps (IsImage mid.state) mid new → LeavesOnly keeps (HasSuperblockPut bytes old.state) old new
+  superblock_settled new barrier = goes_on_quietly keeps (HasSuperblockPut bytes old.state) old mid new superblock_written barrier
 
-pub head_others : (bytes : List ℕ) (d now : Image) → length bytes ≡ 512 → Mixes d (overwritten 0 bytes d) now → (s : ℕ) → s ≢ 0 → now s ≡ d s
-head_others bytes d now sized mixed s ne = ⊎_elim (λ is. is) (λ is. is ∙ ap (λ (e : Image). e s) (put_one 0 bytes d sized) ∙ put_other 0 s bytes d ne) (mixed s)
+pub superblock_others : (bytes : List ℕ) (d now : Image) → length bytes ≡ 512 → Mixes d (overwritten 0 bytes d) now → (s : ℕ) → s ≢ 0 → now s ≡ d s
+superblock_others bytes d now sized mixed s ne = ⊎_elim (λ is. is) (λ is. is ∙ ap (λ (e : Image). e s) (put_one 0 bytes d sized) ∙ put_other 0 s bytes d ne) (mixed s)
 
 -- ---- a block
 

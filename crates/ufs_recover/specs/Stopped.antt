@@ -38,7 +38,7 @@ abbrev pub IsBlank : Image → Type 0
 IsBlank image = image 0 ≡ empty_sector
 
 -- an image of the state, as it was or with these bytes in the superblock's sector
-pub record HasHeadPut (bytes : List ℕ) (state : State) (image : Image) : Type 0 where
+pub record HasSuperblockPut (bytes : List ℕ) (state : State) (image : Image) : Type 0 where
   pub before : Image
   pub left : IsImage state before
   pub is : (image ≡ before) ⊎ (image ≡ put 0 bytes before)

@@ -8,7 +8,7 @@ ghost use Rattle.ufs_recover.specs.Stopped.{IsNewDisk, IsStopped};
 ghost use Rattle.ufs_recover.specs.Faults.{HasFaultCause};
 
 use crate::FormatFault;
-use crate::head::{new_head, put_head};
+use crate::superblock::{new_superblock, put_superblock};
 use crate::tables::write_tables;
 use ufs_base::SECTOR;
 use ufs_disk::{Disk, Fault};
@@ -30,10 +30,10 @@ fn write_image<D: Disk>(disk: &mut D, geometry: &Geometry) -> Result<(), Fault>
     ensures cause { HasCause (D.faults disk.old) (D.faults disk.new) result }
     ensures number { IfErr result (λ fault. fault.number ≡ D.faults disk.new) }
 {
-    put_head(disk, &[0; SECTOR])?;
+    put_superblock(disk, &[0; SECTOR])?;
     write_tables(disk, geometry)?;
     new_image_law(geometry);
-    put_head(disk, &new_head(geometry))
+    put_superblock(disk, &new_superblock(geometry))
 }
 
 /// Makes the disk's first sectors a new image with the root alone. It takes no memory, and writes

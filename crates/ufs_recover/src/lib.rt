@@ -3,7 +3,7 @@
 
 mod fault;
 mod formatting;
-mod head;
+mod superblock;
 mod tables;
 
 pub use fault::FormatFault;

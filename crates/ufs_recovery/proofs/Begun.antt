@@ -33,18 +33,18 @@ brought sectors image home v overlay new over may all same = record {
   geometry = may.geometry;
   proper = λ after home others. home_proper sectors new after home may.in_use;
   earlier = λ s of.
-      let stays : home s ≡ image s = all s ∙ ap (λ (d : Image). d s) (volume_image sectors image v overlay over) ∙ journal_unfolded v.geometry (committed v.geometry v.head.epoch image) image s of in
+      let stays : home s ≡ image s = all s ∙ ap (λ (d : Image). d s) (volume_image sectors image v overlay over) ∙ journal_unfolded v.geometry (committed v.geometry v.superblock.epoch image) image s of in
       subst (λ b. epoch_in b < new.epoch) (sym stays) (may.earlier s of);
 }
 
 -- An image at home may get the same superblock, marked clean, where it is proper then.
-pub closing : (sectors : ℕ) (head : Super) (image : Image) → IsAtHome sectors head image
-    → ((after : Image) → IsAtHome sectors (record head { clean = true }) after → ((sector : ℕ) → sector ≢ 0 → after sector ≡ image sector) → IsProperImage sectors after) → IsBroughtHome sectors image (record head { clean = true })
-closing sectors head image home proper = record {
+pub closing : (sectors : ℕ) (superblock : Super) (image : Image) → IsAtHome sectors superblock image
+    → ((after : Image) → IsAtHome sectors (record superblock { clean = true }) after → ((sector : ℕ) → sector ≢ 0 → after sector ≡ image sector) → IsProperImage sectors after) → IsBroughtHome sectors image (record superblock { clean = true })
+closing sectors superblock image home proper = record {
   proper = proper;
   image = image;
-  as_volume = record { head = head; geometry = geometry_of head; image = image };
-  catalog = catalog_at (geometry_of head) image;
+  as_volume = record { superblock = superblock; geometry = geometry_of superblock; image = image };
+  catalog = catalog_at (geometry_of superblock) image;
   is = home.is;
   all = λ s. refl;
   same = refl;
@@ -52,27 +52,27 @@ closing sectors head image home proper = record {
   earlier = home.earlier;
 }
 
-pub mid_home : (sectors : ℕ) (head : Super) (before mid : Image) (g : Geometry) (marks : List Bool) → MayClose sectors head before g marks → AgreeOffBitmap g before mid → IsAtHome sectors head mid
-mid_home sectors head before mid g marks may agree = bitmap_home sectors head before may.home mid (subst (λ h. AgreeOffBitmap h before mid) may.geometry agree)
+pub mid_home : (sectors : ℕ) (superblock : Super) (before mid : Image) (g : Geometry) (marks : List Bool) → MayClose sectors superblock before g marks → AgreeOffBitmap g before mid → IsAtHome sectors superblock mid
+mid_home sectors superblock before mid g marks may agree = bitmap_home sectors superblock before may.home mid (subst (λ h. AgreeOffBitmap h before mid) may.geometry agree)
 
-module _ (sectors : ℕ) (head : Super) (before mid after : Image) (g : Geometry) (marks : List Bool) (may : MayClose sectors head before g marks)
+module _ (sectors : ℕ) (superblock : Super) (before mid after : Image) (g : Geometry) (marks : List Bool) (may : MayClose sectors superblock before g marks)
     (agree : AgreeOffBitmap g before mid) (marked : IsMarkedBelow marks (32768 * bitmap_blocks g) mid) (others : (sector : ℕ) → sector ≢ 0 → after sector ≡ mid sector) where
-  agree_by : AgreeOffBitmap (geometry_of head) before mid
+  agree_by : AgreeOffBitmap (geometry_of superblock) before mid
   agree_by = subst (λ h. AgreeOffBitmap h before mid) may.geometry agree
 
-  behind : (sector : ℕ) → 8 * first_of_inodes (geometry_of head) ≤ sector → after sector ≡ before sector
+  behind : (sector : ℕ) → 8 * first_of_inodes (geometry_of superblock) ≤ sector → after sector ≡ before sector
   behind s from = others s (λ zero. omega (arith, zero, from)) ∙ agree_by s (inr from)
 
-  marked_after : IsMarkedBelow marks (32768 * bitmap_blocks (geometry_of head)) after
+  marked_after : IsMarkedBelow marks (32768 * bitmap_blocks (geometry_of superblock)) after
   marked_after b under =
       ap (λ (s : List ℕ). is_marked (λ _. s) b) (others (8 * 1 + b / 4096) (λ zero. omega (arith, zero)))
       ∙ subst (λ h. IsMarkedBelow marks (32768 * bitmap_blocks h) mid) may.geometry marked b under
 
-  pub has_closed : IsAtHome sectors (record head { clean = true }) after → HasClosed sectors head before after
+  pub has_closed : IsAtHome sectors (record superblock { clean = true }) after → HasClosed sectors superblock before after
   has_closed home = record {
     home = home;
-    proper = closed_proper sectors (record head { clean = true }) after marks home marked_after
-        (λ b. ap (λ nodes. is_taken (geometry_of head) nodes b) (nodes_alike (geometry_of head) before after behind) ∙ may.taken b)
-        (λ k ranged. subst (λ (f : InodeForm). f.number < head.next) (sym (form_alike (geometry_of head) before after behind k)) (may.numbers k ranged));
+    proper = closed_proper sectors (record superblock { clean = true }) after marks home marked_after
+        (λ b. ap (λ nodes. is_taken (geometry_of superblock) nodes b) (nodes_alike (geometry_of superblock) before after behind) ∙ may.taken b)
+        (λ k ranged. subst (λ (f : InodeForm). f.number < superblock.next) (sym (form_alike (geometry_of superblock) before after behind k)) (may.numbers k ranged));
     same = behind;
   }

@@ -19,46 +19,46 @@ use Rattle.ufs_recovery.specs.Home.{IsAtHome, OpensAlike}
 use Rattle.ufs_recovery.specs.Marks.{AgreeOffBitmap, HasAnyBitmap, IsMarkedBelow}
 use Rattle.ufs_recovery.proofs.Home.{stays_home, block_low, home_proper}
 
-module _ (sectors : ℕ) (head : Super) (image : Image) (home : IsAtHome sectors head image) (mix : Image) (agree : AgreeOffBitmap (geometry_of head) image mix) where
-  same_catalog : IsCatalogOf (geometry_of head) mix (catalog_at (geometry_of head) image)
-  same_catalog = catalog_same (geometry_of head) image mix (catalog_at (geometry_of head) image) home.is.catalog
-      (λ k ranged. sym (agree (sector_of_inode (geometry_of head) k) (inr (omega arith))))
+module _ (sectors : ℕ) (superblock : Super) (image : Image) (home : IsAtHome sectors superblock image) (mix : Image) (agree : AgreeOffBitmap (geometry_of superblock) image mix) where
+  same_catalog : IsCatalogOf (geometry_of superblock) mix (catalog_at (geometry_of superblock) image)
+  same_catalog = catalog_same (geometry_of superblock) image mix (catalog_at (geometry_of superblock) image) home.is.catalog
+      (λ k ranged. sym (agree (sector_of_inode (geometry_of superblock) k) (inr (omega arith))))
       (λ s of.
-      let low = block_low (geometry_of head) (catalog_at (geometry_of head) image) home.is.sound of.dir_block.inode of.dir_block.place of.block of.dir_block.has.in_range of.dir_block.has.there in
+      let low = block_low (geometry_of superblock) (catalog_at (geometry_of superblock) image) home.is.sound of.dir_block.inode of.dir_block.place of.block of.dir_block.has.in_range of.dir_block.has.there in
       let at = of.of_block.same in sym (agree s (inr (omega (arith, low, at)))))
 
-  pub bitmap_home : IsAtHome sectors head mix
-  bitmap_home = stays_home sectors head image home mix (agree 0 (inl (omega arith))) (λ s of. let from = of.from in agree s (inr (omega (arith, from)))) (catalog_at (geometry_of head) image) same_catalog home.is.sound
+  pub bitmap_home : IsAtHome sectors superblock mix
+  bitmap_home = stays_home sectors superblock image home mix (agree 0 (inl (omega arith))) (λ s of. let from = of.from in agree s (inr (omega (arith, from)))) (catalog_at (geometry_of superblock) image) same_catalog home.is.sound
 
   pub bitmap_tree : opens sectors mix ≡ opens sectors image
-  bitmap_tree = one_tree sectors image mix (record { head = head; geometry = geometry_of head; image = image }) (record { head = head; geometry = geometry_of head; image = mix }) (catalog_at (geometry_of head) image)
+  bitmap_tree = one_tree sectors image mix (record { superblock = superblock; geometry = geometry_of superblock; image = image }) (record { superblock = superblock; geometry = geometry_of superblock; image = mix }) (catalog_at (geometry_of superblock) image)
       home.is (record { taken = bitmap_home.is.taken; catalog = same_catalog; sound = home.is.sound }) refl
       (λ k ranged s of.
-      let low = block_low (geometry_of head) (catalog_at (geometry_of head) image) home.is.sound k of.place of.block ranged of.there in
+      let low = block_low (geometry_of superblock) (catalog_at (geometry_of superblock) image) home.is.sound k of.place of.block ranged of.there in
       let at = of.of_block.same in sym (agree s (inr (omega (arith, low, at)))))
 
 -- Whatever stands in the bitmap of an image in use, a crash leaves the tree.
-pub any_bitmap_tree : (sectors : ℕ) (head : Super) (state : State) → IsSettled state → IsAtHome sectors head (seen state) → head.clean ≡ false → (image : Image) → HasAnyBitmap (geometry_of head) state image
+pub any_bitmap_tree : (sectors : ℕ) (superblock : Super) (state : State) → IsSettled state → IsAtHome sectors superblock (seen state) → superblock.clean ≡ false → (image : Image) → HasAnyBitmap (geometry_of superblock) state image
     → OpensAlike sectors (seen state) image
-any_bitmap_tree sectors head state settled home in_use image from =
-    let agree = subst (λ (d : Image). AgreeOffBitmap (geometry_of head) d image) (settled from.before from.left) from.agrees in
+any_bitmap_tree sectors superblock state settled home in_use image from =
+    let agree = subst (λ (d : Image). AgreeOffBitmap (geometry_of superblock) d image) (settled from.before from.left) from.agrees in
     record {
-      tree = bitmap_tree sectors head (seen state) home image agree;
-      proper = λ was. home_proper sectors head image (bitmap_home sectors head (seen state) home image agree) in_use;
+      tree = bitmap_tree sectors superblock (seen state) home image agree;
+      proper = λ was. home_proper sectors superblock image (bitmap_home sectors superblock (seen state) home image agree) in_use;
     }
 
 -- A clean image at home whose bitmap marks the used blocks, with its numbers behind, is proper.
-pub closed_proper : (sectors : ℕ) (head : Super) (image : Image) (marks : List Bool) → IsAtHome sectors head image
-    → IsMarkedBelow marks (32768 * bitmap_blocks (geometry_of head)) image → AreTaken (geometry_of head) (sound_nodes (geometry_of head) image) marks
-    → ((k : ℕ) → IsInode (geometry_of head) k → (form_at (geometry_of head) image k).number < head.next) → IsProperImage sectors image
-closed_proper sectors head image marks home marked taken numbers =
-    proper sectors image (record { head = head; geometry = geometry_of head; image = image }) (catalog_at (geometry_of head) image) home.is
+pub closed_proper : (sectors : ℕ) (superblock : Super) (image : Image) (marks : List Bool) → IsAtHome sectors superblock image
+    → IsMarkedBelow marks (32768 * bitmap_blocks (geometry_of superblock)) image → AreTaken (geometry_of superblock) (sound_nodes (geometry_of superblock) image) marks
+    → ((k : ℕ) → IsInode (geometry_of superblock) k → (form_at (geometry_of superblock) image k).number < superblock.next) → IsProperImage sectors image
+closed_proper sectors superblock image marks home marked taken numbers =
+    proper sectors image (record { superblock = superblock; geometry = geometry_of superblock; image = image }) (catalog_at (geometry_of superblock) image) home.is
     (λ s of. let less = home.earlier s of in omega (arith, less))
     (λ clean. record {
       no_entry = λ s of same. let less = home.earlier s of in omega (arith, less, same);
       numbers = numbers;
       bits = record {
-        marked = λ b under is. taken_is (geometry_of head) image (catalog_at (geometry_of head) image) home.is.catalog home.is.sound b (taken b ∙ sym (marked b under) ∙ is);
-        taken = λ b under is. marked b under ∙ sym (taken b) ∙ is_taken_block (geometry_of head) image (catalog_at (geometry_of head) image) home.is.catalog home.is.sound b is;
+        marked = λ b under is. taken_is (geometry_of superblock) image (catalog_at (geometry_of superblock) image) home.is.catalog home.is.sound b (taken b ∙ sym (marked b under) ∙ is);
+        taken = λ b under is. marked b under ∙ sym (taken b) ∙ is_taken_block (geometry_of superblock) image (catalog_at (geometry_of superblock) image) home.is.catalog home.is.sound b is;
       };
     })

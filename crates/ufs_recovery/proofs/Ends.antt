@@ -22,7 +22,7 @@ use Rattle.ufs_image.specs.Journal.{committed, epoch_in}
 use Rattle.ufs_image.specs.Opens.{ImageTree, opens, walked, entries_of, tree_from, by_damage}
 use Rattle.ufs_image.specs.Proper.{IsProperImage, IsProperVolume, IsProperClean}
 use Rattle.ufs_image.specs.Volume as image
-use Rattle.ufs_image.specs.Volume.{Refusal, Volume, volume, volume_of, head_of}
+use Rattle.ufs_image.specs.Volume.{Refusal, Volume, volume, volume_of, superblock_of}
 use Rattle.ufs_image.proofs.Empty.{in_range}
 use Rattle.ufs_image.proofs.Journals.{taken}
 use Rattle.ufs_image.proofs.Lists.{IsIn}
@@ -60,27 +60,27 @@ all_pass p [] all x there = absurd there
 all_pass p (y ∷ xs) all x (inl same) = ap p same ∙ (and_parts (p y) (list_all p xs) all).0
 all_pass p (y ∷ xs) all x (inr there) = all_pass p xs (and_parts (p y) (list_all p xs) all).1 x there
 
-pub none_later : (image : Image) (v : Volume) → IsProperVolume image v → (sector : ℕ) → IsOfJournal v.geometry sector → epoch_in (image sector) ≤ v.head.epoch
+pub none_later : (image : Image) (v : Volume) → IsProperVolume image v → (sector : ℕ) → IsOfJournal v.geometry sector → epoch_in (image sector) ≤ v.superblock.epoch
 none_later image v is sector of =
-    let t = all_pass (λ s. not (nat_lt v.head.epoch (epoch_in (image s)))) (journal_sectors v.geometry) is.none_later sector (in_range (8 * first_of_journal v.geometry) v.geometry.journal sector of.from of.below) in
+    let t = all_pass (λ s. not (nat_lt v.superblock.epoch (epoch_in (image s)))) (journal_sectors v.geometry) is.none_later sector (in_range (8 * first_of_journal v.geometry) v.geometry.journal sector of.from of.below) in
     grind (arith, nat_tests, t)
 
-no_entry : (image : Image) (v : Volume) → IsProperClean v image → (sector : ℕ) → IsOfJournal v.geometry sector → epoch_in (image sector) ≢ v.head.epoch
+no_entry : (image : Image) (v : Volume) → IsProperClean v image → (sector : ℕ) → IsOfJournal v.geometry sector → epoch_in (image sector) ≢ v.superblock.epoch
 no_entry image v is sector of same =
-    let t = all_pass (λ s. not (epoch_in (image s) == v.head.epoch)) (journal_sectors v.geometry) is.no_entry sector (in_range (8 * first_of_journal v.geometry) v.geometry.journal sector of.from of.below) in
+    let t = all_pass (λ s. not (epoch_in (image s) == v.superblock.epoch)) (journal_sectors v.geometry) is.no_entry sector (in_range (8 * first_of_journal v.geometry) v.geometry.journal sector of.from of.below) in
     grind (arith, nat_tests, t, same)
 
 -- Nothing is committed in the epoch of a proper image that is clean.
-pub none_in_clean : (sectors : ℕ) (image : Image) → IsProperImage sectors image → (head_of image).clean ≡ true → log_of image ≡ []
+pub none_in_clean : (sectors : ℕ) (image : Image) → IsProperImage sectors image → (superblock_of image).clean ≡ true → log_of image ≡ []
 none_in_clean sectors image is clean = of at.0 (taken sectors image at.0 at.1).same at.2
   where
     at : (v : Volume) × (volume sectors image ≡ Ok v) × IsProperVolume image v
     at = proper_volume sectors image is
 
-    of : (v : Volume) → v ≡ volume_of (head_of image) image → IsProperVolume image v → log_of image ≡ []
+    of : (v : Volume) → v ≡ volume_of (superblock_of image) image → IsProperVolume image v → log_of image ≡ []
     of v same proper =
-        let here : IsProperVolume image (volume_of (head_of image) image) = subst (IsProperVolume image) same proper in
-        none_committed (geometry_of (head_of image)) (head_of image).epoch image (no_entry image (volume_of (head_of image) image) (here.if_clean clean))
+        let here : IsProperVolume image (volume_of (superblock_of image) image) = subst (IsProperVolume image) same proper in
+        none_committed (geometry_of (superblock_of image)) (superblock_of image).epoch image (no_entry image (volume_of (superblock_of image) image) (here.if_clean clean))
 
 -- ---- faults
 
@@ -125,20 +125,20 @@ all_below first next (c ∷ log) less =
 -- ---- the volume that was read
 
 module _ (sectors : ℕ) (image : Image) (v : FoldedVolume) (is : volume sectors image ≡ Ok (volume_in v image)) where
-  pub head_same : v.head.head ≡ head_of image
-  head_same = ap (λ (u : Volume). u.head) (taken sectors image (volume_in v image) is).same
+  pub superblock_same : v.superblock.superblock ≡ superblock_of image
+  superblock_same = ap (λ (u : Volume). u.superblock) (taken sectors image (volume_in v image) is).same
 
   pub log_same : committed_in v image ≡ log_of image
-  log_same = ap (λ (u : Volume). committed u.geometry u.head.epoch image) (taken sectors image (volume_in v image) is).same
+  log_same = ap (λ (u : Volume). committed u.geometry u.superblock.epoch image) (taken sectors image (volume_in v image) is).same
 
   -- without blame it opens
-  pub opens_there : bad_tree v.head.geometry (folded_image v image) ≡ None → (tree : ImageTree) × (opens sectors image ≡ Ok tree)
+  pub opens_there : bad_tree v.superblock.geometry (folded_image v image) ≡ None → (tree : ImageTree) × (opens sectors image ≡ Ok tree)
   opens_there whole = (from_entries (walked (volume_in v image)), ap (λ r. tree_from (entries_of r)) is ∙ ap (λ b. tree_from (by_damage (volume_in v image) b)) whole)
 
-  pub opens_not : bad_tree v.head.geometry (folded_image v image) ≡ None → (refusal : Refusal) → opens sectors image ≡ Err refusal → ⊥
+  pub opens_not : bad_tree v.superblock.geometry (folded_image v image) ≡ None → (refusal : Refusal) → opens sectors image ≡ Err refusal → ⊥
   opens_not whole refusal none = let at = opens_there whole in clash at.0 refusal (sym at.1 ∙ none)
 
-  pub may_write_back : (findings : CatalogRead) → HasAdded v.overlay (committed_in v image) → AreFindingsOf v.head.geometry (folded_image v image) findings → bad_tree v.head.geometry (folded_image v image) ≡ None
+  pub may_write_back : (findings : CatalogRead) → HasAdded v.overlay (committed_in v image) → AreFindingsOf v.superblock.geometry (folded_image v image) findings → bad_tree v.superblock.geometry (folded_image v image) ≡ None
       → IsProperImage sectors image → MayWriteBack sectors image v findings
   may_write_back findings added found whole proper = record {
     taken = is;
@@ -148,22 +148,22 @@ module _ (sectors : ℕ) (image : Image) (v : FoldedVolume) (is : volume sectors
     none_later = none_later image (volume_in v image) (proper_of sectors image (volume_in v image) is proper);
   }
 
-  pub is_recovered : v.highest ≡ highest_number (committed_in v image) → (after : Image) → IsWrittenBack sectors v.head.head v.highest after → IsRecovered image after
-  is_recovered highest after written = of (subst (λ h. IsWrittenBack sectors h v.highest after) head_same written)
+  pub is_recovered : v.highest ≡ highest_number (committed_in v image) → (after : Image) → IsWrittenBack sectors v.superblock.superblock v.highest after → IsRecovered image after
+  is_recovered highest after written = of (subst (λ h. IsWrittenBack sectors h v.highest after) superblock_same written)
     where
       is_highest : v.highest ≡ highest_number (log_of image)
       is_highest = highest ∙ ap highest_number log_same
 
-      of : IsWrittenBack sectors (head_of image) v.highest after → IsRecovered image after
+      of : IsWrittenBack sectors (superblock_of image) v.highest after → IsRecovered image after
       of w = record {
-        head = w.head_is;
+        superblock = w.superblock_is;
         known = w.known;
         inodes = w.inodes;
-        logged = (all_below 0 (head_of after).next (log_of image) (subst (λ n. n < (head_of after).next) is_highest w.above)).1;
+        logged = (all_below 0 (superblock_of after).next (log_of image) (subst (λ n. n < (superblock_of after).next) is_highest w.above)).1;
         named = w.named;
       }
 
-pub is_clean : (sectors : ℕ) (state : State) (head : Super) (used : ℕ) → IsSettled state → IsWrittenBack sectors head used (seen state) → IsCleanDisk sectors state
-is_clean sectors state head used settled written =
-    let clean : (head_of (seen state)).clean ≡ true = ap (λ (h : Super). h.clean) written.head_is in
+pub is_clean : (sectors : ℕ) (state : State) (superblock : Super) (used : ℕ) → IsSettled state → IsWrittenBack sectors superblock used (seen state) → IsCleanDisk sectors state
+is_clean sectors state superblock used settled written =
+    let clean : (superblock_of (seen state)).clean ≡ true = ap (λ (h : Super). h.clean) written.superblock_is in
     record { proper = record { settled = settled; proper = written.proper }; clean = clean; empty = none_in_clean sectors (seen state) written.proper clean }

@@ -12,7 +12,7 @@ use Rattle.ufs_image.specs.Agree.{IsOfJournal}
 use Rattle.ufs_image.specs.BadSectors.{bad_sector, first_bad}
 use Rattle.ufs_image.specs.Fold.{folded}
 use Rattle.ufs_image.specs.Journal.{committed, sectors_of_epoch, transactions, well_spelled, committed_of, epoch_in}
-use Rattle.ufs_image.specs.Volume.{volume, volume_of, head_of, head_refusal}
+use Rattle.ufs_image.specs.Volume.{volume, volume_of, superblock_of, superblock_refusal}
 use Rattle.ufs_image.proofs.Empty.{from_range, empty_filter, apart_false}
 use Rattle.ufs_image.proofs.Journals.{is_taken}
 
@@ -29,14 +29,14 @@ module _ (g : Geometry) (epoch : ℕ) (image : Image) (none : (sector : ℕ) →
   pub none_committed : committed g epoch image ≡ []
   none_committed = ap (λ read. map committed_of (transactions (well_spelled read))) none_read
 
-  pub none_bad : (head : Super) → head.epoch ≡ epoch → bad_sector g head image ≡ None
-  none_bad head same = ap (first_bad g head.next image) (ap (λ e. sectors_of_epoch g e image) same ∙ none_read) ∙ find_nothing (journal_sectors g)
+  pub none_bad : (superblock : Super) → superblock.epoch ≡ epoch → bad_sector g superblock image ≡ None
+  none_bad superblock same = ap (first_bad g superblock.next image) (ap (λ e. sectors_of_epoch g e image) same ∙ none_read) ∙ find_nothing (journal_sectors g)
 
 -- So it is taken as it stands.
-pub taken_as_is : (sectors : ℕ) (head : Super) (image : Image) → head_refusal sectors image ≡ None → head_of image ≡ head
-    → ((sector : ℕ) → IsOfJournal (geometry_of head) sector → epoch_in (image sector) ≢ head.epoch)
-    → volume sectors image ≡ Ok (record { head = head; geometry = geometry_of head; image = image })
-taken_as_is sectors head image good heads none =
-    is_taken sectors image good (ap (λ (h : Super). bad_sector (geometry_of h) h image) heads ∙ none_bad (geometry_of head) head.epoch image none head refl)
-    ∙ ap (λ (h : Super). Ok (volume_of h image)) heads
-    ∙ ap (λ log. Ok (record { head = head; geometry = geometry_of head; image = folded (geometry_of head) log image })) (none_committed (geometry_of head) head.epoch image none)
+pub taken_as_is : (sectors : ℕ) (superblock : Super) (image : Image) → superblock_refusal sectors image ≡ None → superblock_of image ≡ superblock
+    → ((sector : ℕ) → IsOfJournal (geometry_of superblock) sector → epoch_in (image sector) ≢ superblock.epoch)
+    → volume sectors image ≡ Ok (record { superblock = superblock; geometry = geometry_of superblock; image = image })
+taken_as_is sectors superblock image good superblocks none =
+    is_taken sectors image good (ap (λ (h : Super). bad_sector (geometry_of h) h image) superblocks ∙ none_bad (geometry_of superblock) superblock.epoch image none superblock refl)
+    ∙ ap (λ (h : Super). Ok (volume_of h image)) superblocks
+    ∙ ap (λ log. Ok (record { superblock = superblock; geometry = geometry_of superblock; image = folded (geometry_of superblock) log image })) (none_committed (geometry_of superblock) superblock.epoch image none)

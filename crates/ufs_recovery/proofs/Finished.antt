@@ -6,7 +6,7 @@ use Rattle.ufs_damage.specs.Taken.{AreTaken}
 use Rattle.ufs_image.specs.Catalog.{IsInode, IsCatalogOf, catalog_at}
 use Rattle.ufs_image.specs.Images.{form_at}
 use Rattle.ufs_image.specs.Nodes.{sound_nodes}
-use Rattle.ufs_image.specs.Volume.{head_of}
+use Rattle.ufs_image.specs.Volume.{superblock_of}
 use Rattle.ufs_image.specs.Walks.{inode_of as met_by}
 use Rattle.ufs_image.proofs.Blamed.{undamaged}
 use Rattle.ufs_image.proofs.Opening.{has_geometry}
@@ -25,11 +25,11 @@ use Rattle.ufs_recovery.specs.Home.{IsOver, MayFollow, HasBegun, MayClose, HasCl
 use Rattle.ufs_recovery.specs.Orphans.{AreOrphans, AreOrphanDirs, IsPruned}
 use Rattle.ufs_recovery.specs.Recovered.{HasNoOrphans}
 use Rattle.ufs_recovery.proofs.Alike.{AgreeBehind, form_alike, nodes_alike, walks_alike, orphans_alike}
-use Rattle.ufs_recovery.proofs.Home.{is_geometry, has_head}
+use Rattle.ufs_recovery.proofs.Home.{is_geometry, has_superblock}
 use Rattle.ufs_recovery.proofs.Moved.{orphans_moved, dirs_moved}
 
-module _ (sectors : ℕ) (head : Super) (before mid : Image) (g : Geometry) (findings : CatalogRead) (numbers dirs : Numbers) (may : MayFinish sectors head before g findings numbers dirs) (pruned : IsPruned sectors head before mid) where
-  pub may_close : (marks : List Bool) → AreTaken g (sound_nodes g mid) marks → MayClose sectors head mid g marks
+module _ (sectors : ℕ) (superblock : Super) (before mid : Image) (g : Geometry) (findings : CatalogRead) (numbers dirs : Numbers) (may : MayFinish sectors superblock before g findings numbers dirs) (pruned : IsPruned sectors superblock before mid) where
+  pub may_close : (marks : List Bool) → AreTaken g (sound_nodes g mid) marks → MayClose sectors superblock mid g marks
   may_close marks taken = record {
     home = pruned.home;
     in_use = may.prune.in_use;
@@ -38,20 +38,20 @@ module _ (sectors : ℕ) (head : Super) (before mid : Image) (g : Geometry) (fin
     numbers = λ k ranged. let same = pruned.numbers k ranged in let less = may.behind k ranged in omega (arith, same, less);
   }
 
-  pub has_finished : (after : Image) → HasClosed sectors head mid after → HasFinished sectors head after
+  pub has_finished : (after : Image) → HasClosed sectors superblock mid after → HasFinished sectors superblock after
   has_finished after closed = record {
     home = closed.home;
     proper = closed.proper;
-    named = orphans_alike (geometry_of head) mid after closed.same pruned.home.is.sound (let least = (is_geometry sectors head mid pruned.home).0.least_inodes in omega (arith, least)) pruned.named;
+    named = orphans_alike (geometry_of superblock) mid after closed.same pruned.home.is.sound (let least = (is_geometry sectors superblock mid pruned.home).0.least_inodes in omega (arith, least)) pruned.named;
     behind = λ k ranged.
-        let same : (form_at (geometry_of head) after k).number ≡ (form_at (geometry_of head) mid k).number = ap (λ (f : InodeForm). f.number) (form_alike (geometry_of head) mid after closed.same k) in
+        let same : (form_at (geometry_of superblock) after k).number ≡ (form_at (geometry_of superblock) mid k).number = ap (λ (f : InodeForm). f.number) (form_alike (geometry_of superblock) mid after closed.same k) in
         let was = pruned.numbers k ranged in let less = may.behind k ranged in omega (arith, same, was, less);
   }
 
 module _ (sectors : ℕ) (image : Image) (v : FoldedVolume) (findings : CatalogRead) (may : MayWriteBack sectors image v findings) where
-  pub over : overlaid.geometry_of v.overlay ≡ v.head.geometry → IsOver sectors image (volume_in v image) v.overlay
+  pub over : overlaid.geometry_of v.overlay ≡ v.superblock.geometry → IsOver sectors image (volume_in v image) v.overlay
   over same =
-      let g = v.head.geometry in
+      let g = v.superblock.geometry in
       let folded = folded_image v image in
       let none = undamaged g folded may.whole in
       let there : IsCatalogOf g folded (catalog_at g folded) = catalog_there g folded (whole_read g folded none) (spelled_all g folded none) in
@@ -63,60 +63,60 @@ module _ (sectors : ℕ) (image : Image) (v : FoldedVolume) (findings : CatalogR
         added = may.added;
       }
 
-  module _ (head : Super) (geometry : geometry_of head ≡ v.head.geometry) (epoch : head.epoch ≡ v.head.head.epoch + 1) (in_use : head.clean ≡ false) where
-    pub may_follow : MayFollow image (volume_in v image) head
+  module _ (superblock : Super) (geometry : geometry_of superblock ≡ v.superblock.geometry) (epoch : superblock.epoch ≡ v.superblock.superblock.epoch + 1) (in_use : superblock.clean ≡ false) where
+    pub may_follow : MayFollow image (volume_in v image) superblock
     may_follow = record { in_use = in_use; geometry = geometry; earlier = λ s of. let most = may.none_later s of in omega (arith, most, epoch) }
 
-    module _ (mid : Image) (begun : HasBegun sectors (volume_in v image) head mid) (numbers dirs : Numbers)
-        (orphans : AreOrphans v.head.geometry (catalog_at v.head.geometry (folded_image v image)) numbers) (orphan_dirs : AreOrphanDirs v.head.geometry (catalog_at v.head.geometry (folded_image v image)) dirs)
-        (below : (k : ℕ) → IsInode v.head.geometry k → (form_at v.head.geometry (folded_image v image) k).number < head.next) where
-      agree : AgreeBehind (geometry_of head) (folded_image v image) mid
+    module _ (mid : Image) (begun : HasBegun sectors (volume_in v image) superblock mid) (numbers dirs : Numbers)
+        (orphans : AreOrphans v.superblock.geometry (catalog_at v.superblock.geometry (folded_image v image)) numbers) (orphan_dirs : AreOrphanDirs v.superblock.geometry (catalog_at v.superblock.geometry (folded_image v image)) dirs)
+        (below : (k : ℕ) → IsInode v.superblock.geometry k → (form_at v.superblock.geometry (folded_image v image) k).number < superblock.next) where
+      agree : AgreeBehind (geometry_of superblock) (folded_image v image) mid
       agree s from = begun.same s (λ zero. omega (arith, zero, from))
 
-      back : v.head.geometry ≡ geometry_of head
+      back : v.superblock.geometry ≡ geometry_of superblock
       back = sym geometry
 
-      some_inodes : 1 ≤ (geometry_of head).inodes
-      some_inodes = let least = (is_geometry sectors head mid begun.home).0.least_inodes in omega (arith, least)
+      some_inodes : 1 ≤ (geometry_of superblock).inodes
+      some_inodes = let least = (is_geometry sectors superblock mid begun.home).0.least_inodes in omega (arith, least)
 
       -- the folded image's walks are those of the image at home
-      walks_back : (names : List (List ℕ)) → met_by (catalog_at (geometry_of head) mid) names ≡ met_by (catalog_at (geometry_of head) (folded_image v image)) names
-      walks_back names = sym (walks_alike (geometry_of head) mid (folded_image v image) (λ s from. sym (agree s from)) begun.home.is.sound some_inodes names)
+      walks_back : (names : List (List ℕ)) → met_by (catalog_at (geometry_of superblock) mid) names ≡ met_by (catalog_at (geometry_of superblock) (folded_image v image)) names
+      walks_back names = sym (walks_alike (geometry_of superblock) mid (folded_image v image) (λ s from. sym (agree s from)) begun.home.is.sound some_inodes names)
 
-      form_back : (k : ℕ) → form_at (geometry_of head) mid k ≡ form_at (geometry_of head) (folded_image v image) k
-      form_back k = form_alike (geometry_of head) (folded_image v image) mid agree k
+      form_back : (k : ℕ) → form_at (geometry_of superblock) mid k ≡ form_at (geometry_of superblock) (folded_image v image) k
+      form_back k = form_alike (geometry_of superblock) (folded_image v image) mid agree k
 
-      pub may_finish : MayFinish sectors head mid v.head.geometry findings numbers dirs
+      pub may_finish : MayFinish sectors superblock mid v.superblock.geometry findings numbers dirs
       may_finish = record {
         prune = record {
           home = begun.home;
           in_use = in_use;
           geometry = back;
-          all = orphans_moved (geometry_of head) (folded_image v image) mid walks_back form_back numbers (subst (λ h. AreOrphans h (catalog_at h (folded_image v image)) numbers) back orphans);
-          all_dirs = dirs_moved (geometry_of head) (folded_image v image) mid walks_back form_back dirs (subst (λ h. AreOrphanDirs h (catalog_at h (folded_image v image)) dirs) back orphan_dirs);
+          all = orphans_moved (geometry_of superblock) (folded_image v image) mid walks_back form_back numbers (subst (λ h. AreOrphans h (catalog_at h (folded_image v image)) numbers) back orphans);
+          all_dirs = dirs_moved (geometry_of superblock) (folded_image v image) mid walks_back form_back dirs (subst (λ h. AreOrphanDirs h (catalog_at h (folded_image v image)) dirs) back orphan_dirs);
         };
-        read = record { read = folded_image v image; are = may.found; nodes = nodes_alike v.head.geometry (folded_image v image) mid (λ s from. begun.same s (λ zero. omega (arith, zero, from))) };
+        read = record { read = folded_image v image; are = may.found; nodes = nodes_alike v.superblock.geometry (folded_image v image) mid (λ s from. begun.same s (λ zero. omega (arith, zero, from))) };
         behind = λ k ranged.
-            let same : (form_at (geometry_of head) mid k).number ≡ (form_at (geometry_of head) (folded_image v image) k).number = ap (λ (f : InodeForm). f.number) (form_back k) in
-            let less : (form_at (geometry_of head) (folded_image v image) k).number < head.next = subst (λ h. IsInode h k → (form_at h (folded_image v image) k).number < head.next) back (below k) ranged in
+            let same : (form_at (geometry_of superblock) mid k).number ≡ (form_at (geometry_of superblock) (folded_image v image) k).number = ap (λ (f : InodeForm). f.number) (form_back k) in
+            let less : (form_at (geometry_of superblock) (folded_image v image) k).number < superblock.next = subst (λ h. IsInode h k → (form_at h (folded_image v image) k).number < superblock.next) back (below k) ranged in
             omega (arith, same, less);
       }
 
-    module _ (after : Image) (used : ℕ) (finished : HasFinished sectors head after) (version : head.version ≡ 1) (known : v.head.head.next ≤ head.next) (above : used < head.next)
-        (of_head : v.head.geometry ≡ geometry_of v.head.head) where
-      heads : head_of after ≡ record head { clean = true }
-      heads = has_head sectors (record head { clean = true }) after finished.home
+    module _ (after : Image) (used : ℕ) (finished : HasFinished sectors superblock after) (version : superblock.version ≡ 1) (known : v.superblock.superblock.next ≤ superblock.next) (above : used < superblock.next)
+        (of_superblock : v.superblock.geometry ≡ geometry_of v.superblock.superblock) where
+      superblocks : superblock_of after ≡ record superblock { clean = true }
+      superblocks = has_superblock sectors (record superblock { clean = true }) after finished.home
 
-      next_is : (head_of after).next ≡ head.next
-      next_is = ap (λ (h : Super). h.next) heads
+      next_is : (superblock_of after).next ≡ superblock.next
+      next_is = ap (λ (h : Super). h.next) superblocks
 
-      same_geometry : geometry_of head ≡ geometry_of v.head.head
-      same_geometry = geometry ∙ of_head
+      same_geometry : geometry_of superblock ≡ geometry_of v.superblock.superblock
+      same_geometry = geometry ∙ of_superblock
 
-      pub is_written : IsWrittenBack sectors v.head.head used after
+      pub is_written : IsWrittenBack sectors v.superblock.superblock used after
       is_written = record {
         proper = finished.proper;
-        head_is = heads ∙ (λ i. record {
+        superblock_is = superblocks ∙ (λ i. record {
           version = version i;
           blocks = (same_geometry i).blocks;
           inodes = (same_geometry i).inodes;
@@ -128,7 +128,7 @@ module _ (sectors : ℕ) (image : Image) (v : FoldedVolume) (findings : CatalogR
         known = omega (arith, known, next_is);
         above = omega (arith, above, next_is);
         inodes = λ k ranged.
-            let less : (form_at (geometry_of v.head.head) after k).number < head.next = subst (λ h. IsInode h k → (form_at h after k).number < head.next) same_geometry (finished.behind k) ranged in
+            let less : (form_at (geometry_of v.superblock.superblock) after k).number < superblock.next = subst (λ h. IsInode h k → (form_at h after k).number < superblock.next) same_geometry (finished.behind k) ranged in
             omega (arith, less, next_is);
         named = subst (λ h. HasNoOrphans h after) same_geometry finished.named;
       }

@@ -17,7 +17,7 @@ use Rattle.ufs_image.specs.Opens.{opens}
 use Rattle.ufs_image.specs.Proper.{IsProperImage}
 use Rattle.ufs_image.specs.Sound.{IsSoundCatalog}
 use Rattle.ufs_image.specs.Standing.{IsVolumeOf}
-use Rattle.ufs_image.specs.Volume.{Volume, volume, head_of, head_refusal}
+use Rattle.ufs_image.specs.Volume.{Volume, volume, superblock_of, superblock_refusal}
 use Rattle.ufs_image.proofs.Blocks.{catalog_same}
 use Rattle.ufs_image.proofs.Holders.{block_in_data}
 use Rattle.ufs_image.proofs.Journals.{taken}
@@ -29,7 +29,7 @@ use Rattle.ufs_image.proofs.Read.{catalog_there}
 use Rattle.ufs_image.proofs.Whole.{sound_whole, whole_sound, whole_read, spelled_all}
 use Rattle.ufs_recovery.specs.Home.{IsAtHome}
 use Rattle.ufs_recovery.proofs.Epochs.{taken_as_is}
-use Rattle.ufs_recovery.proofs.Heads.{new_head, new_good}
+use Rattle.ufs_recovery.proofs.NewSuperblock.{new_superblock, new_good}
 
 -- The catalog that is read off the image is sound, where some catalog of it is.
 pub canonical : (sectors : ℕ) (image : Image) (v : Volume) (c : Catalog) → IsVolumeOf sectors image v c → IsVolumeOf sectors image v (catalog_at v.geometry v.image)
@@ -44,37 +44,37 @@ canonical sectors image v c is =
 pub block_low : (g : Geometry) (c : Catalog) → IsSoundCatalog g c → (k p b : ℕ) → IsInode g k → slice_get (blocks_of (c.forms k)) p ≡ Some b → first_of_data g ≤ b
 block_low g c sound k p b ranged at = (block_in_data g (c.forms k).extents b (sound.in_data k ranged) (in_at_place b (blocks_of (c.forms k)) p at)).0
 
-module _ (sectors : ℕ) (head : Super) (image : Image) (is : IsAtHome sectors head image) where
+module _ (sectors : ℕ) (superblock : Super) (image : Image) (is : IsAtHome sectors superblock image) where
   abbrev g : Geometry
-  g = geometry_of head
+  g = geometry_of superblock
 
-  pub is_geometry : IsGeometry (geometry_of head) × (sector_count (geometry_of head) ≤ sectors)
-  is_geometry = has_geometry sectors image (record { head = head; geometry = geometry_of head; image = image }) is.is.taken
+  pub is_geometry : IsGeometry (geometry_of superblock) × (sector_count (geometry_of superblock) ≤ sectors)
+  is_geometry = has_geometry sectors image (record { superblock = superblock; geometry = geometry_of superblock; image = image }) is.is.taken
 
-  pub has_head : head_of image ≡ head
-  has_head = ap (λ (u : Volume). u.head) (sym (taken sectors image (record { head = head; geometry = geometry_of head; image = image }) is.is.taken).same)
+  pub has_superblock : superblock_of image ≡ superblock
+  has_superblock = ap (λ (u : Volume). u.superblock) (sym (taken sectors image (record { superblock = superblock; geometry = geometry_of superblock; image = image }) is.is.taken).same)
 
   -- The superblock and the journal stand, and another sound catalog is spelled.
-  module _ (mix : Image) (first : mix 0 ≡ image 0) (journal : (sector : ℕ) → IsOfJournal (geometry_of head) sector → mix sector ≡ image sector) where
-    mix_earlier : (sector : ℕ) → IsOfJournal (geometry_of head) sector → epoch_in (mix sector) < head.epoch
-    mix_earlier sector of = subst (λ bytes. epoch_in bytes < head.epoch) (sym (journal sector of)) (is.earlier sector of)
+  module _ (mix : Image) (first : mix 0 ≡ image 0) (journal : (sector : ℕ) → IsOfJournal (geometry_of superblock) sector → mix sector ≡ image sector) where
+    mix_earlier : (sector : ℕ) → IsOfJournal (geometry_of superblock) sector → epoch_in (mix sector) < superblock.epoch
+    mix_earlier sector of = subst (λ bytes. epoch_in bytes < superblock.epoch) (sym (journal sector of)) (is.earlier sector of)
 
-    mix_taken : volume sectors mix ≡ Ok (record { head = head; geometry = geometry_of head; image = mix })
-    mix_taken = taken_as_is sectors head mix
-        (ap (λ b. head_refusal sectors (λ _. b)) first ∙ (taken sectors image (record { head = head; geometry = geometry_of head; image = image }) is.is.taken).head)
-        (ap (λ b. head_of (λ _. b)) first ∙ has_head)
+    mix_taken : volume sectors mix ≡ Ok (record { superblock = superblock; geometry = geometry_of superblock; image = mix })
+    mix_taken = taken_as_is sectors superblock mix
+        (ap (λ b. superblock_refusal sectors (λ _. b)) first ∙ (taken sectors image (record { superblock = superblock; geometry = geometry_of superblock; image = image }) is.is.taken).superblock)
+        (ap (λ b. superblock_of (λ _. b)) first ∙ has_superblock)
         (λ sector of same. let less = mix_earlier sector of in omega (arith, less, same))
 
-    pub stays_home : (d : Catalog) → IsCatalogOf (geometry_of head) mix d → IsSoundCatalog (geometry_of head) d → IsAtHome sectors head mix
+    pub stays_home : (d : Catalog) → IsCatalogOf (geometry_of superblock) mix d → IsSoundCatalog (geometry_of superblock) d → IsAtHome sectors superblock mix
     stays_home d spelled sound = record {
-      is = canonical sectors mix (record { head = head; geometry = geometry_of head; image = mix }) d (record { taken = mix_taken; catalog = spelled; sound = sound });
+      is = canonical sectors mix (record { superblock = superblock; geometry = geometry_of superblock; image = mix }) d (record { taken = mix_taken; catalog = spelled; sound = sound });
       earlier = mix_earlier;
     }
 
 -- An image at home that is in use is proper.
-pub home_proper : (sectors : ℕ) (head : Super) (image : Image) → IsAtHome sectors head image → head.clean ≡ false → IsProperImage sectors image
-home_proper sectors head image home in_use =
-    proper sectors image (record { head = head; geometry = geometry_of head; image = image }) (catalog_at (geometry_of head) image) home.is
+pub home_proper : (sectors : ℕ) (superblock : Super) (image : Image) → IsAtHome sectors superblock image → superblock.clean ≡ false → IsProperImage sectors image
+home_proper sectors superblock image home in_use =
+    proper sectors image (record { superblock = superblock; geometry = geometry_of superblock; image = image }) (catalog_at (geometry_of superblock) image) home.is
     (λ s of. let less = home.earlier s of in omega (arith, less))
     (λ clean. let no : false ≡ true = sym in_use ∙ clean in absurd (grind (arith, no)))
 
@@ -95,8 +95,8 @@ module _ (sectors : ℕ) (image : Image) (v : Volume) (c : Catalog) (is : IsVolu
       let other : after sector ≡ home sector = put_other 0 sector bytes home (λ same. omega (arith, from, same)) in
       subst (λ bytes. epoch_in bytes < new.epoch) (sym other) (earlier sector (subst (λ g. IsOfJournal g sector) kept of))
 
-  after_taken : volume sectors after ≡ Ok (record { head = new; geometry = geometry_of new; image = after })
-  after_taken = taken_as_is sectors new after (new_good sectors image v is.taken new bytes spelled kept home) (new_head sectors image v is.taken new bytes spelled kept home)
+  after_taken : volume sectors after ≡ Ok (record { superblock = new; geometry = geometry_of new; image = after })
+  after_taken = taken_as_is sectors new after (new_good sectors image v is.taken new bytes spelled kept home) (new_superblock sectors image v is.taken new bytes spelled kept home)
       (λ sector of same. let less = after_earlier sector of in omega (arith, less, same))
 
   after_catalog : IsCatalogOf v.geometry after c
@@ -104,16 +104,16 @@ module _ (sectors : ℕ) (image : Image) (v : Volume) (c : Catalog) (is : IsVolu
       (λ k ranged. behind (sector_of_inode v.geometry k) (omega arith))
       (λ s of. let low = block_low v.geometry c is.sound of.dir_block.inode of.dir_block.place of.block of.dir_block.has.in_range of.dir_block.has.there in let at = of.of_block.same in behind s (omega (arith, low, at)))
 
-  after_is : IsVolumeOf sectors after (record { head = new; geometry = geometry_of new; image = after }) c
+  after_is : IsVolumeOf sectors after (record { superblock = new; geometry = geometry_of new; image = after }) c
   after_is = record {
     taken = after_taken;
     catalog = subst (λ g. IsCatalogOf g after c) (sym kept) after_catalog;
     sound = subst (λ g. IsSoundCatalog g c) (sym kept) is.sound;
   }
 
-  pub headed_home : IsAtHome sectors new (put 0 bytes home)
-  headed_home = record { is = canonical sectors after (record { head = new; geometry = geometry_of new; image = after }) c after_is; earlier = after_earlier }
+  pub superblock_put_home : IsAtHome sectors new (put 0 bytes home)
+  superblock_put_home = record { is = canonical sectors after (record { superblock = new; geometry = geometry_of new; image = after }) c after_is; earlier = after_earlier }
 
-  pub headed_tree : opens sectors (put 0 bytes home) ≡ opens sectors image
-  headed_tree = one_tree sectors image after v (record { head = new; geometry = geometry_of new; image = after }) c is after_is kept
+  pub superblock_put_tree : opens sectors (put 0 bytes home) ≡ opens sectors image
+  superblock_put_tree = one_tree sectors image after v (record { superblock = new; geometry = geometry_of new; image = after }) c is after_is kept
       (λ k ranged s of. let low = block_low v.geometry c is.sound k of.place of.block ranged of.there in let at = of.of_block.same in behind s (omega (arith, low, at)))

@@ -20,7 +20,7 @@ use Rattle.ufs_image.specs.Journal.{committed, epoch_in}
 use Rattle.ufs_image.specs.Opens.{ImageTree, opens, walked}
 use Rattle.ufs_image.specs.Proper.{IsProperImage}
 use Rattle.ufs_image.specs.Standing.{IsVolumeOf}
-use Rattle.ufs_image.specs.Volume.{Volume, volume, volume_of, head_of}
+use Rattle.ufs_image.specs.Volume.{Volume, volume, volume_of, superblock_of}
 use Rattle.ufs_image.proofs.Home.{stops_anywhere}
 use Rattle.ufs_image.proofs.Journals.{taken}
 use Rattle.ufs_image.proofs.Mixed.{else_folded}
@@ -57,15 +57,15 @@ journal_unfolded g log image sector of =
 -- ---- the folded image
 
 -- it is what folding makes of the image
-pub volume_image : (sectors : ℕ) (image : Image) (v : Volume) (overlay : Overlay) → IsOver sectors image v overlay → v.image ≡ folded v.geometry (committed v.geometry v.head.epoch image) image
+pub volume_image : (sectors : ℕ) (image : Image) (v : Volume) (overlay : Overlay) → IsOver sectors image v overlay → v.image ≡ folded v.geometry (committed v.geometry v.superblock.epoch image) image
 volume_image sectors image v overlay over =
-    let same : v ≡ volume_of (head_of image) image = (taken sectors image v over.is.taken).same in
-    subst (λ (u : Volume). u.image ≡ folded u.geometry (committed u.geometry u.head.epoch image) image) (sym same) refl
+    let same : v ≡ volume_of (superblock_of image) image = (taken sectors image v over.is.taken).same in
+    subst (λ (u : Volume). u.image ≡ folded u.geometry (committed u.geometry u.superblock.epoch image) image) (sym same) refl
 
 -- with the words of the overlay
 pub folds_to : (sectors : ℕ) (image : Image) (v : Volume) (overlay : Overlay) → IsOver sectors image v overlay
-    → v.image ≡ folded (overlaid.geometry_of overlay) (committed v.geometry v.head.epoch image) image
-folds_to sectors image v overlay over = volume_image sectors image v overlay over ∙ ap (λ g. folded g (committed v.geometry v.head.epoch image) image) (sym over.geometry)
+    → v.image ≡ folded (overlaid.geometry_of overlay) (committed v.geometry v.superblock.epoch image) image
+folds_to sectors image v overlay over = volume_image sectors image v overlay over ∙ ap (λ g. folded g (committed v.geometry v.superblock.epoch image) image) (sym over.geometry)
 
 -- ---- proper
 
@@ -78,31 +78,31 @@ module _ (sectors : ℕ) (before image : Image) (v : Volume) (is : volume sector
   now : (w : Volume) × IsVolumeOf sectors image w (catalog_at w.geometry w.image) × (tree_before.0 ≡ from_entries (walked w))
   now = by_catalog sectors image tree_before.0 (same ∙ tree_before.1)
 
-  same_head : now.0.head ≡ v.head
-  same_head = ap (λ (u : Volume). u.head) (taken sectors image now.0 now.1.taken).same ∙ ap (λ b. head_of (λ _. b)) first ∙ sym (ap (λ (u : Volume). u.head) (taken sectors before v is).same)
+  same_superblock : now.0.superblock ≡ v.superblock
+  same_superblock = ap (λ (u : Volume). u.superblock) (taken sectors image now.0 now.1.taken).same ∙ ap (λ b. superblock_of (λ _. b)) first ∙ sym (ap (λ (u : Volume). u.superblock) (taken sectors before v is).same)
 
   same_geometry : now.0.geometry ≡ v.geometry
-  same_geometry = ap (λ (u : Volume). u.geometry) (taken sectors image now.0 now.1.taken).same ∙ ap (λ b. geometry_of (head_of (λ _. b))) first ∙ sym (ap (λ (u : Volume). u.geometry) (taken sectors before v is).same)
+  same_geometry = ap (λ (u : Volume). u.geometry) (taken sectors image now.0 now.1.taken).same ∙ ap (λ b. geometry_of (superblock_of (λ _. b))) first ∙ sym (ap (λ (u : Volume). u.geometry) (taken sectors before v is).same)
 
-  none_later_now : (sector : ℕ) → IsOfJournal now.0.geometry sector → epoch_in (image sector) ≤ now.0.head.epoch
+  none_later_now : (sector : ℕ) → IsOfJournal now.0.geometry sector → epoch_in (image sector) ≤ now.0.superblock.epoch
   none_later_now sector of =
       let here = subst (λ g. IsOfJournal g sector) same_geometry of in
       let most = none_later before v (proper_of sectors before v is was) sector here in
       let epoch : epoch_in (image sector) ≡ epoch_in (before sector) = ap epoch_in (journal sector here) in
-      let later : now.0.head.epoch ≡ v.head.epoch = ap (λ (h : Super). h.epoch) same_head in
+      let later : now.0.superblock.epoch ≡ v.superblock.epoch = ap (λ (h : Super). h.epoch) same_superblock in
       omega (arith, most, epoch, later)
 
   -- nothing of a clean image is to be written home
-  nothing_home : v.head.clean ≡ true → (sector : ℕ) → v.image sector ≡ before sector
+  nothing_home : v.superblock.clean ≡ true → (sector : ℕ) → v.image sector ≡ before sector
   nothing_home clean sector =
       let at = (taken sectors before v is).same in
-      let clean_head : (head_of before).clean ≡ true = sym (ap (λ (u : Volume). u.head.clean) at) ∙ clean in
-      ap (λ (u : Volume). u.image sector) at ∙ ap (λ log. folded (geometry_of (head_of before)) log before sector) (none_in_clean sectors before was clean_head)
+      let clean_superblock : (superblock_of before).clean ≡ true = sym (ap (λ (u : Volume). u.superblock.clean) at) ∙ clean in
+      ap (λ (u : Volume). u.image sector) at ∙ ap (λ log. folded (geometry_of (superblock_of before)) log before sector) (none_in_clean sectors before was clean_superblock)
 
   pub mix_proper : IsProperImage sectors image
-  mix_proper = by v.head.clean refl
+  mix_proper = by v.superblock.clean refl
     where
-      by : (b : Bool) → v.head.clean ≡ b → IsProperImage sectors image
+      by : (b : Bool) → v.superblock.clean ≡ b → IsProperImage sectors image
       by true clean = subst (λ (d : Image). IsProperImage sectors d) all was
         where
           each : (sector : ℕ) → (image sector ≡ before sector) ⊎ (image sector ≡ v.image sector) → image sector ≡ before sector
@@ -113,7 +113,7 @@ module _ (sectors : ℕ) (before image : Image) (v : Volume) (is : volume sector
           all = λ i sector. sym (each sector (mixed sector)) i
       by false in_use =
           proper sectors image now.0 (catalog_at now.0.geometry now.0.image) now.1 none_later_now
-          (λ clean. let no : false ≡ true = sym in_use ∙ sym (ap (λ (h : Super). h.clean) same_head) ∙ clean in absurd (grind (arith, no)))
+          (λ clean. let no : false ≡ true = sym in_use ∙ sym (ap (λ (h : Super). h.clean) same_superblock) ∙ clean in absurd (grind (arith, no)))
 
 -- ---- written home
 
@@ -122,27 +122,27 @@ module _ (sectors : ℕ) (state : State) (v : Volume) (overlay : Overlay) (over 
   sized sector less = whole.within sector less (seen state sector) (seen_is_image state sector)
 
   -- Whatever of it is home, a crash leaves the same tree.
-  pub home_tree : (image : Image) → IsHomeWritten (overlaid.geometry_of overlay) (committed v.geometry v.head.epoch (seen state)) state image → OpensAlike sectors (seen state) image
+  pub home_tree : (image : Image) → IsHomeWritten (overlaid.geometry_of overlay) (committed v.geometry v.superblock.epoch (seen state)) state image → OpensAlike sectors (seen state) image
   home_tree image from = record { tree = same_tree; proper = mix_proper sectors (seen state) image v over.is.taken first journal (λ s. mixed s (from.mixed s)) same_tree }
     where
       was : from.before ≡ seen state
       was = settled from.before from.left
 
-      by : (s : ℕ) → (image s ≡ from.before s) ⊎ (image s ≡ folded (overlaid.geometry_of overlay) (committed v.geometry v.head.epoch (seen state)) from.before s)
-          → folded (overlaid.geometry_of overlay) (committed v.geometry v.head.epoch (seen state)) (seen state) s ≡ seen state s → image s ≡ seen state s
+      by : (s : ℕ) → (image s ≡ from.before s) ⊎ (image s ≡ folded (overlaid.geometry_of overlay) (committed v.geometry v.superblock.epoch (seen state)) from.before s)
+          → folded (overlaid.geometry_of overlay) (committed v.geometry v.superblock.epoch (seen state)) (seen state) s ≡ seen state s → image s ≡ seen state s
       by s (inl e) still = e ∙ ap (λ (d : Image). d s) was
-      by s (inr e) still = e ∙ ap (λ (d : Image). folded (overlaid.geometry_of overlay) (committed v.geometry v.head.epoch (seen state)) d s) was ∙ still
+      by s (inr e) still = e ∙ ap (λ (d : Image). folded (overlaid.geometry_of overlay) (committed v.geometry v.superblock.epoch (seen state)) d s) was ∙ still
 
-      mixed : (s : ℕ) → (image s ≡ from.before s) ⊎ (image s ≡ folded (overlaid.geometry_of overlay) (committed v.geometry v.head.epoch (seen state)) from.before s)
+      mixed : (s : ℕ) → (image s ≡ from.before s) ⊎ (image s ≡ folded (overlaid.geometry_of overlay) (committed v.geometry v.superblock.epoch (seen state)) from.before s)
           → (image s ≡ seen state s) ⊎ (image s ≡ v.image s)
       mixed s (inl e) = inl (e ∙ ap (λ (d : Image). d s) was)
-      mixed s (inr e) = inr (e ∙ ap (λ (d : Image). folded (overlaid.geometry_of overlay) (committed v.geometry v.head.epoch (seen state)) d s) was ∙ ap (λ (d : Image). d s) (sym (folds_to sectors (seen state) v overlay over)))
+      mixed s (inr e) = inr (e ∙ ap (λ (d : Image). folded (overlaid.geometry_of overlay) (committed v.geometry v.superblock.epoch (seen state)) d s) was ∙ ap (λ (d : Image). d s) (sym (folds_to sectors (seen state) v overlay over)))
 
       first : image 0 ≡ seen state 0
-      first = by 0 (from.mixed 0) (zero_unfolded (overlaid.geometry_of overlay) (committed v.geometry v.head.epoch (seen state)) (seen state))
+      first = by 0 (from.mixed 0) (zero_unfolded (overlaid.geometry_of overlay) (committed v.geometry v.superblock.epoch (seen state)) (seen state))
 
       journal : (s : ℕ) → IsOfJournal v.geometry s → image s ≡ seen state s
-      journal s of = by s (from.mixed s) (journal_unfolded (overlaid.geometry_of overlay) (committed v.geometry v.head.epoch (seen state)) (seen state) s (subst (λ g. IsOfJournal g s) (sym over.geometry) of))
+      journal s of = by s (from.mixed s) (journal_unfolded (overlaid.geometry_of overlay) (committed v.geometry v.superblock.epoch (seen state)) (seen state) s (subst (λ g. IsOfJournal g s) (sym over.geometry) of))
 
       same_tree : opens sectors image ≡ opens sectors (seen state)
       same_tree = stops_anywhere sectors (seen state) image v (catalog_at v.geometry v.image) sized over.is first (λ s low under. journal s (record { from = low; below = under })) (λ s low. mixed s (from.mixed s))

@@ -1,8 +1,8 @@
 pub mod Epochs
-pub mod Heads
+pub mod NewSuperblock
 pub mod Home
 pub mod Pruned
-pub mod Headed
+pub mod SuperblockPut
 pub mod Homing
 pub mod OneMore
 pub mod Clears

@@ -8,7 +8,7 @@ use Rattle.ufs_image.specs.Damage.{bad_tree}
 use Rattle.ufs_image.specs.Images.{form_at}
 use Rattle.ufs_image.specs.Journal.{epoch_in}
 use Rattle.ufs_image.specs.Proper.{IsProperImage}
-use Rattle.ufs_image.specs.Volume.{head_of, volume}
+use Rattle.ufs_image.specs.Volume.{superblock_of, volume}
 use Rattle.ufs_layout.specs.Superblock.{geometry_of}
 use Rattle.ufs_layout.specs.declared.geometry.Geometry.{Geometry}
 use Rattle.ufs_layout.specs.declared.superblock.Super.{Super}
@@ -21,32 +21,32 @@ use Rattle.ufs_recovery.specs.Orphans.{IsReadOf, MayPrune}
 use Rattle.ufs_recovery.specs.Recovered.{HasNoOrphans}
 
 -- Orphans may be freed, the findings tell the used blocks, and the commit numbers are behind.
-pub record MayFinish (sectors : ℕ) (head : Super) (image : Image) (g : Geometry) (findings : CatalogRead) (numbers dirs : Numbers) : Type 0 where
-  pub prune : MayPrune sectors head image g numbers dirs
+pub record MayFinish (sectors : ℕ) (superblock : Super) (image : Image) (g : Geometry) (findings : CatalogRead) (numbers dirs : Numbers) : Type 0 where
+  pub prune : MayPrune sectors superblock image g numbers dirs
   pub read : IsReadOf g image findings
-  pub behind : (inode : ℕ) → IsInode (geometry_of head) inode → (form_at (geometry_of head) image inode).number < head.next
+  pub behind : (inode : ℕ) → IsInode (geometry_of superblock) inode → (form_at (geometry_of superblock) image inode).number < superblock.next
 
 -- The image is clean and proper, without orphans, and the commit numbers are behind.
-pub record HasFinished (sectors : ℕ) (head : Super) (after : Image) : Type 0 where
-  pub home : IsAtHome sectors (record head { clean = true }) after
+pub record HasFinished (sectors : ℕ) (superblock : Super) (after : Image) : Type 0 where
+  pub home : IsAtHome sectors (record superblock { clean = true }) after
   pub proper : IsProperImage sectors after
-  pub named : HasNoOrphans (geometry_of head) after
-  pub behind : (inode : ℕ) → IsInode (geometry_of head) inode → (form_at (geometry_of head) after inode).number < head.next
+  pub named : HasNoOrphans (geometry_of superblock) after
+  pub behind : (inode : ℕ) → IsInode (geometry_of superblock) inode → (form_at (geometry_of superblock) after inode).number < superblock.next
 
 -- This is the volume of the image and what was read of it, undamaged, and no sector of the journal is of a later epoch.
 pub record MayWriteBack (sectors : ℕ) (image : Image) (v : FoldedVolume) (findings : CatalogRead) : Type 0 where
   pub taken : volume sectors image ≡ Ok (volume_in v image)
   pub added : HasAdded v.overlay (committed_in v image)
-  pub found : AreFindingsOf v.head.geometry (folded_image v image) findings
-  pub whole : bad_tree v.head.geometry (folded_image v image) ≡ None
-  pub none_later : (sector : ℕ) → IsOfJournal v.head.geometry sector → epoch_in (image sector) ≤ v.head.head.epoch
+  pub found : AreFindingsOf v.superblock.geometry (folded_image v image) findings
+  pub whole : bad_tree v.superblock.geometry (folded_image v image) ≡ None
+  pub none_later : (sector : ℕ) → IsOfJournal v.superblock.geometry sector → epoch_in (image sector) ≤ v.superblock.superblock.epoch
 
 -- The image is clean and proper in the next epoch, without orphans, and its next commit number is above this one, which was
 -- used.
-pub record IsWrittenBack (sectors : ℕ) (head : Super) (used : ℕ) (after : Image) : Type 0 where
+pub record IsWrittenBack (sectors : ℕ) (superblock : Super) (used : ℕ) (after : Image) : Type 0 where
   pub proper : IsProperImage sectors after
-  pub head_is : head_of after ≡ record head { version = 1; epoch = head.epoch + 1; next = (head_of after).next; clean = true }
-  pub known : head.next ≤ (head_of after).next
-  pub above : used < (head_of after).next
-  pub inodes : (inode : ℕ) → IsInode (geometry_of head) inode → (form_at (geometry_of head) after inode).number < (head_of after).next
-  pub named : HasNoOrphans (geometry_of head) after
+  pub superblock_is : superblock_of after ≡ record superblock { version = 1; epoch = superblock.epoch + 1; next = (superblock_of after).next; clean = true }
+  pub known : superblock.next ≤ (superblock_of after).next
+  pub above : used < (superblock_of after).next
+  pub inodes : (inode : ℕ) → IsInode (geometry_of superblock) inode → (form_at (geometry_of superblock) after inode).number < (superblock_of after).next
+  pub named : HasNoOrphans (geometry_of superblock) after

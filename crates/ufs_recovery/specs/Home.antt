@@ -22,15 +22,15 @@ use Rattle.ufs_image.specs.Volume.{Volume}
 
 -- The image is taken with this superblock as it stands, with a sound catalog, and each sector of its journal is of an earlier
 -- epoch.
-pub record IsAtHome (sectors : ℕ) (head : Super) (image : Image) : Type 0 where
-  pub is : IsVolumeOf sectors image (record { head = head; geometry = geometry_of head; image = image }) (catalog_at (geometry_of head) image)
-  pub earlier : (sector : ℕ) → IsOfJournal (geometry_of head) sector → epoch_in (image sector) < head.epoch
+pub record IsAtHome (sectors : ℕ) (superblock : Super) (image : Image) : Type 0 where
+  pub is : IsVolumeOf sectors image (record { superblock = superblock; geometry = geometry_of superblock; image = image }) (catalog_at (geometry_of superblock) image)
+  pub earlier : (sector : ℕ) → IsOfJournal (geometry_of superblock) sector → epoch_in (image sector) < superblock.epoch
 
 -- The image is taken with a sound catalog, and the overlay has what is committed in it.
 pub record IsOver (sectors : ℕ) (image : Image) (v : Volume) (overlay : Overlay) : Type 0 where
   pub is : IsVolumeOf sectors image v (catalog_at v.geometry v.image)
   pub geometry : overlaid.geometry_of overlay ≡ v.geometry
-  pub added : overlaid.HasAdded overlay (committed v.geometry v.head.epoch image)
+  pub added : overlaid.HasAdded overlay (committed v.geometry v.superblock.epoch image)
 
 -- All that is committed in an image is home, no sector of the journal is of this superblock's epoch or of a later one, and
 -- with this superblock it is proper.
@@ -68,15 +68,15 @@ pub record HasBegun (sectors : ℕ) (v : Volume) (new : Super) (image : Image) :
 
 -- The image is in use and may be marked clean by these marks: they are those of the used blocks, and the commit numbers are
 -- behind.
-pub record MayClose (sectors : ℕ) (head : Super) (image : Image) (g : Geometry) (marks : List Bool) : Type 0 where
-  pub home : IsAtHome sectors head image
-  pub in_use : head.clean ≡ false
-  pub geometry : g ≡ geometry_of head
-  pub taken : AreTaken (geometry_of head) (sound_nodes (geometry_of head) image) marks
-  pub numbers : (inode : ℕ) → IsInode (geometry_of head) inode → (form_at (geometry_of head) image inode).number < head.next
+pub record MayClose (sectors : ℕ) (superblock : Super) (image : Image) (g : Geometry) (marks : List Bool) : Type 0 where
+  pub home : IsAtHome sectors superblock image
+  pub in_use : superblock.clean ≡ false
+  pub geometry : g ≡ geometry_of superblock
+  pub taken : AreTaken (geometry_of superblock) (sound_nodes (geometry_of superblock) image) marks
+  pub numbers : (inode : ℕ) → IsInode (geometry_of superblock) inode → (form_at (geometry_of superblock) image inode).number < superblock.next
 
 -- It is clean and proper, and the same from the inode table on.
-pub record HasClosed (sectors : ℕ) (head : Super) (before after : Image) : Type 0 where
-  pub home : IsAtHome sectors (record head { clean = true }) after
+pub record HasClosed (sectors : ℕ) (superblock : Super) (before after : Image) : Type 0 where
+  pub home : IsAtHome sectors (record superblock { clean = true }) after
   pub proper : IsProperImage sectors after
-  pub same : (sector : ℕ) → SECTORS_PER_BLOCK * first_of_inodes (geometry_of head) ≤ sector → after sector ≡ before sector
+  pub same : (sector : ℕ) → SECTORS_PER_BLOCK * first_of_inodes (geometry_of superblock) ≤ sector → after sector ≡ before sector

@@ -35,27 +35,27 @@ pub record AreOrphanDirs (g : Geometry) (c : Catalog) (numbers : Numbers) : Type
   pub others : (place : ℕ) → slice_get numbers place ≡ Some None → IsReached c (place + 1) ⊎ ((c.forms (place + 1)).kind ≢ 2)
 
 -- The image is at home and in use, and these numbers stand for its orphans and for the directories among them.
-pub record MayPrune (sectors : ℕ) (head : Super) (image : Image) (g : Geometry) (numbers dirs : Numbers) : Type 0 where
-  pub home : IsAtHome sectors head image
-  pub in_use : head.clean ≡ false
-  pub geometry : g ≡ geometry_of head
-  pub all : AreOrphans (geometry_of head) (catalog_at (geometry_of head) image) numbers
-  pub all_dirs : AreOrphanDirs (geometry_of head) (catalog_at (geometry_of head) image) dirs
+pub record MayPrune (sectors : ℕ) (superblock : Super) (image : Image) (g : Geometry) (numbers dirs : Numbers) : Type 0 where
+  pub home : IsAtHome sectors superblock image
+  pub in_use : superblock.clean ≡ false
+  pub geometry : g ≡ geometry_of superblock
+  pub all : AreOrphans (geometry_of superblock) (catalog_at (geometry_of superblock) image) numbers
+  pub all_dirs : AreOrphanDirs (geometry_of superblock) (catalog_at (geometry_of superblock) image) dirs
 
 -- It is at home still, without orphans, and each inode has the commit number that it had.
-pub record IsPruned (sectors : ℕ) (head : Super) (before after : Image) : Type 0 where
-  pub home : IsAtHome sectors head after
-  pub named : HasNoOrphans (geometry_of head) after
-  pub numbers : (inode : ℕ) → IsInode (geometry_of head) inode → (form_at (geometry_of head) after inode).number ≡ (form_at (geometry_of head) before inode).number
+pub record IsPruned (sectors : ℕ) (superblock : Super) (before after : Image) : Type 0 where
+  pub home : IsAtHome sectors superblock after
+  pub named : HasNoOrphans (geometry_of superblock) after
+  pub numbers : (inode : ℕ) → IsInode (geometry_of superblock) inode → (form_at (geometry_of superblock) after inode).number ≡ (form_at (geometry_of superblock) before inode).number
 
 -- If these numbers stood for the orphans, they are freed.
 abbrev pub AreFreed : (sectors : ℕ) → Geometry → (numbers dirs : Numbers) → (before after : Image) → Type 0
-AreFreed sectors g numbers dirs before after = (head : Super) → MayPrune sectors head before g numbers dirs → IsPruned sectors head before after
+AreFreed sectors g numbers dirs before after = (superblock : Super) → MayPrune sectors superblock before g numbers dirs → IsPruned sectors superblock before after
 
 -- Meanwhile the tree is kept.
 abbrev pub KeepsTreeFreeing : Bool → (sectors : ℕ) → Geometry → (numbers dirs : Numbers) → Moments → Moments → Type 0
 KeepsTreeFreeing keeps sectors g numbers dirs old new =
-    IsSettled old.state → (head : Super) → MayPrune sectors head (reads old) g numbers dirs → KeepsTree keeps sectors old new
+    IsSettled old.state → (superblock : Super) → MayPrune sectors superblock (reads old) g numbers dirs → KeepsTree keeps sectors old new
 
 -- ---- what is read of them
 

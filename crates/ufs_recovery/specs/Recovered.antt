@@ -11,7 +11,7 @@ use Rattle.ufs_image.specs.Changes.{IsReached}
 use Rattle.ufs_image.specs.Images.{form_at}
 use Rattle.ufs_image.specs.Journal.{committed}
 use Rattle.ufs_image.specs.Proper.{IsProperImage}
-use Rattle.ufs_image.specs.Volume.{head_of}
+use Rattle.ufs_image.specs.Volume.{superblock_of}
 
 -- Nothing is pending, and what the disk reads is proper.
 pub record IsProperDisk (sectors : ℕ) (state : State) : Type 0 where
@@ -20,7 +20,7 @@ pub record IsProperDisk (sectors : ℕ) (state : State) : Type 0 where
 
 -- the transactions that are committed in the journal
 abbrev pub log_of : Image → List Committed
-log_of image = committed (geometry_of (head_of image)) (head_of image).epoch image
+log_of image = committed (geometry_of (superblock_of image)) (superblock_of image).epoch image
 
 -- Each used inode is met by a walk from the root.
 abbrev pub HasNoOrphans : Geometry → Image → Type 0
@@ -29,14 +29,14 @@ HasNoOrphans g image = (inode : ℕ) → IsInode g inode → (form_at g image in
 -- What was in use is clean, in the next epoch, its next commit number is above those of all inodes and of all transactions that
 -- were committed, and no inode is used without a name.
 pub record IsRecovered (before after : Image) : Type 0 where
-  pub head : head_of after ≡ record (head_of before) { version = 1; epoch = (head_of before).epoch + 1; next = (head_of after).next; clean = true }
-  pub known : (head_of before).next ≤ (head_of after).next
-  pub inodes : (inode : ℕ) → IsInode (geometry_of (head_of before)) inode → (form_at (geometry_of (head_of before)) after inode).number < (head_of after).next
-  pub logged : AllByRecursion (λ (c : Committed). c.number < (head_of after).next) (log_of before)
-  pub named : HasNoOrphans (geometry_of (head_of before)) after
+  pub superblock : superblock_of after ≡ record (superblock_of before) { version = 1; epoch = (superblock_of before).epoch + 1; next = (superblock_of after).next; clean = true }
+  pub known : (superblock_of before).next ≤ (superblock_of after).next
+  pub inodes : (inode : ℕ) → IsInode (geometry_of (superblock_of before)) inode → (form_at (geometry_of (superblock_of before)) after inode).number < (superblock_of after).next
+  pub logged : AllByRecursion (λ (c : Committed). c.number < (superblock_of after).next) (log_of before)
+  pub named : HasNoOrphans (geometry_of (superblock_of before)) after
 
 -- Nothing is pending, what the disk reads is proper and marked clean, and nothing is committed in its epoch.
 pub record IsCleanDisk (sectors : ℕ) (state : State) : Type 0 where
   pub proper : IsProperDisk sectors state
-  pub clean : (head_of (seen state)).clean ≡ true
+  pub clean : (superblock_of (seen state)).clean ≡ true
   pub empty : log_of (seen state) ≡ []

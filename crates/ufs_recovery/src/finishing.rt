@@ -31,13 +31,13 @@ fn finish<D: Disk>(
     requires read { length findings.now.forms ≡ geometry.now.inodes }
     requires counted { length plan.now.orphans.numbers.items ≡ geometry.now.inodes }
     requires counted_dirs { length plan.now.orphans.dirs.items ≡ geometry.now.inodes }
-    requires form { IsTrue (is_super 1 plan.now.head) }
+    requires form { IsTrue (is_super 1 plan.now.superblock) }
     ensures settled { IsTrue D.tells → OnOk result (IsSettled (D.moments disk.new).state) }
     ensures finished { IsTrue D.tells → OnOk result (IsSettled (D.moments disk.old).state
-        → MayFinish (D.size disk.old) plan.now.head (reads (D.moments disk.old)) geometry.now findings.now plan.now.orphans.numbers.items plan.now.orphans.dirs.items
-        → HasFinished (D.size disk.old) plan.now.head (reads (D.moments disk.new))) }
+        → MayFinish (D.size disk.old) plan.now.superblock (reads (D.moments disk.old)) geometry.now findings.now plan.now.orphans.numbers.items plan.now.orphans.dirs.items
+        → HasFinished (D.size disk.old) plan.now.superblock (reads (D.moments disk.new))) }
     ensures tree { IsTrue D.tells → IsSettled (D.moments disk.old).state
-        → MayFinish (D.size disk.old) plan.now.head (reads (D.moments disk.old)) geometry.now findings.now plan.now.orphans.numbers.items plan.now.orphans.dirs.items
+        → MayFinish (D.size disk.old) plan.now.superblock (reads (D.moments disk.old)) geometry.now findings.now plan.now.orphans.numbers.items plan.now.orphans.dirs.items
         → KeepsTree D.keeps (D.size disk.old) (D.moments disk.old) (D.moments disk.new) }
     ensures size { D.size disk.new ≡ D.size disk.old }
     ensures passed { OnOk result (D.faults disk.new ≡ D.faults disk.old) }
@@ -45,7 +45,7 @@ fn finish<D: Disk>(
     ensures outside { IfErr result IsOutside }
 {
     let taken = free_orphans(alloc, disk, geometry, findings, &plan.orphans)?;
-    match close(disk, geometry, &taken, &plan.head) {
+    match close(disk, geometry, &taken, &plan.superblock) {
         Ok(()) => Ok(()),
         Err(fault) => Err(RecoverFault::Device {
             fault: fault.number,
@@ -61,11 +61,11 @@ pub(crate) fn write_back<D: Disk>(
     volume: &FoldedVolume,
     findings: &Findings,
 ) -> Result<(), RecoverFault>
-    requires large { sector_count volume.now.head.geometry ≤ D.size disk.old }
-    requires read { length findings.now.forms ≡ volume.now.head.geometry.inodes }
+    requires large { sector_count volume.now.superblock.geometry ≤ D.size disk.old }
+    requires read { length findings.now.forms ≡ volume.now.superblock.geometry.inodes }
     ensures settled { IsTrue D.tells → OnOk result (IsSettled (D.moments disk.new).state) }
     ensures written { IsTrue D.tells → OnOk result (IsSettled (D.moments disk.old).state → MayWriteBack (D.size disk.old) (reads (D.moments disk.old)) volume.now findings.now
-        → IsWrittenBack (D.size disk.old) volume.now.head.head volume.now.highest (reads (D.moments disk.new))) }
+        → IsWrittenBack (D.size disk.old) volume.now.superblock.superblock volume.now.highest (reads (D.moments disk.new))) }
     ensures tree { IsTrue D.tells → IsSettled (D.moments disk.old).state → MayWriteBack (D.size disk.old) (reads (D.moments disk.old)) volume.now findings.now
         → KeepsTree D.keeps (D.size disk.old) (D.moments disk.old) (D.moments disk.new) }
     ensures size { D.size disk.new ≡ D.size disk.old }
@@ -73,11 +73,11 @@ pub(crate) fn write_back<D: Disk>(
     ensures cause { IfErr result (HasFaultCause (D.faults disk.old) (D.faults disk.new)) }
     ensures outside { IfErr result IsOutside }
 {
-    let Ok(plan) = make_plan(alloc, &volume.head, findings, volume.highest) else {
+    let Ok(plan) = make_plan(alloc, &volume.superblock, findings, volume.highest) else {
         return Err(RecoverFault::Memory);
     };
-    match begin(disk, &volume.overlay, &plan.head) {
-        Ok(()) => finish(alloc, disk, &volume.head.geometry, findings, &plan),
+    match begin(disk, &volume.overlay, &plan.superblock) {
+        Ok(()) => finish(alloc, disk, &volume.superblock.geometry, findings, &plan),
         Err(fault) => Err(RecoverFault::Device {
             fault: fault.number,
         }),

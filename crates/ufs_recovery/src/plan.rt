@@ -11,10 +11,10 @@ ghost use Rattle.ufs_recovery.specs.Orphans.{AreOrphanDirs, AreOrphans};
 
 use crate::orphans::{find_orphans, highest_number};
 use crate::pruning::Orphans;
-use crate::superblocks::next_head;
+use crate::superblocks::next_superblock;
 use std::alloc::Global;
 use ufs_base::Memory;
-use ufs_catalog::ImageHead;
+use ufs_catalog::ImageSuperblock;
 use ufs_damage::Findings;
 use ufs_layout::Super;
 use ufs_walk::reached_inodes;
@@ -23,14 +23,14 @@ use ufs_walk::reached_inodes;
 #[derive(Drop)]
 pub(crate) struct Plan {
     pub(crate) orphans: Orphans,
-    pub(crate) head: Super,
+    pub(crate) superblock: Super,
 }
 
 // The plan for an undamaged image whose commit numbers outside of the inodes are at most `used`. Where the epochs
 // or the commit numbers end, it is refused as by want of memory.
 pub(crate) fn make_plan(
     alloc: Global,
-    image: &ImageHead,
+    image: &ImageSuperblock,
     findings: &Findings,
     used: u64,
 ) -> Result<Plan, Memory>
@@ -39,20 +39,23 @@ pub(crate) fn make_plan(
     ensures counted_dirs { IfOk result (λ p. length p.orphans.dirs.items ≡ image.now.geometry.inodes) }
     ensures orphans { IfOk result (λ p. (folded : Image) → AreFindingsOf image.now.geometry folded findings.now → bad_tree image.now.geometry folded ≡ None → AreOrphans image.now.geometry (catalog_at image.now.geometry folded) p.orphans.numbers.items) }
     ensures dirs { IfOk result (λ p. (folded : Image) → AreFindingsOf image.now.geometry folded findings.now → bad_tree image.now.geometry folded ≡ None → AreOrphanDirs image.now.geometry (catalog_at image.now.geometry folded) p.orphans.dirs.items) }
-    ensures epoch { IfOk result (λ p. p.head.epoch ≡ image.now.head.epoch + 1) }
-    ensures geometry { IfOk result (λ p. geometry_of p.head ≡ image.now.geometry) }
-    ensures version { IfOk result (λ p. p.head.version ≡ 1) }
-    ensures form { IfOk result (λ p. IsTrue (is_super 1 p.head)) }
-    ensures in_use { IfOk result (λ p. p.head.clean ≡ false) }
-    ensures known { IfOk result (λ p. image.now.head.next ≤ p.head.next) }
-    ensures above { IfOk result (λ p. used < p.head.next) }
-    ensures inodes { IfOk result (λ p. (folded : Image) → AreFindingsOf image.now.geometry folded findings.now → (inode : ℕ) → IsInode image.now.geometry inode → (form_at image.now.geometry folded inode).number < p.head.next) }
+    ensures epoch { IfOk result (λ p. p.superblock.epoch ≡ image.now.superblock.epoch + 1) }
+    ensures geometry { IfOk result (λ p. geometry_of p.superblock ≡ image.now.geometry) }
+    ensures version { IfOk result (λ p. p.superblock.version ≡ 1) }
+    ensures form { IfOk result (λ p. IsTrue (is_super 1 p.superblock)) }
+    ensures in_use { IfOk result (λ p. p.superblock.clean ≡ false) }
+    ensures known { IfOk result (λ p. image.now.superblock.next ≤ p.superblock.next) }
+    ensures above { IfOk result (λ p. used < p.superblock.next) }
+    ensures inodes { IfOk result (λ p. (folded : Image) → AreFindingsOf image.now.geometry folded findings.now → (inode : ℕ) → IsInode image.now.geometry inode → (form_at image.now.geometry folded inode).number < p.superblock.next) }
 {
     let reached = reached_inodes(alloc, findings, &image.geometry)?;
     let orphans = find_orphans(alloc, findings.forms(), reached.as_slice())?;
     let highest = used.max(highest_number(findings.forms()));
-    match next_head(&image.head, highest) {
-        Some(head) => Ok(Plan { orphans, head }),
+    match next_superblock(&image.superblock, highest) {
+        Some(superblock) => Ok(Plan {
+            orphans,
+            superblock,
+        }),
         None => Err(Memory),
     }
 }

@@ -4,7 +4,7 @@ ghost use Rattle.ufs_catalog.specs.Reading.{IsReadOnly};
 ghost use Rattle.ufs_disk.specs.Moments.{reads};
 ghost use Rattle.ufs_image.specs.Opens.{ImageTree, opens};
 ghost use Rattle.ufs_image.specs.Proper.{IsProperImage};
-ghost use Rattle.ufs_image.specs.Volume.{Refusal, head_of};
+ghost use Rattle.ufs_image.specs.Volume.{Refusal, superblock_of};
 ghost use Rattle.ufs_opening.specs.Told.{TellsWhy};
 ghost use Rattle.ufs_recovery.specs.Home.{KeepsTree};
 ghost use Rattle.ufs_recovery.specs.Recovered.{IsCleanDisk, IsProperDisk, IsRecovered, log_of};
@@ -27,8 +27,8 @@ pub fn recover<D: Disk>(alloc: Global, disk: &mut D) -> Result<u32, RecoverFault
 
     // At each moment, also of a call that is refused, whatever a crash leaves opens to the same tree and is proper.
     ensures tree { IsTrue D.tells → IsProperDisk (D.size disk.old) (D.moments disk.old).state → KeepsTree D.keeps (D.size disk.old) (D.moments disk.old) (D.moments disk.new) }
-    ensures recovered { IsTrue D.tells → OnOk result (IsProperDisk (D.size disk.old) (D.moments disk.old).state → (head_of (reads (D.moments disk.old))).clean ≡ false → IsRecovered (reads (D.moments disk.old)) (reads (D.moments disk.new))) }
-    ensures quiet { IsTrue D.tells → IsTrue (head_of (reads (D.moments disk.old))).clean → IsReadOnly D.keeps (D.moments disk.old) (D.moments disk.new) }
+    ensures recovered { IsTrue D.tells → OnOk result (IsProperDisk (D.size disk.old) (D.moments disk.old).state → (superblock_of (reads (D.moments disk.old))).clean ≡ false → IsRecovered (reads (D.moments disk.old)) (reads (D.moments disk.new))) }
+    ensures quiet { IsTrue D.tells → IsTrue (superblock_of (reads (D.moments disk.old))).clean → IsReadOnly D.keeps (D.moments disk.old) (D.moments disk.new) }
     ensures opened { IsTrue D.tells → OnOk result ((tree : ImageTree) × (opens (D.size disk.old) (reads (D.moments disk.old)) ≡ Ok tree)) }
     ensures unopened { IsTrue D.tells → (refusal : Refusal) → opens (D.size disk.old) (reads (D.moments disk.old)) ≡ Err refusal → IsReadOnly D.keeps (D.moments disk.old) (D.moments disk.new) }
     ensures refused { IsTrue D.tells → IfErr result (TellsWhy (D.size disk.old) (reads (D.moments disk.old))) }
@@ -39,7 +39,7 @@ pub fn recover<D: Disk>(alloc: Global, disk: &mut D) -> Result<u32, RecoverFault
 {
     let opened = open(alloc, disk)?;
     let count = opened.volume.committed;
-    if opened.volume.head.head.clean {
+    if opened.volume.superblock.superblock.clean {
         return Ok(count);
     }
     match write_back(alloc, disk, &opened.volume, &opened.findings) {

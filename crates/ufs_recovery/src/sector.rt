@@ -25,27 +25,27 @@ pub(crate) fn put_sector<D: Disk>(
     disk.write(sector, bytes)
 }
 
-fn head_sector(head: &Super) -> [u8; SECTOR]
-    requires { IsTrue (is_super 1 head.now) }
-    ensures { super_of 1 result ≡ Some head.now }
+fn superblock_sector(superblock: &Super) -> [u8; SECTOR]
+    requires { IsTrue (is_super 1 superblock.now) }
+    ensures { super_of 1 result ≡ Some superblock.now }
 {
     let mut sector = [0; SECTOR];
-    put_super(&mut sector, head);
+    put_super(&mut sector, superblock);
     sector
 }
 
 // Writes another superblock over an image in which all is home, and waits until it is on the disk for good.
-pub(crate) fn put_head<D: Disk>(disk: &mut D, head: &Super) -> Result<(), Fault>
-    requires form { IsTrue (is_super 1 head.now) }
+pub(crate) fn put_superblock<D: Disk>(disk: &mut D, superblock: &Super) -> Result<(), Fault>
+    requires form { IsTrue (is_super 1 superblock.now) }
     requires some { 0 < D.size disk.old }
     ensures settled { IsTrue D.tells → OnOk result (IsSettled (D.moments disk.new).state) }
-    ensures home { IsTrue D.tells → OnOk result (IsBroughtHome (D.size disk.old) (reads (D.moments disk.old)) head.now → IsAtHome (D.size disk.old) head.now (reads (D.moments disk.new))) }
+    ensures home { IsTrue D.tells → OnOk result (IsBroughtHome (D.size disk.old) (reads (D.moments disk.old)) superblock.now → IsAtHome (D.size disk.old) superblock.now (reads (D.moments disk.new))) }
     ensures others { IsTrue D.tells → OnOk result ((sector : ℕ) → sector ≢ 0 → reads (D.moments disk.new) sector ≡ reads (D.moments disk.old) sector) }
-    ensures tree { IsTrue D.tells → IsSettled (D.moments disk.old).state → IsBroughtHome (D.size disk.old) (reads (D.moments disk.old)) head.now → KeepsTree D.keeps (D.size disk.old) (D.moments disk.old) (D.moments disk.new) }
+    ensures tree { IsTrue D.tells → IsSettled (D.moments disk.old).state → IsBroughtHome (D.size disk.old) (reads (D.moments disk.old)) superblock.now → KeepsTree D.keeps (D.size disk.old) (D.moments disk.old) (D.moments disk.new) }
     ensures size { D.size disk.new ≡ D.size disk.old }
     ensures cause { HasCause (D.faults disk.old) (D.faults disk.new) result }
     ensures number { IfErr result (λ fault. fault.number ≡ D.faults disk.new) }
 {
-    put_sector(disk, 0, &head_sector(head))?;
+    put_sector(disk, 0, &superblock_sector(superblock))?;
     disk.barrier()
 }

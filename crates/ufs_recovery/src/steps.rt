@@ -12,7 +12,7 @@ ghost use Rattle.ufs_recovery.specs.Home.{HasBegun, HasClosed, IsOver, KeepsTree
 
 use crate::bitmap::write_bitmap;
 use crate::bringing::bring_home;
-use crate::sector::put_head;
+use crate::sector::put_superblock;
 use crate::superblocks::closed;
 use ufs_damage::TakenBlocks;
 use ufs_disk::{Disk, Fault};
@@ -20,21 +20,25 @@ use ufs_layout::{Geometry, Super};
 use ufs_overlay::Overlay;
 
 // Writes home what is committed, and then begins the next epoch with this superblock.
-pub(crate) fn begin<D: Disk>(disk: &mut D, overlay: &Overlay, head: &Super) -> Result<(), Fault>
+pub(crate) fn begin<D: Disk>(
+    disk: &mut D,
+    overlay: &Overlay,
+    superblock: &Super,
+) -> Result<(), Fault>
     requires large { sector_count (overlaid.geometry_of overlay.now) ≤ D.size disk.old }
     requires limits { IsGeometry (overlaid.geometry_of overlay.now) }
-    requires form { IsTrue (is_super 1 head.now) }
+    requires form { IsTrue (is_super 1 superblock.now) }
     ensures settled { IsTrue D.tells → OnOk result (IsSettled (D.moments disk.new).state) }
-    ensures begun { IsTrue D.tells → OnOk result ((v : Volume) → IsSettled (D.moments disk.old).state → IsOver (D.size disk.old) (reads (D.moments disk.old)) v overlay.now → MayFollow (reads (D.moments disk.old)) v head.now
-        → HasBegun (D.size disk.old) v head.now (reads (D.moments disk.new))) }
-    ensures tree { IsTrue D.tells → (v : Volume) → IsSettled (D.moments disk.old).state → IsOver (D.size disk.old) (reads (D.moments disk.old)) v overlay.now → MayFollow (reads (D.moments disk.old)) v head.now
+    ensures begun { IsTrue D.tells → OnOk result ((v : Volume) → IsSettled (D.moments disk.old).state → IsOver (D.size disk.old) (reads (D.moments disk.old)) v overlay.now → MayFollow (reads (D.moments disk.old)) v superblock.now
+        → HasBegun (D.size disk.old) v superblock.now (reads (D.moments disk.new))) }
+    ensures tree { IsTrue D.tells → (v : Volume) → IsSettled (D.moments disk.old).state → IsOver (D.size disk.old) (reads (D.moments disk.old)) v overlay.now → MayFollow (reads (D.moments disk.old)) v superblock.now
         → KeepsTree D.keeps (D.size disk.old) (D.moments disk.old) (D.moments disk.new) }
     ensures size { D.size disk.new ≡ D.size disk.old }
     ensures cause { HasCause (D.faults disk.old) (D.faults disk.new) result }
     ensures number { IfErr result (λ fault. fault.number ≡ D.faults disk.new) }
 {
     bring_home(disk, overlay)?;
-    put_head(disk, head)
+    put_superblock(disk, superblock)
 }
 
 // Writes the bitmap, and then marks the image clean.
@@ -42,20 +46,20 @@ pub(crate) fn close<D: Disk>(
     disk: &mut D,
     geometry: &Geometry,
     taken: &TakenBlocks,
-    head: &Super,
+    superblock: &Super,
 ) -> Result<(), Fault>
     requires geometry { IsGeometry geometry.now }
     requires large { sector_count geometry.now ≤ D.size disk.old }
-    requires form { IsTrue (is_super 1 head.now) }
+    requires form { IsTrue (is_super 1 superblock.now) }
     ensures settled { IsTrue D.tells → OnOk result (IsSettled (D.moments disk.new).state) }
-    ensures closed { IsTrue D.tells → OnOk result (IsSettled (D.moments disk.old).state → MayClose (D.size disk.old) head.now (reads (D.moments disk.old)) geometry.now taken.now
-        → HasClosed (D.size disk.old) head.now (reads (D.moments disk.old)) (reads (D.moments disk.new))) }
-    ensures tree { IsTrue D.tells → IsSettled (D.moments disk.old).state → MayClose (D.size disk.old) head.now (reads (D.moments disk.old)) geometry.now taken.now
+    ensures closed { IsTrue D.tells → OnOk result (IsSettled (D.moments disk.old).state → MayClose (D.size disk.old) superblock.now (reads (D.moments disk.old)) geometry.now taken.now
+        → HasClosed (D.size disk.old) superblock.now (reads (D.moments disk.old)) (reads (D.moments disk.new))) }
+    ensures tree { IsTrue D.tells → IsSettled (D.moments disk.old).state → MayClose (D.size disk.old) superblock.now (reads (D.moments disk.old)) geometry.now taken.now
         → KeepsTree D.keeps (D.size disk.old) (D.moments disk.old) (D.moments disk.new) }
     ensures size { D.size disk.new ≡ D.size disk.old }
     ensures cause { HasCause (D.faults disk.old) (D.faults disk.new) result }
     ensures number { IfErr result (λ fault. fault.number ≡ D.faults disk.new) }
 {
     write_bitmap(disk, geometry, taken)?;
-    put_head(disk, &closed(head))
+    put_superblock(disk, &closed(superblock))
 }

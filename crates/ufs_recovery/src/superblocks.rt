@@ -6,22 +6,22 @@ use ufs_layout::Super;
 
 // The superblock of the next epoch, in use, where the next commit number is above the one that was used; none
 // where the numbers end.
-pub(crate) fn next_head(head: &Super, used: u64) -> Option<Super>
-    ensures epoch { IfSome result (λ s. s.epoch ≡ head.now.epoch + 1) }
-    ensures geometry { IfSome result (λ s. geometry_of s ≡ geometry_of head.now) }
-    ensures known { IfSome result (λ s. head.now.next ≤ s.next) }
+pub(crate) fn next_superblock(superblock: &Super, used: u64) -> Option<Super>
+    ensures epoch { IfSome result (λ s. s.epoch ≡ superblock.now.epoch + 1) }
+    ensures geometry { IfSome result (λ s. geometry_of s ≡ geometry_of superblock.now) }
+    ensures known { IfSome result (λ s. superblock.now.next ≤ s.next) }
     ensures above { IfSome result (λ s. used < s.next) }
     ensures form { IfSome result (λ s. IsTrue (is_super 1 s)) }
     ensures version { IfSome result (λ s. s.version ≡ 1) }
     ensures in_use { IfSome result (λ s. s.clean ≡ false) }
 {
-    let epoch = head.epoch.checked_add(1)?;
-    let next = used.max(head.next.saturating_sub(1)).checked_add(1)?;
+    let epoch = superblock.epoch.checked_add(1)?;
+    let next = used.max(superblock.next.saturating_sub(1)).checked_add(1)?;
     Some(Super {
         version: 1,
-        blocks: head.blocks,
-        inodes: head.inodes,
-        journal: head.journal,
+        blocks: superblock.blocks,
+        inodes: superblock.inodes,
+        journal: superblock.journal,
         epoch,
         next,
         clean: false,
@@ -29,11 +29,11 @@ pub(crate) fn next_head(head: &Super, used: u64) -> Option<Super>
 }
 
 // The same, marked clean.
-pub(crate) fn closed(head: &Super) -> Super
-    ensures { result ≡ record head.now { clean = true } }
+pub(crate) fn closed(superblock: &Super) -> Super
+    ensures { result ≡ record superblock.now { clean = true } }
 {
     Super {
         clean: true,
-        ..*head
+        ..*superblock
     }
 }

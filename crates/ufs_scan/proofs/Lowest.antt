@@ -157,25 +157,25 @@ find_well Q (r ∷ rs) = by r.1 (find_well Q rs)
 
 -- ---- the lowest sector that is off
 
-pub bad_is : (g : Geometry) (head : Super) (image : Image) (kept : List ℕ) → overkept g (transactions (well_spelled (sectors_of_epoch g head.epoch image))) image ≡ kept → AreIn (8 * first_of_journal g) g.journal kept
-    → bad_sector g head image ≡ lower (lower (misspelled (sectors_of_epoch g head.epoch image)) (first_off g head.next (well_spelled (sectors_of_epoch g head.epoch image)))) (lowest_of kept)
-bad_is g head image kept is are =
-    let read : List ReadSector = sectors_of_epoch g head.epoch image in
-    let all : List FoundSector = well_spelled (sectors_of_epoch g head.epoch image) in
+pub bad_is : (g : Geometry) (superblock : Super) (image : Image) (kept : List ℕ) → overkept g (transactions (well_spelled (sectors_of_epoch g superblock.epoch image))) image ≡ kept → AreIn (8 * first_of_journal g) g.journal kept
+    → bad_sector g superblock image ≡ lower (lower (misspelled (sectors_of_epoch g superblock.epoch image)) (first_off g superblock.next (well_spelled (sectors_of_epoch g superblock.epoch image)))) (lowest_of kept)
+bad_is g superblock image kept is are =
+    let read : List ReadSector = sectors_of_epoch g superblock.epoch image in
+    let all : List FoundSector = well_spelled (sectors_of_epoch g superblock.epoch image) in
     let a : ℕ = 8 * first_of_journal g in
-    let A : ℕ → Bool = λ s. list_any (λ (r : ReadSector). r.0 == s && is_misspelled r) (sectors_of_epoch g head.epoch image) in
-    let B : ℕ → Bool = λ s. list_any (λ (f : FoundSector). f.0 == s && is_off g head.next (well_spelled (sectors_of_epoch g head.epoch image)) f) (well_spelled (sectors_of_epoch g head.epoch image)) in
-    find_either (λ s. A s || B s) (λ s. list_any (λ o. o == s) (overkept g (transactions (well_spelled (sectors_of_epoch g head.epoch image))) image)) (8 * first_of_journal g) g.journal
+    let A : ℕ → Bool = λ s. list_any (λ (r : ReadSector). r.0 == s && is_misspelled r) (sectors_of_epoch g superblock.epoch image) in
+    let B : ℕ → Bool = λ s. list_any (λ (f : FoundSector). f.0 == s && is_off g superblock.next (well_spelled (sectors_of_epoch g superblock.epoch image)) f) (well_spelled (sectors_of_epoch g superblock.epoch image)) in
+    find_either (λ s. A s || B s) (λ s. list_any (λ o. o == s) (overkept g (transactions (well_spelled (sectors_of_epoch g superblock.epoch image))) image)) (8 * first_of_journal g) g.journal
     ∙ (λ i. lower (find_either A B (8 * first_of_journal g) g.journal i) (find (λ s. list_any (λ o. o == s) (is i)) (range_with_len (8 * first_of_journal g) g.journal)))
-    ∙ (λ i. lower (lower (find_read head.epoch image is_misspelled (8 * first_of_journal g) g.journal i) (found i)) (find_among kept (8 * first_of_journal g) g.journal are i))
+    ∙ (λ i. lower (lower (find_read superblock.epoch image is_misspelled (8 * first_of_journal g) g.journal i) (found i)) (find_among kept (8 * first_of_journal g) g.journal are i))
   where
-    found : find (λ s. list_any (λ (f : FoundSector). f.0 == s && is_off g head.next (well_spelled (sectors_of_epoch g head.epoch image)) f) (well_spelled (sectors_of_epoch g head.epoch image))) (range_with_len (8 * first_of_journal g) g.journal)
-        ≡ first_off g head.next (well_spelled (sectors_of_epoch g head.epoch image))
+    found : find (λ s. list_any (λ (f : FoundSector). f.0 == s && is_off g superblock.next (well_spelled (sectors_of_epoch g superblock.epoch image)) f) (well_spelled (sectors_of_epoch g superblock.epoch image))) (range_with_len (8 * first_of_journal g) g.journal)
+        ≡ first_off g superblock.next (well_spelled (sectors_of_epoch g superblock.epoch image))
     found =
-        find_same _ (λ s. list_any (λ (r : ReadSector). r.0 == s && of_row (is_off g head.next (well_spelled (sectors_of_epoch g head.epoch image))) r) (sectors_of_epoch g head.epoch image)) (8 * first_of_journal g) g.journal
-        (λ s le. any_well (is_off g head.next (well_spelled (sectors_of_epoch g head.epoch image))) s (sectors_of_epoch g head.epoch image))
-        ∙ find_read head.epoch image (of_row (is_off g head.next (well_spelled (sectors_of_epoch g head.epoch image)))) (8 * first_of_journal g) g.journal
-        ∙ find_well (is_off g head.next (well_spelled (sectors_of_epoch g head.epoch image))) (sectors_of_epoch g head.epoch image)
+        find_same _ (λ s. list_any (λ (r : ReadSector). r.0 == s && of_row (is_off g superblock.next (well_spelled (sectors_of_epoch g superblock.epoch image))) r) (sectors_of_epoch g superblock.epoch image)) (8 * first_of_journal g) g.journal
+        (λ s le. any_well (is_off g superblock.next (well_spelled (sectors_of_epoch g superblock.epoch image))) s (sectors_of_epoch g superblock.epoch image))
+        ∙ find_read superblock.epoch image (of_row (is_off g superblock.next (well_spelled (sectors_of_epoch g superblock.epoch image)))) (8 * first_of_journal g) g.journal
+        ∙ find_well (is_off g superblock.next (well_spelled (sectors_of_epoch g superblock.epoch image))) (sectors_of_epoch g superblock.epoch image)
 
 pub lower_assoc : (a b c : Option ℕ) → lower (lower a b) c ≡ lower a (lower b c)
 lower_assoc None b c = refl

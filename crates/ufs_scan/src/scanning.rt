@@ -25,21 +25,21 @@ pub fn scan<D: Disk>(
     alloc: Global,
     disk: &mut D,
     geometry: &Geometry,
-    head: &Super,
+    superblock: &Super,
 ) -> Result<CommittedList, ScanFault>
     requires geometry { IsGeometry geometry.now }
     requires large { sector_count geometry.now ≤ D.size disk.old }
-    ensures committed { IsTrue D.tells → IfOk result (λ list. list ≡ committed geometry.now head.now.epoch (reads (D.moments disk.old))) }
-    ensures whole { IsTrue D.tells → OnOk result (bad_sector geometry.now head.now (reads (D.moments disk.old)) ≡ None) }
-    ensures bad { IsTrue D.tells → IfErr result (NamesSector (bad_sector geometry.now head.now (reads (D.moments disk.old)))) }
+    ensures committed { IsTrue D.tells → IfOk result (λ list. list ≡ committed geometry.now superblock.now.epoch (reads (D.moments disk.old))) }
+    ensures whole { IsTrue D.tells → OnOk result (bad_sector geometry.now superblock.now (reads (D.moments disk.old)) ≡ None) }
+    ensures bad { IsTrue D.tells → IfErr result (NamesSector (bad_sector geometry.now superblock.now (reads (D.moments disk.old)))) }
     ensures content { IsTrue D.tells → reads (D.moments disk.new) ≡ reads (D.moments disk.old) }
     ensures crash { IsTrue D.tells → LeavesOnly D.keeps (IsImage (D.moments disk.old).state) (D.moments disk.old) (D.moments disk.new) }
     ensures size { D.size disk.new ≡ D.size disk.old }
     ensures passed { OnOk result (D.faults disk.new ≡ D.faults disk.old) }
     ensures cause { IfErr result (HasFaultCause (D.faults disk.old) (D.faults disk.new)) }
 {
-    let sectors = read_journal(alloc, disk, geometry, head.epoch)?;
-    let off = first_off(alloc, geometry, head.next, &sectors.found)?;
+    let sectors = read_journal(alloc, disk, geometry, superblock.epoch)?;
+    let off = first_off(alloc, geometry, superblock.next, &sectors.found)?;
     let parts = parts_in_places(alloc, &sectors.found)?;
     let commits = commits_in_order(alloc, &sectors.found)?;
     let chains = chains_in(alloc, geometry, &parts)?;

@@ -55,7 +55,7 @@ pub checkpoint_moments : (g : Geometry) → CheckpointsAreExplained g → RestIs
     → ((l : Ledger) → HasLedger old l → LeavesOnly keeps (IsLeftByAny old.sectors (l ∷ beginning_next old l ∷ [])) old.moments new.moments) → ((n : ℕ) → old.stop ≡ Some n → new ≡ old)
     → IsOnDisk old start history p → IsExplainedBetween keeps old.sectors start history old.moments new.moments
 checkpoint_moments g law rest keeps old new start history p form crash still (inl go) =
-    law keeps old old.moments new.moments go.ledger start history go.counts (go.formed ∙ form) go.has.headed go.stored.kept (crash go.ledger go.has)
+    law keeps old old.moments new.moments go.ledger start history go.counts (go.formed ∙ form) go.has.superblock_is go.stored.kept (crash go.ledger go.has)
 checkpoint_moments g law rest keeps old new start history p form crash still (inr st) =
     let at = from_some old.stop st.stopped in
     subst (λ (s : StoreState). IsExplainedBetween keeps old.sectors start history old.moments s.moments) (sym (still at.0 at.1)) (rest keeps old start history p form (inr st))

@@ -30,21 +30,21 @@ use Rattle.ufs_start.specs.declared.fault.StartFault.{StartFault}
 use Rattle.ufs_start.specs.declared.fault.StartFault.TheVariants.{Image, Unreached, Unnamed, ExtraBlocks, TooLong}
 use Rattle.ufs_start.specs.declared.parts.Start.{Start}
 
-pub is_loaded : (v : FoldedVolume) (f : CatalogRead) (sectors : ℕ) (disk : images.Image) → volume sectors disk ≡ Ok (volume_in v disk) → IsCatalogOf v.head.geometry (image_under v.head disk) (catalog_under v.head disk)
-    → IsSoundCatalog v.head.geometry (catalog_under v.head disk) → AreFindingsOf v.head.geometry (image_under v.head disk) f → IsLoaded v.head.geometry f sectors disk v.head.head (image_under v.head disk)
+pub is_loaded : (v : FoldedVolume) (f : CatalogRead) (sectors : ℕ) (disk : images.Image) → volume sectors disk ≡ Ok (volume_in v disk) → IsCatalogOf v.superblock.geometry (image_under v.superblock disk) (catalog_under v.superblock disk)
+    → IsSoundCatalog v.superblock.geometry (catalog_under v.superblock disk) → AreFindingsOf v.superblock.geometry (image_under v.superblock disk) f → IsLoaded v.superblock.geometry f sectors disk v.superblock.superblock (image_under v.superblock disk)
 is_loaded v f sectors disk taken catalog sound found = record { standing = record { taken = taken; catalog = catalog; sound = sound }; found = found }
 
 -- what is committed leaves a sector of data its length
-pub sized_there : (v : FoldedVolume) (sectors : ℕ) (disk : images.Image) → volume sectors disk ≡ Ok (volume_in v disk) → sector_count v.head.geometry ≤ sectors → ((sector : ℕ) → sector < sectors → length (disk sector) ≡ 512)
-    → (sector : ℕ) → is_data_sector v.head.geometry sector ≡ true → length (image_under v.head disk sector) ≡ 512
+pub sized_there : (v : FoldedVolume) (sectors : ℕ) (disk : images.Image) → volume sectors disk ≡ Ok (volume_in v disk) → sector_count v.superblock.geometry ≤ sectors → ((sector : ℕ) → sector < sectors → length (disk sector) ≡ 512)
+    → (sector : ℕ) → is_data_sector v.superblock.geometry sector ≡ true → length (image_under v.superblock disk sector) ≡ 512
 sized_there v sectors disk taken large sized sector within =
-    let under = ltb-true sector (sector_count v.head.geometry) (and_parts _ _ within).1 in
-    folded_sized v.head.geometry sector within (committed_in v disk) disk (can_fold sectors v disk taken) (sized sector (omega (arith, under, large)))
+    let under = ltb-true sector (sector_count v.superblock.geometry) (and_parts _ _ within).1 in
+    folded_sized v.superblock.geometry sector within (committed_in v disk) disk (can_fold sectors v disk taken) (sized sector (omega (arith, under, large)))
 
 -- a file that the names tell is an inode past 0, and has its number
-pub number_there : (g : Geometry) (f : CatalogRead) (sectors : ℕ) (disk : images.Image) (head : Super) (image : images.Image) (n : NamesPart) (numbers : List (Option ℕ)) → IsGeometry g → IsLoaded g f sectors disk head image → AreStartNames sectors disk g image n
+pub number_there : (g : Geometry) (f : CatalogRead) (sectors : ℕ) (disk : images.Image) (superblock : Super) (image : images.Image) (n : NamesPart) (numbers : List (Option ℕ)) → IsGeometry g → IsLoaded g f sectors disk superblock image → AreStartNames sectors disk g image n
     → AreNumbersOf g image numbers → (inode file : ℕ) → file_at n.tree inode ≡ Some file → (1 ≤ inode) × (slice_index_or numbers inode None ≡ Some file)
-number_there g f sectors disk head image n numbers geometry l s are inode file e =
+number_there g f sectors disk superblock image n numbers geometry l s are inode file e =
     let at = s.names.numbers.only inode file e in
     let sound = l.standing.sound in
     ((reached g (catalog_at g image) sound 1 at.names inode (root_in_range g (catalog_at g image) sound (has_root g geometry)) at.met).0.from_one, are.each inode file at)
@@ -66,7 +66,7 @@ outside_why sectors disk (BadTree inode) is = absurd is
 outside_why sectors disk (Device fault) is = tt
 outside_why sectors disk Memory is = tt
 
-pub refused_file : (v : FoldedVolume) (sectors : ℕ) (disk : images.Image) → volume sectors disk ≡ Ok (volume_in v disk) → (fault : StartFault) → IsRefusedFile (form_at v.head.geometry (image_under v.head disk)) fault
+pub refused_file : (v : FoldedVolume) (sectors : ℕ) (disk : images.Image) → volume sectors disk ≡ Ok (volume_in v disk) → (fault : StartFault) → IsRefusedFile (form_at v.superblock.geometry (image_under v.superblock disk)) fault
     → TellsNoStart sectors disk fault
 refused_file v sectors disk taken (Image fault) is = outside_why sectors disk fault is
 refused_file v sectors disk taken (Unreached inode) is = absurd is
@@ -74,11 +74,11 @@ refused_file v sectors disk taken (Unnamed inode) is = absurd is
 refused_file v sectors disk taken (ExtraBlocks inode) is = (volume_in v disk, taken, is)
 refused_file v sectors disk taken (TooLong inode) is = (volume_in v disk, taken, is)
 
-pub refused_names : (v : FoldedVolume) (f : CatalogRead) (sectors : ℕ) (disk : images.Image) → volume sectors disk ≡ Ok (volume_in v disk) → IsUndamaged v.head.geometry (image_under v.head disk) f → (fault : StartFault) → IsNamesFault v.head.geometry f fault
+pub refused_names : (v : FoldedVolume) (f : CatalogRead) (sectors : ℕ) (disk : images.Image) → volume sectors disk ≡ Ok (volume_in v disk) → IsUndamaged v.superblock.geometry (image_under v.superblock disk) f → (fault : StartFault) → IsNamesFault v.superblock.geometry f fault
     → TellsNoStart sectors disk fault
 refused_names v f sectors disk taken undamaged (Image fault) is = subst (TellsWhy sectors disk) (sym is) tt
-refused_names v f sectors disk taken undamaged (Unreached inode) is = (volume_in v disk, taken, is (image_under v.head disk) undamaged)
-refused_names v f sectors disk taken undamaged (Unnamed inode) is = (volume_in v disk, taken, is (image_under v.head disk) undamaged)
+refused_names v f sectors disk taken undamaged (Unreached inode) is = (volume_in v disk, taken, is (image_under v.superblock disk) undamaged)
+refused_names v f sectors disk taken undamaged (Unnamed inode) is = (volume_in v disk, taken, is (image_under v.superblock disk) undamaged)
 refused_names v f sectors disk taken undamaged (ExtraBlocks inode) is = absurd is
 refused_names v f sectors disk taken undamaged (TooLong inode) is = absurd is
 

@@ -40,9 +40,9 @@ pub if_all : {X E : Type 0} (r : Result X E) (P Q R S : X → Type 0) → ((x : 
 if_all (Ok x) P Q R S leads p q r = leads x p q r
 if_all (Err e) P Q R S leads p q r = tt
 
-module _ (g : Geometry) (f : CatalogRead) (sectors : ℕ) (disk : Image) (head : Super) (image : Image) (loaded : IsLoaded g f sectors disk head image) where
+module _ (g : Geometry) (f : CatalogRead) (sectors : ℕ) (disk : Image) (superblock : Super) (image : Image) (loaded : IsLoaded g f sectors disk superblock image) where
   abbrev v : Volume
-  v = record { head = head; geometry = g; image = image }
+  v = record { superblock = superblock; geometry = g; image = image }
 
   abbrev c : Catalog
   c = catalog_at g image

@@ -3,7 +3,7 @@ use Rattle.std.specs.Prelude.{ℕ, ◌≡◌, ◌≤◌, ◌^◌, length, true, 
 use Rattle.std.specs.FinMap as map
 use Rattle.std.specs.FinSet as set
 use Rattle.ufs_base.specs.Images.{Image}
-use Rattle.ufs_catalog.specs.declared.head.ImageHead.{ImageHead}
+use Rattle.ufs_catalog.specs.declared.superblock.ImageSuperblock.{ImageSuperblock}
 use Rattle.ufs_dir_tree.specs.DirTable.{IsReached}
 use Rattle.ufs_files.specs.Files.{AreFilesOf}
 use Rattle.ufs_image.specs.Catalog.{Catalog, IsInode, catalog_at}
@@ -26,37 +26,37 @@ use Rattle.ufs_start.specs.Starts.{tree_in}
 use Rattle.ufs_start.specs.declared.parts.Start.{Start}
 
 -- the disk's image under this superblock, as its committed transactions leave it
-abbrev pub image_under : ImageHead → Image → Image
-image_under h disk = folded h.geometry (committed h.geometry h.head.epoch disk) disk
+abbrev pub image_under : ImageSuperblock → Image → Image
+image_under h disk = folded h.geometry (committed h.geometry h.superblock.epoch disk) disk
 
-abbrev pub volume_under : ImageHead → Image → Volume
-volume_under h disk = record { head = h.head; geometry = h.geometry; image = image_under h disk }
+abbrev pub volume_under : ImageSuperblock → Image → Volume
+volume_under h disk = record { superblock = h.superblock; geometry = h.geometry; image = image_under h disk }
 
-abbrev pub catalog_under : ImageHead → Image → Catalog
+abbrev pub catalog_under : ImageSuperblock → Image → Catalog
 catalog_under h disk = catalog_at h.geometry (image_under h disk)
 
-abbrev pub tree_under : ImageHead → Image → ImageTree
+abbrev pub tree_under : ImageSuperblock → Image → ImageTree
 tree_under h disk = tree_in h.geometry (image_under h disk)
 
 -- A server begins so on a disk of so many sectors.
 pub record IsBegun (sectors : ℕ) (disk : Image) (s : Start) : Type 0 where
-  pub standing : IsVolumeOf sectors disk (volume_under s.head disk) (catalog_under s.head disk)
-  pub sized : (sector : ℕ) → is_data_sector s.head.geometry sector ≡ true → length (image_under s.head disk sector) ≡ 512
-  pub opened : opens sectors disk ≡ Ok (tree_under s.head disk)
-  pub table : IsNamesOf s.head.geometry (catalog_under s.head disk) (image_start (tree_under s.head disk)) s.names
-  pub names : IsNamesPart s.names (image_start (tree_under s.head disk))
+  pub standing : IsVolumeOf sectors disk (volume_under s.superblock disk) (catalog_under s.superblock disk)
+  pub sized : (sector : ℕ) → is_data_sector s.superblock.geometry sector ≡ true → length (image_under s.superblock disk sector) ≡ 512
+  pub opened : opens sectors disk ≡ Ok (tree_under s.superblock disk)
+  pub table : IsNamesOf s.superblock.geometry (catalog_under s.superblock disk) (image_start (tree_under s.superblock disk)) s.names
+  pub names : IsNamesPart s.names (image_start (tree_under s.superblock disk))
   -- each directory that has a name is met
   pub reached : IsReached s.names.tree.dirs
   -- each file is one that the names tell
-  pub named : (inode : ℕ) → IsInode s.head.geometry inode → ((catalog_under s.head disk).forms inode).kind ≡ 1 → IsSome (file_at s.names.tree inode)
+  pub named : (inode : ℕ) → IsInode s.superblock.geometry inode → ((catalog_under s.superblock disk).forms inode).kind ≡ 1 → IsSome (file_at s.names.tree inode)
   pub few : s.names.next ≤ 2 ^ 30
-  pub read : AreRead (image_under s.head disk) (catalog_under s.head disk) s.names s.files
-  pub files : AreFilesOf s.files (image_start (tree_under s.head disk))
+  pub read : AreRead (image_under s.superblock disk) (catalog_under s.superblock disk) s.names s.files
+  pub files : AreFilesOf s.files (image_start (tree_under s.superblock disk))
   pub inodes : HaveInodes s.names.held s.files
   pub here : (inode file : ℕ) → file_at s.names.tree inode ≡ Some file → IsSome (map.get s.files file)
-  pub loaded : AreLoaded (image_under s.head disk) (catalog_under s.head disk) s.files
-  pub laid : AreLaid (catalog_under s.head disk) s.files
-  pub first : s.free.first ≡ first_of_data s.head.geometry
-  pub blocks : s.free.blocks ≡ s.head.geometry.blocks
-  pub free : (block : ℕ) → set.contains s.free.free block ≡ is_free_block s.head.geometry (image_under s.head disk) block
+  pub loaded : AreLoaded (image_under s.superblock disk) (catalog_under s.superblock disk) s.files
+  pub laid : AreLaid (catalog_under s.superblock disk) s.files
+  pub first : s.free.first ≡ first_of_data s.superblock.geometry
+  pub blocks : s.free.blocks ≡ s.superblock.geometry.blocks
+  pub free : (block : ℕ) → set.contains s.free.free block ≡ is_free_block s.superblock.geometry (image_under s.superblock disk) block
   pub apart : AreApart s.names.tree.dirs s.files s.free.free

@@ -47,12 +47,12 @@ AreFilesNamed g image t = (inode : ℕ) → IsInode g inode → (form_at g image
 
 -- This was read of an image of a disk of so many sectors, as its committed transactions leave it; the image stands for
 -- a tree.
-pub record IsLoaded (g : Geometry) (f : CatalogRead) (sectors : ℕ) (disk : Image) (head : Super) (image : Image) : Type 0 where
-  pub standing : IsVolumeOf sectors disk (record { head = head; geometry = g; image = image }) (catalog_at g image)
+pub record IsLoaded (g : Geometry) (f : CatalogRead) (sectors : ℕ) (disk : Image) (superblock : Super) (image : Image) : Type 0 where
+  pub standing : IsVolumeOf sectors disk (record { superblock = superblock; geometry = g; image = image }) (catalog_at g image)
   pub found : AreFindingsOf g image f
 
 abbrev pub IsOfSome : Geometry → CatalogRead → Type 0
-IsOfSome g f = (sectors : ℕ) × (disk : Image) × (head : Super) × (image : Image) × IsLoaded g f sectors disk head image
+IsOfSome g f = (sectors : ℕ) × (disk : Image) × (superblock : Super) × (image : Image) × IsLoaded g f sectors disk superblock image
 
 -- The directories are those of each undamaged image of which this was read.
 abbrev pub AreDirsOf : Geometry → CatalogRead → DirTable → Type 0
@@ -68,10 +68,10 @@ pub record AreStartNames (sectors : ℕ) (disk : Image) (g : Geometry) (image : 
 
 -- Files that were read of the image are parts of its start, each with the inode that the names tell of it.
 abbrev pub FilesArePartsOfStarts : Type 0
-FilesArePartsOfStarts = (g : Geometry) (f : CatalogRead) (sectors : ℕ) (disk : Image) (head : Super) (image : Image) (n : NamesPart) (files : Files) → IsLoaded g f sectors disk head image → AreStartNames sectors disk g image n
+FilesArePartsOfStarts = (g : Geometry) (f : CatalogRead) (sectors : ℕ) (disk : Image) (superblock : Super) (image : Image) (n : NamesPart) (files : Files) → IsLoaded g f sectors disk superblock image → AreStartNames sectors disk g image n
     → AreRead image (catalog_at g image) n files → AreFilesOf files (image_start (tree_in g image)) × HaveInodes n.held files
 
 -- With a pool of blocks that the image leaves free, no block is of two of a directory, a file and the pool.
 abbrev pub BlocksOfStartsAreApart : Type 0
-BlocksOfStartsAreApart = (g : Geometry) (f : CatalogRead) (sectors : ℕ) (disk : Image) (head : Super) (image : Image) (n : NamesPart) (files : Files) (pool : BlockSet) → IsLoaded g f sectors disk head image → AreStartNames sectors disk g image n
+BlocksOfStartsAreApart = (g : Geometry) (f : CatalogRead) (sectors : ℕ) (disk : Image) (superblock : Super) (image : Image) (n : NamesPart) (files : Files) (pool : BlockSet) → IsLoaded g f sectors disk superblock image → AreStartNames sectors disk g image n
     → AreRead image (catalog_at g image) n files → IsUntaken g (catalog_at g image) pool → AreApart n.tree.dirs files pool

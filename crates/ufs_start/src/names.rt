@@ -63,7 +63,7 @@ fn names_of(
     ensures reached { IfOk result (λ n. IsReached n.tree.dirs) }
     ensures few { IfOk result (λ n. n.next ≤ 2 ^ 30) }
     ensures files { IfOk result (λ n. n.tree.files ≡ numbers.files.items) }
-    ensures names { IfOk result (λ n. (sectors : ℕ) (disk : Image) (head : Super) (image : Image) → IsLoaded geometry.now findings.now sectors disk head image → AreStartNames sectors disk geometry.now image n) }
+    ensures names { IfOk result (λ n. (sectors : ℕ) (disk : Image) (superblock : Super) (image : Image) → IsLoaded geometry.now findings.now sectors disk superblock image → AreStartNames sectors disk geometry.now image n) }
 {
     damage_law(geometry);
     let tree = NameTree::from_parts(dirs, numbers.files);
@@ -82,7 +82,7 @@ pub fn names_in(
     requires geometry { IsGeometry geometry.now }
     requires loaded { IsOfSome geometry.now findings.now }
     ensures reached { IfOk result (λ n. IsReached n.tree.dirs) }
-    ensures names { IfOk result (λ n. (sectors : ℕ) (disk : Image) (head : Super) (image : Image) → IsLoaded geometry.now findings.now sectors disk head image → AreStartNames sectors disk geometry.now image n) }
+    ensures names { IfOk result (λ n. (sectors : ℕ) (disk : Image) (superblock : Super) (image : Image) → IsLoaded geometry.now findings.now sectors disk superblock image → AreStartNames sectors disk geometry.now image n) }
     ensures few { IfOk result (λ n. n.next ≤ 2 ^ 30) }
     ensures named { IfOk result (λ n. (image : Image) → IsUndamaged geometry.now image findings.now → AreFilesNamed geometry.now image n.tree) }
     ensures fault { IfErr result (IsNamesFault geometry.now findings.now) }

@@ -1,5 +1,5 @@
 use ufs_bitmap::Bitmap;
-use ufs_catalog::ImageHead;
+use ufs_catalog::ImageSuperblock;
 use ufs_files::FileHands;
 use ufs_names::Names;
 
@@ -7,7 +7,7 @@ use ufs_names::Names;
 /// data area.
 #[derive(Drop)]
 pub struct Start {
-    pub head: ImageHead,
+    pub superblock: ImageSuperblock,
     pub names: Names,
     pub files: FileHands,
     pub free: Bitmap,

@@ -52,16 +52,16 @@ fn files_in(
     names: &Names,
 ) -> Result<FileHands, StartFault>
     requires added { HasAdded volume.now.overlay (committed_in volume.now (image_of copy.old.bytes.items)) }
-    requires loaded { IsLoaded volume.now.head.geometry findings.now copy.old.sectors (image_of copy.old.bytes.items) volume.now.head.head (image_under volume.now.head (image_of copy.old.bytes.items)) }
-    requires names { AreStartNames copy.old.sectors (image_of copy.old.bytes.items) volume.now.head.geometry (image_under volume.now.head (image_of copy.old.bytes.items)) names.now }
-    ensures read { IfOk result (AreRead (image_under volume.now.head (image_of copy.old.bytes.items)) (catalog_under volume.now.head (image_of copy.old.bytes.items)) names.now) }
+    requires loaded { IsLoaded volume.now.superblock.geometry findings.now copy.old.sectors (image_of copy.old.bytes.items) volume.now.superblock.superblock (image_under volume.now.superblock (image_of copy.old.bytes.items)) }
+    requires names { AreStartNames copy.old.sectors (image_of copy.old.bytes.items) volume.now.superblock.geometry (image_under volume.now.superblock (image_of copy.old.bytes.items)) names.now }
+    ensures read { IfOk result (AreRead (image_under volume.now.superblock (image_of copy.old.bytes.items)) (catalog_under volume.now.superblock (image_of copy.old.bytes.items)) names.now) }
     ensures here { (inode file : ℕ) → file_at names.now.tree inode ≡ Some file → IfOk result (λ files. IsSome (map.get files file)) }
-    ensures loaded { IfOk result (AreLoaded (image_under volume.now.head (image_of copy.old.bytes.items)) (catalog_under volume.now.head (image_of copy.old.bytes.items))) }
-    ensures laid { IfOk result (AreLaid (catalog_under volume.now.head (image_of copy.old.bytes.items))) }
-    ensures refused { IfErr result (IsRefusedFile (form_at volume.now.head.geometry (image_under volume.now.head (image_of copy.old.bytes.items)))) }
+    ensures loaded { IfOk result (AreLoaded (image_under volume.now.superblock (image_of copy.old.bytes.items)) (catalog_under volume.now.superblock (image_of copy.old.bytes.items))) }
+    ensures laid { IfOk result (AreLaid (catalog_under volume.now.superblock (image_of copy.old.bytes.items))) }
+    ensures refused { IfErr result (IsRefusedFile (form_at volume.now.superblock.geometry (image_under volume.now.superblock (image_of copy.old.bytes.items)))) }
     ensures calm { IfErr result (λ f. (count : ℕ) → HasStartCause count count f) }
 {
-    let geometry = &volume.head.geometry;
+    let geometry = &volume.superblock.geometry;
     damage_law(geometry);
     start_numbers_law();
     let numbers = numbers_of(alloc, geometry, findings)?;
@@ -78,11 +78,11 @@ fn start_in(alloc: Global, copy: &mut PlainDisk) -> Result<Start, StartFault>
     files_part_law(copy.sectors as usize);
     let loaded = load(alloc, copy)?;
     let volume = &loaded.volume;
-    damage_law(&volume.head.geometry);
-    let names = names_in(alloc, &volume.head.geometry, &loaded.findings)?;
+    damage_law(&volume.superblock.geometry);
+    let names = names_in(alloc, &volume.superblock.geometry, &loaded.findings)?;
     let files = files_in(alloc, copy, volume, &loaded.findings, &names)?;
     Ok(Start {
-        head: loaded.volume.head,
+        superblock: loaded.volume.superblock,
         names,
         files,
         free: loaded.free,
@@ -93,19 +93,19 @@ fn start_in(alloc: Global, copy: &mut PlainDisk) -> Result<Start, StartFault>
 /// with a file that a server can't hold or that no path names, or with a directory that has names and that no path leads
 /// to. Reads each sector of the disk once, in calls of 4,096 bytes; writes nothing.
 pub fn start_of<D: Disk>(alloc: Global, disk: &mut D) -> Result<Start, StartFault>
-    ensures standing { IsTrue D.tells → IfOk result (λ s. IsVolumeOf (D.size disk.old) (reads (D.moments disk.old)) (volume_under s.head (reads (D.moments disk.old))) (catalog_under s.head (reads (D.moments disk.old)))) }
-    ensures opened { IsTrue D.tells → IfOk result (λ s. opens (D.size disk.old) (reads (D.moments disk.old)) ≡ Ok (tree_under s.head (reads (D.moments disk.old)))) }
-    ensures table { IsTrue D.tells → IfOk result (λ s. IsNamesOf s.head.geometry (catalog_under s.head (reads (D.moments disk.old))) (image_start (tree_under s.head (reads (D.moments disk.old)))) s.names) }
-    ensures names { IsTrue D.tells → IfOk result (λ s. IsNamesPart s.names (image_start (tree_under s.head (reads (D.moments disk.old))))) }
-    ensures read { IsTrue D.tells → IfOk result (λ s. AreRead (image_under s.head (reads (D.moments disk.old))) (catalog_under s.head (reads (D.moments disk.old))) s.names s.files) }
-    ensures files { IsTrue D.tells → IfOk result (λ s. AreFilesOf s.files (image_start (tree_under s.head (reads (D.moments disk.old))))) }
-    ensures free { IsTrue D.tells → IfOk result (λ s. (block : ℕ) → set.contains s.free.free block ≡ is_free_block s.head.geometry (image_under s.head (reads (D.moments disk.old))) block) }
+    ensures standing { IsTrue D.tells → IfOk result (λ s. IsVolumeOf (D.size disk.old) (reads (D.moments disk.old)) (volume_under s.superblock (reads (D.moments disk.old))) (catalog_under s.superblock (reads (D.moments disk.old)))) }
+    ensures opened { IsTrue D.tells → IfOk result (λ s. opens (D.size disk.old) (reads (D.moments disk.old)) ≡ Ok (tree_under s.superblock (reads (D.moments disk.old)))) }
+    ensures table { IsTrue D.tells → IfOk result (λ s. IsNamesOf s.superblock.geometry (catalog_under s.superblock (reads (D.moments disk.old))) (image_start (tree_under s.superblock (reads (D.moments disk.old)))) s.names) }
+    ensures names { IsTrue D.tells → IfOk result (λ s. IsNamesPart s.names (image_start (tree_under s.superblock (reads (D.moments disk.old))))) }
+    ensures read { IsTrue D.tells → IfOk result (λ s. AreRead (image_under s.superblock (reads (D.moments disk.old))) (catalog_under s.superblock (reads (D.moments disk.old))) s.names s.files) }
+    ensures files { IsTrue D.tells → IfOk result (λ s. AreFilesOf s.files (image_start (tree_under s.superblock (reads (D.moments disk.old))))) }
+    ensures free { IsTrue D.tells → IfOk result (λ s. (block : ℕ) → set.contains s.free.free block ≡ is_free_block s.superblock.geometry (image_under s.superblock (reads (D.moments disk.old))) block) }
     ensures begun { IfOk result (λ s. (image : Image) × IsBegun (D.size disk.old) image s × (IsTrue D.tells → image ≡ reads (D.moments disk.old))) }
     ensures inodes { IfOk result (λ s. HaveInodes s.names.held s.files) }
     ensures here { IfOk result (λ s. (inode file : ℕ) → file_at s.names.tree inode ≡ Some file → IsSome (map.get s.files file)) }
-    ensures loaded { IsTrue D.tells → IfOk result (λ s. AreLoaded (image_under s.head (reads (D.moments disk.old))) (catalog_under s.head (reads (D.moments disk.old))) s.files) }
-    ensures first { IfOk result (λ s. s.free.first ≡ first_of_data s.head.geometry) }
-    ensures blocks { IfOk result (λ s. s.free.blocks ≡ s.head.geometry.blocks) }
+    ensures loaded { IsTrue D.tells → IfOk result (λ s. AreLoaded (image_under s.superblock (reads (D.moments disk.old))) (catalog_under s.superblock (reads (D.moments disk.old))) s.files) }
+    ensures first { IfOk result (λ s. s.free.first ≡ first_of_data s.superblock.geometry) }
+    ensures blocks { IfOk result (λ s. s.free.blocks ≡ s.superblock.geometry.blocks) }
     ensures apart { IfOk result (λ s. AreApart s.names.tree.dirs s.files s.free.free) }
     ensures refused { IsTrue D.tells → IfErr result (TellsNoStart (D.size disk.old) (reads (D.moments disk.old))) }
     ensures read_only { IsTrue D.tells → IsReadOnly D.keeps (D.moments disk.old) (D.moments disk.new) }

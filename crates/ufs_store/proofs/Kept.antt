@@ -17,7 +17,7 @@ use Rattle.ufs_ledger.specs.Ledger.{IsLedgerOf, Ledger, is_held}
 use Rattle.ufs_store.specs.Ledgers.{HasLedger}
 use Rattle.ufs_store.specs.State.{StoreState}
 use Rattle.ufs_ledger.specs.Changes.{home_cells, settled_cell}
-use Rattle.ufs_ledger.proofs.Heading.{none_read}
+use Rattle.ufs_ledger.proofs.SuperblockPut.{none_read}
 
 -- In an epoch of which nothing is used no transaction is found.
 pub unused_at_first : (g : Geometry) (epoch used number txn : ℕ) (state : State) → used ≡ 0 → IsReady g epoch used number state → IsUnused g epoch txn state
@@ -56,9 +56,9 @@ below_next (u ∷ log) t old new below is more =
 -- The next commit number is from 1 on.
 pub numbers_from_one : (t : Tables) → 0 < t.journal.number
 numbers_from_one t =
-    let front = and_parts (t.head.version == 1) (nat_le 1 t.head.epoch && nat_le 1 t.head.next) t.form in
-    let back = and_parts (nat_le 1 t.head.epoch) (nat_le 1 t.head.next) front.1 in
-    let from : 1 ≤ t.head.next = let e = back.1 in grind (arith, nat_tests, e) in
+    let front = and_parts (t.superblock.version == 1) (nat_le 1 t.superblock.epoch && nat_le 1 t.superblock.next) t.form in
+    let back = and_parts (nat_le 1 t.superblock.epoch) (nat_le 1 t.superblock.next) front.1 in
+    let from : 1 ≤ t.superblock.next = let e = back.1 in grind (arith, nat_tests, e) in
     let up = t.next in
     omega (arith, from, up)
 
@@ -68,7 +68,7 @@ pub still_has : (s : StoreState) (sectors : ℕ) (moments : Moments) (faults : �
 still_has s sectors moments faults l has is ready unused = record {
   going = has.going;
   by = record { is = is; none = has.by.none; in_use = has.by.in_use; geometry = has.by.geometry; epoch = has.by.epoch; later = has.by.later; ready = ready };
-  headed = has.headed;
+  superblock_is = has.superblock_is;
   added = has.added;
   numbered = has.numbered;
   unused = unused;

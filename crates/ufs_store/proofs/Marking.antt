@@ -36,15 +36,15 @@ module _ (sectors : ℕ) (keeps : Bool) (m0 : Moments) (before : Super) (bytes :
   same_geometry : is.as_volume.geometry ≡ geometry_of before
   same_geometry =
       let tells = taken sectors home is.as_volume is.taken in
-      ap (λ (v : Volume). v.geometry) tells.same ∙ ap geometry_of (sym (ap (λ (v : Volume). v.head) tells.same) ∙ is.headed)
+      ap (λ (v : Volume). v.geometry) tells.same ∙ ap geometry_of (sym (ap (λ (v : Volume). v.superblock) tells.same) ∙ is.superblock_is)
 
   free : IsFreeFrom (geometry_of before) before.epoch 0 home
   free place low under = let less = is.earlier place under in grind (arith, nat_tests, less)
 
   pub opens : IsLedgerOf sectors m0.state l
-  opens = subst (λ (h : Super). IsLedgerOf sectors m0.state (opening_ledger h home)) is.headed
-      (opening sectors m0.state is.as_volume same_geometry whole is.settled is.taken is.undamaged (subst (λ (h : Super). HasEarlier (geometry_of before) h.epoch home) (sym is.headed) is.earlier)
-      (λ clean. is.if_clean (subst (λ (h : Super). IsTrue h.clean) is.headed clean)))
+  opens = subst (λ (h : Super). IsLedgerOf sectors m0.state (opening_ledger h home)) is.superblock_is
+      (opening sectors m0.state is.as_volume same_geometry whole is.settled is.taken is.undamaged (subst (λ (h : Super). HasEarlier (geometry_of before) h.epoch home) (sym is.superblock_is) is.earlier)
+      (λ clean. is.if_clean (subst (λ (h : Super). IsTrue h.clean) is.superblock_is clean)))
 
   begins : MayBegin sectors l home (in_use before) bytes
   begins = record {

@@ -13,19 +13,19 @@ use Rattle.ufs_overlay.specs.Seen as overlaid
 use Rattle.ufs_ledger.specs.Ledger.{Ledger, IsLeftBy, IsLedgerOf}
 use Rattle.ufs_ledger.specs.Changes.{MayCommit, settled, committing, committed_one, home_of, beginning, emptied}
 use Rattle.ufs_ledger.specs.Committing.{IsLedgerBy}
-use Rattle.ufs_store.specs.State.{StoreState, geometry_of_store, has_room, next_commit, next_head}
+use Rattle.ufs_store.specs.State.{StoreState, geometry_of_store, has_room, next_commit, next_superblock}
 
 -- A store that hasn't stopped has this ledger on its disk, and knows it: its journal goes on behind what is committed, its
 -- overlay has just that, it knows whether anything is pending, and its next commit number is above each inode's.
 pub record HasLedger (s : StoreState) (l : Ledger) : Type 0 where
   pub going : s.stop ≡ None
   pub by : IsLedgerBy s.journal s.sectors s.moments.state l
-  pub headed : l.head ≡ s.head
+  pub superblock_is : l.superblock ≡ s.superblock
   pub added : overlaid.HasAdded s.overlay l.now.log
   pub numbered : IsTrue (list_all (λ (t : Committed). nat_lt t.number s.journal.number) l.now.log)
   pub unused : (txn : ℕ) → s.txn ≤ txn → IsUnused s.journal.geometry s.journal.epoch txn s.moments.state
   pub settled : s.unsettled ≡ false → (block : ℕ) → (l.blocks block).older ≡ []
-  pub older : (inode : ℕ) → IsInode (geometry_of l.head) inode → (l.now.catalog.forms inode).number < s.journal.number
+  pub older : (inode : ℕ) → IsInode (geometry_of l.superblock) inode → (l.now.catalog.forms inode).number < s.journal.number
   pub fits : s.journal.number < 2 ^ 64
 
 -- ---- one of several ledgers
@@ -46,11 +46,11 @@ HasAny s ls = AnyOf (IsLedgerOf s.sectors s.moments.state) ls
 
 -- while the next epoch begins
 abbrev pub beginning_next : StoreState → Ledger → Ledger
-beginning_next s l = beginning (next_head s) (block_at (home_of l (reads s.moments))) l
+beginning_next s l = beginning (next_superblock s) (block_at (home_of l (reads s.moments))) l
 
 -- once it has begun
 abbrev pub checkpointed : StoreState → Ledger → Ledger
-checkpointed s l = emptied (next_head s) (block_at (home_of l (reads s.moments))) l
+checkpointed s l = emptied (next_superblock s) (block_at (home_of l (reads s.moments))) l
 
 -- ---- a commit
 

@@ -16,7 +16,7 @@ pub record StoreState : Type 0 where
   pub moments : Moments
   pub faults : ℕ
   -- the superblock of this epoch
-  pub head : Super
+  pub superblock : Super
   -- the journal of this epoch, and what is committed in it and not yet home
   pub journal : Journal
   pub overlay : Overlay
@@ -45,5 +45,5 @@ abbrev pub next_commit : StoreState → List LogRecord → Committed
 next_commit s records = record { number = s.journal.number; records = records }
 
 -- the superblock that a checkpoint writes next: the image is in use
-abbrev pub next_head : StoreState → Super
-next_head s = record (s.head) { epoch = s.head.epoch + 1; next = s.journal.number; clean = false }
+abbrev pub next_superblock : StoreState → Super
+next_superblock s = record (s.superblock) { epoch = s.superblock.epoch + 1; next = s.journal.number; clean = false }

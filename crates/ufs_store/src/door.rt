@@ -58,7 +58,7 @@ pub trait Door {
     fn read_block(&mut self, block: u32, buf: &mut [u8]) -> Result<(), StoreFault>
         requires there { IsDataBlock (geometry_of_store (store self.old)) block }
         requires sized { length buf.old ≡ BLOCK }
-        ensures bytes { IsTrue tells → OnOk result ((l : Ledger) → IsLedgerOf (store self.old).sectors (store self.old).moments.state l → IsDataBlock (geometry_of l.head) block → is_held l.now.log block ≡ false
+        ensures bytes { IsTrue tells → OnOk result ((l : Ledger) → IsLedgerOf (store self.old).sectors (store self.old).moments.state l → IsDataBlock (geometry_of l.superblock) block → is_held l.now.log block ≡ false
             → buf.new ≡ (l.blocks block).seen) }
         ensures crash { IsTrue tells → (l : Ledger) → IsLedgerOf (store self.old).sectors (store self.old).moments.state l
             → LeavesOnly keeps (IsLeftBy (store self.old).sectors l) (store self.old).moments (store self.new).moments }

@@ -30,12 +30,12 @@ pub(crate) fn begin_next<D: Disk>(tables: &mut Tables, disk: &mut D) -> Result<(
     ensures stop { tables.new.stop ≡ fault_in result }
     ensures refused { IfErr result (λ fault. IsTrue (is_own fault)) }
 {
-    let Some(head) = tables.next_head() else {
+    let Some(superblock) = tables.next_superblock() else {
         return Err(StoreFault::Memory);
     };
-    match checkpoint(&tables.overlay, &mut tables.journal, disk, &head) {
+    match checkpoint(&tables.overlay, &mut tables.journal, disk, &superblock) {
         Ok(()) => {
-            tables.head = head;
+            tables.superblock = superblock;
             tables.overlay.empty_after_epoch();
             tables.txn = 1;
             tables.unsettled = false;

@@ -6,10 +6,10 @@ mod commits;
 mod direct;
 mod door;
 mod fault;
-mod heads;
 mod homes;
 mod laws;
 mod store;
+mod superblocks;
 mod tables;
 
 pub use direct::Direct;

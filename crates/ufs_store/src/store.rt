@@ -15,8 +15,8 @@ ghost use Rattle.ufs_store.specs.declared.fault.StoreFault.TheVariants as refusa
 
 use crate::blocks::{give_runs, move_all, move_lowest};
 use crate::commits::commit;
-use crate::heads::mark_in_use;
 use crate::homes::begin_next;
+use crate::superblocks::mark_in_use;
 use crate::tables::{Tables, stop_at};
 use crate::{Door, StoreFault, Uncommitted, Unmounted};
 use std::alloc::Global;
@@ -44,25 +44,25 @@ impl<D: Disk> Store<D> {
     pub fn mount(
         alloc: Global,
         mut disk: D,
-        head: Super,
+        superblock: Super,
         free: Bitmap,
     ) -> Result<Store<D>, Unmounted<D>>
-        requires limits { IsGeometry (geometry_of head) }
-        requires form { IsTrue (is_super 1 head) }
-        requires large { sector_count (geometry_of head) ≤ D.size disk }
-        requires first { free.first ≡ first_of_data (geometry_of head) }
-        requires blocks { free.blocks ≡ head.blocks }
-        ensures crash { IsTrue D.tells → IsMountable (D.size disk) (D.moments disk).state head
-            → IfOk result (λ s. LeavesOnly D.keeps (IsLeftBy (D.size disk) (marking head (reads (D.moments disk)))) (D.moments disk) (⟦<Store<D> as Door>⟧.store s).moments) }
-        ensures err_crash { IsTrue D.tells → IsMountable (D.size disk) (D.moments disk).state head
-            → IfErr result (λ u. u.fault ≢ refusal.Memory → LeavesOnly D.keeps (IsLeftBy (D.size disk) (marking head (reads (D.moments disk)))) (D.moments disk) (D.moments u.disk)) }
-        ensures ok { IsTrue D.tells → IsMountable (D.size disk) (D.moments disk).state head
-            → IfOk result (λ s. HasLedger (⟦<Store<D> as Door>⟧.store s) (opening_ledger (in_use head) (reads (D.moments disk)))) }
+        requires limits { IsGeometry (geometry_of superblock) }
+        requires form { IsTrue (is_super 1 superblock) }
+        requires large { sector_count (geometry_of superblock) ≤ D.size disk }
+        requires first { free.first ≡ first_of_data (geometry_of superblock) }
+        requires blocks { free.blocks ≡ superblock.blocks }
+        ensures crash { IsTrue D.tells → IsMountable (D.size disk) (D.moments disk).state superblock
+            → IfOk result (λ s. LeavesOnly D.keeps (IsLeftBy (D.size disk) (marking superblock (reads (D.moments disk)))) (D.moments disk) (⟦<Store<D> as Door>⟧.store s).moments) }
+        ensures err_crash { IsTrue D.tells → IsMountable (D.size disk) (D.moments disk).state superblock
+            → IfErr result (λ u. u.fault ≢ refusal.Memory → LeavesOnly D.keeps (IsLeftBy (D.size disk) (marking superblock (reads (D.moments disk)))) (D.moments disk) (D.moments u.disk)) }
+        ensures ok { IsTrue D.tells → IsMountable (D.size disk) (D.moments disk).state superblock
+            → IfOk result (λ s. HasLedger (⟦<Store<D> as Door>⟧.store s) (opening_ledger (in_use superblock) (reads (D.moments disk)))) }
         ensures going { IfOk result (λ s. (⟦<Store<D> as Door>⟧.store s).stop ≡ None) }
         ensures unassigned { IfOk result (λ s. (⟦<Store<D> as Door>⟧.store s).unassigned ≡ free) }
-        ensures geometry { IfOk result (λ s. geometry_of_store (⟦<Store<D> as Door>⟧.store s) ≡ geometry_of head) }
-        ensures number { IfOk result (λ s. (⟦<Store<D> as Door>⟧.store s).journal.number ≡ head.next) }
-        ensures head { IfOk result (λ s. (⟦<Store<D> as Door>⟧.store s).head ≡ in_use head) }
+        ensures geometry { IfOk result (λ s. geometry_of_store (⟦<Store<D> as Door>⟧.store s) ≡ geometry_of superblock) }
+        ensures number { IfOk result (λ s. (⟦<Store<D> as Door>⟧.store s).journal.number ≡ superblock.next) }
+        ensures superblock { IfOk result (λ s. (⟦<Store<D> as Door>⟧.store s).superblock ≡ in_use superblock) }
         ensures size { IfOk result (λ s. (⟦<Store<D> as Door>⟧.store s).sectors ≡ D.size disk) }
         ensures err_size { IfErr result (λ u. D.size u.disk ≡ D.size disk) }
         ensures passed { IfOk result (λ s. (⟦<Store<D> as Door>⟧.store s).faults ≡ D.faults disk) }
@@ -70,17 +70,17 @@ impl<D: Disk> Store<D> {
         ensures refused { IfErr result (λ u. IsTrue (is_own u.fault)) }
         ensures memory { IfErr result (λ u. u.fault ≡ refusal.Memory → u.disk ≡ disk) }
     {
-        let head = Super {
+        let superblock = Super {
             clean: false,
-            ..head
+            ..superblock
         };
-        let Ok(tables) = Tables::make(alloc, &head, free) else {
+        let Ok(tables) = Tables::make(alloc, &superblock, free) else {
             return Err(Unmounted {
                 disk,
                 fault: StoreFault::Memory,
             });
         };
-        match mark_in_use(&mut disk, &tables.journal.geometry, &head) {
+        match mark_in_use(&mut disk, &tables.journal.geometry, &superblock) {
             Ok(()) => Ok(Store { disk, tables }),
             Err(fault) => Err(Unmounted {
                 disk,

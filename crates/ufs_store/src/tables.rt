@@ -20,7 +20,7 @@ use ufs_overlay::Overlay;
 #[derive(Drop)]
 pub struct Tables {
     /// The superblock of this epoch.
-    pub head: Super,
+    pub superblock: Super,
     pub journal: Journal,
     /// What is committed in the journal.
     pub overlay: Overlay,
@@ -32,10 +32,10 @@ pub struct Tables {
     pub unsettled: bool,
     /// The failed write or barrier at which the store stopped.
     pub stop: Option<u64>,
-    ghost headed: { geometry_of head ≡ journal.geometry },
-    ghost form: { IsTrue (is_super 1 head) },
-    ghost epoch: { head.epoch ≡ journal.epoch },
-    ghost next: { head.next ≤ journal.number },
+    ghost superblock_is: { geometry_of superblock ≡ journal.geometry },
+    ghost form: { IsTrue (is_super 1 superblock) },
+    ghost epoch: { superblock.epoch ≡ journal.epoch },
+    ghost next: { superblock.next ≤ journal.number },
     ghost over: { overlaid.geometry_of overlay ≡ journal.geometry },
     ghost from_one: { 1 ≤ txn },
     ghost few: { txn ≤ journal.used + 1 },
@@ -46,29 +46,29 @@ pub struct Tables {
 
 impl Tables {
     /// The tables of an image in which nothing is committed.
-    pub fn make(alloc: Global, head: &Super, unassigned: Bitmap) -> Result<Tables, Memory>
-        requires limits { IsGeometry (geometry_of head.now) }
-        requires form { IsTrue (is_super 1 head.now) }
-        requires first { unassigned.first ≡ first_of_data (geometry_of head.now) }
-        requires blocks { unassigned.blocks ≡ head.now.blocks }
-        ensures head { IfOk result (λ t. t.head ≡ head.now) }
-        ensures journal { IfOk result (λ t. (t.journal.geometry ≡ geometry_of head.now) × (t.journal.epoch ≡ head.now.epoch) × (t.journal.number ≡ head.now.next) × (t.journal.used ≡ 0)) }
+    pub fn make(alloc: Global, superblock: &Super, unassigned: Bitmap) -> Result<Tables, Memory>
+        requires limits { IsGeometry (geometry_of superblock.now) }
+        requires form { IsTrue (is_super 1 superblock.now) }
+        requires first { unassigned.first ≡ first_of_data (geometry_of superblock.now) }
+        requires blocks { unassigned.blocks ≡ superblock.now.blocks }
+        ensures superblock { IfOk result (λ t. t.superblock ≡ superblock.now) }
+        ensures journal { IfOk result (λ t. (t.journal.geometry ≡ geometry_of superblock.now) × (t.journal.epoch ≡ superblock.now.epoch) × (t.journal.number ≡ superblock.now.next) × (t.journal.used ≡ 0)) }
         ensures overlay { IfOk result (λ t. overlaid.HasAdded t.overlay []) }
         ensures txn { IfOk result (λ t. t.txn ≡ 1) }
         ensures unassigned { IfOk result (λ t. t.unassigned ≡ unassigned) }
         ensures settled { IfOk result (λ t. t.unsettled ≡ false) }
         ensures going { IfOk result (λ t. t.stop ≡ None) }
-        ensures ready { (state : State) → Leaves (HasEarlier (geometry_of head.now) head.now.epoch) state → IsReady (geometry_of head.now) head.now.epoch 0 head.now.next state }
-        ensures unused { (state : State) → Leaves (HasEarlier (geometry_of head.now) head.now.epoch) state → (txn : ℕ) → IsUnused (geometry_of head.now) head.now.epoch txn state }
+        ensures ready { (state : State) → Leaves (HasEarlier (geometry_of superblock.now) superblock.now.epoch) state → IsReady (geometry_of superblock.now) superblock.now.epoch 0 superblock.now.next state }
+        ensures unused { (state : State) → Leaves (HasEarlier (geometry_of superblock.now) superblock.now.epoch) state → (txn : ℕ) → IsUnused (geometry_of superblock.now) superblock.now.epoch txn state }
     {
         let geometry = Geometry {
-            blocks: head.blocks,
-            inodes: head.inodes,
-            journal: head.journal,
+            blocks: superblock.blocks,
+            inodes: superblock.inodes,
+            journal: superblock.journal,
         };
         Ok(Tables {
-            head: *head,
-            journal: Journal::make(alloc, &geometry, head)?,
+            superblock: *superblock,
+            journal: Journal::make(alloc, &geometry, superblock)?,
             overlay: Overlay::make(alloc, &geometry),
             txn: 1,
             unassigned,
@@ -78,15 +78,15 @@ impl Tables {
     }
 
     /// The superblock of the next epoch; `None` where epochs are used up.
-    pub fn next_head(&self) -> Option<Super>
-        ensures { IfSome result (λ head. head ≡ record (self.now.head) { epoch = self.now.head.epoch + 1; next = self.now.journal.number; clean = false }) }
+    pub fn next_superblock(&self) -> Option<Super>
+        ensures { IfSome result (λ superblock. superblock ≡ record (self.now.superblock) { epoch = self.now.superblock.epoch + 1; next = self.now.journal.number; clean = false }) }
     {
-        let epoch = self.head.epoch.checked_add(1)?;
+        let epoch = self.superblock.epoch.checked_add(1)?;
         Some(Super {
             epoch,
             next: self.journal.number,
             clean: false,
-            ..self.head
+            ..self.superblock
         })
     }
 }

@@ -44,11 +44,11 @@ files_commit_bytes g blocks s start history names files n file inode number size
 
 -- ---- trees
 
-module _ (g : Geometry) (sectors : ℕ) (l : Ledger) (n : Numbers) (paths : Paths) (t : Committed) (file : ℕ) (bytes : List ℕ) (same : geometry_of l.head ≡ g) (c : CommitsBytes g (settled l).blocks l.now (with_one g t l.now) n paths file bytes) where
+module _ (g : Geometry) (sectors : ℕ) (l : Ledger) (n : Numbers) (paths : Paths) (t : Committed) (file : ℕ) (bytes : List ℕ) (same : geometry_of l.superblock ≡ g) (c : CommitsBytes g (settled l).blocks l.now (with_one g t l.now) n paths file bytes) where
   abbrev after : Stand
   after = with_one g t l.now
 
-  module _ (image : Image) (left : IsLeft sectors l.head (settled l).blocks (with_one g t l.now) image) where
+  module _ (image : Image) (left : IsLeft sectors l.superblock (settled l).blocks (with_one g t l.now) image) where
     sound : IsSoundCatalog g (with_one g t l.now).catalog
     sound = subst (λ g'. IsSoundCatalog g' (with_one g t l.now).catalog) same left.sound
 
@@ -69,7 +69,7 @@ module _ (g : Geometry) (sectors : ℕ) (l : Ledger) (n : Numbers) (paths : Path
     own = shown_exactly bytes [] (file_content image (with_one g t l.now) n file) (inode_shown g (settled l).blocks (with_one g t l.now) (block_at image) (n.inode file) bytes [] 0 sound its picks always)
 
     pub its_files : ShowsFiles sectors image (with_one g t l.now) n paths
-    its_files = shows_files g sectors l.head (settled l).blocks (with_one g t l.now) image left same n paths c.after
+    its_files = shows_files g sectors l.superblock (settled l).blocks (with_one g t l.now) image left same n paths c.after
 
     module _ (before : Image) (x : ShowsFiles sectors before l.now n paths) (alike : (f : ℕ) → file_content image l.now n f ≡ file_content before l.now n f) where
       else : (f : ℕ) → f ≢ file → file_content image (with_one g t l.now) n f ≡ file_content before l.now n f
@@ -93,8 +93,8 @@ module _ (g : Geometry) (sectors : ℕ) (l : Ledger) (n : Numbers) (paths : Path
 
 -- ---- the steps
 
-module _ (g : Geometry) (sectors : ℕ) (l : Ledger) (n : Numbers) (paths : Paths) (t : Committed) (file : ℕ) (bytes : List ℕ) (same : geometry_of l.head ≡ g) (c : CommitsBytes g (settled l).blocks l.now (with_one g t l.now) n paths file bytes) where
-  goes : (image : Image) → IsLeft sectors l.head (settled l).blocks (with_one g t l.now) image → (before : Image) → ShowsFiles sectors before l.now n paths → ((f : ℕ) → file_content image l.now n f ≡ file_content before l.now n f)
+module _ (g : Geometry) (sectors : ℕ) (l : Ledger) (n : Numbers) (paths : Paths) (t : Committed) (file : ℕ) (bytes : List ℕ) (same : geometry_of l.superblock ≡ g) (c : CommitsBytes g (settled l).blocks l.now (with_one g t l.now) n paths file bytes) where
+  goes : (image : Image) → IsLeft sectors l.superblock (settled l).blocks (with_one g t l.now) image → (before : Image) → ShowsFiles sectors before l.now n paths → ((f : ℕ) → file_content image l.now n f ≡ file_content before l.now n f)
       → ImageGoes sectors (IsFileCommitted paths file bytes) before image
   goes image left before x alike =
       goes_by sectors before image l.now (with_one g t l.now) n n paths paths (IsFileCommitted paths file bytes) x (its_files g sectors l n paths t file bytes same c image left) (file_goes g sectors l n paths t file bytes same c image left before x alike)

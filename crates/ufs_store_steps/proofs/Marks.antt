@@ -35,7 +35,7 @@ abbrev seen_of : Cell → List ℕ
 seen_of c = c.seen
 
 -- A block reads as it did, where nothing is folded in it.
-module _ (g : Geometry) (sectors : ℕ) (old new : State) (l m : Ledger) (n : Numbers) (paths : Paths) (one : Cells) (is : IsBefore g sectors old l n paths one) (large : sector_count g ≤ sectors) (now : IsLedgerOf sectors new m) (same : geometry_of m.head ≡ g) where
+module _ (g : Geometry) (sectors : ℕ) (old new : State) (l m : Ledger) (n : Numbers) (paths : Paths) (one : Cells) (is : IsBefore g sectors old l n paths one) (large : sector_count g ≤ sectors) (now : IsLedgerOf sectors new m) (same : geometry_of m.superblock ≡ g) where
   reads_same : (b : ℕ) → IsDataBlock g b → is_held l.now.log b ≡ false → is_held m.now.log b ≡ false → (m.blocks b).seen ≡ (l.blocks b).seen → block_on (cells_of sectors new) b ≡ block_on one b
   reads_same b data' was free alike =
       let room : 8 * b + 8 ≤ sectors = (let under = data'.under in omega (arith, large, under)) in
@@ -111,7 +111,7 @@ failed_file_commits_mark g keeps sectors old new passed l t n paths k v s file x
 -- ---- a checkpoint
 
 pub checkpoints_mark : SameTreesShow → (g : Geometry) → CheckpointsMark g
-checkpoints_mark shows g keeps sectors old new passed l head home n paths k v p s dirs blocks freed kept large is went same crash data' now frees unheld =
+checkpoints_mark shows g keeps sectors old new passed l superblock home n paths k v p s dirs blocks freed kept large is went same crash data' now frees unheld =
     checkpoints_may shows k v p s (record { dirs = dirs; blocks = blocks; freed = freed; through = passed_cells sectors passed; state = cells_of sectors new.state }) (record {
       names = frees.names;
       store = frees.store;
@@ -121,10 +121,10 @@ checkpoints_mark shows g keeps sectors old new passed l head home n paths k v p 
       last = ⊎_elim (λ e. inl (e ∙ only_cells sectors old.state s.state is.told)) (λ h. inr h) (last_is_passed sectors old new passed went);
       others = λ told b z some. reads b (unheld.others b z some);
       own = λ told f y h place b there out. reads b (unheld.own f y h place b there out);
-      same = λ told. emptied_alike g sectors old.state new.state l n paths s.state (cells_of sectors new.state) head home is (cells_are_there sectors new.state) same data'.after now;
-      between = λ told d h. checkpoint_runs g keeps sectors old new passed l n paths s.state head home kept is went same data' crash d h;
+      same = λ told. emptied_alike g sectors old.state new.state l n paths s.state (cells_of sectors new.state) superblock home is (cells_are_there sectors new.state) same data'.after now;
+      between = λ told d h. checkpoint_runs g keeps sectors old new passed l n paths s.state superblock home kept is went same data' crash d h;
     })
   where
     reads : (b : ℕ) → IsDataBlock g b × (is_held l.now.log b ≡ false) → block_on (cells_of sectors new.state) b ≡ block_on s.state b
-    reads b free = reads_same g sectors old.state new.state l (emptied head home l) n paths s.state is large now same b free.0 free.1 refl
+    reads b free = reads_same g sectors old.state new.state l (emptied superblock home l) n paths s.state is large now same b free.0 free.1 refl
         (ap (λ h. seen_of (if h then record { older = []; seen = home b } else settled_cell (l.blocks b))) free.1)

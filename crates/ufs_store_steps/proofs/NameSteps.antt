@@ -27,10 +27,10 @@ use Rattle.ufs_store_steps.proofs.Stands.{goes_by}
 
 -- ---- trees
 
-module _ (g : Geometry) (sectors : ℕ) (l : Ledger) (n m : Numbers) (paths next : Paths) (fresh : ℕ → Bool) (t : Committed) (same : geometry_of l.head ≡ g) (c : CommitsPaths g l.now (with_one g t l.now) n m paths next fresh)
-    (image : Image) (left : IsLeft sectors l.head (settled l).blocks (with_one g t l.now) image) where
+module _ (g : Geometry) (sectors : ℕ) (l : Ledger) (n m : Numbers) (paths next : Paths) (fresh : ℕ → Bool) (t : Committed) (same : geometry_of l.superblock ≡ g) (c : CommitsPaths g l.now (with_one g t l.now) n m paths next fresh)
+    (image : Image) (left : IsLeft sectors l.superblock (settled l).blocks (with_one g t l.now) image) where
   pub its_files : ShowsFiles sectors image (with_one g t l.now) m next
-  its_files = shows_files g sectors l.head (settled l).blocks (with_one g t l.now) image left same m next c.after
+  its_files = shows_files g sectors l.superblock (settled l).blocks (with_one g t l.now) image left same m next c.after
 
   module _ (before : Image) (x : ShowsFiles sectors before l.now n paths) (alike : (f : ℕ) → file_content image l.now n f ≡ file_content before l.now n f) where
     -- a file that was named has what it had there
@@ -61,8 +61,8 @@ module _ (g : Geometry) (sectors : ℕ) (l : Ledger) (n m : Numbers) (paths next
 
 -- ---- the steps
 
-module _ (g : Geometry) (sectors : ℕ) (l : Ledger) (n m : Numbers) (paths next : Paths) (fresh : ℕ → Bool) (t : Committed) (same : geometry_of l.head ≡ g) (c : CommitsPaths g l.now (with_one g t l.now) n m paths next fresh) where
-  goes : (image : Image) → IsLeft sectors l.head (settled l).blocks (with_one g t l.now) image → (before : Image) → ShowsFiles sectors before l.now n paths → ((f : ℕ) → file_content image l.now n f ≡ file_content before l.now n f)
+module _ (g : Geometry) (sectors : ℕ) (l : Ledger) (n m : Numbers) (paths next : Paths) (fresh : ℕ → Bool) (t : Committed) (same : geometry_of l.superblock ≡ g) (c : CommitsPaths g l.now (with_one g t l.now) n m paths next fresh) where
+  goes : (image : Image) → IsLeft sectors l.superblock (settled l).blocks (with_one g t l.now) image → (before : Image) → ShowsFiles sectors before l.now n paths → ((f : ℕ) → file_content image l.now n f ≡ file_content before l.now n f)
       → ImageGoes sectors (AreNamesCommitted fresh paths next) before image
   goes image left before x alike =
       goes_by sectors before image l.now (with_one g t l.now) n m paths next (AreNamesCommitted fresh paths next) x (its_files g sectors l n m paths next fresh t same c image left) (names_go g sectors l n m paths next fresh t same c image left before x alike)

@@ -46,8 +46,8 @@ quiet_calls g sectors old new l n paths one other is are less =
 
 -- ---- checkpoints
 
-module _ (g : Geometry) (sectors : ℕ) (old new : State) (l : Ledger) (n : Numbers) (paths : Paths) (one other : Cells) (head : Super) (home : ℕ → List ℕ) (is : IsBefore g sectors old l n paths one) (are : AreCellsOf sectors new other)
-    (same : geometry_of head ≡ g) (data' : Leaves (KeepsData g l.now.log old) new) where
+module _ (g : Geometry) (sectors : ℕ) (old new : State) (l : Ledger) (n : Numbers) (paths : Paths) (one other : Cells) (superblock : Super) (home : ℕ → List ℕ) (is : IsBefore g sectors old l n paths one) (are : AreCellsOf sectors new other)
+    (same : geometry_of superblock ≡ g) (data' : Leaves (KeepsData g l.now.log old) new) where
   -- by the stand that was, or by that one without its journal
   by_now : (image : Image) → IsImage new image → (top : Super) (blocks : ℕ → Cell) → geometry_of top ≡ g → IsLeft sectors top blocks l.now image → (before : Image) × IsImage old before × (opens sectors image ≡ opens sectors before)
   by_now image at top blocks top_same left =
@@ -58,31 +58,31 @@ module _ (g : Geometry) (sectors : ℕ) (old new : State) (l : Ledger) (n : Numb
             (same_files g sectors old l n paths one is image k),
       )
 
-  by_home : (image : Image) → IsImage new image → IsLeft sectors head (home_cells home l) (without_log l.now) image → (before : Image) × IsImage old before × (opens sectors image ≡ opens sectors before)
+  by_home : (image : Image) → IsImage new image → IsLeft sectors superblock (home_cells home l) (without_log l.now) image → (before : Image) × IsImage old before × (opens sectors image ≡ opens sectors before)
   by_home image at left =
       let k = data' image at in (
         k.before,
         k.left,
-        one_tree_of sectors image k.before (without_log l.now) l.now n n paths (shows_files g sectors head (home_cells home l) (without_log l.now) image left same n paths (without_log_files g l.now n paths is.files))
+        one_tree_of sectors image k.before (without_log l.now) l.now n n paths (shows_files g sectors superblock (home_cells home l) (without_log l.now) image left same n paths (without_log_files g l.now n paths is.files))
             (was_shown g sectors old l n paths one is k.before k.left) (same_files g sectors old l n paths one is image k),
       )
 
-  within : (image again : Image) → IsLeftBy sectors l image ⊎ IsLeftBy sectors (beginning head home l) image → ((s : ℕ) → s < sectors → image s ≡ again s) → opens sectors again ≡ opens sectors image
-  within image again (inl left) alike = left_within sectors l.head l.blocks l.now image again (on_one sectors l image is.none left) alike
-  within image again (inr left) alike = ⊎_elim (λ a. left_within sectors l.head (home_cells home l) l.now image again a alike) (λ b. left_within sectors head (home_cells home l) (without_log l.now) image again b alike) (beginning_left sectors l image head home left)
+  within : (image again : Image) → IsLeftBy sectors l image ⊎ IsLeftBy sectors (beginning superblock home l) image → ((s : ℕ) → s < sectors → image s ≡ again s) → opens sectors again ≡ opens sectors image
+  within image again (inl left) alike = left_within sectors l.superblock l.blocks l.now image again (on_one sectors l image is.none left) alike
+  within image again (inr left) alike = ⊎_elim (λ a. left_within sectors l.superblock (home_cells home l) l.now image again a alike) (λ b. left_within sectors superblock (home_cells home l) (without_log l.now) image again b alike) (beginning_left sectors l image superblock home left)
 
-  step : (image : Image) → IsImage new image → IsLeftBy sectors l image ⊎ IsLeftBy sectors (beginning head home l) image → (before : Image) × IsImage old before × (opens sectors image ≡ opens sectors before)
-  step image at (inl left) = by_now image at l.head l.blocks is.geometry (on_one sectors l image is.none left)
-  step image at (inr left) = ⊎_elim (λ a. by_now image at l.head (home_cells home l) is.geometry a) (λ b. by_home image at b) (beginning_left sectors l image head home left)
+  step : (image : Image) → IsImage new image → IsLeftBy sectors l image ⊎ IsLeftBy sectors (beginning superblock home l) image → (before : Image) × IsImage old before × (opens sectors image ≡ opens sectors before)
+  step image at (inl left) = by_now image at l.superblock l.blocks is.geometry (on_one sectors l image is.none left)
+  step image at (inr left) = ⊎_elim (λ a. by_now image at l.superblock (home_cells home l) is.geometry a) (λ b. by_home image at b) (beginning_left sectors l image superblock home left)
 
 pub checkpoints : (g : Geometry) → CheckpointsOpenAlike g
-checkpoints g sectors old new l n paths one other head home is are same data' leaves =
+checkpoints g sectors old new l n paths one other superblock home is are same data' leaves =
     cells_open_as sectors old new one other is.told are (was_within g sectors old l n paths one is)
-    (λ image again left alike. within g sectors old new l n paths one other head home is are same data' image again (leaves image left) alike)
-    (λ image left. step g sectors old new l n paths one other head home is are same data' image left (leaves image left))
+    (λ image again left alike. within g sectors old new l n paths one other superblock home is are same data' image again (leaves image left) alike)
+    (λ image left. step g sectors old new l n paths one other superblock home is are same data' image left (leaves image left))
 
 pub emptied_alike : (g : Geometry) → EmptiedOpensAlike g
-emptied_alike g sectors old new l n paths one other head home is are same data' ledger =
+emptied_alike g sectors old new l n paths one other superblock home is are same data' ledger =
     cells_open_as sectors old new one other is.told are (was_within g sectors old l n paths one is)
-    (λ image again left alike. left_within sectors head (home_cells home l) (without_log l.now) image again (emptied_left sectors l image head home (ledger.images image left)) alike)
-    (λ image left. by_home g sectors old new l n paths one other head home is are same data' image left (emptied_left sectors l image head home (ledger.images image left)))
+    (λ image again left alike. left_within sectors superblock (home_cells home l) (without_log l.now) image again (emptied_left sectors l image superblock home (ledger.images image left)) alike)
+    (λ image left. by_home g sectors old new l n paths one other superblock home is are same data' image left (emptied_left sectors l image superblock home (ledger.images image left)))

@@ -72,10 +72,10 @@ quiet_runs g keeps sectors old new passed l n paths one kept is went run d h =
     subst (OpensAs one) (sym x.1) (quiet_calls g sectors old.state x.0 l n paths one (cells_of sectors x.0) is (cells_are_there sectors x.0) x.2)
 
 pub checkpoint_runs : (g : Geometry) → CheckpointRuns g
-checkpoint_runs g keeps sectors old new passed l n paths one head home kept is went same data' run d h =
-    let x = one_passed (Leaves (KeepsData g l.now.log old.state)) (Leaves (λ image. IsLeftBy sectors l image ⊎ IsLeftBy sectors (beginning head home l) image)) sectors passed d h
-    (each_passed (KeepsData g l.now.log old.state) keeps kept old new passed went data') (each_passed (λ image. IsLeftBy sectors l image ⊎ IsLeftBy sectors (beginning head home l) image) keeps kept old new passed went run) in
-    subst (OpensAs one) (sym x.1) (checkpoints g sectors old.state x.0 l n paths one (cells_of sectors x.0) head home is (cells_are_there sectors x.0) same x.2 x.3)
+checkpoint_runs g keeps sectors old new passed l n paths one superblock home kept is went same data' run d h =
+    let x = one_passed (Leaves (KeepsData g l.now.log old.state)) (Leaves (λ image. IsLeftBy sectors l image ⊎ IsLeftBy sectors (beginning superblock home l) image)) sectors passed d h
+    (each_passed (KeepsData g l.now.log old.state) keeps kept old new passed went data') (each_passed (λ image. IsLeftBy sectors l image ⊎ IsLeftBy sectors (beginning superblock home l) image) keeps kept old new passed went run) in
+    subst (OpensAs one) (sym x.1) (checkpoints g sectors old.state x.0 l n paths one (cells_of sectors x.0) superblock home is (cells_are_there sectors x.0) same x.2 x.3)
 
 pub write_runs : (g : Geometry) → WriteRuns g
 write_runs g keeps sectors old new passed l n paths one block bytes v s kept is went whole used may inside writes run d h =

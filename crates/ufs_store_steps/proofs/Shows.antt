@@ -88,12 +88,12 @@ pub nodes_at : (sectors : ℕ) (image : Image) (s : Stand) (n : Numbers) (paths 
     → map.get (nodes_of x.tree) path ≡ option_map node_of (shown_node (file_content image s n) (map.get paths path))
 nodes_at sectors image s n paths x path = get-mapped path_total node_of x.tree path ∙ ap (option_map node_of) (x.at path)
 
-module _ (g : Geometry) (sectors : ℕ) (head : Super) (blocks : ℕ → Cell) (s : Stand) (image : Image) (left : IsLeft sectors head blocks s image) (same : geometry_of head ≡ g) (n : Numbers) (paths : Paths) (files : HasFiles g s n paths) where
+module _ (g : Geometry) (sectors : ℕ) (superblock : Super) (blocks : ℕ → Cell) (s : Stand) (image : Image) (left : IsLeft sectors superblock blocks s image) (same : geometry_of superblock ≡ g) (n : Numbers) (paths : Paths) (files : HasFiles g s n paths) where
   v : Volume
   v = left.as_volume
 
   pub its_volume : IsVolumeOf sectors image left.as_volume s.catalog
-  its_volume = is_volume sectors head blocks s image left (λ these i c is dirs. spells_catalog (geometry_of head) these i c is dirs)
+  its_volume = is_volume sectors superblock blocks s image left (λ these i c is dirs. spells_catalog (geometry_of superblock) these i c is dirs)
 
   root : 1 ≤ left.as_volume.geometry.inodes
   root = has_root left.as_volume.geometry (has_geometry sectors image left.as_volume left.taken).0
@@ -110,7 +110,7 @@ module _ (g : Geometry) (sectors : ℕ) (head : Super) (blocks : ℕ → Cell) (
   sound = subst (λ g. IsSoundCatalog g s.catalog) same left.sound
 
   folded_block : (block : ℕ) → IsDataBlock g block → is_held s.log block ≡ false → block_at left.as_volume.image block ≡ block_at image block
-  folded_block block data' free = ap (λ (i : Image). block_at i block) (same_image sectors head blocks s image left) ∙ unheld_block (geometry_of head) block (subst (λ g. IsDataBlock g block) (sym same) data').from s.log image free
+  folded_block block data' free = ap (λ (i : Image). block_at i block) (same_image sectors superblock blocks s image left) ∙ unheld_block (geometry_of superblock) block (subst (λ g. IsDataBlock g block) (sym same) data').from s.log image free
 
   folded_content : (file : ℕ) → content_of (block_at left.as_volume.image) (shape_of s.catalog (n.inode file)) ≡ file_content image s n file
   folded_content file = content_same (block_at left.as_volume.image) (block_at image) (shape_of s.catalog (n.inode file)) (λ b is. let its = its_blocks g s n paths files sound file b is in folded_block b its.0 its.1)

@@ -29,14 +29,14 @@ use Rattle.ufs_store_steps.proofs.Shows.{its_blocks, content_same, file_content,
 -- ---- before
 
 module _ (g : Geometry) (sectors : ℕ) (old : State) (l : Ledger) (n : Numbers) (paths : Paths) (one : Cells) (is : IsBefore g sectors old l n paths one) where
-  pub was_left : (image : Image) → IsImage old image → IsLeft sectors l.head l.blocks l.now image
+  pub was_left : (image : Image) → IsImage old image → IsLeft sectors l.superblock l.blocks l.now image
   was_left image left = on_one sectors l image is.none (is.ledger.images image left)
 
   pub was_within : OpensWithin sectors old
-  was_within image other left same = left_within sectors l.head l.blocks l.now image other (was_left image left) same
+  was_within image other left same = left_within sectors l.superblock l.blocks l.now image other (was_left image left) same
 
   pub was_shown : (image : Image) → IsImage old image → ShowsFiles sectors image l.now n paths
-  was_shown image left = shows_files g sectors l.head l.blocks l.now image (was_left image left) is.geometry n paths is.files
+  was_shown image left = shows_files g sectors l.superblock l.blocks l.now image (was_left image left) is.geometry n paths is.files
 
   pub was_sound : IsSoundCatalog g l.now.catalog
   was_sound = subst (λ g. IsSoundCatalog g l.now.catalog) is.geometry (was_left (seen old) (seen_is_image old)).sound
@@ -50,24 +50,24 @@ module _ (g : Geometry) (sectors : ℕ) (old : State) (l : Ledger) (n : Numbers)
 
 module _ (sectors : ℕ) (l : Ledger) (image : Image) where
   pub committing_left : (t : Committed) → IsLeftBy sectors (committing t (settled l)) image
-      → IsLeft sectors l.head (settled l).blocks l.now image ⊎ IsLeft sectors l.head (settled l).blocks (with_one (geometry_of l.head) t l.now) image
+      → IsLeft sectors l.superblock (settled l).blocks l.now image ⊎ IsLeft sectors l.superblock (settled l).blocks (with_one (geometry_of l.superblock) t l.now) image
   committing_left t (inl left) = inl left
   committing_left t (inr one) =
-      let e : ◌≡◌ {A = Standing} one.0 (record { head = l.head; stand = with_one (geometry_of l.head) t l.now }) = (let f = one.1 in cc) in
-      inr (subst (λ (x : Standing). IsLeft sectors x.head (settled l).blocks x.stand image) e one.2)
+      let e : ◌≡◌ {A = Standing} one.0 (record { superblock = l.superblock; stand = with_one (geometry_of l.superblock) t l.now }) = (let f = one.1 in cc) in
+      inr (subst (λ (x : Standing). IsLeft sectors x.superblock (settled l).blocks x.stand image) e one.2)
 
-  pub committed_left : (t : Committed) → l.maybe ≡ None → IsLeftBy sectors (committed_one t l) image → IsLeft sectors l.head (settled l).blocks (with_one (geometry_of l.head) t l.now) image
+  pub committed_left : (t : Committed) → l.maybe ≡ None → IsLeftBy sectors (committed_one t l) image → IsLeft sectors l.superblock (settled l).blocks (with_one (geometry_of l.superblock) t l.now) image
   committed_left t none left = on_one sectors (committed_one t l) image none left
 
-  pub beginning_left : (head : Super) (home : ℕ → List ℕ) → IsLeftBy sectors (beginning head home l) image
-      → IsLeft sectors l.head (home_cells home l) l.now image ⊎ IsLeft sectors head (home_cells home l) (without_log l.now) image
-  beginning_left head home (inl left) = inl left
-  beginning_left head home (inr one) =
-      let e : ◌≡◌ {A = Standing} one.0 (record { head = head; stand = without_log l.now }) = (let f = one.1 in cc) in
-      inr (subst (λ (x : Standing). IsLeft sectors x.head (home_cells home l) x.stand image) e one.2)
+  pub beginning_left : (superblock : Super) (home : ℕ → List ℕ) → IsLeftBy sectors (beginning superblock home l) image
+      → IsLeft sectors l.superblock (home_cells home l) l.now image ⊎ IsLeft sectors superblock (home_cells home l) (without_log l.now) image
+  beginning_left superblock home (inl left) = inl left
+  beginning_left superblock home (inr one) =
+      let e : ◌≡◌ {A = Standing} one.0 (record { superblock = superblock; stand = without_log l.now }) = (let f = one.1 in cc) in
+      inr (subst (λ (x : Standing). IsLeft sectors x.superblock (home_cells home l) x.stand image) e one.2)
 
-  pub emptied_left : (head : Super) (home : ℕ → List ℕ) → IsLeftBy sectors (emptied head home l) image → IsLeft sectors head (home_cells home l) (without_log l.now) image
-  emptied_left head home left = on_one sectors (emptied head home l) image refl left
+  pub emptied_left : (superblock : Super) (home : ℕ → List ℕ) → IsLeftBy sectors (emptied superblock home l) image → IsLeft sectors superblock (home_cells home l) (without_log l.now) image
+  emptied_left superblock home left = on_one sectors (emptied superblock home l) image refl left
 
 -- with nothing in the journal the same files are there
 pub without_log_files : (g : Geometry) (s : Stand) (n : Numbers) (paths : Paths) → HasFiles g s n paths → HasFiles g (without_log s) n paths

@@ -39,6 +39,6 @@ module _ (sectors : ℕ) (image other : Image) (v : Volume) (c : Catalog) (is : 
       (λ s of. of_inode of.dir_block.inode of.dir_block.place of.block s of.dir_block.has.in_range of.dir_block.has.there of.of_block) same in
       one_tree sectors image other v w.0 c is w.1 w.2 (λ inode ranged s of. w.4 s (of_inode inode of.place of.block s ranged of.there of.of_block))
 
-pub left_within : (sectors : ℕ) (head : Super) (blocks : ℕ → Cell) (s : Stand) (image other : Image) → IsLeft sectors head blocks s image → ((k : ℕ) → k < sectors → image k ≡ other k) → opens sectors other ≡ opens sectors image
-left_within sectors head blocks s image other left same =
-    opens_within sectors image other left.as_volume s.catalog (is_volume sectors head blocks s image left (λ these i c is dirs. spells_catalog (geometry_of head) these i c is dirs)) same
+pub left_within : (sectors : ℕ) (superblock : Super) (blocks : ℕ → Cell) (s : Stand) (image other : Image) → IsLeft sectors superblock blocks s image → ((k : ℕ) → k < sectors → image k ≡ other k) → opens sectors other ≡ opens sectors image
+left_within sectors superblock blocks s image other left same =
+    opens_within sectors image other left.as_volume s.catalog (is_volume sectors superblock blocks s image left (λ these i c is dirs. spells_catalog (geometry_of superblock) these i c is dirs)) same

@@ -62,18 +62,18 @@ module _ (pick : Pick) (shape : Shape) (long : (b : ℕ) → IsIn b shape.holds 
 -- ---- one image
 
 module _ (g : Geometry) (sectors : ℕ) (old : State) (l : Ledger) (n : Numbers) (paths : Paths) (one : Cells) (block : ℕ) (bytes : List ℕ) (v : View) (s : StorePart) (is : IsBefore g sectors old l n paths one)
-    (whole : Leaves (IsImageOf sectors) old) (used : l.head.clean ≡ false) (may : MayWrite l block bytes) (inside : 8 * block + 8 ≤ sectors) (writes : WritesItsFiles v s l.now n block bytes) (image : Image) (part : IsPartlyWritten (8 * block) bytes old image) where
+    (whole : Leaves (IsImageOf sectors) old) (used : l.superblock.clean ≡ false) (may : MayWrite l block bytes) (inside : 8 * block + 8 ≤ sectors) (writes : WritesItsFiles v s l.now n block bytes) (image : Image) (part : IsPartlyWritten (8 * block) bytes old image) where
   before : Image
   before = part.before
 
-  left : IsLeft sectors l.head (rewritten block bytes l.blocks) l.now image
+  left : IsLeft sectors l.superblock (rewritten block bytes l.blocks) l.now image
   left = on_one sectors (written block bytes l) image is.none (writing sectors old l block bytes whole is.none used is.ledger may image part)
 
   x : ShowsFiles sectors part.before l.now n paths
   x = was_shown g sectors old l n paths one is part.before part.left
 
   y : ShowsFiles sectors image l.now n paths
-  y = shows_files g sectors l.head (rewritten block bytes l.blocks) l.now image left is.geometry n paths is.files
+  y = shows_files g sectors l.superblock (rewritten block bytes l.blocks) l.now image left is.geometry n paths is.files
 
   block_else : (b : ℕ) → (b ≡ block → ⊥) → block_at image b ≡ block_at part.before b
   block_else b ne = sym (block_same part.before image b (λ k of. elsewhere block bytes part.before image may.size part.mixed k (apart_of block b k ne of)))
@@ -86,7 +86,7 @@ module _ (g : Geometry) (sectors : ℕ) (old : State) (l : Ledger) (n : Numbers)
     abbrev shape : Shape
     shape = shape_of l.now.catalog (n.inode file)
 
-    long_at : (i : Image) (blocks : ℕ → Cell) → IsLeft sectors l.head blocks l.now i → (b : ℕ) → IsIn b (shape_of l.now.catalog (n.inode file)).holds → length (block_at i b) ≡ 4096
+    long_at : (i : Image) (blocks : ℕ → Cell) → IsLeft sectors l.superblock blocks l.now i → (b : ℕ) → IsIn b (shape_of l.now.catalog (n.inode file)).holds → length (block_at i b) ≡ 4096
     long_at i blocks its b at =
         let k = its_blocks g l.now n paths is.files (was_sound g sectors old l n paths one is) file b at in
         (its.contents b (subst (λ g. IsDataBlock g b) (sym is.geometry) k.0) k.1).size
@@ -186,7 +186,7 @@ module _ (g : Geometry) (sectors : ℕ) (old : State) (l : Ledger) (n : Numbers)
   write_goes = (part.before, part.left, goes_by sectors part.before image l.now l.now n n paths paths (AreFilesWrittenBy v s paths) x y (λ path. at_path path (map.get paths path) refl))
 
   pub write_within : (again : Image) → ((k : ℕ) → k < sectors → image k ≡ again k) → opens sectors again ≡ opens sectors image
-  write_within again same = left_within sectors l.head (rewritten block bytes l.blocks) l.now image again left same
+  write_within again same = left_within sectors l.superblock (rewritten block bytes l.blocks) l.now image again left same
 
 pub writes_go : (g : Geometry) → WritesGo g
 writes_go g sectors old new l n paths one other block bytes v s is are whole used may inside writes leaves =

@@ -72,8 +72,8 @@ pub record FreesBlocks (v : View) (p : NamesPart) (s : StorePart) (dirs blocks f
 
 -- A checkpoint that passed may be marked.
 abbrev pub CheckpointsMark : Geometry → Type 0
-CheckpointsMark g = (keeps : Bool) (sectors : ℕ) (old new : Moments) (passed : List State) (l : Ledger) (head : Super) (home : ℕ → List ℕ) (n : Numbers) (paths : Paths) (k : Start) (v : View) (p : NamesPart) (s : StorePart) (dirs blocks freed : List ℕ)
-    → IsTrue keeps → sector_count g ≤ sectors → IsBefore g sectors old.state l n paths s.state → WentThrough old new passed → geometry_of head ≡ g
-    → LeavesOnly keeps (λ image. IsLeftBy sectors l image ⊎ IsLeftBy sectors (beginning head home l) image) old new → LeavesOnly keeps (KeepsData g l.now.log old.state) old new → IsLedgerOf sectors new.state (emptied head home l)
+CheckpointsMark g = (keeps : Bool) (sectors : ℕ) (old new : Moments) (passed : List State) (l : Ledger) (superblock : Super) (home : ℕ → List ℕ) (n : Numbers) (paths : Paths) (k : Start) (v : View) (p : NamesPart) (s : StorePart) (dirs blocks freed : List ℕ)
+    → IsTrue keeps → sector_count g ≤ sectors → IsBefore g sectors old.state l n paths s.state → WentThrough old new passed → geometry_of superblock ≡ g
+    → LeavesOnly keeps (λ image. IsLeftBy sectors l image ⊎ IsLeftBy sectors (beginning superblock home l) image) old new → LeavesOnly keeps (KeepsData g l.now.log old.state) old new → IsLedgerOf sectors new.state (emptied superblock home l)
     → FreesBlocks v p s dirs blocks freed → AreBlocksUnheld g k v l.now.log
     → MayCheckpoint by_images k v p s (record { dirs = dirs; blocks = blocks; freed = freed; through = passed_cells sectors passed; state = cells_of sectors new.state })

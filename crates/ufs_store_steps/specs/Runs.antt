@@ -41,14 +41,14 @@ QuietRuns g = (keeps : Bool) (sectors : ℕ) (old new : Moments) (passed : List 
 
 -- a checkpoint
 abbrev pub CheckpointRuns : Geometry → Type 0
-CheckpointRuns g = (keeps : Bool) (sectors : ℕ) (old new : Moments) (passed : List State) (l : Ledger) (n : Numbers) (paths : Paths) (one : Cells) (head : Super) (home : ℕ → List ℕ) → IsTrue keeps → IsBefore g sectors old.state l n paths one
-    → WentThrough old new passed → geometry_of head ≡ g → LeavesOnly keeps (KeepsData g l.now.log old.state) old new → LeavesOnly keeps (λ image. IsLeftBy sectors l image ⊎ IsLeftBy sectors (beginning head home l) image) old new
+CheckpointRuns g = (keeps : Bool) (sectors : ℕ) (old new : Moments) (passed : List State) (l : Ledger) (n : Numbers) (paths : Paths) (one : Cells) (superblock : Super) (home : ℕ → List ℕ) → IsTrue keeps → IsBefore g sectors old.state l n paths one
+    → WentThrough old new passed → geometry_of superblock ≡ g → LeavesOnly keeps (KeepsData g l.now.log old.state) old new → LeavesOnly keeps (λ image. IsLeftBy sectors l image ⊎ IsLeftBy sectors (beginning superblock home l) image) old new
     → (d : Cells) → Has d (passed_cells sectors passed) → OpensAs one d
 
 -- a write
 abbrev pub WriteRuns : Geometry → Type 0
 WriteRuns g = (keeps : Bool) (sectors : ℕ) (old new : Moments) (passed : List State) (l : Ledger) (n : Numbers) (paths : Paths) (one : Cells) (block : ℕ) (bytes : List ℕ) (v : View) (s : StorePart) → IsTrue keeps
-    → IsBefore g sectors old.state l n paths one → WentThrough old new passed → Leaves (IsImageOf sectors) old.state → l.head.clean ≡ false → MayWrite l block bytes → SECTORS_PER_BLOCK * block + SECTORS_PER_BLOCK ≤ sectors → WritesItsFiles v s l.now n block bytes
+    → IsBefore g sectors old.state l n paths one → WentThrough old new passed → Leaves (IsImageOf sectors) old.state → l.superblock.clean ≡ false → MayWrite l block bytes → SECTORS_PER_BLOCK * block + SECTORS_PER_BLOCK ≤ sectors → WritesItsFiles v s l.now n block bytes
     → LeavesOnly keeps (IsPartlyWritten (SECTORS_PER_BLOCK * block) bytes old.state) old new → (d : Cells) → Has d (passed_cells sectors passed) → TreesMayGo (AreFilesWrittenBy v s paths) one d
 
 -- a commit of a file

@@ -37,7 +37,7 @@ CellsAreThere = (sectors : ℕ) (state : State) → AreCellsOf sectors state (ce
 
 -- A block in which nothing is folded is on the disk as its cell reads.
 abbrev pub BlocksRead : Type 0
-BlocksRead = (sectors : ℕ) (state : State) (l : Ledger) (cells : Cells) (block : ℕ) → AreCellsOf sectors state cells → IsLedgerOf sectors state l → IsDataBlock (geometry_of l.head) block → is_held l.now.log block ≡ false
+BlocksRead = (sectors : ℕ) (state : State) (l : Ledger) (cells : Cells) (block : ℕ) → AreCellsOf sectors state cells → IsLedgerOf sectors state l → IsDataBlock (geometry_of l.superblock) block → is_held l.now.log block ≡ false
     → SECTORS_PER_BLOCK * block + SECTORS_PER_BLOCK ≤ sectors → block_on cells block ≡ (l.blocks block).seen
 
 -- A stand that a history stores has the files of its names.
@@ -48,7 +48,7 @@ StoredHasFiles g = (blocks : ℕ → Cell) (s : Stand) (start : PosixTree) (hist
 -- ---- what a state of the disk is before a call
 
 pub record IsBefore (g : Geometry) (sectors : ℕ) (state : State) (l : Ledger) (n : Numbers) (paths : Paths) (cells : Cells) : Type 0 where
-  pub geometry : geometry_of l.head ≡ g
+  pub geometry : geometry_of l.superblock ≡ g
   pub none : l.maybe ≡ None
   pub ledger : IsLedgerOf sectors state l
   pub files : HasFiles g l.now n paths
@@ -62,13 +62,13 @@ QuietCallsOpenAlike g = (sectors : ℕ) (old new : State) (l : Ledger) (n : Numb
 
 -- So while everything is written home and the next epoch begins,
 abbrev pub CheckpointsOpenAlike : Geometry → Type 0
-CheckpointsOpenAlike g = (sectors : ℕ) (old new : State) (l : Ledger) (n : Numbers) (paths : Paths) (one other : Cells) (head : Super) (home : ℕ → List ℕ) → IsBefore g sectors old l n paths one → AreCellsOf sectors new other
-    → geometry_of head ≡ g → Leaves (KeepsData g l.now.log old) new → Leaves (λ image. IsLeftBy sectors l image ⊎ IsLeftBy sectors (beginning head home l) image) new → OpensAs one other
+CheckpointsOpenAlike g = (sectors : ℕ) (old new : State) (l : Ledger) (n : Numbers) (paths : Paths) (one other : Cells) (superblock : Super) (home : ℕ → List ℕ) → IsBefore g sectors old l n paths one → AreCellsOf sectors new other
+    → geometry_of superblock ≡ g → Leaves (KeepsData g l.now.log old) new → Leaves (λ image. IsLeftBy sectors l image ⊎ IsLeftBy sectors (beginning superblock home l) image) new → OpensAs one other
 
 -- and after it.
 abbrev pub EmptiedOpensAlike : Geometry → Type 0
-EmptiedOpensAlike g = (sectors : ℕ) (old new : State) (l : Ledger) (n : Numbers) (paths : Paths) (one other : Cells) (head : Super) (home : ℕ → List ℕ) → IsBefore g sectors old l n paths one → AreCellsOf sectors new other
-    → geometry_of head ≡ g → Leaves (KeepsData g l.now.log old) new → IsLedgerOf sectors new (emptied head home l) → OpensAs one other
+EmptiedOpensAlike g = (sectors : ℕ) (old new : State) (l : Ledger) (n : Numbers) (paths : Paths) (one other : Cells) (superblock : Super) (home : ℕ → List ℕ) → IsBefore g sectors old l n paths one → AreCellsOf sectors new other
+    → geometry_of superblock ≡ g → Leaves (KeepsData g l.now.log old) new → IsLedgerOf sectors new (emptied superblock home l) → OpensAs one other
 
 -- ---- a write
 
@@ -82,7 +82,7 @@ WritesItsFiles v s stand n block bytes = (file place : ℕ) → slice_get (shape
 -- Each tree has the files written back, at each moment of the call, whether it passes or fails.
 abbrev pub WritesGo : Geometry → Type 0
 WritesGo g = (sectors : ℕ) (old new : State) (l : Ledger) (n : Numbers) (paths : Paths) (one other : Cells) (block : ℕ) (bytes : List ℕ) (v : View) (s : StorePart) → IsBefore g sectors old l n paths one → AreCellsOf sectors new other
-    → Leaves (IsImageOf sectors) old → l.head.clean ≡ false → MayWrite l block bytes → SECTORS_PER_BLOCK * block + SECTORS_PER_BLOCK ≤ sectors → WritesItsFiles v s l.now n block bytes
+    → Leaves (IsImageOf sectors) old → l.superblock.clean ≡ false → MayWrite l block bytes → SECTORS_PER_BLOCK * block + SECTORS_PER_BLOCK ≤ sectors → WritesItsFiles v s l.now n block bytes
     → Leaves (IsPartlyWritten (SECTORS_PER_BLOCK * block) bytes old) new → TreesGo (AreFilesWrittenBy v s paths) one other
 
 -- ---- a commit of a file

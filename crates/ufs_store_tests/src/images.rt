@@ -19,7 +19,7 @@ use ufs_store::{Door, Store, StoreFault, Uncommitted};
 
 pub const SECTORS: u32 = 2_048;
 
-const HEAD: Super = Super {
+const SUPERBLOCK: Super = Super {
     version: 1,
     blocks: 256,
     inodes: 32,
@@ -37,7 +37,7 @@ pub fn mounted<D: Disk + Drop>(alloc: Global, disk: D) -> Option<Store<D>>
         return None;
     }
     let free = Bitmap::all_free(alloc, 14, 256).ok()?;
-    Store::mount(alloc, disk, HEAD, free).ok()
+    Store::mount(alloc, disk, SUPERBLOCK, free).ok()
 }
 
 /// A disk in memory of whose calls these fail.

@@ -23,9 +23,9 @@ fn sector_of(disk: &mut PlainDisk, sector: u32) -> Option<[u8; SECTOR]> {
 }
 
 // The epoch, the next commit number and whether it is clean.
-fn head_of(disk: &mut PlainDisk) -> Option<(u64, u64, bool)> {
-    let head = get_super(&sector_of(disk, 0)?)?;
-    Some((head.epoch, head.next, head.clean))
+fn superblock_of(disk: &mut PlainDisk) -> Option<(u64, u64, bool)> {
+    let superblock = get_super(&sector_of(disk, 0)?)?;
+    Some((superblock.epoch, superblock.next, superblock.clean))
 }
 
 #[test]
@@ -60,9 +60,9 @@ fn a_file_is_committed_and_the_disk_recovered(rt: HostRuntime) -> Result<(), Fai
     assert!(rt; store.read_block(15, &mut read).is_ok());
     assert!(rt; read == block);
     let mut disk = store.into_disk();
-    assert!(rt; head_of(&mut disk) == Some((1, 1, false)));
+    assert!(rt; superblock_of(&mut disk) == Some((1, 1, false)));
     assert!(rt; recover(alloc, &mut disk) == Ok(2));
-    assert!(rt; head_of(&mut disk) == Some((2, 3, true)));
+    assert!(rt; superblock_of(&mut disk) == Some((2, 3, true)));
     let inode = sector_of(&mut disk, 17).and_then(|bytes| get_inode(&bytes));
     assert!(rt; inode.is_some_and(|inode| inode.size == 1 && inode.number == 2));
     let bits = sector_of(&mut disk, 8);
@@ -71,20 +71,20 @@ fn a_file_is_committed_and_the_disk_recovered(rt: HostRuntime) -> Result<(), Fai
 }
 
 // The superblock that a session of so many commits of a file leaves.
-fn head_after(alloc: Global, count: u64) -> Option<(u64, u64, bool)> {
+fn superblock_after(alloc: Global, count: u64) -> Option<(u64, u64, bool)> {
     let mut store = mounted(alloc, PlainDisk::zeros(alloc, 2_048).ok()?)?;
     let mut log = log_of_file(alloc).ok()?;
     if commit_sizes(alloc, &mut store, &mut log, count)? != count {
         return None;
     }
-    head_of(&mut store.into_disk())
+    superblock_of(&mut store.into_disk())
 }
 
 #[test]
 fn a_full_journal_is_written_home(rt: HostRuntime) -> Result<(), Fail> {
     // A commit takes two of the 64 sectors. The superblock's next number is that of the first commit in its epoch.
     for (count, epoch, next) in [(32, 1, 1), (33, 2, 33), (64, 2, 33), (65, 3, 65)] {
-        assert!(rt; head_after(rt.alloc(), count) == Some((epoch, next, false)));
+        assert!(rt; superblock_after(rt.alloc(), count) == Some((epoch, next, false)));
     }
     Ok(())
 }

@@ -28,7 +28,7 @@ use Rattle.ufs_stored.proofs.Places.{held_at}
 
 -- The ledger has the same catalog, with its dentries in the same blocks, and a crash leaves no more in those of files.
 pub record IsAlike (l m : Ledger) (fresh : List ℕ) : Type 0 where
-  pub head : geometry_of m.head ≡ geometry_of l.head
+  pub superblock : geometry_of m.superblock ≡ geometry_of l.superblock
   pub catalog : m.now.catalog ≡ l.now.catalog
   pub dirs : m.now.dirs ≡ l.now.dirs
   pub unheld : (block : ℕ) → is_held l.now.log block ≡ false → is_held m.now.log block ≡ false
@@ -36,13 +36,13 @@ pub record IsAlike (l m : Ledger) (fresh : List ℕ) : Type 0 where
 
 -- The ledger has the same catalog, with its dentries in the same blocks, and each file is stored there.
 module _ (l m : Ledger) (u : BlockSet) (start : PosixTree) (history : List Entry) (k : Counts) (p : Parts) (st : IsStored l u start history k p)
-    (head : geometry_of m.head ≡ geometry_of l.head) (catalog : m.now.catalog ≡ l.now.catalog) (dirs : m.now.dirs ≡ l.now.dirs) (unheld : (block : ℕ) → is_held l.now.log block ≡ false → is_held m.now.log block ≡ false)
+    (superblock : geometry_of m.superblock ≡ geometry_of l.superblock) (catalog : m.now.catalog ≡ l.now.catalog) (dirs : m.now.dirs ≡ l.now.dirs) (unheld : (block : ℕ) → is_held l.now.log block ≡ false → is_held m.now.log block ≡ false)
     (stored : (file : ℕ) (s : FileState) → map.get p.files file ≡ Some s → IsFileStored l k.numbers (durable_in p.commits s) → IsFileStored m k.numbers (durable_in p.commits s)) where
-  moved : (P : Geometry → Catalog → Type 0) → P (geometry_of l.head) l.now.catalog → P (geometry_of m.head) m.now.catalog
-  moved P x = subst (λ (c : Catalog). P (geometry_of m.head) c) (sym catalog) (subst (λ (g : Geometry). P g l.now.catalog) (sym head) x)
+  moved : (P : Geometry → Catalog → Type 0) → P (geometry_of l.superblock) l.now.catalog → P (geometry_of m.superblock) m.now.catalog
+  moved P x = subst (λ (c : Catalog). P (geometry_of m.superblock) c) (sym catalog) (subst (λ (g : Geometry). P g l.now.catalog) (sym superblock) x)
 
-  back : (P : Geometry → Catalog → Type 0) → P (geometry_of m.head) m.now.catalog → P (geometry_of l.head) l.now.catalog
-  back P x = subst (λ (c : Catalog). P (geometry_of l.head) c) catalog (subst (λ (g : Geometry). P g m.now.catalog) head x)
+  back : (P : Geometry → Catalog → Type 0) → P (geometry_of m.superblock) m.now.catalog → P (geometry_of l.superblock) l.now.catalog
+  back P x = subst (λ (c : Catalog). P (geometry_of l.superblock) c) catalog (subst (λ (g : Geometry). P g m.now.catalog) superblock x)
 
   file_block : (block : ℕ) → IsFileBlock l block → IsFileBlock m block
   file_block block was = record {
@@ -59,8 +59,8 @@ module _ (l m : Ledger) (u : BlockSet) (start : PosixTree) (history : List Entry
     stored = stored file s here was.stored;
   }
     where
-      by : (place block : ℕ) → (slice_get (blocks_of (durable_in p.commits s).log.committed.runs) place ≡ Some block) ⊎ (IsTakenBlock (geometry_of l.head) l.now.catalog block → ⊥)
-          → (slice_get (blocks_of (durable_in p.commits s).log.committed.runs) place ≡ Some block) ⊎ (IsTakenBlock (geometry_of m.head) m.now.catalog block → ⊥)
+      by : (place block : ℕ) → (slice_get (blocks_of (durable_in p.commits s).log.committed.runs) place ≡ Some block) ⊎ (IsTakenBlock (geometry_of l.superblock) l.now.catalog block → ⊥)
+          → (slice_get (blocks_of (durable_in p.commits s).log.committed.runs) place ≡ Some block) ⊎ (IsTakenBlock (geometry_of m.superblock) m.now.catalog block → ⊥)
       by place block (inl there) = inl there
       by place block (inr none) = inr (λ taken. none (back (λ g c. IsTakenBlock g c block) taken))
 
@@ -119,9 +119,9 @@ module _ (l m : Ledger) (u : BlockSet) (start : PosixTree) (history : List Entry
       by true e = (let clash = st.spaced.apart (OneFile file) TheNames block (record { hand = s; here = here; held = held_at (durable_in p.commits s) place block at }) (inl e) in absurd cc)
 
   stands : (a b : Ledger) (h : DurableState) → ((place block : ℕ) → slice_get (blocks_of h.file.extents) place ≡ Some block → has p.fresh block ≡ false)
-      → a.head ≡ l.head → b.head ≡ m.head → a.blocks ≡ l.blocks → b.blocks ≡ m.blocks → a.now.dirs ≡ l.now.dirs → b.now.dirs ≡ m.now.dirs → a.now.log ≡ l.now.log → b.now.log ≡ m.now.log
+      → a.superblock ≡ l.superblock → b.superblock ≡ m.superblock → a.blocks ≡ l.blocks → b.blocks ≡ m.blocks → a.now.dirs ≡ l.now.dirs → b.now.dirs ≡ m.now.dirs → a.now.log ≡ l.now.log → b.now.log ≡ m.now.log
       → b.now.catalog.forms h.file.inode ≡ a.now.catalog.forms h.file.inode → StandsFor a h → StandsFor b h
-  stands a b h off ha hb ba bb da db la lb form stood = stands_still a b h (ap geometry_of hb ∙ alike.head ∙ sym (ap geometry_of ha)) form (db ∙ alike.dirs ∙ sym da)
+  stands a b h off ha hb ba bb da db la lb form stood = stands_still a b h (ap geometry_of hb ∙ alike.superblock ∙ sym (ap geometry_of ha)) form (db ∙ alike.dirs ∙ sym da)
       (λ block free. ap (λ log. is_held log block) lb ∙ alike.unheld block (sym (ap (λ log. is_held log block) la) ∙ free))
       (λ place block bytes at free only. subst (λ (cells : ℕ → Cell). HaveOnly (possible (cells block)) bytes) (sym bb)
       (alike.less block bytes (off place block at) (sym (ap (λ log. is_held log block) la) ∙ free) (subst (λ (cells : ℕ → Cell). HaveOnly (possible (cells block)) bytes) ba only)))
@@ -136,4 +136,4 @@ module _ (l m : Ledger) (u : BlockSet) (start : PosixTree) (history : List Entry
   )
 
   pub alike_stored : IsLedgerKept m start history k k → IsStored m u start history k p
-  alike_stored kept = same_stored l m u start history k p st alike.head alike.catalog alike.dirs alike.unheld stored kept
+  alike_stored kept = same_stored l m u start history k p st alike.superblock alike.catalog alike.dirs alike.unheld stored kept

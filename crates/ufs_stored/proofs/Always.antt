@@ -16,7 +16,7 @@ use Rattle.ufs_ledger.specs.Ledger.{IsLeftBy, Ledger}
 use Rattle.ufs_model.specs.PosixTree.{PosixTree}
 use Rattle.ufs_model.specs.declared.data.Entry.{Entry}
 use Rattle.ufs_store.specs.Ledgers.{IsLeftByAny, beginning_next, checkpointed, commit_stages, stages, with_room}
-use Rattle.ufs_store.specs.State.{StoreState, geometry_of_store, has_room, next_commit, next_head}
+use Rattle.ufs_store.specs.State.{StoreState, geometry_of_store, has_room, next_commit, next_superblock}
 use Rattle.ufs_stored.specs.AlwaysLaws.{IsKeptLedger}
 use Rattle.ufs_stored.specs.OnDisk.{IsExplainedBetween, IsExplainedImage, IsOnDisk}
 use Rattle.ufs_stored.specs.Parts.{Parts}
@@ -51,21 +51,21 @@ module _ (g : Geometry) (explains : LedgersExplain g) (proper : LeftIsProper g) 
 
 -- ---- each stage
 
-module _ (g : Geometry) (s : StoreState) (l : Ledger) (start : PosixTree) (history : List Entry) (k : Counts) (formed : geometry_of l.head ≡ g) (headed : l.head ≡ s.head) (kept : IsLedgerKept l start history k k) where
-  next_form : geometry_of (next_head s) ≡ g
-  next_form = ap geometry_of (sym headed) ∙ formed
+module _ (g : Geometry) (s : StoreState) (l : Ledger) (start : PosixTree) (history : List Entry) (k : Counts) (formed : geometry_of l.superblock ≡ g) (superblock_is : l.superblock ≡ s.superblock) (kept : IsLedgerKept l start history k k) where
+  next_form : geometry_of (next_superblock s) ≡ g
+  next_form = ap geometry_of (sym superblock_is) ∙ formed
 
   here : IsKeptLedger g start history l
   here = record { now = k; maybe = k; formed = formed; kept = kept }
 
   begun : BeginningIsKept g → IsKeptLedger g start history (beginning_next s l)
-  begun begins = record { now = k; maybe = k; formed = formed; kept = begins l (next_head s) (block_at (home_of l (reads s.moments))) start history k k formed next_form kept }
+  begun begins = record { now = k; maybe = k; formed = formed; kept = begins l (next_superblock s) (block_at (home_of l (reads s.moments))) start history k k formed next_form kept }
 
   pub checkpoint_kept : BeginningIsKept g → AllByRecursion (IsKeptLedger g start history) (l ∷ beginning_next s l ∷ [])
   checkpoint_kept begins = (here, (begun begins, tt))
 
   done : EmptiedIsKept g → IsKeptLedger g start history (checkpointed s l)
-  done empties = record { now = k; maybe = k; formed = next_form; kept = empties l (next_head s) (block_at (home_of l (reads s.moments))) start history k k formed next_form kept }
+  done empties = record { now = k; maybe = k; formed = next_form; kept = empties l (next_superblock s) (block_at (home_of l (reads s.moments))) start history k k formed next_form kept }
 
   pub commit_kept : BeginningIsKept g → EmptiedIsKept g → (records : List LogRecord) (next : Counts) → IsLedgerKept (committing (next_commit s records) (settled (with_room s records l))) start history k next
       → AllByRecursion (IsKeptLedger g start history) (stages s records l)

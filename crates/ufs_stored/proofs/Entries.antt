@@ -28,7 +28,7 @@ use Rattle.ufs_stored.specs.Parts.{Parts}
 use Rattle.ufs_stored.specs.Stored.{AreCounted, ArePartsOf, IsStored}
 
 -- the promise of the ledger
-pub ledger_kept : (g : Geometry) → EntriesKeep g → (l : Ledger) (start : PosixTree) (history : List Entry) (entry : Entry) (k maybe : Counts) → geometry_of l.head ≡ g → IsTree start → IsLegal start (history ++ entry ∷ [])
+pub ledger_kept : (g : Geometry) → EntriesKeep g → (l : Ledger) (start : PosixTree) (history : List Entry) (entry : Entry) (k maybe : Counts) → geometry_of l.superblock ≡ g → IsTree start → IsLegal start (history ++ entry ∷ [])
     → IsAckCovered start history entry k.names k.files → IsAckCovered start history entry maybe.names maybe.files → IsLedgerKept l start history k maybe → IsLedgerKept l start (history ++ entry ∷ []) k maybe
 ledger_kept g keeps l start history entry k maybe same tree legal ack other_ack kept =
     let keep = subst EntriesKeep (sym same) keeps in
@@ -49,7 +49,7 @@ counted_still start history entry k made c = record {
       omega (arith, more, was);
 }
 
-pub entry_kept : (g : Geometry) → EntriesKeep g → (l : Ledger) (unassigned : BlockSet) (start : PosixTree) (history : List Entry) (entry : Entry) (k : Counts) (p : Parts) → geometry_of l.head ≡ g → IsLegal start (history ++ entry ∷ [])
+pub entry_kept : (g : Geometry) → EntriesKeep g → (l : Ledger) (unassigned : BlockSet) (start : PosixTree) (history : List Entry) (entry : Entry) (k : Counts) (p : Parts) → geometry_of l.superblock ≡ g → IsLegal start (history ++ entry ∷ [])
     → IsAckCovered start history entry k.names k.files → ArePartsOf p (tree_after start (history ++ entry ∷ [])) → IsStored l unassigned start history k p → IsStored l unassigned start (history ++ entry ∷ []) k p
 entry_kept g keeps l unassigned start history entry k p same legal ack after st = record {
   tree = st.tree;
@@ -88,7 +88,7 @@ no_ok (reply.IsDir entries) e = absurd cc
 no_ok (reply.Names names) e = absurd cc
 no_ok (reply.Refused x) e = absurd cc
 
-pub excuse_kept : (g : Geometry) → EntriesKeep g → OthersAcknowledgeNothing → (l : Ledger) (unassigned : BlockSet) (start : PosixTree) (history : List Entry) (entry : Entry) (k : Counts) (p : Parts) → geometry_of l.head ≡ g
+pub excuse_kept : (g : Geometry) → EntriesKeep g → OthersAcknowledgeNothing → (l : Ledger) (unassigned : BlockSet) (start : PosixTree) (history : List Entry) (entry : Entry) (k : Counts) (p : Parts) → geometry_of l.superblock ≡ g
     → IsLegal start (history ++ entry ∷ []) → is_excused entry.reply ≡ true → IsStored l unassigned start history k p → IsStored l unassigned start (history ++ entry ∷ []) k p
 excuse_kept g keeps others l unassigned start history entry k p same legal excused st =
     let tree : tree_after start (history ++ entry ∷ []) ≡ tree_after start history = tree_after-append start history (entry ∷ []) ∙ excuse_leaves (tree_after start history) entry.client entry.op entry.reply excused in
@@ -135,7 +135,7 @@ pub tree_left : (t : PosixTree) (entry : Entry) → leaves_tree entry.op ≡ tru
 tree_left t entry still =
     with_leaves t entry.client entry.op (served_leaves t entry.client entry.op (change_leaves t entry.client entry.op still) (refusal t entry.client entry.op)) entry.reply
 
-pub still_kept : (g : Geometry) → EntriesKeep g → (l : Ledger) (unassigned : BlockSet) (start : PosixTree) (history : List Entry) (entry : Entry) (k : Counts) (p : Parts) → geometry_of l.head ≡ g
+pub still_kept : (g : Geometry) → EntriesKeep g → (l : Ledger) (unassigned : BlockSet) (start : PosixTree) (history : List Entry) (entry : Entry) (k : Counts) (p : Parts) → geometry_of l.superblock ≡ g
     → IsLegal start (history ++ entry ∷ []) → leaves_tree entry.op ≡ true → IsAckCovered start history entry k.names k.files → IsStored l unassigned start history k p → IsStored l unassigned start (history ++ entry ∷ []) k p
 still_kept g keeps l unassigned start history entry k p same legal still ack st =
     let tree : tree_after start (history ++ entry ∷ []) ≡ tree_after start history = tree_after-append start history (entry ∷ []) ∙ tree_left (tree_after start history) entry still in

@@ -37,13 +37,13 @@ use Rattle.ufs_dir_tree.specs.Steps.{after_all}
 use Rattle.ufs_name_log.proofs.Forms.{form_here}
 use Rattle.ufs_name_tree.specs.NameTable.{file_at}
 use Rattle.ufs_store.specs.Ledgers.{HasLedger, checkpointed}
-use Rattle.ufs_store.specs.State.{StoreState, has_room, next_commit, next_head}
+use Rattle.ufs_store.specs.State.{StoreState, has_room, next_commit, next_superblock}
 use Rattle.ufs_durable.specs.Committing.{DoneIsKept, FilesMayCommitNext, FitsInode, HasToCommit, HasTreeBytes, IsFileBy, OwnsCommitted, all_shown, once_committed}
 use Rattle.ufs_durable.specs.Others.{IsOther, OwnsBehindCommit, StandsBehindCommit, StandsOnceCommitted}
 use Rattle.ufs_durable.specs.Standing.{IsFileBlock, StandsFor}
 use Rattle.ufs_durable.specs.State.{DurableState, file_committed}
 use Rattle.ufs_durable.specs.Writes.{BlockWrite, at_moments, with_writes, writes_of}
-use Rattle.ufs_durable.proofs.Behind.{same_head, same_now}
+use Rattle.ufs_durable.proofs.Behind.{same_superblock, same_now}
 use Rattle.ufs_durable.proofs.Others.{behind_home, behind_writes, stands_still}
 use Rattle.ufs_durable.proofs.Standing.{blocks_are, noted_committed, settled_has}
 use Rattle.ufs_stored.specs.Parts.{OneFile, Parts, durable_in, with_file}
@@ -98,7 +98,7 @@ module _ (s : StoreState) (between : Moments) (records : List LogRecord) (l : Le
   k2 = all_shown f start history k
 
   abbrev g : Geometry
-  g = geometry_of l.head
+  g = geometry_of l.superblock
 
   abbrev t : Committed
   t = next_commit s records
@@ -134,9 +134,9 @@ module _ (s : StoreState) (between : Moments) (records : List LogRecord) (l : Le
   abbrev room_at : Bool → Ledger
   room_at b = if b then r else checkpointed s2 r
 
-  head_at : (b : Bool) → geometry_of (room_at b).head ≡ g
-  head_at true = ap geometry_of (same_head (writes_of f) l)
-  head_at false = ap geometry_of (sym led.headed)
+  superblock_at : (b : Bool) → geometry_of (room_at b).superblock ≡ g
+  superblock_at true = ap geometry_of (same_superblock (writes_of f) l)
+  superblock_at false = ap geometry_of (sym led.superblock_is)
 
   catalog_at : (b : Bool) → (room_at b).now.catalog ≡ l.now.catalog
   catalog_at true = ap (λ (a : Stand). a.catalog) (same_now (writes_of f) l)
@@ -154,19 +154,19 @@ module _ (s : StoreState) (between : Moments) (records : List LogRecord) (l : Le
   c2 = with_committed_in g t l.now.catalog
 
   catalog_is : m.now.catalog ≡ c2
-  catalog_is = λ i. with_committed_in (head_at (has_room s2 records) i) t (catalog_at (has_room s2 records) i)
+  catalog_is = λ i. with_committed_in (superblock_at (has_room s2 records) i) t (catalog_at (has_room s2 records) i)
 
-  head_is : geometry_of m.head ≡ g
-  head_is = head_at (has_room s2 records)
+  superblock_is : geometry_of m.superblock ≡ g
+  superblock_is = superblock_at (has_room s2 records)
 
   dirs_is : m.now.dirs ≡ l.now.dirs
   dirs_is = dirs_at (has_room s2 records)
 
-  moved : (P : Geometry → Catalog → Type 0) → P g c2 → P (geometry_of m.head) m.now.catalog
-  moved P is = subst (λ (c : Catalog). P (geometry_of m.head) c) (sym catalog_is) (subst (λ (h : Geometry). P h c2) (sym head_is) is)
+  moved : (P : Geometry → Catalog → Type 0) → P g c2 → P (geometry_of m.superblock) m.now.catalog
+  moved P is = subst (λ (c : Catalog). P (geometry_of m.superblock) c) (sym catalog_is) (subst (λ (h : Geometry). P h c2) (sym superblock_is) is)
 
-  back : (P : Geometry → Catalog → Type 0) → P (geometry_of m.head) m.now.catalog → P g c2
-  back P is = subst (λ (c : Catalog). P g c) catalog_is (subst (λ (h : Geometry). P h m.now.catalog) head_is is)
+  back : (P : Geometry → Catalog → Type 0) → P (geometry_of m.superblock) m.now.catalog → P g c2
+  back P is = subst (λ (c : Catalog). P g c) catalog_is (subst (λ (h : Geometry). P h m.now.catalog) superblock_is is)
 
   records_are : records ≡ Delta f.inode 1 x.log.noted.size delta.keep (extents_of delta.given) ∷ []
   records_are = delta.is ∙ ap (λ i. Delta i 1 x.log.noted.size delta.keep (extents_of delta.given) ∷ []) whole.noted.inode
@@ -176,7 +176,7 @@ module _ (s : StoreState) (between : Moments) (records : List LogRecord) (l : Le
 
   file_block : (b : ℕ) → IsFileBlock l b → IsFileBlock m b
   file_block b was = record {
-    data_block = subst (λ (h : Geometry). IsDataBlock h b) (sym head_is) was.data_block;
+    data_block = subst (λ (h : Geometry). IsDataBlock h b) (sym superblock_is) was.data_block;
     no_dir = subst (λ (d : ℕ → Bool). IsTrue (d b) → ⊥) (sym dirs_is) was.no_dir;
     unheld = held_behind b (free_at (has_room s2 records) b was.unheld);
   }
@@ -195,7 +195,7 @@ module _ (s : StoreState) (between : Moments) (records : List LogRecord) (l : Le
   elsewhere : (j : ℕ) → j ≢ f.inode → c2.forms j ≡ l.now.catalog.forms j
   elsewhere j other = form_else g t f.inode x.log.noted.size delta.keep (extents_of delta.given) records_are l.now.catalog j other
 
-  block_before : (inode place b : ℕ) → HasBlock (geometry_of m.head) m.now.catalog inode place b → ((inode ≡ f.inode) × (slice_get (blocks_of f.extents) place ≡ Some b)) ⊎ ((inode ≢ f.inode) × HasBlock g l.now.catalog inode place b)
+  block_before : (inode place b : ℕ) → HasBlock (geometry_of m.superblock) m.now.catalog inode place b → ((inode ≡ f.inode) × (slice_get (blocks_of f.extents) place ≡ Some b)) ⊎ ((inode ≢ f.inode) × HasBlock g l.now.catalog inode place b)
   block_before inode place b had = by (one_or_apart inode f.inode)
     where
       was : HasBlock g c2 inode place b
@@ -216,10 +216,10 @@ module _ (s : StoreState) (between : Moments) (records : List LogRecord) (l : Le
     steps = n.steps;
     has = moved (λ h c. HasState h c (with_none n.committed)) (state_stays g t f.inode x.log.noted.size delta.keep (extents_of delta.given) records_are l.now.catalog (with_none n.committed) n.has (λ b. refl) sound on_disk.1.kind kind_now);
     noted = n.noted;
-    may = subst (λ (h : Geometry). MaySteps h (with_fresh p.fresh n.committed) n.steps) (sym head_is) n.may;
+    may = subst (λ (h : Geometry). MaySteps h (with_fresh p.fresh n.committed) n.steps) (sym superblock_is) n.may;
     dirs = n.dirs;
     kinds = n.kinds;
-    sound = subst (λ (h : Geometry). HasSoundNames h (after_all n.steps (with_fresh p.fresh n.committed))) (sym head_is) n.sound;
+    sound = subst (λ (h : Geometry). HasSoundNames h (after_all n.steps (with_fresh p.fresh n.committed))) (sym superblock_is) n.sound;
     live = n.live;
     known = λ inode place b had. by inode place b (block_before inode place b had);
   }
@@ -243,7 +243,7 @@ module _ (s : StoreState) (between : Moments) (records : List LogRecord) (l : Le
   born_room : (h : DurableState) → IsOther x h → StandsFor (with_born h.file.inode l) h → (b : Bool) → StandsFor (with_born h.file.inode (room_at b)) h
   born_room h apart stood true = born_written h apart stood
   born_room h apart stood false =
-      behind_home (with_born h.file.inode r) h (next_head s2) (block_at (home_of r (reads between))) (ap geometry_of (sym led.headed ∙ sym (same_head (writes_of f) l)))
+      behind_home (with_born h.file.inode r) h (next_superblock s2) (block_at (home_of r (reads between))) (ap geometry_of (sym led.superblock_is ∙ sym (same_superblock (writes_of f) l)))
       (born_written h apart stood)
 
   born_behind : (h : DurableState) → IsOther x h → StandsFor (with_born h.file.inode l) h → StandsFor (with_born h.file.inode m) h
@@ -275,7 +275,7 @@ module _ (s : StoreState) (between : Moments) (records : List LogRecord) (l : Le
 
   spelled : (b : ℕ) → IsSpelled l b → IsSpelled m b
   spelled b is = record {
-    data_block = subst (λ (h : Geometry). IsDataBlock h b) (sym head_is) is.data_block;
+    data_block = subst (λ (h : Geometry). IsDataBlock h b) (sym superblock_is) is.data_block;
     spelled = subst (λ (d : ℕ → Bool). IsTrue (d b)) (sym dirs_is) is.spelled;
     slots = ap (λ (c : Catalog). c.slots b) catalog_is
         ∙ ap (λ v. v b) (slots_same g t f.inode x.log.noted.size delta.keep (extents_of delta.given) records_are l.now.catalog) ∙ is.slots;

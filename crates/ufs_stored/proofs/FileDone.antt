@@ -51,8 +51,8 @@ pub record IsDone (l m : Ledger) (start : PosixTree) (history : List Entry) (k :
   pub others : (file : ℕ) (h : FileState) → map.get p.files file ≡ Some h → file ≢ f.file → IsFileWhole m k.numbers (durable_in p.commits h)
   pub file_block : (b : ℕ) → IsFileBlock l b → IsFileBlock m b
   pub spelled : (b : ℕ) → IsSpelled l b → IsSpelled m b
-  pub block_before : (inode place b : ℕ) → HasBlock (geometry_of m.head) m.now.catalog inode place b
-      → ((inode ≡ f.inode) × (slice_get (blocks_of f.extents) place ≡ Some b)) ⊎ ((inode ≢ f.inode) × HasBlock (geometry_of l.head) l.now.catalog inode place b)
+  pub block_before : (inode place b : ℕ) → HasBlock (geometry_of m.superblock) m.now.catalog inode place b
+      → ((inode ≡ f.inode) × (slice_get (blocks_of f.extents) place ≡ Some b)) ⊎ ((inode ≢ f.inode) × HasBlock (geometry_of l.superblock) l.now.catalog inode place b)
 
 -- ---- blocks
 
@@ -157,7 +157,7 @@ module _ (l m : Ledger) (u : BlockSet) (start : PosixTree) (history : List Entry
   k2 = all_shown f start history k
 
   abbrev g : Geometry
-  g = geometry_of l.head
+  g = geometry_of l.superblock
 
   whole : IsFileWhole l k.numbers x
   whole = st.each f.file f at
@@ -183,14 +183,14 @@ module _ (l m : Ledger) (u : BlockSet) (start : PosixTree) (history : List Entry
   spelled b (inl free) = inl (done.file_block b free)
   spelled b (inr is) = inr (done.spelled b is)
 
-  unheld_now : (inode place b : ℕ) → has p.fresh b ≡ true → HasBlock (geometry_of m.head) m.now.catalog inode place b → ⊥
+  unheld_now : (inode place b : ℕ) → has p.fresh b ≡ true → HasBlock (geometry_of m.superblock) m.now.catalog inode place b → ⊥
   unheld_now inode place b fresh had = by (done.block_before inode place b had)
     where
       by : ((inode ≡ f.inode) × (slice_get (blocks_of f.extents) place ≡ Some b)) ⊎ ((inode ≢ f.inode) × HasBlock g l.now.catalog inode place b) → ⊥
       by (inl own) = (let no = st.spaced.apart (OneFile f.file) TheNames b (mine u p f at whole.noted numbered st.spaced.apart b (held_at x place b own.1)) (inl fresh) in cc)
       by (inr was) = st.spaced.unheld inode place b fresh was.1
 
-  held_now : (inode place b : ℕ) → HasBlock (geometry_of m.head) m.now.catalog inode place b → NamesOwn q b ⊎ FileHasIt q k.numbers inode b
+  held_now : (inode place b : ℕ) → HasBlock (geometry_of m.superblock) m.now.catalog inode place b → NamesOwn q b ⊎ FileHasIt q k.numbers inode b
   held_now inode place b had = by (done.block_before inode place b had)
     where
       stays : FileHasIt p k.numbers inode b → inode ≢ f.inode → FileHasIt q k.numbers inode b

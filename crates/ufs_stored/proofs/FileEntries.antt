@@ -122,7 +122,7 @@ module _ (names_keep : KeepsNames) (start : PosixTree) (history : List Entry) (e
 
 module _ (g : Geometry) (keeps : EntriesKeep g) (nothing : OthersAcknowledgeNothing) (names_keep : KeepsNames) (stands : StandsServed) (owns : OwnsServed)
     (l : Ledger) (u : BlockSet) (start : PosixTree) (history : List Entry) (entry : Entry) (k : Counts) (p : Parts) (s : FileState) (x : DurableState) (pool : BlockSet) (ask : Ask) (server : Actor) (ticket : ℕ) (desc : Option Desc) (d : Desc)
-    (same : geometry_of l.head ≡ g) (legal : IsLegal start (history ++ entry ∷ [])) (no_commit : asks_commit entry.op ≡ false) (old : map.get p.files s.file ≡ Some s) (kind : is_on_file ask.op ≡ true)
+    (same : geometry_of l.superblock ≡ g) (legal : IsLegal start (history ++ entry ∷ [])) (no_commit : asks_commit entry.op ≡ false) (old : map.get p.files s.file ≡ Some s) (kind : is_on_file ask.op ≡ true)
     (asked : IsAsk (tree_after start history) ask) (is : ask.desc ≡ Some d) (of : d.file ≡ Some s.file) (applied : IsApplied (durable_in p.commits s) x p.pool pool ask server ticket entry desc) (st : IsStored l u start history k p) where
   abbrev f : DurableState
   f = durable_in p.commits s
@@ -154,7 +154,7 @@ module _ (g : Geometry) (keeps : EntriesKeep g) (nothing : OthersAcknowledgeNoth
   )
 
   -- no inode of the disk has a block of the pool
-  untaken : (b : ℕ) → set.contains p.pool b ≡ true → IsTakenBlock (geometry_of l.head) l.now.catalog b → ⊥
+  untaken : (b : ℕ) → set.contains p.pool b ≡ true → IsTakenBlock (geometry_of l.superblock) l.now.catalog b → ⊥
   untaken b pooled (inl below) = (let from = (st.spaced.usable ThePool b (λ e. cc) pooled).data_block.from in omega (arith, below, from))
   untaken b pooled (inr (i, place, at)) = by (st.spaced.held i place b at)
     where

@@ -34,7 +34,7 @@ use Rattle.ufs_durable.specs.Others.{IsOther}
 use Rattle.ufs_durable.specs.Standing.{IsFileBlock, StandsFor, StandsSettled}
 use Rattle.ufs_durable.specs.State.{DurableState, file_committed}
 use Rattle.ufs_durable.specs.Writes.{with_writes, writes_of}
-use Rattle.ufs_durable.proofs.Behind.{same_head, same_now}
+use Rattle.ufs_durable.proofs.Behind.{same_superblock, same_now}
 use Rattle.ufs_durable.proofs.Others.{behind_barrier, behind_writes}
 use Rattle.ufs_durable.proofs.Standing.{blocks_are, noted_committed}
 use Rattle.ufs_stored.specs.Parts.{Parts, durable_in, with_file}
@@ -60,7 +60,7 @@ module _ (s : StoreState) (l : Ledger) (u : BlockSet) (start : PosixTree) (histo
   m = settled (with_writes (writes_of f) l)
 
   abbrev g : Geometry
-  g = geometry_of l.head
+  g = geometry_of l.superblock
 
   whole : IsFileWhole l k.numbers x
   whole = st.each f.file f at
@@ -79,14 +79,14 @@ module _ (s : StoreState) (l : Ledger) (u : BlockSet) (start : PosixTree) (histo
   now_is : m.now ≡ l.now
   now_is = same_now (writes_of f) l
 
-  head_is : geometry_of m.head ≡ g
-  head_is = ap geometry_of (same_head (writes_of f) l)
+  superblock_is : geometry_of m.superblock ≡ g
+  superblock_is = ap geometry_of (same_superblock (writes_of f) l)
 
-  moved : (P : Geometry → Stand → Type 0) → P g l.now → P (geometry_of m.head) m.now
-  moved P is = subst (λ (a : Stand). P (geometry_of m.head) a) (sym now_is) (subst (λ (h : Geometry). P h l.now) (sym head_is) is)
+  moved : (P : Geometry → Stand → Type 0) → P g l.now → P (geometry_of m.superblock) m.now
+  moved P is = subst (λ (a : Stand). P (geometry_of m.superblock) a) (sym now_is) (subst (λ (h : Geometry). P h l.now) (sym superblock_is) is)
 
-  back : (P : Geometry → Stand → Type 0) → P (geometry_of m.head) m.now → P g l.now
-  back P is = subst (λ (a : Stand). P g a) now_is (subst (λ (h : Geometry). P h m.now) head_is is)
+  back : (P : Geometry → Stand → Type 0) → P (geometry_of m.superblock) m.now → P g l.now
+  back P is = subst (λ (a : Stand). P g a) now_is (subst (λ (h : Geometry). P h m.now) superblock_is is)
 
   file_block : (b : ℕ) → IsFileBlock l b → IsFileBlock m b
   file_block b was = record {
@@ -108,7 +108,7 @@ module _ (s : StoreState) (l : Ledger) (u : BlockSet) (start : PosixTree) (histo
       ap (flat_map (λ (e : Extent). range_with_len e.start e.length)) on_disk.1.extents ∙ blocks_are x.log.committed.runs
       ∙ ap (λ (a : FileLogState). blocks_of a.runs) (sym bytes_alone) ∙ ap blocks_of whole.noted.runs
 
-  block_before : (inode place b : ℕ) → HasBlock (geometry_of m.head) m.now.catalog inode place b → ((inode ≡ f.inode) × (slice_get (blocks_of f.extents) place ≡ Some b)) ⊎ ((inode ≢ f.inode) × HasBlock g l.now.catalog inode place b)
+  block_before : (inode place b : ℕ) → HasBlock (geometry_of m.superblock) m.now.catalog inode place b → ((inode ≡ f.inode) × (slice_get (blocks_of f.extents) place ≡ Some b)) ⊎ ((inode ≢ f.inode) × HasBlock g l.now.catalog inode place b)
   block_before inode place b had = by (one_or_apart inode f.inode)
     where
       was : HasBlock g l.now.catalog inode place b
@@ -157,7 +157,7 @@ module _ (s : StoreState) (l : Ledger) (u : BlockSet) (start : PosixTree) (histo
   }
     where
       by : (place b : ℕ) → (slice_get (blocks_of (durable_in p.commits h).log.committed.runs) place ≡ Some b) ⊎ (IsTakenBlock g l.now.catalog b → ⊥)
-          → (slice_get (blocks_of (durable_in p.commits h).log.committed.runs) place ≡ Some b) ⊎ (IsTakenBlock (geometry_of m.head) m.now.catalog b → ⊥)
+          → (slice_get (blocks_of (durable_in p.commits h).log.committed.runs) place ≡ Some b) ⊎ (IsTakenBlock (geometry_of m.superblock) m.now.catalog b → ⊥)
       by place b (inl same) = inl same
       by place b (inr free) = inr (λ taken. free (back (λ h a. IsTakenBlock h a.catalog b) taken))
 

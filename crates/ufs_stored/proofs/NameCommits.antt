@@ -66,9 +66,9 @@ not_false : (b : Bool) → b ≡ false → not b ≡ true
 not_false b e = ap not e
 
 module _ (l : Ledger) (u : BlockSet) (start : PosixTree) (history : List Entry) (k : Counts) (p : Parts) (number : ℕ) (st : IsStored l u start history k p) (n : AreNamesNoted l k.numbers p.fresh p.names)
-    (none : l.maybe ≡ None) (table : IsNameTable p.names.tree) (ready : (block : ℕ) → has p.fresh block ≡ true → IsSpelled l block) (older : AreOlder (geometry_of l.head) l.now.catalog number) where
+    (none : l.maybe ≡ None) (table : IsNameTable p.names.tree) (ready : (block : ℕ) → has p.fresh block ≡ true → IsSpelled l block) (older : AreOlder (geometry_of l.superblock) l.now.catalog number) where
   abbrev g : Geometry
-  g = geometry_of l.head
+  g = geometry_of l.superblock
 
   abbrev c : Catalog
   c = l.now.catalog
@@ -209,18 +209,18 @@ module _ (l : Ledger) (u : BlockSet) (start : PosixTree) (history : List Entry) 
 
     -- ---- each file
 
-    stands : (a : Ledger) (s : FileState) (file : ℕ) → map.get p.files file ≡ Some s → a.head ≡ l.head → a.now.log ≡ l.now.log → a.now.dirs ≡ l.now.dirs → a.blocks ≡ l.blocks
+    stands : (a : Ledger) (s : FileState) (file : ℕ) → map.get p.files file ≡ Some s → a.superblock ≡ l.superblock → a.now.log ≡ l.now.log → a.now.dirs ≡ l.now.dirs → a.blocks ≡ l.blocks
         → ((c2.forms s.inode).kind ≡ 1) → ((c2.forms s.inode).size ≡ (a.now.catalog.forms s.inode).size) → ((c2.forms s.inode).extents ≡ (a.now.catalog.forms s.inode).extents)
         → StandsFor a (durable_in p.commits s) → StandsFor m (durable_in p.commits s)
-    stands a s file here head log dirs cells kind size extents stood = record {
-      in_range = subst (λ h. IsInode (geometry_of h) s.inode) head stood.in_range;
+    stands a s file here superblock log dirs cells kind size extents stood = record {
+      in_range = subst (λ h. IsInode (geometry_of h) s.inode) superblock stood.in_range;
       kind = kind;
       size = size ∙ stood.size;
       extents = extents ∙ stood.extents;
       blocks = λ place b at.
           let was = stood.blocks place b at in
           file_block (OneFile file) b (λ e. cc) (record { hand = s; here = here; held = held_at (durable_in p.commits s) place b at })
-          (record { data_block = subst (λ h. IsDataBlock (geometry_of h) b) head was.data_block; no_dir = subst (λ (x : ℕ → Bool). IsTrue (x b) → ⊥) dirs was.no_dir; unheld = subst (λ x. is_held x b ≡ false) log was.unheld });
+          (record { data_block = subst (λ h. IsDataBlock (geometry_of h) b) superblock was.data_block; no_dir = subst (λ (x : ℕ → Bool). IsTrue (x b) → ⊥) dirs was.no_dir; unheld = subst (λ x. is_held x b ≡ false) log was.unheld });
       clean = λ place b at off. settled_has (l.blocks b) (block_bytes s.content.bytes place) (subst (λ x. HaveOnly (possible (x b)) (block_bytes s.content.bytes place)) cells (stood.clean place b at off));
     }
 
@@ -292,7 +292,7 @@ module _ (l : Ledger) (u : BlockSet) (start : PosixTree) (history : List Entry) 
       known = known_now;
     }
       where
-        known_now : (inode place b : ℕ) → HasBlock (geometry_of m.head) m.now.catalog inode place b → IsKnownBlock (numbers_of p.names) p2.names [] inode b
+        known_now : (inode place b : ℕ) → HasBlock (geometry_of m.superblock) m.now.catalog inode place b → IsKnownBlock (numbers_of p.names) p2.names [] inode b
         known_now inode place b at = by (is_touched xs inode) refl
           where
             kinds : (v : Bool) → ((c2.forms inode).kind == 2) ≡ v → is_touched xs inode ≡ true → IsKnownBlock (numbers_of p.names) p2.names [] inode b

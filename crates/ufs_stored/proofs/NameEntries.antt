@@ -41,13 +41,13 @@ or_true false b e = e
 or_false : (a b : Bool) → a ≡ false → b ≡ false → (a || b) ≡ false
 or_false a b e f = ap (λ (v : Bool). v || b) e ∙ f
 
-module _ (l : Ledger) (numbers : Numbers) (fresh lent : List ℕ) (old new : NamesPart) (pool : BlockSet) (made : NotedMayBeMade (geometry_of l.head)) (told : NotesAreRecords) (lead : NotesLeadOn) (join : ChangesJoin (geometry_of l.head))
-    (n : AreNamesNoted l numbers fresh old) (go : GoesNoted old.tree new.tree pool) (counted : length old.tree.dirs.dirs ≡ (geometry_of l.head).inodes + 1)
+module _ (l : Ledger) (numbers : Numbers) (fresh lent : List ℕ) (old new : NamesPart) (pool : BlockSet) (made : NotedMayBeMade (geometry_of l.superblock)) (told : NotesAreRecords) (lead : NotesLeadOn) (join : ChangesJoin (geometry_of l.superblock))
+    (n : AreNamesNoted l numbers fresh old) (go : GoesNoted old.tree new.tree pool) (counted : length old.tree.dirs.dirs ≡ (geometry_of l.superblock).inodes + 1)
     (is_lent : (b : ℕ) → set.contains pool b ≡ true → has lent b ≡ true) (apart : (b : ℕ) → has lent b ≡ true → has fresh b ≡ false)
-    (sound : (s : DirState) → IsStateOf old.tree pool s → HasSoundNames (geometry_of l.head) s → HasSoundNames (geometry_of l.head) (after_all go.steps s))
+    (sound : (s : DirState) → IsStateOf old.tree pool s → HasSoundNames (geometry_of l.superblock) s → HasSoundNames (geometry_of l.superblock) (after_all go.steps s))
     (keeps : KeepsNumbers numbers old new go.steps) (was : AreInodesOf old.tree old.held) (is : AreInodesOf new.tree new.held) where
   abbrev g : Geometry
-  g = geometry_of l.head
+  g = geometry_of l.superblock
 
   abbrev xs : List Step
   xs = n.steps

@@ -38,7 +38,7 @@ module _ (g : Geometry) (l : Ledger) (u : BlockSet) (start : PosixTree) (history
   told : change number (with_fresh p.fresh noted.committed) noted.steps ≡ t
   told = ap (λ (rs : List LogRecord). record { number = number; records = rs }) (same_some _ records (sym noted.noted ∙ names.noted))
 
-  older : AreOlder (geometry_of l.head) l.now.catalog number
+  older : AreOlder (geometry_of l.superblock) l.now.catalog number
   older = subst (λ h. AreOlder h l.now.catalog number) (sym names.geometry) names.older
 
 pub names_may : (g : Geometry) → StepsMayCommit g → (l : Ledger) (u : BlockSet) (start : PosixTree) (history : List Entry) (k : Counts) (p : Parts) (number : ℕ) (records : List LogRecord) → HasNamesToCommit g l p number records → IsStored l u start history k p

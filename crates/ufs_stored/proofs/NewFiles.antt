@@ -25,7 +25,7 @@ use Rattle.ufs_stored.specs.Parts.{Parts, committed_as, durable_in}
 use Rattle.ufs_stored.specs.Stored.{AreNamesStored, ArePartsOf, AreSpaced, IsFileWhole, IsStored, empty_form}
 use Rattle.ufs_stored.proofs.Entries.{counted_still, ledger_kept}
 
-empty_whole : (l : Ledger) (numbers : Numbers) (file inode : ℕ) → numbers.inode file ≡ None → IsInode (geometry_of l.head) inode → IsFileWhole l numbers (state_of (no_bytes file inode) (committed_as (no_bytes file inode)))
+empty_whole : (l : Ledger) (numbers : Numbers) (file inode : ℕ) → numbers.inode file ≡ None → IsInode (geometry_of l.superblock) inode → IsFileWhole l numbers (state_of (no_bytes file inode) (committed_as (no_bytes file inode)))
 empty_whole l numbers file inode unborn inside =
     let form = form_here l.now.catalog inode empty_form in
     record {
@@ -50,7 +50,7 @@ new_whole l numbers p f new =
     subst (IsFileWhole l numbers) (sym (ap (λ (o : Option CommitState). state_of f (unwrap_or o (committed_as f))) new.unknown ∙ ap (λ (h : FileState). state_of h (committed_as h)) new.empty))
     (empty_whole l numbers f.file f.inode new.unborn new.in_range)
 
-pub name_entry_kept : (g : Geometry) → EntriesKeep g → (l : Ledger) (u : BlockSet) (start : PosixTree) (history : List Entry) (entry : Entry) (k : Counts) (p next : Parts) → geometry_of l.head ≡ g
+pub name_entry_kept : (g : Geometry) → EntriesKeep g → (l : Ledger) (u : BlockSet) (start : PosixTree) (history : List Entry) (entry : Entry) (k : Counts) (p next : Parts) → geometry_of l.superblock ≡ g
     → IsLegal start (history ++ entry ∷ []) → IsAckCovered start history entry k.names k.files → ArePartsOf next (tree_after start (history ++ entry ∷ []))
     → AreNamesStored l k.numbers next.fresh next.names → ((file : ℕ) (f : FileState) → map.get next.files file ≡ Some f → StaysOrNew l k.numbers p next file f) → AreSpaced l u k.numbers next
     → IsStored l u start history k p → IsStored l u start (history ++ entry ∷ []) k next

@@ -22,7 +22,7 @@ use Rattle.ufs_stored.proofs.NameEntries.{names_noted}
 use Rattle.ufs_stored.proofs.NamesLaw.{none_or_some}
 
 pub notes_go_on : (g : Geometry) → NotedMayBeMade g → NotesAreRecords → NotesLeadOn → ChangesJoin g → (l : Ledger) (u : BlockSet) (start : PosixTree) (history : List Entry) (k : Counts) (p : Parts) (new : NamesPart) (lent : List ℕ) (pool : BlockSet)
-    (go : GoesNoted p.names.tree new.tree pool) → geometry_of l.head ≡ g → length p.names.tree.dirs.dirs ≡ g.inodes + 1
+    (go : GoesNoted p.names.tree new.tree pool) → geometry_of l.superblock ≡ g → length p.names.tree.dirs.dirs ≡ g.inodes + 1
     → ((b : ℕ) → set.contains pool b ≡ true → has lent b ≡ true) → ((b : ℕ) → has lent b ≡ true → set.contains p.pool b ≡ true)
     → ((s : DirState) → IsStateOf p.names.tree pool s → HasSoundNames g s → HasSoundNames g (after_all go.steps s)) → KeepsNumbers k.numbers p.names new go.steps → AreInodesOf new.tree new.held
     → IsStored l u start history k p → AreNamesStored l k.numbers (p.fresh ++ lent) new

@@ -14,16 +14,16 @@ use Rattle.ufs_ledger.specs.Ledger.{IsLedgerOf, Ledger}
 use Rattle.ufs_model.specs.PosixTree.{PosixTree}
 use Rattle.ufs_model.specs.declared.data.Entry.{Entry}
 use Rattle.ufs_store.specs.Ledgers.{HasAny, HasLedger, beginning_next, checkpointed, commit_stages, stages, with_room}
-use Rattle.ufs_store.specs.State.{StoreState, geometry_of_store, has_room, next_commit, next_head}
+use Rattle.ufs_store.specs.State.{StoreState, geometry_of_store, has_room, next_commit, next_superblock}
 use Rattle.ufs_stored.specs.OnDisk.{HasStopped}
 use Rattle.ufs_stored.specs.Parts.{Parts}
 use Rattle.ufs_stored.specs.Stored.{IsStored}
 use Rattle.ufs_stored.proofs.Zeros.{no_place}
 
-module _ (g : Geometry) (s : StoreState) (l : Ledger) (start : PosixTree) (history : List Entry) (k : Counts) (p : Parts) (same : geometry_of_store s ≡ g) (formed : geometry_of l.head ≡ g) (stop : IsSome s.stop)
+module _ (g : Geometry) (s : StoreState) (l : Ledger) (start : PosixTree) (history : List Entry) (k : Counts) (p : Parts) (same : geometry_of_store s ≡ g) (formed : geometry_of l.superblock ≡ g) (stop : IsSome s.stop)
     (st : IsStored l s.unassigned.free start history k p) where
   -- with a ledger that the history explains
-  stops_with : (m : Ledger) (now maybe : Counts) → geometry_of m.head ≡ g → IsLedgerOf s.sectors s.moments.state m → IsLedgerKept m start history now maybe → HasStopped s start history p
+  stops_with : (m : Ledger) (now maybe : Counts) → geometry_of m.superblock ≡ g → IsLedgerOf s.sectors s.moments.state m → IsLedgerKept m start history now maybe → HasStopped s start history p
   stops_with m now maybe form has kept = record { stopped = stop; ledger = m; now = now; maybe = maybe; has = has; formed = form ∙ sym same; tree = st.tree; legal = st.legal; kept = kept; parts = st.parts }
 
   pub barrier_stops : IsLedgerOf s.sectors s.moments.state l → HasStopped s start history p
@@ -37,11 +37,11 @@ module _ (g : Geometry) (s : StoreState) (l : Ledger) (start : PosixTree) (histo
       (keeps (written block bytes l) block seen start history k k formed none (λ file place at i less under. absurd (free file place (k.numbers.inode file) refl at)) once)
 
   module _ (old : StoreState) (led : HasLedger old l) where
-    next_form : geometry_of (next_head old) ≡ g
-    next_form = ap geometry_of (sym led.headed) ∙ formed
+    next_form : geometry_of (next_superblock old) ≡ g
+    next_form = ap geometry_of (sym led.superblock_is) ∙ formed
 
     begun : BeginningIsKept g → IsLedgerKept (beginning_next old l) start history k k
-    begun keeps = keeps l (next_head old) (block_at (home_of l (reads old.moments))) start history k k formed next_form st.kept
+    begun keeps = keeps l (next_superblock old) (block_at (home_of l (reads old.moments))) start history k k formed next_form st.kept
 
     pub checkpoint_stops : BeginningIsKept g → HasAny s (l ∷ beginning_next old l ∷ []) → HasStopped s start history p
     checkpoint_stops keeps (inl is) = stops_with l k k formed is st.kept
@@ -53,7 +53,7 @@ module _ (g : Geometry) (s : StoreState) (l : Ledger) (start : PosixTree) (histo
     commit_stops begins empties records next any kept = by (has_room old records) any kept
       where
         done : IsLedgerKept (checkpointed old l) start history k k
-        done = empties l (next_head old) (block_at (home_of l (reads old.moments))) start history k k formed next_form st.kept
+        done = empties l (next_superblock old) (block_at (home_of l (reads old.moments))) start history k k formed next_form st.kept
 
         by : (b : Bool) → HasAny s (if b then commit_stages (next_commit old records) l else l ∷ beginning_next old l ∷ commit_stages (next_commit old records) (checkpointed old l))
             → IsLedgerKept (committing (next_commit old records) (settled (if b then l else checkpointed old l))) start history k next → HasStopped s start history p

@@ -41,10 +41,10 @@ clash b is off = let no = sym is ∙ off in cc
 
 -- ---- a write, a barrier, a checkpoint
 
-module _ (g : Geometry) (l : Ledger) (u : BlockSet) (start : PosixTree) (history : List Entry) (k : Counts) (p : Parts) (same : geometry_of l.head ≡ g) (st : IsStored l u start history k p) where
+module _ (g : Geometry) (l : Ledger) (u : BlockSet) (start : PosixTree) (history : List Entry) (k : Counts) (p : Parts) (same : geometry_of l.superblock ≡ g) (st : IsStored l u start history k p) where
   written_alike : (block : ℕ) (bytes : List ℕ) → has p.fresh block ≡ true → IsAlike l (written block bytes l) p.fresh
   written_alike block bytes fresh = record {
-    head = refl;
+    superblock = refl;
     catalog = refl;
     dirs = refl;
     unheld = λ other free. free;
@@ -64,19 +64,19 @@ module _ (g : Geometry) (l : Ledger) (u : BlockSet) (start : PosixTree) (history
 
   pub settled_stored : SettledIsKept g → l.maybe ≡ None → IsStored (settled l) u start history k p
   settled_stored keeps none = alike_stored l (settled l) u start history k p st
-      (record { head = refl; catalog = refl; dirs = refl; unheld = λ block free. free; less = λ block bytes off free only. settled_has (l.blocks block) bytes only })
+      (record { superblock = refl; catalog = refl; dirs = refl; unheld = λ block free. free; less = λ block bytes off free only. settled_has (l.blocks block) bytes only })
       (keeps l start history k k same none st.kept)
 
-  pub emptied_stored : EmptiedIsKept g → (head : Super) (home : ℕ → List ℕ) → geometry_of head ≡ g → IsStored (emptied head home l) u start history k p
-  emptied_stored keeps head home next = alike_stored l (emptied head home l) u start history k p st
+  pub emptied_stored : EmptiedIsKept g → (superblock : Super) (home : ℕ → List ℕ) → geometry_of superblock ≡ g → IsStored (emptied superblock home l) u start history k p
+  emptied_stored keeps superblock home next = alike_stored l (emptied superblock home l) u start history k p st
       (record {
-        head = next ∙ sym same;
+        superblock = next ∙ sym same;
         catalog = refl;
         dirs = refl;
         unheld = λ block free. refl;
         less = λ block bytes off free only. subst (λ (b : Bool). HaveOnly (possible (if b then record { older = []; seen = home block } else settled_cell (l.blocks block))) bytes) (sym free) (settled_has (l.blocks block) bytes only);
       })
-      (keeps l head home start history k k same next st.kept)
+      (keeps l superblock home start history k k same next st.kept)
 
 -- ---- a block is spelled
 
@@ -94,10 +94,10 @@ module _ (l : Ledger) (u : BlockSet) (start : PosixTree) (history : List Entry) 
   other_block : (owner : Owner) (other : ℕ) → owner ≢ TheNames → Owns p u owner other → other ≢ block
   other_block owner other not owns is = not (st.spaced.apart owner TheNames other owns (inl (ap (has p.fresh) is ∙ fresh)))
 
-  stands : (a b : Ledger) (h : DurableState) → ((place other : ℕ) → slice_get (blocks_of h.file.extents) place ≡ Some other → IsFileBlock a other → IsFileBlock b other) → a.head ≡ b.head → a.blocks ≡ b.blocks
+  stands : (a b : Ledger) (h : DurableState) → ((place other : ℕ) → slice_get (blocks_of h.file.extents) place ≡ Some other → IsFileBlock a other → IsFileBlock b other) → a.superblock ≡ b.superblock → a.blocks ≡ b.blocks
       → b.now.catalog.forms h.file.inode ≡ a.now.catalog.forms h.file.inode → StandsFor a h → StandsFor b h
-  stands a b h goes head cells form stood = record {
-    in_range = subst (λ (s : Super). IsInode (geometry_of s) h.file.inode) head stood.in_range;
+  stands a b h goes superblock cells form stood = record {
+    in_range = subst (λ (s : Super). IsInode (geometry_of s) h.file.inode) superblock stood.in_range;
     kind = ap (λ (x : InodeForm). x.kind) form ∙ stood.kind;
     size = ap (λ (x : InodeForm). x.size) form ∙ stood.size;
     extents = ap (λ (x : InodeForm). x.extents) form ∙ stood.extents;
@@ -117,7 +117,7 @@ module _ (l : Ledger) (u : BlockSet) (start : PosixTree) (history : List Entry) 
         record { data_block = now.data_block; no_dir = now.no_dir; unheld = now.unheld }) refl refl refl both.1,
   )
 
-  taken : (other : ℕ) → IsTakenBlock (geometry_of l.head) m.now.catalog other → IsTakenBlock (geometry_of l.head) l.now.catalog other
+  taken : (other : ℕ) → IsTakenBlock (geometry_of l.superblock) m.now.catalog other → IsTakenBlock (geometry_of l.superblock) l.now.catalog other
   taken other (inl below) = inl below
   taken other (inr (i, place, at)) = inr (i, place, record { in_range = at.in_range; there = at.there })
 
@@ -129,8 +129,8 @@ module _ (l : Ledger) (u : BlockSet) (start : PosixTree) (history : List Entry) 
     stored = stored file s here was.stored;
   }
     where
-      by : (place other : ℕ) → (slice_get (blocks_of (durable_in p.commits s).log.committed.runs) place ≡ Some other) ⊎ (IsTakenBlock (geometry_of l.head) l.now.catalog other → ⊥)
-          → (slice_get (blocks_of (durable_in p.commits s).log.committed.runs) place ≡ Some other) ⊎ (IsTakenBlock (geometry_of l.head) m.now.catalog other → ⊥)
+      by : (place other : ℕ) → (slice_get (blocks_of (durable_in p.commits s).log.committed.runs) place ≡ Some other) ⊎ (IsTakenBlock (geometry_of l.superblock) l.now.catalog other → ⊥)
+          → (slice_get (blocks_of (durable_in p.commits s).log.committed.runs) place ≡ Some other) ⊎ (IsTakenBlock (geometry_of l.superblock) m.now.catalog other → ⊥)
       by place other (inl there) = inl there
       by place other (inr off) = inr (λ is. off (taken other is))
 
@@ -155,7 +155,7 @@ module _ (l : Ledger) (u : BlockSet) (start : PosixTree) (history : List Entry) 
     unheld = was.unheld;
   })
 
-  module _ (zeros : ZerosAreTaken (geometry_of l.head)) where
+  module _ (zeros : ZerosAreTaken (geometry_of l.superblock)) where
     names : AreNamesStored l k.numbers p.fresh p.names → AreNamesStored m k.numbers p.fresh p.names
     names (inl off) = inl off
     names (inr n) =
@@ -192,7 +192,7 @@ module _ (l : Ledger) (u : BlockSet) (start : PosixTree) (history : List Entry) 
     }
 
 -- the promise of the ledger
-pub spelled_kept : (g : Geometry) → FreeBlocksKeep g → (l : Ledger) (block : ℕ) (start : PosixTree) (history : List Entry) (k : Counts) → geometry_of l.head ≡ g → l.maybe ≡ None → IsSoundCatalog g l.now.catalog → CoversDirs g l.now
+pub spelled_kept : (g : Geometry) → FreeBlocksKeep g → (l : Ledger) (block : ℕ) (start : PosixTree) (history : List Entry) (k : Counts) → geometry_of l.superblock ≡ g → l.maybe ≡ None → IsSoundCatalog g l.now.catalog → CoversDirs g l.now
     → (IsTrue (l.now.dirs block) → ⊥) → IsLedgerKept l start history k k → IsLedgerKept (record l { now = with_free_block block l.now }) start history k k
 spelled_kept g keeps l block start history k same none sound covers off kept = record {
   here = subst (λ (h : Geometry). IsKeptBy h l.blocks (with_free_block block l.now) start history k) (sym same)

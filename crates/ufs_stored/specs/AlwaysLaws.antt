@@ -19,7 +19,7 @@ use Rattle.ufs_stored.specs.Parts.{Parts}
 pub record IsKeptLedger (g : Geometry) (start : PosixTree) (history : List Entry) (l : Ledger) : Type 0 where
   pub now : Counts
   pub maybe : Counts
-  pub formed : geometry_of l.head ≡ g
+  pub formed : geometry_of l.superblock ≡ g
   pub kept : IsLedgerKept l start history now maybe
 
 -- Calls leave what such a ledger has,
@@ -34,12 +34,12 @@ StagesAreExplained g = (keeps : Bool) (sectors : ℕ) (old new : Moments) (ls : 
 
 -- A checkpoint.
 abbrev pub CheckpointsAreExplained : Geometry → Type 0
-CheckpointsAreExplained g = (keeps : Bool) (s : StoreState) (old new : Moments) (l : Ledger) (start : PosixTree) (history : List Entry) (counts : Counts) → geometry_of l.head ≡ g → l.head ≡ s.head
+CheckpointsAreExplained g = (keeps : Bool) (s : StoreState) (old new : Moments) (l : Ledger) (start : PosixTree) (history : List Entry) (counts : Counts) → geometry_of l.superblock ≡ g → l.superblock ≡ s.superblock
     → IsLedgerKept l start history counts counts → LeavesOnly keeps (IsLeftByAny s.sectors (l ∷ beginning_next s l ∷ [])) old new → IsExplainedBetween keeps s.sectors start history old new
 
 -- A commit, where it keeps the promise by these counts.
 abbrev pub CommitsAreExplained : Geometry → Type 0
-CommitsAreExplained g = (keeps : Bool) (s : StoreState) (records : List LogRecord) (old new : Moments) (l : Ledger) (start : PosixTree) (history : List Entry) (counts next : Counts) → geometry_of l.head ≡ g → l.head ≡ s.head
+CommitsAreExplained g = (keeps : Bool) (s : StoreState) (records : List LogRecord) (old new : Moments) (l : Ledger) (start : PosixTree) (history : List Entry) (counts next : Counts) → geometry_of l.superblock ≡ g → l.superblock ≡ s.superblock
     → IsLedgerKept l start history counts counts → IsLedgerKept (committing (next_commit s records) (settled (with_room s records l))) start history counts next
     → LeavesOnly keeps (IsLeftByAny s.sectors (stages s records l)) old new → IsExplainedBetween keeps s.sectors start history old new
 

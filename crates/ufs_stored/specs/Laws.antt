@@ -52,25 +52,25 @@ use Rattle.ufs_stored.specs.Stored.{AreNamesStored, ArePartsOf, AreSpaced, IsFil
 
 -- Whatever a crash leaves opens to a tree that the history explains.
 abbrev pub StoredIsExplained : Geometry → Type 0
-StoredIsExplained g = (sectors : ℕ) (image : Image) (l : Ledger) (unassigned : BlockSet) (start : PosixTree) (history : List Entry) (counts : Counts) (p : Parts) → geometry_of l.head ≡ g
+StoredIsExplained g = (sectors : ℕ) (image : Image) (l : Ledger) (unassigned : BlockSet) (start : PosixTree) (history : List Entry) (counts : Counts) (p : Parts) → geometry_of l.superblock ≡ g
     → IsStored l unassigned start history counts p → IsLeftBy sectors l image → OpensExplained sectors start history image
 
 -- So at each moment of calls that leave what the ledger has.
 abbrev pub CallsAreExplained : Geometry → Type 0
-CallsAreExplained g = (keeps : Bool) (sectors : ℕ) (old new : Moments) (l : Ledger) (unassigned : BlockSet) (start : PosixTree) (history : List Entry) (counts : Counts) (p : Parts) → geometry_of l.head ≡ g
+CallsAreExplained g = (keeps : Bool) (sectors : ℕ) (old new : Moments) (l : Ledger) (unassigned : BlockSet) (start : PosixTree) (history : List Entry) (counts : Counts) (p : Parts) → geometry_of l.superblock ≡ g
     → IsStored l unassigned start history counts p → LeavesOnly keeps (IsLeftBy sectors l) old new → LeavesOnly keeps (OpensExplained sectors start history) old new
 
 -- ---- an entry is drawn
 
 -- An entry that leaves the parts as they are, and whose acknowledgement is covered: a request that reads, and one that syncs.
 abbrev pub QuietEntriesKeep : Geometry → Type 0
-QuietEntriesKeep g = (l : Ledger) (unassigned : BlockSet) (start : PosixTree) (history : List Entry) (entry : Entry) (counts : Counts) (p : Parts) → geometry_of l.head ≡ g
+QuietEntriesKeep g = (l : Ledger) (unassigned : BlockSet) (start : PosixTree) (history : List Entry) (entry : Entry) (counts : Counts) (p : Parts) → geometry_of l.superblock ≡ g
     → IsLegal start (history ++ entry ∷ []) → IsAckCovered start history entry counts.names counts.files → ArePartsOf p (tree_after start (history ++ entry ∷ []))
     → IsStored l unassigned start history counts p → IsStored l unassigned start (history ++ entry ∷ []) counts p
 
 -- An excused one.
 abbrev pub ExcusesKeep : Geometry → Type 0
-ExcusesKeep g = (l : Ledger) (unassigned : BlockSet) (start : PosixTree) (history : List Entry) (entry : Entry) (counts : Counts) (p : Parts) → geometry_of l.head ≡ g
+ExcusesKeep g = (l : Ledger) (unassigned : BlockSet) (start : PosixTree) (history : List Entry) (entry : Entry) (counts : Counts) (p : Parts) → geometry_of l.superblock ≡ g
     → IsLegal start (history ++ entry ∷ []) → is_excused entry.reply ≡ true → IsStored l unassigned start history counts p → IsStored l unassigned start (history ++ entry ∷ []) counts p
 
 -- the request changes nothing of a tree
@@ -84,14 +84,14 @@ leaves_tree _ = false
 
 -- One of such a request, whose acknowledgement is covered.
 abbrev pub StillEntriesKeep : Geometry → Type 0
-StillEntriesKeep g = (l : Ledger) (unassigned : BlockSet) (start : PosixTree) (history : List Entry) (entry : Entry) (counts : Counts) (p : Parts) → geometry_of l.head ≡ g
+StillEntriesKeep g = (l : Ledger) (unassigned : BlockSet) (start : PosixTree) (history : List Entry) (entry : Entry) (counts : Counts) (p : Parts) → geometry_of l.superblock ≡ g
     → IsLegal start (history ++ entry ∷ []) → leaves_tree entry.op ≡ true → IsAckCovered start history entry counts.names counts.files
     → IsStored l unassigned start history counts p → IsStored l unassigned start (history ++ entry ∷ []) counts p
 
 -- One of a request on a file, which went by what such a file tells of it.
 abbrev pub FileEntriesKeep : Geometry → Type 0
 FileEntriesKeep g = (l : Ledger) (unassigned : BlockSet) (start : PosixTree) (history : List Entry) (entry : Entry) (counts : Counts) (p : Parts) (f : FileState) (next : DurableState) (pool : BlockSet)
-    (ask : Ask) (server : Actor) (ticket : ℕ) (desc : Option Desc) (d : Desc) → geometry_of l.head ≡ g → IsLegal start (history ++ entry ∷ []) → asks_commit entry.op ≡ false
+    (ask : Ask) (server : Actor) (ticket : ℕ) (desc : Option Desc) (d : Desc) → geometry_of l.superblock ≡ g → IsLegal start (history ++ entry ∷ []) → asks_commit entry.op ≡ false
     → map.get p.files f.file ≡ Some f → is_on_file ask.op ≡ true → IsAsk (tree_after start history) ask → ask.desc ≡ Some d → d.file ≡ Some f.file
     → IsApplied (durable_in p.commits f) next p.pool pool ask server ticket entry desc
     → IsStored l unassigned start history counts p → IsStored l unassigned start (history ++ entry ∷ []) counts (with_file next pool p)
@@ -100,20 +100,20 @@ FileEntriesKeep g = (l : Ledger) (unassigned : BlockSet) (start : PosixTree) (hi
 
 -- An `fsync` of a file that has an inode on the disk, where all its changes stand there.
 abbrev pub FsyncsKeep : Geometry → Type 0
-FsyncsKeep g = (l : Ledger) (unassigned : BlockSet) (start : PosixTree) (history : List Entry) (entry : Entry) (counts : Counts) (p : Parts) (fd file : ℕ) → geometry_of l.head ≡ g
+FsyncsKeep g = (l : Ledger) (unassigned : BlockSet) (start : PosixTree) (history : List Entry) (entry : Entry) (counts : Counts) (p : Parts) (fd file : ℕ) → geometry_of l.superblock ≡ g
     → IsLegal start (history ++ entry ∷ []) → entry.op ≡ op.Fsync fd → (opened (tree_after start history) entry.client fd).file ≡ Some file
     → IsSome (counts.numbers.inode file) → length (changes_of file start history) ≤ counts.files file
     → IsStored l unassigned start history counts p → IsStored l unassigned start (history ++ entry ∷ []) counts p
 
 -- One of a directory, where all changes of names do.
 abbrev pub DirFsyncsKeep : Geometry → Type 0
-DirFsyncsKeep g = (l : Ledger) (unassigned : BlockSet) (start : PosixTree) (history : List Entry) (entry : Entry) (counts : Counts) (p : Parts) (fd : ℕ) → geometry_of l.head ≡ g
+DirFsyncsKeep g = (l : Ledger) (unassigned : BlockSet) (start : PosixTree) (history : List Entry) (entry : Entry) (counts : Counts) (p : Parts) (fd : ℕ) → geometry_of l.superblock ≡ g
     → IsLegal start (history ++ entry ∷ []) → entry.op ≡ op.Fsync fd → (opened (tree_after start history) entry.client fd).file ≡ None → length (name_changes start history) ≤ counts.names
     → IsStored l unassigned start history counts p → IsStored l unassigned start (history ++ entry ∷ []) counts p
 
 -- A `sync`, where everything does.
 abbrev pub SyncsKeep : Geometry → Type 0
-SyncsKeep g = (l : Ledger) (unassigned : BlockSet) (start : PosixTree) (history : List Entry) (entry : Entry) (counts : Counts) (p : Parts) → geometry_of l.head ≡ g
+SyncsKeep g = (l : Ledger) (unassigned : BlockSet) (start : PosixTree) (history : List Entry) (entry : Entry) (counts : Counts) (p : Parts) → geometry_of l.superblock ≡ g
     → IsLegal start (history ++ entry ∷ []) → entry.op ≡ op.Sync → length (name_changes start history) ≤ counts.names → ((file : ℕ) → length (changes_of file start history) ≤ counts.files file)
     → IsStored l unassigned start history counts p → IsStored l unassigned start (history ++ entry ∷ []) counts p
 
@@ -121,23 +121,23 @@ SyncsKeep g = (l : Ledger) (unassigned : BlockSet) (start : PosixTree) (history 
 
 -- One is written: with zeros, say.
 abbrev pub WrittenIsStored : Geometry → Type 0
-WrittenIsStored g = (l : Ledger) (unassigned : BlockSet) (start : PosixTree) (history : List Entry) (counts : Counts) (p : Parts) (block : ℕ) (bytes : List ℕ) → geometry_of l.head ≡ g → l.maybe ≡ None → has p.fresh block ≡ true
+WrittenIsStored g = (l : Ledger) (unassigned : BlockSet) (start : PosixTree) (history : List Entry) (counts : Counts) (p : Parts) (block : ℕ) (bytes : List ℕ) → geometry_of l.superblock ≡ g → l.maybe ≡ None → has p.fresh block ≡ true
     → IsStored l unassigned start history counts p → IsStored (written block bytes l) unassigned start history counts p
 
 -- A barrier settles what was written.
 abbrev pub SettledIsStored : Geometry → Type 0
-SettledIsStored g = (l : Ledger) (unassigned : BlockSet) (start : PosixTree) (history : List Entry) (counts : Counts) (p : Parts) → geometry_of l.head ≡ g → l.maybe ≡ None
+SettledIsStored g = (l : Ledger) (unassigned : BlockSet) (start : PosixTree) (history : List Entry) (counts : Counts) (p : Parts) → geometry_of l.superblock ≡ g → l.maybe ≡ None
     → IsStored l unassigned start history counts p → IsStored (settled l) unassigned start history counts p
 
 -- Once it is zero dentries may be set there.
 abbrev pub SpelledIsStored : Geometry → Type 0
-SpelledIsStored g = (l : Ledger) (unassigned : BlockSet) (start : PosixTree) (history : List Entry) (counts : Counts) (p : Parts) (block : ℕ) → geometry_of l.head ≡ g → l.maybe ≡ None → IsSoundCatalog g l.now.catalog → CoversDirs g l.now
+SpelledIsStored g = (l : Ledger) (unassigned : BlockSet) (start : PosixTree) (history : List Entry) (counts : Counts) (p : Parts) (block : ℕ) → geometry_of l.superblock ≡ g → l.maybe ≡ None → IsSoundCatalog g l.now.catalog → CoversDirs g l.now
     → has p.fresh block ≡ true → IsFileBlock l block → IsStored l unassigned start history counts p → IsStored (record l { now = with_free_block block l.now }) unassigned start history counts p
 
 -- A checkpoint keeps all.
 abbrev pub EmptiedIsStored : Geometry → Type 0
-EmptiedIsStored g = (l : Ledger) (unassigned : BlockSet) (start : PosixTree) (history : List Entry) (counts : Counts) (p : Parts) (head : Super) (home : ℕ → List ℕ) → geometry_of l.head ≡ g → geometry_of head ≡ g
-    → IsStored l unassigned start history counts p → IsStored (emptied head home l) unassigned start history counts p
+EmptiedIsStored g = (l : Ledger) (unassigned : BlockSet) (start : PosixTree) (history : List Entry) (counts : Counts) (p : Parts) (superblock : Super) (home : ℕ → List ℕ) → geometry_of l.superblock ≡ g → geometry_of superblock ≡ g
+    → IsStored l unassigned start history counts p → IsStored (emptied superblock home l) unassigned start history counts p
 
 -- ---- free blocks
 
@@ -165,7 +165,7 @@ all_named start history n k = record { names = length (name_changes start histor
 -- The names have these records to commit with this number, which is above each inode's; and dentries may be set in the blocks that
 -- directories took.
 pub record HasNamesToCommit (g : Geometry) (l : Ledger) (p : Parts) (number : ℕ) (records : List LogRecord) : Type 0 where
-  pub geometry : geometry_of l.head ≡ g
+  pub geometry : geometry_of l.superblock ≡ g
   pub none : l.maybe ≡ None
   pub noted : p.names.tree.noted ≡ Some records
   pub table : IsNameTable p.names.tree
@@ -218,7 +218,7 @@ pub record KeepsNumbers (numbers : Numbers) (old new : NamesPart) (xs : List Ste
 -- What its notes tell of a change goes on from the disk, where the blocks that the directories were lent are fresh now, and the
 -- steps leave sound names.
 abbrev pub NotesGoOn : Geometry → Type 0
-NotesGoOn g = (l : Ledger) (unassigned : BlockSet) (start : PosixTree) (history : List Entry) (counts : Counts) (p : Parts) (new : NamesPart) (lent : List ℕ) (pool : BlockSet) (go : GoesNoted p.names.tree new.tree pool) → geometry_of l.head ≡ g
+NotesGoOn g = (l : Ledger) (unassigned : BlockSet) (start : PosixTree) (history : List Entry) (counts : Counts) (p : Parts) (new : NamesPart) (lent : List ℕ) (pool : BlockSet) (go : GoesNoted p.names.tree new.tree pool) → geometry_of l.superblock ≡ g
     → length p.names.tree.dirs.dirs ≡ g.inodes + 1
     → ((block : ℕ) → set.contains pool block ≡ true → has lent block ≡ true) → ((block : ℕ) → has lent block ≡ true → set.contains p.pool block ≡ true)
     → ((s : DirState) → IsStateOf p.names.tree pool s → HasSoundNames g s → HasSoundNames g (after_all go.steps s)) → KeepsNumbers counts.numbers p.names new go.steps → AreInodesOf new.tree new.held
@@ -231,7 +231,7 @@ pub record IsNewFile (l : Ledger) (numbers : Numbers) (p : Parts) (f : FileState
   pub empty : f ≡ no_bytes f.file f.inode
   pub unknown : map.get p.commits f.file ≡ None
   pub unborn : numbers.inode f.file ≡ None
-  pub in_range : IsInode (geometry_of l.head) f.inode
+  pub in_range : IsInode (geometry_of l.superblock) f.inode
 
 -- The file was here, with the same known of its commits; or it is new; or it is whole however it changed.
 abbrev pub StaysOrNew : Ledger → Numbers → Parts → Parts → ℕ → FileState → Type 0
@@ -240,7 +240,7 @@ StaysOrNew l numbers old new file f =
 
 -- One of a request of the names, behind which these are stored, and blocks are spaced.
 abbrev pub NameEntriesKeep : Geometry → Type 0
-NameEntriesKeep g = (l : Ledger) (unassigned : BlockSet) (start : PosixTree) (history : List Entry) (entry : Entry) (counts : Counts) (p next : Parts) → geometry_of l.head ≡ g
+NameEntriesKeep g = (l : Ledger) (unassigned : BlockSet) (start : PosixTree) (history : List Entry) (entry : Entry) (counts : Counts) (p next : Parts) → geometry_of l.superblock ≡ g
     → IsLegal start (history ++ entry ∷ []) → IsAckCovered start history entry counts.names counts.files → ArePartsOf next (tree_after start (history ++ entry ∷ []))
     → AreNamesStored l counts.numbers next.fresh next.names → ((file : ℕ) (f : FileState) → map.get next.files file ≡ Some f → StaysOrNew l counts.numbers p next file f) → AreSpaced l unassigned counts.numbers next
     → IsStored l unassigned start history counts p → IsStored l unassigned start (history ++ entry ∷ []) counts next

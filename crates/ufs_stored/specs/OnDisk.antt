@@ -23,7 +23,7 @@ pub record IsGoing (s : StoreState) (start : PosixTree) (history : List Entry) (
   pub ledger : Ledger
   pub counts : Counts
   pub has : HasLedger s ledger
-  pub formed : geometry_of ledger.head ≡ geometry_of_store s
+  pub formed : geometry_of ledger.superblock ≡ geometry_of_store s
   pub stored : IsStored ledger s.unassigned.free start history counts p
 
 -- The store has stopped. The history explains whatever a crash leaves of the disk, and the parts are those of the tree after it.
@@ -33,7 +33,7 @@ pub record HasStopped (s : StoreState) (start : PosixTree) (history : List Entry
   pub now : Counts
   pub maybe : Counts
   pub has : IsLedgerOf s.sectors s.moments.state ledger
-  pub formed : geometry_of ledger.head ≡ geometry_of_store s
+  pub formed : geometry_of ledger.superblock ≡ geometry_of_store s
   pub tree : IsTree start
   pub legal : IsLegal start history
   pub kept : IsLedgerKept ledger start history now maybe

@@ -75,21 +75,21 @@ AllIsSynced g = (s : StoreState) (start : PosixTree) (history : List Entry) (ent
 
 -- At a read or a barrier that failed: the disk has the ledger that it had.
 abbrev pub BarriersStop : Geometry → Type 0
-BarriersStop g = (s : StoreState) (l : Ledger) (start : PosixTree) (history : List Entry) (counts : Counts) (p : Parts) → geometry_of_store s ≡ g → geometry_of l.head ≡ g → IsSome s.stop
+BarriersStop g = (s : StoreState) (l : Ledger) (start : PosixTree) (history : List Entry) (counts : Counts) (p : Parts) → geometry_of_store s ≡ g → geometry_of l.superblock ≡ g → IsSome s.stop
     → IsLedgerOf s.sectors s.moments.state l → IsStored l s.unassigned.free start history counts p → HasStopped s start history p
 
 -- At a write that failed, of a block that a directory took.
 abbrev pub WritesStop : Geometry → Type 0
-WritesStop g = (s : StoreState) (l : Ledger) (start : PosixTree) (history : List Entry) (counts : Counts) (p : Parts) (block : ℕ) (bytes seen : List ℕ) → geometry_of_store s ≡ g → geometry_of l.head ≡ g → IsSome s.stop
+WritesStop g = (s : StoreState) (l : Ledger) (start : PosixTree) (history : List Entry) (counts : Counts) (p : Parts) (block : ℕ) (bytes seen : List ℕ) → geometry_of_store s ≡ g → geometry_of l.superblock ≡ g → IsSome s.stop
     → l.maybe ≡ None → has p.fresh block ≡ true → IsLedgerOf s.sectors s.moments.state (tried block bytes seen l) → IsStored l s.unassigned.free start history counts p → HasStopped s start history p
 
 -- At a checkpoint that failed.
 abbrev pub CheckpointsStop : Geometry → Type 0
-CheckpointsStop g = (old s : StoreState) (l : Ledger) (start : PosixTree) (history : List Entry) (counts : Counts) (p : Parts) → geometry_of_store s ≡ g → geometry_of l.head ≡ g → IsSome s.stop
+CheckpointsStop g = (old s : StoreState) (l : Ledger) (start : PosixTree) (history : List Entry) (counts : Counts) (p : Parts) → geometry_of_store s ≡ g → geometry_of l.superblock ≡ g → IsSome s.stop
     → HasLedger old l → HasAny s (l ∷ beginning_next old l ∷ []) → IsStored l s.unassigned.free start history counts p → HasStopped s start history p
 
 -- At a commit that failed, where it would have kept the promise by these counts.
 abbrev pub CommitsStop : Geometry → Type 0
-CommitsStop g = (old s : StoreState) (records : List LogRecord) (l : Ledger) (start : PosixTree) (history : List Entry) (counts next : Counts) (p : Parts) → geometry_of_store s ≡ g → geometry_of l.head ≡ g → IsSome s.stop
+CommitsStop g = (old s : StoreState) (records : List LogRecord) (l : Ledger) (start : PosixTree) (history : List Entry) (counts next : Counts) (p : Parts) → geometry_of_store s ≡ g → geometry_of l.superblock ≡ g → IsSome s.stop
     → HasLedger old l → HasAny s (stages old records l) → IsLedgerKept (committing (next_commit old records) (settled (with_room old records l))) start history counts next
     → IsStored l s.unassigned.free start history counts p → HasStopped s start history p

@@ -54,14 +54,14 @@ IsKnownBlock numbers n xs inode block =
 pub record AreNamesNoted (l : Ledger) (numbers : Numbers) (fresh : List ℕ) (n : NamesPart) : Type 0 where
   pub committed : DirState
   pub steps : List Step
-  pub has : HasState (geometry_of l.head) l.now.catalog (with_none committed)
+  pub has : HasState (geometry_of l.superblock) l.now.catalog (with_none committed)
   pub noted : n.tree.noted ≡ Some (records_of (with_fresh fresh committed) steps)
-  pub may : MaySteps (geometry_of l.head) (with_fresh fresh committed) steps
+  pub may : MaySteps (geometry_of l.superblock) (with_fresh fresh committed) steps
   pub dirs : (after_all steps (with_fresh fresh committed)).table ≡ n.tree.dirs
   pub kinds : AreKindsOf n.tree (after_all steps (with_fresh fresh committed)).kinds
-  pub sound : HasSoundNames (geometry_of l.head) (after_all steps (with_fresh fresh committed))
+  pub sound : HasSoundNames (geometry_of l.superblock) (after_all steps (with_fresh fresh committed))
   pub live : (file : ℕ) → IsSome (map.get n.held file) → KeepsInode steps numbers (numbers_of n) file
-  pub known : (inode place block : ℕ) → HasBlock (geometry_of l.head) l.now.catalog inode place block → IsKnownBlock numbers n steps inode block
+  pub known : (inode place block : ℕ) → HasBlock (geometry_of l.superblock) l.now.catalog inode place block → IsKnownBlock numbers n steps inode block
 
 -- Where memory ran out for a note nothing is noted, and no names are committed any more.
 abbrev pub AreNamesStored : Ledger → Numbers → List ℕ → NamesPart → Type 0
@@ -91,7 +91,7 @@ FileHasIt p numbers inode block = (file : ℕ) × FileOwns p file block × (numb
 
 -- Dentries may be set in the block: it spells free slots, and nothing is folded in it.
 pub record IsSpelled (l : Ledger) (block : ℕ) : Type 0 where
-  pub data_block : IsDataBlock (geometry_of l.head) block
+  pub data_block : IsDataBlock (geometry_of l.superblock) block
   pub spelled : IsTrue (l.now.dirs block)
   pub slots : l.now.catalog.slots block ≡ replicate SLOTS_PER_BLOCK free_slot
   pub unheld : is_held l.now.log block ≡ false
@@ -102,8 +102,8 @@ pub record AreSpaced (l : Ledger) (unassigned : BlockSet) (numbers : Numbers) (p
   pub apart : (one other : Owner) (block : ℕ) → Owns p unassigned one block → Owns p unassigned other block → one ≡ other
   pub usable : (owner : Owner) (block : ℕ) → owner ≢ TheNames → Owns p unassigned owner block → IsFileBlock l block
   pub fresh : (block : ℕ) → has p.fresh block ≡ true → IsFileBlock l block ⊎ IsSpelled l block
-  pub unheld : (inode place block : ℕ) → has p.fresh block ≡ true → HasBlock (geometry_of l.head) l.now.catalog inode place block → ⊥
-  pub held : (inode place block : ℕ) → HasBlock (geometry_of l.head) l.now.catalog inode place block → NamesOwn p block ⊎ FileHasIt p numbers inode block
+  pub unheld : (inode place block : ℕ) → has p.fresh block ≡ true → HasBlock (geometry_of l.superblock) l.now.catalog inode place block → ⊥
+  pub held : (inode place block : ℕ) → HasBlock (geometry_of l.superblock) l.now.catalog inode place block → NamesOwn p block ⊎ FileHasIt p numbers inode block
 
 -- ---- the whole
 

@@ -48,7 +48,7 @@ module _ (s : StoreState) (l : Ledger) (u : BlockSet) (start : PosixTree) (histo
   never : (block : ℕ) → has p.fresh block ≡ true → IsTrue (off block) → ⊥
   never block fresh is = clash (off block) is (ap (λ (b : Bool). if b then false else l.now.dirs block) fresh)
 
-  covers : CoversDirs (geometry_of l.head) l.now → CoversDirs (geometry_of l.head) (with_dirs off l.now)
+  covers : CoversDirs (geometry_of l.superblock) l.now → CoversDirs (geometry_of l.superblock) (with_dirs off l.now)
   covers all block is = by (has p.fresh block) refl
     where
       by : (b : Bool) → has p.fresh block ≡ b → IsTrue (off block)

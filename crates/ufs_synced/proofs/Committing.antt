@@ -18,7 +18,7 @@ use Rattle.ufs_model.specs.declared.data.Entry.{Entry}
 use Rattle.ufs_name_log.specs.Laws.{AreOlder}
 use Rattle.ufs_name_tree.specs.NameTable.{IsNameTable}
 use Rattle.ufs_store.specs.Ledgers.{HasAny, HasLedger, IsLeftByAny, MayCommitNext, after_commit, checkpointed, stages, with_room}
-use Rattle.ufs_store.specs.State.{StoreState, geometry_of_store, has_room, next_commit, next_head}
+use Rattle.ufs_store.specs.State.{StoreState, geometry_of_store, has_room, next_commit, next_superblock}
 use Rattle.ufs_stored.specs.AlwaysLaws.{CommitsAreExplained}
 use Rattle.ufs_stored.specs.Laws.{EmptiedIsStored, HasNamesToCommit, NamesAreCommitted, NamesAreCommitting, NamesMayCommit, all_named, with_names_committed}
 use Rattle.ufs_stored.specs.OnDisk.{HasNames, HasStopped, IsExplainedBetween, IsGoing}
@@ -39,18 +39,18 @@ module _ (g : Geometry) (old new : StoreState) (start : PosixTree) (history : Li
   abbrev led : HasLedger old l
   led = h.knows
 
-  formed : geometry_of l.head ≡ g
+  formed : geometry_of l.superblock ≡ g
   formed = h.formed ∙ beside.old_form
 
   -- what is stored beside the old store's free blocks is beside the new one's
   moved : (m : Ledger) (c : Counts) (q : Parts) → IsStored m old.unassigned.free start history c q → IsStored m new.unassigned.free start history c q
   moved m c q st = subst (λ (u : Space). IsStored m u.free start history c q) (sym beside.unassigned) st
 
-  next_form : geometry_of (next_head old) ≡ g
-  next_form = ap geometry_of (sym led.headed) ∙ formed
+  next_form : geometry_of (next_superblock old) ≡ g
+  next_form = ap geometry_of (sym led.superblock_is) ∙ formed
 
   emptied_stored : EmptiedIsStored g → IsStored (checkpointed old l) old.unassigned.free start history k p
-  emptied_stored empties = empties l old.unassigned.free start history k p (next_head old) (block_at (home_of l (reads old.moments))) formed next_form h.stored
+  emptied_stored empties = empties l old.unassigned.free start history k p (next_superblock old) (block_at (home_of l (reads old.moments))) formed next_form h.stored
 
   pub waits : EmptiedIsStored g → ((m : Ledger) → HasLedger old m → HasLedger new m ⊎ HasLedger new (checkpointed old m)) → IsGoing new start history p
   waits empties leaves = by (leaves l led)
@@ -61,10 +61,10 @@ module _ (g : Geometry) (old new : StoreState) (start : PosixTree) (history : Li
 
   -- ---- with room
 
-  room_formed : (records : List LogRecord) → geometry_of (with_room old records l).head ≡ g
+  room_formed : (records : List LogRecord) → geometry_of (with_room old records l).superblock ≡ g
   room_formed records = by (has_room old records)
     where
-      by : (b : Bool) → geometry_of (if b then l else checkpointed old l).head ≡ g
+      by : (b : Bool) → geometry_of (if b then l else checkpointed old l).superblock ≡ g
       by true = formed
       by false = next_form
 
@@ -124,7 +124,7 @@ pub names_explained : (g : Geometry) → LedgersAreSound → NamesMayCommit g �
     → ((m : Ledger) → HasLedger s m → MayCommitNext s records m → LeavesOnly keeps (IsLeftByAny s.sectors (stages s records m)) s.moments new) → HasSpelled s start history p → IsExplainedBetween keeps s.sectors start history s.moments new
 names_explained g sound mays empties meanwhile explained keeps s new start history p records same noted table run h =
     let beside : IsBeside g s s = record { old_form = same; new_form = same; unassigned = refl } in
-    explained keeps s records s.moments new h.ledger start history h.counts (all_named start history p.names h.counts) (h.formed ∙ same) h.knows.headed h.stored.kept
+    explained keeps s records s.moments new h.ledger start history h.counts (all_named start history p.names h.counts) (h.formed ∙ same) h.knows.superblock_is h.stored.kept
     (meanwhile (with_room s records h.ledger) s.unassigned.free start history h.counts p s.journal.number records (room_to_commit g s s start history p beside h records noted table)
     (room_stored g s s start history p beside h empties records))
     (run h.ledger h.knows (may g s s start history p beside h records noted table sound mays))

@@ -61,7 +61,7 @@ module _ (keeps : KeepsTrees) (by : NamesGoByChanges) (s : StoreState) (start : 
       let least = h.files file (all file is) in
       omega (arith, most, least)
 
-  stays : StandsOn (geometry_of l.head) l.blocks l.now l.now start history k.names k.names k.files lengths k.numbers k.numbers
+  stays : StandsOn (geometry_of l.superblock) l.blocks l.now l.now start history k.names k.names k.files lengths k.numbers k.numbers
   stays = record {
     later = omega arith;
     made = st.kept.here.stored.made;
@@ -80,7 +80,7 @@ module _ (keeps : KeepsTrees) (by : NamesGoByChanges) (s : StoreState) (start : 
           live l s.unassigned.free start history k p st file
           (subst (λ (n : NameState). IsNamed n.paths file) (ap (names_after start history) is ∙ names_now l s.unassigned.free start history k p st by) named)
 
-  pub all_there : CommitsKeep (geometry_of l.head) → HasAll s start history p
+  pub all_there : CommitsKeep (geometry_of l.superblock) → HasAll s start history p
   all_there commit = record {
     going = record {
       ledger = l;

@@ -36,7 +36,7 @@ module _ (l : Ledger) (dirs : ℕ → Bool) (less : (block : ℕ) → IsTrue (di
 
 module _ (s : StoreState) (l : Ledger) (dirs : ℕ → Bool) (less : (block : ℕ) → IsTrue (dirs block) → IsTrue (l.now.dirs block)) (led : HasLedger s l) where
   -- The store knows the ledger with fewer of them, too, where those of directories are among them.
-  pub fewer_known : CoversDirs (geometry_of l.head) (with_dirs dirs l.now) → HasLedger s (fewer l dirs less)
+  pub fewer_known : CoversDirs (geometry_of l.superblock) (with_dirs dirs l.now) → HasLedger s (fewer l dirs less)
   fewer_known covers = record {
     going = led.going;
     by = record {
@@ -48,7 +48,7 @@ module _ (s : StoreState) (l : Ledger) (dirs : ℕ → Bool) (less : (block : �
       later = led.by.later;
       ready = led.by.ready;
     };
-    headed = led.headed;
+    superblock_is = led.superblock_is;
     added = led.added;
     numbered = led.numbered;
     unused = led.unused;

@@ -42,7 +42,7 @@ IsZeroOr l block = (IsFileBlock l block × (possible (l.blocks block) ≡ zeros 
 record AreJoined (s : StoreState) (g : Geometry) (start : PosixTree) (history : List Entry) (k : Counts) (p : Parts) (bs : List ℕ) : Type 0 where
   ledger : Ledger
   knows : HasLedger s ledger
-  formed : geometry_of ledger.head ≡ g
+  formed : geometry_of ledger.superblock ≡ g
   stored : IsStored ledger s.unassigned.free start history k p
   either : (block : ℕ) → has p.fresh block ≡ true → IsZeroOr ledger block
   done : (block : ℕ) → has bs block ≡ true → IsSpelled ledger block
@@ -91,7 +91,7 @@ module _ (g : Geometry) (s : StoreState) (start : PosixTree) (history : List Ent
           later = led.by.later;
           ready = led.by.ready;
         };
-        headed = led.headed;
+        superblock_is = led.superblock_is;
         added = led.added;
         numbered = led.numbered;
         unused = led.unused;
@@ -108,7 +108,7 @@ module _ (g : Geometry) (s : StoreState) (start : PosixTree) (history : List Ent
         led : HasLedger s l
         led = j.knows
 
-        on : IsSoundCatalog (geometry_of l.head) l.now.catalog × CoversDirs (geometry_of l.head) l.now
+        on : IsSoundCatalog (geometry_of l.superblock) l.now.catalog × CoversDirs (geometry_of l.superblock) l.now
         on = sound s.sectors s.moments.state l led.by.none led.by.is
 
         it : IsSpelled (m l block) block
@@ -168,7 +168,7 @@ zeros_settle g sound settles spells old new start history p beside whole barrier
   ready = all.done;
 }
   where
-    formed : geometry_of z.ledger.head ≡ g
+    formed : geometry_of z.ledger.superblock ≡ g
     formed = z.formed ∙ beside.old_form
 
     begun : AreJoined new g start history z.counts p []

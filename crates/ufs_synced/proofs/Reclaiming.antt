@@ -29,7 +29,7 @@ use Rattle.ufs_durable.specs.State.{CommitState, DurableState}
 use Rattle.ufs_durable.proofs.Standing.{blocks_are}
 use Rattle.ufs_store.specs.Ledgers.{HasLedger, checkpointed}
 use Rattle.ufs_bitmap.specs.Space.{Space}
-use Rattle.ufs_store.specs.State.{StoreState, geometry_of_store, next_head}
+use Rattle.ufs_store.specs.State.{StoreState, geometry_of_store, next_superblock}
 use Rattle.ufs_stored.specs.Laws.{EmptiedIsStored}
 use Rattle.ufs_stored.specs.OnDisk.{IsGoing}
 use Rattle.ufs_stored.specs.OnDiskLaws.{CheckpointsStop}
@@ -126,9 +126,9 @@ reclaimed_part p t is = record { names = is.names; files = is.files; inodes = is
 
 -- ---- the checkpoint
 
-module _ (g : Geometry) (l : Ledger) (u : BlockSet) (start : PosixTree) (history : List Entry) (k : Counts) (p : Parts) (st : IsStored l u start history k p) (nothing : HasNothingNoted p) (same : geometry_of l.head ≡ g) (sound : IsSoundServer g u p) where
+module _ (g : Geometry) (l : Ledger) (u : BlockSet) (start : PosixTree) (history : List Entry) (k : Counts) (p : Parts) (st : IsStored l u start history k p) (nothing : HasNothingNoted p) (same : geometry_of l.superblock ≡ g) (sound : IsSoundServer g u p) where
   -- a live file has on the disk what it has here
-  has_here : (file inode place b : ℕ) → IsSome (map.get p.names.held file) → k.numbers.inode file ≡ Some inode → HasBlock (geometry_of l.head) l.now.catalog inode place b → FileOwns p file b
+  has_here : (file inode place b : ℕ) → IsSome (map.get p.names.held file) → k.numbers.inode file ≡ Some inode → HasBlock (geometry_of l.superblock) l.now.catalog inode place b → FileOwns p file b
   has_here file inode place b live number at = by (from_some (map.get p.files file) (st.parts.here file live))
     where
       by : (s : FileState) × (map.get p.files file ≡ Some s) → FileOwns p file b
@@ -153,7 +153,7 @@ module _ (g : Geometry) (l : Ledger) (u : BlockSet) (start : PosixTree) (history
           there = on (st.each file s here).stored
 
   -- No inode on the disk has a block that is dropped.
-  pub lacks : (inode place b : ℕ) → set.contains p.dropped b ≡ true → HasBlock (geometry_of l.head) l.now.catalog inode place b → ⊥
+  pub lacks : (inode place b : ℕ) → set.contains p.dropped b ≡ true → HasBlock (geometry_of l.superblock) l.now.catalog inode place b → ⊥
   lacks inode place b dropped at = by st.names
     where
       known : IsKnownBlock k.numbers p.names [] inode b → ⊥
@@ -176,7 +176,7 @@ module _ (g : Geometry) (l : Ledger) (u : BlockSet) (start : PosixTree) (history
       by true is = (let no = is in absurd cc)
       by false is = is
 
-  pub covers : CoversDirs (geometry_of l.head) l.now → CoversDirs (geometry_of l.head) (with_dirs dirs l.now)
+  pub covers : CoversDirs (geometry_of l.superblock) l.now → CoversDirs (geometry_of l.superblock) (with_dirs dirs l.now)
   covers all b is = by (set.contains p.dropped b) refl
     where
       by : (v : Bool) → set.contains p.dropped b ≡ v → IsTrue (dirs b)
@@ -204,7 +204,7 @@ module _ (g : Geometry) (l : Ledger) (u : BlockSet) (start : PosixTree) (history
         by (inl had) = fewer_st.spaced.usable o b not had.0
         by (inr new) = dropped_usable b new.1
 
-    held : (inode place b : ℕ) → HasBlock (geometry_of l.head) l.now.catalog inode place b → NamesOwn (with_reclaimed p) b ⊎ FileHasIt (with_reclaimed p) k.numbers inode b
+    held : (inode place b : ℕ) → HasBlock (geometry_of l.superblock) l.now.catalog inode place b → NamesOwn (with_reclaimed p) b ⊎ FileHasIt (with_reclaimed p) k.numbers inode b
     held inode place b at = by (st.spaced.held inode place b at)
       where
         by : NamesOwn p b ⊎ FileHasIt p k.numbers inode b → NamesOwn (with_reclaimed p) b ⊎ FileHasIt (with_reclaimed p) k.numbers inode b
@@ -239,14 +239,14 @@ module _ (g : Geometry) (empties : EmptiedIsStored g) (sounds : LedgersAreSound)
   abbrev next : Ledger
   next = checkpointed old go.ledger
 
-  form_next : geometry_of next.head ≡ g
-  form_next = ap geometry_of (sym go.has.headed) ∙ go.formed ∙ beside.old_form
+  form_next : geometry_of next.superblock ≡ g
+  form_next = ap geometry_of (sym go.has.superblock_is) ∙ go.formed ∙ beside.old_form
 
   led : HasLedger new next
   led = checkpoint go.ledger go.has
 
   st_next : IsStored next u start history go.counts p
-  st_next = empties go.ledger u start history go.counts p (next_head old) (block_at (home_of go.ledger (reads old.moments))) (go.formed ∙ beside.old_form) form_next go.stored
+  st_next = empties go.ledger u start history go.counts p (next_superblock old) (block_at (home_of go.ledger (reads old.moments))) (go.formed ∙ beside.old_form) form_next go.stored
 
   going_on : IsGoing new start history (with_reclaimed p)
   going_on = record {

@@ -43,9 +43,9 @@ no_steps d [] none = refl
 no_steps d (x ∷ xs) none = (let no = none in cc)
 
 module _ (l : Ledger) (u : BlockSet) (start : PosixTree) (history : List Entry) (k : Counts) (p : Parts) (number : ℕ) (st : IsStored l u start history k p) (n : AreNamesNoted l k.numbers p.fresh p.names) (empty : n.steps ≡ [])
-    (none : l.maybe ≡ None) (table : IsNameTable p.names.tree) (older : AreOlder (geometry_of l.head) l.now.catalog number) where
+    (none : l.maybe ≡ None) (table : IsNameTable p.names.tree) (older : AreOlder (geometry_of l.superblock) l.now.catalog number) where
   abbrev g : Geometry
-  g = geometry_of l.head
+  g = geometry_of l.superblock
 
   -- the server's directories, as the disk has them
   abbrev d : DirState
@@ -201,7 +201,7 @@ there g by names stand commit s start history p same none_noted table go = recor
   numbered = has_inode p.names;
 }
   where
-    form : g ≡ geometry_of go.ledger.head
+    form : g ≡ geometry_of go.ledger.superblock
     form = sym (go.formed ∙ same)
 
     on : AreNamesStored go.ledger go.counts.numbers p.fresh p.names → IsStored go.ledger s.unassigned.free start history (all_named start history p.names go.counts) (with_names_committed p)

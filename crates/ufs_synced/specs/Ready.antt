@@ -22,7 +22,7 @@ pub record HasZeros (s : StoreState) (start : PosixTree) (history : List Entry) 
   pub ledger : Ledger
   pub counts : Counts
   pub knows : HasLedger s ledger
-  pub formed : geometry_of ledger.head ≡ geometry_of_store s
+  pub formed : geometry_of ledger.superblock ≡ geometry_of_store s
   pub stored : IsStored ledger s.unassigned.free start history counts p
   pub free : (block : ℕ) → has p.fresh block ≡ true → IsFileBlock ledger block
   pub zero : (block : ℕ) → has done block ≡ true → (ledger.blocks block).seen ≡ zeros
@@ -32,6 +32,6 @@ pub record HasSpelled (s : StoreState) (start : PosixTree) (history : List Entry
   pub ledger : Ledger
   pub counts : Counts
   pub knows : HasLedger s ledger
-  pub formed : geometry_of ledger.head ≡ geometry_of_store s
+  pub formed : geometry_of ledger.superblock ≡ geometry_of_store s
   pub stored : IsStored ledger s.unassigned.free start history counts p
   pub ready : (block : ℕ) → has p.fresh block ≡ true → IsSpelled ledger block

@@ -4,7 +4,7 @@ use Rattle.ufs_base.specs.Images.{Image}
 use Rattle.ufs_layout.specs.declared.geometry.Geometry.{Geometry}
 use Rattle.ufs_image.specs.Fold.{folded}
 use Rattle.ufs_image.specs.Journal.{committed}
-use Rattle.ufs_image.specs.Volume.{Volume, volume, volume_of, head_of}
+use Rattle.ufs_image.specs.Volume.{Volume, volume, volume_of, superblock_of}
 use Rattle.ufs_image.proofs.Journals.{taken}
 use Rattle.ufs_overlay.specs.Seen.{HasAdded}
 use Rattle.ufs_catalog.specs.Folded.{IsFolded}
@@ -17,7 +17,7 @@ pub is_folded : (v : FoldedVolume) (disk : Image) → HasAdded v.overlay (commit
 is_folded v disk has = record { added = committed_in v disk; has = has; same = ap (λ (g : Geometry). folded g (committed_in v disk) disk) (sym v.same) }
 
 -- What is committed can be folded.
-pub can_fold : (sectors : ℕ) (v : FoldedVolume) (disk : Image) → volume sectors disk ≡ Ok (volume_in v disk) → AreFoldable v.head.geometry (committed_in v disk)
+pub can_fold : (sectors : ℕ) (v : FoldedVolume) (disk : Image) → volume sectors disk ≡ Ok (volume_in v disk) → AreFoldable v.superblock.geometry (committed_in v disk)
 can_fold sectors v disk is =
     let t = taken sectors disk (volume_in v disk) is in
-    subst (λ (w : Volume). AreFoldable w.geometry (committed w.geometry w.head.epoch disk)) (sym t.same) (committed_fold (volume_of (head_of disk) disk).geometry (head_of disk) disk t.journal)
+    subst (λ (w : Volume). AreFoldable w.geometry (committed w.geometry w.superblock.epoch disk)) (sym t.same) (committed_fold (volume_of (superblock_of disk) disk).geometry (superblock_of disk) disk t.journal)

@@ -10,14 +10,14 @@ use Rattle.ufs_volume.specs.declared.volume.FoldedVolume.{FoldedVolume}
 
 -- the transactions that are committed in its epoch
 abbrev pub committed_in : FoldedVolume → Image → List Committed
-committed_in v disk = committed v.head.geometry v.head.head.epoch disk
+committed_in v disk = committed v.superblock.geometry v.superblock.superblock.epoch disk
 
 -- the sectors, as these transactions leave them
 abbrev pub folded_image : FoldedVolume → Image → Image
-folded_image v disk = folded v.head.geometry (committed_in v disk) disk
+folded_image v disk = folded v.superblock.geometry (committed_in v disk) disk
 
 abbrev pub volume_in : FoldedVolume → Image → Volume
-volume_in v disk = record { head = v.head.head; geometry = v.head.geometry; image = folded_image v disk }
+volume_in v disk = record { superblock = v.superblock.superblock; geometry = v.superblock.geometry; image = folded_image v disk }
 
 -- the highest of their commit numbers; 0 where there are none
 abbrev pub highest_number : List Committed → ℕ

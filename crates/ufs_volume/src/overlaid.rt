@@ -14,7 +14,7 @@ ghost use Rattle.ufs_volume.specs.Journals.{AreFoldable, IsFoldable, IsJournalRe
 use crate::form::can_fold;
 use std::alloc::Global;
 use ufs_base::Memory;
-use ufs_catalog::{ImageHead, RecoverFault};
+use ufs_catalog::{ImageSuperblock, RecoverFault};
 use ufs_disk::Disk;
 use ufs_layout::{Committed, CommittedList, Geometry};
 use ufs_overlay::Overlay;
@@ -35,19 +35,19 @@ fn of_scan(fault: ScanFault) -> RecoverFault
 pub(crate) fn read_journal<D: Disk>(
     alloc: Global,
     disk: &mut D,
-    image: &ImageHead,
+    image: &ImageSuperblock,
 ) -> Result<CommittedList, RecoverFault>
     requires { sector_count image.now.geometry ≤ D.size disk.old }
-    ensures committed { IsTrue D.tells → IfOk result (λ list. list ≡ committed image.now.geometry image.now.head.epoch (reads (D.moments disk.old))) }
-    ensures whole { IsTrue D.tells → OnOk result (bad_sector image.now.geometry image.now.head (reads (D.moments disk.old)) ≡ None) }
-    ensures bad { IsTrue D.tells → IfErr result (IsJournalRefusal (bad_sector image.now.geometry image.now.head (reads (D.moments disk.old)))) }
+    ensures committed { IsTrue D.tells → IfOk result (λ list. list ≡ committed image.now.geometry image.now.superblock.epoch (reads (D.moments disk.old))) }
+    ensures whole { IsTrue D.tells → OnOk result (bad_sector image.now.geometry image.now.superblock (reads (D.moments disk.old)) ≡ None) }
+    ensures bad { IsTrue D.tells → IfErr result (IsJournalRefusal (bad_sector image.now.geometry image.now.superblock (reads (D.moments disk.old)))) }
     ensures blames_none { IfErr result BlamesNone }
     ensures read_only { IsTrue D.tells → IsReadOnly D.keeps (D.moments disk.old) (D.moments disk.new) }
     ensures size { D.size disk.new ≡ D.size disk.old }
     ensures passed { OnOk result (D.faults disk.new ≡ D.faults disk.old) }
     ensures cause { IfErr result (HasFaultCause (D.faults disk.old) (D.faults disk.new)) }
 {
-    match scan(alloc, disk, &image.geometry, &image.head) {
+    match scan(alloc, disk, &image.geometry, &image.superblock) {
         Ok(list) => Ok(list),
         Err(fault) => Err(of_scan(fault)),
     }

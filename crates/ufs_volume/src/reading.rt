@@ -13,7 +13,7 @@ ghost use Rattle.ufs_volume.specs.Volumes.{committed_in, highest_number, volume_
 use crate::overlaid::{overlay_of, read_journal};
 use crate::volume::FoldedVolume;
 use std::alloc::Global;
-use ufs_catalog::{ImageHead, RecoverFault, read_head};
+use ufs_catalog::{ImageSuperblock, RecoverFault, read_superblock};
 use ufs_disk::Disk;
 use ufs_layout::{Committed, CommittedList};
 
@@ -26,24 +26,24 @@ fn highest_number(list: &[Committed]) -> u64
 // The volume with these transactions.
 fn with_list(
     alloc: Global,
-    head: ImageHead,
+    superblock: ImageSuperblock,
     list: &CommittedList,
 ) -> Result<FoldedVolume, RecoverFault>
-    ensures head { IfOk result (λ v. v.head ≡ head) }
+    ensures superblock { IfOk result (λ v. v.superblock ≡ superblock) }
     ensures added { IsTrue (rise_above 0 list.now) → IfOk result (λ v. HasAdded v.overlay list.now) }
     ensures count { IfOk result (λ v. v.committed ≡ length list.now) }
     ensures highest { IfOk result (λ v. v.highest ≡ highest_number list.now) }
-    ensures outside { AreFoldable head.geometry list.now → IfErr result IsOutside }
+    ensures outside { AreFoldable superblock.geometry list.now → IfErr result IsOutside }
     ensures calm { IfErr result (λ f. (before : ℕ) → HasFaultCause before before f) }
     ensures blames_none { IfErr result BlamesNone }
 {
     let transactions = list.as_slice();
-    let overlay = overlay_of(alloc, &head.geometry, transactions)?;
+    let overlay = overlay_of(alloc, &superblock.geometry, transactions)?;
     let Ok(committed) = u32::try_from(transactions.len()) else {
         return Err(RecoverFault::Memory);
     };
     Ok(FoldedVolume {
-        head,
+        superblock,
         overlay,
         committed,
         highest: highest_number(transactions),
@@ -58,7 +58,7 @@ pub fn read_volume<D: Disk>(alloc: Global, disk: &mut D) -> Result<FoldedVolume,
     ensures added { IsTrue D.tells → IfOk result (λ v. HasAdded v.overlay (committed_in v (reads (D.moments disk.old)))) }
     ensures count { IsTrue D.tells → IfOk result (λ v. v.committed ≡ length (committed_in v (reads (D.moments disk.old)))) }
     ensures highest { IsTrue D.tells → IfOk result (λ v. v.highest ≡ highest_number (committed_in v (reads (D.moments disk.old)))) }
-    ensures large { IfOk result (λ v. sector_count v.head.geometry ≤ D.size disk.old) }
+    ensures large { IfOk result (λ v. sector_count v.superblock.geometry ≤ D.size disk.old) }
     ensures refused { IsTrue D.tells → IfErr result (IsWhyNot (volume (D.size disk.old) (reads (D.moments disk.old)))) }
     ensures blames_none { IfErr result BlamesNone }
     ensures read_only { IsTrue D.tells → IsReadOnly D.keeps (D.moments disk.old) (D.moments disk.new) }
@@ -66,9 +66,9 @@ pub fn read_volume<D: Disk>(alloc: Global, disk: &mut D) -> Result<FoldedVolume,
     ensures passed { OnOk result (D.faults disk.new ≡ D.faults disk.old) }
     ensures cause { IfErr result (HasFaultCause (D.faults disk.old) (D.faults disk.new)) }
 {
-    let head = read_head(disk)?;
-    let list = read_journal(alloc, disk, &head)?;
-    match with_list(alloc, head, &list) {
+    let superblock = read_superblock(disk)?;
+    let list = read_journal(alloc, disk, &superblock)?;
+    match with_list(alloc, superblock, &list) {
         Ok(volume) => Ok(volume),
         Err(fault) => Err(fault),
     }

@@ -25,7 +25,7 @@ returns-clause-list g c told =
     let disk = reads (g.D.Disk.moments c.args.disk.now) in
     let content : reads (g.D.Disk.moments c.read_volume.new.disk) ≡ disk = (c.read_volume.ensures.read_only told).content in
     let image = folded_image v disk in
-    IfOk-weaker c.check_volume.result (λ (l : List Damage). l ≡ damage v.head.head.clean v.head.geometry image) (λ (l : List Damage). damage_list sectors disk ≡ Ok l)
+    IfOk-weaker c.check_volume.result (λ (l : List Damage). l ≡ damage v.superblock.superblock.clean v.superblock.geometry image) (λ (l : List Damage). damage_list sectors disk ≡ Ok l)
     (λ l is. listed sectors disk (volume_in v disk) l (c.in_ok-volume.ensures.taken told) is)
     (c.check_volume.ensures.list told image (subst (λ (d : Image). IsFolded v.overlay d image) (sym content) (is_folded v disk (c.in_ok-volume.ensures.added told))))
 

@@ -15,9 +15,9 @@ use Rattle.ufs_engine.proofs.beginning.begin_clean.Goals as goal
 pub returns-in-Ok-clause-may : goal.returns-in-Ok-clause-may
 returns-in-Ok-clause-may g c =
     let b = c.in-Ok.ensures.begun in
-    let start = image_start (tree_under c.in-Ok.start.head b.0) in
+    let start = image_start (tree_under c.in-Ok.start.superblock b.0) in
     let begun : IsBegun (g.D.Disk.size c.start_of.new.disk) b.0 c.in-Ok.start = subst (λ (n : ℕ). IsBegun n b.0 c.in-Ok.start) (sym c.start_of.ensures.size) b.1 in
-    MatchResult-weaker c.mount.result (c.mount.ensures.may b.0 start begun (record { tree = tree_under c.in-Ok.start.head b.0; opened = begun.opened; start_is = refl })) (λ x may. (start, may)) (λ u none. none)
+    MatchResult-weaker c.mount.result (c.mount.ensures.may b.0 start begun (record { tree = tree_under c.in-Ok.start.superblock b.0; opened = begun.opened; start_is = refl })) (λ x may. (start, may)) (λ u none. none)
 
 pub returns-in-Ok-clause-size : goal.returns-in-Ok-clause-size
 returns-in-Ok-clause-size g c = MatchResult-weaker c.mount.result c.mount.ensures.size (λ x e. e ∙ c.start_of.ensures.size) (λ u none. none)

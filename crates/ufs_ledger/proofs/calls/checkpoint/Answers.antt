@@ -18,7 +18,7 @@ use Rattle.ufs_overlay.specs.Over.{IsHomeWritten}
 use Rattle.ufs_overlay.specs.Seen as overlaid
 use Rattle.ufs_ledger.proofs.Wholes.{images_of, sized_images}
 use Rattle.ufs_ledger.proofs.Emptying.{crash1, crash2, crash3, crash4, crash5, ledger1, ledger2, ledger3, ledger4, ledger5_tried, ledger5, ready5}
-use Rattle.ufs_ledger.proofs.Data.{data_quiet, data_more, data_home, data_headed, data_stays}
+use Rattle.ufs_ledger.proofs.Data.{data_quiet, data_more, data_home, data_superblock_put, data_stays}
 use Rattle.ufs_ledger.proofs.Homing.{bitmap_there}
 use Rattle.ufs_ledger.proofs.calls.checkpoint.Goals as goal
 
@@ -26,10 +26,10 @@ pub returns-in_err-barrier-clause-crash : goal.returns-in_err-barrier-clause-cra
 returns-in_err-barrier-clause-crash g c told l by log =
     let size = g.D.Disk.size c.args.disk.now in
     let j = c.args.journal.now in
-    let new = c.args.head.now in
+    let new = c.args.superblock.now in
     let m0 = g.D.Disk.moments c.args.disk.now in
     let m1 = g.D.Disk.moments c.barrier.new.self in
-    let kept : geometry_of new ≡ geometry_of l.head = c.requires.same ∙ sym by.geometry in
+    let kept : geometry_of new ≡ geometry_of l.superblock = c.requires.same ∙ sym by.geometry in
     let whole = images_of size m0.state (g.met.D.Disk.whole told c.args.disk.now) in
     let run1 = c.barrier.ensures.crash told in
     let same = c.barrier.ensures.content told in
@@ -39,17 +39,17 @@ pub returns-in_err-write_home-clause-crash : goal.returns-in_err-write_home-clau
 returns-in_err-write_home-clause-crash g c told l by log =
     let size = g.D.Disk.size c.args.disk.now in
     let j = c.args.journal.now in
-    let new = c.args.head.now in
+    let new = c.args.superblock.now in
     let m0 = g.D.Disk.moments c.args.disk.now in
     let m1 = g.D.Disk.moments c.barrier.new.self in
-    let kept : geometry_of new ≡ geometry_of l.head = c.requires.same ∙ sym by.geometry in
+    let kept : geometry_of new ≡ geometry_of l.superblock = c.requires.same ∙ sym by.geometry in
     let whole = images_of size m0.state (g.met.D.Disk.whole told c.args.disk.now) in
     let run1 = c.barrier.ensures.crash told in
     let same = c.barrier.ensures.content told in
     let still1 = c.in_ok-barrier.ensures.ok told in
     let whole1 = sized_images size (g.D.Disk.size c.barrier.new.self) c.barrier.ensures.size m1.state (g.met.D.Disk.whole told c.barrier.new.self) in
     let m2 = g.D.Disk.moments c.write_home.new.disk in
-    let over : overlaid.geometry_of c.args.overlay.now ≡ geometry_of l.head = c.requires.over ∙ sym by.geometry in
+    let over : overlaid.geometry_of c.args.overlay.now ≡ geometry_of l.superblock = c.requires.over ∙ sym by.geometry in
     let run2 = subst (λ (x : Geometry). LeavesOnly g.D.Disk.keeps (IsHomeWritten x l.now.log m1.state) m1 m2) over (c.write_home.ensures.crash told l.now.log log (λ image left sector touched i. still1 image left i sector)) in
     crash2 size g.D.Disk.keeps j l new c.super_sector-sector.result m0 m1 by whole c.super_sector-sector.ensures kept c.requires.later c.requires.in_use run1 same still1 whole1 m2 run2
 
@@ -57,17 +57,17 @@ pub returns-in_err-barrier-2-clause-crash : goal.returns-in_err-barrier-2-clause
 returns-in_err-barrier-2-clause-crash g c told l by log =
     let size = g.D.Disk.size c.args.disk.now in
     let j = c.args.journal.now in
-    let new = c.args.head.now in
+    let new = c.args.superblock.now in
     let m0 = g.D.Disk.moments c.args.disk.now in
     let m1 = g.D.Disk.moments c.barrier.new.self in
-    let kept : geometry_of new ≡ geometry_of l.head = c.requires.same ∙ sym by.geometry in
+    let kept : geometry_of new ≡ geometry_of l.superblock = c.requires.same ∙ sym by.geometry in
     let whole = images_of size m0.state (g.met.D.Disk.whole told c.args.disk.now) in
     let run1 = c.barrier.ensures.crash told in
     let same = c.barrier.ensures.content told in
     let still1 = c.in_ok-barrier.ensures.ok told in
     let whole1 = sized_images size (g.D.Disk.size c.barrier.new.self) c.barrier.ensures.size m1.state (g.met.D.Disk.whole told c.barrier.new.self) in
     let m2 = g.D.Disk.moments c.write_home.new.disk in
-    let over : overlaid.geometry_of c.args.overlay.now ≡ geometry_of l.head = c.requires.over ∙ sym by.geometry in
+    let over : overlaid.geometry_of c.args.overlay.now ≡ geometry_of l.superblock = c.requires.over ∙ sym by.geometry in
     let run2 = subst (λ (x : Geometry). LeavesOnly g.D.Disk.keeps (IsHomeWritten x l.now.log m1.state) m1 m2) over (c.write_home.ensures.crash told l.now.log log (λ image left sector touched i. still1 image left i sector)) in
     let done = subst (λ (x : Geometry). reads m2 ≡ folded x l.now.log (reads m1)) over (λ i k. c.in_ok-write_home.ensures.ok told l.now.log log k i) in
     let m3 = g.D.Disk.moments c.barrier-2.new.self in
@@ -79,17 +79,17 @@ pub returns-in_err-write-clause-crash : goal.returns-in_err-write-clause-crash
 returns-in_err-write-clause-crash g c told l by log =
     let size = g.D.Disk.size c.args.disk.now in
     let j = c.args.journal.now in
-    let new = c.args.head.now in
+    let new = c.args.superblock.now in
     let m0 = g.D.Disk.moments c.args.disk.now in
     let m1 = g.D.Disk.moments c.barrier.new.self in
-    let kept : geometry_of new ≡ geometry_of l.head = c.requires.same ∙ sym by.geometry in
+    let kept : geometry_of new ≡ geometry_of l.superblock = c.requires.same ∙ sym by.geometry in
     let whole = images_of size m0.state (g.met.D.Disk.whole told c.args.disk.now) in
     let run1 = c.barrier.ensures.crash told in
     let same = c.barrier.ensures.content told in
     let still1 = c.in_ok-barrier.ensures.ok told in
     let whole1 = sized_images size (g.D.Disk.size c.barrier.new.self) c.barrier.ensures.size m1.state (g.met.D.Disk.whole told c.barrier.new.self) in
     let m2 = g.D.Disk.moments c.write_home.new.disk in
-    let over : overlaid.geometry_of c.args.overlay.now ≡ geometry_of l.head = c.requires.over ∙ sym by.geometry in
+    let over : overlaid.geometry_of c.args.overlay.now ≡ geometry_of l.superblock = c.requires.over ∙ sym by.geometry in
     let run2 = subst (λ (x : Geometry). LeavesOnly g.D.Disk.keeps (IsHomeWritten x l.now.log m1.state) m1 m2) over (c.write_home.ensures.crash told l.now.log log (λ image left sector touched i. still1 image left i sector)) in
     let done = subst (λ (x : Geometry). reads m2 ≡ folded x l.now.log (reads m1)) over (λ i k. c.in_ok-write_home.ensures.ok told l.now.log log k i) in
     let m3 = g.D.Disk.moments c.barrier-2.new.self in
@@ -106,17 +106,17 @@ pub returns-in_err-barrier-3-clause-crash : goal.returns-in_err-barrier-3-clause
 returns-in_err-barrier-3-clause-crash g c told l by log =
     let size = g.D.Disk.size c.args.disk.now in
     let j = c.args.journal.now in
-    let new = c.args.head.now in
+    let new = c.args.superblock.now in
     let m0 = g.D.Disk.moments c.args.disk.now in
     let m1 = g.D.Disk.moments c.barrier.new.self in
-    let kept : geometry_of new ≡ geometry_of l.head = c.requires.same ∙ sym by.geometry in
+    let kept : geometry_of new ≡ geometry_of l.superblock = c.requires.same ∙ sym by.geometry in
     let whole = images_of size m0.state (g.met.D.Disk.whole told c.args.disk.now) in
     let run1 = c.barrier.ensures.crash told in
     let same = c.barrier.ensures.content told in
     let still1 = c.in_ok-barrier.ensures.ok told in
     let whole1 = sized_images size (g.D.Disk.size c.barrier.new.self) c.barrier.ensures.size m1.state (g.met.D.Disk.whole told c.barrier.new.self) in
     let m2 = g.D.Disk.moments c.write_home.new.disk in
-    let over : overlaid.geometry_of c.args.overlay.now ≡ geometry_of l.head = c.requires.over ∙ sym by.geometry in
+    let over : overlaid.geometry_of c.args.overlay.now ≡ geometry_of l.superblock = c.requires.over ∙ sym by.geometry in
     let run2 = subst (λ (x : Geometry). LeavesOnly g.D.Disk.keeps (IsHomeWritten x l.now.log m1.state) m1 m2) over (c.write_home.ensures.crash told l.now.log log (λ image left sector touched i. still1 image left i sector)) in
     let done = subst (λ (x : Geometry). reads m2 ≡ folded x l.now.log (reads m1)) over (λ i k. c.in_ok-write_home.ensures.ok told l.now.log log k i) in
     let m3 = g.D.Disk.moments c.barrier-2.new.self in
@@ -137,10 +137,10 @@ pub returns-in_err-barrier-clause-err : goal.returns-in_err-barrier-clause-err
 returns-in_err-barrier-clause-err g c told = on_err c.from_residual.result _ (λ l by log.
     let size = g.D.Disk.size c.args.disk.now in
     let j = c.args.journal.now in
-    let new = c.args.head.now in
+    let new = c.args.superblock.now in
     let m0 = g.D.Disk.moments c.args.disk.now in
     let m1 = g.D.Disk.moments c.barrier.new.self in
-    let kept : geometry_of new ≡ geometry_of l.head = c.requires.same ∙ sym by.geometry in
+    let kept : geometry_of new ≡ geometry_of l.superblock = c.requires.same ∙ sym by.geometry in
     let whole = images_of size m0.state (g.met.D.Disk.whole told c.args.disk.now) in
     let run1 = c.barrier.ensures.crash told in
     let same = c.barrier.ensures.content told in
@@ -150,17 +150,17 @@ pub returns-in_err-write_home-clause-err : goal.returns-in_err-write_home-clause
 returns-in_err-write_home-clause-err g c told = on_err c.from_residual-in_err-write_home.result _ (λ l by log.
     let size = g.D.Disk.size c.args.disk.now in
     let j = c.args.journal.now in
-    let new = c.args.head.now in
+    let new = c.args.superblock.now in
     let m0 = g.D.Disk.moments c.args.disk.now in
     let m1 = g.D.Disk.moments c.barrier.new.self in
-    let kept : geometry_of new ≡ geometry_of l.head = c.requires.same ∙ sym by.geometry in
+    let kept : geometry_of new ≡ geometry_of l.superblock = c.requires.same ∙ sym by.geometry in
     let whole = images_of size m0.state (g.met.D.Disk.whole told c.args.disk.now) in
     let run1 = c.barrier.ensures.crash told in
     let same = c.barrier.ensures.content told in
     let still1 = c.in_ok-barrier.ensures.ok told in
     let whole1 = sized_images size (g.D.Disk.size c.barrier.new.self) c.barrier.ensures.size m1.state (g.met.D.Disk.whole told c.barrier.new.self) in
     let m2 = g.D.Disk.moments c.write_home.new.disk in
-    let over : overlaid.geometry_of c.args.overlay.now ≡ geometry_of l.head = c.requires.over ∙ sym by.geometry in
+    let over : overlaid.geometry_of c.args.overlay.now ≡ geometry_of l.superblock = c.requires.over ∙ sym by.geometry in
     let run2 = subst (λ (x : Geometry). LeavesOnly g.D.Disk.keeps (IsHomeWritten x l.now.log m1.state) m1 m2) over (c.write_home.ensures.crash told l.now.log log (λ image left sector touched i. still1 image left i sector)) in
     inl (subst (λ n. IsLedgerOf n m2.state l) (sym (c.write_home.ensures.size ∙ c.barrier.ensures.size)) (ledger2 size g.D.Disk.keeps j l new c.super_sector-sector.result m0 m1 by whole c.super_sector-sector.ensures kept c.requires.later c.requires.in_use run1 same still1 whole1 m2 run2)))
 
@@ -168,17 +168,17 @@ pub returns-in_err-barrier-2-clause-err : goal.returns-in_err-barrier-2-clause-e
 returns-in_err-barrier-2-clause-err g c told = on_err c.from_residual-in_err-barrier-2.result _ (λ l by log.
     let size = g.D.Disk.size c.args.disk.now in
     let j = c.args.journal.now in
-    let new = c.args.head.now in
+    let new = c.args.superblock.now in
     let m0 = g.D.Disk.moments c.args.disk.now in
     let m1 = g.D.Disk.moments c.barrier.new.self in
-    let kept : geometry_of new ≡ geometry_of l.head = c.requires.same ∙ sym by.geometry in
+    let kept : geometry_of new ≡ geometry_of l.superblock = c.requires.same ∙ sym by.geometry in
     let whole = images_of size m0.state (g.met.D.Disk.whole told c.args.disk.now) in
     let run1 = c.barrier.ensures.crash told in
     let same = c.barrier.ensures.content told in
     let still1 = c.in_ok-barrier.ensures.ok told in
     let whole1 = sized_images size (g.D.Disk.size c.barrier.new.self) c.barrier.ensures.size m1.state (g.met.D.Disk.whole told c.barrier.new.self) in
     let m2 = g.D.Disk.moments c.write_home.new.disk in
-    let over : overlaid.geometry_of c.args.overlay.now ≡ geometry_of l.head = c.requires.over ∙ sym by.geometry in
+    let over : overlaid.geometry_of c.args.overlay.now ≡ geometry_of l.superblock = c.requires.over ∙ sym by.geometry in
     let run2 = subst (λ (x : Geometry). LeavesOnly g.D.Disk.keeps (IsHomeWritten x l.now.log m1.state) m1 m2) over (c.write_home.ensures.crash told l.now.log log (λ image left sector touched i. still1 image left i sector)) in
     let done = subst (λ (x : Geometry). reads m2 ≡ folded x l.now.log (reads m1)) over (λ i k. c.in_ok-write_home.ensures.ok told l.now.log log k i) in
     let m3 = g.D.Disk.moments c.barrier-2.new.self in
@@ -190,17 +190,17 @@ pub returns-in_err-write-clause-err : goal.returns-in_err-write-clause-err
 returns-in_err-write-clause-err g c told = on_err c.from_residual-in_err-write.result _ (λ l by log.
     let size = g.D.Disk.size c.args.disk.now in
     let j = c.args.journal.now in
-    let new = c.args.head.now in
+    let new = c.args.superblock.now in
     let m0 = g.D.Disk.moments c.args.disk.now in
     let m1 = g.D.Disk.moments c.barrier.new.self in
-    let kept : geometry_of new ≡ geometry_of l.head = c.requires.same ∙ sym by.geometry in
+    let kept : geometry_of new ≡ geometry_of l.superblock = c.requires.same ∙ sym by.geometry in
     let whole = images_of size m0.state (g.met.D.Disk.whole told c.args.disk.now) in
     let run1 = c.barrier.ensures.crash told in
     let same = c.barrier.ensures.content told in
     let still1 = c.in_ok-barrier.ensures.ok told in
     let whole1 = sized_images size (g.D.Disk.size c.barrier.new.self) c.barrier.ensures.size m1.state (g.met.D.Disk.whole told c.barrier.new.self) in
     let m2 = g.D.Disk.moments c.write_home.new.disk in
-    let over : overlaid.geometry_of c.args.overlay.now ≡ geometry_of l.head = c.requires.over ∙ sym by.geometry in
+    let over : overlaid.geometry_of c.args.overlay.now ≡ geometry_of l.superblock = c.requires.over ∙ sym by.geometry in
     let run2 = subst (λ (x : Geometry). LeavesOnly g.D.Disk.keeps (IsHomeWritten x l.now.log m1.state) m1 m2) over (c.write_home.ensures.crash told l.now.log log (λ image left sector touched i. still1 image left i sector)) in
     let done = subst (λ (x : Geometry). reads m2 ≡ folded x l.now.log (reads m1)) over (λ i k. c.in_ok-write_home.ensures.ok told l.now.log log k i) in
     let m3 = g.D.Disk.moments c.barrier-2.new.self in
@@ -217,17 +217,17 @@ pub returns-in_err-barrier-3-clause-err : goal.returns-in_err-barrier-3-clause-e
 returns-in_err-barrier-3-clause-err g c told = on_err c.from_residual-in_err-barrier-3.result _ (λ l by log.
     let size = g.D.Disk.size c.args.disk.now in
     let j = c.args.journal.now in
-    let new = c.args.head.now in
+    let new = c.args.superblock.now in
     let m0 = g.D.Disk.moments c.args.disk.now in
     let m1 = g.D.Disk.moments c.barrier.new.self in
-    let kept : geometry_of new ≡ geometry_of l.head = c.requires.same ∙ sym by.geometry in
+    let kept : geometry_of new ≡ geometry_of l.superblock = c.requires.same ∙ sym by.geometry in
     let whole = images_of size m0.state (g.met.D.Disk.whole told c.args.disk.now) in
     let run1 = c.barrier.ensures.crash told in
     let same = c.barrier.ensures.content told in
     let still1 = c.in_ok-barrier.ensures.ok told in
     let whole1 = sized_images size (g.D.Disk.size c.barrier.new.self) c.barrier.ensures.size m1.state (g.met.D.Disk.whole told c.barrier.new.self) in
     let m2 = g.D.Disk.moments c.write_home.new.disk in
-    let over : overlaid.geometry_of c.args.overlay.now ≡ geometry_of l.head = c.requires.over ∙ sym by.geometry in
+    let over : overlaid.geometry_of c.args.overlay.now ≡ geometry_of l.superblock = c.requires.over ∙ sym by.geometry in
     let run2 = subst (λ (x : Geometry). LeavesOnly g.D.Disk.keeps (IsHomeWritten x l.now.log m1.state) m1 m2) over (c.write_home.ensures.crash told l.now.log log (λ image left sector touched i. still1 image left i sector)) in
     let done = subst (λ (x : Geometry). reads m2 ≡ folded x l.now.log (reads m1)) over (λ i k. c.in_ok-write_home.ensures.ok told l.now.log log k i) in
     let m3 = g.D.Disk.moments c.barrier-2.new.self in
@@ -248,17 +248,17 @@ pub returns-clause-crash : goal.returns-clause-crash
 returns-clause-crash g c told l by log =
     let size = g.D.Disk.size c.args.disk.now in
     let j = c.args.journal.now in
-    let new = c.args.head.now in
+    let new = c.args.superblock.now in
     let m0 = g.D.Disk.moments c.args.disk.now in
     let m1 = g.D.Disk.moments c.barrier.new.self in
-    let kept : geometry_of new ≡ geometry_of l.head = c.requires.same ∙ sym by.geometry in
+    let kept : geometry_of new ≡ geometry_of l.superblock = c.requires.same ∙ sym by.geometry in
     let whole = images_of size m0.state (g.met.D.Disk.whole told c.args.disk.now) in
     let run1 = c.barrier.ensures.crash told in
     let same = c.barrier.ensures.content told in
     let still1 = c.in_ok-barrier.ensures.ok told in
     let whole1 = sized_images size (g.D.Disk.size c.barrier.new.self) c.barrier.ensures.size m1.state (g.met.D.Disk.whole told c.barrier.new.self) in
     let m2 = g.D.Disk.moments c.write_home.new.disk in
-    let over : overlaid.geometry_of c.args.overlay.now ≡ geometry_of l.head = c.requires.over ∙ sym by.geometry in
+    let over : overlaid.geometry_of c.args.overlay.now ≡ geometry_of l.superblock = c.requires.over ∙ sym by.geometry in
     let run2 = subst (λ (x : Geometry). LeavesOnly g.D.Disk.keeps (IsHomeWritten x l.now.log m1.state) m1 m2) over (c.write_home.ensures.crash told l.now.log log (λ image left sector touched i. still1 image left i sector)) in
     let done = subst (λ (x : Geometry). reads m2 ≡ folded x l.now.log (reads m1)) over (λ i k. c.in_ok-write_home.ensures.ok told l.now.log log k i) in
     let m3 = g.D.Disk.moments c.barrier-2.new.self in
@@ -279,17 +279,17 @@ pub returns-clause-ok : goal.returns-clause-ok
 returns-clause-ok g c told l by log =
     let size = g.D.Disk.size c.args.disk.now in
     let j = c.args.journal.now in
-    let new = c.args.head.now in
+    let new = c.args.superblock.now in
     let m0 = g.D.Disk.moments c.args.disk.now in
     let m1 = g.D.Disk.moments c.barrier.new.self in
-    let kept : geometry_of new ≡ geometry_of l.head = c.requires.same ∙ sym by.geometry in
+    let kept : geometry_of new ≡ geometry_of l.superblock = c.requires.same ∙ sym by.geometry in
     let whole = images_of size m0.state (g.met.D.Disk.whole told c.args.disk.now) in
     let run1 = c.barrier.ensures.crash told in
     let same = c.barrier.ensures.content told in
     let still1 = c.in_ok-barrier.ensures.ok told in
     let whole1 = sized_images size (g.D.Disk.size c.barrier.new.self) c.barrier.ensures.size m1.state (g.met.D.Disk.whole told c.barrier.new.self) in
     let m2 = g.D.Disk.moments c.write_home.new.disk in
-    let over : overlaid.geometry_of c.args.overlay.now ≡ geometry_of l.head = c.requires.over ∙ sym by.geometry in
+    let over : overlaid.geometry_of c.args.overlay.now ≡ geometry_of l.superblock = c.requires.over ∙ sym by.geometry in
     let run2 = subst (λ (x : Geometry). LeavesOnly g.D.Disk.keeps (IsHomeWritten x l.now.log m1.state) m1 m2) over (c.write_home.ensures.crash told l.now.log log (λ image left sector touched i. still1 image left i sector)) in
     let done = subst (λ (x : Geometry). reads m2 ≡ folded x l.now.log (reads m1)) over (λ i k. c.in_ok-write_home.ensures.ok told l.now.log log k i) in
     let m3 = g.D.Disk.moments c.barrier-2.new.self in
@@ -375,7 +375,7 @@ returns-in_err-write-clause-data g c told l by has =
     let so3 = data_more j.geometry log keeps m0 m2 m3 (IsImage m2.state) so2 (c.barrier-2.ensures.crash told) (data_stays j.geometry log m2.state) in
     let m4 = g.D.Disk.moments c.write.new.self in
     let long : length c.super_sector-sector.result ≡ 512 = search rules in
-    let so4 = data_more j.geometry log keeps m0 m3 m4 (IsPartlyWritten 0 c.super_sector-sector.result m3.state) so3 (c.write.ensures.crash told) (λ image part. data_headed j.geometry log c.super_sector-sector.result m3.state image long part) in
+    let so4 = data_more j.geometry log keeps m0 m3 m4 (IsPartlyWritten 0 c.super_sector-sector.result m3.state) so3 (c.write.ensures.crash told) (λ image part. data_superblock_put j.geometry log c.super_sector-sector.result m3.state image long part) in
     so4
 
 pub returns-in_err-barrier-3-clause-data : goal.returns-in_err-barrier-3-clause-data
@@ -394,7 +394,7 @@ returns-in_err-barrier-3-clause-data g c told l by has =
     let so3 = data_more j.geometry log keeps m0 m2 m3 (IsImage m2.state) so2 (c.barrier-2.ensures.crash told) (data_stays j.geometry log m2.state) in
     let m4 = g.D.Disk.moments c.write.new.self in
     let long : length c.super_sector-sector.result ≡ 512 = search rules in
-    let so4 = data_more j.geometry log keeps m0 m3 m4 (IsPartlyWritten 0 c.super_sector-sector.result m3.state) so3 (c.write.ensures.crash told) (λ image part. data_headed j.geometry log c.super_sector-sector.result m3.state image long part) in
+    let so4 = data_more j.geometry log keeps m0 m3 m4 (IsPartlyWritten 0 c.super_sector-sector.result m3.state) so3 (c.write.ensures.crash told) (λ image part. data_superblock_put j.geometry log c.super_sector-sector.result m3.state image long part) in
     let m5 = g.D.Disk.moments c.barrier-3.new.self in
     let so5 = data_more j.geometry log keeps m0 m4 m5 (IsImage m4.state) so4 (c.barrier-3.ensures.crash told) (data_stays j.geometry log m4.state) in
     so5
@@ -415,7 +415,7 @@ returns-clause-data g c told l by has =
     let so3 = data_more j.geometry log keeps m0 m2 m3 (IsImage m2.state) so2 (c.barrier-2.ensures.crash told) (data_stays j.geometry log m2.state) in
     let m4 = g.D.Disk.moments c.write.new.self in
     let long : length c.super_sector-sector.result ≡ 512 = search rules in
-    let so4 = data_more j.geometry log keeps m0 m3 m4 (IsPartlyWritten 0 c.super_sector-sector.result m3.state) so3 (c.write.ensures.crash told) (λ image part. data_headed j.geometry log c.super_sector-sector.result m3.state image long part) in
+    let so4 = data_more j.geometry log keeps m0 m3 m4 (IsPartlyWritten 0 c.super_sector-sector.result m3.state) so3 (c.write.ensures.crash told) (λ image part. data_superblock_put j.geometry log c.super_sector-sector.result m3.state image long part) in
     let m5 = g.D.Disk.moments c.barrier-3.new.self in
     let so5 = data_more j.geometry log keeps m0 m4 m5 (IsImage m4.state) so4 (c.barrier-3.ensures.crash told) (data_stays j.geometry log m4.state) in
     so5

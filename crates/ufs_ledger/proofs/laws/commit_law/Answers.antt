@@ -11,8 +11,8 @@ returns c = record {
   append = λ state l image none used is appended. appends c.args.sectors state l image none used is appended;
   maybe = λ sectors state l t image same none used is later may maybe.
       commits_or_not sectors state l t image (subst FoldsCatalogs (sym same) c.fold_law.ensures.folds) (subst FoldsOneMore (sym same) c.fold_law.ensures.one_more) none used is later (subst (λ g. MayCommit g t l.now) (sym same) may)
-      (subst (λ g. IsMaybeCommitted g l.head.epoch t state image) (sym same) maybe);
+      (subst (λ g. IsMaybeCommitted g l.superblock.epoch t state image) (sym same) maybe);
   good = λ sectors old new l t whole same none used is later may settled one.
       commits_for_good sectors old new l t (subst FoldsCatalogs (sym same) c.fold_law.ensures.folds) (subst FoldsOneMore (sym same) c.fold_law.ensures.one_more) none used is later (subst (λ g. MayCommit g t l.now) (sym same) may) settled
-      (subst (λ g. CommitsOne g l.head.epoch t (seen old) (seen new)) (sym same) one);
+      (subst (λ g. CommitsOne g l.superblock.epoch t (seen old) (seen new)) (sym same) one);
 }

@@ -23,7 +23,7 @@ returns c = record {
       (ledger_goes_on l t start history now next c.a_request_keeps_the_tree.ensures none is legal.entries kept (subst (λ g. GoesOnBy g l t start history now next) (sym same) on)).0;
   committed = λ l t start history now next same none is legal kept on.
       (ledger_goes_on l t start history now next c.a_request_keeps_the_tree.ensures none is legal.entries kept (subst (λ g. GoesOnBy g l t start history now next) (sym same) on)).1;
-  beginning = λ l head home start history now maybe same next kept. beginning_kept l head home start history now maybe (next ∙ sym same) kept;
-  emptied = λ l head home start history now maybe same next kept. emptied_is_kept l head home start history now maybe (next ∙ sym same) kept;
+  beginning = λ l superblock home start history now maybe same next kept. beginning_kept l superblock home start history now maybe (next ∙ sym same) kept;
+  emptied = λ l superblock home start history now maybe same next kept. emptied_is_kept l superblock home start history now maybe (next ∙ sym same) kept;
   now = λ blocks shape opening changes size now. shows_now blocks shape opening changes size now;
 }

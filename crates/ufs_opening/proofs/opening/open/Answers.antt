@@ -22,7 +22,7 @@ returns-in-Err-clause-refused g c told =
     let disk = reads (g.D.Disk.moments c.args.disk.now) in
     let content : reads (g.D.Disk.moments c.read_volume.new.disk) ≡ disk = (c.read_volume.ensures.read_only told).content in
     let shown = is_folded v disk (c.in_ok-volume.ensures.added told) in
-    let found : AreFindingsOf v.head.geometry (folded_image v disk) c.in_ok-findings.findings = c.in_ok-findings.ensures.found told (folded_image v disk) (subst (λ (d : Image). IsFolded v.overlay d (folded_image v disk)) (sym content) shown) in
+    let found : AreFindingsOf v.superblock.geometry (folded_image v disk) c.in_ok-findings.findings = c.in_ok-findings.ensures.found told (folded_image v disk) (subst (λ (d : Image). IsFolded v.overlay d (folded_image v disk)) (sym content) shown) in
     why_damage (g.D.Disk.size c.args.disk.now) disk (volume_in v disk) (c.in_ok-volume.ensures.taken told) c.in-Err.fault (c.in-Err.ensures.refused (folded_image v disk) found)
 
 pub returns-in-Err-clause-cause : goal.returns-in-Err-clause-cause

@@ -2,7 +2,7 @@ use Rattle.std.proofs.Common.{ap, sym, ◌∙◌}
 use Rattle.std.proofs.lemmas.Result.{on_ok_weaker}
 use Rattle.ufs_base.specs.Images.{Image}
 use Rattle.ufs_disk.proofs.Runs.{weaker}
-use Rattle.ufs_recovery.proofs.Headed.{kept_quietly}
+use Rattle.ufs_recovery.proofs.SuperblockPut.{kept_quietly}
 use Rattle.ufs_recovery.proofs.Homing.{folds_to, home_tree}
 use Rattle.ufs_recovery.proofs.bringing.bring_home.Goals as goal
 

@@ -6,7 +6,7 @@ use Rattle.ufs_volume.specs.Volumes.{volume_in, folded_image}
 use Rattle.ufs_recovery.specs.Finished.{HasFinished, MayFinish}
 use Rattle.ufs_recovery.specs.Home.{HasBegun, KeepsTree}
 use Rattle.ufs_recovery.proofs.Finished.{is_written, may_finish, may_follow, over}
-use Rattle.ufs_recovery.proofs.Headed.{kept_on, still_opens}
+use Rattle.ufs_recovery.proofs.SuperblockPut.{kept_on, still_opens}
 use Rattle.ufs_recovery.proofs.finishing.write_back.Goals as goal
 
 pub returns-in_default-clause-tree : goal.returns-in_default-clause-tree
@@ -23,13 +23,13 @@ returns-in-Ok-begin-clause-written g c told =
     let plan = c.in-Ok.plan in
     on_ok_weaker c.finish.result (λ fin settled may.
     let is = over size image v f may v.same in
-    let follow = may_follow size image v f may plan.head c.in-Ok.ensures.geometry c.in-Ok.ensures.epoch c.in-Ok.ensures.in_use in
-    let begun : HasBegun size (volume_in v image) plan.head mid = c.in-Ok-begin.ensures.begun told (volume_in v image) settled is follow in
-    let can = may_finish size image v f may plan.head c.in-Ok.ensures.geometry c.in-Ok.ensures.epoch c.in-Ok.ensures.in_use mid begun plan.orphans.numbers.items plan.orphans.dirs.items
+    let follow = may_follow size image v f may plan.superblock c.in-Ok.ensures.geometry c.in-Ok.ensures.epoch c.in-Ok.ensures.in_use in
+    let begun : HasBegun size (volume_in v image) plan.superblock mid = c.in-Ok-begin.ensures.begun told (volume_in v image) settled is follow in
+    let can = may_finish size image v f may plan.superblock c.in-Ok.ensures.geometry c.in-Ok.ensures.epoch c.in-Ok.ensures.in_use mid begun plan.orphans.numbers.items plan.orphans.dirs.items
     (c.in-Ok.ensures.orphans (folded_image v image) may.found may.whole) (c.in-Ok.ensures.dirs (folded_image v image) may.found may.whole) (c.in-Ok.ensures.inodes (folded_image v image) may.found) in
-    let finished : HasFinished size plan.head after = subst (λ n. HasFinished n plan.head after) c.begin.ensures.size
-    (fin (c.in-Ok-begin.ensures.settled told) (subst (λ n. MayFinish n plan.head mid v.head.geometry f plan.orphans.numbers.items plan.orphans.dirs.items) (sym c.begin.ensures.size) can)) in
-    is_written size image v f may plan.head c.in-Ok.ensures.geometry c.in-Ok.ensures.epoch c.in-Ok.ensures.in_use after v.highest finished c.in-Ok.ensures.version c.in-Ok.ensures.known c.in-Ok.ensures.above v.head.same)
+    let finished : HasFinished size plan.superblock after = subst (λ n. HasFinished n plan.superblock after) c.begin.ensures.size
+    (fin (c.in-Ok-begin.ensures.settled told) (subst (λ n. MayFinish n plan.superblock mid v.superblock.geometry f plan.orphans.numbers.items plan.orphans.dirs.items) (sym c.begin.ensures.size) can)) in
+    is_written size image v f may plan.superblock c.in-Ok.ensures.geometry c.in-Ok.ensures.epoch c.in-Ok.ensures.in_use after v.highest finished c.in-Ok.ensures.version c.in-Ok.ensures.known c.in-Ok.ensures.above v.superblock.same)
     (c.finish.ensures.finished told)
 
 pub returns-in-Ok-begin-clause-tree : goal.returns-in-Ok-begin-clause-tree
@@ -41,13 +41,13 @@ returns-in-Ok-begin-clause-tree g c told settled may =
     let f = c.args.findings.now in
     let plan = c.in-Ok.plan in
     let is = over size image v f may v.same in
-    let follow = may_follow size image v f may plan.head c.in-Ok.ensures.geometry c.in-Ok.ensures.epoch c.in-Ok.ensures.in_use in
-    let begun : HasBegun size (volume_in v image) plan.head mid = c.in-Ok-begin.ensures.begun told (volume_in v image) settled is follow in
-    let can = may_finish size image v f may plan.head c.in-Ok.ensures.geometry c.in-Ok.ensures.epoch c.in-Ok.ensures.in_use mid begun plan.orphans.numbers.items plan.orphans.dirs.items
+    let follow = may_follow size image v f may plan.superblock c.in-Ok.ensures.geometry c.in-Ok.ensures.epoch c.in-Ok.ensures.in_use in
+    let begun : HasBegun size (volume_in v image) plan.superblock mid = c.in-Ok-begin.ensures.begun told (volume_in v image) settled is follow in
+    let can = may_finish size image v f may plan.superblock c.in-Ok.ensures.geometry c.in-Ok.ensures.epoch c.in-Ok.ensures.in_use mid begun plan.orphans.numbers.items plan.orphans.dirs.items
     (c.in-Ok.ensures.orphans (folded_image v image) may.found may.whole) (c.in-Ok.ensures.dirs (folded_image v image) may.found may.whole) (c.in-Ok.ensures.inodes (folded_image v image) may.found) in
     kept_on _ size _ _ _ (c.begin.ensures.tree told (volume_in v image) settled is follow)
     (subst (λ n. KeepsTree g.D.Disk.keeps n (g.D.Disk.moments c.begin.new.disk) (g.D.Disk.moments c.finish.new.disk)) c.begin.ensures.size
-    (c.finish.ensures.tree told (c.in-Ok-begin.ensures.settled told) (subst (λ n. MayFinish n plan.head mid v.head.geometry f plan.orphans.numbers.items plan.orphans.dirs.items) (sym c.begin.ensures.size) can)))
+    (c.finish.ensures.tree told (c.in-Ok-begin.ensures.settled told) (subst (λ n. MayFinish n plan.superblock mid v.superblock.geometry f plan.orphans.numbers.items plan.orphans.dirs.items) (sym c.begin.ensures.size) can)))
 
 pub returns-clause-tree : goal.returns-clause-tree
 returns-clause-tree g c told settled may =
@@ -55,4 +55,4 @@ returns-clause-tree g c told settled may =
     let image = reads (g.D.Disk.moments c.args.disk.now) in
     let v = c.args.volume.now in
     let f = c.args.findings.now in
-    c.begin.ensures.tree told (volume_in v image) settled (over size image v f may v.same) (may_follow size image v f may c.in-Ok.plan.head c.in-Ok.ensures.geometry c.in-Ok.ensures.epoch c.in-Ok.ensures.in_use)
+    c.begin.ensures.tree told (volume_in v image) settled (over size image v f may v.same) (may_follow size image v f may c.in-Ok.plan.superblock c.in-Ok.ensures.geometry c.in-Ok.ensures.epoch c.in-Ok.ensures.in_use)

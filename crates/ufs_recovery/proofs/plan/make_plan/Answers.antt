@@ -24,4 +24,4 @@ returns-in-Some-clause-inodes c folded found k ranged =
     let g = c.args.image.now.geometry in
     let above = c.in-Some.ensures.above in
     let most = c.max-highest.ensures in
-    number_below g folded c.forms-2.result.now (c.forms-2.ensures ∙ found.forms) c.highest_number.result c.in-Some.head.next c.highest_number.ensures (omega (arith, above, most)) k ranged
+    number_below g folded c.forms-2.result.now (c.forms-2.ensures ∙ found.forms) c.highest_number.result c.in-Some.superblock.next c.highest_number.ensures (omega (arith, above, most)) k ranged

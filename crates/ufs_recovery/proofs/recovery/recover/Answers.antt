@@ -3,13 +3,13 @@ use Rattle.std.proofs.lemmas.Result.{err_from_is_err_and}
 use Rattle.ufs_base.specs.Images.{Image}
 use Rattle.ufs_disk.specs.Moments.{reads}
 use Rattle.ufs_image.specs.Proper.{IsProperImage}
-use Rattle.ufs_image.specs.Volume.{head_of}
+use Rattle.ufs_image.specs.Volume.{superblock_of}
 use Rattle.ufs_layout.specs.declared.records.Committed.{Committed}
 use Rattle.ufs_layout.specs.declared.superblock.Super.{Super}
 use Rattle.ufs_recovery.specs.Finished.{MayWriteBack, IsWrittenBack}
 use Rattle.ufs_recovery.specs.Home.{KeepsTree}
-use Rattle.ufs_recovery.proofs.Ends.{head_same, is_clean, is_recovered, log_same, may_write_back, none_in_clean, only_outside, opens_not, opens_there}
-use Rattle.ufs_recovery.proofs.Headed.{keeps_settled, kept_on, still_settled}
+use Rattle.ufs_recovery.proofs.Ends.{superblock_same, is_clean, is_recovered, log_same, may_write_back, none_in_clean, only_outside, opens_not, opens_there}
+use Rattle.ufs_recovery.proofs.SuperblockPut.{keeps_settled, kept_on, still_settled}
 use Rattle.ufs_recovery.proofs.recovery.recover.Goals as goal
 
 pub returns-in_err-opened-clause-tree : goal.returns-in_err-opened-clause-tree
@@ -37,14 +37,14 @@ returns-then-opened-clause-clean g c told proper =
     let v = c.in_ok-opened.opened.volume in
     let is = c.in_ok-opened.ensures.taken told in
     let back = sym (c.open.ensures.read_only told).content in
-    let clean : (head_of image).clean ≡ true = sym (ap (λ (h : Super). h.clean) (head_same size image v is)) ∙ c.if-opened.true in
+    let clean : (superblock_of image).clean ≡ true = sym (ap (λ (h : Super). h.clean) (superblock_same size image v is)) ∙ c.if-opened.true in
     record {
       proper = record {
         settled = still_settled g.D.Disk.keeps old (g.D.Disk.moments c.open.new.disk) (c.open.ensures.read_only told) proper.settled;
         proper = subst (λ (d : Image). IsProperImage size d) back proper.proper;
       };
-      clean = subst (λ (d : Image). (head_of d).clean ≡ true) back clean;
-      empty = none_in_clean size (reads (g.D.Disk.moments c.open.new.disk)) (subst (λ (d : Image). IsProperImage size d) back proper.proper) (subst (λ (d : Image). (head_of d).clean ≡ true) back clean);
+      clean = subst (λ (d : Image). (superblock_of d).clean ≡ true) back clean;
+      empty = none_in_clean size (reads (g.D.Disk.moments c.open.new.disk)) (subst (λ (d : Image). IsProperImage size d) back proper.proper) (subst (λ (d : Image). (superblock_of d).clean ≡ true) back clean);
     }
 
 pub returns-then-opened-clause-tree : goal.returns-then-opened-clause-tree
@@ -57,7 +57,7 @@ returns-then-opened-clause-recovered g c told proper used =
     let image = reads (g.D.Disk.moments c.args.disk.now) in
     let v = c.in_ok-opened.opened.volume in
     let is = c.in_ok-opened.ensures.taken told in
-    let isnt : false ≡ true = sym used ∙ sym (ap (λ (h : Super). h.clean) (head_same size image v is)) ∙ c.if-opened.true in
+    let isnt : false ≡ true = sym used ∙ sym (ap (λ (h : Super). h.clean) (superblock_same size image v is)) ∙ c.if-opened.true in
     absurd (grind (arith, isnt))
 
 pub returns-in-Ok-clause-found : goal.returns-in-Ok-clause-found
@@ -81,9 +81,9 @@ returns-in-Ok-clause-clean g c told proper =
     let can : MayWriteBack size image v c.in_ok-opened.opened.findings = may_write_back size image v is c.in_ok-opened.opened.findings (c.in_ok-opened.ensures.added told) (c.in_ok-opened.ensures.found told) (c.in_ok-opened.ensures.whole told) proper.proper in
     let can_mid : MayWriteBack (g.D.Disk.size c.open.new.disk) (reads mid) v c.in_ok-opened.opened.findings =
     subst (λ n. MayWriteBack n (reads mid) v c.in_ok-opened.opened.findings) (sym c.open.ensures.size) (subst (λ (d : Image). MayWriteBack size d v c.in_ok-opened.opened.findings) (sym (c.open.ensures.read_only told).content) can) in
-    let written : IsWrittenBack size v.head.head v.highest (reads (g.D.Disk.moments c.write_back.new.disk)) =
-    subst (λ n. IsWrittenBack n v.head.head v.highest (reads (g.D.Disk.moments c.write_back.new.disk))) c.open.ensures.size (c.in-Ok.ensures.written told settled can_mid) in
-    is_clean size (g.D.Disk.moments c.write_back.new.disk).state v.head.head v.highest (c.in-Ok.ensures.settled told) written
+    let written : IsWrittenBack size v.superblock.superblock v.highest (reads (g.D.Disk.moments c.write_back.new.disk)) =
+    subst (λ n. IsWrittenBack n v.superblock.superblock v.highest (reads (g.D.Disk.moments c.write_back.new.disk))) c.open.ensures.size (c.in-Ok.ensures.written told settled can_mid) in
+    is_clean size (g.D.Disk.moments c.write_back.new.disk).state v.superblock.superblock v.highest (c.in-Ok.ensures.settled told) written
 
 pub returns-in-Ok-clause-tree : goal.returns-in-Ok-clause-tree
 returns-in-Ok-clause-tree g c told proper =
@@ -112,8 +112,8 @@ returns-in-Ok-clause-recovered g c told proper used =
     let can : MayWriteBack size image v c.in_ok-opened.opened.findings = may_write_back size image v is c.in_ok-opened.opened.findings (c.in_ok-opened.ensures.added told) (c.in_ok-opened.ensures.found told) (c.in_ok-opened.ensures.whole told) proper.proper in
     let can_mid : MayWriteBack (g.D.Disk.size c.open.new.disk) (reads mid) v c.in_ok-opened.opened.findings =
     subst (λ n. MayWriteBack n (reads mid) v c.in_ok-opened.opened.findings) (sym c.open.ensures.size) (subst (λ (d : Image). MayWriteBack size d v c.in_ok-opened.opened.findings) (sym (c.open.ensures.read_only told).content) can) in
-    let written : IsWrittenBack size v.head.head v.highest (reads (g.D.Disk.moments c.write_back.new.disk)) =
-    subst (λ n. IsWrittenBack n v.head.head v.highest (reads (g.D.Disk.moments c.write_back.new.disk))) c.open.ensures.size (c.in-Ok.ensures.written told settled can_mid) in
+    let written : IsWrittenBack size v.superblock.superblock v.highest (reads (g.D.Disk.moments c.write_back.new.disk)) =
+    subst (λ n. IsWrittenBack n v.superblock.superblock v.highest (reads (g.D.Disk.moments c.write_back.new.disk))) c.open.ensures.size (c.in-Ok.ensures.written told settled can_mid) in
     is_recovered size image v is (c.in_ok-opened.ensures.highest told) (reads (g.D.Disk.moments c.write_back.new.disk)) written
 
 pub returns-in-Ok-clause-quiet : goal.returns-in-Ok-clause-quiet
@@ -123,7 +123,7 @@ returns-in-Ok-clause-quiet g c told clean =
     let image = reads (g.D.Disk.moments c.args.disk.now) in
     let v = c.in_ok-opened.opened.volume in
     let is = c.in_ok-opened.ensures.taken told in
-    let isnt : false ≡ true = sym c.if-opened.false ∙ ap (λ (h : Super). h.clean) (head_same size image v is) ∙ clean in
+    let isnt : false ≡ true = sym c.if-opened.false ∙ ap (λ (h : Super). h.clean) (superblock_same size image v is) ∙ clean in
     absurd (grind (arith, isnt))
 
 pub returns-clause-tree : goal.returns-clause-tree
@@ -148,7 +148,7 @@ returns-clause-quiet g c told clean =
     let image = reads (g.D.Disk.moments c.args.disk.now) in
     let v = c.in_ok-opened.opened.volume in
     let is = c.in_ok-opened.ensures.taken told in
-    let isnt : false ≡ true = sym c.if-opened.false ∙ ap (λ (h : Super). h.clean) (head_same size image v is) ∙ clean in
+    let isnt : false ≡ true = sym c.if-opened.false ∙ ap (λ (h : Super). h.clean) (superblock_same size image v is) ∙ clean in
     absurd (grind (arith, isnt))
 
 pub returns-then-opened-clause-opened : goal.returns-then-opened-clause-opened

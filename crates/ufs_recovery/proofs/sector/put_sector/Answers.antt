@@ -2,7 +2,7 @@ use Rattle.std.proofs.Common.{◌∙◌, arith}
 use Rattle.std.proofs.lemmas.Result.{on_ok_weaker}
 use Rattle.ufs_disk.proofs.Images.{put_one}
 use Rattle.ufs_disk.proofs.Runs.{weaker}
-use Rattle.ufs_recovery.proofs.Headed.{one_put}
+use Rattle.ufs_recovery.proofs.SuperblockPut.{one_put}
 use Rattle.ufs_recovery.proofs.sector.put_sector.Goals as goal
 
 pub returns-clause-written : goal.returns-clause-written

@@ -40,14 +40,14 @@ returns-clause-crash g c told =
 
 pub returns-in-Some-clause-bad : goal.returns-in-Some-clause-bad
 returns-in-Some-clause-bad g c told =
-    told_bad c.args.geometry.now c.requires.geometry c.args.head.now (reads (g.D.Disk.moments c.args.disk.now)) c.in_ok-sectors.sectors.found.items (map (λ b. b.now) c.in_ok-parts.parts.items) (map (λ b. b.now) c.in_ok-commits.commits.items) c.in_ok-chains.chains.items
-    (read_is c.args.geometry.now c.args.head.now (reads (g.D.Disk.moments c.args.disk.now)) c.in_ok-sectors.sectors.found.items c.deref-2.result.now c.deref-3.result.now (map (λ b. b.now) c.in_ok-parts.parts.items) (map (λ b. b.now) c.deref-4.result.now) (map (λ b. b.now) c.in_ok-commits.commits.items) c.in_ok-chains.chains.items
+    told_bad c.args.geometry.now c.requires.geometry c.args.superblock.now (reads (g.D.Disk.moments c.args.disk.now)) c.in_ok-sectors.sectors.found.items (map (λ b. b.now) c.in_ok-parts.parts.items) (map (λ b. b.now) c.in_ok-commits.commits.items) c.in_ok-chains.chains.items
+    (read_is c.args.geometry.now c.args.superblock.now (reads (g.D.Disk.moments c.args.disk.now)) c.in_ok-sectors.sectors.found.items c.deref-2.result.now c.deref-3.result.now (map (λ b. b.now) c.in_ok-parts.parts.items) (map (λ b. b.now) c.deref-4.result.now) (map (λ b. b.now) c.in_ok-commits.commits.items) c.in_ok-chains.chains.items
     c.deref-2.ensures.value c.deref-3.ensures.value (ap (map (λ b. b.now)) c.deref-4.ensures.value) (c.in_ok-sectors.ensures.found told) c.in_ok-parts.ensures.parts c.in_ok-parts.ensures.same c.in_ok-parts.ensures.small c.in_ok-chains.ensures.chains c.in_ok-chains.ensures.fit c.in_ok-commits.ensures.commits c.in_ok-commits.ensures.small)
     (reads (g.D.Disk.moments c.read_journal.new.disk)) (c.read_journal.ensures.content told)
     c.in_ok-marks.marks.items (subst (λ l. All (λ (x : Chain). get_or c.in_ok-marks.marks.items (x.inode - 1) false ≡ true) l) c.deref-5.ensures.value c.in_ok-marks.ensures.marks)
     c.in_ok-standings.standings.items (c.in_ok-standings.ensures.list told ∙ ap (λ m. marked_standings c.args.geometry.now m (reads (g.D.Disk.moments c.read_journal.new.disk))) c.deref-6.ensures.value)
     c.in_ok-sectors.sectors.misspelled c.in_ok-off.off c.lower-known.result c.in_ok-lowest.lowest
-    (c.in_ok-sectors.ensures.misspelled told) (c.in_ok-off.ensures ∙ ap (first_off c.args.geometry.now c.args.head.now.next) c.deref.ensures.value) c.lower-known.ensures
+    (c.in_ok-sectors.ensures.misspelled told) (c.in_ok-off.ensures ∙ ap (first_off c.args.geometry.now c.args.superblock.now.next) c.deref.ensures.value) c.lower-known.ensures
     (subst (λ l. (h : Geometry) (all some : List FoundSector) → IsFoldable h all some c.in_ok-chains.chains.items (map (λ b. b.now) l) c.in_ok-standings.standings.items c.lower-known.result → c.in_ok-lowest.lowest ≡ lower c.lower-known.result (lowest_of (out_of h (map (transaction_in all) (map (λ b. b.now) l)) c.in_ok-standings.standings.items))) c.deref-8.ensures.value
     (subst (λ x. (h : Geometry) (all some : List FoundSector) → IsFoldable h all some x (map (λ b. b.now) c.deref-8.result.now) c.in_ok-standings.standings.items c.lower-known.result → c.in_ok-lowest.lowest ≡ lower c.lower-known.result (lowest_of (out_of h (map (transaction_in all) (map (λ b. b.now) c.deref-8.result.now)) c.in_ok-standings.standings.items))) c.deref-7.ensures.value
     c.in_ok-lowest.ensures))
@@ -55,14 +55,14 @@ returns-in-Some-clause-bad g c told =
 
 pub returns-clause-whole : goal.returns-clause-whole
 returns-clause-whole g c told =
-    told_bad c.args.geometry.now c.requires.geometry c.args.head.now (reads (g.D.Disk.moments c.args.disk.now)) c.in_ok-sectors.sectors.found.items (map (λ b. b.now) c.in_ok-parts.parts.items) (map (λ b. b.now) c.in_ok-commits.commits.items) c.in_ok-chains.chains.items
-    (read_is c.args.geometry.now c.args.head.now (reads (g.D.Disk.moments c.args.disk.now)) c.in_ok-sectors.sectors.found.items c.deref-2.result.now c.deref-3.result.now (map (λ b. b.now) c.in_ok-parts.parts.items) (map (λ b. b.now) c.deref-4.result.now) (map (λ b. b.now) c.in_ok-commits.commits.items) c.in_ok-chains.chains.items
+    told_bad c.args.geometry.now c.requires.geometry c.args.superblock.now (reads (g.D.Disk.moments c.args.disk.now)) c.in_ok-sectors.sectors.found.items (map (λ b. b.now) c.in_ok-parts.parts.items) (map (λ b. b.now) c.in_ok-commits.commits.items) c.in_ok-chains.chains.items
+    (read_is c.args.geometry.now c.args.superblock.now (reads (g.D.Disk.moments c.args.disk.now)) c.in_ok-sectors.sectors.found.items c.deref-2.result.now c.deref-3.result.now (map (λ b. b.now) c.in_ok-parts.parts.items) (map (λ b. b.now) c.deref-4.result.now) (map (λ b. b.now) c.in_ok-commits.commits.items) c.in_ok-chains.chains.items
     c.deref-2.ensures.value c.deref-3.ensures.value (ap (map (λ b. b.now)) c.deref-4.ensures.value) (c.in_ok-sectors.ensures.found told) c.in_ok-parts.ensures.parts c.in_ok-parts.ensures.same c.in_ok-parts.ensures.small c.in_ok-chains.ensures.chains c.in_ok-chains.ensures.fit c.in_ok-commits.ensures.commits c.in_ok-commits.ensures.small)
     (reads (g.D.Disk.moments c.read_journal.new.disk)) (c.read_journal.ensures.content told)
     c.in_ok-marks.marks.items (subst (λ l. All (λ (x : Chain). get_or c.in_ok-marks.marks.items (x.inode - 1) false ≡ true) l) c.deref-5.ensures.value c.in_ok-marks.ensures.marks)
     c.in_ok-standings.standings.items (c.in_ok-standings.ensures.list told ∙ ap (λ m. marked_standings c.args.geometry.now m (reads (g.D.Disk.moments c.read_journal.new.disk))) c.deref-6.ensures.value)
     c.in_ok-sectors.sectors.misspelled c.in_ok-off.off c.lower-known.result c.in_ok-lowest.lowest
-    (c.in_ok-sectors.ensures.misspelled told) (c.in_ok-off.ensures ∙ ap (first_off c.args.geometry.now c.args.head.now.next) c.deref.ensures.value) c.lower-known.ensures
+    (c.in_ok-sectors.ensures.misspelled told) (c.in_ok-off.ensures ∙ ap (first_off c.args.geometry.now c.args.superblock.now.next) c.deref.ensures.value) c.lower-known.ensures
     (subst (λ l. (h : Geometry) (all some : List FoundSector) → IsFoldable h all some c.in_ok-chains.chains.items (map (λ b. b.now) l) c.in_ok-standings.standings.items c.lower-known.result → c.in_ok-lowest.lowest ≡ lower c.lower-known.result (lowest_of (out_of h (map (transaction_in all) (map (λ b. b.now) l)) c.in_ok-standings.standings.items))) c.deref-8.ensures.value
     (subst (λ x. (h : Geometry) (all some : List FoundSector) → IsFoldable h all some x (map (λ b. b.now) c.deref-8.result.now) c.in_ok-standings.standings.items c.lower-known.result → c.in_ok-lowest.lowest ≡ lower c.lower-known.result (lowest_of (out_of h (map (transaction_in all) (map (λ b. b.now) c.deref-8.result.now)) c.in_ok-standings.standings.items))) c.deref-7.ensures.value
     c.in_ok-lowest.ensures))
@@ -73,6 +73,6 @@ returns-clause-committed g c told =
     c.in_ok-copy_all-in-None.ensures ∙ ap (map committed_of) (c.deref-in-None-3.ensures.value
     ∙ c.in_ok-list-in-None.ensures c.in_ok-sectors.sectors.found.items (subst (λ l. HasParts c.in_ok-sectors.sectors.found.items (map (λ b. b.now) l)) (sym c.deref-in-None.ensures.value) (subst (λ l. HasParts l (map (λ b. b.now) c.in_ok-parts.parts.items)) c.deref-2.ensures.value c.in_ok-parts.ensures.parts))
     ∙ ap (λ l. map (transaction_in c.in_ok-sectors.sectors.found.items) (map (λ b. b.now) l)) c.deref-in-None-2.ensures.value
-    ∙ txns c.args.geometry.now c.requires.geometry c.args.head.now (reads (g.D.Disk.moments c.args.disk.now)) c.in_ok-sectors.sectors.found.items (map (λ b. b.now) c.in_ok-parts.parts.items) (map (λ b. b.now) c.in_ok-commits.commits.items) c.in_ok-chains.chains.items
-    (read_is c.args.geometry.now c.args.head.now (reads (g.D.Disk.moments c.args.disk.now)) c.in_ok-sectors.sectors.found.items c.deref-2.result.now c.deref-3.result.now (map (λ b. b.now) c.in_ok-parts.parts.items) (map (λ b. b.now) c.deref-4.result.now) (map (λ b. b.now) c.in_ok-commits.commits.items) c.in_ok-chains.chains.items
+    ∙ txns c.args.geometry.now c.requires.geometry c.args.superblock.now (reads (g.D.Disk.moments c.args.disk.now)) c.in_ok-sectors.sectors.found.items (map (λ b. b.now) c.in_ok-parts.parts.items) (map (λ b. b.now) c.in_ok-commits.commits.items) c.in_ok-chains.chains.items
+    (read_is c.args.geometry.now c.args.superblock.now (reads (g.D.Disk.moments c.args.disk.now)) c.in_ok-sectors.sectors.found.items c.deref-2.result.now c.deref-3.result.now (map (λ b. b.now) c.in_ok-parts.parts.items) (map (λ b. b.now) c.deref-4.result.now) (map (λ b. b.now) c.in_ok-commits.commits.items) c.in_ok-chains.chains.items
     c.deref-2.ensures.value c.deref-3.ensures.value (ap (map (λ b. b.now)) c.deref-4.ensures.value) (c.in_ok-sectors.ensures.found told) c.in_ok-parts.ensures.parts c.in_ok-parts.ensures.same c.in_ok-parts.ensures.small c.in_ok-chains.ensures.chains c.in_ok-chains.ensures.fit c.in_ok-commits.ensures.commits c.in_ok-commits.ensures.small))

@@ -53,13 +53,13 @@ returns-clause-names c =
     let f = c.args.findings.now in
     let tree = c.from_parts-tree.result in
     if_all c.closed.result (λ (n : NamesPart). n.tree ≡ tree) (λ (n : NamesPart). AreClosed tree n.held) (λ (n : NamesPart). n.next ≡ c.args.numbers.next)
-    (λ (n : NamesPart). (sectors : ℕ) (disk : Image) (head : Super) (image : Image) → IsLoaded g f sectors disk head image → AreStartNames sectors disk g image n)
-    (λ n is closed next sectors disk head image l.
+    (λ (n : NamesPart). (sectors : ℕ) (disk : Image) (superblock : Super) (image : Image) → IsLoaded g f sectors disk superblock image → AreStartNames sectors disk g image n)
+    (λ n is closed next sectors disk superblock image l.
     let whole = (c.damage_law.ensures.whole image (catalog_at g image) l.standing.catalog l.standing.sound).1 in
     let undamaged : IsUndamaged g image f = record { found = l.found; whole = whole } in
     let files : n.tree.files ≡ c.args.numbers.files.items = ap (λ (t : NameTable). t.files) is ∙ c.from_parts-tree.ensures.files in
     let dirs : n.tree.dirs ≡ c.args.dirs = ap (λ (t : NameTable). t.dirs) is ∙ c.from_parts-tree.ensures.dirs in
-    start_names g f sectors disk head image l n c.args.numbers.files.items files
+    start_names g f sectors disk superblock image l n c.args.numbers.files.items files
     (ap length files ∙ c.requires.files ∙ sym c.requires.counted ∙ ap (λ (d : DirTable). length d.dirs) (sym dirs))
     (c.requires.numbers image undamaged)
     (subst (IsTableOf g (catalog_at g image)) (sym dirs) (c.requires.dirs image undamaged))

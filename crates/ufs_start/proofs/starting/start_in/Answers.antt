@@ -23,7 +23,7 @@ names_in-requires-clause-loaded c =
     let l = c.in_ok-loaded.loaded in
     let e = c.in_ok-loaded.ensures in
     let disk : Image = image_of c.args.copy.now.bytes.items in
-    (c.args.copy.now.sectors, disk, l.volume.head.head, image_under l.volume.head disk, is_loaded l.volume l.findings c.args.copy.now.sectors disk (e.taken refl) (e.catalog refl) (e.sound refl) (e.found refl))
+    (c.args.copy.now.sectors, disk, l.volume.superblock.superblock, image_under l.volume.superblock disk, is_loaded l.volume l.findings c.args.copy.now.sectors disk (e.taken refl) (e.catalog refl) (e.sound refl) (e.found refl))
 
 pub files_in-requires-clause-added : goal.files_in-requires-clause-added
 files_in-requires-clause-added c =
@@ -34,37 +34,37 @@ pub files_in-requires-clause-loaded : goal.files_in-requires-clause-loaded
 files_in-requires-clause-loaded c =
     let l = c.in_ok-loaded.loaded in
     let e = c.in_ok-loaded.ensures in
-    let h = l.volume.head in
+    let h = l.volume.superblock in
     let disk : Image = image_of c.args.copy.now.bytes.items in
-    subst (λ (d : Image). IsLoaded h.geometry l.findings c.load.new.disk.sectors d h.head (image_under h d)) (sym (c.load.ensures.read_only refl).content)
-    (subst (λ (n : ℕ). IsLoaded h.geometry l.findings n disk h.head (image_under h disk)) (sym c.load.ensures.size)
+    subst (λ (d : Image). IsLoaded h.geometry l.findings c.load.new.disk.sectors d h.superblock (image_under h d)) (sym (c.load.ensures.read_only refl).content)
+    (subst (λ (n : ℕ). IsLoaded h.geometry l.findings n disk h.superblock (image_under h disk)) (sym c.load.ensures.size)
     (is_loaded l.volume l.findings c.args.copy.now.sectors disk (e.taken refl) (e.catalog refl) (e.sound refl) (e.found refl)))
 
 pub files_in-requires-clause-names : goal.files_in-requires-clause-names
 files_in-requires-clause-names c =
     let l = c.in_ok-loaded.loaded in
-    let h = l.volume.head in
+    let h = l.volume.superblock in
     let disk : Image = image_of c.load.new.disk.bytes.items in
-    c.in_ok-names.ensures.names c.load.new.disk.sectors disk h.head (image_under h disk) (files_in-requires-clause-loaded c)
+    c.in_ok-names.ensures.names c.load.new.disk.sectors disk h.superblock (image_under h disk) (files_in-requires-clause-loaded c)
 
 pub returns-clause-begun : goal.returns-clause-begun
 returns-clause-begun c =
     let l = c.in_ok-loaded.loaded in
     let e = c.in_ok-loaded.ensures in
     let v = l.volume in
-    let h = v.head in
+    let h = v.superblock in
     let n = c.in_ok-names.names in
     let files = c.in_ok-files.files in
     let sectors = c.args.copy.now.sectors in
     let disk : Image = image_of c.args.copy.now.bytes.items in
     let image : Image = image_under h disk in
-    let loaded : IsLoaded h.geometry l.findings sectors disk h.head image = is_loaded v l.findings sectors disk (e.taken refl) (e.catalog refl) (e.sound refl) (e.found refl) in
+    let loaded : IsLoaded h.geometry l.findings sectors disk h.superblock image = is_loaded v l.findings sectors disk (e.taken refl) (e.catalog refl) (e.sound refl) (e.found refl) in
     let undamaged : IsUndamaged h.geometry image l.findings = record { found = loaded.found; whole = (c.damage_law.ensures.whole image (catalog_under h disk) loaded.standing.catalog loaded.standing.sound).1 } in
-    let start : AreStartNames sectors disk h.geometry image n = c.in_ok-names.ensures.names sectors disk h.head image loaded in
+    let start : AreStartNames sectors disk h.geometry image n = c.in_ok-names.ensures.names sectors disk h.superblock image loaded in
     let read : AreRead image (catalog_under h disk) n files = subst (λ (d : Image). AreRead (image_under h d) (catalog_under h d) n files) (c.load.ensures.read_only refl).content c.in_ok-files.ensures.read in
     let laid : AreLaid (catalog_under h disk) files = subst (λ (d : Image). AreLaid (catalog_under h d) files) (c.load.ensures.read_only refl).content c.in_ok-files.ensures.laid in
     let contents : AreLoaded image (catalog_under h disk) files = subst (λ (d : Image). AreLoaded (image_under h d) (catalog_under h d) files) (c.load.ensures.read_only refl).content c.in_ok-files.ensures.loaded in
-    let parts = c.start_files_law.ensures.parts h.geometry l.findings sectors disk h.head image n files loaded start read in
+    let parts = c.start_files_law.ensures.parts h.geometry l.findings sectors disk h.superblock image n files loaded start read in
     let free : IsUntaken h.geometry (catalog_under h disk) l.free.free =
     c.files_part_law.ensures.free disk (volume_under h disk) (catalog_under h disk) l.free.free loaded.standing
     (λ b is. untaken (is_between (first_of_data h.geometry) h.geometry.blocks b) (is_taken h.geometry (sound_nodes h.geometry image) b) (set.contains l.free.free b) (e.free refl b) is) in
@@ -87,7 +87,7 @@ returns-clause-begun c =
       first = e.first;
       blocks = e.blocks;
       free = e.free refl;
-      apart = c.start_files_law.ensures.apart h.geometry l.findings sectors disk h.head image n files l.free.free loaded start read free;
+      apart = c.start_files_law.ensures.apart h.geometry l.findings sectors disk h.superblock image n files l.free.free loaded start read free;
     }
 
 pub returns-in_err-files-clause-refused : goal.returns-in_err-files-clause-refused
@@ -96,7 +96,7 @@ returns-in_err-files-clause-refused c =
     let v = c.in_ok-loaded.loaded.volume in
     let disk : Image = image_of c.args.copy.now.bytes.items in
     rw (p.1, p.2) (refused_file v c.args.copy.now.sectors disk (c.in_ok-loaded.ensures.taken refl) c.in_err-files.field-0.0
-    (subst (λ (d : Image). IsRefusedFile (form_at v.head.geometry (image_under v.head d)) c.in_err-files.field-0.0) (c.load.ensures.read_only refl).content c.in_err-files.ensures.refused))
+    (subst (λ (d : Image). IsRefusedFile (form_at v.superblock.geometry (image_under v.superblock d)) c.in_err-files.field-0.0) (c.load.ensures.read_only refl).content c.in_err-files.ensures.refused))
 
 pub returns-in_err-names-clause-refused : goal.returns-in_err-names-clause-refused
 returns-in_err-names-clause-refused c =
@@ -104,12 +104,12 @@ returns-in_err-names-clause-refused c =
     let l = c.in_ok-loaded.loaded in
     let e = c.in_ok-loaded.ensures in
     let v = l.volume in
-    let h = v.head in
+    let h = v.superblock in
     let g = h.geometry in
     let sectors = c.args.copy.now.sectors in
     let disk : Image = image_of c.args.copy.now.bytes.items in
     let image : Image = image_under h disk in
-    let loaded : IsLoaded g l.findings sectors disk h.head image = is_loaded v l.findings sectors disk (e.taken refl) (e.catalog refl) (e.sound refl) (e.found refl) in
+    let loaded : IsLoaded g l.findings sectors disk h.superblock image = is_loaded v l.findings sectors disk (e.taken refl) (e.catalog refl) (e.sound refl) (e.found refl) in
     let undamaged : IsUndamaged g image l.findings = record { found = loaded.found; whole = (c.damage_law.ensures.whole image (catalog_under h disk) loaded.standing.catalog loaded.standing.sound).1 } in
     rw (p.1, p.2) (refused_names v l.findings sectors disk (e.taken refl) undamaged c.in_err-names.field-0.0 c.in_err-names.ensures.fault)
 
@@ -117,4 +117,4 @@ pub returns-in_err-names-clause-calm : goal.returns-in_err-names-clause-calm
 returns-in_err-names-clause-calm c =
     let p = err_from_is_err_and c.from_residual-in_err-names.result c.from_residual-in_err-names.ensures.1 in
     let l = c.in_ok-loaded.loaded in
-    rw (p.1, p.2) (calm_names l.volume.head.geometry l.findings c.in_err-names.field-0.0 c.in_err-names.ensures.fault)
+    rw (p.1, p.2) (calm_names l.volume.superblock.geometry l.findings c.in_err-names.field-0.0 c.in_err-names.ensures.fault)

@@ -40,7 +40,7 @@ returns-in-Ok-clause-ok g c told l has may =
     record {
       going = c.requires.going;
       by = c.in-Ok.ensures.next told under l has.by go;
-      headed = has.headed;
+      superblock_is = has.superblock_is;
       added = subst (λ (rs : List LogRecord). overlaid.HasAdded c.add_records.new.self (l.now.log ++ (record { number = j.number; records = rs }) ∷ [])) c.as_slice.ensures
           (c.in_ok-add_records.ensures.ok l.now.log has.added (subst (λ (rs : List LogRecord). IsTrue (rise_above 0 (l.now.log ++ (record { number = j.number; records = rs }) ∷ []))) (sym c.as_slice.ensures) rising));
       numbered = below_next l.now.log t j.number k.number has.numbered refl more;
@@ -51,6 +51,6 @@ returns-in-Ok-clause-ok g c told l has may =
           subst (λ (x : Geometry × ℕ). IsUnused x.0 x.1 other new) (λ i. (same i, epoch i))
           (c.in-Ok.ensures.unused told l has.by go other apart (has.unused other (omega (arith, past))));
       settled = λ _ block. refl;
-      older = committed_below (geometry_of l.head) t l.now.catalog k.number (omega (arith, more)) (below_more (geometry_of l.head) (geometry_of l.head) l.now.catalog j.number k.number refl (omega (arith, more)) has.older);
+      older = committed_below (geometry_of l.superblock) t l.now.catalog k.number (omega (arith, more)) (below_more (geometry_of l.superblock) (geometry_of l.superblock) l.now.catalog j.number k.number refl (omega (arith, more)) has.older);
       fits = omega (arith, more, under);
     }

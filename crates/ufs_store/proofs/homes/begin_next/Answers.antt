@@ -18,27 +18,27 @@ returns-in-Ok-clause-crash g c told l has =
     let size = g.D.Disk.size c.args.disk.now in
     let home = block_at (home_of l (reads old)) in
     subst (λ (h : Super). LeavesOnly g.D.Disk.keeps (IsLeftByAny size (l ∷ beginning h home l ∷ [])) old new) c.in-Some.ensures
-    (by_two size g.D.Disk.keeps l (beginning c.in-Some.head home l) old new (c.checkpoint.ensures.crash told l has.by has.added))
+    (by_two size g.D.Disk.keeps l (beginning c.in-Some.superblock home l) old new (c.checkpoint.ensures.crash told l has.by has.added))
 
 pub returns-in-Ok-clause-ok : goal.returns-in-Ok-clause-ok
 returns-in-Ok-clause-ok g c told l has =
     let new = g.D.Disk.moments c.checkpoint.new.disk in
     let home = block_at (home_of l (reads (g.D.Disk.moments c.args.disk.now))) in
     let by = c.in-Ok.ensures.ok told l has.by has.added in
-    let head : Super = record (c.args.tables.now.head) { epoch = c.args.tables.now.head.epoch + 1; next = c.args.tables.now.journal.number; clean = false } in
-    let there : IsLedgerBy c.checkpoint.new.journal (g.D.Disk.size c.checkpoint.new.disk) new.state (emptied head home l) =
+    let superblock : Super = record (c.args.tables.now.superblock) { epoch = c.args.tables.now.superblock.epoch + 1; next = c.args.tables.now.journal.number; clean = false } in
+    let there : IsLedgerBy c.checkpoint.new.journal (g.D.Disk.size c.checkpoint.new.disk) new.state (emptied superblock home l) =
     subst (λ (h : Super). IsLedgerBy c.checkpoint.new.journal (g.D.Disk.size c.checkpoint.new.disk) new.state (emptied h home l)) c.in-Some.ensures by in
     let same = there.geometry ∙ c.checkpoint.ensures.geometry ∙ sym has.by.geometry in
     let still = c.checkpoint.ensures.number in
     record {
       going = c.requires.going;
       by = there;
-      headed = sym c.in-Some.ensures;
+      superblock_is = sym c.in-Some.ensures;
       added = c.empty_after_epoch.ensures.none;
       numbered = refl;
       unused = λ txn _. unused_at_first c.checkpoint.new.journal.geometry c.checkpoint.new.journal.epoch c.checkpoint.new.journal.used c.checkpoint.new.journal.number txn new.state c.in-Ok.ensures.used by.ready;
       settled = λ _ block. home_is_settled home l block;
-      older = below_more (geometry_of l.head) (geometry_of head) l.now.catalog c.args.tables.now.journal.number c.checkpoint.new.journal.number same (omega (arith, still)) has.older;
+      older = below_more (geometry_of l.superblock) (geometry_of superblock) l.now.catalog c.args.tables.now.journal.number c.checkpoint.new.journal.number same (omega (arith, still)) has.older;
       fits = let few = has.fits in omega (arith, few, still);
     }
 
@@ -49,4 +49,4 @@ returns-in-Err-clause-crash g c told l has =
     let size = g.D.Disk.size c.args.disk.now in
     let home = block_at (home_of l (reads old)) in
     subst (λ (h : Super). LeavesOnly g.D.Disk.keeps (IsLeftByAny size (l ∷ beginning h home l ∷ [])) old new) c.in-Some.ensures
-    (by_two size g.D.Disk.keeps l (beginning c.in-Some.head home l) old new (c.checkpoint.ensures.crash told l has.by has.added))
+    (by_two size g.D.Disk.keeps l (beginning c.in-Some.superblock home l) old new (c.checkpoint.ensures.crash told l has.by has.added))

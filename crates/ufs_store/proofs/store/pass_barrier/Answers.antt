@@ -26,7 +26,7 @@ returns-in-Ok-clause-ok g c told l has =
         later = has.by.later;
         ready = c.settle.ensures.ready told j.geometry j.epoch j.used j.number has.by.ready;
       };
-      headed = has.headed;
+      superblock_is = has.superblock_is;
       added = has.added;
       numbered = has.numbered;
       unused = λ txn low. c.settle.ensures.unused told j.geometry j.epoch txn (has.unused txn low);

@@ -17,5 +17,5 @@ returns-clause-spelled c l unassigned start history counts p block same none sou
     (spelled_kept c.args.geometry.now c.promise_law.ensures.zeros l block start history counts same none sound covers free.no_dir st.kept)
 
 pub returns-clause-checkpoint : goal.returns-clause-checkpoint
-returns-clause-checkpoint c l unassigned start history counts p head home same next st =
-    emptied_stored c.args.geometry.now l unassigned start history counts p same st c.promise_law.ensures.emptied head home next
+returns-clause-checkpoint c l unassigned start history counts p superblock home same next st =
+    emptied_stored c.args.geometry.now l unassigned start history counts p same st c.promise_law.ensures.emptied superblock home next

@@ -8,22 +8,22 @@ pub returns-in_default-clause-err_crash : goal.returns-in_default-clause-err_cra
 returns-in_default-clause-err_crash g c told is some = absurd (some refl)
 
 pub returns-in-Ok-mark_in_use-clause-crash : goal.returns-in-Ok-mark_in_use-clause-crash
-returns-in-Ok-mark_in_use-clause-crash g c told is = c.mark_in_use.ensures.crash told c.args.head refl is
+returns-in-Ok-mark_in_use-clause-crash g c told is = c.mark_in_use.ensures.crash told c.args.superblock refl is
 
 pub returns-in-Err-clause-err_crash : goal.returns-in-Err-clause-err_crash
-returns-in-Err-clause-err_crash g c told is some = c.mark_in_use.ensures.crash told c.args.head refl is
+returns-in-Err-clause-err_crash g c told is some = c.mark_in_use.ensures.crash told c.args.superblock refl is
 
 pub returns-in-Ok-mark_in_use-clause-ok : goal.returns-in-Ok-mark_in_use-clause-ok
 returns-in-Ok-mark_in_use-clause-ok g c told is =
     let j = c.in-Ok.tables.journal in
     let made = c.in-Ok.ensures.journal in
     let state : State = (g.D.Disk.moments c.mark_in_use.new.disk).state in
-    let earlier = c.in-Ok-mark_in_use.ensures.earlier told c.args.head refl is in
+    let earlier = c.in-Ok-mark_in_use.ensures.earlier told c.args.superblock refl is in
     let number = made.2 in
     record {
       going = c.in-Ok.ensures.going;
       by = record {
-        is = c.in-Ok-mark_in_use.ensures.ok told c.args.head refl is;
+        is = c.in-Ok-mark_in_use.ensures.ok told c.args.superblock refl is;
         none = refl;
         in_use = refl;
         geometry = sym made.0;
@@ -31,7 +31,7 @@ returns-in-Ok-mark_in_use-clause-ok g c told is =
         later = omega (arith, number);
         ready = subst (λ (x : Geometry × ℕ × ℕ × ℕ). IsReady x.0 x.1 x.2 x.3 state) (λ i. (sym made.0 i, sym made.1 i, sym made.3 i, sym made.2 i)) (c.in-Ok.ensures.ready state earlier);
       };
-      headed = sym c.in-Ok.ensures.head;
+      superblock_is = sym c.in-Ok.ensures.superblock;
       added = c.in-Ok.ensures.overlay;
       numbered = refl;
       unused = λ txn _. subst (λ (x : Geometry × ℕ). IsUnused x.0 x.1 txn state) (λ i. (sym made.0 i, sym made.1 i)) (c.in-Ok.ensures.unused state earlier txn);

@@ -14,7 +14,7 @@ returns-in-Ok-clause-ok g c told l has may =
         later = has.by.later;
         ready = c.write_data.ensures.ready told j.geometry j.epoch j.used j.number c.requires.there.from has.by.ready;
       };
-      headed = has.headed;
+      superblock_is = has.superblock_is;
       added = has.added;
       numbered = has.numbered;
       unused = λ txn low. c.write_data.ensures.unused told j.geometry j.epoch txn c.requires.there.from (has.unused txn low);

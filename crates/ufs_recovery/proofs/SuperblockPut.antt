@@ -12,7 +12,7 @@ use Rattle.ufs_image.specs.Proper.{IsProperImage}
 use Rattle.ufs_catalog.specs.Reading.{IsReadOnly}
 use Rattle.ufs_recovery.specs.Cleared.{HasSectorPut}
 use Rattle.ufs_recovery.specs.Home.{IsAtHome, IsBroughtHome, OpensAlike, KeepsTree}
-use Rattle.ufs_recovery.proofs.Home.{headed_home, headed_tree}
+use Rattle.ufs_recovery.proofs.Home.{superblock_put_home, superblock_put_tree}
 
 pub one_put : (sector : ℕ) (bytes : List ℕ) (state : State) (image : Image) → length bytes ≡ 512 → IsPartlyWritten sector bytes state image → HasSectorPut sector bytes state image
 one_put sector bytes state image sized from =
@@ -47,17 +47,17 @@ kept_quietly keeps sectors first mid new front back =
     (weaker keeps (IsImage mid.state) (OpensAlike sectors (reads first)) front.after mid new back)
 
 module _ (sectors : ℕ) (old : State) (new : Super) (bytes : List ℕ) (spelled : super_of 1 bytes ≡ Some new) (brought : IsBroughtHome sectors (seen old) new) where
-  pub head_there : IsAtHome sectors new (put 0 bytes (seen old))
-  head_there = headed_home sectors brought.image brought.as_volume brought.catalog brought.is (seen old) brought.all new bytes spelled brought.geometry brought.earlier
+  pub superblock_there : IsAtHome sectors new (put 0 bytes (seen old))
+  superblock_there = superblock_put_home sectors brought.image brought.as_volume brought.catalog brought.is (seen old) brought.all new bytes spelled brought.geometry brought.earlier
 
   put_alike : OpensAlike sectors (seen old) (put 0 bytes (seen old))
   put_alike = record {
-    tree = headed_tree sectors brought.image brought.as_volume brought.catalog brought.is (seen old) brought.all new bytes spelled brought.geometry brought.earlier ∙ sym brought.same;
-    proper = λ was. brought.proper (put 0 bytes (seen old)) head_there (λ sector other. put_other 0 sector bytes (seen old) other);
+    tree = superblock_put_tree sectors brought.image brought.as_volume brought.catalog brought.is (seen old) brought.all new bytes spelled brought.geometry brought.earlier ∙ sym brought.same;
+    proper = λ was. brought.proper (put 0 bytes (seen old)) superblock_there (λ sector other. put_other 0 sector bytes (seen old) other);
   }
 
-  pub head_tree : IsSettled old → (image : Image) → HasSectorPut 0 bytes old image → OpensAlike sectors (seen old) image
-  head_tree settled image from = by from.is
+  pub superblock_tree : IsSettled old → (image : Image) → HasSectorPut 0 bytes old image → OpensAlike sectors (seen old) image
+  superblock_tree settled image from = by from.is
     where
       was : from.before ≡ seen old
       was = settled from.before from.left

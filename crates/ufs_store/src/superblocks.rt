@@ -20,18 +20,18 @@ use ufs_ledger::{checkpoint_law, mount_law};
 pub(crate) fn mark_in_use<D: Disk>(
     disk: &mut D,
     geometry: &Geometry,
-    head: &Super,
+    superblock: &Super,
 ) -> Result<(), Fault>
     requires limits { IsGeometry geometry.now }
-    requires same { geometry_of head.now ≡ geometry.now }
-    requires form { IsTrue (is_super 1 head.now) }
+    requires same { geometry_of superblock.now ≡ geometry.now }
+    requires form { IsTrue (is_super 1 superblock.now) }
     requires some { 1 ≤ D.size disk.old }
-    ensures crash { IsTrue D.tells → (before : Super) → head.now ≡ in_use before → IsMountable (D.size disk.old) (D.moments disk.old).state before
+    ensures crash { IsTrue D.tells → (before : Super) → superblock.now ≡ in_use before → IsMountable (D.size disk.old) (D.moments disk.old).state before
         → LeavesOnly D.keeps (IsLeftBy (D.size disk.old) (marking before (reads (D.moments disk.old)))) (D.moments disk.old) (D.moments disk.new) }
-    ensures ok { IsTrue D.tells → OnOk result ((before : Super) → head.now ≡ in_use before → IsMountable (D.size disk.old) (D.moments disk.old).state before
-        → IsLedgerOf (D.size disk.new) (D.moments disk.new).state (opening_ledger head.now (reads (D.moments disk.old)))) }
-    ensures earlier { IsTrue D.tells → OnOk result ((before : Super) → head.now ≡ in_use before → IsMountable (D.size disk.old) (D.moments disk.old).state before
-        → Leaves (HasEarlier (geometry_of head.now) head.now.epoch) (D.moments disk.new).state) }
+    ensures ok { IsTrue D.tells → OnOk result ((before : Super) → superblock.now ≡ in_use before → IsMountable (D.size disk.old) (D.moments disk.old).state before
+        → IsLedgerOf (D.size disk.new) (D.moments disk.new).state (opening_ledger superblock.now (reads (D.moments disk.old)))) }
+    ensures earlier { IsTrue D.tells → OnOk result ((before : Super) → superblock.now ≡ in_use before → IsMountable (D.size disk.old) (D.moments disk.old).state before
+        → Leaves (HasEarlier (geometry_of superblock.now) superblock.now.epoch) (D.moments disk.new).state) }
     ensures size { D.size disk.new ≡ D.size disk.old }
     ensures cause { HasCause (D.faults disk.old) (D.faults disk.new) result }
     ensures fault { IfErr result (λ fault. fault.number ≡ D.faults disk.new) }
@@ -39,7 +39,7 @@ pub(crate) fn mark_in_use<D: Disk>(
     mount_law(geometry);
     checkpoint_law(disk.sectors() as usize);
     let mut sector = [0; SECTOR];
-    put_super(&mut sector, head);
+    put_super(&mut sector, superblock);
     disk.write(0, &sector)?;
     disk.barrier()
 }

@@ -2,18 +2,18 @@ use Rattle.std.proofs.Common.{◌∙◌, ap, arith}
 use Rattle.std.proofs.lemmas.Result.{on_ok_weaker}
 use Rattle.ufs_base.specs.Images.{Image}
 use Rattle.ufs_disk.proofs.Images.{put_one}
-use Rattle.ufs_recover.proofs.Written.{head_written, head_settled, head_others}
-use Rattle.ufs_recover.proofs.head.put_head.Goals as goal
+use Rattle.ufs_recover.proofs.Written.{superblock_written, superblock_settled, superblock_others}
+use Rattle.ufs_recover.proofs.superblock.put_superblock.Goals as goal
 
 pub returns-in_err-write-clause-crash : goal.returns-in_err-write-clause-crash
-returns-in_err-write-clause-crash g c told = head_written _ c.args.bytes.now (omega arith) _ _ (c.write.ensures.crash told)
+returns-in_err-write-clause-crash g c told = superblock_written _ c.args.bytes.now (omega arith) _ _ (c.write.ensures.crash told)
 
 pub returns-clause-written : goal.returns-clause-written
 returns-clause-written g c told = on_ok_weaker c.barrier.result (λ settled. c.barrier.ensures.content told ∙ c.in_ok-write.ensures.ok told ∙ put_one 0 c.args.bytes.now _ (omega arith)) (c.barrier.ensures.ok told)
 
 pub returns-clause-others : goal.returns-clause-others
 returns-clause-others g c told s ne =
-    ap (λ (d : Image). d s) (c.barrier.ensures.content told) ∙ head_others c.args.bytes.now _ _ (omega arith) (c.write.ensures.content told) s ne
+    ap (λ (d : Image). d s) (c.barrier.ensures.content told) ∙ superblock_others c.args.bytes.now _ _ (omega arith) (c.write.ensures.content told) s ne
 
 pub returns-clause-crash : goal.returns-clause-crash
-returns-clause-crash g c told = head_settled _ c.args.bytes.now (omega arith) _ _ (c.write.ensures.crash told) _ (c.barrier.ensures.crash told)
+returns-clause-crash g c told = superblock_settled _ c.args.bytes.now (omega arith) _ _ (c.write.ensures.crash told) _ (c.barrier.ensures.crash told)

@@ -4,12 +4,12 @@ use Rattle.std.proofs.lemmas.Bool.{ne_eqb}
 use Rattle.ufs_layout.specs.Superblock.{magic, super_of, super_fields, geometry_of}
 use Rattle.ufs_layout.specs.declared.superblock.Super.{Super}
 use Rattle.ufs_layout.proofs.Spelled.{some_if-some}
-use Rattle.ufs_image.specs.Volume.{Refusal, BadVersion, head_refusal}
-use Rattle.ufs_catalog.specs.Heads.{size_refusal}
+use Rattle.ufs_image.specs.Volume.{Refusal, BadVersion, superblock_refusal}
+use Rattle.ufs_catalog.specs.Superblocks.{size_refusal}
 use Rattle.ufs_catalog.specs.Faults.{IsRefusal}
-use Rattle.ufs_catalog.specs.declared.head.ImageHead.{ImageHead}
-use Rattle.ufs_catalog.proofs.Heads.{none_false, no_magic, other_version, off, on_form, fields_are}
-use Rattle.ufs_catalog.proofs.head.judge.Goals as goal
+use Rattle.ufs_catalog.specs.declared.superblock.ImageSuperblock.{ImageSuperblock}
+use Rattle.ufs_catalog.proofs.Superblocks.{none_false, no_magic, other_version, off, on_form, fields_are}
+use Rattle.ufs_catalog.proofs.superblock.judge.Goals as goal
 
 pub returns-in_default-clause-refused : goal.returns-in_default-clause-refused
 returns-in_default-clause-refused c =
@@ -31,18 +31,18 @@ pub returns-clause-taken : goal.returns-clause-taken
 returns-clause-taken c =
     let bytes = c.args.bytes.now in
     let both = some_if-some (bytes_eq magic (take 8 bytes)) (super_fields bytes).version c.in-Some.version (sym c.super_version.ensures ∙ c.in-Some.is) in
-    let gets : super_of 1 bytes ≡ Some c.in-Some-get_super.head = sym c.get_super.ensures.value ∙ c.in-Some-get_super.is in
-    let same : size_refusal c.args.sectors (geometry_of c.in-Some-get_super.head) ≡ head_refusal c.args.sectors (λ k. bytes) =
-    ap (λ (s : Super). size_refusal c.args.sectors (geometry_of s)) (fields_are bytes c.in-Some-get_super.head gets)
-    ∙ sym (on_form c.args.sectors c.requires.some (λ k. bytes) both.0 (eq-eqb (super_fields bytes).version 1 (both.1 ∙ c.if-version-ne1.false)) c.in-Some-get_super.head gets) in
-    subst (λ (o : Option Refusal). IfOk c.with_geometry.result (λ (h : ImageHead). o ≡ None)) same c.with_geometry.ensures.taken
+    let gets : super_of 1 bytes ≡ Some c.in-Some-get_super.superblock = sym c.get_super.ensures.value ∙ c.in-Some-get_super.is in
+    let same : size_refusal c.args.sectors (geometry_of c.in-Some-get_super.superblock) ≡ superblock_refusal c.args.sectors (λ k. bytes) =
+    ap (λ (s : Super). size_refusal c.args.sectors (geometry_of s)) (fields_are bytes c.in-Some-get_super.superblock gets)
+    ∙ sym (on_form c.args.sectors c.requires.some (λ k. bytes) both.0 (eq-eqb (super_fields bytes).version 1 (both.1 ∙ c.if-version-ne1.false)) c.in-Some-get_super.superblock gets) in
+    subst (λ (o : Option Refusal). IfOk c.with_geometry.result (λ (h : ImageSuperblock). o ≡ None)) same c.with_geometry.ensures.taken
 
 pub returns-clause-refused : goal.returns-clause-refused
 returns-clause-refused c =
     let bytes = c.args.bytes.now in
     let both = some_if-some (bytes_eq magic (take 8 bytes)) (super_fields bytes).version c.in-Some.version (sym c.super_version.ensures ∙ c.in-Some.is) in
-    let gets : super_of 1 bytes ≡ Some c.in-Some-get_super.head = sym c.get_super.ensures.value ∙ c.in-Some-get_super.is in
-    let same : size_refusal c.args.sectors (geometry_of c.in-Some-get_super.head) ≡ head_refusal c.args.sectors (λ k. bytes) =
-    ap (λ (s : Super). size_refusal c.args.sectors (geometry_of s)) (fields_are bytes c.in-Some-get_super.head gets)
-    ∙ sym (on_form c.args.sectors c.requires.some (λ k. bytes) both.0 (eq-eqb (super_fields bytes).version 1 (both.1 ∙ c.if-version-ne1.false)) c.in-Some-get_super.head gets) in
+    let gets : super_of 1 bytes ≡ Some c.in-Some-get_super.superblock = sym c.get_super.ensures.value ∙ c.in-Some-get_super.is in
+    let same : size_refusal c.args.sectors (geometry_of c.in-Some-get_super.superblock) ≡ superblock_refusal c.args.sectors (λ k. bytes) =
+    ap (λ (s : Super). size_refusal c.args.sectors (geometry_of s)) (fields_are bytes c.in-Some-get_super.superblock gets)
+    ∙ sym (on_form c.args.sectors c.requires.some (λ k. bytes) both.0 (eq-eqb (super_fields bytes).version 1 (both.1 ∙ c.if-version-ne1.false)) c.in-Some-get_super.superblock gets) in
     subst (λ (o : Option Refusal). IfErr c.with_geometry.result (IsRefusal o)) same c.with_geometry.ensures.refused
