@@ -56,8 +56,8 @@ fn read_extent<D: Disk>(
     requires geometry { IsGeometry geometry.now }
     requires large { sector_count geometry.now ≤ D.size disk.old }
     requires inside { extent.now.start + extent.now.length ≤ geometry.now.blocks }
-    ensures slots { IsTrue D.tells → (image : Image) → IsFolded overlay.now (reads (D.moments disk.old)) image → OnOk result (slots.new.items ≡ slots.old.items ++ flat_map (read_block image) (range_with_len extent.now.start extent.now.length)) }
-    ensures read_only { IsTrue D.tells → IsReadOnly D.keeps (D.moments disk.old) (D.moments disk.new) }
+    ensures slots { IsTrue D.visible → (image : Image) → IsFolded overlay.now (reads (D.moments disk.old)) image → OnOk result (slots.new.items ≡ slots.old.items ++ flat_map (read_block image) (range_with_len extent.now.start extent.now.length)) }
+    ensures read_only { IsTrue D.visible → IsReadOnly D.keeps (D.moments disk.old) (D.moments disk.new) }
     ensures size { D.size disk.new ≡ D.size disk.old }
     ensures passed { OnOk result (D.faults disk.new ≡ D.faults disk.old) }
     ensures cause { IfErr result (HasFaultCause (D.faults disk.old) (D.faults disk.new)) }
@@ -82,8 +82,8 @@ fn read_slots<D: Disk>(
     requires geometry { IsGeometry geometry.now }
     requires large { sector_count geometry.now ≤ D.size disk.old }
     requires inside { list_any (leaves_data geometry.now) form.now.extents ≡ false }
-    ensures slots { IsTrue D.tells → (image : Image) → IsFolded overlay.now (reads (D.moments disk.old)) image → IfOk result (λ s. s.items ≡ flat_map (read_block image) (blocks_of form.now)) }
-    ensures read_only { IsTrue D.tells → IsReadOnly D.keeps (D.moments disk.old) (D.moments disk.new) }
+    ensures slots { IsTrue D.visible → (image : Image) → IsFolded overlay.now (reads (D.moments disk.old)) image → IfOk result (λ s. s.items ≡ flat_map (read_block image) (blocks_of form.now)) }
+    ensures read_only { IsTrue D.visible → IsReadOnly D.keeps (D.moments disk.old) (D.moments disk.new) }
     ensures size { D.size disk.new ≡ D.size disk.old }
     ensures passed { OnOk result (D.faults disk.new ≡ D.faults disk.old) }
     ensures cause { IfErr result (HasFaultCause (D.faults disk.old) (D.faults disk.new)) }
@@ -115,9 +115,9 @@ pub(crate) fn read_dir<D: Disk>(
 ) -> Result<(), RecoverFault>
     requires geometry { IsGeometry geometry.now }
     requires large { sector_count geometry.now ≤ D.size disk.old }
-    ensures dirs { IsTrue D.tells → (image : Image) → IsFolded overlay.now (reads (D.moments disk.old)) image → inode_at geometry.now image inode ≡ form.now → OnOk result
+    ensures dirs { IsTrue D.visible → (image : Image) → IsFolded overlay.now (reads (D.moments disk.old)) image → inode_at geometry.now image inode ≡ form.now → OnOk result
         (dirs.new.items ≡ dirs.old.items ++ dirs_of image (option_to_list (sound_node geometry.now image inode))) }
-    ensures read_only { IsTrue D.tells → IsReadOnly D.keeps (D.moments disk.old) (D.moments disk.new) }
+    ensures read_only { IsTrue D.visible → IsReadOnly D.keeps (D.moments disk.old) (D.moments disk.new) }
     ensures size { D.size disk.new ≡ D.size disk.old }
     ensures passed { OnOk result (D.faults disk.new ≡ D.faults disk.old) }
     ensures cause { IfErr result (HasFaultCause (D.faults disk.old) (D.faults disk.new)) }

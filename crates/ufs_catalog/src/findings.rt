@@ -30,9 +30,9 @@ fn read_dirs<D: Disk>(
     requires geometry { IsGeometry geometry.now }
     requires large { sector_count geometry.now ≤ D.size disk.old }
     requires count { length forms.now ≡ geometry.now.inodes }
-    ensures dirs { IsTrue D.tells → (image : Image) → IsFolded overlay.now (reads (D.moments disk.old)) image → forms.now ≡ map (inode_at geometry.now image) (all_inodes geometry.now)
+    ensures dirs { IsTrue D.visible → (image : Image) → IsFolded overlay.now (reads (D.moments disk.old)) image → forms.now ≡ map (inode_at geometry.now image) (all_inodes geometry.now)
         → IfOk result (λ d. d.items ≡ dirs_of image (sound_nodes geometry.now image)) }
-    ensures read_only { IsTrue D.tells → IsReadOnly D.keeps (D.moments disk.old) (D.moments disk.new) }
+    ensures read_only { IsTrue D.visible → IsReadOnly D.keeps (D.moments disk.old) (D.moments disk.new) }
     ensures size { D.size disk.new ≡ D.size disk.old }
     ensures passed { OnOk result (D.faults disk.new ≡ D.faults disk.old) }
     ensures cause { IfErr result (HasFaultCause (D.faults disk.old) (D.faults disk.new)) }
@@ -64,9 +64,9 @@ pub fn read_findings<D: Disk>(
 ) -> Result<Findings, RecoverFault>
     requires geometry { IsGeometry geometry.now }
     requires large { sector_count geometry.now ≤ D.size disk.old }
-    ensures found { IsTrue D.tells → (image : Image) → IsFolded overlay.now (reads (D.moments disk.old)) image → IfOk result (AreFindingsOf geometry.now image) }
+    ensures found { IsTrue D.visible → (image : Image) → IsFolded overlay.now (reads (D.moments disk.old)) image → IfOk result (AreFindingsOf geometry.now image) }
     ensures count { IfOk result (λ f. length f.forms ≡ geometry.now.inodes) }
-    ensures read_only { IsTrue D.tells → IsReadOnly D.keeps (D.moments disk.old) (D.moments disk.new) }
+    ensures read_only { IsTrue D.visible → IsReadOnly D.keeps (D.moments disk.old) (D.moments disk.new) }
     ensures size { D.size disk.new ≡ D.size disk.old }
     ensures passed { OnOk result (D.faults disk.new ≡ D.faults disk.old) }
     ensures cause { IfErr result (HasFaultCause (D.faults disk.old) (D.faults disk.new)) }

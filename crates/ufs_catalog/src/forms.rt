@@ -49,9 +49,9 @@ pub(crate) fn read_forms<D: Disk>(
 ) -> Result<Vec<Option<Inode>>, RecoverFault>
     requires geometry { IsGeometry geometry.now }
     requires large { sector_count geometry.now ≤ D.size disk.old }
-    ensures forms { IsTrue D.tells → (image : Image) → IsFolded overlay.now (reads (D.moments disk.old)) image → IfOk result (λ f. f.items ≡ map (inode_at geometry.now image) (all_inodes geometry.now)) }
+    ensures forms { IsTrue D.visible → (image : Image) → IsFolded overlay.now (reads (D.moments disk.old)) image → IfOk result (λ f. f.items ≡ map (inode_at geometry.now image) (all_inodes geometry.now)) }
     ensures count { IfOk result (λ f. length f.items ≡ geometry.now.inodes) }
-    ensures read_only { IsTrue D.tells → IsReadOnly D.keeps (D.moments disk.old) (D.moments disk.new) }
+    ensures read_only { IsTrue D.visible → IsReadOnly D.keeps (D.moments disk.old) (D.moments disk.new) }
     ensures size { D.size disk.new ≡ D.size disk.old }
     ensures passed { OnOk result (D.faults disk.new ≡ D.faults disk.old) }
     ensures cause { IfErr result (HasFaultCause (D.faults disk.old) (D.faults disk.new)) }

@@ -24,8 +24,8 @@ pub(crate) fn read_at<D: Disk>(
     buf: &mut [u8],
 ) -> Result<(), RecoverFault>
     requires { IsRange (D.size disk.old) sector (length buf.old) }
-    ensures bytes { IsTrue D.tells → OnOk result (buf.new ≡ bytes_from (reads (D.moments disk.old)) sector (length buf.old / 512)) }
-    ensures read_only { IsTrue D.tells → IsReadOnly D.keeps (D.moments disk.old) (D.moments disk.new) }
+    ensures bytes { IsTrue D.visible → OnOk result (buf.new ≡ bytes_from (reads (D.moments disk.old)) sector (length buf.old / 512)) }
+    ensures read_only { IsTrue D.visible → IsReadOnly D.keeps (D.moments disk.old) (D.moments disk.new) }
     ensures size { D.size disk.new ≡ D.size disk.old }
     ensures passed { OnOk result (D.faults disk.new ≡ D.faults disk.old) }
     ensures cause { IfErr result (HasFaultCause (D.faults disk.old) (D.faults disk.new)) }
@@ -72,9 +72,9 @@ pub fn read_block<D: Disk>(
     requires small { block < MAX_BLOCKS }
     requires inside { 8 * block + 8 ≤ D.size disk.old }
     requires sized { length buf.old ≡ BLOCK }
-    ensures bytes { IsTrue D.tells → (image : Image) → IsFolded overlay.now (reads (D.moments disk.old)) image → OnOk result (buf.new ≡ block_at image block) }
-    ensures sectors { IsTrue D.tells → (image : Image) → IsFolded overlay.now (reads (D.moments disk.old)) image → OnOk result (AreSectors image (8 * block) buf.new) }
-    ensures read_only { IsTrue D.tells → IsReadOnly D.keeps (D.moments disk.old) (D.moments disk.new) }
+    ensures bytes { IsTrue D.visible → (image : Image) → IsFolded overlay.now (reads (D.moments disk.old)) image → OnOk result (buf.new ≡ block_at image block) }
+    ensures sectors { IsTrue D.visible → (image : Image) → IsFolded overlay.now (reads (D.moments disk.old)) image → OnOk result (AreSectors image (8 * block) buf.new) }
+    ensures read_only { IsTrue D.visible → IsReadOnly D.keeps (D.moments disk.old) (D.moments disk.new) }
     ensures size { D.size disk.new ≡ D.size disk.old }
     ensures passed { OnOk result (D.faults disk.new ≡ D.faults disk.old) }
     ensures cause { IfErr result (HasFaultCause (D.faults disk.old) (D.faults disk.new)) }

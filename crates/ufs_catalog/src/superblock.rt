@@ -74,12 +74,12 @@ fn judge(sectors: u32, bytes: &[u8]) -> Result<ImageSuperblock, RecoverFault>
 
 /// The superblock of a disk, or the first reason why it is refused. Reads one sector.
 pub fn read_superblock<D: Disk>(disk: &mut D) -> Result<ImageSuperblock, RecoverFault>
-    ensures superblock { IsTrue D.tells → IfOk result (λ h. h.superblock ≡ superblock_of (reads (D.moments disk.old))) }
-    ensures taken { IsTrue D.tells → IfOk result (λ h. superblock_refusal (D.size disk.old) (reads (D.moments disk.old)) ≡ None) }
+    ensures superblock { IsTrue D.visible → IfOk result (λ h. h.superblock ≡ superblock_of (reads (D.moments disk.old))) }
+    ensures taken { IsTrue D.visible → IfOk result (λ h. superblock_refusal (D.size disk.old) (reads (D.moments disk.old)) ≡ None) }
     ensures large { IfOk result (λ h. sector_count h.geometry ≤ D.size disk.old) }
-    ensures refused { IsTrue D.tells → IfErr result (IsRefusal (superblock_refusal (D.size disk.old) (reads (D.moments disk.old)))) }
+    ensures refused { IsTrue D.visible → IfErr result (IsRefusal (superblock_refusal (D.size disk.old) (reads (D.moments disk.old)))) }
     ensures blames_none { IfErr result BlamesNone }
-    ensures read_only { IsTrue D.tells → IsReadOnly D.keeps (D.moments disk.old) (D.moments disk.new) }
+    ensures read_only { IsTrue D.visible → IsReadOnly D.keeps (D.moments disk.old) (D.moments disk.new) }
     ensures size { D.size disk.new ≡ D.size disk.old }
     ensures passed { OnOk result (D.faults disk.new ≡ D.faults disk.old) }
     ensures cause { IfErr result (HasFaultCause (D.faults disk.old) (D.faults disk.new)) }

@@ -52,8 +52,8 @@ fn compare_block<D: Disk>(
     requires few { place < 256 }
     requires there { block ≡ first_of_bitmap + place }
     requires inside { 8 * block + 8 ≤ D.size disk.old }
-    ensures told { IsTrue D.tells → (image : Image) → IsFolded overlay.now (reads (D.moments disk.old)) image → OnOk result ((g : Geometry) (nodes : List Node) → AreTaken g nodes taken.now → (n : ℕ) → n ≡ 8 * BLOCK → list.new ≡ list.old ++ map BitmapDiffers (differing g image nodes (range_with_len (32768 * place) n))) }
-    ensures read_only { IsTrue D.tells → IsReadOnly D.keeps (D.moments disk.old) (D.moments disk.new) }
+    ensures told { IsTrue D.visible → (image : Image) → IsFolded overlay.now (reads (D.moments disk.old)) image → OnOk result ((g : Geometry) (nodes : List Node) → AreTaken g nodes taken.now → (n : ℕ) → n ≡ 8 * BLOCK → list.new ≡ list.old ++ map BitmapDiffers (differing g image nodes (range_with_len (32768 * place) n))) }
+    ensures read_only { IsTrue D.visible → IsReadOnly D.keeps (D.moments disk.old) (D.moments disk.new) }
     ensures size { D.size disk.new ≡ D.size disk.old }
     ensures passed { OnOk result (D.faults disk.new ≡ D.faults disk.old) }
     ensures cause { IfErr result (HasFaultCause (D.faults disk.old) (D.faults disk.new)) }
@@ -77,8 +77,8 @@ pub(crate) fn compare_bits<D: Disk>(
 ) -> Result<(), RecoverFault>
     requires geometry { IsGeometry geometry.now }
     requires large { sector_count geometry.now ≤ D.size disk.old }
-    ensures told { IsTrue D.tells → (image : Image) → IsFolded overlay.now (reads (D.moments disk.old)) image → OnOk result ((nodes : List Node) → AreTaken geometry.now nodes taken.now → list.new ≡ list.old ++ map BitmapDiffers (differing geometry.now image nodes (all_bits geometry.now))) }
-    ensures read_only { IsTrue D.tells → IsReadOnly D.keeps (D.moments disk.old) (D.moments disk.new) }
+    ensures told { IsTrue D.visible → (image : Image) → IsFolded overlay.now (reads (D.moments disk.old)) image → OnOk result ((nodes : List Node) → AreTaken geometry.now nodes taken.now → list.new ≡ list.old ++ map BitmapDiffers (differing geometry.now image nodes (all_bits geometry.now))) }
+    ensures read_only { IsTrue D.visible → IsReadOnly D.keeps (D.moments disk.old) (D.moments disk.new) }
     ensures size { D.size disk.new ≡ D.size disk.old }
     ensures passed { OnOk result (D.faults disk.new ≡ D.faults disk.old) }
     ensures cause { IfErr result (HasFaultCause (D.faults disk.old) (D.faults disk.new)) }

@@ -46,9 +46,9 @@ fn told_of<D: Disk>(
 ) -> Result<(DamageList, TakenBlocks), RecoverFault>
     requires geometry { IsGeometry geometry.now }
     requires large { sector_count geometry.now ≤ D.size disk.old }
-    ensures list { IsTrue D.tells → (image : Image) → IsFolded overlay.now (reads (D.moments disk.old)) image → IfOk result (λ both. both.0 ≡ tree_damage geometry.now image) }
-    ensures taken { IsTrue D.tells → (image : Image) → IsFolded overlay.now (reads (D.moments disk.old)) image → IfOk result (λ both. AreTaken geometry.now (sound_nodes geometry.now image) both.1) }
-    ensures read_only { IsTrue D.tells → IsReadOnly D.keeps (D.moments disk.old) (D.moments disk.new) }
+    ensures list { IsTrue D.visible → (image : Image) → IsFolded overlay.now (reads (D.moments disk.old)) image → IfOk result (λ both. both.0 ≡ tree_damage geometry.now image) }
+    ensures taken { IsTrue D.visible → (image : Image) → IsFolded overlay.now (reads (D.moments disk.old)) image → IfOk result (λ both. AreTaken geometry.now (sound_nodes geometry.now image) both.1) }
+    ensures read_only { IsTrue D.visible → IsReadOnly D.keeps (D.moments disk.old) (D.moments disk.new) }
     ensures size { D.size disk.new ≡ D.size disk.old }
     ensures passed { OnOk result (D.faults disk.new ≡ D.faults disk.old) }
     ensures cause { IfErr result (HasFaultCause (D.faults disk.old) (D.faults disk.new)) }
@@ -68,8 +68,8 @@ fn check_volume<D: Disk>(
     volume: &FoldedVolume,
 ) -> Result<DamageList, RecoverFault>
     requires { sector_count volume.now.superblock.geometry ≤ D.size disk.old }
-    ensures list { IsTrue D.tells → (image : Image) → IsFolded volume.now.overlay (reads (D.moments disk.old)) image → IfOk result (λ list. list ≡ damage volume.now.superblock.superblock.clean volume.now.superblock.geometry image) }
-    ensures read_only { IsTrue D.tells → IsReadOnly D.keeps (D.moments disk.old) (D.moments disk.new) }
+    ensures list { IsTrue D.visible → (image : Image) → IsFolded volume.now.overlay (reads (D.moments disk.old)) image → IfOk result (λ list. list ≡ damage volume.now.superblock.superblock.clean volume.now.superblock.geometry image) }
+    ensures read_only { IsTrue D.visible → IsReadOnly D.keeps (D.moments disk.old) (D.moments disk.new) }
     ensures size { D.size disk.new ≡ D.size disk.old }
     ensures passed { OnOk result (D.faults disk.new ≡ D.faults disk.old) }
     ensures cause { IfErr result (HasFaultCause (D.faults disk.old) (D.faults disk.new)) }
@@ -88,10 +88,10 @@ fn check_volume<D: Disk>(
 /// Reads the journal, the inode table and the blocks of directories once, and on a clean image the bitmap; writes
 /// nothing. A damaged tree is never a refusal here.
 pub fn check<D: Disk>(alloc: Global, disk: &mut D) -> Result<DamageList, RecoverFault>
-    ensures list { IsTrue D.tells → IfOk result (λ list. damage_list (D.size disk.old) (reads (D.moments disk.old)) ≡ Ok list) }
-    ensures refused { IsTrue D.tells → IfErr result (IsWhyNot (damage_list (D.size disk.old) (reads (D.moments disk.old)))) }
+    ensures list { IsTrue D.visible → IfOk result (λ list. damage_list (D.size disk.old) (reads (D.moments disk.old)) ≡ Ok list) }
+    ensures refused { IsTrue D.visible → IfErr result (IsWhyNot (damage_list (D.size disk.old) (reads (D.moments disk.old)))) }
     ensures blames_none { IfErr result BlamesNone }
-    ensures read_only { IsTrue D.tells → IsReadOnly D.keeps (D.moments disk.old) (D.moments disk.new) }
+    ensures read_only { IsTrue D.visible → IsReadOnly D.keeps (D.moments disk.old) (D.moments disk.new) }
     ensures size { D.size disk.new ≡ D.size disk.old }
     ensures passed { OnOk result (D.faults disk.new ≡ D.faults disk.old) }
     ensures cause { IfErr result (HasFaultCause (D.faults disk.old) (D.faults disk.new)) }

@@ -21,9 +21,9 @@ reads moments = seen moments.state
 abbrev pub gone_to : State → Moments → Moments
 gone_to state moments = record { earlier = all moments; state = state }
 
--- of a disk that tells nothing
-abbrev pub untold : Moments
-untold = record { earlier = []; state = λ sector. record { older = []; seen = [] } }
+-- of a disk that isn't visible
+abbrev pub unseen : Moments
+unseen = record { earlier = []; state = λ sector. record { older = []; seen = [] } }
 
 -- From the old moment on the disk was only in states that have P.
 pub record Passes (P : State → Type 0) (old new : Moments) : Type 0 where

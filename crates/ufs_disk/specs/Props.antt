@@ -9,6 +9,6 @@ same_state_prop f g = hlevel props
 pub whole_prop : (size : ℕ) (state : State) → IsProp (IsWhole size state)
 whole_prop size state = hlevel props
 
--- a disk that doesn't tell or keep
+-- a disk that isn't visible and doesn't keep
 pub untrue : IsTrue false → ⊥
 untrue is = cc

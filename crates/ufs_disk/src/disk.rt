@@ -20,8 +20,8 @@ pub trait Disk {
     ghost use Rattle.ufs_disk.specs.Moments.{Moments, LeavesOnly, reads};
     ghost use Rattle.ufs_base.specs.Faults.{HasCause};
 
-    /// Whether contracts are told what it holds and what a crash may leave.
-    ghost tells: { Bool };
+    /// Whether contracts see what it holds and what a crash may leave.
+    ghost visible: { Bool };
 
     /// Whether `moments` has each state that it was in, and not only the one that it is in.
     ghost keeps: { Bool };
@@ -42,12 +42,12 @@ pub trait Disk {
     /// Reads the sectors from `sector` on that fill `buf`. After a fault `buf` may hold anything.
     fn read(&mut self, sector: u32, buf: &mut [u8]) -> Result<(), Fault>
         requires { IsRange (size self.old) sector (length buf.old) }
-        ensures bytes { IsTrue tells → OnOk result
+        ensures bytes { IsTrue visible → OnOk result
             (buf.new ≡ bytes_from (reads (moments self.old)) sector (length buf.old / 512)) }
-        ensures content { IsTrue tells → reads (moments self.new) ≡ reads (moments self.old) }
+        ensures content { IsTrue visible → reads (moments self.new) ≡ reads (moments self.old) }
 
         // At no moment of the call a crash leaves what it might not have left before.
-        ensures crash { IsTrue tells → LeavesOnly keeps (IsImage (moments self.old).state)
+        ensures crash { IsTrue visible → LeavesOnly keeps (IsImage (moments self.old).state)
             (moments self.old) (moments self.new) }
         ensures size { size self.new ≡ size self.old }
         ensures cause { HasCause (faults self.old) (faults self.new) result }
@@ -56,14 +56,14 @@ pub trait Disk {
     /// Writes the sectors from `sector` on. After a fault each of them has its new content or not.
     fn write(&mut self, sector: u32, bytes: &[u8]) -> Result<(), Fault>
         requires { IsRange (size self.old) sector (length bytes.now) }
-        ensures ok { IsTrue tells → OnOk result
+        ensures ok { IsTrue visible → OnOk result
             (reads (moments self.new) ≡ overwritten sector bytes.now (reads (moments self.old))) }
-        ensures content { IsTrue tells → Mixes (reads (moments self.old))
+        ensures content { IsTrue visible → Mixes (reads (moments self.old))
             (overwritten sector bytes.now (reads (moments self.old))) (reads (moments self.new)) }
 
         // At each moment of the call a crash leaves what it might have left before, with some of
         // the sectors written.
-        ensures crash { IsTrue tells → LeavesOnly keeps
+        ensures crash { IsTrue visible → LeavesOnly keeps
             (IsPartlyWritten sector bytes.now (moments self.old).state)
             (moments self.old) (moments self.new) }
         ensures size { size self.new ≡ size self.old }
@@ -72,9 +72,9 @@ pub trait Disk {
 
     /// Waits until all that was written is on the disk for good.
     fn barrier(&mut self) -> Result<(), Fault>
-        ensures ok { IsTrue tells → OnOk result (IsSettled (moments self.new).state) }
-        ensures content { IsTrue tells → reads (moments self.new) ≡ reads (moments self.old) }
-        ensures crash { IsTrue tells → LeavesOnly keeps (IsImage (moments self.old).state)
+        ensures ok { IsTrue visible → OnOk result (IsSettled (moments self.new).state) }
+        ensures content { IsTrue visible → reads (moments self.new) ≡ reads (moments self.old) }
+        ensures crash { IsTrue visible → LeavesOnly keeps (IsImage (moments self.old).state)
             (moments self.old) (moments self.new) }
         ensures size { size self.new ≡ size self.old }
         ensures cause { HasCause (faults self.old) (faults self.new) result }
@@ -84,5 +84,5 @@ pub trait Disk {
     ghost small: { (disk : Self) → size disk < 2 ^ 32 };
 
     /// Whatever a crash leaves in a sector is 512 bytes.
-    ghost whole: { IsTrue tells → (disk : Self) → IsWhole (size disk) (moments disk).state };
+    ghost whole: { IsTrue visible → (disk : Self) → IsWhole (size disk) (moments disk).state };
 }

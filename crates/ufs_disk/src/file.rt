@@ -1,5 +1,5 @@
 ghost use Rattle.std.specs.Prelude.{◌≡◌, ◌≤◌, ◌<◌, ◌+◌, ◌^◌, length, true, false, IsTrue, OnOk, IfErr, Some, None, IsSome};
-ghost use Rattle.ufs_disk.specs.Moments.{untold};
+ghost use Rattle.ufs_disk.specs.Moments.{unseen};
 ghost use Rattle.ufs_base.specs.Faults.{HasCause};
 ghost use Rattle.ufs_disk.specs.Props.{untrue};
 ghost use Rattle.std.proofs.Common.{rules};
@@ -24,7 +24,7 @@ enum Handle {
 
 /// A disk of `FILE_SECTORS` sectors over a file. The file is opened at the disk's first call, and
 /// made there where it is missing; where it can't be opened, that call and every later one fails.
-/// Past the file's end the disk reads zeros. Contracts aren't told what it holds. Each error of the
+/// Past the file's end the disk reads zeros. Contracts don't see what it holds. Each error of the
 /// system is a fault.
 #[derive(Drop)]
 pub struct FileDisk<'a, R: Files<File = File>> {
@@ -115,19 +115,19 @@ fn fill(file: &File, at: u64, buf: &mut [u8]) -> io::Result<()>
 impl<'a, R: Files<File = File>> Disk for FileDisk<'a, R> {
     ghost use Rattle.ufs_disk.specs.Disk.{IsRange};
 
-    ghost tells = { false };
+    ghost visible = { false };
 
     ghost keeps = { false };
 
     ghost size = { λ d. 524288 };
 
-    ghost moments = { λ d. untold };
+    ghost moments = { λ d. unseen };
 
     ghost faults = { λ d. d.faults };
 
     ghost small = { λ d. Prim.search rules };
 
-    ghost whole = { λ told d. absurd (untrue told) };
+    ghost whole = { λ visible d. absurd (untrue visible) };
 
     fn sectors(&self) -> u32 {
         FILE_SECTORS

@@ -46,7 +46,7 @@ impl PlainDisk {
 }
 
 impl Disk for PlainDisk {
-    ghost tells = { true };
+    ghost visible = { true };
 
     ghost keeps = { false };
 
@@ -58,7 +58,7 @@ impl Disk for PlainDisk {
 
     ghost small = { λ d. d.in_range };
 
-    ghost whole = { λ told d. begun_whole d.bytes.items d.sectors d.small_bytes d.sized };
+    ghost whole = { λ visible d. begun_whole d.bytes.items d.sectors d.small_bytes d.sized };
 
     fn sectors(&self) -> u32 {
         self.sectors

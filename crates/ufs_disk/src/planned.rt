@@ -103,7 +103,7 @@ impl<P: Plan + Drop> PlannedDisk<P> {
 }
 
 impl<P: Plan + Drop> Disk for PlannedDisk<P> {
-    ghost tells = { true };
+    ghost visible = { true };
 
     ghost keeps = { true };
 
@@ -115,7 +115,7 @@ impl<P: Plan + Drop> Disk for PlannedDisk<P> {
 
     ghost small = { λ d. d.medium.in_range };
 
-    ghost whole = { λ told d. d.medium.whole };
+    ghost whole = { λ visible d. d.medium.whole };
 
     fn sectors(&self) -> u32 {
         self.medium.sectors

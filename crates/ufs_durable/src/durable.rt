@@ -90,24 +90,24 @@ pub fn fsync<D: Door>(
     requires inode { is_inode_number (geometry_of_store (D.store door.old)) hand.old.inode ≡ true }
     requires blocks { AreDataBlocks (geometry_of_store (D.store door.old)) (blocks_of hand.old.extents) }
     requires dropped { MayReturn (D.store door.old).unassigned commits.old.dropped }
-    ensures crash { IsTrue D.tells → (records : List LogRecord) → IsDelta commits.old.log.inode commits.old.log.committed commits.old.log.noted records → commits.old.log.noted ≢ commits.old.log.committed
+    ensures crash { IsTrue D.visible → (records : List LogRecord) → IsDelta commits.old.log.inode commits.old.log.committed commits.old.log.noted records → commits.old.log.noted ≢ commits.old.log.committed
         → (l : Ledger) → HasLedger (D.store door.old) l → MayWriteAll l (writes_of hand.old) → MayCommitNext (D.store door.old) records l
         → (between : Moments) × LeavesOnly D.keeps (IsLeftByAny (D.store door.old).sectors (stages (at_moments between (D.store door.old)) records (with_writes (writes_of hand.old) l))) (D.store door.old).moments (D.store door.new).moments }
-    ensures ok { IsTrue D.tells → (records : List LogRecord) → IsDelta commits.old.log.inode commits.old.log.committed commits.old.log.noted records → commits.old.log.noted ≢ commits.old.log.committed
+    ensures ok { IsTrue D.visible → (records : List LogRecord) → IsDelta commits.old.log.inode commits.old.log.committed commits.old.log.noted records → commits.old.log.noted ≢ commits.old.log.committed
         → OnOk result ((l : Ledger) → HasLedger (D.store door.old) l → MayWriteAll l (writes_of hand.old) → MayCommitNext (D.store door.old) records l
         → HasCommitted (D.store door.old) (D.store door.new) records (with_writes (writes_of hand.old) l)) }
-    ensures device { IsTrue D.tells → (records : List LogRecord) → IsDelta commits.old.log.inode commits.old.log.committed commits.old.log.noted records → commits.old.log.noted ≢ commits.old.log.committed
+    ensures device { IsTrue D.visible → (records : List LogRecord) → IsDelta commits.old.log.inode commits.old.log.committed commits.old.log.noted records → commits.old.log.noted ≢ commits.old.log.committed
         → (fault : ℕ) → result ≡ Err (refusal.Device fault) → (l : Ledger) → HasLedger (D.store door.old) l → MayWriteAll l (writes_of hand.old) → MayCommitNext (D.store door.old) records l
         → HasTriedOne (D.store door.new) (writes_of hand.old) l ⊎ ((between : Moments) × HasAny (D.store door.new) (stages (at_moments between (D.store door.old)) records (with_writes (writes_of hand.old) l))) }
-    ensures memory { IsTrue D.tells → result ≡ Err refusal.Memory → (l : Ledger) → HasLedger (D.store door.old) l → MayWriteAll l (writes_of hand.old)
+    ensures memory { IsTrue D.visible → result ≡ Err refusal.Memory → (l : Ledger) → HasLedger (D.store door.old) l → MayWriteAll l (writes_of hand.old)
         → HasLedger (D.store door.new) (with_writes (writes_of hand.old) l) ⊎ ((between : Moments) × HasLedger (D.store door.new) (checkpointed (at_moments between (D.store door.old)) (with_writes (writes_of hand.old) l))) }
 
     // With nothing to commit but bytes.
-    ensures empty_crash { IsTrue D.tells → commits.old.log.noted ≡ commits.old.log.committed → (l : Ledger) → HasLedger (D.store door.old) l → MayWriteAll l (writes_of hand.old)
+    ensures empty_crash { IsTrue D.visible → commits.old.log.noted ≡ commits.old.log.committed → (l : Ledger) → HasLedger (D.store door.old) l → MayWriteAll l (writes_of hand.old)
         → LeavesOnly D.keeps (IsLeftBy (D.store door.old).sectors (with_writes (writes_of hand.old) l)) (D.store door.old).moments (D.store door.new).moments }
-    ensures empty_ok { IsTrue D.tells → commits.old.log.noted ≡ commits.old.log.committed
+    ensures empty_ok { IsTrue D.visible → commits.old.log.noted ≡ commits.old.log.committed
         → OnOk result ((l : Ledger) → HasLedger (D.store door.old) l → MayWriteAll l (writes_of hand.old) → HasLedger (D.store door.new) (settled (with_writes (writes_of hand.old) l))) }
-    ensures empty_device { IsTrue D.tells → commits.old.log.noted ≡ commits.old.log.committed
+    ensures empty_device { IsTrue D.visible → commits.old.log.noted ≡ commits.old.log.committed
         → OnErr result ((l : Ledger) → HasLedger (D.store door.old) l → MayWriteAll l (writes_of hand.old)
         → HasTriedOne (D.store door.new) (writes_of hand.old) l ⊎ IsLedgerOf (D.store door.new).sectors (D.store door.new).moments.state (with_writes (writes_of hand.old) l)) }
     ensures nothing { commits.old.log.noted ≡ commits.old.log.committed → writes_of hand.old ≡ [] → (D.store door.old).unsettled ≡ false

@@ -15,10 +15,10 @@ use ufs_store::{Door, StoreFault};
 /// Writes each dirty block, in the order of the file, up to the first write that fails.
 pub(crate) fn write_dirty<D: Door>(hand: &FileHand, door: &mut D) -> Result<(), StoreFault>
     requires blocks { AreDataBlocks (geometry_of_store (D.store door.old)) (blocks_of hand.now.extents) }
-    ensures crash { IsTrue D.tells → (l : Ledger) → HasLedger (D.store door.old) l → MayWriteAll l (writes_of hand.now)
+    ensures crash { IsTrue D.visible → (l : Ledger) → HasLedger (D.store door.old) l → MayWriteAll l (writes_of hand.now)
         → LeavesOnly D.keeps (IsLeftBy (D.store door.old).sectors (with_writes (writes_of hand.now) l)) (D.store door.old).moments (D.store door.new).moments }
-    ensures ok { IsTrue D.tells → OnOk result ((l : Ledger) → HasLedger (D.store door.old) l → MayWriteAll l (writes_of hand.now) → HasLedger (D.store door.new) (with_writes (writes_of hand.now) l)) }
-    ensures err { IsTrue D.tells → OnErr result ((l : Ledger) → HasLedger (D.store door.old) l → MayWriteAll l (writes_of hand.now) → HasTriedOne (D.store door.new) (writes_of hand.now) l) }
+    ensures ok { IsTrue D.visible → OnOk result ((l : Ledger) → HasLedger (D.store door.old) l → MayWriteAll l (writes_of hand.now) → HasLedger (D.store door.new) (with_writes (writes_of hand.now) l)) }
+    ensures err { IsTrue D.visible → OnErr result ((l : Ledger) → HasLedger (D.store door.old) l → MayWriteAll l (writes_of hand.now) → HasTriedOne (D.store door.new) (writes_of hand.now) l) }
     ensures nothing { writes_of hand.now ≡ [] → D.store door.new ≡ D.store door.old }
     ensures passed { OnOk result (D.store door.new ≡ record (D.store door.old) { moments = (D.store door.new).moments; unsettled = (D.store door.new).unsettled }) }
     ensures rest { D.store door.new ≡ record (D.store door.old) { moments = (D.store door.new).moments; faults = (D.store door.new).faults; unsettled = (D.store door.new).unsettled; stop = (D.store door.new).stop } }
@@ -40,10 +40,10 @@ fn write_place<D: Door>(hand: &FileHand, place: u32, door: &mut D) -> Result<(),
     requires blocks { AreDataBlocks (geometry_of_store (D.store door.old)) (blocks_of hand.now.extents) }
     requires there { place < length (blocks_of hand.now.extents) }
     requires marked { place < length hand.now.content.dirty }
-    ensures crash { IsTrue D.tells → (l : Ledger) → HasLedger (D.store door.old) l → MayWriteAll l (write_at hand.now place)
+    ensures crash { IsTrue D.visible → (l : Ledger) → HasLedger (D.store door.old) l → MayWriteAll l (write_at hand.now place)
         → LeavesOnly D.keeps (IsLeftBy (D.store door.old).sectors (with_writes (write_at hand.now place) l)) (D.store door.old).moments (D.store door.new).moments }
-    ensures ok { IsTrue D.tells → OnOk result ((l : Ledger) → HasLedger (D.store door.old) l → MayWriteAll l (write_at hand.now place) → HasLedger (D.store door.new) (with_writes (write_at hand.now place) l)) }
-    ensures err { IsTrue D.tells → OnErr result ((l : Ledger) → HasLedger (D.store door.old) l → MayWriteAll l (write_at hand.now place) → HasTriedOne (D.store door.new) (write_at hand.now place) l) }
+    ensures ok { IsTrue D.visible → OnOk result ((l : Ledger) → HasLedger (D.store door.old) l → MayWriteAll l (write_at hand.now place) → HasLedger (D.store door.new) (with_writes (write_at hand.now place) l)) }
+    ensures err { IsTrue D.visible → OnErr result ((l : Ledger) → HasLedger (D.store door.old) l → MayWriteAll l (write_at hand.now place) → HasTriedOne (D.store door.new) (write_at hand.now place) l) }
     ensures nothing { write_at hand.now place ≡ [] → D.store door.new ≡ D.store door.old }
     ensures passed { OnOk result (D.store door.new ≡ record (D.store door.old) { moments = (D.store door.new).moments; unsettled = (D.store door.new).unsettled }) }
     ensures rest { D.store door.new ≡ record (D.store door.old) { moments = (D.store door.new).moments; faults = (D.store door.new).faults; unsettled = (D.store door.new).unsettled; stop = (D.store door.new).stop } }
@@ -65,10 +65,10 @@ fn write_one<D: Door>(hand: &FileHand, place: u32, door: &mut D) -> Result<(), S
     requires blocks { AreDataBlocks (geometry_of_store (D.store door.old)) (blocks_of hand.now.extents) }
     requires there { place < length (blocks_of hand.now.extents) }
     requires marked { place < length hand.now.content.dirty }
-    ensures crash { IsTrue D.tells → (l : Ledger) → HasLedger (D.store door.old) l → MayWriteAll l (write_of hand.now place ∷ [])
+    ensures crash { IsTrue D.visible → (l : Ledger) → HasLedger (D.store door.old) l → MayWriteAll l (write_of hand.now place ∷ [])
         → LeavesOnly D.keeps (IsLeftBy (D.store door.old).sectors (with_writes (write_of hand.now place ∷ []) l)) (D.store door.old).moments (D.store door.new).moments }
-    ensures ok { IsTrue D.tells → OnOk result ((l : Ledger) → HasLedger (D.store door.old) l → MayWriteAll l (write_of hand.now place ∷ []) → HasLedger (D.store door.new) (with_writes (write_of hand.now place ∷ []) l)) }
-    ensures err { IsTrue D.tells → OnErr result ((l : Ledger) → HasLedger (D.store door.old) l → MayWriteAll l (write_of hand.now place ∷ []) → HasTriedOne (D.store door.new) (write_of hand.now place ∷ []) l) }
+    ensures ok { IsTrue D.visible → OnOk result ((l : Ledger) → HasLedger (D.store door.old) l → MayWriteAll l (write_of hand.now place ∷ []) → HasLedger (D.store door.new) (with_writes (write_of hand.now place ∷ []) l)) }
+    ensures err { IsTrue D.visible → OnErr result ((l : Ledger) → HasLedger (D.store door.old) l → MayWriteAll l (write_of hand.now place ∷ []) → HasTriedOne (D.store door.new) (write_of hand.now place ∷ []) l) }
     ensures passed { OnOk result (D.store door.new ≡ record (D.store door.old) { moments = (D.store door.new).moments; unsettled = (D.store door.new).unsettled }) }
     ensures rest { D.store door.new ≡ record (D.store door.old) { moments = (D.store door.new).moments; faults = (D.store door.new).faults; unsettled = (D.store door.new).unsettled; stop = (D.store door.new).stop } }
     ensures stopped { (fault : ℕ) → (D.store door.old).stop ≡ Some fault → result ≡ Err (refusal.Stopped fault) }

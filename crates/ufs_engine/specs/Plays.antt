@@ -16,9 +16,9 @@ use Rattle.ufs_recovery.specs.Recovered.{IsProperDisk}
 use Rattle.ufs_session.specs.Played.{IsPlayedFrom}
 use Rattle.ufs_session.specs.Told.{AreToldStop, devices_in}
 
--- what the promise asks of the disk as the session begins: it tells what it holds, and is proper
-pub record MayPlay (tells : Bool) (sectors : ℕ) (state : State) : Type 0 where
-  pub told : IsTrue tells
+-- what the promise asks of the disk as the session begins: it is visible, and is proper
+pub record MayPlay (visible : Bool) (sectors : ℕ) (state : State) : Type 0 where
+  pub is_visible : IsTrue visible
   pub proper : IsProperDisk sectors state
 
 -- how the serving ended: a fault of the closing comes behind it

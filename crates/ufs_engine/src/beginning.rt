@@ -53,22 +53,22 @@ pub fn begin<D: Disk>(alloc: Global, mut disk: D) -> Result<Begun<D>, Unbegun<D>
     ensures going { IfOk result (λ b. (⟦<Store<D> as Door>⟧.store b.store).stop ≡ None) }
     ensures size { IfOk result (λ b. (⟦<Store<D> as Door>⟧.store b.store).sectors ≡ D.size disk) }
     ensures passed { IfOk result (λ b. (⟦<Store<D> as Door>⟧.store b.store).faults ≡ D.faults disk) }
-    ensures stands { IsTrue D.tells → OnOk result ((tree : ImageTree) × (opens (D.size disk) (reads (D.moments disk)) ≡ Ok tree)) }
-    ensures unopened { IsTrue D.tells → (refusal : Refusal) → opens (D.size disk) (reads (D.moments disk)) ≡ Err refusal
+    ensures stands { IsTrue D.visible → OnOk result ((tree : ImageTree) × (opens (D.size disk) (reads (D.moments disk)) ≡ Ok tree)) }
+    ensures unopened { IsTrue D.visible → (refusal : Refusal) → opens (D.size disk) (reads (D.moments disk)) ≡ Err refusal
         → IfErr result (λ u. (fault : RecoverFault) × (u.fault ≡ start.Image fault) × TellsWhy (D.size disk) (reads (D.moments disk)) fault) }
     ensures err_size { IfErr result (λ u. D.size u.disk ≡ D.size disk) }
     ensures cause { IfErr result (λ u. HasStartCause (D.faults disk) (D.faults u.disk) u.fault) }
-    // over a disk that tells what it holds and is proper
-    ensures opened { IsTrue D.tells → IsProperDisk (D.size disk) (D.moments disk).state → (start : PosixTree) × BeginsWith (D.size disk) (reads (D.moments disk)) start }
-    ensures parts { IsTrue D.tells → IsProperDisk (D.size disk) (D.moments disk).state → (start : PosixTree) → BeginsWith (D.size disk) (reads (D.moments disk)) start
+    // over a visible disk that is proper
+    ensures opened { IsTrue D.visible → IsProperDisk (D.size disk) (D.moments disk).state → (start : PosixTree) × BeginsWith (D.size disk) (reads (D.moments disk)) start }
+    ensures parts { IsTrue D.visible → IsProperDisk (D.size disk) (D.moments disk).state → (start : PosixTree) → BeginsWith (D.size disk) (reads (D.moments disk)) start
         → IfOk result (λ b. MayBegin b.server start) }
-    ensures on_disk { IsTrue D.tells → IsProperDisk (D.size disk) (D.moments disk).state → (start : PosixTree) → BeginsWith (D.size disk) (reads (D.moments disk)) start
+    ensures on_disk { IsTrue D.visible → IsProperDisk (D.size disk) (D.moments disk).state → (start : PosixTree) → BeginsWith (D.size disk) (reads (D.moments disk)) start
         → IfOk result (λ b. IsOnDisk (⟦<Store<D> as Door>⟧.store b.store) start [] b.server) }
-    ensures moments { IsTrue D.tells → IsProperDisk (D.size disk) (D.moments disk).state → (start : PosixTree) → BeginsWith (D.size disk) (reads (D.moments disk)) start
+    ensures moments { IsTrue D.visible → IsProperDisk (D.size disk) (D.moments disk).state → (start : PosixTree) → BeginsWith (D.size disk) (reads (D.moments disk)) start
         → IfOk result (λ b. IsExplainedBetween D.keeps (D.size disk) start [] (D.moments disk) (⟦<Store<D> as Door>⟧.store b.store).moments) }
-    ensures err_moments { IsTrue D.tells → IsProperDisk (D.size disk) (D.moments disk).state → (start : PosixTree) → BeginsWith (D.size disk) (reads (D.moments disk)) start
+    ensures err_moments { IsTrue D.visible → IsProperDisk (D.size disk) (D.moments disk).state → (start : PosixTree) → BeginsWith (D.size disk) (reads (D.moments disk)) start
         → IfErr result (λ u. IsExplainedBetween D.keeps (D.size disk) start [] (D.moments disk) (D.moments u.disk)) }
-    ensures refused { IsTrue D.tells → IsProperDisk (D.size disk) (D.moments disk).state → IfErr result (λ u. TellsNoSession (D.size disk) (reads (D.moments disk)) u.fault) }
+    ensures refused { IsTrue D.visible → IsProperDisk (D.size disk) (D.moments disk).state → IfErr result (λ u. TellsNoSession (D.size disk) (reads (D.moments disk)) u.fault) }
 {
     a_request_keeps_the_tree();
     match recover(alloc, &mut disk) {
@@ -80,7 +80,7 @@ pub fn begin<D: Disk>(alloc: Global, mut disk: D) -> Result<Begun<D>, Unbegun<D>
     }
 }
 
-// The same of a disk whose image is clean, or which tells nothing.
+// The same of a disk whose image is clean, or which isn't visible.
 fn begin_clean<D: Disk>(alloc: Global, mut disk: D) -> Result<Begun<D>, Unbegun<D>>
     ensures may { IfOk result (λ b. (start : PosixTree) × MayBegin b.server start) }
     ensures sound { IfOk result (λ b. IsSoundServer (geometry_of_store (⟦<Store<D> as Door>⟧.store b.store)) (⟦<Store<D> as Door>⟧.store b.store).unassigned.free b.server) }
@@ -89,14 +89,14 @@ fn begin_clean<D: Disk>(alloc: Global, mut disk: D) -> Result<Begun<D>, Unbegun<
     ensures passed { IfOk result (λ b. (⟦<Store<D> as Door>⟧.store b.store).faults ≡ D.faults disk) }
     ensures err_size { IfErr result (λ u. D.size u.disk ≡ D.size disk) }
     ensures cause { IfErr result (λ u. HasStartCause (D.faults disk) (D.faults u.disk) u.fault) }
-    ensures parts { IsTrue D.tells → (start : PosixTree) → BeginsWith (D.size disk) (reads (D.moments disk)) start → IfOk result (λ b. MayBegin b.server start) }
-    ensures on_disk { IsTrue D.tells → IsCleanDisk (D.size disk) (D.moments disk).state → (start : PosixTree) → BeginsWith (D.size disk) (reads (D.moments disk)) start
+    ensures parts { IsTrue D.visible → (start : PosixTree) → BeginsWith (D.size disk) (reads (D.moments disk)) start → IfOk result (λ b. MayBegin b.server start) }
+    ensures on_disk { IsTrue D.visible → IsCleanDisk (D.size disk) (D.moments disk).state → (start : PosixTree) → BeginsWith (D.size disk) (reads (D.moments disk)) start
         → IfOk result (λ b. IsOnDisk (⟦<Store<D> as Door>⟧.store b.store) start [] b.server) }
-    ensures moments { IsTrue D.tells → IsCleanDisk (D.size disk) (D.moments disk).state → (start : PosixTree) → BeginsWith (D.size disk) (reads (D.moments disk)) start
+    ensures moments { IsTrue D.visible → IsCleanDisk (D.size disk) (D.moments disk).state → (start : PosixTree) → BeginsWith (D.size disk) (reads (D.moments disk)) start
         → IfOk result (λ b. IsExplainedBetween D.keeps (D.size disk) start [] (D.moments disk) (⟦<Store<D> as Door>⟧.store b.store).moments) }
-    ensures err_moments { IsTrue D.tells → IsCleanDisk (D.size disk) (D.moments disk).state → (start : PosixTree) → BeginsWith (D.size disk) (reads (D.moments disk)) start
+    ensures err_moments { IsTrue D.visible → IsCleanDisk (D.size disk) (D.moments disk).state → (start : PosixTree) → BeginsWith (D.size disk) (reads (D.moments disk)) start
         → IfErr result (λ u. IsExplainedBetween D.keeps (D.size disk) start [] (D.moments disk) (D.moments u.disk)) }
-    ensures refused { IsTrue D.tells → IfErr result (λ u. TellsNoSession (D.size disk) (reads (D.moments disk)) u.fault) }
+    ensures refused { IsTrue D.visible → IfErr result (λ u. TellsNoSession (D.size disk) (reads (D.moments disk)) u.fault) }
 {
     a_request_keeps_the_tree();
     match start_of(alloc, &mut disk) {
@@ -116,12 +116,12 @@ fn mount<D: Disk>(alloc: Global, disk: D, parts: Start) -> Result<Begun<D>, Unbe
     ensures err_size { IfErr result (λ u. D.size u.disk ≡ D.size disk) }
     ensures cause { IfErr result (λ u. HasStartCause (D.faults disk) (D.faults u.disk) u.fault) }
     ensures outside { IfErr result (λ u. (fault : RecoverFault) × (u.fault ≡ start.Image fault) × IsOutside fault) }
-    ensures on_disk { IsTrue D.tells → IsCleanDisk (D.size disk) (D.moments disk).state → IsBegun (D.size disk) (reads (D.moments disk)) parts
+    ensures on_disk { IsTrue D.visible → IsCleanDisk (D.size disk) (D.moments disk).state → IsBegun (D.size disk) (reads (D.moments disk)) parts
         → (start : PosixTree) → BeginsWith (D.size disk) (reads (D.moments disk)) start → IfOk result (λ b. IsOnDisk (⟦<Store<D> as Door>⟧.store b.store) start [] b.server) }
-    ensures moments { IsTrue D.tells → IsCleanDisk (D.size disk) (D.moments disk).state → IsBegun (D.size disk) (reads (D.moments disk)) parts
+    ensures moments { IsTrue D.visible → IsCleanDisk (D.size disk) (D.moments disk).state → IsBegun (D.size disk) (reads (D.moments disk)) parts
         → (start : PosixTree) → BeginsWith (D.size disk) (reads (D.moments disk)) start
         → IfOk result (λ b. IsExplainedBetween D.keeps (D.size disk) start [] (D.moments disk) (⟦<Store<D> as Door>⟧.store b.store).moments) }
-    ensures err_moments { IsTrue D.tells → IsCleanDisk (D.size disk) (D.moments disk).state → IsBegun (D.size disk) (reads (D.moments disk)) parts
+    ensures err_moments { IsTrue D.visible → IsCleanDisk (D.size disk) (D.moments disk).state → IsBegun (D.size disk) (reads (D.moments disk)) parts
         → (start : PosixTree) → BeginsWith (D.size disk) (reads (D.moments disk)) start
         → IfErr result (λ u. IsExplainedBetween D.keeps (D.size disk) start [] (D.moments disk) (D.moments u.disk)) }
 {

@@ -49,11 +49,11 @@ pub struct Closed<D: Disk> {
 /// it, what a crash leaves at each moment is explained by the history, and proper.
 pub fn close<D: Disk>(alloc: Global, server: DiskServer, store: Store<D>) -> Closed<D>
     requires sound { IsSoundServer (geometry_of_store (⟦<Store<D> as Door>⟧.store store)) (⟦<Store<D> as Door>⟧.store store).unassigned.free server }
-    ensures moments { IsTrue D.tells → (start : PosixTree) (history : List Entry) → IsOnDisk (⟦<Store<D> as Door>⟧.store store) start history server
+    ensures moments { IsTrue D.visible → (start : PosixTree) (history : List Entry) → IsOnDisk (⟦<Store<D> as Door>⟧.store store) start history server
         → IsExplainedBetween D.keeps (⟦<Store<D> as Door>⟧.store store).sectors start history (⟦<Store<D> as Door>⟧.store store).moments (D.moments result.disk) }
-    ensures clean { IsTrue D.tells → OnOk result.ended ((start : PosixTree) (history : List Entry) → IsOnDisk (⟦<Store<D> as Door>⟧.store store) start history server
+    ensures clean { IsTrue D.visible → OnOk result.ended ((start : PosixTree) (history : List Entry) → IsOnDisk (⟦<Store<D> as Door>⟧.store store) start history server
         → IsCleanDisk (⟦<Store<D> as Door>⟧.store store).sectors (D.moments result.disk).state) }
-    ensures last { IsTrue D.tells → OnOk result.ended ((start : PosixTree) (history : List Entry) → IsOnDisk (⟦<Store<D> as Door>⟧.store store) start history server
+    ensures last { IsTrue D.visible → OnOk result.ended ((start : PosixTree) (history : List Entry) → IsOnDisk (⟦<Store<D> as Door>⟧.store store) start history server
         → StandsForTree (⟦<Store<D> as Door>⟧.store store).sectors (tree_after start history) (reads (D.moments result.disk))) }
     ensures size { D.size result.disk ≡ (⟦<Store<D> as Door>⟧.store store).sectors }
     ensures cause { IsTold (⟦<Store<D> as Door>⟧.store store).faults (D.faults result.disk) (closing_fault result.ended) }
@@ -77,9 +77,9 @@ pub fn close<D: Disk>(alloc: Global, server: DiskServer, store: Store<D>) -> Clo
 
 // Waits for what was written, and makes the image clean.
 fn clean<D: Disk>(alloc: Global, disk: &mut D) -> Result<(), CloseFault>
-    ensures tree { IsTrue D.tells → Leaves (IsProperImage (D.size disk.old)) (D.moments disk.old).state
+    ensures tree { IsTrue D.visible → Leaves (IsProperImage (D.size disk.old)) (D.moments disk.old).state
         → LeavesOnly D.keeps (OpensAsLeft (D.size disk.old) (D.moments disk.old).state) (D.moments disk.old) (D.moments disk.new) }
-    ensures clean { IsTrue D.tells → OnOk result (Leaves (IsProperImage (D.size disk.old)) (D.moments disk.old).state → IsCleanDisk (D.size disk.old) (D.moments disk.new).state) }
+    ensures clean { IsTrue D.visible → OnOk result (Leaves (IsProperImage (D.size disk.old)) (D.moments disk.old).state → IsCleanDisk (D.size disk.old) (D.moments disk.new).state) }
     ensures size { D.size disk.new ≡ D.size disk.old }
     ensures cause { IsTold (D.faults disk.old) (D.faults disk.new) (closing_fault result) }
     ensures going { IfErr result (λ fault. stopped_at fault ≡ None) }

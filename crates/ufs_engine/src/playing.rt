@@ -68,24 +68,24 @@ pub fn play<D: Disk>(alloc: Global, script: Script, _lease: u32, disk: D) -> Pla
     ensures outside { result.ended ≢ Err (ending.Image (start.Image image.Memory)) }
     ensures opening { (fault : StartFault) → result.ended ≡ Err (ending.Image fault) → HasStartCause (D.faults disk) (D.faults result.disk) fault }
     ensures faults { AreFaultsOf (D.faults disk) (joined result.told) }
-    ensures unopened { IsTrue D.tells → (refusal : Refusal) → opens (D.size disk) (reads (D.moments disk)) ≡ Err refusal
+    ensures unopened { IsTrue D.visible → (refusal : Refusal) → opens (D.size disk) (reads (D.moments disk)) ≡ Err refusal
         → (result.ended ≡ Err ending.Memory) ⊎ ((fault : RecoverFault) × (result.ended ≡ Err (ending.Image (start.Image fault))) × TellsWhy (D.size disk) (reads (D.moments disk)) fault) }
     ensures closing { IsEndFault (D.faults disk) (D.faults result.disk) (joined result.told) result.ended }
     ensures calm { OnOk result.ended (D.faults result.disk ≡ D.faults disk) }
     ensures size { D.size result.disk ≡ D.size disk }
-    // over a proper disk that tells what it holds: the tree that its image stands for gives them
-    ensures played { MayPlay D.tells (D.size disk) (D.moments disk).state → (start : PosixTree) → BeginsWith (D.size disk) (reads (D.moments disk)) start
+    // over a proper visible disk: the tree that its image stands for gives them
+    ensures played { MayPlay D.visible (D.size disk) (D.moments disk).state → (start : PosixTree) → BeginsWith (D.size disk) (reads (D.moments disk)) start
         → IsPlayedFrom start script.clients result.told (served_end result.ended) (joined result.told) }
-    ensures opened { MayPlay D.tells (D.size disk) (D.moments disk).state → (start : PosixTree) × BeginsWith (D.size disk) (reads (D.moments disk)) start }
-    ensures crash { MayPlay D.tells (D.size disk) (D.moments disk).state → (start : PosixTree) → BeginsWith (D.size disk) (reads (D.moments disk)) start
+    ensures opened { MayPlay D.visible (D.size disk) (D.moments disk).state → (start : PosixTree) × BeginsWith (D.size disk) (reads (D.moments disk)) start }
+    ensures crash { MayPlay D.visible (D.size disk) (D.moments disk).state → (start : PosixTree) → BeginsWith (D.size disk) (reads (D.moments disk)) start
         → Leaves (OpensExplained (D.size disk) start (joined result.told)) (D.moments result.disk).state }
-    ensures proper { MayPlay D.tells (D.size disk) (D.moments disk).state → Leaves (IsProperImage (D.size disk)) (D.moments result.disk).state }
-    ensures moments { MayPlay D.tells (D.size disk) (D.moments disk).state → (start : PosixTree) → BeginsWith (D.size disk) (reads (D.moments disk)) start
+    ensures proper { MayPlay D.visible (D.size disk) (D.moments disk).state → Leaves (IsProperImage (D.size disk)) (D.moments result.disk).state }
+    ensures moments { MayPlay D.visible (D.size disk) (D.moments disk).state → (start : PosixTree) → BeginsWith (D.size disk) (reads (D.moments disk)) start
         → IsExplainedThroughout D.keeps (D.size disk) start [] (joined result.told) (D.moments disk) (D.moments result.disk) }
-    ensures clean { MayPlay D.tells (D.size disk) (D.moments disk).state → OnOk result.ended (IsCleanDisk (D.size disk) (D.moments result.disk).state) }
-    ensures last { MayPlay D.tells (D.size disk) (D.moments disk).state → (start : PosixTree) → BeginsWith (D.size disk) (reads (D.moments disk)) start
+    ensures clean { MayPlay D.visible (D.size disk) (D.moments disk).state → OnOk result.ended (IsCleanDisk (D.size disk) (D.moments result.disk).state) }
+    ensures last { MayPlay D.visible (D.size disk) (D.moments disk).state → (start : PosixTree) → BeginsWith (D.size disk) (reads (D.moments disk)) start
         → OnOk result.ended (StandsForTree (D.size disk) (tree_after start (joined result.told)) (reads (D.moments result.disk))) }
-    ensures why { MayPlay D.tells (D.size disk) (D.moments disk).state → (fault : StartFault) → result.ended ≡ Err (ending.Image fault) → TellsNoSession (D.size disk) (reads (D.moments disk)) fault }
+    ensures why { MayPlay D.visible (D.size disk) (D.moments disk).state → (fault : StartFault) → result.ended ≡ Err (ending.Image fault) → TellsNoSession (D.size disk) (reads (D.moments disk)) fault }
 {
     match begin(alloc, disk) {
         Ok(begun) => {

@@ -14,7 +14,7 @@ pub struct TornDisk {
 }
 
 impl Disk for TornDisk {
-    ghost tells = { true };
+    ghost visible = { true };
 
     ghost keeps = { false };
 
@@ -26,7 +26,7 @@ impl Disk for TornDisk {
 
     ghost small = { λ d. d.disk.in_range };
 
-    ghost whole = { λ told d. begun_whole d.disk.bytes.items d.disk.sectors d.disk.small_bytes d.disk.sized };
+    ghost whole = { λ visible d. begun_whole d.disk.bytes.items d.disk.sectors d.disk.small_bytes d.disk.sized };
 
     fn sectors(&self) -> u32 {
         self.disk.sectors()

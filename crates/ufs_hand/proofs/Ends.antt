@@ -30,5 +30,5 @@ at_close keeps k v id words slots n f all at =
       store = all.store;
       has_store = all.has_store;
       whole = whole;
-      durable = λ told. durable k ruled.word v all.store told whole;
+      durable = λ visible. durable k ruled.word v all.store visible whole;
     })

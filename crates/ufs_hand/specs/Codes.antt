@@ -8,7 +8,7 @@ use Rattle.ufs_sound.specs.Parts.{Start, View}
 use Rattle.ufs_hand.specs.Session.{Session}
 
 abbrev pub start_code : Coded Start
-start_code = code_by (PosixTree × (View × Bool)) (coded× tree_code (coded× view_code coded_bool)) (λ k. (k.tree, (k.view, k.is_told))) (λ p. record { tree = p.0; view = p.1.0; is_told = p.1.1 }) (λ _. refl)
+start_code = code_by (PosixTree × (View × Bool)) (coded× tree_code (coded× view_code coded_bool)) (λ k. (k.tree, (k.view, k.is_visible))) (λ p. record { tree = p.0; view = p.1.0; is_visible = p.1.1 }) (λ _. refl)
 
 abbrev pub session_code : Coded Session
 session_code = code_by (TableId × Start) (coded× table_id_coded start_code) (λ s. (s.table, s.start)) (λ p. record { table = p.0; start = p.1 }) (λ _. refl)

@@ -17,7 +17,7 @@ use Rattle.ufs_hand.specs.declared.hand.Drawn.{Drawn}
 use Rattle.ufs_hand.specs.declared.hand.Drawn.TheVariants as drew
 use Rattle.ufs_sound.specs.Rule.{clock_step, word_at, IsSeenBy}
 use Rattle.ufs_sound.specs.Durable.{IsDurable}
-use Rattle.ufs_sound.specs.Parts.{IsDiskTold, NamesPart, StorePart, Start, View, Word, spent}
+use Rattle.ufs_sound.specs.Parts.{IsDiskVisible, NamesPart, StorePart, Start, View, Word, spent}
 use Rattle.ufs_sound.specs.Leasing.{MayGrant, granting, MayGiveBack, giving_back}
 use Rattle.ufs_sound.specs.Marks.{MayAsk, asking, MayRemake}
 use Rattle.ufs_sound.specs.Whole.{CanOpen, IsWhole}
@@ -41,12 +41,12 @@ abbrev pub word_of : ℕ → ℕ → Word
 word_of tickets clock = record { tickets = tickets; clock = clock }
 
 -- The hand with every part knows one whole history; and every image that the disk can have left since the opening is
--- explained by it, where the disk tells what it holds.
+-- explained by it, where the disk is visible.
 pub record KnowsAll (k : Start) (tickets clock : ℕ) (v : View) : Type 0 where
   pub store : StorePart
   pub has_store : v.store ≡ (tt, store) ∷ []
   pub whole : IsWhole by_images k (word_of tickets clock) v store
-  pub durable : IsDiskTold k → IsDurable k (word_of tickets clock) v store
+  pub durable : IsDiskVisible k → IsDurable k (word_of tickets clock) v store
 
 -- ---- a draw under a lease
 
@@ -97,7 +97,7 @@ abbrev pub no_table : TableId
 no_table = record { words = 0; slots = 0; views_name = 0; atom = 0; block = 0; offset = 0; slot_names = [] }
 
 abbrev pub no_start : Start
-no_start = record { tree = root_alone; view = spent; is_told = false }
+no_start = record { tree = root_alone; view = spent; is_visible = false }
 
 abbrev pub leaves_nothing : Leaves
 leaves_nothing = record { fds = fin.empty; files = []; names = [] }

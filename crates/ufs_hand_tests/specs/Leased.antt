@@ -1,4 +1,4 @@
--- A session of one client over a disk that has one file and tells nothing: it opens the file, gets a lease on it, and reads
+-- A session of one client over a disk that has one file and isn't visible: it opens the file, gets a lease on it, and reads
 -- under the lease.
 use Rattle.std.specs.Prelude.{ℕ, false, [], ◌∷◌, None}
 use Rattle.std.specs.FinMap as fin
@@ -20,7 +20,7 @@ use Rattle.ufs_sound.specs.Parts.{ClientPart, Start, View}
 use Rattle.ufs_sound.specs.Whole.{idle_client}
 
 abbrev pub one_file : Start
-one_file = record { tree = opened_tree (session.disk small_disk); view = session.opened small_disk; is_told = false }
+one_file = record { tree = opened_tree (session.disk small_disk); view = session.opened small_disk; is_visible = false }
 
 abbrev pub open_asked : ℕ → View
 open_asked tickets = asking tickets 0 (session.open_request small_disk) [] idle_client (session.opened small_disk)

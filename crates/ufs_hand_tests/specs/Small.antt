@@ -1,4 +1,4 @@
--- A session of one client over a disk that tells nothing.
+-- A session of one client over a disk that isn't visible.
 use Rattle.std.specs.Prelude.{ℕ, []}
 use Rattle.ufs_layout.specs.declared.geometry.Geometry.{Geometry}
 use Rattle.ufs_model.specs.declared.data.Op.TheVariants.{Sync}

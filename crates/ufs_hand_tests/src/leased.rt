@@ -1,4 +1,4 @@
-// One client opens a file, gets a lease on it, and reads under the lease. The disk tells nothing.
+// One client opens a file, gets a lease on it, and reads under the lease. The disk isn't visible.
 ghost use Rattle.std.specs.Prelude.{ℕ, ◌≡◌, []};
 ghost use Rattle.ufs_sound.specs.FileSession.{small_path};
 ghost use Rattle.ufs_hand_tests.specs.Leased.{one_file, opens, reads, lease, opened_by, granted, read_asked};

@@ -1,4 +1,4 @@
-// One client asks for a `sync`, which is excused for want of memory. The disk tells nothing.
+// One client asks for a `sync`, which is excused for want of memory. The disk isn't visible.
 ghost use Rattle.std.specs.Prelude.{◌≡◌};
 ghost use Rattle.ufs_hand_tests.specs.Small.{small};
 

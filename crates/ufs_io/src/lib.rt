@@ -27,13 +27,13 @@ pub struct Failed;
 
 /// Where bytes come from.
 pub trait Source {
-    /// The bytes that are left, where the source tells.
+    /// The bytes that are left, where the source is visible.
     ghost left: { Self → Option (List ℕ) };
 
     /// How often a read has failed. The count stands still at 2^64 - 1.
     ghost faults: { Self → ℕ };
 
-    /// How many reads were made, where the source tells. The count stands still at 2^64 - 1.
+    /// How many reads were made, where the source is visible. The count stands still at 2^64 - 1.
     ghost reads: { Self → Option ℕ };
 
     /// Reads into the front of the buffer, and answers how many bytes.
@@ -47,7 +47,7 @@ pub trait Source {
 
 /// Where bytes go to.
 pub trait Sink {
-    /// The bytes that are held, where the sink tells.
+    /// The bytes that are held, where the sink is visible.
     ghost held: { Self → Option (List ℕ) };
 
     /// How often a write has failed. The count stands still at 2^64 - 1.

@@ -7,7 +7,7 @@ use crate::{Failed, Sink};
 use std::alloc::Global;
 use std::marker::Model;
 
-/// Takes every byte, keeps none, and tells nothing of what it took. It never fails.
+/// Takes every byte, keeps none, and isn't visible. It never fails.
 #[derive(Drop)]
 pub struct PlainSink;
 

@@ -1,5 +1,5 @@
 // The source and the sink over a reader and a writer of std, such as standard input and output.
-// They tell of bytes what these tell; the real streams tell nothing.
+// They are visible where these are; the real streams aren't.
 ghost use Rattle.std.specs.Prelude.{◌≡◌, None};
 
 use crate::{Failed, Sink, Source};

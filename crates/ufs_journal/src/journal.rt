@@ -110,24 +110,24 @@ impl Journal {
         ensures err { OnErr result ((self.new.used ≡ self.old.used) × (self.new.opened ≡ self.old.opened)) }
 
         // At each moment, also of a call that fails, an image says what one from before did.
-        ensures crash { IsTrue D.tells → IsReady self.old.geometry self.old.epoch self.old.used self.old.number (D.moments disk.old).state
+        ensures crash { IsTrue D.visible → IsReady self.old.geometry self.old.epoch self.old.used self.old.number (D.moments disk.old).state
             → IsUnused self.old.geometry self.old.epoch txn (D.moments disk.old).state
             → LeavesOnly D.keeps (IsAppended self.old.geometry self.old.epoch (D.moments disk.old).state) (D.moments disk.old) (D.moments disk.new) }
-        ensures ready { IsTrue D.tells → IsReady self.old.geometry self.old.epoch self.old.used self.old.number (D.moments disk.old).state
+        ensures ready { IsTrue D.visible → IsReady self.old.geometry self.old.epoch self.old.used self.old.number (D.moments disk.old).state
             → IsUnused self.old.geometry self.old.epoch txn (D.moments disk.old).state
             → OnOk result (IsReady self.old.geometry self.old.epoch self.new.used self.old.number (D.moments disk.new).state) }
-        ensures open { IsTrue D.tells → IsReady self.old.geometry self.old.epoch self.old.used self.old.number (D.moments disk.old).state
+        ensures open { IsTrue D.visible → IsReady self.old.geometry self.old.epoch self.old.used self.old.number (D.moments disk.old).state
             → IsUnused self.old.geometry self.old.epoch txn (D.moments disk.old).state
             → OnOk result (IsOpen self.old.geometry self.old.epoch self.new.opened txn records.now (D.moments disk.new).state) }
-        ensures unused { IsTrue D.tells → IsReady self.old.geometry self.old.epoch self.old.used self.old.number (D.moments disk.old).state
+        ensures unused { IsTrue D.visible → IsReady self.old.geometry self.old.epoch self.old.used self.old.number (D.moments disk.old).state
             → IsUnused self.old.geometry self.old.epoch txn (D.moments disk.old).state
             → (other : ℕ) → other ≢ txn → IsUnused self.old.geometry self.old.epoch other (D.moments disk.old).state
             → IsUnused self.old.geometry self.old.epoch other (D.moments disk.new).state }
-        ensures others { IsTrue D.tells → IsReady self.old.geometry self.old.epoch self.old.used self.old.number (D.moments disk.old).state
+        ensures others { IsTrue D.visible → IsReady self.old.geometry self.old.epoch self.old.used self.old.number (D.moments disk.old).state
             → IsUnused self.old.geometry self.old.epoch txn (D.moments disk.old).state
             → OnOk result ((other : ℕ) (held : List LogRecord) → other ≢ txn → IsOpen self.old.geometry self.old.epoch self.old.opened other held (D.moments disk.old).state
             → IsOpen self.old.geometry self.old.epoch self.new.opened other held (D.moments disk.new).state) }
-        ensures elsewhere { IsTrue D.tells → AgreeOffJournal self.old.geometry (reads (D.moments disk.new)) (reads (D.moments disk.old)) }
+        ensures elsewhere { IsTrue D.visible → AgreeOffJournal self.old.geometry (reads (D.moments disk.new)) (reads (D.moments disk.old)) }
         ensures size { D.size disk.new ≡ D.size disk.old }
         ensures cause { HasCause (D.faults disk.old) (D.faults disk.new) result }
         ensures fault { IfErr result (λ fault. fault.number ≡ D.faults disk.new) }
@@ -160,27 +160,27 @@ impl Journal {
 
         // At each moment, also of a call that fails, an image says what one from before did, or commits
         // the transaction besides.
-        ensures crash { IsTrue D.tells → IsReady self.old.geometry self.old.epoch self.old.used self.old.number (D.moments disk.old).state
+        ensures crash { IsTrue D.visible → IsReady self.old.geometry self.old.epoch self.old.used self.old.number (D.moments disk.old).state
             → (records : List LogRecord) → IsOpen self.old.geometry self.old.epoch self.old.opened txn records (D.moments disk.old).state
             → CanApply self.old.geometry self.old.epoch self.old.number records (reads (D.moments disk.old))
             → LeavesOnly D.keeps (IsMaybeCommitted self.old.geometry self.old.epoch (record { number = self.old.number; records = records }) (D.moments disk.old).state)
             (D.moments disk.old) (D.moments disk.new) }
-        ensures settled { IsTrue D.tells → OnOk result (IsSettled (D.moments disk.new).state) }
-        ensures committed { IsTrue D.tells → IsReady self.old.geometry self.old.epoch self.old.used self.old.number (D.moments disk.old).state
+        ensures settled { IsTrue D.visible → OnOk result (IsSettled (D.moments disk.new).state) }
+        ensures committed { IsTrue D.visible → IsReady self.old.geometry self.old.epoch self.old.used self.old.number (D.moments disk.old).state
             → (records : List LogRecord) → IsOpen self.old.geometry self.old.epoch self.old.opened txn records (D.moments disk.old).state
             → CanApply self.old.geometry self.old.epoch self.old.number records (reads (D.moments disk.old))
             → OnOk result (CommitsOne self.old.geometry self.old.epoch (record { number = self.old.number; records = records }) (reads (D.moments disk.old)) (reads (D.moments disk.new))) }
-        ensures ready { IsTrue D.tells → IsReady self.old.geometry self.old.epoch self.old.used self.old.number (D.moments disk.old).state
+        ensures ready { IsTrue D.visible → IsReady self.old.geometry self.old.epoch self.old.used self.old.number (D.moments disk.old).state
             → (records : List LogRecord) → IsOpen self.old.geometry self.old.epoch self.old.opened txn records (D.moments disk.old).state
             → self.old.number < 2 ^ 64 - 1
             → OnOk result (IsReady self.old.geometry self.old.epoch self.old.used self.new.number (D.moments disk.new).state) }
-        ensures unused { IsTrue D.tells → (records : List LogRecord) → IsOpen self.old.geometry self.old.epoch self.old.opened txn records (D.moments disk.old).state
+        ensures unused { IsTrue D.visible → (records : List LogRecord) → IsOpen self.old.geometry self.old.epoch self.old.opened txn records (D.moments disk.old).state
             → (other : ℕ) → other ≢ txn → IsUnused self.old.geometry self.old.epoch other (D.moments disk.old).state
             → IsUnused self.old.geometry self.old.epoch other (D.moments disk.new).state }
-        ensures others { IsTrue D.tells → (records : List LogRecord) → IsOpen self.old.geometry self.old.epoch self.old.opened txn records (D.moments disk.old).state
+        ensures others { IsTrue D.visible → (records : List LogRecord) → IsOpen self.old.geometry self.old.epoch self.old.opened txn records (D.moments disk.old).state
             → OnOk result ((other : ℕ) (held : List LogRecord) → other ≢ txn → IsOpen self.old.geometry self.old.epoch self.old.opened other held (D.moments disk.old).state
             → IsOpen self.old.geometry self.old.epoch self.new.opened other held (D.moments disk.new).state) }
-        ensures elsewhere { IsTrue D.tells → AgreeOffJournal self.old.geometry (reads (D.moments disk.new)) (reads (D.moments disk.old)) }
+        ensures elsewhere { IsTrue D.visible → AgreeOffJournal self.old.geometry (reads (D.moments disk.new)) (reads (D.moments disk.old)) }
         ensures size { D.size disk.new ≡ D.size disk.old }
         ensures cause { HasCause (D.faults disk.old) (D.faults disk.new) result }
         ensures fault { IfErr result (λ fault. fault.number ≡ D.faults disk.new) }

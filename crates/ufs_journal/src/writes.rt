@@ -88,10 +88,10 @@ fn put_group<D: Disk>(
     requires some { 0 < count }
     requires most { count ≤ 8 }
     requires inside { place + count ≤ geometry.now.journal }
-    ensures ok { IsTrue D.tells → OnOk result (reads (D.moments disk.new)
+    ensures ok { IsTrue D.visible → OnOk result (reads (D.moments disk.new)
         ≡ overwritten (journal_sector geometry.now place) bytes.now (reads (D.moments disk.old))) }
-    ensures elsewhere { IsTrue D.tells → AgreeOffJournal geometry.now (reads (D.moments disk.new)) (reads (D.moments disk.old)) }
-    ensures crash { IsTrue D.tells → LeavesOnly D.keeps
+    ensures elsewhere { IsTrue D.visible → AgreeOffJournal geometry.now (reads (D.moments disk.new)) (reads (D.moments disk.old)) }
+    ensures crash { IsTrue D.visible → LeavesOnly D.keeps
         (IsPartlyWritten (journal_sector geometry.now place) bytes.now (D.moments disk.old).state)
         (D.moments disk.old) (D.moments disk.new) }
     ensures size { D.size disk.new ≡ D.size disk.old }
@@ -124,10 +124,10 @@ pub(crate) fn write_records<D: Disk>(
     requires form { IsTrue (list_all is_record records.now) }
     requires inside { IsTrue (list_all (is_in_range geometry.now) records.now) }
     ensures count { IfOk result (λ count. count ≡ sector_count_of records.now) }
-    ensures elsewhere { IsTrue D.tells → AgreeOffJournal geometry.now (reads (D.moments disk.new)) (reads (D.moments disk.old)) }
-    ensures ok { IsTrue D.tells → Leaves (IsReadyFor geometry.now epoch txn place) (D.moments disk.old).state
+    ensures elsewhere { IsTrue D.visible → AgreeOffJournal geometry.now (reads (D.moments disk.new)) (reads (D.moments disk.old)) }
+    ensures ok { IsTrue D.visible → Leaves (IsReadyFor geometry.now epoch txn place) (D.moments disk.old).state
         → OnOk result (HasAppended geometry.now epoch txn place (sectors_of_records records.now) (reads (D.moments disk.old)) (reads (D.moments disk.new))) }
-    ensures crash { IsTrue D.tells → Leaves (IsReadyFor geometry.now epoch txn place) (D.moments disk.old).state
+    ensures crash { IsTrue D.visible → Leaves (IsReadyFor geometry.now epoch txn place) (D.moments disk.old).state
         → LeavesOnly D.keeps (IsAppending geometry.now epoch txn place (sector_count_of records.now) (D.moments disk.old).state)
         (D.moments disk.old) (D.moments disk.new) }
     ensures size { D.size disk.new ≡ D.size disk.old }
@@ -164,11 +164,11 @@ pub(crate) fn write_commit<D: Disk>(
     requires txn { 1 ≤ txn }
     ensures read_back { journal_of (journal_bytes (record { epoch = epoch; txn = txn; index = count; content = HasCommit number }))
         ≡ Some (record { epoch = epoch; txn = txn; index = count; content = HasCommit number }) }
-    ensures settled { IsTrue D.tells → OnOk result (IsSettled (D.moments disk.new).state) }
-    ensures elsewhere { IsTrue D.tells → AgreeOffJournal geometry.now (reads (D.moments disk.new)) (reads (D.moments disk.old)) }
-    ensures written { IsTrue D.tells → OnOk result (reads (D.moments disk.new)
+    ensures settled { IsTrue D.visible → OnOk result (IsSettled (D.moments disk.new).state) }
+    ensures elsewhere { IsTrue D.visible → AgreeOffJournal geometry.now (reads (D.moments disk.new)) (reads (D.moments disk.old)) }
+    ensures written { IsTrue D.visible → OnOk result (reads (D.moments disk.new)
         ≡ put (journal_sector geometry.now place) (journal_bytes (record { epoch = epoch; txn = txn; index = count; content = HasCommit number })) (reads (D.moments disk.old))) }
-    ensures crash { IsTrue D.tells → LeavesOnly D.keeps
+    ensures crash { IsTrue D.visible → LeavesOnly D.keeps
         (IsOldOrPut (journal_sector geometry.now place) (record { epoch = epoch; txn = txn; index = count; content = HasCommit number }) (D.moments disk.old).state)
         (D.moments disk.old) (D.moments disk.new) }
     ensures size { D.size disk.new ≡ D.size disk.old }

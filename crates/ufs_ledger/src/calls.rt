@@ -33,15 +33,15 @@ use ufs_overlay::Overlay;
 pub fn write_data<D: Disk>(disk: &mut D, block: u32, bytes: &[u8]) -> Result<(), Fault>
     requires inside { SECTORS_PER_BLOCK * block + SECTORS_PER_BLOCK ≤ D.size disk.old }
     requires sized { length bytes.now ≡ BLOCK }
-    ensures crash { IsTrue D.tells → (l : Ledger) → IsLedgerOf (D.size disk.old) (D.moments disk.old).state l → l.maybe ≡ None → l.superblock.clean ≡ false → MayWrite l block bytes.now
+    ensures crash { IsTrue D.visible → (l : Ledger) → IsLedgerOf (D.size disk.old) (D.moments disk.old).state l → l.maybe ≡ None → l.superblock.clean ≡ false → MayWrite l block bytes.now
         → LeavesOnly D.keeps (IsLeftBy (D.size disk.old) (written block bytes.now l)) (D.moments disk.old) (D.moments disk.new) }
-    ensures images { IsTrue D.tells → LeavesOnly D.keeps (IsPartlyWritten (SECTORS_PER_BLOCK * block) bytes.now (D.moments disk.old).state) (D.moments disk.old) (D.moments disk.new) }
-    ensures ok { IsTrue D.tells → OnOk result ((l : Ledger) → IsLedgerOf (D.size disk.old) (D.moments disk.old).state l → l.maybe ≡ None → l.superblock.clean ≡ false → MayWrite l block bytes.now
+    ensures images { IsTrue D.visible → LeavesOnly D.keeps (IsPartlyWritten (SECTORS_PER_BLOCK * block) bytes.now (D.moments disk.old).state) (D.moments disk.old) (D.moments disk.new) }
+    ensures ok { IsTrue D.visible → OnOk result ((l : Ledger) → IsLedgerOf (D.size disk.old) (D.moments disk.old).state l → l.maybe ≡ None → l.superblock.clean ≡ false → MayWrite l block bytes.now
         → IsLedgerOf (D.size disk.new) (D.moments disk.new).state (written block bytes.now l)) }
-    ensures err { IsTrue D.tells → OnErr result ((l : Ledger) → IsLedgerOf (D.size disk.old) (D.moments disk.old).state l → l.maybe ≡ None → l.superblock.clean ≡ false → MayWrite l block bytes.now
+    ensures err { IsTrue D.visible → OnErr result ((l : Ledger) → IsLedgerOf (D.size disk.old) (D.moments disk.old).state l → l.maybe ≡ None → l.superblock.clean ≡ false → MayWrite l block bytes.now
         → IsLedgerOf (D.size disk.new) (D.moments disk.new).state (tried block bytes.now (block_at (reads (D.moments disk.new)) block) l)) }
-    ensures ready { IsTrue D.tells → (g : Geometry) (epoch used number : ℕ) → first_of_data g ≤ block → IsReady g epoch used number (D.moments disk.old).state → IsReady g epoch used number (D.moments disk.new).state }
-    ensures unused { IsTrue D.tells → (g : Geometry) (epoch txn : ℕ) → first_of_data g ≤ block → IsUnused g epoch txn (D.moments disk.old).state → IsUnused g epoch txn (D.moments disk.new).state }
+    ensures ready { IsTrue D.visible → (g : Geometry) (epoch used number : ℕ) → first_of_data g ≤ block → IsReady g epoch used number (D.moments disk.old).state → IsReady g epoch used number (D.moments disk.new).state }
+    ensures unused { IsTrue D.visible → (g : Geometry) (epoch txn : ℕ) → first_of_data g ≤ block → IsUnused g epoch txn (D.moments disk.old).state → IsUnused g epoch txn (D.moments disk.new).state }
     ensures size { D.size disk.new ≡ D.size disk.old }
     ensures cause { HasCause (D.faults disk.old) (D.faults disk.new) result }
     ensures fault { IfErr result (λ fault. fault.number ≡ D.faults disk.new) }
@@ -53,13 +53,13 @@ pub fn write_data<D: Disk>(disk: &mut D, block: u32, bytes: &[u8]) -> Result<(),
 pub fn read_data<D: Disk>(disk: &mut D, block: u32, buf: &mut [u8]) -> Result<(), Fault>
     requires inside { SECTORS_PER_BLOCK * block + SECTORS_PER_BLOCK ≤ D.size disk.old }
     requires sized { length buf.old ≡ BLOCK }
-    ensures bytes { IsTrue D.tells → OnOk result ((l : Ledger) → IsLedgerOf (D.size disk.old) (D.moments disk.old).state l → IsDataBlock (geometry_of l.superblock) block → is_held l.now.log block ≡ false
+    ensures bytes { IsTrue D.visible → OnOk result ((l : Ledger) → IsLedgerOf (D.size disk.old) (D.moments disk.old).state l → IsDataBlock (geometry_of l.superblock) block → is_held l.now.log block ≡ false
         → buf.new ≡ (l.blocks block).seen) }
-    ensures crash { IsTrue D.tells → (l : Ledger) → IsLedgerOf (D.size disk.old) (D.moments disk.old).state l → LeavesOnly D.keeps (IsLeftBy (D.size disk.old) l) (D.moments disk.old) (D.moments disk.new) }
-    ensures images { IsTrue D.tells → LeavesOnly D.keeps (IsImage (D.moments disk.old).state) (D.moments disk.old) (D.moments disk.new) }
-    ensures ledger { IsTrue D.tells → (l : Ledger) → IsLedgerOf (D.size disk.old) (D.moments disk.old).state l → IsLedgerOf (D.size disk.new) (D.moments disk.new).state l }
-    ensures ready { IsTrue D.tells → (g : Geometry) (epoch used number : ℕ) → IsReady g epoch used number (D.moments disk.old).state → IsReady g epoch used number (D.moments disk.new).state }
-    ensures unused { IsTrue D.tells → (g : Geometry) (epoch txn : ℕ) → IsUnused g epoch txn (D.moments disk.old).state → IsUnused g epoch txn (D.moments disk.new).state }
+    ensures crash { IsTrue D.visible → (l : Ledger) → IsLedgerOf (D.size disk.old) (D.moments disk.old).state l → LeavesOnly D.keeps (IsLeftBy (D.size disk.old) l) (D.moments disk.old) (D.moments disk.new) }
+    ensures images { IsTrue D.visible → LeavesOnly D.keeps (IsImage (D.moments disk.old).state) (D.moments disk.old) (D.moments disk.new) }
+    ensures ledger { IsTrue D.visible → (l : Ledger) → IsLedgerOf (D.size disk.old) (D.moments disk.old).state l → IsLedgerOf (D.size disk.new) (D.moments disk.new).state l }
+    ensures ready { IsTrue D.visible → (g : Geometry) (epoch used number : ℕ) → IsReady g epoch used number (D.moments disk.old).state → IsReady g epoch used number (D.moments disk.new).state }
+    ensures unused { IsTrue D.visible → (g : Geometry) (epoch txn : ℕ) → IsUnused g epoch txn (D.moments disk.old).state → IsUnused g epoch txn (D.moments disk.new).state }
     ensures size { D.size disk.new ≡ D.size disk.old }
     ensures cause { HasCause (D.faults disk.old) (D.faults disk.new) result }
     ensures fault { IfErr result (λ fault. fault.number ≡ D.faults disk.new) }
@@ -69,12 +69,12 @@ pub fn read_data<D: Disk>(disk: &mut D, block: u32, buf: &mut [u8]) -> Result<()
 
 /// Waits until all that was written before is on the disk for good.
 pub fn settle<D: Disk>(disk: &mut D) -> Result<(), Fault>
-    ensures crash { IsTrue D.tells → (l : Ledger) → IsLedgerOf (D.size disk.old) (D.moments disk.old).state l → LeavesOnly D.keeps (IsLeftBy (D.size disk.old) l) (D.moments disk.old) (D.moments disk.new) }
-    ensures images { IsTrue D.tells → LeavesOnly D.keeps (IsImage (D.moments disk.old).state) (D.moments disk.old) (D.moments disk.new) }
-    ensures ledger { IsTrue D.tells → (l : Ledger) → IsLedgerOf (D.size disk.old) (D.moments disk.old).state l → IsLedgerOf (D.size disk.new) (D.moments disk.new).state l }
-    ensures ok { IsTrue D.tells → OnOk result ((l : Ledger) → IsLedgerOf (D.size disk.old) (D.moments disk.old).state l → l.maybe ≡ None → IsLedgerOf (D.size disk.new) (D.moments disk.new).state (settled l)) }
-    ensures ready { IsTrue D.tells → (g : Geometry) (epoch used number : ℕ) → IsReady g epoch used number (D.moments disk.old).state → IsReady g epoch used number (D.moments disk.new).state }
-    ensures unused { IsTrue D.tells → (g : Geometry) (epoch txn : ℕ) → IsUnused g epoch txn (D.moments disk.old).state → IsUnused g epoch txn (D.moments disk.new).state }
+    ensures crash { IsTrue D.visible → (l : Ledger) → IsLedgerOf (D.size disk.old) (D.moments disk.old).state l → LeavesOnly D.keeps (IsLeftBy (D.size disk.old) l) (D.moments disk.old) (D.moments disk.new) }
+    ensures images { IsTrue D.visible → LeavesOnly D.keeps (IsImage (D.moments disk.old).state) (D.moments disk.old) (D.moments disk.new) }
+    ensures ledger { IsTrue D.visible → (l : Ledger) → IsLedgerOf (D.size disk.old) (D.moments disk.old).state l → IsLedgerOf (D.size disk.new) (D.moments disk.new).state l }
+    ensures ok { IsTrue D.visible → OnOk result ((l : Ledger) → IsLedgerOf (D.size disk.old) (D.moments disk.old).state l → l.maybe ≡ None → IsLedgerOf (D.size disk.new) (D.moments disk.new).state (settled l)) }
+    ensures ready { IsTrue D.visible → (g : Geometry) (epoch used number : ℕ) → IsReady g epoch used number (D.moments disk.old).state → IsReady g epoch used number (D.moments disk.new).state }
+    ensures unused { IsTrue D.visible → (g : Geometry) (epoch txn : ℕ) → IsUnused g epoch txn (D.moments disk.old).state → IsUnused g epoch txn (D.moments disk.new).state }
     ensures size { D.size disk.new ≡ D.size disk.old }
     ensures cause { HasCause (D.faults disk.old) (D.faults disk.new) result }
     ensures fault { IfErr result (λ fault. fault.number ≡ D.faults disk.new) }
@@ -102,21 +102,21 @@ pub fn commit_records<D: Disk>(
     ensures opened { OnOk result (journal.new.opened ≡ []) }
 
     // A crash leaves what it might have left, or, once all is settled, the transaction too.
-    ensures crash { IsTrue D.tells → (l : Ledger) → IsLedgerBy journal.old (D.size disk.old) (D.moments disk.old).state l → MayGoOn journal.old (D.moments disk.old).state l txn records.now
+    ensures crash { IsTrue D.visible → (l : Ledger) → IsLedgerBy journal.old (D.size disk.old) (D.moments disk.old).state l → MayGoOn journal.old (D.moments disk.old).state l txn records.now
         → LeavesOnly D.keeps (λ image. IsLeftBy (D.size disk.old) l image ⊎ IsLeftBy (D.size disk.old) (committing (record { number = journal.old.number; records = records.now }) (settled l)) image) (D.moments disk.old) (D.moments disk.new) }
 
     // It has in the blocks of files what it might have had.
-    ensures data { IsTrue D.tells → (l : Ledger) → IsLedgerBy journal.old (D.size disk.old) (D.moments disk.old).state l → MayGoOn journal.old (D.moments disk.old).state l txn records.now
+    ensures data { IsTrue D.visible → (l : Ledger) → IsLedgerBy journal.old (D.size disk.old) (D.moments disk.old).state l → MayGoOn journal.old (D.moments disk.old).state l txn records.now
         → LeavesOnly D.keeps (KeepsData journal.old.geometry l.now.log (D.moments disk.old).state) (D.moments disk.old) (D.moments disk.new) }
-    ensures ok { IsTrue D.tells → OnOk result ((l : Ledger) → IsLedgerBy journal.old (D.size disk.old) (D.moments disk.old).state l → MayGoOn journal.old (D.moments disk.old).state l txn records.now
+    ensures ok { IsTrue D.visible → OnOk result ((l : Ledger) → IsLedgerBy journal.old (D.size disk.old) (D.moments disk.old).state l → MayGoOn journal.old (D.moments disk.old).state l txn records.now
         → IsLedgerOf (D.size disk.new) (D.moments disk.new).state (committed_one (record { number = journal.old.number; records = records.now }) l)) }
-    ensures err { IsTrue D.tells → OnErr result ((l : Ledger) → IsLedgerBy journal.old (D.size disk.old) (D.moments disk.old).state l → MayGoOn journal.old (D.moments disk.old).state l txn records.now
+    ensures err { IsTrue D.visible → OnErr result ((l : Ledger) → IsLedgerBy journal.old (D.size disk.old) (D.moments disk.old).state l → MayGoOn journal.old (D.moments disk.old).state l txn records.now
         → IsLedgerOf (D.size disk.new) (D.moments disk.new).state l ⊎ IsLedgerOf (D.size disk.new) (D.moments disk.new).state (committing (record { number = journal.old.number; records = records.now }) (settled l))) }
 
     // The next commit finds what it needs.
-    ensures next { IsTrue D.tells → journal.old.number < 2 ^ 64 - 1 → OnOk result ((l : Ledger) → IsLedgerBy journal.old (D.size disk.old) (D.moments disk.old).state l → MayGoOn journal.old (D.moments disk.old).state l txn records.now
+    ensures next { IsTrue D.visible → journal.old.number < 2 ^ 64 - 1 → OnOk result ((l : Ledger) → IsLedgerBy journal.old (D.size disk.old) (D.moments disk.old).state l → MayGoOn journal.old (D.moments disk.old).state l txn records.now
         → IsLedgerBy journal.new (D.size disk.new) (D.moments disk.new).state (committed_one (record { number = journal.old.number; records = records.now }) l)) }
-    ensures unused { IsTrue D.tells → OnOk result ((l : Ledger) → IsLedgerBy journal.old (D.size disk.old) (D.moments disk.old).state l → MayGoOn journal.old (D.moments disk.old).state l txn records.now
+    ensures unused { IsTrue D.visible → OnOk result ((l : Ledger) → IsLedgerBy journal.old (D.size disk.old) (D.moments disk.old).state l → MayGoOn journal.old (D.moments disk.old).state l txn records.now
         → (other : ℕ) → other ≢ txn → IsUnused journal.old.geometry journal.old.epoch other (D.moments disk.old).state → IsUnused journal.old.geometry journal.old.epoch other (D.moments disk.new).state) }
     ensures used { OnOk result (journal.new.used ≡ journal.old.used + sector_count_of records.now + 1) }
     ensures rises { OnOk result (journal.new.number ≡ min (journal.old.number + 1) (2 ^ 64 - 1)) }
@@ -167,18 +167,18 @@ pub fn checkpoint<D: Disk>(
     ensures used_stays { OnErr result (journal.new.used ≡ journal.old.used) }
 
     // A crash leaves what it might have left, or the same behind the next superblock.
-    ensures crash { IsTrue D.tells → (l : Ledger) → IsLedgerBy journal.old (D.size disk.old) (D.moments disk.old).state l → overlaid.HasAdded overlay.now l.now.log
+    ensures crash { IsTrue D.visible → (l : Ledger) → IsLedgerBy journal.old (D.size disk.old) (D.moments disk.old).state l → overlaid.HasAdded overlay.now l.now.log
         → LeavesOnly D.keeps (λ image. IsLeftBy (D.size disk.old) l image ⊎ IsLeftBy (D.size disk.old) (beginning superblock.now (block_at (home_of l (reads (D.moments disk.old)))) l) image) (D.moments disk.old) (D.moments disk.new) }
 
     // It has in the blocks of files what it might have had.
-    ensures data { IsTrue D.tells → (l : Ledger) → IsLedgerBy journal.old (D.size disk.old) (D.moments disk.old).state l → overlaid.HasAdded overlay.now l.now.log
+    ensures data { IsTrue D.visible → (l : Ledger) → IsLedgerBy journal.old (D.size disk.old) (D.moments disk.old).state l → overlaid.HasAdded overlay.now l.now.log
         → LeavesOnly D.keeps (KeepsData journal.old.geometry l.now.log (D.moments disk.old).state) (D.moments disk.old) (D.moments disk.new) }
-    ensures err { IsTrue D.tells → OnErr result ((l : Ledger) → IsLedgerBy journal.old (D.size disk.old) (D.moments disk.old).state l → overlaid.HasAdded overlay.now l.now.log
+    ensures err { IsTrue D.visible → OnErr result ((l : Ledger) → IsLedgerBy journal.old (D.size disk.old) (D.moments disk.old).state l → overlaid.HasAdded overlay.now l.now.log
         → IsLedgerOf (D.size disk.new) (D.moments disk.new).state l ⊎ IsLedgerOf (D.size disk.new) (D.moments disk.new).state (beginning superblock.now (block_at (home_of l (reads (D.moments disk.old)))) l)) }
-    ensures ok { IsTrue D.tells → OnOk result ((l : Ledger) → IsLedgerBy journal.old (D.size disk.old) (D.moments disk.old).state l → overlaid.HasAdded overlay.now l.now.log
+    ensures ok { IsTrue D.visible → OnOk result ((l : Ledger) → IsLedgerBy journal.old (D.size disk.old) (D.moments disk.old).state l → overlaid.HasAdded overlay.now l.now.log
         → IsLedgerBy journal.new (D.size disk.new) (D.moments disk.new).state (emptied superblock.now (block_at (home_of l (reads (D.moments disk.old)))) l)) }
-    ensures settled { IsTrue D.tells → OnOk result (IsSettled (D.moments disk.new).state) }
-    ensures bitmap { IsTrue D.tells → (log : List Committed) → overlaid.HasAdded overlay.now log → OnOk result ((sector : ℕ) → SECTORS_PER_BLOCK ≤ sector → sector < SECTORS_PER_BLOCK * first_of_inodes journal.old.geometry
+    ensures settled { IsTrue D.visible → OnOk result (IsSettled (D.moments disk.new).state) }
+    ensures bitmap { IsTrue D.visible → (log : List Committed) → overlaid.HasAdded overlay.now log → OnOk result ((sector : ℕ) → SECTORS_PER_BLOCK ≤ sector → sector < SECTORS_PER_BLOCK * first_of_inodes journal.old.geometry
         → reads (D.moments disk.new) sector ≡ reads (D.moments disk.old) sector) }
     ensures size { D.size disk.new ≡ D.size disk.old }
     ensures cause { HasCause (D.faults disk.old) (D.faults disk.new) result }

@@ -74,19 +74,19 @@ fn with_free(alloc: Global, opened: Opened) -> Result<Loaded, Memory>
 /// the inodes as the committed transactions leave them; the bitmap isn't read. Reads the superblock, each sector of
 /// the journal, and each block of the inode table and of directories; writes nothing.
 pub fn load<D: Disk>(alloc: Global, disk: &mut D) -> Result<Loaded, RecoverFault>
-    ensures taken { IsTrue D.tells → IfOk result (λ l. volume (D.size disk.old) (reads (D.moments disk.old)) ≡ Ok (volume_in l.volume (reads (D.moments disk.old)))) }
-    ensures added { IsTrue D.tells → IfOk result (λ l. HasAdded l.volume.overlay (committed_in l.volume (reads (D.moments disk.old)))) }
-    ensures count { IsTrue D.tells → IfOk result (λ l. l.volume.committed ≡ length (committed_in l.volume (reads (D.moments disk.old)))) }
-    ensures found { IsTrue D.tells → IfOk result (λ l. AreFindingsOf l.volume.superblock.geometry (folded_image l.volume (reads (D.moments disk.old))) l.findings) }
-    ensures forms { IsTrue D.tells → IfOk result (λ l. l.findings.forms ≡ map (λ inode. Some (form_at l.volume.superblock.geometry (folded_image l.volume (reads (D.moments disk.old))) inode)) (all_inodes l.volume.superblock.geometry)) }
-    ensures catalog { IsTrue D.tells → IfOk result (λ l. IsCatalogOf l.volume.superblock.geometry (folded_image l.volume (reads (D.moments disk.old))) (catalog_at l.volume.superblock.geometry (folded_image l.volume (reads (D.moments disk.old))))) }
-    ensures sound { IsTrue D.tells → IfOk result (λ l. IsSoundCatalog l.volume.superblock.geometry (catalog_at l.volume.superblock.geometry (folded_image l.volume (reads (D.moments disk.old))))) }
+    ensures taken { IsTrue D.visible → IfOk result (λ l. volume (D.size disk.old) (reads (D.moments disk.old)) ≡ Ok (volume_in l.volume (reads (D.moments disk.old)))) }
+    ensures added { IsTrue D.visible → IfOk result (λ l. HasAdded l.volume.overlay (committed_in l.volume (reads (D.moments disk.old)))) }
+    ensures count { IsTrue D.visible → IfOk result (λ l. l.volume.committed ≡ length (committed_in l.volume (reads (D.moments disk.old)))) }
+    ensures found { IsTrue D.visible → IfOk result (λ l. AreFindingsOf l.volume.superblock.geometry (folded_image l.volume (reads (D.moments disk.old))) l.findings) }
+    ensures forms { IsTrue D.visible → IfOk result (λ l. l.findings.forms ≡ map (λ inode. Some (form_at l.volume.superblock.geometry (folded_image l.volume (reads (D.moments disk.old))) inode)) (all_inodes l.volume.superblock.geometry)) }
+    ensures catalog { IsTrue D.visible → IfOk result (λ l. IsCatalogOf l.volume.superblock.geometry (folded_image l.volume (reads (D.moments disk.old))) (catalog_at l.volume.superblock.geometry (folded_image l.volume (reads (D.moments disk.old))))) }
+    ensures sound { IsTrue D.visible → IfOk result (λ l. IsSoundCatalog l.volume.superblock.geometry (catalog_at l.volume.superblock.geometry (folded_image l.volume (reads (D.moments disk.old))))) }
     ensures first { IfOk result (λ l. l.free.first ≡ first_of_data l.volume.superblock.geometry) }
     ensures blocks { IfOk result (λ l. l.free.blocks ≡ l.volume.superblock.geometry.blocks) }
-    ensures free { IsTrue D.tells → IfOk result (λ l. (b : ℕ) → set.contains l.free.free b ≡ is_free_block l.volume.superblock.geometry (folded_image l.volume (reads (D.moments disk.old))) b) }
+    ensures free { IsTrue D.visible → IfOk result (λ l. (b : ℕ) → set.contains l.free.free b ≡ is_free_block l.volume.superblock.geometry (folded_image l.volume (reads (D.moments disk.old))) b) }
     ensures large { IfOk result (λ l. sector_count l.volume.superblock.geometry ≤ D.size disk.old) }
-    ensures refused { IsTrue D.tells → IfErr result (TellsWhy (D.size disk.old) (reads (D.moments disk.old))) }
-    ensures read_only { IsTrue D.tells → IsReadOnly D.keeps (D.moments disk.old) (D.moments disk.new) }
+    ensures refused { IsTrue D.visible → IfErr result (TellsWhy (D.size disk.old) (reads (D.moments disk.old))) }
+    ensures read_only { IsTrue D.visible → IsReadOnly D.keeps (D.moments disk.old) (D.moments disk.new) }
     ensures size { D.size disk.new ≡ D.size disk.old }
     ensures passed { OnOk result (D.faults disk.new ≡ D.faults disk.old) }
     ensures cause { IfErr result (HasFaultCause (D.faults disk.old) (D.faults disk.new)) }

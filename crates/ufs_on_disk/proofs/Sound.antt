@@ -1,4 +1,4 @@
--- What holds of a server whatever its disk tells, behind requests on its files and their commits.
+-- What holds of a server whether its disk is visible or not, behind requests on its files and their commits.
 use Rattle.std.proofs.Common.{◌≡◌, ◌≢◌, ℕ, ◌⊎◌, inl, inr, Bool, true, false, Option, Some, None, ap, sym, refl, ◌∙◌, subst}
 use Rattle.std.specs.Prelude.{nat_eq}
 use Rattle.std.specs.List.{IsDistinct}

@@ -90,7 +90,7 @@ module _ (sectors : ℕ) (disk : Image) (v : Volume) (ps : List PathAt) (taken :
       let es : List image.PathEntry = map (entry_of v.geometry v.image) (pairs_of ps) in
       record {
         tree = from_entries es;
-        opened = λ told. opens_at;
+        opened = λ seen. opens_at;
         same = are ∙ ap (heads_of most) (sym (entries-rising path_cmp path_total path_same es (rising_same es (pairs_of ps) (entry_keys v.geometry v.image (pairs_of ps)) ∙ rising)));
       }
 
@@ -98,17 +98,17 @@ head_entry_keys : (most : Option ℕ) (es : List image.PathEntry) → keys (head
 head_entry_keys most [] = refl
 head_entry_keys most (e ∷ es) = ap (λ l. e.0 ∷ l) (head_entry_keys most es)
 
--- heads of a disk that tells nothing are those of some tree
-pub untold_heads : (sectors : ℕ) (disk : Image) (most : Option ℕ) (hs : List PathHead) → is_sorted path_cmp (heads.pairs_of hs) ≡ true → heads.AreHeads most hs → HasHeads false sectors disk most hs
-untold_heads sectors disk most hs rising are =
+-- heads of a disk that isn't visible are those of some tree
+pub unseen_heads : (sectors : ℕ) (disk : Image) (most : Option ℕ) (hs : List PathHead) → is_sorted path_cmp (heads.pairs_of hs) ≡ true → heads.AreHeads most hs → HasHeads false sectors disk most hs
+unseen_heads sectors disk most hs rising are =
     let es : List image.PathEntry = are.0 in
     let rise : is_sorted path_cmp es ≡ true = sym (ap (λ l. is_sorted path_cmp (heads.pairs_of l)) are.1 ∙ rising_same (heads.pairs_of (heads_of most es)) es (head_entry_keys most es)) ∙ rising in
-    record { tree = from_entries es; opened = λ told. absurd (let no = told in cc); same = are.1 ∙ ap (heads_of most) (sym (entries-rising path_cmp path_total path_same es rise)) }
+    record { tree = from_entries es; opened = λ seen. absurd (let no = seen in cc); same = are.1 ∙ ap (heads_of most) (sym (entries-rising path_cmp path_total path_same es rise)) }
 
 -- either kind of disk
-pub heads_by : (tells : Bool) (sectors : ℕ) (disk : Image) (most : Option ℕ) (hs : List PathHead) → (tells ≡ true → HasHeads true sectors disk most hs) → HasHeads false sectors disk most hs → HasHeads tells sectors disk most hs
-heads_by true sectors disk most hs told untold = told refl
-heads_by false sectors disk most hs told untold = untold
+pub heads_by : (visible : Bool) (sectors : ℕ) (disk : Image) (most : Option ℕ) (hs : List PathHead) → (visible ≡ true → HasHeads true sectors disk most hs) → HasHeads false sectors disk most hs → HasHeads visible sectors disk most hs
+heads_by true sectors disk most hs seen unseen = seen refl
+heads_by false sectors disk most hs seen unseen = unseen
 
 shown_pairs : (es : List PathEntry) → map {B = image.PathEntry} (λ (e : List ℕ × PathNode). (e.0, bytes_of_node e.1)) (entries.pairs_of es) ≡ shown es
 shown_pairs [] = refl
@@ -133,11 +133,11 @@ pub whole_rising : (hs : List PathHead) (es : List PathEntry) → es ≡ map who
 whole_rising hs es are rising = ap entries.are_rising are ∙ rising_same (entries.pairs_of (map whole_entry hs)) (heads.pairs_of hs) (whole_keys hs) ∙ rising
 
 -- The tree of the entries of whole files is the one that the image stands for.
-pub is_tree : (sectors : ℕ) (disk : Image) (hs : List PathHead) (es : List PathEntry) (nodes : PathNodes) (tells : Bool) → IsTrue tells → HasHeads tells sectors disk None hs → es ≡ map whole_entry hs
+pub is_tree : (sectors : ℕ) (disk : Image) (hs : List PathHead) (es : List PathEntry) (nodes : PathNodes) (visible : Bool) → IsTrue visible → HasHeads visible sectors disk None hs → es ≡ map whole_entry hs
     → fin.entries nodes ≡ entries.pairs_of es → opens sectors disk ≡ Ok (image_tree nodes)
-is_tree sectors disk hs es nodes tells told is are has =
+is_tree sectors disk hs es nodes visible seen is are has =
     let read : shown es ≡ fin.entries is.tree = ap shown (are ∙ ap (map whole_entry) is.same) ∙ whole_shown (fin.entries is.tree) in
-    is.opened told ∙ ap {B = Result image.ImageTree Refusal} Ok
+    is.opened seen ∙ ap {B = Result image.ImageTree Refusal} Ok
     (sym (again is.tree) ∙ ap (λ (l : List image.PathEntry). from_entries l) (sym read ∙ sym (shown_pairs es) ∙ ap (map {B = image.PathEntry} (λ (e : List ℕ × PathNode). (e.0, bytes_of_node e.1))) (sym has)))
 
 -- an inode among others

@@ -27,10 +27,10 @@ path_head most e = record { path = e.0; node = node_head most e.1 }
 abbrev pub heads_of : Option ℕ → List image.PathEntry → List PathHead
 heads_of most es = map (path_head most) es
 
--- The heads are those of a tree, by rising bytes of its paths; a disk that tells what it holds stands for this tree.
-pub record HasHeads (tells : Bool) (sectors : ℕ) (disk : Image) (most : Option ℕ) (heads : List PathHead) : Type 0 where
+-- The heads are those of a tree, by rising bytes of its paths; a visible disk stands for this tree.
+pub record HasHeads (visible : Bool) (sectors : ℕ) (disk : Image) (most : Option ℕ) (heads : List PathHead) : Type 0 where
   pub tree : image.ImageTree
-  pub opened : IsTrue tells → image.opens sectors disk ≡ Ok tree
+  pub opened : IsTrue visible → image.opens sectors disk ≡ Ok tree
   pub same : heads ≡ heads_of most (entries tree)
 
 -- ---- the steps

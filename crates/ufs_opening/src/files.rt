@@ -36,8 +36,8 @@ fn read_next<D: Disk>(
 ) -> Result<(), RecoverFault>
     requires small { block < MAX_BLOCKS }
     requires inside { 8 * block + 8 ≤ D.size disk.old }
-    ensures bytes { IsTrue D.tells → (image : Image) → IsFolded overlay.now (reads (D.moments disk.old)) image → (whole : List ℕ) → IsFrontOf enough bytes.old.items whole → OnOk result (IsFrontOf enough bytes.new.items (whole ++ block_at image block)) }
-    ensures read_only { IsTrue D.tells → IsReadOnly D.keeps (D.moments disk.old) (D.moments disk.new) }
+    ensures bytes { IsTrue D.visible → (image : Image) → IsFolded overlay.now (reads (D.moments disk.old)) image → (whole : List ℕ) → IsFrontOf enough bytes.old.items whole → OnOk result (IsFrontOf enough bytes.new.items (whole ++ block_at image block)) }
+    ensures read_only { IsTrue D.visible → IsReadOnly D.keeps (D.moments disk.old) (D.moments disk.new) }
     ensures size { D.size disk.new ≡ D.size disk.old }
     ensures passed { OnOk result (D.faults disk.new ≡ D.faults disk.old) }
     ensures cause { IfErr result (HasFaultCause (D.faults disk.old) (D.faults disk.new)) }
@@ -64,8 +64,8 @@ fn read_extent<D: Disk>(
     requires geometry { IsGeometry geometry.now }
     requires large { sector_count geometry.now ≤ D.size disk.old }
     requires inside { extent.now.start + extent.now.length ≤ geometry.now.blocks }
-    ensures bytes { IsTrue D.tells → (image : Image) → IsFolded overlay.now (reads (D.moments disk.old)) image → (whole : List ℕ) → IsFrontOf enough bytes.old.items whole → OnOk result (IsFrontOf enough bytes.new.items (whole ++ flat_map (block_at image) (range_with_len extent.now.start extent.now.length))) }
-    ensures read_only { IsTrue D.tells → IsReadOnly D.keeps (D.moments disk.old) (D.moments disk.new) }
+    ensures bytes { IsTrue D.visible → (image : Image) → IsFolded overlay.now (reads (D.moments disk.old)) image → (whole : List ℕ) → IsFrontOf enough bytes.old.items whole → OnOk result (IsFrontOf enough bytes.new.items (whole ++ flat_map (block_at image) (range_with_len extent.now.start extent.now.length))) }
+    ensures read_only { IsTrue D.visible → IsReadOnly D.keeps (D.moments disk.old) (D.moments disk.new) }
     ensures size { D.size disk.new ≡ D.size disk.old }
     ensures passed { OnOk result (D.faults disk.new ≡ D.faults disk.old) }
     ensures cause { IfErr result (HasFaultCause (D.faults disk.old) (D.faults disk.new)) }
@@ -115,9 +115,9 @@ pub(crate) fn read_front<D: Disk>(
     requires geometry { IsGeometry geometry.now }
     requires large { sector_count geometry.now ≤ D.size disk.old }
     requires inside { list_any (leaves_data geometry.now) form.now.extents ≡ false }
-    ensures bytes { IsTrue D.tells → (image : Image) → IsFolded overlay.now (reads (D.moments disk.old)) image → IfOk result (λ b. b.items ≡ take enough (flat_map (block_at image) (blocks_of form.now))) }
+    ensures bytes { IsTrue D.visible → (image : Image) → IsFolded overlay.now (reads (D.moments disk.old)) image → IfOk result (λ b. b.items ≡ take enough (flat_map (block_at image) (blocks_of form.now))) }
     ensures few { IfOk result (λ b. length b.items ≤ enough) }
-    ensures read_only { IsTrue D.tells → IsReadOnly D.keeps (D.moments disk.old) (D.moments disk.new) }
+    ensures read_only { IsTrue D.visible → IsReadOnly D.keeps (D.moments disk.old) (D.moments disk.new) }
     ensures size { D.size disk.new ≡ D.size disk.old }
     ensures passed { OnOk result (D.faults disk.new ≡ D.faults disk.old) }
     ensures cause { IfErr result (HasFaultCause (D.faults disk.old) (D.faults disk.new)) }

@@ -43,16 +43,16 @@ fn refuse_damage(
 /// Opens an image, or tells why it stands for no tree. Reads the superblock, each sector of the journal, and of the
 /// folded image each block of the inode table and of directories; writes nothing.
 pub fn open<D: Disk>(alloc: Global, disk: &mut D) -> Result<Opened, RecoverFault>
-    ensures taken { IsTrue D.tells → IfOk result (λ o. volume (D.size disk.old) (reads (D.moments disk.old)) ≡ Ok (volume_in o.volume (reads (D.moments disk.old)))) }
-    ensures added { IsTrue D.tells → IfOk result (λ o. HasAdded o.volume.overlay (committed_in o.volume (reads (D.moments disk.old)))) }
-    ensures count { IsTrue D.tells → IfOk result (λ o. o.volume.committed ≡ length (committed_in o.volume (reads (D.moments disk.old)))) }
-    ensures highest { IsTrue D.tells → IfOk result (λ o. o.volume.highest ≡ highest_number (committed_in o.volume (reads (D.moments disk.old)))) }
-    ensures found { IsTrue D.tells → IfOk result (λ o. AreFindingsOf o.volume.superblock.geometry (folded_image o.volume (reads (D.moments disk.old))) o.findings) }
-    ensures whole { IsTrue D.tells → IfOk result (λ o. bad_tree o.volume.superblock.geometry (folded_image o.volume (reads (D.moments disk.old))) ≡ None) }
+    ensures taken { IsTrue D.visible → IfOk result (λ o. volume (D.size disk.old) (reads (D.moments disk.old)) ≡ Ok (volume_in o.volume (reads (D.moments disk.old)))) }
+    ensures added { IsTrue D.visible → IfOk result (λ o. HasAdded o.volume.overlay (committed_in o.volume (reads (D.moments disk.old)))) }
+    ensures count { IsTrue D.visible → IfOk result (λ o. o.volume.committed ≡ length (committed_in o.volume (reads (D.moments disk.old)))) }
+    ensures highest { IsTrue D.visible → IfOk result (λ o. o.volume.highest ≡ highest_number (committed_in o.volume (reads (D.moments disk.old)))) }
+    ensures found { IsTrue D.visible → IfOk result (λ o. AreFindingsOf o.volume.superblock.geometry (folded_image o.volume (reads (D.moments disk.old))) o.findings) }
+    ensures whole { IsTrue D.visible → IfOk result (λ o. bad_tree o.volume.superblock.geometry (folded_image o.volume (reads (D.moments disk.old))) ≡ None) }
     ensures counted { IfOk result (λ o. length o.findings.forms ≡ o.volume.superblock.geometry.inodes) }
     ensures large { IfOk result (λ o. sector_count o.volume.superblock.geometry ≤ D.size disk.old) }
-    ensures refused { IsTrue D.tells → IfErr result (TellsWhy (D.size disk.old) (reads (D.moments disk.old))) }
-    ensures read_only { IsTrue D.tells → IsReadOnly D.keeps (D.moments disk.old) (D.moments disk.new) }
+    ensures refused { IsTrue D.visible → IfErr result (TellsWhy (D.size disk.old) (reads (D.moments disk.old))) }
+    ensures read_only { IsTrue D.visible → IsReadOnly D.keeps (D.moments disk.old) (D.moments disk.new) }
     ensures size { D.size disk.new ≡ D.size disk.old }
     ensures passed { OnOk result (D.faults disk.new ≡ D.faults disk.old) }
     ensures cause { IfErr result (HasFaultCause (D.faults disk.old) (D.faults disk.new)) }

@@ -38,11 +38,11 @@ fn read_node<D: Disk>(
     requires geometry { IsGeometry geometry.now }
     requires large { sector_count geometry.now ≤ D.size disk.old }
     requires counted { length forms.now ≡ geometry.now.inodes }
-    ensures node { IsTrue D.tells → (image : Image) → IsFolded overlay.now (reads (D.moments disk.old)) image → AreReadable geometry.now image forms.now → IsInode geometry.now inode
+    ensures node { IsTrue D.visible → (image : Image) → IsFolded overlay.now (reads (D.moments disk.old)) image → AreReadable geometry.now image forms.now → IsInode geometry.now inode
         → IfOk result (λ n. n ≡ node_head most (node_bytes image (form_at geometry.now image inode))) }
     ensures shape { IfOk result (IsHead most) }
-    ensures outside { IsTrue D.tells → (image : Image) → IsFolded overlay.now (reads (D.moments disk.old)) image → AreReadable geometry.now image forms.now → IsInode geometry.now inode → IfErr result IsOutside }
-    ensures read_only { IsTrue D.tells → IsReadOnly D.keeps (D.moments disk.old) (D.moments disk.new) }
+    ensures outside { IsTrue D.visible → (image : Image) → IsFolded overlay.now (reads (D.moments disk.old)) image → AreReadable geometry.now image forms.now → IsInode geometry.now inode → IfErr result IsOutside }
+    ensures read_only { IsTrue D.visible → IsReadOnly D.keeps (D.moments disk.old) (D.moments disk.new) }
     ensures size { D.size disk.new ≡ D.size disk.old }
     ensures passed { OnOk result (D.faults disk.new ≡ D.faults disk.old) }
     ensures cause { IfErr result (HasFaultCause (D.faults disk.old) (D.faults disk.new)) }
@@ -88,11 +88,11 @@ fn read_head<D: Disk>(
     requires large { sector_count geometry.now ≤ D.size disk.old }
     requires counted { length forms.now ≡ geometry.now.inodes }
     ensures path { IfOk result (λ h. h.path ≡ at.now.path.items) }
-    ensures node { IsTrue D.tells → (image : Image) → IsFolded overlay.now (reads (D.moments disk.old)) image → AreReadable geometry.now image forms.now → IsInode geometry.now at.now.inode
+    ensures node { IsTrue D.visible → (image : Image) → IsFolded overlay.now (reads (D.moments disk.old)) image → AreReadable geometry.now image forms.now → IsInode geometry.now at.now.inode
         → IfOk result (λ h. h.node ≡ node_head most (node_bytes image (form_at geometry.now image at.now.inode))) }
     ensures shape { IfOk result (λ h. IsHead most h.node) }
-    ensures outside { IsTrue D.tells → (image : Image) → IsFolded overlay.now (reads (D.moments disk.old)) image → AreReadable geometry.now image forms.now → IsInode geometry.now at.now.inode → IfErr result IsOutside }
-    ensures read_only { IsTrue D.tells → IsReadOnly D.keeps (D.moments disk.old) (D.moments disk.new) }
+    ensures outside { IsTrue D.visible → (image : Image) → IsFolded overlay.now (reads (D.moments disk.old)) image → AreReadable geometry.now image forms.now → IsInode geometry.now at.now.inode → IfErr result IsOutside }
+    ensures read_only { IsTrue D.visible → IsReadOnly D.keeps (D.moments disk.old) (D.moments disk.new) }
     ensures size { D.size disk.new ≡ D.size disk.old }
     ensures passed { OnOk result (D.faults disk.new ≡ D.faults disk.old) }
     ensures cause { IfErr result (HasFaultCause (D.faults disk.old) (D.faults disk.new)) }
@@ -129,11 +129,11 @@ pub(crate) fn read_heads<D: Disk>(
     requires large { sector_count geometry.now ≤ D.size disk.old }
     requires counted { length forms.now ≡ geometry.now.inodes }
     ensures paths { IfOk result (λ hs. paths_of hs.items ≡ map (λ p. p.path.items) places.now) }
-    ensures heads { IsTrue D.tells → (image : Image) → IsFolded overlay.now (reads (D.moments disk.old)) image → AreReadable geometry.now image forms.now → AreInodes geometry.now (pairs_of places.now)
+    ensures heads { IsTrue D.visible → (image : Image) → IsFolded overlay.now (reads (D.moments disk.old)) image → AreReadable geometry.now image forms.now → AreInodes geometry.now (pairs_of places.now)
         → IfOk result (λ hs. hs.items ≡ heads_of most (map (entry_of geometry.now image) (pairs_of places.now))) }
     ensures shape { IfOk result (λ hs. AreHeads most hs.items) }
-    ensures outside { IsTrue D.tells → (image : Image) → IsFolded overlay.now (reads (D.moments disk.old)) image → AreReadable geometry.now image forms.now → AreInodes geometry.now (pairs_of places.now) → IfErr result IsOutside }
-    ensures read_only { IsTrue D.tells → IsReadOnly D.keeps (D.moments disk.old) (D.moments disk.new) }
+    ensures outside { IsTrue D.visible → (image : Image) → IsFolded overlay.now (reads (D.moments disk.old)) image → AreReadable geometry.now image forms.now → AreInodes geometry.now (pairs_of places.now) → IfErr result IsOutside }
+    ensures read_only { IsTrue D.visible → IsReadOnly D.keeps (D.moments disk.old) (D.moments disk.new) }
     ensures size { D.size disk.new ≡ D.size disk.old }
     ensures passed { OnOk result (D.faults disk.new ≡ D.faults disk.old) }
     ensures cause { IfErr result (HasFaultCause (D.faults disk.old) (D.faults disk.new)) }

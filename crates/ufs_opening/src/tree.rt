@@ -30,10 +30,10 @@ fn heads_in<D: Disk>(
 ) -> Result<Vec<PathHead>, RecoverFault>
     requires large { sector_count opened.now.volume.superblock.geometry ≤ D.size disk.old }
     requires counted { length opened.now.findings.forms ≡ opened.now.volume.superblock.geometry.inodes }
-    ensures heads { (sectors : ℕ) → (IsTrue D.tells → IsOpened opened.now sectors (reads (D.moments disk.old))) → IfOk result (λ hs. HasHeads D.tells sectors (reads (D.moments disk.old)) most hs.items) }
-    ensures outside { IsTrue D.tells → (sectors : ℕ) → IsOpened opened.now sectors (reads (D.moments disk.old)) → IfErr result IsOutside }
+    ensures heads { (sectors : ℕ) → (IsTrue D.visible → IsOpened opened.now sectors (reads (D.moments disk.old))) → IfOk result (λ hs. HasHeads D.visible sectors (reads (D.moments disk.old)) most hs.items) }
+    ensures outside { IsTrue D.visible → (sectors : ℕ) → IsOpened opened.now sectors (reads (D.moments disk.old)) → IfErr result IsOutside }
     ensures rising { IfOk result (λ hs. IsTrue (is_sorted path_cmp (pairs_of hs.items))) }
-    ensures read_only { IsTrue D.tells → IsReadOnly D.keeps (D.moments disk.old) (D.moments disk.new) }
+    ensures read_only { IsTrue D.visible → IsReadOnly D.keeps (D.moments disk.old) (D.moments disk.new) }
     ensures size { D.size disk.new ≡ D.size disk.old }
     ensures passed { OnOk result (D.faults disk.new ≡ D.faults disk.old) }
     ensures cause { IfErr result (HasFaultCause (D.faults disk.old) (D.faults disk.new)) }
@@ -57,10 +57,10 @@ pub fn tree_heads<D: Disk>(
     disk: &mut D,
     most: Option<usize>,
 ) -> Result<Vec<PathHead>, RecoverFault>
-    ensures heads { IfOk result (λ hs. HasHeads D.tells (D.size disk.old) (reads (D.moments disk.old)) most hs.items) }
+    ensures heads { IfOk result (λ hs. HasHeads D.visible (D.size disk.old) (reads (D.moments disk.old)) most hs.items) }
     ensures rising { IfOk result (λ hs. IsTrue (is_sorted path_cmp (pairs_of hs.items))) }
-    ensures refused { IsTrue D.tells → IfErr result (TellsWhy (D.size disk.old) (reads (D.moments disk.old))) }
-    ensures read_only { IsTrue D.tells → IsReadOnly D.keeps (D.moments disk.old) (D.moments disk.new) }
+    ensures refused { IsTrue D.visible → IfErr result (TellsWhy (D.size disk.old) (reads (D.moments disk.old))) }
+    ensures read_only { IsTrue D.visible → IsReadOnly D.keeps (D.moments disk.old) (D.moments disk.new) }
     ensures size { D.size disk.new ≡ D.size disk.old }
     ensures passed { OnOk result (D.faults disk.new ≡ D.faults disk.old) }
     ensures cause { IfErr result (HasFaultCause (D.faults disk.old) (D.faults disk.new)) }
@@ -99,9 +99,9 @@ fn entries_of(alloc: Global, heads: Vec<PathHead>) -> Result<Vec<PathEntry>, All
 /// The tree that the image on a disk stands for, or the first cause for which it stands for none. Reads each
 /// block that the image uses at most once for each inode that has it; writes nothing.
 pub fn tree_of<D: Disk>(alloc: Global, disk: &mut D) -> Result<PathTree, RecoverFault>
-    ensures tree { IsTrue D.tells → IfOk result (λ t. opens (D.size disk.old) (reads (D.moments disk.old)) ≡ Ok (image_tree t)) }
-    ensures refused { IsTrue D.tells → IfErr result (TellsWhy (D.size disk.old) (reads (D.moments disk.old))) }
-    ensures read_only { IsTrue D.tells → IsReadOnly D.keeps (D.moments disk.old) (D.moments disk.new) }
+    ensures tree { IsTrue D.visible → IfOk result (λ t. opens (D.size disk.old) (reads (D.moments disk.old)) ≡ Ok (image_tree t)) }
+    ensures refused { IsTrue D.visible → IfErr result (TellsWhy (D.size disk.old) (reads (D.moments disk.old))) }
+    ensures read_only { IsTrue D.visible → IsReadOnly D.keeps (D.moments disk.old) (D.moments disk.new) }
     ensures size { D.size disk.new ≡ D.size disk.old }
     ensures passed { OnOk result (D.faults disk.new ≡ D.faults disk.old) }
     ensures cause { IfErr result (HasFaultCause (D.faults disk.old) (D.faults disk.new)) }

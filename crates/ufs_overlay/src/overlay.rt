@@ -88,10 +88,10 @@ impl Overlay {
     pub fn value<D: Disk>(&self, disk: &mut D, sector: u32, buf: &mut [u8]) -> Result<(), Fault>
         requires inside { sector < D.size disk.old }
         requires sized { length buf.old ≡ 512 }
-        ensures value { IsTrue D.tells → (added : List Committed) → HasAdded self.now added → OnOk result
+        ensures value { IsTrue D.visible → (added : List Committed) → HasAdded self.now added → OnOk result
             (buf.new ≡ folded (geometry_of self.now) added (reads (D.moments disk.old)) sector) }
-        ensures content { IsTrue D.tells → reads (D.moments disk.new) ≡ reads (D.moments disk.old) }
-        ensures crash { IsTrue D.tells → LeavesOnly D.keeps (IsImage (D.moments disk.old).state)
+        ensures content { IsTrue D.visible → reads (D.moments disk.new) ≡ reads (D.moments disk.old) }
+        ensures crash { IsTrue D.visible → LeavesOnly D.keeps (IsImage (D.moments disk.old).state)
             (D.moments disk.old) (D.moments disk.new) }
         ensures size { D.size disk.new ≡ D.size disk.old }
         ensures cause { HasCause (D.faults disk.old) (D.faults disk.new) result }
@@ -128,9 +128,9 @@ impl Overlay {
     // Writes one sector home, if a transaction changes it.
     fn write_sector<D: Disk>(&self, disk: &mut D, sector: u32) -> Result<(), Fault>
         requires inside { sector < D.size disk.old }
-        ensures ok { IsTrue D.tells → (added : List Committed) → HasAdded self.now added → OnOk result
+        ensures ok { IsTrue D.visible → (added : List Committed) → HasAdded self.now added → OnOk result
             ((k : ℕ) → reads (D.moments disk.new) k ≡ (if k == sector then folded (geometry_of self.now) added (reads (D.moments disk.old)) k else reads (D.moments disk.old) k)) }
-        ensures crash { IsTrue D.tells → (added : List Committed) → HasAdded self.now added
+        ensures crash { IsTrue D.visible → (added : List Committed) → HasAdded self.now added
             → LeavesOnly D.keeps (IsStepWritten (geometry_of self.now) added sector (D.moments disk.old).state)
             (D.moments disk.old) (D.moments disk.new) }
         ensures size { D.size disk.new ≡ D.size disk.old }
@@ -148,18 +148,18 @@ impl Overlay {
     /// Writes each sector home that a transaction changes.
     pub fn write_home<D: Disk>(&self, disk: &mut D) -> Result<(), Fault>
         requires { sector_count (geometry_of self.now) ≤ D.size disk.old }
-        ensures ok { IsTrue D.tells → (added : List Committed) → HasAdded self.now added → OnOk result
+        ensures ok { IsTrue D.visible → (added : List Committed) → HasAdded self.now added → OnOk result
             ((k : ℕ) → reads (D.moments disk.new) k ≡ folded (geometry_of self.now) added (reads (D.moments disk.old)) k) }
 
         // Where each sector that is written was settled, a crash leaves at each moment what it might have
         // left before, with some sectors as the transactions leave them.
-        ensures crash { IsTrue D.tells → (added : List Committed) → HasAdded self.now added
+        ensures crash { IsTrue D.visible → (added : List Committed) → HasAdded self.now added
             → IsHomeSettled (geometry_of self.now) added (D.moments disk.old).state
             → LeavesOnly D.keeps (IsHomeWritten (geometry_of self.now) added (D.moments disk.old).state)
             (D.moments disk.old) (D.moments disk.new) }
 
         // So whatever a crash leaves folds to what it folded to before.
-        ensures folds { IsTrue D.tells → (added : List Committed) → HasAdded self.now added → AllByRecursion FitsCommitted added
+        ensures folds { IsTrue D.visible → (added : List Committed) → HasAdded self.now added → AllByRecursion FitsCommitted added
             → IsHomeSettled (geometry_of self.now) added (D.moments disk.old).state
             → LeavesOnly D.keeps (FoldsAlike (geometry_of self.now) added (D.moments disk.old).state)
             (D.moments disk.old) (D.moments disk.new) }

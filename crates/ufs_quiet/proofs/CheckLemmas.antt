@@ -35,7 +35,7 @@ list_told d list has calm SourceFault text e = absurd e
 list_told d list has calm Damaged text e = (calm, list, e.0, has, e.1)
 
 -- why there is none is told
-pub list_refused : (d : Formatting) (f : RecoverFault) → HasFaultCause d.before d.now f → (IsTrue d.tells → IsWhyNot (damage_list d.sectors d.image) f) → EndsCheck d (ending_of f) (line_of f)
+pub list_refused : (d : Formatting) (f : RecoverFault) → HasFaultCause d.before d.now f → (IsTrue d.visible → IsWhyNot (damage_list d.sectors d.image) f) → EndsCheck d (ending_of f) (line_of f)
 list_refused d recover.NoSuperblock cause why = (cause, image.NoSuperblock, why, refl)
 list_refused d (recover.BadVersion found) cause why = (cause, image.BadVersion found, why, refl)
 list_refused d (recover.BadGeometry number) cause why = (cause, image.BadGeometry number, why, refl)
@@ -50,7 +50,7 @@ abbrev Listed : Formatting → List ℕ → Type 0
 Listed d text = (list : List Damage) × (list ≢ []) × HasDamage d list × (text ≡ damage_lines list)
 
 abbrev Refused : Formatting → List ℕ → Type 0
-Refused d text = (refusal : Refusal) × (IsTrue d.tells → damage_list d.sectors d.image ≡ Err refusal) × (text ≡ refusal_line refusal)
+Refused d text = (refusal : Refusal) × (IsTrue d.visible → damage_list d.sectors d.image ≡ Err refusal) × (text ≡ refusal_line refusal)
 
 data ByStatus (d : Formatting) (status : ℕ) (text : List ℕ) : Type 0 where
   clean : status ≡ 0 → HasDamage d [] → text ≡ clean_line → ByStatus d status text
@@ -93,31 +93,31 @@ refused_by d status text three (refused is r) = r
 refused_by d status text three (device is e) = absurd (omega (arith, three, is))
 refused_by d status text three (memory is) = absurd (omega (arith, three, is))
 
-module _ (d : Formatting) (status : ℕ) (text : List ℕ) (tells : IsTrue d.tells) (calm : d.now ≡ raised d.before → ⊥) where
+module _ (d : Formatting) (status : ℕ) (text : List ℕ) (visible : IsTrue d.visible) (calm : d.now ≡ raised d.before → ⊥) where
   whole_by : damage_list d.sectors d.image ≡ Ok [] → ByStatus d status text → (status ≡ 0) ⊎ (status ≡ 5)
   whole_by none (clean is h t) = inl is
-  whole_by none (damaged is l) = absurd (l.1 (let both : Ok l.0 ≡ Ok [] = sym (l.2 tells) ∙ none in cc))
-  whole_by none (refused is r) = let both : Ok [] ≡ Err r.0 = sym none ∙ r.1 tells in cc
+  whole_by none (damaged is l) = absurd (l.1 (let both : Ok l.0 ≡ Ok [] = sym (l.2 visible) ∙ none in cc))
+  whole_by none (refused is r) = let both : Ok [] ≡ Err r.0 = sym none ∙ r.1 visible in cc
   whole_by none (device is e) = absurd (calm e)
   whole_by none (memory is) = inr is
 
   listed_by : (list : List Damage) → (list ≡ [] → ⊥) → damage_list d.sectors d.image ≡ Ok list → ByStatus d status text → (status ≡ 8) ⊎ (status ≡ 5)
-  listed_by list some has (clean is h t) = absurd (some (let both : Ok list ≡ Ok [] = sym has ∙ h tells in cc))
+  listed_by list some has (clean is h t) = absurd (some (let both : Ok list ≡ Ok [] = sym has ∙ h visible in cc))
   listed_by list some has (damaged is l) = inl is
-  listed_by list some has (refused is r) = let both : Ok list ≡ Err r.0 = sym has ∙ r.1 tells in cc
+  listed_by list some has (refused is r) = let both : Ok list ≡ Err r.0 = sym has ∙ r.1 visible in cc
   listed_by list some has (device is e) = absurd (calm e)
   listed_by list some has (memory is) = inr is
 
   unlisted_by : (refusal : Refusal) → damage_list d.sectors d.image ≡ Err refusal → ByStatus d status text → (status ≡ 3) ⊎ (status ≡ 5)
-  unlisted_by refusal none (clean is h t) = let both : Err refusal ≡ Ok [] = sym none ∙ h tells in cc
-  unlisted_by refusal none (damaged is l) = let both : Err refusal ≡ Ok l.0 = sym none ∙ l.2 tells in cc
+  unlisted_by refusal none (clean is h t) = let both : Err refusal ≡ Ok [] = sym none ∙ h visible in cc
+  unlisted_by refusal none (damaged is l) = let both : Err refusal ≡ Ok l.0 = sym none ∙ l.2 visible in cc
   unlisted_by refusal none (refused is r) = inl is
   unlisted_by refusal none (device is e) = absurd (calm e)
   unlisted_by refusal none (memory is) = inr is
 
 -- ---- of the whole answer
 
-module _ (d : Formatting) (w : Writing) (status : ℕ) (a : IsAnswer (EndsCheck d) w status) (tells : IsTrue d.tells) where
+module _ (d : Formatting) (w : Writing) (status : ℕ) (a : IsAnswer (EndsCheck d) w status) (visible : IsTrue d.visible) where
   told : (status ≡ sink_status → ⊥) → (text : List ℕ) × ByStatus d status text × Appends w.held w.holds text
   told other = let x = a.whole other in (x.1, by_status d status x.0 x.1 x.2 x.3, x.4)
 
@@ -125,19 +125,19 @@ module _ (d : Formatting) (w : Writing) (status : ℕ) (a : IsAnswer (EndsCheck 
   check_clean zero =
       let x = told (λ e. cc) in
       let s = clean_by d status x.0 zero x.1 in
-      (s.0 tells, subst (Appends w.held w.holds) s.1 x.2)
+      (s.0 visible, subst (Appends w.held w.holds) s.1 x.2)
 
   check_damaged : status ≡ 8 → (list : List Damage) × (list ≢ []) × (damage_list d.sectors d.image ≡ Ok list) × Appends w.held w.holds (damage_lines list)
   check_damaged eight =
       let x = told (λ e. cc) in
       let s = damaged_by d status x.0 eight x.1 in
-      (s.0, s.1, s.2 tells, subst (Appends w.held w.holds) s.3 x.2)
+      (s.0, s.1, s.2 visible, subst (Appends w.held w.holds) s.3 x.2)
 
   check_refusal : status ≡ 3 → (refusal : Refusal) × (damage_list d.sectors d.image ≡ Err refusal) × Appends w.held w.holds (refusal_line refusal)
   check_refusal three =
       let x = told (λ e. cc) in
       let s = refused_by d status x.0 three x.1 in
-      (s.0, s.1 tells, subst (Appends w.held w.holds) s.2 x.2)
+      (s.0, s.1 visible, subst (Appends w.held w.holds) s.2 x.2)
 
   pub check_told : TellsCheck d w status
   check_told = record {
@@ -145,7 +145,7 @@ module _ (d : Formatting) (w : Writing) (status : ℕ) (a : IsAnswer (EndsCheck 
     damaged = check_damaged;
     no_list = check_refusal;
     proper = λ proper three. let x = check_refusal three in proper_listed d.sectors d.image proper x.0 x.1;
-    complete_clean = λ none calm. let x = told (λ s. calm.sink (a.rose s)) in whole_by d status x.0 tells calm.disk none x.1;
-    complete_damaged = λ list some has calm. let x = told (λ s. calm.sink (a.rose s)) in listed_by d status x.0 tells calm.disk list some has x.1;
-    refused = λ refusal none calm. let x = told (λ s. calm.sink (a.rose s)) in unlisted_by d status x.0 tells calm.disk refusal none x.1;
+    complete_clean = λ none calm. let x = told (λ s. calm.sink (a.rose s)) in whole_by d status x.0 visible calm.disk none x.1;
+    complete_damaged = λ list some has calm. let x = told (λ s. calm.sink (a.rose s)) in listed_by d status x.0 visible calm.disk list some has x.1;
+    refused = λ refusal none calm. let x = told (λ s. calm.sink (a.rose s)) in unlisted_by d status x.0 visible calm.disk refusal none x.1;
   }

@@ -19,7 +19,7 @@ use Rattle.ufs_quiet.specs.Texts.{break_line, device_line}
 use Rattle.ufs_quiet.specs.Endings.{EndsPlay, EndsServing, EndsUnread, IsAnswer, TellsNoStart, sink_status, status_of}
 use Rattle.ufs_quiet.specs.Told.{TellsPlay}
 
--- ---- the text that was read, of a source that tells its bytes
+-- ---- the text that was read, of a visible source
 
 by_rest : LongerIsAlike → (text read rest : List ℕ) → text ≡ read ++ rest → (rest ≡ []) ⊎ (max_script < length read) → script_of read ≡ script_of text
 by_rest alike text read rest is (inl none) = ap script_of (sym (append-nil read) ∙ ap (λ l. read ++ l) (sym none) ∙ sym is)
@@ -128,7 +128,7 @@ stopped_rose : (trace : Bool) (r : Reading) (d : Formatting) (told : List (List 
 stopped_rose trace r d told text (inl e) = e.1
 stopped_rose trace r d told text (inr e) = end_rose d told e.3 e.4
 
--- ---- of a source that tells its bytes
+-- ---- of a visible source
 
 module _ (trace : Bool) (alike : LongerIsAlike) (text : List ℕ) (r : Reading) (left : r.left ≡ Some text) (calm : r.now ≡ raised r.before → ⊥) (d : Formatting) (told : List (List Entry)) (status : ℕ) where
   alike_read : (read : List ℕ) → HasRead r.left r.rest read → script_of read ≡ script_of text

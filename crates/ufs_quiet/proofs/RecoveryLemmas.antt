@@ -19,7 +19,7 @@ use Rattle.ufs_quiet.specs.Told.{TellsRecovery}
 use Rattle.ufs_quiet.proofs.StatusLemmas.{ByStatus, good, none, device, memory, good_told, none_told, good_end, none_end}
 
 -- why it isn't recovered is told
-pub recovery_refused : (d : Formatting) (f : RecoverFault) → HasFaultCause d.before d.now f → (IsTrue d.tells → TellsWhy d.sectors d.image f) → (IsTrue d.tells → IsProperImage d.sectors d.image → IsOutside f) → EndsRecovery d (ending_of f) (line_of f)
+pub recovery_refused : (d : Formatting) (f : RecoverFault) → HasFaultCause d.before d.now f → (IsTrue d.visible → TellsWhy d.sectors d.image f) → (IsTrue d.visible → IsProperImage d.sectors d.image → IsOutside f) → EndsRecovery d (ending_of f) (line_of f)
 recovery_refused d recover.NoSuperblock cause why outside = (cause, outside, (image.NoSuperblock, why, refl))
 recovery_refused d (recover.BadVersion found) cause why outside = (cause, outside, (image.BadVersion found, why, refl))
 recovery_refused d (recover.BadGeometry number) cause why outside = (cause, outside, (image.BadGeometry number, why, refl))
@@ -60,17 +60,17 @@ by_status d status OutOfMemory text is e = memory is
 by_status d status SourceFault text is e = absurd e
 by_status d status Damaged text is e = absurd e
 
-not_none : (d : Formatting) (tree : ImageTree) (text : List ℕ) → IsTrue d.tells → opens d.sectors d.image ≡ Ok tree → Refused d text → ⊥
-not_none d tree text tells opened r = let both : Ok tree ≡ Err r.1.0 = sym opened ∙ r.1.1 tells in cc
+not_none : (d : Formatting) (tree : ImageTree) (text : List ℕ) → IsTrue d.visible → opens d.sectors d.image ≡ Ok tree → Refused d text → ⊥
+not_none d tree text visible opened r = let both : Ok tree ≡ Err r.1.0 = sym opened ∙ r.1.1 visible in cc
 
-not_counted : (d : Formatting) (refusal : Refusal) (text : List ℕ) → IsTrue d.tells → opens d.sectors d.image ≡ Err refusal → Counted d text → ⊥
-not_counted d refusal text tells unopened s =
-    let there = s.1.opened tells in
+not_counted : (d : Formatting) (refusal : Refusal) (text : List ℕ) → IsTrue d.visible → opens d.sectors d.image ≡ Err refusal → Counted d text → ⊥
+not_counted d refusal text visible unopened s =
+    let there = s.1.opened visible in
     let both : Err refusal ≡ Ok there.0 = sym unopened ∙ there.1 in cc
 
 -- ---- of the whole answer
 
-module _ (d : Formatting) (w : Writing) (status : ℕ) (a : IsAnswer (EndsRecovery d) w status) (known : IsTrue d.tells) where
+module _ (d : Formatting) (w : Writing) (status : ℕ) (a : IsAnswer (EndsRecovery d) w status) (known : IsTrue d.visible) where
   pub recovery_told : TellsRecovery d w status
   recovery_told = record {
     recovered = λ zero.

@@ -34,10 +34,10 @@ pub record HasPlayed (d : Formatting) (script : Script) (told : List (List Entry
   pub refused : (fault : StartFault) → result ≡ Err (ended.Image fault) → told ≡ []
   pub opening : (fault : StartFault) → result ≡ Err (ended.Image fault) → HasStartCause d.before d.now fault
   pub closing : IsEndFault d.before d.now (joined told) result
-  pub played : MayPlay d.tells d.sectors d.state → (begun : PosixTree) → BeginsWith d.sectors d.image begun → ArePlayedFrom begun script.clients told result
-  pub opened : MayPlay d.tells d.sectors d.state → (begun : PosixTree) × BeginsWith d.sectors d.image begun
-  pub why : MayPlay d.tells d.sectors d.state → (fault : StartFault) → result ≡ Err (ended.Image fault) → TellsNoSession d.sectors d.image fault
-  pub unopened : IsTrue d.tells → (refusal : Refusal) → opens d.sectors d.image ≡ Err refusal
+  pub played : MayPlay d.visible d.sectors d.state → (begun : PosixTree) → BeginsWith d.sectors d.image begun → ArePlayedFrom begun script.clients told result
+  pub opened : MayPlay d.visible d.sectors d.state → (begun : PosixTree) × BeginsWith d.sectors d.image begun
+  pub why : MayPlay d.visible d.sectors d.state → (fault : StartFault) → result ≡ Err (ended.Image fault) → TellsNoSession d.sectors d.image fault
+  pub unopened : IsTrue d.visible → (refusal : Refusal) → opens d.sectors d.image ≡ Err refusal
       → (result ≡ Err ended.Memory) ⊎ ((fault : RecoverFault) × (result ≡ Err (ended.Image (start.Image fault))) × TellsWhy d.sectors d.image fault)
 
 same_line : {X : Type 0} (given : Result X Refusal) (a b : Refusal) → given ≡ Err a → given ≡ Err b → refusal_line a ≡ refusal_line b
@@ -75,10 +75,10 @@ module _ (trace : Bool) (d : Formatting) (script : Script) (told : List (List En
 
   -- none began
   abbrev Cause : StartFault → Type 0
-  Cause fault = IsTrue d.tells → (refusal : Refusal) → opens d.sectors d.image ≡ Err refusal → (f : RecoverFault) × (start.Image f ≡ fault) × TellsWhy d.sectors d.image f
+  Cause fault = IsTrue d.visible → (refusal : Refusal) → opens d.sectors d.image ≡ Err refusal → (f : RecoverFault) × (start.Image f ≡ fault) × TellsWhy d.sectors d.image f
 
   abbrev Why : StartFault → Type 0
-  Why fault = MayPlay d.tells d.sectors d.state → TellsNoSession d.sectors d.image fault
+  Why fault = MayPlay d.visible d.sectors d.state → TellsNoSession d.sectors d.image fault
 
   no_start : (fault : StartFault) → start_ending fault ≡ NoTree → Why fault → Cause fault → TellsNoStart d (start_line fault)
   no_start fault is why cause = record {
@@ -86,8 +86,8 @@ module _ (trace : Bool) (d : Formatting) (script : Script) (told : List (List En
     ending_is = is;
     text_is = refl;
     why = why;
-    refused = λ tells refusal none.
-        let x = cause tells refusal none in
+    refused = λ visible refusal none.
+        let x = cause visible refusal none in
         ap start_line (sym x.1) ∙ told_why (opens d.sectors d.image) x.0 x.2 refusal none (ap start_ending x.1 ∙ is);
   }
 
@@ -105,7 +105,7 @@ module _ (trace : Bool) (d : Formatting) (script : Script) (told : List (List En
   unbegun (start.TooLong inode) none count why cause cut = (none, count, no_start (start.TooLong inode) refl why cause)
 
   cause_of : (fault : StartFault) → HasPlayed d script told (Err (ended.Image fault)) → Cause fault
-  cause_of fault h tells refusal none = elim (h.unopened tells refusal none) [ inl memory ↦ absurd cc | inr x ↦ (x.0, cc, x.2) ]
+  cause_of fault h visible refusal none = elim (h.unopened visible refusal none) [ inl memory ↦ absurd cc | inr x ↦ (x.0, cc, x.2) ]
 
   -- each request was answered
   well_ended : HasPlayed d script told (Ok tt) → (ending : Ending) (text : List ℕ) → EndsPrinting (session_lines trace (joined told)) ending text → EndsServing trace d script told ending text

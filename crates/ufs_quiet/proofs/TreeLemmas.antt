@@ -34,7 +34,7 @@ tree_shown d tree stands calm SourceFault text e = absurd e
 tree_shown d tree stands calm Damaged text e = absurd e
 
 -- why there is none is told
-pub tree_refused : (d : Formatting) (f : RecoverFault) → HasFaultCause d.before d.now f → (IsTrue d.tells → TellsWhy d.sectors d.image f) → EndsTree d (ending_of f) (line_of f)
+pub tree_refused : (d : Formatting) (f : RecoverFault) → HasFaultCause d.before d.now f → (IsTrue d.visible → TellsWhy d.sectors d.image f) → EndsTree d (ending_of f) (line_of f)
 tree_refused d recover.NoSuperblock cause why = (cause, (image.NoSuperblock, why, refl))
 tree_refused d (recover.BadVersion found) cause why = (cause, (image.BadVersion found, why, refl))
 tree_refused d (recover.BadGeometry number) cause why = (cause, (image.BadGeometry number, why, refl))
@@ -72,15 +72,15 @@ by_status d status OutOfMemory text is e = memory is
 by_status d status SourceFault text is e = absurd e
 by_status d status Damaged text is e = absurd e
 
-not_none : (d : Formatting) (tree : ImageTree) (text : List ℕ) → IsTrue d.tells → opens d.sectors d.image ≡ Ok tree → TellsNoTree d text → ⊥
-not_none d tree text tells opened r = let both : Ok tree ≡ Err r.0 = sym opened ∙ r.1 tells in cc
+not_none : (d : Formatting) (tree : ImageTree) (text : List ℕ) → IsTrue d.visible → opens d.sectors d.image ≡ Ok tree → TellsNoTree d text → ⊥
+not_none d tree text visible opened r = let both : Ok tree ≡ Err r.0 = sym opened ∙ r.1 visible in cc
 
-not_shown : (d : Formatting) (refusal : Refusal) (text : List ℕ) → IsTrue d.tells → opens d.sectors d.image ≡ Err refusal → Shown d text → ⊥
-not_shown d refusal text tells unopened s = let both : Err refusal ≡ Ok s.0 = sym unopened ∙ s.1 tells in cc
+not_shown : (d : Formatting) (refusal : Refusal) (text : List ℕ) → IsTrue d.visible → opens d.sectors d.image ≡ Err refusal → Shown d text → ⊥
+not_shown d refusal text visible unopened s = let both : Err refusal ≡ Ok s.0 = sym unopened ∙ s.1 visible in cc
 
 -- ---- of the whole answer
 
-module _ (d : Formatting) (w : Writing) (status : ℕ) (a : IsAnswer (EndsTree d) w status) (known : IsTrue d.tells) where
+module _ (d : Formatting) (w : Writing) (status : ℕ) (a : IsAnswer (EndsTree d) w status) (known : IsTrue d.visible) where
   pub tree_told : TellsTree d w status
   tree_told = record {
     printed = λ zero.

@@ -135,13 +135,13 @@ start_line (start.Unnamed inode) = refusal_line (image.BadTree inode)
 start_line (start.ExtraBlocks inode) = refusal_line (image.BadTree inode)
 start_line (start.TooLong inode) = refusal_line (image.BadTree inode)
 
--- The disk, if it tells what it holds, is an image that stands for this tree.
+-- The disk, if it is visible, is an image that stands for this tree.
 abbrev pub StandsFor : Formatting → ImageTree → Type 0
-StandsFor d tree = IsTrue d.tells → opens d.sectors d.image ≡ Ok tree
+StandsFor d tree = IsTrue d.visible → opens d.sectors d.image ≡ Ok tree
 
 -- It stands for none, and the text tells why.
 abbrev pub TellsNoTree : Formatting → List ℕ → Type 0
-TellsNoTree d text = (refusal : Refusal) × (IsTrue d.tells → opens d.sectors d.image ≡ Err refusal) × (text ≡ refusal_line refusal)
+TellsNoTree d text = (refusal : Refusal) × (IsTrue d.visible → opens d.sectors d.image ≡ Err refusal) × (text ≡ refusal_line refusal)
 
 -- What is seen of the disk allows `tree` this ending with this text.
 abbrev pub EndsTree : Formatting → Ending → List ℕ → Type 0
@@ -160,30 +160,30 @@ EndsListing list Done text = (list ≡ []) × (text ≡ clean_line)
 EndsListing list Damaged text = (list ≢ []) × (text ≡ damage_lines list)
 EndsListing list _ text = ⊥
 
--- The disk, if it tells what it holds, is an image with this damage.
+-- The disk, if it is visible, is an image with this damage.
 abbrev pub HasDamage : Formatting → List Damage → Type 0
-HasDamage d list = IsTrue d.tells → damage_list d.sectors d.image ≡ Ok list
+HasDamage d list = IsTrue d.visible → damage_list d.sectors d.image ≡ Ok list
 
 -- What is seen of the disk allows `check` this ending with this text.
 abbrev pub EndsCheck : Formatting → Ending → List ℕ → Type 0
 EndsCheck d Done text = (d.now ≡ d.before) × HasDamage d [] × (text ≡ clean_line)
 EndsCheck d Damaged text = (d.now ≡ d.before) × (list : List Damage) × (list ≢ []) × HasDamage d list × (text ≡ damage_lines list)
-EndsCheck d NoTree text = (d.now ≡ d.before) × (refusal : Refusal) × (IsTrue d.tells → damage_list d.sectors d.image ≡ Err refusal) × (text ≡ refusal_line refusal)
+EndsCheck d NoTree text = (d.now ≡ d.before) × (refusal : Refusal) × (IsTrue d.visible → damage_list d.sectors d.image ≡ Err refusal) × (text ≡ refusal_line refusal)
 EndsCheck d DeviceFault text = (d.now ≡ raised d.before) × (text ≡ device_line d.now)
 EndsCheck d OutOfMemory text = (d.now ≡ d.before) × (text ≡ memory_line)
 EndsCheck d _ text = ⊥
 
 -- ---- what a recovery ends with
 
--- The disk, if it tells what it holds, is an image that stands for some tree, and so many transactions are committed in
+-- The disk, if it is visible, is an image that stands for some tree, and so many transactions are committed in
 -- its journal.
 pub record HasCommitted (d : Formatting) (count : ℕ) : Type 0 where
-  pub opened : IsTrue d.tells → (tree : ImageTree) × (opens d.sectors d.image ≡ Ok tree)
-  pub found : IsTrue d.tells → count ≡ length (log_of d.image)
+  pub opened : IsTrue d.visible → (tree : ImageTree) × (opens d.sectors d.image ≡ Ok tree)
+  pub found : IsTrue d.visible → count ≡ length (log_of d.image)
 
--- The disk, if it tells what it holds, is no proper image.
+-- The disk, if it is visible, is no proper image.
 abbrev pub IsImproper : Formatting → Type 0
-IsImproper d = IsTrue d.tells → ¬ IsProperImage d.sectors d.image
+IsImproper d = IsTrue d.visible → ¬ IsProperImage d.sectors d.image
 
 -- What is seen of the disk allows `recover` this ending with this text.
 abbrev pub EndsRecovery : Formatting → Ending → List ℕ → Type 0
@@ -214,9 +214,9 @@ pub record TellsNoStart (d : Formatting) (text : List ℕ) : Type 0 where
   pub fault : StartFault
   pub ending_is : start_ending fault ≡ NoTree
   pub text_is : text ≡ start_line fault
-  pub why : MayPlay d.tells d.sectors d.state → TellsNoSession d.sectors d.image fault
-  -- Of any disk that tells what it holds, and stands for no tree, the cause is told.
-  pub refused : IsTrue d.tells → (refusal : Refusal) → opens d.sectors d.image ≡ Err refusal → text ≡ refusal_line refusal
+  pub why : MayPlay d.visible d.sectors d.state → TellsNoSession d.sectors d.image fault
+  -- Of any visible disk that stands for no tree the cause is told.
+  pub refused : IsTrue d.visible → (refusal : Refusal) → opens d.sectors d.image ≡ Err refusal → text ≡ refusal_line refusal
 
 -- What is seen of the disk and was told allows the serving of a script, with a trace or without, this ending with this text.
 -- Each request is answered, and the image is clean;

@@ -29,15 +29,15 @@ use Rattle.ufs_quiet.specs.Seen.{Course, Reading}
 -- `mkfs` of this geometry
 pub record Formats {D : Type 0} (g : Geometry) (status : ℕ) (c : Course D) : Type 0 where
   -- Status 0: the disk has a new image, with the root alone, and nothing pending.
-  pub formatted : IsTrue c.tells → status ≡ 0 → IsNewDisk g c.sectors c.to.state
+  pub formatted : IsTrue c.visible → status ≡ 0 → IsNewDisk g c.sectors c.to.state
   -- At each moment, whatever the status, a crash leaves what it might have left before, no superblock, or a new image.
-  pub crash : IsTrue c.tells → LeavesOnly c.keeps (IsStopped g c.sectors c.from.state) c.from c.to
+  pub crash : IsTrue c.visible → LeavesOnly c.keeps (IsStopped g c.sectors c.from.state) c.from c.to
   -- A geometry that is refused, one that is too large for the disk, and want of memory leave it.
   pub refused : geometry_refusal g ≢ None → c.new ≡ c.old
   pub small : c.sectors < sector_count g → c.new ≡ c.old
   pub starved : status ≡ 5 → c.new ≡ c.old
 
--- `recover`, of a disk that tells what it holds
+-- `recover`, of a visible disk
 pub record Recovers (keeps : Bool) (sectors status : ℕ) (from to : Moments) : Type 0 where
   -- Status 0: where the disk was proper, it is proper and clean, and nothing is pending;
   pub clean : status ≡ 0 → IsProperDisk sectors from.state → IsCleanDisk sectors to.state
@@ -53,14 +53,14 @@ pub record Recovers (keeps : Bool) (sectors status : ℕ) (from to : Moments) : 
 pub record Plays {D : Type 0} (told : List (List Entry)) (status : ℕ) (c : Course D) : Type 0 where
   -- Whatever the status, what a crash leaves opens to a tree that the whole history explains: to the first changes of names,
   -- and the first of each file, among them each that an acknowledged `fsync` or `sync` waited for.
-  pub crash : MayPlay c.tells c.sectors c.from.state → (start : PosixTree) → BeginsWith c.sectors (reads c.from) start → Leaves (OpensExplained c.sectors start (joined told)) c.to.state
-  pub proper : MayPlay c.tells c.sectors c.from.state → Leaves (IsProperImage c.sectors) c.to.state
+  pub crash : MayPlay c.visible c.sectors c.from.state → (start : PosixTree) → BeginsWith c.sectors (reads c.from) start → Leaves (OpensExplained c.sectors start (joined told)) c.to.state
+  pub proper : MayPlay c.visible c.sectors c.from.state → Leaves (IsProperImage c.sectors) c.to.state
   -- So it is at each moment before: what a crash leaves there opens to a tree that the entries explain that were answered by
   -- then, and is proper.
-  pub always : MayPlay c.tells c.sectors c.from.state → (start : PosixTree) → BeginsWith c.sectors (reads c.from) start → IsExplainedThroughout c.keeps c.sectors start [] (joined told) c.from c.to
+  pub always : MayPlay c.visible c.sectors c.from.state → (start : PosixTree) → BeginsWith c.sectors (reads c.from) start → IsExplainedThroughout c.keeps c.sectors start [] (joined told) c.from c.to
   -- Status 0: the disk is proper and clean, nothing is pending, and it stands for the tree behind the history.
-  pub clean : MayPlay c.tells c.sectors c.from.state → status ≡ 0 → IsCleanDisk c.sectors c.to.state
-  pub last : MayPlay c.tells c.sectors c.from.state → (start : PosixTree) → BeginsWith c.sectors (reads c.from) start → status ≡ 0 → StandsForTree c.sectors (tree_after start (joined told)) (reads c.to)
+  pub clean : MayPlay c.visible c.sectors c.from.state → status ≡ 0 → IsCleanDisk c.sectors c.to.state
+  pub last : MayPlay c.visible c.sectors c.from.state → (start : PosixTree) → BeginsWith c.sectors (reads c.from) start → status ≡ 0 → StandsForTree c.sectors (tree_after start (joined told)) (reads c.to)
   -- Where there is no script, it is as it was.
   pub broken : status ≡ 2 → c.new ≡ c.old
   pub unread : status ≡ 6 → c.new ≡ c.old
@@ -68,9 +68,9 @@ pub record Plays {D : Type 0} (told : List (List Entry)) (status : ℕ) (c : Cou
 -- What a command does to the content of a disk: `tree` and `check` only read it, and what isn't listed leaves it.
 abbrev pub ActsOn : {D : Type 0} → Option Command → List (List Entry) → ℕ → Course D → Type 0
 ActsOn (Some (command.Mkfs blocks inodes journal)) told status c = Formats (record { blocks = blocks; inodes = inodes; journal = journal }) status c
-ActsOn (Some command.Tree) told status c = IsTrue c.tells → IsReadOnly c.keeps c.from c.to
-ActsOn (Some command.Check) told status c = IsTrue c.tells → IsReadOnly c.keeps c.from c.to
-ActsOn (Some command.Recover) told status c = IsTrue c.tells → Recovers c.keeps c.sectors status c.from c.to
+ActsOn (Some command.Tree) told status c = IsTrue c.visible → IsReadOnly c.keeps c.from c.to
+ActsOn (Some command.Check) told status c = IsTrue c.visible → IsReadOnly c.keeps c.from c.to
+ActsOn (Some command.Recover) told status c = IsTrue c.visible → Recovers c.keeps c.sectors status c.from c.to
 ActsOn (Some (command.Play trace)) told status c = Plays told status c
 ActsOn (Some command.NotBuilt) told status c = c.new ≡ c.old
 ActsOn None told status c = c.new ≡ c.old

@@ -4,31 +4,31 @@ use Rattle.ufs_base.specs.Images.{Image}
 use Rattle.ufs_disk.specs.Disk.{State}
 use Rattle.ufs_disk.specs.Moments.{Moments, reads}
 
--- A source: the bytes that it had left and has left, where it tells them, and its counts of faults before and now.
+-- A source: the bytes that it had left and has left, where it is visible, and its counts of faults before and now.
 pub record Reading : Type 0 where
   pub left : Option (List ℕ)
   pub rest : Option (List ℕ)
   pub before : ℕ
   pub now : ℕ
 
--- A sink: the bytes that it held and holds, where it tells them, and its counts of faults before and now.
+-- A sink: the bytes that it held and holds, where it is visible, and its counts of faults before and now.
 pub record Writing : Type 0 where
   pub held : Option (List ℕ)
   pub holds : Option (List ℕ)
   pub before : ℕ
   pub now : ℕ
 
--- A disk: whether it tells what it holds, how many sectors it has, its state and what it read as before, and its counts of
+-- A disk: whether it is visible, how many sectors it has, its state and what it read as before, and its counts of
 -- faults before and now.
 pub record Formatting : Type 0 where
-  pub tells : Bool
+  pub visible : Bool
   pub sectors : ℕ
   pub state : State
   pub image : Image
   pub before : ℕ
   pub now : ℕ
 
--- of a source, by what it tells
+-- of a source, by what is seen of it
 abbrev pub reading : {S : Type 0} → (S → Option (List ℕ)) → (S → ℕ) → S → S → Reading
 reading left faults old new = record { left = left old; rest = left new; before = faults old; now = faults new }
 
@@ -38,12 +38,12 @@ writing held faults old new = record { held = held old; holds = held new; before
 
 -- of a disk
 abbrev pub formatting : {D : Type 0} → Bool → (D → ℕ) → (D → Moments) → (D → ℕ) → D → D → Formatting
-formatting tells size moments faults old new = record { tells = tells; sectors = size old; state = (moments old).state; image = reads (moments old); before = faults old; now = faults new }
+formatting visible size moments faults old new = record { visible = visible; sectors = size old; state = (moments old).state; image = reads (moments old); before = faults old; now = faults new }
 
--- A disk from what it was to what it is: whether it tells what it holds and keeps its moments, its sectors, its moments
+-- A disk from what it was to what it is: whether it is visible and keeps its moments, its sectors, its moments
 -- and its counts of faults before and now.
 pub record Course (D : Type 0) : Type 0 where
-  pub tells : Bool
+  pub visible : Bool
   pub keeps : Bool
   pub sectors : ℕ
   pub sectors_now : ℕ
@@ -55,4 +55,4 @@ pub record Course (D : Type 0) : Type 0 where
   pub now : ℕ
 
 abbrev pub course : {D : Type 0} → Bool → Bool → (D → ℕ) → (D → Moments) → (D → ℕ) → D → D → Course D
-course tells keeps size moments faults old new = record { tells = tells; keeps = keeps; sectors = size old; sectors_now = size new; old = old; new = new; from = moments old; to = moments new; before = faults old; now = faults new }
+course visible keeps size moments faults old new = record { visible = visible; keeps = keeps; sectors = size old; sectors_now = size new; old = old; new = new; from = moments old; to = moments new; before = faults old; now = faults new }

@@ -52,14 +52,14 @@ session_lines trace history = lines_of history ++ trace_part trace history
 
 -- ---- over a disk
 
--- A session that begins with the tree of the disk's image is this. Of a disk that doesn't tell what it holds, or that isn't
+-- A session that begins with the tree of the disk's image is this. Of a disk that isn't visible, or that isn't
 -- proper, it begins with some tree.
 pub record IsFromDisk (d : Formatting) (Is : PosixTree → Type 0) : Type 0 where
   pub any : (start : PosixTree) × Is start
   -- the image stands for a tree,
-  pub opened : MayPlay d.tells d.sectors d.state → (start : PosixTree) × BeginsWith d.sectors d.image start
+  pub opened : MayPlay d.visible d.sectors d.state → (start : PosixTree) × BeginsWith d.sectors d.image start
   -- and with this one
-  pub begun : MayPlay d.tells d.sectors d.state → (start : PosixTree) → BeginsWith d.sectors d.image start → Is start
+  pub begun : MayPlay d.visible d.sectors d.state → (start : PosixTree) → BeginsWith d.sectors d.image start → Is start
 
 -- The transcripts, one after another, are a history of a script's first requests.
 abbrev pub IsCutSessionOf : Formatting → Script → List (List Entry) → Type 0

@@ -49,7 +49,7 @@ pub record TellsPlay (trace : Bool) (r : Reading) (d : Formatting) (told : List 
   -- The replies tell one fault of the disk at most, the first to which its count rose, and a reply that tells where the store
   -- stopped tells that one.
   pub faults : AreFaultsOf d.before (joined told)
-  -- Over a source that tells its bytes, a script is served, unless memory runs out, a count of faults rises, or no session
+  -- Over a visible source, a script is served, unless memory runs out, a count of faults rises, or no session
   -- begins with the image.
   pub complete : (text : List ℕ) (script : Script) → r.left ≡ Some text → script_of text ≡ Ok script → r.now ≢ raised r.before → AreCalm d w
       → (status ≡ 0) ⊎ ((status ≡ 3) ⊎ (status ≡ 5))
@@ -65,7 +65,7 @@ pub record TellsMkfs (g : Geometry) (d : Formatting) (w : Writing) (status : ℕ
   -- rises.
   pub complete : geometry_refusal g ≡ None → sector_count g ≤ d.sectors → AreCalm d w → (status ≡ 0) ⊎ (status ≡ 5)
 
--- `tree`, over a disk that tells what it holds
+-- `tree`, over a visible disk
 pub record TellsTree (d : Formatting) (w : Writing) (status : ℕ) : Type 0 where
   -- Status 0: the image stands for one tree, and the sink got the lines of that tree, and nothing else.
   pub printed : status ≡ 0 → (tree : ImageTree) × (opens d.sectors d.image ≡ Ok tree) × Appends w.held w.holds (tree_lines tree)
@@ -78,7 +78,7 @@ pub record TellsTree (d : Formatting) (w : Writing) (status : ℕ) : Type 0 wher
   -- A proper image is never refused.
   pub proper : IsProperImage d.sectors d.image → status ≢ 3
 
--- `check`, over a disk that tells what it holds
+-- `check`, over a visible disk
 pub record TellsCheck (d : Formatting) (w : Writing) (status : ℕ) : Type 0 where
   -- Status 0: nothing is damaged, and the sink got the line that says so, and nothing else.
   pub clean : status ≡ 0 → (damage_list d.sectors d.image ≡ Ok []) × Appends w.held w.holds clean_line
@@ -93,7 +93,7 @@ pub record TellsCheck (d : Formatting) (w : Writing) (status : ℕ) : Type 0 whe
   -- A proper image is never refused.
   pub proper : IsProperImage d.sectors d.image → status ≢ 3
 
--- `recover`, over a disk that tells what it holds
+-- `recover`, over a visible disk
 pub record TellsRecovery (d : Formatting) (w : Writing) (status : ℕ) : Type 0 where
   -- Status 0: the image stood for a tree, and the sink got the line of the number of transactions that were committed
   -- in its journal, and nothing else.
@@ -113,6 +113,6 @@ Tells None r d told w status = ⊤
 Tells (Some command.NotBuilt) r d told w status = ⊤
 Tells (Some (command.Play trace)) r d told w status = TellsPlay trace r d told w status
 Tells (Some (command.Mkfs blocks inodes journal)) r d told w status = TellsMkfs (record { blocks = blocks; inodes = inodes; journal = journal }) d w status
-Tells (Some command.Tree) r d told w status = IsTrue d.tells → TellsTree d w status
-Tells (Some command.Check) r d told w status = IsTrue d.tells → TellsCheck d w status
-Tells (Some command.Recover) r d told w status = IsTrue d.tells → TellsRecovery d w status
+Tells (Some command.Tree) r d told w status = IsTrue d.visible → TellsTree d w status
+Tells (Some command.Check) r d told w status = IsTrue d.visible → TellsCheck d w status
+Tells (Some command.Recover) r d told w status = IsTrue d.visible → TellsRecovery d w status

@@ -37,8 +37,8 @@ fn print_list<K: Sink>(sink: &mut K, list: &DamageList) -> u8
 
 /// Tells what is damaged in the image on a disk, or why it isn't looked at. Writes nothing on it.
 pub fn check<K: Sink, D: Disk>(alloc: Global, sink: &mut K, disk: &mut D) -> u8
-    ensures answer { IsAnswer (EndsCheck (formatting D.tells D.size D.moments D.faults disk.old disk.new)) (writing K.held K.faults sink.old sink.new) result }
-    ensures read_only { IsTrue D.tells → IsReadOnly D.keeps (D.moments disk.old) (D.moments disk.new) }
+    ensures answer { IsAnswer (EndsCheck (formatting D.visible D.size D.moments D.faults disk.old disk.new)) (writing K.held K.faults sink.old sink.new) result }
+    ensures read_only { IsTrue D.visible → IsReadOnly D.keeps (D.moments disk.old) (D.moments disk.new) }
     ensures size { D.size disk.new ≡ D.size disk.old }
     ensures disk_told { result ≢ 4 → result ≢ 7 → D.faults disk.new ≡ D.faults disk.old }
 {

@@ -37,9 +37,9 @@ fn format_disk<K: Sink, D: Disk>(
 ) -> u8
     requires limits { IsGeometry geometry.now }
     requires taken { geometry_refusal geometry.now ≡ None }
-    ensures answer { IsAnswer (EndsMkfs geometry.now (formatting D.tells D.size D.moments D.faults disk.old disk.new)) (writing K.held K.faults sink.old sink.new) result }
-    ensures formatted { IsTrue D.tells → result ≡ 0 → IsNewDisk geometry.now (D.size disk.old) (D.moments disk.new).state }
-    ensures crash { IsTrue D.tells → LeavesOnly D.keeps
+    ensures answer { IsAnswer (EndsMkfs geometry.now (formatting D.visible D.size D.moments D.faults disk.old disk.new)) (writing K.held K.faults sink.old sink.new) result }
+    ensures formatted { IsTrue D.visible → result ≡ 0 → IsNewDisk geometry.now (D.size disk.old) (D.moments disk.new).state }
+    ensures crash { IsTrue D.visible → LeavesOnly D.keeps
         (IsStopped geometry.now (D.size disk.old) (D.moments disk.old).state)
         (D.moments disk.old) (D.moments disk.new) }
     ensures small { D.size disk.old < sector_count geometry.now → disk.new ≡ disk.old }
@@ -65,9 +65,9 @@ fn format_disk<K: Sink, D: Disk>(
 
 /// Makes the disk's first sectors a new image of that geometry, and tells its numbers.
 pub fn mkfs<K: Sink, D: Disk>(alloc: Global, asked: Geometry, sink: &mut K, disk: &mut D) -> u8
-    ensures answer { IsAnswer (EndsMkfs asked (formatting D.tells D.size D.moments D.faults disk.old disk.new)) (writing K.held K.faults sink.old sink.new) result }
-    ensures formatted { IsTrue D.tells → result ≡ 0 → IsNewDisk asked (D.size disk.old) (D.moments disk.new).state }
-    ensures crash { IsTrue D.tells → LeavesOnly D.keeps
+    ensures answer { IsAnswer (EndsMkfs asked (formatting D.visible D.size D.moments D.faults disk.old disk.new)) (writing K.held K.faults sink.old sink.new) result }
+    ensures formatted { IsTrue D.visible → result ≡ 0 → IsNewDisk asked (D.size disk.old) (D.moments disk.new).state }
+    ensures crash { IsTrue D.visible → LeavesOnly D.keeps
         (IsStopped asked (D.size disk.old) (D.moments disk.old).state)
         (D.moments disk.old) (D.moments disk.new) }
     ensures refused { geometry_refusal asked ≢ None → disk.new ≡ disk.old }

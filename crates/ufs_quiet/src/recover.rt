@@ -36,8 +36,8 @@ fn tell_count<K: Sink>(sink: &mut K, count: u32) -> u8
 /// Makes the image on a disk clean, and tells how many transactions were committed in its journal, or why it isn't
 /// recovered.
 pub fn recover<K: Sink, D: Disk>(alloc: Global, sink: &mut K, disk: &mut D) -> u8
-    ensures answer { IsAnswer (EndsRecovery (formatting D.tells D.size D.moments D.faults disk.old disk.new)) (writing K.held K.faults sink.old sink.new) result }
-    ensures acts { IsTrue D.tells → Recovers D.keeps (D.size disk.old) result (D.moments disk.old) (D.moments disk.new) }
+    ensures answer { IsAnswer (EndsRecovery (formatting D.visible D.size D.moments D.faults disk.old disk.new)) (writing K.held K.faults sink.old sink.new) result }
+    ensures acts { IsTrue D.visible → Recovers D.keeps (D.size disk.old) result (D.moments disk.old) (D.moments disk.new) }
     ensures size { D.size disk.new ≡ D.size disk.old }
     ensures disk_told { result ≢ 4 → result ≢ 7 → D.faults disk.new ≡ D.faults disk.old }
 {

@@ -47,12 +47,12 @@ pub fn respond<S: Source, K: Sink, D: Disk>(
     sink: &mut K,
     disk: D,
 ) -> Outcome<D>
-    ensures answer { IsAnswer (Responds words.now (reading S.left S.faults source.old source.new) (formatting D.tells D.size D.moments D.faults disk result.disk) result.told)
+    ensures answer { IsAnswer (Responds words.now (reading S.left S.faults source.old source.new) (formatting D.visible D.size D.moments D.faults disk result.disk) result.told)
         (writing K.held K.faults sink.old sink.new) result.status }
     // Without words, and with those that name no image's file, disk and source are left as they were.
-    ensures told { Tells (command_for words.now) (reading S.left S.faults source.old source.new) (formatting D.tells D.size D.moments D.faults disk result.disk) result.told
+    ensures told { Tells (command_for words.now) (reading S.left S.faults source.old source.new) (formatting D.visible D.size D.moments D.faults disk result.disk) result.told
         (writing K.held K.faults sink.old sink.new) result.status }
-    ensures disk { LeavesDisk (command_for words.now) result.told result.status (course D.tells D.keeps D.size D.moments D.faults disk result.disk) }
+    ensures disk { LeavesDisk (command_for words.now) result.told result.status (course D.visible D.keeps D.size D.moments D.faults disk result.disk) }
     ensures source { LeavesSource (command_for words.now) result.status (reading S.left S.faults source.old source.new) }
     ensures served { is_play (command_for words.now) ≡ false → result.told ≡ [] }
 {

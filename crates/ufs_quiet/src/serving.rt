@@ -76,9 +76,9 @@ fn serve_script<K: Sink, D: Disk>(
     trace: bool,
     disk: D,
 ) -> Outcome<D>
-    ensures answer { IsAnswer (EndsServing trace (formatting D.tells D.size D.moments D.faults disk result.disk) script result.told) (writing K.held K.faults sink.old sink.new) result.status }
+    ensures answer { IsAnswer (EndsServing trace (formatting D.visible D.size D.moments D.faults disk result.disk) script result.told) (writing K.held K.faults sink.old sink.new) result.status }
     ensures faults { AreFaultsOf (D.faults disk) (joined result.told) }
-    ensures acts { Plays result.told result.status (course D.tells D.keeps D.size D.moments D.faults disk result.disk) }
+    ensures acts { Plays result.told result.status (course D.visible D.keeps D.size D.moments D.faults disk result.disk) }
     ensures size { D.size result.disk ≡ D.size disk }
     ensures disk_told { result.status ≢ 4 → result.status ≢ 7 → result.status ≢ 5 → D.faults result.disk ≡ D.faults disk }
 {
@@ -100,7 +100,7 @@ fn leave_unread<K: Sink, D: Disk>(
     ensures answer { IsAnswer (TellsFault fault) (writing K.held K.faults sink.old sink.new) result.status }
     ensures told { result.told ≡ [] }
     ensures untouched { result.disk ≡ disk }
-    ensures acts { Plays result.told result.status (course D.tells D.keeps D.size D.moments D.faults disk result.disk) }
+    ensures acts { Plays result.told result.status (course D.visible D.keeps D.size D.moments D.faults disk result.disk) }
 {
     unserved_law(disk.sectors());
     let status = tell_fault(alloc, sink, fault);
@@ -120,10 +120,10 @@ pub fn read_and_serve<S: Source, K: Sink, D: Disk>(
     trace: bool,
     disk: D,
 ) -> Outcome<D>
-    ensures answer { IsAnswer (EndsPlay trace (reading S.left S.faults source.old source.new) (formatting D.tells D.size D.moments D.faults disk result.disk) result.told)
+    ensures answer { IsAnswer (EndsPlay trace (reading S.left S.faults source.old source.new) (formatting D.visible D.size D.moments D.faults disk result.disk) result.told)
         (writing K.held K.faults sink.old sink.new) result.status }
     ensures faults { AreFaultsOf (D.faults disk) (joined result.told) }
-    ensures acts { Plays result.told result.status (course D.tells D.keeps D.size D.moments D.faults disk result.disk) }
+    ensures acts { Plays result.told result.status (course D.visible D.keeps D.size D.moments D.faults disk result.disk) }
     ensures size { D.size result.disk ≡ D.size disk }
     ensures disk_told { result.status ≢ 4 → result.status ≢ 7 → result.status ≢ 5 → D.faults result.disk ≡ D.faults disk }
     ensures source_told { result.status ≢ 6 → result.status ≢ 7 → S.faults source.new ≡ S.faults source.old }

@@ -25,8 +25,8 @@ use ufs_script::a_longer_text_breaks_alike;
 // The answer to a command that serves nobody.
 fn act<K: Sink, D: Disk>(alloc: Global, which: Command, sink: &mut K, disk: &mut D) -> u8
     requires { is_play (Some which) ≡ false }
-    ensures answer { (r : Reading) → IsAnswer (Ends (Some which) r (formatting D.tells D.size D.moments D.faults disk.old disk.new) []) (writing K.held K.faults sink.old sink.new) result }
-    ensures disk { LeavesDisk (Some which) [] result (course D.tells D.keeps D.size D.moments D.faults disk.old disk.new) }
+    ensures answer { (r : Reading) → IsAnswer (Ends (Some which) r (formatting D.visible D.size D.moments D.faults disk.old disk.new) []) (writing K.held K.faults sink.old sink.new) result }
+    ensures disk { LeavesDisk (Some which) [] result (course D.visible D.keeps D.size D.moments D.faults disk.old disk.new) }
 {
     match which {
         Command::Mkfs {
@@ -57,9 +57,9 @@ fn answer<S: Source, K: Sink, D: Disk>(
     sink: &mut K,
     disk: D,
 ) -> Outcome<D>
-    ensures answer { IsAnswer (Ends (asked words.now.items) (reading S.left S.faults source.old source.new) (formatting D.tells D.size D.moments D.faults disk result.disk) result.told)
+    ensures answer { IsAnswer (Ends (asked words.now.items) (reading S.left S.faults source.old source.new) (formatting D.visible D.size D.moments D.faults disk result.disk) result.told)
         (writing K.held K.faults sink.old sink.new) result.status }
-    ensures disk { LeavesDisk (asked words.now.items) result.told result.status (course D.tells D.keeps D.size D.moments D.faults disk result.disk) }
+    ensures disk { LeavesDisk (asked words.now.items) result.told result.status (course D.visible D.keeps D.size D.moments D.faults disk result.disk) }
     ensures source { LeavesSource (asked words.now.items) result.status (reading S.left S.faults source.old source.new) }
     ensures faults { AreFaultsOf (D.faults disk) (joined result.told) }
     ensures served { is_play (asked words.now.items) ≡ false → result.told ≡ [] }
@@ -94,17 +94,17 @@ pub fn quiet<S: Source, K: Sink, D: Disk>(
 ) -> Outcome<D>
     // Each status but 7 comes with its cause and its text, and leaves the sink's count of faults. With status 7 that
     // count rose by one, and the sink got a front of what would have been written.
-    ensures answer { IsAnswer (Ends (asked words.now.items) (reading S.left S.faults source.old source.new) (formatting D.tells D.size D.moments D.faults disk result.disk) result.told)
+    ensures answer { IsAnswer (Ends (asked words.now.items) (reading S.left S.faults source.old source.new) (formatting D.visible D.size D.moments D.faults disk result.disk) result.told)
         (writing K.held K.faults sink.old sink.new) result.status }
     // What the status says and the sink got, for each command: a history of the script's requests for `play`, in which the
     // tree of the disk's image gives the replies, and its trace where that is asked for, the new image's numbers for
     // `mkfs`, the image's tree for `tree`, its damage for `check`, what was committed for `recover`.
-    ensures told { Tells (asked words.now.items) (reading S.left S.faults source.old source.new) (formatting D.tells D.size D.moments D.faults disk result.disk) result.told
+    ensures told { Tells (asked words.now.items) (reading S.left S.faults source.old source.new) (formatting D.visible D.size D.moments D.faults disk result.disk) result.told
         (writing K.held K.faults sink.old sink.new) result.status }
     // The disk: `play` leaves what its history explains, and clean with status 0, `mkfs` formats it, `recover` makes its
     // image clean, `tree` and `check` only read it, each of these safe at any moment; all else leaves it. A fault of the
     // disk is told by status 4 or 7, or in a reply of a `play` that ends with 5.
-    ensures disk { LeavesDisk (asked words.now.items) result.told result.status (course D.tells D.keeps D.size D.moments D.faults disk result.disk) }
+    ensures disk { LeavesDisk (asked words.now.items) result.told result.status (course D.visible D.keeps D.size D.moments D.faults disk result.disk) }
     // The source: only `play` reads it, and its fault is told by status 6 or 7.
     ensures source { LeavesSource (asked words.now.items) result.status (reading S.left S.faults source.old source.new) }
     // Only `play` serves clients.

@@ -29,8 +29,8 @@ fn print_whole<K: Sink>(alloc: Global, sink: &mut K, heads: &[PathHead]) -> u8
 /// Prints the tree that the image on a disk stands for, or why it stands for none. Writes nothing on it, and reads
 /// of a file no block behind the bytes that its line shows.
 pub fn tree<K: Sink, D: Disk>(alloc: Global, sink: &mut K, disk: &mut D) -> u8
-    ensures answer { IsAnswer (EndsTree (formatting D.tells D.size D.moments D.faults disk.old disk.new)) (writing K.held K.faults sink.old sink.new) result }
-    ensures read_only { IsTrue D.tells → IsReadOnly D.keeps (D.moments disk.old) (D.moments disk.new) }
+    ensures answer { IsAnswer (EndsTree (formatting D.visible D.size D.moments D.faults disk.old disk.new)) (writing K.held K.faults sink.old sink.new) result }
+    ensures read_only { IsTrue D.visible → IsReadOnly D.keeps (D.moments disk.old) (D.moments disk.new) }
     ensures size { D.size disk.new ≡ D.size disk.old }
     ensures disk_told { result ≢ 4 → result ≢ 7 → D.faults disk.new ≡ D.faults disk.old }
 {

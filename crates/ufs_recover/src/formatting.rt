@@ -19,12 +19,12 @@ use ufs_layout::Geometry;
 fn write_image<D: Disk>(disk: &mut D, geometry: &Geometry) -> Result<(), Fault>
     requires geometry { IsGeometry geometry.now }
     requires room { sector_count geometry.now ≤ D.size disk.old }
-    ensures ok { IsTrue D.tells → OnOk result
+    ensures ok { IsTrue D.visible → OnOk result
         (IsNewDisk geometry.now (D.size disk.old) (D.moments disk.new).state) }
-    ensures crash { IsTrue D.tells → LeavesOnly D.keeps
+    ensures crash { IsTrue D.visible → LeavesOnly D.keeps
         (IsStopped geometry.now (D.size disk.old) (D.moments disk.old).state)
         (D.moments disk.old) (D.moments disk.new) }
-    ensures others { IsTrue D.tells → (s : ℕ) → IsOutside geometry.now s
+    ensures others { IsTrue D.visible → (s : ℕ) → IsOutside geometry.now s
         → reads (D.moments disk.new) s ≡ reads (D.moments disk.old) s }
     ensures size { D.size disk.new ≡ D.size disk.old }
     ensures cause { HasCause (D.faults disk.old) (D.faults disk.new) result }
@@ -47,14 +47,14 @@ pub fn format<D: Disk>(disk: &mut D, geometry: &Geometry) -> Result<(), FormatFa
     ensures untouched { D.size disk.old < sector_count geometry.now → disk.new ≡ disk.old }
     ensures passed { OnOk result (D.faults disk.new ≡ D.faults disk.old) }
     ensures device { IfErr result (HasFaultCause (D.faults disk.old) (D.faults disk.new)) }
-    ensures ok { IsTrue D.tells → OnOk result
+    ensures ok { IsTrue D.visible → OnOk result
         (IsNewDisk geometry.now (D.size disk.old) (D.moments disk.new).state) }
 
     // At each moment of the call, also of one that fails.
-    ensures crash { IsTrue D.tells → LeavesOnly D.keeps
+    ensures crash { IsTrue D.visible → LeavesOnly D.keeps
         (IsStopped geometry.now (D.size disk.old) (D.moments disk.old).state)
         (D.moments disk.old) (D.moments disk.new) }
-    ensures others { IsTrue D.tells → (s : ℕ) → IsOutside geometry.now s
+    ensures others { IsTrue D.visible → (s : ℕ) → IsOutside geometry.now s
         → reads (D.moments disk.new) s ≡ reads (D.moments disk.old) s }
     ensures size { D.size disk.new ≡ D.size disk.old }
 {

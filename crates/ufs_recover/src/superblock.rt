@@ -31,12 +31,12 @@ pub(crate) fn new_superblock(geometry: &Geometry) -> [u8; SECTOR]
 // Writes the superblock's sector, and waits until all is on the disk for good.
 pub(crate) fn put_superblock<D: Disk>(disk: &mut D, bytes: &[u8; SECTOR]) -> Result<(), Fault>
     requires { 0 < D.size disk.old }
-    ensures settled { IsTrue D.tells → OnOk result (IsSettled (D.moments disk.new).state) }
-    ensures written { IsTrue D.tells → OnOk result
+    ensures settled { IsTrue D.visible → OnOk result (IsSettled (D.moments disk.new).state) }
+    ensures written { IsTrue D.visible → OnOk result
         (reads (D.moments disk.new) ≡ put 0 bytes.now (reads (D.moments disk.old))) }
-    ensures others { IsTrue D.tells → (s : ℕ) → s ≢ 0
+    ensures others { IsTrue D.visible → (s : ℕ) → s ≢ 0
         → reads (D.moments disk.new) s ≡ reads (D.moments disk.old) s }
-    ensures crash { IsTrue D.tells → LeavesOnly D.keeps
+    ensures crash { IsTrue D.visible → LeavesOnly D.keeps
         (HasSuperblockPut bytes.now (D.moments disk.old).state) (D.moments disk.old) (D.moments disk.new) }
     ensures size { D.size disk.new ≡ D.size disk.old }
     ensures cause { HasCause (D.faults disk.old) (D.faults disk.new) result }

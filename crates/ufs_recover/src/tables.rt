@@ -73,13 +73,13 @@ fn lay_block(bytes: &mut [u8], geometry: &Geometry, block: u32)
 pub(crate) fn write_tables<D: Disk>(disk: &mut D, geometry: &Geometry) -> Result<(), Fault>
     requires geometry { IsGeometry geometry.now }
     requires room { sector_count geometry.now ≤ D.size disk.old }
-    requires blank { IsTrue D.tells → Leaves IsBlank (D.moments disk.old).state }
-    ensures settled { IsTrue D.tells → OnOk result (IsSettled (D.moments disk.new).state) }
-    ensures written { IsTrue D.tells → OnOk result
+    requires blank { IsTrue D.visible → Leaves IsBlank (D.moments disk.old).state }
+    ensures settled { IsTrue D.visible → OnOk result (IsSettled (D.moments disk.new).state) }
+    ensures written { IsTrue D.visible → OnOk result
         (HasTablesBelow geometry.now (first_of_data geometry.now) (reads (D.moments disk.new))) }
-    ensures others { IsTrue D.tells → (s : ℕ) → IsOutside geometry.now s
+    ensures others { IsTrue D.visible → (s : ℕ) → IsOutside geometry.now s
         → reads (D.moments disk.new) s ≡ reads (D.moments disk.old) s }
-    ensures crash { IsTrue D.tells → LeavesOnly D.keeps IsBlank (D.moments disk.old) (D.moments disk.new) }
+    ensures crash { IsTrue D.visible → LeavesOnly D.keeps IsBlank (D.moments disk.old) (D.moments disk.new) }
     ensures size { D.size disk.new ≡ D.size disk.old }
     ensures cause { HasCause (D.faults disk.old) (D.faults disk.new) result }
     ensures number { IfErr result (λ fault. fault.number ≡ D.faults disk.new) }

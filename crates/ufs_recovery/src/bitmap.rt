@@ -44,10 +44,10 @@ pub(crate) fn write_bitmap<D: Disk>(
 ) -> Result<(), Fault>
     requires geometry { IsGeometry geometry.now }
     requires large { sector_count geometry.now ≤ D.size disk.old }
-    ensures settled { IsTrue D.tells → OnOk result (IsSettled (D.moments disk.new).state) }
-    ensures marked { IsTrue D.tells → OnOk result (IsMarkedBelow taken.now (BLOCK_BITS * bitmap_blocks geometry.now) (reads (D.moments disk.new))) }
-    ensures others { IsTrue D.tells → OnOk result (AgreeOffBitmap geometry.now (reads (D.moments disk.old)) (reads (D.moments disk.new))) }
-    ensures crash { IsTrue D.tells → LeavesOnly D.keeps (HasAnyBitmap geometry.now (D.moments disk.old).state) (D.moments disk.old) (D.moments disk.new) }
+    ensures settled { IsTrue D.visible → OnOk result (IsSettled (D.moments disk.new).state) }
+    ensures marked { IsTrue D.visible → OnOk result (IsMarkedBelow taken.now (BLOCK_BITS * bitmap_blocks geometry.now) (reads (D.moments disk.new))) }
+    ensures others { IsTrue D.visible → OnOk result (AgreeOffBitmap geometry.now (reads (D.moments disk.old)) (reads (D.moments disk.new))) }
+    ensures crash { IsTrue D.visible → LeavesOnly D.keeps (HasAnyBitmap geometry.now (D.moments disk.old).state) (D.moments disk.old) (D.moments disk.new) }
     ensures size { D.size disk.new ≡ D.size disk.old }
     ensures cause { HasCause (D.faults disk.old) (D.faults disk.new) result }
     ensures number { IfErr result (λ fault. fault.number ≡ D.faults disk.new) }

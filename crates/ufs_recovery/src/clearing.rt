@@ -33,10 +33,10 @@ pub(crate) fn clear<D: Disk>(
     requires large { sector_count geometry.now ≤ D.size disk.old }
     requires counted { length numbers.now ≡ geometry.now.inodes }
     requires kind { kind ≤ 2 }
-    ensures settled { IsTrue D.tells → OnOk result (IsSettled (D.moments disk.new).state) }
-    ensures mixed { IsTrue D.tells → OnOk result (IsMixedCleared geometry.now kind numbers.now (reads (D.moments disk.old)) (reads (D.moments disk.new))) }
-    ensures all { IsTrue D.tells → OnOk result (AreClearedBelow geometry.now kind numbers.now geometry.now.inodes (reads (D.moments disk.new))) }
-    ensures crash { IsTrue D.tells → LeavesOnly D.keeps (IsPartlyCleared geometry.now kind numbers.now (D.moments disk.old).state) (D.moments disk.old) (D.moments disk.new) }
+    ensures settled { IsTrue D.visible → OnOk result (IsSettled (D.moments disk.new).state) }
+    ensures mixed { IsTrue D.visible → OnOk result (IsMixedCleared geometry.now kind numbers.now (reads (D.moments disk.old)) (reads (D.moments disk.new))) }
+    ensures all { IsTrue D.visible → OnOk result (AreClearedBelow geometry.now kind numbers.now geometry.now.inodes (reads (D.moments disk.new))) }
+    ensures crash { IsTrue D.visible → LeavesOnly D.keeps (IsPartlyCleared geometry.now kind numbers.now (D.moments disk.old).state) (D.moments disk.old) (D.moments disk.new) }
     ensures size { D.size disk.new ≡ D.size disk.old }
     ensures cause { HasCause (D.faults disk.old) (D.faults disk.new) result }
     ensures number { IfErr result (λ fault. fault.number ≡ D.faults disk.new) }

@@ -32,11 +32,11 @@ fn finish<D: Disk>(
     requires counted { length plan.now.orphans.numbers.items ≡ geometry.now.inodes }
     requires counted_dirs { length plan.now.orphans.dirs.items ≡ geometry.now.inodes }
     requires form { IsTrue (is_super 1 plan.now.superblock) }
-    ensures settled { IsTrue D.tells → OnOk result (IsSettled (D.moments disk.new).state) }
-    ensures finished { IsTrue D.tells → OnOk result (IsSettled (D.moments disk.old).state
+    ensures settled { IsTrue D.visible → OnOk result (IsSettled (D.moments disk.new).state) }
+    ensures finished { IsTrue D.visible → OnOk result (IsSettled (D.moments disk.old).state
         → MayFinish (D.size disk.old) plan.now.superblock (reads (D.moments disk.old)) geometry.now findings.now plan.now.orphans.numbers.items plan.now.orphans.dirs.items
         → HasFinished (D.size disk.old) plan.now.superblock (reads (D.moments disk.new))) }
-    ensures tree { IsTrue D.tells → IsSettled (D.moments disk.old).state
+    ensures tree { IsTrue D.visible → IsSettled (D.moments disk.old).state
         → MayFinish (D.size disk.old) plan.now.superblock (reads (D.moments disk.old)) geometry.now findings.now plan.now.orphans.numbers.items plan.now.orphans.dirs.items
         → KeepsTree D.keeps (D.size disk.old) (D.moments disk.old) (D.moments disk.new) }
     ensures size { D.size disk.new ≡ D.size disk.old }
@@ -63,10 +63,10 @@ pub(crate) fn write_back<D: Disk>(
 ) -> Result<(), RecoverFault>
     requires large { sector_count volume.now.superblock.geometry ≤ D.size disk.old }
     requires read { length findings.now.forms ≡ volume.now.superblock.geometry.inodes }
-    ensures settled { IsTrue D.tells → OnOk result (IsSettled (D.moments disk.new).state) }
-    ensures written { IsTrue D.tells → OnOk result (IsSettled (D.moments disk.old).state → MayWriteBack (D.size disk.old) (reads (D.moments disk.old)) volume.now findings.now
+    ensures settled { IsTrue D.visible → OnOk result (IsSettled (D.moments disk.new).state) }
+    ensures written { IsTrue D.visible → OnOk result (IsSettled (D.moments disk.old).state → MayWriteBack (D.size disk.old) (reads (D.moments disk.old)) volume.now findings.now
         → IsWrittenBack (D.size disk.old) volume.now.superblock.superblock volume.now.highest (reads (D.moments disk.new))) }
-    ensures tree { IsTrue D.tells → IsSettled (D.moments disk.old).state → MayWriteBack (D.size disk.old) (reads (D.moments disk.old)) volume.now findings.now
+    ensures tree { IsTrue D.visible → IsSettled (D.moments disk.old).state → MayWriteBack (D.size disk.old) (reads (D.moments disk.old)) volume.now findings.now
         → KeepsTree D.keeps (D.size disk.old) (D.moments disk.old) (D.moments disk.new) }
     ensures size { D.size disk.new ≡ D.size disk.old }
     ensures passed { OnOk result (D.faults disk.new ≡ D.faults disk.old) }

@@ -46,8 +46,8 @@ fn read_used_blocks<D: Disk>(
 ) -> Result<TakenBlocks, RecoverFault>
     requires geometry { IsGeometry geometry.now }
     requires large { sector_count geometry.now ≤ D.size disk.old }
-    ensures taken { IsTrue D.tells → IfOk result (λ t. AreTaken geometry.now (sound_nodes geometry.now (reads (D.moments disk.old))) t) }
-    ensures read_only { IsTrue D.tells → IsReadOnly D.keeps (D.moments disk.old) (D.moments disk.new) }
+    ensures taken { IsTrue D.visible → IfOk result (λ t. AreTaken geometry.now (sound_nodes geometry.now (reads (D.moments disk.old))) t) }
+    ensures read_only { IsTrue D.visible → IsReadOnly D.keeps (D.moments disk.old) (D.moments disk.new) }
     ensures size { D.size disk.new ≡ D.size disk.old }
     ensures passed { OnOk result (D.faults disk.new ≡ D.faults disk.old) }
     ensures cause { IfErr result (HasFaultCause (D.faults disk.old) (D.faults disk.new)) }
@@ -70,9 +70,9 @@ fn prune_or_fault<D: Disk>(
     requires large { sector_count geometry.now ≤ D.size disk.old }
     requires counted { length orphans.now.numbers.items ≡ geometry.now.inodes }
     requires counted_dirs { length orphans.now.dirs.items ≡ geometry.now.inodes }
-    ensures settled { IsTrue D.tells → OnOk result (IsSettled (D.moments disk.new).state) }
-    ensures pruned { IsTrue D.tells → OnOk result (AreFreed (D.size disk.old) geometry.now orphans.now.numbers.items orphans.now.dirs.items (reads (D.moments disk.old)) (reads (D.moments disk.new))) }
-    ensures tree { IsTrue D.tells → KeepsTreeFreeing D.keeps (D.size disk.old) geometry.now orphans.now.numbers.items orphans.now.dirs.items (D.moments disk.old) (D.moments disk.new) }
+    ensures settled { IsTrue D.visible → OnOk result (IsSettled (D.moments disk.new).state) }
+    ensures pruned { IsTrue D.visible → OnOk result (AreFreed (D.size disk.old) geometry.now orphans.now.numbers.items orphans.now.dirs.items (reads (D.moments disk.old)) (reads (D.moments disk.new))) }
+    ensures tree { IsTrue D.visible → KeepsTreeFreeing D.keeps (D.size disk.old) geometry.now orphans.now.numbers.items orphans.now.dirs.items (D.moments disk.old) (D.moments disk.new) }
     ensures size { D.size disk.new ≡ D.size disk.old }
     ensures passed { OnOk result (D.faults disk.new ≡ D.faults disk.old) }
     ensures cause { IfErr result (HasFaultCause (D.faults disk.old) (D.faults disk.new)) }
@@ -100,10 +100,10 @@ pub(crate) fn free_orphans<D: Disk>(
     requires read { length findings.now.forms ≡ geometry.now.inodes }
     requires counted { length orphans.now.numbers.items ≡ geometry.now.inodes }
     requires counted_dirs { length orphans.now.dirs.items ≡ geometry.now.inodes }
-    ensures settled { IsTrue D.tells → IsSettled (D.moments disk.old).state → OnOk result (IsSettled (D.moments disk.new).state) }
-    ensures pruned { IsTrue D.tells → OnOk result (AreFreed (D.size disk.old) geometry.now orphans.now.numbers.items orphans.now.dirs.items (reads (D.moments disk.old)) (reads (D.moments disk.new))) }
-    ensures taken { IsTrue D.tells → IfOk result (λ t. IsReadOf geometry.now (reads (D.moments disk.old)) findings.now → AreTaken geometry.now (sound_nodes geometry.now (reads (D.moments disk.new))) t) }
-    ensures tree { IsTrue D.tells → KeepsTreeFreeing D.keeps (D.size disk.old) geometry.now orphans.now.numbers.items orphans.now.dirs.items (D.moments disk.old) (D.moments disk.new) }
+    ensures settled { IsTrue D.visible → IsSettled (D.moments disk.old).state → OnOk result (IsSettled (D.moments disk.new).state) }
+    ensures pruned { IsTrue D.visible → OnOk result (AreFreed (D.size disk.old) geometry.now orphans.now.numbers.items orphans.now.dirs.items (reads (D.moments disk.old)) (reads (D.moments disk.new))) }
+    ensures taken { IsTrue D.visible → IfOk result (λ t. IsReadOf geometry.now (reads (D.moments disk.old)) findings.now → AreTaken geometry.now (sound_nodes geometry.now (reads (D.moments disk.new))) t) }
+    ensures tree { IsTrue D.visible → KeepsTreeFreeing D.keeps (D.size disk.old) geometry.now orphans.now.numbers.items orphans.now.dirs.items (D.moments disk.old) (D.moments disk.new) }
     ensures size { D.size disk.new ≡ D.size disk.old }
     ensures passed { OnOk result (D.faults disk.new ≡ D.faults disk.old) }
     ensures cause { IfErr result (HasFaultCause (D.faults disk.old) (D.faults disk.new)) }

@@ -35,9 +35,9 @@ pub(crate) fn prune<D: Disk>(
     requires large { sector_count geometry.now ≤ D.size disk.old }
     requires counted { length orphans.now.numbers.items ≡ geometry.now.inodes }
     requires counted_dirs { length orphans.now.dirs.items ≡ geometry.now.inodes }
-    ensures settled { IsTrue D.tells → OnOk result (IsSettled (D.moments disk.new).state) }
-    ensures pruned { IsTrue D.tells → OnOk result (AreFreed (D.size disk.old) geometry.now orphans.now.numbers.items orphans.now.dirs.items (reads (D.moments disk.old)) (reads (D.moments disk.new))) }
-    ensures tree { IsTrue D.tells → KeepsTreeFreeing D.keeps (D.size disk.old) geometry.now orphans.now.numbers.items orphans.now.dirs.items (D.moments disk.old) (D.moments disk.new) }
+    ensures settled { IsTrue D.visible → OnOk result (IsSettled (D.moments disk.new).state) }
+    ensures pruned { IsTrue D.visible → OnOk result (AreFreed (D.size disk.old) geometry.now orphans.now.numbers.items orphans.now.dirs.items (reads (D.moments disk.old)) (reads (D.moments disk.new))) }
+    ensures tree { IsTrue D.visible → KeepsTreeFreeing D.keeps (D.size disk.old) geometry.now orphans.now.numbers.items orphans.now.dirs.items (D.moments disk.old) (D.moments disk.new) }
     ensures size { D.size disk.new ≡ D.size disk.old }
     ensures cause { HasCause (D.faults disk.old) (D.faults disk.new) result }
     ensures number { IfErr result (λ fault. fault.number ≡ D.faults disk.new) }

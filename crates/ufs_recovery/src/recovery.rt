@@ -22,17 +22,17 @@ use ufs_opening::open;
 /// inode table and the directories are read once more. A fault of the disk ends it. Where the epochs or the commit
 /// numbers end, it is refused as by want of memory.
 pub fn recover<D: Disk>(alloc: Global, disk: &mut D) -> Result<u32, RecoverFault>
-    ensures found { IsTrue D.tells → IfOk result (λ count. count ≡ length (log_of (reads (D.moments disk.old)))) }
-    ensures clean { IsTrue D.tells → OnOk result (IsProperDisk (D.size disk.old) (D.moments disk.old).state → IsCleanDisk (D.size disk.old) (D.moments disk.new).state) }
+    ensures found { IsTrue D.visible → IfOk result (λ count. count ≡ length (log_of (reads (D.moments disk.old)))) }
+    ensures clean { IsTrue D.visible → OnOk result (IsProperDisk (D.size disk.old) (D.moments disk.old).state → IsCleanDisk (D.size disk.old) (D.moments disk.new).state) }
 
     // At each moment, also of a call that is refused, whatever a crash leaves opens to the same tree and is proper.
-    ensures tree { IsTrue D.tells → IsProperDisk (D.size disk.old) (D.moments disk.old).state → KeepsTree D.keeps (D.size disk.old) (D.moments disk.old) (D.moments disk.new) }
-    ensures recovered { IsTrue D.tells → OnOk result (IsProperDisk (D.size disk.old) (D.moments disk.old).state → (superblock_of (reads (D.moments disk.old))).clean ≡ false → IsRecovered (reads (D.moments disk.old)) (reads (D.moments disk.new))) }
-    ensures quiet { IsTrue D.tells → IsTrue (superblock_of (reads (D.moments disk.old))).clean → IsReadOnly D.keeps (D.moments disk.old) (D.moments disk.new) }
-    ensures opened { IsTrue D.tells → OnOk result ((tree : ImageTree) × (opens (D.size disk.old) (reads (D.moments disk.old)) ≡ Ok tree)) }
-    ensures unopened { IsTrue D.tells → (refusal : Refusal) → opens (D.size disk.old) (reads (D.moments disk.old)) ≡ Err refusal → IsReadOnly D.keeps (D.moments disk.old) (D.moments disk.new) }
-    ensures refused { IsTrue D.tells → IfErr result (TellsWhy (D.size disk.old) (reads (D.moments disk.old))) }
-    ensures outside { IsTrue D.tells → IsProperImage (D.size disk.old) (reads (D.moments disk.old)) → IfErr result IsOutside }
+    ensures tree { IsTrue D.visible → IsProperDisk (D.size disk.old) (D.moments disk.old).state → KeepsTree D.keeps (D.size disk.old) (D.moments disk.old) (D.moments disk.new) }
+    ensures recovered { IsTrue D.visible → OnOk result (IsProperDisk (D.size disk.old) (D.moments disk.old).state → (superblock_of (reads (D.moments disk.old))).clean ≡ false → IsRecovered (reads (D.moments disk.old)) (reads (D.moments disk.new))) }
+    ensures quiet { IsTrue D.visible → IsTrue (superblock_of (reads (D.moments disk.old))).clean → IsReadOnly D.keeps (D.moments disk.old) (D.moments disk.new) }
+    ensures opened { IsTrue D.visible → OnOk result ((tree : ImageTree) × (opens (D.size disk.old) (reads (D.moments disk.old)) ≡ Ok tree)) }
+    ensures unopened { IsTrue D.visible → (refusal : Refusal) → opens (D.size disk.old) (reads (D.moments disk.old)) ≡ Err refusal → IsReadOnly D.keeps (D.moments disk.old) (D.moments disk.new) }
+    ensures refused { IsTrue D.visible → IfErr result (TellsWhy (D.size disk.old) (reads (D.moments disk.old))) }
+    ensures outside { IsTrue D.visible → IsProperImage (D.size disk.old) (reads (D.moments disk.old)) → IfErr result IsOutside }
     ensures size { D.size disk.new ≡ D.size disk.old }
     ensures passed { OnOk result (D.faults disk.new ≡ D.faults disk.old) }
     ensures cause { IfErr result (HasFaultCause (D.faults disk.old) (D.faults disk.new)) }

@@ -16,8 +16,8 @@ pub(crate) fn put_sector<D: Disk>(
     bytes: &[u8; SECTOR],
 ) -> Result<(), Fault>
     requires { sector < D.size disk.old }
-    ensures written { IsTrue D.tells → OnOk result (reads (D.moments disk.new) ≡ put sector bytes.now (reads (D.moments disk.old))) }
-    ensures crash { IsTrue D.tells → LeavesOnly D.keeps (HasSectorPut sector bytes.now (D.moments disk.old).state) (D.moments disk.old) (D.moments disk.new) }
+    ensures written { IsTrue D.visible → OnOk result (reads (D.moments disk.new) ≡ put sector bytes.now (reads (D.moments disk.old))) }
+    ensures crash { IsTrue D.visible → LeavesOnly D.keeps (HasSectorPut sector bytes.now (D.moments disk.old).state) (D.moments disk.old) (D.moments disk.new) }
     ensures size { D.size disk.new ≡ D.size disk.old }
     ensures cause { HasCause (D.faults disk.old) (D.faults disk.new) result }
     ensures number { IfErr result (λ fault. fault.number ≡ D.faults disk.new) }
@@ -38,10 +38,10 @@ fn superblock_sector(superblock: &Super) -> [u8; SECTOR]
 pub(crate) fn put_superblock<D: Disk>(disk: &mut D, superblock: &Super) -> Result<(), Fault>
     requires form { IsTrue (is_super 1 superblock.now) }
     requires some { 0 < D.size disk.old }
-    ensures settled { IsTrue D.tells → OnOk result (IsSettled (D.moments disk.new).state) }
-    ensures home { IsTrue D.tells → OnOk result (IsBroughtHome (D.size disk.old) (reads (D.moments disk.old)) superblock.now → IsAtHome (D.size disk.old) superblock.now (reads (D.moments disk.new))) }
-    ensures others { IsTrue D.tells → OnOk result ((sector : ℕ) → sector ≢ 0 → reads (D.moments disk.new) sector ≡ reads (D.moments disk.old) sector) }
-    ensures tree { IsTrue D.tells → IsSettled (D.moments disk.old).state → IsBroughtHome (D.size disk.old) (reads (D.moments disk.old)) superblock.now → KeepsTree D.keeps (D.size disk.old) (D.moments disk.old) (D.moments disk.new) }
+    ensures settled { IsTrue D.visible → OnOk result (IsSettled (D.moments disk.new).state) }
+    ensures home { IsTrue D.visible → OnOk result (IsBroughtHome (D.size disk.old) (reads (D.moments disk.old)) superblock.now → IsAtHome (D.size disk.old) superblock.now (reads (D.moments disk.new))) }
+    ensures others { IsTrue D.visible → OnOk result ((sector : ℕ) → sector ≢ 0 → reads (D.moments disk.new) sector ≡ reads (D.moments disk.old) sector) }
+    ensures tree { IsTrue D.visible → IsSettled (D.moments disk.old).state → IsBroughtHome (D.size disk.old) (reads (D.moments disk.old)) superblock.now → KeepsTree D.keeps (D.size disk.old) (D.moments disk.old) (D.moments disk.new) }
     ensures size { D.size disk.new ≡ D.size disk.old }
     ensures cause { HasCause (D.faults disk.old) (D.faults disk.new) result }
     ensures number { IfErr result (λ fault. fault.number ≡ D.faults disk.new) }

@@ -28,10 +28,10 @@ pub(crate) fn begin<D: Disk>(
     requires large { sector_count (overlaid.geometry_of overlay.now) ≤ D.size disk.old }
     requires limits { IsGeometry (overlaid.geometry_of overlay.now) }
     requires form { IsTrue (is_super 1 superblock.now) }
-    ensures settled { IsTrue D.tells → OnOk result (IsSettled (D.moments disk.new).state) }
-    ensures begun { IsTrue D.tells → OnOk result ((v : Volume) → IsSettled (D.moments disk.old).state → IsOver (D.size disk.old) (reads (D.moments disk.old)) v overlay.now → MayFollow (reads (D.moments disk.old)) v superblock.now
+    ensures settled { IsTrue D.visible → OnOk result (IsSettled (D.moments disk.new).state) }
+    ensures begun { IsTrue D.visible → OnOk result ((v : Volume) → IsSettled (D.moments disk.old).state → IsOver (D.size disk.old) (reads (D.moments disk.old)) v overlay.now → MayFollow (reads (D.moments disk.old)) v superblock.now
         → HasBegun (D.size disk.old) v superblock.now (reads (D.moments disk.new))) }
-    ensures tree { IsTrue D.tells → (v : Volume) → IsSettled (D.moments disk.old).state → IsOver (D.size disk.old) (reads (D.moments disk.old)) v overlay.now → MayFollow (reads (D.moments disk.old)) v superblock.now
+    ensures tree { IsTrue D.visible → (v : Volume) → IsSettled (D.moments disk.old).state → IsOver (D.size disk.old) (reads (D.moments disk.old)) v overlay.now → MayFollow (reads (D.moments disk.old)) v superblock.now
         → KeepsTree D.keeps (D.size disk.old) (D.moments disk.old) (D.moments disk.new) }
     ensures size { D.size disk.new ≡ D.size disk.old }
     ensures cause { HasCause (D.faults disk.old) (D.faults disk.new) result }
@@ -51,10 +51,10 @@ pub(crate) fn close<D: Disk>(
     requires geometry { IsGeometry geometry.now }
     requires large { sector_count geometry.now ≤ D.size disk.old }
     requires form { IsTrue (is_super 1 superblock.now) }
-    ensures settled { IsTrue D.tells → OnOk result (IsSettled (D.moments disk.new).state) }
-    ensures closed { IsTrue D.tells → OnOk result (IsSettled (D.moments disk.old).state → MayClose (D.size disk.old) superblock.now (reads (D.moments disk.old)) geometry.now taken.now
+    ensures settled { IsTrue D.visible → OnOk result (IsSettled (D.moments disk.new).state) }
+    ensures closed { IsTrue D.visible → OnOk result (IsSettled (D.moments disk.old).state → MayClose (D.size disk.old) superblock.now (reads (D.moments disk.old)) geometry.now taken.now
         → HasClosed (D.size disk.old) superblock.now (reads (D.moments disk.old)) (reads (D.moments disk.new))) }
-    ensures tree { IsTrue D.tells → IsSettled (D.moments disk.old).state → MayClose (D.size disk.old) superblock.now (reads (D.moments disk.old)) geometry.now taken.now
+    ensures tree { IsTrue D.visible → IsSettled (D.moments disk.old).state → MayClose (D.size disk.old) superblock.now (reads (D.moments disk.old)) geometry.now taken.now
         → KeepsTree D.keeps (D.size disk.old) (D.moments disk.old) (D.moments disk.new) }
     ensures size { D.size disk.new ≡ D.size disk.old }
     ensures cause { HasCause (D.faults disk.old) (D.faults disk.new) result }

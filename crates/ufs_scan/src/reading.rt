@@ -28,9 +28,9 @@ pub(crate) fn read_sectors<D: Disk>(
 ) -> Result<(), ScanFault>
     requires { IsRange (D.size disk.old) sector (length buf.old) }
     ensures sized { length buf.new ≡ length buf.old }
-    ensures bytes { IsTrue D.tells → OnOk result (buf.new ≡ bytes_from (reads (D.moments disk.old)) sector (length buf.old / 512)) }
-    ensures content { IsTrue D.tells → reads (D.moments disk.new) ≡ reads (D.moments disk.old) }
-    ensures crash { IsTrue D.tells → LeavesOnly D.keeps (IsImage (D.moments disk.old).state) (D.moments disk.old) (D.moments disk.new) }
+    ensures bytes { IsTrue D.visible → OnOk result (buf.new ≡ bytes_from (reads (D.moments disk.old)) sector (length buf.old / 512)) }
+    ensures content { IsTrue D.visible → reads (D.moments disk.new) ≡ reads (D.moments disk.old) }
+    ensures crash { IsTrue D.visible → LeavesOnly D.keeps (IsImage (D.moments disk.old).state) (D.moments disk.old) (D.moments disk.new) }
     ensures size { D.size disk.new ≡ D.size disk.old }
     ensures passed { OnOk result (D.faults disk.new ≡ D.faults disk.old) }
     ensures cause { IfErr result (HasFaultCause (D.faults disk.old) (D.faults disk.new)) }
@@ -53,10 +53,10 @@ pub(crate) fn read_journal<D: Disk>(
 ) -> Result<Sectors, ScanFault>
     requires geometry { IsGeometry geometry.now }
     requires large { sector_count geometry.now ≤ D.size disk.old }
-    ensures found { IsTrue D.tells → IfOk result (λ list. list.found.items ≡ well_spelled (sectors_of_epoch geometry.now epoch (reads (D.moments disk.old)))) }
-    ensures misspelled { IsTrue D.tells → IfOk result (λ list. list.misspelled ≡ misspelled (sectors_of_epoch geometry.now epoch (reads (D.moments disk.old)))) }
-    ensures content { IsTrue D.tells → reads (D.moments disk.new) ≡ reads (D.moments disk.old) }
-    ensures crash { IsTrue D.tells → LeavesOnly D.keeps (IsImage (D.moments disk.old).state) (D.moments disk.old) (D.moments disk.new) }
+    ensures found { IsTrue D.visible → IfOk result (λ list. list.found.items ≡ well_spelled (sectors_of_epoch geometry.now epoch (reads (D.moments disk.old)))) }
+    ensures misspelled { IsTrue D.visible → IfOk result (λ list. list.misspelled ≡ misspelled (sectors_of_epoch geometry.now epoch (reads (D.moments disk.old)))) }
+    ensures content { IsTrue D.visible → reads (D.moments disk.new) ≡ reads (D.moments disk.old) }
+    ensures crash { IsTrue D.visible → LeavesOnly D.keeps (IsImage (D.moments disk.old).state) (D.moments disk.old) (D.moments disk.new) }
     ensures size { D.size disk.new ≡ D.size disk.old }
     ensures passed { OnOk result (D.faults disk.new ≡ D.faults disk.old) }
     ensures cause { IfErr result (HasFaultCause (D.faults disk.old) (D.faults disk.new)) }
@@ -89,9 +89,9 @@ fn push_standing(list: &mut Vec<Standing>, one: Standing) -> Result<(), AllocErr
 // Reads an inode's sector, where it is wanted.
 fn read_standing<D: Disk>(disk: &mut D, wanted: bool, sector: u32) -> Result<Standing, ScanFault>
     requires { IsRange (D.size disk.old) sector 512 }
-    ensures value { IsTrue D.tells → IfOk result (λ one. one ≡ (if wanted then standing_in (reads (D.moments disk.old) sector) else no_standing)) }
-    ensures content { IsTrue D.tells → reads (D.moments disk.new) ≡ reads (D.moments disk.old) }
-    ensures crash { IsTrue D.tells → LeavesOnly D.keeps (IsImage (D.moments disk.old).state) (D.moments disk.old) (D.moments disk.new) }
+    ensures value { IsTrue D.visible → IfOk result (λ one. one ≡ (if wanted then standing_in (reads (D.moments disk.old) sector) else no_standing)) }
+    ensures content { IsTrue D.visible → reads (D.moments disk.new) ≡ reads (D.moments disk.old) }
+    ensures crash { IsTrue D.visible → LeavesOnly D.keeps (IsImage (D.moments disk.old).state) (D.moments disk.old) (D.moments disk.new) }
     ensures size { D.size disk.new ≡ D.size disk.old }
     ensures passed { OnOk result (D.faults disk.new ≡ D.faults disk.old) }
     ensures cause { IfErr result (HasFaultCause (D.faults disk.old) (D.faults disk.new)) }
@@ -119,10 +119,10 @@ pub(crate) fn read_standings<D: Disk>(
     requires geometry { IsGeometry geometry.now }
     requires large { sector_count geometry.now ≤ D.size disk.old }
     requires marks { length marks.now ≡ geometry.now.inodes }
-    ensures list { IsTrue D.tells → IfOk result (λ list. list.items ≡ marked_standings geometry.now marks.now (reads (D.moments disk.old))) }
+    ensures list { IsTrue D.visible → IfOk result (λ list. list.items ≡ marked_standings geometry.now marks.now (reads (D.moments disk.old))) }
     ensures sized { IfOk result (λ list. length list.items ≡ geometry.now.inodes) }
-    ensures content { IsTrue D.tells → reads (D.moments disk.new) ≡ reads (D.moments disk.old) }
-    ensures crash { IsTrue D.tells → LeavesOnly D.keeps (IsImage (D.moments disk.old).state) (D.moments disk.old) (D.moments disk.new) }
+    ensures content { IsTrue D.visible → reads (D.moments disk.new) ≡ reads (D.moments disk.old) }
+    ensures crash { IsTrue D.visible → LeavesOnly D.keeps (IsImage (D.moments disk.old).state) (D.moments disk.old) (D.moments disk.new) }
     ensures size { D.size disk.new ≡ D.size disk.old }
     ensures passed { OnOk result (D.faults disk.new ≡ D.faults disk.old) }
     ensures cause { IfErr result (HasFaultCause (D.faults disk.old) (D.faults disk.new)) }

@@ -29,11 +29,11 @@ pub fn scan<D: Disk>(
 ) -> Result<CommittedList, ScanFault>
     requires geometry { IsGeometry geometry.now }
     requires large { sector_count geometry.now ≤ D.size disk.old }
-    ensures committed { IsTrue D.tells → IfOk result (λ list. list ≡ committed geometry.now superblock.now.epoch (reads (D.moments disk.old))) }
-    ensures whole { IsTrue D.tells → OnOk result (bad_sector geometry.now superblock.now (reads (D.moments disk.old)) ≡ None) }
-    ensures bad { IsTrue D.tells → IfErr result (NamesSector (bad_sector geometry.now superblock.now (reads (D.moments disk.old)))) }
-    ensures content { IsTrue D.tells → reads (D.moments disk.new) ≡ reads (D.moments disk.old) }
-    ensures crash { IsTrue D.tells → LeavesOnly D.keeps (IsImage (D.moments disk.old).state) (D.moments disk.old) (D.moments disk.new) }
+    ensures committed { IsTrue D.visible → IfOk result (λ list. list ≡ committed geometry.now superblock.now.epoch (reads (D.moments disk.old))) }
+    ensures whole { IsTrue D.visible → OnOk result (bad_sector geometry.now superblock.now (reads (D.moments disk.old)) ≡ None) }
+    ensures bad { IsTrue D.visible → IfErr result (NamesSector (bad_sector geometry.now superblock.now (reads (D.moments disk.old)))) }
+    ensures content { IsTrue D.visible → reads (D.moments disk.new) ≡ reads (D.moments disk.old) }
+    ensures crash { IsTrue D.visible → LeavesOnly D.keeps (IsImage (D.moments disk.old).state) (D.moments disk.old) (D.moments disk.new) }
     ensures size { D.size disk.new ≡ D.size disk.old }
     ensures passed { OnOk result (D.faults disk.new ≡ D.faults disk.old) }
     ensures cause { IfErr result (HasFaultCause (D.faults disk.old) (D.faults disk.new)) }

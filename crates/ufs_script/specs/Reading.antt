@@ -14,13 +14,13 @@ pub record HasRead (old new : Option (List ℕ)) (text : List ℕ) : Type 0 wher
 abbrev pub piece : ℕ
 piece = 4096
 
--- It took at most the greatest length of a script and one piece more, where the source tells its bytes.
+-- It took at most the greatest length of a script and one piece more, where the source is visible.
 abbrev pub TakesAtMost : Option (List ℕ) → Option (List ℕ) → Type 0
 TakesAtMost None new = ⊤
 TakesAtMost (Some before) None = ⊤
 TakesAtMost (Some before) (Some now) = length before ≤ length now + (max_script + piece)
 
--- at most so many reads were made, where the source tells
+-- at most so many reads were made, where the source is visible
 abbrev pub MadeAtMost : ℕ → Option ℕ → Option ℕ → Type 0
 MadeAtMost count None new = ⊤
 MadeAtMost count (Some before) None = ⊤

@@ -35,9 +35,9 @@ impl DiskServer {
         requires here { IsSome (map.get self.old.files file) }
         requires held { IsSome (map.get self.old.names.held file) }
         requires sound { IsSoundServer (geometry_of_store (D.store door.old)) (D.store door.old).unassigned.free self.old }
-        ensures ok { IsTrue D.tells → OnOk result ((start : PosixTree) (history : List Entry) (done : List ℕ) → HasFiles (D.store door.old) start history self.old done → HasFiles (D.store door.new) start history self.new (file ∷ done)) }
-        ensures err { IsTrue D.tells → OnErr result ((start : PosixTree) (history : List Entry) → HasNames (D.store door.old) start history self.old → IsOnDisk (D.store door.new) start history self.new) }
-        ensures moments { IsTrue D.tells → (start : PosixTree) (history : List Entry) → HasNames (D.store door.old) start history self.old
+        ensures ok { IsTrue D.visible → OnOk result ((start : PosixTree) (history : List Entry) (done : List ℕ) → HasFiles (D.store door.old) start history self.old done → HasFiles (D.store door.new) start history self.new (file ∷ done)) }
+        ensures err { IsTrue D.visible → OnErr result ((start : PosixTree) (history : List Entry) → HasNames (D.store door.old) start history self.old → IsOnDisk (D.store door.new) start history self.new) }
+        ensures moments { IsTrue D.visible → (start : PosixTree) (history : List Entry) → HasNames (D.store door.old) start history self.old
             → IsExplainedBetween D.keeps (D.store door.old).sectors start history (D.store door.old).moments (D.store door.new).moments }
         ensures same { (t : PosixTree) → ArePartsOf self.old t → ArePartsOf self.new t }
         ensures names { self.new.names ≡ self.old.names }
@@ -84,9 +84,9 @@ fn sync_held<D: Door>(door: &mut D, held: &mut HeldFile) -> Result<(), Excuse>
     requires inode { is_inode_number (geometry_of_store (D.store door.old)) held.old.hand.inode ≡ true }
     requires blocks { AreDataBlocks (geometry_of_store (D.store door.old)) (blocks_of held.old.hand.extents) }
     requires dropped { MayReturn (D.store door.old).unassigned held.old.commits.dropped }
-    ensures ok { IsTrue D.tells → OnOk result (HasSynced (D.store door.old) (D.store door.new) (state_of held.old.hand held.old.commits)) }
-    ensures err { IsTrue D.tells → OnErr result (HasWritten (D.store door.old) (D.store door.new) (state_of held.old.hand held.old.commits) ⊎ HasFailed (D.store door.old) (D.store door.new) (state_of held.old.hand held.old.commits)) }
-    ensures moments { IsTrue D.tells → LeavesStages D.keeps (D.store door.old) (D.store door.new) (state_of held.old.hand held.old.commits) }
+    ensures ok { IsTrue D.visible → OnOk result (HasSynced (D.store door.old) (D.store door.new) (state_of held.old.hand held.old.commits)) }
+    ensures err { IsTrue D.visible → OnErr result (HasWritten (D.store door.old) (D.store door.new) (state_of held.old.hand held.old.commits) ⊎ HasFailed (D.store door.old) (D.store door.new) (state_of held.old.hand held.old.commits)) }
+    ensures moments { IsTrue D.visible → LeavesStages D.keeps (D.store door.old) (D.store door.new) (state_of held.old.hand held.old.commits) }
     ensures fits { FitsInode held.old.hand }
     ensures committed { OnOk result (state_of held.new.hand held.new.commits ≡ file_committed (state_of held.old.hand held.old.commits)) }
     ensures kept { OnErr result (state_of held.new.hand held.new.commits ≡ state_of held.old.hand held.old.commits) }

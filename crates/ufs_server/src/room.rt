@@ -17,8 +17,8 @@ impl DiskServer {
     /// commit is asked for. That memory is wanting, or that the disk fails, is told by no answer.
     pub(crate) fn make_room<D: Door>(&mut self, door: &mut D)
         requires sound { IsSoundServer (geometry_of_store (D.store door.old)) (D.store door.old).unassigned.free self.old }
-        ensures on_disk { IsTrue D.tells → (start : PosixTree) (history : List Entry) → IsOnDisk (D.store door.old) start history self.old → IsOnDisk (D.store door.new) start history self.new }
-        ensures moments { IsTrue D.tells → (start : PosixTree) (history : List Entry) → IsOnDisk (D.store door.old) start history self.old
+        ensures on_disk { IsTrue D.visible → (start : PosixTree) (history : List Entry) → IsOnDisk (D.store door.old) start history self.old → IsOnDisk (D.store door.new) start history self.new }
+        ensures moments { IsTrue D.visible → (start : PosixTree) (history : List Entry) → IsOnDisk (D.store door.old) start history self.old
             → IsExplainedBetween D.keeps (D.store door.old).sectors start history (D.store door.old).moments (D.store door.new).moments }
         ensures same { (t : PosixTree) → ArePartsOf self.old t → ArePartsOf self.new t }
         ensures names { self.new.names.next ≡ self.old.names.next }

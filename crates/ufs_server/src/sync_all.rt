@@ -23,10 +23,10 @@ impl DiskServer {
     /// was written since its last commit.
     pub fn sync_all<D: Door>(&mut self, door: &mut D) -> Result<(), Excuse>
         requires sound { IsSoundServer (geometry_of_store (D.store door.old)) (D.store door.old).unassigned.free self.old }
-        ensures ok { IsTrue D.tells → OnOk result ((start : PosixTree) (history : List Entry) → IsOnDisk (D.store door.old) start history self.old → HasAll (D.store door.new) start history self.new) }
-        ensures err { IsTrue D.tells → OnErr result ((start : PosixTree) (history : List Entry) → IsOnDisk (D.store door.old) start history self.old → IsOnDisk (D.store door.new) start history self.new) }
+        ensures ok { IsTrue D.visible → OnOk result ((start : PosixTree) (history : List Entry) → IsOnDisk (D.store door.old) start history self.old → HasAll (D.store door.new) start history self.new) }
+        ensures err { IsTrue D.visible → OnErr result ((start : PosixTree) (history : List Entry) → IsOnDisk (D.store door.old) start history self.old → IsOnDisk (D.store door.new) start history self.new) }
         ensures nothing { OnOk result (HasNothingNoted self.new) }
-        ensures moments { IsTrue D.tells → (start : PosixTree) (history : List Entry) → IsOnDisk (D.store door.old) start history self.old
+        ensures moments { IsTrue D.visible → (start : PosixTree) (history : List Entry) → IsOnDisk (D.store door.old) start history self.old
             → IsExplainedBetween D.keeps (D.store door.old).sectors start history (D.store door.old).moments (D.store door.new).moments }
         ensures same { (t : PosixTree) → ArePartsOf self.old t → ArePartsOf self.new t }
         ensures sound { IsSoundServer (geometry_of_store (D.store door.new)) (D.store door.new).unassigned.free self.new }
@@ -55,9 +55,9 @@ impl DiskServer {
     fn commit_files<D: Door>(&mut self, door: &mut D, files: &[u32]) -> Result<(), Excuse>
         requires held { (file : ℕ) → has files.now file ≡ true → IsSome (map.get self.old.names.held file) }
         requires sound { IsSoundServer (geometry_of_store (D.store door.old)) (D.store door.old).unassigned.free self.old }
-        ensures ok { IsTrue D.tells → OnOk result ((start : PosixTree) (history : List Entry) → HasNames (D.store door.old) start history self.old → HasFiles (D.store door.new) start history self.new files.now) }
-        ensures err { IsTrue D.tells → OnErr result ((start : PosixTree) (history : List Entry) → HasNames (D.store door.old) start history self.old → IsOnDisk (D.store door.new) start history self.new) }
-        ensures moments { IsTrue D.tells → (start : PosixTree) (history : List Entry) → HasNames (D.store door.old) start history self.old
+        ensures ok { IsTrue D.visible → OnOk result ((start : PosixTree) (history : List Entry) → HasNames (D.store door.old) start history self.old → HasFiles (D.store door.new) start history self.new files.now) }
+        ensures err { IsTrue D.visible → OnErr result ((start : PosixTree) (history : List Entry) → HasNames (D.store door.old) start history self.old → IsOnDisk (D.store door.new) start history self.new) }
+        ensures moments { IsTrue D.visible → (start : PosixTree) (history : List Entry) → HasNames (D.store door.old) start history self.old
             → IsExplainedBetween D.keeps (D.store door.old).sectors start history (D.store door.old).moments (D.store door.new).moments }
         ensures same { (t : PosixTree) → ArePartsOf self.old t → ArePartsOf self.new t }
         ensures names { self.new.names ≡ self.old.names }
@@ -83,9 +83,9 @@ impl DiskServer {
     fn commit_here<D: Door>(&mut self, door: &mut D, file: u32) -> Result<(), Excuse>
         requires held { IsSome (map.get self.old.names.held file) }
         requires sound { IsSoundServer (geometry_of_store (D.store door.old)) (D.store door.old).unassigned.free self.old }
-        ensures ok { IsTrue D.tells → OnOk result ((start : PosixTree) (history : List Entry) (done : List ℕ) → HasFiles (D.store door.old) start history self.old done → HasFiles (D.store door.new) start history self.new (file ∷ done)) }
-        ensures err { IsTrue D.tells → OnErr result ((start : PosixTree) (history : List Entry) → HasNames (D.store door.old) start history self.old → IsOnDisk (D.store door.new) start history self.new) }
-        ensures moments { IsTrue D.tells → (start : PosixTree) (history : List Entry) → HasNames (D.store door.old) start history self.old
+        ensures ok { IsTrue D.visible → OnOk result ((start : PosixTree) (history : List Entry) (done : List ℕ) → HasFiles (D.store door.old) start history self.old done → HasFiles (D.store door.new) start history self.new (file ∷ done)) }
+        ensures err { IsTrue D.visible → OnErr result ((start : PosixTree) (history : List Entry) → HasNames (D.store door.old) start history self.old → IsOnDisk (D.store door.new) start history self.new) }
+        ensures moments { IsTrue D.visible → (start : PosixTree) (history : List Entry) → HasNames (D.store door.old) start history self.old
             → IsExplainedBetween D.keeps (D.store door.old).sectors start history (D.store door.old).moments (D.store door.new).moments }
         ensures same { (t : PosixTree) → ArePartsOf self.old t → ArePartsOf self.new t }
         ensures names { self.new.names ≡ self.old.names }

@@ -23,9 +23,9 @@ impl DiskServer {
     /// Commits the names, where they changed since their last commit. Directories' fresh blocks are zeros before.
     pub(crate) fn sync_names<D: Door>(&mut self, door: &mut D) -> Result<(), Excuse>
         requires sound { IsSoundServer (geometry_of_store (D.store door.old)) (D.store door.old).unassigned.free self.old }
-        ensures ok { IsTrue D.tells → OnOk result ((start : PosixTree) (history : List Entry) → IsOnDisk (D.store door.old) start history self.old → HasNames (D.store door.new) start history self.new) }
-        ensures err { IsTrue D.tells → OnErr result ((start : PosixTree) (history : List Entry) → IsOnDisk (D.store door.old) start history self.old → IsOnDisk (D.store door.new) start history self.new) }
-        ensures moments { IsTrue D.tells → (start : PosixTree) (history : List Entry) → IsOnDisk (D.store door.old) start history self.old
+        ensures ok { IsTrue D.visible → OnOk result ((start : PosixTree) (history : List Entry) → IsOnDisk (D.store door.old) start history self.old → HasNames (D.store door.new) start history self.new) }
+        ensures err { IsTrue D.visible → OnErr result ((start : PosixTree) (history : List Entry) → IsOnDisk (D.store door.old) start history self.old → IsOnDisk (D.store door.new) start history self.new) }
+        ensures moments { IsTrue D.visible → (start : PosixTree) (history : List Entry) → IsOnDisk (D.store door.old) start history self.old
             → IsExplainedBetween D.keeps (D.store door.old).sectors start history (D.store door.old).moments (D.store door.new).moments }
         ensures same { (t : PosixTree) → ArePartsOf self.old t → ArePartsOf self.new t }
         ensures rest { self.new ≡ record self.old { names = with_notes self.new.names.tree.noted self.old.names; fresh = self.new.fresh } }
@@ -64,9 +64,9 @@ impl DiskServer {
         requires here { IsSome (map.get self.old.files file) }
         requires held { IsSome (map.get self.old.names.held file) }
         requires sound { IsSoundServer (geometry_of_store (D.store door.old)) (D.store door.old).unassigned.free self.old }
-        ensures ok { IsTrue D.tells → OnOk result ((start : PosixTree) (history : List Entry) → IsOnDisk (D.store door.old) start history self.old → HasFile (D.store door.new) start history self.new file) }
-        ensures err { IsTrue D.tells → OnErr result ((start : PosixTree) (history : List Entry) → IsOnDisk (D.store door.old) start history self.old → IsOnDisk (D.store door.new) start history self.new) }
-        ensures moments { IsTrue D.tells → (start : PosixTree) (history : List Entry) → IsOnDisk (D.store door.old) start history self.old
+        ensures ok { IsTrue D.visible → OnOk result ((start : PosixTree) (history : List Entry) → IsOnDisk (D.store door.old) start history self.old → HasFile (D.store door.new) start history self.new file) }
+        ensures err { IsTrue D.visible → OnErr result ((start : PosixTree) (history : List Entry) → IsOnDisk (D.store door.old) start history self.old → IsOnDisk (D.store door.new) start history self.new) }
+        ensures moments { IsTrue D.visible → (start : PosixTree) (history : List Entry) → IsOnDisk (D.store door.old) start history self.old
             → IsExplainedBetween D.keeps (D.store door.old).sectors start history (D.store door.old).moments (D.store door.new).moments }
         ensures same { (t : PosixTree) → ArePartsOf self.old t → ArePartsOf self.new t }
         ensures sound { IsSoundServer (geometry_of_store (D.store door.new)) (D.store door.new).unassigned.free self.new }

@@ -43,9 +43,9 @@ fn serve_one<D: Door>(server: &mut DiskServer, door: &mut D, ask: Ask, ticket: u
     ensures fits { (x : Excuse) → result.entry.reply ≡ reply.Excused x → (t : PosixTree) → ArePartsOf server.old t → IsAsk t ask → ExcuseFits t ask.client ask.op x }
     ensures unchanged { is_excused result.entry.reply ≡ true → (t : PosixTree) → ArePartsOf server.old t → ArePartsOf server.new t }
     ensures desc { is_excused result.entry.reply ≡ true → result.desc ≡ ask.desc }
-    ensures on_disk { IsTrue D.tells → (start : PosixTree) (history : List Entry) → IsAsk (tree_after start history) ask → IsLegal start (history ++ result.entry ∷ [])
+    ensures on_disk { IsTrue D.visible → (start : PosixTree) (history : List Entry) → IsAsk (tree_after start history) ask → IsLegal start (history ++ result.entry ∷ [])
         → IsOnDisk (D.store door.old) start history server.old → IsOnDisk (D.store door.new) start (history ++ result.entry ∷ []) server.new }
-    ensures moments { IsTrue D.tells → (start : PosixTree) (history : List Entry) → IsAsk (tree_after start history) ask → IsLegal start (history ++ result.entry ∷ [])
+    ensures moments { IsTrue D.visible → (start : PosixTree) (history : List Entry) → IsAsk (tree_after start history) ask → IsLegal start (history ++ result.entry ∷ [])
         → IsOnDisk (D.store door.old) start history server.old
         → IsExplainedThroughout D.keeps (D.store door.old).sectors start history (result.entry ∷ []) (D.store door.old).moments (D.store door.new).moments }
     ensures sound { IsSoundServer (geometry_of_store (D.store door.new)) (D.store door.new).unassigned.free server.new }
@@ -95,9 +95,9 @@ fn serve_client<D: Door>(
     ensures goes_on { GoesOn (joined earlier.now.items) client requests told.new.items }
     ensures left { (start : PosixTree) → IsReady start (joined earlier.now.items) server.old client → IsReached start (joined earlier.now.items ++ told.new.items) server.new }
     ensures done { OnOk result ((start : PosixTree) → IsReady start (joined earlier.now.items) server.old client → IsDone start (joined earlier.now.items) client requests told.new.items) }
-    ensures on_disk { IsTrue D.tells → (start : PosixTree) → IsReady start (joined earlier.now.items) server.old client
+    ensures on_disk { IsTrue D.visible → (start : PosixTree) → IsReady start (joined earlier.now.items) server.old client
         → IsOnDisk (D.store door.old) start (joined earlier.now.items) server.old → IsOnDisk (D.store door.new) start (joined earlier.now.items ++ told.new.items) server.new }
-    ensures moments { IsTrue D.tells → (start : PosixTree) → IsReady start (joined earlier.now.items) server.old client
+    ensures moments { IsTrue D.visible → (start : PosixTree) → IsReady start (joined earlier.now.items) server.old client
         → IsOnDisk (D.store door.old) start (joined earlier.now.items) server.old
         → IsExplainedThroughout D.keeps (D.store door.old).sectors start (joined earlier.now.items) told.new.items (D.store door.old).moments (D.store door.new).moments }
     ensures faults { AreFaultsTold (D.store door.old) (D.store door.new) told.new.items }
@@ -135,9 +135,9 @@ fn serve_clients<D: Door>(
     requires none { told.old.items ≡ [] }
     ensures played { (start : PosixTree) → MayBegin server.old start → IsPlayedFrom start clients told.new.items result (joined told.new.items) }
     ensures left { (start : PosixTree) → MayBegin server.old start → IsReached start (joined told.new.items) server.new }
-    ensures on_disk { IsTrue D.tells → (start : PosixTree) → MayBegin server.old start
+    ensures on_disk { IsTrue D.visible → (start : PosixTree) → MayBegin server.old start
         → IsOnDisk (D.store door.old) start [] server.old → IsOnDisk (D.store door.new) start (joined told.new.items) server.new }
-    ensures moments { IsTrue D.tells → (start : PosixTree) → MayBegin server.old start → IsOnDisk (D.store door.old) start [] server.old
+    ensures moments { IsTrue D.visible → (start : PosixTree) → MayBegin server.old start → IsOnDisk (D.store door.old) start [] server.old
         → IsExplainedThroughout D.keeps (D.store door.old).sectors start [] (joined told.new.items) (D.store door.old).moments (D.store door.new).moments }
     ensures faults { AreFaultsTold (D.store door.old) (D.store door.new) (joined told.new.items) }
     ensures sound { IsSoundServer (geometry_of_store (D.store door.new)) (D.store door.new).unassigned.free server.new }
@@ -180,9 +180,9 @@ pub fn serve<D: Door>(
     requires sound { IsSoundServer (geometry_of_store (D.store door.old)) (D.store door.old).unassigned.free server.old }
     ensures played { (start : PosixTree) → MayBegin server.old start → IsPlayedFrom start clients result.told result.ended (joined result.told) }
     ensures left { (start : PosixTree) → MayBegin server.old start → ArePartsOf server.new (tree_after start (joined result.told)) }
-    ensures on_disk { IsTrue D.tells → (start : PosixTree) → MayBegin server.old start
+    ensures on_disk { IsTrue D.visible → (start : PosixTree) → MayBegin server.old start
         → IsOnDisk (D.store door.old) start [] server.old → IsOnDisk (D.store door.new) start (joined result.told) server.new }
-    ensures moments { IsTrue D.tells → (start : PosixTree) → MayBegin server.old start → IsOnDisk (D.store door.old) start [] server.old
+    ensures moments { IsTrue D.visible → (start : PosixTree) → MayBegin server.old start → IsOnDisk (D.store door.old) start [] server.old
         → IsExplainedThroughout D.keeps (D.store door.old).sectors start [] (joined result.told) (D.store door.old).moments (D.store door.new).moments }
     ensures once { AreTicketsOnce (joined result.told) }
     ensures faults { AreFaultsTold (D.store door.old) (D.store door.new) (joined result.told) }

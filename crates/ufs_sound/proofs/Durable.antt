@@ -14,7 +14,7 @@ use Rattle.ufs_sound.specs.Known.{Knows}
 use Rattle.ufs_sound.specs.Shown.{nodes_of, ExplainsImages}
 use Rattle.ufs_sound.specs.ByImages.{by_images}
 use Rattle.ufs_sound.specs.Durable.{IsExplainedThroughout, IsStoreDurable, IsDurable}
-use Rattle.ufs_sound.specs.Parts.{IsDiskTold}
+use Rattle.ufs_sound.specs.Parts.{IsDiskVisible}
 
 -- a stretch isn't empty
 joined_rise : (past : List Stretch) (mark : ℕ) → AreJoined past mark → (x : Stretch) → Has x past → x.from ≤ x.to
@@ -36,9 +36,9 @@ throughout start history from to cells le each image is =
           subst (λ t. IsExplained (nodes_of t) start (take count history)) (one_tree other.0 first.0 (sym other.1 ∙ first.1)) other.2,
     )
 
-pub store_durable : (k : Start) (word : Word) (v : View) (u : Unit {0}) (store : StorePart) → Has (u, store) v.store → IsDiskTold k → Knows by_images k word v → IsStoreDurable k word store
-store_durable k word v u store has told n =
-    let disk = n.explained told u store has in
+pub store_durable : (k : Start) (word : Word) (v : View) (u : Unit {0}) (store : StorePart) → Has (u, store) v.store → IsDiskVisible k → Knows by_images k word v → IsStoreDurable k word store
+store_durable k word v u store has visible n =
+    let disk = n.explained visible u store has in
     record {
       history = n.history;
       all_drawn = n.tickets;
@@ -49,8 +49,8 @@ store_durable k word v u store has told n =
       now = throughout k.tree n.history store.mark word.tickets store.state disk.marked disk.now;
     }
 
-pub durable : (k : Start) (word : Word) (v : View) (store : StorePart) → IsDiskTold k → IsWhole by_images k word v store → IsDurable k word v store
-durable k word v store told w = record {
+pub durable : (k : Start) (word : Word) (v : View) (store : StorePart) → IsDiskVisible k → IsWhole by_images k word v store → IsDurable k word v store
+durable k word v store visible w = record {
   history = w.history;
   all_drawn = w.all_drawn;
   legal = w.legal;
@@ -59,8 +59,8 @@ durable k word v store told w = record {
   merged = w.merged;
   tree = w.tree;
   files = w.files;
-  joined = (w.disk told).joined;
-  marked = (w.disk told).marked;
-  past = λ x h cells hc. throughout k.tree w.history x.from x.to cells (joined_rise store.past store.mark (w.disk told).joined x h) (λ count low high. (w.disk told).past x h count low high cells hc);
-  now = throughout k.tree w.history store.mark word.tickets store.state (w.disk told).marked (w.disk told).now;
+  joined = (w.disk visible).joined;
+  marked = (w.disk visible).marked;
+  past = λ x h cells hc. throughout k.tree w.history x.from x.to cells (joined_rise store.past store.mark (w.disk visible).joined x h) (λ count low high. (w.disk visible).past x h count low high cells hc);
+  now = throughout k.tree w.history store.mark word.tickets store.state (w.disk visible).marked (w.disk visible).now;
 }

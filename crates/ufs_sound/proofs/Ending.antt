@@ -57,7 +57,7 @@ ends_whole keeps S k word views i v o at all = record {
   };
   tree = is_in;
   files = λ f t. has_count eqb itself alike f v.files (all.files (tree_after k.tree o.history) o.legal.tree is_in f t);
-  disk = λ told. subst (IsDiskExplained S k word o.history) store_same (disk_explained keeps S k word views o told);
+  disk = λ visible. subst (IsDiskExplained S k word o.history) store_same (disk_explained keeps S k word views o visible);
 }
   where
     names_same : o.world.names ≡ all.names
@@ -212,13 +212,13 @@ module _ (S : Showing) (k : Start) (names : NamesPart) (store : StorePart) (c : 
       names_cover = omega arith;
       names_born = λ f h. born_there f (c.born f h);
     };
-    disk_bytes = λ told f p e. (c.files f p (file_has f p e)).4 told;
+    disk_bytes = λ visible f p e. (c.files f p (file_has f p e)).4 visible;
     holds = λ n f. c.no_holds n f ∙ sym (c.free n f);
-    explained = λ told. record {
+    explained = λ visible. record {
       marked = omega (arith, c.mark);
       lent = λ f n h. absurd (subst (Has (f, n)) c.lent h);
       lent_names = omega (arith, c.lent_names);
-      now = λ n low high. subst (λ h. S.Shows k.tree h (committed store) store.names store.paths store.state) (sym (take_none n)) (subst (λ z. S.Shows k.tree [] (committed store) z store.paths store.state) (sym c.no_names) (c.shows told));
+      now = λ n low high. subst (λ h. S.Shows k.tree h (committed store) store.names store.paths store.state) (sym (take_none n)) (subst (λ z. S.Shows k.tree [] (committed store) z store.paths store.state) (sym c.no_names) (c.shows visible));
       ended = λ x h. absurd (subst (Has x) c.past h);
       joined = subst (λ z. AreJoined z store.mark) (sym c.past) c.mark;
       past = λ x h. absurd (subst (Has x) c.past h);

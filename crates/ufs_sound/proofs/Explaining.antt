@@ -9,7 +9,7 @@ use Rattle.ufs_sound.specs.Parts.{Cells, View, Word, Start, committed}
 use Rattle.ufs_sound.specs.Sound.{IsSound}
 use Rattle.ufs_sound.specs.Explained.{IsDiskExplained, Showing}
 use Rattle.ufs_sound.proofs.Lists.{take_front}
-use Rattle.ufs_sound.specs.Parts.{IsDiskTold}
+use Rattle.ufs_sound.specs.Parts.{IsDiskVisible}
 
 module _ (keeps : KeepsTrees) (S : Showing) (k : Start) (word : Word) (views : List View) (o : IsSound S k word views) where
   -- what shows the first entries by numbers that cover the whole is explained by them
@@ -21,10 +21,10 @@ module _ (keeps : KeepsTrees) (S : Showing) (k : Start) (word : Word) (views : L
       (subst (λ h. CoversNames k.tree h o.world.store.names) rest.1 o.committed_numbers.names.covers)
       (subst (λ h. CoversBirths k.tree h o.world.store.names) rest.1 o.committed_numbers.births)
 
-  pub disk_explained : IsDiskTold k → IsDiskExplained S k word o.history o.world.store
-  disk_explained told = record {
-    joined = (o.explained told).joined;
-    marked = (o.explained told).marked;
-    past = (o.explained told).past;
-    now = λ j low high. explains_cut j o.world.store.paths o.world.store.state ((o.explained told).now j low high);
+  pub disk_explained : IsDiskVisible k → IsDiskExplained S k word o.history o.world.store
+  disk_explained visible = record {
+    joined = (o.explained visible).joined;
+    marked = (o.explained visible).marked;
+    past = (o.explained visible).past;
+    now = λ j low high. explains_cut j o.world.store.paths o.world.store.state ((o.explained visible).now j low high);
   }

@@ -161,15 +161,15 @@ blind_files d at bytes blind some' fits = record {
     born = refl;
     store = refl;
     last = inl refl;
-    others = λ told. absurd (no told);
-    own = λ told. absurd (no told);
-    inside = λ told. absurd (no told);
-    end = λ told. absurd (no told);
+    others = λ visible. absurd (no visible);
+    own = λ visible. absurd (no visible);
+    inside = λ visible. absurd (no visible);
+    end = λ visible. absurd (no visible);
   };
 }
   where
-    no : d.is_told ≡ true → ⊥
-    no told = both (sym blind ∙ told)
+    no : d.is_visible ≡ true → ⊥
+    no visible = both (sym blind ∙ visible)
       where
         both : false ≡ true → ⊥
         both e = cc

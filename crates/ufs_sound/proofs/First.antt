@@ -139,10 +139,10 @@ root_nodes path =
 root_contents : StartsHaveContents → HasContents root_alone (nodes_of root_tree)
 root_contents have path = subst (λ t. HasContents t path_root) start_of-root (have path_root) path ∙ root_nodes path
 
--- The disk shows the root alone, where it tells what it holds.
-module _ (told : Bool) (g : Geometry) (clients : ℕ) (cells : Cells) where
+-- The disk shows the root alone, where it is visible.
+module _ (visible : Bool) (g : Geometry) (clients : ℕ) (cells : Cells) where
   abbrev k : Start
-  k = record { tree = root_alone; view = new_view clients g cells; is_told = told }
+  k = record { tree = root_alone; view = new_view clients g cells; is_visible = visible }
 
   pub is_root : IsTree root_alone
   is_root = subst IsTree start_of-root (start_is_tree path_root root_is_tree)
@@ -150,7 +150,7 @@ module _ (told : Bool) (g : Geometry) (clients : ℕ) (cells : Cells) where
   pub none_committed : (f : ℕ) → committed (new_store g cells) f ≡ 0
   none_committed f = ap (λ o. unwrap_or o 0) (fin.get-empty nat_cmp f)
 
-  pub can_open : (told ≡ true → ShowsImages root_alone [] (committed (new_store g cells)) 0 (Some root_alone.paths) cells) → CanOpen by_images k new_names (new_store g cells)
+  pub can_open : (visible ≡ true → ShowsImages root_alone [] (committed (new_store g cells)) 0 (Some root_alone.paths) cells) → CanOpen by_images k new_names (new_store g cells)
   can_open shows = record {
     tree = is_root;
     closed = λ c fd. fin.get-empty fd_cmp (c, fd);
@@ -207,10 +207,10 @@ module _ (keeps : KeepsTrees) (have : StartsHaveContents) (g : Geometry) (client
   )
 
   pub new_opens : CanOpen by_images (new_start clients g cells) new_names (new_store g cells)
-  new_opens = can_open true g clients cells (λ told. openings_show keeps root_alone (committed (new_store g cells)) cells (is_root true g clients cells) (none_committed true g clients cells) each_opens)
+  new_opens = can_open true g clients cells (λ seen. openings_show keeps root_alone (committed (new_store g cells)) cells (is_root true g clients cells) (none_committed true g clients cells) each_opens)
 
 pub blind_opens : BlindDisksOpen
-blind_opens g clients cells = can_open false g clients cells (λ told. absurd (not_told told))
+blind_opens g clients cells = can_open false g clients cells (λ seen. absurd (not_visible seen))
   where
-    not_told : false ≡ true → ⊥
-    not_told e = cc
+    not_visible : false ≡ true → ⊥
+    not_visible e = cc

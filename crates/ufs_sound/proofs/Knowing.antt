@@ -36,9 +36,9 @@ knows keeps S k word views i v o at = record {
   covers = λ g p x. o.committed_numbers.covers g p (o.one_hand.files.agree i v at g p x);
   asked = λ c a p x y. o.asked.kept c a p (o.one_hand.asked.agree i v at c a x) (o.one_hand.clients.agree i v at c p y);
   blocks = λ b. let t = total_at (uses b) views i v at in let s = o.blocks_apart.same b in let m = o.blocks_apart.once b in omega arith;
-  shows = λ told u s x. subst (λ (z : StorePart). S.Shows k.tree o.history (committed z) z.names z.paths z.state) (store_here u s x)
-      (subst (λ h. S.Shows k.tree h (committed o.world.store) o.world.store.names o.world.store.paths o.world.store.state) (take_whole word.tickets o.history (sym o.tickets_once.tickets)) ((o.explained told).now word.tickets (o.explained told).marked (omega arith)));
-  explained = λ told u s x. subst (IsDiskExplained S k word o.history) (store_here u s x) (disk_explained keeps S k word views o told);
+  shows = λ visible u s x. subst (λ (z : StorePart). S.Shows k.tree o.history (committed z) z.names z.paths z.state) (store_here u s x)
+      (subst (λ h. S.Shows k.tree h (committed o.world.store) o.world.store.names o.world.store.paths o.world.store.state) (take_whole word.tickets o.history (sym o.tickets_once.tickets)) ((o.explained visible).now word.tickets (o.explained visible).marked (omega arith)));
+  explained = λ visible u s x. subst (IsDiskExplained S k word o.history) (store_here u s x) (disk_explained keeps S k word views o visible);
   births = λ u s f x. subst (λ (z : StorePart). 1 ≤ committed z f → IsBornBy k.tree o.history f z.names) (store_here u s x) (o.committed_numbers.after_birth f);
   stored = λ u s g x has y.
       let there = o.one_hand.files.agree i v at g x y in
@@ -46,7 +46,7 @@ knows keeps S k word views i v o at = record {
         kept = λ bs b ext h. o.committed_held.live g bs b x ext h there;
         made = let a = (o.committed_numbers.files g).made in let f = ap length (o.legal.files g x there).changes in omega arith;
         known = o.committed_numbers.known g x there;
-        on_disk = λ told. o.disk_bytes told g x there;
+        on_disk = λ visible. o.disk_bytes visible g x there;
       });
   stored_names = λ u w s p has y.
       subst (λ (z : StorePart). (z.names ≤ length p.changes) × (p.known ≤ z.names)) (store_here u s has)

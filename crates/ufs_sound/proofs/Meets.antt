@@ -20,7 +20,7 @@ use Rattle.ufs_sound.specs.Commits.{TreesGo, IsWrittenBack, AreFilesWrittenBack,
 use Rattle.ufs_sound.specs.Commits.{AreFresh}
 use Rattle.ufs_sound.specs.Meets.{IsFileWrittenBy, AreFilesWrittenBy, HaveTheirBytes, PassagesMay, CommitsFile, FileCommitsMay, CommitsNames, NameCommitsMay, MayHaveDone, Fails, FailuresMay, CheckpointsMay, NothingIsDone, NothingIsWritten, WritesAreDone, FileCommitsAreDone, NameCommitsAreDone}
 use Rattle.ufs_sound.proofs.Commits.{blocks_show, block_writes_show, commit_shows, file_commits_show, names_show, name_commits_show, any_names, fewer_changes, fewer_show, on_the_way}
-use Rattle.ufs_sound.specs.Parts.{IsDiskTold}
+use Rattle.ufs_sound.specs.Parts.{IsDiskVisible}
 
 -- ---- trees that stand so to one that shows the history show it too
 
@@ -80,7 +80,7 @@ module _ (k : Start) (tickets : ℕ) (v : View) (g : ℕ) (x : FilePart) (s : St
   else f ne = ap (λ o. unwrap_or o 0) (inserted_else nat_cmp_total nat_cmp-IsAntisymmetric s.files g (length x.changes) f ne)
 
   -- after the commit
-  shows : IsDiskTold k → (h : List Entry) → changes_of g k.tree h ≡ x.changes → ShowsImages k.tree h (committed s) s.names s.paths s.state → ShowsImages k.tree h (committed t) s.names (Some paths) state
+  shows : IsDiskVisible k → (h : List Entry) → changes_of g k.tree h ≡ x.changes → ShowsImages k.tree h (committed s) s.names s.paths s.state → ShowsImages k.tree h (committed t) s.names (Some paths) state
   shows told h is old = file_commits_show k.tree h (committed s) (committed t) s.names paths s.state state g
       (record { own = here ∙ ap length (sym is); others = else })
       (subst (λ bytes. TreesGo (IsFileCommitted paths g bytes) s.state state) (sym (ap (all_changed (bytes_of k.tree.bytes g)) is ∙ c.bytes)) (c.trees told))
@@ -89,7 +89,7 @@ module _ (k : Start) (tickets : ℕ) (v : View) (g : ℕ) (x : FilePart) (s : St
   at_path : (h : List Entry) → changes_of g k.tree h ≡ x.changes → (before after : PathNodes) → IsFileCommitted paths g x.bytes before after → ShowsAtLeast k.tree h (committed s) s.names s.paths before → ShowsAtLeast k.tree h (committed s) s.names None after
   at_path h is = committed_on_the_way k h g x s paths c.told c.made (ap (all_changed (bytes_of k.tree.bytes g)) is ∙ c.bytes) is
 
-  inside : IsDiskTold k → (h : List Entry) → changes_of g k.tree h ≡ x.changes → ShowsImages k.tree h (committed s) s.names s.paths s.state → (d : Cells) → Has d through → ShowsImages k.tree h (committed s) s.names None d
+  inside : IsDiskVisible k → (h : List Entry) → changes_of g k.tree h ≡ x.changes → ShowsImages k.tree h (committed s) s.names s.paths s.state → (d : Cells) → Has d through → ShowsImages k.tree h (committed s) s.names None d
   inside told h is old d at = on_the_way k.tree h (committed s) s.names s.paths (IsFileCommitted paths g x.bytes) s.state d (at_path h is) (c.between told d at) old
 
 pub file_commits_may : FileCommitsMay
@@ -108,14 +108,14 @@ module _ (k : Start) (v : View) (p : NamesPart) (s : StorePart) (paths : Paths) 
   last_paths : (h : List Entry) → name_changes k.tree h ≡ p.changes → (names_after k.tree h (length (name_changes k.tree h))).paths ≡ p.paths
   last_paths h is = ap (λ (l : List NameState). (slice_index_or (names_of k.tree ∷ l) (length l) (names_of k.tree)).paths) is ∙ c.last_names
 
-  names_shown : IsDiskTold k → (h : List Entry) → name_changes k.tree h ≡ p.changes → ShowsImages k.tree h (committed s) s.names s.paths s.state → ShowsImages k.tree h (committed s) (length p.changes) (Some p.paths) n.state
+  names_shown : IsDiskVisible k → (h : List Entry) → name_changes k.tree h ≡ p.changes → ShowsImages k.tree h (committed s) s.names s.paths s.state → ShowsImages k.tree h (committed s) (length p.changes) (Some p.paths) n.state
   names_shown told h is old =
       subst (λ (q : ℕ × Paths). ShowsImages k.tree h (committed s) q.0 (Some q.1) n.state) (λ i. (length (is i), last_paths h is i))
       (name_commits_show k.tree h (committed s) s.names fresh paths s.state n.state c.new (let m = c.made in let l = ap length is in omega arith)
       (subst (λ (q : Paths). TreesGo (AreNamesCommitted fresh paths q) s.state n.state) (sym (last_paths h is)) (c.trees told))
       (subst (λ q. ShowsImages k.tree h (committed s) s.names q s.state) c.told old))
 
-  names_inside : IsDiskTold k → (h : List Entry) → name_changes k.tree h ≡ p.changes → ShowsImages k.tree h (committed s) s.names s.paths s.state → (d : Cells) → Has d n.through → ShowsImages k.tree h (committed s) s.names None d
+  names_inside : IsDiskVisible k → (h : List Entry) → name_changes k.tree h ≡ p.changes → ShowsImages k.tree h (committed s) s.names s.paths s.state → (d : Cells) → Has d n.through → ShowsImages k.tree h (committed s) s.names None d
   names_inside told h is old d at = on_the_way k.tree h (committed s) s.names s.paths (AreNamesCommitted fresh paths p.paths) s.state d (named_on_the_way k h p s paths fresh c.told c.made c.new (last_paths h is) is) (c.between told d at) old
 
 pub name_commits_may : NameCommitsMay

@@ -50,8 +50,8 @@ module _ (keeps : KeepsTrees) (have : StartsHaveContents) (d : OpenedDisk) (can 
       by true e = let l = ltb-true f (opened_tree d).next e in each_once (opened_file d) (opened_tree d).next 0 f (omega arith) (omega arith) ∙ ap one (sym e)
       by false e = let l = ltb-false f (opened_tree d).next e in none_after (opened_file d) (opened_tree d).next 0 f (omega arith) ∙ ap one (sym e)
 
-  opens_to : d.is_told ≡ true → EachOpensTo (HasContents (opened_tree d)) d.cells
-  opens_to told image is = let o = can.opens told image is in (o.0, o.1, subst (HasContents (opened_tree d)) (sym o.2) (have d.nodes))
+  opens_to : d.is_visible ≡ true → EachOpensTo (HasContents (opened_tree d)) d.cells
+  opens_to visible image is = let o = can.opens visible image is in (o.0, o.1, subst (HasContents (opened_tree d)) (sym o.2) (have d.nodes))
 
   unheld : (c f : ℕ) (b : Bool) → holds (opened_tree d).fds c f ≡ b → holds (opened_tree d).fds c f ≡ false
   unheld c f true e = let h = holder (opened_tree d).fds c f e in absurd (none_some h.1 (sym (fin.get-empty fd_cmp (c, h.0)) ∙ h.2))
@@ -59,7 +59,7 @@ module _ (keeps : KeepsTrees) (have : StartsHaveContents) (d : OpenedDisk) (can 
 
   abbrev FileOpens : ℕ → Rattle.ufs_sound.specs.Parts.FilePart → Type 0
   FileOpens f p = (p.opening ≡ fin.get (opened_tree d).bytes f) × (p.changes ≡ []) × (fin.get (opened_tree d).bytes f ≡ Some p.bytes) × (p.known ≡ 0)
-      × (Rattle.ufs_sound.specs.Parts.IsDiskTold (opened_start d) → Rattle.ufs_sound.specs.DiskBytes.IsOnDisk p d.cells)
+      × (Rattle.ufs_sound.specs.Parts.IsDiskVisible (opened_start d) → Rattle.ufs_sound.specs.DiskBytes.IsOnDisk p d.cells)
       × ((bs : List ℕ) (b : ℕ) → fin.get d.extents f ≡ Some bs → Has b bs → Rattle.std.proofs.Common.◌⊎◌ (Has b p.blocks) (Has b p.quarantine))
 
   file_opens : (f : ℕ) → f < (opened_tree d).next → FileOpens f (opened_file d f)
@@ -68,7 +68,7 @@ module _ (keeps : KeepsTrees) (have : StartsHaveContents) (d : OpenedDisk) (can 
     refl,
     some_bytes (fin.get (opened_tree d).bytes f) (there f l),
     refl,
-    (λ told. can.on_disk told f l),
+    (λ visible. can.on_disk visible f l),
     (λ bs b e h. inl (subst (λ (o : Option (List ℕ)). Has b (unwrap_or o [])) (sym e) h)),
   )
 
@@ -104,7 +104,7 @@ module _ (keeps : KeepsTrees) (have : StartsHaveContents) (d : OpenedDisk) (can 
     past = refl;
     lent = refl;
     lent_names = refl;
-    shows = λ told. openings_show keeps (opened_tree d) (committed (opened_store d)) d.cells is_tree none_committed (opens_to told);
+    shows = λ visible. openings_show keeps (opened_tree d) (committed (opened_store d)) d.cells is_tree none_committed (opens_to visible);
     single = λ n. omega arith;
     faults = refl;
     stop = refl;

@@ -20,7 +20,7 @@ use native.Mathlib.Decide.{ℕ_discrete}
 use Rattle.ufs_model.specs.PosixTree.{Paths}
 use Rattle.ufs_model.specs.declared.data.Entry.{Entry}
 use Rattle.ufs_sound.specs.Owned.{one, Has, times}
-use Rattle.ufs_sound.specs.Parts.{IsDiskTold, Cells, ClientPart, NamesPart, StorePart, View, Start, HoldsPart}
+use Rattle.ufs_sound.specs.Parts.{IsDiskVisible, Cells, ClientPart, NamesPart, StorePart, View, Start, HoldsPart}
 use Rattle.ufs_sound.specs.Sound.{IsSound}
 use Rattle.ufs_sound.specs.Draws.{IsIn, IsAbsent, IsUnchanged, MayDraw, entry_of}
 use Rattle.ufs_sound.specs.Marks.{IsSingle}
@@ -175,10 +175,10 @@ module _ (keeps : KeepsTrees) (local : Locality) (makes : MakesOneFile) (g : Geo
     dirs = λ was b h. absurd h;
     born = λ f h. absurd h;
     last = inl refl;
-    others = λ told b z l. refl;
-    own = λ told f x h. absurd h;
-    inside = λ told h lent shows d none. absurd none;
-    end = λ told h is shows. shows;
+    others = λ visible b z l. refl;
+    own = λ visible f x h. absurd h;
+    inside = λ visible h lent shows d none. absurd none;
+    end = λ visible h is shows. shows;
   }
 
   after_commit : IsSound by_images k (at_word 1 5) (Session.committed_server g cells ∷ Session.at_rest g cells ∷ [])
@@ -191,19 +191,19 @@ module _ (keeps : KeepsTrees) (local : Locality) (makes : MakesOneFile) (g : Geo
   rest = Session.at_rest g cells
 
   -- the same states show the same
-  still : IsDiskTold k → (h : List Entry) (files : ℕ → ℕ) (names : ℕ) (paths : Option Paths) → ShowsImages k.tree h files names paths cells → (d : Cells) → Has d (cells ∷ []) → ShowsImages k.tree h files names None d
-  still told h files names paths shows d (inl e) = subst (ShowsImages k.tree h files names None) (sym e) (fewer_show k.tree h files files names names paths cells (λ f. omega arith) (omega arith) shows)
-  still told h files names paths shows d (inr e) = absurd e
+  still : IsDiskVisible k → (h : List Entry) (files : ℕ → ℕ) (names : ℕ) (paths : Option Paths) → ShowsImages k.tree h files names paths cells → (d : Cells) → Has d (cells ∷ []) → ShowsImages k.tree h files names None d
+  still visible h files names paths shows d (inl e) = subst (ShowsImages k.tree h files names None) (sym e) (fewer_show k.tree h files files names names paths cells (λ f. omega arith) (omega arith) shows)
+  still visible h files names paths shows d (inr e) = absurd e
 
   may_pass : MayPass by_images k (Session.committed_server g cells) (Session.store_committed g cells) [] 0 (Session.barrier g cells)
   may_pass = record {
     store = refl;
     lends = record { files = λ f n h. absurd h; names = inl refl };
     last = inl refl;
-    others = λ told b z l. refl;
-    own = λ told f x h. absurd h;
-    inside = λ told h had shows. still told h _ _ _ shows;
-    end = λ told h has shows. shows;
+    others = λ visible b z l. refl;
+    own = λ visible f x h. absurd h;
+    inside = λ visible h had shows. still visible h _ _ _ shows;
+    end = λ visible h has shows. shows;
   }
 
   after_pass : IsSound by_images k (at_word 1 5) (Session.after_barrier g cells ∷ rest ∷ [])
@@ -218,10 +218,10 @@ module _ (keeps : KeepsTrees) (local : Locality) (makes : MakesOneFile) (g : Geo
     fewer = λ b h. h;
     apart = λ b h none. none;
     last = inl refl;
-    others = λ told b z l. refl;
-    own = λ told f x h. absurd h;
-    inside = λ told h had shows. still told h _ _ _ shows;
-    end = λ told h is shows. shows;
+    others = λ visible b z l. refl;
+    own = λ visible f x h. absurd h;
+    inside = λ visible h had shows. still visible h _ _ _ shows;
+    end = λ visible h is shows. shows;
   }
 
   after_checkpoint : IsSound by_images k (at_word 1 5) (Session.checked_server g cells ∷ rest ∷ [])
@@ -234,9 +234,9 @@ module _ (keeps : KeepsTrees) (local : Locality) (makes : MakesOneFile) (g : Geo
     running = refl;
     new = refl;
     last = inl refl;
-    others = λ told b z l. refl;
-    own = λ told f x h. absurd h;
-    inside = λ told h had shows. still told h _ _ _ shows;
+    others = λ visible b z l. refl;
+    own = λ visible f x h. absurd h;
+    inside = λ visible h had shows. still visible h _ _ _ shows;
   }
 
   after_failure : IsSound by_images k (at_word 1 5) (Session.stopped_server g cells ∷ rest ∷ [])

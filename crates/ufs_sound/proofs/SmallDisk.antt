@@ -50,8 +50,8 @@ has_one_file = record {
     pools = λ n. omega arith;
     extents = λ f bs e. absurd (none_some bs (sym (fin.get-empty nat_cmp f) ∙ e));
     once = λ b. let z = uses_none b in omega arith;
-    on_disk = λ told. cc;
-    opens = λ told. cc;
+    on_disk = λ visible. cc;
+    opens = λ visible. cc;
   };
   one_file = ap (λ (t : PosixTree). t.next) tree_is;
   text = refl;

@@ -16,7 +16,7 @@ use Rattle.ufs_sound.specs.Draws.{IsIn}
 use Rattle.ufs_sound.specs.Whole.{HoldsAll, IsMerge}
 use Rattle.ufs_sound.specs.Shown.{EachOpensTo}
 use Rattle.ufs_sound.specs.ByImages.{by_images}
-use Rattle.ufs_sound.specs.Parts.{IsDiskTold}
+use Rattle.ufs_sound.specs.Parts.{IsDiskVisible}
 
 -- Each image that a crash may leave in this state opens to a tree that is explained by the first entries of the history,
 -- for each number of them from one to the other.
@@ -39,7 +39,7 @@ pub record IsStoreDurable (k : Start) (word : Word) (store : StorePart) : Type 0
   pub now : IsExplainedThroughout k.tree history store.mark word.tickets store.state
 
 abbrev pub StoresAreExplained : Type 0
-StoresAreExplained = (k : Start) (word : Word) (views : List View) (i : ℕ) (v : View) (u : Unit {0}) (store : StorePart) → IsSound by_images k word views → get_elem? views i ≡ some v → Has (u, store) v.store → IsDiskTold k → IsStoreDurable k word store
+StoresAreExplained = (k : Start) (word : Word) (views : List View) (i : ℕ) (v : View) (u : Unit {0}) (store : StorePart) → IsSound by_images k word views → get_elem? views i ≡ some v → Has (u, store) v.store → IsDiskVisible k → IsStoreDurable k word store
 
 -- ---- by the hand with every part, at the end
 
@@ -64,4 +64,4 @@ pub record IsDurable (k : Start) (word : Word) (v : View) (store : StorePart) : 
   pub now : IsExplainedThroughout k.tree history store.mark word.tickets store.state
 
 abbrev pub ImagesAreExplained : Type 0
-ImagesAreExplained = (k : Start) (word : Word) (views : List View) (i : ℕ) (v : View) → IsSound by_images k word views → get_elem? views i ≡ some v → (all : HoldsAll k v) → IsDiskTold k → IsDurable k word v all.store
+ImagesAreExplained = (k : Start) (word : Word) (views : List View) (i : ℕ) (v : View) → IsSound by_images k word views → get_elem? views i ≡ some v → (all : HoldsAll k v) → IsDiskVisible k → IsDurable k word v all.store

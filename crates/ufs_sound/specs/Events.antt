@@ -10,7 +10,7 @@ use Rattle.ufs_prefix.specs.Changes.{changes_of, name_changes}
 use Rattle.ufs_sound.specs.Parts.{Cells, FilePart, NamesPart, Shortage, Start, StorePart, View, only_one, uses, committed}
 use Rattle.ufs_sound.specs.Explained.{Showing}
 use Rattle.ufs_sound.specs.DiskBytes.{block_on, block_in, is_loaded}
-use Rattle.ufs_sound.specs.Parts.{IsDiskTold}
+use Rattle.ufs_sound.specs.Parts.{IsDiskVisible}
 
 -- ---- blocks go between held parts
 
@@ -93,11 +93,11 @@ pub record MayPass (S : Showing) (k : Start) (v : View) (s : StorePart) (lent : 
   pub store : v.store ≡ (tt, s) ∷ []
   pub lends : IsLent v lent lent_names
   pub last : (c.state ≡ s.state) ⊎ Has c.state c.through
-  pub others : IsDiskTold k → (b : ℕ) → uses b v ≡ 0 → 1 ≤ uses b k.view → block_on c.state b ≡ block_on s.state b
-  pub own : IsDiskTold k → (g : ℕ) (x : FilePart) → Has (g, x) v.files → (place b : ℕ) → slice_get x.blocks place ≡ Some b → is_loaded x place ≡ false
+  pub others : IsDiskVisible k → (b : ℕ) → uses b v ≡ 0 → 1 ≤ uses b k.view → block_on c.state b ≡ block_on s.state b
+  pub own : IsDiskVisible k → (g : ℕ) (x : FilePart) → Has (g, x) v.files → (place b : ℕ) → slice_get x.blocks place ≡ Some b → is_loaded x place ≡ false
       → (block_on c.state b ≡ block_in x.bytes place) ⊎ (block_on c.state b ≡ block_on s.state b)
-  pub inside : IsDiskTold k → (h : List Entry) → HadLent k v s h → S.Shows k.tree h (committed s) s.names s.paths s.state → (d : Cells) → Has d c.through → S.Shows k.tree h (committed s) s.names None d
-  pub end : IsDiskTold k → (h : List Entry) → HasHand k v h → S.Shows k.tree h (committed s) s.names s.paths s.state → S.Shows k.tree h (committed s) s.names s.paths c.state
+  pub inside : IsDiskVisible k → (h : List Entry) → HadLent k v s h → S.Shows k.tree h (committed s) s.names s.paths s.state → (d : Cells) → Has d c.through → S.Shows k.tree h (committed s) s.names None d
+  pub end : IsDiskVisible k → (h : List Entry) → HasHand k v h → S.Shows k.tree h (committed s) s.names s.paths s.state → S.Shows k.tree h (committed s) s.names s.paths c.state
 
 -- ---- what is committed is told to the parts that are lent
 
@@ -140,11 +140,11 @@ pub record MayCommitFile (S : Showing) (k : Start) (tickets : ℕ) (v : View) (g
   pub born : x.born ≡ true
   pub store : v.store ≡ (tt, s) ∷ []
   pub last : (state ≡ s.state) ⊎ Has state through
-  pub others : IsDiskTold k → (b : ℕ) → uses b v ≡ 0 → 1 ≤ uses b k.view → block_on state b ≡ block_on s.state b
-  pub own : IsDiskTold k → (place b : ℕ) → slice_get x.blocks place ≡ Some b → is_loaded x place ≡ false → block_on state b ≡ block_on s.state b
-  pub inside : IsDiskTold k → (h : List Entry) → ((g, length x.changes) ∷ [] ≡ s.lent → changes_of g k.tree h ≡ x.changes) → S.Shows k.tree h (committed s) s.names s.paths s.state
+  pub others : IsDiskVisible k → (b : ℕ) → uses b v ≡ 0 → 1 ≤ uses b k.view → block_on state b ≡ block_on s.state b
+  pub own : IsDiskVisible k → (place b : ℕ) → slice_get x.blocks place ≡ Some b → is_loaded x place ≡ false → block_on state b ≡ block_on s.state b
+  pub inside : IsDiskVisible k → (h : List Entry) → ((g, length x.changes) ∷ [] ≡ s.lent → changes_of g k.tree h ≡ x.changes) → S.Shows k.tree h (committed s) s.names s.paths s.state
       → (d : Cells) → Has d through → S.Shows k.tree h (committed s) s.names None d
-  pub end : IsDiskTold k → (h : List Entry) → changes_of g k.tree h ≡ x.changes → S.Shows k.tree h (committed s) s.names s.paths s.state
+  pub end : IsDiskVisible k → (h : List Entry) → changes_of g k.tree h ≡ x.changes → S.Shows k.tree h (committed s) s.names s.paths s.state
       → S.Shows k.tree h (committed (file_committed tickets g x through state s)) s.names s.paths state
 
 -- ---- the names are committed
@@ -190,11 +190,11 @@ pub record MayCommitNames (S : Showing) (k : Start) (tickets : ℕ) (v : View) (
   pub dirs : ((b : ℕ) → Has b s.dirs → Has b p.blocks) → (b : ℕ) → Has b c.dirs → Has b p.blocks
   pub born : (g : ℕ) → Has g c.born → Has g p.born ⊎ IsMadeBy p (length p.changes) g
   pub last : (c.state ≡ s.state) ⊎ Has c.state c.through
-  pub others : IsDiskTold k → (b : ℕ) → uses b v ≡ 0 → 1 ≤ uses b k.view → block_on c.state b ≡ block_on s.state b
-  pub own : IsDiskTold k → (g : ℕ) (x : FilePart) → Has (g, x) v.files → (place b : ℕ) → slice_get x.blocks place ≡ Some b → is_loaded x place ≡ false → block_on c.state b ≡ block_on s.state b
-  pub inside : IsDiskTold k → (h : List Entry) → (s.lent_names ≡ length p.changes → name_changes k.tree h ≡ p.changes) → S.Shows k.tree h (committed s) s.names s.paths s.state
+  pub others : IsDiskVisible k → (b : ℕ) → uses b v ≡ 0 → 1 ≤ uses b k.view → block_on c.state b ≡ block_on s.state b
+  pub own : IsDiskVisible k → (g : ℕ) (x : FilePart) → Has (g, x) v.files → (place b : ℕ) → slice_get x.blocks place ≡ Some b → is_loaded x place ≡ false → block_on c.state b ≡ block_on s.state b
+  pub inside : IsDiskVisible k → (h : List Entry) → (s.lent_names ≡ length p.changes → name_changes k.tree h ≡ p.changes) → S.Shows k.tree h (committed s) s.names s.paths s.state
       → (d : Cells) → Has d c.through → S.Shows k.tree h (committed s) s.names None d
-  pub end : IsDiskTold k → (h : List Entry) → name_changes k.tree h ≡ p.changes → S.Shows k.tree h (committed s) s.names s.paths s.state → S.Shows k.tree h (committed s) (length p.changes) (Some p.paths) c.state
+  pub end : IsDiskVisible k → (h : List Entry) → name_changes k.tree h ≡ p.changes → S.Shows k.tree h (committed s) s.names s.paths s.state → S.Shows k.tree h (committed s) (length p.changes) (Some p.paths) c.state
 
 -- ---- a commit or a checkpoint fails
 
@@ -227,9 +227,9 @@ pub record MayFail (S : Showing) (k : Start) (v : View) (s : StorePart) (f : Fai
   pub running : s.stop ≡ None
   pub new : times f.fault s.faults ≡ 0
   pub last : Has f.state f.through
-  pub others : IsDiskTold k → (b : ℕ) → uses b v ≡ 0 → 1 ≤ uses b k.view → block_on f.state b ≡ block_on s.state b
-  pub own : IsDiskTold k → (g : ℕ) (x : FilePart) → Has (g, x) v.files → (place b : ℕ) → slice_get x.blocks place ≡ Some b → is_loaded x place ≡ false → block_on f.state b ≡ block_on s.state b
-  pub inside : IsDiskTold k → (h : List Entry) → HadLent k v s h → S.Shows k.tree h (committed s) s.names s.paths s.state → (d : Cells) → Has d f.through → S.Shows k.tree h (committed s) s.names None d
+  pub others : IsDiskVisible k → (b : ℕ) → uses b v ≡ 0 → 1 ≤ uses b k.view → block_on f.state b ≡ block_on s.state b
+  pub own : IsDiskVisible k → (g : ℕ) (x : FilePart) → Has (g, x) v.files → (place b : ℕ) → slice_get x.blocks place ≡ Some b → is_loaded x place ≡ false → block_on f.state b ≡ block_on s.state b
+  pub inside : IsDiskVisible k → (h : List Entry) → HadLent k v s h → S.Shows k.tree h (committed s) s.names s.paths s.state → (d : Cells) → Has d f.through → S.Shows k.tree h (committed s) s.names None d
 
 -- ---- a checkpoint
 
@@ -267,10 +267,10 @@ pub record MayCheckpoint (S : Showing) (k : Start) (v : View) (p : NamesPart) (s
   pub fewer : (b : ℕ) → Has b c.dirs → Has b s.dirs
   pub apart : (b : ℕ) → Has b c.dirs → Has b c.freed → ⊥
   pub last : (c.state ≡ s.state) ⊎ Has c.state c.through
-  pub others : IsDiskTold k → (b : ℕ) → uses b v ≡ 0 → 1 ≤ uses b k.view → block_on c.state b ≡ block_on s.state b
-  pub own : IsDiskTold k → (g : ℕ) (x : FilePart) → Has (g, x) v.files → (place b : ℕ) → slice_get x.blocks place ≡ Some b → is_loaded x place ≡ false → block_on c.state b ≡ block_on s.state b
-  pub inside : IsDiskTold k → (h : List Entry) → HadLent k v s h → S.Shows k.tree h (committed s) s.names s.paths s.state → (d : Cells) → Has d c.through → S.Shows k.tree h (committed s) s.names None d
-  pub end : IsDiskTold k → (h : List Entry) → name_changes k.tree h ≡ p.changes → S.Shows k.tree h (committed s) s.names s.paths s.state → S.Shows k.tree h (committed s) s.names s.paths c.state
+  pub others : IsDiskVisible k → (b : ℕ) → uses b v ≡ 0 → 1 ≤ uses b k.view → block_on c.state b ≡ block_on s.state b
+  pub own : IsDiskVisible k → (g : ℕ) (x : FilePart) → Has (g, x) v.files → (place b : ℕ) → slice_get x.blocks place ≡ Some b → is_loaded x place ≡ false → block_on c.state b ≡ block_on s.state b
+  pub inside : IsDiskVisible k → (h : List Entry) → HadLent k v s h → S.Shows k.tree h (committed s) s.names s.paths s.state → (d : Cells) → Has d c.through → S.Shows k.tree h (committed s) s.names None d
+  pub end : IsDiskVisible k → (h : List Entry) → name_changes k.tree h ≡ p.changes → S.Shows k.tree h (committed s) s.names s.paths s.state → S.Shows k.tree h (committed s) s.names s.paths c.state
 
 -- ---- reads that failed, and blocks that weren't there
 

@@ -37,7 +37,7 @@ pub record FileDisk : Type 0 where
   pub dirs : List ℕ
   pub unassigned : List ℕ
   pub path : List ℕ
-  pub is_told : Bool
+  pub is_visible : Bool
 
 -- what is written, and what the disk goes through while the file is committed
 pub record Written : Type 0 where
@@ -48,7 +48,7 @@ pub record Written : Type 0 where
 
 module _ (d : FileDisk) where
   abbrev pub disk : OpenedDisk
-  disk = record { nodes = d.nodes; cells = d.cells; extents = d.extents; dirs = d.dirs; unassigned = d.unassigned; pools = []; clients = 1; is_told = d.is_told }
+  disk = record { nodes = d.nodes; cells = d.cells; extents = d.extents; dirs = d.dirs; unassigned = d.unassigned; pools = []; clients = 1; is_visible = d.is_visible }
 
   pub record HasOneFile : Type 0 where
     pub can : CanBeOpened disk
@@ -125,9 +125,9 @@ module _ (d : FileDisk) where
 abbrev pub FilesAreServed : Type 0
 FilesAreServed = (d : FileDisk) → HasOneFile d → IsFileSession d
 
--- On a disk that tells nothing, any bytes may be written.
+-- On a disk that isn't visible, any bytes may be written.
 abbrev pub BlindFilesMayBeWritten : Type 0
-BlindFilesMayBeWritten = (d : FileDisk) (at : ℕ) (bytes : List ℕ) → d.is_told ≡ false → eqb (length bytes) 0 ≡ false → is_past at bytes ≡ false
+BlindFilesMayBeWritten = (d : FileDisk) (at : ℕ) (bytes : List ℕ) → d.is_visible ≡ false → eqb (length bytes) 0 ≡ false → is_past at bytes ≡ false
     → MayBeWritten d (record { at = at; bytes = bytes; through = []; state = d.cells })
 
 -- ---- a disk with one file
@@ -135,7 +135,7 @@ BlindFilesMayBeWritten = (d : FileDisk) (at : ℕ) (bytes : List ℕ) → d.is_t
 abbrev pub small_path : List ℕ
 small_path = 47 ∷ 97 ∷ []
 
--- the root and one file with no bytes, on a disk that tells nothing
+-- the root and one file with no bytes, on a disk that isn't visible
 abbrev pub small_disk : FileDisk
 small_disk = record {
   nodes = fin.from_entries ((root, path_node.Dir) ∷ (small_path, path_node.File []) ∷ []);
@@ -144,5 +144,5 @@ small_disk = record {
   dirs = [];
   unassigned = [];
   path = small_path;
-  is_told = false;
+  is_visible = false;
 }

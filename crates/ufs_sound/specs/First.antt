@@ -70,11 +70,11 @@ new_view clients g cells = record {
 }
 
 abbrev pub new_start : ℕ → Geometry → Cells → Start
-new_start clients g cells = record { tree = root_alone; view = new_view clients g cells; is_told = true }
+new_start clients g cells = record { tree = root_alone; view = new_view clients g cells; is_visible = true }
 
--- the same over a disk that tells nothing
+-- the same over a disk that isn't visible
 abbrev pub blind_start : ℕ → Geometry → Cells → Start
-blind_start clients g cells = record { tree = root_alone; view = new_view clients g cells; is_told = false }
+blind_start clients g cells = record { tree = root_alone; view = new_view clients g cells; is_visible = false }
 
 -- ---- it can be opened
 
@@ -83,6 +83,6 @@ abbrev pub NewDiskOpens : Geometry → Type 0
 NewDiskOpens g = (clients sectors : ℕ) (image : Image) → sector_count g ≤ sectors → IsFormatted g image → EndsAt sectors image
     → CanOpen by_images (new_start clients g (settled_cells sectors image)) new_names (new_store g (settled_cells sectors image))
 
--- On a disk that tells nothing it can too.
+-- On a disk that isn't visible it can too.
 abbrev pub BlindDisksOpen : Type 0
 BlindDisksOpen = (g : Geometry) (clients : ℕ) (cells : Cells) → CanOpen by_images (blind_start clients g cells) new_names (new_store g cells)

@@ -12,14 +12,14 @@ use Rattle.ufs_sound.specs.DiskBytes.{IsOnDisk}
 use Rattle.ufs_sound.specs.Asked.{IsStill, IsAnswered}
 use Rattle.ufs_sound.specs.Draws.{IsIn}
 use Rattle.ufs_sound.specs.Marks.{IsKept}
-use Rattle.ufs_sound.specs.Parts.{IsDiskTold}
+use Rattle.ufs_sound.specs.Parts.{IsDiskVisible}
 
 -- what the store's part tells of a file that the hand has
 pub record IsStoredFile (k : Start) (s : StorePart) (g : ℕ) (x : FilePart) : Type 0 where
   pub kept : IsKept s g x
   pub made : committed s g ≤ length x.changes
   pub known : x.known ≤ committed s g
-  pub on_disk : IsDiskTold k → IsOnDisk x s.state
+  pub on_disk : IsDiskVisible k → IsOnDisk x s.state
 
 -- There is one history, from which the hand's parts come.
 pub record Knows (S : Showing) (k : Start) (word : Word) (v : View) : Type 0 where
@@ -38,8 +38,8 @@ pub record Knows (S : Showing) (k : Start) (word : Word) (v : View) : Type 0 whe
   -- no block stands twice in its parts
   pub blocks : (b : ℕ) → uses b v ≤ 1
   -- with the store's part: what the disk shows, and what it has of a file
-  pub shows : IsDiskTold k → (u : Unit {0}) (s : StorePart) → Has (u, s) v.store → S.Shows k.tree history (committed s) s.names s.paths s.state
-  pub explained : IsDiskTold k → (u : Unit {0}) (s : StorePart) → Has (u, s) v.store → IsDiskExplained S k word history s
+  pub shows : IsDiskVisible k → (u : Unit {0}) (s : StorePart) → Has (u, s) v.store → S.Shows k.tree history (committed s) s.names s.paths s.state
+  pub explained : IsDiskVisible k → (u : Unit {0}) (s : StorePart) → Has (u, s) v.store → IsDiskExplained S k word history s
   pub births : (u : Unit {0}) (s : StorePart) (f : ℕ) → Has (u, s) v.store → 1 ≤ committed s f → IsBornBy k.tree history f s.names
   pub stored : (u : Unit {0}) (s : StorePart) (g : ℕ) (x : FilePart) → Has (u, s) v.store → Has (g, x) v.files → IsStoredFile k s g x
   pub stored_names : (u w : Unit {0}) (s : StorePart) (p : NamesPart) → Has (u, s) v.store → Has (w, p) v.names → (s.names ≤ length p.changes) × (p.known ≤ s.names)

@@ -9,7 +9,7 @@ use Rattle.ufs_prefix.specs.Changes.{changes_of, name_changes}
 use Rattle.ufs_sound.specs.Parts.{ClientPart, AskedPart, FilePart, NamesPart, StorePart, Cells, Shortage, View, Start, only_one, uses, committed}
 use Rattle.ufs_sound.specs.DiskBytes.{block_on, block_in, is_loaded}
 use Rattle.ufs_sound.specs.Explained.{Showing}
-use Rattle.ufs_sound.specs.Parts.{IsDiskTold}
+use Rattle.ufs_sound.specs.Parts.{IsDiskVisible}
 
 -- ---- a client asks a request
 
@@ -101,9 +101,9 @@ pub record IsTurn (S : Showing) (k : Start) (tickets : ℕ) (v : View) (s t : St
   pub lent : (g n : ℕ) → Has (g, n) t.lent → (x : FilePart) × Has (g, x) v.files × (n ≤ length x.changes)
   pub lent_names : t.lent_names ≤ length p.changes
   -- each state on the way shows what the one before shows
-  pub inside : IsDiskTold k → (h : List Entry) → HadChanges k v s p h → S.Shows k.tree h (committed s) s.names s.paths s.state → (x : Cells) → Has x through → S.Shows k.tree h (committed s) s.names None x
+  pub inside : IsDiskVisible k → (h : List Entry) → HadChanges k v s p h → S.Shows k.tree h (committed s) s.names s.paths s.state → (x : Cells) → Has x through → S.Shows k.tree h (committed s) s.names None x
   -- the last one shows what is committed then
-  pub end : IsDiskTold k → (h : List Entry) → HasChanges k v p h → S.Shows k.tree h (committed s) s.names s.paths s.state → S.Shows k.tree h (committed t) t.names t.paths t.state
+  pub end : IsDiskVisible k → (h : List Entry) → HasChanges k v p h → S.Shows k.tree h (committed s) s.names s.paths s.state → S.Shows k.tree h (committed t) t.names t.paths t.state
 
 -- Committed blocks are kept.
 pub record AreBlocksKept (v w : View) (s t : StorePart) (p q : NamesPart) : Type 0 where
@@ -142,7 +142,7 @@ pub record AreAnswers (v w : View) (s t : StorePart) : Type 0 where
 pub record RemakesOn (S : Showing) (k : Start) (tickets : ℕ) (v w : View) (s t : StorePart) (p q : NamesPart) : Type 0 where
   pub kept : AreBlocksKept v w s t p q
   pub rise : DoNumbersRise v w s t p q
-  pub disk : IsDiskTold k → IsDiskKept k v w s t
+  pub disk : IsDiskVisible k → IsDiskKept k v w s t
   pub shown : IsQuiet s t ⊎ IsTurn S k tickets v s t p
   pub answers : AreAnswers v w s t
 

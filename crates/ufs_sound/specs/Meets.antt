@@ -16,7 +16,7 @@ use Rattle.ufs_sound.specs.Events.{IsLent, Passage, MayPass, MayCommitFile, Name
 use Rattle.ufs_sound.specs.Shown.{OpensAs}
 use Rattle.ufs_sound.specs.Commits.{TreesGo, TreesMayGo, IsWrittenBack, IsFileCommitted, AreNamesCommitted, AreFresh}
 use Rattle.ufs_sound.specs.ByImages.{by_images}
-use Rattle.ufs_sound.specs.Parts.{IsDiskTold}
+use Rattle.ufs_sound.specs.Parts.{IsDiskVisible}
 
 -- ---- a block is written, or a barrier passed
 
@@ -48,11 +48,11 @@ pub record Passes (k : Start) (v : View) (s : StorePart) (lent : List (ℕ × �
   pub lends : IsLent v lent lent_names
   pub bytes : HaveTheirBytes k v
   pub last : (c.state ≡ s.state) ⊎ Has c.state c.through
-  pub others : IsDiskTold k → (b : ℕ) → uses b v ≡ 0 → 1 ≤ uses b k.view → block_on c.state b ≡ block_on s.state b
-  pub own : IsDiskTold k → (g : ℕ) (x : FilePart) → Has (g, x) v.files → (place b : ℕ) → slice_get x.blocks place ≡ Some b → is_loaded x place ≡ false
+  pub others : IsDiskVisible k → (b : ℕ) → uses b v ≡ 0 → 1 ≤ uses b k.view → block_on c.state b ≡ block_on s.state b
+  pub own : IsDiskVisible k → (g : ℕ) (x : FilePart) → Has (g, x) v.files → (place b : ℕ) → slice_get x.blocks place ≡ Some b → is_loaded x place ≡ false
       → (block_on c.state b ≡ block_in x.bytes place) ⊎ (block_on c.state b ≡ block_on s.state b)
-  pub trees : IsDiskTold k → TreesGo (AreFilesWrittenBy v s paths) s.state c.state
-  pub between : IsDiskTold k → (d : Cells) → Has d c.through → TreesMayGo (AreFilesWrittenBy v s paths) s.state d
+  pub trees : IsDiskVisible k → TreesGo (AreFilesWrittenBy v s paths) s.state c.state
+  pub between : IsDiskVisible k → (d : Cells) → Has d c.through → TreesMayGo (AreFilesWrittenBy v s paths) s.state d
 
 abbrev pub PassagesMay : Type 0
 PassagesMay = (k : Start) (v : View) (s : StorePart) (lent : List (ℕ × ℕ)) (lent_names : ℕ) (paths : Paths) (c : Passage) → Passes k v s lent lent_names paths c → MayPass by_images k v s lent lent_names c
@@ -70,10 +70,10 @@ pub record CommitsFile (k : Start) (v : View) (g : ℕ) (x : FilePart) (s : Stor
   pub made : committed s g ≤ length x.changes
   pub bytes : all_changed (bytes_of k.tree.bytes g) x.changes ≡ x.bytes
   pub last : (state ≡ s.state) ⊎ Has state through
-  pub others : IsDiskTold k → (b : ℕ) → uses b v ≡ 0 → 1 ≤ uses b k.view → block_on state b ≡ block_on s.state b
-  pub own : IsDiskTold k → (place b : ℕ) → slice_get x.blocks place ≡ Some b → is_loaded x place ≡ false → block_on state b ≡ block_on s.state b
-  pub trees : IsDiskTold k → TreesGo (IsFileCommitted paths g x.bytes) s.state state
-  pub between : IsDiskTold k → (d : Cells) → Has d through → TreesMayGo (IsFileCommitted paths g x.bytes) s.state d
+  pub others : IsDiskVisible k → (b : ℕ) → uses b v ≡ 0 → 1 ≤ uses b k.view → block_on state b ≡ block_on s.state b
+  pub own : IsDiskVisible k → (place b : ℕ) → slice_get x.blocks place ≡ Some b → is_loaded x place ≡ false → block_on state b ≡ block_on s.state b
+  pub trees : IsDiskVisible k → TreesGo (IsFileCommitted paths g x.bytes) s.state state
+  pub between : IsDiskVisible k → (d : Cells) → Has d through → TreesMayGo (IsFileCommitted paths g x.bytes) s.state d
 
 abbrev pub FileCommitsMay : Type 0
 FileCommitsMay = (k : Start) (tickets : ℕ) (v : View) (g : ℕ) (x : FilePart) (s : StorePart) (paths : Paths) (through : List Cells) (state : Cells) → CommitsFile k v g x s paths through state
@@ -95,10 +95,10 @@ pub record CommitsNames (k : Start) (v : View) (p : NamesPart) (s : StorePart) (
   pub dirs : ((b : ℕ) → Has b s.dirs → Has b p.blocks) → (b : ℕ) → Has b c.dirs → Has b p.blocks
   pub born : (g : ℕ) → Has g c.born → Has g p.born ⊎ IsMadeBy p (length p.changes) g
   pub last : (c.state ≡ s.state) ⊎ Has c.state c.through
-  pub others : IsDiskTold k → (b : ℕ) → uses b v ≡ 0 → 1 ≤ uses b k.view → block_on c.state b ≡ block_on s.state b
-  pub own : IsDiskTold k → (g : ℕ) (x : FilePart) → Has (g, x) v.files → (place b : ℕ) → slice_get x.blocks place ≡ Some b → is_loaded x place ≡ false → block_on c.state b ≡ block_on s.state b
-  pub trees : IsDiskTold k → TreesGo (AreNamesCommitted fresh paths p.paths) s.state c.state
-  pub between : IsDiskTold k → (d : Cells) → Has d c.through → TreesMayGo (AreNamesCommitted fresh paths p.paths) s.state d
+  pub others : IsDiskVisible k → (b : ℕ) → uses b v ≡ 0 → 1 ≤ uses b k.view → block_on c.state b ≡ block_on s.state b
+  pub own : IsDiskVisible k → (g : ℕ) (x : FilePart) → Has (g, x) v.files → (place b : ℕ) → slice_get x.blocks place ≡ Some b → is_loaded x place ≡ false → block_on c.state b ≡ block_on s.state b
+  pub trees : IsDiskVisible k → TreesGo (AreNamesCommitted fresh paths p.paths) s.state c.state
+  pub between : IsDiskVisible k → (d : Cells) → Has d c.through → TreesMayGo (AreNamesCommitted fresh paths p.paths) s.state d
 
 abbrev pub NameCommitsMay : Type 0
 NameCommitsMay = (k : Start) (tickets : ℕ) (v : View) (p : NamesPart) (s : StorePart) (paths : Paths) (fresh : ℕ → Bool) (c : NamesCommit) → CommitsNames k v p s paths fresh c → MayCommitNames by_images k tickets v p s c
@@ -136,9 +136,9 @@ pub record Fails (k : Start) (v : View) (s : StorePart) (paths : Paths) (f : Fai
   pub told : s.paths ≡ Some paths
   pub bytes : HaveTheirBytes k v
   pub last : Has f.state f.through
-  pub others : IsDiskTold k → (b : ℕ) → uses b v ≡ 0 → 1 ≤ uses b k.view → block_on f.state b ≡ block_on s.state b
-  pub own : IsDiskTold k → (g : ℕ) (x : FilePart) → Has (g, x) v.files → (place b : ℕ) → slice_get x.blocks place ≡ Some b → is_loaded x place ≡ false → block_on f.state b ≡ block_on s.state b
-  pub between : IsDiskTold k → (d : Cells) → Has d f.through → TreesMayGo (MayHaveDone k v s paths) s.state d
+  pub others : IsDiskVisible k → (b : ℕ) → uses b v ≡ 0 → 1 ≤ uses b k.view → block_on f.state b ≡ block_on s.state b
+  pub own : IsDiskVisible k → (g : ℕ) (x : FilePart) → Has (g, x) v.files → (place b : ℕ) → slice_get x.blocks place ≡ Some b → is_loaded x place ≡ false → block_on f.state b ≡ block_on s.state b
+  pub between : IsDiskVisible k → (d : Cells) → Has d f.through → TreesMayGo (MayHaveDone k v s paths) s.state d
 
 abbrev pub FailuresMay : Type 0
 FailuresMay = (k : Start) (v : View) (s : StorePart) (paths : Paths) (f : Failure) → Fails k v s paths f → MayFail by_images k v s f
@@ -175,10 +175,10 @@ pub record Checkpoints (k : Start) (v : View) (p : NamesPart) (s : StorePart) (c
   pub fewer : (b : ℕ) → Has b c.dirs → Has b s.dirs
   pub apart : (b : ℕ) → Has b c.dirs → Has b c.freed → ⊥
   pub last : (c.state ≡ s.state) ⊎ Has c.state c.through
-  pub others : IsDiskTold k → (b : ℕ) → uses b v ≡ 0 → 1 ≤ uses b k.view → block_on c.state b ≡ block_on s.state b
-  pub own : IsDiskTold k → (g : ℕ) (x : FilePart) → Has (g, x) v.files → (place b : ℕ) → slice_get x.blocks place ≡ Some b → is_loaded x place ≡ false → block_on c.state b ≡ block_on s.state b
-  pub same : IsDiskTold k → OpensAs s.state c.state
-  pub between : IsDiskTold k → (d : Cells) → Has d c.through → OpensAs s.state d
+  pub others : IsDiskVisible k → (b : ℕ) → uses b v ≡ 0 → 1 ≤ uses b k.view → block_on c.state b ≡ block_on s.state b
+  pub own : IsDiskVisible k → (g : ℕ) (x : FilePart) → Has (g, x) v.files → (place b : ℕ) → slice_get x.blocks place ≡ Some b → is_loaded x place ≡ false → block_on c.state b ≡ block_on s.state b
+  pub same : IsDiskVisible k → OpensAs s.state c.state
+  pub between : IsDiskVisible k → (d : Cells) → Has d c.through → OpensAs s.state d
 
 abbrev pub CheckpointsMay : Type 0
 CheckpointsMay = (k : Start) (v : View) (p : NamesPart) (s : StorePart) (c : Checkpoint) → Checkpoints k v p s c → MayCheckpoint by_images k v p s c

@@ -27,8 +27,8 @@ pub record OpenedDisk : Type 0 where
   pub unassigned : List ℕ
   pub pools : List (ℕ × List ℕ)
   pub clients : ℕ
-  -- it tells what it holds, and was proper
-  pub is_told : Bool
+  -- it is visible, and was proper
+  pub is_visible : Bool
 
 module _ (d : OpenedDisk) where
   -- its files have numbers by rising path, and nothing is open
@@ -100,9 +100,9 @@ module _ (d : OpenedDisk) where
   }
 
   abbrev pub opened_start : Start
-  opened_start = record { tree = opened_tree; view = opened_view; is_told = d.is_told }
+  opened_start = record { tree = opened_tree; view = opened_view; is_visible = d.is_visible }
 
-  -- Only files of the tree have blocks, and no block is in two places. Where the disk tells what it holds, each image that a
+  -- Only files of the tree have blocks, and no block is in two places. Where the disk is visible, each image that a
   -- crash may leave opens to the tree, and the files' blocks have their bytes.
   pub record CanBeOpened : Type 0 where
     pub paths : IsPathTree d.nodes
@@ -110,8 +110,8 @@ module _ (d : OpenedDisk) where
     pub pools : (n : ℕ) → count eqb n d.pools ≤ 1
     pub extents : (f : ℕ) (bs : List ℕ) → fin.get d.extents f ≡ Some bs → f < opened_tree.next
     pub once : (b : ℕ) → uses b opened_view ≤ 1
-    pub on_disk : d.is_told ≡ true → (f : ℕ) → f < opened_tree.next → IsOnDisk (opened_file f) d.cells
-    pub opens : d.is_told ≡ true → EachOpensTo (λ nodes. nodes ≡ d.nodes) d.cells
+    pub on_disk : d.is_visible ≡ true → (f : ℕ) → f < opened_tree.next → IsOnDisk (opened_file f) d.cells
+    pub opens : d.is_visible ≡ true → EachOpensTo (λ nodes. nodes ≡ d.nodes) d.cells
 
 -- On such a disk a session can begin, with every file in its part.
 abbrev pub OpenedDisksServe : Type 0

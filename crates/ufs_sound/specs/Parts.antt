@@ -260,8 +260,8 @@ pub record Word : Type 0 where
 pub record Start : Type 0 where
   pub tree : PosixTree
   pub view : View
-  -- The disk tells what it holds, and was proper then. Else nothing is said of what it holds.
-  pub is_told : Bool
+  -- The disk is visible, and was proper then. Else nothing is said of what it holds.
+  pub is_visible : Bool
 
-abbrev pub IsDiskTold : Start → Type 0
-IsDiskTold k = k.is_told ≡ true
+abbrev pub IsDiskVisible : Start → Type 0
+IsDiskVisible k = k.is_visible ≡ true

@@ -1,4 +1,4 @@
--- A short session over a new disk, which tells what it holds: a step of each kind but those of leases, and what each hand has
+-- A short session over a new disk, which is visible: a step of each kind but those of leases, and what each hand has
 -- after it.
 use Rattle.std.specs.Prelude.{ℕ, ◌≤◌, [], ◌∷◌, take, drop}
 use Rattle.std.specs.FinMap as fin

@@ -16,7 +16,7 @@ use Rattle.ufs_sound.specs.Explained.{Showing, AreStatesExplained}
 use Rattle.ufs_sound.specs.FaultsOnce.{AreFaultsOnce}
 use Rattle.ufs_sound.specs.ClockTrue.{IsClockTrue}
 use Rattle.ufs_sound.specs.Asked.{IsAskedTrue}
-use Rattle.ufs_sound.specs.Parts.{IsDiskTold}
+use Rattle.ufs_sound.specs.Parts.{IsDiskVisible}
 
 pub record IsSound (S : Showing) (k : Start) (word : Word) (views : List View) : Type 0 where
   pub history : List Entry
@@ -29,9 +29,9 @@ pub record IsSound (S : Showing) (k : Start) (word : Word) (views : List View) :
   pub blocks_apart : AreBlocksApart k views
   pub committed_held : IsCommittedHeld k history world
   pub committed_numbers : AreCommittedNumbers k history world
-  pub disk_bytes : IsDiskTold k → HasDiskBytes world
+  pub disk_bytes : IsDiskVisible k → HasDiskBytes world
   pub holds : AreHoldsTrue k history world
-  pub explained : IsDiskTold k → AreStatesExplained S k word history world.store
+  pub explained : IsDiskVisible k → AreStatesExplained S k word history world.store
   pub faults_once : AreFaultsOnce views history world.store
   pub clock : IsClockTrue word views world
   pub asked : IsAskedTrue word world

@@ -12,7 +12,7 @@ use Rattle.ufs_sound.specs.Parts.{ClientPart, AskedPart, FilePart, NamesPart, St
 use Rattle.ufs_sound.specs.Explained.{Showing, IsDiskExplained}
 use Rattle.ufs_sound.specs.DiskBytes.{IsOnDisk}
 use Rattle.ufs_sound.specs.Draws.{IsIn}
-use Rattle.ufs_sound.specs.Parts.{IsDiskTold}
+use Rattle.ufs_sound.specs.Parts.{IsDiskVisible}
 
 -- ---- the opening
 
@@ -34,7 +34,7 @@ pub record CanOpen (S : Showing) (k : Start) (names : NamesPart) (store : StoreP
   pub one_pool : (n : ℕ) → count eqb n k.view.pools ≤ 1
   pub clients : (c : ℕ) (p : ClientPart) → Has (c, p) k.view.clients → p ≡ idle_client
   pub asked : (c : ℕ) (a : AskedPart) → Has (c, a) k.view.asked → a ≡ idle_asked
-  pub files : (f : ℕ) (p : FilePart) → Has (f, p) k.view.files → (p.opening ≡ fin.get k.tree.bytes f) × (p.changes ≡ []) × (fin.get k.tree.bytes f ≡ Some p.bytes) × (p.known ≡ 0) × (IsDiskTold k → IsOnDisk p store.state)
+  pub files : (f : ℕ) (p : FilePart) → Has (f, p) k.view.files → (p.opening ≡ fin.get k.tree.bytes f) × (p.changes ≡ []) × (fin.get k.tree.bytes f ≡ Some p.bytes) × (p.known ≡ 0) × (IsDiskVisible k → IsOnDisk p store.state)
       × ((bs : List ℕ) (b : ℕ) → fin.get store.extents f ≡ Some bs → Has b bs → Has b p.blocks ⊎ Has b p.quarantine)
   pub names_is : k.view.names ≡ (tt, names) ∷ []
   pub opening : names.opening ≡ names_of k.tree
@@ -55,7 +55,7 @@ pub record CanOpen (S : Showing) (k : Start) (names : NamesPart) (store : StoreP
   pub past : store.past ≡ []
   pub lent : store.lent ≡ []
   pub lent_names : store.lent_names ≡ 0
-  pub shows : IsDiskTold k → S.Shows k.tree [] (committed store) 0 store.paths store.state
+  pub shows : IsDiskVisible k → S.Shows k.tree [] (committed store) 0 store.paths store.state
   pub single : (n : ℕ) → times n store.faults ≤ 1
   pub faults : k.view.faults ≡ []
   pub stop : k.view.stop ≡ None
@@ -91,4 +91,4 @@ pub record IsWhole (S : Showing) (k : Start) (word : Word) (v : View) (store : S
   pub merged : IsMerge v history
   pub tree : IsIn v (tree_after k.tree history)
   pub files : (f : ℕ) → is_some (fin.get (tree_after k.tree history).bytes f) ≡ true → (p : FilePart) × Has (f, p) v.files
-  pub disk : IsDiskTold k → IsDiskExplained S k word history store
+  pub disk : IsDiskVisible k → IsDiskExplained S k word history store

@@ -161,7 +161,7 @@ pub fn every_image_is_explained()
     an_end_is_whole::<Images>();
 }
 
-/// A session can begin on a disk that was formatted and has nothing pending, and on one that tells nothing.
+/// A session can begin on a disk that was formatted and has nothing pending, and on one that isn't visible.
 pub fn a_new_disk_can_be_opened(geometry: &Geometry)
     requires { IsGeometry geometry.now }
     ensures told { NewDiskOpens geometry.now }

@@ -31,9 +31,9 @@ fn append_sectors<D: Disk>(
     requires some { 0 < count }
     requires few { count ≤ 8 }
     requires inside { sector + count ≤ D.size disk.old }
-    ensures bytes { IsTrue D.tells → OnOk result (bytes.new.items ≡ bytes.old.items ++ bytes_from (reads (D.moments disk.old)) sector count) }
+    ensures bytes { IsTrue D.visible → OnOk result (bytes.new.items ≡ bytes.old.items ++ bytes_from (reads (D.moments disk.old)) sector count) }
     ensures long { OnOk result (length bytes.new.items ≡ length bytes.old.items + 512 * count) }
-    ensures read_only { IsTrue D.tells → IsReadOnly D.keeps (D.moments disk.old) (D.moments disk.new) }
+    ensures read_only { IsTrue D.visible → IsReadOnly D.keeps (D.moments disk.old) (D.moments disk.new) }
     ensures size { D.size disk.new ≡ D.size disk.old }
     ensures passed { OnOk result (D.faults disk.new ≡ D.faults disk.old) }
     ensures cause { IfErr result (HasFaultCause (D.faults disk.old) (D.faults disk.new)) }
@@ -53,9 +53,9 @@ fn append_sectors<D: Disk>(
 // The first sectors, in as many calls of eight as they fill.
 fn whole_calls<D: Disk>(alloc: Global, disk: &mut D, sectors: u32) -> Result<Vec<u8>, RecoverFault>
     requires { sectors ≤ D.size disk.old }
-    ensures bytes { IsTrue D.tells → IfOk result (λ b. b.items ≡ bytes_from (reads (D.moments disk.old)) 0 (sectors - sectors % 8)) }
+    ensures bytes { IsTrue D.visible → IfOk result (λ b. b.items ≡ bytes_from (reads (D.moments disk.old)) 0 (sectors - sectors % 8)) }
     ensures long { IfOk result (λ b. length b.items ≡ 512 * (sectors - sectors % 8)) }
-    ensures read_only { IsTrue D.tells → IsReadOnly D.keeps (D.moments disk.old) (D.moments disk.new) }
+    ensures read_only { IsTrue D.visible → IsReadOnly D.keeps (D.moments disk.old) (D.moments disk.new) }
     ensures size { D.size disk.new ≡ D.size disk.old }
     ensures passed { OnOk result (D.faults disk.new ≡ D.faults disk.old) }
     ensures cause { IfErr result (HasFaultCause (D.faults disk.old) (D.faults disk.new)) }
@@ -71,9 +71,9 @@ fn whole_calls<D: Disk>(alloc: Global, disk: &mut D, sectors: u32) -> Result<Vec
 // The bytes of the first sectors.
 fn first_bytes<D: Disk>(alloc: Global, disk: &mut D, sectors: u32) -> Result<Vec<u8>, RecoverFault>
     requires { sectors ≤ D.size disk.old }
-    ensures bytes { IsTrue D.tells → IfOk result (λ b. b.items ≡ bytes_from (reads (D.moments disk.old)) 0 sectors) }
+    ensures bytes { IsTrue D.visible → IfOk result (λ b. b.items ≡ bytes_from (reads (D.moments disk.old)) 0 sectors) }
     ensures long { IfOk result (λ b. length b.items ≡ 512 * sectors) }
-    ensures read_only { IsTrue D.tells → IsReadOnly D.keeps (D.moments disk.old) (D.moments disk.new) }
+    ensures read_only { IsTrue D.visible → IsReadOnly D.keeps (D.moments disk.old) (D.moments disk.new) }
     ensures size { D.size disk.new ≡ D.size disk.old }
     ensures passed { OnOk result (D.faults disk.new ≡ D.faults disk.old) }
     ensures cause { IfErr result (HasFaultCause (D.faults disk.old) (D.faults disk.new)) }
@@ -97,10 +97,10 @@ pub fn copy_of<D: Disk>(
 ) -> Result<PlainDisk, RecoverFault>
     requires { sectors ≤ D.size disk.old }
     ensures sectors { IfOk result (λ c. c.sectors ≡ sectors) }
-    ensures within { IsTrue D.tells → IfOk result (λ c. (s : ℕ) → s < sectors → image_of c.bytes.items s ≡ reads (D.moments disk.old) s) }
+    ensures within { IsTrue D.visible → IfOk result (λ c. (s : ℕ) → s < sectors → image_of c.bytes.items s ≡ reads (D.moments disk.old) s) }
     // A copy of all sectors is the same image.
-    ensures whole { IsTrue D.tells → sectors ≡ D.size disk.old → IfOk result (λ c. image_of c.bytes.items ≡ reads (D.moments disk.old)) }
-    ensures read_only { IsTrue D.tells → IsReadOnly D.keeps (D.moments disk.old) (D.moments disk.new) }
+    ensures whole { IsTrue D.visible → sectors ≡ D.size disk.old → IfOk result (λ c. image_of c.bytes.items ≡ reads (D.moments disk.old)) }
+    ensures read_only { IsTrue D.visible → IsReadOnly D.keeps (D.moments disk.old) (D.moments disk.new) }
     ensures size { D.size disk.new ≡ D.size disk.old }
     ensures passed { OnOk result (D.faults disk.new ≡ D.faults disk.old) }
     ensures cause { IfErr result (HasFaultCause (D.faults disk.old) (D.faults disk.new)) }

@@ -48,9 +48,9 @@ fn append_block<D: Disk>(
     overlay: &Overlay,
     block: u32,
 ) -> Result<(), RecoverFault>
-    ensures bytes { IsTrue D.tells → (image : Image) → IsFolded overlay.now (reads (D.moments disk.old)) image → OnOk result (bytes.new.items ≡ bytes.old.items ++ block_at image block) }
+    ensures bytes { IsTrue D.visible → (image : Image) → IsFolded overlay.now (reads (D.moments disk.old)) image → OnOk result (bytes.new.items ≡ bytes.old.items ++ block_at image block) }
     ensures long { OnOk result (length bytes.new.items ≡ length bytes.old.items + BLOCK) }
-    ensures read_only { IsTrue D.tells → IsReadOnly D.keeps (D.moments disk.old) (D.moments disk.new) }
+    ensures read_only { IsTrue D.visible → IsReadOnly D.keeps (D.moments disk.old) (D.moments disk.new) }
     ensures size { D.size disk.new ≡ D.size disk.old }
     ensures passed { OnOk result (D.faults disk.new ≡ D.faults disk.old) }
     ensures cause { IfErr result (HasFaultCause (D.faults disk.old) (D.faults disk.new)) }
@@ -75,9 +75,9 @@ fn read_blocks<D: Disk>(
     overlay: &Overlay,
     extents: &Extents,
 ) -> Result<Vec<u8>, RecoverFault>
-    ensures bytes { IsTrue D.tells → (image : Image) → IsFolded overlay.now (reads (D.moments disk.old)) image → IfOk result (λ b. b.items ≡ flat_map (block_at image) (runs.blocks_of extents.now)) }
+    ensures bytes { IsTrue D.visible → (image : Image) → IsFolded overlay.now (reads (D.moments disk.old)) image → IfOk result (λ b. b.items ≡ flat_map (block_at image) (runs.blocks_of extents.now)) }
     ensures long { IfOk result (λ b. length b.items ≡ BLOCK * length (runs.blocks_of extents.now)) }
-    ensures read_only { IsTrue D.tells → IsReadOnly D.keeps (D.moments disk.old) (D.moments disk.new) }
+    ensures read_only { IsTrue D.visible → IsReadOnly D.keeps (D.moments disk.old) (D.moments disk.new) }
     ensures size { D.size disk.new ≡ D.size disk.old }
     ensures passed { OnOk result (D.faults disk.new ≡ D.faults disk.old) }
     ensures cause { IfErr result (HasFaultCause (D.faults disk.old) (D.faults disk.new)) }
@@ -158,9 +158,9 @@ fn file_in<D: Disk>(
     ensures count { IfOk result (λ h. length (runs.blocks_of h.extents) ≡ block_count form.now.size) }
     ensures marks { IfOk result (λ h. length h.content.dirty ≡ length (runs.blocks_of h.extents)) }
     ensures blocks { IfOk result (λ h. runs.blocks_of h.extents ≡ nodes.blocks_of form.now) }
-    ensures bytes { IsTrue D.tells → (image : Image) → IsFolded overlay.now (reads (D.moments disk.old)) image → IfOk result (λ h. h.content.bytes ≡ file_bytes image form.now) }
-    ensures loaded { IsTrue D.tells → (image : Image) → IsFolded overlay.now (reads (D.moments disk.old)) image → IfOk result (λ h. h.content ≡ loaded (flat_map (block_at image) (nodes.blocks_of form.now)) form.now.size) }
-    ensures read_only { IsTrue D.tells → IsReadOnly D.keeps (D.moments disk.old) (D.moments disk.new) }
+    ensures bytes { IsTrue D.visible → (image : Image) → IsFolded overlay.now (reads (D.moments disk.old)) image → IfOk result (λ h. h.content.bytes ≡ file_bytes image form.now) }
+    ensures loaded { IsTrue D.visible → (image : Image) → IsFolded overlay.now (reads (D.moments disk.old)) image → IfOk result (λ h. h.content ≡ loaded (flat_map (block_at image) (nodes.blocks_of form.now)) form.now.size) }
+    ensures read_only { IsTrue D.visible → IsReadOnly D.keeps (D.moments disk.old) (D.moments disk.new) }
     ensures size { D.size disk.new ≡ D.size disk.old }
     ensures passed { OnOk result (D.faults disk.new ≡ D.faults disk.old) }
     ensures cause { IfErr result (HasStartCause (D.faults disk.old) (D.faults disk.new)) }
@@ -191,12 +191,12 @@ fn add_file<D: Disk>(
     requires number { inode < length numbers.now }
     ensures kept { OnOk result ((file : ℕ) → IsSome (map.get files.old file) → IsSome (map.get files.new file)) }
     ensures here { OnOk result ((file : ℕ) → slice_index_or numbers.now inode None ≡ Some file → IsSome (map.get files.new file)) }
-    ensures read { IsTrue D.tells → (g : Geometry) (image : Image) (n : NamesPart) → IsFolded overlay.now (reads (D.moments disk.old)) image → AreFormsOf g image forms.now → HasNumbers n.tree numbers.now
+    ensures read { IsTrue D.visible → (g : Geometry) (image : Image) (n : NamesPart) → IsFolded overlay.now (reads (D.moments disk.old)) image → AreFormsOf g image forms.now → HasNumbers n.tree numbers.now
         → AreRead image (catalog_at g image) n files.old → OnOk result (AreRead image (catalog_at g image) n files.new) }
-    ensures loaded { IsTrue D.tells → (g : Geometry) (image : Image) → IsFolded overlay.now (reads (D.moments disk.old)) image → AreFormsOf g image forms.now
+    ensures loaded { IsTrue D.visible → (g : Geometry) (image : Image) → IsFolded overlay.now (reads (D.moments disk.old)) image → AreFormsOf g image forms.now
         → AreLoaded image (catalog_at g image) files.old → OnOk result (AreLoaded image (catalog_at g image) files.new) }
     ensures laid { (g : Geometry) (image : Image) → AreFormsOf g image forms.now → AreLaid (catalog_at g image) files.old → OnOk result (AreLaid (catalog_at g image) files.new) }
-    ensures read_only { IsTrue D.tells → IsReadOnly D.keeps (D.moments disk.old) (D.moments disk.new) }
+    ensures read_only { IsTrue D.visible → IsReadOnly D.keeps (D.moments disk.old) (D.moments disk.new) }
     ensures size { D.size disk.new ≡ D.size disk.old }
     ensures passed { OnOk result (D.faults disk.new ≡ D.faults disk.old) }
     ensures cause { IfErr result (HasStartCause (D.faults disk.old) (D.faults disk.new)) }
@@ -227,11 +227,11 @@ pub fn files_of<D: Disk>(
     numbers: &[Option<u32>],
 ) -> Result<FileHands, StartFault>
     requires counted { length numbers.now ≡ length findings.now.forms + 1 }
-    ensures read { IsTrue D.tells → (g : Geometry) (image : Image) (n : NamesPart) → IsFolded overlay.now (reads (D.moments disk.old)) image → AreFindingsOf g image findings.now → HasNumbers n.tree numbers.now → IfOk result (AreRead image (catalog_at g image) n) }
+    ensures read { IsTrue D.visible → (g : Geometry) (image : Image) (n : NamesPart) → IsFolded overlay.now (reads (D.moments disk.old)) image → AreFindingsOf g image findings.now → HasNumbers n.tree numbers.now → IfOk result (AreRead image (catalog_at g image) n) }
     ensures here { (inode file : ℕ) → 1 ≤ inode → slice_index_or numbers.now inode None ≡ Some file → IfOk result (λ files. IsSome (map.get files file)) }
-    ensures loaded { IsTrue D.tells → (g : Geometry) (image : Image) → IsFolded overlay.now (reads (D.moments disk.old)) image → AreFindingsOf g image findings.now → IfOk result (AreLoaded image (catalog_at g image)) }
+    ensures loaded { IsTrue D.visible → (g : Geometry) (image : Image) → IsFolded overlay.now (reads (D.moments disk.old)) image → AreFindingsOf g image findings.now → IfOk result (AreLoaded image (catalog_at g image)) }
     ensures laid { (g : Geometry) (image : Image) → AreFindingsOf g image findings.now → IfOk result (AreLaid (catalog_at g image)) }
-    ensures read_only { IsTrue D.tells → IsReadOnly D.keeps (D.moments disk.old) (D.moments disk.new) }
+    ensures read_only { IsTrue D.visible → IsReadOnly D.keeps (D.moments disk.old) (D.moments disk.new) }
     ensures size { D.size disk.new ≡ D.size disk.old }
     ensures passed { OnOk result (D.faults disk.new ≡ D.faults disk.old) }
     ensures cause { IfErr result (HasStartCause (D.faults disk.old) (D.faults disk.new)) }

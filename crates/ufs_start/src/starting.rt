@@ -93,22 +93,22 @@ fn start_in(alloc: Global, copy: &mut PlainDisk) -> Result<Start, StartFault>
 /// with a file that a server can't hold or that no path names, or with a directory that has names and that no path leads
 /// to. Reads each sector of the disk once, in calls of 4,096 bytes; writes nothing.
 pub fn start_of<D: Disk>(alloc: Global, disk: &mut D) -> Result<Start, StartFault>
-    ensures standing { IsTrue D.tells → IfOk result (λ s. IsVolumeOf (D.size disk.old) (reads (D.moments disk.old)) (volume_under s.superblock (reads (D.moments disk.old))) (catalog_under s.superblock (reads (D.moments disk.old)))) }
-    ensures opened { IsTrue D.tells → IfOk result (λ s. opens (D.size disk.old) (reads (D.moments disk.old)) ≡ Ok (tree_under s.superblock (reads (D.moments disk.old)))) }
-    ensures table { IsTrue D.tells → IfOk result (λ s. IsNamesOf s.superblock.geometry (catalog_under s.superblock (reads (D.moments disk.old))) (image_start (tree_under s.superblock (reads (D.moments disk.old)))) s.names) }
-    ensures names { IsTrue D.tells → IfOk result (λ s. IsNamesPart s.names (image_start (tree_under s.superblock (reads (D.moments disk.old))))) }
-    ensures read { IsTrue D.tells → IfOk result (λ s. AreRead (image_under s.superblock (reads (D.moments disk.old))) (catalog_under s.superblock (reads (D.moments disk.old))) s.names s.files) }
-    ensures files { IsTrue D.tells → IfOk result (λ s. AreFilesOf s.files (image_start (tree_under s.superblock (reads (D.moments disk.old))))) }
-    ensures free { IsTrue D.tells → IfOk result (λ s. (block : ℕ) → set.contains s.free.free block ≡ is_free_block s.superblock.geometry (image_under s.superblock (reads (D.moments disk.old))) block) }
-    ensures begun { IfOk result (λ s. (image : Image) × IsBegun (D.size disk.old) image s × (IsTrue D.tells → image ≡ reads (D.moments disk.old))) }
+    ensures standing { IsTrue D.visible → IfOk result (λ s. IsVolumeOf (D.size disk.old) (reads (D.moments disk.old)) (volume_under s.superblock (reads (D.moments disk.old))) (catalog_under s.superblock (reads (D.moments disk.old)))) }
+    ensures opened { IsTrue D.visible → IfOk result (λ s. opens (D.size disk.old) (reads (D.moments disk.old)) ≡ Ok (tree_under s.superblock (reads (D.moments disk.old)))) }
+    ensures table { IsTrue D.visible → IfOk result (λ s. IsNamesOf s.superblock.geometry (catalog_under s.superblock (reads (D.moments disk.old))) (image_start (tree_under s.superblock (reads (D.moments disk.old)))) s.names) }
+    ensures names { IsTrue D.visible → IfOk result (λ s. IsNamesPart s.names (image_start (tree_under s.superblock (reads (D.moments disk.old))))) }
+    ensures read { IsTrue D.visible → IfOk result (λ s. AreRead (image_under s.superblock (reads (D.moments disk.old))) (catalog_under s.superblock (reads (D.moments disk.old))) s.names s.files) }
+    ensures files { IsTrue D.visible → IfOk result (λ s. AreFilesOf s.files (image_start (tree_under s.superblock (reads (D.moments disk.old))))) }
+    ensures free { IsTrue D.visible → IfOk result (λ s. (block : ℕ) → set.contains s.free.free block ≡ is_free_block s.superblock.geometry (image_under s.superblock (reads (D.moments disk.old))) block) }
+    ensures begun { IfOk result (λ s. (image : Image) × IsBegun (D.size disk.old) image s × (IsTrue D.visible → image ≡ reads (D.moments disk.old))) }
     ensures inodes { IfOk result (λ s. HaveInodes s.names.held s.files) }
     ensures here { IfOk result (λ s. (inode file : ℕ) → file_at s.names.tree inode ≡ Some file → IsSome (map.get s.files file)) }
-    ensures loaded { IsTrue D.tells → IfOk result (λ s. AreLoaded (image_under s.superblock (reads (D.moments disk.old))) (catalog_under s.superblock (reads (D.moments disk.old))) s.files) }
+    ensures loaded { IsTrue D.visible → IfOk result (λ s. AreLoaded (image_under s.superblock (reads (D.moments disk.old))) (catalog_under s.superblock (reads (D.moments disk.old))) s.files) }
     ensures first { IfOk result (λ s. s.free.first ≡ first_of_data s.superblock.geometry) }
     ensures blocks { IfOk result (λ s. s.free.blocks ≡ s.superblock.geometry.blocks) }
     ensures apart { IfOk result (λ s. AreApart s.names.tree.dirs s.files s.free.free) }
-    ensures refused { IsTrue D.tells → IfErr result (TellsNoStart (D.size disk.old) (reads (D.moments disk.old))) }
-    ensures read_only { IsTrue D.tells → IsReadOnly D.keeps (D.moments disk.old) (D.moments disk.new) }
+    ensures refused { IsTrue D.visible → IfErr result (TellsNoStart (D.size disk.old) (reads (D.moments disk.old))) }
+    ensures read_only { IsTrue D.visible → IsReadOnly D.keeps (D.moments disk.old) (D.moments disk.new) }
     ensures size { D.size disk.new ≡ D.size disk.old }
     ensures passed { OnOk result (D.faults disk.new ≡ D.faults disk.old) }
     ensures cause { IfErr result (HasStartCause (D.faults disk.old) (D.faults disk.new)) }

@@ -13,7 +13,7 @@ pub struct Direct<'a, D: Disk> {
 }
 
 impl<'a, D: Disk> Door for Direct<'a, D> {
-    ghost tells = { D.tells };
+    ghost visible = { D.visible };
 
     ghost keeps = { D.keeps };
 
@@ -59,5 +59,5 @@ impl<'a, D: Disk> Door for Direct<'a, D> {
         self.store.checkpoint()
     }
 
-    ghost whole = { λ told d. D.whole told d.store.now.disk };
+    ghost whole = { λ visible d. D.whole visible d.store.now.disk };
 }

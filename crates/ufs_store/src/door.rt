@@ -33,10 +33,10 @@ use ufs_layout::Geometry;
 /// A write or a barrier that fails stops the store: later calls that write are refused with its number
 /// and do nothing. Reads go on.
 pub trait Door {
-    /// Whether contracts are told what the disk holds.
-    ghost tells: { Bool };
+    /// Whether contracts see what the disk holds.
+    ghost visible: { Bool };
 
-    /// Whether they are told of each moment.
+    /// Whether they see each moment.
     ghost keeps: { Bool };
 
     /// The store.
@@ -58,12 +58,12 @@ pub trait Door {
     fn read_block(&mut self, block: u32, buf: &mut [u8]) -> Result<(), StoreFault>
         requires there { IsDataBlock (geometry_of_store (store self.old)) block }
         requires sized { length buf.old ≡ BLOCK }
-        ensures bytes { IsTrue tells → OnOk result ((l : Ledger) → IsLedgerOf (store self.old).sectors (store self.old).moments.state l → IsDataBlock (geometry_of l.superblock) block → is_held l.now.log block ≡ false
+        ensures bytes { IsTrue visible → OnOk result ((l : Ledger) → IsLedgerOf (store self.old).sectors (store self.old).moments.state l → IsDataBlock (geometry_of l.superblock) block → is_held l.now.log block ≡ false
             → buf.new ≡ (l.blocks block).seen) }
-        ensures crash { IsTrue tells → (l : Ledger) → IsLedgerOf (store self.old).sectors (store self.old).moments.state l
+        ensures crash { IsTrue visible → (l : Ledger) → IsLedgerOf (store self.old).sectors (store self.old).moments.state l
             → LeavesOnly keeps (IsLeftBy (store self.old).sectors l) (store self.old).moments (store self.new).moments }
-        ensures on_disk { IsTrue tells → (l : Ledger) → IsLedgerOf (store self.old).sectors (store self.old).moments.state l → IsLedgerOf (store self.new).sectors (store self.new).moments.state l }
-        ensures ledger { IsTrue tells → (l : Ledger) → HasLedger (store self.old) l → HasLedger (store self.new) l }
+        ensures on_disk { IsTrue visible → (l : Ledger) → IsLedgerOf (store self.old).sectors (store self.old).moments.state l → IsLedgerOf (store self.new).sectors (store self.new).moments.state l }
+        ensures ledger { IsTrue visible → (l : Ledger) → HasLedger (store self.old) l → HasLedger (store self.new) l }
         ensures rest { store self.new ≡ record (store self.old) { moments = (store self.new).moments; faults = (store self.new).faults } }
         ensures cause { IsTold (store self.old).faults (store self.new).faults (fault_in result) }
         ensures refused { IfErr result (λ fault. fault ≡ refusal.Device (store self.new).faults) };
@@ -73,10 +73,10 @@ pub trait Door {
     fn write_block(&mut self, block: u32, bytes: &[u8]) -> Result<(), StoreFault>
         requires there { IsDataBlock (geometry_of_store (store self.old)) block }
         requires sized { length bytes.now ≡ BLOCK }
-        ensures crash { IsTrue tells → (l : Ledger) → HasLedger (store self.old) l → MayWrite l block bytes.now
+        ensures crash { IsTrue visible → (l : Ledger) → HasLedger (store self.old) l → MayWrite l block bytes.now
             → LeavesOnly keeps (IsLeftBy (store self.old).sectors (written block bytes.now l)) (store self.old).moments (store self.new).moments }
-        ensures ok { IsTrue tells → OnOk result ((l : Ledger) → HasLedger (store self.old) l → MayWrite l block bytes.now → HasLedger (store self.new) (written block bytes.now l)) }
-        ensures err { IsTrue tells → OnErr result ((l : Ledger) → HasLedger (store self.old) l → MayWrite l block bytes.now
+        ensures ok { IsTrue visible → OnOk result ((l : Ledger) → HasLedger (store self.old) l → MayWrite l block bytes.now → HasLedger (store self.new) (written block bytes.now l)) }
+        ensures err { IsTrue visible → OnErr result ((l : Ledger) → HasLedger (store self.old) l → MayWrite l block bytes.now
             → IsLedgerOf (store self.new).sectors (store self.new).moments.state (tried block bytes.now (block_at (reads (store self.new).moments) block) l)) }
         ensures rest { store self.new ≡ record (store self.old) { moments = (store self.new).moments; faults = (store self.new).faults; unsettled = (store self.new).unsettled; stop = (store self.new).stop } }
         ensures stopped { (fault : ℕ) → (result ≡ Err (refusal.Stopped fault)) ↔ ((store self.old).stop ≡ Some fault) }
@@ -88,10 +88,10 @@ pub trait Door {
     /// Waits until all that was written is on the disk for good. Where no block was written since the last
     /// barrier, nothing is done.
     fn settle(&mut self) -> Result<(), StoreFault>
-        ensures crash { IsTrue tells → (l : Ledger) → HasLedger (store self.old) l
+        ensures crash { IsTrue visible → (l : Ledger) → HasLedger (store self.old) l
             → LeavesOnly keeps (IsLeftBy (store self.old).sectors l) (store self.old).moments (store self.new).moments }
-        ensures ok { IsTrue tells → OnOk result ((l : Ledger) → HasLedger (store self.old) l → HasLedger (store self.new) (settled l)) }
-        ensures err { IsTrue tells → OnErr result ((l : Ledger) → HasLedger (store self.old) l → IsLedgerOf (store self.new).sectors (store self.new).moments.state l) }
+        ensures ok { IsTrue visible → OnOk result ((l : Ledger) → HasLedger (store self.old) l → HasLedger (store self.new) (settled l)) }
+        ensures err { IsTrue visible → OnErr result ((l : Ledger) → HasLedger (store self.old) l → IsLedgerOf (store self.new).sectors (store self.new).moments.state l) }
         ensures nothing { (store self.old).unsettled ≡ false → store self.new ≡ store self.old }
         ensures rest { store self.new ≡ record (store self.old) { moments = (store self.new).moments; faults = (store self.new).faults; unsettled = (store self.new).unsettled; stop = (store self.new).stop } }
         ensures stopped { (fault : ℕ) → (result ≡ Err (refusal.Stopped fault)) ↔ ((store self.old).stop ≡ Some fault) }
@@ -106,11 +106,11 @@ pub trait Door {
     fn commit_names(&mut self, log: &mut NamesLog) -> Result<u64, StoreFault>
         requires in_range { IsTrue (list_all (is_in_range (geometry_of_store (store self.old))) log.old) }
         requires short { sector_count_of log.old < (geometry_of_store (store self.old)).journal }
-        ensures crash { IsTrue tells → log.old ≢ [] → (l : Ledger) → HasLedger (store self.old) l → MayCommitNext (store self.old) log.old l
+        ensures crash { IsTrue visible → log.old ≢ [] → (l : Ledger) → HasLedger (store self.old) l → MayCommitNext (store self.old) log.old l
             → LeavesOnly keeps (IsLeftByAny (store self.old).sectors (stages (store self.old) log.old l)) (store self.old).moments (store self.new).moments }
-        ensures ok { IsTrue tells → log.old ≢ [] → OnOk result ((l : Ledger) → HasLedger (store self.old) l → MayCommitNext (store self.old) log.old l → HasLedger (store self.new) (after_commit (store self.old) log.old l)) }
-        ensures device { IsTrue tells → (fault : ℕ) → result ≡ Err (refusal.Device fault) → (l : Ledger) → HasLedger (store self.old) l → MayCommitNext (store self.old) log.old l → HasAny (store self.new) (stages (store self.old) log.old l) }
-        ensures memory { IsTrue tells → result ≡ Err refusal.Memory → (l : Ledger) → HasLedger (store self.old) l → HasLedger (store self.new) l ⊎ HasLedger (store self.new) (checkpointed (store self.old) l) }
+        ensures ok { IsTrue visible → log.old ≢ [] → OnOk result ((l : Ledger) → HasLedger (store self.old) l → MayCommitNext (store self.old) log.old l → HasLedger (store self.new) (after_commit (store self.old) log.old l)) }
+        ensures device { IsTrue visible → (fault : ℕ) → result ≡ Err (refusal.Device fault) → (l : Ledger) → HasLedger (store self.old) l → MayCommitNext (store self.old) log.old l → HasAny (store self.new) (stages (store self.old) log.old l) }
+        ensures memory { IsTrue visible → result ≡ Err refusal.Memory → (l : Ledger) → HasLedger (store self.old) l → HasLedger (store self.new) l ⊎ HasLedger (store self.new) (checkpointed (store self.old) l) }
         ensures nothing { log.old ≡ [] → store self.new ≡ store self.old }
         ensures done { log.old ≡ [] → (store self.old).stop ≡ None → result ≡ Ok (last_commit (store self.old)) }
         ensures number { IfOk result (λ number. number ≡ last_commit (store self.new)) }
@@ -133,19 +133,19 @@ pub trait Door {
     fn commit_file(&mut self, log: &mut InodeLog, freed: Runs) -> Result<u64, Uncommitted>
         requires inode { is_inode_number (geometry_of_store (store self.old)) log.old.inode ≡ true }
         requires apart { MayReturn (store self.old).unassigned freed }
-        ensures crash { IsTrue tells → (records : List LogRecord) → IsDelta log.old.inode log.old.committed log.old.noted records → log.old.noted ≢ log.old.committed → (l : Ledger) → HasLedger (store self.old) l → MayCommitNext (store self.old) records l
+        ensures crash { IsTrue visible → (records : List LogRecord) → IsDelta log.old.inode log.old.committed log.old.noted records → log.old.noted ≢ log.old.committed → (l : Ledger) → HasLedger (store self.old) l → MayCommitNext (store self.old) records l
             → LeavesOnly keeps (IsLeftByAny (store self.old).sectors (stages (store self.old) records l)) (store self.old).moments (store self.new).moments }
-        ensures ok { IsTrue tells → (records : List LogRecord) → IsDelta log.old.inode log.old.committed log.old.noted records → log.old.noted ≢ log.old.committed
+        ensures ok { IsTrue visible → (records : List LogRecord) → IsDelta log.old.inode log.old.committed log.old.noted records → log.old.noted ≢ log.old.committed
             → OnOk result ((l : Ledger) → HasLedger (store self.old) l → MayCommitNext (store self.old) records l → HasLedger (store self.new) (after_commit (store self.old) records l)) }
-        ensures device { IsTrue tells → (records : List LogRecord) → IsDelta log.old.inode log.old.committed log.old.noted records → log.old.noted ≢ log.old.committed
+        ensures device { IsTrue visible → (records : List LogRecord) → IsDelta log.old.inode log.old.committed log.old.noted records → log.old.noted ≢ log.old.committed
             → (fault : ℕ) → answer_of result ≡ Err (refusal.Device fault) → (l : Ledger) → HasLedger (store self.old) l → MayCommitNext (store self.old) records l → HasAny (store self.new) (stages (store self.old) records l) }
-        ensures memory { IsTrue tells → answer_of result ≡ Err refusal.Memory → (l : Ledger) → HasLedger (store self.old) l → HasLedger (store self.new) l ⊎ HasLedger (store self.new) (checkpointed (store self.old) l) }
+        ensures memory { IsTrue visible → answer_of result ≡ Err refusal.Memory → (l : Ledger) → HasLedger (store self.old) l → HasLedger (store self.new) l ⊎ HasLedger (store self.new) (checkpointed (store self.old) l) }
 
         // With nothing to commit.
-        ensures empty_crash { IsTrue tells → log.old.noted ≡ log.old.committed → (l : Ledger) → HasLedger (store self.old) l
+        ensures empty_crash { IsTrue visible → log.old.noted ≡ log.old.committed → (l : Ledger) → HasLedger (store self.old) l
             → LeavesOnly keeps (IsLeftBy (store self.old).sectors l) (store self.old).moments (store self.new).moments }
-        ensures empty_ok { IsTrue tells → log.old.noted ≡ log.old.committed → OnOk result ((l : Ledger) → HasLedger (store self.old) l → HasLedger (store self.new) (settled l)) }
-        ensures empty_device { IsTrue tells → log.old.noted ≡ log.old.committed → OnErr result ((l : Ledger) → HasLedger (store self.old) l → IsLedgerOf (store self.new).sectors (store self.new).moments.state l) }
+        ensures empty_ok { IsTrue visible → log.old.noted ≡ log.old.committed → OnOk result ((l : Ledger) → HasLedger (store self.old) l → HasLedger (store self.new) (settled l)) }
+        ensures empty_device { IsTrue visible → log.old.noted ≡ log.old.committed → OnErr result ((l : Ledger) → HasLedger (store self.old) l → IsLedgerOf (store self.new).sectors (store self.new).moments.state l) }
         ensures nothing { log.old.noted ≡ log.old.committed → (store self.old).unsettled ≡ false → ((store self.new).moments ≡ (store self.old).moments) × ((store self.new).faults ≡ (store self.old).faults) }
         ensures number { IfOk result (λ number. number ≡ last_commit (store self.new)) }
         ensures rises { log.old.noted ≢ log.old.committed → OnOk result (last_commit (store self.new) ≡ last_commit (store self.old) + 1) }
@@ -182,10 +182,10 @@ pub trait Door {
 
     /// Writes home all that is committed, and begins the next epoch with the whole journal.
     fn checkpoint(&mut self) -> Result<(), StoreFault>
-        ensures crash { IsTrue tells → (l : Ledger) → HasLedger (store self.old) l
+        ensures crash { IsTrue visible → (l : Ledger) → HasLedger (store self.old) l
             → LeavesOnly keeps (IsLeftByAny (store self.old).sectors (l ∷ beginning_next (store self.old) l ∷ [])) (store self.old).moments (store self.new).moments }
-        ensures ok { IsTrue tells → OnOk result ((l : Ledger) → HasLedger (store self.old) l → HasLedger (store self.new) (checkpointed (store self.old) l)) }
-        ensures device { IsTrue tells → (fault : ℕ) → result ≡ Err (refusal.Device fault) → (l : Ledger) → HasLedger (store self.old) l → HasAny (store self.new) (l ∷ beginning_next (store self.old) l ∷ []) }
+        ensures ok { IsTrue visible → OnOk result ((l : Ledger) → HasLedger (store self.old) l → HasLedger (store self.new) (checkpointed (store self.old) l)) }
+        ensures device { IsTrue visible → (fault : ℕ) → result ≡ Err (refusal.Device fault) → (l : Ledger) → HasLedger (store self.old) l → HasAny (store self.new) (l ∷ beginning_next (store self.old) l ∷ []) }
         ensures room { OnOk result ((store self.new).journal.used ≡ 0) }
         ensures memory { result ≡ Err refusal.Memory → store self.new ≡ store self.old }
         ensures number { last_commit (store self.new) ≡ last_commit (store self.old) }
@@ -199,5 +199,5 @@ pub trait Door {
         ensures refused { IfErr result (λ fault. is_no_space fault ≡ false) };
 
     /// Whatever a crash leaves in a sector is 512 bytes.
-    ghost whole: { IsTrue tells → (door : Self) → IsWhole (store door).sectors (store door).moments.state };
+    ghost whole: { IsTrue visible → (door : Self) → IsWhole (store door).sectors (store door).moments.state };
 }

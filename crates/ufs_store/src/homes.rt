@@ -16,10 +16,10 @@ use ufs_ledger::checkpoint;
 pub(crate) fn begin_next<D: Disk>(tables: &mut Tables, disk: &mut D) -> Result<(), StoreFault>
     requires going { tables.old.stop ≡ None }
     requires large { sector_count tables.old.journal.geometry ≤ D.size disk.old }
-    ensures crash { IsTrue D.tells → (l : Ledger) → HasLedger (state_of (D.size disk.old) (D.moments disk.old) (D.faults disk.old) tables.old) l
+    ensures crash { IsTrue D.visible → (l : Ledger) → HasLedger (state_of (D.size disk.old) (D.moments disk.old) (D.faults disk.old) tables.old) l
         → LeavesOnly D.keeps (IsLeftByAny (D.size disk.old) (l ∷ beginning_next (state_of (D.size disk.old) (D.moments disk.old) (D.faults disk.old) tables.old) l ∷ [])) (D.moments disk.old) (D.moments disk.new) }
-    ensures ok { IsTrue D.tells → OnOk result ((l : Ledger) → HasLedger (state_of (D.size disk.old) (D.moments disk.old) (D.faults disk.old) tables.old) l → HasLedger (state_of (D.size disk.new) (D.moments disk.new) (D.faults disk.new) tables.new) (checkpointed (state_of (D.size disk.old) (D.moments disk.old) (D.faults disk.old) tables.old) l)) }
-    ensures device { IsTrue D.tells → (fault : ℕ) → result ≡ Err (refusal.Device fault) → (l : Ledger) → HasLedger (state_of (D.size disk.old) (D.moments disk.old) (D.faults disk.old) tables.old) l → HasAny (state_of (D.size disk.new) (D.moments disk.new) (D.faults disk.new) tables.new) (l ∷ beginning_next (state_of (D.size disk.old) (D.moments disk.old) (D.faults disk.old) tables.old) l ∷ []) }
+    ensures ok { IsTrue D.visible → OnOk result ((l : Ledger) → HasLedger (state_of (D.size disk.old) (D.moments disk.old) (D.faults disk.old) tables.old) l → HasLedger (state_of (D.size disk.new) (D.moments disk.new) (D.faults disk.new) tables.new) (checkpointed (state_of (D.size disk.old) (D.moments disk.old) (D.faults disk.old) tables.old) l)) }
+    ensures device { IsTrue D.visible → (fault : ℕ) → result ≡ Err (refusal.Device fault) → (l : Ledger) → HasLedger (state_of (D.size disk.old) (D.moments disk.old) (D.faults disk.old) tables.old) l → HasAny (state_of (D.size disk.new) (D.moments disk.new) (D.faults disk.new) tables.new) (l ∷ beginning_next (state_of (D.size disk.old) (D.moments disk.old) (D.faults disk.old) tables.old) l ∷ []) }
     ensures memory { result ≡ Err refusal.Memory → (state_of (D.size disk.new) (D.moments disk.new) (D.faults disk.new) tables.new) ≡ (state_of (D.size disk.old) (D.moments disk.old) (D.faults disk.old) tables.old) }
     ensures room { OnOk result (tables.new.journal.used ≡ 0) }
     ensures number { tables.new.journal.number ≡ tables.old.journal.number }

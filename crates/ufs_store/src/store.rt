@@ -52,11 +52,11 @@ impl<D: Disk> Store<D> {
         requires large { sector_count (geometry_of superblock) ≤ D.size disk }
         requires first { free.first ≡ first_of_data (geometry_of superblock) }
         requires blocks { free.blocks ≡ superblock.blocks }
-        ensures crash { IsTrue D.tells → IsMountable (D.size disk) (D.moments disk).state superblock
+        ensures crash { IsTrue D.visible → IsMountable (D.size disk) (D.moments disk).state superblock
             → IfOk result (λ s. LeavesOnly D.keeps (IsLeftBy (D.size disk) (marking superblock (reads (D.moments disk)))) (D.moments disk) (⟦<Store<D> as Door>⟧.store s).moments) }
-        ensures err_crash { IsTrue D.tells → IsMountable (D.size disk) (D.moments disk).state superblock
+        ensures err_crash { IsTrue D.visible → IsMountable (D.size disk) (D.moments disk).state superblock
             → IfErr result (λ u. u.fault ≢ refusal.Memory → LeavesOnly D.keeps (IsLeftBy (D.size disk) (marking superblock (reads (D.moments disk)))) (D.moments disk) (D.moments u.disk)) }
-        ensures ok { IsTrue D.tells → IsMountable (D.size disk) (D.moments disk).state superblock
+        ensures ok { IsTrue D.visible → IsMountable (D.size disk) (D.moments disk).state superblock
             → IfOk result (λ s. HasLedger (⟦<Store<D> as Door>⟧.store s) (opening_ledger (in_use superblock) (reads (D.moments disk)))) }
         ensures going { IfOk result (λ s. (⟦<Store<D> as Door>⟧.store s).stop ≡ None) }
         ensures unassigned { IfOk result (λ s. (⟦<Store<D> as Door>⟧.store s).unassigned ≡ free) }
@@ -114,9 +114,9 @@ fn check_stop(tables: &Tables) -> Result<(), StoreFault>
 // Waits for what was written since the last barrier, if anything was.
 fn pass_barrier<D: Disk>(tables: &mut Tables, disk: &mut D) -> Result<(), StoreFault>
     requires going { tables.old.stop ≡ None }
-    ensures crash { IsTrue D.tells → (l : Ledger) → HasLedger (state_of (D.size disk.old) (D.moments disk.old) (D.faults disk.old) tables.old) l → LeavesOnly D.keeps (IsLeftBy (D.size disk.old) l) (D.moments disk.old) (D.moments disk.new) }
-    ensures ok { IsTrue D.tells → OnOk result ((l : Ledger) → HasLedger (state_of (D.size disk.old) (D.moments disk.old) (D.faults disk.old) tables.old) l → HasLedger (state_of (D.size disk.new) (D.moments disk.new) (D.faults disk.new) tables.new) (settled l)) }
-    ensures err { IsTrue D.tells → OnErr result ((l : Ledger) → HasLedger (state_of (D.size disk.old) (D.moments disk.old) (D.faults disk.old) tables.old) l → IsLedgerOf (D.size disk.new) (D.moments disk.new).state l) }
+    ensures crash { IsTrue D.visible → (l : Ledger) → HasLedger (state_of (D.size disk.old) (D.moments disk.old) (D.faults disk.old) tables.old) l → LeavesOnly D.keeps (IsLeftBy (D.size disk.old) l) (D.moments disk.old) (D.moments disk.new) }
+    ensures ok { IsTrue D.visible → OnOk result ((l : Ledger) → HasLedger (state_of (D.size disk.old) (D.moments disk.old) (D.faults disk.old) tables.old) l → HasLedger (state_of (D.size disk.new) (D.moments disk.new) (D.faults disk.new) tables.new) (settled l)) }
+    ensures err { IsTrue D.visible → OnErr result ((l : Ledger) → HasLedger (state_of (D.size disk.old) (D.moments disk.old) (D.faults disk.old) tables.old) l → IsLedgerOf (D.size disk.new) (D.moments disk.new).state l) }
     ensures nothing { tables.old.unsettled ≡ false → (D.moments disk.new ≡ D.moments disk.old) × (D.faults disk.new ≡ D.faults disk.old) }
     ensures idle { tables.old.unsettled ≡ false → state_of (D.size disk.new) (D.moments disk.new) (D.faults disk.new) tables.new ≡ state_of (D.size disk.old) (D.moments disk.old) (D.faults disk.old) tables.old }
     ensures rest { state_of (D.size disk.new) (D.moments disk.new) (D.faults disk.new) tables.new
@@ -148,16 +148,16 @@ fn commit_delta<D: Disk>(
 ) -> Result<u64, StoreFault>
     requires large { sector_count tables.old.journal.geometry ≤ D.size disk.old }
     requires inode { is_inode_number tables.old.journal.geometry log.old.inode ≡ true }
-    ensures crash { IsTrue D.tells → (records : List LogRecord) → IsDelta log.old.inode log.old.committed log.old.noted records → log.old.noted ≢ log.old.committed → (l : Ledger) → HasLedger (state_of (D.size disk.old) (D.moments disk.old) (D.faults disk.old) tables.old) l → MayCommitNext (state_of (D.size disk.old) (D.moments disk.old) (D.faults disk.old) tables.old) records l
+    ensures crash { IsTrue D.visible → (records : List LogRecord) → IsDelta log.old.inode log.old.committed log.old.noted records → log.old.noted ≢ log.old.committed → (l : Ledger) → HasLedger (state_of (D.size disk.old) (D.moments disk.old) (D.faults disk.old) tables.old) l → MayCommitNext (state_of (D.size disk.old) (D.moments disk.old) (D.faults disk.old) tables.old) records l
         → LeavesOnly D.keeps (IsLeftByAny (D.size disk.old) (stages (state_of (D.size disk.old) (D.moments disk.old) (D.faults disk.old) tables.old) records l)) (D.moments disk.old) (D.moments disk.new) }
-    ensures ok { IsTrue D.tells → (records : List LogRecord) → IsDelta log.old.inode log.old.committed log.old.noted records → log.old.noted ≢ log.old.committed
+    ensures ok { IsTrue D.visible → (records : List LogRecord) → IsDelta log.old.inode log.old.committed log.old.noted records → log.old.noted ≢ log.old.committed
         → OnOk result ((l : Ledger) → HasLedger (state_of (D.size disk.old) (D.moments disk.old) (D.faults disk.old) tables.old) l → MayCommitNext (state_of (D.size disk.old) (D.moments disk.old) (D.faults disk.old) tables.old) records l → HasLedger (state_of (D.size disk.new) (D.moments disk.new) (D.faults disk.new) tables.new) (after_commit (state_of (D.size disk.old) (D.moments disk.old) (D.faults disk.old) tables.old) records l)) }
-    ensures device { IsTrue D.tells → (records : List LogRecord) → IsDelta log.old.inode log.old.committed log.old.noted records → log.old.noted ≢ log.old.committed
+    ensures device { IsTrue D.visible → (records : List LogRecord) → IsDelta log.old.inode log.old.committed log.old.noted records → log.old.noted ≢ log.old.committed
         → (fault : ℕ) → result ≡ Err (refusal.Device fault) → (l : Ledger) → HasLedger (state_of (D.size disk.old) (D.moments disk.old) (D.faults disk.old) tables.old) l → MayCommitNext (state_of (D.size disk.old) (D.moments disk.old) (D.faults disk.old) tables.old) records l → HasAny (state_of (D.size disk.new) (D.moments disk.new) (D.faults disk.new) tables.new) (stages (state_of (D.size disk.old) (D.moments disk.old) (D.faults disk.old) tables.old) records l) }
-    ensures memory { IsTrue D.tells → result ≡ Err refusal.Memory → (l : Ledger) → HasLedger (state_of (D.size disk.old) (D.moments disk.old) (D.faults disk.old) tables.old) l → HasLedger (state_of (D.size disk.new) (D.moments disk.new) (D.faults disk.new) tables.new) l ⊎ HasLedger (state_of (D.size disk.new) (D.moments disk.new) (D.faults disk.new) tables.new) (checkpointed (state_of (D.size disk.old) (D.moments disk.old) (D.faults disk.old) tables.old) l) }
-    ensures empty_crash { IsTrue D.tells → log.old.noted ≡ log.old.committed → (l : Ledger) → HasLedger (state_of (D.size disk.old) (D.moments disk.old) (D.faults disk.old) tables.old) l → LeavesOnly D.keeps (IsLeftBy (D.size disk.old) l) (D.moments disk.old) (D.moments disk.new) }
-    ensures empty_ok { IsTrue D.tells → log.old.noted ≡ log.old.committed → OnOk result ((l : Ledger) → HasLedger (state_of (D.size disk.old) (D.moments disk.old) (D.faults disk.old) tables.old) l → HasLedger (state_of (D.size disk.new) (D.moments disk.new) (D.faults disk.new) tables.new) (settled l)) }
-    ensures empty_err { IsTrue D.tells → log.old.noted ≡ log.old.committed → OnErr result ((l : Ledger) → HasLedger (state_of (D.size disk.old) (D.moments disk.old) (D.faults disk.old) tables.old) l → IsLedgerOf (D.size disk.new) (D.moments disk.new).state l) }
+    ensures memory { IsTrue D.visible → result ≡ Err refusal.Memory → (l : Ledger) → HasLedger (state_of (D.size disk.old) (D.moments disk.old) (D.faults disk.old) tables.old) l → HasLedger (state_of (D.size disk.new) (D.moments disk.new) (D.faults disk.new) tables.new) l ⊎ HasLedger (state_of (D.size disk.new) (D.moments disk.new) (D.faults disk.new) tables.new) (checkpointed (state_of (D.size disk.old) (D.moments disk.old) (D.faults disk.old) tables.old) l) }
+    ensures empty_crash { IsTrue D.visible → log.old.noted ≡ log.old.committed → (l : Ledger) → HasLedger (state_of (D.size disk.old) (D.moments disk.old) (D.faults disk.old) tables.old) l → LeavesOnly D.keeps (IsLeftBy (D.size disk.old) l) (D.moments disk.old) (D.moments disk.new) }
+    ensures empty_ok { IsTrue D.visible → log.old.noted ≡ log.old.committed → OnOk result ((l : Ledger) → HasLedger (state_of (D.size disk.old) (D.moments disk.old) (D.faults disk.old) tables.old) l → HasLedger (state_of (D.size disk.new) (D.moments disk.new) (D.faults disk.new) tables.new) (settled l)) }
+    ensures empty_err { IsTrue D.visible → log.old.noted ≡ log.old.committed → OnErr result ((l : Ledger) → HasLedger (state_of (D.size disk.old) (D.moments disk.old) (D.faults disk.old) tables.old) l → IsLedgerOf (D.size disk.new) (D.moments disk.new).state l) }
     ensures nothing { log.old.noted ≡ log.old.committed → tables.old.unsettled ≡ false → (D.moments disk.new ≡ D.moments disk.old) × (D.faults disk.new ≡ D.faults disk.old) }
     ensures number { IfOk result (λ number. number ≡ tables.new.journal.number - 1) }
     ensures rises { log.old.noted ≢ log.old.committed → OnOk result (tables.new.journal.number ≡ tables.old.journal.number + 1) }
@@ -190,7 +190,7 @@ fn commit_delta<D: Disk>(
 impl<D: Disk> Door for Store<D> {
     ghost use Rattle.ufs_store.specs.Tables.{state_of};
 
-    ghost tells = { D.tells };
+    ghost visible = { D.visible };
 
     ghost keeps = { D.keeps };
 
@@ -268,5 +268,5 @@ impl<D: Disk> Door for Store<D> {
         begin_next(&mut self.tables, &mut self.disk)
     }
 
-    ghost whole = { λ told s. D.whole told s.disk };
+    ghost whole = { λ visible s. D.whole visible s.disk };
 }

@@ -26,11 +26,11 @@ pub(crate) fn mark_in_use<D: Disk>(
     requires same { geometry_of superblock.now ≡ geometry.now }
     requires form { IsTrue (is_super 1 superblock.now) }
     requires some { 1 ≤ D.size disk.old }
-    ensures crash { IsTrue D.tells → (before : Super) → superblock.now ≡ in_use before → IsMountable (D.size disk.old) (D.moments disk.old).state before
+    ensures crash { IsTrue D.visible → (before : Super) → superblock.now ≡ in_use before → IsMountable (D.size disk.old) (D.moments disk.old).state before
         → LeavesOnly D.keeps (IsLeftBy (D.size disk.old) (marking before (reads (D.moments disk.old)))) (D.moments disk.old) (D.moments disk.new) }
-    ensures ok { IsTrue D.tells → OnOk result ((before : Super) → superblock.now ≡ in_use before → IsMountable (D.size disk.old) (D.moments disk.old).state before
+    ensures ok { IsTrue D.visible → OnOk result ((before : Super) → superblock.now ≡ in_use before → IsMountable (D.size disk.old) (D.moments disk.old).state before
         → IsLedgerOf (D.size disk.new) (D.moments disk.new).state (opening_ledger superblock.now (reads (D.moments disk.old)))) }
-    ensures earlier { IsTrue D.tells → OnOk result ((before : Super) → superblock.now ≡ in_use before → IsMountable (D.size disk.old) (D.moments disk.old).state before
+    ensures earlier { IsTrue D.visible → OnOk result ((before : Super) → superblock.now ≡ in_use before → IsMountable (D.size disk.old) (D.moments disk.old).state before
         → Leaves (HasEarlier (geometry_of superblock.now) superblock.now.epoch) (D.moments disk.new).state) }
     ensures size { D.size disk.new ≡ D.size disk.old }
     ensures cause { HasCause (D.faults disk.old) (D.faults disk.new) result }

@@ -1,4 +1,4 @@
--- What holds of a server's parts over a disk of this form, whatever the disk tells.
+-- What holds of a server's parts over a disk of this form, whether the disk is visible or not.
 use Rattle.std.specs.Prelude.{ℕ, ◌≡◌, ◌+◌, length, nat_eq, true, false, Some, None}
 use Rattle.std.specs.List.{IsDistinct}
 use Rattle.std.specs.FinMap as map

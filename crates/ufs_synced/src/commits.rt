@@ -23,11 +23,11 @@ use ufs_stored::always_law;
 fn commit_log<D: Door>(door: &mut D, log: &mut NamesLog, fresh: &[u32]) -> Result<(), StoreFault>
     requires going { (D.store door.old).stop ≡ None }
     requires there { (block : ℕ) → has fresh.now block ≡ true → IsDataBlock (geometry_of_store (D.store door.old)) block }
-    ensures ok { IsTrue D.tells → OnOk result ((start : PosixTree) (history : List Entry) (p : Parts) → p.fresh ≡ fresh.now → p.names.tree.noted ≡ Some log.old → IsNameTable p.names.tree
+    ensures ok { IsTrue D.visible → OnOk result ((start : PosixTree) (history : List Entry) (p : Parts) → p.fresh ≡ fresh.now → p.names.tree.noted ≡ Some log.old → IsNameTable p.names.tree
         → IsGoing (D.store door.old) start history p → HasNames (D.store door.new) start history (with_names_committed p)) }
-    ensures err { IsTrue D.tells → OnErr result ((start : PosixTree) (history : List Entry) (p : Parts) → p.fresh ≡ fresh.now → p.names.tree.noted ≡ Some log.old → IsNameTable p.names.tree
+    ensures err { IsTrue D.visible → OnErr result ((start : PosixTree) (history : List Entry) (p : Parts) → p.fresh ≡ fresh.now → p.names.tree.noted ≡ Some log.old → IsNameTable p.names.tree
         → IsGoing (D.store door.old) start history p → IsOnDisk (D.store door.new) start history p) }
-    ensures moments { IsTrue D.tells → (start : PosixTree) (history : List Entry) (p : Parts) → p.fresh ≡ fresh.now → p.names.tree.noted ≡ Some log.old → IsNameTable p.names.tree
+    ensures moments { IsTrue D.visible → (start : PosixTree) (history : List Entry) (p : Parts) → p.fresh ≡ fresh.now → p.names.tree.noted ≡ Some log.old → IsNameTable p.names.tree
         → IsGoing (D.store door.old) start history p → IsExplainedBetween D.keeps (D.store door.old).sectors start history (D.store door.old).moments (D.store door.new).moments }
     ensures emptied { OnOk result (log.new ≡ []) }
     ensures kept { OnErr result (log.new ≡ log.old) }
@@ -63,11 +63,11 @@ pub fn commit_notes<D: Door>(
 ) -> Result<(), StoreFault>
     requires going { (D.store door.old).stop ≡ None }
     requires there { (block : ℕ) → has fresh.now block ≡ true → IsDataBlock (geometry_of_store (D.store door.old)) block }
-    ensures ok { IsTrue D.tells → OnOk result ((start : PosixTree) (history : List Entry) (p : Parts) → p.fresh ≡ fresh.now → p.names.tree.noted ≡ notes.old → IsNameTable p.names.tree
+    ensures ok { IsTrue D.visible → OnOk result ((start : PosixTree) (history : List Entry) (p : Parts) → p.fresh ≡ fresh.now → p.names.tree.noted ≡ notes.old → IsNameTable p.names.tree
         → IsGoing (D.store door.old) start history p → HasNames (D.store door.new) start history (with_names_committed p)) }
-    ensures err { IsTrue D.tells → OnErr result ((start : PosixTree) (history : List Entry) (p : Parts) → p.fresh ≡ fresh.now → p.names.tree.noted ≡ notes.old → IsNameTable p.names.tree
+    ensures err { IsTrue D.visible → OnErr result ((start : PosixTree) (history : List Entry) (p : Parts) → p.fresh ≡ fresh.now → p.names.tree.noted ≡ notes.old → IsNameTable p.names.tree
         → IsGoing (D.store door.old) start history p → IsOnDisk (D.store door.new) start history p) }
-    ensures moments { IsTrue D.tells → (start : PosixTree) (history : List Entry) (p : Parts) → p.fresh ≡ fresh.now → p.names.tree.noted ≡ notes.old → IsNameTable p.names.tree
+    ensures moments { IsTrue D.visible → (start : PosixTree) (history : List Entry) (p : Parts) → p.fresh ≡ fresh.now → p.names.tree.noted ≡ notes.old → IsNameTable p.names.tree
         → IsGoing (D.store door.old) start history p → IsExplainedBetween D.keeps (D.store door.old).sectors start history (D.store door.old).moments (D.store door.new).moments }
     ensures emptied { OnOk result (notes.new ≡ Some []) }
     ensures kept { OnErr result (notes.new ≡ notes.old) }

@@ -19,11 +19,11 @@ use ufs_store::{Door, StoreFault};
 fn write_zero<D: Door>(door: &mut D, block: u32) -> Result<(), StoreFault>
     requires going { (D.store door.old).stop ≡ None }
     requires there { IsDataBlock (geometry_of_store (D.store door.old)) block }
-    ensures ok { IsTrue D.tells → OnOk result ((start : PosixTree) (history : List Entry) (p : Parts) (done : List ℕ) → has p.fresh block ≡ true
+    ensures ok { IsTrue D.visible → OnOk result ((start : PosixTree) (history : List Entry) (p : Parts) (done : List ℕ) → has p.fresh block ≡ true
         → HasZeros (D.store door.old) start history p done → HasZeros (D.store door.new) start history p (done ++ block ∷ [])) }
-    ensures err { IsTrue D.tells → OnErr result ((start : PosixTree) (history : List Entry) (p : Parts) (done : List ℕ) → has p.fresh block ≡ true
+    ensures err { IsTrue D.visible → OnErr result ((start : PosixTree) (history : List Entry) (p : Parts) (done : List ℕ) → has p.fresh block ≡ true
         → HasZeros (D.store door.old) start history p done → HasStopped (D.store door.new) start history p) }
-    ensures moments { IsTrue D.tells → (start : PosixTree) (history : List Entry) (p : Parts) (done : List ℕ) → has p.fresh block ≡ true
+    ensures moments { IsTrue D.visible → (start : PosixTree) (history : List Entry) (p : Parts) (done : List ℕ) → has p.fresh block ≡ true
         → HasZeros (D.store door.old) start history p done → IsExplainedBetween D.keeps (D.store door.old).sectors start history (D.store door.old).moments (D.store door.new).moments }
     ensures passed { OnOk result (D.store door.new ≡ record (D.store door.old) { moments = (D.store door.new).moments; unsettled = (D.store door.new).unsettled }) }
     ensures rest { D.store door.new ≡ record (D.store door.old) { moments = (D.store door.new).moments; faults = (D.store door.new).faults; unsettled = (D.store door.new).unsettled; stop = (D.store door.new).stop } }
@@ -41,9 +41,9 @@ fn write_zero<D: Door>(door: &mut D, block: u32) -> Result<(), StoreFault>
 fn write_zeros<D: Door>(door: &mut D, fresh: &[u32]) -> Result<(), StoreFault>
     requires going { (D.store door.old).stop ≡ None }
     requires there { (block : ℕ) → has fresh.now block ≡ true → IsDataBlock (geometry_of_store (D.store door.old)) block }
-    ensures ok { IsTrue D.tells → OnOk result ((start : PosixTree) (history : List Entry) (p : Parts) → p.fresh ≡ fresh.now → HasZeros (D.store door.old) start history p [] → HasZeros (D.store door.new) start history p p.fresh) }
-    ensures err { IsTrue D.tells → OnErr result ((start : PosixTree) (history : List Entry) (p : Parts) → p.fresh ≡ fresh.now → HasZeros (D.store door.old) start history p [] → HasStopped (D.store door.new) start history p) }
-    ensures moments { IsTrue D.tells → (start : PosixTree) (history : List Entry) (p : Parts) → p.fresh ≡ fresh.now → HasZeros (D.store door.old) start history p []
+    ensures ok { IsTrue D.visible → OnOk result ((start : PosixTree) (history : List Entry) (p : Parts) → p.fresh ≡ fresh.now → HasZeros (D.store door.old) start history p [] → HasZeros (D.store door.new) start history p p.fresh) }
+    ensures err { IsTrue D.visible → OnErr result ((start : PosixTree) (history : List Entry) (p : Parts) → p.fresh ≡ fresh.now → HasZeros (D.store door.old) start history p [] → HasStopped (D.store door.new) start history p) }
+    ensures moments { IsTrue D.visible → (start : PosixTree) (history : List Entry) (p : Parts) → p.fresh ≡ fresh.now → HasZeros (D.store door.old) start history p []
         → IsExplainedBetween D.keeps (D.store door.old).sectors start history (D.store door.old).moments (D.store door.new).moments }
     ensures passed { OnOk result (D.store door.new ≡ record (D.store door.old) { moments = (D.store door.new).moments; unsettled = (D.store door.new).unsettled }) }
     ensures rest { D.store door.new ≡ record (D.store door.old) { moments = (D.store door.new).moments; faults = (D.store door.new).faults; unsettled = (D.store door.new).unsettled; stop = (D.store door.new).stop } }
@@ -63,9 +63,9 @@ fn write_zeros<D: Door>(door: &mut D, fresh: &[u32]) -> Result<(), StoreFault>
 pub(crate) fn make_ready<D: Door>(door: &mut D, fresh: &[u32]) -> Result<(), StoreFault>
     requires going { (D.store door.old).stop ≡ None }
     requires there { (block : ℕ) → has fresh.now block ≡ true → IsDataBlock (geometry_of_store (D.store door.old)) block }
-    ensures ok { IsTrue D.tells → OnOk result ((start : PosixTree) (history : List Entry) (p : Parts) → p.fresh ≡ fresh.now → IsGoing (D.store door.old) start history p → HasSpelled (D.store door.new) start history p) }
-    ensures err { IsTrue D.tells → OnErr result ((start : PosixTree) (history : List Entry) (p : Parts) → p.fresh ≡ fresh.now → IsGoing (D.store door.old) start history p → HasStopped (D.store door.new) start history p) }
-    ensures moments { IsTrue D.tells → (start : PosixTree) (history : List Entry) (p : Parts) → p.fresh ≡ fresh.now → IsGoing (D.store door.old) start history p
+    ensures ok { IsTrue D.visible → OnOk result ((start : PosixTree) (history : List Entry) (p : Parts) → p.fresh ≡ fresh.now → IsGoing (D.store door.old) start history p → HasSpelled (D.store door.new) start history p) }
+    ensures err { IsTrue D.visible → OnErr result ((start : PosixTree) (history : List Entry) (p : Parts) → p.fresh ≡ fresh.now → IsGoing (D.store door.old) start history p → HasStopped (D.store door.new) start history p) }
+    ensures moments { IsTrue D.visible → (start : PosixTree) (history : List Entry) (p : Parts) → p.fresh ≡ fresh.now → IsGoing (D.store door.old) start history p
         → IsExplainedBetween D.keeps (D.store door.old).sectors start history (D.store door.old).moments (D.store door.new).moments }
     ensures passed { OnOk result (D.store door.new ≡ record (D.store door.old) { moments = (D.store door.new).moments; unsettled = (D.store door.new).unsettled }) }
     ensures rest { D.store door.new ≡ record (D.store door.old) { moments = (D.store door.new).moments; faults = (D.store door.new).faults; unsettled = (D.store door.new).unsettled; stop = (D.store door.new).stop } }

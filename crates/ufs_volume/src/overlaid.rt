@@ -38,11 +38,11 @@ pub(crate) fn read_journal<D: Disk>(
     image: &ImageSuperblock,
 ) -> Result<CommittedList, RecoverFault>
     requires { sector_count image.now.geometry ≤ D.size disk.old }
-    ensures committed { IsTrue D.tells → IfOk result (λ list. list ≡ committed image.now.geometry image.now.superblock.epoch (reads (D.moments disk.old))) }
-    ensures whole { IsTrue D.tells → OnOk result (bad_sector image.now.geometry image.now.superblock (reads (D.moments disk.old)) ≡ None) }
-    ensures bad { IsTrue D.tells → IfErr result (IsJournalRefusal (bad_sector image.now.geometry image.now.superblock (reads (D.moments disk.old)))) }
+    ensures committed { IsTrue D.visible → IfOk result (λ list. list ≡ committed image.now.geometry image.now.superblock.epoch (reads (D.moments disk.old))) }
+    ensures whole { IsTrue D.visible → OnOk result (bad_sector image.now.geometry image.now.superblock (reads (D.moments disk.old)) ≡ None) }
+    ensures bad { IsTrue D.visible → IfErr result (IsJournalRefusal (bad_sector image.now.geometry image.now.superblock (reads (D.moments disk.old)))) }
     ensures blames_none { IfErr result BlamesNone }
-    ensures read_only { IsTrue D.tells → IsReadOnly D.keeps (D.moments disk.old) (D.moments disk.new) }
+    ensures read_only { IsTrue D.visible → IsReadOnly D.keeps (D.moments disk.old) (D.moments disk.new) }
     ensures size { D.size disk.new ≡ D.size disk.old }
     ensures passed { OnOk result (D.faults disk.new ≡ D.faults disk.old) }
     ensures cause { IfErr result (HasFaultCause (D.faults disk.old) (D.faults disk.new)) }
@@ -54,7 +54,7 @@ pub(crate) fn read_journal<D: Disk>(
 }
 
 // Adds a transaction behind the others. Those that `scan` gives can always be folded; its contract says so
-// only of a disk that tells what it holds, and an overlay wants it of each, so it is asked here again.
+// only of a visible disk, and an overlay wants it of each, so it is asked here again.
 fn add_one(overlay: &mut Overlay, geometry: &Geometry, one: &Committed) -> Result<(), RecoverFault>
     requires limits { IsGeometry geometry.now }
     requires same { geometry_of overlay.old ≡ geometry.now }

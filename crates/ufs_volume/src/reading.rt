@@ -54,14 +54,14 @@ fn with_list(
 /// journal once, and of the inode table those sectors that records of committed transactions name; writes
 /// nothing.
 pub fn read_volume<D: Disk>(alloc: Global, disk: &mut D) -> Result<FoldedVolume, RecoverFault>
-    ensures taken { IsTrue D.tells → IfOk result (λ v. volume (D.size disk.old) (reads (D.moments disk.old)) ≡ Ok (volume_in v (reads (D.moments disk.old)))) }
-    ensures added { IsTrue D.tells → IfOk result (λ v. HasAdded v.overlay (committed_in v (reads (D.moments disk.old)))) }
-    ensures count { IsTrue D.tells → IfOk result (λ v. v.committed ≡ length (committed_in v (reads (D.moments disk.old)))) }
-    ensures highest { IsTrue D.tells → IfOk result (λ v. v.highest ≡ highest_number (committed_in v (reads (D.moments disk.old)))) }
+    ensures taken { IsTrue D.visible → IfOk result (λ v. volume (D.size disk.old) (reads (D.moments disk.old)) ≡ Ok (volume_in v (reads (D.moments disk.old)))) }
+    ensures added { IsTrue D.visible → IfOk result (λ v. HasAdded v.overlay (committed_in v (reads (D.moments disk.old)))) }
+    ensures count { IsTrue D.visible → IfOk result (λ v. v.committed ≡ length (committed_in v (reads (D.moments disk.old)))) }
+    ensures highest { IsTrue D.visible → IfOk result (λ v. v.highest ≡ highest_number (committed_in v (reads (D.moments disk.old)))) }
     ensures large { IfOk result (λ v. sector_count v.superblock.geometry ≤ D.size disk.old) }
-    ensures refused { IsTrue D.tells → IfErr result (IsWhyNot (volume (D.size disk.old) (reads (D.moments disk.old)))) }
+    ensures refused { IsTrue D.visible → IfErr result (IsWhyNot (volume (D.size disk.old) (reads (D.moments disk.old)))) }
     ensures blames_none { IfErr result BlamesNone }
-    ensures read_only { IsTrue D.tells → IsReadOnly D.keeps (D.moments disk.old) (D.moments disk.new) }
+    ensures read_only { IsTrue D.visible → IsReadOnly D.keeps (D.moments disk.old) (D.moments disk.new) }
     ensures size { D.size disk.new ≡ D.size disk.old }
     ensures passed { OnOk result (D.faults disk.new ≡ D.faults disk.old) }
     ensures cause { IfErr result (HasFaultCause (D.faults disk.old) (D.faults disk.new)) }

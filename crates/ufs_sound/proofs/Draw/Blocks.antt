@@ -18,7 +18,7 @@ use Rattle.ufs_sound.proofs.Keys.{itself, alike}
 use Rattle.ufs_sound.proofs.Exchange.{value_is, names_single}
 use Rattle.ufs_sound.proofs.Draw.Setting.{Draw, outcome, push, names_kept, names_same, rising}
 use Rattle.ufs_sound.proofs.Draw.Cases.{file_case, names_case, store_same}
-use Rattle.ufs_sound.specs.Parts.{IsDiskTold}
+use Rattle.ufs_sound.specs.Parts.{IsDiskVisible}
 
 module _ (draw : Draw) where
   open draw use {k, views, i, v, l, live, o, at, m}
@@ -74,15 +74,15 @@ module _ (draw : Draw) where
               let q = o.committed_held.dropped g bs b (extents_same g bs ext) has was in
               (q.0, dropped_stay g q.0 q.1, q.2)
 
-  pub disk_after : IsDiskTold k → HasDiskBytes next_world
-  disk_after told g p is = subst (λ (s : StorePart). IsOnDisk p s.state) (sym (store_same draw)) (⊎_elim
+  pub disk_after : IsDiskVisible k → HasDiskBytes next_world
+  disk_after visible g p is = subst (λ (s : StorePart). IsOnDisk p s.state) (sym (store_same draw)) (⊎_elim
       (λ (x : Has (g, p) l.files × ((q : FilePart) × Has (g, q) v.files × (o.world.file g ≡ Some q) × (p ≡ record q { bytes = p.bytes; changes = q.changes ++ change_of g (step_in before e); blocks = p.blocks; quarantine = p.quarantine; spare = p.spare; loaded = p.loaded }))).
       λ place b there out.
       let was = m.loaded g x.1.0 p x.1.1 x.0 place b there out in
-      o.disk_bytes told g x.1.0 x.1.2 place b was.0 was.1 ∙ sym was.2)
+      o.disk_bytes visible g x.1.0 x.1.2 place b was.0 was.1 ∙ sym was.2)
       (⊎_elim
       (λ (x : (g ≡ before.next) × (p ≡ new_file)). λ place b there out. let n : slice_get [] place ≡ Some b = ap (λ (z : FilePart). slice_get z.blocks place) (sym x.1) ∙ there in absurd (no_block place b n))
-      (λ (x : (count eqb g v.files ≡ 0) × (count eqb g l.files ≡ 0) × (o.world.file g ≡ Some p)). o.disk_bytes told g p x.2))
+      (λ (x : (count eqb g v.files ≡ 0) × (count eqb g l.files ≡ 0) × (o.world.file g ≡ Some p)). o.disk_bytes visible g p x.2))
       ((file_case draw) g p is))
     where
       no_block : (place b : ℕ) → slice_get [] place ≡ Some b → ⊥

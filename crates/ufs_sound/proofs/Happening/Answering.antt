@@ -23,7 +23,7 @@ module _ (S : Showing) (k : Start) (n : ℕ) (v : View) (s0 : StorePart) (faults
     answers_here = record {
       kept = blocks_stay v answers s0 a0 p p (same_parts_keep v answers its_file) (λ g bs e. e) (λ g bs h. h) (λ kept. kept);
       rise = numbers_stay v answers s0 a0 p p (λ g. refl) refl (same_parts_know v answers its_file) refl refl;
-      disk = λ told. disk_stays k v answers s0 a0 (λ b z l. refl) (same_parts_load v answers its_file) (λ g x a place b i o. inr refl);
+      disk = λ visible. disk_stays k v answers s0 a0 (λ b z l. refl) (same_parts_load v answers its_file) (λ g x a place b i o. inr refl);
       shown = inl (record { mark = refl; past = refl; lent = refl; lent_names = refl; state = refl; paths = refl; names = refl; files = λ g. refl });
       answers = record {
         single = λ l m. may.new m;

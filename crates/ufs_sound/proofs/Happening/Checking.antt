@@ -36,7 +36,7 @@ module _ (S : Showing) (k : Start) (n : ℕ) (v : View) (p0 : NamesPart) (s0 : S
     checks_here = record {
       kept = blocks_stay v checked s0 t0 p0 q0 (same_parts_keep v checked own_file) (λ g bs e. e) (λ g bs h. h) dirs_kept;
       rise = numbers_stay v checked s0 t0 p0 q0 (λ g. refl) refl (same_parts_know v checked own_file) refl refl;
-      disk = λ told. disk_stays k v checked s0 t0 (may.others told) (same_parts_load v checked own_file) (λ g x a place b i o. inr (may.own told g x a place b i o));
+      disk = λ visible. disk_stays k v checked s0 t0 (may.others visible) (same_parts_load v checked own_file) (λ g x a place b i o. inr (may.own visible g x a place b i o));
       shown = inr (record {
         through = c.through;
         last = may.last;
@@ -44,8 +44,8 @@ module _ (S : Showing) (k : Start) (n : ℕ) (v : View) (p0 : NamesPart) (s0 : S
         past = refl;
         lent = λ g m a. absurd a;
         lent_names = omega arith;
-        inside = λ told h had shows d i. may.inside told h (lent_had k v single s0 p0 names_there h had) shows d i;
-        end = λ told h has shows. may.end told h has.names shows;
+        inside = λ visible h had shows d i. may.inside visible h (lent_had k v single s0 p0 names_there h had) shows d i;
+        end = λ visible h has shows. may.end visible h has.names shows;
       });
       answers = answers_stay v checked s0 t0 refl refl refl refl refl refl;
     }

@@ -26,7 +26,7 @@ module _ (S : Showing) (k : Start) (n : ℕ) (v : View) (s0 : StorePart) (f : Fa
     fails_here = record {
       kept = blocks_stay v fails s0 (failed n f s0) p p (same_parts_keep v fails file_is) (λ g bs e. e) (λ g bs h. h) (λ kept. kept);
       rise = numbers_stay v fails s0 (failed n f s0) p p (λ g. refl) refl (same_parts_know v fails file_is) refl refl;
-      disk = λ told. disk_stays k v fails s0 (failed n f s0) (may.others told) (same_parts_load v fails file_is) (λ g x a place b i o. inr (may.own told g x a place b i o));
+      disk = λ visible. disk_stays k v fails s0 (failed n f s0) (may.others visible) (same_parts_load v fails file_is) (λ g x a place b i o. inr (may.own visible g x a place b i o));
       shown = inr (record {
         through = f.through;
         last = inr may.last;
@@ -34,8 +34,8 @@ module _ (S : Showing) (k : Start) (n : ℕ) (v : View) (s0 : StorePart) (f : Fa
         past = refl;
         lent = λ g m a. absurd a;
         lent_names = omega arith;
-        inside = λ told h had shows d i. may.inside told h (lent_had k v single s0 p there h had) shows d i;
-        end = λ told h has shows. may.inside told h (lent_has k v single s0 p there h has) shows f.state may.last;
+        inside = λ visible h had shows d i. may.inside visible h (lent_had k v single s0 p there h had) shows d i;
+        end = λ visible h has shows. may.inside visible h (lent_has k v single s0 p there h has) shows f.state may.last;
       });
       answers = record {
         single = new_once;

@@ -78,13 +78,13 @@ module _ (S : Showing) (k : Start) (n : ℕ) (v : View) (g : ℕ) (x : FilePart)
         names_known = λ m _. (omega arith, m);
         names_born = λ h i. inl i;
       };
-      disk = λ told. disk_stays k v commits s0 (made s0) (may.others told)
+      disk = λ visible. disk_stays k v commits s0 (made s0) (may.others visible)
           (λ h z y a b place c got out.
           let e = (mine h z a).1 in let f = (new h y b).1 in (
             ap (λ (u : FilePart). slice_get u.blocks place) e ∙ ap (λ (u : FilePart). slice_get u.blocks place) (sym f) ∙ got,
             ap (λ u. is_loaded u place) e ∙ ap (λ u. is_loaded u place) (sym f) ∙ out,
           ))
-          (λ h z a place b i o. let e = sym (mine h z a).1 in inr (may.own told place b (ap (λ (u : FilePart). slice_get u.blocks place) e ∙ i) (ap (λ u. is_loaded u place) e ∙ o)));
+          (λ h z a place b i o. let e = sym (mine h z a).1 in inr (may.own visible place b (ap (λ (u : FilePart). slice_get u.blocks place) e ∙ i) (ap (λ u. is_loaded u place) e ∙ o)));
       shown = inr (record {
         through = through;
         last = may.last;
@@ -93,8 +93,8 @@ module _ (S : Showing) (k : Start) (n : ℕ) (v : View) (g : ℕ) (x : FilePart)
         lent = λ h m a. ⊎_elim (λ (e : (h, m) ≡ (g, length x.changes)).
             (x, subst (λ y. Has (y, x) v.files) (sym (ap (λ (q : ℕ × ℕ). q.0) e)) there, (let c = ap (λ (q : ℕ × ℕ). q.1) e in omega arith))) (λ e. absurd e) a;
         lent_names = omega arith;
-        inside = λ told h had shows d i. may.inside told h (λ e. had.files g x there (subst (Has {A = ℕ × ℕ} (g, length x.changes)) e (inl refl))) shows d i;
-        end = λ told h has shows. may.end told h (has.files g x there) shows;
+        inside = λ visible h had shows d i. may.inside visible h (λ e. had.files g x there (subst (Has {A = ℕ × ℕ} (g, length x.changes)) e (inl refl))) shows d i;
+        end = λ visible h has shows. may.end visible h (has.files g x there) shows;
       });
       answers = answers_stay v commits s0 (made s0) refl refl refl refl refl refl;
     }

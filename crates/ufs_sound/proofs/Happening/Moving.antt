@@ -48,7 +48,7 @@ module _ (S : Showing) (k : Start) (n : ℕ) (v : View) (m : Moved) (may : MayMo
       kept = blocks_stay v w s t p q (λ g x y a b. (file_moved g x y a b).kept) extents_same names_moved.dropped (λ was b h. names_moved.blocks b (was b (subst (λ (x : StorePart). Has b x.dirs) store_moved h)));
       rise = numbers_stay v w s t p q number_same (ap (λ (x : StorePart). x.names) store_moved)
           (λ g x y a b. let e = (file_moved g x y a b).same in (ap (λ (u : FilePart). u.known) e, ap (λ (u : FilePart). u.born) e)) (ap (λ (u : NamesPart). u.known) names_moved.same) (ap (λ (u : NamesPart). u.born) names_moved.same);
-      disk = λ told. disk_stays k v w s t (λ b z l. state_same b) (λ g x y a b. (file_moved g x y a b).loaded) (λ g x a place b i o. inr (state_same b));
+      disk = λ visible. disk_stays k v w s t (λ b z l. state_same b) (λ g x y a b. (file_moved g x y a b).loaded) (λ g x a place b i o. inr (state_same b));
       shown = inl (quiet s t store_moved);
       answers = answers_stay v w s t refl refl refl (ap (λ (x : StorePart). x.faults) store_moved) (ap (λ (x : StorePart). x.stop) store_moved) (ap (λ (x : StorePart). x.shortages) store_moved);
     }

@@ -43,7 +43,7 @@ module _ (S : Showing) (k : Start) (n : ℕ) (v : View) (p0 : NamesPart) (s0 : S
         names_known = λ l few. (omega arith, omega arith);
         names_born = may.born;
       };
-      disk = λ told. disk_stays k v named s0 t0 (may.others told) (same_parts_load v named file_is) (λ g x a place b i o. inr (may.own told g x a place b i o));
+      disk = λ visible. disk_stays k v named s0 t0 (may.others visible) (same_parts_load v named file_is) (λ g x a place b i o. inr (may.own visible g x a place b i o));
       shown = inr (record {
         through = c.through;
         last = may.last;
@@ -51,8 +51,8 @@ module _ (S : Showing) (k : Start) (n : ℕ) (v : View) (p0 : NamesPart) (s0 : S
         past = refl;
         lent = λ g m a. absurd a;
         lent_names = omega arith;
-        inside = λ told h had shows d i. may.inside told h had.names shows d i;
-        end = λ told h has shows. may.end told h has.names shows;
+        inside = λ visible h had shows d i. may.inside visible h had.names shows d i;
+        end = λ visible h has shows. may.end visible h has.names shows;
       });
       answers = answers_stay v named s0 t0 refl refl refl refl refl refl;
     }

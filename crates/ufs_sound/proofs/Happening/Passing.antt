@@ -32,7 +32,7 @@ module _ (S : Showing) (k : Start) (n : ℕ) (v : View) (s0 : StorePart) (lent :
     passes_here = record {
       kept = blocks_stay v passes s0 t0 p p (same_parts_keep v passes file_is) (λ g bs e. e) (λ g bs h. h) (λ kept. kept);
       rise = numbers_stay v passes s0 t0 p p (λ g. refl) refl (same_parts_know v passes file_is) refl refl;
-      disk = λ told. disk_stays k v passes s0 t0 (may.others told) (same_parts_load v passes file_is) (may.own told);
+      disk = λ visible. disk_stays k v passes s0 t0 (may.others visible) (same_parts_load v passes file_is) (may.own visible);
       shown = inr (record {
         through = c.through;
         last = may.last;
@@ -40,8 +40,8 @@ module _ (S : Showing) (k : Start) (n : ℕ) (v : View) (s0 : StorePart) (lent :
         past = refl;
         lent = λ g m a. let x = may.lends.files g m a in (x.0, x.1, (let e = x.2 in omega arith));
         lent_names = lent_few;
-        inside = λ told h had shows d i. may.inside told h (lent_had k v single s0 p there h had) shows d i;
-        end = λ told h has shows. may.end told h (has_hand h has) shows;
+        inside = λ visible h had shows d i. may.inside visible h (lent_had k v single s0 p there h had) shows d i;
+        end = λ visible h has shows. may.end visible h (has_hand h has) shows;
       });
       answers = answers_stay v passes s0 t0 refl refl refl refl refl refl;
     }

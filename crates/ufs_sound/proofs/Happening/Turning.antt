@@ -37,8 +37,8 @@ module _ (S : Showing) (k : Start) (n : ℕ) (v : View) (s0 : StorePart) (has : 
       past = ap (λ (z : StorePart). z.past) is;
       lent = λ g m h. let x = l.files g m (subst (Has (g, m)) (ap (λ (z : StorePart). z.lent) is) h) in (x.0, x.1, (let e = x.2 in omega arith));
       lent_names = let a = ap (λ (z : StorePart). z.lent_names) is in let b = lent_few in omega arith;
-      inside = λ told h c sh x none. absurd none;
-      end = λ told h c sh. subst (λ (z : StorePart). S.Shows k.tree h (committed z) z.names z.paths z.state) (sym is) sh;
+      inside = λ visible h c sh x none. absurd none;
+      end = λ visible h c sh. subst (λ (z : StorePart). S.Shows k.tree h (committed z) z.names z.paths z.state) (sym is) sh;
     }
 
     pub turn_on : RemakesOn S k n v turned s t p q
@@ -48,7 +48,7 @@ module _ (S : Showing) (k : Start) (n : ℕ) (v : View) (s0 : StorePart) (has : 
           (λ kept b h. subst (λ (u : NamesPart). Has b u.blocks) (sym names_stay) (kept b (subst (λ (z : StorePart). Has b z.dirs) is h)));
       rise = numbers_stay v turned s t p q (λ g. ap (λ z. committed z g) is) (ap (λ (z : StorePart). z.names) is) (same_parts_know v turned file_here)
           (ap (λ (u : NamesPart). u.known) names_stay) (ap (λ (u : NamesPart). u.born) names_stay);
-      disk = λ told. disk_stays k v turned s t (λ b z m. ap (λ (z : StorePart). block_on z.state b) is) (same_parts_load v turned file_here) (λ g x a place b i o. inr (ap (λ (z : StorePart). block_on z.state b) is));
+      disk = λ visible. disk_stays k v turned s t (λ b z m. ap (λ (z : StorePart). block_on z.state b) is) (same_parts_load v turned file_here) (λ g x a place b i o. inr (ap (λ (z : StorePart). block_on z.state b) is));
       shown = inr turns;
       answers = answers_stay v turned s t refl refl refl (ap (λ (z : StorePart). z.faults) is) (ap (λ (z : StorePart). z.stop) is) (ap (λ (z : StorePart). z.shortages) is);
     }

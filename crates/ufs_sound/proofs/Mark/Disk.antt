@@ -8,7 +8,7 @@ use Rattle.ufs_sound.specs.Parts.{FilePart, View, uses, file_uses}
 use Rattle.ufs_sound.specs.DiskBytes.{HasDiskBytes, is_loaded, block_in, block_on}
 use Rattle.ufs_sound.proofs.Owning.{total_two, count_has, some_view}
 use Rattle.ufs_sound.proofs.Keys.{itself, alike}
-use Rattle.ufs_sound.specs.Parts.{IsDiskTold}
+use Rattle.ufs_sound.specs.Parts.{IsDiskVisible}
 use Rattle.ufs_sound.proofs.Mark.Setting.{Mark, Remade, remaking}
 
 has_weighs : {A : Type 0} (m : A → ℕ) (x : A) (xs : List A) → Has x xs → m x ≤ weigh m xs
@@ -30,13 +30,13 @@ module _ (mark : Mark) where
   open mark use {keeps, S, k, word, views, i, v, w, o, at, m}
   open remaking mark use {remade, single_files, r, names_are_kept, file_case, file_present}
 
-  pub disk_remade : IsDiskTold k → HasDiskBytes remade
-  disk_remade told g y is place b there out = ⊎_elim
+  pub disk_remade : IsDiskVisible k → HasDiskBytes remade
+  disk_remade visible g y is place b there out = ⊎_elim
       (λ (c : (x : FilePart) × Has (g, x) v.files × (o.world.file g ≡ Some x) × Has (g, y) w.files × Remade x y).
       let bytes : y.bytes ≡ c.0.bytes = ap (λ (z : FilePart). z.bytes) c.4 in
       let goal : block_on remade.store.state b ≡ block_in c.0.bytes place = ⊎_elim (λ e. e)
-      (λ (z : (slice_get c.0.blocks place ≡ Some b) × (is_loaded c.0 place ≡ false) × (block_on remade.store.state b ≡ block_on o.world.store.state b)). z.2 ∙ o.disk_bytes told g c.0 c.2 place b z.0 z.1)
-      ((r.disk told).loaded g c.0 y c.1 c.3 place b there out) in
+      (λ (z : (slice_get c.0.blocks place ≡ Some b) × (is_loaded c.0 place ≡ false) × (block_on remade.store.state b ≡ block_on o.world.store.state b)). z.2 ∙ o.disk_bytes visible g c.0 c.2 place b z.0 z.1)
+      ((r.disk visible).loaded g c.0 y c.1 c.3 place b there out) in
       goal ∙ ap (λ z. block_in z place) (sym bytes))
       (λ (c : (count eqb g v.files ≡ 0) × (o.world.file g ≡ Some y)).
       let s = some_view eqb itself alike (λ (u : View). u.files) o.world.file views o.one_hand.files g y c.1 in
@@ -44,7 +44,7 @@ module _ (mark : Mark) where
       let two = total_two (uses b) views i s.0 v s.1 at s.2 ne in
       let one_use = used_by b s.1 g y place s.3 there in
       let sum = o.blocks_apart.same b in let most = o.blocks_apart.once b in
-      (r.disk told).disk b (omega arith) (omega arith) ∙ o.disk_bytes told g y c.1 place b there out)
+      (r.disk visible).disk b (omega arith) (omega arith) ∙ o.disk_bytes visible g y c.1 place b there out)
       (file_case g y is)
     where
       apart : (j : ℕ) (u : View) → get_elem? views j ≡ some u → Has (g, y) u.files → count eqb g v.files ≡ 0 → j ≡ i → ⊥

@@ -12,8 +12,8 @@ use Rattle.ufs_catalog.proofs.Quiet.{read_more}
 use Rattle.ufs_catalog.proofs.dirs.read_slots.Goals as goal
 
 pub returns-in_err-read_extent-clause-read_only : goal.returns-in_err-read_extent-clause-read_only
-returns-in_err-read_extent-clause-read_only g c told =
-    read_more g.D.Disk.keeps (g.D.Disk.moments c.args.disk.now) (g.D.Disk.moments c.loop-extent.disk) (g.D.Disk.moments c.read_extent.new.disk) (c.loop-extent.invariant.read_only told) (c.read_extent.ensures.read_only told)
+returns-in_err-read_extent-clause-read_only g c visible =
+    read_more g.D.Disk.keeps (g.D.Disk.moments c.args.disk.now) (g.D.Disk.moments c.loop-extent.disk) (g.D.Disk.moments c.read_extent.new.disk) (c.loop-extent.invariant.read_only visible) (c.read_extent.ensures.read_only visible)
 
 pub loop-extent-preserved : goal.loop-extent-preserved
 loop-extent-preserved g c =
@@ -24,15 +24,15 @@ loop-extent-preserved g c =
     let items : c.used_extents-extent-items.result.now ≡ xs = c.used_extents-extent-items.ensures in
     let less : k < length xs = let long = ap (length {A = Extent}) items in omega (arith, c.loop-extent-test.true, long) in
     record {
-      slots = λ told image is.
-          c.in_ok-read_extent.ensures.slots told image (subst (λ (d : Image). IsFolded c.args.overlay.now d image) (sym (i.read_only told).content) is)
-          ∙ (λ j. i.slots told image is j ++ flat_map (read_block image) (range_with_len (get_or (items j) k none).start (get_or (items j) k none).length))
+      slots = λ visible image is.
+          c.in_ok-read_extent.ensures.slots visible image (subst (λ (d : Image). IsFolded c.args.overlay.now d image) (sym (i.read_only visible).content) is)
+          ∙ (λ j. i.slots visible image is j ++ flat_map (read_block image) (range_with_len (get_or (items j) k none).start (get_or (items j) k none).length))
           ∙ sym (flat_append (read_block image) (flat_map (λ (e : Extent). range_with_len e.start e.length) (take k xs)) (range_with_len (get_or xs k none).start (get_or xs k none).length))
           ∙ sym (ap (flat_map (read_block image))
           (ap (flat_map (λ (e : Extent). range_with_len e.start e.length)) (take_more xs k none less)
           ∙ flat_append (λ (e : Extent). range_with_len e.start e.length) (take k xs) (get_or xs k none ∷ [])
           ∙ ap (λ l. flat_map (λ (e : Extent). range_with_len e.start e.length) (take k xs) ++ l) (append-nil (range_with_len (get_or xs k none).start (get_or xs k none).length))));
-      read_only = λ told. read_more g.D.Disk.keeps (g.D.Disk.moments c.args.disk.now) (g.D.Disk.moments c.loop-extent.disk) (g.D.Disk.moments c.read_extent.new.disk) (i.read_only told) (c.read_extent.ensures.read_only told);
+      read_only = λ visible. read_more g.D.Disk.keeps (g.D.Disk.moments c.args.disk.now) (g.D.Disk.moments c.loop-extent.disk) (g.D.Disk.moments c.read_extent.new.disk) (i.read_only visible) (c.read_extent.ensures.read_only visible);
       size = c.read_extent.ensures.size ∙ i.size;
       faults = c.in_ok-read_extent.ensures.passed ∙ i.faults;
     }

@@ -14,8 +14,8 @@ invariant-loop-extent g l =
     let disk = g.D.Disk in
     let first = disk.moments l.fn.disk in
     record {
-      slots : IsTrue disk.tells → (image : Image) → IsFolded l.overlay (reads first) image → l.slots.items ≡ flat_map (read_block image) (flat_map (λ (e : Extent). range_with_len e.start e.length) (take l.extent-index l.form.extents));
-      read_only : IsTrue disk.tells → IsReadOnly disk.keeps first (disk.moments l.disk);
+      slots : IsTrue disk.visible → (image : Image) → IsFolded l.overlay (reads first) image → l.slots.items ≡ flat_map (read_block image) (flat_map (λ (e : Extent). range_with_len e.start e.length) (take l.extent-index l.form.extents));
+      read_only : IsTrue disk.visible → IsReadOnly disk.keeps first (disk.moments l.disk);
       size : disk.size l.disk ≡ disk.size l.fn.disk;
       faults : disk.faults l.disk ≡ disk.faults l.fn.disk;
     }

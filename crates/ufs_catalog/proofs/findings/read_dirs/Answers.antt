@@ -12,8 +12,8 @@ use Rattle.ufs_catalog.proofs.Quiet.{read_more}
 use Rattle.ufs_catalog.proofs.findings.read_dirs.Goals as goal
 
 pub returns-in_err-read_dir-clause-read_only : goal.returns-in_err-read_dir-clause-read_only
-returns-in_err-read_dir-clause-read_only g c told =
-    read_more g.D.Disk.keeps (g.D.Disk.moments c.args.disk.now) (g.D.Disk.moments c.loop-i.disk) (g.D.Disk.moments c.read_dir.new.disk) (c.loop-i.invariant.read_only told) (c.read_dir.ensures.read_only told)
+returns-in_err-read_dir-clause-read_only g c visible =
+    read_more g.D.Disk.keeps (g.D.Disk.moments c.args.disk.now) (g.D.Disk.moments c.loop-i.disk) (g.D.Disk.moments c.read_dir.new.disk) (c.loop-i.invariant.read_only visible) (c.read_dir.ensures.read_only visible)
 
 pub loop-i-preserved : goal.loop-i-preserved
 loop-i-preserved g c =
@@ -21,15 +21,15 @@ loop-i-preserved g c =
     let n = c.loop-i.i in
     let geometry = c.args.geometry.now in
     record {
-      dirs = λ told image is are.
-          let here = subst (λ (d : Image). IsFolded c.args.overlay.now d image) (sym (i.read_only told).content) is in
+      dirs = λ visible image is are.
+          let here = subst (λ (d : Image). IsFolded c.args.overlay.now d image) (sym (i.read_only visible).content) is in
           let there : c.index-forms-i.result ≡ inode_at geometry image (n + 1) =
           c.index-forms-i.is ∙ ap (λ (l : List (Option InodeForm)). get_or l n c.index-forms-i.result) are
           ∙ get_or-map-range_with_len (inode_at geometry image) 1 geometry.inodes n (n + 1) c.index-forms-i.result c.loop-i-test.true (omega arith) in
-          c.in_ok-read_dir.ensures.dirs told image here (sym there)
-          ∙ (λ k. i.dirs told image is are k ++ dirs_of image (option_to_list (sound_node geometry image (n + 1))))
+          c.in_ok-read_dir.ensures.dirs visible image here (sym there)
+          ∙ (λ k. i.dirs visible image is are k ++ dirs_of image (option_to_list (sound_node geometry image (n + 1))))
           ∙ sym (nodes_more geometry image n);
-      read_only = λ told. read_more g.D.Disk.keeps (g.D.Disk.moments c.args.disk.now) (g.D.Disk.moments c.loop-i.disk) (g.D.Disk.moments c.read_dir.new.disk) (i.read_only told) (c.read_dir.ensures.read_only told);
+      read_only = λ visible. read_more g.D.Disk.keeps (g.D.Disk.moments c.args.disk.now) (g.D.Disk.moments c.loop-i.disk) (g.D.Disk.moments c.read_dir.new.disk) (i.read_only visible) (c.read_dir.ensures.read_only visible);
       size = c.read_dir.ensures.size ∙ i.size;
       faults = c.in_ok-read_dir.ensures.passed ∙ i.faults;
     }

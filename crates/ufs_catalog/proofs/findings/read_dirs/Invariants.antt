@@ -14,8 +14,8 @@ invariant-loop-i g l =
     let disk = g.D.Disk in
     let first = disk.moments l.fn.disk in
     record {
-      dirs : IsTrue disk.tells → (image : Image) → IsFolded l.overlay (reads first) image → l.forms ≡ map (inode_at l.geometry image) (all_inodes l.geometry) → l.dirs.items ≡ dirs_of image (filter_map (sound_node l.geometry image) (range_with_len 1 l.i));
-      read_only : IsTrue disk.tells → IsReadOnly disk.keeps first (disk.moments l.disk);
+      dirs : IsTrue disk.visible → (image : Image) → IsFolded l.overlay (reads first) image → l.forms ≡ map (inode_at l.geometry image) (all_inodes l.geometry) → l.dirs.items ≡ dirs_of image (filter_map (sound_node l.geometry image) (range_with_len 1 l.i));
+      read_only : IsTrue disk.visible → IsReadOnly disk.keeps first (disk.moments l.disk);
       size : disk.size l.disk ≡ disk.size l.fn.disk;
       faults : disk.faults l.disk ≡ disk.faults l.fn.disk;
     }

@@ -16,12 +16,12 @@ use Rattle.ufs_catalog.proofs.Quiet.{read_more}
 use Rattle.ufs_catalog.proofs.forms.read_forms.Goals as goal
 
 pub returns-in_err-read_block-clause-read_only : goal.returns-in_err-read_block-clause-read_only
-returns-in_err-read_block-clause-read_only g c told =
-    read_more g.D.Disk.keeps (g.D.Disk.moments c.args.disk.now) (g.D.Disk.moments c.loop-place.disk) (g.D.Disk.moments c.read_block.new.disk) (c.loop-place.invariant.read_only told) (c.read_block.ensures.read_only told)
+returns-in_err-read_block-clause-read_only g c visible =
+    read_more g.D.Disk.keeps (g.D.Disk.moments c.args.disk.now) (g.D.Disk.moments c.loop-place.disk) (g.D.Disk.moments c.read_block.new.disk) (c.loop-place.invariant.read_only visible) (c.read_block.ensures.read_only visible)
 
 pub returns-in_err-push_forms-clause-read_only : goal.returns-in_err-push_forms-clause-read_only
-returns-in_err-push_forms-clause-read_only g c told =
-    read_more g.D.Disk.keeps (g.D.Disk.moments c.args.disk.now) (g.D.Disk.moments c.loop-place.disk) (g.D.Disk.moments c.read_block.new.disk) (c.loop-place.invariant.read_only told) (c.read_block.ensures.read_only told)
+returns-in_err-push_forms-clause-read_only g c visible =
+    read_more g.D.Disk.keeps (g.D.Disk.moments c.args.disk.now) (g.D.Disk.moments c.loop-place.disk) (g.D.Disk.moments c.read_block.new.disk) (c.loop-place.invariant.read_only visible) (c.read_block.ensures.read_only visible)
 
 pub loop-place-preserved : goal.loop-place-preserved
 loop-place-preserved g c =
@@ -38,13 +38,13 @@ loop-place-preserved g c =
     let long : length (forms_in n c.read_block.new.buf) ≡ n = length-map-range_with_len (λ k. inode_of (piece c.read_block.new.buf k)) 0 n in
     record {
       count = ap length c.in_ok-push_forms.ensures ∙ length-append c.loop-place.forms.items (forms_in n c.read_block.new.buf) ∙ (λ k. (i.count ∙ here) k + long k) ∙ next;
-      forms = λ told image is.
-          let are : AreSectors image first c.read_block.new.buf = c.in_ok-read_block.ensures.sectors told image (subst (λ (d : Image). IsFolded c.args.overlay.now d image) (sym (i.read_only told).content) is) in
+      forms = λ visible image is.
+          let are : AreSectors image first c.read_block.new.buf = c.in_ok-read_block.ensures.sectors visible image (subst (λ (d : Image). IsFolded c.args.overlay.now d image) (sym (i.read_only visible).content) is) in
           c.in_ok-push_forms.ensures
-          ∙ (λ k. (i.forms told image is ∙ ap (λ m. map (inode_at geometry image) (range_with_len 1 m)) here) k ++ forms_are geometry image c.read_block.new.buf first (1 + 8 * place) n few are at k)
+          ∙ (λ k. (i.forms visible image is ∙ ap (λ m. map (inode_at geometry image) (range_with_len 1 m)) here) k ++ forms_are geometry image c.read_block.new.buf first (1 + 8 * place) n few are at k)
           ∙ map_append (inode_at geometry image) 1 (8 * place) n
           ∙ ap (λ m. map (inode_at geometry image) (range_with_len 1 m)) next;
-      read_only = λ told. read_more g.D.Disk.keeps (g.D.Disk.moments c.args.disk.now) (g.D.Disk.moments c.loop-place.disk) (g.D.Disk.moments c.read_block.new.disk) (i.read_only told) (c.read_block.ensures.read_only told);
+      read_only = λ visible. read_more g.D.Disk.keeps (g.D.Disk.moments c.args.disk.now) (g.D.Disk.moments c.loop-place.disk) (g.D.Disk.moments c.read_block.new.disk) (i.read_only visible) (c.read_block.ensures.read_only visible);
       size = c.read_block.ensures.size ∙ i.size;
       faults = c.in_ok-read_block.ensures.passed ∙ i.faults;
     }

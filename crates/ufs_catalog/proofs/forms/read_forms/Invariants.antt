@@ -15,8 +15,8 @@ invariant-loop-place g l =
     let first = disk.moments l.fn.disk in
     record {
       count : length l.forms.items ≡ min (8 * l.place) l.geometry.inodes;
-      forms : IsTrue disk.tells → (image : Image) → IsFolded l.overlay (reads first) image → l.forms.items ≡ map (inode_at l.geometry image) (range_with_len 1 (min (8 * l.place) l.geometry.inodes));
-      read_only : IsTrue disk.tells → IsReadOnly disk.keeps first (disk.moments l.disk);
+      forms : IsTrue disk.visible → (image : Image) → IsFolded l.overlay (reads first) image → l.forms.items ≡ map (inode_at l.geometry image) (range_with_len 1 (min (8 * l.place) l.geometry.inodes));
+      read_only : IsTrue disk.visible → IsReadOnly disk.keeps first (disk.moments l.disk);
       size : disk.size l.disk ≡ disk.size l.fn.disk;
       faults : disk.faults l.disk ≡ disk.faults l.fn.disk;
     }

@@ -14,8 +14,8 @@ invariant-loop-place g l =
     let disk = g.D.Disk in
     let first = disk.moments l.fn.disk in
     record {
-      told : IsTrue disk.tells → (image : Image) → IsFolded l.overlay (reads first) image → (nodes : List Node) → AreTaken l.geometry nodes l.taken → l.list ≡ l.fn.list ++ map BitmapDiffers (differing l.geometry image nodes (range_with_len 0 (32768 * l.place)));
-      read_only : IsTrue disk.tells → IsReadOnly disk.keeps first (disk.moments l.disk);
+      told : IsTrue disk.visible → (image : Image) → IsFolded l.overlay (reads first) image → (nodes : List Node) → AreTaken l.geometry nodes l.taken → l.list ≡ l.fn.list ++ map BitmapDiffers (differing l.geometry image nodes (range_with_len 0 (32768 * l.place)));
+      read_only : IsTrue disk.visible → IsReadOnly disk.keeps first (disk.moments l.disk);
       size : disk.size l.disk ≡ disk.size l.fn.disk;
       faults : disk.faults l.disk ≡ disk.faults l.fn.disk;
     }

@@ -10,11 +10,11 @@ use Rattle.ufs_durable.proofs.Standing.{noted_committed}
 use Rattle.ufs_durable.proofs.durable.fsync.Goals as goal
 
 pub returns-in-Err-clause-crash : goal.returns-in-Err-clause-crash
-returns-in-Err-clause-crash g c told records delta some l has may next =
+returns-in-Err-clause-crash g c visible records delta some l has may next =
     let s = g.D.Door.store c.args.door.now in
     let mid = g.D.Door.store c.write_dirty.new.door in
     let now = c.args.hand.now in
-    let front = c.write_dirty.ensures.crash told l has may in
+    let front = c.write_dirty.ensures.crash visible l has may in
     crash_early g.D.Door.keeps s records (with_writes (writes_of now) l) mid.moments front
 
 pub returns-in-Ok-clause-noted : goal.returns-in-Ok-clause-noted
@@ -27,71 +27,71 @@ returns-in-Ok-clause-noted g c =
     subst IsNoted (λ i. record { file = file i; log = log i; dropped = none i }) (noted_committed (state_of c.args.hand.now inside) was)
 
 pub returns-in-Ok-clause-crash : goal.returns-in-Ok-clause-crash
-returns-in-Ok-clause-crash g c told records delta some l has may next =
+returns-in-Ok-clause-crash g c visible records delta some l has may next =
     let s = g.D.Door.store c.args.door.now in
     let mid = g.D.Door.store c.write_dirty.new.door in
     let now = c.args.hand.now in
-    let front = c.write_dirty.ensures.crash told l has may in
+    let front = c.write_dirty.ensures.crash visible l has may in
     let new = g.D.Door.store c.commit_file.new.self in
     let log : c.commits.inside.log ≡ c.args.commits.now.log = ap (λ (v : CommitState). v.log) c.commits.view_is in
-    let held = c.in_default.ensures.ok told l has may in
+    let held = c.in_default.ensures.ok visible l has may in
     let change = subst (λ (x : FileLog). IsDelta x.inode x.committed x.noted records) (sym log) delta in
     let changed = subst (λ (x : FileLog). x.noted ≢ x.committed) (sym log) some in
     let goes = may_between s mid c.in_default.ensures.passed records (writes_of now) l next in
     crash_whole s mid c.in_default.ensures.passed g.D.Door.keeps records (with_writes (writes_of now) l) new.moments front
-    (c.commit_file.ensures.crash told records change changed (with_writes (writes_of now) l) held goes)
+    (c.commit_file.ensures.crash visible records change changed (with_writes (writes_of now) l) held goes)
 
 pub returns-in-Ok-clause-empty_crash : goal.returns-in-Ok-clause-empty_crash
-returns-in-Ok-clause-empty_crash g c told same l has may =
+returns-in-Ok-clause-empty_crash g c visible same l has may =
     let s = g.D.Door.store c.args.door.now in
     let mid = g.D.Door.store c.write_dirty.new.door in
     let now = c.args.hand.now in
-    let front = c.write_dirty.ensures.crash told l has may in
+    let front = c.write_dirty.ensures.crash visible l has may in
     let new = g.D.Door.store c.commit_file.new.self in
     let log : c.commits.inside.log ≡ c.args.commits.now.log = ap (λ (v : CommitState). v.log) c.commits.view_is in
-    let held = c.in_default.ensures.ok told l has may in
+    let held = c.in_default.ensures.ok visible l has may in
     let still = subst (λ (x : FileLog). x.noted ≡ x.committed) (sym log) same in
-    empty_whole s mid c.in_default.ensures.passed g.D.Door.keeps (with_writes (writes_of now) l) new.moments front (c.commit_file.ensures.empty_crash told still (with_writes (writes_of now) l) held)
+    empty_whole s mid c.in_default.ensures.passed g.D.Door.keeps (with_writes (writes_of now) l) new.moments front (c.commit_file.ensures.empty_crash visible still (with_writes (writes_of now) l) held)
 
 pub returns-in-Err-commit_file-clause-crash : goal.returns-in-Err-commit_file-clause-crash
-returns-in-Err-commit_file-clause-crash g c told records delta some l has may next =
+returns-in-Err-commit_file-clause-crash g c visible records delta some l has may next =
     let s = g.D.Door.store c.args.door.now in
     let mid = g.D.Door.store c.write_dirty.new.door in
     let now = c.args.hand.now in
-    let front = c.write_dirty.ensures.crash told l has may in
+    let front = c.write_dirty.ensures.crash visible l has may in
     let new = g.D.Door.store c.commit_file.new.self in
     let log : c.commits.inside.log ≡ c.args.commits.now.log = ap (λ (v : CommitState). v.log) c.commits.view_is in
-    let held = c.in_default.ensures.ok told l has may in
+    let held = c.in_default.ensures.ok visible l has may in
     let change = subst (λ (x : FileLog). IsDelta x.inode x.committed x.noted records) (sym log) delta in
     let changed = subst (λ (x : FileLog). x.noted ≢ x.committed) (sym log) some in
     let goes = may_between s mid c.in_default.ensures.passed records (writes_of now) l next in
     crash_whole s mid c.in_default.ensures.passed g.D.Door.keeps records (with_writes (writes_of now) l) new.moments front
-    (c.commit_file.ensures.crash told records change changed (with_writes (writes_of now) l) held goes)
+    (c.commit_file.ensures.crash visible records change changed (with_writes (writes_of now) l) held goes)
 
 pub returns-in-Err-commit_file-clause-empty_crash : goal.returns-in-Err-commit_file-clause-empty_crash
-returns-in-Err-commit_file-clause-empty_crash g c told same l has may =
+returns-in-Err-commit_file-clause-empty_crash g c visible same l has may =
     let s = g.D.Door.store c.args.door.now in
     let mid = g.D.Door.store c.write_dirty.new.door in
     let now = c.args.hand.now in
-    let front = c.write_dirty.ensures.crash told l has may in
+    let front = c.write_dirty.ensures.crash visible l has may in
     let new = g.D.Door.store c.commit_file.new.self in
     let log : c.commits.inside.log ≡ c.args.commits.now.log = ap (λ (v : CommitState). v.log) c.commits.view_is in
-    let held = c.in_default.ensures.ok told l has may in
+    let held = c.in_default.ensures.ok visible l has may in
     let still = subst (λ (x : FileLog). x.noted ≡ x.committed) (sym log) same in
-    empty_whole s mid c.in_default.ensures.passed g.D.Door.keeps (with_writes (writes_of now) l) new.moments front (c.commit_file.ensures.empty_crash told still (with_writes (writes_of now) l) held)
+    empty_whole s mid c.in_default.ensures.passed g.D.Door.keeps (with_writes (writes_of now) l) new.moments front (c.commit_file.ensures.empty_crash visible still (with_writes (writes_of now) l) held)
 
 pub returns-in-Ok-clause-ok : goal.returns-in-Ok-clause-ok
-returns-in-Ok-clause-ok g c told records delta some l has may next =
+returns-in-Ok-clause-ok g c visible records delta some l has may next =
     let s = g.D.Door.store c.args.door.now in
     let mid = g.D.Door.store c.write_dirty.new.door in
     let now = c.args.hand.now in
     let new = g.D.Door.store c.commit_file.new.self in
     let log : c.commits.inside.log ≡ c.args.commits.now.log = ap (λ (v : CommitState). v.log) c.commits.view_is in
-    let held = c.in_default.ensures.ok told l has may in
+    let held = c.in_default.ensures.ok visible l has may in
     let change = subst (λ (x : FileLog). IsDelta x.inode x.committed x.noted records) (sym log) delta in
     let changed = subst (λ (x : FileLog). x.noted ≢ x.committed) (sym log) some in
     let goes = may_between s mid c.in_default.ensures.passed records (writes_of now) l next in
-    commit_whole s mid c.in_default.ensures.passed new records (with_writes (writes_of now) l) held (c.in-Ok.ensures.ok told records change changed (with_writes (writes_of now) l) held goes)
+    commit_whole s mid c.in_default.ensures.passed new records (with_writes (writes_of now) l) held (c.in-Ok.ensures.ok visible records change changed (with_writes (writes_of now) l) held goes)
 
 pub returns-in-Ok-clause-stopped : goal.returns-in-Ok-clause-stopped
 returns-in-Ok-clause-stopped g c fault = (
@@ -112,26 +112,26 @@ returns-in-Err-commit_file-clause-stopped g c fault =
     )
 
 pub returns-in-Err-commit_file-clause-device : goal.returns-in-Err-commit_file-clause-device
-returns-in-Err-commit_file-clause-device g c told records delta some fault e l has may next =
+returns-in-Err-commit_file-clause-device g c visible records delta some fault e l has may next =
     let s = g.D.Door.store c.args.door.now in
     let mid = g.D.Door.store c.write_dirty.new.door in
     let now = c.args.hand.now in
     let new = g.D.Door.store c.commit_file.new.self in
     let log : c.commits.inside.log ≡ c.args.commits.now.log = ap (λ (v : CommitState). v.log) c.commits.view_is in
-    let held = c.in_default.ensures.ok told l has may in
+    let held = c.in_default.ensures.ok visible l has may in
     let change = subst (λ (x : FileLog). IsDelta x.inode x.committed x.noted records) (sym log) delta in
     let changed = subst (λ (x : FileLog). x.noted ≢ x.committed) (sym log) some in
     let goes = may_between s mid c.in_default.ensures.passed records (writes_of now) l next in
     inr (device_whole s mid c.in_default.ensures.passed new records (with_writes (writes_of now) l)
-    (c.commit_file.ensures.device told records change changed fault (ap answer_of c.in-Err-commit_file.is ∙ e) (with_writes (writes_of now) l) held goes))
+    (c.commit_file.ensures.device visible records change changed fault (ap answer_of c.in-Err-commit_file.is ∙ e) (with_writes (writes_of now) l) held goes))
 
 pub returns-in-Err-commit_file-clause-memory : goal.returns-in-Err-commit_file-clause-memory
-returns-in-Err-commit_file-clause-memory g c told e l has may =
+returns-in-Err-commit_file-clause-memory g c visible e l has may =
     let s = g.D.Door.store c.args.door.now in
     let mid = g.D.Door.store c.write_dirty.new.door in
     let now = c.args.hand.now in
     let new = g.D.Door.store c.commit_file.new.self in
     let log : c.commits.inside.log ≡ c.args.commits.now.log = ap (λ (v : CommitState). v.log) c.commits.view_is in
-    let held = c.in_default.ensures.ok told l has may in
+    let held = c.in_default.ensures.ok visible l has may in
     memory_whole s mid c.in_default.ensures.passed new (with_writes (writes_of now) l)
-    (c.commit_file.ensures.memory told (ap answer_of c.in-Err-commit_file.is ∙ e) (with_writes (writes_of now) l) held)
+    (c.commit_file.ensures.memory visible (ap answer_of c.in-Err-commit_file.is ∙ e) (with_writes (writes_of now) l) held)

@@ -15,14 +15,14 @@ loop-place-init g c =
     let s = g.D.Door.store c.args.door.now in
     record {
       passed = refl;
-      crash = λ told m has may. run_begins s.sectors g.D.Door.keeps (writes_of c.args.hand.now) m s.moments has.by.is;
-      has = λ told m has may. has;
+      crash = λ visible m has may. run_begins s.sectors g.D.Door.keeps (writes_of c.args.hand.now) m s.moments has.by.is;
+      has = λ visible m has may. has;
       nothing = λ none. refl;
       still = λ fault is. refl;
     }
 
 pub returns-in_err-write_place-clause-crash : goal.returns-in_err-write_place-clause-crash
-returns-in_err-write_place-clause-crash g c told l has may =
+returns-in_err-write_place-clause-crash g c visible l has may =
     let f = c.args.hand.now in
     let k : ℕ = c.loop-place.place in
     let i = c.loop-place.invariant in
@@ -30,11 +30,11 @@ returns-in_err-write_place-clause-crash g c told l has may =
     let s1 = g.D.Door.store c.loop-place.door in
     let s2 = g.D.Door.store c.write_place.new.door in
     let less : k < length f.content.dirty = omega (arith, c.loop-place-test.true, c.block_count-place-end.ensures.marks) in
-    run_here f k less l g.D.Door.keeps s0 s1 s2.moments (ap (λ (s : StoreState). s.sectors) i.passed) (i.crash told l has may)
-    (c.write_place.ensures.crash told (with_writes (writes_before f k) l) (i.has told l has may) (may_here f k less l may))
+    run_here f k less l g.D.Door.keeps s0 s1 s2.moments (ap (λ (s : StoreState). s.sectors) i.passed) (i.crash visible l has may)
+    (c.write_place.ensures.crash visible (with_writes (writes_before f k) l) (i.has visible l has may) (may_here f k less l may))
 
 pub returns-in_err-write_place-clause-err : goal.returns-in_err-write_place-clause-err
-returns-in_err-write_place-clause-err g c told =
+returns-in_err-write_place-clause-err g c visible =
     let f = c.args.hand.now in
     let k : ℕ = c.loop-place.place in
     let i = c.loop-place.invariant in
@@ -42,7 +42,7 @@ returns-in_err-write_place-clause-err g c told =
     let s2 = g.D.Door.store c.write_place.new.door in
     let less : k < length f.content.dirty = omega (arith, c.loop-place-test.true, c.block_count-place-end.ensures.marks) in
     let tried : (l : Ledger) → HasLedger s0 l → MayWriteAll l (writes_of f) → HasTriedOne s2 (writes_of f) l =
-    λ l has may. tried_here f k less l s2 (c.in_err-write_place.ensures.err told (with_writes (writes_before f k) l) (i.has told l has may) (may_here f k less l may)) in
+    λ l has may. tried_here f k less l s2 (c.in_err-write_place.ensures.err visible (with_writes (writes_before f k) l) (i.has visible l has may) (may_here f k less l may)) in
     let p = err_from_is_err_and c.from_residual.result c.from_residual.ensures.1 in
     subst (λ r. OnErr r ((l : Ledger) → HasLedger s0 l → MayWriteAll l (writes_of f) → HasTriedOne s2 (writes_of f) l)) (sym p.1) tried
 
@@ -65,10 +65,10 @@ loop-place-preserved g c =
     let less : k < length f.content.dirty = omega (arith, c.loop-place-test.true, c.block_count-place-end.ensures.marks) in
     record {
       passed = c.in_ok-write_place.ensures.passed ∙ ap (λ (s : StoreState). record s { moments = s2.moments; unsettled = s2.unsettled }) i.passed;
-      crash = λ told l has may.
-          run_here f k less l g.D.Door.keeps s0 s1 s2.moments (ap (λ (s : StoreState). s.sectors) i.passed) (i.crash told l has may)
-          (c.write_place.ensures.crash told (with_writes (writes_before f k) l) (i.has told l has may) (may_here f k less l may));
-      has = λ told l has may. next_here f k less l s2 (c.in_ok-write_place.ensures.ok told (with_writes (writes_before f k) l) (i.has told l has may) (may_here f k less l may));
+      crash = λ visible l has may.
+          run_here f k less l g.D.Door.keeps s0 s1 s2.moments (ap (λ (s : StoreState). s.sectors) i.passed) (i.crash visible l has may)
+          (c.write_place.ensures.crash visible (with_writes (writes_before f k) l) (i.has visible l has may) (may_here f k less l may));
+      has = λ visible l has may. next_here f k less l s2 (c.in_ok-write_place.ensures.ok visible (with_writes (writes_before f k) l) (i.has visible l has may) (may_here f k less l may));
       nothing = λ none. let parts = both_none (writes_before f k) (write_at f k) (sym (before_next f k) ∙ none) in c.write_place.ensures.nothing parts.1 ∙ i.nothing parts.0;
       still = λ fault is. c.write_place.ensures.still fault (ap (λ (s : StoreState). s.stop) i.passed ∙ is) ∙ i.still fault is;
     }

@@ -9,9 +9,9 @@ use Rattle.ufs_durable.proofs.writes.write_dirty.Given as goal
 abbrev pub invariant-loop-place : goal.invariant-loop-place
 invariant-loop-place g l = record {
   passed : g.D.Door.store l.door ≡ record (g.D.Door.store l.fn.door) { moments = (g.D.Door.store l.door).moments; unsettled = (g.D.Door.store l.door).unsettled };
-  crash : IsTrue g.D.Door.tells → (m : Ledger) → HasLedger (g.D.Door.store l.fn.door) m → MayWriteAll m (writes_of l.fn.hand)
+  crash : IsTrue g.D.Door.visible → (m : Ledger) → HasLedger (g.D.Door.store l.fn.door) m → MayWriteAll m (writes_of l.fn.hand)
       → LeavesOnly g.D.Door.keeps (IsLeftBy (g.D.Door.store l.fn.door).sectors (with_writes (writes_of l.fn.hand) m)) (g.D.Door.store l.fn.door).moments (g.D.Door.store l.door).moments;
-  has : IsTrue g.D.Door.tells → (m : Ledger) → HasLedger (g.D.Door.store l.fn.door) m → MayWriteAll m (writes_of l.fn.hand) → HasLedger (g.D.Door.store l.door) (with_writes (writes_before l.fn.hand l.place) m);
+  has : IsTrue g.D.Door.visible → (m : Ledger) → HasLedger (g.D.Door.store l.fn.door) m → MayWriteAll m (writes_of l.fn.hand) → HasLedger (g.D.Door.store l.door) (with_writes (writes_before l.fn.hand l.place) m);
   nothing : writes_before l.fn.hand l.place ≡ [] → g.D.Door.store l.door ≡ g.D.Door.store l.fn.door;
   still : (fault : ℕ) → (g.D.Door.store l.fn.door).stop ≡ Some fault → g.D.Door.store l.door ≡ g.D.Door.store l.fn.door;
 }

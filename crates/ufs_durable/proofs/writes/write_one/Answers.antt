@@ -12,14 +12,14 @@ pub write_block-requires-clause-sized : goal.write_block-requires-clause-sized
 write_block-requires-clause-sized g c = ap length c.in-Some-block.ensures.bytes ∙ length_block c.args.hand.now.content.bytes c.args.place
 
 pub returns-clause-err : goal.returns-clause-err
-returns-clause-err g c told =
+returns-clause-err g c visible =
     let w = write_of c.args.hand.now c.args.place in
     let s = g.D.Door.store c.write_block.new.self in
     let block : c.in-Some.block ≡ w.block = ap (λ (o : Option ℕ). unwrap_or o 0) (sym c.in-Some.is ∙ c.block_number.ensures) in
     on_err_weaker c.write_block.result
-    (λ tells l has may. one_tried c.in-Some.block w.block c.in-Some-block.bytes.now w.bytes block c.in-Some-block.ensures.bytes s (reads s.moments) l may.0 (λ here. tells l has here)
-    (λ here free. mixed_then _ l c.in-Some.block c.in-Some-block.bytes.now s.moments.state has.by.none here free ((c.write_block.ensures.crash told l has here).after (seen s.moments.state) (seen_is_image s.moments.state))))
-    (c.write_block.ensures.err told)
+    (λ visible l has may. one_tried c.in-Some.block w.block c.in-Some-block.bytes.now w.bytes block c.in-Some-block.ensures.bytes s (reads s.moments) l may.0 (λ here. visible l has here)
+    (λ here free. mixed_then _ l c.in-Some.block c.in-Some-block.bytes.now s.moments.state has.by.none here free ((c.write_block.ensures.crash visible l has here).after (seen s.moments.state) (seen_is_image s.moments.state))))
+    (c.write_block.ensures.err visible)
 
 pub returns-clause-stopped : goal.returns-clause-stopped
 returns-clause-stopped g c fault is = (c.write_block.ensures.stopped fault).1 is

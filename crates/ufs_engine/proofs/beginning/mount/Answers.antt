@@ -29,7 +29,7 @@ mount-requires-clause-large g c =
     subst (λ (x : Geometry). sector_count x ≤ size) c.args.parts.superblock.same (has_geometry size b.0 (volume_under c.args.parts.superblock b.0) b.1.standing.taken).1
 
 pub returns-in_default-clause-err_moments : goal.returns-in_default-clause-err_moments
-returns-in_default-clause-err_moments g c told clean begun start with_it =
+returns-in_default-clause-err_moments g c visible clean begun start with_it =
     let size = g.D.Disk.size c.args.disk in
     let old = g.D.Disk.moments c.args.disk in
     started g.D.Disk.keeps (IsExplainedImage size start []) old (clean_explained c.a_request_keeps_the_tree.ensures size old.state start clean with_it)
@@ -52,37 +52,37 @@ returns-in-Ok-mount-clause-sound g c =
     (subst (λ (p : Parts). IsSoundServer c.args.parts.superblock.geometry c.args.parts.free.free p) (sym same) (c.beginning_law.ensures.sound (g.D.Disk.size c.args.disk) b.0 c.args.parts b.1)))
 
 pub returns-in-Ok-mount-clause-on_disk : goal.returns-in-Ok-mount-clause-on_disk
-returns-in-Ok-mount-clause-on_disk g c told clean begun start with_it =
+returns-in-Ok-mount-clause-on_disk g c visible clean begun start with_it =
     let e = c.in-Ok.ensures in
     let m = c.in-Ok-mount.ensures in
     let size = g.D.Disk.size c.args.disk in
     let state : State = (g.D.Disk.moments c.args.disk).state in
     let same : c.in-Ok.server ≡ parts_of c.args.parts = λ i. record { names = e.names i; files = e.files i; commits = e.commits i; pool = e.pool i; fresh = e.fresh i; dropped = e.dropped i } in
-    let is : IsReadClean c.args.parts.superblock.geometry size state c.args.parts = record { whole = g.met.D.Disk.whole told c.args.disk; clean = clean; begun = begun; geometry = refl } in
-    c.mounted_law.ensures.going size state c.args.parts start _ c.in-Ok.server is with_it same (m.ok told (c.mounted_law.ensures.mountable size state c.args.parts is)) (m.geometry ∙ sym c.args.parts.superblock.same) m.unassigned
+    let is : IsReadClean c.args.parts.superblock.geometry size state c.args.parts = record { whole = g.met.D.Disk.whole visible c.args.disk; clean = clean; begun = begun; geometry = refl } in
+    c.mounted_law.ensures.going size state c.args.parts start _ c.in-Ok.server is with_it same (m.ok visible (c.mounted_law.ensures.mountable size state c.args.parts is)) (m.geometry ∙ sym c.args.parts.superblock.same) m.unassigned
 
 pub returns-in-Ok-mount-clause-moments : goal.returns-in-Ok-mount-clause-moments
-returns-in-Ok-mount-clause-moments g c told clean begun start with_it =
+returns-in-Ok-mount-clause-moments g c visible clean begun start with_it =
     let m = c.in-Ok-mount.ensures in
     let size = g.D.Disk.size c.args.disk in
     let old = g.D.Disk.moments c.args.disk in
-    let is : IsReadClean c.args.parts.superblock.geometry size old.state c.args.parts = record { whole = g.met.D.Disk.whole told c.args.disk; clean = clean; begun = begun; geometry = refl } in
+    let is : IsReadClean c.args.parts.superblock.geometry size old.state c.args.parts = record { whole = g.met.D.Disk.whole visible c.args.disk; clean = clean; begun = begun; geometry = refl } in
     let law = c.mounted_law.ensures in
     weaker g.D.Disk.keeps (IsLeftBy size (marking c.args.parts.superblock.superblock (reads old))) (IsExplainedImage size start [])
     (λ image left. record { explained = law.explained size old.state c.args.parts start image is with_it left; proper = law.proper size old.state c.args.parts image is left })
-    old (g.D.Disk.moments c.in-Ok-mount.store.disk) (m.crash told (law.mountable size old.state c.args.parts is))
+    old (g.D.Disk.moments c.in-Ok-mount.store.disk) (m.crash visible (law.mountable size old.state c.args.parts is))
 
 pub returns-in-Err-clause-cause : goal.returns-in-Err-clause-cause
 returns-in-Err-clause-cause g c = c.fault_of.ensures.cause (g.D.Disk.faults c.args.disk) (g.D.Disk.faults c.in-Err.unmounted.disk) c.in-Err.ensures.cause
 
 pub returns-in-Err-clause-err_moments : goal.returns-in-Err-clause-err_moments
-returns-in-Err-clause-err_moments g c told clean begun start with_it =
+returns-in-Err-clause-err_moments g c visible clean begun start with_it =
     let m = c.in-Err.ensures in
     let size = g.D.Disk.size c.args.disk in
     let old = g.D.Disk.moments c.args.disk in
-    let is : IsReadClean c.args.parts.superblock.geometry size old.state c.args.parts = record { whole = g.met.D.Disk.whole told c.args.disk; clean = clean; begun = begun; geometry = refl } in
+    let is : IsReadClean c.args.parts.superblock.geometry size old.state c.args.parts = record { whole = g.met.D.Disk.whole visible c.args.disk; clean = clean; begun = begun; geometry = refl } in
     let law = c.mounted_law.ensures in
     refused_leaves (IsExplainedImage size start []) (IsLeftBy size (marking c.args.parts.superblock.superblock (reads old))) g.D.Disk.keeps
-    old (g.D.Disk.moments c.in-Err.unmounted.disk) c.in-Err.unmounted.fault (λ memory. ap g.D.Disk.moments (m.memory memory)) (m.err_crash told (law.mountable size old.state c.args.parts is))
+    old (g.D.Disk.moments c.in-Err.unmounted.disk) c.in-Err.unmounted.fault (λ memory. ap g.D.Disk.moments (m.memory memory)) (m.err_crash visible (law.mountable size old.state c.args.parts is))
     (λ image left. record { explained = law.explained size old.state c.args.parts start image is with_it left; proper = law.proper size old.state c.args.parts image is left })
     (clean_explained c.a_request_keeps_the_tree.ensures size old.state start clean with_it)

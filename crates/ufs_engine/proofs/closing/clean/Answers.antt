@@ -7,29 +7,29 @@ use Rattle.ufs_engine.proofs.Ended.{as_it_was, cleaned, proper_behind}
 use Rattle.ufs_engine.proofs.closing.clean.Goals as goal
 
 pub returns-in-Err-clause-tree : goal.returns-in-Err-clause-tree
-returns-in-Err-clause-tree g c told proper =
-    as_it_was g.D.Disk.keeps (g.D.Disk.size c.args.disk.now) (g.D.Disk.moments c.args.disk.now) (g.D.Disk.moments c.barrier.new.self) (c.barrier.ensures.crash told)
+returns-in-Err-clause-tree g c visible proper =
+    as_it_was g.D.Disk.keeps (g.D.Disk.size c.args.disk.now) (g.D.Disk.moments c.args.disk.now) (g.D.Disk.moments c.barrier.new.self) (c.barrier.ensures.crash visible)
 
 pub returns-in-Ok-clause-tree : goal.returns-in-Ok-clause-tree
-returns-in-Ok-clause-tree g c told =
+returns-in-Ok-clause-tree g c visible =
     let mid = g.D.Disk.moments c.barrier.new.self in
     let new = g.D.Disk.moments c.recover.new.disk in
-    cleaned g.D.Disk.keeps (g.D.Disk.size c.args.disk.now) (g.D.Disk.moments c.args.disk.now) mid new (c.barrier.ensures.crash told) (c.barrier.ensures.content told) (c.in_default.ensures.ok told)
-    (subst (λ (sectors : ℕ). IsProperDisk sectors mid.state → KeepsTree g.D.Disk.keeps sectors mid new) c.barrier.ensures.size (c.recover.ensures.tree told))
+    cleaned g.D.Disk.keeps (g.D.Disk.size c.args.disk.now) (g.D.Disk.moments c.args.disk.now) mid new (c.barrier.ensures.crash visible) (c.barrier.ensures.content visible) (c.in_default.ensures.ok visible)
+    (subst (λ (sectors : ℕ). IsProperDisk sectors mid.state → KeepsTree g.D.Disk.keeps sectors mid new) c.barrier.ensures.size (c.recover.ensures.tree visible))
 
 pub returns-in-Err-recover-clause-tree : goal.returns-in-Err-recover-clause-tree
-returns-in-Err-recover-clause-tree g c told =
+returns-in-Err-recover-clause-tree g c visible =
     let mid = g.D.Disk.moments c.barrier.new.self in
     let new = g.D.Disk.moments c.recover.new.disk in
-    cleaned g.D.Disk.keeps (g.D.Disk.size c.args.disk.now) (g.D.Disk.moments c.args.disk.now) mid new (c.barrier.ensures.crash told) (c.barrier.ensures.content told) (c.in_default.ensures.ok told)
-    (subst (λ (sectors : ℕ). IsProperDisk sectors mid.state → KeepsTree g.D.Disk.keeps sectors mid new) c.barrier.ensures.size (c.recover.ensures.tree told))
+    cleaned g.D.Disk.keeps (g.D.Disk.size c.args.disk.now) (g.D.Disk.moments c.args.disk.now) mid new (c.barrier.ensures.crash visible) (c.barrier.ensures.content visible) (c.in_default.ensures.ok visible)
+    (subst (λ (sectors : ℕ). IsProperDisk sectors mid.state → KeepsTree g.D.Disk.keeps sectors mid new) c.barrier.ensures.size (c.recover.ensures.tree visible))
 
 pub returns-in-Ok-clause-clean : goal.returns-in-Ok-clause-clean
-returns-in-Ok-clause-clean g c told proper =
+returns-in-Ok-clause-clean g c visible proper =
     let mid = g.D.Disk.moments c.barrier.new.self in
     let new = g.D.Disk.moments c.recover.new.disk in
-    subst (λ (sectors : ℕ). IsProperDisk sectors mid.state → IsCleanDisk sectors new.state) c.barrier.ensures.size (c.in-Ok.ensures.clean told)
-    (proper_behind (g.D.Disk.size c.args.disk.now) (g.D.Disk.moments c.args.disk.now).state mid.state (c.barrier.ensures.content told) (c.in_default.ensures.ok told) proper)
+    subst (λ (sectors : ℕ). IsProperDisk sectors mid.state → IsCleanDisk sectors new.state) c.barrier.ensures.size (c.in-Ok.ensures.clean visible)
+    (proper_behind (g.D.Disk.size c.args.disk.now) (g.D.Disk.moments c.args.disk.now).state mid.state (c.barrier.ensures.content visible) (c.in_default.ensures.ok visible) proper)
 
 pub returns-in-Err-recover-clause-cause : goal.returns-in-Err-recover-clause-cause
 returns-in-Err-recover-clause-cause g c =

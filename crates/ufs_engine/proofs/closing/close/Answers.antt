@@ -14,9 +14,9 @@ use Rattle.ufs_engine.proofs.closing.close.Goals as goal
 -- ---- it isn't made clean
 
 pub returns-in-Err-clause-moments : goal.returns-in-Err-clause-moments
-returns-in-Err-clause-moments g c told start history on_disk =
+returns-in-Err-clause-moments g c visible start history on_disk =
     subst (λ (m : Moments). IsExplainedBetween g.D.Disk.keeps (g.D.Disk.size c.args.store.disk) start history (g.D.Disk.moments c.args.store.disk) m) (sym c.into_disk.ensures.moments)
-    (c.sync_all.ensures.moments told start history on_disk)
+    (c.sync_all.ensures.moments visible start history on_disk)
 
 pub returns-in-Err-clause-size : goal.returns-in-Err-clause-size
 returns-in-Err-clause-size g c = c.into_disk.ensures.size ∙ c.sync_all.ensures.sectors
@@ -35,32 +35,32 @@ returns-in-Err-clause-stopped g c fault =
 -- ---- behind a recovery
 
 pub returns-clause-moments : goal.returns-clause-moments
-returns-clause-moments g c told start history on_disk =
+returns-clause-moments g c visible start history on_disk =
     ended_explained c.geometry-geometry.result c.on_disk_law.ensures.explained c.on_disk_law.ensures.proper c.last_law.ensures (g.D.Disk.size c.args.store.disk) _ start history _
     (c.sync_all.ensures.geometry ∙ sym c.geometry-geometry.ensures.is) c.sync_all.ensures.sectors
-    (c.in_default.ensures.ok told start history on_disk) (g.D.Disk.moments c.into_disk-disk.result) (g.D.Disk.moments c.clean-ended.new.disk) c.into_disk-disk.ensures.moments
-    (g.D.Disk.size c.into_disk-disk.result) c.into_disk-disk.ensures.size g.D.Disk.keeps (c.clean-ended.ensures.tree told)
-    (g.D.Disk.moments c.args.store.disk) (c.sync_all.ensures.moments told start history on_disk)
+    (c.in_default.ensures.ok visible start history on_disk) (g.D.Disk.moments c.into_disk-disk.result) (g.D.Disk.moments c.clean-ended.new.disk) c.into_disk-disk.ensures.moments
+    (g.D.Disk.size c.into_disk-disk.result) c.into_disk-disk.ensures.size g.D.Disk.keeps (c.clean-ended.ensures.tree visible)
+    (g.D.Disk.moments c.args.store.disk) (c.sync_all.ensures.moments visible start history on_disk)
 
 pub returns-clause-clean : goal.returns-clause-clean
-returns-clause-clean g c told =
+returns-clause-clean g c visible =
     on_ok_weaker c.clean-ended.result
     (λ clean start history on_disk.
     ended_clean c.geometry-geometry.result c.on_disk_law.ensures.explained c.on_disk_law.ensures.proper c.last_law.ensures (g.D.Disk.size c.args.store.disk) _ start history _
     (c.sync_all.ensures.geometry ∙ sym c.geometry-geometry.ensures.is) c.sync_all.ensures.sectors
-    (c.in_default.ensures.ok told start history on_disk) (g.D.Disk.moments c.into_disk-disk.result) (g.D.Disk.moments c.clean-ended.new.disk) c.into_disk-disk.ensures.moments
-    (g.D.Disk.size c.into_disk-disk.result) c.into_disk-disk.ensures.size g.D.Disk.keeps (c.clean-ended.ensures.tree told) clean)
-    (c.clean-ended.ensures.clean told)
+    (c.in_default.ensures.ok visible start history on_disk) (g.D.Disk.moments c.into_disk-disk.result) (g.D.Disk.moments c.clean-ended.new.disk) c.into_disk-disk.ensures.moments
+    (g.D.Disk.size c.into_disk-disk.result) c.into_disk-disk.ensures.size g.D.Disk.keeps (c.clean-ended.ensures.tree visible) clean)
+    (c.clean-ended.ensures.clean visible)
 
 pub returns-clause-last : goal.returns-clause-last
-returns-clause-last g c told =
+returns-clause-last g c visible =
     on_ok_weaker c.clean-ended.result
     (λ _ start history on_disk.
     ended_last c.geometry-geometry.result c.on_disk_law.ensures.explained c.on_disk_law.ensures.proper c.last_law.ensures (g.D.Disk.size c.args.store.disk) _ start history _
     (c.sync_all.ensures.geometry ∙ sym c.geometry-geometry.ensures.is) c.sync_all.ensures.sectors
-    (c.in_default.ensures.ok told start history on_disk) (g.D.Disk.moments c.into_disk-disk.result) (g.D.Disk.moments c.clean-ended.new.disk) c.into_disk-disk.ensures.moments
-    (g.D.Disk.size c.into_disk-disk.result) c.into_disk-disk.ensures.size g.D.Disk.keeps (c.clean-ended.ensures.tree told))
-    (c.clean-ended.ensures.clean told)
+    (c.in_default.ensures.ok visible start history on_disk) (g.D.Disk.moments c.into_disk-disk.result) (g.D.Disk.moments c.clean-ended.new.disk) c.into_disk-disk.ensures.moments
+    (g.D.Disk.size c.into_disk-disk.result) c.into_disk-disk.ensures.size g.D.Disk.keeps (c.clean-ended.ensures.tree visible))
+    (c.clean-ended.ensures.clean visible)
 
 pub returns-clause-size : goal.returns-clause-size
 returns-clause-size g c = c.clean-ended.ensures.size ∙ c.into_disk-disk.ensures.size ∙ c.sync_all.ensures.sectors

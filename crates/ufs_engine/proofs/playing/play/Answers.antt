@@ -73,71 +73,71 @@ returns-in-Ok-clause-played g c may start begins =
     let b = c.in-Ok.ensures in
     let s = c.serve-session in
     let end = c.whole_end in
-    played_as start c.args.script.clients s.result.told s.result.ended (served_end end.result) (joined s.result.told) end.ensures.served (s.ensures.played start (b.parts may.told may.proper start begins))
+    played_as start c.args.script.clients s.result.told s.result.ended (served_end end.result) (joined s.result.told) end.ensures.served (s.ensures.played start (b.parts may.is_visible may.proper start begins))
 
 pub returns-in-Ok-clause-opened : goal.returns-in-Ok-clause-opened
 returns-in-Ok-clause-opened g c may =
-    c.begin.ensures.opened may.told may.proper
+    c.begin.ensures.opened may.is_visible may.proper
 
 pub returns-in-Ok-clause-crash : goal.returns-in-Ok-clause-crash
 returns-in-Ok-clause-crash g c may start begins image is =
     let b = c.in-Ok.ensures in
     let s = c.serve-session in
-    let served = s.ensures.on_disk may.told start (b.parts may.told may.proper start begins) (b.on_disk may.told may.proper start begins) in
+    let served = s.ensures.on_disk may.is_visible start (b.parts may.is_visible may.proper start begins) (b.on_disk may.is_visible may.proper start begins) in
     let ended = subst (λ (n : ℕ). IsExplainedBetween g.D.Disk.keeps n start (joined s.result.told) (g.D.Disk.moments s.new.door.disk) (g.D.Disk.moments c.close-closed.result.disk)) (s.ensures.sectors ∙ b.size)
-    (c.close-closed.ensures.moments may.told start (joined s.result.told) served) in
+    (c.close-closed.ensures.moments may.is_visible start (joined s.result.told) served) in
     (ended.after image is).explained
 
 pub returns-in-Ok-clause-proper : goal.returns-in-Ok-clause-proper
 returns-in-Ok-clause-proper g c may image is =
     let b = c.in-Ok.ensures in
     let s = c.serve-session in
-    let from = c.begin.ensures.opened may.told may.proper in
+    let from = c.begin.ensures.opened may.is_visible may.proper in
     let start = from.0 in
     let begins = from.1 in
-    let served = s.ensures.on_disk may.told start (b.parts may.told may.proper start begins) (b.on_disk may.told may.proper start begins) in
+    let served = s.ensures.on_disk may.is_visible start (b.parts may.is_visible may.proper start begins) (b.on_disk may.is_visible may.proper start begins) in
     let ended = subst (λ (n : ℕ). IsExplainedBetween g.D.Disk.keeps n start (joined s.result.told) (g.D.Disk.moments s.new.door.disk) (g.D.Disk.moments c.close-closed.result.disk)) (s.ensures.sectors ∙ b.size)
-    (c.close-closed.ensures.moments may.told start (joined s.result.told) served) in
+    (c.close-closed.ensures.moments may.is_visible start (joined s.result.told) served) in
     (ended.after image is).proper
 
 pub returns-in-Ok-clause-moments : goal.returns-in-Ok-clause-moments
 returns-in-Ok-clause-moments g c may start begins =
     let b = c.in-Ok.ensures in
     let s = c.serve-session in
-    let served = s.ensures.on_disk may.told start (b.parts may.told may.proper start begins) (b.on_disk may.told may.proper start begins) in
+    let served = s.ensures.on_disk may.is_visible start (b.parts may.is_visible may.proper start begins) (b.on_disk may.is_visible may.proper start begins) in
     let ended = subst (λ (n : ℕ). IsExplainedBetween g.D.Disk.keeps n start (joined s.result.told) (g.D.Disk.moments s.new.door.disk) (g.D.Disk.moments c.close-closed.result.disk)) (s.ensures.sectors ∙ b.size)
-    (c.close-closed.ensures.moments may.told start (joined s.result.told) served) in
+    (c.close-closed.ensures.moments may.is_visible start (joined s.result.told) served) in
     let size = g.D.Disk.size c.args.disk in
     let old = g.D.Disk.moments c.args.disk in
     let begun = g.D.Disk.moments c.in-Ok.begun.store.disk in
     let told = joined s.result.told in
-    throughout_after g.D.Disk.keeps size start [] told old begun (g.D.Disk.moments c.close-closed.result.disk) (b.moments may.told may.proper start begins)
+    throughout_after g.D.Disk.keeps size start [] told old begun (g.D.Disk.moments c.close-closed.result.disk) (b.moments may.is_visible may.proper start begins)
     (throughout_before g.D.Disk.keeps size start [] told begun (g.D.Disk.moments s.new.door.disk) (g.D.Disk.moments c.close-closed.result.disk)
     (subst (λ (n : ℕ). IsExplainedThroughout g.D.Disk.keeps n start [] told begun (g.D.Disk.moments s.new.door.disk)) b.size
-    (s.ensures.moments may.told start (b.parts may.told may.proper start begins) (b.on_disk may.told may.proper start begins))) ended)
+    (s.ensures.moments may.is_visible start (b.parts may.is_visible may.proper start begins) (b.on_disk may.is_visible may.proper start begins))) ended)
 
 pub returns-in-Ok-clause-clean : goal.returns-in-Ok-clause-clean
 returns-in-Ok-clause-clean g c may =
     let b = c.in-Ok.ensures in
     let s = c.serve-session in
-    let from = c.begin.ensures.opened may.told may.proper in
+    let from = c.begin.ensures.opened may.is_visible may.proper in
     let start = from.0 in
     let begins = from.1 in
-    let served = s.ensures.on_disk may.told start (b.parts may.told may.proper start begins) (b.on_disk may.told may.proper start begins) in
+    let served = s.ensures.on_disk may.is_visible start (b.parts may.is_visible may.proper start begins) (b.on_disk may.is_visible may.proper start begins) in
     let closing = c.close-closed in
     both_ok c.whole_end.result closing.result.ended
     (λ leads. subst (λ (n : ℕ). IsCleanDisk n (g.D.Disk.moments closing.result.disk).state) (s.ensures.sectors ∙ b.size) (leads start (joined s.result.told) served))
-    c.whole_end.ensures.closed (closing.ensures.clean may.told)
+    c.whole_end.ensures.closed (closing.ensures.clean may.is_visible)
 
 pub returns-in-Ok-clause-last : goal.returns-in-Ok-clause-last
 returns-in-Ok-clause-last g c may start begins =
     let b = c.in-Ok.ensures in
     let s = c.serve-session in
-    let served = s.ensures.on_disk may.told start (b.parts may.told may.proper start begins) (b.on_disk may.told may.proper start begins) in
+    let served = s.ensures.on_disk may.is_visible start (b.parts may.is_visible may.proper start begins) (b.on_disk may.is_visible may.proper start begins) in
     let closing = c.close-closed in
     both_ok c.whole_end.result closing.result.ended
     (λ leads. subst (λ (n : ℕ). StandsForTree n (tree_after start (joined s.result.told)) (reads (g.D.Disk.moments closing.result.disk))) (s.ensures.sectors ∙ b.size) (leads start (joined s.result.told) served))
-    c.whole_end.ensures.closed (closing.ensures.last may.told)
+    c.whole_end.ensures.closed (closing.ensures.last may.is_visible)
 
 pub returns-in-Ok-clause-why : goal.returns-in-Ok-clause-why
 returns-in-Ok-clause-why g c may fault is = absurd (c.whole_end.ensures.begun fault is)
@@ -162,20 +162,20 @@ returns-in-Err-clause-faults g c =
     subst (λ (told : List (List Entry)). AreFaultsOf before (joined told)) (sym (c.from_vec.ensures ∙ c.new.ensures.items)) (no_faults before)
 
 pub returns-in-Err-clause-opened : goal.returns-in-Err-clause-opened
-returns-in-Err-clause-opened g c may = c.begin.ensures.opened may.told may.proper
+returns-in-Err-clause-opened g c may = c.begin.ensures.opened may.is_visible may.proper
 
 pub returns-in-Err-clause-crash : goal.returns-in-Err-clause-crash
 returns-in-Err-clause-crash g c may start begins =
     let left = (g.D.Disk.moments c.in-Err.unbegun.disk).state in
     subst (λ (told : List (List Entry)). Leaves (OpensExplained (g.D.Disk.size c.args.disk) start (joined told)) left) (sym (c.from_vec.ensures ∙ c.new.ensures.items))
-    (λ image is. ((c.in-Err.ensures.err_moments may.told may.proper start begins).after image is).explained)
+    (λ image is. ((c.in-Err.ensures.err_moments may.is_visible may.proper start begins).after image is).explained)
 
 pub returns-in-Err-clause-proper : goal.returns-in-Err-clause-proper
 returns-in-Err-clause-proper g c may image is =
-    let from = c.begin.ensures.opened may.told may.proper in
-    ((c.in-Err.ensures.err_moments may.told may.proper from.0 from.1).after image is).proper
+    let from = c.begin.ensures.opened may.is_visible may.proper in
+    ((c.in-Err.ensures.err_moments may.is_visible may.proper from.0 from.1).after image is).proper
 
 pub returns-in-Err-clause-moments : goal.returns-in-Err-clause-moments
 returns-in-Err-clause-moments g c may start begins =
     subst (λ (told : List (List Entry)). IsExplainedThroughout g.D.Disk.keeps (g.D.Disk.size c.args.disk) start [] (joined told) (g.D.Disk.moments c.args.disk) (g.D.Disk.moments c.in-Err.unbegun.disk))
-    (sym (c.from_vec.ensures ∙ c.new.ensures.items)) (c.in-Err.ensures.err_moments may.told may.proper start begins)
+    (sym (c.from_vec.ensures ∙ c.new.ensures.items)) (c.in-Err.ensures.err_moments may.is_visible may.proper start begins)

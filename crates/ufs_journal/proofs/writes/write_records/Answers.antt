@@ -17,10 +17,10 @@ loop-at-init g c = record {
   within = omega arith;
   few = omega arith;
   rest = refl;
-  now = λ told ready. begun c.args.geometry.now c.args.epoch c.args.txn c.args.place _ ready;
-  crash = λ told ready. begins _ c.args.geometry.now c.args.epoch c.args.txn c.args.place (sector_count_of c.args.records.now) _ ready;
-  read = λ told ready. none_appended c.args.geometry.now c.args.epoch c.args.txn c.args.place _;
-  elsewhere = λ told k off. refl;
+  now = λ visible ready. begun c.args.geometry.now c.args.epoch c.args.txn c.args.place _ ready;
+  crash = λ visible ready. begins _ c.args.geometry.now c.args.epoch c.args.txn c.args.place (sector_count_of c.args.records.now) _ ready;
+  read = λ visible ready. none_appended c.args.geometry.now c.args.epoch c.args.txn c.args.place _;
+  elsewhere = λ visible k off. refl;
   kept = search rules;
   size = refl;
   faults = refl;
@@ -39,7 +39,7 @@ fill_group-group-requires-clause-few g c =
     omega (arith, most, c.requires.room, c.requires.geometry.most_journal)
 
 pub returns-in_err-put_group-clause-crash : goal.returns-in_err-put_group-clause-crash
-returns-in_err-put_group-clause-crash g c told ready =
+returns-in_err-put_group-clause-crash g c visible ready =
     let i = c.loop-at.invariant in
     let rest : List LogRecord = c.behind-rest.result.now in
     let left : sectors_of_records rest ≡ drop c.loop-at.index (sectors_of_records c.args.records.now) = ap sectors_of_records c.behind-rest.ensures ∙ i.rest in
@@ -50,7 +50,7 @@ returns-in_err-put_group-clause-crash g c told ready =
     group_on g.D.Disk.keeps c.args.geometry.now c.args.epoch c.args.txn c.args.place (sector_count_of c.args.records.now) (g.D.Disk.moments c.args.disk.now) c.loop-at.index cs
     (omega (arith, fits, long, c.requires.room))
     (all_part (list_all (is_in_range c.args.geometry.now)) 0 n (sectors_of_records rest) (sectors_all (is_in_range c.args.geometry.now) rest (ap (list_all (is_in_range c.args.geometry.now)) c.behind-rest.ensures ∙ all_drop (is_in_range c.args.geometry.now) c.loop-at.at c.args.records.now c.requires.inside)))
-    c.fill_group-group.ensures.read_back _ c.fill_group-group.ensures.bytes (g.D.Disk.moments c.loop-at.disk) (g.D.Disk.moments c.put_group.new.disk) (i.now told ready) (c.put_group.ensures.crash told) (omega (arith, fits, long)) (i.crash told ready)
+    c.fill_group-group.ensures.read_back _ c.fill_group-group.ensures.bytes (g.D.Disk.moments c.loop-at.disk) (g.D.Disk.moments c.put_group.new.disk) (i.now visible ready) (c.put_group.ensures.crash visible) (omega (arith, fits, long)) (i.crash visible ready)
 
 pub loop-at-preserved : goal.loop-at-preserved
 loop-at-preserved g c =
@@ -71,13 +71,13 @@ loop-at-preserved g c =
       within = omega (arith, c.fill_group-group.ensures.within, ap length c.behind-rest.ensures, length-drop c.loop-at.at c.args.records.now, c.loop-at-test.true);
       few = fits;
       rest = ap sectors_of_records (sym (drop-drop c.fill_group-group.result.taken c.loop-at.at c.args.records.now) ∙ ap (drop c.fill_group-group.result.taken) (sym c.behind-rest.ensures)) ∙ c.fill_group-group.ensures.rest ∙ ap (drop n) left ∙ drop-drop n c.loop-at.index all;
-      now = λ told ready. subst (λ k. Leaves (IsAppending c.args.geometry.now c.args.epoch c.args.txn c.args.place (c.loop-at.index + k) (g.D.Disk.moments c.args.disk.now).state) (g.D.Disk.moments c.put_group.new.disk).state) long
-          (group_now g.D.Disk.keeps c.args.geometry.now c.args.epoch c.args.txn c.args.place (sector_count_of c.args.records.now) (g.D.Disk.moments c.args.disk.now) c.loop-at.index cs within inside back _ c.fill_group-group.ensures.bytes (g.D.Disk.moments c.loop-at.disk) (g.D.Disk.moments c.put_group.new.disk) (i.now told ready) (c.put_group.ensures.crash told));
-      crash = λ told ready. group_on g.D.Disk.keeps c.args.geometry.now c.args.epoch c.args.txn c.args.place (sector_count_of c.args.records.now) (g.D.Disk.moments c.args.disk.now) c.loop-at.index cs within inside back _ c.fill_group-group.ensures.bytes (g.D.Disk.moments c.loop-at.disk) (g.D.Disk.moments c.put_group.new.disk) (i.now told ready) (c.put_group.ensures.crash told) (omega (arith, fits, long)) (i.crash told ready);
-      read = λ told ready. subst (λ (l : List (List LogRecord)). HasAppended c.args.geometry.now c.args.epoch c.args.txn c.args.place l (reads (g.D.Disk.moments c.args.disk.now)) (reads (g.D.Disk.moments c.put_group.new.disk))) more
+      now = λ visible ready. subst (λ k. Leaves (IsAppending c.args.geometry.now c.args.epoch c.args.txn c.args.place (c.loop-at.index + k) (g.D.Disk.moments c.args.disk.now).state) (g.D.Disk.moments c.put_group.new.disk).state) long
+          (group_now g.D.Disk.keeps c.args.geometry.now c.args.epoch c.args.txn c.args.place (sector_count_of c.args.records.now) (g.D.Disk.moments c.args.disk.now) c.loop-at.index cs within inside back _ c.fill_group-group.ensures.bytes (g.D.Disk.moments c.loop-at.disk) (g.D.Disk.moments c.put_group.new.disk) (i.now visible ready) (c.put_group.ensures.crash visible));
+      crash = λ visible ready. group_on g.D.Disk.keeps c.args.geometry.now c.args.epoch c.args.txn c.args.place (sector_count_of c.args.records.now) (g.D.Disk.moments c.args.disk.now) c.loop-at.index cs within inside back _ c.fill_group-group.ensures.bytes (g.D.Disk.moments c.loop-at.disk) (g.D.Disk.moments c.put_group.new.disk) (i.now visible ready) (c.put_group.ensures.crash visible) (omega (arith, fits, long)) (i.crash visible ready);
+      read = λ visible ready. subst (λ (l : List (List LogRecord)). HasAppended c.args.geometry.now c.args.epoch c.args.txn c.args.place l (reads (g.D.Disk.moments c.args.disk.now)) (reads (g.D.Disk.moments c.put_group.new.disk))) more
           (group_reads c.args.geometry.now c.args.epoch c.args.txn c.args.place cs (take c.loop-at.index all) c.loop-at.index counted within back _ c.fill_group-group.ensures.bytes (reads (g.D.Disk.moments c.args.disk.now)) (reads (g.D.Disk.moments c.loop-at.disk)) (reads (g.D.Disk.moments c.put_group.new.disk))
-          ((i.now told ready (reads (g.D.Disk.moments c.loop-at.disk)) (seen_is_image _)).free) (c.in_ok-put_group.ensures.ok told) (i.read told ready));
-      elsewhere = λ told k off. c.put_group.ensures.elsewhere told k off ∙ i.elsewhere told k off;
+          ((i.now visible ready (reads (g.D.Disk.moments c.loop-at.disk)) (seen_is_image _)).free) (c.in_ok-put_group.ensures.ok visible) (i.read visible ready));
+      elsewhere = λ visible k off. c.put_group.ensures.elsewhere visible k off ∙ i.elsewhere visible k off;
       kept = c.fill_group-group.ensures.kept;
       size = c.put_group.ensures.size ∙ i.size;
       faults = c.in_ok-put_group.ensures.cause.passed ∙ i.faults;
@@ -87,7 +87,7 @@ pub returns-clause-count : goal.returns-clause-count
 returns-clause-count g c = none_left c.args.records.now c.loop-at.at c.loop-at.index c.loop-at.invariant.rest c.loop-at-test.false c.loop-at.invariant.few
 
 pub returns-clause-ok : goal.returns-clause-ok
-returns-clause-ok g c told ready =
+returns-clause-ok g c visible ready =
     let all = none_left c.args.records.now c.loop-at.at c.loop-at.index c.loop-at.invariant.rest c.loop-at-test.false c.loop-at.invariant.few in
     subst (λ l. HasAppended c.args.geometry.now c.args.epoch c.args.txn c.args.place l (reads (g.D.Disk.moments c.args.disk.now)) (reads (g.D.Disk.moments c.loop-at.disk)))
-    (take_all c.loop-at.index (sectors_of_records c.args.records.now) (omega (arith, all))) (c.loop-at.invariant.read told ready)
+    (take_all c.loop-at.index (sectors_of_records c.args.records.now) (omega (arith, all))) (c.loop-at.invariant.read visible ready)

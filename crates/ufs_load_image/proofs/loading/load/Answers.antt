@@ -14,36 +14,36 @@ use Rattle.ufs_load_image.specs.Loaded.{is_free_block}
 use Rattle.ufs_load_image.proofs.loading.load.Goals as goal
 
 pub returns-in-Ok-clause-found : goal.returns-in-Ok-clause-found
-returns-in-Ok-clause-found g c told =
+returns-in-Ok-clause-found g c visible =
     let v = c.in_ok-opened.opened.volume in
     let disk = reads (g.D.Disk.moments c.args.disk.now) in
     subst (λ (x : FoldedVolume). AreFindingsOf x.superblock.geometry (folded_image x disk) c.in-Ok.loaded.findings) (sym c.in-Ok.ensures.volume)
-    (subst (AreFindingsOf v.superblock.geometry (folded_image v disk)) (sym c.in-Ok.ensures.findings) (c.in_ok-opened.ensures.found told))
+    (subst (AreFindingsOf v.superblock.geometry (folded_image v disk)) (sym c.in-Ok.ensures.findings) (c.in_ok-opened.ensures.found visible))
 
 pub returns-in-Ok-clause-catalog : goal.returns-in-Ok-clause-catalog
-returns-in-Ok-clause-catalog g c told =
+returns-in-Ok-clause-catalog g c visible =
     let disk = reads (g.D.Disk.moments c.args.disk.now) in
     subst (λ (x : FoldedVolume). IsCatalogOf x.superblock.geometry (folded_image x disk) (catalog_at x.superblock.geometry (folded_image x disk))) (sym c.in-Ok.ensures.volume)
-    (c.in-Ok.ensures.catalog (folded_image c.in_ok-opened.opened.volume disk) (c.in_ok-opened.ensures.whole told))
+    (c.in-Ok.ensures.catalog (folded_image c.in_ok-opened.opened.volume disk) (c.in_ok-opened.ensures.whole visible))
 
 pub returns-in-Ok-clause-free : goal.returns-in-Ok-clause-free
-returns-in-Ok-clause-free g c told b =
+returns-in-Ok-clause-free g c visible b =
     let disk = reads (g.D.Disk.moments c.args.disk.now) in
-    c.in-Ok.ensures.free (folded_image c.in_ok-opened.opened.volume disk) (c.in_ok-opened.ensures.found told) b
+    c.in-Ok.ensures.free (folded_image c.in_ok-opened.opened.volume disk) (c.in_ok-opened.ensures.found visible) b
     ∙ ap (λ (x : FoldedVolume). is_free_block x.superblock.geometry (folded_image x disk) b) (sym c.in-Ok.ensures.volume)
 
 pub returns-in-Ok-clause-forms : goal.returns-in-Ok-clause-forms
-returns-in-Ok-clause-forms g c told =
+returns-in-Ok-clause-forms g c visible =
     let v = c.in_ok-opened.opened.volume in
     let disk = reads (g.D.Disk.moments c.args.disk.now) in
     let image : Image = folded_image v disk in
-    let is : IsCatalogOf v.superblock.geometry image (catalog_at v.superblock.geometry image) = c.in-Ok.ensures.catalog image (c.in_ok-opened.ensures.whole told) in
-    ap (λ (f : CatalogRead). f.forms) c.in-Ok.ensures.findings ∙ (c.in_ok-opened.ensures.found told).forms
+    let is : IsCatalogOf v.superblock.geometry image (catalog_at v.superblock.geometry image) = c.in-Ok.ensures.catalog image (c.in_ok-opened.ensures.whole visible) in
+    ap (λ (f : CatalogRead). f.forms) c.in-Ok.ensures.findings ∙ (c.in_ok-opened.ensures.found visible).forms
     ∙ map-same (inode_at v.superblock.geometry image) (λ inode. Some (form_at v.superblock.geometry image inode)) (all_inodes v.superblock.geometry) (λ inode there. is.forms inode (inode_in v.superblock.geometry inode there))
     ∙ ap (λ (x : FoldedVolume). map (λ inode. Some (form_at x.superblock.geometry (folded_image x disk) inode)) (all_inodes x.superblock.geometry)) (sym c.in-Ok.ensures.volume)
 
 pub returns-in-Ok-clause-sound : goal.returns-in-Ok-clause-sound
-returns-in-Ok-clause-sound g c told =
+returns-in-Ok-clause-sound g c visible =
     let disk = reads (g.D.Disk.moments c.args.disk.now) in
     subst (λ (x : FoldedVolume). IsSoundCatalog x.superblock.geometry (catalog_at x.superblock.geometry (folded_image x disk))) (sym c.in-Ok.ensures.volume)
-    (c.in-Ok.ensures.sound (folded_image c.in_ok-opened.opened.volume disk) (c.in_ok-opened.ensures.whole told))
+    (c.in-Ok.ensures.sound (folded_image c.in_ok-opened.opened.volume disk) (c.in_ok-opened.ensures.whole visible))

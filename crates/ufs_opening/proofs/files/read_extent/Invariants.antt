@@ -14,8 +14,8 @@ invariant-loop-place g l =
     let disk = g.D.Disk in
     let first = disk.moments l.fn.disk in
     record {
-      bytes : IsTrue disk.tells → (image : Image) → IsFolded l.overlay (reads first) image → (whole : List ℕ) → IsFrontOf l.enough l.fn.bytes.items whole → IsFrontOf l.enough l.bytes.items (whole ++ flat_map (block_at image) (range_with_len l.extent.start l.place));
-      read_only : IsTrue disk.tells → IsReadOnly disk.keeps first (disk.moments l.disk);
+      bytes : IsTrue disk.visible → (image : Image) → IsFolded l.overlay (reads first) image → (whole : List ℕ) → IsFrontOf l.enough l.fn.bytes.items whole → IsFrontOf l.enough l.bytes.items (whole ++ flat_map (block_at image) (range_with_len l.extent.start l.place));
+      read_only : IsTrue disk.visible → IsReadOnly disk.keeps first (disk.moments l.disk);
       size : disk.size l.disk ≡ disk.size l.fn.disk;
       faults : disk.faults l.disk ≡ disk.faults l.fn.disk;
     }

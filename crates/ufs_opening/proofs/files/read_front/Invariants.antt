@@ -15,9 +15,9 @@ invariant-loop-extent g l =
     let disk = g.D.Disk in
     let first = disk.moments l.fn.disk in
     record {
-      bytes : IsTrue disk.tells → (image : Image) → IsFolded l.overlay (reads first) image
+      bytes : IsTrue disk.visible → (image : Image) → IsFolded l.overlay (reads first) image
           → IsFrontOf l.enough l.bytes.items (flat_map (block_at image) (flat_map (λ (e : Extent). range_with_len e.start e.length) (take l.extent-index l.form.extents)));
-      read_only : IsTrue disk.tells → IsReadOnly disk.keeps first (disk.moments l.disk);
+      read_only : IsTrue disk.visible → IsReadOnly disk.keeps first (disk.moments l.disk);
       size : disk.size l.disk ≡ disk.size l.fn.disk;
       faults : disk.faults l.disk ≡ disk.faults l.fn.disk;
     }

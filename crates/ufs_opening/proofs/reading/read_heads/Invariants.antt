@@ -15,10 +15,10 @@ invariant-loop-place g l =
     let first = disk.moments l.fn.disk in
     record {
       paths : paths_of l.heads.items ≡ map (λ (p : PathAt). p.path.items) (take l.place l.places);
-      heads : IsTrue disk.tells → (image : Image) → IsFolded l.overlay (reads first) image → AreReadable l.geometry image l.forms → AreInodes l.geometry (pairs_of l.places)
+      heads : IsTrue disk.visible → (image : Image) → IsFolded l.overlay (reads first) image → AreReadable l.geometry image l.forms → AreInodes l.geometry (pairs_of l.places)
           → l.heads.items ≡ heads_of l.most (map (entry_of l.geometry image) (pairs_of (take l.place l.places)));
       shape : AreHeads l.most l.heads.items;
-      read_only : IsTrue disk.tells → IsReadOnly disk.keeps first (disk.moments l.disk);
+      read_only : IsTrue disk.visible → IsReadOnly disk.keeps first (disk.moments l.disk);
       size : disk.size l.disk ≡ disk.size l.fn.disk;
       faults : disk.faults l.disk ≡ disk.faults l.fn.disk;
     }

@@ -12,14 +12,14 @@ use Rattle.ufs_opening.proofs.Forms.{no_form, dir_node, file_node, is_sized, lie
 use Rattle.ufs_opening.proofs.reading.read_node.Goals as goal
 
 pub returns-in_default-clause-outside : goal.returns-in_default-clause-outside
-returns-in_default-clause-outside g c told image is read in_range =
+returns-in_default-clause-outside g c visible image is read in_range =
     let forms = c.args.forms.now in
     let at : c.args.inode - 1 + 1 ≡ c.args.inode = let from = in_range.from_one in omega (arith, from) in
     no_form c.args.geometry.now image forms read c.args.inode in_range (c.args.inode - 1) at
     (sym c.in_default.is ∙ c.index-forms-at.is ∙ ap (λ (o : Option InodeForm). get_or forms (c.args.inode - 1) o) c.in_default.is)
 
 pub returns-then-form-eq-DIRECTORY-clause-node : goal.returns-then-form-eq-DIRECTORY-clause-node
-returns-then-form-eq-DIRECTORY-clause-node g c told image is read in_range =
+returns-then-form-eq-DIRECTORY-clause-node g c visible image is read in_range =
     let forms = c.args.forms.now in
     let at : c.args.inode - 1 + 1 ≡ c.args.inode = let from = in_range.from_one in omega (arith, from) in
     dir_node c.args.geometry.now image forms read c.args.inode in_range (c.args.inode - 1) at c.in-Some.form
@@ -27,7 +27,7 @@ returns-then-form-eq-DIRECTORY-clause-node g c told image is read in_range =
     c.args.most (ap (λ (f : InodeForm). f.kind) (sym c.form.view_is) ∙ c.if-form-eq-DIRECTORY.true)
 
 pub returns-then-any_leaves-clause-outside : goal.returns-then-any_leaves-clause-outside
-returns-then-any_leaves-clause-outside g c told image is read in_range =
+returns-then-any_leaves-clause-outside g c visible image is read in_range =
     let forms = c.args.forms.now in
     let at : c.args.inode - 1 + 1 ≡ c.args.inode = let from = in_range.from_one in omega (arith, from) in
     let inside = lies_inside c.args.geometry.now image forms read c.args.inode in_range (c.args.inode - 1) at c.in-Some.form
@@ -36,7 +36,7 @@ returns-then-any_leaves-clause-outside g c told image is read in_range =
     absurd (grind (arith, clash))
 
 pub returns-then-len-enough-clause-outside : goal.returns-then-len-enough-clause-outside
-returns-then-len-enough-clause-outside g c told image is read in_range =
+returns-then-len-enough-clause-outside g c visible image is read in_range =
     let forms = c.args.forms.now in
     let form = c.in-Some.form in
     let at : c.args.inode - 1 + 1 ≡ c.args.inode = let from = in_range.from_one in omega (arith, from) in
@@ -45,12 +45,12 @@ returns-then-len-enough-clause-outside g c told image is read in_range =
     let size : c.form.inside.size ≡ form.size = ap (λ (f : InodeForm). f.size) c.form.view_is in
     let enough : c.wanted-enough.result ≡ enough_of c.args.most form.size = c.wanted-enough.ensures ∙ ap (enough_of c.args.most) size in
     let whole : List ℕ = flat_map (block_at image) (blocks_of form) in
-    let there : length c.in_ok-bytes.bytes.items ≡ enough_of c.args.most form.size = all_there c.args.most form.size c.in_ok-bytes.bytes.items whole (c.in_ok-bytes.ensures.bytes told image is ∙ ap (λ n. take n whole) enough) sized in
+    let there : length c.in_ok-bytes.bytes.items ≡ enough_of c.args.most form.size = all_there c.args.most form.size c.in_ok-bytes.bytes.items whole (c.in_ok-bytes.ensures.bytes visible image is ∙ ap (λ n. take n whole) enough) sized in
     let short = c.if-len-enough.true in
     absurd (omega (arith, short, there, enough))
 
 pub returns-clause-node : goal.returns-clause-node
-returns-clause-node g c told image is read in_range =
+returns-clause-node g c visible image is read in_range =
     let forms = c.args.forms.now in
     let at : c.args.inode - 1 + 1 ≡ c.args.inode = let from = in_range.from_one in omega (arith, from) in
     let size : c.form.inside.size ≡ c.in-Some.form.size = ap (λ (f : InodeForm). f.size) c.form.view_is in
@@ -59,7 +59,7 @@ returns-clause-node g c told image is read in_range =
     (sym c.in-Some.is ∙ c.index-forms-at.is ∙ ap (λ (o : Option InodeForm). get_or forms (c.args.inode - 1) o) c.in-Some.is)
     c.args.most (λ dir. c.if-form-eq-DIRECTORY.false (ap (λ (f : InodeForm). f.kind) c.form.view_is ∙ dir))
     c.form.inside.size size c.from_vec.result
-    (c.from_vec.ensures ∙ c.in_ok-bytes.ensures.bytes told image is ∙ ap (λ n. take n whole) (c.wanted-enough.ensures ∙ ap (enough_of c.args.most) size) ∙ cut_enough c.args.most c.in-Some.form.size whole)
+    (c.from_vec.ensures ∙ c.in_ok-bytes.ensures.bytes visible image is ∙ ap (λ n. take n whole) (c.wanted-enough.ensures ∙ ap (enough_of c.args.most) size) ∙ cut_enough c.args.most c.in-Some.form.size whole)
 
 pub returns-then-form-eq-DIRECTORY-clause-shape : goal.returns-then-form-eq-DIRECTORY-clause-shape
 returns-then-form-eq-DIRECTORY-clause-shape g c = (None, refl)

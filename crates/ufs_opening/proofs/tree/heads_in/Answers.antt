@@ -21,7 +21,7 @@ use Rattle.ufs_opening.specs.Heads as heads
 use Rattle.ufs_opening.specs.Shown.{AreReadable, IsOpened}
 use Rattle.ufs_opening.specs.declared.opened.Opened.{Opened}
 use Rattle.ufs_opening.proofs.Lengths.{file_sized, folded_sized}
-use Rattle.ufs_opening.proofs.Trees.{has_heads, heads_by, head_keys, place_keys, rising_same, untold_heads}
+use Rattle.ufs_opening.proofs.Trees.{has_heads, heads_by, head_keys, place_keys, rising_same, unseen_heads}
 use Rattle.ufs_opening.proofs.tree.heads_in.Goals as goal
 
 readable : (o : Opened) (sectors : ℕ) (disk : Image) (forms : List (Option InodeForm)) → forms ≡ o.findings.forms → IsOpened o sectors disk → ((s : ℕ) → s < sector_count o.volume.superblock.geometry → length (disk s) ≡ 512)
@@ -40,15 +40,15 @@ readable o sectors disk forms same is long sound =
     }
 
 pub returns-in_err-heads-clause-outside : goal.returns-in_err-heads-clause-outside
-returns-in_err-heads-clause-outside g c told sectors is =
+returns-in_err-heads-clause-outside g c visible sectors is =
     let o = c.args.opened.now in
     let disk = reads (g.D.Disk.moments c.args.disk.now) in
     let image = folded_image o.volume disk in
-    let long : (s : ℕ) → s < sector_count o.volume.superblock.geometry → length (disk s) ≡ 512 = λ s less. ((g.met.D.Disk.whole told c.args.disk.now).within s (omega (arith, less, c.requires.large)) _ (seen_is_image (g.D.Disk.moments c.args.disk.now).state s)).sized in
+    let long : (s : ℕ) → s < sector_count o.volume.superblock.geometry → length (disk s) ≡ 512 = λ s less. ((g.met.D.Disk.whole visible c.args.disk.now).within s (omega (arith, less, c.requires.large)) _ (seen_is_image (g.D.Disk.moments c.args.disk.now).state s)).sized in
     let sound = c.damage_law.ensures.sound image (catalog_at o.volume.superblock.geometry image) (c.damage_law.ensures.catalog image is.whole) is.whole in
     let all : AreInodes o.volume.superblock.geometry (pairs_of c.deref.result.now) = subst (λ (ps : List PathAt). AreInodes o.volume.superblock.geometry (pairs_of ps)) (sym c.deref.ensures.value) (c.in-Ok.ensures.inodes image is.found is.whole) in
     let p = err_from_is_err_and c.from_residual.result c.from_residual.ensures.1 in
-    rw (p.1, p.2) (c.in_err-heads.ensures.outside told image (is_folded o.volume disk is.added) (readable o sectors disk c.forms-forms.result.now c.forms-forms.ensures is long sound) all)
+    rw (p.1, p.2) (c.in_err-heads.ensures.outside visible image (is_folded o.volume disk is.added) (readable o sectors disk c.forms-forms.result.now c.forms-forms.ensures is long sound) all)
 
 pub returns-clause-rising : goal.returns-clause-rising
 returns-clause-rising g c =
@@ -58,16 +58,16 @@ returns-clause-rising g c =
 
 pub returns-clause-heads : goal.returns-clause-heads
 returns-clause-heads g c sectors opened =
-    heads_by g.D.Disk.tells sectors (reads (g.D.Disk.moments c.args.disk.now)) c.args.most c.in_ok-heads.heads.items (λ told.
-    let is = opened told in
+    heads_by g.D.Disk.visible sectors (reads (g.D.Disk.moments c.args.disk.now)) c.args.most c.in_ok-heads.heads.items (λ visible.
+    let is = opened visible in
     let o = c.args.opened.now in
     let disk = reads (g.D.Disk.moments c.args.disk.now) in
     let image = folded_image o.volume disk in
     let v : Volume = volume_in o.volume disk in
-    let long : (s : ℕ) → s < sector_count o.volume.superblock.geometry → length (disk s) ≡ 512 = λ s less. ((g.met.D.Disk.whole told c.args.disk.now).within s (omega (arith, less, c.requires.large)) _ (seen_is_image (g.D.Disk.moments c.args.disk.now).state s)).sized in
+    let long : (s : ℕ) → s < sector_count o.volume.superblock.geometry → length (disk s) ≡ 512 = λ s less. ((g.met.D.Disk.whole visible c.args.disk.now).within s (omega (arith, less, c.requires.large)) _ (seen_is_image (g.D.Disk.moments c.args.disk.now).state s)).sized in
     let sound = c.damage_law.ensures.sound image (catalog_at o.volume.superblock.geometry image) (c.damage_law.ensures.catalog image is.whole) is.whole in
     let all : AreInodes o.volume.superblock.geometry (pairs_of c.deref.result.now) = subst (λ (ps : List PathAt). AreInodes o.volume.superblock.geometry (pairs_of ps)) (sym c.deref.ensures.value) (c.in-Ok.ensures.inodes image is.found is.whole) in
     has_heads sectors disk v c.in-Ok.places.items is.taken is.whole sound.root (c.in-Ok.ensures.places image is.found is.whole) c.args.most c.in_ok-heads.heads.items c.in-Ok.ensures.rising
-    (c.in_ok-heads.ensures.heads told image (is_folded o.volume disk is.added) (readable o sectors disk c.forms-forms.result.now c.forms-forms.ensures is long sound) all
+    (c.in_ok-heads.ensures.heads visible image (is_folded o.volume disk is.added) (readable o sectors disk c.forms-forms.result.now c.forms-forms.ensures is long sound) all
     ∙ ap (λ (ps : List PathAt). heads_of c.args.most (map (entry_of o.volume.superblock.geometry image) (pairs_of ps))) c.deref.ensures.value))
-    (untold_heads sectors (reads (g.D.Disk.moments c.args.disk.now)) c.args.most c.in_ok-heads.heads.items (returns-clause-rising g c) c.in_ok-heads.ensures.shape)
+    (unseen_heads sectors (reads (g.D.Disk.moments c.args.disk.now)) c.args.most c.in_ok-heads.heads.items (returns-clause-rising g c) c.in_ok-heads.ensures.shape)

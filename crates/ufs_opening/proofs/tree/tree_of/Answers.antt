@@ -6,5 +6,5 @@ pub from_vec-requires : goal.from_vec-requires
 from_vec-requires g c = whole_rising c.in_ok-heads.heads.items c.in_ok-entries.entries.items c.in_ok-entries.ensures c.in_ok-heads.ensures.rising
 
 pub returns-clause-tree : goal.returns-clause-tree
-returns-clause-tree g c told =
-    is_tree (g.D.Disk.size c.args.disk.now) (reads (g.D.Disk.moments c.args.disk.now)) c.in_ok-heads.heads.items c.in_ok-entries.entries.items c.from_vec.result g.D.Disk.tells told c.in_ok-heads.ensures.heads c.in_ok-entries.ensures c.from_vec.ensures.entries
+returns-clause-tree g c visible =
+    is_tree (g.D.Disk.size c.args.disk.now) (reads (g.D.Disk.moments c.args.disk.now)) c.in_ok-heads.heads.items c.in_ok-entries.entries.items c.from_vec.result g.D.Disk.visible visible c.in_ok-heads.ensures.heads c.in_ok-entries.ensures c.from_vec.ensures.entries

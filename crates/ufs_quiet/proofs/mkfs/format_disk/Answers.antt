@@ -13,7 +13,7 @@ use Rattle.ufs_quiet.proofs.mkfs.format_disk.Goals as goal
 pub returns-in-Err-Device-clause-answer : goal.returns-in-Err-Device-clause-answer
 returns-in-Err-Device-clause-answer g c =
     let geometry = c.args.geometry.now in
-    let d = formatting g.D.Disk.tells g.D.Disk.size g.D.Disk.moments g.D.Disk.faults c.args.disk.now c.format.new.disk in
+    let d = formatting g.D.Disk.visible g.D.Disk.size g.D.Disk.moments g.D.Disk.faults c.args.disk.now c.format.new.disk in
     let w = writing g.K.Sink.held g.K.Sink.faults c.args.sink.now c.tell-in-Err-Device.new.sink in
     let fault = c.in-Err-Device.fault in
     let large : sector_count geometry ≤ d.sectors = omega (arith, c.sectors.ensures) in

@@ -5,10 +5,10 @@ use Rattle.ufs_recover.specs.Stopped.{IsNewDisk, IsStopped}
 use Rattle.ufs_quiet.proofs.mkfs.mkfs.Goals as goal
 
 pub returns-in-Ok-clause-formatted : goal.returns-in-Ok-clause-formatted
-returns-in-Ok-clause-formatted g c tells zero =
-    subst (λ (x : Geometry). IsNewDisk x (g.D.Disk.size c.args.disk.now) (g.D.Disk.moments c.format_disk.new.disk).state) c.in-Ok.ensures.made (c.format_disk.ensures.formatted tells zero)
+returns-in-Ok-clause-formatted g c visible zero =
+    subst (λ (x : Geometry). IsNewDisk x (g.D.Disk.size c.args.disk.now) (g.D.Disk.moments c.format_disk.new.disk).state) c.in-Ok.ensures.made (c.format_disk.ensures.formatted visible zero)
 
 pub returns-in-Ok-clause-crash : goal.returns-in-Ok-clause-crash
-returns-in-Ok-clause-crash g c tells =
+returns-in-Ok-clause-crash g c visible =
     let old = g.D.Disk.moments c.args.disk.now in
-    subst (λ (x : Geometry). LeavesOnly g.D.Disk.keeps (IsStopped x (g.D.Disk.size c.args.disk.now) old.state) old (g.D.Disk.moments c.format_disk.new.disk)) c.in-Ok.ensures.made (c.format_disk.ensures.crash tells)
+    subst (λ (x : Geometry). LeavesOnly g.D.Disk.keeps (IsStopped x (g.D.Disk.size c.args.disk.now) old.state) old (g.D.Disk.moments c.format_disk.new.disk)) c.in-Ok.ensures.made (c.format_disk.ensures.crash visible)

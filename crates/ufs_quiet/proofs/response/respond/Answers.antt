@@ -11,21 +11,21 @@ pub returns-in-Some-clause-answer : goal.returns-in-Some-clause-answer
 returns-in-Some-clause-answer g c =
     let named : image_word (map string_bytes c.in-Ok.words.items) ≡ Some c.in-Some.field-0.now = sym c.in-Some.ensures in
     answered c.args.words.now c.in-Ok.words c.in-Some.field-0.now c.in-Ok.is named
-    (reading g.S.Source.left g.S.Source.faults c.args.source.now c.quiet.new.source) (formatting g.D.Disk.tells g.D.Disk.size g.D.Disk.moments g.D.Disk.faults c.args.disk c.quiet.result.disk) c.quiet.result.told
+    (reading g.S.Source.left g.S.Source.faults c.args.source.now c.quiet.new.source) (formatting g.D.Disk.visible g.D.Disk.size g.D.Disk.moments g.D.Disk.faults c.args.disk c.quiet.result.disk) c.quiet.result.told
     (writing g.K.Sink.held g.K.Sink.faults c.args.sink.now c.quiet.new.sink) c.quiet.result.status c.quiet.ensures.answer
 
 pub returns-in-Some-clause-told : goal.returns-in-Some-clause-told
 returns-in-Some-clause-told g c =
     let named : image_word (map string_bytes c.in-Ok.words.items) ≡ Some c.in-Some.field-0.now = sym c.in-Some.ensures in
     subst (λ (x : Option Command). Tells x (reading g.S.Source.left g.S.Source.faults c.args.source.now c.quiet.new.source)
-    (formatting g.D.Disk.tells g.D.Disk.size g.D.Disk.moments g.D.Disk.faults c.args.disk c.quiet.result.disk) c.quiet.result.told
+    (formatting g.D.Disk.visible g.D.Disk.size g.D.Disk.moments g.D.Disk.faults c.args.disk c.quiet.result.disk) c.quiet.result.told
     (writing g.K.Sink.held g.K.Sink.faults c.args.sink.now c.quiet.new.sink) c.quiet.result.status)
     (sym (same_command c.args.words.now c.in-Ok.words c.in-Some.field-0.now c.in-Ok.is named)) c.quiet.ensures.told
 
 pub returns-in-Some-clause-disk : goal.returns-in-Some-clause-disk
 returns-in-Some-clause-disk g c =
     let named : image_word (map string_bytes c.in-Ok.words.items) ≡ Some c.in-Some.field-0.now = sym c.in-Some.ensures in
-    subst (λ (x : Option Command). LeavesDisk x c.quiet.result.told c.quiet.result.status (course g.D.Disk.tells g.D.Disk.keeps g.D.Disk.size g.D.Disk.moments g.D.Disk.faults c.args.disk c.quiet.result.disk))
+    subst (λ (x : Option Command). LeavesDisk x c.quiet.result.told c.quiet.result.status (course g.D.Disk.visible g.D.Disk.keeps g.D.Disk.size g.D.Disk.moments g.D.Disk.faults c.args.disk c.quiet.result.disk))
     (sym (same_command c.args.words.now c.in-Ok.words c.in-Some.field-0.now c.in-Ok.is named)) c.quiet.ensures.disk
 
 pub returns-in-Some-clause-source : goal.returns-in-Some-clause-source

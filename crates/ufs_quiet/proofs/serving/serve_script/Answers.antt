@@ -16,7 +16,7 @@ returns-clause-answer g c =
     let told = c.play-played.result.told in
     let ended = c.play-played.result.ended in
     let script = c.args.script in
-    let d = formatting g.D.Disk.tells g.D.Disk.size g.D.Disk.moments g.D.Disk.faults c.args.disk c.play-played.result.disk in
+    let d = formatting g.D.Disk.visible g.D.Disk.size g.D.Disk.moments g.D.Disk.faults c.args.disk c.play-played.result.disk in
     let is = c.play-played.ensures in
     let has : HasPlayed d script told ended = record { legal = is.legal; refused = is.refused; opening = is.opening; closing = is.closing; played = is.played; opened = is.opened; why = is.why; unopened = is.unopened } in
     answer_map (EndsPlayed ended (session_lines c.args.trace (joined told))) (EndsServing c.args.trace d script told) (writing g.K.Sink.held g.K.Sink.faults c.args.sink.now c.tell_played.new.sink) c.tell_played.result

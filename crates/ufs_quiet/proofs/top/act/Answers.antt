@@ -8,13 +8,13 @@ use Rattle.ufs_quiet.proofs.top.act.Goals as goal
 
 pub returns-in-Mkfs-clause-answer : goal.returns-in-Mkfs-clause-answer
 returns-in-Mkfs-clause-answer g c r =
-    let d = formatting g.D.Disk.tells g.D.Disk.size g.D.Disk.moments g.D.Disk.faults c.args.disk.now c.mkfs.new.disk in
+    let d = formatting g.D.Disk.visible g.D.Disk.size g.D.Disk.moments g.D.Disk.faults c.args.disk.now c.mkfs.new.disk in
     subst (λ (x : Command). IsAnswer (Ends (Some x) r d []) (writing g.K.Sink.held g.K.Sink.faults c.args.sink.now c.mkfs.new.sink) c.mkfs.result) (sym c.in-Mkfs.is) c.mkfs.ensures.answer
 
 pub returns-in-Mkfs-clause-disk : goal.returns-in-Mkfs-clause-disk
 returns-in-Mkfs-clause-disk g c =
     disk_left (Some c.args.which) (Some (command.Mkfs c.in-Mkfs.blocks c.in-Mkfs.inodes c.in-Mkfs.journal)) (ap (λ (x : Command). Some x) c.in-Mkfs.is) [] c.mkfs.result
-    (course g.D.Disk.tells g.D.Disk.keeps g.D.Disk.size g.D.Disk.moments g.D.Disk.faults c.args.disk.now c.mkfs.new.disk)
+    (course g.D.Disk.visible g.D.Disk.keeps g.D.Disk.size g.D.Disk.moments g.D.Disk.faults c.args.disk.now c.mkfs.new.disk)
     (record {
       formatted = c.mkfs.ensures.formatted;
       crash = c.mkfs.ensures.crash;
@@ -25,33 +25,33 @@ returns-in-Mkfs-clause-disk g c =
 
 pub returns-in-Tree-clause-answer : goal.returns-in-Tree-clause-answer
 returns-in-Tree-clause-answer g c r =
-    let d = formatting g.D.Disk.tells g.D.Disk.size g.D.Disk.moments g.D.Disk.faults c.args.disk.now c.tree.new.disk in
+    let d = formatting g.D.Disk.visible g.D.Disk.size g.D.Disk.moments g.D.Disk.faults c.args.disk.now c.tree.new.disk in
     subst (λ (x : Command). IsAnswer (Ends (Some x) r d []) (writing g.K.Sink.held g.K.Sink.faults c.args.sink.now c.tree.new.sink) c.tree.result) (sym c.in-Tree.is) c.tree.ensures.answer
 
 pub returns-in-Tree-clause-disk : goal.returns-in-Tree-clause-disk
 returns-in-Tree-clause-disk g c =
     disk_left (Some c.args.which) (Some command.Tree) (ap (λ (x : Command). Some x) c.in-Tree.is) [] c.tree.result
-    (course g.D.Disk.tells g.D.Disk.keeps g.D.Disk.size g.D.Disk.moments g.D.Disk.faults c.args.disk.now c.tree.new.disk)
+    (course g.D.Disk.visible g.D.Disk.keeps g.D.Disk.size g.D.Disk.moments g.D.Disk.faults c.args.disk.now c.tree.new.disk)
     c.tree.ensures.read_only (c.tree.ensures.size) c.tree.ensures.disk_told
 
 pub returns-in-Check-clause-answer : goal.returns-in-Check-clause-answer
 returns-in-Check-clause-answer g c r =
-    let d = formatting g.D.Disk.tells g.D.Disk.size g.D.Disk.moments g.D.Disk.faults c.args.disk.now c.check.new.disk in
+    let d = formatting g.D.Disk.visible g.D.Disk.size g.D.Disk.moments g.D.Disk.faults c.args.disk.now c.check.new.disk in
     subst (λ (x : Command). IsAnswer (Ends (Some x) r d []) (writing g.K.Sink.held g.K.Sink.faults c.args.sink.now c.check.new.sink) c.check.result) (sym c.in-Check.is) c.check.ensures.answer
 
 pub returns-in-Check-clause-disk : goal.returns-in-Check-clause-disk
 returns-in-Check-clause-disk g c =
     disk_left (Some c.args.which) (Some command.Check) (ap (λ (x : Command). Some x) c.in-Check.is) [] c.check.result
-    (course g.D.Disk.tells g.D.Disk.keeps g.D.Disk.size g.D.Disk.moments g.D.Disk.faults c.args.disk.now c.check.new.disk)
+    (course g.D.Disk.visible g.D.Disk.keeps g.D.Disk.size g.D.Disk.moments g.D.Disk.faults c.args.disk.now c.check.new.disk)
     c.check.ensures.read_only (c.check.ensures.size) c.check.ensures.disk_told
 
 pub returns-in-Recover-clause-answer : goal.returns-in-Recover-clause-answer
 returns-in-Recover-clause-answer g c r =
-    let d = formatting g.D.Disk.tells g.D.Disk.size g.D.Disk.moments g.D.Disk.faults c.args.disk.now c.recover.new.disk in
+    let d = formatting g.D.Disk.visible g.D.Disk.size g.D.Disk.moments g.D.Disk.faults c.args.disk.now c.recover.new.disk in
     subst (λ (x : Command). IsAnswer (Ends (Some x) r d []) (writing g.K.Sink.held g.K.Sink.faults c.args.sink.now c.recover.new.sink) c.recover.result) (sym c.in-Recover.is) c.recover.ensures.answer
 
 pub returns-in-Recover-clause-disk : goal.returns-in-Recover-clause-disk
 returns-in-Recover-clause-disk g c =
     disk_left (Some c.args.which) (Some command.Recover) (ap (λ (x : Command). Some x) c.in-Recover.is) [] c.recover.result
-    (course g.D.Disk.tells g.D.Disk.keeps g.D.Disk.size g.D.Disk.moments g.D.Disk.faults c.args.disk.now c.recover.new.disk)
+    (course g.D.Disk.visible g.D.Disk.keeps g.D.Disk.size g.D.Disk.moments g.D.Disk.faults c.args.disk.now c.recover.new.disk)
     c.recover.ensures.acts (c.recover.ensures.size) c.recover.ensures.disk_told

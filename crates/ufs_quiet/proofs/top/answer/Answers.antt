@@ -11,14 +11,14 @@ pub returns-in-Play-clause-answer : goal.returns-in-Play-clause-answer
 returns-in-Play-clause-answer g c =
     let is : asked c.args.words.now.items ≡ Some (command.Play c.in-Play.trace) = sym (ap (λ l. command_of (map string_bytes l)) c.as_slice.ensures.value) ∙ sym c.read_command.ensures ∙ c.in-Some.is ∙ ap (λ (x : Command). Some x) c.in-Play.is in
     let r = reading g.S.Source.left g.S.Source.faults c.args.source.now c.read_and_serve.new.source in
-    let d = formatting g.D.Disk.tells g.D.Disk.size g.D.Disk.moments g.D.Disk.faults c.args.disk c.read_and_serve.result.disk in
+    let d = formatting g.D.Disk.visible g.D.Disk.size g.D.Disk.moments g.D.Disk.faults c.args.disk c.read_and_serve.result.disk in
     subst (λ (x : Option Command). IsAnswer (Ends x r d c.read_and_serve.result.told) (writing g.K.Sink.held g.K.Sink.faults c.args.sink.now c.read_and_serve.new.sink) c.read_and_serve.result.status) (sym is) c.read_and_serve.ensures.answer
 
 pub returns-in-Play-clause-disk : goal.returns-in-Play-clause-disk
 returns-in-Play-clause-disk g c =
     let is : asked c.args.words.now.items ≡ Some (command.Play c.in-Play.trace) = sym (ap (λ l. command_of (map string_bytes l)) c.as_slice.ensures.value) ∙ sym c.read_command.ensures ∙ c.in-Some.is ∙ ap (λ (x : Command). Some x) c.in-Play.is in
     played_left (asked c.args.words.now.items) c.in-Play.trace is c.read_and_serve.result.told c.read_and_serve.result.status
-    (course g.D.Disk.tells g.D.Disk.keeps g.D.Disk.size g.D.Disk.moments g.D.Disk.faults c.args.disk c.read_and_serve.result.disk)
+    (course g.D.Disk.visible g.D.Disk.keeps g.D.Disk.size g.D.Disk.moments g.D.Disk.faults c.args.disk c.read_and_serve.result.disk)
     c.read_and_serve.ensures.acts c.read_and_serve.ensures.size c.read_and_serve.ensures.disk_told
 
 pub returns-in-Play-clause-source : goal.returns-in-Play-clause-source

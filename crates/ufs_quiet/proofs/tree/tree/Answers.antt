@@ -9,7 +9,7 @@ use Rattle.ufs_quiet.proofs.tree.tree.Goals as goal
 
 pub returns-in-Ok-clause-answer : goal.returns-in-Ok-clause-answer
 returns-in-Ok-clause-answer g c =
-    let d = formatting g.D.Disk.tells g.D.Disk.size g.D.Disk.moments g.D.Disk.faults c.args.disk.now c.tree_heads.new.disk in
+    let d = formatting g.D.Disk.visible g.D.Disk.size g.D.Disk.moments g.D.Disk.faults c.args.disk.now c.tree_heads.new.disk in
     let is = c.in-Ok.ensures.heads in
     let same : head_lines c.as_slice.result.now ≡ tree_lines is.tree = ap head_lines c.as_slice.ensures.value ∙ tree_lines_are c.in-Ok.heads.items is.tree is.same in
     answer_map (EndsPrinting (head_lines c.as_slice.result.now)) (EndsTree d) (writing g.K.Sink.held g.K.Sink.faults c.args.sink.now c.print_whole.new.sink) c.print_whole.result
@@ -17,7 +17,7 @@ returns-in-Ok-clause-answer g c =
 
 pub returns-in-Err-clause-answer : goal.returns-in-Err-clause-answer
 returns-in-Err-clause-answer g c =
-    let d = formatting g.D.Disk.tells g.D.Disk.size g.D.Disk.moments g.D.Disk.faults c.args.disk.now c.tree_heads.new.disk in
+    let d = formatting g.D.Disk.visible g.D.Disk.size g.D.Disk.moments g.D.Disk.faults c.args.disk.now c.tree_heads.new.disk in
     let f = c.in-Err.fault in
     answer_line (EndsTree d) (ending_of f) (line_of f) (writing g.K.Sink.held g.K.Sink.faults c.args.sink.now c.tell_refusal.new.sink) c.tell_refusal.result
     (tree_refused d f c.in-Err.ensures.cause c.in-Err.ensures.refused) c.tell_refusal.ensures.answer

@@ -8,9 +8,9 @@ abbrev pub invariant-loop-block : goal.invariant-loop-block
 invariant-loop-block g l =
     let disk = g.D.Disk in
     record {
-      written : IsTrue disk.tells → HasTablesBelow l.fn.geometry l.block (reads (disk.moments l.disk));
-      others : IsTrue disk.tells → (s : ℕ) → IsOutside l.fn.geometry s → reads (disk.moments l.disk) s ≡ reads (disk.moments l.fn.disk) s;
-      crash : IsTrue disk.tells → LeavesOnly disk.keeps IsBlank (disk.moments l.fn.disk) (disk.moments l.disk);
+      written : IsTrue disk.visible → HasTablesBelow l.fn.geometry l.block (reads (disk.moments l.disk));
+      others : IsTrue disk.visible → (s : ℕ) → IsOutside l.fn.geometry s → reads (disk.moments l.disk) s ≡ reads (disk.moments l.fn.disk) s;
+      crash : IsTrue disk.visible → LeavesOnly disk.keeps IsBlank (disk.moments l.fn.disk) (disk.moments l.disk);
       size : disk.size l.disk ≡ disk.size l.fn.disk;
       faults : disk.faults l.disk ≡ disk.faults l.fn.disk;
     }

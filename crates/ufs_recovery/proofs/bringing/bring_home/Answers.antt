@@ -7,19 +7,19 @@ use Rattle.ufs_recovery.proofs.Homing.{folds_to, home_tree}
 use Rattle.ufs_recovery.proofs.bringing.bring_home.Goals as goal
 
 pub returns-in_err-write_home-clause-tree : goal.returns-in_err-write_home-clause-tree
-returns-in_err-write_home-clause-tree g c told settled v over =
-    weaker _ _ _ (home_tree (g.D.Disk.size c.args.disk.now) (g.D.Disk.moments c.args.disk.now).state v c.args.overlay.now over settled (g.met.D.Disk.whole told c.args.disk.now)) _ _
-    (c.write_home.ensures.crash told _ over.added (λ image left sector touched. ap (λ (d : Image). d sector) (settled image left)))
+returns-in_err-write_home-clause-tree g c visible settled v over =
+    weaker _ _ _ (home_tree (g.D.Disk.size c.args.disk.now) (g.D.Disk.moments c.args.disk.now).state v c.args.overlay.now over settled (g.met.D.Disk.whole visible c.args.disk.now)) _ _
+    (c.write_home.ensures.crash visible _ over.added (λ image left sector touched. ap (λ (d : Image). d sector) (settled image left)))
 
 pub returns-clause-home : goal.returns-clause-home
-returns-clause-home g c told = on_ok_weaker c.barrier.result (λ settled v over sector.
-    ap (λ (d : Image). d sector) (c.barrier.ensures.content told)
-    ∙ c.in_ok-write_home.ensures.ok told _ over.added sector
-    ∙ ap (λ (d : Image). d sector) (sym (folds_to _ _ v c.args.overlay.now over))) (c.barrier.ensures.ok told)
+returns-clause-home g c visible = on_ok_weaker c.barrier.result (λ settled v over sector.
+    ap (λ (d : Image). d sector) (c.barrier.ensures.content visible)
+    ∙ c.in_ok-write_home.ensures.ok visible _ over.added sector
+    ∙ ap (λ (d : Image). d sector) (sym (folds_to _ _ v c.args.overlay.now over))) (c.barrier.ensures.ok visible)
 
 pub returns-clause-tree : goal.returns-clause-tree
-returns-clause-tree g c told settled v over =
+returns-clause-tree g c visible settled v over =
     kept_quietly _ (g.D.Disk.size c.args.disk.now) _ _ _
-    (weaker _ _ _ (home_tree (g.D.Disk.size c.args.disk.now) (g.D.Disk.moments c.args.disk.now).state v c.args.overlay.now over settled (g.met.D.Disk.whole told c.args.disk.now)) _ _
-    (c.write_home.ensures.crash told _ over.added (λ image left sector touched. ap (λ (d : Image). d sector) (settled image left))))
-    (c.barrier.ensures.crash told)
+    (weaker _ _ _ (home_tree (g.D.Disk.size c.args.disk.now) (g.D.Disk.moments c.args.disk.now).state v c.args.overlay.now over settled (g.met.D.Disk.whole visible c.args.disk.now)) _ _
+    (c.write_home.ensures.crash visible _ over.added (λ image left sector touched. ap (λ (d : Image). d sector) (settled image left))))
+    (c.barrier.ensures.crash visible)

@@ -6,7 +6,7 @@ use Rattle.ufs_recovery.proofs.SuperblockPut.{one_put}
 use Rattle.ufs_recovery.proofs.sector.put_sector.Goals as goal
 
 pub returns-clause-written : goal.returns-clause-written
-returns-clause-written g c told = on_ok_weaker c.write.result (λ is. is ∙ put_one c.args.sector c.args.bytes.now _ (omega arith)) (c.write.ensures.ok told)
+returns-clause-written g c visible = on_ok_weaker c.write.result (λ is. is ∙ put_one c.args.sector c.args.bytes.now _ (omega arith)) (c.write.ensures.ok visible)
 
 pub returns-clause-crash : goal.returns-clause-crash
-returns-clause-crash g c told = weaker _ _ _ (λ image from. one_put c.args.sector c.args.bytes.now _ image (omega arith) from) _ _ (c.write.ensures.crash told)
+returns-clause-crash g c visible = weaker _ _ _ (λ image from. one_put c.args.sector c.args.bytes.now _ image (omega arith) from) _ _ (c.write.ensures.crash visible)

@@ -9,21 +9,21 @@ use Rattle.ufs_recovery.proofs.SuperblockPut.{superblock_there, superblock_tree,
 use Rattle.ufs_recovery.proofs.sector.put_superblock.Goals as goal
 
 pub returns-in_err-put_sector-clause-tree : goal.returns-in_err-put_sector-clause-tree
-returns-in_err-put_sector-clause-tree g c told settled brought =
-    weaker _ _ _ (superblock_tree (g.D.Disk.size c.args.disk.now) (g.D.Disk.moments c.args.disk.now).state c.args.superblock.now c.superblock_sector.result c.superblock_sector.ensures brought settled) _ _ (c.put_sector.ensures.crash told)
+returns-in_err-put_sector-clause-tree g c visible settled brought =
+    weaker _ _ _ (superblock_tree (g.D.Disk.size c.args.disk.now) (g.D.Disk.moments c.args.disk.now).state c.args.superblock.now c.superblock_sector.result c.superblock_sector.ensures brought settled) _ _ (c.put_sector.ensures.crash visible)
 
 pub returns-clause-home : goal.returns-clause-home
-returns-clause-home g c told = on_ok_weaker c.barrier.result (λ settled brought.
-    subst (IsAtHome (g.D.Disk.size c.args.disk.now) c.args.superblock.now) (sym (c.barrier.ensures.content told ∙ c.in_ok-put_sector.ensures.written told))
-    (superblock_there (g.D.Disk.size c.args.disk.now) (g.D.Disk.moments c.args.disk.now).state c.args.superblock.now c.superblock_sector.result c.superblock_sector.ensures brought)) (c.barrier.ensures.ok told)
+returns-clause-home g c visible = on_ok_weaker c.barrier.result (λ settled brought.
+    subst (IsAtHome (g.D.Disk.size c.args.disk.now) c.args.superblock.now) (sym (c.barrier.ensures.content visible ∙ c.in_ok-put_sector.ensures.written visible))
+    (superblock_there (g.D.Disk.size c.args.disk.now) (g.D.Disk.moments c.args.disk.now).state c.args.superblock.now c.superblock_sector.result c.superblock_sector.ensures brought)) (c.barrier.ensures.ok visible)
 
 pub returns-clause-others : goal.returns-clause-others
-returns-clause-others g c told = on_ok_weaker c.barrier.result (λ settled sector other.
-    ap (λ (d : Image). d sector) (c.barrier.ensures.content told ∙ c.in_ok-put_sector.ensures.written told)
-    ∙ put_other 0 sector c.superblock_sector.result (reads (g.D.Disk.moments c.args.disk.now)) other) (c.barrier.ensures.ok told)
+returns-clause-others g c visible = on_ok_weaker c.barrier.result (λ settled sector other.
+    ap (λ (d : Image). d sector) (c.barrier.ensures.content visible ∙ c.in_ok-put_sector.ensures.written visible)
+    ∙ put_other 0 sector c.superblock_sector.result (reads (g.D.Disk.moments c.args.disk.now)) other) (c.barrier.ensures.ok visible)
 
 pub returns-clause-tree : goal.returns-clause-tree
-returns-clause-tree g c told settled brought =
+returns-clause-tree g c visible settled brought =
     kept_quietly _ (g.D.Disk.size c.args.disk.now) _ _ _
-    (weaker _ _ _ (superblock_tree (g.D.Disk.size c.args.disk.now) (g.D.Disk.moments c.args.disk.now).state c.args.superblock.now c.superblock_sector.result c.superblock_sector.ensures brought settled) _ _ (c.put_sector.ensures.crash told))
-    (c.barrier.ensures.crash told)
+    (weaker _ _ _ (superblock_tree (g.D.Disk.size c.args.disk.now) (g.D.Disk.moments c.args.disk.now).state c.args.superblock.now c.superblock_sector.result c.superblock_sector.ensures brought settled) _ _ (c.put_sector.ensures.crash visible))
+    (c.barrier.ensures.crash visible)

@@ -12,10 +12,10 @@ invariant-loop-at g l =
     let first = disk.moments l.fn.disk in
     record {
       within : l.at ≤ l.geometry.journal;
-      found : IsTrue disk.tells → l.list.found.items ≡ well_spelled (read_from l.epoch (reads first) (8 * first_of_journal l.geometry) l.at);
-      misspelled : IsTrue disk.tells → l.list.misspelled ≡ misspelled (read_from l.epoch (reads first) (8 * first_of_journal l.geometry) l.at);
-      content : IsTrue disk.tells → reads (disk.moments l.disk) ≡ reads first;
-      crash : IsTrue disk.tells → LeavesOnly disk.keeps (IsImage first.state) first (disk.moments l.disk);
+      found : IsTrue disk.visible → l.list.found.items ≡ well_spelled (read_from l.epoch (reads first) (8 * first_of_journal l.geometry) l.at);
+      misspelled : IsTrue disk.visible → l.list.misspelled ≡ misspelled (read_from l.epoch (reads first) (8 * first_of_journal l.geometry) l.at);
+      content : IsTrue disk.visible → reads (disk.moments l.disk) ≡ reads first;
+      crash : IsTrue disk.visible → LeavesOnly disk.keeps (IsImage first.state) first (disk.moments l.disk);
       size : disk.size l.disk ≡ disk.size l.fn.disk;
       faults : disk.faults l.disk ≡ disk.faults l.fn.disk;
     }

@@ -11,6 +11,6 @@ one_sector : (image : Image) (sector : ℕ) (new : List ℕ) → new ≡ bytes_f
 one_sector image sector new bytes = bytes ∙ append-nil (image sector)
 
 pub returns-clause-value : goal.returns-clause-value
-returns-clause-value g c told =
-    c.stand_in.ensures ∙ ap standing_in (one_sector (reads (g.D.Disk.moments c.args.disk.now)) c.args.sector c.read_sectors.new.buf (c.in_ok-read_sectors.ensures.bytes told))
+returns-clause-value g c visible =
+    c.stand_in.ensures ∙ ap standing_in (one_sector (reads (g.D.Disk.moments c.args.disk.now)) c.args.sector c.read_sectors.new.buf (c.in_ok-read_sectors.ensures.bytes visible))
     ∙ sym (λ i. if c.if-not-wanted.false i then standing_in (reads (g.D.Disk.moments c.args.disk.now) c.args.sector) else no_standing)

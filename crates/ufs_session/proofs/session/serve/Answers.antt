@@ -15,9 +15,9 @@ returns-clause-once g c =
     subst (λ (l : List (List Entry)). AreTicketsOnce (joined l)) (sym c.from_vec.ensures) (once_rising _ (rising_from 0 start _ (c.serve_clients-ended.ensures.left start c.requires.start.1).entries))
 
 pub returns-clause-on_disk : goal.returns-clause-on_disk
-returns-clause-on_disk g c tells start may on =
+returns-clause-on_disk g c visible start may on =
     subst (λ (lists : List (List Entry)). IsOnDisk (g.D.Door.store c.serve_clients-ended.new.door) start (joined lists) c.serve_clients-ended.new.server) (sym c.from_vec.ensures)
-    (c.serve_clients-ended.ensures.on_disk tells start may on)
+    (c.serve_clients-ended.ensures.on_disk visible start may on)
 
 pub returns-clause-faults : goal.returns-clause-faults
 returns-clause-faults g c =
@@ -35,8 +35,8 @@ returns-clause-calm g c none =
     calm_told (g.D.Door.store c.args.door.now) (g.D.Door.store s.new.door) (joined s.new.told.items) s.ensures.faults none
 
 pub returns-clause-moments : goal.returns-clause-moments
-returns-clause-moments g c tells start may is =
+returns-clause-moments g c visible start may is =
     let old = g.D.Door.store c.args.door.now in
     let new = g.D.Door.store c.serve_clients-ended.new.door in
     subst (λ (lists : List (List Entry)). IsExplainedThroughout g.D.Door.keeps old.sectors start [] (joined lists) old.moments new.moments) (sym c.from_vec.ensures)
-    (c.serve_clients-ended.ensures.moments tells start may is)
+    (c.serve_clients-ended.ensures.moments visible start may is)

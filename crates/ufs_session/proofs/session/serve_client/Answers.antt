@@ -24,8 +24,8 @@ loop-op-init g c =
       serving = λ start ready.
           subst (λ (r : List Op). IsServing start c.args.client c.args.requests before c.args.server.now c.new-fds.result c.args.told.now.items 0 [] r) (sym items)
           (begins start c.args.client c.args.requests before c.args.server.now c.new-fds.result c.args.told.now.items c.new-fds.ensures c.requires.none c.into_vec-op-items.ensures.few ready);
-      on_disk = λ tells start ready is. subst (λ (h : List Entry). IsOnDisk s start h c.args.server.now) whole is;
-      moments = λ tells start ready is.
+      on_disk = λ visible start ready is. subst (λ (h : List Entry). IsOnDisk s start h c.args.server.now) whole is;
+      moments = λ visible start ready is.
           subst (λ (told : List Entry). IsExplainedThroughout g.D.Door.keeps s.sectors start before told s.moments s.moments) (sym c.requires.none)
           (c.always_law.ensures.rest g.D.Door.keeps s start before c.args.server.now (sym c.geometry-geometry.ensures.is) is);
       faults = subst (AreFaultsTold s s) (sym c.requires.none) (none_told s);
@@ -91,14 +91,14 @@ loop-op-preserved g c =
     record {
       serving = λ start ready.
           subst (λ (t : List Entry). IsServing start client c.args.requests before c.serve_one-applied.new.server c.keep.new.fds t (l.seq + 1) (l.yielded ++ c.in-Some.op ∷ []) rest) (sym pushed) (serving start ready);
-      on_disk = λ tells start ready is.
+      on_disk = λ visible start ready is.
           subst (λ (h : List Entry). IsOnDisk next start h c.serve_one-applied.new.server) whole
-          (a.on_disk tells start (before ++ told) (asked start ready) (legal start ready) (l.invariant.on_disk tells start ready is));
-      moments = λ tells start ready is.
+          (a.on_disk visible start (before ++ told) (asked start ready) (legal start ready) (l.invariant.on_disk visible start ready is));
+      moments = λ visible start ready is.
           let one = subst (λ (n : ℕ). IsExplainedThroughout g.D.Door.keeps n start (before ++ told) (entry ∷ []) now.moments next.moments) l.invariant.sectors
-          (a.moments tells start (before ++ told) (asked start ready) (legal start ready) (l.invariant.on_disk tells start ready is)) in
+          (a.moments visible start (before ++ told) (asked start ready) (legal start ready) (l.invariant.on_disk visible start ready is)) in
           subst (λ (t : List Entry). IsExplainedThroughout g.D.Door.keeps first.sectors start before t first.moments next.moments) (sym pushed)
-          (throughout_joined g.D.Door.keeps first.sectors start before told (entry ∷ []) first.moments now.moments next.moments (l.invariant.moments tells start ready is) one);
+          (throughout_joined g.D.Door.keeps first.sectors start before told (entry ∷ []) first.moments now.moments next.moments (l.invariant.moments visible start ready is) one);
       faults = subst (AreFaultsTold first next) (sym pushed) more;
       sound = a.sound;
       geometry = a.geometry ∙ l.invariant.geometry;
@@ -106,13 +106,13 @@ loop-op-preserved g c =
     }
 
 pub returns-in_err-reserve-clause-on_disk : goal.returns-in_err-reserve-clause-on_disk
-returns-in_err-reserve-clause-on_disk g c tells start ready is =
+returns-in_err-reserve-clause-on_disk g c visible start ready is =
     let l = c.loop-op in
-    subst (λ (told : List Entry). IsOnDisk (g.D.Door.store l.door) start (joined c.args.earlier.now.items ++ told) l.server) (sym c.reserve.ensures.items) (l.invariant.on_disk tells start ready is)
+    subst (λ (told : List Entry). IsOnDisk (g.D.Door.store l.door) start (joined c.args.earlier.now.items ++ told) l.server) (sym c.reserve.ensures.items) (l.invariant.on_disk visible start ready is)
 
 pub returns-in_err-reserve-clause-moments : goal.returns-in_err-reserve-clause-moments
-returns-in_err-reserve-clause-moments g c tells start ready is =
+returns-in_err-reserve-clause-moments g c visible start ready is =
     let l = c.loop-op in
     let s = g.D.Door.store c.args.door.now in
     subst (λ (told : List Entry). IsExplainedThroughout g.D.Door.keeps s.sectors start (joined c.args.earlier.now.items) told s.moments (g.D.Door.store l.door).moments) (sym c.reserve.ensures.items)
-    (l.invariant.moments tells start ready is)
+    (l.invariant.moments visible start ready is)

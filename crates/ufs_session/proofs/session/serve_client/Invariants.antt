@@ -18,8 +18,8 @@ invariant-loop-op g l =
     let before = joined l.fn.earlier.items in
     record {
       serving : (start : PosixTree) → IsReady start before l.fn.server l.fn.client → IsServing start l.fn.client l.fn.requests before l.server l.fds l.told.items l.seq l.yielded l.op-iterator.rest.items;
-      on_disk : IsTrue g.D.Door.tells → (start : PosixTree) → IsReady start before l.fn.server l.fn.client → IsOnDisk first start before l.fn.server → IsOnDisk now start (before ++ l.told.items) l.server;
-      moments : IsTrue g.D.Door.tells → (start : PosixTree) → IsReady start before l.fn.server l.fn.client → IsOnDisk first start before l.fn.server
+      on_disk : IsTrue g.D.Door.visible → (start : PosixTree) → IsReady start before l.fn.server l.fn.client → IsOnDisk first start before l.fn.server → IsOnDisk now start (before ++ l.told.items) l.server;
+      moments : IsTrue g.D.Door.visible → (start : PosixTree) → IsReady start before l.fn.server l.fn.client → IsOnDisk first start before l.fn.server
           → IsExplainedThroughout g.D.Door.keeps first.sectors start before l.told.items first.moments now.moments;
       faults : AreFaultsTold first now l.told.items;
       sound : IsSoundServer (geometry_of_store now) now.unassigned.free l.server;

@@ -23,8 +23,8 @@ loop-requests-init g c =
       serving = λ start may.
           subst (λ (r : List (List Op)). AreServing start c.args.clients c.args.told.now.items c.args.server.now 0 0 [] r) (sym items)
           (none_served start c.args.clients c.args.told.now.items c.args.server.now c.requires.none c.into_vec-requests-items.ensures.few may);
-      on_disk = λ tells start may is. subst (λ (told : List (List Entry)). IsOnDisk s start (joined told) c.args.server.now) (sym c.requires.none) is;
-      moments = λ tells start may is.
+      on_disk = λ visible start may is. subst (λ (told : List (List Entry)). IsOnDisk s start (joined told) c.args.server.now) (sym c.requires.none) is;
+      moments = λ visible start may is.
           subst (λ (told : List (List Entry)). IsExplainedThroughout g.D.Door.keeps s.sectors start [] (joined told) s.moments s.moments) (sym c.requires.none)
           (c.always_law.ensures.rest g.D.Door.keeps s start [] c.args.server.now (sym c.geometry-geometry.ensures.is) is);
       faults = subst (λ (told : List (List Entry)). AreFaultsTold s s (joined told)) (sym c.requires.none) (none_told s);
@@ -63,9 +63,9 @@ returns-then-is_err-clause-left g c start may =
     subst (λ (told : List (List Entry)). IsReached start (joined told) l.server) (sym c.reserve.ensures.items) (l.invariant.serving start may).reached
 
 pub returns-then-is_err-clause-on_disk : goal.returns-then-is_err-clause-on_disk
-returns-then-is_err-clause-on_disk g c tells start may is =
+returns-then-is_err-clause-on_disk g c visible start may is =
     let l = c.loop-requests in
-    subst (λ (told : List (List Entry)). IsOnDisk (g.D.Door.store l.door) start (joined told) l.server) (sym c.reserve.ensures.items) (l.invariant.on_disk tells start may is)
+    subst (λ (told : List (List Entry)). IsOnDisk (g.D.Door.store l.door) start (joined told) l.server) (sym c.reserve.ensures.items) (l.invariant.on_disk visible start may is)
 
 pub returns-then-is_err-clause-faults : goal.returns-then-is_err-clause-faults
 returns-then-is_err-clause-faults g c =
@@ -103,7 +103,7 @@ returns-in_err-ended-clause-left g c start may =
     (reached_more start c.args.clients earlier l.server l.client l.first l.yielded c.in-Some.requests c.next.new.self.rest.items so_far s.new.told.items s.ensures.goes_on s.new.server (s.ensures.left start here))
 
 pub returns-in_err-ended-clause-on_disk : goal.returns-in_err-ended-clause-on_disk
-returns-in_err-ended-clause-on_disk g c tells start may is =
+returns-in_err-ended-clause-on_disk g c visible start may is =
     let l = c.loop-requests in
     let next = subst (λ (r : List (List Op)). AreServing start c.args.clients l.told.items l.server l.client l.first l.yielded r) c.in-Some.ensures.steps.0 (l.invariant.serving start may) in
     let so_far = subst (λ (told : List (List Entry)). AreServing start c.args.clients told l.server l.client l.first l.yielded (c.in-Some.requests ∷ c.next.new.self.rest.items)) (sym c.reserve.ensures.items) next in
@@ -111,12 +111,12 @@ returns-in_err-ended-clause-on_disk g c tells start may is =
     let s = c.serve_client-ended in
     let pushed = pushed_on c.push.result _ _ earlier _ _ c.unwrap.ensures refl c.push.ensures.items ∙ ap (λ (m : List Entry). earlier ++ m ∷ []) c.from_vec.ensures in
     let here = ready start c.args.clients earlier l.server l.client l.first l.yielded c.in-Some.requests c.next.new.self.rest.items so_far in
-    let was = subst (λ (told : List (List Entry)). IsOnDisk (g.D.Door.store l.door) start (joined told) l.server) (sym c.reserve.ensures.items) (l.invariant.on_disk tells start may is) in
+    let was = subst (λ (told : List (List Entry)). IsOnDisk (g.D.Door.store l.door) start (joined told) l.server) (sym c.reserve.ensures.items) (l.invariant.on_disk visible start may is) in
     subst (λ (told : List (List Entry)). IsOnDisk (g.D.Door.store s.new.door) start (joined told) s.new.server) (sym pushed)
-    (subst (λ (h : List Entry). IsOnDisk (g.D.Door.store s.new.door) start h s.new.server) (sym (joined-push earlier s.new.told.items)) (s.ensures.on_disk tells start here was))
+    (subst (λ (h : List Entry). IsOnDisk (g.D.Door.store s.new.door) start h s.new.server) (sym (joined-push earlier s.new.told.items)) (s.ensures.on_disk visible start here was))
 
 pub returns-in_err-ended-clause-moments : goal.returns-in_err-ended-clause-moments
-returns-in_err-ended-clause-moments g c tells start may is =
+returns-in_err-ended-clause-moments g c visible start may is =
     let l = c.loop-requests in
     let first = g.D.Door.store c.args.door.now in
     let now = g.D.Door.store l.door in
@@ -129,9 +129,9 @@ returns-in_err-ended-clause-moments g c tells start may is =
     let pushed = pushed_on c.push.result _ _ earlier _ _ c.unwrap.ensures refl c.push.ensures.items ∙ ap (λ (m : List Entry). earlier ++ m ∷ []) c.from_vec.ensures in
     let both = ap joined pushed ∙ joined-push earlier mine in
     let here = ready start c.args.clients earlier l.server l.client l.first l.yielded c.in-Some.requests c.next.new.self.rest.items so_far in
-    let on = subst (λ (told : List (List Entry)). IsOnDisk now start (joined told) l.server) (sym c.reserve.ensures.items) (l.invariant.on_disk tells start may is) in
-    let before = subst (λ (told : List (List Entry)). IsExplainedThroughout g.D.Door.keeps first.sectors start [] (joined told) first.moments now.moments) (sym c.reserve.ensures.items) (l.invariant.moments tells start may is) in
-    let behind = subst (λ (n : ℕ). IsExplainedThroughout g.D.Door.keeps n start (joined earlier) mine now.moments later.moments) l.invariant.sectors (s.ensures.moments tells start here on) in
+    let on = subst (λ (told : List (List Entry)). IsOnDisk now start (joined told) l.server) (sym c.reserve.ensures.items) (l.invariant.on_disk visible start may is) in
+    let before = subst (λ (told : List (List Entry)). IsExplainedThroughout g.D.Door.keeps first.sectors start [] (joined told) first.moments now.moments) (sym c.reserve.ensures.items) (l.invariant.moments visible start may is) in
+    let behind = subst (λ (n : ℕ). IsExplainedThroughout g.D.Door.keeps n start (joined earlier) mine now.moments later.moments) l.invariant.sectors (s.ensures.moments visible start here on) in
     subst (λ (h : List Entry). IsExplainedThroughout g.D.Door.keeps first.sectors start [] h first.moments later.moments) (sym both)
     (throughout_joined g.D.Door.keeps first.sectors start [] (joined earlier) mine first.moments now.moments later.moments before behind)
 
@@ -170,13 +170,13 @@ loop-requests-preserved g c =
           subst (λ (n : ℕ). AreServing start c.args.clients c.push.new.self.items s.new.server (l.client + 1) (l.first + n) (l.yielded ++ c.in-Some.requests ∷ []) rest) (sym (c.len.ensures ∙ s.new.told.ok.0))
           (subst (λ (told : List (List Entry)). AreServing start c.args.clients told s.new.server (l.client + 1) (l.first + length mine) (l.yielded ++ c.in-Some.requests ∷ []) rest) (sym pushed)
           (one_client_more start c.args.clients earlier l.server l.client l.first l.yielded c.in-Some.requests rest (so_far start may) mine s.ensures.goes_on s.new.server (s.ensures.left start (here start may)) (c.in_ok-ended.ensures.done start (here start may))));
-      on_disk = λ tells start may is.
+      on_disk = λ visible start may is.
           subst (λ (h : List Entry). IsOnDisk later start h s.new.server) (sym both)
-          (s.ensures.on_disk tells start (here start may) (subst (λ (told : List (List Entry)). IsOnDisk now start (joined told) l.server) (sym c.reserve.ensures.items) (l.invariant.on_disk tells start may is)));
-      moments = λ tells start may is.
-          let on = subst (λ (told : List (List Entry)). IsOnDisk now start (joined told) l.server) (sym c.reserve.ensures.items) (l.invariant.on_disk tells start may is) in
-          let before = subst (λ (told : List (List Entry)). IsExplainedThroughout g.D.Door.keeps first.sectors start [] (joined told) first.moments now.moments) (sym c.reserve.ensures.items) (l.invariant.moments tells start may is) in
-          let behind = subst (λ (n : ℕ). IsExplainedThroughout g.D.Door.keeps n start (joined earlier) mine now.moments later.moments) l.invariant.sectors (s.ensures.moments tells start (here start may) on) in
+          (s.ensures.on_disk visible start (here start may) (subst (λ (told : List (List Entry)). IsOnDisk now start (joined told) l.server) (sym c.reserve.ensures.items) (l.invariant.on_disk visible start may is)));
+      moments = λ visible start may is.
+          let on = subst (λ (told : List (List Entry)). IsOnDisk now start (joined told) l.server) (sym c.reserve.ensures.items) (l.invariant.on_disk visible start may is) in
+          let before = subst (λ (told : List (List Entry)). IsExplainedThroughout g.D.Door.keeps first.sectors start [] (joined told) first.moments now.moments) (sym c.reserve.ensures.items) (l.invariant.moments visible start may is) in
+          let behind = subst (λ (n : ℕ). IsExplainedThroughout g.D.Door.keeps n start (joined earlier) mine now.moments later.moments) l.invariant.sectors (s.ensures.moments visible start (here start may) on) in
           subst (λ (h : List Entry). IsExplainedThroughout g.D.Door.keeps first.sectors start [] h first.moments later.moments) (sym both)
           (throughout_joined g.D.Door.keeps first.sectors start [] (joined earlier) mine first.moments now.moments later.moments before behind);
       faults = subst (AreFaultsTold first later) (sym both) (told_on first now later (joined earlier) mine was s.ensures.faults);
@@ -217,8 +217,8 @@ overflow_add-client g c =
     omega (arith, less)
 
 pub returns-then-is_err-clause-moments : goal.returns-then-is_err-clause-moments
-returns-then-is_err-clause-moments g c tells start may is =
+returns-then-is_err-clause-moments g c visible start may is =
     let l = c.loop-requests in
     let s = g.D.Door.store c.args.door.now in
     subst (λ (told : List (List Entry)). IsExplainedThroughout g.D.Door.keeps s.sectors start [] (joined told) s.moments (g.D.Door.store l.door).moments) (sym c.reserve.ensures.items)
-    (l.invariant.moments tells start may is)
+    (l.invariant.moments visible start may is)

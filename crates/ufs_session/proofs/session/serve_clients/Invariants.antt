@@ -17,8 +17,8 @@ invariant-loop-requests g l =
     let now = g.D.Door.store l.door in
     record {
       serving : (start : PosixTree) → MayBegin l.fn.server start → AreServing start l.fn.clients l.told.items l.server l.client l.first l.yielded l.requests-iterator.rest.items;
-      on_disk : IsTrue g.D.Door.tells → (start : PosixTree) → MayBegin l.fn.server start → IsOnDisk first start [] l.fn.server → IsOnDisk now start (joined l.told.items) l.server;
-      moments : IsTrue g.D.Door.tells → (start : PosixTree) → MayBegin l.fn.server start → IsOnDisk first start [] l.fn.server
+      on_disk : IsTrue g.D.Door.visible → (start : PosixTree) → MayBegin l.fn.server start → IsOnDisk first start [] l.fn.server → IsOnDisk now start (joined l.told.items) l.server;
+      moments : IsTrue g.D.Door.visible → (start : PosixTree) → MayBegin l.fn.server start → IsOnDisk first start [] l.fn.server
           → IsExplainedThroughout g.D.Door.keeps first.sectors start [] (joined l.told.items) first.moments now.moments;
       faults : AreFaultsTold first now (joined l.told.items);
       sound : IsSoundServer (geometry_of_store now) now.unassigned.free l.server;

@@ -7,13 +7,13 @@ use Rattle.ufs_session.proofs.ThroughoutLemmas.{throughout_one}
 use Rattle.ufs_session.proofs.session.serve_one.Goals as goal
 
 pub returns-in_default-clause-moments : goal.returns-in_default-clause-moments
-returns-in_default-clause-moments g c tells start history asked legal is =
+returns-in_default-clause-moments g c visible start history asked legal is =
     let old = g.D.Door.store c.args.door.now in
     let new = g.D.Door.store c.apply.new.door in
     let a = c.apply.ensures in
     let entry = c.apply.result.entry in
-    let end = c.always_law.ensures.rest g.D.Door.keeps new start (history ++ entry ∷ []) c.apply.new.self (a.geometry ∙ sym c.geometry-geometry.ensures.is) (a.on_disk tells start history asked legal is) in
-    throughout_one g.D.Door.keeps old.sectors start history entry old.moments new.moments (a.moments tells start history is)
+    let end = c.always_law.ensures.rest g.D.Door.keeps new start (history ++ entry ∷ []) c.apply.new.self (a.geometry ∙ sym c.geometry-geometry.ensures.is) (a.on_disk visible start history asked legal is) in
+    throughout_one g.D.Door.keeps old.sectors start history entry old.moments new.moments (a.moments visible start history is)
     (subst (λ (n : ℕ). IsExplainedBetween g.D.Door.keeps n start (history ++ entry ∷ []) new.moments new.moments) a.sectors end)
 
 pub returns-clause-served : goal.returns-clause-served
@@ -21,7 +21,7 @@ returns-clause-served g c plain t parts asked =
     own_answered c.args.server.now t c.args.ask c.in-Some.answer.reply c.in-Some.answer.desc asked (sym (c.in-Some.ensures.own t asked)) (c.in-Some.ensures.posix t asked) parts
 
 pub returns-clause-on_disk : goal.returns-clause-on_disk
-returns-clause-on_disk g c tells start history asked legal is =
+returns-clause-on_disk g c visible start history asked legal is =
     let s = g.D.Door.store c.args.door.now in
     let p = c.args.server.now in
     let answer = c.in-Some.ensures in
@@ -31,7 +31,7 @@ returns-clause-on_disk g c tells start history asked legal is =
     (parts_behind p start history _ c.args.ask c.in-Some.answer.desc refl refl answer.plain asked own (answer.posix _ asked) (parts_on_disk s start history p is)) is
 
 pub returns-clause-moments : goal.returns-clause-moments
-returns-clause-moments g c tells start history asked legal is =
+returns-clause-moments g c visible start history asked legal is =
     let s = g.D.Door.store c.args.door.now in
     let p = c.args.server.now in
     let answer = c.in-Some.ensures in

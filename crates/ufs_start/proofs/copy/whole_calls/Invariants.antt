@@ -9,9 +9,9 @@ invariant-loop-call g l =
     let disk = g.D.Disk in
     let first = disk.moments l.fn.disk in
     record {
-      bytes : IsTrue disk.tells → l.bytes.items ≡ bytes_from (reads first) 0 (8 * l.call);
+      bytes : IsTrue disk.visible → l.bytes.items ≡ bytes_from (reads first) 0 (8 * l.call);
       long : length l.bytes.items ≡ 512 * (8 * l.call);
-      read_only : IsTrue disk.tells → IsReadOnly disk.keeps first (disk.moments l.disk);
+      read_only : IsTrue disk.visible → IsReadOnly disk.keeps first (disk.moments l.disk);
       size : disk.size l.disk ≡ disk.size l.fn.disk;
       faults : disk.faults l.disk ≡ disk.faults l.fn.disk;
     }

@@ -42,7 +42,7 @@ returns-clause-here g c file number =
     (subst (λ f. IsSome (map.get (map.insert files h.file h) f)) (c.in_ok-hand.ensures.file ∙ sym same) (here_with files h.file h))
 
 pub returns-clause-read : goal.returns-clause-read
-returns-clause-read g c told geometry image n is are numbered before =
+returns-clause-read g c visible geometry image n is are numbered before =
     let files : Files = c.args.files.now in
     let inode = c.args.inode in
     let h = c.in_ok-hand.hand in
@@ -56,12 +56,12 @@ returns-clause-read g c told geometry image n is are numbered before =
     (read_with files h.file h image (catalog_at geometry image) n before (record {
       number = refl;
       inode = ap (file_at n.tree) e.inode ∙ numbered inode c.in-Some.file given ∙ ap {B = Option ℕ} Some (sym e.file);
-      bytes = e.bytes told image is ∙ ap (file_bytes image) here;
+      bytes = e.bytes visible image is ∙ ap (file_bytes image) here;
       blocks = e.blocks ∙ ap nodes.blocks_of here;
     }))
 
 pub returns-clause-loaded : goal.returns-clause-loaded
-returns-clause-loaded g c told geometry image is are before =
+returns-clause-loaded g c visible geometry image is are before =
     let inode = c.args.inode in
     let h = c.in_ok-hand.hand in
     let e = c.in_ok-hand.ensures in
@@ -71,7 +71,7 @@ returns-clause-loaded g c told geometry image is are before =
     let here : c.in-Some-forms.form ≡ form_at geometry image h.inode = sym form ∙ ap (form_at geometry image) (sym e.inode) in
     subst (AreLoaded image (catalog_at geometry image)) (sym c.in_ok-insert.ensures.ok)
     (loaded_with c.args.files.now h.file h image (catalog_at geometry image) before
-    (e.loaded told image is ∙ ap (λ (f : InodeForm). loaded (flat_map (block_at image) (nodes.blocks_of f)) f.size) here))
+    (e.loaded visible image is ∙ ap (λ (f : InodeForm). loaded (flat_map (block_at image) (nodes.blocks_of f)) f.size) here))
 
 pub returns-clause-laid : goal.returns-clause-laid
 returns-clause-laid g c geometry image are before =

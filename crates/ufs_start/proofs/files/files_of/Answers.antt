@@ -14,18 +14,18 @@ pub loop-place-init : goal.loop-place-init
 loop-place-init g c =
     let none : c.new-files.result ≡ map.empty = c.new-files.ensures in
     record {
-      read = λ told geometry image n is found numbered. none_read image (catalog_at geometry image) n c.new-files.result none;
+      read = λ visible geometry image n is found numbered. none_read image (catalog_at geometry image) n c.new-files.result none;
       here = λ inode file from within number. absurd (omega (arith, from, within));
-      loaded = λ told geometry image is found. none_loaded image (catalog_at geometry image) c.new-files.result none;
+      loaded = λ visible geometry image is found. none_loaded image (catalog_at geometry image) c.new-files.result none;
       laid = λ geometry image found. none_laid (catalog_at geometry image) c.new-files.result none;
-      read_only = λ told. read_none g.D.Disk.keeps (g.D.Disk.moments c.args.disk.now);
+      read_only = λ visible. read_none g.D.Disk.keeps (g.D.Disk.moments c.args.disk.now);
       size = refl;
       faults = refl;
     }
 
 pub returns-in_err-add_file-clause-read_only : goal.returns-in_err-add_file-clause-read_only
-returns-in_err-add_file-clause-read_only g c told =
-    read_more g.D.Disk.keeps (g.D.Disk.moments c.args.disk.now) (g.D.Disk.moments c.loop-place.disk) (g.D.Disk.moments c.add_file.new.disk) (c.loop-place.invariant.read_only told) (c.add_file.ensures.read_only told)
+returns-in_err-add_file-clause-read_only g c visible =
+    read_more g.D.Disk.keeps (g.D.Disk.moments c.args.disk.now) (g.D.Disk.moments c.loop-place.disk) (g.D.Disk.moments c.add_file.new.disk) (c.loop-place.invariant.read_only visible) (c.add_file.ensures.read_only visible)
 
 pub returns-in_err-add_file-clause-refused : goal.returns-in_err-add_file-clause-refused
 returns-in_err-add_file-clause-refused g c geometry image found =
@@ -38,18 +38,18 @@ loop-place-preserved g c =
     let e = c.in_ok-add_file.ensures in
     let place = c.loop-place.place in
     record {
-      read = λ told geometry image n is found numbered.
-          e.read told geometry image n (subst (λ (d : Image). IsFolded c.args.overlay.now d image) (sym (i.read_only told).content) is)
-          (c.forms-forms.ensures ∙ found.forms) numbered (i.read told geometry image n is found numbered);
+      read = λ visible geometry image n is found numbered.
+          e.read visible geometry image n (subst (λ (d : Image). IsFolded c.args.overlay.now d image) (sym (i.read_only visible).content) is)
+          (c.forms-forms.ensures ∙ found.forms) numbered (i.read visible geometry image n is found numbered);
       here = λ inode file from within number. elim (cases_lt inode (place + 1)) [
         | inl less ↦ e.kept file (i.here inode file from (omega (arith, less)) number)
         | inr last ↦ (let at : inode ≡ place + 1 = omega (arith, within, last) in
             e.here file (ap (λ k. slice_index_or c.args.numbers.now k None) (sym at) ∙ number))
       ];
-      loaded = λ told geometry image is found.
-          e.loaded told geometry image (subst (λ (d : Image). IsFolded c.args.overlay.now d image) (sym (i.read_only told).content) is) (c.forms-forms.ensures ∙ found.forms) (i.loaded told geometry image is found);
+      loaded = λ visible geometry image is found.
+          e.loaded visible geometry image (subst (λ (d : Image). IsFolded c.args.overlay.now d image) (sym (i.read_only visible).content) is) (c.forms-forms.ensures ∙ found.forms) (i.loaded visible geometry image is found);
       laid = λ geometry image found. e.laid geometry image (c.forms-forms.ensures ∙ found.forms) (i.laid geometry image found);
-      read_only = λ told. read_more g.D.Disk.keeps (g.D.Disk.moments c.args.disk.now) (g.D.Disk.moments c.loop-place.disk) (g.D.Disk.moments c.add_file.new.disk) (i.read_only told) (c.add_file.ensures.read_only told);
+      read_only = λ visible. read_more g.D.Disk.keeps (g.D.Disk.moments c.args.disk.now) (g.D.Disk.moments c.loop-place.disk) (g.D.Disk.moments c.add_file.new.disk) (i.read_only visible) (c.add_file.ensures.read_only visible);
       size = c.add_file.ensures.size ∙ i.size;
       faults = e.passed ∙ i.faults;
     }

@@ -18,11 +18,11 @@ invariant-loop-place g l =
     let disk = g.D.Disk in
     let first = disk.moments l.fn.disk in
     record {
-      read : IsTrue disk.tells → (geometry : Geometry) (image : Image) (n : NamesPart) → IsFolded l.overlay (reads first) image → AreFindingsOf geometry image l.findings → HasNumbers n.tree l.numbers → AreRead image (catalog_at geometry image) n l.files;
+      read : IsTrue disk.visible → (geometry : Geometry) (image : Image) (n : NamesPart) → IsFolded l.overlay (reads first) image → AreFindingsOf geometry image l.findings → HasNumbers n.tree l.numbers → AreRead image (catalog_at geometry image) n l.files;
       here : (inode file : ℕ) → 1 ≤ inode → inode ≤ l.place → slice_index_or l.numbers inode None ≡ Some file → IsSome (map.get l.files file);
-      loaded : IsTrue disk.tells → (geometry : Geometry) (image : Image) → IsFolded l.overlay (reads first) image → AreFindingsOf geometry image l.findings → AreLoaded image (catalog_at geometry image) l.files;
+      loaded : IsTrue disk.visible → (geometry : Geometry) (image : Image) → IsFolded l.overlay (reads first) image → AreFindingsOf geometry image l.findings → AreLoaded image (catalog_at geometry image) l.files;
       laid : (geometry : Geometry) (image : Image) → AreFindingsOf geometry image l.findings → AreLaid (catalog_at geometry image) l.files;
-      read_only : IsTrue disk.tells → IsReadOnly disk.keeps first (disk.moments l.disk);
+      read_only : IsTrue disk.visible → IsReadOnly disk.keeps first (disk.moments l.disk);
       size : disk.size l.disk ≡ disk.size l.fn.disk;
       faults : disk.faults l.disk ≡ disk.faults l.fn.disk;
     }

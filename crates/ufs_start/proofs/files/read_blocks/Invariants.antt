@@ -13,9 +13,9 @@ invariant-loop-place g l =
     let disk = g.D.Disk in
     let first = disk.moments l.fn.disk in
     record {
-      bytes : IsTrue disk.tells → (image : Image) → IsFolded l.overlay (reads first) image → l.bytes.items ≡ flat_map (block_at image) (take l.place (blocks_of l.extents));
+      bytes : IsTrue disk.visible → (image : Image) → IsFolded l.overlay (reads first) image → l.bytes.items ≡ flat_map (block_at image) (take l.place (blocks_of l.extents));
       long : length l.bytes.items ≡ 4096 * l.place;
-      read_only : IsTrue disk.tells → IsReadOnly disk.keeps first (disk.moments l.disk);
+      read_only : IsTrue disk.visible → IsReadOnly disk.keeps first (disk.moments l.disk);
       size : disk.size l.disk ≡ disk.size l.fn.disk;
       faults : disk.faults l.disk ≡ disk.faults l.fn.disk;
     }

@@ -14,30 +14,30 @@ use Rattle.ufs_store.proofs.Rooms.{at_first, at_room, at_commit, may_in_room}
 use Rattle.ufs_store.proofs.commits.commit.Goals as goal
 
 pub returns-then-tables-clause-crash : goal.returns-then-tables-clause-crash
-returns-then-tables-clause-crash g c told l has may =
+returns-then-tables-clause-crash g c visible l has may =
     let s = state_of (g.D.Disk.size c.args.disk.now) (g.D.Disk.moments c.args.disk.now) (g.D.Disk.faults c.args.disk.now) c.args.tables.now in
     started g.D.Disk.keeps (IsLeftByAny (g.D.Disk.size c.args.disk.now) (stages s c.args.records.now l)) (g.D.Disk.moments c.args.disk.now)
     (λ image left. at_first s c.args.records.now l (λ l. IsLeftBy (g.D.Disk.size c.args.disk.now) l image) (has.by.is.images image left))
 
 pub returns-in_err-make_room-clause-crash : goal.returns-in_err-make_room-clause-crash
-returns-in_err-make_room-clause-crash g c told l has may =
+returns-in_err-make_room-clause-crash g c visible l has may =
     let s = state_of (g.D.Disk.size c.args.disk.now) (g.D.Disk.moments c.args.disk.now) (g.D.Disk.faults c.args.disk.now) c.args.tables.now in
     let rs = c.args.records.now in
     let size = g.D.Disk.size c.args.disk.now in
     weaker g.D.Disk.keeps (IsLeftByAny size (room_stages s rs l)) (IsLeftByAny size (stages s rs l)) (λ image left. at_room s rs l (λ l. IsLeftBy size l image) left)
-    (g.D.Disk.moments c.args.disk.now) (g.D.Disk.moments c.make_room.new.disk) (c.make_room.ensures.crash told l has)
+    (g.D.Disk.moments c.args.disk.now) (g.D.Disk.moments c.make_room.new.disk) (c.make_room.ensures.crash visible l has)
 
 pub returns-in_err-make_room-clause-device : goal.returns-in_err-make_room-clause-device
-returns-in_err-make_room-clause-device g c told fault is l has may =
+returns-in_err-make_room-clause-device g c visible fault is l has may =
     let s = state_of (g.D.Disk.size c.args.disk.now) (g.D.Disk.moments c.args.disk.now) (g.D.Disk.faults c.args.disk.now) c.args.tables.now in
     let rs = c.args.records.now in
     let p = err_from_is_err_and c.from_residual.result c.from_residual.ensures.1 in
     let was = c.in_err-make_room.was in
     let failed : c.make_room.result ≡ Err (refusal.Device fault) = cc in
-    at_room s rs l (IsLedgerOf (g.D.Disk.size c.make_room.new.disk) (g.D.Disk.moments c.make_room.new.disk).state) (c.make_room.ensures.device told fault failed l has)
+    at_room s rs l (IsLedgerOf (g.D.Disk.size c.make_room.new.disk) (g.D.Disk.moments c.make_room.new.disk).state) (c.make_room.ensures.device visible fault failed l has)
 
 pub returns-clause-crash : goal.returns-clause-crash
-returns-clause-crash g c told l has may =
+returns-clause-crash g c visible l has may =
     let s = state_of (g.D.Disk.size c.args.disk.now) (g.D.Disk.moments c.args.disk.now) (g.D.Disk.faults c.args.disk.now) c.args.tables.now in
     let rs = c.args.records.now in
     let size = g.D.Disk.size c.args.disk.now in
@@ -45,29 +45,29 @@ returns-clause-crash g c told l has may =
     let m1 = g.D.Disk.moments c.make_room.new.disk in
     let m2 = g.D.Disk.moments c.commit_in_room.new.disk in
     let same : (record { number = c.make_room.new.tables.journal.number; records = rs }) ≡ next_commit s rs = ap (λ (n : ℕ). let t : Committed = record { number = n; records = rs } in t) c.make_room.ensures.number in
-    let run1 = weaker g.D.Disk.keeps (IsLeftByAny size (room_stages s rs l)) (IsLeftByAny size (stages s rs l)) (λ image left. at_room s rs l (λ l. IsLeftBy size l image) left) m0 m1 (c.make_room.ensures.crash told l has) in
-    let run2 = c.commit_in_room.ensures.crash told (with_room s rs l) (c.in_ok-make_room.ensures.ok told l has) (may_in_room s rs l c.make_room.new.tables.journal.geometry (record { number = c.make_room.new.tables.journal.number; records = rs }) c.make_room.ensures.geometry same may) in
+    let run1 = weaker g.D.Disk.keeps (IsLeftByAny size (room_stages s rs l)) (IsLeftByAny size (stages s rs l)) (λ image left. at_room s rs l (λ l. IsLeftBy size l image) left) m0 m1 (c.make_room.ensures.crash visible l has) in
+    let run2 = c.commit_in_room.ensures.crash visible (with_room s rs l) (c.in_ok-make_room.ensures.ok visible l has) (may_in_room s rs l c.make_room.new.tables.journal.geometry (record { number = c.make_room.new.tables.journal.number; records = rs }) c.make_room.ensures.geometry same may) in
     let run2' = subst (λ (x : ℕ × Committed). LeavesOnly g.D.Disk.keeps (IsLeftByAny x.0 (commit_stages x.1 (with_room s rs l))) m1 m2) (λ i. (c.make_room.ensures.size i, same i)) run2 in
     joined g.D.Disk.keeps (IsLeftByAny size (stages s rs l)) m0 m1 m2 run1
     (weaker g.D.Disk.keeps (IsLeftByAny size (commit_stages (next_commit s rs) (with_room s rs l))) (IsLeftByAny size (stages s rs l)) (λ image left. at_commit s rs l (λ l. IsLeftBy size l image) left) m1 m2 run2')
 
 pub returns-clause-ok : goal.returns-clause-ok
-returns-clause-ok g c told =
+returns-clause-ok g c visible =
     let s = state_of (g.D.Disk.size c.args.disk.now) (g.D.Disk.moments c.args.disk.now) (g.D.Disk.faults c.args.disk.now) c.args.tables.now in
     let t = state_of (g.D.Disk.size c.commit_in_room.new.disk) (g.D.Disk.moments c.commit_in_room.new.disk) (g.D.Disk.faults c.commit_in_room.new.disk) c.commit_in_room.new.tables in
     let rs = c.args.records.now in
     let same : (record { number = c.make_room.new.tables.journal.number; records = rs }) ≡ next_commit s rs = ap (λ (n : ℕ). let t : Committed = record { number = n; records = rs } in t) c.make_room.ensures.number in
     on_ok_weaker c.commit_in_room.result
     (λ goes l has may. subst (λ (u : Committed). HasLedger t (committed_one u (with_room s rs l))) same
-    (goes (with_room s rs l) (c.in_ok-make_room.ensures.ok told l has) (may_in_room s rs l c.make_room.new.tables.journal.geometry (record { number = c.make_room.new.tables.journal.number; records = rs }) c.make_room.ensures.geometry same may)))
-    (c.commit_in_room.ensures.ok told)
+    (goes (with_room s rs l) (c.in_ok-make_room.ensures.ok visible l has) (may_in_room s rs l c.make_room.new.tables.journal.geometry (record { number = c.make_room.new.tables.journal.number; records = rs }) c.make_room.ensures.geometry same may)))
+    (c.commit_in_room.ensures.ok visible)
 
 pub returns-clause-device : goal.returns-clause-device
-returns-clause-device g c told fault is l has may =
+returns-clause-device g c visible fault is l has may =
     let s = state_of (g.D.Disk.size c.args.disk.now) (g.D.Disk.moments c.args.disk.now) (g.D.Disk.faults c.args.disk.now) c.args.tables.now in
     let t = state_of (g.D.Disk.size c.commit_in_room.new.disk) (g.D.Disk.moments c.commit_in_room.new.disk) (g.D.Disk.faults c.commit_in_room.new.disk) c.commit_in_room.new.tables in
     let rs = c.args.records.now in
     let same : (record { number = c.make_room.new.tables.journal.number; records = rs }) ≡ next_commit s rs = ap (λ (n : ℕ). let t : Committed = record { number = n; records = rs } in t) c.make_room.ensures.number in
     at_commit s rs l (IsLedgerOf t.sectors t.moments.state)
     (subst (λ (u : Committed). HasAny t (commit_stages u (with_room s rs l))) same
-    (c.commit_in_room.ensures.device told fault is (with_room s rs l) (c.in_ok-make_room.ensures.ok told l has) (may_in_room s rs l c.make_room.new.tables.journal.geometry (record { number = c.make_room.new.tables.journal.number; records = rs }) c.make_room.ensures.geometry same may)))
+    (c.commit_in_room.ensures.device visible fault is (with_room s rs l) (c.in_ok-make_room.ensures.ok visible l has) (may_in_room s rs l c.make_room.new.tables.journal.geometry (record { number = c.make_room.new.tables.journal.number; records = rs }) c.make_room.ensures.geometry same may)))

@@ -15,19 +15,19 @@ use Rattle.ufs_store.proofs.Numbers.{below_more, committed_below}
 use Rattle.ufs_store.proofs.commits.commit_in_room.Goals as goal
 
 pub returns-in-Ok-clause-crash : goal.returns-in-Ok-clause-crash
-returns-in-Ok-clause-crash g c told l has may =
+returns-in-Ok-clause-crash g c visible l has may =
     let t : Committed = record { number = c.args.tables.now.journal.number; records = c.args.records.now } in
     by_two (g.D.Disk.size c.args.disk.now) g.D.Disk.keeps l (committing t (settled l)) (g.D.Disk.moments c.args.disk.now) (g.D.Disk.moments c.commit_records.new.disk)
-    (c.commit_records.ensures.crash told l has.by (record { unused = has.unused c.args.tables.now.txn (omega arith); may = may }))
+    (c.commit_records.ensures.crash visible l has.by (record { unused = has.unused c.args.tables.now.txn (omega arith); may = may }))
 
 pub returns-in-Err-clause-crash : goal.returns-in-Err-clause-crash
-returns-in-Err-clause-crash g c told l has may =
+returns-in-Err-clause-crash g c visible l has may =
     let t : Committed = record { number = c.args.tables.now.journal.number; records = c.args.records.now } in
     by_two (g.D.Disk.size c.args.disk.now) g.D.Disk.keeps l (committing t (settled l)) (g.D.Disk.moments c.args.disk.now) (g.D.Disk.moments c.commit_records.new.disk)
-    (c.commit_records.ensures.crash told l has.by (record { unused = has.unused c.args.tables.now.txn (omega arith); may = may }))
+    (c.commit_records.ensures.crash visible l has.by (record { unused = has.unused c.args.tables.now.txn (omega arith); may = may }))
 
 pub returns-in-Ok-clause-ok : goal.returns-in-Ok-clause-ok
-returns-in-Ok-clause-ok g c told l has may =
+returns-in-Ok-clause-ok g c visible l has may =
     let j = c.args.tables.now.journal in
     let k = c.commit_records.new.journal in
     let t : Committed = record { number = j.number; records = c.args.records.now } in
@@ -39,7 +39,7 @@ returns-in-Ok-clause-ok g c told l has may =
     let rising : IsTrue (rise_above 0 (l.now.log ++ t ∷ [])) = rises_on 0 l.now.log t has.added.rising has.numbered (numbers_from_one c.args.tables.now) in
     record {
       going = c.requires.going;
-      by = c.in-Ok.ensures.next told under l has.by go;
+      by = c.in-Ok.ensures.next visible under l has.by go;
       superblock_is = has.superblock_is;
       added = subst (λ (rs : List LogRecord). overlaid.HasAdded c.add_records.new.self (l.now.log ++ (record { number = j.number; records = rs }) ∷ [])) c.as_slice.ensures
           (c.in_ok-add_records.ensures.ok l.now.log has.added (subst (λ (rs : List LogRecord). IsTrue (rise_above 0 (l.now.log ++ (record { number = j.number; records = rs }) ∷ []))) (sym c.as_slice.ensures) rising));
@@ -49,7 +49,7 @@ returns-in-Ok-clause-ok g c told l has may =
           let epoch : j.epoch ≡ k.epoch = sym c.commit_records.ensures.epoch in
           let apart : other ≢ c.args.tables.now.txn = λ is. omega (arith, is, past) in
           subst (λ (x : Geometry × ℕ). IsUnused x.0 x.1 other new) (λ i. (same i, epoch i))
-          (c.in-Ok.ensures.unused told l has.by go other apart (has.unused other (omega (arith, past))));
+          (c.in-Ok.ensures.unused visible l has.by go other apart (has.unused other (omega (arith, past))));
       settled = λ _ block. refl;
       older = committed_below (geometry_of l.superblock) t l.now.catalog k.number (omega (arith, more)) (below_more (geometry_of l.superblock) (geometry_of l.superblock) l.now.catalog j.number k.number refl (omega (arith, more)) has.older);
       fits = omega (arith, more, under);

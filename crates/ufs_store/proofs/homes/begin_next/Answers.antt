@@ -12,19 +12,19 @@ use Rattle.ufs_store.proofs.Numbers.{below_more}
 use Rattle.ufs_store.proofs.homes.begin_next.Goals as goal
 
 pub returns-in-Ok-clause-crash : goal.returns-in-Ok-clause-crash
-returns-in-Ok-clause-crash g c told l has =
+returns-in-Ok-clause-crash g c visible l has =
     let old = g.D.Disk.moments c.args.disk.now in
     let new = g.D.Disk.moments c.checkpoint.new.disk in
     let size = g.D.Disk.size c.args.disk.now in
     let home = block_at (home_of l (reads old)) in
     subst (λ (h : Super). LeavesOnly g.D.Disk.keeps (IsLeftByAny size (l ∷ beginning h home l ∷ [])) old new) c.in-Some.ensures
-    (by_two size g.D.Disk.keeps l (beginning c.in-Some.superblock home l) old new (c.checkpoint.ensures.crash told l has.by has.added))
+    (by_two size g.D.Disk.keeps l (beginning c.in-Some.superblock home l) old new (c.checkpoint.ensures.crash visible l has.by has.added))
 
 pub returns-in-Ok-clause-ok : goal.returns-in-Ok-clause-ok
-returns-in-Ok-clause-ok g c told l has =
+returns-in-Ok-clause-ok g c visible l has =
     let new = g.D.Disk.moments c.checkpoint.new.disk in
     let home = block_at (home_of l (reads (g.D.Disk.moments c.args.disk.now))) in
-    let by = c.in-Ok.ensures.ok told l has.by has.added in
+    let by = c.in-Ok.ensures.ok visible l has.by has.added in
     let superblock : Super = record (c.args.tables.now.superblock) { epoch = c.args.tables.now.superblock.epoch + 1; next = c.args.tables.now.journal.number; clean = false } in
     let there : IsLedgerBy c.checkpoint.new.journal (g.D.Disk.size c.checkpoint.new.disk) new.state (emptied superblock home l) =
     subst (λ (h : Super). IsLedgerBy c.checkpoint.new.journal (g.D.Disk.size c.checkpoint.new.disk) new.state (emptied h home l)) c.in-Some.ensures by in
@@ -43,10 +43,10 @@ returns-in-Ok-clause-ok g c told l has =
     }
 
 pub returns-in-Err-clause-crash : goal.returns-in-Err-clause-crash
-returns-in-Err-clause-crash g c told l has =
+returns-in-Err-clause-crash g c visible l has =
     let old = g.D.Disk.moments c.args.disk.now in
     let new = g.D.Disk.moments c.checkpoint.new.disk in
     let size = g.D.Disk.size c.args.disk.now in
     let home = block_at (home_of l (reads old)) in
     subst (λ (h : Super). LeavesOnly g.D.Disk.keeps (IsLeftByAny size (l ∷ beginning h home l ∷ [])) old new) c.in-Some.ensures
-    (by_two size g.D.Disk.keeps l (beginning c.in-Some.superblock home l) old new (c.checkpoint.ensures.crash told l has.by has.added))
+    (by_two size g.D.Disk.keeps l (beginning c.in-Some.superblock home l) old new (c.checkpoint.ensures.crash visible l has.by has.added))

@@ -16,13 +16,13 @@ use Rattle.ufs_synced.proofs.Stops.{commit_err, from_err, own_alone, stop_is}
 use Rattle.ufs_synced.proofs.commits.commit_log.Goals as goal
 
 pub returns-then-is_empty-clause-ok : goal.returns-then-is_empty-clause-ok
-returns-then-is_empty-clause-ok g c told start history p same noted table go =
+returns-then-is_empty-clause-ok g c visible start history p same noted table go =
     let is = c.as_slice.ensures ∙ c.records.ensures.records in
     let none : c.args.log.now ≡ [] = nil_from_length c.args.log.now (eqb-true (length c.args.log.now) 0 (ap (λ (xs : List LogRecord). length xs == 0) (sym is) ∙ sym c.is_empty.ensures ∙ c.if-is_empty.true)) in
     c.names_law.ensures.nothing (g.D.Door.store c.args.door.now) start history p (sym c.geometry-geometry.ensures.is) (noted ∙ ap Some none) table go
 
 pub returns-clause-ok : goal.returns-clause-ok
-returns-clause-ok g c told start history p same noted table go =
+returns-clause-ok g c visible start history p same noted table go =
     let mid = g.D.Door.store c.make_ready.new.door in
     let new = g.D.Door.store c.commit_names.new.self in
     let old_form = ap geometry_of_store c.make_ready.ensures.rest ∙ sym c.geometry-geometry.ensures.is in
@@ -32,10 +32,10 @@ returns-clause-ok g c told start history p same noted table go =
     let on : (length c.args.log.now == 0) ≡ true = ap (λ (xs : List LogRecord). length xs == 0) e in
     let off : (length c.args.log.now == 0) ≡ false = ap (λ (xs : List LogRecord). length xs == 0) (sym is) ∙ sym c.is_empty.ensures ∙ c.if-is_empty.false in
     let clash = sym on ∙ off in cc in
-    c.names_law.ensures.commit mid new start history p c.args.log.now beside noted table (c.in_ok-commit_names.ensures.ok told some) (c.in_ok-make_ready.ensures.ok told start history p same go)
+    c.names_law.ensures.commit mid new start history p c.args.log.now beside noted table (c.in_ok-commit_names.ensures.ok visible some) (c.in_ok-make_ready.ensures.ok visible start history p same go)
 
 pub returns-in_err-commit_names-clause-err : goal.returns-in_err-commit_names-clause-err
-returns-in_err-commit_names-clause-err g c told =
+returns-in_err-commit_names-clause-err g c visible =
     let old = g.D.Door.store c.args.door.now in
     let mid = g.D.Door.store c.make_ready.new.door in
     let new = g.D.Door.store c.commit_names.new.self in
@@ -44,12 +44,12 @@ returns-in_err-commit_names-clause-err g c told =
     let going = ap (λ (s : StoreState). s.stop) c.in_ok-make_ready.ensures.passed ∙ c.requires.going in
     let stays : (start : PosixTree) (history : List Entry) (p : Parts) → p.fresh ≡ c.args.fresh.now → p.names.tree.noted ≡ Some c.args.log.now → IsNameTable p.names.tree → IsGoing old start history p → IsOnDisk new start history p =
     λ start history p same noted table go.
-    let ready = c.in_ok-make_ready.ensures.ok told start history p same go in
+    let ready = c.in_ok-make_ready.ensures.ok visible start history p same go in
     from_err c.commit_names.result _ c.in_err-commit_names.was (commit_err c.commit_names.result c.commit_names.ensures.refused
     (λ fault e. let clash = sym going ∙ (c.commit_names.ensures.stopped fault).0 e in cc)
     (λ fault e. inr (c.names_law.ensures.stop mid new start history p c.args.log.now beside noted table
-    (subst IsSome (sym (stop_is mid.stop new.stop _ going c.commit_names.ensures.stop ∙ ap fault_in e)) refl) (c.commit_names.ensures.device told fault e) ready))
-    (λ e. inl (c.names_law.ensures.memory mid new start history p beside (c.commit_names.ensures.memory told e) ready))) in
+    (subst IsSome (sym (stop_is mid.stop new.stop _ going c.commit_names.ensures.stop ∙ ap fault_in e)) refl) (c.commit_names.ensures.device visible fault e) ready))
+    (λ e. inl (c.names_law.ensures.memory mid new start history p beside (c.commit_names.ensures.memory visible e) ready))) in
     let p = err_from_is_err_and c.from_residual-in_err-commit_names.result c.from_residual-in_err-commit_names.ensures.1 in
     subst (λ r. OnErr r ((start : PosixTree) (history : List Entry) (p : Parts) → p.fresh ≡ c.args.fresh.now → p.names.tree.noted ≡ Some c.args.log.now → IsNameTable p.names.tree → IsGoing old start history p → IsOnDisk new start history p)) (sym p.1) stays
 
@@ -64,11 +64,11 @@ returns-in_err-commit_names-clause-refused g c =
     (λ fault e. let clash = sym going ∙ (c.commit_names.ensures.stopped fault).0 (failed ∙ ap Err e) in cc))
 
 pub returns-then-is_empty-clause-moments : goal.returns-then-is_empty-clause-moments
-returns-then-is_empty-clause-moments g c told start history p same noted table go =
+returns-then-is_empty-clause-moments g c visible start history p same noted table go =
     c.always_law.ensures.rest g.D.Door.keeps (g.D.Door.store c.args.door.now) start history p (sym c.geometry-geometry.ensures.is) (inl go)
 
 pub returns-clause-moments : goal.returns-clause-moments
-returns-clause-moments g c told start history p same noted table go =
+returns-clause-moments g c visible start history p same noted table go =
     let old = g.D.Door.store c.args.door.now in
     let mid = g.D.Door.store c.make_ready.new.door in
     let new = g.D.Door.store c.commit_names.new.self in
@@ -79,11 +79,11 @@ returns-clause-moments g c told start history p same noted table go =
     let off : (length c.args.log.now == 0) ≡ false = ap (λ (xs : List LogRecord). length xs == 0) (sym is) ∙ sym c.is_empty.ensures ∙ c.if-is_empty.false in
     let clash = sym on ∙ off in cc in
     explained_joined g.D.Door.keeps start history old.sectors old.moments mid new.moments (ap (λ (s : StoreState). s.sectors) c.make_ready.ensures.rest)
-    (c.make_ready.ensures.moments told start history p same go)
-    (c.names_law.ensures.moments g.D.Door.keeps mid new.moments start history p c.args.log.now form noted table (c.commit_names.ensures.crash told some) (c.in_ok-make_ready.ensures.ok told start history p same go))
+    (c.make_ready.ensures.moments visible start history p same go)
+    (c.names_law.ensures.moments g.D.Door.keeps mid new.moments start history p c.args.log.now form noted table (c.commit_names.ensures.crash visible some) (c.in_ok-make_ready.ensures.ok visible start history p same go))
 
 pub returns-in_err-commit_names-clause-moments : goal.returns-in_err-commit_names-clause-moments
-returns-in_err-commit_names-clause-moments g c told start history p same noted table go =
+returns-in_err-commit_names-clause-moments g c visible start history p same noted table go =
     let old = g.D.Door.store c.args.door.now in
     let mid = g.D.Door.store c.make_ready.new.door in
     let new = g.D.Door.store c.commit_names.new.self in
@@ -94,12 +94,12 @@ returns-in_err-commit_names-clause-moments g c told start history p same noted t
     let off : (length c.args.log.now == 0) ≡ false = ap (λ (xs : List LogRecord). length xs == 0) (sym is) ∙ sym c.is_empty.ensures ∙ c.if-is_empty.false in
     let clash = sym on ∙ off in cc in
     explained_joined g.D.Door.keeps start history old.sectors old.moments mid new.moments (ap (λ (s : StoreState). s.sectors) c.make_ready.ensures.rest)
-    (c.make_ready.ensures.moments told start history p same go)
-    (c.names_law.ensures.moments g.D.Door.keeps mid new.moments start history p c.args.log.now form noted table (c.commit_names.ensures.crash told some) (c.in_ok-make_ready.ensures.ok told start history p same go))
+    (c.make_ready.ensures.moments visible start history p same go)
+    (c.names_law.ensures.moments g.D.Door.keeps mid new.moments start history p c.args.log.now form noted table (c.commit_names.ensures.crash visible some) (c.in_ok-make_ready.ensures.ok visible start history p same go))
 
 pub returns-then-not-fits-clause-moments : goal.returns-then-not-fits-clause-moments
-returns-then-not-fits-clause-moments g c told start history p same noted table go =
+returns-then-not-fits-clause-moments g c visible start history p same noted table go =
     c.always_law.ensures.rest g.D.Door.keeps (g.D.Door.store c.args.door.now) start history p (sym c.geometry-geometry.ensures.is) (inl go)
 
 pub returns-in_err-make_ready-clause-moments : goal.returns-in_err-make_ready-clause-moments
-returns-in_err-make_ready-clause-moments g c told start history p same noted table go = c.make_ready.ensures.moments told start history p same go
+returns-in_err-make_ready-clause-moments g c visible start history p same noted table go = c.make_ready.ensures.moments visible start history p same go

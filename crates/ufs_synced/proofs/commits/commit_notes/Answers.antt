@@ -3,11 +3,11 @@ use Rattle.std.proofs.lemmas.Result.{on_ok_weaker}
 use Rattle.ufs_synced.proofs.commits.commit_notes.Goals as goal
 
 pub returns-in-Some-clause-ok : goal.returns-in-Some-clause-ok
-returns-in-Some-clause-ok g c told = on_ok_weaker c.commit_log.result (λ ok start history p same noted table go. ok start history p same (noted ∙ sym c.in-Some.ensures.value) table go) (c.commit_log.ensures.ok told)
+returns-in-Some-clause-ok g c visible = on_ok_weaker c.commit_log.result (λ ok start history p same noted table go. ok start history p same (noted ∙ sym c.in-Some.ensures.value) table go) (c.commit_log.ensures.ok visible)
 
 pub returns-in-Some-clause-moments : goal.returns-in-Some-clause-moments
-returns-in-Some-clause-moments g c told start history p same noted table go = c.commit_log.ensures.moments told start history p same (noted ∙ sym c.in-Some.ensures.value) table go
+returns-in-Some-clause-moments g c visible start history p same noted table go = c.commit_log.ensures.moments visible start history p same (noted ∙ sym c.in-Some.ensures.value) table go
 
 pub returns-in-None-clause-moments : goal.returns-in-None-clause-moments
-returns-in-None-clause-moments g c told start history p same noted table go =
+returns-in-None-clause-moments g c visible start history p same noted table go =
     c.always_law.ensures.rest g.D.Door.keeps (g.D.Door.store c.args.door.now) start history p (sym c.geometry-geometry.ensures.is) (inl go)

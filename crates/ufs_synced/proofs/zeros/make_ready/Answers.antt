@@ -14,16 +14,16 @@ use Rattle.ufs_synced.proofs.Stops.{device_alone, has_stopped, on_err_cases, pas
 use Rattle.ufs_synced.proofs.zeros.make_ready.Goals as goal
 
 pub returns-in_err-write_zeros-clause-err : goal.returns-in_err-write_zeros-clause-err
-returns-in_err-write_zeros-clause-err g c told =
+returns-in_err-write_zeros-clause-err g c visible =
     let old = g.D.Door.store c.args.door.now in
     let new = g.D.Door.store c.write_zeros.new.door in
     let stops : (start : PosixTree) (history : List Entry) (p : Parts) → p.fresh ≡ c.args.fresh.now → IsGoing old start history p → HasStopped new start history p =
-    λ start history p same go. c.in_err-write_zeros.ensures.err told start history p same (c.zeros_law.ensures.begin old start history p go) in
+    λ start history p same go. c.in_err-write_zeros.ensures.err visible start history p same (c.zeros_law.ensures.begin old start history p go) in
     let p = err_from_is_err_and c.from_residual.result c.from_residual.ensures.1 in
     subst (λ r. OnErr r ((start : PosixTree) (history : List Entry) (p : Parts) → p.fresh ≡ c.args.fresh.now → IsGoing old start history p → HasStopped new start history p)) (sym p.1) stops
 
 pub returns-clause-ok : goal.returns-clause-ok
-returns-clause-ok g c told =
+returns-clause-ok g c visible =
     let old = g.D.Door.store c.args.door.now in
     let mid = g.D.Door.store c.write_zeros.new.door in
     let new = g.D.Door.store c.settle.new.self in
@@ -32,11 +32,11 @@ returns-clause-ok g c told =
       new_form = ap geometry_of_store c.settle.ensures.rest ∙ ap geometry_of_store c.write_zeros.ensures.rest ∙ sym c.geometry-geometry.ensures.is;
       unassigned = ap (λ (s : StoreState). s.unassigned) c.settle.ensures.rest;
     } in
-    on_ok_weaker c.settle.result (λ barrier start history p same go. c.zeros_law.ensures.barrier mid new start history p beside (g.met.D.Door.whole told c.settle.new.self) barrier
-    (c.in_ok-write_zeros.ensures.ok told start history p same (c.zeros_law.ensures.begin old start history p go))) (c.settle.ensures.ok told)
+    on_ok_weaker c.settle.result (λ barrier start history p same go. c.zeros_law.ensures.barrier mid new start history p beside (g.met.D.Door.whole visible c.settle.new.self) barrier
+    (c.in_ok-write_zeros.ensures.ok visible start history p same (c.zeros_law.ensures.begin old start history p go))) (c.settle.ensures.ok visible)
 
 pub returns-clause-err : goal.returns-clause-err
-returns-clause-err g c told =
+returns-clause-err g c visible =
     let old = g.D.Door.store c.args.door.now in
     let mid = g.D.Door.store c.write_zeros.new.door in
     let new = g.D.Door.store c.settle.new.self in
@@ -49,8 +49,8 @@ returns-clause-err g c told =
     let device = device_alone mid.stop new.stop going c.settle.result c.settle.ensures.refused c.settle.ensures.stopped in
     let stopped = has_stopped mid.stop new.stop going c.settle.result (stop_is mid.stop new.stop _ going c.settle.ensures.stop) device in
     on_err_cases c.settle.result _ (λ at start history p same go. c.zeros_law.ensures.barrier_fails mid new start history p p.fresh beside (at (IsSome new.stop) stopped)
-    (at ((l : Ledger) → HasLedger mid l → IsLedgerOf new.sectors new.moments.state l) (c.settle.ensures.err told))
-    (c.in_ok-write_zeros.ensures.ok told start history p same (c.zeros_law.ensures.begin old start history p go)))
+    (at ((l : Ledger) → HasLedger mid l → IsLedgerOf new.sectors new.moments.state l) (c.settle.ensures.err visible))
+    (c.in_ok-write_zeros.ensures.ok visible start history p same (c.zeros_law.ensures.begin old start history p go)))
 
 pub returns-clause-stop : goal.returns-clause-stop
 returns-clause-stop g c = stop_is _ _ _ (ap (λ (s : StoreState). s.stop) c.in_ok-write_zeros.ensures.passed ∙ c.requires.going) c.settle.ensures.stop
@@ -68,16 +68,16 @@ returns-clause-passed g c =
     (passed_ok c.settle.result mid new going c.settle.ensures.rest c.settle.ensures.cause c.settle.ensures.stop)
 
 pub returns-in_err-write_zeros-clause-moments : goal.returns-in_err-write_zeros-clause-moments
-returns-in_err-write_zeros-clause-moments g c told start history p same go =
-    c.write_zeros.ensures.moments told start history p same (c.zeros_law.ensures.begin (g.D.Door.store c.args.door.now) start history p go)
+returns-in_err-write_zeros-clause-moments g c visible start history p same go =
+    c.write_zeros.ensures.moments visible start history p same (c.zeros_law.ensures.begin (g.D.Door.store c.args.door.now) start history p go)
 
 pub returns-clause-moments : goal.returns-clause-moments
-returns-clause-moments g c told start history p same go =
+returns-clause-moments g c visible start history p same go =
     let old = g.D.Door.store c.args.door.now in
     let mid = g.D.Door.store c.write_zeros.new.door in
     let new = g.D.Door.store c.settle.new.self in
     let z = c.zeros_law.ensures.begin old start history p go in
     explained_joined g.D.Door.keeps start history old.sectors old.moments mid new.moments (ap (λ (s : StoreState). s.sectors) c.write_zeros.ensures.rest)
-    (c.write_zeros.ensures.moments told start history p same z)
-    (c.zeros_law.ensures.barrier_moments g.D.Door.keeps mid new.moments start history p p.fresh (ap geometry_of_store c.write_zeros.ensures.rest ∙ sym c.geometry-geometry.ensures.is) (c.settle.ensures.crash told)
-    (c.in_ok-write_zeros.ensures.ok told start history p same z))
+    (c.write_zeros.ensures.moments visible start history p same z)
+    (c.zeros_law.ensures.barrier_moments g.D.Door.keeps mid new.moments start history p p.fresh (ap geometry_of_store c.write_zeros.ensures.rest ∙ sym c.geometry-geometry.ensures.is) (c.settle.ensures.crash visible)
+    (c.in_ok-write_zeros.ensures.ok visible start history p same z))

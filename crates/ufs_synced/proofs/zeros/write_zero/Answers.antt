@@ -14,7 +14,7 @@ use Rattle.ufs_synced.proofs.Stops.{device_alone, has_stopped, on_err_cases, pas
 use Rattle.ufs_synced.proofs.zeros.write_zero.Goals as goal
 
 pub returns-clause-ok : goal.returns-clause-ok
-returns-clause-ok g c told =
+returns-clause-ok g c visible =
     let old = g.D.Door.store c.args.door.now in
     let new = g.D.Door.store c.write_block.new.self in
     let beside : IsBeside c.geometry-geometry.result old new = record {
@@ -22,10 +22,10 @@ returns-clause-ok g c told =
       new_form = ap geometry_of_store c.write_block.ensures.rest ∙ sym c.geometry-geometry.ensures.is;
       unassigned = ap (λ (s : StoreState). s.unassigned) c.write_block.ensures.rest;
     } in
-    on_ok_weaker c.write_block.result (λ writes start history p done fresh z. c.zeros_law.ensures.write old new start history p done c.args.block beside fresh writes z) (c.write_block.ensures.ok told)
+    on_ok_weaker c.write_block.result (λ writes start history p done fresh z. c.zeros_law.ensures.write old new start history p done c.args.block beside fresh writes z) (c.write_block.ensures.ok visible)
 
 pub returns-clause-err : goal.returns-clause-err
-returns-clause-err g c told =
+returns-clause-err g c visible =
     let old = g.D.Door.store c.args.door.now in
     let new = g.D.Door.store c.write_block.new.self in
     let beside : IsBeside c.geometry-geometry.result old new = record {
@@ -37,7 +37,7 @@ returns-clause-err g c told =
     let stopped = has_stopped old.stop new.stop c.requires.going c.write_block.result (stop_is old.stop new.stop _ c.requires.going c.write_block.ensures.stop) device in
     on_err_cases c.write_block.result _ (λ at start history p done fresh z.
     c.zeros_law.ensures.write_fails old new start history p done c.args.block (block_at (reads new.moments) c.args.block) beside fresh (at (IsSome new.stop) stopped)
-    (at ((l : Ledger) → HasLedger old l → MayWrite l c.args.block zeros → IsLedgerOf new.sectors new.moments.state (tried c.args.block zeros (block_at (reads new.moments) c.args.block) l)) (c.write_block.ensures.err told)) z)
+    (at ((l : Ledger) → HasLedger old l → MayWrite l c.args.block zeros → IsLedgerOf new.sectors new.moments.state (tried c.args.block zeros (block_at (reads new.moments) c.args.block) l)) (c.write_block.ensures.err visible)) z)
 
 pub returns-clause-stop : goal.returns-clause-stop
 returns-clause-stop g c = stop_is _ _ _ c.requires.going c.write_block.ensures.stop
@@ -50,6 +50,6 @@ returns-clause-passed g c =
     passed_ok c.write_block.result (g.D.Door.store c.args.door.now) (g.D.Door.store c.write_block.new.self) c.requires.going c.write_block.ensures.rest c.write_block.ensures.cause c.write_block.ensures.stop
 
 pub returns-clause-moments : goal.returns-clause-moments
-returns-clause-moments g c told start history p done fresh z =
+returns-clause-moments g c visible start history p done fresh z =
     c.zeros_law.ensures.write_moments g.D.Door.keeps (g.D.Door.store c.args.door.now) (g.D.Door.store c.write_block.new.self).moments start history p done c.args.block (sym c.geometry-geometry.ensures.is) fresh
-    (c.write_block.ensures.crash told) z
+    (c.write_block.ensures.crash visible) z

@@ -19,8 +19,8 @@ use Rattle.ufs_synced.proofs.zeros.write_zeros.Goals as goal
 pub loop-place-init : goal.loop-place-init
 loop-place-init g c = record {
   passed = refl;
-  moments = λ told start history p is z. c.zeros_law.ensures.rest g.D.Door.keeps (g.D.Door.store c.args.door.now) start history p [] (sym c.geometry-geometry.ensures.is) z;
-  zero = λ told start history p is z. z;
+  moments = λ visible start history p is z. c.zeros_law.ensures.rest g.D.Door.keeps (g.D.Door.store c.args.door.now) start history p [] (sym c.geometry-geometry.ensures.is) z;
+  zero = λ visible start history p is z. z;
 }
 
 pub write_zero-requires-clause-there : goal.write_zero-requires-clause-there
@@ -32,7 +32,7 @@ write_zero-requires-clause-there g c =
     subst (λ (h : Geometry). IsDataBlock h block) (sym (ap geometry_of_store c.loop-place.invariant.passed)) (c.requires.there block (has_at fresh k block (slice_get-get_or fresh k 0 less)))
 
 pub returns-in_err-write_zero-clause-err : goal.returns-in_err-write_zero-clause-err
-returns-in_err-write_zero-clause-err g c told =
+returns-in_err-write_zero-clause-err g c visible =
     let fresh = c.args.fresh.now in
     let k : ℕ = c.loop-place.place in
     let i = c.loop-place.invariant in
@@ -42,7 +42,7 @@ returns-in_err-write_zero-clause-err g c told =
     let old = g.D.Door.store c.args.door.now in
     let new = g.D.Door.store c.write_zero.new.door in
     let stops : (start : PosixTree) (history : List Entry) (p : Parts) → p.fresh ≡ fresh → HasZeros old start history p [] → HasStopped new start history p =
-    λ start history p same z. c.in_err-write_zero.ensures.err told start history p (take k fresh) (ap (λ (xs : List ℕ). has xs block) same ∙ has_at fresh k block at) (i.zero told start history p same z) in
+    λ start history p same z. c.in_err-write_zero.ensures.err visible start history p (take k fresh) (ap (λ (xs : List ℕ). has xs block) same ∙ has_at fresh k block at) (i.zero visible start history p same z) in
     let p = err_from_is_err_and c.from_residual.result c.from_residual.ensures.1 in
     subst (λ r. OnErr r ((start : PosixTree) (history : List Entry) (p : Parts) → p.fresh ≡ fresh → HasZeros old start history p [] → HasStopped new start history p)) (sym p.1) stops
 
@@ -58,15 +58,15 @@ loop-place-preserved g c =
     let next : suc k ≡ k + 1 = omega arith in
     record {
       passed = c.in_ok-write_zero.ensures.passed ∙ ap (λ (s : StoreState). record s { moments = new.moments; unsettled = new.unsettled }) i.passed;
-      moments = λ told start history p same z. explained_joined g.D.Door.keeps start history (g.D.Door.store c.args.door.now).sectors (g.D.Door.store c.args.door.now).moments (g.D.Door.store c.loop-place.door) new.moments
-          (ap (λ (s : StoreState). s.sectors) i.passed) (i.moments told start history p same z)
-          (c.write_zero.ensures.moments told start history p (take k fresh) (ap (λ (xs : List ℕ). has xs block) same ∙ has_at fresh k block at) (i.zero told start history p same z));
-      zero = λ told start history p same z. subst (HasZeros new start history p) (sym (take-push fresh k block at) ∙ ap (λ (n : ℕ). take n fresh) next)
-          (c.in_ok-write_zero.ensures.ok told start history p (take k fresh) (ap (λ (xs : List ℕ). has xs block) same ∙ has_at fresh k block at) (i.zero told start history p same z));
+      moments = λ visible start history p same z. explained_joined g.D.Door.keeps start history (g.D.Door.store c.args.door.now).sectors (g.D.Door.store c.args.door.now).moments (g.D.Door.store c.loop-place.door) new.moments
+          (ap (λ (s : StoreState). s.sectors) i.passed) (i.moments visible start history p same z)
+          (c.write_zero.ensures.moments visible start history p (take k fresh) (ap (λ (xs : List ℕ). has xs block) same ∙ has_at fresh k block at) (i.zero visible start history p same z));
+      zero = λ visible start history p same z. subst (HasZeros new start history p) (sym (take-push fresh k block at) ∙ ap (λ (n : ℕ). take n fresh) next)
+          (c.in_ok-write_zero.ensures.ok visible start history p (take k fresh) (ap (λ (xs : List ℕ). has xs block) same ∙ has_at fresh k block at) (i.zero visible start history p same z));
     }
 
 pub returns-in_err-write_zero-clause-moments : goal.returns-in_err-write_zero-clause-moments
-returns-in_err-write_zero-clause-moments g c told start history p same z =
+returns-in_err-write_zero-clause-moments g c visible start history p same z =
     let fresh = c.args.fresh.now in
     let k : ℕ = c.loop-place.place in
     let i = c.loop-place.invariant in
@@ -74,8 +74,8 @@ returns-in_err-write_zero-clause-moments g c told start history p same z =
     let block : ℕ = slice_index_or fresh k 0 in
     let at : slice_get fresh k ≡ Some block = slice_get-get_or fresh k 0 less in
     explained_joined g.D.Door.keeps start history (g.D.Door.store c.args.door.now).sectors (g.D.Door.store c.args.door.now).moments (g.D.Door.store c.loop-place.door) (g.D.Door.store c.write_zero.new.door).moments
-    (ap (λ (s : StoreState). s.sectors) i.passed) (i.moments told start history p same z)
-    (c.write_zero.ensures.moments told start history p (take k fresh) (ap (λ (xs : List ℕ). has xs block) same ∙ has_at fresh k block at) (i.zero told start history p same z))
+    (ap (λ (s : StoreState). s.sectors) i.passed) (i.moments visible start history p same z)
+    (c.write_zero.ensures.moments visible start history p (take k fresh) (ap (λ (xs : List ℕ). has xs block) same ∙ has_at fresh k block at) (i.zero visible start history p same z))
 
 pub returns-clause-moments : goal.returns-clause-moments
-returns-clause-moments g c told start history p same z = c.loop-place.invariant.moments told start history p same z
+returns-clause-moments g c visible start history p same z = c.loop-place.invariant.moments visible start history p same z

@@ -12,70 +12,70 @@ use Rattle.ufs_volume.proofs.Why.{why_superblock, why_read, rises, folds_all, vo
 use Rattle.ufs_volume.proofs.reading.read_volume.Goals as goal
 
 pub returns-in_err-superblock-clause-refused : goal.returns-in_err-superblock-clause-refused
-returns-in_err-superblock-clause-refused g c told =
+returns-in_err-superblock-clause-refused g c visible =
     let p = err_from_is_err_and c.from_residual.result c.from_residual.ensures.1 in
-    rw (p.1, p.2) (why_superblock (g.D.Disk.size c.args.disk.now) (reads (g.D.Disk.moments c.args.disk.now)) c.in_err-superblock.field-0.0 (c.in_err-superblock.ensures.refused told))
+    rw (p.1, p.2) (why_superblock (g.D.Disk.size c.args.disk.now) (reads (g.D.Disk.moments c.args.disk.now)) c.in_err-superblock.field-0.0 (c.in_err-superblock.ensures.refused visible))
 
 pub returns-in_err-list-clause-refused : goal.returns-in_err-list-clause-refused
-returns-in_err-list-clause-refused g c told =
+returns-in_err-list-clause-refused g c visible =
     let p = err_from_is_err_and c.from_residual-in_err-list.result c.from_residual-in_err-list.ensures.1 in
     let e = c.in_ok-superblock.ensures in
-    rw (p.1, p.2) (why_read (g.D.Disk.size c.args.disk.now) (reads (g.D.Disk.moments c.args.disk.now)) (reads (g.D.Disk.moments c.read_superblock.new.disk)) (c.read_superblock.ensures.read_only told).content c.in_ok-superblock.superblock (e.superblock told) (e.taken told)
-    c.in_err-list.field-0.0 (c.in_err-list.ensures.bad told))
+    rw (p.1, p.2) (why_read (g.D.Disk.size c.args.disk.now) (reads (g.D.Disk.moments c.args.disk.now)) (reads (g.D.Disk.moments c.read_superblock.new.disk)) (c.read_superblock.ensures.read_only visible).content c.in_ok-superblock.superblock (e.superblock visible) (e.taken visible)
+    c.in_err-list.field-0.0 (c.in_err-list.ensures.bad visible))
 
 pub returns-in_err-list-clause-read_only : goal.returns-in_err-list-clause-read_only
-returns-in_err-list-clause-read_only g c told =
-    read_more g.D.Disk.keeps (g.D.Disk.moments c.args.disk.now) (g.D.Disk.moments c.read_superblock.new.disk) (g.D.Disk.moments c.read_journal.new.disk) (c.read_superblock.ensures.read_only told) (c.read_journal.ensures.read_only told)
+returns-in_err-list-clause-read_only g c visible =
+    read_more g.D.Disk.keeps (g.D.Disk.moments c.args.disk.now) (g.D.Disk.moments c.read_superblock.new.disk) (g.D.Disk.moments c.read_journal.new.disk) (c.read_superblock.ensures.read_only visible) (c.read_journal.ensures.read_only visible)
 
 pub returns-in-Ok-clause-taken : goal.returns-in-Ok-clause-taken
-returns-in-Ok-clause-taken g c told =
+returns-in-Ok-clause-taken g c visible =
     let e = c.in_ok-superblock.ensures in
     let l = c.in_ok-list.ensures in
-    volume_is (g.D.Disk.size c.args.disk.now) (reads (g.D.Disk.moments c.args.disk.now)) (reads (g.D.Disk.moments c.read_superblock.new.disk)) (c.read_superblock.ensures.read_only told).content c.in_ok-superblock.superblock (e.superblock told) (e.taken told)
-    c.in_ok-list.list (l.committed told) (l.whole told) c.in-Ok.volume c.in-Ok.ensures.superblock
+    volume_is (g.D.Disk.size c.args.disk.now) (reads (g.D.Disk.moments c.args.disk.now)) (reads (g.D.Disk.moments c.read_superblock.new.disk)) (c.read_superblock.ensures.read_only visible).content c.in_ok-superblock.superblock (e.superblock visible) (e.taken visible)
+    c.in_ok-list.list (l.committed visible) (l.whole visible) c.in-Ok.volume c.in-Ok.ensures.superblock
 
 pub returns-in-Ok-clause-added : goal.returns-in-Ok-clause-added
-returns-in-Ok-clause-added g c told =
+returns-in-Ok-clause-added g c visible =
     let e = c.in_ok-superblock.ensures in
     let l = c.in_ok-list.ensures in
     let disk = reads (g.D.Disk.moments c.args.disk.now) in
     let mid = reads (g.D.Disk.moments c.read_superblock.new.disk) in
-    let content : mid ≡ disk = (c.read_superblock.ensures.read_only told).content in
+    let content : mid ≡ disk = (c.read_superblock.ensures.read_only visible).content in
     let list = c.in_ok-list.list in
-    subst (HasAdded c.in-Ok.volume.overlay) (list_is (g.D.Disk.size c.args.disk.now) disk mid content c.in_ok-superblock.superblock (e.superblock told) (e.taken told) list (l.committed told) (l.whole told) c.in-Ok.volume c.in-Ok.ensures.superblock)
-    (c.in-Ok.ensures.added (rises (g.D.Disk.size c.args.disk.now) disk mid content c.in_ok-superblock.superblock (e.superblock told) (e.taken told) list (l.committed told) (l.whole told)))
+    subst (HasAdded c.in-Ok.volume.overlay) (list_is (g.D.Disk.size c.args.disk.now) disk mid content c.in_ok-superblock.superblock (e.superblock visible) (e.taken visible) list (l.committed visible) (l.whole visible) c.in-Ok.volume c.in-Ok.ensures.superblock)
+    (c.in-Ok.ensures.added (rises (g.D.Disk.size c.args.disk.now) disk mid content c.in_ok-superblock.superblock (e.superblock visible) (e.taken visible) list (l.committed visible) (l.whole visible)))
 
 pub returns-in-Ok-clause-count : goal.returns-in-Ok-clause-count
-returns-in-Ok-clause-count g c told =
+returns-in-Ok-clause-count g c visible =
     let e = c.in_ok-superblock.ensures in
     let l = c.in_ok-list.ensures in
     c.in-Ok.ensures.count
-    ∙ ap (length {A = Committed}) (list_is (g.D.Disk.size c.args.disk.now) (reads (g.D.Disk.moments c.args.disk.now)) (reads (g.D.Disk.moments c.read_superblock.new.disk)) (c.read_superblock.ensures.read_only told).content c.in_ok-superblock.superblock (e.superblock told) (e.taken told)
-    c.in_ok-list.list (l.committed told) (l.whole told) c.in-Ok.volume c.in-Ok.ensures.superblock)
+    ∙ ap (length {A = Committed}) (list_is (g.D.Disk.size c.args.disk.now) (reads (g.D.Disk.moments c.args.disk.now)) (reads (g.D.Disk.moments c.read_superblock.new.disk)) (c.read_superblock.ensures.read_only visible).content c.in_ok-superblock.superblock (e.superblock visible) (e.taken visible)
+    c.in_ok-list.list (l.committed visible) (l.whole visible) c.in-Ok.volume c.in-Ok.ensures.superblock)
 
 pub returns-in-Ok-clause-highest : goal.returns-in-Ok-clause-highest
-returns-in-Ok-clause-highest g c told =
+returns-in-Ok-clause-highest g c visible =
     let e = c.in_ok-superblock.ensures in
     let l = c.in_ok-list.ensures in
     c.in-Ok.ensures.highest
-    ∙ ap highest_number (list_is (g.D.Disk.size c.args.disk.now) (reads (g.D.Disk.moments c.args.disk.now)) (reads (g.D.Disk.moments c.read_superblock.new.disk)) (c.read_superblock.ensures.read_only told).content c.in_ok-superblock.superblock (e.superblock told) (e.taken told)
-    c.in_ok-list.list (l.committed told) (l.whole told) c.in-Ok.volume c.in-Ok.ensures.superblock)
+    ∙ ap highest_number (list_is (g.D.Disk.size c.args.disk.now) (reads (g.D.Disk.moments c.args.disk.now)) (reads (g.D.Disk.moments c.read_superblock.new.disk)) (c.read_superblock.ensures.read_only visible).content c.in_ok-superblock.superblock (e.superblock visible) (e.taken visible)
+    c.in_ok-list.list (l.committed visible) (l.whole visible) c.in-Ok.volume c.in-Ok.ensures.superblock)
 
 pub returns-in-Ok-clause-read_only : goal.returns-in-Ok-clause-read_only
-returns-in-Ok-clause-read_only g c told =
-    read_more g.D.Disk.keeps (g.D.Disk.moments c.args.disk.now) (g.D.Disk.moments c.read_superblock.new.disk) (g.D.Disk.moments c.read_journal.new.disk) (c.read_superblock.ensures.read_only told) (c.read_journal.ensures.read_only told)
+returns-in-Ok-clause-read_only g c visible =
+    read_more g.D.Disk.keeps (g.D.Disk.moments c.args.disk.now) (g.D.Disk.moments c.read_superblock.new.disk) (g.D.Disk.moments c.read_journal.new.disk) (c.read_superblock.ensures.read_only visible) (c.read_journal.ensures.read_only visible)
 
 pub returns-clause-refused : goal.returns-clause-refused
-returns-clause-refused g c told =
+returns-clause-refused g c visible =
     let e = c.in_ok-superblock.ensures in
     let l = c.in_ok-list.ensures in
     why_outside (volume (g.D.Disk.size c.args.disk.now) (reads (g.D.Disk.moments c.args.disk.now))) c.in-Err.fault
-    (c.in-Err.ensures.outside (folds_all (g.D.Disk.size c.args.disk.now) (reads (g.D.Disk.moments c.args.disk.now)) (reads (g.D.Disk.moments c.read_superblock.new.disk)) (c.read_superblock.ensures.read_only told).content c.in_ok-superblock.superblock (e.superblock told) (e.taken told)
-    c.in_ok-list.list (l.committed told) (l.whole told)))
+    (c.in-Err.ensures.outside (folds_all (g.D.Disk.size c.args.disk.now) (reads (g.D.Disk.moments c.args.disk.now)) (reads (g.D.Disk.moments c.read_superblock.new.disk)) (c.read_superblock.ensures.read_only visible).content c.in_ok-superblock.superblock (e.superblock visible) (e.taken visible)
+    c.in_ok-list.list (l.committed visible) (l.whole visible)))
 
 pub returns-clause-read_only : goal.returns-clause-read_only
-returns-clause-read_only g c told =
-    read_more g.D.Disk.keeps (g.D.Disk.moments c.args.disk.now) (g.D.Disk.moments c.read_superblock.new.disk) (g.D.Disk.moments c.read_journal.new.disk) (c.read_superblock.ensures.read_only told) (c.read_journal.ensures.read_only told)
+returns-clause-read_only g c visible =
+    read_more g.D.Disk.keeps (g.D.Disk.moments c.args.disk.now) (g.D.Disk.moments c.read_superblock.new.disk) (g.D.Disk.moments c.read_journal.new.disk) (c.read_superblock.ensures.read_only visible) (c.read_journal.ensures.read_only visible)
 
 pub returns-clause-cause : goal.returns-clause-cause
 returns-clause-cause g c =

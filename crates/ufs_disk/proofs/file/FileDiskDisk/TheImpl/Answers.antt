@@ -1,13 +1,13 @@
--- A disk over a file tells nothing of what it holds.
+-- A disk over a file isn't visible.
 use Rattle.std.proofs.Common.{refl}
 use Rattle.ufs_disk.specs.Props.{untrue}
 use Rattle.ufs_disk.proofs.file.FileDiskDisk.TheImpl.Goals as goal
 
 pub read-tells : goal.read-tells
 read-tells g c = record {
-  bytes = λ told. absurd (untrue told);
-  content = λ told. refl;
-  crash = λ told. absurd (untrue told);
+  bytes = λ visible. absurd (untrue visible);
+  content = λ visible. refl;
+  crash = λ visible. absurd (untrue visible);
   size = refl;
   cause = c.ensures.cause;
   number = c.ensures.number;
@@ -15,9 +15,9 @@ read-tells g c = record {
 
 pub write-tells : goal.write-tells
 write-tells g c = record {
-  ok = λ told. absurd (untrue told);
-  content = λ told. absurd (untrue told);
-  crash = λ told. absurd (untrue told);
+  ok = λ visible. absurd (untrue visible);
+  content = λ visible. absurd (untrue visible);
+  crash = λ visible. absurd (untrue visible);
   size = refl;
   cause = c.ensures.cause;
   number = c.ensures.number;
@@ -25,9 +25,9 @@ write-tells g c = record {
 
 pub barrier-tells : goal.barrier-tells
 barrier-tells g c = record {
-  ok = λ told. absurd (untrue told);
-  content = λ told. refl;
-  crash = λ told. absurd (untrue told);
+  ok = λ visible. absurd (untrue visible);
+  content = λ visible. refl;
+  crash = λ visible. absurd (untrue visible);
   size = refl;
   cause = c.ensures.cause;
   number = c.ensures.number;

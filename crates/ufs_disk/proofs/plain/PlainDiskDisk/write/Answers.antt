@@ -14,14 +14,14 @@ put_now now bytes new sector sectors sized whole inside is =
     ap image_of is ∙ image_overwritten now bytes sector n size (omega (arith, sized, inside))
 
 pub returns-clause-ok : goal.returns-clause-ok
-returns-clause-ok c told = put_now _ c.args.bytes.now _ c.args.sector c.args.self.now.sectors c.args.self.now.sized c.requires.whole c.requires.inside c.overwrite.ensures.bytes
+returns-clause-ok c visible = put_now _ c.args.bytes.now _ c.args.sector c.args.self.now.sectors c.args.self.now.sized c.requires.whole c.requires.inside c.overwrite.ensures.bytes
 
 pub returns-clause-content : goal.returns-clause-content
-returns-clause-content c told = mixes_all _ _ _
+returns-clause-content c visible = mixes_all _ _ _
     (put_now _ c.args.bytes.now _ c.args.sector c.args.self.now.sectors c.args.self.now.sized c.requires.whole c.requires.inside c.overwrite.ensures.bytes)
 
 pub returns-clause-crash : goal.returns-clause-crash
-returns-clause-crash c told =
+returns-clause-crash c visible =
     let old = image_of c.args.self.now.bytes.items in
     let ps = sectors_of c.args.bytes.now in
     let is = put_now _ c.args.bytes.now _ c.args.sector c.args.self.now.sectors c.args.self.now.sized c.requires.whole c.requires.inside c.overwrite.ensures.bytes in

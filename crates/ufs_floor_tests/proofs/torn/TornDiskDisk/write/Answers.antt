@@ -44,13 +44,13 @@ write-requires c =
     }
 
 pub returns-clause-content : goal.returns-clause-content
-returns-clause-content c told = torn c.args.sector c.args.bytes.now _ _ (omega (arith, c.requires.some, c.requires.whole)) (c.write.ensures.content told)
+returns-clause-content c visible = torn c.args.sector c.args.bytes.now _ _ (omega (arith, c.requires.some, c.requires.whole)) (c.write.ensures.content visible)
 
 pub returns-clause-crash : goal.returns-clause-crash
-returns-clause-crash c told =
+returns-clause-crash c visible =
     let long : 512 ≤ length c.args.bytes.now = omega (arith, c.requires.some, c.requires.whole) in
     weaker _ _ _ (λ image from. record {
       before = from.before;
       left = from.left;
       mixed = torn c.args.sector c.args.bytes.now from.before image long from.mixed;
-    }) _ _ (c.write.ensures.crash told)
+    }) _ _ (c.write.ensures.crash visible)

@@ -10,8 +10,8 @@ use Rattle.ufs_overlay.proofs.overlay.Overlay.write_home.Given as goal
 
 abbrev pub invariant-loop-sector : goal.invariant-loop-sector
 invariant-loop-sector g l = record {
-  read : IsTrue g.D.Disk.tells → (added : List Committed) → HasAdded l.self added → (k : ℕ) → reads (g.D.Disk.moments l.disk) k ≡ (if nat_lt k l.at then folded l.self.geometry added (reads (g.D.Disk.moments l.fn.disk)) k else reads (g.D.Disk.moments l.fn.disk) k);
-  crash : IsTrue g.D.Disk.tells → (added : List Committed) → HasAdded l.self added → IsHomeSettled l.self.geometry added (g.D.Disk.moments l.fn.disk).state → LeavesOnly g.D.Disk.keeps (IsHomeWritten l.self.geometry added (g.D.Disk.moments l.fn.disk).state) (g.D.Disk.moments l.fn.disk) (g.D.Disk.moments l.disk);
+  read : IsTrue g.D.Disk.visible → (added : List Committed) → HasAdded l.self added → (k : ℕ) → reads (g.D.Disk.moments l.disk) k ≡ (if nat_lt k l.at then folded l.self.geometry added (reads (g.D.Disk.moments l.fn.disk)) k else reads (g.D.Disk.moments l.fn.disk) k);
+  crash : IsTrue g.D.Disk.visible → (added : List Committed) → HasAdded l.self added → IsHomeSettled l.self.geometry added (g.D.Disk.moments l.fn.disk).state → LeavesOnly g.D.Disk.keeps (IsHomeWritten l.self.geometry added (g.D.Disk.moments l.fn.disk).state) (g.D.Disk.moments l.fn.disk) (g.D.Disk.moments l.disk);
   size : g.D.Disk.size l.disk ≡ g.D.Disk.size l.fn.disk;
   faults : g.D.Disk.faults l.disk ≡ g.D.Disk.faults l.fn.disk;
 }

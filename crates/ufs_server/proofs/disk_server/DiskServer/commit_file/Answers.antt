@@ -80,7 +80,7 @@ sync_held-told-requires-clause-dropped g c =
     may_dropped s0 p0 p2 file hand known sound held there number others numbered c.file_sync_law.ensures.may space valid
 
 pub returns-in_err-told-clause-err : goal.returns-in_err-told-clause-err
-returns-in_err-told-clause-err g c told =
+returns-in_err-told-clause-err g c visible =
     let s0 = g.D.Door.store c.args.door.now in
     let p0 = c.args.self.now in
     let p2 = c.take_out.new.self in
@@ -95,7 +95,7 @@ returns-in_err-told-clause-err g c told =
     let numbered : AreNumbered p0.files = subst AreNumbered (ap (λ (p : Parts). p.files) c.self.view_is) c.are_numbered.ensures in
     let s1 = g.D.Door.store c.sync_held-told.new.door in
     let y : DurableState = state_of c.sync_held-told.new.held.hand c.sync_held-told.new.held.commits in
-    on_err c.from_residual.result (λ start history names. on_disk_failed s0 p0 p2 file hand known sound held there number others numbered y c.put_back.new.self c.put_back.ensures c.in-Ok.ensures.back c.in_err-told.ensures.kept c.told_law.ensures.back s1 c.told_law.ensures.on_disk c.geometry-geometry.result c.file_memory_law.ensures c.file_failure_law.ensures (sym c.geometry-geometry.ensures.is) c.requires.held c.sync_held-told.ensures.fits (c.in_err-told.ensures.err told) start history names)
+    on_err c.from_residual.result (λ start history names. on_disk_failed s0 p0 p2 file hand known sound held there number others numbered y c.put_back.new.self c.put_back.ensures c.in-Ok.ensures.back c.in_err-told.ensures.kept c.told_law.ensures.back s1 c.told_law.ensures.on_disk c.geometry-geometry.result c.file_memory_law.ensures c.file_failure_law.ensures (sym c.geometry-geometry.ensures.is) c.requires.held c.sync_held-told.ensures.fits (c.in_err-told.ensures.err visible) start history names)
 
 pub returns-in_err-told-clause-same : goal.returns-in_err-told-clause-same
 returns-in_err-told-clause-same g c t parts =
@@ -152,7 +152,7 @@ returns-in_err-told-clause-sound g c =
     sound_failed s0 p0 p2 file hand known sound held there number others numbered y c.put_back.new.self c.put_back.ensures c.in-Ok.ensures.back c.in_err-told.ensures.kept c.told_law.ensures.back s1 c.told_law.ensures.sound c.in_err-told.ensures.unfreed c.sync_held-told.ensures.geometry
 
 pub returns-clause-ok : goal.returns-clause-ok
-returns-clause-ok g c told start history done files =
+returns-clause-ok g c visible start history done files =
     let s0 = g.D.Door.store c.args.door.now in
     let p0 = c.args.self.now in
     let p2 = c.take_out.new.self in
@@ -168,7 +168,7 @@ returns-clause-ok g c told start history done files =
     let s1 = g.D.Door.store c.sync_held-told.new.door in
     let y : DurableState = state_of c.sync_held-told.new.held.hand c.sync_held-told.new.held.commits in
     let v : Parts = record { names = c.self-2.inside.names; files = c.self-2.inside.files; commits = c.self-2.inside.commits; pool = c.self-2.inside.pool; fresh = c.self-2.inside.fresh.items; dropped = c.self-2.inside.dropped } in
-    synced_done s0 p0 p2 file hand known sound held there number others numbered y c.put_back.new.self c.put_back.ensures c.in-Ok.ensures.back c.in_ok-told.ensures.committed c.told_law.ensures.forgotten v c.self-2.view_is c.take-committed.new.self c.take-committed.ensures.gone s1 c.file_sync_law.ensures.ok c.told_law.ensures.synced c.requires.held c.sync_held-told.ensures.fits (c.in_ok-told.ensures.ok told) start history done files
+    synced_done s0 p0 p2 file hand known sound held there number others numbered y c.put_back.new.self c.put_back.ensures c.in-Ok.ensures.back c.in_ok-told.ensures.committed c.told_law.ensures.forgotten v c.self-2.view_is c.take-committed.new.self c.take-committed.ensures.gone s1 c.file_sync_law.ensures.ok c.told_law.ensures.synced c.requires.held c.sync_held-told.ensures.fits (c.in_ok-told.ensures.ok visible) start history done files
 
 pub returns-clause-same : goal.returns-clause-same
 returns-clause-same g c t parts =
@@ -247,23 +247,23 @@ returns-clause-sound g c =
     sound_done s0 p0 p2 file hand known sound held there number others numbered y c.put_back.new.self c.put_back.ensures c.in-Ok.ensures.back c.in_ok-told.ensures.committed c.told_law.ensures.forgotten v c.self-2.view_is c.take-committed.new.self c.take-committed.ensures.gone s1 c.file_sync_law.ensures.sound c.told_law.ensures.sound c.in_ok-told.ensures.freed c.sync_held-told.ensures.geometry
 
 pub returns-in_default-take_out-clause-moments : goal.returns-in_default-take_out-clause-moments
-returns-in_default-take_out-clause-moments g c told start history names =
+returns-in_default-take_out-clause-moments g c visible start history names =
     c.always_law.ensures.rest g.D.Door.keeps (g.D.Door.store c.args.door.now) start history c.args.self.now (sym c.geometry-geometry.ensures.is) (inl names.going)
 
 pub returns-in_err-told-clause-moments : goal.returns-in_err-told-clause-moments
-returns-in_err-told-clause-moments g c told start history names =
+returns-in_err-told-clause-moments g c visible start history names =
     let s0 = g.D.Door.store c.args.door.now in
     let p0 = c.args.self.now in
     let numbered : AreNumbered p0.files = subst AreNumbered (ap (λ (p : Parts). p.files) c.self.view_is) c.are_numbered.ensures in
     meanwhile s0 p0 c.take_out.new.self c.args.file c.in-Ok.held.hand c.in-Ok.held.commits c.requires.sound c.in-Ok.ensures.held c.in-Ok.ensures.there c.in-Ok.ensures.number c.in-Ok.ensures.others numbered
-    g.D.Door.keeps c.geometry-geometry.result (g.D.Door.store c.sync_held-told.new.door) c.file_moments_law.ensures (sym c.geometry-geometry.ensures.is) c.requires.held c.sync_held-told.ensures.fits (c.sync_held-told.ensures.moments told)
+    g.D.Door.keeps c.geometry-geometry.result (g.D.Door.store c.sync_held-told.new.door) c.file_moments_law.ensures (sym c.geometry-geometry.ensures.is) c.requires.held c.sync_held-told.ensures.fits (c.sync_held-told.ensures.moments visible)
     start history names
 
 pub returns-clause-moments : goal.returns-clause-moments
-returns-clause-moments g c told start history names =
+returns-clause-moments g c visible start history names =
     let s0 = g.D.Door.store c.args.door.now in
     let p0 = c.args.self.now in
     let numbered : AreNumbered p0.files = subst AreNumbered (ap (λ (p : Parts). p.files) c.self.view_is) c.are_numbered.ensures in
     meanwhile s0 p0 c.take_out.new.self c.args.file c.in-Ok.held.hand c.in-Ok.held.commits c.requires.sound c.in-Ok.ensures.held c.in-Ok.ensures.there c.in-Ok.ensures.number c.in-Ok.ensures.others numbered
-    g.D.Door.keeps c.geometry-geometry.result (g.D.Door.store c.sync_held-told.new.door) c.file_moments_law.ensures (sym c.geometry-geometry.ensures.is) c.requires.held c.sync_held-told.ensures.fits (c.sync_held-told.ensures.moments told)
+    g.D.Door.keeps c.geometry-geometry.result (g.D.Door.store c.sync_held-told.new.door) c.file_moments_law.ensures (sym c.geometry-geometry.ensures.is) c.requires.held c.sync_held-told.ensures.fits (c.sync_held-told.ensures.moments visible)
     start history names

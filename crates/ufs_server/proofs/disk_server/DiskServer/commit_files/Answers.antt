@@ -18,8 +18,8 @@ use Rattle.ufs_server.proofs.disk_server.DiskServer.commit_files.Goals as goal
 
 pub loop-place-init : goal.loop-place-init
 loop-place-init g c = record {
-  files = λ told start history has. none_yet (g.D.Door.store c.args.door.now) start history c.args.self.now has;
-  moments = λ told start history has. c.always_law.ensures.rest g.D.Door.keeps (g.D.Door.store c.args.door.now) start history c.args.self.now (sym c.geometry-geometry.ensures.is) (inl has.going);
+  files = λ visible start history has. none_yet (g.D.Door.store c.args.door.now) start history c.args.self.now has;
+  moments = λ visible start history has. c.always_law.ensures.rest g.D.Door.keeps (g.D.Door.store c.args.door.now) start history c.args.self.now (sym c.geometry-geometry.ensures.is) (inl has.going);
   same = λ t parts. parts;
   names = refl;
   fresh = refl;
@@ -54,10 +54,10 @@ loop-place-preserved g c =
     let after = c.commit_here.new.self in
     let next : suc k ≡ k + 1 = omega arith in
     record {
-      files = λ told start history has. subst (HasFiles new start history after) (sym (take-push files k file at) ∙ ap (λ (n : ℕ). take n files) next)
-          (one_more new start history after (take k files) file (c.in_ok-commit_here.ensures.ok told start history (take k files) (i.files told start history has)));
-      moments = λ told start history has. explained_joined g.D.Door.keeps start history (g.D.Door.store c.args.door.now).sectors (g.D.Door.store c.args.door.now).moments (g.D.Door.store c.loop-place.door) new.moments
-          i.sectors (i.moments told start history has) (c.commit_here.ensures.moments told start history (i.files told start history has).names);
+      files = λ visible start history has. subst (HasFiles new start history after) (sym (take-push files k file at) ∙ ap (λ (n : ℕ). take n files) next)
+          (one_more new start history after (take k files) file (c.in_ok-commit_here.ensures.ok visible start history (take k files) (i.files visible start history has)));
+      moments = λ visible start history has. explained_joined g.D.Door.keeps start history (g.D.Door.store c.args.door.now).sectors (g.D.Door.store c.args.door.now).moments (g.D.Door.store c.loop-place.door) new.moments
+          i.sectors (i.moments visible start history has) (c.commit_here.ensures.moments visible start history (i.files visible start history has).names);
       same = λ t parts. c.commit_here.ensures.same t (i.same t parts);
       names = c.commit_here.ensures.names ∙ i.names;
       fresh = c.commit_here.ensures.fresh ∙ i.fresh;
@@ -71,17 +71,17 @@ loop-place-preserved g c =
     }
 
 pub returns-in_err-commit_here-clause-err : goal.returns-in_err-commit_here-clause-err
-returns-in_err-commit_here-clause-err g c told =
+returns-in_err-commit_here-clause-err g c visible =
     let old = g.D.Door.store c.args.door.now in
     let new = g.D.Door.store c.commit_here.new.door in
     on_err c.from_residual.result ((start : PosixTree) (history : List Entry) → HasNames old start history c.args.self.now → IsOnDisk new start history c.commit_here.new.self)
-    (λ start history has. c.in_err-commit_here.ensures.err told start history (c.loop-place.invariant.files told start history has).names)
+    (λ start history has. c.in_err-commit_here.ensures.err visible start history (c.loop-place.invariant.files visible start history has).names)
 
 pub returns-clause-ok : goal.returns-clause-ok
-returns-clause-ok g c told start history has =
+returns-clause-ok g c visible start history has =
     let files = c.args.files.now in
     let over : length files ≤ c.loop-place.place = omega (arith, c.loop-place-test.false) in
-    subst (HasFiles (g.D.Door.store c.loop-place.door) start history c.loop-place.self) (take_all c.loop-place.place files over) (c.loop-place.invariant.files told start history has)
+    subst (HasFiles (g.D.Door.store c.loop-place.door) start history c.loop-place.self) (take_all c.loop-place.place files over) (c.loop-place.invariant.files visible start history has)
 
 pub returns-clause-forgotten : goal.returns-clause-forgotten
 returns-clause-forgotten g c file is =
@@ -90,10 +90,10 @@ returns-clause-forgotten g c file is =
     c.loop-place.invariant.forgotten file (ap (λ (xs : List ℕ). has xs file) (take_all c.loop-place.place files over) ∙ is)
 
 pub returns-in_err-commit_here-clause-moments : goal.returns-in_err-commit_here-clause-moments
-returns-in_err-commit_here-clause-moments g c told start history has =
+returns-in_err-commit_here-clause-moments g c visible start history has =
     let i = c.loop-place.invariant in
     explained_joined g.D.Door.keeps start history (g.D.Door.store c.args.door.now).sectors (g.D.Door.store c.args.door.now).moments (g.D.Door.store c.loop-place.door) (g.D.Door.store c.commit_here.new.door).moments
-    i.sectors (i.moments told start history has) (c.commit_here.ensures.moments told start history (i.files told start history has).names)
+    i.sectors (i.moments visible start history has) (c.commit_here.ensures.moments visible start history (i.files visible start history has).names)
 
 pub returns-clause-moments : goal.returns-clause-moments
-returns-clause-moments g c told start history has = c.loop-place.invariant.moments told start history has
+returns-clause-moments g c visible start history has = c.loop-place.invariant.moments visible start history has

@@ -12,8 +12,8 @@ use Rattle.ufs_server.proofs.disk_server.DiskServer.commit_files.Given as goal
 
 abbrev pub invariant-loop-place : goal.invariant-loop-place
 invariant-loop-place g l = record {
-  files : IsTrue g.D.Door.tells → (start : PosixTree) (history : List Entry) → HasNames (g.D.Door.store l.fn.door) start history l.fn.self → HasFiles (g.D.Door.store l.door) start history l.self (take l.place l.fn.files);
-  moments : IsTrue g.D.Door.tells → (start : PosixTree) (history : List Entry) → HasNames (g.D.Door.store l.fn.door) start history l.fn.self
+  files : IsTrue g.D.Door.visible → (start : PosixTree) (history : List Entry) → HasNames (g.D.Door.store l.fn.door) start history l.fn.self → HasFiles (g.D.Door.store l.door) start history l.self (take l.place l.fn.files);
+  moments : IsTrue g.D.Door.visible → (start : PosixTree) (history : List Entry) → HasNames (g.D.Door.store l.fn.door) start history l.fn.self
       → IsExplainedBetween g.D.Door.keeps (g.D.Door.store l.fn.door).sectors start history (g.D.Door.store l.fn.door).moments (g.D.Door.store l.door).moments;
   same : (t : PosixTree) → ArePartsOf l.fn.self t → ArePartsOf l.self t;
   names : l.self.names ≡ l.fn.self.names;

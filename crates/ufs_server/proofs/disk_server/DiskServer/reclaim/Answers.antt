@@ -6,14 +6,14 @@ use Rattle.ufs_server.proofs.Beside.{told_untold, untold_joined}
 use Rattle.ufs_server.proofs.disk_server.DiskServer.reclaim.Goals as goal
 
 pub returns-in-Ok-clause-on_disk : goal.returns-in-Ok-clause-on_disk
-returns-in-Ok-clause-on_disk g c told start history on = c.take_dropped.ensures.on_disk told start history (inl (c.in-Ok.ensures.ok told start history on).going)
+returns-in-Ok-clause-on_disk g c visible start history on = c.take_dropped.ensures.on_disk visible start history (inl (c.in-Ok.ensures.ok visible start history on).going)
 
 pub returns-in-Ok-clause-moments : goal.returns-in-Ok-clause-moments
-returns-in-Ok-clause-moments g c told start history on =
+returns-in-Ok-clause-moments g c visible start history on =
     let old = g.D.Door.store c.args.door.now in
     let mid = g.D.Door.store c.sync_all-synced.new.door in
     explained_joined g.D.Door.keeps start history old.sectors old.moments mid (g.D.Door.store c.take_dropped.new.door).moments c.sync_all-synced.ensures.sectors
-    (c.sync_all-synced.ensures.moments told start history on) (c.take_dropped.ensures.moments told start history (inl (c.in-Ok.ensures.ok told start history on).going))
+    (c.sync_all-synced.ensures.moments visible start history on) (c.take_dropped.ensures.moments visible start history (inl (c.in-Ok.ensures.ok visible start history on).going))
 
 pub returns-in-Ok-clause-untold : goal.returns-in-Ok-clause-untold
 returns-in-Ok-clause-untold g c =

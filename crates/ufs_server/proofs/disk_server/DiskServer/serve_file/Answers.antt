@@ -18,7 +18,7 @@ use Rattle.ufs_server.proofs.FileServing.{answered_at_last, apart, excused_on_di
 use Rattle.ufs_server.proofs.disk_server.DiskServer.serve_file.Goals as goal
 
 pub returns-in_default-clause-on_disk : goal.returns-in_default-clause-on_disk
-returns-in_default-clause-on_disk g c told start history asked legal on =
+returns-in_default-clause-on_disk g c visible start history asked legal on =
     let s0 = g.D.Door.store c.args.door.now in
     let s1 = g.D.Door.store c.gather.new.door in
     let p0 = c.args.self.now in
@@ -30,7 +30,7 @@ returns-in_default-clause-on_disk g c told start history asked legal on =
     (c.on_disk_law.ensures.excused s1 start history entry p1 form legal excused (on_disk_then s0 s1 p0 p1 c.gather.ensures.store c.gather.ensures.moved c.gather.ensures.rest c.file_request_law.ensures.free start history on))
 
 pub returns-in_default-clause-excused : goal.returns-in_default-clause-excused
-returns-in_default-clause-excused g c told excused start history on =
+returns-in_default-clause-excused g c visible excused start history on =
     let s0 = g.D.Door.store c.args.door.now in
     let s1 = g.D.Door.store c.gather.new.door in
     subst (λ (p : Parts). IsOnDisk s1 start history p) (sym c.in_default.ensures.err)
@@ -159,7 +159,7 @@ returns-clause-unchanged g c excused t parts =
     parts_at_last s1 p1 p2 file hand known sound held there number others y pool c.put_back.new.self c.args.ask c.args.by c.args.ticket entry desc applied c.apply-applied.ensures.number c.in-Ok.ensures.back put c.requires.named c.requires.kind c.file_request_law.ensures.excused t excused (parts_then s0 s1 p0 p1 c.gather.ensures.store c.gather.ensures.moved c.gather.ensures.rest t parts)
 
 pub returns-clause-excused : goal.returns-clause-excused
-returns-clause-excused g c told excused start history on =
+returns-clause-excused g c visible excused start history on =
     let s0 = g.D.Door.store c.args.door.now in
     let s1 = g.D.Door.store c.gather.new.door in
     let p0 = c.args.self.now in
@@ -196,7 +196,7 @@ returns-clause-excused g c told excused start history on =
     (on_disk_then s0 s1 p0 p1 c.gather.ensures.store c.gather.ensures.moved c.gather.ensures.rest c.file_request_law.ensures.free start history on)
 
 pub returns-clause-on_disk : goal.returns-clause-on_disk
-returns-clause-on_disk g c told start history asked legal on =
+returns-clause-on_disk g c visible start history asked legal on =
     let s0 = g.D.Door.store c.args.door.now in
     let s1 = g.D.Door.store c.gather.new.door in
     let p0 = c.args.self.now in

@@ -80,21 +80,21 @@ returns-clause-desc g c excused =
     c.serve_once.ensures.desc excused ∙ ap (λ (a : Ask). a.desc) same
 
 pub returns-clause-on_disk : goal.returns-clause-on_disk
-returns-clause-on_disk g c told start history asked legal on =
+returns-clause-on_disk g c visible start history asked legal on =
     let e = c.lacks_block.ensures c.if-not-lacks_block.false in
     let same : c.again.result ≡ c.args.ask = c.again.ensures c.args.ask c.args.by c.args.ticket c.serve_once-first.ensures.entry (c.serve_once-first.ensures.desc e) refl refl in
-    c.serve_once.ensures.on_disk told start history (subst (IsAsk (tree_after start history)) (sym same) asked) legal (c.reclaim.ensures.on_disk told start history (c.serve_once-first.ensures.excused told e start history on))
+    c.serve_once.ensures.on_disk visible start history (subst (IsAsk (tree_after start history)) (sym same) asked) legal (c.reclaim.ensures.on_disk visible start history (c.serve_once-first.ensures.excused visible e start history on))
 
 pub returns-clause-moments : goal.returns-clause-moments
-returns-clause-moments g c told start history on =
+returns-clause-moments g c visible start history on =
     let e = c.lacks_block.ensures c.if-not-lacks_block.false in
     let same : c.again.result ≡ c.args.ask = c.again.ensures c.args.ask c.args.by c.args.ticket c.serve_once-first.ensures.entry (c.serve_once-first.ensures.desc e) refl refl in
     let old = g.D.Door.store c.args.door.now in
     let mid = g.D.Door.store c.serve_once-first.new.door in
     let back = g.D.Door.store c.reclaim.new.door in
     explained_joined g.D.Door.keeps start history old.sectors old.moments back (g.D.Door.store c.serve_once.new.door).moments (c.reclaim.ensures.sectors ∙ c.serve_once-first.ensures.sectors)
-    (explained_joined g.D.Door.keeps start history old.sectors old.moments mid back.moments c.serve_once-first.ensures.sectors (c.serve_once-first.ensures.moments told start history on) (c.reclaim.ensures.moments told start history (c.serve_once-first.ensures.excused told e start history on)))
-    (c.serve_once.ensures.moments told start history (c.reclaim.ensures.on_disk told start history (c.serve_once-first.ensures.excused told e start history on)))
+    (explained_joined g.D.Door.keeps start history old.sectors old.moments mid back.moments c.serve_once-first.ensures.sectors (c.serve_once-first.ensures.moments visible start history on) (c.reclaim.ensures.moments visible start history (c.serve_once-first.ensures.excused visible e start history on)))
+    (c.serve_once.ensures.moments visible start history (c.reclaim.ensures.on_disk visible start history (c.serve_once-first.ensures.excused visible e start history on)))
 
 pub returns-clause-untold : goal.returns-clause-untold
 returns-clause-untold g c =

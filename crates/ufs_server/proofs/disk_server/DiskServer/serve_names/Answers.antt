@@ -39,9 +39,9 @@ returns-in_default-clause-sound g c =
     (one_sound c.file_request_law.ensures.free_sound (g.D.Door.store c.make_room.new.door) (g.D.Door.store c.gather.new.door) c.make_room.new.self c.gather.new.self c.gather.ensures.moved c.gather.ensures.rest c.gather.ensures.store c.make_room.ensures.sound)
 
 pub returns-in_default-clause-on_disk : goal.returns-in_default-clause-on_disk
-returns-in_default-clause-on_disk g c tells start history asked legal on =
+returns-in_default-clause-on_disk g c visible start history asked legal on =
     c.on_disk_law.ensures.excused (g.D.Door.store c.gather.new.door) start history c.out_of_memory.result.entry c.touch.new.self (ap geometry_of_store c.gather.ensures.store ∙ sym c.geometry-geometry.ensures.is) legal (ap is_excused c.out_of_memory.ensures.reply)
-    (readied_on_disk c.file_request_law.ensures.free c.told_law.ensures.on_disk (g.D.Door.store c.make_room.new.door) (g.D.Door.store c.gather.new.door) c.make_room.new.self c.gather.new.self c.touch.new.self c.gather.ensures.moved c.gather.ensures.rest c.gather.ensures.store c.touch.ensures.rest c.touch.ensures.same start history (c.make_room.ensures.on_disk tells start history on))
+    (readied_on_disk c.file_request_law.ensures.free c.told_law.ensures.on_disk (g.D.Door.store c.make_room.new.door) (g.D.Door.store c.gather.new.door) c.make_room.new.self c.gather.new.self c.touch.new.self c.gather.ensures.moved c.gather.ensures.rest c.gather.ensures.store c.touch.ensures.rest c.touch.ensures.same start history (c.make_room.ensures.on_disk visible start history on))
 
 -- ---- the request
 
@@ -96,10 +96,10 @@ returns-then-not-lacks_block-clause-sound g c =
     c.apply_names-first.result.entry c.apply_names-first.result.desc (ap geometry_of_store c.gather.ensures.store ∙ sym c.geometry-geometry.ensures.is) c.requires.unsynced (sound_first g c) (first g c) a.0 (parts_first g c a.0 a.1) a.2
 
 pub returns-then-not-lacks_block-clause-on_disk : goal.returns-then-not-lacks_block-clause-on_disk
-returns-then-not-lacks_block-clause-on_disk g c tells start history asked legal on =
+returns-then-not-lacks_block-clause-on_disk g c visible start history asked legal on =
     done_on_disk c.geometry-geometry.result c.names_request_law.ensures c.served_names_law.ensures.sound c.on_disk_law.ensures.excused (g.D.Door.store c.gather.new.door) c.touch.new.self c.apply_names-first.new.self c.args.ask c.args.by c.args.ticket
     c.apply_names-first.result.entry c.apply_names-first.result.desc (ap geometry_of_store c.gather.ensures.store ∙ sym c.geometry-geometry.ensures.is) c.requires.unsynced (sound_first g c) (first g c) start history asked legal
-    (readied_on_disk c.file_request_law.ensures.free c.told_law.ensures.on_disk (g.D.Door.store c.make_room.new.door) (g.D.Door.store c.gather.new.door) c.make_room.new.self c.gather.new.self c.touch.new.self c.gather.ensures.moved c.gather.ensures.rest c.gather.ensures.store c.touch.ensures.rest c.touch.ensures.same start history (c.make_room.ensures.on_disk tells start history on))
+    (readied_on_disk c.file_request_law.ensures.free c.told_law.ensures.on_disk (g.D.Door.store c.make_room.new.door) (g.D.Door.store c.gather.new.door) c.make_room.new.self c.gather.new.self c.touch.new.self c.gather.ensures.moved c.gather.ensures.rest c.gather.ensures.store c.touch.ensures.rest c.touch.ensures.same start history (c.make_room.ensures.on_disk visible start history on))
 
 -- ---- with a block
 
@@ -186,38 +186,38 @@ returns-clause-sound g c =
     c.apply_names.result.entry c.apply_names.result.desc (ap geometry_of_store c.gather.ensures.store ∙ sym c.geometry-geometry.ensures.is) c.requires.unsynced (sound_second g c) (second g c) a.0 (parts_second g c a.0 a.1) a.2
 
 pub returns-clause-on_disk : goal.returns-clause-on_disk
-returns-clause-on_disk g c tells start history asked legal on =
+returns-clause-on_disk g c visible start history asked legal on =
     done_on_disk c.geometry-geometry.result c.names_request_law.ensures c.served_names_law.ensures.sound c.on_disk_law.ensures.excused (g.D.Door.store c.gather.new.door) c.touch.new.self c.apply_names.new.self c.args.ask c.args.by c.args.ticket
     c.apply_names.result.entry c.apply_names.result.desc (ap geometry_of_store c.gather.ensures.store ∙ sym c.geometry-geometry.ensures.is) c.requires.unsynced (sound_second g c) (second g c) start history asked legal
-    (readied_on_disk c.file_request_law.ensures.free c.told_law.ensures.on_disk (g.D.Door.store c.make_room.new.door) (g.D.Door.store c.gather.new.door) c.make_room.new.self c.gather.new.self c.touch.new.self c.gather.ensures.moved c.gather.ensures.rest c.gather.ensures.store c.touch.ensures.rest c.touch.ensures.same start history (c.make_room.ensures.on_disk tells start history on))
+    (readied_on_disk c.file_request_law.ensures.free c.told_law.ensures.on_disk (g.D.Door.store c.make_room.new.door) (g.D.Door.store c.gather.new.door) c.make_room.new.self c.gather.new.self c.touch.new.self c.gather.ensures.moved c.gather.ensures.rest c.gather.ensures.store c.touch.ensures.rest c.touch.ensures.same start history (c.make_room.ensures.on_disk visible start history on))
 
 pub returns-in_default-clause-moments : goal.returns-in_default-clause-moments
-returns-in_default-clause-moments g c told start history on =
+returns-in_default-clause-moments g c visible start history on =
     let old = g.D.Door.store c.args.door.now in
-    subst (IsExplainedBetween g.D.Door.keeps old.sectors start history old.moments) (sym (ap (λ (s : StoreState). s.moments) c.gather.ensures.store)) (c.make_room.ensures.moments told start history on)
+    subst (IsExplainedBetween g.D.Door.keeps old.sectors start history old.moments) (sym (ap (λ (s : StoreState). s.moments) c.gather.ensures.store)) (c.make_room.ensures.moments visible start history on)
 
 pub returns-then-not-lacks_block-clause-moments : goal.returns-then-not-lacks_block-clause-moments
-returns-then-not-lacks_block-clause-moments g c told start history on =
+returns-then-not-lacks_block-clause-moments g c visible start history on =
     let old = g.D.Door.store c.args.door.now in
-    subst (IsExplainedBetween g.D.Door.keeps old.sectors start history old.moments) (sym (ap (λ (s : StoreState). s.moments) c.gather.ensures.store)) (c.make_room.ensures.moments told start history on)
+    subst (IsExplainedBetween g.D.Door.keeps old.sectors start history old.moments) (sym (ap (λ (s : StoreState). s.moments) c.gather.ensures.store)) (c.make_room.ensures.moments visible start history on)
 
 pub returns-clause-moments : goal.returns-clause-moments
-returns-clause-moments g c told start history on =
+returns-clause-moments g c visible start history on =
     let old = g.D.Door.store c.args.door.now in
-    subst (IsExplainedBetween g.D.Door.keeps old.sectors start history old.moments) (sym (ap (λ (s : StoreState). s.moments) c.gather.ensures.store)) (c.make_room.ensures.moments told start history on)
+    subst (IsExplainedBetween g.D.Door.keeps old.sectors start history old.moments) (sym (ap (λ (s : StoreState). s.moments) c.gather.ensures.store)) (c.make_room.ensures.moments visible start history on)
 
 -- ---- what an excuse leaves
 
 pub returns-in_default-clause-excused : goal.returns-in_default-clause-excused
-returns-in_default-clause-excused g c tells e start history on =
-    readied_on_disk c.file_request_law.ensures.free c.told_law.ensures.on_disk (g.D.Door.store c.make_room.new.door) (g.D.Door.store c.gather.new.door) c.make_room.new.self c.gather.new.self c.touch.new.self c.gather.ensures.moved c.gather.ensures.rest c.gather.ensures.store c.touch.ensures.rest c.touch.ensures.same start history (c.make_room.ensures.on_disk tells start history on)
+returns-in_default-clause-excused g c visible e start history on =
+    readied_on_disk c.file_request_law.ensures.free c.told_law.ensures.on_disk (g.D.Door.store c.make_room.new.door) (g.D.Door.store c.gather.new.door) c.make_room.new.self c.gather.new.self c.touch.new.self c.gather.ensures.moved c.gather.ensures.rest c.gather.ensures.store c.touch.ensures.rest c.touch.ensures.same start history (c.make_room.ensures.on_disk visible start history on)
 
 pub returns-then-not-lacks_block-clause-excused : goal.returns-then-not-lacks_block-clause-excused
-returns-then-not-lacks_block-clause-excused g c tells e start history on =
+returns-then-not-lacks_block-clause-excused g c visible e start history on =
     subst (λ (p : Parts). IsOnDisk (g.D.Door.store c.gather.new.door) start history p) (sym ((first g c).unchanged e))
-    (readied_on_disk c.file_request_law.ensures.free c.told_law.ensures.on_disk (g.D.Door.store c.make_room.new.door) (g.D.Door.store c.gather.new.door) c.make_room.new.self c.gather.new.self c.touch.new.self c.gather.ensures.moved c.gather.ensures.rest c.gather.ensures.store c.touch.ensures.rest c.touch.ensures.same start history (c.make_room.ensures.on_disk tells start history on))
+    (readied_on_disk c.file_request_law.ensures.free c.told_law.ensures.on_disk (g.D.Door.store c.make_room.new.door) (g.D.Door.store c.gather.new.door) c.make_room.new.self c.gather.new.self c.touch.new.self c.gather.ensures.moved c.gather.ensures.rest c.gather.ensures.store c.touch.ensures.rest c.touch.ensures.same start history (c.make_room.ensures.on_disk visible start history on))
 
 pub returns-clause-excused : goal.returns-clause-excused
-returns-clause-excused g c tells e start history on =
+returns-clause-excused g c visible e start history on =
     subst (λ (p : Parts). IsOnDisk (g.D.Door.store c.gather.new.door) start history p) (sym ((second g c).unchanged e))
-    (readied_on_disk c.file_request_law.ensures.free c.told_law.ensures.on_disk (g.D.Door.store c.make_room.new.door) (g.D.Door.store c.gather.new.door) c.make_room.new.self c.gather.new.self c.touch.new.self c.gather.ensures.moved c.gather.ensures.rest c.gather.ensures.store c.touch.ensures.rest c.touch.ensures.same start history (c.make_room.ensures.on_disk tells start history on))
+    (readied_on_disk c.file_request_law.ensures.free c.told_law.ensures.on_disk (g.D.Door.store c.make_room.new.door) (g.D.Door.store c.gather.new.door) c.make_room.new.self c.gather.new.self c.touch.new.self c.gather.ensures.moved c.gather.ensures.rest c.gather.ensures.store c.touch.ensures.rest c.touch.ensures.same start history (c.make_room.ensures.on_disk visible start history on))

@@ -12,7 +12,7 @@ pub returns-in-Some-clause-untold : goal.returns-in-Some-clause-untold
 returns-in-Some-clause-untold g c = inl (record { faults = ap (λ (s : StoreState). s.faults) c.serve_file.ensures.store; stop = ap (λ (s : StoreState). s.stop) c.serve_file.ensures.store })
 
 pub returns-in-Some-clause-moments : goal.returns-in-Some-clause-moments
-returns-in-Some-clause-moments g c told start history on =
+returns-in-Some-clause-moments g c visible start history on =
     let old = g.D.Door.store c.args.door.now in
     let same : (g.D.Door.store c.serve_file.new.door).moments ≡ old.moments = ap (λ (s : StoreState). s.moments) c.serve_file.ensures.store in
     subst (IsExplainedBetween g.D.Door.keeps old.sectors start history old.moments) (sym same)

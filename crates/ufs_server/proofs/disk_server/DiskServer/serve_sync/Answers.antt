@@ -20,7 +20,7 @@ returns-in-Some-clause-served g c plain t parts asked =
     (answered_so t ask c.args.self.now (reply.Refused c.in-Some.errno) c.requires.kind (posix_refused t ask.client ask.op c.in-Some.errno own) asked parts))
 
 pub returns-in-Some-clause-on_disk : goal.returns-in-Some-clause-on_disk
-returns-in-Some-clause-on_disk g c told start history asked legal on =
+returns-in-Some-clause-on_disk g c visible start history asked legal on =
     let s = g.D.Door.store c.args.door.now in
     let entry = c.replied.result.entry in
     c.on_disk_law.ensures.refused s start history entry c.args.self.now (sym c.geometry-geometry.ensures.is) legal (ap leaves_tree c.replied.ensures.entry.asked ∙ leaves c.args.ask.op c.requires.kind) (ap is_ok c.replied.ensures.reply) on
@@ -47,12 +47,12 @@ returns-clause-fits g c x is t parts asked =
     fits_store t ask.client ask.op x c.requires.kind own (excuse_kind c.replied-2.result.entry.reply x is (subst IsSyncReply (sym c.replied-2.ensures.reply) c.sync_asked-reply.ensures.answered))
 
 pub returns-clause-on_disk : goal.returns-clause-on_disk
-returns-clause-on_disk g c told start history asked legal on =
+returns-clause-on_disk g c visible start history asked legal on =
     let ask = c.args.ask in
     let entry = c.replied-2.result.entry in
     let own : own_refusal (tree_after start history) ask.client ask.op ≡ None = sym (c.own_refusal.ensures (tree_after start history) ask.client asked.desc asked.fd) ∙ c.in_default.is in
-    c.sync_asked-reply.ensures.on_disk told start history entry c.replied-2.ensures.entry.client c.replied-2.ensures.entry.asked c.replied-2.ensures.reply asked own legal on
+    c.sync_asked-reply.ensures.on_disk visible start history entry c.replied-2.ensures.entry.client c.replied-2.ensures.entry.asked c.replied-2.ensures.reply asked own legal on
 
 pub returns-in-Some-clause-moments : goal.returns-in-Some-clause-moments
-returns-in-Some-clause-moments g c told start history on =
+returns-in-Some-clause-moments g c visible start history on =
     c.always_law.ensures.rest g.D.Door.keeps (g.D.Door.store c.args.door.now) start history c.args.self.now (sym c.geometry-geometry.ensures.is) on

@@ -17,7 +17,7 @@ commit_files-requires-clause-held g c file is =
     subst (λ (m : Holdings). IsSome (map.get m file)) (sym held) (sym (keys_are p.names.held file) ∙ ap (λ (xs : List ℕ). has xs file) (sym keys) ∙ is)
 
 pub returns-clause-ok : goal.returns-clause-ok
-returns-clause-ok g c told =
+returns-clause-ok g c visible =
     let p = c.args.self.now in
     let keys : c.as_slice.result.now ≡ map.keys p.names.held = c.as_slice.ensures ∙ c.in-Ok.ensures ∙ ap (λ (x : Parts). map.keys x.names.held) c.self.view_is in
     let held : c.commit_files.new.self.names.held ≡ p.names.held = ap (λ (n : NamesPart). n.held) c.commit_files.ensures.names ∙ ap (λ (x : Parts). x.names.held) c.sync_names.ensures.rest in
@@ -25,12 +25,12 @@ returns-clause-ok g c told =
     let all : (file : ℕ) → IsSome (map.get c.commit_files.new.self.names.held file) → has c.as_slice.result.now file ≡ true =
     λ file is. ap (λ (xs : List ℕ). has xs file) keys ∙ keys_are p.names.held file ∙ ap (λ (m : Holdings). is_some (map.get m file)) (sym held) ∙ is in
     on_ok_weaker c.commit_files.result
-    (λ files start history on_disk. c.all_law.ensures (g.D.Door.store c.commit_files.new.door) start history c.commit_files.new.self c.as_slice.result.now form all (files start history (c.in_ok-sync_names.ensures.ok told start history on_disk)))
-    (c.commit_files.ensures.ok told)
+    (λ files start history on_disk. c.all_law.ensures (g.D.Door.store c.commit_files.new.door) start history c.commit_files.new.self c.as_slice.result.now form all (files start history (c.in_ok-sync_names.ensures.ok visible start history on_disk)))
+    (c.commit_files.ensures.ok visible)
 
 pub returns-clause-err : goal.returns-clause-err
-returns-clause-err g c told =
-    on_err_weaker c.commit_files.result (λ stays start history on_disk. stays start history (c.in_ok-sync_names.ensures.ok told start history on_disk)) (c.commit_files.ensures.err told)
+returns-clause-err g c visible =
+    on_err_weaker c.commit_files.result (λ stays start history on_disk. stays start history (c.in_ok-sync_names.ensures.ok visible start history on_disk)) (c.commit_files.ensures.err visible)
 
 pub returns-clause-nothing : goal.returns-clause-nothing
 returns-clause-nothing g c =
@@ -48,15 +48,15 @@ returns-clause-nothing g c =
     c.commit_files.ensures.forgotten
 
 pub returns-clause-moments : goal.returns-clause-moments
-returns-clause-moments g c told start history on =
+returns-clause-moments g c visible start history on =
     let old = g.D.Door.store c.args.door.now in
     explained_joined g.D.Door.keeps start history old.sectors old.moments (g.D.Door.store c.sync_names.new.door) (g.D.Door.store c.commit_files.new.door).moments c.sync_names.ensures.sectors
-    (c.sync_names.ensures.moments told start history on) (c.commit_files.ensures.moments told start history (c.in_ok-sync_names.ensures.ok told start history on))
+    (c.sync_names.ensures.moments visible start history on) (c.commit_files.ensures.moments visible start history (c.in_ok-sync_names.ensures.ok visible start history on))
 
 pub returns-in-Some-clause-moments : goal.returns-in-Some-clause-moments
-returns-in-Some-clause-moments g c told start history on =
+returns-in-Some-clause-moments g c visible start history on =
     c.always_law.ensures.rest g.D.Door.keeps (g.D.Door.store c.args.door.now) start history c.args.self.now (sym c.geometry-geometry.ensures.is) on
 
 pub returns-in_default-live-clause-moments : goal.returns-in_default-live-clause-moments
-returns-in_default-live-clause-moments g c told start history on =
+returns-in_default-live-clause-moments g c visible start history on =
     c.always_law.ensures.rest g.D.Door.keeps (g.D.Door.store c.args.door.now) start history c.args.self.now (sym c.geometry-geometry.ensures.is) on

@@ -23,8 +23,8 @@ returns-in_default g c =
     record {
       answered = subst IsSyncReply (sym told_reply) (reply_kind r c.sync_all.ensures.excused);
       same = c.sync_all.ensures.same;
-      on_disk = λ told start history entry client asked replied ask own legal on.
-          synced_entry r entry _ _ _ (replied ∙ told_reply) (c.sync_all.ensures.ok told) (c.sync_all.ensures.err told)
+      on_disk = λ visible start history entry client asked replied ask own legal on.
+          synced_entry r entry _ _ _ (replied ∙ told_reply) (c.sync_all.ensures.ok visible) (c.sync_all.ensures.err visible)
           (λ ok. c.on_disk_law.ensures.all_synced s1 start history entry p1 form legal (asked ∙ is_sync) (ok start history on))
           (λ is err. c.on_disk_law.ensures.excused s1 start history entry p1 form legal is (err start history on));
       moments = c.sync_all.ensures.moments;
@@ -52,7 +52,7 @@ sync_file-requires-clause-held g c =
     (live_file a.0 c.args.ask.now c.in-Fsync.fd c.in-Fsync.is a.2 c.args.self.now c.in-Some.desc c.in-Some-file.file a.1 c.in-Some.is c.in-Some-file.is).0
 
 pub returns-in-Some-file-clause-on_disk : goal.returns-in-Some-file-clause-on_disk
-returns-in-Some-file-clause-on_disk g c told start history entry client asked replied ask own legal on =
+returns-in-Some-file-clause-on_disk g c visible start history entry client asked replied ask own legal on =
     let s1 = g.D.Door.store c.sync_file.new.door in
     let p1 = c.sync_file.new.self in
     let t = tree_after start history in
@@ -60,12 +60,12 @@ returns-in-Some-file-clause-on_disk g c told start history entry client asked re
     let form : geometry_of_store s1 ≡ c.geometry-geometry.result = c.sync_file.ensures.geometry ∙ sym c.geometry-geometry.ensures.is in
     let file : (opened t entry.client fd).file ≡ Some c.in-Some-file.file =
     ap (λ (k : ℕ). (opened t k fd).file) client ∙ ap (λ (d : Desc). d.file) (opened_is t c.args.ask.now fd c.in-Fsync.is ask c.in-Some.desc c.in-Some.is) ∙ c.in-Some-file.is in
-    synced_entry c.sync_file.result entry _ _ _ (replied ∙ c.sync_reply-in-Some-file.ensures) (c.sync_file.ensures.ok told) (c.sync_file.ensures.err told)
+    synced_entry c.sync_file.result entry _ _ _ (replied ∙ c.sync_reply-in-Some-file.ensures) (c.sync_file.ensures.ok visible) (c.sync_file.ensures.err visible)
     (λ ok. c.on_disk_law.ensures.file_synced s1 start history entry p1 fd c.in-Some-file.file form legal (asked ∙ c.in-Fsync.is) file (ok start history on))
     (λ is err. c.on_disk_law.ensures.excused s1 start history entry p1 form legal is (err start history on))
 
 pub returns-in-None-clause-on_disk : goal.returns-in-None-clause-on_disk
-returns-in-None-clause-on_disk g c told start history entry client asked replied ask own legal on =
+returns-in-None-clause-on_disk g c visible start history entry client asked replied ask own legal on =
     let s1 = g.D.Door.store c.sync_names.new.door in
     let p1 = c.sync_names.new.self in
     let t = tree_after start history in
@@ -73,7 +73,7 @@ returns-in-None-clause-on_disk g c told start history entry client asked replied
     let form : geometry_of_store s1 ≡ c.geometry-geometry.result = c.sync_names.ensures.geometry ∙ sym c.geometry-geometry.ensures.is in
     let none : (opened t entry.client fd).file ≡ None =
     ap (λ (k : ℕ). (opened t k fd).file) client ∙ ap (λ (d : Desc). d.file) (opened_is t c.args.ask.now fd c.in-Fsync.is ask c.in-Some.desc c.in-Some.is) ∙ c.in-None.is in
-    synced_entry c.sync_names.result entry _ _ _ (replied ∙ c.sync_reply-in-None.ensures) (c.sync_names.ensures.ok told) (c.sync_names.ensures.err told)
+    synced_entry c.sync_names.result entry _ _ _ (replied ∙ c.sync_reply-in-None.ensures) (c.sync_names.ensures.ok visible) (c.sync_names.ensures.err visible)
     (λ ok. c.on_disk_law.ensures.names_synced s1 start history entry p1 fd form legal (asked ∙ c.in-Fsync.is) none (ok start history on))
     (λ is err. c.on_disk_law.ensures.excused s1 start history entry p1 form legal is (err start history on))
 

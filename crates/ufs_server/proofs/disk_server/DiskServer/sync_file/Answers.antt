@@ -9,7 +9,7 @@ use Rattle.ufs_server.proofs.Filed.{has_file, none_yet}
 use Rattle.ufs_server.proofs.disk_server.DiskServer.sync_file.Goals as goal
 
 pub returns-clause-ok : goal.returns-clause-ok
-returns-clause-ok g c told =
+returns-clause-ok g c visible =
     let s1 = g.D.Door.store c.sync_names.new.door in
     let s2 = g.D.Door.store c.commit_file.new.door in
     let p1 = c.sync_names.new.self in
@@ -17,15 +17,15 @@ returns-clause-ok g c told =
     let first : IsSome (map.get p1.names.held c.args.file) = subst (λ (p : Parts). IsSome (map.get p.names.held c.args.file)) (sym c.sync_names.ensures.rest) c.requires.held in
     let live : IsSome (map.get p2.names.held c.args.file) = subst (λ (n : NamesPart). IsSome (map.get n.held c.args.file)) (sym c.commit_file.ensures.names) first in
     on_ok_weaker c.commit_file.result
-    (λ files start history on. has_file s2 start history p2 c.args.file live (files start history [] (none_yet s1 start history p1 (c.in_ok-sync_names.ensures.ok told start history on))))
-    (c.commit_file.ensures.ok told)
+    (λ files start history on. has_file s2 start history p2 c.args.file live (files start history [] (none_yet s1 start history p1 (c.in_ok-sync_names.ensures.ok visible start history on))))
+    (c.commit_file.ensures.ok visible)
 
 pub returns-clause-err : goal.returns-clause-err
-returns-clause-err g c told =
-    on_err_weaker c.commit_file.result (λ stays start history on. stays start history (c.in_ok-sync_names.ensures.ok told start history on)) (c.commit_file.ensures.err told)
+returns-clause-err g c visible =
+    on_err_weaker c.commit_file.result (λ stays start history on. stays start history (c.in_ok-sync_names.ensures.ok visible start history on)) (c.commit_file.ensures.err visible)
 
 pub returns-clause-moments : goal.returns-clause-moments
-returns-clause-moments g c told start history on =
+returns-clause-moments g c visible start history on =
     let old = g.D.Door.store c.args.door.now in
     explained_joined g.D.Door.keeps start history old.sectors old.moments (g.D.Door.store c.sync_names.new.door) (g.D.Door.store c.commit_file.new.door).moments c.sync_names.ensures.sectors
-    (c.sync_names.ensures.moments told start history on) (c.commit_file.ensures.moments told start history (c.in_ok-sync_names.ensures.ok told start history on))
+    (c.sync_names.ensures.moments visible start history on) (c.commit_file.ensures.moments visible start history (c.in_ok-sync_names.ensures.ok visible start history on))

@@ -24,7 +24,7 @@ commit_notes-committed-requires-clause-there g c block is =
     c.requires.sound.inside TheNames block (inl (ap (λ (xs : List ℕ). has xs block) fresh ∙ is))
 
 pub returns-in-Ok-clause-ok : goal.returns-in-Ok-clause-ok
-returns-in-Ok-clause-ok g c told start history on_disk =
+returns-in-Ok-clause-ok g c visible start history on_disk =
     let p = c.args.self.now in
     let old = g.D.Door.store c.args.door.now in
     let new = g.D.Door.store c.commit_notes-committed.new.door in
@@ -35,7 +35,7 @@ returns-in-Ok-clause-ok g c told start history on_disk =
     let noted = sym (c.take_notes-notes.ensures.notes ∙ ap (λ (x : Parts). x.names.tree.noted) c.self.view_is) in
     let table = subst (λ (x : Parts). IsNameTable x.names.tree) c.self.view_is c.is_table.ensures in
     let go = is_going old start history p (sym c.stopped.ensures ∙ c.in_default.is) on_disk in
-    subst (λ (q : Parts). HasNames new start history q) (sym made) (c.in-Ok.ensures.ok told start history p fresh noted table go)
+    subst (λ (q : Parts). HasNames new start history q) (sym made) (c.in-Ok.ensures.ok visible start history p fresh noted table go)
 
 pub returns-in-Ok-clause-same : goal.returns-in-Ok-clause-same
 returns-in-Ok-clause-same g c t parts =
@@ -84,25 +84,25 @@ returns-in-Err-clause-stopped g c fault e =
     absurd cc
 
 pub returns-in-Some-clause-moments : goal.returns-in-Some-clause-moments
-returns-in-Some-clause-moments g c told start history on_disk =
+returns-in-Some-clause-moments g c visible start history on_disk =
     c.always_law.ensures.rest g.D.Door.keeps (g.D.Door.store c.args.door.now) start history c.args.self.now (sym c.geometry-geometry.ensures.is) on_disk
 
 pub returns-in-Ok-clause-moments : goal.returns-in-Ok-clause-moments
-returns-in-Ok-clause-moments g c told start history on_disk =
+returns-in-Ok-clause-moments g c visible start history on_disk =
     let p = c.args.self.now in
     let old = g.D.Door.store c.args.door.now in
     let fresh = sym (c.as_slice.ensures.value ∙ ap (λ (x : Parts). x.fresh) c.self.view_is) in
     let noted = sym (c.take_notes-notes.ensures.notes ∙ ap (λ (x : Parts). x.names.tree.noted) c.self.view_is) in
     let table = subst (λ (x : Parts). IsNameTable x.names.tree) c.self.view_is c.is_table.ensures in
     let go = is_going old start history p (sym c.stopped.ensures ∙ c.in_default.is) on_disk in
-    c.commit_notes-committed.ensures.moments told start history p fresh noted table go
+    c.commit_notes-committed.ensures.moments visible start history p fresh noted table go
 
 pub returns-in-Err-clause-moments : goal.returns-in-Err-clause-moments
-returns-in-Err-clause-moments g c told start history on_disk =
+returns-in-Err-clause-moments g c visible start history on_disk =
     let p = c.args.self.now in
     let old = g.D.Door.store c.args.door.now in
     let fresh = sym (c.as_slice.ensures.value ∙ ap (λ (x : Parts). x.fresh) c.self.view_is) in
     let noted = sym (c.take_notes-notes.ensures.notes ∙ ap (λ (x : Parts). x.names.tree.noted) c.self.view_is) in
     let table = subst (λ (x : Parts). IsNameTable x.names.tree) c.self.view_is c.is_table.ensures in
     let go = is_going old start history p (sym c.stopped.ensures ∙ c.in_default.is) on_disk in
-    c.commit_notes-committed.ensures.moments told start history p fresh noted table go
+    c.commit_notes-committed.ensures.moments visible start history p fresh noted table go

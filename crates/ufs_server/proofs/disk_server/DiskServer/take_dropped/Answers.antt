@@ -14,7 +14,7 @@ use Rattle.ufs_server.proofs.Checkpoints.{checkpoint_err, checkpoint_moments, ch
 use Rattle.ufs_server.proofs.disk_server.DiskServer.take_dropped.Goals as goal
 
 pub returns-in-Ok-clause-on_disk : goal.returns-in-Ok-clause-on_disk
-returns-in-Ok-clause-on_disk g c told start history on =
+returns-in-Ok-clause-on_disk g c visible start history on =
     let p = c.args.self.now in
     let old = g.D.Door.store c.args.door.now in
     let new = g.D.Door.store c.checkpoint-passed.new.self in
@@ -22,7 +22,7 @@ returns-in-Ok-clause-on_disk g c told start history on =
     (λ i. record { names = c.self.inside.names; files = c.self.inside.files; commits = c.self.inside.commits; pool = c.pour.ensures.into i; fresh = c.self.inside.fresh.items; dropped = c.pour.ensures.from i }) ∙ ap with_reclaimed c.self.view_is in
     subst (IsOnDisk new start history) (sym made)
     (checkpoint_ok c.geometry-geometry.result c.reclaim_law.ensures.reclaimed old new start history p (record { old_form = sym c.geometry-geometry.ensures.is; new_form = c.checkpoint-passed.ensures.geometry ∙ sym c.geometry-geometry.ensures.is; unassigned = c.checkpoint-passed.ensures.blocks })
-    c.requires.nothing (subst (λ (h : Geometry). IsSoundServer h old.unassigned.free p) (sym c.geometry-geometry.ensures.is) c.requires.sound) (c.in-Ok.ensures.ok told) (λ n stopped. none_passed n ((c.in-Ok.ensures.stopped n).1 stopped)) on)
+    c.requires.nothing (subst (λ (h : Geometry). IsSoundServer h old.unassigned.free p) (sym c.geometry-geometry.ensures.is) c.requires.sound) (c.in-Ok.ensures.ok visible) (λ n stopped. none_passed n ((c.in-Ok.ensures.stopped n).1 stopped)) on)
 
 pub returns-in-Ok-clause-same : goal.returns-in-Ok-clause-same
 returns-in-Ok-clause-same g c t parts =
@@ -53,12 +53,12 @@ returns-in-Err-clause-untold g c =
     told_untold (g.D.Door.store c.args.door.now) (g.D.Door.store c.checkpoint-passed.new.self) _ c.in-Err.ensures.cause (λ n stopped. none_told _ n ((c.in-Err.ensures.stopped n).1 stopped)) c.in-Err.ensures.stop
 
 pub returns-in-Err-clause-on_disk : goal.returns-in-Err-clause-on_disk
-returns-in-Err-clause-on_disk g c told start history on =
+returns-in-Err-clause-on_disk g c visible start history on =
     let p = c.args.self.now in
     let old = g.D.Door.store c.args.door.now in
     let new = g.D.Door.store c.checkpoint-passed.new.self in
     checkpoint_err c.geometry-geometry.result c.reclaim_law.ensures.fails old new start history p _ (record { old_form = sym c.geometry-geometry.ensures.is; new_form = c.checkpoint-passed.ensures.geometry ∙ sym c.geometry-geometry.ensures.is; unassigned = c.checkpoint-passed.ensures.blocks })
-    (c.in-Err.ensures.device told) c.in-Err.ensures.memory (λ n e. (c.in-Err.ensures.stopped n).0 e) c.in-Err.ensures.still c.in-Err.ensures.stop c.in-Err.ensures.refused on
+    (c.in-Err.ensures.device visible) c.in-Err.ensures.memory (λ n e. (c.in-Err.ensures.stopped n).0 e) c.in-Err.ensures.still c.in-Err.ensures.stop c.in-Err.ensures.refused on
 
 pub returns-in-Err-clause-sound : goal.returns-in-Err-clause-sound
 returns-in-Err-clause-sound g c =
@@ -70,11 +70,11 @@ returns-in-Err-clause-sound g c =
     sound
 
 pub returns-in-Ok-clause-moments : goal.returns-in-Ok-clause-moments
-returns-in-Ok-clause-moments g c told start history on =
+returns-in-Ok-clause-moments g c visible start history on =
     checkpoint_moments c.geometry-geometry.result c.always_law.ensures.checkpoint c.always_law.ensures.rest g.D.Door.keeps (g.D.Door.store c.args.door.now) (g.D.Door.store c.checkpoint-passed.new.self) start history c.args.self.now
-    (sym c.geometry-geometry.ensures.is) (c.checkpoint-passed.ensures.crash told) c.checkpoint-passed.ensures.still on
+    (sym c.geometry-geometry.ensures.is) (c.checkpoint-passed.ensures.crash visible) c.checkpoint-passed.ensures.still on
 
 pub returns-in-Err-clause-moments : goal.returns-in-Err-clause-moments
-returns-in-Err-clause-moments g c told start history on =
+returns-in-Err-clause-moments g c visible start history on =
     checkpoint_moments c.geometry-geometry.result c.always_law.ensures.checkpoint c.always_law.ensures.rest g.D.Door.keeps (g.D.Door.store c.args.door.now) (g.D.Door.store c.checkpoint-passed.new.self) start history c.args.self.now
-    (sym c.geometry-geometry.ensures.is) (c.checkpoint-passed.ensures.crash told) c.checkpoint-passed.ensures.still on
+    (sym c.geometry-geometry.ensures.is) (c.checkpoint-passed.ensures.crash visible) c.checkpoint-passed.ensures.still on

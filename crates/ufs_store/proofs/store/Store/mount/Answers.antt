@@ -5,25 +5,25 @@ use Rattle.ufs_journal.specs.Kept.{IsReady, IsUnused}
 use Rattle.ufs_store.proofs.store.Store.mount.Goals as goal
 
 pub returns-in_default-clause-err_crash : goal.returns-in_default-clause-err_crash
-returns-in_default-clause-err_crash g c told is some = absurd (some refl)
+returns-in_default-clause-err_crash g c visible is some = absurd (some refl)
 
 pub returns-in-Ok-mark_in_use-clause-crash : goal.returns-in-Ok-mark_in_use-clause-crash
-returns-in-Ok-mark_in_use-clause-crash g c told is = c.mark_in_use.ensures.crash told c.args.superblock refl is
+returns-in-Ok-mark_in_use-clause-crash g c visible is = c.mark_in_use.ensures.crash visible c.args.superblock refl is
 
 pub returns-in-Err-clause-err_crash : goal.returns-in-Err-clause-err_crash
-returns-in-Err-clause-err_crash g c told is some = c.mark_in_use.ensures.crash told c.args.superblock refl is
+returns-in-Err-clause-err_crash g c visible is some = c.mark_in_use.ensures.crash visible c.args.superblock refl is
 
 pub returns-in-Ok-mark_in_use-clause-ok : goal.returns-in-Ok-mark_in_use-clause-ok
-returns-in-Ok-mark_in_use-clause-ok g c told is =
+returns-in-Ok-mark_in_use-clause-ok g c visible is =
     let j = c.in-Ok.tables.journal in
     let made = c.in-Ok.ensures.journal in
     let state : State = (g.D.Disk.moments c.mark_in_use.new.disk).state in
-    let earlier = c.in-Ok-mark_in_use.ensures.earlier told c.args.superblock refl is in
+    let earlier = c.in-Ok-mark_in_use.ensures.earlier visible c.args.superblock refl is in
     let number = made.2 in
     record {
       going = c.in-Ok.ensures.going;
       by = record {
-        is = c.in-Ok-mark_in_use.ensures.ok told c.args.superblock refl is;
+        is = c.in-Ok-mark_in_use.ensures.ok visible c.args.superblock refl is;
         none = refl;
         in_use = refl;
         geometry = sym made.0;
