@@ -48,8 +48,8 @@ ZerosAreTaken g = (s : Stand) (d : DirState) (block : ℕ) → HasState g s.cata
     → HasState g (with_free_block block s).catalog (record d { zeroed = with_zeroed block d.zeroed })
 
 -- Behind the records of some steps the catalog has the directories that the steps make.
-abbrev pub StepsAreTold : Geometry → Type 0
-StepsAreTold g = (c : Catalog) (s : DirState) (xs : List Step) (number : ℕ) → HasState g c s → AreOlder g c number → MaySteps g s xs → HasState g (with_committed_in g (change number s xs) c) (after_all xs s)
+abbrev pub StepsAreNoted : Geometry → Type 0
+StepsAreNoted g = (c : Catalog) (s : DirState) (xs : List Step) (number : ℕ) → HasState g c s → AreOlder g c number → MaySteps g s xs → HasState g (with_committed_in g (change number s xs) c) (after_all xs s)
 
 -- A catalog with sound names in its directories is sound.
 abbrev pub NamesLeaveSound : Geometry → Type 0

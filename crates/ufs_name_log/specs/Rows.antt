@@ -19,8 +19,8 @@ abbrev pub birth_of_f : List Step
 birth_of_f = Grown 1 14 ∷ Born 2 1 ∷ Put 1 (record { sector = 112; slot = 0 }) dentry_f ∷ []
 
 -- The root's delta, the file's delta, and the dentry in the first slot of block 14.
-abbrev pub BirthIsTold : Type 0
-BirthIsTold = records_of new_state birth_of_f ≡ Delta 1 2 4096 0 (record { start = 14; length = 1 } ∷ []) ∷ Delta 2 1 0 0 [] ∷ Place 112 0 dentry_f ∷ []
+abbrev pub BirthIsNoted : Type 0
+BirthIsNoted = records_of new_state birth_of_f ≡ Delta 1 2 4096 0 (record { start = 14; length = 1 } ∷ []) ∷ Delta 2 1 0 0 [] ∷ Place 112 0 dentry_f ∷ []
 
 -- Then `f` stands in the root.
 abbrev pub BirthIsMet : Type 0

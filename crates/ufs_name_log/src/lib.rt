@@ -7,8 +7,8 @@ ghost use Rattle.ufs_name_log.specs.Calls.{AddingIsSound, DroppingIsSound, Movin
 ghost use Rattle.ufs_name_log.specs.Noted.{NotedMayBeMade, NotesAreRecords, NotesLeadOn};
 ghost use Rattle.ufs_name_log.specs.Numbers.{NamesNumberPaths};
 ghost use Rattle.ufs_name_log.specs.Names.{NamesStaySound, PutsCommute, TablesNameSoundly};
-ghost use Rattle.ufs_name_log.specs.Rows.{BirthIsMet, BirthIsTold};
-ghost use Rattle.ufs_name_log.specs.Laws.{ChangesJoin, FilesKeepState, NamesHaveWalks, NamesLeaveSound, NumbersRise, SoundHasState, SpelledHaveSlots, StepsAreTold, StepsMayCommit, ZerosAreTaken};
+ghost use Rattle.ufs_name_log.specs.Rows.{BirthIsMet, BirthIsNoted};
+ghost use Rattle.ufs_name_log.specs.Laws.{ChangesJoin, FilesKeepState, NamesHaveWalks, NamesLeaveSound, NumbersRise, SoundHasState, SpelledHaveSlots, StepsAreNoted, StepsMayCommit, ZerosAreTaken};
 
 use ufs_layout::Geometry;
 
@@ -27,7 +27,7 @@ pub fn state_law(geometry: &Geometry)
 /// may be committed.
 pub fn change_law(geometry: &Geometry)
     requires { IsGeometry geometry.now }
-    ensures told { StepsAreTold geometry.now }
+    ensures told { StepsAreNoted geometry.now }
     ensures sound { NamesLeaveSound geometry.now }
     ensures walks { NamesHaveWalks geometry.now }
     ensures may { StepsMayCommit geometry.now }
@@ -74,6 +74,6 @@ pub fn names_law(geometry: &Geometry)
 
 /// The birth of a file on a new image, and what stands in the root then.
 pub fn birth_row()
-    ensures records { BirthIsTold }
+    ensures records { BirthIsNoted }
     ensures met { BirthIsMet }
 {}

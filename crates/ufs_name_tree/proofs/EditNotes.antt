@@ -20,7 +20,7 @@ use Rattle.ufs_ilog.specs.Changes.{in_order}
 use Rattle.ufs_ilog.specs.Notes.{IsNotedBehind}
 use Rattle.ufs_name_tree.specs.NameTable.{NameTable, IsNameTable, file_at}
 use Rattle.ufs_name_tree.specs.Notes.{AreKindsOf, HasKinds, IsOfKind, IsStateOf, GoesByNotes}
-use Rattle.ufs_name_tree.specs.Records.{records_of, dir_delta, born_told, slot_told, grown_told, cleared_told, replaced_told, added_told}
+use Rattle.ufs_name_tree.specs.Records.{records_of, dir_delta, born_noted, slot_noted, grown_noted, cleared_noted, replaced_noted, added_noted}
 use Rattle.ufs_name_tree.proofs.Founds.{IsMetIn}
 use Rattle.ufs_name_tree.proofs.NoteEdits.{known_of, may_add, may_clear, may_free, may_move, swaps_of_add, swaps_of_clear, swaps_of_move, kinds_added, kinds_cleared, kinds_moved, renaming, NotBoth, goes_noted}
 use Rattle.ufs_name_tree.proofs.NoteFiles.{TouchesFiles, files_stay, file_goes, no_file_cleared, no_file_moved}
@@ -64,33 +64,33 @@ grown_counted t p block = length-set t.dirs p (grown block (dir_at t p))
 put_counted : (t : DirTable) (p : ℕ) (slot : Slot) (d : DentryForm) → length (table_after (Put p slot d) t).dirs ≡ length t.dirs
 put_counted t p slot d = length-set t.dirs p (with_entry (dir_at t p) slot d)
 
-told_add : (t u : DirTable) (dir : ℕ) (g : Option ℕ) (slot : Slot) (d : DentryForm) → dir < length t.dirs → u ≡ table_after_all (growing dir g ++ adding dir slot d) t → added_told u dir g slot d ≡ records_of t (growing dir g ++ adding dir slot d)
-told_add t u dir None slot d within leads = refl
-told_add t u dir (Some b) slot d within leads =
+noted_add : (t u : DirTable) (dir : ℕ) (g : Option ℕ) (slot : Slot) (d : DentryForm) → dir < length t.dirs → u ≡ table_after_all (growing dir g ++ adding dir slot d) t → added_noted u dir g slot d ≡ records_of t (growing dir g ++ adding dir slot d)
+noted_add t u dir None slot d within leads = refl
+noted_add t u dir (Some b) slot d within leads =
     let one = table_after (Grown dir b) t in
     let two = table_after (Born d.inode d.kind) one in
     let like = put_alike two dir slot d (omega (arith, within, grown_counted t dir b)) dir in
-    ap (λ (bs : List ℕ). dir_delta dir bs ∷ born_told d.inode d.kind ∷ slot_told slot d ∷ []) (ap (λ (x : DirTable). blocks_at x dir) leads ∙ like.blocks ∙ grown_blocks t dir b within)
+    ap (λ (bs : List ℕ). dir_delta dir bs ∷ born_noted d.inode d.kind ∷ slot_noted slot d ∷ []) (ap (λ (x : DirTable). blocks_at x dir) leads ∙ like.blocks ∙ grown_blocks t dir b within)
 
-told_clear : (t : DirTable) (dir : ℕ) (slot : Slot) (o : Option Found) → cleared_told slot o ≡ records_of t (clearing dir slot o)
-told_clear t dir slot (Some (Dir i)) = refl
-told_clear t dir slot (Some (File i)) = refl
-told_clear t dir slot None = refl
+noted_clear : (t : DirTable) (dir : ℕ) (slot : Slot) (o : Option Found) → cleared_noted slot o ≡ records_of t (clearing dir slot o)
+noted_clear t dir slot (Some (Dir i)) = refl
+noted_clear t dir slot (Some (File i)) = refl
+noted_clear t dir slot None = refl
 
 module _ (from to : ℕ) (left taken : Slot) (d : DentryForm) (t u : DirTable) where
-  told_move : (dropped : Option Slot) (o : Option Found) (g : Option ℕ) → NotBoth from to left taken d dropped g → from < length t.dirs → to < length t.dirs → u ≡ table_after_all (renaming from to left taken d dropped o g) t
-      → replaced_told dropped o ++ grown_told u to g ++ slot_told left free_slot ∷ slot_told taken d ∷ [] ≡ records_of t (renaming from to left taken d dropped o g)
-  told_move None o None not_both source target leads = refl
-  told_move None o (Some b) not_both source target leads =
+  noted_move : (dropped : Option Slot) (o : Option Found) (g : Option ℕ) → NotBoth from to left taken d dropped g → from < length t.dirs → to < length t.dirs → u ≡ table_after_all (renaming from to left taken d dropped o g) t
+      → replaced_noted dropped o ++ grown_noted u to g ++ slot_noted left free_slot ∷ slot_noted taken d ∷ [] ≡ records_of t (renaming from to left taken d dropped o g)
+  noted_move None o None not_both source target leads = refl
+  noted_move None o (Some b) not_both source target leads =
       let one = table_after (Grown to b) t in
       let two = table_after (Put from left free_slot) one in
       let like_two = put_alike one from left free_slot (omega (arith, source, grown_counted t to b)) to in
       let like = put_alike two to taken d (omega (arith, target, grown_counted t to b, put_counted one from left free_slot)) to in
-      ap (λ (bs : List ℕ). dir_delta to bs ∷ slot_told left free_slot ∷ slot_told taken d ∷ []) (ap (λ (x : DirTable). blocks_at x to) leads ∙ like.blocks ∙ like_two.blocks ∙ grown_blocks t to b target)
-  told_move (Some slot) o (Some b) not_both source target leads = let no : Some b ≡ None = not_both slot refl in absurd cc
-  told_move (Some slot) (Some (Dir i)) None not_both source target leads = refl
-  told_move (Some slot) (Some (File i)) None not_both source target leads = refl
-  told_move (Some slot) None None not_both source target leads = refl
+      ap (λ (bs : List ℕ). dir_delta to bs ∷ slot_noted left free_slot ∷ slot_noted taken d ∷ []) (ap (λ (x : DirTable). blocks_at x to) leads ∙ like.blocks ∙ like_two.blocks ∙ grown_blocks t to b target)
+  noted_move (Some slot) o (Some b) not_both source target leads = let no : Some b ≡ None = not_both slot refl in absurd cc
+  noted_move (Some slot) (Some (Dir i)) None not_both source target leads = refl
+  noted_move (Some slot) (Some (File i)) None not_both source target leads = refl
+  noted_move (Some slot) None None not_both source target leads = refl
 
 -- ---- the calls
 
@@ -101,36 +101,36 @@ module _ (t u : NameTable) (is : IsNameTable t) (pool after : BlockSet) where
     born_kind (Some b) d may = may.1.0.known
 
     pub add_noted : (g : Option ℕ) (d e : DentryForm) → e ≡ d → GoesBy t.dirs u.dirs pool after (growing dir g ++ adding dir slot d) → ((s : DirState) → IsStateOf t pool s → AreKindsOf u (with_kind d.inode d.kind s.kinds))
-        → TouchesFiles t u (growing dir g ++ adding dir slot d) → IsNotedBehind t.noted u.noted (in_order (added_told u.dirs dir g slot e)) → GoesByNotes t u pool
+        → TouchesFiles t u (growing dir g ++ adding dir slot d) → IsNotedBehind t.noted u.noted (in_order (added_noted u.dirs dir g slot e)) → GoesByNotes t u pool
     add_noted g d e same goes kinds files noted =
         let known = known_of t.dirs above dir is.table met whole in
         goes_noted t u pool dir above met (growing dir g ++ adding dir slot d) (swaps_of_add dir slot g d) goes.table (may_add t.dirs pool dir g slot d known goes.may)
         (λ s at. subst (AreKindsOf u) (sym (kinds_added dir slot g d s)) (kinds s at)) files (λ has. kinds_of_add dir g slot d (born_kind g d goes.may))
-        (in_order (added_told u.dirs dir g slot e)) (ap (λ (x : DentryForm). in_order (added_told u.dirs dir g slot x)) same ∙ ap in_order (told_add t.dirs u.dirs dir g slot d known.used.within goes.table)) noted
+        (in_order (added_noted u.dirs dir g slot e)) (ap (λ (x : DentryForm). in_order (added_noted u.dirs dir g slot x)) same ∙ ap in_order (noted_add t.dirs u.dirs dir g slot d known.used.within goes.table)) noted
 
     pub remove_noted : (path : List (List ℕ)) (o e : Option Found) → e ≡ o → o ≡ found_at t.dirs path → GoesBy t.dirs u.dirs pool after (clearing dir slot o) → ((j : ℕ) → IsMetIn u.dirs (Dir j) → IsMetIn t.dirs (Dir j)) → u.files ≡ t.files
-        → ((f : Found) → found_at t.dirs path ≡ Some f → IsUnmet u.dirs (inode_of f)) → Frees t.dirs u.dirs pool after o → IsSome o → IsNotedBehind t.noted u.noted (in_order (cleared_told slot e)) → GoesByNotes t u pool
+        → ((f : Found) → found_at t.dirs path ≡ Some f → IsUnmet u.dirs (inode_of f)) → Frees t.dirs u.dirs pool after o → IsSome o → IsNotedBehind t.noted u.noted (in_order (cleared_noted slot e)) → GoesByNotes t u pool
     remove_noted path o e same stood goes dirs files unmet frees stands noted =
         let known = known_of t.dirs above dir is.table met whole in
         goes_noted t u pool dir above met (clearing dir slot o) (swaps_of_clear dir slot o) goes.table (may_clear t.dirs pool dir slot o known goes.may)
         (λ s at. subst (AreKindsOf u) (sym (kinds_cleared dir slot o s)) (kinds_gone t u s.kinds is at.kinds dirs files path pool after o stood unmet (λ some. frees) (λ none. let no = sym (ap (λ (x : Option Found). is_some x) none) ∙ stands in absurd cc)))
         (files_stay t is u (clearing dir slot o) files (no_file_cleared t is path o stood dir slot)) (λ has. kinds_of_clear dir slot o)
-        (in_order (cleared_told slot e)) (ap (λ (x : Option Found). in_order (cleared_told slot x)) same ∙ ap in_order (told_clear t.dirs dir slot o)) noted
+        (in_order (cleared_noted slot e)) (ap (λ (x : Option Found). in_order (cleared_noted slot x)) same ∙ ap in_order (noted_clear t.dirs dir slot o)) noted
 
   module _ (from to : ℕ) (source target : List (List ℕ)) (from_met : found_at t.dirs source ≡ Some (Dir from)) (to_met : found_at t.dirs target ≡ Some (Dir to)) (from_whole : IsDirectory (dir_at t.dirs from)) (to_whole : IsDirectory (dir_at t.dirs to)) (left taken : Slot) where
     pub rename_noted : (path : List (List ℕ)) (dropped : Option Slot) (o e : Option Found) (g : Option ℕ) (d f : DentryForm) → d.inode < length t.dirs.dirs → (HasKinds t.dirs → IsOfKind d) → f ≡ d → e ≡ o → o ≡ found_at t.dirs path → ((slot : Slot) → dropped ≡ Some slot → g ≡ None) → (dropped ≡ None → o ≡ None)
         → GoesBy t.dirs u.dirs pool after (renaming from to left taken d dropped o g) → ((j : ℕ) → IsMetIn u.dirs (Dir j) → IsMetIn t.dirs (Dir j)) → u.files ≡ t.files
         → ((f : Found) → found_at t.dirs path ≡ Some f → IsUnmet u.dirs (inode_of f)) → (IsSome o → Frees t.dirs u.dirs pool after o) → (o ≡ None → u.dirs.free ≡ t.dirs.free)
-        → IsNotedBehind t.noted u.noted (in_order (replaced_told dropped e ++ grown_told u.dirs to g ++ slot_told left free_slot ∷ slot_told taken f ∷ [])) → GoesByNotes t u pool
+        → IsNotedBehind t.noted u.noted (in_order (replaced_noted dropped e ++ grown_noted u.dirs to g ++ slot_noted left free_slot ∷ slot_noted taken f ∷ [])) → GoesByNotes t u pool
     rename_noted path dropped o e g d f inode kind same found stood not_both none goes dirs files unmet frees free noted =
         let known_from = known_of t.dirs source from is.table from_met from_whole in
         let known_to = known_of t.dirs target to is.table to_met to_whole in
         goes_noted t u pool to target to_met (renaming from to left taken d dropped o g) (swaps_of_move from to left taken d dropped o g not_both) goes.table (may_move from to left taken d t.dirs pool dropped o g not_both known_from known_to inode goes.may)
         (λ s at. subst (AreKindsOf u) (sym (kinds_moved from to left taken d dropped o g s none)) (kinds_gone t u s.kinds is at.kinds dirs files path pool after o stood unmet frees free))
         (files_stay t is u (renaming from to left taken d dropped o g) files (no_file_moved t is path o stood from to target to_met left taken d dropped g)) (λ has. kinds_of_move from to left taken d dropped o g (kind has))
-        (in_order (replaced_told dropped e ++ grown_told u.dirs to g ++ slot_told left free_slot ∷ slot_told taken f ∷ []))
-        ((λ i. in_order (replaced_told dropped (found i) ++ grown_told u.dirs to g ++ slot_told left free_slot ∷ slot_told taken (same i) ∷ []))
-        ∙ ap in_order (told_move from to left taken d t.dirs u.dirs dropped o g not_both known_from.used.within known_to.used.within goes.table)) noted
+        (in_order (replaced_noted dropped e ++ grown_noted u.dirs to g ++ slot_noted left free_slot ∷ slot_noted taken f ∷ []))
+        ((λ i. in_order (replaced_noted dropped (found i) ++ grown_noted u.dirs to g ++ slot_noted left free_slot ∷ slot_noted taken (same i) ∷ []))
+        ∙ ap in_order (noted_move from to left taken d t.dirs u.dirs dropped o g not_both known_from.used.within known_to.used.within goes.table)) noted
 
   -- a file's inode, which takes no block of any pool
   pub free_noted : (i : ℕ) → IsSome (file_at t i) → GoesBy t.dirs u.dirs pool after (Freed i ∷ []) → ((j : ℕ) → IsMetIn u.dirs (Dir j) → IsMetIn t.dirs (Dir j)) → u.dirs.free ≡ set.insert t.dirs.free i

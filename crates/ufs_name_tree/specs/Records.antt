@@ -31,30 +31,30 @@ records_of t (x ∷ xs) = record_of t x ∷ records_of (table_after x t) xs
 -- ---- what a change tells, in the order of its steps
 
 -- a directory that took a block
-abbrev pub grown_told : DirTable → ℕ → Option ℕ → List LogRecord
-grown_told t dir None = []
-grown_told t dir (Some block) = dir_delta dir (blocks_at t dir) ∷ []
+abbrev pub grown_noted : DirTable → ℕ → Option ℕ → List LogRecord
+grown_noted t dir None = []
+grown_noted t dir (Some block) = dir_delta dir (blocks_at t dir) ∷ []
 
 -- an inode that has nothing yet
-abbrev pub born_told : (inode kind : ℕ) → LogRecord
-born_told inode kind = Delta inode kind 0 0 []
+abbrev pub born_noted : (inode kind : ℕ) → LogRecord
+born_noted inode kind = Delta inode kind 0 0 []
 
 -- a slot that was set
-abbrev pub slot_told : Slot → DentryForm → LogRecord
-slot_told slot d = Place slot.sector slot.slot d
+abbrev pub slot_noted : Slot → DentryForm → LogRecord
+slot_noted slot d = Place slot.sector slot.slot d
 
 -- a name that went, and the inode of a directory that it stood for
-abbrev pub cleared_told : Slot → Option Found → List LogRecord
-cleared_told slot (Some (Dir i)) = slot_told slot free_slot ∷ Free i ∷ []
-cleared_told slot _ = slot_told slot free_slot ∷ []
+abbrev pub cleared_noted : Slot → Option Found → List LogRecord
+cleared_noted slot (Some (Dir i)) = slot_noted slot free_slot ∷ Free i ∷ []
+cleared_noted slot _ = slot_noted slot free_slot ∷ []
 
 -- the same of a name that gave place to another, where there was one
-abbrev pub replaced_told : Option Slot → Option Found → List LogRecord
-replaced_told None at = []
-replaced_told (Some slot) at = cleared_told slot at
+abbrev pub replaced_noted : Option Slot → Option Found → List LogRecord
+replaced_noted None at = []
+replaced_noted (Some slot) at = cleared_noted slot at
 
-abbrev pub added_told : DirTable → ℕ → Option ℕ → Slot → DentryForm → List LogRecord
-added_told t dir grown slot d = grown_told t dir grown ++ born_told d.inode d.kind ∷ slot_told slot d ∷ []
+abbrev pub added_noted : DirTable → ℕ → Option ℕ → Slot → DentryForm → List LogRecord
+added_noted t dir grown slot d = grown_noted t dir grown ++ born_noted d.inode d.kind ∷ slot_noted slot d ∷ []
 
-abbrev pub moved_told : DirTable → ℕ → Moved → Option Found → DentryForm → List LogRecord
-moved_told t dir m at d = replaced_told m.dropped at ++ grown_told t dir m.grown ++ slot_told m.left free_slot ∷ slot_told m.taken d ∷ []
+abbrev pub moved_noted : DirTable → ℕ → Moved → Option Found → DentryForm → List LogRecord
+moved_noted t dir m at d = replaced_noted m.dropped at ++ grown_noted t dir m.grown ++ slot_noted m.left free_slot ∷ slot_noted m.taken d ∷ []

@@ -10,7 +10,7 @@ ghost use Rattle.ufs_dir_tree.specs.Space.{extents_of};
 ghost use Rattle.ufs_ilog.specs.Changes.{in_order, is_in_order};
 ghost use Rattle.ufs_ilog.specs.Deltas as log;
 ghost use Rattle.ufs_ilog.specs.Notes.{IsNotedBehind};
-ghost use Rattle.ufs_name_tree.specs.Records.{added_told, born_told, cleared_told, dir_delta, grown_told, moved_told, replaced_told, slot_told};
+ghost use Rattle.ufs_name_tree.specs.Records.{added_noted, born_noted, cleared_noted, dir_delta, grown_noted, moved_noted, replaced_noted, slot_noted};
 
 use std::alloc::Global;
 use ufs_base::{BLOCK, Memory};
@@ -38,7 +38,7 @@ pub(crate) fn note_added(
     requires slot { added.slot.slot < 8 }
     requires form { IsTrue (is_dentry dentry) }
     requires kind { (dentry.kind ≡ 1) ⊎ (dentry.kind ≡ 2) }
-    ensures { IsNotedBehind notes.old notes.new (in_order (added_told dirs.now dir added.grown added.slot dentry)) }
+    ensures { IsNotedBehind notes.old notes.new (in_order (added_noted dirs.now dir added.grown added.slot dentry)) }
 {
     let Some(alloc) = notes.alloc() else {
         return;
@@ -52,7 +52,7 @@ pub(crate) fn note_added(
 /// A name that went, with the inode of a directory that it stood for.
 pub(crate) fn note_removed(notes: &mut NameNotes, slot: Slot, found: Option<Found>)
     requires slot { slot.slot < 8 }
-    ensures { IsNotedBehind notes.old notes.new (in_order (cleared_told slot found)) }
+    ensures { IsNotedBehind notes.old notes.new (in_order (cleared_noted slot found)) }
 {
     let Some(alloc) = notes.alloc() else {
         return;
@@ -77,7 +77,7 @@ pub(crate) fn note_moved(
     requires taken { moved.taken.slot < 8 }
     requires dropped { IfSome moved.dropped (λ slot. slot.slot < 8) }
     requires form { IsTrue (is_dentry dentry) }
-    ensures { IsNotedBehind notes.old notes.new (in_order (moved_told dirs.now dir moved found dentry)) }
+    ensures { IsNotedBehind notes.old notes.new (in_order (moved_noted dirs.now dir moved found dentry)) }
 {
     let Some(alloc) = notes.alloc() else {
         return;
@@ -114,25 +114,25 @@ fn added_change(
     requires slot { added.slot.slot < 8 }
     requires form { IsTrue (is_dentry dentry) }
     requires kind { (dentry.kind ≡ 1) ⊎ (dentry.kind ≡ 2) }
-    ensures records { IfOk result (λ c. c.records ≡ in_order (added_told dirs.now dir added.grown added.slot dentry)) }
+    ensures records { IfOk result (λ c. c.records ≡ in_order (added_noted dirs.now dir added.grown added.slot dentry)) }
     ensures form { IfOk result (λ c. IsTrue (list_all is_record c.records)) }
     ensures order { IfOk result (λ c. IsTrue (is_in_order c.records)) }
 {
     let mut records = Vec::new(alloc);
-    tell_grown(alloc, &mut records, dirs, dir, added.grown)?;
-    tell_born(alloc, &mut records, dentry.inode, dentry.kind)?;
-    tell_slot(&mut records, added.slot, dentry)?;
+    note_grown(alloc, &mut records, dirs, dir, added.grown)?;
+    note_born(alloc, &mut records, dentry.inode, dentry.kind)?;
+    note_slot(&mut records, added.slot, dentry)?;
     Change::in_order(alloc, records)
 }
 
 fn removed_change(alloc: Global, slot: Slot, found: Option<Found>) -> Result<Change, Memory>
     requires slot { slot.slot < 8 }
-    ensures records { IfOk result (λ c. c.records ≡ in_order (cleared_told slot found)) }
+    ensures records { IfOk result (λ c. c.records ≡ in_order (cleared_noted slot found)) }
     ensures form { IfOk result (λ c. IsTrue (list_all is_record c.records)) }
     ensures order { IfOk result (λ c. IsTrue (is_in_order c.records)) }
 {
     let mut records = Vec::new(alloc);
-    tell_cleared(&mut records, slot, found)?;
+    note_cleared(&mut records, slot, found)?;
     Change::in_order(alloc, records)
 }
 
@@ -149,15 +149,15 @@ fn moved_change(
     requires taken { moved.taken.slot < 8 }
     requires dropped { IfSome moved.dropped (λ slot. slot.slot < 8) }
     requires form { IsTrue (is_dentry dentry) }
-    ensures records { IfOk result (λ c. c.records ≡ in_order (moved_told dirs.now dir moved found dentry)) }
+    ensures records { IfOk result (λ c. c.records ≡ in_order (moved_noted dirs.now dir moved found dentry)) }
     ensures form { IfOk result (λ c. IsTrue (list_all is_record c.records)) }
     ensures order { IfOk result (λ c. IsTrue (is_in_order c.records)) }
 {
     let mut records = Vec::new(alloc);
-    tell_replaced(&mut records, moved.dropped, found)?;
-    tell_grown(alloc, &mut records, dirs, dir, moved.grown)?;
-    tell_slot(&mut records, moved.left, free_dentry())?;
-    tell_slot(&mut records, moved.taken, dentry)?;
+    note_replaced(&mut records, moved.dropped, found)?;
+    note_grown(alloc, &mut records, dirs, dir, moved.grown)?;
+    note_slot(&mut records, moved.left, free_dentry())?;
+    note_slot(&mut records, moved.taken, dentry)?;
     Change::in_order(alloc, records)
 }
 
@@ -174,7 +174,7 @@ fn freed_change(alloc: Global, inode: u32) -> Result<Change, Memory>
 // ---- their records, step by step
 
 // A directory that took a block is told whole.
-fn tell_grown(
+fn note_grown(
     alloc: Global,
     records: &mut Vec<LogRecord>,
     dirs: &DirTree,
@@ -183,7 +183,7 @@ fn tell_grown(
 ) -> Result<(), Memory>
     requires table { IsDirTable dirs.now }
     requires form { IsTrue (list_all is_record records.old.items) }
-    ensures records { OnOk result (records.new.items ≡ records.old.items ++ grown_told dirs.now dir grown) }
+    ensures records { OnOk result (records.new.items ≡ records.old.items ++ grown_noted dirs.now dir grown) }
     ensures form { OnOk result (IsTrue (list_all is_record records.new.items)) }
 {
     if grown.is_some() {
@@ -193,7 +193,7 @@ fn tell_grown(
 }
 
 // An inode that has nothing yet.
-fn tell_born(
+fn note_born(
     alloc: Global,
     records: &mut Vec<LogRecord>,
     inode: u32,
@@ -201,7 +201,7 @@ fn tell_born(
 ) -> Result<(), Memory>
     requires kind { (kind ≡ 1) ⊎ (kind ≡ 2) }
     requires form { IsTrue (list_all is_record records.old.items) }
-    ensures records { OnOk result (records.new.items ≡ records.old.items ++ born_told inode kind ∷ []) }
+    ensures records { OnOk result (records.new.items ≡ records.old.items ++ born_noted inode kind ∷ []) }
     ensures form { OnOk result (IsTrue (list_all is_record records.new.items)) }
 {
     records.push(LogRecord::Delta {
@@ -214,11 +214,11 @@ fn tell_born(
     Ok(())
 }
 
-fn tell_slot(records: &mut Vec<LogRecord>, slot: Slot, dentry: Dentry) -> Result<(), Memory>
+fn note_slot(records: &mut Vec<LogRecord>, slot: Slot, dentry: Dentry) -> Result<(), Memory>
     requires slot { slot.slot < 8 }
     requires dentry { IsTrue (is_dentry dentry) }
     requires form { IsTrue (list_all is_record records.old.items) }
-    ensures records { OnOk result (records.new.items ≡ records.old.items ++ slot_told slot dentry ∷ []) }
+    ensures records { OnOk result (records.new.items ≡ records.old.items ++ slot_noted slot dentry ∷ []) }
     ensures form { OnOk result (IsTrue (list_all is_record records.new.items)) }
 {
     records.push(LogRecord::Place {
@@ -230,17 +230,17 @@ fn tell_slot(records: &mut Vec<LogRecord>, slot: Slot, dentry: Dentry) -> Result
 }
 
 // A name that goes, with the inode of a directory that it stood for.
-fn tell_cleared(
+fn note_cleared(
     records: &mut Vec<LogRecord>,
     slot: Slot,
     found: Option<Found>,
 ) -> Result<(), Memory>
     requires slot { slot.slot < 8 }
     requires form { IsTrue (list_all is_record records.old.items) }
-    ensures records { OnOk result (records.new.items ≡ records.old.items ++ cleared_told slot found) }
+    ensures records { OnOk result (records.new.items ≡ records.old.items ++ cleared_noted slot found) }
     ensures form { OnOk result (IsTrue (list_all is_record records.new.items)) }
 {
-    tell_slot(records, slot, free_dentry())?;
+    note_slot(records, slot, free_dentry())?;
     if let Some(Found::Dir { inode }) = found {
         records.push(LogRecord::Free { inode })?;
     }
@@ -248,18 +248,18 @@ fn tell_cleared(
 }
 
 // The same of a name that gave place to another, where there was one.
-fn tell_replaced(
+fn note_replaced(
     records: &mut Vec<LogRecord>,
     dropped: Option<Slot>,
     found: Option<Found>,
 ) -> Result<(), Memory>
     requires slot { IfSome dropped (λ slot. slot.slot < 8) }
     requires form { IsTrue (list_all is_record records.old.items) }
-    ensures records { OnOk result (records.new.items ≡ records.old.items ++ replaced_told dropped found) }
+    ensures records { OnOk result (records.new.items ≡ records.old.items ++ replaced_noted dropped found) }
     ensures form { OnOk result (IsTrue (list_all is_record records.new.items)) }
 {
     match dropped {
-        Some(slot) => tell_cleared(records, slot, found),
+        Some(slot) => note_cleared(records, slot, found),
         None => Ok(()),
     }
 }

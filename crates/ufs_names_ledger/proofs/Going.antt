@@ -14,7 +14,7 @@ use Rattle.ufs_ledger.specs.Ledger.{Stand}
 use Rattle.ufs_ledger.specs.Kept.{Numbers, IsNumberedBy}
 use Rattle.ufs_dir_tree.specs.Steps.{DirState, Step, after_all}
 use Rattle.ufs_name_log.specs.Held.{HasState, MaySteps, HasSoundNames}
-use Rattle.ufs_name_log.specs.Laws.{change, AreOlder, StepsAreTold}
+use Rattle.ufs_name_log.specs.Laws.{change, AreOlder, StepsAreNoted}
 use Rattle.ufs_name_log.specs.Files.{KeepsInode, MayGoOn}
 use Rattle.ufs_name_log.specs.Numbers.{NamesNumberPaths}
 use Rattle.ufs_name_tree.specs.NameTable.{file_at}
@@ -24,7 +24,7 @@ use Rattle.ufs_names_ledger.specs.Numbers.{numbers_of}
 use Rattle.ufs_names_ledger.specs.Going.{AreNamesBehind, HasNamesAfter}
 use Rattle.ufs_names_ledger.proofs.Numbered.{tells, have_numbers, unborn}
 
-module _ (g : Geometry) (told : StepsAreTold g) (number_paths : NamesNumberPaths g) (s : Stand) (d : DirState) (xs : List Step) (number : ℕ) (start : PosixTree) (history : List Entry) (names more : ℕ) (old : Numbers) (n : NamesPart) (t : PosixTree)
+module _ (g : Geometry) (told : StepsAreNoted g) (number_paths : NamesNumberPaths g) (s : Stand) (d : DirState) (xs : List Step) (number : ℕ) (start : PosixTree) (history : List Entry) (names more : ℕ) (old : Numbers) (n : NamesPart) (t : PosixTree)
     (has : HasState g s.catalog d) (older : AreOlder g s.catalog number) (may : MaySteps g d xs) (sound : HasSoundNames g (after_all xs d)) (behind : AreNamesBehind (after_all xs d) n t) (tree : HasNamesAfter start history more t) (later : names ≤ more)
     (each : (count file : ℕ) → more ≤ count → count ≤ length (name_changes start history) → IsNamed (names_after start history count).paths file → KeepsInode xs old (numbers_of n) file) where
   abbrev c : Catalog

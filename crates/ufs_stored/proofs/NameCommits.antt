@@ -37,7 +37,7 @@ use Rattle.ufs_model.proofs.Facts.Live.{held_has}
 use Rattle.ufs_model.proofs.Facts.Lookups.{from_some, same_some}
 use Rattle.ufs_name_log.specs.Files.{BornAreEmpty, KeepsInode, MayGoOn, NamesStandOn, OthersStay}
 use Rattle.ufs_name_log.specs.Held.{HasName, HasSoundNames, HasState}
-use Rattle.ufs_name_log.specs.Laws.{AreOlder, StepsAreTold, StepsMayCommit, change}
+use Rattle.ufs_name_log.specs.Laws.{AreOlder, StepsAreNoted, StepsMayCommit, change}
 use Rattle.ufs_dir_tree.specs.Steps.{DirState, Step, after_all}
 use Rattle.ufs_name_log.proofs.Covers.{covers_table}
 use Rattle.ufs_name_log.proofs.Forms.{form_here}
@@ -122,7 +122,7 @@ module _ (l : Ledger) (u : BlockSet) (start : PosixTree) (history : List Entry) 
   pub goes_on_by : NamesGoByChanges → NamesMayGoOn g → NamesStandOn g → SettledIsKept g → GoesOnBy g l t start history k k2
   goes_on_by by names stand settle = stand (settled l).blocks l.now d xs number start history k.names more k.files k.numbers (numbers_of p.names) (settle l start history k k refl none st.kept).here (go by names)
 
-  module _ (told : StepsAreTold g) (stay : OthersStay g) (born : BornAreEmpty g) where
+  module _ (told : StepsAreNoted g) (stay : OthersStay g) (born : BornAreEmpty g) where
     abbrev m : Ledger
     m = committed_one t l
 

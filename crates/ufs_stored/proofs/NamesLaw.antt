@@ -13,7 +13,7 @@ use Rattle.ufs_model.specs.PosixTree.{PosixTree}
 use Rattle.ufs_model.specs.declared.data.Entry.{Entry}
 use Rattle.ufs_model.proofs.Facts.Lookups.{same_some}
 use Rattle.ufs_name_log.specs.Files.{BornAreEmpty, NamesStandOn, OthersStay}
-use Rattle.ufs_name_log.specs.Laws.{AreOlder, StepsAreTold, StepsMayCommit, change}
+use Rattle.ufs_name_log.specs.Laws.{AreOlder, StepsAreNoted, StepsMayCommit, change}
 use Rattle.ufs_names_ledger.specs.Going.{NamesMayGoOn}
 use Rattle.ufs_prefix.specs.Laws.{NamesGoByChanges}
 use Rattle.ufs_stored.specs.Laws.{HasNamesToCommit, all_named, with_names_committed}
@@ -69,13 +69,13 @@ names_committing g settle keeps by going stand l u start history k p number reco
     keeps l (record { number = number; records = records }) start history k (all_named start history p.names k) names.geometry names.none st.tree st.legal st.kept
     (goes_on g settle by going stand l u start history k p number records names st)
 
-pub names_committed : (g : Geometry) → SettledIsKept g → CommittedIsKept g → NamesGoByChanges → NamesMayGoOn g → NamesStandOn g → StepsAreTold g → OthersStay g → BornAreEmpty g
+pub names_committed : (g : Geometry) → SettledIsKept g → CommittedIsKept g → NamesGoByChanges → NamesMayGoOn g → NamesStandOn g → StepsAreNoted g → OthersStay g → BornAreEmpty g
     → (l : Ledger) (u : BlockSet) (start : PosixTree) (history : List Entry) (k : Counts) (p : Parts) (number : ℕ) (records : List LogRecord) → HasNamesToCommit g l p number records → IsStored l u start history k p
     → IsStored (committed_one (record { number = number; records = records }) l) u start history (all_named start history p.names k) (with_names_committed p)
 names_committed g settle keeps by going stand tell stay born l u start history k p number records names st =
     subst (λ (t : Committed). IsStored (committed_one t l) u start history (all_named start history p.names k) (with_names_committed p)) is
     (committed_stored l u start history k p number st n names.none names.table names.ready (older g l u start history k p number records names st)
-    (subst StepsAreTold (sym names.geometry) tell) (subst OthersStay (sym names.geometry) stay) (subst BornAreEmpty (sym names.geometry) born) by
+    (subst StepsAreNoted (sym names.geometry) tell) (subst OthersStay (sym names.geometry) stay) (subst BornAreEmpty (sym names.geometry) born) by
     (subst (λ (t : Committed). IsLedgerKept (committed_one t l) start history (all_named start history p.names k) (all_named start history p.names k)) (sym is)
     (keeps l (record { number = number; records = records }) start history k (all_named start history p.names k) names.geometry names.none st.tree st.legal st.kept
     (goes_on g settle by going stand l u start history k p number records names st))))
