@@ -17,7 +17,7 @@ returns-clause-err g c visible =
     let s = g.D.Door.store c.write_block.new.self in
     let block : c.in-Some.block ≡ w.block = ap (λ (o : Option ℕ). unwrap_or o 0) (sym c.in-Some.is ∙ c.block_number.ensures) in
     on_err_weaker c.write_block.result
-    (λ visible l has may. one_tried c.in-Some.block w.block c.in-Some-block.bytes.now w.bytes block c.in-Some-block.ensures.bytes s (reads s.moments) l may.0 (λ here. visible l has here)
+    (λ held l has may. one_tried c.in-Some.block w.block c.in-Some-block.bytes.now w.bytes block c.in-Some-block.ensures.bytes s (reads s.moments) l may.0 (λ here. held l has here)
     (λ here free. mixed_then _ l c.in-Some.block c.in-Some-block.bytes.now s.moments.state has.by.none here free ((c.write_block.ensures.crash visible l has here).after (seen s.moments.state) (seen_is_image s.moments.state))))
     (c.write_block.ensures.err visible)
 
