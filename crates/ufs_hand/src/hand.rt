@@ -1,6 +1,6 @@
 // The hands of one session, and the table that they share.
 ghost use Rattle.std.specs.Prelude.{◌≡◌, ◌≢◌, ◌≤◌, ◌<◌, ◌/◌, ◌%◌, [], ◌∷◌, IfOk};
-ghost use Rattle.ufs_sound.specs.Rule.{clock_step, word_at, IsSeenBy, MayTick};
+ghost use Rattle.ufs_sound.specs.Rule.{clock_step, word_at, IsSeenBy, KnowsTickets, MayTick};
 ghost use Rattle.ufs_sound.specs.Clock.{looked, ticked};
 ghost use Rattle.ufs_sound.specs.Parts.{NamesPart, HoldsPart, kept_of, given_of, both_of};
 ghost use Rattle.ufs_sound.specs.Draws.{MayDraw, drawn};
@@ -189,6 +189,7 @@ impl<N: Naming> Hand<N> {
         requires { MayDraw fresh.now self.old L.leaves [] }
         ensures parts { self.new ≡ drawn result fresh.now L.leaves self.old }
         ensures later { self.old.seen ≤ result }
+        ensures history { KnowsTickets self.old result }
     {
         self.draw_as::<Brand, L>(table, fresh)
     }
@@ -198,6 +199,7 @@ impl<N: Naming> Hand<N> {
         requires may { MayDraw fresh.now self.old L.leaves [] }
         ensures parts { self.new ≡ drawn result fresh.now L.leaves self.old }
         ensures later { self.old.seen ≤ result }
+        ensures history { KnowsTickets self.old result }
     {
         // For the prover alone.
         let _ = fresh;

@@ -63,7 +63,7 @@ no_more : (ps : List PartName) (c : ℕ) → (IsPartOf ps (part.Client c) → �
 no_more ps c n (inl e) = cc
 no_more ps c n (inr e) = n e
 
-no_client : (t : PosixTree) (client : ℕ) (o : Op) (c : ℕ) → IsPartOf (reached t client o) (part.Client c) → ⊥
+pub no_client : (t : PosixTree) (client : ℕ) (o : Op) (c : ℕ) → IsPartOf (reached t client o) (part.Client c) → ⊥
 no_client t client (op.OpenFile path read write creat excl trunc append) c = no_more _ c (no_if (is_some (refusal t client (op.OpenFile path read write creat excl trunc append))) _ c (no_opened t.next (is_some (node_at t.paths path)) (file_of (node_at t.paths path)) trunc c))
 no_client t client (op.Close fd) c = no_more _ c (no_dropped (change t client (op.Close fd)) (opened t client fd).file c)
 no_client t client (op.Read fd n) c = no_file (opened t client fd).file c

@@ -21,7 +21,7 @@ use Rattle.ufs_sound.specs.Draws.{Leaves, drawn, MayDraw}
 use Rattle.ufs_sound.specs.Marks.{MayAsk, asking, MayRemake}
 use Rattle.ufs_sound.specs.Clock.{looked, ticked}
 use Rattle.ufs_sound.specs.Leasing.{MayGrant, granting, MayGiveBack, giving_back}
-use Rattle.ufs_sound.specs.Rule.{clock_step, word_number, word_at, IsRuled, Drew, Marked, Looked, Ticked, TickedBy, MayTick}
+use Rattle.ufs_sound.specs.Rule.{clock_step, word_number, word_at, IsRuled, KnowsTickets, Drew, Marked, Looked, Ticked, TickedBy, MayTick}
 use Rattle.ufs_sound.proofs.Apart.{split_sound, join_sound}
 use Rattle.ufs_sound.proofs.Drawn.{draw_sound}
 use Rattle.ufs_sound.proofs.Marking.{remake_sound}
@@ -32,7 +32,7 @@ use Rattle.ufs_sound.proofs.Clocking.{look_sound, tick_sound}
 
 -- ---- the tickets are few
 
-abbrev tally : ℕ → List Entry → ℕ
+abbrev pub tally : ℕ → List Entry → ℕ
 tally zero h = 0
 tally (suc k) h = length (entries_of k h) + tally k h
 
@@ -44,7 +44,7 @@ tally_skip : (k : ℕ) (e : Entry) (h : List Entry) → k ≤ e.client → tally
 tally_skip zero e h l = refl
 tally_skip (suc k) e h l = let i = tally_skip k e h (omega arith) in let b : length (entries_of k (e ∷ h)) ≡ length (entries_of k h) = ap (λ b. length (cond b (e ∷ entries_of k h) (entries_of k h))) (ne_eqb e.client k (omega arith)) in omega arith
 
-tally_step : (k : ℕ) (e : Entry) (h : List Entry) → e.client < k → tally k (e ∷ h) ≡ suc (tally k h)
+pub tally_step : (k : ℕ) (e : Entry) (h : List Entry) → e.client < k → tally k (e ∷ h) ≡ suc (tally k h)
 tally_step zero e h l = absurd (omega arith)
 tally_step (suc k) e h l = step_at (ℕ_discrete e.client k) (tally_step k e h)
   where
@@ -52,7 +52,7 @@ tally_step (suc k) e h l = step_at (ℕ_discrete e.client k) (tally_step k e h)
     step_at (yes s) r = let i = tally_skip k e h (omega arith) in let b : length (entries_of k (e ∷ h)) ≡ suc (length (entries_of k h)) = ap (λ b. length (cond b (e ∷ entries_of k h) (entries_of k h))) (eq-eqb e.client k s) in omega arith
     step_at (no s) r = let i = r (omega arith) in let b : length (entries_of k (e ∷ h)) ≡ length (entries_of k h) = ap (λ b. length (cond b (e ∷ entries_of k h) (entries_of k h))) (ne_eqb e.client k s) in omega arith
 
-tally_none : (k : ℕ) → tally k [] ≡ 0
+pub tally_none : (k : ℕ) → tally k [] ≡ 0
 tally_none zero = refl
 tally_none (suc k) = let i = tally_none k in omega arith
 
@@ -76,6 +76,15 @@ module _ (S : Showing) (k : Start) where
   pub join_keeps : (i : ℕ) (v : View) (j : ℕ) (u : View) → Joins (IsRuled S k) i v j u (both_of v u) spent
   join_keeps i v j u s h at ne there = record { word = h.word; is = h.is; clock = h.clock; sound = join_sound S k h.word s.views i j v u h.sound at ne there }
 
+  -- the history of the state, of which the hand's clients have their entries
+  knows_tickets : (word : Word) (views : List View) (i : ℕ) (v : View) → IsSound S k word views → get_elem? views i ≡ some v → KnowsTickets v word.tickets
+  knows_tickets word views i v o at = record {
+    history = o.history;
+    all = o.tickets_once.tickets;
+    entries = λ c p x. o.tickets_once.entries c p (o.one_hand.clients.agree i v at c p x);
+    low = λ e h. (o.tickets_once.there e h).0;
+  }
+
   pub draw_keeps : KeepsTrees → Locality → MakesOneFile → (slots i : ℕ) (f : Fresh) (l : Leaves) (me : Me (Unit {0}) View) → MayDraw f me.0 l [] → Allows (IsRuled S k) slots i me 0 (λ n. (n + 1) % 2 ^ 64) (Drew f l me)
   draw_keeps keeps' local makes slots i f l me m s h len at below =
       let n = slice_index s.words 0 in
@@ -94,7 +103,7 @@ module _ (S : Showing) (k : Start) where
           clock = low;
           sound = subst (λ x. IsSound S k next (set s.views i (drawn x f l me.0))) (sym ticket) (draw_sound (record { keeps = keeps'; local = local; makes = makes; S = S; k = k; word = h.word; views = s.views; i = i; v = me.0; f = f; l = l; known = []; live = λ x none. absurd none; o = h.sound; at = at; m = m }));
         },
-        (refl, subst (λ x. me.0.seen ≤ x) (sym ticket) (h.sound.clock.seen i me.0 at).0),
+        (refl, subst (λ x. me.0.seen ≤ x) (sym ticket) (h.sound.clock.seen i me.0 at).0, subst (KnowsTickets me.0) (sym ticket) (knows_tickets h.word s.views i me.0 h.sound at)),
       )
 
   -- an event whose view afterwards is sound by whatever the tickets are keeps the rule

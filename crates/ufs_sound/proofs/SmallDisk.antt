@@ -46,7 +46,7 @@ pub has_one_file : HasOneFile small_disk
 has_one_file = record {
   can = record {
     paths = path_tree_of es refl ((record { spelled = refl; allowed = refl }, refl), ((record { spelled = refl; allowed = refl }, refl), tt));
-    small = subst (λ (t : PosixTree). t.next ≤ 4096) (sym tree_is) (omega arith);
+    small = subst (λ (t : PosixTree). t.next ≤ 1073741824) (sym tree_is) (omega arith);
     pools = λ n. omega arith;
     extents = λ f bs e. absurd (none_some bs (sym (fin.get-empty nat_cmp f) ∙ e));
     once = λ b. let z = uses_none b in omega arith;

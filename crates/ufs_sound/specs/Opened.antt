@@ -106,7 +106,7 @@ module _ (d : OpenedDisk) where
   -- crash may leave opens to the tree, and the files' blocks have their bytes.
   pub record CanBeOpened : Type 0 where
     pub paths : IsPathTree d.nodes
-    pub small : opened_tree.next ≤ 4096
+    pub small : opened_tree.next ≤ 1073741824
     pub pools : (n : ℕ) → count eqb n d.pools ≤ 1
     pub extents : (f : ℕ) (bs : List ℕ) → fin.get d.extents f ≡ Some bs → f < opened_tree.next
     pub once : (b : ℕ) → uses b opened_view ≤ 1

@@ -15,7 +15,7 @@ pub record TicketsOnce (k : Start) (word : Word) (h : List Entry) (clients : ℕ
   pub room : (c : ℕ) → length (entries_of c h) ≤ 65536
   pub there : (e : Entry) → Has e h → (e.client < 16) × (present (clients e.client) ≡ 1)
   pub asked : (c : ℕ) (p : ClientPart) (r : Op) → clients c ≡ Some p → p.asked ≡ Some r → length p.entries < 65536
-  pub next : (tree_after k.tree h).next ≤ 4096 + word.tickets
+  pub next : (tree_after k.tree h).next ≤ 1073741824 + word.tickets
 
 abbrev pub AreTicketsOnce : Start → Word → List Entry → World → Type 0
 AreTicketsOnce k word h G = TicketsOnce k word h G.client

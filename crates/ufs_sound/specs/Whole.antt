@@ -27,7 +27,7 @@ pub record CanOpen (S : Showing) (k : Start) (names : NamesPart) (store : StoreP
   pub tree : IsTree k.tree
   pub closed : (c fd : ℕ) → desc_at k.tree c fd ≡ None
   pub free : (c f : ℕ) → holds k.tree.fds c f ≡ false
-  pub small : k.tree.next ≤ 4096
+  pub small : k.tree.next ≤ 1073741824
   pub one_client : (c : ℕ) → count eqb c k.view.clients ≤ 1
   pub one_asked : (c : ℕ) → count eqb c k.view.asked ≤ 1
   pub one_file : (f : ℕ) → count eqb f k.view.files ≡ one (is_some (fin.get k.tree.bytes f))

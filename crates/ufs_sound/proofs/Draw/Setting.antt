@@ -48,7 +48,7 @@ there_or t g = by (fin.get t.bytes g) refl
     by (Some x) e = inl (ap is_some e)
 
 -- a part is among some, or not
-file_or : (ps : List PartName) (g : ℕ) → IsPartOf ps (part.File g) ⊎ (IsPartOf ps (part.File g) → ⊥)
+pub file_or : (ps : List PartName) (g : ℕ) → IsPartOf ps (part.File g) ⊎ (IsPartOf ps (part.File g) → ⊥)
 file_or [] g = inr (λ e. e)
 file_or (p ∷ ps) g = ⊎_elim (λ a. inl (inr a)) (λ not. head p not) (file_or ps g)
   where
@@ -69,7 +69,7 @@ file_or (p ∷ ps) g = ⊎_elim (λ a. inl (inr a)) (λ not. head p not) (file_o
     head part.Names not = none part.Names (λ e. cc) not
     head part.Store not = none part.Store (λ e. cc) not
 
-names_or : (ps : List PartName) → IsPartOf ps part.Names ⊎ (IsPartOf ps part.Names → ⊥)
+pub names_or : (ps : List PartName) → IsPartOf ps part.Names ⊎ (IsPartOf ps part.Names → ⊥)
 names_or [] = inr (λ e. e)
 names_or (p ∷ ps) = ⊎_elim (λ a. inl (inr a)) (λ not. head p not) (names_or ps)
   where
