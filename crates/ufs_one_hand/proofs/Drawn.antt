@@ -1,0 +1,178 @@
+-- A hand with all parts of a session has them after the entry that it drew.
+use Rattle.std.proofs.Common.{◌≡◌, ℕ, ◌≤◌, ◌≢◌, Bool, true, false, cond, ◌&&◌, eqb, eq-eqb, ne_eqb, List, [], ◌∷◌, ◌++◌, length, append-nil, Some, None, is_some, refl, ap, sym, ◌∙◌, subst, ⊎_elim, arith}
+use Rattle.std.specs.Prelude.{slice_index_or}
+use Rattle.std.specs.FinMap as fin
+use native.Mathlib.Decide.{ℕ_discrete}
+use Rattle.ufs_model.specs.History.{entries_of, goes_on, tree_after}
+use Rattle.ufs_model.specs.Laws.{KeepsTrees, Locality}
+use Rattle.ufs_model.specs.PosixTree.{PosixTree, IsTree, desc_at}
+use Rattle.ufs_model.specs.Touched.{holds}
+use Rattle.ufs_model.specs.declared.data.Entry.{Entry}
+use Rattle.ufs_model.specs.declared.data.PartName.TheVariants as part
+use Rattle.ufs_model.proofs.Facts.Histories.{tree_after-push, own-push, others-push}
+use Rattle.ufs_prefix.specs.Changes.{NameState, names_of, changes_names}
+use Rattle.ufs_prefix.specs.Steps.{is_served}
+use Rattle.ufs_prefix.proofs.Facts.Entries.{names_still}
+use Rattle.ufs_prefix.proofs.Facts.Sessions.{tree_goes_on}
+use Rattle.ufs_sound.specs.Draws.{Leaves, client_after, drawn, entry_of}
+use Rattle.ufs_sound.specs.Owned.{one, Has, count}
+use Rattle.ufs_sound.specs.Parts.{ClientPart, FilePart, NamesPart, View, OwnFds, Start}
+use Rattle.ufs_sound.specs.declared.fresh.Fresh.{Fresh}
+use Rattle.ufs_sound.proofs.Covering.{excused_or, tree_served, tree_stays}
+use Rattle.ufs_sound.proofs.Drawing.{touches_own}
+use Rattle.ufs_sound.proofs.Owning.{weigh_each, has_append, has_each}
+use Rattle.ufs_one_hand.specs.OneHand.{HasSession, IsClientAt, IsFileAt, AreNamesAt}
+use Rattle.ufs_one_hand.specs.Drawn.{IsAnswer, leaves_after}
+use Rattle.ufs_one_hand.proofs.Alike.{AreAlike, agree_touched}
+use Rattle.ufs_one_hand.proofs.Draws.{bare_file, dropped_bare, later_count, later_names, later_names_are}
+use Rattle.ufs_one_hand.proofs.Files.{bytes_after}
+use Rattle.ufs_one_hand.proofs.Holding.{listed_hold}
+
+last_is : {A : Type 0} (o : A) (cs : List A) (x d : A) → slice_index_or (o ∷ (cs ++ x ∷ [])) (length (cs ++ x ∷ [])) d ≡ x
+last_is o [] x d = refl
+last_is o (c ∷ cs) x d = last_is c cs x d
+
+module _ (keeps : KeepsTrees) (local : Locality) (k : Start) (h : List Entry) (f : Fresh) (own_fds : OwnFds) (v : View) (a : IsAnswer k h (tree_after k.tree h) f own_fds v) (ticket : ℕ) where
+  abbrev now : PosixTree
+  now = tree_after k.tree h
+
+  abbrev e : Entry
+  e = entry_of 0 f
+
+  abbrev last : Entry
+  last = entry_of ticket f
+
+  abbrev longer : List Entry
+  longer = h ++ last ∷ []
+
+  abbrev after : PosixTree
+  after = goes_on now e
+
+  abbrev l : Leaves
+  l = leaves_after now e own_fds v
+
+  abbrev w : View
+  w = drawn ticket f l v
+
+  abbrev s : HasSession k h (Some (f.client, f.op)) v
+  s = a.session
+
+  then' : after ≡ tree_after k.tree longer
+  then' = sym (tree_after-push k.tree h last)
+
+  -- ---- clients
+
+  self_alike : AreAlike f.client now now
+  self_alike = record { paths = refl; next = refl; bytes = λ f. refl; fds = λ fd. refl; holds = λ c f. refl }
+
+  descs_stay : (c : ℕ) → c ≢ f.client → (fd : ℕ) → desc_at now c fd ≡ desc_at after c fd
+  descs_stay c ne fd = ⊎_elim
+      (λ x. ap (λ (t : PosixTree). desc_at t c fd) (sym (tree_stays now f.client f.op f.reply x)))
+      (λ x. (local now now f.client f.op s.tree s.tree (agree_touched f.client now now self_alike f.op)).others (part.Client c) (λ y. ne (touches_own now f.client f.op c y)) fd
+      ∙ ap (λ (t : PosixTree). desc_at t c fd) (sym (tree_served now f.client f.op f.reply x)))
+      (excused_or f.reply)
+
+  client_counts : (c : ℕ) → count eqb c w.clients ≡ count eqb c v.clients
+  client_counts c = weigh_each (client_after last own_fds) (λ n. one (eqb c n)) v.clients
+
+  client_then : (c : ℕ) (p : ClientPart) → Has (c, p) v.clients → Dec (f.client ≡ c) → IsClientAt (tree_after k.tree longer) longer None c (client_after last own_fds c p)
+  client_then c p has (yes same) =
+      let q = s.clients c p has in
+      subst (λ (b : Bool). IsClientAt (tree_after k.tree longer) longer None c (cond b (record p { entries = p.entries ++ last ∷ []; fds = own_fds; asked = None }) p)) (sym (eq-eqb f.client c same)) (record {
+        entries = ap (λ es. es ++ last ∷ []) q.entries ∙ subst (λ (n : ℕ). entries_of n h ++ last ∷ [] ≡ entries_of n longer) same (sym (own-push h last));
+        fds = λ fd. a.fds fd ∙ (λ i. desc_at (then' i) (same i) fd);
+        copies = q.copies;
+        asked = refl;
+      })
+  client_then c p has (no ne) =
+      let q = s.clients c p has in
+      subst (λ (b : Bool). IsClientAt (tree_after k.tree longer) longer None c (cond b (record p { entries = p.entries ++ last ∷ []; fds = own_fds; asked = None }) p)) (sym (ne_eqb f.client c ne)) (record {
+        entries = q.entries ∙ sym (others-push c h last ne);
+        fds = λ fd. q.fds fd ∙ descs_stay c (λ is. ne (sym is)) fd ∙ ap (λ (t : PosixTree). desc_at t c fd) then';
+        copies = q.copies;
+        asked = q.asked ∙ ap (λ b. cond b (Some f.op) None) (ne_eqb f.client c ne);
+      })
+
+  client_at : (c : ℕ) (p : ClientPart) → Has (c, p) w.clients → IsClientAt (tree_after k.tree longer) longer None c p
+  client_at c p has =
+      let x = has_each (client_after last own_fds) c p v.clients has in
+      subst (IsClientAt (tree_after k.tree longer) longer None c) x.2 (client_then c x.0 x.1 (ℕ_discrete f.client c))
+
+  their_part : (x : Entry) → Has x longer → 1 ≤ count eqb x.client w.clients
+  their_part x has = ⊎_elim
+      (λ y. let t = s.theirs x y in let c = client_counts x.client in omega arith)
+      (λ y. ⊎_elim (λ (is : x ≡ last). subst (λ (z : Entry). 1 ≤ count eqb z.client w.clients) (sym is) own) (λ z. absurd z) y)
+      (has_append x h (last ∷ []) has)
+    where
+      own : 1 ≤ count eqb f.client w.clients
+      own = let o = s.sixteen f.client a.low in let c = client_counts f.client in omega arith
+
+  -- ---- files
+
+  file_at : (g : ℕ) (q : FilePart) → Has (g, q) w.files → IsFileAt (tree_after k.tree longer) g q
+  file_at g q has =
+      let bare = bare_file local k h f own_fds v a g q has in
+      record {
+        bytes = ap (λ (t : PosixTree). fin.get t.bytes g) (sym then') ∙ bytes_after now e s.tree a.replied v.files g q has;
+        leases = bare.3;
+        blocks = bare.0;
+        quarantine = bare.1;
+        spare = bare.2;
+        loaded = bare.4;
+      }
+
+  -- ---- names
+
+  abbrev names : NamesPart
+  names = later_names local k h f own_fds v a
+
+  latest_names : (b : Bool) → (is_served f.reply && changes_names now f.op) ≡ b
+      → slice_index_or (s.names.opening ∷ (s.names.changes ++ cond b (names_of after ∷ []) [])) (length (s.names.changes ++ cond b (names_of after ∷ []) [])) s.names.opening ≡ names_of after
+  latest_names true is = last_is s.names.opening s.names.changes (names_of after) s.names.opening
+  latest_names false is =
+      ap (λ (cs : List NameState). slice_index_or (s.names.opening ∷ cs) (length cs) s.names.opening) (append-nil s.names.changes)
+      ∙ s.names_at.latest ∙ sym (names_still now e a.replied is)
+
+  names_then : AreNamesAt (tree_after k.tree longer) names
+  names_then = record {
+    paths = ap (λ (t : PosixTree). t.paths) then';
+    next = ap (λ (t : PosixTree). t.next) then';
+    holds = λ c g. listed_hold after.fds c g ∙ ap (λ (t : PosixTree). holds t.fds c g) then';
+    latest = latest_names (is_served f.reply && changes_names now f.op) refl ∙ ap names_of then';
+    leases = s.names_at.leases;
+    blocks = s.names_at.blocks;
+    spare = s.names_at.spare;
+    dropped = dropped_bare local k h f own_fds v a;
+  }
+
+  -- ---- the whole
+
+  pub session_after : HasSession k longer None w
+  session_after = record {
+    tree = subst IsTree then' (tree_goes_on keeps now s.tree e a.replied);
+    blind = s.blind;
+    all_clients = λ c. client_counts c ∙ s.all_clients c;
+    all_asked = s.all_asked;
+    one_client = λ c. let n = client_counts c in let o = s.one_client c in omega arith;
+    sixteen = λ c low. client_counts c ∙ s.sixteen c low;
+    sixteen_asked = s.sixteen_asked;
+    clients = client_at;
+    theirs = their_part;
+    all_files = λ g. later_count local k h f own_fds v a g ∙ ap (λ (t : PosixTree). one (is_some (fin.get t.bytes g))) then';
+    files = file_at;
+    pools = s.pools;
+    names = names;
+    has_names = later_names_are local k h f own_fds v a;
+    names_at = names_then;
+    store = s.store;
+    has_store = s.has_store;
+    store_at = s.store_at;
+    no_block = s.no_block;
+  }
+
+-- So in the tree that its caller names.
+pub session_after_in : KeepsTrees → Locality → (k : Start) (h : List Entry) (t : PosixTree) (f : Fresh) (own_fds : OwnFds) (v : View) (ticket : ℕ) → IsAnswer k h t f own_fds v
+    → HasSession k (h ++ entry_of ticket f ∷ []) None (drawn ticket f (leaves_after t (entry_of 0 f) own_fds v) v)
+session_after_in keeps local k h t f own_fds v ticket a =
+    subst (λ (u : PosixTree). HasSession k (h ++ entry_of ticket f ∷ []) None (drawn ticket f (leaves_after u (entry_of 0 f) own_fds v) v)) (sym a.tree_is)
+    (session_after keeps local k h f own_fds v (subst (λ (u : PosixTree). IsAnswer k h u f own_fds v) a.tree_is a) ticket)

@@ -1,0 +1,246 @@
+-- A hand with all parts of a session may draw the entry that answers what is asked.
+use Rattle.std.proofs.Common.{◌≡◌, ℕ, ◌+◌, ◌≤◌, ◌⊎◌, Bool, true, false, cond, eqb, List, [], ◌∷◌, ◌++◌, length, Option, Some, None, is_some, refl, ap, sym, ◌∙◌, subst, inl, inr, ⊎_elim, arith}
+use Rattle.std.specs.Prelude.{slice_get}
+use Rattle.std.specs.FinMap as fin
+use Rattle.ufs_model.specs.History.{goes_on, tree_after}
+use Rattle.ufs_model.specs.Laws.{Locality}
+use Rattle.ufs_model.specs.PosixTree.{PosixTree, IsTree}
+use Rattle.ufs_model.specs.Touched.{touched_parts, IsPartOf}
+use Rattle.ufs_model.specs.declared.data.Entry.{Entry}
+use Rattle.ufs_model.specs.declared.data.Lease.{Lease}
+use Rattle.ufs_model.specs.declared.data.Op.{Op}
+use Rattle.ufs_model.specs.declared.data.Op.TheVariants as op
+use Rattle.ufs_model.specs.declared.data.PartName.{PartName}
+use Rattle.ufs_model.specs.declared.data.PartName.TheVariants as part
+use Rattle.ufs_model.specs.declared.data.Reply.TheVariants as reply
+use Rattle.ufs_prefix.specs.Changes.{change_of, asks_commit, asks_sync, asks_fsync}
+use Rattle.ufs_prefix.proofs.Facts.Sessions.{fsynced_live}
+use Rattle.ufs_sound.specs.Covers.{step_in, SyncsFile, SyncsNames}
+use Rattle.ufs_sound.specs.Draws.{IsIn, IsAbsent, IsUnchanged, IsFileAfter, IsNamesAfter, DrawsOn, MayDraw, Leaves, drawn, entry_of, new_file}
+use Rattle.ufs_sound.specs.LeasesTrue.{IsListedIn}
+use Rattle.ufs_sound.specs.Owned.{one, weigh, Has, count, each, times}
+use Rattle.ufs_sound.specs.Parts.{ClientPart, FilePart, NamesPart, View, OwnFds, Start, HoldsPart, only_one, file_uses, names_uses, dropped_uses, uses, is_holder}
+use Rattle.ufs_sound.specs.declared.fresh.Fresh.{Fresh}
+use Rattle.ufs_sound.proofs.Drawing.{touches_own}
+use Rattle.ufs_sound.proofs.Keys.{itself, alike}
+use Rattle.ufs_sound.proofs.Owning.{weigh_each, has_append, append_has, count_has, has_count, none_some}
+use Rattle.ufs_one_hand.specs.OneHand.{HasSession, KnowsCommits}
+use Rattle.ufs_one_hand.specs.Drawn.{IsAnswer, leaves_after, names_drawn, file_drawn, files_gone}
+use Rattle.ufs_one_hand.proofs.Alike.{AreAlike, session_alike, names_there, names_are, alike_reply, alike_after, alike_file_changes, alike_name_changes}
+use Rattle.ufs_one_hand.proofs.Files.{stays, gone_has, gone_empty, file_after, bytes_after, count_after}
+use Rattle.ufs_one_hand.proofs.Holding.{listed_hold}
+use Rattle.ufs_one_hand.proofs.Touching.{may_touch}
+
+-- what weighs nothing
+pub weigh_none : {A : Type 0} (m : A → ℕ) (xs : List A) → ((x : A) → Has x xs → m x ≡ 0) → weigh m xs ≡ 0
+weigh_none m [] none = refl
+weigh_none m (x ∷ xs) none = let a = none x (inl refl) in let b = weigh_none m xs (λ y h. none y (inr h)) in omega arith
+
+one_most : (b : Bool) → one b ≤ 1
+one_most true = omega arith
+one_most false = omega arith
+
+-- ---- what is acknowledged asks for a commit
+
+file_asks : (t : PosixTree) (client g : ℕ) (o : Op) → SyncsFile t client o g → asks_commit o ≡ true
+file_asks t client g (op.Fsync fd) x = refl
+file_asks t client g op.Sync x = refl
+file_asks t client g _ x = ⊎_elim (λ (e : false ≡ true). cc) (λ (e : (false ≡ true) × (is_some (fin.get t.bytes g) ≡ true)). let f = e.0 in cc) x
+
+birth_asks : (t : PosixTree) (client g : ℕ) (o : Op) → asks_fsync g t client o ≡ true → asks_commit o ≡ true
+birth_asks t client g (op.Fsync fd) x = refl
+birth_asks t client g _ x = cc
+
+names_ask : (t : PosixTree) (client : ℕ) (o : Op) → SyncsNames t client o → asks_commit o ≡ true
+names_ask t client (op.Fsync fd) x = refl
+names_ask t client op.Sync x = refl
+names_ask t client _ x = cc
+
+module _ (local : Locality) (k : Start) (h : List Entry) (f : Fresh) (own_fds : OwnFds) (v : View) (a : IsAnswer k h (tree_after k.tree h) f own_fds v) where
+  abbrev now : PosixTree
+  now = tree_after k.tree h
+
+  abbrev e : Entry
+  e = entry_of 0 f
+
+  abbrev l : Leaves
+  l = leaves_after now e own_fds v
+
+  abbrev s : HasSession k h (Some (f.client, f.op)) v
+  s = a.session
+
+  -- ---- its parts
+
+  pub own_part : (p : ClientPart) × Has (f.client, p) v.clients
+  own_part = let c = s.sixteen f.client a.low in has_count eqb itself alike f.client v.clients (omega arith)
+
+  pub file_there : (g : ℕ) → is_some (fin.get now.bytes g) ≡ true → 1 ≤ count eqb g v.files
+  file_there g there = let c : count eqb g v.files ≡ 1 = s.all_files g ∙ ap one there in omega arith
+
+  -- ---- no block anywhere
+
+  no_file_block : (b : ℕ) (x : ℕ × FilePart) → x.1.blocks ≡ [] → x.1.quarantine ≡ [] → x.1.spare ≡ [] → file_uses b x ≡ 0
+  no_file_block b x blocks quarantine spare = λ i. times b (blocks i) + (times b (quarantine i) + times b (spare i))
+
+  no_old_files : (b : ℕ) → weigh (file_uses b) v.files ≡ 0
+  no_old_files b = weigh_none (file_uses b) v.files (λ x has. let p = s.files x.0 x.1 has in no_file_block b x p.blocks p.quarantine p.spare)
+
+  -- a file that the hand has then has no block
+  pub bare_file : (g : ℕ) (q : FilePart) → Has (g, q) l.files → (q.blocks ≡ []) × (q.quarantine ≡ []) × (q.spare ≡ []) × (q.leases ≡ []) × (q.loaded ≡ [])
+  bare_file g q has = ⊎_elim
+      (λ (x : (p : FilePart) × Has (g, p) v.files × (q ≡ file_drawn now e g p) × (stays now e g ≡ true)).
+      let p = s.files g x.0 x.1 in
+      (ap (λ (y : FilePart). y.blocks) x.2 ∙ p.blocks, ap (λ (y : FilePart). y.quarantine) x.2 ∙ p.quarantine, ap (λ (y : FilePart). y.spare) x.2 ∙ p.spare, ap (λ (y : FilePart). y.leases) x.2 ∙ p.leases, ap (λ (y : FilePart). y.loaded) x.2 ∙ p.loaded))
+      (λ (x : (g ≡ now.next) × (q ≡ new_file) × (stays now e now.next ≡ true)).
+      (ap (λ (y : FilePart). y.blocks) x.1, ap (λ (y : FilePart). y.quarantine) x.1, ap (λ (y : FilePart). y.spare) x.1, ap (λ (y : FilePart). y.leases) x.1, ap (λ (y : FilePart). y.loaded) x.1))
+      (file_after now e v.files g q has)
+
+  no_new_files : (b : ℕ) → weigh (file_uses b) l.files ≡ 0
+  no_new_files b = weigh_none (file_uses b) l.files (λ x has. let p = bare_file x.0 x.1 has in no_file_block b x p.0 p.1 p.2)
+
+  no_names_block : (b : ℕ) (n : NamesPart) → n.blocks ≡ [] → ((g : ℕ) (bs : List ℕ) → Has (g, bs) n.dropped → bs ≡ []) → n.spare ≡ [] → names_uses b (tt, n) ≡ 0
+  no_names_block b n blocks dropped spare =
+      let z = weigh_none (dropped_uses b) n.dropped (λ x has. ap (times b) (dropped x.0 x.1 has)) in
+      (λ i. times b (blocks i) + (z i + times b (spare i)))
+
+  no_old_names : (b : ℕ) → weigh (names_uses b) v.names ≡ 0
+  no_old_names b = let z = no_names_block b s.names s.names_at.blocks s.names_at.dropped s.names_at.spare in ap (weigh (names_uses b)) s.has_names ∙ (omega arith)
+
+  abbrev pub later_names : NamesPart
+  later_names = names_drawn now e v.files s.names
+
+  pub later_names_are : l.names ≡ (tt, later_names) ∷ []
+  later_names_are = ap (each (λ (_ : Unit {0}) p. names_drawn now e v.files p)) s.has_names
+
+  pub dropped_bare : (g : ℕ) (bs : List ℕ) → Has (g, bs) later_names.dropped → bs ≡ []
+  dropped_bare g bs has = ⊎_elim (λ x. s.names_at.dropped g bs x) (λ x. gone_empty now e g bs v.files x) (has_append (g, bs) s.names.dropped (files_gone now e v.files) has)
+
+  no_new_names : (b : ℕ) → weigh (names_uses b) l.names ≡ 0
+  no_new_names b = let z = no_names_block b later_names s.names_at.blocks dropped_bare s.names_at.spare in ap (weigh (names_uses b)) later_names_are ∙ (omega arith)
+
+  same_blocks : (b : ℕ) → uses b (drawn 0 f l v) ≡ uses b v
+  same_blocks b = let x = no_old_files b in let y = no_new_files b in let z = no_old_names b in let w = no_new_names b in omega arith
+
+  -- ---- the files
+
+  pub later_count : (g : ℕ) → count eqb g l.files ≡ one (stays now e g)
+  later_count = count_after now e s.tree a.replied v.files s.all_files
+
+  went : (g : ℕ) (p : FilePart) → Has (g, p) v.files → count eqb g l.files ≡ 0
+      → (n : NamesPart) × Has (tt, n) l.names × (bs : List ℕ) × Has (g, bs) n.dropped × ((b : ℕ) → Has b p.blocks ⊎ Has b p.quarantine → Has b bs)
+  went g p has zero = (
+    later_names,
+    subst (Has {A = Unit {0} × NamesPart} (tt, later_names)) (sym later_names_are) (inl refl),
+    [],
+    append_has (g, []) s.names.dropped (files_gone now e v.files) (inr (gone_has now e g p (gone (stays now e g) (sym (later_count g) ∙ zero)) v.files has)),
+    λ b x. ⊎_elim (λ y. subst (Has b) (s.files g p has).blocks y) (λ y. subst (Has b) (s.files g p has).quarantine y) x,
+  )
+    where
+      gone : (b : Bool) → one b ≡ 0 → b ≡ false
+      gone true z = absurd (omega arith)
+      gone false z = refl
+
+  -- ---- in a tree that has its parts
+
+  module _ (t : PosixTree) (is : IsTree t) (within : IsIn v t) where
+    same : AreAlike f.client now t
+    same = session_alike k h (Some (f.client, f.op)) v f.client a.low s t is within
+
+    same_after : AreAlike f.client (goes_on now e) (goes_on t e)
+    same_after = alike_after local now t e s.tree is same a.replied
+
+    there_in : (g : ℕ) → is_some (fin.get t.bytes g) ≡ true → (p : FilePart) × Has (g, p) v.files
+    there_in g there = has_count eqb itself alike g v.files (file_there g (ap is_some (same.bytes g) ∙ there))
+
+    touched : (p : PartName) → IsPartOf (touched_parts t f.client f.op) p → HoldsPart p v ⊎ (IsAbsent p t ⊎ IsUnchanged p t e)
+    touched (part.Client c) x = inl (subst (λ (n : ℕ). 1 ≤ count eqb n v.clients) (sym (touches_own t f.client f.op c x)) (count_has eqb itself alike f.client own_part.0 v.clients own_part.1))
+    touched (part.Asked c) x = absurd (may_touch t f.client f.op (part.Asked c) x)
+    touched (part.File g) x = by (fin.get t.bytes g) refl
+      where
+        by : (o : Option (List ℕ)) → fin.get t.bytes g ≡ o → HoldsPart (part.File g) v ⊎ (IsAbsent (part.File g) t ⊎ IsUnchanged (part.File g) t e)
+        by None none = inr (inl none)
+        by (Some b) some = inl (file_there g (ap is_some (same.bytes g ∙ some)))
+    touched part.Names x = inl (let c : count only_one tt v.names ≡ 1 = ap (count only_one tt) s.has_names in omega arith)
+    touched part.Store x = absurd (may_touch t f.client f.op part.Store x)
+
+    file_on : (g : ℕ) (q : FilePart) → Has (g, q) l.files → IsFileAfter t e v g q
+    file_on g q has = ⊎_elim
+        (λ (x : (p : FilePart) × Has (g, p) v.files × (q ≡ file_drawn now e g p) × (stays now e g ≡ true)).
+        inl (
+          x.0,
+          x.1,
+          subst (λ (y : FilePart). y ≡ record (x.0) { bytes = y.bytes; changes = x.0.changes ++ change_of g (step_in t e); blocks = y.blocks; quarantine = y.quarantine; spare = y.spare; loaded = y.loaded }) (sym x.2)
+              (λ i. record (file_drawn now e g x.0) { changes = x.0.changes ++ alike_file_changes local now t e s.tree is same a.replied g i }),
+        ))
+        (λ (x : (g ≡ now.next) × (q ≡ new_file) × (stays now e now.next ≡ true)). inr (x.0 ∙ same.next, x.1))
+        (file_after now e v.files g q has)
+
+    names_on : (q : NamesPart) (u : Unit {0}) → Has (u, q) l.names → q ≡ later_names
+    names_on q u has = ⊎_elim (λ (x : (u, q) ≡ (tt, later_names)). ap (λ (z : Unit {0} × NamesPart). z.1) x) (λ x. absurd x) (subst (Has {A = Unit {0} × NamesPart} (u, q)) later_names_are has)
+
+    commits : f.reply ≡ reply.Done → asks_commit f.op ≡ true → KnowsCommits v
+    commits = a.known
+
+    pub draws_on : DrawsOn f own_part.0 v l t
+    draws_on = record {
+      replied = alike_reply local now t e s.tree is same a.replied;
+      touched = λ _ p x. touched p x;
+      fds = λ fd. a.fds fd ∙ same_after.fds fd;
+      bytes = λ g q has. sym (same_after.bytes g) ∙ bytes_after now e s.tree a.replied v.files g q has;
+      files = file_on;
+      paths = λ u q has. ap (λ (n : NamesPart). n.paths) (names_on q u has) ∙ same_after.paths;
+      next = λ u q has. ap (λ (n : NamesPart). n.next) (names_on q u has) ∙ same_after.next;
+      holds = λ u q has c g. ap (λ (n : NamesPart). is_holder n.holds c g) (names_on q u has) ∙ listed_hold (goes_on now e).fds c g ∙ same_after.holds c g;
+      names = λ u q has. subst (λ (y : NamesPart). IsNamesAfter t e v u y) (sym (names_on q u has)) (
+        s.names,
+        names_there k h (Some (f.client, f.op)) v s,
+        (λ i. record later_names { changes = s.names.changes ++ alike_name_changes local now t e s.tree is same a.replied i }),
+        (λ g bs x. append_has (g, bs) s.names.dropped (files_gone now e v.files) (inl x)),
+        (λ b x. x),
+      );
+      own = λ g _. later_count g ∙ ap (λ o. one (is_some o)) (same_after.bytes g);
+      other = λ g none there. let c = file_there g (ap is_some (same.bytes g) ∙ there) in absurd (omega arith);
+      single = λ g. let c = later_count g in let m = one_most (stays now e g) in omega arith;
+      leases = λ x listed. absurd (unlisted x x.part listed);
+      own_leases = λ x has. absurd (subst (Has x) (s.clients f.client own_part.0 own_part.1).copies has);
+      synced = λ done g asks.
+          let there = there_in g (⊎_elim (λ x. fsynced_live t is f.client f.op g x) (λ (x : (asks_sync f.op ≡ true) × (is_some (fin.get t.bytes g) ≡ true)). x.1) asks) in
+          (there.0, there.1, (commits done (file_asks t f.client g f.op asks)).files g there.0 there.1);
+      synced_names = λ done asks. (s.names, names_there k h (Some (f.client, f.op)) v s, (commits done (names_ask t f.client f.op asks)).names s.names (names_there k h (Some (f.client, f.op)) v s));
+      synced_birth = λ done g asks. let there = there_in g (fsynced_live t is f.client f.op g asks) in (there.0, there.1, (commits done (birth_asks t f.client g f.op asks)).born g there.0 there.1);
+    }
+      where
+        unlisted : (x : Lease) (p : PartName) → IsListedIn v x p → ⊥
+        unlisted x (part.Client c) y = y
+        unlisted x (part.Asked c) y = y
+        unlisted x (part.File g) y = subst (Has x) (s.files g y.0 y.1).leases y.2
+        unlisted x part.Names y = subst (Has x) (ap (λ (n : NamesPart). n.leases) (names_are k h (Some (f.client, f.op)) v s tt y.0 y.1) ∙ s.names_at.leases) y.2
+        unlisted x part.Store y = y
+
+  -- ---- the whole
+
+  pub may_draw : MayDraw f v l []
+  may_draw = record {
+    self = own_part.0;
+    client = own_part.1;
+    low = a.low;
+    seq = a.seq ∙ ap length (sym (s.clients f.client own_part.0 own_part.1).entries);
+    asked = (s.clients f.client own_part.0 own_part.1).asked ∙ ap (λ b. cond b (Some f.op) None) (itself f.client);
+    on = λ t is within _. draws_on t is within;
+    copies = λ x none. absurd none;
+    names = λ u. weigh_each (λ (_ : Unit {0}) p. names_drawn now e v.files p) (λ n. one (only_one u n)) v.names;
+    others = λ n ne. a.fds n ∙ a.others n ne ∙ sym ((s.clients f.client own_part.0 own_part.1).fds n);
+    blocks = same_blocks;
+    dropped = went;
+    kept = λ g p q has _ b x. absurd (⊎_elim (λ y. subst (Has b) (s.files g p has).blocks y) (λ y. subst (Has b) (s.files g p has).quarantine y) x);
+    loaded = λ g p q _ has place b at _. absurd (none_some b (ap (λ (bs : List ℕ). slice_get bs place) (sym (bare_file g q has).0) ∙ at));
+    device = a.causes.device;
+    stopped = a.causes.stopped;
+    short = a.causes.short;
+  }
+
+-- So in the tree that its caller names.
+pub may_draw_in : Locality → (k : Start) (h : List Entry) (t : PosixTree) (f : Fresh) (own_fds : OwnFds) (v : View) → IsAnswer k h t f own_fds v → MayDraw f v (leaves_after t (entry_of 0 f) own_fds v) []
+may_draw_in local k h t f own_fds v a =
+    subst (λ (u : PosixTree). MayDraw f v (leaves_after u (entry_of 0 f) own_fds v) []) (sym a.tree_is)
+    (may_draw local k h f own_fds v (subst (λ (u : PosixTree). IsAnswer k h u f own_fds v) a.tree_is a))

@@ -1,0 +1,13 @@
+pub mod Alike
+pub mod Asking
+pub mod Beginning
+pub mod Closing
+pub mod Counting
+pub mod Drawn
+pub mod Draws
+pub mod Files
+pub mod Holding
+pub mod Keeping
+pub mod Passage
+pub mod Tickets
+pub mod Touching

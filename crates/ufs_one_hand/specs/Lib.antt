@@ -1,0 +1,2 @@
+pub mod OneHand
+pub mod Drawn

@@ -1,0 +1,167 @@
+// The hand with all parts of a session.
+ghost use Rattle.std.specs.Prelude.{ℕ, ◌≡◌, ◌≤◌, ◌<◌, ◌++◌, ◌∷◌, [], List, None, Option, Some, length};
+ghost use Rattle.ufs_model.specs.History.{entries_of};
+ghost use Rattle.ufs_model.specs.declared.data.Entry.{Entry};
+ghost use Rattle.ufs_model.specs.declared.data.Op.{Op};
+ghost use Rattle.ufs_sound.specs.Draws.{entry_of};
+ghost use Rattle.ufs_sound.specs.Owned.{times};
+ghost use Rattle.ufs_one_hand.specs.Drawn.{IsAnswer, asked_view, AreBirthsTold, AreBorn, births_kept, files_kept, names_kept};
+ghost use Rattle.ufs_one_hand.specs.OneHand.{HasSession, IsStart, KnowsCommits, StartsCanBegin, state_in};
+
+use crate::picks::{Answering, Passing};
+use std::marker::{Brand, Model};
+use ufs_hand::{Begun, Event, Hand, HandTable, Naming, Opened, Whole};
+use ufs_model::{
+    Op, a_request_is_local, a_request_keeps_the_tree, a_request_makes_one_file_at_most,
+};
+use ufs_sound::{Fresh, a_disk_with_files_can_be_opened};
+
+/// The right to every part of a session, and the table that gives its tickets. Contracts see which parts, with what
+/// stands in them.
+pub struct OneHand<N: Naming> {
+    table: HandTable<N>,
+    hand: Hand<N>,
+}
+
+impl<N: Naming> Model for OneHand<N> {
+    ghost use Rattle.ufs_sound.specs.Codes.{view_code};
+    ghost use Rattle.ufs_sound.specs.Parts.{View};
+
+    ghost Value = { View };
+
+    ghost coded = { view_code };
+
+    ghost view = { λ o. o.hand };
+}
+
+/// A session may be opened with such a start.
+pub fn starts_can_begin()
+    ensures { StartsCanBegin }
+{
+    a_disk_with_files_can_be_opened();
+}
+
+/// A session that was opened ends at once.
+pub fn abandon(opened: Opened)
+    requires { IsStart opened.start }
+{
+    abandon_as::<Brand>(opened);
+}
+
+fn abandon_as<N: Naming>(opened: Opened)
+    requires name { (opened.table ≡ N.table) × (opened.start ≡ N.start) }
+    requires start { IsStart N.start }
+{
+    OneHand::<N>::begin(opened).close();
+}
+
+impl<N: Naming> OneHand<N> {
+    /// The first hand of a session that was opened.
+    pub fn begin(opened: Opened) -> OneHand<N>
+        requires name { (opened.table ≡ N.table) × (opened.start ≡ N.start) }
+        requires start { IsStart N.start }
+        ensures session { HasSession N.start [] None result }
+        ensures stop { result.stop ≡ None }
+    {
+        a_disk_with_files_can_be_opened();
+        let Begun { table, hand } = opened.named::<N>();
+        OneHand { table, hand }
+    }
+
+    /// A client asks a request.
+    pub fn ask(&mut self, client: u8, op: &Op)
+        requires client { client < 16 }
+        requires idle { (history : List Entry) × HasSession N.start history None self.old × (length (entries_of client history) < 65536) }
+        ensures session { (history : List Entry) → HasSession N.start history None self.old → HasSession N.start history (Some (client, op.now)) self.new }
+        ensures stop { self.new.stop ≡ self.old.stop }
+        ensures state { state_in self.new ≡ state_in self.old }
+    {
+        self.ask_as::<Brand>(client, op);
+    }
+
+    fn ask_as<E: Event>(&mut self, client: u8, op: &Op)
+        requires client { client < 16 }
+        requires leaves { E.leaves ≡ asked_view client op.now self.old }
+        requires idle { (history : List Entry) × HasSession N.start history None self.old × (length (entries_of client history) < 65536) }
+        ensures session { (history : List Entry) → HasSession N.start history None self.old → HasSession N.start history (Some (client, op.now)) self.new }
+        ensures stop { self.new.stop ≡ self.old.stop }
+        ensures state { state_in self.new ≡ state_in self.old }
+    {
+        self.hand.mark::<E>(&self.table);
+    }
+
+    /// The disk was called for a request: it is in the state that the caller picks, and a call that failed has stopped the
+    /// store.
+    pub fn pass<P: Passing>(&mut self)
+        requires session { (history : List Entry) × (asked : Option (ℕ × Op)) × HasSession N.start history asked self.old }
+        requires stop { (n : ℕ) → self.old.stop ≡ Some n → P.stop ≡ Some n }
+        ensures session { (history : List Entry) (asked : Option (ℕ × Op)) → HasSession N.start history asked self.old → HasSession N.start history asked self.new }
+        ensures stop { self.new.stop ≡ P.stop }
+        ensures state { state_in self.new ≡ P.state }
+        ensures fault { (n : ℕ) → self.old.stop ≡ None → P.stop ≡ Some n → 1 ≤ times n self.new.faults }
+        ensures shortages { self.new.shortages ≡ P.shortages ++ self.old.shortages }
+    {
+        self.hand.mark::<Brand>(&self.table);
+    }
+
+    /// Everything is committed: the hand knows so.
+    pub fn keep(&mut self)
+        requires session { (history : List Entry) × (asked : Option (ℕ × Op)) × HasSession N.start history asked self.old }
+        ensures session { (history : List Entry) (asked : Option (ℕ × Op)) → HasSession N.start history asked self.old → HasSession N.start history asked self.new }
+        ensures known { KnowsCommits self.new }
+        ensures stop { self.new.stop ≡ self.old.stop }
+        ensures state { state_in self.new ≡ state_in self.old }
+        ensures faults { self.new.faults ≡ self.old.faults }
+        ensures shortages { self.new.shortages ≡ self.old.shortages }
+    {
+        self.keep_names();
+        self.keep_births();
+        self.keep_files();
+    }
+
+    fn keep_names(&mut self)
+        requires session { (history : List Entry) × (asked : Option (ℕ × Op)) × HasSession N.start history asked self.old }
+        ensures kept { (tickets : ℕ) × (self.new ≡ names_kept self.old tickets) }
+    {
+        self.hand.mark::<Brand>(&self.table);
+    }
+
+    fn keep_births(&mut self)
+        requires session { (history : List Entry) × (asked : Option (ℕ × Op)) × HasSession N.start history asked self.old }
+        requires told { AreBirthsTold self.old }
+        ensures kept { (tickets : ℕ) × (self.new ≡ births_kept self.old tickets) }
+    {
+        self.hand.mark::<Brand>(&self.table);
+    }
+
+    fn keep_files(&mut self)
+        requires session { (history : List Entry) × (asked : Option (ℕ × Op)) × HasSession N.start history asked self.old }
+        requires born { AreBorn self.old }
+        ensures kept { (tickets : ℕ) × (self.new ≡ files_kept self.old tickets) }
+    {
+        self.hand.mark::<Brand>(&self.table);
+    }
+
+    /// The next ticket, for the entry that answers what is asked: the number of entries before it.
+    pub fn draw<A: Answering>(&mut self, fresh: &Fresh) -> u64
+        requires answer { (history : List Entry) × IsAnswer N.start history A.before fresh.now A.fds self.old }
+        ensures ticket { (history : List Entry) → HasSession N.start history (Some (fresh.now.client, fresh.now.op)) self.old → result ≡ length history }
+        ensures session { (history : List Entry) → IsAnswer N.start history A.before fresh.now A.fds self.old → HasSession N.start (history ++ entry_of result fresh.now ∷ []) None self.new }
+        ensures stop { self.new.stop ≡ self.old.stop }
+        ensures state { state_in self.new ≡ state_in self.old }
+    {
+        a_request_is_local();
+        a_request_keeps_the_tree();
+        a_request_makes_one_file_at_most();
+        self.hand.draw::<Brand>(&self.table, fresh)
+    }
+
+    /// The end of the session. Answers how many entries were drawn, and where the clock stood.
+    pub fn close(self) -> Whole
+        requires session { (history : List Entry) × HasSession N.start history None self }
+        ensures tickets { (history : List Entry) → HasSession N.start history None self → result.tickets ≡ length history }
+    {
+        let OneHand { table, hand } = self;
+        hand.close(table)
+    }
+}

@@ -1,0 +1,46 @@
+// What the caller of a step picks, for contracts alone.
+use std::marker::Brand;
+
+/// What the disk came to in a request: its caller picks it.
+pub trait Passing {
+    ghost use Rattle.std.specs.Prelude.{ℕ, List, Option};
+    ghost use Rattle.ufs_sound.specs.Parts.{Cells, Shortage};
+
+    /// The fault at which the store has stopped.
+    ghost stop: { Option ℕ };
+
+    /// The state that the disk is in.
+    ghost state: { Cells };
+
+    /// The blocks that were short.
+    ghost shortages: { List Shortage };
+}
+
+impl Passing for Brand {
+    ghost use Rattle.std.specs.Prelude.{None, []};
+
+    ghost stop = { None };
+
+    ghost state = { [] };
+
+    ghost shortages = { [] };
+}
+
+/// In which tree a request is answered, and which descriptors its client has then: its caller picks it.
+pub trait Answering {
+    ghost use Rattle.ufs_model.specs.PosixTree.{PosixTree};
+    ghost use Rattle.ufs_sound.specs.Parts.{OwnFds};
+
+    ghost before: { PosixTree };
+
+    ghost fds: { OwnFds };
+}
+
+impl Answering for Brand {
+    ghost use Rattle.std.specs.FinMap as map;
+    ghost use Rattle.ufs_model.specs.PosixTree.{root_alone};
+
+    ghost before = { root_alone };
+
+    ghost fds = { map.empty };
+}
