@@ -1,6 +1,6 @@
 -- What a server begins with on a disk, of what was loaded.
 use Rattle.std.proofs.Common.{◌≡◌, ℕ, ◌<◌, ◌≤◌, length, arith, ◌&&◌, not, List, Bool, true, false, Option, Some, None, slice_index_or, refl, sym, ◌∙◌, subst}
-use Rattle.std.specs.Prelude.{Ok}
+use Rattle.std.specs.Prelude.{◌^◌, Ok}
 use Rattle.std.proofs.lemmas.Bool.{and_parts, ltb-true}
 use Rattle.ufs_base.specs.Images as images
 use Rattle.ufs_catalog.specs.Faults.{HasFaultCause, IsOutside}
@@ -16,6 +16,7 @@ use Rattle.ufs_image.proofs.Found.{reached}
 use Rattle.ufs_layout.specs.Areas.{IsGeometry, is_data_sector, sector_count}
 use Rattle.ufs_layout.specs.declared.geometry.Geometry.{Geometry}
 use Rattle.ufs_layout.specs.declared.superblock.Super.{Super}
+use Rattle.ufs_model.specs.PosixTree.{PosixTree}
 use Rattle.ufs_name_tree.specs.NameTable.{file_at}
 use Rattle.ufs_names.specs.NamesPart.{NamesPart}
 use Rattle.ufs_opening.specs.Told.{TellsWhy}
@@ -48,6 +49,10 @@ number_there g f sectors disk superblock image n numbers geometry l s are inode 
     let at = s.names.numbers.only inode file e in
     let sound = l.standing.sound in
     ((reached g (catalog_at g image) sound 1 at.names inode (root_in_range g (catalog_at g image) sound (has_root g geometry)) at.met).0.from_one, are.each inode file at)
+
+-- the session's files are as many
+pub few_files : (n : NamesPart) (t : PosixTree) → n.next ≡ t.next → n.next ≤ 2 ^ 30 → t.next ≤ 1073741824
+few_files n t same few = omega (arith, same, few)
 
 -- ---- a copy
 

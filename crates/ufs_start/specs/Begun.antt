@@ -1,5 +1,5 @@
 -- What a server begins with on a disk.
-use Rattle.std.specs.Prelude.{ℕ, ◌≡◌, ◌≤◌, ◌^◌, length, true, Ok, Some, IsSome}
+use Rattle.std.specs.Prelude.{ℕ, ◌≡◌, ◌≤◌, ◌^◌, length, true, Result, Ok, Err, Some, IsSome}
 use Rattle.std.specs.FinMap as map
 use Rattle.std.specs.FinSet as set
 use Rattle.ufs_base.specs.Images.{Image}
@@ -9,10 +9,11 @@ use Rattle.ufs_files.specs.Files.{AreFilesOf}
 use Rattle.ufs_image.specs.Catalog.{Catalog, IsInode, catalog_at}
 use Rattle.ufs_image.specs.Fold.{folded}
 use Rattle.ufs_image.specs.Journal.{committed}
-use Rattle.ufs_image.specs.Opens.{ImageTree, opens}
+use Rattle.ufs_image.specs.Opens.{ImageTree, opens, root_tree}
 use Rattle.ufs_image.specs.Standing.{IsVolumeOf}
-use Rattle.ufs_image.specs.Volume.{Volume}
+use Rattle.ufs_image.specs.Volume.{Refusal, Volume}
 use Rattle.ufs_layout.specs.Areas.{first_of_data, is_data_sector}
+use Rattle.ufs_ledger.specs.Kept.{paths_of}
 use Rattle.ufs_load_image.specs.Loaded.{is_free_block}
 use Rattle.ufs_name_tree.specs.NameTable.{file_at}
 use Rattle.ufs_names.specs.Calls.{HaveInodes}
@@ -21,6 +22,8 @@ use Rattle.ufs_names.specs.Space.{AreApart}
 use Rattle.ufs_names_image.specs.Loaded.{AreRead}
 use Rattle.ufs_names_image.specs.Parts.{IsNamesOf}
 use Rattle.ufs_names_image.specs.Starts.{image_start}
+use Rattle.ufs_one_hand.specs.OneHand.{IsStart, start_with}
+use Rattle.ufs_sound.specs.Parts as sound
 use Rattle.ufs_start.specs.Files.{AreLaid, AreLoaded}
 use Rattle.ufs_start.specs.Starts.{tree_in}
 use Rattle.ufs_start.specs.declared.parts.Start.{Start}
@@ -37,6 +40,15 @@ catalog_under h disk = catalog_at h.geometry (image_under h disk)
 
 abbrev pub tree_under : ImageSuperblock → Image → ImageTree
 tree_under h disk = tree_in h.geometry (image_under h disk)
+
+-- the tree that an image opens to, or the root alone where it opens to none
+abbrev pub tree_or : Result ImageTree Refusal → ImageTree
+tree_or (Ok tree) = tree
+tree_or (Err refusal) = root_tree
+
+-- what a session over the image starts from
+abbrev pub session_start : ℕ → Image → sound.Start
+session_start sectors image = start_with (paths_of (tree_or (opens sectors image)))
 
 -- A server begins so on a disk of so many sectors.
 pub record IsBegun (sectors : ℕ) (disk : Image) (s : Start) : Type 0 where
@@ -60,3 +72,6 @@ pub record IsBegun (sectors : ℕ) (disk : Image) (s : Start) : Type 0 where
   pub blocks : s.free.blocks ≡ s.superblock.geometry.blocks
   pub free : (block : ℕ) → set.contains s.free.free block ≡ is_free_block s.superblock.geometry (image_under s.superblock disk) block
   pub apart : AreApart s.names.tree.dirs s.files s.free.free
+  -- the session starts from the tree of the image
+  pub session : s.parts.start ≡ start_with (paths_of (tree_under s.superblock disk))
+  pub can : IsStart s.parts.start

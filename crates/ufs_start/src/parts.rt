@@ -1,6 +1,7 @@
 use ufs_bitmap::Bitmap;
 use ufs_catalog::ImageSuperblock;
 use ufs_files::FileHands;
+use ufs_hand::Parts;
 use ufs_names::Names;
 
 /// What a server begins with: the superblock, the namespace, the files with their bytes, and the free blocks of the
@@ -11,4 +12,6 @@ pub struct Start {
     pub names: Names,
     pub files: FileHands,
     pub free: Bitmap,
+    /// From which the session's first hand begins.
+    pub parts: Parts,
 }

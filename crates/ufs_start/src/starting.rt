@@ -21,7 +21,7 @@ ghost use Rattle.ufs_names_image.specs.Parts.{IsNamesOf};
 ghost use Rattle.ufs_names_image.specs.Starts.{image_start};
 ghost use Rattle.ufs_overlay.specs.Seen.{HasAdded};
 ghost use Rattle.ufs_volume.specs.Volumes.{committed_in};
-ghost use Rattle.ufs_start.specs.Begun.{IsBegun, catalog_under, image_under, tree_under, volume_under};
+ghost use Rattle.ufs_start.specs.Begun.{IsBegun, catalog_under, image_under, session_start, tree_under, volume_under};
 ghost use Rattle.ufs_start.specs.Files.{AreLaid, AreLoaded};
 ghost use Rattle.ufs_start.specs.Refused.{HasStartCause, IsRefusedFile, TellsNoStart};
 ghost use Rattle.ufs_start.specs.Starts.{AreStartNames, IsLoaded};
@@ -34,13 +34,15 @@ use crate::names::names_in;
 use crate::numbers::numbers_of;
 use crate::parts::Start;
 use std::alloc::Global;
+use std::marker::Brand;
 use ufs_damage::Findings;
 use ufs_disk::{Disk, PlainDisk};
 use ufs_files::FileHands;
+use ufs_hand::{Opening, Parts};
 use ufs_image::damage_law;
 use ufs_load_image::load;
 use ufs_names::Names;
-use ufs_names_image::files_part_law;
+use ufs_names_image::{files_part_law, image_start_law};
 use ufs_volume::FoldedVolume;
 
 // The files of a volume in memory, by the numbers that its names tell.
@@ -68,6 +70,15 @@ fn files_in(
     files_of(alloc, copy, &volume.overlay, findings, &numbers.files)
 }
 
+// What a session over the disk starts from, for contracts alone.
+fn session_parts<P: Opening>(copy: &PlainDisk) -> Parts
+    requires { P.opened ≡ session_start copy.now.sectors (image_of copy.now.bytes.items) }
+    ensures { result.start ≡ session_start copy.now.sectors (image_of copy.now.bytes.items) }
+{
+    let _copy = copy;
+    Parts::picked::<P>()
+}
+
 // What a server begins with, made of a disk in memory.
 fn start_in(alloc: Global, copy: &mut PlainDisk) -> Result<Start, StartFault>
     ensures begun { IfOk result (IsBegun copy.old.sectors (image_of copy.old.bytes.items)) }
@@ -76,6 +87,8 @@ fn start_in(alloc: Global, copy: &mut PlainDisk) -> Result<Start, StartFault>
 {
     start_files_law();
     files_part_law(copy.sectors as usize);
+    image_start_law(copy.sectors as usize);
+    let parts = session_parts::<Brand>(copy);
     let loaded = load(alloc, copy)?;
     let volume = &loaded.volume;
     damage_law(&volume.superblock.geometry);
@@ -86,6 +99,7 @@ fn start_in(alloc: Global, copy: &mut PlainDisk) -> Result<Start, StartFault>
         names,
         files,
         free: loaded.free,
+        parts,
     })
 }
 

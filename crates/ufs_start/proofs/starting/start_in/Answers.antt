@@ -1,4 +1,5 @@
-use Rattle.std.proofs.Common.{ℕ, refl, sym, subst, arith}
+use Rattle.std.proofs.Common.{◌≡◌, ℕ, ap, refl, sym, ◌∙◌, subst, arith}
+use Rattle.std.specs.Prelude.{Result}
 use Rattle.std.specs.FinSet as set
 use Rattle.std.proofs.lemmas.Result.{err_from_is_err_and}
 use Rattle.ufs_base.specs.Images.{Image}
@@ -7,15 +8,20 @@ use Rattle.ufs_disk.specs.Bytes.{image_of}
 use Rattle.ufs_disk.specs.Whole.{sector_within}
 use Rattle.ufs_image.specs.Images.{form_at}
 use Rattle.ufs_image.specs.Nodes.{is_taken, sound_nodes}
+use Rattle.ufs_image.specs.Opens.{ImageTree}
+use Rattle.ufs_image.specs.Volume.{Refusal}
 use Rattle.ufs_layout.specs.Areas.{first_of_data}
+use Rattle.ufs_ledger.specs.Kept.{paths_of}
+use Rattle.ufs_one_hand.specs.OneHand.{start_with}
 use Rattle.ufs_overlay.specs.Seen.{HasAdded}
 use Rattle.ufs_volume.specs.Volumes.{committed_in}
 use Rattle.ufs_names_image.specs.Loaded.{AreRead, IsUntaken}
-use Rattle.ufs_start.specs.Begun.{catalog_under, image_under, volume_under}
+use Rattle.ufs_names_image.specs.Starts.{image_start}
+use Rattle.ufs_start.specs.Begun.{catalog_under, image_under, tree_or, tree_under, volume_under}
 use Rattle.ufs_start.specs.Files.{AreLaid, AreLoaded}
 use Rattle.ufs_start.specs.Refused.{IsRefusedFile}
 use Rattle.ufs_start.specs.Starts.{AreStartNames, IsLoaded, IsUndamaged}
-use Rattle.ufs_start.proofs.Beginning.{calm_names, is_loaded, refused_file, refused_names, sized_there, untaken}
+use Rattle.ufs_start.proofs.Beginning.{calm_names, few_files, is_loaded, refused_file, refused_names, sized_there, untaken}
 use Rattle.ufs_start.proofs.starting.start_in.Goals as goal
 
 pub names_in-requires-clause-loaded : goal.names_in-requires-clause-loaded
@@ -68,6 +74,7 @@ returns-clause-begun c =
     let free : IsUntaken h.geometry (catalog_under h disk) l.free.free =
     c.files_part_law.ensures.free disk (volume_under h disk) (catalog_under h disk) l.free.free loaded.standing
     (λ b is. untaken (is_between (first_of_data h.geometry) h.geometry.blocks b) (is_taken h.geometry (sound_nodes h.geometry image) b) (set.contains l.free.free b) (e.free refl b) is) in
+    let session : c.session_parts-parts.result.start ≡ start_with (paths_of (tree_under h disk)) = c.session_parts-parts.ensures ∙ ap (λ (r : Result ImageTree Refusal). start_with (paths_of (tree_or r))) start.opened in
     record {
       standing = loaded.standing;
       sized = λ sector within. sized_there v sectors disk (e.taken refl) e.large
@@ -88,6 +95,8 @@ returns-clause-begun c =
       blocks = e.blocks;
       free = e.free refl;
       apart = c.start_files_law.ensures.apart h.geometry l.findings sectors disk h.superblock image n files l.free.free loaded start read free;
+      session = session;
+      can = record { nodes = paths_of (tree_under h disk); paths = c.image_start_law.ensures.paths disk (tree_under h disk) start.opened; few = few_files n (image_start (tree_under h disk)) start.names.next c.in_ok-names.ensures.few; is = session };
     }
 
 pub returns-in_err-files-clause-refused : goal.returns-in_err-files-clause-refused
