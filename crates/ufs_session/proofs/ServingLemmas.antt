@@ -6,7 +6,7 @@ use Rattle.std.specs.FinMap.{get-empty}
 use Rattle.std.specs.Ordering.{nat_cmp}
 use Rattle.std.proofs.lemmas.List.{length-append, append-nil, append_assoc}
 use Rattle.ufs_model.specs.Asks.{IsAsk, IsDescAfter, desc_of_fd, fd_named, fd_asked, fd_told, is_last}
-use Rattle.ufs_model.specs.History.{IsLegalFrom, IsLegalEntry, IsExcused, IsInOrder, IsNext, is_excused, tree_after, tree_with, entries_of, requests_of}
+use Rattle.ufs_model.specs.History.{IsLegalFrom, IsLegalEntry, IsExcused, IsInOrder, IsNext, goes_on, is_excused, tree_after, tree_with, entries_of, requests_of}
 use Rattle.ufs_model.specs.Excuses.{ExcuseFits}
 use Rattle.ufs_model.specs.Posix.{posix}
 use Rattle.ufs_model.specs.PosixTree.{PosixTree, Fds}
@@ -29,6 +29,7 @@ use Rattle.ufs_client.proofs.Replies.{by_reply, excused_named, the_excuse}
 use Rattle.ufs_server.specs.Answered.{IsAnswered}
 use Rattle.ufs_stored.specs.Parts.{Parts}
 use Rattle.ufs_stored.specs.Stored.{ArePartsOf}
+use Rattle.ufs_session.specs.Drawing.{IsServedIn}
 use Rattle.ufs_session.specs.Serving.{IsReached, IsReady, GoesOn, IsDone}
 
 -- ---- one entry more
@@ -116,7 +117,7 @@ module _ (start : PosixTree) (client : ℕ) (requests : List Op) (before : List 
     longer entry = length-append told (entry ∷ []) ∙ ap (λ (n : ℕ). n + 1) is.long
 
     -- a request is left, so not all of them are told
-    few_so_far : length told + 1 ≤ 65536
+    pub few_so_far : length told + 1 ≤ 65536
     few_so_far =
         let count = ap (λ (l : List Op). length l) (sym is.whole) ∙ length-append done (request ∷ rest) in
         omega (arith, count, is.counted, is.long, is.short)
@@ -152,6 +153,23 @@ module _ (start : PosixTree) (client : ℕ) (requests : List Op) (before : List 
 
       legal_now : IsLegalEntry (length now) tree entry → IsLegalFrom 0 start (now ++ entry ∷ [])
       legal_now fits = legal_from_push 0 start now entry is.reached.entries (subst (λ (n : ℕ). IsLegalEntry n tree entry) (omega arith) fits)
+
+      -- whatever the reply: its entry may be drawn
+      module _ (after : PosixTree) (fits : IsLegalEntry (length now) tree entry) (goes : goes_on tree entry ≡ after)
+          (fds_after : IsDescAfter tree.fds after.fds ask.client (fd_told ask.op entry.reply) desc) (ranged : AreRanged after.fds ask.client) where
+        served_here : entry.client < 16 → IsServedIn tree now entry new_table
+        served_here low = record {
+          low = low;
+          ticket = fits.numbered;
+          seq = of.seq ∙ seq_is ∙ sym is.long ∙ ap (λ (l : List Entry). length l) (sym is.goes.own) ∙ ap (λ (c : ℕ). length (entries_of c now)) (sym (of.client ∙ client_is));
+          replied = fits.replied;
+          fds_are = subst (λ (u : PosixTree). AreOf u.fds entry.client new_table) (sym goes) (subst (λ (c : ℕ). AreOf after.fds c new_table) (sym of.client)
+              (kept tree.fds after.fds ask.client (subst (λ (c : ℕ). AreOf tree.fds c table) (sym client_is) is.table_is)
+              (subst (λ (o : Op). IsDescAfter tree.fds after.fds ask.client (fd_told o entry.reply) desc) (sym of.asked) fds_after) range_is ranged));
+          others = λ fd apart. (λ i. map.get (goes i).fds (of.client i, fd))
+              ∙ fds_after.others ask.client fd (inr (λ e. apart (ap (λ (o : Op). fd_told o entry.reply) of.asked ∙ e)))
+              ∙ (λ i. map.get tree.fds (sym of.client i, fd));
+        }
 
       -- whatever the reply: the parts are those of the tree that follows
       module _ (after : PosixTree) (fits : IsLegalEntry (length now) tree entry) (goes_to : tree_after start (before ++ (told ++ entry ∷ [])) ≡ after) (reached : ArePartsOf new after)
@@ -189,13 +207,18 @@ module _ (start : PosixTree) (client : ℕ) (requests : List Op) (before : List 
         fits_plain : IsLegalEntry (length now) tree entry
         fits_plain = record { numbered = numbered; replied = inl (served.replied ∙ (λ i. (posix tree (sym of.client i) (sym of.asked i)).1)) }
 
+        goes_plain : tree_with tree entry.client entry.op entry.reply ≡ (posix tree ask.client ask.op).0
+        goes_plain = by_reply tree entry.client entry.op entry.reply plain ∙ (λ i. (posix tree (of.client i) (of.asked i)).0)
+
+        ranged_plain : AreRanged (posix tree ask.client ask.op).0.fds ask.client
+        ranged_plain = ranged_after tree ask.client ask.op desc
+            (subst (λ (r : Reply). IsDescAfter tree.fds (posix tree ask.client ask.op).0.fds ask.client (fd_told ask.op r) desc) served.replied served.told) range_is
+
+        served_plain : entry.client < 16 → IsServedIn tree now entry new_table
+        served_plain low = served_here (posix tree ask.client ask.op).0 fits_plain goes_plain served.told ranged_plain low
+
         pub one_more : (posix tree ask.client ask.op).0.next ≤ tree.next + 1 → IsServing start client requests before new new_table (told ++ entry ∷ []) (seq + 1) (done ++ request ∷ []) rest
-        one_more one_file = step_more (posix tree ask.client ask.op).0 fits_plain
-            (tree_more ∙ by_reply tree entry.client entry.op entry.reply plain ∙ (λ i. (posix tree (of.client i) (of.asked i)).0))
-            served.goes_on served.told
-            (ranged_after tree ask.client ask.op desc
-            (subst (λ (r : Reply). IsDescAfter tree.fds (posix tree ask.client ask.op).0.fds ask.client (fd_told ask.op r) desc) served.replied served.told) range_is)
-            one_file
+        one_more one_file = step_more (posix tree ask.client ask.op).0 fits_plain (tree_more ∙ goes_plain) served.goes_on served.told ranged_plain one_file
 
       -- an excuse, which leaves the tree
       module _ (x : Excuse) (excused : entry.reply ≡ reply.Excused x) (fits : ExcuseFits tree ask.client ask.op x) where
@@ -206,15 +229,17 @@ module _ (start : PosixTree) (client : ℕ) (requests : List Op) (before : List 
               (subst (λ (o : Op). ExcuseFits tree entry.client o x) (sym of.asked) (subst (λ (c : ℕ). ExcuseFits tree c ask.op x) (sym of.client) fits)));
         }
 
+        told_excused : desc ≡ ask.desc → IsDescAfter tree.fds tree.fds ask.client (fd_told ask.op entry.reply) desc
+        told_excused desc_is = record {
+          this = desc_is ∙ asked.desc ∙ ap (desc_of_fd tree.fds ask.client) (sym (excused_named ask.op x) ∙ ap (fd_told ask.op) (sym excused));
+          others = λ c n apart. refl;
+        }
+
+        served_excused : desc ≡ ask.desc → entry.client < 16 → IsServedIn tree now entry new_table
+        served_excused desc_is low = served_here tree fits_excused (ap (tree_with tree entry.client entry.op) excused) (told_excused desc_is) range_is low
+
         pub one_excused : ArePartsOf new tree → desc ≡ ask.desc → IsServing start client requests before new new_table (told ++ entry ∷ []) (seq + 1) (done ++ request ∷ []) rest
-        one_excused same desc_is = step_more tree fits_excused
-            (tree_more ∙ ap (tree_with tree entry.client entry.op) excused)
-            same
-            (record {
-              this = desc_is ∙ asked.desc ∙ ap (desc_of_fd tree.fds ask.client) (sym (excused_named ask.op x) ∙ ap (fd_told ask.op) (sym excused));
-              others = λ c n apart. refl;
-            })
-            range_is (omega arith)
+        one_excused same desc_is = step_more tree fits_excused (tree_more ∙ ap (tree_with tree entry.client entry.op) excused) same (told_excused desc_is) range_is (omega arith)
 
       module _ (served : is_excused entry.reply ≡ false → IsAnswered tree ask new entry.reply desc) (fits : (x : Excuse) → entry.reply ≡ reply.Excused x → ExcuseFits tree ask.client ask.op x) where
         pub any_more : (is_excused entry.reply ≡ true → ArePartsOf new tree) → (is_excused entry.reply ≡ true → desc ≡ ask.desc)
@@ -225,6 +250,13 @@ module _ (start : PosixTree) (client : ℕ) (requests : List Op) (before : List 
             by : (b : Bool) → is_excused entry.reply ≡ b → IsServing start client requests before new new_table (told ++ entry ∷ []) (seq + 1) (done ++ request ∷ []) rest
             by false e = one_more e (served e) one_file
             by true e = let x = the_excuse entry.reply e in one_excused x.0 x.1 (fits x.0 x.1) (same e) (desc_is e)
+
+        pub served_in : (is_excused entry.reply ≡ true → desc ≡ ask.desc) → entry.client < 16 → IsServedIn tree now entry new_table
+        served_in desc_is low = by (is_excused entry.reply) refl
+          where
+            by : (b : Bool) → is_excused entry.reply ≡ b → IsServedIn tree now entry new_table
+            by false e = served_plain e (served e) low
+            by true e = let x = the_excuse entry.reply e in served_excused x.0 x.1 (fits x.0 x.1) (desc_is e) low
 
   pub is_done : (table : Descs) (told : List Entry) (seq : ℕ) (done rest : List Op) → rest ≡ [] → IsServing start client requests before p table told seq done rest → IsDone start before client requests told
   is_done table told seq done rest none is = record {

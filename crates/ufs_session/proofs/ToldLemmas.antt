@@ -14,6 +14,7 @@ use Rattle.ufs_model.specs.declared.data.Reply.TheVariants as reply
 use Rattle.ufs_server.specs.Answered.{TellsFaults, device_in, stopped_in}
 use Rattle.ufs_store.specs.Refusals.{IsTold, stop_after}
 use Rattle.ufs_store.specs.State.{StoreState}
+use Rattle.ufs_session.specs.Drawing.{StopsBy}
 use Rattle.ufs_session.specs.Told.{AreFaultsTold, HadNoFault, HadOneFault, devices_in}
 
 -- ---- no two entries tell one fault
@@ -175,3 +176,21 @@ calm_told old new history told none = by told.faults
     by : HadNoFault old new history ⊎ HadOneFault old new history → (new.faults ≡ old.faults) × (old.stop ≡ None)
     by (inl calm) = (calm.quiet.faults, sym calm.quiet.stop ∙ none)
     by (inr one) = let no : None ≡ Some one.fault = sym none ∙ one.stops.stop in cc
+
+-- ---- where the store has stopped
+
+module _ (old new : StoreState) (r : Reply) (still : (fault : ℕ) → old.stop ≡ Some fault → device_in r ≡ None) where
+  stop_kept : TellsFaults old new r → (fault : ℕ) → old.stop ≡ Some fault → new.stop ≡ Some fault
+  stop_kept (inl own) fault is = own.stop ∙ ap (λ (o : Option ℕ). stop_after o (device_in r)) is
+  stop_kept (inr none) fault is = let no : None ≡ Some fault = sym none.beside.going ∙ is in cc
+
+  stop_told : TellsFaults old new r → (fault : ℕ) → device_in r ≡ Some fault → (old.stop ≡ None) × (new.stop ≡ Some fault)
+  stop_told (inr none) fault is = let no : None ≡ Some fault = sym none.none ∙ is in cc
+  stop_told (inl own) fault is = by old.stop refl
+    where
+      by : (o : Option ℕ) → old.stop ≡ o → (old.stop ≡ None) × (new.stop ≡ Some fault)
+      by None none = (none, own.stop ∙ ap (λ (o : Option ℕ). stop_after o (device_in r)) none ∙ is)
+      by (Some f) some = let no : None ≡ Some fault = sym (still f some) ∙ is in cc
+
+  pub stops_by : TellsFaults old new r → ((fault : ℕ) → stopped_in r ≡ Some fault → old.stop ≡ Some fault) → StopsBy old.stop new.stop r
+  stops_by told stopped = record { kept = stop_kept told; device = stop_told told; stopped = stopped }

@@ -14,17 +14,23 @@ ghost use Rattle.ufs_store.specs.State.{StoreState, geometry_of_store};
 ghost use Rattle.ufs_stored.specs.OnDisk.{IsOnDisk};
 ghost use Rattle.ufs_stored.specs.Sound.{IsSoundServer};
 ghost use Rattle.ufs_stored.specs.Stored.{ArePartsOf};
+ghost use Rattle.ufs_one_hand.specs.OneHand.{HasSession, IsStart, state_in};
+ghost use Rattle.ufs_session.specs.Drawing.{disk_state};
 ghost use Rattle.ufs_session.specs.Told.{AreFaultsTold};
 ghost use Rattle.ufs_session.specs.Played.{IsPlayedFrom, MayBegin};
 ghost use Rattle.ufs_session.specs.Serving.{GoesOn, IsDone, IsReached, IsReady};
 ghost use Rattle.ufs_session.specs.Throughout.{IsExplainedThroughout};
 
+use crate::drawing::draw;
 use std::alloc::Global;
+use std::marker::Brand;
 use ufs_base::{MAX_CLIENTS, MAX_REQUESTS, Memory};
 use ufs_client::{EndFault, Session, ToldLists, answer_own, ask, keep};
 use ufs_fds::FdTable;
 use ufs_file::Applied;
+use ufs_hand::{Naming, Opened};
 use ufs_model::{Actor, Ask, Entry, EntryList, a_request_makes_one_file_at_most};
+use ufs_one_hand::OneHand;
 use ufs_script::{OpList, OpLists};
 use ufs_server::DiskServer;
 use ufs_store::Door;
@@ -76,7 +82,8 @@ fn serve_one<D: Door>(server: &mut DiskServer, door: &mut D, ask: Ask, ticket: u
 
 // Serves a client's requests one by one, and adds the entries to its transcript; an excuse is a reply like others.
 // Whatever ends it, server and disk are what the entries tell.
-fn serve_client<D: Door>(
+fn serve_client<N: Naming, D: Door>(
+    hand: &mut OneHand<N>,
     server: &mut DiskServer,
     door: &mut D,
     earlier: &Vec<EntryList>,
@@ -88,7 +95,9 @@ fn serve_client<D: Door>(
     requires client { client < MAX_CLIENTS }
     requires few { length (joined earlier.now.items) ≤ (MAX_CLIENTS - 1) * MAX_REQUESTS }
     requires first { first ≡ length (joined earlier.now.items) }
-    requires ready { (start : PosixTree) × IsReady start (joined earlier.now.items) server.old client }
+    requires ready { IsReady N.start.tree (joined earlier.now.items) server.old client }
+    requires session { HasSession N.start (joined earlier.now.items) None hand.old }
+    requires stop { hand.old.stop ≡ (D.store door.old).stop }
     requires faults { (begun : StoreState) × AreFaultsTold begun (D.store door.old) (joined earlier.now.items) }
     requires sound { IsSoundServer (geometry_of_store (D.store door.old)) (D.store door.old).unassigned.free server.old }
     requires none { told.old.items ≡ [] }
@@ -102,6 +111,8 @@ fn serve_client<D: Door>(
         → IsExplainedThroughout D.keeps (D.store door.old).sectors start (joined earlier.now.items) told.new.items (D.store door.old).moments (D.store door.new).moments }
     ensures faults { AreFaultsTold (D.store door.old) (D.store door.new) told.new.items }
     ensures sound { IsSoundServer (geometry_of_store (D.store door.new)) (D.store door.new).unassigned.free server.new }
+    ensures session { HasSession N.start (joined earlier.now.items ++ told.new.items) None hand.new }
+    ensures stop { hand.new.stop ≡ (D.store door.new).stop }
     ensures geometry { geometry_of_store (D.store door.new) ≡ geometry_of_store (D.store door.old) }
     ensures sectors { (D.store door.new).sectors ≡ (D.store door.old).sectors }
 {
@@ -114,23 +125,28 @@ fn serve_client<D: Door>(
         // Room for the entry comes first, so that nothing is served that isn't told.
         told.reserve(1)?;
         let asked = ask(&fds, client, seq, op);
+        hand.ask(client, &asked.op);
         let applied = serve_one(server, door, asked, first + u64::from(seq));
         keep(&mut fds, &applied.entry, applied.desc);
-        told.push(applied.entry).unwrap();
+        let entry = draw::<N, D>(hand, door, earlier, told, &fds, applied.entry);
+        told.push(entry).unwrap();
         seq += 1;
     }
     Ok(())
 }
 
 // Serves the clients, one after another.
-fn serve_clients<D: Door>(
+fn serve_clients<N: Naming, D: Door>(
     alloc: Global,
+    hand: &mut OneHand<N>,
     server: &mut DiskServer,
     door: &mut D,
     clients: OpLists,
     told: &mut Vec<EntryList>,
 ) -> Result<(), EndFault>
-    requires start { (start : PosixTree) × MayBegin server.old start }
+    requires start { MayBegin server.old N.start.tree }
+    requires session { HasSession N.start [] None hand.old }
+    requires stop { hand.old.stop ≡ (D.store door.old).stop }
     requires sound { IsSoundServer (geometry_of_store (D.store door.old)) (D.store door.old).unassigned.free server.old }
     requires none { told.old.items ≡ [] }
     ensures played { (start : PosixTree) → MayBegin server.old start → IsPlayedFrom start clients told.new.items result (joined told.new.items) }
@@ -141,6 +157,8 @@ fn serve_clients<D: Door>(
         → IsExplainedThroughout D.keeps (D.store door.old).sectors start [] (joined told.new.items) (D.store door.old).moments (D.store door.new).moments }
     ensures faults { AreFaultsTold (D.store door.old) (D.store door.new) (joined told.new.items) }
     ensures sound { IsSoundServer (geometry_of_store (D.store door.new)) (D.store door.new).unassigned.free server.new }
+    ensures session { HasSession N.start (joined told.new.items) None hand.new }
+    ensures stop { hand.new.stop ≡ (D.store door.new).stop }
     ensures geometry { geometry_of_store (D.store door.new) ≡ geometry_of_store (D.store door.old) }
     ensures sectors { (D.store door.new).sectors ≡ (D.store door.old).sectors }
 {
@@ -154,7 +172,9 @@ fn serve_clients<D: Door>(
             return Err(EndFault::Memory);
         }
         let mut mine = Vec::new(alloc);
-        let ended = serve_client(server, door, told, client, first, requests, &mut mine);
+        let ended = serve_client::<N, D>(
+            hand, server, door, told, client, first, requests, &mut mine,
+        );
         first += mine.len() as u64;
         told.push(EntryList::from_vec(mine)).unwrap();
         ended?;
@@ -168,15 +188,21 @@ fn serve_clients<D: Door>(
 /// and the session goes on with the next one; it ends before its end only where no memory is left to keep an entry or
 /// a transcript. Whatever ends it, the server is the tree after what was told, and the disk keeps its promise for it.
 ///
+/// The session's first hand has every part. It draws each entry, and its ticket with it, on the parts that the request
+/// touches, and ends the session with every part at hand.
+///
 /// A store that meets a fault of its disk stops there: so a session meets one fault at most, and whoever is told that the
 /// store stopped is told that one, or the one at which it had stopped before.
 pub fn serve<D: Door>(
     alloc: Global,
+    opened: Opened,
     server: &mut DiskServer,
     door: &mut D,
     clients: OpLists,
 ) -> Session
-    requires start { (start : PosixTree) × MayBegin server.old start }
+    requires opened { IsStart opened.start }
+    requires start { MayBegin server.old opened.start.tree }
+    requires going { (D.store door.old).stop ≡ None }
     requires sound { IsSoundServer (geometry_of_store (D.store door.old)) (D.store door.old).unassigned.free server.old }
     ensures played { (start : PosixTree) → MayBegin server.old start → IsPlayedFrom start clients result.told result.ended (joined result.told) }
     ensures left { (start : PosixTree) → MayBegin server.old start → ArePartsOf server.new (tree_after start (joined result.told)) }
@@ -191,8 +217,39 @@ pub fn serve<D: Door>(
     ensures geometry { geometry_of_store (D.store door.new) ≡ geometry_of_store (D.store door.old) }
     ensures sectors { (D.store door.new).sectors ≡ (D.store door.old).sectors }
 {
+    serve_in::<Brand, D>(alloc, opened, server, door, clients)
+}
+
+// The same, of a session that has a name. Its first hand has every part, and the last one ends it.
+fn serve_in<N: Naming, D: Door>(
+    alloc: Global,
+    opened: Opened,
+    server: &mut DiskServer,
+    door: &mut D,
+    clients: OpLists,
+) -> Session
+    requires name { (opened.table ≡ N.table) × (opened.start ≡ N.start) }
+    requires opened { IsStart N.start }
+    requires start { MayBegin server.old N.start.tree }
+    requires going { (D.store door.old).stop ≡ None }
+    requires sound { IsSoundServer (geometry_of_store (D.store door.old)) (D.store door.old).unassigned.free server.old }
+    ensures played { (start : PosixTree) → MayBegin server.old start → IsPlayedFrom start clients result.told result.ended (joined result.told) }
+    ensures left { (start : PosixTree) → MayBegin server.old start → ArePartsOf server.new (tree_after start (joined result.told)) }
+    ensures on_disk { IsTrue D.visible → (start : PosixTree) → MayBegin server.old start
+        → IsOnDisk (D.store door.old) start [] server.old → IsOnDisk (D.store door.new) start (joined result.told) server.new }
+    ensures moments { IsTrue D.visible → (start : PosixTree) → MayBegin server.old start → IsOnDisk (D.store door.old) start [] server.old
+        → IsExplainedThroughout D.keeps (D.store door.old).sectors start [] (joined result.told) (D.store door.old).moments (D.store door.new).moments }
+    ensures once { AreTicketsOnce (joined result.told) }
+    ensures faults { AreFaultsTold (D.store door.old) (D.store door.new) (joined result.told) }
+    ensures calm { (D.store door.new).stop ≡ None → ((D.store door.new).faults ≡ (D.store door.old).faults) × ((D.store door.old).stop ≡ None) }
+    ensures sound { IsSoundServer (geometry_of_store (D.store door.new)) (D.store door.new).unassigned.free server.new }
+    ensures geometry { geometry_of_store (D.store door.new) ≡ geometry_of_store (D.store door.old) }
+    ensures sectors { (D.store door.new).sectors ≡ (D.store door.old).sectors }
+{
+    let mut hand = OneHand::<N>::begin(opened);
     let mut told = Vec::new(alloc);
-    let ended = serve_clients(alloc, server, door, clients, &mut told);
+    let ended = serve_clients::<N, D>(alloc, &mut hand, server, door, clients, &mut told);
+    hand.close();
     Session {
         told: ToldLists::from_vec(told),
         ended,

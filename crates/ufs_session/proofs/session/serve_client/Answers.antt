@@ -1,17 +1,19 @@
-use Rattle.std.proofs.Common.{◌≡◌, ◌++◌, ◌∷◌, [], ℕ, List, ap, refl, sym, ◌∙◌, subst, length, ◌+◌}
+use Rattle.std.proofs.Common.{◌≡◌, None, ◌++◌, ◌∷◌, [], ℕ, List, ap, refl, sym, ◌∙◌, subst, length, ◌+◌, ◌<◌, Option, Some, arith}
 use Rattle.std.proofs.lemmas.List.{append-nil, append_assoc}
 use Rattle.ufs_model.specs.History.{IsLegalFrom, joined, tree_after}
 use Rattle.ufs_model.specs.PosixTree.{PosixTree}
 use Rattle.ufs_model.specs.declared.data.Op.{Op}
 use Rattle.ufs_model.specs.declared.data.Entry.{Entry}
 use Rattle.ufs_client.proofs.Lists.{pushed_on}
+use Rattle.ufs_one_hand.specs.OneHand.{HasSession}
 use Rattle.ufs_stored.specs.OnDisk.{IsOnDisk}
+use Rattle.ufs_session.specs.Drawing.{IsServedIn, StopsBy}
 use Rattle.ufs_session.specs.Serving.{IsReady}
 use Rattle.ufs_session.specs.Throughout.{IsExplainedThroughout}
 use Rattle.ufs_session.specs.Told.{AreFaultsTold}
-use Rattle.ufs_session.proofs.ServingLemmas.{IsServing, any_more, begins, is_ask, names_few}
+use Rattle.ufs_session.proofs.ServingLemmas.{IsServing, any_more, begins, few_so_far, is_ask, names_few, served_in}
 use Rattle.ufs_session.proofs.ThroughoutLemmas.{throughout_joined}
-use Rattle.ufs_session.proofs.ToldLemmas.{legal_told, none_told, one_told, told_on}
+use Rattle.ufs_session.proofs.ToldLemmas.{legal_told, none_told, one_told, stops_by, told_on}
 use Rattle.ufs_session.proofs.session.serve_client.Goals as goal
 
 pub loop-op-init : goal.loop-op-init
@@ -28,6 +30,8 @@ loop-op-init g c =
       moments = λ visible start ready is.
           subst (λ (told : List Entry). IsExplainedThroughout g.D.Door.keeps s.sectors start before told s.moments s.moments) (sym c.requires.none)
           (c.always_law.ensures.rest g.D.Door.keeps s start before c.args.server.now (sym c.geometry-geometry.ensures.is) is);
+      session = subst (λ (h : List Entry). HasSession g.N.Naming.start h None c.args.hand.now) whole c.requires.session;
+      stop = c.requires.stop;
       faults = subst (AreFaultsTold s s) (sym c.requires.none) (none_told s);
       sound = c.requires.sound;
       geometry = refl;
@@ -38,8 +42,8 @@ pub serve_one-applied-requires-clause-numbers : goal.serve_one-applied-requires-
 serve_one-applied-requires-clause-numbers g c =
     let l = c.loop-op in
     let before = joined c.args.earlier.now.items in
-    let start = c.requires.ready.0 in
-    let so_far = subst (λ (r : List Op). IsServing start c.args.client c.args.requests before l.server l.fds l.told.items l.seq l.yielded r) c.in-Some.ensures.steps.0 (l.invariant.serving start c.requires.ready.1) in
+    let start = g.N.Naming.start.tree in
+    let so_far = subst (λ (r : List Op). IsServing start c.args.client c.args.requests before l.server l.fds l.told.items l.seq l.yielded r) c.in-Some.ensures.steps.0 (l.invariant.serving start c.requires.ready) in
     names_few start c.args.client c.args.requests before l.server l.fds l.told.items l.seq l.yielded c.in-Some.op c.next.new.self.rest.items so_far c.requires.few
 
 pub serve_one-applied-requires-clause-asked : goal.serve_one-applied-requires-clause-asked
@@ -47,12 +51,59 @@ serve_one-applied-requires-clause-asked g c =
     let e = c.ask-asked.ensures in
     let l = c.loop-op in
     let before = joined c.args.earlier.now.items in
-    let start = c.requires.ready.0 in
-    let so_far = subst (λ (r : List Op). IsServing start c.args.client c.args.requests before l.server l.fds l.told.items l.seq l.yielded r) c.in-Some.ensures.steps.0 (l.invariant.serving start c.requires.ready.1) in (
+    let start = g.N.Naming.start.tree in
+    let so_far = subst (λ (r : List Op). IsServing start c.args.client c.args.requests before l.server l.fds l.told.items l.seq l.yielded r) c.in-Some.ensures.steps.0 (l.invariant.serving start c.requires.ready) in (
       tree_after start (before ++ l.told.items),
       so_far.reached.parts,
       is_ask start c.args.client c.args.requests before l.server l.fds l.told.items l.seq l.yielded c.in-Some.op c.next.new.self.rest.items so_far c.ask-asked.result e.client e.asked e.desc e.fd e.last,
     )
+
+pub ask-requires-clause-idle : goal.ask-requires-clause-idle
+ask-requires-clause-idle g c =
+    let l = c.loop-op in
+    let client : ℕ = c.args.client in
+    let before = joined c.args.earlier.now.items in
+    let start = g.N.Naming.start.tree in
+    let so_far = subst (λ (r : List Op). IsServing start client c.args.requests before l.server l.fds l.told.items l.seq l.yielded r) c.in-Some.ensures.steps.0 (l.invariant.serving start c.requires.ready) in
+    let few = few_so_far start client c.args.requests before l.server l.fds l.told.items l.seq l.yielded c.in-Some.op c.next.new.self.rest.items so_far in
+    let own = ap (λ (es : List Entry). length es) so_far.goes.own in
+    (before ++ l.told.items, l.invariant.session, omega (arith, few, own))
+
+pub draw-entry-requires-clause-served : goal.draw-entry-requires-clause-served
+draw-entry-requires-clause-served g c =
+    let e = c.ask-asked.ensures in
+    let a = c.serve_one-applied.ensures in
+    let l = c.loop-op in
+    let client : ℕ = c.args.client in
+    let entry = c.serve_one-applied.result.entry in
+    let before = joined c.args.earlier.now.items in
+    let told = l.told.items in
+    let rest = c.next.new.self.rest.items in
+    let start = g.N.Naming.start.tree in
+    let so_far = subst (λ (r : List Op). IsServing start client c.args.requests before l.server l.fds told l.seq l.yielded r) c.in-Some.ensures.steps.0 (l.invariant.serving start c.requires.ready) in
+    let asked = is_ask start client c.args.requests before l.server l.fds told l.seq l.yielded c.in-Some.op rest so_far c.ask-asked.result e.client e.asked e.desc e.fd e.last in
+    subst (λ (t : List Entry). IsServedIn (tree_after start (before ++ t)) (before ++ t) entry c.keep.new.fds) (sym c.reserve.ensures.items)
+    (served_in start client c.args.requests before l.server l.fds told l.seq l.yielded c.in-Some.op rest so_far
+    c.ask-asked.result entry _ a.entry (a.by (tree_after start (before ++ told)) asked) (λ i. c.requires.first i + c.from.ensures i) e.client e.seq e.asked asked c.serve_one-applied.new.server c.keep.new.fds c.serve_one-applied.result.desc c.keep.ensures
+    (λ plain. a.served plain (tree_after start (before ++ told)) so_far.reached.parts asked)
+    (λ x excused. a.fits x excused (tree_after start (before ++ told)) so_far.reached.parts asked)
+    a.desc (subst (λ (n : ℕ). n < 16) (sym (a.entry.client ∙ e.client)) c.requires.client))
+
+pub draw-entry-requires-clause-session : goal.draw-entry-requires-clause-session
+draw-entry-requires-clause-session g c =
+    let a = c.serve_one-applied.ensures in
+    let e = c.ask-asked.ensures in
+    let before = joined c.args.earlier.now.items in
+    let asked : c.args.client ≡ c.serve_one-applied.result.entry.client = sym (a.entry.client ∙ e.client) in
+    let op : c.ask-asked.result.op ≡ c.serve_one-applied.result.entry.op = sym a.entry.asked in
+    subst (λ (t : List Entry). HasSession g.N.Naming.start (before ++ t) (Some (c.serve_one-applied.result.entry.client, c.serve_one-applied.result.entry.op)) c.ask.new.self) (sym c.reserve.ensures.items)
+    (subst (λ (x : ℕ × Op). HasSession g.N.Naming.start (before ++ c.loop-op.told.items) (Some x) c.ask.new.self) (λ i. (asked i, op i)) (c.ask.ensures.session (before ++ c.loop-op.told.items) c.loop-op.invariant.session))
+
+pub draw-entry-requires-clause-stops : goal.draw-entry-requires-clause-stops
+draw-entry-requires-clause-stops g c =
+    let a = c.serve_one-applied.ensures in
+    subst (λ (o : Option ℕ). StopsBy o (g.D.Door.store c.serve_one-applied.new.door).stop c.serve_one-applied.result.entry.reply) (sym (c.ask.ensures.stop ∙ c.loop-op.invariant.stop))
+    (stops_by (g.D.Door.store c.loop-op.door) (g.D.Door.store c.serve_one-applied.new.door) c.serve_one-applied.result.entry.reply a.still a.told a.stopped)
 
 pub loop-op-preserved : goal.loop-op-preserved
 loop-op-preserved g c =
@@ -72,7 +123,7 @@ loop-op-preserved g c =
     let asked = λ (start : PosixTree) (ready : IsReady start before c.args.server.now client).
     is_ask start client c.args.requests before l.server l.fds told l.seq l.yielded c.in-Some.op rest (so_far start ready) c.ask-asked.result e.client e.asked e.desc e.fd e.last in
     let ticket : c.args.first + c.from.result ≡ length before + l.seq = (λ i. c.requires.first i + c.from.ensures i) in
-    let pushed = pushed_on c.push.result _ _ told _ _ c.unwrap.ensures c.reserve.ensures.items c.push.ensures.items in
+    let pushed = pushed_on c.push.result _ _ told _ _ c.unwrap.ensures c.reserve.ensures.items c.push.ensures.items ∙ ap (λ (e : Entry). told ++ e ∷ []) c.draw-entry.ensures.same in
     let serving : (start : PosixTree) → IsReady start before c.args.server.now client
     → IsServing start client c.args.requests before c.serve_one-applied.new.server c.keep.new.fds (told ++ entry ∷ []) (l.seq + 1) (l.yielded ++ c.in-Some.op ∷ []) rest =
     λ start ready.
@@ -99,6 +150,9 @@ loop-op-preserved g c =
           (a.moments visible start (before ++ told) (asked start ready) (legal start ready) (l.invariant.on_disk visible start ready is)) in
           subst (λ (t : List Entry). IsExplainedThroughout g.D.Door.keeps first.sectors start before t first.moments next.moments) (sym pushed)
           (throughout_joined g.D.Door.keeps first.sectors start before told (entry ∷ []) first.moments now.moments next.moments (l.invariant.moments visible start ready is) one);
+      session = subst (λ (h : List Entry). HasSession g.N.Naming.start h None c.draw-entry.new.hand) (append_assoc before told (entry ∷ []) ∙ ap (λ (t : List Entry). before ++ t) (sym pushed))
+          (subst (λ (t : List Entry). HasSession g.N.Naming.start ((before ++ t) ++ entry ∷ []) None c.draw-entry.new.hand) c.reserve.ensures.items c.draw-entry.ensures.session);
+      stop = c.draw-entry.ensures.stop;
       faults = subst (AreFaultsTold first next) (sym pushed) more;
       sound = a.sound;
       geometry = a.geometry ∙ l.invariant.geometry;
@@ -116,3 +170,7 @@ returns-in_err-reserve-clause-moments g c visible start ready is =
     let s = g.D.Door.store c.args.door.now in
     subst (λ (told : List Entry). IsExplainedThroughout g.D.Door.keeps s.sectors start (joined c.args.earlier.now.items) told s.moments (g.D.Door.store l.door).moments) (sym c.reserve.ensures.items)
     (l.invariant.moments visible start ready is)
+
+pub returns-in_err-reserve-clause-session : goal.returns-in_err-reserve-clause-session
+returns-in_err-reserve-clause-session g c =
+    subst (λ (told : List Entry). HasSession g.N.Naming.start (joined c.args.earlier.now.items ++ told) None c.loop-op.hand) (sym c.reserve.ensures.items) c.loop-op.invariant.session

@@ -1,7 +1,8 @@
-use Rattle.std.proofs.Common.{◌≡◌, ◌++◌}
+use Rattle.std.proofs.Common.{◌≡◌, ◌++◌, None}
 use Rattle.std.specs.Prelude.{IsTrue}
 use Rattle.ufs_model.specs.History.{joined}
 use Rattle.ufs_model.specs.PosixTree.{PosixTree}
+use Rattle.ufs_one_hand.specs.OneHand.{HasSession}
 use Rattle.ufs_store.specs.State.{geometry_of_store}
 use Rattle.ufs_stored.specs.OnDisk.{IsOnDisk}
 use Rattle.ufs_stored.specs.Sound.{IsSoundServer}
@@ -21,6 +22,8 @@ invariant-loop-op g l =
       on_disk : IsTrue g.D.Door.visible → (start : PosixTree) → IsReady start before l.fn.server l.fn.client → IsOnDisk first start before l.fn.server → IsOnDisk now start (before ++ l.told.items) l.server;
       moments : IsTrue g.D.Door.visible → (start : PosixTree) → IsReady start before l.fn.server l.fn.client → IsOnDisk first start before l.fn.server
           → IsExplainedThroughout g.D.Door.keeps first.sectors start before l.told.items first.moments now.moments;
+      session : HasSession g.N.Naming.start (before ++ l.told.items) None l.hand;
+      stop : l.hand.stop ≡ now.stop;
       faults : AreFaultsTold first now l.told.items;
       sound : IsSoundServer (geometry_of_store now) now.unassigned.free l.server;
       geometry : geometry_of_store now ≡ geometry_of_store first;

@@ -1,10 +1,11 @@
-use Rattle.std.proofs.Common.{◌++◌, ◌∷◌, [], List, ap, arith, sym, refl, ◌∙◌, subst, length, ◌+◌, ℕ, Err}
+use Rattle.std.proofs.Common.{◌++◌, ◌∷◌, [], List, ap, arith, sym, refl, ◌∙◌, subst, length, ◌+◌, ℕ, Err, None}
 use Rattle.ufs_model.specs.History.{joined}
 use Rattle.ufs_model.specs.PosixTree.{PosixTree}
 use Rattle.ufs_model.specs.declared.data.Op.{Op}
 use Rattle.ufs_model.specs.declared.data.Entry.{Entry}
 use Rattle.ufs_client.specs.declared.played.EndFault.TheVariants as fault
 use Rattle.ufs_client.proofs.Lists.{joined-push, no_items, pushed_on}
+use Rattle.ufs_one_hand.specs.OneHand.{HasSession}
 use Rattle.ufs_stored.specs.OnDisk.{IsOnDisk}
 use Rattle.ufs_session.specs.Played.{IsPlayedFrom, MayBegin}
 use Rattle.ufs_session.specs.Serving.{IsReached}
@@ -27,6 +28,8 @@ loop-requests-init g c =
       moments = λ visible start may is.
           subst (λ (told : List (List Entry)). IsExplainedThroughout g.D.Door.keeps s.sectors start [] (joined told) s.moments s.moments) (sym c.requires.none)
           (c.always_law.ensures.rest g.D.Door.keeps s start [] c.args.server.now (sym c.geometry-geometry.ensures.is) is);
+      session = subst (λ (told : List (List Entry)). HasSession g.N.Naming.start (joined told) None c.args.hand.now) (sym c.requires.none) c.requires.session;
+      stop = c.requires.stop;
       faults = subst (λ (told : List (List Entry)). AreFaultsTold s s (joined told)) (sym c.requires.none) (none_told s);
       sound = c.requires.sound;
       geometry = refl;
@@ -36,10 +39,10 @@ loop-requests-init g c =
 pub serve_client-ended-requires-clause-ready : goal.serve_client-ended-requires-clause-ready
 serve_client-ended-requires-clause-ready g c =
     let l = c.loop-requests in
-    let start = c.requires.start.0 in
-    let next = subst (λ (r : List (List Op)). AreServing start c.args.clients l.told.items l.server l.client l.first l.yielded r) c.in-Some.ensures.steps.0 (l.invariant.serving start c.requires.start.1) in
+    let start = g.N.Naming.start.tree in
+    let next = subst (λ (r : List (List Op)). AreServing start c.args.clients l.told.items l.server l.client l.first l.yielded r) c.in-Some.ensures.steps.0 (l.invariant.serving start c.requires.start) in
     let so_far = subst (λ (told : List (List Entry)). AreServing start c.args.clients told l.server l.client l.first l.yielded (c.in-Some.requests ∷ c.next.new.self.rest.items)) (sym c.reserve.ensures.items) next in
-    (start, ready start c.args.clients c.reserve.new.self.items l.server l.client l.first l.yielded c.in-Some.requests c.next.new.self.rest.items so_far)
+    ready start c.args.clients c.reserve.new.self.items l.server l.client l.first l.yielded c.in-Some.requests c.next.new.self.rest.items so_far
 
 pub serve_client-ended-requires-clause-faults : goal.serve_client-ended-requires-clause-faults
 serve_client-ended-requires-clause-faults g c =
@@ -179,6 +182,8 @@ loop-requests-preserved g c =
           let behind = subst (λ (n : ℕ). IsExplainedThroughout g.D.Door.keeps n start (joined earlier) mine now.moments later.moments) l.invariant.sectors (s.ensures.moments visible start (here start may) on) in
           subst (λ (h : List Entry). IsExplainedThroughout g.D.Door.keeps first.sectors start [] h first.moments later.moments) (sym both)
           (throughout_joined g.D.Door.keeps first.sectors start [] (joined earlier) mine first.moments now.moments later.moments before behind);
+      session = subst (λ (h : List Entry). HasSession g.N.Naming.start h None s.new.hand) (sym both) s.ensures.session;
+      stop = s.ensures.stop;
       faults = subst (AreFaultsTold first later) (sym both) (told_on first now later (joined earlier) mine was s.ensures.faults);
       sound = s.ensures.sound;
       geometry = s.ensures.geometry ∙ l.invariant.geometry;
@@ -196,13 +201,13 @@ returns-clause-played g c start may =
 
 pub serve_client-ended-requires-clause-first : goal.serve_client-ended-requires-clause-first
 serve_client-ended-requires-clause-first g c =
-    (c.loop-requests.invariant.serving c.requires.start.0 c.requires.start.1).first_is ∙ ap (λ (told : List (List Entry)). length (joined told)) (sym c.reserve.ensures.items)
+    (c.loop-requests.invariant.serving g.N.Naming.start.tree c.requires.start).first_is ∙ ap (λ (told : List (List Entry)). length (joined told)) (sym c.reserve.ensures.items)
 
 pub overflow_add-first : goal.overflow_add-first
 overflow_add-first g c =
     let l = c.loop-requests in
-    let start = c.requires.start.0 in
-    let serving = l.invariant.serving start c.requires.start.1 in
+    let start = g.N.Naming.start.tree in
+    let serving = l.invariant.serving start c.requires.start in
     let next = subst (λ (r : List (List Op)). AreServing start c.args.clients l.told.items l.server l.client l.first l.yielded r) c.in-Some.ensures.steps.0 serving in
     let short = few start c.args.clients l.told.items l.server l.client l.first l.yielded c.in-Some.requests c.next.new.self.rest.items next in
     let count = c.len.ensures ∙ c.serve_client-ended.new.told.ok.0 in
@@ -211,8 +216,8 @@ overflow_add-first g c =
 pub overflow_add-client : goal.overflow_add-client
 overflow_add-client g c =
     let l = c.loop-requests in
-    let start = c.requires.start.0 in
-    let next = subst (λ (r : List (List Op)). AreServing start c.args.clients l.told.items l.server l.client l.first l.yielded r) c.in-Some.ensures.steps.0 (l.invariant.serving start c.requires.start.1) in
+    let start = g.N.Naming.start.tree in
+    let next = subst (λ (r : List (List Op)). AreServing start c.args.clients l.told.items l.server l.client l.first l.yielded r) c.in-Some.ensures.steps.0 (l.invariant.serving start c.requires.start) in
     let less = low start c.args.clients l.told.items l.server l.client l.first l.yielded c.in-Some.requests c.next.new.self.rest.items next in
     omega (arith, less)
 
@@ -222,3 +227,18 @@ returns-then-is_err-clause-moments g c visible start may is =
     let s = g.D.Door.store c.args.door.now in
     subst (λ (told : List (List Entry)). IsExplainedThroughout g.D.Door.keeps s.sectors start [] (joined told) s.moments (g.D.Door.store l.door).moments) (sym c.reserve.ensures.items)
     (l.invariant.moments visible start may is)
+
+pub serve_client-ended-requires-clause-session : goal.serve_client-ended-requires-clause-session
+serve_client-ended-requires-clause-session g c =
+    subst (λ (told : List (List Entry)). HasSession g.N.Naming.start (joined told) None c.loop-requests.hand) (sym c.reserve.ensures.items) c.loop-requests.invariant.session
+
+pub returns-then-is_err-clause-session : goal.returns-then-is_err-clause-session
+returns-then-is_err-clause-session g c =
+    subst (λ (told : List (List Entry)). HasSession g.N.Naming.start (joined told) None c.loop-requests.hand) (sym c.reserve.ensures.items) c.loop-requests.invariant.session
+
+pub returns-in_err-ended-clause-session : goal.returns-in_err-ended-clause-session
+returns-in_err-ended-clause-session g c =
+    let s = c.serve_client-ended in
+    let earlier = c.reserve.new.self.items in
+    let pushed = pushed_on c.push.result _ _ earlier _ _ c.unwrap.ensures refl c.push.ensures.items ∙ ap (λ (m : List Entry). earlier ++ m ∷ []) c.from_vec.ensures in
+    subst (λ (h : List Entry). HasSession g.N.Naming.start h None s.new.hand) (sym (ap joined pushed ∙ joined-push earlier s.new.told.items)) s.ensures.session

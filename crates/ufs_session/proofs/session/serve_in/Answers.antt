@@ -7,12 +7,12 @@ use Rattle.ufs_client.proofs.Lists.{once_rising, rising_from}
 use Rattle.ufs_session.specs.Throughout.{IsExplainedThroughout}
 use Rattle.ufs_session.specs.Told.{AreFaultsTold}
 use Rattle.ufs_session.proofs.ToldLemmas.{calm_told}
-use Rattle.ufs_session.proofs.session.serve.Goals as goal
+use Rattle.ufs_session.proofs.session.serve_in.Goals as goal
 
 pub returns-clause-once : goal.returns-clause-once
 returns-clause-once g c =
-    let start = c.requires.start.0 in
-    subst (λ (l : List (List Entry)). AreTicketsOnce (joined l)) (sym c.from_vec.ensures) (once_rising _ (rising_from 0 start _ (c.serve_clients-ended.ensures.left start c.requires.start.1).entries))
+    let start = g.N.Naming.start.tree in
+    subst (λ (l : List (List Entry)). AreTicketsOnce (joined l)) (sym c.from_vec.ensures) (once_rising _ (rising_from 0 start _ (c.serve_clients-ended.ensures.left start c.requires.start).entries))
 
 pub returns-clause-on_disk : goal.returns-clause-on_disk
 returns-clause-on_disk g c visible start may on =
@@ -40,3 +40,6 @@ returns-clause-moments g c visible start may is =
     let new = g.D.Door.store c.serve_clients-ended.new.door in
     subst (λ (lists : List (List Entry)). IsExplainedThroughout g.D.Door.keeps old.sectors start [] (joined lists) old.moments new.moments) (sym c.from_vec.ensures)
     (c.serve_clients-ended.ensures.moments visible start may is)
+
+pub close-requires : goal.close-requires
+close-requires g c = record { session = (_, c.serve_clients-ended.ensures.session) }

@@ -1,0 +1,123 @@
+// The entry of a request is drawn by the hand with all parts.
+ghost use Rattle.std.specs.Prelude.{ℕ, ◌≡◌, ◌≤◌, ◌++◌, ◌∷◌, [], List, None, Option, Some, true};
+ghost use Rattle.ufs_model.specs.History.{joined, tree_after};
+ghost use Rattle.ufs_model.specs.declared.data.Entry.{Entry};
+ghost use Rattle.ufs_model.specs.declared.data.Op.{Op};
+ghost use Rattle.ufs_model.specs.declared.data.Reply.TheVariants as reply;
+ghost use Rattle.ufs_one_hand.specs.Drawn.{HasCauses};
+ghost use Rattle.ufs_one_hand.specs.OneHand.{HasSession, KnowsCommits, state_in};
+ghost use Rattle.ufs_prefix.specs.Changes.{asks_commit};
+ghost use Rattle.ufs_session.specs.Drawing.{IsServedIn, StopsBy, acknowledges, disk_state, short_in};
+ghost use Rattle.ufs_sound.specs.Owned.{times};
+
+use std::marker::Brand;
+use ufs_fds::FdTable;
+use ufs_hand::Naming;
+use ufs_model::{Entry, EntryList, Op, Reply};
+use ufs_one_hand::{Answering, OneHand, Passing};
+use ufs_sound::Fresh;
+use ufs_store::Door;
+
+// Draws the entry of a request that was served: the disk was called for it, and what it acknowledges is committed.
+pub(crate) fn draw<N: Naming, D: Door>(
+    hand: &mut OneHand<N>,
+    door: &D,
+    earlier: &Vec<EntryList>,
+    told: &Vec<Entry>,
+    fds: &FdTable,
+    entry: Entry,
+) -> Entry
+    requires served { IsServedIn (tree_after N.start.tree (joined earlier.now.items ++ told.now.items)) (joined earlier.now.items ++ told.now.items) entry fds.now }
+    requires session { HasSession N.start (joined earlier.now.items ++ told.now.items) (Some (entry.client, entry.op)) hand.old }
+    requires stops { StopsBy hand.old.stop (D.store door.now).stop entry.reply }
+    ensures same { result ≡ entry }
+    ensures session { HasSession N.start ((joined earlier.now.items ++ told.now.items) ++ entry ∷ []) None hand.new }
+    ensures stop { hand.new.stop ≡ (D.store door.now).stop }
+    ensures state { state_in hand.new ≡ disk_state (D.store door.now) }
+{
+    pass::<N, D, Brand>(hand, door, &entry);
+    if is_acknowledged(&entry) {
+        hand.keep();
+    }
+    draw_entry::<N, Brand>(hand, earlier, told, fds, entry)
+}
+
+// The disk was called for the request.
+fn pass<N: Naming, D: Door, P: Passing>(hand: &mut OneHand<N>, door: &D, entry: &Entry)
+    requires stop { P.stop ≡ (D.store door.now).stop }
+    requires state { P.state ≡ disk_state (D.store door.now) }
+    requires short { P.shortages ≡ short_in entry.now.reply }
+    requires session { (history : List Entry) × (asked : Option (ℕ × Op)) × HasSession N.start history asked hand.old }
+    requires stops { StopsBy hand.old.stop (D.store door.now).stop entry.now.reply }
+    ensures session { (history : List Entry) (asked : Option (ℕ × Op)) → HasSession N.start history asked hand.old → HasSession N.start history asked hand.new }
+    ensures causes { HasCauses entry.now.reply hand.new }
+    ensures stop { hand.new.stop ≡ (D.store door.now).stop }
+    ensures state { state_in hand.new ≡ disk_state (D.store door.now) }
+{
+    hand.pass::<P>();
+}
+
+// Whether the reply acknowledges that something is on the disk for good.
+fn is_acknowledged(entry: &Entry) -> bool
+    ensures { result ≡ acknowledges entry.now }
+{
+    match entry.reply {
+        Reply::Done => match entry.op {
+            Op::Fsync { .. } | Op::Sync => true,
+            _ => false,
+        },
+        _ => false,
+    }
+}
+
+// Draws the entry. Its ticket is the hand's, which is the number of entries before it.
+fn draw_entry<N: Naming, A: Answering>(
+    hand: &mut OneHand<N>,
+    earlier: &Vec<EntryList>,
+    told: &Vec<Entry>,
+    fds: &FdTable,
+    entry: Entry,
+) -> Entry
+    requires before { A.before ≡ tree_after N.start.tree (joined earlier.now.items ++ told.now.items) }
+    requires fds { A.fds ≡ fds.now }
+    requires served { IsServedIn (tree_after N.start.tree (joined earlier.now.items ++ told.now.items)) (joined earlier.now.items ++ told.now.items) entry fds.now }
+    requires session { HasSession N.start (joined earlier.now.items ++ told.now.items) (Some (entry.client, entry.op)) hand.old }
+    requires known { entry.reply ≡ reply.Done → asks_commit entry.op ≡ true → KnowsCommits hand.old }
+    requires causes { HasCauses entry.reply hand.old }
+    ensures same { result ≡ entry }
+    ensures session { HasSession N.start ((joined earlier.now.items ++ told.now.items) ++ entry ∷ []) None hand.new }
+    ensures stop { hand.new.stop ≡ hand.old.stop }
+    ensures state { state_in hand.new ≡ state_in hand.old }
+{
+    let Entry {
+        ticket: _,
+        client,
+        seq,
+        by,
+        op,
+        reply,
+    } = entry;
+    let fresh = Fresh {
+        client,
+        seq,
+        by,
+        op,
+        reply,
+    };
+    let ticket = hand.draw::<A>(&fresh);
+    let Fresh {
+        client,
+        seq,
+        by,
+        op,
+        reply,
+    } = fresh;
+    Entry {
+        ticket,
+        client,
+        seq,
+        by,
+        op,
+        reply,
+    }
+}
