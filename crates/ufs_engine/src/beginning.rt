@@ -6,6 +6,7 @@ ghost use Rattle.ufs_catalog.specs.declared.fault.RecoverFault.{RecoverFault};
 ghost use Rattle.ufs_image.specs.Opens.{ImageTree, opens};
 ghost use Rattle.ufs_image.specs.Volume.{Refusal};
 ghost use Rattle.ufs_model.specs.PosixTree.{PosixTree};
+ghost use Rattle.ufs_one_hand.specs.OneHand.{IsStart};
 ghost use Rattle.ufs_opening.specs.Told.{TellsWhy};
 ghost use Rattle.ufs_recovery.specs.Recovered.{IsCleanDisk, IsProperDisk};
 ghost use Rattle.ufs_session.specs.Played.{MayBegin};
@@ -23,17 +24,20 @@ use crate::laws::{beginning_law, mounted_law};
 use std::alloc::Global;
 use ufs_catalog::RecoverFault;
 use ufs_disk::Disk;
+use ufs_hand::Opened;
 use ufs_model::a_request_keeps_the_tree;
+use ufs_one_hand::{abandon, starts_can_begin};
 use ufs_recovery::recover;
 use ufs_server::DiskServer;
 use ufs_start::{Start, StartFault, start_of};
 use ufs_store::{Door, Store, StoreFault};
 
-/// A server whose tree is on a disk, and the store that has the disk.
-#[derive(Drop)]
+/// A server whose tree is on a disk, the store that has the disk, and the session that starts from that tree.
 pub struct Begun<D: Disk> {
     pub server: DiskServer,
     pub store: Store<D>,
+    /// The session, which has no name yet.
+    pub opened: Opened,
 }
 
 /// No session begins: the disk, and why.
@@ -48,7 +52,8 @@ pub struct Unbegun<D: Disk> {
 /// stood for.
 pub fn begin<D: Disk>(alloc: Global, mut disk: D) -> Result<Begun<D>, Unbegun<D>>
     // over any disk
-    ensures may { IfOk result (λ b. (start : PosixTree) × MayBegin b.server start) }
+    ensures may { IfOk result (λ b. MayBegin b.server b.opened.start.tree) }
+    ensures session { IfOk result (λ b. IsStart b.opened.start) }
     ensures sound { IfOk result (λ b. IsSoundServer (geometry_of_store (⟦<Store<D> as Door>⟧.store b.store)) (⟦<Store<D> as Door>⟧.store b.store).unassigned.free b.server) }
     ensures going { IfOk result (λ b. (⟦<Store<D> as Door>⟧.store b.store).stop ≡ None) }
     ensures size { IfOk result (λ b. (⟦<Store<D> as Door>⟧.store b.store).sectors ≡ D.size disk) }
@@ -61,7 +66,7 @@ pub fn begin<D: Disk>(alloc: Global, mut disk: D) -> Result<Begun<D>, Unbegun<D>
     // over a visible disk that is proper
     ensures opened { IsTrue D.visible → IsProperDisk (D.size disk) (D.moments disk).state → (start : PosixTree) × BeginsWith (D.size disk) (reads (D.moments disk)) start }
     ensures parts { IsTrue D.visible → IsProperDisk (D.size disk) (D.moments disk).state → (start : PosixTree) → BeginsWith (D.size disk) (reads (D.moments disk)) start
-        → IfOk result (λ b. MayBegin b.server start) }
+        → IfOk result (λ b. b.opened.start.tree ≡ start) }
     ensures on_disk { IsTrue D.visible → IsProperDisk (D.size disk) (D.moments disk).state → (start : PosixTree) → BeginsWith (D.size disk) (reads (D.moments disk)) start
         → IfOk result (λ b. IsOnDisk (⟦<Store<D> as Door>⟧.store b.store) start [] b.server) }
     ensures moments { IsTrue D.visible → IsProperDisk (D.size disk) (D.moments disk).state → (start : PosixTree) → BeginsWith (D.size disk) (reads (D.moments disk)) start
@@ -82,14 +87,15 @@ pub fn begin<D: Disk>(alloc: Global, mut disk: D) -> Result<Begun<D>, Unbegun<D>
 
 // The same of a disk whose image is clean, or which isn't visible.
 fn begin_clean<D: Disk>(alloc: Global, mut disk: D) -> Result<Begun<D>, Unbegun<D>>
-    ensures may { IfOk result (λ b. (start : PosixTree) × MayBegin b.server start) }
+    ensures may { IfOk result (λ b. MayBegin b.server b.opened.start.tree) }
+    ensures session { IfOk result (λ b. IsStart b.opened.start) }
     ensures sound { IfOk result (λ b. IsSoundServer (geometry_of_store (⟦<Store<D> as Door>⟧.store b.store)) (⟦<Store<D> as Door>⟧.store b.store).unassigned.free b.server) }
     ensures going { IfOk result (λ b. (⟦<Store<D> as Door>⟧.store b.store).stop ≡ None) }
     ensures size { IfOk result (λ b. (⟦<Store<D> as Door>⟧.store b.store).sectors ≡ D.size disk) }
     ensures passed { IfOk result (λ b. (⟦<Store<D> as Door>⟧.store b.store).faults ≡ D.faults disk) }
     ensures err_size { IfErr result (λ u. D.size u.disk ≡ D.size disk) }
     ensures cause { IfErr result (λ u. HasStartCause (D.faults disk) (D.faults u.disk) u.fault) }
-    ensures parts { IsTrue D.visible → (start : PosixTree) → BeginsWith (D.size disk) (reads (D.moments disk)) start → IfOk result (λ b. MayBegin b.server start) }
+    ensures parts { IsTrue D.visible → (start : PosixTree) → BeginsWith (D.size disk) (reads (D.moments disk)) start → IfOk result (λ b. b.opened.start.tree ≡ start) }
     ensures on_disk { IsTrue D.visible → IsCleanDisk (D.size disk) (D.moments disk).state → (start : PosixTree) → BeginsWith (D.size disk) (reads (D.moments disk)) start
         → IfOk result (λ b. IsOnDisk (⟦<Store<D> as Door>⟧.store b.store) start [] b.server) }
     ensures moments { IsTrue D.visible → IsCleanDisk (D.size disk) (D.moments disk).state → (start : PosixTree) → BeginsWith (D.size disk) (reads (D.moments disk)) start
@@ -108,7 +114,9 @@ fn begin_clean<D: Disk>(alloc: Global, mut disk: D) -> Result<Begun<D>, Unbegun<
 // Mounts the disk, of which this was read, and makes its server.
 fn mount<D: Disk>(alloc: Global, disk: D, parts: Start) -> Result<Begun<D>, Unbegun<D>>
     requires begun { (image : Image) × IsBegun (D.size disk) image parts }
-    ensures may { (image : Image) (start : PosixTree) → IsBegun (D.size disk) image parts → BeginsWith (D.size disk) image start → IfOk result (λ b. MayBegin b.server start) }
+    ensures may { IfOk result (λ b. MayBegin b.server b.opened.start.tree) }
+    ensures session { IfOk result (λ b. IsStart b.opened.start) }
+    ensures parts { (image : Image) (start : PosixTree) → IsBegun (D.size disk) image parts → BeginsWith (D.size disk) image start → IfOk result (λ b. b.opened.start.tree ≡ start) }
     ensures sound { IfOk result (λ b. IsSoundServer (geometry_of_store (⟦<Store<D> as Door>⟧.store b.store)) (⟦<Store<D> as Door>⟧.store b.store).unassigned.free b.server) }
     ensures going { IfOk result (λ b. (⟦<Store<D> as Door>⟧.store b.store).stop ≡ None) }
     ensures size { IfOk result (λ b. (⟦<Store<D> as Door>⟧.store b.store).sectors ≡ D.size disk) }
@@ -129,18 +137,32 @@ fn mount<D: Disk>(alloc: Global, disk: D, parts: Start) -> Result<Begun<D>, Unbe
     a_request_keeps_the_tree();
     beginning_law();
     mounted_law(&parts.superblock.geometry);
+    starts_can_begin();
     let Ok(server) = DiskServer::begin(alloc, parts.names, parts.files) else {
         return Err(Unbegun {
             disk,
             fault: StartFault::Image(RecoverFault::Memory),
         });
     };
+    let Ok(opened) = Opened::open(alloc, parts.parts) else {
+        return Err(Unbegun {
+            disk,
+            fault: StartFault::Image(RecoverFault::Memory),
+        });
+    };
     match Store::mount(alloc, disk, superblock, parts.free) {
-        Ok(store) => Ok(Begun { server, store }),
-        Err(unmounted) => Err(Unbegun {
-            disk: unmounted.disk,
-            fault: StartFault::Image(fault_of(unmounted.fault)),
+        Ok(store) => Ok(Begun {
+            server,
+            store,
+            opened,
         }),
+        Err(unmounted) => {
+            abandon(opened);
+            Err(Unbegun {
+                disk: unmounted.disk,
+                fault: StartFault::Image(fault_of(unmounted.fault)),
+            })
+        }
     }
 }
 

@@ -23,7 +23,7 @@ ghost use Rattle.ufs_start.specs.Refused.{HasStartCause};
 ghost use Rattle.ufs_start.specs.declared.fault.StartFault.{StartFault};
 ghost use Rattle.ufs_start.specs.declared.fault.StartFault.TheVariants as start;
 
-use crate::beginning::begin;
+use crate::beginning::{Begun, begin};
 use crate::closing::{CloseFault, close};
 use std::alloc::Global;
 use ufs_catalog::RecoverFault;
@@ -89,9 +89,12 @@ pub fn play<D: Disk>(alloc: Global, script: Script, _lease: u32, disk: D) -> Pla
 {
     match begin(alloc, disk) {
         Ok(begun) => {
-            let mut server = begun.server;
-            let mut store = begun.store;
-            let session = serve(alloc, &mut server, &mut store, script.clients);
+            let Begun {
+                mut server,
+                mut store,
+                opened,
+            } = begun;
+            let session = serve(alloc, opened, &mut server, &mut store, script.clients);
             let closed = close(alloc, server, store);
             Played {
                 told: session.told,

@@ -1,23 +1,15 @@
-use Rattle.std.proofs.Common.{ℕ, [], refl, sym, ◌∙◌, subst}
+use Rattle.std.proofs.Common.{ℕ, [], sym, ◌∙◌, subst}
 use Rattle.std.proofs.lemmas.Result.{MatchResult-weaker}
 use Rattle.ufs_base.specs.Images.{Image}
 use Rattle.ufs_disk.specs.Moments.{reads}
 use Rattle.ufs_image.specs.Opens.{opens}
-use Rattle.ufs_names_image.specs.Starts.{image_start}
 use Rattle.ufs_recovery.specs.Recovered.{IsCleanDisk}
-use Rattle.ufs_start.specs.Begun.{IsBegun, tree_under}
+use Rattle.ufs_start.specs.Begun.{IsBegun}
 use Rattle.ufs_session.proofs.ThroughoutLemmas.{between_joined}
 use Rattle.ufs_start.specs.Refused.{HasStartCause}
 use Rattle.ufs_stored.specs.OnDisk.{IsExplainedBetween}
 use Rattle.ufs_engine.proofs.Read.{begins_alike, clean_still, no_session, outside_session, reading_explained}
 use Rattle.ufs_engine.proofs.beginning.begin_clean.Goals as goal
-
-pub returns-in-Ok-clause-may : goal.returns-in-Ok-clause-may
-returns-in-Ok-clause-may g c =
-    let b = c.in-Ok.ensures.begun in
-    let start = image_start (tree_under c.in-Ok.start.superblock b.0) in
-    let begun : IsBegun (g.D.Disk.size c.start_of.new.disk) b.0 c.in-Ok.start = subst (λ (n : ℕ). IsBegun n b.0 c.in-Ok.start) (sym c.start_of.ensures.size) b.1 in
-    MatchResult-weaker c.mount.result (c.mount.ensures.may b.0 start begun (record { tree = tree_under c.in-Ok.start.superblock b.0; opened = begun.opened; start_is = refl })) (λ x may. (start, may)) (λ u none. none)
 
 pub returns-in-Ok-clause-size : goal.returns-in-Ok-clause-size
 returns-in-Ok-clause-size g c = MatchResult-weaker c.mount.result c.mount.ensures.size (λ x e. e ∙ c.start_of.ensures.size) (λ u none. none)
@@ -37,7 +29,7 @@ returns-in-Ok-clause-parts g c visible start with_it =
     let b = c.in-Ok.ensures.begun in
     let size = c.start_of.ensures.size in
     let begun : IsBegun (g.D.Disk.size c.start_of.new.disk) b.0 c.in-Ok.start = subst (λ (n : ℕ). IsBegun n b.0 c.in-Ok.start) (sym size) b.1 in
-    c.mount.ensures.may b.0 start begun
+    c.mount.ensures.parts b.0 start begun
     (begins_alike (g.D.Disk.size c.args.disk) (g.D.Disk.size c.start_of.new.disk) (reads (g.D.Disk.moments c.args.disk)) b.0 start (λ i. opens (size i) (b.2 visible i)) with_it)
 
 pub returns-in-Ok-clause-on_disk : goal.returns-in-Ok-clause-on_disk

@@ -7,8 +7,12 @@ use Rattle.ufs_image.proofs.Opening.{has_geometry}
 use Rattle.ufs_layout.specs.Areas.{sector_count}
 use Rattle.ufs_layout.specs.declared.geometry.Geometry.{Geometry}
 use Rattle.ufs_ledger.specs.Ledger.{IsLeftBy}
+use Rattle.ufs_model.specs.PosixTree.{PosixTree}
+use Rattle.ufs_names_image.specs.Starts.{image_start}
+use Rattle.ufs_one_hand.specs.OneHand.{IsStart}
 use Rattle.ufs_session.specs.Played.{MayBegin}
-use Rattle.ufs_start.specs.Begun.{volume_under}
+use Rattle.ufs_sound.specs.Parts as sound
+use Rattle.ufs_start.specs.Begun.{tree_under, volume_under}
 use Rattle.ufs_store.specs.Mounting.{marking}
 use Rattle.ufs_stored.specs.OnDisk.{IsExplainedImage}
 use Rattle.ufs_stored.specs.Parts.{Parts}
@@ -16,7 +20,7 @@ use Rattle.ufs_stored.specs.Sound.{IsSoundServer}
 use Rattle.ufs_engine.specs.Laws.{IsReadClean, parts_of}
 use Rattle.ufs_engine.proofs.Read.{clean_explained}
 use Rattle.ufs_engine.proofs.Refused.{refused_leaves}
-use Rattle.ufs_engine.proofs.Starts.{is_form}
+use Rattle.ufs_engine.proofs.Starts.{is_form, same_start}
 use Rattle.ufs_engine.proofs.beginning.mount.Goals as goal
 
 pub mount-requires-clause-form : goal.mount-requires-clause-form
@@ -34,11 +38,34 @@ returns-in_default-clause-err_moments g c visible clean begun start with_it =
     let old = g.D.Disk.moments c.args.disk in
     started g.D.Disk.keeps (IsExplainedImage size start []) old (clean_explained c.a_request_keeps_the_tree.ensures size old.state start clean with_it)
 
+pub returns-in_default-open-clause-err_moments : goal.returns-in_default-open-clause-err_moments
+returns-in_default-open-clause-err_moments g c visible clean begun start with_it =
+    let size = g.D.Disk.size c.args.disk in
+    let old = g.D.Disk.moments c.args.disk in
+    started g.D.Disk.keeps (IsExplainedImage size start []) old (clean_explained c.a_request_keeps_the_tree.ensures size old.state start clean with_it)
+
+pub open-requires : goal.open-requires
+open-requires g c = c.starts_can_begin.ensures c.args.parts.parts.start c.requires.begun.1.can
+
+pub abandon-requires : goal.abandon-requires
+abandon-requires g c = subst IsStart (sym c.in-Ok-open.ensures) c.requires.begun.1.can
+
 pub returns-in-Ok-mount-clause-may : goal.returns-in-Ok-mount-clause-may
-returns-in-Ok-mount-clause-may g c image start begun with_it =
+returns-in-Ok-mount-clause-may g c =
+    let b = c.requires.begun in
     let e = c.in-Ok.ensures in
     let same : c.in-Ok.server ≡ parts_of c.args.parts = λ i. record { names = e.names i; files = e.files i; commits = e.commits i; pool = e.pool i; fresh = e.fresh i; dropped = e.dropped i } in
-    subst (λ (p : Parts). MayBegin p start) (sym same) (c.beginning_law.ensures.may (g.D.Disk.size c.args.disk) image c.args.parts start begun with_it)
+    let from : c.in-Ok-open.opened.start.tree ≡ image_start (tree_under c.args.parts.superblock b.0) = ap (λ (k : sound.Start). k.tree) (c.in-Ok-open.ensures ∙ b.1.session) in
+    subst (λ (t : PosixTree). MayBegin c.in-Ok.server t) (sym from)
+    (subst (λ (p : Parts). MayBegin p (image_start (tree_under c.args.parts.superblock b.0))) (sym same)
+    (c.beginning_law.ensures.may (g.D.Disk.size c.args.disk) b.0 c.args.parts _ b.1 (record { tree = tree_under c.args.parts.superblock b.0; opened = b.1.opened; start_is = refl })))
+
+pub returns-in-Ok-mount-clause-session : goal.returns-in-Ok-mount-clause-session
+returns-in-Ok-mount-clause-session g c = subst IsStart (sym c.in-Ok-open.ensures) c.requires.begun.1.can
+
+pub returns-in-Ok-mount-clause-parts : goal.returns-in-Ok-mount-clause-parts
+returns-in-Ok-mount-clause-parts g c image start begun with_it =
+    ap (λ (k : sound.Start). k.tree) (c.in-Ok-open.ensures ∙ begun.session) ∙ sym (same_start (g.D.Disk.size c.args.disk) image c.args.parts begun start with_it)
 
 pub returns-in-Ok-mount-clause-sound : goal.returns-in-Ok-mount-clause-sound
 returns-in-Ok-mount-clause-sound g c =

@@ -10,7 +10,7 @@ use Rattle.ufs_model.specs.PosixTree.{root_alone}
 use Rattle.ufs_model.specs.declared.data.Entry.{Entry}
 use Rattle.ufs_engine.specs.Plays.{AreFaultsOf, IsEndFault, served_end}
 use Rattle.ufs_recovery.specs.Recovered.{IsCleanDisk}
-use Rattle.ufs_session.specs.Played.{IsPlayedFrom}
+use Rattle.ufs_session.specs.Played.{IsPlayedFrom, MayBegin}
 use Rattle.ufs_session.specs.Throughout.{IsExplainedThroughout}
 use Rattle.ufs_session.proofs.ThroughoutLemmas.{throughout_after, throughout_before}
 use Rattle.ufs_store.specs.Tables.{state_of}
@@ -25,7 +25,8 @@ returns-in-Ok-clause-legal g c =
     let b = c.in-Ok.ensures in
     let s = c.serve-session in
     let end = c.whole_end in
-    (b.may.0, played_as b.may.0 c.args.script.clients s.result.told s.result.ended (served_end end.result) (joined s.result.told) end.ensures.served (s.ensures.played b.may.0 b.may.1))
+    let start = c.in-Ok.begun.opened.start.tree in
+    (start, played_as start c.args.script.clients s.result.told s.result.ended (served_end end.result) (joined s.result.told) end.ensures.served (s.ensures.played start b.may))
 
 pub returns-in-Ok-clause-faults : goal.returns-in-Ok-clause-faults
 returns-in-Ok-clause-faults g c =
@@ -73,7 +74,7 @@ returns-in-Ok-clause-played g c may start begins =
     let b = c.in-Ok.ensures in
     let s = c.serve-session in
     let end = c.whole_end in
-    played_as start c.args.script.clients s.result.told s.result.ended (served_end end.result) (joined s.result.told) end.ensures.served (s.ensures.played start (b.parts may.is_visible may.proper start begins))
+    played_as start c.args.script.clients s.result.told s.result.ended (served_end end.result) (joined s.result.told) end.ensures.served (s.ensures.played start (subst (MayBegin c.in-Ok.begun.server) (b.parts may.is_visible may.proper start begins) b.may))
 
 pub returns-in-Ok-clause-opened : goal.returns-in-Ok-clause-opened
 returns-in-Ok-clause-opened g c may =
@@ -83,7 +84,7 @@ pub returns-in-Ok-clause-crash : goal.returns-in-Ok-clause-crash
 returns-in-Ok-clause-crash g c may start begins image is =
     let b = c.in-Ok.ensures in
     let s = c.serve-session in
-    let served = s.ensures.on_disk may.is_visible start (b.parts may.is_visible may.proper start begins) (b.on_disk may.is_visible may.proper start begins) in
+    let served = s.ensures.on_disk may.is_visible start (subst (MayBegin c.in-Ok.begun.server) (b.parts may.is_visible may.proper start begins) b.may) (b.on_disk may.is_visible may.proper start begins) in
     let ended = subst (λ (n : ℕ). IsExplainedBetween g.D.Disk.keeps n start (joined s.result.told) (g.D.Disk.moments s.new.door.disk) (g.D.Disk.moments c.close-closed.result.disk)) (s.ensures.sectors ∙ b.size)
     (c.close-closed.ensures.moments may.is_visible start (joined s.result.told) served) in
     (ended.after image is).explained
@@ -95,7 +96,7 @@ returns-in-Ok-clause-proper g c may image is =
     let from = c.begin.ensures.opened may.is_visible may.proper in
     let start = from.0 in
     let begins = from.1 in
-    let served = s.ensures.on_disk may.is_visible start (b.parts may.is_visible may.proper start begins) (b.on_disk may.is_visible may.proper start begins) in
+    let served = s.ensures.on_disk may.is_visible start (subst (MayBegin c.in-Ok.begun.server) (b.parts may.is_visible may.proper start begins) b.may) (b.on_disk may.is_visible may.proper start begins) in
     let ended = subst (λ (n : ℕ). IsExplainedBetween g.D.Disk.keeps n start (joined s.result.told) (g.D.Disk.moments s.new.door.disk) (g.D.Disk.moments c.close-closed.result.disk)) (s.ensures.sectors ∙ b.size)
     (c.close-closed.ensures.moments may.is_visible start (joined s.result.told) served) in
     (ended.after image is).proper
@@ -104,7 +105,7 @@ pub returns-in-Ok-clause-moments : goal.returns-in-Ok-clause-moments
 returns-in-Ok-clause-moments g c may start begins =
     let b = c.in-Ok.ensures in
     let s = c.serve-session in
-    let served = s.ensures.on_disk may.is_visible start (b.parts may.is_visible may.proper start begins) (b.on_disk may.is_visible may.proper start begins) in
+    let served = s.ensures.on_disk may.is_visible start (subst (MayBegin c.in-Ok.begun.server) (b.parts may.is_visible may.proper start begins) b.may) (b.on_disk may.is_visible may.proper start begins) in
     let ended = subst (λ (n : ℕ). IsExplainedBetween g.D.Disk.keeps n start (joined s.result.told) (g.D.Disk.moments s.new.door.disk) (g.D.Disk.moments c.close-closed.result.disk)) (s.ensures.sectors ∙ b.size)
     (c.close-closed.ensures.moments may.is_visible start (joined s.result.told) served) in
     let size = g.D.Disk.size c.args.disk in
@@ -114,7 +115,7 @@ returns-in-Ok-clause-moments g c may start begins =
     throughout_after g.D.Disk.keeps size start [] told old begun (g.D.Disk.moments c.close-closed.result.disk) (b.moments may.is_visible may.proper start begins)
     (throughout_before g.D.Disk.keeps size start [] told begun (g.D.Disk.moments s.new.door.disk) (g.D.Disk.moments c.close-closed.result.disk)
     (subst (λ (n : ℕ). IsExplainedThroughout g.D.Disk.keeps n start [] told begun (g.D.Disk.moments s.new.door.disk)) b.size
-    (s.ensures.moments may.is_visible start (b.parts may.is_visible may.proper start begins) (b.on_disk may.is_visible may.proper start begins))) ended)
+    (s.ensures.moments may.is_visible start (subst (MayBegin c.in-Ok.begun.server) (b.parts may.is_visible may.proper start begins) b.may) (b.on_disk may.is_visible may.proper start begins))) ended)
 
 pub returns-in-Ok-clause-clean : goal.returns-in-Ok-clause-clean
 returns-in-Ok-clause-clean g c may =
@@ -123,7 +124,7 @@ returns-in-Ok-clause-clean g c may =
     let from = c.begin.ensures.opened may.is_visible may.proper in
     let start = from.0 in
     let begins = from.1 in
-    let served = s.ensures.on_disk may.is_visible start (b.parts may.is_visible may.proper start begins) (b.on_disk may.is_visible may.proper start begins) in
+    let served = s.ensures.on_disk may.is_visible start (subst (MayBegin c.in-Ok.begun.server) (b.parts may.is_visible may.proper start begins) b.may) (b.on_disk may.is_visible may.proper start begins) in
     let closing = c.close-closed in
     both_ok c.whole_end.result closing.result.ended
     (λ leads. subst (λ (n : ℕ). IsCleanDisk n (g.D.Disk.moments closing.result.disk).state) (s.ensures.sectors ∙ b.size) (leads start (joined s.result.told) served))
@@ -133,7 +134,7 @@ pub returns-in-Ok-clause-last : goal.returns-in-Ok-clause-last
 returns-in-Ok-clause-last g c may start begins =
     let b = c.in-Ok.ensures in
     let s = c.serve-session in
-    let served = s.ensures.on_disk may.is_visible start (b.parts may.is_visible may.proper start begins) (b.on_disk may.is_visible may.proper start begins) in
+    let served = s.ensures.on_disk may.is_visible start (subst (MayBegin c.in-Ok.begun.server) (b.parts may.is_visible may.proper start begins) b.may) (b.on_disk may.is_visible may.proper start begins) in
     let closing = c.close-closed in
     both_ok c.whole_end.result closing.result.ended
     (λ leads. subst (λ (n : ℕ). StandsForTree n (tree_after start (joined s.result.told)) (reads (g.D.Disk.moments closing.result.disk))) (s.ensures.sectors ∙ b.size) (leads start (joined s.result.told) served))
