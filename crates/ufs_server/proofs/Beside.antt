@@ -26,15 +26,16 @@ no_device (reply.Excused (excuse.Blocks need had)) calm = refl
 no_device (reply.Excused excuse.Inodes) calm = refl
 no_device (reply.Excused (excuse.Extents need)) calm = refl
 
-stop_after-none : (stop : Option ℕ) → stop_after stop None ≡ stop
-stop_after-none None = refl
-stop_after-none (Some fault) = refl
+-- a call that passed stops nothing
+pub stop_stays : (stop : Option ℕ) → stop_after stop None ≡ stop
+stop_stays None = refl
+stop_stays (Some fault) = refl
 
 -- no call failed, and no fault is told
 pub calm_told : (old new : StoreState) (r : Reply) → tells_fault r ≡ false → new.faults ≡ old.faults → new.stop ≡ old.stop → TellsFaults old new r
 calm_told old new r calm faults stop =
     let none = sym (no_device r calm) in
-    inl (record { told = subst (IsTold old.faults new.faults) none faults; stop = stop ∙ sym (stop_after-none old.stop) ∙ ap (stop_after old.stop) none })
+    inl (record { told = subst (IsTold old.faults new.faults) none faults; stop = stop ∙ sym (stop_stays old.stop) ∙ ap (stop_after old.stop) none })
 
 -- at most one failed that isn't told
 pub beside_told : (old new : StoreState) (r : Reply) → tells_fault r ≡ false → IsUntold old new → TellsFaults old new r
@@ -53,7 +54,7 @@ pub told_untold : (old new : StoreState) (device : Option ℕ) → IsTold old.fa
 told_untold old new device told still stop = by old.stop refl device refl
   where
     none : device ≡ None → IsUntold old new
-    none e = inl (record { faults = subst (IsTold old.faults new.faults) e told; stop = stop ∙ ap (stop_after old.stop) e ∙ stop_after-none old.stop })
+    none e = inl (record { faults = subst (IsTold old.faults new.faults) e told; stop = stop ∙ ap (stop_after old.stop) e ∙ stop_stays old.stop })
 
     by : (o : Option ℕ) → old.stop ≡ o → (d : Option ℕ) → device ≡ d → IsUntold old new
     by (Some fault) stopped d e = none (still fault stopped)

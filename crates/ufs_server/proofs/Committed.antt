@@ -1,5 +1,5 @@
 -- A server whose names are committed has the same tree.
-use Rattle.std.proofs.Common.{◌≡◌, ℕ, inl, inr, List, None, sym, subst}
+use Rattle.std.proofs.Common.{◌≡◌, inl, inr, List, None, subst}
 use Rattle.std.specs.Prelude.{IsSome}
 use Rattle.ufs_bitmap.specs.Blocks.{BlockSet}
 use Rattle.ufs_layout.specs.declared.geometry.Geometry.{Geometry}
@@ -7,7 +7,7 @@ use Rattle.ufs_model.specs.PosixTree.{PosixTree}
 use Rattle.ufs_model.specs.declared.data.Entry.{Entry}
 use Rattle.ufs_store.specs.State.{StoreState}
 use Rattle.ufs_stored.specs.Laws.{with_names_committed}
-use Rattle.ufs_stored.specs.OnDisk.{HasNames, IsGoing, IsOnDisk}
+use Rattle.ufs_stored.specs.OnDisk.{IsGoing, IsOnDisk}
 use Rattle.ufs_stored.specs.Parts.{Parts}
 use Rattle.ufs_stored.specs.Sound.{IsSoundServer}
 use Rattle.ufs_stored.specs.Stored.{ArePartsOf}

@@ -28,7 +28,7 @@ use Rattle.ufs_stored.specs.Sound.{IsSoundServer}
 use Rattle.ufs_stored.specs.Stored.{ArePartsOf}
 use Rattle.ufs_stored.proofs.FileEntries.{parts_now}
 use Rattle.ufs_stored.proofs.Puts.{here, other_file}
-use Rattle.ufs_server.proofs.FileServing.{at, same_pool}
+use Rattle.ufs_server.proofs.FileServing.{IsOut, at, same_pool}
 
 error_or : {T X : Type 0} → X → Result T X → X
 error_or d (Ok x) = d
@@ -38,23 +38,32 @@ pub same_error : {T X : Type 0} (x y : X) → ◌≡◌ {A = Result T X} (Err x)
 unfolding error_or
 same_error x y e = ap (error_or x) e
 
-module _ (s0 : StoreState) (p0 p2 : Parts) (file : ℕ) (hand : FileState) (known : CommitState) (sound : IsSoundServer (geometry_of_store s0) s0.unassigned.free p0)
-    (held : (s : FileState) → map.get p0.files file ≡ Some s → state_of hand known ≡ durable_in p0.commits s) (there : map.get p0.files file ≡ Some hand) (number : hand.file ≡ file)
-    (others : p2 ≡ record p0 { files = p2.files; commits = p2.commits }) (numbered : AreNumbered p0.files) where
+-- The file that a server gave out stands in its place again.
+pub record IsBack (p q : Parts) (file : ℕ) (y : DurableState) (last : Parts) : Type 0 where
+  pub put : last ≡ with_file y q.pool q
+  pub back : (z : DurableState) (b : BlockSet) → z.file.file ≡ file → with_file z b q ≡ with_file z b p
+
+-- It is committed there, and nothing is known of its commits any more.
+pub record IsForgotten (p4 : Parts) (file : ℕ) (hand : FileState) (known : CommitState) (y : DurableState) (v : Parts) (left : Commits) : Type 0 where
+  pub committed : y ≡ file_committed (state_of hand known)
+  pub view : v ≡ p4
+  pub gone : left ≡ map.remove v.commits file
+
+module _ {s0 : StoreState} {p0 p2 : Parts} {file : ℕ} {hand : FileState} {known : CommitState} (out : IsOut s0 p0 p2 file hand known) (numbered : AreNumbered p0.files) where
   abbrev x : DurableState
   x = durable_in p0.commits hand
 
   is_held : state_of hand known ≡ x
-  is_held = held hand there
+  is_held = out.held hand out.there
 
   is_at : map.get p0.files hand.file ≡ Some hand
-  is_at = at s0 p0 p2 file hand known sound held there number others
+  is_at = at out
 
   pool_is : p2.pool ≡ p0.pool
-  pool_is = same_pool s0 p0 p2 file hand known sound held there number others
+  pool_is = same_pool out
 
   live_at : IsSome (map.get p0.names.held file) → IsSome (map.get p0.names.held hand.file)
-  live_at = subst (λ (n : ℕ). IsSome (map.get p0.names.held n)) (sym number)
+  live_at = subst (λ (n : ℕ). IsSome (map.get p0.names.held n)) (sym out.number)
 
   -- ---- before
 
@@ -63,10 +72,10 @@ module _ (s0 : StoreState) (p0 p2 : Parts) (file : ℕ) (hand : FileState) (know
     dropped_is = ap (λ (z : DurableState). z.dropped) (sym is_held)
 
     pub may_blocks : AreDataBlocks (geometry_of_store s0) (blocks_of hand.extents)
-    may_blocks = (may s0 p0 hand space is_at (subst (All IsRun) (sym dropped_is) valid) sound).blocks
+    may_blocks = (may s0 p0 hand space is_at (subst (All IsRun) (sym dropped_is) valid) out.sound).blocks
 
     pub may_dropped : MayReturn s0.unassigned known.dropped
-    may_dropped = subst (MayReturn s0.unassigned) dropped_is (may s0 p0 hand space is_at (subst (All IsRun) (sym dropped_is) valid) sound).dropped
+    may_dropped = subst (MayReturn s0.unassigned) dropped_is (may s0 p0 hand space is_at (subst (All IsRun) (sym dropped_is) valid) out.sound).dropped
 
   -- ---- meanwhile
 
@@ -76,9 +85,9 @@ module _ (s0 : StoreState) (p0 p2 : Parts) (file : ℕ) (hand : FileState) (know
 
   -- ---- put back
 
-  module _ (y : DurableState) (p4 : Parts) (put : p4 ≡ with_file y p2.pool p2) (back : (z : DurableState) (b : BlockSet) → z.file.file ≡ file → with_file z b p2 ≡ with_file z b p0) where
+  module _ {y : DurableState} {p4 : Parts} (is_back : IsBack p0 p2 file y p4) where
     put_is : (z : DurableState) → y ≡ z → z.file.file ≡ file → p4 ≡ with_file z p0.pool p0
-    put_is z same is = put ∙ ap (λ (w : DurableState). with_file w p2.pool p2) same ∙ ap (λ (b : BlockSet). with_file z b p2) pool_is ∙ back z p0.pool is
+    put_is z same is = is_back.put ∙ ap (λ (w : DurableState). with_file w p2.pool p2) same ∙ ap (λ (b : BlockSet). with_file z b p2) pool_is ∙ is_back.back z p0.pool is
 
     -- as it was
     module _ (kept : y ≡ state_of hand known) (as_it_was : PutBackAsItWas) where
@@ -86,12 +95,12 @@ module _ (s0 : StoreState) (p0 p2 : Parts) (file : ℕ) (hand : FileState) (know
       table = (with_file (durable_in p0.commits hand) p0.pool p0).commits
 
       as_before : p4 ≡ record p0 { commits = table }
-      as_before = put_is x (kept ∙ is_held) number ∙ (as_it_was (geometry_of_store s0) s0.unassigned.free p0 hand numbered is_at sound).0
+      as_before = put_is x (kept ∙ is_held) out.number ∙ (as_it_was (geometry_of_store s0) s0.unassigned.free p0 hand numbered is_at out.sound).0
 
       pub on_disk_failed : (s1 : StoreState) → OnDiskAsTold → (g : Geometry) → WrittenSyncsGoOn g → FailedSyncsGoOn → geometry_of_store s0 ≡ g → IsSome (map.get p0.names.held file) → FitsInode hand
           → HasWritten s0 s1 (state_of hand known) ⊎ HasFailed s0 s1 (state_of hand known) → (start : PosixTree) (history : List Entry) → HasNames s0 start history p0 → IsOnDisk s1 start history p4
       on_disk_failed s1 told g memory failure form live fits what start history names = subst (IsOnDisk s1 start history) (sym as_before)
-          (told s1 start history p0 table (as_it_was (geometry_of_store s0) s0.unassigned.free p0 hand numbered is_at sound).1 (by what))
+          (told s1 start history p0 table (as_it_was (geometry_of_store s0) s0.unassigned.free p0 hand numbered is_at out.sound).1 (by what))
         where
           by : HasWritten s0 s1 (state_of hand known) ⊎ HasFailed s0 s1 (state_of hand known) → IsOnDisk s1 start history p0
           by (inl written) = inl (memory s0 s1 start history p0 hand form is_at (live_at live) (subst (HasWritten s0 s1) is_held written) names)
@@ -105,18 +114,18 @@ module _ (s0 : StoreState) (p0 p2 : Parts) (file : ℕ) (hand : FileState) (know
 
       pub sound_failed : (s1 : StoreState) → SoundAsTold → s1.unassigned ≡ s0.unassigned → geometry_of_store s1 ≡ geometry_of_store s0 → IsSoundServer (geometry_of_store s1) s1.unassigned.free p4
       sound_failed s1 told free form = subst (λ (g : Geometry). IsSoundServer g s1.unassigned.free p4) (sym form) (subst (λ (u : Space). IsSoundServer (geometry_of_store s0) u.free p4) (sym free)
-          (subst (IsSoundServer (geometry_of_store s0) s0.unassigned.free) (sym as_before) (told (geometry_of_store s0) s0.unassigned.free p0 table (as_it_was (geometry_of_store s0) s0.unassigned.free p0 hand numbered is_at sound).1 sound)))
+          (subst (IsSoundServer (geometry_of_store s0) s0.unassigned.free) (sym as_before) (told (geometry_of_store s0) s0.unassigned.free p0 table (as_it_was (geometry_of_store s0) s0.unassigned.free p0 hand numbered is_at out.sound).1 out.sound)))
 
     -- committed, and forgotten
-    module _ (committed : y ≡ file_committed (state_of hand known)) (forgotten : CommittedIsForgotten) (v : Parts) (view : v ≡ p4) (left : Commits) (gone : left ≡ map.remove v.commits file) where
+    module _ {v : Parts} {left : Commits} (done_with : IsForgotten p4 file hand known y v left) (forgotten : CommittedIsForgotten) where
       abbrev q : Parts
       q = with_file (file_committed (durable_in p0.commits hand)) p0.pool p0
 
       is_q : v ≡ q
-      is_q = view ∙ put_is (file_committed x) (committed ∙ ap file_committed is_held) number
+      is_q = done_with.view ∙ put_is (file_committed x) (done_with.committed ∙ ap file_committed is_held) out.number
 
       left_is : left ≡ map.remove q.commits hand.file
-      left_is = gone ∙ ap (λ (p : Parts). map.remove p.commits file) is_q ∙ ap (map.remove q.commits) (sym number)
+      left_is = done_with.gone ∙ ap (λ (p : Parts). map.remove p.commits file) is_q ∙ ap (map.remove q.commits) (sym out.number)
 
       at_last : record v { commits = left } ≡ record q { commits = map.remove q.commits hand.file }
       at_last = ap (λ (p : Parts). record p { commits = left }) is_q ∙ ap (λ (cs : Commits). record q { commits = cs }) left_is
@@ -124,8 +133,8 @@ module _ (s0 : StoreState) (p0 p2 : Parts) (file : ℕ) (hand : FileState) (know
       pub synced_done : (s1 : StoreState) → FileSyncsGoOn → SyncedAsTold → IsSome (map.get p0.names.held file) → FitsInode hand → HasSynced s0 s1 (state_of hand known) → (start : PosixTree) (history : List Entry) (done : List ℕ)
           → HasFiles s0 start history p0 done → HasFiles s1 start history (record v { commits = left }) (file ∷ done)
       synced_done s1 law told live fits did start history done files = subst (λ (p : Parts). HasFiles s1 start history p (file ∷ done)) (sym at_last)
-          (subst (λ (n : ℕ). HasFiles s1 start history (record q { commits = map.remove q.commits hand.file }) (n ∷ done)) number
-          (told s1 start history q (map.remove q.commits hand.file) (hand.file ∷ done) (forgotten (geometry_of_store s0) s0.unassigned.free p0 hand numbered is_at sound)
+          (subst (λ (n : ℕ). HasFiles s1 start history (record q { commits = map.remove q.commits hand.file }) (n ∷ done)) out.number
+          (told s1 start history q (map.remove q.commits hand.file) (hand.file ∷ done) (forgotten (geometry_of_store s0) s0.unassigned.free p0 hand numbered is_at out.sound)
           (law s0 s1 start history p0 hand done is_at (live_at live) fits (subst (HasSynced s0 s1) is_held did) files)))
 
       pub parts_done : (t : PosixTree) → ArePartsOf p0 t → ArePartsOf (record v { commits = left }) t
@@ -149,7 +158,7 @@ module _ (s0 : StoreState) (p0 p2 : Parts) (file : ℕ) (hand : FileState) (know
           by : (other ≡ hand.file) ⊎ (other ≢ hand.file) → (other ≡ file → ⊥) × IsSome (map.get p0.commits other)
           by (inl is) = (let clash = sym (ap is_some (ap (map.get (map.remove q.commits hand.file)) is ∙ lookups.removed_here nat_cmp_total nat_cmp-IsAntisymmetric q.commits hand.file)) ∙ there_still in absurd cc)
           by (inr not) = (
-            (λ e. not (e ∙ sym number)),
+            (λ e. not (e ∙ sym out.number)),
             ap is_some (sym (lookups.removed_else nat_cmp_total nat_cmp-IsAntisymmetric q.commits hand.file other not ∙ lookups.inserted_else nat_cmp_total nat_cmp-IsAntisymmetric p0.commits hand.file _ other not)) ∙ there_still,
           )
 
@@ -158,5 +167,5 @@ module _ (s0 : StoreState) (p0 p2 : Parts) (file : ℕ) (hand : FileState) (know
       sound_done s1 law told freed form = subst (λ (g : Geometry). IsSoundServer g s1.unassigned.free (record v { commits = left })) (sym form)
           (subst (λ (u : BlockSet). IsSoundServer (geometry_of_store s0) u (record v { commits = left })) (sym (freed ∙ ap (λ (z : DurableState). set.union s0.unassigned.free (set_of z.dropped)) is_held))
           (subst (IsSoundServer (geometry_of_store s0) (set.union s0.unassigned.free (set_of x.dropped))) (sym at_last)
-          (told (geometry_of_store s0) (set.union s0.unassigned.free (set_of x.dropped)) q (map.remove q.commits hand.file) (forgotten (geometry_of_store s0) s0.unassigned.free p0 hand numbered is_at sound)
-          (law (geometry_of_store s0) s0.unassigned.free p0 hand numbered is_at sound))))
+          (told (geometry_of_store s0) (set.union s0.unassigned.free (set_of x.dropped)) q (map.remove q.commits hand.file) (forgotten (geometry_of_store s0) s0.unassigned.free p0 hand numbered is_at out.sound)
+          (law (geometry_of_store s0) s0.unassigned.free p0 hand numbered is_at out.sound))))

@@ -11,7 +11,6 @@ use Rattle.ufs_bitmap.proofs.TakingLemmas.{has-append, has-none}
 use Rattle.ufs_model.specs.PosixTree.{PosixTree}
 use Rattle.ufs_model.specs.declared.data.Entry.{Entry}
 use Rattle.ufs_names.specs.NamesPart.{Holdings}
-use Rattle.ufs_store.specs.Refusals.{stop_after}
 use Rattle.ufs_store.specs.State.{StoreState}
 use Rattle.ufs_stored.specs.OnDisk.{HasFile, HasFiles, HasNames}
 use Rattle.ufs_durable.specs.State.{CommitState}
@@ -71,11 +70,6 @@ pub has_file : (s : StoreState) (start : PosixTree) (history : List Entry) (p : 
 has_file s start history p file live files =
     let self : eqb file file ≡ true = grind (arith, nat_tests) in
     record { going = files.names.going; there = files.names.numbered file live; changes = files.files file (has-insert (set.from_list []) file file ∙ ap (λ (b : Bool). b || has [] file) self) }
-
--- a call that passed stops nothing
-pub stop_stays : (o : Option ℕ) → stop_after o None ≡ o
-stop_stays None = refl
-stop_stays (Some fault) = refl
 
 -- the numbers of the files that are held
 pub keys_are : (m : Holdings) (file : ℕ) → has (map.keys m) file ≡ is_some (map.get m file)

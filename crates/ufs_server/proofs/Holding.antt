@@ -1,5 +1,5 @@
 -- A file out of its server, and back in its place.
-use Rattle.std.proofs.Common.{◌≡◌, ◌≢◌, ℕ, Bool, true, false, Option, Some, None, is_some, ap, sym, refl, ◌∙◌, subst}
+use Rattle.std.proofs.Common.{◌≡◌, ℕ, true, Option, Some, None, is_some, ap, sym, refl, ◌∙◌, subst}
 use Rattle.std.specs.Prelude.{IsSome, unwrap_or}
 use Rattle.std.specs.Cmp.{nat_cmp_total}
 use Rattle.std.specs.FinMap as map
@@ -39,13 +39,6 @@ known_already commits file f has = by (map.get commits file) refl
     by : (o : Option CommitState) → map.get commits file ≡ o → map.insert commits file (commits_in commits file f) ≡ commits
     by (Some c) e = insert_same nat_cmp_total nat_cmp-IsAntisymmetric commits file (commits_in commits file f) (e ∙ ap Some (sym (ap (λ (o : Option CommitState). unwrap_or o (committed_as f)) e)))
     by None e = (let clash = sym has ∙ ap is_some e in absurd cc)
-
-pub unknown : (commits : Commits) (file : ℕ) (f : FileState) → is_some (map.get commits file) ≡ false → commits_in commits file f ≡ committed_as f
-unknown commits file f none = by (map.get commits file) refl
-  where
-    by : (o : Option CommitState) → map.get commits file ≡ o → commits_in commits file f ≡ committed_as f
-    by (Some c) e = (let clash = sym none ∙ ap is_some e in absurd cc)
-    by None e = ap (λ (o : Option CommitState). unwrap_or o (committed_as f)) e
 
 -- a file that is taken out is what it was, with what was known of it
 pub taken_out : (p : Parts) (file : ℕ) (f hand : FileState) (known : CommitState) → AreNumbered p.files → map.get p.files file ≡ Some f → map.get p.files file ≡ Some hand

@@ -9,6 +9,7 @@ mod Known
 mod NamesGoOn
 mod NamesServed
 mod Replied
+mod Staying
 mod Syncs
 mod Touch
 mod Touching

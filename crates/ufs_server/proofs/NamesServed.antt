@@ -1,6 +1,6 @@
 -- A request of the names, once what it touched is settled.
-use Rattle.std.proofs.Common.{◌≡◌, ℕ, ◌⊎◌, inl, inr, List, ◌++◌, Bool, true, false, ◌||◌, ◌&&◌, not, Option, Some, length, ap, sym, refl, ◌∙◌, subst}
-use Rattle.std.specs.Prelude.{◌↔◌, IsSome}
+use Rattle.std.proofs.Common.{◌≡◌, ℕ, ◌⊎◌, inl, inr, List, ◌++◌, Bool, true, false, ◌||◌, ◌&&◌, not, Option, Some, length, ap, sym, refl, ◌∙◌}
+use Rattle.std.specs.Prelude.{IsSome}
 use Rattle.std.specs.FinMap as map
 use Rattle.std.specs.FinSet as set
 use Rattle.std.specs.Ordering.{nat_cmp}
@@ -16,7 +16,7 @@ use Rattle.ufs_name_tree.specs.Notes.{GoesByNotes}
 use Rattle.ufs_names.specs.Calls.{HaveInodes, IsServed, IsTouched}
 use Rattle.ufs_names.specs.NamesPart.{NamesPart}
 use Rattle.ufs_names.specs.Space.{AreApart, HaveTheSame}
-use Rattle.ufs_names_stored.specs.Serving.{HasLeft, HasServed, HasSettled}
+use Rattle.ufs_names_stored.specs.Serving.{HasLeft, HasServed}
 use Rattle.ufs_pouring.specs.Lent.{listed}
 use Rattle.ufs_stored.specs.Parts.{Commits, Parts}
 use Rattle.ufs_server.specs.Touching.{IsSettled}

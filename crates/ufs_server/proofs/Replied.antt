@@ -1,5 +1,5 @@
 -- What a reply to a request that asks for a commit tells of its sync.
-use Rattle.std.proofs.Common.{◌≡◌, ℕ, true, false, Some, None, ap, refl, subst, ◌∙◌}
+use Rattle.std.proofs.Common.{◌≡◌, ℕ, true, false, Some, ap, refl, subst}
 use Rattle.std.specs.Prelude.{OnErr, OnOk, Result, Ok, Err}
 use Rattle.ufs_model.specs.History.{is_excused}
 use Rattle.ufs_model.specs.declared.data.Entry.{Entry}
@@ -8,10 +8,6 @@ use Rattle.ufs_model.specs.declared.data.Excuse.TheVariants as excuse
 use Rattle.ufs_model.specs.declared.data.Reply.{Reply}
 use Rattle.ufs_model.specs.declared.data.Reply.TheVariants as reply
 use Rattle.ufs_server.specs.Answered.{IsSyncReply, device_in, device_told, is_of_store, reply_to, stopped_in}
-
-pub on_err : {T E : Type 0} (r : Result T E) (A : Type 0) → A → OnErr r A
-on_err (Ok x) A a = tt
-on_err (Err e) A a = a
 
 pub reply_device : {T : Type 0} (r : Result T Excuse) → device_in (reply_to r) ≡ device_told r
 reply_device (Ok x) = refl

@@ -1,18 +1,18 @@
 -- A request that asks for a commit is answered.
-use Rattle.std.proofs.Common.{◌≡◌, ℕ, ◌⊎◌, inl, inr, Bool, true, false, Option, Some, None, is_none, is_some, ap, sym, refl, ◌∙◌, subst}
-use Rattle.std.specs.Prelude.{IsSome, if◌then◌else◌, Result, Ok, Err, IfErr, unwrap_or}
+use Rattle.std.proofs.Common.{◌≡◌, ℕ, ◌⊎◌, inl, inr, true, Option, Some, None, ap, sym, refl, ◌∙◌, subst}
+use Rattle.std.specs.Prelude.{IsSome, Result, Ok, Err, IfErr, unwrap_or}
 use Rattle.std.specs.FinMap as map
-use Rattle.ufs_base.specs.Choices.{first_of, refused_if}
+use Rattle.ufs_base.specs.Choices.{first_of}
+use Rattle.ufs_file.specs.declared.hand.Applied.{Applied}
 use Rattle.ufs_model.specs.Asks.{IsAsk, IsDescAfter, desc_of_fd, fd_named, fd_told}
 use Rattle.ufs_model.specs.Descriptors.{closed, opened}
 use Rattle.ufs_model.specs.Excuses.{ExcuseFits, IsExcuseOf}
 use Rattle.ufs_model.specs.Posix.{posix, served}
-use Rattle.ufs_model.specs.PosixTree.{IsTree, PosixTree, desc_at}
-use Rattle.ufs_model.specs.Refusals.{own_refusal, refusal, tree_refusal}
+use Rattle.ufs_model.specs.PosixTree.{PosixTree, desc_at}
+use Rattle.ufs_model.specs.Refusals.{own_refusal, tree_refusal}
 use Rattle.ufs_model.specs.declared.data.Ask.{Ask}
 use Rattle.ufs_model.specs.declared.data.Desc.{Desc}
 use Rattle.ufs_model.specs.declared.data.Errno.{Errno}
-use Rattle.ufs_model.specs.declared.data.Errno.TheVariants.{Ebadf}
 use Rattle.ufs_model.specs.declared.data.Excuse.{Excuse}
 use Rattle.ufs_model.specs.declared.data.Excuse.TheVariants as excuse
 use Rattle.ufs_model.specs.declared.data.Op.{Op}
@@ -85,13 +85,14 @@ pub posix_refused : (t : PosixTree) (client : ℕ) (request : Op) (errno : Errno
 posix_refused t client request errno own = ap (λ (o : Option Errno). served t client request (first_of o (tree_refusal t client request))) own
 
 -- the tree stays, and so does the request's descriptor
-pub answered_so : (t : PosixTree) (ask : Ask) (new : Parts) (r : Reply) → asks_commit ask.op ≡ true → posix t ask.client ask.op ≡ (t, r) → IsAsk t ask → ArePartsOf new t → IsAnswered t ask new r ask.desc
-answered_so t ask new r e is asked parts = record {
+pub answered_so : (t : PosixTree) (ask : Ask) (new : Parts) (r : Reply) (applied : Applied) → applied.entry.reply ≡ r → applied.desc ≡ ask.desc → asks_commit ask.op ≡ true → posix t ask.client ask.op ≡ (t, r) → IsAsk t ask → ArePartsOf new t
+    → IsAnswered t ask new applied.entry.reply applied.desc
+answered_so t ask new r applied reply_is desc_is e is asked parts = subst (λ (k : Reply × Option Desc). IsAnswered t ask new k.0 k.1) (λ i. (sym reply_is i, sym desc_is i)) (record {
   replied = ap (λ (x : PosixTree × Reply). x.1) (sym is);
   goes_on = subst (λ (x : PosixTree × Reply). ArePartsOf new x.0) (sym is) parts;
   told = subst (λ (x : PosixTree × Reply). IsDescAfter t.fds x.0.fds ask.client (fd_told ask.op r) ask.desc) (sym is)
       (record { this = asked.desc ∙ ap (desc_of_fd t.fds ask.client) (sym (told_is ask.op e r)); others = λ c n apart. refl });
-}
+})
 
 -- an excuse of the store fits
 pub fits_store : (t : PosixTree) (client : ℕ) (request : Op) (x : Excuse) → asks_commit request ≡ true → own_refusal t client request ≡ None → is_of_store x ≡ true → ExcuseFits t client request x
@@ -116,13 +117,6 @@ module _ (t : PosixTree) (ask : Ask) (fd : ℕ) (is : ask.op ≡ op.Fsync fd) (a
 
   pub opened_is : (d : Desc) → ask.desc ≡ Some d → opened t ask.client fd ≡ d
   opened_is d at = ap (λ (o : Option Desc). unwrap_or o closed) (sym at_fd ∙ at)
-
-  -- one that isn't refused has its descriptor
-  pub has_desc : own_refusal t ask.client ask.op ≡ None → ask.desc ≡ None → ⊥
-  has_desc own none =
-      let off : refused_if (is_none (desc_at t ask.client fd)) Ebadf ≡ None = sym (ap (own_refusal t ask.client) is) ∙ own in
-      let on : refused_if (is_none (desc_at t ask.client fd)) Ebadf ≡ Some Ebadf = ap (λ (o : Option Desc). refused_if (is_none o) Ebadf) (sym at_fd ∙ none) in
-      let clash = sym off ∙ on in cc
 
   -- its file is live, and here
   pub live_file : (p : Parts) (d : Desc) (file : ℕ) → ArePartsOf p t → ask.desc ≡ Some d → d.file ≡ Some file → IsSome (map.get p.names.held file) × IsSome (map.get p.files file)

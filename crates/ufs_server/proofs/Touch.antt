@@ -1,26 +1,21 @@
 -- The file that a request touches, and what is known of its commits.
-use Rattle.std.proofs.Common.{◌≡◌, ◌≢◌, ℕ, ◌≤◌, ◌⊎◌, inl, inr, List, [], ◌∷◌, Option, Some, None, is_some, length, ap, sym, refl, ◌∙◌, subst, arith}
+use Rattle.std.proofs.Common.{◌≡◌, ◌≢◌, ℕ, ◌≤◌, ◌⊎◌, inl, inr, List, [], ◌∷◌, Option, Some, None, is_some, length, ap, sym, ◌∙◌, arith}
 use Rattle.std.specs.Prelude.{Contains, IsSome, slice_index_or, unwrap_or}
 use Rattle.std.specs.List.{slice_get}
 use Rattle.std.specs.Cmp.{nat_cmp_total}
 use Rattle.std.specs.FinMap as map
 use Rattle.std.specs.FinMap.{nat_cmp-IsAntisymmetric}
-use Rattle.ufs_bitmap.specs.Blocks.{BlockSet}
-use Rattle.ufs_durable.specs.State.{CommitState, DurableState, IsNoted, state_of}
+use Rattle.ufs_durable.specs.State.{CommitState, IsNoted, state_of}
 use Rattle.ufs_file.specs.Hand.{FileState}
 use Rattle.ufs_files.specs.Files.{AreNumbered}
 use Rattle.ufs_files.proofs.MapLemmas.{one_or_apart}
-use Rattle.ufs_layout.specs.declared.geometry.Geometry.{Geometry}
 use Rattle.ufs_model.specs.Asks.{IsAsk}
 use Rattle.ufs_model.specs.PosixTree.{PosixTree}
-use Rattle.ufs_model.specs.Touched.{touched_parts}
 use Rattle.ufs_model.specs.declared.data.Ask.{Ask}
 use Rattle.ufs_model.proofs.Facts.Lookups.{from_some, inserted_else, inserted_here, same_some}
 use Rattle.ufs_names.specs.Calls.{IsAsked}
-use Rattle.ufs_names.specs.Needs.{AreFilesIn}
 use Rattle.ufs_on_disk.specs.Syncs.{TellsTheSame}
 use Rattle.ufs_stored.specs.Parts.{Commits, Parts, committed_as, durable_in}
-use Rattle.ufs_stored.specs.Sound.{IsSoundServer}
 use Rattle.ufs_stored.specs.Stored.{ArePartsOf}
 use Rattle.ufs_server.specs.Server.{commits_in}
 

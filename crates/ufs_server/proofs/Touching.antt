@@ -1,6 +1,6 @@
 -- What is known of the commits of the file that a request touched.
-use Rattle.std.proofs.Common.{◌≡◌, ◌≢◌, ℕ, ◌⊎◌, inl, inr, List, [], ◌∷◌, Bool, true, false, ◌||◌, Option, Some, None, is_some, ap, sym, refl, ◌∙◌, subst}
-use Rattle.std.specs.Prelude.{◌↔◌, IsSome}
+use Rattle.std.proofs.Common.{◌≡◌, ◌≢◌, ℕ, ◌⊎◌, inl, inr, List, [], ◌∷◌, true, Option, Some, None, ap, sym, refl, ◌∙◌, subst}
+use Rattle.std.specs.Prelude.{IsSome}
 use Rattle.std.specs.Cmp.{nat_cmp_total}
 use Rattle.std.specs.FinMap as map
 use Rattle.std.specs.FinMap.{nat_cmp-IsAntisymmetric}
@@ -14,27 +14,10 @@ use Rattle.ufs_extent.specs.declared.Run.{Run}
 use Rattle.ufs_file.specs.Hand.{FileState}
 use Rattle.ufs_files.specs.Files.{Files}
 use Rattle.ufs_model.proofs.Facts.Lookups.{from_some, inserted_else, inserted_here, removed_else, removed_here, same_some, there_or_not}
-use Rattle.ufs_names_stored.specs.Serving.{HasLeft, HasSettled, emptied_commits}
+use Rattle.ufs_names_stored.specs.Serving.{HasLeft, emptied_commits}
 use Rattle.ufs_stored.specs.Parts.{Commits, Parts}
 use Rattle.ufs_server.specs.Touching.{IsSettled}
 use Rattle.ufs_server.proofs.NamesServed.{on_one, one_on}
-
--- nothing was touched
-pub none_settled : (p : Parts) → IsSettled p p None
-none_settled p = record {
-  settled = record {
-    known = λ f is. absurd cc;
-    others = λ f not. refl;
-    gone = λ f is none. absurd cc;
-    emptied = λ f s c is at bare empty known. absurd cc;
-    kept = λ f s is at not. refl;
-  };
-  dropped = λ b. ((λ is. inl is), by b);
-}
-  where
-    by : (b : ℕ) → (set.contains p.dropped b ≡ true) ⊎ HasLeft p p None b → set.contains p.dropped b ≡ true
-    by b (inl is) = is
-    by b (inr l) = let clash = l.this in absurd cc
 
 -- one file was
 module _ (old new : Parts) (file : ℕ) (known : IsSome (map.get old.commits file)) (files : new.files ≡ old.files)

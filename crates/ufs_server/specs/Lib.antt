@@ -1,3 +1,4 @@
 pub mod Server
 pub mod Answered
 pub mod Touching
+pub mod Served

@@ -16,3 +16,4 @@ mod syncing;
 mod touched;
 
 pub use disk_server::DiskServer;
+pub use requests::is_sync;

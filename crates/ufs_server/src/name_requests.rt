@@ -1,13 +1,12 @@
-ghost use Rattle.std.specs.Prelude.{ℕ, ◌≡◌, ◌<◌, ◌≤◌, ◌+◌, ◌^◌, ◌++◌, ◌∷◌, [], List, length, vec_capacity, IsTrue, IsSome, Some, true, false};
+ghost use Rattle.std.specs.Prelude.{ℕ, ◌≡◌, ◌<◌, ◌≤◌, ◌+◌, ◌^◌, ◌++◌, length, vec_capacity, IsTrue, IsSome, Some, true, false};
 ghost use Rattle.std.specs.FinMap as map;
-ghost use Rattle.std.specs.FinSet as set;
 ghost use Rattle.ufs_bitmap.specs.Blocks.{BlockSet};
 ghost use Rattle.ufs_client.specs.Played.{tells_fault};
 ghost use Rattle.ufs_file.specs.Hand.{IsEntryOf};
 ghost use Rattle.ufs_layout.specs.declared.geometry.Geometry.{Geometry};
 ghost use Rattle.ufs_model.specs.Asks.{IsAsk};
 ghost use Rattle.ufs_model.specs.Excuses.{ExcuseFits};
-ghost use Rattle.ufs_model.specs.History.{IsLegal, is_excused, tree_after};
+ghost use Rattle.ufs_model.specs.History.{is_excused};
 ghost use Rattle.ufs_model.specs.PosixTree.{PosixTree};
 ghost use Rattle.ufs_model.specs.declared.data.Actor.{Actor};
 ghost use Rattle.ufs_model.specs.declared.data.Ask.{Ask};
@@ -16,12 +15,10 @@ ghost use Rattle.ufs_model.specs.declared.data.Excuse.{Excuse};
 ghost use Rattle.ufs_model.specs.declared.data.Reply.TheVariants as reply;
 ghost use Rattle.ufs_names.specs.Calls.{IsOfNames, IsTouched};
 ghost use Rattle.ufs_pouring.specs.Lent.{listed};
-ghost use Rattle.ufs_prefix.specs.Changes.{asks_commit};
-ghost use Rattle.ufs_store.specs.State.{geometry_of_store};
-ghost use Rattle.ufs_stored.specs.OnDisk.{IsExplainedBetween, IsOnDisk};
 ghost use Rattle.ufs_stored.specs.Sound.{IsSoundServer};
 ghost use Rattle.ufs_stored.specs.Stored.{ArePartsOf};
-ghost use Rattle.ufs_server.specs.Answered.{IsAnswered, IsUntold};
+ghost use Rattle.ufs_server.specs.Answered.{IsUntold};
+ghost use Rattle.ufs_server.specs.Served.{IsServedOn, KeepsPromise, MayServe, StaysOnDisk};
 ghost use Rattle.ufs_server.specs.Touching.{AreReadied, IsServedByNames, file_touched};
 
 use crate::disk_server::DiskServer;
@@ -43,25 +40,11 @@ impl DiskServer {
         by: Actor,
         ticket: u64,
     ) -> Applied
-        requires client { ask.client < 16 }
-        requires numbers { self.old.names.next < 2 ^ 31 }
+        requires may { MayServe self.old (D.store door.old) ask }
         requires kind { IsOfNames ask }
-        requires unsynced { asks_commit ask.op ≡ false }
-        requires asked { (t : PosixTree) × ArePartsOf self.old t × IsAsk t ask }
-        requires sound { IsSoundServer (geometry_of_store (D.store door.old)) (D.store door.old).unassigned.free self.old }
-        ensures entry { IsEntryOf ask by ticket result.entry }
-        ensures served { is_excused result.entry.reply ≡ false → (t : PosixTree) → ArePartsOf self.old t → IsAsk t ask → IsAnswered t ask self.new result.entry.reply result.desc }
-        ensures fits { (x : Excuse) → result.entry.reply ≡ reply.Excused x → (t : PosixTree) → ArePartsOf self.old t → IsAsk t ask → ExcuseFits t ask.client ask.op x }
-        ensures unchanged { is_excused result.entry.reply ≡ true → (t : PosixTree) → ArePartsOf self.old t → ArePartsOf self.new t }
-        ensures desc { is_excused result.entry.reply ≡ true → result.desc ≡ ask.desc }
-        ensures on_disk { IsTrue D.visible → (start : PosixTree) (history : List Entry) → IsAsk (tree_after start history) ask → IsLegal start (history ++ result.entry ∷ [])
-            → IsOnDisk (D.store door.old) start history self.old → IsOnDisk (D.store door.new) start (history ++ result.entry ∷ []) self.new }
-        ensures excused { IsTrue D.visible → is_excused result.entry.reply ≡ true → (start : PosixTree) (history : List Entry) → IsOnDisk (D.store door.old) start history self.old → IsOnDisk (D.store door.new) start history self.new }
-        ensures moments { IsTrue D.visible → (start : PosixTree) (history : List Entry) → IsOnDisk (D.store door.old) start history self.old
-            → IsExplainedBetween D.keeps (D.store door.old).sectors start history (D.store door.old).moments (D.store door.new).moments }
-        ensures sound { IsSoundServer (geometry_of_store (D.store door.new)) (D.store door.new).unassigned.free self.new }
-        ensures geometry { geometry_of_store (D.store door.new) ≡ geometry_of_store (D.store door.old) }
-        ensures sectors { (D.store door.new).sectors ≡ (D.store door.old).sectors }
+        ensures served { IsServedOn self.old self.new (D.store door.old) (D.store door.new) ask by ticket result }
+        ensures promise { IsTrue D.visible → KeepsPromise self.old self.new (D.store door.old) (D.store door.new) D.keeps ask result.entry }
+        ensures excused { IsTrue D.visible → is_excused result.entry.reply ≡ true → StaysOnDisk self.old self.new (D.store door.old) (D.store door.new) D.keeps }
         ensures calm { tells_fault result.entry.reply ≡ false }
         ensures untold { IsUntold (D.store door.old) (D.store door.new) }
     {

@@ -56,8 +56,8 @@ impl DiskServer {
     }
 }
 
-// Whether the request asks that something is on the disk for good.
-fn is_sync(op: &Op) -> bool
+/// Whether the request asks that something is on the disk for good.
+pub fn is_sync(op: &Op) -> bool
     ensures { result ≡ asks_commit op.now }
 {
     match op {

@@ -1,12 +1,8 @@
-ghost use Rattle.std.specs.Prelude.{◌≡◌, ◌<◌, ◌≤◌, ◌↔◌, ◌/◌, List, IsTrue};
+ghost use Rattle.std.specs.Prelude.{◌≡◌, ◌<◌, ◌≤◌, ◌↔◌, ◌/◌, IsTrue};
 ghost use Rattle.ufs_ilog.specs.Notes.{sectors_noted};
-ghost use Rattle.ufs_model.specs.PosixTree.{PosixTree};
-ghost use Rattle.ufs_model.specs.declared.data.Entry.{Entry};
 ghost use Rattle.ufs_store.specs.State.{geometry_of_store};
-ghost use Rattle.ufs_stored.specs.OnDisk.{IsExplainedBetween, IsOnDisk};
 ghost use Rattle.ufs_stored.specs.Sound.{IsSoundServer};
-ghost use Rattle.ufs_stored.specs.Stored.{ArePartsOf};
-ghost use Rattle.ufs_server.specs.Answered.{IsUntold};
+ghost use Rattle.ufs_server.specs.Served.{Stays, StaysOnDisk};
 
 use crate::disk_server::DiskServer;
 use ufs_store::Door;
@@ -17,15 +13,9 @@ impl DiskServer {
     /// commit is asked for. That memory is wanting, or that the disk fails, is told by no answer.
     pub(crate) fn make_room<D: Door>(&mut self, door: &mut D)
         requires sound { IsSoundServer (geometry_of_store (D.store door.old)) (D.store door.old).unassigned.free self.old }
-        ensures on_disk { IsTrue D.visible → (start : PosixTree) (history : List Entry) → IsOnDisk (D.store door.old) start history self.old → IsOnDisk (D.store door.new) start history self.new }
-        ensures moments { IsTrue D.visible → (start : PosixTree) (history : List Entry) → IsOnDisk (D.store door.old) start history self.old
-            → IsExplainedBetween D.keeps (D.store door.old).sectors start history (D.store door.old).moments (D.store door.new).moments }
-        ensures same { (t : PosixTree) → ArePartsOf self.old t → ArePartsOf self.new t }
+        ensures stays { Stays self.old self.new (D.store door.old) (D.store door.new) }
+        ensures promise { IsTrue D.visible → StaysOnDisk self.old self.new (D.store door.old) (D.store door.new) D.keeps }
         ensures names { self.new.names.next ≡ self.old.names.next }
-        ensures sound { IsSoundServer (geometry_of_store (D.store door.new)) (D.store door.new).unassigned.free self.new }
-        ensures geometry { geometry_of_store (D.store door.new) ≡ geometry_of_store (D.store door.old) }
-        ensures sectors { (D.store door.new).sectors ≡ (D.store door.old).sectors }
-        ensures untold { IsUntold (D.store door.old) (D.store door.new) }
         ensures idle { sectors_noted self.old.names.tree.noted < (geometry_of_store (D.store door.old)).journal / 2 → D.store door.new ≡ D.store door.old }
     {
         let geometry = door.geometry();

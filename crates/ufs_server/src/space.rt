@@ -1,23 +1,16 @@
-ghost use Rattle.std.specs.Prelude.{ℕ, ◌≡◌, ◌<◌, ◌^◌, ◌++◌, ◌∷◌, [], List, IfSome, IfNone, IsTrue, true, false};
+ghost use Rattle.std.specs.Prelude.{◌≡◌, IfSome, IfNone, IsTrue, true, false};
 ghost use Rattle.ufs_client.specs.Played.{tells_fault};
-ghost use Rattle.ufs_file.specs.Hand.{IsEntryOf, IsOf};
-ghost use Rattle.ufs_model.specs.Asks.{IsAsk};
+ghost use Rattle.ufs_file.specs.Hand.{IsOf};
 ghost use Rattle.ufs_model.specs.Bounds.{IsBounded};
-ghost use Rattle.ufs_model.specs.Excuses.{ExcuseFits};
 ghost use Rattle.ufs_model.specs.FileCalls.{is_on_file};
-ghost use Rattle.ufs_model.specs.History.{IsLegal, is_excused, tree_after};
-ghost use Rattle.ufs_model.specs.PosixTree.{PosixTree};
-ghost use Rattle.ufs_model.specs.declared.data.Entry.{Entry};
-ghost use Rattle.ufs_model.specs.declared.data.Excuse.{Excuse};
-ghost use Rattle.ufs_model.specs.declared.data.Reply.TheVariants as reply;
+ghost use Rattle.ufs_model.specs.History.{is_excused};
 ghost use Rattle.ufs_names.specs.Calls.{IsOfNames};
 ghost use Rattle.ufs_prefix.specs.Changes.{asks_commit};
 ghost use Rattle.ufs_store.specs.State.{geometry_of_store};
-ghost use Rattle.ufs_stored.specs.OnDisk.{IsExplainedBetween, IsOnDisk};
 ghost use Rattle.ufs_stored.specs.Sound.{IsSoundServer};
-ghost use Rattle.ufs_stored.specs.Stored.{ArePartsOf};
 ghost use Rattle.ufs_synced.specs.Laws.{HasNothingNoted};
-ghost use Rattle.ufs_server.specs.Answered.{IsAnswered, IsUntold};
+ghost use Rattle.ufs_server.specs.Answered.{IsUntold};
+ghost use Rattle.ufs_server.specs.Served.{IsServedOn, KeepsPromise, MayServe, Stays, StaysOnDisk};
 
 use crate::disk_server::DiskServer;
 use crate::name_requests::{again, lacks_block};
@@ -38,24 +31,10 @@ impl DiskServer {
         by: Actor,
         ticket: u64,
     ) -> Applied
-        requires client { ask.client < 16 }
+        requires may { MayServe self.old (D.store door.old) ask }
         requires bounded { IsBounded ask.op }
-        requires numbers { self.old.names.next < 2 ^ 31 }
-        requires unsynced { asks_commit ask.op ≡ false }
-        requires asked { (t : PosixTree) × ArePartsOf self.old t × IsAsk t ask }
-        requires sound { IsSoundServer (geometry_of_store (D.store door.old)) (D.store door.old).unassigned.free self.old }
-        ensures entry { IsEntryOf ask by ticket result.entry }
-        ensures served { is_excused result.entry.reply ≡ false → (t : PosixTree) → ArePartsOf self.old t → IsAsk t ask → IsAnswered t ask self.new result.entry.reply result.desc }
-        ensures fits { (x : Excuse) → result.entry.reply ≡ reply.Excused x → (t : PosixTree) → ArePartsOf self.old t → IsAsk t ask → ExcuseFits t ask.client ask.op x }
-        ensures unchanged { is_excused result.entry.reply ≡ true → (t : PosixTree) → ArePartsOf self.old t → ArePartsOf self.new t }
-        ensures desc { is_excused result.entry.reply ≡ true → result.desc ≡ ask.desc }
-        ensures on_disk { IsTrue D.visible → (start : PosixTree) (history : List Entry) → IsAsk (tree_after start history) ask → IsLegal start (history ++ result.entry ∷ [])
-            → IsOnDisk (D.store door.old) start history self.old → IsOnDisk (D.store door.new) start (history ++ result.entry ∷ []) self.new }
-        ensures moments { IsTrue D.visible → (start : PosixTree) (history : List Entry) → IsOnDisk (D.store door.old) start history self.old
-            → IsExplainedBetween D.keeps (D.store door.old).sectors start history (D.store door.old).moments (D.store door.new).moments }
-        ensures sound { IsSoundServer (geometry_of_store (D.store door.new)) (D.store door.new).unassigned.free self.new }
-        ensures geometry { geometry_of_store (D.store door.new) ≡ geometry_of_store (D.store door.old) }
-        ensures sectors { (D.store door.new).sectors ≡ (D.store door.old).sectors }
+        ensures served { IsServedOn self.old self.new (D.store door.old) (D.store door.new) ask by ticket result }
+        ensures promise { IsTrue D.visible → KeepsPromise self.old self.new (D.store door.old) (D.store door.new) D.keeps ask result.entry }
         ensures calm { tells_fault result.entry.reply ≡ false }
         ensures untold { IsUntold (D.store door.old) (D.store door.new) }
     {
@@ -73,30 +52,14 @@ impl DiskServer {
 
     // Serves it with the blocks that are free.
     fn serve_once<D: Door>(&mut self, door: &mut D, ask: Ask, by: Actor, ticket: u64) -> Applied
-        requires client { ask.client < 16 }
+        requires may { MayServe self.old (D.store door.old) ask }
         requires bounded { IsBounded ask.op }
-        requires numbers { self.old.names.next < 2 ^ 31 }
-        requires unsynced { asks_commit ask.op ≡ false }
-        requires asked { (t : PosixTree) × ArePartsOf self.old t × IsAsk t ask }
-        requires sound { IsSoundServer (geometry_of_store (D.store door.old)) (D.store door.old).unassigned.free self.old }
-        ensures entry { IsEntryOf ask by ticket result.entry }
-        ensures served { is_excused result.entry.reply ≡ false → (t : PosixTree) → ArePartsOf self.old t → IsAsk t ask → IsAnswered t ask self.new result.entry.reply result.desc }
-        ensures fits { (x : Excuse) → result.entry.reply ≡ reply.Excused x → (t : PosixTree) → ArePartsOf self.old t → IsAsk t ask → ExcuseFits t ask.client ask.op x }
-        ensures unchanged { is_excused result.entry.reply ≡ true → (t : PosixTree) → ArePartsOf self.old t → ArePartsOf self.new t }
-        ensures desc { is_excused result.entry.reply ≡ true → result.desc ≡ ask.desc }
-        ensures on_disk { IsTrue D.visible → (start : PosixTree) (history : List Entry) → IsAsk (tree_after start history) ask → IsLegal start (history ++ result.entry ∷ [])
-            → IsOnDisk (D.store door.old) start history self.old → IsOnDisk (D.store door.new) start (history ++ result.entry ∷ []) self.new }
-        ensures moments { IsTrue D.visible → (start : PosixTree) (history : List Entry) → IsOnDisk (D.store door.old) start history self.old
-            → IsExplainedBetween D.keeps (D.store door.old).sectors start history (D.store door.old).moments (D.store door.new).moments }
-        ensures sound { IsSoundServer (geometry_of_store (D.store door.new)) (D.store door.new).unassigned.free self.new }
-        ensures geometry { geometry_of_store (D.store door.new) ≡ geometry_of_store (D.store door.old) }
-        ensures sectors { (D.store door.new).sectors ≡ (D.store door.old).sectors }
+        ensures served { IsServedOn self.old self.new (D.store door.old) (D.store door.new) ask by ticket result }
+        ensures promise { IsTrue D.visible → KeepsPromise self.old self.new (D.store door.old) (D.store door.new) D.keeps ask result.entry }
+        ensures excused { IsTrue D.visible → is_excused result.entry.reply ≡ true → StaysOnDisk self.old self.new (D.store door.old) (D.store door.new) D.keeps }
         ensures calm { tells_fault result.entry.reply ≡ false }
         ensures untold { IsUntold (D.store door.old) (D.store door.new) }
-        ensures excused { IsTrue D.visible → is_excused result.entry.reply ≡ true → (start : PosixTree) (history : List Entry) → IsOnDisk (D.store door.old) start history self.old → IsOnDisk (D.store door.new) start history self.new }
     {
-        let geometry = door.geometry();
-        always_law(&geometry);
         match file_asked(&ask) {
             Some(file) => self.serve_file(door, file, ask, by, ticket),
             None => self.serve_names(door, ask, by, ticket),
@@ -107,14 +70,8 @@ impl DiskServer {
     // wanting, or that the disk fails, is told by no answer, and nothing comes back then.
     fn reclaim<D: Door>(&mut self, door: &mut D)
         requires sound { IsSoundServer (geometry_of_store (D.store door.old)) (D.store door.old).unassigned.free self.old }
-        ensures on_disk { IsTrue D.visible → (start : PosixTree) (history : List Entry) → IsOnDisk (D.store door.old) start history self.old → IsOnDisk (D.store door.new) start history self.new }
-        ensures moments { IsTrue D.visible → (start : PosixTree) (history : List Entry) → IsOnDisk (D.store door.old) start history self.old
-            → IsExplainedBetween D.keeps (D.store door.old).sectors start history (D.store door.old).moments (D.store door.new).moments }
-        ensures same { (t : PosixTree) → ArePartsOf self.old t → ArePartsOf self.new t }
-        ensures sound { IsSoundServer (geometry_of_store (D.store door.new)) (D.store door.new).unassigned.free self.new }
-        ensures geometry { geometry_of_store (D.store door.new) ≡ geometry_of_store (D.store door.old) }
-        ensures sectors { (D.store door.new).sectors ≡ (D.store door.old).sectors }
-        ensures untold { IsUntold (D.store door.old) (D.store door.new) }
+        ensures stays { Stays self.old self.new (D.store door.old) (D.store door.new) }
+        ensures promise { IsTrue D.visible → StaysOnDisk self.old self.new (D.store door.old) (D.store door.new) D.keeps }
     {
         let synced = self.sync_all(door);
         match synced {
@@ -127,14 +84,8 @@ impl DiskServer {
     fn take_dropped<D: Door>(&mut self, door: &mut D)
         requires nothing { HasNothingNoted self.old }
         requires sound { IsSoundServer (geometry_of_store (D.store door.old)) (D.store door.old).unassigned.free self.old }
-        ensures on_disk { IsTrue D.visible → (start : PosixTree) (history : List Entry) → IsOnDisk (D.store door.old) start history self.old → IsOnDisk (D.store door.new) start history self.new }
-        ensures moments { IsTrue D.visible → (start : PosixTree) (history : List Entry) → IsOnDisk (D.store door.old) start history self.old
-            → IsExplainedBetween D.keeps (D.store door.old).sectors start history (D.store door.old).moments (D.store door.new).moments }
-        ensures same { (t : PosixTree) → ArePartsOf self.old t → ArePartsOf self.new t }
-        ensures sound { IsSoundServer (geometry_of_store (D.store door.new)) (D.store door.new).unassigned.free self.new }
-        ensures geometry { geometry_of_store (D.store door.new) ≡ geometry_of_store (D.store door.old) }
-        ensures sectors { (D.store door.new).sectors ≡ (D.store door.old).sectors }
-        ensures untold { IsUntold (D.store door.old) (D.store door.new) }
+        ensures stays { Stays self.old self.new (D.store door.old) (D.store door.new) }
+        ensures promise { IsTrue D.visible → StaysOnDisk self.old self.new (D.store door.old) (D.store door.new) D.keeps }
     {
         let geometry = door.geometry();
         reclaim_law(&geometry);

@@ -1,26 +1,24 @@
 // Requests that ask for a commit.
-ghost use Rattle.std.specs.Prelude.{ℕ, ◌≡◌, ◌++◌, ◌∷◌, [], List, Some, None, IsTrue, true, false};
-ghost use Rattle.ufs_file.specs.Hand.{IsEntryOf};
+ghost use Rattle.std.specs.Prelude.{ℕ, ◌≡◌, ◌++◌, ◌∷◌, [], List, Some, None, IsTrue, true};
 ghost use Rattle.ufs_model.specs.Asks.{IsAsk};
-ghost use Rattle.ufs_model.specs.Excuses.{ExcuseFits};
-ghost use Rattle.ufs_model.specs.History.{IsLegal, is_excused, tree_after};
+ghost use Rattle.ufs_model.specs.History.{IsLegal, tree_after};
 ghost use Rattle.ufs_model.specs.PosixTree.{PosixTree};
 ghost use Rattle.ufs_model.specs.Refusals.{own_refusal};
 ghost use Rattle.ufs_model.specs.declared.data.Entry.{Entry};
 ghost use Rattle.ufs_model.specs.declared.data.Excuse.{Excuse};
 ghost use Rattle.ufs_model.specs.declared.data.Reply.TheVariants as reply;
 ghost use Rattle.ufs_prefix.specs.Changes.{asks_commit};
-ghost use Rattle.ufs_store.specs.Refusals.{IsTold, stop_after};
 ghost use Rattle.ufs_store.specs.State.{geometry_of_store};
 ghost use Rattle.ufs_stored.specs.OnDisk.{IsExplainedBetween, IsOnDisk};
 ghost use Rattle.ufs_stored.specs.Sound.{IsSoundServer};
 ghost use Rattle.ufs_stored.specs.Stored.{ArePartsOf};
-ghost use Rattle.ufs_server.specs.Answered.{IsAnswered, IsSyncReply, device_in, reply_to, stopped_in};
+ghost use Rattle.ufs_server.specs.Answered.{IsSyncReply, TellsItsOwn, device_in, reply_to, stopped_in};
+ghost use Rattle.ufs_server.specs.Served.{IsServedOn, KeepsPromise};
 
 use crate::disk_server::DiskServer;
 use ufs_calls::own_refusal;
-use ufs_file::Applied;
-use ufs_model::{Actor, Ask, Entry, Excuse, Op, Reply};
+use ufs_file::{Applied, answered};
+use ufs_model::{Actor, Ask, Excuse, Op, Reply};
 use ufs_store::Door;
 use ufs_stored::{always_law, on_disk_law};
 
@@ -36,31 +34,21 @@ impl DiskServer {
         requires kind { asks_commit ask.op ≡ true }
         requires asked { (t : PosixTree) × ArePartsOf self.old t × IsAsk t ask }
         requires sound { IsSoundServer (geometry_of_store (D.store door.old)) (D.store door.old).unassigned.free self.old }
-        ensures entry { IsEntryOf ask by ticket result.entry }
-        ensures served { is_excused result.entry.reply ≡ false → (t : PosixTree) → ArePartsOf self.old t → IsAsk t ask → IsAnswered t ask self.new result.entry.reply result.desc }
-        ensures fits { (x : Excuse) → result.entry.reply ≡ reply.Excused x → (t : PosixTree) → ArePartsOf self.old t → IsAsk t ask → ExcuseFits t ask.client ask.op x }
-        ensures unchanged { is_excused result.entry.reply ≡ true → (t : PosixTree) → ArePartsOf self.old t → ArePartsOf self.new t }
-        ensures desc { is_excused result.entry.reply ≡ true → result.desc ≡ ask.desc }
-        ensures on_disk { IsTrue D.visible → (start : PosixTree) (history : List Entry) → IsAsk (tree_after start history) ask → IsLegal start (history ++ result.entry ∷ [])
-            → IsOnDisk (D.store door.old) start history self.old → IsOnDisk (D.store door.new) start (history ++ result.entry ∷ []) self.new }
-        ensures moments { IsTrue D.visible → (start : PosixTree) (history : List Entry) → IsOnDisk (D.store door.old) start history self.old
-            → IsExplainedBetween D.keeps (D.store door.old).sectors start history (D.store door.old).moments (D.store door.new).moments }
-        ensures sound { IsSoundServer (geometry_of_store (D.store door.new)) (D.store door.new).unassigned.free self.new }
-        ensures geometry { geometry_of_store (D.store door.new) ≡ geometry_of_store (D.store door.old) }
-        ensures sectors { (D.store door.new).sectors ≡ (D.store door.old).sectors }
+        ensures served { IsServedOn self.old self.new (D.store door.old) (D.store door.new) ask by ticket result }
+        ensures promise { IsTrue D.visible → KeepsPromise self.old self.new (D.store door.old) (D.store door.new) D.keeps ask result.entry }
         ensures stopped { (fault : ℕ) → stopped_in result.entry.reply ≡ Some fault → (D.store door.old).stop ≡ Some fault }
-        ensures cause { IsTold (D.store door.old).faults (D.store door.new).faults (device_in result.entry.reply) }
-        ensures stop { (D.store door.new).stop ≡ stop_after (D.store door.old).stop (device_in result.entry.reply) }
+        ensures told { TellsItsOwn (D.store door.old) (D.store door.new) result.entry.reply }
         ensures still { (fault : ℕ) → (D.store door.old).stop ≡ Some fault → device_in result.entry.reply ≡ None }
     {
         let geometry = door.geometry();
         on_disk_law(&geometry);
         always_law(&geometry);
-        if let Some(errno) = own_refusal(&ask.op, ask.desc, ask.fd) {
-            return replied(ask, by, ticket, Reply::Refused(errno));
+        let desc = ask.desc;
+        if let Some(errno) = own_refusal(&ask.op, desc, ask.fd) {
+            return answered(ask, by, ticket, Reply::Refused(errno), desc);
         }
         let reply = self.sync_asked(door, &ask);
-        replied(ask, by, ticket, reply)
+        answered(ask, by, ticket, reply, desc)
     }
 
     // Syncs what the request asks for, and answers its reply.
@@ -79,8 +67,7 @@ impl DiskServer {
         ensures geometry { geometry_of_store (D.store door.new) ≡ geometry_of_store (D.store door.old) }
         ensures sectors { (D.store door.new).sectors ≡ (D.store door.old).sectors }
         ensures stopped { (fault : ℕ) → stopped_in result ≡ Some fault → (D.store door.old).stop ≡ Some fault }
-        ensures cause { IsTold (D.store door.old).faults (D.store door.new).faults (device_in result) }
-        ensures stop { (D.store door.new).stop ≡ stop_after (D.store door.old).stop (device_in result) }
+        ensures told { TellsItsOwn (D.store door.old) (D.store door.new) result }
         ensures still { (fault : ℕ) → (D.store door.old).stop ≡ Some fault → device_in result ≡ None }
     {
         let geometry = door.geometry();
@@ -102,25 +89,5 @@ fn sync_reply(synced: Result<(), Excuse>) -> Reply
     match synced {
         Ok(()) => Reply::Done,
         Err(excuse) => Reply::Excused(excuse),
-    }
-}
-
-// The answer with this reply. The request's descriptor stays.
-fn replied(ask: Ask, by: Actor, ticket: u64, reply: Reply) -> Applied
-    ensures entry { IsEntryOf ask by ticket result.entry }
-    ensures reply { result.entry.reply ≡ reply }
-    ensures desc { result.desc ≡ ask.desc }
-{
-    let desc = ask.desc;
-    Applied {
-        entry: Entry {
-            ticket,
-            client: ask.client,
-            seq: ask.seq,
-            by,
-            op: ask.op,
-            reply,
-        },
-        desc,
     }
 }

@@ -1,4 +1,4 @@
-use Rattle.std.proofs.Common.{◌≡◌, ◌⊎◌, inl, inr, true, false, Some, Err, is_some, ap, sym, refl, ◌∙◌, subst}
+use Rattle.std.proofs.Common.{◌≡◌, ◌⊎◌, inl, inr, true, false, Err, is_some, ap, sym, refl, ◌∙◌}
 use Rattle.ufs_durable.specs.State.{state_of}
 use Rattle.ufs_on_disk.specs.Syncs.{HasFailed, HasWritten}
 use Rattle.ufs_store.specs.Refusals.{fault_in, is_no_space, stop_after}

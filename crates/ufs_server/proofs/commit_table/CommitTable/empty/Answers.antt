@@ -5,7 +5,6 @@ use Rattle.std.specs.FinMap as map
 use Rattle.std.specs.FinMap.{nat_cmp-IsAntisymmetric}
 use Rattle.std.specs.Ordering.{nat_cmp}
 use Rattle.ufs_calls.proofs.Facts.Maps.{get-seen}
-use Rattle.ufs_durable.specs.State.{CommitState}
 use Rattle.ufs_model.proofs.Facts.Lookups.{same_some}
 use Rattle.ufs_names_stored.specs.Serving.{emptied_commits}
 use Rattle.ufs_stored.specs.Parts.{Commits}

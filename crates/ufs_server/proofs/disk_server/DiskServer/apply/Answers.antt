@@ -1,6 +1,15 @@
 use Rattle.ufs_server.proofs.Beside.{beside_told, no_device}
 use Rattle.ufs_server.proofs.disk_server.DiskServer.apply.Goals as goal
 
+pub returns-then-is_sync-clause-moments : goal.returns-then-is_sync-clause-moments
+returns-then-is_sync-clause-moments g c visible = (c.serve_sync.ensures.promise visible).moments
+
+pub returns-clause-on_disk : goal.returns-clause-on_disk
+returns-clause-on_disk g c visible = (c.serve_in_space.ensures.promise visible).on_disk
+
+pub returns-clause-moments : goal.returns-clause-moments
+returns-clause-moments g c visible = (c.serve_in_space.ensures.promise visible).moments
+
 pub returns-clause-told : goal.returns-clause-told
 returns-clause-told g c =
     beside_told (g.D.Door.store c.args.door.now) (g.D.Door.store c.serve_in_space.new.door) c.serve_in_space.result.entry.reply c.serve_in_space.ensures.calm c.serve_in_space.ensures.untold

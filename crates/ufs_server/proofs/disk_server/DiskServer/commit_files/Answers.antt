@@ -5,15 +5,14 @@ use Rattle.std.proofs.lemmas.List.{take_all}
 use Rattle.std.proofs.lemmas.Option.{slice_get-get_or}
 use Rattle.ufs_bitmap.specs.Taking.{has}
 use Rattle.ufs_bitmap.proofs.TakingLemmas.{has-none}
+use Rattle.ufs_calls.proofs.Facts.Maps.{on_err}
 use Rattle.ufs_durable.proofs.Served.{has_at}
 use Rattle.ufs_model.proofs.Facts.Histories.{take-push}
 use Rattle.ufs_names.specs.NamesPart.{NamesPart}
-use Rattle.ufs_model.specs.PosixTree.{PosixTree}
-use Rattle.ufs_model.specs.declared.data.Entry.{Entry}
-use Rattle.ufs_stored.specs.OnDisk.{HasFiles, HasNames, IsOnDisk}
-use Rattle.ufs_server.proofs.Filed.{forgotten_more, none_yet, one_more, stop_stays}
+use Rattle.ufs_stored.specs.OnDisk.{HasFiles}
+use Rattle.ufs_server.proofs.Filed.{forgotten_more, none_yet, one_more}
 use Rattle.ufs_stored.proofs.Stretches.{explained_joined}
-use Rattle.ufs_server.proofs.Replied.{on_err}
+use Rattle.ufs_server.proofs.Beside.{stop_stays}
 use Rattle.ufs_server.proofs.disk_server.DiskServer.commit_files.Goals as goal
 
 pub loop-place-init : goal.loop-place-init
@@ -72,10 +71,7 @@ loop-place-preserved g c =
 
 pub returns-in_err-commit_here-clause-err : goal.returns-in_err-commit_here-clause-err
 returns-in_err-commit_here-clause-err g c visible =
-    let old = g.D.Door.store c.args.door.now in
-    let new = g.D.Door.store c.commit_here.new.door in
-    on_err c.from_residual.result ((start : PosixTree) (history : List Entry) → HasNames old start history c.args.self.now → IsOnDisk new start history c.commit_here.new.self)
-    (λ start history has. c.in_err-commit_here.ensures.err visible start history (c.loop-place.invariant.files visible start history has).names)
+    on_err c.from_residual.result (λ start history has. c.in_err-commit_here.ensures.err visible start history (c.loop-place.invariant.files visible start history has).names)
 
 pub returns-clause-ok : goal.returns-clause-ok
 returns-clause-ok g c visible start history has =

@@ -1,29 +1,36 @@
-use Rattle.std.proofs.Common.{◌≡◌, ◌∙◌, inl, ap, subst, sym}
-use Rattle.ufs_model.specs.declared.data.Excuse.TheVariants as excuse
-use Rattle.ufs_stored.proofs.Stretches.{explained_joined}
+use Rattle.std.proofs.Common.{inl, ap}
 use Rattle.ufs_server.specs.Answered.{device_told}
-use Rattle.ufs_server.proofs.Beside.{told_untold, untold_joined}
+use Rattle.ufs_server.specs.Served.{Stays}
+use Rattle.ufs_server.proofs.Beside.{told_untold}
+use Rattle.ufs_server.proofs.Staying.{on_disk_joined, stays_joined}
 use Rattle.ufs_server.proofs.disk_server.DiskServer.reclaim.Goals as goal
 
-pub returns-in-Ok-clause-on_disk : goal.returns-in-Ok-clause-on_disk
-returns-in-Ok-clause-on_disk g c visible start history on = c.take_dropped.ensures.on_disk visible start history (inl (c.in-Ok.ensures.ok visible start history on).going)
+pub returns-in-Ok : goal.returns-in-Ok
+returns-in-Ok g c =
+    let synced = c.sync_all-synced.ensures in
+    let front : Stays c.args.self.now c.sync_all-synced.new.self (g.D.Door.store c.args.door.now) (g.D.Door.store c.sync_all-synced.new.door) = record {
+      same = synced.same;
+      sound = synced.sound;
+      geometry = synced.geometry;
+      sectors = synced.sectors;
+      untold = told_untold _ _ (device_told c.sync_all-synced.result) synced.cause (λ fault stopped. ap device_told (synced.refused fault stopped)) synced.stop;
+    } in
+    record {
+      stays = stays_joined front c.take_dropped.ensures.stays;
+      promise = λ visible.
+          on_disk_joined front (record { on_disk = λ start history on. inl (c.in-Ok.ensures.ok visible start history on).going; moments = synced.moments visible }) (c.take_dropped.ensures.promise visible);
+    }
 
-pub returns-in-Ok-clause-moments : goal.returns-in-Ok-clause-moments
-returns-in-Ok-clause-moments g c visible start history on =
-    let old = g.D.Door.store c.args.door.now in
-    let mid = g.D.Door.store c.sync_all-synced.new.door in
-    explained_joined g.D.Door.keeps start history old.sectors old.moments mid (g.D.Door.store c.take_dropped.new.door).moments c.sync_all-synced.ensures.sectors
-    (c.sync_all-synced.ensures.moments visible start history on) (c.take_dropped.ensures.moments visible start history (inl (c.in-Ok.ensures.ok visible start history on).going))
-
-pub returns-in-Ok-clause-untold : goal.returns-in-Ok-clause-untold
-returns-in-Ok-clause-untold g c =
-    let old = g.D.Door.store c.args.door.now in
-    let mid = g.D.Door.store c.sync_all-synced.new.door in
-    untold_joined old mid (g.D.Door.store c.take_dropped.new.door)
-    (told_untold old mid (device_told c.sync_all-synced.result) c.sync_all-synced.ensures.cause (λ fault stopped. ap device_told (c.sync_all-synced.ensures.refused fault stopped)) c.sync_all-synced.ensures.stop) c.take_dropped.ensures.untold
-
-pub returns-in-Err-clause-untold : goal.returns-in-Err-clause-untold
-returns-in-Err-clause-untold g c =
-    let old = g.D.Door.store c.args.door.now in
-    let mid = g.D.Door.store c.sync_all-synced.new.door in
-    told_untold old mid (device_told c.sync_all-synced.result) c.sync_all-synced.ensures.cause (λ fault stopped. ap device_told (c.sync_all-synced.ensures.refused fault stopped)) c.sync_all-synced.ensures.stop
+pub returns-in-Err : goal.returns-in-Err
+returns-in-Err g c =
+    let synced = c.sync_all-synced.ensures in
+    record {
+      stays = record {
+        same = synced.same;
+        sound = synced.sound;
+        geometry = synced.geometry;
+        sectors = synced.sectors;
+        untold = told_untold _ _ (device_told c.sync_all-synced.result) synced.cause (λ fault stopped. ap device_told (synced.refused fault stopped)) synced.stop;
+      };
+      promise = λ visible. record { on_disk = c.in-Err.ensures.err visible; moments = synced.moments visible };
+    }

@@ -32,8 +32,7 @@ returns-in_default g c =
       geometry = c.sync_all.ensures.geometry;
       sectors = c.sync_all.ensures.sectors;
       stopped = λ fault is. c.sync_all.ensures.stopped fault (reply_stopped r fault (sym (ap stopped_in told_reply) ∙ is));
-      cause = subst (IsTold s0.faults s1.faults) (sym device) c.sync_all.ensures.cause;
-      stop = c.sync_all.ensures.stop ∙ ap (stop_after s0.stop) (sym device);
+      told = record { told = subst (IsTold s0.faults s1.faults) (sym device) c.sync_all.ensures.cause; stop = c.sync_all.ensures.stop ∙ ap (stop_after s0.stop) (sym device) };
       still = λ fault is. device ∙ ap device_told (c.sync_all.ensures.refused fault is);
     }
   where

@@ -1,11 +1,8 @@
-use Rattle.std.proofs.Common.{◌≡◌, ◌≢◌, ◌≤◌, ℕ, List, Some, None, true, false, length, ap, refl, subst, sym, ◌∙◌}
-use Rattle.std.specs.Prelude.{Contains, IsSome}
+use Rattle.std.proofs.Common.{◌≡◌, ◌≢◌, ℕ, List, Some, None, true, false, ap, subst, sym, ◌∙◌}
+use Rattle.std.specs.Prelude.{IsSome}
 use Rattle.std.specs.List.{slice_get}
 use Rattle.std.specs.FinMap as map
-use Rattle.ufs_file.specs.Hand.{FileState}
 use Rattle.ufs_files.specs.Files.{AreNumbered}
-use Rattle.ufs_model.specs.Asks.{IsAsk}
-use Rattle.ufs_model.specs.PosixTree.{PosixTree}
 use Rattle.ufs_model.specs.declared.data.Op.{Op}
 use Rattle.ufs_model.specs.declared.data.Op.TheVariants as op
 use Rattle.ufs_names.specs.NamesPart.{IsNamesPart}
@@ -13,7 +10,7 @@ use Rattle.ufs_on_disk.specs.Syncs.{TellsTheSame}
 use Rattle.ufs_prefix.specs.Changes.{asks_commit}
 use Rattle.ufs_stored.specs.Parts.{Commits, Parts}
 use Rattle.ufs_server.specs.Server.{commits_in}
-use Rattle.ufs_server.proofs.Touch.{first_is_in, here_live, known_here, none_in, notes_runs, only_one, tells_the_same}
+use Rattle.ufs_server.proofs.Touch.{here_live, known_here, none_in, notes_runs, only_one, tells_the_same}
 use Rattle.ufs_server.proofs.disk_server.DiskServer.touch.Goals as goal
 use Rattle.ufs_server.proofs.disk_server.DiskServer.touch.Goals.{After-drop-needed-inside-2}
 
