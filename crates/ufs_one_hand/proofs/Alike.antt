@@ -3,6 +3,7 @@ use Rattle.std.proofs.Common.{◌≡◌, ℕ, ◌-◌, ◌<◌, true, false, Lis
 use Rattle.std.specs.Prelude.{is_some, is_none, unwrap_or, if◌then◌else◌, ◌%◌, ◌==◌}
 use Rattle.std.specs.FinMap as fin
 use Rattle.ufs_base.specs.Choices.{first_of}
+use Rattle.ufs_base.specs.declared.limits.TheConstants.{MAX_CLIENTS}
 use Rattle.ufs_base.specs.declared.sizes.TheConstants.{SLOTS_PER_BLOCK}
 use Rattle.ufs_model.specs.PosixTree.{PosixTree, Paths, IsTree, desc_at}
 use Rattle.ufs_model.specs.Walk.{node_at}
@@ -39,6 +40,7 @@ use Rattle.ufs_sound.proofs.Covering.{excused_or, tree_served, tree_stays}
 use Rattle.ufs_sound.proofs.Drawing.{no_client, touches_own}
 use Rattle.ufs_sound.proofs.Draw.Setting.{file_or, names_or}
 use Rattle.ufs_one_hand.specs.OneHand.{HasSession}
+use Rattle.ufs_one_hand.proofs.Started.{one_client}
 
 -- Trees in which a hand's parts stand are alike in all that a request of its client reads.
 pub record AreAlike (client : ℕ) (t u : PosixTree) : Type 0 where
@@ -71,7 +73,7 @@ module _ (k : Start) (h : List Entry) (asked : Option (ℕ × Op)) (v : View) (s
     holds = λ u n x c f. ap (λ (n : NamesPart). is_holder n.holds c f) (names_are u n x) ∙ s.names_at.holds c f;
   }
 
-  module _ (client : ℕ) (low : client < 16) (t : PosixTree) (is : IsTree t) (within : IsIn v t) where
+  module _ (client : ℕ) (low : client < MAX_CLIENTS) (t : PosixTree) (is : IsTree t) (within : IsIn v t) where
     same_paths : now.paths ≡ t.paths
     same_paths = sym s.names_at.paths ∙ within.paths tt s.names names_there
 
@@ -80,7 +82,7 @@ module _ (k : Start) (h : List Entry) (asked : Option (ℕ × Op)) (v : View) (s
 
     same_fds : (fd : ℕ) → desc_at now client fd ≡ desc_at t client fd
     same_fds fd =
-        let c = s.sixteen client low in
+        let c = one_client k h asked v s client low in
         let x = has_count eqb itself alike client v.clients (omega arith) in
         sym ((s.clients client x.0 x.1).fds fd) ∙ within.clients client x.0 x.1 fd
 
@@ -108,7 +110,7 @@ module _ (k : Start) (h : List Entry) (asked : Option (ℕ × Op)) (v : View) (s
     }
 
 -- and each tree that has them is like it
-pub session_alike : (k : Start) (h : List Entry) (asked : Option (ℕ × Op)) (v : View) (client : ℕ) → client < 16 → HasSession k h asked v → (t : PosixTree) → IsTree t → IsIn v t → AreAlike client (tree_after k.tree h) t
+pub session_alike : (k : Start) (h : List Entry) (asked : Option (ℕ × Op)) (v : View) (client : ℕ) → client < MAX_CLIENTS → HasSession k h asked v → (t : PosixTree) → IsTree t → IsIn v t → AreAlike client (tree_after k.tree h) t
 session_alike k h asked v client low s t is within = all_alike k h asked v s client low t is within
 
 -- ---- alike trees agree

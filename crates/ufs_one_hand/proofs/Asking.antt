@@ -1,6 +1,7 @@
 -- A client of the hand asks.
 use Rattle.std.proofs.Common.{◌≡◌, ℕ, ◌<◌, ◌≤◌, eqb, eq-eqb, ne_eqb, List, [], length, Option, Some, None, cond, unwrap_or, sym, refl, ap, ◌∙◌, subst, inl, arith}
 use native.Mathlib.Decide.{ℕ_discrete}
+use Rattle.ufs_base.specs.declared.limits.TheConstants.{MAX_CLIENTS, MAX_REQUESTS}
 use Rattle.ufs_model.specs.History.{tree_after, entries_of}
 use Rattle.ufs_model.specs.declared.data.Entry.{Entry}
 use Rattle.ufs_model.specs.declared.data.Op.{Op}
@@ -13,25 +14,26 @@ use Rattle.ufs_sound.proofs.Owning.{has_count, has_find, has_each, weigh_each}
 use Rattle.ufs_hand.specs.Session.{IsEvent}
 use Rattle.ufs_one_hand.specs.Drawn.{asked_view}
 use Rattle.ufs_one_hand.specs.OneHand.{HasSession, IsClientAt, client_in}
+use Rattle.ufs_one_hand.proofs.Started.{one_client, one_asked}
 
-module _ (k : Start) (history : List Entry) (client : ℕ) (low : client < 16) (request : Op) (v : View) (h : HasSession k history None v) where
+module _ (k : Start) (history : List Entry) (client : ℕ) (low : client < MAX_CLIENTS) (request : Op) (v : View) (h : HasSession k history None v) where
   there : (p : ClientPart) × Has (client, p) v.clients
-  there = let s = h.sixteen client low in has_count eqb itself alike client v.clients (omega arith)
+  there = let one = one_client k history None v h client low in has_count eqb itself alike client v.clients (omega arith)
 
   pub is_there : Has (client, client_in client v) v.clients
-  is_there = let one = h.one_client client in
-      subst (λ (p : ClientPart). Has (client, p) v.clients) (sym (ap (λ (o : Option ClientPart). unwrap_or o idle_client) (has_find eqb itself alike client there.0 v.clients one there.1))) there.1
+  is_there = let one = one_client k history None v h client low in
+      subst (λ (p : ClientPart). Has (client, p) v.clients) (sym (ap (λ (o : Option ClientPart). unwrap_or o idle_client) (has_find eqb itself alike client there.0 v.clients (omega (arith, one)) there.1))) there.1
 
   before : (a : AskedPart) × Has (client, a) v.asked
-  before = let s = h.sixteen_asked client low in has_count eqb itself alike client v.asked (omega arith)
+  before = let one = one_asked k history None v h client low in has_count eqb itself alike client v.asked (omega arith)
 
-  pub may_ask : length (entries_of client history) < 65536 → MayAsk client v
+  pub may_ask : length (entries_of client history) < MAX_REQUESTS → MayAsk client v
   may_ask room =
       let at = h.clients client (client_in client v) is_there in
       let same = ap (λ (es : List Entry). length es) at.entries in
       record { self = client_in client v; client = is_there; before = before.0; asked = before.1; idle = at.asked; room = omega (arith, same, room); copies = []; kept = λ l a. absurd a }
 
-  pub asks : length (entries_of client history) < 65536 → IsEvent k v (asked_view client request v)
+  pub asks : length (entries_of client history) < MAX_REQUESTS → IsEvent k v (asked_view client request v)
   unfolding may_ask
   asks room = inl (record { client = client; request = request; may = may_ask room; is = refl })
 
@@ -51,12 +53,9 @@ module _ (k : Start) (history : List Entry) (client : ℕ) (low : client < 16) (
       let same_asked = λ (c : ℕ). weigh_each (asking_asked client (asked_by tickets request [] self)) (λ n. one (eqb c n)) v.asked in
       record {
         tree = h.tree;
-        blind = h.blind;
+        start = h.start;
         all_clients = λ c. same c ∙ h.all_clients c;
         all_asked = λ c. same_asked c ∙ h.all_asked c;
-        one_client = λ c. subst (λ n. n ≤ 1) (sym (same c)) (h.one_client c);
-        sixteen = λ c l. same c ∙ h.sixteen c l;
-        sixteen_asked = λ c l. same_asked c ∙ h.sixteen_asked c l;
         clients = λ c p a.
             let x = has_each (asking_client client request []) c p v.clients a in
             subst (IsClientAt (tree_after k.tree history) history (Some (client, request)) c) x.2 (client_asked c x.0 (h.clients c x.0 x.1));
@@ -70,5 +69,4 @@ module _ (k : Start) (history : List Entry) (client : ℕ) (low : client < 16) (
         store = h.store;
         has_store = h.has_store;
         store_at = h.store_at;
-        no_block = h.no_block;
       }

@@ -9,9 +9,9 @@ use Rattle.ufs_sound.specs.ByImages.{by_images}
 use Rattle.ufs_sound.specs.Owned.{times, weigh}
 use Rattle.ufs_sound.specs.Opened.{OpenedDisk, opened_file, opened_names, opened_store, opened_view, CanBeOpened, OpenedDisksServe}
 use Rattle.ufs_sound.specs.Parts.{FilePart, Start, file_uses, uses}
-use Rattle.ufs_sound.specs.Whole.{CanOpen, idle_client, idle_asked}
+use Rattle.ufs_sound.specs.Whole.{CanOpen, idle_client}
 use Rattle.ufs_sound.proofs.Owning.{none_some}
-use Rattle.ufs_sound.proofs.First.{all_are, each_once}
+use Rattle.ufs_sound.proofs.First.{all_are}
 use Rattle.ufs_hand.specs.Session.{CanBegin, first_view}
 use Rattle.ufs_one_hand.specs.OneHand.{unseen_disk, start_with, IsStart, StartsCanBegin, HasSession, IsClientAt}
 
@@ -26,7 +26,7 @@ module _ (nodes : PathNodes) where
   files_use_none b zero a = refl
   files_use_none b (suc n) a = let e : times b (opened_file d a).blocks ≡ 0 = ap (times b) (no_blocks a) in let i = files_use_none b n (a + 1) in omega (arith, e, i)
 
-  pub uses_none : (b : ℕ) → uses b (opened_view d) ≡ 0
+  uses_none : (b : ℕ) → uses b (opened_view d) ≡ 0
   uses_none b = let i = files_use_none b (start_of nodes).next 0 in omega (arith, i)
 
   pub can_be_opened : IsPathTree nodes → (start_of nodes).next ≤ 1073741824 → CanBeOpened d
@@ -46,15 +46,12 @@ module _ (nodes : PathNodes) where
   client_idle : (c : ℕ) → IsClientAt (start_of nodes) [] None c idle_client
   client_idle c = record { entries = refl; fds = λ fd. fin.get-empty nat_cmp fd ∙ sym (fin.get-empty fd_cmp (c, fd)); copies = refl; asked = refl }
 
-  pub begun : CanOpen by_images (start_with nodes) (opened_names d) (opened_store d) → HasSession (start_with nodes) [] None (opened_view d)
-  begun can = record {
+  pub begun : IsPathTree nodes → (start_of nodes).next ≤ 1073741824 → CanOpen by_images (start_with nodes) (opened_names d) (opened_store d) → HasSession (start_with nodes) [] None (opened_view d)
+  begun paths few can = record {
+    start = record { nodes = nodes; paths = paths; few = few; is = refl };
     tree = can.tree;
-    blind = refl;
     all_clients = λ c. refl;
     all_asked = λ c. refl;
-    one_client = can.one_client;
-    sixteen = λ c l. each_once (λ _. idle_client) 16 0 c (omega arith) (omega arith);
-    sixteen_asked = λ c l. each_once (λ _. idle_asked) 16 0 c (omega arith) (omega arith);
     clients = λ c p h. subst (IsClientAt (start_of nodes) [] None c) (sym (can.clients c p h)) (client_idle c);
     theirs = λ e h. absurd h;
     all_files = can.one_file;
@@ -85,7 +82,6 @@ module _ (nodes : PathNodes) where
     store = opened_store d;
     has_store = refl;
     store_at = record { extents = refl; dirs = refl; unassigned = refl; stop = refl; unfailed = λ _. refl; single = λ n. omega arith };
-    no_block = uses_none;
   }
 
 pub starts_begin : OpenedDisksServe → StartsCanBegin
@@ -96,4 +92,4 @@ starts_begin serves k s = subst CanBegin (sym s.is) (record {
 })
 
 pub start_begun : OpenedDisksServe → (k : Start) → IsStart k → HasSession k [] None (first_view k)
-start_begun serves k s = subst (λ (z : Start). HasSession z [] None (first_view z)) (sym s.is) (begun s.nodes (serves (unseen_disk s.nodes) (can_be_opened s.nodes s.paths s.few)))
+start_begun serves k s = subst (λ (z : Start). HasSession z [] None (first_view z)) (sym s.is) (begun s.nodes s.paths s.few (serves (unseen_disk s.nodes) (can_be_opened s.nodes s.paths s.few)))

@@ -17,9 +17,6 @@ same_tally : (k : ℕ) (h j : List Entry) → ((c : ℕ) → c < k → entries_o
 same_tally zero h j same = omega arith
 same_tally (suc k) h j same = let i = same_tally k h j (λ c l. same c (omega arith)) in let b : length (entries_of k h) ≡ length (entries_of k j) = ap length (same k (omega arith)) in omega arith
 
-pub same_length : (h j : List Entry) → AreBelow 16 h → AreBelow 16 j → ((c : ℕ) → c < 16 → entries_of c h ≡ entries_of c j) → length h ≡ length j
-same_length h j a b same = sym (tally_below 16 h a) ∙ same_tally 16 h j same ∙ tally_below 16 j b
-
 -- ---- with no bound on the clients
 
 abbrev bound : List Entry → ℕ

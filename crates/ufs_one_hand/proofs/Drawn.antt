@@ -27,6 +27,7 @@ use Rattle.ufs_one_hand.proofs.Alike.{AreAlike, agree_touched}
 use Rattle.ufs_one_hand.proofs.Draws.{bare_file, dropped_bare, later_count, later_names, later_names_are}
 use Rattle.ufs_one_hand.proofs.Files.{bytes_after}
 use Rattle.ufs_one_hand.proofs.Holding.{listed_hold}
+use Rattle.ufs_one_hand.proofs.Started.{one_client}
 
 last_is : {A : Type 0} (o : A) (cs : List A) (x d : A) → slice_index_or (o ∷ (cs ++ x ∷ [])) (length (cs ++ x ∷ [])) d ≡ x
 last_is o [] x d = refl
@@ -105,7 +106,7 @@ module _ (keeps : KeepsTrees) (local : Locality) (k : Start) (h : List Entry) (f
       (has_append x h (last ∷ []) has)
     where
       own : 1 ≤ count eqb f.client w.clients
-      own = let o = s.sixteen f.client a.low in let c = client_counts f.client in omega arith
+      own = let o = one_client k h (Some (f.client, f.op)) v s f.client a.low in let c = client_counts f.client in omega arith
 
   -- ---- files
 
@@ -150,12 +151,9 @@ module _ (keeps : KeepsTrees) (local : Locality) (k : Start) (h : List Entry) (f
   pub session_after : HasSession k longer None w
   session_after = record {
     tree = subst IsTree then' (tree_goes_on keeps now s.tree e a.replied);
-    blind = s.blind;
+    start = s.start;
     all_clients = λ c. client_counts c ∙ s.all_clients c;
     all_asked = s.all_asked;
-    one_client = λ c. let n = client_counts c in let o = s.one_client c in omega arith;
-    sixteen = λ c low. client_counts c ∙ s.sixteen c low;
-    sixteen_asked = s.sixteen_asked;
     clients = client_at;
     theirs = their_part;
     all_files = λ g. later_count local k h f own_fds v a g ∙ ap (λ (t : PosixTree). one (is_some (fin.get t.bytes g))) then';
@@ -167,7 +165,6 @@ module _ (keeps : KeepsTrees) (local : Locality) (k : Start) (h : List Entry) (f
     store = s.store;
     has_store = s.has_store;
     store_at = s.store_at;
-    no_block = s.no_block;
   }
 
 -- So in the tree that its caller names.

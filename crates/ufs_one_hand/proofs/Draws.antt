@@ -29,6 +29,7 @@ use Rattle.ufs_one_hand.specs.Drawn.{IsAnswer, leaves_after, names_drawn, file_d
 use Rattle.ufs_one_hand.proofs.Alike.{AreAlike, session_alike, names_there, names_are, alike_reply, alike_after, alike_file_changes, alike_name_changes}
 use Rattle.ufs_one_hand.proofs.Files.{stays, gone_has, gone_empty, file_after, bytes_after, count_after}
 use Rattle.ufs_one_hand.proofs.Holding.{listed_hold}
+use Rattle.ufs_one_hand.proofs.Started.{one_client}
 use Rattle.ufs_one_hand.proofs.Touching.{may_touch}
 
 -- what weighs nothing
@@ -72,7 +73,7 @@ module _ (local : Locality) (k : Start) (h : List Entry) (f : Fresh) (own_fds : 
   -- ---- its parts
 
   pub own_part : (p : ClientPart) × Has (f.client, p) v.clients
-  own_part = let c = s.sixteen f.client a.low in has_count eqb itself alike f.client v.clients (omega arith)
+  own_part = let c = one_client k h (Some (f.client, f.op)) v s f.client a.low in has_count eqb itself alike f.client v.clients (omega arith)
 
   pub file_there : (g : ℕ) → is_some (fin.get now.bytes g) ≡ true → 1 ≤ count eqb g v.files
   file_there g there = let c : count eqb g v.files ≡ 1 = s.all_files g ∙ ap one there in omega arith

@@ -11,16 +11,17 @@ use Rattle.ufs_model.specs.declared.data.Op.{Op}
 use Rattle.ufs_model.proofs.Facts.Lookups.{inserted_here, inserted_else}
 use Rattle.ufs_prefix.specs.Changes.{NameState}
 use Rattle.ufs_sound.specs.ByImages.{by_images}
-use Rattle.ufs_sound.specs.Marks.{value_after, IsSingle, IsMadeBy, StoreGoes, NamesGo, IsTurn, RemakesOn, MayRemake}
+use Rattle.ufs_sound.specs.Marks.{value_after, IsSingle, IsMadeBy, StoreGoes, NamesGo, RemakesOn, MayRemake}
 use Rattle.ufs_sound.specs.Owned.{one, Has, count, each, weigh}
 use Rattle.ufs_sound.specs.Parts.{FilePart, NamesPart, Start, StorePart, View, committed, file_uses, only_one, store_uses}
 use Rattle.ufs_sound.proofs.Happening.Staying.{answers_stay, blocks_stay, both_remake, same_file, same_parts_keep, same_parts_know}
 use Rattle.ufs_sound.proofs.Keys.{itself, alike}
 use Rattle.ufs_sound.proofs.Owning.{count_has, has_each, weigh_each}
 use Rattle.ufs_hand.specs.Session.{IsEvent}
-use Rattle.ufs_one_hand.specs.Drawn.{AreBirthsTold, AreBorn, births_kept, counts_with, files_kept, names_kept}
+use Rattle.ufs_one_hand.specs.Drawn.{AreBirthsTold, AreBorn, births_kept, counts_with, files_kept, names_kept, turned}
 use Rattle.ufs_one_hand.specs.OneHand.{HasSession, IsFileAt, KnowsCommits}
-use Rattle.ufs_one_hand.proofs.Passage.{not_visible}
+use Rattle.ufs_one_hand.proofs.Passage.{is_turn}
+use Rattle.ufs_one_hand.proofs.Started.{not_visible}
 
 -- ---- lists of parts
 
@@ -59,7 +60,7 @@ module _ (k : Start) (history : List Entry) (asked : Option (ℕ × Op)) (v : Vi
 
   module _ (n : ℕ) where
     abbrev t1 : StorePart
-    t1 = record h.store { names = length h.names.changes; past = record { states = h.store.state ∷ []; from = h.store.mark; to = n } ∷ h.store.past; mark = n; lent = []; lent_names = 0 }
+    t1 = record (turned n [] h.store) { names = length h.names.changes }
 
     abbrev q1 : NamesPart
     q1 = record h.names { born = map (λ (f : ℕ × FilePart). f.0) v.files; known = length h.names.changes }
@@ -82,18 +83,6 @@ module _ (k : Start) (history : List Entry) (asked : Option (ℕ × Op)) (v : Vi
         there true l = refl
         there false l = absurd (omega arith)
 
-    turn : (t : StorePart) → t.state ≡ h.store.state → t.mark ≡ n → t.past ≡ record { states = h.store.state ∷ []; from = h.store.mark; to = n } ∷ h.store.past → t.lent ≡ [] → t.lent_names ≡ 0 → (p : NamesPart) → IsTurn by_images k n v h.store t p
-    turn t state mark past lent names p = record {
-      through = [];
-      last = inl state;
-      mark = mark;
-      past = past;
-      lent = λ g m a. absurd (subst (Has (g, m)) lent a);
-      lent_names = omega (arith, names);
-      inside = λ visible. absurd (not_visible k h.blind visible);
-      end = λ visible. absurd (not_visible k h.blind visible);
-    }
-
     here1 : IsSingle v → RemakesOn by_images k n v w1 h.store t1 h.names q1
     here1 single = record {
       kept = blocks_stay v w1 h.store t1 h.names q1 (same_parts_keep v w1 (same_file v single)) (λ g bs e. e) (λ g bs a. a) (λ kept. kept);
@@ -107,8 +96,8 @@ module _ (k : Start) (history : List Entry) (asked : Option (ℕ × Op)) (v : Vi
         names_known = λ l m. (omega (arith, l, m), omega arith);
         names_born = λ g a. inr (made_by g a);
       };
-      disk = λ visible. absurd (not_visible k h.blind visible);
-      shown = inr (turn t1 refl refl refl refl refl h.names);
+      disk = λ visible. absurd (not_visible k h.start visible);
+      shown = inr (is_turn k h.start n v h.store t1 h.names [] (inl refl) refl);
       answers = answers_stay v w1 h.store t1 refl refl refl refl refl refl;
     }
 
@@ -118,12 +107,9 @@ module _ (k : Start) (history : List Entry) (asked : Option (ℕ × Op)) (v : Vi
     pub names_session : HasSession k history asked (names_kept v n)
     names_session = subst (HasSession k history asked) is1 (record {
       tree = h.tree;
-      blind = h.blind;
+      start = h.start;
       all_clients = h.all_clients;
       all_asked = h.all_asked;
-      one_client = h.one_client;
-      sixteen = h.sixteen;
-      sixteen_asked = h.sixteen_asked;
       clients = h.clients;
       theirs = h.theirs;
       all_files = h.all_files;
@@ -151,7 +137,6 @@ module _ (k : Start) (history : List Entry) (asked : Option (ℕ × Op)) (v : Vi
         unfailed = h.store_at.unfailed;
         single = h.store_at.single;
       };
-      no_block = h.no_block;
     })
 
     pub names_tell : AreBirthsTold (names_kept v n)
@@ -201,7 +186,7 @@ module _ (k : Start) (history : List Entry) (asked : Option (ℕ × Op)) (v : Vi
           names_known = λ l m. let e = ap (λ (u : NamesPart). u.known) same_names in let c = ap (λ (z : StorePart). z.names) still in (omega (arith, e), omega (arith, e, c, l));
           names_born = λ g a. inl (subst (λ (u : NamesPart). Has g u.born) same_names a);
         };
-        disk = λ visible. absurd (not_visible k h.blind visible);
+        disk = λ visible. absurd (not_visible k h.start visible);
         shown = inl (record {
           mark = ap (λ (x : StorePart). x.mark) still;
           past = ap (λ (x : StorePart). x.past) still;
@@ -235,12 +220,9 @@ module _ (k : Start) (history : List Entry) (asked : Option (ℕ × Op)) (v : Vi
     pub births_session : HasSession k history asked w2
     births_session = record {
       tree = h.tree;
-      blind = h.blind;
+      start = h.start;
       all_clients = h.all_clients;
       all_asked = h.all_asked;
-      one_client = h.one_client;
-      sixteen = h.sixteen;
-      sixteen_asked = h.sixteen_asked;
       clients = h.clients;
       theirs = h.theirs;
       all_files = λ f. weigh_each go2 (λ m. one (eqb f m)) v.files ∙ h.all_files f;
@@ -252,7 +234,6 @@ module _ (k : Start) (history : List Entry) (asked : Option (ℕ × Op)) (v : Vi
       store = h.store;
       has_store = h.has_store;
       store_at = h.store_at;
-      no_block = h.no_block;
     }
       where
         file_at : (f : ℕ) (x : FilePart) → IsFileAt (tree_after k.tree history) f x → IsFileAt (tree_after k.tree history) f (go2 f x)
@@ -268,7 +249,7 @@ module _ (k : Start) (history : List Entry) (asked : Option (ℕ × Op)) (v : Vi
 
   module _ (n : ℕ) where
     abbrev t3 : StorePart
-    t3 = record h.store { files = counts_with v.files h.store.files; past = record { states = h.store.state ∷ []; from = h.store.mark; to = n } ∷ h.store.past; mark = n; lent = []; lent_names = 0 }
+    t3 = record (turned n [] h.store) { files = counts_with v.files h.store.files }
 
     abbrev go3 : ℕ → FilePart → FilePart
     go3 _ p = record p { known = length p.changes }
@@ -299,8 +280,8 @@ module _ (k : Start) (history : List Entry) (asked : Option (ℕ × Op)) (v : Vi
           names_known = λ l m. (omega arith, l);
           names_born = λ g a. inl a;
         };
-        disk = λ visible. absurd (not_visible k h.blind visible);
-        shown = inr (turn n t3 refl refl refl refl refl p);
+        disk = λ visible. absurd (not_visible k h.start visible);
+        shown = inr (is_turn k h.start n v h.store t3 p [] (inl refl) refl);
         answers = answers_stay v w3 h.store t3 refl refl refl refl refl refl;
       }
 
@@ -330,12 +311,9 @@ module _ (k : Start) (history : List Entry) (asked : Option (ℕ × Op)) (v : Vi
     pub files_session : HasSession k history asked (files_kept v n)
     files_session = subst (HasSession k history asked) is3 (record {
       tree = h.tree;
-      blind = h.blind;
+      start = h.start;
       all_clients = h.all_clients;
       all_asked = h.all_asked;
-      one_client = h.one_client;
-      sixteen = h.sixteen;
-      sixteen_asked = h.sixteen_asked;
       clients = h.clients;
       theirs = h.theirs;
       all_files = λ f. weigh_each go3 (λ m. one (eqb f m)) v.files ∙ h.all_files f;
@@ -354,7 +332,6 @@ module _ (k : Start) (history : List Entry) (asked : Option (ℕ × Op)) (v : Vi
         unfailed = h.store_at.unfailed;
         single = h.store_at.single;
       };
-      no_block = h.no_block;
     })
       where
         file_at : (f : ℕ) (x : FilePart) → IsFileAt (tree_after k.tree history) f x → IsFileAt (tree_after k.tree history) f (go3 f x)

@@ -9,5 +9,6 @@ pub mod Files
 pub mod Holding
 pub mod Keeping
 pub mod Passage
+pub mod Started
 pub mod Tickets
 pub mod Touching

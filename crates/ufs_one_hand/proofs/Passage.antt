@@ -1,16 +1,17 @@
 -- The disk was called: the hand's store goes on by a turn.
-use Rattle.std.proofs.Common.{◌≡◌, ℕ, ◌+◌, ◌≤◌, true, false, eqb, eq-eqb, List, [], ◌∷◌, ◌++◌, length, Option, Some, None, sym, refl, ap, ◌∙◌, subst, inl, inr, ⊎_elim, arith}
+use Rattle.std.proofs.Common.{◌≡◌, ◌⊎◌, ℕ, ◌+◌, ◌≤◌, true, false, eqb, eq-eqb, List, [], ◌∷◌, ◌++◌, length, Option, Some, None, sym, refl, ap, ◌∙◌, subst, inl, inr, ⊎_elim, arith}
 use Rattle.ufs_model.specs.declared.data.Entry.{Entry}
 use Rattle.ufs_model.specs.declared.data.Op.{Op}
 use Rattle.ufs_sound.specs.ByImages.{by_images}
-use Rattle.ufs_sound.specs.Marks.{value_after, IsSingle, AreAnswers, RemakesOn, MayRemake}
+use Rattle.ufs_sound.specs.Marks.{value_after, IsSingle, IsTurn, AreAnswers, RemakesOn, MayRemake}
 use Rattle.ufs_sound.specs.Owned.{one, Has, each, times}
-use Rattle.ufs_sound.specs.Parts.{Cells, FilePart, NamesPart, Shortage, Start, StorePart, View, IsDiskVisible}
+use Rattle.ufs_sound.specs.Parts.{Cells, FilePart, NamesPart, Shortage, Start, StorePart, View}
 use Rattle.ufs_sound.proofs.Happening.Staying.{store_remakes, same_file, blocks_stay, numbers_stay, same_parts_keep, same_parts_know, times_append}
 use Rattle.ufs_sound.proofs.Owning.{has_append, append_has}
 use Rattle.ufs_hand.specs.Session.{IsEvent}
-use Rattle.ufs_one_hand.specs.Drawn.{fault_met, store_passed, passed_view}
-use Rattle.ufs_one_hand.specs.OneHand.{HasSession, IsStoreAt, state_in}
+use Rattle.ufs_one_hand.specs.Drawn.{fault_met, store_passed, passed_view, turned}
+use Rattle.ufs_one_hand.specs.OneHand.{HasSession, IsStart, IsStoreAt, state_in}
+use Rattle.ufs_one_hand.proofs.Started.{not_visible}
 
 some_once : (n m : ℕ) → times n (m ∷ []) ≤ 1
 some_once n m = few (eqb n m)
@@ -42,11 +43,19 @@ fault_told None (Some m) faults n a b = let e : one (eqb n m) ≡ 1 = ap one (eq
     same m n e = cc
 fault_told (Some x) stop faults n a b = cc
 
-pub not_visible : (k : Start) → k.is_visible ≡ false → IsDiskVisible k → ⊥
-not_visible k blind visible = absurd (both (sym blind ∙ visible))
-  where
-    both : false ≡ true → ⊥
-    both e = cc
+-- a turn on a disk that isn't shown
+pub is_turn : (k : Start) → IsStart k → (n : ℕ) (v : View) (s t : StorePart) (p : NamesPart) (through : List Cells) → (t.state ≡ s.state) ⊎ Has t.state through
+    → t ≡ record (turned n through s) { state = t.state; files = t.files; names = t.names; faults = t.faults; shortages = t.shortages; stop = t.stop } → IsTurn by_images k n v s t p
+is_turn k start n v s t p through last is = record {
+  through = through;
+  last = last;
+  mark = ap (λ (z : StorePart). z.mark) is;
+  past = ap (λ (z : StorePart). z.past) is;
+  lent = λ g m a. absurd (subst (Has (g, m)) (ap (λ (z : StorePart). z.lent) is) a);
+  lent_names = let none = ap (λ (z : StorePart). z.lent_names) is in omega (arith, none);
+  inside = λ visible. absurd (not_visible k start visible);
+  end = λ visible. absurd (not_visible k start visible);
+}
 
 module _ (k : Start) (history : List Entry) (asked : Option (ℕ × Op)) (v : View) (h : HasSession k history asked v)
     (stop : Option ℕ) (state : Cells) (shortages : List Shortage) (kept : (n : ℕ) → v.stop ≡ Some n → stop ≡ Some n) where
@@ -77,17 +86,8 @@ module _ (k : Start) (history : List Entry) (asked : Option (ℕ × Op)) (v : Vi
     passes_here = record {
       kept = blocks_stay v (with_store n) h.store (t0 n) p p (same_parts_keep v (with_store n) file_is) (λ g bs e. e) (λ g bs a. a) (λ kept. kept);
       rise = numbers_stay v (with_store n) h.store (t0 n) p p (λ g. refl) refl (same_parts_know v (with_store n) file_is) refl refl;
-      disk = λ visible. absurd (not_visible k h.blind visible);
-      shown = inr (record {
-        through = state ∷ [];
-        last = inr (inl refl);
-        mark = refl;
-        past = refl;
-        lent = λ g m a. absurd a;
-        lent_names = omega arith;
-        inside = λ visible. absurd (not_visible k h.blind visible);
-        end = λ visible. absurd (not_visible k h.blind visible);
-      });
+      disk = λ visible. absurd (not_visible k h.start visible);
+      shown = inr (is_turn k h.start n v h.store (t0 n) p (state ∷ []) (inr (inl refl)) refl);
       answers = answers n;
     }
 
@@ -113,12 +113,9 @@ module _ (k : Start) (history : List Entry) (asked : Option (ℕ × Op)) (v : Vi
   pub passed_session : (n : ℕ) → HasSession k history asked (passed_view stop state shortages v n)
   passed_session n = subst (HasSession k history asked) (is n) (record {
     tree = h.tree;
-    blind = h.blind;
+    start = h.start;
     all_clients = h.all_clients;
     all_asked = h.all_asked;
-    one_client = h.one_client;
-    sixteen = h.sixteen;
-    sixteen_asked = h.sixteen_asked;
     clients = h.clients;
     theirs = h.theirs;
     all_files = h.all_files;
@@ -130,5 +127,4 @@ module _ (k : Start) (history : List Entry) (asked : Option (ℕ × Op)) (v : Vi
     store = t0 n;
     has_store = refl;
     store_at = store_after n;
-    no_block = h.no_block;
   })

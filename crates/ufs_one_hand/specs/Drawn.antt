@@ -4,6 +4,7 @@ use Rattle.std.specs.List.{filter_map}
 use Rattle.std.specs.Option.{option_map}
 use Rattle.std.specs.FinMap as fin
 use Rattle.std.specs.Ordering.{nat_cmp}
+use Rattle.ufs_base.specs.declared.limits.TheConstants.{MAX_CLIENTS}
 use Rattle.ufs_model.specs.Asks.{fd_told}
 use Rattle.ufs_model.specs.FileBytes.{bytes_of}
 use Rattle.ufs_model.specs.History.{IsReplyTo, tree_after, entries_of, goes_on}
@@ -27,6 +28,12 @@ use Rattle.ufs_one_hand.specs.OneHand.{HasSession, KnowsCommits, client_in}
 abbrev pub asked_view : ℕ → Op → View → ℕ → View
 asked_view client op v tickets = asking tickets client op [] (client_in client v) v
 
+-- ---- a turn of the disk
+
+-- it passed these states since the last mark, and nothing is lent to the next turn
+abbrev pub turned : ℕ → List Cells → StorePart → StorePart
+turned tickets states s = record s { past = record { states = s.state ∷ states; from = s.mark; to = tickets } ∷ s.past; mark = tickets; lent = []; lent_names = 0 }
+
 -- ---- the disk was called
 
 -- the call that failed, where one did: the store stopped at it
@@ -35,12 +42,8 @@ fault_met None (Some fault) = fault ∷ []
 fault_met _ _ = []
 
 abbrev pub store_passed : ℕ → Option ℕ → Cells → List Shortage → Option ℕ → StorePart → StorePart
-store_passed tickets stop state shortages before s = record s {
-  past = record { states = s.state ∷ state ∷ []; from = s.mark; to = tickets } ∷ s.past;
+store_passed tickets stop state shortages before s = record (turned tickets (state ∷ []) s) {
   state = state;
-  mark = tickets;
-  lent = [];
-  lent_names = 0;
   faults = fault_met before stop ++ s.faults;
   shortages = shortages ++ s.shortages;
   stop = stop;
@@ -62,7 +65,7 @@ passed_view stop state shortages v tickets = record v {
 abbrev pub names_kept : View → ℕ → View
 names_kept v tickets = record v {
   names = each (λ _ p. record p { born = map (λ f. f.0) v.files; known = length p.changes }) v.names;
-  store = each (λ _ s. record s { names = names_made v.names; past = record { states = s.state ∷ []; from = s.mark; to = tickets } ∷ s.past; mark = tickets; lent = []; lent_names = 0 }) v.store;
+  store = each (λ _ s. record (turned tickets [] s) { names = names_made v.names }) v.store;
   seen = tickets;
 }
   where
@@ -81,7 +84,7 @@ counts_with (f ∷ fs) counts = fin.insert (counts_with fs counts) f.0 (length f
 abbrev pub files_kept : View → ℕ → View
 files_kept v tickets = record v {
   files = each (λ _ p. record p { known = length p.changes }) v.files;
-  store = each (λ _ s. record s { files = counts_with v.files s.files; past = record { states = s.state ∷ []; from = s.mark; to = tickets } ∷ s.past; mark = tickets; lent = []; lent_names = 0 }) v.store;
+  store = each (λ _ s. record (turned tickets [] s) { files = counts_with v.files s.files }) v.store;
   seen = tickets;
 }
 
@@ -104,7 +107,7 @@ pub record HasCauses (given : Reply) (v : View) : Type 0 where
 pub record IsAnswer (k : Start) (history : List Entry) (t : PosixTree) (f : Fresh) (left : OwnFds) (v : View) : Type 0 where
   pub tree_is : t ≡ tree_after k.tree history
   pub session : HasSession k history (Some (f.client, f.op)) v
-  pub low : f.client < 16
+  pub low : f.client < MAX_CLIENTS
   pub seq : f.seq ≡ length (entries_of f.client history)
   pub replied : IsReplyTo t (entry_of 0 f)
   pub fds : (fd : ℕ) → fin.get left fd ≡ desc_at (goes_on t (entry_of 0 f)) f.client fd

@@ -1,7 +1,8 @@
 -- All parts of a session in one hand, as they are after a history. Where blocks lie is the server's to know: no part has a
 -- block here, and nothing is said of what the disk holds.
-use Rattle.std.specs.Prelude.{ℕ, ◌≡◌, ◌≤◌, ◌<◌, true, false, List, [], ◌∷◌, length, Option, Some, None, is_some, eqb, if◌then◌else◌, slice_index_or, unwrap_or}
+use Rattle.std.specs.Prelude.{ℕ, ◌≡◌, ◌≤◌, true, false, List, [], ◌∷◌, length, Option, Some, None, is_some, eqb, if◌then◌else◌, slice_index_or, unwrap_or}
 use Rattle.std.specs.FinMap as fin
+use Rattle.ufs_base.specs.declared.limits.TheConstants.{MAX_CLIENTS}
 use Rattle.ufs_model.specs.PosixTree.{PosixTree, IsTree, desc_at}
 use Rattle.ufs_model.specs.History.{tree_after, entries_of}
 use Rattle.ufs_model.specs.Start.{PathNodes, IsPathTree, start_of}
@@ -11,15 +12,15 @@ use Rattle.ufs_model.specs.declared.data.Op.{Op}
 use Rattle.ufs_prefix.specs.Changes.{names_of}
 use Rattle.ufs_sound.specs.Opened.{OpenedDisk, opened_start}
 use Rattle.ufs_sound.specs.Owned.{one, Has, count, find, times}
-use Rattle.ufs_sound.specs.Parts.{Cells, ClientPart, FilePart, NamesPart, StorePart, View, Start, is_holder, uses}
+use Rattle.ufs_sound.specs.Parts.{Cells, ClientPart, FilePart, NamesPart, StorePart, View, Start, is_holder}
 use Rattle.ufs_sound.specs.Whole.{idle_client}
 use Rattle.ufs_hand.specs.Session.{CanBegin}
 
 -- ---- what it starts from
 
--- 16 clients, and a disk of which nothing is said
+-- the most clients, and a disk of which nothing is said
 abbrev pub unseen_disk : PathNodes → OpenedDisk
-unseen_disk nodes = record { nodes = nodes; cells = []; extents = fin.empty; dirs = []; unassigned = []; pools = []; clients = 16; is_visible = false }
+unseen_disk nodes = record { nodes = nodes; cells = []; extents = fin.empty; dirs = []; unassigned = []; pools = []; clients = MAX_CLIENTS; is_visible = false }
 
 abbrev pub start_with : PathNodes → Start
 start_with nodes = opened_start (unseen_disk nodes)
@@ -79,13 +80,10 @@ pub record IsStoreAt (stopped : Option ℕ) (p : StorePart) : Type 0 where
 
 -- The hand has each part of the session after this history, in which this is asked; and nothing else.
 pub record HasSession (k : Start) (history : List Entry) (asked : Option (ℕ × Op)) (v : View) : Type 0 where
+  pub start : IsStart k
   pub tree : IsTree (tree_after k.tree history)
-  pub blind : k.is_visible ≡ false
   pub all_clients : (c : ℕ) → count eqb c v.clients ≡ count eqb c k.view.clients
   pub all_asked : (c : ℕ) → count eqb c v.asked ≡ count eqb c k.view.asked
-  pub one_client : (c : ℕ) → count eqb c v.clients ≤ 1
-  pub sixteen : (c : ℕ) → c < 16 → count eqb c v.clients ≡ 1
-  pub sixteen_asked : (c : ℕ) → c < 16 → count eqb c v.asked ≡ 1
   pub clients : (c : ℕ) (p : ClientPart) → Has (c, p) v.clients → IsClientAt (tree_after k.tree history) history asked c p
   pub theirs : (e : Entry) → Has e history → 1 ≤ count eqb e.client v.clients
   pub all_files : (f : ℕ) → count eqb f v.files ≡ one (is_some (fin.get (tree_after k.tree history).bytes f))
@@ -97,8 +95,6 @@ pub record HasSession (k : Start) (history : List Entry) (asked : Option (ℕ ×
   pub store : StorePart
   pub has_store : v.store ≡ (tt, store) ∷ []
   pub store_at : IsStoreAt v.stop store
-  -- a start without a block has none ever
-  pub no_block : (b : ℕ) → uses b k.view ≡ 0
 
 -- ---- what a hand has
 

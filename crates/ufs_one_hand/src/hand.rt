@@ -3,14 +3,15 @@ ghost use Rattle.std.specs.Prelude.{ℕ, ◌≡◌, ◌≤◌, ◌<◌, ◌++◌
 ghost use Rattle.ufs_model.specs.History.{entries_of};
 ghost use Rattle.ufs_model.specs.declared.data.Entry.{Entry};
 ghost use Rattle.ufs_model.specs.declared.data.Op.{Op};
-ghost use Rattle.ufs_sound.specs.Draws.{entry_of};
+ghost use Rattle.ufs_sound.specs.Draws.{entry_of, left_faults};
 ghost use Rattle.ufs_sound.specs.Owned.{times};
-ghost use Rattle.ufs_one_hand.specs.Drawn.{IsAnswer, asked_view, AreBirthsTold, AreBorn, births_kept, files_kept, names_kept};
+ghost use Rattle.ufs_one_hand.specs.Drawn.{IsAnswer, asked_view, fault_met, AreBirthsTold, AreBorn, births_kept, files_kept, names_kept};
 ghost use Rattle.ufs_one_hand.specs.OneHand.{HasSession, IsStart, KnowsCommits, StartsCanBegin, state_in};
 
 use crate::picks::{Answering, Passing};
 use std::marker::{Brand, Model};
-use ufs_hand::{Begun, Event, Hand, HandTable, Naming, Opened, Whole};
+use ufs_base::{MAX_CLIENTS, MAX_REQUESTS};
+use ufs_hand::{Begun, Event, Hand, HandTable, Naming, Opened};
 use ufs_model::{
     Op, a_request_is_local, a_request_keeps_the_tree, a_request_makes_one_file_at_most,
 };
@@ -62,6 +63,9 @@ impl<N: Naming> OneHand<N> {
         requires start { IsStart N.start }
         ensures session { HasSession N.start [] None result }
         ensures stop { result.stop ≡ None }
+        ensures state { state_in result ≡ [] }
+        ensures faults { result.faults ≡ [] }
+        ensures shortages { result.shortages ≡ [] }
     {
         a_disk_with_files_can_be_opened();
         let Begun { table, hand } = opened.named::<N>();
@@ -70,22 +74,26 @@ impl<N: Naming> OneHand<N> {
 
     /// A client asks a request.
     pub fn ask(&mut self, client: u8, op: &Op)
-        requires client { client < 16 }
-        requires idle { (history : List Entry) × HasSession N.start history None self.old × (length (entries_of client history) < 65536) }
+        requires client { client < MAX_CLIENTS }
+        requires idle { (history : List Entry) × HasSession N.start history None self.old × (length (entries_of client history) < MAX_REQUESTS) }
         ensures session { (history : List Entry) → HasSession N.start history None self.old → HasSession N.start history (Some (client, op.now)) self.new }
         ensures stop { self.new.stop ≡ self.old.stop }
         ensures state { state_in self.new ≡ state_in self.old }
+        ensures faults { self.new.faults ≡ self.old.faults }
+        ensures shortages { self.new.shortages ≡ self.old.shortages }
     {
         self.ask_as::<Brand>(client, op);
     }
 
     fn ask_as<E: Event>(&mut self, client: u8, op: &Op)
-        requires client { client < 16 }
+        requires client { client < MAX_CLIENTS }
         requires leaves { E.leaves ≡ asked_view client op.now self.old }
-        requires idle { (history : List Entry) × HasSession N.start history None self.old × (length (entries_of client history) < 65536) }
+        requires idle { (history : List Entry) × HasSession N.start history None self.old × (length (entries_of client history) < MAX_REQUESTS) }
         ensures session { (history : List Entry) → HasSession N.start history None self.old → HasSession N.start history (Some (client, op.now)) self.new }
         ensures stop { self.new.stop ≡ self.old.stop }
         ensures state { state_in self.new ≡ state_in self.old }
+        ensures faults { self.new.faults ≡ self.old.faults }
+        ensures shortages { self.new.shortages ≡ self.old.shortages }
     {
         self.hand.mark::<E>(&self.table);
     }
@@ -98,6 +106,7 @@ impl<N: Naming> OneHand<N> {
         ensures session { (history : List Entry) (asked : Option (ℕ × Op)) → HasSession N.start history asked self.old → HasSession N.start history asked self.new }
         ensures stop { self.new.stop ≡ P.stop }
         ensures state { state_in self.new ≡ P.state }
+        ensures faults { self.new.faults ≡ fault_met self.old.stop P.stop ++ self.old.faults }
         ensures fault { (n : ℕ) → self.old.stop ≡ None → P.stop ≡ Some n → 1 ≤ times n self.new.faults }
         ensures shortages { self.new.shortages ≡ P.shortages ++ self.old.shortages }
     {
@@ -149,6 +158,8 @@ impl<N: Naming> OneHand<N> {
         ensures session { (history : List Entry) → IsAnswer N.start history A.before fresh.now A.fds self.old → HasSession N.start (history ++ entry_of result fresh.now ∷ []) None self.new }
         ensures stop { self.new.stop ≡ self.old.stop }
         ensures state { state_in self.new ≡ state_in self.old }
+        ensures faults { self.new.faults ≡ left_faults fresh.now.reply self.old.faults }
+        ensures shortages { self.new.shortages ≡ [] }
     {
         a_request_is_local();
         a_request_keeps_the_tree();
@@ -156,12 +167,12 @@ impl<N: Naming> OneHand<N> {
         self.hand.draw::<Brand>(&self.table, fresh)
     }
 
-    /// The end of the session. Answers how many entries were drawn, and where the clock stood.
-    pub fn close(self) -> Whole
+    /// The end of the session. Answers how many entries were drawn.
+    pub fn close(self) -> u64
         requires session { (history : List Entry) × HasSession N.start history None self }
-        ensures tickets { (history : List Entry) → HasSession N.start history None self → result.tickets ≡ length history }
+        ensures tickets { (history : List Entry) → HasSession N.start history None self → result ≡ length history }
     {
         let OneHand { table, hand } = self;
-        hand.close(table)
+        hand.close(table).tickets
     }
 }

@@ -1,5 +1,6 @@
 -- What is asked of a request that was served, so that its entry may be drawn.
 use Rattle.std.specs.Prelude.{ℕ, ◌≡◌, ◌≢◌, ◌<◌, ◌&&◌, Bool, List, [], ◌∷◌, length, Option, Some, None}
+use Rattle.ufs_base.specs.declared.limits.TheConstants.{MAX_CLIENTS}
 use Rattle.ufs_fds.specs.Descriptors.{AreOf, Descs}
 use Rattle.ufs_model.specs.Asks.{fd_told}
 use Rattle.ufs_model.specs.History.{IsReplyTo, entries_of, goes_on}
@@ -17,7 +18,7 @@ use Rattle.ufs_store_steps.specs.Cells.{cells_of}
 
 -- The entry goes on from this history, which leads to this tree; and the client has these descriptors behind it.
 pub record IsServedIn (t : PosixTree) (history : List Entry) (entry : Entry) (fds : Descs) : Type 0 where
-  pub low : entry.client < 16
+  pub low : entry.client < MAX_CLIENTS
   pub ticket : entry.ticket ≡ length history
   pub seq : entry.seq ≡ length (entries_of entry.client history)
   pub replied : IsReplyTo t entry

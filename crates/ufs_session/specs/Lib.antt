@@ -1,5 +1,6 @@
 pub mod Told
 pub mod Played
 pub mod Serving
+pub mod Served
 pub mod Throughout
 pub mod Drawing

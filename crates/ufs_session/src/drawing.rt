@@ -13,10 +13,24 @@ ghost use Rattle.ufs_sound.specs.Owned.{times};
 use std::marker::Brand;
 use ufs_fds::FdTable;
 use ufs_hand::Naming;
-use ufs_model::{Entry, EntryList, Op, Reply};
+use ufs_model::{Entry, EntryList, Reply};
 use ufs_one_hand::{Answering, OneHand, Passing};
+use ufs_server::is_sync;
 use ufs_sound::Fresh;
 use ufs_store::Door;
+
+// The disk as the session finds it.
+pub(crate) fn mark_disk<N: Naming, D: Door, P: Passing>(hand: &mut OneHand<N>, door: &D)
+    requires stop { P.stop ≡ (D.store door.now).stop }
+    requires state { P.state ≡ disk_state (D.store door.now) }
+    requires session { (history : List Entry) × (asked : Option (ℕ × Op)) × HasSession N.start history asked hand.old }
+    requires still { hand.old.stop ≡ (D.store door.now).stop }
+    ensures session { (history : List Entry) (asked : Option (ℕ × Op)) → HasSession N.start history asked hand.old → HasSession N.start history asked hand.new }
+    ensures stop { hand.new.stop ≡ (D.store door.now).stop }
+    ensures state { state_in hand.new ≡ disk_state (D.store door.now) }
+{
+    hand.pass::<P>();
+}
 
 // Draws the entry of a request that was served: the disk was called for it, and what it acknowledges is committed.
 pub(crate) fn draw<N: Naming, D: Door>(
@@ -62,10 +76,7 @@ fn is_acknowledged(entry: &Entry) -> bool
     ensures { result ≡ acknowledges entry.now }
 {
     match entry.reply {
-        Reply::Done => match entry.op {
-            Op::Fsync { .. } | Op::Sync => true,
-            _ => false,
-        },
+        Reply::Done => is_sync(&entry.op),
         _ => false,
     }
 }

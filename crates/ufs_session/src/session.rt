@@ -18,10 +18,11 @@ ghost use Rattle.ufs_one_hand.specs.OneHand.{HasSession, IsStart, state_in};
 ghost use Rattle.ufs_session.specs.Drawing.{disk_state};
 ghost use Rattle.ufs_session.specs.Told.{AreFaultsTold};
 ghost use Rattle.ufs_session.specs.Played.{IsPlayedFrom, MayBegin};
+ghost use Rattle.ufs_session.specs.Served.{AreServed};
 ghost use Rattle.ufs_session.specs.Serving.{GoesOn, IsDone, IsReached, IsReady};
 ghost use Rattle.ufs_session.specs.Throughout.{IsExplainedThroughout};
 
-use crate::drawing::draw;
+use crate::drawing::{draw, mark_disk};
 use std::alloc::Global;
 use std::marker::Brand;
 use ufs_base::{MAX_CLIENTS, MAX_REQUESTS, Memory};
@@ -98,6 +99,7 @@ fn serve_client<N: Naming, D: Door>(
     requires ready { IsReady N.start.tree (joined earlier.now.items) server.old client }
     requires session { HasSession N.start (joined earlier.now.items) None hand.old }
     requires stop { hand.old.stop ≡ (D.store door.old).stop }
+    requires state { state_in hand.old ≡ disk_state (D.store door.old) }
     requires faults { (begun : StoreState) × AreFaultsTold begun (D.store door.old) (joined earlier.now.items) }
     requires sound { IsSoundServer (geometry_of_store (D.store door.old)) (D.store door.old).unassigned.free server.old }
     requires none { told.old.items ≡ [] }
@@ -113,6 +115,7 @@ fn serve_client<N: Naming, D: Door>(
     ensures sound { IsSoundServer (geometry_of_store (D.store door.new)) (D.store door.new).unassigned.free server.new }
     ensures session { HasSession N.start (joined earlier.now.items ++ told.new.items) None hand.new }
     ensures stop { hand.new.stop ≡ (D.store door.new).stop }
+    ensures state { state_in hand.new ≡ disk_state (D.store door.new) }
     ensures geometry { geometry_of_store (D.store door.new) ≡ geometry_of_store (D.store door.old) }
     ensures sectors { (D.store door.new).sectors ≡ (D.store door.old).sectors }
 {
@@ -147,20 +150,13 @@ fn serve_clients<N: Naming, D: Door>(
     requires start { MayBegin server.old N.start.tree }
     requires session { HasSession N.start [] None hand.old }
     requires stop { hand.old.stop ≡ (D.store door.old).stop }
+    requires state { state_in hand.old ≡ disk_state (D.store door.old) }
     requires sound { IsSoundServer (geometry_of_store (D.store door.old)) (D.store door.old).unassigned.free server.old }
     requires none { told.old.items ≡ [] }
-    ensures played { (start : PosixTree) → MayBegin server.old start → IsPlayedFrom start clients told.new.items result (joined told.new.items) }
-    ensures left { (start : PosixTree) → MayBegin server.old start → IsReached start (joined told.new.items) server.new }
-    ensures on_disk { IsTrue D.visible → (start : PosixTree) → MayBegin server.old start
-        → IsOnDisk (D.store door.old) start [] server.old → IsOnDisk (D.store door.new) start (joined told.new.items) server.new }
-    ensures moments { IsTrue D.visible → (start : PosixTree) → MayBegin server.old start → IsOnDisk (D.store door.old) start [] server.old
-        → IsExplainedThroughout D.keeps (D.store door.old).sectors start [] (joined told.new.items) (D.store door.old).moments (D.store door.new).moments }
-    ensures faults { AreFaultsTold (D.store door.old) (D.store door.new) (joined told.new.items) }
-    ensures sound { IsSoundServer (geometry_of_store (D.store door.new)) (D.store door.new).unassigned.free server.new }
+    ensures served { AreServed D.visible D.keeps (D.store door.old) (D.store door.new) server.old server.new clients told.new.items result }
     ensures session { HasSession N.start (joined told.new.items) None hand.new }
     ensures stop { hand.new.stop ≡ (D.store door.new).stop }
-    ensures geometry { geometry_of_store (D.store door.new) ≡ geometry_of_store (D.store door.old) }
-    ensures sectors { (D.store door.new).sectors ≡ (D.store door.old).sectors }
+    ensures state { state_in hand.new ≡ disk_state (D.store door.new) }
 {
     let geometry = door.geometry();
     always_law(&geometry);
@@ -217,7 +213,9 @@ pub fn serve<D: Door>(
     ensures geometry { geometry_of_store (D.store door.new) ≡ geometry_of_store (D.store door.old) }
     ensures sectors { (D.store door.new).sectors ≡ (D.store door.old).sectors }
 {
-    serve_in::<Brand, D>(alloc, opened, server, door, clients)
+    // As many entries were drawn as are told (`entries`).
+    let (session, _drawn) = serve_in::<Brand, D>(alloc, opened, server, door, clients);
+    session
 }
 
 // The same, of a session that has a name. Its first hand has every part, and the last one ends it.
@@ -227,31 +225,23 @@ fn serve_in<N: Naming, D: Door>(
     server: &mut DiskServer,
     door: &mut D,
     clients: OpLists,
-) -> Session
+) -> (Session, u64)
     requires name { (opened.table ≡ N.table) × (opened.start ≡ N.start) }
     requires opened { IsStart N.start }
     requires start { MayBegin server.old N.start.tree }
     requires going { (D.store door.old).stop ≡ None }
     requires sound { IsSoundServer (geometry_of_store (D.store door.old)) (D.store door.old).unassigned.free server.old }
-    ensures played { (start : PosixTree) → MayBegin server.old start → IsPlayedFrom start clients result.told result.ended (joined result.told) }
-    ensures left { (start : PosixTree) → MayBegin server.old start → ArePartsOf server.new (tree_after start (joined result.told)) }
-    ensures on_disk { IsTrue D.visible → (start : PosixTree) → MayBegin server.old start
-        → IsOnDisk (D.store door.old) start [] server.old → IsOnDisk (D.store door.new) start (joined result.told) server.new }
-    ensures moments { IsTrue D.visible → (start : PosixTree) → MayBegin server.old start → IsOnDisk (D.store door.old) start [] server.old
-        → IsExplainedThroughout D.keeps (D.store door.old).sectors start [] (joined result.told) (D.store door.old).moments (D.store door.new).moments }
-    ensures once { AreTicketsOnce (joined result.told) }
-    ensures faults { AreFaultsTold (D.store door.old) (D.store door.new) (joined result.told) }
-    ensures calm { (D.store door.new).stop ≡ None → ((D.store door.new).faults ≡ (D.store door.old).faults) × ((D.store door.old).stop ≡ None) }
-    ensures sound { IsSoundServer (geometry_of_store (D.store door.new)) (D.store door.new).unassigned.free server.new }
-    ensures geometry { geometry_of_store (D.store door.new) ≡ geometry_of_store (D.store door.old) }
-    ensures sectors { (D.store door.new).sectors ≡ (D.store door.old).sectors }
+    ensures served { AreServed D.visible D.keeps (D.store door.old) (D.store door.new) server.old server.new clients result.0.told result.0.ended }
+    ensures entries { result.1 ≡ length (joined result.0.told) }
 {
     let mut hand = OneHand::<N>::begin(opened);
+    mark_disk::<N, D, Brand>(&mut hand, door);
     let mut told = Vec::new(alloc);
     let ended = serve_clients::<N, D>(alloc, &mut hand, server, door, clients, &mut told);
-    hand.close();
-    Session {
+    let drawn = hand.close();
+    let session = Session {
         told: ToldLists::from_vec(told),
         ended,
-    }
+    };
+    (session, drawn)
 }

@@ -1,4 +1,4 @@
-use Rattle.std.proofs.Common.{ℕ, ◌+◌, ◌++◌, ◌∷◌, [], List, sym, refl, ap, ◌∙◌, subst, inl, arith}
+use Rattle.std.proofs.Common.{◌++◌, List, sym, refl, ap, ◌∙◌, subst, inl, arith}
 use Rattle.ufs_server.specs.Answered.{device_in, stopped_in}
 use Rattle.ufs_session.specs.Drawing.{short_in}
 use Rattle.ufs_sound.specs.Owned.{Has}

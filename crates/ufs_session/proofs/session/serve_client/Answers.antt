@@ -32,6 +32,7 @@ loop-op-init g c =
           (c.always_law.ensures.rest g.D.Door.keeps s start before c.args.server.now (sym c.geometry-geometry.ensures.is) is);
       session = subst (λ (h : List Entry). HasSession g.N.Naming.start h None c.args.hand.now) whole c.requires.session;
       stop = c.requires.stop;
+      state = c.requires.state;
       faults = subst (AreFaultsTold s s) (sym c.requires.none) (none_told s);
       sound = c.requires.sound;
       geometry = refl;
@@ -153,6 +154,7 @@ loop-op-preserved g c =
       session = subst (λ (h : List Entry). HasSession g.N.Naming.start h None c.draw-entry.new.hand) (append_assoc before told (entry ∷ []) ∙ ap (λ (t : List Entry). before ++ t) (sym pushed))
           (subst (λ (t : List Entry). HasSession g.N.Naming.start ((before ++ t) ++ entry ∷ []) None c.draw-entry.new.hand) c.reserve.ensures.items c.draw-entry.ensures.session);
       stop = c.draw-entry.ensures.stop;
+      state = c.draw-entry.ensures.state;
       faults = subst (AreFaultsTold first next) (sym pushed) more;
       sound = a.sound;
       geometry = a.geometry ∙ l.invariant.geometry;

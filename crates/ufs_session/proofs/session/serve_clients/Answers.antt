@@ -1,4 +1,5 @@
 use Rattle.std.proofs.Common.{◌++◌, ◌∷◌, [], List, ap, arith, sym, refl, ◌∙◌, subst, length, ◌+◌, ℕ, Err, None}
+use Rattle.std.specs.Prelude.{IsTrue}
 use Rattle.ufs_model.specs.History.{joined}
 use Rattle.ufs_model.specs.PosixTree.{PosixTree}
 use Rattle.ufs_model.specs.declared.data.Op.{Op}
@@ -7,8 +8,8 @@ use Rattle.ufs_client.specs.declared.played.EndFault.TheVariants as fault
 use Rattle.ufs_client.proofs.Lists.{joined-push, no_items, pushed_on}
 use Rattle.ufs_one_hand.specs.OneHand.{HasSession}
 use Rattle.ufs_stored.specs.OnDisk.{IsOnDisk}
-use Rattle.ufs_session.specs.Played.{IsPlayedFrom, MayBegin}
-use Rattle.ufs_session.specs.Serving.{IsReached}
+use Rattle.ufs_session.specs.Played.{MayBegin}
+use Rattle.ufs_session.specs.Served.{AreServed}
 use Rattle.ufs_session.specs.Throughout.{IsExplainedThroughout}
 use Rattle.ufs_session.specs.Told.{AreFaultsTold}
 use Rattle.ufs_session.proofs.ClientsLemmas.{AreServing, few, low, none_served, one_client_more, played_here, played_more, reached_more, ready}
@@ -30,6 +31,7 @@ loop-requests-init g c =
           (c.always_law.ensures.rest g.D.Door.keeps s start [] c.args.server.now (sym c.geometry-geometry.ensures.is) is);
       session = subst (λ (told : List (List Entry)). HasSession g.N.Naming.start (joined told) None c.args.hand.now) (sym c.requires.none) c.requires.session;
       stop = c.requires.stop;
+      state = c.requires.state;
       faults = subst (λ (told : List (List Entry)). AreFaultsTold s s (joined told)) (sym c.requires.none) (none_told s);
       sound = c.requires.sound;
       geometry = refl;
@@ -51,104 +53,63 @@ serve_client-ended-requires-clause-faults g c =
     let now = g.D.Door.store l.door in
     (first, subst (λ (told : List (List Entry)). AreFaultsTold first now (joined told)) (sym c.reserve.ensures.items) l.invariant.faults)
 
-pub returns-then-is_err-clause-played : goal.returns-then-is_err-clause-played
-returns-then-is_err-clause-played g c start may =
+pub returns-then-is_err-clause-served : goal.returns-then-is_err-clause-served
+returns-then-is_err-clause-served g c =
     let l = c.loop-requests in
     let first = g.D.Door.store c.args.door.now in
     let now = g.D.Door.store l.door in
-    subst (λ (told : List (List Entry)). IsPlayedFrom start c.args.clients told (Err fault.Memory) (joined told)) (sym c.reserve.ensures.items)
-    (played_here start c.args.clients l.told.items l.server l.client l.first l.yielded _ (l.invariant.serving start may)
-    (once_told first now (joined l.told.items) l.invariant.faults) (Err fault.Memory) (λ ok. cc))
+    subst (λ (told : List (List Entry)). AreServed g.D.Door.visible g.D.Door.keeps first now c.args.server.now l.server c.args.clients told (Err fault.Memory)) (sym c.reserve.ensures.items) (record {
+      played = λ start may.
+          played_here start c.args.clients l.told.items l.server l.client l.first l.yielded _ (l.invariant.serving start may)
+          (once_told first now (joined l.told.items) l.invariant.faults) (Err fault.Memory) (λ ok. cc);
+      left = λ start may. (l.invariant.serving start may).reached.parts;
+      on_disk = l.invariant.on_disk;
+      moments = l.invariant.moments;
+      faults = l.invariant.faults;
+      sound = l.invariant.sound;
+      geometry = l.invariant.geometry;
+      sectors = l.invariant.sectors;
+    })
 
-pub returns-then-is_err-clause-left : goal.returns-then-is_err-clause-left
-returns-then-is_err-clause-left g c start may =
-    let l = c.loop-requests in
-    subst (λ (told : List (List Entry)). IsReached start (joined told) l.server) (sym c.reserve.ensures.items) (l.invariant.serving start may).reached
-
-pub returns-then-is_err-clause-on_disk : goal.returns-then-is_err-clause-on_disk
-returns-then-is_err-clause-on_disk g c visible start may is =
-    let l = c.loop-requests in
-    subst (λ (told : List (List Entry)). IsOnDisk (g.D.Door.store l.door) start (joined told) l.server) (sym c.reserve.ensures.items) (l.invariant.on_disk visible start may is)
-
-pub returns-then-is_err-clause-faults : goal.returns-then-is_err-clause-faults
-returns-then-is_err-clause-faults g c =
-    let l = c.loop-requests in
-    subst (λ (told : List (List Entry)). AreFaultsTold (g.D.Door.store c.args.door.now) (g.D.Door.store l.door) (joined told)) (sym c.reserve.ensures.items) l.invariant.faults
-
-pub returns-in_err-ended-clause-played : goal.returns-in_err-ended-clause-played
-returns-in_err-ended-clause-played g c start may =
+pub returns-in_err-ended-clause-served : goal.returns-in_err-ended-clause-served
+returns-in_err-ended-clause-served g c =
     let l = c.loop-requests in
     let first = g.D.Door.store c.args.door.now in
     let now = g.D.Door.store l.door in
-    let next = subst (λ (r : List (List Op)). AreServing start c.args.clients l.told.items l.server l.client l.first l.yielded r) c.in-Some.ensures.steps.0 (l.invariant.serving start may) in
-    let so_far = subst (λ (told : List (List Entry)). AreServing start c.args.clients told l.server l.client l.first l.yielded (c.in-Some.requests ∷ c.next.new.self.rest.items)) (sym c.reserve.ensures.items) next in
-    let earlier = c.reserve.new.self.items in
-    let s = c.serve_client-ended in
-    let pushed = pushed_on c.push.result _ _ earlier _ _ c.unwrap.ensures refl c.push.ensures.items ∙ ap (λ (m : List Entry). earlier ++ m ∷ []) c.from_vec.ensures in
-    let here = ready start c.args.clients earlier l.server l.client l.first l.yielded c.in-Some.requests c.next.new.self.rest.items so_far in
-    let later = g.D.Door.store s.new.door in
-    let was = subst (λ (told : List (List Entry)). AreFaultsTold first now (joined told)) (sym c.reserve.ensures.items) l.invariant.faults in
-    let faults = subst (AreFaultsTold first later) (sym (joined-push earlier s.new.told.items)) (told_on first now later (joined earlier) s.new.told.items was s.ensures.faults) in
-    subst (λ (told : List (List Entry)). IsPlayedFrom start c.args.clients told c.from_residual.result (joined told)) (sym pushed)
-    (played_more start c.args.clients earlier l.server l.client l.first l.yielded c.in-Some.requests c.next.new.self.rest.items so_far s.new.told.items s.ensures.goes_on s.new.server (s.ensures.left start here)
-    (once_told first later (joined (earlier ++ s.new.told.items ∷ [])) faults) c.from_residual.result c.from_residual.ensures.0)
-
-pub returns-in_err-ended-clause-left : goal.returns-in_err-ended-clause-left
-returns-in_err-ended-clause-left g c start may =
-    let l = c.loop-requests in
-    let next = subst (λ (r : List (List Op)). AreServing start c.args.clients l.told.items l.server l.client l.first l.yielded r) c.in-Some.ensures.steps.0 (l.invariant.serving start may) in
-    let so_far = subst (λ (told : List (List Entry)). AreServing start c.args.clients told l.server l.client l.first l.yielded (c.in-Some.requests ∷ c.next.new.self.rest.items)) (sym c.reserve.ensures.items) next in
-    let earlier = c.reserve.new.self.items in
-    let s = c.serve_client-ended in
-    let pushed = pushed_on c.push.result _ _ earlier _ _ c.unwrap.ensures refl c.push.ensures.items ∙ ap (λ (m : List Entry). earlier ++ m ∷ []) c.from_vec.ensures in
-    let here = ready start c.args.clients earlier l.server l.client l.first l.yielded c.in-Some.requests c.next.new.self.rest.items so_far in
-    subst (λ (told : List (List Entry)). IsReached start (joined told) s.new.server) (sym pushed)
-    (reached_more start c.args.clients earlier l.server l.client l.first l.yielded c.in-Some.requests c.next.new.self.rest.items so_far s.new.told.items s.ensures.goes_on s.new.server (s.ensures.left start here))
-
-pub returns-in_err-ended-clause-on_disk : goal.returns-in_err-ended-clause-on_disk
-returns-in_err-ended-clause-on_disk g c visible start may is =
-    let l = c.loop-requests in
-    let next = subst (λ (r : List (List Op)). AreServing start c.args.clients l.told.items l.server l.client l.first l.yielded r) c.in-Some.ensures.steps.0 (l.invariant.serving start may) in
-    let so_far = subst (λ (told : List (List Entry)). AreServing start c.args.clients told l.server l.client l.first l.yielded (c.in-Some.requests ∷ c.next.new.self.rest.items)) (sym c.reserve.ensures.items) next in
-    let earlier = c.reserve.new.self.items in
-    let s = c.serve_client-ended in
-    let pushed = pushed_on c.push.result _ _ earlier _ _ c.unwrap.ensures refl c.push.ensures.items ∙ ap (λ (m : List Entry). earlier ++ m ∷ []) c.from_vec.ensures in
-    let here = ready start c.args.clients earlier l.server l.client l.first l.yielded c.in-Some.requests c.next.new.self.rest.items so_far in
-    let was = subst (λ (told : List (List Entry)). IsOnDisk (g.D.Door.store l.door) start (joined told) l.server) (sym c.reserve.ensures.items) (l.invariant.on_disk visible start may is) in
-    subst (λ (told : List (List Entry)). IsOnDisk (g.D.Door.store s.new.door) start (joined told) s.new.server) (sym pushed)
-    (subst (λ (h : List Entry). IsOnDisk (g.D.Door.store s.new.door) start h s.new.server) (sym (joined-push earlier s.new.told.items)) (s.ensures.on_disk visible start here was))
-
-pub returns-in_err-ended-clause-moments : goal.returns-in_err-ended-clause-moments
-returns-in_err-ended-clause-moments g c visible start may is =
-    let l = c.loop-requests in
-    let first = g.D.Door.store c.args.door.now in
-    let now = g.D.Door.store l.door in
-    let next = subst (λ (r : List (List Op)). AreServing start c.args.clients l.told.items l.server l.client l.first l.yielded r) c.in-Some.ensures.steps.0 (l.invariant.serving start may) in
-    let so_far = subst (λ (told : List (List Entry)). AreServing start c.args.clients told l.server l.client l.first l.yielded (c.in-Some.requests ∷ c.next.new.self.rest.items)) (sym c.reserve.ensures.items) next in
-    let earlier = c.reserve.new.self.items in
     let s = c.serve_client-ended in
     let later = g.D.Door.store s.new.door in
+    let earlier = c.reserve.new.self.items in
     let mine = s.new.told.items in
+    let rest = c.next.new.self.rest.items in
+    let so_far : (start : PosixTree) → MayBegin c.args.server.now start → AreServing start c.args.clients earlier l.server l.client l.first l.yielded (c.in-Some.requests ∷ rest) =
+    λ start may.
+    subst (λ (told : List (List Entry)). AreServing start c.args.clients told l.server l.client l.first l.yielded (c.in-Some.requests ∷ rest)) (sym c.reserve.ensures.items)
+    (subst (λ (r : List (List Op)). AreServing start c.args.clients l.told.items l.server l.client l.first l.yielded r) c.in-Some.ensures.steps.0 (l.invariant.serving start may)) in
+    let here = λ (start : PosixTree) (may : MayBegin c.args.server.now start). ready start c.args.clients earlier l.server l.client l.first l.yielded c.in-Some.requests rest (so_far start may) in
     let pushed = pushed_on c.push.result _ _ earlier _ _ c.unwrap.ensures refl c.push.ensures.items ∙ ap (λ (m : List Entry). earlier ++ m ∷ []) c.from_vec.ensures in
-    let both = ap joined pushed ∙ joined-push earlier mine in
-    let here = ready start c.args.clients earlier l.server l.client l.first l.yielded c.in-Some.requests c.next.new.self.rest.items so_far in
-    let on = subst (λ (told : List (List Entry)). IsOnDisk now start (joined told) l.server) (sym c.reserve.ensures.items) (l.invariant.on_disk visible start may is) in
-    let before = subst (λ (told : List (List Entry)). IsExplainedThroughout g.D.Door.keeps first.sectors start [] (joined told) first.moments now.moments) (sym c.reserve.ensures.items) (l.invariant.moments visible start may is) in
-    let behind = subst (λ (n : ℕ). IsExplainedThroughout g.D.Door.keeps n start (joined earlier) mine now.moments later.moments) l.invariant.sectors (s.ensures.moments visible start here on) in
-    subst (λ (h : List Entry). IsExplainedThroughout g.D.Door.keeps first.sectors start [] h first.moments later.moments) (sym both)
-    (throughout_joined g.D.Door.keeps first.sectors start [] (joined earlier) mine first.moments now.moments later.moments before behind)
-
-pub returns-in_err-ended-clause-faults : goal.returns-in_err-ended-clause-faults
-returns-in_err-ended-clause-faults g c =
-    let l = c.loop-requests in
-    let first = g.D.Door.store c.args.door.now in
-    let now = g.D.Door.store l.door in
-    let s = c.serve_client-ended in
-    let later = g.D.Door.store s.new.door in
-    let earlier = c.reserve.new.self.items in
-    let pushed = pushed_on c.push.result _ _ earlier _ _ c.unwrap.ensures refl c.push.ensures.items ∙ ap (λ (m : List Entry). earlier ++ m ∷ []) c.from_vec.ensures in
+    let both = joined-push earlier mine in
     let was = subst (λ (told : List (List Entry)). AreFaultsTold first now (joined told)) (sym c.reserve.ensures.items) l.invariant.faults in
-    subst (AreFaultsTold first later) (sym (ap joined pushed ∙ joined-push earlier s.new.told.items)) (told_on first now later (joined earlier) s.new.told.items was s.ensures.faults)
+    let faults = subst (AreFaultsTold first later) (sym both) (told_on first now later (joined earlier) mine was s.ensures.faults) in
+    let on : IsTrue g.D.Door.visible → (start : PosixTree) → MayBegin c.args.server.now start → IsOnDisk first start [] c.args.server.now → IsOnDisk now start (joined earlier) l.server =
+    λ visible start may is. subst (λ (told : List (List Entry)). IsOnDisk now start (joined told) l.server) (sym c.reserve.ensures.items) (l.invariant.on_disk visible start may is) in
+    subst (λ (told : List (List Entry)). AreServed g.D.Door.visible g.D.Door.keeps first later c.args.server.now s.new.server c.args.clients told c.from_residual.result) (sym pushed) (record {
+      played = λ start may.
+          played_more start c.args.clients earlier l.server l.client l.first l.yielded c.in-Some.requests rest (so_far start may) mine s.ensures.goes_on s.new.server (s.ensures.left start (here start may))
+          (once_told first later (joined (earlier ++ mine ∷ [])) faults) c.from_residual.result c.from_residual.ensures.0;
+      left = λ start may.
+          (reached_more start c.args.clients earlier l.server l.client l.first l.yielded c.in-Some.requests rest (so_far start may) mine s.ensures.goes_on s.new.server (s.ensures.left start (here start may))).parts;
+      on_disk = λ visible start may is.
+          subst (λ (h : List Entry). IsOnDisk later start h s.new.server) (sym both) (s.ensures.on_disk visible start (here start may) (on visible start may is));
+      moments = λ visible start may is.
+          let before = subst (λ (told : List (List Entry)). IsExplainedThroughout g.D.Door.keeps first.sectors start [] (joined told) first.moments now.moments) (sym c.reserve.ensures.items) (l.invariant.moments visible start may is) in
+          let behind = subst (λ (n : ℕ). IsExplainedThroughout g.D.Door.keeps n start (joined earlier) mine now.moments later.moments) l.invariant.sectors (s.ensures.moments visible start (here start may) (on visible start may is)) in
+          subst (λ (h : List Entry). IsExplainedThroughout g.D.Door.keeps first.sectors start [] h first.moments later.moments) (sym both)
+          (throughout_joined g.D.Door.keeps first.sectors start [] (joined earlier) mine first.moments now.moments later.moments before behind);
+      faults = faults;
+      sound = s.ensures.sound;
+      geometry = s.ensures.geometry ∙ l.invariant.geometry;
+      sectors = s.ensures.sectors ∙ l.invariant.sectors;
+    })
 
 pub loop-requests-preserved : goal.loop-requests-preserved
 loop-requests-preserved g c =
@@ -184,20 +145,31 @@ loop-requests-preserved g c =
           (throughout_joined g.D.Door.keeps first.sectors start [] (joined earlier) mine first.moments now.moments later.moments before behind);
       session = subst (λ (h : List Entry). HasSession g.N.Naming.start h None s.new.hand) (sym both) s.ensures.session;
       stop = s.ensures.stop;
+      state = s.ensures.state;
       faults = subst (AreFaultsTold first later) (sym both) (told_on first now later (joined earlier) mine was s.ensures.faults);
       sound = s.ensures.sound;
       geometry = s.ensures.geometry ∙ l.invariant.geometry;
       sectors = s.ensures.sectors ∙ l.invariant.sectors;
     }
 
-pub returns-clause-played : goal.returns-clause-played
-returns-clause-played g c start may =
+pub returns-clause-served : goal.returns-clause-served
+returns-clause-served g c =
     let l = c.loop-requests in
     let first = g.D.Door.store c.args.door.now in
     let now = g.D.Door.store l.door in
     let rest = l.requests-iterator.rest in
-    played_here start c.args.clients l.told.items l.server l.client l.first l.yielded rest.items (l.invariant.serving start may)
-    (once_told first now (joined l.told.items) l.invariant.faults) _ (λ ok. no_items rest.items (sym rest.ok.0 ∙ c.in-None.ensures.steps.0))
+    record {
+      played = λ start may.
+          played_here start c.args.clients l.told.items l.server l.client l.first l.yielded rest.items (l.invariant.serving start may)
+          (once_told first now (joined l.told.items) l.invariant.faults) _ (λ ok. no_items rest.items (sym rest.ok.0 ∙ c.in-None.ensures.steps.0));
+      left = λ start may. (l.invariant.serving start may).reached.parts;
+      on_disk = l.invariant.on_disk;
+      moments = l.invariant.moments;
+      faults = l.invariant.faults;
+      sound = l.invariant.sound;
+      geometry = l.invariant.geometry;
+      sectors = l.invariant.sectors;
+    }
 
 pub serve_client-ended-requires-clause-first : goal.serve_client-ended-requires-clause-first
 serve_client-ended-requires-clause-first g c =
@@ -220,13 +192,6 @@ overflow_add-client g c =
     let next = subst (λ (r : List (List Op)). AreServing start c.args.clients l.told.items l.server l.client l.first l.yielded r) c.in-Some.ensures.steps.0 (l.invariant.serving start c.requires.start) in
     let less = low start c.args.clients l.told.items l.server l.client l.first l.yielded c.in-Some.requests c.next.new.self.rest.items next in
     omega (arith, less)
-
-pub returns-then-is_err-clause-moments : goal.returns-then-is_err-clause-moments
-returns-then-is_err-clause-moments g c visible start may is =
-    let l = c.loop-requests in
-    let s = g.D.Door.store c.args.door.now in
-    subst (λ (told : List (List Entry)). IsExplainedThroughout g.D.Door.keeps s.sectors start [] (joined told) s.moments (g.D.Door.store l.door).moments) (sym c.reserve.ensures.items)
-    (l.invariant.moments visible start may is)
 
 pub serve_client-ended-requires-clause-session : goal.serve_client-ended-requires-clause-session
 serve_client-ended-requires-clause-session g c =

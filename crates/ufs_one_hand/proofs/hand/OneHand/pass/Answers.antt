@@ -25,6 +25,7 @@ returns g c =
           subst (HasSession g.N.Naming.start history asked) (sym is) (passed_session g.N.Naming.start history asked c.args.self.now h g.P.Passing.stop g.P.Passing.state g.P.Passing.shortages c.requires.stop n);
       stop = ap (λ (v : View). v.stop) is;
       state = ap state_in is ∙ state_passed g.N.Naming.start s.0 s.1 c.args.self.now s.2 g.P.Passing.stop g.P.Passing.state g.P.Passing.shortages c.requires.stop n;
+      faults = ap (λ (v : View). v.faults) is;
       fault = λ m a b. subst (λ (v : View). 1 ≤ times m v.faults) (sym is) (fault_told c.args.self.now.stop g.P.Passing.stop c.args.self.now.faults m a b);
       shortages = ap (λ (v : View). v.shortages) is;
     }

@@ -1,0 +1,5 @@
+use Rattle.std.specs.FinMap as fin
+use Rattle.ufs_one_hand_tests.proofs.session.excused.Given as goal
+
+abbrev pub ghosts-draw : goal.ghosts-draw
+ghosts-draw g a = record { before = g.N.Naming.start.tree; fds = fin.empty }

@@ -1,0 +1,19 @@
+use Rattle.std.proofs.Common.{refl, ◌∙◌}
+use Rattle.ufs_one_hand_tests.proofs.Small.{failed_answers}
+use Rattle.ufs_one_hand_tests.proofs.session.failed.Goals as goal
+
+pub pass-requires-clause-session : goal.pass-requires-clause-session
+pass-requires-clause-session g c = (_, _, c.ask.ensures.session _ c.requires.session)
+
+pub draw-requires : goal.draw-requires
+draw-requires g c = record {
+  answer = (_, failed_answers g.N.Naming.start c.args.first c.args.second c.pass.new.self (c.pass.ensures.session _ _ (c.ask.ensures.session _ c.requires.session)) (c.pass.ensures.fault 7 (c.ask.ensures.stop ∙ c.requires.going) refl));
+}
+
+pub returns-clause-ticket : goal.returns-clause-ticket
+returns-clause-ticket g c = c.draw.ensures.ticket _ (c.pass.ensures.session _ _ (c.ask.ensures.session _ c.requires.session))
+
+pub returns-clause-session : goal.returns-clause-session
+returns-clause-session g c =
+    c.draw.ensures.session _
+    (failed_answers g.N.Naming.start c.args.first c.args.second c.pass.new.self (c.pass.ensures.session _ _ (c.ask.ensures.session _ c.requires.session)) (c.pass.ensures.fault 7 (c.ask.ensures.stop ∙ c.requires.going) refl))

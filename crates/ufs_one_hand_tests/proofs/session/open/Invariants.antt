@@ -1,0 +1,5 @@
+use Rattle.ufs_one_hand_tests.specs.Small.{bare}
+use Rattle.ufs_one_hand_tests.proofs.session.open.Given as goal
+
+abbrev pub ghosts-picked : goal.ghosts-picked
+ghosts-picked a = record { opened = bare }

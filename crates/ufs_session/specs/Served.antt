@@ -1,0 +1,28 @@
+-- What the serving of clients has come to.
+use Rattle.std.specs.Prelude.{◌≡◌, Bool, IsTrue, List, [], Result}
+use Rattle.ufs_client.specs.declared.played.EndFault.{EndFault}
+use Rattle.ufs_model.specs.History.{joined, tree_after}
+use Rattle.ufs_model.specs.PosixTree.{PosixTree}
+use Rattle.ufs_model.specs.declared.data.Entry.{Entry}
+use Rattle.ufs_model.specs.declared.data.Op.{Op}
+use Rattle.ufs_session.specs.Played.{IsPlayedFrom, MayBegin}
+use Rattle.ufs_session.specs.Throughout.{IsExplainedThroughout}
+use Rattle.ufs_session.specs.Told.{AreFaultsTold}
+use Rattle.ufs_store.specs.State.{StoreState, geometry_of_store}
+use Rattle.ufs_stored.specs.OnDisk.{IsOnDisk}
+use Rattle.ufs_stored.specs.Parts.{Parts}
+use Rattle.ufs_stored.specs.Sound.{IsSoundServer}
+use Rattle.ufs_stored.specs.Stored.{ArePartsOf}
+
+-- Clients were served from these parts and this store, to those: these are their transcripts. What is said of the disk is said
+-- where it is visible, and of its earlier states where it keeps them.
+pub record AreServed (visible keeps : Bool) (old new : StoreState) (before after : Parts) (clients : List (List Op)) (told : List (List Entry)) (ended : Result (Unit {0}) EndFault) : Type 0 where
+  pub played : (start : PosixTree) → MayBegin before start → IsPlayedFrom start clients told ended (joined told)
+  pub left : (start : PosixTree) → MayBegin before start → ArePartsOf after (tree_after start (joined told))
+  pub on_disk : IsTrue visible → (start : PosixTree) → MayBegin before start → IsOnDisk old start [] before → IsOnDisk new start (joined told) after
+  pub moments : IsTrue visible → (start : PosixTree) → MayBegin before start → IsOnDisk old start [] before
+      → IsExplainedThroughout keeps old.sectors start [] (joined told) old.moments new.moments
+  pub faults : AreFaultsTold old new (joined told)
+  pub sound : IsSoundServer (geometry_of_store new) new.unassigned.free after
+  pub geometry : geometry_of_store new ≡ geometry_of_store old
+  pub sectors : new.sectors ≡ old.sectors
