@@ -7,9 +7,10 @@ use Rattle.ufs_catalog.specs.Faults.{HasFaultCause, IsOutside}
 use Rattle.ufs_catalog.specs.declared.fault.RecoverFault.{RecoverFault}
 use Rattle.ufs_catalog.specs.declared.fault.RecoverFault.TheVariants.{NoSuperblock, BadVersion, BadGeometry, BadRecord, BadTree, Device, Memory}
 use Rattle.ufs_damage.specs.Findings.{AreFindingsOf, CatalogRead}
-use Rattle.ufs_image.specs.Catalog.{IsCatalogOf, catalog_at}
+use Rattle.ufs_image.specs.Catalog.{IsCatalogOf, IsInode, catalog_at}
 use Rattle.ufs_image.specs.Images.{form_at}
 use Rattle.ufs_image.specs.Sound.{IsSoundCatalog}
+use Rattle.ufs_image.specs.Standing.{IsVolumeOf}
 use Rattle.ufs_image.specs.Volume.{volume}
 use Rattle.ufs_image.proofs.Depth.{has_root, root_in_range}
 use Rattle.ufs_image.proofs.Found.{reached}
@@ -24,12 +25,11 @@ use Rattle.ufs_opening.proofs.Lengths.{folded_sized}
 use Rattle.ufs_volume.specs.Volumes.{committed_in, volume_in}
 use Rattle.ufs_volume.specs.declared.volume.FoldedVolume.{FoldedVolume}
 use Rattle.ufs_volume.proofs.Folds.{can_fold}
-use Rattle.ufs_start.specs.Begun.{IsBegun, catalog_under, image_under}
-use Rattle.ufs_start.specs.Refused.{HasStartCause, IsNamesFault, IsRefusedFile, TellsNoStart}
+use Rattle.ufs_start.specs.Begun.{catalog_under, image_under}
+use Rattle.ufs_start.specs.Refused.{HasStartCause, IsNamesFault, IsRefusedFile, NamesFile, TellsNoStart}
 use Rattle.ufs_start.specs.Starts.{AreNumbersOf, AreStartNames, IsLoaded, IsUndamaged}
 use Rattle.ufs_start.specs.declared.fault.StartFault.{StartFault}
 use Rattle.ufs_start.specs.declared.fault.StartFault.TheVariants.{Image, Unreached, Unnamed, ExtraBlocks, TooLong}
-use Rattle.ufs_start.specs.declared.parts.Start.{Start}
 
 pub is_loaded : (v : FoldedVolume) (f : CatalogRead) (sectors : ℕ) (disk : images.Image) → volume sectors disk ≡ Ok (volume_in v disk) → IsCatalogOf v.superblock.geometry (image_under v.superblock disk) (catalog_under v.superblock disk)
     → IsSoundCatalog v.superblock.geometry (catalog_under v.superblock disk) → AreFindingsOf v.superblock.geometry (image_under v.superblock disk) f → IsLoaded v.superblock.geometry f sectors disk v.superblock.superblock (image_under v.superblock disk)
@@ -54,12 +54,6 @@ number_there g f sectors disk superblock image n numbers geometry l s are inode 
 pub few_files : (n : NamesPart) (t : PosixTree) → n.next ≡ t.next → n.next ≤ 2 ^ 30 → t.next ≤ 1073741824
 few_files n t same few = omega (arith, same, few)
 
--- ---- a copy
-
--- what a server begins with on a copy of a disk, it begins with on the disk
-pub begun_there : {copied disk : images.Image} {count sectors : ℕ} → copied ≡ disk → count ≡ sectors → (s : Start) → IsBegun count copied s → IsBegun sectors disk s
-begun_there {copied} {disk} {count} {sectors} same counted s begun = subst (λ (d : images.Image). IsBegun sectors d s) same (subst (λ (n : ℕ). IsBegun n copied s) counted begun)
-
 -- ---- faults
 
 outside_why : (sectors : ℕ) (disk : images.Image) (fault : RecoverFault) → IsOutside fault → TellsWhy sectors disk fault
@@ -71,21 +65,21 @@ outside_why sectors disk (BadTree inode) is = absurd is
 outside_why sectors disk (Device fault) is = tt
 outside_why sectors disk Memory is = tt
 
-pub refused_file : (v : FoldedVolume) (sectors : ℕ) (disk : images.Image) → volume sectors disk ≡ Ok (volume_in v disk) → (fault : StartFault) → IsRefusedFile (form_at v.superblock.geometry (image_under v.superblock disk)) fault
-    → TellsNoStart sectors disk fault
-refused_file v sectors disk taken (Image fault) is = outside_why sectors disk fault is
-refused_file v sectors disk taken (Unreached inode) is = absurd is
-refused_file v sectors disk taken (Unnamed inode) is = absurd is
-refused_file v sectors disk taken (ExtraBlocks inode) is = (volume_in v disk, taken, is)
-refused_file v sectors disk taken (TooLong inode) is = (volume_in v disk, taken, is)
+pub refused_file : (v : FoldedVolume) (sectors : ℕ) (disk : images.Image) → IsVolumeOf sectors disk (volume_in v disk) (catalog_under v.superblock disk) → (fault : StartFault) → IsRefusedFile (form_at v.superblock.geometry (image_under v.superblock disk)) fault
+    → NamesFile (IsInode v.superblock.geometry) fault → TellsNoStart sectors disk fault
+refused_file v sectors disk standing (Image fault) is named = outside_why sectors disk fault is
+refused_file v sectors disk standing (Unreached inode) is named = absurd is
+refused_file v sectors disk standing (Unnamed inode) is named = absurd is
+refused_file v sectors disk standing (ExtraBlocks inode) is named = (volume_in v disk, standing, (named, is))
+refused_file v sectors disk standing (TooLong inode) is named = (volume_in v disk, standing, (named, is))
 
-pub refused_names : (v : FoldedVolume) (f : CatalogRead) (sectors : ℕ) (disk : images.Image) → volume sectors disk ≡ Ok (volume_in v disk) → IsUndamaged v.superblock.geometry (image_under v.superblock disk) f → (fault : StartFault) → IsNamesFault v.superblock.geometry f fault
+pub refused_names : (v : FoldedVolume) (f : CatalogRead) (sectors : ℕ) (disk : images.Image) → IsVolumeOf sectors disk (volume_in v disk) (catalog_under v.superblock disk) → IsUndamaged v.superblock.geometry (image_under v.superblock disk) f → (fault : StartFault) → IsNamesFault v.superblock.geometry f fault
     → TellsNoStart sectors disk fault
-refused_names v f sectors disk taken undamaged (Image fault) is = subst (TellsWhy sectors disk) (sym is) tt
-refused_names v f sectors disk taken undamaged (Unreached inode) is = (volume_in v disk, taken, is (image_under v.superblock disk) undamaged)
-refused_names v f sectors disk taken undamaged (Unnamed inode) is = (volume_in v disk, taken, is (image_under v.superblock disk) undamaged)
-refused_names v f sectors disk taken undamaged (ExtraBlocks inode) is = absurd is
-refused_names v f sectors disk taken undamaged (TooLong inode) is = absurd is
+refused_names v f sectors disk standing undamaged (Image fault) is = subst (TellsWhy sectors disk) (sym is) tt
+refused_names v f sectors disk standing undamaged (Unreached inode) is = (volume_in v disk, standing, is (image_under v.superblock disk) undamaged)
+refused_names v f sectors disk standing undamaged (Unnamed inode) is = (volume_in v disk, standing, is (image_under v.superblock disk) undamaged)
+refused_names v f sectors disk standing undamaged (ExtraBlocks inode) is = absurd is
+refused_names v f sectors disk standing undamaged (TooLong inode) is = absurd is
 
 pub calm_names : (g : Geometry) (f : CatalogRead) (fault : StartFault) → IsNamesFault g f fault → (count : ℕ) → HasStartCause count count fault
 calm_names g f (Image fault) is count = subst (HasFaultCause count count) (sym is) refl

@@ -1,10 +1,9 @@
 -- The bytes of a disk's first sectors, as those of a disk in memory.
-use Rattle.std.proofs.Common.{◌≡◌, ℕ, zero, suc, ◌+◌, ◌*◌, ◌<◌, ◌≤◌, List, [], ◌∷◌, ◌++◌, inl, inr, length, take, drop, refl, ap, sym, ◌∙◌, subst, arith, append_assoc, ⊎_elim}
-use Rattle.std.proofs.lemmas.Bool.{cases_lt}
-use Rattle.std.proofs.lemmas.List.{drop_all, take_at}
+use Rattle.std.proofs.Common.{◌≡◌, ℕ, zero, suc, ◌+◌, ◌*◌, ◌<◌, ◌≤◌, List, ◌++◌, length, take, drop, refl, ap, sym, ◌∙◌, subst, arith, append_assoc}
+use Rattle.std.proofs.lemmas.List.{take_at}
 use Rattle.ufs_base.specs.Images.{Image}
 use Rattle.ufs_disk.specs.Bytes.{image_of}
-use Rattle.ufs_disk.specs.Disk.{IsAmong, IsWhole, State, bytes_from, seen}
+use Rattle.ufs_disk.specs.Disk.{IsWhole, State, bytes_from, seen}
 use Rattle.ufs_disk.proofs.Flat.{drop_front}
 use Rattle.ufs_disk.proofs.Images.{seen_is_image}
 
@@ -19,6 +18,10 @@ joined d s (suc m) n at total here all =
     append_assoc (d s) (bytes_from d (s + 1) m) (bytes_from d at n)
     ∙ ap (λ l. d s ++ l) (joined d (s + 1) m n at (m + n) (omega (arith, here)) refl)
     ∙ ap (bytes_from d s) count
+
+-- the same of what was read in turn
+pub read_on : (d now : Image) (s m n at total : ℕ) (old new : List ℕ) → now ≡ d → old ≡ bytes_from d s m → new ≡ old ++ bytes_from now at n → at ≡ s + m → total ≡ m + n → new ≡ bytes_from d s total
+read_on d now s m n at total old new same have more here all = more ∙ (λ k. have k ++ bytes_from (same k) at n) ∙ joined d s m n at total here all
 
 pieces_are : (d : Image) (s n : ℕ) → ((i : ℕ) → i < n → length (d (s + i)) ≡ 512) → (i : ℕ) → i < n → take 512 (drop (512 * i) (bytes_from d s n)) ≡ d (s + i)
 pieces_are d s zero long i less = absurd (omega (arith, less))
@@ -38,19 +41,3 @@ module _ (size : ℕ) (state : State) (whole : IsWhole size state) (n : ℕ) (fi
       ap (λ l. take 512 (drop (512 * s) l)) are
       ∙ pieces_are (seen state) 0 n (λ i lt. (whole.within (0 + i) (omega (arith, lt, fits)) (seen state (0 + i)) (seen_is_image state (0 + i))).sized) s less
       ∙ ap (seen state) (omega arith)
-
-  beyond : length bytes ≡ 512 * n → (s : ℕ) → n ≡ size → n ≤ s → image_of bytes s ≡ seen state s
-  beyond long s all from =
-      let there : IsAmong ([] ∷ []) (seen state s) = subst (λ l. IsAmong l (seen state s)) (whole.beyond s (omega (arith, all, from))) (seen_is_image state s) in
-      let none : seen state s ≡ [] = ⊎_elim (λ is. is) (λ no. absurd no) there in
-      ap (take 512) (drop_all (512 * s) bytes (omega (arith, long, from))) ∙ sym none
-
-  -- a copy of all sectors is the same image
-  pub same : length bytes ≡ 512 * n → n ≡ size → image_of bytes ≡ seen state
-  same long all = λ i s. at s i
-    where
-      at : (s : ℕ) → image_of bytes s ≡ seen state s
-      at s = elim (cases_lt s n) [
-        | inl less ↦ within s less
-        | inr from ↦ beyond long s all from
-      ]

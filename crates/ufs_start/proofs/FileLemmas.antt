@@ -4,11 +4,11 @@ use Rattle.std.specs.Prelude.{IsSome, flat_map, unwrap_or}
 use Rattle.std.specs.Ordering.{nat_cmp}
 use Rattle.std.specs.FinMap as fin
 use Rattle.std.proofs.lemmas.List.FromFn.{get_or-map-range_with_len, length-map-range_with_len}
-use Rattle.ufs_base.specs.Images.{Image}
+use Rattle.ufs_base.specs.Images as images
 use Rattle.ufs_file.specs.Hand.{FileState}
 use Rattle.ufs_files.specs.Files.{Files}
 use Rattle.ufs_files.proofs.MapLemmas.{one_or_apart, put_here, put_else, is_here}
-use Rattle.ufs_image.specs.Catalog.{Catalog}
+use Rattle.ufs_image.specs.Catalog.{Catalog, IsInode}
 use Rattle.ufs_image.specs.Images.{block_at, inode_at, form_at}
 use Rattle.ufs_image.specs.Nodes as nodes
 use Rattle.ufs_layout.specs.InodeForm.{InodeForm, free_inode}
@@ -17,10 +17,13 @@ use Rattle.ufs_model.proofs.Facts.Lookups.{same_some}
 use Rattle.ufs_names.specs.NamesPart.{NamesPart}
 use Rattle.ufs_names_image.specs.Loaded.{IsRead, AreRead}
 use Rattle.ufs_start.specs.Files.{AreFormsOf, AreLaid, AreLoaded, IsLaid, loaded}
+use Rattle.ufs_start.specs.Refused.{NamesFile}
+use Rattle.ufs_start.specs.declared.fault.StartFault.{StartFault}
+use Rattle.ufs_start.specs.declared.fault.StartFault.TheVariants.{Image, Unreached, Unnamed, ExtraBlocks, TooLong}
 
 -- ---- the form of an inode
 
-module _ (g : Geometry) (image : Image) (forms : List (Option InodeForm)) (are : AreFormsOf g image forms) (inode at : ℕ) (place : at + 1 ≡ inode) (within : inode ≤ length forms) where
+module _ (g : Geometry) (image : images.Image) (forms : List (Option InodeForm)) (are : AreFormsOf g image forms) (inode at : ℕ) (place : at + 1 ≡ inode) (within : inode ≤ length forms) where
   inode_there : (o : Option InodeForm) → o ≡ get_or forms at o → inode_at g image inode ≡ o
   inode_there o is =
       let count : length forms ≡ g.inodes = ap length are ∙ length-map-range_with_len (inode_at g image) 1 g.inodes in
@@ -28,6 +31,20 @@ module _ (g : Geometry) (image : Image) (forms : List (Option InodeForm)) (are :
 
   pub form_there : (form : InodeForm) → Some form ≡ get_or forms at (Some form) → form_at g image inode ≡ form
   form_there form is = ap (λ (o : Option InodeForm). unwrap_or o (free_inode 0)) (inode_there (Some form) is)
+
+-- the inode of the form at this place is one of the image's
+pub names_inode : (g : Geometry) (image : images.Image) (forms : List (Option InodeForm)) → AreFormsOf g image forms → (place : ℕ) → place < length forms → (fault : StartFault) → NamesFile (λ i. i ≡ place + 1) fault → NamesFile (IsInode g) fault
+names_inode g image forms are place within fault named = by fault named
+  where
+    there : (inode : ℕ) → inode ≡ place + 1 → IsInode g inode
+    there inode at = let count : length forms ≡ g.inodes = ap length are ∙ length-map-range_with_len (inode_at g image) 1 g.inodes in record { from_one = omega (arith, at); within = omega (arith, at, within, count) }
+
+    by : (fault : StartFault) → NamesFile (λ i. i ≡ place + 1) fault → NamesFile (IsInode g) fault
+    by (Image why) named = tt
+    by (Unreached inode) named = tt
+    by (Unnamed inode) named = tt
+    by (ExtraBlocks inode) named = there inode named
+    by (TooLong inode) named = there inode named
 
 -- ---- one file more
 
@@ -40,13 +57,13 @@ module _ (files : Files) (file : ℕ) (s : FileState) where
       by (inl is) = inl (is, same_some r s (sym there ∙ ap (fin.get (fin.insert files file s)) is ∙ put_here files file s))
       by (inr not) = inr (sym (put_else files file s other not) ∙ there)
 
-  pub read_with : (image : Image) (c : Catalog) (n : NamesPart) → AreRead image c n files → IsRead image c n file s → AreRead image c n (fin.insert files file s)
+  pub read_with : (image : images.Image) (c : Catalog) (n : NamesPart) → AreRead image c n files → IsRead image c n file s → AreRead image c n (fin.insert files file s)
   read_with image c n are is other r there = elim (met other r there) [
     | inl new ↦ subst (λ (p : ℕ × FileState). IsRead image c n p.0 p.1) (λ k. (sym new.0 k, sym new.1 k)) is
     | inr old ↦ are other r old
   ]
 
-  pub loaded_with : (image : Image) (c : Catalog) → AreLoaded image c files → s.content ≡ loaded (flat_map (block_at image) (nodes.blocks_of (c.forms s.inode))) (c.forms s.inode).size → AreLoaded image c (fin.insert files file s)
+  pub loaded_with : (image : images.Image) (c : Catalog) → AreLoaded image c files → s.content ≡ loaded (flat_map (block_at image) (nodes.blocks_of (c.forms s.inode))) (c.forms s.inode).size → AreLoaded image c (fin.insert files file s)
   loaded_with image c are is other r there = elim (met other r there) [
     | inl new ↦ subst (λ (x : FileState). x.content ≡ loaded (flat_map (block_at image) (nodes.blocks_of (c.forms x.inode))) (c.forms x.inode).size) (sym new.1) is
     | inr old ↦ are other r old
@@ -69,10 +86,10 @@ module _ (files : Files) (file : ℕ) (s : FileState) where
 
 -- ---- none yet
 
-pub none_read : (image : Image) (c : Catalog) (n : NamesPart) (files : Files) → files ≡ fin.empty → AreRead image c n files
+pub none_read : (image : images.Image) (c : Catalog) (n : NamesPart) (files : Files) → files ≡ fin.empty → AreRead image c n files
 none_read image c n files none file s there = let empty = fin.get-empty {X = FileState} nat_cmp file in let was = ap (λ (fs : Files). fin.get fs file) none in cc
 
-pub none_loaded : (image : Image) (c : Catalog) (files : Files) → files ≡ fin.empty → AreLoaded image c files
+pub none_loaded : (image : images.Image) (c : Catalog) (files : Files) → files ≡ fin.empty → AreLoaded image c files
 none_loaded image c files none file s there = let empty = fin.get-empty {X = FileState} nat_cmp file in let was = ap (λ (fs : Files). fin.get fs file) none in cc
 
 pub none_laid : (c : Catalog) (files : Files) → files ≡ fin.empty → AreLaid c files

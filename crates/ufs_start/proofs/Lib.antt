@@ -4,6 +4,12 @@ mod Joined
 mod Named
 mod DirLemmas
 mod Copied
+mod Alike
+mod Refusals
+mod Volumes
+mod Counterparts
+mod Copies
+mod FirstSector
 mod FileLemmas
 mod Beginning
 mod TableLemmas

@@ -3,5 +3,6 @@ pub mod Starts
 pub mod Extents
 pub mod Refused
 pub mod Begun
+pub mod Copies
 pub mod Files
 pub mod Tables

@@ -1,5 +1,5 @@
 -- Why a server can't begin with an image.
-use Rattle.std.specs.Prelude.{ℕ, ◌≡◌, ◌<◌, Ok, length}
+use Rattle.std.specs.Prelude.{ℕ, ◌≡◌, ◌<◌, length}
 use Rattle.ufs_base.specs.Images as images
 use Rattle.ufs_catalog.specs.Faults.{HasFaultCause, IsOutside}
 use Rattle.ufs_catalog.specs.declared.fault.RecoverFault.TheVariants.{Memory}
@@ -10,7 +10,8 @@ use Rattle.ufs_image.specs.Changes.{IsUnreached}
 use Rattle.ufs_image.specs.Images.{form_at}
 use Rattle.ufs_image.specs.Nodes.{blocks_of}
 use Rattle.ufs_image.specs.Sound.{HasDentry}
-use Rattle.ufs_image.specs.Volume.{Volume, volume}
+use Rattle.ufs_image.specs.Standing.{IsVolumeOf}
+use Rattle.ufs_image.specs.Volume.{Volume}
 use Rattle.ufs_layout.specs.DentryForm.{DentryForm}
 use Rattle.ufs_layout.specs.declared.geometry.Geometry.{Geometry}
 use Rattle.ufs_layout.specs.InodeForm.{InodeForm}
@@ -59,11 +60,23 @@ IsRefusedFile forms (Unnamed inode) = ⊥
 IsRefusedFile forms (ExtraBlocks inode) = block_count (forms inode).size < length (blocks_of (forms inode))
 IsRefusedFile forms (TooLong inode) = max_size < (forms inode).size
 
+-- The inode of the file that a fault names is such a one.
+abbrev pub NamesFile : (ℕ → Type 0) → StartFault → Type 0
+NamesFile these (Image fault) = Unit {0}
+NamesFile these (Unreached inode) = Unit {0}
+NamesFile these (Unnamed inode) = Unit {0}
+NamesFile these (ExtraBlocks inode) = these inode
+NamesFile these (TooLong inode) = these inode
+
+-- The disk stands for a tree, and this is true of its image as its committed transactions leave it.
+abbrev pub HasTreeWith : ℕ → images.Image → (Volume → Type 0) → Type 0
+HasTreeWith sectors disk with_it = (v : Volume) × IsVolumeOf sectors disk v (catalog_at v.geometry v.image) × with_it v
+
 -- Why a server can't begin with this disk: it opens to no tree, a directory of it is cut off, a file of it has no name,
 -- or one is refused.
 abbrev pub TellsNoStart : ℕ → images.Image → StartFault → Type 0
 TellsNoStart sectors disk (Image fault) = TellsWhy sectors disk fault
-TellsNoStart sectors disk (Unreached inode) = (v : Volume) × (volume sectors disk ≡ Ok v) × IsCutOff v.geometry (catalog_at v.geometry v.image) inode
-TellsNoStart sectors disk (Unnamed inode) = (v : Volume) × (volume sectors disk ≡ Ok v) × IsUnnamedFile v.geometry (catalog_at v.geometry v.image) inode
-TellsNoStart sectors disk (ExtraBlocks inode) = (v : Volume) × (volume sectors disk ≡ Ok v) × IsRefusedFile (form_at v.geometry v.image) (ExtraBlocks inode)
-TellsNoStart sectors disk (TooLong inode) = (v : Volume) × (volume sectors disk ≡ Ok v) × IsRefusedFile (form_at v.geometry v.image) (TooLong inode)
+TellsNoStart sectors disk (Unreached inode) = HasTreeWith sectors disk (λ v. IsCutOff v.geometry (catalog_at v.geometry v.image) inode)
+TellsNoStart sectors disk (Unnamed inode) = HasTreeWith sectors disk (λ v. IsUnnamedFile v.geometry (catalog_at v.geometry v.image) inode)
+TellsNoStart sectors disk (ExtraBlocks inode) = HasTreeWith sectors disk (λ v. IsInode v.geometry inode × IsRefusedFile (form_at v.geometry v.image) (ExtraBlocks inode))
+TellsNoStart sectors disk (TooLong inode) = HasTreeWith sectors disk (λ v. IsInode v.geometry inode × IsRefusedFile (form_at v.geometry v.image) (TooLong inode))

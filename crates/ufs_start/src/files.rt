@@ -10,7 +10,7 @@ ghost use Rattle.ufs_catalog.specs.Reading.{IsReadOnly};
 ghost use Rattle.ufs_damage.specs.Findings.{AreFindingsOf};
 ghost use Rattle.ufs_extent.specs.Runs as runs;
 ghost use Rattle.ufs_file.specs.Content.{as_read, block_count, marked};
-ghost use Rattle.ufs_image.specs.Catalog.{catalog_at};
+ghost use Rattle.ufs_image.specs.Catalog.{IsInode, catalog_at};
 ghost use Rattle.ufs_image.specs.Images.{block_at, form_at};
 ghost use Rattle.ufs_image.specs.Nodes as nodes;
 ghost use Rattle.ufs_image.specs.Opens.{file_bytes};
@@ -22,7 +22,7 @@ ghost use Rattle.ufs_names.specs.NamesPart.{NamesPart};
 ghost use Rattle.ufs_names_image.specs.Loaded.{AreRead};
 ghost use Rattle.ufs_start.specs.Extents.{run_of};
 ghost use Rattle.ufs_start.specs.Files.{AreFormsOf, AreLaid, AreLoaded, HasNumbers, has_rest, loaded};
-ghost use Rattle.ufs_start.specs.Refused.{HasStartCause, IsRefusedFile};
+ghost use Rattle.ufs_start.specs.Refused.{HasStartCause, IsRefusedFile, NamesFile};
 
 use crate::copy::append;
 use crate::extents::extents_in;
@@ -101,6 +101,7 @@ fn file_extents(alloc: Global, form: &Inode, inode: u32) -> Result<Extents, Star
     ensures count { IfOk result (λ e. length (runs.blocks_of e) ≡ block_count form.now.size) }
     ensures cause { IfErr result (λ f. (before : ℕ) → HasStartCause before before f) }
     ensures refused { IfErr result (λ f. (forms : ℕ → InodeForm) → forms inode ≡ form.now → IsRefusedFile forms f) }
+    ensures named { IfErr result (NamesFile (λ i. i ≡ inode)) }
 {
     if form.size > MAX_SIZE {
         return Err(StartFault::TooLong { inode });
@@ -165,6 +166,7 @@ fn file_in<D: Disk>(
     ensures passed { OnOk result (D.faults disk.new ≡ D.faults disk.old) }
     ensures cause { IfErr result (HasStartCause (D.faults disk.old) (D.faults disk.new)) }
     ensures refused { IfErr result (λ f. (forms : ℕ → InodeForm) → forms inode ≡ form.now → IsRefusedFile forms f) }
+    ensures named { IfErr result (NamesFile (λ i. i ≡ inode)) }
 {
     let extents = file_extents(alloc, form, inode)?;
     let mut bytes = read_blocks(alloc, disk, overlay, &extents)?;
@@ -201,6 +203,7 @@ fn add_file<D: Disk>(
     ensures passed { OnOk result (D.faults disk.new ≡ D.faults disk.old) }
     ensures cause { IfErr result (HasStartCause (D.faults disk.old) (D.faults disk.new)) }
     ensures refused { (g : Geometry) (image : Image) → AreFormsOf g image forms.now → IfErr result (IsRefusedFile (form_at g image)) }
+    ensures named { IfErr result (NamesFile (λ i. i ≡ inode)) }
 {
     let Some(file) = numbers[inode as usize] else {
         return Ok(());
@@ -236,6 +239,7 @@ pub fn files_of<D: Disk>(
     ensures passed { OnOk result (D.faults disk.new ≡ D.faults disk.old) }
     ensures cause { IfErr result (HasStartCause (D.faults disk.old) (D.faults disk.new)) }
     ensures refused { (g : Geometry) (image : Image) → AreFindingsOf g image findings.now → IfErr result (IsRefusedFile (form_at g image)) }
+    ensures named { (g : Geometry) (image : Image) → AreFindingsOf g image findings.now → IfErr result (NamesFile (IsInode g)) }
 {
     let forms = findings.forms();
     if forms.len() >= u32::MAX as usize {

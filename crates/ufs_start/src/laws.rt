@@ -1,4 +1,5 @@
-// What a start owes of its files.
+// What a start owes of its files, and to the copy that it is made of.
+ghost use Rattle.ufs_start.specs.Copies.{BeginsAsCopied, OpensAsCopied, RefusesAsCopied};
 ghost use Rattle.ufs_start.specs.Files.{StartsTellNumbers};
 ghost use Rattle.ufs_start.specs.Starts.{BlocksOfStartsAreApart, FilesArePartsOfStarts};
 
@@ -12,4 +13,11 @@ pub fn start_files_law()
 /// The names of a start tell the numbers that were given to its files, so `files_of` may go by these.
 pub fn start_numbers_law()
     ensures { StartsTellNumbers }
+{}
+
+/// The sectors that an image takes say all that a server begins with.
+pub fn copy_law()
+    ensures opens { OpensAsCopied }
+    ensures begins { BeginsAsCopied }
+    ensures refused { RefusesAsCopied }
 {}

@@ -19,7 +19,7 @@ mod unnamed;
 pub use copy::copy_of;
 pub use fault::StartFault;
 pub use files::files_of;
-pub use laws::{start_files_law, start_numbers_law};
+pub use laws::{copy_law, start_files_law, start_numbers_law};
 pub use names::names_in;
 pub use numbers::{Numbers, numbers_of};
 pub use parts::Start;

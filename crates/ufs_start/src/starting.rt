@@ -7,6 +7,7 @@ ghost use Rattle.ufs_disk.specs.Bytes.{image_of};
 ghost use Rattle.ufs_disk.specs.Moments.{reads};
 ghost use Rattle.ufs_catalog.specs.Reading.{IsReadOnly};
 ghost use Rattle.ufs_files.specs.Files.{AreFilesOf};
+ghost use Rattle.ufs_image.specs.Catalog.{IsInode};
 ghost use Rattle.ufs_image.specs.Images.{form_at};
 ghost use Rattle.ufs_image.specs.Opens.{opens};
 ghost use Rattle.ufs_image.specs.Standing.{IsVolumeOf};
@@ -23,13 +24,13 @@ ghost use Rattle.ufs_overlay.specs.Seen.{HasAdded};
 ghost use Rattle.ufs_volume.specs.Volumes.{committed_in};
 ghost use Rattle.ufs_start.specs.Begun.{IsBegun, catalog_under, image_under, session_start, tree_under, volume_under};
 ghost use Rattle.ufs_start.specs.Files.{AreLaid, AreLoaded};
-ghost use Rattle.ufs_start.specs.Refused.{HasStartCause, IsRefusedFile, TellsNoStart};
+ghost use Rattle.ufs_start.specs.Refused.{HasStartCause, IsRefusedFile, NamesFile, TellsNoStart};
 ghost use Rattle.ufs_start.specs.Starts.{AreStartNames, IsLoaded};
 
 use crate::copy::copy_of;
 use crate::fault::StartFault;
 use crate::files::files_of;
-use crate::laws::{start_files_law, start_numbers_law};
+use crate::laws::{copy_law, start_files_law, start_numbers_law};
 use crate::names::names_in;
 use crate::numbers::numbers_of;
 use crate::parts::Start;
@@ -61,6 +62,7 @@ fn files_in(
     ensures loaded { IfOk result (AreLoaded (image_under volume.now.superblock (image_of copy.old.bytes.items)) (catalog_under volume.now.superblock (image_of copy.old.bytes.items))) }
     ensures laid { IfOk result (AreLaid (catalog_under volume.now.superblock (image_of copy.old.bytes.items))) }
     ensures refused { IfErr result (IsRefusedFile (form_at volume.now.superblock.geometry (image_under volume.now.superblock (image_of copy.old.bytes.items)))) }
+    ensures named { IfErr result (NamesFile (IsInode volume.now.superblock.geometry)) }
     ensures calm { IfErr result (λ f. (count : ℕ) → HasStartCause count count f) }
 {
     let geometry = &volume.superblock.geometry;
@@ -103,9 +105,9 @@ fn start_in(alloc: Global, copy: &mut PlainDisk) -> Result<Start, StartFault>
     })
 }
 
-/// Makes what a server begins with, over a copy of the disk in memory. Refuses a disk that opens to no tree, and one
+/// Makes what a server begins with, over a copy of the image in memory. Refuses a disk that opens to no tree, and one
 /// with a file that a server can't hold or that no path names, or with a directory that has names and that no path leads
-/// to. Reads each sector of the disk once, in calls of 4,096 bytes; writes nothing.
+/// to. Reads each sector that the image takes once, in calls of 4,096 bytes, and no other; writes nothing.
 pub fn start_of<D: Disk>(alloc: Global, disk: &mut D) -> Result<Start, StartFault>
     ensures standing { IsTrue D.visible → IfOk result (λ s. IsVolumeOf (D.size disk.old) (reads (D.moments disk.old)) (volume_under s.superblock (reads (D.moments disk.old))) (catalog_under s.superblock (reads (D.moments disk.old)))) }
     ensures opened { IsTrue D.visible → IfOk result (λ s. opens (D.size disk.old) (reads (D.moments disk.old)) ≡ Ok (tree_under s.superblock (reads (D.moments disk.old)))) }
@@ -127,7 +129,7 @@ pub fn start_of<D: Disk>(alloc: Global, disk: &mut D) -> Result<Start, StartFaul
     ensures passed { OnOk result (D.faults disk.new ≡ D.faults disk.old) }
     ensures cause { IfErr result (HasStartCause (D.faults disk.old) (D.faults disk.new)) }
 {
-    let sectors = disk.sectors();
-    let mut copy = copy_of(alloc, disk, sectors)?;
+    copy_law();
+    let mut copy = copy_of(alloc, disk)?;
     start_in(alloc, &mut copy)
 }

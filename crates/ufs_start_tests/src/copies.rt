@@ -1,17 +1,13 @@
-// A copy has the sectors that were copied, and no other.
-use crate::images::{new_disk, set_sector};
+// A copy has the sectors that the image takes, and no other.
+use crate::images::{SECTORS, new_disk_of, set_sector};
 use std::alloc::Global;
 use std::test::Fail;
 use ufs_base::SECTOR;
 use ufs_disk::{Disk, PlainDisk};
 use ufs_start::copy_of;
 
-// So many sectors of a disk; none where it has fewer.
-fn copied(alloc: Global, disk: &mut PlainDisk, sectors: u32) -> Option<PlainDisk> {
-    if sectors > disk.sectors() {
-        return None;
-    }
-    match copy_of(alloc, disk, sectors) {
+fn copied(alloc: Global, disk: &mut PlainDisk) -> Option<PlainDisk> {
+    match copy_of(alloc, disk) {
         Ok(copy) => Some(copy),
         Err(_) => None,
     }
@@ -29,25 +25,41 @@ fn is_full_of(disk: &mut PlainDisk, sector: u32, byte: u8) -> Option<bool> {
     }
 }
 
-// A new image with two sectors set, copied as far as the second of them.
-fn copy(alloc: Global) -> Option<PlainDisk> {
-    let mut disk = new_disk(alloc)?;
-    if !set_sector(&mut disk, 7, &[3; SECTOR]) || !set_sector(&mut disk, 12, &[4; SECTOR]) {
+// Whether a copy of a new image on a larger disk, with two sectors set and one behind the image, has this byte all over
+// a sector.
+fn copy_has(alloc: Global, sector: u32, byte: u8) -> Option<bool> {
+    let mut disk = new_disk_of(alloc, SECTORS + 8)?;
+    let set = set_sector(&mut disk, 7, &[3; SECTOR])
+        && set_sector(&mut disk, SECTORS - 1, &[4; SECTOR])
+        && set_sector(&mut disk, SECTORS, &[5; SECTOR]);
+    if !set {
         return None;
     }
-    copied(alloc, &mut disk, 13)
-}
-
-// Whether that copy has this byte all over a sector.
-fn copy_has(alloc: Global, sector: u32, byte: u8) -> Option<bool> {
-    let mut copy = copy(alloc)?;
+    let mut copy = copied(alloc, &mut disk)?;
     is_full_of(&mut copy, sector, byte)
 }
 
+// How many sectors a copy of a disk of so many has, all of zeros.
+fn sectors_of_zeros(alloc: Global, sectors: u32) -> Option<u32> {
+    let Ok(mut disk) = PlainDisk::zeros(alloc, sectors) else {
+        return None;
+    };
+    let copy = copied(alloc, &mut disk)?;
+    Some(copy.sectors())
+}
+
 #[test]
-fn a_copy_has_the_sectors_of_the_disk(rt: HostRuntime) -> Result<(), Fail> {
+fn a_copy_has_the_sectors_of_the_image(rt: HostRuntime) -> Result<(), Fail> {
     assert!(rt; copy_has(rt.alloc(), 7, 3) == Some(true));
-    assert!(rt; copy_has(rt.alloc(), 12, 4) == Some(true));
-    assert!(rt; copy_has(rt.alloc(), 13, 0) == None);
+    assert!(rt; copy_has(rt.alloc(), SECTORS - 1, 4) == Some(true));
+    assert!(rt; copy_has(rt.alloc(), SECTORS, 5) == None);
+    Ok(())
+}
+
+#[test]
+fn without_a_superblock_it_has_the_first_block(rt: HostRuntime) -> Result<(), Fail> {
+    assert!(rt; sectors_of_zeros(rt.alloc(), 520) == Some(8));
+    assert!(rt; sectors_of_zeros(rt.alloc(), 3) == Some(3));
+    assert!(rt; sectors_of_zeros(rt.alloc(), 0) == Some(0));
     Ok(())
 }

@@ -1,5 +1,5 @@
-// What the tests share: a new image of 64 blocks, 16 inodes and 64 journal sectors on 512 sectors, whose inode
-// table begins in sector 16 and whose data area begins in block 12.
+// What the tests share: a new image of 64 blocks, 16 inodes and 64 journal sectors, whose inode table begins in sector 16
+// and whose data area begins in block 12; and one with a directory and two files.
 use std::alloc::Global;
 use ufs_base::SECTOR;
 use ufs_disk::{Disk, PlainDisk};
@@ -12,8 +12,17 @@ pub const ROOT: u32 = 16;
 /// The sector of inode 2.
 pub const SECOND: u32 = 17;
 
+/// The sectors that the image takes.
+pub const SECTORS: u32 = 512;
+
+/// The image on a disk of as many sectors.
 pub fn new_disk(alloc: Global) -> Option<PlainDisk> {
-    let Ok(mut disk) = PlainDisk::zeros(alloc, 512) else {
+    new_disk_of(alloc, SECTORS)
+}
+
+/// The image on a disk of so many sectors.
+pub fn new_disk_of(alloc: Global, sectors: u32) -> Option<PlainDisk> {
+    let Ok(mut disk) = PlainDisk::zeros(alloc, sectors) else {
         return None;
     };
     let Ok(geometry) = Geometry::make(64, 16, 64) else {
@@ -57,4 +66,30 @@ pub fn name(inode: u8, kind: u8, byte: u8) -> [u8; SECTOR] {
     bytes[69] = 1;
     bytes[70] = byte;
     bytes
+}
+
+// The root lies in block 20, with `f` in its first sector and `d` in its second; the directory `d` in block 30, with `g`.
+fn set_names(disk: &mut PlainDisk) -> bool {
+    set_sector(disk, 160, &name(3, 1, b'f'))
+        && set_sector(disk, 161, &name(2, 2, b'd'))
+        && set_sector(disk, 240, &name(4, 1, b'g'))
+}
+
+// `f` has a block, and `g` two.
+fn set_inodes(disk: &mut PlainDisk) -> bool {
+    set_sector(disk, ROOT, &inode(2, 20, 1, 4096))
+        && set_sector(disk, ROOT + 1, &inode(2, 30, 1, 4096))
+        && set_sector(disk, ROOT + 2, &file(40, 1, 5))
+        && set_sector(disk, ROOT + 3, &file(41, 2, 5000))
+        && set_sector(disk, 328, &[7; SECTOR])
+}
+
+/// An image with the files `/f` of 5 bytes and `/d/g` of 5,000 on a disk of so many sectors.
+pub fn tree_disk(alloc: Global, sectors: u32) -> Option<PlainDisk> {
+    let mut disk = new_disk_of(alloc, sectors)?;
+    if set_names(&mut disk) && set_inodes(&mut disk) {
+        Some(disk)
+    } else {
+        None
+    }
 }

@@ -4,8 +4,12 @@
 #[cfg(test)]
 mod copies;
 #[cfg(test)]
+mod counted;
+#[cfg(test)]
 mod files;
 #[cfg(test)]
 mod images;
+#[cfg(test)]
+mod larger;
 #[cfg(test)]
 mod starts;

@@ -1,34 +1,14 @@
 // What a server begins with: the paths, the files and the free blocks of an image.
-use crate::images::{ROOT, file, inode, name, new_disk, set_sector};
+use crate::images::{ROOT, SECTORS, file, inode, name, set_sector, tree_disk};
 use std::alloc::Global;
 use std::test::Fail;
-use ufs_base::SECTOR;
 use ufs_dir_tree::Found;
 use ufs_disk::PlainDisk;
 use ufs_path::read_path;
 use ufs_start::{Start, StartFault, start_of};
 
-// The root lies in block 20, with `f` in its first sector and `d` in its second; the directory `d` in block 30, with `g`.
-fn set_names(disk: &mut PlainDisk) -> bool {
-    set_sector(disk, 160, &name(3, 1, b'f'))
-        && set_sector(disk, 161, &name(2, 2, b'd'))
-        && set_sector(disk, 240, &name(4, 1, b'g'))
-}
-
-// `f` has a block, and `g` two.
-fn set_inodes(disk: &mut PlainDisk) -> bool {
-    set_sector(disk, ROOT, &inode(2, 20, 1, 4096))
-        && set_sector(disk, ROOT + 1, &inode(2, 30, 1, 4096))
-        && set_sector(disk, ROOT + 2, &file(40, 1, 5))
-        && set_sector(disk, ROOT + 3, &file(41, 2, 5000))
-        && set_sector(disk, 328, &[7; SECTOR])
-}
-
 fn started(alloc: Global) -> Option<Start> {
-    let mut disk = new_disk(alloc)?;
-    if !set_names(&mut disk) || !set_inodes(&mut disk) {
-        return None;
-    }
+    let mut disk = tree_disk(alloc, SECTORS)?;
     match start_of(alloc, &mut disk) {
         Ok(start) => Some(start),
         Err(_fault) => None,
@@ -70,8 +50,8 @@ fn set_cut_off(disk: &mut PlainDisk) -> bool {
 }
 
 fn fault_cut_off(alloc: Global) -> Option<StartFault> {
-    let mut disk = new_disk(alloc)?;
-    if !set_names(&mut disk) || !set_inodes(&mut disk) || !set_cut_off(&mut disk) {
+    let mut disk = tree_disk(alloc, SECTORS)?;
+    if !set_cut_off(&mut disk) {
         return None;
     }
     match start_of(alloc, &mut disk) {
@@ -86,8 +66,8 @@ fn set_unnamed(disk: &mut PlainDisk) -> bool {
 }
 
 fn fault_unnamed(alloc: Global) -> Option<StartFault> {
-    let mut disk = new_disk(alloc)?;
-    if !set_names(&mut disk) || !set_inodes(&mut disk) || !set_unnamed(&mut disk) {
+    let mut disk = tree_disk(alloc, SECTORS)?;
+    if !set_unnamed(&mut disk) {
         return None;
     }
     match start_of(alloc, &mut disk) {

@@ -7,7 +7,7 @@ use Rattle.ufs_catalog.specs.Folded.{IsFolded}
 use Rattle.ufs_catalog.proofs.Quiet.{read_more, read_none}
 use Rattle.ufs_image.specs.Catalog.{catalog_at}
 use Rattle.ufs_layout.specs.InodeForm.{InodeForm}
-use Rattle.ufs_start.proofs.FileLemmas.{inside, none_laid, none_loaded, none_read}
+use Rattle.ufs_start.proofs.FileLemmas.{inside, names_inode, none_laid, none_loaded, none_read}
 use Rattle.ufs_start.proofs.files.files_of.Goals as goal
 
 pub loop-place-init : goal.loop-place-init
@@ -31,6 +31,12 @@ pub returns-in_err-add_file-clause-refused : goal.returns-in_err-add_file-clause
 returns-in_err-add_file-clause-refused g c geometry image found =
     let p = err_from_is_err_and c.from_residual.result c.from_residual.ensures.1 in
     rw (p.1, p.2) (c.in_err-add_file.ensures.refused geometry image (c.forms-forms.ensures ∙ found.forms))
+
+pub returns-in_err-add_file-clause-named : goal.returns-in_err-add_file-clause-named
+returns-in_err-add_file-clause-named g c geometry image found =
+    let p = err_from_is_err_and c.from_residual.result c.from_residual.ensures.1 in
+    let forms = c.forms-forms.result.now in
+    rw (p.1, p.2) (names_inode geometry image forms (c.forms-forms.ensures ∙ found.forms) c.loop-place.place (omega arith) c.in_err-add_file.field-0.0 c.in_err-add_file.ensures.named)
 
 pub loop-place-preserved : goal.loop-place-preserved
 loop-place-preserved g c =

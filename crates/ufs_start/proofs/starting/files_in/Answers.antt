@@ -55,6 +55,11 @@ returns-clause-refused c =
     let h = c.args.volume.now.superblock in
     c.files_of.ensures.refused h.geometry (image_under h (image_of c.args.copy.now.bytes.items)) c.requires.loaded.found
 
+pub returns-clause-named : goal.returns-clause-named
+returns-clause-named c =
+    let h = c.args.volume.now.superblock in
+    c.files_of.ensures.named h.geometry (image_under h (image_of c.args.copy.now.bytes.items)) c.requires.loaded.found
+
 pub returns-clause-laid : goal.returns-clause-laid
 returns-clause-laid c =
     let h = c.args.volume.now.superblock in

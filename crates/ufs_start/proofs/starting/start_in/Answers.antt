@@ -102,10 +102,14 @@ returns-clause-begun c =
 pub returns-in_err-files-clause-refused : goal.returns-in_err-files-clause-refused
 returns-in_err-files-clause-refused c =
     let p = err_from_is_err_and c.from_residual-in_err-files.result c.from_residual-in_err-files.ensures.1 in
-    let v = c.in_ok-loaded.loaded.volume in
+    let l = c.in_ok-loaded.loaded in
+    let e = c.in_ok-loaded.ensures in
+    let v = l.volume in
     let disk : Image = image_of c.args.copy.now.bytes.items in
-    rw (p.1, p.2) (refused_file v c.args.copy.now.sectors disk (c.in_ok-loaded.ensures.taken refl) c.in_err-files.field-0.0
-    (subst (λ (d : Image). IsRefusedFile (form_at v.superblock.geometry (image_under v.superblock d)) c.in_err-files.field-0.0) (c.load.ensures.read_only refl).content c.in_err-files.ensures.refused))
+    let standing = (is_loaded v l.findings c.args.copy.now.sectors disk (e.taken refl) (e.catalog refl) (e.sound refl) (e.found refl)).standing in
+    rw (p.1, p.2) (refused_file v c.args.copy.now.sectors disk standing c.in_err-files.field-0.0
+    (subst (λ (d : Image). IsRefusedFile (form_at v.superblock.geometry (image_under v.superblock d)) c.in_err-files.field-0.0) (c.load.ensures.read_only refl).content c.in_err-files.ensures.refused)
+    c.in_err-files.ensures.named)
 
 pub returns-in_err-names-clause-refused : goal.returns-in_err-names-clause-refused
 returns-in_err-names-clause-refused c =
@@ -120,7 +124,7 @@ returns-in_err-names-clause-refused c =
     let image : Image = image_under h disk in
     let loaded : IsLoaded g l.findings sectors disk h.superblock image = is_loaded v l.findings sectors disk (e.taken refl) (e.catalog refl) (e.sound refl) (e.found refl) in
     let undamaged : IsUndamaged g image l.findings = record { found = loaded.found; whole = (c.damage_law.ensures.whole image (catalog_under h disk) loaded.standing.catalog loaded.standing.sound).1 } in
-    rw (p.1, p.2) (refused_names v l.findings sectors disk (e.taken refl) undamaged c.in_err-names.field-0.0 c.in_err-names.ensures.fault)
+    rw (p.1, p.2) (refused_names v l.findings sectors disk loaded.standing undamaged c.in_err-names.field-0.0 c.in_err-names.ensures.fault)
 
 pub returns-in_err-names-clause-calm : goal.returns-in_err-names-clause-calm
 returns-in_err-names-clause-calm c =

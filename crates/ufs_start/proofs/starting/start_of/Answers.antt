@@ -1,48 +1,84 @@
-use Rattle.std.proofs.Common.{ℕ, ◌∙◌, subst}
 use Rattle.ufs_disk.specs.Bytes.{image_of}
+use Rattle.ufs_disk.specs.Moments.{reads}
 use Rattle.ufs_start.specs.Begun.{IsBegun}
+use Rattle.ufs_start.specs.Copies.{IsCopyOf}
 use Rattle.ufs_start.specs.declared.parts.Start.{Start}
 use Rattle.ufs_walk.proofs.Maps.{if_ok}
-use Rattle.ufs_start.proofs.Beginning.{begun_there}
+use Rattle.ufs_start.proofs.Copies.{all_there, none_there, some_image}
 use Rattle.ufs_start.proofs.starting.start_of.Goals as goal
+
+pub returns-clause-standing : goal.returns-clause-standing
+returns-clause-standing g c visible =
+    let size = g.D.Disk.size c.args.disk.now in
+    let image = reads (g.D.Disk.moments c.args.disk.now) in
+    let copy = c.in_ok-copy.copy in
+    let is : IsCopyOf copy.sectors (image_of copy.bytes.items) size image = record { taken = c.in_ok-copy.ensures.taken; same = c.in_ok-copy.ensures.within visible } in
+    if_ok c.start_in.result (IsBegun size image) _ (λ (s : Start) begun. begun.standing) (all_there copy.sectors size (image_of copy.bytes.items) image is c.start_in.result c.start_in.ensures.begun)
 
 pub returns-clause-opened : goal.returns-clause-opened
 returns-clause-opened g c visible =
-    if_ok c.start_in.result (IsBegun c.in_ok-copy.copy.sectors (image_of c.in_ok-copy.copy.bytes.items)) _
-    (λ (s : Start) begun. (begun_there (c.in_ok-copy.ensures.whole visible c.sectors-sectors.ensures) (c.in_ok-copy.ensures.sectors ∙ c.sectors-sectors.ensures) s begun).opened) c.start_in.ensures.begun
+    let size = g.D.Disk.size c.args.disk.now in
+    let image = reads (g.D.Disk.moments c.args.disk.now) in
+    let copy = c.in_ok-copy.copy in
+    let is : IsCopyOf copy.sectors (image_of copy.bytes.items) size image = record { taken = c.in_ok-copy.ensures.taken; same = c.in_ok-copy.ensures.within visible } in
+    if_ok c.start_in.result (IsBegun size image) _ (λ (s : Start) begun. begun.opened) (all_there copy.sectors size (image_of copy.bytes.items) image is c.start_in.result c.start_in.ensures.begun)
 
 pub returns-clause-table : goal.returns-clause-table
 returns-clause-table g c visible =
-    if_ok c.start_in.result (IsBegun c.in_ok-copy.copy.sectors (image_of c.in_ok-copy.copy.bytes.items)) _
-    (λ (s : Start) begun. (begun_there (c.in_ok-copy.ensures.whole visible c.sectors-sectors.ensures) (c.in_ok-copy.ensures.sectors ∙ c.sectors-sectors.ensures) s begun).table) c.start_in.ensures.begun
+    let size = g.D.Disk.size c.args.disk.now in
+    let image = reads (g.D.Disk.moments c.args.disk.now) in
+    let copy = c.in_ok-copy.copy in
+    let is : IsCopyOf copy.sectors (image_of copy.bytes.items) size image = record { taken = c.in_ok-copy.ensures.taken; same = c.in_ok-copy.ensures.within visible } in
+    if_ok c.start_in.result (IsBegun size image) _ (λ (s : Start) begun. begun.table) (all_there copy.sectors size (image_of copy.bytes.items) image is c.start_in.result c.start_in.ensures.begun)
+
+pub returns-clause-names : goal.returns-clause-names
+returns-clause-names g c visible =
+    let size = g.D.Disk.size c.args.disk.now in
+    let image = reads (g.D.Disk.moments c.args.disk.now) in
+    let copy = c.in_ok-copy.copy in
+    let is : IsCopyOf copy.sectors (image_of copy.bytes.items) size image = record { taken = c.in_ok-copy.ensures.taken; same = c.in_ok-copy.ensures.within visible } in
+    if_ok c.start_in.result (IsBegun size image) _ (λ (s : Start) begun. begun.names) (all_there copy.sectors size (image_of copy.bytes.items) image is c.start_in.result c.start_in.ensures.begun)
 
 pub returns-clause-read : goal.returns-clause-read
 returns-clause-read g c visible =
-    if_ok c.start_in.result (IsBegun c.in_ok-copy.copy.sectors (image_of c.in_ok-copy.copy.bytes.items)) _
-    (λ (s : Start) begun. (begun_there (c.in_ok-copy.ensures.whole visible c.sectors-sectors.ensures) (c.in_ok-copy.ensures.sectors ∙ c.sectors-sectors.ensures) s begun).read) c.start_in.ensures.begun
+    let size = g.D.Disk.size c.args.disk.now in
+    let image = reads (g.D.Disk.moments c.args.disk.now) in
+    let copy = c.in_ok-copy.copy in
+    let is : IsCopyOf copy.sectors (image_of copy.bytes.items) size image = record { taken = c.in_ok-copy.ensures.taken; same = c.in_ok-copy.ensures.within visible } in
+    if_ok c.start_in.result (IsBegun size image) _ (λ (s : Start) begun. begun.read) (all_there copy.sectors size (image_of copy.bytes.items) image is c.start_in.result c.start_in.ensures.begun)
 
 pub returns-clause-files : goal.returns-clause-files
 returns-clause-files g c visible =
-    if_ok c.start_in.result (IsBegun c.in_ok-copy.copy.sectors (image_of c.in_ok-copy.copy.bytes.items)) _
-    (λ (s : Start) begun. (begun_there (c.in_ok-copy.ensures.whole visible c.sectors-sectors.ensures) (c.in_ok-copy.ensures.sectors ∙ c.sectors-sectors.ensures) s begun).files) c.start_in.ensures.begun
+    let size = g.D.Disk.size c.args.disk.now in
+    let image = reads (g.D.Disk.moments c.args.disk.now) in
+    let copy = c.in_ok-copy.copy in
+    let is : IsCopyOf copy.sectors (image_of copy.bytes.items) size image = record { taken = c.in_ok-copy.ensures.taken; same = c.in_ok-copy.ensures.within visible } in
+    if_ok c.start_in.result (IsBegun size image) _ (λ (s : Start) begun. begun.files) (all_there copy.sectors size (image_of copy.bytes.items) image is c.start_in.result c.start_in.ensures.begun)
 
 pub returns-clause-free : goal.returns-clause-free
 returns-clause-free g c visible =
-    if_ok c.start_in.result (IsBegun c.in_ok-copy.copy.sectors (image_of c.in_ok-copy.copy.bytes.items)) _
-    (λ (s : Start) begun. (begun_there (c.in_ok-copy.ensures.whole visible c.sectors-sectors.ensures) (c.in_ok-copy.ensures.sectors ∙ c.sectors-sectors.ensures) s begun).free) c.start_in.ensures.begun
+    let size = g.D.Disk.size c.args.disk.now in
+    let image = reads (g.D.Disk.moments c.args.disk.now) in
+    let copy = c.in_ok-copy.copy in
+    let is : IsCopyOf copy.sectors (image_of copy.bytes.items) size image = record { taken = c.in_ok-copy.ensures.taken; same = c.in_ok-copy.ensures.within visible } in
+    if_ok c.start_in.result (IsBegun size image) _ (λ (s : Start) begun. begun.free) (all_there copy.sectors size (image_of copy.bytes.items) image is c.start_in.result c.start_in.ensures.begun)
+
+pub returns-clause-loaded : goal.returns-clause-loaded
+returns-clause-loaded g c visible =
+    let size = g.D.Disk.size c.args.disk.now in
+    let image = reads (g.D.Disk.moments c.args.disk.now) in
+    let copy = c.in_ok-copy.copy in
+    let is : IsCopyOf copy.sectors (image_of copy.bytes.items) size image = record { taken = c.in_ok-copy.ensures.taken; same = c.in_ok-copy.ensures.within visible } in
+    if_ok c.start_in.result (IsBegun size image) _ (λ (s : Start) begun. begun.loaded) (all_there copy.sectors size (image_of copy.bytes.items) image is c.start_in.result c.start_in.ensures.begun)
 
 pub returns-clause-begun : goal.returns-clause-begun
 returns-clause-begun g c =
     let copy = c.in_ok-copy.copy in
     if_ok c.start_in.result (IsBegun copy.sectors (image_of copy.bytes.items)) _
-    (λ (s : Start) begun. (
-      image_of copy.bytes.items,
-      subst (λ (n : ℕ). IsBegun n (image_of copy.bytes.items) s) (c.in_ok-copy.ensures.sectors ∙ c.sectors-sectors.ensures) begun,
-      λ visible. c.in_ok-copy.ensures.whole visible c.sectors-sectors.ensures,
-    ))
+    (λ (s : Start) begun. some_image g.D.Disk.visible copy.sectors (g.D.Disk.size c.args.disk.now) (image_of copy.bytes.items) (reads (g.D.Disk.moments c.args.disk.now)) s c.in_ok-copy.ensures.taken c.in_ok-copy.ensures.within begun)
     c.start_in.ensures.begun
 
-pub returns-clause-loaded : goal.returns-clause-loaded
-returns-clause-loaded g c visible =
-    if_ok c.start_in.result (IsBegun c.in_ok-copy.copy.sectors (image_of c.in_ok-copy.copy.bytes.items)) _
-    (λ (s : Start) begun. (begun_there (c.in_ok-copy.ensures.whole visible c.sectors-sectors.ensures) (c.in_ok-copy.ensures.sectors ∙ c.sectors-sectors.ensures) s begun).loaded) c.start_in.ensures.begun
+pub returns-clause-refused : goal.returns-clause-refused
+returns-clause-refused g c visible =
+    let copy = c.in_ok-copy.copy in
+    none_there copy.sectors (g.D.Disk.size c.args.disk.now) (image_of copy.bytes.items) (reads (g.D.Disk.moments c.args.disk.now)) (record { taken = c.in_ok-copy.ensures.taken; same = c.in_ok-copy.ensures.within visible }) c.start_in.result c.start_in.ensures.refused

@@ -1,0 +1,175 @@
+-- Images that agree on the sectors of a geometry have the same inodes, directories and damage.
+use Rattle.std.proofs.Common.{◌≡◌, ℕ, ◌<◌, inl, inr, List, [], ◌∷◌, ◌++◌, Bool, true, false, Option, map, unwrap_or, take, ap, sym, refl, ◌∙◌, subst, arith}
+use Rattle.std.specs.Prelude.{flat_map, filter, ◌==◌, ◌&&◌, ◌||◌, not, nat_le, if◌then◌else◌}
+use Rattle.std.specs.List.{filter_map, cons_option, list_any, enumerate_from, AllByRecursion}
+use Rattle.std.proofs.lemmas.Bool.{and_parts}
+use Rattle.std.proofs.lemmas.Bool.Decides.{nat_tests}
+use Rattle.ufs_base.specs.Choices.{some_if}
+use Rattle.ufs_base.specs.Images.{Image}
+use Rattle.ufs_layout.specs.Areas.{IsGeometry, all_inodes, is_inode_number, sector_count, sector_of_inode}
+use Rattle.ufs_layout.specs.InodeForm.{InodeForm, free_inode, inode_of, is_used}
+use Rattle.ufs_layout.specs.DentryForm.{DentryForm, free_slot}
+use Rattle.ufs_layout.specs.declared.geometry.Geometry.{Geometry}
+use Rattle.ufs_layout.proofs.Spelled.{some_if-some}
+use Rattle.ufs_image.specs.Agree.{AgreeOn, IsOfBlock}
+use Rattle.ufs_image.specs.Catalog.{IsInode, catalog_at, slots_in}
+use Rattle.ufs_image.specs.Damage.{Damage, BadInode, BadExtent, BadDentry, FreeInode, NameTwice, TwoNames, bad_tree, block_damage, has_two_names, inode_damage, is_bad_dentry, is_name_twice, lowest_blamed, name_damage, names_no_inode, tree_damage}
+use Rattle.ufs_image.specs.Images.{block_at, form_at, inode_at}
+use Rattle.ufs_image.specs.Nodes.{Dir, NamedSlot, Node, ReadSlot, blocks_of, dirs_of, is_bad_extent, is_bad_form, is_bad_inode, kind_at, leaves_data, names_of, read_block, slots_of, sound_node, sound_nodes}
+use Rattle.ufs_image.specs.Opens.{file_bytes}
+use Rattle.ufs_image.specs.Sound.{IsInData, IsSoundCatalog}
+use Rattle.ufs_image.specs.Walks.{inode_of as met_at}
+use Rattle.ufs_image.proofs.Blocks.{block_same, read_same}
+use Rattle.ufs_image.proofs.Changed.{walks_same}
+use Rattle.ufs_image.proofs.Depth.{has_root, root_in_range}
+use Rattle.ufs_image.proofs.Found.{reached}
+use Rattle.ufs_image.proofs.Holders.{all_stay, block_in_data, inode_in}
+use Rattle.ufs_image.proofs.Journals.{filter-same, inode_metadata, map-same}
+use Rattle.ufs_image.proofs.Lists.{IsIn, flat_map-same, from_filter, from_filter_map}
+
+filter_map-same : {X Y : Type 0} (f h : X → Option Y) (xs : List X) → ((x : X) → IsIn x xs → f x ≡ h x) → filter_map f xs ≡ filter_map h xs
+filter_map-same f h [] same = refl
+filter_map-same f h (x ∷ xs) same = let head = same x (inl refl) in let rest = filter_map-same f h xs (λ y is. same y (inr is)) in λ i. cons_option (head i) (rest i)
+
+pub is_number : (g : Geometry) (inode : ℕ) → IsInode g inode → is_inode_number g inode ≡ true
+is_number g inode is = let from = is.from_one in let most = is.within in grind (arith, nat_tests, from, most)
+
+pub number_is : (g : Geometry) (inode : ℕ) → is_inode_number g inode ≡ true → IsInode g inode
+number_is g inode e =
+    let parts = and_parts (nat_le 1 inode) (nat_le inode g.inodes) e in
+    let low = parts.0 in
+    let high = parts.1 in
+    record { from_one = grind (arith, nat_tests, low); within = grind (arith, nat_tests, high) }
+
+-- of a sound node
+none_leave : (bad leave used : Bool) → (not bad && (not (not bad && leave) && used)) ≡ true → leave ≡ false
+none_leave true leave used e = let no = e in cc
+none_leave false true used e = let no = e in cc
+none_leave false false used e = refl
+
+abbrev dir_with : ℕ → List ReadSlot → Dir
+dir_with inode slots = record { inode = inode; slots = slots }
+
+abbrev dir_in : Image → Node → Dir
+dir_in image n = dir_with n.0 (slots_of image n.1)
+
+-- by the test of names that stand for no inode
+abbrev name_damage_by : Geometry → List Dir → (NamedSlot → Bool) → List Damage
+name_damage_by g dirs none =
+    flat_map (λ (d : Dir). map (λ (s : ReadSlot). BadDentry d.inode s.0) (filter is_bad_dentry d.slots)) dirs
+    ++ flat_map (λ (d : Dir). map (λ (n : NamedSlot). FreeInode d.inode n.0 n.1.inode) (filter none (names_of d))) dirs
+    ++ flat_map (λ (d : Dir). map (λ (n : NamedSlot). NameTwice d.inode n.0) (filter (is_name_twice d) (names_of d))) dirs
+    ++ map TwoNames (filter (has_two_names dirs) (all_inodes g))
+
+abbrev dentries : Image → ℕ → List DentryForm
+dentries image block = map (λ o. unwrap_or o free_slot) (read_block image block)
+
+abbrev slots_by : Image → InodeForm → List DentryForm
+slots_by image form = if form.kind == 2 then flat_map (dentries image) (blocks_of form) else []
+
+module _ (g : Geometry) (geometry : IsGeometry g) (one other : Image) (agree : AgreeOn (λ sector. sector < sector_count g) one other) where
+  -- ---- inodes
+
+  pub inode_same : (inode : ℕ) → IsInode g inode → inode_at g one inode ≡ inode_at g other inode
+  inode_same inode in_range =
+      let within = inode_metadata g inode (is_number g inode in_range) in
+      let left = geometry.data_left in
+      ap inode_of (agree (sector_of_inode g inode) (omega (arith, within, left)))
+
+  pub form_same : (inode : ℕ) → IsInode g inode → form_at g one inode ≡ form_at g other inode
+  form_same inode in_range = ap (λ (o : Option InodeForm). unwrap_or o (free_inode 0)) (inode_same inode in_range)
+
+  bad_inode_same : (inode : ℕ) → IsInode g inode → is_bad_inode g one inode ≡ is_bad_inode g other inode
+  bad_inode_same inode in_range = ap (is_bad_form inode) (inode_same inode in_range)
+
+  bad_extent_same : (inode : ℕ) → IsInode g inode → is_bad_extent g one inode ≡ is_bad_extent g other inode
+  bad_extent_same inode in_range = let bad = bad_inode_same inode in_range in let form = form_same inode in_range in λ i. not (bad i) && list_any (leaves_data g) (form i).extents
+
+  node_same : (inode : ℕ) → IsInode g inode → sound_node g one inode ≡ sound_node g other inode
+  node_same inode in_range =
+      let bad = bad_inode_same inode in_range in
+      let leaves = bad_extent_same inode in_range in
+      let form = form_same inode in_range in
+      λ i. some_if (not (bad i) && (not (leaves i) && is_used (form i))) (inode, form i)
+
+  pub nodes_same : sound_nodes g one ≡ sound_nodes g other
+  nodes_same = filter_map-same (sound_node g one) (sound_node g other) (all_inodes g) (λ k is. node_same k (inode_in g k is))
+
+  node_in_data : (n : Node) → IsIn n (sound_nodes g one) → AllByRecursion (IsInData g) n.1.extents
+  node_in_data n is =
+      let from = from_filter_map (sound_node g one) (all_inodes g) n is in
+      let both = some_if-some (not (is_bad_inode g one from.0) && (not (is_bad_extent g one from.0) && is_used (form_at g one from.0))) (from.0, form_at g one from.0) n from.2 in
+      let stay = all_stay g (form_at g one from.0).extents (none_leave (is_bad_inode g one from.0) (list_any (leaves_data g) (form_at g one from.0).extents) (is_used (form_at g one from.0)) both.0) in
+      subst (λ (m : Node). AllByRecursion (IsInData g) m.1.extents) both.1 stay
+
+  -- ---- blocks
+
+  module _ (block : ℕ) (within : block < g.blocks) where
+    sectors_same : AgreeOn (IsOfBlock block) one other
+    sectors_same sector of = let slot = of.in_block in let at = of.same in agree sector (omega (arith, slot, at, within))
+
+    pub block_there : block_at one block ≡ block_at other block
+    block_there = block_same one other block sectors_same
+
+    pub read_there : read_block one block ≡ read_block other block
+    read_there = read_same one other block sectors_same
+
+  module _ (form : InodeForm) (stay : AllByRecursion (IsInData g) form.extents) where
+    pub slots_there : slots_of one form ≡ slots_of other form
+    slots_there = ap (enumerate_from 0) (flat_map-same (read_block one) (read_block other) (blocks_of form) (λ b is. read_there b (block_in_data g form.extents b stay is).1))
+
+    pub bytes_there : flat_map (block_at one) (blocks_of form) ≡ flat_map (block_at other) (blocks_of form)
+    bytes_there = flat_map-same (block_at one) (block_at other) (blocks_of form) (λ b is. block_there b (block_in_data g form.extents b stay is).1)
+
+  -- ---- damage
+
+  dirs_same : dirs_of one (sound_nodes g one) ≡ dirs_of other (sound_nodes g other)
+  dirs_same =
+      map-same (λ (n : Node). dir_in one n) (λ (n : Node). dir_in other n) (filter (λ (n : Node). n.1.kind == 2) (sound_nodes g one))
+      (λ n is. ap (λ (slots : List ReadSlot). dir_with n.0 slots) (slots_there n.1 (node_in_data n (from_filter (λ (n : Node). n.1.kind == 2) (sound_nodes g one) n is).0)))
+      ∙ ap (dirs_of other) nodes_same
+
+  kind_same : (inode : ℕ) → kind_at g one inode ≡ kind_at g other inode
+  kind_same inode = by (is_inode_number g inode) refl
+    where
+      by : (b : Bool) → is_inode_number g inode ≡ b → (if b then (form_at g one inode).kind else 0) ≡ (if b then (form_at g other inode).kind else 0)
+      by true e = ap (λ (f : InodeForm). f.kind) (form_same inode (number_is g inode e))
+      by false e = refl
+
+  no_inode_same : (n : NamedSlot) → names_no_inode g one n ≡ names_no_inode g other n
+  no_inode_same n = ap (λ kind. kind == 0 || not (kind == n.1.kind)) (kind_same n.1.inode)
+
+  inode_damage_same : inode_damage g one ≡ inode_damage g other
+  inode_damage_same =
+      let bad = filter-same (is_bad_inode g one) (is_bad_inode g other) (all_inodes g) (λ k is. bad_inode_same k (inode_in g k is)) in
+      let leave = filter-same (is_bad_extent g one) (is_bad_extent g other) (all_inodes g) (λ k is. bad_extent_same k (inode_in g k is)) in
+      λ i. map BadInode (bad i) ++ map BadExtent (leave i)
+
+  name_damage_same : (dirs : List Dir) → name_damage g one dirs ≡ name_damage g other dirs
+  name_damage_same dirs = ap (name_damage_by g dirs) (λ i n. no_inode_same n i)
+
+  pub tree_damage_same : tree_damage g one ≡ tree_damage g other
+  tree_damage_same =
+      let inodes = inode_damage_same in
+      let nodes = nodes_same in
+      let names = ap (name_damage g one) dirs_same ∙ name_damage_same (dirs_of other (sound_nodes g other)) in
+      λ i. inodes i ++ (block_damage g (nodes i) ++ names i)
+
+  pub bad_same : bad_tree g one ≡ bad_tree g other
+  bad_same = ap (lowest_blamed g) tree_damage_same
+
+  -- ---- catalogs
+
+  module _ (sound : IsSoundCatalog g (catalog_at g one)) where
+    pub slots_in_same : (inode : ℕ) → IsInode g inode → slots_in (catalog_at g other) inode ≡ slots_in (catalog_at g one) inode
+    slots_in_same inode in_range =
+        ap (λ (f : InodeForm). slots_by other f) (sym (form_same inode in_range))
+        ∙ sym (ap (λ (slots : List DentryForm). if (form_at g one inode).kind == 2 then slots else [])
+        (flat_map-same (dentries one) (dentries other) (blocks_of (form_at g one inode)) (λ b is. ap (map (λ o. unwrap_or o free_slot)) (read_there b (block_in_data g (form_at g one inode).extents b (sound.in_data inode in_range) is).1))))
+
+    pub met_same : (names : List (List ℕ)) → met_at (catalog_at g other) names ≡ met_at (catalog_at g one) names
+    met_same = walks_same (catalog_at g one) (catalog_at g other) (λ k is. slots_in_same k (reached g (catalog_at g one) sound 1 is.names k (root_in_range g (catalog_at g one) sound (has_root g geometry)) is.met).0)
+
+    pub file_there : (inode : ℕ) → IsInode g inode → file_bytes one (form_at g one inode) ≡ file_bytes other (form_at g other inode)
+    file_there inode in_range =
+        ap (take (form_at g one inode).size) (bytes_there (form_at g one inode) (sound.in_data inode in_range)) ∙ ap (file_bytes other) (form_same inode in_range)

@@ -1,0 +1,138 @@
+-- What a server begins with on a copy of the sectors that an image takes, it begins with on the image.
+use Rattle.std.proofs.Common.{◌≡◌, ℕ, ◌<◌, Bool, true, false, length, ap, sym, refl, ◌∙◌, subst}
+use Rattle.std.specs.Prelude.{Result, Ok, Err, IfOk, IfErr, IsTrue}
+use Rattle.ufs_base.specs.Images as images
+use Rattle.ufs_image.specs.Agree.{AgreeOn}
+use Rattle.ufs_image.specs.Catalog.{catalog_at}
+use Rattle.ufs_image.specs.Fold.{folded}
+use Rattle.ufs_image.specs.Journal.{committed}
+use Rattle.ufs_image.specs.Nodes.{blocks_of}
+use Rattle.ufs_image.specs.Opens.{ImageTree, opens}
+use Rattle.ufs_image.specs.Standing.{IsVolumeOf}
+use Rattle.ufs_image.specs.Volume.{Refusal, Volume, superblock_of, volume_of}
+use Rattle.ufs_image.proofs.Journals.{taken}
+use Rattle.ufs_image.proofs.Opening.{opens_to}
+use Rattle.ufs_catalog.specs.Faults.{IsWhyNot}
+use Rattle.ufs_layout.specs.Areas.{sector_count}
+use Rattle.ufs_layout.specs.InodeForm.{InodeForm}
+use Rattle.ufs_layout.specs.declared.geometry.Geometry.{Geometry}
+use Rattle.ufs_layout.specs.declared.superblock.Super.{Super}
+use Rattle.ufs_ledger.specs.Kept.{paths_of}
+use Rattle.ufs_model.specs.FileBytes.{max_size}
+use Rattle.ufs_names_image.specs.Starts.{image_start}
+use Rattle.ufs_names.specs.NamesPart.{IsNamesPart}
+use Rattle.ufs_names_image.specs.Parts.{IsNamesOf}
+use Rattle.ufs_file.specs.Content.{block_count}
+use Rattle.ufs_files.specs.Files.{AreFilesOf}
+use Rattle.ufs_one_hand.specs.OneHand.{start_with}
+use Rattle.ufs_start.specs.Begun.{IsBegun, catalog_under, image_under, tree_under, volume_under}
+use Rattle.ufs_start.specs.Copies.{IsCopyOf, sectors_taken}
+use Rattle.ufs_start.specs.Refused.{TellsNoStart}
+use Rattle.ufs_start.specs.declared.fault.StartFault.{StartFault}
+use Rattle.ufs_start.specs.declared.fault.StartFault.TheVariants.{Image, Unreached, Unnamed, ExtraBlocks, TooLong}
+use Rattle.ufs_start.specs.declared.parts.Start.{Start}
+use Rattle.ufs_start.proofs.Alike.{form_same}
+use Rattle.ufs_start.proofs.Counterparts.{cut_off_there, data_there, free_there, laid_there, loaded_there, named_there, names_there, read_there, unnamed_there}
+use Rattle.ufs_start.proofs.Volumes.{IsThere, opens_there, standing_there}
+
+same_tree : (t u : ImageTree) → ◌≡◌ {A = Result ImageTree Refusal} (Ok t) (Ok u) → t ≡ u
+same_tree t u e = cc
+
+module _ (copied sectors : ℕ) (copy image : images.Image) (is : IsCopyOf copied copy sectors image) where
+  -- ---- a start
+
+  module _ (s : Start) (begun : IsBegun copied copy s) where
+    there : (other : images.Image) × IsThere sectors image (volume_under s.superblock copy) other × IsVolumeOf sectors image (record (volume_under s.superblock copy) { image = other }) (catalog_at s.superblock.geometry other)
+    there = standing_there copied sectors copy image is (volume_under s.superblock copy) begun.standing
+
+    other_is : there.0 ≡ image_under s.superblock image
+    other_is =
+        let same = (taken sectors image (record (volume_under s.superblock copy) { image = there.0 }) there.1.taken).same in
+        let supers : s.superblock.superblock ≡ superblock_of image = ap (λ (u : Volume). u.superblock) same in
+        ap (λ (u : Volume). u.image) same
+        ∙ sym (ap (λ (x : Super). (volume_of x image).image) supers)
+        ∙ sym (ap (λ (g : Geometry). folded g (committed g s.superblock.superblock.epoch image) image) s.superblock.same)
+
+    agree : AgreeOn (λ sector. sector < sector_count s.superblock.geometry) (image_under s.superblock copy) (image_under s.superblock image)
+    agree = subst (AgreeOn (λ sector. sector < sector_count s.superblock.geometry) (image_under s.superblock copy)) other_is there.1.agree
+
+    standing : IsVolumeOf sectors image (volume_under s.superblock image) (catalog_under s.superblock image)
+    standing = subst (λ (i : images.Image). IsVolumeOf sectors image (record (volume_under s.superblock copy) { image = i }) (catalog_at s.superblock.geometry i)) other_is there.2
+
+    opened : opens sectors image ≡ Ok (tree_under s.superblock image)
+    opened = opens_to sectors image (volume_under s.superblock image) (catalog_under s.superblock image) standing
+
+    tree : tree_under s.superblock copy ≡ tree_under s.superblock image
+    tree = same_tree (tree_under s.superblock copy) (tree_under s.superblock image) (sym begun.opened ∙ opens_there copied sectors copy image is ∙ opened)
+
+    pub begun_there : IsBegun sectors image s
+    begun_there =
+        let h = s.superblock in
+        let g = h.geometry in
+        let limits = h.limits in
+        let one = image_under h copy in
+        let other = image_under h image in
+        let sound = begun.standing.sound in
+        let numbers = begun.table.numbers in
+        let paths = (image_start (tree_under h copy)).paths in
+        record {
+          standing = standing;
+          sized = λ sector within. data_there g limits one other agree sector within (begun.sized sector within);
+          opened = opened;
+          table = subst (λ (t : ImageTree). IsNamesOf g (catalog_under h image) (image_start t) s.names) tree (names_there g limits one other agree sound (image_start (tree_under h copy)) s.names begun.table);
+          names = subst (λ (t : ImageTree). IsNamesPart s.names (image_start t)) tree begun.names;
+          reached = begun.reached;
+          named = named_there g limits one other agree sound s.names.tree begun.named;
+          few = begun.few;
+          read = read_there g limits one other agree sound s.names paths numbers s.files begun.read;
+          files = subst (λ (t : ImageTree). AreFilesOf s.files (image_start t)) tree begun.files;
+          inodes = begun.inodes;
+          here = begun.here;
+          loaded = loaded_there g limits one other agree sound s.names paths numbers s.files begun.read begun.loaded;
+          laid = laid_there g limits one other agree sound s.names paths numbers s.files begun.read begun.laid;
+          first = begun.first;
+          blocks = begun.blocks;
+          free = λ block. begun.free block ∙ free_there g limits one other agree block;
+          apart = begun.apart;
+          session = begun.session ∙ ap (λ (t : ImageTree). start_with (paths_of t)) tree;
+          can = begun.can;
+        }
+
+  -- ---- a refusal
+
+  pub no_start_there : (fault : StartFault) → TellsNoStart copied copy fault → TellsNoStart sectors image fault
+  no_start_there (Image fault) told = subst (λ (o : Result ImageTree Refusal). IsWhyNot o fault) (opens_there copied sectors copy image is) told
+  no_start_there (Unreached inode) told =
+      let v = told.0 in
+      let there = standing_there copied sectors copy image is v told.1 in
+      (record v { image = there.0 }, there.2, cut_off_there v.geometry there.1.geometry v.image there.0 there.1.agree told.1.sound inode told.2)
+  no_start_there (Unnamed inode) told =
+      let v = told.0 in
+      let there = standing_there copied sectors copy image is v told.1 in
+      (record v { image = there.0 }, there.2, unnamed_there v.geometry there.1.geometry v.image there.0 there.1.agree told.1.sound inode told.2)
+  no_start_there (ExtraBlocks inode) told =
+      let v = told.0 in
+      let there = standing_there copied sectors copy image is v told.1 in
+      let form = form_same v.geometry there.1.geometry v.image there.0 there.1.agree inode told.2.0 in
+      (record v { image = there.0 }, there.2, (told.2.0, subst (λ (f : InodeForm). block_count f.size < length (blocks_of f)) form told.2.1))
+  no_start_there (TooLong inode) told =
+      let v = told.0 in
+      let there = standing_there copied sectors copy image is v told.1 in
+      let form = form_same v.geometry there.1.geometry v.image there.0 there.1.agree inode told.2.0 in
+      (record v { image = there.0 }, there.2, (told.2.0, subst (λ (f : InodeForm). max_size < f.size) form told.2.1))
+
+  -- ---- what a start on the copy gives
+
+  pub all_there : (r : Result Start StartFault) → IfOk r (IsBegun copied copy) → IfOk r (IsBegun sectors image)
+  all_there (Ok s) begun = begun_there s begun
+  all_there (Err fault) begun = tt
+
+  pub none_there : (r : Result Start StartFault) → IfErr r (TellsNoStart copied copy) → IfErr r (TellsNoStart sectors image)
+  none_there (Ok s) told = tt
+  none_there (Err fault) told = no_start_there fault told
+
+-- over a disk of whatever kind there is such an image
+pub some_image : (visible : Bool) (copied sectors : ℕ) (copy image : images.Image) (s : Start) → copied ≡ sectors_taken sectors copy → (IsTrue visible → AgreeOn (λ sector. sector < copied) copy image) → IsBegun copied copy s
+    → (any : images.Image) × IsBegun sectors any s × (IsTrue visible → any ≡ image)
+some_image true copied sectors copy image s taken same begun = (image, begun_there copied sectors copy image (record { taken = taken; same = same refl }) s begun, λ visible. refl)
+some_image false copied sectors copy image s taken same begun = (copy, begun_there copied sectors copy copy (record { taken = taken; same = λ sector less. refl }) s begun, λ visible. absurd (let no : false ≡ true = visible in cc))
