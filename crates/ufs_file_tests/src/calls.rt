@@ -1,17 +1,18 @@
 // What the rows share: a pool, a file that is open, and one request on it.
-ghost use Rattle.std.specs.Prelude.{◌≡◌, ◌+◌, ◌≤◌, ◌<◌, IfOk, Some, length, true};
+ghost use Rattle.std.specs.Prelude.{◌≡◌, ◌+◌, ◌≤◌, ◌<◌, Some, length, true};
 ghost use Rattle.std.specs.FinSet as set;
 ghost use Rattle.ufs_bitmap.specs.Taking.{IsApart, set_of};
 ghost use Rattle.ufs_extent.specs.Runs.{blocks_of};
 ghost use Rattle.ufs_model.specs.Bounds.{IsBounded, max_transfer};
 ghost use Rattle.ufs_model.specs.FileCalls.{is_on_file};
 
-use std::alloc::Global;
+use std::alloc::{AllocGlobal, Global};
+use std::process::Abort;
 use ufs_base::Memory;
 use ufs_bitmap::Pool;
 use ufs_extent::Run;
 use ufs_file::{Applied, FileHand};
-use ufs_model::{Actor, Ask, Bytes, Desc, Op, Reply};
+use ufs_model::{Actor, Ask, Bytes, Desc, Entry, Errno, Excuse, Op, Reply};
 
 /// A descriptor of the file with leave to read and write, at its start.
 pub fn open_on(file: u32) -> Desc
@@ -37,14 +38,14 @@ pub fn pool_of(alloc: Global, start: u32, length: u32) -> Result<Pool, Memory>
 }
 
 /// Bytes that are all alike.
-pub fn filled(alloc: Global, byte: u8, count: usize) -> Result<Bytes, Memory>
-    ensures { IfOk result (λ bytes. length bytes ≡ count) }
+pub fn filled<R: Abort + AllocGlobal>(rt: &R, byte: u8, count: usize) -> Bytes
+    ensures { length result ≡ count }
 {
-    Ok(Bytes::from_vec(vec![in alloc; byte; count]?))
+    Bytes::from_vec(vec![in rt.alloc(); byte; count].expect(rt, "memory"))
 }
 
-/// The request, on a descriptor.
-pub fn applied(file: &mut FileHand, pool: &mut Pool, op: Op, desc: Desc) -> Applied
+/// What the request, on a descriptor, is answered.
+pub fn applied(file: &mut FileHand, pool: &mut Pool, op: Op, desc: Desc) -> Reply
     requires kind { is_on_file op ≡ true }
     requires bounded { IsBounded op }
     requires named { desc.file ≡ Some file.old.file }
@@ -61,20 +62,32 @@ pub fn applied(file: &mut FileHand, pool: &mut Pool, op: Op, desc: Desc) -> Appl
         fd: 0,
         last: false,
     };
-    file.apply(ask, Actor::Primary, 0, pool)
+    let Applied { entry, .. } = file.apply(ask, Actor::Primary, 0, pool);
+    let Entry { op, reply, .. } = entry;
+    drop(op);
+    reply
 }
 
-pub fn is_count(applied: &Applied, count: u32) -> bool {
-    matches!(applied.entry.reply, Reply::Count(n) if n == count)
+pub fn is_count(reply: Reply, count: u32) -> bool {
+    matches!(reply, Reply::Count(n) if n == count)
 }
 
-pub fn is_done(applied: &Applied) -> bool {
-    matches!(applied.entry.reply, Reply::Done)
+pub fn is_done(reply: Reply) -> bool {
+    matches!(reply, Reply::Done)
 }
 
-pub fn gave(applied: &Applied, bytes: &[u8]) -> bool {
-    match &applied.entry.reply {
-        Reply::Got(got) => got.as_slice() == bytes,
-        _ => false,
-    }
+pub fn is_at(reply: Reply, place: u64) -> bool {
+    matches!(reply, Reply::At(at) if at == place)
+}
+
+pub fn is_refused(reply: Reply, errno: Errno) -> bool {
+    matches!(reply, Reply::Refused(found) if found == errno)
+}
+
+pub fn is_excused(reply: Reply, excuse: Excuse) -> bool {
+    matches!(reply, Reply::Excused(found) if found == excuse)
+}
+
+pub fn gave(reply: Reply, bytes: &[u8]) -> bool {
+    matches!(&reply, Reply::Got(got) if got.as_slice() == bytes)
 }

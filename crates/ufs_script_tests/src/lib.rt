@@ -2,4 +2,10 @@
 #![tactic(auto)]
 
 #[cfg(test)]
+mod asserts;
+#[cfg(test)]
+mod lines;
+#[cfg(test)]
+mod requests;
+#[cfg(test)]
 mod scripts;

@@ -1,4 +1,0 @@
-use Rattle.ufs_file_tests.proofs.rows.the_greatest_file.Goals as goal
-
-pub applied-done-requires-clause-apart : goal.applied-done-requires-clause-apart
-applied-done-requires-clause-apart g c = c.in_ok-file.ensures.apart c.in_ok-pool.pool
