@@ -1,9 +1,11 @@
 ghost use Rattle.std.specs.Prelude.{◌≡◌, true};
 ghost use Rattle.std.specs.FinSet as set;
 
+use crate::asserts::same;
 use crate::drawn;
 use std::alloc::Global;
-use std::test::Fail;
+use std::process::Abort;
+use ufs_base::Memory;
 use ufs_links::{Links, Which};
 
 // A number of a list that is far from 1 and in its bucket, where there are three buckets.
@@ -26,21 +28,17 @@ fn turned(links: &mut Links, which: Which, list: u32, node: u32, front: bool)
     }
 }
 
-// The nodes of the list, from its front on.
-fn nodes_of(alloc: Global, links: &Links, which: Which, list: u32) -> Result<Vec<u32>, Fail> {
-    let mut nodes = Vec::new(alloc);
+// Asserts which nodes the list has, from its front on.
+fn has_nodes<R: Abort>(rt: &R, links: &Links, which: Which, list: u32, wanted: &[u32]) {
     let mut at = links.front(which, list);
-    for _turn in 0..9 {
-        let Some(node) = at else {
-            return Ok(nodes);
-        };
-        nodes.push(node)?;
-        at = match links.list_of(which, node) {
-            Some(_) => links.next(which, node),
+    for node in wanted {
+        same(rt, at, Some(*node));
+        at = match links.list_of(which, *node) {
+            Some(_) => links.next(which, *node),
             None => None,
         };
     }
-    Ok(nodes)
+    same(rt, at, None);
 }
 
 // Nodes that are given out.
@@ -56,7 +54,7 @@ struct Three {
 }
 
 impl Three {
-    fn make(alloc: Global) -> Result<Three, Fail> {
+    fn make(alloc: Global) -> Result<Three, Memory> {
         let mut links = Links::new(alloc);
         links.reserve(3)?;
         let a = links.fresh();
@@ -85,111 +83,96 @@ impl Three {
 }
 
 #[test]
-fn a_node_is_on_a_list_of_each_kind(rt: HostRuntime) -> Result<(), Fail> {
-    let alloc = rt.alloc();
-    let mut three = Three::make(alloc)?;
+fn a_node_is_on_a_list_of_each_kind(rt: HostRuntime) {
+    let mut three = Three::make(rt.alloc()).expect(&rt, "memory");
     let a = three.turned(0, Which::First, FAR, false);
     let b = three.turned(1, Which::First, FAR, true);
     let _ = three.turned(0, Which::Second, 0, true);
     let _ = three.turned(1, Which::Second, 0, false);
-    let links = &three.links;
-    assert!(rt; nodes_of(alloc, links, Which::First, 1)?.is_empty());
-    assert_eq!(rt;
-        nodes_of(alloc, links, Which::First, FAR)?.as_slice(),
-        [b, a].as_slice()
-    );
-    assert_eq!(rt;
-        nodes_of(alloc, links, Which::Second, 0)?.as_slice(),
-        [a, b].as_slice()
-    );
+    has_nodes(&rt, &three.links, Which::First, 1, &[]);
+    has_nodes(&rt, &three.links, Which::First, FAR, &[b, a]);
+    has_nodes(&rt, &three.links, Which::Second, 0, &[a, b]);
     let _ = three.turned(1, Which::First, FAR, true);
-    let links = &three.links;
-    assert_eq!(rt;
-        nodes_of(alloc, links, Which::First, FAR)?.as_slice(),
-        [a].as_slice()
-    );
-    assert_eq!(rt; links.list_of(Which::First, a), Some(FAR));
-    assert_eq!(rt; links.list_of(Which::First, b), None);
-    assert_eq!(rt; links.list_of(Which::Second, b), Some(0));
-    Ok(())
+    has_nodes(&rt, &three.links, Which::First, FAR, &[a]);
+    same(&rt, three.links.list_of(Which::First, a), Some(FAR));
+    same(&rt, three.links.list_of(Which::First, b), None);
+    same(&rt, three.links.list_of(Which::Second, b), Some(0));
 }
 
 #[test]
-fn a_released_node_is_given_out_again(rt: HostRuntime) -> Result<(), Fail> {
+fn a_released_node_is_given_out_again(rt: HostRuntime) {
     let mut links = Links::new(rt.alloc());
-    links.reserve(1)?;
+    links.reserve(1).expect(&rt, "memory");
     let node = links.fresh();
     links.release(node);
-    assert_eq!(rt; links.fresh(), node);
-    Ok(())
+    same(&rt, links.fresh(), node);
+}
+
+// Two lists of numbers that stand for the lists of the walk.
+#[derive(Drop)]
+struct Plain {
+    first: Vec<u32>,
+    second: Vec<u32>,
+}
+
+impl Plain {
+    fn turn<R: Abort>(&mut self, rt: &R, is_first: bool, node: u32, front: bool) {
+        let on = self.first.contains(&node) || self.second.contains(&node);
+        self.first.retain(|n| *n != node);
+        self.second.retain(|n| *n != node);
+        if !on {
+            let nodes = if is_first {
+                &mut self.first
+            } else {
+                &mut self.second
+            };
+            let at = if front { 0 } else { nodes.len() };
+            nodes.insert(at, node).expect(rt, "memory");
+        }
+    }
+}
+
+// Turns a node on both, as the number has it, and asserts that they agree.
+fn turns_alike<R: Abort>(rt: &R, three: &mut Three, plain: &mut Plain, seed: u32) {
+    let is_first = seed / 1_048_576 % 2 == 0;
+    let front = seed / 4_194_304 % 2 == 0;
+    let list = if is_first { 1 } else { FAR };
+    let node = three.turned(seed / 65_536, Which::Second, list, front);
+    plain.turn(rt, is_first, node, front);
+    has_nodes(rt, &three.links, Which::Second, 1, plain.first.as_slice());
+    has_nodes(
+        rt,
+        &three.links,
+        Which::Second,
+        FAR,
+        plain.second.as_slice(),
+    );
 }
 
 // A walk of three nodes on and off two lists, beside plain lists.
 #[test]
-fn a_walk_agrees_with_plain_lists(rt: HostRuntime) -> Result<(), Fail> {
+fn a_walk_agrees_with_plain_lists(rt: HostRuntime) {
     let alloc = rt.alloc();
-    let mut three = Three::make(alloc)?;
-    let mut plain: Vec<Vec<u32>> = Vec::new(alloc);
-    plain.push(Vec::new(alloc))?;
-    plain.push(Vec::new(alloc))?;
+    let mut three = Three::make(alloc).expect(&rt, "memory");
+    let mut plain = Plain {
+        first: Vec::new(alloc),
+        second: Vec::new(alloc),
+    };
     let mut seed = 3;
     for _turn in 0..200 {
         seed = drawn(seed);
-        let list = seed / 1_048_576 % 2;
-        let front = seed / 4_194_304 % 2 == 0;
-        let node = three.turned(seed / 65_536, Which::Second, number(list), front);
-        turn(&mut plain, list as usize, node, front)?;
-        for l in 0..2 {
-            let found = nodes_of(alloc, &three.links, Which::Second, number(l))?;
-            assert!(rt;
-                plain
-                    .get(l as usize)
-                    .is_some_and(|nodes| nodes.as_slice() == found.as_slice())
-            );
-        }
+        turns_alike(&rt, &mut three, &mut plain, seed);
     }
-    Ok(())
-}
-
-// The number of the first list of the walk, or of the second.
-fn number(list: u32) -> u32 {
-    if list == 0 { 1 } else { FAR }
-}
-
-fn turn(plain: &mut Vec<Vec<u32>>, list: usize, node: u32, front: bool) -> Result<(), Fail> {
-    let mut on = false;
-    for nodes in plain.iter_mut() {
-        on = on || nodes.contains(&node);
-        nodes.retain(|n| *n != node);
-    }
-    if !on && list < plain.len() {
-        let nodes = &mut plain[list];
-        if front {
-            nodes.insert(0, node)?;
-        } else {
-            nodes.push(node)?;
-        }
-    }
-    Ok(())
 }
 
 // Places for more nodes come while lists stand.
 #[test]
-fn lists_stand_while_places_are_added(rt: HostRuntime) -> Result<(), Fail> {
-    let alloc = rt.alloc();
-    let mut three = Three::make(alloc)?;
+fn lists_stand_while_places_are_added(rt: HostRuntime) {
+    let mut three = Three::make(rt.alloc()).expect(&rt, "memory");
     let a = three.turned(0, Which::First, FAR, true);
     let b = three.turned(1, Which::First, 1, true);
-    three.links.reserve(40)?;
+    three.links.reserve(40).expect(&rt, "memory");
     let c = three.turned(2, Which::First, FAR, false);
-    let links = &three.links;
-    assert_eq!(rt;
-        nodes_of(alloc, links, Which::First, FAR)?.as_slice(),
-        [a, c].as_slice()
-    );
-    assert_eq!(rt;
-        nodes_of(alloc, links, Which::First, 1)?.as_slice(),
-        [b].as_slice()
-    );
-    Ok(())
+    has_nodes(&rt, &three.links, Which::First, FAR, &[a, c]);
+    has_nodes(&rt, &three.links, Which::First, 1, &[b]);
 }

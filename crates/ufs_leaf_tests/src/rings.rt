@@ -1,6 +1,7 @@
+use crate::asserts::{holds, same};
 use crate::drawn;
+use std::process::Abort;
 use std::sync::Wait;
-use std::test::Fail;
 use std::thread;
 use std::thread::join;
 use ufs_ring::{PlainRing, Ring, RuledRing, SharedRing, shared_ring};
@@ -8,53 +9,65 @@ use ufs_ring::{PlainRing, Ring, RuledRing, SharedRing, shared_ring};
 // How many items go from one thread to the other.
 const SENT: u32 = 500;
 
-#[test]
-fn a_full_ring_gives_the_item_back(rt: HostRuntime) -> Result<(), Fail> {
-    let mut ring = PlainRing::make(rt.alloc(), 1)?;
-    assert_eq!(rt; ring.take(), None);
-    assert_eq!(rt; ring.put(1), Ok(()));
-    assert_eq!(rt; ring.put(2), Err(2));
-    assert_eq!(rt; ring.take(), Some(1));
-    assert_eq!(rt; ring.take(), None);
+// Asserts that a new ring of one item gives the second back.
+fn gives_the_second_back<R: Abort, G: Ring<u32>>(rt: &R, ring: &mut G) {
+    same(rt, ring.take(), None);
+    same(rt, ring.put(1), Ok(()));
+    same(rt, ring.put(2), Err(2));
+    same(rt, ring.take(), Some(1));
+    same(rt, ring.take(), None);
+}
 
-    let queue = shared_ring(rt.alloc(), 1)?;
+#[test]
+fn a_full_ring_gives_the_item_back(rt: HostRuntime) {
+    let mut ring = PlainRing::make(rt.alloc(), 1).expect(&rt, "memory");
+    gives_the_second_back(&rt, &mut ring);
+    let queue = shared_ring(rt.alloc(), 1).expect(&rt, "memory");
     let mut end = RuledRing::new(&rt, &queue);
-    assert_eq!(rt; end.take(), None);
-    assert_eq!(rt; end.put(1), Ok(()));
-    assert_eq!(rt; end.put(2), Err(2));
-    assert_eq!(rt; end.take(), Some(1));
-    Ok(())
+    gives_the_second_back(&rt, &mut end);
+}
+
+// Puts the item in both, where the list has less than five, or takes one from both; asserts that they agree.
+fn turns_alike<R: Abort>(
+    rt: &R,
+    ring: &mut PlainRing<u32>,
+    list: &mut Vec<u32>,
+    item: u32,
+    is_put: bool,
+) {
+    if is_put {
+        let full = list.len() == 5;
+        same(rt, ring.put(item).is_err(), full);
+        if !full {
+            list.push(item).expect(rt, "memory");
+        }
+    } else {
+        let first = if list.is_empty() {
+            None
+        } else {
+            Some(list.remove(0))
+        };
+        same(rt, ring.take(), first);
+    }
 }
 
 // A walk of puts and takes beside a plain list of at most five.
 #[test]
-fn a_walk_agrees_with_a_plain_list(rt: HostRuntime) -> Result<(), Fail> {
-    let mut ring = PlainRing::make(rt.alloc(), 5)?;
+fn a_walk_agrees_with_a_plain_list(rt: HostRuntime) {
+    let mut ring = PlainRing::make(rt.alloc(), 5).expect(&rt, "memory");
     let mut list: Vec<u32> = Vec::new(rt.alloc());
     let mut seed = 7;
     for turn in 0..300u32 {
         seed = drawn(seed);
-        if seed / 65_536 % 5 < 3 {
-            let full = list.len() == 5;
-            assert_eq!(rt; ring.put(turn).is_err(), full);
-            if !full {
-                list.push(turn)?;
-            }
-        } else if list.is_empty() {
-            assert_eq!(rt; ring.take(), None);
-        } else {
-            assert_eq!(rt; ring.take(), Some(list.remove(0)));
-        }
+        turns_alike(&rt, &mut ring, &mut list, turn, seed / 65_536 % 5 < 3);
     }
-    Ok(())
 }
 
 #[test]
-fn items_pass_between_threads_in_order(rt: HostRuntime) -> Result<(), Fail> {
-    let queue = shared_ring(rt.alloc(), 4)?;
+fn items_pass_between_threads_in_order(rt: HostRuntime) {
+    let queue = shared_ring(rt.alloc(), 4).expect(&rt, "memory");
     let ((), in_order) = join(&rt, || send(&rt, &queue), || receive(&rt, &queue));
-    assert!(rt; in_order);
-    Ok(())
+    holds(&rt, in_order);
 }
 
 fn send(rt: &impl Wait, queue: &SharedRing<u32>) {
