@@ -1,4 +1,4 @@
-use std::test::Fail;
+use crate::asserts::same;
 use ufs_base::Memory;
 use ufs_extent::{Extents, Full56, Run, Runs};
 
@@ -18,10 +18,10 @@ const FILE: [Run; 3] = [
 ];
 
 #[test]
-fn a_run_that_follows_is_joined(rt: HostRuntime) -> Result<(), Fail> {
-    let mut extents = Extents::make(rt.alloc())?;
+fn a_run_that_follows_is_joined(rt: HostRuntime) {
+    let mut extents = Extents::make(rt.alloc()).expect(&rt, "memory");
     for (start, length) in [(14, 1), (15, 1), (14, 2), (2, 3)] {
-        assert_eq!(rt; extents.append(Run { start, length }), Ok(()));
+        same(&rt, extents.append(Run { start, length }), Ok(()));
     }
     let want = [
         Run {
@@ -37,28 +37,26 @@ fn a_run_that_follows_is_joined(rt: HostRuntime) -> Result<(), Fail> {
             length: 3,
         },
     ];
-    assert_eq!(rt; extents.as_slice(), want.as_slice());
-    assert_eq!(rt; extents.count_with(&FILE), 6);
-    Ok(())
+    same(&rt, extents.as_slice(), want.as_slice());
+    same(&rt, extents.count_with(&FILE), 6);
 }
 
 #[test]
-fn blocks_and_extents_by_place(rt: HostRuntime) -> Result<(), Fail> {
-    let extents = Extents::from_runs(rt.alloc(), &FILE)?;
-    assert_eq!(rt; extents.block_count(), 6);
+fn blocks_and_extents_by_place(rt: HostRuntime) {
+    let extents = Extents::from_runs(rt.alloc(), &FILE).expect(&rt, "memory");
+    same(&rt, extents.block_count(), 6);
     for (place, block) in [(0, 40), (1, 41), (2, 7), (3, 100), (5, 102)] {
-        assert_eq!(rt; extents.block_of(place), Some(block), "at {place}");
+        same(&rt, extents.block_of(place), Some(block));
     }
-    assert_eq!(rt; extents.block_of(6), None);
-    assert_eq!(rt; extents.run_at(2), Some(FILE[2]));
-    assert_eq!(rt; extents.run_at(3), None);
-    Ok(())
+    same(&rt, extents.block_of(6), None);
+    same(&rt, extents.run_at(2), Some(FILE[2]));
+    same(&rt, extents.run_at(3), None);
 }
 
 #[test]
-fn a_cut_splits_a_run(rt: HostRuntime) -> Result<(), Fail> {
-    let mut extents = Extents::from_runs(rt.alloc(), &FILE)?;
-    let rest = extents.cut(4)?;
+fn a_cut_splits_a_run(rt: HostRuntime) {
+    let mut extents = Extents::from_runs(rt.alloc(), &FILE).expect(&rt, "memory");
+    let rest = extents.cut(4).expect(&rt, "memory");
     let kept = [
         FILE[0],
         FILE[1],
@@ -71,43 +69,52 @@ fn a_cut_splits_a_run(rt: HostRuntime) -> Result<(), Fail> {
         start: 101,
         length: 2,
     }];
-    assert_eq!(rt; extents.as_slice(), kept.as_slice());
-    assert_eq!(rt; rest.as_slice(), given.as_slice());
-    assert_eq!(rt; extents.cut(4)?.as_slice().len(), 0);
-    assert_eq!(rt; extents.cut(0)?.as_slice(), kept.as_slice());
-    assert_eq!(rt; extents.block_count(), 0);
-    Ok(())
+    same(&rt, extents.as_slice(), kept.as_slice());
+    same(&rt, rest.as_slice(), given.as_slice());
+    same(
+        &rt,
+        extents.cut(4).expect(&rt, "memory").as_slice().len(),
+        0,
+    );
+    same(
+        &rt,
+        extents.cut(0).expect(&rt, "memory").as_slice(),
+        kept.as_slice(),
+    );
+    same(&rt, extents.block_count(), 0);
 }
 
 #[test]
-fn the_fifty_seventh_run_is_refused(rt: HostRuntime) -> Result<(), Fail> {
-    let mut extents = Extents::make(rt.alloc())?;
+fn the_fifty_seventh_run_is_refused(rt: HostRuntime) {
+    let mut extents = Extents::make(rt.alloc()).expect(&rt, "memory");
     for place in 0..56 {
-        assert_eq!(rt;
+        same(
+            &rt,
             extents.append(Run {
                 start: 2 * place,
-                length: 1
+                length: 1,
             }),
-            Ok(())
+            Ok(()),
         );
     }
-    assert_eq!(rt;
+    same(
+        &rt,
         extents.append(Run {
             start: 0,
-            length: 1
+            length: 1,
         }),
-        Err(Full56)
+        Err(Full56),
     );
-    assert_eq!(rt;
+    same(
+        &rt,
         extents.append(Run {
             start: 111,
-            length: 1
+            length: 1,
         }),
-        Ok(())
+        Ok(()),
     );
-    assert_eq!(rt; extents.as_slice().len(), 56);
-    assert_eq!(rt; extents.block_count(), 57);
-    Ok(())
+    same(&rt, extents.as_slice().len(), 56);
+    same(&rt, extents.block_count(), 57);
 }
 
 #[test]
@@ -125,12 +132,11 @@ fn a_run_has_a_block_below_65536(rt: HostRuntime) {
 }
 
 #[test]
-fn a_list_of_runs(rt: HostRuntime) -> Result<(), Memory> {
+fn a_list_of_runs(rt: HostRuntime) {
     let mut runs = Runs::new(rt.alloc());
     for run in FILE {
-        runs.push(run)?;
+        runs.push(run).expect(&rt, "memory");
     }
     let runs = Runs::from_vec(runs.into_vec());
-    assert_eq!(rt; runs.as_slice(), FILE.as_slice());
-    Ok(())
+    same(&rt, runs.as_slice(), FILE.as_slice());
 }

@@ -4,8 +4,9 @@ ghost use Rattle.ufs_model.specs.History.{joined, tickets_of};
 ghost use Rattle.ufs_model.specs.PathEntries.{pairs_of};
 ghost use Rattle.ufs_model.specs.declared.data.PathNode.TheVariants as path_node;
 
-use std::alloc::Global;
-use std::test::Fail;
+use crate::asserts::{holds, same};
+use std::alloc::{AllocGlobal, Global};
+use std::process::Abort;
 use ufs_base::Memory;
 use ufs_model::{
     Actor, Bytes, Entry, EntryList, Errno, NameList, Op, PathEntry, PathNode, PathTree, Reply,
@@ -49,27 +50,25 @@ fn some_paths(alloc: Global) -> Result<Vec<PathEntry>, Memory>
 }
 
 #[test]
-fn the_root_alone_has_one_entry(rt: HostRuntime) -> Result<(), Fail> {
-    let paths = PathTree::root_alone(rt.alloc())?;
+fn the_root_alone_has_one_entry(rt: HostRuntime) {
+    let paths = PathTree::root_alone(rt.alloc()).expect(&rt, "memory");
     let entries = paths.into_vec();
-    assert_eq!(rt; entries.len(), 1);
-    assert_eq!(rt; entries[0].path.as_slice(), b"/".as_slice());
-    Ok(())
+    holds(&rt, entries.len() == 1);
+    same(&rt, entries[0].path.as_slice(), b"/".as_slice());
 }
 
 #[test]
-fn a_path_tree_gives_its_entries_back(rt: HostRuntime) -> Result<(), Fail> {
-    let entries = some_paths(rt.alloc())?;
-    assert!(rt; PathTree::are_rising(entries.as_slice()));
+fn a_path_tree_gives_its_entries_back(rt: HostRuntime) {
+    let entries = some_paths(rt.alloc()).expect(&rt, "memory");
+    holds(&rt, PathTree::are_rising(entries.as_slice()));
     let paths = PathTree::from_vec(entries);
-    assert_eq!(rt; paths.as_slice().len(), 4);
+    same(&rt, paths.as_slice().len(), 4);
     let back = paths.into_vec();
     let names = ["/", "/a", "/a/f", "/g"];
-    assert_eq!(rt; back.len(), names.len());
+    same(&rt, back.len(), names.len());
     for (entry, name) in back.iter().zip(names) {
-        assert_eq!(rt; entry.path.as_slice(), name.as_bytes());
+        same(&rt, entry.path.as_slice(), name.as_bytes());
     }
-    Ok(())
 }
 
 fn closed(ticket: u64, client: u8) -> Entry
@@ -85,20 +84,27 @@ fn closed(ticket: u64, client: u8) -> Entry
     }
 }
 
+fn some_bytes<R: Abort + AllocGlobal>(rt: &R, bytes: &[u8]) -> Bytes {
+    Bytes::from_vec(bytes.to_vec(rt.alloc()).expect(rt, "memory"))
+}
+
+fn names_of<R: Abort + AllocGlobal>(rt: &R, texts: &[&str]) -> NameList {
+    let mut names = Vec::new(rt.alloc());
+    for text in texts {
+        names
+            .push(some_bytes(rt, text.as_bytes()))
+            .expect(rt, "memory");
+    }
+    holds(rt, NameList::are_rising(names.as_slice()));
+    NameList::from_vec(names)
+}
+
 #[test]
-fn lists_take_what_they_are_given(rt: HostRuntime) -> Result<(), Fail> {
-    let alloc = rt.alloc();
-    let names = vec![in alloc;
-        Bytes::from_vec(b"a".to_vec(alloc)?),
-        Bytes::from_vec(b"b".to_vec(alloc)?),
-    ]?;
-    assert!(rt; NameList::are_rising(names.as_slice()));
-    let names = NameList::from_vec(names);
-    assert_eq!(rt; names.as_slice().len(), 2);
-    let mut history = EntryList::new(alloc);
-    history.push(closed(0, 1))?;
-    assert_eq!(rt; history.as_slice().len(), 1);
-    Ok(())
+fn lists_take_what_they_are_given(rt: HostRuntime) {
+    same(&rt, names_of(&rt, &["a", "b"]).as_slice().len(), 2);
+    let mut history = EntryList::new(rt.alloc());
+    history.push(closed(0, 1)).expect(&rt, "memory");
+    same(&rt, history.as_slice().len(), 1);
 }
 
 fn closes(alloc: Global, client: u8, tickets: &[u64]) -> Result<EntryList, Memory>
@@ -121,31 +127,29 @@ fn three_lists(alloc: Global) -> Result<Vec<EntryList>, Memory>
     Ok(lists)
 }
 
-#[test]
-fn three_lists_make_one_history(rt: HostRuntime) -> Result<(), Fail> {
-    let alloc = rt.alloc();
+fn merged(alloc: Global) -> Result<EntryList, Memory> {
     let lists = three_lists(alloc)?;
-    let merged = merge(alloc, &lists)?;
-    let entries = merged.as_slice();
-    assert_eq!(rt; entries.len(), 6);
-    for (entry, ticket) in entries.iter().zip([0, 1, 2, 3, 4, 5]) {
-        assert_eq!(rt; entry.ticket, ticket);
-    }
-    Ok(())
+    merge(alloc, &lists)
 }
 
 #[test]
-fn an_entry_is_copied(rt: HostRuntime) -> Result<(), Fail> {
-    let alloc = rt.alloc();
-    let names = vec![in alloc; Bytes::from_vec(b"a".to_vec(alloc)?)]?;
-    assert!(rt; NameList::are_rising(names.as_slice()));
-    let entry = Entry {
+fn three_lists_make_one_history(rt: HostRuntime) {
+    let merged = merged(rt.alloc()).expect(&rt, "memory");
+    let entries = merged.as_slice();
+    same(&rt, entries.len(), 6);
+    for (entry, ticket) in entries.iter().zip([0, 1, 2, 3, 4, 5]) {
+        same(&rt, entry.ticket, ticket);
+    }
+}
+
+fn opened<R: Abort + AllocGlobal>(rt: &R) -> Entry {
+    Entry {
         ticket: 0,
         client: 1,
         seq: 0,
         by: Actor::Primary,
         op: Op::OpenFile {
-            path: Bytes::from_vec(b"/f".to_vec(alloc)?),
+            path: some_bytes(rt, b"/f"),
             read: true,
             write: false,
             creat: false,
@@ -153,16 +157,32 @@ fn an_entry_is_copied(rt: HostRuntime) -> Result<(), Fail> {
             trunc: false,
             append: false,
         },
-        reply: Reply::Names(NameList::from_vec(names)),
-    };
-    let copy = entry.copy(alloc)?;
-    let Op::OpenFile { path, .. } = &copy.op else {
-        panic!(rt; "another request");
-    };
-    assert_eq!(rt; path.as_slice(), b"/f".as_slice());
-    let Reply::Names(names) = &copy.reply else {
-        panic!(rt; "another reply");
-    };
-    assert_eq!(rt; names.as_slice().len(), 1);
-    Ok(())
+        reply: Reply::Names(names_of(rt, &["a"])),
+    }
+}
+
+// Whether it opens `/f`.
+fn opens_f(op: &Op) -> bool {
+    match op {
+        Op::OpenFile { path, .. } => path.as_slice() == b"/f".as_slice(),
+        _ => false,
+    }
+}
+
+// How many names the reply has.
+fn count_of(reply: &Reply) -> Option<usize> {
+    match reply {
+        Reply::Names(names) => Some(names.as_slice().len()),
+        _ => None,
+    }
+}
+
+#[test]
+fn an_entry_is_copied(rt: HostRuntime) {
+    let entry = opened(&rt);
+    let copy = entry.copy(rt.alloc()).expect(&rt, "memory");
+    drop(entry);
+    holds(&rt, opens_f(&copy.op));
+    same(&rt, count_of(&copy.reply), Some(1));
+    drop(copy);
 }

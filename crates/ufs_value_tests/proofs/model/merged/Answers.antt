@@ -1,6 +1,6 @@
 use Rattle.std.proofs.Common.{◌∷◌, [], ℕ, List, nat_eq, refl, sym, subst}
 use Rattle.std.specs.List.{IsDistinct}
-use Rattle.ufs_value_tests.proofs.model.three_lists_make_one_history.Goals as goal
+use Rattle.ufs_value_tests.proofs.model.merged.Goals as goal
 
 some_tickets : IsDistinct nat_eq (0 ∷ 4 ∷ 5 ∷ 1 ∷ 3 ∷ 2 ∷ [])
 unfolding IsDistinct
@@ -13,4 +13,4 @@ some_tickets = (
 )
 
 pub merge-requires : goal.merge-requires
-merge-requires g c = record { once = subst (λ (l : List ℕ). IsDistinct nat_eq l) (sym c.in_ok-lists.ensures) some_tickets }
+merge-requires c = record { once = subst (λ (l : List ℕ). IsDistinct nat_eq l) (sym c.in_ok-lists.ensures) some_tickets }
