@@ -40,9 +40,10 @@ pub fn mounted<D: Disk + Drop>(alloc: Global, disk: D) -> Option<Store<D>>
     Store::mount(alloc, disk, SUPERBLOCK, free).ok()
 }
 
-/// A disk in memory of whose calls these fail.
-pub fn planned(alloc: Global, fails: Vec<u64>) -> Option<MemoryDisk> {
+/// A disk in memory of whose calls one fails.
+pub fn planned(alloc: Global, fails: u64) -> Option<MemoryDisk> {
     let bytes = vec![in alloc; 0; 1_048_576].ok()?;
+    let fails = vec![in alloc; fails].ok()?;
     MemoryDisk::new(alloc, SECTORS, bytes, fails).ok()
 }
 
