@@ -4,9 +4,9 @@ ghost use Rattle.std.specs.Prelude.{IfSome};
 ghost use Rattle.ufs_durable.specs.State.{state_of};
 ghost use Rattle.ufs_durable_tests.specs.Ready.{IsReady};
 
+use crate::asserts::{holds, same};
 use crate::session::{SECTORS, Session, started};
 use std::alloc::Global;
-use std::test::Fail;
 use ufs_disk::{Fuse, FuseDisk};
 use ufs_store::{Door, Store, StoreFault};
 
@@ -24,42 +24,30 @@ fn of_three(alloc: Global, passes: u64) -> Option<Session<FuseDisk>>
 }
 
 #[test]
-fn a_commit_makes_one_write_for_each_dirty_block(rt: HostRuntime) -> Result<(), Fail> {
-    let Some(mut s) = of_three(rt.alloc(), 10) else {
-        assert!(rt; false, "not started");
-        return Ok(());
-    };
-    assert!(rt; s.sync() == Ok(1));
+fn a_commit_makes_one_write_for_each_dirty_block(rt: HostRuntime) {
+    let mut s = of_three(rt.alloc(), 10).expect(&rt, "not started");
+    same(&rt, s.sync(), Ok(1));
     // Nothing was written since: no call is made.
-    assert!(rt; s.sync() == Ok(1));
-    assert!(rt; s.cut(9_999));
-    assert!(rt; s.sync() == Err(StoreFault::Device { fault: 1 }));
-    Ok(())
+    same(&rt, s.sync(), Ok(1));
+    holds(&rt, s.cut(9_999));
+    same(&rt, s.sync(), Err(StoreFault::Device { fault: 1 }));
 }
 
 #[test]
-fn the_last_call_of_a_commit_counts(rt: HostRuntime) -> Result<(), Fail> {
-    let Some(mut s) = of_three(rt.alloc(), 9) else {
-        assert!(rt; false, "not started");
-        return Ok(());
-    };
-    assert!(rt; s.sync() == Err(StoreFault::Device { fault: 1 }));
-    assert_eq!(rt; s.dirty_count(), 3);
-    Ok(())
+fn the_last_call_of_a_commit_counts(rt: HostRuntime) {
+    let mut s = of_three(rt.alloc(), 9).expect(&rt, "not started");
+    same(&rt, s.sync(), Err(StoreFault::Device { fault: 1 }));
+    same(&rt, s.dirty_count(), 3);
 }
 
 #[test]
-fn a_fault_between_the_writes_leaves_the_file(rt: HostRuntime) -> Result<(), Fail> {
-    let Some(mut s) = of_three(rt.alloc(), 3) else {
-        assert!(rt; false, "not started");
-        return Ok(());
-    };
-    assert!(rt; s.sync() == Err(StoreFault::Device { fault: 1 }));
-    assert_eq!(rt; s.dirty_count(), 3);
-    assert!(rt; s.cut(1));
-    assert_eq!(rt; s.commits.dropped().as_slice().len(), 1);
-    assert!(rt; s.sync() == Err(StoreFault::Stopped { fault: 1 }));
-    assert_eq!(rt; s.commits.dropped().as_slice().len(), 1);
-    assert_eq!(rt; s.dirty_count(), 1);
-    Ok(())
+fn a_fault_between_the_writes_leaves_the_file(rt: HostRuntime) {
+    let mut s = of_three(rt.alloc(), 3).expect(&rt, "not started");
+    same(&rt, s.sync(), Err(StoreFault::Device { fault: 1 }));
+    same(&rt, s.dirty_count(), 3);
+    holds(&rt, s.cut(1));
+    same(&rt, s.commits.dropped().as_slice().len(), 1);
+    same(&rt, s.sync(), Err(StoreFault::Stopped { fault: 1 }));
+    same(&rt, s.commits.dropped().as_slice().len(), 1);
+    same(&rt, s.dirty_count(), 1);
 }

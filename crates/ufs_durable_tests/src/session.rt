@@ -11,9 +11,9 @@ use ufs_base::{BLOCK, Memory};
 use ufs_bitmap::{Bitmap, Pool};
 use ufs_disk::Disk;
 use ufs_durable::{FileCommits, apply, fsync};
-use ufs_file::FileHand;
+use ufs_file::{Applied, FileHand};
 use ufs_layout::Super;
-use ufs_model::{Actor, Ask, Bytes, Desc, Op, Reply};
+use ufs_model::{Actor, Ask, Bytes, Desc, Entry, Op, Reply};
 use ufs_store::{Door, Store, StoreFault};
 
 pub const SECTORS: u32 = 2_048;
@@ -116,7 +116,10 @@ impl<D: Disk> Session<D> {
             0,
             &mut self.pool,
         );
-        applied.entry.reply
+        let Applied { entry, .. } = applied;
+        let Entry { op, reply, .. } = entry;
+        drop(op);
+        reply
     }
 
     /// Writes so many bytes that are all alike at the file's start, and answers whether they were.
