@@ -1,10 +1,11 @@
-ghost use Rattle.std.specs.Prelude.{◌≡◌, ◌≤◌, ℕ, IsTrue};
+ghost use Rattle.std.specs.Prelude.{◌≡◌, ◌≤◌, ◌<◌, ℕ, IsTrue};
+ghost use Rattle.std.proofs.Props.{props};
 ghost use Rattle.ufs_dir_tree.specs.DirTable.{slots_at};
 ghost use Rattle.ufs_dir_tree.specs.DirCalls.{IsApart, IsBare};
 ghost use Rattle.ufs_dir_tree.specs.declared.found.Found.TheVariants.{Dir};
 
+use crate::asserts::{holds, same};
 use std::alloc::Global;
-use std::test::Fail;
 use ufs_base::Memory;
 use ufs_bitmap::Pool;
 use ufs_dir_tree::{DirTree, Found, Kind};
@@ -142,91 +143,110 @@ fn look(tree: &DirTree, alloc: Global, path: &[u8]) -> Option<Found> {
     }
 }
 
-#[test]
-fn inodes_and_blocks_are_the_lowest(rt: HostRuntime) -> Result<(), Fail> {
-    let alloc = rt.alloc();
-    let mut pool = pool_of(alloc, 2, 1)?;
-    let mut tree = DirTree::new(alloc, 4)?;
-    assert_eq!(rt; add(&mut tree, &mut pool, alloc, b"/a", Kind::Dir), 2);
-    assert_eq!(rt; add(&mut tree, &mut pool, alloc, b"/b", Kind::File), 3);
-    assert_eq!(rt; add(&mut tree, &mut pool, alloc, b"/a/c", Kind::File), 4);
-    assert_eq!(rt; only_block(&tree, 1), 14);
-    assert_eq!(rt; only_block(&tree, 2), 15);
-    assert_eq!(rt; pool.count(), 0);
-    assert_eq!(rt;
-        add(&mut tree, &mut pool, alloc, b"/d", Kind::File),
-        NO_INODE
-    );
-    assert_eq!(rt;
-        drop_path(&mut tree, &mut pool, alloc, b"/b"),
-        Some(Found::File { inode: 3 })
-    );
-    assert_eq!(rt; add(&mut tree, &mut pool, alloc, b"/d", Kind::Dir), 3);
-    assert_eq!(rt; drop_path(&mut tree, &mut pool, alloc, b"/a"), None);
-    assert_eq!(rt;
-        drop_path(&mut tree, &mut pool, alloc, b"/a/c"),
-        Some(Found::File { inode: 4 })
-    );
-    // The directory has no name any more, and keeps its block.
-    assert_eq!(rt;
-        add(&mut tree, &mut pool, alloc, b"/d/e", Kind::File),
-        NO_BLOCK
-    );
-    assert_eq!(rt;
-        drop_path(&mut tree, &mut pool, alloc, b"/a"),
-        Some(Found::Dir { inode: 2 })
-    );
-    assert_eq!(rt; pool.count(), 1);
-    assert_eq!(rt; add(&mut tree, &mut pool, alloc, b"/d/e", Kind::File), 2);
-    assert_eq!(rt; only_block(&tree, 3), 15);
-    Ok(())
+// A tree, and a pool that has none of its blocks.
+#[derive(Drop)]
+struct Play {
+    alloc: Global,
+    tree: DirTree,
+    pool: Pool,
+    ghost apart: { IsApart tree pool } by { Prim.hlevel props },
 }
 
-#[test]
-fn a_name_moves_with_what_lies_below(rt: HostRuntime) -> Result<(), Fail> {
-    let alloc = rt.alloc();
-    let mut pool = pool_of(alloc, 9, 1)?;
-    let mut tree = DirTree::new(alloc, 9)?;
-    assert_eq!(rt; add(&mut tree, &mut pool, alloc, b"/d", Kind::Dir), 2);
-    assert_eq!(rt; add(&mut tree, &mut pool, alloc, b"/d/x", Kind::File), 3);
-    assert_eq!(rt; add(&mut tree, &mut pool, alloc, b"/d/e", Kind::File), 4);
-    assert_eq!(rt; tree.count(2), 2);
-    let (Ok(from), Ok(to)) = (read_path(alloc, b"/d"), read_path(alloc, b"/z")) else {
-        return Err("path".into());
-    };
-    assert!(rt; rename(&mut tree, &mut pool, &from, &to));
-    assert_eq!(rt; look(&tree, alloc, b"/z/e"), Some(Found::File { inode: 4 }));
-    assert_eq!(rt; look(&tree, alloc, b"/d"), None);
-    let names = tree.names(2)?;
-    assert_eq!(rt; names.as_slice().len(), 2);
-    Ok(())
-}
-
-// The names that came into the root, by three letters each, and what the next one came to.
-fn fill(tree: &mut DirTree, pool: &mut Pool, alloc: Global) -> (u32, u32)
-    requires { IsApart tree.old pool.old }
-{
-    for i in 0..4000 {
-        let path = [
-            b'/',
-            97 + (i / 676 % 26) as u8,
-            97 + (i / 26 % 26) as u8,
-            97 + (i % 26) as u8,
-        ];
-        let inode = add(tree, pool, alloc, &path, Kind::File);
-        if inode >= REFUSED {
-            return (i, inode);
-        }
+impl Play {
+    // The root alone, and so many blocks from 14 on, each so far from the one before it.
+    fn start(alloc: Global, inodes: u32, blocks: u32, step: u32) -> Result<Play, Memory>
+        requires some { 1 ≤ inodes }
+        requires few { inodes < 65536 }
+        requires blocks { blocks ≤ 100 }
+        requires step { step ≤ 100 }
+    {
+        let pool = pool_of(alloc, blocks, step)?;
+        let tree = DirTree::new(alloc, inodes)?;
+        Ok(Play { alloc, tree, pool })
     }
-    (4000, 0)
+
+    fn add_dir(&mut self, path: &[u8]) -> u32 {
+        add(&mut self.tree, &mut self.pool, self.alloc, path, Kind::Dir)
+    }
+
+    fn add_file(&mut self, path: &[u8]) -> u32 {
+        add(&mut self.tree, &mut self.pool, self.alloc, path, Kind::File)
+    }
+
+    fn drop_path(&mut self, path: &[u8]) -> Option<Found> {
+        drop_path(&mut self.tree, &mut self.pool, self.alloc, path)
+    }
+
+    // Whether a name of the root got another; none where a path is not read.
+    fn rename(&mut self, from: &[u8], to: &[u8]) -> Option<bool> {
+        let (Ok(from), Ok(to)) = (read_path(self.alloc, from), read_path(self.alloc, to)) else {
+            return None;
+        };
+        Some(rename(&mut self.tree, &mut self.pool, &from, &to))
+    }
+
+    fn look(&self, path: &[u8]) -> Option<Found> {
+        look(&self.tree, self.alloc, path)
+    }
+
+    // The names that came into the root, by three letters each, and what the next one came to.
+    fn fill(&mut self) -> (u32, u32) {
+        for i in 0..4000 {
+            let path = [
+                b'/',
+                97 + (i / 676 % 26) as u8,
+                97 + (i / 26 % 26) as u8,
+                97 + (i % 26) as u8,
+            ];
+            let inode = self.add_file(&path);
+            if inode >= REFUSED {
+                return (i, inode);
+            }
+        }
+        (4000, 0)
+    }
 }
 
 #[test]
-fn a_directory_lies_in_56_extents(rt: HostRuntime) -> Result<(), Fail> {
-    let alloc = rt.alloc();
-    let mut pool = pool_of(alloc, 60, 2)?;
-    let mut tree = DirTree::new(alloc, 4096)?;
-    assert_eq!(rt; fill(&mut tree, &mut pool, alloc), (3584, NO_EXTENT));
-    assert_eq!(rt; pool.count(), 4);
-    Ok(())
+fn inodes_and_blocks_are_the_lowest(rt: HostRuntime) {
+    let mut play = Play::start(rt.alloc(), 4, 2, 1).expect(&rt, "memory");
+    same(&rt, play.add_dir(b"/a"), 2);
+    same(&rt, play.add_file(b"/b"), 3);
+    same(&rt, play.add_file(b"/a/c"), 4);
+    same(&rt, only_block(&play.tree, 1), 14);
+    same(&rt, only_block(&play.tree, 2), 15);
+    same(&rt, play.pool.count(), 0);
+    same(&rt, play.add_file(b"/d"), NO_INODE);
+    same(&rt, play.drop_path(b"/b"), Some(Found::File { inode: 3 }));
+    same(&rt, play.add_dir(b"/d"), 3);
+    same(&rt, play.drop_path(b"/a"), None);
+    same(&rt, play.drop_path(b"/a/c"), Some(Found::File { inode: 4 }));
+    // The directory has no name any more, and keeps its block.
+    same(&rt, play.add_file(b"/d/e"), NO_BLOCK);
+    same(&rt, play.drop_path(b"/a"), Some(Found::Dir { inode: 2 }));
+    same(&rt, play.pool.count(), 1);
+    same(&rt, play.add_file(b"/d/e"), 2);
+    same(&rt, only_block(&play.tree, 3), 15);
+}
+
+#[test]
+fn a_name_moves_with_what_lies_below(rt: HostRuntime) {
+    let mut play = Play::start(rt.alloc(), 9, 9, 1).expect(&rt, "memory");
+    same(&rt, play.add_dir(b"/d"), 2);
+    same(&rt, play.add_file(b"/d/x"), 3);
+    same(&rt, play.add_file(b"/d/e"), 4);
+    same(&rt, play.tree.count(2), 2);
+    let renamed = play.rename(b"/d", b"/z").expect(&rt, "path");
+    holds(&rt, renamed);
+    same(&rt, play.look(b"/z/e"), Some(Found::File { inode: 4 }));
+    same(&rt, play.look(b"/d"), None);
+    let names = play.tree.names(2).expect(&rt, "memory");
+    same(&rt, names.as_slice().len(), 2);
+}
+
+#[test]
+fn a_directory_lies_in_56_extents(rt: HostRuntime) {
+    let mut play = Play::start(rt.alloc(), 4096, 60, 2).expect(&rt, "memory");
+    same(&rt, play.fill(), (3584, NO_EXTENT));
+    same(&rt, play.pool.count(), 4);
 }

@@ -1,12 +1,13 @@
 // What no clause says: that calls succeed, and that the definitions mean what people mean.
-ghost use Rattle.std.specs.Prelude.{◌≡◌, IfOk};
+ghost use Rattle.std.specs.Prelude.{◌≡◌};
 
+use crate::asserts::{holds, same};
 use crate::torn::TornDisk;
-use std::alloc::Global;
+use std::alloc::AllocGlobal;
+use std::fs::{File, Files};
 use std::process::Abort;
-use std::test::Fail;
 use ufs_base::SECTOR;
-use ufs_disk::{Disk, FILE_SECTORS, FileDisk, Fuse, FuseDisk, MemoryDisk, PlainDisk};
+use ufs_disk::{Disk, FILE_SECTORS, Fault, FileDisk, Fuse, FuseDisk, MemoryDisk, PlainDisk};
 
 // A step on a disk of three sectors: a sector filled with a byte, or a barrier.
 #[derive(Clone, Copy)]
@@ -61,7 +62,8 @@ fn sent<T: Send>(disk: T) -> T {
 fn take<R: Abort, D: Disk>(rt: &R, disk: &mut D, step: Step) -> bool {
     match step {
         Fill(sector, byte) => {
-            assert!(rt; sector < 3 && disk.sectors() == 3);
+            holds(rt, sector < 3);
+            holds(rt, disk.sectors() == 3);
             disk.write(sector, &[byte; SECTOR]).is_ok()
         }
         Barrier => disk.barrier().is_ok(),
@@ -78,62 +80,100 @@ fn is_filled(image: &[u8], bytes: [u8; 3]) -> bool {
     image.len() == 3 * SECTOR
 }
 
-fn memory(alloc: Global, fails: &[u64]) -> Result<MemoryDisk, std::alloc::AllocError>
-    ensures { IfOk result (λ disk. disk.medium.sectors ≡ 3) }
+// Asserts that each sector is filled with its byte, and tells the row where it isn't.
+fn filled(rt: &impl Abort, image: &[u8], bytes: [u8; 3], row: &str, number: u64) {
+    assert!(rt; is_filled(image, bytes), "{row} {number}");
+}
+
+fn memory<R: Abort + AllocGlobal>(rt: &R, fails: &[u64]) -> MemoryDisk
+    ensures { result.medium.sectors ≡ 3 }
 {
-    let zeros = vec![in alloc; 0u8; 3 * SECTOR]?;
-    MemoryDisk::new(alloc, 3, zeros, fails.to_vec(alloc)?)
+    let zeros = vec![in rt.alloc(); 0u8; 3 * SECTOR].expect(rt, "memory");
+    let fails = fails.to_vec(rt.alloc()).expect(rt, "memory");
+    MemoryDisk::new(rt.alloc(), 3, zeros, fails).expect(rt, "memory")
+}
+
+// A disk on which the steps were taken.
+fn played<R: Abort + AllocGlobal>(rt: &R, steps: &[Step], fails: &[u64]) -> MemoryDisk {
+    let mut disk = memory(rt, fails);
+    for (number, step) in steps.iter().enumerate() {
+        let passed = take(rt, &mut disk, *step);
+        same(rt, passed, !fails.contains(&(number as u64)));
+    }
+    disk
+}
+
+fn crashes<R: Abort + AllocGlobal>(
+    rt: &R,
+    steps: &[Step],
+    fails: &[u64],
+    pick: u64,
+    bytes: [u8; 3],
+) {
+    let disk = played(rt, steps, fails);
+    let image = disk.crash(pick).expect(rt, "memory");
+    filled(rt, image.as_slice(), bytes, "pick", pick);
 }
 
 #[test]
-fn a_crash_takes_one_content_for_each_sector(rt: HostRuntime) -> Result<(), Fail> {
+fn a_crash_takes_one_content_for_each_sector(rt: HostRuntime) {
     for (steps, fails, images) in &CRASHES {
         for (pick, bytes) in *images {
-            let mut disk = memory(rt.alloc(), fails)?;
-            for (number, step) in steps.iter().enumerate() {
-                let passed = take(&rt, &mut disk, *step);
-                assert_eq!(rt; passed, !fails.contains(&(number as u64)));
-            }
-            let image = disk.crash(*pick)?;
-            assert!(rt; is_filled(image.as_slice(), *bytes), "pick {pick}");
+            crashes(&rt, steps, fails, *pick, *bytes);
         }
     }
-    Ok(())
 }
 
-// A write, a read and a barrier of one sector, and whether each passed.
-fn calls<R: Abort, D: Disk>(rt: &R, disk: &mut D) -> [Option<u64>; 3] {
-    assert!(rt; disk.sectors() > 0);
-    let mut buf = [0; SECTOR];
-    let write = disk.write(0, &[7; SECTOR]);
-    let read = disk.read(0, &mut buf);
-    let barrier = disk.barrier();
-    [
-        write.err().map(|fault| fault.number),
-        read.err().map(|fault| fault.number),
-        barrier.err().map(|fault| fault.number),
-    ]
-}
-
-#[test]
-fn each_numbered_call_fails(rt: HostRuntime) -> Result<(), Fail> {
-    let rows: [(&[u64], [Option<u64>; 3]); 5] = [
-        (&[], [None, None, None]),
-        (&[0], [Some(1), None, None]),
-        (&[1], [None, Some(1), None]),
-        (&[2], [None, None, Some(1)]),
-        (&[2, 0], [Some(1), None, Some(2)]),
-    ];
-    for (fails, want) in &rows {
-        let mut disk = sent(memory(rt.alloc(), fails)?);
-        assert_eq!(rt; calls(&rt, &mut disk), *want);
-        assert_eq!(rt; disk.medium.calls.len(), 3);
+fn number(outcome: Result<(), Fault>) -> Option<u64> {
+    match outcome {
+        Ok(()) => None,
+        Err(fault) => Some(fault.number),
     }
-    Ok(())
+}
+
+// A write, a read and a barrier of one sector, and the number of each one's fault.
+fn calls<R: Abort, D: Disk>(rt: &R, disk: &mut D) -> [Option<u64>; 3] {
+    holds(rt, disk.sectors() > 0);
+    let mut buf = [0; SECTOR];
+    let write = number(disk.write(0, &[7; SECTOR]));
+    let read = number(disk.read(0, &mut buf));
+    let barrier = number(disk.barrier());
+    [write, read, barrier]
+}
+
+fn fails_at<R: Abort + AllocGlobal>(rt: &R, fails: &[u64], want: [Option<u64>; 3]) {
+    let mut disk = sent(memory(rt, fails));
+    same(rt, calls(rt, &mut disk), want);
+    same(rt, disk.medium.calls.len(), 3);
+}
+
+// The numbers of the calls that fail, and the faults.
+const NUMBERED: [(&[u64], [Option<u64>; 3]); 5] = [
+    (&[], [None, None, None]),
+    (&[0], [Some(1), None, None]),
+    (&[1], [None, Some(1), None]),
+    (&[2], [None, None, Some(1)]),
+    (&[2, 0], [Some(1), None, Some(2)]),
+];
+
+#[test]
+fn each_numbered_call_fails(rt: HostRuntime) {
+    for (fails, want) in &NUMBERED {
+        fails_at(&rt, fails, *want);
+    }
+}
+
+fn fuse_ends<R: Abort + AllocGlobal>(rt: &R, passes: u64, want: [Option<u64>; 3], left: u8) {
+    let zeros = vec![in rt.alloc(); 0u8; 3 * SECTOR].expect(rt, "memory");
+    let disk = FuseDisk::new(rt.alloc(), 3, zeros, Fuse { passes }).expect(rt, "memory");
+    let mut disk = sent(disk);
+    same(rt, calls(rt, &mut disk), want);
+    let image = disk.crash(0).expect(rt, "memory");
+    filled(rt, image.as_slice(), [left, 0, 0], "after", passes);
 }
 
 #[test]
-fn a_fuse_fails_every_call_from_its_end_on(rt: HostRuntime) -> Result<(), Fail> {
+fn a_fuse_fails_every_call_from_its_end_on(rt: HostRuntime) {
     let rows: [(u64, [Option<u64>; 3], u8); 4] = [
         (0, [Some(1), Some(2), Some(3)], 0),
         (1, [None, Some(1), Some(2)], 0),
@@ -141,56 +181,53 @@ fn a_fuse_fails_every_call_from_its_end_on(rt: HostRuntime) -> Result<(), Fail> 
         (3, [None, None, None], 7),
     ];
     for (passes, want, left) in rows {
-        let zeros = vec![in rt.alloc(); 0u8; 3 * SECTOR]?;
-        let mut disk = sent(FuseDisk::new(rt.alloc(), 3, zeros, Fuse { passes })?);
-        assert_eq!(rt; calls(&rt, &mut disk), want);
-        assert!(rt;
-            is_filled(disk.crash(0)?.as_slice(), [left, 0, 0]),
-            "after {passes}"
-        );
+        fuse_ends(&rt, passes, want, left);
     }
-    Ok(())
-}
-
-// Writes a sector of nines and reads it back.
-fn keeps_nines<R: Abort, D: Disk>(rt: &R, disk: &mut D, sector: u32) -> bool {
-    assert!(rt; sector < disk.sectors());
-    let mut buf = [1; SECTOR];
-    disk.write(sector, &[9; SECTOR]).is_ok()
-        && disk.read(sector, &mut buf).is_ok()
-        && is_all(&buf, 9)
 }
 
 fn is_all(bytes: &[u8], byte: u8) -> bool {
     bytes.iter().all(|b| *b == byte)
 }
 
-fn reads<R: Abort, D: Disk>(rt: &R, disk: &mut D, sector: u32, byte: u8) -> bool {
-    assert!(rt; sector < disk.sectors());
+fn reads<R: Abort, D: Disk>(rt: &R, disk: &mut D, sector: u32, byte: u8) {
+    holds(rt, sector < disk.sectors());
     let mut buf = [1; SECTOR];
-    disk.read(sector, &mut buf).is_ok() && is_all(&buf, byte)
+    holds(rt, disk.read(sector, &mut buf).is_ok());
+    holds(rt, is_all(&buf, byte));
+}
+
+// Writes a sector of nines and reads it back.
+fn keeps_nines<R: Abort, D: Disk>(rt: &R, disk: &mut D, sector: u32) {
+    holds(rt, sector < disk.sectors());
+    holds(rt, disk.write(sector, &[9; SECTOR]).is_ok());
+    reads(rt, disk, sector, 9);
 }
 
 #[test]
-fn a_failed_write_may_have_written(rt: HostRuntime) -> Result<(), Fail> {
+fn a_failed_write_may_have_written(rt: HostRuntime) {
     let mut disk = TornDisk {
-        disk: PlainDisk::zeros(rt.alloc(), 3)?,
+        disk: PlainDisk::zeros(rt.alloc(), 3).expect(&rt, "memory"),
         faults: 0,
     };
-    assert!(rt; disk.sectors() == 3 && disk.write(0, &[7; 2 * SECTOR]).is_err());
-    assert!(rt; reads(&rt, &mut disk, 0, 7) && reads(&rt, &mut disk, 1, 0));
-    Ok(())
+    holds(&rt, disk.sectors() == 3);
+    holds(&rt, disk.write(0, &[7; 2 * SECTOR]).is_err());
+    reads(&rt, &mut disk, 0, 7);
+    reads(&rt, &mut disk, 1, 0);
+}
+
+fn has_threes<R: Abort + AllocGlobal>(rt: &R) {
+    let threes = vec![in rt.alloc(); 3u8; SECTOR].expect(rt, "memory");
+    let mut disk = sent(PlainDisk::new(1, threes));
+    reads(rt, &mut disk, 0, 3);
+    same(rt, calls(rt, &mut disk), [None, None, None]);
 }
 
 #[test]
-fn a_plain_disk_of_256_mebibytes_is_zeros(rt: HostRuntime) -> Result<(), Fail> {
-    let mut disk = PlainDisk::zeros(rt.alloc(), FILE_SECTORS)?;
-    assert!(rt; keeps_nines(&rt, &mut disk, FILE_SECTORS - 1));
-    assert!(rt; reads(&rt, &mut disk, FILE_SECTORS - 2, 0));
-    let mut one = sent(PlainDisk::new(1, vec![in rt.alloc(); 3u8; SECTOR]?));
-    assert!(rt; reads(&rt, &mut one, 0, 3));
-    assert_eq!(rt; calls(&rt, &mut one), [None, None, None]);
-    Ok(())
+fn a_plain_disk_of_256_mebibytes_is_zeros(rt: HostRuntime) {
+    let mut disk = PlainDisk::zeros(rt.alloc(), FILE_SECTORS).expect(&rt, "memory");
+    keeps_nines(&rt, &mut disk, FILE_SECTORS - 1);
+    reads(&rt, &mut disk, FILE_SECTORS - 2, 0);
+    has_threes(&rt);
 }
 
 // A sector and one byte of fives, and then zeros.
@@ -209,41 +246,48 @@ fn eight() -> [u8; 8 * SECTOR] {
 }
 
 #[test]
-fn a_file_keeps_what_is_written(rt: HostRuntime) -> Result<(), Fail> {
+fn a_file_keeps_what_is_written(rt: HostRuntime) {
     let path = "ufs_disk_short.img";
-    std::fs::write(&rt, path, [5u8; SECTOR + 1].as_slice())?;
+    std::fs::write(&rt, path, [5u8; SECTOR + 1].as_slice()).expect(&rt, "not written");
     let mut disk = FileDisk::new(&rt, path);
     let mut buf = [1; 2 * SECTOR];
     let mut all = [9; 8 * SECTOR];
-    assert_eq!(rt; disk.sectors(), FILE_SECTORS);
+    holds(&rt, disk.sectors() == FILE_SECTORS);
 
     // It reads zeros past the file's end.
-    assert!(rt; disk.read(0, &mut buf).is_ok() && is_short(&buf));
-    assert!(rt; disk.write(5, &eight()).is_ok() && disk.barrier().is_ok());
-    assert!(rt; disk.read(5, &mut all).is_ok() && all == eight());
-    assert!(rt; reads(&rt, &mut disk, 4, 0) && reads(&rt, &mut disk, 13, 0));
-    assert!(rt; keeps_nines(&rt, &mut disk, FILE_SECTORS - 1));
-    std::fs::remove_file(&rt, path)?;
-    Ok(())
+    holds(&rt, disk.read(0, &mut buf).is_ok());
+    holds(&rt, is_short(&buf));
+    holds(&rt, disk.write(5, &eight()).is_ok());
+    holds(&rt, disk.barrier().is_ok());
+    holds(&rt, disk.read(5, &mut all).is_ok());
+    holds(&rt, all == eight());
+    reads(&rt, &mut disk, 4, 0);
+    reads(&rt, &mut disk, 13, 0);
+    keeps_nines(&rt, &mut disk, FILE_SECTORS - 1);
+    std::fs::remove_file(&rt, path).expect(&rt, "not removed");
+}
+
+// Asserts what a write, a read and a barrier over a file come to, and tells its path where they don't.
+fn tells<R: Abort + Files<File = File> + Sync>(rt: &R, path: &str, want: [Option<u64>; 3]) {
+    let mut disk = sent(FileDisk::new(rt, path));
+    let found = calls(rt, &mut disk);
+    assert_eq!(rt; found, want, "{path}");
 }
 
 #[test]
-fn errors_of_a_file_are_told(rt: HostRuntime) -> Result<(), Fail> {
+fn errors_of_a_file_are_told(rt: HostRuntime) {
     // A write, a read and a barrier: over a full device, over one that takes all, and over a file that can't be
     // made, since its folder is missing. A device has no sync.
-    let rows: [(&str, [Option<u64>; 3]); 3] = [
-        ("/dev/full", [Some(1), None, Some(2)]),
-        ("/dev/null", [None, None, Some(1)]),
-        ("ufs_disk_missing/disk.img", [Some(1), Some(2), Some(3)]),
-    ];
-    for (path, want) in rows {
-        let mut disk = sent(FileDisk::new(&rt, path));
-        assert_eq!(rt; calls(&rt, &mut disk), want, "{path}");
-    }
+    tells(&rt, "/dev/full", [Some(1), None, Some(2)]);
+    tells(&rt, "/dev/null", [None, None, Some(1)]);
+    let missing = "ufs_disk_missing/disk.img";
+    tells(&rt, missing, [Some(1), Some(2), Some(3)]);
 
     // No call, no file.
     let untouched = FileDisk::new(&rt, "ufs_disk_untouched.img");
-    assert_eq!(rt; untouched.sectors(), FILE_SECTORS);
-    assert!(rt; std::fs::metadata(&rt, "ufs_disk_untouched.img").is_err());
-    Ok(())
+    same(&rt, untouched.sectors(), FILE_SECTORS);
+    holds(
+        &rt,
+        std::fs::metadata(&rt, "ufs_disk_untouched.img").is_err(),
+    );
 }

@@ -1,9 +1,10 @@
 // Calls that fail once in mid-stream, and one call of each thing with all the memory that it wants.
+use crate::asserts::same;
+use std::alloc::AllocGlobal;
 use std::cell::Cell;
 use std::io::{self, Error, ErrorKind, Read, Write};
 use std::process::Abort;
 use std::rt::Clock as SystemClock;
-use std::test::Fail;
 use std::time::Duration;
 use ufs_io::{
     Clock, Failed, Gate, HandClock, MemorySink, MemorySource, MilliClock, OpenGate, PlainSink,
@@ -52,6 +53,10 @@ impl Write for StumblingWriter {
     }
 }
 
+fn are_bytes(rt: &impl Abort, found: &[u8], wanted: &[u8]) {
+    assert_eq!(rt; found, wanted);
+}
+
 // Reads into two bytes; `!` stands for a failure.
 fn check_reads<S: Source, R: Abort>(rt: &R, source: &mut S, answers: &[&str]) {
     for answer in answers {
@@ -60,29 +65,33 @@ fn check_reads<S: Source, R: Abort>(rt: &R, source: &mut S, answers: &[&str]) {
             Ok(count) => &buf[..count],
             Err(Failed) => b"!",
         };
-        assert_eq!(rt; got, answer.as_bytes());
+        are_bytes(rt, got, answer.as_bytes());
     }
 }
 
 fn check_writes<K: Sink, R: Abort>(rt: &R, sink: &mut K, calls: &[(&str, Result<usize, Failed>)]) {
     for (piece, answer) in calls {
-        assert_eq!(rt; sink.write(piece.as_bytes()), *answer);
+        same(rt, sink.write(piece.as_bytes()), *answer);
     }
 }
 
-#[test]
-fn a_memory_source_fails_at_the_calls_of_its_list(rt: HostRuntime) -> Result<(), Fail> {
-    let alloc = rt.alloc();
-    let mut source = MemorySource::new(b"abcde".to_vec(alloc)?, vec![in alloc; 3, 1]?);
-    check_reads(&rt, &mut source, &["ab", "!", "cd", "!", "e", ""]);
-    assert_eq!(rt; (source.calls(), source.faults()), (6, 2));
-    Ok(())
+// The bytes `abcde` on the heap.
+fn five<R: Abort + AllocGlobal>(rt: &R) -> Vec<u8> {
+    b"abcde".to_vec(rt.alloc()).expect(rt, "memory")
 }
 
 #[test]
-fn a_memory_sink_fails_at_the_calls_of_its_list(rt: HostRuntime) -> Result<(), Fail> {
-    let alloc = rt.alloc();
-    let mut sink = MemorySink::new(alloc, vec![in alloc; 1]?);
+fn a_memory_source_fails_at_the_calls_of_its_list(rt: HostRuntime) {
+    let fails = vec![in rt.alloc(); 3, 1].expect(&rt, "memory");
+    let mut source = MemorySource::new(five(&rt), fails);
+    check_reads(&rt, &mut source, &["ab", "!", "cd", "!", "e", ""]);
+    same(&rt, (source.calls(), source.faults()), (6, 2));
+}
+
+#[test]
+fn a_memory_sink_fails_at_the_calls_of_its_list(rt: HostRuntime) {
+    let fails = vec![in rt.alloc(); 1].expect(&rt, "memory");
+    let mut sink = MemorySink::new(rt.alloc(), fails);
     let calls = [
         ("abc", Ok(3)),
         ("de", Err(Failed)),
@@ -90,31 +99,28 @@ fn a_memory_sink_fails_at_the_calls_of_its_list(rt: HostRuntime) -> Result<(), F
         ("f", Ok(1)),
     ];
     check_writes(&rt, &mut sink, &calls);
-    assert_eq!(rt; sink.bytes(), b"abcf".as_slice());
-    assert_eq!(rt; (sink.calls(), sink.faults()), (4, 1));
-    Ok(())
+    same(&rt, sink.bytes(), b"abcf".as_slice());
+    same(&rt, (sink.calls(), sink.faults()), (4, 1));
 }
 
 #[test]
-fn the_plain_ones_never_fail(rt: HostRuntime) -> Result<(), Fail> {
-    let mut source = PlainSource::new(b"abcde".to_vec(rt.alloc())?);
+fn the_plain_ones_never_fail(rt: HostRuntime) {
+    let mut source = PlainSource::new(five(&rt));
     check_reads(&rt, &mut source, &["ab", "cd", "e", "", ""]);
     check_writes(&rt, &mut PlainSink, &[("abc", Ok(3)), ("", Ok(0))]);
-    Ok(())
 }
 
 #[test]
-fn a_stream_source_passes_an_error_on_once(rt: HostRuntime) -> Result<(), Fail> {
+fn a_stream_source_passes_an_error_on_once(rt: HostRuntime) {
     let mut source = StreamSource::new(StumblingReader {
         rest: b"abcde",
         calls: 0,
     });
     check_reads(&rt, &mut source, &["ab", "!", "cd", "e", ""]);
-    Ok(())
 }
 
 #[test]
-fn a_stream_sink_passes_an_error_on_once(rt: HostRuntime) -> Result<(), Fail> {
+fn a_stream_sink_passes_an_error_on_once(rt: HostRuntime) {
     let mut writer = StumblingWriter {
         bytes: Vec::new(rt.alloc()),
         calls: 0,
@@ -128,24 +134,23 @@ fn a_stream_sink_passes_an_error_on_once(rt: HostRuntime) -> Result<(), Fail> {
         ("e", Ok(1)),
     ];
     check_writes(&rt, &mut StreamSink::new(&mut writer), &calls);
-    assert_eq!(rt; writer.bytes.as_slice(), b"abcde".as_slice());
-    Ok(())
+    same(&rt, writer.bytes.as_slice(), b"abcde".as_slice());
+}
+
+// Asserts what a clock by hand shows at three looks.
+fn shows<R: Abort + AllocGlobal>(rt: &R, ticks: &[u64], answers: [u64; 3]) {
+    let ticks = ticks.to_vec(rt.alloc()).expect(rt, "memory");
+    let mut clock = HandClock::new(ticks);
+    for answer in answers {
+        same(rt, clock.now(), answer);
+    }
 }
 
 #[test]
-fn a_hand_clock_stays_at_its_last_tick(rt: HostRuntime) -> Result<(), Fail> {
-    let alloc = rt.alloc();
-    for (ticks, answers) in [
-        (vec![in alloc; 5, 3]?, [5, 3, 3]),
-        (Vec::new(alloc), [0, 0, 0]),
-    ] {
-        let mut clock = HandClock::new(ticks);
-        for answer in answers {
-            assert_eq!(rt; clock.now(), answer);
-        }
-    }
+fn a_hand_clock_stays_at_its_last_tick(rt: HostRuntime) {
+    shows(&rt, &[5, 3], [5, 3, 3]);
+    shows(&rt, &[], [0, 0, 0]);
     OpenGate.pass(8, u64::MAX);
-    Ok(())
 }
 
 // A system clock that shows the next of some microseconds at each look, and fails where there is
@@ -172,7 +177,7 @@ impl<'a> SystemClock for ShakyClock<'a> {
 }
 
 #[test]
-fn a_milli_clock_never_goes_back(rt: HostRuntime) -> Result<(), Fail> {
+fn a_milli_clock_never_goes_back(rt: HostRuntime) {
     let shaky = ShakyClock {
         shows: &[
             Some(7_000_500),
@@ -185,7 +190,6 @@ fn a_milli_clock_never_goes_back(rt: HostRuntime) -> Result<(), Fail> {
     };
     let mut clock = MilliClock::new(&shaky);
     for answer in [1, 1, 1, 2_000, 2_000] {
-        assert_eq!(rt; clock.now(), answer);
+        same(&rt, clock.now(), answer);
     }
-    Ok(())
 }

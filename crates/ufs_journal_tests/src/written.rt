@@ -2,7 +2,8 @@
 ghost use Rattle.std.specs.Prelude.{◌≡◌, ◌∷◌, [], IfOk};
 ghost use Rattle.ufs_layout.specs.declared.records.LogRecord.TheVariants.{Free};
 
-use std::alloc::{AllocError, Global};
+use std::alloc::{AllocError, AllocGlobal, Global};
+use std::process::Abort;
 use ufs_disk::Disk;
 use ufs_journal::{Journal, sectors_needed};
 use ufs_layout::{Geometry, LogRecord, Records, Super};
@@ -38,22 +39,26 @@ fn free(alloc: Global, inode: u32) -> Result<Records, AllocError>
     Ok(Records::from_vec(records))
 }
 
+pub(crate) fn new_journal<R: Abort + AllocGlobal>(rt: &R) -> Journal {
+    Journal::make(rt.alloc(), &geometry(), &SUPERBLOCK).expect(rt, "memory")
+}
+
 // Appends a transaction that frees an inode, where there is room, and says whether it did.
-pub(crate) fn append_free<D: Disk>(
-    alloc: Global,
+pub(crate) fn append_free<R: Abort + AllocGlobal, D: Disk>(
+    rt: &R,
     disk: &mut D,
     journal: &mut Journal,
     txn: u32,
     inode: u32,
-) -> Result<bool, AllocError> {
-    let records = free(alloc, inode)?;
+) -> bool {
+    let records = free(rt.alloc(), inode).expect(rt, "memory");
     let fits = sectors_needed(&records) < journal.room() as usize;
     let large = disk.sectors() >= 8 * journal.geometry.blocks;
     let known = 1 <= inode && inode <= journal.geometry.inodes;
     if !fits || !large || !known || txn == 0 || journal.opened.get(txn).is_some() {
-        return Ok(false);
+        return false;
     }
-    Ok(journal.append(disk, txn, &records).is_ok())
+    journal.append(disk, txn, &records).is_ok()
 }
 
 // Commits a transaction that is appended, and gives its number.

@@ -1,6 +1,6 @@
 // The logs: each call once, and the bytes of what they say.
+use crate::asserts::{holds, same};
 use crate::births::birth;
-use std::test::Fail;
 use ufs_extent::{Extents, Run};
 use ufs_ilog::{Change, InodeLog, NamesLog};
 use ufs_layout::{count_fitting, put_records};
@@ -17,29 +17,24 @@ const BIRTH: [u8; 53] = [
 ];
 
 #[test]
-fn a_byte_in_a_new_block(rt: HostRuntime) -> Result<(), Fail> {
+fn a_byte_in_a_new_block(rt: HostRuntime) {
     let alloc = rt.alloc();
-    let none = Extents::make(alloc)?;
-    let one = Extents::from_runs(
-        alloc,
-        &[Run {
-            start: 15,
-            length: 1,
-        }],
-    )?;
-    let mut log = InodeLog::make(alloc, 2, &none, 0)?;
-    assert!(rt; log.delta()?.is_none());
-    log.note(&none, &one, 1);
-    let Some(records) = log.delta()? else {
-        assert!(rt; false, "the delta is missing");
-        return Ok(());
+    let none = Extents::make(alloc).expect(&rt, "memory");
+    let run = Run {
+        start: 15,
+        length: 1,
     };
+    let one = Extents::from_runs(alloc, &[run]).expect(&rt, "memory");
+    let mut log = InodeLog::make(alloc, 2, &none, 0).expect(&rt, "memory");
+    holds(&rt, log.delta().expect(&rt, "memory").is_none());
+    log.note(&none, &one, 1);
+    let delta = log.delta().expect(&rt, "memory");
+    let records = delta.expect(&rt, "the delta is missing");
     let mut bytes = [7; 24];
-    assert_eq!(rt; put_records(&mut bytes, records.as_slice()), 24);
-    assert!(rt; bytes == ONE_BYTE);
+    same(&rt, put_records(&mut bytes, records.as_slice()), 24);
+    holds(&rt, bytes == ONE_BYTE);
     log.cleared();
-    assert!(rt; log.delta()?.is_none());
-    Ok(())
+    holds(&rt, log.delta().expect(&rt, "memory").is_none());
 }
 
 fn is_birth(bytes: &[u8]) -> bool {
@@ -50,23 +45,21 @@ fn is_birth(bytes: &[u8]) -> bool {
 }
 
 #[test]
-fn births_fill_sectors(rt: HostRuntime) -> Result<(), Fail> {
-    let alloc = rt.alloc();
-    let mut log = NamesLog::new(alloc);
+fn births_fill_sectors(rt: HostRuntime) {
+    let mut log = NamesLog::new(rt.alloc());
     // Each takes 110 bytes in records of 24, 16 and 70.
     for sectors in [1, 1, 1, 1, 2, 2] {
-        let records = birth(alloc)?;
-        log.note(Change { records })?;
-        assert_eq!(rt; log.sectors(), sectors);
+        let records = birth(rt.alloc()).expect(&rt, "memory");
+        log.note(Change { records }).expect(&rt, "memory");
+        same(&rt, log.sectors(), sectors);
     }
     let records = log.records().as_slice();
-    assert_eq!(rt; records.len(), 18);
+    same(&rt, records.len(), 18);
     let first = count_fitting(records, 110);
-    assert_eq!(rt; first, 3);
+    holds(&rt, first == 3);
     let mut bytes = [7; 110];
-    assert_eq!(rt; put_records(&mut bytes, &records[..first]), 110);
-    assert!(rt; is_birth(&bytes));
+    same(&rt, put_records(&mut bytes, &records[..first]), 110);
+    holds(&rt, is_birth(&bytes));
     log.cleared();
-    assert_eq!(rt; log.sectors(), 0);
-    Ok(())
+    same(&rt, log.sectors(), 0);
 }

@@ -2,9 +2,9 @@
 ghost use Rattle.std.specs.Prelude.{◌≡◌, IfOk};
 ghost use Rattle.ufs_overlay.specs.Seen.{geometry_of};
 
+use crate::asserts::{holds, same};
 use crate::births::{birth, small};
 use std::alloc::Global;
-use std::test::Fail;
 use ufs_base::{Memory, SECTOR};
 use ufs_disk::{Disk, PlainDisk};
 use ufs_journal::{Journal, sectors_needed};
@@ -36,16 +36,16 @@ const NEXT: Super = Super {
 const FILE: u32 = 17;
 
 #[test]
-fn a_block_is_written_and_read(rt: HostRuntime) -> Result<(), Fail> {
-    let mut disk = PlainDisk::zeros(rt.alloc(), 2_048)?;
+fn a_block_is_written_and_read(rt: HostRuntime) {
+    let mut disk = PlainDisk::zeros(rt.alloc(), 2_048).expect(&rt, "memory");
     let mut block = [0; 4_096];
     block[4_095] = 7;
-    assert!(rt; write_data(&mut disk, 20, &block).is_ok());
-    assert!(rt; settle(&mut disk).is_ok());
+    holds(&rt, write_data(&mut disk, 20, &block).is_ok());
+    holds(&rt, settle(&mut disk).is_ok());
     let mut read = [1; 4_096];
-    assert!(rt; read_data(&mut disk, 20, &mut read).is_ok());
-    assert!(rt; read[0] == 0 && read[4_095] == 7);
-    Ok(())
+    holds(&rt, read_data(&mut disk, 20, &mut read).is_ok());
+    same(&rt, read[0], 0);
+    same(&rt, read[4_095], 7);
 }
 
 // The kind and the size of the inode in this sector, and the epoch in the superblock.
@@ -100,14 +100,16 @@ fn begin_next(disk: &mut PlainDisk, journal: &mut Journal, overlay: &Overlay) ->
 }
 
 #[test]
-fn a_commit_is_written_home(rt: HostRuntime) -> Result<(), Fail> {
+fn a_commit_is_written_home(rt: HostRuntime) {
     let alloc = rt.alloc();
-    let mut disk = PlainDisk::zeros(alloc, 2_048)?;
-    let mut journal = Journal::make(alloc, &small(), &SUPERBLOCK)?;
-    let overlay = overlay_of_birth(alloc)?;
-    assert!(rt; commit_birth(alloc, &mut disk, &mut journal)? == Some(1));
-    assert!(rt; begin_next(&mut disk, &mut journal, &overlay));
-    assert!(rt; journal.epoch == 2 && journal.used == 0 && journal.number == 2);
-    assert!(rt; found(&mut disk, FILE) == Some((1, 2)));
-    Ok(())
+    let mut disk = PlainDisk::zeros(alloc, 2_048).expect(&rt, "memory");
+    let mut journal = Journal::make(alloc, &small(), &SUPERBLOCK).expect(&rt, "memory");
+    let overlay = overlay_of_birth(alloc).expect(&rt, "memory");
+    let committed = commit_birth(alloc, &mut disk, &mut journal);
+    same(&rt, committed.expect(&rt, "memory"), Some(1));
+    holds(&rt, begin_next(&mut disk, &mut journal, &overlay));
+    same(&rt, journal.epoch, 2);
+    same(&rt, journal.used, 0);
+    same(&rt, journal.number, 2);
+    same(&rt, found(&mut disk, FILE), Some((1, 2)));
 }

@@ -1,7 +1,7 @@
 // Which server has a file, and who waits for it.
-use std::alloc::{AllocError, AllocGlobal, Global};
+use crate::asserts::same;
+use std::alloc::{AllocError, Global};
 use std::process::Abort;
-use std::test::Fail;
 use ufs_base::Memory;
 use ufs_owner::{Owner, OwnerTable};
 
@@ -127,71 +127,84 @@ fn count_with(files: &[Plain], worker: u8) -> usize {
         .count()
 }
 
-fn agree<R: Abort + AllocGlobal>(rt: &R, table: &OwnerTable, files: &[Plain; 4]) {
+fn agree<R: Abort>(rt: &R, table: &OwnerTable, files: &[Plain; 4]) {
     for file in 0..4u32 {
         let plain = &files[file as usize];
-        assert!(rt; table.owner_of(file) == plain.owner);
-        assert!(rt; table.waiting(file) == !plain.waiting.is_empty());
+        same(rt, table.owner_of(file), plain.owner);
+        same(rt, table.waiting(file), !plain.waiting.is_empty());
     }
-    assert!(rt; table.count_out() as usize == count_out(files));
+    same(rt, table.count_out() as usize, count_out(files));
     for worker in 0..4u8 {
-        assert!(rt; table.count_with(worker) as usize == count_with(files, worker));
+        let count = count_with(files, worker);
+        same(rt, table.count_with(worker) as usize, count);
     }
 }
 
+// A step, the number that it answers, and then the owner, how many files are out, how many worker 1 has, and whether
+// anybody waits.
+type Row = (Step, Option<u8>, Owner, u32, u32, bool);
+
+const ROWS: [Row; 12] = [
+    (Step::Send(1), Some(0), Owner::Going { to: 1 }, 1, 1, false),
+    (Step::Left, Some(0), Owner::Worker(1), 1, 1, false),
+    (
+        Step::Recall(0),
+        Some(0),
+        Owner::Coming { from: 1 },
+        1,
+        0,
+        false,
+    ),
+    (
+        Step::Wait(0),
+        Some(0),
+        Owner::Coming { from: 1 },
+        1,
+        0,
+        true,
+    ),
+    (Step::Settle, Some(0), Owner::Primary, 0, 0, true),
+    (Step::Send(1), None, Owner::Primary, 0, 0, true),
+    (Step::Unwait(0), Some(0), Owner::Primary, 0, 0, false),
+    (Step::Send(2), Some(0), Owner::Going { to: 2 }, 1, 0, false),
+    (
+        Step::Recall(1),
+        Some(0),
+        Owner::Coming { from: 2 },
+        1,
+        0,
+        false,
+    ),
+    (
+        Step::Renote(3),
+        Some(0),
+        Owner::Coming { from: 2 },
+        1,
+        0,
+        false,
+    ),
+    (Step::Settle, Some(3), Owner::Primary, 0, 0, false),
+    (Step::Settle, None, Owner::Primary, 0, 0, false),
+];
+
+// Asserts what file 7 and the counts are after a step, and that file 8 is as ever.
+fn goes<R: Abort>(rt: &R, table: &mut OwnerTable, row: &Row) {
+    let (next, answer, owner, out, with, waiting) = *row;
+    same(rt, take(table, 7, next).expect(rt, "memory"), answer);
+    same(rt, table.owner_of(7), owner);
+    same(rt, table.count_out(), out);
+    same(rt, table.count_with(1), with);
+    same(rt, table.waiting(7), waiting);
+    same(rt, table.owner_of(8), Owner::Primary);
+    same(rt, table.waiting(8), false);
+}
+
 #[test]
-fn a_file_goes_and_comes_back(rt: HostRuntime) -> Result<(), Fail> {
+fn a_file_goes_and_comes_back(rt: HostRuntime) {
     let mut table = OwnerTable::new(rt.alloc());
-    let rows = [
-        (Step::Send(1), Some(0), Owner::Going { to: 1 }, 1, 1, false),
-        (Step::Left, Some(0), Owner::Worker(1), 1, 1, false),
-        (
-            Step::Recall(0),
-            Some(0),
-            Owner::Coming { from: 1 },
-            1,
-            0,
-            false,
-        ),
-        (
-            Step::Wait(0),
-            Some(0),
-            Owner::Coming { from: 1 },
-            1,
-            0,
-            true,
-        ),
-        (Step::Settle, Some(0), Owner::Primary, 0, 0, true),
-        (Step::Send(1), None, Owner::Primary, 0, 0, true),
-        (Step::Unwait(0), Some(0), Owner::Primary, 0, 0, false),
-        (Step::Send(2), Some(0), Owner::Going { to: 2 }, 1, 0, false),
-        (
-            Step::Recall(1),
-            Some(0),
-            Owner::Coming { from: 2 },
-            1,
-            0,
-            false,
-        ),
-        (
-            Step::Renote(3),
-            Some(0),
-            Owner::Coming { from: 2 },
-            1,
-            0,
-            false,
-        ),
-        (Step::Settle, Some(3), Owner::Primary, 0, 0, false),
-        (Step::Settle, None, Owner::Primary, 0, 0, false),
-    ];
-    for (next, answer, owner, out, with, waiting) in rows {
-        assert!(rt; take(&mut table, 7, next)? == answer);
-        assert!(rt; table.owner_of(7) == owner);
-        assert!(rt; table.count_out() == out && table.count_with(1) == with);
-        assert!(rt; table.waiting(7) == waiting);
-        assert!(rt; table.owner_of(8) == Owner::Primary && !table.waiting(8));
+    for row in &ROWS {
+        goes(&rt, &mut table, row);
     }
-    Ok(())
 }
 
 fn step_of(word: u32) -> Step {
@@ -207,8 +220,18 @@ fn step_of(word: u32) -> Step {
     }
 }
 
+// Takes the step that the word has in both, and asserts that they agree.
+fn turn<R: Abort>(rt: &R, table: &mut OwnerTable, files: &mut [Plain; 4], word: u32) {
+    let file = (word >> 28) % 4;
+    let next = step_of(word);
+    let answer = take(table, file, next).expect(rt, "memory");
+    let plain = files[file as usize].take(next).expect(rt, "memory");
+    same(rt, plain, answer);
+    agree(rt, table, files);
+}
+
 #[test]
-fn a_walk_agrees_with_plain_files(rt: HostRuntime) -> Result<(), Fail> {
+fn a_walk_agrees_with_plain_files(rt: HostRuntime) {
     let alloc = rt.alloc();
     let mut table = OwnerTable::new(alloc);
     let mut files = [
@@ -220,11 +243,6 @@ fn a_walk_agrees_with_plain_files(rt: HostRuntime) -> Result<(), Fail> {
     let mut word: u32 = 1;
     for _ in 0..2_000 {
         word = word.wrapping_mul(1_664_525).wrapping_add(1_013_904_223);
-        let file = (word >> 28) % 4;
-        let next = step_of(word);
-        let answer = take(&mut table, file, next)?;
-        assert!(rt; files[file as usize].take(next)? == answer);
-        agree(&rt, &table, &files);
+        turn(&rt, &mut table, &mut files, word);
     }
-    Ok(())
 }

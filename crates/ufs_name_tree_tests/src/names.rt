@@ -1,11 +1,12 @@
-ghost use Rattle.std.specs.Prelude.{◌≡◌, ◌≤◌, ◌<◌, ℕ, IsTrue, IfOk, Some};
+ghost use Rattle.std.specs.Prelude.{◌≡◌, ◌≤◌, ◌<◌, ℕ, IsTrue, Some};
+ghost use Rattle.std.proofs.Props.{props};
 ghost use Rattle.ufs_dir_tree.specs.DirTable.{slots_at};
-ghost use Rattle.ufs_dir_tree.specs.DirCalls.{IsBare};
+ghost use Rattle.ufs_dir_tree.specs.DirCalls.{IsApart, IsBare};
 ghost use Rattle.ufs_dir_tree.specs.declared.found.Found.TheVariants.{Dir};
-ghost use Rattle.ufs_name_tree_tests.specs.Kept.{IsKept};
+ghost use Rattle.ufs_name_tree.specs.NameTable.{file_at};
 
+use crate::asserts::{holds, same};
 use std::alloc::Global;
-use std::test::Fail;
 use ufs_base::Memory;
 use ufs_bitmap::Pool;
 use ufs_dir_tree::Found;
@@ -23,12 +24,15 @@ const NO_BLOCK: u32 = 9_002;
 
 const NO_MEMORY: u32 = 9_003;
 
-// Names, a pool beside them, and the number of the next file.
+// Names, a pool that has none of their blocks, and the number of the next file, which is above all others.
 #[derive(Drop)]
 struct Tree {
+    alloc: Global,
     names: NameTree,
     pool: Pool,
     next: u32,
+    ghost apart: { IsApart names.dirs pool } by { Prim.hlevel props },
+    ghost below: { (i f : ℕ) → file_at names i ≡ Some f → f < next } by { Prim.hlevel props },
 }
 
 // The root alone, and so many blocks from 14 on.
@@ -36,7 +40,6 @@ fn begin(alloc: Global, inodes: u32, blocks: u32) -> Result<Tree, Memory>
     requires some { 1 ≤ inodes }
     requires few { inodes < 100 }
     requires blocks { blocks ≤ 100 }
-    ensures { IfOk result (λ t. IsKept t.names t.pool t.next) }
 {
     let mut pool = Pool::make(alloc)?;
     for k in 0..blocks {
@@ -47,6 +50,7 @@ fn begin(alloc: Global, inodes: u32, blocks: u32) -> Result<Tree, Memory>
     }
     let names = NameTree::new(alloc, inodes)?;
     Ok(Tree {
+        alloc,
         names,
         pool,
         next: 0,
@@ -62,11 +66,8 @@ fn number_of(excuse: Excuse) -> u32 {
 }
 
 // The inode of the directory that came at the path.
-fn add_dir(tree: &mut Tree, alloc: Global, path: &[u8]) -> u32
-    requires { IsKept tree.old.names tree.old.pool tree.old.next }
-    ensures { IsKept tree.new.names tree.new.pool tree.new.next }
-{
-    let Ok(path) = read_path(alloc, path) else {
+fn add_dir(tree: &mut Tree, path: &[u8]) -> u32 {
+    let Ok(path) = read_path(tree.alloc, path) else {
         return REFUSED;
     };
     if path.is_root() {
@@ -85,11 +86,8 @@ fn add_dir(tree: &mut Tree, alloc: Global, path: &[u8]) -> u32
 }
 
 // The inode of the file that came at the path.
-fn add_file(tree: &mut Tree, alloc: Global, path: &[u8]) -> u32
-    requires { IsKept tree.old.names tree.old.pool tree.old.next }
-    ensures { IsKept tree.new.names tree.new.pool tree.new.next }
-{
-    let Ok(path) = read_path(alloc, path) else {
+fn add_file(tree: &mut Tree, path: &[u8]) -> u32 {
+    let Ok(path) = read_path(tree.alloc, path) else {
         return REFUSED;
     };
     if path.is_root() || tree.next >= 1000 {
@@ -123,11 +121,8 @@ fn may_go(names: &NameTree, found: Found) -> bool
 }
 
 // What went from the path. A file's inode is free too.
-fn drop_path(tree: &mut Tree, alloc: Global, path: &[u8]) -> Option<Node>
-    requires { IsKept tree.old.names tree.old.pool tree.old.next }
-    ensures { IsKept tree.new.names tree.new.pool tree.new.next }
-{
-    let Ok(path) = read_path(alloc, path) else {
+fn drop_path(tree: &mut Tree, path: &[u8]) -> Option<Node> {
+    let Ok(path) = read_path(tree.alloc, path) else {
         return None;
     };
     if path.is_root() {
@@ -151,11 +146,8 @@ fn drop_path(tree: &mut Tree, alloc: Global, path: &[u8]) -> Option<Node>
 }
 
 // Whether a name of the root got another.
-fn rename(tree: &mut Tree, alloc: Global, from: &[u8], to: &[u8]) -> bool
-    requires { IsKept tree.old.names tree.old.pool tree.old.next }
-    ensures { IsKept tree.new.names tree.new.pool tree.new.next }
-{
-    let (Ok(from), Ok(to)) = (read_path(alloc, from), read_path(alloc, to)) else {
+fn rename(tree: &mut Tree, from: &[u8], to: &[u8]) -> bool {
+    let (Ok(from), Ok(to)) = (read_path(tree.alloc, from), read_path(tree.alloc, to)) else {
         return false;
     };
     if from.len() != 1 || to.len() != 1 || from.component(0) == to.component(0) {
@@ -173,8 +165,8 @@ fn rename(tree: &mut Tree, alloc: Global, from: &[u8], to: &[u8]) -> bool
 }
 
 // What stands at the path.
-fn node(tree: &Tree, alloc: Global, path: &[u8]) -> Option<Node> {
-    let Ok(path) = read_path(alloc, path) else {
+fn node(tree: &Tree, path: &[u8]) -> Option<Node> {
+    let Ok(path) = read_path(tree.alloc, path) else {
         return None;
     };
     match tree.names.look(&path) {
@@ -184,44 +176,40 @@ fn node(tree: &Tree, alloc: Global, path: &[u8]) -> Option<Node> {
 }
 
 #[test]
-fn files_keep_their_numbers(rt: HostRuntime) -> Result<(), Fail> {
-    let alloc = rt.alloc();
-    let mut tree = begin(alloc, 9, 9)?;
-    assert_eq!(rt; tree.names.next_inode(), Some(2));
-    assert_eq!(rt; add_dir(&mut tree, alloc, b"/d"), 2);
-    assert_eq!(rt; add_file(&mut tree, alloc, b"/d/x"), 3);
-    assert_eq!(rt; add_file(&mut tree, alloc, b"/e"), 4);
-    assert_eq!(rt; tree.names.next_inode(), Some(5));
-    assert_eq!(rt; node(&tree, alloc, b"/"), Some(Node::Dir));
-    assert_eq!(rt; node(&tree, alloc, b"/d"), Some(Node::Dir));
-    assert_eq!(rt; node(&tree, alloc, b"/d/x"), Some(Node::File(0)));
-    assert_eq!(rt; node(&tree, alloc, b"/e"), Some(Node::File(1)));
-    assert_eq!(rt; tree.names.file(4), Some(1));
-    assert_eq!(rt; tree.names.file(2), None);
-    assert!(rt; rename(&mut tree, alloc, b"/d", b"/z"));
-    assert_eq!(rt; node(&tree, alloc, b"/z/x"), Some(Node::File(0)));
-    assert_eq!(rt; node(&tree, alloc, b"/d"), None);
-    assert_eq!(rt; tree.names.count(1), 2);
-    let names = tree.names.names(1)?;
-    assert_eq!(rt; names.as_slice().len(), 2);
-    assert_eq!(rt; tree.names.blocks(2).len(), 1);
-    Ok(())
+fn files_keep_their_numbers(rt: HostRuntime) {
+    let mut tree = begin(rt.alloc(), 9, 9).expect(&rt, "memory");
+    same(&rt, tree.names.next_inode(), Some(2));
+    same(&rt, add_dir(&mut tree, b"/d"), 2);
+    same(&rt, add_file(&mut tree, b"/d/x"), 3);
+    same(&rt, add_file(&mut tree, b"/e"), 4);
+    same(&rt, tree.names.next_inode(), Some(5));
+    same(&rt, node(&tree, b"/"), Some(Node::Dir));
+    same(&rt, node(&tree, b"/d"), Some(Node::Dir));
+    same(&rt, node(&tree, b"/d/x"), Some(Node::File(0)));
+    same(&rt, node(&tree, b"/e"), Some(Node::File(1)));
+    same(&rt, tree.names.file(4), Some(1));
+    same(&rt, tree.names.file(2), None);
+    holds(&rt, rename(&mut tree, b"/d", b"/z"));
+    same(&rt, node(&tree, b"/z/x"), Some(Node::File(0)));
+    same(&rt, node(&tree, b"/d"), None);
+    same(&rt, tree.names.count(1), 2);
+    let names = tree.names.names(1).expect(&rt, "memory");
+    same(&rt, names.as_slice().len(), 2);
+    same(&rt, tree.names.blocks(2).len(), 1);
 }
 
 #[test]
-fn an_inode_gets_another_number(rt: HostRuntime) -> Result<(), Fail> {
-    let alloc = rt.alloc();
-    let mut tree = begin(alloc, 3, 1)?;
-    assert_eq!(rt; add_file(&mut tree, alloc, b"/a"), 2);
-    assert_eq!(rt; add_dir(&mut tree, alloc, b"/b"), 3);
-    assert_eq!(rt; tree.names.next_inode(), None);
-    assert_eq!(rt; add_file(&mut tree, alloc, b"/c"), NO_INODE);
-    assert_eq!(rt; drop_path(&mut tree, alloc, b"/a"), Some(Node::File(0)));
-    assert_eq!(rt; tree.names.file(2), None);
-    assert_eq!(rt; add_file(&mut tree, alloc, b"/b/c"), NO_BLOCK);
-    assert_eq!(rt; add_file(&mut tree, alloc, b"/c"), 2);
-    assert_eq!(rt; node(&tree, alloc, b"/c"), Some(Node::File(1)));
-    assert_eq!(rt; drop_path(&mut tree, alloc, b"/b"), Some(Node::Dir));
-    assert_eq!(rt; tree.names.next_inode(), Some(3));
-    Ok(())
+fn an_inode_gets_another_number(rt: HostRuntime) {
+    let mut tree = begin(rt.alloc(), 3, 1).expect(&rt, "memory");
+    same(&rt, add_file(&mut tree, b"/a"), 2);
+    same(&rt, add_dir(&mut tree, b"/b"), 3);
+    same(&rt, tree.names.next_inode(), None);
+    same(&rt, add_file(&mut tree, b"/c"), NO_INODE);
+    same(&rt, drop_path(&mut tree, b"/a"), Some(Node::File(0)));
+    same(&rt, tree.names.file(2), None);
+    same(&rt, add_file(&mut tree, b"/b/c"), NO_BLOCK);
+    same(&rt, add_file(&mut tree, b"/c"), 2);
+    same(&rt, node(&tree, b"/c"), Some(Node::File(1)));
+    same(&rt, drop_path(&mut tree, b"/b"), Some(Node::Dir));
+    same(&rt, tree.names.next_inode(), Some(3));
 }

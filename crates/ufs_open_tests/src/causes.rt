@@ -1,24 +1,24 @@
 // Why images aren't opened by their superblock, and that new ones are.
+use crate::asserts::{holds, same};
 use crate::images::{cause, gives, new_disk, sector_of, set_sector};
 use std::alloc::Global;
-use std::test::Fail;
 use ufs_base::SECTOR;
 use ufs_catalog::RecoverFault;
 use ufs_disk::PlainDisk;
 use ufs_opening::tree_of;
 
 #[test]
-fn a_disk_of_zeros_has_no_superblock(rt: HostRuntime) -> Result<(), Fail> {
-    let mut disk = PlainDisk::zeros(rt.alloc(), 512)?;
-    assert!(rt; cause(rt.alloc(), &mut disk) == Some(RecoverFault::NoSuperblock));
-    Ok(())
+fn a_disk_of_zeros_has_no_superblock(rt: HostRuntime) {
+    let mut disk = PlainDisk::zeros(rt.alloc(), 512).expect(&rt, "memory");
+    let found = cause(rt.alloc(), &mut disk);
+    same(&rt, found, Some(RecoverFault::NoSuperblock));
 }
 
 #[test]
-fn a_disk_of_no_sectors_has_no_superblock(rt: HostRuntime) -> Result<(), Fail> {
-    let mut disk = PlainDisk::zeros(rt.alloc(), 0)?;
-    assert!(rt; cause(rt.alloc(), &mut disk) == Some(RecoverFault::NoSuperblock));
-    Ok(())
+fn a_disk_of_no_sectors_has_no_superblock(rt: HostRuntime) {
+    let mut disk = PlainDisk::zeros(rt.alloc(), 0).expect(&rt, "memory");
+    let found = cause(rt.alloc(), &mut disk);
+    same(&rt, found, Some(RecoverFault::NoSuperblock));
 }
 
 // The cause for which the superblock of a new image isn't opened on a disk of one sector.
@@ -35,23 +35,24 @@ fn cause_alone(alloc: Global) -> Option<RecoverFault> {
 }
 
 #[test]
-fn a_superblock_alone_has_too_few_sectors(rt: HostRuntime) -> Result<(), Fail> {
-    assert!(rt; cause_alone(rt.alloc()) == Some(RecoverFault::BadGeometry { number: 5 }));
-    Ok(())
+fn a_superblock_alone_has_too_few_sectors(rt: HostRuntime) {
+    let found = cause_alone(rt.alloc());
+    same(&rt, found, Some(RecoverFault::BadGeometry { number: 5 }));
+}
+
+// How many paths the tree on a disk has; none where it isn't opened.
+fn count_of_paths(alloc: Global, disk: &mut PlainDisk) -> Option<usize> {
+    match tree_of(alloc, disk) {
+        Ok(tree) => Some(tree.as_slice().len()),
+        Err(_) => None,
+    }
 }
 
 #[test]
-fn a_new_image_has_the_root_alone(rt: HostRuntime) -> Result<(), Fail> {
-    let Some(mut disk) = new_disk(rt.alloc()) else {
-        assert!(rt; false, "no image");
-        return Ok(());
-    };
-    let Ok(tree) = tree_of(rt.alloc(), &mut disk) else {
-        assert!(rt; false, "no tree");
-        return Ok(());
-    };
-    assert!(rt; tree.as_slice().len() == 1);
-    Ok(())
+fn a_new_image_has_the_root_alone(rt: HostRuntime) {
+    let mut disk = new_disk(rt.alloc()).expect(&rt, "no image");
+    let count = count_of_paths(rt.alloc(), &mut disk);
+    same(&rt, count.expect(&rt, "no tree"), 1);
 }
 
 // The cause for which a new image isn't opened where this byte of its superblock is ff; none where it is opened.
@@ -73,22 +74,19 @@ fn cause_of_byte(at: usize) -> Option<RecoverFault> {
 }
 
 #[test]
-fn each_byte_of_the_superblock_has_its_cause(rt: HostRuntime) -> Result<(), Fail> {
+fn each_byte_of_the_superblock_has_its_cause(rt: HostRuntime) {
     for at in 0..SECTOR {
-        assert!(rt; gives(rt.alloc(), 0, at, 255, cause_of_byte(at)));
+        holds(&rt, gives(rt.alloc(), 0, at, 255, cause_of_byte(at)));
     }
-    Ok(())
 }
 
 #[test]
-fn a_geometry_without_data_is_the_fourth(rt: HostRuntime) -> Result<(), Fail> {
+fn a_geometry_without_data_is_the_fourth(rt: HostRuntime) {
     let none_left = Some(RecoverFault::BadGeometry { number: 4 });
-    assert!(rt; gives(rt.alloc(), 0, 21, 2, none_left));
-    Ok(())
+    holds(&rt, gives(rt.alloc(), 0, 21, 2, none_left));
 }
 
 #[test]
-fn an_image_in_use_with_nothing_committed_is_opened(rt: HostRuntime) -> Result<(), Fail> {
-    assert!(rt; gives(rt.alloc(), 0, 40, 0, None));
-    Ok(())
+fn an_image_in_use_with_nothing_committed_is_opened(rt: HostRuntime) {
+    holds(&rt, gives(rt.alloc(), 0, 40, 0, None));
 }

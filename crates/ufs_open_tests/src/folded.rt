@@ -1,8 +1,8 @@
 // Images in use whose journal has a transaction: the birth of a file of five bytes in the root's first block. Home
 // has none of it.
+use crate::asserts::{holds, same};
 use crate::images::{cause, mark_in_use, new_disk, put_name, set_sector};
 use std::alloc::Global;
-use std::test::Fail;
 use ufs_base::SECTOR;
 use ufs_catalog::RecoverFault;
 use ufs_check::check;
@@ -132,7 +132,7 @@ fn seen_with(alloc: Global, commit: Option<[u8; SECTOR]>) -> Option<Seen> {
 }
 
 #[test]
-fn a_committed_birth_is_read(rt: HostRuntime) -> Result<(), Fail> {
+fn a_committed_birth_is_read(rt: HostRuntime) {
     let born = Seen {
         paths: 2,
         reads_hello: true,
@@ -140,12 +140,11 @@ fn a_committed_birth_is_read(rt: HostRuntime) -> Result<(), Fail> {
         free: 50,
         damage: 0,
     };
-    assert!(rt; seen_with(rt.alloc(), Some(commit(1))) == Some(born));
-    Ok(())
+    same(&rt, seen_with(rt.alloc(), Some(commit(1))), Some(born));
 }
 
 #[test]
-fn a_birth_without_its_commit_is_not_there(rt: HostRuntime) -> Result<(), Fail> {
+fn a_birth_without_its_commit_is_not_there(rt: HostRuntime) {
     let unborn = Seen {
         paths: 1,
         reads_hello: false,
@@ -153,8 +152,7 @@ fn a_birth_without_its_commit_is_not_there(rt: HostRuntime) -> Result<(), Fail> 
         free: 52,
         damage: 0,
     };
-    assert!(rt; seen_with(rt.alloc(), None) == Some(unborn));
-    Ok(())
+    same(&rt, seen_with(rt.alloc(), None), Some(unborn));
 }
 
 // The cause for which it isn't opened.
@@ -164,9 +162,9 @@ fn cause_with(alloc: Global, bytes: [u8; SECTOR]) -> Option<RecoverFault> {
 }
 
 #[test]
-fn a_commit_number_that_was_given_before_is_off(rt: HostRuntime) -> Result<(), Fail> {
-    assert!(rt; cause_with(rt.alloc(), commit(0)) == Some(RecoverFault::BadRecord { sector: 33 }));
-    Ok(())
+fn a_commit_number_that_was_given_before_is_off(rt: HostRuntime) {
+    let found = cause_with(rt.alloc(), commit(0));
+    same(&rt, found, Some(RecoverFault::BadRecord { sector: 33 }));
 }
 
 // The first bytes of the second path, and its size.
@@ -191,9 +189,8 @@ fn has_front(alloc: Global, most: usize, wanted: &[u8]) -> bool {
 }
 
 #[test]
-fn heads_have_the_first_bytes(rt: HostRuntime) -> Result<(), Fail> {
-    assert!(rt; has_front(rt.alloc(), 3, b"hel"));
-    assert!(rt; has_front(rt.alloc(), 64, b"hello"));
-    assert!(rt; has_front(rt.alloc(), 0, b""));
-    Ok(())
+fn heads_have_the_first_bytes(rt: HostRuntime) {
+    holds(&rt, has_front(rt.alloc(), 3, b"hel"));
+    holds(&rt, has_front(rt.alloc(), 64, b"hello"));
+    holds(&rt, has_front(rt.alloc(), 0, b""));
 }

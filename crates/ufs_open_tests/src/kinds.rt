@@ -1,7 +1,7 @@
 // One image for each kind of damage of a tree: what its check tells, and the inode for which it isn't opened.
+use crate::asserts::holds;
 use crate::images::{ROOT, cause, inode, mark_in_use, new_disk, put_name, set_sector};
 use std::alloc::Global;
-use std::test::Fail;
 use ufs_base::SECTOR;
 use ufs_catalog::RecoverFault;
 use ufs_check::check;
@@ -124,7 +124,7 @@ fn with_other(second: Node, names: (Name, Name), damage: Damage, blamed: u32) ->
 }
 
 #[test]
-fn each_damage_of_an_inode_is_told_and_blamed(rt: HostRuntime) -> Result<(), Fail> {
+fn each_damage_of_an_inode_is_told_and_blamed(rt: HostRuntime) {
     let off = Node { kind: 3, ..ONE };
     let none = (FREE, FREE);
     let shared = Damage::SharedBlock {
@@ -144,13 +144,12 @@ fn each_damage_of_an_inode_is_told_and_blamed(rt: HostRuntime) -> Result<(), Fai
         ),
     ];
     for row in &rows {
-        assert!(rt; tells(rt.alloc(), row));
+        holds(&rt, tells(rt.alloc(), row));
     }
-    Ok(())
 }
 
 #[test]
-fn each_damage_of_a_name_is_told_and_blamed(rt: HostRuntime) -> Result<(), Fail> {
+fn each_damage_of_a_name_is_told_and_blamed(rt: HostRuntime) {
     let dots = (named(2, b".."), FREE);
     let free = (named(5, b"f"), FREE);
     let twice = (named(2, b"f"), named(3, b"f"));
@@ -167,7 +166,6 @@ fn each_damage_of_a_name_is_told_and_blamed(rt: HostRuntime) -> Result<(), Fail>
         with_other(ONE, both, Damage::TwoNames { inode: 2 }, 2),
     ];
     for row in &rows {
-        assert!(rt; tells(rt.alloc(), row));
+        holds(&rt, tells(rt.alloc(), row));
     }
-    Ok(())
 }
