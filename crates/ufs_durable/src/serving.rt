@@ -7,6 +7,7 @@ ghost use Rattle.ufs_bitmap.specs.Taking.{IsApart};
 ghost use Rattle.ufs_extent.specs.Runs.{IsRun, blocks_of, last_runs};
 ghost use Rattle.ufs_file.specs.Content.{block_count};
 ghost use Rattle.ufs_file.specs.Hand.{IsEntryOf, IsExcusedFor, IsFileOf, IsOf, IsPosix};
+ghost use Rattle.ufs_file.specs.Table.{max_held};
 ghost use Rattle.ufs_model.specs.Asks.{IsAsk};
 ghost use Rattle.ufs_model.specs.Bounds.{IsBounded};
 ghost use Rattle.ufs_model.specs.Excuses.{ExcuseFits};
@@ -85,7 +86,7 @@ fn blocks_behind(hand: &FileHand, op: &Op, desc: Desc) -> u32
 // How many bytes the file has behind a request.
 fn size_behind(hand: &FileHand, op: &Op, desc: Desc) -> u64
     ensures size { result ≡ length (content_behind hand.now desc op.now).bytes }
-    ensures small { result ≤ file_bytes.max_size }
+    ensures small { result ≤ max_held }
 {
     let held = hand.size();
     if desc_refusal(op, Some(desc)).is_some() {
@@ -101,9 +102,9 @@ fn size_behind(hand: &FileHand, op: &Op, desc: Desc) -> u64
 
 // How many bytes a file of `held` bytes has once these are written, unless they end past the greatest size.
 fn end_behind(held: u64, at: u64, fresh: &Bytes) -> u64
-    requires { held ≤ file_bytes.max_size }
+    requires { held ≤ max_held }
     ensures size { result ≡ (if file_bytes.is_past at fresh.now then held else file_bytes.size_after held at (length fresh.now)) }
-    ensures small { result ≤ file_bytes.max_size }
+    ensures small { result ≤ max_held }
 {
     let count = fresh.as_slice().len();
     if count == 0 || is_past(at, fresh) {

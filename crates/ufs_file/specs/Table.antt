@@ -1,8 +1,12 @@
 -- What a file's blocks in memory stand for.
 use Rattle.std.specs.Prelude.{◌≡◌, ℕ, ◌+◌, ◌*◌, ◌-◌, ◌<◌, ◌≤◌, List, [], ◌∷◌, ◌++◌, map, drop, replicate, length, All, Bool}
 use Rattle.ufs_base.specs.declared.sizes.TheConstants.{BLOCK}
-use Rattle.ufs_model.specs.FileBytes.{max_size}
 use Rattle.ufs_file.specs.declared.blocks.Block.{Block}
+
+-- the most bytes that a file holds: those of all blocks that an image can have. No request lengthens a file past `max_size`
+-- of `ufs_model`, but one that an image has may be longer.
+abbrev pub max_held : ℕ
+max_held = 268435456
 
 -- the bytes of the blocks in order
 abbrev pub bytes_in : List Block → List ℕ
@@ -22,5 +26,5 @@ pub record IsTable (size : ℕ) (bs : List Block) : Type 0 where
   pub whole : All IsWhole bs
   pub room : size ≤ BLOCK * length bs
   pub few : BLOCK * length bs < size + BLOCK
-  pub small : size ≤ max_size
+  pub small : size ≤ max_held
   pub zeros : drop size (bytes_in bs) ≡ replicate (BLOCK * length bs - size) 0

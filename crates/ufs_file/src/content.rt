@@ -6,6 +6,10 @@ use std::alloc::Global;
 use std::marker::Model;
 use ufs_base::{BLOCK, Memory};
 
+/// The most bytes that a file holds: 65,536 blocks. Requests are refused past `MAX_SIZE` of `ufs_calls`, whatever the file
+/// has.
+pub const MAX_HELD: u64 = 268_435_456;
+
 /// A file's bytes, kept as a table of blocks by their places in the file, each with a mark that tells whether it was
 /// written since it was read or made.
 #[derive(Drop)]
@@ -29,8 +33,9 @@ impl Model for Blocks {
 
 impl Blocks {
     ghost use Rattle.std.specs.Prelude.{◌≡◌, ◌+◌, ◌≤◌, ◌<◌, length, max, slice_get, IfOk, OnOk, OnErr, IfSome, IfNone};
-    ghost use Rattle.ufs_model.specs.FileBytes.{part, max_size};
+    ghost use Rattle.ufs_model.specs.FileBytes.{part};
     ghost use Rattle.ufs_file.specs.Content.{Content, no_content, as_read, block_bytes, block_count, cleaned, grown, marked, written_over, shortened};
+    ghost use Rattle.ufs_file.specs.Table.{max_held};
 
     /// No byte. Takes no memory.
     pub fn new(alloc: Global) -> Blocks
@@ -45,7 +50,7 @@ impl Blocks {
 
     /// These bytes, with no block marked as written. It copies them.
     pub fn from_bytes(alloc: Global, bytes: &[u8]) -> Result<Blocks, Memory>
-        requires { length bytes.now ≤ max_size }
+        requires { length bytes.now ≤ max_held }
         ensures { IfOk result (λ b. b ≡ as_read bytes.now) }
     {
         let mut blocks = Blocks::new(alloc);
@@ -71,7 +76,7 @@ impl Blocks {
     /// The file's size, in bytes.
     pub fn size(&self) -> u64
         ensures size { result ≡ length self.now.bytes }
-        ensures small { result ≤ max_size }
+        ensures small { result ≤ max_held }
         ensures blocks { length self.now.dirty ≡ block_count (length self.now.bytes) }
     {
         self.size as u64
@@ -80,7 +85,7 @@ impl Blocks {
     /// How many bytes there are from a place on, at most n.
     pub fn count_from(&self, at: u64, n: u32) -> usize
         ensures count { result ≡ length (part self.now.bytes at n) }
-        ensures inside { at + result ≤ max at max_size }
+        ensures inside { at + result ≤ max at max_held }
     {
         if at >= self.size as u64 {
             return 0;
@@ -103,7 +108,7 @@ impl Blocks {
     /// Lengthens the file with zeros. No byte that is there moves.
     pub fn grow(&mut self, size: u64) -> Result<(), Memory>
         requires longer { length self.old.bytes ≤ size }
-        requires small { size ≤ max_size }
+        requires small { size ≤ max_held }
         ensures ok { OnOk result (self.new ≡ grown self.old size) }
         ensures err { OnErr result (self.new ≡ self.old) }
     {

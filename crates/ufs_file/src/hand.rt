@@ -66,6 +66,7 @@ impl FileHand {
     ghost use Rattle.ufs_file.specs.Content.{as_read, no_content, block_bytes, block_count, cleaned, marked, shortened, written_over};
     ghost use Rattle.ufs_bitmap.specs.Taking.{IsApart, Takes, set_of};
     ghost use Rattle.ufs_model.specs.FileCalls.{is_on_file, place_refusal, file_refusal, file_answer, desc_after};
+    ghost use Rattle.ufs_file.specs.Table.{max_held};
     ghost use Rattle.ufs_file.specs.Hand.{FileState, IsCause, IsChanged, lengthened, content_put, content_sized, content_after, missing, IsServedByFile, IsExcusedFor, IsEntryOf, IsOf, IsFileOf, IsPosix};
     ghost use Rattle.ufs_model.specs.PosixTree.{PosixTree};
     ghost use Rattle.ufs_model.specs.Asks.{IsAsk};
@@ -98,7 +99,7 @@ impl FileHand {
         extents: Extents,
         bytes: &[u8],
     ) -> Result<FileHand, Memory>
-        requires small { length bytes.now ≤ max_size }
+        requires small { length bytes.now ≤ max_held }
         requires blocks { length (blocks_of extents) ≡ block_count (length bytes.now) }
         ensures { IfOk result (λ h. h ≡ record { file = file; inode = inode; extents = extents; content = as_read bytes.now }) }
     {
@@ -163,7 +164,7 @@ impl FileHand {
     /// Its size, in bytes; it has the blocks for that.
     pub fn size(&self) -> u64
         ensures size { result ≡ length self.now.content.bytes }
-        ensures small { result ≤ max_size }
+        ensures small { result ≤ max_held }
         ensures blocks { length (blocks_of self.now.extents) ≡ block_count (length self.now.content.bytes) }
     {
         self.blocks.size()

@@ -7,4 +7,5 @@ mod content;
 mod hand;
 
 pub use answers::{answered, out_of_memory};
+pub use content::MAX_HELD;
 pub use hand::{Applied, FileHand};

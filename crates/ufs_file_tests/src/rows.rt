@@ -2,6 +2,8 @@ ghost use Rattle.std.specs.Prelude.{◌≡◌, ◌≤◌, ◌+◌, true};
 ghost use Rattle.std.proofs.Props.{props};
 ghost use Rattle.ufs_bitmap.specs.Taking.{IsApart};
 ghost use Rattle.ufs_extent.specs.Runs.{blocks_of};
+ghost use Rattle.ufs_file.specs.Content.{block_count};
+ghost use Rattle.ufs_file.specs.Table.{max_held};
 ghost use Rattle.ufs_model.specs.Bounds.{IsBounded};
 ghost use Rattle.ufs_model.specs.FileCalls.{is_on_file};
 
@@ -10,8 +12,9 @@ use crate::calls::{
     applied, filled, gave, is_at, is_count, is_done, is_excused, is_refused, open_on, pool_of,
 };
 use std::alloc::Global;
-use ufs_base::Memory;
-use ufs_bitmap::Pool;
+use ufs_base::{MAX_EXTENTS, Memory};
+use ufs_bitmap::{Pool, take_runs};
+use ufs_extent::Extents;
 use ufs_file::FileHand;
 use ufs_model::{Errno, Excuse, Op, Reply, Whence};
 
@@ -149,4 +152,53 @@ fn the_greatest_file(rt: HostRuntime) {
     };
     let reply = play.applied(op);
     holds(&rt, gave(reply, &[0, 97]));
+}
+
+// A file of so many bytes, in 4,097 blocks, that an image had; the pool has no block.
+fn longer(alloc: Global, size: usize) -> Result<Play, Memory>
+    requires small { size ≤ max_held }
+    requires blocks { block_count size ≡ 4097 }
+{
+    let mut pool = pool_of(alloc, 15, 4_097)?;
+    let count = pool.count();
+    if count != 4_097 {
+        return Err(Memory);
+    }
+    let runs = take_runs(alloc, &mut pool, count)?;
+    if runs.len() > MAX_EXTENTS {
+        return Err(Memory);
+    }
+    let extents = Extents::from_runs(alloc, &runs)?;
+    let bytes = vec![in alloc; 97; size]?;
+    let file = FileHand::from_read(alloc, 7, 3, extents, &bytes)?;
+    Ok(Play { file, pool })
+}
+
+#[test]
+fn a_longer_file_of_an_image_is_read_and_cut(rt: HostRuntime) {
+    let mut play = longer(rt.alloc(), 16_777_217).expect(&rt, "memory");
+    same(&rt, play.file.size(), 16_777_217);
+    let op = Op::Pread {
+        fd: 3,
+        n: 9,
+        at: 16_777_215,
+    };
+    let reply = play.applied(op);
+    holds(&rt, gave(reply, &[97, 97]));
+    let op = Op::Pwrite {
+        fd: 3,
+        bytes: filled(&rt, 98, 1),
+        at: 16_777_216,
+    };
+    let reply = play.applied(op);
+    holds(&rt, is_refused(reply, Errno::Efbig));
+    let op = Op::Trunc {
+        fd: 3,
+        size: 16_777_217,
+    };
+    let reply = play.applied(op);
+    holds(&rt, is_refused(reply, Errno::Efbig));
+    let reply = play.applied(Op::Trunc { fd: 3, size: 4_097 });
+    holds(&rt, is_done(reply));
+    same(&rt, play.pool.count(), 4_095);
 }
