@@ -17,9 +17,10 @@ use Rattle.ufs_hand.specs.declared.hand.Drawn.{Drawn}
 use Rattle.ufs_hand.specs.declared.hand.Drawn.TheVariants as drew
 use Rattle.ufs_sound.specs.Rule.{clock_step, word_at, IsSeenBy}
 use Rattle.ufs_sound.specs.Durable.{IsDurable}
-use Rattle.ufs_sound.specs.Parts.{IsDiskVisible, NamesPart, StorePart, Start, View, Word, spent}
+use Rattle.ufs_sound.specs.Parts.{NamesPart, StorePart, Start, View, Word, spent}
 use Rattle.ufs_sound.specs.Leasing.{MayGrant, granting, MayGiveBack, giving_back}
 use Rattle.ufs_sound.specs.Marks.{MayAsk, asking, MayRemake}
+use Rattle.ufs_sound.specs.Visible.{IsDiskVisible}
 use Rattle.ufs_sound.specs.Whole.{CanOpen, IsWhole}
 
 -- which table a session has, and what it started from
@@ -41,7 +42,7 @@ abbrev pub word_of : ℕ → ℕ → Word
 word_of tickets clock = record { tickets = tickets; clock = clock }
 
 -- The hand with every part knows one whole history; and every image that the disk can have left since the opening is
--- explained by it, where the disk is visible.
+-- explained by it, where the disk is visible and was proper then.
 pub record KnowsAll (k : Start) (tickets clock : ℕ) (v : View) : Type 0 where
   pub store : StorePart
   pub has_store : v.store ≡ (tt, store) ∷ []

@@ -189,7 +189,7 @@ impl<N: Naming> Hand<N> {
         requires { MayDraw fresh.now self.old L.leaves [] }
         ensures parts { self.new ≡ drawn result fresh.now L.leaves self.old }
         ensures later { self.old.seen ≤ result }
-        ensures history { KnowsTickets self.old result }
+        ensures history { KnowsTickets N.start self.old result }
     {
         self.draw_as::<Brand, L>(table, fresh)
     }
@@ -199,7 +199,7 @@ impl<N: Naming> Hand<N> {
         requires may { MayDraw fresh.now self.old L.leaves [] }
         ensures parts { self.new ≡ drawn result fresh.now L.leaves self.old }
         ensures later { self.old.seen ≤ result }
-        ensures history { KnowsTickets self.old result }
+        ensures history { KnowsTickets N.start self.old result }
     {
         // For the prover alone.
         let _ = fresh;
@@ -209,7 +209,7 @@ impl<N: Naming> Hand<N> {
         let word = table
             .table
             .shared
-            .fetch_add::<Draws<F, L>>(&mut self.seat, 0, 1);
+            .fetch_add::<Draws<N, F, L>>(&mut self.seat, 0, 1);
         word % CLOCK
     }
 
@@ -273,9 +273,10 @@ impl<N: Naming> Hand<N> {
         requires { IsEvent N.start self.old E.leaves }
         ensures parts { self.new ≡ E.leaves (result % clock_step) }
         ensures later { self.old.seen ≤ result % clock_step }
+        ensures history { KnowsTickets N.start self.old (result % clock_step) }
     {
         a_request_keeps_the_tree();
-        table.table.shared.load::<Marks<E>>(&mut self.seat, 0)
+        table.table.shared.load::<Marks<N, E>>(&mut self.seat, 0)
     }
 
     /// The tickets and the clock, which the hand has seen then.

@@ -148,15 +148,16 @@ impl Join<Knowledge> for Glue {
     ghost spent = { spent };
 }
 
-pub(crate) struct Draws<F, L> {
+pub(crate) struct Draws<N, F, L> {
+    of: PhantomData<N>,
     fresh: PhantomData<F>,
     leaves: PhantomData<L>,
 }
 
-impl<F: Drawing, L: Leaving> Play<(), Knowledge> for Draws<F, L> {
+impl<N: Naming, F: Drawing, L: Leaving> Play<(), Knowledge> for Draws<N, F, L> {
     ghost use Rattle.ufs_sound.specs.Rule.{Drew};
 
-    ghost then = { λ s v n w. Drew F.fresh L.leaves v n w };
+    ghost then = { λ s v n w. Drew N.start F.fresh L.leaves v n w };
 }
 
 // A draw that is made only while the word is as it was read.
@@ -171,14 +172,15 @@ impl<F: Drawing, L: Leaving> Play<(), Knowledge> for DrawsAt<F, L> {
     ghost then = { λ s v n w. DrewAt s.first F.fresh L.leaves v n w };
 }
 
-pub(crate) struct Marks<E> {
+pub(crate) struct Marks<N, E> {
+    of: PhantomData<N>,
     event: PhantomData<E>,
 }
 
-impl<E: Event> Play<(), Knowledge> for Marks<E> {
+impl<N: Naming, E: Event> Play<(), Knowledge> for Marks<N, E> {
     ghost use Rattle.ufs_sound.specs.Rule.{Marked};
 
-    ghost then = { λ s v n w. Marked E.leaves v n w };
+    ghost then = { λ s v n w. Marked N.start E.leaves v n w };
 }
 
 pub(crate) struct Looks;

@@ -14,7 +14,7 @@ use Rattle.ufs_sound.specs.Known.{Knows}
 use Rattle.ufs_sound.specs.Shown.{nodes_of, ExplainsImages}
 use Rattle.ufs_sound.specs.ByImages.{by_images}
 use Rattle.ufs_sound.specs.Durable.{IsExplainedThroughout, IsStoreDurable, IsDurable}
-use Rattle.ufs_sound.specs.Parts.{IsDiskVisible}
+use Rattle.ufs_sound.specs.Visible.{IsDiskVisible}
 
 -- a stretch isn't empty
 joined_rise : (past : List Stretch) (mark : ℕ) → AreJoined past mark → (x : Stretch) → Has x past → x.from ≤ x.to

@@ -9,7 +9,7 @@ use Rattle.ufs_sound.specs.Parts.{Cells, View, Word, Start, committed}
 use Rattle.ufs_sound.specs.Sound.{IsSound}
 use Rattle.ufs_sound.specs.Explained.{IsDiskExplained, Showing}
 use Rattle.ufs_sound.proofs.Lists.{take_front}
-use Rattle.ufs_sound.specs.Parts.{IsDiskVisible}
+use Rattle.ufs_sound.specs.Visible.{IsDiskVisible}
 
 module _ (keeps : KeepsTrees) (S : Showing) (k : Start) (word : Word) (views : List View) (o : IsSound S k word views) where
   -- what shows the first entries by numbers that cover the whole is explained by them

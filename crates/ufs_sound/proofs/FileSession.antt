@@ -161,10 +161,10 @@ blind_files d at bytes blind some' fits = record {
     born = refl;
     store = refl;
     last = inl refl;
-    others = λ visible. absurd (no visible);
-    own = λ visible. absurd (no visible);
-    inside = λ visible. absurd (no visible);
-    end = λ visible. absurd (no visible);
+    others = λ visible. absurd (no visible.visible);
+    own = λ visible. absurd (no visible.visible);
+    inside = λ visible. absurd (no visible.visible);
+    end = λ visible. absurd (no visible.visible);
   };
 }
   where

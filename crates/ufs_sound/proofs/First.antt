@@ -127,7 +127,7 @@ one_image sectors image other ends is j s = at s (dec_le (suc s) sectors) j
         alone (inl e) = e
         alone (inr e) = absurd e
 
-root_nodes : (path : List ℕ) → fin.get path_root path ≡ fin.get (nodes_of root_tree) path
+pub root_nodes : (path : List ℕ) → fin.get path_root path ≡ fin.get (nodes_of root_tree) path
 root_nodes path =
     fin.get-from_entries path_total ((root, Dir) ∷ []) path ∙ by (eq_by_cmp path_cmp path root)
     ∙ ap (option_map node_of) (sym (fin.get-from_entries path_total (root_entry ∷ []) path)) ∙ sym (get-mapped path_total node_of root_tree path)
@@ -182,7 +182,7 @@ module _ (visible : Bool) (g : Geometry) (clients : ℕ) (cells : Cells) where
     past = refl;
     lent = refl;
     lent_names = refl;
-    shows = shows;
+    shows = λ seen. shows seen.visible;
     single = λ n. omega arith;
     faults = refl;
     stop = refl;

@@ -20,7 +20,7 @@ use Rattle.ufs_sound.specs.Commits.{TreesGo, IsWrittenBack, AreFilesWrittenBack,
 use Rattle.ufs_sound.specs.Commits.{AreFresh}
 use Rattle.ufs_sound.specs.Meets.{IsFileWrittenBy, AreFilesWrittenBy, HaveTheirBytes, PassagesMay, CommitsFile, FileCommitsMay, CommitsNames, NameCommitsMay, MayHaveDone, Fails, FailuresMay, CheckpointsMay, NothingIsDone, NothingIsWritten, WritesAreDone, FileCommitsAreDone, NameCommitsAreDone}
 use Rattle.ufs_sound.proofs.Commits.{blocks_show, block_writes_show, commit_shows, file_commits_show, names_show, name_commits_show, any_names, fewer_changes, fewer_show, on_the_way}
-use Rattle.ufs_sound.specs.Parts.{IsDiskVisible}
+use Rattle.ufs_sound.specs.Visible.{IsDiskVisible}
 
 -- ---- trees that stand so to one that shows the history show it too
 

@@ -5,15 +5,16 @@ use Rattle.std.proofs.lemmas.List.FromFn.{length-map-range_with_len}
 use Rattle.std.specs.FinMap as fin
 use Rattle.ufs_image.specs.Opens.{opens}
 use Rattle.ufs_model.specs.Order.{fd_cmp}
-use Rattle.ufs_model.specs.PosixTree.{IsTree}
-use Rattle.ufs_model.specs.Start.{HasContents, StartsHaveContents}
+use Rattle.ufs_model.specs.PosixTree.{PosixTree, IsTree}
+use Rattle.ufs_model.specs.Start.{HasContents, StartsHaveContents, start_of}
 use Rattle.ufs_model.specs.Laws.{KeepsTrees}
 use Rattle.ufs_model.specs.Touched.{holds}
 use Rattle.ufs_model.proofs.Facts.Held.{holder}
 use Rattle.ufs_model.proofs.Facts.Starts.{start_is_tree, held-start}
 use Rattle.ufs_sound.specs.Owned.{one, Has, count}
-use Rattle.ufs_sound.specs.Parts.{committed}
-use Rattle.ufs_sound.specs.Shown.{EachOpensTo}
+use Rattle.ufs_sound.specs.Parts.{StorePart, committed}
+use Rattle.ufs_sound.specs.Shown.{EachOpensTo, nodes_of}
+use Rattle.ufs_sound.specs.Visible.{IsDiskVisible}
 use Rattle.ufs_sound.specs.ByImages.{by_images}
 use Rattle.ufs_sound.specs.Whole.{CanOpen, idle_client, idle_asked}
 use Rattle.ufs_sound.specs.First.{settled_cell}
@@ -21,6 +22,7 @@ use Rattle.ufs_sound.specs.Opened.{OpenedDisk, opened_tree, opened_file, opened_
 use Rattle.ufs_sound.proofs.Owning.{none_some}
 use Rattle.ufs_sound.proofs.First.{one_each, all_are, each_once, none_after, within_range, in_range, one_image}
 use Rattle.ufs_sound.proofs.Showing.{openings_show}
+use Rattle.ufs_sound.proofs.Visible.{first_store_is, begun_opens}
 
 pub settled_disks_open : SettledDisksOpen
 settled_disks_open sectors image tree ends is other at = (
@@ -50,8 +52,9 @@ module _ (keeps : KeepsTrees) (have : StartsHaveContents) (d : OpenedDisk) (can 
       by true e = let l = ltb-true f (opened_tree d).next e in each_once (opened_file d) (opened_tree d).next 0 f (omega arith) (omega arith) ∙ ap one (sym e)
       by false e = let l = ltb-false f (opened_tree d).next e in none_after (opened_file d) (opened_tree d).next 0 f (omega arith) ∙ ap one (sym e)
 
-  opens_to : d.is_visible ≡ true → EachOpensTo (HasContents (opened_tree d)) d.cells
-  opens_to visible image is = let o = can.opens visible image is in (o.0, o.1, subst (HasContents (opened_tree d)) (sym o.2) (have d.nodes))
+  opens_to : IsDiskVisible (opened_start d) → EachOpensTo (HasContents (opened_tree d)) d.cells
+  opens_to visible = subst (EachOpensTo (HasContents (opened_tree d))) (ap (λ (s : StorePart). s.state) (first_store_is (opened_start d) visible (opened_store d) refl))
+      (λ image is. let o = begun_opens (opened_start d) visible image is in (o.0, o.1, subst (λ (t : PosixTree). HasContents t (nodes_of o.0)) (sym (visible.starts ∙ ap start_of (sym o.2))) (have (nodes_of o.0))))
 
   unheld : (c f : ℕ) (b : Bool) → holds (opened_tree d).fds c f ≡ b → holds (opened_tree d).fds c f ≡ false
   unheld c f true e = let h = holder (opened_tree d).fds c f e in absurd (none_some h.1 (sym (fin.get-empty fd_cmp (c, h.0)) ∙ h.2))
@@ -59,7 +62,7 @@ module _ (keeps : KeepsTrees) (have : StartsHaveContents) (d : OpenedDisk) (can 
 
   abbrev FileOpens : ℕ → Rattle.ufs_sound.specs.Parts.FilePart → Type 0
   FileOpens f p = (p.opening ≡ fin.get (opened_tree d).bytes f) × (p.changes ≡ []) × (fin.get (opened_tree d).bytes f ≡ Some p.bytes) × (p.known ≡ 0)
-      × (Rattle.ufs_sound.specs.Parts.IsDiskVisible (opened_start d) → Rattle.ufs_sound.specs.DiskBytes.IsOnDisk p d.cells)
+      × (IsDiskVisible (opened_start d) → Rattle.ufs_sound.specs.DiskBytes.IsOnDisk p d.cells)
       × ((bs : List ℕ) (b : ℕ) → fin.get d.extents f ≡ Some bs → Has b bs → Rattle.std.proofs.Common.◌⊎◌ (Has b p.blocks) (Has b p.quarantine))
 
   file_opens : (f : ℕ) → f < (opened_tree d).next → FileOpens f (opened_file d f)

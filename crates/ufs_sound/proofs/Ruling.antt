@@ -77,15 +77,16 @@ module _ (S : Showing) (k : Start) where
   join_keeps i v j u s h at ne there = record { word = h.word; is = h.is; clock = h.clock; sound = join_sound S k h.word s.views i j v u h.sound at ne there }
 
   -- the history of the state, of which the hand's clients have their entries
-  knows_tickets : (word : Word) (views : List View) (i : ℕ) (v : View) → IsSound S k word views → get_elem? views i ≡ some v → KnowsTickets v word.tickets
+  knows_tickets : (word : Word) (views : List View) (i : ℕ) (v : View) → IsSound S k word views → get_elem? views i ≡ some v → KnowsTickets k v word.tickets
   knows_tickets word views i v o at = record {
     history = o.history;
+    legal = o.legal.legal;
     all = o.tickets_once.tickets;
     entries = λ c p x. o.tickets_once.entries c p (o.one_hand.clients.agree i v at c p x);
     low = λ e h. (o.tickets_once.there e h).0;
   }
 
-  pub draw_keeps : KeepsTrees → Locality → MakesOneFile → (slots i : ℕ) (f : Fresh) (l : Leaves) (me : Me (Unit {0}) View) → MayDraw f me.0 l [] → Allows (IsRuled S k) slots i me 0 (λ n. (n + 1) % 2 ^ 64) (Drew f l me)
+  pub draw_keeps : KeepsTrees → Locality → MakesOneFile → (slots i : ℕ) (f : Fresh) (l : Leaves) (me : Me (Unit {0}) View) → MayDraw f me.0 l [] → Allows (IsRuled S k) slots i me 0 (λ n. (n + 1) % 2 ^ 64) (Drew k f l me)
   draw_keeps keeps' local makes slots i f l me m s h len at below =
       let n = slice_index s.words 0 in
       let is : n ≡ word_number h.word = ap (λ ws. slice_index ws 0) h.is in
@@ -103,12 +104,12 @@ module _ (S : Showing) (k : Start) where
           clock = low;
           sound = subst (λ x. IsSound S k next (set s.views i (drawn x f l me.0))) (sym ticket) (draw_sound (record { keeps = keeps'; local = local; makes = makes; S = S; k = k; word = h.word; views = s.views; i = i; v = me.0; f = f; l = l; known = []; live = λ x none. absurd none; o = h.sound; at = at; m = m }));
         },
-        (refl, subst (λ x. me.0.seen ≤ x) (sym ticket) (h.sound.clock.seen i me.0 at).0, subst (KnowsTickets me.0) (sym ticket) (knows_tickets h.word s.views i me.0 h.sound at)),
+        (refl, subst (λ x. me.0.seen ≤ x) (sym ticket) (h.sound.clock.seen i me.0 at).0, subst (KnowsTickets k me.0) (sym ticket) (knows_tickets h.word s.views i me.0 h.sound at)),
       )
 
   -- an event whose view afterwards is sound by whatever the tickets are keeps the rule
   event_keeps : (slots i : ℕ) (w : ℕ → View) (me : Me (Unit {0}) View)
-      → ((word : Word) (views : List View) → IsSound S k word views → get_elem? views i ≡ some me.0 → IsSound S k word (set views i (w word.tickets))) → Allows (IsRuled S k) slots i me 0 (λ n. n) (Marked w me)
+      → ((word : Word) (views : List View) → IsSound S k word views → get_elem? views i ≡ some me.0 → IsSound S k word (set views i (w word.tickets))) → Allows (IsRuled S k) slots i me 0 (λ n. n) (Marked k w me)
   event_keeps slots i w me sound s h len at below =
       let n = slice_index s.words 0 in
       let is : n ≡ word_number h.word = ap (λ ws. slice_index ws 0) h.is in
@@ -122,20 +123,20 @@ module _ (S : Showing) (k : Start) where
           clock = h.clock;
           sound = subst (λ x. IsSound S k h.word (set s.views i (w x))) (sym ticket) (sound h.word s.views h.sound at);
         },
-        (refl, subst (λ x. me.0.seen ≤ x) (sym ticket) (h.sound.clock.seen i me.0 at).0),
+        (refl, subst (λ x. me.0.seen ≤ x) (sym ticket) (h.sound.clock.seen i me.0 at).0, subst (KnowsTickets k me.0) (sym ticket) (knows_tickets h.word s.views i me.0 h.sound at)),
       )
 
   -- whatever the tickets are when it is marked
-  pub mark_keeps : KeepsTrees → (slots i : ℕ) (w : ℕ → View) (me : Me (Unit {0}) View) → ((tickets : ℕ) → MayRemake S k tickets me.0 (w tickets)) → Allows (IsRuled S k) slots i me 0 (λ n. n) (Marked w me)
+  pub mark_keeps : KeepsTrees → (slots i : ℕ) (w : ℕ → View) (me : Me (Unit {0}) View) → ((tickets : ℕ) → MayRemake S k tickets me.0 (w tickets)) → Allows (IsRuled S k) slots i me 0 (λ n. n) (Marked k w me)
   mark_keeps keeps' slots i w me m = event_keeps slots i w me (λ word views o at. remake_sound keeps' S k word views i me.0 (w word.tickets) o at (m word.tickets))
 
-  pub ask_keeps : (slots i : ℕ) (c : ℕ) (r : Op) (me : Me (Unit {0}) View) → (m : MayAsk c me.0) → Allows (IsRuled S k) slots i me 0 (λ n. n) (Marked (λ t. asking t c r m.copies m.self me.0) me)
+  pub ask_keeps : (slots i : ℕ) (c : ℕ) (r : Op) (me : Me (Unit {0}) View) → (m : MayAsk c me.0) → Allows (IsRuled S k) slots i me 0 (λ n. n) (Marked k (λ t. asking t c r m.copies m.self me.0) me)
   ask_keeps slots i c r me m = event_keeps slots i (λ t. asking t c r m.copies m.self me.0) me (λ word views o at. ask_sound S k word views i me.0 c r o at m)
 
-  pub grant_keeps : (slots i : ℕ) (l : Lease) (me : Me (Unit {0}) View) → MayGrant l me.0 → Allows (IsRuled S k) slots i me 0 (λ n. n) (Marked (λ t. granting t l me.0) me)
+  pub grant_keeps : (slots i : ℕ) (l : Lease) (me : Me (Unit {0}) View) → MayGrant l me.0 → Allows (IsRuled S k) slots i me 0 (λ n. n) (Marked k (λ t. granting t l me.0) me)
   grant_keeps slots i l me m = event_keeps slots i (λ t. granting t l me.0) me (λ word views o at. grant_sound S k word views i me.0 o at l m)
 
-  pub give_back_keeps : (slots i : ℕ) (p : PartName) (c : ℕ) (me : Me (Unit {0}) View) → MayGiveBack p c me.0 → Allows (IsRuled S k) slots i me 0 (λ n. n) (Marked (λ t. giving_back t p c me.0) me)
+  pub give_back_keeps : (slots i : ℕ) (p : PartName) (c : ℕ) (me : Me (Unit {0}) View) → MayGiveBack p c me.0 → Allows (IsRuled S k) slots i me 0 (λ n. n) (Marked k (λ t. giving_back t p c me.0) me)
   give_back_keeps slots i p c me m = event_keeps slots i (λ t. giving_back t p c me.0) me (λ word views o at. give_back_sound S k word views i me.0 o at p c m)
 
   -- the word that is read

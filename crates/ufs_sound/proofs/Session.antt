@@ -20,8 +20,9 @@ use native.Mathlib.Decide.{ℕ_discrete}
 use Rattle.ufs_model.specs.PosixTree.{Paths}
 use Rattle.ufs_model.specs.declared.data.Entry.{Entry}
 use Rattle.ufs_sound.specs.Owned.{one, Has, times}
-use Rattle.ufs_sound.specs.Parts.{IsDiskVisible, Cells, ClientPart, NamesPart, StorePart, View, Start, HoldsPart}
+use Rattle.ufs_sound.specs.Parts.{Cells, ClientPart, NamesPart, StorePart, View, Start, HoldsPart}
 use Rattle.ufs_sound.specs.Sound.{IsSound}
+use Rattle.ufs_sound.specs.Visible.{IsDiskVisible}
 use Rattle.ufs_sound.specs.Draws.{IsIn, IsAbsent, IsUnchanged, MayDraw, entry_of}
 use Rattle.ufs_sound.specs.Marks.{IsSingle}
 use Rattle.ufs_sound.specs.Events.{AreNamesMoved, MayMove, IsLent, turn_begun, MayPass, committed_names, MayCommitNames, MayFail, MayCheckpoint, MayAnswer}
@@ -277,8 +278,9 @@ module _ (keeps : KeepsTrees) (local : Locality) (makes : MakesOneFile) (g : Geo
       both : true ≡ false → ⊥
       both e = cc
 
-  pub is_short_session : IsShortSession k g cells
-  is_short_session = record {
+  pub is_short_session : IsDiskVisible k → IsShortSession k g cells
+  is_short_session visible = record {
+    visible = visible;
     after_begin = after_begin;
     after_ask = after_ask;
     after_split = after_split;

@@ -1,5 +1,5 @@
 -- A small disk has one file.
-use Rattle.std.proofs.Common.{◌≡◌, ℕ, ◌+◌, ◌≤◌, List, [], ◌∷◌, map, Some, unwrap_or, sym, refl, ap, ◌∙◌, subst, arith}
+use Rattle.std.proofs.Common.{◌≡◌, ℕ, ◌+◌, ◌≤◌, true, false, List, [], ◌∷◌, map, Some, unwrap_or, sym, refl, ap, ◌∙◌, subst, arith}
 use Rattle.std.specs.List.{range_with_len}
 use Rattle.std.specs.Ordering.{nat_cmp}
 use Rattle.std.specs.FinMap as fin
@@ -50,14 +50,16 @@ has_one_file = record {
     pools = λ n. omega arith;
     extents = λ f bs e. absurd (none_some bs (sym (fin.get-empty nat_cmp f) ∙ e));
     once = λ b. let z = uses_none b in omega arith;
-    on_disk = λ visible. cc;
-    opens = λ visible. cc;
+    on_disk = λ visible. absurd (unseen visible.visible);
   };
   one_file = ap (λ (t : PosixTree). t.next) tree_is;
   text = refl;
   walk = refl;
   node = ap (λ (t : PosixTree). node_at t.paths small_path) tree_is ∙ node_is;
 }
+  where
+    unseen : false ≡ true → ⊥
+    unseen e = cc
 
 -- its file has no bytes
 pub no_bytes : (opened_file (disk small_disk) 0).bytes ≡ []

@@ -16,7 +16,7 @@ use Rattle.ufs_sound.specs.Draws.{IsIn}
 use Rattle.ufs_sound.specs.Whole.{HoldsAll, IsMerge}
 use Rattle.ufs_sound.specs.Shown.{EachOpensTo}
 use Rattle.ufs_sound.specs.ByImages.{by_images}
-use Rattle.ufs_sound.specs.Parts.{IsDiskVisible}
+use Rattle.ufs_sound.specs.Visible.{IsDiskVisible}
 
 -- Each image that a crash may leave in this state opens to a tree that is explained by the first entries of the history,
 -- for each number of them from one to the other.

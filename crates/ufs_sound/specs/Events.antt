@@ -10,7 +10,7 @@ use Rattle.ufs_prefix.specs.Changes.{changes_of, name_changes}
 use Rattle.ufs_sound.specs.Parts.{Cells, FilePart, NamesPart, Shortage, Start, StorePart, View, only_one, uses, committed}
 use Rattle.ufs_sound.specs.Explained.{Showing}
 use Rattle.ufs_sound.specs.DiskBytes.{block_on, block_in, is_loaded}
-use Rattle.ufs_sound.specs.Parts.{IsDiskVisible}
+use Rattle.ufs_sound.specs.Visible.{IsDiskVisible}
 
 -- ---- blocks go between held parts
 

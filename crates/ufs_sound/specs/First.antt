@@ -10,6 +10,7 @@ use Rattle.ufs_image.specs.Formatted.{IsFormatted}
 use Rattle.ufs_model.specs.PosixTree.{root_alone}
 use Rattle.ufs_prefix.specs.Changes.{names_of}
 use Rattle.ufs_sound.specs.Parts.{Cells, NamesPart, StorePart, View, Start}
+use Rattle.ufs_sound.specs.Visible.{IsDiskVisible}
 use Rattle.ufs_sound.specs.Whole.{CanOpen, idle_client, idle_asked}
 use Rattle.ufs_sound.specs.ByImages.{by_images}
 
@@ -82,6 +83,10 @@ blind_start clients g cells = record { tree = root_alone; view = new_view client
 abbrev pub NewDiskOpens : Geometry → Type 0
 NewDiskOpens g = (clients sectors : ℕ) (image : Image) → sector_count g ≤ sectors → IsFormatted g image → EndsAt sectors image
     → CanOpen by_images (new_start clients g (settled_cells sectors image)) new_names (new_store g (settled_cells sectors image))
+
+-- That disk is visible, and proper as the session begins.
+abbrev pub NewDisksAreVisible : Geometry → Type 0
+NewDisksAreVisible g = (clients sectors : ℕ) (image : Image) → sector_count g ≤ sectors → IsFormatted g image → EndsAt sectors image → IsDiskVisible (new_start clients g (settled_cells sectors image))
 
 -- On a disk that isn't visible it can too.
 abbrev pub BlindDisksOpen : Type 0

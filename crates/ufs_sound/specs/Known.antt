@@ -12,7 +12,7 @@ use Rattle.ufs_sound.specs.DiskBytes.{IsOnDisk}
 use Rattle.ufs_sound.specs.Asked.{IsStill, IsAnswered}
 use Rattle.ufs_sound.specs.Draws.{IsIn}
 use Rattle.ufs_sound.specs.Marks.{IsKept}
-use Rattle.ufs_sound.specs.Parts.{IsDiskVisible}
+use Rattle.ufs_sound.specs.Visible.{IsDiskVisible}
 
 -- what the store's part tells of a file that the hand has
 pub record IsStoredFile (k : Start) (s : StorePart) (g : ℕ) (x : FilePart) : Type 0 where

@@ -1,6 +1,7 @@
 -- An event without an entry, on the parts that a hand has.
-use Rattle.std.specs.Prelude.{ℕ, ◌+◌, ◌≤◌, ◌<◌, ◌≡◌, ◌⊎◌, eqb, if◌then◌else◌, true, false, List, ◌∷◌, length, Some, None, unwrap_or, slice_get, slice_index_or}
+use Rattle.std.specs.Prelude.{ℕ, ◌+◌, ◌≤◌, ◌<◌, ◌≡◌, ◌⊎◌, eqb, if◌then◌else◌, true, false, List, ◌∷◌, length, take, Some, None, unwrap_or, slice_get, slice_index_or}
 use Rattle.std.specs.FinMap as fin
+use Rattle.ufs_model.specs.History.{IsLegal, entries_of}
 use Rattle.ufs_model.specs.declared.data.Op.{Op}
 use Rattle.ufs_model.specs.declared.data.Entry.{Entry}
 use Rattle.ufs_model.specs.declared.data.Lease.{Lease}
@@ -9,7 +10,7 @@ use Rattle.ufs_prefix.specs.Changes.{changes_of, name_changes}
 use Rattle.ufs_sound.specs.Parts.{ClientPart, AskedPart, FilePart, NamesPart, StorePart, Cells, Shortage, View, Start, only_one, uses, committed}
 use Rattle.ufs_sound.specs.DiskBytes.{block_on, block_in, is_loaded}
 use Rattle.ufs_sound.specs.Explained.{Showing}
-use Rattle.ufs_sound.specs.Parts.{IsDiskVisible}
+use Rattle.ufs_sound.specs.Visible.{IsDiskVisible}
 
 -- ---- a client asks a request
 
@@ -80,6 +81,18 @@ pub record HasChanges (k : Start) (v : View) (p : NamesPart) (h : List Entry) : 
   pub files : (g : ℕ) (x : FilePart) → Has (g, x) v.files → changes_of g k.tree h ≡ x.changes
   pub names : name_changes k.tree h ≡ p.changes
 
+-- These are the first entries, so many or more, of a legal history with as many entries as there are tickets. The hand's
+-- clients have theirs of it.
+pub record IsBeginningKnown (k : Start) (v : View) (from tickets : ℕ) (h : List Entry) : Type 0 where
+  pub history : List Entry
+  pub legal : IsLegal k.tree history
+  pub all : length history ≡ tickets
+  pub low : (e : Entry) → Has e history → e.client < 16
+  pub entries : (c : ℕ) (p : ClientPart) → Has (c, p) v.clients → p.entries ≡ entries_of c history
+  pub count : ℕ
+  pub least : from ≤ count
+  pub is : h ≡ take count history
+
 -- no device call, and nothing was committed
 pub record IsQuiet (s t : StorePart) : Type 0 where
   pub mark : t.mark ≡ s.mark
@@ -100,10 +113,10 @@ pub record IsTurn (S : Showing) (k : Start) (tickets : ℕ) (v : View) (s t : St
   pub past : t.past ≡ record { states = s.state ∷ through; from = s.mark; to = tickets } ∷ s.past
   pub lent : (g n : ℕ) → Has (g, n) t.lent → (x : FilePart) × Has (g, x) v.files × (n ≤ length x.changes)
   pub lent_names : t.lent_names ≤ length p.changes
-  -- each state on the way shows what the one before shows
-  pub inside : IsDiskVisible k → (h : List Entry) → HadChanges k v s p h → S.Shows k.tree h (committed s) s.names s.paths s.state → (x : Cells) → Has x through → S.Shows k.tree h (committed s) s.names None x
-  -- the last one shows what is committed then
-  pub end : IsDiskVisible k → (h : List Entry) → HasChanges k v p h → S.Shows k.tree h (committed s) s.names s.paths s.state → S.Shows k.tree h (committed t) t.names t.paths t.state
+  -- each state on the way shows what the one before shows, by each history since the last mark
+  pub inside : IsDiskVisible k → (h : List Entry) → IsBeginningKnown k v s.mark tickets h → HadChanges k v s p h → S.Shows k.tree h (committed s) s.names s.paths s.state → (x : Cells) → Has x through → S.Shows k.tree h (committed s) s.names None x
+  -- the last one shows what is committed then, by the history with each ticket
+  pub end : IsDiskVisible k → (h : List Entry) → IsBeginningKnown k v tickets tickets h → HasChanges k v p h → S.Shows k.tree h (committed s) s.names s.paths s.state → S.Shows k.tree h (committed t) t.names t.paths t.state
 
 -- Committed blocks are kept.
 pub record AreBlocksKept (v w : View) (s t : StorePart) (p q : NamesPart) : Type 0 where

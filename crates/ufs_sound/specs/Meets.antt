@@ -16,7 +16,7 @@ use Rattle.ufs_sound.specs.Events.{IsLent, Passage, MayPass, MayCommitFile, Name
 use Rattle.ufs_sound.specs.Shown.{OpensAs}
 use Rattle.ufs_sound.specs.Commits.{TreesGo, TreesMayGo, IsWrittenBack, IsFileCommitted, AreNamesCommitted, AreFresh}
 use Rattle.ufs_sound.specs.ByImages.{by_images}
-use Rattle.ufs_sound.specs.Parts.{IsDiskVisible}
+use Rattle.ufs_sound.specs.Visible.{IsDiskVisible}
 
 -- ---- a block is written, or a barrier passed
 

@@ -5,6 +5,8 @@ use Rattle.std.specs.Ordering.{nat_cmp}
 use Rattle.std.specs.FinMap as fin
 use Rattle.ufs_base.specs.Images.{Image}
 use Rattle.ufs_image.specs.Opens.{ImageTree, opens}
+use Rattle.ufs_image.specs.Proper.{IsProperImage}
+use Rattle.ufs_image.specs.Volume.{superblock_of}
 use Rattle.ufs_model.specs.FileBytes.{bytes_of}
 use Rattle.ufs_model.specs.PosixTree.{PosixTree}
 use Rattle.ufs_model.specs.Start.{PathNodes, IsPathTree, start_of}
@@ -13,11 +15,12 @@ use Rattle.ufs_sound.specs.Owned.{count}
 use Rattle.ufs_sound.specs.Parts.{Cells, FilePart, NamesPart, StorePart, View, Start, uses}
 use Rattle.ufs_sound.specs.DiskBytes.{IsOnDisk}
 use Rattle.ufs_sound.specs.Shown.{EachOpensTo, nodes_of}
+use Rattle.ufs_sound.specs.Visible.{IsDiskVisible}
 use Rattle.ufs_sound.specs.Whole.{CanOpen, idle_client, idle_asked}
 use Rattle.ufs_sound.specs.First.{settled_cells, EndsAt}
 use Rattle.ufs_sound.specs.ByImages.{by_images}
 
--- What is known of a disk when it is opened: the tree of paths to which its images open, its sectors, the blocks of each
+-- What is known of a disk when it is opened: its tree of paths, its sectors, the blocks of each
 -- file by its number, those of directories and those that are free; and who will share it.
 pub record OpenedDisk : Type 0 where
   pub nodes : PathNodes
@@ -27,7 +30,6 @@ pub record OpenedDisk : Type 0 where
   pub unassigned : List ℕ
   pub pools : List (ℕ × List ℕ)
   pub clients : ℕ
-  -- it is visible, and was proper
   pub is_visible : Bool
 
 module _ (d : OpenedDisk) where
@@ -102,20 +104,25 @@ module _ (d : OpenedDisk) where
   abbrev pub opened_start : Start
   opened_start = record { tree = opened_tree; view = opened_view; is_visible = d.is_visible }
 
-  -- Only files of the tree have blocks, and no block is in two places. Where the disk is visible, each image that a
-  -- crash may leave opens to the tree, and the files' blocks have their bytes.
+  -- Only files of the tree have blocks, and no block is in two places. Where the disk is visible, and was proper, the
+  -- files' blocks have their bytes.
   pub record CanBeOpened : Type 0 where
     pub paths : IsPathTree d.nodes
     pub small : opened_tree.next ≤ 1073741824
     pub pools : (n : ℕ) → count eqb n d.pools ≤ 1
     pub extents : (f : ℕ) (bs : List ℕ) → fin.get d.extents f ≡ Some bs → f < opened_tree.next
     pub once : (b : ℕ) → uses b opened_view ≤ 1
-    pub on_disk : d.is_visible ≡ true → (f : ℕ) → f < opened_tree.next → IsOnDisk (opened_file f) d.cells
-    pub opens : d.is_visible ≡ true → EachOpensTo (λ nodes. nodes ≡ d.nodes) d.cells
+    pub on_disk : IsDiskVisible opened_start → (f : ℕ) → f < opened_tree.next → IsOnDisk (opened_file f) d.cells
 
 -- On such a disk a session can begin, with every file in its part.
 abbrev pub OpenedDisksServe : Type 0
 OpenedDisksServe = (d : OpenedDisk) → CanBeOpened d → CanOpen by_images (opened_start d) (opened_names d) (opened_store d)
+
+-- A visible disk with nothing pending is proper as the session begins, if its image is proper, marked clean and opens to the
+-- tree of paths.
+abbrev pub SettledDisksAreVisible : Type 0
+SettledDisksAreVisible = (d : OpenedDisk) (sectors : ℕ) (image : Image) (tree : ImageTree) → d.is_visible ≡ true → d.cells ≡ settled_cells sectors image → EndsAt sectors image
+    → IsProperImage sectors image → (superblock_of image).clean ≡ true → opens sectors image ≡ Ok tree → d.nodes ≡ nodes_of tree → IsDiskVisible (opened_start d)
 
 -- A disk with nothing pending has one image, so it opens to the tree of that one.
 abbrev pub SettledDisksOpen : Type 0

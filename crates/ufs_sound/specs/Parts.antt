@@ -260,8 +260,5 @@ pub record Word : Type 0 where
 pub record Start : Type 0 where
   pub tree : PosixTree
   pub view : View
-  -- The disk is visible, and was proper then. Else nothing is said of what it holds.
+  -- The disk is visible. Else nothing is said of what it holds.
   pub is_visible : Bool
-
-abbrev pub IsDiskVisible : Start → Type 0
-IsDiskVisible k = k.is_visible ≡ true

@@ -1,7 +1,7 @@
 -- The rule of the table that the hands of a session share: its word, and the views of its seats.
 use Rattle.std.specs.Prelude.{ℕ, ◌+◌, ◌*◌, ◌/◌, ◌%◌, ◌≤◌, ◌<◌, ◌≡◌, ◌≢◌, List, [], ◌∷◌, length}
 use Rattle.atomic_table.specs.Table.{State}
-use Rattle.ufs_model.specs.History.{entries_of}
+use Rattle.ufs_model.specs.History.{IsLegal, entries_of}
 use Rattle.ufs_model.specs.declared.data.Entry.{Entry}
 use Rattle.ufs_sound.specs.declared.fresh.Fresh.{Fresh}
 use Rattle.ufs_sound.specs.Owned.{Has}
@@ -24,20 +24,21 @@ pub record IsRuled (S : Showing) (k : Start) (s : State (Unit {0}) View) : Type 
   pub clock : word.clock < 16777216
   pub sound : IsSound S k word s.views
 
--- There is one history with so many entries, and the hand's clients have their entries of it.
-pub record KnowsTickets (v : View) (tickets : ℕ) : Type 0 where
+-- There is one legal history with so many entries, and the hand's clients have their entries of it.
+pub record KnowsTickets (k : Start) (v : View) (tickets : ℕ) : Type 0 where
   pub history : List Entry
+  pub legal : IsLegal k.tree history
   pub all : length history ≡ tickets
   pub entries : (client : ℕ) (p : ClientPart) → Has (client, p) v.clients → p.entries ≡ entries_of client history
   pub low : (e : Entry) → Has e history → e.client < 16
 
 -- what a draw leaves: the old low 40 bits are the ticket, and so many entries there are before it
-abbrev pub Drew : Fresh → Leaves → View × List (ℕ × Unit {0}) → ℕ → View × List (ℕ × Unit {0}) → Type 0
-Drew f l v n w = (w ≡ (drawn (n % clock_step) f l v.0, v.1)) × (v.0.seen ≤ n % clock_step) × KnowsTickets v.0 (n % clock_step)
+abbrev pub Drew : Start → Fresh → Leaves → View × List (ℕ × Unit {0}) → ℕ → View × List (ℕ × Unit {0}) → Type 0
+Drew k f l v n w = (w ≡ (drawn (n % clock_step) f l v.0, v.1)) × (v.0.seen ≤ n % clock_step) × KnowsTickets k v.0 (n % clock_step)
 
--- what a mark leaves: it may look at the tickets
-abbrev pub Marked : (ℕ → View) → View × List (ℕ × Unit {0}) → ℕ → View × List (ℕ × Unit {0}) → Type 0
-Marked w v n u = (u ≡ (w (n % clock_step), v.1)) × (v.0.seen ≤ n % clock_step)
+-- what a mark leaves: it may look at the tickets, and so many entries there are then
+abbrev pub Marked : Start → (ℕ → View) → View × List (ℕ × Unit {0}) → ℕ → View × List (ℕ × Unit {0}) → Type 0
+Marked k w v n u = (u ≡ (w (n % clock_step), v.1)) × (v.0.seen ≤ n % clock_step) × KnowsTickets k v.0 (n % clock_step)
 
 -- the word that a number has
 abbrev pub word_at : ℕ → Word

@@ -14,6 +14,7 @@ use Rattle.ufs_model.specs.declared.data.Reply.TheVariants as reply
 use Rattle.ufs_sound.specs.declared.fresh.Fresh.{Fresh}
 use Rattle.ufs_sound.specs.Parts.{Cells, NamesPart, Shortage, StorePart, View, Word, Start, kept_of, given_of, both_of, spent}
 use Rattle.ufs_sound.specs.Sound.{IsSound}
+use Rattle.ufs_sound.specs.Visible.{IsDiskVisible}
 use Rattle.ufs_sound.specs.Draws.{Leaves, drawn}
 use Rattle.ufs_sound.specs.Marks.{asking}
 use Rattle.ufs_sound.specs.Clock.{looked, at_clock, ticked}
@@ -134,8 +135,9 @@ module _ (g : Geometry) (cells : Cells) where
   abbrev pub last_store : StorePart
   last_store = event.answered (2 ∷ []) (too_few ∷ []) store_stopped
 
--- Each state is sound, and the last hand knows one whole history.
+-- The disk is visible, and was proper; each state is sound, and the last hand knows one whole history.
 pub record IsShortSession (k : Start) (g : Geometry) (cells : Cells) : Type 0 where
+  pub visible : IsDiskVisible k
   pub after_begin : IsSound by_images k (at_word 0 0) (opened g cells ∷ [])
   pub after_ask : IsSound by_images k (at_word 0 0) (asked g cells ∷ [])
   pub after_split : IsSound by_images k (at_word 0 0) (server g cells ∷ client g cells ∷ [])

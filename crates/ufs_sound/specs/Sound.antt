@@ -16,7 +16,7 @@ use Rattle.ufs_sound.specs.Explained.{Showing, AreStatesExplained}
 use Rattle.ufs_sound.specs.FaultsOnce.{AreFaultsOnce}
 use Rattle.ufs_sound.specs.ClockTrue.{IsClockTrue}
 use Rattle.ufs_sound.specs.Asked.{IsAskedTrue}
-use Rattle.ufs_sound.specs.Parts.{IsDiskVisible}
+use Rattle.ufs_sound.specs.Visible.{IsDiskVisible}
 
 pub record IsSound (S : Showing) (k : Start) (word : Word) (views : List View) : Type 0 where
   pub history : List Entry

@@ -12,7 +12,7 @@ use Rattle.ufs_sound.specs.Parts.{ClientPart, AskedPart, FilePart, NamesPart, St
 use Rattle.ufs_sound.specs.Explained.{Showing, IsDiskExplained}
 use Rattle.ufs_sound.specs.DiskBytes.{IsOnDisk}
 use Rattle.ufs_sound.specs.Draws.{IsIn}
-use Rattle.ufs_sound.specs.Parts.{IsDiskVisible}
+use Rattle.ufs_sound.specs.Visible.{IsDiskVisible}
 
 -- ---- the opening
 

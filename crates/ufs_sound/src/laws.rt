@@ -1,11 +1,12 @@
 // What the steps of hands mean, apart from the table: each a law that an empty function's contract states.
 ghost use Rattle.ufs_sound.specs.Covers.{CoversAsSynced};
 ghost use Rattle.ufs_sound.specs.Shown.{OpeningsShow, SameTreesShow};
+ghost use Rattle.ufs_sound.specs.Acknowledged.{ExplainedShow, AcknowledgedShow, FilesAreAcknowledged, NamesAreAcknowledged, BirthsAreAcknowledged, FilesStayAcknowledged, NamesStayAcknowledged, BirthsStayAcknowledged, BirthsWereCovered, NumbersStayAcknowledged};
 ghost use Rattle.ufs_sound.specs.Commits.{BlockWritesShow, FileCommitsShow, NameCommitsShow, UnbornAreFresh, FewerShow};
 ghost use Rattle.ufs_sound.specs.Meets.{PassagesMay, FileCommitsMay, NameCommitsMay, FailuresMay, CheckpointsMay, NothingIsDone, NothingIsWritten, WritesAreDone, FileCommitsAreDone, NameCommitsAreDone};
 ghost use Rattle.ufs_sound.specs.ByImages.{by_images};
-ghost use Rattle.ufs_sound.specs.First.{NewDiskOpens, BlindDisksOpen};
-ghost use Rattle.ufs_sound.specs.Opened.{OpenedDisksServe, SettledDisksOpen};
+ghost use Rattle.ufs_sound.specs.First.{NewDiskOpens, NewDisksAreVisible, BlindDisksOpen};
+ghost use Rattle.ufs_sound.specs.Opened.{OpenedDisksServe, SettledDisksAreVisible, SettledDisksOpen};
 ghost use Rattle.ufs_sound.specs.Refused.{DrawsNeedTheirParts, DrawsTakeTheWordsTicket, SplitsLeaveNone, SentPartsAreNotDrawnOn, PartsStandOnce, BlocksStandOnce, SyncsNeedCommits, KnownIsCommitted, TicketsAreOnce, ClosesNeedAll};
 ghost use Rattle.ufs_sound.specs.Session.{NewDiskServes};
 ghost use Rattle.ufs_sound.specs.FileSession.{FilesAreServed, BlindFilesMayBeWritten, HasOneFile, small_disk};
@@ -104,6 +105,18 @@ pub fn acknowledged_changes_are_covered()
     a_request_keeps_the_tree();
 }
 
+/// Which numbers of changes an entry acknowledges, and that they stay acknowledged, whatever the next entry is.
+pub fn acknowledged_numbers()
+    ensures files { FilesAreAcknowledged }
+    ensures names { NamesAreAcknowledged }
+    ensures births { BirthsAreAcknowledged }
+    ensures files_stay { FilesStayAcknowledged }
+    ensures names_stay { NamesStayAcknowledged }
+    ensures births_stay { BirthsStayAcknowledged }
+    ensures births_before { BirthsWereCovered }
+    ensures numbers_stay { NumbersStayAcknowledged }
+{}
+
 /// What a state shows by the images that a crash may leave in it.
 pub struct Images;
 
@@ -118,6 +131,13 @@ pub fn images_show_trees()
 {
     a_request_keeps_the_tree();
 }
+
+/// A disk that is explained by a history shows the numbers of changes that the history acknowledges: also of the history
+/// before its last entry, where that one acknowledges changes.
+pub fn explained_images_show()
+    ensures explained { ExplainedShow }
+    ensures acknowledged { AcknowledgedShow }
+{}
 
 /// Blocks that are written, and files and names that are committed, leave a disk that shows the history, by the trees to
 /// which its images open.
@@ -161,10 +181,12 @@ pub fn every_image_is_explained()
     an_end_is_whole::<Images>();
 }
 
-/// A session can begin on a disk that was formatted and has nothing pending, and on one that isn't visible.
+/// A session can begin on a disk that was formatted and has nothing pending, which is visible and was proper, and on one that
+/// isn't visible.
 pub fn a_new_disk_can_be_opened(geometry: &Geometry)
     requires { IsGeometry geometry.now }
     ensures told { NewDiskOpens geometry.now }
+    ensures visible { NewDisksAreVisible geometry.now }
     ensures blind { BlindDisksOpen }
 {
     new_image_law(geometry);
@@ -172,17 +194,20 @@ pub fn a_new_disk_can_be_opened(geometry: &Geometry)
     a_start_is_a_tree();
 }
 
-/// A session can begin on a disk that has files: each image that a crash may leave opens to one tree, and each file of it
-/// has a part, with its blocks. There may be any number of clients and pools.
+/// A session can begin on a disk that has files: each file of its tree has a part, with its blocks. There may be any number
+/// of clients and pools. A disk with nothing pending opens to one tree; where the disk is visible, and its image is proper and
+/// marked clean, it is one of which the laws speak.
 pub fn a_disk_with_files_can_be_opened()
     ensures serves { OpenedDisksServe }
+    ensures visible { SettledDisksAreVisible }
     ensures settled { SettledDisksOpen }
 {
     a_request_keeps_the_tree();
     a_start_is_a_tree();
 }
 
-/// A short session over a new disk, with a step of each kind: each state is sound, and the last hand knows one history.
+/// A short session over a new disk, with a step of each kind: the disk is visible and was proper, each state is sound, and the
+/// last hand knows one history.
 pub fn a_short_session_is_sound(geometry: &Geometry)
     requires { IsGeometry geometry.now }
     ensures { NewDiskServes geometry.now }

@@ -1,6 +1,6 @@
 -- After a tick each state of the disk is explained.
 use Rattle.ufs_sound.specs.Explained.{AreStatesExplained}
-use Rattle.ufs_sound.specs.Parts.{IsDiskVisible}
+use Rattle.ufs_sound.specs.Visible.{IsDiskVisible}
 use Rattle.ufs_sound.proofs.Clock.Setting.{Tick, ticks}
 
 module _ (tick : Tick) where

@@ -18,7 +18,7 @@ use Rattle.ufs_sound.proofs.Keys.{itself, alike}
 use Rattle.ufs_sound.proofs.Exchange.{value_is, names_single}
 use Rattle.ufs_sound.proofs.Draw.Setting.{Draw, outcome, push, names_kept, names_same, rising}
 use Rattle.ufs_sound.proofs.Draw.Cases.{file_case, names_case, store_same}
-use Rattle.ufs_sound.specs.Parts.{IsDiskVisible}
+use Rattle.ufs_sound.specs.Visible.{IsDiskVisible}
 
 module _ (draw : Draw) where
   open draw use {k, views, i, v, l, live, o, at, m}

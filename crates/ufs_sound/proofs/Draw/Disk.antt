@@ -9,7 +9,7 @@ use Rattle.ufs_sound.proofs.Lists.{take_push, take_whole}
 use Rattle.ufs_sound.proofs.Draw.Cases.{store_same}
 use Rattle.ufs_sound.proofs.Draw.History.{legal_after}
 use Rattle.ufs_sound.proofs.Draw.Setting.{Draw, outcome}
-use Rattle.ufs_sound.specs.Parts.{IsDiskVisible}
+use Rattle.ufs_sound.specs.Visible.{IsDiskVisible}
 
 module _ (draw : Draw) where
   open draw use {keeps, S, k, word, o}

@@ -44,8 +44,8 @@ module _ (S : Showing) (k : Start) (n : ℕ) (v : View) (p0 : NamesPart) (s0 : S
         past = refl;
         lent = λ g m a. absurd a;
         lent_names = omega arith;
-        inside = λ visible h had shows d i. may.inside visible h (lent_had k v single s0 p0 names_there h had) shows d i;
-        end = λ visible h has shows. may.end visible h has.names shows;
+        inside = λ visible h known had shows d i. may.inside visible h (lent_had k v single s0 p0 names_there h had) shows d i;
+        end = λ visible h known has shows. may.end visible h has.names shows;
       });
       answers = answers_stay v checked s0 t0 refl refl refl refl refl refl;
     }

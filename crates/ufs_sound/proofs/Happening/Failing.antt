@@ -34,8 +34,8 @@ module _ (S : Showing) (k : Start) (n : ℕ) (v : View) (s0 : StorePart) (f : Fa
         past = refl;
         lent = λ g m a. absurd a;
         lent_names = omega arith;
-        inside = λ visible h had shows d i. may.inside visible h (lent_had k v single s0 p there h had) shows d i;
-        end = λ visible h has shows. may.inside visible h (lent_has k v single s0 p there h has) shows f.state may.last;
+        inside = λ visible h known had shows d i. may.inside visible h (lent_had k v single s0 p there h had) shows d i;
+        end = λ visible h known has shows. may.inside visible h (lent_has k v single s0 p there h has) shows f.state may.last;
       });
       answers = record {
         single = new_once;

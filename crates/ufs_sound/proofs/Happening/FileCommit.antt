@@ -93,8 +93,8 @@ module _ (S : Showing) (k : Start) (n : ℕ) (v : View) (g : ℕ) (x : FilePart)
         lent = λ h m a. ⊎_elim (λ (e : (h, m) ≡ (g, length x.changes)).
             (x, subst (λ y. Has (y, x) v.files) (sym (ap (λ (q : ℕ × ℕ). q.0) e)) there, (let c = ap (λ (q : ℕ × ℕ). q.1) e in omega arith))) (λ e. absurd e) a;
         lent_names = omega arith;
-        inside = λ visible h had shows d i. may.inside visible h (λ e. had.files g x there (subst (Has {A = ℕ × ℕ} (g, length x.changes)) e (inl refl))) shows d i;
-        end = λ visible h has shows. may.end visible h (has.files g x there) shows;
+        inside = λ visible h known had shows d i. may.inside visible h (λ e. had.files g x there (subst (Has {A = ℕ × ℕ} (g, length x.changes)) e (inl refl))) shows d i;
+        end = λ visible h known has shows. may.end visible h (has.files g x there) shows;
       });
       answers = answers_stay v commits s0 (made s0) refl refl refl refl refl refl;
     }

@@ -51,8 +51,8 @@ module _ (S : Showing) (k : Start) (n : ℕ) (v : View) (p0 : NamesPart) (s0 : S
         past = refl;
         lent = λ g m a. absurd a;
         lent_names = omega arith;
-        inside = λ visible h had shows d i. may.inside visible h had.names shows d i;
-        end = λ visible h has shows. may.end visible h has.names shows;
+        inside = λ visible h known had shows d i. may.inside visible h had.names shows d i;
+        end = λ visible h known has shows. may.end visible h has.names shows;
       });
       answers = answers_stay v named s0 t0 refl refl refl refl refl refl;
     }

@@ -40,8 +40,8 @@ module _ (S : Showing) (k : Start) (n : ℕ) (v : View) (s0 : StorePart) (lent :
         past = refl;
         lent = λ g m a. let x = may.lends.files g m a in (x.0, x.1, (let e = x.2 in omega arith));
         lent_names = lent_few;
-        inside = λ visible h had shows d i. may.inside visible h (lent_had k v single s0 p there h had) shows d i;
-        end = λ visible h has shows. may.end visible h (has_hand h has) shows;
+        inside = λ visible h known had shows d i. may.inside visible h (lent_had k v single s0 p there h had) shows d i;
+        end = λ visible h known has shows. may.end visible h (has_hand h has) shows;
       });
       answers = answers_stay v passes s0 t0 refl refl refl refl refl refl;
     }

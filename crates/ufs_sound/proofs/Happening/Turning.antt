@@ -37,8 +37,8 @@ module _ (S : Showing) (k : Start) (n : ℕ) (v : View) (s0 : StorePart) (has : 
       past = ap (λ (z : StorePart). z.past) is;
       lent = λ g m h. let x = l.files g m (subst (Has (g, m)) (ap (λ (z : StorePart). z.lent) is) h) in (x.0, x.1, (let e = x.2 in omega arith));
       lent_names = let a = ap (λ (z : StorePart). z.lent_names) is in let b = lent_few in omega arith;
-      inside = λ visible h c sh x none. absurd none;
-      end = λ visible h c sh. subst (λ (z : StorePart). S.Shows k.tree h (committed z) z.names z.paths z.state) (sym is) sh;
+      inside = λ visible h known c sh x none. absurd none;
+      end = λ visible h known c sh. subst (λ (z : StorePart). S.Shows k.tree h (committed z) z.names z.paths z.state) (sym is) sh;
     }
 
     pub turn_on : RemakesOn S k n v turned s t p q

@@ -3,7 +3,7 @@ use Rattle.std.proofs.Common.{sym, subst}
 use Rattle.ufs_sound.specs.Parts.{FilePart}
 use Rattle.ufs_sound.specs.DiskBytes.{IsOnDisk}
 use Rattle.ufs_sound.specs.DiskBytes.{HasDiskBytes}
-use Rattle.ufs_sound.specs.Parts.{IsDiskVisible}
+use Rattle.ufs_sound.specs.Visible.{IsDiskVisible}
 use Rattle.ufs_sound.proofs.Lease.Setting.{LeaseStep, leasing}
 
 module _ (step : LeaseStep) where

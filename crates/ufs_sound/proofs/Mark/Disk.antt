@@ -8,7 +8,7 @@ use Rattle.ufs_sound.specs.Parts.{FilePart, View, uses, file_uses}
 use Rattle.ufs_sound.specs.DiskBytes.{HasDiskBytes, is_loaded, block_in, block_on}
 use Rattle.ufs_sound.proofs.Owning.{total_two, count_has, some_view}
 use Rattle.ufs_sound.proofs.Keys.{itself, alike}
-use Rattle.ufs_sound.specs.Parts.{IsDiskVisible}
+use Rattle.ufs_sound.specs.Visible.{IsDiskVisible}
 use Rattle.ufs_sound.proofs.Mark.Setting.{Mark, Remade, remaking}
 
 has_weighs : {A : Type 0} (m : A → ℕ) (x : A) (xs : List A) → Has x xs → m x ≤ weigh m xs

@@ -1,5 +1,5 @@
 -- After a mark each state of the disk is explained.
-use Rattle.std.proofs.Common.{◌≡◌, ℕ, ◌≤◌, List, ◌∷◌, ◌++◌, length, Option, None, sym, ap, ◌∙◌, subst, ⊎_elim, arith}
+use Rattle.std.proofs.Common.{◌≡◌, ℕ, ◌≤◌, List, ◌∷◌, ◌++◌, length, Option, None, refl, sym, ap, ◌∙◌, subst, ⊎_elim, arith}
 use Rattle.std.specs.Prelude.{take}
 use Rattle.ufs_model.specs.PosixTree.{Paths}
 use Rattle.ufs_model.specs.History.{tree_after}
@@ -8,11 +8,11 @@ use Rattle.ufs_prefix.specs.Changes.{changes_of, name_changes}
 use Rattle.ufs_prefix.proofs.Facts.Histories.{changes_of-append, name_changes-append}
 use Rattle.ufs_sound.specs.Parts.{Cells, Stretch, committed}
 use Rattle.ufs_sound.specs.Explained.{AreJoined, AreStatesExplained}
-use Rattle.ufs_sound.specs.Marks.{HadChanges, HasChanges, IsQuiet, IsTurn}
+use Rattle.ufs_sound.specs.Marks.{HadChanges, HasChanges, IsBeginningKnown, IsQuiet, IsTurn}
 use Rattle.ufs_sound.proofs.Lists.{take_whole, front_same, take_front, take_more}
 use Rattle.ufs_sound.proofs.Explaining.{explains_cut}
 use Rattle.ufs_sound.proofs.Covering.{changes_front, names_front}
-use Rattle.ufs_sound.specs.Parts.{IsDiskVisible}
+use Rattle.ufs_sound.specs.Visible.{IsDiskVisible}
 use Rattle.ufs_sound.proofs.Mark.Setting.{Mark, remaking}
 
 module _ (mark : Mark) where
@@ -66,6 +66,19 @@ module _ (mark : Mark) where
         front_same (name_changes k.tree (take j o.history)) (name_changes (tree_after k.tree (take j o.history)) rest.0) (omega arith) ∙ sym all ∙ sym fits;
   }
 
+  -- the first entries of the history of the state
+  beginning : (from j : ℕ) → from ≤ j → IsBeginningKnown k v from n (take j o.history)
+  beginning from j low = record {
+    history = o.history;
+    legal = o.legal.legal;
+    all = o.tickets_once.tickets;
+    low = λ e h. (o.tickets_once.there e h).0;
+    entries = λ c p x. o.tickets_once.entries c p (o.one_hand.clients.agree i v at c p x);
+    count = j;
+    least = low;
+    is = refl;
+  }
+
   has : HasChanges k v o.world.names o.history
   has = record { files = λ g x h. sym (o.legal.files g x (o.one_hand.files.agree i v at g x h)).changes; names = sym o.legal.names.changes }
 
@@ -84,14 +97,14 @@ module _ (mark : Mark) where
         let is : j ≡ n = (let a = q.mark in omega arith) in
         let h : take j o.history ≡ o.history = ap (λ z. take z o.history) is ∙ all_history in
         subst (λ z. S.Shows k.tree z (committed remade.store) remade.store.names remade.store.paths remade.store.state) (sym h)
-        (q.end visible o.history has (subst (λ z. S.Shows k.tree z (committed o.world.store) o.world.store.names o.world.store.paths o.world.store.state) all_history ((o.explained visible).now n (o.explained visible).marked (omega arith))));
+        (q.end visible o.history (subst (IsBeginningKnown k v n n) all_history (beginning n n (omega arith))) has (subst (λ z. S.Shows k.tree z (committed o.world.store) o.world.store.names o.world.store.paths o.world.store.state) all_history ((o.explained visible).now n (o.explained visible).marked (omega arith))));
     ended = λ x h. ⊎_elim (λ (e : x ≡ last q). let a = ap (λ (z : Stretch). z.to) e in let b = q.mark in omega arith)
         (λ (y : Has x o.world.store.past). let a = (o.explained visible).ended x y in let b = q.mark in let c = (o.explained visible).marked in omega arith) (subst (Has x) q.past h);
     joined = subst (λ z. AreJoined z remade.store.mark) (sym q.past) (sym q.mark, (o.explained visible).marked, (o.explained visible).joined);
     past = λ x h. ⊎_elim (λ (e : x ≡ last q). subst (λ (z : Stretch). (j : ℕ) → z.from ≤ j → j ≤ z.to → (d : Cells) → Has d z.states → S.Explains k.tree (take j o.history) d) (sym e)
         (λ j low high d hd. ⊎_elim
         (λ (y : d ≡ o.world.store.state). subst (λ z. S.Explains k.tree (take j o.history) z) (sym y) (explains_cut keeps S k word views o j o.world.store.paths o.world.store.state ((o.explained visible).now j low high)))
-        (λ (y : Has d q.through). explains_cut keeps S k word views o j None d (q.inside visible (take j o.history) (had visible j low) ((o.explained visible).now j low high) d y)) hd))
+        (λ (y : Has d q.through). explains_cut keeps S k word views o j None d (q.inside visible (take j o.history) (beginning o.world.store.mark j low) (had visible j low) ((o.explained visible).now j low high) d y)) hd))
         (λ (y : Has x o.world.store.past). (o.explained visible).past x y) (subst (Has x) q.past h);
   }
 
