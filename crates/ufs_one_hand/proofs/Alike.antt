@@ -5,7 +5,7 @@ use Rattle.std.specs.FinMap as fin
 use Rattle.ufs_base.specs.Choices.{first_of}
 use Rattle.ufs_base.specs.declared.limits.TheConstants.{MAX_CLIENTS}
 use Rattle.ufs_base.specs.declared.sizes.TheConstants.{SLOTS_PER_BLOCK}
-use Rattle.ufs_model.specs.PosixTree.{PosixTree, Paths, IsTree, desc_at}
+use Rattle.ufs_model.specs.PosixTree.{PosixTree, Paths, IsTree, desc_at, is_number}
 use Rattle.ufs_model.specs.Walk.{node_at}
 use Rattle.ufs_model.specs.Directories.{entry_count}
 use Rattle.ufs_model.specs.Descriptors.{opened, closed}
@@ -28,7 +28,7 @@ use Rattle.ufs_model.specs.declared.data.Reply.{Reply}
 use Rattle.ufs_model.specs.declared.data.Reply.TheVariants as reply
 use Rattle.ufs_model.proofs.AlikeLemmas.{live_alike}
 use Rattle.ufs_model.proofs.ToldLemmas.{own_same, tree_same, content_same}
-use Rattle.ufs_prefix.specs.Changes.{change_of, names_by}
+use Rattle.ufs_prefix.specs.Changes.{asks_dir_fsync, asks_fsync, change_of, names_by}
 use Rattle.ufs_prefix.proofs.Facts.Local.{file_alike, names_alike}
 use Rattle.ufs_sound.specs.Covers.{step_in}
 use Rattle.ufs_sound.specs.Draws.{IsIn}
@@ -49,6 +49,16 @@ pub record AreAlike (client : ℕ) (t u : PosixTree) : Type 0 where
   pub bytes : (f : ℕ) → fin.get t.bytes f ≡ fin.get u.bytes f
   pub fds : (fd : ℕ) → desc_at t client fd ≡ desc_at u client fd
   pub holds : (c f : ℕ) → holds t.fds c f ≡ holds u.fds c f
+
+-- ---- what is asked to last
+
+pub alike_fsync : (t u : PosixTree) (client g : ℕ) → AreAlike client t u → (o : Op) → asks_fsync g u client o ≡ asks_fsync g t client o
+alike_fsync t u client g same (op.Fsync fd) = ap (λ (d : Option Desc). is_number g (unwrap_or d closed).file) (sym (same.fds fd))
+alike_fsync t u client g same _ = refl
+
+pub alike_dir : (t u : PosixTree) (client : ℕ) → AreAlike client t u → (o : Op) → asks_dir_fsync u client o ≡ asks_dir_fsync t client o
+alike_dir t u client same (op.Fsync fd) = ap (λ (d : Option Desc). is_none (unwrap_or d closed).file) (sym (same.fds fd))
+alike_dir t u client same _ = refl
 
 -- ---- the trees of a session
 

@@ -53,6 +53,7 @@ module _ (k : Start) (history : List Entry) (client : ℕ) (low : client < MAX_C
       let same_asked = λ (c : ℕ). weigh_each (asking_asked client (asked_by tickets request [] self)) (λ n. one (eqb c n)) v.asked in
       record {
         tree = h.tree;
+        legal = h.legal;
         start = h.start;
         all_clients = λ c. same c ∙ h.all_clients c;
         all_asked = λ c. same_asked c ∙ h.all_asked c;
@@ -62,6 +63,7 @@ module _ (k : Start) (history : List Entry) (client : ℕ) (low : client < MAX_C
         theirs = λ e a. subst (λ n. 1 ≤ n) (sym (same e.client)) (h.theirs e a);
         all_files = h.all_files;
         files = h.files;
+        changes = h.changes;
         pools = h.pools;
         names = h.names;
         has_names = h.has_names;

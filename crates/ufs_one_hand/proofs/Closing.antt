@@ -1,5 +1,5 @@
 -- The hand with all parts ends the session, and knows how many entries there are.
-use Rattle.std.proofs.Common.{◌≡◌, ◌≢◌, ℕ, ◌≤◌, ◌||◌, true, eqb, ne_eqb, List, [], ◌∷◌, length, None, cond, is_some, sym, refl, ap, ◌∙◌, subst, inl, inr, arith}
+use Rattle.std.proofs.Common.{◌≡◌, ℕ, ◌≤◌, ◌||◌, true, eqb, List, [], ◌∷◌, length, None, is_some, sym, refl, ap, ◌∙◌, subst, inl, inr, ⊎_elim, arith}
 use native.Mathlib.Decide.{dec_le}
 use Rattle.std.specs.List.{list_any}
 use Rattle.std.specs.FinMap as fin
@@ -9,17 +9,17 @@ use Rattle.ufs_model.specs.declared.data.Entry.{Entry}
 use Rattle.ufs_model.proofs.Facts.Held.{open_by}
 use Rattle.ufs_sound.specs.Draws.{IsIn}
 use Rattle.ufs_sound.specs.Owned.{one, Has, count}
-use Rattle.ufs_sound.specs.Parts.{Start, View}
-use Rattle.ufs_sound.specs.Whole.{HoldsAll}
+use Rattle.ufs_sound.specs.Parts.{Cells, ClientPart, Start, StorePart, Stretch, View}
+use Rattle.ufs_sound.specs.Whole.{HoldsAll, IsMerge}
 use Rattle.ufs_sound.proofs.Keys.{itself, alike}
 use Rattle.ufs_sound.proofs.Owning.{has_count, count_has}
-use Rattle.ufs_hand.specs.Session.{KnowsAll}
-use Rattle.ufs_one_hand.specs.OneHand.{HasSession}
-use Rattle.ufs_one_hand.proofs.Counting.{same_length_all}
-
-pub none_of : (c : ℕ) (h : List Entry) → ((e : Entry) → Has e h → e.client ≢ c) → entries_of c h ≡ []
-none_of c [] l = refl
-none_of c (e ∷ h) l = ap (λ b. cond b (e ∷ entries_of c h) (entries_of c h)) (ne_eqb e.client c (l e (inl refl))) ∙ none_of c h (λ x a. l x (inr a))
+use Rattle.ufs_sound.specs.Durable.{IsDurable, IsExplainedThroughout}
+use Rattle.ufs_sound.specs.Explained.{AreJoined}
+use Rattle.ufs_sound.specs.Visible.{IsDiskVisible}
+use Rattle.ufs_hand.specs.Session.{KnowsAll, word_of}
+use Rattle.ufs_one_hand.specs.OneHand.{HasSession, IsMarkedIn}
+use Rattle.ufs_one_hand.specs.Drawn.{IsExplainedAtMarks}
+use Rattle.ufs_one_hand.proofs.Counting.{none_of, numbered, one_list, same_length_all}
 
 module _ (k : Start) (history : List Entry) (v : View) (h : HasSession k history None v) where
   module _ (t : PosixTree) (is : IsTree t) (within : IsIn v t) where
@@ -46,11 +46,42 @@ module _ (k : Start) (history : List Entry) (v : View) (h : HasSession k history
     files = files_here;
   }
 
-  pub all_drawn : (tickets clock : ℕ) → KnowsAll k tickets clock v → tickets ≡ length history
-  all_drawn tickets clock knows = sym knows.whole.all_drawn ∙ same_length_all knows.whole.history history (λ c. by c (dec_le 1 (count eqb c v.clients)))
+  -- a history that has each client's entries as the hand has them is this one
+  same_entries : (other : List Entry) → ((c : ℕ) (p : ClientPart) → Has (c, p) v.clients → p.entries ≡ entries_of c other) → IsMerge v other → (c : ℕ) → entries_of c other ≡ entries_of c history
+  same_entries other transcripts merged c = by (dec_le 1 (count eqb c v.clients))
     where
-      by : (c : ℕ) → Dec (1 ≤ count eqb c v.clients) → entries_of c knows.whole.history ≡ entries_of c history
-      by c (yes l) = let p = has_count eqb itself alike c v.clients l in sym (knows.whole.transcripts c p.0 p.1) ∙ (h.clients c p.0 p.1).entries
-      by c (no n) =
-          none_of c knows.whole.history (λ e a s. let p = knows.whole.merged.from e a in n (subst (λ x. 1 ≤ count eqb x v.clients) s (count_has eqb itself alike e.client p.0 v.clients p.1)))
+      by : Dec (1 ≤ count eqb c v.clients) → entries_of c other ≡ entries_of c history
+      by (yes l) = let p = has_count eqb itself alike c v.clients l in sym (transcripts c p.0 p.1) ∙ (h.clients c p.0 p.1).entries
+      by (no n) =
+          none_of c other (λ e a s. let p = merged.from e a in n (subst (λ x. 1 ≤ count eqb x v.clients) s (count_has eqb itself alike e.client p.0 v.clients p.1)))
           ∙ sym (none_of c history (λ e a s. n (subst (λ x. 1 ≤ count eqb x v.clients) s (h.theirs e a))))
+
+  pub all_drawn : (tickets clock : ℕ) → KnowsAll k tickets clock v → tickets ≡ length history
+  all_drawn tickets clock knows = sym knows.whole.all_drawn ∙ same_length_all knows.whole.history history (same_entries knows.whole.history knows.whole.transcripts knows.whole.merged)
+
+  -- ---- each state that was marked
+
+  -- the stretches follow one another, up to the last mark
+  in_order : (past : List Stretch) (mark : ℕ) → AreJoined past mark → (x : Stretch) → Has x past → (x.from ≤ x.to) × (x.to ≤ mark)
+  in_order [] mark joined x has = absurd has
+  in_order (y ∷ past) mark joined x (inl is) = let a = ap (λ (z : Stretch). z.from) is in let b = ap (λ (z : Stretch). z.to) is in let c = joined.0 in let d = joined.1 in (omega arith, omega arith)
+  in_order (y ∷ past) mark joined x (inr has) = let r = in_order past y.from joined.2 x has in let c = joined.0 in let d = joined.1 in let e = r.1 in (r.0, omega arith)
+
+  module _ (tickets clock : ℕ) (knows : KnowsAll k tickets clock v) (visible : IsDiskVisible k) where
+    abbrev d : IsDurable k (word_of tickets clock) v knows.store
+    d = knows.durable visible
+
+    one_history : d.history ≡ history
+    one_history =
+        one_list 0 d.history history (numbered 0 k.tree d.history d.legal.entries) (numbered 0 k.tree history h.legal) (d.all_drawn ∙ all_drawn tickets clock knows)
+        (same_entries d.history d.transcripts d.merged)
+
+    pub marked_explained : (x : Cells) → IsMarkedIn v.store x → IsExplainedAtMarks k.tree history x
+    marked_explained x is = ⊎_elim
+        (λ (e : x ≡ knows.store.state).
+        let l = d.marked in let n = all_drawn tickets clock knows in
+        (knows.store.mark, tickets, l, (omega arith), subst (λ (g : List Entry). IsExplainedThroughout k.tree g knows.store.mark tickets x) one_history (subst (IsExplainedThroughout k.tree d.history knows.store.mark tickets) (sym e) d.now)))
+        (λ (y : (s : Stretch) × Has s knows.store.past × Has x s.states).
+        let o = in_order knows.store.past knows.store.mark d.joined y.0 y.1 in let l = d.marked in let n = all_drawn tickets clock knows in let m = o.1 in
+        (y.0.from, y.0.to, o.0, (omega arith), subst (λ (g : List Entry). IsExplainedThroughout k.tree g y.0.from y.0.to x) one_history (d.past y.0 y.1 x y.2)))
+        (subst (λ (ss : List (Unit {0} × StorePart)). IsMarkedIn ss x) knows.has_store is)

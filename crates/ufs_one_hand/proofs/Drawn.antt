@@ -1,6 +1,5 @@
 -- A hand with all parts of a session has them after the entry that it drew.
-use Rattle.std.proofs.Common.{◌≡◌, ℕ, ◌≤◌, ◌≢◌, Bool, true, false, cond, ◌&&◌, eqb, eq-eqb, ne_eqb, List, [], ◌∷◌, ◌++◌, length, append-nil, Some, None, is_some, refl, ap, sym, ◌∙◌, subst, ⊎_elim, arith}
-use Rattle.std.specs.Prelude.{slice_index_or}
+use Rattle.std.proofs.Common.{◌≡◌, ℕ, ◌≤◌, ◌≢◌, Bool, true, cond, eqb, eq-eqb, ne_eqb, List, [], ◌∷◌, ◌++◌, length, Some, None, is_some, refl, ap, sym, ◌∙◌, subst, ⊎_elim, arith}
 use Rattle.std.specs.FinMap as fin
 use native.Mathlib.Decide.{ℕ_discrete}
 use Rattle.ufs_model.specs.History.{entries_of, goes_on, tree_after}
@@ -9,12 +8,15 @@ use Rattle.ufs_model.specs.PosixTree.{PosixTree, IsTree, desc_at}
 use Rattle.ufs_model.specs.Touched.{holds}
 use Rattle.ufs_model.specs.declared.data.Entry.{Entry}
 use Rattle.ufs_model.specs.declared.data.PartName.TheVariants as part
-use Rattle.ufs_model.proofs.Facts.Histories.{tree_after-push, own-push, others-push}
-use Rattle.ufs_prefix.specs.Changes.{NameState, names_of, changes_names}
-use Rattle.ufs_prefix.specs.Steps.{is_served}
-use Rattle.ufs_prefix.proofs.Facts.Entries.{names_still}
+use Rattle.ufs_model.proofs.Facts.Histories.{tree_after-push, legal_from_push, own-push, others-push}
+use Rattle.ufs_prefix.specs.Changes.{NameState, change_of, changes_of, name_changes, names_by}
+use Rattle.ufs_prefix.specs.declared.data.FileChange.{FileChange}
+use Rattle.ufs_prefix.proofs.Facts.Contents.{unborn_still}
+use Rattle.ufs_prefix.proofs.Facts.Histories.{changes_of-push, name_changes-push}
+use Rattle.ufs_prefix.proofs.Facts.Stores.{unborn_changes}
 use Rattle.ufs_prefix.proofs.Facts.Sessions.{tree_goes_on}
-use Rattle.ufs_sound.specs.Draws.{Leaves, client_after, drawn, entry_of}
+use Rattle.ufs_sound.specs.Covers.{step_in}
+use Rattle.ufs_sound.specs.Draws.{Leaves, client_after, drawn, entry_of, new_file}
 use Rattle.ufs_sound.specs.Owned.{one, Has, count}
 use Rattle.ufs_sound.specs.Parts.{ClientPart, FilePart, NamesPart, View, OwnFds, Start}
 use Rattle.ufs_sound.specs.declared.fresh.Fresh.{Fresh}
@@ -22,18 +24,14 @@ use Rattle.ufs_sound.proofs.Covering.{excused_or, tree_served, tree_stays}
 use Rattle.ufs_sound.proofs.Drawing.{touches_own}
 use Rattle.ufs_sound.proofs.Owning.{weigh_each, has_append, has_each}
 use Rattle.ufs_one_hand.specs.OneHand.{HasSession, IsClientAt, IsFileAt, AreNamesAt}
-use Rattle.ufs_one_hand.specs.Drawn.{IsAnswer, leaves_after}
+use Rattle.ufs_one_hand.specs.Drawn.{IsAnswer, file_drawn, leaves_after}
 use Rattle.ufs_one_hand.proofs.Alike.{AreAlike, agree_touched}
 use Rattle.ufs_one_hand.proofs.Draws.{bare_file, dropped_bare, later_count, later_names, later_names_are}
-use Rattle.ufs_one_hand.proofs.Files.{bytes_after}
+use Rattle.ufs_one_hand.proofs.Files.{bytes_after, file_after, stays}
 use Rattle.ufs_one_hand.proofs.Holding.{listed_hold}
-use Rattle.ufs_one_hand.proofs.Started.{one_client}
+use Rattle.ufs_one_hand.proofs.Started.{one_client, start_tree}
 
-last_is : {A : Type 0} (o : A) (cs : List A) (x d : A) → slice_index_or (o ∷ (cs ++ x ∷ [])) (length (cs ++ x ∷ [])) d ≡ x
-last_is o [] x d = refl
-last_is o (c ∷ cs) x d = last_is c cs x d
-
-module _ (keeps : KeepsTrees) (local : Locality) (k : Start) (h : List Entry) (f : Fresh) (own_fds : OwnFds) (v : View) (a : IsAnswer k h (tree_after k.tree h) f own_fds v) (ticket : ℕ) where
+module _ (keeps : KeepsTrees) (local : Locality) (k : Start) (h : List Entry) (f : Fresh) (own_fds : OwnFds) (v : View) (a : IsAnswer k h (tree_after k.tree h) f own_fds v) (ticket : ℕ) (is_next : ticket ≡ length h) where
   abbrev now : PosixTree
   now = tree_after k.tree h
 
@@ -122,24 +120,32 @@ module _ (keeps : KeepsTrees) (local : Locality) (k : Start) (h : List Entry) (f
         loaded = bare.4;
       }
 
+  file_changes : (g : ℕ) (q : FilePart) → Has (g, q) w.files → q.changes ≡ changes_of g k.tree longer
+  file_changes g q has = ⊎_elim
+      (λ (x : (p : FilePart) × Has (g, p) v.files × (q ≡ file_drawn now e g p) × (stays now e g ≡ true)).
+      ap (λ (y : FilePart). y.changes) x.2 ∙ ap (λ (l : List FileChange). l ++ change_of g (step_in now e)) (s.changes g x.0 x.1) ∙ sym (changes_of-push g k.tree h last))
+      (λ (x : (g ≡ now.next) × (q ≡ new_file) × (stays now e now.next ≡ true)).
+      ap (λ (y : FilePart). y.changes) x.1
+      ∙ sym (changes_of-push g k.tree h last
+      ∙ (λ i. (unborn_changes keeps 0 k.tree (start_tree k s.start) h s.legal g (let n = ap (λ (m : ℕ). m) (x.0) in omega arith)).1 i ++ unborn_still now s.tree last g (let n = x.0 in omega arith) i)))
+      (file_after now e v.files g q has)
+
   -- ---- names
 
   abbrev names : NamesPart
   names = later_names local k h f own_fds v a
 
-  latest_names : (b : Bool) → (is_served f.reply && changes_names now f.op) ≡ b
-      → slice_index_or (s.names.opening ∷ (s.names.changes ++ cond b (names_of after ∷ []) [])) (length (s.names.changes ++ cond b (names_of after ∷ []) [])) s.names.opening ≡ names_of after
-  latest_names true is = last_is s.names.opening s.names.changes (names_of after) s.names.opening
-  latest_names false is =
-      ap (λ (cs : List NameState). slice_index_or (s.names.opening ∷ cs) (length cs) s.names.opening) (append-nil s.names.changes)
-      ∙ s.names_at.latest ∙ sym (names_still now e a.replied is)
+  -- a step goes by the request and its reply, and not by its ticket
+  changes_then : names.changes ≡ name_changes k.tree longer
+  changes_then = ap (λ (l : List NameState). l ++ names_by (step_in now e)) s.names_at.changes ∙ sym (name_changes-push k.tree h last)
 
-  names_then : AreNamesAt (tree_after k.tree longer) names
+  names_then : AreNamesAt k.tree longer (tree_after k.tree longer) names
   names_then = record {
+    opening = s.names_at.opening;
+    changes = changes_then;
     paths = ap (λ (t : PosixTree). t.paths) then';
     next = ap (λ (t : PosixTree). t.next) then';
     holds = λ c g. listed_hold after.fds c g ∙ ap (λ (t : PosixTree). holds t.fds c g) then';
-    latest = latest_names (is_served f.reply && changes_names now f.op) refl ∙ ap names_of then';
     leases = s.names_at.leases;
     blocks = s.names_at.blocks;
     spare = s.names_at.spare;
@@ -150,6 +156,8 @@ module _ (keeps : KeepsTrees) (local : Locality) (k : Start) (h : List Entry) (f
 
   pub session_after : HasSession k longer None w
   session_after = record {
+    legal = legal_from_push 0 k.tree h last s.legal (record { numbered = (let n = is_next in omega arith); replied = a.replied });
+    changes = file_changes;
     tree = subst IsTree then' (tree_goes_on keeps now s.tree e a.replied);
     start = s.start;
     all_clients = λ c. client_counts c ∙ s.all_clients c;
@@ -168,8 +176,8 @@ module _ (keeps : KeepsTrees) (local : Locality) (k : Start) (h : List Entry) (f
   }
 
 -- So in the tree that its caller names.
-pub session_after_in : KeepsTrees → Locality → (k : Start) (h : List Entry) (t : PosixTree) (f : Fresh) (own_fds : OwnFds) (v : View) (ticket : ℕ) → IsAnswer k h t f own_fds v
+pub session_after_in : KeepsTrees → Locality → (k : Start) (h : List Entry) (t : PosixTree) (f : Fresh) (own_fds : OwnFds) (v : View) (ticket : ℕ) → ticket ≡ length h → IsAnswer k h t f own_fds v
     → HasSession k (h ++ entry_of ticket f ∷ []) None (drawn ticket f (leaves_after t (entry_of 0 f) own_fds v) v)
-session_after_in keeps local k h t f own_fds v ticket a =
+session_after_in keeps local k h t f own_fds v ticket is_next a =
     subst (λ (u : PosixTree). HasSession k (h ++ entry_of ticket f ∷ []) None (drawn ticket f (leaves_after u (entry_of 0 f) own_fds v) v)) (sym a.tree_is)
-    (session_after keeps local k h f own_fds v (subst (λ (u : PosixTree). IsAnswer k h u f own_fds v) a.tree_is a) ticket)
+    (session_after keeps local k h f own_fds v (subst (λ (u : PosixTree). IsAnswer k h u f own_fds v) a.tree_is a) ticket is_next)

@@ -1,5 +1,5 @@
 -- A hand with all parts of a session may draw the entry that answers what is asked.
-use Rattle.std.proofs.Common.{◌≡◌, ℕ, ◌+◌, ◌≤◌, ◌⊎◌, Bool, true, false, cond, eqb, List, [], ◌∷◌, ◌++◌, length, Option, Some, None, is_some, refl, ap, sym, ◌∙◌, subst, inl, inr, ⊎_elim, arith}
+use Rattle.std.proofs.Common.{◌≡◌, ℕ, ◌+◌, ◌≤◌, ◌⊎◌, ◌&&◌, ◌||◌, Bool, true, false, cond, eqb, List, [], ◌∷◌, ◌++◌, length, Option, Some, None, is_some, refl, ap, sym, ◌∙◌, subst, inl, inr, ⊎_elim, arith}
 use Rattle.std.specs.Prelude.{slice_get}
 use Rattle.std.specs.FinMap as fin
 use Rattle.ufs_model.specs.History.{goes_on, tree_after}
@@ -12,8 +12,10 @@ use Rattle.ufs_model.specs.declared.data.Op.{Op}
 use Rattle.ufs_model.specs.declared.data.Op.TheVariants as op
 use Rattle.ufs_model.specs.declared.data.PartName.{PartName}
 use Rattle.ufs_model.specs.declared.data.PartName.TheVariants as part
+use Rattle.ufs_model.specs.declared.data.Reply.{Reply}
 use Rattle.ufs_model.specs.declared.data.Reply.TheVariants as reply
-use Rattle.ufs_prefix.specs.Changes.{change_of, asks_commit, asks_sync, asks_fsync}
+use Rattle.ufs_prefix.specs.Changes.{change_of, asks_commit, asks_dir_fsync, asks_fsync, asks_sync, syncs_file, syncs_names}
+use Rattle.ufs_prefix.specs.Steps.{is_ok}
 use Rattle.ufs_prefix.proofs.Facts.Sessions.{fsynced_live}
 use Rattle.ufs_sound.specs.Covers.{step_in, SyncsFile, SyncsNames}
 use Rattle.ufs_sound.specs.Draws.{IsIn, IsAbsent, IsUnchanged, IsFileAfter, IsNamesAfter, DrawsOn, MayDraw, Leaves, drawn, entry_of, new_file}
@@ -24,9 +26,9 @@ use Rattle.ufs_sound.specs.declared.fresh.Fresh.{Fresh}
 use Rattle.ufs_sound.proofs.Drawing.{touches_own}
 use Rattle.ufs_sound.proofs.Keys.{itself, alike}
 use Rattle.ufs_sound.proofs.Owning.{weigh_each, has_append, append_has, count_has, has_count, none_some}
-use Rattle.ufs_one_hand.specs.OneHand.{HasSession, KnowsCommits}
+use Rattle.ufs_one_hand.specs.OneHand.{HasSession, KnowsSynced}
 use Rattle.ufs_one_hand.specs.Drawn.{IsAnswer, leaves_after, names_drawn, file_drawn, files_gone}
-use Rattle.ufs_one_hand.proofs.Alike.{AreAlike, session_alike, names_there, names_are, alike_reply, alike_after, alike_file_changes, alike_name_changes}
+use Rattle.ufs_one_hand.proofs.Alike.{AreAlike, alike_dir, alike_fsync, session_alike, names_there, names_are, alike_reply, alike_after, alike_file_changes, alike_name_changes}
 use Rattle.ufs_one_hand.proofs.Files.{stays, gone_has, gone_empty, file_after, bytes_after, count_after}
 use Rattle.ufs_one_hand.proofs.Holding.{listed_hold}
 use Rattle.ufs_one_hand.proofs.Started.{one_client}
@@ -41,7 +43,7 @@ one_most : (b : Bool) → one b ≤ 1
 one_most true = omega arith
 one_most false = omega arith
 
--- ---- what is acknowledged asks for a commit
+-- ---- what a request asks to last, it syncs
 
 file_asks : (t : PosixTree) (client g : ℕ) (o : Op) → SyncsFile t client o g → asks_commit o ≡ true
 file_asks t client g (op.Fsync fd) x = refl
@@ -56,6 +58,21 @@ names_ask : (t : PosixTree) (client : ℕ) (o : Op) → SyncsNames t client o �
 names_ask t client (op.Fsync fd) x = refl
 names_ask t client op.Sync x = refl
 names_ask t client _ x = cc
+
+either_true : (a b : Bool) → (a ≡ true) ⊎ (b ≡ true) → (a || b) ≡ true
+either_true a b (inl e) = ap (λ z. z || b) e
+either_true a b (inr e) = ap (λ z. a || z) e ∙ or_true a
+  where
+    or_true : (z : Bool) → (z || true) ≡ true
+    or_true true = refl
+    or_true false = refl
+
+-- the step of an acknowledged request syncs what that asks to last
+file_syncs : (t : PosixTree) (e : Entry) (g : ℕ) → e.reply ≡ reply.Done → SyncsFile t e.client e.op g → syncs_file g (step_in t e) ≡ true
+file_syncs t e g done x = ap (λ (r : Reply). is_ok r && (asks_fsync g t e.client e.op || asks_sync e.op)) done ∙ either_true (asks_fsync g t e.client e.op) (asks_sync e.op) (⊎_elim inl (λ (y : (asks_sync e.op ≡ true) × (is_some (fin.get t.bytes g) ≡ true)). inr y.0) x)
+
+names_sync : (t : PosixTree) (e : Entry) → e.reply ≡ reply.Done → SyncsNames t e.client e.op → syncs_names (step_in t e) ≡ true
+names_sync t e done x = ap (λ (r : Reply). is_ok r && (asks_dir_fsync t e.client e.op || asks_sync e.op)) done ∙ x
 
 module _ (local : Locality) (k : Start) (h : List Entry) (f : Fresh) (own_fds : OwnFds) (v : View) (a : IsAnswer k h (tree_after k.tree h) f own_fds v) where
   abbrev now : PosixTree
@@ -179,8 +196,15 @@ module _ (local : Locality) (k : Start) (h : List Entry) (f : Fresh) (own_fds : 
     names_on : (q : NamesPart) (u : Unit {0}) → Has (u, q) l.names → q ≡ later_names
     names_on q u has = ⊎_elim (λ (x : (u, q) ≡ (tt, later_names)). ap (λ (z : Unit {0} × NamesPart). z.1) x) (λ x. absurd x) (subst (Has {A = Unit {0} × NamesPart} (u, q)) later_names_are has)
 
-    commits : f.reply ≡ reply.Done → asks_commit f.op ≡ true → KnowsCommits v
+    commits : f.reply ≡ reply.Done → asks_commit f.op ≡ true → KnowsSynced (step_in now e) v
     commits = a.known
+
+    -- what is asked in one tree is asked in the other
+    same_fsync : (g : ℕ) → asks_fsync g t f.client f.op ≡ asks_fsync g now f.client f.op
+    same_fsync g = alike_fsync now t f.client g same f.op
+
+    same_dir : asks_dir_fsync t f.client f.op ≡ asks_dir_fsync now f.client f.op
+    same_dir = alike_dir now t f.client same f.op
 
     pub draws_on : DrawsOn f own_part.0 v l t
     draws_on = record {
@@ -206,9 +230,15 @@ module _ (local : Locality) (k : Start) (h : List Entry) (f : Fresh) (own_fds : 
       own_leases = λ x has. absurd (subst (Has x) (s.clients f.client own_part.0 own_part.1).copies has);
       synced = λ done g asks.
           let there = there_in g (⊎_elim (λ x. fsynced_live t is f.client f.op g x) (λ (x : (asks_sync f.op ≡ true) × (is_some (fin.get t.bytes g) ≡ true)). x.1) asks) in
-          (there.0, there.1, (commits done (file_asks t f.client g f.op asks)).files g there.0 there.1);
-      synced_names = λ done asks. (s.names, names_there k h (Some (f.client, f.op)) v s, (commits done (names_ask t f.client f.op asks)).names s.names (names_there k h (Some (f.client, f.op)) v s));
-      synced_birth = λ done g asks. let there = there_in g (fsynced_live t is f.client f.op g asks) in (there.0, there.1, (commits done (birth_asks t f.client g f.op asks)).born g there.0 there.1);
+          let syncs = file_syncs now e g done (⊎_elim (λ (x : asks_fsync g t f.client f.op ≡ true). inl (sym (same_fsync g) ∙ x)) (λ (x : (asks_sync f.op ≡ true) × (is_some (fin.get t.bytes g) ≡ true)). inr (x.0, ap is_some (same.bytes g) ∙ x.1)) asks) in
+          (there.0, there.1, (commits done (file_asks t f.client g f.op asks)).files g there.0 there.1 syncs);
+      synced_names = λ done asks. (
+        s.names,
+        names_there k h (Some (f.client, f.op)) v s,
+        (commits done (names_ask t f.client f.op asks)).names s.names (names_there k h (Some (f.client, f.op)) v s) (names_sync now e done (ap (λ b. b || asks_sync f.op) (sym same_dir) ∙ asks)),
+      );
+      synced_birth = λ done g asks. let there = there_in g (fsynced_live t is f.client f.op g asks) in
+          (there.0, there.1, (commits done (birth_asks t f.client g f.op asks)).born g there.0 there.1 (file_syncs now e g done (inl (sym (same_fsync g) ∙ asks))));
     }
       where
         unlisted : (x : Lease) (p : PartName) → IsListedIn v x p → ⊥

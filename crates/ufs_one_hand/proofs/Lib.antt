@@ -1,5 +1,7 @@
 pub mod Alike
+pub mod Asked
 pub mod Asking
+pub mod Bare
 pub mod Beginning
 pub mod Closing
 pub mod Counting
@@ -9,6 +11,7 @@ pub mod Files
 pub mod Holding
 pub mod Keeping
 pub mod Passage
+pub mod Showing
 pub mod Started
 pub mod Tickets
 pub mod Touching

@@ -1,17 +1,28 @@
 -- The disk was called: the hand's store goes on by a turn.
-use Rattle.std.proofs.Common.{◌≡◌, ◌⊎◌, ℕ, ◌+◌, ◌≤◌, true, false, eqb, eq-eqb, List, [], ◌∷◌, ◌++◌, length, Option, Some, None, sym, refl, ap, ◌∙◌, subst, inl, inr, ⊎_elim, arith}
+use Rattle.std.proofs.lemmas.List.{length-append}
+use Rattle.std.proofs.Common.{◌≡◌, ◌⊎◌, ℕ, ◌+◌, ◌-◌, ◌≤◌, true, false, eqb, eq-eqb, List, [], ◌∷◌, ◌++◌, length, Option, Some, None, unwrap_or, sym, refl, ap, ◌∙◌, subst, inl, inr, ⊎_elim, arith}
+use Rattle.std.specs.Ordering.{nat_cmp}
+use Rattle.std.specs.FinMap as fin
+use Rattle.ufs_model.specs.History.{IsLegal}
+use Rattle.ufs_model.specs.Laws.{KeepsTrees}
+use Rattle.ufs_model.specs.PosixTree.{PosixTree, Paths}
 use Rattle.ufs_model.specs.declared.data.Entry.{Entry}
 use Rattle.ufs_model.specs.declared.data.Op.{Op}
+use Rattle.ufs_sound.specs.Acknowledged.{ExplainedShow}
 use Rattle.ufs_sound.specs.ByImages.{by_images}
-use Rattle.ufs_sound.specs.Marks.{value_after, IsSingle, IsTurn, AreAnswers, RemakesOn, MayRemake}
-use Rattle.ufs_sound.specs.Owned.{one, Has, each, times}
-use Rattle.ufs_sound.specs.Parts.{Cells, FilePart, NamesPart, Shortage, Start, StorePart, View}
-use Rattle.ufs_sound.proofs.Happening.Staying.{store_remakes, same_file, blocks_stay, numbers_stay, same_parts_keep, same_parts_know, times_append}
+use Rattle.ufs_sound.specs.Marks.{value_after, IsSingle, IsTurn, AreAnswers, RemakesOn, MayRemake, IsBeginningKnown, HasChanges}
+use Rattle.ufs_sound.specs.Owned.{one, Has, each, times, weigh}
+use Rattle.ufs_sound.specs.Parts.{Cells, FilePart, NamesPart, Shortage, Start, StorePart, Stretch, View, committed}
+use Rattle.ufs_sound.specs.Shown.{ExplainsImages, ShowsImages}
+use Rattle.ufs_sound.specs.Visible.{IsDiskVisible}
+use Rattle.ufs_sound.proofs.Happening.Staying.{answers_stay, store_remakes, same_file, blocks_stay, numbers_stay, same_parts_keep, same_parts_know, times_append}
 use Rattle.ufs_sound.proofs.Owning.{has_append, append_has}
 use Rattle.ufs_hand.specs.Session.{IsEvent}
-use Rattle.ufs_one_hand.specs.Drawn.{fault_met, store_passed, passed_view, turned}
-use Rattle.ufs_one_hand.specs.OneHand.{HasSession, IsStart, IsStoreAt, state_in}
-use Rattle.ufs_one_hand.proofs.Started.{not_visible}
+use Rattle.ufs_one_hand.specs.Drawn.{MayPass, fault_met, store_passed, passed_view, turned, turned_view}
+use Rattle.ufs_one_hand.specs.OneHand.{HasSession, IsCovered, IsCoveredIn, IsMarkedIn, IsStoreAt, in_store, mark_in, passed_in, state_in}
+use Rattle.ufs_one_hand.proofs.Bare.{disk_kept}
+use Rattle.ufs_one_hand.proofs.Showing.{explained_shows}
+use Rattle.ufs_one_hand.proofs.Tickets.{begun_is, known_tickets, whole_is}
 
 some_once : (n m : ℕ) → times n (m ∷ []) ≤ 1
 some_once n m = few (eqb n m)
@@ -43,30 +54,194 @@ fault_told None (Some m) faults n a b = let e : one (eqb n m) ≡ 1 = ap one (eq
     same m n e = cc
 fault_told (Some x) stop faults n a b = cc
 
--- a turn on a disk that isn't shown
-pub is_turn : (k : Start) → IsStart k → (n : ℕ) (v : View) (s t : StorePart) (p : NamesPart) (through : List Cells) → (t.state ≡ s.state) ⊎ Has t.state through
-    → t ≡ record (turned n through s) { state = t.state; files = t.files; names = t.names; faults = t.faults; shortages = t.shortages; stop = t.stop } → IsTurn by_images k n v s t p
-is_turn k start n v s t p through last is = record {
+-- ---- the store's part
+
+pub store_there : (k : Start) (history : List Entry) (asked : Option (ℕ × Op)) (v : View) (h : HasSession k history asked v) → Has (tt, h.store) v.store
+store_there k history asked v h = subst (Has {A = Unit {0} × StorePart} (tt, h.store)) (sym h.has_store) (inl refl)
+
+pub one_part : (s t : StorePart) → Has {A = Unit {0} × StorePart} (tt, s) ((tt, t) ∷ []) → s ≡ t
+one_part s t has = ⊎_elim (λ (e : (tt, s) ≡ (tt, t)). ap (λ (z : Unit {0} × StorePart). z.1) e) (λ none. absurd none) has
+
+-- what is covered depends on the numbers alone
+pub same_covered : (k : Start) (j : List Entry) (s t : StorePart) → t.files ≡ s.files → t.names ≡ s.names → IsCovered k j s → IsCovered k j t
+same_covered k j s t files names covered = record {
+  files = λ f. let a = covered.files f in let b = ap (λ (m : fin.FinMap nat_cmp ℕ). unwrap_or (fin.get m f) 0) files in omega arith;
+  names = λ n made synced born. let a = covered.names n made synced born in omega arith;
+  made = let a = covered.made in omega arith;
+}
+
+-- a session with another part of the store
+pub with_store_session : (k : Start) (history : List Entry) (asked : Option (ℕ × Op)) (v : View) → HasSession k history asked v → (t : StorePart) (faults : List ℕ) (stop : Option ℕ) (shortages : List Shortage) (n : ℕ) → IsStoreAt stop t
+    → HasSession k history asked (record v { store = (tt, t) ∷ []; seen = n; faults = faults; stop = stop; shortages = shortages })
+with_store_session k history asked v h t faults stop shortages n at = record {
+  tree = h.tree;
+  legal = h.legal;
+  start = h.start;
+  all_clients = h.all_clients;
+  all_asked = h.all_asked;
+  clients = h.clients;
+  theirs = h.theirs;
+  all_files = h.all_files;
+  files = h.files;
+  changes = h.changes;
+  pools = h.pools;
+  names = h.names;
+  has_names = h.has_names;
+  names_at = h.names_at;
+  store = t;
+  has_store = refl;
+  store_at = at;
+}
+
+-- a store that keeps its stretches, and has the old state in a stretch or still, has marked what it had
+pub stays_marked : (s t : StorePart) (x : Cells) → (s.state ≡ t.state) ⊎ ((y : Stretch) × Has y t.past × Has s.state y.states) → ((y : Stretch) → Has y s.past → Has y t.past)
+    → (x ≡ s.state) ⊎ ((y : Stretch) × Has y s.past × Has x y.states) → (x ≡ t.state) ⊎ ((y : Stretch) × Has y t.past × Has x y.states)
+stays_marked s t x now past is = ⊎_elim
+    (λ (e : x ≡ s.state). ⊎_elim (λ (z : s.state ≡ t.state). inl (e ∙ z)) (λ (z : (y : Stretch) × Has y t.past × Has s.state y.states). inr (z.0, z.1, subst (λ (w : Cells). Has w z.0.states) (sym e) z.2)) now)
+    (λ (z : (y : Stretch) × Has y s.past × Has x y.states). inr (z.0, past z.0 z.1, z.2)) is
+
+-- ---- turns
+
+-- A turn of the disk, by what it shows of each history that the hand may know. No part is lent to the next.
+pub is_turn : (k : Start) (n : ℕ) (v : View) (s t : StorePart) (p : NamesPart) (through : List Cells) → (t.state ≡ s.state) ⊎ Has t.state through
+    → t ≡ record (turned n through s) { state = t.state; files = t.files; names = t.names; faults = t.faults; shortages = t.shortages; stop = t.stop }
+    → (IsDiskVisible k → (h : List Entry) → IsBeginningKnown k v s.mark n h → (x : Cells) → Has x through → ShowsImages k.tree h (committed s) s.names None x)
+    → (IsDiskVisible k → (h : List Entry) → IsBeginningKnown k v n n h → HasChanges k v p h → ShowsImages k.tree h (committed s) s.names s.paths s.state → ShowsImages k.tree h (committed t) t.names None t.state) → IsTurn by_images k n v s t p
+is_turn k n v s t p through last is inside end = record {
   through = through;
   last = last;
   mark = ap (λ (z : StorePart). z.mark) is;
   past = ap (λ (z : StorePart). z.past) is;
   lent = λ g m a. absurd (subst (Has (g, m)) (ap (λ (z : StorePart). z.lent) is) a);
   lent_names = let none = ap (λ (z : StorePart). z.lent_names) is in omega (arith, none);
-  inside = λ visible. absurd (not_visible k start visible);
-  end = λ visible. absurd (not_visible k start visible);
+  inside = λ visible h known had shows x has. inside visible h known x has;
+  end = λ visible h known has shows.
+      subst (λ (o : Option Paths). ShowsImages k.tree h (committed t) t.names o t.state) (sym (ap (λ (z : StorePart). z.paths) is)) (end visible h known has shows);
 }
 
+-- what is shown is shown without the paths
+shows_on : (start : PosixTree) (h : List Entry) (files : ℕ → ℕ) (names : ℕ) (paths : Option Paths) (cells : Cells) → ShowsImages start h files names paths cells → ShowsImages start h files names None cells
+shows_on start h files names paths cells shows image is = let o = shows image is in (
+  o.0,
+  o.1,
+  record { shown_names = o.2.shown_names; shown_files = o.2.shown_files; most_names = o.2.most_names; most_files = o.2.most_files; shown = o.2.shown; placed = λ p e. let none : None ≡ Some p = e in cc },
+)
+
+-- ---- a turn begins
+
+module _ (k : Start) (history : List Entry) (asked : Option (ℕ × Op)) (v : View) (h : HasSession k history asked v) where
+  bare_files : (g : ℕ) (y : FilePart) → Has (g, y) v.files → y.blocks ≡ []
+  bare_files g y has = (h.files g y has).blocks
+
+  module _ (n : ℕ) where
+    abbrev t1 : StorePart
+    t1 = turned n [] h.store
+
+    abbrev begun : View
+    begun = record v { store = (tt, t1) ∷ []; seen = n }
+
+    is_begun : begun ≡ turned_view v n
+    is_begun = ap (λ (ss : List (Unit {0} × StorePart)). record v { store = each (λ _ s. turned n [] s) ss; seen = n }) (sym h.has_store)
+
+    begins_here : IsSingle v → (p : NamesPart) → RemakesOn by_images k n v begun h.store t1 p p
+    begins_here single p = record {
+      kept = blocks_stay v begun h.store t1 p p (same_parts_keep v begun (same_file v single)) (λ g bs e. e) (λ g bs a. a) (λ kept. kept);
+      rise = numbers_stay v begun h.store t1 p p (λ g. refl) refl (same_parts_know v begun (same_file v single)) refl refl;
+      disk = λ visible. disk_kept k h.start v begun h.store t1 bare_files;
+      shown = inr (is_turn k n v h.store t1 p [] (inl refl) refl (λ visible g known x has. absurd has) (λ visible g known has shows. shows_on k.tree g (committed h.store) h.store.names h.store.paths h.store.state shows));
+      answers = answers_stay v begun h.store t1 refl refl refl refl refl refl;
+    }
+
+    remakes : MayRemake by_images k n v (turned_view v n)
+    remakes = subst (MayRemake by_images k n v) is_begun (store_remakes by_images k n v h.store t1 v.faults v.stop v.shortages h.has_store refl (λ single p there. begins_here single p))
+
+    pub turned_session : HasSession k history asked (turned_view v n)
+    turned_session = subst (HasSession k history asked) is_begun (with_store_session k history asked v h t1 v.faults v.stop v.shortages n (record {
+      extents = h.store_at.extents;
+      dirs = h.store_at.dirs;
+      unassigned = h.store_at.unassigned;
+      stop = h.store_at.stop;
+      unfailed = h.store_at.unfailed;
+      single = h.store_at.single;
+    }))
+
+    pub turned_covered : (j : List Entry) → IsCoveredIn k j v → IsCoveredIn k j (turned_view v n)
+    turned_covered j covered = subst (IsCoveredIn k j) is_begun (λ s has. subst (IsCovered k j) (sym (one_part s t1 has)) (same_covered k j h.store t1 refl refl (covered h.store (store_there k history asked v h))))
+
+    pub turned_marked : (x : Cells) → IsMarkedIn v.store x → IsMarkedIn (turned_view v n).store x
+    turned_marked x is = subst (λ (w : View). IsMarkedIn w.store x) is_begun (stays_marked h.store t1 x (inl refl) (λ y a. inr a) (subst (λ (ss : List (Unit {0} × StorePart)). IsMarkedIn ss x) h.has_store is))
+
+    pub turned_passed : passed_in (turned_view v n) ≡ passed_in v
+    turned_passed = ap passed_in (sym is_begun) ∙ nothing (weigh (λ x. length x.states - 2) h.store.past) ∙ sym (ap (in_store 0 (λ s. weigh (λ x. length x.states - 2) s.past)) h.has_store)
+      where
+        nothing : (m : ℕ) → 0 + m ≡ m
+        nothing m = omega arith
+
+    pub turned_mark : mark_in (turned_view v n) ≡ n
+    turned_mark = ap mark_in (sym is_begun)
+
+    pub turned_state : state_in (turned_view v n) ≡ state_in v
+    turned_state = ap state_in (sym is_begun) ∙ sym (ap (in_store [] (λ s. s.state)) h.has_store)
+
+  pub may_turn : IsEvent k v (turned_view v)
+  may_turn = inr (inr remakes)
+
+-- ---- the disk was called
+
 module _ (k : Start) (history : List Entry) (asked : Option (ℕ × Op)) (v : View) (h : HasSession k history asked v)
-    (stop : Option ℕ) (state : Cells) (shortages : List Shortage) (kept : (n : ℕ) → v.stop ≡ Some n → stop ≡ Some n) where
+    (stop : Option ℕ) (states : List Cells) (state : Cells) (shortages : List Shortage) (kept : (n : ℕ) → v.stop ≡ Some n → stop ≡ Some n) (n : ℕ) where
+  abbrev passed : StorePart
+  passed = store_passed n stop states state shortages v.stop h.store
+
+  abbrev with_passed : View
+  with_passed = record v { store = (tt, passed) ∷ []; seen = n; faults = fault_met v.stop stop ++ v.faults; stop = stop; shortages = shortages ++ v.shortages }
+
+  is_passed : with_passed ≡ passed_view stop states state shortages v n
+  is_passed = λ j. passed_view stop states state shortages (record v { store = sym h.has_store j }) n
+
+  pub passed_session : HasSession k history asked (passed_view stop states state shortages v n)
+  passed_session = subst (HasSession k history asked) is_passed (with_store_session k history asked v h passed (fault_met v.stop stop ++ v.faults) stop (shortages ++ v.shortages) n (record {
+    extents = h.store_at.extents;
+    dirs = h.store_at.dirs;
+    unassigned = h.store_at.unassigned;
+    stop = refl;
+    unfailed = λ e. no_fault v.stop stop h.store.faults h.store_at.unfailed kept e;
+    single = faults_once v.stop stop h.store.faults h.store_at.unfailed h.store_at.single;
+  }))
+
+  pub passed_covered : (j : List Entry) → IsCoveredIn k j v → IsCoveredIn k j (passed_view stop states state shortages v n)
+  passed_covered j covered = subst (IsCoveredIn k j) is_passed
+      (λ s has. subst (IsCovered k j) (sym (one_part s passed has)) (same_covered k j h.store passed refl refl (covered h.store (store_there k history asked v h))))
+
+  -- the states that it has marked, and how many they are
+  abbrev newest : Stretch
+  newest = record { states = h.store.state ∷ (states ++ state ∷ []); from = h.store.mark; to = n }
+
+  pub passed_marked : (x : Cells) → IsMarkedIn v.store x ⊎ (Has x states ⊎ (x ≡ state)) → IsMarkedIn (passed_view stop states state shortages v n).store x
+  passed_marked x is = subst (λ (w : View). IsMarkedIn w.store x) is_passed (⊎_elim
+      (λ (old : IsMarkedIn v.store x). stays_marked h.store passed x (inr (newest, inl refl, inl refl)) (λ y a. inr a) (subst (λ (ss : List (Unit {0} × StorePart)). IsMarkedIn ss x) h.has_store old))
+      (λ (new : Has x states ⊎ (x ≡ state)). ⊎_elim (λ a. inr (newest, inl refl, inr (append_has x states (state ∷ []) (inl a)))) inl new) is)
+
+  pub passed_more : passed_in (passed_view stop states state shortages v n) ≡ passed_in v + length states
+  passed_more =
+      ap passed_in (sym is_passed)
+      ∙ (let l = length-append states (state ∷ []) in let w : ℕ = weigh (λ (x : Stretch). length x.states - 2) h.store.past in omega (arith, l))
+      ∙ ap (λ (m : ℕ). m + length states) (sym (ap (in_store 0 (λ s. weigh (λ x. length x.states - 2) s.past)) h.has_store))
+
+-- The hand may say so, where what a crash leaves is explained.
+module _ (keeps : KeepsTrees) (law : ExplainedShow) (k : Start) (history : List Entry) (asked : Option (ℕ × Op)) (v : View) (stop : Option ℕ) (states : List Cells) (state : Cells) (shortages : List Shortage)
+    (m : MayPass k history asked states state v) (kept : (n : ℕ) → v.stop ≡ Some n → stop ≡ Some n) where
+  abbrev h : HasSession k history asked v
+  h = m.session
+
   abbrev t0 : ℕ → StorePart
-  t0 n = store_passed n stop state shortages v.stop h.store
+  t0 = passed k history asked v h stop states state shortages kept
 
   abbrev with_store : ℕ → View
-  with_store n = record v { store = (tt, t0 n) ∷ []; seen = n; faults = fault_met v.stop stop ++ v.faults; stop = stop; shortages = shortages ++ v.shortages }
+  with_store = with_passed k history asked v h stop states state shortages kept
 
-  is : (n : ℕ) → with_store n ≡ passed_view stop state shortages v n
-  is n = ap (λ (ss : List (Unit {0} × StorePart)). record v { store = each (λ _ s. store_passed n stop state shortages v.stop s) ss; seen = n; faults = fault_met v.stop stop ++ v.faults; stop = stop; shortages = shortages ++ v.shortages }) (sym h.has_store)
+  is : (n : ℕ) → with_store n ≡ passed_view stop states state shortages v n
+  is = is_passed k history asked v h stop states state shortages kept
 
   answers : (n : ℕ) → AreAnswers v (with_store n) h.store (t0 n)
   answers n = record {
@@ -78,6 +253,20 @@ module _ (k : Start) (history : List Entry) (asked : Option (ℕ × Op)) (v : Vi
     shortages = λ x a. ⊎_elim (λ l. inr (append_has x shortages h.store.shortages (inl l))) inl (has_append x shortages v.shortages a);
   }
 
+  covered : IsCovered k history h.store
+  covered = m.covered h.store (store_there k history asked v h)
+
+  marked : h.store.mark ≡ length history
+  marked = sym (ap (in_store 0 (λ s. s.mark)) h.has_store) ∙ m.fresh
+
+  -- a state that is explained shows the history behind which the disk was marked
+  shown : (from n : ℕ) (g : List Entry) (x : Cells) → ExplainsImages k.tree history x → (b : IsBeginningKnown k v from n g) → length history ≤ from → ShowsImages k.tree g (committed h.store) h.store.names None x
+  shown from n g x explained b late = subst (λ (z : List Entry). ShowsImages k.tree z (committed h.store) h.store.names None x) (sym (begun_is k history asked v h from n g b late))
+      (explained_shows keeps k h.start history h.store x law covered (subst (IsLegal k.tree) (whole_is k history asked v h from n g b) b.legal) explained)
+
+  on_the_way : IsDiskVisible k → (x : Cells) → Has x (states ++ state ∷ []) → ExplainsImages k.tree history x
+  on_the_way visible x has = ⊎_elim (m.passed visible x) (λ y. ⊎_elim (λ (e : x ≡ state). subst (ExplainsImages k.tree history) (sym e) (m.explained visible)) (λ none. absurd none) y) (has_append x states (state ∷ []) has)
+
   module _ (n : ℕ) (single : IsSingle v) (p : NamesPart) (there : p ≡ value_after v.names p) where
     file_is : (g : ℕ) (x y : FilePart) → Has (g, x) v.files → Has (g, y) v.files → x ≡ y
     file_is = same_file v single
@@ -86,45 +275,21 @@ module _ (k : Start) (history : List Entry) (asked : Option (ℕ × Op)) (v : Vi
     passes_here = record {
       kept = blocks_stay v (with_store n) h.store (t0 n) p p (same_parts_keep v (with_store n) file_is) (λ g bs e. e) (λ g bs a. a) (λ kept. kept);
       rise = numbers_stay v (with_store n) h.store (t0 n) p p (λ g. refl) refl (same_parts_know v (with_store n) file_is) refl refl;
-      disk = λ visible. absurd (not_visible k h.start visible);
-      shown = inr (is_turn k h.start n v h.store (t0 n) p (state ∷ []) (inr (inl refl)) refl);
+      disk = λ visible. disk_kept k h.start v (with_store n) h.store (t0 n) (bare_files k history asked v h);
+      shown = inr (is_turn k n v h.store (t0 n) p (states ++ state ∷ []) (inr (append_has state states (state ∷ []) (inr (inl refl)))) refl
+          (λ visible g b x has. shown h.store.mark n g x (on_the_way visible x has) b (let e = marked in omega arith))
+          (λ visible g b has shows. shown n n g state (m.explained visible) b (late n g b)));
       answers = answers n;
     }
+      where
+        late : (n : ℕ) (g : List Entry) → IsBeginningKnown k v n n g → length history ≤ n
+        late n g b = let t = known_tickets k history asked v h n n g b in omega arith
 
-  passes : (n : ℕ) → MayRemake by_images k n v (passed_view stop state shortages v n)
+  passes : (n : ℕ) → MayRemake by_images k n v (passed_view stop states state shortages v n)
   passes n = subst (MayRemake by_images k n v) (is n) (store_remakes by_images k n v h.store (t0 n) (fault_met v.stop stop ++ v.faults) stop (shortages ++ v.shortages) h.has_store refl (passes_here n))
 
-  pub may_pass : IsEvent k v (passed_view stop state shortages v)
+  pub may_pass : IsEvent k v (passed_view stop states state shortages v)
   may_pass = inr (inr passes)
 
-  pub state_passed : (n : ℕ) → state_in (passed_view stop state shortages v n) ≡ state
+  pub state_passed : (n : ℕ) → state_in (passed_view stop states state shortages v n) ≡ state
   state_passed n = ap state_in (sym (is n))
-
-  store_after : (n : ℕ) → IsStoreAt stop (t0 n)
-  store_after n = record {
-    extents = h.store_at.extents;
-    dirs = h.store_at.dirs;
-    unassigned = h.store_at.unassigned;
-    stop = refl;
-    unfailed = λ e. no_fault v.stop stop h.store.faults h.store_at.unfailed kept e;
-    single = faults_once v.stop stop h.store.faults h.store_at.unfailed h.store_at.single;
-  }
-
-  pub passed_session : (n : ℕ) → HasSession k history asked (passed_view stop state shortages v n)
-  passed_session n = subst (HasSession k history asked) (is n) (record {
-    tree = h.tree;
-    start = h.start;
-    all_clients = h.all_clients;
-    all_asked = h.all_asked;
-    clients = h.clients;
-    theirs = h.theirs;
-    all_files = h.all_files;
-    files = h.files;
-    pools = h.pools;
-    names = h.names;
-    has_names = h.has_names;
-    names_at = h.names_at;
-    store = t0 n;
-    has_store = refl;
-    store_at = store_after n;
-  })

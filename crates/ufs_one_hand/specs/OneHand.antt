@@ -1,36 +1,48 @@
 -- All parts of a session in one hand, as they are after a history. Where blocks lie is the server's to know: no part has a
--- block here, and nothing is said of what the disk holds.
-use Rattle.std.specs.Prelude.{ℕ, ◌≡◌, ◌≤◌, true, false, List, [], ◌∷◌, length, Option, Some, None, is_some, eqb, if◌then◌else◌, slice_index_or, unwrap_or}
+-- block here.
+use Rattle.std.specs.Prelude.{ℕ, ◌-◌, ◌≡◌, ◌≤◌, ◌⊎◌, Bool, true, false, List, [], ◌∷◌, length, Option, Some, None, is_some, eqb, if◌then◌else◌, unwrap_or}
 use Rattle.std.specs.FinMap as fin
 use Rattle.ufs_base.specs.declared.limits.TheConstants.{MAX_CLIENTS}
 use Rattle.ufs_model.specs.PosixTree.{PosixTree, IsTree, desc_at}
-use Rattle.ufs_model.specs.History.{tree_after, entries_of}
+use Rattle.ufs_model.specs.History.{IsLegalFrom, tree_after, entries_of}
 use Rattle.ufs_model.specs.Start.{PathNodes, IsPathTree, start_of}
 use Rattle.ufs_model.specs.Touched.{holds}
 use Rattle.ufs_model.specs.declared.data.Entry.{Entry}
 use Rattle.ufs_model.specs.declared.data.Op.{Op}
-use Rattle.ufs_prefix.specs.Changes.{names_of}
+use Rattle.ufs_prefix.specs.Changes.{names_of, changes_of, name_changes, syncs_file, syncs_names}
+use Rattle.ufs_prefix.specs.Steps.{Step}
+use Rattle.ufs_sound.specs.Acknowledged.{AreFilesAcknowledged, AreNamesAcknowledged}
 use Rattle.ufs_sound.specs.Opened.{OpenedDisk, opened_start}
-use Rattle.ufs_sound.specs.Owned.{one, Has, count, find, times}
-use Rattle.ufs_sound.specs.Parts.{Cells, ClientPart, FilePart, NamesPart, StorePart, View, Start, is_holder}
+use Rattle.ufs_sound.specs.Owned.{one, Has, count, each, find, times, weigh}
+use Rattle.ufs_sound.specs.Parts.{Cells, ClientPart, FilePart, NamesPart, StorePart, Stretch, View, Start, committed, is_holder}
 use Rattle.ufs_sound.specs.Whole.{idle_client}
 use Rattle.ufs_hand.specs.Session.{CanBegin}
 
 -- ---- what it starts from
 
--- the most clients, and a disk of which nothing is said
-abbrev pub unseen_disk : PathNodes → OpenedDisk
-unseen_disk nodes = record { nodes = nodes; cells = []; extents = fin.empty; dirs = []; unassigned = []; pools = []; clients = MAX_CLIENTS; is_visible = false }
+-- the most clients, and a disk in this state, which is visible or not
+abbrev pub disk_with : PathNodes → Cells → Bool → OpenedDisk
+disk_with nodes cells is_visible = record { nodes = nodes; cells = cells; extents = fin.empty; dirs = []; unassigned = []; pools = []; clients = MAX_CLIENTS; is_visible = is_visible }
 
+abbrev pub start_seeing : PathNodes → Cells → Bool → Start
+start_seeing nodes cells is_visible = opened_start (disk_with nodes cells is_visible)
+
+-- over a disk of which nothing is said
 abbrev pub start_with : PathNodes → Start
-start_with nodes = opened_start (unseen_disk nodes)
+start_with nodes = start_seeing nodes [] false
+
+-- the same start, over a disk in another state
+abbrev pub seeing : Start → Cells → Bool → Start
+seeing k cells is_visible = record k { view = record k.view { store = each (λ _ s. record s { state = cells }) k.view.store }; is_visible = is_visible }
 
 -- A session may start so: the files of a tree of paths have numbers by rising path, and nothing is open.
 pub record IsStart (k : Start) : Type 0 where
   pub nodes : PathNodes
+  pub cells : Cells
+  pub is_visible : Bool
   pub paths : IsPathTree nodes
   pub few : (start_of nodes).next ≤ 1073741824
-  pub is : k ≡ start_with nodes
+  pub is : k ≡ start_seeing nodes cells is_visible
 
 abbrev pub StartsCanBegin : Type 0
 StartsCanBegin = (k : Start) → IsStart k → CanBegin k
@@ -57,11 +69,13 @@ pub record IsFileAt (t : PosixTree) (file : ℕ) (p : FilePart) : Type 0 where
   pub spare : p.spare ≡ []
   pub loaded : p.loaded ≡ []
 
-pub record AreNamesAt (t : PosixTree) (p : NamesPart) : Type 0 where
+-- what the names have of a history, and of the tree after it
+pub record AreNamesAt (start : PosixTree) (history : List Entry) (t : PosixTree) (p : NamesPart) : Type 0 where
+  pub opening : p.opening ≡ names_of start
+  pub changes : p.changes ≡ name_changes start history
   pub paths : p.paths ≡ t.paths
   pub next : p.next ≡ t.next
   pub holds : (client file : ℕ) → is_holder p.holds client file ≡ holds t.fds client file
-  pub latest : slice_index_or (p.opening ∷ p.changes) (length p.changes) p.opening ≡ names_of t
   pub leases : p.leases ≡ []
   pub blocks : p.blocks ≡ []
   pub spare : p.spare ≡ []
@@ -82,16 +96,18 @@ pub record IsStoreAt (stopped : Option ℕ) (p : StorePart) : Type 0 where
 pub record HasSession (k : Start) (history : List Entry) (asked : Option (ℕ × Op)) (v : View) : Type 0 where
   pub start : IsStart k
   pub tree : IsTree (tree_after k.tree history)
+  pub legal : IsLegalFrom 0 k.tree history
   pub all_clients : (c : ℕ) → count eqb c v.clients ≡ count eqb c k.view.clients
   pub all_asked : (c : ℕ) → count eqb c v.asked ≡ count eqb c k.view.asked
   pub clients : (c : ℕ) (p : ClientPart) → Has (c, p) v.clients → IsClientAt (tree_after k.tree history) history asked c p
   pub theirs : (e : Entry) → Has e history → 1 ≤ count eqb e.client v.clients
   pub all_files : (f : ℕ) → count eqb f v.files ≡ one (is_some (fin.get (tree_after k.tree history).bytes f))
   pub files : (f : ℕ) (p : FilePart) → Has (f, p) v.files → IsFileAt (tree_after k.tree history) f p
+  pub changes : (f : ℕ) (p : FilePart) → Has (f, p) v.files → p.changes ≡ changes_of f k.tree history
   pub pools : v.pools ≡ []
   pub names : NamesPart
   pub has_names : v.names ≡ (tt, names) ∷ []
-  pub names_at : AreNamesAt (tree_after k.tree history) names
+  pub names_at : AreNamesAt k.tree history (tree_after k.tree history) names
   pub store : StorePart
   pub has_store : v.store ≡ (tt, store) ∷ []
   pub store_at : IsStoreAt v.stop store
@@ -101,16 +117,41 @@ pub record HasSession (k : Start) (history : List Entry) (asked : Option (ℕ ×
 abbrev pub client_in : ℕ → View → ClientPart
 client_in client v = unwrap_or (find eqb client v.clients) idle_client
 
--- the disk's state at the last mark
-abbrev pub state_in : View → Cells
-state_in v = of v.store
-  where
-    of : List (Unit {0} × StorePart) → Cells
-    of [] = []
-    of (p ∷ ps) = p.1.state
+-- the store's part
+abbrev pub in_store : {A : Type 0} → A → (StorePart → A) → List (Unit {0} × StorePart) → A
+in_store none of [] = none
+in_store none of (p ∷ ps) = of p.1
 
--- All changes of files and names, and each file's birth, are known as committed.
-pub record KnowsCommits (v : View) : Type 0 where
-  pub files : (f : ℕ) (p : FilePart) → Has (f, p) v.files → length p.changes ≤ p.known
-  pub born : (f : ℕ) (p : FilePart) → Has (f, p) v.files → p.born ≡ true
-  pub names : (p : NamesPart) → Has (tt, p) v.names → length p.changes ≤ p.known
+-- the disk's state at the last mark, and the tickets then
+abbrev pub state_in : View → Cells
+state_in v = in_store [] (λ s. s.state) v.store
+
+abbrev pub mark_in : View → ℕ
+mark_in v = in_store 0 (λ s. s.mark) v.store
+
+-- the hand has marked the disk in this state: it is that of the last mark, or one on the way between two
+abbrev pub IsMarkedIn : List (Unit {0} × StorePart) → Cells → Type 0
+IsMarkedIn [] cells = ⊥
+IsMarkedIn (p ∷ ps) cells = (cells ≡ p.1.state) ⊎ ((x : Stretch) × Has x p.1.past × Has cells x.states)
+
+-- how many states the disk passed between marks: a stretch has besides the one at its beginning, and the one at its end
+abbrev pub passed_in : View → ℕ
+passed_in v = in_store 0 (λ s. weigh (λ x. length x.states - 2) s.past) v.store
+
+-- ---- what is committed
+
+-- No more is committed than the history acknowledges.
+pub record IsCovered (k : Start) (history : List Entry) (s : StorePart) : Type 0 where
+  pub files : AreFilesAcknowledged k.tree history (committed s)
+  pub names : AreNamesAcknowledged k.tree history s.names
+  pub made : s.names ≤ length (name_changes k.tree history)
+
+-- So it is of the store that the hand has.
+abbrev pub IsCoveredIn : Start → List Entry → View → Type 0
+IsCoveredIn k history v = (s : StorePart) → Has (tt, s) v.store → IsCovered k history s
+
+-- The changes that a step acknowledges are known as committed: those of files, with their births, and those of names.
+pub record KnowsSynced (step : Step) (v : View) : Type 0 where
+  pub files : (f : ℕ) (p : FilePart) → Has (f, p) v.files → syncs_file f step ≡ true → length p.changes ≤ p.known
+  pub born : (f : ℕ) (p : FilePart) → Has (f, p) v.files → syncs_file f step ≡ true → p.born ≡ true
+  pub names : (p : NamesPart) → Has (tt, p) v.names → syncs_names step ≡ true → length p.changes ≤ p.known

@@ -1,21 +1,27 @@
 // The hand with all parts of a session.
-ghost use Rattle.std.specs.Prelude.{ℕ, ◌≡◌, ◌≤◌, ◌<◌, ◌++◌, ◌∷◌, [], List, None, Option, Some, length};
+ghost use Rattle.std.specs.Prelude.{ℕ, ◌+◌, ◌≡◌, ◌≤◌, ◌<◌, ◌⊎◌, ◌++◌, ◌∷◌, [], List, None, Option, Some, length};
 ghost use Rattle.ufs_model.specs.History.{entries_of};
 ghost use Rattle.ufs_model.specs.declared.data.Entry.{Entry};
 ghost use Rattle.ufs_model.specs.declared.data.Op.{Op};
 ghost use Rattle.ufs_sound.specs.Draws.{entry_of, left_faults};
-ghost use Rattle.ufs_sound.specs.Owned.{times};
-ghost use Rattle.ufs_one_hand.specs.Drawn.{IsAnswer, asked_view, fault_met, AreBirthsTold, AreBorn, births_kept, files_kept, names_kept};
-ghost use Rattle.ufs_one_hand.specs.OneHand.{HasSession, IsStart, KnowsCommits, StartsCanBegin, state_in};
+ghost use Rattle.ufs_sound.specs.Owned.{Has, times};
+ghost use Rattle.ufs_sound.specs.Parts.{Cells};
+ghost use Rattle.ufs_hand.specs.Session.{KnowsAll};
+ghost use Rattle.ufs_one_hand.specs.Drawn.{IsAcknowledged, IsAnswer, IsExplainedAtMarks, MayPass, asked_view, fault_met, AreBirthsTold, AreBorn, births_kept, files_kept, names_kept};
+ghost use Rattle.ufs_one_hand.specs.OneHand.{HasSession, IsCoveredIn, IsMarkedIn, IsStart, KnowsSynced, StartsCanBegin, mark_in, passed_in, state_in};
+ghost use Rattle.ufs_sound.specs.Covers.{step_in};
+ghost use Rattle.ufs_sound.specs.Visible.{IsDiskVisible};
 
 use crate::picks::{Answering, Passing};
 use std::marker::{Brand, Model};
 use ufs_base::{MAX_CLIENTS, MAX_REQUESTS};
 use ufs_hand::{Begun, Event, Hand, HandTable, Naming, Opened};
 use ufs_model::{
-    Op, a_request_is_local, a_request_keeps_the_tree, a_request_makes_one_file_at_most,
+    Entry, Op, a_request_is_local, a_request_keeps_the_tree, a_request_makes_one_file_at_most,
 };
-use ufs_sound::{Fresh, a_disk_with_files_can_be_opened};
+use ufs_sound::{
+    Fresh, a_disk_with_files_can_be_opened, acknowledged_numbers, explained_images_show,
+};
 
 /// The right to every part of a session, and the table that gives its tickets. Contracts see which parts, with what
 /// stands in them.
@@ -63,7 +69,10 @@ impl<N: Naming> OneHand<N> {
         requires start { IsStart N.start }
         ensures session { HasSession N.start [] None result }
         ensures stop { result.stop ≡ None }
-        ensures state { state_in result ≡ [] }
+        ensures covered { IsCoveredIn N.start [] result }
+        ensures fresh { mark_in result ≡ 0 }
+        ensures passed { passed_in result ≡ 0 }
+        ensures state { state_in result ≡ state_in N.start.view }
         ensures faults { result.faults ≡ [] }
         ensures shortages { result.shortages ≡ [] }
     {
@@ -72,17 +81,22 @@ impl<N: Naming> OneHand<N> {
         OneHand { table, hand }
     }
 
-    /// A client asks a request.
+    /// A client asks a request, and a turn of the disk begins.
     pub fn ask(&mut self, client: u8, op: &Op)
         requires client { client < MAX_CLIENTS }
         requires idle { (history : List Entry) × HasSession N.start history None self.old × (length (entries_of client history) < MAX_REQUESTS) }
         ensures session { (history : List Entry) → HasSession N.start history None self.old → HasSession N.start history (Some (client, op.now)) self.new }
+        ensures fresh { (history : List Entry) → HasSession N.start history None self.old → mark_in self.new ≡ length history }
+        ensures covered { (history : List Entry) → IsCoveredIn N.start history self.old → IsCoveredIn N.start history self.new }
+        ensures marked { (x : Cells) → IsMarkedIn self.old.store x → IsMarkedIn self.new.store x }
+        ensures passed { passed_in self.new ≡ passed_in self.old }
         ensures stop { self.new.stop ≡ self.old.stop }
         ensures state { state_in self.new ≡ state_in self.old }
         ensures faults { self.new.faults ≡ self.old.faults }
         ensures shortages { self.new.shortages ≡ self.old.shortages }
     {
         self.ask_as::<Brand>(client, op);
+        self.turn();
     }
 
     fn ask_as<E: Event>(&mut self, client: u8, op: &Op)
@@ -90,65 +104,106 @@ impl<N: Naming> OneHand<N> {
         requires leaves { E.leaves ≡ asked_view client op.now self.old }
         requires idle { (history : List Entry) × HasSession N.start history None self.old × (length (entries_of client history) < MAX_REQUESTS) }
         ensures session { (history : List Entry) → HasSession N.start history None self.old → HasSession N.start history (Some (client, op.now)) self.new }
+        ensures store { self.new.store ≡ self.old.store }
         ensures stop { self.new.stop ≡ self.old.stop }
-        ensures state { state_in self.new ≡ state_in self.old }
         ensures faults { self.new.faults ≡ self.old.faults }
         ensures shortages { self.new.shortages ≡ self.old.shortages }
     {
         self.hand.mark::<E>(&self.table);
     }
 
-    /// The disk was called for a request: it is in the state that the caller picks, and a call that failed has stopped the
-    /// store.
-    pub fn pass<P: Passing>(&mut self)
+    // The disk is marked as it is.
+    fn turn(&mut self)
         requires session { (history : List Entry) × (asked : Option (ℕ × Op)) × HasSession N.start history asked self.old }
+        ensures session { (history : List Entry) (asked : Option (ℕ × Op)) → HasSession N.start history asked self.old → HasSession N.start history asked self.new }
+        ensures fresh { (history : List Entry) (asked : Option (ℕ × Op)) → HasSession N.start history asked self.old → mark_in self.new ≡ length history }
+        ensures covered { (history : List Entry) → IsCoveredIn N.start history self.old → IsCoveredIn N.start history self.new }
+        ensures marked { (x : Cells) → IsMarkedIn self.old.store x → IsMarkedIn self.new.store x }
+        ensures passed { passed_in self.new ≡ passed_in self.old }
+        ensures stop { self.new.stop ≡ self.old.stop }
+        ensures state { state_in self.new ≡ state_in self.old }
+        ensures faults { self.new.faults ≡ self.old.faults }
+        ensures shortages { self.new.shortages ≡ self.old.shortages }
+    {
+        self.hand.mark::<Brand>(&self.table);
+    }
+
+    /// The disk was called for a request: it passed the states that the caller picks, and is in that one, all of which the
+    /// history explains; and a call that failed has stopped the store.
+    pub fn pass<P: Passing>(&mut self)
+        requires session { (history : List Entry) × (asked : Option (ℕ × Op)) × MayPass N.start history asked P.states P.state self.old }
         requires stop { (n : ℕ) → self.old.stop ≡ Some n → P.stop ≡ Some n }
         ensures session { (history : List Entry) (asked : Option (ℕ × Op)) → HasSession N.start history asked self.old → HasSession N.start history asked self.new }
+        ensures covered { (history : List Entry) → IsCoveredIn N.start history self.old → IsCoveredIn N.start history self.new }
+        ensures marked { (x : Cells) → IsMarkedIn self.old.store x ⊎ (Has x P.states ⊎ (x ≡ P.state)) → IsMarkedIn self.new.store x }
+        ensures passed { passed_in self.new ≡ passed_in self.old + length P.states }
         ensures stop { self.new.stop ≡ P.stop }
         ensures state { state_in self.new ≡ P.state }
         ensures faults { self.new.faults ≡ fault_met self.old.stop P.stop ++ self.old.faults }
         ensures fault { (n : ℕ) → self.old.stop ≡ None → P.stop ≡ Some n → 1 ≤ times n self.new.faults }
         ensures shortages { self.new.shortages ≡ P.shortages ++ self.old.shortages }
     {
+        a_request_keeps_the_tree();
+        explained_images_show();
         self.hand.mark::<Brand>(&self.table);
     }
 
-    /// Everything is committed: the hand knows so.
-    pub fn keep(&mut self)
-        requires session { (history : List Entry) × (asked : Option (ℕ × Op)) × HasSession N.start history asked self.old }
-        ensures session { (history : List Entry) (asked : Option (ℕ × Op)) → HasSession N.start history asked self.old → HasSession N.start history asked self.new }
-        ensures known { KnowsCommits self.new }
+    /// What the entry acknowledges is committed, as the disk shows: the hand knows so.
+    pub fn keep<A: Answering>(&mut self, entry: &Entry)
+        requires answer { (history : List Entry) × IsAcknowledged N.start history A.before entry.now self.old }
+        ensures session { (history : List Entry) → IsAcknowledged N.start history A.before entry.now self.old → HasSession N.start history (Some (entry.now.client, entry.now.op)) self.new }
+        ensures covered { (history : List Entry) → IsAcknowledged N.start history A.before entry.now self.old → IsCoveredIn N.start (history ++ entry.now ∷ []) self.new }
+        ensures known { KnowsSynced (step_in A.before entry.now) self.new }
+        ensures marked { (x : Cells) → IsMarkedIn self.old.store x → IsMarkedIn self.new.store x }
+        ensures passed { passed_in self.new ≡ passed_in self.old }
         ensures stop { self.new.stop ≡ self.old.stop }
         ensures state { state_in self.new ≡ state_in self.old }
         ensures faults { self.new.faults ≡ self.old.faults }
         ensures shortages { self.new.shortages ≡ self.old.shortages }
     {
-        self.keep_names();
-        self.keep_births();
-        self.keep_files();
+        a_request_keeps_the_tree();
+        acknowledged_numbers();
+        self.keep_names::<A, Brand>(entry);
+        self.keep_births::<A, Brand>(entry);
+        self.keep_files::<A, Brand>(entry);
     }
 
-    fn keep_names(&mut self)
-        requires session { (history : List Entry) × (asked : Option (ℕ × Op)) × HasSession N.start history asked self.old }
-        ensures kept { (tickets : ℕ) × (self.new ≡ names_kept self.old tickets) }
+    fn keep_names<A: Answering, E: Event>(&mut self, entry: &Entry)
+        requires leaves { E.leaves ≡ names_kept A.before entry.now self.old }
+        requires answer { (history : List Entry) × IsAcknowledged N.start history A.before entry.now self.old }
+        ensures kept { (tickets : ℕ) × (self.new ≡ names_kept A.before entry.now self.old tickets) }
     {
-        self.hand.mark::<Brand>(&self.table);
+        a_request_keeps_the_tree();
+        acknowledged_numbers();
+        explained_images_show();
+        // For the prover alone.
+        let _ = entry;
+        self.hand.mark::<E>(&self.table);
     }
 
-    fn keep_births(&mut self)
-        requires session { (history : List Entry) × (asked : Option (ℕ × Op)) × HasSession N.start history asked self.old }
-        requires told { AreBirthsTold self.old }
-        ensures kept { (tickets : ℕ) × (self.new ≡ births_kept self.old tickets) }
+    fn keep_births<A: Answering, E: Event>(&mut self, entry: &Entry)
+        requires leaves { E.leaves ≡ births_kept A.before entry.now self.old }
+        requires answer { (history : List Entry) × IsAcknowledged N.start history A.before entry.now self.old }
+        requires told { AreBirthsTold A.before entry.now self.old }
+        ensures kept { (tickets : ℕ) × (self.new ≡ births_kept A.before entry.now self.old tickets) }
     {
-        self.hand.mark::<Brand>(&self.table);
+        // For the prover alone.
+        let _ = entry;
+        self.hand.mark::<E>(&self.table);
     }
 
-    fn keep_files(&mut self)
-        requires session { (history : List Entry) × (asked : Option (ℕ × Op)) × HasSession N.start history asked self.old }
-        requires born { AreBorn self.old }
-        ensures kept { (tickets : ℕ) × (self.new ≡ files_kept self.old tickets) }
+    fn keep_files<A: Answering, E: Event>(&mut self, entry: &Entry)
+        requires leaves { E.leaves ≡ files_kept A.before entry.now self.old }
+        requires answer { (history : List Entry) × IsAcknowledged N.start history A.before entry.now self.old }
+        requires born { AreBorn A.before entry.now self.old }
+        ensures kept { (tickets : ℕ) × (self.new ≡ files_kept A.before entry.now self.old tickets) }
     {
-        self.hand.mark::<Brand>(&self.table);
+        a_request_keeps_the_tree();
+        acknowledged_numbers();
+        explained_images_show();
+        // For the prover alone.
+        let _ = entry;
+        self.hand.mark::<E>(&self.table);
     }
 
     /// The next ticket, for the entry that answers what is asked: the number of entries before it.
@@ -158,6 +213,7 @@ impl<N: Naming> OneHand<N> {
         ensures session { (history : List Entry) → IsAnswer N.start history A.before fresh.now A.fds self.old → HasSession N.start (history ++ entry_of result fresh.now ∷ []) None self.new }
         ensures stop { self.new.stop ≡ self.old.stop }
         ensures state { state_in self.new ≡ state_in self.old }
+        ensures store { self.new.store ≡ self.old.store }
         ensures faults { self.new.faults ≡ left_faults fresh.now.reply self.old.faults }
         ensures shortages { self.new.shortages ≡ [] }
     {
@@ -167,10 +223,13 @@ impl<N: Naming> OneHand<N> {
         self.hand.draw::<Brand>(&self.table, fresh)
     }
 
-    /// The end of the session. Answers how many entries were drawn.
+    /// The end of the session. Answers how many entries were drawn. The hand knows one whole history, and each state of a
+    /// visible disk that it marked is explained by it.
     pub fn close(self) -> u64
         requires session { (history : List Entry) × HasSession N.start history None self }
         ensures tickets { (history : List Entry) → HasSession N.start history None self → result ≡ length history }
+        ensures whole { (clock : ℕ) × KnowsAll N.start result clock self }
+        ensures explained { IsDiskVisible N.start → (history : List Entry) → HasSession N.start history None self → (x : Cells) → IsMarkedIn self.store x → IsExplainedAtMarks N.start.tree history x }
     {
         let OneHand { table, hand } = self;
         hand.close(table).tickets

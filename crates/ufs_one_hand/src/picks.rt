@@ -9,7 +9,10 @@ pub trait Passing {
     /// The fault at which the store has stopped.
     ghost stop: { Option ℕ };
 
-    /// The state that the disk is in.
+    /// The states that the disk was in since the last mark.
+    ghost states: { List Cells };
+
+    /// The state that it is in.
     ghost state: { Cells };
 
     /// The blocks that were short.
@@ -20,6 +23,8 @@ impl Passing for Brand {
     ghost use Rattle.std.specs.Prelude.{None, []};
 
     ghost stop = { None };
+
+    ghost states = { [] };
 
     ghost state = { [] };
 

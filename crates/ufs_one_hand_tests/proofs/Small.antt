@@ -1,5 +1,5 @@
 -- Each step of the small session may be taken.
-use Rattle.std.proofs.Common.{◌≡◌, ℕ, ◌<◌, ◌≤◌, true, List, [], ◌∷◌, length, Some, None, sym, refl, ap, ◌∙◌, subst, inl, inr, arith}
+use Rattle.std.proofs.Common.{◌≡◌, ℕ, ◌<◌, ◌≤◌, true, false, List, [], ◌∷◌, length, Some, None, sym, refl, ap, ◌∙◌, subst, inl, inr, arith}
 use Rattle.std.specs.FinMap as fin
 use Rattle.std.specs.Ordering.{nat_cmp}
 use Rattle.ufs_base.specs.declared.limits.TheConstants.{MAX_CLIENTS}
@@ -12,24 +12,47 @@ use Rattle.ufs_model.specs.declared.data.Excuse.TheVariants.{Memory, Device}
 use Rattle.ufs_model.specs.declared.data.Op.TheVariants.{Sync}
 use Rattle.ufs_model.specs.declared.data.Reply.TheVariants.{Done, Excused}
 use Rattle.ufs_model.proofs.Facts.Starts.{root_is_tree, start_of-root}
-use Rattle.ufs_one_hand.specs.Drawn.{HasCauses, IsAnswer}
-use Rattle.ufs_one_hand.specs.OneHand.{HasSession, IsStart, KnowsCommits}
-use Rattle.ufs_prefix.specs.Changes.{asks_commit}
+use Rattle.ufs_one_hand.specs.Drawn.{HasCauses, IsAcknowledged, IsAnswer, MayPass}
+use Rattle.ufs_one_hand.specs.OneHand.{HasSession, IsCoveredIn, IsStart, KnowsSynced, mark_in}
+use Rattle.ufs_prefix.specs.Changes.{asks_commit, file_synced, name_changes}
+use Rattle.ufs_sound.specs.Covers.{step_in}
 use Rattle.ufs_sound.specs.Draws.{entry_of}
-use Rattle.ufs_sound.specs.Owned.{times}
-use Rattle.ufs_sound.specs.Parts.{Start, View}
+use Rattle.ufs_sound.specs.Owned.{Has, times}
+use Rattle.ufs_sound.specs.Parts.{Cells, Start, View}
+use Rattle.ufs_sound.specs.Visible.{IsDiskVisible}
 use Rattle.ufs_sound.specs.declared.fresh.Fresh.{Fresh}
 use Rattle.ufs_one_hand_tests.specs.Small.{bare, done_sync, excused_sync, failed_sync}
 
 pub starts : IsStart bare
-starts = record { nodes = path_root; paths = root_is_tree; few = let e = ap (λ (t : PosixTree). t.next) start_of-root in omega (arith, e); is = refl }
+starts = record {
+  nodes = path_root;
+  cells = [];
+  is_visible = false;
+  paths = root_is_tree;
+  few = let e = ap (λ (t : PosixTree). t.next) start_of-root in omega (arith, e);
+  is = refl;
+}
+
+unseen : (k : Start) → k ≡ bare → IsDiskVisible k → ⊥
+unseen k is seen = let no : false ≡ true = sym (ap (λ (z : Start). z.is_visible) is) ∙ seen.visible in cc
+
+-- Histories without a change of names: what one covers without a change of a file, the other does.
+pub still_covered : (k : Start) (a b : List Entry) → name_changes k.tree a ≡ [] → ((f : ℕ) → file_synced f k.tree a ≡ 0) → (v w : View) → w.store ≡ v.store → IsCoveredIn k a v → IsCoveredIn k b w
+still_covered k a b names files v w same covered s has =
+    let c = covered s (subst (Has (tt, s)) same has) in
+    let none = ap length names in
+    record {
+      files = λ f. let low = c.files f in let z = files f in omega arith;
+      names = λ n made synced born. let low = c.made in omega arith;
+      made = let low = c.made in omega arith;
+    }
 
 -- nothing is open at the start, and these requests open nothing
 module _ (k : Start) (history : List Entry) (f : Fresh) (v : View) (h : HasSession k history (Some (f.client, f.op)) v) (same : tree_after k.tree history ≡ k.tree) (stays : goes_on k.tree (entry_of 0 f) ≡ k.tree) where
   none_open : (fd : ℕ) → desc_at k.tree f.client fd ≡ None
   none_open fd = ap (λ (z : Start). desc_at z.tree f.client fd) h.start.is ∙ fin.get-empty fd_cmp (f.client, fd)
 
-  pub answers : f.client < MAX_CLIENTS → f.seq ≡ length (entries_of f.client history) → IsReplyTo k.tree (entry_of 0 f) → (f.reply ≡ Done → asks_commit f.op ≡ true → KnowsCommits v) → HasCauses f.reply v
+  pub answers : f.client < MAX_CLIENTS → f.seq ≡ length (entries_of f.client history) → IsReplyTo k.tree (entry_of 0 f) → (f.reply ≡ Done → asks_commit f.op ≡ true → KnowsSynced (step_in k.tree (entry_of 0 f)) v) → HasCauses f.reply v
       → IsAnswer k history k.tree f fin.empty v
   answers low seq replied known causes = record {
     tree_is = sym same;
@@ -63,9 +86,27 @@ device_causes v fault met = record {
 pub excused_answers : (k : Start) (v : View) → HasSession k [] (Some (0, Sync)) v → IsAnswer k [] k.tree excused_sync fin.empty v
 excused_answers k v h = answers k [] excused_sync v h refl refl (omega arith) refl (inr (record { due = λ e. refl; told = tt })) (λ e asks. absurd cc) (memory_causes v)
 
-pub done_answers : (k : Start) (first : ℕ) (v : View) → HasSession k (entry_of first excused_sync ∷ []) (Some (1, Sync)) v → KnowsCommits v → IsAnswer k (entry_of first excused_sync ∷ []) k.tree done_sync fin.empty v
-done_answers k first v h known = answers k (entry_of first excused_sync ∷ []) done_sync v h refl refl (omega arith) refl (inl refl) (λ e asks. known) (done_causes v)
+module _ (k : Start) (first : ℕ) (v : View) (h : HasSession k (entry_of first excused_sync ∷ []) (Some (1, Sync)) v) where
+  pub done_acknowledged : k ≡ bare → IsCoveredIn k (entry_of first excused_sync ∷ []) v → IsAcknowledged k (entry_of first excused_sync ∷ []) k.tree (entry_of 1 done_sync) v
+  done_acknowledged is covered = record {
+    tree_is = refl;
+    session = h;
+    covered = still_covered k (entry_of first excused_sync ∷ []) (entry_of first excused_sync ∷ entry_of 1 done_sync ∷ []) refl (λ f. refl) v v refl covered;
+    ticket = refl;
+    replied = inl refl;
+    done = refl;
+    asks = refl;
+    explained = λ visible. absurd (unseen k is visible);
+  }
 
-pub failed_answers : (k : Start) (first second : ℕ) (v : View) → HasSession k (entry_of first excused_sync ∷ entry_of second done_sync ∷ []) (Some (0, Sync)) v → 1 ≤ times 7 v.faults
-    → IsAnswer k (entry_of first excused_sync ∷ entry_of second done_sync ∷ []) k.tree failed_sync fin.empty v
-failed_answers k first second v h met = answers k (entry_of first excused_sync ∷ entry_of second done_sync ∷ []) failed_sync v h refl refl (omega arith) refl (inr (record { due = λ e. refl; told = tt })) (λ e asks. absurd cc) (device_causes v 7 met)
+  -- the step goes by the request and its reply, and not by the ticket
+  pub done_answers : KnowsSynced (step_in k.tree (entry_of 1 done_sync)) v → IsAnswer k (entry_of first excused_sync ∷ []) k.tree done_sync fin.empty v
+  done_answers known = answers k (entry_of first excused_sync ∷ []) done_sync v h refl refl (omega arith) refl (inl refl) (λ e asks. record { files = known.files; born = known.born; names = known.names }) (done_causes v)
+
+module _ (k : Start) (first second : ℕ) (v : View) (h : HasSession k (entry_of first excused_sync ∷ entry_of second done_sync ∷ []) (Some (0, Sync)) v) where
+  pub failed_may_pass : k ≡ bare → IsCoveredIn k (entry_of first excused_sync ∷ entry_of second done_sync ∷ []) v → mark_in v ≡ 2 → (cells : Cells)
+      → MayPass k (entry_of first excused_sync ∷ entry_of second done_sync ∷ []) (Some (0, Sync)) [] cells v
+  failed_may_pass is covered fresh cells = record { session = h; fresh = fresh; covered = covered; passed = λ visible. absurd (unseen k is visible); explained = λ visible. absurd (unseen k is visible) }
+
+  pub failed_answers : 1 ≤ times 7 v.faults → IsAnswer k (entry_of first excused_sync ∷ entry_of second done_sync ∷ []) k.tree failed_sync fin.empty v
+  failed_answers met = answers k (entry_of first excused_sync ∷ entry_of second done_sync ∷ []) failed_sync v h refl refl (omega arith) refl (inr (record { due = λ e. refl; told = tt })) (λ e asks. absurd cc) (device_causes v 7 met)

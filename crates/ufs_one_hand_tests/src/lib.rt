@@ -1,6 +1,7 @@
 //! Short sessions by the hand with every part: each of its calls once.
 #![tactic(auto)]
 
+#[cfg(test)]
+mod asserts;
+#[cfg(test)]
 mod session;
-
-pub use session::{given_up, served};

@@ -1,41 +1,46 @@
-// Two clients ask three times for a `sync`: the first is excused for want of memory, the second done, and the third excused
-// by a call of the disk that failed.
-ghost use Rattle.std.specs.Prelude.{◌≡◌, ◌∷◌, [], IfOk, None};
-ghost use Rattle.ufs_one_hand.specs.OneHand.{HasSession, IsStart};
-ghost use Rattle.ufs_sound.specs.Draws.{entry_of};
+// Two clients ask three times for a `sync`, over a disk that isn't visible: the first is excused for want of memory, the
+// second done, and the third excused by a call of the disk that failed.
+ghost use Rattle.std.specs.Prelude.{◌≡◌, ◌∷◌, [], None};
+ghost use Rattle.ufs_one_hand.specs.OneHand.{HasSession, IsCoveredIn};
 ghost use Rattle.ufs_one_hand_tests.specs.Small.{bare, done_sync, excused_sync, failed_sync};
+ghost use Rattle.ufs_sound.specs.Draws.{entry_of};
 
-use std::alloc::{AllocError, Global};
+use crate::asserts::same;
+use std::alloc::AllocGlobal;
 use std::marker::Brand;
+use std::process::Abort;
+use std::rt::HostRuntime;
 use ufs_hand::{Naming, Opened, Parts};
-use ufs_model::{Actor, Excuse, Op, Reply};
+use ufs_model::{Actor, Entry, Excuse, Op, Reply};
 use ufs_one_hand::{OneHand, abandon, starts_can_begin};
 use ufs_sound::Fresh;
 
-/// The tickets of the three entries, and how many entries there are at the end.
-pub fn served(alloc: Global) -> Result<([u64; 3], u64), AllocError> {
-    let opened = open(alloc)?;
-    Ok(session::<Brand>(opened))
+#[test]
+fn three_entries_are_drawn(rt: HostRuntime) {
+    let opened = open(&rt);
+    let (tickets, count) = session::<Brand>(opened);
+    same(&rt, tickets, [0, 1, 2]);
+    same(&rt, count, 3);
 }
 
-/// A session that ends as it was opened.
-pub fn given_up(alloc: Global) -> Result<(), AllocError> {
-    let opened = open(alloc)?;
+#[test]
+fn a_session_is_given_up(rt: HostRuntime) {
+    let opened = open(&rt);
     abandon(opened);
-    Ok(())
 }
 
-fn open(alloc: Global) -> Result<Opened, AllocError>
-    ensures { IfOk result (λ o. o.start ≡ bare) }
+fn open<R: Abort + AllocGlobal>(rt: &R) -> Opened
+    ensures { result.start ≡ bare }
 {
     starts_can_begin();
     let parts = Parts::picked::<Brand>();
-    Opened::open(alloc, parts)
+    Opened::open(rt.alloc(), parts).expect(rt, "memory")
 }
 
+// The tickets of the three entries, and how many entries there are at the end.
 fn session<N: Naming>(opened: Opened) -> ([u64; 3], u64)
     requires name { (opened.table ≡ N.table) × (opened.start ≡ N.start) }
-    requires start { IsStart N.start }
+    requires start { N.start ≡ bare }
     ensures tickets { result.0 ≡ 0 ∷ 1 ∷ 2 ∷ [] }
     ensures entries { result.1 ≡ 3 }
 {
@@ -48,9 +53,11 @@ fn session<N: Naming>(opened: Opened) -> ([u64; 3], u64)
 
 fn excused<N: Naming>(hand: &mut OneHand<N>) -> u64
     requires session { HasSession N.start [] None hand.old }
+    requires covered { IsCoveredIn N.start [] hand.old }
     requires going { hand.old.stop ≡ None }
     ensures ticket { result ≡ 0 }
     ensures session { HasSession N.start (entry_of result excused_sync ∷ []) None hand.new }
+    ensures covered { IsCoveredIn N.start (entry_of result excused_sync ∷ []) hand.new }
     ensures going { hand.new.stop ≡ None }
 {
     let fresh = Fresh {
@@ -65,12 +72,25 @@ fn excused<N: Naming>(hand: &mut OneHand<N>) -> u64
 }
 
 fn done<N: Naming>(hand: &mut OneHand<N>, first: u64) -> u64
+    requires start { N.start ≡ bare }
     requires session { HasSession N.start (entry_of first excused_sync ∷ []) None hand.old }
+    requires covered { IsCoveredIn N.start (entry_of first excused_sync ∷ []) hand.old }
     requires going { hand.old.stop ≡ None }
     ensures ticket { result ≡ 1 }
     ensures session { HasSession N.start (entry_of first excused_sync ∷ entry_of result done_sync ∷ []) None hand.new }
+    ensures covered { IsCoveredIn N.start (entry_of first excused_sync ∷ entry_of result done_sync ∷ []) hand.new }
     ensures going { hand.new.stop ≡ None }
 {
+    let entry = Entry {
+        ticket: 1,
+        client: 1,
+        seq: 0,
+        by: Actor::Primary,
+        op: Op::Sync,
+        reply: Reply::Done,
+    };
+    hand.ask(1, &entry.op);
+    hand.keep::<Brand>(&entry);
     let fresh = Fresh {
         client: 1,
         seq: 0,
@@ -78,13 +98,13 @@ fn done<N: Naming>(hand: &mut OneHand<N>, first: u64) -> u64
         op: Op::Sync,
         reply: Reply::Done,
     };
-    hand.ask(1, &fresh.op);
-    hand.keep();
     hand.draw::<Brand>(&fresh)
 }
 
 fn failed<N: Naming>(hand: &mut OneHand<N>, first: u64, second: u64) -> u64
+    requires start { N.start ≡ bare }
     requires session { HasSession N.start (entry_of first excused_sync ∷ entry_of second done_sync ∷ []) None hand.old }
+    requires covered { IsCoveredIn N.start (entry_of first excused_sync ∷ entry_of second done_sync ∷ []) hand.old }
     requires going { hand.old.stop ≡ None }
     ensures ticket { result ≡ 2 }
     ensures session { HasSession N.start (entry_of first excused_sync ∷ entry_of second done_sync ∷ entry_of result failed_sync ∷ []) None hand.new }
@@ -99,24 +119,4 @@ fn failed<N: Naming>(hand: &mut OneHand<N>, first: u64, second: u64) -> u64
     hand.ask(0, &fresh.op);
     hand.pass::<Brand>();
     hand.draw::<Brand>(&fresh)
-}
-
-#[cfg(test)]
-mod tests {
-    use super::{given_up, served};
-    use std::alloc::AllocError;
-    use std::rt::HostRuntime;
-
-    #[test]
-    fn three_entries_are_drawn(rt: HostRuntime) -> Result<(), AllocError> {
-        let (tickets, count) = served(rt.alloc())?;
-        assert_eq!(rt; tickets, [0, 1, 2]);
-        assert_eq!(rt; count, 3);
-        Ok(())
-    }
-
-    #[test]
-    fn a_session_is_given_up(rt: HostRuntime) -> Result<(), AllocError> {
-        given_up(rt.alloc())
-    }
 }

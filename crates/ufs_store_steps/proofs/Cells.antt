@@ -1,12 +1,12 @@
 -- Images of a disk's state, and of its cells.
-use Rattle.std.proofs.Common.{List, ◌∷◌, None, ◌≡◌, ◌⊎◌, ℕ, zero, suc, ◌+◌, ◌<◌, ◌≤◌, inl, inr, ⊎_elim, Bool, true, false, [], length, map, Some, unwrap_or, ap, sym, refl, ◌∙◌, subst, arith}
+use Rattle.std.proofs.Common.{List, ◌∷◌, ◌++◌, None, ◌≡◌, ◌⊎◌, ℕ, zero, suc, ◌+◌, ◌<◌, ◌≤◌, inl, inr, ⊎_elim, Bool, true, false, [], length, map, Some, unwrap_or, ap, sym, refl, ◌∙◌, subst, arith}
 use Rattle.std.specs.Prelude.{Ok, nat_lt, if◌then◌else◌, slice_get}
 use Rattle.std.specs.List.{range_with_len}
 use Rattle.std.proofs.lemmas.Bool.Decides.{nat_tests}
 use Rattle.std.proofs.lemmas.Option.{slice_get_past}
 use native.Mathlib.Decide.{dec_le}
 use Rattle.ufs_base.specs.Images.{Image}
-use Rattle.ufs_disk.specs.Disk.{Cell, State, IsAmong, IsImage, possible, seen}
+use Rattle.ufs_disk.specs.Disk.{Cell, State, IsAmong, IsImage, IsWhole, possible, seen}
 use Rattle.ufs_disk.proofs.Images.{seen_is_image}
 use Rattle.ufs_image.specs.Opens.{ImageTree, opens}
 use Rattle.ufs_model.specs.Start.{PathNodes}
@@ -79,6 +79,23 @@ module _ (sectors : ℕ) (state : State) (cells : Cells) (are : AreCellsOf secto
 
   pub cut_same : (image : Image) (s : ℕ) → s < sectors → image s ≡ cut image s
   cut_same image s low = sym (ap (λ b. if b then image s else []) (let e : nat_lt s sectors ≡ true = grind (arith, nat_tests, low) in e))
+
+-- ---- a disk with nothing past its end is its cells
+
+no_cell : (cell : Cell) → possible cell ≡ [] ∷ [] → cell ≡ empty_cell
+no_cell cell is = let both = none cell.older cell.seen is in λ i. record { older = both.0 i; seen = both.1 i }
+  where
+    none : (older : List (List ℕ)) (seen : List ℕ) → older ++ seen ∷ [] ≡ [] ∷ [] → (older ≡ []) × (seen ≡ [])
+    none [] seen e = let s : seen ≡ [] = cc in (refl, s)
+    none (x ∷ []) seen e = cc
+    none (x ∷ y ∷ more) seen e = cc
+
+pub whole_cells : (sectors : ℕ) (state : State) → IsWhole sectors state → state_of (cells_of sectors state) ≡ state
+whole_cells sectors state whole = λ i s. at s (dec_le (s + 1) sectors) i
+  where
+    at : (s : ℕ) → Dec (s + 1 ≤ sectors) → state_of (cells_of sectors state) s ≡ state s
+    at s (yes l) = cell_within sectors state (cells_of sectors state) (cells_are_there sectors state) s (omega arith)
+    at s (no l) = cell_past sectors state (cells_of sectors state) (cells_are_there sectors state) s (omega arith) ∙ sym (no_cell (state s) (whole.beyond s (omega arith)))
 
 -- ---- what is shown of the states holds of their cells
 

@@ -1,17 +1,32 @@
-use Rattle.ufs_one_hand_tests.proofs.Small.{done_answers}
+use Rattle.std.proofs.Common.{[], ◌∷◌, refl}
+use Rattle.ufs_sound.specs.Draws.{entry_of}
+use Rattle.ufs_one_hand_tests.specs.Small.{done_sync, excused_sync}
+use Rattle.ufs_one_hand_tests.proofs.Small.{done_acknowledged, done_answers, still_covered}
 use Rattle.ufs_one_hand_tests.proofs.session.done.Goals as goal
 
 pub keep-requires : goal.keep-requires
-keep-requires g c = record { session = (_, _, c.ask.ensures.session _ c.requires.session) }
-
-pub draw-requires : goal.draw-requires
-draw-requires g c = record {
-  answer = (_, done_answers g.N.Naming.start c.args.first c.keep.new.self (c.keep.ensures.session _ _ (c.ask.ensures.session _ c.requires.session)) c.keep.ensures.known);
+keep-requires g c = record {
+  answer = (_, done_acknowledged g.N.Naming.start c.args.first c.ask.new.self (c.ask.ensures.session _ c.requires.session) c.requires.start (c.ask.ensures.covered _ c.requires.covered));
 }
 
+pub draw-requires : goal.draw-requires
+draw-requires g c =
+    let acked = done_acknowledged g.N.Naming.start c.args.first c.ask.new.self (c.ask.ensures.session _ c.requires.session) c.requires.start (c.ask.ensures.covered _ c.requires.covered) in record {
+      answer = (_, done_answers g.N.Naming.start c.args.first c.keep.new.self (c.keep.ensures.session _ acked) c.keep.ensures.known);
+    }
+
 pub returns-clause-ticket : goal.returns-clause-ticket
-returns-clause-ticket g c = c.draw.ensures.ticket _ (c.keep.ensures.session _ _ (c.ask.ensures.session _ c.requires.session))
+returns-clause-ticket g c =
+    let acked = done_acknowledged g.N.Naming.start c.args.first c.ask.new.self (c.ask.ensures.session _ c.requires.session) c.requires.start (c.ask.ensures.covered _ c.requires.covered) in
+    c.draw.ensures.ticket _ (c.keep.ensures.session _ acked)
 
 pub returns-clause-session : goal.returns-clause-session
 returns-clause-session g c =
-    c.draw.ensures.session _ (done_answers g.N.Naming.start c.args.first c.keep.new.self (c.keep.ensures.session _ _ (c.ask.ensures.session _ c.requires.session)) c.keep.ensures.known)
+    let acked = done_acknowledged g.N.Naming.start c.args.first c.ask.new.self (c.ask.ensures.session _ c.requires.session) c.requires.start (c.ask.ensures.covered _ c.requires.covered) in
+    c.draw.ensures.session _ (done_answers g.N.Naming.start c.args.first c.keep.new.self (c.keep.ensures.session _ acked) c.keep.ensures.known)
+
+pub returns-clause-covered : goal.returns-clause-covered
+returns-clause-covered g c =
+    let acked = done_acknowledged g.N.Naming.start c.args.first c.ask.new.self (c.ask.ensures.session _ c.requires.session) c.requires.start (c.ask.ensures.covered _ c.requires.covered) in
+    still_covered g.N.Naming.start (entry_of c.args.first excused_sync ∷ entry_of 1 done_sync ∷ []) (entry_of c.args.first excused_sync ∷ entry_of c.draw.result done_sync ∷ []) refl (λ f. refl) c.keep.new.self c.draw.new.self
+    c.draw.ensures.store (c.keep.ensures.covered _ acked)

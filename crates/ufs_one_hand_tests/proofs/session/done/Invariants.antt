@@ -1,5 +1,8 @@
 use Rattle.std.specs.FinMap as fin
 use Rattle.ufs_one_hand_tests.proofs.session.done.Given as goal
 
+abbrev pub ghosts-keep : goal.ghosts-keep
+ghosts-keep g a = record { before = g.N.Naming.start.tree; fds = fin.empty }
+
 abbrev pub ghosts-draw : goal.ghosts-draw
 ghosts-draw g a = record { before = g.N.Naming.start.tree; fds = fin.empty }

@@ -1,5 +1,7 @@
-use Rattle.std.proofs.Common.{[]}
-use Rattle.ufs_one_hand_tests.proofs.Small.{excused_answers}
+use Rattle.std.proofs.Common.{[], ◌∷◌, refl}
+use Rattle.ufs_sound.specs.Draws.{entry_of}
+use Rattle.ufs_one_hand_tests.specs.Small.{excused_sync}
+use Rattle.ufs_one_hand_tests.proofs.Small.{excused_answers, still_covered}
 use Rattle.ufs_one_hand_tests.proofs.session.excused.Goals as goal
 
 pub draw-requires : goal.draw-requires
@@ -10,3 +12,7 @@ returns-clause-ticket g c = c.draw.ensures.ticket [] (c.ask.ensures.session [] c
 
 pub returns-clause-session : goal.returns-clause-session
 returns-clause-session g c = c.draw.ensures.session [] (excused_answers g.N.Naming.start c.ask.new.self (c.ask.ensures.session [] c.requires.session))
+
+pub returns-clause-covered : goal.returns-clause-covered
+returns-clause-covered g c =
+    still_covered g.N.Naming.start [] (entry_of c.draw.result excused_sync ∷ []) refl (λ f. refl) c.ask.new.self c.draw.new.self c.draw.ensures.store (c.ask.ensures.covered [] c.requires.covered)

@@ -1,9 +1,10 @@
-use Rattle.std.proofs.Common.{refl, ◌∙◌}
-use Rattle.ufs_one_hand_tests.proofs.Small.{failed_answers}
+use Rattle.std.proofs.Common.{[], refl, ◌∙◌}
+use Rattle.ufs_one_hand_tests.proofs.Small.{failed_answers, failed_may_pass}
 use Rattle.ufs_one_hand_tests.proofs.session.failed.Goals as goal
 
 pub pass-requires-clause-session : goal.pass-requires-clause-session
-pass-requires-clause-session g c = (_, _, c.ask.ensures.session _ c.requires.session)
+pass-requires-clause-session g c =
+    (_, _, failed_may_pass g.N.Naming.start c.args.first c.args.second c.ask.new.self (c.ask.ensures.session _ c.requires.session) c.requires.start (c.ask.ensures.covered _ c.requires.covered) (c.ask.ensures.fresh _ c.requires.session) [])
 
 pub draw-requires : goal.draw-requires
 draw-requires g c = record {

@@ -2,4 +2,4 @@ use Rattle.ufs_one_hand_tests.specs.Small.{bare}
 use Rattle.ufs_one_hand_tests.proofs.session.open.Given as goal
 
 abbrev pub ghosts-picked : goal.ghosts-picked
-ghosts-picked a = record { opened = bare }
+ghosts-picked g a = record { opened = bare }

@@ -1,10 +1,19 @@
-use Rattle.std.proofs.Common.{[], None, sym, subst}
+use Rattle.std.proofs.Common.{[], None, ◌∙◌, ap, sym, subst}
 use Rattle.ufs_sound.specs.Parts.{View}
-use Rattle.ufs_one_hand.specs.OneHand.{HasSession}
-use Rattle.ufs_one_hand.proofs.Beginning.{start_begun}
+use Rattle.ufs_one_hand.specs.OneHand.{HasSession, IsCoveredIn, mark_in, passed_in}
+use Rattle.ufs_one_hand.proofs.Beginning.{start_begun, start_covered, start_mark, start_passed}
 use Rattle.ufs_one_hand.proofs.hand.OneHand.begin.Goals as goal
 
 pub returns-clause-session : goal.returns-clause-session
 returns-clause-session g c =
     subst (λ (v : View). HasSession g.N.Naming.start [] None v) (sym c.named-table.ensures)
     (start_begun c.a_disk_with_files_can_be_opened.ensures.serves g.N.Naming.start c.requires.start)
+
+pub returns-clause-covered : goal.returns-clause-covered
+returns-clause-covered g c = subst (IsCoveredIn g.N.Naming.start []) (sym c.named-table.ensures) (start_covered g.N.Naming.start c.requires.start)
+
+pub returns-clause-fresh : goal.returns-clause-fresh
+returns-clause-fresh g c = ap mark_in c.named-table.ensures ∙ start_mark g.N.Naming.start c.requires.start
+
+pub returns-clause-passed : goal.returns-clause-passed
+returns-clause-passed g c = ap passed_in c.named-table.ensures ∙ start_passed g.N.Naming.start c.requires.start

@@ -17,10 +17,13 @@ draw-requires g c =
 pub returns-clause-ticket : goal.returns-clause-ticket
 returns-clause-ticket g c = λ history s.
     let f = c.args.fresh.now in
-    tickets_are g.N.Naming.start history (Some (f.client, f.op)) c.self.inside.hand c.draw.result (subst (λ (v : View). HasSession g.N.Naming.start history (Some (f.client, f.op)) v) (sym c.self.view_is) s) c.draw.ensures.history
+    tickets_are g.N.Naming.start history (Some (f.client, f.op)) c.self.inside.hand c.draw.result (subst (HasSession g.N.Naming.start history (Some (f.client, f.op))) (sym c.self.view_is) s) c.draw.ensures.history
 
 pub returns-clause-session : goal.returns-clause-session
 returns-clause-session g c = λ history a.
-    subst (λ (v : View). HasSession g.N.Naming.start (history ++ entry_of c.draw.result c.args.fresh.now ∷ []) None v) (sym c.draw.ensures.parts)
-    (session_after_in c.a_request_keeps_the_tree.ensures c.a_request_is_local.ensures g.N.Naming.start history g.A.Answering.before c.args.fresh.now g.A.Answering.fds c.self.inside.hand c.draw.result
-    (subst (λ (v : View). IsAnswer g.N.Naming.start history g.A.Answering.before c.args.fresh.now g.A.Answering.fds v) (sym c.self.view_is) a))
+    let k = g.N.Naming.start in
+    let f = c.args.fresh.now in
+    let b = subst (IsAnswer k history g.A.Answering.before f g.A.Answering.fds) (sym c.self.view_is) a in
+    subst (HasSession k (history ++ entry_of c.draw.result f ∷ []) None) (sym c.draw.ensures.parts)
+    (session_after_in c.a_request_keeps_the_tree.ensures c.a_request_is_local.ensures k history g.A.Answering.before f g.A.Answering.fds c.self.inside.hand c.draw.result
+    (tickets_are k history (Some (f.client, f.op)) c.self.inside.hand c.draw.result b.session c.draw.ensures.history) b)

@@ -1,53 +1,61 @@
-use Rattle.std.proofs.Common.{◌≡◌, ◌∙◌, sym, subst, ap}
+use Rattle.std.proofs.Common.{◌≡◌, ◌∙◌, ◌++◌, ◌∷◌, [], Some, refl, sym, subst, ap}
+use Rattle.ufs_sound.specs.Covers.{step_in}
 use Rattle.ufs_sound.specs.Parts.{View}
-use Rattle.ufs_one_hand.specs.Drawn.{AreBirthsTold, AreBorn, births_kept, files_kept, names_kept}
-use Rattle.ufs_one_hand.specs.OneHand.{HasSession, KnowsCommits}
-use Rattle.ufs_one_hand.proofs.Keeping.{names_tell, session_1, session_2, session_3, kept_born, knows}
+use Rattle.ufs_one_hand.specs.Drawn.{AreBirthsTold, AreBorn, IsAcknowledged, births_kept, files_kept, names_kept}
+use Rattle.ufs_one_hand.specs.OneHand.{HasSession, IsCoveredIn, IsMarkedIn, KnowsSynced, passed_in, state_in}
+use Rattle.ufs_one_hand.proofs.Keeping.{all_covered, all_marked, all_session, births_acked, births_born, knows, names_acked, names_tell, same_passed, same_rest}
 use Rattle.ufs_one_hand.proofs.hand.OneHand.keep.Goals as goal
 
-pub keep_births-requires-clause-session : goal.keep_births-requires-clause-session
-keep_births-requires-clause-session g c =
-    let s = c.requires.session in
-    let one = c.keep_names.ensures.kept in
-    (s.0, s.1, subst (HasSession g.N.Naming.start s.0 s.1) (sym one.1) (session_1 g.N.Naming.start s.0 s.1 c.args.self.now s.2 one.0 0 0))
+pub keep_births-requires : goal.keep_births-requires
+keep_births-requires g c =
+    let k = g.N.Naming.start in
+    let t = g.A.Answering.before in
+    let e = c.args.entry.now in
+    let v = c.args.self.now in
+    let s = c.requires.answer in
+    let one = c.keep_names.ensures.kept in record {
+      leaves = refl;
+      answer = (s.0, subst (IsAcknowledged k s.0 t e) (sym one.1) (names_acked k s.0 t e v s.1 one.0 c.acknowledged_numbers.ensures.names c.acknowledged_numbers.ensures.births));
+      told = subst (AreBirthsTold t e) (sym one.1) (names_tell k s.0 t e v s.1 one.0);
+    }
 
-pub keep_births-requires-clause-told : goal.keep_births-requires-clause-told
-keep_births-requires-clause-told g c =
-    let s = c.requires.session in
-    let one = c.keep_names.ensures.kept in
-    subst AreBirthsTold (sym one.1) (names_tell g.N.Naming.start s.0 s.1 c.args.self.now s.2 one.0)
-
-pub keep_files-requires-clause-session : goal.keep_files-requires-clause-session
-keep_files-requires-clause-session g c =
-    let s = c.requires.session in
-    let one = c.keep_names.ensures.kept in
-    let two = c.keep_births.ensures.kept in
-    let is : c.keep_births.new.self ≡ births_kept (names_kept c.args.self.now one.0) two.0 = two.1 ∙ ap (λ (v : View). births_kept v two.0) one.1 in
-    (s.0, s.1, subst (HasSession g.N.Naming.start s.0 s.1) (sym is) (session_2 g.N.Naming.start s.0 s.1 c.args.self.now s.2 one.0 two.0 0))
-
-pub keep_files-requires-clause-born : goal.keep_files-requires-clause-born
-keep_files-requires-clause-born g c =
-    let s = c.requires.session in
+pub keep_files-requires : goal.keep_files-requires
+keep_files-requires g c =
+    let k = g.N.Naming.start in
+    let t = g.A.Answering.before in
+    let e = c.args.entry.now in
+    let v = c.args.self.now in
+    let s = c.requires.answer in
     let one = c.keep_names.ensures.kept in
     let two = c.keep_births.ensures.kept in
-    let is : c.keep_births.new.self ≡ births_kept (names_kept c.args.self.now one.0) two.0 = two.1 ∙ ap (λ (v : View). births_kept v two.0) one.1 in
-    subst AreBorn (sym is) (kept_born g.N.Naming.start s.0 s.1 c.args.self.now s.2 one.0 two.0 0)
+    let acked = names_acked k s.0 t e v s.1 one.0 c.acknowledged_numbers.ensures.names c.acknowledged_numbers.ensures.births in
+    let is : c.keep_births.new.self ≡ births_kept t e (names_kept t e v one.0) two.0 = two.1 ∙ ap (λ (v : View). births_kept t e v two.0) one.1 in record {
+      leaves = refl;
+      answer = (s.0, subst (IsAcknowledged k s.0 t e) (sym is) (births_acked k s.0 t e (names_kept t e v one.0) acked two.0));
+      born = subst (AreBorn t e) (sym is) (births_born k s.0 t e (names_kept t e v one.0) acked two.0);
+    }
 
-pub returns-clause-session : goal.returns-clause-session
-returns-clause-session g c = λ history asked h.
-    let one = c.keep_names.ensures.kept in
-    let two = c.keep_births.ensures.kept in
-    let three = c.keep_files.ensures.kept in
-    let is : c.keep_files.new.self ≡ files_kept (births_kept (names_kept c.args.self.now one.0) two.0) three.0 =
-    three.1 ∙ ap (λ (v : View). files_kept v three.0) (two.1 ∙ ap (λ (v : View). births_kept v two.0) one.1) in
-    subst (HasSession g.N.Naming.start history asked) (sym is) (session_3 g.N.Naming.start history asked c.args.self.now h one.0 two.0 three.0)
-
-pub returns-clause-known : goal.returns-clause-known
-returns-clause-known g c =
-    let s = c.requires.session in
+pub returns : goal.returns
+returns g c =
+    let k = g.N.Naming.start in
+    let t = g.A.Answering.before in
+    let e = c.args.entry.now in
+    let v = c.args.self.now in
+    let s = c.requires.answer in
     let one = c.keep_names.ensures.kept in
     let two = c.keep_births.ensures.kept in
     let three = c.keep_files.ensures.kept in
-    let is : c.keep_files.new.self ≡ files_kept (births_kept (names_kept c.args.self.now one.0) two.0) three.0 =
-    three.1 ∙ ap (λ (v : View). files_kept v three.0) (two.1 ∙ ap (λ (v : View). births_kept v two.0) one.1) in
-    subst KnowsCommits (sym is) (knows g.N.Naming.start s.0 s.1 c.args.self.now s.2 one.0 two.0 three.0)
+    let law = c.acknowledged_numbers.ensures in
+    let is : c.keep_files.new.self ≡ files_kept t e (births_kept t e (names_kept t e v one.0) two.0) three.0 =
+    three.1 ∙ ap (λ (v : View). files_kept t e v three.0) (two.1 ∙ ap (λ (v : View). births_kept t e v two.0) one.1) in
+    let rest = same_rest k s.0 t e v s.1 one.0 two.0 three.0 in record {
+      session = λ history acked. subst (HasSession k history (Some (e.client, e.op))) (sym is) (all_session k history t e v acked one.0 two.0 three.0 law.names law.births);
+      covered = λ history acked. subst (IsCoveredIn k (history ++ e ∷ [])) (sym is) (all_covered k history t e v acked one.0 two.0 three.0 law.names law.births law.files);
+      known = subst (KnowsSynced (step_in t e)) (sym is) (knows k s.0 t e v s.1 one.0 two.0 three.0 law.names law.births);
+      marked = λ x m. subst (λ (v : View). IsMarkedIn v.store x) (sym is) (all_marked k s.0 t e v s.1 one.0 two.0 three.0 x m);
+      passed = ap passed_in is ∙ same_passed k s.0 t e v s.1 one.0 two.0 three.0;
+      stop = ap (λ (v : View). v.stop) is;
+      state = ap state_in is ∙ rest;
+      faults = ap (λ (v : View). v.faults) is;
+      shortages = ap (λ (v : View). v.shortages) is;
+    }
