@@ -3,3 +3,5 @@ pub mod ServingLemmas
 pub mod ClientsLemmas
 pub mod ThroughoutLemmas
 pub mod OwnLemmas
+pub mod SeenLemmas
+pub mod DrawingLemmas

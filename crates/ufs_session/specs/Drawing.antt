@@ -1,5 +1,5 @@
 -- What is asked of a request that was served, so that its entry may be drawn.
-use Rattle.std.specs.Prelude.{ℕ, ◌≡◌, ◌≢◌, ◌<◌, ◌&&◌, Bool, List, [], ◌∷◌, length, Option, Some, None}
+use Rattle.std.specs.Prelude.{ℕ, ◌≡◌, ◌≢◌, ◌<◌, ◌&&◌, ◌+◌, Bool, IsTrue, List, [], ◌∷◌, ◌++◌, length, map, drop, if◌then◌else◌, Option, Some, None}
 use Rattle.ufs_base.specs.declared.limits.TheConstants.{MAX_CLIENTS}
 use Rattle.ufs_fds.specs.Descriptors.{AreOf, Descs}
 use Rattle.ufs_model.specs.Asks.{fd_told}
@@ -12,9 +12,16 @@ use Rattle.ufs_model.specs.declared.data.Reply.TheVariants as reply
 use Rattle.ufs_prefix.specs.Changes.{asks_commit}
 use Rattle.ufs_prefix.specs.Steps.{is_ok}
 use Rattle.ufs_server.specs.Answered.{device_in, stopped_in}
-use Rattle.ufs_sound.specs.Parts.{Cells, Shortage}
+use Rattle.ufs_disk.specs.Moments.{all}
+use Rattle.ufs_one_hand.specs.OneHand.{IsMarkedIn, passed_in}
+use Rattle.ufs_sound.specs.Owned.{Has}
+use Rattle.ufs_sound.specs.Parts.{Cells, Shortage, Start, View}
+use Rattle.ufs_sound.specs.Shown.{ExplainsImages}
+use Rattle.ufs_sound.specs.Visible.{IsDiskVisible}
 use Rattle.ufs_store.specs.State.{StoreState}
 use Rattle.ufs_store_steps.specs.Cells.{cells_of}
+use Rattle.ufs_stored.specs.OnDisk.{IsOnDisk}
+use Rattle.ufs_stored.specs.Parts.{Parts}
 
 -- The entry goes on from this history, which leads to this tree; and the client has these descriptors behind it.
 pub record IsServedIn (t : PosixTree) (history : List Entry) (entry : Entry) (fds : Descs) : Type 0 where
@@ -43,3 +50,26 @@ acknowledges entry = is_ok entry.reply && asks_commit entry.op
 -- the state of a store's disk, sector by sector
 abbrev pub disk_state : StoreState → Cells
 disk_state s = cells_of s.sectors s.moments.state
+
+-- Where the session sees its disk, contracts do, and it keeps its promise for the server after this history.
+abbrev pub SeesDisk : Start → Bool → StoreState → List Entry → Parts → Type 0
+SeesDisk k visible s history p = IsDiskVisible k → IsTrue visible × IsOnDisk s k.tree history p
+
+-- the states that a store's disk was in behind the first so many, where it keeps them
+abbrev pub states_behind : Bool → ℕ → StoreState → List Cells
+states_behind keeps count s = if keeps then map (cells_of s.sectors) (drop count (all s.moments)) else []
+
+-- Whatever a crash leaves in these states is explained by the history; in the last one, by the history with the entry too.
+pub record IsShownWith (k : Start) (history : List Entry) (entry : Entry) (states : List Cells) (cells : Cells) : Type 0 where
+  pub passed : (x : Cells) → Has x states → ExplainsImages k.tree history x
+  pub before : ExplainsImages k.tree history cells
+  pub after : ExplainsImages k.tree (history ++ entry ∷ []) cells
+
+-- The hand has marked each state that the store's disk was in behind the first so many, and counts them.
+pub record HasMarked (first : ℕ) (s : StoreState) (v : View) : Type 0 where
+  pub count : first + passed_in v ≡ length (all s.moments)
+  pub marked : (x : Cells) → Has x (map (cells_of s.sectors) (drop first (all s.moments))) → IsMarkedIn v.store x
+
+-- What a session's first hand counts from: how many states the disk had been in.
+abbrev pub Marks : Start → Bool → ℕ → StoreState → View → Type 0
+Marks k keeps first s v = IsDiskVisible k → IsTrue keeps → HasMarked first s v

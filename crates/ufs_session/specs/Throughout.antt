@@ -1,8 +1,12 @@
 -- What a crash leaves while entries are answered.
-use Rattle.std.specs.Prelude.{ℕ, Bool, List, [], ◌∷◌, ◌++◌}
-use Rattle.ufs_disk.specs.Moments.{Moments}
+use Rattle.std.specs.Prelude.{ℕ, Bool, List, [], ◌∷◌, ◌++◌, drop, length, map}
+use Rattle.ufs_disk.specs.Moments.{Moments, all}
 use Rattle.ufs_model.specs.PosixTree.{PosixTree}
 use Rattle.ufs_model.specs.declared.data.Entry.{Entry}
+use Rattle.ufs_one_hand.specs.Drawn.{IsExplainedAtMarks}
+use Rattle.ufs_sound.specs.Owned.{Has}
+use Rattle.ufs_sound.specs.Parts.{Cells}
+use Rattle.ufs_store_steps.specs.Cells.{cells_of}
 use Rattle.ufs_stored.specs.OnDisk.{IsExplainedBetween}
 
 -- The disk passes from the one moment to the other while these entries are answered behind those: at each moment whatever a crash
@@ -11,3 +15,8 @@ abbrev pub IsExplainedThroughout : Bool → ℕ → PosixTree → (before told :
 IsExplainedThroughout keeps sectors start before [] old new = IsExplainedBetween keeps sectors start before old new
 IsExplainedThroughout keeps sectors start before (entry ∷ told) old new =
     (answered : Moments) × IsExplainedBetween keeps sectors start before old answered × IsExplainedThroughout keeps sectors start (before ++ entry ∷ []) told answered new
+
+-- The session's hand marked each state that the disk was in from the one moment to the other: whatever a crash leaves in it is
+-- explained by the first entries of the history, for each number of them from one mark to another.
+abbrev pub AreMomentsMarked : PosixTree → List Entry → (sectors : ℕ) → Moments → Moments → Type 0
+AreMomentsMarked start history sectors old new = (x : Cells) → Has x (map (cells_of sectors) (drop (length (all old)) (all new))) → IsExplainedAtMarks start history x

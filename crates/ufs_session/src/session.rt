@@ -1,6 +1,8 @@
 ghost use Rattle.std.specs.Prelude.{◌-◌, ◌+◌, ◌^◌, ◌≡◌, ◌≤◌, ◌<◌, ◌*◌, ◌++◌, ◌∷◌, [], ℕ, List, None, Some, OnOk, IsTrue, length, true, false};
 ghost use Rattle.ufs_client.specs.Own.{server_of};
+ghost use Rattle.ufs_disk.specs.Moments.{all};
 ghost use Rattle.ufs_file.specs.Hand.{IsEntryOf};
+ghost use Rattle.ufs_sound.specs.Visible.{IsDiskVisible};
 ghost use Rattle.ufs_model.specs.Asks.{IsAsk};
 ghost use Rattle.ufs_model.specs.Bounds.{IsBounded};
 ghost use Rattle.ufs_model.specs.Excuses.{ExcuseFits};
@@ -11,18 +13,18 @@ ghost use Rattle.ufs_model.specs.declared.data.Excuse.{Excuse};
 ghost use Rattle.ufs_model.specs.declared.data.Reply.TheVariants as reply;
 ghost use Rattle.ufs_server.specs.Answered.{IsAnswered, TellsFaults, device_in, stopped_in};
 ghost use Rattle.ufs_store.specs.State.{StoreState, geometry_of_store};
-ghost use Rattle.ufs_stored.specs.OnDisk.{IsOnDisk};
+ghost use Rattle.ufs_stored.specs.OnDisk.{IsExplainedBetween, IsOnDisk};
 ghost use Rattle.ufs_stored.specs.Sound.{IsSoundServer};
 ghost use Rattle.ufs_stored.specs.Stored.{ArePartsOf};
-ghost use Rattle.ufs_one_hand.specs.OneHand.{HasSession, IsStart, state_in};
-ghost use Rattle.ufs_session.specs.Drawing.{disk_state};
+ghost use Rattle.ufs_one_hand.specs.OneHand.{HasSession, IsCoveredIn, IsStart, state_in};
+ghost use Rattle.ufs_session.specs.Drawing.{Marks, SeesDisk, disk_state};
 ghost use Rattle.ufs_session.specs.Told.{AreFaultsTold};
 ghost use Rattle.ufs_session.specs.Played.{IsPlayedFrom, MayBegin};
 ghost use Rattle.ufs_session.specs.Served.{AreServed};
 ghost use Rattle.ufs_session.specs.Serving.{GoesOn, IsDone, IsReached, IsReady};
-ghost use Rattle.ufs_session.specs.Throughout.{IsExplainedThroughout};
+ghost use Rattle.ufs_session.specs.Throughout.{AreMomentsMarked, IsExplainedThroughout};
 
-use crate::drawing::{draw, mark_disk};
+use crate::drawing::{Since, draw, mark_disk};
 use std::alloc::Global;
 use std::marker::Brand;
 use ufs_base::{MAX_CLIENTS, MAX_REQUESTS, Memory};
@@ -55,6 +57,8 @@ fn serve_one<D: Door>(server: &mut DiskServer, door: &mut D, ask: Ask, ticket: u
     ensures moments { IsTrue D.visible → (start : PosixTree) (history : List Entry) → IsAsk (tree_after start history) ask → IsLegal start (history ++ result.entry ∷ [])
         → IsOnDisk (D.store door.old) start history server.old
         → IsExplainedThroughout D.keeps (D.store door.old).sectors start history (result.entry ∷ []) (D.store door.old).moments (D.store door.new).moments }
+    ensures during { IsTrue D.visible → (start : PosixTree) (history : List Entry) → IsOnDisk (D.store door.old) start history server.old
+        → IsExplainedBetween D.keeps (D.store door.old).sectors start history (D.store door.old).moments (D.store door.new).moments }
     ensures sound { IsSoundServer (geometry_of_store (D.store door.new)) (D.store door.new).unassigned.free server.new }
     ensures geometry { geometry_of_store (D.store door.new) ≡ geometry_of_store (D.store door.old) }
     ensures sectors { (D.store door.new).sectors ≡ (D.store door.old).sectors }
@@ -83,7 +87,7 @@ fn serve_one<D: Door>(server: &mut DiskServer, door: &mut D, ask: Ask, ticket: u
 
 // Serves a client's requests one by one, and adds the entries to its transcript; an excuse is a reply like others.
 // Whatever ends it, server and disk are what the entries tell.
-fn serve_client<N: Naming, D: Door>(
+fn serve_client<N: Naming, D: Door, F: Since>(
     hand: &mut OneHand<N>,
     server: &mut DiskServer,
     door: &mut D,
@@ -98,6 +102,9 @@ fn serve_client<N: Naming, D: Door>(
     requires first { first ≡ length (joined earlier.now.items) }
     requires ready { IsReady N.start.tree (joined earlier.now.items) server.old client }
     requires session { HasSession N.start (joined earlier.now.items) None hand.old }
+    requires covered { IsCoveredIn N.start (joined earlier.now.items) hand.old }
+    requires sees { SeesDisk N.start D.visible (D.store door.old) (joined earlier.now.items) server.old }
+    requires marks { Marks N.start D.keeps F.count (D.store door.old) hand.old }
     requires stop { hand.old.stop ≡ (D.store door.old).stop }
     requires state { state_in hand.old ≡ disk_state (D.store door.old) }
     requires faults { (begun : StoreState) × AreFaultsTold begun (D.store door.old) (joined earlier.now.items) }
@@ -114,6 +121,8 @@ fn serve_client<N: Naming, D: Door>(
     ensures faults { AreFaultsTold (D.store door.old) (D.store door.new) told.new.items }
     ensures sound { IsSoundServer (geometry_of_store (D.store door.new)) (D.store door.new).unassigned.free server.new }
     ensures session { HasSession N.start (joined earlier.now.items ++ told.new.items) None hand.new }
+    ensures covered { IsCoveredIn N.start (joined earlier.now.items ++ told.new.items) hand.new }
+    ensures marks { Marks N.start D.keeps F.count (D.store door.new) hand.new }
     ensures stop { hand.new.stop ≡ (D.store door.new).stop }
     ensures state { state_in hand.new ≡ disk_state (D.store door.new) }
     ensures geometry { geometry_of_store (D.store door.new) ≡ geometry_of_store (D.store door.old) }
@@ -131,7 +140,7 @@ fn serve_client<N: Naming, D: Door>(
         hand.ask(client, &asked.op);
         let applied = serve_one(server, door, asked, first + u64::from(seq));
         keep(&mut fds, &applied.entry, applied.desc);
-        let entry = draw::<N, D>(hand, door, earlier, told, &fds, applied.entry);
+        let entry = draw::<N, D, F>(hand, door, earlier, told, &fds, applied.entry);
         told.push(entry).unwrap();
         seq += 1;
     }
@@ -139,7 +148,7 @@ fn serve_client<N: Naming, D: Door>(
 }
 
 // Serves the clients, one after another.
-fn serve_clients<N: Naming, D: Door>(
+fn serve_clients<N: Naming, D: Door, F: Since>(
     alloc: Global,
     hand: &mut OneHand<N>,
     server: &mut DiskServer,
@@ -149,12 +158,17 @@ fn serve_clients<N: Naming, D: Door>(
 ) -> Result<(), EndFault>
     requires start { MayBegin server.old N.start.tree }
     requires session { HasSession N.start [] None hand.old }
+    requires covered { IsCoveredIn N.start [] hand.old }
+    requires sees { SeesDisk N.start D.visible (D.store door.old) [] server.old }
+    requires marks { Marks N.start D.keeps F.count (D.store door.old) hand.old }
     requires stop { hand.old.stop ≡ (D.store door.old).stop }
     requires state { state_in hand.old ≡ disk_state (D.store door.old) }
     requires sound { IsSoundServer (geometry_of_store (D.store door.old)) (D.store door.old).unassigned.free server.old }
     requires none { told.old.items ≡ [] }
     ensures served { AreServed D.visible D.keeps (D.store door.old) (D.store door.new) server.old server.new clients told.new.items result }
     ensures session { HasSession N.start (joined told.new.items) None hand.new }
+    ensures covered { IsCoveredIn N.start (joined told.new.items) hand.new }
+    ensures marks { Marks N.start D.keeps F.count (D.store door.new) hand.new }
     ensures stop { hand.new.stop ≡ (D.store door.new).stop }
     ensures state { state_in hand.new ≡ disk_state (D.store door.new) }
 {
@@ -168,7 +182,7 @@ fn serve_clients<N: Naming, D: Door>(
             return Err(EndFault::Memory);
         }
         let mut mine = Vec::new(alloc);
-        let ended = serve_client::<N, D>(
+        let ended = serve_client::<N, D, F>(
             hand, server, door, told, client, first, requests, &mut mine,
         );
         first += mine.len() as u64;
@@ -198,6 +212,7 @@ pub fn serve<D: Door>(
 ) -> Session
     requires opened { IsStart opened.start }
     requires start { MayBegin server.old opened.start.tree }
+    requires sees { SeesDisk opened.start D.visible (D.store door.old) [] server.old }
     requires going { (D.store door.old).stop ≡ None }
     requires sound { IsSoundServer (geometry_of_store (D.store door.old)) (D.store door.old).unassigned.free server.old }
     ensures played { (start : PosixTree) → MayBegin server.old start → IsPlayedFrom start clients result.told result.ended (joined result.told) }
@@ -206,6 +221,7 @@ pub fn serve<D: Door>(
         → IsOnDisk (D.store door.old) start [] server.old → IsOnDisk (D.store door.new) start (joined result.told) server.new }
     ensures moments { IsTrue D.visible → (start : PosixTree) → MayBegin server.old start → IsOnDisk (D.store door.old) start [] server.old
         → IsExplainedThroughout D.keeps (D.store door.old).sectors start [] (joined result.told) (D.store door.old).moments (D.store door.new).moments }
+    ensures marked { IsDiskVisible opened.start → IsTrue D.keeps → AreMomentsMarked opened.start.tree (joined result.told) (D.store door.new).sectors (D.store door.old).moments (D.store door.new).moments }
     ensures once { AreTicketsOnce (joined result.told) }
     ensures faults { AreFaultsTold (D.store door.old) (D.store door.new) (joined result.told) }
     ensures calm { (D.store door.new).stop ≡ None → ((D.store door.new).faults ≡ (D.store door.old).faults) × ((D.store door.old).stop ≡ None) }
@@ -214,12 +230,12 @@ pub fn serve<D: Door>(
     ensures sectors { (D.store door.new).sectors ≡ (D.store door.old).sectors }
 {
     // As many entries were drawn as are told (`entries`).
-    let (session, _drawn) = serve_in::<Brand, D>(alloc, opened, server, door, clients);
+    let (session, _drawn) = serve_in::<Brand, D, Brand>(alloc, opened, server, door, clients);
     session
 }
 
 // The same, of a session that has a name. Its first hand has every part, and the last one ends it.
-fn serve_in<N: Naming, D: Door>(
+fn serve_in<N: Naming, D: Door, F: Since>(
     alloc: Global,
     opened: Opened,
     server: &mut DiskServer,
@@ -229,15 +245,20 @@ fn serve_in<N: Naming, D: Door>(
     requires name { (opened.table ≡ N.table) × (opened.start ≡ N.start) }
     requires opened { IsStart N.start }
     requires start { MayBegin server.old N.start.tree }
+    requires since { F.count ≡ length (all (D.store door.old).moments) }
+    requires sees { SeesDisk N.start D.visible (D.store door.old) [] server.old }
     requires going { (D.store door.old).stop ≡ None }
     requires sound { IsSoundServer (geometry_of_store (D.store door.old)) (D.store door.old).unassigned.free server.old }
     ensures served { AreServed D.visible D.keeps (D.store door.old) (D.store door.new) server.old server.new clients result.0.told result.0.ended }
+    ensures marked { IsDiskVisible N.start → IsTrue D.keeps → AreMomentsMarked N.start.tree (joined result.0.told) (D.store door.new).sectors (D.store door.old).moments (D.store door.new).moments }
     ensures entries { result.1 ≡ length (joined result.0.told) }
 {
+    let geometry = door.geometry();
+    always_law(&geometry);
     let mut hand = OneHand::<N>::begin(opened);
     mark_disk::<N, D, Brand>(&mut hand, door);
     let mut told = Vec::new(alloc);
-    let ended = serve_clients::<N, D>(alloc, &mut hand, server, door, clients, &mut told);
+    let ended = serve_clients::<N, D, F>(alloc, &mut hand, server, door, clients, &mut told);
     let drawn = hand.close();
     let session = Session {
         told: ToldLists::from_vec(told),

@@ -1,9 +1,22 @@
-use Rattle.std.proofs.Common.{◌++◌, List, sym, refl, ap, ◌∙◌, subst, inl, arith}
+use Rattle.std.proofs.Common.{◌+◌, ◌++◌, List, length, sym, refl, ap, ◌∙◌, subst, inl, inr, ⊎_elim, arith}
 use Rattle.ufs_server.specs.Answered.{device_in, stopped_in}
 use Rattle.ufs_session.specs.Drawing.{short_in}
 use Rattle.ufs_sound.specs.Owned.{Has}
-use Rattle.ufs_sound.specs.Parts.{Shortage}
+use Rattle.ufs_sound.specs.Parts.{Cells, Shortage}
+use Rattle.ufs_one_hand.specs.Drawn.{MayPass}
+use Rattle.ufs_one_hand.specs.OneHand.{passed_in}
 use Rattle.ufs_session.proofs.drawing.pass.Goals as goal
+
+pub pass-requires-clause-session : goal.pass-requires-clause-session
+pass-requires-clause-session g c =
+    let s = c.requires.session in
+    (s.0, s.1, subst (λ (p : List Cells × Cells). MayPass g.N.Naming.start s.0 s.1 p.0 p.1 c.args.hand.now) (λ i. (sym c.requires.states i, sym c.requires.state i)) s.2)
+
+pub returns-clause-marked : goal.returns-clause-marked
+returns-clause-marked g c = λ x is. c.pass.ensures.marked x (⊎_elim inl (λ has. inr (inl (subst (Has x) (sym c.requires.states) has))) is)
+
+pub returns-clause-passed : goal.returns-clause-passed
+returns-clause-passed g c = c.pass.ensures.passed ∙ ap (λ (l : List Cells). passed_in c.args.hand.now + length l) c.requires.states
 
 pub returns-clause-causes : goal.returns-clause-causes
 returns-clause-causes g c = record {

@@ -5,12 +5,13 @@ use Rattle.ufs_model.specs.PosixTree.{PosixTree}
 use Rattle.ufs_model.specs.declared.data.Op.{Op}
 use Rattle.ufs_model.specs.declared.data.Entry.{Entry}
 use Rattle.ufs_client.proofs.Lists.{pushed_on}
-use Rattle.ufs_one_hand.specs.OneHand.{HasSession}
-use Rattle.ufs_stored.specs.OnDisk.{IsOnDisk}
-use Rattle.ufs_session.specs.Drawing.{IsServedIn, StopsBy}
+use Rattle.ufs_one_hand.specs.OneHand.{HasSession, IsCoveredIn, passed_in}
+use Rattle.ufs_stored.specs.OnDisk.{IsExplainedBetween, IsExplainedImage, IsOnDisk}
+use Rattle.ufs_session.specs.Drawing.{IsServedIn, IsShownWith, StopsBy, disk_state, states_behind}
 use Rattle.ufs_session.specs.Serving.{IsReady}
 use Rattle.ufs_session.specs.Throughout.{IsExplainedThroughout}
 use Rattle.ufs_session.specs.Told.{AreFaultsTold}
+use Rattle.ufs_session.proofs.SeenLemmas.{explained_cells, marks_go, passed_explained}
 use Rattle.ufs_session.proofs.ServingLemmas.{IsServing, any_more, begins, few_so_far, is_ask, names_few, served_in}
 use Rattle.ufs_session.proofs.ThroughoutLemmas.{throughout_joined}
 use Rattle.ufs_session.proofs.ToldLemmas.{legal_told, none_told, one_told, stops_by, told_on}
@@ -31,6 +32,8 @@ loop-op-init g c =
           subst (λ (told : List Entry). IsExplainedThroughout g.D.Door.keeps s.sectors start before told s.moments s.moments) (sym c.requires.none)
           (c.always_law.ensures.rest g.D.Door.keeps s start before c.args.server.now (sym c.geometry-geometry.ensures.is) is);
       session = subst (λ (h : List Entry). HasSession g.N.Naming.start h None c.args.hand.now) whole c.requires.session;
+      covered = subst (λ (h : List Entry). IsCoveredIn g.N.Naming.start h c.args.hand.now) whole c.requires.covered;
+      marks = c.requires.marks;
       stop = c.requires.stop;
       state = c.requires.state;
       faults = subst (AreFaultsTold s s) (sym c.requires.none) (none_told s);
@@ -106,6 +109,54 @@ draw-entry-requires-clause-stops g c =
     subst (λ (o : Option ℕ). StopsBy o (g.D.Door.store c.serve_one-applied.new.door).stop c.serve_one-applied.result.entry.reply) (sym (c.ask.ensures.stop ∙ c.loop-op.invariant.stop))
     (stops_by (g.D.Door.store c.loop-op.door) (g.D.Door.store c.serve_one-applied.new.door) c.serve_one-applied.result.entry.reply a.still a.told a.stopped)
 
+pub draw-entry-requires-clause-fresh : goal.draw-entry-requires-clause-fresh
+draw-entry-requires-clause-fresh g c =
+    let before = joined c.args.earlier.now.items in
+    c.ask.ensures.fresh (before ++ c.loop-op.told.items) c.loop-op.invariant.session ∙ ap (λ (t : List Entry). length (before ++ t)) (sym c.reserve.ensures.items)
+
+pub draw-entry-requires-clause-covered : goal.draw-entry-requires-clause-covered
+draw-entry-requires-clause-covered g c =
+    let before = joined c.args.earlier.now.items in
+    subst (λ (t : List Entry). IsCoveredIn g.N.Naming.start (before ++ t) c.ask.new.self) (sym c.reserve.ensures.items) (c.ask.ensures.covered (before ++ c.loop-op.told.items) c.loop-op.invariant.covered)
+
+pub draw-entry-requires-clause-shown : goal.draw-entry-requires-clause-shown
+draw-entry-requires-clause-shown g c = λ sees.
+    let e = c.ask-asked.ensures in
+    let a = c.serve_one-applied.ensures in
+    let l = c.loop-op in
+    let client : ℕ = c.args.client in
+    let first = g.D.Door.store c.args.door.now in
+    let now = g.D.Door.store l.door in
+    let next = g.D.Door.store c.serve_one-applied.new.door in
+    let entry = c.serve_one-applied.result.entry in
+    let before = joined c.args.earlier.now.items in
+    let told = l.told.items in
+    let rest = c.next.new.self.rest.items in
+    let start = g.N.Naming.start.tree in
+    let ready = c.requires.ready in
+    let so_far = subst (λ (r : List Op). IsServing start client c.args.requests before l.server l.fds told l.seq l.yielded r) c.in-Some.ensures.steps.0 (l.invariant.serving start ready) in
+    let asked = is_ask start client c.args.requests before l.server l.fds told l.seq l.yielded c.in-Some.op rest so_far c.ask-asked.result e.client e.asked e.desc e.fd e.last in
+    let ticket : c.args.first + c.from.result ≡ length before + l.seq = (λ i. c.requires.first i + c.from.ensures i) in
+    let serving = any_more start client c.args.requests before l.server l.fds told l.seq l.yielded c.in-Some.op rest so_far
+    c.ask-asked.result entry _ a.entry (a.by (tree_after start (before ++ told)) asked) ticket e.client e.seq e.asked asked c.serve_one-applied.new.server c.keep.new.fds c.serve_one-applied.result.desc c.keep.ensures
+    (λ plain. a.served plain (tree_after start (before ++ told)) so_far.reached.parts asked)
+    (λ x excused. a.fits x excused (tree_after start (before ++ told)) so_far.reached.parts asked)
+    (λ excused. a.unchanged excused (tree_after start (before ++ told)) so_far.reached.parts) a.desc
+    (c.a_request_makes_one_file_at_most.ensures (tree_after start (before ++ told)) c.ask-asked.result.client c.ask-asked.result.op) in
+    let more : AreFaultsTold first next (told ++ entry ∷ []) = told_on first now next told (entry ∷ []) l.invariant.faults (one_told now next entry a.told a.still a.stopped) in
+    let begun = c.requires.faults.0 in
+    let all = subst (AreFaultsTold begun next) (sym (append_assoc before told (entry ∷ []))) (told_on begun first next before (told ++ entry ∷ []) c.requires.faults.1 more) in
+    let legal = legal_told begun next start ((before ++ told) ++ entry ∷ []) all (subst (IsLegalFrom 0 start) (sym (append_assoc before told (entry ∷ []))) serving.reached.entries) in
+    let there = c.requires.sees sees in
+    let on_disk = l.invariant.on_disk there.0 start ready there.1 in
+    let during = subst (λ (n : ℕ). IsExplainedBetween g.D.Door.keeps n start (before ++ told) now.moments next.moments) (sym a.sectors) (a.during there.0 start (before ++ told) on_disk) in
+    let last = c.always_law.ensures.rest g.D.Door.keeps next start ((before ++ told) ++ entry ∷ []) c.serve_one-applied.new.server (a.geometry ∙ l.invariant.geometry ∙ sym c.geometry-geometry.ensures.is) (a.on_disk there.0 start (before ++ told) asked legal on_disk) in
+    subst (λ (t : List Entry). IsShownWith g.N.Naming.start (before ++ t) entry (states_behind g.D.Door.keeps (g.F.Since.count + passed_in c.ask.new.self) next) (disk_state next)) (sym c.reserve.ensures.items) (record {
+      passed = passed_explained g.D.Door.keeps (g.F.Since.count + passed_in c.ask.new.self) now.moments next start (before ++ told) (λ keeps. ap (λ (n : ℕ). g.F.Since.count + n) c.ask.ensures.passed ∙ (l.invariant.marks sees keeps).count) during;
+      before = explained_cells next.sectors next.moments.state start (before ++ told) during.after;
+      after = explained_cells next.sectors next.moments.state start ((before ++ told) ++ entry ∷ []) last.after;
+    })
+
 pub loop-op-preserved : goal.loop-op-preserved
 loop-op-preserved g c =
     let e = c.ask-asked.ensures in
@@ -153,6 +204,13 @@ loop-op-preserved g c =
           (throughout_joined g.D.Door.keeps first.sectors start before told (entry ∷ []) first.moments now.moments next.moments (l.invariant.moments visible start ready is) one);
       session = subst (λ (h : List Entry). HasSession g.N.Naming.start h None c.draw-entry.new.hand) (append_assoc before told (entry ∷ []) ∙ ap (λ (t : List Entry). before ++ t) (sym pushed))
           (subst (λ (t : List Entry). HasSession g.N.Naming.start ((before ++ t) ++ entry ∷ []) None c.draw-entry.new.hand) c.reserve.ensures.items c.draw-entry.ensures.session);
+      covered = subst (λ (h : List Entry). IsCoveredIn g.N.Naming.start h c.draw-entry.new.hand) (append_assoc before told (entry ∷ []) ∙ ap (λ (t : List Entry). before ++ t) (sym pushed))
+          (subst (λ (t : List Entry). IsCoveredIn g.N.Naming.start ((before ++ t) ++ entry ∷ []) c.draw-entry.new.hand) c.reserve.ensures.items c.draw-entry.ensures.covered);
+      marks = λ sees keeps.
+          let there = c.requires.sees sees in
+          let start = g.N.Naming.start.tree in
+          marks_go g.D.Door.keeps g.F.Since.count now next (IsExplainedImage now.sectors start (before ++ told)) l.hand c.ask.new.self c.draw-entry.new.hand keeps (l.invariant.marks sees keeps) a.sectors
+          (a.during there.0 start (before ++ told) (l.invariant.on_disk there.0 start c.requires.ready there.1)) c.ask.ensures.passed c.ask.ensures.marked c.draw-entry.ensures.passed c.draw-entry.ensures.marked;
       stop = c.draw-entry.ensures.stop;
       state = c.draw-entry.ensures.state;
       faults = subst (AreFaultsTold first next) (sym pushed) more;
@@ -176,3 +234,7 @@ returns-in_err-reserve-clause-moments g c visible start ready is =
 pub returns-in_err-reserve-clause-session : goal.returns-in_err-reserve-clause-session
 returns-in_err-reserve-clause-session g c =
     subst (λ (told : List Entry). HasSession g.N.Naming.start (joined c.args.earlier.now.items ++ told) None c.loop-op.hand) (sym c.reserve.ensures.items) c.loop-op.invariant.session
+
+pub returns-in_err-reserve-clause-covered : goal.returns-in_err-reserve-clause-covered
+returns-in_err-reserve-clause-covered g c =
+    subst (λ (told : List Entry). IsCoveredIn g.N.Naming.start (joined c.args.earlier.now.items ++ told) c.loop-op.hand) (sym c.reserve.ensures.items) c.loop-op.invariant.covered

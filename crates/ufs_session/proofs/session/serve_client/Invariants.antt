@@ -2,11 +2,11 @@ use Rattle.std.proofs.Common.{◌≡◌, ◌++◌, None}
 use Rattle.std.specs.Prelude.{IsTrue}
 use Rattle.ufs_model.specs.History.{joined}
 use Rattle.ufs_model.specs.PosixTree.{PosixTree}
-use Rattle.ufs_one_hand.specs.OneHand.{HasSession, state_in}
+use Rattle.ufs_one_hand.specs.OneHand.{HasSession, IsCoveredIn, state_in}
 use Rattle.ufs_store.specs.State.{geometry_of_store}
 use Rattle.ufs_stored.specs.OnDisk.{IsOnDisk}
 use Rattle.ufs_stored.specs.Sound.{IsSoundServer}
-use Rattle.ufs_session.specs.Drawing.{disk_state}
+use Rattle.ufs_session.specs.Drawing.{Marks, disk_state}
 use Rattle.ufs_session.specs.Serving.{IsReady}
 use Rattle.ufs_session.specs.Throughout.{IsExplainedThroughout}
 use Rattle.ufs_session.specs.Told.{AreFaultsTold}
@@ -24,6 +24,8 @@ invariant-loop-op g l =
       moments : IsTrue g.D.Door.visible → (start : PosixTree) → IsReady start before l.fn.server l.fn.client → IsOnDisk first start before l.fn.server
           → IsExplainedThroughout g.D.Door.keeps first.sectors start before l.told.items first.moments now.moments;
       session : HasSession g.N.Naming.start (before ++ l.told.items) None l.hand;
+      covered : IsCoveredIn g.N.Naming.start (before ++ l.told.items) l.hand;
+      marks : Marks g.N.Naming.start g.D.Door.keeps g.F.Since.count now l.hand;
       stop : l.hand.stop ≡ now.stop;
       state : state_in l.hand ≡ disk_state now;
       faults : AreFaultsTold first now l.told.items;

@@ -6,7 +6,7 @@ use Rattle.ufs_model.specs.declared.data.Op.{Op}
 use Rattle.ufs_model.specs.declared.data.Entry.{Entry}
 use Rattle.ufs_client.specs.declared.played.EndFault.TheVariants as fault
 use Rattle.ufs_client.proofs.Lists.{joined-push, no_items, pushed_on}
-use Rattle.ufs_one_hand.specs.OneHand.{HasSession}
+use Rattle.ufs_one_hand.specs.OneHand.{HasSession, IsCoveredIn}
 use Rattle.ufs_stored.specs.OnDisk.{IsOnDisk}
 use Rattle.ufs_session.specs.Played.{MayBegin}
 use Rattle.ufs_session.specs.Served.{AreServed}
@@ -30,6 +30,8 @@ loop-requests-init g c =
           subst (λ (told : List (List Entry)). IsExplainedThroughout g.D.Door.keeps s.sectors start [] (joined told) s.moments s.moments) (sym c.requires.none)
           (c.always_law.ensures.rest g.D.Door.keeps s start [] c.args.server.now (sym c.geometry-geometry.ensures.is) is);
       session = subst (λ (told : List (List Entry)). HasSession g.N.Naming.start (joined told) None c.args.hand.now) (sym c.requires.none) c.requires.session;
+      covered = subst (λ (told : List (List Entry)). IsCoveredIn g.N.Naming.start (joined told) c.args.hand.now) (sym c.requires.none) c.requires.covered;
+      marks = c.requires.marks;
       stop = c.requires.stop;
       state = c.requires.state;
       faults = subst (λ (told : List (List Entry)). AreFaultsTold s s (joined told)) (sym c.requires.none) (none_told s);
@@ -144,6 +146,8 @@ loop-requests-preserved g c =
           subst (λ (h : List Entry). IsExplainedThroughout g.D.Door.keeps first.sectors start [] h first.moments later.moments) (sym both)
           (throughout_joined g.D.Door.keeps first.sectors start [] (joined earlier) mine first.moments now.moments later.moments before behind);
       session = subst (λ (h : List Entry). HasSession g.N.Naming.start h None s.new.hand) (sym both) s.ensures.session;
+      covered = subst (λ (h : List Entry). IsCoveredIn g.N.Naming.start h s.new.hand) (sym both) s.ensures.covered;
+      marks = s.ensures.marks;
       stop = s.ensures.stop;
       state = s.ensures.state;
       faults = subst (AreFaultsTold first later) (sym both) (told_on first now later (joined earlier) mine was s.ensures.faults);
@@ -201,9 +205,32 @@ pub returns-then-is_err-clause-session : goal.returns-then-is_err-clause-session
 returns-then-is_err-clause-session g c =
     subst (λ (told : List (List Entry)). HasSession g.N.Naming.start (joined told) None c.loop-requests.hand) (sym c.reserve.ensures.items) c.loop-requests.invariant.session
 
+pub serve_client-ended-requires-clause-covered : goal.serve_client-ended-requires-clause-covered
+serve_client-ended-requires-clause-covered g c =
+    subst (λ (told : List (List Entry)). IsCoveredIn g.N.Naming.start (joined told) c.loop-requests.hand) (sym c.reserve.ensures.items) c.loop-requests.invariant.covered
+
+pub serve_client-ended-requires-clause-sees : goal.serve_client-ended-requires-clause-sees
+serve_client-ended-requires-clause-sees g c = λ visible.
+    let l = c.loop-requests in
+    let there = c.requires.sees visible in (
+      there.0,
+      subst (λ (told : List (List Entry)). IsOnDisk (g.D.Door.store l.door) g.N.Naming.start.tree (joined told) l.server) (sym c.reserve.ensures.items) (l.invariant.on_disk there.0 g.N.Naming.start.tree c.requires.start there.1),
+    )
+
+pub returns-then-is_err-clause-covered : goal.returns-then-is_err-clause-covered
+returns-then-is_err-clause-covered g c =
+    subst (λ (told : List (List Entry)). IsCoveredIn g.N.Naming.start (joined told) c.loop-requests.hand) (sym c.reserve.ensures.items) c.loop-requests.invariant.covered
+
 pub returns-in_err-ended-clause-session : goal.returns-in_err-ended-clause-session
 returns-in_err-ended-clause-session g c =
     let s = c.serve_client-ended in
     let earlier = c.reserve.new.self.items in
     let pushed = pushed_on c.push.result _ _ earlier _ _ c.unwrap.ensures refl c.push.ensures.items ∙ ap (λ (m : List Entry). earlier ++ m ∷ []) c.from_vec.ensures in
     subst (λ (h : List Entry). HasSession g.N.Naming.start h None s.new.hand) (sym (ap joined pushed ∙ joined-push earlier s.new.told.items)) s.ensures.session
+
+pub returns-in_err-ended-clause-covered : goal.returns-in_err-ended-clause-covered
+returns-in_err-ended-clause-covered g c =
+    let s = c.serve_client-ended in
+    let earlier = c.reserve.new.self.items in
+    let pushed = pushed_on c.push.result _ _ earlier _ _ c.unwrap.ensures refl c.push.ensures.items ∙ ap (λ (m : List Entry). earlier ++ m ∷ []) c.from_vec.ensures in
+    subst (λ (h : List Entry). IsCoveredIn g.N.Naming.start h s.new.hand) (sym (ap joined pushed ∙ joined-push earlier s.new.told.items)) s.ensures.covered

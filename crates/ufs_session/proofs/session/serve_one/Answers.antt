@@ -16,6 +16,12 @@ returns-in_default-clause-moments g c visible start history asked legal is =
     throughout_one g.D.Door.keeps old.sectors start history entry old.moments new.moments (a.moments visible start history is)
     (subst (λ (n : ℕ). IsExplainedBetween g.D.Door.keeps n start (history ++ entry ∷ []) new.moments new.moments) a.sectors end)
 
+pub returns-in_default-clause-during : goal.returns-in_default-clause-during
+returns-in_default-clause-during g c visible start history is = c.apply.ensures.moments visible start history is
+
+pub returns-clause-during : goal.returns-clause-during
+returns-clause-during g c visible start history is = c.always_law.ensures.rest g.D.Door.keeps (g.D.Door.store c.args.door.now) start history c.args.server.now (sym c.geometry-geometry.ensures.is) is
+
 pub returns-clause-served : goal.returns-clause-served
 returns-clause-served g c plain t parts asked =
     own_answered c.args.server.now t c.args.ask c.in-Some.answer.reply c.in-Some.answer.desc asked (sym (c.in-Some.ensures.own t asked)) (c.in-Some.ensures.posix t asked) parts

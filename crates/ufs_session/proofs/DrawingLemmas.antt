@@ -1,0 +1,42 @@
+-- An entry that acknowledges changes, as the hand is to keep it.
+use Rattle.std.proofs.Common.{◌≡◌, ◌++◌, ◌∷◌, [], ◌&&◌, Bool, true, false, List, Some, sym, refl, ◌∙◌, subst}
+use Rattle.ufs_fds.specs.Descriptors.{Descs}
+use Rattle.ufs_model.specs.History.{tree_after}
+use Rattle.ufs_model.specs.declared.data.Entry.{Entry}
+use Rattle.ufs_model.specs.declared.data.Reply.{Reply}
+use Rattle.ufs_model.specs.declared.data.Reply.TheVariants as reply
+use Rattle.ufs_one_hand.specs.Drawn.{IsAcknowledged}
+use Rattle.ufs_one_hand.specs.OneHand.{HasSession, IsCoveredIn, state_in}
+use Rattle.ufs_prefix.specs.Changes.{asks_commit}
+use Rattle.ufs_prefix.specs.Steps.{is_ok}
+use Rattle.ufs_sound.specs.Parts.{Cells, Start, View}
+use Rattle.ufs_sound.specs.Shown.{ExplainsImages}
+use Rattle.ufs_sound.specs.Visible.{IsDiskVisible}
+use Rattle.ufs_session.specs.Drawing.{IsServedIn, acknowledges}
+
+both : (a b : Bool) → (a && b) ≡ true → (a ≡ true) × (b ≡ true)
+both true true e = (refl, refl)
+both true false e = cc
+both false b e = cc
+
+ok_done : (r : Reply) → is_ok r ≡ true → r ≡ reply.Done
+ok_done reply.Done e = refl
+ok_done _ e = cc
+
+pub is_acked : (k : Start) (history : List Entry) (e : Entry) (fds : Descs) (v : View) (cells : Cells) → IsServedIn (tree_after k.tree history) history e fds → HasSession k history (Some (e.client, e.op)) v → IsCoveredIn k (history ++ e ∷ []) v → state_in v ≡ cells
+    → (IsDiskVisible k → ExplainsImages k.tree (history ++ e ∷ []) cells) → acknowledges e ≡ true → IsAcknowledged k history (tree_after k.tree history) e v
+is_acked k history e fds v cells served session covered state explained acks =
+    let is = both (is_ok e.reply) (asks_commit e.op) acks in record {
+      tree_is = refl;
+      session = session;
+      covered = covered;
+      ticket = served.ticket;
+      replied = served.replied;
+      done = ok_done e.reply is.0;
+      asks = is.1;
+      explained = λ visible. subst (ExplainsImages k.tree (history ++ e ∷ [])) (sym state) (explained visible);
+    }
+
+-- what isn't acknowledged asks nothing
+pub no_ack : (e : Entry) {Any : Type 0} → acknowledges e ≡ false → e.reply ≡ reply.Done → asks_commit e.op ≡ true → Any
+no_ack e not done asks = let yes : acknowledges e ≡ true = (λ i. is_ok (done i) && asks i) in let z : false ≡ true = sym not ∙ yes in absurd cc
