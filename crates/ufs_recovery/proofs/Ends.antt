@@ -161,6 +161,7 @@ module _ (sectors : ℕ) (image : Image) (v : FoldedVolume) (is : volume sectors
         inodes = w.inodes;
         logged = (all_below 0 (superblock_of after).next (log_of image) (subst (λ n. n < (superblock_of after).next) is_highest w.above)).1;
         named = w.named;
+        fitted = w.fitted;
       }
 
 pub is_clean : (sectors : ℕ) (state : State) (superblock : Super) (used : ℕ) → IsSettled state → IsWrittenBack sectors superblock used (seen state) → IsCleanDisk sectors state

@@ -23,8 +23,8 @@ use Rattle.ufs_recovery.specs.Cleared.{Numbers}
 use Rattle.ufs_recovery.specs.Finished.{MayFinish, HasFinished, MayWriteBack, IsWrittenBack}
 use Rattle.ufs_recovery.specs.Home.{IsOver, MayFollow, HasBegun, MayClose, HasClosed}
 use Rattle.ufs_recovery.specs.Orphans.{AreOrphans, AreOrphanDirs, IsPruned}
-use Rattle.ufs_recovery.specs.Recovered.{HasNoOrphans}
-use Rattle.ufs_recovery.proofs.Alike.{AgreeBehind, form_alike, nodes_alike, walks_alike, orphans_alike}
+use Rattle.ufs_recovery.specs.Recovered.{AreFitted, HasNoOrphans, IsFitted}
+use Rattle.ufs_recovery.proofs.Alike.{AgreeBehind, form_alike, inode_alike, nodes_alike, walks_alike, orphans_alike}
 use Rattle.ufs_recovery.proofs.Home.{is_geometry, has_superblock}
 use Rattle.ufs_recovery.proofs.Moved.{orphans_moved, dirs_moved}
 
@@ -38,11 +38,12 @@ module _ (sectors : ℕ) (superblock : Super) (before mid : Image) (g : Geometry
     numbers = λ k ranged. let same = pruned.numbers k ranged in let less = may.behind k ranged in omega (arith, same, less);
   }
 
-  pub has_finished : (after : Image) → HasClosed sectors superblock mid after → HasFinished sectors superblock after
-  has_finished after closed = record {
+  pub has_finished : AreFitted (geometry_of superblock) mid → (after : Image) → HasClosed sectors superblock mid after → HasFinished sectors superblock after
+  has_finished fit after closed = record {
     home = closed.home;
     proper = closed.proper;
     named = orphans_alike (geometry_of superblock) mid after closed.same pruned.home.is.sound (let least = (is_geometry sectors superblock mid pruned.home).0.least_inodes in omega (arith, least)) pruned.named;
+    fitted = λ k ranged. subst IsFitted (sym (form_alike (geometry_of superblock) mid after closed.same k)) (fit k ranged);
     behind = λ k ranged.
         let same : (form_at (geometry_of superblock) after k).number ≡ (form_at (geometry_of superblock) mid k).number = ap (λ (f : InodeForm). f.number) (form_alike (geometry_of superblock) mid after closed.same k) in
         let was = pruned.numbers k ranged in let less = may.behind k ranged in omega (arith, same, was, less);
@@ -95,7 +96,7 @@ module _ (sectors : ℕ) (image : Image) (v : FoldedVolume) (findings : CatalogR
           all = orphans_moved (geometry_of superblock) (folded_image v image) mid walks_back form_back numbers (subst (λ h. AreOrphans h (catalog_at h (folded_image v image)) numbers) back orphans);
           all_dirs = dirs_moved (geometry_of superblock) (folded_image v image) mid walks_back form_back dirs (subst (λ h. AreOrphanDirs h (catalog_at h (folded_image v image)) dirs) back orphan_dirs);
         };
-        read = record { read = folded_image v image; are = may.found; nodes = nodes_alike v.superblock.geometry (folded_image v image) mid (λ s from. begun.same s (λ zero. omega (arith, zero, from))) };
+        read = record { read = folded_image v image; are = may.found; forms = λ k. inode_alike v.superblock.geometry (folded_image v image) mid (λ s from. begun.same s (λ zero. omega (arith, zero, from))) k; nodes = nodes_alike v.superblock.geometry (folded_image v image) mid (λ s from. begun.same s (λ zero. omega (arith, zero, from))) };
         behind = λ k ranged.
             let same : (form_at (geometry_of superblock) mid k).number ≡ (form_at (geometry_of superblock) (folded_image v image) k).number = ap (λ (f : InodeForm). f.number) (form_back k) in
             let less : (form_at (geometry_of superblock) (folded_image v image) k).number < superblock.next = subst (λ h. IsInode h k → (form_at h (folded_image v image) k).number < superblock.next) back (below k) ranged in
@@ -131,4 +132,5 @@ module _ (sectors : ℕ) (image : Image) (v : FoldedVolume) (findings : CatalogR
             let less : (form_at (geometry_of v.superblock.superblock) after k).number < superblock.next = subst (λ h. IsInode h k → (form_at h after k).number < superblock.next) same_geometry (finished.behind k) ranged in
             omega (arith, less, next_is);
         named = subst (λ h. HasNoOrphans h after) same_geometry finished.named;
+        fitted = subst (λ h. AreFitted h after) same_geometry finished.fitted;
       }

@@ -2,7 +2,10 @@ pub mod Epochs
 pub mod NewSuperblock
 pub mod Home
 pub mod Pruned
+pub mod FirstBlocks
+pub mod Cuts
 pub mod SuperblockPut
+pub mod Fits
 pub mod Homing
 pub mod OneMore
 pub mod Clears
@@ -16,3 +19,4 @@ pub mod Planned
 pub mod Finished
 pub mod Moved
 pub mod Ends
+mod Reread

@@ -8,7 +8,7 @@ use Rattle.ufs_layout.specs.Superblock.{geometry_of}
 use Rattle.ufs_layout.specs.declared.superblock.Super.{Super}
 use Rattle.ufs_image.specs.Catalog.{Catalog, IsInode, catalog_at}
 use Rattle.ufs_image.specs.Changes.{IsReached, IsUnreached}
-use Rattle.ufs_image.specs.Images.{form_at}
+use Rattle.ufs_image.specs.Images.{inode_at, form_at}
 use Rattle.ufs_image.specs.Nodes.{sound_nodes}
 use Rattle.ufs_damage.specs.Findings.{AreFindingsOf, CatalogRead}
 use Rattle.ufs_disk.specs.Disk.{IsSettled}
@@ -83,4 +83,5 @@ HasNone numbers = (place number : ℕ) → slice_get numbers place ≡ Some (Som
 pub record IsReadOf (g : Geometry) (image : Image) (findings : CatalogRead) : Type 0 where
   pub read : Image
   pub are : AreFindingsOf g read findings
+  pub forms : (inode : ℕ) → inode_at g image inode ≡ inode_at g read inode
   pub nodes : sound_nodes g image ≡ sound_nodes g read

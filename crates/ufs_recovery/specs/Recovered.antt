@@ -1,8 +1,9 @@
 -- What a recovery begins with and what it leaves.
-use Rattle.std.specs.Prelude.{ℕ, ◌≡◌, ◌≢◌, ◌<◌, ◌≤◌, ◌+◌, List, [], true}
+use Rattle.std.specs.Prelude.{ℕ, ◌≡◌, ◌≢◌, ◌<◌, ◌≤◌, ◌+◌, List, [], length, true}
 use Rattle.std.specs.List.{AllByRecursion}
 use Rattle.ufs_base.specs.Images.{Image}
 use Rattle.ufs_disk.specs.Disk.{State, IsSettled, seen}
+use Rattle.ufs_layout.specs.InodeForm.{InodeForm}
 use Rattle.ufs_layout.specs.Superblock.{geometry_of}
 use Rattle.ufs_layout.specs.declared.geometry.Geometry.{Geometry}
 use Rattle.ufs_layout.specs.declared.records.Committed.{Committed}
@@ -10,8 +11,10 @@ use Rattle.ufs_image.specs.Catalog.{IsInode, catalog_at}
 use Rattle.ufs_image.specs.Changes.{IsReached}
 use Rattle.ufs_image.specs.Images.{form_at}
 use Rattle.ufs_image.specs.Journal.{committed}
+use Rattle.ufs_image.specs.Nodes.{blocks_of}
 use Rattle.ufs_image.specs.Proper.{IsProperImage}
 use Rattle.ufs_image.specs.Volume.{superblock_of}
+use Rattle.ufs_model.specs.Excuses as excuses
 
 -- Nothing is pending, and what the disk reads is proper.
 pub record IsProperDisk (sectors : ℕ) (state : State) : Type 0 where
@@ -26,14 +29,23 @@ log_of image = committed (geometry_of (superblock_of image)) (superblock_of imag
 abbrev pub HasNoOrphans : Geometry → Image → Type 0
 HasNoOrphans g image = (inode : ℕ) → IsInode g inode → (form_at g image inode).kind ≢ 0 → IsReached (catalog_at g image) inode
 
+-- A file has as many blocks as its size needs; of another inode this says nothing.
+abbrev pub IsFitted : InodeForm → Type 0
+IsFitted form = form.kind ≡ 1 → excuses.blocks_of form.size ≡ length (blocks_of form)
+
+-- Each file has.
+abbrev pub AreFitted : Geometry → Image → Type 0
+AreFitted g image = (inode : ℕ) → IsInode g inode → IsFitted (form_at g image inode)
+
 -- What was in use is clean, in the next epoch, its next commit number is above those of all inodes and of all transactions that
--- were committed, and no inode is used without a name.
+-- were committed, no inode is used without a name, and no file has a block that its size doesn't need.
 pub record IsRecovered (before after : Image) : Type 0 where
   pub superblock : superblock_of after ≡ record (superblock_of before) { version = 1; epoch = (superblock_of before).epoch + 1; next = (superblock_of after).next; clean = true }
   pub known : (superblock_of before).next ≤ (superblock_of after).next
   pub inodes : (inode : ℕ) → IsInode (geometry_of (superblock_of before)) inode → (form_at (geometry_of (superblock_of before)) after inode).number < (superblock_of after).next
   pub logged : AllByRecursion (λ (c : Committed). c.number < (superblock_of after).next) (log_of before)
   pub named : HasNoOrphans (geometry_of (superblock_of before)) after
+  pub fitted : AreFitted (geometry_of (superblock_of before)) after
 
 -- Nothing is pending, what the disk reads is proper and marked clean, and nothing is committed in its epoch.
 pub record IsCleanDisk (sectors : ℕ) (state : State) : Type 0 where

@@ -8,7 +8,7 @@ ghost use Rattle.ufs_layout.specs.Superblock.{is_super};
 ghost use Rattle.ufs_recovery.specs.Finished.{HasFinished, IsWrittenBack, MayFinish, MayWriteBack};
 ghost use Rattle.ufs_recovery.specs.Home.{KeepsTree};
 
-use crate::freeing::free_orphans;
+use crate::freeing::tidy;
 use crate::plan::{Plan, make_plan};
 use crate::steps::{begin, close};
 use std::alloc::Global;
@@ -44,7 +44,7 @@ fn finish<D: Disk>(
     ensures cause { IfErr result (HasFaultCause (D.faults disk.old) (D.faults disk.new)) }
     ensures outside { IfErr result IsOutside }
 {
-    let taken = free_orphans(alloc, disk, geometry, findings, &plan.orphans)?;
+    let taken = tidy(alloc, disk, geometry, findings, &plan.orphans)?;
     match close(disk, geometry, &taken, &plan.superblock) {
         Ok(()) => Ok(()),
         Err(fault) => Err(RecoverFault::Device {
@@ -53,8 +53,8 @@ fn finish<D: Disk>(
     }
 }
 
-// Makes an image in use clean: writes home what is committed, begins the next epoch, frees the orphans, writes the
-// bitmap and marks the image clean, each behind a barrier.
+// Makes an image in use clean: writes home what is committed, begins the next epoch, frees the orphans, cuts the files
+// with blocks too many, writes the bitmap and marks the image clean, each behind a barrier.
 pub(crate) fn write_back<D: Disk>(
     alloc: Global,
     disk: &mut D,

@@ -1,10 +1,12 @@
-//! Recovery of an image in use, so that a stop at any moment leaves the same tree.
+//! Recovery of an image, so that a stop at any moment leaves the same tree.
 #![tactic(auto)]
 
 mod bitmap;
 mod bringing;
 mod clearing;
+mod cutting;
 mod finishing;
+mod fitting;
 mod freeing;
 mod orphans;
 mod plan;
@@ -13,5 +15,7 @@ mod recovery;
 mod sector;
 mod steps;
 mod superblocks;
+mod unneeded;
 
 pub use recovery::recover;
+pub use unneeded::free_unneeded;

@@ -1,6 +1,6 @@
 // An image in use of 64 blocks, 16 inodes and 64 journal sectors on 512 sectors. Its journal has the birth of `/f`, a
 // file of five bytes, committed and not home. Inodes 3 and 4 are directories that name each other, and no other name
-// stands for them.
+// stands for them. And one of the same size with nothing in the journal, in which `/f` has a block too many.
 use std::alloc::Global;
 use ufs_base::SECTOR;
 use ufs_disk::PlainDisk;
@@ -66,5 +66,25 @@ pub fn image_in_use(alloc: Global) -> Option<Vec<u8>> {
     put_dir(&mut bytes, 3, 14, 4, b'a');
     put_dir(&mut bytes, 4, 15, 3, b'b');
     put_birth(&mut bytes);
+    Some(bytes)
+}
+
+// The root has block 12, whose first slot names inode 2 `f`, a file of five bytes in the blocks 13 and 14.
+fn put_file(bytes: &mut Vec<u8>) {
+    put(bytes, 16, 1, &[1]);
+    put(bytes, 16, 8, &[0, 16]);
+    put(bytes, 16, 64, &[12, 0, 0, 0, 1]);
+    put(bytes, 96, 0, &[2, 0, 0, 0, 1, 1, b'f']);
+    put(bytes, 17, 0, &[1, 1, 1]);
+    put(bytes, 17, 8, &[5]);
+    put(bytes, 17, 64, &[13, 0, 0, 0, 2]);
+    put(bytes, 104, 0, b"hello");
+}
+
+/// The bytes of the image with a block too many.
+pub fn image_with_extra(alloc: Global) -> Option<Vec<u8>> {
+    let mut bytes = new_bytes(alloc)?;
+    put(&mut bytes, 0, 40, &[0]);
+    put_file(&mut bytes);
     Some(bytes)
 }

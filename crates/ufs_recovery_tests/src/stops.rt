@@ -1,5 +1,5 @@
 // A recovery that is stopped after each call of the disk, and then made again.
-use crate::images::{SECTORS, image_in_use};
+use crate::images::{SECTORS, image_in_use, image_with_extra};
 use std::alloc::Global;
 use std::test::Fail;
 use ufs_check::check;
@@ -79,9 +79,10 @@ fn stopped(alloc: Global, bytes: &Vec<u8>, passes: u64, pick: u64) -> Option<boo
     }
 }
 
-// Whether it may be stopped after each of its calls, where a crash leaves the image with this number.
-fn may_stop_anywhere(alloc: Global, pick: u64) -> bool {
-    let Some(bytes) = image_in_use(alloc) else {
+// Whether a recovery of these bytes, if there are any, may be stopped after each of its calls, where a crash leaves the
+// image with this number.
+fn may_stop_anywhere(alloc: Global, image: Option<Vec<u8>>, pick: u64) -> bool {
+    let Some(bytes) = image else {
         return false;
     };
     for passes in 0..200 {
@@ -97,7 +98,17 @@ fn may_stop_anywhere(alloc: Global, pick: u64) -> bool {
 #[test]
 fn a_stopped_recovery_is_recovered(rt: HostRuntime) -> Result<(), Fail> {
     for pick in 0..4 {
-        assert!(rt; may_stop_anywhere(rt.alloc(), pick));
+        assert!(rt; may_stop_anywhere(rt.alloc(), image_in_use(rt.alloc()), pick));
+    }
+    Ok(())
+}
+
+#[test]
+fn a_stopped_recovery_of_a_file_with_a_block_too_many_is_recovered(
+    rt: HostRuntime,
+) -> Result<(), Fail> {
+    for pick in 0..4 {
+        assert!(rt; may_stop_anywhere(rt.alloc(), image_with_extra(rt.alloc()), pick));
     }
     Ok(())
 }
@@ -112,6 +123,21 @@ fn the_committed_transactions_are_counted(rt: HostRuntime) -> Result<(), Fail> {
     }
     let mut disk = PlainDisk::new(SECTORS, bytes);
     assert!(rt; recover(rt.alloc(), &mut disk) == Ok(1));
+    assert!(rt; has_free(rt.alloc(), &mut disk, 50));
+    Ok(())
+}
+
+#[test]
+fn a_block_too_many_is_freed(rt: HostRuntime) -> Result<(), Fail> {
+    let Some(bytes) = image_with_extra(rt.alloc()) else {
+        return Err(Fail::new("no image"));
+    };
+    if bytes.len() != 512 * SECTORS as usize {
+        return Err(Fail::new("another size"));
+    }
+    let mut disk = PlainDisk::new(SECTORS, bytes);
+    assert!(rt; has_free(rt.alloc(), &mut disk, 49));
+    assert!(rt; recover(rt.alloc(), &mut disk) == Ok(0));
     assert!(rt; has_free(rt.alloc(), &mut disk, 50));
     Ok(())
 }

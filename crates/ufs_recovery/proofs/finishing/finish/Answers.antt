@@ -11,34 +11,37 @@ returns-in-Ok-clause-finished g c visible settled may =
     let size = g.D.Disk.size c.args.disk.now in
     let superblock = c.args.plan.now.superblock in
     let before = reads (g.D.Disk.moments c.args.disk.now) in
-    let mid = reads (g.D.Disk.moments c.free_orphans.new.disk) in
+    let mid = reads (g.D.Disk.moments c.tidy.new.disk) in
     let after = reads (g.D.Disk.moments c.close.new.disk) in
-    let pruned : IsPruned size superblock before mid = c.in_ok-taken.ensures.pruned visible superblock may.prune in
+    let tidy = c.in_ok-taken.ensures.tidy visible superblock may.prune may.read in
+    let pruned : IsPruned size superblock before mid = tidy.pruned in
     let can = may_close size superblock before mid c.args.geometry.now c.args.findings.now c.args.plan.now.orphans.numbers.items c.args.plan.now.orphans.dirs.items may pruned c.in_ok-taken.taken (c.in_ok-taken.ensures.taken visible may.read) in
-    let closed = c.in-Ok.ensures.closed visible (c.in_ok-taken.ensures.settled visible settled) (subst (λ n. MayClose n superblock mid c.args.geometry.now c.in_ok-taken.taken) (sym c.free_orphans.ensures.size) can) in
-    has_finished size superblock before mid c.args.geometry.now c.args.findings.now c.args.plan.now.orphans.numbers.items c.args.plan.now.orphans.dirs.items may pruned after
-    (subst (λ n. HasClosed n superblock mid after) c.free_orphans.ensures.size closed)
+    let closed = c.in-Ok.ensures.closed visible (c.in_ok-taken.ensures.settled visible settled) (subst (λ n. MayClose n superblock mid c.args.geometry.now c.in_ok-taken.taken) (sym c.tidy.ensures.size) can) in
+    has_finished size superblock before mid c.args.geometry.now c.args.findings.now c.args.plan.now.orphans.numbers.items c.args.plan.now.orphans.dirs.items may pruned tidy.fitted after
+    (subst (λ n. HasClosed n superblock mid after) c.tidy.ensures.size closed)
 
 pub returns-in-Ok-clause-tree : goal.returns-in-Ok-clause-tree
 returns-in-Ok-clause-tree g c visible settled may =
     let size = g.D.Disk.size c.args.disk.now in
     let superblock = c.args.plan.now.superblock in
     let before = reads (g.D.Disk.moments c.args.disk.now) in
-    let mid = reads (g.D.Disk.moments c.free_orphans.new.disk) in
-    let pruned : IsPruned size superblock before mid = c.in_ok-taken.ensures.pruned visible superblock may.prune in
+    let mid = reads (g.D.Disk.moments c.tidy.new.disk) in
+    let tidy = c.in_ok-taken.ensures.tidy visible superblock may.prune may.read in
+    let pruned : IsPruned size superblock before mid = tidy.pruned in
     let can = may_close size superblock before mid c.args.geometry.now c.args.findings.now c.args.plan.now.orphans.numbers.items c.args.plan.now.orphans.dirs.items may pruned c.in_ok-taken.taken (c.in_ok-taken.ensures.taken visible may.read) in
-    kept_on _ size _ _ _ (c.free_orphans.ensures.tree visible settled superblock may.prune)
-    (subst (λ n. KeepsTree g.D.Disk.keeps n (g.D.Disk.moments c.free_orphans.new.disk) (g.D.Disk.moments c.close.new.disk)) c.free_orphans.ensures.size
-    (c.close.ensures.tree visible (c.in_ok-taken.ensures.settled visible settled) (subst (λ n. MayClose n superblock mid c.args.geometry.now c.in_ok-taken.taken) (sym c.free_orphans.ensures.size) can)))
+    kept_on _ size _ _ _ (c.tidy.ensures.tree visible settled superblock may.prune may.read)
+    (subst (λ n. KeepsTree g.D.Disk.keeps n (g.D.Disk.moments c.tidy.new.disk) (g.D.Disk.moments c.close.new.disk)) c.tidy.ensures.size
+    (c.close.ensures.tree visible (c.in_ok-taken.ensures.settled visible settled) (subst (λ n. MayClose n superblock mid c.args.geometry.now c.in_ok-taken.taken) (sym c.tidy.ensures.size) can)))
 
 pub returns-clause-tree : goal.returns-clause-tree
 returns-clause-tree g c visible settled may =
     let size = g.D.Disk.size c.args.disk.now in
     let superblock = c.args.plan.now.superblock in
     let before = reads (g.D.Disk.moments c.args.disk.now) in
-    let mid = reads (g.D.Disk.moments c.free_orphans.new.disk) in
-    let pruned : IsPruned size superblock before mid = c.in_ok-taken.ensures.pruned visible superblock may.prune in
+    let mid = reads (g.D.Disk.moments c.tidy.new.disk) in
+    let tidy = c.in_ok-taken.ensures.tidy visible superblock may.prune may.read in
+    let pruned : IsPruned size superblock before mid = tidy.pruned in
     let can = may_close size superblock before mid c.args.geometry.now c.args.findings.now c.args.plan.now.orphans.numbers.items c.args.plan.now.orphans.dirs.items may pruned c.in_ok-taken.taken (c.in_ok-taken.ensures.taken visible may.read) in
-    kept_on _ size _ _ _ (c.free_orphans.ensures.tree visible settled superblock may.prune)
-    (subst (λ n. KeepsTree g.D.Disk.keeps n (g.D.Disk.moments c.free_orphans.new.disk) (g.D.Disk.moments c.close.new.disk)) c.free_orphans.ensures.size
-    (c.close.ensures.tree visible (c.in_ok-taken.ensures.settled visible settled) (subst (λ n. MayClose n superblock mid c.args.geometry.now c.in_ok-taken.taken) (sym c.free_orphans.ensures.size) can)))
+    kept_on _ size _ _ _ (c.tidy.ensures.tree visible settled superblock may.prune may.read)
+    (subst (λ n. KeepsTree g.D.Disk.keeps n (g.D.Disk.moments c.tidy.new.disk) (g.D.Disk.moments c.close.new.disk)) c.tidy.ensures.size
+    (c.close.ensures.tree visible (c.in_ok-taken.ensures.settled visible settled) (subst (λ n. MayClose n superblock mid c.args.geometry.now c.in_ok-taken.taken) (sym c.tidy.ensures.size) can)))
