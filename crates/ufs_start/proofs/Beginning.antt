@@ -29,7 +29,7 @@ use Rattle.ufs_start.specs.Begun.{catalog_under, image_under}
 use Rattle.ufs_start.specs.Refused.{HasStartCause, IsNamesFault, IsRefusedFile, NamesFile, TellsNoStart}
 use Rattle.ufs_start.specs.Starts.{AreNumbersOf, AreStartNames, IsLoaded, IsUndamaged}
 use Rattle.ufs_start.specs.declared.fault.StartFault.{StartFault}
-use Rattle.ufs_start.specs.declared.fault.StartFault.TheVariants.{Image, Unreached, Unnamed, ExtraBlocks, TooLong}
+use Rattle.ufs_start.specs.declared.fault.StartFault.TheVariants.{Image, Unreached, Unnamed, ExtraBlocks}
 
 pub is_loaded : (v : FoldedVolume) (f : CatalogRead) (sectors : ℕ) (disk : images.Image) → volume sectors disk ≡ Ok (volume_in v disk) → IsCatalogOf v.superblock.geometry (image_under v.superblock disk) (catalog_under v.superblock disk)
     → IsSoundCatalog v.superblock.geometry (catalog_under v.superblock disk) → AreFindingsOf v.superblock.geometry (image_under v.superblock disk) f → IsLoaded v.superblock.geometry f sectors disk v.superblock.superblock (image_under v.superblock disk)
@@ -71,7 +71,6 @@ refused_file v sectors disk standing (Image fault) is named = outside_why sector
 refused_file v sectors disk standing (Unreached inode) is named = absurd is
 refused_file v sectors disk standing (Unnamed inode) is named = absurd is
 refused_file v sectors disk standing (ExtraBlocks inode) is named = (volume_in v disk, standing, (named, is))
-refused_file v sectors disk standing (TooLong inode) is named = (volume_in v disk, standing, (named, is))
 
 pub refused_names : (v : FoldedVolume) (f : CatalogRead) (sectors : ℕ) (disk : images.Image) → IsVolumeOf sectors disk (volume_in v disk) (catalog_under v.superblock disk) → IsUndamaged v.superblock.geometry (image_under v.superblock disk) f → (fault : StartFault) → IsNamesFault v.superblock.geometry f fault
     → TellsNoStart sectors disk fault
@@ -79,14 +78,12 @@ refused_names v f sectors disk standing undamaged (Image fault) is = subst (Tell
 refused_names v f sectors disk standing undamaged (Unreached inode) is = (volume_in v disk, standing, is (image_under v.superblock disk) undamaged)
 refused_names v f sectors disk standing undamaged (Unnamed inode) is = (volume_in v disk, standing, is (image_under v.superblock disk) undamaged)
 refused_names v f sectors disk standing undamaged (ExtraBlocks inode) is = absurd is
-refused_names v f sectors disk standing undamaged (TooLong inode) is = absurd is
 
 pub calm_names : (g : Geometry) (f : CatalogRead) (fault : StartFault) → IsNamesFault g f fault → (count : ℕ) → HasStartCause count count fault
 calm_names g f (Image fault) is count = subst (HasFaultCause count count) (sym is) refl
 calm_names g f (Unreached inode) is count = refl
 calm_names g f (Unnamed inode) is count = refl
 calm_names g f (ExtraBlocks inode) is count = refl
-calm_names g f (TooLong inode) is count = refl
 
 -- ---- free blocks
 

@@ -18,7 +18,6 @@ use Rattle.ufs_layout.specs.InodeForm.{InodeForm}
 use Rattle.ufs_layout.specs.declared.geometry.Geometry.{Geometry}
 use Rattle.ufs_layout.specs.declared.superblock.Super.{Super}
 use Rattle.ufs_ledger.specs.Kept.{paths_of}
-use Rattle.ufs_model.specs.FileBytes.{max_size}
 use Rattle.ufs_names_image.specs.Starts.{image_start}
 use Rattle.ufs_names.specs.NamesPart.{IsNamesPart}
 use Rattle.ufs_names_image.specs.Parts.{IsNamesOf}
@@ -29,7 +28,7 @@ use Rattle.ufs_start.specs.Begun.{IsBegun, catalog_under, image_under, tree_unde
 use Rattle.ufs_start.specs.Copies.{IsCopyOf, sectors_taken}
 use Rattle.ufs_start.specs.Refused.{TellsNoStart}
 use Rattle.ufs_start.specs.declared.fault.StartFault.{StartFault}
-use Rattle.ufs_start.specs.declared.fault.StartFault.TheVariants.{Image, Unreached, Unnamed, ExtraBlocks, TooLong}
+use Rattle.ufs_start.specs.declared.fault.StartFault.TheVariants.{Image, Unreached, Unnamed, ExtraBlocks}
 use Rattle.ufs_start.specs.declared.parts.Start.{Start}
 use Rattle.ufs_start.proofs.Alike.{form_same}
 use Rattle.ufs_start.proofs.Counterparts.{cut_off_there, data_there, free_there, laid_there, loaded_there, named_there, names_there, read_there, unnamed_there}
@@ -114,12 +113,7 @@ module _ (copied sectors : ℕ) (copy image : images.Image) (is : IsCopyOf copie
       let v = told.0 in
       let there = standing_there copied sectors copy image is v told.1 in
       let form = form_same v.geometry there.1.geometry v.image there.0 there.1.agree inode told.2.0 in
-      (record v { image = there.0 }, there.2, (told.2.0, subst (λ (f : InodeForm). block_count f.size < length (blocks_of f)) form told.2.1))
-  no_start_there (TooLong inode) told =
-      let v = told.0 in
-      let there = standing_there copied sectors copy image is v told.1 in
-      let form = form_same v.geometry there.1.geometry v.image there.0 there.1.agree inode told.2.0 in
-      (record v { image = there.0 }, there.2, (told.2.0, subst (λ (f : InodeForm). max_size < f.size) form told.2.1))
+      (record v { image = there.0 }, there.2, (told.2.0, subst (λ (f : InodeForm). (f.kind ≡ 1) × (block_count f.size < length (blocks_of f))) form told.2.1))
 
   -- ---- what a start on the copy gives
 

@@ -19,7 +19,7 @@ use Rattle.ufs_names_image.specs.Loaded.{IsRead, AreRead}
 use Rattle.ufs_start.specs.Files.{AreFormsOf, AreLaid, AreLoaded, IsLaid, loaded}
 use Rattle.ufs_start.specs.Refused.{NamesFile}
 use Rattle.ufs_start.specs.declared.fault.StartFault.{StartFault}
-use Rattle.ufs_start.specs.declared.fault.StartFault.TheVariants.{Image, Unreached, Unnamed, ExtraBlocks, TooLong}
+use Rattle.ufs_start.specs.declared.fault.StartFault.TheVariants.{Image, Unreached, Unnamed, ExtraBlocks}
 
 -- ---- the form of an inode
 
@@ -44,7 +44,6 @@ names_inode g image forms are place within fault named = by fault named
     by (Unreached inode) named = tt
     by (Unnamed inode) named = tt
     by (ExtraBlocks inode) named = there inode named
-    by (TooLong inode) named = there inode named
 
 -- ---- one file more
 

@@ -15,11 +15,10 @@ use Rattle.ufs_image.specs.Volume.{Volume}
 use Rattle.ufs_layout.specs.DentryForm.{DentryForm}
 use Rattle.ufs_layout.specs.declared.geometry.Geometry.{Geometry}
 use Rattle.ufs_layout.specs.InodeForm.{InodeForm}
-use Rattle.ufs_model.specs.FileBytes.{max_size}
 use Rattle.ufs_opening.specs.Told.{TellsWhy}
 use Rattle.ufs_start.specs.Starts.{IsUndamaged}
 use Rattle.ufs_start.specs.declared.fault.StartFault.{StartFault}
-use Rattle.ufs_start.specs.declared.fault.StartFault.TheVariants.{Image, Unreached, Unnamed, ExtraBlocks, TooLong}
+use Rattle.ufs_start.specs.declared.fault.StartFault.TheVariants.{Image, Unreached, Unnamed, ExtraBlocks}
 
 -- what a fault says of the disk's count of faults
 abbrev pub HasStartCause : ℕ → ℕ → StartFault → Type 0
@@ -27,7 +26,6 @@ HasStartCause before now (Image fault) = HasFaultCause before now fault
 HasStartCause before now (Unreached inode) = now ≡ before
 HasStartCause before now (Unnamed inode) = now ≡ before
 HasStartCause before now (ExtraBlocks inode) = now ≡ before
-HasStartCause before now (TooLong inode) = now ≡ before
 
 -- Names stand in the directory of this inode, and no walk from the root meets it.
 pub record IsCutOff (g : Geometry) (c : Catalog) (inode : ℕ) : Type 0 where
@@ -49,16 +47,13 @@ IsNamesFault g f (Image fault) = fault ≡ Memory
 IsNamesFault g f (Unreached inode) = (image : images.Image) → IsUndamaged g image f → IsCutOff g (catalog_at g image) inode
 IsNamesFault g f (Unnamed inode) = (image : images.Image) → IsUndamaged g image f → IsUnnamedFile g (catalog_at g image) inode
 IsNamesFault g f (ExtraBlocks inode) = ⊥
-IsNamesFault g f (TooLong inode) = ⊥
 
--- A file is refused for what its form says: it has more blocks than its size wants, or more bytes than a server
--- takes. Other faults come from outside.
+-- Why a file is refused: it has more blocks than its size wants. Other faults come from outside.
 abbrev pub IsRefusedFile : (ℕ → InodeForm) → StartFault → Type 0
 IsRefusedFile forms (Image fault) = IsOutside fault
 IsRefusedFile forms (Unreached inode) = ⊥
 IsRefusedFile forms (Unnamed inode) = ⊥
-IsRefusedFile forms (ExtraBlocks inode) = block_count (forms inode).size < length (blocks_of (forms inode))
-IsRefusedFile forms (TooLong inode) = max_size < (forms inode).size
+IsRefusedFile forms (ExtraBlocks inode) = ((forms inode).kind ≡ 1) × (block_count (forms inode).size < length (blocks_of (forms inode)))
 
 -- The inode of the file that a fault names is such a one.
 abbrev pub NamesFile : (ℕ → Type 0) → StartFault → Type 0
@@ -66,7 +61,6 @@ NamesFile these (Image fault) = Unit {0}
 NamesFile these (Unreached inode) = Unit {0}
 NamesFile these (Unnamed inode) = Unit {0}
 NamesFile these (ExtraBlocks inode) = these inode
-NamesFile these (TooLong inode) = these inode
 
 -- The disk stands for a tree, and this is true of its image as its committed transactions leave it.
 abbrev pub HasTreeWith : ℕ → images.Image → (Volume → Type 0) → Type 0
@@ -79,4 +73,3 @@ TellsNoStart sectors disk (Image fault) = TellsWhy sectors disk fault
 TellsNoStart sectors disk (Unreached inode) = HasTreeWith sectors disk (λ v. IsCutOff v.geometry (catalog_at v.geometry v.image) inode)
 TellsNoStart sectors disk (Unnamed inode) = HasTreeWith sectors disk (λ v. IsUnnamedFile v.geometry (catalog_at v.geometry v.image) inode)
 TellsNoStart sectors disk (ExtraBlocks inode) = HasTreeWith sectors disk (λ v. IsInode v.geometry inode × IsRefusedFile (form_at v.geometry v.image) (ExtraBlocks inode))
-TellsNoStart sectors disk (TooLong inode) = HasTreeWith sectors disk (λ v. IsInode v.geometry inode × IsRefusedFile (form_at v.geometry v.image) (TooLong inode))

@@ -12,8 +12,6 @@ pub enum StartFault {
     Unnamed { inode: u32 },
     /// The file of this inode has more blocks than its size wants.
     ExtraBlocks { inode: u32 },
-    /// The file of this inode has more than 16,777,216 bytes.
-    TooLong { inode: u32 },
 }
 
 impl From<RecoverFault> for StartFault {

@@ -10,6 +10,7 @@ ghost use Rattle.ufs_catalog.specs.Reading.{IsReadOnly};
 ghost use Rattle.ufs_damage.specs.Findings.{AreFindingsOf};
 ghost use Rattle.ufs_extent.specs.Runs as runs;
 ghost use Rattle.ufs_file.specs.Content.{as_read, block_count, marked};
+ghost use Rattle.ufs_file.specs.Table.{max_held};
 ghost use Rattle.ufs_image.specs.Catalog.{IsInode, catalog_at};
 ghost use Rattle.ufs_image.specs.Images.{block_at, form_at};
 ghost use Rattle.ufs_image.specs.Nodes as nodes;
@@ -17,7 +18,6 @@ ghost use Rattle.ufs_image.specs.Opens.{file_bytes};
 ghost use Rattle.ufs_layout.specs.InodeForm.{InodeForm};
 ghost use Rattle.ufs_layout.specs.Words.{is_zeros};
 ghost use Rattle.ufs_layout.specs.declared.geometry.Geometry.{Geometry};
-ghost use Rattle.ufs_model.specs.FileBytes.{max_size};
 ghost use Rattle.ufs_names.specs.NamesPart.{NamesPart};
 ghost use Rattle.ufs_names_image.specs.Loaded.{AreRead};
 ghost use Rattle.ufs_start.specs.Extents.{run_of};
@@ -29,17 +29,19 @@ use crate::extents::extents_in;
 use crate::fault::StartFault;
 use std::alloc::Global;
 use ufs_base::{BLOCK, MAX_BLOCKS};
-use ufs_calls::MAX_SIZE;
 use ufs_catalog::{RecoverFault, read_block};
 use ufs_damage::Findings;
 use ufs_disk::Disk;
 use ufs_extent::Extents;
-use ufs_file::FileHand;
+use ufs_file::{FileHand, MAX_HELD};
 use ufs_files::FileHands;
 use ufs_layout::Inode;
 use ufs_overlay::Overlay;
 
 const MEMORY: StartFault = StartFault::Image(RecoverFault::Memory);
+
+// the kind of a file's inode
+const FILE: u8 = 1;
 
 // A block behind the bytes.
 fn append_block<D: Disk>(
@@ -93,9 +95,10 @@ fn read_blocks<D: Disk>(
     Ok(bytes)
 }
 
-// The blocks of a file, unless a server can't hold it.
+// The blocks of a file, unless a server can't hold it. What is no file, or has more bytes than an image has blocks for, counts
+// as want of memory: no sound image names it as a file.
 fn file_extents(alloc: Global, form: &Inode, inode: u32) -> Result<Extents, StartFault>
-    ensures size { OnOk result (form.now.size ≤ max_size) }
+    ensures size { OnOk result (form.now.size ≤ max_held) }
     ensures runs { IfOk result (λ e. e ≡ mapped run_of form.now.extents) }
     ensures blocks { IfOk result (λ e. runs.blocks_of e ≡ nodes.blocks_of form.now) }
     ensures count { IfOk result (λ e. length (runs.blocks_of e) ≡ block_count form.now.size) }
@@ -103,8 +106,8 @@ fn file_extents(alloc: Global, form: &Inode, inode: u32) -> Result<Extents, Star
     ensures refused { IfErr result (λ f. (forms : ℕ → InodeForm) → forms inode ≡ form.now → IsRefusedFile forms f) }
     ensures named { IfErr result (NamesFile (λ i. i ≡ inode)) }
 {
-    if form.size > MAX_SIZE {
-        return Err(StartFault::TooLong { inode });
+    if form.kind != FILE || form.size > MAX_HELD {
+        return Err(MEMORY);
     }
     let extents = extents_in(alloc, form)?;
     let wanted = form.size.div_ceil(BLOCK as u64);
@@ -220,8 +223,7 @@ fn add_file<D: Disk>(
 }
 
 /// The files of an image, by the numbers that their inodes have: where their blocks lie, and their bytes, which are
-/// read block by block. Refuses a file with more blocks than its size wants, or with more than 16,777,216 bytes. Writes
-/// nothing.
+/// read block by block. Refuses a file with more blocks than its size wants. Writes nothing.
 pub fn files_of<D: Disk>(
     alloc: Global,
     disk: &mut D,

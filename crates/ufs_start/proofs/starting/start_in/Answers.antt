@@ -1,4 +1,4 @@
-use Rattle.std.proofs.Common.{◌≡◌, ℕ, ap, refl, sym, ◌∙◌, subst, arith}
+use Rattle.std.proofs.Common.{◌≡◌, ℕ, [], false, ap, refl, sym, ◌∙◌, subst, arith}
 use Rattle.std.specs.Prelude.{Result}
 use Rattle.std.specs.FinSet as set
 use Rattle.std.proofs.lemmas.Result.{err_from_is_err_and}
@@ -96,7 +96,7 @@ returns-clause-begun c =
       free = e.free refl;
       apart = c.start_files_law.ensures.apart h.geometry l.findings sectors disk h.superblock image n files l.free.free loaded start read free;
       session = session;
-      can = record { nodes = paths_of (tree_under h disk); paths = c.image_start_law.ensures.paths disk (tree_under h disk) start.opened; few = few_files n (image_start (tree_under h disk)) start.names.next c.in_ok-names.ensures.few; is = session };
+      can = record { nodes = paths_of (tree_under h disk); cells = []; is_visible = false; paths = c.image_start_law.ensures.paths disk (tree_under h disk) start.opened; few = few_files n (image_start (tree_under h disk)) start.names.next c.in_ok-names.ensures.few; is = session };
     }
 
 pub returns-in_err-files-clause-refused : goal.returns-in_err-files-clause-refused
