@@ -1,5 +1,8 @@
 mod Starts
 mod Read
+mod Freed
 mod Refused
+mod Seen
 pub mod Ended
 pub mod EndLemmas
+pub mod MarkedLemmas

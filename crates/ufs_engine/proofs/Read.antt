@@ -1,5 +1,5 @@
 -- A disk of which a server's start is read, and why no session begins with it.
-use Rattle.std.proofs.Common.{◌≡◌, ℕ, [], Bool, ap, sym, refl, ◌∙◌, subst}
+use Rattle.std.proofs.Common.{◌≡◌, ℕ, [], Bool, true, false, ap, sym, refl, ◌∙◌, subst}
 use Rattle.std.specs.Prelude.{Ok}
 use Rattle.ufs_base.specs.Images as images
 use Rattle.ufs_catalog.specs.Faults.{IsOutside, IsWhyNot}
@@ -25,11 +25,12 @@ use Rattle.ufs_opening.specs.Told.{TellsWhy}
 use Rattle.ufs_recovery.specs.Home.{KeepsTree, OpensAlike}
 use Rattle.ufs_recovery.specs.Recovered.{IsCleanDisk, IsProperDisk, log_of}
 use Rattle.ufs_recovery.proofs.Ends.{proper_opens}
+use Rattle.ufs_recovery.proofs.SuperblockPut.{keeps_settled, kept_quietly}
 use Rattle.ufs_start.specs.Refused.{TellsNoStart}
 use Rattle.ufs_start.specs.declared.fault.StartFault.{StartFault}
-use Rattle.ufs_start.specs.declared.fault.StartFault.TheVariants.{Image, Unreached, Unnamed, ExtraBlocks, TooLong}
+use Rattle.ufs_start.specs.declared.fault.StartFault.TheVariants.{Image, Unreached, Unnamed, ExtraBlocks}
 use Rattle.ufs_stored.specs.OnDisk.{IsExplainedBetween, IsExplainedImage}
-use Rattle.ufs_engine.specs.Begins.{BeginsWith, TellsNoSession}
+use Rattle.ufs_engine.specs.Begins.{BeginsWith, TellsNoSession, is_mended}
 
 -- ---- a tree, and what begins with it
 
@@ -51,15 +52,25 @@ begins_explained keeps sectors image start with_it =
 -- ---- a disk that was only read
 
 module _ (keeps : Bool) (old new : Moments) (read : IsReadOnly keeps old new) where
+  pub proper_still : (sectors : ℕ) → IsProperDisk sectors old.state → IsProperDisk sectors new.state
+  proper_still sectors is = record {
+    settled = λ image left. is.settled image (read.crash.after image left) ∙ sym read.content;
+    proper = subst (IsProperImage sectors) (sym read.content) is.proper;
+  }
+
   pub clean_still : (sectors : ℕ) → IsCleanDisk sectors old.state → IsCleanDisk sectors new.state
   clean_still sectors is = record {
-    proper = record {
-      settled = λ image left. is.proper.settled image (read.crash.after image left) ∙ sym read.content;
-      proper = subst (IsProperImage sectors) (sym read.content) is.proper.proper;
-    };
+    proper = proper_still sectors is.proper;
     clean = ap (λ (image : images.Image). (superblock_of image).clean) read.content ∙ is.clean;
     empty = ap log_of read.content ∙ is.empty;
   }
+
+  -- a reading behind what kept the tree
+  pub kept_still : (sectors : ℕ) (first : Moments) → KeepsTree keeps sectors first old → KeepsTree keeps sectors first new
+  kept_still sectors first kept = kept_quietly keeps sectors first old new kept read.crash
+
+  pub tree_still : (sectors : ℕ) → IsProperDisk sectors old.state → KeepsTree keeps sectors old new
+  tree_still sectors is = keeps_settled keeps sectors old new is.settled read.crash
 
 -- ---- of a clean disk
 
@@ -90,12 +101,12 @@ proper_begins sectors state proper =
 
 -- ---- why no session begins
 
-pub no_session : (sectors : ℕ) (image : images.Image) (fault : StartFault) → TellsNoStart sectors image fault → TellsNoSession sectors image fault
-no_session sectors image (Image fault) tells = tells
-no_session sectors image (Unreached inode) tells = (image, refl, tells)
-no_session sectors image (Unnamed inode) tells = (image, refl, tells)
-no_session sectors image (ExtraBlocks inode) tells = (image, refl, tells)
-no_session sectors image (TooLong inode) tells = (image, refl, tells)
+-- what no recovery mends
+pub no_session : (sectors : ℕ) (image : images.Image) (fault : StartFault) → is_mended fault ≡ false → TellsNoStart sectors image fault → TellsNoSession sectors image fault
+no_session sectors image (Image fault) left tells = tells
+no_session sectors image (Unreached inode) left tells = let no : true ≡ false = left in cc
+no_session sectors image (Unnamed inode) left tells = let no : true ≡ false = left in cc
+no_session sectors image (ExtraBlocks inode) left tells = let no : true ≡ false = left in cc
 
 outside_why : (sectors : ℕ) (image : images.Image) (fault : RecoverFault) → IsOutside fault → TellsWhy sectors image fault
 outside_why sectors image NoSuperblock is = absurd is
@@ -112,7 +123,6 @@ outside_session sectors image u why = subst (TellsNoSession sectors image) (sym 
 -- of an image that opens to the same tree
 pub same_session : (sectors : ℕ) (image home : images.Image) → opens sectors home ≡ opens sectors image → (fault : StartFault) → TellsNoSession sectors home fault → TellsNoSession sectors image fault
 same_session sectors image home same (Image fault) tells = subst (λ o. IsWhyNot o fault) same tells
-same_session sectors image home same (Unreached inode) tells = (tells.0, tells.1 ∙ same, tells.2)
-same_session sectors image home same (Unnamed inode) tells = (tells.0, tells.1 ∙ same, tells.2)
-same_session sectors image home same (ExtraBlocks inode) tells = (tells.0, tells.1 ∙ same, tells.2)
-same_session sectors image home same (TooLong inode) tells = (tells.0, tells.1 ∙ same, tells.2)
+same_session sectors image home same (Unreached inode) none = none
+same_session sectors image home same (Unnamed inode) none = none
+same_session sectors image home same (ExtraBlocks inode) none = none

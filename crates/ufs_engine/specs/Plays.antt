@@ -1,8 +1,9 @@
 -- What a session over a disk has told, and what it leaves.
-use Rattle.std.specs.Prelude.{ℕ, ◌≡◌, ◌⊎◌, ◌∷◌, Bool, false, IsTrue, List, [], Result, Ok, Err, Some}
+use Rattle.std.specs.Prelude.{ℕ, ◌≡◌, ◌⊎◌, ◌∷◌, ◌++◌, Bool, false, IsTrue, List, [], Result, Ok, Err, Some}
 use Rattle.std.specs.List.{AllByRecursion}
 use Rattle.ufs_base.specs.Faults.{RoseTo, raised}
 use Rattle.ufs_disk.specs.Disk.{State}
+use Rattle.ufs_disk.specs.Moments.{Moments, all}
 use Rattle.ufs_client.specs.Played.{tells_fault}
 use Rattle.ufs_client.specs.declared.played.EndFault.{EndFault}
 use Rattle.ufs_client.specs.declared.played.EndFault.TheVariants as session
@@ -14,7 +15,9 @@ use Rattle.ufs_engine.specs.declared.playing.PlayFault.{PlayFault}
 use Rattle.ufs_engine.specs.declared.playing.PlayFault.TheVariants.{Image, Device, Stopped, Memory}
 use Rattle.ufs_recovery.specs.Recovered.{IsProperDisk}
 use Rattle.ufs_session.specs.Played.{IsPlayedFrom}
+use Rattle.ufs_session.specs.Throughout.{AreMomentsMarked}
 use Rattle.ufs_session.specs.Told.{AreToldStop, devices_in}
+use Rattle.ufs_stored.specs.OnDisk.{IsExplainedBetween}
 
 -- what the promise asks of the disk as the session begins: it is visible, and is proper
 pub record MayPlay (visible : Bool) (sectors : ℕ) (state : State) : Type 0 where
@@ -53,3 +56,15 @@ IsEndFault before now history (Err _) = Unit {0}
 -- They are one history of these clients' requests from this tree on, by how the session ended.
 abbrev pub ArePlayedFrom : PosixTree → List (List Op) → List (List Entry) → Result (Unit {0}) PlayFault → Type 0
 ArePlayedFrom start clients told result = IsPlayedFrom start clients told (served_end result) (joined told)
+
+-- ---- the stamps of a session's hand
+
+-- A session ran from one moment to another. Up to it the opening tree is all that a crash leaves; in it the hand stamped each
+-- state that the disk was in; and from its end on the whole history explains what a crash leaves.
+pub record IsMarkedThroughout (keeps : Bool) (sectors : ℕ) (start : PosixTree) (history : List Entry) (old new : Moments) : Type 0 where
+  pub from : Moments
+  pub to : Moments
+  pub before : IsExplainedBetween keeps sectors start [] old from
+  pub passed : (inside : List State) × (all to ≡ all from ++ inside)
+  pub marked : AreMomentsMarked start history sectors from to
+  pub behind : IsExplainedBetween keeps sectors start history to new

@@ -6,10 +6,11 @@ ghost use Rattle.ufs_catalog.specs.declared.fault.RecoverFault.{RecoverFault};
 ghost use Rattle.ufs_image.specs.Opens.{ImageTree, opens};
 ghost use Rattle.ufs_image.specs.Volume.{Refusal};
 ghost use Rattle.ufs_model.specs.PosixTree.{PosixTree};
-ghost use Rattle.ufs_one_hand.specs.OneHand.{IsStart};
+ghost use Rattle.ufs_one_hand.specs.OneHand.{IsStart, seeing};
 ghost use Rattle.ufs_opening.specs.Told.{TellsWhy};
 ghost use Rattle.ufs_recovery.specs.Recovered.{IsCleanDisk, IsProperDisk};
 ghost use Rattle.ufs_session.specs.Played.{MayBegin};
+ghost use Rattle.ufs_sound.specs.Visible.{IsDiskVisible};
 ghost use Rattle.ufs_base.specs.Images.{Image};
 ghost use Rattle.ufs_start.specs.Begun.{IsBegun};
 ghost use Rattle.ufs_start.specs.Refused.{HasStartCause};
@@ -17,19 +18,21 @@ ghost use Rattle.ufs_start.specs.declared.fault.StartFault.TheVariants as start;
 ghost use Rattle.ufs_store.specs.Refusals.{IsTold};
 ghost use Rattle.ufs_store.specs.Refusals as refusals;
 ghost use Rattle.ufs_store.specs.State.{geometry_of_store};
+ghost use Rattle.ufs_store_steps.specs.Cells.{cells_of};
 ghost use Rattle.ufs_stored.specs.OnDisk.{IsExplainedBetween, IsOnDisk};
 ghost use Rattle.ufs_stored.specs.Sound.{IsSoundServer};
 
 use crate::laws::{beginning_law, mounted_law};
+use crate::starting::recovered_start;
 use std::alloc::Global;
+use std::marker::Brand;
 use ufs_catalog::RecoverFault;
 use ufs_disk::Disk;
-use ufs_hand::Opened;
+use ufs_hand::{Opened, Opening, Parts};
 use ufs_model::a_request_keeps_the_tree;
 use ufs_one_hand::{abandon, starts_can_begin};
-use ufs_recovery::recover;
 use ufs_server::DiskServer;
-use ufs_start::{Start, StartFault, start_of};
+use ufs_start::{Start, StartFault};
 use ufs_store::{Door, Store, StoreFault};
 
 /// A server whose tree is on a disk, the store that has the disk, and the session that starts from that tree.
@@ -47,9 +50,9 @@ pub struct Unbegun<D: Disk> {
     pub fault: StartFault,
 }
 
-/// Begins a session on a disk: recovers its image where that is in use, reads what a server begins with, and marks the
-/// image in use. Nothing is served yet, so whatever a crash leaves, at each moment, stands for the tree that the disk
-/// stood for.
+/// Begins a session on a disk: recovers its image where that is in use, frees what no path names and blocks that no file needs
+/// where a server can't begin with these, reads what a server begins with, and marks the image in use. Nothing is served yet,
+/// so whatever a crash leaves, at each moment, stands for the tree that the disk stood for.
 pub fn begin<D: Disk>(alloc: Global, mut disk: D) -> Result<Begun<D>, Unbegun<D>>
     // over any disk
     ensures may { IfOk result (λ b. MayBegin b.server b.opened.start.tree) }
@@ -74,38 +77,12 @@ pub fn begin<D: Disk>(alloc: Global, mut disk: D) -> Result<Begun<D>, Unbegun<D>
     ensures err_moments { IsTrue D.visible → IsProperDisk (D.size disk) (D.moments disk).state → (start : PosixTree) → BeginsWith (D.size disk) (reads (D.moments disk)) start
         → IfErr result (λ u. IsExplainedBetween D.keeps (D.size disk) start [] (D.moments disk) (D.moments u.disk)) }
     ensures refused { IsTrue D.visible → IsProperDisk (D.size disk) (D.moments disk).state → IfErr result (λ u. TellsNoSession (D.size disk) (reads (D.moments disk)) u.fault) }
+    ensures visible { IsTrue D.visible → IsProperDisk (D.size disk) (D.moments disk).state → IfOk result (λ b. IsDiskVisible b.opened.start) }
+    // where the session's start says that the disk was proper just before its image was marked in use
+    ensures seen { IfOk result (λ b. IsDiskVisible b.opened.start → IsTrue D.visible × IsOnDisk (⟦<Store<D> as Door>⟧.store b.store) b.opened.start.tree [] b.server) }
 {
     a_request_keeps_the_tree();
-    match recover(alloc, &mut disk) {
-        Ok(_transactions) => begin_clean(alloc, disk),
-        Err(fault) => Err(Unbegun {
-            disk,
-            fault: StartFault::Image(fault),
-        }),
-    }
-}
-
-// The same of a disk whose image is clean, or which isn't visible.
-fn begin_clean<D: Disk>(alloc: Global, mut disk: D) -> Result<Begun<D>, Unbegun<D>>
-    ensures may { IfOk result (λ b. MayBegin b.server b.opened.start.tree) }
-    ensures session { IfOk result (λ b. IsStart b.opened.start) }
-    ensures sound { IfOk result (λ b. IsSoundServer (geometry_of_store (⟦<Store<D> as Door>⟧.store b.store)) (⟦<Store<D> as Door>⟧.store b.store).unassigned.free b.server) }
-    ensures going { IfOk result (λ b. (⟦<Store<D> as Door>⟧.store b.store).stop ≡ None) }
-    ensures size { IfOk result (λ b. (⟦<Store<D> as Door>⟧.store b.store).sectors ≡ D.size disk) }
-    ensures passed { IfOk result (λ b. (⟦<Store<D> as Door>⟧.store b.store).faults ≡ D.faults disk) }
-    ensures err_size { IfErr result (λ u. D.size u.disk ≡ D.size disk) }
-    ensures cause { IfErr result (λ u. HasStartCause (D.faults disk) (D.faults u.disk) u.fault) }
-    ensures parts { IsTrue D.visible → (start : PosixTree) → BeginsWith (D.size disk) (reads (D.moments disk)) start → IfOk result (λ b. b.opened.start.tree ≡ start) }
-    ensures on_disk { IsTrue D.visible → IsCleanDisk (D.size disk) (D.moments disk).state → (start : PosixTree) → BeginsWith (D.size disk) (reads (D.moments disk)) start
-        → IfOk result (λ b. IsOnDisk (⟦<Store<D> as Door>⟧.store b.store) start [] b.server) }
-    ensures moments { IsTrue D.visible → IsCleanDisk (D.size disk) (D.moments disk).state → (start : PosixTree) → BeginsWith (D.size disk) (reads (D.moments disk)) start
-        → IfOk result (λ b. IsExplainedBetween D.keeps (D.size disk) start [] (D.moments disk) (⟦<Store<D> as Door>⟧.store b.store).moments) }
-    ensures err_moments { IsTrue D.visible → IsCleanDisk (D.size disk) (D.moments disk).state → (start : PosixTree) → BeginsWith (D.size disk) (reads (D.moments disk)) start
-        → IfErr result (λ u. IsExplainedBetween D.keeps (D.size disk) start [] (D.moments disk) (D.moments u.disk)) }
-    ensures refused { IsTrue D.visible → IfErr result (λ u. TellsNoSession (D.size disk) (reads (D.moments disk)) u.fault) }
-{
-    a_request_keeps_the_tree();
-    match start_of(alloc, &mut disk) {
+    match recovered_start(alloc, &mut disk) {
         Ok(start) => mount(alloc, disk, start),
         Err(fault) => Err(Unbegun { disk, fault }),
     }
@@ -132,6 +109,9 @@ fn mount<D: Disk>(alloc: Global, disk: D, parts: Start) -> Result<Begun<D>, Unbe
     ensures err_moments { IsTrue D.visible → IsCleanDisk (D.size disk) (D.moments disk).state → IsBegun (D.size disk) (reads (D.moments disk)) parts
         → (start : PosixTree) → BeginsWith (D.size disk) (reads (D.moments disk)) start
         → IfErr result (λ u. IsExplainedBetween D.keeps (D.size disk) start [] (D.moments disk) (D.moments u.disk)) }
+    ensures visible { IsTrue D.visible → IsCleanDisk (D.size disk) (D.moments disk).state → IsBegun (D.size disk) (reads (D.moments disk)) parts → IfOk result (λ b. IsDiskVisible b.opened.start) }
+    ensures seen { (IsTrue D.visible → IsBegun (D.size disk) (reads (D.moments disk)) parts)
+        → IfOk result (λ b. IsDiskVisible b.opened.start → IsTrue D.visible × IsOnDisk (⟦<Store<D> as Door>⟧.store b.store) b.opened.start.tree [] b.server) }
 {
     let superblock = parts.superblock.superblock;
     a_request_keeps_the_tree();
@@ -144,7 +124,8 @@ fn mount<D: Disk>(alloc: Global, disk: D, parts: Start) -> Result<Begun<D>, Unbe
             fault: StartFault::Image(RecoverFault::Memory),
         });
     };
-    let Ok(opened) = Opened::open(alloc, parts.parts) else {
+    let from = seen_parts::<D, Brand>(&disk, parts.parts);
+    let Ok(opened) = Opened::open(alloc, from) else {
         return Err(Unbegun {
             disk,
             fault: StartFault::Image(RecoverFault::Memory),
@@ -164,6 +145,15 @@ fn mount<D: Disk>(alloc: Global, disk: D, parts: Start) -> Result<Begun<D>, Unbe
             })
         }
     }
+}
+
+// What the session starts from, over the disk as it is now. Contracts alone see it.
+fn seen_parts<D: Disk, P: Opening>(disk: &D, parts: Parts) -> Parts
+    requires { P.opened ≡ seeing parts.start (cells_of (D.size disk.now) (D.moments disk.now).state) D.visible }
+    ensures { result.start ≡ seeing parts.start (cells_of (D.size disk.now) (D.moments disk.now).state) D.visible }
+{
+    let (_disk, _parts) = (disk, parts);
+    Parts::picked::<P>()
 }
 
 // A refusal of a mount, as one of an image.

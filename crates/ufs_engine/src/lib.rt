@@ -5,6 +5,7 @@ mod beginning;
 mod closing;
 mod laws;
 mod playing;
+mod starting;
 
 pub use beginning::{Begun, Unbegun, begin};
 pub use closing::{CloseFault, Closed, close};

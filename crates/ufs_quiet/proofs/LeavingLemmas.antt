@@ -27,7 +27,6 @@ unbegun_short (start.Image recover.Memory) = inr (inr refl)
 unbegun_short (start.Unreached inode) = inl refl
 unbegun_short (start.Unnamed inode) = inl refl
 unbegun_short (start.ExtraBlocks inode) = inl refl
-unbegun_short (start.TooLong inode) = inl refl
 
 -- ..of those behind whose replies the line of a fault stands
 behind_short : (lines : List ℕ) (fault : ℕ) (ending : Ending) (text : List ℕ) → EndsBehind lines fault ending text → (status_of ending ≡ 4) ⊎ (status_of ending ≡ 5)
@@ -76,7 +75,6 @@ unbegun_calm before now (start.Image recover.Memory) cause other = cause
 unbegun_calm before now (start.Unreached inode) cause other = cause
 unbegun_calm before now (start.Unnamed inode) cause other = cause
 unbegun_calm before now (start.ExtraBlocks inode) cause other = cause
-unbegun_calm before now (start.TooLong inode) cause other = cause
 
 calm_end : (before now : ℕ) (result : Result (Unit {0}) PlayFault) → OnOk result (now ≡ before) → ((fault : StartFault) → result ≡ Err (ended.Image fault) → HasStartCause before now fault)
     → (lines : List ℕ) (ending : Ending) (text : List ℕ) → EndsPlayed result lines ending text → (status_of ending ≡ 4 → ⊥) → (status_of ending ≡ 5 → ⊥) → now ≡ before

@@ -7,11 +7,14 @@ use Rattle.ufs_disk.proofs.Runs.{stays}
 use Rattle.ufs_image.specs.Proper.{IsProperImage}
 use Rattle.ufs_ledger.specs.Kept.{OpensExplained}
 use Rattle.ufs_model.specs.History.{joined}
+use Rattle.ufs_model.specs.PosixTree.{PosixTree}
 use Rattle.ufs_model.specs.declared.data.Entry.{Entry}
-use Rattle.ufs_engine.specs.Plays.{AreFaultsOf}
+use Rattle.ufs_engine.specs.Plays.{AreFaultsOf, IsMarkedThroughout}
+use Rattle.ufs_engine.proofs.MarkedLemmas.{none_marked}
+use Rattle.ufs_recovery.specs.Recovered.{IsProperDisk}
 use Rattle.ufs_script.specs.declared.fault.ScriptFault.{ScriptFault}
 use Rattle.ufs_session.specs.Throughout.{IsExplainedThroughout}
-use Rattle.ufs_stored.specs.OnDisk.{IsExplainedImage}
+use Rattle.ufs_stored.specs.OnDisk.{IsExplainedBetween, IsExplainedImage}
 use Rattle.ufs_quiet.specs.declared.ending.Ending.{Ending}
 use Rattle.ufs_quiet.specs.declared.words.Command.{Command}
 use Rattle.ufs_quiet.specs.declared.words.Command.TheVariants as command
@@ -56,10 +59,15 @@ unread_left c told status stands none untouched same other = record {
   proper = λ may. subst (λ (m : Moments). Leaves (IsProperImage c.sectors) m.state) (sym same)
       (λ image is. subst (IsProperImage c.sectors) (sym (may.proper.settled image is)) may.proper.proper);
   always = λ may begun with. subst (λ (l : List (List Entry)). IsExplainedThroughout c.keeps c.sectors begun [] (joined l) c.from c.to) (sym none)
-      (stays c.keeps (IsExplainedImage c.sectors begun []) c.from c.to same
-      (λ image is. record { explained = stands c.from.state begun may.proper with image is; proper = subst (IsProperImage c.sectors) (sym (may.proper.settled image is)) may.proper.proper }));
+      (as_begun begun (stands c.from.state begun may.proper with) may.proper);
+  marked = λ kept may begun with. subst (λ (l : List (List Entry)). IsMarkedThroughout c.keeps c.sectors begun (joined l) c.from c.to) (sym none)
+      (none_marked c.keeps c.sectors begun c.from c.to (as_begun begun (stands c.from.state begun may.proper with) may.proper));
   clean = λ may zero. absurd (other zero);
   last = λ may begun with zero. absurd (other zero);
   broken = λ two. untouched;
   unread = λ six. untouched;
 }
+  where
+    as_begun : (begun : PosixTree) → Leaves (OpensExplained c.sectors begun []) c.from.state → IsProperDisk c.sectors c.from.state → IsExplainedBetween c.keeps c.sectors begun [] c.from c.to
+    as_begun begun explained is = stays c.keeps (IsExplainedImage c.sectors begun []) c.from c.to same
+        (λ image left. record { explained = explained image left; proper = subst (IsProperImage c.sectors) (sym (is.settled image left)) is.proper })

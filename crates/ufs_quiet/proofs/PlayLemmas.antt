@@ -6,18 +6,25 @@ use Rattle.std.specs.Io.KnownBytes.{Appends}
 use Rattle.ufs_base.specs.Faults.{raised}
 use Rattle.ufs_model.specs.History.{joined}
 use Rattle.ufs_model.specs.declared.data.Entry.{Entry}
+use Rattle.ufs_catalog.specs.declared.fault.RecoverFault.TheVariants as recover
+use Rattle.ufs_engine.specs.Begins.{TellsNoSession}
 use Rattle.ufs_engine.specs.Plays.{AreFaultsOf}
+use Rattle.ufs_image.specs.Proper.{IsProperImage}
+use Rattle.ufs_image.specs.Volume as image
 use Rattle.ufs_script.specs.Reading.{HasRead, LongerIsAlike, ReadsBreak, ReadsScript}
 use Rattle.ufs_script.specs.Script.{IsOutside, script_of, max_script}
 use Rattle.ufs_script.specs.declared.script.Script.{Script}
 use Rattle.ufs_script.specs.declared.fault.ScriptFault.{ScriptFault}
+use Rattle.ufs_start.specs.declared.fault.StartFault.{StartFault}
+use Rattle.ufs_start.specs.declared.fault.StartFault.TheVariants as start
 use Rattle.ufs_quiet.specs.declared.ending.Ending.{Ending}
 use Rattle.ufs_quiet.specs.declared.ending.Ending.TheVariants.{Done, Usage, BadGeometry, NotBuilt, BadScript, TooSmall, NoTree, DeviceFault, OutOfMemory, SourceFault, Damaged}
 use Rattle.ufs_quiet.specs.Served.{EndsSession, IsSessionOf, TellsEnd, session_lines, session_text, trace_part}
 use Rattle.ufs_quiet.specs.Seen.{Formatting, Reading, Writing}
 use Rattle.ufs_quiet.specs.Texts.{break_line, device_line}
-use Rattle.ufs_quiet.specs.Endings.{EndsPlay, EndsServing, EndsUnread, IsAnswer, TellsNoStart, sink_status, status_of}
+use Rattle.ufs_quiet.specs.Endings.{EndsPlay, EndsServing, EndsUnread, IsAnswer, TellsNoStart, sink_status, start_ending, status_of}
 use Rattle.ufs_quiet.specs.Told.{TellsPlay}
+use Rattle.ufs_quiet.proofs.ProperLemmas.{proper_opens}
 
 -- ---- the text that was read, of a visible source
 
@@ -162,6 +169,21 @@ module _ (trace : Bool) (alike : LongerIsAlike) (text : List ℕ) (r : Reading) 
       inl (at, none, subst (Appends held holds) (e.3 ∙ ap break_line same) a)
   broken_by f is held holds out a (unread at e) = absurd (calm e)
 
+-- ---- a proper image
+
+-- A session begins with it, unless a call of the disk fails or memory runs out.
+begun_there : (d : Formatting) → IsProperImage d.sectors d.image → (fault : StartFault) → start_ending fault ≡ NoTree → TellsNoSession d.sectors d.image fault → ⊥
+begun_there d proper (start.Image recover.NoSuperblock) is why = proper_opens d.sectors d.image proper image.NoSuperblock why
+begun_there d proper (start.Image (recover.BadVersion found)) is why = proper_opens d.sectors d.image proper (image.BadVersion found) why
+begun_there d proper (start.Image (recover.BadGeometry number)) is why = proper_opens d.sectors d.image proper (image.BadGeometry number) why
+begun_there d proper (start.Image (recover.BadRecord sector)) is why = proper_opens d.sectors d.image proper (image.BadRecord sector) why
+begun_there d proper (start.Image (recover.BadTree inode)) is why = proper_opens d.sectors d.image proper (image.BadTree inode) why
+begun_there d proper (start.Image (recover.Device fault)) is why = let no : DeviceFault ≡ NoTree = is in cc
+begun_there d proper (start.Image recover.Memory) is why = let no : OutOfMemory ≡ NoTree = is in cc
+begun_there d proper (start.Unreached inode) is none = absurd none
+begun_there d proper (start.Unnamed inode) is none = absurd none
+begun_there d proper (start.ExtraBlocks inode) is none = absurd none
+
 -- ---- of the whole answer
 
 module _ (trace : Bool) (r : Reading) (d : Formatting) (told : List (List Entry)) (w : Writing) (status : ℕ) (a : IsAnswer (EndsPlay trace r d told) w status) where
@@ -184,6 +206,10 @@ module _ (trace : Bool) (r : Reading) (d : Formatting) (told : List (List Entry)
         let x = seen (λ e. cc) in
         let e = unbegun_of trace r d told status x.0 three x.1 in
         (e.0, (x.0, e.1, x.2));
+    proper = λ may proper three.
+        let x = seen (λ e. cc) in
+        let none = (unbegun_of trace r d told status x.0 three x.1).1 in
+        begun_there d proper none.fault none.ending_is (none.why may);
     closing = λ four. let x = seen (λ e. cc) in stopped_got x.0 x.2 (stopped_of trace r d told status x.0 four x.1);
     faults = faults;
     complete = λ text script left is calm quiet.

@@ -102,7 +102,6 @@ module _ (trace : Bool) (d : Formatting) (script : Script) (told : List (List En
   unbegun (start.Unreached inode) none count why cause cut = (none, count, no_start (start.Unreached inode) refl why cause)
   unbegun (start.Unnamed inode) none count why cause cut = (none, count, no_start (start.Unnamed inode) refl why cause)
   unbegun (start.ExtraBlocks inode) none count why cause cut = (none, count, no_start (start.ExtraBlocks inode) refl why cause)
-  unbegun (start.TooLong inode) none count why cause cut = (none, count, no_start (start.TooLong inode) refl why cause)
 
   cause_of : (fault : StartFault) → HasPlayed d script told (Err (ended.Image fault)) → Cause fault
   cause_of fault h visible refusal none = elim (h.unopened visible refusal none) [ inl memory ↦ absurd cc | inr x ↦ (x.0, cc, x.2) ]

@@ -133,7 +133,6 @@ start_line (start.Image fault) = line_of fault
 start_line (start.Unreached inode) = refusal_line (image.BadTree inode)
 start_line (start.Unnamed inode) = refusal_line (image.BadTree inode)
 start_line (start.ExtraBlocks inode) = refusal_line (image.BadTree inode)
-start_line (start.TooLong inode) = refusal_line (image.BadTree inode)
 
 -- The disk, if it is visible, is an image that stands for this tree.
 abbrev pub StandsFor : Formatting → ImageTree → Type 0

@@ -90,6 +90,5 @@ pub fn tell_start<K: Sink>(sink: &mut K, fault: StartFault) -> u8
         StartFault::Unreached { inode } => tell_number(sink, "BadTree", inode),
         StartFault::Unnamed { inode } => tell_number(sink, "BadTree", inode),
         StartFault::ExtraBlocks { inode } => tell_number(sink, "BadTree", inode),
-        StartFault::TooLong { inode } => tell_number(sink, "BadTree", inode),
     }
 }

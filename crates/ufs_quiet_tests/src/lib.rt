@@ -29,3 +29,5 @@ mod tests;
 mod traces;
 #[cfg(test)]
 mod trees;
+#[cfg(test)]
+mod unneeded;

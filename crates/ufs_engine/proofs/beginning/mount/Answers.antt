@@ -1,6 +1,6 @@
 use Rattle.std.proofs.Common.{◌≡◌, ◌≤◌, [], refl, ap, sym, ◌∙◌, subst}
 use Rattle.ufs_bitmap.specs.Space.{Space}
-use Rattle.ufs_disk.specs.Disk.{State}
+use Rattle.ufs_disk.specs.Disk.{State, seen}
 use Rattle.ufs_disk.specs.Moments.{reads}
 use Rattle.ufs_disk.proofs.Runs.{started, weaker}
 use Rattle.ufs_image.proofs.Opening.{has_geometry}
@@ -9,17 +9,22 @@ use Rattle.ufs_layout.specs.declared.geometry.Geometry.{Geometry}
 use Rattle.ufs_ledger.specs.Ledger.{IsLeftBy}
 use Rattle.ufs_model.specs.PosixTree.{PosixTree}
 use Rattle.ufs_names_image.specs.Starts.{image_start}
-use Rattle.ufs_one_hand.specs.OneHand.{IsStart}
+use Rattle.ufs_one_hand.specs.OneHand.{IsStart, seeing}
+use Rattle.ufs_one_hand.proofs.Started.{seeing_starts}
 use Rattle.ufs_session.specs.Played.{MayBegin}
 use Rattle.ufs_sound.specs.Parts as sound
+use Rattle.ufs_sound.specs.Visible.{IsDiskVisible}
 use Rattle.ufs_start.specs.Begun.{tree_under, volume_under}
 use Rattle.ufs_store.specs.Mounting.{marking}
+use Rattle.ufs_store_steps.specs.Cells.{cells_of}
 use Rattle.ufs_stored.specs.OnDisk.{IsExplainedImage}
 use Rattle.ufs_stored.specs.Parts.{Parts}
 use Rattle.ufs_stored.specs.Sound.{IsSoundServer}
+use Rattle.ufs_engine.specs.Begins.{BeginsWith}
 use Rattle.ufs_engine.specs.Laws.{IsReadClean, parts_of}
 use Rattle.ufs_engine.proofs.Read.{clean_explained}
 use Rattle.ufs_engine.proofs.Refused.{refused_leaves}
+use Rattle.ufs_engine.proofs.Seen.{clean_seen, seen_clean, seen_visible}
 use Rattle.ufs_engine.proofs.Starts.{is_form, same_start}
 use Rattle.ufs_engine.proofs.beginning.mount.Goals as goal
 
@@ -45,27 +50,33 @@ returns-in_default-open-clause-err_moments g c visible clean begun start with_it
     started g.D.Disk.keeps (IsExplainedImage size start []) old (clean_explained c.a_request_keeps_the_tree.ensures size old.state start clean with_it)
 
 pub open-requires : goal.open-requires
-open-requires g c = c.starts_can_begin.ensures c.args.parts.parts.start c.requires.begun.1.can
+open-requires g c =
+    let cells = cells_of (g.D.Disk.size c.args.disk) (g.D.Disk.moments c.args.disk).state in
+    c.starts_can_begin.ensures c.seen_parts-from.result.start (subst IsStart (sym c.seen_parts-from.ensures) (seeing_starts c.args.parts.parts.start cells g.D.Disk.visible c.requires.begun.1.can))
 
 pub abandon-requires : goal.abandon-requires
-abandon-requires g c = subst IsStart (sym c.in-Ok-open.ensures) c.requires.begun.1.can
+abandon-requires g c =
+    let cells = cells_of (g.D.Disk.size c.args.disk) (g.D.Disk.moments c.args.disk).state in
+    subst IsStart (sym (c.in-Ok-open.ensures ∙ c.seen_parts-from.ensures)) (seeing_starts c.args.parts.parts.start cells g.D.Disk.visible c.requires.begun.1.can)
 
 pub returns-in-Ok-mount-clause-may : goal.returns-in-Ok-mount-clause-may
 returns-in-Ok-mount-clause-may g c =
     let b = c.requires.begun in
     let e = c.in-Ok.ensures in
     let same : c.in-Ok.server ≡ parts_of c.args.parts = λ i. record { names = e.names i; files = e.files i; commits = e.commits i; pool = e.pool i; fresh = e.fresh i; dropped = e.dropped i } in
-    let from : c.in-Ok-open.opened.start.tree ≡ image_start (tree_under c.args.parts.superblock b.0) = ap (λ (k : sound.Start). k.tree) (c.in-Ok-open.ensures ∙ b.1.session) in
+    let from : c.in-Ok-open.opened.start.tree ≡ image_start (tree_under c.args.parts.superblock b.0) = ap (λ (k : sound.Start). k.tree) (c.in-Ok-open.ensures ∙ c.seen_parts-from.ensures) ∙ ap (λ (k : sound.Start). k.tree) b.1.session in
     subst (λ (t : PosixTree). MayBegin c.in-Ok.server t) (sym from)
     (subst (λ (p : Parts). MayBegin p (image_start (tree_under c.args.parts.superblock b.0))) (sym same)
     (c.beginning_law.ensures.may (g.D.Disk.size c.args.disk) b.0 c.args.parts _ b.1 (record { tree = tree_under c.args.parts.superblock b.0; opened = b.1.opened; start_is = refl })))
 
 pub returns-in-Ok-mount-clause-session : goal.returns-in-Ok-mount-clause-session
-returns-in-Ok-mount-clause-session g c = subst IsStart (sym c.in-Ok-open.ensures) c.requires.begun.1.can
+returns-in-Ok-mount-clause-session g c =
+    let cells = cells_of (g.D.Disk.size c.args.disk) (g.D.Disk.moments c.args.disk).state in
+    subst IsStart (sym (c.in-Ok-open.ensures ∙ c.seen_parts-from.ensures)) (seeing_starts c.args.parts.parts.start cells g.D.Disk.visible c.requires.begun.1.can)
 
 pub returns-in-Ok-mount-clause-parts : goal.returns-in-Ok-mount-clause-parts
 returns-in-Ok-mount-clause-parts g c image start begun with_it =
-    ap (λ (k : sound.Start). k.tree) (c.in-Ok-open.ensures ∙ begun.session) ∙ sym (same_start (g.D.Disk.size c.args.disk) image c.args.parts begun start with_it)
+    ap (λ (k : sound.Start). k.tree) (c.in-Ok-open.ensures ∙ c.seen_parts-from.ensures) ∙ ap (λ (k : sound.Start). k.tree) begun.session ∙ sym (same_start (g.D.Disk.size c.args.disk) image c.args.parts begun start with_it)
 
 pub returns-in-Ok-mount-clause-sound : goal.returns-in-Ok-mount-clause-sound
 returns-in-Ok-mount-clause-sound g c =
@@ -98,6 +109,30 @@ returns-in-Ok-mount-clause-moments g c visible clean begun start with_it =
     weaker g.D.Disk.keeps (IsLeftBy size (marking c.args.parts.superblock.superblock (reads old))) (IsExplainedImage size start [])
     (λ image left. record { explained = law.explained size old.state c.args.parts start image is with_it left; proper = law.proper size old.state c.args.parts image is left })
     old (g.D.Disk.moments c.in-Ok-mount.store.disk) (m.crash visible (law.mountable size old.state c.args.parts is))
+
+pub returns-in-Ok-mount-clause-visible : goal.returns-in-Ok-mount-clause-visible
+returns-in-Ok-mount-clause-visible g c visible clean begun =
+    let size = g.D.Disk.size c.args.disk in
+    let state : State = (g.D.Disk.moments c.args.disk).state in
+    subst IsDiskVisible (sym (c.in-Ok-open.ensures ∙ c.seen_parts-from.ensures))
+    (clean_seen c.args.parts.parts.start g.D.Disk.visible size state (tree_under c.args.parts.superblock (seen state)) visible begun.can (g.met.D.Disk.whole visible c.args.disk) clean begun.opened (ap (λ (z : sound.Start). z.tree) begun.session))
+
+pub returns-in-Ok-mount-clause-seen : goal.returns-in-Ok-mount-clause-seen
+returns-in-Ok-mount-clause-seen g c read sees =
+    let e = c.in-Ok.ensures in
+    let m = c.in-Ok-mount.ensures in
+    let size = g.D.Disk.size c.args.disk in
+    let state : State = (g.D.Disk.moments c.args.disk).state in
+    let k = c.args.parts.parts.start in
+    let from = c.in-Ok-open.ensures ∙ c.seen_parts-from.ensures in
+    let there : IsDiskVisible (seeing k (cells_of size state) g.D.Disk.visible) = subst IsDiskVisible from sees in
+    let visible = seen_visible k g.D.Disk.visible (cells_of size state) there in
+    let begun = read visible in
+    let whole = g.met.D.Disk.whole visible c.args.disk in
+    let same : c.in-Ok.server ≡ parts_of c.args.parts = λ i. record { names = e.names i; files = e.files i; commits = e.commits i; pool = e.pool i; fresh = e.fresh i; dropped = e.dropped i } in
+    let is : IsReadClean c.args.parts.superblock.geometry size state c.args.parts = record { whole = whole; clean = seen_clean k g.D.Disk.visible size state begun.can whole there; begun = begun; geometry = refl } in
+    let with_it : BeginsWith size (seen state) c.in-Ok-open.opened.start.tree = record { tree = tree_under c.args.parts.superblock (seen state); opened = begun.opened; start_is = ap (λ (z : sound.Start). z.tree) from ∙ ap (λ (z : sound.Start). z.tree) begun.session } in
+    (visible, c.mounted_law.ensures.going size state c.args.parts c.in-Ok-open.opened.start.tree _ c.in-Ok.server is with_it same (m.ok visible (c.mounted_law.ensures.mountable size state c.args.parts is)) (m.geometry ∙ sym c.args.parts.superblock.same) m.unassigned)
 
 pub returns-in-Err-clause-cause : goal.returns-in-Err-clause-cause
 returns-in-Err-clause-cause g c = c.fault_of.ensures.cause (g.D.Disk.faults c.args.disk) (g.D.Disk.faults c.in-Err.unmounted.disk) c.in-Err.ensures.cause

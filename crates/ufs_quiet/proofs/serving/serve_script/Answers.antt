@@ -35,6 +35,7 @@ returns-clause-acts g c =
       crash = is.crash;
       proper = is.proper;
       always = is.moments;
+      marked = is.marked;
       clean = λ may zero. on_whole ended (session_lines c.args.trace (joined told)) w status c.tell_played.ensures (IsCleanDisk size to.state) (is.clean may) zero;
       last = λ may start with zero. on_whole ended (session_lines c.args.trace (joined told)) w status c.tell_played.ensures (StandsForTree size (tree_after start (joined told)) (reads to)) (is.last may start with) zero;
       broken = λ two. absurd (never_unread ended (session_lines c.args.trace (joined told)) w status c.tell_played.ensures (inl two));
