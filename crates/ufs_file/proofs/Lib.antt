@@ -1,4 +1,5 @@
 pub mod OverLemmas
+pub mod SpanLemmas
 pub mod TableLemmas
 pub mod ContentLemmas
 pub mod HandLemmas

@@ -1,4 +1,5 @@
 pub mod Lists
 pub mod Content
+pub mod Span
 pub mod Table
 pub mod Hand

@@ -1,7 +1,9 @@
 -- What a file's blocks in memory stand for.
 use Rattle.std.specs.Prelude.{◌≡◌, ℕ, ◌+◌, ◌*◌, ◌-◌, ◌<◌, ◌≤◌, List, [], ◌∷◌, ◌++◌, map, drop, replicate, length, All, Bool}
 use Rattle.ufs_base.specs.declared.sizes.TheConstants.{BLOCK}
+use Rattle.ufs_file.specs.Span.{AreWithin}
 use Rattle.ufs_file.specs.declared.blocks.Block.{Block}
+use Rattle.ufs_file.specs.declared.span.Span.{Span}
 
 -- the most bytes that a file holds: those of all blocks that an image can have. No request lengthens a file past `max_size`
 -- of `ufs_model`, but one that an image has may be longer.
@@ -28,3 +30,8 @@ pub record IsTable (size : ℕ) (bs : List Block) : Type 0 where
   pub few : BLOCK * length bs < size + BLOCK
   pub small : size ≤ max_held
   pub zeros : drop size (bytes_in bs) ≡ replicate (BLOCK * length bs - size) 0
+
+-- a table, and a span that has its blocks that were written since they were read or made
+pub record IsKept (size : ℕ) (bs : List Block) (written : Span) : Type 0 where
+  pub table : IsTable size bs
+  pub within : AreWithin written (marks_of bs)

@@ -2,8 +2,10 @@
 ghost use Rattle.std.specs.Prelude.{◌≡◌, ◌+◌, ◌*◌, ◌/◌, ◌-◌, ◌^◌, ◌<◌, ◌≤◌, ◌++◌, [], ◌∷◌, length, take, drop, replicate, All, IfOk, OnOk, OnErr, slice_index, true, false};
 ghost use Rattle.ufs_file.specs.Content.{block_count, marks_cut};
 ghost use Rattle.ufs_file.specs.Lists.{over};
+ghost use Rattle.ufs_file.specs.Span.{AreWithin};
 ghost use Rattle.ufs_file.specs.Table.{bytes_in, marks_of, IsWhole};
 
+use crate::span::Span;
 use std::alloc::{AllocError, Global};
 use ufs_base::BLOCK;
 
@@ -161,15 +163,16 @@ pub(crate) fn mark_at(table: &mut Vec<Block>, k: usize, dirty: bool)
     block.dirty = dirty;
 }
 
-/// Marks every block as not written.
-pub(crate) fn clean_all(table: &mut Vec<Block>)
+/// Marks every block as not written; those that were written lie in the span.
+pub(crate) fn clean_all(table: &mut Vec<Block>, written: Span)
     requires whole { All IsWhole table.old.items }
+    requires within { AreWithin written (marks_of table.old.items) }
     ensures whole { All IsWhole table.new.items }
     ensures length { length table.new.items ≡ length table.old.items }
     ensures bytes { bytes_in table.new.items ≡ bytes_in table.old.items }
     ensures marks { marks_of table.new.items ≡ replicate (length table.old.items) false }
 {
-    for k in 0..table.len() {
+    for k in written.from..written.to {
         mark_at(table, k, false);
     }
 }

@@ -2,8 +2,10 @@ ghost use Rattle.std.specs.Prelude.{◌≡◌, ◌+◌, ◌≤◌, ◌<◌, leng
 ghost use Rattle.ufs_file.specs.Content.{Content, no_content, grown, written_over, shortened};
 
 use crate::blocks::{Block, clean_all, cut_over, mark_at, piece, put_over, read_over, zero_blocks};
+use crate::span::Span;
 use std::alloc::Global;
 use std::marker::Model;
+use std::ops::Range;
 use ufs_base::{BLOCK, Memory};
 
 /// The most bytes that a file holds: 65,536 blocks. Requests are refused past `MAX_SIZE` of `ufs_calls`, whatever the file
@@ -17,22 +19,24 @@ pub struct Blocks {
     alloc: Global,
     size: usize,
     table: Vec<Block>,
+    // Has each block that is marked.
+    span: Span,
 }
 
 impl Model for Blocks {
     ghost use Rattle.std.specs.Prelude.{take};
     ghost use Rattle.ufs_file.specs.Content.{Content};
-    ghost use Rattle.ufs_file.specs.Table.{bytes_in, marks_of, IsTable};
+    ghost use Rattle.ufs_file.specs.Table.{bytes_in, marks_of, IsKept};
 
     ghost Value = { Content };
 
     ghost view = { λ b. record { bytes = take b.size (bytes_in b.table.items); dirty = marks_of b.table.items } };
 
-    ghost invariant = { λ b. IsTable b.size b.table.items };
+    ghost invariant = { λ b. IsKept b.size b.table.items b.span };
 }
 
 impl Blocks {
-    ghost use Rattle.std.specs.Prelude.{◌≡◌, ◌+◌, ◌≤◌, ◌<◌, length, max, slice_get, IfOk, OnOk, OnErr, IfSome, IfNone};
+    ghost use Rattle.std.specs.Prelude.{ℕ, ◌≡◌, ◌+◌, ◌≤◌, ◌<◌, length, max, slice_get, IfOk, OnOk, OnErr, IfSome, IfNone, Some, true};
     ghost use Rattle.ufs_model.specs.FileBytes.{part};
     ghost use Rattle.ufs_file.specs.Content.{Content, no_content, as_read, block_bytes, block_count, cleaned, grown, marked, written_over, shortened};
     ghost use Rattle.ufs_file.specs.Table.{max_held};
@@ -45,6 +49,7 @@ impl Blocks {
             alloc,
             size: 0,
             table: Vec::new(alloc),
+            span: Span::EMPTY,
         }
     }
 
@@ -113,9 +118,11 @@ impl Blocks {
         ensures err { OnErr result (self.new ≡ self.old) }
     {
         let size = size as usize;
-        let count = size.div_ceil(BLOCK) - self.table.len();
+        let held = self.table.len();
+        let count = size.div_ceil(BLOCK) - held;
         let mut more = zero_blocks(self.alloc, count)?;
         self.table.append(&mut more)?;
+        self.span = self.span.widened(held, held + count);
         self.size = size;
         Ok(())
     }
@@ -126,7 +133,10 @@ impl Blocks {
         requires inside { at + length fresh.now ≤ length self.old.bytes }
         ensures { self.new ≡ written_over self.old at fresh.now }
     {
-        put_over(&mut self.table, at as usize, fresh);
+        let at = at as usize;
+        put_over(&mut self.table, at, fresh);
+        let end = at + fresh.len();
+        self.span = self.span.widened(at / BLOCK, end.div_ceil(BLOCK));
     }
 
     /// Keeps so many bytes. Takes no memory.
@@ -135,7 +145,9 @@ impl Blocks {
         ensures { self.new ≡ shortened self.old size }
     {
         let size = size as usize;
+        let count = size.div_ceil(BLOCK);
         cut_over(&mut self.table, size);
+        self.span = self.span.below(count).widened(size / BLOCK, count);
         self.size = size;
     }
 
@@ -147,6 +159,15 @@ impl Blocks {
             Some(block) => Some(block.dirty),
             None => None,
         }
+    }
+
+    /// A range with the place of each block that was written since it was read or made. It is empty behind `clean`.
+    pub fn dirty_places(&self) -> Range<usize>
+        ensures dirty { (place : ℕ) → slice_get self.now.dirty place ≡ Some true → (result.start ≤ place) × (place < result.end) }
+        ensures ordered { result.start ≤ result.end }
+        ensures there { result.end ≤ length self.now.dirty }
+    {
+        self.span.from..self.span.to
     }
 
     /// The block at this place, whole: with zeros behind the file's end.
@@ -165,7 +186,8 @@ impl Blocks {
     pub fn clean(&mut self)
         ensures { self.new ≡ cleaned self.old }
     {
-        clean_all(&mut self.table);
+        clean_all(&mut self.table, self.span);
+        self.span = Span::EMPTY;
     }
 
     /// The block at this place is to be written: the disk has other bytes behind the file's end. Takes no memory.
@@ -174,5 +196,6 @@ impl Blocks {
         ensures { self.new ≡ marked self.old place }
     {
         mark_at(&mut self.table, place, true);
+        self.span = self.span.widened(place, place + 1);
     }
 }

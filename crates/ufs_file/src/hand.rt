@@ -8,6 +8,7 @@ use crate::answers::answered;
 use crate::content::Blocks;
 use std::alloc::Global;
 use std::marker::Model;
+use std::ops::Range;
 use ufs_base::{BLOCK, MAX_EXTENTS, Memory};
 use ufs_bitmap::{Pool, give_runs, take_runs};
 use ufs_calls::{MAX_SIZE, desc_refusal, is_past, place_of, seek_to, size_refusal};
@@ -54,7 +55,7 @@ impl Model for FileHand {
 }
 
 impl FileHand {
-    ghost use Rattle.std.specs.Prelude.{◌≡◌, ◌+◌, ◌-◌, ◌≤◌, ◌<◌, ◌^◌, [], length, All, false, IfOk, IfErr, OnOk, OnErr, IfSome, IfNone, Some, None, true, if◌then◌else◌, unwrap_or, slice_get};
+    ghost use Rattle.std.specs.Prelude.{ℕ, ◌≡◌, ◌+◌, ◌-◌, ◌≤◌, ◌<◌, ◌^◌, [], length, All, false, IfOk, IfErr, OnOk, OnErr, IfSome, IfNone, Some, None, true, if◌then◌else◌, unwrap_or, slice_get};
     ghost use Rattle.std.specs.FinSet as set;
     ghost use Rattle.ufs_model.specs.Bounds.{IsBounded};
     ghost use Rattle.ufs_model.specs.Descriptors as descriptors;
@@ -190,6 +191,19 @@ impl FileHand {
         ensures { result ≡ slice_get self.now.content.dirty place }
     {
         self.blocks.is_dirty(place)
+    }
+
+    /// A range with the place of each block that was written since it was read or made. It is empty behind `clean`.
+    pub fn dirty_places(&self) -> Range<u32>
+        ensures dirty { (place : ℕ) → slice_get self.now.content.dirty place ≡ Some true → (result.start ≤ place) × (place < result.end) }
+        ensures ordered { result.start ≤ result.end }
+        ensures marks { result.end ≤ length self.now.content.dirty }
+        ensures blocks { result.end ≤ length (blocks_of self.now.extents) }
+    {
+        // For the prover alone.
+        let _size = self.blocks.size();
+        let places = self.blocks.dirty_places();
+        places.start as u32..places.end as u32
     }
 
     /// The bytes of the block at this place, with zeros behind the file's end.

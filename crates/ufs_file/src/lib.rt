@@ -5,6 +5,7 @@ mod answers;
 mod blocks;
 mod content;
 mod hand;
+mod span;
 
 pub use answers::{answered, out_of_memory};
 pub use content::MAX_HELD;

@@ -1,4 +1,4 @@
-use Rattle.std.proofs.Common.{◌≡◌, ◌+◌, ◌*◌, ◌∙◌, ap, sym, refl, get_or, [], List, ℕ, arith}
+use Rattle.std.proofs.Common.{◌≡◌, ◌+◌, ◌*◌, ◌∙◌, ap, sym, refl, get_or, [], List, arith}
 use Rattle.ufs_file.specs.Table.{bytes_in}
 use Rattle.ufs_file.specs.declared.blocks.Block.{Block}
 use Rattle.ufs_file.proofs.OverLemmas.{over_none}

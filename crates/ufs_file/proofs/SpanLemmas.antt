@@ -1,0 +1,158 @@
+-- Spans that have each mark of a list, as it is written over, grows and is cut.
+use Rattle.std.proofs.Common.{◌≡◌, ℕ, ◌+◌, ◌-◌, ◌/◌, ◌%◌, ◌≤◌, ◌<◌, ◌⊎◌, inl, inr, List, [], ◌∷◌, ◌++◌, Bool, true, false, eqb, Some, length, take, drop, replicate, get_or, ap, sym, ◌∙◌, refl, subst, arith, length-append}
+use Rattle.std.specs.Prelude.{slice_get, if◌then◌else◌}
+use Rattle.std.proofs.lemmas.Bool.{cases_lt}
+use Rattle.std.proofs.lemmas.List.{ext_get_or, get_or_append_left, get_or-append_right, get_or-drop, get_or_past, get_or-replicate, get_or-take, length-replicate, length-take-le}
+use Rattle.std.proofs.lemmas.Option.{get_or_from_slice_get, slice_get-get_or, slice_get_within}
+use Rattle.ufs_file.specs.Lists.{over}
+use Rattle.ufs_file.specs.Content.{marks_cut}
+use Rattle.ufs_file.specs.Span.{AreWithin, HasBelow, HasBoth, IsIn}
+use Rattle.ufs_file.specs.declared.span.Span.{Span}
+use Rattle.ufs_file.proofs.OverLemmas.{length-over}
+
+-- ---- marks
+
+mark_there : (ms : List Bool) (k : ℕ) → get_or ms k false ≡ true → slice_get ms k ≡ Some true
+mark_there ms k is = by (cases_lt k (length ms))
+  where
+    by : (k < length ms) ⊎ (length ms ≤ k) → slice_get ms k ≡ Some true
+    by (inl less) = slice_get-get_or ms k false less ∙ ap Some is
+    by (inr past) = (let none : get_or ms k false ≡ false = get_or_past ms k false past in absurd cc)
+
+-- a mark of another list that agrees there
+moved : (xs ys : List Bool) (k : ℕ) → get_or xs k false ≡ get_or ys k false → slice_get xs k ≡ Some true → slice_get ys k ≡ Some true
+moved xs ys k same is = mark_there ys k (sym same ∙ get_or_from_slice_get xs k true false is)
+
+over-before : {X : Type 0} (old new : List X) (at k : ℕ) (d : X) → at + length new ≤ length old → k < at → get_or (over old at new) k d ≡ get_or old k d
+over-before old new at k d fits less =
+    let front : length (take at old) ≡ at = length-take-le at old (omega arith) in
+    get_or_append_left (take at old ++ new) (drop (at + length new) old) d k (omega (arith, length-append (take at old) new))
+    ∙ get_or_append_left (take at old) new d k (omega arith) ∙ get_or-take at old k d less
+
+over-past : {X : Type 0} (old new : List X) (at k : ℕ) (d : X) → at + length new ≤ length old → at + length new ≤ k → get_or (over old at new) k d ≡ get_or old k d
+over-past old new at k d fits past =
+    let n = at + length new in
+    let front : length (take at old ++ new) ≡ n = length-append (take at old) new ∙ ap (λ j. j + length new) (length-take-le at old (omega arith)) in
+    let e : n + (k - n) ≡ k = omega arith in
+    get_or-append_right (take at old ++ new) (drop n old) n k d front past ∙ get_or-drop n old (k - n) d ∙ ap (λ j. get_or old j d) e
+
+over-inside : {X : Type 0} (old new : List X) (at k : ℕ) (d : X) → at + length new ≤ length old → at ≤ k → k < at + length new → get_or (over old at new) k d ≡ get_or new (k - at) d
+over-inside old new at k d fits from less =
+    let front : length (take at old) ≡ at = length-take-le at old (omega arith) in
+    get_or_append_left (take at old ++ new) (drop (at + length new) old) d k (omega (arith, length-append (take at old) new))
+    ∙ get_or-append_right (take at old) new at k d front from
+
+-- a mark is one that was there, or lies where the list was written over
+over_mark : (old new : List Bool) (at to k : ℕ) → at + length new ≤ length old → to ≡ at + length new → slice_get (over old at new) k ≡ Some true → (slice_get old k ≡ Some true) ⊎ ((at ≤ k) × (k < to))
+over_mark old new at to k fits end is = by (cases_lt k at) (cases_lt k to)
+  where
+    by : (k < at) ⊎ (at ≤ k) → (k < to) ⊎ (to ≤ k) → (slice_get old k ≡ Some true) ⊎ ((at ≤ k) × (k < to))
+    by (inl less) _ = inl (moved (over old at new) old k (over-before old new at k false fits less) is)
+    by (inr from) (inl less) = inr (from, less)
+    by (inr from) (inr past) = inl (moved (over old at new) old k (over-past old new at k false fits (omega (arith, past, end))) is)
+
+append_mark : (old new : List Bool) (from to k : ℕ) → from ≡ length old → to ≡ length old + length new → slice_get (old ++ new) k ≡ Some true → (slice_get old k ≡ Some true) ⊎ ((from ≤ k) × (k < to))
+append_mark old new from to k start end is = by (cases_lt k from)
+  where
+    by : (k < from) ⊎ (from ≤ k) → (slice_get old k ≡ Some true) ⊎ ((from ≤ k) × (k < to))
+    by (inl less) = inl (moved (old ++ new) old k (get_or_append_left old new false k (omega (arith, less, start))) is)
+    by (inr here) = inr (here, omega (arith, slice_get_within (old ++ new) k true is, length-append old new, end))
+
+-- a mark of what a cut leaves is one that was there, or that of the block that it goes through
+cut_mark : (ms : List Bool) (size n k : ℕ) → n ≡ size / 4096 → n ≤ length ms → slice_get (marks_cut ms size) k ≡ Some true → k < length (marks_cut ms size)
+    → ((k < length (marks_cut ms size)) × (slice_get ms k ≡ Some true)) ⊎ ((n ≤ k) × (k < length (marks_cut ms size)))
+cut_mark ms size n k floor there is within = by (cases_lt k n)
+  where
+    same : (b : Bool) → k < n → get_or (if b then take (size / 4096) ms else take (size / 4096) ms ++ true ∷ []) k false ≡ get_or ms k false
+    same true less = get_or-take (size / 4096) ms k false (omega (arith, less, floor))
+    same false less =
+        let front : length (take (size / 4096) ms) ≡ size / 4096 = length-take-le (size / 4096) ms (omega (arith, there, floor)) in
+        get_or_append_left (take (size / 4096) ms) (true ∷ []) false k (omega (arith, less, floor, front)) ∙ get_or-take (size / 4096) ms k false (omega (arith, less, floor))
+
+    by : (k < n) ⊎ (n ≤ k) → ((k < length (marks_cut ms size)) × (slice_get ms k ≡ Some true)) ⊎ ((n ≤ k) × (k < length (marks_cut ms size)))
+    by (inl less) = inl (within, moved (marks_cut ms size) ms k (same (eqb (size % 4096) 0) less) is)
+    by (inr past) = inr (past, within)
+
+-- ---- spans
+
+module _ (s t : Span) (from to : ℕ) (old new : List Bool) (were : AreWithin s old) (both : HasBoth s from to t) (longer : length old ≤ length new) (there : to ≤ length new)
+    (marks : (k : ℕ) → slice_get new k ≡ Some true → (slice_get old k ≡ Some true) ⊎ ((from ≤ k) × (k < to))) where
+  lies_in : (k : ℕ) → (slice_get old k ≡ Some true) ⊎ ((from ≤ k) × (k < to)) → IsIn t k
+  lies_in k (inl is) = both.kept k (were.marked k is)
+  lies_in k (inr lies) = both.added k lies.0 lies.1
+
+  more_within : AreWithin t new
+  more_within = record {
+    marked = λ k is. lies_in k (marks k is);
+    ordered = both.ordered;
+    there = omega (arith, both.end, were.there, longer, there);
+  }
+
+-- written over
+pub over_within : (s t : Span) (old fresh new : List Bool) (at to : ℕ) → AreWithin s old → new ≡ over old at fresh → at + length fresh ≤ length old → to ≡ at + length fresh → HasBoth s at to t → AreWithin t new
+over_within s t old fresh new at to were is fits end both =
+    let same : length (over old at fresh) ≡ length old = length-over old at fresh fits in
+    subst (AreWithin t) (sym is) (more_within s t at to old (over old at fresh) were both (omega arith) (omega arith) (λ k is. over_mark old fresh at to k fits end is))
+
+-- longer
+pub append_within : (s t : Span) (old more new : List Bool) (from to : ℕ) → AreWithin s old → new ≡ old ++ more → from ≡ length old → to ≡ length old + length more → HasBoth s from to t → AreWithin t new
+append_within s t old more new from to were is start end both =
+    let size : length (old ++ more) ≡ length old + length more = length-append old more in
+    subst (AreWithin t) (sym is) (more_within s t from to old (old ++ more) were both (omega arith) (omega arith) (λ k is. append_mark old more from to k start end is))
+
+-- cut
+pub cut_within : (s u t : Span) (ms new : List Bool) (size n count : ℕ) → AreWithin s ms → new ≡ marks_cut ms size → n ≡ size / 4096 → n ≤ length ms → length new ≡ count
+    → HasBelow s count u → HasBoth u n count t → AreWithin t new
+cut_within s u t ms new size n count were is floor there counted below both = subst (AreWithin t) (sym is) (record {
+  marked = λ k is. at k (cut_mark ms size n k floor there is (slice_get_within (marks_cut ms size) k true is));
+  ordered = both.ordered;
+  there = omega (arith, both.end, below.there, long);
+})
+  where
+    long : length (marks_cut ms size) ≡ count
+    long = ap length (sym is) ∙ counted
+
+    at : (k : ℕ) → ((k < length (marks_cut ms size)) × (slice_get ms k ≡ Some true)) ⊎ ((n ≤ k) × (k < length (marks_cut ms size))) → IsIn t k
+    at k (inl was) = both.kept k (below.kept k (omega (arith, was.0, long)) (were.marked k was.1))
+    at k (inr lies) = both.added k lies.0 (omega (arith, lies.1, long))
+
+-- not marked any more
+pub cleaned_is : (s : Span) (ms : List Bool) → AreWithin s ms → over ms s.from (replicate (s.to - s.from) false) ≡ replicate (length ms) false
+cleaned_is s ms were = ext_get_or false (over ms s.from gone) (replicate (length ms) false) (same ∙ sym (length-replicate (length ms) false)) each
+  where
+    gone : List Bool
+    gone = replicate (s.to - s.from) false
+
+    end : s.from + length gone ≡ s.to
+    end = omega (arith, were.ordered, length-replicate {A = Bool} (s.to - s.from) false)
+
+    fits : s.from + length gone ≤ length ms
+    fits = omega (arith, were.there, end)
+
+    same : length (over ms s.from gone) ≡ length ms
+    same = length-over ms s.from gone fits
+
+    unmarked : (k : ℕ) → (IsIn s k → ⊥) → (b : Bool) → get_or ms k false ≡ b → b ≡ false
+    unmarked k out false is = refl
+    unmarked k out true is = absurd (out (were.marked k (mark_there ms k is)))
+
+    by : (k : ℕ) → (k < s.from) ⊎ (s.from ≤ k) → (k < s.to) ⊎ (s.to ≤ k) → get_or (over ms s.from gone) k false ≡ false
+    by k (inl less) _ = over-before ms gone s.from k false fits less ∙ unmarked k (λ h. omega (arith, h.0, less)) (get_or ms k false) refl
+    by k (inr from) (inl less) =
+        over-inside ms gone s.from k false fits from (omega (arith, less, end))
+        ∙ get_or-replicate (s.to - s.from) (k - s.from) false false (omega (arith, from, less))
+    by k (inr from) (inr past) = over-past ms gone s.from k false fits (omega (arith, past, end)) ∙ unmarked k (λ h. omega (arith, h.1, past)) (get_or ms k false) refl
+
+    each : (k : ℕ) → k < length (over ms s.from gone) → get_or (over ms s.from gone) k false ≡ get_or (replicate (length ms) false) k false
+    each k less = by k (cases_lt k s.from) (cases_lt k s.to) ∙ sym (get_or-replicate (length ms) k false false (omega (arith, less, same)))
+
+-- where nothing is marked
+pub clean_within : (n : ℕ) (new : List Bool) → new ≡ replicate n false → AreWithin (record { from = 0; to = 0 }) new
+clean_within n new is = record { marked = none; ordered = omega arith; there = omega arith }
+  where
+    none : (k : ℕ) → slice_get new k ≡ Some true → IsIn (record { from = 0; to = 0 }) k
+    none k here =
+        let there : slice_get (replicate n false) k ≡ Some true = ap (λ (ms : List Bool). slice_get ms k) (sym is) ∙ here in
+        let within : k < n = omega (arith, slice_get_within (replicate n false) k true there, length-replicate {A = Bool} n false) in
+        let e : true ≡ false = sym (get_or_from_slice_get (replicate n false) k true false there) ∙ get_or-replicate n k false false within in
+        absurd cc
