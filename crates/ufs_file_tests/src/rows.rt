@@ -45,6 +45,11 @@ impl Play {
         applied(&mut self.file, &mut self.pool, op, open_on(7))
     }
 
+    // What was written is on a disk.
+    fn clean(&mut self) {
+        self.file.clean();
+    }
+
     fn blocks(self) -> u32 {
         let Play { file, .. } = self;
         file.drop_blocks().block_count()
@@ -103,6 +108,32 @@ fn a_cut_gives_blocks_back_and_leaves_zeros_behind(rt: HostRuntime) {
     same(&rt, play.file.inode(), 3);
     same(&rt, play.file.extents().len(), 1);
     same(&rt, play.blocks(), 2);
+}
+
+#[test]
+fn dirty_blocks_lie_in_a_range_that_a_clean_empties(rt: HostRuntime) {
+    let mut play = Play::start(rt.alloc(), 10).expect(&rt, "memory");
+    let op = Op::Trunc {
+        fd: 3,
+        size: 40_960,
+    };
+    let reply = play.applied(op);
+    holds(&rt, is_done(reply));
+    same(&rt, play.file.dirty_places(), 0..10);
+    play.clean();
+    holds(&rt, play.file.dirty_places().is_empty());
+    for at in [28_672, 8_192] {
+        let op = Op::Pwrite {
+            fd: 3,
+            bytes: filled(&rt, 97, 1),
+            at,
+        };
+        let reply = play.applied(op);
+        holds(&rt, is_count(reply, 1));
+    }
+    same(&rt, play.file.dirty_places(), 2..8);
+    play.clean();
+    holds(&rt, play.file.dirty_places().is_empty());
 }
 
 #[test]
