@@ -20,3 +20,4 @@ pub mod Finished
 pub mod Moved
 pub mod Ends
 mod Reread
+mod Rewritten

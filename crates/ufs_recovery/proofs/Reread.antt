@@ -1,6 +1,6 @@
 -- What was read of a disk may be written back behind the reading.
 use Rattle.std.proofs.Common.{◌≡◌, ℕ, Bool, None, sym, subst}
-use Rattle.std.specs.Prelude.{Result, Ok}
+use Rattle.std.specs.Prelude.{Ok}
 use Rattle.ufs_base.specs.Images.{Image}
 use Rattle.ufs_catalog.specs.Reading.{IsReadOnly}
 use Rattle.ufs_damage.specs.Findings.{AreFindingsOf, CatalogRead}
@@ -25,24 +25,23 @@ pub record IsReadWhole (sectors : ℕ) (image : Image) (v : FoldedVolume) (findi
   pub found : AreFindingsOf v.superblock.geometry (folded_image v image) findings
   pub whole : bad_tree v.superblock.geometry (folded_image v image) ≡ None
 
-module _ (keeps : Bool) (sectors now : ℕ) (same : now ≡ sectors) (old mid : Moments) (read : IsReadOnly keeps old mid) (proper : IsProperDisk sectors old.state)
+module _ (keeps : Bool) (sectors now : ℕ) (same : now ≡ sectors) (old mid new : Moments) (read : IsReadOnly keeps old mid)
     (v : FoldedVolume) (findings : CatalogRead) (is : IsReadWhole sectors (reads old) v findings) where
-  pub settled_behind : IsSettled mid.state
-  settled_behind = still_settled keeps old mid read proper.settled
+  behind : {X : Type 0} → (IsSettled mid.state → MayWriteBack now (reads mid) v findings → X) → IsProperDisk sectors old.state → X
+  behind leads proper = leads (still_settled keeps old mid read proper.settled)
+      (subst (λ n. MayWriteBack n (reads mid) v findings) (sym same) (subst (λ (d : Image). MayWriteBack sectors d v findings) (sym read.content)
+      (may_write_back sectors (reads old) v is.taken findings is.added is.found is.whole proper.proper)))
 
-  pub may_behind : MayWriteBack now (reads mid) v findings
-  may_behind =
-      subst (λ n. MayWriteBack n (reads mid) v findings) (sym same) (subst (λ (d : Image). MayWriteBack sectors d v findings) (sym read.content)
-      (may_write_back sectors (reads old) v is.taken findings is.added is.found is.whole proper.proper))
+  pub kept_behind : (IsSettled mid.state → MayWriteBack now (reads mid) v findings → KeepsTree keeps now mid new) → IsProperDisk sectors old.state → KeepsTree keeps sectors old new
+  kept_behind leads proper =
+      kept_on keeps sectors old mid new (keeps_settled keeps sectors old mid proper.settled read.crash) (subst (λ n. KeepsTree keeps n mid new) same (behind leads proper))
 
-  pub kept_behind : (new : Moments) → KeepsTree keeps now mid new → KeepsTree keeps sectors old new
-  kept_behind new kept = kept_on keeps sectors old mid new (keeps_settled keeps sectors old mid proper.settled read.crash) (subst (λ n. KeepsTree keeps n mid new) same kept)
+  module _ (written : IsSettled mid.state → MayWriteBack now (reads mid) v findings → IsWrittenBack now v.superblock.superblock v.highest (reads new)) (proper : IsProperDisk sectors old.state) where
+    written_here : IsWrittenBack sectors v.superblock.superblock v.highest (reads new)
+    written_here = subst (λ n. IsWrittenBack n v.superblock.superblock v.highest (reads new)) same (behind written proper)
 
-  written_here : (new : Moments) → IsWrittenBack now v.superblock.superblock v.highest (reads new) → IsWrittenBack sectors v.superblock.superblock v.highest (reads new)
-  written_here new written = subst (λ n. IsWrittenBack n v.superblock.superblock v.highest (reads new)) same written
+    pub clean_behind : IsSettled new.state → IsCleanDisk sectors new.state
+    clean_behind settled = is_clean sectors new.state v.superblock.superblock v.highest settled written_here
 
-  pub clean_behind : (new : Moments) → IsSettled new.state → IsWrittenBack now v.superblock.superblock v.highest (reads new) → IsCleanDisk sectors new.state
-  clean_behind new settled written = is_clean sectors new.state v.superblock.superblock v.highest settled (written_here new written)
-
-  pub recovered_behind : (new : Moments) → IsWrittenBack now v.superblock.superblock v.highest (reads new) → IsRecovered (reads old) (reads new)
-  recovered_behind new written = is_recovered sectors (reads old) v is.taken is.highest (reads new) (written_here new written)
+    pub recovered_behind : IsRecovered (reads old) (reads new)
+    recovered_behind = is_recovered sectors (reads old) v is.taken is.highest (reads new) written_here

@@ -1,7 +1,8 @@
 ghost use Rattle.std.specs.Prelude.{ℕ, ◌≡◌, ◌≤◌, ◌<◌, ◌+◌, ◌*◌, ◌^◌, length, IsTrue, IfErr, OnOk};
 ghost use Rattle.std.specs.Int.{bit_at};
 ghost use Rattle.ufs_base.specs.Faults.{HasCause};
-ghost use Rattle.ufs_disk.specs.Disk.{IsSettled};
+ghost use Rattle.ufs_catalog.specs.Reading.{IsReadOnly};
+ghost use Rattle.ufs_disk.specs.Disk.{IsPartlyWritten, IsSettled, bytes_from, overwritten};
 ghost use Rattle.ufs_disk.specs.Moments.{LeavesOnly, reads};
 ghost use Rattle.ufs_layout.specs.Areas.{IsGeometry, bitmap_blocks, sector_count};
 ghost use Rattle.ufs_layout.specs.declared.geometry.TheConstants.{BLOCK_BITS};
@@ -36,7 +37,25 @@ fn fill_bits(bytes: &mut [u8], taken: &TakenBlocks, first: u32)
     }
 }
 
-// Writes the bitmap, and waits until it is on the disk for good.
+// Gives a block of the bitmap these bytes. Where the disk has them there, it is only read.
+fn put_bits<D: Disk>(disk: &mut D, block: u32, bytes: &[u8; BLOCK]) -> Result<(), Fault>
+    requires { 8 * block + 8 ≤ D.size disk.old }
+    ensures written { IsTrue D.visible → OnOk result (reads (D.moments disk.new) ≡ overwritten (8 * block) bytes.now (reads (D.moments disk.old))) }
+    ensures crash { IsTrue D.visible → LeavesOnly D.keeps (IsPartlyWritten (8 * block) bytes.now (D.moments disk.old).state) (D.moments disk.old) (D.moments disk.new) }
+    ensures quiet { IsTrue D.visible → bytes_from (reads (D.moments disk.old)) (8 * block) 8 ≡ bytes.now → IsReadOnly D.keeps (D.moments disk.old) (D.moments disk.new) }
+    ensures size { D.size disk.new ≡ D.size disk.old }
+    ensures cause { HasCause (D.faults disk.old) (D.faults disk.new) result }
+    ensures number { IfErr result (λ fault. fault.number ≡ D.faults disk.new) }
+{
+    let mut found = [0; BLOCK];
+    disk.read(8 * block, &mut found)?;
+    if found == *bytes {
+        return Ok(());
+    }
+    disk.write(8 * block, bytes)
+}
+
+// Writes what differs in the bitmap, and waits until it is on the disk for good.
 pub(crate) fn write_bitmap<D: Disk>(
     disk: &mut D,
     geometry: &Geometry,
@@ -57,7 +76,7 @@ pub(crate) fn write_bitmap<D: Disk>(
     let mut bytes = [0; BLOCK];
     for place in 0..count {
         fill_bits(&mut bytes, taken, 8 * BLOCK as u32 * place);
-        disk.write(8 * (first + place), &bytes)?;
+        put_bits(disk, first + place, &bytes)?;
     }
     disk.barrier()
 }

@@ -54,7 +54,7 @@ fn finish<D: Disk>(
 }
 
 // Makes an image in use clean: writes home what is committed, begins the next epoch, frees the orphans, cuts the files
-// with blocks too many, writes the bitmap and marks the image clean, each behind a barrier.
+// with blocks too many, writes what differs in the bitmap and marks the image clean, each behind a barrier.
 pub(crate) fn write_back<D: Disk>(
     alloc: Global,
     disk: &mut D,

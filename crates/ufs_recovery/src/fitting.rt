@@ -101,10 +101,7 @@ fn fit_at<D: Disk>(
     if !has_extra(form) {
         return Ok(());
     }
-    match put_fitted(alloc, disk, geometry, place, form) {
-        Ok(()) => Ok(()),
-        Err(fault) => Err(fault),
-    }
+    put_fitted(alloc, disk, geometry, place, form)
 }
 
 // Cuts the files that have blocks which their sizes don't need, one after the other, each behind a barrier. These are

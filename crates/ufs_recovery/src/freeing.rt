@@ -60,10 +60,7 @@ fn read_used_blocks<D: Disk>(
     ensures outside { IfErr result IsOutside }
 {
     let findings = read_again(alloc, disk, geometry)?;
-    match used_blocks(alloc, geometry, &findings) {
-        Ok(taken) => Ok(taken),
-        Err(fault) => Err(fault),
-    }
+    used_blocks(alloc, geometry, &findings)
 }
 
 fn prune_or_fault<D: Disk>(
@@ -135,10 +132,7 @@ fn fit_files<D: Disk>(
         return used_blocks(alloc, geometry, findings);
     }
     fit(alloc, disk, geometry, findings.forms())?;
-    match read_used_blocks(alloc, disk, geometry) {
-        Ok(taken) => Ok(taken),
-        Err(fault) => Err(fault),
-    }
+    read_used_blocks(alloc, disk, geometry)
 }
 
 // Frees the orphans and cuts the files with blocks too many, if there are any, and answers the used blocks of the
@@ -166,15 +160,9 @@ pub(crate) fn tidy<D: Disk>(
     ensures outside { IfErr result IsOutside }
 {
     if has_none(&orphans.numbers) {
-        return match fit_files(alloc, disk, geometry, findings) {
-            Ok(taken) => Ok(taken),
-            Err(fault) => Err(fault),
-        };
+        return fit_files(alloc, disk, geometry, findings);
     }
     prune_or_fault(disk, geometry, orphans)?;
     let found = read_again(alloc, disk, geometry)?;
-    match fit_files(alloc, disk, geometry, &found) {
-        Ok(taken) => Ok(taken),
-        Err(fault) => Err(fault),
-    }
+    fit_files(alloc, disk, geometry, &found)
 }

@@ -17,11 +17,11 @@ use ufs_opening::open;
 
 /// Makes the image on a disk clean, and answers how many transactions are committed in its journal. A clean image
 /// isn't written. Otherwise, each step behind a barrier: what is committed is written home, the next epoch begins,
-/// inodes without a name are freed, files with more blocks than their sizes need are cut, the bitmap is written, and
-/// the image is marked clean. Whatever stops it, the image stands for the same tree and may be recovered again. Reads
-/// what `open` reads; where inodes are freed, the inode table and the directories are read once more, and so where
-/// files are cut. A fault of the disk ends it. Where the epochs or the commit numbers end, it is refused as by want of
-/// memory.
+/// inodes without a name are freed, files with more blocks than their sizes need are cut, the blocks of the bitmap that
+/// differ are written, and the image is marked clean. Whatever stops it, the image stands for the same tree and may be
+/// recovered again. Reads what `open` reads, and the bitmap; where inodes are freed, the inode table and the directories
+/// are read once more, and so where files are cut. A fault of the disk ends it. Where the epochs or the commit numbers
+/// end, it is refused as by want of memory.
 pub fn recover<D: Disk>(alloc: Global, disk: &mut D) -> Result<u32, RecoverFault>
     ensures found { IsTrue D.visible → IfOk result (λ count. count ≡ length (log_of (reads (D.moments disk.old)))) }
     ensures clean { IsTrue D.visible → OnOk result (IsProperDisk (D.size disk.old) (D.moments disk.old).state → IsCleanDisk (D.size disk.old) (D.moments disk.new).state) }

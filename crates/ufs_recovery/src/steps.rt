@@ -41,7 +41,7 @@ pub(crate) fn begin<D: Disk>(
     put_superblock(disk, superblock)
 }
 
-// Writes the bitmap, and then marks the image clean.
+// Writes what differs in the bitmap, and then marks the image clean.
 pub(crate) fn close<D: Disk>(
     disk: &mut D,
     geometry: &Geometry,

@@ -34,8 +34,5 @@ pub fn free_unneeded<D: Disk>(alloc: Global, disk: &mut D) -> Result<(), Recover
     ensures cause { IfErr result (HasFaultCause (D.faults disk.old) (D.faults disk.new)) }
 {
     let opened = open(alloc, disk)?;
-    match write_back(alloc, disk, &opened.volume, &opened.findings) {
-        Ok(()) => Ok(()),
-        Err(fault) => Err(fault),
-    }
+    write_back(alloc, disk, &opened.volume, &opened.findings)
 }

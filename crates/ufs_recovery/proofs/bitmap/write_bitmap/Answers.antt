@@ -17,14 +17,14 @@ loop-place-init g c = record {
   faults = refl;
 }
 
-pub returns-in_err-write-clause-crash : goal.returns-in_err-write-clause-crash
-returns-in_err-write-clause-crash g c visible =
+pub returns-in_err-put_bits-clause-crash : goal.returns-in_err-put_bits-clause-crash
+returns-in_err-put_bits-clause-crash g c visible =
     let block = c.first_of_inodes.result - c.bitmap_blocks-count.result + c.loop-place.place in
     let inodes = c.first_of_inodes.ensures in
     let count = c.bitmap_blocks-count.ensures in
     let less = c.loop-place-test.true in
     let at : block ≡ 1 + c.loop-place.place = omega (arith, inodes, count) in
-    any_on c.args.geometry.now c.args.taken.now c.loop-place.place block at (omega (arith, less, count)) c.fill_bits.new.bytes (omega arith) c.fill_bits.ensures _ _ _ _ (c.loop-place.invariant.crash visible) (c.write.ensures.crash visible)
+    any_on c.args.geometry.now c.args.taken.now c.loop-place.place block at (omega (arith, less, count)) c.fill_bits.new.bytes (omega arith) c.fill_bits.ensures _ _ _ _ (c.loop-place.invariant.crash visible) (c.put_bits.ensures.crash visible)
 
 pub loop-place-preserved : goal.loop-place-preserved
 loop-place-preserved g c =
@@ -37,11 +37,11 @@ loop-place-preserved g c =
     let within : c.loop-place.place < bitmap_blocks c.args.geometry.now = omega (arith, less, count) in
     let sized : length c.fill_bits.new.bytes ≡ 4096 = omega arith in
     record {
-      marked = λ visible. marked_on c.args.geometry.now c.args.taken.now c.loop-place.place block at within c.fill_bits.new.bytes sized c.fill_bits.ensures _ _ (c.in_ok-write.ensures.ok visible) (i.marked visible);
-      others = λ visible. agrees_on c.args.geometry.now c.args.taken.now c.loop-place.place block at within c.fill_bits.new.bytes sized c.fill_bits.ensures _ _ _ (c.in_ok-write.ensures.ok visible) (i.others visible);
-      crash = λ visible. any_on c.args.geometry.now c.args.taken.now c.loop-place.place block at within c.fill_bits.new.bytes sized c.fill_bits.ensures _ _ _ _ (i.crash visible) (c.write.ensures.crash visible);
-      size = c.write.ensures.size ∙ i.size;
-      faults = c.in_ok-write.ensures.cause.passed ∙ i.faults;
+      marked = λ visible. marked_on c.args.geometry.now c.args.taken.now c.loop-place.place block at within c.fill_bits.new.bytes sized c.fill_bits.ensures _ _ (c.in_ok-put_bits.ensures.written visible) (i.marked visible);
+      others = λ visible. agrees_on c.args.geometry.now c.args.taken.now c.loop-place.place block at within c.fill_bits.new.bytes sized c.fill_bits.ensures _ _ _ (c.in_ok-put_bits.ensures.written visible) (i.others visible);
+      crash = λ visible. any_on c.args.geometry.now c.args.taken.now c.loop-place.place block at within c.fill_bits.new.bytes sized c.fill_bits.ensures _ _ _ _ (i.crash visible) (c.put_bits.ensures.crash visible);
+      size = c.put_bits.ensures.size ∙ i.size;
+      faults = c.in_ok-put_bits.ensures.cause.passed ∙ i.faults;
     }
 
 pub returns-clause-marked : goal.returns-clause-marked

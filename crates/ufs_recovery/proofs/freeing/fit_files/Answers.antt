@@ -1,4 +1,5 @@
 use Rattle.std.proofs.Common.{List, Option, sym, subst}
+use Rattle.std.proofs.lemmas.Result.{IfOk-weaker}
 use Rattle.ufs_base.specs.Images.{Image}
 use Rattle.ufs_damage.specs.Taken.{AreTaken}
 use Rattle.ufs_disk.specs.Moments.{reads}
@@ -19,30 +20,25 @@ returns-then-are_fitted-clause-fitted g c visible = always_ok c.used_blocks.resu
 pub returns-then-are_fitted-clause-tree : goal.returns-then-are_fitted-clause-tree
 returns-then-are_fitted-clause-tree g c visible settled superblock may = started _ _ _ (still_opens (g.D.Disk.size c.args.disk.now) (g.D.Disk.moments c.args.disk.now).state settled)
 
-pub returns-in-Ok-clause-settled : goal.returns-in-Ok-clause-settled
-returns-in-Ok-clause-settled g c visible settled = still_settled _ _ _ (c.in-Ok.ensures.read_only visible) (c.in_ok-fit.ensures.settled visible settled)
+pub returns-clause-settled : goal.returns-clause-settled
+returns-clause-settled g c visible settled =
+    always_ok c.read_used_blocks.result (still_settled _ _ _ (c.read_used_blocks.ensures.read_only visible) (c.in_ok-fit.ensures.settled visible settled))
 
-pub returns-in-Ok-clause-fitted : goal.returns-in-Ok-clause-fitted
-returns-in-Ok-clause-fitted g c visible superblock may =
+pub returns-clause-fitted : goal.returns-clause-fitted
+returns-clause-fitted g c visible = always_ok c.read_used_blocks.result (λ superblock may.
     let size = g.D.Disk.size c.args.disk.now in
     let first = reads (g.D.Disk.moments c.args.disk.now) in
-    subst (HasFitted size superblock first) (sym (c.in-Ok.ensures.read_only visible).content)
-    (c.in_ok-fit.ensures.fitted visible superblock (subst (λ (fs : List (Option InodeForm)). MayFit size superblock first c.args.geometry.now fs) (sym c.forms-2.ensures) may))
+    subst (HasFitted size superblock first) (sym (c.read_used_blocks.ensures.read_only visible).content)
+    (c.in_ok-fit.ensures.fitted visible superblock (subst (λ (fs : List (Option InodeForm)). MayFit size superblock first c.args.geometry.now fs) (sym c.forms-2.ensures) may)))
 
-pub returns-in-Ok-clause-taken : goal.returns-in-Ok-clause-taken
-returns-in-Ok-clause-taken g c visible read =
-    subst (λ (d : Image). AreTaken c.args.geometry.now (sound_nodes c.args.geometry.now d) c.in-Ok.taken) (sym (c.in-Ok.ensures.read_only visible).content) (c.in-Ok.ensures.taken visible)
+pub returns-clause-taken : goal.returns-clause-taken
+returns-clause-taken g c visible = IfOk-weaker c.read_used_blocks.result _ _
+    (λ t are read. subst (λ (d : Image). AreTaken c.args.geometry.now (sound_nodes c.args.geometry.now d) t) (sym (c.read_used_blocks.ensures.read_only visible).content) are)
+    (c.read_used_blocks.ensures.taken visible)
 
-pub returns-in-Ok-clause-tree : goal.returns-in-Ok-clause-tree
-returns-in-Ok-clause-tree g c visible settled superblock may =
-    let size = g.D.Disk.size c.args.disk.now in
-    let first = reads (g.D.Disk.moments c.args.disk.now) in
-    kept_quietly _ size _ _ _
-    (c.fit.ensures.tree visible settled superblock (subst (λ (fs : List (Option InodeForm)). MayFit size superblock first c.args.geometry.now fs) (sym c.forms-2.ensures) may)) (c.in-Ok.ensures.read_only visible).crash
-
-pub returns-in-Err-clause-tree : goal.returns-in-Err-clause-tree
-returns-in-Err-clause-tree g c visible settled superblock may =
+pub returns-clause-tree : goal.returns-clause-tree
+returns-clause-tree g c visible settled superblock may =
     let size = g.D.Disk.size c.args.disk.now in
     let first = reads (g.D.Disk.moments c.args.disk.now) in
     kept_quietly _ size _ _ _
-    (c.fit.ensures.tree visible settled superblock (subst (λ (fs : List (Option InodeForm)). MayFit size superblock first c.args.geometry.now fs) (sym c.forms-2.ensures) may)) (c.in-Err.ensures.read_only visible).crash
+    (c.fit.ensures.tree visible settled superblock (subst (λ (fs : List (Option InodeForm)). MayFit size superblock first c.args.geometry.now fs) (sym c.forms-2.ensures) may)) (c.read_used_blocks.ensures.read_only visible).crash

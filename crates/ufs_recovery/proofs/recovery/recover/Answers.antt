@@ -6,10 +6,9 @@ use Rattle.ufs_image.specs.Proper.{IsProperImage}
 use Rattle.ufs_image.specs.Volume.{superblock_of}
 use Rattle.ufs_layout.specs.declared.records.Committed.{Committed}
 use Rattle.ufs_layout.specs.declared.superblock.Super.{Super}
-use Rattle.ufs_recovery.specs.Finished.{MayWriteBack, IsWrittenBack}
-use Rattle.ufs_recovery.specs.Home.{KeepsTree}
-use Rattle.ufs_recovery.proofs.Ends.{superblock_same, is_clean, is_recovered, log_same, may_write_back, none_in_clean, only_outside, opens_not, opens_there}
-use Rattle.ufs_recovery.proofs.SuperblockPut.{keeps_settled, kept_on, still_settled}
+use Rattle.ufs_recovery.proofs.Ends.{superblock_same, log_same, none_in_clean, only_outside, opens_not, opens_there}
+use Rattle.ufs_recovery.proofs.Reread.{IsReadWhole, clean_behind, kept_behind, recovered_behind}
+use Rattle.ufs_recovery.proofs.SuperblockPut.{keeps_settled, still_settled}
 use Rattle.ufs_recovery.proofs.recovery.recover.Goals as goal
 
 pub returns-in_err-opened-clause-tree : goal.returns-in_err-opened-clause-tree
@@ -71,50 +70,24 @@ returns-in-Ok-clause-found g c visible =
 
 pub returns-in-Ok-clause-clean : goal.returns-in-Ok-clause-clean
 returns-in-Ok-clause-clean g c visible proper =
-    let size = g.D.Disk.size c.args.disk.now in
-    let old = g.D.Disk.moments c.args.disk.now in
-    let image = reads (g.D.Disk.moments c.args.disk.now) in
-    let v = c.in_ok-opened.opened.volume in
-    let is = c.in_ok-opened.ensures.taken visible in
-    let mid = g.D.Disk.moments c.open.new.disk in
-    let settled = still_settled g.D.Disk.keeps old mid (c.open.ensures.read_only visible) proper.settled in
-    let can : MayWriteBack size image v c.in_ok-opened.opened.findings = may_write_back size image v is c.in_ok-opened.opened.findings (c.in_ok-opened.ensures.added visible) (c.in_ok-opened.ensures.found visible) (c.in_ok-opened.ensures.whole visible) proper.proper in
-    let can_mid : MayWriteBack (g.D.Disk.size c.open.new.disk) (reads mid) v c.in_ok-opened.opened.findings =
-    subst (λ n. MayWriteBack n (reads mid) v c.in_ok-opened.opened.findings) (sym c.open.ensures.size) (subst (λ (d : Image). MayWriteBack size d v c.in_ok-opened.opened.findings) (sym (c.open.ensures.read_only visible).content) can) in
-    let written : IsWrittenBack size v.superblock.superblock v.highest (reads (g.D.Disk.moments c.write_back.new.disk)) =
-    subst (λ n. IsWrittenBack n v.superblock.superblock v.highest (reads (g.D.Disk.moments c.write_back.new.disk))) c.open.ensures.size (c.in-Ok.ensures.written visible settled can_mid) in
-    is_clean size (g.D.Disk.moments c.write_back.new.disk).state v.superblock.superblock v.highest (c.in-Ok.ensures.settled visible) written
+    let here = c.in_ok-opened.ensures in
+    let is : IsReadWhole (g.D.Disk.size c.args.disk.now) (reads (g.D.Disk.moments c.args.disk.now)) c.in_ok-opened.opened.volume c.in_ok-opened.opened.findings =
+    record { taken = here.taken visible; added = here.added visible; highest = here.highest visible; found = here.found visible; whole = here.whole visible } in
+    clean_behind _ _ _ c.open.ensures.size (g.D.Disk.moments c.args.disk.now) (g.D.Disk.moments c.open.new.disk) (g.D.Disk.moments c.write_back.new.disk) (c.open.ensures.read_only visible) _ _ is (c.in-Ok.ensures.written visible) proper (c.in-Ok.ensures.settled visible)
 
 pub returns-in-Ok-clause-tree : goal.returns-in-Ok-clause-tree
-returns-in-Ok-clause-tree g c visible proper =
-    let size = g.D.Disk.size c.args.disk.now in
-    let old = g.D.Disk.moments c.args.disk.now in
-    let image = reads (g.D.Disk.moments c.args.disk.now) in
-    let v = c.in_ok-opened.opened.volume in
-    let is = c.in_ok-opened.ensures.taken visible in
-    let mid = g.D.Disk.moments c.open.new.disk in
-    let settled = still_settled g.D.Disk.keeps old mid (c.open.ensures.read_only visible) proper.settled in
-    let can : MayWriteBack size image v c.in_ok-opened.opened.findings = may_write_back size image v is c.in_ok-opened.opened.findings (c.in_ok-opened.ensures.added visible) (c.in_ok-opened.ensures.found visible) (c.in_ok-opened.ensures.whole visible) proper.proper in
-    let can_mid : MayWriteBack (g.D.Disk.size c.open.new.disk) (reads mid) v c.in_ok-opened.opened.findings =
-    subst (λ n. MayWriteBack n (reads mid) v c.in_ok-opened.opened.findings) (sym c.open.ensures.size) (subst (λ (d : Image). MayWriteBack size d v c.in_ok-opened.opened.findings) (sym (c.open.ensures.read_only visible).content) can) in
-    kept_on g.D.Disk.keeps size old mid (g.D.Disk.moments c.write_back.new.disk) (keeps_settled g.D.Disk.keeps size old mid proper.settled (c.open.ensures.read_only visible).crash)
-    (subst (λ n. KeepsTree g.D.Disk.keeps n mid (g.D.Disk.moments c.write_back.new.disk)) c.open.ensures.size (c.write_back.ensures.tree visible settled can_mid))
+returns-in-Ok-clause-tree g c visible =
+    let here = c.in_ok-opened.ensures in
+    let is : IsReadWhole (g.D.Disk.size c.args.disk.now) (reads (g.D.Disk.moments c.args.disk.now)) c.in_ok-opened.opened.volume c.in_ok-opened.opened.findings =
+    record { taken = here.taken visible; added = here.added visible; highest = here.highest visible; found = here.found visible; whole = here.whole visible } in
+    kept_behind _ _ _ c.open.ensures.size (g.D.Disk.moments c.args.disk.now) (g.D.Disk.moments c.open.new.disk) (g.D.Disk.moments c.write_back.new.disk) (c.open.ensures.read_only visible) _ _ is (c.write_back.ensures.tree visible)
 
 pub returns-in-Ok-clause-recovered : goal.returns-in-Ok-clause-recovered
 returns-in-Ok-clause-recovered g c visible proper used =
-    let size = g.D.Disk.size c.args.disk.now in
-    let old = g.D.Disk.moments c.args.disk.now in
-    let image = reads (g.D.Disk.moments c.args.disk.now) in
-    let v = c.in_ok-opened.opened.volume in
-    let is = c.in_ok-opened.ensures.taken visible in
-    let mid = g.D.Disk.moments c.open.new.disk in
-    let settled = still_settled g.D.Disk.keeps old mid (c.open.ensures.read_only visible) proper.settled in
-    let can : MayWriteBack size image v c.in_ok-opened.opened.findings = may_write_back size image v is c.in_ok-opened.opened.findings (c.in_ok-opened.ensures.added visible) (c.in_ok-opened.ensures.found visible) (c.in_ok-opened.ensures.whole visible) proper.proper in
-    let can_mid : MayWriteBack (g.D.Disk.size c.open.new.disk) (reads mid) v c.in_ok-opened.opened.findings =
-    subst (λ n. MayWriteBack n (reads mid) v c.in_ok-opened.opened.findings) (sym c.open.ensures.size) (subst (λ (d : Image). MayWriteBack size d v c.in_ok-opened.opened.findings) (sym (c.open.ensures.read_only visible).content) can) in
-    let written : IsWrittenBack size v.superblock.superblock v.highest (reads (g.D.Disk.moments c.write_back.new.disk)) =
-    subst (λ n. IsWrittenBack n v.superblock.superblock v.highest (reads (g.D.Disk.moments c.write_back.new.disk))) c.open.ensures.size (c.in-Ok.ensures.written visible settled can_mid) in
-    is_recovered size image v is (c.in_ok-opened.ensures.highest visible) (reads (g.D.Disk.moments c.write_back.new.disk)) written
+    let here = c.in_ok-opened.ensures in
+    let is : IsReadWhole (g.D.Disk.size c.args.disk.now) (reads (g.D.Disk.moments c.args.disk.now)) c.in_ok-opened.opened.volume c.in_ok-opened.opened.findings =
+    record { taken = here.taken visible; added = here.added visible; highest = here.highest visible; found = here.found visible; whole = here.whole visible } in
+    recovered_behind _ _ _ c.open.ensures.size (g.D.Disk.moments c.args.disk.now) (g.D.Disk.moments c.open.new.disk) (g.D.Disk.moments c.write_back.new.disk) (c.open.ensures.read_only visible) _ _ is (c.in-Ok.ensures.written visible) proper
 
 pub returns-in-Ok-clause-quiet : goal.returns-in-Ok-clause-quiet
 returns-in-Ok-clause-quiet g c visible clean =
@@ -127,19 +100,11 @@ returns-in-Ok-clause-quiet g c visible clean =
     absurd (grind (arith, isnt))
 
 pub returns-clause-tree : goal.returns-clause-tree
-returns-clause-tree g c visible proper =
-    let size = g.D.Disk.size c.args.disk.now in
-    let old = g.D.Disk.moments c.args.disk.now in
-    let image = reads (g.D.Disk.moments c.args.disk.now) in
-    let v = c.in_ok-opened.opened.volume in
-    let is = c.in_ok-opened.ensures.taken visible in
-    let mid = g.D.Disk.moments c.open.new.disk in
-    let settled = still_settled g.D.Disk.keeps old mid (c.open.ensures.read_only visible) proper.settled in
-    let can : MayWriteBack size image v c.in_ok-opened.opened.findings = may_write_back size image v is c.in_ok-opened.opened.findings (c.in_ok-opened.ensures.added visible) (c.in_ok-opened.ensures.found visible) (c.in_ok-opened.ensures.whole visible) proper.proper in
-    let can_mid : MayWriteBack (g.D.Disk.size c.open.new.disk) (reads mid) v c.in_ok-opened.opened.findings =
-    subst (λ n. MayWriteBack n (reads mid) v c.in_ok-opened.opened.findings) (sym c.open.ensures.size) (subst (λ (d : Image). MayWriteBack size d v c.in_ok-opened.opened.findings) (sym (c.open.ensures.read_only visible).content) can) in
-    kept_on g.D.Disk.keeps size old mid (g.D.Disk.moments c.write_back.new.disk) (keeps_settled g.D.Disk.keeps size old mid proper.settled (c.open.ensures.read_only visible).crash)
-    (subst (λ n. KeepsTree g.D.Disk.keeps n mid (g.D.Disk.moments c.write_back.new.disk)) c.open.ensures.size (c.write_back.ensures.tree visible settled can_mid))
+returns-clause-tree g c visible =
+    let here = c.in_ok-opened.ensures in
+    let is : IsReadWhole (g.D.Disk.size c.args.disk.now) (reads (g.D.Disk.moments c.args.disk.now)) c.in_ok-opened.opened.volume c.in_ok-opened.opened.findings =
+    record { taken = here.taken visible; added = here.added visible; highest = here.highest visible; found = here.found visible; whole = here.whole visible } in
+    kept_behind _ _ _ c.open.ensures.size (g.D.Disk.moments c.args.disk.now) (g.D.Disk.moments c.open.new.disk) (g.D.Disk.moments c.write_back.new.disk) (c.open.ensures.read_only visible) _ _ is (c.write_back.ensures.tree visible)
 
 pub returns-clause-quiet : goal.returns-clause-quiet
 returns-clause-quiet g c visible clean =
