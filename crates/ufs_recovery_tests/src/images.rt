@@ -1,6 +1,7 @@
 // An image in use of 64 blocks, 16 inodes and 64 journal sectors on 512 sectors. Its journal has the birth of `/f`, a
 // file of five bytes, committed and not home. Inodes 3 and 4 are directories that name each other, and no other name
-// stands for them. And one of the same size with nothing in the journal, in which `/f` has a block too many.
+// stands for them. And two of the same size with nothing in the journal: in one `/f` has a block too many, the other has
+// the root alone.
 use std::alloc::Global;
 use ufs_base::SECTOR;
 use ufs_disk::PlainDisk;
@@ -86,5 +87,13 @@ pub fn image_with_extra(alloc: Global) -> Option<Vec<u8>> {
     let mut bytes = new_bytes(alloc)?;
     put(&mut bytes, 0, 40, &[0]);
     put_file(&mut bytes);
+    Some(bytes)
+}
+
+/// The bytes of the image with the root alone. The bitmap has this byte for the blocks from 56 on, which are free.
+pub fn image_marked(alloc: Global, marks: u8) -> Option<Vec<u8>> {
+    let mut bytes = new_bytes(alloc)?;
+    put(&mut bytes, 0, 40, &[0]);
+    put(&mut bytes, 8, 7, &[marks]);
     Some(bytes)
 }
