@@ -1,5 +1,5 @@
 -- Images in which all that is committed is home, and what they become.
-use Rattle.std.proofs.Common.{◌≡◌, ℕ, ◌<◌, ◌≤◌, List, Bool, true, false, Some, ap, sym, ◌∙◌, subst, arith}
+use Rattle.std.proofs.Common.{◌≡◌, ℕ, ◌<◌, ◌≤◌, List, true, false, Some, ap, sym, ◌∙◌, subst, arith}
 use Rattle.std.specs.Prelude.{Ok}
 use Rattle.std.specs.List.{slice_get}
 use Rattle.ufs_base.specs.Images.{Image}

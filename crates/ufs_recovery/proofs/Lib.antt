@@ -21,3 +21,4 @@ pub mod Moved
 pub mod Ends
 mod Reread
 mod Rewritten
+mod Done

@@ -8,6 +8,7 @@ ghost use Rattle.ufs_layout.specs.Superblock.{is_super};
 ghost use Rattle.ufs_recovery.specs.Finished.{HasFinished, IsWrittenBack, MayFinish, MayWriteBack};
 ghost use Rattle.ufs_recovery.specs.Home.{KeepsTree};
 
+use crate::faults::of_device;
 use crate::freeing::tidy;
 use crate::plan::{Plan, make_plan};
 use crate::steps::{begin, close};
@@ -45,12 +46,7 @@ fn finish<D: Disk>(
     ensures outside { IfErr result IsOutside }
 {
     let taken = tidy(alloc, disk, geometry, findings, &plan.orphans)?;
-    match close(disk, geometry, &taken, &plan.superblock) {
-        Ok(()) => Ok(()),
-        Err(fault) => Err(RecoverFault::Device {
-            fault: fault.number,
-        }),
-    }
+    of_device(close(disk, geometry, &taken, &plan.superblock))
 }
 
 // Makes an image in use clean: writes home what is committed, begins the next epoch, frees the orphans, cuts the files
@@ -76,10 +72,6 @@ pub(crate) fn write_back<D: Disk>(
     let Ok(plan) = make_plan(alloc, &volume.superblock, findings, volume.highest) else {
         return Err(RecoverFault::Memory);
     };
-    match begin(disk, &volume.overlay, &plan.superblock) {
-        Ok(()) => finish(alloc, disk, &volume.superblock.geometry, findings, &plan),
-        Err(fault) => Err(RecoverFault::Device {
-            fault: fault.number,
-        }),
-    }
+    of_device(begin(disk, &volume.overlay, &plan.superblock))?;
+    finish(alloc, disk, &volume.superblock.geometry, findings, &plan)
 }

@@ -12,6 +12,7 @@ ghost use Rattle.ufs_recovery.specs.Fitted.{GetsFitted, HasFormPut, IsFittedBelo
 ghost use Rattle.ufs_recovery.specs.Home.{KeepsTree};
 
 use crate::cutting::{fitted, has_extra, inode_sector};
+use crate::faults::of_device;
 use crate::sector::put_sector;
 use std::alloc::Global;
 use ufs_base::SECTORS_PER_BLOCK;
@@ -65,12 +66,7 @@ fn put_fitted<D: Disk>(
     let Ok(short) = fitted(alloc, form) else {
         return Err(RecoverFault::Memory);
     };
-    match put_form(disk, geometry, place, &short) {
-        Ok(()) => Ok(()),
-        Err(fault) => Err(RecoverFault::Device {
-            fault: fault.number,
-        }),
-    }
+    of_device(put_form(disk, geometry, place, &short))
 }
 
 // The inode at this place, if it is a file with a block too many, is cut.

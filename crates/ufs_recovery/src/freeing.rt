@@ -13,9 +13,10 @@ ghost use Rattle.ufs_layout.specs.declared.superblock.Super.{Super};
 ghost use Rattle.ufs_recovery.specs.Finished.{GetsTidy, KeepsTreeTidying};
 ghost use Rattle.ufs_recovery.specs.Fitted.{GetsFitted, MayFit};
 ghost use Rattle.ufs_recovery.specs.Home.{KeepsTree};
-ghost use Rattle.ufs_recovery.specs.Orphans.{AreFreed, IsReadOf, KeepsTreeFreeing};
+ghost use Rattle.ufs_recovery.specs.Orphans.{IsReadOf};
 
 use crate::cutting::are_fitted;
+use crate::faults::of_device;
 use crate::fitting::fit;
 use crate::orphans::has_none;
 use crate::pruning::{Orphans, prune};
@@ -61,31 +62,6 @@ fn read_used_blocks<D: Disk>(
 {
     let findings = read_again(alloc, disk, geometry)?;
     used_blocks(alloc, geometry, &findings)
-}
-
-fn prune_or_fault<D: Disk>(
-    disk: &mut D,
-    geometry: &Geometry,
-    orphans: &Orphans,
-) -> Result<(), RecoverFault>
-    requires geometry { IsGeometry geometry.now }
-    requires large { sector_count geometry.now ≤ D.size disk.old }
-    requires counted { length orphans.now.numbers.items ≡ geometry.now.inodes }
-    requires counted_dirs { length orphans.now.dirs.items ≡ geometry.now.inodes }
-    ensures settled { IsTrue D.visible → OnOk result (IsSettled (D.moments disk.new).state) }
-    ensures pruned { IsTrue D.visible → OnOk result (AreFreed (D.size disk.old) geometry.now orphans.now.numbers.items orphans.now.dirs.items (reads (D.moments disk.old)) (reads (D.moments disk.new))) }
-    ensures tree { IsTrue D.visible → KeepsTreeFreeing D.keeps (D.size disk.old) geometry.now orphans.now.numbers.items orphans.now.dirs.items (D.moments disk.old) (D.moments disk.new) }
-    ensures size { D.size disk.new ≡ D.size disk.old }
-    ensures passed { OnOk result (D.faults disk.new ≡ D.faults disk.old) }
-    ensures cause { IfErr result (HasFaultCause (D.faults disk.old) (D.faults disk.new)) }
-    ensures outside { IfErr result IsOutside }
-{
-    match prune(disk, geometry, orphans) {
-        Ok(()) => Ok(()),
-        Err(fault) => Err(RecoverFault::Device {
-            fault: fault.number,
-        }),
-    }
 }
 
 // What the disk has, where nothing is committed that isn't home.
@@ -162,7 +138,7 @@ pub(crate) fn tidy<D: Disk>(
     if has_none(&orphans.numbers) {
         return fit_files(alloc, disk, geometry, findings);
     }
-    prune_or_fault(disk, geometry, orphans)?;
+    of_device(prune(disk, geometry, orphans))?;
     let found = read_again(alloc, disk, geometry)?;
     fit_files(alloc, disk, geometry, &found)
 }

@@ -5,6 +5,7 @@ mod bitmap;
 mod bringing;
 mod clearing;
 mod cutting;
+mod faults;
 mod finishing;
 mod fitting;
 mod freeing;

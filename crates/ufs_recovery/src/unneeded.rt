@@ -17,8 +17,9 @@ use ufs_opening::open;
 
 /// Frees the inodes that no path names, and the blocks that a file has beyond its size, also on an image that is marked clean,
 /// and leaves it clean: by the steps of `recover` on an image in use. Neither a session nor a recovery leaves these on a clean
-/// image, but others may. Whatever stops it, the image stands for the same tree. Reads what `open` reads; where anything is
-/// freed, the inode table and the directories are read once more. A fault of the disk ends it. Where the epochs or the commit numbers end, it is refused as by want of memory.
+/// image, but others may. Whatever stops it, the image stands for the same tree. Reads what `open` reads, and the bitmap; where
+/// anything is freed, the inode table and the directories are read once more. A fault of the disk ends it. Where the epochs or
+/// the commit numbers end, it is refused as by want of memory.
 pub fn free_unneeded<D: Disk>(alloc: Global, disk: &mut D) -> Result<(), RecoverFault>
     ensures clean { IsTrue D.visible → OnOk result (IsProperDisk (D.size disk.old) (D.moments disk.old).state → IsCleanDisk (D.size disk.old) (D.moments disk.new).state) }
 

@@ -5,6 +5,7 @@ use Rattle.ufs_disk.proofs.Runs.{started}
 use Rattle.ufs_volume.specs.Volumes.{volume_in, folded_image}
 use Rattle.ufs_recovery.specs.Finished.{HasFinished, MayFinish}
 use Rattle.ufs_recovery.specs.Home.{HasBegun, KeepsTree}
+use Rattle.ufs_recovery.proofs.Done.{was_done}
 use Rattle.ufs_recovery.proofs.Finished.{is_written, may_finish, may_follow, over}
 use Rattle.ufs_recovery.proofs.SuperblockPut.{kept_on, still_opens}
 use Rattle.ufs_recovery.proofs.finishing.write_back.Goals as goal
@@ -12,8 +13,8 @@ use Rattle.ufs_recovery.proofs.finishing.write_back.Goals as goal
 pub returns-in_default-clause-tree : goal.returns-in_default-clause-tree
 returns-in_default-clause-tree g c visible settled may = started _ _ _ (still_opens (g.D.Disk.size c.args.disk.now) (g.D.Disk.moments c.args.disk.now).state settled)
 
-pub returns-in-Ok-begin-clause-written : goal.returns-in-Ok-begin-clause-written
-returns-in-Ok-begin-clause-written g c visible =
+pub returns-clause-written : goal.returns-clause-written
+returns-clause-written g c visible =
     let size = g.D.Disk.size c.args.disk.now in
     let image = reads (g.D.Disk.moments c.args.disk.now) in
     let mid = reads (g.D.Disk.moments c.begin.new.disk) in
@@ -24,16 +25,16 @@ returns-in-Ok-begin-clause-written g c visible =
     on_ok_weaker c.finish.result (λ fin settled may.
     let is = over size image v f may v.same in
     let follow = may_follow size image v f may plan.superblock c.in-Ok.ensures.geometry c.in-Ok.ensures.epoch c.in-Ok.ensures.in_use in
-    let begun : HasBegun size (volume_in v image) plan.superblock mid = c.in-Ok-begin.ensures.begun visible (volume_in v image) settled is follow in
+    let begun : HasBegun size (volume_in v image) plan.superblock mid = was_done _ c.in_ok-of_device.ensures.done (c.begin.ensures.begun visible) (volume_in v image) settled is follow in
     let can = may_finish size image v f may plan.superblock c.in-Ok.ensures.geometry c.in-Ok.ensures.epoch c.in-Ok.ensures.in_use mid begun plan.orphans.numbers.items plan.orphans.dirs.items
     (c.in-Ok.ensures.orphans (folded_image v image) may.found may.whole) (c.in-Ok.ensures.dirs (folded_image v image) may.found may.whole) (c.in-Ok.ensures.inodes (folded_image v image) may.found) in
     let finished : HasFinished size plan.superblock after = subst (λ n. HasFinished n plan.superblock after) c.begin.ensures.size
-    (fin (c.in-Ok-begin.ensures.settled visible) (subst (λ n. MayFinish n plan.superblock mid v.superblock.geometry f plan.orphans.numbers.items plan.orphans.dirs.items) (sym c.begin.ensures.size) can)) in
+    (fin (was_done _ c.in_ok-of_device.ensures.done (c.begin.ensures.settled visible)) (subst (λ n. MayFinish n plan.superblock mid v.superblock.geometry f plan.orphans.numbers.items plan.orphans.dirs.items) (sym c.begin.ensures.size) can)) in
     is_written size image v f may plan.superblock c.in-Ok.ensures.geometry c.in-Ok.ensures.epoch c.in-Ok.ensures.in_use after v.highest finished c.in-Ok.ensures.version c.in-Ok.ensures.known c.in-Ok.ensures.above v.superblock.same)
     (c.finish.ensures.finished visible)
 
-pub returns-in-Ok-begin-clause-tree : goal.returns-in-Ok-begin-clause-tree
-returns-in-Ok-begin-clause-tree g c visible settled may =
+pub returns-clause-tree : goal.returns-clause-tree
+returns-clause-tree g c visible settled may =
     let size = g.D.Disk.size c.args.disk.now in
     let image = reads (g.D.Disk.moments c.args.disk.now) in
     let mid = reads (g.D.Disk.moments c.begin.new.disk) in
@@ -42,15 +43,15 @@ returns-in-Ok-begin-clause-tree g c visible settled may =
     let plan = c.in-Ok.plan in
     let is = over size image v f may v.same in
     let follow = may_follow size image v f may plan.superblock c.in-Ok.ensures.geometry c.in-Ok.ensures.epoch c.in-Ok.ensures.in_use in
-    let begun : HasBegun size (volume_in v image) plan.superblock mid = c.in-Ok-begin.ensures.begun visible (volume_in v image) settled is follow in
+    let begun : HasBegun size (volume_in v image) plan.superblock mid = was_done _ c.in_ok-of_device.ensures.done (c.begin.ensures.begun visible) (volume_in v image) settled is follow in
     let can = may_finish size image v f may plan.superblock c.in-Ok.ensures.geometry c.in-Ok.ensures.epoch c.in-Ok.ensures.in_use mid begun plan.orphans.numbers.items plan.orphans.dirs.items
     (c.in-Ok.ensures.orphans (folded_image v image) may.found may.whole) (c.in-Ok.ensures.dirs (folded_image v image) may.found may.whole) (c.in-Ok.ensures.inodes (folded_image v image) may.found) in
     kept_on _ size _ _ _ (c.begin.ensures.tree visible (volume_in v image) settled is follow)
     (subst (λ n. KeepsTree g.D.Disk.keeps n (g.D.Disk.moments c.begin.new.disk) (g.D.Disk.moments c.finish.new.disk)) c.begin.ensures.size
-    (c.finish.ensures.tree visible (c.in-Ok-begin.ensures.settled visible) (subst (λ n. MayFinish n plan.superblock mid v.superblock.geometry f plan.orphans.numbers.items plan.orphans.dirs.items) (sym c.begin.ensures.size) can)))
+    (c.finish.ensures.tree visible (was_done _ c.in_ok-of_device.ensures.done (c.begin.ensures.settled visible)) (subst (λ n. MayFinish n plan.superblock mid v.superblock.geometry f plan.orphans.numbers.items plan.orphans.dirs.items) (sym c.begin.ensures.size) can)))
 
-pub returns-clause-tree : goal.returns-clause-tree
-returns-clause-tree g c visible settled may =
+pub returns-in_err-of_device-clause-tree : goal.returns-in_err-of_device-clause-tree
+returns-in_err-of_device-clause-tree g c visible settled may =
     let size = g.D.Disk.size c.args.disk.now in
     let image = reads (g.D.Disk.moments c.args.disk.now) in
     let v = c.args.volume.now in

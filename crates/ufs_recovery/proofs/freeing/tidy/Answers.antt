@@ -5,6 +5,7 @@ use Rattle.ufs_disk.specs.Moments.{reads}
 use Rattle.ufs_recovery.specs.Fitted.{HasFitted, MayFit}
 use Rattle.ufs_recovery.specs.Home.{KeepsTree}
 use Rattle.ufs_recovery.specs.Orphans.{IsPruned, IsReadOf}
+use Rattle.ufs_recovery.proofs.Done.{was_done}
 use Rattle.ufs_recovery.proofs.Fits.{is_tidy, may_fit, read_itself}
 use Rattle.ufs_recovery.proofs.Phases.{none_pruned}
 use Rattle.ufs_recovery.proofs.SuperblockPut.{kept_on, kept_quietly, still_settled}
@@ -31,20 +32,20 @@ returns-then-has_none-clause-tree g c visible settled superblock may read =
 
 pub returns-in_err-found-clause-tree : goal.returns-in_err-found-clause-tree
 returns-in_err-found-clause-tree g c visible settled superblock may read =
-    kept_quietly _ (g.D.Disk.size c.args.disk.now) _ _ _ (c.prune_or_fault.ensures.tree visible settled superblock may) (c.read_again.ensures.read_only visible).crash
+    kept_quietly _ (g.D.Disk.size c.args.disk.now) _ _ _ (c.prune.ensures.tree visible settled superblock may) (c.read_again.ensures.read_only visible).crash
 
 pub returns-clause-settled : goal.returns-clause-settled
 returns-clause-settled g c visible settled =
-    c.fit_files-2.ensures.settled visible (still_settled _ _ _ (c.in_ok-found.ensures.read_only visible) (c.in_ok-prune_or_fault.ensures.settled visible))
+    c.fit_files-2.ensures.settled visible (still_settled _ _ _ (c.in_ok-found.ensures.read_only visible) (was_done _ c.in_ok-of_device.ensures.done (c.prune.ensures.settled visible)))
 
 pub returns-clause-tidy : goal.returns-clause-tidy
 returns-clause-tidy g c visible = on_ok_weaker c.fit_files-2.result (λ fitted superblock may read.
     let size = g.D.Disk.size c.args.disk.now in
     let first = reads (g.D.Disk.moments c.args.disk.now) in
-    let mid = reads (g.D.Disk.moments c.prune_or_fault.new.disk) in
+    let mid = reads (g.D.Disk.moments c.prune.new.disk) in
     let same : reads (g.D.Disk.moments c.read_again.new.disk) ≡ mid = (c.in_ok-found.ensures.read_only visible).content in
-    let still : g.D.Disk.size c.read_again.new.disk ≡ size = c.read_again.ensures.size ∙ c.prune_or_fault.ensures.size in
-    let pruned : IsPruned size superblock first (reads (g.D.Disk.moments c.read_again.new.disk)) = subst (IsPruned size superblock first) (sym same) (c.in_ok-prune_or_fault.ensures.pruned visible superblock may) in
+    let still : g.D.Disk.size c.read_again.new.disk ≡ size = c.read_again.ensures.size ∙ c.prune.ensures.size in
+    let pruned : IsPruned size superblock first (reads (g.D.Disk.moments c.read_again.new.disk)) = subst (IsPruned size superblock first) (sym same) (was_done _ c.in_ok-of_device.ensures.done (c.prune.ensures.pruned visible) superblock may) in
     let of : IsReadOf c.args.geometry.now (reads (g.D.Disk.moments c.read_again.new.disk)) c.in_ok-found.found =
     subst (λ (d : Image). IsReadOf c.args.geometry.now d c.in_ok-found.found) (sym same) (read_itself c.args.geometry.now mid c.in_ok-found.found (c.in_ok-found.ensures.found visible)) in
     let can = may_fit size superblock c.args.geometry.now first (reads (g.D.Disk.moments c.read_again.new.disk)) c.args.orphans.now.numbers.items c.args.orphans.now.dirs.items c.in_ok-found.found may pruned of in
@@ -55,22 +56,22 @@ returns-clause-tidy g c visible = on_ok_weaker c.fit_files-2.result (λ fitted s
 pub returns-clause-taken : goal.returns-clause-taken
 returns-clause-taken g c visible = IfOk-weaker c.fit_files-2.result _ _ (λ t leads read.
     let same = (c.in_ok-found.ensures.read_only visible).content in
-    leads (subst (λ (d : Image). IsReadOf c.args.geometry.now d c.in_ok-found.found) (sym same) (read_itself c.args.geometry.now (reads (g.D.Disk.moments c.prune_or_fault.new.disk)) c.in_ok-found.found (c.in_ok-found.ensures.found visible))))
+    leads (subst (λ (d : Image). IsReadOf c.args.geometry.now d c.in_ok-found.found) (sym same) (read_itself c.args.geometry.now (reads (g.D.Disk.moments c.prune.new.disk)) c.in_ok-found.found (c.in_ok-found.ensures.found visible))))
     (c.fit_files-2.ensures.taken visible)
 
 pub returns-clause-tree : goal.returns-clause-tree
 returns-clause-tree g c visible settled superblock may read =
     let size = g.D.Disk.size c.args.disk.now in
     let first = reads (g.D.Disk.moments c.args.disk.now) in
-    let mid = reads (g.D.Disk.moments c.prune_or_fault.new.disk) in
+    let mid = reads (g.D.Disk.moments c.prune.new.disk) in
     let same : reads (g.D.Disk.moments c.read_again.new.disk) ≡ mid = (c.in_ok-found.ensures.read_only visible).content in
-    let still : g.D.Disk.size c.read_again.new.disk ≡ size = c.read_again.ensures.size ∙ c.prune_or_fault.ensures.size in
-    let pruned : IsPruned size superblock first (reads (g.D.Disk.moments c.read_again.new.disk)) = subst (IsPruned size superblock first) (sym same) (c.in_ok-prune_or_fault.ensures.pruned visible superblock may) in
+    let still : g.D.Disk.size c.read_again.new.disk ≡ size = c.read_again.ensures.size ∙ c.prune.ensures.size in
+    let pruned : IsPruned size superblock first (reads (g.D.Disk.moments c.read_again.new.disk)) = subst (IsPruned size superblock first) (sym same) (was_done _ c.in_ok-of_device.ensures.done (c.prune.ensures.pruned visible) superblock may) in
     let of : IsReadOf c.args.geometry.now (reads (g.D.Disk.moments c.read_again.new.disk)) c.in_ok-found.found =
     subst (λ (d : Image). IsReadOf c.args.geometry.now d c.in_ok-found.found) (sym same) (read_itself c.args.geometry.now mid c.in_ok-found.found (c.in_ok-found.ensures.found visible)) in
     let can = may_fit size superblock c.args.geometry.now first (reads (g.D.Disk.moments c.read_again.new.disk)) c.args.orphans.now.numbers.items c.args.orphans.now.dirs.items c.in_ok-found.found may pruned of in
     kept_on _ size _ _ _
-    (kept_quietly _ size _ _ _ (c.prune_or_fault.ensures.tree visible settled superblock may) (c.in_ok-found.ensures.read_only visible).crash)
+    (kept_quietly _ size _ _ _ (c.prune.ensures.tree visible settled superblock may) (c.in_ok-found.ensures.read_only visible).crash)
     (subst (λ n. KeepsTree g.D.Disk.keeps n (g.D.Disk.moments c.read_again.new.disk) (g.D.Disk.moments c.fit_files-2.new.disk)) still
-    (c.fit_files-2.ensures.tree visible (still_settled _ _ _ (c.in_ok-found.ensures.read_only visible) (c.in_ok-prune_or_fault.ensures.settled visible)) superblock
+    (c.fit_files-2.ensures.tree visible (still_settled _ _ _ (c.in_ok-found.ensures.read_only visible) (was_done _ c.in_ok-of_device.ensures.done (c.prune.ensures.settled visible))) superblock
     (subst (λ n. MayFit n superblock (reads (g.D.Disk.moments c.read_again.new.disk)) c.args.geometry.now c.in_ok-found.found.forms) (sym still) can)))
