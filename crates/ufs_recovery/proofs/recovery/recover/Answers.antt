@@ -21,12 +21,7 @@ returns-in_err-opened-clause-outside g c visible proper =
 
 pub returns-then-opened-clause-found : goal.returns-then-opened-clause-found
 returns-then-opened-clause-found g c visible =
-    let size = g.D.Disk.size c.args.disk.now in
-    let old = g.D.Disk.moments c.args.disk.now in
-    let image = reads (g.D.Disk.moments c.args.disk.now) in
-    let v = c.in_ok-opened.opened.volume in
-    let is = c.in_ok-opened.ensures.taken visible in
-    c.in_ok-opened.ensures.count visible ∙ ap (length {A = Committed}) (log_same size image v is)
+    c.in_ok-opened.ensures.count visible ∙ ap (length {A = Committed}) (log_same (g.D.Disk.size c.args.disk.now) (reads (g.D.Disk.moments c.args.disk.now)) c.in_ok-opened.opened.volume (c.in_ok-opened.ensures.taken visible))
 
 pub returns-then-opened-clause-clean : goal.returns-then-opened-clause-clean
 returns-then-opened-clause-clean g c visible proper =
@@ -51,22 +46,12 @@ returns-then-opened-clause-tree g c visible proper = keeps_settled _ (g.D.Disk.s
 
 pub returns-then-opened-clause-recovered : goal.returns-then-opened-clause-recovered
 returns-then-opened-clause-recovered g c visible proper used =
-    let size = g.D.Disk.size c.args.disk.now in
-    let old = g.D.Disk.moments c.args.disk.now in
-    let image = reads (g.D.Disk.moments c.args.disk.now) in
-    let v = c.in_ok-opened.opened.volume in
-    let is = c.in_ok-opened.ensures.taken visible in
-    let isnt : false ≡ true = sym used ∙ sym (ap (λ (h : Super). h.clean) (superblock_same size image v is)) ∙ c.if-opened.true in
+    let isnt : false ≡ true = sym used ∙ sym (ap (λ (h : Super). h.clean) (superblock_same (g.D.Disk.size c.args.disk.now) (reads (g.D.Disk.moments c.args.disk.now)) c.in_ok-opened.opened.volume (c.in_ok-opened.ensures.taken visible))) ∙ c.if-opened.true in
     absurd (grind (arith, isnt))
 
 pub returns-in-Ok-clause-found : goal.returns-in-Ok-clause-found
 returns-in-Ok-clause-found g c visible =
-    let size = g.D.Disk.size c.args.disk.now in
-    let old = g.D.Disk.moments c.args.disk.now in
-    let image = reads (g.D.Disk.moments c.args.disk.now) in
-    let v = c.in_ok-opened.opened.volume in
-    let is = c.in_ok-opened.ensures.taken visible in
-    c.in_ok-opened.ensures.count visible ∙ ap (length {A = Committed}) (log_same size image v is)
+    c.in_ok-opened.ensures.count visible ∙ ap (length {A = Committed}) (log_same (g.D.Disk.size c.args.disk.now) (reads (g.D.Disk.moments c.args.disk.now)) c.in_ok-opened.opened.volume (c.in_ok-opened.ensures.taken visible))
 
 pub returns-in-Ok-clause-clean : goal.returns-in-Ok-clause-clean
 returns-in-Ok-clause-clean g c visible proper =
@@ -91,12 +76,7 @@ returns-in-Ok-clause-recovered g c visible proper used =
 
 pub returns-in-Ok-clause-quiet : goal.returns-in-Ok-clause-quiet
 returns-in-Ok-clause-quiet g c visible clean =
-    let size = g.D.Disk.size c.args.disk.now in
-    let old = g.D.Disk.moments c.args.disk.now in
-    let image = reads (g.D.Disk.moments c.args.disk.now) in
-    let v = c.in_ok-opened.opened.volume in
-    let is = c.in_ok-opened.ensures.taken visible in
-    let isnt : false ≡ true = sym c.if-opened.false ∙ ap (λ (h : Super). h.clean) (superblock_same size image v is) ∙ clean in
+    let isnt : false ≡ true = sym c.if-opened.false ∙ ap (λ (h : Super). h.clean) (superblock_same (g.D.Disk.size c.args.disk.now) (reads (g.D.Disk.moments c.args.disk.now)) c.in_ok-opened.opened.volume (c.in_ok-opened.ensures.taken visible)) ∙ clean in
     absurd (grind (arith, isnt))
 
 pub returns-clause-tree : goal.returns-clause-tree
@@ -108,34 +88,21 @@ returns-clause-tree g c visible =
 
 pub returns-clause-quiet : goal.returns-clause-quiet
 returns-clause-quiet g c visible clean =
-    let size = g.D.Disk.size c.args.disk.now in
-    let old = g.D.Disk.moments c.args.disk.now in
-    let image = reads (g.D.Disk.moments c.args.disk.now) in
-    let v = c.in_ok-opened.opened.volume in
-    let is = c.in_ok-opened.ensures.taken visible in
-    let isnt : false ≡ true = sym c.if-opened.false ∙ ap (λ (h : Super). h.clean) (superblock_same size image v is) ∙ clean in
+    let isnt : false ≡ true = sym c.if-opened.false ∙ ap (λ (h : Super). h.clean) (superblock_same (g.D.Disk.size c.args.disk.now) (reads (g.D.Disk.moments c.args.disk.now)) c.in_ok-opened.opened.volume (c.in_ok-opened.ensures.taken visible)) ∙ clean in
     absurd (grind (arith, isnt))
 
 pub returns-then-opened-clause-opened : goal.returns-then-opened-clause-opened
 returns-then-opened-clause-opened g c visible =
-    let size = g.D.Disk.size c.args.disk.now in
-    let image = reads (g.D.Disk.moments c.args.disk.now) in
-    opens_there size image c.in_ok-opened.opened.volume (c.in_ok-opened.ensures.taken visible) (c.in_ok-opened.ensures.whole visible)
+    opens_there (g.D.Disk.size c.args.disk.now) (reads (g.D.Disk.moments c.args.disk.now)) c.in_ok-opened.opened.volume (c.in_ok-opened.ensures.taken visible) (c.in_ok-opened.ensures.whole visible)
 
 pub returns-in-Ok-clause-opened : goal.returns-in-Ok-clause-opened
 returns-in-Ok-clause-opened g c visible =
-    let size = g.D.Disk.size c.args.disk.now in
-    let image = reads (g.D.Disk.moments c.args.disk.now) in
-    opens_there size image c.in_ok-opened.opened.volume (c.in_ok-opened.ensures.taken visible) (c.in_ok-opened.ensures.whole visible)
+    opens_there (g.D.Disk.size c.args.disk.now) (reads (g.D.Disk.moments c.args.disk.now)) c.in_ok-opened.opened.volume (c.in_ok-opened.ensures.taken visible) (c.in_ok-opened.ensures.whole visible)
 
 pub returns-in-Ok-clause-unopened : goal.returns-in-Ok-clause-unopened
 returns-in-Ok-clause-unopened g c visible refusal none =
-    let size = g.D.Disk.size c.args.disk.now in
-    let image = reads (g.D.Disk.moments c.args.disk.now) in
-    absurd (opens_not size image c.in_ok-opened.opened.volume (c.in_ok-opened.ensures.taken visible) (c.in_ok-opened.ensures.whole visible) refusal none)
+    absurd (opens_not (g.D.Disk.size c.args.disk.now) (reads (g.D.Disk.moments c.args.disk.now)) c.in_ok-opened.opened.volume (c.in_ok-opened.ensures.taken visible) (c.in_ok-opened.ensures.whole visible) refusal none)
 
 pub returns-clause-unopened : goal.returns-clause-unopened
 returns-clause-unopened g c visible refusal none =
-    let size = g.D.Disk.size c.args.disk.now in
-    let image = reads (g.D.Disk.moments c.args.disk.now) in
-    absurd (opens_not size image c.in_ok-opened.opened.volume (c.in_ok-opened.ensures.taken visible) (c.in_ok-opened.ensures.whole visible) refusal none)
+    absurd (opens_not (g.D.Disk.size c.args.disk.now) (reads (g.D.Disk.moments c.args.disk.now)) c.in_ok-opened.opened.volume (c.in_ok-opened.ensures.taken visible) (c.in_ok-opened.ensures.whole visible) refusal none)
