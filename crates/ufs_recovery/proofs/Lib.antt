@@ -22,3 +22,4 @@ pub mod Ends
 mod Reread
 mod Rewritten
 mod Done
+mod Again

@@ -1,14 +1,12 @@
-use Rattle.std.proofs.Common.{◌≡◌, sym, ◌∙◌, subst}
+use Rattle.std.proofs.Common.{◌≡◌, ◌∙◌}
 use Rattle.std.proofs.lemmas.Result.{IfOk-weaker, on_ok_weaker}
-use Rattle.ufs_base.specs.Images.{Image}
 use Rattle.ufs_disk.specs.Moments.{reads}
-use Rattle.ufs_recovery.specs.Fitted.{HasFitted, MayFit}
-use Rattle.ufs_recovery.specs.Home.{KeepsTree}
-use Rattle.ufs_recovery.specs.Orphans.{IsPruned, IsReadOf}
+use Rattle.ufs_recovery.specs.Orphans.{IsPruned}
+use Rattle.ufs_recovery.proofs.Again.{kept_again, read_last, tidy_again}
 use Rattle.ufs_recovery.proofs.Done.{was_done}
-use Rattle.ufs_recovery.proofs.Fits.{is_tidy, may_fit, read_itself}
+use Rattle.ufs_recovery.proofs.Fits.{is_tidy, may_fit}
 use Rattle.ufs_recovery.proofs.Phases.{none_pruned}
-use Rattle.ufs_recovery.proofs.SuperblockPut.{kept_on, kept_quietly, still_settled}
+use Rattle.ufs_recovery.proofs.SuperblockPut.{kept_quietly, still_settled}
 use Rattle.ufs_recovery.proofs.freeing.tidy.Goals as goal
 
 pub returns-then-has_none-clause-tidy : goal.returns-then-has_none-clause-tidy
@@ -39,39 +37,23 @@ returns-clause-settled g c visible settled =
     c.fit_files-2.ensures.settled visible (still_settled _ _ _ (c.in_ok-found.ensures.read_only visible) (was_done _ c.in_ok-of_device.ensures.done (c.prune.ensures.settled visible)))
 
 pub returns-clause-tidy : goal.returns-clause-tidy
-returns-clause-tidy g c visible = on_ok_weaker c.fit_files-2.result (λ fitted superblock may read.
-    let size = g.D.Disk.size c.args.disk.now in
-    let first = reads (g.D.Disk.moments c.args.disk.now) in
-    let mid = reads (g.D.Disk.moments c.prune.new.disk) in
-    let same : reads (g.D.Disk.moments c.read_again.new.disk) ≡ mid = (c.in_ok-found.ensures.read_only visible).content in
-    let still : g.D.Disk.size c.read_again.new.disk ≡ size = c.read_again.ensures.size ∙ c.prune.ensures.size in
-    let pruned : IsPruned size superblock first (reads (g.D.Disk.moments c.read_again.new.disk)) = subst (IsPruned size superblock first) (sym same) (was_done _ c.in_ok-of_device.ensures.done (c.prune.ensures.pruned visible) superblock may) in
-    let of : IsReadOf c.args.geometry.now (reads (g.D.Disk.moments c.read_again.new.disk)) c.in_ok-found.found =
-    subst (λ (d : Image). IsReadOf c.args.geometry.now d c.in_ok-found.found) (sym same) (read_itself c.args.geometry.now mid c.in_ok-found.found (c.in_ok-found.ensures.found visible)) in
-    let can = may_fit size superblock c.args.geometry.now first (reads (g.D.Disk.moments c.read_again.new.disk)) c.args.orphans.now.numbers.items c.args.orphans.now.dirs.items c.in_ok-found.found may pruned of in
-    is_tidy size superblock first (reads (g.D.Disk.moments c.read_again.new.disk)) (reads (g.D.Disk.moments c.fit_files-2.new.disk)) pruned
-    (subst (λ n. HasFitted n superblock (reads (g.D.Disk.moments c.read_again.new.disk)) (reads (g.D.Disk.moments c.fit_files-2.new.disk))) still
-    (fitted superblock (subst (λ n. MayFit n superblock (reads (g.D.Disk.moments c.read_again.new.disk)) c.args.geometry.now c.in_ok-found.found.forms) (sym still) can)))) (c.fit_files-2.ensures.fitted visible)
+returns-clause-tidy g c visible =
+    let still : g.D.Disk.size c.read_again.new.disk ≡ g.D.Disk.size c.args.disk.now = c.read_again.ensures.size ∙ c.prune.ensures.size in
+    let freed = was_done _ c.in_ok-of_device.ensures.done (c.prune.ensures.pruned visible) in
+    on_ok_weaker c.fit_files-2.result (λ fits superblock may read.
+    tidy_again _ _ _ still c.args.geometry.now (g.D.Disk.moments c.args.disk.now) (g.D.Disk.moments c.prune.new.disk) (g.D.Disk.moments c.read_again.new.disk) (g.D.Disk.moments c.fit_files-2.new.disk) _ _ _
+    (c.in_ok-found.ensures.read_only visible) (c.in_ok-found.ensures.found visible) freed superblock may fits) (c.fit_files-2.ensures.fitted visible)
 
 pub returns-clause-taken : goal.returns-clause-taken
-returns-clause-taken g c visible = IfOk-weaker c.fit_files-2.result _ _ (λ t leads read.
-    let same = (c.in_ok-found.ensures.read_only visible).content in
-    leads (subst (λ (d : Image). IsReadOf c.args.geometry.now d c.in_ok-found.found) (sym same) (read_itself c.args.geometry.now (reads (g.D.Disk.moments c.prune.new.disk)) c.in_ok-found.found (c.in_ok-found.ensures.found visible))))
-    (c.fit_files-2.ensures.taken visible)
+returns-clause-taken g c visible =
+    let still : g.D.Disk.size c.read_again.new.disk ≡ g.D.Disk.size c.args.disk.now = c.read_again.ensures.size ∙ c.prune.ensures.size in
+    IfOk-weaker c.fit_files-2.result _ _ (λ t leads read. leads (read_last _ _ _ still c.args.geometry.now (g.D.Disk.moments c.args.disk.now) (g.D.Disk.moments c.prune.new.disk) (g.D.Disk.moments c.read_again.new.disk) (g.D.Disk.moments c.fit_files-2.new.disk) c.args.orphans.now.numbers.items c.args.orphans.now.dirs.items _
+    (c.in_ok-found.ensures.read_only visible) (c.in_ok-found.ensures.found visible))) (c.fit_files-2.ensures.taken visible)
 
 pub returns-clause-tree : goal.returns-clause-tree
 returns-clause-tree g c visible settled superblock may read =
-    let size = g.D.Disk.size c.args.disk.now in
-    let first = reads (g.D.Disk.moments c.args.disk.now) in
-    let mid = reads (g.D.Disk.moments c.prune.new.disk) in
-    let same : reads (g.D.Disk.moments c.read_again.new.disk) ≡ mid = (c.in_ok-found.ensures.read_only visible).content in
-    let still : g.D.Disk.size c.read_again.new.disk ≡ size = c.read_again.ensures.size ∙ c.prune.ensures.size in
-    let pruned : IsPruned size superblock first (reads (g.D.Disk.moments c.read_again.new.disk)) = subst (IsPruned size superblock first) (sym same) (was_done _ c.in_ok-of_device.ensures.done (c.prune.ensures.pruned visible) superblock may) in
-    let of : IsReadOf c.args.geometry.now (reads (g.D.Disk.moments c.read_again.new.disk)) c.in_ok-found.found =
-    subst (λ (d : Image). IsReadOf c.args.geometry.now d c.in_ok-found.found) (sym same) (read_itself c.args.geometry.now mid c.in_ok-found.found (c.in_ok-found.ensures.found visible)) in
-    let can = may_fit size superblock c.args.geometry.now first (reads (g.D.Disk.moments c.read_again.new.disk)) c.args.orphans.now.numbers.items c.args.orphans.now.dirs.items c.in_ok-found.found may pruned of in
-    kept_on _ size _ _ _
-    (kept_quietly _ size _ _ _ (c.prune.ensures.tree visible settled superblock may) (c.in_ok-found.ensures.read_only visible).crash)
-    (subst (λ n. KeepsTree g.D.Disk.keeps n (g.D.Disk.moments c.read_again.new.disk) (g.D.Disk.moments c.fit_files-2.new.disk)) still
-    (c.fit_files-2.ensures.tree visible (still_settled _ _ _ (c.in_ok-found.ensures.read_only visible) (was_done _ c.in_ok-of_device.ensures.done (c.prune.ensures.settled visible))) superblock
-    (subst (λ n. MayFit n superblock (reads (g.D.Disk.moments c.read_again.new.disk)) c.args.geometry.now c.in_ok-found.found.forms) (sym still) can)))
+    let still : g.D.Disk.size c.read_again.new.disk ≡ g.D.Disk.size c.args.disk.now = c.read_again.ensures.size ∙ c.prune.ensures.size in
+    let freed = was_done _ c.in_ok-of_device.ensures.done (c.prune.ensures.pruned visible) in
+    kept_again _ _ _ still c.args.geometry.now (g.D.Disk.moments c.args.disk.now) (g.D.Disk.moments c.prune.new.disk) (g.D.Disk.moments c.read_again.new.disk) (g.D.Disk.moments c.fit_files-2.new.disk) _ _ _
+    (c.in_ok-found.ensures.read_only visible) (c.in_ok-found.ensures.found visible) freed superblock may
+    (c.prune.ensures.tree visible settled superblock may) (was_done _ c.in_ok-of_device.ensures.done (c.prune.ensures.settled visible)) (c.fit_files-2.ensures.tree visible)
