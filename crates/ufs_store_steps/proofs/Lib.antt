@@ -9,3 +9,4 @@ pub mod NameSteps
 pub mod WriteSteps
 pub mod Runs
 pub mod Marks
+pub mod WriteMarks

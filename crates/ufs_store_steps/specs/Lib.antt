@@ -3,3 +3,4 @@ pub mod Files
 pub mod Steps
 pub mod Runs
 pub mod Marks
+pub mod WriteMarks

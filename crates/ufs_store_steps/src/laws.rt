@@ -1,8 +1,9 @@
 // What the store's calls leave, by the ledger, is what marks of the sound state ask for: each law is the contract of a
 // function that does nothing.
-ghost use Rattle.ufs_store_steps.specs.Marks.{CheckpointsMark, FailedFileCommitsMark, FileCommitsMark};
+ghost use Rattle.ufs_store_steps.specs.Marks.{CheckpointsMark, FailedCheckpointsMark, FailedFileCommitsMark, FailedNameCommitsMark, FileCommitsMark, NameCommitsMark};
 ghost use Rattle.ufs_store_steps.specs.Runs.{CheckpointRuns, FileCommitRuns, LastIsPassed, NameCommitRuns, QuietRuns, WriteRuns};
 ghost use Rattle.ufs_store_steps.specs.Steps.{BlocksRead, CellsAreThere, CheckpointsOpenAlike, EmptiedOpensAlike, FileCommitsGo, FileCommitsMayGo, FilesCommitBytes, NameCommitsGo, NameCommitsMayGo, QuietCallsOpenAlike, StoredHasFiles, WritesGo};
+ghost use Rattle.ufs_store_steps.specs.WriteMarks.{FailedBarriersMark, FailedWritesMark, QuietCallsMark, WritesMark};
 
 use ufs_layout::Geometry;
 use ufs_sound::images_show_trees;
@@ -61,12 +62,26 @@ pub fn run_step_law(geometry: &Geometry)
     let _geometry = geometry;
 }
 
-/// Whole marks: of a commit of a file that passed, of one that failed, and of a checkpoint, by the ledger's clauses and what a
+/// Whole marks: of a commit of a file, one of names and a checkpoint, passed or failed, by the ledger's clauses and what a
 /// store knows of its own parts.
 pub fn mark_law(geometry: &Geometry)
     ensures commit { FileCommitsMark geometry.now }
     ensures failed { FailedFileCommitsMark geometry.now }
+    ensures names { NameCommitsMark geometry.now }
+    ensures failed_names { FailedNameCommitsMark geometry.now }
     ensures checkpoint { CheckpointsMark geometry.now }
+    ensures failed_checkpoint { FailedCheckpointsMark geometry.now }
+{
+    let _geometry = geometry;
+    images_show_trees();
+}
+
+/// Whole marks of a write, a read and a barrier.
+pub fn write_mark_law(geometry: &Geometry)
+    ensures write { WritesMark geometry.now }
+    ensures failed_write { FailedWritesMark geometry.now }
+    ensures quiet { QuietCallsMark geometry.now }
+    ensures failed_barrier { FailedBarriersMark geometry.now }
 {
     let _geometry = geometry;
     images_show_trees();
