@@ -1,4 +1,4 @@
--- Images that agree on the sectors of a geometry have the same inodes, directories and damage.
+-- Images that agree on what one of them uses have the same inodes, directories and damage.
 use Rattle.std.proofs.Common.{◌≡◌, ℕ, ◌<◌, inl, inr, List, [], ◌∷◌, ◌++◌, Bool, true, false, Option, map, unwrap_or, take, ap, sym, refl, ◌∙◌, subst, arith}
 use Rattle.std.specs.Prelude.{flat_map, filter, ◌==◌, ◌&&◌, ◌||◌, not, nat_le, if◌then◌else◌}
 use Rattle.std.specs.List.{filter_map, cons_option, list_any, enumerate_from, AllByRecursion}
@@ -11,7 +11,7 @@ use Rattle.ufs_layout.specs.InodeForm.{InodeForm, free_inode, inode_of, is_used}
 use Rattle.ufs_layout.specs.DentryForm.{DentryForm, free_slot}
 use Rattle.ufs_layout.specs.declared.geometry.Geometry.{Geometry}
 use Rattle.ufs_layout.proofs.Spelled.{some_if-some}
-use Rattle.ufs_image.specs.Agree.{AgreeOn, IsOfBlock}
+use Rattle.ufs_image.specs.Agree.{AgreeOn, IsMetadata, IsOfBlock}
 use Rattle.ufs_image.specs.Catalog.{IsInode, catalog_at, slots_in}
 use Rattle.ufs_image.specs.Damage.{Damage, BadInode, BadExtent, BadDentry, FreeInode, NameTwice, TwoNames, bad_tree, block_damage, has_two_names, inode_damage, is_bad_dentry, is_name_twice, lowest_blamed, name_damage, names_no_inode, tree_damage}
 use Rattle.ufs_image.specs.Images.{block_at, form_at, inode_at}
@@ -25,7 +25,9 @@ use Rattle.ufs_image.proofs.Depth.{has_root, root_in_range}
 use Rattle.ufs_image.proofs.Found.{reached}
 use Rattle.ufs_image.proofs.Holders.{all_stay, block_in_data, inode_in}
 use Rattle.ufs_image.proofs.Journals.{filter-same, inode_metadata, map-same}
+use Rattle.ufs_image.proofs.Listed.{place_of_in}
 use Rattle.ufs_image.proofs.Lists.{IsIn, flat_map-same, from_filter, from_filter_map}
+use Rattle.ufs_start.specs.Copies.{IsUsedIn}
 
 filter_map-same : {X Y : Type 0} (f h : X → Option Y) (xs : List X) → ((x : X) → IsIn x xs → f x ≡ h x) → filter_map f xs ≡ filter_map h xs
 filter_map-same f h [] same = refl
@@ -67,14 +69,18 @@ dentries image block = map (λ o. unwrap_or o free_slot) (read_block image block
 abbrev slots_by : Image → InodeForm → List DentryForm
 slots_by image form = if form.kind == 2 then flat_map (dentries image) (blocks_of form) else []
 
-module _ (g : Geometry) (geometry : IsGeometry g) (one other : Image) (agree : AgreeOn (λ sector. sector < sector_count g) one other) where
+-- of the sectors of the geometry, those that the image uses
+abbrev pub IsUsedHere : Geometry → Image → ℕ → Type 0
+IsUsedHere g image sector = (sector < sector_count g) × IsUsedIn g image sector
+
+pub metadata_here : (g : Geometry) → IsGeometry g → (image : Image) (sector : ℕ) → IsMetadata g sector → IsUsedHere g image sector
+metadata_here g geometry image sector before = let left = geometry.data_left in (omega (arith, before, left), inl before)
+
+module _ (g : Geometry) (geometry : IsGeometry g) (one other : Image) (agree : AgreeOn (IsUsedHere g one) one other) where
   -- ---- inodes
 
   pub inode_same : (inode : ℕ) → IsInode g inode → inode_at g one inode ≡ inode_at g other inode
-  inode_same inode in_range =
-      let within = inode_metadata g inode (is_number g inode in_range) in
-      let left = geometry.data_left in
-      ap inode_of (agree (sector_of_inode g inode) (omega (arith, within, left)))
+  inode_same inode in_range = ap inode_of (agree (sector_of_inode g inode) (metadata_here g geometry one (sector_of_inode g inode) (inode_metadata g inode (is_number g inode in_range))))
 
   pub form_same : (inode : ℕ) → IsInode g inode → form_at g one inode ≡ form_at g other inode
   form_same inode in_range = ap (λ (o : Option InodeForm). unwrap_or o (free_inode 0)) (inode_same inode in_range)
@@ -95,38 +101,39 @@ module _ (g : Geometry) (geometry : IsGeometry g) (one other : Image) (agree : A
   pub nodes_same : sound_nodes g one ≡ sound_nodes g other
   nodes_same = filter_map-same (sound_node g one) (sound_node g other) (all_inodes g) (λ k is. node_same k (inode_in g k is))
 
-  node_in_data : (n : Node) → IsIn n (sound_nodes g one) → AllByRecursion (IsInData g) n.1.extents
-  node_in_data n is =
+  -- ---- blocks
+
+  module _ (inode : ℕ) (in_range : IsInode g inode) (stay : AllByRecursion (IsInData g) (form_at g one inode).extents) where
+    sectors_same : (block : ℕ) → IsIn block (blocks_of (form_at g one inode)) → AgreeOn (IsOfBlock block) one other
+    sectors_same block is sector of =
+        let within = (block_in_data g (form_at g one inode).extents block stay is).1 in
+        let slot = of.in_block in
+        let at = of.same in
+        let place = place_of_in block (blocks_of (form_at g one inode)) is in
+        agree sector (omega (arith, slot, at, within), inr (record { inode = inode; in_range = in_range; of_form = record { place = place.0; block = block; there = place.1; of_block = of } }))
+
+    pub read_there : (block : ℕ) → IsIn block (blocks_of (form_at g one inode)) → read_block one block ≡ read_block other block
+    read_there block is = read_same one other block (sectors_same block is)
+
+    slots_there : slots_of one (form_at g one inode) ≡ slots_of other (form_at g one inode)
+    slots_there = ap (enumerate_from 0) (flat_map-same (read_block one) (read_block other) (blocks_of (form_at g one inode)) read_there)
+
+    pub bytes_there : flat_map (block_at one) (blocks_of (form_at g one inode)) ≡ flat_map (block_at other) (blocks_of (form_at g one inode))
+    bytes_there = flat_map-same (block_at one) (block_at other) (blocks_of (form_at g one inode)) (λ block is. block_same one other block (sectors_same block is))
+
+  node_slots : (n : Node) → IsIn n (sound_nodes g one) → slots_of one n.1 ≡ slots_of other n.1
+  node_slots n is =
       let from = from_filter_map (sound_node g one) (all_inodes g) n is in
       let both = some_if-some (not (is_bad_inode g one from.0) && (not (is_bad_extent g one from.0) && is_used (form_at g one from.0))) (from.0, form_at g one from.0) n from.2 in
       let stay = all_stay g (form_at g one from.0).extents (none_leave (is_bad_inode g one from.0) (list_any (leaves_data g) (form_at g one from.0).extents) (is_used (form_at g one from.0)) both.0) in
-      subst (λ (m : Node). AllByRecursion (IsInData g) m.1.extents) both.1 stay
-
-  -- ---- blocks
-
-  module _ (block : ℕ) (within : block < g.blocks) where
-    sectors_same : AgreeOn (IsOfBlock block) one other
-    sectors_same sector of = let slot = of.in_block in let at = of.same in agree sector (omega (arith, slot, at, within))
-
-    pub block_there : block_at one block ≡ block_at other block
-    block_there = block_same one other block sectors_same
-
-    pub read_there : read_block one block ≡ read_block other block
-    read_there = read_same one other block sectors_same
-
-  module _ (form : InodeForm) (stay : AllByRecursion (IsInData g) form.extents) where
-    pub slots_there : slots_of one form ≡ slots_of other form
-    slots_there = ap (enumerate_from 0) (flat_map-same (read_block one) (read_block other) (blocks_of form) (λ b is. read_there b (block_in_data g form.extents b stay is).1))
-
-    pub bytes_there : flat_map (block_at one) (blocks_of form) ≡ flat_map (block_at other) (blocks_of form)
-    bytes_there = flat_map-same (block_at one) (block_at other) (blocks_of form) (λ b is. block_there b (block_in_data g form.extents b stay is).1)
+      subst (λ (m : Node). slots_of one m.1 ≡ slots_of other m.1) both.1 (slots_there from.0 (inode_in g from.0 from.1) stay)
 
   -- ---- damage
 
   dirs_same : dirs_of one (sound_nodes g one) ≡ dirs_of other (sound_nodes g other)
   dirs_same =
       map-same (λ (n : Node). dir_in one n) (λ (n : Node). dir_in other n) (filter (λ (n : Node). n.1.kind == 2) (sound_nodes g one))
-      (λ n is. ap (λ (slots : List ReadSlot). dir_with n.0 slots) (slots_there n.1 (node_in_data n (from_filter (λ (n : Node). n.1.kind == 2) (sound_nodes g one) n is).0)))
+      (λ n is. ap (λ (slots : List ReadSlot). dir_with n.0 slots) (node_slots n (from_filter (λ (n : Node). n.1.kind == 2) (sound_nodes g one) n is).0))
       ∙ ap (dirs_of other) nodes_same
 
   kind_same : (inode : ℕ) → kind_at g one inode ≡ kind_at g other inode
@@ -165,11 +172,11 @@ module _ (g : Geometry) (geometry : IsGeometry g) (one other : Image) (agree : A
     slots_in_same inode in_range =
         ap (λ (f : InodeForm). slots_by other f) (sym (form_same inode in_range))
         ∙ sym (ap (λ (slots : List DentryForm). if (form_at g one inode).kind == 2 then slots else [])
-        (flat_map-same (dentries one) (dentries other) (blocks_of (form_at g one inode)) (λ b is. ap (map (λ o. unwrap_or o free_slot)) (read_there b (block_in_data g (form_at g one inode).extents b (sound.in_data inode in_range) is).1))))
+        (flat_map-same (dentries one) (dentries other) (blocks_of (form_at g one inode)) (λ b is. ap (map (λ o. unwrap_or o free_slot)) (read_there inode in_range (sound.in_data inode in_range) b is))))
 
     pub met_same : (names : List (List ℕ)) → met_at (catalog_at g other) names ≡ met_at (catalog_at g one) names
     met_same = walks_same (catalog_at g one) (catalog_at g other) (λ k is. slots_in_same k (reached g (catalog_at g one) sound 1 is.names k (root_in_range g (catalog_at g one) sound (has_root g geometry)) is.met).0)
 
     pub file_there : (inode : ℕ) → IsInode g inode → file_bytes one (form_at g one inode) ≡ file_bytes other (form_at g other inode)
     file_there inode in_range =
-        ap (take (form_at g one inode).size) (bytes_there (form_at g one inode) (sound.in_data inode in_range)) ∙ ap (file_bytes other) (form_same inode in_range)
+        ap (take (form_at g one inode).size) (bytes_there inode in_range (sound.in_data inode in_range)) ∙ ap (file_bytes other) (form_same inode in_range)

@@ -33,18 +33,13 @@ use Rattle.ufs_names_image.specs.Parts.{IsNamesOf}
 use Rattle.ufs_start.specs.Extents.{run_of}
 use Rattle.ufs_start.specs.Files.{AreLaid, AreLoaded, loaded}
 use Rattle.ufs_start.specs.Refused.{IsCutOff, IsUnnamedFile}
-use Rattle.ufs_start.proofs.Alike.{bytes_there, file_there, form_same, met_same, nodes_same, number_is, slots_in_same}
+use Rattle.ufs_start.proofs.Alike.{IsUsedHere, bytes_there, file_there, form_same, met_same, nodes_same, number_is, slots_in_same}
 
 no_right : (b : Bool) → (b && false) ≡ false
 no_right true = refl
 no_right false = refl
 
-module _ (g : Geometry) (geometry : IsGeometry g) (one other : Image) (agree : AgreeOn (λ sector. sector < sector_count g) one other) where
-  pub data_there : (sector : ℕ) → is_data_sector g sector ≡ true → length (one sector) ≡ 512 → length (other sector) ≡ 512
-  data_there sector within sized =
-      let less = ltb-true sector (sector_count g) (and_parts (nat_le (8 * first_of_data g) sector) (nat_lt sector (sector_count g)) within).1 in
-      ap length (sym (agree sector less)) ∙ sized
-
+module _ (g : Geometry) (geometry : IsGeometry g) (one other : Image) (agree : AgreeOn (IsUsedHere g one) one other) where
   pub free_there : (block : ℕ) → is_free_block g one block ≡ is_free_block g other block
   free_there block = ap (λ (ns : List Node). is_between (first_of_data g) g.blocks block && not (nodes.is_taken g ns block)) (nodes_same g geometry one other agree)
 
@@ -121,7 +116,7 @@ module _ (g : Geometry) (geometry : IsGeometry g) (one other : Image) (agree : A
       pub loaded_there : AreLoaded one (catalog_at g one) files → AreLoaded other (catalog_at g other) files
       loaded_there have file s got =
           let form = form_of file s got in
-          let bytes = bytes_there g geometry one other agree (form_at g one s.inode) (sound.in_data s.inode (of_file file s got)) ∙ ap (λ (f : InodeForm). flat_map (block_at other) (nodes.blocks_of f)) form in
+          let bytes = bytes_there g geometry one other agree s.inode (of_file file s got) (sound.in_data s.inode (of_file file s got)) ∙ ap (λ (f : InodeForm). flat_map (block_at other) (nodes.blocks_of f)) form in
           have file s got ∙ (λ i. loaded (bytes i) (form i).size)
 
       pub laid_there : AreLaid (catalog_at g one) files → AreLaid (catalog_at g other) files

@@ -1,11 +1,10 @@
 -- A superblock is taken or refused by the first sector.
-use Rattle.std.proofs.Common.{◌≡◌, ℕ, ◌<◌, ◌≤◌, List, ◌++◌, true, false, Option, Some, None, length, min, take, refl, ap, sym, ◌∙◌, arith}
+use Rattle.std.proofs.Common.{◌≡◌, ℕ, ◌<◌, ◌≤◌, List, true, false, Option, Some, None, min, take, refl, ap, sym, ◌∙◌, arith}
 use Rattle.std.specs.Prelude.{◌==◌, ◌&&◌, ◌||◌, not, nat_le, is_none, IsTrue}
 use Rattle.std.specs.Option.{option_map}
 use Rattle.std.specs.Str.{bytes_eq}
 use Rattle.std.proofs.lemmas.Bool.{and_parts}
 use Rattle.std.proofs.lemmas.Bool.Decides.{nat_tests}
-use Rattle.std.proofs.lemmas.List.{take-append-le}
 use Rattle.ufs_base.specs.Choices.{first_of, refused_if}
 use Rattle.ufs_base.specs.Images.{Image}
 use Rattle.ufs_disk.specs.Bytes.{image_of}
@@ -77,10 +76,9 @@ refused_count sectors size first read whole sized same is counted =
     ∙ sym (ap (λ (o : Option Refusal). taken_by o sectors (sector_count (geometry_of (superblock_of (image_of read))))) is.1)
     ∙ (λ i. sectors_taken (sized i) (image_of (sym same i)))
 
-pub own_count : (sectors size own : ℕ) (read whole rest : List ℕ) → sectors ≡ size → 512 ≤ length read → whole ≡ read ++ rest → superblock_refusal sectors (image_of read) ≡ None → own ≡ sector_count (geometry_of (superblock_of (image_of read)))
+pub own_count : (sectors size own : ℕ) (read whole : List ℕ) → sectors ≡ size → image_of whole 0 ≡ image_of read 0 → superblock_refusal sectors (image_of read) ≡ None → own ≡ sector_count (geometry_of (superblock_of (image_of read)))
     → own ≡ sectors_taken size (image_of whole)
-own_count sectors size own read whole rest sized long same none counted =
-    let first : take 512 read ≡ take 512 whole = sym (take-append-le 512 read rest long) ∙ ap (take 512) (sym same) in
+own_count sectors size own read whole sized same none counted =
     counted
     ∙ sym (ap (λ (o : Option Refusal). taken_by o sectors (sector_count (geometry_of (superblock_of (image_of read))))) none)
-    ∙ (λ i. sectors_taken (sized i) (λ _. first i))
+    ∙ (λ i. sectors_taken (sized i) (λ _. sym same i))

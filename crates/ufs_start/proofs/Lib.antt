@@ -5,6 +5,9 @@ mod Named
 mod DirLemmas
 mod Copied
 mod Alike
+mod Ends
+mod UsedThere
+mod Lengths
 mod Refusals
 mod Volumes
 mod Counterparts

@@ -1,17 +1,19 @@
 -- A copy's superblock is refused as the image's.
 use Rattle.std.proofs.Common.{◌≡◌, ℕ, ◌<◌, ◌≤◌, inl, inr, Bool, true, false, Option, Some, None, min, ap, sym, refl, ◌∙◌, arith}
-use Rattle.std.specs.Prelude.{◌==◌, ◌||◌, not, nat_lt}
+use Rattle.std.specs.Prelude.{◌==◌, ◌||◌, not, nat_lt, Result, Ok, Err}
 use Rattle.std.specs.Str.{bytes_eq}
 use Rattle.std.specs.Prelude.{take}
 use Rattle.std.proofs.lemmas.Bool.{cases_lt}
 use Rattle.std.proofs.lemmas.Bool.Decides.{nat_tests}
 use Rattle.ufs_base.specs.Choices.{first_of, refused_if}
 use Rattle.ufs_base.specs.Images.{Image}
-use Rattle.ufs_image.specs.Volume.{BadGeometry, BadVersion, NoSuperblock, Refusal, bad_geometry, has_other_version, is_off_form, is_too_small, lacks_magic, superblock_of, superblock_refusal}
+use Rattle.ufs_image.specs.Volume.{BadGeometry, BadRecord, BadTree, BadVersion, NoSuperblock, Refusal, Volume, volume, bad_geometry, has_other_version, is_off_form, is_too_small, lacks_magic, superblock_of, superblock_refusal}
+use Rattle.ufs_image.proofs.Journals.{first_metadata}
 use Rattle.ufs_image.proofs.Opening.{is_geometry, no_map, not_refused, second_none}
 use Rattle.ufs_layout.specs.Areas.{IsGeometry, geometry_refusal, refusal_number, sector_count}
 use Rattle.ufs_layout.specs.Superblock.{geometry_of, magic}
-use Rattle.ufs_start.specs.Copies.{IsCopyOf, taken_by}
+use Rattle.ufs_layout.specs.declared.geometry.Geometry.{Geometry}
+use Rattle.ufs_start.specs.Copies.{IsCopyOf, IsUsedBy, taken_by}
 
 -- an earlier refusal stays, whatever the last one is
 stays : {X : Type 0} (a b c d last : Option X) (x : X) → first_of a (first_of b (first_of c (first_of d None))) ≡ Some x → first_of a (first_of b (first_of c (first_of d last))) ≡ Some x
@@ -46,6 +48,15 @@ taken_here sectors image is =
       geometry = is_geometry (geometry_of (superblock_of image)) (no_map (λ bad. BadGeometry (refusal_number bad)) (geometry_refusal (geometry_of (superblock_of image))) four.0);
       room = grind (arith, nat_tests, small);
     }
+
+-- the first sector is used in any case
+pub first_used : (g : Geometry) (r : Result Volume Refusal) → IsUsedBy g r 0
+first_used g (Ok v) = inl (first_metadata g)
+first_used g (Err NoSuperblock) = omega arith
+first_used g (Err (BadVersion version)) = omega arith
+first_used g (Err (BadGeometry number)) = omega arith
+first_used g (Err (BadRecord bad)) = first_metadata g
+first_used g (Err (BadTree inode)) = omega arith
 
 module _ (copied sectors : ℕ) (copy image : Image) (is : IsCopyOf copied copy sectors image) where
   taken_is : (r : Option Refusal) → superblock_refusal sectors copy ≡ r → copied ≡ taken_by r sectors (sector_count (geometry_of (superblock_of copy)))
@@ -110,5 +121,5 @@ module _ (copied sectors : ℕ) (copy image : Image) (is : IsCopyOf copied copy 
   refusal_there = elim (cases_lt sectors 1) [
     | inl none ↦ (let none_there : sectors ≡ 0 = omega (arith, none) in
         ap (λ n. superblock_refusal n copy) none_there ∙ sym (ap (λ n. superblock_refusal n image) none_there))
-    | inr some ↦ ap (λ bytes. superblock_refusal sectors (λ _. bytes)) (is.same 0 (some_copied some))
+    | inr some ↦ ap (λ bytes. superblock_refusal sectors (λ _. bytes)) (is.same 0 (record { inside = some_copied some; used = first_used (geometry_of (superblock_of copy)) (volume copied copy) }))
   ]

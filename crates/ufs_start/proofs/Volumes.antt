@@ -1,5 +1,5 @@
--- A copy of the sectors that an image takes has the image's volume, and opens as the image does.
-use Rattle.std.proofs.Common.{◌≡◌, ℕ, ◌<◌, ◌≤◌, List, Option, Some, None, ap, sym, refl, ◌∙◌, arith}
+-- A copy of what an image uses has the image's volume, and opens as the image does.
+use Rattle.std.proofs.Common.{◌≡◌, ℕ, ◌<◌, ◌≤◌, List, Option, Some, None, inl, ap, sym, refl, ◌∙◌, subst, arith}
 use Rattle.std.specs.Prelude.{Result, Ok, Err, ◌==◌, if◌then◌else◌}
 use Rattle.ufs_base.specs.Images.{Image}
 use Rattle.ufs_image.specs.Agree.{AgreeOn, IsMetadata}
@@ -13,16 +13,17 @@ use Rattle.ufs_image.specs.Walks as walks
 use Rattle.ufs_image.proofs.Blamed.{not_bad, undamaged}
 use Rattle.ufs_image.proofs.Depth.{has_root, root_in_range}
 use Rattle.ufs_image.proofs.Found.{reached}
-use Rattle.ufs_image.proofs.Journals.{bad_sector_agrees, taken, taken_alike}
+use Rattle.ufs_image.proofs.Journals.{bad_sector_agrees, first_metadata, taken, taken_alike}
 use Rattle.ufs_image.proofs.OneTree.{alike_tree}
 use Rattle.ufs_image.proofs.Opening.{has_geometry}
 use Rattle.ufs_image.proofs.Read.{catalog_there}
 use Rattle.ufs_image.proofs.Whole.{sound_whole, spelled_all, whole_read, whole_sound}
 use Rattle.ufs_layout.specs.Areas.{IsGeometry, sector_count}
 use Rattle.ufs_layout.specs.Superblock.{geometry_of}
+use Rattle.ufs_layout.specs.declared.geometry.Geometry.{Geometry}
 use Rattle.ufs_layout.specs.declared.superblock.Super.{Super}
-use Rattle.ufs_start.specs.Copies.{IsCopyOf}
-use Rattle.ufs_start.proofs.Alike.{bad_same, file_there, form_same, met_same}
+use Rattle.ufs_start.specs.Copies.{IsCopyOf, IsUsedBy, IsUsedIn}
+use Rattle.ufs_start.proofs.Alike.{IsUsedHere, bad_same, file_there, form_same, met_same, metadata_here}
 use Rattle.ufs_start.proofs.Refusals.{own_sectors, refused_same, refusal_there, taken_here}
 
 -- an image that is taken and of whose tree nothing is damaged
@@ -40,32 +41,49 @@ stands sectors image v e good =
 pub record IsThere (sectors : ℕ) (image : Image) (v : Volume) (other : Image) : Type 0 where
   pub geometry : IsGeometry v.geometry
   pub taken : volume sectors image ≡ Ok (record v { image = other })
-  pub agree : AgreeOn (λ sector. sector < sector_count v.geometry) v.image other
+  pub agree : AgreeOn (IsUsedHere v.geometry v.image) v.image other
 
 module _ (copied sectors : ℕ) (copy image : Image) (is : IsCopyOf copied copy sectors image) where
-  volume_sized : volume copied copy ≡ volume sectors copy
+  pub volume_sized : volume copied copy ≡ volume sectors copy
   volume_sized = ap (by_superblock copy) (refused_same copied sectors copy image is)
+
+  pub all_copied : (v : Volume) → volume sectors copy ≡ Ok v → copied ≡ sector_count v.geometry
+  all_copied v e = own_sectors copied sectors copy image is (taken sectors copy v e).superblock ∙ ap (λ (u : Volume). sector_count u.geometry) (sym (taken sectors copy v e).same)
+
+  pub home_there : (v : Volume) → volume sectors copy ≡ Ok v → AgreeOn (IsUsedHere v.geometry v.image) copy image
+  home_there v e sector is_used =
+      let less = is_used.0 in
+      let all = all_copied v e in
+      let own = ap (λ (u : Volume). u.geometry) (taken sectors copy v e).same in
+      is.same sector (record {
+        inside = omega (arith, less, all);
+        used = subst (λ (r : Result Volume Refusal). IsUsedBy (geometry_of (superblock_of copy)) r sector) (sym (volume_sized ∙ e)) (subst (λ (g : Geometry). IsUsedIn g v.image sector) own is_used.1);
+      })
 
   volume_there : (v : Volume) → volume sectors copy ≡ Ok v → (other : Image) × IsThere sectors image v other
   volume_there v e = (
     w.0.image,
     record {
-      geometry = geometry.0;
+      geometry = geometry;
       taken = w.1 ∙ (λ i. Ok (record { superblock = w.3 i; geometry = w.2 i; image = w.0.image }));
       agree = w.4;
     },
   )
     where
-      geometry : IsGeometry v.geometry × (sector_count v.geometry ≤ sectors)
-      geometry = has_geometry sectors copy v e
+      geometry : IsGeometry v.geometry
+      geometry = (has_geometry sectors copy v e).0
 
-      all : copied ≡ sector_count v.geometry
-      all = own_sectors copied sectors copy image is (taken sectors copy v e).superblock ∙ ap (λ (u : Volume). sector_count u.geometry) (sym (taken sectors copy v e).same)
+      w : (w : Volume) × (volume sectors image ≡ Ok w) × (w.geometry ≡ v.geometry) × (w.superblock ≡ v.superblock) × AgreeOn (IsUsedHere v.geometry v.image) v.image w.image
+      w = taken_alike sectors copy image v (IsUsedHere v.geometry v.image) e (metadata_here v.geometry geometry v.image) (home_there v e)
 
-      w : (w : Volume) × (volume sectors image ≡ Ok w) × (w.geometry ≡ v.geometry) × (w.superblock ≡ v.superblock) × AgreeOn (λ sector. sector < sector_count v.geometry) v.image w.image
-      w = taken_alike sectors copy image v (λ sector. sector < sector_count v.geometry) e
-          (λ sector before. let left = geometry.0.data_left in omega (arith, before, left))
-          (λ sector less. is.same sector (omega (arith, less, all)))
+  -- where the superblock is taken
+  metadata_used : superblock_refusal sectors copy ≡ None → (sector : ℕ) → IsMetadata (geometry_of (superblock_of copy)) sector → IsUsedBy (geometry_of (superblock_of copy)) (volume copied copy) sector
+  metadata_used none sector before =
+      subst (λ (r : Result Volume Refusal). IsUsedBy (geometry_of (superblock_of copy)) r sector) (sym (volume_sized ∙ ap (by_superblock copy) none)) (by (bad_sector (geometry_of (superblock_of copy)) (superblock_of copy) copy))
+    where
+      by : (b : Option ℕ) → IsUsedBy (geometry_of (superblock_of copy)) (by_journal copy b) sector
+      by None = inl before
+      by (Some bad) = before
 
   volume_refused : (refusal : Refusal) → volume sectors copy ≡ Err refusal → volume sectors image ≡ Err refusal
   volume_refused refusal e = by (superblock_refusal sectors copy) refl
@@ -78,11 +96,10 @@ module _ (copied sectors : ℕ) (copy image : Image) (is : IsCopyOf copied copy 
       by_sector none b bad =
           let geometry = (taken_here sectors copy none).geometry in
           let all = own_sectors copied sectors copy image is none in
-          let least = geometry.least_blocks in
           let left = geometry.data_left in
-          let metadata : (sector : ℕ) → IsMetadata (geometry_of (superblock_of copy)) sector → sector < copied = λ sector before. omega (arith, before, left, all) in
-          let supers : superblock_of copy ≡ superblock_of image = ap (λ bytes. superblock_of (λ _. bytes)) (is.same 0 (omega (arith, least, all))) in
-          let bad_there = sym (ap (λ (s : Super). bad_sector (geometry_of s) s image) supers) ∙ sym (bad_sector_agrees (geometry_of (superblock_of copy)) (λ sector. sector < copied) metadata (superblock_of copy) copy image is.same) ∙ bad in
+          let metadata : AgreeOn (IsMetadata (geometry_of (superblock_of copy))) copy image = λ sector before. is.same sector (record { inside = omega (arith, before, left, all); used = metadata_used none sector before }) in
+          let supers : superblock_of copy ≡ superblock_of image = ap (λ bytes. superblock_of (λ _. bytes)) (metadata 0 (first_metadata (geometry_of (superblock_of copy)))) in
+          let bad_there = sym (ap (λ (s : Super). bad_sector (geometry_of s) s image) supers) ∙ sym (bad_sector_agrees (geometry_of (superblock_of copy)) (IsMetadata (geometry_of (superblock_of copy))) (λ sector before. before) (superblock_of copy) copy image metadata) ∙ bad in
           of b (ap (by_superblock copy) none ∙ ap (by_journal copy) bad) (ap (by_superblock image) (sym (refusal_there copied sectors copy image is) ∙ none) ∙ ap (by_journal image) bad_there)
 
       by : (r : Option Refusal) → superblock_refusal sectors copy ≡ r → volume sectors image ≡ Err refusal

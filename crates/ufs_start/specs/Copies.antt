@@ -1,12 +1,15 @@
--- A copy of the sectors that the image on a disk takes.
-use Rattle.std.specs.Prelude.{ℕ, ◌≡◌, ◌<◌, min, Option, Some, None}
+-- A copy of what the image on a disk uses.
+use Rattle.std.specs.Prelude.{ℕ, ◌≡◌, ◌⊎◌, ◌<◌, length, min, Option, Some, None, Result, Ok, Err}
 use Rattle.ufs_base.specs.declared.sizes.TheConstants.{SECTORS_PER_BLOCK}
 use Rattle.ufs_base.specs.Images as images
-use Rattle.ufs_image.specs.Agree.{AgreeOn}
+use Rattle.ufs_image.specs.Agree.{AgreeOn, IsMetadata, IsOfForm}
+use Rattle.ufs_image.specs.Catalog.{IsInode}
+use Rattle.ufs_image.specs.Images.{form_at}
 use Rattle.ufs_image.specs.Opens.{opens}
-use Rattle.ufs_image.specs.Volume.{Refusal, superblock_of, superblock_refusal}
+use Rattle.ufs_image.specs.Volume.{BadRecord, Refusal, Volume, superblock_of, superblock_refusal, volume}
 use Rattle.ufs_layout.specs.Areas.{sector_count}
 use Rattle.ufs_layout.specs.Superblock.{geometry_of}
+use Rattle.ufs_layout.specs.declared.geometry.Geometry.{Geometry}
 use Rattle.ufs_start.specs.Begun.{IsBegun}
 use Rattle.ufs_start.specs.Refused.{TellsNoStart}
 use Rattle.ufs_start.specs.declared.fault.StartFault.{StartFault}
@@ -21,10 +24,34 @@ taken_by (Some refusal) sectors own = min SECTORS_PER_BLOCK sectors
 abbrev pub sectors_taken : ℕ → images.Image → ℕ
 sectors_taken sectors image = taken_by (superblock_refusal sectors image) sectors (sector_count (geometry_of (superblock_of image)))
 
--- The first so many sectors are those that the image takes of a disk, and the copy has them.
+-- A block of an inode has the sector.
+pub record IsOfInode (g : Geometry) (image : images.Image) (sector : ℕ) : Type 0 where
+  pub inode : ℕ
+  pub in_range : IsInode g inode
+  pub of_form : IsOfForm (form_at g image inode) sector
+
+-- what a folded image uses: what lies before the data area, and the blocks of inodes
+abbrev pub IsUsedIn : Geometry → images.Image → ℕ → Type 0
+IsUsedIn g image sector = IsMetadata g sector ⊎ IsOfInode g image sector
+
+-- what an image of this geometry uses, by what it is taken or refused for: with a bad journal what lies before the data
+-- area, without a superblock the first block
+abbrev pub IsUsedBy : Geometry → Result Volume Refusal → ℕ → Type 0
+IsUsedBy g (Ok v) sector = IsUsedIn g v.image sector
+IsUsedBy g (Err (BadRecord bad)) sector = IsMetadata g sector
+IsUsedBy g (Err refusal) sector = sector < SECTORS_PER_BLOCK
+
+-- An image of so many sectors uses this one of them.
+pub record IsUsed (sectors : ℕ) (image : images.Image) (sector : ℕ) : Type 0 where
+  pub inside : sector < sectors
+  pub used : IsUsedBy (geometry_of (superblock_of image)) (volume sectors image) sector
+
+-- A copy has as many sectors as the image takes of a disk, and in each that it uses what the image has.
 pub record IsCopyOf (copied : ℕ) (copy : images.Image) (sectors : ℕ) (image : images.Image) : Type 0 where
   pub taken : copied ≡ sectors_taken sectors copy
-  pub same : AgreeOn (λ sector. sector < copied) copy image
+  pub same : AgreeOn (IsUsed copied copy) copy image
+  -- the others have as many bytes
+  pub sized : (sector : ℕ) → sector < copied → length (copy sector) ≡ length (image sector)
 
 -- ---- laws
 

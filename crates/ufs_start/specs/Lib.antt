@@ -4,5 +4,6 @@ pub mod Extents
 pub mod Refused
 pub mod Begun
 pub mod Copies
+pub mod Ends
 pub mod Files
 pub mod Tables

@@ -1,16 +1,18 @@
-// A copy of an image in memory.
-ghost use Rattle.std.specs.Prelude.{ℕ, ◌≡◌, ◌≤◌, ◌<◌, ◌+◌, ◌*◌, ◌-◌, ◌++◌, length, min, None, Some, IsTrue, IfOk, IfErr, IfSome, IfNone, OnOk, List};
-ghost use Rattle.ufs_base.specs.declared.sizes.TheConstants.{MAX_BLOCKS, SECTOR, SECTORS_PER_BLOCK};
+// A copy in memory of what an image uses.
+ghost use Rattle.std.specs.Prelude.{ℕ, ◌≡◌, ◌≤◌, ◌<◌, ◌+◌, ◌*◌, ◌++◌, length, drop, min, None, Some, IsTrue, IfOk, IfErr, IfSome, IfNone, OnOk};
+ghost use Rattle.ufs_base.specs.declared.sizes.TheConstants.{SECTOR};
 ghost use Rattle.ufs_disk.specs.Bytes.{image_of};
 ghost use Rattle.ufs_disk.specs.Disk.{bytes_from};
 ghost use Rattle.ufs_disk.specs.Moments.{reads};
 ghost use Rattle.ufs_catalog.specs.Faults.{HasFaultCause, IsOutside};
 ghost use Rattle.ufs_catalog.specs.Reading.{IsReadOnly};
+ghost use Rattle.ufs_image.specs.Agree.{AgreeOn, IsMetadata};
 ghost use Rattle.ufs_image.specs.Volume.{Refusal, superblock_of, superblock_refusal};
 ghost use Rattle.ufs_layout.specs.Areas.{IsGeometry, sector_count};
 ghost use Rattle.ufs_layout.specs.Superblock.{geometry_of};
-ghost use Rattle.ufs_start.specs.Copies.{sectors_taken};
+ghost use Rattle.ufs_start.specs.Copies.{IsCopyOf, IsUsed, sectors_taken};
 
+use crate::used::end_of_used;
 use std::alloc::{AllocError, Global};
 use ufs_base::{BLOCK, SECTOR};
 use ufs_catalog::RecoverFault;
@@ -20,65 +22,73 @@ use ufs_layout::{Geometry, get_super};
 // The sectors of a call.
 const SECTORS: u32 = 8;
 
-pub(crate) fn append(bytes: &mut Vec<u8>, more: &[u8]) -> Result<(), AllocError>
-    ensures { OnOk result (bytes.new.items ≡ bytes.old.items ++ more.now) }
-{
-    bytes.extend_from_slice(more)?;
-    Ok(())
-}
-
-// Some sectors behind the bytes, by one call.
-fn append_sectors<D: Disk>(
-    bytes: &mut Vec<u8>,
-    disk: &mut D,
-    sector: u32,
-    count: u32,
-) -> Result<(), RecoverFault>
+// The first sectors of a disk, by one call.
+fn first_sectors<D: Disk>(alloc: Global, disk: &mut D, count: u32) -> Result<Vec<u8>, RecoverFault>
     requires some { 0 < count }
     requires few { count ≤ 8 }
-    requires inside { sector + count ≤ D.size disk.old }
-    ensures bytes { IsTrue D.visible → OnOk result (bytes.new.items ≡ bytes.old.items ++ bytes_from (reads (D.moments disk.old)) sector count) }
-    ensures kept { OnOk result ((rest : List ℕ) × (bytes.new.items ≡ bytes.old.items ++ rest)) }
-    ensures long { OnOk result (length bytes.new.items ≡ length bytes.old.items + 512 * count) }
+    requires inside { count ≤ D.size disk.old }
+    ensures bytes { IsTrue D.visible → IfOk result (λ bytes. bytes.items ≡ bytes_from (reads (D.moments disk.old)) 0 count) }
+    ensures long { IfOk result (λ bytes. length bytes.items ≡ 512 * count) }
     ensures read_only { IsTrue D.visible → IsReadOnly D.keeps (D.moments disk.old) (D.moments disk.new) }
     ensures size { D.size disk.new ≡ D.size disk.old }
     ensures passed { OnOk result (D.faults disk.new ≡ D.faults disk.old) }
     ensures cause { IfErr result (HasFaultCause (D.faults disk.old) (D.faults disk.new)) }
     ensures outside { IfErr result IsOutside }
 {
-    let mut buf = [0; BLOCK];
-    let part = &mut buf[..SECTOR * count as usize];
-    if let Err(fault) = disk.read(sector, part) {
+    let mut bytes = vec![in alloc; 0; SECTOR * count as usize]?;
+    if let Err(fault) = disk.read(0, &mut bytes) {
         return Err(RecoverFault::Device {
             fault: fault.number,
         });
     }
-    append(bytes, part)?;
-    Ok(())
+    Ok(bytes)
 }
 
-// The blocks from the second on behind the first one's bytes, as far as there are so many.
-fn append_blocks<D: Disk>(
-    bytes: &mut Vec<u8>,
-    disk: &mut D,
-    blocks: u32,
-) -> Result<(), RecoverFault>
-    requires some { 1 ≤ blocks }
-    requires few { blocks ≤ MAX_BLOCKS }
-    requires inside { 8 * blocks ≤ D.size disk.old }
-    requires first { length bytes.old.items ≡ 4096 }
-    ensures bytes { IsTrue D.visible → bytes.old.items ≡ bytes_from (reads (D.moments disk.old)) 0 8 → OnOk result (bytes.new.items ≡ bytes_from (reads (D.moments disk.old)) 0 (8 * blocks)) }
-    ensures kept { OnOk result ((rest : List ℕ) × (bytes.new.items ≡ bytes.old.items ++ rest)) }
-    ensures long { OnOk result (length bytes.new.items ≡ 4096 * blocks) }
+// A block of a disk into its place, by one call.
+fn copy_block<D: Disk>(bytes: &mut [u8], disk: &mut D, block: u32) -> Result<(), RecoverFault>
+    requires small { block < 65536 }
+    requires inside { 8 * block + 8 ≤ D.size disk.old }
+    requires room { 4096 * block + 4096 ≤ length bytes.old }
+    ensures there { IsTrue D.visible → OnOk result ((s : ℕ) → 8 * block ≤ s → s < 8 * block + 8 → image_of bytes.new s ≡ reads (D.moments disk.old) s) }
+    ensures before { (s : ℕ) → s < 8 * block → image_of bytes.new s ≡ image_of bytes.old s }
+    ensures long { length bytes.new ≡ length bytes.old }
     ensures read_only { IsTrue D.visible → IsReadOnly D.keeps (D.moments disk.old) (D.moments disk.new) }
     ensures size { D.size disk.new ≡ D.size disk.old }
     ensures passed { OnOk result (D.faults disk.new ≡ D.faults disk.old) }
     ensures cause { IfErr result (HasFaultCause (D.faults disk.old) (D.faults disk.new)) }
     ensures outside { IfErr result IsOutside }
 {
-    bytes.reserve(BLOCK * (blocks as usize - 1))?;
-    for block in 1..blocks {
-        append_sectors(bytes, disk, SECTORS * block, SECTORS)?;
+    let at = BLOCK * block as usize;
+    match disk.read(SECTORS * block, &mut bytes[at..at + BLOCK]) {
+        Ok(()) => Ok(()),
+        Err(fault) => Err(RecoverFault::Device {
+            fault: fault.number,
+        }),
+    }
+}
+
+// The blocks of a disk from one on, up to another, into their places.
+fn copy_blocks<D: Disk>(
+    bytes: &mut [u8],
+    disk: &mut D,
+    from: u32,
+    end: u32,
+) -> Result<(), RecoverFault>
+    requires order { from ≤ end }
+    requires small { end ≤ 65536 }
+    requires inside { 8 * end ≤ D.size disk.old }
+    requires room { 4096 * end ≤ length bytes.old }
+    ensures there { IsTrue D.visible → OnOk result ((s : ℕ) → 8 * from ≤ s → s < 8 * end → image_of bytes.new s ≡ reads (D.moments disk.old) s) }
+    ensures before { (s : ℕ) → s < 8 * from → image_of bytes.new s ≡ image_of bytes.old s }
+    ensures long { length bytes.new ≡ length bytes.old }
+    ensures read_only { IsTrue D.visible → IsReadOnly D.keeps (D.moments disk.old) (D.moments disk.new) }
+    ensures size { D.size disk.new ≡ D.size disk.old }
+    ensures passed { OnOk result (D.faults disk.new ≡ D.faults disk.old) }
+    ensures cause { IfErr result (HasFaultCause (D.faults disk.old) (D.faults disk.new)) }
+    ensures outside { IfErr result IsOutside }
+{
+    for block in from..end {
+        copy_block(bytes, disk, block)?;
     }
     Ok(())
 }
@@ -105,12 +115,111 @@ fn geometry_in(sectors: u32, bytes: &[u8]) -> Option<Geometry>
     }
 }
 
-/// The sectors that the image on a disk takes by its superblock, as they read, in a disk of as many in memory; those of
-/// the first block where the superblock is refused. Reads each of them once, in calls of 4,096 bytes, and no other;
+fn put_first(bytes: &mut [u8], first: &[u8])
+    requires room { length first.now ≤ length bytes.old }
+    ensures bytes { bytes.new ≡ first.now ++ drop (length first.now) bytes.old }
+    ensures long { length bytes.new ≡ length bytes.old }
+{
+    bytes[..first.len()].copy_from_slice(first);
+}
+
+// The first block, and zeros in the place of the others.
+fn with_first(alloc: Global, blocks: u32, first: &[u8]) -> Result<Vec<u8>, AllocError>
+    requires some { 1 ≤ blocks }
+    requires few { blocks ≤ 65536 }
+    requires sized { length first.now ≡ 4096 }
+    ensures first { IfOk result (λ bytes. (s : ℕ) → s < 8 → image_of bytes.items s ≡ image_of first.now s) }
+    ensures long { IfOk result (λ bytes. length bytes.items ≡ 4096 * blocks) }
+{
+    let mut bytes = vec![in alloc; 0; BLOCK * blocks as usize]?;
+    put_first(&mut bytes, first);
+    Ok(bytes)
+}
+
+// The metadata of an image of this geometry, by its first block, and zeros in the place of its data.
+fn metadata_of<D: Disk>(
+    alloc: Global,
+    disk: &mut D,
+    geometry: &Geometry,
+    first: &[u8],
+) -> Result<PlainDisk, RecoverFault>
+    requires limits { IsGeometry geometry.now }
+    requires large { sector_count geometry.now ≤ D.size disk.old }
+    requires sized { length first.now ≡ 4096 }
+    ensures sectors { IfOk result (λ c. c.sectors ≡ sector_count geometry.now) }
+    ensures first { IfOk result (λ c. image_of c.bytes.items 0 ≡ image_of first.now 0) }
+    ensures same { IsTrue D.visible → first.now ≡ bytes_from (reads (D.moments disk.old)) 0 8 → IfOk result (λ c. AgreeOn (IsMetadata geometry.now) (image_of c.bytes.items) (reads (D.moments disk.old))) }
+    ensures read_only { IsTrue D.visible → IsReadOnly D.keeps (D.moments disk.old) (D.moments disk.new) }
+    ensures size { D.size disk.new ≡ D.size disk.old }
+    ensures passed { OnOk result (D.faults disk.new ≡ D.faults disk.old) }
+    ensures cause { IfErr result (HasFaultCause (D.faults disk.old) (D.faults disk.new)) }
+    ensures outside { IfErr result IsOutside }
+{
+    let mut bytes = with_first(alloc, geometry.blocks, first)?;
+    copy_blocks(&mut bytes, disk, 1, geometry.first_of_data())?;
+    Ok(PlainDisk::new(geometry.sector_count(), bytes))
+}
+
+// The same with the blocks from one on, up to another, as the disk has them.
+fn with_blocks<D: Disk>(
+    copy: PlainDisk,
+    disk: &mut D,
+    from: u32,
+    end: u32,
+) -> Result<PlainDisk, RecoverFault>
+    requires order { from ≤ end }
+    requires small { end ≤ 65536 }
+    requires inside { 8 * end ≤ D.size disk.old }
+    requires room { 8 * end ≤ copy.sectors }
+    ensures there { IsTrue D.visible → IfOk result (λ c. (s : ℕ) → 8 * from ≤ s → s < 8 * end → image_of c.bytes.items s ≡ reads (D.moments disk.old) s) }
+    ensures before { IfOk result (λ c. (s : ℕ) → s < 8 * from → image_of c.bytes.items s ≡ image_of copy.bytes.items s) }
+    ensures sectors { IfOk result (λ c. c.sectors ≡ copy.sectors) }
+    ensures read_only { IsTrue D.visible → IsReadOnly D.keeps (D.moments disk.old) (D.moments disk.new) }
+    ensures size { D.size disk.new ≡ D.size disk.old }
+    ensures passed { OnOk result (D.faults disk.new ≡ D.faults disk.old) }
+    ensures cause { IfErr result (HasFaultCause (D.faults disk.old) (D.faults disk.new)) }
+    ensures outside { IfErr result IsOutside }
+{
+    let PlainDisk { sectors, mut bytes } = copy;
+    copy_blocks(&mut bytes, disk, from, end)?;
+    Ok(PlainDisk::new(sectors, bytes))
+}
+
+// The copy of an image of this geometry, by its first block: the metadata says how far the data is read.
+fn copy_in<D: Disk>(
+    alloc: Global,
+    disk: &mut D,
+    geometry: &Geometry,
+    first: &[u8],
+) -> Result<PlainDisk, RecoverFault>
+    requires limits { IsGeometry geometry.now }
+    requires large { sector_count geometry.now ≤ D.size disk.old }
+    requires sized { length first.now ≡ 4096 }
+    requires fields { geometry.now ≡ geometry_of (superblock_of (image_of first.now)) }
+    ensures sectors { IfOk result (λ c. c.sectors ≡ sector_count geometry.now) }
+    ensures first { IfOk result (λ c. image_of c.bytes.items 0 ≡ image_of first.now 0) }
+    ensures same { IsTrue D.visible → first.now ≡ bytes_from (reads (D.moments disk.old)) 0 8 → IfOk result (λ c. AgreeOn (IsUsed (sector_count geometry.now) (image_of c.bytes.items)) (image_of c.bytes.items) (reads (D.moments disk.old))) }
+    ensures read_only { IsTrue D.visible → IsReadOnly D.keeps (D.moments disk.old) (D.moments disk.new) }
+    ensures size { D.size disk.new ≡ D.size disk.old }
+    ensures passed { OnOk result (D.faults disk.new ≡ D.faults disk.old) }
+    ensures cause { IfErr result (HasFaultCause (D.faults disk.old) (D.faults disk.new)) }
+    ensures outside { IfErr result IsOutside }
+{
+    let mut front = metadata_of(alloc, disk, geometry, first)?;
+    let Ok(end) = end_of_used(alloc, geometry, &mut front) else {
+        return Err(RecoverFault::Memory);
+    };
+    let copy = with_blocks(front, disk, geometry.first_of_data(), end)?;
+    Ok(copy)
+}
+
+/// What the image on a disk uses, in a disk in memory of as many sectors as the image takes by its superblock: what lies
+/// before the data area, and the data blocks up to the last one that an inode names. What lies behind is zeros, and isn't
+/// read. Where the superblock is refused it is the first block. Reads each sector once, in calls of 4,096 bytes at most;
 /// writes nothing.
 pub fn copy_of<D: Disk>(alloc: Global, disk: &mut D) -> Result<PlainDisk, RecoverFault>
     ensures taken { IfOk result (λ c. c.sectors ≡ sectors_taken (D.size disk.old) (image_of c.bytes.items)) }
-    ensures within { IsTrue D.visible → IfOk result (λ c. (s : ℕ) → s < c.sectors → image_of c.bytes.items s ≡ reads (D.moments disk.old) s) }
+    ensures copied { IsTrue D.visible → IfOk result (λ c. IsCopyOf c.sectors (image_of c.bytes.items) (D.size disk.old) (reads (D.moments disk.old))) }
     ensures read_only { IsTrue D.visible → IsReadOnly D.keeps (D.moments disk.old) (D.moments disk.new) }
     ensures size { D.size disk.new ≡ D.size disk.old }
     ensures passed { OnOk result (D.faults disk.new ≡ D.faults disk.old) }
@@ -118,15 +227,14 @@ pub fn copy_of<D: Disk>(alloc: Global, disk: &mut D) -> Result<PlainDisk, Recove
     ensures outside { IfErr result IsOutside }
 {
     let sectors = disk.sectors();
-    let mut bytes = Vec::new(alloc);
     if sectors == 0 {
-        return Ok(PlainDisk::new(0, bytes));
+        return Ok(PlainDisk::new(0, Vec::new(alloc)));
     }
-    let first = sectors.min(SECTORS);
-    append_sectors(&mut bytes, disk, 0, first)?;
-    let Some(geometry) = geometry_in(sectors, &bytes) else {
-        return Ok(PlainDisk::new(first, bytes));
+    let count = sectors.min(SECTORS);
+    let first = first_sectors(alloc, disk, count)?;
+    let Some(geometry) = geometry_in(sectors, &first) else {
+        return Ok(PlainDisk::new(count, first));
     };
-    append_blocks(&mut bytes, disk, geometry.blocks)?;
-    Ok(PlainDisk::new(geometry.sector_count(), bytes))
+    let copy = copy_in(alloc, disk, &geometry, &first)?;
+    Ok(copy)
 }

@@ -24,10 +24,9 @@ ghost use Rattle.ufs_start.specs.Extents.{run_of};
 ghost use Rattle.ufs_start.specs.Files.{AreFormsOf, AreLaid, AreLoaded, HasNumbers, has_rest, loaded};
 ghost use Rattle.ufs_start.specs.Refused.{HasStartCause, IsRefusedFile, NamesFile};
 
-use crate::copy::append;
 use crate::extents::extents_in;
 use crate::fault::StartFault;
-use std::alloc::Global;
+use std::alloc::{AllocError, Global};
 use ufs_base::{BLOCK, MAX_BLOCKS};
 use ufs_catalog::{RecoverFault, read_block};
 use ufs_damage::Findings;
@@ -42,6 +41,13 @@ const MEMORY: StartFault = StartFault::Image(RecoverFault::Memory);
 
 // the kind of a file's inode
 const FILE: u8 = 1;
+
+fn append(bytes: &mut Vec<u8>, more: &[u8]) -> Result<(), AllocError>
+    ensures { OnOk result (bytes.new.items ≡ bytes.old.items ++ more.now) }
+{
+    bytes.extend_from_slice(more)?;
+    Ok(())
+}
 
 // A block behind the bytes.
 fn append_block<D: Disk>(

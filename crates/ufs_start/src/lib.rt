@@ -15,6 +15,7 @@ mod reached;
 mod starting;
 mod tables;
 mod unnamed;
+mod used;
 
 pub use copy::copy_of;
 pub use fault::StartFault;

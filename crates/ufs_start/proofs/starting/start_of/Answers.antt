@@ -1,84 +1,41 @@
 use Rattle.ufs_disk.specs.Bytes.{image_of}
 use Rattle.ufs_disk.specs.Moments.{reads}
 use Rattle.ufs_start.specs.Begun.{IsBegun}
-use Rattle.ufs_start.specs.Copies.{IsCopyOf}
 use Rattle.ufs_start.specs.declared.parts.Start.{Start}
 use Rattle.ufs_walk.proofs.Maps.{if_ok}
-use Rattle.ufs_start.proofs.Copies.{all_there, none_there, some_image}
+use Rattle.ufs_start.proofs.Copies.{none_there, part_there, some_image}
 use Rattle.ufs_start.proofs.starting.start_of.Goals as goal
 
 pub returns-clause-standing : goal.returns-clause-standing
-returns-clause-standing g c visible =
-    let size = g.D.Disk.size c.args.disk.now in
-    let image = reads (g.D.Disk.moments c.args.disk.now) in
-    let copy = c.in_ok-copy.copy in
-    let is : IsCopyOf copy.sectors (image_of copy.bytes.items) size image = record { taken = c.in_ok-copy.ensures.taken; same = c.in_ok-copy.ensures.within visible } in
-    if_ok c.start_in.result (IsBegun size image) _ (λ (s : Start) begun. begun.standing) (all_there copy.sectors size (image_of copy.bytes.items) image is c.start_in.result c.start_in.ensures.begun)
+returns-clause-standing g c visible = part_there _ _ _ _ (c.in_ok-copy.ensures.copied visible) c.start_in.result c.start_in.ensures.begun _ (λ (s : Start) begun. begun.standing)
 
 pub returns-clause-opened : goal.returns-clause-opened
-returns-clause-opened g c visible =
-    let size = g.D.Disk.size c.args.disk.now in
-    let image = reads (g.D.Disk.moments c.args.disk.now) in
-    let copy = c.in_ok-copy.copy in
-    let is : IsCopyOf copy.sectors (image_of copy.bytes.items) size image = record { taken = c.in_ok-copy.ensures.taken; same = c.in_ok-copy.ensures.within visible } in
-    if_ok c.start_in.result (IsBegun size image) _ (λ (s : Start) begun. begun.opened) (all_there copy.sectors size (image_of copy.bytes.items) image is c.start_in.result c.start_in.ensures.begun)
+returns-clause-opened g c visible = part_there _ _ _ _ (c.in_ok-copy.ensures.copied visible) c.start_in.result c.start_in.ensures.begun _ (λ (s : Start) begun. begun.opened)
 
 pub returns-clause-table : goal.returns-clause-table
-returns-clause-table g c visible =
-    let size = g.D.Disk.size c.args.disk.now in
-    let image = reads (g.D.Disk.moments c.args.disk.now) in
-    let copy = c.in_ok-copy.copy in
-    let is : IsCopyOf copy.sectors (image_of copy.bytes.items) size image = record { taken = c.in_ok-copy.ensures.taken; same = c.in_ok-copy.ensures.within visible } in
-    if_ok c.start_in.result (IsBegun size image) _ (λ (s : Start) begun. begun.table) (all_there copy.sectors size (image_of copy.bytes.items) image is c.start_in.result c.start_in.ensures.begun)
+returns-clause-table g c visible = part_there _ _ _ _ (c.in_ok-copy.ensures.copied visible) c.start_in.result c.start_in.ensures.begun _ (λ (s : Start) begun. begun.table)
 
 pub returns-clause-names : goal.returns-clause-names
-returns-clause-names g c visible =
-    let size = g.D.Disk.size c.args.disk.now in
-    let image = reads (g.D.Disk.moments c.args.disk.now) in
-    let copy = c.in_ok-copy.copy in
-    let is : IsCopyOf copy.sectors (image_of copy.bytes.items) size image = record { taken = c.in_ok-copy.ensures.taken; same = c.in_ok-copy.ensures.within visible } in
-    if_ok c.start_in.result (IsBegun size image) _ (λ (s : Start) begun. begun.names) (all_there copy.sectors size (image_of copy.bytes.items) image is c.start_in.result c.start_in.ensures.begun)
+returns-clause-names g c visible = part_there _ _ _ _ (c.in_ok-copy.ensures.copied visible) c.start_in.result c.start_in.ensures.begun _ (λ (s : Start) begun. begun.names)
 
 pub returns-clause-read : goal.returns-clause-read
-returns-clause-read g c visible =
-    let size = g.D.Disk.size c.args.disk.now in
-    let image = reads (g.D.Disk.moments c.args.disk.now) in
-    let copy = c.in_ok-copy.copy in
-    let is : IsCopyOf copy.sectors (image_of copy.bytes.items) size image = record { taken = c.in_ok-copy.ensures.taken; same = c.in_ok-copy.ensures.within visible } in
-    if_ok c.start_in.result (IsBegun size image) _ (λ (s : Start) begun. begun.read) (all_there copy.sectors size (image_of copy.bytes.items) image is c.start_in.result c.start_in.ensures.begun)
+returns-clause-read g c visible = part_there _ _ _ _ (c.in_ok-copy.ensures.copied visible) c.start_in.result c.start_in.ensures.begun _ (λ (s : Start) begun. begun.read)
 
 pub returns-clause-files : goal.returns-clause-files
-returns-clause-files g c visible =
-    let size = g.D.Disk.size c.args.disk.now in
-    let image = reads (g.D.Disk.moments c.args.disk.now) in
-    let copy = c.in_ok-copy.copy in
-    let is : IsCopyOf copy.sectors (image_of copy.bytes.items) size image = record { taken = c.in_ok-copy.ensures.taken; same = c.in_ok-copy.ensures.within visible } in
-    if_ok c.start_in.result (IsBegun size image) _ (λ (s : Start) begun. begun.files) (all_there copy.sectors size (image_of copy.bytes.items) image is c.start_in.result c.start_in.ensures.begun)
+returns-clause-files g c visible = part_there _ _ _ _ (c.in_ok-copy.ensures.copied visible) c.start_in.result c.start_in.ensures.begun _ (λ (s : Start) begun. begun.files)
 
 pub returns-clause-free : goal.returns-clause-free
-returns-clause-free g c visible =
-    let size = g.D.Disk.size c.args.disk.now in
-    let image = reads (g.D.Disk.moments c.args.disk.now) in
-    let copy = c.in_ok-copy.copy in
-    let is : IsCopyOf copy.sectors (image_of copy.bytes.items) size image = record { taken = c.in_ok-copy.ensures.taken; same = c.in_ok-copy.ensures.within visible } in
-    if_ok c.start_in.result (IsBegun size image) _ (λ (s : Start) begun. begun.free) (all_there copy.sectors size (image_of copy.bytes.items) image is c.start_in.result c.start_in.ensures.begun)
+returns-clause-free g c visible = part_there _ _ _ _ (c.in_ok-copy.ensures.copied visible) c.start_in.result c.start_in.ensures.begun _ (λ (s : Start) begun. begun.free)
 
 pub returns-clause-loaded : goal.returns-clause-loaded
-returns-clause-loaded g c visible =
-    let size = g.D.Disk.size c.args.disk.now in
-    let image = reads (g.D.Disk.moments c.args.disk.now) in
-    let copy = c.in_ok-copy.copy in
-    let is : IsCopyOf copy.sectors (image_of copy.bytes.items) size image = record { taken = c.in_ok-copy.ensures.taken; same = c.in_ok-copy.ensures.within visible } in
-    if_ok c.start_in.result (IsBegun size image) _ (λ (s : Start) begun. begun.loaded) (all_there copy.sectors size (image_of copy.bytes.items) image is c.start_in.result c.start_in.ensures.begun)
+returns-clause-loaded g c visible = part_there _ _ _ _ (c.in_ok-copy.ensures.copied visible) c.start_in.result c.start_in.ensures.begun _ (λ (s : Start) begun. begun.loaded)
 
 pub returns-clause-begun : goal.returns-clause-begun
 returns-clause-begun g c =
     let copy = c.in_ok-copy.copy in
     if_ok c.start_in.result (IsBegun copy.sectors (image_of copy.bytes.items)) _
-    (λ (s : Start) begun. some_image g.D.Disk.visible copy.sectors (g.D.Disk.size c.args.disk.now) (image_of copy.bytes.items) (reads (g.D.Disk.moments c.args.disk.now)) s c.in_ok-copy.ensures.taken c.in_ok-copy.ensures.within begun)
+    (λ (s : Start) begun. some_image g.D.Disk.visible copy.sectors (g.D.Disk.size c.args.disk.now) (image_of copy.bytes.items) (reads (g.D.Disk.moments c.args.disk.now)) s c.in_ok-copy.ensures.taken c.in_ok-copy.ensures.copied begun)
     c.start_in.ensures.begun
 
 pub returns-clause-refused : goal.returns-clause-refused
-returns-clause-refused g c visible =
-    let copy = c.in_ok-copy.copy in
-    none_there copy.sectors (g.D.Disk.size c.args.disk.now) (image_of copy.bytes.items) (reads (g.D.Disk.moments c.args.disk.now)) (record { taken = c.in_ok-copy.ensures.taken; same = c.in_ok-copy.ensures.within visible }) c.start_in.result c.start_in.ensures.refused
+returns-clause-refused g c visible = none_there _ _ _ _ (c.in_ok-copy.ensures.copied visible) c.start_in.result c.start_in.ensures.refused

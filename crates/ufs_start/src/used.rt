@@ -1,0 +1,85 @@
+// How far an image uses its data area.
+ghost use Rattle.std.specs.Prelude.{ℕ, ◌≡◌, ◌≤◌, ◌<◌, ◌*◌, Ok, IfOk, OnOk};
+ghost use Rattle.ufs_disk.specs.Bytes.{image_of};
+ghost use Rattle.ufs_image.specs.Volume.{Volume, superblock_of, volume};
+ghost use Rattle.ufs_layout.specs.Areas.{IsGeometry, first_of_data, sector_count};
+ghost use Rattle.ufs_layout.specs.Superblock.{geometry_of};
+ghost use Rattle.ufs_start.specs.Copies.{IsOfInode};
+ghost use Rattle.ufs_start.specs.Ends.{IsOfImage, end_of_extents, end_of_form, end_of_forms};
+
+use std::alloc::Global;
+use ufs_base::Memory;
+use ufs_catalog::{RecoverFault, read_findings};
+use ufs_disk::PlainDisk;
+use ufs_layout::{Extent, Geometry, Inode};
+use ufs_volume::read_volume;
+
+// The block behind the last one of these extents, as far as numbers go.
+fn end_of_extents(extents: &[Extent]) -> u32
+    ensures { result ≡ end_of_extents extents.now }
+{
+    extents
+        .iter()
+        .map(|extent| extent.start.saturating_add(extent.length))
+        .max()
+        .unwrap_or(0)
+}
+
+fn end_of_form(form: &Option<Inode>) -> u32
+    ensures { result ≡ end_of_form form.now }
+{
+    match form {
+        Some(form) => end_of_extents(form.used_extents()),
+        None => 0,
+    }
+}
+
+fn end_of_forms(forms: &[Option<Inode>]) -> u32
+    ensures { result ≡ end_of_forms forms.now }
+{
+    forms
+        .iter()
+        .map(|form| end_of_form(form))
+        .max()
+        .unwrap_or(0)
+}
+
+// Where the data ends that is read of an image without a volume, by why there is none: no data is read.
+fn end_without(geometry: &Geometry, fault: RecoverFault) -> Result<u32, Memory>
+    requires { IsGeometry geometry.now }
+    ensures end { IfOk result (λ end. end ≡ first_of_data geometry.now) }
+    ensures refused { OnOk result (IsOfImage fault) }
+{
+    match fault {
+        RecoverFault::Memory => Err(Memory),
+        RecoverFault::Device { .. } => Err(Memory),
+        _ => Ok(geometry.first_of_data()),
+    }
+}
+
+/// The block behind the last one that an inode names, by the metadata of an image of this geometry; the first data block
+/// where none names one, or where the journal is refused. Fails only for want of memory.
+pub(crate) fn end_of_used(
+    alloc: Global,
+    geometry: &Geometry,
+    copy: &mut PlainDisk,
+) -> Result<u32, Memory>
+    requires limits { IsGeometry geometry.now }
+    requires large { sector_count geometry.now ≤ copy.old.sectors }
+    requires fields { geometry.now ≡ geometry_of (superblock_of (image_of copy.old.bytes.items)) }
+    ensures least { IfOk result (λ end. first_of_data geometry.now ≤ end) }
+    ensures most { IfOk result (λ end. end ≤ geometry.now.blocks) }
+    ensures behind { IfOk result (λ end. (v : Volume) → volume copy.old.sectors (image_of copy.old.bytes.items) ≡ Ok v → (sector : ℕ) → sector < sector_count geometry.now → IsOfInode geometry.now v.image sector → sector < 8 * end) }
+    ensures image { image_of copy.new.bytes.items ≡ image_of copy.old.bytes.items }
+    ensures sectors { copy.new.sectors ≡ copy.old.sectors }
+{
+    let volume = match read_volume(alloc, copy) {
+        Ok(volume) => volume,
+        Err(fault) => return end_without(geometry, fault),
+    };
+    let Ok(findings) = read_findings(alloc, copy, geometry, &volume.overlay) else {
+        return Err(Memory);
+    };
+    let end = end_of_forms(findings.forms()).min(geometry.blocks);
+    Ok(end.max(geometry.first_of_data()))
+}
