@@ -215,8 +215,8 @@ fn copy_in<D: Disk>(
 
 /// What the image on a disk uses, in a disk in memory of as many sectors as the image takes by its superblock: what lies
 /// before the data area, and the data blocks up to the last one that an inode names. What lies behind is zeros, and isn't
-/// read. Where the superblock is refused it is the first block. Reads each sector once, in calls of 4,096 bytes at most;
-/// writes nothing.
+/// read. Where the superblock is refused it is the first block. Reads each of these sectors once, in calls of 4,096
+/// bytes at most; writes nothing.
 pub fn copy_of<D: Disk>(alloc: Global, disk: &mut D) -> Result<PlainDisk, RecoverFault>
     ensures taken { IfOk result (λ c. c.sectors ≡ sectors_taken (D.size disk.old) (image_of c.bytes.items)) }
     ensures copied { IsTrue D.visible → IfOk result (λ c. IsCopyOf c.sectors (image_of c.bytes.items) (D.size disk.old) (reads (D.moments disk.old))) }

@@ -15,7 +15,7 @@ pub fn start_numbers_law()
     ensures { StartsTellNumbers }
 {}
 
-/// The sectors that an image takes say all that a server begins with.
+/// What an image uses says all that a server begins with.
 pub fn copy_law()
     ensures opens { OpensAsCopied }
     ensures begins { BeginsAsCopied }

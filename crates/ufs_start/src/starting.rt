@@ -107,7 +107,8 @@ fn start_in(alloc: Global, copy: &mut PlainDisk) -> Result<Start, StartFault>
 
 /// Makes what a server begins with, over a copy of the image in memory. Refuses a disk that opens to no tree, and one
 /// with a file that a server can't hold or that no path names, or with a directory that has names and that no path leads
-/// to. Reads each sector that the image takes once, in calls of 4,096 bytes, and no other; writes nothing.
+/// to. Reads each sector up to the last block in use once, in calls of 4,096 bytes at most, and none behind it; writes
+/// nothing.
 pub fn start_of<D: Disk>(alloc: Global, disk: &mut D) -> Result<Start, StartFault>
     ensures standing { IsTrue D.visible → IfOk result (λ s. IsVolumeOf (D.size disk.old) (reads (D.moments disk.old)) (volume_under s.superblock (reads (D.moments disk.old))) (catalog_under s.superblock (reads (D.moments disk.old)))) }
     ensures opened { IsTrue D.visible → IfOk result (λ s. opens (D.size disk.old) (reads (D.moments disk.old)) ≡ Ok (tree_under s.superblock (reads (D.moments disk.old)))) }

@@ -1,5 +1,5 @@
-// A copy has the sectors that the image takes, and no other.
-use crate::images::{SECTORS, new_disk_of, set_sector};
+// A copy has what the image uses, and zeros in the place of the rest.
+use crate::images::{DATA, SECTORS, new_disk_of, set_sector};
 use std::alloc::Global;
 use std::test::Fail;
 use ufs_base::SECTOR;
@@ -25,13 +25,14 @@ fn is_full_of(disk: &mut PlainDisk, sector: u32, byte: u8) -> Option<bool> {
     }
 }
 
-// Whether a copy of a new image on a larger disk, with two sectors set and one behind the image, has this byte all over
-// a sector.
+// Whether a copy of a new image on a larger disk has this byte all over a sector. The image has other bytes in its first
+// block, in the last sector before its data, in the first one of it, which no inode names, and behind its end.
 fn copy_has(alloc: Global, sector: u32, byte: u8) -> Option<bool> {
     let mut disk = new_disk_of(alloc, SECTORS + 8)?;
     let set = set_sector(&mut disk, 7, &[3; SECTOR])
-        && set_sector(&mut disk, SECTORS - 1, &[4; SECTOR])
-        && set_sector(&mut disk, SECTORS, &[5; SECTOR]);
+        && set_sector(&mut disk, DATA - 1, &[4; SECTOR])
+        && set_sector(&mut disk, DATA, &[5; SECTOR])
+        && set_sector(&mut disk, SECTORS, &[6; SECTOR]);
     if !set {
         return None;
     }
@@ -49,10 +50,12 @@ fn sectors_of_zeros(alloc: Global, sectors: u32) -> Option<u32> {
 }
 
 #[test]
-fn a_copy_has_the_sectors_of_the_image(rt: HostRuntime) -> Result<(), Fail> {
+fn a_copy_has_what_the_image_uses(rt: HostRuntime) -> Result<(), Fail> {
     assert!(rt; copy_has(rt.alloc(), 7, 3) == Some(true));
-    assert!(rt; copy_has(rt.alloc(), SECTORS - 1, 4) == Some(true));
-    assert!(rt; copy_has(rt.alloc(), SECTORS, 5) == None);
+    assert!(rt; copy_has(rt.alloc(), DATA - 1, 4) == Some(true));
+    assert!(rt; copy_has(rt.alloc(), DATA, 0) == Some(true));
+    assert!(rt; copy_has(rt.alloc(), SECTORS - 1, 0) == Some(true));
+    assert!(rt; copy_has(rt.alloc(), SECTORS, 6) == None);
     Ok(())
 }
 

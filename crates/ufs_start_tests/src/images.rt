@@ -12,6 +12,9 @@ pub const ROOT: u32 = 16;
 /// The sector of inode 2.
 pub const SECOND: u32 = 17;
 
+/// The first sector of the data area.
+pub const DATA: u32 = 96;
+
 /// The sectors that the image takes.
 pub const SECTORS: u32 = 512;
 
@@ -22,10 +25,22 @@ pub fn new_disk(alloc: Global) -> Option<PlainDisk> {
 
 /// The image on a disk of so many sectors.
 pub fn new_disk_of(alloc: Global, sectors: u32) -> Option<PlainDisk> {
+    formatted(alloc, sectors, 64)
+}
+
+/// Such an image of so many blocks, on a disk of as many.
+pub fn new_image_of(alloc: Global, blocks: u32) -> Option<PlainDisk> {
+    if blocks > 1024 {
+        return None;
+    }
+    formatted(alloc, 8 * blocks, blocks)
+}
+
+fn formatted(alloc: Global, sectors: u32, blocks: u32) -> Option<PlainDisk> {
     let Ok(mut disk) = PlainDisk::zeros(alloc, sectors) else {
         return None;
     };
-    let Ok(geometry) = Geometry::make(64, 16, 64) else {
+    let Ok(geometry) = Geometry::make(blocks, 16, 64) else {
         return None;
     };
     match format(&mut disk, &geometry) {

@@ -6,6 +6,8 @@ mod copies;
 #[cfg(test)]
 mod counted;
 #[cfg(test)]
+mod ends;
+#[cfg(test)]
 mod files;
 #[cfg(test)]
 mod images;
