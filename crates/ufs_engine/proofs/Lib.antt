@@ -5,4 +5,4 @@ mod Refused
 mod Seen
 pub mod Ended
 pub mod EndLemmas
-pub mod MarkedLemmas
+pub mod StampedLemmas

@@ -15,7 +15,7 @@ use Rattle.ufs_engine.specs.declared.playing.PlayFault.{PlayFault}
 use Rattle.ufs_engine.specs.declared.playing.PlayFault.TheVariants.{Image, Device, Stopped, Memory}
 use Rattle.ufs_recovery.specs.Recovered.{IsProperDisk}
 use Rattle.ufs_session.specs.Played.{IsPlayedFrom}
-use Rattle.ufs_session.specs.Throughout.{AreMomentsMarked}
+use Rattle.ufs_session.specs.Throughout.{AreMomentsStamped}
 use Rattle.ufs_session.specs.Told.{AreToldStop, devices_in}
 use Rattle.ufs_stored.specs.OnDisk.{IsExplainedBetween}
 
@@ -61,10 +61,10 @@ ArePlayedFrom start clients told result = IsPlayedFrom start clients told (serve
 
 -- A session ran from one moment to another. Up to it the opening tree is all that a crash leaves; in it the hand stamped each
 -- state that the disk was in; and from its end on the whole history explains what a crash leaves.
-pub record IsMarkedThroughout (keeps : Bool) (sectors : ℕ) (start : PosixTree) (history : List Entry) (old new : Moments) : Type 0 where
+pub record IsStampedThroughout (keeps : Bool) (sectors : ℕ) (start : PosixTree) (history : List Entry) (old new : Moments) : Type 0 where
   pub from : Moments
   pub to : Moments
   pub before : IsExplainedBetween keeps sectors start [] old from
   pub passed : (inside : List State) × (all to ≡ all from ++ inside)
-  pub marked : AreMomentsMarked start history sectors from to
+  pub stamped : AreMomentsStamped start history sectors from to
   pub behind : IsExplainedBetween keeps sectors start history to new

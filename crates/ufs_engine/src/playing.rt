@@ -14,7 +14,7 @@ ghost use Rattle.ufs_ledger.specs.Kept.{OpensExplained};
 ghost use Rattle.ufs_model.specs.History.{AreTicketsOnce, joined, tree_after};
 ghost use Rattle.ufs_model.specs.PosixTree.{PosixTree};
 ghost use Rattle.ufs_opening.specs.Told.{TellsWhy};
-ghost use Rattle.ufs_engine.specs.Plays.{AreFaultsOf, IsEndFault, IsMarkedThroughout, MayPlay, served_end};
+ghost use Rattle.ufs_engine.specs.Plays.{AreFaultsOf, IsEndFault, IsStampedThroughout, MayPlay, served_end};
 ghost use Rattle.ufs_engine.specs.declared.playing.PlayFault.TheVariants as ending;
 ghost use Rattle.ufs_recovery.specs.Recovered.{IsCleanDisk};
 ghost use Rattle.ufs_session.specs.Played.{IsPlayedFrom};
@@ -83,8 +83,8 @@ pub fn play<D: Disk>(alloc: Global, script: Script, _lease: u32, disk: D) -> Pla
     ensures proper { MayPlay D.visible (D.size disk) (D.moments disk).state → Leaves (IsProperImage (D.size disk)) (D.moments result.disk).state }
     ensures moments { MayPlay D.visible (D.size disk) (D.moments disk).state → (start : PosixTree) → BeginsWith (D.size disk) (reads (D.moments disk)) start
         → IsExplainedThroughout D.keeps (D.size disk) start [] (joined result.told) (D.moments disk) (D.moments result.disk) }
-    ensures marked { IsTrue D.keeps → MayPlay D.visible (D.size disk) (D.moments disk).state → (start : PosixTree) → BeginsWith (D.size disk) (reads (D.moments disk)) start
-        → IsMarkedThroughout D.keeps (D.size disk) start (joined result.told) (D.moments disk) (D.moments result.disk) }
+    ensures stamped { IsTrue D.keeps → MayPlay D.visible (D.size disk) (D.moments disk).state → (start : PosixTree) → BeginsWith (D.size disk) (reads (D.moments disk)) start
+        → IsStampedThroughout D.keeps (D.size disk) start (joined result.told) (D.moments disk) (D.moments result.disk) }
     ensures clean { MayPlay D.visible (D.size disk) (D.moments disk).state → OnOk result.ended (IsCleanDisk (D.size disk) (D.moments result.disk).state) }
     ensures last { MayPlay D.visible (D.size disk) (D.moments disk).state → (start : PosixTree) → BeginsWith (D.size disk) (reads (D.moments disk)) start
         → OnOk result.ended (StandsForTree (D.size disk) (tree_after start (joined result.told)) (reads (D.moments result.disk))) }

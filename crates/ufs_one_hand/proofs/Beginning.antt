@@ -12,7 +12,7 @@ use Rattle.ufs_sound.specs.Whole.{CanOpen, idle_client}
 use Rattle.ufs_sound.proofs.Owning.{none_some}
 use Rattle.ufs_sound.proofs.First.{all_are}
 use Rattle.ufs_hand.specs.Session.{CanBegin, first_view}
-use Rattle.ufs_one_hand.specs.OneHand.{disk_with, start_seeing, IsCovered, IsCoveredIn, IsStart, StartsCanBegin, HasSession, IsClientAt, mark_in, passed_in}
+use Rattle.ufs_one_hand.specs.OneHand.{disk_with, start_seeing, IsCovered, IsCoveredIn, IsStart, StartsCanBegin, HasSession, IsClientAt, passed_in, stamp_in}
 use Rattle.ufs_one_hand.proofs.Bare.{no_blocks, uses_none}
 use Rattle.ufs_one_hand.proofs.Passage.{one_part}
 
@@ -93,8 +93,8 @@ start_covered k s = subst (λ (z : Start). IsCoveredIn z [] (first_view z)) (sym
       made = omega arith;
     }))
 
-pub start_mark : (k : Start) → IsStart k → mark_in (first_view k) ≡ 0
-start_mark k s = ap (λ (z : Start). mark_in (first_view z)) s.is
+pub start_stamp : (k : Start) → IsStart k → stamp_in (first_view k) ≡ 0
+start_stamp k s = ap (λ (z : Start). stamp_in (first_view z)) s.is
 
 pub start_passed : (k : Start) → IsStart k → passed_in (first_view k) ≡ 0
 start_passed k s = ap (λ (z : Start). passed_in (first_view z)) s.is

@@ -17,8 +17,8 @@ use Rattle.ufs_sound.specs.Durable.{IsDurable, IsExplainedThroughout}
 use Rattle.ufs_sound.specs.Explained.{AreJoined}
 use Rattle.ufs_sound.specs.Visible.{IsDiskVisible}
 use Rattle.ufs_hand.specs.Session.{KnowsAll, word_of}
-use Rattle.ufs_one_hand.specs.OneHand.{HasSession, IsMarkedIn}
-use Rattle.ufs_one_hand.specs.Drawn.{IsExplainedAtMarks}
+use Rattle.ufs_one_hand.specs.OneHand.{HasSession, IsStampedIn}
+use Rattle.ufs_one_hand.specs.Drawn.{IsExplainedAtStamps}
 use Rattle.ufs_one_hand.proofs.Counting.{none_of, numbered, one_list, same_length_all}
 
 module _ (k : Start) (history : List Entry) (v : View) (h : HasSession k history None v) where
@@ -59,13 +59,13 @@ module _ (k : Start) (history : List Entry) (v : View) (h : HasSession k history
   pub all_drawn : (tickets clock : ℕ) → KnowsAll k tickets clock v → tickets ≡ length history
   all_drawn tickets clock knows = sym knows.whole.all_drawn ∙ same_length_all knows.whole.history history (same_entries knows.whole.history knows.whole.transcripts knows.whole.merged)
 
-  -- ---- each state that was marked
+  -- ---- each state that was stamped
 
-  -- the stretches follow one another, up to the last mark
-  in_order : (past : List Stretch) (mark : ℕ) → AreJoined past mark → (x : Stretch) → Has x past → (x.from ≤ x.to) × (x.to ≤ mark)
-  in_order [] mark joined x has = absurd has
-  in_order (y ∷ past) mark joined x (inl is) = let a = ap (λ (z : Stretch). z.from) is in let b = ap (λ (z : Stretch). z.to) is in let c = joined.0 in let d = joined.1 in (omega arith, omega arith)
-  in_order (y ∷ past) mark joined x (inr has) = let r = in_order past y.from joined.2 x has in let c = joined.0 in let d = joined.1 in let e = r.1 in (r.0, omega arith)
+  -- the stretches follow one another, up to the last stamp
+  in_order : (past : List Stretch) (stamp : ℕ) → AreJoined past stamp → (x : Stretch) → Has x past → (x.from ≤ x.to) × (x.to ≤ stamp)
+  in_order [] stamp joined x has = absurd has
+  in_order (y ∷ past) stamp joined x (inl is) = let a = ap (λ (z : Stretch). z.from) is in let b = ap (λ (z : Stretch). z.to) is in let c = joined.0 in let d = joined.1 in (omega arith, omega arith)
+  in_order (y ∷ past) stamp joined x (inr has) = let r = in_order past y.from joined.2 x has in let c = joined.0 in let d = joined.1 in let e = r.1 in (r.0, omega arith)
 
   module _ (tickets clock : ℕ) (knows : KnowsAll k tickets clock v) (visible : IsDiskVisible k) where
     abbrev d : IsDurable k (word_of tickets clock) v knows.store
@@ -76,12 +76,12 @@ module _ (k : Start) (history : List Entry) (v : View) (h : HasSession k history
         one_list 0 d.history history (numbered 0 k.tree d.history d.legal.entries) (numbered 0 k.tree history h.legal) (d.all_drawn ∙ all_drawn tickets clock knows)
         (same_entries d.history d.transcripts d.merged)
 
-    pub marked_explained : (x : Cells) → IsMarkedIn v.store x → IsExplainedAtMarks k.tree history x
-    marked_explained x is = ⊎_elim
+    pub stamped_explained : (x : Cells) → IsStampedIn v.store x → IsExplainedAtStamps k.tree history x
+    stamped_explained x is = ⊎_elim
         (λ (e : x ≡ knows.store.state).
         let l = d.marked in let n = all_drawn tickets clock knows in
         (knows.store.mark, tickets, l, (omega arith), subst (λ (g : List Entry). IsExplainedThroughout k.tree g knows.store.mark tickets x) one_history (subst (IsExplainedThroughout k.tree d.history knows.store.mark tickets) (sym e) d.now)))
         (λ (y : (s : Stretch) × Has s knows.store.past × Has x s.states).
         let o = in_order knows.store.past knows.store.mark d.joined y.0 y.1 in let l = d.marked in let n = all_drawn tickets clock knows in let m = o.1 in
         (y.0.from, y.0.to, o.0, (omega arith), subst (λ (g : List Entry). IsExplainedThroughout k.tree g y.0.from y.0.to x) one_history (d.past y.0 y.1 x y.2)))
-        (subst (λ (ss : List (Unit {0} × StorePart)). IsMarkedIn ss x) knows.has_store is)
+        (subst (λ (ss : List (Unit {0} × StorePart)). IsStampedIn ss x) knows.has_store is)

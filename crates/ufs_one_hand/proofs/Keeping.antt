@@ -28,10 +28,10 @@ use Rattle.ufs_sound.proofs.Happening.Staying.{answers_stay, blocks_stay, both_r
 use Rattle.ufs_sound.proofs.Keys.{itself, alike}
 use Rattle.ufs_sound.proofs.Owning.{count_has, has_count, has_append, append_has, has_each, weigh_each}
 use Rattle.ufs_one_hand.specs.Drawn.{AreBirthsTold, AreBorn, IsAcknowledged, births_kept, counts_with, files_asked, files_kept, names_asked, names_asked_in, names_kept, turned}
-use Rattle.ufs_one_hand.specs.OneHand.{HasSession, IsCovered, IsCoveredIn, IsMarkedIn, IsStoreAt, KnowsSynced, in_store, passed_in, state_in}
+use Rattle.ufs_one_hand.specs.OneHand.{HasSession, IsCovered, IsCoveredIn, IsStampedIn, IsStoreAt, KnowsSynced, in_store, passed_in, state_in}
 use Rattle.ufs_one_hand.proofs.Asked.{asked_all, asked_least, asked_made, asked_most, same_changes, store_low, synced_file}
 use Rattle.ufs_one_hand.proofs.Bare.{disk_kept}
-use Rattle.ufs_one_hand.proofs.Passage.{is_turn, one_part, stays_marked, store_there}
+use Rattle.ufs_one_hand.proofs.Passage.{is_turn, one_part, stays_stamped, store_there}
 use Rattle.ufs_one_hand.proofs.Showing.{acknowledged_shows, legal_with}
 use Rattle.ufs_one_hand.proofs.Tickets.{known_tickets, begun_is, whole_is}
 
@@ -552,9 +552,9 @@ module _ (k : Start) (history : List Entry) (t : PosixTree) (e : Entry) (v : Vie
   store_is : v3.store ≡ (tt, last acked.session.store) ∷ []
   store_is = ap (λ (ss : List (Unit {0} × StorePart)). (files_kept t e (births_kept t e (names_kept t e (record v { store = ss }) a) b) c).store) acked.session.has_store
 
-  pub all_marked : (x : Cells) → IsMarkedIn v.store x → IsMarkedIn v3.store x
-  all_marked x is = subst (λ (ss : List (Unit {0} × StorePart)). IsMarkedIn ss x) (sym store_is)
-      (stays_marked acked.session.store (last acked.session.store) x (inl refl) (λ y has. inr (inr has)) (subst (λ (ss : List (Unit {0} × StorePart)). IsMarkedIn ss x) acked.session.has_store is))
+  pub all_stamped : (x : Cells) → IsStampedIn v.store x → IsStampedIn v3.store x
+  all_stamped x is = subst (λ (ss : List (Unit {0} × StorePart)). IsStampedIn ss x) (sym store_is)
+      (stays_stamped acked.session.store (last acked.session.store) x (inl refl) (λ y has. inr (inr has)) (subst (λ (ss : List (Unit {0} × StorePart)). IsStampedIn ss x) acked.session.has_store is))
 
   pub same_passed : passed_in v3 ≡ passed_in v
   same_passed = ap (in_store 0 (λ s. weigh (λ x. length x.states - 2) s.past)) store_is ∙ nothing (weigh (λ x. length x.states - 2) acked.session.store.past) ∙ sym (ap (in_store 0 (λ s. weigh (λ x. length x.states - 2) s.past)) acked.session.has_store)

@@ -19,7 +19,7 @@ use Rattle.ufs_sound.proofs.Happening.Staying.{answers_stay, store_remakes, same
 use Rattle.ufs_sound.proofs.Owning.{has_append, append_has}
 use Rattle.ufs_hand.specs.Session.{IsEvent}
 use Rattle.ufs_one_hand.specs.Drawn.{MayPass, fault_met, store_passed, passed_view, turned, turned_view}
-use Rattle.ufs_one_hand.specs.OneHand.{HasSession, IsCovered, IsCoveredIn, IsMarkedIn, IsStoreAt, in_store, mark_in, passed_in, state_in}
+use Rattle.ufs_one_hand.specs.OneHand.{HasSession, IsCovered, IsCoveredIn, IsStampedIn, IsStoreAt, in_store, passed_in, stamp_in, state_in}
 use Rattle.ufs_one_hand.proofs.Bare.{disk_kept}
 use Rattle.ufs_one_hand.proofs.Showing.{explained_shows}
 use Rattle.ufs_one_hand.proofs.Tickets.{begun_is, known_tickets, whole_is}
@@ -93,10 +93,10 @@ with_store_session k history asked v h t faults stop shortages n at = record {
   store_at = at;
 }
 
--- a store that keeps its stretches, and has the old state in a stretch or still, has marked what it had
-pub stays_marked : (s t : StorePart) (x : Cells) → (s.state ≡ t.state) ⊎ ((y : Stretch) × Has y t.past × Has s.state y.states) → ((y : Stretch) → Has y s.past → Has y t.past)
+-- a store that keeps its stretches, and has the old state in a stretch or still, has stamped what it had
+pub stays_stamped : (s t : StorePart) (x : Cells) → (s.state ≡ t.state) ⊎ ((y : Stretch) × Has y t.past × Has s.state y.states) → ((y : Stretch) → Has y s.past → Has y t.past)
     → (x ≡ s.state) ⊎ ((y : Stretch) × Has y s.past × Has x y.states) → (x ≡ t.state) ⊎ ((y : Stretch) × Has y t.past × Has x y.states)
-stays_marked s t x now past is = ⊎_elim
+stays_stamped s t x now past is = ⊎_elim
     (λ (e : x ≡ s.state). ⊎_elim (λ (z : s.state ≡ t.state). inl (e ∙ z)) (λ (z : (y : Stretch) × Has y t.past × Has s.state y.states). inr (z.0, z.1, subst (λ (w : Cells). Has w z.0.states) (sym e) z.2)) now)
     (λ (z : (y : Stretch) × Has y s.past × Has x y.states). inr (z.0, past z.0 z.1, z.2)) is
 
@@ -168,8 +168,8 @@ module _ (k : Start) (history : List Entry) (asked : Option (ℕ × Op)) (v : Vi
     pub turned_covered : (j : List Entry) → IsCoveredIn k j v → IsCoveredIn k j (turned_view v n)
     turned_covered j covered = subst (IsCoveredIn k j) is_begun (λ s has. subst (IsCovered k j) (sym (one_part s t1 has)) (same_covered k j h.store t1 refl refl (covered h.store (store_there k history asked v h))))
 
-    pub turned_marked : (x : Cells) → IsMarkedIn v.store x → IsMarkedIn (turned_view v n).store x
-    turned_marked x is = subst (λ (w : View). IsMarkedIn w.store x) is_begun (stays_marked h.store t1 x (inl refl) (λ y a. inr a) (subst (λ (ss : List (Unit {0} × StorePart)). IsMarkedIn ss x) h.has_store is))
+    pub turned_stamped : (x : Cells) → IsStampedIn v.store x → IsStampedIn (turned_view v n).store x
+    turned_stamped x is = subst (λ (w : View). IsStampedIn w.store x) is_begun (stays_stamped h.store t1 x (inl refl) (λ y a. inr a) (subst (λ (ss : List (Unit {0} × StorePart)). IsStampedIn ss x) h.has_store is))
 
     pub turned_passed : passed_in (turned_view v n) ≡ passed_in v
     turned_passed = ap passed_in (sym is_begun) ∙ nothing (weigh (λ x. length x.states - 2) h.store.past) ∙ sym (ap (in_store 0 (λ s. weigh (λ x. length x.states - 2) s.past)) h.has_store)
@@ -177,8 +177,8 @@ module _ (k : Start) (history : List Entry) (asked : Option (ℕ × Op)) (v : Vi
         nothing : (m : ℕ) → 0 + m ≡ m
         nothing m = omega arith
 
-    pub turned_mark : mark_in (turned_view v n) ≡ n
-    turned_mark = ap mark_in (sym is_begun)
+    pub turned_stamp : stamp_in (turned_view v n) ≡ n
+    turned_stamp = ap stamp_in (sym is_begun)
 
     pub turned_state : state_in (turned_view v n) ≡ state_in v
     turned_state = ap state_in (sym is_begun) ∙ sym (ap (in_store [] (λ s. s.state)) h.has_store)
@@ -213,13 +213,13 @@ module _ (k : Start) (history : List Entry) (asked : Option (ℕ × Op)) (v : Vi
   passed_covered j covered = subst (IsCoveredIn k j) is_passed
       (λ s has. subst (IsCovered k j) (sym (one_part s passed has)) (same_covered k j h.store passed refl refl (covered h.store (store_there k history asked v h))))
 
-  -- the states that it has marked, and how many they are
+  -- the states that it has stamped, and how many they are
   abbrev newest : Stretch
   newest = record { states = h.store.state ∷ (states ++ state ∷ []); from = h.store.mark; to = n }
 
-  pub passed_marked : (x : Cells) → IsMarkedIn v.store x ⊎ (Has x states ⊎ (x ≡ state)) → IsMarkedIn (passed_view stop states state shortages v n).store x
-  passed_marked x is = subst (λ (w : View). IsMarkedIn w.store x) is_passed (⊎_elim
-      (λ (old : IsMarkedIn v.store x). stays_marked h.store passed x (inr (newest, inl refl, inl refl)) (λ y a. inr a) (subst (λ (ss : List (Unit {0} × StorePart)). IsMarkedIn ss x) h.has_store old))
+  pub passed_stamped : (x : Cells) → IsStampedIn v.store x ⊎ (Has x states ⊎ (x ≡ state)) → IsStampedIn (passed_view stop states state shortages v n).store x
+  passed_stamped x is = subst (λ (w : View). IsStampedIn w.store x) is_passed (⊎_elim
+      (λ (old : IsStampedIn v.store x). stays_stamped h.store passed x (inr (newest, inl refl, inl refl)) (λ y a. inr a) (subst (λ (ss : List (Unit {0} × StorePart)). IsStampedIn ss x) h.has_store old))
       (λ (new : Has x states ⊎ (x ≡ state)). ⊎_elim (λ a. inr (newest, inl refl, inr (append_has x states (state ∷ []) (inl a)))) inl new) is)
 
   pub passed_more : passed_in (passed_view stop states state shortages v n) ≡ passed_in v + length states
@@ -256,10 +256,10 @@ module _ (keeps : KeepsTrees) (law : ExplainedShow) (k : Start) (history : List 
   covered : IsCovered k history h.store
   covered = m.covered h.store (store_there k history asked v h)
 
-  marked : h.store.mark ≡ length history
-  marked = sym (ap (in_store 0 (λ s. s.mark)) h.has_store) ∙ m.fresh
+  stamped : h.store.mark ≡ length history
+  stamped = sym (ap (in_store 0 (λ s. s.mark)) h.has_store) ∙ m.fresh
 
-  -- a state that is explained shows the history behind which the disk was marked
+  -- a state that is explained shows the history behind which the disk was stamped
   shown : (from n : ℕ) (g : List Entry) (x : Cells) → ExplainsImages k.tree history x → (b : IsBeginningKnown k v from n g) → length history ≤ from → ShowsImages k.tree g (committed h.store) h.store.names None x
   shown from n g x explained b late = subst (λ (z : List Entry). ShowsImages k.tree z (committed h.store) h.store.names None x) (sym (begun_is k history asked v h from n g b late))
       (explained_shows keeps k h.start history h.store x law covered (subst (IsLegal k.tree) (whole_is k history asked v h from n g b) b.legal) explained)
@@ -277,7 +277,7 @@ module _ (keeps : KeepsTrees) (law : ExplainedShow) (k : Start) (history : List 
       rise = numbers_stay v (with_store n) h.store (t0 n) p p (λ g. refl) refl (same_parts_know v (with_store n) file_is) refl refl;
       disk = λ visible. disk_kept k h.start v (with_store n) h.store (t0 n) (bare_files k history asked v h);
       shown = inr (is_turn k n v h.store (t0 n) p (states ++ state ∷ []) (inr (append_has state states (state ∷ []) (inr (inl refl)))) refl
-          (λ visible g b x has. shown h.store.mark n g x (on_the_way visible x has) b (let e = marked in omega arith))
+          (λ visible g b x has. shown h.store.mark n g x (on_the_way visible x has) b (let e = stamped in omega arith))
           (λ visible g b has shows. shown n n g state (m.explained visible) b (late n g b)));
       answers = answers n;
     }

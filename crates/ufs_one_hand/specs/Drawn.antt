@@ -26,7 +26,7 @@ use Rattle.ufs_sound.specs.Parts.{Cells, FilePart, NamesPart, OwnFds, Shortage, 
 use Rattle.ufs_sound.specs.Shown.{ExplainsImages}
 use Rattle.ufs_sound.specs.Visible.{IsDiskVisible}
 use Rattle.ufs_sound.specs.declared.fresh.Fresh.{Fresh}
-use Rattle.ufs_one_hand.specs.OneHand.{HasSession, IsCoveredIn, KnowsSynced, client_in, mark_in, state_in}
+use Rattle.ufs_one_hand.specs.OneHand.{HasSession, IsCoveredIn, KnowsSynced, client_in, stamp_in, state_in}
 
 -- ---- a client asks
 
@@ -35,7 +35,7 @@ asked_view client op v tickets = asking tickets client op [] (client_in client v
 
 -- ---- a turn of the disk
 
--- it passed these states since the last mark, and nothing is lent to the next turn
+-- it passed these states since the last stamp, and nothing is lent to the next turn
 abbrev pub turned : ℕ → List Cells → StorePart → StorePart
 turned tickets states s = record s { past = record { states = s.state ∷ states; from = s.mark; to = tickets } ∷ s.past; mark = tickets; lent = []; lent_names = 0; paths = None }
 
@@ -68,11 +68,11 @@ passed_view stop states state shortages v tickets = record v {
   shortages = shortages ++ v.shortages;
 }
 
--- The disk may go by these states to that one after a history: it was marked behind the last entry, and whatever a crash
+-- The disk may go by these states to that one after a history: it was stamped behind the last entry, and whatever a crash
 -- leaves in each of them is explained by the history.
 pub record MayPass (k : Start) (history : List Entry) (asked : Option (ℕ × Op)) (states : List Cells) (state : Cells) (v : View) : Type 0 where
   pub session : HasSession k history asked v
-  pub fresh : mark_in v ≡ length history
+  pub fresh : stamp_in v ≡ length history
   pub covered : IsCoveredIn k history v
   pub passed : IsDiskVisible k → (x : Cells) → Has x states → ExplainsImages k.tree history x
   pub explained : IsDiskVisible k → ExplainsImages k.tree history state
@@ -206,6 +206,6 @@ module _ (t : PosixTree) (e : Entry) where
 
 -- ---- the end
 
--- Whatever a crash leaves in this state is explained by the first entries, for each number of them from one mark to another.
-abbrev pub IsExplainedAtMarks : PosixTree → List Entry → Cells → Type 0
-IsExplainedAtMarks start history cells = (from to : ℕ) × (from ≤ to) × (to ≤ length history) × IsExplainedThroughout start history from to cells
+-- Whatever a crash leaves in this state is explained by the first entries, for each number of them from one stamp to another.
+abbrev pub IsExplainedAtStamps : PosixTree → List Entry → Cells → Type 0
+IsExplainedAtStamps start history cells = (from to : ℕ) × (from ≤ to) × (to ≤ length history) × IsExplainedThroughout start history from to cells

@@ -122,19 +122,19 @@ abbrev pub in_store : {A : Type 0} → A → (StorePart → A) → List (Unit {0
 in_store none of [] = none
 in_store none of (p ∷ ps) = of p.1
 
--- the disk's state at the last mark, and the tickets then
+-- the disk's state at the last stamp, and the tickets then
 abbrev pub state_in : View → Cells
 state_in v = in_store [] (λ s. s.state) v.store
 
-abbrev pub mark_in : View → ℕ
-mark_in v = in_store 0 (λ s. s.mark) v.store
+abbrev pub stamp_in : View → ℕ
+stamp_in v = in_store 0 (λ s. s.mark) v.store
 
--- the hand has marked the disk in this state: it is that of the last mark, or one on the way between two
-abbrev pub IsMarkedIn : List (Unit {0} × StorePart) → Cells → Type 0
-IsMarkedIn [] cells = ⊥
-IsMarkedIn (p ∷ ps) cells = (cells ≡ p.1.state) ⊎ ((x : Stretch) × Has x p.1.past × Has cells x.states)
+-- the hand has stamped the disk in this state: it is that of the last stamp, or one on the way between two
+abbrev pub IsStampedIn : List (Unit {0} × StorePart) → Cells → Type 0
+IsStampedIn [] cells = ⊥
+IsStampedIn (p ∷ ps) cells = (cells ≡ p.1.state) ⊎ ((x : Stretch) × Has x p.1.past × Has cells x.states)
 
--- how many states the disk passed between marks: a stretch has besides the one at its beginning, and the one at its end
+-- how many states the disk passed between stamps: a stretch has besides the one at its beginning, and the one at its end
 abbrev pub passed_in : View → ℕ
 passed_in v = in_store 0 (λ s. weigh (λ x. length x.states - 2) s.past) v.store
 

@@ -7,8 +7,8 @@ ghost use Rattle.ufs_sound.specs.Draws.{entry_of, left_faults};
 ghost use Rattle.ufs_sound.specs.Owned.{Has, times};
 ghost use Rattle.ufs_sound.specs.Parts.{Cells};
 ghost use Rattle.ufs_hand.specs.Session.{KnowsAll};
-ghost use Rattle.ufs_one_hand.specs.Drawn.{IsAcknowledged, IsAnswer, IsExplainedAtMarks, MayPass, asked_view, fault_met, AreBirthsTold, AreBorn, births_kept, files_kept, names_kept};
-ghost use Rattle.ufs_one_hand.specs.OneHand.{HasSession, IsCoveredIn, IsMarkedIn, IsStart, KnowsSynced, StartsCanBegin, mark_in, passed_in, state_in};
+ghost use Rattle.ufs_one_hand.specs.Drawn.{IsAcknowledged, IsAnswer, IsExplainedAtStamps, MayPass, asked_view, fault_met, AreBirthsTold, AreBorn, births_kept, files_kept, names_kept};
+ghost use Rattle.ufs_one_hand.specs.OneHand.{HasSession, IsCoveredIn, IsStampedIn, IsStart, KnowsSynced, StartsCanBegin, passed_in, stamp_in, state_in};
 ghost use Rattle.ufs_sound.specs.Covers.{step_in};
 ghost use Rattle.ufs_sound.specs.Visible.{IsDiskVisible};
 
@@ -70,7 +70,7 @@ impl<N: Naming> OneHand<N> {
         ensures session { HasSession N.start [] None result }
         ensures stop { result.stop ≡ None }
         ensures covered { IsCoveredIn N.start [] result }
-        ensures fresh { mark_in result ≡ 0 }
+        ensures fresh { stamp_in result ≡ 0 }
         ensures passed { passed_in result ≡ 0 }
         ensures state { state_in result ≡ state_in N.start.view }
         ensures faults { result.faults ≡ [] }
@@ -86,9 +86,9 @@ impl<N: Naming> OneHand<N> {
         requires client { client < MAX_CLIENTS }
         requires idle { (history : List Entry) × HasSession N.start history None self.old × (length (entries_of client history) < MAX_REQUESTS) }
         ensures session { (history : List Entry) → HasSession N.start history None self.old → HasSession N.start history (Some (client, op.now)) self.new }
-        ensures fresh { (history : List Entry) → HasSession N.start history None self.old → mark_in self.new ≡ length history }
+        ensures fresh { (history : List Entry) → HasSession N.start history None self.old → stamp_in self.new ≡ length history }
         ensures covered { (history : List Entry) → IsCoveredIn N.start history self.old → IsCoveredIn N.start history self.new }
-        ensures marked { (x : Cells) → IsMarkedIn self.old.store x → IsMarkedIn self.new.store x }
+        ensures stamped { (x : Cells) → IsStampedIn self.old.store x → IsStampedIn self.new.store x }
         ensures passed { passed_in self.new ≡ passed_in self.old }
         ensures stop { self.new.stop ≡ self.old.stop }
         ensures state { state_in self.new ≡ state_in self.old }
@@ -112,13 +112,13 @@ impl<N: Naming> OneHand<N> {
         self.hand.mark::<E>(&self.table);
     }
 
-    // The disk is marked as it is.
+    // The disk is stamped as it is.
     fn turn(&mut self)
         requires session { (history : List Entry) × (asked : Option (ℕ × Op)) × HasSession N.start history asked self.old }
         ensures session { (history : List Entry) (asked : Option (ℕ × Op)) → HasSession N.start history asked self.old → HasSession N.start history asked self.new }
-        ensures fresh { (history : List Entry) (asked : Option (ℕ × Op)) → HasSession N.start history asked self.old → mark_in self.new ≡ length history }
+        ensures fresh { (history : List Entry) (asked : Option (ℕ × Op)) → HasSession N.start history asked self.old → stamp_in self.new ≡ length history }
         ensures covered { (history : List Entry) → IsCoveredIn N.start history self.old → IsCoveredIn N.start history self.new }
-        ensures marked { (x : Cells) → IsMarkedIn self.old.store x → IsMarkedIn self.new.store x }
+        ensures stamped { (x : Cells) → IsStampedIn self.old.store x → IsStampedIn self.new.store x }
         ensures passed { passed_in self.new ≡ passed_in self.old }
         ensures stop { self.new.stop ≡ self.old.stop }
         ensures state { state_in self.new ≡ state_in self.old }
@@ -135,7 +135,7 @@ impl<N: Naming> OneHand<N> {
         requires stop { (n : ℕ) → self.old.stop ≡ Some n → P.stop ≡ Some n }
         ensures session { (history : List Entry) (asked : Option (ℕ × Op)) → HasSession N.start history asked self.old → HasSession N.start history asked self.new }
         ensures covered { (history : List Entry) → IsCoveredIn N.start history self.old → IsCoveredIn N.start history self.new }
-        ensures marked { (x : Cells) → IsMarkedIn self.old.store x ⊎ (Has x P.states ⊎ (x ≡ P.state)) → IsMarkedIn self.new.store x }
+        ensures stamped { (x : Cells) → IsStampedIn self.old.store x ⊎ (Has x P.states ⊎ (x ≡ P.state)) → IsStampedIn self.new.store x }
         ensures passed { passed_in self.new ≡ passed_in self.old + length P.states }
         ensures stop { self.new.stop ≡ P.stop }
         ensures state { state_in self.new ≡ P.state }
@@ -154,7 +154,7 @@ impl<N: Naming> OneHand<N> {
         ensures session { (history : List Entry) → IsAcknowledged N.start history A.before entry.now self.old → HasSession N.start history (Some (entry.now.client, entry.now.op)) self.new }
         ensures covered { (history : List Entry) → IsAcknowledged N.start history A.before entry.now self.old → IsCoveredIn N.start (history ++ entry.now ∷ []) self.new }
         ensures known { KnowsSynced (step_in A.before entry.now) self.new }
-        ensures marked { (x : Cells) → IsMarkedIn self.old.store x → IsMarkedIn self.new.store x }
+        ensures stamped { (x : Cells) → IsStampedIn self.old.store x → IsStampedIn self.new.store x }
         ensures passed { passed_in self.new ≡ passed_in self.old }
         ensures stop { self.new.stop ≡ self.old.stop }
         ensures state { state_in self.new ≡ state_in self.old }
@@ -224,12 +224,12 @@ impl<N: Naming> OneHand<N> {
     }
 
     /// The end of the session. Answers how many entries were drawn. The hand knows one whole history, and each state of a
-    /// visible disk that it marked is explained by it.
+    /// visible disk that it stamped is explained by it.
     pub fn close(self) -> u64
         requires session { (history : List Entry) × HasSession N.start history None self }
         ensures tickets { (history : List Entry) → HasSession N.start history None self → result ≡ length history }
         ensures whole { (clock : ℕ) × KnowsAll N.start result clock self }
-        ensures explained { IsDiskVisible N.start → (history : List Entry) → HasSession N.start history None self → (x : Cells) → IsMarkedIn self.store x → IsExplainedAtMarks N.start.tree history x }
+        ensures explained { IsDiskVisible N.start → (history : List Entry) → HasSession N.start history None self → (x : Cells) → IsStampedIn self.store x → IsExplainedAtStamps N.start.tree history x }
     {
         let OneHand { table, hand } = self;
         hand.close(table).tickets

@@ -9,7 +9,7 @@ pub trait Passing {
     /// The fault at which the store has stopped.
     ghost stop: { Option ℕ };
 
-    /// The states that the disk was in since the last mark.
+    /// The states that the disk was in since the last stamp.
     ghost states: { List Cells };
 
     /// The state that it is in.

@@ -13,7 +13,7 @@ use Rattle.ufs_model.specs.declared.data.Op.TheVariants.{Sync}
 use Rattle.ufs_model.specs.declared.data.Reply.TheVariants.{Done, Excused}
 use Rattle.ufs_model.proofs.Facts.Starts.{root_is_tree, start_of-root}
 use Rattle.ufs_one_hand.specs.Drawn.{HasCauses, IsAcknowledged, IsAnswer, MayPass}
-use Rattle.ufs_one_hand.specs.OneHand.{HasSession, IsCoveredIn, IsStart, KnowsSynced, mark_in}
+use Rattle.ufs_one_hand.specs.OneHand.{HasSession, IsCoveredIn, IsStart, KnowsSynced, stamp_in}
 use Rattle.ufs_prefix.specs.Changes.{asks_commit, file_synced, name_changes}
 use Rattle.ufs_sound.specs.Covers.{step_in}
 use Rattle.ufs_sound.specs.Draws.{entry_of}
@@ -104,7 +104,7 @@ module _ (k : Start) (first : ℕ) (v : View) (h : HasSession k (entry_of first 
   done_answers known = answers k (entry_of first excused_sync ∷ []) done_sync v h refl refl (omega arith) refl (inl refl) (λ e asks. record { files = known.files; born = known.born; names = known.names }) (done_causes v)
 
 module _ (k : Start) (first second : ℕ) (v : View) (h : HasSession k (entry_of first excused_sync ∷ entry_of second done_sync ∷ []) (Some (0, Sync)) v) where
-  pub failed_may_pass : k ≡ bare → IsCoveredIn k (entry_of first excused_sync ∷ entry_of second done_sync ∷ []) v → mark_in v ≡ 2 → (cells : Cells)
+  pub failed_may_pass : k ≡ bare → IsCoveredIn k (entry_of first excused_sync ∷ entry_of second done_sync ∷ []) v → stamp_in v ≡ 2 → (cells : Cells)
       → MayPass k (entry_of first excused_sync ∷ entry_of second done_sync ∷ []) (Some (0, Sync)) [] cells v
   failed_may_pass is covered fresh cells = record { session = h; fresh = fresh; covered = covered; passed = λ visible. absurd (unseen k is visible); explained = λ visible. absurd (unseen k is visible) }
 

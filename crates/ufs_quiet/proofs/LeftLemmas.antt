@@ -9,8 +9,8 @@ use Rattle.ufs_ledger.specs.Kept.{OpensExplained}
 use Rattle.ufs_model.specs.History.{joined}
 use Rattle.ufs_model.specs.PosixTree.{PosixTree}
 use Rattle.ufs_model.specs.declared.data.Entry.{Entry}
-use Rattle.ufs_engine.specs.Plays.{AreFaultsOf, IsMarkedThroughout}
-use Rattle.ufs_engine.proofs.MarkedLemmas.{none_marked}
+use Rattle.ufs_engine.specs.Plays.{AreFaultsOf, IsStampedThroughout}
+use Rattle.ufs_engine.proofs.StampedLemmas.{none_stamped}
 use Rattle.ufs_recovery.specs.Recovered.{IsProperDisk}
 use Rattle.ufs_script.specs.declared.fault.ScriptFault.{ScriptFault}
 use Rattle.ufs_session.specs.Throughout.{IsExplainedThroughout}
@@ -60,8 +60,8 @@ unread_left c told status stands none untouched same other = record {
       (λ image is. subst (IsProperImage c.sectors) (sym (may.proper.settled image is)) may.proper.proper);
   always = λ may begun with. subst (λ (l : List (List Entry)). IsExplainedThroughout c.keeps c.sectors begun [] (joined l) c.from c.to) (sym none)
       (as_begun begun (stands c.from.state begun may.proper with) may.proper);
-  marked = λ kept may begun with. subst (λ (l : List (List Entry)). IsMarkedThroughout c.keeps c.sectors begun (joined l) c.from c.to) (sym none)
-      (none_marked c.keeps c.sectors begun c.from c.to (as_begun begun (stands c.from.state begun may.proper with) may.proper));
+  stamped = λ kept may begun with. subst (λ (l : List (List Entry)). IsStampedThroughout c.keeps c.sectors begun (joined l) c.from c.to) (sym none)
+      (none_stamped c.keeps c.sectors begun c.from c.to (as_begun begun (stands c.from.state begun may.proper with) may.proper));
   clean = λ may zero. absurd (other zero);
   last = λ may begun with zero. absurd (other zero);
   broken = λ two. untouched;

@@ -14,7 +14,7 @@ use Rattle.ufs_ledger.specs.Kept.{OpensExplained}
 use Rattle.ufs_model.specs.History.{joined, tree_after}
 use Rattle.ufs_model.specs.PosixTree.{PosixTree}
 use Rattle.ufs_model.specs.declared.data.Entry.{Entry}
-use Rattle.ufs_engine.specs.Plays.{IsMarkedThroughout, MayPlay}
+use Rattle.ufs_engine.specs.Plays.{IsStampedThroughout, MayPlay}
 use Rattle.ufs_recover.specs.Stopped.{IsNewDisk, IsStopped}
 use Rattle.ufs_recovery.specs.Home.{KeepsTree}
 use Rattle.ufs_recovery.specs.Recovered.{IsCleanDisk, IsProperDisk, IsRecovered}
@@ -60,7 +60,7 @@ pub record Plays {D : Type 0} (told : List (List Entry)) (status : ℕ) (c : Cou
   pub always : MayPlay c.visible c.sectors c.from.state → (start : PosixTree) → BeginsWith c.sectors (reads c.from) start → IsExplainedThroughout c.keeps c.sectors start [] (joined told) c.from c.to
   -- The hand of the session stamped each state in which the disk was while it was served, and what a crash leaves in it is
   -- explained by the first entries, for each number of them from one stamp to another.
-  pub marked : IsTrue c.keeps → MayPlay c.visible c.sectors c.from.state → (start : PosixTree) → BeginsWith c.sectors (reads c.from) start → IsMarkedThroughout c.keeps c.sectors start (joined told) c.from c.to
+  pub stamped : IsTrue c.keeps → MayPlay c.visible c.sectors c.from.state → (start : PosixTree) → BeginsWith c.sectors (reads c.from) start → IsStampedThroughout c.keeps c.sectors start (joined told) c.from c.to
   -- Status 0: the disk is proper and clean, nothing is pending, and it stands for the tree behind the history.
   pub clean : MayPlay c.visible c.sectors c.from.state → status ≡ 0 → IsCleanDisk c.sectors c.to.state
   pub last : MayPlay c.visible c.sectors c.from.state → (start : PosixTree) → BeginsWith c.sectors (reads c.from) start → status ≡ 0 → StandsForTree c.sectors (tree_after start (joined told)) (reads c.to)

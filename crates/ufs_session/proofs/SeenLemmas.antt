@@ -16,7 +16,7 @@ use Rattle.ufs_model.specs.declared.data.Entry.{Entry}
 use Rattle.ufs_model.specs.declared.data.PathNode.{PathNode}
 use Rattle.ufs_prefix.specs.Explained.{IsExplained}
 use Rattle.ufs_prefix.specs.Mapped.{mapped}
-use Rattle.ufs_one_hand.specs.OneHand.{IsMarkedIn, passed_in}
+use Rattle.ufs_one_hand.specs.OneHand.{IsStampedIn, passed_in}
 use Rattle.ufs_sound.specs.Owned.{Has}
 use Rattle.ufs_sound.specs.Parts.{Cells, View}
 use Rattle.ufs_sound.proofs.Owning.{has_append}
@@ -26,7 +26,7 @@ use Rattle.ufs_store_steps.proofs.Cells.{cells_are_there, whole, whole_left, who
 use Rattle.ufs_store_steps.proofs.Within.{opens_within}
 use Rattle.ufs_store.specs.State.{StoreState}
 use Rattle.ufs_stored.specs.OnDisk.{IsExplainedImage}
-use Rattle.ufs_session.specs.Drawing.{HasMarked, states_behind}
+use Rattle.ufs_session.specs.Drawing.{HasStamped, states_behind}
 
 same_node : (node : NodeBytes) → path_node_of node ≡ node_of node
 same_node None = refl
@@ -76,14 +76,14 @@ passed_explained true count old s start history is only x has =
     each_of s.sectors start history b.inside b.each x (subst (λ (l : List State). Has x (map (cells_of s.sectors) l)) behind has)
 passed_explained false count old s start history is only x has = absurd has
 
--- and marked, as the ones before them
-pub marks_go : (keeps : Bool) (first : ℕ) (old new : StoreState) (P : Image → Type 0) (v asked w : View) → IsTrue keeps → HasMarked first old v → new.sectors ≡ old.sectors → LeavesOnly keeps P old.moments new.moments
-    → passed_in asked ≡ passed_in v → ((x : Cells) → IsMarkedIn v.store x → IsMarkedIn asked.store x) → passed_in w ≡ passed_in asked + length (states_behind keeps (first + passed_in asked) new)
-    → ((x : Cells) → IsMarkedIn asked.store x ⊎ Has x (states_behind keeps (first + passed_in asked) new) → IsMarkedIn w.store x) → HasMarked first new w
-marks_go false first old new P v asked w kept has sectors only same stays more marked = let no : false ≡ true = kept in absurd cc
-marks_go true first old new P v asked w kept has sectors only same stays more marked = record {
+-- and stamped, as the ones before them
+pub stamps_go : (keeps : Bool) (first : ℕ) (old new : StoreState) (P : Image → Type 0) (v asked w : View) → IsTrue keeps → HasStamped first old v → new.sectors ≡ old.sectors → LeavesOnly keeps P old.moments new.moments
+    → passed_in asked ≡ passed_in v → ((x : Cells) → IsStampedIn v.store x → IsStampedIn asked.store x) → passed_in w ≡ passed_in asked + length (states_behind keeps (first + passed_in asked) new)
+    → ((x : Cells) → IsStampedIn asked.store x ⊎ Has x (states_behind keeps (first + passed_in asked) new) → IsStampedIn w.store x) → HasStamped first new w
+stamps_go false first old new P v asked w kept has sectors only same stays more stamped = let no : false ≡ true = kept in absurd cc
+stamps_go true first old new P v asked w kept has sectors only same stays more stamped = record {
   count = (let c = has.count in omega (arith, c, same, more, long, counted));
-  marked = λ x here. ⊎_elim (λ a. marked x (inl (stays x (has.marked x a)))) (λ a. marked x (inr (subst (λ (l : List Cells). Has x l) (sym is) a))) (has_append x (map (cells_of old.sectors) (drop first (all old.moments))) (map (cells_of old.sectors) b.inside) (parts x here));
+  stamped = λ x here. ⊎_elim (λ a. stamped x (inl (stays x (has.stamped x a)))) (λ a. stamped x (inr (subst (λ (l : List Cells). Has x l) (sym is) a))) (has_append x (map (cells_of old.sectors) (drop first (all old.moments))) (map (cells_of old.sectors) b.inside) (parts x here));
 }
   where
     b : Passes (Leaves P) old.moments new.moments

@@ -13,7 +13,7 @@ use Rattle.ufs_prefix.specs.Changes.{asks_commit}
 use Rattle.ufs_prefix.specs.Steps.{is_ok}
 use Rattle.ufs_server.specs.Answered.{device_in, stopped_in}
 use Rattle.ufs_disk.specs.Moments.{all}
-use Rattle.ufs_one_hand.specs.OneHand.{IsMarkedIn, passed_in}
+use Rattle.ufs_one_hand.specs.OneHand.{IsStampedIn, passed_in}
 use Rattle.ufs_sound.specs.Owned.{Has}
 use Rattle.ufs_sound.specs.Parts.{Cells, Shortage, Start, View}
 use Rattle.ufs_sound.specs.Shown.{ExplainsImages}
@@ -65,11 +65,11 @@ pub record IsShownWith (k : Start) (history : List Entry) (entry : Entry) (state
   pub before : ExplainsImages k.tree history cells
   pub after : ExplainsImages k.tree (history ++ entry ∷ []) cells
 
--- The hand has marked each state that the store's disk was in behind the first so many, and counts them.
-pub record HasMarked (first : ℕ) (s : StoreState) (v : View) : Type 0 where
+-- The hand has stamped each state that the store's disk was in behind the first so many, and counts them.
+pub record HasStamped (first : ℕ) (s : StoreState) (v : View) : Type 0 where
   pub count : first + passed_in v ≡ length (all s.moments)
-  pub marked : (x : Cells) → Has x (map (cells_of s.sectors) (drop first (all s.moments))) → IsMarkedIn v.store x
+  pub stamped : (x : Cells) → Has x (map (cells_of s.sectors) (drop first (all s.moments))) → IsStampedIn v.store x
 
 -- What a session's first hand counts from: how many states the disk had been in.
-abbrev pub Marks : Start → Bool → ℕ → StoreState → View → Type 0
-Marks k keeps first s v = IsDiskVisible k → IsTrue keeps → HasMarked first s v
+abbrev pub Stamps : Start → Bool → ℕ → StoreState → View → Type 0
+Stamps k keeps first s v = IsDiskVisible k → IsTrue keeps → HasStamped first s v

@@ -3,7 +3,7 @@ use Rattle.std.specs.Prelude.{ℕ, Bool, List, [], ◌∷◌, ◌++◌, drop, le
 use Rattle.ufs_disk.specs.Moments.{Moments, all}
 use Rattle.ufs_model.specs.PosixTree.{PosixTree}
 use Rattle.ufs_model.specs.declared.data.Entry.{Entry}
-use Rattle.ufs_one_hand.specs.Drawn.{IsExplainedAtMarks}
+use Rattle.ufs_one_hand.specs.Drawn.{IsExplainedAtStamps}
 use Rattle.ufs_sound.specs.Owned.{Has}
 use Rattle.ufs_sound.specs.Parts.{Cells}
 use Rattle.ufs_store_steps.specs.Cells.{cells_of}
@@ -16,7 +16,7 @@ IsExplainedThroughout keeps sectors start before [] old new = IsExplainedBetween
 IsExplainedThroughout keeps sectors start before (entry ∷ told) old new =
     (answered : Moments) × IsExplainedBetween keeps sectors start before old answered × IsExplainedThroughout keeps sectors start (before ++ entry ∷ []) told answered new
 
--- The session's hand marked each state that the disk was in from the one moment to the other: whatever a crash leaves in it is
--- explained by the first entries of the history, for each number of them from one mark to another.
-abbrev pub AreMomentsMarked : PosixTree → List Entry → (sectors : ℕ) → Moments → Moments → Type 0
-AreMomentsMarked start history sectors old new = (x : Cells) → Has x (map (cells_of sectors) (drop (length (all old)) (all new))) → IsExplainedAtMarks start history x
+-- The session's hand stamped each state that the disk was in from the one moment to the other: whatever a crash leaves in it is
+-- explained by the first entries of the history, for each number of them from one stamp to another.
+abbrev pub AreMomentsStamped : PosixTree → List Entry → (sectors : ℕ) → Moments → Moments → Type 0
+AreMomentsStamped start history sectors old new = (x : Cells) → Has x (map (cells_of sectors) (drop (length (all old)) (all new))) → IsExplainedAtStamps start history x

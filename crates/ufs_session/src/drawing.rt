@@ -5,7 +5,7 @@ ghost use Rattle.ufs_model.specs.declared.data.Entry.{Entry};
 ghost use Rattle.ufs_model.specs.declared.data.Op.{Op};
 ghost use Rattle.ufs_model.specs.declared.data.Reply.TheVariants as reply;
 ghost use Rattle.ufs_one_hand.specs.Drawn.{HasCauses, IsAcknowledged, MayPass};
-ghost use Rattle.ufs_one_hand.specs.OneHand.{HasSession, IsCoveredIn, IsMarkedIn, KnowsSynced, mark_in, passed_in, state_in};
+ghost use Rattle.ufs_one_hand.specs.OneHand.{HasSession, IsCoveredIn, IsStampedIn, KnowsSynced, passed_in, stamp_in, state_in};
 ghost use Rattle.ufs_prefix.specs.Changes.{asks_commit};
 ghost use Rattle.ufs_session.specs.Drawing.{IsServedIn, IsShownWith, StopsBy, acknowledges, disk_state, short_in, states_behind};
 ghost use Rattle.ufs_sound.specs.Covers.{step_in};
@@ -35,12 +35,12 @@ impl Since for Brand {
 }
 
 // The disk as the session finds it.
-pub(crate) fn mark_disk<N: Naming, D: Door, P: Passing>(hand: &mut OneHand<N>, door: &D)
+pub(crate) fn stamp_disk<N: Naming, D: Door, P: Passing>(hand: &mut OneHand<N>, door: &D)
     requires stop { P.stop ≡ (D.store door.now).stop }
     requires state { P.state ≡ disk_state (D.store door.now) }
     requires states { P.states ≡ [] }
     requires session { HasSession N.start [] None hand.old }
-    requires fresh { mark_in hand.old ≡ 0 }
+    requires fresh { stamp_in hand.old ≡ 0 }
     requires covered { IsCoveredIn N.start [] hand.old }
     requires explained { IsDiskVisible N.start → ExplainsImages N.start.tree [] (disk_state (D.store door.now)) }
     requires still { hand.old.stop ≡ (D.store door.now).stop }
@@ -65,14 +65,14 @@ pub(crate) fn draw<N: Naming, D: Door, F: Since>(
 ) -> Entry
     requires served { IsServedIn (tree_after N.start.tree (joined earlier.now.items ++ told.now.items)) (joined earlier.now.items ++ told.now.items) entry fds.now }
     requires session { HasSession N.start (joined earlier.now.items ++ told.now.items) (Some (entry.client, entry.op)) hand.old }
-    requires fresh { mark_in hand.old ≡ length (joined earlier.now.items ++ told.now.items) }
+    requires fresh { stamp_in hand.old ≡ length (joined earlier.now.items ++ told.now.items) }
     requires covered { IsCoveredIn N.start (joined earlier.now.items ++ told.now.items) hand.old }
     requires shown { IsDiskVisible N.start → IsShownWith N.start (joined earlier.now.items ++ told.now.items) entry (states_behind D.keeps (F.count + passed_in hand.old) (D.store door.now)) (disk_state (D.store door.now)) }
     requires stops { StopsBy hand.old.stop (D.store door.now).stop entry.reply }
     ensures same { result ≡ entry }
     ensures session { HasSession N.start ((joined earlier.now.items ++ told.now.items) ++ entry ∷ []) None hand.new }
     ensures covered { IsCoveredIn N.start ((joined earlier.now.items ++ told.now.items) ++ entry ∷ []) hand.new }
-    ensures marked { (x : Cells) → IsMarkedIn hand.old.store x ⊎ Has x (states_behind D.keeps (F.count + passed_in hand.old) (D.store door.now)) → IsMarkedIn hand.new.store x }
+    ensures stamped { (x : Cells) → IsStampedIn hand.old.store x ⊎ Has x (states_behind D.keeps (F.count + passed_in hand.old) (D.store door.now)) → IsStampedIn hand.new.store x }
     ensures passed { passed_in hand.new ≡ passed_in hand.old + length (states_behind D.keeps (F.count + passed_in hand.old) (D.store door.now)) }
     ensures stop { hand.new.stop ≡ (D.store door.now).stop }
     ensures state { state_in hand.new ≡ disk_state (D.store door.now) }
@@ -94,7 +94,7 @@ fn pass<N: Naming, D: Door, F: Since, P: Passing>(hand: &mut OneHand<N>, door: &
     requires stops { StopsBy hand.old.stop (D.store door.now).stop entry.now.reply }
     ensures session { (history : List Entry) (asked : Option (ℕ × Op)) → HasSession N.start history asked hand.old → HasSession N.start history asked hand.new }
     ensures covered { (history : List Entry) → IsCoveredIn N.start history hand.old → IsCoveredIn N.start history hand.new }
-    ensures marked { (x : Cells) → IsMarkedIn hand.old.store x ⊎ Has x (states_behind D.keeps (F.count + passed_in hand.old) (D.store door.now)) → IsMarkedIn hand.new.store x }
+    ensures stamped { (x : Cells) → IsStampedIn hand.old.store x ⊎ Has x (states_behind D.keeps (F.count + passed_in hand.old) (D.store door.now)) → IsStampedIn hand.new.store x }
     ensures passed { passed_in hand.new ≡ passed_in hand.old + length (states_behind D.keeps (F.count + passed_in hand.old) (D.store door.now)) }
     ensures causes { HasCauses entry.now.reply hand.new }
     ensures stop { hand.new.stop ≡ (D.store door.now).stop }
@@ -115,7 +115,7 @@ fn keep<N: Naming, A: Answering>(
     ensures session { HasSession N.start (joined earlier.now.items ++ told.now.items) (Some (entry.now.client, entry.now.op)) hand.new }
     ensures covered { IsCoveredIn N.start ((joined earlier.now.items ++ told.now.items) ++ entry.now ∷ []) hand.new }
     ensures known { KnowsSynced (step_in (tree_after N.start.tree (joined earlier.now.items ++ told.now.items)) entry.now) hand.new }
-    ensures marked { (x : Cells) → IsMarkedIn hand.old.store x → IsMarkedIn hand.new.store x }
+    ensures stamped { (x : Cells) → IsStampedIn hand.old.store x → IsStampedIn hand.new.store x }
     ensures passed { passed_in hand.new ≡ passed_in hand.old }
     ensures causes { HasCauses entry.now.reply hand.old → HasCauses entry.now.reply hand.new }
     ensures stop { hand.new.stop ≡ hand.old.stop }
@@ -152,7 +152,7 @@ fn draw_entry<N: Naming, A: Answering>(
     ensures same { result ≡ entry }
     ensures session { HasSession N.start ((joined earlier.now.items ++ told.now.items) ++ entry ∷ []) None hand.new }
     ensures covered { IsCoveredIn N.start ((joined earlier.now.items ++ told.now.items) ++ entry ∷ []) hand.new }
-    ensures marked { (x : Cells) → IsMarkedIn hand.old.store x → IsMarkedIn hand.new.store x }
+    ensures stamped { (x : Cells) → IsStampedIn hand.old.store x → IsStampedIn hand.new.store x }
     ensures passed { passed_in hand.new ≡ passed_in hand.old }
     ensures stop { hand.new.stop ≡ hand.old.stop }
     ensures state { state_in hand.new ≡ state_in hand.old }

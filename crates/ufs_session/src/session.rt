@@ -17,14 +17,14 @@ ghost use Rattle.ufs_stored.specs.OnDisk.{IsExplainedBetween, IsOnDisk};
 ghost use Rattle.ufs_stored.specs.Sound.{IsSoundServer};
 ghost use Rattle.ufs_stored.specs.Stored.{ArePartsOf};
 ghost use Rattle.ufs_one_hand.specs.OneHand.{HasSession, IsCoveredIn, IsStart, state_in};
-ghost use Rattle.ufs_session.specs.Drawing.{Marks, SeesDisk, disk_state};
+ghost use Rattle.ufs_session.specs.Drawing.{SeesDisk, Stamps, disk_state};
 ghost use Rattle.ufs_session.specs.Told.{AreFaultsTold};
 ghost use Rattle.ufs_session.specs.Played.{IsPlayedFrom, MayBegin};
 ghost use Rattle.ufs_session.specs.Served.{AreServed};
 ghost use Rattle.ufs_session.specs.Serving.{GoesOn, IsDone, IsReached, IsReady};
-ghost use Rattle.ufs_session.specs.Throughout.{AreMomentsMarked, IsExplainedThroughout};
+ghost use Rattle.ufs_session.specs.Throughout.{AreMomentsStamped, IsExplainedThroughout};
 
-use crate::drawing::{Since, draw, mark_disk};
+use crate::drawing::{Since, draw, stamp_disk};
 use std::alloc::Global;
 use std::marker::Brand;
 use ufs_base::{MAX_CLIENTS, MAX_REQUESTS, Memory};
@@ -104,7 +104,7 @@ fn serve_client<N: Naming, D: Door, F: Since>(
     requires session { HasSession N.start (joined earlier.now.items) None hand.old }
     requires covered { IsCoveredIn N.start (joined earlier.now.items) hand.old }
     requires sees { SeesDisk N.start D.visible (D.store door.old) (joined earlier.now.items) server.old }
-    requires marks { Marks N.start D.keeps F.count (D.store door.old) hand.old }
+    requires stamps { Stamps N.start D.keeps F.count (D.store door.old) hand.old }
     requires stop { hand.old.stop ≡ (D.store door.old).stop }
     requires state { state_in hand.old ≡ disk_state (D.store door.old) }
     requires faults { (begun : StoreState) × AreFaultsTold begun (D.store door.old) (joined earlier.now.items) }
@@ -122,7 +122,7 @@ fn serve_client<N: Naming, D: Door, F: Since>(
     ensures sound { IsSoundServer (geometry_of_store (D.store door.new)) (D.store door.new).unassigned.free server.new }
     ensures session { HasSession N.start (joined earlier.now.items ++ told.new.items) None hand.new }
     ensures covered { IsCoveredIn N.start (joined earlier.now.items ++ told.new.items) hand.new }
-    ensures marks { Marks N.start D.keeps F.count (D.store door.new) hand.new }
+    ensures stamps { Stamps N.start D.keeps F.count (D.store door.new) hand.new }
     ensures stop { hand.new.stop ≡ (D.store door.new).stop }
     ensures state { state_in hand.new ≡ disk_state (D.store door.new) }
     ensures geometry { geometry_of_store (D.store door.new) ≡ geometry_of_store (D.store door.old) }
@@ -160,7 +160,7 @@ fn serve_clients<N: Naming, D: Door, F: Since>(
     requires session { HasSession N.start [] None hand.old }
     requires covered { IsCoveredIn N.start [] hand.old }
     requires sees { SeesDisk N.start D.visible (D.store door.old) [] server.old }
-    requires marks { Marks N.start D.keeps F.count (D.store door.old) hand.old }
+    requires stamps { Stamps N.start D.keeps F.count (D.store door.old) hand.old }
     requires stop { hand.old.stop ≡ (D.store door.old).stop }
     requires state { state_in hand.old ≡ disk_state (D.store door.old) }
     requires sound { IsSoundServer (geometry_of_store (D.store door.old)) (D.store door.old).unassigned.free server.old }
@@ -168,7 +168,7 @@ fn serve_clients<N: Naming, D: Door, F: Since>(
     ensures served { AreServed D.visible D.keeps (D.store door.old) (D.store door.new) server.old server.new clients told.new.items result }
     ensures session { HasSession N.start (joined told.new.items) None hand.new }
     ensures covered { IsCoveredIn N.start (joined told.new.items) hand.new }
-    ensures marks { Marks N.start D.keeps F.count (D.store door.new) hand.new }
+    ensures stamps { Stamps N.start D.keeps F.count (D.store door.new) hand.new }
     ensures stop { hand.new.stop ≡ (D.store door.new).stop }
     ensures state { state_in hand.new ≡ disk_state (D.store door.new) }
 {
@@ -221,7 +221,7 @@ pub fn serve<D: Door>(
         → IsOnDisk (D.store door.old) start [] server.old → IsOnDisk (D.store door.new) start (joined result.told) server.new }
     ensures moments { IsTrue D.visible → (start : PosixTree) → MayBegin server.old start → IsOnDisk (D.store door.old) start [] server.old
         → IsExplainedThroughout D.keeps (D.store door.old).sectors start [] (joined result.told) (D.store door.old).moments (D.store door.new).moments }
-    ensures marked { IsDiskVisible opened.start → IsTrue D.keeps → AreMomentsMarked opened.start.tree (joined result.told) (D.store door.new).sectors (D.store door.old).moments (D.store door.new).moments }
+    ensures stamped { IsDiskVisible opened.start → IsTrue D.keeps → AreMomentsStamped opened.start.tree (joined result.told) (D.store door.new).sectors (D.store door.old).moments (D.store door.new).moments }
     ensures once { AreTicketsOnce (joined result.told) }
     ensures faults { AreFaultsTold (D.store door.old) (D.store door.new) (joined result.told) }
     ensures calm { (D.store door.new).stop ≡ None → ((D.store door.new).faults ≡ (D.store door.old).faults) × ((D.store door.old).stop ≡ None) }
@@ -250,13 +250,13 @@ fn serve_in<N: Naming, D: Door, F: Since>(
     requires going { (D.store door.old).stop ≡ None }
     requires sound { IsSoundServer (geometry_of_store (D.store door.old)) (D.store door.old).unassigned.free server.old }
     ensures served { AreServed D.visible D.keeps (D.store door.old) (D.store door.new) server.old server.new clients result.0.told result.0.ended }
-    ensures marked { IsDiskVisible N.start → IsTrue D.keeps → AreMomentsMarked N.start.tree (joined result.0.told) (D.store door.new).sectors (D.store door.old).moments (D.store door.new).moments }
+    ensures stamped { IsDiskVisible N.start → IsTrue D.keeps → AreMomentsStamped N.start.tree (joined result.0.told) (D.store door.new).sectors (D.store door.old).moments (D.store door.new).moments }
     ensures entries { result.1 ≡ length (joined result.0.told) }
 {
     let geometry = door.geometry();
     always_law(&geometry);
     let mut hand = OneHand::<N>::begin(opened);
-    mark_disk::<N, D, Brand>(&mut hand, door);
+    stamp_disk::<N, D, Brand>(&mut hand, door);
     let mut told = Vec::new(alloc);
     let ended = serve_clients::<N, D, F>(alloc, &mut hand, server, door, clients, &mut told);
     let drawn = hand.close();

@@ -8,15 +8,15 @@ use Rattle.ufs_ledger.specs.Kept.{OpensExplained}
 use Rattle.ufs_model.specs.History.{AreTicketsOnce, joined, tree_after}
 use Rattle.ufs_model.specs.PosixTree.{PosixTree, root_alone}
 use Rattle.ufs_model.specs.declared.data.Entry.{Entry}
-use Rattle.ufs_engine.specs.Plays.{AreFaultsOf, IsEndFault, IsMarkedThroughout, served_end}
+use Rattle.ufs_engine.specs.Plays.{AreFaultsOf, IsEndFault, IsStampedThroughout, served_end}
 use Rattle.ufs_recovery.specs.Recovered.{IsCleanDisk}
 use Rattle.ufs_session.specs.Played.{IsPlayedFrom, MayBegin}
-use Rattle.ufs_session.specs.Throughout.{AreMomentsMarked, IsExplainedThroughout}
+use Rattle.ufs_session.specs.Throughout.{AreMomentsStamped, IsExplainedThroughout}
 use Rattle.ufs_session.proofs.ThroughoutLemmas.{throughout_after, throughout_before}
 use Rattle.ufs_store.specs.Tables.{state_of}
 use Rattle.ufs_stored.specs.OnDisk.{IsExplainedBetween}
 use Rattle.ufs_engine.proofs.EndLemmas.{both_ok, calm_end, end_fault, faults_of, no_faults, none_played, not_served, played_as}
-use Rattle.ufs_engine.proofs.MarkedLemmas.{none_marked, passed_throughout}
+use Rattle.ufs_engine.proofs.StampedLemmas.{none_stamped, passed_throughout}
 use Rattle.ufs_engine.proofs.playing.play.Goals as goal
 
 -- ---- a session was served
@@ -118,8 +118,8 @@ returns-in-Ok-clause-moments g c may start begins =
     (subst (λ (n : ℕ). IsExplainedThroughout g.D.Disk.keeps n start [] told begun (g.D.Disk.moments s.new.door.disk)) b.size
     (s.ensures.moments may.is_visible start (subst (MayBegin c.in-Ok.begun.server) (b.parts may.is_visible may.proper start begins) b.may) (b.on_disk may.is_visible may.proper start begins))) ended)
 
-pub returns-in-Ok-clause-marked : goal.returns-in-Ok-clause-marked
-returns-in-Ok-clause-marked g c kept may start begins =
+pub returns-in-Ok-clause-stamped : goal.returns-in-Ok-clause-stamped
+returns-in-Ok-clause-stamped g c kept may start begins =
     let b = c.in-Ok.ensures in
     let s = c.serve-session in
     let at = subst (MayBegin c.in-Ok.begun.server) (b.parts may.is_visible may.proper start begins) b.may in
@@ -132,9 +132,9 @@ returns-in-Ok-clause-marked g c kept may start begins =
       to = served;
       before = b.moments may.is_visible may.proper start begins;
       passed = passed_throughout g.D.Disk.keeps (g.D.Disk.size c.in-Ok.begun.store.disk) start kept [] told begun served (s.ensures.moments may.is_visible start at on_disk);
-      marked = subst (λ (n : ℕ). AreMomentsMarked start told n begun served) (s.ensures.sectors ∙ b.size)
-          (subst (λ (t : PosixTree). AreMomentsMarked t told (g.D.Disk.size s.new.door.disk) begun served) (b.parts may.is_visible may.proper start begins)
-          (s.ensures.marked (b.visible may.is_visible may.proper) kept));
+      stamped = subst (λ (n : ℕ). AreMomentsStamped start told n begun served) (s.ensures.sectors ∙ b.size)
+          (subst (λ (t : PosixTree). AreMomentsStamped t told (g.D.Disk.size s.new.door.disk) begun served) (b.parts may.is_visible may.proper start begins)
+          (s.ensures.stamped (b.visible may.is_visible may.proper) kept));
       behind = subst (λ (n : ℕ). IsExplainedBetween g.D.Disk.keeps n start told served (g.D.Disk.moments c.close-closed.result.disk)) (s.ensures.sectors ∙ b.size)
           (c.close-closed.ensures.moments may.is_visible start told (s.ensures.on_disk may.is_visible start at on_disk));
     }
@@ -203,10 +203,10 @@ returns-in-Err-clause-moments g c may start begins =
     subst (λ (told : List (List Entry)). IsExplainedThroughout g.D.Disk.keeps (g.D.Disk.size c.args.disk) start [] (joined told) (g.D.Disk.moments c.args.disk) (g.D.Disk.moments c.in-Err.unbegun.disk))
     (sym (c.from_vec.ensures ∙ c.new.ensures.items)) (c.in-Err.ensures.err_moments may.is_visible may.proper start begins)
 
-pub returns-in-Err-clause-marked : goal.returns-in-Err-clause-marked
-returns-in-Err-clause-marked g c kept may start begins =
+pub returns-in-Err-clause-stamped : goal.returns-in-Err-clause-stamped
+returns-in-Err-clause-stamped g c kept may start begins =
     let size = g.D.Disk.size c.args.disk in
     let old = g.D.Disk.moments c.args.disk in
     let new = g.D.Disk.moments c.in-Err.unbegun.disk in
-    subst (λ (told : List (List Entry)). IsMarkedThroughout g.D.Disk.keeps size start (joined told) old new)
-    (sym (c.from_vec.ensures ∙ c.new.ensures.items)) (none_marked g.D.Disk.keeps size start old new (c.in-Err.ensures.err_moments may.is_visible may.proper start begins))
+    subst (λ (told : List (List Entry)). IsStampedThroughout g.D.Disk.keeps size start (joined told) old new)
+    (sym (c.from_vec.ensures ∙ c.new.ensures.items)) (none_stamped g.D.Disk.keeps size start old new (c.in-Err.ensures.err_moments may.is_visible may.proper start begins))

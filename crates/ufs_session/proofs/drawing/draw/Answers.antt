@@ -2,7 +2,7 @@ use Rattle.std.proofs.Common.{◌++◌, ◌∷◌, [], ℕ, Option, Some, sym, a
 use Rattle.ufs_model.specs.History.{joined, tree_after}
 use Rattle.ufs_model.specs.declared.data.Op.{Op}
 use Rattle.ufs_one_hand.specs.Drawn.{HasCauses}
-use Rattle.ufs_one_hand.specs.OneHand.{HasSession, IsCoveredIn, IsMarkedIn, KnowsSynced, passed_in}
+use Rattle.ufs_one_hand.specs.OneHand.{HasSession, IsCoveredIn, IsStampedIn, KnowsSynced, passed_in}
 use Rattle.ufs_one_hand.proofs.Showing.{covered_in_push}
 use Rattle.ufs_sound.specs.Covers.{step_in}
 use Rattle.ufs_sound.specs.Parts.{View}
@@ -63,12 +63,12 @@ draw_entry-requires-clause-causes g c =
       | else-is_acknowledged w ↦ subst (HasCauses c.args.entry.reply) (sym w.hand-is) c.pass.ensures.causes
     ]
 
-pub returns-clause-marked : goal.returns-clause-marked
-returns-clause-marked g c = λ x is.
-    let passed = c.pass.ensures.marked x is in
-    c.draw_entry.ensures.marked x (elim c.if-is_acknowledged.branch [
-      | then-is_acknowledged w ↦ subst (λ (v : View). IsMarkedIn v.store x) (sym w.hand-is) (w.keep.ensures.marked x passed)
-      | else-is_acknowledged w ↦ subst (λ (v : View). IsMarkedIn v.store x) (sym w.hand-is) passed
+pub returns-clause-stamped : goal.returns-clause-stamped
+returns-clause-stamped g c = λ x is.
+    let passed = c.pass.ensures.stamped x is in
+    c.draw_entry.ensures.stamped x (elim c.if-is_acknowledged.branch [
+      | then-is_acknowledged w ↦ subst (λ (v : View). IsStampedIn v.store x) (sym w.hand-is) (w.keep.ensures.stamped x passed)
+      | else-is_acknowledged w ↦ subst (λ (v : View). IsStampedIn v.store x) (sym w.hand-is) passed
     ])
 
 pub returns-clause-passed : goal.returns-clause-passed

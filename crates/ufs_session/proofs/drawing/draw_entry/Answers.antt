@@ -3,7 +3,7 @@ use Rattle.std.specs.FinMap as fin
 use Rattle.ufs_model.specs.History.{IsReplyTo, goes_on, joined}
 use Rattle.ufs_model.specs.PosixTree.{PosixTree, desc_at}
 use Rattle.ufs_one_hand.specs.Drawn.{IsAnswer}
-use Rattle.ufs_one_hand.specs.OneHand.{HasSession, IsMarkedIn, KnowsSynced, in_store}
+use Rattle.ufs_one_hand.specs.OneHand.{HasSession, IsStampedIn, KnowsSynced, in_store}
 use Rattle.ufs_sound.specs.Covers.{step_in}
 use Rattle.ufs_sound.specs.Owned.{Has, weigh}
 use Rattle.ufs_sound.specs.Parts.{StorePart}
@@ -52,7 +52,7 @@ returns g c =
       same = λ i. record { ticket = same i; client = e.client; seq = e.seq; by = e.by; op = e.op; reply = e.reply };
       session = subst (λ (n : ℕ). HasSession k (before ++ record { ticket = n; client = e.client; seq = e.seq; by = e.by; op = e.op; reply = e.reply } ∷ []) None c.draw-ticket.new.self) same (c.draw-ticket.ensures.session before answer);
       covered = λ s has. c.requires.covered s (subst (Has (tt, s)) c.draw-ticket.ensures.store has);
-      marked = λ x is. subst (λ (ss : List (Unit {0} × StorePart)). IsMarkedIn ss x) (sym c.draw-ticket.ensures.store) is;
+      stamped = λ x is. subst (λ (ss : List (Unit {0} × StorePart)). IsStampedIn ss x) (sym c.draw-ticket.ensures.store) is;
       passed = ap (in_store 0 (λ s. weigh (λ x. length x.states - 2) s.past)) c.draw-ticket.ensures.store;
       stop = c.draw-ticket.ensures.stop;
       state = c.draw-ticket.ensures.state;

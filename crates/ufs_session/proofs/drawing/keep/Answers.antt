@@ -26,7 +26,7 @@ returns g c =
         stopped = λ n is. c.keep.ensures.stop ∙ has.stopped n is;
         short = λ need had is. let x = has.short need had is in (x.0, subst (Has x.0) (sym c.keep.ensures.shortages) x.1, x.2);
       };
-      marked = c.keep.ensures.marked;
+      stamped = c.keep.ensures.stamped;
       passed = c.keep.ensures.passed;
       stop = c.keep.ensures.stop;
       state = c.keep.ensures.state;

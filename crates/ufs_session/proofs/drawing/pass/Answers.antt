@@ -12,8 +12,8 @@ pass-requires-clause-session g c =
     let s = c.requires.session in
     (s.0, s.1, subst (λ (p : List Cells × Cells). MayPass g.N.Naming.start s.0 s.1 p.0 p.1 c.args.hand.now) (λ i. (sym c.requires.states i, sym c.requires.state i)) s.2)
 
-pub returns-clause-marked : goal.returns-clause-marked
-returns-clause-marked g c = λ x is. c.pass.ensures.marked x (⊎_elim inl (λ has. inr (inl (subst (Has x) (sym c.requires.states) has))) is)
+pub returns-clause-stamped : goal.returns-clause-stamped
+returns-clause-stamped g c = λ x is. c.pass.ensures.stamped x (⊎_elim inl (λ has. inr (inl (subst (Has x) (sym c.requires.states) has))) is)
 
 pub returns-clause-passed : goal.returns-clause-passed
 returns-clause-passed g c = c.pass.ensures.passed ∙ ap (λ (l : List Cells). passed_in c.args.hand.now + length l) c.requires.states

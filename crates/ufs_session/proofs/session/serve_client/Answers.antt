@@ -11,7 +11,7 @@ use Rattle.ufs_session.specs.Drawing.{IsServedIn, IsShownWith, StopsBy, disk_sta
 use Rattle.ufs_session.specs.Serving.{IsReady}
 use Rattle.ufs_session.specs.Throughout.{IsExplainedThroughout}
 use Rattle.ufs_session.specs.Told.{AreFaultsTold}
-use Rattle.ufs_session.proofs.SeenLemmas.{explained_cells, marks_go, passed_explained}
+use Rattle.ufs_session.proofs.SeenLemmas.{explained_cells, passed_explained, stamps_go}
 use Rattle.ufs_session.proofs.ServingLemmas.{IsServing, any_more, begins, few_so_far, is_ask, names_few, served_in}
 use Rattle.ufs_session.proofs.ThroughoutLemmas.{throughout_joined}
 use Rattle.ufs_session.proofs.ToldLemmas.{legal_told, none_told, one_told, stops_by, told_on}
@@ -33,7 +33,7 @@ loop-op-init g c =
           (c.always_law.ensures.rest g.D.Door.keeps s start before c.args.server.now (sym c.geometry-geometry.ensures.is) is);
       session = subst (λ (h : List Entry). HasSession g.N.Naming.start h None c.args.hand.now) whole c.requires.session;
       covered = subst (λ (h : List Entry). IsCoveredIn g.N.Naming.start h c.args.hand.now) whole c.requires.covered;
-      marks = c.requires.marks;
+      stamps = c.requires.stamps;
       stop = c.requires.stop;
       state = c.requires.state;
       faults = subst (AreFaultsTold s s) (sym c.requires.none) (none_told s);
@@ -152,7 +152,7 @@ draw-entry-requires-clause-shown g c = λ sees.
     let during = subst (λ (n : ℕ). IsExplainedBetween g.D.Door.keeps n start (before ++ told) now.moments next.moments) (sym a.sectors) (a.during there.0 start (before ++ told) on_disk) in
     let last = c.always_law.ensures.rest g.D.Door.keeps next start ((before ++ told) ++ entry ∷ []) c.serve_one-applied.new.server (a.geometry ∙ l.invariant.geometry ∙ sym c.geometry-geometry.ensures.is) (a.on_disk there.0 start (before ++ told) asked legal on_disk) in
     subst (λ (t : List Entry). IsShownWith g.N.Naming.start (before ++ t) entry (states_behind g.D.Door.keeps (g.F.Since.count + passed_in c.ask.new.self) next) (disk_state next)) (sym c.reserve.ensures.items) (record {
-      passed = passed_explained g.D.Door.keeps (g.F.Since.count + passed_in c.ask.new.self) now.moments next start (before ++ told) (λ keeps. ap (λ (n : ℕ). g.F.Since.count + n) c.ask.ensures.passed ∙ (l.invariant.marks sees keeps).count) during;
+      passed = passed_explained g.D.Door.keeps (g.F.Since.count + passed_in c.ask.new.self) now.moments next start (before ++ told) (λ keeps. ap (λ (n : ℕ). g.F.Since.count + n) c.ask.ensures.passed ∙ (l.invariant.stamps sees keeps).count) during;
       before = explained_cells next.sectors next.moments.state start (before ++ told) during.after;
       after = explained_cells next.sectors next.moments.state start ((before ++ told) ++ entry ∷ []) last.after;
     })
@@ -206,11 +206,11 @@ loop-op-preserved g c =
           (subst (λ (t : List Entry). HasSession g.N.Naming.start ((before ++ t) ++ entry ∷ []) None c.draw-entry.new.hand) c.reserve.ensures.items c.draw-entry.ensures.session);
       covered = subst (λ (h : List Entry). IsCoveredIn g.N.Naming.start h c.draw-entry.new.hand) (append_assoc before told (entry ∷ []) ∙ ap (λ (t : List Entry). before ++ t) (sym pushed))
           (subst (λ (t : List Entry). IsCoveredIn g.N.Naming.start ((before ++ t) ++ entry ∷ []) c.draw-entry.new.hand) c.reserve.ensures.items c.draw-entry.ensures.covered);
-      marks = λ sees keeps.
+      stamps = λ sees keeps.
           let there = c.requires.sees sees in
           let start = g.N.Naming.start.tree in
-          marks_go g.D.Door.keeps g.F.Since.count now next (IsExplainedImage now.sectors start (before ++ told)) l.hand c.ask.new.self c.draw-entry.new.hand keeps (l.invariant.marks sees keeps) a.sectors
-          (a.during there.0 start (before ++ told) (l.invariant.on_disk there.0 start c.requires.ready there.1)) c.ask.ensures.passed c.ask.ensures.marked c.draw-entry.ensures.passed c.draw-entry.ensures.marked;
+          stamps_go g.D.Door.keeps g.F.Since.count now next (IsExplainedImage now.sectors start (before ++ told)) l.hand c.ask.new.self c.draw-entry.new.hand keeps (l.invariant.stamps sees keeps) a.sectors
+          (a.during there.0 start (before ++ told) (l.invariant.on_disk there.0 start c.requires.ready there.1)) c.ask.ensures.passed c.ask.ensures.stamped c.draw-entry.ensures.passed c.draw-entry.ensures.stamped;
       stop = c.draw-entry.ensures.stop;
       state = c.draw-entry.ensures.state;
       faults = subst (AreFaultsTold first next) (sym pushed) more;

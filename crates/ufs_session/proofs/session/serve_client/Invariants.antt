@@ -6,7 +6,7 @@ use Rattle.ufs_one_hand.specs.OneHand.{HasSession, IsCoveredIn, state_in}
 use Rattle.ufs_store.specs.State.{geometry_of_store}
 use Rattle.ufs_stored.specs.OnDisk.{IsOnDisk}
 use Rattle.ufs_stored.specs.Sound.{IsSoundServer}
-use Rattle.ufs_session.specs.Drawing.{Marks, disk_state}
+use Rattle.ufs_session.specs.Drawing.{Stamps, disk_state}
 use Rattle.ufs_session.specs.Serving.{IsReady}
 use Rattle.ufs_session.specs.Throughout.{IsExplainedThroughout}
 use Rattle.ufs_session.specs.Told.{AreFaultsTold}
@@ -25,7 +25,7 @@ invariant-loop-op g l =
           → IsExplainedThroughout g.D.Door.keeps first.sectors start before l.told.items first.moments now.moments;
       session : HasSession g.N.Naming.start (before ++ l.told.items) None l.hand;
       covered : IsCoveredIn g.N.Naming.start (before ++ l.told.items) l.hand;
-      marks : Marks g.N.Naming.start g.D.Door.keeps g.F.Since.count now l.hand;
+      stamps : Stamps g.N.Naming.start g.D.Door.keeps g.F.Since.count now l.hand;
       stop : l.hand.stop ≡ now.stop;
       state : state_in l.hand ≡ disk_state now;
       faults : AreFaultsTold first now l.told.items;

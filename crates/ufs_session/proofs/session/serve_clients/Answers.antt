@@ -31,7 +31,7 @@ loop-requests-init g c =
           (c.always_law.ensures.rest g.D.Door.keeps s start [] c.args.server.now (sym c.geometry-geometry.ensures.is) is);
       session = subst (λ (told : List (List Entry)). HasSession g.N.Naming.start (joined told) None c.args.hand.now) (sym c.requires.none) c.requires.session;
       covered = subst (λ (told : List (List Entry)). IsCoveredIn g.N.Naming.start (joined told) c.args.hand.now) (sym c.requires.none) c.requires.covered;
-      marks = c.requires.marks;
+      stamps = c.requires.stamps;
       stop = c.requires.stop;
       state = c.requires.state;
       faults = subst (λ (told : List (List Entry)). AreFaultsTold s s (joined told)) (sym c.requires.none) (none_told s);
@@ -147,7 +147,7 @@ loop-requests-preserved g c =
           (throughout_joined g.D.Door.keeps first.sectors start [] (joined earlier) mine first.moments now.moments later.moments before behind);
       session = subst (λ (h : List Entry). HasSession g.N.Naming.start h None s.new.hand) (sym both) s.ensures.session;
       covered = subst (λ (h : List Entry). IsCoveredIn g.N.Naming.start h s.new.hand) (sym both) s.ensures.covered;
-      marks = s.ensures.marks;
+      stamps = s.ensures.stamps;
       stop = s.ensures.stop;
       state = s.ensures.state;
       faults = subst (AreFaultsTold first later) (sym both) (told_on first now later (joined earlier) mine was s.ensures.faults);

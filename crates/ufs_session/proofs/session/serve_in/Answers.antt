@@ -2,7 +2,7 @@ use Rattle.std.proofs.Common.{◌≡◌, ℕ, List, [], length, map, ap, ◌∙�
 use Rattle.std.specs.Prelude.{drop}
 use Rattle.ufs_disk.specs.Disk.{State}
 use Rattle.ufs_disk.specs.Moments.{all}
-use Rattle.ufs_one_hand.specs.Drawn.{IsExplainedAtMarks}
+use Rattle.ufs_one_hand.specs.Drawn.{IsExplainedAtStamps}
 use Rattle.ufs_sound.specs.Owned.{Has}
 use Rattle.ufs_store_steps.specs.Cells.{cells_of}
 use Rattle.ufs_model.specs.History.{joined}
@@ -26,30 +26,30 @@ pub close-drawn-requires : goal.close-drawn-requires
 close-drawn-requires g c = record { session = (_, c.serve_clients-ended.ensures.session) }
 
 pub serve_clients-ended-requires-clause-session : goal.serve_clients-ended-requires-clause-session
-serve_clients-ended-requires-clause-session g c = c.mark_disk.ensures.session
+serve_clients-ended-requires-clause-session g c = c.stamp_disk.ensures.session
 
 pub serve_clients-ended-requires-clause-covered : goal.serve_clients-ended-requires-clause-covered
-serve_clients-ended-requires-clause-covered g c = c.mark_disk.ensures.covered
+serve_clients-ended-requires-clause-covered g c = c.stamp_disk.ensures.covered
 
-pub mark_disk-requires-clause-explained : goal.mark_disk-requires-clause-explained
-mark_disk-requires-clause-explained g c = λ sees.
+pub stamp_disk-requires-clause-explained : goal.stamp_disk-requires-clause-explained
+stamp_disk-requires-clause-explained g c = λ sees.
     let s = g.D.Door.store c.args.door.now in
     let there = c.requires.sees sees in
     explained_cells s.sectors s.moments.state g.N.Naming.start.tree []
     (c.always_law.ensures.rest g.D.Door.keeps s g.N.Naming.start.tree [] c.args.server.now (sym c.geometry-geometry.ensures.is) there.1).after
 
-pub serve_clients-ended-requires-clause-marks : goal.serve_clients-ended-requires-clause-marks
-serve_clients-ended-requires-clause-marks g c = λ sees keeps.
+pub serve_clients-ended-requires-clause-stamps : goal.serve_clients-ended-requires-clause-stamps
+serve_clients-ended-requires-clause-stamps g c = λ sees keeps.
     let s = g.D.Door.store c.args.door.now in
-    let none = c.mark_disk.ensures.passed ∙ c.begin-hand.ensures.passed in record {
+    let none = c.stamp_disk.ensures.passed ∙ c.begin-hand.ensures.passed in record {
       count = (let n = c.requires.since in omega (arith, n, none));
-      marked = λ x has. absurd (subst (λ (l : List State). Has x (map (cells_of s.sectors) l)) (ap (λ (n : ℕ). drop n (all s.moments)) c.requires.since ∙ drop_all (all s.moments)) has);
+      stamped = λ x has. absurd (subst (λ (l : List State). Has x (map (cells_of s.sectors) l)) (ap (λ (n : ℕ). drop n (all s.moments)) c.requires.since ∙ drop_all (all s.moments)) has);
     }
 
-pub returns-clause-marked : goal.returns-clause-marked
-returns-clause-marked g c sees keeps x has =
+pub returns-clause-stamped : goal.returns-clause-stamped
+returns-clause-stamped g c sees keeps x has =
     let s = c.serve_clients-ended in
     let later = g.D.Door.store s.new.door in
-    let marks = s.ensures.marks sees keeps in
-    subst (λ (lists : List (List Entry)). IsExplainedAtMarks g.N.Naming.start.tree (joined lists) x) (sym c.from_vec.ensures)
-    (c.close-drawn.ensures.explained sees _ s.ensures.session x (marks.marked x (subst (λ (n : ℕ). Has x (map (cells_of later.sectors) (drop n (all later.moments)))) (sym c.requires.since) has)))
+    let stamps = s.ensures.stamps sees keeps in
+    subst (λ (lists : List (List Entry)). IsExplainedAtStamps g.N.Naming.start.tree (joined lists) x) (sym c.from_vec.ensures)
+    (c.close-drawn.ensures.explained sees _ s.ensures.session x (stamps.stamped x (subst (λ (n : ℕ). Has x (map (cells_of later.sectors) (drop n (all later.moments)))) (sym c.requires.since) has)))

@@ -1,7 +1,7 @@
 use Rattle.std.proofs.Common.{[], None, ◌∙◌, ap, sym, subst}
 use Rattle.ufs_sound.specs.Parts.{View}
-use Rattle.ufs_one_hand.specs.OneHand.{HasSession, IsCoveredIn, mark_in, passed_in}
-use Rattle.ufs_one_hand.proofs.Beginning.{start_begun, start_covered, start_mark, start_passed}
+use Rattle.ufs_one_hand.specs.OneHand.{HasSession, IsCoveredIn, passed_in, stamp_in}
+use Rattle.ufs_one_hand.proofs.Beginning.{start_begun, start_covered, start_passed, start_stamp}
 use Rattle.ufs_one_hand.proofs.hand.OneHand.begin.Goals as goal
 
 pub returns-clause-session : goal.returns-clause-session
@@ -13,7 +13,7 @@ pub returns-clause-covered : goal.returns-clause-covered
 returns-clause-covered g c = subst (IsCoveredIn g.N.Naming.start []) (sym c.named-table.ensures) (start_covered g.N.Naming.start c.requires.start)
 
 pub returns-clause-fresh : goal.returns-clause-fresh
-returns-clause-fresh g c = ap mark_in c.named-table.ensures ∙ start_mark g.N.Naming.start c.requires.start
+returns-clause-fresh g c = ap stamp_in c.named-table.ensures ∙ start_stamp g.N.Naming.start c.requires.start
 
 pub returns-clause-passed : goal.returns-clause-passed
 returns-clause-passed g c = ap passed_in c.named-table.ensures ∙ start_passed g.N.Naming.start c.requires.start

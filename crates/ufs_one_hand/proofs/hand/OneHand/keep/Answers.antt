@@ -2,8 +2,8 @@ use Rattle.std.proofs.Common.{◌≡◌, ◌∙◌, ◌++◌, ◌∷◌, [], Som
 use Rattle.ufs_sound.specs.Covers.{step_in}
 use Rattle.ufs_sound.specs.Parts.{View}
 use Rattle.ufs_one_hand.specs.Drawn.{AreBirthsTold, AreBorn, IsAcknowledged, births_kept, files_kept, names_kept}
-use Rattle.ufs_one_hand.specs.OneHand.{HasSession, IsCoveredIn, IsMarkedIn, KnowsSynced, passed_in, state_in}
-use Rattle.ufs_one_hand.proofs.Keeping.{all_covered, all_marked, all_session, births_acked, births_born, knows, names_acked, names_tell, same_passed, same_rest}
+use Rattle.ufs_one_hand.specs.OneHand.{HasSession, IsCoveredIn, IsStampedIn, KnowsSynced, passed_in, state_in}
+use Rattle.ufs_one_hand.proofs.Keeping.{all_covered, all_stamped, all_session, births_acked, births_born, knows, names_acked, names_tell, same_passed, same_rest}
 use Rattle.ufs_one_hand.proofs.hand.OneHand.keep.Goals as goal
 
 pub keep_births-requires : goal.keep_births-requires
@@ -52,7 +52,7 @@ returns g c =
       session = λ history acked. subst (HasSession k history (Some (e.client, e.op))) (sym is) (all_session k history t e v acked one.0 two.0 three.0 law.names law.births);
       covered = λ history acked. subst (IsCoveredIn k (history ++ e ∷ [])) (sym is) (all_covered k history t e v acked one.0 two.0 three.0 law.names law.births law.files);
       known = subst (KnowsSynced (step_in t e)) (sym is) (knows k s.0 t e v s.1 one.0 two.0 three.0 law.names law.births);
-      marked = λ x m. subst (λ (v : View). IsMarkedIn v.store x) (sym is) (all_marked k s.0 t e v s.1 one.0 two.0 three.0 x m);
+      stamped = λ x m. subst (λ (v : View). IsStampedIn v.store x) (sym is) (all_stamped k s.0 t e v s.1 one.0 two.0 three.0 x m);
       passed = ap passed_in is ∙ same_passed k s.0 t e v s.1 one.0 two.0 three.0;
       stop = ap (λ (v : View). v.stop) is;
       state = ap state_in is ∙ rest;

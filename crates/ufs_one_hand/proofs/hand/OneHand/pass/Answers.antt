@@ -5,8 +5,8 @@ use Rattle.ufs_sound.specs.Parts.{View}
 use Rattle.ufs_sound.specs.Rule.{clock_step}
 use Rattle.ufs_hand.specs.Session.{IsEvent}
 use Rattle.ufs_one_hand.specs.Drawn.{passed_view}
-use Rattle.ufs_one_hand.specs.OneHand.{HasSession, IsCoveredIn, IsMarkedIn, passed_in, state_in}
-use Rattle.ufs_one_hand.proofs.Passage.{may_pass, passed_covered, passed_marked, passed_more, passed_session, state_passed, fault_told}
+use Rattle.ufs_one_hand.specs.OneHand.{HasSession, IsCoveredIn, IsStampedIn, passed_in, state_in}
+use Rattle.ufs_one_hand.proofs.Passage.{may_pass, passed_covered, passed_more, passed_session, passed_stamped, state_passed, fault_told}
 use Rattle.ufs_one_hand.proofs.hand.OneHand.pass.Goals as goal
 
 pub mark-requires : goal.mark-requires
@@ -26,7 +26,7 @@ returns g c =
           subst (HasSession k history asked) (sym is) (passed_session k history asked c.args.self.now h g.P.Passing.stop g.P.Passing.states g.P.Passing.state g.P.Passing.shortages c.requires.stop n);
       covered = λ history covered.
           subst (IsCoveredIn k history) (sym is) (passed_covered k s.0 s.1 c.args.self.now s.2.session g.P.Passing.stop g.P.Passing.states g.P.Passing.state g.P.Passing.shortages c.requires.stop n history covered);
-      marked = λ x m. subst (λ (v : View). IsMarkedIn v.store x) (sym is) (passed_marked k s.0 s.1 c.args.self.now s.2.session g.P.Passing.stop g.P.Passing.states g.P.Passing.state g.P.Passing.shortages c.requires.stop n x m);
+      stamped = λ x m. subst (λ (v : View). IsStampedIn v.store x) (sym is) (passed_stamped k s.0 s.1 c.args.self.now s.2.session g.P.Passing.stop g.P.Passing.states g.P.Passing.state g.P.Passing.shortages c.requires.stop n x m);
       passed = ap passed_in is ∙ passed_more k s.0 s.1 c.args.self.now s.2.session g.P.Passing.stop g.P.Passing.states g.P.Passing.state g.P.Passing.shortages c.requires.stop n;
       stop = ap (λ (v : View). v.stop) is;
       state = ap state_in is

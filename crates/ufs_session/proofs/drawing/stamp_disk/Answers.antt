@@ -2,7 +2,7 @@ use Rattle.std.proofs.Common.{[], List, length, None, ap, ◌∙◌, sym, subst,
 use Rattle.ufs_sound.specs.Owned.{Has}
 use Rattle.ufs_sound.specs.Parts.{Cells}
 use Rattle.ufs_sound.specs.Shown.{ExplainsImages}
-use Rattle.ufs_session.proofs.drawing.mark_disk.Goals as goal
+use Rattle.ufs_session.proofs.drawing.stamp_disk.Goals as goal
 
 pub pass-requires-clause-session : goal.pass-requires-clause-session
 pass-requires-clause-session g c = (

@@ -6,7 +6,7 @@ use Rattle.std.proofs.lemmas.List.{append-nil, append_assoc}
 use Rattle.ufs_disk.specs.Disk.{State}
 use Rattle.ufs_disk.specs.Moments.{Moments, all}
 use Rattle.ufs_disk.proofs.Runs.{started}
-use Rattle.ufs_engine.specs.Plays.{IsMarkedThroughout}
+use Rattle.ufs_engine.specs.Plays.{IsStampedThroughout}
 use Rattle.ufs_model.specs.PosixTree.{PosixTree}
 use Rattle.ufs_model.specs.declared.data.Entry.{Entry}
 use Rattle.ufs_session.specs.Throughout.{IsExplainedThroughout}
@@ -17,13 +17,13 @@ use Rattle.ufs_stored.specs.OnDisk.{IsExplainedBetween, IsExplainedImage}
 
 module _ (keeps : Bool) (sectors : ℕ) (start : PosixTree) where
   -- where no session ran
-  pub none_marked : (old new : Moments) → IsExplainedBetween keeps sectors start [] old new → IsMarkedThroughout keeps sectors start [] old new
-  none_marked old new stretch = record {
+  pub none_stamped : (old new : Moments) → IsExplainedBetween keeps sectors start [] old new → IsStampedThroughout keeps sectors start [] old new
+  none_stamped old new stretch = record {
     from = new;
     to = new;
     before = stretch;
     passed = ([], sym (append-nil (all new)));
-    marked = λ x has. absurd (subst (λ (l : List State). Has x (map (cells_of sectors) l)) (drop-length (all new)) has);
+    stamped = λ x has. absurd (subst (λ (l : List State). Has x (map (cells_of sectors) l)) (drop-length (all new)) has);
     behind = started keeps (IsExplainedImage sectors start []) new stretch.after;
   }
 
