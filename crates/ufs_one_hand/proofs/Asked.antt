@@ -21,9 +21,10 @@ use Rattle.ufs_sound.specs.Owned.{one, Has}
 use Rattle.ufs_sound.specs.Parts.{FilePart, NamesPart, Start, View}
 use Rattle.ufs_sound.proofs.Keys.{itself, alike}
 use Rattle.ufs_sound.proofs.Owning.{count_has}
-use Rattle.ufs_one_hand.specs.Drawn.{IsAcknowledged, birth_of, file_asked, made_with, names_asked}
+use Rattle.ufs_one_hand.specs.Drawn.{IsAcknowledged}
 use Rattle.ufs_one_hand.specs.OneHand.{HasSession}
 use Rattle.ufs_one_hand.proofs.Passage.{store_there}
+use Rattle.ufs_one_hand.proofs.Kept.{birth_of, file_asked, made_with, names_asked}
 
 -- ---- the first change that makes a file
 

@@ -27,11 +27,13 @@ use Rattle.ufs_sound.specs.Visible.{IsDiskVisible}
 use Rattle.ufs_sound.proofs.Happening.Staying.{answers_stay, blocks_stay, both_remake, same_file, same_parts_keep, same_parts_know}
 use Rattle.ufs_sound.proofs.Keys.{itself, alike}
 use Rattle.ufs_sound.proofs.Owning.{count_has, has_count, has_append, append_has, has_each, weigh_each}
-use Rattle.ufs_one_hand.specs.Drawn.{AreBirthsTold, AreBorn, IsAcknowledged, births_kept, counts_with, files_asked, files_kept, names_asked, names_asked_in, names_kept, turned}
+use Rattle.ufs_hand.specs.Session.{IsEvent}
+use Rattle.ufs_one_hand.specs.Drawn.{IsAcknowledged, turned}
 use Rattle.ufs_one_hand.specs.OneHand.{HasSession, IsCovered, IsCoveredIn, IsStampedIn, IsStoreAt, KnowsSynced, in_store, passed_in, state_in}
 use Rattle.ufs_one_hand.proofs.Asked.{asked_all, asked_least, asked_made, asked_most, same_changes, store_low, synced_file}
 use Rattle.ufs_one_hand.proofs.Bare.{disk_kept}
-use Rattle.ufs_one_hand.proofs.Passage.{is_turn, one_part, stays_stamped, store_there}
+use Rattle.ufs_one_hand.proofs.Kept.{AreBirthsTold, AreBorn, births_kept, counts_with, files_asked, files_kept, names_asked, names_asked_in, names_kept}
+use Rattle.ufs_one_hand.proofs.Passage.{is_turn, one_part, stays_stamped, store_there, turned_at, with_parts}
 use Rattle.ufs_one_hand.proofs.Showing.{acknowledged_shows, legal_with}
 use Rattle.ufs_one_hand.proofs.Tickets.{known_tickets, begun_is, whole_is}
 
@@ -127,18 +129,8 @@ module _ (k : Start) (history : List Entry) (t : PosixTree) (e : Entry) (v : Vie
   -- a session with other files and another store, where the files are the same but for what they know
   files_session : (fs : List (ℕ × FilePart)) → ((f : ℕ) (y : FilePart) → Has (f, y) fs → (x : FilePart) × Has (f, x) v.files × IsSameFile x y) → ((f : ℕ) → count eqb f fs ≡ count eqb f v.files)
       → (u : StorePart) → IsStoreAt v.stop u → (n : ℕ) → HasSession k history asked (record v { files = fs; store = (tt, u) ∷ []; seen = n })
-  files_session fs same counts u at n = record {
-    tree = h.tree;
-    legal = h.legal;
-    start = h.start;
-    all_clients = h.all_clients;
-    all_asked = h.all_asked;
-    clients = h.clients;
-    theirs = h.theirs;
-    all_files = λ f. counts f ∙ h.all_files f;
-    files = λ f y has.
-        let r = same f y has in
-        let at = h.files f r.0 r.1 in
+  files_session fs same counts u at n = with_parts k history asked v h fs counts
+      (λ f y has. let r = same f y has in let at = h.files f r.0 r.1 in (
         record {
           bytes = at.bytes ∙ ap Some (sym r.2.bytes);
           leases = r.2.leases ∙ at.leases;
@@ -146,16 +138,10 @@ module _ (k : Start) (history : List Entry) (t : PosixTree) (e : Entry) (v : Vie
           quarantine = r.2.quarantine ∙ at.quarantine;
           spare = r.2.spare ∙ at.spare;
           loaded = r.2.loaded ∙ at.loaded;
-        };
-    changes = λ f y has. let r = same f y has in r.2.changes ∙ h.changes f r.0 r.1;
-    pools = h.pools;
-    names = h.names;
-    has_names = h.has_names;
-    names_at = h.names_at;
-    store = u;
-    has_store = refl;
-    store_at = at;
-  }
+        },
+        r.2.changes ∙ h.changes f r.0 r.1,
+      ))
+      v.names h.names h.has_names h.names_at u v.faults v.stop v.shortages n at
 
   -- ---- first the changes of names
 
@@ -206,22 +192,12 @@ module _ (k : Start) (history : List Entry) (t : PosixTree) (e : Entry) (v : Vie
     made_by : (g : ℕ) → Has g (files_asked t e v.files) → IsMadeBy h.names number g
     made_by g has = let r = asked_has t e g v.files has in asked_made k history t e v a g r.0 r.1 r.2 number asked_later made
 
-    store_after : IsStoreAt v.stop t1
-    store_after = record {
-      extents = h.store_at.extents;
-      dirs = h.store_at.dirs;
-      unassigned = h.store_at.unassigned;
-      stop = h.store_at.stop;
-      unfailed = h.store_at.unfailed;
-      single = h.store_at.single;
-    }
-
     -- what the entry asks for holds on
     module _ (names_law : NamesAreAcknowledged) (births_law : BirthsAreAcknowledged) where
       numbers : AreNamesAcknowledged k.tree (history ++ e ∷ []) number
       numbers m few synced born = one_of (λ j. j ≤ m) (covered.names m few synced born) (asked_least k history t e v a names_law births_law m few synced born)
 
-      pub names_acked : IsAcknowledged k history t e (names_kept t e v n)
+      names_acked : IsAcknowledged k history t e (names_kept t e v n)
       names_acked = subst (IsAcknowledged k history t e) is1 (record {
         tree_is = a.tree_is;
         session = session;
@@ -237,35 +213,19 @@ module _ (k : Start) (history : List Entry) (t : PosixTree) (e : Entry) (v : Vie
           few = ap length (h.names_at.changes ∙ sym (same_changes k history t e v a))
 
           session : HasSession k history asked w1
-          session = record {
-            tree = h.tree;
-            legal = h.legal;
-            start = h.start;
-            all_clients = h.all_clients;
-            all_asked = h.all_asked;
-            clients = h.clients;
-            theirs = h.theirs;
-            all_files = h.all_files;
-            files = h.files;
-            changes = h.changes;
-            pools = h.pools;
-            names = q1;
-            has_names = refl;
-            names_at = record {
-              opening = h.names_at.opening;
-              changes = h.names_at.changes;
-              paths = h.names_at.paths;
-              next = h.names_at.next;
-              holds = h.names_at.holds;
-              leases = h.names_at.leases;
-              blocks = h.names_at.blocks;
-              spare = h.names_at.spare;
-              dropped = h.names_at.dropped;
-            };
-            store = t1;
-            has_store = refl;
-            store_at = store_after;
-          }
+          session = with_parts k history asked v h v.files (λ f. refl) (λ f p has. (h.files f p has, h.changes f p has)) ((tt, q1) ∷ []) q1 refl
+              (record {
+                opening = h.names_at.opening;
+                changes = h.names_at.changes;
+                paths = h.names_at.paths;
+                next = h.names_at.next;
+                holds = h.names_at.holds;
+                leases = h.names_at.leases;
+                blocks = h.names_at.blocks;
+                spare = h.names_at.spare;
+                dropped = h.names_at.dropped;
+              })
+              t1 v.faults v.stop v.shortages n (turned_at v.stop h.store h.store_at n [] h.store.files number)
 
     -- the hand may take this step
     module _ (keeps : KeepsTrees) (law : AcknowledgedShow) (names_law : NamesAreAcknowledged) (births_law : BirthsAreAcknowledged) where
@@ -295,11 +255,11 @@ module _ (k : Start) (history : List Entry) (t : PosixTree) (e : Entry) (v : Vie
               by true is = let s : names_asked t e h.names ≡ length h.names.changes = asked_all k history t e v a is in let u = asked_later in (omega arith, omega arith)
               by false is = let u = at_least in (omega arith, omega arith)
 
-      pub may_keep_names : MayRemake by_images k n v (names_kept t e v n)
+      may_keep_names : MayRemake by_images k n v (names_kept t e v n)
       may_keep_names = subst (MayRemake by_images k n v) is1 (both_remake by_images k n v h.names q1 h.store t1 h.has_names h.has_store refl (λ b. refl) here1)
 
     -- the names tell of each file that the entry syncs
-    pub names_tell : AreBirthsTold t e (names_kept t e v n)
+    names_tell : AreBirthsTold t e (names_kept t e v n)
     names_tell = subst (AreBirthsTold t e) is1 (λ f x p a b syncs. subst (λ (z : NamesPart). Has f z.born) (sym (the_names p b)) (append_has f h.names.born (files_asked t e v.files) (inr (has_asked t e f x v.files a syncs))))
       where
         the_names : (p : NamesPart) → Has {A = Unit {0} × NamesPart} (tt, p) ((tt, q1) ∷ []) → p ≡ q1
@@ -365,7 +325,7 @@ module _ (k : Start) (history : List Entry) (t : PosixTree) (e : Entry) (v : Vie
         answers = answers_stay v w2 s u refl refl refl (ap (λ (z : StorePart). z.faults) still) (ap (λ (z : StorePart). z.stop) still) (ap (λ (z : StorePart). z.shortages) still);
       }
 
-    pub may_keep_births : AreBirthsTold t e v → MayRemake by_images k n v w2
+    may_keep_births : AreBirthsTold t e v → MayRemake by_images k n v w2
     may_keep_births told = record {
       clients = refl;
       asked = refl;
@@ -383,7 +343,7 @@ module _ (k : Start) (history : List Entry) (t : PosixTree) (e : Entry) (v : Vie
     }
 
     -- what the entry asks for holds on
-    pub births_acked : IsAcknowledged k history t e w2
+    births_acked : IsAcknowledged k history t e w2
     births_acked = record {
       tree_is = a.tree_is;
       session = subst (λ (ss : List (Unit {0} × StorePart)). HasSession k history asked (record v { files = each go2 v.files; store = ss; seen = n })) (sym h.has_store)
@@ -400,7 +360,7 @@ module _ (k : Start) (history : List Entry) (t : PosixTree) (e : Entry) (v : Vie
         same f x = record { bytes = refl; leases = refl; blocks = refl; quarantine = refl; spare = refl; loaded = refl; changes = refl }
 
     -- and they know
-    pub births_born : AreBorn t e w2
+    births_born : AreBorn t e w2
     births_born f y has syncs = let r = has_each go2 f y v.files has in sym (ap (λ (z : FilePart). z.born) r.2) ∙ ap (λ b. b || r.0.born) syncs
 
   -- ---- then the changes of those files
@@ -487,7 +447,7 @@ module _ (k : Start) (history : List Entry) (t : PosixTree) (e : Entry) (v : Vie
                 let c = number3 g x has ∙ ap (λ b. cond b (length x.changes) (committed h.store g)) is in
                 let u = ap (λ (u : FilePart). u.known) (goes3 g x y has after) ∙ ap (λ b. cond b (length x.changes) x.known) is in (omega arith, omega arith)
 
-      pub may_keep_files : MayRemake by_images k n v (files_kept t e v n)
+      may_keep_files : MayRemake by_images k n v (files_kept t e v n)
       may_keep_files = subst (MayRemake by_images k n v) is3 (record {
         clients = refl;
         asked = refl;
@@ -513,14 +473,7 @@ module _ (k : Start) (history : List Entry) (t : PosixTree) (e : Entry) (v : Vie
     -- the session stays, and no more is committed than is acknowledged
     pub kept_session : HasSession k history asked (files_kept t e v n)
     kept_session = subst (HasSession k history asked) is3
-        (files_session (each go3 v.files) (λ f y has. let r = has_each go3 f y v.files has in (r.0, r.1, subst (IsSameFile r.0) r.2 (same f r.0))) (λ f. weigh_each go3 (λ m. one (eqb f m)) v.files) t3 (record {
-          extents = h.store_at.extents;
-          dirs = h.store_at.dirs;
-          unassigned = h.store_at.unassigned;
-          stop = h.store_at.stop;
-          unfailed = h.store_at.unfailed;
-          single = h.store_at.single;
-        }) n)
+        (files_session (each go3 v.files) (λ f y has. let r = has_each go3 f y v.files has in (r.0, r.1, subst (IsSameFile r.0) r.2 (same f r.0))) (λ f. weigh_each go3 (λ m. one (eqb f m)) v.files) t3 (turned_at v.stop h.store h.store_at n [] (counts_with t e v.files h.store.files) h.store.names) n)
       where
         same : (f : ℕ) (x : FilePart) → IsSameFile x (go3 f x)
         same f x = record { bytes = refl; leases = refl; blocks = refl; quarantine = refl; spare = refl; loaded = refl; changes = refl }
@@ -530,60 +483,72 @@ module _ (k : Start) (history : List Entry) (t : PosixTree) (e : Entry) (v : Vie
 
 -- ---- the three together
 
-module _ (k : Start) (history : List Entry) (t : PosixTree) (e : Entry) (v : View) (acked : IsAcknowledged k history t e v) (a b c : ℕ) where
-  abbrev v1 : View
-  v1 = names_kept t e v a
+module _ (k : Start) (history : List Entry) (t : PosixTree) (e : Entry) (v : View) (acked : IsAcknowledged k history t e v) (names_law : NamesAreAcknowledged) (births_law : BirthsAreAcknowledged) where
+  -- the first may be, and each of the others behind the one before it
+  pub first_learned : KeepsTrees → AcknowledgedShow → IsEvent k v (names_kept t e v)
+  first_learned keeps law = inr (inr (λ n. may_keep_names k history t e v acked n keeps law names_law births_law))
 
-  abbrev v2 : View
-  v2 = births_kept t e v1 b
+  module _ (a : ℕ) where
+    abbrev v1 : View
+    v1 = names_kept t e v a
 
-  abbrev v3 : View
-  v3 = files_kept t e v2 c
-
-  -- the disk stays as it is
-  pub same_rest : state_in v3 ≡ state_in v
-  same_rest = ap (λ (ss : List (Unit {0} × StorePart)). state_in (files_kept t e (births_kept t e (names_kept t e (record v { store = ss }) a) b) c)) acked.session.has_store
-      ∙ sym (ap (in_store [] (λ s. s.state)) acked.session.has_store)
-
-  -- the store's part behind the three
-  abbrev last : StorePart → StorePart
-  last s = record (turned c [] (record (turned a [] s) { names = later s.names (names_asked_in t e v.names) })) { files = counts_with t e v2.files s.files }
-
-  store_is : v3.store ≡ (tt, last acked.session.store) ∷ []
-  store_is = ap (λ (ss : List (Unit {0} × StorePart)). (files_kept t e (births_kept t e (names_kept t e (record v { store = ss }) a) b) c).store) acked.session.has_store
-
-  pub all_stamped : (x : Cells) → IsStampedIn v.store x → IsStampedIn v3.store x
-  all_stamped x is = subst (λ (ss : List (Unit {0} × StorePart)). IsStampedIn ss x) (sym store_is)
-      (stays_stamped acked.session.store (last acked.session.store) x (inl refl) (λ y has. inr (inr has)) (subst (λ (ss : List (Unit {0} × StorePart)). IsStampedIn ss x) acked.session.has_store is))
-
-  pub same_passed : passed_in v3 ≡ passed_in v
-  same_passed = ap (in_store 0 (λ s. weigh (λ x. length x.states - 2) s.past)) store_is ∙ nothing (weigh (λ x. length x.states - 2) acked.session.store.past) ∙ sym (ap (in_store 0 (λ s. weigh (λ x. length x.states - 2) s.past)) acked.session.has_store)
-    where
-      nothing : (m : ℕ) → 0 + (0 + m) ≡ m
-      nothing m = omega arith
-
-  module _ (names_law : NamesAreAcknowledged) (births_law : BirthsAreAcknowledged) where
     acked_1 : IsAcknowledged k history t e v1
     acked_1 = names_acked k history t e v acked a names_law births_law
 
-    acked_2 : IsAcknowledged k history t e v2
-    acked_2 = births_acked k history t e v1 acked_1 b
+    pub next_learned : IsEvent k v1 (births_kept t e v1)
+    next_learned = inr (inr (λ n. may_keep_births k history t e v1 acked_1 n (names_tell k history t e v acked a)))
 
-    pub all_session : HasSession k history (Some (e.client, e.op)) v3
-    all_session = kept_session k history t e v2 acked_2 c
+    module _ (b : ℕ) where
+      abbrev v2 : View
+      v2 = births_kept t e v1 b
 
-    pub all_covered : FilesAreAcknowledged → IsCoveredIn k (history ++ e ∷ []) v3
-    all_covered law = kept_covered k history t e v2 acked_2 c law
+      acked_2 : IsAcknowledged k history t e v2
+      acked_2 = births_acked k history t e v1 acked_1 b
 
-    -- the hand knows what the entry acknowledges
-    pub knows : KnowsSynced (step_in t e) v3
-    knows = record {
-      files = λ f y i syncs. let r = has_each (λ f p. record p { known = cond (syncs_file f (step_in t e)) (length p.changes) p.known }) f y v2.files i in
-          let e = ap (λ (z : FilePart). z.known) r.2 in let d = ap (λ (z : FilePart). length z.changes) r.2 in
-          let is = ap (λ b. cond b (length r.0.changes) r.0.known) syncs in omega arith;
-      born = λ f y i syncs. let r = has_each (λ f p. record p { known = cond (syncs_file f (step_in t e)) (length p.changes) p.known }) f y v2.files i in
-          sym (ap (λ (z : FilePart). z.born) r.2) ∙ births_born k history t e v1 acked_1 b f r.0 r.1 syncs;
-      names = λ q i syncs. let r = has_each (λ _ p. record p { born = p.born ++ files_asked t e v.files; known = cond (syncs_names (step_in t e)) (length p.changes) p.known }) tt q v.names i in
-          let e = ap (λ (z : NamesPart). z.known) r.2 in let d = ap (λ (z : NamesPart). length z.changes) r.2 in
-          let is = ap (λ b. cond b (length r.0.changes) r.0.known) syncs in omega arith;
-    }
+      pub last_learned : KeepsTrees → AcknowledgedShow → FilesAreAcknowledged → IsEvent k v2 (files_kept t e v2)
+      last_learned keeps law files_law = inr (inr (λ n. may_keep_files k history t e v2 acked_2 n keeps law files_law (births_born k history t e v1 acked_1 b)))
+
+      module _ (c : ℕ) where
+        abbrev v3 : View
+        v3 = files_kept t e v2 c
+
+        -- the disk stays as it is
+        pub same_rest : state_in v3 ≡ state_in v
+        same_rest = ap (λ (ss : List (Unit {0} × StorePart)). state_in (files_kept t e (births_kept t e (names_kept t e (record v { store = ss }) a) b) c)) acked.session.has_store
+            ∙ sym (ap (in_store [] (λ s. s.state)) acked.session.has_store)
+
+        -- the store's part behind the three
+        abbrev last : StorePart → StorePart
+        last s = record (turned c [] (record (turned a [] s) { names = later s.names (names_asked_in t e v.names) })) { files = counts_with t e v2.files s.files }
+
+        store_is : v3.store ≡ (tt, last acked.session.store) ∷ []
+        store_is = ap (λ (ss : List (Unit {0} × StorePart)). (files_kept t e (births_kept t e (names_kept t e (record v { store = ss }) a) b) c).store) acked.session.has_store
+
+        pub all_stamped : (x : Cells) → IsStampedIn v.store x → IsStampedIn v3.store x
+        all_stamped x is = subst (λ (ss : List (Unit {0} × StorePart)). IsStampedIn ss x) (sym store_is)
+            (stays_stamped acked.session.store (last acked.session.store) x (inl refl) (λ y has. inr (inr has)) (subst (λ (ss : List (Unit {0} × StorePart)). IsStampedIn ss x) acked.session.has_store is))
+
+        pub same_passed : passed_in v3 ≡ passed_in v
+        same_passed = ap (in_store 0 (λ s. weigh (λ x. length x.states - 2) s.past)) store_is ∙ nothing (weigh (λ x. length x.states - 2) acked.session.store.past) ∙ sym (ap (in_store 0 (λ s. weigh (λ x. length x.states - 2) s.past)) acked.session.has_store)
+          where
+            nothing : (m : ℕ) → 0 + (0 + m) ≡ m
+            nothing m = omega arith
+
+        pub all_session : HasSession k history (Some (e.client, e.op)) v3
+        all_session = kept_session k history t e v2 acked_2 c
+
+        pub all_covered : FilesAreAcknowledged → IsCoveredIn k (history ++ e ∷ []) v3
+        all_covered law = kept_covered k history t e v2 acked_2 c law
+
+        -- the hand knows what the entry acknowledges
+        pub knows : KnowsSynced (step_in t e) v3
+        knows = record {
+          files = λ f y i syncs. let r = has_each (λ f p. record p { known = cond (syncs_file f (step_in t e)) (length p.changes) p.known }) f y v2.files i in
+              let e = ap (λ (z : FilePart). z.known) r.2 in let d = ap (λ (z : FilePart). length z.changes) r.2 in
+              let is = ap (λ b. cond b (length r.0.changes) r.0.known) syncs in omega arith;
+          born = λ f y i syncs. let r = has_each (λ f p. record p { known = cond (syncs_file f (step_in t e)) (length p.changes) p.known }) f y v2.files i in
+              sym (ap (λ (z : FilePart). z.born) r.2) ∙ births_born k history t e v1 acked_1 b f r.0 r.1 syncs;
+          names = λ q i syncs. let r = has_each (λ _ p. record p { born = p.born ++ files_asked t e v.files; known = cond (syncs_names (step_in t e)) (length p.changes) p.known }) tt q v.names i in
+              let e = ap (λ (z : NamesPart). z.known) r.2 in let d = ap (λ (z : NamesPart). length z.changes) r.2 in
+              let is = ap (λ b. cond b (length r.0.changes) r.0.known) syncs in omega arith;
+        }

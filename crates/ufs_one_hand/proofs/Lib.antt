@@ -10,6 +10,7 @@ pub mod Draws
 pub mod Files
 pub mod Holding
 pub mod Keeping
+pub mod Kept
 pub mod Passage
 pub mod Showing
 pub mod Started

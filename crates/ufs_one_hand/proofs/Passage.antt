@@ -3,15 +3,16 @@ use Rattle.std.proofs.lemmas.List.{length-append}
 use Rattle.std.proofs.Common.{◌≡◌, ◌⊎◌, ℕ, ◌+◌, ◌-◌, ◌≤◌, true, false, eqb, eq-eqb, List, [], ◌∷◌, ◌++◌, length, Option, Some, None, unwrap_or, sym, refl, ap, ◌∙◌, subst, inl, inr, ⊎_elim, arith}
 use Rattle.std.specs.Ordering.{nat_cmp}
 use Rattle.std.specs.FinMap as fin
-use Rattle.ufs_model.specs.History.{IsLegal}
+use Rattle.ufs_model.specs.History.{IsLegal, tree_after}
 use Rattle.ufs_model.specs.Laws.{KeepsTrees}
 use Rattle.ufs_model.specs.PosixTree.{PosixTree, Paths}
 use Rattle.ufs_model.specs.declared.data.Entry.{Entry}
 use Rattle.ufs_model.specs.declared.data.Op.{Op}
 use Rattle.ufs_sound.specs.Acknowledged.{ExplainedShow}
+use Rattle.ufs_prefix.specs.Changes.{changes_of}
 use Rattle.ufs_sound.specs.ByImages.{by_images}
 use Rattle.ufs_sound.specs.Marks.{value_after, IsSingle, IsTurn, AreAnswers, RemakesOn, MayRemake, IsBeginningKnown, HasChanges}
-use Rattle.ufs_sound.specs.Owned.{one, Has, each, times, weigh}
+use Rattle.ufs_sound.specs.Owned.{one, Has, count, each, times, weigh}
 use Rattle.ufs_sound.specs.Parts.{Cells, FilePart, NamesPart, Shortage, Start, StorePart, Stretch, View, committed}
 use Rattle.ufs_sound.specs.Shown.{ExplainsImages, ShowsImages}
 use Rattle.ufs_sound.specs.Visible.{IsDiskVisible}
@@ -19,7 +20,7 @@ use Rattle.ufs_sound.proofs.Happening.Staying.{answers_stay, store_remakes, same
 use Rattle.ufs_sound.proofs.Owning.{has_append, append_has}
 use Rattle.ufs_hand.specs.Session.{IsEvent}
 use Rattle.ufs_one_hand.specs.Drawn.{MayPass, fault_met, store_passed, passed_view, turned, turned_view}
-use Rattle.ufs_one_hand.specs.OneHand.{HasSession, IsCovered, IsCoveredIn, IsStampedIn, IsStoreAt, in_store, passed_in, stamp_in, state_in}
+use Rattle.ufs_one_hand.specs.OneHand.{AreNamesAt, HasSession, IsCovered, IsCoveredIn, IsFileAt, IsStampedIn, IsStoreAt, in_store, passed_in, stamp_in, state_in}
 use Rattle.ufs_one_hand.proofs.Bare.{disk_kept}
 use Rattle.ufs_one_hand.proofs.Showing.{explained_shows}
 use Rattle.ufs_one_hand.proofs.Tickets.{begun_is, known_tickets, whole_is}
@@ -70,10 +71,13 @@ same_covered k j s t files names covered = record {
   made = let a = covered.made in omega arith;
 }
 
--- a session with another part of the store
-pub with_store_session : (k : Start) (history : List Entry) (asked : Option (ℕ × Op)) (v : View) → HasSession k history asked v → (t : StorePart) (faults : List ℕ) (stop : Option ℕ) (shortages : List Shortage) (n : ℕ) → IsStoreAt stop t
-    → HasSession k history asked (record v { store = (tt, t) ∷ []; seen = n; faults = faults; stop = stop; shortages = shortages })
-with_store_session k history asked v h t faults stop shortages n at = record {
+-- a session with other files, names and store that are of the same history
+pub with_parts : (k : Start) (history : List Entry) (asked : Option (ℕ × Op)) (v : View) → HasSession k history asked v
+    → (files : List (ℕ × FilePart)) → ((f : ℕ) → count eqb f files ≡ count eqb f v.files) → ((f : ℕ) (p : FilePart) → Has (f, p) files → IsFileAt (tree_after k.tree history) f p × (p.changes ≡ changes_of f k.tree history))
+    → (names : List (Unit {0} × NamesPart)) (p : NamesPart) → names ≡ (tt, p) ∷ [] → AreNamesAt k.tree history (tree_after k.tree history) p
+    → (t : StorePart) (faults : List ℕ) (stop : Option ℕ) (shortages : List Shortage) (n : ℕ) → IsStoreAt stop t
+    → HasSession k history asked (record v { files = files; names = names; store = (tt, t) ∷ []; seen = n; faults = faults; stop = stop; shortages = shortages })
+with_parts k history asked v h files counts files_at names p has_names names_at t faults stop shortages n at = record {
   tree = h.tree;
   legal = h.legal;
   start = h.start;
@@ -81,16 +85,32 @@ with_store_session k history asked v h t faults stop shortages n at = record {
   all_asked = h.all_asked;
   clients = h.clients;
   theirs = h.theirs;
-  all_files = h.all_files;
-  files = h.files;
-  changes = h.changes;
+  all_files = λ f. counts f ∙ h.all_files f;
+  files = λ f q has. (files_at f q has).0;
+  changes = λ f q has. (files_at f q has).1;
   pools = h.pools;
-  names = h.names;
-  has_names = h.has_names;
-  names_at = h.names_at;
+  names = p;
+  has_names = has_names;
+  names_at = names_at;
   store = t;
   has_store = refl;
   store_at = at;
+}
+
+-- with another part of the store alone
+pub with_store_session : (k : Start) (history : List Entry) (asked : Option (ℕ × Op)) (v : View) → HasSession k history asked v → (t : StorePart) (faults : List ℕ) (stop : Option ℕ) (shortages : List Shortage) (n : ℕ) → IsStoreAt stop t
+    → HasSession k history asked (record v { store = (tt, t) ∷ []; seen = n; faults = faults; stop = stop; shortages = shortages })
+with_store_session k history asked v h = with_parts k history asked v h v.files (λ f. refl) (λ f p has. (h.files f p has, h.changes f p has)) v.names h.names h.has_names h.names_at
+
+-- the store's part goes on by a turn, with whatever numbers
+pub turned_at : (stop : Option ℕ) (s : StorePart) → IsStoreAt stop s → (n : ℕ) (states : List Cells) (files : fin.FinMap nat_cmp ℕ) (names : ℕ) → IsStoreAt stop (record (turned n states s) { files = files; names = names })
+turned_at stop s at n states files names = record {
+  extents = at.extents;
+  dirs = at.dirs;
+  unassigned = at.unassigned;
+  stop = at.stop;
+  unfailed = at.unfailed;
+  single = at.single;
 }
 
 -- a store that keeps its stretches, and has the old state in a stretch or still, has stamped what it had
@@ -156,14 +176,7 @@ module _ (k : Start) (history : List Entry) (asked : Option (ℕ × Op)) (v : Vi
     remakes = subst (MayRemake by_images k n v) is_begun (store_remakes by_images k n v h.store t1 v.faults v.stop v.shortages h.has_store refl (λ single p there. begins_here single p))
 
     pub turned_session : HasSession k history asked (turned_view v n)
-    turned_session = subst (HasSession k history asked) is_begun (with_store_session k history asked v h t1 v.faults v.stop v.shortages n (record {
-      extents = h.store_at.extents;
-      dirs = h.store_at.dirs;
-      unassigned = h.store_at.unassigned;
-      stop = h.store_at.stop;
-      unfailed = h.store_at.unfailed;
-      single = h.store_at.single;
-    }))
+    turned_session = subst (HasSession k history asked) is_begun (with_store_session k history asked v h t1 v.faults v.stop v.shortages n (turned_at v.stop h.store h.store_at n [] h.store.files h.store.names))
 
     pub turned_covered : (j : List Entry) → IsCoveredIn k j v → IsCoveredIn k j (turned_view v n)
     turned_covered j covered = subst (IsCoveredIn k j) is_begun (λ s has. subst (IsCovered k j) (sym (one_part s t1 has)) (same_covered k j h.store t1 refl refl (covered h.store (store_there k history asked v h))))

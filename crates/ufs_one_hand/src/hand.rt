@@ -6,8 +6,8 @@ ghost use Rattle.ufs_model.specs.declared.data.Op.{Op};
 ghost use Rattle.ufs_sound.specs.Draws.{entry_of, left_faults};
 ghost use Rattle.ufs_sound.specs.Owned.{Has, times};
 ghost use Rattle.ufs_sound.specs.Parts.{Cells};
-ghost use Rattle.ufs_hand.specs.Session.{KnowsAll};
-ghost use Rattle.ufs_one_hand.specs.Drawn.{IsAcknowledged, IsAnswer, IsExplainedAtStamps, MayPass, asked_view, fault_met, AreBirthsTold, AreBorn, births_kept, files_kept, names_kept};
+ghost use Rattle.ufs_hand.specs.Session.{IsEvent, KnowsAll};
+ghost use Rattle.ufs_one_hand.specs.Drawn.{IsAcknowledged, IsAnswer, IsExplainedAtStamps, MayPass, asked_view, fault_met};
 ghost use Rattle.ufs_one_hand.specs.OneHand.{HasSession, IsCoveredIn, IsStampedIn, IsStart, KnowsSynced, StartsCanBegin, passed_in, stamp_in, state_in};
 ghost use Rattle.ufs_sound.specs.Covers.{step_in};
 ghost use Rattle.ufs_sound.specs.Visible.{IsDiskVisible};
@@ -28,6 +28,17 @@ use ufs_sound::{
 pub struct OneHand<N: Naming> {
     table: HandTable<N>,
     hand: Hand<N>,
+}
+
+// What the hand learns of an acknowledged entry, step by step.
+#[derive(Drop)]
+enum Learned {
+    // The changes of names that it acknowledges are committed.
+    Names,
+    // The files that it syncs are born.
+    Births,
+    // The changes of those files are committed.
+    Files,
 }
 
 impl<N: Naming> Model for OneHand<N> {
@@ -163,45 +174,19 @@ impl<N: Naming> OneHand<N> {
     {
         a_request_keeps_the_tree();
         acknowledged_numbers();
-        self.keep_names::<A, Brand>(entry);
-        self.keep_births::<A, Brand>(entry);
-        self.keep_files::<A, Brand>(entry);
-    }
-
-    fn keep_names<A: Answering, E: Event>(&mut self, entry: &Entry)
-        requires leaves { E.leaves ≡ names_kept A.before entry.now self.old }
-        requires answer { (history : List Entry) × IsAcknowledged N.start history A.before entry.now self.old }
-        ensures kept { (tickets : ℕ) × (self.new ≡ names_kept A.before entry.now self.old tickets) }
-    {
-        a_request_keeps_the_tree();
-        acknowledged_numbers();
         explained_images_show();
-        // For the prover alone.
-        let _ = entry;
-        self.hand.mark::<E>(&self.table);
+        self.learn::<Brand>(Learned::Names, entry);
+        self.learn::<Brand>(Learned::Births, entry);
+        self.learn::<Brand>(Learned::Files, entry);
     }
 
-    fn keep_births<A: Answering, E: Event>(&mut self, entry: &Entry)
-        requires leaves { E.leaves ≡ births_kept A.before entry.now self.old }
-        requires answer { (history : List Entry) × IsAcknowledged N.start history A.before entry.now self.old }
-        requires told { AreBirthsTold A.before entry.now self.old }
-        ensures kept { (tickets : ℕ) × (self.new ≡ births_kept A.before entry.now self.old tickets) }
+    // One step of it: the hand has then what the caller picks.
+    fn learn<E: Event>(&mut self, learned: Learned, entry: &Entry)
+        requires event { IsEvent N.start self.old E.leaves }
+        ensures left { (tickets : ℕ) × (self.new ≡ E.leaves tickets) }
     {
         // For the prover alone.
-        let _ = entry;
-        self.hand.mark::<E>(&self.table);
-    }
-
-    fn keep_files<A: Answering, E: Event>(&mut self, entry: &Entry)
-        requires leaves { E.leaves ≡ files_kept A.before entry.now self.old }
-        requires answer { (history : List Entry) × IsAcknowledged N.start history A.before entry.now self.old }
-        requires born { AreBorn A.before entry.now self.old }
-        ensures kept { (tickets : ℕ) × (self.new ≡ files_kept A.before entry.now self.old tickets) }
-    {
-        a_request_keeps_the_tree();
-        acknowledged_numbers();
-        explained_images_show();
-        // For the prover alone.
+        let _ = learned;
         let _ = entry;
         self.hand.mark::<E>(&self.table);
     }
