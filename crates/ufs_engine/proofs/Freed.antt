@@ -1,5 +1,5 @@
 -- An image that a recovery left has nothing that a recovery mends: no inode without a name, and no block too many.
-use Rattle.std.proofs.Common.{◌≡◌, ◌≢◌, ℕ, [], None, Some, ap, refl, sym, ◌∙◌, subst, arith}
+use Rattle.std.proofs.Common.{◌≡◌, ◌≢◌, ℕ, [], None, Some, ap, sym, ◌∙◌, subst, arith}
 use Rattle.std.specs.Prelude.{flat_map, length, ◌<◌, ◌==◌, if◌then◌else◌, Ok}
 use Rattle.std.specs.List.{slice_get}
 use Rattle.ufs_base.specs.Images as images
@@ -15,7 +15,6 @@ use Rattle.ufs_image.proofs.Journals.{taken}
 use Rattle.ufs_layout.specs.DentryForm.{DentryForm}
 use Rattle.ufs_layout.specs.Superblock.{geometry_of}
 use Rattle.ufs_layout.specs.declared.geometry.Geometry.{Geometry}
-use Rattle.ufs_layout.specs.declared.superblock.Super.{Super}
 use Rattle.ufs_model.specs.Excuses as excuses
 use Rattle.ufs_recovery.specs.Recovered.{AreFitted, HasNoOrphans, IsCleanDisk, IsRecovered}
 use Rattle.ufs_start.specs.Refused.{IsCutOff, IsUnnamedFile, TellsNoStart}

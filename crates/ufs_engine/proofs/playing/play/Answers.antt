@@ -8,158 +8,143 @@ use Rattle.ufs_ledger.specs.Kept.{OpensExplained}
 use Rattle.ufs_model.specs.History.{AreTicketsOnce, joined, tree_after}
 use Rattle.ufs_model.specs.PosixTree.{PosixTree, root_alone}
 use Rattle.ufs_model.specs.declared.data.Entry.{Entry}
-use Rattle.ufs_engine.specs.Plays.{AreFaultsOf, IsEndFault, IsStampedThroughout, served_end}
+use Rattle.ufs_engine.specs.Begins.{BeginsWith}
+use Rattle.ufs_engine.specs.Plays.{AreFaultsOf, IsEndFault, IsStampedThroughout, MayPlay, served_end}
 use Rattle.ufs_recovery.specs.Recovered.{IsCleanDisk}
 use Rattle.ufs_session.specs.Played.{IsPlayedFrom, MayBegin}
 use Rattle.ufs_session.specs.Throughout.{AreMomentsStamped, IsExplainedThroughout}
 use Rattle.ufs_session.proofs.ThroughoutLemmas.{throughout_after, throughout_before}
+use Rattle.ufs_store.specs.State.{StoreState}
 use Rattle.ufs_store.specs.Tables.{state_of}
-use Rattle.ufs_stored.specs.OnDisk.{IsExplainedBetween}
+use Rattle.ufs_stored.specs.OnDisk.{IsExplainedBetween, IsOnDisk}
 use Rattle.ufs_engine.proofs.EndLemmas.{both_ok, calm_end, end_fault, faults_of, no_faults, none_played, not_served, played_as}
 use Rattle.ufs_engine.proofs.StampedLemmas.{none_stamped, passed_throughout}
+use Rattle.ufs_engine.proofs.playing.play.Given.{Over}
+use Rattle.ufs_engine.proofs.playing.play.Goals.{After-drop-script}
 use Rattle.ufs_engine.proofs.playing.play.Goals as goal
 
 -- ---- a session was served
 
+module _ (g : Over) (c : After-drop-script g) where
+  abbrev told : List Entry
+  told = joined c.serve-session.result.told
+
+  -- the store as the session began, and as it was served
+  abbrev first : StoreState
+  first = let at = c.in-Ok.begun.store in state_of (g.D.Disk.size at.disk) (g.D.Disk.moments at.disk) (g.D.Disk.faults at.disk) at.tables
+
+  abbrev last : StoreState
+  last = let at = c.serve-session.new.door in state_of (g.D.Disk.size at.disk) (g.D.Disk.moments at.disk) (g.D.Disk.faults at.disk) at.tables
+
+  sized : g.D.Disk.size c.serve-session.new.door.disk ≡ g.D.Disk.size c.args.disk
+  sized = c.serve-session.ensures.sectors ∙ c.in-Ok.ensures.size
+
+  module _ (may : MayPlay g.D.Disk.visible (g.D.Disk.size c.args.disk) (g.D.Disk.moments c.args.disk).state) (start : PosixTree) (begins : BeginsWith (g.D.Disk.size c.args.disk) (reads (g.D.Disk.moments c.args.disk)) start) where
+    may_begin : MayBegin c.in-Ok.begun.server start
+    may_begin = subst (MayBegin c.in-Ok.begun.server) (c.in-Ok.ensures.parts may.is_visible may.proper start begins) c.in-Ok.ensures.may
+
+    begun_on_disk : IsOnDisk first start [] c.in-Ok.begun.server
+    begun_on_disk = c.in-Ok.ensures.on_disk may.is_visible may.proper start begins
+
+    served_on_disk : IsOnDisk last start told c.serve-session.new.server
+    served_on_disk = c.serve-session.ensures.on_disk may.is_visible start may_begin begun_on_disk
+
+    -- while it was served, and while it was closed
+    served : IsExplainedThroughout g.D.Disk.keeps (g.D.Disk.size c.args.disk) start [] told (g.D.Disk.moments c.in-Ok.begun.store.disk) (g.D.Disk.moments c.serve-session.new.door.disk)
+    served = subst (λ (n : ℕ). IsExplainedThroughout g.D.Disk.keeps n start [] told (g.D.Disk.moments c.in-Ok.begun.store.disk) (g.D.Disk.moments c.serve-session.new.door.disk)) c.in-Ok.ensures.size
+        (c.serve-session.ensures.moments may.is_visible start may_begin begun_on_disk)
+
+    closed : IsExplainedBetween g.D.Disk.keeps (g.D.Disk.size c.args.disk) start told (g.D.Disk.moments c.serve-session.new.door.disk) (g.D.Disk.moments c.close-closed.result.disk)
+    closed = subst (λ (n : ℕ). IsExplainedBetween g.D.Disk.keeps n start told (g.D.Disk.moments c.serve-session.new.door.disk) (g.D.Disk.moments c.close-closed.result.disk)) sized
+        (c.close-closed.ensures.moments may.is_visible start told served_on_disk)
+
 pub returns-in-Ok-clause-legal : goal.returns-in-Ok-clause-legal
 returns-in-Ok-clause-legal g c =
-    let b = c.in-Ok.ensures in
     let s = c.serve-session in
     let end = c.whole_end in
     let start = c.in-Ok.begun.opened.start.tree in
-    (start, played_as start c.args.script.clients s.result.told s.result.ended (served_end end.result) (joined s.result.told) end.ensures.served (s.ensures.played start b.may))
+    (start, played_as start c.args.script.clients s.result.told s.result.ended (served_end end.result) (told g c) end.ensures.served (s.ensures.played start c.in-Ok.ensures.may))
 
 pub returns-in-Ok-clause-faults : goal.returns-in-Ok-clause-faults
 returns-in-Ok-clause-faults g c =
     let b = c.in-Ok.ensures in
-    let s = c.serve-session in
-    let after = s.new.door in
-    let old = state_of (g.D.Disk.size c.in-Ok.begun.store.disk) (g.D.Disk.moments c.in-Ok.begun.store.disk) (g.D.Disk.faults c.in-Ok.begun.store.disk) c.in-Ok.begun.store.tables in
-    let new = state_of (g.D.Disk.size after.disk) (g.D.Disk.moments after.disk) (g.D.Disk.faults after.disk) after.tables in
-    subst (λ (n : ℕ). AreFaultsOf n (joined s.result.told)) b.passed (faults_of old new b.going (joined s.result.told) s.ensures.faults)
+    subst (λ (n : ℕ). AreFaultsOf n (told g c)) b.passed (faults_of (first g c) (last g c) b.going (told g c) c.serve-session.ensures.faults)
 
 pub returns-in-Ok-clause-calm : goal.returns-in-Ok-clause-calm
 returns-in-Ok-clause-calm g c =
-    let b = c.in-Ok.ensures in
-    let s = c.serve-session in
-    let after = s.new.door in
-    let old = state_of (g.D.Disk.size c.in-Ok.begun.store.disk) (g.D.Disk.moments c.in-Ok.begun.store.disk) (g.D.Disk.faults c.in-Ok.begun.store.disk) c.in-Ok.begun.store.tables in
-    let new = state_of (g.D.Disk.size after.disk) (g.D.Disk.moments after.disk) (g.D.Disk.faults after.disk) after.tables in
     let closing = c.close-closed in
     let now = g.D.Disk.faults closing.result.disk in
-    subst (λ (n : ℕ). OnOk c.whole_end.result (now ≡ n)) b.passed
-    (calm_end old new now closing.result.ended s.ensures.calm closing.ensures.cause closing.ensures.stopped c.whole_end.result c.whole_end.ensures.closed)
+    subst (λ (n : ℕ). OnOk c.whole_end.result (now ≡ n)) c.in-Ok.ensures.passed
+    (calm_end (first g c) (last g c) now closing.result.ended c.serve-session.ensures.calm closing.ensures.cause closing.ensures.stopped c.whole_end.result c.whole_end.ensures.closed)
 
 pub returns-in-Ok-clause-closing : goal.returns-in-Ok-clause-closing
 returns-in-Ok-clause-closing g c =
-    let b = c.in-Ok.ensures in
     let s = c.serve-session in
-    let after = s.new.door in
-    let old = state_of (g.D.Disk.size c.in-Ok.begun.store.disk) (g.D.Disk.moments c.in-Ok.begun.store.disk) (g.D.Disk.faults c.in-Ok.begun.store.disk) c.in-Ok.begun.store.tables in
-    let new = state_of (g.D.Disk.size after.disk) (g.D.Disk.moments after.disk) (g.D.Disk.faults after.disk) after.tables in
     let closing = c.close-closed in
     let now = g.D.Disk.faults closing.result.disk in
     let end = c.whole_end in
-    subst (λ (n : ℕ). IsEndFault n now (joined s.result.told) end.result) b.passed
-    (end_fault old new now closing.result.ended s.ensures.calm closing.ensures.cause closing.ensures.stopped
-    end.result end.ensures.closed end.ensures.device end.ensures.stopped (joined s.result.told) s.ensures.faults b.going)
+    subst (λ (n : ℕ). IsEndFault n now (told g c) end.result) c.in-Ok.ensures.passed
+    (end_fault (first g c) (last g c) now closing.result.ended s.ensures.calm closing.ensures.cause closing.ensures.stopped
+    end.result end.ensures.closed end.ensures.device end.ensures.stopped (told g c) s.ensures.faults c.in-Ok.ensures.going)
 
 pub returns-in-Ok-clause-size : goal.returns-in-Ok-clause-size
-returns-in-Ok-clause-size g c =
-    let b = c.in-Ok.ensures in
-    let s = c.serve-session in
-    c.close-closed.ensures.size ∙ s.ensures.sectors ∙ b.size
+returns-in-Ok-clause-size g c = c.close-closed.ensures.size ∙ sized g c
 
 pub returns-in-Ok-clause-played : goal.returns-in-Ok-clause-played
 returns-in-Ok-clause-played g c may start begins =
-    let b = c.in-Ok.ensures in
     let s = c.serve-session in
     let end = c.whole_end in
-    played_as start c.args.script.clients s.result.told s.result.ended (served_end end.result) (joined s.result.told) end.ensures.served (s.ensures.played start (subst (MayBegin c.in-Ok.begun.server) (b.parts may.is_visible may.proper start begins) b.may))
+    played_as start c.args.script.clients s.result.told s.result.ended (served_end end.result) (told g c) end.ensures.served (s.ensures.played start (may_begin g c may start begins))
 
 pub returns-in-Ok-clause-opened : goal.returns-in-Ok-clause-opened
-returns-in-Ok-clause-opened g c may =
-    c.begin.ensures.opened may.is_visible may.proper
+returns-in-Ok-clause-opened g c may = c.begin.ensures.opened may.is_visible may.proper
 
 pub returns-in-Ok-clause-crash : goal.returns-in-Ok-clause-crash
-returns-in-Ok-clause-crash g c may start begins image is =
-    let b = c.in-Ok.ensures in
-    let s = c.serve-session in
-    let served = s.ensures.on_disk may.is_visible start (subst (MayBegin c.in-Ok.begun.server) (b.parts may.is_visible may.proper start begins) b.may) (b.on_disk may.is_visible may.proper start begins) in
-    let ended = subst (λ (n : ℕ). IsExplainedBetween g.D.Disk.keeps n start (joined s.result.told) (g.D.Disk.moments s.new.door.disk) (g.D.Disk.moments c.close-closed.result.disk)) (s.ensures.sectors ∙ b.size)
-    (c.close-closed.ensures.moments may.is_visible start (joined s.result.told) served) in
-    (ended.after image is).explained
+returns-in-Ok-clause-crash g c may start begins image is = ((closed g c may start begins).after image is).explained
 
 pub returns-in-Ok-clause-proper : goal.returns-in-Ok-clause-proper
 returns-in-Ok-clause-proper g c may image is =
-    let b = c.in-Ok.ensures in
-    let s = c.serve-session in
     let from = c.begin.ensures.opened may.is_visible may.proper in
-    let start = from.0 in
-    let begins = from.1 in
-    let served = s.ensures.on_disk may.is_visible start (subst (MayBegin c.in-Ok.begun.server) (b.parts may.is_visible may.proper start begins) b.may) (b.on_disk may.is_visible may.proper start begins) in
-    let ended = subst (λ (n : ℕ). IsExplainedBetween g.D.Disk.keeps n start (joined s.result.told) (g.D.Disk.moments s.new.door.disk) (g.D.Disk.moments c.close-closed.result.disk)) (s.ensures.sectors ∙ b.size)
-    (c.close-closed.ensures.moments may.is_visible start (joined s.result.told) served) in
-    (ended.after image is).proper
+    ((closed g c may from.0 from.1).after image is).proper
 
 pub returns-in-Ok-clause-moments : goal.returns-in-Ok-clause-moments
 returns-in-Ok-clause-moments g c may start begins =
-    let b = c.in-Ok.ensures in
-    let s = c.serve-session in
-    let served = s.ensures.on_disk may.is_visible start (subst (MayBegin c.in-Ok.begun.server) (b.parts may.is_visible may.proper start begins) b.may) (b.on_disk may.is_visible may.proper start begins) in
-    let ended = subst (λ (n : ℕ). IsExplainedBetween g.D.Disk.keeps n start (joined s.result.told) (g.D.Disk.moments s.new.door.disk) (g.D.Disk.moments c.close-closed.result.disk)) (s.ensures.sectors ∙ b.size)
-    (c.close-closed.ensures.moments may.is_visible start (joined s.result.told) served) in
     let size = g.D.Disk.size c.args.disk in
-    let old = g.D.Disk.moments c.args.disk in
     let begun = g.D.Disk.moments c.in-Ok.begun.store.disk in
-    let told = joined s.result.told in
-    throughout_after g.D.Disk.keeps size start [] told old begun (g.D.Disk.moments c.close-closed.result.disk) (b.moments may.is_visible may.proper start begins)
-    (throughout_before g.D.Disk.keeps size start [] told begun (g.D.Disk.moments s.new.door.disk) (g.D.Disk.moments c.close-closed.result.disk)
-    (subst (λ (n : ℕ). IsExplainedThroughout g.D.Disk.keeps n start [] told begun (g.D.Disk.moments s.new.door.disk)) b.size
-    (s.ensures.moments may.is_visible start (subst (MayBegin c.in-Ok.begun.server) (b.parts may.is_visible may.proper start begins) b.may) (b.on_disk may.is_visible may.proper start begins))) ended)
+    let new = g.D.Disk.moments c.close-closed.result.disk in
+    throughout_after g.D.Disk.keeps size start [] (told g c) (g.D.Disk.moments c.args.disk) begun new (c.in-Ok.ensures.moments may.is_visible may.proper start begins)
+    (throughout_before g.D.Disk.keeps size start [] (told g c) begun (g.D.Disk.moments c.serve-session.new.door.disk) new (served g c may start begins) (closed g c may start begins))
 
 pub returns-in-Ok-clause-stamped : goal.returns-in-Ok-clause-stamped
 returns-in-Ok-clause-stamped g c kept may start begins =
     let b = c.in-Ok.ensures in
     let s = c.serve-session in
-    let at = subst (MayBegin c.in-Ok.begun.server) (b.parts may.is_visible may.proper start begins) b.may in
-    let on_disk = b.on_disk may.is_visible may.proper start begins in
     let begun = g.D.Disk.moments c.in-Ok.begun.store.disk in
-    let served = g.D.Disk.moments s.new.door.disk in
-    let told = joined s.result.told in
+    let over = g.D.Disk.moments s.new.door.disk in
     record {
       from = begun;
-      to = served;
+      to = over;
       before = b.moments may.is_visible may.proper start begins;
-      passed = passed_throughout g.D.Disk.keeps (g.D.Disk.size c.in-Ok.begun.store.disk) start kept [] told begun served (s.ensures.moments may.is_visible start at on_disk);
-      stamped = subst (λ (n : ℕ). AreMomentsStamped start told n begun served) (s.ensures.sectors ∙ b.size)
-          (subst (λ (t : PosixTree). AreMomentsStamped t told (g.D.Disk.size s.new.door.disk) begun served) (b.parts may.is_visible may.proper start begins)
+      passed = passed_throughout g.D.Disk.keeps (g.D.Disk.size c.args.disk) start kept [] (told g c) begun over (served g c may start begins);
+      stamped = subst (λ (n : ℕ). AreMomentsStamped start (told g c) n begun over) (sized g c)
+          (subst (λ (t : PosixTree). AreMomentsStamped t (told g c) (g.D.Disk.size s.new.door.disk) begun over) (b.parts may.is_visible may.proper start begins)
           (s.ensures.stamped (b.visible may.is_visible may.proper) kept));
-      behind = subst (λ (n : ℕ). IsExplainedBetween g.D.Disk.keeps n start told served (g.D.Disk.moments c.close-closed.result.disk)) (s.ensures.sectors ∙ b.size)
-          (c.close-closed.ensures.moments may.is_visible start told (s.ensures.on_disk may.is_visible start at on_disk));
+      behind = closed g c may start begins;
     }
 
 pub returns-in-Ok-clause-clean : goal.returns-in-Ok-clause-clean
 returns-in-Ok-clause-clean g c may =
-    let b = c.in-Ok.ensures in
-    let s = c.serve-session in
     let from = c.begin.ensures.opened may.is_visible may.proper in
-    let start = from.0 in
-    let begins = from.1 in
-    let served = s.ensures.on_disk may.is_visible start (subst (MayBegin c.in-Ok.begun.server) (b.parts may.is_visible may.proper start begins) b.may) (b.on_disk may.is_visible may.proper start begins) in
     let closing = c.close-closed in
     both_ok c.whole_end.result closing.result.ended
-    (λ leads. subst (λ (n : ℕ). IsCleanDisk n (g.D.Disk.moments closing.result.disk).state) (s.ensures.sectors ∙ b.size) (leads start (joined s.result.told) served))
+    (λ leads. subst (λ (n : ℕ). IsCleanDisk n (g.D.Disk.moments closing.result.disk).state) (sized g c) (leads from.0 (told g c) (served_on_disk g c may from.0 from.1)))
     c.whole_end.ensures.closed (closing.ensures.clean may.is_visible)
 
 pub returns-in-Ok-clause-last : goal.returns-in-Ok-clause-last
 returns-in-Ok-clause-last g c may start begins =
-    let b = c.in-Ok.ensures in
-    let s = c.serve-session in
-    let served = s.ensures.on_disk may.is_visible start (subst (MayBegin c.in-Ok.begun.server) (b.parts may.is_visible may.proper start begins) b.may) (b.on_disk may.is_visible may.proper start begins) in
     let closing = c.close-closed in
     both_ok c.whole_end.result closing.result.ended
-    (λ leads. subst (λ (n : ℕ). StandsForTree n (tree_after start (joined s.result.told)) (reads (g.D.Disk.moments closing.result.disk))) (s.ensures.sectors ∙ b.size) (leads start (joined s.result.told) served))
+    (λ leads. subst (λ (n : ℕ). StandsForTree n (tree_after start (told g c)) (reads (g.D.Disk.moments closing.result.disk))) (sized g c) (leads start (told g c) (served_on_disk g c may start begins)))
     c.whole_end.ensures.closed (closing.ensures.last may.is_visible)
 
 pub returns-in-Ok-clause-why : goal.returns-in-Ok-clause-why

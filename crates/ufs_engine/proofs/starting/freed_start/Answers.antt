@@ -1,9 +1,8 @@
 use Rattle.std.proofs.Common.{ℕ, sym, ◌∙◌, subst}
 use Rattle.std.proofs.lemmas.Result.{MatchResult-weaker, on_ok_weaker}
 use Rattle.ufs_disk.specs.Moments.{reads}
-use Rattle.ufs_recovery.specs.Recovered.{IsCleanDisk}
 use Rattle.ufs_start.specs.Begun.{IsBegun}
-use Rattle.ufs_start.specs.Refused.{HasStartCause, TellsNoStart}
+use Rattle.ufs_start.specs.Refused.{TellsNoStart}
 use Rattle.ufs_engine.proofs.Read.{clean_still, kept_still, same_session, same_tree}
 use Rattle.ufs_engine.proofs.Freed.{none_mended}
 use Rattle.ufs_engine.proofs.starting.freed_start.Goals as goal

@@ -1,6 +1,5 @@
 use Rattle.std.proofs.Common.{ℕ, ap, sym, ◌∙◌, subst}
 use Rattle.std.proofs.lemmas.Result.{MatchResult-weaker}
-use Rattle.ufs_base.specs.Images.{Image}
 use Rattle.ufs_disk.specs.Moments.{reads}
 use Rattle.ufs_image.specs.Opens.{opens}
 use Rattle.ufs_recovery.specs.Home.{KeepsTree}
