@@ -1,6 +1,6 @@
 -- The clients are served one after another, from any tree.
 use Rattle.std.proofs.Common.{◌≡◌, ℕ, ◌+◌, ◌*◌, ◌≤◌, ◌<◌, List, [], ◌∷◌, ◌++◌, None, ap, sym, refl, subst, ◌∙◌, length, arith, zero, suc, ◌⊎◌, inl, inr, unwrap_or, Result, Ok, IsErr}
-use Rattle.std.specs.Prelude.{slice_get}
+use Rattle.std.specs.Prelude.{Bool, IsTrue, slice_get}
 use Rattle.std.specs.FinMap as map
 use Rattle.std.proofs.lemmas.Bool.{cases_eq}
 use Rattle.std.proofs.lemmas.List.{length-append, append-nil, append_assoc}
@@ -12,9 +12,17 @@ use Rattle.ufs_model.specs.declared.data.Op.{Op}
 use Rattle.ufs_client.specs.declared.played.EndFault.{EndFault}
 use Rattle.ufs_client.specs.Played.{transcript, IsMerged}
 use Rattle.ufs_client.proofs.Lists.{get_before, get_here, get_past, joined-push, not_ok, rising_from}
+use Rattle.ufs_store.specs.State.{StoreState, geometry_of_store}
+use Rattle.ufs_stored.specs.OnDisk.{IsOnDisk}
 use Rattle.ufs_stored.specs.Parts.{Parts}
+use Rattle.ufs_stored.specs.Sound.{IsSoundServer}
 use Rattle.ufs_session.specs.Played.{IsPlayedFrom, MayBegin}
+use Rattle.ufs_session.specs.Served.{GoesAlong}
 use Rattle.ufs_session.specs.Serving.{IsReached, IsReady, GoesOn, IsDone}
+use Rattle.ufs_session.specs.Throughout.{IsExplainedThroughout}
+use Rattle.ufs_session.specs.Told.{AreFaultsTold}
+use Rattle.ufs_session.proofs.ThroughoutLemmas.{throughout_joined}
+use Rattle.ufs_session.proofs.ToldLemmas.{told_on}
 
 pub record AreServing (start : PosixTree) (clients : List (List Op)) (told : List (List Entry)) (p : Parts) (count first : ℕ) (done rest : List (List Op)) : Type 0 where
   pub whole : done ++ rest ≡ clients
@@ -164,3 +172,20 @@ module _ (start : PosixTree) (clients : List (List Op)) (told : List (List Entry
         fresh = λ c fd high. ap (λ (h : List Entry). map.get (tree_after start h).fds (c, fd)) one_list
             ∙ isdone.fds c fd (λ e. absurd (omega (arith, high, e))) ∙ is.fresh c fd (omega (arith, high));
       }
+
+-- the disk goes along with one client more
+module _ (visible keeps : Bool) (old now new : StoreState) (was here after : Parts) (earlier mine : List Entry) (client : ℕ) (along : GoesAlong visible keeps old now was here earlier)
+    (ready_here : (start : PosixTree) → MayBegin was start → IsReady start earlier here client) where
+  pub goes_along : (IsTrue visible → (start : PosixTree) → IsReady start earlier here client → IsOnDisk now start earlier here → IsOnDisk new start (earlier ++ mine) after)
+      → (IsTrue visible → (start : PosixTree) → IsReady start earlier here client → IsOnDisk now start earlier here → IsExplainedThroughout keeps now.sectors start earlier mine now.moments new.moments)
+      → AreFaultsTold now new mine → IsSoundServer (geometry_of_store new) new.unassigned.free after → geometry_of_store new ≡ geometry_of_store now → new.sectors ≡ now.sectors → GoesAlong visible keeps old new was after (earlier ++ mine)
+  goes_along on_disk moments faults sound geometry sectors = record {
+    on_disk = λ sees start may is. on_disk sees start (ready_here start may) (along.on_disk sees start may is);
+    moments = λ sees start may is.
+        throughout_joined keeps old.sectors start [] earlier mine old.moments now.moments new.moments (along.moments sees start may is)
+        (subst (λ (n : ℕ). IsExplainedThroughout keeps n start earlier mine now.moments new.moments) along.sectors (moments sees start (ready_here start may) (along.on_disk sees start may is)));
+    faults = told_on old now new earlier mine along.faults faults;
+    sound = sound;
+    geometry = geometry ∙ along.geometry;
+    sectors = sectors ∙ along.sectors;
+  }

@@ -1,17 +1,21 @@
--- An entry that acknowledges changes, as the hand is to keep it.
+-- An entry that was served, as the hand is to draw it, and one that acknowledges changes, as it is to keep it.
 use Rattle.std.proofs.Common.{◌≡◌, ◌++◌, ◌∷◌, [], ◌&&◌, Bool, true, false, List, Some, sym, refl, ◌∙◌, subst}
+use Rattle.std.specs.FinMap as fin
 use Rattle.ufs_fds.specs.Descriptors.{Descs}
-use Rattle.ufs_model.specs.History.{tree_after}
+use Rattle.ufs_model.specs.History.{IsReplyTo, goes_on, tree_after}
+use Rattle.ufs_model.specs.PosixTree.{PosixTree, desc_at}
 use Rattle.ufs_model.specs.declared.data.Entry.{Entry}
 use Rattle.ufs_model.specs.declared.data.Reply.{Reply}
 use Rattle.ufs_model.specs.declared.data.Reply.TheVariants as reply
-use Rattle.ufs_one_hand.specs.Drawn.{IsAcknowledged}
-use Rattle.ufs_one_hand.specs.OneHand.{HasSession, IsCoveredIn, state_in}
+use Rattle.ufs_one_hand.specs.Drawn.{HasCauses, IsAcknowledged, IsAnswer}
+use Rattle.ufs_one_hand.specs.OneHand.{HasSession, IsCoveredIn, KnowsSynced, state_in}
 use Rattle.ufs_prefix.specs.Changes.{asks_commit}
 use Rattle.ufs_prefix.specs.Steps.{is_ok}
-use Rattle.ufs_sound.specs.Parts.{Cells, Start, View}
+use Rattle.ufs_sound.specs.Covers.{step_in}
+use Rattle.ufs_sound.specs.Parts.{Cells, OwnFds, Start, View}
 use Rattle.ufs_sound.specs.Shown.{ExplainsImages}
 use Rattle.ufs_sound.specs.Visible.{IsDiskVisible}
+use Rattle.ufs_sound.specs.declared.fresh.Fresh.{Fresh}
 use Rattle.ufs_session.specs.Drawing.{IsServedIn, acknowledges}
 
 both : (a b : Bool) → (a && b) ≡ true → (a ≡ true) × (b ≡ true)
@@ -40,3 +44,22 @@ is_acked k history e fds v cells served session covered state explained acks =
 -- what isn't acknowledged asks nothing
 pub no_ack : (e : Entry) {Any : Type 0} → acknowledges e ≡ false → e.reply ≡ reply.Done → asks_commit e.op ≡ true → Any
 no_ack e not done asks = let yes : acknowledges e ≡ true = (λ i. is_ok (done i) && asks i) in let z : false ≡ true = sym not ∙ yes in absurd cc
+
+-- the entry without its ticket
+abbrev pub fresh_of : Entry → Fresh
+fresh_of e = record { client = e.client; seq = e.seq; by = e.by; op = e.op; reply = e.reply }
+
+-- it may be drawn, where the caller picks the tree and the descriptors that are there
+pub is_answer : (k : Start) (history : List Entry) (t : PosixTree) (e : Entry) (left : OwnFds) (fds : Descs) (v : View) → t ≡ tree_after k.tree history → left ≡ fds → IsServedIn (tree_after k.tree history) history e fds
+    → HasSession k history (Some (e.client, e.op)) v → (e.reply ≡ reply.Done → asks_commit e.op ≡ true → KnowsSynced (step_in (tree_after k.tree history) e) v) → HasCauses e.reply v → IsAnswer k history t (fresh_of e) left v
+is_answer k history t e left fds v before same served session known causes = record {
+  tree_is = before;
+  session = session;
+  low = served.low;
+  seq = served.seq;
+  replied = subst (λ (u : PosixTree). IsReplyTo u e) (sym before) served.replied;
+  fds = λ fd. (λ i. fin.get (same i) fd) ∙ sym (served.fds_are fd) ∙ (λ i. desc_at (goes_on (sym before i) e) e.client fd);
+  others = λ fd apart. (λ i. desc_at (goes_on (before i) e) e.client fd) ∙ served.others fd apart ∙ (λ i. desc_at (sym before i) e.client fd);
+  known = λ done asks. let knows = subst (λ (u : PosixTree). KnowsSynced (step_in u e) v) (sym before) (known done asks) in record { files = knows.files; born = knows.born; names = knows.names };
+  causes = causes;
+}

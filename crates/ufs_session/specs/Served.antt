@@ -14,15 +14,19 @@ use Rattle.ufs_stored.specs.Parts.{Parts}
 use Rattle.ufs_stored.specs.Sound.{IsSoundServer}
 use Rattle.ufs_stored.specs.Stored.{ArePartsOf}
 
--- Clients were served from these parts and this store, to those: these are their transcripts. What is said of the disk is said
--- where it is visible, and of its earlier states where it keeps them.
-pub record AreServed (visible keeps : Bool) (old new : StoreState) (before after : Parts) (clients : List (List Op)) (told : List (List Entry)) (ended : Result (Unit {0}) EndFault) : Type 0 where
-  pub played : (start : PosixTree) → MayBegin before start → IsPlayedFrom start clients told ended (joined told)
-  pub left : (start : PosixTree) → MayBegin before start → ArePartsOf after (tree_after start (joined told))
-  pub on_disk : IsTrue visible → (start : PosixTree) → MayBegin before start → IsOnDisk old start [] before → IsOnDisk new start (joined told) after
+-- The disk goes on with a server, from these parts and this store to those, as these entries are answered. What is said of it
+-- is said where it is visible, and of its earlier states where it keeps them.
+pub record GoesAlong (visible keeps : Bool) (old new : StoreState) (before after : Parts) (entries : List Entry) : Type 0 where
+  pub on_disk : IsTrue visible → (start : PosixTree) → MayBegin before start → IsOnDisk old start [] before → IsOnDisk new start entries after
   pub moments : IsTrue visible → (start : PosixTree) → MayBegin before start → IsOnDisk old start [] before
-      → IsExplainedThroughout keeps old.sectors start [] (joined told) old.moments new.moments
-  pub faults : AreFaultsTold old new (joined told)
+      → IsExplainedThroughout keeps old.sectors start [] entries old.moments new.moments
+  pub faults : AreFaultsTold old new entries
   pub sound : IsSoundServer (geometry_of_store new) new.unassigned.free after
   pub geometry : geometry_of_store new ≡ geometry_of_store old
   pub sectors : new.sectors ≡ old.sectors
+
+-- Clients were served from these parts and this store, to those: these are their transcripts.
+pub record AreServed (visible keeps : Bool) (old new : StoreState) (before after : Parts) (clients : List (List Op)) (told : List (List Entry)) (ended : Result (Unit {0}) EndFault) : Type 0 where
+  pub played : (start : PosixTree) → MayBegin before start → IsPlayedFrom start clients told ended (joined told)
+  pub left : (start : PosixTree) → MayBegin before start → ArePartsOf after (tree_after start (joined told))
+  pub disk : GoesAlong visible keeps old new before after (joined told)

@@ -11,4 +11,4 @@ returns-clause-once g c =
 pub returns-clause-calm : goal.returns-clause-calm
 returns-clause-calm g c none =
     let s = c.serve_in-session in
-    calm_told (g.D.Door.store c.args.door.now) (g.D.Door.store s.new.door) (joined s.result.0.told) s.ensures.served.faults none
+    calm_told (g.D.Door.store c.args.door.now) (g.D.Door.store s.new.door) (joined s.result.0.told) s.ensures.served.disk.faults none
