@@ -1,11 +1,11 @@
 -- The writes of a file's dirty blocks, place by place.
-use Rattle.std.proofs.Common.{◌≡◌, ℕ, zero, suc, ◌+◌, ◌-◌, ◌<◌, List, [], ◌∷◌, ◌++◌, ap, ◌∙◌, arith, append_assoc}
-use Rattle.std.specs.Prelude.{flat_map}
-use Rattle.std.specs.List.{range_with_len}
+use Rattle.std.proofs.Common.{◌≡◌, ℕ, zero, suc, ◌+◌, ◌-◌, ◌≤◌, ◌<◌, List, [], ◌∷◌, ◌++◌, ap, sym, refl, ◌∙◌, arith, append_assoc}
+use Rattle.std.specs.Prelude.{flat_map, length, Bool, true, false, Option, Some, None, if◌then◌else◌, unwrap_or}
+use Rattle.std.specs.List.{range_with_len, slice_get}
 use Rattle.std.proofs.lemmas.List.{append-nil}
 use Rattle.std.proofs.lemmas.List.Concat.{flat_map-append}
 use Rattle.ufs_file.specs.Hand.{FileState}
-use Rattle.ufs_durable.specs.Writes.{BlockWrite, write_at, writes_before}
+use Rattle.ufs_durable.specs.Writes.{BlockWrite, write_at, write_of, writes_before, writes_of}
 
 pub range_split : (a k m : ℕ) → range_with_len a (k + m) ≡ range_with_len a k ++ range_with_len (a + k) m
 range_split a zero m =
@@ -36,3 +36,34 @@ writes_split f k n less =
     ap (writes_before f) e ∙ ap (flat_map (write_at f)) (range_split 0 (k + 1) m) ∙ flat_map-append (write_at f) (range_with_len 0 (k + 1)) (range_with_len (0 + (k + 1)) m)
     ∙ ap (λ j. writes_before f (k + 1) ++ flat_map (write_at f) (range_with_len j m)) z
     ∙ ap (λ l. l ++ writes_behind f k n) (before_next f k) ∙ append_assoc (writes_before f k) (write_at f k) (writes_behind f k n)
+
+-- places with no dirty block
+clean_run : (f : FileState) (a m : ℕ) → ((place : ℕ) → a ≤ place → place < a + m → write_at f place ≡ []) → writes_before f (a + m) ≡ writes_before f a
+clean_run f a zero none =
+    let e : a + zero ≡ a = omega arith in
+    ap (writes_before f) e
+clean_run f a (suc m) none =
+    let e : a + suc m ≡ a + m + 1 = omega arith in
+    ap (writes_before f) e ∙ before_next f (a + m) ∙ ap (λ l. writes_before f (a + m) ++ l) (none (a + m) (omega arith) (omega arith)) ∙ append-nil (writes_before f (a + m))
+    ∙ clean_run f a m (λ place from less. none place from (omega (arith, less)))
+
+-- A file's writes are those of a span that has all its dirty places.
+module _ (f : FileState) (from to : ℕ) (dirty : (place : ℕ) → slice_get f.content.dirty place ≡ Some true → (from ≤ place) × (place < to)) where
+  outside : (place : ℕ) → ((from ≤ place) × (place < to) → ⊥) → write_at f place ≡ []
+  outside place out = by (slice_get f.content.dirty place) refl
+    where
+      by : (mark : Option Bool) → slice_get f.content.dirty place ≡ mark → (if unwrap_or mark false then write_of f place ∷ [] else []) ≡ []
+      by None is = refl
+      by (Some false) is = refl
+      by (Some true) is = absurd (out (dirty place is))
+
+  pub none_before : writes_before f from ≡ []
+  none_before =
+      let e : from ≡ 0 + from = omega arith in
+      ap (writes_before f) e ∙ clean_run f 0 from (λ place _ less. outside place (λ h. omega (arith, h.0, less)))
+
+  pub all_by_end : to ≤ length f.content.dirty → writes_before f to ≡ writes_of f
+  all_by_end there =
+      let m = length f.content.dirty - to in
+      let e : to + m ≡ length f.content.dirty = omega (arith, there) in
+      sym (clean_run f to m (λ place past _. outside place (λ h. omega (arith, h.1, past)))) ∙ ap (writes_before f) e

@@ -29,7 +29,8 @@ pub(crate) fn write_dirty<D: Door>(hand: &FileHand, door: &mut D) -> Result<(), 
     ensures stop { (D.store door.new).stop ≡ stop_after (D.store door.old).stop (fault_in result) }
     ensures refused { IfErr result (λ fault. IsTrue (is_of_disk fault)) }
 {
-    for place in 0..hand.block_count() {
+    let dirty = hand.dirty_places();
+    for place in dirty.start..dirty.end {
         write_place(hand, place, door)?;
     }
     Ok(())
