@@ -1,9 +1,8 @@
 -- What is said of names and files over an image's catalog is true over that of an image that agrees with it.
-use Rattle.std.proofs.Common.{◌≡◌, ℕ, ◌*◌, ◌<◌, List, [], Bool, true, false, length, Some, map, ap, sym, refl, ◌∙◌}
-use Rattle.std.specs.Prelude.{flat_map, ◌==◌, ◌&&◌, not, nat_le, nat_lt, if◌then◌else◌, IsSome}
+use Rattle.std.proofs.Common.{◌≡◌, ℕ, List, [], Bool, true, false, Some, map, ap, sym, refl, ◌∙◌}
+use Rattle.std.specs.Prelude.{flat_map, ◌==◌, ◌&&◌, not, if◌then◌else◌, IsSome}
 use Rattle.std.specs.FinMap as fin
 use Rattle.std.specs.List.{slice_get}
-use Rattle.std.proofs.lemmas.Bool.{and_parts, ltb-true}
 use Rattle.ufs_base.specs.Images.{Image}
 use Rattle.ufs_bitmap.specs.Space.{is_between}
 use Rattle.ufs_dir_image.specs.Tables.{IsTableOf, is_free_inode}
@@ -20,7 +19,7 @@ use Rattle.ufs_image.specs.Sound.{IsSoundCatalog}
 use Rattle.ufs_image.specs.Nodes.{Node}
 use Rattle.ufs_image.proofs.Depth.{has_root, root_in_range}
 use Rattle.ufs_image.proofs.Found.{reached}
-use Rattle.ufs_layout.specs.Areas.{IsGeometry, first_of_data, is_data_sector, is_inode_number, sector_count}
+use Rattle.ufs_layout.specs.Areas.{IsGeometry, first_of_data, is_inode_number}
 use Rattle.ufs_layout.specs.InodeForm.{InodeForm, is_used}
 use Rattle.ufs_layout.specs.declared.geometry.Geometry.{Geometry}
 use Rattle.ufs_load_image.specs.Loaded.{is_free_block}

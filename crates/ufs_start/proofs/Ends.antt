@@ -1,5 +1,5 @@
 -- The blocks of inodes lie before where these end.
-use Rattle.std.proofs.Common.{◌≡◌, ℕ, ◌+◌, ◌*◌, ◌<◌, ◌≤◌, inl, inr, List, [], ◌∷◌, Option, Some, None, map, unwrap_or, ap, sym, refl, ◌∙◌, subst, arith}
+use Rattle.std.proofs.Common.{◌≡◌, ℕ, ◌*◌, ◌<◌, ◌≤◌, inl, inr, List, [], ◌∷◌, Option, Some, None, map, unwrap_or, ap, sym, subst, arith}
 use Rattle.std.specs.Prelude.{min, max}
 use Rattle.std.specs.List.{fold, range_with_len}
 use Rattle.ufs_base.specs.Images.{Image}
@@ -9,7 +9,7 @@ use Rattle.ufs_image.proofs.Empty.{from_range}
 use Rattle.ufs_image.proofs.Holders.{in_inodes}
 use Rattle.ufs_image.proofs.Listed.{in_at_place}
 use Rattle.ufs_image.proofs.Lists.{IsIn, from_flat_map, in_map}
-use Rattle.ufs_layout.specs.Areas.{IsGeometry, all_inodes, first_of_data, sector_count}
+use Rattle.ufs_layout.specs.Areas.{IsGeometry, all_inodes, sector_count}
 use Rattle.ufs_layout.specs.InodeForm.{InodeForm, free_inode}
 use Rattle.ufs_layout.specs.declared.geometry.Geometry.{Geometry}
 use Rattle.ufs_layout.specs.declared.inode.Extent.{Extent}

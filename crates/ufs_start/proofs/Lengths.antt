@@ -1,6 +1,6 @@
 -- Transactions leave sectors of the data area alike in length.
 use Rattle.std.proofs.Common.{◌≡◌, ◌≢◌, ℕ, ◌+◌, ◌*◌, ◌-◌, inl, inr, List, [], ◌∷◌, ◌++◌, Bool, true, false, length, min, take, drop, refl, ap, sym, ◌∙◌, subst, arith, length-append, length-drop}
-use Rattle.std.specs.Prelude.{◌&&◌, ◌==◌, nat_le, nat_lt, if◌then◌else◌}
+use Rattle.std.specs.Prelude.{nat_le, nat_lt, if◌then◌else◌}
 use Rattle.std.proofs.lemmas.Bool.{and_parts, cases_eq, eq-eqb, ne_eqb, leb-true}
 use Rattle.std.proofs.lemmas.List.{length-take}
 use Rattle.ufs_base.specs.Images.{Image}

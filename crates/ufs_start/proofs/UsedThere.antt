@@ -1,14 +1,13 @@
 -- A copy has what the image uses, where its data was read as far as its metadata says.
-use Rattle.std.proofs.Common.{◌≡◌, ℕ, ◌+◌, ◌*◌, ◌<◌, ◌≤◌, inl, inr, List, unwrap_or, ap, sym, refl, ◌∙◌, subst, arith}
+use Rattle.std.proofs.Common.{◌≡◌, ℕ, ◌*◌, ◌<◌, ◌≤◌, inl, inr, List, unwrap_or, ap, sym, refl, ◌∙◌, subst, arith}
 use Rattle.std.specs.Prelude.{Result, Ok, Err}
 use Rattle.std.proofs.lemmas.Bool.{cases_lt}
 use Rattle.ufs_base.specs.Images.{Image}
 use Rattle.ufs_image.specs.Agree.{AgreeOn, IsMetadata, IsOfForm}
-use Rattle.ufs_image.specs.Images.{form_at}
 use Rattle.ufs_image.specs.Volume.{BadGeometry, BadRecord, BadTree, BadVersion, NoSuperblock, Refusal, Volume, superblock_of, volume}
 use Rattle.ufs_image.proofs.Journals.{first_metadata, inode_metadata, taken, taken_alike}
-use Rattle.ufs_layout.specs.Areas.{IsGeometry, first_of_data, sector_count, sector_of_inode}
-use Rattle.ufs_layout.specs.InodeForm.{InodeForm, free_inode, inode_of}
+use Rattle.ufs_layout.specs.Areas.{first_of_data, sector_count, sector_of_inode}
+use Rattle.ufs_layout.specs.InodeForm.{free_inode, inode_of}
 use Rattle.ufs_layout.specs.Superblock.{geometry_of}
 use Rattle.ufs_layout.specs.declared.geometry.Geometry.{Geometry}
 use Rattle.ufs_start.specs.Copies.{IsOfInode, IsUsed, IsUsedBy}

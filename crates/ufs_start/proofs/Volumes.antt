@@ -1,5 +1,5 @@
 -- A copy of what an image uses has the image's volume, and opens as the image does.
-use Rattle.std.proofs.Common.{◌≡◌, ℕ, ◌<◌, ◌≤◌, List, Option, Some, None, inl, ap, sym, refl, ◌∙◌, subst, arith}
+use Rattle.std.proofs.Common.{◌≡◌, ℕ, List, Option, Some, None, inl, ap, sym, refl, ◌∙◌, subst, arith}
 use Rattle.std.specs.Prelude.{Result, Ok, Err, ◌==◌, if◌then◌else◌}
 use Rattle.ufs_base.specs.Images.{Image}
 use Rattle.ufs_image.specs.Agree.{AgreeOn, IsMetadata}

@@ -1,4 +1,4 @@
-use Rattle.std.proofs.Common.{◌≡◌, ℕ, ◌*◌, ◌<◌, List, ap, sym, ◌∙◌, arith}
+use Rattle.std.proofs.Common.{ℕ, List, ap, sym, ◌∙◌, arith}
 use Rattle.ufs_base.specs.Images.{Image}
 use Rattle.ufs_catalog.proofs.Quiet.{read_more}
 use Rattle.ufs_disk.specs.Bytes.{image_of}
