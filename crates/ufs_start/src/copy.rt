@@ -1,6 +1,6 @@
 // A copy in memory of what an image uses.
 ghost use Rattle.std.specs.Prelude.{ℕ, ◌≡◌, ◌≤◌, ◌<◌, ◌+◌, ◌*◌, ◌++◌, length, drop, min, None, Some, IsTrue, IfOk, IfErr, IfSome, IfNone, OnOk};
-ghost use Rattle.ufs_base.specs.declared.sizes.TheConstants.{SECTOR};
+ghost use Rattle.ufs_base.specs.declared.sizes.TheConstants.{MAX_BLOCKS, SECTOR};
 ghost use Rattle.ufs_disk.specs.Bytes.{image_of};
 ghost use Rattle.ufs_disk.specs.Disk.{bytes_from};
 ghost use Rattle.ufs_disk.specs.Moments.{reads};
@@ -46,7 +46,7 @@ fn first_sectors<D: Disk>(alloc: Global, disk: &mut D, count: u32) -> Result<Vec
 
 // A block of a disk into its place, by one call.
 fn copy_block<D: Disk>(bytes: &mut [u8], disk: &mut D, block: u32) -> Result<(), RecoverFault>
-    requires small { block < 65536 }
+    requires small { block < MAX_BLOCKS }
     requires inside { 8 * block + 8 ≤ D.size disk.old }
     requires room { 4096 * block + 4096 ≤ length bytes.old }
     ensures there { IsTrue D.visible → OnOk result ((s : ℕ) → 8 * block ≤ s → s < 8 * block + 8 → image_of bytes.new s ≡ reads (D.moments disk.old) s) }
@@ -75,7 +75,7 @@ fn copy_blocks<D: Disk>(
     end: u32,
 ) -> Result<(), RecoverFault>
     requires order { from ≤ end }
-    requires small { end ≤ 65536 }
+    requires small { end ≤ MAX_BLOCKS }
     requires inside { 8 * end ≤ D.size disk.old }
     requires room { 4096 * end ≤ length bytes.old }
     ensures there { IsTrue D.visible → OnOk result ((s : ℕ) → 8 * from ≤ s → s < 8 * end → image_of bytes.new s ≡ reads (D.moments disk.old) s) }
@@ -126,7 +126,7 @@ fn put_first(bytes: &mut [u8], first: &[u8])
 // The first block, and zeros in the place of the others.
 fn with_first(alloc: Global, blocks: u32, first: &[u8]) -> Result<Vec<u8>, AllocError>
     requires some { 1 ≤ blocks }
-    requires few { blocks ≤ 65536 }
+    requires few { blocks ≤ MAX_BLOCKS }
     requires sized { length first.now ≡ 4096 }
     ensures first { IfOk result (λ bytes. (s : ℕ) → s < 8 → image_of bytes.items s ≡ image_of first.now s) }
     ensures long { IfOk result (λ bytes. length bytes.items ≡ 4096 * blocks) }
@@ -168,7 +168,7 @@ fn with_blocks<D: Disk>(
     end: u32,
 ) -> Result<PlainDisk, RecoverFault>
     requires order { from ≤ end }
-    requires small { end ≤ 65536 }
+    requires small { end ≤ MAX_BLOCKS }
     requires inside { 8 * end ≤ D.size disk.old }
     requires room { 8 * end ≤ copy.sectors }
     ensures there { IsTrue D.visible → IfOk result (λ c. (s : ℕ) → 8 * from ≤ s → s < 8 * end → image_of c.bytes.items s ≡ reads (D.moments disk.old) s) }
