@@ -206,10 +206,10 @@ module _ (trace : Bool) (r : Reading) (d : Formatting) (told : List (List Entry)
         let x = seen (λ e. cc) in
         let e = unbegun_of trace r d told status x.0 three x.1 in
         (e.0, (x.0, e.1, x.2));
-    proper = λ may proper three.
+    proper = λ may three.
         let x = seen (λ e. cc) in
         let none = (unbegun_of trace r d told status x.0 three x.1).1 in
-        begun_there d proper none.fault none.ending_is (none.why may);
+        begun_there d (subst (IsProperImage d.sectors) (sym d.read) may.proper.proper) none.fault none.ending_is (none.why may);
     closing = λ four. let x = seen (λ e. cc) in stopped_got x.0 x.2 (stopped_of trace r d told status x.0 four x.1);
     faults = faults;
     complete = λ text script left is calm quiet.

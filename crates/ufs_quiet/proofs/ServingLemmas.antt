@@ -22,7 +22,7 @@ use Rattle.ufs_start.specs.declared.fault.StartFault.TheVariants as start
 use Rattle.ufs_quiet.specs.declared.ending.Ending.{Ending}
 use Rattle.ufs_quiet.specs.declared.ending.Ending.TheVariants.{Done, Usage, BadGeometry, NotBuilt, BadScript, TooSmall, NoTree, DeviceFault, OutOfMemory, SourceFault, Damaged}
 use Rattle.ufs_quiet.specs.Seen.{Formatting}
-use Rattle.ufs_quiet.specs.Served.{IsCutSessionOf, IsSessionOf, session_lines}
+use Rattle.ufs_quiet.specs.Served.{IsCutSessionOf, IsSessionOf, TellsEnd, session_lines}
 use Rattle.ufs_quiet.specs.Texts.{device_line}
 use Rattle.ufs_quiet.specs.TreeLines.{refusal_line}
 use Rattle.ufs_quiet.specs.Endings.{EndsBehind, EndsPlayed, EndsPrinting, EndsServing, TellsNoStart, ending_of, line_of, start_ending, start_line}
@@ -120,37 +120,25 @@ module _ (trace : Bool) (d : Formatting) (script : Script) (told : List (List En
   well_ended h SourceFault text e = absurd e
   well_ended h Damaged text e = absurd e
 
-  device_ended : (fault : ℕ) → HasPlayed d script told (Err (ended.Device fault)) → (ending : Ending) (text : List ℕ) → EndsBehind (session_lines trace (joined told)) fault ending text → EndsServing trace d script told ending text
-  device_ended fault h Done text e = absurd e
-  device_ended fault h Usage text e = absurd e
-  device_ended fault h (BadGeometry bad) text e = absurd e
-  device_ended fault h NotBuilt text e = absurd e
-  device_ended fault h BadScript text e = absurd e
-  device_ended fault h TooSmall text e = absurd e
-  device_ended fault h NoTree text e = absurd e
-  device_ended fault h DeviceFault text e = inr (session (Err (ended.Device fault)) refl h, fault, inl h.closing, e)
-  device_ended fault h OutOfMemory text e = inr (session (Err (ended.Device fault)) refl h, e.0, e.1, e.2)
-  device_ended fault h SourceFault text e = absurd e
-  device_ended fault h Damaged text e = absurd e
-
-  stopped_ended : (fault : ℕ) → HasPlayed d script told (Err (ended.Stopped fault)) → (ending : Ending) (text : List ℕ) → EndsBehind (session_lines trace (joined told)) fault ending text → EndsServing trace d script told ending text
-  stopped_ended fault h Done text e = absurd e
-  stopped_ended fault h Usage text e = absurd e
-  stopped_ended fault h (BadGeometry bad) text e = absurd e
-  stopped_ended fault h NotBuilt text e = absurd e
-  stopped_ended fault h BadScript text e = absurd e
-  stopped_ended fault h TooSmall text e = absurd e
-  stopped_ended fault h NoTree text e = absurd e
-  stopped_ended fault h DeviceFault text e = inr (session (Err (ended.Stopped fault)) refl h, fault, inr h.closing, e)
-  stopped_ended fault h OutOfMemory text e = inr (session (Err (ended.Stopped fault)) refl h, e.0, e.1, e.2)
-  stopped_ended fault h SourceFault text e = absurd e
-  stopped_ended fault h Damaged text e = absurd e
+  -- a call of the disk failed, in the session or behind it
+  fault_ended : (fault : ℕ) → IsSessionOf d script told → TellsEnd d told fault → (ending : Ending) (text : List ℕ) → EndsBehind (session_lines trace (joined told)) fault ending text → EndsServing trace d script told ending text
+  fault_ended fault of tells Done text e = absurd e
+  fault_ended fault of tells Usage text e = absurd e
+  fault_ended fault of tells (BadGeometry bad) text e = absurd e
+  fault_ended fault of tells NotBuilt text e = absurd e
+  fault_ended fault of tells BadScript text e = absurd e
+  fault_ended fault of tells TooSmall text e = absurd e
+  fault_ended fault of tells NoTree text e = absurd e
+  fault_ended fault of tells DeviceFault text e = inr (of, fault, tells, e)
+  fault_ended fault of tells OutOfMemory text e = inr (of, e.0, e.1, e.2)
+  fault_ended fault of tells SourceFault text e = absurd e
+  fault_ended fault of tells Damaged text e = absurd e
 
   pub played_ends : (result : Result (Unit {0}) PlayFault) → HasPlayed d script told result → (ending : Ending) (text : List ℕ) → EndsPlayed result (session_lines trace (joined told)) ending text → EndsServing trace d script told ending text
   played_ends (Ok x) h ending text e = well_ended h ending text e
   played_ends (Err (ended.Image fault)) h ending text e =
       subst (λ (x : Ending). EndsServing trace d script told x text) (sym e.0)
       (subst (EndsServing trace d script told (start_ending fault)) (sym e.1) (unbegun fault (h.refused fault refl) (h.opening fault refl) (λ may. h.why may fault refl) (cause_of fault h) (cut_session (Err (ended.Image fault)) h)))
-  played_ends (Err (ended.Device fault)) h ending text e = device_ended fault h ending text e
-  played_ends (Err (ended.Stopped fault)) h ending text e = stopped_ended fault h ending text e
+  played_ends (Err (ended.Device fault)) h ending text e = fault_ended fault (session (Err (ended.Device fault)) refl h) (inl h.closing) ending text e
+  played_ends (Err (ended.Stopped fault)) h ending text e = fault_ended fault (session (Err (ended.Stopped fault)) refl h) (inr h.closing) ending text e
   played_ends (Err ended.Memory) h ending text e = subst (λ (x : Ending). EndsServing trace d script told x text) (sym e.0) (inl (cut_session (Err ended.Memory) h, e.1))

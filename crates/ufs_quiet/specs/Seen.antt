@@ -1,7 +1,7 @@
 -- What is seen of a source, a sink and a disk over a command.
-use Rattle.std.specs.Prelude.{ℕ, Bool, List, Option}
+use Rattle.std.specs.Prelude.{ℕ, ◌≡◌, Bool, List, Option, refl}
 use Rattle.ufs_base.specs.Images.{Image}
-use Rattle.ufs_disk.specs.Disk.{State}
+use Rattle.ufs_disk.specs.Disk.{State, seen}
 use Rattle.ufs_disk.specs.Moments.{Moments, reads}
 
 -- A source: the bytes that it had left and has left, where it is visible, and its counts of faults before and now.
@@ -18,13 +18,14 @@ pub record Writing : Type 0 where
   pub before : ℕ
   pub now : ℕ
 
--- A disk: whether it is visible, how many sectors it has, its state and what it read as before, and its counts of
+-- A disk: whether it is visible, how many sectors it has, its state before and what that reads as, and its counts of
 -- faults before and now.
 pub record Formatting : Type 0 where
   pub visible : Bool
   pub sectors : ℕ
   pub state : State
   pub image : Image
+  pub read : image ≡ seen state
   pub before : ℕ
   pub now : ℕ
 
@@ -38,7 +39,7 @@ writing held faults old new = record { held = held old; holds = held new; before
 
 -- of a disk
 abbrev pub formatting : {D : Type 0} → Bool → (D → ℕ) → (D → Moments) → (D → ℕ) → D → D → Formatting
-formatting visible size moments faults old new = record { visible = visible; sectors = size old; state = (moments old).state; image = reads (moments old); before = faults old; now = faults new }
+formatting visible size moments faults old new = record { visible = visible; sectors = size old; state = (moments old).state; image = reads (moments old); read = refl; before = faults old; now = faults new }
 
 -- A disk from what it was to what it is: whether it is visible and keeps its moments, its sectors, its moments
 -- and its counts of faults before and now.

@@ -41,8 +41,8 @@ pub record TellsPlay (trace : Bool) (r : Reading) (d : Formatting) (told : List 
   pub done : status ≡ 0 → (script : Script) × ReadsScript r.left r.rest script × IsSessionOf d script told × EndsSession d told (Ok tt) × Appends w.held w.holds (session_text trace script (joined told))
   -- Status 3: no session begins with the image, and the sink got the line of the cause, and nothing else.
   pub no_start : status ≡ 3 → (told ≡ []) × ((text : List ℕ) × TellsNoStart d text × Appends w.held w.holds text)
-  -- A proper image is never refused.
-  pub proper : MayPlay d.visible d.sectors d.state → IsProperImage d.sectors d.image → status ≢ 3
+  -- The image of a visible disk that is proper is never refused.
+  pub proper : MayPlay d.visible d.sectors d.state → status ≢ 3
   -- Status 4: a call of the disk failed as the session began, and the sink got the line of the fault; or each request was
   -- answered, and it got the same lines as with status 0, and behind them that of the fault of the closing, or of the first
   -- that a reply tells.

@@ -1,4 +1,5 @@
-use Rattle.std.proofs.Common.{◌≡◌, ◌∙◌, true, false, Option, Some, ap, sym, subst, map, string_bytes}
+use Rattle.std.proofs.Common.{◌≡◌, ◌∙◌, true, false, List, [], Option, Some, ap, sym, subst, map, string_bytes}
+use Rattle.ufs_model.specs.declared.data.Entry.{Entry}
 use Rattle.ufs_quiet.specs.declared.words.Command.{Command}
 use Rattle.ufs_quiet.specs.declared.words.Command.TheVariants as command
 use Rattle.ufs_quiet.specs.Commands.{asked, command_of, is_play}
@@ -31,3 +32,12 @@ returns-in_default-clause-faults g c = none_faults (g.D.Disk.faults c.args.disk)
 
 pub returns-clause-faults : goal.returns-clause-faults
 returns-clause-faults g c = none_faults (g.D.Disk.faults c.args.disk) c.nothing_told-2.result c.nothing_told-2.ensures
+
+pub returns-clause-answer : goal.returns-clause-answer
+returns-clause-answer g c =
+    let is : asked c.args.words.now.items ≡ Some c.in-Some.which = sym (ap (λ l. command_of (map string_bytes l)) c.as_slice.ensures.value) ∙ sym c.read_command.ensures ∙ c.in-Some.is in
+    let r = reading g.S.Source.left g.S.Source.faults c.args.source.now c.args.source.now in
+    let d = formatting g.D.Disk.visible g.D.Disk.size g.D.Disk.moments g.D.Disk.faults c.args.disk c.act-status.new.disk in
+    let w = writing g.K.Sink.held g.K.Sink.faults c.args.sink.now c.act-status.new.sink in
+    subst (λ (told : List (List Entry)). IsAnswer (Ends (asked c.args.words.now.items) r d told) w c.act-status.result) (sym c.nothing_told-2.ensures)
+    (subst (λ (x : Option Command). IsAnswer (Ends x r d []) w c.act-status.result) (sym is) (c.act-status.ensures.answer r))
