@@ -1,6 +1,7 @@
 use Rattle.std.proofs.Common.{◌≡◌, None, ◌++◌, ◌∷◌, [], ℕ, List, ap, refl, sym, ◌∙◌, subst, length, ◌+◌, ◌<◌, Option, Some, arith}
 use Rattle.std.proofs.lemmas.List.{append-nil, append_assoc}
-use Rattle.ufs_model.specs.History.{IsLegalFrom, joined, tree_after}
+use Rattle.ufs_model.specs.Asks.{IsAsk}
+use Rattle.ufs_model.specs.History.{IsLegal, IsLegalFrom, joined, tree_after}
 use Rattle.ufs_model.specs.PosixTree.{PosixTree}
 use Rattle.ufs_model.specs.declared.data.Op.{Op}
 use Rattle.ufs_model.specs.declared.data.Entry.{Entry}
@@ -15,7 +16,9 @@ use Rattle.ufs_session.proofs.SeenLemmas.{explained_cells, passed_explained, sta
 use Rattle.ufs_session.proofs.ServingLemmas.{IsServing, any_more, begins, few_so_far, is_ask, names_few, served_in}
 use Rattle.ufs_session.proofs.ThroughoutLemmas.{throughout_joined}
 use Rattle.ufs_session.proofs.ToldLemmas.{legal_told, none_told, one_told, stops_by, told_on}
+use Rattle.ufs_session.proofs.session.serve_client.Given.{Over}
 use Rattle.ufs_session.proofs.session.serve_client.Goals as goal
+use Rattle.ufs_session.proofs.session.serve_client.Goals.{After-keep}
 
 pub loop-op-init : goal.loop-op-init
 loop-op-init g c =
@@ -73,24 +76,72 @@ ask-requires-clause-idle g c =
     let own = ap (λ (es : List Entry). length es) so_far.goes.own in
     (before ++ l.told.items, l.invariant.session, omega (arith, few, own))
 
+-- ---- a request was served
+
+module _ (g : Over) (c : After-keep g) where
+  abbrev before : List Entry
+  before = joined c.args.earlier.now.items
+
+  abbrev told : List Entry
+  told = c.loop-op.told.items
+
+  abbrev entry : Entry
+  entry = c.serve_one-applied.result.entry
+
+  more : AreFaultsTold (g.D.Door.store c.args.door.now) (g.D.Door.store c.serve_one-applied.new.door) (told ++ entry ∷ [])
+  more =
+      let a = c.serve_one-applied.ensures in
+      let now = g.D.Door.store c.loop-op.door in
+      let next = g.D.Door.store c.serve_one-applied.new.door in
+      told_on (g.D.Door.store c.args.door.now) now next told (entry ∷ []) c.loop-op.invariant.faults (one_told now next entry a.told a.still a.stopped)
+
+  all_more : AreFaultsTold c.requires.faults.0 (g.D.Door.store c.serve_one-applied.new.door) ((before ++ told) ++ entry ∷ [])
+  all_more =
+      let next = g.D.Door.store c.serve_one-applied.new.door in
+      subst (AreFaultsTold c.requires.faults.0 next) (sym (append_assoc before told (entry ∷ [])))
+      (told_on c.requires.faults.0 (g.D.Door.store c.args.door.now) next before (told ++ entry ∷ []) c.requires.faults.1 more)
+
+  module _ (start : PosixTree) (fresh : IsReady start before c.args.server.now c.args.client) where
+    so_far : IsServing start c.args.client c.args.requests before c.loop-op.server c.loop-op.fds told c.loop-op.seq c.loop-op.yielded (c.in-Some.op ∷ c.next.new.self.rest.items)
+    so_far =
+        let l = c.loop-op in
+        subst (λ (r : List Op). IsServing start c.args.client c.args.requests before l.server l.fds told l.seq l.yielded r) c.in-Some.ensures.steps.0 (l.invariant.serving start fresh)
+
+    asked : IsAsk (tree_after start (before ++ told)) c.ask-asked.result
+    asked =
+        let l = c.loop-op in
+        let e = c.ask-asked.ensures in
+        is_ask start c.args.client c.args.requests before l.server l.fds told l.seq l.yielded c.in-Some.op c.next.new.self.rest.items so_far c.ask-asked.result e.client e.asked e.desc e.fd e.last
+
+    serving_more : IsServing start c.args.client c.args.requests before c.serve_one-applied.new.server c.keep.new.fds (told ++ entry ∷ []) (c.loop-op.seq + 1) (c.loop-op.yielded ++ c.in-Some.op ∷ []) c.next.new.self.rest.items
+    serving_more =
+        let l = c.loop-op in
+        let e = c.ask-asked.ensures in
+        let a = c.serve_one-applied.ensures in
+        let tree = tree_after start (before ++ told) in
+        any_more start c.args.client c.args.requests before l.server l.fds told l.seq l.yielded c.in-Some.op c.next.new.self.rest.items so_far
+        c.ask-asked.result entry _ a.entry (a.by tree asked) (λ i. c.requires.first i + c.from.ensures i) e.client e.seq e.asked asked c.serve_one-applied.new.server c.keep.new.fds c.serve_one-applied.result.desc c.keep.ensures
+        (λ plain. a.served plain tree so_far.reached.parts asked) (λ x excused. a.fits x excused tree so_far.reached.parts asked) (λ excused. a.unchanged excused tree so_far.reached.parts) a.desc
+        (c.a_request_makes_one_file_at_most.ensures tree c.ask-asked.result.client c.ask-asked.result.op)
+
+    legal_more : IsLegal start ((before ++ told) ++ entry ∷ [])
+    legal_more =
+        legal_told c.requires.faults.0 (g.D.Door.store c.serve_one-applied.new.door) start ((before ++ told) ++ entry ∷ []) all_more
+        (subst (IsLegalFrom 0 start) (sym (append_assoc before told (entry ∷ []))) serving_more.reached.entries)
+
 pub draw-entry-requires-clause-served : goal.draw-entry-requires-clause-served
 draw-entry-requires-clause-served g c =
+    let at = (goal.at.draw-entry-requires-clause-served g c).After-keep in
     let e = c.ask-asked.ensures in
     let a = c.serve_one-applied.ensures in
     let l = c.loop-op in
-    let client : ℕ = c.args.client in
-    let entry = c.serve_one-applied.result.entry in
-    let before = joined c.args.earlier.now.items in
-    let told = l.told.items in
-    let rest = c.next.new.self.rest.items in
     let start = g.N.Naming.start.tree in
-    let so_far = subst (λ (r : List Op). IsServing start client c.args.requests before l.server l.fds told l.seq l.yielded r) c.in-Some.ensures.steps.0 (l.invariant.serving start c.requires.ready) in
-    let asked = is_ask start client c.args.requests before l.server l.fds told l.seq l.yielded c.in-Some.op rest so_far c.ask-asked.result e.client e.asked e.desc e.fd e.last in
-    subst (λ (t : List Entry). IsServedIn (tree_after start (before ++ t)) (before ++ t) entry c.keep.new.fds) (sym c.reserve.ensures.items)
-    (served_in start client c.args.requests before l.server l.fds told l.seq l.yielded c.in-Some.op rest so_far
-    c.ask-asked.result entry _ a.entry (a.by (tree_after start (before ++ told)) asked) (λ i. c.requires.first i + c.from.ensures i) e.client e.seq e.asked asked c.serve_one-applied.new.server c.keep.new.fds c.serve_one-applied.result.desc c.keep.ensures
-    (λ plain. a.served plain (tree_after start (before ++ told)) so_far.reached.parts asked)
-    (λ x excused. a.fits x excused (tree_after start (before ++ told)) so_far.reached.parts asked)
+    let ready = c.requires.ready in
+    let tree = tree_after start (before g at ++ told g at) in
+    subst (λ (t : List Entry). IsServedIn (tree_after start (before g at ++ t)) (before g at ++ t) (entry g at) c.keep.new.fds) (sym c.reserve.ensures.items)
+    (served_in start c.args.client c.args.requests (before g at) l.server l.fds (told g at) l.seq l.yielded c.in-Some.op c.next.new.self.rest.items (so_far g at start ready)
+    c.ask-asked.result (entry g at) _ a.entry (a.by tree (asked g at start ready)) (λ i. c.requires.first i + c.from.ensures i) e.client e.seq e.asked (asked g at start ready) c.serve_one-applied.new.server c.keep.new.fds c.serve_one-applied.result.desc c.keep.ensures
+    (λ plain. a.served plain tree (so_far g at start ready).reached.parts (asked g at start ready)) (λ x excused. a.fits x excused tree (so_far g at start ready).reached.parts (asked g at start ready))
     a.desc (subst (λ (n : ℕ). n < 16) (sym (a.entry.client ∙ e.client)) c.requires.client))
 
 pub draw-entry-requires-clause-session : goal.draw-entry-requires-clause-session
@@ -121,36 +172,21 @@ draw-entry-requires-clause-covered g c =
 
 pub draw-entry-requires-clause-shown : goal.draw-entry-requires-clause-shown
 draw-entry-requires-clause-shown g c = λ sees.
-    let e = c.ask-asked.ensures in
+    let at = (goal.at.draw-entry-requires-clause-shown g c).After-keep in
     let a = c.serve_one-applied.ensures in
     let l = c.loop-op in
-    let client : ℕ = c.args.client in
-    let first = g.D.Door.store c.args.door.now in
     let now = g.D.Door.store l.door in
     let next = g.D.Door.store c.serve_one-applied.new.door in
     let entry = c.serve_one-applied.result.entry in
     let before = joined c.args.earlier.now.items in
     let told = l.told.items in
-    let rest = c.next.new.self.rest.items in
     let start = g.N.Naming.start.tree in
     let ready = c.requires.ready in
-    let so_far = subst (λ (r : List Op). IsServing start client c.args.requests before l.server l.fds told l.seq l.yielded r) c.in-Some.ensures.steps.0 (l.invariant.serving start ready) in
-    let asked = is_ask start client c.args.requests before l.server l.fds told l.seq l.yielded c.in-Some.op rest so_far c.ask-asked.result e.client e.asked e.desc e.fd e.last in
-    let ticket : c.args.first + c.from.result ≡ length before + l.seq = (λ i. c.requires.first i + c.from.ensures i) in
-    let serving = any_more start client c.args.requests before l.server l.fds told l.seq l.yielded c.in-Some.op rest so_far
-    c.ask-asked.result entry _ a.entry (a.by (tree_after start (before ++ told)) asked) ticket e.client e.seq e.asked asked c.serve_one-applied.new.server c.keep.new.fds c.serve_one-applied.result.desc c.keep.ensures
-    (λ plain. a.served plain (tree_after start (before ++ told)) so_far.reached.parts asked)
-    (λ x excused. a.fits x excused (tree_after start (before ++ told)) so_far.reached.parts asked)
-    (λ excused. a.unchanged excused (tree_after start (before ++ told)) so_far.reached.parts) a.desc
-    (c.a_request_makes_one_file_at_most.ensures (tree_after start (before ++ told)) c.ask-asked.result.client c.ask-asked.result.op) in
-    let more : AreFaultsTold first next (told ++ entry ∷ []) = told_on first now next told (entry ∷ []) l.invariant.faults (one_told now next entry a.told a.still a.stopped) in
-    let begun = c.requires.faults.0 in
-    let all = subst (AreFaultsTold begun next) (sym (append_assoc before told (entry ∷ []))) (told_on begun first next before (told ++ entry ∷ []) c.requires.faults.1 more) in
-    let legal = legal_told begun next start ((before ++ told) ++ entry ∷ []) all (subst (IsLegalFrom 0 start) (sym (append_assoc before told (entry ∷ []))) serving.reached.entries) in
     let there = c.requires.sees sees in
     let on_disk = l.invariant.on_disk there.0 start ready there.1 in
     let during = subst (λ (n : ℕ). IsExplainedBetween g.D.Door.keeps n start (before ++ told) now.moments next.moments) (sym a.sectors) (a.during there.0 start (before ++ told) on_disk) in
-    let last = c.always_law.ensures.rest g.D.Door.keeps next start ((before ++ told) ++ entry ∷ []) c.serve_one-applied.new.server (a.geometry ∙ l.invariant.geometry ∙ sym c.geometry-geometry.ensures.is) (a.on_disk there.0 start (before ++ told) asked legal on_disk) in
+    let last = c.always_law.ensures.rest g.D.Door.keeps next start ((before ++ told) ++ entry ∷ []) c.serve_one-applied.new.server (a.geometry ∙ l.invariant.geometry ∙ sym c.geometry-geometry.ensures.is)
+    (a.on_disk there.0 start (before ++ told) (asked g at start ready) (legal_more g at start ready) on_disk) in
     subst (λ (t : List Entry). IsShownWith g.N.Naming.start (before ++ t) entry (states_behind g.D.Door.keeps (g.F.Since.count + passed_in c.ask.new.self) next) (disk_state next)) (sym c.reserve.ensures.items) (record {
       passed = passed_explained g.D.Door.keeps (g.F.Since.count + passed_in c.ask.new.self) now.moments next start (before ++ told) (λ keeps. ap (λ (n : ℕ). g.F.Since.count + n) c.ask.ensures.passed ∙ (l.invariant.stamps sees keeps).count) during;
       before = explained_cells next.sectors next.moments.state start (before ++ told) during.after;
@@ -159,52 +195,31 @@ draw-entry-requires-clause-shown g c = λ sees.
 
 pub loop-op-preserved : goal.loop-op-preserved
 loop-op-preserved g c =
-    let e = c.ask-asked.ensures in
+    let at = (goal.at.loop-op-preserved g c).After-keep in
     let a = c.serve_one-applied.ensures in
     let l = c.loop-op in
-    let client : ℕ = c.args.client in
     let first = g.D.Door.store c.args.door.now in
     let now = g.D.Door.store l.door in
     let next = g.D.Door.store c.serve_one-applied.new.door in
     let entry = c.serve_one-applied.result.entry in
     let before = joined c.args.earlier.now.items in
     let told = l.told.items in
-    let rest = c.next.new.self.rest.items in
-    let so_far : (start : PosixTree) → IsReady start before c.args.server.now client → IsServing start client c.args.requests before l.server l.fds told l.seq l.yielded (c.in-Some.op ∷ rest) =
-    λ start ready. subst (λ (r : List Op). IsServing start client c.args.requests before l.server l.fds told l.seq l.yielded r) c.in-Some.ensures.steps.0 (l.invariant.serving start ready) in
-    let asked = λ (start : PosixTree) (ready : IsReady start before c.args.server.now client).
-    is_ask start client c.args.requests before l.server l.fds told l.seq l.yielded c.in-Some.op rest (so_far start ready) c.ask-asked.result e.client e.asked e.desc e.fd e.last in
-    let ticket : c.args.first + c.from.result ≡ length before + l.seq = (λ i. c.requires.first i + c.from.ensures i) in
     let pushed = pushed_on c.push.result _ _ told _ _ c.unwrap.ensures c.reserve.ensures.items c.push.ensures.items ∙ ap (λ (e : Entry). told ++ e ∷ []) c.draw-entry.ensures.same in
-    let serving : (start : PosixTree) → IsReady start before c.args.server.now client
-    → IsServing start client c.args.requests before c.serve_one-applied.new.server c.keep.new.fds (told ++ entry ∷ []) (l.seq + 1) (l.yielded ++ c.in-Some.op ∷ []) rest =
-    λ start ready.
-    any_more start client c.args.requests before l.server l.fds told l.seq l.yielded c.in-Some.op rest (so_far start ready)
-    c.ask-asked.result entry _ a.entry (a.by (tree_after start (before ++ told)) (asked start ready)) ticket e.client e.seq e.asked (asked start ready) c.serve_one-applied.new.server c.keep.new.fds c.serve_one-applied.result.desc c.keep.ensures
-    (λ plain. a.served plain (tree_after start (before ++ told)) (so_far start ready).reached.parts (asked start ready))
-    (λ x excused. a.fits x excused (tree_after start (before ++ told)) (so_far start ready).reached.parts (asked start ready))
-    (λ excused. a.unchanged excused (tree_after start (before ++ told)) (so_far start ready).reached.parts) a.desc
-    (c.a_request_makes_one_file_at_most.ensures (tree_after start (before ++ told)) c.ask-asked.result.client c.ask-asked.result.op) in
     let whole = append_assoc before told (entry ∷ []) ∙ ap (λ (t : List Entry). before ++ t) (sym pushed) in
-    let more : AreFaultsTold first next (told ++ entry ∷ []) = told_on first now next told (entry ∷ []) l.invariant.faults (one_told now next entry a.told a.still a.stopped) in
-    let begun = c.requires.faults.0 in
-    let all = subst (AreFaultsTold begun next) (sym (append_assoc before told (entry ∷ []))) (told_on begun first next before (told ++ entry ∷ []) c.requires.faults.1 more) in
-    let legal = λ (start : PosixTree) (ready : IsReady start before c.args.server.now client).
-    legal_told begun next start ((before ++ told) ++ entry ∷ []) all (subst (IsLegalFrom 0 start) (sym (append_assoc before told (entry ∷ []))) (serving start ready).reached.entries) in
     record {
       serving = λ start ready.
-          subst (λ (t : List Entry). IsServing start client c.args.requests before c.serve_one-applied.new.server c.keep.new.fds t (l.seq + 1) (l.yielded ++ c.in-Some.op ∷ []) rest) (sym pushed) (serving start ready);
+          subst (λ (t : List Entry). IsServing start c.args.client c.args.requests before c.serve_one-applied.new.server c.keep.new.fds t (l.seq + 1) (l.yielded ++ c.in-Some.op ∷ []) c.next.new.self.rest.items) (sym pushed) (serving_more g at start ready);
       on_disk = λ visible start ready is.
           subst (λ (h : List Entry). IsOnDisk next start h c.serve_one-applied.new.server) whole
-          (a.on_disk visible start (before ++ told) (asked start ready) (legal start ready) (l.invariant.on_disk visible start ready is));
+          (a.on_disk visible start (before ++ told) (asked g at start ready) (legal_more g at start ready) (l.invariant.on_disk visible start ready is));
       moments = λ visible start ready is.
           let one = subst (λ (n : ℕ). IsExplainedThroughout g.D.Door.keeps n start (before ++ told) (entry ∷ []) now.moments next.moments) l.invariant.sectors
-          (a.moments visible start (before ++ told) (asked start ready) (legal start ready) (l.invariant.on_disk visible start ready is)) in
+          (a.moments visible start (before ++ told) (asked g at start ready) (legal_more g at start ready) (l.invariant.on_disk visible start ready is)) in
           subst (λ (t : List Entry). IsExplainedThroughout g.D.Door.keeps first.sectors start before t first.moments next.moments) (sym pushed)
           (throughout_joined g.D.Door.keeps first.sectors start before told (entry ∷ []) first.moments now.moments next.moments (l.invariant.moments visible start ready is) one);
-      session = subst (λ (h : List Entry). HasSession g.N.Naming.start h None c.draw-entry.new.hand) (append_assoc before told (entry ∷ []) ∙ ap (λ (t : List Entry). before ++ t) (sym pushed))
+      session = subst (λ (h : List Entry). HasSession g.N.Naming.start h None c.draw-entry.new.hand) whole
           (subst (λ (t : List Entry). HasSession g.N.Naming.start ((before ++ t) ++ entry ∷ []) None c.draw-entry.new.hand) c.reserve.ensures.items c.draw-entry.ensures.session);
-      covered = subst (λ (h : List Entry). IsCoveredIn g.N.Naming.start h c.draw-entry.new.hand) (append_assoc before told (entry ∷ []) ∙ ap (λ (t : List Entry). before ++ t) (sym pushed))
+      covered = subst (λ (h : List Entry). IsCoveredIn g.N.Naming.start h c.draw-entry.new.hand) whole
           (subst (λ (t : List Entry). IsCoveredIn g.N.Naming.start ((before ++ t) ++ entry ∷ []) c.draw-entry.new.hand) c.reserve.ensures.items c.draw-entry.ensures.covered);
       stamps = λ sees keeps.
           let there = c.requires.sees sees in
@@ -213,7 +228,7 @@ loop-op-preserved g c =
           (a.during there.0 start (before ++ told) (l.invariant.on_disk there.0 start c.requires.ready there.1)) c.ask.ensures.passed c.ask.ensures.stamped c.draw-entry.ensures.passed c.draw-entry.ensures.stamped;
       stop = c.draw-entry.ensures.stop;
       state = c.draw-entry.ensures.state;
-      faults = subst (AreFaultsTold first next) (sym pushed) more;
+      faults = subst (AreFaultsTold first next) (sym pushed) (more g at);
       sound = a.sound;
       geometry = a.geometry ∙ l.invariant.geometry;
       sectors = a.sectors ∙ l.invariant.sectors;
