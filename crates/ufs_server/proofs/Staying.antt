@@ -1,5 +1,5 @@
 -- A server stays over several calls, and serves a request behind them.
-use Rattle.std.proofs.Common.{◌≡◌, ℕ, inl, List, [], ◌∷◌, ◌++◌, Bool, true, Result, Ok, Err, ap, sym, refl, ◌∙◌, subst}
+use Rattle.std.proofs.Common.{◌≡◌, ℕ, inl, List, [], ◌∷◌, ◌++◌, Bool, true, Option, Result, Ok, Err, ap, rules, sym, refl, ◌∙◌, subst}
 use Rattle.std.specs.Prelude.{OnErr, OnOk}
 use Rattle.ufs_file.specs.Hand.{IsEntryOf}
 use Rattle.ufs_file.specs.declared.hand.Applied.{Applied}
@@ -10,11 +10,13 @@ use Rattle.ufs_model.specs.PosixTree.{PosixTree}
 use Rattle.ufs_model.specs.declared.data.Actor.{Actor}
 use Rattle.ufs_model.specs.declared.data.Ask.{Ask}
 use Rattle.ufs_model.specs.declared.data.Entry.{Entry}
+use Rattle.ufs_model.specs.declared.data.Excuse.{Excuse}
 use Rattle.ufs_model.specs.declared.data.Excuse.TheVariants as excuse
 use Rattle.ufs_model.specs.declared.data.Reply.TheVariants as reply
 use Rattle.ufs_names.proofs.FitsLemmas.{fits_memory}
 use Rattle.ufs_on_disk.specs.Requests.{FreeBlocksGoOn, SoundByFreeBlocks, with_free}
 use Rattle.ufs_on_disk.specs.Syncs.{OnDiskAsTold, SoundAsTold, TellsTheSame}
+use Rattle.ufs_store.specs.Refusals.{IsTold, stop_after}
 use Rattle.ufs_store.specs.State.{StoreState, geometry_of_store}
 use Rattle.ufs_stored.specs.AlwaysLaws.{RestIsExplained}
 use Rattle.ufs_stored.specs.Laws.{MovesBlocks}
@@ -24,9 +26,9 @@ use Rattle.ufs_stored.specs.Parts.{Parts}
 use Rattle.ufs_stored.specs.Sound.{IsSoundServer}
 use Rattle.ufs_stored.specs.Stored.{ArePartsOf}
 use Rattle.ufs_stored.proofs.Stretches.{explained_joined}
-use Rattle.ufs_server.specs.Answered.{IsUntold}
-use Rattle.ufs_server.specs.Served.{IsServedOn, KeepsPromise, Stays, StaysOnDisk}
-use Rattle.ufs_server.proofs.Beside.{untold_joined}
+use Rattle.ufs_server.specs.Answered.{IsUntold, device_told}
+use Rattle.ufs_server.specs.Served.{CommitEnds, IsServedOn, KeepsPromise, Stays, StaysOnDisk}
+use Rattle.ufs_server.proofs.Beside.{stop_stays, untold_joined}
 
 -- ---- no call
 
@@ -86,6 +88,25 @@ module _ {old mid new : Parts} {s t u : StoreState} (first : Stays old mid s t) 
 pub promise_at : {old mid new : Parts} {s t : StoreState} {keeps : Bool} {ask : Ask} {entry : Entry} → StaysOnDisk old mid s t keeps
     → ((start : PosixTree) (history : List Entry) → IsAsk (tree_after start history) ask → IsLegal start (history ++ entry ∷ []) → IsOnDisk t start history mid → IsOnDisk t start (history ++ entry ∷ []) new) → KeepsPromise old new s t keeps ask entry
 promise_at front goes = record { on_disk = λ start history asked legal on. goes start history asked legal (front.on_disk start history on); moments = front.moments }
+
+-- ---- commits, one behind the other
+
+pub none_ends : {x : Unit {0}} (p : Parts) (s : StoreState) → IsSoundServer (geometry_of_store s) s.unassigned.free p → CommitEnds p p s s (Ok x)
+none_ends p s sound = record { same = λ t parts. parts; sound = sound; geometry = refl; sectors = refl; excused = search rules; stopped = λ fault is. absurd cc; cause = refl; stop = sym (stop_stays s.stop) }
+
+pub ends_joined : {x : Unit {0}} {old mid new : Parts} {s t u : StoreState} {r : Result (Unit {0}) Excuse} → CommitEnds old mid s t (Ok x) → CommitEnds mid new t u r → CommitEnds old new s u r
+ends_joined {s = s} {u = u} {r = r} first then =
+    let going = first.stop ∙ stop_stays s.stop in
+    record {
+      same = λ w parts. then.same w (first.same w parts);
+      sound = then.sound;
+      geometry = then.geometry ∙ first.geometry;
+      sectors = then.sectors ∙ first.sectors;
+      excused = then.excused;
+      stopped = λ fault is. sym going ∙ then.stopped fault is;
+      cause = subst (λ (n : ℕ). IsTold n u.faults (device_told r)) first.cause then.cause;
+      stop = then.stop ∙ ap (λ (o : Option ℕ). stop_after o (device_told r)) going;
+    }
 
 -- ---- the pool gets what the store has
 

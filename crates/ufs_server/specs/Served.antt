@@ -1,6 +1,6 @@
 -- What the calls below `DiskServer::apply` do to a server, to the store beside it and to their disk. Fields that are clauses
 -- of `apply` have their names.
-use Rattle.std.specs.Prelude.{ℕ, ◌≡◌, ◌<◌, ◌^◌, ◌++◌, ◌∷◌, [], List, Bool, true, false}
+use Rattle.std.specs.Prelude.{ℕ, ◌≡◌, ◌<◌, ◌^◌, ◌++◌, ◌∷◌, [], List, Bool, true, false, Some, Result, Err, IfErr}
 use Rattle.ufs_file.specs.Hand.{IsEntryOf}
 use Rattle.ufs_file.specs.declared.hand.Applied.{Applied}
 use Rattle.ufs_model.specs.Asks.{IsAsk}
@@ -11,14 +11,16 @@ use Rattle.ufs_model.specs.declared.data.Actor.{Actor}
 use Rattle.ufs_model.specs.declared.data.Ask.{Ask}
 use Rattle.ufs_model.specs.declared.data.Entry.{Entry}
 use Rattle.ufs_model.specs.declared.data.Excuse.{Excuse}
+use Rattle.ufs_model.specs.declared.data.Excuse.TheVariants as excuse
 use Rattle.ufs_model.specs.declared.data.Reply.TheVariants as reply
 use Rattle.ufs_prefix.specs.Changes.{asks_commit}
+use Rattle.ufs_store.specs.Refusals.{IsTold, stop_after}
 use Rattle.ufs_store.specs.State.{StoreState, geometry_of_store}
 use Rattle.ufs_stored.specs.OnDisk.{IsExplainedBetween, IsOnDisk}
 use Rattle.ufs_stored.specs.Parts.{Parts}
 use Rattle.ufs_stored.specs.Sound.{IsSoundServer}
 use Rattle.ufs_stored.specs.Stored.{ArePartsOf}
-use Rattle.ufs_server.specs.Answered.{IsAnswered, IsUntold}
+use Rattle.ufs_server.specs.Answered.{IsAnswered, IsUntold, device_told, is_of_store}
 
 -- A request that asks for no commit may be served.
 pub record MayServe (old : Parts) (s : StoreState) (ask : Ask) : Type 0 where
@@ -41,6 +43,17 @@ module _ (old new : Parts) (s s' : StoreState) where
   pub record StaysOnDisk (keeps : Bool) : Type 0 where
     pub on_disk : (start : PosixTree) (history : List Entry) → IsOnDisk s start history old → IsOnDisk s' start history new
     pub moments : (start : PosixTree) (history : List Entry) → IsOnDisk s start history old → IsExplainedBetween keeps s.sectors start history s.moments s'.moments
+
+  -- How a commit ends that the server asked for: it has the same trees, and a refusal tells the call's fault, or an earlier one.
+  pub record CommitEnds (result : Result (Unit {0}) Excuse) : Type 0 where
+    pub same : (t : PosixTree) → ArePartsOf old t → ArePartsOf new t
+    pub sound : IsSoundServer (geometry_of_store s') s'.unassigned.free new
+    pub geometry : geometry_of_store s' ≡ geometry_of_store s
+    pub sectors : s'.sectors ≡ s.sectors
+    pub excused : IfErr result (λ x. is_of_store x ≡ true)
+    pub stopped : (fault : ℕ) → result ≡ Err (excuse.Stopped fault) → s.stop ≡ Some fault
+    pub cause : IsTold s.faults s'.faults (device_told result)
+    pub stop : s'.stop ≡ stop_after s.stop (device_told result)
 
   -- The request is answered, and the server goes on.
   pub record IsServedOn (ask : Ask) (by : Actor) (ticket : ℕ) (applied : Applied) : Type 0 where

@@ -11,6 +11,7 @@ ghost use Rattle.ufs_stored.specs.Sound.{IsSoundServer};
 ghost use Rattle.ufs_stored.specs.Stored.{ArePartsOf};
 ghost use Rattle.ufs_synced.specs.Laws.{HasNothingNoted};
 ghost use Rattle.ufs_server.specs.Answered.{device_told, is_of_store};
+ghost use Rattle.ufs_server.specs.Served.{CommitEnds};
 
 use crate::disk_server::DiskServer;
 use ufs_model::Excuse;
@@ -59,17 +60,10 @@ impl DiskServer {
         ensures err { IsTrue D.visible → OnErr result ((start : PosixTree) (history : List Entry) → HasNames (D.store door.old) start history self.old → IsOnDisk (D.store door.new) start history self.new) }
         ensures moments { IsTrue D.visible → (start : PosixTree) (history : List Entry) → HasNames (D.store door.old) start history self.old
             → IsExplainedBetween D.keeps (D.store door.old).sectors start history (D.store door.old).moments (D.store door.new).moments }
-        ensures same { (t : PosixTree) → ArePartsOf self.old t → ArePartsOf self.new t }
         ensures names { self.new.names ≡ self.old.names }
         ensures fresh { self.new.fresh ≡ self.old.fresh }
         ensures forgotten { OnOk result ((file : ℕ) → has files.now file ≡ true → map.get self.new.commits file ≡ None) }
-        ensures sound { IsSoundServer (geometry_of_store (D.store door.new)) (D.store door.new).unassigned.free self.new }
-        ensures geometry { geometry_of_store (D.store door.new) ≡ geometry_of_store (D.store door.old) }
-        ensures sectors { (D.store door.new).sectors ≡ (D.store door.old).sectors }
-        ensures excused { IfErr result (λ x. is_of_store x ≡ true) }
-        ensures stopped { (fault : ℕ) → (result ≡ Err (excuse.Stopped fault)) → ((D.store door.old).stop ≡ Some fault) }
-        ensures cause { IsTold (D.store door.old).faults (D.store door.new).faults (device_told result) }
-        ensures stop { (D.store door.new).stop ≡ stop_after (D.store door.old).stop (device_told result) }
+        ensures ends { CommitEnds self.old self.new (D.store door.old) (D.store door.new) result }
     {
         let geometry = door.geometry();
         always_law(&geometry);
@@ -87,17 +81,10 @@ impl DiskServer {
         ensures err { IsTrue D.visible → OnErr result ((start : PosixTree) (history : List Entry) → HasNames (D.store door.old) start history self.old → IsOnDisk (D.store door.new) start history self.new) }
         ensures moments { IsTrue D.visible → (start : PosixTree) (history : List Entry) → HasNames (D.store door.old) start history self.old
             → IsExplainedBetween D.keeps (D.store door.old).sectors start history (D.store door.old).moments (D.store door.new).moments }
-        ensures same { (t : PosixTree) → ArePartsOf self.old t → ArePartsOf self.new t }
         ensures names { self.new.names ≡ self.old.names }
         ensures fresh { self.new.fresh ≡ self.old.fresh }
         ensures forgotten { OnOk result ((other : ℕ) → IsSome (map.get self.new.commits other) → (other ≢ file) × IsSome (map.get self.old.commits other)) }
-        ensures sound { IsSoundServer (geometry_of_store (D.store door.new)) (D.store door.new).unassigned.free self.new }
-        ensures geometry { geometry_of_store (D.store door.new) ≡ geometry_of_store (D.store door.old) }
-        ensures sectors { (D.store door.new).sectors ≡ (D.store door.old).sectors }
-        ensures excused { IfErr result (λ x. is_of_store x ≡ true) }
-        ensures stopped { (fault : ℕ) → (result ≡ Err (excuse.Stopped fault)) → ((D.store door.old).stop ≡ Some fault) }
-        ensures cause { IsTold (D.store door.old).faults (D.store door.new).faults (device_told result) }
-        ensures stop { (D.store door.new).stop ≡ stop_after (D.store door.old).stop (device_told result) }
+        ensures ends { CommitEnds self.old self.new (D.store door.old) (D.store door.new) result }
     {
         let geometry = door.geometry();
         always_law(&geometry);

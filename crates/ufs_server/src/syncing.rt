@@ -1,17 +1,17 @@
 // What is synced: names, a file, everything.
-ghost use Rattle.std.specs.Prelude.{ℕ, ◌≡◌, ◌≢◌, ◌<◌, ◌↔◌, ◌∷◌, [], List, Some, None, IsSome, IsTrue, IfErr, OnOk, OnErr, Err, true, false};
+ghost use Rattle.std.specs.Prelude.{ℕ, ◌≡◌, ◌≢◌, ◌<◌, ◌↔◌, ◌∷◌, [], List, Some, None, IsSome, IsTrue, OnOk, OnErr, Err, true, false};
 ghost use Rattle.std.specs.FinMap as map;
 ghost use Rattle.ufs_model.specs.PosixTree.{PosixTree};
 ghost use Rattle.ufs_model.specs.declared.data.Entry.{Entry};
 ghost use Rattle.ufs_model.specs.declared.data.Excuse.TheVariants as excuse;
 ghost use Rattle.ufs_names.specs.Notes.{with_notes};
-ghost use Rattle.ufs_store.specs.Refusals.{IsTold, fault_of, is_no_space, stop_after};
+ghost use Rattle.ufs_store.specs.Refusals.{fault_of, is_no_space};
 ghost use Rattle.ufs_store.specs.State.{geometry_of_store};
 ghost use Rattle.ufs_store.specs.declared.fault.StoreFault.TheVariants as refusal;
 ghost use Rattle.ufs_stored.specs.OnDisk.{HasFile, HasFiles, HasNames, IsExplainedBetween, IsOnDisk};
 ghost use Rattle.ufs_stored.specs.Sound.{IsSoundServer};
-ghost use Rattle.ufs_stored.specs.Stored.{ArePartsOf};
-ghost use Rattle.ufs_server.specs.Answered.{device_of, device_told, is_of_store};
+ghost use Rattle.ufs_server.specs.Answered.{device_of, is_of_store};
+ghost use Rattle.ufs_server.specs.Served.{CommitEnds};
 
 use crate::disk_server::DiskServer;
 use ufs_model::Excuse;
@@ -27,19 +27,12 @@ impl DiskServer {
         ensures err { IsTrue D.visible → OnErr result ((start : PosixTree) (history : List Entry) → IsOnDisk (D.store door.old) start history self.old → IsOnDisk (D.store door.new) start history self.new) }
         ensures moments { IsTrue D.visible → (start : PosixTree) (history : List Entry) → IsOnDisk (D.store door.old) start history self.old
             → IsExplainedBetween D.keeps (D.store door.old).sectors start history (D.store door.old).moments (D.store door.new).moments }
-        ensures same { (t : PosixTree) → ArePartsOf self.old t → ArePartsOf self.new t }
         ensures rest { self.new ≡ record self.old { names = with_notes self.new.names.tree.noted self.old.names; fresh = self.new.fresh } }
         ensures noted { OnOk result (self.new.names.tree.noted ≡ Some []) }
         ensures fresh { OnOk result (self.new.fresh ≡ []) }
-        ensures sound { IsSoundServer (geometry_of_store (D.store door.new)) (D.store door.new).unassigned.free self.new }
         ensures unassigned { (D.store door.new).unassigned ≡ (D.store door.old).unassigned }
-        ensures geometry { geometry_of_store (D.store door.new) ≡ geometry_of_store (D.store door.old) }
-        ensures sectors { (D.store door.new).sectors ≡ (D.store door.old).sectors }
-        ensures excused { IfErr result (λ x. is_of_store x ≡ true) }
-        ensures stopped { (fault : ℕ) → (result ≡ Err (excuse.Stopped fault)) → ((D.store door.old).stop ≡ Some fault) }
         ensures refused { (fault : ℕ) → (D.store door.old).stop ≡ Some fault → result ≡ Err (excuse.Stopped fault) }
-        ensures cause { IsTold (D.store door.old).faults (D.store door.new).faults (device_told result) }
-        ensures stop { (D.store door.new).stop ≡ stop_after (D.store door.old).stop (device_told result) }
+        ensures ends { CommitEnds self.old self.new (D.store door.old) (D.store door.new) result }
     {
         let geometry = door.geometry();
         always_law(&geometry);
@@ -68,15 +61,8 @@ impl DiskServer {
         ensures err { IsTrue D.visible → OnErr result ((start : PosixTree) (history : List Entry) → IsOnDisk (D.store door.old) start history self.old → IsOnDisk (D.store door.new) start history self.new) }
         ensures moments { IsTrue D.visible → (start : PosixTree) (history : List Entry) → IsOnDisk (D.store door.old) start history self.old
             → IsExplainedBetween D.keeps (D.store door.old).sectors start history (D.store door.old).moments (D.store door.new).moments }
-        ensures same { (t : PosixTree) → ArePartsOf self.old t → ArePartsOf self.new t }
-        ensures sound { IsSoundServer (geometry_of_store (D.store door.new)) (D.store door.new).unassigned.free self.new }
-        ensures geometry { geometry_of_store (D.store door.new) ≡ geometry_of_store (D.store door.old) }
-        ensures sectors { (D.store door.new).sectors ≡ (D.store door.old).sectors }
-        ensures excused { IfErr result (λ x. is_of_store x ≡ true) }
-        ensures stopped { (fault : ℕ) → (result ≡ Err (excuse.Stopped fault)) → ((D.store door.old).stop ≡ Some fault) }
         ensures refused { (fault : ℕ) → (D.store door.old).stop ≡ Some fault → result ≡ Err (excuse.Stopped fault) }
-        ensures cause { IsTold (D.store door.old).faults (D.store door.new).faults (device_told result) }
-        ensures stop { (D.store door.new).stop ≡ stop_after (D.store door.old).stop (device_told result) }
+        ensures ends { CommitEnds self.old self.new (D.store door.old) (D.store door.new) result }
     {
         self.sync_names(door)?;
         self.commit_file(door, file)

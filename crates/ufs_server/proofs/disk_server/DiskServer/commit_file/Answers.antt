@@ -1,4 +1,4 @@
-use Rattle.std.proofs.Common.{ap, inl, sym, ◌∙◌, subst}
+use Rattle.std.proofs.Common.{ap, inl, rules, sym, ◌∙◌, subst}
 use Rattle.std.specs.Prelude.{All}
 use Rattle.ufs_calls.proofs.Facts.Maps.{on_err}
 use Rattle.ufs_extent.specs.Runs.{IsRun}
@@ -56,15 +56,16 @@ returns-in_err-told-clause-err g c visible =
     on_err c.from_residual.result (λ start history names. on_disk_failed (out_failed g c) (numbered_failed g c) (back_failed g c) c.in_err-told.ensures.kept c.told_law.ensures.back (g.D.Door.store c.sync_held-told.new.door) c.told_law.ensures.on_disk c.geometry-geometry.result
     c.file_memory_law.ensures c.file_failure_law.ensures (sym c.geometry-geometry.ensures.is) c.requires.held c.sync_held-told.ensures.fits (c.in_err-told.ensures.err visible) start history names)
 
-pub returns-in_err-told-clause-same : goal.returns-in_err-told-clause-same
-returns-in_err-told-clause-same g c t parts = parts_failed (out_failed g c) (numbered_failed g c) (back_failed g c) c.in_err-told.ensures.kept c.told_law.ensures.back t parts
-
 pub returns-in_err-told-clause-here : goal.returns-in_err-told-clause-here
 returns-in_err-told-clause-here g c other some = here_failed (out_failed g c) (numbered_failed g c) (back_failed g c) c.in_err-told.ensures.kept c.told_law.ensures.back other some
 
-pub returns-in_err-told-clause-sound : goal.returns-in_err-told-clause-sound
-returns-in_err-told-clause-sound g c =
-    sound_failed (out_failed g c) (numbered_failed g c) (back_failed g c) c.in_err-told.ensures.kept c.told_law.ensures.back (g.D.Door.store c.sync_held-told.new.door) c.told_law.ensures.sound c.in_err-told.ensures.unfreed c.sync_held-told.ensures.geometry
+pub returns-in_err-told-clause-ends : goal.returns-in_err-told-clause-ends
+returns-in_err-told-clause-ends g c =
+    search (
+      rules,
+      parts_failed (out_failed g c) (numbered_failed g c) (back_failed g c) c.in_err-told.ensures.kept c.told_law.ensures.back,
+      sound_failed (out_failed g c) (numbered_failed g c) (back_failed g c) c.in_err-told.ensures.kept c.told_law.ensures.back (g.D.Door.store c.sync_held-told.new.door) c.told_law.ensures.sound c.in_err-told.ensures.unfreed c.sync_held-told.ensures.geometry,
+    )
 
 pub returns-in_err-told-clause-moments : goal.returns-in_err-told-clause-moments
 returns-in_err-told-clause-moments g c visible start history names =
@@ -93,18 +94,19 @@ pub returns-clause-ok : goal.returns-clause-ok
 returns-clause-ok g c visible start history done files =
     synced_done (out g c) (numbered g c) (back g c) (done_with g c) c.told_law.ensures.forgotten (g.D.Door.store c.sync_held-told.new.door) c.file_sync_law.ensures.ok c.told_law.ensures.synced c.requires.held c.sync_held-told.ensures.fits (c.in_ok-told.ensures.ok visible) start history done files
 
-pub returns-clause-same : goal.returns-clause-same
-returns-clause-same g c t parts = parts_done (out g c) (numbered g c) (back g c) (done_with g c) c.told_law.ensures.forgotten t parts
-
 pub returns-clause-here : goal.returns-clause-here
 returns-clause-here g c other some = here_done (out g c) (numbered g c) (back g c) (done_with g c) c.told_law.ensures.forgotten other some
 
 pub returns-clause-forgotten : goal.returns-clause-forgotten
 returns-clause-forgotten g c other some = forgotten_done (out g c) (numbered g c) (back g c) (done_with g c) c.told_law.ensures.forgotten other some
 
-pub returns-clause-sound : goal.returns-clause-sound
-returns-clause-sound g c =
-    sound_done (out g c) (numbered g c) (back g c) (done_with g c) c.told_law.ensures.forgotten (g.D.Door.store c.sync_held-told.new.door) c.file_sync_law.ensures.sound c.told_law.ensures.sound c.in_ok-told.ensures.freed c.sync_held-told.ensures.geometry
+pub returns-clause-ends : goal.returns-clause-ends
+returns-clause-ends g c =
+    search (
+      rules,
+      parts_done (out g c) (numbered g c) (back g c) (done_with g c) c.told_law.ensures.forgotten,
+      sound_done (out g c) (numbered g c) (back g c) (done_with g c) c.told_law.ensures.forgotten (g.D.Door.store c.sync_held-told.new.door) c.file_sync_law.ensures.sound c.told_law.ensures.sound c.in_ok-told.ensures.freed c.sync_held-told.ensures.geometry,
+    )
 
 pub returns-clause-moments : goal.returns-clause-moments
 returns-clause-moments g c visible start history names =

@@ -1,8 +1,9 @@
-use Rattle.std.proofs.Common.{◌∙◌, ◌≡◌, ◌<◌, ◌≤◌, ◌+◌, ℕ, suc, List, ap, arith, inl, refl, subst, sym, take, length}
+use Rattle.std.proofs.Common.{◌∙◌, ◌≡◌, ◌<◌, ◌≤◌, ◌+◌, ℕ, suc, Err, Ok, List, ap, arith, inl, refl, subst, sym, take, length}
 use Rattle.std.specs.Prelude.{IsSome, Some, slice_get, slice_index_or}
 use Rattle.std.specs.FinMap as map
 use Rattle.std.proofs.lemmas.List.{take_all}
 use Rattle.std.proofs.lemmas.Option.{slice_get-get_or}
+use Rattle.std.proofs.lemmas.Result.{err_from_is_err_and}
 use Rattle.ufs_bitmap.specs.Taking.{has}
 use Rattle.ufs_bitmap.proofs.TakingLemmas.{has-none}
 use Rattle.ufs_calls.proofs.Facts.Maps.{on_err}
@@ -12,22 +13,18 @@ use Rattle.ufs_names.specs.NamesPart.{NamesPart}
 use Rattle.ufs_stored.specs.OnDisk.{HasFiles}
 use Rattle.ufs_server.proofs.Filed.{forgotten_more, none_yet, one_more}
 use Rattle.ufs_stored.proofs.Stretches.{explained_joined}
-use Rattle.ufs_server.proofs.Beside.{stop_stays}
+use Rattle.ufs_server.specs.Served.{CommitEnds}
+use Rattle.ufs_server.proofs.Staying.{ends_joined, none_ends}
 use Rattle.ufs_server.proofs.disk_server.DiskServer.commit_files.Goals as goal
 
 pub loop-place-init : goal.loop-place-init
 loop-place-init g c = record {
   files = λ visible start history has. none_yet (g.D.Door.store c.args.door.now) start history c.args.self.now has;
   moments = λ visible start history has. c.always_law.ensures.rest g.D.Door.keeps (g.D.Door.store c.args.door.now) start history c.args.self.now (sym c.geometry-geometry.ensures.is) (inl has.going);
-  same = λ t parts. parts;
   names = refl;
   fresh = refl;
   forgotten = λ file is. (let clash = sym is ∙ has-none file in absurd cc);
-  sound = c.requires.sound;
-  geometry = refl;
-  sectors = refl;
-  faults = refl;
-  stop = refl;
+  ends = none_ends c.args.self.now (g.D.Door.store c.args.door.now) c.requires.sound;
 }
 
 pub commit_here-requires-clause-held : goal.commit_here-requires-clause-held
@@ -39,7 +36,7 @@ commit_here-requires-clause-held g c =
     subst (λ (n : NamesPart). IsSome (map.get n.held file)) (sym c.loop-place.invariant.names) (c.requires.held file (has_at files k file (slice_get-get_or files k 0 less)))
 
 pub commit_here-requires-clause-sound : goal.commit_here-requires-clause-sound
-commit_here-requires-clause-sound g c = c.loop-place.invariant.sound
+commit_here-requires-clause-sound g c = c.loop-place.invariant.ends.sound
 
 pub loop-place-preserved : goal.loop-place-preserved
 loop-place-preserved g c =
@@ -56,17 +53,12 @@ loop-place-preserved g c =
       files = λ visible start history has. subst (HasFiles new start history after) (sym (take-push files k file at) ∙ ap (λ (n : ℕ). take n files) next)
           (one_more new start history after (take k files) file (c.in_ok-commit_here.ensures.ok visible start history (take k files) (i.files visible start history has)));
       moments = λ visible start history has. explained_joined g.D.Door.keeps start history (g.D.Door.store c.args.door.now).sectors (g.D.Door.store c.args.door.now).moments (g.D.Door.store c.loop-place.door) new.moments
-          i.sectors (i.moments visible start history has) (c.commit_here.ensures.moments visible start history (i.files visible start history has).names);
-      same = λ t parts. c.commit_here.ensures.same t (i.same t parts);
+          i.ends.sectors (i.moments visible start history has) (c.commit_here.ensures.moments visible start history (i.files visible start history has).names);
       names = c.commit_here.ensures.names ∙ i.names;
       fresh = c.commit_here.ensures.fresh ∙ i.fresh;
       forgotten = λ other is. forgotten_more (take k files) file c.loop-place.self.commits after.commits c.in_ok-commit_here.ensures.forgotten i.forgotten other
           (ap (λ (xs : List ℕ). has xs other) (sym (take-push files k file at) ∙ ap (λ (n : ℕ). take n files) next) ∙ is);
-      sound = c.commit_here.ensures.sound;
-      geometry = c.commit_here.ensures.geometry ∙ i.geometry;
-      sectors = c.commit_here.ensures.sectors ∙ i.sectors;
-      faults = c.in_ok-commit_here.ensures.cause ∙ i.faults;
-      stop = c.in_ok-commit_here.ensures.stop ∙ stop_stays (g.D.Door.store c.loop-place.door).stop ∙ i.stop;
+      ends = ends_joined {r = Ok tt} i.ends c.in_ok-commit_here.ensures.ends;
     }
 
 pub returns-in_err-commit_here-clause-err : goal.returns-in_err-commit_here-clause-err
@@ -89,7 +81,12 @@ pub returns-in_err-commit_here-clause-moments : goal.returns-in_err-commit_here-
 returns-in_err-commit_here-clause-moments g c visible start history has =
     let i = c.loop-place.invariant in
     explained_joined g.D.Door.keeps start history (g.D.Door.store c.args.door.now).sectors (g.D.Door.store c.args.door.now).moments (g.D.Door.store c.loop-place.door) (g.D.Door.store c.commit_here.new.door).moments
-    i.sectors (i.moments visible start history has) (c.commit_here.ensures.moments visible start history (i.files visible start history has).names)
+    i.ends.sectors (i.moments visible start history has) (c.commit_here.ensures.moments visible start history (i.files visible start history has).names)
 
 pub returns-clause-moments : goal.returns-clause-moments
 returns-clause-moments g c visible start history has = c.loop-place.invariant.moments visible start history has
+
+pub returns-in_err-commit_here-clause-ends : goal.returns-in_err-commit_here-clause-ends
+returns-in_err-commit_here-clause-ends g c =
+    let p = err_from_is_err_and c.from_residual.result c.from_residual.ensures.1 in
+    subst (CommitEnds c.args.self.now c.commit_here.new.self (g.D.Door.store c.args.door.now) (g.D.Door.store c.commit_here.new.door)) (sym (p.1 ∙ ap Err p.2)) (ends_joined c.loop-place.invariant.ends c.in_err-commit_here.ensures.ends)

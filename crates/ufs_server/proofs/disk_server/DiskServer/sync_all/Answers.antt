@@ -21,7 +21,7 @@ returns-clause-ok g c visible =
     let p = c.args.self.now in
     let keys : c.as_slice.result.now ≡ map.keys p.names.held = c.as_slice.ensures ∙ c.in-Ok.ensures ∙ ap (λ (x : Parts). map.keys x.names.held) c.self.view_is in
     let held : c.commit_files.new.self.names.held ≡ p.names.held = ap (λ (n : NamesPart). n.held) c.commit_files.ensures.names ∙ ap (λ (x : Parts). x.names.held) c.sync_names.ensures.rest in
-    let form = c.commit_files.ensures.geometry ∙ c.sync_names.ensures.geometry ∙ sym c.geometry-geometry.ensures.is in
+    let form = c.commit_files.ensures.ends.geometry ∙ c.sync_names.ensures.ends.geometry ∙ sym c.geometry-geometry.ensures.is in
     let all : (file : ℕ) → IsSome (map.get c.commit_files.new.self.names.held file) → has c.as_slice.result.now file ≡ true =
     λ file is. ap (λ (xs : List ℕ). has xs file) keys ∙ keys_are p.names.held file ∙ ap (λ (m : Holdings). is_some (map.get m file)) (sym held) ∙ is in
     on_ok_weaker c.commit_files.result
@@ -50,7 +50,7 @@ returns-clause-nothing g c =
 pub returns-clause-moments : goal.returns-clause-moments
 returns-clause-moments g c visible start history on =
     let old = g.D.Door.store c.args.door.now in
-    explained_joined g.D.Door.keeps start history old.sectors old.moments (g.D.Door.store c.sync_names.new.door) (g.D.Door.store c.commit_files.new.door).moments c.sync_names.ensures.sectors
+    explained_joined g.D.Door.keeps start history old.sectors old.moments (g.D.Door.store c.sync_names.new.door) (g.D.Door.store c.commit_files.new.door).moments c.sync_names.ensures.ends.sectors
     (c.sync_names.ensures.moments visible start history on) (c.commit_files.ensures.moments visible start history (c.in_ok-sync_names.ensures.ok visible start history on))
 
 pub returns-in-Some-clause-moments : goal.returns-in-Some-clause-moments

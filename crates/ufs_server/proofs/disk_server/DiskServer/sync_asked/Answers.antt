@@ -56,7 +56,7 @@ returns-in-Some-file-clause-on_disk g c visible start history entry client asked
     let p1 = c.sync_file.new.self in
     let t = tree_after start history in
     let fd = c.in-Fsync.fd in
-    let form : geometry_of_store s1 ≡ c.geometry-geometry.result = c.sync_file.ensures.geometry ∙ sym c.geometry-geometry.ensures.is in
+    let form : geometry_of_store s1 ≡ c.geometry-geometry.result = c.sync_file.ensures.ends.geometry ∙ sym c.geometry-geometry.ensures.is in
     let file : (opened t entry.client fd).file ≡ Some c.in-Some-file.file =
     ap (λ (k : ℕ). (opened t k fd).file) client ∙ ap (λ (d : Desc). d.file) (opened_is t c.args.ask.now fd c.in-Fsync.is ask c.in-Some.desc c.in-Some.is) ∙ c.in-Some-file.is in
     synced_entry c.sync_file.result entry _ _ _ (replied ∙ c.sync_reply-in-Some-file.ensures) (c.sync_file.ensures.ok visible) (c.sync_file.ensures.err visible)
@@ -69,7 +69,7 @@ returns-in-None-clause-on_disk g c visible start history entry client asked repl
     let p1 = c.sync_names.new.self in
     let t = tree_after start history in
     let fd = c.in-Fsync.fd in
-    let form : geometry_of_store s1 ≡ c.geometry-geometry.result = c.sync_names.ensures.geometry ∙ sym c.geometry-geometry.ensures.is in
+    let form : geometry_of_store s1 ≡ c.geometry-geometry.result = c.sync_names.ensures.ends.geometry ∙ sym c.geometry-geometry.ensures.is in
     let none : (opened t entry.client fd).file ≡ None =
     ap (λ (k : ℕ). (opened t k fd).file) client ∙ ap (λ (d : Desc). d.file) (opened_is t c.args.ask.now fd c.in-Fsync.is ask c.in-Some.desc c.in-Some.is) ∙ c.in-None.is in
     synced_entry c.sync_names.result entry _ _ _ (replied ∙ c.sync_reply-in-None.ensures) (c.sync_names.ensures.ok visible) (c.sync_names.ensures.err visible)

@@ -6,6 +6,7 @@ use Rattle.ufs_names.specs.NamesPart.{NamesPart}
 use Rattle.ufs_stored.specs.Parts.{Parts}
 use Rattle.ufs_stored.proofs.Stretches.{explained_joined}
 use Rattle.ufs_server.proofs.Filed.{has_file, none_yet}
+use Rattle.ufs_server.proofs.Staying.{ends_joined}
 use Rattle.ufs_server.proofs.disk_server.DiskServer.sync_file.Goals as goal
 
 pub returns-clause-ok : goal.returns-clause-ok
@@ -27,5 +28,8 @@ returns-clause-err g c visible =
 pub returns-clause-moments : goal.returns-clause-moments
 returns-clause-moments g c visible start history on =
     let old = g.D.Door.store c.args.door.now in
-    explained_joined g.D.Door.keeps start history old.sectors old.moments (g.D.Door.store c.sync_names.new.door) (g.D.Door.store c.commit_file.new.door).moments c.sync_names.ensures.sectors
+    explained_joined g.D.Door.keeps start history old.sectors old.moments (g.D.Door.store c.sync_names.new.door) (g.D.Door.store c.commit_file.new.door).moments c.sync_names.ensures.ends.sectors
     (c.sync_names.ensures.moments visible start history on) (c.commit_file.ensures.moments visible start history (c.in_ok-sync_names.ensures.ok visible start history on))
+
+pub returns-clause-ends : goal.returns-clause-ends
+returns-clause-ends g c = ends_joined c.in_ok-sync_names.ensures.ends c.commit_file.ensures.ends

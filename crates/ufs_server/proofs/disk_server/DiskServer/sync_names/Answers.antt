@@ -1,8 +1,9 @@
-use Rattle.std.proofs.Common.{◌≡◌, ◌∙◌, ℕ, Some, List, [], ap, inl, subst, sym}
+use Rattle.std.proofs.Common.{◌≡◌, ◌∙◌, ℕ, Some, List, [], ap, inl, rules, subst, sym}
 use Rattle.std.specs.Prelude.{IsTrue}
 use Rattle.ufs_bitmap.specs.Space.{Space}
 use Rattle.ufs_bitmap.specs.Taking.{has}
 use Rattle.ufs_layout.specs.declared.geometry.Geometry.{Geometry}
+use Rattle.ufs_model.specs.PosixTree.{PosixTree}
 use Rattle.ufs_model.specs.declared.data.Excuse.TheVariants as excuse
 use Rattle.ufs_name_tree.specs.NameTable.{IsNameTable}
 use Rattle.ufs_names.specs.NamesPart.{NamesPart}
@@ -37,16 +38,8 @@ returns-in-Ok-clause-ok g c visible start history on_disk =
     let go = is_going old start history p (sym c.stopped.ensures ∙ c.in_default.is) on_disk in
     subst (λ (q : Parts). HasNames new start history q) (sym made) (c.in-Ok.ensures.ok visible start history p fresh noted table go)
 
-pub returns-in-Ok-clause-same : goal.returns-in-Ok-clause-same
-returns-in-Ok-clause-same g c t parts =
-    let p = c.args.self.now in
-    let names : c.put_notes.new.self ≡ with_notes (Some []) c.self.inside.names = c.put_notes.ensures ∙ (λ i. with_notes (c.in-Ok.ensures.emptied i) (c.take_notes-notes.ensures.rest i)) in
-    let made : (λ (n : NamesPart) (fresh : List ℕ). let q : Parts = record { names = n; files = c.self.inside.files; commits = c.self.inside.commits; pool = c.self.inside.pool; fresh = fresh; dropped = c.self.inside.dropped } in q) c.put_notes.new.self c.clear.new.self.items ≡ with_names_committed p =
-    (λ i. record { names = names i; files = c.self.inside.files; commits = c.self.inside.commits; pool = c.self.inside.pool; fresh = c.clear.ensures.items i; dropped = c.self.inside.dropped }) ∙ ap with_names_committed c.self.view_is in
-    subst (λ (q : Parts). ArePartsOf q t) (sym made) (parts_committed p t parts)
-
-pub returns-in-Ok-clause-sound : goal.returns-in-Ok-clause-sound
-returns-in-Ok-clause-sound g c =
+pub returns-in-Ok-clause-ends : goal.returns-in-Ok-clause-ends
+returns-in-Ok-clause-ends g c =
     let p = c.args.self.now in
     let old = g.D.Door.store c.args.door.now in
     let new = g.D.Door.store c.commit_notes-committed.new.door in
@@ -55,17 +48,14 @@ returns-in-Ok-clause-sound g c =
     (λ i. record { names = names i; files = c.self.inside.files; commits = c.self.inside.commits; pool = c.self.inside.pool; fresh = c.clear.ensures.items i; dropped = c.self.inside.dropped }) ∙ ap with_names_committed c.self.view_is in
     let sound = subst (λ (h : Geometry). IsSoundServer h new.unassigned.free p) (sym c.commit_notes-committed.ensures.geometry)
     (subst (λ (u : Space). IsSoundServer (geometry_of_store old) u.free p) (sym c.commit_notes-committed.ensures.unassigned) c.requires.sound) in
-    subst (λ (q : Parts). IsSoundServer (geometry_of_store new) new.unassigned.free q) (sym made) (sound_committed (geometry_of_store new) new.unassigned.free p sound)
+    search (
+      rules,
+      subst (λ (q : Parts). (t : PosixTree) → ArePartsOf p t → ArePartsOf q t) (sym made) (parts_committed p),
+      subst (λ (q : Parts). IsSoundServer (geometry_of_store new) new.unassigned.free q) (sym made) (sound_committed (geometry_of_store new) new.unassigned.free p sound),
+    )
 
-pub returns-in-Err-clause-same : goal.returns-in-Err-clause-same
-returns-in-Err-clause-same g c t parts =
-    let names : c.put_notes.new.self ≡ c.self.inside.names = c.put_notes.ensures ∙ (λ i. with_notes ((c.in-Err.ensures.kept ∙ c.take_notes-notes.ensures.notes) i) (c.take_notes-notes.ensures.rest i)) in
-    let same : (λ (n : NamesPart). let q : Parts = record { names = n; files = c.self.inside.files; commits = c.self.inside.commits; pool = c.self.inside.pool; fresh = c.self.inside.fresh.items; dropped = c.self.inside.dropped } in q) c.put_notes.new.self ≡ c.args.self.now =
-    (λ i. record { names = names i; files = c.self.inside.files; commits = c.self.inside.commits; pool = c.self.inside.pool; fresh = c.self.inside.fresh.items; dropped = c.self.inside.dropped }) ∙ c.self.view_is in
-    subst (λ (q : Parts). ArePartsOf q t) (sym same) parts
-
-pub returns-in-Err-clause-sound : goal.returns-in-Err-clause-sound
-returns-in-Err-clause-sound g c =
+pub returns-in-Err-clause-ends : goal.returns-in-Err-clause-ends
+returns-in-Err-clause-ends g c =
     let p = c.args.self.now in
     let old = g.D.Door.store c.args.door.now in
     let new = g.D.Door.store c.commit_notes-committed.new.door in
@@ -74,14 +64,20 @@ returns-in-Err-clause-sound g c =
     (λ i. record { names = names i; files = c.self.inside.files; commits = c.self.inside.commits; pool = c.self.inside.pool; fresh = c.self.inside.fresh.items; dropped = c.self.inside.dropped }) ∙ c.self.view_is in
     let sound = subst (λ (h : Geometry). IsSoundServer h new.unassigned.free p) (sym c.commit_notes-committed.ensures.geometry)
     (subst (λ (u : Space). IsSoundServer (geometry_of_store old) u.free p) (sym c.commit_notes-committed.ensures.unassigned) c.requires.sound) in
-    subst (λ (q : Parts). IsSoundServer (geometry_of_store new) new.unassigned.free q) (sym same) sound
-
-pub returns-in-Err-clause-stopped : goal.returns-in-Err-clause-stopped
-returns-in-Err-clause-stopped g c fault e =
-    let is : c.excuse_of.result ≡ excuse.Stopped fault = cc in
-    let was = (c.excuse_of.ensures.stopped fault).0 is in
-    let no = subst (λ (f : StoreFault). IsTrue (is_own f)) was c.in-Err.ensures.refused in
-    absurd cc
+    record {
+      same = λ t parts. subst (λ (q : Parts). ArePartsOf q t) (sym same) parts;
+      sound = subst (λ (q : Parts). IsSoundServer (geometry_of_store new) new.unassigned.free q) (sym same) sound;
+      geometry = c.commit_notes-committed.ensures.geometry;
+      sectors = c.commit_notes-committed.ensures.sectors;
+      excused = search rules;
+      stopped = λ fault e.
+          let is : c.excuse_of.result ≡ excuse.Stopped fault = cc in
+          let was = (c.excuse_of.ensures.stopped fault).0 is in
+          let no = subst (λ (f : StoreFault). IsTrue (is_own f)) was c.in-Err.ensures.refused in
+          absurd cc;
+      cause = search rules;
+      stop = search rules;
+    }
 
 pub returns-in-Some-clause-moments : goal.returns-in-Some-clause-moments
 returns-in-Some-clause-moments g c visible start history on_disk =
