@@ -1,0 +1,15 @@
+use Rattle.ufs_alike.proofs.StepLemmas.{refusals, steps, asks}
+use Rattle.ufs_alike.proofs.ExcuseLemmas.{excuses}
+use Rattle.ufs_alike.proofs.a_request_looks_at_no_bytes.Goals as goal
+
+pub returns-clause-refusals : goal.returns-clause-refusals
+returns-clause-refusals c = refusals
+
+pub returns-clause-steps : goal.returns-clause-steps
+returns-clause-steps c = steps
+
+pub returns-clause-asks : goal.returns-clause-asks
+returns-clause-asks c = asks
+
+pub returns-clause-excuses : goal.returns-clause-excuses
+returns-clause-excuses c = excuses
