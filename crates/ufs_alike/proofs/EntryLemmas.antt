@@ -29,7 +29,7 @@ module _ (P : Reply → Type 0) (excused : (x : Excuse) → P (reply.Excused x))
   by_reply (reply.Refused e) = plain (reply.Refused e) (λ x e. cc)
 
 -- another reply than an excuse is drawn anew, and the tree goes on by it
-plain_redrawn : (t : PosixTree) (client : ℕ) (request : Op) (r : Reply) → IsPlain r → redrawn_reply t client request r ≡ (posix t client request).1
+pub plain_redrawn : (t : PosixTree) (client : ℕ) (request : Op) (r : Reply) → IsPlain r → redrawn_reply t client request r ≡ (posix t client request).1
 plain_redrawn t client request (reply.Excused x) plain = absurd (plain x refl)
 plain_redrawn t client request reply.Done plain = refl
 plain_redrawn t client request (reply.Fd n) plain = refl
@@ -53,7 +53,7 @@ plain_goes_on t client request (reply.IsDir entries) plain = refl
 plain_goes_on t client request (reply.Names names) plain = refl
 plain_goes_on t client request (reply.Refused e) plain = refl
 
-unexcused : (t : PosixTree) (client : ℕ) (request : Op) (r : Reply) → IsPlain r → IsExcused t client request r → ⊥
+pub unexcused : (t : PosixTree) (client : ℕ) (request : Op) (r : Reply) → IsPlain r → IsExcused t client request r → ⊥
 unexcused t client request (reply.Excused x) plain is = plain x refl
 unexcused t client request reply.Done plain is = is
 unexcused t client request (reply.Fd n) plain is = is

@@ -13,7 +13,7 @@ use Rattle.ufs_model.specs.declared.data.Reply.TheVariants.{At}
 use Rattle.ufs_alike.specs.Alike.{AreRepliesAlike}
 use Rattle.ufs_alike.specs.Laws.{AreFileStepsAlike, FileStepsAreAlike, FileRefusalsAreSame}
 use Rattle.ufs_alike.proofs.SizeLemmas.{part_size, resized_size, put_size, place_same}
-use Rattle.ufs_alike.proofs.StepLemmas.{got}
+use Rattle.ufs_alike.proofs.ReplyLemmas.{got}
 
 module _ (a b : List ℕ) (d : Desc) (e : length a ≡ length b) where
   refused : (request : Op) → file_refusal a d request ≡ file_refusal b d request

@@ -1,7 +1,9 @@
 pub mod SizeLemmas
 pub mod TreeLemmas
+pub mod ReplyLemmas
 pub mod StepLemmas
 pub mod ExcuseLemmas
+pub mod PartLemmas
 pub mod FileLemmas
 pub mod EntryLemmas
 pub mod HistoryLemmas

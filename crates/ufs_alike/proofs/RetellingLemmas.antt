@@ -1,12 +1,16 @@
--- What is told again has the same requests in the same order.
-use Rattle.std.proofs.Common.{◌≡◌, ℕ, List, [], ◌∷◌, Bool, true, false, cond, eqb, map, length, take, ap, sym, refl, ◌∙◌}
+-- What is told again has the same requests in the same order, and is the history again from its own tree.
+use Rattle.std.proofs.Common.{◌≡◌, ℕ, List, [], ◌∷◌, Bool, true, false, cond, eqb, map, length, take, ap, sym, refl, ◌∙◌, ◌⊎◌, inl, inr, ◌+◌}
 use Rattle.std.proofs.lemmas.List.{length-map}
 use Rattle.std.specs.List.{range_with_len}
 use Rattle.ufs_model.specs.PosixTree.{PosixTree}
-use Rattle.ufs_model.specs.History.{goes_on, entries_of, requests_of}
+use Rattle.ufs_model.specs.History.{goes_on, IsReplyTo, IsExcused, entries_of, requests_of}
+use Rattle.ufs_model.specs.Posix.{posix}
 use Rattle.ufs_model.specs.declared.data.Entry.{Entry}
-use Rattle.ufs_alike.specs.Redrawn.{redrawn, redrawn_all}
-use Rattle.ufs_alike.specs.Laws.{OrderIsKept, AllIsAnswered}
+use Rattle.ufs_model.specs.declared.data.Reply.{Reply}
+use Rattle.ufs_model.proofs.PosixReplyLemmas.{IsPlain, posix_plain}
+use Rattle.ufs_alike.specs.Redrawn.{redrawn_reply, redrawn, redrawn_all}
+use Rattle.ufs_alike.proofs.EntryLemmas.{by_reply, plain_redrawn, unexcused}
+use Rattle.ufs_alike.specs.Laws.{RetellsBack, RetellsInTurn, OrderIsKept, AllIsAnswered}
 
 -- what stays of each entry stays of each client's
 module _ {X : Type 0} (what : Entry → X) (stays : (u : PosixTree) (entry : Entry) → what (redrawn u entry) ≡ what entry) (client : ℕ) where
@@ -42,3 +46,35 @@ order u clients history is = record {
 
 pub complete : AllIsAnswered
 complete u clients history is client = count u history client ∙ is client
+
+-- ---- from its own tree
+
+module _ (t u : PosixTree) (entry : Entry) where
+  -- the tree gives the reply
+  abbrev Gives : Reply → Type 0
+  Gives r = (r ≡ (posix t entry.client entry.op).1) ⊎ IsExcused t entry.client entry.op r
+
+  -- which is as it was
+  same_reply : (r : Reply) → Gives r → redrawn_reply t entry.client entry.op (redrawn_reply u entry.client entry.op r) ≡ r
+  same_reply = by_reply (λ r. Gives r → redrawn_reply t entry.client entry.op (redrawn_reply u entry.client entry.op r) ≡ r) (λ x so. refl) plain_same
+    where
+      plain_same : (r : Reply) → IsPlain r → Gives r → redrawn_reply t entry.client entry.op (redrawn_reply u entry.client entry.op r) ≡ r
+      plain_same r plain (inl e) =
+          ap (redrawn_reply t entry.client entry.op) (plain_redrawn u entry.client entry.op r plain)
+          ∙ plain_redrawn t entry.client entry.op (posix u entry.client entry.op).1 (posix_plain u entry.client entry.op)
+          ∙ sym e
+      plain_same r plain (inr so) = absurd (unexcused t entry.client entry.op r plain so)
+
+  same_entry : IsReplyTo t entry → redrawn t (redrawn u entry) ≡ entry
+  same_entry so = λ i. record entry { reply = same_reply entry.reply so i }
+
+pub back : RetellsBack
+back ticket t u [] so = refl
+back ticket t u (entry ∷ history) so =
+    let first : redrawn t (redrawn u entry) ≡ entry = same_entry t u entry so.0.replied in
+    let rest = back (ticket + 1) (goes_on t entry) (goes_on u (redrawn u entry)) history so.1 in
+    (λ i. first i ∷ redrawn_all (goes_on t (first i)) (redrawn_all (goes_on u (redrawn u entry)) history)) ∙ ap (λ h. entry ∷ h) rest
+
+pub in_turn : RetellsInTurn
+in_turn u [] later = refl
+in_turn u (entry ∷ before) later = ap (λ h. redrawn u entry ∷ h) (in_turn (goes_on u (redrawn u entry)) before later)

@@ -1,5 +1,5 @@
 -- In trees that are alike a request is refused alike, answered alike and changes them alike.
-use Rattle.std.proofs.Common.{◌≡◌, ℕ, ◌+◌, List, [], cond, eqb, length, replicate, Option, Some, None, ap, refl, unwrap_or, not, ◌∙◌}
+use Rattle.std.proofs.Common.{◌≡◌, ℕ, ◌+◌, List, [], cond, eqb, length, Option, Some, None, ap, refl, unwrap_or, not, ◌∙◌}
 use Rattle.std.specs.FinMap as fin
 use Rattle.ufs_base.specs.Choices.{first_of, refused_if}
 use Rattle.ufs_model.specs.Paths.{whole_of}
@@ -19,15 +19,12 @@ use Rattle.ufs_model.specs.declared.data.Errno.{Errno}
 use Rattle.ufs_model.specs.declared.data.Errno.TheVariants.{Efbig, Einval}
 use Rattle.ufs_model.specs.declared.data.Node.{Node}
 use Rattle.ufs_model.specs.declared.data.Node.TheVariants.{Dir, File}
-use Rattle.ufs_model.specs.declared.data.Reply.TheVariants.{At, Got, IsFile}
+use Rattle.ufs_model.specs.declared.data.Reply.TheVariants.{At, IsFile}
 use Rattle.ufs_alike.specs.Alike.{AreAlike, AreRepliesAlike, HaveSameSizes}
 use Rattle.ufs_alike.specs.Laws.{RefusalsAreSame, AreStepsAlike, StepsAreAlike, AsksAreAlike}
 use Rattle.ufs_alike.proofs.SizeLemmas.{content_size, sizes_put, part_size, resized_size, put_size, place_same}
+use Rattle.ufs_alike.proofs.ReplyLemmas.{got}
 use Rattle.ufs_alike.proofs.TreeLemmas.{with_files, with_sizes, by_files, put_fd, put_bytes, choose, forget_both}
-
--- replies of as many bytes
-pub got : (v w : List ℕ) → length v ≡ length w → AreRepliesAlike (Got v) (Got w)
-got v w e = ap (λ n. Got (replicate n 0)) e
 
 module _ (t : PosixTree) (bytes : Files) (same : HaveSameSizes t.bytes bytes) where
   abbrev u : PosixTree
@@ -132,7 +129,7 @@ module _ (t : PosixTree) (bytes : Files) (same : HaveSameSizes t.bytes bytes) wh
   path_renamed : (from to : List ℕ) → AreAlike (rename_path t from to) (rename_path u from to)
   path_renamed from to = choose (bytes_eq from to) t _ u _ alike (forget_both (record t { paths = renamed t.paths from to }) bytes same (file_of (fin.get t.paths to)))
 
-  changed : (client : ℕ) (request : Op) → AreAlike (change t client request) (change u client request)
+  pub changed : (client : ℕ) (request : Op) → AreAlike (change t client request) (change u client request)
   changed client (op.OpenFile path read write creat excl trunc append) =
       node_opened client (whole_of path) (mode_of_open read write creat excl trunc append) (node_at t.paths path)
   changed client (op.Close fd) = forget_both (record t { fds = fin.remove t.fds (client, fd) }) bytes same (opened t client fd).file

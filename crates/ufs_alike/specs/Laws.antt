@@ -1,11 +1,12 @@
 -- Of the bytes of files what the file calls do depends on their number alone.
-use Rattle.std.specs.Prelude.{ℕ, ◌≡◌, List, length, map, Some}
+use Rattle.std.specs.Prelude.{ℕ, ◌≡◌, ◌⊎◌, List, ◌++◌, length, map, Some}
 use Rattle.std.specs.FinMap as fin
 use Rattle.ufs_model.specs.PosixTree.{PosixTree, IsTree}
 use Rattle.ufs_model.specs.Refusals.{refusal}
 use Rattle.ufs_model.specs.Posix.{posix}
 use Rattle.ufs_model.specs.Excuses.{ExcuseFits}
 use Rattle.ufs_model.specs.History.{IsReplyTo, goes_on, tree_after, IsLegalFrom, IsLegal, IsInOrder, IsComplete}
+use Rattle.ufs_model.specs.Touched.{touched_parts}
 use Rattle.ufs_model.specs.Asks.{IsAsk}
 use Rattle.ufs_model.specs.FileCalls.{Step, file_step, file_refusal}
 use Rattle.ufs_model.specs.declared.data.Op.{Op}
@@ -13,6 +14,8 @@ use Rattle.ufs_model.specs.declared.data.Ask.{Ask}
 use Rattle.ufs_model.specs.declared.data.Desc.{Desc}
 use Rattle.ufs_model.specs.declared.data.Entry.{Entry}
 use Rattle.ufs_model.specs.declared.data.Excuse.{Excuse}
+use Rattle.ufs_model.specs.declared.data.Reply.{Reply}
+use Rattle.ufs_model.specs.declared.data.Reply.TheVariants.{Got}
 use Rattle.ufs_alike.specs.Alike.{AreAlike, AreRepliesAlike, size_in}
 use Rattle.ufs_alike.specs.Redrawn.{redrawn, redrawn_all, blanked}
 
@@ -48,12 +51,28 @@ pub record AreStepsAlike (t u : PosixTree) (client : ℕ) (request : Op) : Type 
 abbrev pub StepsAreAlike : Type 0
 StepsAreAlike = (t u : PosixTree) (client : ℕ) (request : Op) → AreAlike t u → AreStepsAlike t u client request
 
+-- both replies give bytes, as many
+pub record GiveAsMany (a b : Reply) : Type 0 where
+  pub left : List ℕ
+  pub right : List ℕ
+  pub is_left : a ≡ Got left
+  pub is_right : b ≡ Got right
+  pub count : length left ≡ length right
+
+-- replies that are alike are the same, or give as many bytes
+abbrev pub RepliesDifferInBytes : Type 0
+RepliesDifferInBytes = (a b : Reply) → AreRepliesAlike a b → (a ≡ b) ⊎ GiveAsMany a b
+
 abbrev pub ExcusesAreAlike : Type 0
 ExcusesAreAlike = (t u : PosixTree) (client : ℕ) (request : Op) (x : Excuse) → AreAlike t u → ExcuseFits t client request x → ExcuseFits u client request x
 
 -- what comes to a server with a request
 abbrev pub AsksAreAlike : Type 0
 AsksAreAlike = (t u : PosixTree) (ask : Ask) → AreAlike t u → IsAsk t ask → IsAsk u ask
+
+-- the parts of a tree that it touches
+abbrev pub TouchedPartsAreSame : Type 0
+TouchedPartsAreSame = (t u : PosixTree) (client : ℕ) (request : Op) → AreAlike t u → touched_parts t client request ≡ touched_parts u client request
 
 -- ---- one request on a file's descriptor, by the file's bytes alone
 
@@ -95,8 +114,17 @@ HistoriesEndAlike = (t u : PosixTree) (history : List Entry) → AreAlike t u �
 abbrev pub WholeHistoriesAreLegal : Type 0
 WholeHistoriesAreLegal = (t u : PosixTree) (history : List Entry) → AreAlike t u → IsLegal t history → IsLegal u (redrawn_all u history)
 
--- ---- what is told again answers the same requests
+-- ---- what is told again
 
+-- told again from its own tree a history is as it was
+abbrev pub RetellsBack : Type 0
+RetellsBack = (ticket : ℕ) (t u : PosixTree) (history : List Entry) → IsLegalFrom ticket t history → redrawn_all t (redrawn_all u history) ≡ history
+
+-- entries behind others are told from the tree after those
+abbrev pub RetellsInTurn : Type 0
+RetellsInTurn = (u : PosixTree) (before later : List Entry) → redrawn_all u (before ++ later) ≡ redrawn_all u before ++ redrawn_all (tree_after u (redrawn_all u before)) later
+
+-- it answers the same requests in their order
 abbrev pub OrderIsKept : Type 0
 OrderIsKept = (u : PosixTree) (clients : List (List Op)) (history : List Entry) → IsInOrder clients history → IsInOrder clients (redrawn_all u history)
 

@@ -1,7 +1,7 @@
 //! Of the bytes of files what the file calls answer and change depends on their number alone.
 #![tactic(auto)]
 
-ghost use Rattle.ufs_alike.specs.Laws.{EachIsLikeItself, AlikeEitherWay, AlikeThrough, OtherBytesAreAlike, AlikeTrees, RefusalsAreSame, StepsAreAlike, ExcusesAreAlike, AsksAreAlike, FileStepsAreAlike, FileRefusalsAreSame, EntriesAreReplies, EntriesAreAlike, GoesOnAlike, HistoriesAreLegal, HistoriesAreAlike, HistoriesEndAlike, WholeHistoriesAreLegal, OrderIsKept, AllIsAnswered};
+ghost use Rattle.ufs_alike.specs.Laws.{EachIsLikeItself, AlikeEitherWay, AlikeThrough, OtherBytesAreAlike, AlikeTrees, RefusalsAreSame, StepsAreAlike, RepliesDifferInBytes, ExcusesAreAlike, AsksAreAlike, TouchedPartsAreSame, FileStepsAreAlike, FileRefusalsAreSame, EntriesAreReplies, EntriesAreAlike, GoesOnAlike, HistoriesAreLegal, HistoriesAreAlike, HistoriesEndAlike, WholeHistoriesAreLegal, RetellsBack, RetellsInTurn, OrderIsKept, AllIsAnswered};
 
 /// Trees are alike by an equivalence. A tree is like one with other bytes in a file, as many, and what is like a tree
 /// is one.
@@ -17,8 +17,10 @@ pub fn trees_are_alike_by_sizes()
 pub fn a_request_looks_at_no_bytes()
     ensures refusals { RefusalsAreSame }
     ensures steps { StepsAreAlike }
+    ensures replies { RepliesDifferInBytes }
     ensures excuses { ExcusesAreAlike }
     ensures asks { AsksAreAlike }
+    ensures touched { TouchedPartsAreSame }
 {}
 
 /// So it is with a request on a file's descriptor, by that file's bytes alone.
@@ -38,8 +40,10 @@ pub fn a_history_is_told_again()
     ensures legal { WholeHistoriesAreLegal }
 {}
 
-/// What is told again has the same requests in the same order.
-pub fn a_retelling_answers_the_same_requests()
+/// What is told again has the same requests in the same order, and is the history again from its own tree.
+pub fn a_retelling_loses_nothing()
+    ensures back { RetellsBack }
+    ensures in_turn { RetellsInTurn }
     ensures order { OrderIsKept }
     ensures complete { AllIsAnswered }
 {}

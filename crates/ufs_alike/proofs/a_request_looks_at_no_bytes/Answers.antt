@@ -1,5 +1,7 @@
 use Rattle.ufs_alike.proofs.StepLemmas.{refusals, steps, asks}
 use Rattle.ufs_alike.proofs.ExcuseLemmas.{excuses}
+use Rattle.ufs_alike.proofs.ReplyLemmas.{replies}
+use Rattle.ufs_alike.proofs.PartLemmas.{touched}
 use Rattle.ufs_alike.proofs.a_request_looks_at_no_bytes.Goals as goal
 
 pub returns-clause-refusals : goal.returns-clause-refusals
@@ -13,3 +15,9 @@ returns-clause-asks c = asks
 
 pub returns-clause-excuses : goal.returns-clause-excuses
 returns-clause-excuses c = excuses
+
+pub returns-clause-replies : goal.returns-clause-replies
+returns-clause-replies c = replies
+
+pub returns-clause-touched : goal.returns-clause-touched
+returns-clause-touched c = touched
