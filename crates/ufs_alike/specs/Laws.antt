@@ -1,4 +1,4 @@
--- Of the bytes of files what the file calls do depends on their number alone.
+-- The file calls look at no byte of a file: all but the bytes that they pass on depends on sizes alone.
 use Rattle.std.specs.Prelude.{ℕ, ◌≡◌, ◌⊎◌, List, ◌++◌, length, map, Some}
 use Rattle.std.specs.FinMap as fin
 use Rattle.ufs_model.specs.PosixTree.{PosixTree, IsTree}

@@ -1,4 +1,4 @@
-//! Of the bytes of files what the file calls answer and change depends on their number alone.
+//! The file calls look at no byte of a file: all but the bytes that they pass on depends on sizes alone.
 #![tactic(auto)]
 
 ghost use Rattle.ufs_alike.specs.Laws.{EachIsLikeItself, AlikeEitherWay, AlikeThrough, OtherBytesAreAlike, AlikeTrees, RefusalsAreSame, StepsAreAlike, RepliesDifferInBytes, ExcusesAreAlike, AsksAreAlike, TouchedPartsAreSame, FileStepsAreAlike, FileRefusalsAreSame, EntriesAreReplies, EntriesAreAlike, GoesOnAlike, HistoriesAreLegal, HistoriesAreAlike, HistoriesEndAlike, WholeHistoriesAreLegal, RetellsBack, RetellsInTurn, OrderIsKept, AllIsAnswered};
