@@ -1,5 +1,5 @@
 -- What the cells of a file's blocks have behind the writes of its dirty ones.
-use Rattle.std.proofs.Common.{◌≡◌, ℕ, zero, suc, ◌+◌, ◌-◌, ◌<◌, ◌≤◌, ◌⊎◌, inl, inr, List, [], ◌∷◌, ◌++◌, Bool, true, false, Some, Option, length, replicate, get_or, unwrap_or, ap, sym, refl, ◌∙◌, arith, length-append}
+use Rattle.std.proofs.Common.{◌≡◌, ℕ, zero, suc, ◌+◌, ◌-◌, ◌<◌, ◌≤◌, ◌⊎◌, inl, inr, List, [], ◌∷◌, ◌++◌, Bool, true, false, Some, Option, length, replicate, get_or, unwrap_or, ap, sym, refl, ◌∙◌, subst, arith, length-append}
 use Rattle.std.specs.Prelude.{◌==◌, ◌*◌, drop, flat_map, nat_eq, if◌then◌else◌}
 use Rattle.std.specs.List.{AllByRecursion, IsDistinct, range_with_len, slice_get}
 use Rattle.std.proofs.lemmas.Bool.{cases_lt}
@@ -111,11 +111,17 @@ module _ (f : FileState) (once : IsDistinct nat_eq (blocks_of f.extents)) (marks
     middle : (with_writes (writes_of f) l).blocks k ≡ (with_writes (write_at f p) (with_writes (writes_before f p) l)).blocks k
     middle = ap (λ (m : Ledger). m.blocks k) parts ∙ untouched (writes_behind f p (length f.content.dirty)) (with_writes (write_at f p) (with_writes (writes_before f p) l)) k behind
 
-    -- a block that isn't dirty is as before
+    -- no block that isn't dirty is written: it is as before
+    pub clean_elsewhere : slice_get f.content.dirty p ≡ Some false → AllByRecursion (IsElsewhere k) (writes_of f)
+    clean_elsewhere is =
+        subst (AllByRecursion (IsElsewhere k)) (sym (writes_split f p (length f.content.dirty) (let low = inside in omega (arith, low, marks))))
+        (all_append (IsElsewhere k) (writes_before f p) (write_at f p ++ writes_behind f p (length f.content.dirty)) before (all_append (IsElsewhere k) (write_at f p) (writes_behind f p (length f.content.dirty)) none behind))
+      where
+        none : AllByRecursion (IsElsewhere k) (write_at f p)
+        none = subst (λ (o : Option Bool). AllByRecursion (IsElsewhere k) (if unwrap_or o false then write_of f p ∷ [] else [])) (sym is) tt
+
     pub clean_cell : slice_get f.content.dirty p ≡ Some false → (with_writes (writes_of f) l).blocks k ≡ l.blocks k
-    clean_cell is =
-        middle ∙ ap (λ (o : Option Bool). (with_writes (if unwrap_or o false then write_of f p ∷ [] else []) (with_writes (writes_before f p) l)).blocks k) is
-        ∙ untouched (writes_before f p) l k before
+    clean_cell is = untouched (writes_of f) l k (clean_elsewhere is)
 
     -- a dirty one reads as what was written
     pub dirty_cell : slice_get f.content.dirty p ≡ Some true → ((with_writes (writes_of f) l).blocks k).seen ≡ block_bytes f.content.bytes p

@@ -4,6 +4,7 @@ pub mod Turns
 pub mod Stages
 pub mod Cells
 pub mod Standing
+pub mod Fewer
 pub mod Fitting
 pub mod Committing
 pub mod Others

@@ -25,7 +25,7 @@ use Rattle.ufs_layout.specs.declared.superblock.Super.{Super}
 use Rattle.ufs_layout.specs.declared.records.Committed.{Committed}
 use Rattle.ufs_layout.specs.declared.records.LogRecord.{LogRecord}
 use Rattle.ufs_layout.specs.declared.records.LogRecord.TheVariants.{Delta}
-use Rattle.ufs_ledger.specs.Changes.{committed_one, emptied, home_of, settled, settled_cell}
+use Rattle.ufs_ledger.specs.Changes.{committed_one, emptied, home_of, settled}
 use Rattle.ufs_ledger.specs.Ledger.{IsDataBlock, Ledger, Stand, is_held, is_set_in}
 use Rattle.ufs_ledger.proofs.Held.{held_after}
 use Rattle.ufs_store.specs.Ledgers.{HasLedger, checkpointed}
@@ -38,6 +38,7 @@ use Rattle.ufs_durable.specs.Writes.{BlockWrite, at_moments, with_writes, write_
 use Rattle.ufs_durable.proofs.Behind.{same_superblock, same_now}
 use Rattle.ufs_durable.proofs.Cells.{IsElsewhere, got_back, untouched}
 use Rattle.ufs_durable.proofs.Committing.{front_all}
+use Rattle.ufs_durable.proofs.Fewer.{home_no_more}
 use Rattle.ufs_durable.proofs.Fitting.{delta_is}
 use Rattle.ufs_durable.proofs.Standing.{blocks_are, settled_has, stands_committed}
 
@@ -64,19 +65,15 @@ stands_still l m h superblock form dirs unheld less stands = record {
 pub behind_barrier : StandsBehindBarrier
 behind_barrier l h stands = stands_still l (settled l) h refl refl refl (λ block free. free) (λ place block bytes at free only. settled_has (l.blocks block) bytes only) stands
 
-home_has : (l : Ledger) (home : ℕ → List ℕ) (block : ℕ) (bytes : List ℕ) → is_held l.now.log block ≡ false → HaveOnly (possible (l.blocks block)) bytes
-    → HaveOnly (possible (if is_held l.now.log block then record { older = []; seen = home block } else settled_cell (l.blocks block))) bytes
-home_has l home block bytes free only = subst (λ b. HaveOnly (possible (if b then record { older = []; seen = home block } else settled_cell (l.blocks block))) bytes) (sym free) (settled_has (l.blocks block) bytes only)
-
 pub behind_home : (l : Ledger) (h : DurableState) (superblock : Super) (home : ℕ → List ℕ) → geometry_of superblock ≡ geometry_of l.superblock → StandsFor l h → StandsFor (emptied superblock home l) h
-behind_home l h superblock home same stands = stands_still l (emptied superblock home l) h same refl refl (λ block free. refl) (λ place block bytes at free only. home_has l home block bytes free only) stands
+behind_home l h superblock home same stands = stands_still l (emptied superblock home l) h same refl refl (λ block free. refl) (λ place block bytes at free only. home_no_more l home block free bytes only) stands
 
 pub behind_checkpoint : StandsBehindCheckpoint
 behind_checkpoint s l h has stands = behind_home l h (next_superblock s) (block_at (home_of l (reads s.moments))) (ap geometry_of (sym has.superblock_is)) stands
 
 -- ---- another file's writes
 
-module _ (l : Ledger) (f h : DurableState) (noted : IsNoted f) (other : IsOther f h) where
+module _ (f h : DurableState) (noted : IsNoted f) (apart : (p q block : ℕ) → slice_get (blocks_of f.file.extents) p ≡ Some block → slice_get (blocks_of h.file.extents) q ≡ Some block → ⊥) where
   off_write : (q k p : ℕ) → slice_get (blocks_of h.file.extents) q ≡ Some k → p < length f.file.content.dirty → AllByRecursion (IsElsewhere k) (write_at f.file p)
   off_write q k p at under = by (unwrap_or (slice_get f.file.content.dirty p) false)
     where
@@ -90,7 +87,7 @@ module _ (l : Ledger) (f h : DurableState) (noted : IsNoted f) (other : IsOther 
       off false e = e
       off true e =
           let same : k ≡ (write_of f.file p).block = grind (arith, nat_tests, e) in
-          absurd (other.blocks p q k (here ∙ ap Some (sym same)) at)
+          absurd (apart p q k (here ∙ ap Some (sym same)) at)
 
       by : (b : Bool) → AllByRecursion (IsElsewhere k) (if b then write_of f.file p ∷ [] else [])
       by true = (off (k == (write_of f.file p).block) refl, tt)
@@ -102,17 +99,20 @@ module _ (l : Ledger) (f h : DurableState) (noted : IsNoted f) (other : IsOther 
       all_append (IsElsewhere k) (write_at f.file from) (flat_map (write_at f.file) (range_with_len (from + 1) n))
       (off_write q k from at (omega (arith, inside))) (off_writes q k (from + 1) n at (omega (arith, inside)))
 
-  pub behind_writes : (before behind : List BlockWrite) → writes_of f.file ≡ before ++ behind → StandsFor l h → StandsFor (with_writes before l) h
-  behind_writes before behind whole stands =
+  pub off_all : (q k : ℕ) → slice_get (blocks_of h.file.extents) q ≡ Some k → AllByRecursion (IsElsewhere k) (writes_of f.file)
+  off_all q k at = off_writes q k 0 (length f.file.content.dirty) at (omega arith)
+
+  pub behind_writes : (l : Ledger) (before behind : List BlockWrite) → writes_of f.file ≡ before ++ behind → StandsFor l h → StandsFor (with_writes before l) h
+  behind_writes l before behind whole stands =
       let now = same_now before l in
       stands_still l (with_writes before l) h (ap geometry_of (same_superblock before l)) (ap (λ (s : Stand). s.catalog.forms h.file.inode) now) (ap (λ (s : Stand). s.dirs) now)
       (λ block free. ap (λ (s : Stand). is_held s.log block) now ∙ free)
       (λ place block bytes at free only. subst (λ (c : Cell). HaveOnly (possible c) bytes)
-      (sym (untouched before l block (front_all (IsElsewhere block) before behind (subst (AllByRecursion (IsElsewhere block)) whole (off_writes place block 0 (length f.file.content.dirty) at (omega arith)))))) only)
+      (sym (untouched before l block (front_all (IsElsewhere block) before behind (subst (AllByRecursion (IsElsewhere block)) whole (off_all place block at))))) only)
       stands
 
 pub stands_behind_writes : StandsBehindWrites
-stands_behind_writes l f h before behind noted other whole stands = behind_writes l f h noted other before behind whole stands
+stands_behind_writes l f h before behind noted other whole stands = behind_writes f h noted other.blocks l before behind whole stands
 
 -- ---- another file's commit
 
@@ -163,7 +163,7 @@ module _ (s : StoreState) (between : Moments) (records : List LogRecord) (l : Le
   room_catalog false = ap (λ (x : Stand). x.catalog) (same_now (writes_of f.file) l)
 
   written_all : (h : DurableState) → IsOther f h → StandsFor l h → StandsFor r h
-  written_all h other stands = behind_writes l f h noted other (writes_of f.file) [] (sym (append-nil (writes_of f.file))) stands
+  written_all h other stands = behind_writes f h noted other.blocks l (writes_of f.file) [] (sym (append-nil (writes_of f.file))) stands
 
   in_room : (b : Bool) (h : DurableState) → IsOther f h → StandsFor l h → StandsFor (room b) h
   in_room true h other stands = written_all h other stands

@@ -9,7 +9,6 @@ use Rattle.ufs_bitmap.specs.Blocks.{BlockSet}
 use Rattle.ufs_bitmap.specs.Taking.{has}
 use Rattle.ufs_bitmap.proofs.SetLemmas.{has-insert}
 use Rattle.ufs_bitmap.proofs.TakingLemmas.{takes_all}
-use Rattle.ufs_disk.specs.Disk.{possible}
 use Rattle.ufs_extent.specs.Runs.{blocks_of}
 use Rattle.ufs_extent.proofs.PlaceLemmas.{blocks_of-first_runs}
 use Rattle.ufs_file.specs.Content.{Content, block_bytes, block_count}
@@ -23,7 +22,7 @@ use Rattle.ufs_model.specs.declared.data.Desc.{Desc}
 use Rattle.ufs_model.specs.declared.data.Op.{Op}
 use Rattle.ufs_model.specs.declared.data.Reply.{Reply}
 use Rattle.ufs_durable.specs.Serving.{IsServedKept, TakesOnly}
-use Rattle.ufs_durable.specs.Standing.{HaveOnly, IsFileBlock, StandsFor, StandsServed}
+use Rattle.ufs_durable.specs.Standing.{IsFileBlock, IsReadable, ReadsAs, ReadsServed, StandsFor, StandsServed}
 use Rattle.ufs_durable.specs.State.{DurableState, IsNoted}
 use Rattle.ufs_durable.proofs.Still.{IsStill, byte_of_block, still_by}
 
@@ -79,19 +78,12 @@ module _ (f g : DurableState) (before after : BlockSet) (d : Desc) (request : Op
           inl (of_front count (blocks_of f.file.extents) place block (sym (ap (λ (l : List ℕ). slice_get l place) (ap blocks_of t.extents ∙ blocks_of-first_runs f.file.extents count)) ∙ at))
       by false e = took (s.blocks.more (ltb-false count (length (blocks_of f.file.extents)) e))
 
-  module _ (l : Ledger) (noted : IsNoted f) (stands : StandsFor l f) (may : (block : ℕ) → set.contains before block ≡ true → IsFileBlock l block) where
+  module _ (noted : IsNoted f) where
     still : (place : ℕ) → slice_get g.file.content.dirty place ≡ Some false → IsStill f.file.content g.file.content place
     still place off =
         subst (λ (c : Content). IsStill f.file.content c place) (sym s.memory)
         (still_by f.file.content d request (file_refusal f.file.content.bytes d request) place
         (ap (λ (c : Content). get_or c.dirty place true) (sym s.memory) ∙ get_or_from_slice_get g.file.content.dirty place false true off))
-
-    file_block : (place block : ℕ) → slice_get (blocks_of g.file.extents) place ≡ Some block → IsFileBlock l block
-    file_block place block at = by (place_from place block at)
-      where
-        by : (slice_get (blocks_of f.file.extents) place ≡ Some block) ⊎ ((length (blocks_of f.file.extents) ≤ place) × (set.contains before block ≡ true)) → IsFileBlock l block
-        by (inl there) = stands.blocks place block there
-        by (inr (le, is)) = may block is
 
     unmarked_within : (place : ℕ) → get_or f.file.content.dirty place true ≡ false → place < length f.file.content.dirty
     unmarked_within place off = by (ltb place (length f.file.content.dirty)) refl
@@ -105,23 +97,38 @@ module _ (f g : DurableState) (before after : BlockSet) (d : Desc) (request : Op
         by true e = ltb-true place (length f.file.content.dirty) e
         by false e = absurd (past f.file.content.dirty place (ltb-false place (length f.file.content.dirty) e) off)
 
-    clean_block : (place block : ℕ) → slice_get (blocks_of g.file.extents) place ≡ Some block → slice_get g.file.content.dirty place ≡ Some false → HaveOnly (possible (l.blocks block)) (block_bytes g.file.content.bytes place)
-    clean_block place block at off i byte less has_byte =
-        was (place_from place block at)
+    -- What isn't dirty wasn't before, and is the same block.
+    was_clean : (place block : ℕ) → slice_get (blocks_of g.file.extents) place ≡ Some block → slice_get g.file.content.dirty place ≡ Some false
+        → (slice_get (blocks_of f.file.extents) place ≡ Some block) × (slice_get f.file.content.dirty place ≡ Some false)
+    was_clean place block at off = (was (place_from place block at), slice_get-get_or f.file.content.dirty place true inside ∙ ap (λ (b : Bool). Some b) (still place off).mark)
       where
-        kept : IsStill f.file.content g.file.content place
-        kept = still place off
-
         inside : place < length f.file.content.dirty
-        inside = unmarked_within place kept.mark
+        inside = unmarked_within place (still place off).mark
 
-        same_bytes : get_or (block_bytes f.file.content.bytes place) i 0 ≡ get_or (block_bytes g.file.content.bytes place) i 0
-        same_bytes = byte_of_block f.file.content.bytes place i less ∙ sym (kept.bytes i less) ∙ sym (byte_of_block g.file.content.bytes place i less)
-
-        was : (slice_get (blocks_of f.file.extents) place ≡ Some block) ⊎ ((length (blocks_of f.file.extents) ≤ place) × (set.contains before block ≡ true)) → byte ≡ get_or (block_bytes g.file.content.bytes place) i 0
-        was (inl there) =
-            stands.clean place block there (slice_get-get_or f.file.content.dirty place true inside ∙ ap (λ (b : Bool). Some b) kept.mark) i byte less has_byte ∙ same_bytes
+        was : (slice_get (blocks_of f.file.extents) place ≡ Some block) ⊎ ((length (blocks_of f.file.extents) ≤ place) × (set.contains before block ≡ true)) → slice_get (blocks_of f.file.extents) place ≡ Some block
+        was (inl there) = there
         was (inr (le, is)) = absurd (let low = inside in let marks = noted.marks in omega (arith, low, marks, le))
+
+    pub reads_still : (l : Ledger) → ReadsAs l f.file → ReadsAs l g.file
+    reads_still l reads place block at off i byte less has_byte =
+        let was = was_clean place block at off in reads place block was.0 was.1 i byte less has_byte ∙ same_bytes
+      where
+        same_bytes : get_or (block_bytes f.file.content.bytes place) i 0 ≡ get_or (block_bytes g.file.content.bytes place) i 0
+        same_bytes = byte_of_block f.file.content.bytes place i less ∙ sym ((still place off).bytes i less) ∙ sym (byte_of_block g.file.content.bytes place i less)
+
+    pub readable_still : (l : Ledger) → IsReadable l f.file → IsReadable l g.file
+    readable_still l readable = record {
+      blocks = λ place block at off. let was = was_clean place block at off in readable.blocks place block was.0 was.1;
+      clean = reads_still l readable.clean;
+    }
+
+  module _ (l : Ledger) (noted : IsNoted f) (stands : StandsFor l f) (may : (block : ℕ) → set.contains before block ≡ true → IsFileBlock l block) where
+    file_block : (place block : ℕ) → slice_get (blocks_of g.file.extents) place ≡ Some block → IsFileBlock l block
+    file_block place block at = by (place_from place block at)
+      where
+        by : (slice_get (blocks_of f.file.extents) place ≡ Some block) ⊎ ((length (blocks_of f.file.extents) ≤ place) × (set.contains before block ≡ true)) → IsFileBlock l block
+        by (inl there) = stands.blocks place block there
+        by (inr (le, is)) = may block is
 
     pub goes_standing : StandsFor l g
     goes_standing =
@@ -133,8 +140,11 @@ module _ (f g : DurableState) (before after : BlockSet) (d : Desc) (request : Op
           size = ap (λ (i : ℕ). (l.now.catalog.forms i).size) inode ∙ stands.size ∙ sym (ap (λ x. x.size) committed);
           extents = ap (λ (i : ℕ). (l.now.catalog.forms i).extents) inode ∙ stands.extents ∙ sym (ap (λ x. extents_of x.runs) committed);
           blocks = file_block;
-          clean = clean_block;
+          clean = reads_still noted l stands.clean;
         }
+
+pub reads_served : ReadsServed
+reads_served l f g before after d request reply desc noted readable s = readable_still f g before after d request reply desc s noted l readable
 
 pub stands_served : StandsServed
 stands_served l f g before after d request reply desc noted stands may s = goes_standing f g before after d request reply desc s l noted stands may

@@ -76,7 +76,7 @@ dirty_may l f noted stands = all_map (IsReady l) (λ (w : BlockWrite). MayWrite 
 
 -- ---- another ledger with the same stand
 
-same_block : (l m : Ledger) (block : ℕ) → geometry_of m.superblock ≡ geometry_of l.superblock → m.now ≡ l.now → IsFileBlock l block → IsFileBlock m block
+pub same_block : (l m : Ledger) (block : ℕ) → geometry_of m.superblock ≡ geometry_of l.superblock → m.now ≡ l.now → IsFileBlock l block → IsFileBlock m block
 same_block l m block superblock now is = record {
   data_block = subst (λ (g : Geometry). IsDataBlock g block) (sym superblock) is.data_block;
   no_dir = subst (λ (s : Stand). IsTrue (s.dirs block) → ⊥) (sym now) is.no_dir;

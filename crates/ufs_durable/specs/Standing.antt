@@ -8,6 +8,7 @@ use Rattle.ufs_disk.specs.Disk.{possible}
 use Rattle.ufs_extent.specs.declared.Run.{Run}
 use Rattle.ufs_extent.specs.Runs.{blocks_of}
 use Rattle.ufs_file.specs.Content.{block_bytes}
+use Rattle.ufs_file.specs.Hand.{FileState}
 use Rattle.ufs_ilog.specs.Deltas.{IsDelta, extents_of}
 use Rattle.ufs_image.specs.Catalog.{IsInode}
 use Rattle.ufs_image.specs.Fold.{after_delta}
@@ -37,6 +38,15 @@ pub record IsFileBlock (l : Ledger) (block : ℕ) : Type 0 where
   pub no_dir : IsTrue (l.now.dirs block) → ⊥
   pub unheld : is_held l.now.log block ≡ false
 
+-- Each block of the file that isn't dirty has the file's bytes, whatever a crash leaves.
+abbrev pub ReadsAs : Ledger → FileState → Type 0
+ReadsAs l f = (place block : ℕ) → slice_get (blocks_of f.extents) place ≡ Some block → slice_get f.content.dirty place ≡ Some false → HaveOnly (possible (l.blocks block)) (block_bytes f.content.bytes place)
+
+-- Such a block may be a file's besides: nothing is folded in it, and a read gives the file's bytes.
+pub record IsReadable (l : Ledger) (f : FileState) : Type 0 where
+  pub blocks : (place block : ℕ) → slice_get (blocks_of f.extents) place ≡ Some block → slice_get f.content.dirty place ≡ Some false → IsFileBlock l block
+  pub clean : ReadsAs l f
+
 -- Its inode has on the disk what was committed last, and each of its blocks that isn't dirty has the file's bytes, whatever a
 -- crash leaves.
 pub record StandsFor (l : Ledger) (f : DurableState) : Type 0 where
@@ -45,8 +55,7 @@ pub record StandsFor (l : Ledger) (f : DurableState) : Type 0 where
   pub size : (l.now.catalog.forms f.file.inode).size ≡ f.log.committed.size
   pub extents : (l.now.catalog.forms f.file.inode).extents ≡ extents_of f.log.committed.runs
   pub blocks : (place block : ℕ) → slice_get (blocks_of f.file.extents) place ≡ Some block → IsFileBlock l block
-  pub clean : (place block : ℕ) → slice_get (blocks_of f.file.extents) place ≡ Some block → slice_get f.file.content.dirty place ≡ Some false
-      → HaveOnly (possible (l.blocks block)) (block_bytes f.file.content.bytes place)
+  pub clean : ReadsAs l f.file
 
 -- ---- laws
 
@@ -80,6 +89,12 @@ StandsSettled = (l : Ledger) (f : DurableState) → IsNoted f → StandsFor l f 
 abbrev pub StandsServed : Type 0
 StandsServed = (l : Ledger) (f g : DurableState) (before after : BlockSet) (d : Desc) (request : Op) (reply : Reply) (desc : Option Desc) → IsNoted f → StandsFor l f
     → ((block : ℕ) → set.contains before block ≡ true → IsFileBlock l block) → IsServedKept f g before after d request reply desc → StandsFor l g
+
+-- What isn't dirty behind a request wasn't before, and has the bytes that it had: so the file is readable still, also on a ledger
+-- of which no more is known.
+abbrev pub ReadsServed : Type 0
+ReadsServed = (l : Ledger) (f g : DurableState) (before after : BlockSet) (d : Desc) (request : Op) (reply : Reply) (desc : Option Desc) → IsNoted f → IsReadable l f.file
+    → IsServedKept f g before after d request reply desc → IsReadable l g.file
 
 -- Where nothing is left to write or to commit, whatever a crash leaves of the file is what it has.
 abbrev pub ShowsTheFile : Type 0

@@ -1,7 +1,7 @@
 // Laws of the definitions, each the contract of a function that does nothing.
 ghost use Rattle.ufs_durable.specs.Committing.{BarriersShowAll, CommitsShowAll, CountsGoOn, DoneIsKept, FilesMayCommitNext, FitsInode, GoesByEntries, HasTreeBytes, OwnsCommitted, OwnsServed, StagesAreKept, WritesAreKept};
 ghost use Rattle.ufs_durable.specs.Others.{OwnsBehindCommit, StandsBehindBarrier, StandsBehindCheckpoint, StandsBehindCommit, StandsBehindWrites, StandsOnceCommitted};
-ghost use Rattle.ufs_durable.specs.Standing.{DirtyMayBeWritten, ShowsAsCommitted, ShowsTheFile, StandsCommitted, StandsServed, StandsSettled, StandsWhileWritten};
+ghost use Rattle.ufs_durable.specs.Standing.{DirtyMayBeWritten, ReadsServed, ShowsAsCommitted, ShowsTheFile, StandsCommitted, StandsServed, StandsSettled, StandsWhileWritten};
 
 use ufs_file::FileHand;
 use ufs_model::a_request_keeps_the_tree;
@@ -11,6 +11,7 @@ use ufs_prefix::a_history_goes_by_its_changes;
 /// crash leaves what it has then.
 pub fn standing_law()
     ensures served { StandsServed }
+    ensures reads { ReadsServed }
     ensures may { DirtyMayBeWritten }
     ensures written { StandsWhileWritten }
     ensures asked { ShowsAsCommitted }

@@ -1,5 +1,5 @@
 use Rattle.ufs_durable.proofs.Standing.{dirty_may, shows_as_committed, shows_the_file, stands_committed, stands_settled, stands_written}
-use Rattle.ufs_durable.proofs.Served.{stands_served}
+use Rattle.ufs_durable.proofs.Served.{reads_served, stands_served}
 use Rattle.ufs_durable.proofs.laws.standing_law.Goals as goal
 
 pub returns-clause-may : goal.returns-clause-may
@@ -22,3 +22,6 @@ returns-clause-asked c = shows_as_committed
 
 pub returns-clause-served : goal.returns-clause-served
 returns-clause-served c = stands_served
+
+pub returns-clause-reads : goal.returns-clause-reads
+returns-clause-reads c = reads_served
