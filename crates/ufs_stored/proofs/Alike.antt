@@ -1,5 +1,5 @@
 -- Another ledger of the same catalog.
-use Rattle.std.proofs.Common.{◌≡◌, ℕ, ◌⊎◌, inl, inr, Bool, true, false, List, Some, ap, sym, refl, ◌∙◌, subst}
+use Rattle.std.proofs.Common.{◌≡◌, ℕ, ◌⊎◌, inl, inr, Bool, false, List, Some, ap, sym, refl, ◌∙◌, subst}
 use Rattle.std.specs.Prelude.{IsTrue}
 use Rattle.std.specs.List.{slice_get}
 use Rattle.std.specs.FinMap as map
@@ -22,9 +22,9 @@ use Rattle.ufs_name_log.specs.Held.{HasSoundNames, HasState, MaySteps}
 use Rattle.ufs_durable.specs.Standing.{HaveOnly, IsFileBlock, StandsFor}
 use Rattle.ufs_durable.specs.State.{DurableState}
 use Rattle.ufs_durable.proofs.Others.{stands_still}
-use Rattle.ufs_stored.specs.Parts.{OneFile, Parts, TheNames, durable_in}
+use Rattle.ufs_stored.specs.Parts.{Parts, durable_in}
 use Rattle.ufs_stored.specs.Stored.{AreNamesNoted, AreNamesStored, IsFileStored, IsFileWhole, IsSpelled, IsStored, empty_form, with_born, with_fresh, with_none}
-use Rattle.ufs_stored.proofs.Places.{held_at}
+use Rattle.ufs_stored.proofs.Reading.{no_fresh}
 
 -- The ledger has the same catalog, with its dentries in the same blocks, and a crash leaves no more in those of files.
 pub record IsAlike (l m : Ledger) (fresh : List ℕ) : Type 0 where
@@ -110,14 +110,6 @@ module _ (l m : Ledger) (u : BlockSet) (start : PosixTree) (history : List Entry
   }
 
 module _ (l m : Ledger) (u : BlockSet) (start : PosixTree) (history : List Entry) (k : Counts) (p : Parts) (st : IsStored l u start history k p) (alike : IsAlike l m p.fresh) where
-  -- a file's block isn't fresh
-  no_fresh : (file : ℕ) (s : FileState) → map.get p.files file ≡ Some s → (place block : ℕ) → slice_get (blocks_of s.extents) place ≡ Some block → has p.fresh block ≡ false
-  no_fresh file s here place block at = by (has p.fresh block) refl
-    where
-      by : (b : Bool) → has p.fresh block ≡ b → has p.fresh block ≡ false
-      by false e = e
-      by true e = (let clash = st.spaced.apart (OneFile file) TheNames block (record { hand = s; here = here; held = held_at (durable_in p.commits s) place block at }) (inl e) in absurd cc)
-
   stands : (a b : Ledger) (h : DurableState) → ((place block : ℕ) → slice_get (blocks_of h.file.extents) place ≡ Some block → has p.fresh block ≡ false)
       → a.superblock ≡ l.superblock → b.superblock ≡ m.superblock → a.blocks ≡ l.blocks → b.blocks ≡ m.blocks → a.now.dirs ≡ l.now.dirs → b.now.dirs ≡ m.now.dirs → a.now.log ≡ l.now.log → b.now.log ≡ m.now.log
       → b.now.catalog.forms h.file.inode ≡ a.now.catalog.forms h.file.inode → StandsFor a h → StandsFor b h
@@ -128,10 +120,10 @@ module _ (l m : Ledger) (u : BlockSet) (start : PosixTree) (history : List Entry
       stood
 
   stored : (file : ℕ) (s : FileState) → map.get p.files file ≡ Some s → IsFileStored l k.numbers (durable_in p.commits s) → IsFileStored m k.numbers (durable_in p.commits s)
-  stored file s here (inl both) = inl (both.0, stands l m (durable_in p.commits s) (no_fresh file s here) refl refl refl refl refl refl refl refl (ap (λ (c : Catalog). c.forms s.inode) alike.catalog) both.1)
+  stored file s here (inl both) = inl (both.0, stands l m (durable_in p.commits s) (no_fresh l u start history k p st file s here) refl refl refl refl refl refl refl refl (ap (λ (c : Catalog). c.forms s.inode) alike.catalog) both.1)
   stored file s here (inr both) = inr (
     both.0,
-    stands (with_born s.inode l) (with_born s.inode m) (durable_in p.commits s) (no_fresh file s here) refl refl refl refl refl refl refl refl
+    stands (with_born s.inode l) (with_born s.inode m) (durable_in p.commits s) (no_fresh l u start history k p st file s here) refl refl refl refl refl refl refl refl
         (ap (λ (c : Catalog). (with_form s.inode empty_form c).forms s.inode) alike.catalog) both.1,
   )
 

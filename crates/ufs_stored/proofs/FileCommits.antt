@@ -238,7 +238,7 @@ module _ (s : StoreState) (between : Moments) (records : List LogRecord) (l : Le
   other file h here apart = other_file_is l u start history k p f at st file h here apart
 
   born_written : (h : DurableState) → IsOther x h → StandsFor (with_born h.file.inode l) h → StandsFor (with_born h.file.inode r) h
-  born_written h apart stood = subst (λ (a : Ledger). StandsFor a h) (writes_born h.file.inode (writes_of f) l) (behind_writes (with_born h.file.inode l) x h whole.noted apart (writes_of f) [] (sym (append-nil (writes_of f))) stood)
+  born_written h apart stood = subst (λ (a : Ledger). StandsFor a h) (writes_born h.file.inode (writes_of f) l) (behind_writes x h whole.noted apart.blocks (with_born h.file.inode l) (writes_of f) [] (sym (append-nil (writes_of f))) stood)
 
   born_room : (h : DurableState) → IsOther x h → StandsFor (with_born h.file.inode l) h → (b : Bool) → StandsFor (with_born h.file.inode (room_at b)) h
   born_room h apart stood true = born_written h apart stood

@@ -141,7 +141,7 @@ module _ (s : StoreState) (l : Ledger) (u : BlockSet) (start : PosixTree) (histo
   names (inr n) = inr (noted n)
 
   stands : (a : Ledger) (h : DurableState) → IsOther x h → StandsFor a h → StandsFor (settled (with_writes (writes_of f) a)) h
-  stands a h apart stood = behind_barrier (with_writes (writes_of f) a) h (behind_writes a x h whole.noted apart (writes_of f) [] (sym (append-nil (writes_of f))) stood)
+  stands a h apart stood = behind_barrier (with_writes (writes_of f) a) h (behind_writes x h whole.noted apart.blocks a (writes_of f) [] (sym (append-nil (writes_of f))) stood)
 
   stored : (file : ℕ) (h : FileState) → map.get p.files file ≡ Some h → file ≢ f.file → IsFileStored l k.numbers (durable_in p.commits h) → IsFileStored m k.numbers (durable_in p.commits h)
   stored file h here apart (inl both) = inl (both.0, stands l (durable_in p.commits h) (other_file_is l u start history k p f at st file h here apart) both.1)

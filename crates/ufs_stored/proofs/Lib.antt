@@ -3,6 +3,7 @@ pub mod Puts
 pub mod Spaced
 pub mod FileEntries
 pub mod Places
+pub mod Reading
 pub mod Alike
 pub mod Zeros
 mod Steps

@@ -45,6 +45,7 @@ module _ (g : Geometry) (keeps : EntriesKeep g) (s : StoreState) (start : PosixT
     legal = legal;
     kept = ledger_kept g keeps st.ledger start history entry st.now st.maybe (st.formed ∙ same) st.tree legal now maybe st.kept;
     parts = after;
+    clean = st.clean;
   }
 
   -- ..and the tree

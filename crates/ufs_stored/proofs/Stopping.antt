@@ -15,19 +15,35 @@ use Rattle.ufs_model.specs.PosixTree.{PosixTree}
 use Rattle.ufs_model.specs.declared.data.Entry.{Entry}
 use Rattle.ufs_store.specs.Ledgers.{HasAny, HasLedger, beginning_next, checkpointed, commit_stages, stages, with_room}
 use Rattle.ufs_store.specs.State.{StoreState, geometry_of_store, has_room, next_commit, next_superblock}
-use Rattle.ufs_stored.specs.OnDisk.{HasStopped}
+use Rattle.ufs_stored.specs.OnDisk.{AreReadable, HasStopped}
 use Rattle.ufs_stored.specs.Parts.{Parts}
 use Rattle.ufs_stored.specs.Stored.{IsStored}
+use Rattle.ufs_stored.proofs.Reading.{begun_readable, home_readable, settled_readable, stored_readable, tried_readable}
 use Rattle.ufs_stored.proofs.Zeros.{no_place}
 
 module _ (g : Geometry) (s : StoreState) (l : Ledger) (start : PosixTree) (history : List Entry) (k : Counts) (p : Parts) (same : geometry_of_store s ≡ g) (formed : geometry_of l.superblock ≡ g) (stop : IsSome s.stop)
     (st : IsStored l s.unassigned.free start history k p) where
   -- with a ledger that the history explains
-  stops_with : (m : Ledger) (now maybe : Counts) → geometry_of m.superblock ≡ g → IsLedgerOf s.sectors s.moments.state m → IsLedgerKept m start history now maybe → HasStopped s start history p
-  stops_with m now maybe form has kept = record { stopped = stop; ledger = m; now = now; maybe = maybe; has = has; formed = form ∙ sym same; tree = st.tree; legal = st.legal; kept = kept; parts = st.parts }
+  stops_with : (m : Ledger) (now maybe : Counts) → geometry_of m.superblock ≡ g → IsLedgerOf s.sectors s.moments.state m → IsLedgerKept m start history now maybe → AreReadable m p → HasStopped s start history p
+  stops_with m now maybe form has kept clean = record {
+    stopped = stop;
+    ledger = m;
+    now = now;
+    maybe = maybe;
+    has = has;
+    formed = form ∙ sym same;
+    tree = st.tree;
+    legal = st.legal;
+    kept = kept;
+    parts = st.parts;
+    clean = clean;
+  }
+
+  readable : AreReadable l p
+  readable = stored_readable l s.unassigned.free start history k p st
 
   pub barrier_stops : IsLedgerOf s.sectors s.moments.state l → HasStopped s start history p
-  barrier_stops has = stops_with l k k formed has st.kept
+  barrier_stops has = stops_with l k k formed has st.kept readable
 
   pub write_stops : WrittenIsKept g → (block : ℕ) (bytes seen : List ℕ) → l.maybe ≡ None → has p.fresh block ≡ true → IsLedgerOf s.sectors s.moments.state (tried block bytes seen l) → HasStopped s start history p
   write_stops keeps block bytes seen none fresh has =
@@ -35,17 +51,24 @@ module _ (g : Geometry) (s : StoreState) (l : Ledger) (start : PosixTree) (histo
       let once = keeps l block bytes start history k k formed none (λ file place at i less under. absurd (free file place (k.numbers.inode file) refl at)) st.kept in
       stops_with (tried block bytes seen l) k k formed has
       (keeps (written block bytes l) block seen start history k k formed none (λ file place at i less under. absurd (free file place (k.numbers.inode file) refl at)) once)
+      (tried_readable l s.unassigned.free start history k p st block bytes seen fresh)
 
   module _ (old : StoreState) (led : HasLedger old l) where
     next_form : geometry_of (next_superblock old) ≡ g
     next_form = ap geometry_of (sym led.superblock_is) ∙ formed
 
+    begun_read : AreReadable (beginning_next old l) p
+    begun_read = begun_readable l (beginning_next old l).maybe (block_at (home_of l (reads old.moments))) p readable
+
+    home_read : AreReadable (checkpointed old l) p
+    home_read = home_readable l (next_superblock old) (block_at (home_of l (reads old.moments))) p (next_form ∙ sym formed) readable
+
     begun : BeginningIsKept g → IsLedgerKept (beginning_next old l) start history k k
     begun keeps = keeps l (next_superblock old) (block_at (home_of l (reads old.moments))) start history k k formed next_form st.kept
 
     pub checkpoint_stops : BeginningIsKept g → HasAny s (l ∷ beginning_next old l ∷ []) → HasStopped s start history p
-    checkpoint_stops keeps (inl is) = stops_with l k k formed is st.kept
-    checkpoint_stops keeps (inr (inl is)) = stops_with (beginning_next old l) k k formed is (begun keeps)
+    checkpoint_stops keeps (inl is) = stops_with l k k formed is st.kept readable
+    checkpoint_stops keeps (inr (inl is)) = stops_with (beginning_next old l) k k formed is (begun keeps) begun_read
     checkpoint_stops keeps (inr (inr none)) = absurd none
 
     pub commit_stops : BeginningIsKept g → EmptiedIsKept g → (records : List LogRecord) (next : Counts) → HasAny s (stages old records l)
@@ -57,11 +80,11 @@ module _ (g : Geometry) (s : StoreState) (l : Ledger) (start : PosixTree) (histo
 
         by : (b : Bool) → HasAny s (if b then commit_stages (next_commit old records) l else l ∷ beginning_next old l ∷ commit_stages (next_commit old records) (checkpointed old l))
             → IsLedgerKept (committing (next_commit old records) (settled (if b then l else checkpointed old l))) start history k next → HasStopped s start history p
-        by true (inl is) kept = stops_with l k k formed is st.kept
-        by true (inr (inl is)) kept = stops_with (committing (next_commit old records) (settled l)) k next formed is kept
+        by true (inl is) kept = stops_with l k k formed is st.kept readable
+        by true (inr (inl is)) kept = stops_with (committing (next_commit old records) (settled l)) k next formed is kept (settled_readable l (committing (next_commit old records) (settled l)).maybe p readable)
         by true (inr (inr none)) kept = absurd none
-        by false (inl is) kept = stops_with l k k formed is st.kept
-        by false (inr (inl is)) kept = stops_with (beginning_next old l) k k formed is (begun begins)
-        by false (inr (inr (inl is))) kept = stops_with (checkpointed old l) k k next_form is done
-        by false (inr (inr (inr (inl is)))) kept = stops_with (committing (next_commit old records) (settled (checkpointed old l))) k next next_form is kept
+        by false (inl is) kept = stops_with l k k formed is st.kept readable
+        by false (inr (inl is)) kept = stops_with (beginning_next old l) k k formed is (begun begins) begun_read
+        by false (inr (inr (inl is))) kept = stops_with (checkpointed old l) k k next_form is done home_read
+        by false (inr (inr (inr (inl is)))) kept = stops_with (committing (next_commit old records) (settled (checkpointed old l))) k next next_form is kept (settled_readable (checkpointed old l) (committing (next_commit old records) (settled (checkpointed old l))).maybe p home_read)
         by false (inr (inr (inr (inr none)))) kept = absurd none

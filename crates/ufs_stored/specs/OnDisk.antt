@@ -1,10 +1,12 @@
 -- When a server's disk keeps its promise, also once its store has stopped.
-use Rattle.std.specs.Prelude.{ℕ, ◌≡◌, ◌≤◌, ◌⊎◌, Bool, List, IsSome, length, true}
+use Rattle.std.specs.Prelude.{ℕ, ◌≡◌, ◌≤◌, ◌⊎◌, Bool, List, IsSome, Some, length, true}
 use Rattle.std.specs.FinMap as map
 use Rattle.ufs_base.specs.Images.{Image}
 use Rattle.ufs_bitmap.specs.Taking.{has}
 use Rattle.ufs_disk.specs.Disk.{Leaves}
 use Rattle.ufs_disk.specs.Moments.{LeavesOnly, Moments}
+use Rattle.ufs_durable.specs.Standing.{IsReadable}
+use Rattle.ufs_file.specs.Hand.{FileState}
 use Rattle.ufs_image.specs.Proper.{IsProperImage}
 use Rattle.ufs_layout.specs.Superblock.{geometry_of}
 use Rattle.ufs_ledger.specs.Kept.{Counts, IsLedgerKept, OpensExplained}
@@ -26,6 +28,10 @@ pub record IsGoing (s : StoreState) (start : PosixTree) (history : List Entry) (
   pub formed : geometry_of ledger.superblock ≡ geometry_of_store s
   pub stored : IsStored ledger s.unassigned.free start history counts p
 
+-- Each block of a file here that isn't dirty has the file's bytes, whatever a crash leaves, and a read gives them.
+abbrev pub AreReadable : Ledger → Parts → Type 0
+AreReadable l p = (file : ℕ) (f : FileState) → map.get p.files file ≡ Some f → IsReadable l f
+
 -- The store has stopped. The history explains whatever a crash leaves of the disk, and the parts are those of the tree after it.
 pub record HasStopped (s : StoreState) (start : PosixTree) (history : List Entry) (p : Parts) : Type 0 where
   pub stopped : IsSome s.stop
@@ -38,6 +44,8 @@ pub record HasStopped (s : StoreState) (start : PosixTree) (history : List Entry
   pub legal : IsLegal start history
   pub kept : IsLedgerKept ledger start history now maybe
   pub parts : ArePartsOf p (tree_after start history)
+  -- reads go on: what isn't dirty is still on the disk
+  pub clean : AreReadable ledger p
 
 abbrev pub IsOnDisk : StoreState → PosixTree → List Entry → Parts → Type 0
 IsOnDisk s start history p = IsGoing s start history p ⊎ HasStopped s start history p

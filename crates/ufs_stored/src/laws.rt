@@ -1,7 +1,7 @@
 // Laws of the definitions, each the contract of a function that does nothing.
 ghost use Rattle.ufs_layout.specs.Areas.{IsGeometry};
 ghost use Rattle.ufs_stored.specs.AlwaysLaws.{CheckpointsAreExplained, CommitsAreExplained, LedgersAreExplained, RestIsExplained, StagesAreExplained};
-ghost use Rattle.ufs_stored.specs.OnDiskLaws.{AllIsSynced, BarriersStop, CheckpointsStop, CommitsStop, FileIsSynced, NamesAreSynced, OnDiskIsExcused, OnDiskIsExplained, OnDiskIsProper, OnDiskIsRefused, OnDiskStaysBeside, OnDiskStaysStill, WritesStop};
+ghost use Rattle.ufs_stored.specs.OnDiskLaws.{AllIsSynced, BarriersStop, CheckpointsStop, CommitsStop, FileIsSynced, NamesAreSynced, OnDiskIsExcused, OnDiskIsExplained, OnDiskIsProper, OnDiskIsRefused, OnDiskReads, OnDiskStaysBeside, OnDiskStaysStill, WritesStop};
 ghost use Rattle.ufs_stored.specs.Laws.{BlocksMove, CallsAreExplained, DirFsyncsKeep, EmptiedIsStored, ExcusesKeep, FileEntriesKeep, FilesAreCommitted, FilesAreSettled, FsyncsKeep, NameEntriesKeep, NamesAreCommitted, NamesAreCommitting, NamesMayCommit, NotesGoOn, QuietEntriesKeep, SettledIsStored, SpelledIsStored, StillEntriesKeep, StoredIsExplained, SyncsKeep, WrittenIsStored};
 
 use ufs_durable::{committing_law, others_law, standing_law};
@@ -124,6 +124,11 @@ pub fn on_disk_law(geometry: &Geometry)
     promise_law(geometry);
     an_entry_keeps_what_is_shown();
 }
+
+/// What is read of a block of a file that isn't dirty is what the file has there, also once the store has stopped.
+pub fn read_law()
+    ensures { OnDiskReads }
+{}
 
 /// Where a store stops its server stays on the disk.
 pub fn stopping_law(geometry: &Geometry)

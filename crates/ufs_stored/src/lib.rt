@@ -5,5 +5,5 @@ mod laws;
 
 pub use laws::{
     always_law, entry_law, file_commit_law, file_entry_law, names_commit_law, notes_law,
-    on_disk_law, pool_law, ready_law, stopping_law, stored_explains, sync_law,
+    on_disk_law, pool_law, read_law, ready_law, stopping_law, stored_explains, sync_law,
 };
