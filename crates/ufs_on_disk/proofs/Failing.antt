@@ -1,37 +1,47 @@
 -- A file's commit fails, and the store stops.
 use Rattle.std.proofs.Common.{◌≡◌, ◌≢◌, ℕ, ◌<◌, ◌≤◌, ◌⊎◌, inl, inr, Bool, true, false, List, [], ◌∷◌, ◌++◌, Some, length, ap, sym, refl, ◌∙◌, subst, append_assoc, arith}
 use Rattle.std.specs.Prelude.{◌==◌, IsSome, if◌then◌else◌}
-use Rattle.std.specs.List.{AllByRecursion}
+use Rattle.std.specs.List.{AllByRecursion, slice_get}
 use Rattle.std.specs.FinMap as map
 use Rattle.std.proofs.lemmas.Bool.{cases_lt}
 use Rattle.std.proofs.lemmas.Bool.Decides.{nat_tests}
 use Rattle.std.proofs.lemmas.List.{append-nil, get_or_past}
 use Rattle.ufs_disk.specs.Disk.{Cell, possible}
-use Rattle.ufs_disk.specs.Moments.{Moments}
+use Rattle.ufs_disk.specs.Moments.{Moments, reads}
+use Rattle.ufs_extent.specs.Runs.{blocks_of}
 use Rattle.ufs_file.specs.Hand.{FileState}
+use Rattle.ufs_files.proofs.MapLemmas.{one_or_apart}
 use Rattle.ufs_ilog.specs.Deltas.{IsDelta}
+use Rattle.ufs_image.specs.Images.{block_at}
 use Rattle.ufs_layout.specs.Superblock.{geometry_of}
 use Rattle.ufs_layout.specs.declared.records.Committed.{Committed}
 use Rattle.ufs_layout.specs.declared.records.LogRecord.{LogRecord}
-use Rattle.ufs_ledger.specs.Changes.{committing, rewritten, settled, tried, written}
+use Rattle.ufs_ledger.specs.Changes.{committing, home_of, rewritten, settled, tried, written}
 use Rattle.ufs_ledger.specs.Kept.{Counts, IsLedgerKept}
 use Rattle.ufs_ledger.specs.Ledger.{HasByte, IsLedgerOf, IsMixOf, Ledger}
 use Rattle.ufs_ledger.proofs.Mixing.{has_byte_last}
 use Rattle.ufs_ledger.proofs.Promise.{fewer_kept}
 use Rattle.ufs_model.specs.PosixTree.{PosixTree}
 use Rattle.ufs_model.specs.declared.data.Entry.{Entry}
+use Rattle.ufs_model.proofs.Facts.Lookups.{same_some}
 use Rattle.ufs_prefix.specs.FileChanges.{byte_at}
 use Rattle.ufs_durable.specs.Committing.{FilesMayCommitNext, FitsInode, HasToCommit, HasTreeBytes, IsFileBy, StagesAreKept, WritesAreKept}
-use Rattle.ufs_durable.specs.Standing.{DirtyMayBeWritten, StandsFor}
+use Rattle.ufs_durable.specs.Standing.{DirtyMayBeWritten, HaveOnly, StandsFor}
 use Rattle.ufs_durable.specs.State.{DurableState}
 use Rattle.ufs_durable.specs.Writes.{BlockWrite, HasTriedOne, MayWriteAll, at_moments, with_writes, writes_of}
-use Rattle.ufs_durable.proofs.Behind.{same_superblock, writes_append}
-use Rattle.ufs_durable.proofs.Standing.{IsReady, writes_ready}
+use Rattle.ufs_durable.proofs.Behind.{same_now, same_superblock, writes_append}
+use Rattle.ufs_durable.proofs.Cells.{IsElsewhere, clean_elsewhere, untouched}
+use Rattle.ufs_durable.proofs.Committing.{front_all}
+use Rattle.ufs_durable.proofs.Fewer.{readable_on, readable_tried}
+use Rattle.ufs_durable.proofs.Others.{off_all}
+use Rattle.ufs_durable.proofs.Standing.{IsReady, same_block, writes_ready}
 use Rattle.ufs_store.specs.Ledgers.{HasAny, beginning_next, checkpointed, commit_stages, stages}
 use Rattle.ufs_store.specs.State.{StoreState, geometry_of_store, has_room, next_commit, next_superblock}
-use Rattle.ufs_stored.specs.OnDisk.{HasNames, HasStopped, IsGoing}
+use Rattle.ufs_stored.specs.OnDisk.{AreReadable, HasNames, HasStopped, IsGoing}
 use Rattle.ufs_stored.specs.Parts.{Parts, durable_in}
 use Rattle.ufs_stored.specs.Stored.{IsFileWhole}
+use Rattle.ufs_stored.proofs.FileCommits.{other_file_is}
+use Rattle.ufs_stored.proofs.Reading.{begun_readable, home_readable, settled_readable, stored_readable}
 use Rattle.ufs_on_disk.specs.Syncs.{FailedSyncsGoOn, HasFailed}
 use Rattle.ufs_on_disk.proofs.Fronts.{delta_of, same_or_not}
 use Rattle.ufs_on_disk.proofs.Live.{file_by_history, file_on_disk, file_to_commit, whole_file}
@@ -125,8 +135,8 @@ module _ (old new : StoreState) (start : PosixTree) (history : List Entry) (p : 
   form : geometry_of l.superblock ≡ geometry_of_store new
   form = go.formed ∙ sym told.geometry
 
-  stops : (m : Ledger) (maybe : Counts) → geometry_of m.superblock ≡ geometry_of l.superblock → IsLedgerOf new.sectors new.moments.state m → IsLedgerKept m start history k maybe → HasStopped new start history p
-  stops m maybe same has kept = record {
+  stops : (m : Ledger) (maybe : Counts) → geometry_of m.superblock ≡ geometry_of l.superblock → IsLedgerOf new.sectors new.moments.state m → IsLedgerKept m start history k maybe → AreReadable m p → HasStopped new start history p
+  stops m maybe same has kept clean = record {
     stopped = told.stopped;
     ledger = m;
     now = k;
@@ -137,7 +147,35 @@ module _ (old new : StoreState) (start : PosixTree) (history : List Entry) (p : 
     legal = go.stored.legal;
     kept = kept;
     parts = go.stored.parts;
+    clean = clean;
   }
+
+  -- no block that isn't dirty is written, of this file or another
+  elsewhere : (file : ℕ) (h : FileState) → map.get p.files file ≡ Some h → (place block : ℕ) → slice_get (blocks_of h.extents) place ≡ Some block → slice_get h.content.dirty place ≡ Some false → AllByRecursion (IsElsewhere block) (writes_of f)
+  elsewhere file h here place block has clean = by (one_or_apart file f.file)
+    where
+      by : (file ≡ f.file) ⊎ (file ≢ f.file) → AllByRecursion (IsElsewhere block) (writes_of f)
+      by (inl is) =
+          let same : h ≡ f = same_some h f (sym here ∙ ap (map.get p.files) is ∙ at) in
+          clean_elsewhere f whole.noted.apart.once whole.noted.marks place block (subst (λ (s : FileState). slice_get (blocks_of s.extents) place ≡ Some block) same has) l
+          (subst (λ (s : FileState). slice_get s.content.dirty place ≡ Some false) same clean)
+      by (inr not) = off_all x (durable_in p.commits h) whole.noted (other_file_is l old.unassigned.free start history k p f at go.stored file h here not).blocks place block has
+
+  written_readable : (before behind : List BlockWrite) → writes_of f ≡ before ++ behind → AreReadable (with_writes before l) p
+  written_readable before behind split file h here =
+      readable_on l (with_writes before l) h (λ block was. same_block l (with_writes before l) block (ap geometry_of (same_superblock before l)) (same_now before l) was)
+      (λ place block has clean free bytes only. subst (λ (c : Cell). HaveOnly (possible c) bytes)
+      (sym (untouched before l block (front_all (IsElsewhere block) before behind (subst (AllByRecursion (IsElsewhere block)) split (elsewhere file h here place block has clean))))) only)
+      (stored_readable l old.unassigned.free start history k p go.stored file h here)
+
+  all_readable : AreReadable (with_writes (writes_of f) l) p
+  all_readable = written_readable (writes_of f) [] (sym (append-nil (writes_of f)))
+
+  one_readable : (one : HasTriedOne new (writes_of f) l) → AreReadable (tried one.one.block one.one.bytes one.reads (with_writes one.before l)) p
+  one_readable one file h here =
+      readable_tried (with_writes one.before l) one.one.block one.one.bytes one.reads h
+      (λ place block has clean. one_of (IsElsewhere block) one.before one.behind one.one (subst (AllByRecursion (IsElsewhere block)) one.whole (elsewhere file h here place block has clean)))
+      (written_readable one.before (one.one ∷ one.behind) one.whole file h here)
 
   behind_writes : (before behind : List BlockWrite) → writes_of f ≡ before ++ behind → IsLedgerKept (with_writes before l) start history k k
   behind_writes before behind split = writes old l x before behind start history k k go.has whole.noted on_disk.1 whole.own by_history split go.stored.kept
@@ -148,19 +186,28 @@ module _ (old new : StoreState) (start : PosixTree) (history : List Entry) (p : 
       let split : writes_of f ≡ (one.before ++ one.one ∷ []) ++ one.behind = one.whole ∙ sym (append_assoc one.before (one.one ∷ []) one.behind) in
       let kept = subst (λ (m : Ledger). IsLedgerKept m start history k k) (writes_append one.before (one.one ∷ []) l) (behind_writes (one.before ++ one.one ∷ []) one.behind split) in
       stops (tried one.one.block one.one.bytes one.reads (with_writes one.before l)) k (ap geometry_of (same_superblock one.before l)) one.has
-      (tried_kept (with_writes one.before l) one.one one.reads start history k ready.1 (one.mixed ready.0.unheld) kept)
+      (tried_kept (with_writes one.before l) one.one one.reads start history k ready.1 (one.mixed ready.0.unheld) kept) (one_readable one)
 
-  at_stage : (between : Moments) (records : List LogRecord) (b : Bool) → (w : Ledger) → geometry_of w.superblock ≡ geometry_of l.superblock → (t : Committed) → geometry_of (next_superblock (at_moments between old)) ≡ geometry_of l.superblock
+  begun_read : (between : Moments) (w : Ledger) → AreReadable w p → AreReadable (beginning_next (at_moments between old) w) p
+  begun_read between w clean = begun_readable w (beginning_next (at_moments between old) w).maybe (block_at (home_of w (reads between))) p clean
+
+  home_read : (between : Moments) (w : Ledger) → geometry_of (next_superblock (at_moments between old)) ≡ geometry_of w.superblock → AreReadable w p → AreReadable (checkpointed (at_moments between old) w) p
+  home_read between w same clean = home_readable w (next_superblock (at_moments between old)) (block_at (home_of w (reads between))) p same clean
+
+  settled_read : (t : Committed) (w : Ledger) → AreReadable w p → AreReadable (committing t (settled w)) p
+  settled_read t w clean = settled_readable w (committing t (settled w)).maybe p clean
+
+  at_stage : (between : Moments) (records : List LogRecord) (b : Bool) → (w : Ledger) → geometry_of w.superblock ≡ geometry_of l.superblock → AreReadable w p → (t : Committed) → geometry_of (next_superblock (at_moments between old)) ≡ geometry_of l.superblock
       → AllByRecursion (λ (m : Ledger). (maybe : Counts) × IsLedgerKept m start history k maybe) (if b then commit_stages t w else w ∷ beginning_next (at_moments between old) w ∷ commit_stages t (checkpointed (at_moments between old) w))
       → HasAny new (if b then commit_stages t w else w ∷ beginning_next (at_moments between old) w ∷ commit_stages t (checkpointed (at_moments between old) w)) → HasStopped new start history p
-  at_stage between records true w same t next kept (inl is) = stops w kept.0.0 same is kept.0.1
-  at_stage between records true w same t next kept (inr (inl is)) = stops (committing t (settled w)) kept.1.0.0 same is kept.1.0.1
-  at_stage between records true w same t next kept (inr (inr none)) = absurd none
-  at_stage between records false w same t next kept (inl is) = stops w kept.0.0 same is kept.0.1
-  at_stage between records false w same t next kept (inr (inl is)) = stops (beginning_next (at_moments between old) w) kept.1.0.0 same is kept.1.0.1
-  at_stage between records false w same t next kept (inr (inr (inl is))) = stops (checkpointed (at_moments between old) w) kept.1.1.0.0 next is kept.1.1.0.1
-  at_stage between records false w same t next kept (inr (inr (inr (inl is)))) = stops (committing t (settled (checkpointed (at_moments between old) w))) kept.1.1.1.0.0 next is kept.1.1.1.0.1
-  at_stage between records false w same t next kept (inr (inr (inr (inr none)))) = absurd none
+  at_stage between records true w same clean t next kept (inl is) = stops w kept.0.0 same is kept.0.1 clean
+  at_stage between records true w same clean t next kept (inr (inl is)) = stops (committing t (settled w)) kept.1.0.0 same is kept.1.0.1 (settled_read t w clean)
+  at_stage between records true w same clean t next kept (inr (inr none)) = absurd none
+  at_stage between records false w same clean t next kept (inl is) = stops w kept.0.0 same is kept.0.1 clean
+  at_stage between records false w same clean t next kept (inr (inl is)) = stops (beginning_next (at_moments between old) w) kept.1.0.0 same is kept.1.0.1 (begun_read between w clean)
+  at_stage between records false w same clean t next kept (inr (inr (inl is))) = stops (checkpointed (at_moments between old) w) kept.1.1.0.0 next is kept.1.1.0.1 (home_read between w (next ∙ sym same) clean)
+  at_stage between records false w same clean t next kept (inr (inr (inr (inl is)))) = stops (committing t (settled (checkpointed (at_moments between old) w))) kept.1.1.1.0.0 next is kept.1.1.1.0.1 (settled_read t (checkpointed (at_moments between old) w) (home_read between w (next ∙ sym same) clean))
+  at_stage between records false w same clean t next kept (inr (inr (inr (inr none)))) = absurd none
 
   pub failed : HasStopped new start history p
   failed = by (same_or_not x.log.noted x.log.committed)
@@ -173,7 +220,7 @@ module _ (old new : StoreState) (start : PosixTree) (history : List Entry) (p : 
         where
           empty : HasTriedOne new (writes_of f) l ⊎ IsLedgerOf new.sectors new.moments.state (with_writes (writes_of f) l) → HasStopped new start history p
           empty (inl one) = at_write one
-          empty (inr is) = stops (with_writes (writes_of f) l) k (ap geometry_of (same_superblock (writes_of f) l)) is (behind_writes (writes_of f) [] (sym (append-nil (writes_of f))))
+          empty (inr is) = stops (with_writes (writes_of f) l) k (ap geometry_of (same_superblock (writes_of f) l)) is (behind_writes (writes_of f) [] (sym (append-nil (writes_of f)))) all_readable
       by (inr not) = full (told.changed (delta_of x.log.inode x.log.committed x.log.noted).0 (delta_of x.log.inode x.log.committed x.log.noted).1 not l go.has can
           (may old (delta_of x.log.inode x.log.committed x.log.noted).0 l x [] (to_commit (delta_of x.log.inode x.log.committed x.log.noted).0 (delta_of x.log.inode x.log.committed x.log.noted).1)))
         where
@@ -184,7 +231,7 @@ module _ (old new : StoreState) (start : PosixTree) (history : List Entry) (p : 
           full (inl one) = at_write one
           full (inr any) =
               let change = delta_of x.log.inode x.log.committed x.log.noted in
-              at_stage any.0 change.0 (has_room (at_moments any.0 old) change.0) (with_writes (writes_of f) l) (ap geometry_of (same_superblock (writes_of f) l)) (next_commit (at_moments any.0 old) change.0) (ap geometry_of (sym go.has.superblock_is))
+              at_stage any.0 change.0 (has_room (at_moments any.0 old) change.0) (with_writes (writes_of f) l) (ap geometry_of (same_superblock (writes_of f) l)) all_readable (next_commit (at_moments any.0 old) change.0) (ap geometry_of (sym go.has.superblock_is))
               (staged old any.0 change.0 l x start history k (to_commit change.0 change.1) by_history go.stored.tree go.stored.legal go.stored.kept) any.1
 
 pub failed_syncs_go_on : WritesAreKept → StagesAreKept → FilesMayCommitNext → DirtyMayBeWritten → HasTreeBytes → FailedSyncsGoOn

@@ -1,10 +1,11 @@
 -- A server on a disk goes on by an entry, and by free blocks that move.
-use Rattle.std.proofs.Common.{◌≡◌, ◌⊎◌, inl, inr, ℕ, false, true, Option, Some, List, [], ◌∷◌, ◌++◌, is_some, ap, sym, refl, ◌∙◌, subst}
+use Rattle.std.proofs.Common.{◌≡◌, ◌≢◌, ◌⊎◌, inl, inr, ℕ, Bool, false, true, Option, Some, List, [], ◌∷◌, ◌++◌, is_some, ap, sym, refl, ◌∙◌, subst}
 use Rattle.std.specs.Prelude.{IsSome}
 use Rattle.std.specs.FinMap as map
 use Rattle.ufs_bitmap.specs.Blocks.{BlockSet}
 use Rattle.ufs_bitmap.specs.Taking.{IsApart}
 use Rattle.ufs_file.specs.Hand.{FileState, IsFileOf, IsPosix}
+use Rattle.ufs_files.proofs.MapLemmas.{one_or_apart, put_else, put_here}
 use Rattle.ufs_layout.specs.Superblock.{geometry_of}
 use Rattle.ufs_layout.specs.declared.geometry.Geometry.{Geometry}
 use Rattle.ufs_ledger.specs.Laws.{EntriesKeep}
@@ -20,19 +21,20 @@ use Rattle.ufs_model.specs.declared.data.Actor.{Actor}
 use Rattle.ufs_model.specs.declared.data.Ask.{Ask}
 use Rattle.ufs_model.specs.declared.data.Desc.{Desc}
 use Rattle.ufs_model.specs.declared.data.Entry.{Entry}
+use Rattle.ufs_model.proofs.Facts.Lookups.{same_some}
 use Rattle.ufs_names.specs.Laws.{KeepsNames}
 use Rattle.ufs_prefix.specs.Changes.{asks_commit}
 use Rattle.ufs_prefix.specs.Explained.{IsAckCovered}
 use Rattle.ufs_prefix.specs.StepLaws.{OthersAcknowledgeNothing}
 use Rattle.ufs_durable.specs.Committing.{OwnsServed}
 use Rattle.ufs_durable.specs.Serving.{IsApplied}
-use Rattle.ufs_durable.specs.Standing.{StandsServed}
+use Rattle.ufs_durable.specs.Standing.{IsReadable, ReadsServed, StandsServed}
 use Rattle.ufs_durable.specs.State.{DurableState, blocks_held}
 use Rattle.ufs_durable.proofs.Requests.{same_inode, same_number}
 use Rattle.ufs_store.specs.Ledgers.{HasLedger}
 use Rattle.ufs_store.specs.State.{StoreState, geometry_of_store}
 use Rattle.ufs_stored.specs.Laws.{MovesBlocks}
-use Rattle.ufs_stored.specs.OnDisk.{HasStopped, IsGoing, IsOnDisk}
+use Rattle.ufs_stored.specs.OnDisk.{AreReadable, HasStopped, IsGoing, IsOnDisk}
 use Rattle.ufs_stored.specs.Parts.{Parts, durable_in, with_file}
 use Rattle.ufs_stored.specs.Sound.{IsFileSound, IsSoundServer}
 use Rattle.ufs_stored.specs.Stored.{ArePartsOf}
@@ -48,8 +50,8 @@ entries_keep trees g blocks s start history entry names files n is legal acked k
 -- ---- a store that has stopped
 
 pub stopped_kept : KeepsTrees → (s : StoreState) (start : PosixTree) (history : List Entry) (entry : Entry) (p q : Parts) → IsLegal start (history ++ entry ∷ [])
-    → ((names : ℕ) (files : ℕ → ℕ) → IsAckCovered start history entry names files) → ArePartsOf q (tree_after start (history ++ entry ∷ [])) → HasStopped s start history p → HasStopped s start (history ++ entry ∷ []) q
-stopped_kept trees s start history entry p q legal ack parts st = record {
+    → ((names : ℕ) (files : ℕ → ℕ) → IsAckCovered start history entry names files) → ArePartsOf q (tree_after start (history ++ entry ∷ [])) → (st : HasStopped s start history p) → AreReadable st.ledger q → HasStopped s start (history ++ entry ∷ []) q
+stopped_kept trees s start history entry p q legal ack parts st clean = record {
   stopped = st.stopped;
   ledger = st.ledger;
   now = st.now;
@@ -60,6 +62,7 @@ stopped_kept trees s start history entry p q legal ack parts st = record {
   legal = legal;
   kept = ledger_kept (geometry_of st.ledger.superblock) (entries_keep trees (geometry_of st.ledger.superblock)) st.ledger start history entry st.now st.maybe refl st.tree legal (ack st.now.names st.now.files) (ack st.maybe.names st.maybe.files) st.kept;
   parts = parts;
+  clean = clean;
 }
 
 -- ---- free blocks
@@ -90,12 +93,13 @@ free_blocks_go_on s start history p pool rest moves on = by on
       legal = st.legal;
       kept = st.kept;
       parts = record { names = st.parts.names; files = st.parts.files; inodes = st.parts.inodes; here = st.parts.here };
+      clean = st.clean;
     })
 
 -- ---- a request on a file
 
-pub requests_go_on : KeepsTrees → OthersAcknowledgeNothing → KeepsNames → StandsServed → OwnsServed → FileRequestsGoOn
-requests_go_on trees nothing names_keep stands owns s start history entry p f next pool ask server ticket desc d legal no_commit old kind asked is of applied sound on = by on
+pub requests_go_on : KeepsTrees → OthersAcknowledgeNothing → KeepsNames → StandsServed → ReadsServed → OwnsServed → FileRequestsGoOn
+requests_go_on trees nothing names_keep stands reads owns s start history entry p f next pool ask server ticket desc d legal no_commit old kind asked is of applied sound on = by on
   where
     whole : IsFileSound (geometry_of_store s) (durable_in p.commits f)
     whole = sound.each f.file f old
@@ -112,6 +116,23 @@ requests_go_on trees nothing names_keep stands owns s start history entry p f ne
     ack : (names : ℕ) (files : ℕ → ℕ) → IsAckCovered start history entry names files
     ack names files = nothing start history entry names files (inr no_commit)
 
+    -- what isn't dirty then wasn't before
+    file_readable : (l : Ledger) → IsReadable l f → IsReadable l next.file
+    file_readable l was = at (is_excused entry.reply) refl
+      where
+        at : (b : Bool) → is_excused entry.reply ≡ b → IsReadable l next.file
+        at true e = subst (λ (y : DurableState). IsReadable l y.file) (sym (applied.kept e)) was
+        at false e = reads l (durable_in p.commits f) next p.pool pool d ask.op entry.reply desc whole.noted was (applied.served e d is)
+
+    readable : (l : Ledger) → AreReadable l p → AreReadable l (with_file next pool p)
+    readable l all file h here = at (one_or_apart file f.file)
+      where
+        at : (file ≡ f.file) ⊎ (file ≢ f.file) → IsReadable l h
+        at (inl same) =
+            let this : h ≡ next.file = same_some h next.file (sym here ∙ ap (map.get (with_file next pool p).files) (same ∙ sym number) ∙ put_here p.files next.file.file next.file) in
+            subst (IsReadable l) (sym this) (file_readable l (all f.file f old))
+        at (inr not) = all file h (sym (put_else p.files next.file.file next.file file (λ e. not (e ∙ number))) ∙ here)
+
     by : IsOnDisk s start history p → IsOnDisk s start (history ++ entry ∷ []) (with_file next pool p)
     by (inl going) = inl (record {
       ledger = going.ledger;
@@ -122,7 +143,7 @@ requests_go_on trees nothing names_keep stands owns s start history entry p f ne
           going.formed legal no_commit old kind asked is of applied going.stored;
     })
     by (inr stopped) = inr (stopped_kept trees s start history entry p (with_file next pool p) legal ack
-        (parts_after names_keep start history entry p f next pool ask server ticket desc d old kind asked is of applied number inode stopped.parts) stopped)
+        (parts_after names_keep start history entry p f next pool ask server ticket desc d old kind asked is of applied number inode stopped.parts) stopped (readable stopped.ledger stopped.clean))
 
 -- ---- the parts
 

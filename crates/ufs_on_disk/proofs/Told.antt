@@ -78,6 +78,7 @@ on_disk_as_told s start history p commits tells (inr st) = inr (record {
   legal = st.legal;
   kept = st.kept;
   parts = record { names = st.parts.names; files = st.parts.files; inodes = st.parts.inodes; here = st.parts.here };
+  clean = st.clean;
 })
 
 pub synced_as_told : SyncedAsTold

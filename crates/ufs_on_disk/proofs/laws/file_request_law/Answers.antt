@@ -6,7 +6,7 @@ pub returns : goal.returns
 returns c = record {
   free = free_blocks_go_on;
   free_sound = sound_by_free_blocks;
-  request = requests_go_on c.a_request_keeps_the_tree.ensures c.an_entry_keeps_what_is_shown.ensures.other c.a_file_request_keeps_the_names.ensures c.standing_law.ensures.served c.committing_law.ensures.served;
+  request = requests_go_on c.a_request_keeps_the_tree.ensures c.an_entry_keeps_what_is_shown.ensures.other c.a_file_request_keeps_the_names.ensures c.standing_law.ensures.served c.standing_law.ensures.reads c.committing_law.ensures.served;
   parts = parts_by_requests c.a_file_request_keeps_the_names.ensures;
   excused = parts_by_excuses;
   request_sound = sound_by_requests;
