@@ -4,6 +4,7 @@ use Rattle.std.specs.FinMap as map
 use Rattle.std.specs.FinSet as set
 use Rattle.ufs_bitmap.specs.Blocks.{BlockSet}
 use Rattle.ufs_bitmap.specs.Taking.{has}
+use Rattle.ufs_durable.specs.Standing.{IsReadable}
 use Rattle.ufs_durable.specs.State.{DurableState, blocks_held}
 use Rattle.ufs_file.specs.Hand.{FileState}
 use Rattle.ufs_image.specs.Catalog.{IsInode}
@@ -23,7 +24,7 @@ use Rattle.ufs_prefix.specs.Changes.{asks_commit}
 use Rattle.ufs_prefix.specs.StepLaws.{OthersAcknowledgeNothing}
 use Rattle.ufs_store.specs.State.{StoreState, geometry_of_store}
 use Rattle.ufs_stored.specs.Laws.{NameEntriesKeep, NotesGoOn, StaysOrNew}
-use Rattle.ufs_stored.specs.OnDisk.{HasStopped, IsGoing, IsOnDisk}
+use Rattle.ufs_stored.specs.OnDisk.{AreReadable, HasStopped, IsGoing, IsOnDisk}
 use Rattle.ufs_stored.specs.Parts.{Parts, durable_in}
 use Rattle.ufs_stored.specs.Sound.{IsSoundServer}
 use Rattle.ufs_stored.specs.Stored.{AreNamesStored, IsFileWhole, IsStored}
@@ -89,6 +90,21 @@ module _ (g : Geometry) (keeps : EntriesKeep g) (others : OthersAcknowledgeNothi
         there = λ other at. let was = kept.there other at in (was.0, keep l.blocks other.stand start history entry maybe.names maybe.files maybe.numbers is legal (others start history entry maybe.names maybe.files (inr unsynced)) was.1);
       }
 
+  -- a file that stays without being emptied is read as before; one that is empty has nothing to read
+  readable_now : (l : Ledger) → AreReadable l p → AreReadable l next
+  readable_now l reads f s here = by (there_or_not (map.get p.files f))
+    where
+      empty : (h : FileState) → s ≡ no_bytes h.file h.inode → IsReadable l s
+      empty h is = subst (IsReadable l) (sym is) (record { blocks = λ place block at clean. (let none = at in absurd cc); clean = λ place block at clean. (let none = at in absurd cc) })
+
+      stays : (o : FileState) → map.get p.files f ≡ Some o → StaysOrEmptied p next o s → IsReadable l s
+      stays o was (inl same) = subst (IsReadable l) (sym same.0) (reads f o was)
+      stays o was (inr cut) = empty o cut.0
+
+      by : ((o : FileState) × (map.get p.files f ≡ Some o)) ⊎ (map.get p.files f ≡ None) → IsReadable l s
+      by (inl at) = stays at.0 at.1 (r.stay f at.0 s at.1 here)
+      by (inr none) = empty (no_bytes f s.inode) (is_empty t u p next lent left r f s none here)
+
   pub on_disk_now : (s : StoreState) → geometry_of_store s ≡ g → s.unassigned.free ≡ unassigned → IsOnDisk s start history p → IsOnDisk s start (history ++ entry ∷ []) next
   on_disk_now s form free (inl going) = inl (record {
     ledger = going.ledger;
@@ -109,6 +125,7 @@ module _ (g : Geometry) (keeps : EntriesKeep g) (others : OthersAcknowledgeNothi
     legal = legal;
     kept = kept_now stopped.ledger stopped.now stopped.maybe (stopped.formed ∙ form) stopped.tree stopped.kept;
     parts = parts_now t u p next lent left r;
+    clean = readable_now stopped.ledger stopped.clean;
   })
 
 pub request_on_disk : (g : Geometry) → EntriesKeep g → OthersAcknowledgeNothing → NameEntriesKeep g → NotesGoOn g → TablesNameSoundly g → RequestsAreOnDisk g
