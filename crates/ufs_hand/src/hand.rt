@@ -194,10 +194,10 @@ impl<N: Naming> Hand<N> {
         self.draw_as::<Brand, L>(table, fresh)
     }
 
-    fn draw_as<F: Drawing, L: Leaving>(&mut self, table: &HandTable<N>, fresh: &Fresh) -> u64
-        requires fresh { fresh.now ≡ F.fresh }
-        requires may { MayDraw fresh.now self.old L.leaves [] }
-        ensures parts { self.new ≡ drawn result fresh.now L.leaves self.old }
+    /// The next ticket, for the entry that the caller picks. The code's own may be another: no step looks at it.
+    pub fn draw_as<F: Drawing, L: Leaving>(&mut self, table: &HandTable<N>, fresh: &Fresh) -> u64
+        requires { MayDraw F.fresh self.old L.leaves [] }
+        ensures parts { self.new ≡ drawn result F.fresh L.leaves self.old }
         ensures later { self.old.seen ≤ result }
         ensures history { KnowsTickets N.start self.old result }
     {

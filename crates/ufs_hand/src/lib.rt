@@ -5,4 +5,4 @@ mod hand;
 mod rule;
 
 pub use hand::{Begun, Drawn, Hand, HandTable, Now, Opened, Whole};
-pub use rule::{Event, Leaving, Naming, Opening, Parts};
+pub use rule::{Drawing, Event, Leaving, Naming, Opening, Parts};

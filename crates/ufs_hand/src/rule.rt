@@ -102,7 +102,8 @@ impl Picked for Brand {
     ghost part = { Names };
 }
 
-pub(crate) trait Drawing {
+/// The entry that is drawn. Its caller picks it.
+pub trait Drawing {
     ghost use Rattle.ufs_sound.specs.declared.fresh.Fresh.{Fresh};
 
     ghost fresh: { Fresh };

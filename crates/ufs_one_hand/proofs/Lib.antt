@@ -15,4 +15,5 @@ pub mod Passage
 pub mod Showing
 pub mod Started
 pub mod Tickets
+pub mod Told
 pub mod Touching

@@ -1,5 +1,5 @@
 -- What the hand has after each of its steps.
-use Rattle.std.specs.Prelude.{ℕ, ◌+◌, ◌≡◌, ◌≢◌, ◌≤◌, ◌<◌, true, List, [], ◌∷◌, ◌++◌, length, Option, Some, None, is_some, cond}
+use Rattle.std.specs.Prelude.{ℕ, ◌+◌, ◌≡◌, ◌≢◌, ◌≤◌, ◌<◌, ◌⊎◌, true, List, [], ◌∷◌, ◌++◌, length, Option, Some, None, is_some, cond}
 use Rattle.std.specs.List.{filter_map}
 use Rattle.std.specs.Option.{option_map}
 use Rattle.std.specs.FinMap as fin
@@ -89,6 +89,21 @@ pub record IsAcknowledged (k : Start) (history : List Entry) (t : PosixTree) (e 
   pub explained : IsDiskVisible k → ExplainsImages k.tree (history ++ e ∷ []) (state_in v)
 
 -- ---- an entry is drawn
+
+-- both are bytes that were read, as many
+abbrev pub AreBothRead : Reply → Reply → Type 0
+AreBothRead (reply.Got xs) (reply.Got ys) = length xs ≡ length ys
+AreBothRead _ _ = ⊥
+
+-- A reply that the history has is the one that was given. Over a disk that isn't visible the bytes that were read may be
+-- others, and as many.
+pub record IsReplyAlike (k : Start) (told given : Reply) : Type 0 where
+  pub alike : (told ≡ given) ⊎ AreBothRead told given
+  pub seen : IsDiskVisible k → told ≡ given
+
+-- the entry with the reply that the history has
+abbrev pub told_as : Reply → Fresh → Fresh
+told_as told f = record f { reply = told }
 
 -- The hand has the cause of an excuse.
 pub record HasCauses (given : Reply) (v : View) : Type 0 where

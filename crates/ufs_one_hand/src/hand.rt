@@ -7,7 +7,7 @@ ghost use Rattle.ufs_sound.specs.Draws.{entry_of, left_faults};
 ghost use Rattle.ufs_sound.specs.Owned.{Has, times};
 ghost use Rattle.ufs_sound.specs.Parts.{Cells};
 ghost use Rattle.ufs_hand.specs.Session.{IsEvent, KnowsAll};
-ghost use Rattle.ufs_one_hand.specs.Drawn.{IsAcknowledged, IsAnswer, IsExplainedAtStamps, MayPass, asked_view, fault_met};
+ghost use Rattle.ufs_one_hand.specs.Drawn.{IsAcknowledged, IsAnswer, IsExplainedAtStamps, IsReplyAlike, MayPass, asked_view, fault_met, told_as};
 ghost use Rattle.ufs_one_hand.specs.OneHand.{HasSession, IsCoveredIn, IsStampedIn, IsStart, KnowsSynced, StartsCanBegin, passed_in, stamp_in, state_in};
 ghost use Rattle.ufs_sound.specs.Covers.{step_in};
 ghost use Rattle.ufs_sound.specs.Visible.{IsDiskVisible};
@@ -191,11 +191,14 @@ impl<N: Naming> OneHand<N> {
         self.hand.mark::<E>(&self.table);
     }
 
-    /// The next ticket, for the entry that answers what is asked: the number of entries before it.
+    /// The next ticket, for the entry that answers what is asked: the number of entries before it. The history has it with
+    /// the reply that the caller picks, which over a disk that isn't visible may have other bytes of a file than the code's.
     pub fn draw<A: Answering>(&mut self, fresh: &Fresh) -> u64
-        requires answer { (history : List Entry) × IsAnswer N.start history A.before fresh.now A.fds self.old }
+        requires answer { (history : List Entry) × IsAnswer N.start history A.before (told_as A.reply fresh.now) A.fds self.old }
+        requires alike { IsReplyAlike N.start A.reply fresh.now.reply }
         ensures ticket { (history : List Entry) → HasSession N.start history (Some (fresh.now.client, fresh.now.op)) self.old → result ≡ length history }
-        ensures session { (history : List Entry) → IsAnswer N.start history A.before fresh.now A.fds self.old → HasSession N.start (history ++ entry_of result fresh.now ∷ []) None self.new }
+        ensures session { (history : List Entry) → IsAnswer N.start history A.before (told_as A.reply fresh.now) A.fds self.old
+            → HasSession N.start (history ++ entry_of result (told_as A.reply fresh.now) ∷ []) None self.new }
         ensures stop { self.new.stop ≡ self.old.stop }
         ensures state { state_in self.new ≡ state_in self.old }
         ensures store { self.new.store ≡ self.old.store }
@@ -205,7 +208,7 @@ impl<N: Naming> OneHand<N> {
         a_request_is_local();
         a_request_keeps_the_tree();
         a_request_makes_one_file_at_most();
-        self.hand.draw::<Brand>(&self.table, fresh)
+        self.hand.draw_as::<Brand, Brand>(&self.table, fresh)
     }
 
     /// The end of the session. Answers how many entries were drawn. The hand knows one whole history, and each state of a

@@ -31,21 +31,28 @@ impl Passing for Brand {
     ghost shortages = { [] };
 }
 
-/// In which tree a request is answered, and which descriptors its client has then: its caller picks it.
+/// In which tree a request is answered, which descriptors its client has then, and the reply as the hand's history has it:
+/// its caller picks it.
 pub trait Answering {
     ghost use Rattle.ufs_model.specs.PosixTree.{PosixTree};
+    ghost use Rattle.ufs_model.specs.declared.data.Reply.{Reply};
     ghost use Rattle.ufs_sound.specs.Parts.{OwnFds};
 
     ghost before: { PosixTree };
 
     ghost fds: { OwnFds };
+
+    ghost reply: { Reply };
 }
 
 impl Answering for Brand {
     ghost use Rattle.std.specs.FinMap as map;
     ghost use Rattle.ufs_model.specs.PosixTree.{root_alone};
+    ghost use Rattle.ufs_model.specs.declared.data.Reply.TheVariants.{Done};
 
     ghost before = { root_alone };
 
     ghost fds = { map.empty };
+
+    ghost reply = { Done };
 }
