@@ -12,7 +12,7 @@ use Rattle.ufs_sound.specs.Whole.{CanOpen, idle_client}
 use Rattle.ufs_sound.proofs.Owning.{none_some}
 use Rattle.ufs_sound.proofs.First.{all_are}
 use Rattle.ufs_hand.specs.Session.{CanBegin, first_view}
-use Rattle.ufs_one_hand.specs.OneHand.{disk_with, start_seeing, IsCovered, IsCoveredIn, IsStart, StartsCanBegin, HasSession, IsClientAt, passed_in, stamp_in}
+use Rattle.ufs_one_hand.specs.OneHand.{disk_with, start_seeing, IsCovered, IsCoveredIn, IsStart, StartsCanBegin, HasSession, IsClientAt, faults_in, passed_in, stamp_in}
 use Rattle.ufs_one_hand.proofs.Bare.{no_blocks, uses_none}
 use Rattle.ufs_one_hand.proofs.Passage.{one_part}
 
@@ -71,7 +71,7 @@ module _ (nodes : PathNodes) (cells : Cells) (is_visible : Bool) where
     };
     store = opened_store d;
     has_store = refl;
-    store_at = record { extents = refl; dirs = refl; unassigned = refl; stop = refl; unfailed = λ _. refl; single = λ n. omega arith };
+    store_at = record { extents = refl; dirs = refl; unassigned = refl; stop = refl; single = λ n. omega arith };
   }
 
 pub starts_begin : OpenedDisksServe → StartsCanBegin
@@ -98,3 +98,6 @@ start_stamp k s = ap (λ (z : Start). stamp_in (first_view z)) s.is
 
 pub start_passed : (k : Start) → IsStart k → passed_in (first_view k) ≡ 0
 start_passed k s = ap (λ (z : Start). passed_in (first_view z)) s.is
+
+pub start_faults : (k : Start) → IsStart k → faults_in (first_view k) ≡ []
+start_faults k s = ap (λ (z : Start). faults_in (first_view z)) s.is

@@ -29,7 +29,7 @@ use Rattle.ufs_sound.proofs.Keys.{itself, alike}
 use Rattle.ufs_sound.proofs.Owning.{count_has, has_count, has_append, append_has, has_each, weigh_each}
 use Rattle.ufs_hand.specs.Session.{IsEvent}
 use Rattle.ufs_one_hand.specs.Drawn.{IsAcknowledged, turned}
-use Rattle.ufs_one_hand.specs.OneHand.{HasSession, IsCovered, IsCoveredIn, IsStampedIn, IsStoreAt, KnowsSynced, in_store, passed_in, state_in}
+use Rattle.ufs_one_hand.specs.OneHand.{HasSession, IsCovered, IsCoveredIn, IsStampedIn, IsStoreAt, KnowsSynced, faults_in, in_store, passed_in, state_in}
 use Rattle.ufs_one_hand.proofs.Asked.{asked_all, asked_least, asked_made, asked_most, same_changes, store_low, synced_file}
 use Rattle.ufs_one_hand.proofs.Bare.{disk_kept}
 use Rattle.ufs_one_hand.proofs.Kept.{AreBirthsTold, AreBorn, births_kept, counts_with, files_asked, files_kept, names_asked, names_asked_in, names_kept}
@@ -516,6 +516,11 @@ module _ (k : Start) (history : List Entry) (t : PosixTree) (e : Entry) (v : Vie
         pub same_rest : state_in v3 ≡ state_in v
         same_rest = ap (λ (ss : List (Unit {0} × StorePart)). state_in (files_kept t e (births_kept t e (names_kept t e (record v { store = ss }) a) b) c)) acked.session.has_store
             ∙ sym (ap (in_store [] (λ s. s.state)) acked.session.has_store)
+
+        -- and no call failed
+        pub same_faults : faults_in v3 ≡ faults_in v
+        same_faults = ap (λ (ss : List (Unit {0} × StorePart)). faults_in (files_kept t e (births_kept t e (names_kept t e (record v { store = ss }) a) b) c)) acked.session.has_store
+            ∙ sym (ap (in_store [] (λ s. s.faults)) acked.session.has_store)
 
         -- the store's part behind the three
         abbrev last : StorePart → StorePart

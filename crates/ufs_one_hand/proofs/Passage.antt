@@ -1,6 +1,6 @@
 -- The disk was called: the hand's store goes on by a turn.
 use Rattle.std.proofs.lemmas.List.{length-append}
-use Rattle.std.proofs.Common.{◌≡◌, ◌⊎◌, ℕ, ◌+◌, ◌-◌, ◌≤◌, true, false, eqb, eq-eqb, List, [], ◌∷◌, ◌++◌, length, Option, Some, None, unwrap_or, sym, refl, ap, ◌∙◌, subst, inl, inr, ⊎_elim, arith}
+use Rattle.std.proofs.Common.{◌≡◌, ◌⊎◌, ℕ, ◌+◌, ◌-◌, ◌≤◌, Bool, true, false, eqb, eq-eqb, eqb-true, List, [], ◌∷◌, ◌++◌, length, Option, Some, None, unwrap_or, sym, refl, ap, ◌∙◌, subst, inl, inr, ⊎_elim, arith}
 use Rattle.std.specs.Ordering.{nat_cmp}
 use Rattle.std.specs.FinMap as fin
 use Rattle.ufs_model.specs.History.{IsLegal, tree_after}
@@ -19,41 +19,57 @@ use Rattle.ufs_sound.specs.Visible.{IsDiskVisible}
 use Rattle.ufs_sound.proofs.Happening.Staying.{answers_stay, store_remakes, same_file, blocks_stay, numbers_stay, same_parts_keep, same_parts_know, times_append}
 use Rattle.ufs_sound.proofs.Owning.{has_append, append_has}
 use Rattle.ufs_hand.specs.Session.{IsEvent}
-use Rattle.ufs_one_hand.specs.Drawn.{MayPass, fault_met, store_passed, passed_view, turned, turned_view}
-use Rattle.ufs_one_hand.specs.OneHand.{AreNamesAt, HasSession, IsCovered, IsCoveredIn, IsFileAt, IsStampedIn, IsStoreAt, in_store, passed_in, stamp_in, state_in}
+use Rattle.ufs_one_hand.specs.Drawn.{MayPass, fault_met, faults_met, store_passed, passed_view, turned, turned_view}
+use Rattle.ufs_one_hand.specs.OneHand.{AreNamesAt, HasSession, IsCovered, IsCoveredIn, IsFileAt, IsStampedIn, IsStoreAt, faults_in, in_store, passed_in, stamp_in, state_in}
 use Rattle.ufs_one_hand.proofs.Bare.{disk_kept}
 use Rattle.ufs_one_hand.proofs.Showing.{explained_shows}
 use Rattle.ufs_one_hand.proofs.Tickets.{begun_is, known_tickets, whole_is}
 
-some_once : (n m : ℕ) → times n (m ∷ []) ≤ 1
-some_once n m = few (eqb n m)
-  where
-    few : (b : Rattle.std.proofs.Common.Bool) → one b + 0 ≤ 1
-    few true = omega arith
-    few false = omega arith
+-- The calls that failed have numbers that no call had before: that of a read, and that at which the store stopped, where it
+-- hadn't.
+pub record AreNewFaults (read before stop : Option ℕ) (old : List ℕ) : Type 0 where
+  pub kept : (n : ℕ) → before ≡ Some n → stop ≡ Some n
+  pub stopped : (n : ℕ) → before ≡ None → stop ≡ Some n → times n old ≡ 0
+  pub failed : (n : ℕ) → read ≡ Some n → times n old ≡ 0
+  pub apart : (n : ℕ) → read ≡ Some n → times n (fault_met before stop) ≡ 0
 
--- a store that hasn't stopped has no fault yet, and one that has meets none
-faults_once : (before stop : Option ℕ) (faults : List ℕ) → (before ≡ None → faults ≡ []) → ((n : ℕ) → times n faults ≤ 1) → (n : ℕ) → times n (fault_met before stop ++ faults) ≤ 1
-faults_once None None faults none once n = once n
-faults_once None (Some m) faults none once n = subst (λ (fs : List ℕ). times n (m ∷ fs) ≤ 1) (sym (none refl)) (some_once n m)
-faults_once (Some a) None faults none once n = once n
-faults_once (Some a) (Some m) faults none once n = once n
-
-no_fault : (before stop : Option ℕ) (faults : List ℕ) → (before ≡ None → faults ≡ []) → ((n : ℕ) → before ≡ Some n → stop ≡ Some n) → stop ≡ None → fault_met before stop ++ faults ≡ []
-no_fault None None faults none kept is = none refl
-no_fault None (Some m) faults none kept is = cc
-no_fault (Some a) stop faults none kept is = absurd (other a (sym is ∙ kept a refl))
+-- a number that isn't there is there once then
+once_more : (m n : ℕ) (old : List ℕ) → times m old ≡ 0 → times n old ≤ 1 → times n (m ∷ old) ≤ 1
+once_more m n old none once = by (eqb n m) refl
   where
-    other : (a : ℕ) → None ≡ Some a → ⊥
-    other a e = cc
+    by : (b : Bool) → eqb n m ≡ b → one b + times n old ≤ 1
+    by true is = let z : times n old ≡ times m old = ap (λ x. times x old) (eqb-true n m is) in omega (arith, z, none)
+    by false is = omega (arith, once)
 
-pub fault_told : (before stop : Option ℕ) (faults : List ℕ) (n : ℕ) → before ≡ None → stop ≡ Some n → 1 ≤ times n (fault_met before stop ++ faults)
-fault_told None None faults n a b = cc
-fault_told None (Some m) faults n a b = let e : one (eqb n m) ≡ 1 = ap one (eq-eqb n m (same m n b)) in omega (arith, e)
-  where
-    same : (m n : ℕ) → Some m ≡ Some n → n ≡ m
-    same m n e = cc
-fault_told (Some x) stop faults n a b = cc
+met_once : (before stop : Option ℕ) (old : List ℕ) → ((n : ℕ) → before ≡ None → stop ≡ Some n → times n old ≡ 0) → (n : ℕ) → times n old ≤ 1 → times n (fault_met before stop ++ old) ≤ 1
+met_once None None old new n once = once
+met_once None (Some m) old new n once = once_more m n old (new m refl refl) once
+met_once (Some a) None old new n once = once
+met_once (Some a) (Some m) old new n once = once
+
+faults_once : (read before stop : Option ℕ) (old : List ℕ) → AreNewFaults read before stop old → (n : ℕ) → times n old ≤ 1 → times n (faults_met read before stop ++ old) ≤ 1
+faults_once None before stop old new n once = met_once before stop old new.stopped n once
+faults_once (Some m) before stop old new n once =
+    once_more m n (fault_met before stop ++ old) (let a = times_append m (fault_met before stop) old in let b = new.apart m refl in let d = new.failed m refl in omega (arith, a, b, d)) (met_once before stop old new.stopped n once)
+
+some_same : (m n : ℕ) → Some m ≡ Some n → n ≡ m
+some_same m n e = cc
+
+first_told : (m n : ℕ) (rest : List ℕ) → Some m ≡ Some n → 1 ≤ times n (m ∷ rest)
+first_told m n rest is = let e : one (eqb n m) ≡ 1 = ap one (eq-eqb n m (some_same m n is)) in omega (arith, e)
+
+met_told : (before stop : Option ℕ) (old : List ℕ) (n : ℕ) → before ≡ None → stop ≡ Some n → 1 ≤ times n (fault_met before stop ++ old)
+met_told None None old n a b = cc
+met_told None (Some m) old n a b = first_told m n old b
+met_told (Some x) stop old n a b = cc
+
+pub fault_told : (read before stop : Option ℕ) (old : List ℕ) (n : ℕ) → before ≡ None → stop ≡ Some n → 1 ≤ times n (faults_met read before stop ++ old)
+fault_told None before stop old n a b = met_told before stop old n a b
+fault_told (Some m) before stop old n a b = let i = met_told before stop old n a b in omega (arith, i)
+
+pub read_told : (read before stop : Option ℕ) (old : List ℕ) (n : ℕ) → read ≡ Some n → 1 ≤ times n (faults_met read before stop ++ old)
+read_told None before stop old n a = cc
+read_told (Some m) before stop old n a = first_told m n (fault_met before stop ++ old) a
 
 -- ---- the store's part
 
@@ -109,7 +125,6 @@ turned_at stop s at n states files names = record {
   dirs = at.dirs;
   unassigned = at.unassigned;
   stop = at.stop;
-  unfailed = at.unfailed;
   single = at.single;
 }
 
@@ -196,33 +211,41 @@ module _ (k : Start) (history : List Entry) (asked : Option (ℕ × Op)) (v : Vi
     pub turned_state : state_in (turned_view v n) ≡ state_in v
     turned_state = ap state_in (sym is_begun) ∙ sym (ap (in_store [] (λ s. s.state)) h.has_store)
 
+    pub turned_faults : faults_in (turned_view v n) ≡ faults_in v
+    turned_faults = ap faults_in (sym is_begun) ∙ sym (ap (in_store [] (λ s. s.faults)) h.has_store)
+
   pub may_turn : IsEvent k v (turned_view v)
   may_turn = inr (inr remakes)
 
 -- ---- the disk was called
 
 module _ (k : Start) (history : List Entry) (asked : Option (ℕ × Op)) (v : View) (h : HasSession k history asked v)
-    (stop : Option ℕ) (states : List Cells) (state : Cells) (shortages : List Shortage) (kept : (n : ℕ) → v.stop ≡ Some n → stop ≡ Some n) (n : ℕ) where
+    (failed stop : Option ℕ) (states : List Cells) (state : Cells) (shortages : List Shortage) (new : AreNewFaults failed v.stop stop (faults_in v)) (n : ℕ) where
   abbrev passed : StorePart
-  passed = store_passed n stop states state shortages v.stop h.store
+  passed = store_passed n failed stop states state shortages v.stop h.store
 
   abbrev with_passed : View
-  with_passed = record v { store = (tt, passed) ∷ []; seen = n; faults = fault_met v.stop stop ++ v.faults; stop = stop; shortages = shortages ++ v.shortages }
+  with_passed = record v { store = (tt, passed) ∷ []; seen = n; faults = faults_met failed v.stop stop ++ v.faults; stop = stop; shortages = shortages ++ v.shortages }
 
-  is_passed : with_passed ≡ passed_view stop states state shortages v n
-  is_passed = λ j. passed_view stop states state shortages (record v { store = sym h.has_store j }) n
+  is_passed : with_passed ≡ passed_view failed stop states state shortages v n
+  is_passed = λ j. passed_view failed stop states state shortages (record v { store = sym h.has_store j }) n
 
-  pub passed_session : HasSession k history asked (passed_view stop states state shortages v n)
-  passed_session = subst (HasSession k history asked) is_passed (with_store_session k history asked v h passed (fault_met v.stop stop ++ v.faults) stop (shortages ++ v.shortages) n (record {
+  faults_there : faults_in v ≡ h.store.faults
+  faults_there = ap (in_store [] (λ s. s.faults)) h.has_store
+
+  pub new_there : AreNewFaults failed v.stop stop h.store.faults
+  new_there = subst (AreNewFaults failed v.stop stop) faults_there new
+
+  pub passed_session : HasSession k history asked (passed_view failed stop states state shortages v n)
+  passed_session = subst (HasSession k history asked) is_passed (with_store_session k history asked v h passed (faults_met failed v.stop stop ++ v.faults) stop (shortages ++ v.shortages) n (record {
     extents = h.store_at.extents;
     dirs = h.store_at.dirs;
     unassigned = h.store_at.unassigned;
     stop = refl;
-    unfailed = λ e. no_fault v.stop stop h.store.faults h.store_at.unfailed kept e;
-    single = faults_once v.stop stop h.store.faults h.store_at.unfailed h.store_at.single;
+    single = λ m. faults_once failed v.stop stop h.store.faults new_there m (h.store_at.single m);
   }))
 
-  pub passed_covered : (j : List Entry) → IsCoveredIn k j v → IsCoveredIn k j (passed_view stop states state shortages v n)
+  pub passed_covered : (j : List Entry) → IsCoveredIn k j v → IsCoveredIn k j (passed_view failed stop states state shortages v n)
   passed_covered j covered = subst (IsCoveredIn k j) is_passed
       (λ s has. subst (IsCovered k j) (sym (one_part s passed has)) (same_covered k j h.store passed refl refl (covered h.store (store_there k history asked v h))))
 
@@ -230,37 +253,40 @@ module _ (k : Start) (history : List Entry) (asked : Option (ℕ × Op)) (v : Vi
   abbrev newest : Stretch
   newest = record { states = h.store.state ∷ (states ++ state ∷ []); from = h.store.mark; to = n }
 
-  pub passed_stamped : (x : Cells) → IsStampedIn v.store x ⊎ (Has x states ⊎ (x ≡ state)) → IsStampedIn (passed_view stop states state shortages v n).store x
+  pub passed_stamped : (x : Cells) → IsStampedIn v.store x ⊎ (Has x states ⊎ (x ≡ state)) → IsStampedIn (passed_view failed stop states state shortages v n).store x
   passed_stamped x is = subst (λ (w : View). IsStampedIn w.store x) is_passed (⊎_elim
       (λ (old : IsStampedIn v.store x). stays_stamped h.store passed x (inr (newest, inl refl, inl refl)) (λ y a. inr a) (subst (λ (ss : List (Unit {0} × StorePart)). IsStampedIn ss x) h.has_store old))
       (λ (new : Has x states ⊎ (x ≡ state)). ⊎_elim (λ a. inr (newest, inl refl, inr (append_has x states (state ∷ []) (inl a)))) inl new) is)
 
-  pub passed_more : passed_in (passed_view stop states state shortages v n) ≡ passed_in v + length states
+  pub passed_more : passed_in (passed_view failed stop states state shortages v n) ≡ passed_in v + length states
   passed_more =
       ap passed_in (sym is_passed)
       ∙ (let l = length-append states (state ∷ []) in let w : ℕ = weigh (λ (x : Stretch). length x.states - 2) h.store.past in omega (arith, l))
       ∙ ap (λ (m : ℕ). m + length states) (sym (ap (in_store 0 (λ s. weigh (λ x. length x.states - 2) s.past)) h.has_store))
 
+  pub passed_faults : faults_in (passed_view failed stop states state shortages v n) ≡ faults_met failed v.stop stop ++ faults_in v
+  passed_faults = ap faults_in (sym is_passed) ∙ ap (λ (fs : List ℕ). faults_met failed v.stop stop ++ fs) (sym faults_there)
+
 -- The hand may say so, where what a crash leaves is explained.
-module _ (keeps : KeepsTrees) (law : ExplainedShow) (k : Start) (history : List Entry) (asked : Option (ℕ × Op)) (v : View) (stop : Option ℕ) (states : List Cells) (state : Cells) (shortages : List Shortage)
-    (m : MayPass k history asked states state v) (kept : (n : ℕ) → v.stop ≡ Some n → stop ≡ Some n) where
+module _ (keeps : KeepsTrees) (law : ExplainedShow) (k : Start) (history : List Entry) (asked : Option (ℕ × Op)) (v : View) (failed stop : Option ℕ) (states : List Cells) (state : Cells) (shortages : List Shortage)
+    (m : MayPass k history asked states state v) (new : AreNewFaults failed v.stop stop (faults_in v)) where
   abbrev h : HasSession k history asked v
   h = m.session
 
   abbrev t0 : ℕ → StorePart
-  t0 = passed k history asked v h stop states state shortages kept
+  t0 = passed k history asked v h failed stop states state shortages new
 
   abbrev with_store : ℕ → View
-  with_store = with_passed k history asked v h stop states state shortages kept
+  with_store = with_passed k history asked v h failed stop states state shortages new
 
-  is : (n : ℕ) → with_store n ≡ passed_view stop states state shortages v n
-  is = is_passed k history asked v h stop states state shortages kept
+  is : (n : ℕ) → with_store n ≡ passed_view failed stop states state shortages v n
+  is = is_passed k history asked v h failed stop states state shortages new
 
   answers : (n : ℕ) → AreAnswers v (with_store n) h.store (t0 n)
   answers n = record {
-    single = λ one. faults_once v.stop stop h.store.faults h.store_at.unfailed one;
-    faults = λ m. let a = times_append m (fault_met v.stop stop) v.faults in let b = times_append m (fault_met v.stop stop) h.store.faults in omega (arith, a, b);
-    stopped = λ m e. kept m (sym h.store_at.stop ∙ e);
+    single = λ one m. faults_once failed v.stop stop h.store.faults (new_there k history asked v h failed stop states state shortages new n) m (one m);
+    faults = λ m. let a = times_append m (faults_met failed v.stop stop) v.faults in let b = times_append m (faults_met failed v.stop stop) h.store.faults in omega (arith, a, b);
+    stopped = λ m e. new.kept m (sym h.store_at.stop ∙ e);
     stops = λ m e. inr e;
     short = λ x a. append_has x shortages h.store.shortages (inr a);
     shortages = λ x a. ⊎_elim (λ l. inr (append_has x shortages h.store.shortages (inl l))) inl (has_append x shortages v.shortages a);
@@ -298,11 +324,11 @@ module _ (keeps : KeepsTrees) (law : ExplainedShow) (k : Start) (history : List 
         late : (n : ℕ) (g : List Entry) → IsBeginningKnown k v n n g → length history ≤ n
         late n g b = let t = known_tickets k history asked v h n n g b in omega arith
 
-  passes : (n : ℕ) → MayRemake by_images k n v (passed_view stop states state shortages v n)
-  passes n = subst (MayRemake by_images k n v) (is n) (store_remakes by_images k n v h.store (t0 n) (fault_met v.stop stop ++ v.faults) stop (shortages ++ v.shortages) h.has_store refl (passes_here n))
+  passes : (n : ℕ) → MayRemake by_images k n v (passed_view failed stop states state shortages v n)
+  passes n = subst (MayRemake by_images k n v) (is n) (store_remakes by_images k n v h.store (t0 n) (faults_met failed v.stop stop ++ v.faults) stop (shortages ++ v.shortages) h.has_store refl (passes_here n))
 
-  pub may_pass : IsEvent k v (passed_view stop states state shortages v)
+  pub may_pass : IsEvent k v (passed_view failed stop states state shortages v)
   may_pass = inr (inr passes)
 
-  pub state_passed : (n : ℕ) → state_in (passed_view stop states state shortages v n) ≡ state
+  pub state_passed : (n : ℕ) → state_in (passed_view failed stop states state shortages v n) ≡ state
   state_passed n = ap state_in (sym (is n))

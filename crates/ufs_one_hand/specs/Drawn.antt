@@ -47,20 +47,26 @@ abbrev pub fault_met : Option ℕ → Option ℕ → List ℕ
 fault_met None (Some fault) = fault ∷ []
 fault_met _ _ = []
 
-abbrev pub store_passed : ℕ → Option ℕ → List Cells → Cells → List Shortage → Option ℕ → StorePart → StorePart
-store_passed tickets stop states state shortages before s = record (turned tickets (states ++ state ∷ []) s) {
+-- the calls that failed: a read at which the store didn't stop, and the call at which it did
+abbrev pub faults_met : Option ℕ → Option ℕ → Option ℕ → List ℕ
+faults_met None before stop = fault_met before stop
+faults_met (Some fault) before stop = fault ∷ fault_met before stop
+
+abbrev pub store_passed : ℕ → Option ℕ → Option ℕ → List Cells → Cells → List Shortage → Option ℕ → StorePart → StorePart
+store_passed tickets failed stop states state shortages before s = record (turned tickets (states ++ state ∷ []) s) {
   state = state;
-  faults = fault_met before stop ++ s.faults;
+  faults = faults_met failed before stop ++ s.faults;
   shortages = shortages ++ s.shortages;
   stop = stop;
 }
 
--- It passed these states, and is in this one now, the store has stopped there, or hasn't; and blocks were short so.
-abbrev pub passed_view : Option ℕ → List Cells → Cells → List Shortage → View → ℕ → View
-passed_view stop states state shortages v tickets = record v {
-  store = each (λ _ s. store_passed tickets stop states state shortages v.stop s) v.store;
+-- A read failed, or none did. The disk passed these states, and is in this one now; the store has stopped there, or hasn't;
+-- and blocks were short so.
+abbrev pub passed_view : Option ℕ → Option ℕ → List Cells → Cells → List Shortage → View → ℕ → View
+passed_view failed stop states state shortages v tickets = record v {
+  store = each (λ _ s. store_passed tickets failed stop states state shortages v.stop s) v.store;
   seen = tickets;
-  faults = fault_met v.stop stop ++ v.faults;
+  faults = faults_met failed v.stop stop ++ v.faults;
   stop = stop;
   shortages = shortages ++ v.shortages;
 }

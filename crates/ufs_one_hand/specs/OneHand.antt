@@ -86,8 +86,7 @@ pub record IsStoreAt (stopped : Option ℕ) (p : StorePart) : Type 0 where
   pub dirs : p.dirs ≡ []
   pub unassigned : p.unassigned ≡ []
   pub stop : p.stop ≡ stopped
-  -- one call of the disk fails at most: the store stops at it
-  pub unfailed : stopped ≡ None → p.faults ≡ []
+  -- no two calls of the disk fail by one number
   pub single : (n : ℕ) → times n p.faults ≤ 1
 
 -- ---- the whole
@@ -128,6 +127,10 @@ state_in v = in_store [] (λ s. s.state) v.store
 
 abbrev pub stamp_in : View → ℕ
 stamp_in v = in_store 0 (λ s. s.mark) v.store
+
+-- the numbers of the disk's calls that failed
+abbrev pub faults_in : View → List ℕ
+faults_in v = in_store [] (λ s. s.faults) v.store
 
 -- the hand has stamped the disk in this state: it is that of the last stamp, or one on the way between two
 abbrev pub IsStampedIn : List (Unit {0} × StorePart) → Cells → Type 0

@@ -7,8 +7,8 @@ ghost use Rattle.ufs_sound.specs.Draws.{entry_of, left_faults};
 ghost use Rattle.ufs_sound.specs.Owned.{Has, times};
 ghost use Rattle.ufs_sound.specs.Parts.{Cells};
 ghost use Rattle.ufs_hand.specs.Session.{IsEvent, KnowsAll};
-ghost use Rattle.ufs_one_hand.specs.Drawn.{IsAcknowledged, IsAnswer, IsExplainedAtStamps, IsReplyAlike, MayPass, asked_view, fault_met, told_as};
-ghost use Rattle.ufs_one_hand.specs.OneHand.{HasSession, IsCoveredIn, IsStampedIn, IsStart, KnowsSynced, StartsCanBegin, passed_in, stamp_in, state_in};
+ghost use Rattle.ufs_one_hand.specs.Drawn.{IsAcknowledged, IsAnswer, IsExplainedAtStamps, IsReplyAlike, MayPass, asked_view, fault_met, faults_met, told_as};
+ghost use Rattle.ufs_one_hand.specs.OneHand.{HasSession, IsCoveredIn, IsStampedIn, IsStart, KnowsSynced, StartsCanBegin, faults_in, passed_in, stamp_in, state_in};
 ghost use Rattle.ufs_sound.specs.Covers.{step_in};
 ghost use Rattle.ufs_sound.specs.Visible.{IsDiskVisible};
 
@@ -85,6 +85,7 @@ impl<N: Naming> OneHand<N> {
         ensures passed { passed_in result ≡ 0 }
         ensures state { state_in result ≡ state_in N.start.view }
         ensures faults { result.faults ≡ [] }
+        ensures answered { faults_in result ≡ [] }
         ensures shortages { result.shortages ≡ [] }
     {
         a_disk_with_files_can_be_opened();
@@ -104,6 +105,7 @@ impl<N: Naming> OneHand<N> {
         ensures stop { self.new.stop ≡ self.old.stop }
         ensures state { state_in self.new ≡ state_in self.old }
         ensures faults { self.new.faults ≡ self.old.faults }
+        ensures answered { faults_in self.new ≡ faults_in self.old }
         ensures shortages { self.new.shortages ≡ self.old.shortages }
     {
         self.ask_as::<Brand>(client, op);
@@ -134,24 +136,30 @@ impl<N: Naming> OneHand<N> {
         ensures stop { self.new.stop ≡ self.old.stop }
         ensures state { state_in self.new ≡ state_in self.old }
         ensures faults { self.new.faults ≡ self.old.faults }
+        ensures answered { faults_in self.new ≡ faults_in self.old }
         ensures shortages { self.new.shortages ≡ self.old.shortages }
     {
         self.hand.mark::<Brand>(&self.table);
     }
 
     /// The disk was called for a request: it passed the states that the caller picks, and is in that one, all of which the
-    /// history explains; and a call that failed has stopped the store.
+    /// history explains; a call that failed has stopped the store, but for a read, of which the hand has the number.
     pub fn pass<P: Passing>(&mut self)
         requires session { (history : List Entry) × (asked : Option (ℕ × Op)) × MayPass N.start history asked P.states P.state self.old }
         requires stop { (n : ℕ) → self.old.stop ≡ Some n → P.stop ≡ Some n }
+        requires stopped { (n : ℕ) → self.old.stop ≡ None → P.stop ≡ Some n → times n (faults_in self.old) ≡ 0 }
+        requires failed { (n : ℕ) → P.failed ≡ Some n → times n (faults_in self.old) ≡ 0 }
+        requires apart { (n : ℕ) → P.failed ≡ Some n → times n (fault_met self.old.stop P.stop) ≡ 0 }
         ensures session { (history : List Entry) (asked : Option (ℕ × Op)) → HasSession N.start history asked self.old → HasSession N.start history asked self.new }
         ensures covered { (history : List Entry) → IsCoveredIn N.start history self.old → IsCoveredIn N.start history self.new }
         ensures stamped { (x : Cells) → IsStampedIn self.old.store x ⊎ (Has x P.states ⊎ (x ≡ P.state)) → IsStampedIn self.new.store x }
         ensures passed { passed_in self.new ≡ passed_in self.old + length P.states }
         ensures stop { self.new.stop ≡ P.stop }
         ensures state { state_in self.new ≡ P.state }
-        ensures faults { self.new.faults ≡ fault_met self.old.stop P.stop ++ self.old.faults }
+        ensures faults { self.new.faults ≡ faults_met P.failed self.old.stop P.stop ++ self.old.faults }
         ensures fault { (n : ℕ) → self.old.stop ≡ None → P.stop ≡ Some n → 1 ≤ times n self.new.faults }
+        ensures failed { (n : ℕ) → P.failed ≡ Some n → 1 ≤ times n self.new.faults }
+        ensures answered { faults_in self.new ≡ faults_met P.failed self.old.stop P.stop ++ faults_in self.old }
         ensures shortages { self.new.shortages ≡ P.shortages ++ self.old.shortages }
     {
         a_request_keeps_the_tree();
@@ -170,6 +178,7 @@ impl<N: Naming> OneHand<N> {
         ensures stop { self.new.stop ≡ self.old.stop }
         ensures state { state_in self.new ≡ state_in self.old }
         ensures faults { self.new.faults ≡ self.old.faults }
+        ensures answered { faults_in self.new ≡ faults_in self.old }
         ensures shortages { self.new.shortages ≡ self.old.shortages }
     {
         a_request_keeps_the_tree();
@@ -203,6 +212,7 @@ impl<N: Naming> OneHand<N> {
         ensures state { state_in self.new ≡ state_in self.old }
         ensures store { self.new.store ≡ self.old.store }
         ensures faults { self.new.faults ≡ left_faults fresh.now.reply self.old.faults }
+        ensures answered { faults_in self.new ≡ faults_in self.old }
         ensures shortages { self.new.shortages ≡ [] }
     {
         a_request_is_local();

@@ -6,6 +6,9 @@ pub trait Passing {
     ghost use Rattle.std.specs.Prelude.{ℕ, List, Option};
     ghost use Rattle.ufs_sound.specs.Parts.{Cells, Shortage};
 
+    /// A read that failed, at which the store didn't stop.
+    ghost failed: { Option ℕ };
+
     /// The fault at which the store has stopped.
     ghost stop: { Option ℕ };
 
@@ -21,6 +24,8 @@ pub trait Passing {
 
 impl Passing for Brand {
     ghost use Rattle.std.specs.Prelude.{None, []};
+
+    ghost failed = { None };
 
     ghost stop = { None };
 

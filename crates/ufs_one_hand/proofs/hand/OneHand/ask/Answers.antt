@@ -18,5 +18,6 @@ returns g c = record {
   stop = c.turn.ensures.stop ∙ c.ask_as.ensures.stop;
   state = c.turn.ensures.state ∙ ap (in_store [] (λ s. s.state)) c.ask_as.ensures.store;
   faults = c.turn.ensures.faults ∙ c.ask_as.ensures.faults;
+  answered = c.turn.ensures.answered ∙ ap (in_store [] (λ s. s.faults)) c.ask_as.ensures.store;
   shortages = c.turn.ensures.shortages ∙ c.ask_as.ensures.shortages;
 }

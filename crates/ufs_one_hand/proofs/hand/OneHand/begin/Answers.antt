@@ -1,7 +1,7 @@
 use Rattle.std.proofs.Common.{[], None, ◌∙◌, ap, sym, subst}
 use Rattle.ufs_sound.specs.Parts.{View}
-use Rattle.ufs_one_hand.specs.OneHand.{HasSession, IsCoveredIn, passed_in, stamp_in}
-use Rattle.ufs_one_hand.proofs.Beginning.{start_begun, start_covered, start_passed, start_stamp}
+use Rattle.ufs_one_hand.specs.OneHand.{HasSession, IsCoveredIn, faults_in, passed_in, stamp_in}
+use Rattle.ufs_one_hand.proofs.Beginning.{start_begun, start_covered, start_faults, start_passed, start_stamp}
 use Rattle.ufs_one_hand.proofs.hand.OneHand.begin.Goals as goal
 
 pub returns-clause-session : goal.returns-clause-session
@@ -17,3 +17,6 @@ returns-clause-fresh g c = ap stamp_in c.named-table.ensures ∙ start_stamp g.N
 
 pub returns-clause-passed : goal.returns-clause-passed
 returns-clause-passed g c = ap passed_in c.named-table.ensures ∙ start_passed g.N.Naming.start c.requires.start
+
+pub returns-clause-answered : goal.returns-clause-answered
+returns-clause-answered g c = ap faults_in c.named-table.ensures ∙ start_faults g.N.Naming.start c.requires.start

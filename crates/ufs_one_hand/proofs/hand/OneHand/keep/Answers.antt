@@ -2,8 +2,8 @@ use Rattle.std.proofs.Common.{◌≡◌, ◌∙◌, ◌++◌, ◌∷◌, [], Som
 use Rattle.ufs_sound.specs.Covers.{step_in}
 use Rattle.ufs_sound.specs.Parts.{View}
 use Rattle.ufs_hand.specs.Session.{IsEvent}
-use Rattle.ufs_one_hand.specs.OneHand.{HasSession, IsCoveredIn, IsStampedIn, KnowsSynced, passed_in, state_in}
-use Rattle.ufs_one_hand.proofs.Keeping.{all_covered, all_session, all_stamped, first_learned, knows, last_learned, next_learned, same_passed, same_rest}
+use Rattle.ufs_one_hand.specs.OneHand.{HasSession, IsCoveredIn, IsStampedIn, KnowsSynced, faults_in, passed_in, state_in}
+use Rattle.ufs_one_hand.proofs.Keeping.{all_covered, all_session, all_stamped, first_learned, knows, last_learned, next_learned, same_faults, same_passed, same_rest}
 use Rattle.ufs_one_hand.proofs.Kept.{births_kept, files_kept, names_kept}
 use Rattle.ufs_one_hand.proofs.hand.OneHand.keep.Goals as goal
 
@@ -56,5 +56,6 @@ returns g c =
       stop = ap (λ (v : View). v.stop) is;
       state = ap state_in is ∙ same_rest k s.0 t e v s.1 law.names law.births one.0 two.0 three.0;
       faults = ap (λ (v : View). v.faults) is;
+      answered = ap faults_in is ∙ same_faults k s.0 t e v s.1 law.names law.births one.0 two.0 three.0;
       shortages = ap (λ (v : View). v.shortages) is;
     }

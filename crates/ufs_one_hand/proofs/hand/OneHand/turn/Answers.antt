@@ -4,8 +4,8 @@ use Rattle.ufs_sound.specs.Parts.{View}
 use Rattle.ufs_sound.specs.Rule.{KnowsTickets, clock_step}
 use Rattle.ufs_hand.specs.Session.{IsEvent}
 use Rattle.ufs_one_hand.specs.Drawn.{turned_view}
-use Rattle.ufs_one_hand.specs.OneHand.{HasSession, IsCoveredIn, IsStampedIn, passed_in, stamp_in, state_in}
-use Rattle.ufs_one_hand.proofs.Passage.{may_turn, turned_covered, turned_passed, turned_session, turned_stamp, turned_stamped, turned_state}
+use Rattle.ufs_one_hand.specs.OneHand.{HasSession, IsCoveredIn, IsStampedIn, faults_in, passed_in, stamp_in, state_in}
+use Rattle.ufs_one_hand.proofs.Passage.{may_turn, turned_covered, turned_faults, turned_passed, turned_session, turned_stamp, turned_stamped, turned_state}
 use Rattle.ufs_one_hand.proofs.Tickets.{tickets_are}
 use Rattle.ufs_one_hand.proofs.hand.OneHand.turn.Goals as goal
 
@@ -29,5 +29,6 @@ returns g c =
       stop = ap (λ (v : View). v.stop) is;
       state = ap state_in is ∙ turned_state k s.0 s.1 c.args.self.now s.2 n;
       faults = ap (λ (v : View). v.faults) is;
+      answered = ap faults_in is ∙ turned_faults k s.0 s.1 c.args.self.now s.2 n;
       shortages = ap (λ (v : View). v.shortages) is;
     }
