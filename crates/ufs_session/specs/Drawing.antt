@@ -13,7 +13,7 @@ use Rattle.ufs_prefix.specs.Changes.{asks_commit}
 use Rattle.ufs_prefix.specs.Steps.{is_ok}
 use Rattle.ufs_server.specs.Answered.{device_in, stopped_in}
 use Rattle.ufs_disk.specs.Moments.{all}
-use Rattle.ufs_one_hand.specs.OneHand.{IsStampedIn, passed_in}
+use Rattle.ufs_one_hand.specs.OneHand.{IsStampedIn, faults_in, passed_in}
 use Rattle.ufs_sound.specs.Owned.{Has}
 use Rattle.ufs_sound.specs.Parts.{Cells, Shortage, Start, View}
 use Rattle.ufs_sound.specs.Shown.{ExplainsImages}
@@ -37,6 +37,10 @@ pub record StopsBy (old new : Option ℕ) (reply : Reply) : Type 0 where
   pub kept : (fault : ℕ) → old ≡ Some fault → new ≡ Some fault
   pub device : (fault : ℕ) → device_in reply ≡ Some fault → (old ≡ None) × (new ≡ Some fault)
   pub stopped : (fault : ℕ) → stopped_in reply ≡ Some fault → old ≡ Some fault
+
+-- Where the store hasn't stopped, no call of the disk failed.
+abbrev pub IsUnfailed : View → Type 0
+IsUnfailed v = v.stop ≡ None → faults_in v ≡ []
 
 -- the blocks that were short, where a reply tells so
 abbrev pub short_in : Reply → List Shortage

@@ -17,7 +17,7 @@ ghost use Rattle.ufs_stored.specs.OnDisk.{IsExplainedBetween, IsOnDisk};
 ghost use Rattle.ufs_stored.specs.Sound.{IsSoundServer};
 ghost use Rattle.ufs_stored.specs.Stored.{ArePartsOf};
 ghost use Rattle.ufs_one_hand.specs.OneHand.{HasSession, IsCoveredIn, IsStart, state_in};
-ghost use Rattle.ufs_session.specs.Drawing.{SeesDisk, Stamps, disk_state};
+ghost use Rattle.ufs_session.specs.Drawing.{IsUnfailed, SeesDisk, Stamps, disk_state};
 ghost use Rattle.ufs_session.specs.Told.{AreFaultsTold};
 ghost use Rattle.ufs_session.specs.Played.{IsPlayedFrom, MayBegin};
 ghost use Rattle.ufs_session.specs.Served.{AreServed};
@@ -107,6 +107,7 @@ fn serve_client<N: Naming, D: Door, F: Since>(
     requires stamps { Stamps N.start D.keeps F.count (D.store door.old) hand.old }
     requires stop { hand.old.stop ≡ (D.store door.old).stop }
     requires state { state_in hand.old ≡ disk_state (D.store door.old) }
+    requires unfailed { IsUnfailed hand.old }
     requires faults { (begun : StoreState) × AreFaultsTold begun (D.store door.old) (joined earlier.now.items) }
     requires sound { IsSoundServer (geometry_of_store (D.store door.old)) (D.store door.old).unassigned.free server.old }
     requires none { told.old.items ≡ [] }
@@ -125,6 +126,7 @@ fn serve_client<N: Naming, D: Door, F: Since>(
     ensures stamps { Stamps N.start D.keeps F.count (D.store door.new) hand.new }
     ensures stop { hand.new.stop ≡ (D.store door.new).stop }
     ensures state { state_in hand.new ≡ disk_state (D.store door.new) }
+    ensures unfailed { IsUnfailed hand.new }
     ensures geometry { geometry_of_store (D.store door.new) ≡ geometry_of_store (D.store door.old) }
     ensures sectors { (D.store door.new).sectors ≡ (D.store door.old).sectors }
 {
@@ -163,6 +165,7 @@ fn serve_clients<N: Naming, D: Door, F: Since>(
     requires stamps { Stamps N.start D.keeps F.count (D.store door.old) hand.old }
     requires stop { hand.old.stop ≡ (D.store door.old).stop }
     requires state { state_in hand.old ≡ disk_state (D.store door.old) }
+    requires unfailed { IsUnfailed hand.old }
     requires sound { IsSoundServer (geometry_of_store (D.store door.old)) (D.store door.old).unassigned.free server.old }
     requires none { told.old.items ≡ [] }
     ensures served { AreServed D.visible D.keeps (D.store door.old) (D.store door.new) server.old server.new clients told.new.items result }
@@ -171,6 +174,7 @@ fn serve_clients<N: Naming, D: Door, F: Since>(
     ensures stamps { Stamps N.start D.keeps F.count (D.store door.new) hand.new }
     ensures stop { hand.new.stop ≡ (D.store door.new).stop }
     ensures state { state_in hand.new ≡ disk_state (D.store door.new) }
+    ensures unfailed { IsUnfailed hand.new }
 {
     let geometry = door.geometry();
     always_law(&geometry);

@@ -6,6 +6,7 @@ use Rattle.ufs_one_hand.specs.OneHand.{HasSession, IsCoveredIn, IsStampedIn, Kno
 use Rattle.ufs_one_hand.proofs.Showing.{covered_in_push}
 use Rattle.ufs_sound.specs.Covers.{step_in}
 use Rattle.ufs_sound.specs.Parts.{View}
+use Rattle.ufs_session.specs.Drawing.{IsUnfailed}
 use Rattle.ufs_session.proofs.DrawingLemmas.{is_acked, no_ack}
 use Rattle.ufs_session.proofs.drawing.draw.Goals as goal
 use Rattle.ufs_session.proofs.drawing.draw.Goals.{then-is_acknowledged, else-is_acknowledged}
@@ -77,3 +78,10 @@ returns-clause-passed g c =
       | then-is_acknowledged w ↦ ap passed_in w.hand-is ∙ w.keep.ensures.passed ∙ c.pass.ensures.passed
       | else-is_acknowledged w ↦ ap passed_in w.hand-is ∙ c.pass.ensures.passed
     ]
+
+pub returns-clause-unfailed : goal.returns-clause-unfailed
+returns-clause-unfailed g c =
+    c.draw_entry.ensures.unfailed (elim c.if-is_acknowledged.branch [
+      | then-is_acknowledged w ↦ subst IsUnfailed (sym w.hand-is) (w.keep.ensures.unfailed c.pass.ensures.unfailed)
+      | else-is_acknowledged w ↦ subst IsUnfailed (sym w.hand-is) c.pass.ensures.unfailed
+    ])

@@ -1,10 +1,11 @@
-use Rattle.std.proofs.Common.{◌+◌, ◌++◌, List, length, sym, refl, ap, ◌∙◌, subst, inl, inr, ⊎_elim, arith}
+use Rattle.std.proofs.Common.{◌≡◌, ◌+◌, ◌++◌, List, length, None, Some, sym, refl, ap, ◌∙◌, subst, inl, inr, ⊎_elim, arith}
 use Rattle.ufs_server.specs.Answered.{device_in, stopped_in}
 use Rattle.ufs_session.specs.Drawing.{short_in}
-use Rattle.ufs_sound.specs.Owned.{Has}
+use Rattle.ufs_sound.specs.Owned.{Has, times}
 use Rattle.ufs_sound.specs.Parts.{Cells, Shortage}
 use Rattle.ufs_one_hand.specs.Drawn.{MayPass}
-use Rattle.ufs_one_hand.specs.OneHand.{passed_in}
+use Rattle.ufs_one_hand.specs.OneHand.{faults_in, passed_in}
+use Rattle.ufs_session.proofs.DrawingLemmas.{still_unfailed}
 use Rattle.ufs_session.proofs.drawing.pass.Goals as goal
 
 pub pass-requires-clause-session : goal.pass-requires-clause-session
@@ -26,3 +27,16 @@ returns-clause-causes g c = record {
       let short : Shortage = record { need = need; had = had; pool = 0 } in
       (short, subst (Has short) (sym (c.pass.ensures.shortages ∙ ap (λ (s : List Shortage). s ++ c.args.hand.now.shortages) (c.requires.short ∙ ap short_in is))) (inl refl), omega arith);
 }
+
+pub pass-requires-clause-stopped : goal.pass-requires-clause-stopped
+pass-requires-clause-stopped g c = λ n going stops. ap (times n) (c.requires.unfailed going)
+
+pub pass-requires-clause-failed : goal.pass-requires-clause-failed
+pass-requires-clause-failed g c = λ n is. let no : None ≡ Some n = sym c.requires.failed ∙ is in cc
+
+pub pass-requires-clause-apart : goal.pass-requires-clause-apart
+pass-requires-clause-apart g c = λ n is. let no : None ≡ Some n = sym c.requires.failed ∙ is in cc
+
+pub returns-clause-unfailed : goal.returns-clause-unfailed
+returns-clause-unfailed g c = λ none.
+    still_unfailed g.P.Passing.failed c.args.hand.now.stop g.P.Passing.stop (faults_in c.args.hand.now) (faults_in c.pass.new.self) c.requires.failed (λ n is. c.requires.stop ∙ c.requires.stops.kept n is) c.requires.unfailed c.pass.ensures.answered (sym c.pass.ensures.stop ∙ none)

@@ -39,6 +39,7 @@ loop-op-init g c =
       stamps = c.requires.stamps;
       stop = c.requires.stop;
       state = c.requires.state;
+      unfailed = c.requires.unfailed;
       faults = subst (AreFaultsTold s s) (sym c.requires.none) (none_told s);
       sound = c.requires.sound;
       geometry = refl;
@@ -160,6 +161,9 @@ draw-entry-requires-clause-stops g c =
     subst (λ (o : Option ℕ). StopsBy o (g.D.Door.store c.serve_one-applied.new.door).stop c.serve_one-applied.result.entry.reply) (sym (c.ask.ensures.stop ∙ c.loop-op.invariant.stop))
     (stops_by (g.D.Door.store c.loop-op.door) (g.D.Door.store c.serve_one-applied.new.door) c.serve_one-applied.result.entry.reply a.still a.told a.stopped)
 
+pub draw-entry-requires-clause-unfailed : goal.draw-entry-requires-clause-unfailed
+draw-entry-requires-clause-unfailed g c = λ none. c.ask.ensures.answered ∙ c.loop-op.invariant.unfailed (sym c.ask.ensures.stop ∙ none)
+
 pub draw-entry-requires-clause-fresh : goal.draw-entry-requires-clause-fresh
 draw-entry-requires-clause-fresh g c =
     let before = joined c.args.earlier.now.items in
@@ -228,6 +232,7 @@ loop-op-preserved g c =
           (a.during there.0 start (before ++ told) (l.invariant.on_disk there.0 start c.requires.ready there.1)) c.ask.ensures.passed c.ask.ensures.stamped c.draw-entry.ensures.passed c.draw-entry.ensures.stamped;
       stop = c.draw-entry.ensures.stop;
       state = c.draw-entry.ensures.state;
+      unfailed = c.draw-entry.ensures.unfailed;
       faults = subst (AreFaultsTold first next) (sym pushed) (more g at);
       sound = a.sound;
       geometry = a.geometry ∙ l.invariant.geometry;

@@ -6,7 +6,7 @@ use Rattle.ufs_one_hand.specs.OneHand.{HasSession, IsCoveredIn, state_in}
 use Rattle.ufs_store.specs.State.{geometry_of_store}
 use Rattle.ufs_stored.specs.OnDisk.{IsOnDisk}
 use Rattle.ufs_stored.specs.Sound.{IsSoundServer}
-use Rattle.ufs_session.specs.Drawing.{Stamps, disk_state}
+use Rattle.ufs_session.specs.Drawing.{IsUnfailed, Stamps, disk_state}
 use Rattle.ufs_session.specs.Serving.{IsReady}
 use Rattle.ufs_session.specs.Throughout.{IsExplainedThroughout}
 use Rattle.ufs_session.specs.Told.{AreFaultsTold}
@@ -28,6 +28,7 @@ invariant-loop-op g l =
       stamps : Stamps g.N.Naming.start g.D.Door.keeps g.F.Since.count now l.hand;
       stop : l.hand.stop ≡ now.stop;
       state : state_in l.hand ≡ disk_state now;
+      unfailed : IsUnfailed l.hand;
       faults : AreFaultsTold first now l.told.items;
       sound : IsSoundServer (geometry_of_store now) now.unassigned.free l.server;
       geometry : geometry_of_store now ≡ geometry_of_store first;

@@ -37,6 +37,7 @@ loop-requests-init g c =
       stamps = c.requires.stamps;
       stop = c.requires.stop;
       state = c.requires.state;
+      unfailed = c.requires.unfailed;
     }
 
 -- ---- where no room is left
@@ -173,6 +174,7 @@ loop-requests-preserved g c =
       stamps = s.ensures.stamps;
       stop = s.ensures.stop;
       state = s.ensures.state;
+      unfailed = s.ensures.unfailed;
     }
 
 pub overflow_add-first : goal.overflow_add-first

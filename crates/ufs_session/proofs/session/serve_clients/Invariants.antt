@@ -2,7 +2,7 @@ use Rattle.std.proofs.Common.{◌≡◌, None}
 use Rattle.ufs_model.specs.History.{joined}
 use Rattle.ufs_model.specs.PosixTree.{PosixTree}
 use Rattle.ufs_one_hand.specs.OneHand.{HasSession, IsCoveredIn, state_in}
-use Rattle.ufs_session.specs.Drawing.{Stamps, disk_state}
+use Rattle.ufs_session.specs.Drawing.{IsUnfailed, Stamps, disk_state}
 use Rattle.ufs_session.specs.Played.{MayBegin}
 use Rattle.ufs_session.specs.Served.{GoesAlong}
 use Rattle.ufs_session.proofs.ClientsLemmas.{AreServing}
@@ -20,4 +20,5 @@ invariant-loop-requests g l =
       stamps : Stamps g.N.Naming.start g.D.Door.keeps g.F.Since.count now l.hand;
       stop : l.hand.stop ≡ now.stop;
       state : state_in l.hand ≡ disk_state now;
+      unfailed : IsUnfailed l.hand;
     }

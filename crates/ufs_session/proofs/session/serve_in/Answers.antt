@@ -53,3 +53,6 @@ returns-clause-stamped g c sees keeps x has =
     let stamps = s.ensures.stamps sees keeps in
     subst (λ (lists : List (List Entry)). IsExplainedAtStamps g.N.Naming.start.tree (joined lists) x) (sym c.from_vec.ensures)
     (c.close-drawn.ensures.explained sees _ s.ensures.session x (stamps.stamped x (subst (λ (n : ℕ). Has x (map (cells_of later.sectors) (drop n (all later.moments)))) (sym c.requires.since) has)))
+
+pub stamp_disk-requires-clause-unfailed : goal.stamp_disk-requires-clause-unfailed
+stamp_disk-requires-clause-unfailed g c = λ none. c.begin-hand.ensures.answered
