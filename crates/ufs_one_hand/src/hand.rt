@@ -164,7 +164,8 @@ impl<N: Naming> OneHand<N> {
     {
         a_request_keeps_the_tree();
         explained_images_show();
-        self.hand.mark::<Brand>(&self.table);
+        let table = &self.table;
+        self.hand.mark::<Brand>(table);
     }
 
     /// What the entry acknowledges is committed, as the disk shows: the hand knows so.

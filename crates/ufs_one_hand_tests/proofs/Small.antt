@@ -1,5 +1,5 @@
 -- Each step of the small session may be taken.
-use Rattle.std.proofs.Common.{◌≡◌, ℕ, ◌<◌, ◌≤◌, true, false, List, [], ◌∷◌, length, Some, None, sym, refl, ap, ◌∙◌, subst, inl, inr, arith}
+use Rattle.std.proofs.Common.{◌≡◌, ℕ, ◌<◌, ◌≤◌, true, false, List, [], ◌∷◌, ◌++◌, length, Option, Some, None, sym, refl, ap, ◌∙◌, subst, inl, inr, arith}
 use Rattle.std.specs.FinMap as fin
 use Rattle.std.specs.Ordering.{nat_cmp}
 use Rattle.ufs_base.specs.declared.limits.TheConstants.{MAX_CLIENTS}
@@ -12,7 +12,7 @@ use Rattle.ufs_model.specs.declared.data.Excuse.TheVariants.{Memory, Device}
 use Rattle.ufs_model.specs.declared.data.Op.TheVariants.{Sync}
 use Rattle.ufs_model.specs.declared.data.Reply.TheVariants.{Done, Excused}
 use Rattle.ufs_model.proofs.Facts.Starts.{root_is_tree, start_of-root}
-use Rattle.ufs_one_hand.specs.Drawn.{HasCauses, IsAcknowledged, IsAnswer, MayPass}
+use Rattle.ufs_one_hand.specs.Drawn.{HasCauses, IsAcknowledged, IsAnswer, MayPass, faults_met}
 use Rattle.ufs_one_hand.specs.OneHand.{HasSession, IsCoveredIn, IsStart, KnowsSynced, stamp_in}
 use Rattle.ufs_prefix.specs.Changes.{asks_commit, file_synced, name_changes}
 use Rattle.ufs_sound.specs.Covers.{step_in}
@@ -21,7 +21,7 @@ use Rattle.ufs_sound.specs.Owned.{Has, times}
 use Rattle.ufs_sound.specs.Parts.{Cells, Start, View}
 use Rattle.ufs_sound.specs.Visible.{IsDiskVisible}
 use Rattle.ufs_sound.specs.declared.fresh.Fresh.{Fresh}
-use Rattle.ufs_one_hand_tests.specs.Small.{bare, done_sync, excused_sync, failed_sync}
+use Rattle.ufs_one_hand_tests.specs.Small.{bare, done_sync, excused_sync, failed_sync, unread_sync}
 
 pub starts : IsStart bare
 starts = record {
@@ -81,7 +81,7 @@ device_causes v fault met = record {
   short = λ need had e. absurd cc;
 }
 
--- ---- the three answers
+-- ---- the four answers
 
 pub excused_answers : (k : Start) (v : View) → HasSession k [] (Some (0, Sync)) v → IsAnswer k [] k.tree excused_sync fin.empty v
 excused_answers k v h = answers k [] excused_sync v h refl refl (omega arith) refl (inr (record { due = λ e. refl; told = tt })) (λ e asks. absurd cc) (memory_causes v)
@@ -103,10 +103,26 @@ module _ (k : Start) (first : ℕ) (v : View) (h : HasSession k (entry_of first 
   pub done_answers : KnowsSynced (step_in k.tree (entry_of 1 done_sync)) v → IsAnswer k (entry_of first excused_sync ∷ []) k.tree done_sync fin.empty v
   done_answers known = answers k (entry_of first excused_sync ∷ []) done_sync v h refl refl (omega arith) refl (inl refl) (λ e asks. record { files = known.files; born = known.born; names = known.names }) (done_causes v)
 
-module _ (k : Start) (first second : ℕ) (v : View) (h : HasSession k (entry_of first excused_sync ∷ entry_of second done_sync ∷ []) (Some (0, Sync)) v) where
-  pub failed_may_pass : k ≡ bare → IsCoveredIn k (entry_of first excused_sync ∷ entry_of second done_sync ∷ []) v → stamp_in v ≡ 2 → (cells : Cells)
-      → MayPass k (entry_of first excused_sync ∷ entry_of second done_sync ∷ []) (Some (0, Sync)) [] cells v
+module _ (k : Start) (first second : ℕ) (v : View) (h : HasSession k (entry_of first excused_sync ∷ entry_of second done_sync ∷ []) (Some (1, Sync)) v) where
+  pub unread_may_pass : k ≡ bare → IsCoveredIn k (entry_of first excused_sync ∷ entry_of second done_sync ∷ []) v → stamp_in v ≡ 2 → (cells : Cells)
+      → MayPass k (entry_of first excused_sync ∷ entry_of second done_sync ∷ []) (Some (1, Sync)) [] cells v
+  unread_may_pass is covered fresh cells = record { session = h; fresh = fresh; covered = covered; passed = λ visible. absurd (unseen k is visible); explained = λ visible. absurd (unseen k is visible) }
+
+  pub unread_answers : 1 ≤ times 5 v.faults → IsAnswer k (entry_of first excused_sync ∷ entry_of second done_sync ∷ []) k.tree unread_sync fin.empty v
+  unread_answers met = answers k (entry_of first excused_sync ∷ entry_of second done_sync ∷ []) unread_sync v h refl refl (omega arith) refl (inr (record { due = λ e. refl; told = tt })) (λ e asks. absurd cc) (device_causes v 5 met)
+
+module _ (k : Start) (first second third : ℕ) (v : View) (h : HasSession k (entry_of first excused_sync ∷ entry_of second done_sync ∷ entry_of third unread_sync ∷ []) (Some (0, Sync)) v) where
+  pub failed_may_pass : k ≡ bare → IsCoveredIn k (entry_of first excused_sync ∷ entry_of second done_sync ∷ entry_of third unread_sync ∷ []) v → stamp_in v ≡ 3 → (cells : Cells)
+      → MayPass k (entry_of first excused_sync ∷ entry_of second done_sync ∷ entry_of third unread_sync ∷ []) (Some (0, Sync)) [] cells v
   failed_may_pass is covered fresh cells = record { session = h; fresh = fresh; covered = covered; passed = λ visible. absurd (unseen k is visible); explained = λ visible. absurd (unseen k is visible) }
 
-  pub failed_answers : 1 ≤ times 7 v.faults → IsAnswer k (entry_of first excused_sync ∷ entry_of second done_sync ∷ []) k.tree failed_sync fin.empty v
-  failed_answers met = answers k (entry_of first excused_sync ∷ entry_of second done_sync ∷ []) failed_sync v h refl refl (omega arith) refl (inr (record { due = λ e. refl; told = tt })) (λ e asks. absurd cc) (device_causes v 7 met)
+  pub failed_answers : 1 ≤ times 7 v.faults → IsAnswer k (entry_of first excused_sync ∷ entry_of second done_sync ∷ entry_of third unread_sync ∷ []) k.tree failed_sync fin.empty v
+  failed_answers met = answers k (entry_of first excused_sync ∷ entry_of second done_sync ∷ entry_of third unread_sync ∷ []) failed_sync v h refl refl (omega arith) refl (inr (record { due = λ e. refl; told = tt })) (λ e asks. absurd cc) (device_causes v 7 met)
+
+-- ---- the read's number is another than that of the call at which the store stops
+
+pub read_met : (stop : Option ℕ) (old : List ℕ) → stop ≡ None → old ≡ [] → faults_met (Some 5) stop None ++ old ≡ 5 ∷ []
+read_met stop old going none = λ i. faults_met (Some 5) (going i) None ++ none i
+
+pub another : (n : ℕ) (old : List ℕ) → old ≡ 5 ∷ [] → Some 7 ≡ Some n → times n old ≡ 0
+another n old met is = let same : 7 ≡ n = cc in subst (λ m. times m old ≡ 0) same (ap (times 7) met)

@@ -1,4 +1,4 @@
--- A session that starts from the root alone, and three answers to a `sync`.
+-- A session that starts from the root alone, and four answers to a `sync`.
 use Rattle.std.specs.Prelude.{ℕ}
 use Rattle.ufs_model.specs.Start.{path_root}
 use Rattle.ufs_model.specs.declared.data.Actor.TheVariants.{Primary}
@@ -21,6 +21,9 @@ excused_sync = sync_of 0 0 (Excused Memory)
 
 abbrev pub done_sync : Fresh
 done_sync = sync_of 1 0 Done
+
+abbrev pub unread_sync : Fresh
+unread_sync = sync_of 1 1 (Excused (Device 5))
 
 abbrev pub failed_sync : Fresh
 failed_sync = sync_of 0 1 (Excused (Device 7))

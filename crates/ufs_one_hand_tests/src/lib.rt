@@ -5,3 +5,5 @@
 mod asserts;
 #[cfg(test)]
 mod session;
+#[cfg(test)]
+mod unseen;

@@ -1,4 +1,4 @@
-use Rattle.std.proofs.Common.{[], ◌∷◌, refl}
+use Rattle.std.proofs.Common.{[], ◌∷◌, refl, inl, ◌∙◌}
 use Rattle.ufs_sound.specs.Draws.{entry_of}
 use Rattle.ufs_one_hand_tests.specs.Small.{done_sync, excused_sync}
 use Rattle.ufs_one_hand_tests.proofs.Small.{done_acknowledged, done_answers, still_covered}
@@ -13,6 +13,7 @@ pub draw-requires : goal.draw-requires
 draw-requires g c =
     let acked = done_acknowledged g.N.Naming.start c.args.first c.ask.new.self (c.ask.ensures.session _ c.requires.session) c.requires.start (c.ask.ensures.covered _ c.requires.covered) in record {
       answer = (_, done_answers g.N.Naming.start c.args.first c.keep.new.self (c.keep.ensures.session _ acked) c.keep.ensures.known);
+      alike = record { alike = inl refl; seen = λ visible. refl };
     }
 
 pub returns-clause-ticket : goal.returns-clause-ticket
@@ -30,3 +31,6 @@ returns-clause-covered g c =
     let acked = done_acknowledged g.N.Naming.start c.args.first c.ask.new.self (c.ask.ensures.session _ c.requires.session) c.requires.start (c.ask.ensures.covered _ c.requires.covered) in
     still_covered g.N.Naming.start (entry_of c.args.first excused_sync ∷ entry_of 1 done_sync ∷ []) (entry_of c.args.first excused_sync ∷ entry_of c.draw.result done_sync ∷ []) refl (λ f. refl) c.keep.new.self c.draw.new.self
     c.draw.ensures.store (c.keep.ensures.covered _ acked)
+
+pub returns-clause-none : goal.returns-clause-none
+returns-clause-none g c = c.draw.ensures.answered ∙ c.keep.ensures.answered ∙ c.ask.ensures.answered ∙ c.requires.none

@@ -7,4 +7,4 @@ pub begin-hand-requires-clause-start : goal.begin-hand-requires-clause-start
 begin-hand-requires-clause-start g c = subst IsStart (sym c.requires.start) starts
 
 pub returns-clause-entries : goal.returns-clause-entries
-returns-clause-entries g c = c.close.ensures.tickets _ c.failed-third.ensures.session
+returns-clause-entries g c = c.close.ensures.tickets _ c.failed-fourth.ensures.session

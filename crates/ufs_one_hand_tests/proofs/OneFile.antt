@@ -1,0 +1,128 @@
+-- The answers of a client that opens a file of one byte and reads it.
+use Rattle.std.proofs.Common.{◌≡◌, ◌≢◌, ℕ, ◌<◌, ◌≤◌, true, false, List, [], ◌∷◌, length, Some, None, sym, refl, ap, ◌∙◌, inl, inr, arith}
+use native.Mathlib.Decide.{ℕ_discrete}
+use Rattle.std.specs.Cmp.{nat_cmp_total}
+use Rattle.std.specs.FinMap as fin
+use Rattle.std.specs.FinMap.{gets, nat_cmp-IsAntisymmetric}
+use Rattle.std.specs.Ordering.{nat_cmp}
+use Rattle.ufs_model.specs.Descriptors.{lowest_free}
+use Rattle.ufs_model.specs.History.{goes_on, tree_after}
+use Rattle.ufs_model.specs.Order.{fd_cmp, path_cmp}
+use Rattle.ufs_model.specs.Posix.{posix}
+use Rattle.ufs_model.specs.PosixTree.{PosixTree, desc_at, root}
+use Rattle.ufs_model.specs.Start.{start_from, start_of}
+use Rattle.ufs_model.specs.declared.data.Desc.{Desc}
+use Rattle.ufs_model.specs.declared.data.Node.TheVariants.{Dir, File}
+use Rattle.ufs_model.specs.declared.data.PathNode.TheVariants as path_node
+use Rattle.ufs_model.specs.declared.data.Reply.{Reply}
+use Rattle.ufs_model.specs.declared.data.Reply.TheVariants.{Fd, Got}
+use Rattle.ufs_model.proofs.Facts.Lookups.{inserted_else, inserted_here}
+use Rattle.ufs_model.proofs.Facts.Orders.{fd_same, fd_total, path_same, path_total}
+use Rattle.ufs_model.proofs.Facts.Rising.{entries-rising}
+use Rattle.ufs_model.proofs.Facts.Starts.{path_tree_of}
+use Rattle.ufs_one_hand.specs.Drawn.{HasCauses, IsAnswer, IsReplyAlike}
+use Rattle.ufs_one_hand.specs.OneHand.{HasSession, IsStart}
+use Rattle.ufs_sound.specs.Draws.{entry_of}
+use Rattle.ufs_sound.specs.Parts.{OwnFds, Start, View}
+use Rattle.ufs_sound.specs.Visible.{IsDiskVisible}
+use Rattle.ufs_one_hand_tests.specs.OneFile.{file_nodes, file_path, opens, reads, with_file}
+
+-- ---- the trees
+
+abbrev desc : Desc
+desc = record { file = Some 0; at = 0; read = true; write = false; append = false }
+
+abbrev tree : PosixTree
+tree = record { paths = fin.from_entries ((root, Dir) ∷ (file_path, File 0) ∷ []); bytes = fin.from_entries ((0, 97 ∷ []) ∷ []); fds = fin.empty; next = 1 }
+
+abbrev made : PosixTree
+made = record tree { fds = fin.insert fin.empty (0, 3) desc }
+
+start_is : start_of file_nodes ≡ tree
+start_is = ap start_from (entries-rising path_cmp path_total path_same ((root, path_node.Dir) ∷ (file_path, path_node.File (97 ∷ [])) ∷ []) refl)
+
+opened_is : posix tree 0 opens.op ≡ (made, Fd 3)
+unfolding lowest_free
+opened_is = simp gets
+
+read_is : posix made 0 reads.op ≡ (made, Got (97 ∷ []))
+read_is = simp (gets, fd_total)
+
+pub starts : IsStart with_file
+starts = record {
+  nodes = file_nodes;
+  cells = [];
+  is_visible = false;
+  paths = path_tree_of ((root, path_node.Dir) ∷ (file_path, path_node.File (97 ∷ [])) ∷ []) refl ((record { spelled = refl; allowed = refl }, refl), ((record { spelled = refl; allowed = refl }, refl), tt));
+  few = let e = ap (λ (t : PosixTree). t.next) start_is in omega (arith, e);
+  is = refl;
+}
+
+-- ---- the client's descriptors behind the `open`
+
+abbrev pub left : OwnFds
+left = fin.insert fin.empty 3 desc
+
+others_are : (fd : ℕ) → (fd ≡ 3 → ⊥) → desc_at made 0 fd ≡ None
+others_are fd apart = inserted_else fd_total fd_same fin.empty (0, 3) desc (0, fd) (λ e. apart (ap (λ (p : ℕ × ℕ). p.1) e)) ∙ fin.get-empty fd_cmp (0, fd)
+
+left_is : (fd : ℕ) → fin.get left fd ≡ desc_at made 0 fd
+left_is fd = by (ℕ_discrete fd 3)
+  where
+    by : Dec (fd ≡ 3) → fin.get left fd ≡ desc_at made 0 fd
+    by (yes e) = ap (fin.get left) e ∙ inserted_here nat_cmp_total nat_cmp-IsAntisymmetric fin.empty 3 desc ∙ sym (ap (λ n. desc_at made 0 n) e ∙ inserted_here fd_total fd_same fin.empty (0, 3) desc)
+    by (no n) = inserted_else nat_cmp_total nat_cmp-IsAntisymmetric fin.empty 3 desc fd n ∙ fin.get-empty nat_cmp fd ∙ sym (others_are fd n)
+
+-- ---- the answers
+
+fd_causes : (n : ℕ) (v : View) → HasCauses (Fd n) v
+fd_causes n v = record { device = λ n e. absurd cc; stopped = λ n e. absurd cc; short = λ need had e. absurd cc }
+
+read_causes : (bytes : List ℕ) (v : View) → HasCauses (Got bytes) v
+read_causes bytes v = record { device = λ n e. absurd cc; stopped = λ n e. absurd cc; short = λ need had e. absurd cc }
+
+module _ (k : Start) (is : k ≡ with_file) where
+  tree_is : k.tree ≡ tree
+  tree_is = ap (λ (z : Start). z.tree) is ∙ start_is
+
+  open_at : posix k.tree 0 opens.op ≡ (made, Fd 3)
+  open_at = ap (λ (t : PosixTree). posix t 0 opens.op) tree_is ∙ opened_is
+
+  made_at : goes_on k.tree (entry_of 0 opens) ≡ made
+  made_at = ap (λ (p : PosixTree × Reply). p.0) open_at
+
+  read_at : posix (goes_on k.tree (entry_of 0 opens)) 0 reads.op ≡ (made, Got (97 ∷ []))
+  read_at = ap (λ (t : PosixTree). posix t 0 reads.op) made_at ∙ read_is
+
+  pub opens_answers : (v : View) → HasSession k [] (Some (0, opens.op)) v → IsAnswer k [] k.tree opens left v
+  opens_answers v h = record {
+    tree_is = refl;
+    session = h;
+    low = omega arith;
+    seq = refl;
+    replied = inl (sym (ap (λ (p : PosixTree × Reply). p.1) open_at));
+    fds = λ fd. left_is fd ∙ sym (ap (λ (t : PosixTree). desc_at t 0 fd) made_at);
+    others = λ fd apart. ap (λ (t : PosixTree). desc_at t 0 fd) made_at ∙ others_are fd (λ e. apart (ap Some (sym e))) ∙ sym (ap (λ (t : PosixTree). desc_at t 0 fd) tree_is ∙ fin.get-empty fd_cmp (0, fd));
+    known = λ done asks. absurd cc;
+    causes = fd_causes 3 v;
+  }
+
+  pub reads_answers : (first : ℕ) (v : View) → HasSession k (entry_of first opens ∷ []) (Some (0, reads.op)) v → IsAnswer k (entry_of first opens ∷ []) (goes_on k.tree (entry_of 0 opens)) reads left v
+  reads_answers first v h = record {
+    tree_is = refl;
+    session = h;
+    low = omega arith;
+    seq = refl;
+    replied = inl (sym (ap (λ (p : PosixTree × Reply). p.1) read_at));
+    fds = λ fd. left_is fd ∙ sym (ap (λ (p : PosixTree × Reply). desc_at p.0 0 fd) read_at);
+    others = λ fd apart. ap (λ (p : PosixTree × Reply). desc_at p.0 0 fd) read_at ∙ sym (ap (λ (t : PosixTree). desc_at t 0 fd) made_at);
+    known = λ done asks. absurd cc;
+    causes = read_causes (97 ∷ []) v;
+  }
+
+  -- any other byte may be the code's
+  pub other_byte : (bytes : List ℕ) → length bytes ≡ 1 → IsReplyAlike k (Got (97 ∷ [])) (Got bytes)
+  other_byte bytes one = record { alike = inr (sym one); seen = λ visible. absurd (unseen visible) }
+    where
+      unseen : IsDiskVisible k → ⊥
+      unseen seen = let no : false ≡ true = sym (ap (λ (z : Start). z.is_visible) is) ∙ seen.visible in cc
