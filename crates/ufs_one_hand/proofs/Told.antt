@@ -1,5 +1,5 @@
 -- A reply that is alike is of the same kind.
-use Rattle.std.proofs.Common.{◌≡◌, ℕ, ◌⊎◌, List, ap, refl, ⊎_elim}
+use Rattle.std.proofs.Common.{◌≡◌, ℕ, List, ap, refl, ⊎_elim}
 use Rattle.ufs_model.specs.declared.data.Reply.{Reply}
 use Rattle.ufs_model.specs.declared.data.Reply.TheVariants as reply
 use Rattle.ufs_sound.specs.Draws.{left_faults}

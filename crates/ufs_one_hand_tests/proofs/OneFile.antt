@@ -1,12 +1,12 @@
 -- The answers of a client that opens a file of one byte and reads it.
-use Rattle.std.proofs.Common.{◌≡◌, ◌≢◌, ℕ, ◌<◌, ◌≤◌, true, false, List, [], ◌∷◌, length, Some, None, sym, refl, ap, ◌∙◌, inl, inr, arith}
+use Rattle.std.proofs.Common.{◌≡◌, ℕ, true, false, List, [], ◌∷◌, length, Some, None, sym, refl, ap, ◌∙◌, inl, inr, arith}
 use native.Mathlib.Decide.{ℕ_discrete}
 use Rattle.std.specs.Cmp.{nat_cmp_total}
 use Rattle.std.specs.FinMap as fin
 use Rattle.std.specs.FinMap.{gets, nat_cmp-IsAntisymmetric}
 use Rattle.std.specs.Ordering.{nat_cmp}
 use Rattle.ufs_model.specs.Descriptors.{lowest_free}
-use Rattle.ufs_model.specs.History.{goes_on, tree_after}
+use Rattle.ufs_model.specs.History.{goes_on}
 use Rattle.ufs_model.specs.Order.{fd_cmp, path_cmp}
 use Rattle.ufs_model.specs.Posix.{posix}
 use Rattle.ufs_model.specs.PosixTree.{PosixTree, desc_at, root}

@@ -1,8 +1,4 @@
-use Rattle.std.proofs.Common.{◌≡◌, [], ◌∷◌, ℕ, Option, None, Some, ap, refl, inl, sym, ◌∙◌}
-use Rattle.ufs_one_hand.specs.Drawn.{fault_met}
-use Rattle.ufs_sound.specs.Draws.{entry_of}
-use Rattle.ufs_sound.specs.Owned.{times}
-use Rattle.ufs_one_hand_tests.specs.Small.{done_sync, excused_sync, unread_sync}
+use Rattle.std.proofs.Common.{[], refl, inl, ◌∙◌}
 use Rattle.ufs_one_hand_tests.proofs.Small.{another, failed_answers, failed_may_pass}
 use Rattle.ufs_one_hand_tests.proofs.session.failed.Goals as goal
 

@@ -1,4 +1,4 @@
-use Rattle.std.proofs.Common.{◌≡◌, [], ◌∷◌, ℕ, Option, None, Some, ap, refl, inl, sym, ◌∙◌}
+use Rattle.std.proofs.Common.{[], ◌∷◌, ℕ, Option, None, ap, refl, inl, ◌∙◌}
 use Rattle.ufs_one_hand.specs.Drawn.{fault_met}
 use Rattle.ufs_sound.specs.Draws.{entry_of}
 use Rattle.ufs_sound.specs.Owned.{times}
