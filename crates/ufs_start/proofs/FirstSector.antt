@@ -7,7 +7,6 @@ use Rattle.std.proofs.lemmas.Bool.{and_parts}
 use Rattle.std.proofs.lemmas.Bool.Decides.{nat_tests}
 use Rattle.ufs_base.specs.Choices.{first_of, refused_if}
 use Rattle.ufs_base.specs.Images.{Image}
-use Rattle.ufs_disk.specs.Bytes.{image_of}
 use Rattle.ufs_image.specs.Volume.{BadGeometry, BadVersion, NoSuperblock, Refusal, bad_geometry, has_other_version, is_off_form, is_too_small, lacks_magic, superblock_of, superblock_refusal}
 use Rattle.ufs_layout.specs.Areas.{geometry_refusal, refusal_number, sector_count}
 use Rattle.ufs_layout.specs.Superblock.{geometry_of, is_super, magic, super_bytes, super_fields, super_of}
@@ -70,15 +69,15 @@ module _ (sectors : ℕ) (image : Image) where
 
 -- ---- how many sectors a copy has
 
-pub refused_count : (sectors size first : ℕ) (read whole : List ℕ) → sectors ≡ size → whole ≡ read → IsRefused (superblock_refusal sectors (image_of read)) → first ≡ min 8 sectors → first ≡ sectors_taken size (image_of whole)
+pub refused_count : (sectors size first : ℕ) (read whole : Image) → sectors ≡ size → whole 0 ≡ read 0 → IsRefused (superblock_refusal sectors read) → first ≡ min 8 sectors → first ≡ sectors_taken size whole
 refused_count sectors size first read whole sized same is counted =
     counted
-    ∙ sym (ap (λ (o : Option Refusal). taken_by o sectors (sector_count (geometry_of (superblock_of (image_of read))))) is.1)
-    ∙ (λ i. sectors_taken (sized i) (image_of (sym same i)))
+    ∙ sym (ap (λ (o : Option Refusal). taken_by o sectors (sector_count (geometry_of (superblock_of read)))) is.1)
+    ∙ (λ i. sectors_taken (sized i) (λ _. sym same i))
 
-pub own_count : (sectors size own : ℕ) (read whole : List ℕ) → sectors ≡ size → image_of whole 0 ≡ image_of read 0 → superblock_refusal sectors (image_of read) ≡ None → own ≡ sector_count (geometry_of (superblock_of (image_of read)))
-    → own ≡ sectors_taken size (image_of whole)
+pub own_count : (sectors size own : ℕ) (read whole : Image) → sectors ≡ size → whole 0 ≡ read 0 → superblock_refusal sectors read ≡ None → own ≡ sector_count (geometry_of (superblock_of read))
+    → own ≡ sectors_taken size whole
 own_count sectors size own read whole sized same none counted =
     counted
-    ∙ sym (ap (λ (o : Option Refusal). taken_by o sectors (sector_count (geometry_of (superblock_of (image_of read))))) none)
+    ∙ sym (ap (λ (o : Option Refusal). taken_by o sectors (sector_count (geometry_of (superblock_of read)))) none)
     ∙ (λ i. sectors_taken (sized i) (λ _. sym same i))

@@ -3,6 +3,7 @@ mod NumberLemmas
 mod Joined
 mod Named
 mod DirLemmas
+mod Paddings
 mod Copied
 mod Alike
 mod Ends

@@ -1,8 +1,8 @@
 // A copy in memory of what an image uses.
-ghost use Rattle.std.specs.Prelude.{ℕ, ◌≡◌, ◌≤◌, ◌<◌, ◌+◌, ◌*◌, ◌++◌, length, drop, min, None, Some, IsTrue, IfOk, IfErr, IfSome, IfNone, OnOk};
+ghost use Rattle.std.specs.Prelude.{ℕ, ◌≡◌, ◌≤◌, ◌<◌, ◌+◌, ◌*◌, length, None, Some, IsTrue, IfOk, IfErr, IfSome, IfNone, OnOk};
 ghost use Rattle.ufs_base.specs.declared.sizes.TheConstants.{MAX_BLOCKS, SECTOR};
 ghost use Rattle.ufs_disk.specs.Bytes.{image_of};
-ghost use Rattle.ufs_disk.specs.Disk.{bytes_from};
+ghost use Rattle.ufs_disk.specs.Disk.{IsRange, bytes_from};
 ghost use Rattle.ufs_disk.specs.Moments.{reads};
 ghost use Rattle.ufs_catalog.specs.Faults.{HasFaultCause, IsOutside};
 ghost use Rattle.ufs_catalog.specs.Reading.{IsReadOnly};
@@ -11,12 +11,14 @@ ghost use Rattle.ufs_image.specs.Volume.{Refusal, superblock_of, superblock_refu
 ghost use Rattle.ufs_layout.specs.Areas.{IsGeometry, sector_count};
 ghost use Rattle.ufs_layout.specs.Superblock.{geometry_of};
 ghost use Rattle.ufs_start.specs.Copies.{IsCopyOf, IsUsed, sectors_taken};
+ghost use Rattle.ufs_start.specs.Fronts.{bytes_of};
 
+use crate::front::FrontDisk;
 use crate::used::end_of_used;
 use std::alloc::{AllocError, Global};
 use ufs_base::{BLOCK, SECTOR};
 use ufs_catalog::RecoverFault;
-use ufs_disk::{Disk, PlainDisk};
+use ufs_disk::Disk;
 use ufs_layout::{Geometry, get_super};
 
 // The sectors of a call.
@@ -45,22 +47,25 @@ fn first_sectors<D: Disk>(alloc: Global, disk: &mut D, count: u32) -> Result<Vec
 }
 
 // A block of a disk into its place, by one call.
-fn copy_block<D: Disk>(bytes: &mut [u8], disk: &mut D, block: u32) -> Result<(), RecoverFault>
+fn copy_block<D: Disk>(copy: &mut FrontDisk, disk: &mut D, block: u32) -> Result<(), RecoverFault>
     requires small { block < MAX_BLOCKS }
     requires inside { 8 * block + 8 ≤ D.size disk.old }
-    requires room { 4096 * block + 4096 ≤ length bytes.old }
-    ensures there { IsTrue D.visible → OnOk result ((s : ℕ) → 8 * block ≤ s → s < 8 * block + 8 → image_of bytes.new s ≡ reads (D.moments disk.old) s) }
-    ensures before { (s : ℕ) → s < 8 * block → image_of bytes.new s ≡ image_of bytes.old s }
-    ensures long { length bytes.new ≡ length bytes.old }
+    requires room { 8 * block + 8 ≤ copy.old.sectors }
+    ensures there { IsTrue D.visible → OnOk result ((s : ℕ) → 8 * block ≤ s → s < 8 * block + 8 → image_of (bytes_of copy.new) s ≡ reads (D.moments disk.old) s) }
+    ensures before { (s : ℕ) → s < 8 * block → image_of (bytes_of copy.new) s ≡ image_of (bytes_of copy.old) s }
+    ensures sectors { copy.new.sectors ≡ copy.old.sectors }
     ensures read_only { IsTrue D.visible → IsReadOnly D.keeps (D.moments disk.old) (D.moments disk.new) }
     ensures size { D.size disk.new ≡ D.size disk.old }
     ensures passed { OnOk result (D.faults disk.new ≡ D.faults disk.old) }
     ensures cause { IfErr result (HasFaultCause (D.faults disk.old) (D.faults disk.new)) }
     ensures outside { IfErr result IsOutside }
 {
-    let at = BLOCK * block as usize;
-    match disk.read(SECTORS * block, &mut bytes[at..at + BLOCK]) {
-        Ok(()) => Ok(()),
+    let mut bytes = [0; BLOCK];
+    match disk.read(SECTORS * block, &mut bytes) {
+        Ok(()) => {
+            copy.put(SECTORS * block, &bytes);
+            Ok(())
+        }
         Err(fault) => Err(RecoverFault::Device {
             fault: fault.number,
         }),
@@ -69,7 +74,7 @@ fn copy_block<D: Disk>(bytes: &mut [u8], disk: &mut D, block: u32) -> Result<(),
 
 // The blocks of a disk from one on, up to another, into their places.
 fn copy_blocks<D: Disk>(
-    bytes: &mut [u8],
+    copy: &mut FrontDisk,
     disk: &mut D,
     from: u32,
     end: u32,
@@ -77,10 +82,10 @@ fn copy_blocks<D: Disk>(
     requires order { from ≤ end }
     requires small { end ≤ MAX_BLOCKS }
     requires inside { 8 * end ≤ D.size disk.old }
-    requires room { 4096 * end ≤ length bytes.old }
-    ensures there { IsTrue D.visible → OnOk result ((s : ℕ) → 8 * from ≤ s → s < 8 * end → image_of bytes.new s ≡ reads (D.moments disk.old) s) }
-    ensures before { (s : ℕ) → s < 8 * from → image_of bytes.new s ≡ image_of bytes.old s }
-    ensures long { length bytes.new ≡ length bytes.old }
+    requires room { 8 * end ≤ copy.old.sectors }
+    ensures there { IsTrue D.visible → OnOk result ((s : ℕ) → 8 * from ≤ s → s < 8 * end → image_of (bytes_of copy.new) s ≡ reads (D.moments disk.old) s) }
+    ensures before { (s : ℕ) → s < 8 * from → image_of (bytes_of copy.new) s ≡ image_of (bytes_of copy.old) s }
+    ensures sectors { copy.new.sectors ≡ copy.old.sectors }
     ensures read_only { IsTrue D.visible → IsReadOnly D.keeps (D.moments disk.old) (D.moments disk.new) }
     ensures size { D.size disk.new ≡ D.size disk.old }
     ensures passed { OnOk result (D.faults disk.new ≡ D.faults disk.old) }
@@ -88,7 +93,7 @@ fn copy_blocks<D: Disk>(
     ensures outside { IfErr result IsOutside }
 {
     for block in from..end {
-        copy_block(bytes, disk, block)?;
+        copy_block(copy, disk, block)?;
     }
     Ok(())
 }
@@ -115,25 +120,15 @@ fn geometry_in(sectors: u32, bytes: &[u8]) -> Option<Geometry>
     }
 }
 
-fn put_first(bytes: &mut [u8], first: &[u8])
-    requires room { length first.now ≤ length bytes.old }
-    ensures bytes { bytes.new ≡ first.now ++ drop (length first.now) bytes.old }
-    ensures long { length bytes.new ≡ length bytes.old }
+// A disk of so many sectors with these first ones, and zeros behind.
+fn with_first(alloc: Global, sectors: u32, first: &[u8]) -> Result<FrontDisk, AllocError>
+    requires { IsRange sectors 0 (length first.now) }
+    ensures sectors { IfOk result (λ c. c.sectors ≡ sectors) }
+    ensures first { IfOk result (λ c. (s : ℕ) → 512 * s < length first.now → image_of (bytes_of c) s ≡ image_of first.now s) }
 {
-    bytes[..first.len()].copy_from_slice(first);
-}
-
-// The first block, and zeros in the place of the others.
-fn with_first(alloc: Global, blocks: u32, first: &[u8]) -> Result<Vec<u8>, AllocError>
-    requires some { 1 ≤ blocks }
-    requires few { blocks ≤ MAX_BLOCKS }
-    requires sized { length first.now ≡ 4096 }
-    ensures first { IfOk result (λ bytes. (s : ℕ) → s < 8 → image_of bytes.items s ≡ image_of first.now s) }
-    ensures long { IfOk result (λ bytes. length bytes.items ≡ 4096 * blocks) }
-{
-    let mut bytes = vec![in alloc; 0; BLOCK * blocks as usize]?;
-    put_first(&mut bytes, first);
-    Ok(bytes)
+    let mut copy = FrontDisk::zeros(alloc, sectors)?;
+    copy.put(0, first);
+    Ok(copy)
 }
 
 // The metadata of an image of this geometry, by its first block, and zeros in the place of its data.
@@ -142,47 +137,22 @@ fn metadata_of<D: Disk>(
     disk: &mut D,
     geometry: &Geometry,
     first: &[u8],
-) -> Result<PlainDisk, RecoverFault>
+) -> Result<FrontDisk, RecoverFault>
     requires limits { IsGeometry geometry.now }
     requires large { sector_count geometry.now ≤ D.size disk.old }
     requires sized { length first.now ≡ 4096 }
     ensures sectors { IfOk result (λ c. c.sectors ≡ sector_count geometry.now) }
-    ensures first { IfOk result (λ c. image_of c.bytes.items 0 ≡ image_of first.now 0) }
-    ensures same { IsTrue D.visible → first.now ≡ bytes_from (reads (D.moments disk.old)) 0 8 → IfOk result (λ c. AgreeOn (IsMetadata geometry.now) (image_of c.bytes.items) (reads (D.moments disk.old))) }
+    ensures first { IfOk result (λ c. image_of (bytes_of c) 0 ≡ image_of first.now 0) }
+    ensures same { IsTrue D.visible → first.now ≡ bytes_from (reads (D.moments disk.old)) 0 8 → IfOk result (λ c. AgreeOn (IsMetadata geometry.now) (image_of (bytes_of c)) (reads (D.moments disk.old))) }
     ensures read_only { IsTrue D.visible → IsReadOnly D.keeps (D.moments disk.old) (D.moments disk.new) }
     ensures size { D.size disk.new ≡ D.size disk.old }
     ensures passed { OnOk result (D.faults disk.new ≡ D.faults disk.old) }
     ensures cause { IfErr result (HasFaultCause (D.faults disk.old) (D.faults disk.new)) }
     ensures outside { IfErr result IsOutside }
 {
-    let mut bytes = with_first(alloc, geometry.blocks, first)?;
-    copy_blocks(&mut bytes, disk, 1, geometry.first_of_data())?;
-    Ok(PlainDisk::new(geometry.sector_count(), bytes))
-}
-
-// The same with the blocks from one on, up to another, as the disk has them.
-fn with_blocks<D: Disk>(
-    copy: PlainDisk,
-    disk: &mut D,
-    from: u32,
-    end: u32,
-) -> Result<PlainDisk, RecoverFault>
-    requires order { from ≤ end }
-    requires small { end ≤ MAX_BLOCKS }
-    requires inside { 8 * end ≤ D.size disk.old }
-    requires room { 8 * end ≤ copy.sectors }
-    ensures there { IsTrue D.visible → IfOk result (λ c. (s : ℕ) → 8 * from ≤ s → s < 8 * end → image_of c.bytes.items s ≡ reads (D.moments disk.old) s) }
-    ensures before { IfOk result (λ c. (s : ℕ) → s < 8 * from → image_of c.bytes.items s ≡ image_of copy.bytes.items s) }
-    ensures sectors { IfOk result (λ c. c.sectors ≡ copy.sectors) }
-    ensures read_only { IsTrue D.visible → IsReadOnly D.keeps (D.moments disk.old) (D.moments disk.new) }
-    ensures size { D.size disk.new ≡ D.size disk.old }
-    ensures passed { OnOk result (D.faults disk.new ≡ D.faults disk.old) }
-    ensures cause { IfErr result (HasFaultCause (D.faults disk.old) (D.faults disk.new)) }
-    ensures outside { IfErr result IsOutside }
-{
-    let PlainDisk { sectors, mut bytes } = copy;
-    copy_blocks(&mut bytes, disk, from, end)?;
-    Ok(PlainDisk::new(sectors, bytes))
+    let mut copy = with_first(alloc, geometry.sector_count(), first)?;
+    copy_blocks(&mut copy, disk, 1, geometry.first_of_data())?;
+    Ok(copy)
 }
 
 // The copy of an image of this geometry, by its first block: the metadata says how far the data is read.
@@ -191,25 +161,25 @@ fn copy_in<D: Disk>(
     disk: &mut D,
     geometry: &Geometry,
     first: &[u8],
-) -> Result<PlainDisk, RecoverFault>
+) -> Result<FrontDisk, RecoverFault>
     requires limits { IsGeometry geometry.now }
     requires large { sector_count geometry.now ≤ D.size disk.old }
     requires sized { length first.now ≡ 4096 }
     requires fields { geometry.now ≡ geometry_of (superblock_of (image_of first.now)) }
     ensures sectors { IfOk result (λ c. c.sectors ≡ sector_count geometry.now) }
-    ensures first { IfOk result (λ c. image_of c.bytes.items 0 ≡ image_of first.now 0) }
-    ensures same { IsTrue D.visible → first.now ≡ bytes_from (reads (D.moments disk.old)) 0 8 → IfOk result (λ c. AgreeOn (IsUsed (sector_count geometry.now) (image_of c.bytes.items)) (image_of c.bytes.items) (reads (D.moments disk.old))) }
+    ensures first { IfOk result (λ c. image_of (bytes_of c) 0 ≡ image_of first.now 0) }
+    ensures same { IsTrue D.visible → first.now ≡ bytes_from (reads (D.moments disk.old)) 0 8 → IfOk result (λ c. AgreeOn (IsUsed (sector_count geometry.now) (image_of (bytes_of c))) (image_of (bytes_of c)) (reads (D.moments disk.old))) }
     ensures read_only { IsTrue D.visible → IsReadOnly D.keeps (D.moments disk.old) (D.moments disk.new) }
     ensures size { D.size disk.new ≡ D.size disk.old }
     ensures passed { OnOk result (D.faults disk.new ≡ D.faults disk.old) }
     ensures cause { IfErr result (HasFaultCause (D.faults disk.old) (D.faults disk.new)) }
     ensures outside { IfErr result IsOutside }
 {
-    let mut front = metadata_of(alloc, disk, geometry, first)?;
-    let Ok(end) = end_of_used(alloc, geometry, &mut front) else {
+    let mut copy = metadata_of(alloc, disk, geometry, first)?;
+    let Ok(end) = end_of_used(alloc, geometry, &mut copy) else {
         return Err(RecoverFault::Memory);
     };
-    let copy = with_blocks(front, disk, geometry.first_of_data(), end)?;
+    copy_blocks(&mut copy, disk, geometry.first_of_data(), end)?;
     Ok(copy)
 }
 
@@ -217,9 +187,9 @@ fn copy_in<D: Disk>(
 /// before the data area, and the data blocks up to the last one that an inode names. What lies behind is zeros, and isn't
 /// read. Where the superblock is refused it is the first block. Reads each of these sectors once, in calls of 4,096
 /// bytes at most; writes nothing.
-pub fn copy_of<D: Disk>(alloc: Global, disk: &mut D) -> Result<PlainDisk, RecoverFault>
-    ensures taken { IfOk result (λ c. c.sectors ≡ sectors_taken (D.size disk.old) (image_of c.bytes.items)) }
-    ensures copied { IsTrue D.visible → IfOk result (λ c. IsCopyOf c.sectors (image_of c.bytes.items) (D.size disk.old) (reads (D.moments disk.old))) }
+pub fn copy_of<D: Disk>(alloc: Global, disk: &mut D) -> Result<FrontDisk, RecoverFault>
+    ensures taken { IfOk result (λ c. c.sectors ≡ sectors_taken (D.size disk.old) (image_of (bytes_of c))) }
+    ensures copied { IsTrue D.visible → IfOk result (λ c. IsCopyOf c.sectors (image_of (bytes_of c)) (D.size disk.old) (reads (D.moments disk.old))) }
     ensures read_only { IsTrue D.visible → IsReadOnly D.keeps (D.moments disk.old) (D.moments disk.new) }
     ensures size { D.size disk.new ≡ D.size disk.old }
     ensures passed { OnOk result (D.faults disk.new ≡ D.faults disk.old) }
@@ -228,12 +198,14 @@ pub fn copy_of<D: Disk>(alloc: Global, disk: &mut D) -> Result<PlainDisk, Recove
 {
     let sectors = disk.sectors();
     if sectors == 0 {
-        return Ok(PlainDisk::new(0, Vec::new(alloc)));
+        let empty = FrontDisk::zeros(alloc, 0)?;
+        return Ok(empty);
     }
     let count = sectors.min(SECTORS);
     let first = first_sectors(alloc, disk, count)?;
     let Some(geometry) = geometry_in(sectors, &first) else {
-        return Ok(PlainDisk::new(count, first));
+        let copy = with_first(alloc, count, &first)?;
+        return Ok(copy);
     };
     let copy = copy_in(alloc, disk, &geometry, &first)?;
     Ok(copy)

@@ -24,12 +24,14 @@ ghost use Rattle.ufs_overlay.specs.Seen.{HasAdded};
 ghost use Rattle.ufs_volume.specs.Volumes.{committed_in};
 ghost use Rattle.ufs_start.specs.Begun.{IsBegun, catalog_under, image_under, session_start, tree_under, volume_under};
 ghost use Rattle.ufs_start.specs.Files.{AreLaid, AreLoaded};
+ghost use Rattle.ufs_start.specs.Fronts.{bytes_of};
 ghost use Rattle.ufs_start.specs.Refused.{HasStartCause, IsRefusedFile, NamesFile, TellsNoStart};
 ghost use Rattle.ufs_start.specs.Starts.{AreStartNames, IsLoaded};
 
 use crate::copy::copy_of;
 use crate::fault::StartFault;
 use crate::files::files_of;
+use crate::front::FrontDisk;
 use crate::laws::{copy_law, start_files_law, start_numbers_law};
 use crate::names::names_in;
 use crate::numbers::numbers_of;
@@ -37,7 +39,7 @@ use crate::parts::Start;
 use std::alloc::Global;
 use std::marker::Brand;
 use ufs_damage::Findings;
-use ufs_disk::{Disk, PlainDisk};
+use ufs_disk::Disk;
 use ufs_files::FileHands;
 use ufs_hand::{Opening, Parts};
 use ufs_image::damage_law;
@@ -49,19 +51,19 @@ use ufs_volume::FoldedVolume;
 // The files of a volume in memory, by the numbers that its names tell.
 fn files_in(
     alloc: Global,
-    copy: &mut PlainDisk,
+    copy: &mut FrontDisk,
     volume: &FoldedVolume,
     findings: &Findings,
     names: &Names,
 ) -> Result<FileHands, StartFault>
-    requires added { HasAdded volume.now.overlay (committed_in volume.now (image_of copy.old.bytes.items)) }
-    requires loaded { IsLoaded volume.now.superblock.geometry findings.now copy.old.sectors (image_of copy.old.bytes.items) volume.now.superblock.superblock (image_under volume.now.superblock (image_of copy.old.bytes.items)) }
-    requires names { AreStartNames copy.old.sectors (image_of copy.old.bytes.items) volume.now.superblock.geometry (image_under volume.now.superblock (image_of copy.old.bytes.items)) names.now }
-    ensures read { IfOk result (AreRead (image_under volume.now.superblock (image_of copy.old.bytes.items)) (catalog_under volume.now.superblock (image_of copy.old.bytes.items)) names.now) }
+    requires added { HasAdded volume.now.overlay (committed_in volume.now (image_of (bytes_of copy.old))) }
+    requires loaded { IsLoaded volume.now.superblock.geometry findings.now copy.old.sectors (image_of (bytes_of copy.old)) volume.now.superblock.superblock (image_under volume.now.superblock (image_of (bytes_of copy.old))) }
+    requires names { AreStartNames copy.old.sectors (image_of (bytes_of copy.old)) volume.now.superblock.geometry (image_under volume.now.superblock (image_of (bytes_of copy.old))) names.now }
+    ensures read { IfOk result (AreRead (image_under volume.now.superblock (image_of (bytes_of copy.old))) (catalog_under volume.now.superblock (image_of (bytes_of copy.old))) names.now) }
     ensures here { (inode file : ℕ) → file_at names.now.tree inode ≡ Some file → IfOk result (λ files. IsSome (map.get files file)) }
-    ensures loaded { IfOk result (AreLoaded (image_under volume.now.superblock (image_of copy.old.bytes.items)) (catalog_under volume.now.superblock (image_of copy.old.bytes.items))) }
-    ensures laid { IfOk result (AreLaid (catalog_under volume.now.superblock (image_of copy.old.bytes.items))) }
-    ensures refused { IfErr result (IsRefusedFile (form_at volume.now.superblock.geometry (image_under volume.now.superblock (image_of copy.old.bytes.items)))) }
+    ensures loaded { IfOk result (AreLoaded (image_under volume.now.superblock (image_of (bytes_of copy.old))) (catalog_under volume.now.superblock (image_of (bytes_of copy.old)))) }
+    ensures laid { IfOk result (AreLaid (catalog_under volume.now.superblock (image_of (bytes_of copy.old)))) }
+    ensures refused { IfErr result (IsRefusedFile (form_at volume.now.superblock.geometry (image_under volume.now.superblock (image_of (bytes_of copy.old))))) }
     ensures named { IfErr result (NamesFile (IsInode volume.now.superblock.geometry)) }
     ensures calm { IfErr result (λ f. (count : ℕ) → HasStartCause count count f) }
 {
@@ -73,18 +75,18 @@ fn files_in(
 }
 
 // What a session over the disk starts from, for contracts alone.
-fn session_parts<P: Opening>(copy: &PlainDisk) -> Parts
-    requires { P.opened ≡ session_start copy.now.sectors (image_of copy.now.bytes.items) }
-    ensures { result.start ≡ session_start copy.now.sectors (image_of copy.now.bytes.items) }
+fn session_parts<P: Opening>(copy: &FrontDisk) -> Parts
+    requires { P.opened ≡ session_start copy.now.sectors (image_of (bytes_of copy.now)) }
+    ensures { result.start ≡ session_start copy.now.sectors (image_of (bytes_of copy.now)) }
 {
     let _copy = copy;
     Parts::picked::<P>()
 }
 
 // What a server begins with, made of a disk in memory.
-fn start_in(alloc: Global, copy: &mut PlainDisk) -> Result<Start, StartFault>
-    ensures begun { IfOk result (IsBegun copy.old.sectors (image_of copy.old.bytes.items)) }
-    ensures refused { IfErr result (TellsNoStart copy.old.sectors (image_of copy.old.bytes.items)) }
+fn start_in(alloc: Global, copy: &mut FrontDisk) -> Result<Start, StartFault>
+    ensures begun { IfOk result (IsBegun copy.old.sectors (image_of (bytes_of copy.old))) }
+    ensures refused { IfErr result (TellsNoStart copy.old.sectors (image_of (bytes_of copy.old))) }
     ensures calm { IfErr result (λ f. (count : ℕ) → HasStartCause count count f) }
 {
     start_files_law();

@@ -6,11 +6,12 @@ ghost use Rattle.ufs_layout.specs.Areas.{IsGeometry, first_of_data, sector_count
 ghost use Rattle.ufs_layout.specs.Superblock.{geometry_of};
 ghost use Rattle.ufs_start.specs.Copies.{IsOfInode};
 ghost use Rattle.ufs_start.specs.Ends.{IsOfImage, end_of_extents, end_of_form, end_of_forms};
+ghost use Rattle.ufs_start.specs.Fronts.{bytes_of};
 
+use crate::front::FrontDisk;
 use std::alloc::Global;
 use ufs_base::Memory;
 use ufs_catalog::{RecoverFault, read_findings};
-use ufs_disk::PlainDisk;
 use ufs_layout::{Extent, Geometry, Inode};
 use ufs_volume::read_volume;
 
@@ -62,15 +63,15 @@ fn end_without(geometry: &Geometry, fault: RecoverFault) -> Result<u32, Memory>
 pub(crate) fn end_of_used(
     alloc: Global,
     geometry: &Geometry,
-    copy: &mut PlainDisk,
+    copy: &mut FrontDisk,
 ) -> Result<u32, Memory>
     requires limits { IsGeometry geometry.now }
     requires large { sector_count geometry.now ≤ copy.old.sectors }
-    requires fields { geometry.now ≡ geometry_of (superblock_of (image_of copy.old.bytes.items)) }
+    requires fields { geometry.now ≡ geometry_of (superblock_of (image_of (bytes_of copy.old))) }
     ensures least { IfOk result (λ end. first_of_data geometry.now ≤ end) }
     ensures most { IfOk result (λ end. end ≤ geometry.now.blocks) }
-    ensures behind { IfOk result (λ end. (v : Volume) → volume copy.old.sectors (image_of copy.old.bytes.items) ≡ Ok v → (sector : ℕ) → sector < sector_count geometry.now → IsOfInode geometry.now v.image sector → sector < 8 * end) }
-    ensures image { image_of copy.new.bytes.items ≡ image_of copy.old.bytes.items }
+    ensures behind { IfOk result (λ end. (v : Volume) → volume copy.old.sectors (image_of (bytes_of copy.old)) ≡ Ok v → (sector : ℕ) → sector < sector_count geometry.now → IsOfInode geometry.now v.image sector → sector < 8 * end) }
+    ensures image { image_of (bytes_of copy.new) ≡ image_of (bytes_of copy.old) }
     ensures sectors { copy.new.sectors ≡ copy.old.sectors }
 {
     let volume = match read_volume(alloc, copy) {

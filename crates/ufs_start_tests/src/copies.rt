@@ -4,9 +4,9 @@ use std::alloc::Global;
 use std::test::Fail;
 use ufs_base::SECTOR;
 use ufs_disk::{Disk, PlainDisk};
-use ufs_start::copy_of;
+use ufs_start::{FrontDisk, copy_of};
 
-fn copied(alloc: Global, disk: &mut PlainDisk) -> Option<PlainDisk> {
+fn copied(alloc: Global, disk: &mut PlainDisk) -> Option<FrontDisk> {
     match copy_of(alloc, disk) {
         Ok(copy) => Some(copy),
         Err(_) => None,
@@ -14,7 +14,7 @@ fn copied(alloc: Global, disk: &mut PlainDisk) -> Option<PlainDisk> {
 }
 
 // Whether the sector of a disk has this byte all over; none where the disk ends before it.
-fn is_full_of(disk: &mut PlainDisk, sector: u32, byte: u8) -> Option<bool> {
+fn is_full_of(disk: &mut FrontDisk, sector: u32, byte: u8) -> Option<bool> {
     if sector >= disk.sectors() {
         return None;
     }
@@ -40,6 +40,13 @@ fn copy_has(alloc: Global, sector: u32, byte: u8) -> Option<bool> {
     is_full_of(&mut copy, sector, byte)
 }
 
+// How many bytes a copy of a new image holds, of a disk of so many sectors.
+fn held_of_new(alloc: Global, sectors: u32) -> Option<usize> {
+    let mut disk = new_disk_of(alloc, sectors)?;
+    let copy = copied(alloc, &mut disk)?;
+    Some(copy.held.len())
+}
+
 // How many sectors a copy of a disk of so many has, all of zeros.
 fn sectors_of_zeros(alloc: Global, sectors: u32) -> Option<u32> {
     let Ok(mut disk) = PlainDisk::zeros(alloc, sectors) else {
@@ -56,6 +63,13 @@ fn a_copy_has_what_the_image_uses(rt: HostRuntime) -> Result<(), Fail> {
     assert!(rt; copy_has(rt.alloc(), DATA, 0) == Some(true));
     assert!(rt; copy_has(rt.alloc(), SECTORS - 1, 0) == Some(true));
     assert!(rt; copy_has(rt.alloc(), SECTORS, 6) == None);
+    Ok(())
+}
+
+#[test]
+fn a_copy_holds_what_was_read(rt: HostRuntime) -> Result<(), Fail> {
+    assert!(rt; held_of_new(rt.alloc(), SECTORS) == Some(SECTOR * DATA as usize));
+    assert!(rt; held_of_new(rt.alloc(), SECTORS + 8) == Some(SECTOR * DATA as usize));
     Ok(())
 }
 

@@ -21,11 +21,11 @@ loop-block-preserved g c =
     let from = c.loop-block.auto.block in
     record {
       there = λ visible s low high. elim (cases_lt s (8 * n)) [
-        | inl less ↦ e.before s less ∙ i.there visible s low less
+        | inl less ↦ c.copy_block.ensures.before s less ∙ i.there visible s low less
         | inr here ↦ e.there visible s here (omega (arith, high)) ∙ ap (λ (d : Image). d s) (i.read_only visible).content
       ];
-      before = λ s less. e.before s (omega (arith, less, from)) ∙ i.before s less;
-      long = e.long ∙ i.long;
+      before = λ s less. c.copy_block.ensures.before s (omega (arith, less, from)) ∙ i.before s less;
+      sectors = c.copy_block.ensures.sectors ∙ i.sectors;
       read_only = λ visible. read_more g.D.Disk.keeps (g.D.Disk.moments c.args.disk.now) (g.D.Disk.moments c.loop-block.disk) (g.D.Disk.moments c.copy_block.new.disk) (i.read_only visible) (c.copy_block.ensures.read_only visible);
       size = c.copy_block.ensures.size ∙ i.size;
       faults = e.passed ∙ i.faults;

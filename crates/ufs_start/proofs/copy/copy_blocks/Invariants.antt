@@ -1,7 +1,8 @@
-use Rattle.std.proofs.Common.{◌≡◌, ◌*◌, ◌≤◌, ◌<◌, ℕ, IsTrue, length}
+use Rattle.std.proofs.Common.{◌≡◌, ◌*◌, ◌≤◌, ◌<◌, ℕ, IsTrue}
 use Rattle.ufs_disk.specs.Bytes.{image_of}
 use Rattle.ufs_disk.specs.Moments.{reads}
 use Rattle.ufs_catalog.specs.Reading.{IsReadOnly}
+use Rattle.ufs_start.specs.Fronts.{bytes_of}
 use Rattle.ufs_start.proofs.copy.copy_blocks.Given as goal
 
 abbrev pub invariant-loop-block : goal.invariant-loop-block
@@ -9,9 +10,9 @@ invariant-loop-block g l =
     let disk = g.D.Disk in
     let first = disk.moments l.fn.disk in
     record {
-      there : IsTrue disk.visible → (s : ℕ) → 8 * l.from ≤ s → s < 8 * l.block → image_of l.bytes s ≡ reads first s;
-      before : (s : ℕ) → s < 8 * l.from → image_of l.bytes s ≡ image_of l.fn.bytes s;
-      long : length l.bytes ≡ length l.fn.bytes;
+      there : IsTrue disk.visible → (s : ℕ) → 8 * l.from ≤ s → s < 8 * l.block → image_of (bytes_of l.copy) s ≡ reads first s;
+      before : (s : ℕ) → s < 8 * l.from → image_of (bytes_of l.copy) s ≡ image_of (bytes_of l.fn.copy) s;
+      sectors : l.copy.sectors ≡ l.fn.copy.sectors;
       read_only : IsTrue disk.visible → IsReadOnly disk.keeps first (disk.moments l.disk);
       size : disk.size l.disk ≡ disk.size l.fn.disk;
       faults : disk.faults l.disk ≡ disk.faults l.fn.disk;

@@ -1,17 +1,15 @@
-use Rattle.std.proofs.Common.{ℕ, length, take, drop, ap, ◌∙◌, arith}
-use Rattle.std.proofs.lemmas.List.{take-append-le}
+use Rattle.std.proofs.Common.{◌≡◌, ◌+◌, ◌/◌, length, ap, ◌∙◌, arith}
+use Rattle.ufs_base.specs.Images.{Image}
 use Rattle.ufs_disk.specs.Bytes.{image_of}
-use Rattle.ufs_start.proofs.Copied.{front_same, written}
+use Rattle.ufs_start.specs.Fronts.{bytes_of}
+use Rattle.ufs_start.proofs.Copied.{put_there}
 use Rattle.ufs_start.proofs.copy.with_first.Goals as goal
 
 pub returns-clause-first : goal.returns-clause-first
 returns-clause-first c s less =
     let first = c.args.first.now in
-    let bytes = c.in_ok-bytes.bytes in
-    let new = c.put_first.new.bytes in
-    let sized = c.requires.sized in
-    let kept = c.put_first.ensures.long in
-    let value = ap (length {A = ℕ}) c.deref_mut.ensures.value in
-    let own = bytes.ok.0 in
-    ap (λ l. image_of l s) (written new bytes.items bytes.len (omega (arith, kept, value, own)))
-    ∙ front_same new first 4096 s (ap (take 4096) c.put_first.ensures.bytes ∙ take-append-le 4096 first (drop (length first) c.deref_mut.result.now) (omega (arith, sized))) (omega (arith, less))
+    let whole = c.requires.whole in
+    let none : s ≡ 0 + s = omega arith in
+    ap (λ n. image_of (bytes_of c.put.new.self) n) none
+    ∙ ap (λ (d : Image). d (0 + s)) c.put.ensures.image
+    ∙ put_there (image_of (bytes_of c.in_ok-copy.copy)) first 0 (length first / 512) (omega (arith, whole)) s (omega (arith, less, whole))

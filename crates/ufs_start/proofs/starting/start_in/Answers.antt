@@ -1,4 +1,4 @@
-use Rattle.std.proofs.Common.{◌≡◌, ℕ, [], false, ap, refl, sym, ◌∙◌, subst, arith}
+use Rattle.std.proofs.Common.{◌≡◌, ℕ, ◌*◌, [], false, ap, refl, sym, ◌∙◌, subst, arith}
 use Rattle.std.specs.Prelude.{Result}
 use Rattle.std.specs.FinSet as set
 use Rattle.std.proofs.lemmas.Result.{err_from_is_err_and}
@@ -22,13 +22,15 @@ use Rattle.ufs_start.specs.Files.{AreLaid, AreLoaded}
 use Rattle.ufs_start.specs.Refused.{IsRefusedFile}
 use Rattle.ufs_start.specs.Starts.{AreStartNames, IsLoaded, IsUndamaged}
 use Rattle.ufs_start.proofs.Beginning.{calm_names, few_files, is_loaded, refused_file, refused_names, sized_there, untaken}
+use Rattle.ufs_start.specs.Fronts.{bytes_of}
+use Rattle.ufs_start.specs.Padded.{padded_sized, padded_small}
 use Rattle.ufs_start.proofs.starting.start_in.Goals as goal
 
 pub names_in-requires-clause-loaded : goal.names_in-requires-clause-loaded
 names_in-requires-clause-loaded c =
     let l = c.in_ok-loaded.loaded in
     let e = c.in_ok-loaded.ensures in
-    let disk : Image = image_of c.args.copy.now.bytes.items in
+    let disk : Image = image_of (bytes_of c.args.copy.now) in
     (c.args.copy.now.sectors, disk, l.volume.superblock.superblock, image_under l.volume.superblock disk, is_loaded l.volume l.findings c.args.copy.now.sectors disk (e.taken refl) (e.catalog refl) (e.sound refl) (e.found refl))
 
 pub files_in-requires-clause-added : goal.files_in-requires-clause-added
@@ -41,7 +43,7 @@ files_in-requires-clause-loaded c =
     let l = c.in_ok-loaded.loaded in
     let e = c.in_ok-loaded.ensures in
     let h = l.volume.superblock in
-    let disk : Image = image_of c.args.copy.now.bytes.items in
+    let disk : Image = image_of (bytes_of c.args.copy.now) in
     subst (λ (d : Image). IsLoaded h.geometry l.findings c.load.new.disk.sectors d h.superblock (image_under h d)) (sym (c.load.ensures.read_only refl).content)
     (subst (λ (n : ℕ). IsLoaded h.geometry l.findings n disk h.superblock (image_under h disk)) (sym c.load.ensures.size)
     (is_loaded l.volume l.findings c.args.copy.now.sectors disk (e.taken refl) (e.catalog refl) (e.sound refl) (e.found refl)))
@@ -50,7 +52,7 @@ pub files_in-requires-clause-names : goal.files_in-requires-clause-names
 files_in-requires-clause-names c =
     let l = c.in_ok-loaded.loaded in
     let h = l.volume.superblock in
-    let disk : Image = image_of c.load.new.disk.bytes.items in
+    let disk : Image = image_of (bytes_of c.load.new.disk) in
     c.in_ok-names.ensures.names c.load.new.disk.sectors disk h.superblock (image_under h disk) (files_in-requires-clause-loaded c)
 
 pub returns-clause-begun : goal.returns-clause-begun
@@ -62,7 +64,7 @@ returns-clause-begun c =
     let n = c.in_ok-names.names in
     let files = c.in_ok-files.files in
     let sectors = c.args.copy.now.sectors in
-    let disk : Image = image_of c.args.copy.now.bytes.items in
+    let disk : Image = image_of (bytes_of c.args.copy.now) in
     let image : Image = image_under h disk in
     let loaded : IsLoaded h.geometry l.findings sectors disk h.superblock image = is_loaded v l.findings sectors disk (e.taken refl) (e.catalog refl) (e.sound refl) (e.found refl) in
     let undamaged : IsUndamaged h.geometry image l.findings = record { found = loaded.found; whole = (c.damage_law.ensures.whole image (catalog_under h disk) loaded.standing.catalog loaded.standing.sound).1 } in
@@ -78,7 +80,7 @@ returns-clause-begun c =
     record {
       standing = loaded.standing;
       sized = λ sector within. sized_there v sectors disk (e.taken refl) e.large
-          (λ k less. (sector_within c.args.copy.now.bytes.items k c.args.copy.now.small_bytes (let long = c.args.copy.now.sized in omega (arith, long, less))).sized) sector within;
+          (λ k less. (sector_within (bytes_of c.args.copy.now) k (padded_small (512 * c.args.copy.now.sectors) c.args.copy.now.held.items c.args.copy.now.small_bytes) (let long = padded_sized (512 * c.args.copy.now.sectors) c.args.copy.now.held.items c.args.copy.now.within in omega (arith, long, less))).sized) sector within;
       opened = start.opened;
       table = start.names;
       names = start.part;
@@ -105,7 +107,7 @@ returns-in_err-files-clause-refused c =
     let l = c.in_ok-loaded.loaded in
     let e = c.in_ok-loaded.ensures in
     let v = l.volume in
-    let disk : Image = image_of c.args.copy.now.bytes.items in
+    let disk : Image = image_of (bytes_of c.args.copy.now) in
     let standing = (is_loaded v l.findings c.args.copy.now.sectors disk (e.taken refl) (e.catalog refl) (e.sound refl) (e.found refl)).standing in
     rw (p.1, p.2) (refused_file v c.args.copy.now.sectors disk standing c.in_err-files.field-0.0
     (subst (λ (d : Image). IsRefusedFile (form_at v.superblock.geometry (image_under v.superblock d)) c.in_err-files.field-0.0) (c.load.ensures.read_only refl).content c.in_err-files.ensures.refused)
@@ -120,7 +122,7 @@ returns-in_err-names-clause-refused c =
     let h = v.superblock in
     let g = h.geometry in
     let sectors = c.args.copy.now.sectors in
-    let disk : Image = image_of c.args.copy.now.bytes.items in
+    let disk : Image = image_of (bytes_of c.args.copy.now) in
     let image : Image = image_under h disk in
     let loaded : IsLoaded g l.findings sectors disk h.superblock image = is_loaded v l.findings sectors disk (e.taken refl) (e.catalog refl) (e.sound refl) (e.found refl) in
     let undamaged : IsUndamaged g image l.findings = record { found = loaded.found; whole = (c.damage_law.ensures.whole image (catalog_under h disk) loaded.standing.catalog loaded.standing.sound).1 } in

@@ -4,6 +4,7 @@ use Rattle.ufs_start.specs.Begun.{IsBegun}
 use Rattle.ufs_start.specs.declared.parts.Start.{Start}
 use Rattle.ufs_walk.proofs.Maps.{if_ok}
 use Rattle.ufs_start.proofs.Copies.{none_there, part_there, some_image}
+use Rattle.ufs_start.specs.Fronts.{bytes_of}
 use Rattle.ufs_start.proofs.starting.start_of.Goals as goal
 
 pub returns-clause-standing : goal.returns-clause-standing
@@ -33,8 +34,8 @@ returns-clause-loaded g c visible = part_there _ _ _ _ (c.in_ok-copy.ensures.cop
 pub returns-clause-begun : goal.returns-clause-begun
 returns-clause-begun g c =
     let copy = c.in_ok-copy.copy in
-    if_ok c.start_in.result (IsBegun copy.sectors (image_of copy.bytes.items)) _
-    (λ (s : Start) begun. some_image g.D.Disk.visible copy.sectors (g.D.Disk.size c.args.disk.now) (image_of copy.bytes.items) (reads (g.D.Disk.moments c.args.disk.now)) s c.in_ok-copy.ensures.taken c.in_ok-copy.ensures.copied begun)
+    if_ok c.start_in.result (IsBegun copy.sectors (image_of (bytes_of copy))) _
+    (λ (s : Start) begun. some_image g.D.Disk.visible copy.sectors (g.D.Disk.size c.args.disk.now) (image_of (bytes_of copy)) (reads (g.D.Disk.moments c.args.disk.now)) s c.in_ok-copy.ensures.taken c.in_ok-copy.ensures.copied begun)
     c.start_in.ensures.begun
 
 pub returns-clause-refused : goal.returns-clause-refused

@@ -9,6 +9,7 @@ use Rattle.ufs_volume.proofs.Folds.{is_folded}
 use Rattle.ufs_start.specs.Copies.{IsOfInode}
 use Rattle.ufs_start.specs.Ends.{end_of_forms}
 use Rattle.ufs_start.proofs.Ends.{used_before}
+use Rattle.ufs_start.specs.Fronts.{bytes_of}
 use Rattle.ufs_start.proofs.used.end_of_used.Goals as goal
 
 same_volume : (v w : Volume) → ◌≡◌ {A = Result Volume Refusal} (Ok v) (Ok w) → v ≡ w
@@ -26,7 +27,7 @@ returns-clause-image c = (c.read_findings.ensures.read_only refl).content ∙ (c
 pub returns-clause-behind : goal.returns-clause-behind
 returns-clause-behind c v e sector less of =
     let g = c.args.geometry.now in
-    let disk : Image = image_of c.args.copy.now.bytes.items in
+    let disk : Image = image_of (bytes_of c.args.copy.now) in
     let w = c.in-Ok.volume in
     let image : Image = folded_image w disk in
     let same : v ≡ volume_in w disk = same_volume v (volume_in w disk) (sym e ∙ c.in-Ok.ensures.taken refl) in
