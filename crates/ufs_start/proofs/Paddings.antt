@@ -1,7 +1,7 @@
 -- Parts of bytes with zeros behind them.
 use Rattle.std.proofs.Common.{◌≡◌, ℕ, ◌+◌, ◌-◌, ◌*◌, ◌/◌, ◌%◌, ◌<◌, ◌≤◌, inl, inr, min, List, [], ◌++◌, length, take, drop, replicate, ap, sym, refl, ◌∙◌, subst, arith, append_assoc, length-append, length-drop}
 use Rattle.std.proofs.lemmas.Bool.{cases_lt}
-use Rattle.std.proofs.lemmas.List.{append-nil, drop-append-le, drop-replicate, drop_all, length-replicate, length-take-le, replicate-append-replicate, take-append-le, take-replicate, take_all}
+use Rattle.std.proofs.lemmas.List.{append-nil, drop-append-le, drop-replicate, drop_all, length-replicate, length-take-le, replicate-append-replicate, take-append-le, take-replicate, take_all, take_at}
 use Rattle.std.proofs.Math.Seq.{drop-append-add, take-append-add}
 use Rattle.ufs_disk.specs.Bytes.{image_of}
 use Rattle.ufs_disk.specs.Disk.{bytes_from, overwritten}
@@ -16,16 +16,17 @@ padded_is count bytes = refl
 
 -- ---- more zeros
 
+more : (bytes : List ℕ) (a b all : ℕ) → a + b ≡ all → (bytes ++ replicate a 0) ++ replicate b 0 ≡ bytes ++ replicate all 0
+more bytes a b all is =
+    append_assoc bytes (replicate a 0) (replicate b 0)
+    ∙ ap (λ (z : List ℕ). bytes ++ z) (replicate-append-replicate a b 0 ∙ ap (λ (k : ℕ). replicate k 0) is)
+
 pub padded_more : (m n : ℕ) (bytes : List ℕ) → m ≤ n → padded n (padded m bytes) ≡ padded n bytes
 unfolding padded
 padded_more m n bytes fits =
-    let a : ℕ = m - length bytes in
-    let b : ℕ = n - length {A = ℕ} (bytes ++ replicate a 0) in
-    let long = length-append bytes (replicate a 0) in
-    let own : length {A = ℕ} (replicate a 0) ≡ a = length-replicate {A = ℕ} a 0 in
-    let all : a + b ≡ n - length bytes = omega (arith, long, own, fits) in
-    append_assoc bytes (replicate a 0) (replicate b 0)
-    ∙ ap (λ (z : List ℕ). bytes ++ z) (replicate-append-replicate a b 0 ∙ ap (λ (k : ℕ). replicate k 0) all)
+    let long = length-append bytes (replicate (m - length bytes) 0) in
+    let own = length-replicate {A = ℕ} (m - length bytes) 0 in
+    more bytes (m - length bytes) (n - length {A = ℕ} (bytes ++ replicate (m - length bytes) 0)) (n - length bytes) (omega (arith, long, own, fits))
 
 pub padded_enough : (count : ℕ) (bytes : List ℕ) → count ≤ length bytes → padded count bytes ≡ bytes
 unfolding padded
@@ -115,17 +116,24 @@ left_is at start bytes begins = take_all (length bytes - start) (drop start byte
     ]
 
 -- with zeros behind it
-pub copied_out : (m k : ℕ) (there left : List ℕ) → there ≡ left → k ≡ min (length there) m → take k there ++ drop (length (take k there)) (replicate m 0) ≡ padded m (take m left)
-copied_out m k there left same ends =
-    (λ i. part i ++ drop (length (part i)) (replicate m 0))
-    ∙ ap (λ (z : List ℕ). take m left ++ z) (drop-replicate (length (take m left)) m 0)
-    ∙ sym (padded_is m (take m left))
+pub copied_out : (m k : ℕ) (there left old : List ℕ) → there ≡ left → k ≡ min (length there) m → take k (take k there ++ old) ++ replicate (m - k) 0 ≡ padded m (take m left)
+copied_out m k there left old same ends =
+    (λ i. (front ∙ part) i ++ replicate (m - counted i) 0) ∙ sym (padded_is m (take m left))
   where
+    sized : length (take k there) ≡ k
+    sized = length-take-le k there (omega (arith, ends))
+
+    front : take k (take k there ++ old) ≡ take k there
+    front = take_at (take k there) old k sized
+
     part : take k there ≡ take m left
     part = elim (cases_lt (length there) m) [
       | inl few ↦ take_all k there (omega (arith, ends, few)) ∙ sym (take_all m there (omega (arith, few))) ∙ ap (take m) same
       | inr many ↦ ap (λ (n : ℕ). take n there) (omega (arith, ends, many)) ∙ ap (take m) same
     ]
+
+    counted : k ≡ length (take m left)
+    counted = sym sized ∙ ap (λ (l : List ℕ). length l) part
 
 -- ---- sectors
 

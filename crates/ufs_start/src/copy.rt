@@ -1,6 +1,7 @@
 // A copy in memory of what an image uses.
 ghost use Rattle.std.specs.Prelude.{ℕ, ◌≡◌, ◌≤◌, ◌<◌, ◌+◌, ◌*◌, length, None, Some, IsTrue, IfOk, IfErr, IfSome, IfNone, OnOk};
 ghost use Rattle.ufs_base.specs.declared.sizes.TheConstants.{MAX_BLOCKS, SECTOR};
+ghost use Rattle.ufs_base.specs.Faults.{RoseTo};
 ghost use Rattle.ufs_disk.specs.Bytes.{image_of};
 ghost use Rattle.ufs_disk.specs.Disk.{IsRange, bytes_from};
 ghost use Rattle.ufs_disk.specs.Moments.{reads};
@@ -18,11 +19,21 @@ use crate::used::end_of_used;
 use std::alloc::{AllocError, Global};
 use ufs_base::{BLOCK, SECTOR};
 use ufs_catalog::RecoverFault;
-use ufs_disk::Disk;
+use ufs_disk::{Disk, Fault};
 use ufs_layout::{Geometry, get_super};
 
 // The sectors of a call.
 const SECTORS: u32 = 8;
+
+// A call of the disk failed.
+fn of_device(fault: Fault) -> RecoverFault
+    ensures cause { (before now : ℕ) → RoseTo before now fault.number → HasFaultCause before now result }
+    ensures outside { IsOutside result }
+{
+    RecoverFault::Device {
+        fault: fault.number,
+    }
+}
 
 // The first sectors of a disk, by one call.
 fn first_sectors<D: Disk>(alloc: Global, disk: &mut D, count: u32) -> Result<Vec<u8>, RecoverFault>
@@ -39,9 +50,7 @@ fn first_sectors<D: Disk>(alloc: Global, disk: &mut D, count: u32) -> Result<Vec
 {
     let mut bytes = vec![in alloc; 0; SECTOR * count as usize]?;
     if let Err(fault) = disk.read(0, &mut bytes) {
-        return Err(RecoverFault::Device {
-            fault: fault.number,
-        });
+        return Err(of_device(fault));
     }
     Ok(bytes)
 }
@@ -66,9 +75,7 @@ fn copy_block<D: Disk>(copy: &mut FrontDisk, disk: &mut D, block: u32) -> Result
             copy.put(SECTORS * block, &bytes);
             Ok(())
         }
-        Err(fault) => Err(RecoverFault::Device {
-            fault: fault.number,
-        }),
+        Err(fault) => Err(of_device(fault)),
     }
 }
 

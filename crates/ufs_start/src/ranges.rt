@@ -1,5 +1,5 @@
 // Parts of bytes with zeros behind them.
-ghost use Rattle.std.specs.Prelude.{◌≡◌, ◌≤◌, ◌+◌, ◌++◌, length, replicate, take, drop};
+ghost use Rattle.std.specs.Prelude.{◌≡◌, ◌≤◌, ◌+◌, ◌-◌, ◌++◌, length, replicate, take, drop};
 ghost use Rattle.std.specs.Vec.{vec_capacity};
 ghost use Rattle.ufs_start.specs.Padded.{padded};
 
@@ -40,6 +40,13 @@ fn clear(buf: &mut [u8])
     }
 }
 
+fn clear_behind(buf: &mut [u8], count: usize)
+    requires { count ≤ length buf.old }
+    ensures { buf.new ≡ take count buf.old ++ replicate (length buf.old - count) 0 }
+{
+    clear(&mut buf[count..]);
+}
+
 fn put_first(buf: &mut [u8], bytes: &[u8])
     requires { length bytes.now ≤ length buf.old }
     ensures { buf.new ≡ bytes.now ++ drop (length bytes.now) buf.old }
@@ -52,6 +59,7 @@ pub(crate) fn copy_out(held: &[u8], at: usize, buf: &mut [u8])
     ensures { buf.new ≡ padded (length buf.old) (take (length buf.old) (drop at held.now)) }
 {
     let there = &held[at.min(held.len())..];
-    clear(buf);
-    put_first(buf, &there[..there.len().min(buf.len())]);
+    let count = there.len().min(buf.len());
+    put_first(buf, &there[..count]);
+    clear_behind(buf, count);
 }
