@@ -1,6 +1,11 @@
 pub mod OverLemmas
 pub mod SpanLemmas
 pub mod TableLemmas
+pub mod ThereLemmas
 pub mod ContentLemmas
+pub mod ByteLemmas
 pub mod HandLemmas
+pub mod NeededLemmas
 pub mod ExcuseLemmas
+pub mod FilledLemmas
+pub mod UnreadLemmas

@@ -12,7 +12,7 @@ use Rattle.ufs_file.proofs.OverLemmas.{length-over}
 
 -- ---- marks
 
-mark_there : (ms : List Bool) (k : ℕ) → get_or ms k false ≡ true → slice_get ms k ≡ Some true
+pub mark_there : (ms : List Bool) (k : ℕ) → get_or ms k false ≡ true → slice_get ms k ≡ Some true
 mark_there ms k is = by (cases_lt k (length ms))
   where
     by : (k < length ms) ⊎ (length ms ≤ k) → slice_get ms k ≡ Some true
@@ -20,23 +20,23 @@ mark_there ms k is = by (cases_lt k (length ms))
     by (inr past) = (let none : get_or ms k false ≡ false = get_or_past ms k false past in absurd cc)
 
 -- a mark of another list that agrees there
-moved : (xs ys : List Bool) (k : ℕ) → get_or xs k false ≡ get_or ys k false → slice_get xs k ≡ Some true → slice_get ys k ≡ Some true
+pub moved : (xs ys : List Bool) (k : ℕ) → get_or xs k false ≡ get_or ys k false → slice_get xs k ≡ Some true → slice_get ys k ≡ Some true
 moved xs ys k same is = mark_there ys k (sym same ∙ get_or_from_slice_get xs k true false is)
 
-over-before : {X : Type 0} (old new : List X) (at k : ℕ) (d : X) → at + length new ≤ length old → k < at → get_or (over old at new) k d ≡ get_or old k d
+pub over-before : {X : Type 0} (old new : List X) (at k : ℕ) (d : X) → at + length new ≤ length old → k < at → get_or (over old at new) k d ≡ get_or old k d
 over-before old new at k d fits less =
     let front : length (take at old) ≡ at = length-take-le at old (omega arith) in
     get_or_append_left (take at old ++ new) (drop (at + length new) old) d k (omega (arith, length-append (take at old) new))
     ∙ get_or_append_left (take at old) new d k (omega arith) ∙ get_or-take at old k d less
 
-over-past : {X : Type 0} (old new : List X) (at k : ℕ) (d : X) → at + length new ≤ length old → at + length new ≤ k → get_or (over old at new) k d ≡ get_or old k d
+pub over-past : {X : Type 0} (old new : List X) (at k : ℕ) (d : X) → at + length new ≤ length old → at + length new ≤ k → get_or (over old at new) k d ≡ get_or old k d
 over-past old new at k d fits past =
     let n = at + length new in
     let front : length (take at old ++ new) ≡ n = length-append (take at old) new ∙ ap (λ j. j + length new) (length-take-le at old (omega arith)) in
     let e : n + (k - n) ≡ k = omega arith in
     get_or-append_right (take at old ++ new) (drop n old) n k d front past ∙ get_or-drop n old (k - n) d ∙ ap (λ j. get_or old j d) e
 
-over-inside : {X : Type 0} (old new : List X) (at k : ℕ) (d : X) → at + length new ≤ length old → at ≤ k → k < at + length new → get_or (over old at new) k d ≡ get_or new (k - at) d
+pub over-inside : {X : Type 0} (old new : List X) (at k : ℕ) (d : X) → at + length new ≤ length old → at ≤ k → k < at + length new → get_or (over old at new) k d ≡ get_or new (k - at) d
 over-inside old new at k d fits from less =
     let front : length (take at old) ≡ at = length-take-le at old (omega arith) in
     get_or_append_left (take at old ++ new) (drop (at + length new) old) d k (omega (arith, length-append (take at old) new))

@@ -1,8 +1,8 @@
 -- One file, as a server holds it.
-use Rattle.std.specs.Prelude.{ℕ, ◌+◌, ◌-◌, ◌≡◌, ◌<◌, ◌≤◌, ⊤, List, length, Option, Some, None, ◌==◌, nat_lt, if◌then◌else◌}
+use Rattle.std.specs.Prelude.{ℕ, ◌+◌, ◌-◌, ◌/◌, ◌≡◌, ◌<◌, ◌≤◌, ⊤, min, List, length, Option, Some, None, ◌==◌, nat_lt, if◌then◌else◌}
 use Rattle.std.specs.FinSet as set
 use Rattle.std.specs.FinMap as map
-use Rattle.ufs_base.specs.declared.sizes.TheConstants.{MAX_EXTENTS}
+use Rattle.ufs_base.specs.declared.sizes.TheConstants.{BLOCK, MAX_EXTENTS}
 use Rattle.ufs_model.specs.PosixTree.{PosixTree}
 use Rattle.ufs_model.specs.FileBytes.{place_of}
 use Rattle.ufs_model.specs.Asks.{IsDescAfter, fd_named}
@@ -20,7 +20,7 @@ use Rattle.ufs_model.specs.declared.data.Excuse.TheVariants as excuse
 use Rattle.ufs_extent.specs.declared.Run.{Run}
 use Rattle.ufs_extent.specs.Runs.{blocks_of, appended_all, first_runs, last_runs}
 use Rattle.ufs_bitmap.specs.Blocks.{BlockSet}
-use Rattle.ufs_file.specs.Content.{Content, block_count, grown, written_over, shortened}
+use Rattle.ufs_file.specs.Content.{Content, AreThere, block_count, grown, written_over, shortened}
 use Rattle.ufs_bitmap.specs.Taking.{Takes, set_of}
 use Rattle.ufs_model.specs.FileCalls.{IsFileIn, file_refusal, file_step}
 
@@ -31,6 +31,52 @@ pub record FileState : Type 0 where
   -- where its blocks lie
   pub extents : List Run
   pub content : Content
+
+-- the same file with these bytes
+abbrev pub filled : List ℕ → FileState → FileState
+filled bytes f = record f { content = record f.content { bytes = bytes } }
+
+-- ---- which blocks a request needs in memory, by the file's size: those from one place on, below another
+
+-- that in which a read begins; behind the last block it needs none
+abbrev pub read_from : ℕ → ℕ → ℕ
+read_from size at = min (at / BLOCK) (block_count size)
+
+-- up to where a read or a write ends, or the file
+abbrev pub end_within : ℕ → ℕ → ℕ → ℕ
+end_within size at count = block_count (min (at + count) size)
+
+-- where a `write` begins
+abbrev pub write_place : Desc → ℕ → ℕ
+write_place d size = if d.append then size else d.at
+
+-- A write needs the blocks of the file in which it lies, and one behind the end the block in which that lies.
+abbrev pub write_from : ℕ → ℕ → ℕ
+write_from size at = min at size / BLOCK
+
+abbrev pub write_end : ℕ → ℕ → ℕ → ℕ
+write_end size at count = if count == 0 then write_from size at else end_within size at count
+
+abbrev pub needed_from : ℕ → Desc → Op → ℕ
+needed_from size d (op.Read fd n) = read_from size d.at
+needed_from size d (op.Pread fd n at) = read_from size at
+needed_from size d (op.Write fd fresh) = write_from size (write_place d size)
+needed_from size d (op.Pwrite fd fresh at) = write_from size at
+needed_from size d (op.Trunc fd size') = min size' size / BLOCK
+needed_from size d _ = 0
+
+-- A cut between two blocks needs none.
+abbrev pub needed_end : ℕ → Desc → Op → ℕ
+needed_end size d (op.Read fd n) = end_within size d.at n
+needed_end size d (op.Pread fd n at) = end_within size at n
+needed_end size d (op.Write fd fresh) = write_end size (write_place d size) (length fresh)
+needed_end size d (op.Pwrite fd fresh at) = write_end size at (length fresh)
+needed_end size d (op.Trunc fd size') = block_count (min size' size)
+needed_end size d _ = 0
+
+-- The blocks that a request needs are in memory.
+abbrev pub HasNeeded : Content → Desc → Op → Type 0
+HasNeeded c d request = AreThere c.there (needed_from (length c.bytes) d request) (needed_end (length c.bytes) d request)
 
 -- ---- what a request leaves in memory
 

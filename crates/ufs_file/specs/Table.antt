@@ -1,5 +1,5 @@
 -- What a file's blocks in memory stand for.
-use Rattle.std.specs.Prelude.{◌≡◌, ℕ, ◌+◌, ◌*◌, ◌-◌, ◌<◌, ◌≤◌, List, [], ◌∷◌, ◌++◌, map, drop, replicate, length, All, Bool}
+use Rattle.std.specs.Prelude.{◌≡◌, ℕ, ◌+◌, ◌*◌, ◌-◌, ◌<◌, ◌≤◌, List, [], ◌∷◌, ◌++◌, map, drop, replicate, length, All, Bool, true, if◌then◌else◌}
 use Rattle.ufs_base.specs.declared.sizes.TheConstants.{BLOCK}
 use Rattle.ufs_file.specs.Span.{AreWithin}
 use Rattle.ufs_file.specs.declared.blocks.Block.{Block}
@@ -10,18 +10,27 @@ use Rattle.ufs_file.specs.declared.span.Span.{Span}
 abbrev pub max_held : ℕ
 max_held = 268435456
 
+-- a block's bytes, or zeros in their stead where it isn't in memory
+abbrev pub shown : Block → List ℕ
+shown b = if b.there then b.bytes.items else replicate BLOCK 0
+
 -- the bytes of the blocks in order
 abbrev pub bytes_in : List Block → List ℕ
 bytes_in [] = []
-bytes_in (b ∷ bs) = b.bytes.items ++ bytes_in bs
+bytes_in (b ∷ bs) = shown b ++ bytes_in bs
 
 -- which blocks were written since they were read or made
 abbrev pub marks_of : List Block → List Bool
 marks_of bs = map (λ (b : Block). b.dirty) bs
 
--- a block is there whole
-abbrev pub IsWhole : Block → Type 0
-IsWhole b = length b.bytes.items ≡ BLOCK
+-- which blocks are in memory
+abbrev pub there_of : List Block → List Bool
+there_of bs = map (λ (b : Block). b.there) bs
+
+-- A block that is in memory is there whole, and no other one was written.
+pub record IsWhole (b : Block) : Type 0 where
+  pub size : b.there ≡ true → length b.bytes.items ≡ BLOCK
+  pub written : b.dirty ≡ true → b.there ≡ true
 
 -- The blocks hold so many bytes, no block too many, and zeros behind the end.
 pub record IsTable (size : ℕ) (bs : List Block) : Type 0 where

@@ -1,7 +1,10 @@
-ghost use Rattle.std.specs.Prelude.{◌≡◌, ◌+◌, ◌≤◌, ◌<◌, length, IfOk, OnOk, OnErr};
+ghost use Rattle.std.specs.Prelude.{◌≡◌, ◌+◌, ◌-◌, ◌≤◌, ◌<◌, ◌++◌, length, replicate, IfOk, OnOk, OnErr};
 ghost use Rattle.ufs_file.specs.Content.{Content, no_content, grown, written_over, shortened};
 
-use crate::blocks::{Block, clean_all, cut_over, mark_at, piece, put_over, read_over, zero_blocks};
+use crate::blocks::{
+    Block, absent_blocks, clean_all, cut_over, fill_at, mark_at, piece, put_over, read_over,
+    zero_blocks,
+};
 use crate::span::Span;
 use std::alloc::Global;
 use std::marker::Model;
@@ -12,8 +15,8 @@ use ufs_base::{BLOCK, Memory};
 /// has.
 pub const MAX_HELD: u64 = 268_435_456;
 
-/// A file's bytes, kept as a table of blocks by their places in the file, each with a mark that tells whether it was
-/// written since it was read or made.
+/// A file's bytes, kept as a table of blocks by their places in the file, each with marks that tell whether it was
+/// written since it was read or made, and whether it is in memory.
 #[derive(Drop)]
 pub struct Blocks {
     alloc: Global,
@@ -26,19 +29,20 @@ pub struct Blocks {
 impl Model for Blocks {
     ghost use Rattle.std.specs.Prelude.{take};
     ghost use Rattle.ufs_file.specs.Content.{Content};
-    ghost use Rattle.ufs_file.specs.Table.{bytes_in, marks_of, IsKept};
+    ghost use Rattle.ufs_file.specs.Table.{bytes_in, marks_of, there_of, IsKept};
 
     ghost Value = { Content };
 
-    ghost view = { λ b. record { bytes = take b.size (bytes_in b.table.items); dirty = marks_of b.table.items } };
+    ghost view = { λ b. record { bytes = take b.size (bytes_in b.table.items); dirty = marks_of b.table.items; there = there_of b.table.items } };
 
     ghost invariant = { λ b. IsKept b.size b.table.items b.span };
 }
 
 impl Blocks {
-    ghost use Rattle.std.specs.Prelude.{ℕ, ◌≡◌, ◌+◌, ◌≤◌, ◌<◌, length, max, slice_get, IfOk, OnOk, OnErr, IfSome, IfNone, Some, true};
+    ghost use Rattle.std.specs.Prelude.{ℕ, ◌≡◌, ◌+◌, ◌-◌, ◌*◌, ◌/◌, ◌≤◌, ◌<◌, ◌++◌, length, max, min, take, replicate, slice_get, IfOk, OnOk, OnErr, IfSome, IfNone, Some, true, false};
     ghost use Rattle.ufs_model.specs.FileBytes.{part};
-    ghost use Rattle.ufs_file.specs.Content.{Content, no_content, as_read, block_bytes, block_count, cleaned, grown, marked, written_over, shortened};
+    ghost use Rattle.ufs_file.specs.Content.{AreThere, Content, no_content, as_read, block_bytes, block_count, cleaned, grown, loaded, marked, written_over, shortened, unread};
+    ghost use Rattle.ufs_file.specs.Hand.{end_within, read_from};
     ghost use Rattle.ufs_file.specs.Table.{max_held};
 
     /// No byte. Takes no memory.
@@ -65,11 +69,27 @@ impl Blocks {
         Ok(blocks)
     }
 
+    /// So many bytes of which none is in memory.
+    pub fn unread(alloc: Global, size: u64) -> Result<Blocks, Memory>
+        requires { size ≤ max_held }
+        ensures { IfOk result (λ b. b ≡ unread size) }
+    {
+        let size = size as usize;
+        Ok(Blocks {
+            alloc,
+            size,
+            table: absent_blocks(alloc, size.div_ceil(BLOCK))?,
+            span: Span::EMPTY,
+        })
+    }
+
     // Writes over all bytes.
     fn fill(&mut self, bytes: &[u8])
-        requires { length bytes.now ≡ length self.old.bytes }
+        requires long { length bytes.now ≡ length self.old.bytes }
+        requires there { self.old.there ≡ replicate (block_count (length bytes.now)) true }
         ensures bytes { self.new.bytes ≡ bytes.now }
         ensures marks { length self.new.dirty ≡ block_count (length bytes.now) }
+        ensures there { self.new.there ≡ self.old.there }
     {
         if !bytes.is_empty() {
             self.write(0, bytes);
@@ -83,6 +103,7 @@ impl Blocks {
         ensures size { result ≡ length self.now.bytes }
         ensures small { result ≤ max_held }
         ensures blocks { length self.now.dirty ≡ block_count (length self.now.bytes) }
+        ensures there { length self.now.there ≡ block_count (length self.now.bytes) }
     {
         self.size as u64
     }
@@ -100,6 +121,7 @@ impl Blocks {
 
     /// At most n bytes from a place on.
     pub fn read(&self, at: u64, n: u32) -> Result<Vec<u8>, Memory>
+        requires { AreThere self.now.there (read_from (length self.now.bytes) at) (end_within (length self.now.bytes) at n) }
         ensures { IfOk result (λ got. got.items ≡ part self.now.bytes at n) }
     {
         let count = self.count_from(at, n);
@@ -131,6 +153,7 @@ impl Blocks {
     pub fn write(&mut self, at: u64, fresh: &[u8])
         requires some { 0 < length fresh.now }
         requires inside { at + length fresh.now ≤ length self.old.bytes }
+        requires there { AreThere self.old.there (at / BLOCK) (block_count (at + length fresh.now)) }
         ensures { self.new ≡ written_over self.old at fresh.now }
     {
         let at = at as usize;
@@ -141,7 +164,8 @@ impl Blocks {
 
     /// Keeps so many bytes. Takes no memory.
     pub fn cut(&mut self, size: u64)
-        requires { size ≤ length self.old.bytes }
+        requires shorter { size ≤ length self.old.bytes }
+        requires there { AreThere self.old.there (size / BLOCK) (block_count size) }
         ensures { self.new ≡ shortened self.old size }
     {
         let size = size as usize;
@@ -153,10 +177,21 @@ impl Blocks {
 
     /// Whether the block at this place was written since it was read or made.
     pub fn is_dirty(&self, place: usize) -> Option<bool>
-        ensures { result ≡ slice_get self.now.dirty place }
+        ensures mark { result ≡ slice_get self.now.dirty place }
+        ensures there { slice_get self.now.dirty place ≡ Some true → slice_get self.now.there place ≡ Some true }
     {
         match self.table.get(place) {
             Some(block) => Some(block.dirty),
+            None => None,
+        }
+    }
+
+    /// Whether the block at this place is in memory.
+    pub fn is_there(&self, place: usize) -> Option<bool>
+        ensures { result ≡ slice_get self.now.there place }
+    {
+        match self.table.get(place) {
+            Some(block) => Some(block.there),
             None => None,
         }
     }
@@ -170,16 +205,30 @@ impl Blocks {
         self.span.from..self.span.to
     }
 
-    /// The block at this place, whole: with zeros behind the file's end.
+    /// The block at this place, whole, if it is in memory: with zeros behind the file's end.
     pub fn block(&self, place: usize) -> Option<&[u8]>
         ensures bytes { IfSome result (λ b. b.now ≡ block_bytes self.now.bytes place) }
-        ensures there { IfSome result (λ b. place < length self.now.dirty) }
-        ensures past { IfNone result (length self.now.dirty ≤ place) }
+        ensures place { IfSome result (λ b. place < length self.now.dirty) }
+        ensures there { IfSome result (λ b. slice_get self.now.there place ≡ Some true) }
+        ensures none { IfNone result (slice_get self.now.there place ≡ Some true → ⊥) }
     {
-        if place >= self.table.len() {
-            return None;
+        match self.is_there(place) {
+            Some(true) => Some(piece(self.table.as_slice(), place, 0, BLOCK)),
+            _ => None,
         }
-        Some(piece(self.table.as_slice(), place, 0, BLOCK))
+    }
+
+    /// The block at this place was read. What it has behind the file's end isn't kept. Copies it.
+    pub fn load(&mut self, place: usize, block: &[u8]) -> Result<(), Memory>
+        requires absent { slice_get self.old.there place ≡ Some false }
+        requires size { length block.now ≡ BLOCK }
+        ensures ok { OnOk result (self.new ≡ loaded self.old place block.now) }
+        ensures err { OnErr result (self.new ≡ self.old) }
+    {
+        let inside = (self.size - BLOCK * place).min(BLOCK);
+        let bytes = padded(self.alloc, &block[..inside])?;
+        fill_at(&mut self.table, place, bytes);
+        Ok(())
     }
 
     /// What was written is on a disk: no block is marked any more. Takes no memory.
@@ -192,10 +241,21 @@ impl Blocks {
 
     /// The block at this place is to be written: the disk has other bytes behind the file's end. Takes no memory.
     pub fn mark(&mut self, place: usize)
-        requires { place < length self.old.dirty }
+        requires { slice_get self.old.there place ≡ Some true }
         ensures { self.new ≡ marked self.old place }
     {
         mark_at(&mut self.table, place, true);
         self.span = self.span.widened(place, place + 1);
     }
+}
+
+// A block of these bytes, with zeros behind them.
+fn padded(alloc: Global, bytes: &[u8]) -> Result<Vec<u8>, Memory>
+    requires { length bytes.now ≤ BLOCK }
+    ensures { IfOk result (λ got. got.items ≡ bytes.now ++ replicate (BLOCK - length bytes.now) 0) }
+{
+    let mut got = Vec::with_capacity(alloc, BLOCK)?;
+    got.extend_from_slice(bytes)?;
+    got.resize(BLOCK, 0)?;
+    Ok(got)
 }

@@ -6,6 +6,7 @@ ghost use Rattle.ufs_file.specs.Hand.{IsEntryOf};
 
 use crate::answers::answered;
 use crate::content::Blocks;
+use crate::needed::{cut_places, read_places, write_places};
 use std::alloc::Global;
 use std::marker::Model;
 use std::ops::Range;
@@ -17,7 +18,7 @@ use ufs_model::{
     Actor, Ask, Bytes, Desc, Entry, Errno, Excuse, Op, Reply, Whence, a_file_goes_on_by_itself,
 };
 
-/// One file: its number and inode, where its blocks lie, and its bytes.
+/// One file: its number and inode, where its blocks lie, and its bytes, as far as they are in memory.
 #[derive(Drop)]
 pub struct FileHand {
     alloc: Global,
@@ -55,7 +56,7 @@ impl Model for FileHand {
 }
 
 impl FileHand {
-    ghost use Rattle.std.specs.Prelude.{ℕ, ◌≡◌, ◌+◌, ◌-◌, ◌≤◌, ◌<◌, ◌^◌, [], length, All, false, IfOk, IfErr, OnOk, OnErr, IfSome, IfNone, Some, None, true, if◌then◌else◌, unwrap_or, slice_get};
+    ghost use Rattle.std.specs.Prelude.{ℕ, ◌≡◌, ◌+◌, ◌-◌, ◌/◌, ◌≤◌, ◌<◌, ◌^◌, [], List, length, min, All, false, IfOk, IfErr, OnOk, OnErr, IfSome, IfNone, Some, None, true, if◌then◌else◌, unwrap_or, slice_get};
     ghost use Rattle.std.specs.FinSet as set;
     ghost use Rattle.ufs_model.specs.Bounds.{IsBounded};
     ghost use Rattle.ufs_model.specs.Descriptors as descriptors;
@@ -64,11 +65,11 @@ impl FileHand {
     ghost use Rattle.ufs_model.specs.declared.data.Reply.TheVariants.{Got};
     ghost use Rattle.ufs_model.specs.declared.data.Excuse.TheVariants as excuse;
     ghost use Rattle.ufs_extent.specs.Runs.{IsRun, blocks_of, appended_all};
-    ghost use Rattle.ufs_file.specs.Content.{as_read, no_content, block_bytes, block_count, cleaned, marked, shortened, written_over};
+    ghost use Rattle.ufs_file.specs.Content.{AreThere, IsContentOf, as_read, no_content, block_bytes, block_count, cleaned, loaded, marked, shortened, unread, written_over};
     ghost use Rattle.ufs_bitmap.specs.Taking.{IsApart, Takes, set_of};
-    ghost use Rattle.ufs_model.specs.FileCalls.{is_on_file, place_refusal, file_refusal, file_answer, desc_after};
+    ghost use Rattle.ufs_model.specs.FileCalls.{is_on_file, place_refusal, file_refusal, file_answer, file_step, desc_after};
     ghost use Rattle.ufs_file.specs.Table.{max_held};
-    ghost use Rattle.ufs_file.specs.Hand.{FileState, IsCause, IsChanged, lengthened, content_put, content_sized, content_after, missing, IsServedByFile, IsExcusedFor, IsEntryOf, IsOf, IsFileOf, IsPosix};
+    ghost use Rattle.ufs_file.specs.Hand.{FileState, HasNeeded, filled, needed_from, needed_end, end_within, read_from, write_from, write_end, IsCause, IsChanged, lengthened, content_put, content_sized, content_after, missing, IsServedByFile, IsExcusedFor, IsEntryOf, IsOf, IsFileOf, IsPosix};
     ghost use Rattle.ufs_model.specs.PosixTree.{PosixTree};
     ghost use Rattle.ufs_model.specs.Asks.{IsAsk};
     ghost use Rattle.ufs_model.specs.Excuses.{ExcuseFits};
@@ -114,17 +115,46 @@ impl FileHand {
         })
     }
 
+    /// A file of which nothing was read but where its blocks lie, and its size. It takes a few bytes a block.
+    pub fn unread(
+        alloc: Global,
+        file: u32,
+        inode: u32,
+        extents: Extents,
+        size: u64,
+    ) -> Result<FileHand, Memory>
+        requires small { size ≤ max_held }
+        requires blocks { length (blocks_of extents) ≡ block_count size }
+        ensures { IfOk result (λ h. h ≡ record { file = file; inode = inode; extents = extents; content = unread size }) }
+    {
+        let blocks = Blocks::unread(alloc, size)?;
+        Ok(FileHand {
+            alloc,
+            file,
+            inode,
+            extents,
+            blocks,
+        })
+    }
+
     /// Serves a request on a descriptor of the file: the reply and the descriptor are those of the step of its bytes,
     /// and the file goes on by it; blocks that it lacks come from the pool, and those that it has no use for go back.
-    /// Where room is wanting the reply is the excuse for its cause, and nothing has changed. The caller gives the ticket.
+    /// Where room is wanting the reply is the excuse for its cause, and nothing has changed. The caller gives the ticket, and
+    /// has loaded each block of `needed_places`, unless the request is refused. What is served, and how the file goes on,
+    /// holds for whatever bytes the other blocks have on the disk.
     pub fn apply(&mut self, ask: Ask, by: Actor, ticket: u64, pool: &mut Pool) -> Applied
         requires kind { is_on_file ask.op ≡ true }
         requires bounded { IsBounded ask.op }
         requires named { IsOf ask.desc self.old.file }
         requires apart { IsApart pool.old (blocks_of self.old.extents) }
+        requires there { (d : Desc) → ask.desc ≡ Some d → file_refusal self.old.content.bytes d ask.op ≡ None → HasNeeded self.old.content d ask.op }
         ensures entry { IsEntryOf ask by ticket result.entry }
         ensures served { is_excused result.entry.reply ≡ false → (d : Desc) → ask.desc ≡ Some d → IsServedByFile self.old self.new pool.old pool.new d ask.op result.entry.reply result.desc }
         ensures excused { (x : Excuse) → result.entry.reply ≡ reply.Excused x → (d : Desc) → ask.desc ≡ Some d → IsExcusedFor self.old d ask.op pool.old x }
+        ensures any { is_excused result.entry.reply ≡ false → (d : Desc) → ask.desc ≡ Some d → (bytes : List ℕ) → IsContentOf self.old.content bytes
+            → IsServedByFile (filled bytes self.old) (filled (file_step bytes d ask.op).bytes self.new) pool.old pool.new d ask.op result.entry.reply result.desc }
+        ensures goes_on { is_excused result.entry.reply ≡ false → (d : Desc) → ask.desc ≡ Some d → (bytes : List ℕ) → IsContentOf self.old.content bytes → IsContentOf self.new.content (file_step bytes d ask.op).bytes }
+        ensures any_excused { (x : Excuse) → result.entry.reply ≡ reply.Excused x → (d : Desc) → ask.desc ≡ Some d → (bytes : List ℕ) → IsContentOf self.old.content bytes → IsExcusedFor (filled bytes self.old) d ask.op pool.old x }
         ensures posix { is_excused result.entry.reply ≡ false → (t : PosixTree) → IsFileOf self.old t → IsAsk t ask → IsPosix t ask self.new result.entry.reply result.desc }
         ensures fits { (x : Excuse) → result.entry.reply ≡ reply.Excused x → (t : PosixTree) → IsFileOf self.old t → IsAsk t ask → ExcuseFits t ask.client ask.op x }
         ensures number { self.new.file ≡ self.old.file }
@@ -139,6 +169,7 @@ impl FileHand {
         a_file_goes_on_by_itself();
         self.stays();
         self.few();
+        self.is_counted();
         let Some(desc) = ask.desc else { unreachable!() };
         let outcome = self.serve(&ask.op, desc, pool);
         self.few();
@@ -167,6 +198,7 @@ impl FileHand {
         ensures size { result ≡ length self.now.content.bytes }
         ensures small { result ≤ max_held }
         ensures blocks { length (blocks_of self.now.extents) ≡ block_count (length self.now.content.bytes) }
+        ensures there { length self.now.content.there ≡ block_count (length self.now.content.bytes) }
     {
         self.blocks.size()
     }
@@ -188,9 +220,82 @@ impl FileHand {
 
     /// Whether the block at this place was written since it was read or made.
     pub fn is_dirty(&self, place: usize) -> Option<bool>
-        ensures { result ≡ slice_get self.now.content.dirty place }
+        ensures mark { result ≡ slice_get self.now.content.dirty place }
+        ensures there { slice_get self.now.content.dirty place ≡ Some true → slice_get self.now.content.there place ≡ Some true }
     {
         self.blocks.is_dirty(place)
+    }
+
+    /// Whether the block at this place is in memory.
+    pub fn is_there(&self, place: usize) -> Option<bool>
+        ensures { result ≡ slice_get self.now.content.there place }
+    {
+        self.blocks.is_there(place)
+    }
+
+    /// The places of the blocks that a request on a descriptor of the file needs in memory.
+    pub fn needed_places(&self, op: &Op, desc: Desc) -> Range<u32>
+        ensures from { result.start ≡ needed_from (length self.now.content.bytes) desc op.now }
+        ensures end { result.end ≡ needed_end (length self.now.content.bytes) desc op.now }
+        ensures ordered { result.start ≤ result.end }
+        ensures there { result.end ≤ length self.now.content.there }
+    {
+        let held = self.size();
+        match op {
+            Op::Read { n, .. } => read_places(held, desc.at, *n as u64),
+            Op::Pread { n, at, .. } => read_places(held, *at, *n as u64),
+            Op::Write { bytes, .. } => {
+                write_places(held, self.place(desc), bytes.as_slice().len() as u64)
+            }
+            Op::Pwrite { bytes, at, .. } => write_places(held, *at, bytes.as_slice().len() as u64),
+            Op::Trunc { size, .. } => cut_places(held, *size),
+            _ => 0..0,
+        }
+    }
+
+    /// Whether a request on a descriptor of the file may be applied: it is refused, or the blocks that it needs are in memory.
+    pub fn is_ready(&self, op: &Op, desc: Desc) -> bool
+        requires { is_on_file op.now ≡ true }
+        ensures needed { result ≡ true → file_refusal self.now.content.bytes desc op.now ≡ None → HasNeeded self.now.content desc op.now }
+        ensures allowed { result ≡ false → file_refusal self.now.content.bytes desc op.now ≡ None }
+        ensures lacks { result ≡ false → HasNeeded self.now.content desc op.now → ⊥ }
+    {
+        if self.refusal(op, desc).is_some() {
+            return true;
+        }
+        let places = self.needed_places(op, desc);
+        self.are_there(places.start, places.end)
+    }
+
+    // Whether the blocks from one place on, below another, are in memory.
+    fn are_there(&self, from: u32, end: u32) -> bool
+        ensures yes { result ≡ true → AreThere self.now.content.there from end }
+        ensures no { result ≡ false → AreThere self.now.content.there from end → ⊥ }
+    {
+        for place in from..end {
+            if !self.has_block(place as usize) {
+                return false;
+            }
+        }
+        true
+    }
+
+    // Whether the block at this place is in memory.
+    fn has_block(&self, place: usize) -> bool
+        ensures yes { result ≡ true → slice_get self.now.content.there place ≡ Some true }
+        ensures no { result ≡ false → slice_get self.now.content.there place ≡ Some true → ⊥ }
+    {
+        matches!(self.is_there(place), Some(true))
+    }
+
+    /// The block at this place was read from the disk. What it has behind the file's end isn't kept. Copies it.
+    pub fn load(&mut self, place: usize, block: &[u8]) -> Result<(), Memory>
+        requires absent { slice_get self.old.content.there place ≡ Some false }
+        requires size { length block.now ≡ BLOCK }
+        ensures ok { OnOk result (self.new ≡ record self.old { content = loaded self.old.content place block.now }) }
+        ensures err { OnErr result (self.new ≡ self.old) }
+    {
+        self.blocks.load(place, block)
     }
 
     /// A range with the place of each block that was written since it was read or made. It is empty behind `clean`.
@@ -206,11 +311,12 @@ impl FileHand {
         places.start as u32..places.end as u32
     }
 
-    /// The bytes of the block at this place, with zeros behind the file's end.
+    /// The bytes of the block at this place, if it is in memory, with zeros behind the file's end.
     pub fn block(&self, place: usize) -> Option<&[u8]>
         ensures bytes { IfSome result (λ b. b.now ≡ block_bytes self.now.content.bytes place) }
-        ensures there { IfSome result (λ b. place < length self.now.content.dirty) }
-        ensures past { IfNone result (length self.now.content.dirty ≤ place) }
+        ensures place { IfSome result (λ b. place < length self.now.content.dirty) }
+        ensures there { IfSome result (λ b. slice_get self.now.content.there place ≡ Some true) }
+        ensures none { IfNone result (slice_get self.now.content.there place ≡ Some true → ⊥) }
     {
         self.blocks.block(place)
     }
@@ -226,7 +332,10 @@ impl FileHand {
     pub fn block_count(&self) -> u32
         ensures blocks { result ≡ length (blocks_of self.now.extents) }
         ensures marks { result ≡ length self.now.content.dirty }
+        ensures there { result ≡ length self.now.content.there }
     {
+        // For the prover alone.
+        let _size = self.blocks.size();
         self.extents.block_count()
     }
 
@@ -239,9 +348,11 @@ impl FileHand {
 
     /// The block at this place is to be written: the disk has other bytes there, behind the file's end. Takes no memory.
     pub fn mark(&mut self, place: usize)
-        requires { place < length self.old.content.dirty }
+        requires { slice_get self.old.content.there place ≡ Some true }
         ensures { self.new ≡ record self.old { content = marked self.old.content place } }
     {
+        // For the prover alone.
+        let _size = self.blocks.size();
         self.blocks.mark(place);
     }
 
@@ -305,6 +416,7 @@ impl FileHand {
 
     // At most n bytes, from a place on.
     fn read(&self, at: u64, n: u32) -> Result<Reply, Memory>
+        requires { AreThere self.now.content.there (read_from (length self.now.content.bytes) at) (end_within (length self.now.content.bytes) at n) }
         ensures { IfOk result (λ reply. reply ≡ Got (file_bytes.part self.now.content.bytes at n)) }
     {
         let got = self.blocks.read(at, n)?;
@@ -314,6 +426,7 @@ impl FileHand {
     fn answer(&self, op: &Op, desc: Desc) -> Result<Reply, Memory>
         requires bounded { IsBounded op.now }
         requires allowed { place_refusal self.now.content.bytes desc op.now ≡ None }
+        requires there { HasNeeded self.now.content desc op.now }
         ensures { IfOk result (λ reply. reply ≡ file_answer self.now.content.bytes desc op.now) }
     {
         match op {
@@ -350,6 +463,7 @@ impl FileHand {
         requires kind { is_on_file op.now ≡ true }
         requires bounded { IsBounded op.now }
         requires apart { IsApart pool.old (blocks_of self.old.extents) }
+        requires there { file_refusal self.old.content.bytes desc op.now ≡ None → HasNeeded self.old.content desc op.now }
         ensures ok { IfOk result (λ s. IsServedByFile self.old self.new pool.old pool.new desc op.now s.reply (Some s.desc)) }
         ensures apart { OnOk result (IsApart pool.new (blocks_of self.new.extents)) }
         ensures number { self.new.file ≡ self.old.file }
@@ -455,6 +569,7 @@ impl FileHand {
         requires small { size ≤ max_size }
         requires whole { length self.old.content.dirty ≡ block_count (length self.old.content.bytes) }
         requires apart { IsApart pool.old (blocks_of self.old.extents) }
+        requires there { AreThere self.old.content.there (size / BLOCK) (block_count size) }
         ensures ok { OnOk result (IsChanged self.old self.new pool.old pool.new (shortened self.old.content size)) }
         ensures apart { OnOk result (IsApart pool.new (blocks_of self.new.extents)) }
         ensures cause { IfErr result (λ x. x ≡ excuse.Memory) }
@@ -473,6 +588,7 @@ impl FileHand {
     fn resize(&mut self, size: u64, pool: &mut Pool) -> Result<(), Excuse>
         requires small { size ≤ max_size }
         requires apart { IsApart pool.old (blocks_of self.old.extents) }
+        requires there { AreThere self.old.content.there (min size (length self.old.content.bytes) / BLOCK) (block_count (min size (length self.old.content.bytes))) }
         ensures ok { OnOk result (IsChanged self.old self.new pool.old pool.new (content_sized self.old.content size)) }
         ensures apart { OnOk result (IsApart pool.new (blocks_of self.new.extents)) }
         ensures cause { IfErr result (λ x. IsCause self.old.extents (block_count (length (content_sized self.old.content size).bytes) - length (blocks_of self.old.extents)) pool.old x) }
@@ -491,6 +607,7 @@ impl FileHand {
     fn change(&mut self, op: &Op, desc: Desc, pool: &mut Pool) -> Result<(), Excuse>
         requires allowed { place_refusal self.old.content.bytes desc op.now ≡ None }
         requires apart { IsApart pool.old (blocks_of self.old.extents) }
+        requires there { HasNeeded self.old.content desc op.now }
         ensures ok { OnOk result (IsChanged self.old self.new pool.old pool.new (content_after self.old.content desc op.now)) }
         ensures apart { OnOk result (IsApart pool.new (blocks_of self.new.extents)) }
         ensures cause { IfErr result (λ x. IsCause self.old.extents (missing self.old desc op.now) pool.old x) }
@@ -516,10 +633,19 @@ impl FileHand {
         let _size = self.blocks.size();
     }
 
+    // A file knows of each block whether it is in memory.
+    fn is_counted(&self)
+        ensures { length self.now.content.there ≡ block_count (length self.now.content.bytes) }
+    {
+        // For the prover alone.
+        let _size = self.blocks.size();
+    }
+
     // Writes over bytes that are there.
     fn overwrite(&mut self, at: u64, fresh: &[u8])
         requires some { 0 < length fresh.now }
         requires inside { at + length fresh.now ≤ length self.old.content.bytes }
+        requires there { AreThere self.old.content.there (at / BLOCK) (block_count (at + length fresh.now)) }
         ensures { self.new ≡ record self.old { content = written_over self.old.content at fresh.now } }
     {
         // For the prover alone.
@@ -531,6 +657,7 @@ impl FileHand {
     fn put(&mut self, at: u64, fresh: &[u8], pool: &mut Pool) -> Result<(), Excuse>
         requires place { file_bytes.is_past at fresh.now ≡ false }
         requires apart { IsApart pool.old (blocks_of self.old.extents) }
+        requires there { AreThere self.old.content.there (write_from (length self.old.content.bytes) at) (write_end (length self.old.content.bytes) at (length fresh.now)) }
         ensures ok { OnOk result (IsChanged self.old self.new pool.old pool.new (content_put self.old.content at fresh.now)) }
         ensures apart { OnOk result (IsApart pool.new (blocks_of self.new.extents)) }
         ensures cause { IfErr result (λ x. IsCause self.old.extents (block_count (length (content_put self.old.content at fresh.now).bytes) - length (blocks_of self.old.extents)) pool.old x) }
@@ -541,6 +668,7 @@ impl FileHand {
             self.stays();
             return Ok(());
         }
+        self.is_counted();
         match self.lengthen(at + fresh.len() as u64, pool) {
             Ok(()) => {
                 self.overwrite(at, fresh);

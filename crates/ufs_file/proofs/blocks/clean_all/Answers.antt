@@ -18,6 +18,7 @@ loop-k-preserved c =
       bytes = c.mark_at.ensures.bytes ∙ c.loop-k.invariant.bytes;
       marks = c.mark_at.ensures.marks ∙ ap (λ (l : List Bool). over l k (false ∷ [])) c.loop-k.invariant.marks
           ∙ over_one (marks_of old) c.args.written.from k false c.loop-k.auto.k there;
+      there = c.mark_at.ensures.there ∙ c.loop-k.invariant.there;
     }
 
 pub returns-clause-marks : goal.returns-clause-marks

@@ -10,7 +10,7 @@ pub returns : goal.returns
 returns c =
     let bs : List Block = c.self.inside.table.items in
     let marks = c.clean_all.ensures.marks ∙ ap (λ n. replicate n false) (sym (length-marks bs)) in
-    (λ i. record { bytes = take c.self.inside.size (c.clean_all.ensures.bytes i); dirty = marks i }) ∙ ap cleaned c.self.view_is
+    (λ i. record { bytes = take c.self.inside.size (c.clean_all.ensures.bytes i); dirty = marks i; there = c.clean_all.ensures.there i }) ∙ ap cleaned c.self.view_is
 
 pub invariant_of-self : goal.invariant_of-self
 invariant_of-self c =

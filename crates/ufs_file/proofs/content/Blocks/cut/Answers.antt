@@ -13,7 +13,7 @@ invariant_of-self c =
     let size : ℕ = c.args.size in
     let table = c.self.invariant.table in
     let is : length c.args.self.now.bytes ≡ c.self.inside.size = ap (λ (v : Content). length v.bytes) (sym c.self.view_is) ∙ length-content c.self.inside.size bs table in
-    let shorter : size ≤ c.self.inside.size = omega (arith, is, c.requires) in
+    let shorter : size ≤ c.self.inside.size = omega (arith, is, c.requires.shorter) in
     let count : block_count size ≡ c.div_ceil-count.result = sym (c.div_ceil-count.ensures ∙ ceil_is size) in
     record {
       table = cut_table c.self.inside.size size bs new table shorter c.cut_over.ensures.whole c.cut_over.ensures.count c.cut_over.ensures.bytes;
