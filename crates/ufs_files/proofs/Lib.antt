@@ -1,3 +1,4 @@
 pub mod MapLemmas
 pub mod ChangeLemmas
 pub mod ExchangeLemmas
+pub mod SizeLemmas

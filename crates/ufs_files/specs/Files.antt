@@ -1,5 +1,5 @@
 -- Files by their numbers, and the trees and blocks that are theirs.
-use Rattle.std.specs.Prelude.{ℕ, ◌≡◌, ◌≢◌, List, [], true, false, Option, Some, None}
+use Rattle.std.specs.Prelude.{ℕ, ◌≡◌, ◌≢◌, List, [], length, true, false, Option, Some, None}
 use Rattle.std.specs.Ordering.{nat_cmp}
 use Rattle.std.specs.FinMap as map
 use Rattle.ufs_bitmap.specs.Blocks.{BlockSet}
@@ -19,6 +19,17 @@ AreNumbered files = (f : ℕ) (s : FileState) → map.get files f ≡ Some s →
 -- Each stands under its own number, and is that part of the tree.
 abbrev pub AreFilesOf : Files → PosixTree → Type 0
 AreFilesOf files t = (f : ℕ) (s : FileState) → map.get files f ≡ Some s → (s.file ≡ f) × IsFileOf s t
+
+-- The file stands under its own number, and the tree has as many bytes for it.
+pub record IsSizedAs (t : PosixTree) (f : ℕ) (s : FileState) : Type 0 where
+  pub number : s.file ≡ f
+  pub bytes : List ℕ
+  pub here : map.get t.bytes f ≡ Some bytes
+  pub size : length bytes ≡ length s.content.bytes
+
+-- So does each: of its bytes no more than their number has to be the tree's.
+abbrev pub AreSizedAs : Files → PosixTree → Type 0
+AreSizedAs files t = (f : ℕ) (s : FileState) → map.get files f ≡ Some s → IsSizedAs t f s
 
 -- the blocks of the file of this number
 abbrev pub blocks_at : Files → ℕ → List ℕ
