@@ -6,7 +6,7 @@ use Rattle.std.specs.Option.{option_map}
 use Rattle.ufs_base.specs.Choices.{first_of}
 use Rattle.ufs_dir_tree.specs.DirTable.{found_at}
 use Rattle.ufs_dir_tree.specs.declared.found.Found.TheVariants as met
-use Rattle.ufs_files.specs.Files.{Files, AreFilesOf}
+use Rattle.ufs_files.specs.Files.{Files, AreSizedAs}
 use Rattle.ufs_model.specs.Paths.{whole_path}
 use Rattle.ufs_model.specs.PosixTree.{PosixTree, Fds, IsTree, desc_at, is_live, is_number}
 use Rattle.ufs_model.specs.Touched as touched
@@ -67,7 +67,7 @@ record Closes (t u : PosixTree) (new : NamesPart) (fs fs' : Files) : Type 0 wher
   part : IsNamesPart new u
   files : FilesGo t u fs fs'
 
-module _ (n : NamesPart) (t : PosixTree) (part : IsNamesPart n t) (fs : Files) (files : AreFilesOf fs t) (client fd : ℕ) (d : Desc) (there : map.get t.fds (client, fd) ≡ Some d) where
+module _ (n : NamesPart) (t : PosixTree) (part : IsNamesPart n t) (fs : Files) (files : AreSizedAs fs t) (client fd : ℕ) (d : Desc) (there : map.get t.fds (client, fd) ≡ Some d) where
   -- the tree without the descriptor, its file not yet looked at
   abbrev without : PosixTree
   without = record t { fds = map.remove t.fds (client, fd) }

@@ -4,22 +4,23 @@ use Rattle.std.proofs.lemmas.Bool.{eqb-true, eq-eqb}
 use Rattle.std.specs.Cmp.{nat_cmp_total}
 use Rattle.std.specs.FinMap as map
 use Rattle.std.specs.FinMap.{nat_cmp-IsAntisymmetric}
-use Rattle.ufs_file.specs.Hand.{FileState, IsFileOf}
-use Rattle.ufs_files.specs.Files.{Files, AreFilesOf}
+use Rattle.ufs_file.specs.Hand.{FileState}
+use Rattle.ufs_files.specs.Files.{Files, AreSizedAs, IsSizedAs}
 use Rattle.ufs_model.specs.PosixTree.{PosixTree, IsTree, is_live}
 use Rattle.ufs_model.specs.PosixTree as tree
 use Rattle.ufs_model.specs.Posix.{forget}
 use Rattle.ufs_model.proofs.Facts.Lookups.{from_some, same_some, there_or_not, inserted_here, inserted_else, removed_here, removed_else}
 use Rattle.ufs_names.specs.NamesPart.{NamesPart, is_kept}
-use Rattle.ufs_names.specs.Calls.{FilesGoOn, no_bytes}
+use Rattle.ufs_names.specs.Calls.{FilesGoOn, HasNoByte, no_bytes}
 use Rattle.ufs_names.specs.Steps.{Settles}
 use Rattle.ufs_names.specs.declared.holding.Holding.{Holding}
 use Rattle.ufs_names.proofs.LinkLemmas.{number_apart}
 
--- The files are those of the next tree, and went on to it; and one that changed has other bytes in it, or is one of these.
+-- The files have the sizes of the next tree, and went on to it; and one that changed has other bytes in it, or is one of
+-- these.
 pub record FilesGoBut (These : ℕ → Type 0) (t u : PosixTree) (fs fs' : Files) : Type 0 where
   pub tree : IsTree t
-  pub files : AreFilesOf fs' u
+  pub files : AreSizedAs fs' u
   pub go_on : FilesGoOn t u fs fs'
   pub changed : (f : ℕ) → (map.get fs' f ≡ map.get fs f) ⊎ ((map.get u.bytes f ≡ map.get t.bytes f → ⊥) ⊎ These f)
 
@@ -93,10 +94,10 @@ dead false false false false p q = refl
 dead false a n true p q = cc
 dead true a n c p q = cc
 
-module _ (t u : PosixTree) (is : IsTree t) (fs fs' : Files) (files : AreFilesOf fs t) where
+module _ (t u : PosixTree) (is : IsTree t) (fs fs' : Files) (files : AreSizedAs fs t) where
   -- a file that is here has bytes
-  has_bytes : (f : ℕ) (s : FileState) → map.get fs f ≡ Some s → map.get t.bytes f ≡ Some s.content.bytes
-  has_bytes f s at = let here = files f s at in ap (map.get t.bytes) (sym here.0) ∙ here.1
+  has_bytes : (f : ℕ) (s : FileState) → map.get fs f ≡ Some s → (bytes : List ℕ) × (map.get t.bytes f ≡ Some bytes)
+  has_bytes f s at = let is = files f s at in (is.bytes, is.here)
 
   -- the number that is still to be given has none
   pub next_none : map.get t.bytes t.next ≡ None
@@ -111,19 +112,18 @@ module _ (t u : PosixTree) (is : IsTree t) (fs fs' : Files) (files : AreFilesOf 
   next_absent = by (there_or_not (map.get fs t.next))
     where
       by : ((s : FileState) × (map.get fs t.next ≡ Some s)) ⊎ (map.get fs t.next ≡ None) → map.get fs t.next ≡ None
-      by (inl at) = let some = has_bytes t.next at.0 at.1 in let none = next_none in let no : Some at.0.content.bytes ≡ None = sym some ∙ none in cc
+      by (inl at) = let some = has_bytes t.next at.0 at.1 in let none = next_none in let no : Some some.0 ≡ None = sym some.1 ∙ none in cc
       by (inr none) = none
 
   module _ (These : ℕ → Type 0) (goes : (f : ℕ) → GoesOn These t u fs fs' f) where
-    fresh : (f i : ℕ) (r : FileState) → map.get fs' f ≡ Some (no_bytes f i) → map.get u.bytes f ≡ Some [] → map.get fs' f ≡ Some r → (r.file ≡ f) × IsFileOf r u
+    fresh : (f i : ℕ) (r : FileState) → map.get fs' f ≡ Some (no_bytes f i) → map.get u.bytes f ≡ Some [] → map.get fs' f ≡ Some r → IsSizedAs u f r
     fresh f i r hand bytes at =
-        let same : no_bytes f i ≡ r = same_some (no_bytes f i) r (sym hand ∙ at) in
-        (ap (λ (s : FileState). s.file) (sym same), subst (λ (s : FileState). IsFileOf s u) same bytes)
+        subst (λ (s : FileState). IsSizedAs u f s) (same_some (no_bytes f i) r (sym hand ∙ at)) (record { number = refl; bytes = []; here = bytes; size = refl })
 
-    files_now : (f : ℕ) (r : FileState) → map.get fs' f ≡ Some r → GoesOn These t u fs fs' f → (r.file ≡ f) × IsFileOf r u
+    files_now : (f : ℕ) (r : FileState) → map.get fs' f ≡ Some r → GoesOn These t u fs fs' f → IsSizedAs u f r
     files_now f r at (inl s) =
-        let here = files f r (sym s.hand ∙ at) in
-        (here.0, ap (map.get u.bytes) here.0 ∙ s.bytes ∙ ap (map.get t.bytes) (sym here.0) ∙ here.1)
+        let is = files f r (sym s.hand ∙ at) in
+        record { number = is.number; bytes = is.bytes; here = s.bytes ∙ is.here; size = is.size }
     files_now f r at (inr (inl g)) = let none : Some r ≡ None = sym at ∙ g.hand in cc
     files_now f r at (inr (inr (inl e))) = fresh f e.old.inode r e.hand e.bytes at
     files_now f r at (inr (inr (inr m))) = fresh f m.inode r m.hand m.bytes at
@@ -132,32 +132,33 @@ module _ (t u : PosixTree) (is : IsTree t) (fs fs' : Files) (files : AreFilesOf 
     here_now f (inl s) = by (there_or_not (map.get fs f))
       where
         by : ((r : FileState) × (map.get fs f ≡ Some r)) ⊎ (map.get fs f ≡ None) → is_some (map.get fs' f) ≡ ((is_some (map.get fs f) || eqb f t.next) && is_some (map.get u.bytes f))
-        by (inl at) = both _ _ _ _ (ap is_some (s.hand ∙ at.1)) (ap is_some at.1) (ap is_some (s.bytes ∙ has_bytes f at.0 at.1))
+        by (inl at) = both _ _ _ _ (ap is_some (s.hand ∙ at.1)) (ap is_some at.1) (ap is_some (s.bytes ∙ (has_bytes f at.0 at.1).1))
         by (inr none) = neither _ _ _ _ (ap is_some (s.hand ∙ none)) (ap is_some none) (λ e. ap is_some (s.bytes ∙ ap (map.get t.bytes) (eqb-true f t.next e) ∙ next_none))
     here_now f (inr (inl g)) = dead _ (is_some (map.get fs f)) (eqb f t.next) _ (ap is_some g.hand) (ap is_some g.bytes)
     here_now f (inr (inr (inl e))) = both _ _ _ _ (ap is_some e.hand) (ap is_some e.was) (ap is_some e.bytes)
     here_now f (inr (inr (inr m))) = new_both _ _ _ _ (ap is_some m.hand) (eq-eqb f t.next m.next) (ap is_some m.bytes)
 
-    stays_now : (f : ℕ) (s r : FileState) → map.get fs f ≡ Some s → map.get fs' f ≡ Some r → GoesOn These t u fs fs' f → (r ≡ s) ⊎ (r ≡ no_bytes f s.inode)
-    stays_now f s r at at' (inl o) = inl (same_some r s (sym at' ∙ o.hand ∙ at))
+    stays_now : (f : ℕ) (s r : FileState) → map.get fs f ≡ Some s → map.get fs' f ≡ Some r → GoesOn These t u fs fs' f → ((r ≡ s) × (map.get u.bytes f ≡ map.get t.bytes f)) ⊎ HasNoByte u f s.inode r
+    stays_now f s r at at' (inl o) = inl (same_some r s (sym at' ∙ o.hand ∙ at), o.bytes)
     stays_now f s r at at' (inr (inl g)) = let none : Some r ≡ None = sym at' ∙ g.hand in cc
     stays_now f s r at at' (inr (inr (inl e))) =
-        inr (same_some r (no_bytes f s.inode) (sym at' ∙ e.hand ∙ ap (λ (o : FileState). Some (no_bytes f o.inode)) (same_some e.old s (sym e.was ∙ at))))
+        inr (same_some r (no_bytes f s.inode) (sym at' ∙ e.hand ∙ ap (λ (o : FileState). Some (no_bytes f o.inode)) (same_some e.old s (sym e.was ∙ at))), e.bytes)
     stays_now f s r at at' (inr (inr (inr m))) = let none : Some s ≡ None = sym at ∙ ap (map.get fs) m.next ∙ next_absent in cc
 
-    born_now : (f : ℕ) (r : FileState) → map.get fs f ≡ None → map.get fs' f ≡ Some r → GoesOn These t u fs fs' f → r ≡ no_bytes f r.inode
+    born_now : (f : ℕ) (r : FileState) → map.get fs f ≡ None → map.get fs' f ≡ Some r → GoesOn These t u fs fs' f → HasNoByte u f r.inode r
     born_now f r none at (inl s) = let no : Some r ≡ None = sym at ∙ s.hand ∙ none in cc
     born_now f r none at (inr (inl g)) = let no : Some r ≡ None = sym at ∙ g.hand in cc
     born_now f r none at (inr (inr (inl e))) = let no : Some e.old ≡ None = sym e.was ∙ none in cc
     born_now f r none at (inr (inr (inr m))) =
-        let same : r ≡ no_bytes f m.inode = same_some r (no_bytes f m.inode) (sym at ∙ m.hand) in same ∙ ap (no_bytes f) (sym (ap (λ (s : FileState). s.inode) same))
+        let same : r ≡ no_bytes f m.inode = same_some r (no_bytes f m.inode) (sym at ∙ m.hand) in
+        (same ∙ ap (no_bytes f) (sym (ap (λ (s : FileState). s.inode) same)), m.bytes)
 
     changed_now : (f : ℕ) → GoesOn These t u fs fs' f → (map.get fs' f ≡ map.get fs f) ⊎ ((map.get u.bytes f ≡ map.get t.bytes f → ⊥) ⊎ These f)
     changed_now f (inl s) = inl s.hand
     changed_now f (inr (inl g)) = inr (inl (λ same. by (from_some (map.get fs f) g.was) same))
       where
         by : (s : FileState) × (map.get fs f ≡ Some s) → map.get u.bytes f ≡ map.get t.bytes f → ⊥
-        by at same = let no : None ≡ Some at.0.content.bytes = sym g.bytes ∙ same ∙ has_bytes f at.0 at.1 in cc
+        by at same = let some = has_bytes f at.0 at.1 in let no : None ≡ Some some.0 = sym g.bytes ∙ same ∙ some.1 in cc
     changed_now f (inr (inr (inl e))) = inr (inr e.this)
     changed_now f (inr (inr (inr m))) = inr (inl (λ same. let no : Some [] ≡ None = sym m.bytes ∙ same ∙ ap (map.get t.bytes) m.next ∙ next_none in cc))
 
@@ -238,7 +239,7 @@ module _ (t u : PosixTree) (is : IsTree t) (fs fs' : Files) (files : AreFilesOf 
 -- ---- a file goes that nothing keeps any more
 
 -- The tree has the bytes of before, but for the file that is live no more.
-pub files_settle : (t : PosixTree) → IsTree t → (fs fs' : Files) → AreFilesOf fs t → (v : PosixTree) → v.bytes ≡ t.bytes → (n new : NamesPart) (g : ℕ) (h : Holding) → Settles n new fs fs' g h
+pub files_settle : (t : PosixTree) → IsTree t → (fs fs' : Files) → AreSizedAs fs t → (v : PosixTree) → v.bytes ≡ t.bytes → (n new : NamesPart) (g : ℕ) (h : Holding) → Settles n new fs fs' g h
     → is_kept h ≡ is_live v.paths v.fds g → (is_kept h ≡ false → is_some (map.get fs g) ≡ true) → FilesGo t (forget v (Some g)) fs fs'
 files_settle t is fs fs' files v same n new g h settles live here = by (is_kept h) (is_live v.paths v.fds g) refl live
   where

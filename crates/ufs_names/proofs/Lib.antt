@@ -39,5 +39,6 @@ pub mod SyncLemmas
 pub mod UndoneLemmas
 pub mod UnnamedLemmas
 pub mod WalkLinks
+pub mod WholeFiles
 mod ClosedLemmas
 pub mod NotedLemmas

@@ -12,7 +12,7 @@ use Rattle.std.proofs.lemmas.Map.Views.{list_any-from_Contains, Contains-from_an
 use Rattle.ufs_base.specs.Choices.{first_of, refused_if}
 use Rattle.ufs_dir_tree.specs.DirTable.{found_at}
 use Rattle.ufs_dir_tree.specs.declared.found.Found.{Found}
-use Rattle.ufs_files.specs.Files.{Files, AreFilesOf}
+use Rattle.ufs_files.specs.Files.{Files, AreSizedAs}
 use Rattle.ufs_model.specs.Asks.{IsAsk, desc_of_fd, fd_named, file_in, is_last, is_last_of}
 use Rattle.ufs_model.specs.Descriptors.{closed}
 use Rattle.ufs_model.specs.Directories.{renamed}
@@ -245,7 +245,7 @@ module _ (n : NamesPart) (t : PosixTree) (is : IsNamesPart n t) (client : ℕ) w
     abbrev left : PosixTree
     left = record t { fds = fin.remove t.fds (client, fd) }
 
-    none_here : AreFilesOf fin.empty t
+    none_here : AreSizedAs fin.empty t
     none_here f s e = let none : None ≡ Some s = sym (get-empty nat_cmp f) ∙ e in cc
 
     -- the client holds the file on

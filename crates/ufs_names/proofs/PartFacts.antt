@@ -41,7 +41,7 @@ new_is_next n new t ask fs fs' reply desc asked served f none some = by (cases_e
     -- those that are here have bytes
     not_here : ((s : FileState) × (map.get fs f ≡ Some s)) ⊎ (map.get fs f ≡ None) → map.get fs f ≡ None
     not_here (inr absent) = absent
-    not_here (inl here) = let is = asked.files f here.0 here.1 in absurd (true≢false (sym (ap is_some (ap (map.get t.bytes) (sym is.0) ∙ is.1)) ∙ was))
+    not_here (inl here) = let is = asked.files f here.0 here.1 in absurd (true≢false (sym (ap is_some is.here) ∙ was))
 
     by : (f ≡ t.next) ⊎ (f ≢ t.next) → f ≡ n.next
     by (inl same) = let part = asked.part in same ∙ sym part.next

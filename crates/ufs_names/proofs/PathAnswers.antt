@@ -40,9 +40,9 @@ module _ (n : NamesPart) (fs : Files) (t : PosixTree) (ask : Ask) (names : List 
       by (Some (File i)) is told =
           let file = file_found n fs t ask names (Some (File i)) is i refl in
           let hand = hand_found n fs t ask names (Some (File i)) is i refl p of file.0 file.1 in
-          let of_tree = is.all.files file.0 hand.0 hand.1 in
+          let sized = is.all.files file.0 hand.0 hand.1 in
           told file.0 hand.0 file.1 hand.1
-          ∙ ap (λ (o : Option (List ℕ)). reply.IsFile (length (unwrap_or o []))) (sym of_tree.1) ∙ ap (λ f. reply.IsFile (length (bytes_of t.bytes f))) of_tree.0
+          ∙ ap reply.IsFile (sym sized.size) ∙ ap (λ (o : Option (List ℕ)). reply.IsFile (length (unwrap_or o []))) (sym sized.here)
           ∙ ap (λ o. reply.IsFile (length (bytes_of t.bytes (unwrap_or o 0)))) (sym file.1)
 
   -- the names of a directory's entries

@@ -28,7 +28,7 @@ use Rattle.ufs_model.specs.declared.data.Op.TheVariants as op
 use Rattle.ufs_name_tree.specs.NameTable.{file_at, node_at, node_of}
 use Rattle.ufs_name_tree.specs.Nodes.{SetsNode}
 use Rattle.ufs_file.specs.Hand.{FileState}
-use Rattle.ufs_files.specs.Files.{Files, AreFilesOf}
+use Rattle.ufs_files.specs.Files.{Files, AreSizedAs}
 use Rattle.ufs_names.specs.NamesPart.{NamesPart, IsNamesPart, holding_of, without_name}
 use Rattle.ufs_names.specs.Steps.{GoesHere, KeepsFiles, LosesName, Opens, OpensFile, Removes}
 use Rattle.ufs_names.specs.Calls.{IsServed, IsTouched, no_bytes}
@@ -60,7 +60,7 @@ open_told t client whole m (Some (node.File f)) next e = by m.trunc
     by false = sym (inserted_here fd_total fd_same t.fds (client, new_fd t client) (desc_of m (Some f)))
 
 -- the file that lost its name goes where nothing keeps it
-pub files_lose : (n : NamesPart) (t : PosixTree) → IsNamesPart n t → (fs fs' : Files) → AreFilesOf fs t → (now : NamesPart) (u : PosixTree) → u.bytes ≡ t.bytes → u.fds ≡ t.fds → (lost : Option ℕ)
+pub files_lose : (n : NamesPart) (t : PosixTree) → IsNamesPart n t → (fs fs' : Files) → AreSizedAs fs t → (now : NamesPart) (u : PosixTree) → u.bytes ≡ t.bytes → u.fds ≡ t.fds → (lost : Option ℕ)
     → ((f : ℕ) → lost ≡ Some f → is_named u.paths f ≡ false) → GoesHere n fs lost → LosesName n now fs fs' lost → FilesGo t (forget u lost) fs fs'
 files_lose n t part fs fs' files now u same fds None gone here keeps = files_same t u part.tree fs fs' files keeps.stays.files (λ f. ap (λ (m : posix_tree.Files). map.get m f) same)
 files_lose n t part fs fs' files now u same fds (Some g) gone here settles =

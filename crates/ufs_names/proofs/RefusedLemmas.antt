@@ -1,6 +1,6 @@
 -- A refusal is served: POSIX's reply, and nothing has changed.
 use Rattle.std.proofs.Common.{◌≡◌, Option, Some, ap, refl, sym, subst, ◌∙◌}
-use Rattle.ufs_files.specs.Files.{Files, AreFilesOf}
+use Rattle.ufs_files.specs.Files.{Files, AreSizedAs}
 use Rattle.ufs_model.specs.PosixTree.{PosixTree}
 use Rattle.ufs_model.specs.Posix.{posix, served}
 use Rattle.ufs_model.specs.Refusals.{refusal}
@@ -35,7 +35,7 @@ told_refused (op.Rename from to) e = refl
 told_refused (op.Stat path) e = refl
 told_refused (op.List path) e = refl
 
-pub served_refused : (n : NamesPart) (t : PosixTree) (ask : Ask) (fs : Files) (e : Errno) (reply : Reply) (desc : Option Desc) → IsNamesPart n t → AreFilesOf fs t → IsAsk t ask → refusal t ask.client ask.op ≡ Some e
+pub served_refused : (n : NamesPart) (t : PosixTree) (ask : Ask) (fs : Files) (e : Errno) (reply : Reply) (desc : Option Desc) → IsNamesPart n t → AreSizedAs fs t → IsAsk t ask → refusal t ask.client ask.op ≡ Some e
     → reply ≡ Refused e → desc ≡ ask.desc → IsServed t ask n fs fs reply desc
 served_refused n t ask fs e reply desc part files asked is reply_is desc_is =
     subst (λ (k : Reply × Option Desc). IsServed t ask n fs fs k.0 k.1) (λ i. (sym reply_is i, sym desc_is i)) (record {
