@@ -19,8 +19,8 @@ use Rattle.ufs_extent.specs.Runs.{blocks_of}
 use Rattle.ufs_bitmap.specs.Blocks.{BlockSet}
 use Rattle.ufs_file.specs.Content.{Content, block_count, shortened, written_over}
 use Rattle.ufs_bitmap.proofs.TakingLemmas.{takes_count}
-use Rattle.ufs_model.specs.FileCalls.{is_on_file, RefusalsArePosix}
-use Rattle.ufs_file.specs.Hand.{FileState, IsFileOf, IsOf, IsCause, IsExcusedFor, missing, lengthened, content_put, content_sized}
+use Rattle.ufs_model.specs.FileCalls.{IsFileIn, is_on_file, RefusalsArePosix}
+use Rattle.ufs_file.specs.Hand.{FileState, IsOf, IsCause, IsExcusedFor, missing, lengthened, content_put, content_sized}
 use Rattle.ufs_file.proofs.OverLemmas.{length-over}
 use Rattle.ufs_model.proofs.FileStepLemmas.{open_is, bytes_is}
 use Rattle.ufs_file.proofs.HandLemmas.{length-lengthened, most_extents}
@@ -53,7 +53,7 @@ size_sized c size = by (ltb size (length c.bytes)) refl
 
 -- ---- what is needed
 
-module _ (t : PosixTree) (client fd : ℕ) (d : Desc) (f : FileState) (there : map.get t.fds (client, fd) ≡ Some d) (named : d.file ≡ Some f.file) (held : IsFileOf f t)
+module _ (t : PosixTree) (client fd : ℕ) (d : Desc) (f : FileState) (there : map.get t.fds (client, fd) ≡ Some d) (named : d.file ≡ Some f.file) (held : IsFileIn t f.file f.content.bytes)
     (whole : length (blocks_of f.extents) ≡ block_count (length f.content.bytes)) where
   desc_now : opened t client fd ≡ d
   desc_now = open_is t client fd f.file d there named f.content.bytes held
@@ -78,7 +78,7 @@ module _ (t : PosixTree) (client fd : ℕ) (d : Desc) (f : FileState) (there : m
   needs_trunc size = (λ i. block_count size - block_count (length (bytes i))) ∙ (λ i. block_count (size_sized f.content size i) - sym whole i)
 
 pub needed_is : (t : PosixTree) (client : ℕ) (request : Op) (d : Desc) (f : FileState) → is_on_file request ≡ true → desc_of_fd t.fds client (fd_named request) ≡ Some d → d.file ≡ Some f.file
-    → IsFileOf f t → length (blocks_of f.extents) ≡ block_count (length f.content.bytes) → needed t client request ≡ missing f d request
+    → IsFileIn t f.file f.content.bytes → length (blocks_of f.extents) ≡ block_count (length f.content.bytes) → needed t client request ≡ missing f d request
 needed_is t client (op.Write fd fresh) d f kind there named held whole = needs_write t client fd d f there named held whole fresh
 needed_is t client (op.Pwrite fd fresh at) d f kind there named held whole = needs_pwrite t client fd d f there named held whole fresh at
 needed_is t client (op.Trunc fd size) d f kind there named held whole = needs_trunc t client fd d f there named held whole size
@@ -97,7 +97,7 @@ needed_is t client (op.Stat path) d f kind there named held whole = cc
 needed_is t client (op.List path) d f kind there named held whole = cc
 
 pub excuse_fits : RefusalsArePosix → (t : PosixTree) (ask : Ask) (f : FileState) (pool : BlockSet) (d : Desc) (x : Excuse) → is_on_file ask.op ≡ true → ask.desc ≡ Some d → IsOf (Some d) f.file
-    → length (blocks_of f.extents) ≡ block_count (length f.content.bytes) → length f.extents ≤ 56 → IsExcusedFor f d ask.op pool x → IsFileOf f t → IsAsk t ask → ExcuseFits t ask.client ask.op x
+    → length (blocks_of f.extents) ≡ block_count (length f.content.bytes) → length f.extents ≤ 56 → IsExcusedFor f d ask.op pool x → IsFileIn t f.file f.content.bytes → IsAsk t ask → ExcuseFits t ask.client ask.op x
 excuse_fits refusals t ask f pool d x kind is named whole few h held a = record {
   due = λ not. refusals t ask.client ask.op d f.file f.content.bytes kind there named held ∙ h.allowed;
   told = told x h.cause;

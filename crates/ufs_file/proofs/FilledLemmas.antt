@@ -1,5 +1,5 @@
 -- A request that has the blocks that it needs is served alike whatever bytes the others have.
-use Rattle.std.proofs.Common.{◌≡◌, ℕ, ◌+◌, ◌-◌, ◌*◌, ◌/◌, ◌≤◌, ◌<◌, ◌⊎◌, inl, inr, eqb, ltb, Bool, true, false, cond, not, Option, Some, None, List, [], ◌++◌, length, take, replicate, get_or, max, ap, sym, refl, ◌∙◌, arith, subst}
+use Rattle.std.proofs.Common.{◌≡◌, ℕ, ◌+◌, ◌-◌, ◌*◌, ◌/◌, ◌≤◌, ◌<◌, ◌⊎◌, inl, inr, eqb, ltb, Bool, true, false, cond, not, Option, Some, None, List, ◌++◌, length, take, replicate, get_or, max, ap, sym, refl, ◌∙◌, arith, subst}
 use Rattle.std.specs.Prelude.{slice_get, unwrap_or}
 use Rattle.std.proofs.lemmas.Bool.{cases_lt, ltb-true, ltb-false}
 use Rattle.std.proofs.lemmas.List.{get_or-take, get_or_append_left, length-take, length-take-le}
@@ -20,10 +20,11 @@ use Rattle.ufs_bitmap.specs.Blocks.{BlockSet}
 use Rattle.ufs_extent.specs.Runs.{blocks_of}
 use Rattle.ufs_file.specs.Lists.{over}
 use Rattle.ufs_file.specs.Content.{AreThere, Content, IsContentOf, block_count, grown, shortened, written_over}
-use Rattle.ufs_file.specs.Hand.{FileState, HasBlocks, HasNeeded, IsCause, IsExcusedFor, IsServedByFile, content_after, content_by, content_put, content_sized, end_within, filled, lengthened, read_from}
+use Rattle.ufs_file.specs.Hand.{FileState, HasBlocks, HasNeeded, IsCause, IsExcusedFor, IsServedByFile, content_after, content_by, content_put, content_sized, end_within, lengthened, read_from, whole_as}
 use Rattle.ufs_file.proofs.ByteLemmas.{agrees_in_block, block_agrees, byte_padded, byte_resized, length-part, length-resized, part_agrees, past_end}
 use Rattle.ufs_file.proofs.HandLemmas.{content_bytes, length-lengthened, long_bytes, put_bytes}
 use Rattle.ufs_file.proofs.OverLemmas.{length-over}
+use Rattle.ufs_file.proofs.AllThere.{after_all}
 use Rattle.ufs_file.proofs.SpanLemmas.{mark_there, over-before, over-inside, over-past}
 
 -- ---- by the size alone
@@ -102,66 +103,67 @@ same_by : (c : Content) (bytes : List ℕ) → IsContentOf c bytes → (d : Desc
 same_by c bytes h d request (Some e) there = (refl, refl)
 same_by c bytes h d request None there = (same_answer c bytes h d request (there refl), same_desc bytes c.bytes d request h.long)
 
--- ---- marks
+-- ---- a file with other bytes, all of them in memory
 
 abbrev with_bytes : Content → List ℕ → Content
 with_bytes c bytes = record c { bytes = bytes }
 
--- all but the bytes
-abbrev bare : Content → Content
-bare c = record c { bytes = [] }
+-- with these bytes, all in memory
+abbrev pub all_in : Content → List ℕ → Content
+all_in c bytes = record { bytes = bytes; dirty = c.dirty; there = replicate (length c.dirty) true }
 
 module _ (c : Content) (bytes : List ℕ) (e : length bytes ≡ length c.bytes) where
   abbrev c' : Content
-  c' = with_bytes c bytes
+  c' = all_in c bytes
 
-  bare_long : (size : ℕ) → bare (lengthened c' size) ≡ bare (lengthened c size)
-  bare_long size = ap (λ (n : ℕ). bare (cond (ltb n size) (grown c' size) c')) e ∙ by (ltb (length c.bytes) size)
+  marks_long : (size : ℕ) → (lengthened c' size).dirty ≡ (lengthened c size).dirty
+  marks_long size = ap (λ (n : ℕ). (cond (ltb n size) (grown c' size) c').dirty) e ∙ by (ltb (length c.bytes) size)
     where
-      by : (b : Bool) → bare (cond b (grown c' size) c') ≡ bare (cond b (grown c size) c)
+      by : (b : Bool) → (cond b (grown c' size) c').dirty ≡ (cond b (grown c size) c).dirty
       by true = refl
       by false = refl
 
-  bare_put : (at : ℕ) (fresh : List ℕ) → bare (content_put c' at fresh) ≡ bare (content_put c at fresh)
-  bare_put at fresh = by (eqb (length fresh) 0)
+  marks_put : (at : ℕ) (fresh : List ℕ) → (content_put c' at fresh).dirty ≡ (content_put c at fresh).dirty
+  marks_put at fresh = by (eqb (length fresh) 0)
     where
-      by : (b : Bool) → bare (cond b c' (written_over (lengthened c' (at + length fresh)) at fresh)) ≡ bare (cond b c (written_over (lengthened c (at + length fresh)) at fresh))
+      by : (b : Bool) → (cond b c' (written_over (lengthened c' (at + length fresh)) at fresh)).dirty ≡ (cond b c (written_over (lengthened c (at + length fresh)) at fresh)).dirty
       by true = refl
-      by false = ap (λ (v : Content). bare (written_over v at fresh)) (bare_long (at + length fresh))
+      by false = ap (λ (ms : List Bool). over ms (at / 4096) (replicate (block_count (at + length fresh) - at / 4096) true)) (marks_long (at + length fresh))
 
-  bare_sized : (size : ℕ) → bare (content_sized c' size) ≡ bare (content_sized c size)
-  bare_sized size = ap (λ (n : ℕ). bare (cond (ltb size n) (shortened c' size) (lengthened c' size))) e ∙ by (ltb size (length c.bytes))
+  marks_sized : (size : ℕ) → (content_sized c' size).dirty ≡ (content_sized c size).dirty
+  marks_sized size = ap (λ (n : ℕ). (cond (ltb size n) (shortened c' size) (lengthened c' size)).dirty) e ∙ by (ltb size (length c.bytes))
     where
-      by : (b : Bool) → bare (cond b (shortened c' size) (lengthened c' size)) ≡ bare (cond b (shortened c size) (lengthened c size))
+      by : (b : Bool) → (cond b (shortened c' size) (lengthened c' size)).dirty ≡ (cond b (shortened c size) (lengthened c size)).dirty
       by true = refl
-      by false = bare_long size
+      by false = marks_long size
 
-  bare_after : (d : Desc) (request : Op) → bare (content_after c' d request) ≡ bare (content_after c d request)
-  bare_after d (op.Write fd fresh) =
-      ap (λ (n : ℕ). bare (content_put c' (cond d.append n d.at) fresh)) e ∙ bare_put (place_of d c.bytes) fresh
-  bare_after d (op.Pwrite fd fresh at) = bare_put at fresh
-  bare_after d (op.Trunc fd size) = bare_sized size
-  bare_after d (op.Read fd n) = refl
-  bare_after d (op.Pread fd n at) = refl
-  bare_after d (op.Seek fd from by) = refl
-  bare_after d (op.OpenFile path read write creat excl trunc append) = refl
-  bare_after d (op.Close fd) = refl
-  bare_after d (op.Fsync fd) = refl
-  bare_after d op.Sync = refl
-  bare_after d (op.Mkdir path) = refl
-  bare_after d (op.Rmdir path) = refl
-  bare_after d (op.Unlink path) = refl
-  bare_after d (op.Rename from to) = refl
-  bare_after d (op.Stat path) = refl
-  bare_after d (op.List path) = refl
+  marks_after : (d : Desc) (request : Op) → (content_after c' d request).dirty ≡ (content_after c d request).dirty
+  marks_after d (op.Write fd fresh) =
+      ap (λ (n : ℕ). (content_put c' (cond d.append n d.at) fresh).dirty) e ∙ marks_put (place_of d c.bytes) fresh
+  marks_after d (op.Pwrite fd fresh at) = marks_put at fresh
+  marks_after d (op.Trunc fd size) = marks_sized size
+  marks_after d (op.Read fd n) = refl
+  marks_after d (op.Pread fd n at) = refl
+  marks_after d (op.Seek fd from by) = refl
+  marks_after d (op.OpenFile path read write creat excl trunc append) = refl
+  marks_after d (op.Close fd) = refl
+  marks_after d (op.Fsync fd) = refl
+  marks_after d op.Sync = refl
+  marks_after d (op.Mkdir path) = refl
+  marks_after d (op.Rmdir path) = refl
+  marks_after d (op.Unlink path) = refl
+  marks_after d (op.Rename from to) = refl
+  marks_after d (op.Stat path) = refl
+  marks_after d (op.List path) = refl
 
   -- the content that a request leaves, with other bytes
-  content_with : (d : Desc) (request : Op) (o : Option Errno) → with_bytes (content_by c d request o) (step_by bytes d request o).bytes ≡ content_by c' d request o
-  content_with d request (Some x) = refl
-  content_with d request None =
-      let all = bare_after d request in
+  content_with : length c.dirty ≡ block_count (length c.bytes) → (d : Desc) (request : Op) (o : Option Errno) → all_in (content_by c d request o) (step_by bytes d request o).bytes ≡ content_by c' d request o
+  content_with marked d request (Some x) = refl
+  content_with marked d request None =
+      let marks = marks_after d request in
+      let all = after_all c' (marked ∙ ap block_count (sym e)) refl d request in
       let its = content_bytes c' d request in
-      λ i. record { bytes = sym its i; dirty = (sym all i).dirty; there = (sym all i).there }
+      λ i. record { bytes = sym its i; dirty = sym marks i; there = (ap (λ (ms : List Bool). replicate (length ms) true) (sym marks) ∙ sym all) i }
 
 -- ---- how the content goes on
 
@@ -331,8 +333,9 @@ module _ (old new : FileState) (before after : BlockSet) (d : Desc) (request : O
   pub goes_on_any : IsContentOf new.content (file_step bytes d request).bytes
   goes_on_any = subst (λ (v : Content). IsContentOf v (file_step bytes d request).bytes) (sym served.memory) (step_same old.content bytes h count d request)
 
-  pub served_any : (file_refusal old.content.bytes d request ≡ None → HasNeeded old.content d request) → IsServedByFile (filled bytes old) (filled (file_step bytes d request).bytes new) before after d request reply desc
-  served_any there =
+  pub served_any : length old.content.dirty ≡ block_count (length old.content.bytes) → (file_refusal old.content.bytes d request ≡ None → HasNeeded old.content d request)
+      → IsServedByFile (whole_as bytes old) (whole_as (file_step bytes d request).bytes new) before after d request reply desc
+  served_any marked there =
       let refusal = same_refusal bytes old.content.bytes d request h.long in
       let o : Option Errno = file_refusal bytes d request in
       let same = same_by old.content bytes h d request o (λ e. there (sym refusal ∙ e)) in
@@ -342,17 +345,17 @@ module _ (old new : FileState) (before after : BlockSet) (d : Desc) (request : O
         replied = served.replied ∙ ap (λ (s : Step). s.reply) step ∙ sym same.0;
         told = served.told ∙ ap (λ (s : Step). Some s.desc) step ∙ ap (λ (e : Desc). Some e) (sym same.1);
         bytes = refl;
-        memory = ap (λ (v : Content). with_bytes v (file_step bytes d request).bytes) left ∙ content_with old.content bytes h.long d request o;
+        memory = ap (λ (v : Content). all_in v (file_step bytes d request).bytes) left ∙ content_with old.content bytes h.long marked d request o;
         same_file = served.same_file;
         same_inode = served.same_inode;
         blocks = subst (λ (n : ℕ). HasBlocks old.extents new.extents before after (block_count n)) (sym goes_on_any.long) served.blocks;
       }
 
 pub excused_any : (old : FileState) (d : Desc) (request : Op) (pool : BlockSet) (x : Excuse) → IsExcusedFor old d request pool x → length old.content.there ≡ block_count (length old.content.bytes)
-    → (bytes : List ℕ) → IsContentOf old.content bytes → IsExcusedFor (filled bytes old) d request pool x
+    → (bytes : List ℕ) → IsContentOf old.content bytes → IsExcusedFor (whole_as bytes old) d request pool x
 excused_any old d request pool x h count bytes is =
-    let size : length (content_after old.content d request).bytes ≡ length (content_after (with_bytes old.content bytes) d request).bytes =
-    sym (ap length (content_bytes (with_bytes old.content bytes) d request) ∙ (after_same old.content bytes is count d request).long) in
+    let size : length (content_after old.content d request).bytes ≡ length (content_after (all_in old.content bytes) d request).bytes =
+    sym (ap length (content_bytes (all_in old.content bytes) d request) ∙ (after_same old.content bytes is count d request).long) in
     record {
       allowed = same_refusal bytes old.content.bytes d request is.long ∙ h.allowed;
       cause = subst (λ (n : ℕ). IsCause old.extents (block_count n - length (blocks_of old.extents)) pool x) size h.cause;

@@ -11,10 +11,10 @@ use Rattle.ufs_extent.proofs.PlaceLemmas.{first_runs-all, last_runs-all, blocks_
 use Rattle.ufs_bitmap.specs.Blocks.{BlockSet}
 use Rattle.ufs_bitmap.proofs.SetLemmas.{has-union, same_blocks}
 use Rattle.ufs_file.specs.Lists.{over}
-use Rattle.ufs_file.specs.Content.{Content, block_count, grown, written_over, marks_cut, shortened}
+use Rattle.ufs_file.specs.Content.{Content, IsContentOf, block_count, grown, written_over, marks_cut, shortened}
 use Rattle.ufs_bitmap.specs.Taking.{Takes, IsApart, set_of, has}
-use Rattle.ufs_file.specs.Hand.{FileState, HasBlocks, IsChanged, IsServedByFile, lengthened, content_put, content_after, content_by, IsOf, IsFileOf, IsPosix}
-use Rattle.ufs_model.specs.FileCalls.{Step, StepsArePosix, is_on_file, file_refusal, file_answer, file_step, step_by, desc_after, bytes_after}
+use Rattle.ufs_file.specs.Hand.{FileState, HasBlocks, IsChanged, IsServedByFile, lengthened, content_put, content_after, content_by, IsOf, IsPosix, whole_as}
+use Rattle.ufs_model.specs.FileCalls.{IsFileIn, Step, StepsArePosix, is_on_file, file_refusal, file_answer, file_step, step_by, desc_after, bytes_after}
 use Rattle.ufs_model.specs.History.{is_excused}
 use Rattle.ufs_model.specs.declared.data.Desc.{Desc}
 use Rattle.ufs_model.specs.declared.data.Errno.{Errno}
@@ -308,12 +308,15 @@ has_together old new before after count h = by (ltb count (length (blocks_of old
 -- ---- the whole tree
 
 pub posix_is : StepsArePosix → (t : PosixTree) (ask : Ask) (old new : FileState) (before after : BlockSet) (d : Desc) (reply : Reply) (desc : Option Desc) → is_on_file ask.op ≡ true → ask.desc ≡ Some d
-    → IsOf (Some d) old.file → IsServedByFile old new before after d ask.op reply desc → IsFileOf old t → IsAsk t ask → IsPosix t ask new reply desc
-posix_is steps t ask old new before after d reply desc kind is named h held a =
-    let s = steps t ask.client ask.op d old.file old.content.bytes kind (sym a.desc ∙ is) named held in
+    → IsOf (Some d) old.file → (bytes : List ℕ) → IsServedByFile (whole_as bytes old) (whole_as (file_step bytes d ask.op).bytes new) before after d ask.op reply desc → IsContentOf new.content (file_step bytes d ask.op).bytes
+    → IsFileIn t old.file bytes → IsAsk t ask → IsPosix t ask new reply desc
+posix_is steps t ask old new before after d reply desc kind is named bytes h goes held a =
+    let s = steps t ask.client ask.op d old.file bytes kind (sym a.desc ∙ is) named held in
     record {
       replied = h.replied ∙ sym s.reply;
-      goes_on = ap (λ (f : ℕ). map.get (posix t ask.client ask.op).0.bytes f) h.same_file ∙ s.tree.bytes ∙ ap (λ (b : List ℕ). Some b) (sym h.bytes);
+      goes_on = record { bytes = (file_step bytes d ask.op).bytes; has = ap (λ (f : ℕ). map.get (posix t ask.client ask.op).0.bytes f) h.same_file ∙ s.tree.bytes; may = goes };
+      step = λ e bs its here. (steps t ask.client ask.op e new.file bs kind (sym a.desc ∙ its)
+          (subst (λ (o : Option Desc). IsOf o new.file) its (subst (λ (o : Option Desc). IsOf o new.file) (sym is) (named ∙ ap (λ (f : ℕ). Some f) (sym h.same_file)))) here).tree.bytes;
       others = λ f not. s.tree.others f (λ e. not (e ∙ sym h.same_file));
       told = subst (λ (e : Option Desc). IsDescAfter t.fds (posix t ask.client ask.op).0.fds ask.client (fd_named ask.op) e) (sym h.told) s.tree.desc;
       paths = s.tree.paths;

@@ -7,5 +7,6 @@ pub mod ByteLemmas
 pub mod HandLemmas
 pub mod NeededLemmas
 pub mod ExcuseLemmas
+pub mod AllThere
 pub mod FilledLemmas
 pub mod UnreadLemmas

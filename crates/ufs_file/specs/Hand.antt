@@ -1,5 +1,5 @@
 -- One file, as a server holds it.
-use Rattle.std.specs.Prelude.{ℕ, ◌+◌, ◌-◌, ◌/◌, ◌≡◌, ◌<◌, ◌≤◌, ⊤, min, List, length, Option, Some, None, ◌==◌, nat_lt, if◌then◌else◌}
+use Rattle.std.specs.Prelude.{ℕ, ◌+◌, ◌-◌, ◌/◌, ◌≡◌, ◌<◌, ◌≤◌, ⊤, true, min, List, length, replicate, Option, Some, None, ◌==◌, nat_lt, if◌then◌else◌}
 use Rattle.std.specs.FinSet as set
 use Rattle.std.specs.FinMap as map
 use Rattle.ufs_base.specs.declared.sizes.TheConstants.{BLOCK, MAX_EXTENTS}
@@ -20,7 +20,7 @@ use Rattle.ufs_model.specs.declared.data.Excuse.TheVariants as excuse
 use Rattle.ufs_extent.specs.declared.Run.{Run}
 use Rattle.ufs_extent.specs.Runs.{blocks_of, appended_all, first_runs, last_runs}
 use Rattle.ufs_bitmap.specs.Blocks.{BlockSet}
-use Rattle.ufs_file.specs.Content.{Content, AreThere, block_count, grown, written_over, shortened}
+use Rattle.ufs_file.specs.Content.{Content, AreThere, IsContentOf, block_count, grown, written_over, shortened}
 use Rattle.ufs_bitmap.specs.Taking.{Takes, set_of}
 use Rattle.ufs_model.specs.FileCalls.{IsFileIn, file_refusal, file_step}
 
@@ -32,9 +32,9 @@ pub record FileState : Type 0 where
   pub extents : List Run
   pub content : Content
 
--- the same file with these bytes
-abbrev pub filled : List ℕ → FileState → FileState
-filled bytes f = record f { content = record f.content { bytes = bytes } }
+-- the file with these bytes, all of them in memory
+abbrev pub whole_as : List ℕ → FileState → FileState
+whole_as bytes f = record f { content = record { bytes = bytes; dirty = f.content.dirty; there = replicate (length f.content.dirty) true } }
 
 -- ---- which blocks a request needs in memory, by the file's size: those from one place on, below another
 
@@ -184,14 +184,17 @@ pub record IsEntryOf (ask : Ask) (by : Actor) (ticket : ℕ) (entry : Entry) : T
   pub server : entry.by ≡ by
   pub asked : entry.op ≡ ask.op
 
--- The file is this part of the tree.
-abbrev pub IsFileOf : FileState → PosixTree → Type 0
-IsFileOf f t = IsFileIn t f.file f.content.bytes
+-- The file may be this part of the tree: the tree has bytes for its number that may be the file's.
+pub record IsFileOf (f : FileState) (t : PosixTree) : Type 0 where
+  pub bytes : List ℕ
+  pub has : IsFileIn t f.file bytes
+  pub may : IsContentOf f.content bytes
 
--- POSIX's reply on the tree, which goes on with the file and the descriptor and is else as it was.
+-- POSIX's reply on the tree, which goes on with the file and the descriptor, whichever bytes it has for that, and is else as it was.
 pub record IsPosix (t : PosixTree) (ask : Ask) (new : FileState) (reply : Reply) (desc : Option Desc) : Type 0 where
   pub replied : reply ≡ (posix t ask.client ask.op).1
   pub goes_on : IsFileOf new (posix t ask.client ask.op).0
+  pub step : (d : Desc) (bytes : List ℕ) → ask.desc ≡ Some d → IsFileIn t new.file bytes → IsFileIn (posix t ask.client ask.op).0 new.file (file_step bytes d ask.op).bytes
   pub others : (f : ℕ) → (f ≡ new.file → ⊥) → map.get (posix t ask.client ask.op).0.bytes f ≡ map.get t.bytes f
   pub told : IsDescAfter t.fds (posix t ask.client ask.op).0.fds ask.client (fd_named ask.op) desc
   pub paths : (posix t ask.client ask.op).0.paths ≡ t.paths

@@ -69,7 +69,7 @@ impl FileHand {
     ghost use Rattle.ufs_bitmap.specs.Taking.{IsApart, Takes, set_of};
     ghost use Rattle.ufs_model.specs.FileCalls.{is_on_file, place_refusal, file_refusal, file_answer, file_step, desc_after};
     ghost use Rattle.ufs_file.specs.Table.{max_held};
-    ghost use Rattle.ufs_file.specs.Hand.{FileState, HasNeeded, filled, needed_from, needed_end, end_within, read_from, write_from, write_end, IsCause, IsChanged, lengthened, content_put, content_sized, content_after, missing, IsServedByFile, IsExcusedFor, IsEntryOf, IsOf, IsFileOf, IsPosix};
+    ghost use Rattle.ufs_file.specs.Hand.{FileState, HasNeeded, needed_from, needed_end, end_within, read_from, write_from, write_end, IsCause, IsChanged, lengthened, content_put, content_sized, content_after, missing, IsServedByFile, IsExcusedFor, IsEntryOf, IsOf, IsFileOf, IsPosix, whole_as};
     ghost use Rattle.ufs_model.specs.PosixTree.{PosixTree};
     ghost use Rattle.ufs_model.specs.Asks.{IsAsk};
     ghost use Rattle.ufs_model.specs.Excuses.{ExcuseFits};
@@ -152,9 +152,9 @@ impl FileHand {
         ensures served { is_excused result.entry.reply ≡ false → (d : Desc) → ask.desc ≡ Some d → IsServedByFile self.old self.new pool.old pool.new d ask.op result.entry.reply result.desc }
         ensures excused { (x : Excuse) → result.entry.reply ≡ reply.Excused x → (d : Desc) → ask.desc ≡ Some d → IsExcusedFor self.old d ask.op pool.old x }
         ensures any { is_excused result.entry.reply ≡ false → (d : Desc) → ask.desc ≡ Some d → (bytes : List ℕ) → IsContentOf self.old.content bytes
-            → IsServedByFile (filled bytes self.old) (filled (file_step bytes d ask.op).bytes self.new) pool.old pool.new d ask.op result.entry.reply result.desc }
+            → IsServedByFile (whole_as bytes self.old) (whole_as (file_step bytes d ask.op).bytes self.new) pool.old pool.new d ask.op result.entry.reply result.desc }
         ensures goes_on { is_excused result.entry.reply ≡ false → (d : Desc) → ask.desc ≡ Some d → (bytes : List ℕ) → IsContentOf self.old.content bytes → IsContentOf self.new.content (file_step bytes d ask.op).bytes }
-        ensures any_excused { (x : Excuse) → result.entry.reply ≡ reply.Excused x → (d : Desc) → ask.desc ≡ Some d → (bytes : List ℕ) → IsContentOf self.old.content bytes → IsExcusedFor (filled bytes self.old) d ask.op pool.old x }
+        ensures any_excused { (x : Excuse) → result.entry.reply ≡ reply.Excused x → (d : Desc) → ask.desc ≡ Some d → (bytes : List ℕ) → IsContentOf self.old.content bytes → IsExcusedFor (whole_as bytes self.old) d ask.op pool.old x }
         ensures posix { is_excused result.entry.reply ≡ false → (t : PosixTree) → IsFileOf self.old t → IsAsk t ask → IsPosix t ask self.new result.entry.reply result.desc }
         ensures fits { (x : Excuse) → result.entry.reply ≡ reply.Excused x → (t : PosixTree) → IsFileOf self.old t → IsAsk t ask → ExcuseFits t ask.client ask.op x }
         ensures number { self.new.file ≡ self.old.file }
@@ -298,9 +298,11 @@ impl FileHand {
         self.blocks.load(place, block)
     }
 
-    /// A range with the place of each block that was written since it was read or made. It is empty behind `clean`.
+    /// A range with the place of each block that was written since it was read or made. It is empty behind `clean`. Each
+    /// block that was written is in memory.
     pub fn dirty_places(&self) -> Range<u32>
         ensures dirty { (place : ℕ) → slice_get self.now.content.dirty place ≡ Some true → (result.start ≤ place) × (place < result.end) }
+        ensures held { (place : ℕ) → slice_get self.now.content.dirty place ≡ Some true → slice_get self.now.content.there place ≡ Some true }
         ensures ordered { result.start ≤ result.end }
         ensures marks { result.end ≤ length self.now.content.dirty }
         ensures blocks { result.end ≤ length (blocks_of self.now.extents) }
@@ -633,9 +635,10 @@ impl FileHand {
         let _size = self.blocks.size();
     }
 
-    // A file knows of each block whether it is in memory.
+    // A file knows of each block whether it is in memory, and whether it was written.
     fn is_counted(&self)
-        ensures { length self.now.content.there ≡ block_count (length self.now.content.bytes) }
+        ensures there { length self.now.content.there ≡ block_count (length self.now.content.bytes) }
+        ensures marks { length self.now.content.dirty ≡ block_count (length self.now.content.bytes) }
     {
         // For the prover alone.
         let _size = self.blocks.size();
