@@ -8,8 +8,7 @@ use std::collections::BTreeMap;
 use std::marker::Model;
 use ufs_base::Memory;
 use ufs_bitmap::{Pool, give_runs};
-use ufs_file::{Applied, FileHand};
-use ufs_model::{Actor, Ask};
+use ufs_file::FileHand;
 
 /// The files that a server holds, by their numbers.
 #[derive(Drop)]
@@ -36,24 +35,15 @@ impl Model for FileHands {
 }
 
 impl FileHands {
-    ghost use Rattle.std.specs.Prelude.{◌≡◌, ◌≢◌, ℕ, [], length, true, false, Some, None, IsSome, IfOk, IfSome, IfNone, OnOk, OnErr};
+    ghost use Rattle.std.specs.Prelude.{◌≡◌, [], Some, None, IsSome, IfOk, IfSome, IfNone, OnOk, OnErr};
     ghost use Rattle.std.specs.Option.{option_map, option_copied};
     ghost use Rattle.std.specs.FinMap as map;
     ghost use Rattle.std.specs.FinSet as set;
     ghost use Rattle.ufs_bitmap.specs.Taking.{IsApart, set_of};
     ghost use Rattle.ufs_extent.specs.Runs.{blocks_of};
     ghost use Rattle.ufs_file.specs.Content.{no_content};
-    ghost use Rattle.ufs_file.specs.Hand.{FileState, IsEntryOf, IsExcusedFor, IsFileOf, IsOf, IsPosix};
+    ghost use Rattle.ufs_file.specs.Hand.{FileState};
     ghost use Rattle.ufs_files.specs.Files.{AreNumbered, blocks_at};
-    ghost use Rattle.ufs_model.specs.Asks.{IsAsk};
-    ghost use Rattle.ufs_model.specs.Bounds.{IsBounded};
-    ghost use Rattle.ufs_model.specs.Excuses.{ExcuseFits};
-    ghost use Rattle.ufs_model.specs.FileCalls.{is_on_file};
-    ghost use Rattle.ufs_model.specs.History.{is_excused};
-    ghost use Rattle.ufs_model.specs.PosixTree.{PosixTree};
-    ghost use Rattle.ufs_model.specs.declared.data.Desc.{Desc};
-    ghost use Rattle.ufs_model.specs.declared.data.Excuse.{Excuse};
-    ghost use Rattle.ufs_model.specs.declared.data.Reply.TheVariants as reply;
 
     /// No file.
     pub fn new(alloc: Global) -> FileHands
@@ -125,33 +115,6 @@ impl FileHands {
             unreachable!()
         };
         give_back(hand, pool);
-    }
-
-    /// Serves a request on a descriptor of a file that is here, as `FileHand::apply` does.
-    pub fn apply(&mut self, file: u32, ask: Ask, by: Actor, ticket: u64, pool: &mut Pool) -> Applied
-        requires here { IsSome (map.get self.old file) }
-        requires kind { is_on_file ask.op ≡ true }
-        requires bounded { IsBounded ask.op }
-        requires named { IsOf ask.desc file }
-        requires apart { IsApart pool.old (blocks_at self.old file) }
-        ensures entry { IsEntryOf ask by ticket result.entry }
-        ensures here { IsSome (map.get self.new file) }
-        ensures others { (f : ℕ) → f ≢ file → map.get self.new f ≡ map.get self.old f }
-        ensures number { (r : FileState) → map.get self.new file ≡ Some r → r.file ≡ file }
-        ensures inode { (s r : FileState) → map.get self.old file ≡ Some s → map.get self.new file ≡ Some r → r.inode ≡ s.inode }
-        ensures excused { (x : Excuse) → result.entry.reply ≡ reply.Excused x → (s : FileState) (d : Desc) → map.get self.old file ≡ Some s → ask.desc ≡ Some d → IsExcusedFor s d ask.op pool.old x }
-        ensures posix { is_excused result.entry.reply ≡ false → (s r : FileState) (t : PosixTree) → map.get self.old file ≡ Some s → map.get self.new file ≡ Some r → IsFileOf s t → IsAsk t ask → IsPosix t ask r result.entry.reply result.desc }
-        ensures fits { (x : Excuse) → result.entry.reply ≡ reply.Excused x → (s : FileState) (t : PosixTree) → map.get self.old file ≡ Some s → IsFileOf s t → IsAsk t ask → ExcuseFits t ask.client ask.op x }
-        ensures together { set.union pool.new (set.from_list (blocks_at self.new file)) ≡ set.union pool.old (set.from_list (blocks_at self.old file)) }
-        ensures apart { IsApart pool.new (blocks_at self.new file) }
-        ensures unchanged { is_excused result.entry.reply ≡ true → self.new ≡ self.old }
-        ensures pool { is_excused result.entry.reply ≡ true → pool.new ≡ pool.old }
-        ensures desc { is_excused result.entry.reply ≡ true → result.desc ≡ ask.desc }
-    {
-        let Some(hand) = self.hands.get_mut(&file) else {
-            unreachable!()
-        };
-        hand.apply(ask, by, ticket, pool)
     }
 
     /// Each stands under its own number.

@@ -10,9 +10,9 @@ use std::alloc::Global;
 use ufs_base::Memory;
 use ufs_bitmap::Pool;
 use ufs_extent::Run;
-use ufs_file::Applied;
+use ufs_file::FileHand;
 use ufs_files::FileHands;
-use ufs_model::{Actor, Ask, Bytes, Desc, Excuse, Op, Reply};
+use ufs_model::{Actor, Ask, Bytes, Desc, Op};
 
 // So many blocks from 20 on.
 fn pool_of(alloc: Global, length: u32) -> Result<Pool, Memory>
@@ -24,29 +24,13 @@ fn pool_of(alloc: Global, length: u32) -> Result<Pool, Memory>
     Ok(pool)
 }
 
-// One file, of inode 3, with no byte.
-fn one_file(alloc: Global) -> Result<FileHands, Memory>
-    ensures here { IfOk result (λ files. IsSome (map.get files 7)) }
-    ensures apart { IfOk result (λ files. (pool : BlockSet) → IsApart pool (blocks_at files 7)) }
-{
-    let mut files = FileHands::new(alloc);
-    files.make(7, 3)?;
-    Ok(files)
-}
-
-// Writes so many bytes from the file's start on.
-fn written(
-    alloc: Global,
-    files: &mut FileHands,
-    pool: &mut Pool,
-    count: usize,
-) -> Result<Applied, Memory>
-    requires here { IsSome (map.get files.old 7) }
-    requires apart { IsApart pool.old (blocks_at files.old 7) }
+// One file, of inode 3, with so many bytes.
+fn one_file(alloc: Global, pool: &mut Pool, count: usize) -> Result<FileHands, Memory>
     requires few { count ≤ 5000 }
-    ensures here { IsSome (map.get files.new 7) }
-    ensures apart { IsApart pool.new (blocks_at files.new 7) }
+    ensures here { IfOk result (λ files. IsSome (map.get files 7)) }
+    ensures apart { IfOk result (λ files. IsApart pool.new (blocks_at files 7)) }
 {
+    let mut hand = FileHand::make(alloc, 7, 3)?;
     let ask = Ask {
         client: 0,
         seq: 0,
@@ -59,7 +43,10 @@ fn written(
         fd: 0,
         last: false,
     };
-    Ok(files.apply(7, ask, Actor::Primary, 0, pool))
+    let _done = hand.apply(ask, Actor::Primary, 0, pool);
+    let mut files = FileHands::new(alloc);
+    files.insert(hand)?;
+    Ok(files)
 }
 
 fn filled(alloc: Global, count: usize) -> Result<Bytes, Memory>
@@ -93,9 +80,7 @@ fn inode_and_size(files: &FileHands) -> Option<(u32, u64)> {
 fn an_emptied_file_gives_its_blocks_back(rt: HostRuntime) -> Result<(), Memory> {
     let alloc = rt.alloc();
     let mut pool = pool_of(alloc, 10)?;
-    let mut files = one_file(alloc)?;
-    let done = written(alloc, &mut files, &mut pool, 5_000)?;
-    assert!(rt; matches!(done.entry.reply, Reply::Count(5_000)));
+    let mut files = one_file(alloc, &mut pool, 5_000)?;
     assert_eq!(rt; inode_and_size(&files), Some((3, 5_000)));
     assert_eq!(rt; pool.count(), 8);
     files.empty(7, &mut pool)?;
@@ -108,27 +93,10 @@ fn an_emptied_file_gives_its_blocks_back(rt: HostRuntime) -> Result<(), Memory> 
 fn a_removed_file_gives_its_blocks_back(rt: HostRuntime) -> Result<(), Memory> {
     let alloc = rt.alloc();
     let mut pool = pool_of(alloc, 10)?;
-    let mut files = one_file(alloc)?;
-    let _done = written(alloc, &mut files, &mut pool, 5_000)?;
+    let mut files = one_file(alloc, &mut pool, 5_000)?;
+    assert_eq!(rt; pool.count(), 8);
     files.remove(7, &mut pool);
     assert_eq!(rt; inode_and_size(&files), None);
     assert_eq!(rt; pool.count(), 10);
-    Ok(())
-}
-
-#[test]
-fn a_pool_that_is_too_small_changes_nothing(rt: HostRuntime) -> Result<(), Memory> {
-    let alloc = rt.alloc();
-    let mut pool = pool_of(alloc, 1)?;
-    let mut files = one_file(alloc)?;
-    let done = written(alloc, &mut files, &mut pool, 5_000)?;
-    assert!(rt;
-        matches!(
-            done.entry.reply,
-            Reply::Excused(Excuse::Blocks { need: 2, had: 1 })
-        )
-    );
-    assert_eq!(rt; inode_and_size(&files), Some((3, 0)));
-    assert_eq!(rt; pool.count(), 1);
     Ok(())
 }

@@ -1,4 +1,0 @@
-use Rattle.ufs_files_tests.proofs.rows.an_emptied_file_gives_its_blocks_back.Goals as goal
-
-pub written-requires-clause-apart : goal.written-requires-clause-apart
-written-requires-clause-apart g c = c.in_ok-files.ensures.apart _
