@@ -16,7 +16,7 @@ Files = map.FinMap nat_cmp FileState
 abbrev pub AreNumbered : Files → Type 0
 AreNumbered files = (f : ℕ) (s : FileState) → map.get files f ≡ Some s → s.file ≡ f
 
--- Each stands under its own number, and is that part of the tree.
+-- Each stands under its own number, and may be that part of the tree.
 abbrev pub AreFilesOf : Files → PosixTree → Type 0
 AreFilesOf files t = (f : ℕ) (s : FileState) → map.get files f ≡ Some s → (s.file ≡ f) × IsFileOf s t
 
