@@ -1,5 +1,5 @@
--- Files that are a tree's with all their bytes are so of the next tree, too.
-use Rattle.std.proofs.Common.{◌≡◌, ℕ, ◌⊎◌, inl, inr, Option, Some, None, refl, sym, ap, ◌∙◌, subst}
+-- Files that may be a tree's may be the next tree's, too.
+use Rattle.std.proofs.Common.{◌≡◌, ℕ, ◌⊎◌, inl, inr, List, [], Option, Some, None, refl, sym, ap, ◌∙◌, subst}
 use Rattle.std.specs.FinMap as map
 use Rattle.ufs_file.specs.Hand.{FileState, IsFileOf}
 use Rattle.ufs_files.specs.Files.{Files, AreFilesOf}
@@ -14,12 +14,12 @@ use Rattle.ufs_names.specs.NamesPart.{NamesPart}
 
 module _ (t u : PosixTree) (fs fs' : Files) (files : AreFilesOf fs t) (on : FilesGoOn t u fs fs') where
   bare : (f i : ℕ) (r : FileState) → HasNoByte u f i r → (r.file ≡ f) × IsFileOf r u
-  bare f i r none = subst (λ (s : FileState). (s.file ≡ f) × IsFileOf s u) (sym none.0) (refl, none.1)
+  bare f i r none = subst (λ (s : FileState). (s.file ≡ f) × IsFileOf s u) (sym none.0) (refl, record { bytes = []; has = none.1; may = record { long = refl; same = λ place there. refl } })
 
   stayed : (f : ℕ) (s r : FileState) → map.get fs f ≡ Some s → ((r ≡ s) × (map.get u.bytes f ≡ map.get t.bytes f)) ⊎ HasNoByte u f s.inode r → (r.file ≡ f) × IsFileOf r u
   stayed f s r at (inl same) =
       let is = files f s at in
-      subst (λ (s : FileState). (s.file ≡ f) × IsFileOf s u) (sym same.0) (is.0, ap (map.get u.bytes) is.0 ∙ same.1 ∙ ap (map.get t.bytes) (sym is.0) ∙ is.1)
+      subst (λ (s : FileState). (s.file ≡ f) × IsFileOf s u) (sym same.0) (is.0, record { bytes = is.1.bytes; has = ap (map.get u.bytes) is.0 ∙ same.1 ∙ ap (map.get t.bytes) (sym is.0) ∙ is.1.has; may = is.1.may })
   stayed f s r at (inr none) = bare f s.inode r none
 
   pub whole_on : AreFilesOf fs' u

@@ -1,5 +1,5 @@
 -- The files of an image are parts of the tree that it opens to.
-use Rattle.std.proofs.Common.{◌≡◌, ℕ, ◌≤◌, List, Bool, true, false, Option, Some, None, ap, sym, ◌∙◌}
+use Rattle.std.proofs.Common.{◌≡◌, ℕ, ◌≤◌, List, Bool, true, false, Option, Some, None, ap, sym, refl, ◌∙◌}
 use Rattle.std.specs.Prelude.{◌==◌, if◌then◌else◌}
 use Rattle.std.specs.Option.{option_map}
 use Rattle.std.specs.FinMap as map
@@ -14,6 +14,7 @@ use Rattle.ufs_image.proofs.Depth.{has_root, root_in_range}
 use Rattle.ufs_image.proofs.Found.{reached, same_some}
 use Rattle.ufs_image.proofs.Opening.{has_geometry}
 use Rattle.ufs_image.proofs.Paths.{stands}
+use Rattle.ufs_file.specs.Hand.{FileState}
 use Rattle.ufs_files.specs.Files.{Files, AreFilesOf}
 use Rattle.ufs_model.specs.PosixTree.{PosixTree}
 use Rattle.ufs_model.specs.Start.{content_of}
@@ -44,10 +45,14 @@ module _ (sectors : ℕ) (image : Image) (v : Volume) (c : Catalog) (t : PosixTr
       (sym (ap (content_of t.bytes) at.stands) ∙ has (cat.path_text at.names)
       ∙ ap (option_map path_node_of) (stands v.geometry v.image c is.catalog is.sound some at.names pieces ∙ ap (option_map (cat.node_of v.image c)) at.met))
 
+  -- the tree has the bytes that were read
+  pub has_bytes : (f : ℕ) (s : FileState) → map.get files f ≡ Some s → map.get t.bytes f ≡ Some s.content.bytes
+  has_bytes f s e = let r = read f s e in bytes_at s.inode f (of.numbers.only s.inode f r.inode) ∙ ap Some (sym r.bytes)
+
   pub are_files : AreFilesOf files t
   are_files f s e =
-      let r = read f s e in
-      (r.number, ap (map.get t.bytes) r.number ∙ bytes_at s.inode f (of.numbers.only s.inode f r.inode) ∙ ap Some (sym r.bytes))
+      let number = (read f s e).number in
+      (number, record { bytes = s.content.bytes; has = ap (map.get t.bytes) number ∙ has_bytes f s e; may = record { long = refl; same = λ place there. refl } })
 
   pub have_inodes : HaveInodes n.held files
   have_inodes f s h e held =
