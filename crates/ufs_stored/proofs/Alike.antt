@@ -15,12 +15,14 @@ use Rattle.ufs_layout.specs.Superblock.{geometry_of}
 use Rattle.ufs_layout.specs.declared.geometry.Geometry.{Geometry}
 use Rattle.ufs_ledger.specs.Kept.{Counts, IsLedgerKept}
 use Rattle.ufs_ledger.specs.Ledger.{IsDataBlock, Ledger, is_held}
+use Rattle.ufs_model.specs.FileBytes.{bytes_of}
+use Rattle.ufs_model.specs.History.{tree_after}
 use Rattle.ufs_model.specs.PosixTree.{PosixTree}
 use Rattle.ufs_model.specs.declared.data.Entry.{Entry}
 use Rattle.ufs_dir_tree.specs.Steps.{after_all}
 use Rattle.ufs_name_log.specs.Held.{HasSoundNames, HasState, MaySteps}
 use Rattle.ufs_durable.specs.Standing.{HaveOnly, IsFileBlock, StandsFor}
-use Rattle.ufs_durable.specs.State.{DurableState}
+use Rattle.ufs_durable.specs.State.{DurableState, whole_of}
 use Rattle.ufs_durable.proofs.Others.{stands_still}
 use Rattle.ufs_stored.specs.Parts.{Parts, durable_in}
 use Rattle.ufs_stored.specs.Stored.{AreNamesNoted, AreNamesStored, IsFileStored, IsFileWhole, IsSpelled, IsStored, empty_form, with_born, with_fresh, with_none}
@@ -37,7 +39,10 @@ pub record IsAlike (l m : Ledger) (fresh : List ℕ) : Type 0 where
 -- The ledger has the same catalog, with its dentries in the same blocks, and each file is stored there.
 module _ (l m : Ledger) (u : BlockSet) (start : PosixTree) (history : List Entry) (k : Counts) (p : Parts) (st : IsStored l u start history k p)
     (superblock : geometry_of m.superblock ≡ geometry_of l.superblock) (catalog : m.now.catalog ≡ l.now.catalog) (dirs : m.now.dirs ≡ l.now.dirs) (unheld : (block : ℕ) → is_held l.now.log block ≡ false → is_held m.now.log block ≡ false)
-    (stored : (file : ℕ) (s : FileState) → map.get p.files file ≡ Some s → IsFileStored l k.numbers (durable_in p.commits s) → IsFileStored m k.numbers (durable_in p.commits s)) where
+    (stored : (file : ℕ) (s : FileState) → map.get p.files file ≡ Some s → IsFileStored l k.numbers (whole_of (bytes_of (tree_after start history).bytes file) (durable_in p.commits s)) → IsFileStored m k.numbers (whole_of (bytes_of (tree_after start history).bytes file) (durable_in p.commits s))) where
+  abbrev bytes : ℕ → List ℕ
+  bytes file = bytes_of (tree_after start history).bytes file
+
   moved : (P : Geometry → Catalog → Type 0) → P (geometry_of l.superblock) l.now.catalog → P (geometry_of m.superblock) m.now.catalog
   moved P x = subst (λ (c : Catalog). P (geometry_of m.superblock) c) (sym catalog) (subst (λ (g : Geometry). P g l.now.catalog) (sym superblock) x)
 
@@ -51,7 +56,7 @@ module _ (l m : Ledger) (u : BlockSet) (start : PosixTree) (history : List Entry
     unheld = unheld block was.unheld;
   }
 
-  whole : (file : ℕ) (s : FileState) → map.get p.files file ≡ Some s → IsFileWhole l k.numbers (durable_in p.commits s) → IsFileWhole m k.numbers (durable_in p.commits s)
+  whole : (file : ℕ) (s : FileState) → map.get p.files file ≡ Some s → IsFileWhole l k.numbers (whole_of (bytes file) (durable_in p.commits s)) → IsFileWhole m k.numbers (whole_of (bytes file) (durable_in p.commits s))
   whole file s here was = record {
     noted = was.noted;
     once = was.once;
@@ -99,6 +104,7 @@ module _ (l m : Ledger) (u : BlockSet) (start : PosixTree) (history : List Entry
     parts = st.parts;
     names = names st.names;
     counted = st.counted;
+    noted = st.noted;
     each = λ file s here. whole file s here (st.each file s here);
     spaced = record {
       apart = st.spaced.apart;
@@ -119,11 +125,14 @@ module _ (l m : Ledger) (u : BlockSet) (start : PosixTree) (history : List Entry
       (alike.less block bytes (off place block at) (sym (ap (λ log. is_held log block) la) ∙ free) (subst (λ (cells : ℕ → Cell). HaveOnly (possible (cells block)) bytes) ba only)))
       stood
 
-  stored : (file : ℕ) (s : FileState) → map.get p.files file ≡ Some s → IsFileStored l k.numbers (durable_in p.commits s) → IsFileStored m k.numbers (durable_in p.commits s)
-  stored file s here (inl both) = inl (both.0, stands l m (durable_in p.commits s) (no_fresh l u start history k p st file s here) refl refl refl refl refl refl refl refl (ap (λ (c : Catalog). c.forms s.inode) alike.catalog) both.1)
+  abbrev whole_at : ℕ → FileState → DurableState
+  whole_at file s = whole_of (bytes_of (tree_after start history).bytes file) (durable_in p.commits s)
+
+  stored : (file : ℕ) (s : FileState) → map.get p.files file ≡ Some s → IsFileStored l k.numbers (whole_at file s) → IsFileStored m k.numbers (whole_at file s)
+  stored file s here (inl both) = inl (both.0, stands l m (whole_at file s) (no_fresh l u start history k p st file s here) refl refl refl refl refl refl refl refl (ap (λ (c : Catalog). c.forms s.inode) alike.catalog) both.1)
   stored file s here (inr both) = inr (
     both.0,
-    stands (with_born s.inode l) (with_born s.inode m) (durable_in p.commits s) (no_fresh l u start history k p st file s here) refl refl refl refl refl refl refl refl
+    stands (with_born s.inode l) (with_born s.inode m) (whole_at file s) (no_fresh l u start history k p st file s here) refl refl refl refl refl refl refl refl
         (ap (λ (c : Catalog). (with_form s.inode empty_form c).forms s.inode) alike.catalog) both.1,
   )
 

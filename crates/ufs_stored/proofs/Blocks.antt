@@ -5,7 +5,7 @@ use Rattle.std.proofs.Math.Seq.{set_out}
 use Rattle.std.proofs.lemmas.Bool.{cases_eq, cases_lt}
 use Rattle.std.proofs.lemmas.Bool.Decides.{nat_tests}
 use Rattle.ufs_dirs.specs.Directory.{Directory}
-use Rattle.ufs_dir_tree.specs.DirTable.{DirTable, blocks_at, dir_at, no_dir}
+use Rattle.ufs_dir_tree.specs.DirTable.{DirTable, blocks_at, no_dir}
 use Rattle.ufs_dir_tree.specs.Steps.{Step, Born, Grown, Put, Freed, table_after, table_after_all, with_dir}
 use Rattle.ufs_name_tree.specs.Notes.{is_of, is_touched}
 

@@ -7,10 +7,11 @@ use Rattle.ufs_layout.specs.declared.geometry.Geometry.{Geometry}
 use Rattle.ufs_ledger.specs.Kept.{Counts, IsLedgerKept}
 use Rattle.ufs_ledger.specs.Laws.{EntriesKeep}
 use Rattle.ufs_ledger.specs.Ledger.{Ledger}
+use Rattle.ufs_model.specs.FileBytes.{bytes_of}
 use Rattle.ufs_model.specs.History.{IsLegal, goes_on, is_excused, tree_after, tree_with}
 use Rattle.ufs_model.specs.Posix.{change, posix, served}
 use Rattle.ufs_model.specs.Refusals.{refusal}
-use Rattle.ufs_model.specs.PosixTree.{IsTree, PosixTree}
+use Rattle.ufs_model.specs.PosixTree.{Files, IsTree, PosixTree}
 use Rattle.ufs_model.specs.declared.data.Entry.{Entry}
 use Rattle.ufs_model.specs.declared.data.Errno.{Errno}
 use Rattle.ufs_model.specs.declared.data.Op.{Op}
@@ -24,8 +25,9 @@ use Rattle.ufs_prefix.specs.Changes.{NameState, change_of, changes_of, name_chan
 use Rattle.ufs_prefix.specs.declared.data.FileChange.{FileChange}
 use Rattle.ufs_prefix.proofs.Facts.Histories.{changes_of-push, names_after-append, tree_after-append}
 use Rattle.ufs_stored.specs.Laws.{leaves_tree}
-use Rattle.ufs_stored.specs.Parts.{Parts}
-use Rattle.ufs_stored.specs.Stored.{AreCounted, ArePartsOf, IsStored}
+use Rattle.ufs_durable.specs.State.{whole_of}
+use Rattle.ufs_stored.specs.Parts.{Parts, durable_in}
+use Rattle.ufs_stored.specs.Stored.{AreCounted, ArePartsOf, IsFileWhole, IsStored}
 
 -- the promise of the ledger
 pub ledger_kept : (g : Geometry) → EntriesKeep g → (l : Ledger) (start : PosixTree) (history : List Entry) (entry : Entry) (k maybe : Counts) → geometry_of l.superblock ≡ g → IsTree start → IsLegal start (history ++ entry ∷ [])
@@ -50,15 +52,17 @@ counted_still start history entry k made c = record {
 }
 
 pub entry_kept : (g : Geometry) → EntriesKeep g → (l : Ledger) (unassigned : BlockSet) (start : PosixTree) (history : List Entry) (entry : Entry) (k : Counts) (p : Parts) → geometry_of l.superblock ≡ g → IsLegal start (history ++ entry ∷ [])
-    → IsAckCovered start history entry k.names k.files → ArePartsOf p (tree_after start (history ++ entry ∷ [])) → IsStored l unassigned start history k p → IsStored l unassigned start (history ++ entry ∷ []) k p
-entry_kept g keeps l unassigned start history entry k p same legal ack after st = record {
+    → IsAckCovered start history entry k.names k.files → ArePartsOf p (tree_after start (history ++ entry ∷ [])) → (tree_after start (history ++ entry ∷ [])).bytes ≡ (tree_after start history).bytes
+    → IsStored l unassigned start history k p → IsStored l unassigned start (history ++ entry ∷ []) k p
+entry_kept g keeps l unassigned start history entry k p same legal ack after bytes st = record {
   tree = st.tree;
   legal = legal;
   kept = ledger_kept g keeps l start history entry k k same st.tree legal ack ack st.kept;
   parts = after;
   names = st.names;
   counted = counted_still start history entry k st.kept.here.stored.made st.counted;
-  each = st.each;
+  noted = st.noted;
+  each = λ file f here. subst (IsFileWhole l k.numbers) (sym (ap (λ (b : Files). whole_of (bytes_of b file) (durable_in p.commits f)) bytes)) (st.each file f here);
   spaced = st.spaced;
 }
 
@@ -93,7 +97,7 @@ pub excuse_kept : (g : Geometry) → EntriesKeep g → OthersAcknowledgeNothing 
 excuse_kept g keeps others l unassigned start history entry k p same legal excused st =
     let tree : tree_after start (history ++ entry ∷ []) ≡ tree_after start history = tree_after-append start history (entry ∷ []) ∙ excuse_leaves (tree_after start history) entry.client entry.op entry.reply excused in
     entry_kept g keeps l unassigned start history entry k p same legal (others start history entry k.names k.files (inl (no_ok entry.reply excused)))
-    (subst (ArePartsOf p) (sym tree) st.parts) st
+    (subst (ArePartsOf p) (sym tree) st.parts) (ap (λ (t : PosixTree). t.bytes) tree) st
 
 -- ---- a request that changes nothing
 
@@ -139,4 +143,4 @@ pub still_kept : (g : Geometry) → EntriesKeep g → (l : Ledger) (unassigned :
     → IsLegal start (history ++ entry ∷ []) → leaves_tree entry.op ≡ true → IsAckCovered start history entry k.names k.files → IsStored l unassigned start history k p → IsStored l unassigned start (history ++ entry ∷ []) k p
 still_kept g keeps l unassigned start history entry k p same legal still ack st =
     let tree : tree_after start (history ++ entry ∷ []) ≡ tree_after start history = tree_after-append start history (entry ∷ []) ∙ tree_left (tree_after start history) entry still in
-    entry_kept g keeps l unassigned start history entry k p same legal ack (subst (ArePartsOf p) (sym tree) st.parts) st
+    entry_kept g keeps l unassigned start history entry k p same legal ack (subst (ArePartsOf p) (sym tree) st.parts) (ap (λ (t : PosixTree). t.bytes) tree) st

@@ -28,6 +28,7 @@ use Rattle.ufs_ledger.specs.Changes.{home_of, written}
 use Rattle.ufs_ledger.specs.Kept.{Counts, IsLedgerKept, Numbers}
 use Rattle.ufs_ledger.specs.Ledger.{IsDataBlock, Ledger, Stand, is_held, is_set_in}
 use Rattle.ufs_ledger.proofs.Held.{held_after}
+use Rattle.ufs_model.specs.FileBytes.{bytes_of}
 use Rattle.ufs_model.specs.History.{tree_after}
 use Rattle.ufs_model.specs.PosixTree.{PosixTree}
 use Rattle.ufs_model.specs.declared.data.Entry.{Entry}
@@ -36,16 +37,17 @@ use Rattle.ufs_name_log.specs.Held.{HasSoundNames, HasState, MaySteps}
 use Rattle.ufs_dir_tree.specs.Steps.{after_all}
 use Rattle.ufs_name_log.proofs.Forms.{form_here}
 use Rattle.ufs_name_tree.specs.NameTable.{file_at}
-use Rattle.ufs_store.specs.Ledgers.{HasLedger, checkpointed}
+use Rattle.ufs_store.specs.Ledgers.{HasLedger, after_commit, checkpointed}
 use Rattle.ufs_store.specs.State.{StoreState, has_room, next_commit, next_superblock}
 use Rattle.ufs_durable.specs.Committing.{DoneIsKept, FilesMayCommitNext, FitsInode, HasToCommit, HasTreeBytes, IsFileBy, OwnsCommitted, all_shown, once_committed}
 use Rattle.ufs_durable.specs.Others.{IsOther, OwnsBehindCommit, StandsBehindCommit, StandsOnceCommitted}
 use Rattle.ufs_durable.specs.Standing.{IsFileBlock, StandsFor}
-use Rattle.ufs_durable.specs.State.{DurableState, file_committed}
+use Rattle.ufs_durable.specs.State.{DurableState, file_committed, whole_of}
 use Rattle.ufs_durable.specs.Writes.{BlockWrite, at_moments, with_writes, writes_of}
 use Rattle.ufs_durable.proofs.Behind.{same_superblock, same_now}
 use Rattle.ufs_durable.proofs.Others.{behind_home, behind_writes, stands_still}
 use Rattle.ufs_durable.proofs.Standing.{blocks_are, noted_committed, settled_has}
+use Rattle.ufs_durable.proofs.Wholes.{writes_are_whole}
 use Rattle.ufs_stored.specs.Parts.{OneFile, Parts, durable_in, with_file}
 use Rattle.ufs_stored.specs.Stored.{AreNamesNoted, AreNamesStored, IsFileStored, IsFileWhole, IsKnownBlock, IsSpelled, IsStored, empty_form, with_born, with_fresh, with_none}
 use Rattle.ufs_stored.proofs.FileDone.{clash, done_stored}
@@ -53,6 +55,7 @@ use Rattle.ufs_stored.proofs.Live.{is_file, live}
 use Rattle.ufs_stored.proofs.OneDelta.{form_else, slots_same, state_stays}
 use Rattle.ufs_stored.proofs.Places.{held_at}
 use Rattle.ufs_stored.proofs.Puts.{here}
+use Rattle.ufs_stored.proofs.Whole.{fits_whole, tree_has, tree_may}
 
 -- writes leave the catalog
 pub writes_born : (i : ℕ) (ws : List BlockWrite) (l : Ledger) → with_writes ws (with_born i l) ≡ with_born i (with_writes ws l)
@@ -66,7 +69,8 @@ inode_on_disk l numbers x there (inr both) = absurd (clash (is_some (numbers.ino
 
 -- two files have two inodes, and no block together
 pub other_file_is : (l : Ledger) (u : BlockSet) (start : PosixTree) (history : List Entry) (k : Counts) (p : Parts) (f : FileState) → map.get p.files f.file ≡ Some f → IsStored l u start history k p
-    → (file : ℕ) (h : FileState) → map.get p.files file ≡ Some h → file ≢ f.file → IsOther (durable_in p.commits f) (durable_in p.commits h)
+    → (file : ℕ) (h : FileState) → map.get p.files file ≡ Some h → file ≢ f.file
+    → IsOther (whole_of (bytes_of (tree_after start history).bytes f.file) (durable_in p.commits f)) (whole_of (bytes_of (tree_after start history).bytes file) (durable_in p.commits h))
 other_file_is l u start history k p f at st file h here apart = record {
   inode = λ same. apart (same_some file f.file (sym (is_file p (tree_after start history) st.parts file h here) ∙ ap (file_at p.names.tree) same ∙ is_file p (tree_after start history) st.parts f.file f at));
   blocks = λ a b block mine its.
@@ -79,14 +83,18 @@ other_file_is l u start history k p f at st file h here apart = record {
 module _ (s : StoreState) (between : Moments) (records : List LogRecord) (l : Ledger) (u : BlockSet) (start : PosixTree) (history : List Entry) (k : Counts) (p : Parts) (f : FileState) (led : HasLedger s l) (at : map.get p.files f.file ≡ Some f)
     (delta : IsDelta (durable_in p.commits f).log.inode (durable_in p.commits f).log.committed (durable_in p.commits f).log.noted records) (fits : FitsInode f) (there : IsSome (k.numbers.inode f.file)) (st : IsStored l u start history k p)
     (may : FilesMayCommitNext) (done : DoneIsKept) (tree_bytes : HasTreeBytes) (owns_committed : OwnsCommitted) (stands_behind : StandsBehindCommit) (owns_behind : OwnsBehindCommit) (once : StandsOnceCommitted) where
+  -- with the tree's bytes
+  abbrev bytes : List ℕ
+  bytes = bytes_of (tree_after start history).bytes f.file
+
   abbrev x : DurableState
-  x = durable_in p.commits f
+  x = whole_of (bytes_of (tree_after start history).bytes f.file) (durable_in p.commits f)
 
   abbrev y : DurableState
-  y = file_committed (durable_in p.commits f)
+  y = file_committed x
 
   abbrev m : Ledger
-  m = once_committed s between records (durable_in p.commits f) l
+  m = once_committed s between records x l
 
   abbrev q : Parts
   q = with_file (file_committed (durable_in p.commits f)) p.pool p
@@ -107,7 +115,7 @@ module _ (s : StoreState) (between : Moments) (records : List LogRecord) (l : Le
   s2 = at_moments between s
 
   abbrev r : Ledger
-  r = with_writes (writes_of f) l
+  r = with_writes (writes_of x.file) l
 
   whole : IsFileWhole l k.numbers x
   whole = st.each f.file f at
@@ -116,14 +124,14 @@ module _ (s : StoreState) (between : Moments) (records : List LogRecord) (l : Le
   on_disk = inode_on_disk l k.numbers x there whole.stored
 
   to_commit : HasToCommit s records l x
-  to_commit = record { has = led; noted = whole.noted; stands = on_disk.1; own = whole.own; fits = fits; delta = delta }
+  to_commit = record { has = led; noted = whole.noted; stands = on_disk.1; own = whole.own; fits = fits_whole bytes f (tree_may (tree_after start history) f.file f (st.parts.files f.file f at)) fits; delta = delta }
 
-  by_history : IsFileBy f start history k
+  by_history : IsFileBy x.file start history k
   by_history = record {
     there = on_disk.0;
     alone = λ other is. st.counted.alone f.file other f.inode on_disk.0 is;
     counted = st.counted.made f.file;
-    bytes = tree_bytes f start history st.tree st.legal (st.parts.files f.file f at).1;
+    bytes = tree_bytes x.file start history st.tree st.legal (tree_has (tree_after start history) f.file f (st.parts.files f.file f at));
   }
 
   kept_now : IsLedgerKept m start history k2 k2
@@ -135,19 +143,19 @@ module _ (s : StoreState) (between : Moments) (records : List LogRecord) (l : Le
   room_at b = if b then r else checkpointed s2 r
 
   superblock_at : (b : Bool) → geometry_of (room_at b).superblock ≡ g
-  superblock_at true = ap geometry_of (same_superblock (writes_of f) l)
+  superblock_at true = ap geometry_of (same_superblock (writes_of x.file) l)
   superblock_at false = ap geometry_of (sym led.superblock_is)
 
   catalog_at : (b : Bool) → (room_at b).now.catalog ≡ l.now.catalog
-  catalog_at true = ap (λ (a : Stand). a.catalog) (same_now (writes_of f) l)
-  catalog_at false = ap (λ (a : Stand). a.catalog) (same_now (writes_of f) l)
+  catalog_at true = ap (λ (a : Stand). a.catalog) (same_now (writes_of x.file) l)
+  catalog_at false = ap (λ (a : Stand). a.catalog) (same_now (writes_of x.file) l)
 
   dirs_at : (b : Bool) → (room_at b).now.dirs ≡ l.now.dirs
-  dirs_at true = ap (λ (a : Stand). a.dirs) (same_now (writes_of f) l)
-  dirs_at false = ap (λ (a : Stand). a.dirs) (same_now (writes_of f) l)
+  dirs_at true = ap (λ (a : Stand). a.dirs) (same_now (writes_of x.file) l)
+  dirs_at false = ap (λ (a : Stand). a.dirs) (same_now (writes_of x.file) l)
 
   free_at : (b : Bool) (block : ℕ) → is_held l.now.log block ≡ false → is_held (room_at b).now.log block ≡ false
-  free_at true block free = ap (λ (a : Stand). is_held a.log block) (same_now (writes_of f) l) ∙ free
+  free_at true block free = ap (λ (a : Stand). is_held a.log block) (same_now (writes_of x.file) l) ∙ free
   free_at false block free = refl
 
   abbrev c2 : Catalog
@@ -234,16 +242,19 @@ module _ (s : StoreState) (between : Moments) (records : List LogRecord) (l : Le
 
   -- ---- other files
 
-  other : (file : ℕ) (h : FileState) → map.get p.files file ≡ Some h → file ≢ f.file → IsOther x (durable_in p.commits h)
+  abbrev whole_at : ℕ → FileState → DurableState
+  whole_at file h = whole_of (bytes_of (tree_after start history).bytes file) (durable_in p.commits h)
+
+  other : (file : ℕ) (h : FileState) → map.get p.files file ≡ Some h → file ≢ f.file → IsOther x (whole_at file h)
   other file h here apart = other_file_is l u start history k p f at st file h here apart
 
   born_written : (h : DurableState) → IsOther x h → StandsFor (with_born h.file.inode l) h → StandsFor (with_born h.file.inode r) h
-  born_written h apart stood = subst (λ (a : Ledger). StandsFor a h) (writes_born h.file.inode (writes_of f) l) (behind_writes x h whole.noted apart.blocks (with_born h.file.inode l) (writes_of f) [] (sym (append-nil (writes_of f))) stood)
+  born_written h apart stood = subst (λ (a : Ledger). StandsFor a h) (writes_born h.file.inode (writes_of x.file) l) (behind_writes x h whole.noted apart.blocks (with_born h.file.inode l) (writes_of x.file) [] (sym (append-nil (writes_of x.file))) stood)
 
   born_room : (h : DurableState) → IsOther x h → StandsFor (with_born h.file.inode l) h → (b : Bool) → StandsFor (with_born h.file.inode (room_at b)) h
   born_room h apart stood true = born_written h apart stood
   born_room h apart stood false =
-      behind_home (with_born h.file.inode r) h (next_superblock s2) (block_at (home_of r (reads between))) (ap geometry_of (sym led.superblock_is ∙ sym (same_superblock (writes_of f) l)))
+      behind_home (with_born h.file.inode r) h (next_superblock s2) (block_at (home_of r (reads between))) (ap geometry_of (sym led.superblock_is ∙ sym (same_superblock (writes_of x.file) l)))
       (born_written h apart stood)
 
   born_behind : (h : DurableState) → IsOther x h → StandsFor (with_born h.file.inode l) h → StandsFor (with_born h.file.inode m) h
@@ -253,15 +264,15 @@ module _ (s : StoreState) (between : Moments) (records : List LogRecord) (l : Le
       (form_here m.now.catalog h.file.inode empty_form ∙ sym (form_here a.now.catalog h.file.inode empty_form)) refl
       (λ b free. held_behind b free) (λ place b bytes had free only. settled_has (a.blocks b) bytes only) (born_room h apart stood (has_room s2 records))
 
-  stored : (file : ℕ) (h : FileState) → map.get p.files file ≡ Some h → file ≢ f.file → IsFileStored l k.numbers (durable_in p.commits h) → IsFileStored m k.numbers (durable_in p.commits h)
-  stored file h here apart (inl both) = inl (both.0, stands_behind s between records l x (durable_in p.commits h) led whole.noted delta (other file h here apart) both.1)
-  stored file h here apart (inr both) = inr (both.0, born_behind (durable_in p.commits h) (other file h here apart) both.1)
+  stored : (file : ℕ) (h : FileState) → map.get p.files file ≡ Some h → file ≢ f.file → IsFileStored l k.numbers (whole_at file h) → IsFileStored m k.numbers (whole_at file h)
+  stored file h here apart (inl both) = inl (both.0, stands_behind s between records l x (whole_at file h) led whole.noted delta (other file h here apart) both.1)
+  stored file h here apart (inr both) = inr (both.0, born_behind (whole_at file h) (other file h here apart) both.1)
 
-  whole_else : (file : ℕ) (h : FileState) → map.get p.files file ≡ Some h → file ≢ f.file → IsFileWhole m k.numbers (durable_in p.commits h)
+  whole_else : (file : ℕ) (h : FileState) → map.get p.files file ≡ Some h → file ≢ f.file → IsFileWhole m k.numbers (whole_at file h)
   whole_else file h here apart = let w = st.each file h here in record {
     noted = w.noted;
     once = w.once;
-    own = owns_behind s between records l x (durable_in p.commits h) led whole.noted on_disk.1 delta (other file h here apart) w.own;
+    own = owns_behind s between records l x (whole_at file h) led whole.noted on_disk.1 delta (other file h here apart) w.own;
     stored = stored file h here apart w.stored;
   }
 
@@ -282,8 +293,8 @@ module _ (s : StoreState) (between : Moments) (records : List LogRecord) (l : Le
     unheld = held_behind b (free_at (has_room s2 records) b is.unheld);
   }
 
-  pub file_committed_stored : IsStored m u2 start history k2 q
-  file_committed_stored = done_stored l m u start history k p f at st (record {
+  whole_stored : IsStored m u2 start history k2 q
+  whole_stored = done_stored l m u start history k p f at st (record {
     number = on_disk.0;
     kept = kept_now;
     names = names st.names;
@@ -293,3 +304,10 @@ module _ (s : StoreState) (between : Moments) (records : List LogRecord) (l : Le
     spelled = spelled;
     block_before = block_before;
   })
+
+  -- what is written is the same, since what is dirty is in memory
+  pub file_committed_stored : IsStored (once_committed s between records (durable_in p.commits f) l) u2 start history k2 q
+  file_committed_stored = subst (λ (ws : List BlockWrite). IsStored (after_commit (at_moments between s) records (with_writes ws l)) u2 start history k2 q) same_writes whole_stored
+    where
+      same_writes : writes_of x.file ≡ writes_of f
+      same_writes = writes_are_whole f bytes (st.noted f.file f at).written (tree_may (tree_after start history) f.file f (st.parts.files f.file f at))

@@ -20,6 +20,7 @@ use Rattle.ufs_layout.specs.declared.geometry.Geometry.{Geometry}
 use Rattle.ufs_ledger.specs.Kept.{Counts, IsLedgerKept}
 use Rattle.ufs_ledger.specs.Laws.{raised}
 use Rattle.ufs_ledger.specs.Ledger.{Ledger}
+use Rattle.ufs_model.specs.FileBytes.{bytes_of}
 use Rattle.ufs_model.specs.History.{tree_after}
 use Rattle.ufs_model.specs.PosixTree.{PosixTree}
 use Rattle.ufs_model.specs.declared.data.Entry.{Entry}
@@ -27,13 +28,15 @@ use Rattle.ufs_model.proofs.Facts.Lookups.{same_some}
 use Rattle.ufs_prefix.specs.Changes.{changes_of}
 use Rattle.ufs_durable.specs.Committing.{all_shown}
 use Rattle.ufs_durable.specs.Standing.{IsFileBlock}
-use Rattle.ufs_durable.specs.State.{DurableState, IsNoted, blocks_held, file_committed}
+use Rattle.ufs_durable.specs.State.{DurableState, IsNoted, blocks_held, file_committed, whole_of}
 use Rattle.ufs_durable.proofs.Served.{has_at}
+use Rattle.ufs_durable.proofs.Standing.{noted_committed}
 use Rattle.ufs_stored.specs.Parts.{FileOwns, NamesOwn, OneFile, Owner, Owns, Parts, TheNames, ThePool, Unassigned, durable_in, with_file}
 use Rattle.ufs_stored.specs.Stored.{AreCounted, AreNamesStored, FileHasIt, IsFileWhole, IsSpelled, IsStored}
 use Rattle.ufs_stored.proofs.FileEntries.{parts_now}
 use Rattle.ufs_stored.proofs.Places.{held_at}
 use Rattle.ufs_stored.proofs.Puts.{durable_else, durable_here, either, other_file, here}
+use Rattle.ufs_stored.proofs.Whole.{cleaned_stays, whole_committed}
 
 pub clash : (b : Bool) → b ≡ true → b ≡ false → ⊥
 clash b is off = let no = sym is ∙ off in cc
@@ -47,8 +50,8 @@ pub record IsDone (l m : Ledger) (start : PosixTree) (history : List Entry) (k :
   pub number : k.numbers.inode f.file ≡ Some f.inode
   pub kept : IsLedgerKept m start history (all_shown f start history k) (all_shown f start history k)
   pub names : AreNamesStored m k.numbers p.fresh p.names
-  pub itself : IsFileWhole m k.numbers (file_committed (durable_in p.commits f))
-  pub others : (file : ℕ) (h : FileState) → map.get p.files file ≡ Some h → file ≢ f.file → IsFileWhole m k.numbers (durable_in p.commits h)
+  pub itself : IsFileWhole m k.numbers (file_committed (whole_of (bytes_of (tree_after start history).bytes f.file) (durable_in p.commits f)))
+  pub others : (file : ℕ) (h : FileState) → map.get p.files file ≡ Some h → file ≢ f.file → IsFileWhole m k.numbers (whole_of (bytes_of (tree_after start history).bytes file) (durable_in p.commits h))
   pub file_block : (b : ℕ) → IsFileBlock l b → IsFileBlock m b
   pub spelled : (b : ℕ) → IsSpelled l b → IsSpelled m b
   pub block_before : (inode place b : ℕ) → HasBlock (geometry_of m.superblock) m.now.catalog inode place b
@@ -159,25 +162,41 @@ module _ (l m : Ledger) (u : BlockSet) (start : PosixTree) (history : List Entry
   abbrev g : Geometry
   g = geometry_of l.superblock
 
-  whole : IsFileWhole l k.numbers x
-  whole = st.each f.file f at
+  noted : IsNoted x
+  noted = st.noted f.file f at
 
-  each_now : (file : ℕ) (h : FileState) → map.get q.files file ≡ Some h → IsFileWhole m k.numbers (durable_in q.commits h)
+  abbrev bytes : ℕ → List ℕ
+  bytes file = bytes_of (tree_after start history).bytes file
+
+  this : (h : FileState) → h ≡ y.file → durable_in q.commits h ≡ y
+  this h is = ap (durable_in q.commits) is ∙ durable_here y p.pool p
+
+  another : (file : ℕ) (h : FileState) → file ≢ f.file → map.get p.files file ≡ Some h → durable_in q.commits h ≡ durable_in p.commits h
+  another file h not there = durable_else y p.pool p h (λ e. not (sym (st.parts.files file h there).0 ∙ e))
+
+  all_noted : (file : ℕ) (h : FileState) → map.get q.files file ≡ Some h → IsNoted (durable_in q.commits h)
+  all_noted file h there = by (either y p.pool p file h there)
+    where
+      by : ((file ≡ f.file) × (h ≡ y.file)) ⊎ ((file ≢ f.file) × (map.get p.files file ≡ Some h)) → IsNoted (durable_in q.commits h)
+      by (inl both) = subst IsNoted (sym (this h both.1)) (noted_committed x noted)
+      by (inr both) = subst IsNoted (sym (another file h both.0 both.1)) (st.noted file h both.1)
+
+  each_now : (file : ℕ) (h : FileState) → map.get q.files file ≡ Some h → IsFileWhole m k.numbers (whole_of (bytes file) (durable_in q.commits h))
   each_now file h there = by (either y p.pool p file h there)
     where
-      by : ((file ≡ f.file) × (h ≡ y.file)) ⊎ ((file ≢ f.file) × (map.get p.files file ≡ Some h)) → IsFileWhole m k.numbers (durable_in q.commits h)
-      by (inl both) = subst (IsFileWhole m k.numbers) (sym (ap (durable_in q.commits) both.1 ∙ durable_here y p.pool p)) done.itself
-      by (inr both) = subst (IsFileWhole m k.numbers) (sym (durable_else y p.pool p h (λ e. both.0 (sym (st.parts.files file h both.1).0 ∙ e)))) (done.others file h both.1 both.0)
+      by : ((file ≡ f.file) × (h ≡ y.file)) ⊎ ((file ≢ f.file) × (map.get p.files file ≡ Some h)) → IsFileWhole m k.numbers (whole_of (bytes file) (durable_in q.commits h))
+      by (inl both) = subst (IsFileWhole m k.numbers) (sym ((λ i. whole_of (bytes (both.0 i)) (this h both.1 i)) ∙ whole_committed (bytes f.file) x)) done.itself
+      by (inr both) = subst (IsFileWhole m k.numbers) (sym (ap (whole_of (bytes file)) (another file h both.0 both.1))) (done.others file h both.1 both.0)
 
   numbered : AreNumbered p.files
   numbered file h here = (st.parts.files file h here).0
 
   usable_now : (o : Owner) (b : ℕ) → o ≢ TheNames → Owns q u2 o b → IsFileBlock m b
-  usable_now o b not owns = by (before u p f at whole.noted numbered st.spaced.apart o b owns)
+  usable_now o b not owns = by (before u p f at noted numbered st.spaced.apart o b owns)
     where
-      by : Before u p f at whole.noted numbered st.spaced.apart o b → IsFileBlock m b
+      by : Before u p f at noted numbered st.spaced.apart o b → IsFileBlock m b
       by (inl had) = done.file_block b (st.spaced.usable o b not had)
-      by (inr new) = done.file_block b (st.spaced.usable (OneFile f.file) b (λ e. cc) (dropped_mine u p f at whole.noted numbered st.spaced.apart b new.1))
+      by (inr new) = done.file_block b (st.spaced.usable (OneFile f.file) b (λ e. cc) (dropped_mine u p f at noted numbered st.spaced.apart b new.1))
 
   spelled : (b : ℕ) → IsFileBlock l b ⊎ IsSpelled l b → IsFileBlock m b ⊎ IsSpelled m b
   spelled b (inl free) = inl (done.file_block b free)
@@ -187,7 +206,7 @@ module _ (l m : Ledger) (u : BlockSet) (start : PosixTree) (history : List Entry
   unheld_now inode place b fresh had = by (done.block_before inode place b had)
     where
       by : ((inode ≡ f.inode) × (slice_get (blocks_of f.extents) place ≡ Some b)) ⊎ ((inode ≢ f.inode) × HasBlock g l.now.catalog inode place b) → ⊥
-      by (inl own) = (let no = st.spaced.apart (OneFile f.file) TheNames b (mine u p f at whole.noted numbered st.spaced.apart b (held_at x place b own.1)) (inl fresh) in cc)
+      by (inl own) = (let no = st.spaced.apart (OneFile f.file) TheNames b (mine u p f at noted numbered st.spaced.apart b (held_at x place b own.1)) (inl fresh) in cc)
       by (inr was) = st.spaced.unheld inode place b fresh was.1
 
   held_now : (inode place b : ℕ) → HasBlock (geometry_of m.superblock) m.now.catalog inode place b → NamesOwn q b ⊎ FileHasIt q k.numbers inode b
@@ -215,7 +234,7 @@ module _ (l m : Ledger) (u : BlockSet) (start : PosixTree) (history : List Entry
         record {
           hand = y.file;
           here = here y p.pool p;
-          held = ap (λ (d : DurableState). has (blocks_held d) b) (durable_here y p.pool p) ∙ held_own u p f at whole.noted numbered st.spaced.apart b ∙ has_at (blocks_of f.extents) place b own.1;
+          held = ap (λ (d : DurableState). has (blocks_held d) b) (durable_here y p.pool p) ∙ held_own u p f at noted numbered st.spaced.apart b ∙ has_at (blocks_of f.extents) place b own.1;
         },
         done.number ∙ ap Some (sym own.0),
       )
@@ -242,9 +261,10 @@ module _ (l m : Ledger) (u : BlockSet) (start : PosixTree) (history : List Entry
     tree = st.tree;
     legal = st.legal;
     kept = done.kept;
-    parts = parts_now p f y p.pool at refl refl (tree_after start history) (tree_after start history) st.parts st.parts.names (st.parts.files f.file f at).1 (λ n not. refl);
+    parts = parts_now p f y p.pool at refl refl (tree_after start history) (tree_after start history) st.parts st.parts.names (cleaned_stays f (tree_after start history) (st.parts.files f.file f at).1) (λ n not. refl);
     names = done.names;
     counted = counted_now;
+    noted = all_noted;
     each = each_now;
-    spaced = record { apart = apart_now u p f at whole.noted numbered st.spaced.apart; usable = usable_now; fresh = λ b is. spelled b (st.spaced.fresh b is); unheld = unheld_now; held = held_now };
+    spaced = record { apart = apart_now u p f at noted numbered st.spaced.apart; usable = usable_now; fresh = λ b is. spelled b (st.spaced.fresh b is); unheld = unheld_now; held = held_now };
   }

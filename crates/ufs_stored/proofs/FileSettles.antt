@@ -22,6 +22,7 @@ use Rattle.ufs_layout.specs.declared.inode.Extent.{Extent}
 use Rattle.ufs_ledger.specs.Changes.{settled}
 use Rattle.ufs_ledger.specs.Kept.{Counts}
 use Rattle.ufs_ledger.specs.Ledger.{IsDataBlock, Ledger, Stand, is_held}
+use Rattle.ufs_model.specs.FileBytes.{bytes_of}
 use Rattle.ufs_model.specs.History.{tree_after}
 use Rattle.ufs_model.specs.PosixTree.{PosixTree}
 use Rattle.ufs_model.specs.declared.data.Entry.{Entry}
@@ -32,32 +33,38 @@ use Rattle.ufs_store.specs.State.{StoreState}
 use Rattle.ufs_durable.specs.Committing.{BarriersShowAll, HasTreeBytes, IsFileBy, OwnsCommitted, all_shown}
 use Rattle.ufs_durable.specs.Others.{IsOther}
 use Rattle.ufs_durable.specs.Standing.{IsFileBlock, StandsFor, StandsSettled}
-use Rattle.ufs_durable.specs.State.{DurableState, file_committed}
-use Rattle.ufs_durable.specs.Writes.{with_writes, writes_of}
+use Rattle.ufs_durable.specs.State.{DurableState, file_committed, whole_of}
+use Rattle.ufs_durable.specs.Writes.{BlockWrite, with_writes, writes_of}
 use Rattle.ufs_durable.proofs.Behind.{same_superblock, same_now}
 use Rattle.ufs_durable.proofs.Others.{behind_barrier, behind_writes}
 use Rattle.ufs_durable.proofs.Standing.{blocks_are, noted_committed}
+use Rattle.ufs_durable.proofs.Wholes.{writes_are_whole}
 use Rattle.ufs_stored.specs.Parts.{Parts, durable_in, with_file}
 use Rattle.ufs_stored.specs.Stored.{AreNamesNoted, AreNamesStored, IsFileStored, IsFileWhole, IsKnownBlock, IsSpelled, IsStored, with_born, with_fresh, with_none}
 use Rattle.ufs_stored.proofs.FileCommits.{inode_on_disk, other_file_is, writes_born}
 use Rattle.ufs_stored.proofs.FileDone.{done_stored}
 use Rattle.ufs_stored.proofs.Live.{live}
 use Rattle.ufs_stored.proofs.Puts.{here}
+use Rattle.ufs_stored.proofs.Whole.{tree_has, tree_may}
 
 module _ (s : StoreState) (l : Ledger) (u : BlockSet) (start : PosixTree) (history : List Entry) (k : Counts) (p : Parts) (f : FileState) (led : HasLedger s l) (at : map.get p.files f.file ≡ Some f)
     (bytes_alone : (durable_in p.commits f).log.noted ≡ (durable_in p.commits f).log.committed) (there : IsSome (k.numbers.inode f.file)) (st : IsStored l u start history k p)
     (shows : BarriersShowAll) (tree_bytes : HasTreeBytes) (owns_committed : OwnsCommitted) (settles : StandsSettled) where
+  -- with the tree's bytes
+  abbrev bytes : List ℕ
+  bytes = bytes_of (tree_after start history).bytes f.file
+
   abbrev x : DurableState
-  x = durable_in p.commits f
+  x = whole_of (bytes_of (tree_after start history).bytes f.file) (durable_in p.commits f)
 
   abbrev y : DurableState
-  y = file_committed (durable_in p.commits f)
+  y = file_committed x
 
   abbrev r : Ledger
-  r = with_writes (writes_of f) l
+  r = with_writes (writes_of x.file) l
 
   abbrev m : Ledger
-  m = settled (with_writes (writes_of f) l)
+  m = settled (with_writes (writes_of x.file) l)
 
   abbrev g : Geometry
   g = geometry_of l.superblock
@@ -68,19 +75,19 @@ module _ (s : StoreState) (l : Ledger) (u : BlockSet) (start : PosixTree) (histo
   on_disk : (k.numbers.inode f.file ≡ Some f.inode) × StandsFor l x
   on_disk = inode_on_disk l k.numbers x there whole.stored
 
-  by_history : IsFileBy f start history k
+  by_history : IsFileBy x.file start history k
   by_history = record {
     there = on_disk.0;
     alone = λ other is. st.counted.alone f.file other f.inode on_disk.0 is;
     counted = st.counted.made f.file;
-    bytes = tree_bytes f start history st.tree st.legal (st.parts.files f.file f at).1;
+    bytes = tree_bytes x.file start history st.tree st.legal (tree_has (tree_after start history) f.file f (st.parts.files f.file f at));
   }
 
   now_is : m.now ≡ l.now
-  now_is = same_now (writes_of f) l
+  now_is = same_now (writes_of x.file) l
 
   superblock_is : geometry_of m.superblock ≡ g
-  superblock_is = ap geometry_of (same_superblock (writes_of f) l)
+  superblock_is = ap geometry_of (same_superblock (writes_of x.file) l)
 
   moved : (P : Geometry → Stand → Type 0) → P g l.now → P (geometry_of m.superblock) m.now
   moved P is = subst (λ (a : Stand). P (geometry_of m.superblock) a) (sym now_is) (subst (λ (h : Geometry). P h l.now) (sym superblock_is) is)
@@ -140,15 +147,18 @@ module _ (s : StoreState) (l : Ledger) (u : BlockSet) (start : PosixTree) (histo
   names (inl off) = inl off
   names (inr n) = inr (noted n)
 
-  stands : (a : Ledger) (h : DurableState) → IsOther x h → StandsFor a h → StandsFor (settled (with_writes (writes_of f) a)) h
-  stands a h apart stood = behind_barrier (with_writes (writes_of f) a) h (behind_writes x h whole.noted apart.blocks a (writes_of f) [] (sym (append-nil (writes_of f))) stood)
+  stands : (a : Ledger) (h : DurableState) → IsOther x h → StandsFor a h → StandsFor (settled (with_writes (writes_of x.file) a)) h
+  stands a h apart stood = behind_barrier (with_writes (writes_of x.file) a) h (behind_writes x h whole.noted apart.blocks a (writes_of x.file) [] (sym (append-nil (writes_of x.file))) stood)
 
-  stored : (file : ℕ) (h : FileState) → map.get p.files file ≡ Some h → file ≢ f.file → IsFileStored l k.numbers (durable_in p.commits h) → IsFileStored m k.numbers (durable_in p.commits h)
-  stored file h here apart (inl both) = inl (both.0, stands l (durable_in p.commits h) (other_file_is l u start history k p f at st file h here apart) both.1)
+  abbrev whole_at : ℕ → FileState → DurableState
+  whole_at file h = whole_of (bytes_of (tree_after start history).bytes file) (durable_in p.commits h)
+
+  stored : (file : ℕ) (h : FileState) → map.get p.files file ≡ Some h → file ≢ f.file → IsFileStored l k.numbers (whole_at file h) → IsFileStored m k.numbers (whole_at file h)
+  stored file h here apart (inl both) = inl (both.0, stands l (whole_at file h) (other_file_is l u start history k p f at st file h here apart) both.1)
   stored file h here apart (inr both) =
-      inr (both.0, subst (λ (a : Ledger). StandsFor (settled a) (durable_in p.commits h)) (writes_born h.inode (writes_of f) l) (stands (with_born h.inode l) (durable_in p.commits h) (other_file_is l u start history k p f at st file h here apart) both.1))
+      inr (both.0, subst (λ (a : Ledger). StandsFor (settled a) (whole_at file h)) (writes_born h.inode (writes_of x.file) l) (stands (with_born h.inode l) (whole_at file h) (other_file_is l u start history k p f at st file h here apart) both.1))
 
-  others : (file : ℕ) (h : FileState) → map.get p.files file ≡ Some h → file ≢ f.file → IsFileWhole m k.numbers (durable_in p.commits h)
+  others : (file : ℕ) (h : FileState) → map.get p.files file ≡ Some h → file ≢ f.file → IsFileWhole m k.numbers (whole_at file h)
   others file h here apart = let w = st.each file h here in record {
     noted = w.noted;
     once = w.once;
@@ -161,8 +171,11 @@ module _ (s : StoreState) (l : Ledger) (u : BlockSet) (start : PosixTree) (histo
       by place b (inl same) = inl same
       by place b (inr free) = inr (λ taken. free (back (λ h a. IsTakenBlock h a.catalog b) taken))
 
-  pub file_settled_stored : IsStored m (set.union u (set_of x.dropped)) start history (all_shown f start history k) (with_file y p.pool p)
-  file_settled_stored = done_stored l m u start history k p f at st (record {
+  abbrev q : Parts
+  q = with_file (file_committed (durable_in p.commits f)) p.pool p
+
+  whole_stored : IsStored m (set.union u (set_of x.dropped)) start history (all_shown f start history k) q
+  whole_stored = done_stored l m u start history k p f at st (record {
     number = on_disk.0;
     kept = shows s l x start history k led whole.noted on_disk.1 whole.own by_history bytes_alone st.tree st.legal st.kept;
     names = names st.names;
@@ -177,3 +190,10 @@ module _ (s : StoreState) (l : Ledger) (u : BlockSet) (start : PosixTree) (histo
     spelled = spelled;
     block_before = block_before;
   })
+
+  -- what is written is the same, since what is dirty is in memory
+  pub file_settled_stored : IsStored (settled (with_writes (writes_of f) l)) (set.union u (set_of (durable_in p.commits f).dropped)) start history (all_shown f start history k) q
+  file_settled_stored = subst (λ (ws : List BlockWrite). IsStored (settled (with_writes ws l)) (set.union u (set_of (durable_in p.commits f).dropped)) start history (all_shown f start history k) q) same_writes whole_stored
+    where
+      same_writes : writes_of x.file ≡ writes_of f
+      same_writes = writes_are_whole f bytes (st.noted f.file f at).written (tree_may (tree_after start history) f.file f (st.parts.files f.file f at))

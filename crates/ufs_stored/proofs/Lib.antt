@@ -1,3 +1,4 @@
+pub mod Whole
 pub mod Entries
 pub mod Puts
 pub mod Spaced

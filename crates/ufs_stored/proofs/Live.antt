@@ -14,7 +14,7 @@ use Rattle.ufs_stored.specs.Stored.{ArePartsOf}
 
 module _ (p : Parts) (t : PosixTree) (parts : ArePartsOf p t) (file : ℕ) (s : FileState) (here : map.get p.files file ≡ Some s) where
   pub live : IsSome (map.get p.names.held file)
-  live = parts.names.told file ∙ ap (λ f. is_some (map.get t.bytes f)) (sym (parts.files file s here).0) ∙ ap is_some (parts.files file s here).1
+  live = parts.names.told file ∙ ap (λ f. is_some (map.get t.bytes f)) (sym (parts.files file s here).0) ∙ ap is_some (parts.files file s here).1.has
 
   holding : (h : Holding) × (map.get p.names.held file ≡ Some h)
   holding = from_some (map.get p.names.held file) live

@@ -1,14 +1,11 @@
 -- The names are committed.
-use Rattle.std.proofs.Common.{◌≡◌, ◌≢◌, ℕ, ◌<◌, ◌≤◌, ◌^◌, ◌⊎◌, inl, inr, Bool, true, false, not, List, [], Option, Some, None, is_some, length, ap, sym, refl, ◌∙◌, subst, arith}
+use Rattle.std.proofs.Common.{◌≡◌, ◌≢◌, ℕ, ◌<◌, ◌≤◌, ◌^◌, ◌⊎◌, inl, inr, Bool, true, false, not, List, [], Some, None, length, ap, sym, refl, ◌∙◌, subst, arith}
 use Rattle.std.specs.Prelude.{IsSome, IsTrue, ◌==◌, if◌then◌else◌}
 use Rattle.std.specs.List.{list_any, slice_get}
-use Rattle.std.specs.Option.{option_map}
 use Rattle.std.specs.FinMap as map
 use Rattle.std.proofs.lemmas.Bool.Decides.{nat_tests}
-use Rattle.std.proofs.lemmas.List.{append-nil}
 use Rattle.ufs_bitmap.specs.Blocks.{BlockSet}
 use Rattle.ufs_bitmap.specs.Taking.{has}
-use Rattle.ufs_bitmap.proofs.TakingLemmas.{has-none}
 use Rattle.ufs_dir_tree.specs.DirTable.{DirTable, blocks_at}
 use Rattle.ufs_disk.specs.Disk.{possible}
 use Rattle.ufs_extent.specs.Runs as runs
@@ -19,7 +16,6 @@ use Rattle.ufs_image.specs.Changes.{IsTakenBlock}
 use Rattle.ufs_image.specs.Folding.{with_committed_in}
 use Rattle.ufs_image.specs.Nodes.{blocks_of}
 use Rattle.ufs_image.proofs.Empty.{apart_false}
-use Rattle.ufs_layout.specs.DentryForm.{DentryForm}
 use Rattle.ufs_layout.specs.InodeForm.{InodeForm}
 use Rattle.ufs_layout.specs.Superblock.{geometry_of}
 use Rattle.ufs_layout.specs.declared.geometry.Geometry.{Geometry}
@@ -30,31 +26,31 @@ use Rattle.ufs_ledger.specs.Kept.{Counts, IsLedgerKept}
 use Rattle.ufs_ledger.specs.Laws.{GoesOnBy, SettledIsKept}
 use Rattle.ufs_ledger.specs.Ledger.{CoversDirs, IsDataBlock, Ledger, is_held, is_set_in}
 use Rattle.ufs_ledger.proofs.Held.{held_after}
+use Rattle.ufs_model.specs.FileBytes.{bytes_of}
 use Rattle.ufs_model.specs.History.{tree_after}
 use Rattle.ufs_model.specs.PosixTree.{PosixTree}
 use Rattle.ufs_model.specs.declared.data.Entry.{Entry}
-use Rattle.ufs_model.proofs.Facts.Live.{held_has}
-use Rattle.ufs_model.proofs.Facts.Lookups.{from_some, same_some}
+use Rattle.ufs_model.proofs.Facts.Lookups.{from_some}
 use Rattle.ufs_name_log.specs.Files.{BornAreEmpty, KeepsInode, MayGoOn, NamesStandOn, OthersStay}
-use Rattle.ufs_name_log.specs.Held.{HasName, HasSoundNames, HasState}
+use Rattle.ufs_name_log.specs.Held.{HasState}
 use Rattle.ufs_name_log.specs.Laws.{AreOlder, StepsAreNoted, StepsMayCommit, change}
 use Rattle.ufs_dir_tree.specs.Steps.{DirState, Step, after_all}
 use Rattle.ufs_name_log.proofs.Covers.{covers_table}
 use Rattle.ufs_name_log.proofs.Forms.{form_here}
 use Rattle.ufs_name_tree.specs.NameTable.{IsNameTable, file_at}
 use Rattle.ufs_name_tree.specs.Notes.{is_touched}
-use Rattle.ufs_names.specs.NamesPart.{IsNamesPart}
 use Rattle.ufs_names.specs.declared.holding.Holding.{Holding}
 use Rattle.ufs_names_ledger.specs.Going.{NamesMayGoOn}
 use Rattle.ufs_names_ledger.specs.Numbers.{numbers_of}
-use Rattle.ufs_prefix.specs.Changes.{NameState, name_changes, names_after, names_of}
+use Rattle.ufs_prefix.specs.Changes.{NameState, name_changes, names_after}
 use Rattle.ufs_prefix.specs.Laws.{NamesGoByChanges}
 use Rattle.ufs_prefix.specs.Stored.{IsNamed}
 use Rattle.ufs_durable.specs.Committing.{HasOwnBlocks}
 use Rattle.ufs_durable.specs.Standing.{HaveOnly, IsFileBlock, StandsFor}
+use Rattle.ufs_durable.specs.State.{DurableState, whole_of}
 use Rattle.ufs_durable.proofs.Standing.{settled_has}
 use Rattle.ufs_durable.proofs.Served.{has_at}
-use Rattle.ufs_stored.specs.Parts.{NamesOwn, OneFile, Owner, Owns, Parts, TheNames, ThePool, Unassigned, durable_in}
+use Rattle.ufs_stored.specs.Parts.{NamesOwn, OneFile, Owner, Owns, Parts, TheNames, durable_in}
 use Rattle.ufs_stored.specs.Stored.{AreNamesNoted, FileHasIt, IsFileStored, IsKnownBlock, IsSpelled, IsStored, empty_form, with_born, with_fresh}
 use Rattle.ufs_stored.specs.Laws.{all_named, with_names_committed}
 use Rattle.ufs_stored.proofs.Numbered.{alone_now, born_now, live, names_now, numbered}
@@ -209,9 +205,12 @@ module _ (l : Ledger) (u : BlockSet) (start : PosixTree) (history : List Entry) 
 
     -- ---- each file
 
+    abbrev whole_at : ℕ → FileState → DurableState
+    whole_at file s = whole_of (bytes_of (tree_after start history).bytes file) (durable_in p.commits s)
+
     stands : (a : Ledger) (s : FileState) (file : ℕ) → map.get p.files file ≡ Some s → a.superblock ≡ l.superblock → a.now.log ≡ l.now.log → a.now.dirs ≡ l.now.dirs → a.blocks ≡ l.blocks
         → ((c2.forms s.inode).kind ≡ 1) → ((c2.forms s.inode).size ≡ (a.now.catalog.forms s.inode).size) → ((c2.forms s.inode).extents ≡ (a.now.catalog.forms s.inode).extents)
-        → StandsFor a (durable_in p.commits s) → StandsFor m (durable_in p.commits s)
+        → StandsFor a (whole_at file s) → StandsFor m (whole_at file s)
     stands a s file here superblock log dirs cells kind size extents stood = record {
       in_range = subst (λ h. IsInode (geometry_of h) s.inode) superblock stood.in_range;
       kind = kind;
@@ -221,10 +220,10 @@ module _ (l : Ledger) (u : BlockSet) (start : PosixTree) (history : List Entry) 
           let was = stood.blocks place b at in
           file_block (OneFile file) b (λ e. cc) (record { hand = s; here = here; held = held_at (durable_in p.commits s) place b at })
           (record { data_block = subst (λ h. IsDataBlock (geometry_of h) b) superblock was.data_block; no_dir = subst (λ (x : ℕ → Bool). IsTrue (x b) → ⊥) dirs was.no_dir; unheld = subst (λ x. is_held x b ≡ false) log was.unheld });
-      clean = λ place b at off. settled_has (l.blocks b) (block_bytes s.content.bytes place) (subst (λ x. HaveOnly (possible (x b)) (block_bytes s.content.bytes place)) cells (stood.clean place b at off));
+      clean = λ place b at off. settled_has (l.blocks b) (block_bytes (bytes_of (tree_after start history).bytes file) place) (subst (λ x. HaveOnly (possible (x b)) (block_bytes (bytes_of (tree_after start history).bytes file) place)) cells (stood.clean place b at off));
     }
 
-    stored : (file : ℕ) (s : FileState) → map.get p.files file ≡ Some s → IsFileStored l k.numbers (durable_in p.commits s) → IsFileStored m (numbers_of p.names) (durable_in p.commits s)
+    stored : (file : ℕ) (s : FileState) → map.get p.files file ≡ Some s → IsFileStored l k.numbers (whole_at file s) → IsFileStored m (numbers_of p.names) (whole_at file s)
     stored file s here was = inl (ap (numbers_of p.names).inode is ∙ (numbered l u start history k p st file s here).1, by (subst (KeepsInode xs k.numbers (numbers_of p.names)) (sym is) (n.live file (numbered l u start history k p st file s here).0)) was)
       where
         is : s.file ≡ file
@@ -239,7 +238,7 @@ module _ (l : Ledger) (u : BlockSet) (start : PosixTree) (history : List Entry) 
             at_inode : (h : Holding) × (map.get p.names.held file ≡ Some h) → file_at p.names.tree s.inode ≡ Some file
             at_inode (h, at) = ap (file_at p.names.tree) (st.parts.inodes file s h here at) ∙ st.parts.names.inodes.inode file h at
 
-        by : KeepsInode xs k.numbers (numbers_of p.names) s.file → IsFileStored l k.numbers (durable_in p.commits s) → StandsFor m (durable_in p.commits s)
+        by : KeepsInode xs k.numbers (numbers_of p.names) s.file → IsFileStored l k.numbers (whole_at file s) → StandsFor m (whole_at file s)
         by (inl same) (inl both) =
             let form = stay c d xs number s.inode (same.1 s.inode both.0) in
             stands l s file here refl refl refl refl (kind_now both.1.in_range) (ap (λ (f : InodeForm). f.size) form) (ap (λ (f : InodeForm). f.extents) form) both.1
@@ -250,7 +249,7 @@ module _ (l : Ledger) (u : BlockSet) (start : PosixTree) (history : List Entry) 
             let here_form = form_here c s.inode empty_form in
             stands (with_born s.inode l) s file here refl refl refl refl (kind_now both.1.in_range) (bare.1 ∙ sym (ap (λ (f : InodeForm). f.size) here_form)) (bare.0 ∙ sym (ap (λ (f : InodeForm). f.extents) here_form)) both.1
 
-    own : (file : ℕ) (s : FileState) → map.get p.files file ≡ Some s → HasOwnBlocks l (durable_in p.commits s) → IsFileStored l k.numbers (durable_in p.commits s) → HasOwnBlocks m (durable_in p.commits s)
+    own : (file : ℕ) (s : FileState) → map.get p.files file ≡ Some s → HasOwnBlocks l (whole_at file s) → IsFileStored l k.numbers (whole_at file s) → HasOwnBlocks m (whole_at file s)
     own file s here was is place b at = by (was place b at)
       where
         owns : Owns p u (OneFile file) b
@@ -322,6 +321,7 @@ module _ (l : Ledger) (u : BlockSet) (start : PosixTree) (history : List Entry) 
       parts = record { names = part_committed p tree st.parts.names; files = st.parts.files; inodes = st.parts.inodes; here = st.parts.here };
       names = inr noted_anew;
       counted = record { born = born_now l u start history k p st by; alone = alone_now l u start history k p st; made = st.counted.made };
+      noted = st.noted;
       each = λ file s here. let w = st.each file s here in record { noted = w.noted; once = w.once; own = own file s here w.own w.stored; stored = stored file s here w.stored };
       spaced = record {
         apart = λ one other b a c. st.spaced.apart one other b (before p u one b a) (before p u other b c);

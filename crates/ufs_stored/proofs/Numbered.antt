@@ -52,7 +52,7 @@ module _ (l : Ledger) (u : BlockSet) (start : PosixTree) (history : List Entry) 
       is = (st.parts.files file s here).0
 
       there : is_some (map.get p.names.held file) ≡ true
-      there = st.parts.names.told file ∙ ap (λ f. is_some (map.get tree.bytes f)) (sym is) ∙ ap is_some (st.parts.files file s here).1
+      there = st.parts.names.told file ∙ ap (λ f. is_some (map.get tree.bytes f)) (sym is) ∙ ap is_some (st.parts.files file s here).1.has
 
       by : (h : Holding) × (map.get p.names.held file ≡ Some h) → IsSome (map.get p.names.held file) × ((numbers_of p.names).inode file ≡ Some s.inode)
       by (h, at) = (there, ap (option_map (λ (h : Holding). h.inode)) at ∙ ap Some (sym (st.parts.inodes file s h here at)))

@@ -1,12 +1,15 @@
 -- A server stays on its disk while entries are drawn, also once its store has stopped.
 use Rattle.std.proofs.Common.{◌≡◌, ◌⊎◌, true, false, None, Some, List, [], ◌∷◌, ◌++◌, ap, sym, ◌∙◌, subst, inl, inr, ℕ}
 use Rattle.ufs_disk.specs.Disk.{Leaves}
+use Rattle.ufs_durable.specs.Standing.{IsReadable}
+use Rattle.ufs_file.specs.Hand.{whole_as}
 use Rattle.ufs_image.specs.Proper.{IsProperImage}
 use Rattle.ufs_layout.specs.declared.geometry.Geometry.{Geometry}
 use Rattle.ufs_ledger.specs.Laws.{EntriesKeep, LedgersExplain, LeftIsProper}
 use Rattle.ufs_model.specs.Descriptors.{opened}
+use Rattle.ufs_model.specs.FileBytes.{bytes_of}
 use Rattle.ufs_model.specs.History.{IsLegal, is_excused, tree_after}
-use Rattle.ufs_model.specs.PosixTree.{PosixTree}
+use Rattle.ufs_model.specs.PosixTree.{Files, PosixTree}
 use Rattle.ufs_model.specs.declared.data.Entry.{Entry}
 use Rattle.ufs_model.specs.declared.data.Op.TheVariants as op
 use Rattle.ufs_prefix.specs.Changes.{asks_commit}
@@ -32,9 +35,9 @@ on_disk_proper g proper s start history p same (inr st) image left = proper s.se
 
 module _ (g : Geometry) (keeps : EntriesKeep g) (s : StoreState) (start : PosixTree) (history : List Entry) (entry : Entry) (p : Parts) (same : geometry_of_store s ≡ g) (legal : IsLegal start (history ++ entry ∷ [])) where
   -- an entry that leaves the parts, of a store that has stopped
-  stopped_beside : ArePartsOf p (tree_after start (history ++ entry ∷ [])) → (st : HasStopped s start history p) → IsAckCovered start history entry st.now.names st.now.files
+  stopped_beside : ArePartsOf p (tree_after start (history ++ entry ∷ [])) → (tree_after start (history ++ entry ∷ [])).bytes ≡ (tree_after start history).bytes → (st : HasStopped s start history p) → IsAckCovered start history entry st.now.names st.now.files
       → IsAckCovered start history entry st.maybe.names st.maybe.files → HasStopped s start (history ++ entry ∷ []) p
-  stopped_beside after st now maybe = record {
+  stopped_beside after bytes st now maybe = record {
     stopped = st.stopped;
     ledger = st.ledger;
     now = st.now;
@@ -45,23 +48,24 @@ module _ (g : Geometry) (keeps : EntriesKeep g) (s : StoreState) (start : PosixT
     legal = legal;
     kept = ledger_kept g keeps st.ledger start history entry st.now st.maybe (st.formed ∙ same) st.tree legal now maybe st.kept;
     parts = after;
-    clean = st.clean;
+    clean = λ file f here. subst (IsReadable st.ledger) (sym (ap (λ (b : Files). whole_as (bytes_of b file) f) bytes)) (st.clean file f here);
   }
 
   -- ..and the tree
   stopped : tree_after start (history ++ entry ∷ []) ≡ tree_after start history → (st : HasStopped s start history p) → IsAckCovered start history entry st.now.names st.now.files → IsAckCovered start history entry st.maybe.names st.maybe.files
       → HasStopped s start (history ++ entry ∷ []) p
-  stopped tree st now maybe = stopped_beside (subst (ArePartsOf p) (sym tree) st.parts) st now maybe
+  stopped tree st now maybe = stopped_beside (subst (ArePartsOf p) (sym tree) st.parts) (ap (λ (t : PosixTree). t.bytes) tree) st now maybe
 
-  pub stays_beside : OthersAcknowledgeNothing → (is_ok entry.reply ≡ false) ⊎ (asks_commit entry.op ≡ false) → ArePartsOf p (tree_after start (history ++ entry ∷ [])) → IsOnDisk s start history p → IsOnDisk s start (history ++ entry ∷ []) p
-  stays_beside others nothing after (inl go) = inl (record {
+  pub stays_beside : OthersAcknowledgeNothing → (is_ok entry.reply ≡ false) ⊎ (asks_commit entry.op ≡ false) → ArePartsOf p (tree_after start (history ++ entry ∷ []))
+      → (tree_after start (history ++ entry ∷ [])).bytes ≡ (tree_after start history).bytes → IsOnDisk s start history p → IsOnDisk s start (history ++ entry ∷ []) p
+  stays_beside others nothing after bytes (inl go) = inl (record {
     ledger = go.ledger;
     counts = go.counts;
     has = go.has;
     formed = go.formed;
-    stored = entry_kept g keeps go.ledger s.unassigned.free start history entry go.counts p (go.formed ∙ same) legal (others start history entry go.counts.names go.counts.files nothing) after go.stored;
+    stored = entry_kept g keeps go.ledger s.unassigned.free start history entry go.counts p (go.formed ∙ same) legal (others start history entry go.counts.names go.counts.files nothing) after bytes go.stored;
   })
-  stays_beside others nothing after (inr st) = inr (stopped_beside after st (others start history entry st.now.names st.now.files nothing) (others start history entry st.maybe.names st.maybe.files nothing))
+  stays_beside others nothing after bytes (inr st) = inr (stopped_beside after bytes st (others start history entry st.now.names st.now.files nothing) (others start history entry st.maybe.names st.maybe.files nothing))
 
   pub excused : OthersAcknowledgeNothing → is_excused entry.reply ≡ true → IsOnDisk s start history p → IsOnDisk s start (history ++ entry ∷ []) p
   excused others is (inl go) = inl (record {

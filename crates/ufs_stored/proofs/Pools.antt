@@ -76,6 +76,7 @@ blocks_move l u v start history k p pool moves st = record {
   parts = record { names = st.parts.names; files = st.parts.files; inodes = st.parts.inodes; here = st.parts.here };
   names = st.names;
   counted = st.counted;
+  noted = st.noted;
   each = st.each;
   spaced = moved_spaced l u v pool k.numbers p moves st.spaced;
 }

@@ -11,6 +11,7 @@ use Rattle.ufs_ledger.specs.Changes.{committing, home_of, settled, tried, writte
 use Rattle.ufs_ledger.specs.Kept.{Counts, IsLedgerKept}
 use Rattle.ufs_ledger.specs.Laws.{BeginningIsKept, EmptiedIsKept, WrittenIsKept}
 use Rattle.ufs_ledger.specs.Ledger.{IsLedgerOf, Ledger}
+use Rattle.ufs_model.specs.History.{tree_after}
 use Rattle.ufs_model.specs.PosixTree.{PosixTree}
 use Rattle.ufs_model.specs.declared.data.Entry.{Entry}
 use Rattle.ufs_store.specs.Ledgers.{HasAny, HasLedger, beginning_next, checkpointed, commit_stages, stages, with_room}
@@ -24,7 +25,7 @@ use Rattle.ufs_stored.proofs.Zeros.{no_place}
 module _ (g : Geometry) (s : StoreState) (l : Ledger) (start : PosixTree) (history : List Entry) (k : Counts) (p : Parts) (same : geometry_of_store s ≡ g) (formed : geometry_of l.superblock ≡ g) (stop : IsSome s.stop)
     (st : IsStored l s.unassigned.free start history k p) where
   -- with a ledger that the history explains
-  stops_with : (m : Ledger) (now maybe : Counts) → geometry_of m.superblock ≡ g → IsLedgerOf s.sectors s.moments.state m → IsLedgerKept m start history now maybe → AreReadable m p → HasStopped s start history p
+  stops_with : (m : Ledger) (now maybe : Counts) → geometry_of m.superblock ≡ g → IsLedgerOf s.sectors s.moments.state m → IsLedgerKept m start history now maybe → AreReadable m (tree_after start history) p → HasStopped s start history p
   stops_with m now maybe form has kept clean = record {
     stopped = stop;
     ledger = m;
@@ -39,7 +40,7 @@ module _ (g : Geometry) (s : StoreState) (l : Ledger) (start : PosixTree) (histo
     clean = clean;
   }
 
-  readable : AreReadable l p
+  readable : AreReadable l (tree_after start history) p
   readable = stored_readable l s.unassigned.free start history k p st
 
   pub barrier_stops : IsLedgerOf s.sectors s.moments.state l → HasStopped s start history p
@@ -57,11 +58,11 @@ module _ (g : Geometry) (s : StoreState) (l : Ledger) (start : PosixTree) (histo
     next_form : geometry_of (next_superblock old) ≡ g
     next_form = ap geometry_of (sym led.superblock_is) ∙ formed
 
-    begun_read : AreReadable (beginning_next old l) p
-    begun_read = begun_readable l (beginning_next old l).maybe (block_at (home_of l (reads old.moments))) p readable
+    begun_read : AreReadable (beginning_next old l) (tree_after start history) p
+    begun_read = begun_readable l (beginning_next old l).maybe (block_at (home_of l (reads old.moments))) (tree_after start history) p readable
 
-    home_read : AreReadable (checkpointed old l) p
-    home_read = home_readable l (next_superblock old) (block_at (home_of l (reads old.moments))) p (next_form ∙ sym formed) readable
+    home_read : AreReadable (checkpointed old l) (tree_after start history) p
+    home_read = home_readable l (next_superblock old) (block_at (home_of l (reads old.moments))) (tree_after start history) p (next_form ∙ sym formed) readable
 
     begun : BeginningIsKept g → IsLedgerKept (beginning_next old l) start history k k
     begun keeps = keeps l (next_superblock old) (block_at (home_of l (reads old.moments))) start history k k formed next_form st.kept
@@ -81,10 +82,10 @@ module _ (g : Geometry) (s : StoreState) (l : Ledger) (start : PosixTree) (histo
         by : (b : Bool) → HasAny s (if b then commit_stages (next_commit old records) l else l ∷ beginning_next old l ∷ commit_stages (next_commit old records) (checkpointed old l))
             → IsLedgerKept (committing (next_commit old records) (settled (if b then l else checkpointed old l))) start history k next → HasStopped s start history p
         by true (inl is) kept = stops_with l k k formed is st.kept readable
-        by true (inr (inl is)) kept = stops_with (committing (next_commit old records) (settled l)) k next formed is kept (settled_readable l (committing (next_commit old records) (settled l)).maybe p readable)
+        by true (inr (inl is)) kept = stops_with (committing (next_commit old records) (settled l)) k next formed is kept (settled_readable l (committing (next_commit old records) (settled l)).maybe (tree_after start history) p readable)
         by true (inr (inr none)) kept = absurd none
         by false (inl is) kept = stops_with l k k formed is st.kept readable
         by false (inr (inl is)) kept = stops_with (beginning_next old l) k k formed is (begun begins) begun_read
         by false (inr (inr (inl is))) kept = stops_with (checkpointed old l) k k next_form is done home_read
-        by false (inr (inr (inr (inl is)))) kept = stops_with (committing (next_commit old records) (settled (checkpointed old l))) k next next_form is kept (settled_readable (checkpointed old l) (committing (next_commit old records) (settled (checkpointed old l))).maybe p home_read)
+        by false (inr (inr (inr (inl is)))) kept = stops_with (committing (next_commit old records) (settled (checkpointed old l))) k next next_form is kept (settled_readable (checkpointed old l) (committing (next_commit old records) (settled (checkpointed old l))).maybe (tree_after start history) p home_read)
         by false (inr (inr (inr (inr none)))) kept = absurd none

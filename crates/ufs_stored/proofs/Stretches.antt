@@ -1,5 +1,5 @@
 -- Stretches at each moment of which the history explains what a crash leaves.
-use Rattle.std.proofs.Common.{◌≡◌, ℕ, Bool, List, subst, sym}
+use Rattle.std.proofs.Common.{◌≡◌, ℕ, Bool, List, subst}
 use Rattle.ufs_disk.specs.Moments.{Moments}
 use Rattle.ufs_disk.proofs.Runs.{joined}
 use Rattle.ufs_model.specs.PosixTree.{PosixTree}

@@ -1,5 +1,5 @@
 -- A server whose names are committed: no block is fresh, and nothing is noted.
-use Rattle.std.proofs.Common.{◌≡◌, ◌≢◌, ℕ, inl, inr, Bool, true, List, [], sym, refl, ◌∙◌}
+use Rattle.std.proofs.Common.{◌≡◌, ℕ, inl, inr, Bool, true, [], sym, ◌∙◌}
 use Rattle.ufs_bitmap.specs.Blocks.{BlockSet}
 use Rattle.ufs_bitmap.specs.Taking.{has}
 use Rattle.ufs_bitmap.proofs.TakingLemmas.{has-none}

@@ -25,11 +25,13 @@ use Rattle.ufs_ledger.specs.Changes.{emptied, settled, settled_cell, with_free_b
 use Rattle.ufs_ledger.specs.Kept.{Counts, IsKeptBy, IsLedgerKept, shape_of}
 use Rattle.ufs_ledger.specs.Laws.{EmptiedIsKept, FreeBlocksKeep, SettledIsKept, WrittenIsKept}
 use Rattle.ufs_ledger.specs.Ledger.{CoversDirs, Ledger}
+use Rattle.ufs_model.specs.FileBytes.{bytes_of}
+use Rattle.ufs_model.specs.History.{tree_after}
 use Rattle.ufs_model.specs.PosixTree.{PosixTree}
 use Rattle.ufs_model.specs.declared.data.Entry.{Entry}
 use Rattle.ufs_name_log.specs.Laws.{ZerosAreTaken}
 use Rattle.ufs_durable.specs.Standing.{HaveOnly, IsFileBlock, StandsFor}
-use Rattle.ufs_durable.specs.State.{DurableState}
+use Rattle.ufs_durable.specs.State.{DurableState, whole_of}
 use Rattle.ufs_durable.proofs.Standing.{settled_has}
 use Rattle.ufs_stored.specs.Parts.{OneFile, Owner, Owns, Parts, TheNames, durable_in}
 use Rattle.ufs_stored.specs.Stored.{AreNamesStored, IsFileStored, IsFileWhole, IsSpelled, IsStored, with_born, with_none}
@@ -108,11 +110,14 @@ module _ (l : Ledger) (u : BlockSet) (start : PosixTree) (history : List Entry) 
   goes : (file : ℕ) (s : FileState) → map.get p.files file ≡ Some s → (place other : ℕ) → slice_get (blocks_of s.extents) place ≡ Some other → other ≢ block
   goes file s here place other at = other_block (OneFile file) other (λ e. cc) (record { hand = s; here = here; held = held_at (durable_in p.commits s) place other at })
 
-  stored : (file : ℕ) (s : FileState) → map.get p.files file ≡ Some s → IsFileStored l k.numbers (durable_in p.commits s) → IsFileStored m k.numbers (durable_in p.commits s)
-  stored file s here (inl both) = inl (both.0, stands l m (durable_in p.commits s) (λ place other at was. file_block other (goes file s here place other at) was) refl refl refl both.1)
+  abbrev whole_at : ℕ → FileState → DurableState
+  whole_at file s = whole_of (bytes_of (tree_after start history).bytes file) (durable_in p.commits s)
+
+  stored : (file : ℕ) (s : FileState) → map.get p.files file ≡ Some s → IsFileStored l k.numbers (whole_at file s) → IsFileStored m k.numbers (whole_at file s)
+  stored file s here (inl both) = inl (both.0, stands l m (whole_at file s) (λ place other at was. file_block other (goes file s here place other at) was) refl refl refl both.1)
   stored file s here (inr both) = inr (
     both.0,
-    stands (with_born s.inode l) (with_born s.inode m) (durable_in p.commits s)
+    stands (with_born s.inode l) (with_born s.inode m) (whole_at file s)
         (λ place other at was. let now = file_block other (goes file s here place other at) (record { data_block = was.data_block; no_dir = was.no_dir; unheld = was.unheld }) in
         record { data_block = now.data_block; no_dir = now.no_dir; unheld = now.unheld }) refl refl refl both.1,
   )
@@ -121,7 +126,7 @@ module _ (l : Ledger) (u : BlockSet) (start : PosixTree) (history : List Entry) 
   taken other (inl below) = inl below
   taken other (inr (i, place, at)) = inr (i, place, record { in_range = at.in_range; there = at.there })
 
-  whole : (file : ℕ) (s : FileState) → map.get p.files file ≡ Some s → IsFileWhole l k.numbers (durable_in p.commits s) → IsFileWhole m k.numbers (durable_in p.commits s)
+  whole : (file : ℕ) (s : FileState) → map.get p.files file ≡ Some s → IsFileWhole l k.numbers (whole_at file s) → IsFileWhole m k.numbers (whole_at file s)
   whole file s here was = record {
     noted = was.noted;
     once = was.once;
@@ -181,6 +186,7 @@ module _ (l : Ledger) (u : BlockSet) (start : PosixTree) (history : List Entry) 
       parts = st.parts;
       names = names st.names;
       counted = st.counted;
+      noted = st.noted;
       each = λ file s here. whole file s here (st.each file s here);
       spaced = record {
         apart = st.spaced.apart;

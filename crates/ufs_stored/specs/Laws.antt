@@ -19,6 +19,7 @@ use Rattle.ufs_ledger.specs.Kept.{Counts, IsLedgerKept, Numbers, OpensExplained}
 use Rattle.ufs_ledger.specs.Ledger.{CoversDirs, IsLeftBy, Ledger}
 use Rattle.ufs_model.specs.Asks.{IsAsk}
 use Rattle.ufs_model.specs.Descriptors.{opened}
+use Rattle.ufs_model.specs.FileBytes.{bytes_of}
 use Rattle.ufs_model.specs.FileCalls.{is_on_file}
 use Rattle.ufs_model.specs.History.{IsLegal, is_excused, tree_after}
 use Rattle.ufs_model.specs.PosixTree.{PosixTree}
@@ -43,7 +44,7 @@ use Rattle.ufs_store.specs.State.{StoreState}
 use Rattle.ufs_durable.specs.Committing.{FitsInode, all_shown, once_committed}
 use Rattle.ufs_durable.specs.Serving.{IsApplied}
 use Rattle.ufs_durable.specs.Standing.{IsFileBlock}
-use Rattle.ufs_durable.specs.State.{DurableState, file_committed}
+use Rattle.ufs_durable.specs.State.{DurableState, IsNoted, file_committed, whole_of}
 use Rattle.ufs_durable.specs.Writes.{with_writes, writes_of}
 use Rattle.ufs_stored.specs.Parts.{Parts, durable_in, with_file}
 use Rattle.ufs_stored.specs.Stored.{AreNamesStored, ArePartsOf, AreSpaced, IsFileWhole, IsSpelled, IsStored}
@@ -62,11 +63,12 @@ CallsAreExplained g = (keeps : Bool) (sectors : ℕ) (old new : Moments) (l : Le
 
 -- ---- an entry is drawn
 
--- An entry that leaves the parts as they are, and whose acknowledgement is covered: a request that reads, and one that syncs.
+-- An entry that leaves the parts and the bytes of files as they are, and whose acknowledgement is covered: a request that reads, and
+-- one that syncs.
 abbrev pub QuietEntriesKeep : Geometry → Type 0
 QuietEntriesKeep g = (l : Ledger) (unassigned : BlockSet) (start : PosixTree) (history : List Entry) (entry : Entry) (counts : Counts) (p : Parts) → geometry_of l.superblock ≡ g
     → IsLegal start (history ++ entry ∷ []) → IsAckCovered start history entry counts.names counts.files → ArePartsOf p (tree_after start (history ++ entry ∷ []))
-    → IsStored l unassigned start history counts p → IsStored l unassigned start (history ++ entry ∷ []) counts p
+    → (tree_after start (history ++ entry ∷ [])).bytes ≡ (tree_after start history).bytes → IsStored l unassigned start history counts p → IsStored l unassigned start (history ++ entry ∷ []) counts p
 
 -- An excused one.
 abbrev pub ExcusesKeep : Geometry → Type 0
@@ -233,14 +235,20 @@ pub record IsNewFile (l : Ledger) (numbers : Numbers) (p : Parts) (f : FileState
   pub unborn : numbers.inode f.file ≡ None
   pub in_range : IsInode (geometry_of l.superblock) f.inode
 
--- The file was here, with the same known of its commits; or it is new; or it is whole however it changed.
-abbrev pub StaysOrNew : Ledger → Numbers → Parts → Parts → ℕ → FileState → Type 0
-StaysOrNew l numbers old new file f =
-    ((map.get old.files file ≡ Some f) × (durable_in new.commits f ≡ durable_in old.commits f)) ⊎ (IsNewFile l numbers new f ⊎ IsFileWhole l numbers (durable_in new.commits f))
+-- The file has its log in step with it, and is whole with the tree's bytes.
+abbrev pub IsWholeIn : PosixTree → Ledger → Numbers → Parts → ℕ → FileState → Type 0
+IsWholeIn t l numbers p file f = IsNoted (durable_in p.commits f) × IsFileWhole l numbers (whole_of (bytes_of t.bytes file) (durable_in p.commits f))
+
+-- The file was here, with the same bytes in the tree and the same known of its commits; or it is new; or it is whole however it
+-- changed.
+abbrev pub StaysOrNew : (before after : PosixTree) → Ledger → Numbers → Parts → Parts → ℕ → FileState → Type 0
+StaysOrNew before after l numbers old new file f =
+    ((map.get old.files file ≡ Some f) × (durable_in new.commits f ≡ durable_in old.commits f) × (map.get after.bytes file ≡ map.get before.bytes file))
+    ⊎ (IsNewFile l numbers new f ⊎ IsWholeIn after l numbers new file f)
 
 -- One of a request of the names, behind which these are stored, and blocks are spaced.
 abbrev pub NameEntriesKeep : Geometry → Type 0
 NameEntriesKeep g = (l : Ledger) (unassigned : BlockSet) (start : PosixTree) (history : List Entry) (entry : Entry) (counts : Counts) (p next : Parts) → geometry_of l.superblock ≡ g
     → IsLegal start (history ++ entry ∷ []) → IsAckCovered start history entry counts.names counts.files → ArePartsOf next (tree_after start (history ++ entry ∷ []))
-    → AreNamesStored l counts.numbers next.fresh next.names → ((file : ℕ) (f : FileState) → map.get next.files file ≡ Some f → StaysOrNew l counts.numbers p next file f) → AreSpaced l unassigned counts.numbers next
+    → AreNamesStored l counts.numbers next.fresh next.names → ((file : ℕ) (f : FileState) → map.get next.files file ≡ Some f → StaysOrNew (tree_after start history) (tree_after start (history ++ entry ∷ [])) l counts.numbers p next file f) → AreSpaced l unassigned counts.numbers next
     → IsStored l unassigned start history counts p → IsStored l unassigned start (history ++ entry ∷ []) counts next

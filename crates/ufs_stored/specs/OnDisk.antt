@@ -6,11 +6,12 @@ use Rattle.ufs_bitmap.specs.Taking.{has}
 use Rattle.ufs_disk.specs.Disk.{Leaves}
 use Rattle.ufs_disk.specs.Moments.{LeavesOnly, Moments}
 use Rattle.ufs_durable.specs.Standing.{IsReadable}
-use Rattle.ufs_file.specs.Hand.{FileState}
+use Rattle.ufs_file.specs.Hand.{FileState, whole_as}
 use Rattle.ufs_image.specs.Proper.{IsProperImage}
 use Rattle.ufs_layout.specs.Superblock.{geometry_of}
 use Rattle.ufs_ledger.specs.Kept.{Counts, IsLedgerKept, OpensExplained}
 use Rattle.ufs_ledger.specs.Ledger.{IsLedgerOf, Ledger}
+use Rattle.ufs_model.specs.FileBytes.{bytes_of}
 use Rattle.ufs_model.specs.History.{IsLegal, tree_after}
 use Rattle.ufs_model.specs.PosixTree.{IsTree, PosixTree}
 use Rattle.ufs_model.specs.declared.data.Entry.{Entry}
@@ -28,9 +29,10 @@ pub record IsGoing (s : StoreState) (start : PosixTree) (history : List Entry) (
   pub formed : geometry_of ledger.superblock ≡ geometry_of_store s
   pub stored : IsStored ledger s.unassigned.free start history counts p
 
--- Each block of a file here that isn't dirty has the file's bytes, whatever a crash leaves, and a read gives them.
-abbrev pub AreReadable : Ledger → Parts → Type 0
-AreReadable l p = (file : ℕ) (f : FileState) → map.get p.files file ≡ Some f → IsReadable l f
+-- Each block of a file here that isn't dirty has the bytes that the tree has for the file, whatever a crash leaves, and a read
+-- gives them.
+abbrev pub AreReadable : Ledger → PosixTree → Parts → Type 0
+AreReadable l t p = (file : ℕ) (f : FileState) → map.get p.files file ≡ Some f → IsReadable l (whole_as (bytes_of t.bytes file) f)
 
 -- The store has stopped. The history explains whatever a crash leaves of the disk, and the parts are those of the tree after it.
 pub record HasStopped (s : StoreState) (start : PosixTree) (history : List Entry) (p : Parts) : Type 0 where
@@ -45,7 +47,7 @@ pub record HasStopped (s : StoreState) (start : PosixTree) (history : List Entry
   pub kept : IsLedgerKept ledger start history now maybe
   pub parts : ArePartsOf p (tree_after start history)
   -- reads go on: what isn't dirty is still on the disk
-  pub clean : AreReadable ledger p
+  pub clean : AreReadable ledger (tree_after start history) p
 
 abbrev pub IsOnDisk : StoreState → PosixTree → List Entry → Parts → Type 0
 IsOnDisk s start history p = IsGoing s start history p ⊎ HasStopped s start history p

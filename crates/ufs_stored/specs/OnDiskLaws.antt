@@ -16,6 +16,7 @@ use Rattle.ufs_ledger.specs.Changes.{committing, settled, tried}
 use Rattle.ufs_ledger.specs.Kept.{Counts, IsLedgerKept}
 use Rattle.ufs_ledger.specs.Ledger.{IsDataBlock, IsLedgerOf, Ledger, is_held}
 use Rattle.ufs_model.specs.Descriptors.{opened}
+use Rattle.ufs_model.specs.FileBytes.{bytes_of}
 use Rattle.ufs_model.specs.History.{IsLegal, is_excused, tree_after}
 use Rattle.ufs_model.specs.PosixTree.{PosixTree}
 use Rattle.ufs_model.specs.declared.data.Entry.{Entry}
@@ -41,12 +42,13 @@ OnDiskIsProper g = (s : StoreState) (start : PosixTree) (history : List Entry) (
 
 -- ---- what a read gives
 
--- Of a block of a file that isn't dirty it gives the file's bytes, also once the store has stopped: the words of the second premise
--- are those in which a store's read tells what it read.
+-- Of a block of a file that isn't dirty it gives the bytes that the tree has for the file, also once the store has stopped: the
+-- words of the second premise are those in which a store's read tells what it read.
 abbrev pub OnDiskReads : Type 0
 OnDiskReads = (s : StoreState) (start : PosixTree) (history : List Entry) (p : Parts) (file : ℕ) (f : FileState) (place block : ℕ) (bytes : List ℕ) → IsOnDisk s start history p
     → ((l : Ledger) → IsLedgerOf s.sectors s.moments.state l → IsDataBlock (geometry_of l.superblock) block → is_held l.now.log block ≡ false → bytes ≡ (l.blocks block).seen) → length bytes ≡ BLOCK
-    → map.get p.files file ≡ Some f → slice_get (blocks_of f.extents) place ≡ Some block → slice_get f.content.dirty place ≡ Some false → bytes ≡ block_bytes f.content.bytes place
+    → map.get p.files file ≡ Some f → slice_get (blocks_of f.extents) place ≡ Some block → slice_get f.content.dirty place ≡ Some false
+    → bytes ≡ block_bytes (bytes_of (tree_after start history).bytes file) place
 
 -- ---- an entry is drawn
 
@@ -65,11 +67,11 @@ abbrev pub OnDiskIsRefused : Geometry → Type 0
 OnDiskIsRefused g = (s : StoreState) (start : PosixTree) (history : List Entry) (entry : Entry) (p : Parts) → geometry_of_store s ≡ g
     → IsLegal start (history ++ entry ∷ []) → leaves_tree entry.op ≡ true → is_ok entry.reply ≡ false → IsOnDisk s start history p → IsOnDisk s start (history ++ entry ∷ []) p
 
--- One that leaves the parts as they are and acknowledges nothing: a client's own answer.
+-- One that leaves the parts and the bytes of files as they are and acknowledges nothing: a client's own answer.
 abbrev pub OnDiskStaysBeside : Geometry → Type 0
 OnDiskStaysBeside g = (s : StoreState) (start : PosixTree) (history : List Entry) (entry : Entry) (p : Parts) → geometry_of_store s ≡ g
     → IsLegal start (history ++ entry ∷ []) → (is_ok entry.reply ≡ false) ⊎ (asks_commit entry.op ≡ false) → ArePartsOf p (tree_after start (history ++ entry ∷ []))
-    → IsOnDisk s start history p → IsOnDisk s start (history ++ entry ∷ []) p
+    → (tree_after start (history ++ entry ∷ [])).bytes ≡ (tree_after start history).bytes → IsOnDisk s start history p → IsOnDisk s start (history ++ entry ∷ []) p
 
 -- An `fsync` of a directory, where all changes of names stand on the disk,
 abbrev pub NamesAreSynced : Geometry → Type 0

@@ -14,6 +14,7 @@ use Rattle.ufs_layout.specs.InodeForm.{InodeForm}
 use Rattle.ufs_layout.specs.Superblock.{geometry_of}
 use Rattle.ufs_ledger.specs.Kept.{Counts, IsLedgerKept, Numbers}
 use Rattle.ufs_ledger.specs.Ledger.{IsDataBlock, Ledger, is_held}
+use Rattle.ufs_model.specs.FileBytes.{bytes_of}
 use Rattle.ufs_model.specs.History.{IsLegal, tree_after}
 use Rattle.ufs_model.specs.PosixTree.{IsTree, PosixTree}
 use Rattle.ufs_model.specs.declared.data.Entry.{Entry}
@@ -29,7 +30,7 @@ use Rattle.ufs_names_ledger.specs.Numbers.{numbers_of}
 use Rattle.ufs_prefix.specs.Changes.{changes_of, names_after}
 use Rattle.ufs_durable.specs.Committing.{HasOwnBlocks}
 use Rattle.ufs_durable.specs.Standing.{IsFileBlock, StandsFor}
-use Rattle.ufs_durable.specs.State.{DurableState, IsNoted, blocks_held}
+use Rattle.ufs_durable.specs.State.{DurableState, IsNoted, blocks_held, whole_of}
 use Rattle.ufs_stored.specs.Parts.{FileOwns, NamesOwn, Owner, Owns, Parts, TheNames, durable_in}
 
 -- ---- names
@@ -107,14 +108,14 @@ pub record AreSpaced (l : Ledger) (unassigned : BlockSet) (numbers : Numbers) (p
 
 -- ---- the whole
 
--- Names and files are those of the tree, each file with the inode that the names tell, and each live file is here.
+-- Names are those of the tree, each file may be that of the tree, with the inode that the names tell, and each live file is here.
 pub record ArePartsOf (p : Parts) (t : PosixTree) : Type 0 where
   pub names : IsNamesPart p.names t
   pub files : AreFilesOf p.files t
   pub inodes : HaveInodes p.names.held p.files
   pub here : (file : ℕ) → IsSome (map.get p.names.held file) → IsSome (map.get p.files file)
 
--- A file here has its log in step with it, has no block twice and none that another inode has on the disk, and is stored.
+-- A file has its log in step with it, has no block twice and none that another inode has on the disk, and is stored.
 pub record IsFileWhole (l : Ledger) (numbers : Numbers) (f : DurableState) : Type 0 where
   pub noted : IsNoted f
   pub once : IsDistinct nat_eq (blocks_held f)
@@ -128,7 +129,8 @@ pub record AreCounted (start : PosixTree) (history : List Entry) (k : Counts) : 
   pub made : (file : ℕ) → k.files file ≤ length (changes_of file start history)
 
 -- The history explains whatever a crash leaves of the ledger, by these counts; and the parts are those of the tree after it, and
--- go on from what is committed.
+-- go on from what is committed. Each file here has its log in step with it, and with the tree's bytes, all in memory, it is whole:
+-- of a block that isn't in memory the disk has those.
 pub record IsStored (l : Ledger) (unassigned : BlockSet) (start : PosixTree) (history : List Entry) (counts : Counts) (p : Parts) : Type 0 where
   pub tree : IsTree start
   pub legal : IsLegal start history
@@ -136,5 +138,6 @@ pub record IsStored (l : Ledger) (unassigned : BlockSet) (start : PosixTree) (hi
   pub parts : ArePartsOf p (tree_after start history)
   pub names : AreNamesStored l counts.numbers p.fresh p.names
   pub counted : AreCounted start history counts
-  pub each : (file : ℕ) (f : FileState) → map.get p.files file ≡ Some f → IsFileWhole l counts.numbers (durable_in p.commits f)
+  pub noted : (file : ℕ) (f : FileState) → map.get p.files file ≡ Some f → IsNoted (durable_in p.commits f)
+  pub each : (file : ℕ) (f : FileState) → map.get p.files file ≡ Some f → IsFileWhole l counts.numbers (whole_of (bytes_of (tree_after start history).bytes file) (durable_in p.commits f))
   pub spaced : AreSpaced l unassigned counts.numbers p

@@ -3,8 +3,8 @@ use Rattle.ufs_stored.proofs.NewFiles.{name_entry_kept}
 use Rattle.ufs_stored.proofs.laws.entry_law.Goals as goal
 
 pub returns-clause-quiet : goal.returns-clause-quiet
-returns-clause-quiet c l unassigned start history entry counts p same legal ack after st =
-    entry_kept c.args.geometry.now c.promise_law.ensures.entry l unassigned start history entry counts p same legal ack after st
+returns-clause-quiet c l unassigned start history entry counts p same legal ack after bytes st =
+    entry_kept c.args.geometry.now c.promise_law.ensures.entry l unassigned start history entry counts p same legal ack after bytes st
 
 pub returns-clause-excused : goal.returns-clause-excused
 returns-clause-excused c l unassigned start history entry counts p same legal excused st =

@@ -21,8 +21,8 @@ returns-clause-refused c s start history entry p same legal still no_ok on_disk 
     stays_still c.args.geometry.now c.promise_law.ensures.entry s start history entry p same legal c.an_entry_keeps_what_is_shown.ensures.other still (inl no_ok) on_disk
 
 pub returns-clause-beside : goal.returns-clause-beside
-returns-clause-beside c s start history entry p same legal nothing after on_disk =
-    stays_beside c.args.geometry.now c.promise_law.ensures.entry s start history entry p same legal c.an_entry_keeps_what_is_shown.ensures.other nothing after on_disk
+returns-clause-beside c s start history entry p same legal nothing after bytes on_disk =
+    stays_beside c.args.geometry.now c.promise_law.ensures.entry s start history entry p same legal c.an_entry_keeps_what_is_shown.ensures.other nothing after bytes on_disk
 
 pub returns-clause-names_synced : goal.returns-clause-names_synced
 returns-clause-names_synced c s start history entry p fd same legal is named has =
