@@ -14,3 +14,4 @@ pub mod Still
 pub mod Served
 pub mod Owned
 pub mod Histories
+pub mod Wholes

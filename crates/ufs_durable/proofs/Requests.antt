@@ -1,7 +1,7 @@
 -- Requests on a file with what is known of its commits.
 use Rattle.std.proofs.Common.{◌≡◌, ℕ, ◌-◌, ◌<◌, ◌≤◌, Bool, true, false, ◌||◌, List, [], ◌∷◌, ◌++◌, Option, Some, None, length, take, drop, ltb, ap, sym, refl, ◌∙◌, arith, subst, append_assoc}
 use Rattle.std.specs.FinSet as set
-use Rattle.std.specs.List.{IsDistinct}
+use Rattle.std.specs.List.{IsDistinct, slice_get}
 use Rattle.std.specs.Prelude.{nat_eq}
 use Rattle.std.proofs.lemmas.Bool.{ltb-true, ltb-false}
 use Rattle.std.proofs.lemmas.List.{take-append-drop, take_at}
@@ -14,13 +14,15 @@ use Rattle.ufs_extent.specs.declared.Run.{Run}
 use Rattle.ufs_extent.specs.Runs.{appended_all, blocks_of, last_runs}
 use Rattle.ufs_extent.proofs.PlaceLemmas.{blocks_of-first_runs, blocks_of-last_runs}
 use Rattle.ufs_extent.proofs.RunLemmas.{blocks_of-append}
-use Rattle.ufs_file.specs.Content.{Content, block_count}
-use Rattle.ufs_file.specs.Hand.{FileState, IsCause, IsEntryOf, IsExcusedFor, IsFileOf, IsOf, IsPosix, IsServedByFile, LacksExtents, content_after, content_by, missing}
+use Rattle.ufs_file.specs.Content.{Content, IsContentOf, block_count}
+use Rattle.ufs_file.specs.Hand.{FileState, IsCause, IsEntryOf, IsExcusedFor, IsFileOf, IsOf, IsPosix, IsServedByFile, LacksExtents, content_after, content_by, missing, whole_as}
+use Rattle.ufs_file.proofs.FilledLemmas.{excused_any, same_refusal}
 use Rattle.ufs_file.proofs.HandLemmas.{apart_taken, blocks_of-all}
+use Rattle.ufs_file.proofs.UnreadLemmas.{content_itself}
 use Rattle.ufs_ilog.specs.Deltas.{FileLog}
 use Rattle.ufs_model.specs.Asks.{IsAsk}
 use Rattle.ufs_model.specs.Excuses.{ExcuseFits}
-use Rattle.ufs_model.specs.FileCalls.{file_refusal}
+use Rattle.ufs_model.specs.FileCalls.{file_refusal, file_step}
 use Rattle.ufs_model.specs.History.{is_excused}
 use Rattle.ufs_model.specs.PosixTree.{PosixTree}
 use Rattle.ufs_model.specs.declared.data.Actor.{Actor}
@@ -34,7 +36,7 @@ use Rattle.ufs_model.specs.declared.data.Op.{Op}
 use Rattle.ufs_model.specs.declared.data.Reply.{Reply}
 use Rattle.ufs_model.specs.declared.data.Reply.TheVariants as reply
 use Rattle.ufs_durable.specs.Serving.{DropsOnly, IsApplied, IsServedKept, TakesOnly, TakesOrDrops, content_behind, noted_as}
-use Rattle.ufs_durable.specs.State.{DurableState, IsNoted, blocks_held}
+use Rattle.ufs_durable.specs.State.{DurableState, IsNoted, blocks_held, whole_of}
 
 -- ---- owners in another order
 
@@ -81,7 +83,11 @@ apart_turned pool xs ys zs h = record {
 pub record IsAlone (old new : FileState) (before after : BlockSet) (ask : Ask) (server : Actor) (ticket : ℕ) (entry : Entry) (desc : Option Desc) : Type 0 where
   pub of_ask : IsEntryOf ask server ticket entry
   pub served : is_excused entry.reply ≡ false → (d : Desc) → ask.desc ≡ Some d → IsServedByFile old new before after d ask.op entry.reply desc
+  pub any : is_excused entry.reply ≡ false → (d : Desc) → ask.desc ≡ Some d → (bytes : List ℕ) → IsContentOf old.content bytes
+      → IsServedByFile (whole_as bytes old) (whole_as (file_step bytes d ask.op).bytes new) before after d ask.op entry.reply desc
+  pub goes_on : is_excused entry.reply ≡ false → (d : Desc) → ask.desc ≡ Some d → (bytes : List ℕ) → IsContentOf old.content bytes → IsContentOf new.content (file_step bytes d ask.op).bytes
   pub excused : (x : Excuse) → entry.reply ≡ reply.Excused x → (d : Desc) → ask.desc ≡ Some d → IsExcusedFor old d ask.op before x
+  pub any_excused : (x : Excuse) → entry.reply ≡ reply.Excused x → (d : Desc) → ask.desc ≡ Some d → (bytes : List ℕ) → IsContentOf old.content bytes → IsExcusedFor (whole_as bytes old) d ask.op before x
   pub posix : is_excused entry.reply ≡ false → (t : PosixTree) → IsFileOf old t → IsAsk t ask → IsPosix t ask new entry.reply desc
   pub fits : (x : Excuse) → entry.reply ≡ reply.Excused x → (t : PosixTree) → IsFileOf old t → IsAsk t ask → ExcuseFits t ask.client ask.op x
   pub few : length new.extents ≤ MAX_EXTENTS
@@ -89,10 +95,20 @@ pub record IsAlone (old new : FileState) (before after : BlockSet) (ask : Ask) (
   pub pool : is_excused entry.reply ≡ true → after ≡ before
   pub same_desc : is_excused entry.reply ≡ true → desc ≡ ask.desc
 
+-- The file has its marks.
+pub record IsMarked (f : FileState) : Type 0 where
+  pub marks : length f.content.dirty ≡ length (blocks_of f.extents)
+  pub held : length f.content.there ≡ length f.content.dirty
+  pub written : (place : ℕ) → slice_get f.content.dirty place ≡ Some true → slice_get f.content.there place ≡ Some true
+
 -- a request that is of the file has a descriptor
 pub desc_there : (o : Option Desc) (file : ℕ) → IsOf o file → (d : Desc) × (o ≡ Some d)
 desc_there None file wrong = absurd wrong
 desc_there (Some d) file is = (d, refl)
+
+-- It notes no more of the bytes than how many there are.
+noted_alike : (f : FileState) (log : FileLog) (bytes : List ℕ) → IsContentOf f.content bytes → noted_as f log ≡ noted_as (whole_as bytes f) log
+noted_alike f log bytes may = λ i. record log { noted = record { runs = f.extents; size = sym may.long i } }
 
 -- the log has the file already
 logged_already : (f : DurableState) → IsNoted f → noted_as f.file f.log ≡ f.log
@@ -124,22 +140,25 @@ allowed_where_changed f d request whole changed = by (file_refusal f.content.byt
 
 -- Memory ran out before anything changed.
 pub applied_not : (f : DurableState) (pool : BlockSet) (ask : Ask) (server : Actor) (ticket : ℕ) (entry : Entry) (desc : Option Desc) → IsEntryOf ask server ticket entry
-    → entry.reply ≡ reply.Excused excuse.Memory → desc ≡ ask.desc → length f.file.content.dirty ≡ length (blocks_of f.file.extents) → length f.file.extents ≤ MAX_EXTENTS
+    → entry.reply ≡ reply.Excused excuse.Memory → desc ≡ ask.desc → IsNoted f → length f.file.extents ≤ MAX_EXTENTS
     → ((d : Desc) → ask.desc ≡ Some d → file_refusal f.file.content.bytes d ask.op ≡ None) → IsApplied f f pool pool ask server ticket entry desc
-applied_not f pool ask server ticket entry desc of_ask told same marks few allowed =
+applied_not f pool ask server ticket entry desc of_ask told same noted few allowed =
     let on : is_excused entry.reply ≡ true = ap is_excused told in
     record {
       of_ask = of_ask;
       served = λ off. absurd (not_both entry.reply off on);
-      excused = λ x e d is. let both : reply.Excused excuse.Memory ≡ reply.Excused x = sym told ∙ e in
+      goes_on = λ off. absurd (not_both entry.reply off on);
+      excused = λ x e d is bytes may. let both : reply.Excused excuse.Memory ≡ reply.Excused x = sym told ∙ e in
           let one : excuse.Memory ≡ x = cc in
-          subst (IsExcusedFor f.file d ask.op pool) one (record { allowed = allowed d is; cause = tt });
+          subst (IsExcusedFor (whole_as bytes f.file) d ask.op pool) one (record { allowed = same_refusal bytes f.file.content.bytes d ask.op may.long ∙ allowed d is; cause = tt });
       posix = λ off. absurd (not_both entry.reply off on);
       fits = λ x e t is asks. let both : reply.Excused excuse.Memory ≡ reply.Excused x = sym told ∙ e in
           let one : excuse.Memory ≡ x = cc in
           subst (ExcuseFits t ask.client ask.op) one (record { due = λ (e : true ≡ false). absurd cc; told = tt });
       few = few;
-      marks = marks;
+      marks = noted.marks;
+      held = noted.held;
+      written = noted.written;
       kept = λ e. refl;
       pool = λ e. refl;
       same_desc = λ e. same;
@@ -148,11 +167,11 @@ applied_not f pool ask server ticket entry desc of_ask told same marks few allow
 module _ (f : DurableState) (new : FileState) (before after : BlockSet) (ask : Ask) (server : Actor) (ticket : ℕ) (entry : Entry) (desc : Option Desc) (noted : IsNoted f)
     (alone : IsAlone f.file new before after ask server ticket entry desc) where
   -- The file keeps its blocks, and maybe takes some.
-  pub applied_taking : length new.content.dirty ≡ length (blocks_of new.extents) → ((d : Desc) → ask.desc ≡ Some d → length (blocks_of f.file.extents) ≤ block_count (length (content_behind f.file d ask.op).bytes))
+  pub applied_taking : IsMarked new → ((d : Desc) → ask.desc ≡ Some d → length (blocks_of f.file.extents) ≤ block_count (length (content_behind f.file d ask.op).bytes))
       → IsApplied f (record { file = new; log = noted_as new f.log; dropped = f.dropped }) before after ask server ticket entry desc
   applied_taking marks most = record {
     of_ask = alone.of_ask;
-    served = λ off d is. let s = alone.served off d is in record {
+    served = λ off d is bytes may. let s = alone.any off d is bytes may in let goes = alone.goes_on off d is bytes may in record {
       replied = s.replied;
       told = s.told;
       bytes = s.bytes;
@@ -161,15 +180,19 @@ module _ (f : DurableState) (new : FileState) (before after : BlockSet) (ask : A
       same_inode = s.same_inode;
       blocks = record {
         more = λ le. record { taken = s.blocks.more le; dropped = refl };
-        fewer = λ less. let long = most d is in let same = ap (λ (c : Content). block_count (length c.bytes)) s.memory in absurd (omega (arith, less, long, same));
+        fewer = λ less. let long = most d is in
+            let same = ap block_count goes.long ∙ ap (λ (c : Content). block_count (length c.bytes)) (alone.served off d is).memory in absurd (omega (arith, less, long, same));
       };
-      logged = refl;
+      logged = noted_alike new f.log (file_step bytes d ask.op).bytes goes;
     };
-    excused = alone.excused;
+    goes_on = alone.goes_on;
+    excused = alone.any_excused;
     posix = alone.posix;
     fits = alone.fits;
     few = alone.few;
-    marks = marks;
+    marks = marks.marks;
+    held = marks.held;
+    written = marks.written;
     kept = λ e. λ i. record { file = alone.file e i; log = (ap (λ (x : FileState). noted_as x f.log) (alone.file e) ∙ logged_already f noted) i; dropped = f.dropped };
     pool = alone.pool;
     same_desc = alone.same_desc;
@@ -205,14 +228,15 @@ any_pool runs wanted one other (excuse.Extents need) none cause = by cause.runs 
     by (r ∷ rs) turn counted = (let some = turn.0 in absurd (omega (arith, some, none)))
 
 module _ (f : DurableState) (new : FileState) (own left : BlockSet) (ask : Ask) (server : Actor) (ticket : ℕ) (entry : Entry) (desc : Option Desc) (noted : IsNoted f)
-    (alone : IsAlone f.file new own left ask server ticket entry desc) (marks : length new.content.dirty ≡ length (blocks_of new.extents))
+    (alone : IsAlone f.file new own left ask server ticket entry desc) (marks : IsMarked new)
     (count : ℕ) (fewer : count < length (blocks_of f.file.extents)) (is_count : (d : Desc) → ask.desc ≡ Some d → count ≡ block_count (length (content_behind f.file d ask.op).bytes)) (pool : BlockSet) where
   -- The file keeps so many blocks and drops the others.
   pub applied_cutting : is_excused entry.reply ≡ false → IsApplied f (record { file = new; log = noted_as new f.log; dropped = f.dropped ++ last_runs f.file.extents count }) pool pool ask server ticket entry desc
   applied_cutting off = record {
     of_ask = alone.of_ask;
-    served = λ _ d is. let s = alone.served off d is in
-        let same : count ≡ block_count (length new.content.bytes) = is_count d is ∙ ap (λ (c : Content). block_count (length c.bytes)) (sym s.memory) in
+    served = λ _ d is bytes may. let s = alone.any off d is bytes may in let goes = alone.goes_on off d is bytes may in
+        let same : count ≡ block_count (length (file_step bytes d ask.op).bytes) =
+        is_count d is ∙ ap (λ (c : Content). block_count (length c.bytes)) (sym (alone.served off d is).memory) ∙ ap block_count (sym goes.long) in
         record {
           replied = s.replied;
           told = s.told;
@@ -224,34 +248,43 @@ module _ (f : DurableState) (new : FileState) (own left : BlockSet) (ask : Ask) 
             more = λ le. absurd (omega (arith, le, fewer, same));
             fewer = λ less. record { extents = (s.blocks.fewer less).extents; dropped = ap (λ (n : ℕ). f.dropped ++ last_runs f.file.extents n) same; pool = refl };
           };
-          logged = refl;
+          logged = noted_alike new f.log (file_step bytes d ask.op).bytes goes;
         };
+    goes_on = alone.goes_on;
     excused = λ x e. absurd (not_both entry.reply off (ap is_excused e));
     posix = alone.posix;
     fits = alone.fits;
     few = alone.few;
-    marks = marks;
+    marks = marks.marks;
+    held = marks.held;
+    written = marks.written;
     kept = λ e. absurd (not_both entry.reply off e);
     pool = λ e. refl;
     same_desc = alone.same_desc;
   }
 
+  same_excuse : (x : Excuse) → entry.reply ≡ reply.Excused x → (d : Desc) → ask.desc ≡ Some d → IsExcusedFor f.file d ask.op pool x
+  same_excuse x e d is = let was = alone.excused x e d is in let same = is_count d is in record {
+    allowed = was.allowed;
+    cause =
+        (let goes : block_count (length (content_behind f.file d ask.op).bytes) ≡ block_count (length (content_after f.file.content d ask.op).bytes) =
+        ap (λ (o : Option Errno). block_count (length (content_by f.file.content d ask.op o).bytes)) was.allowed in
+        any_pool f.file.extents (missing f.file d ask.op) own pool x (omega (arith, fewer, same, goes)) was.cause);
+  }
+
   -- Memory ran out for it, and what was dropped already isn't.
-  pub applied_uncut : (rest : List Run) → is_excused entry.reply ≡ true → IsApplied f (record { file = new; log = f.log; dropped = take (length f.dropped) (f.dropped ++ rest) }) pool pool ask server ticket entry desc
-  applied_uncut rest on = record {
+  pub applied_uncut : length (blocks_of f.file.extents) ≡ block_count (length f.file.content.bytes) → (rest : List Run) → is_excused entry.reply ≡ true → IsApplied f (record { file = new; log = f.log; dropped = take (length f.dropped) (f.dropped ++ rest) }) pool pool ask server ticket entry desc
+  applied_uncut sized rest on = record {
     of_ask = alone.of_ask;
     served = λ off. absurd (not_both entry.reply off on);
-    excused = λ x e d is. let was = alone.excused x e d is in let same = is_count d is in record {
-      allowed = was.allowed;
-      cause =
-          (let goes : block_count (length (content_behind f.file d ask.op).bytes) ≡ block_count (length (content_after f.file.content d ask.op).bytes) =
-          ap (λ (o : Option Errno). block_count (length (content_by f.file.content d ask.op o).bytes)) was.allowed in
-          any_pool f.file.extents (missing f.file d ask.op) own pool x (omega (arith, fewer, same, goes)) was.cause);
-    };
+    goes_on = λ off. absurd (not_both entry.reply off on);
+    excused = λ x e d is. excused_any f.file d ask.op pool x (same_excuse x e d is) (noted.held ∙ noted.marks ∙ sized);
     posix = alone.posix;
     fits = alone.fits;
     few = alone.few;
-    marks = marks;
+    marks = marks.marks;
+    held = marks.held;
+    written = marks.written;
     kept = λ e. λ i. record { file = alone.file e i; log = f.log; dropped = take_at f.dropped rest (length f.dropped) refl i };
     pool = λ e. refl;
     same_desc = alone.same_desc;
@@ -329,6 +362,13 @@ module _ (f g : DurableState) (before after : BlockSet) (noted : IsNoted f) (apa
         ∙ ap (λ (b : Bool). set.contains before q || b) (ap (λ (l : List ℕ). has l q) dropped_is ∙ has-turned kept dropped rest q ∙ ap (λ (l : List ℕ). has l q) (sym was))
         ∙ sym (has-union before (set.from_list (blocks_held f)) q))
 
+  -- whichever bytes the files have
+  own_blocks : (xs ys : List ℕ) (n : ℕ) → TakesOrDrops (whole_of xs f) (whole_of ys g) before after n → TakesOrDrops f g before after n
+  own_blocks xs ys n h = record {
+    more = λ le. let t = h.more le in record { taken = t.taken; dropped = t.dropped };
+    fewer = λ less. let t = h.fewer less in record { extents = t.extents; dropped = t.dropped; pool = t.pool };
+  }
+
   module _ (n : ℕ) (has_them : TakesOrDrops f g before after n) where
     turn : (P : Type 0) → (length own ≤ n → P) → (n < length own → P) → P
     turn P more fewer = by (ltb n (length own)) refl
@@ -347,40 +387,46 @@ module _ (f g : DurableState) (before after : BlockSet) (noted : IsNoted f) (apa
     within q e = turn (set.contains before q ≡ true) (λ le. within_take (n - length own) (has_them.more le) q e) (λ less. sym (ap (λ (p : BlockSet). set.contains p q) (has_them.fewer less).pool) ∙ e)
 
   module _ (ask : Ask) (server : Actor) (ticket : ℕ) (entry : Entry) (desc : Option Desc) (d : Desc) (is : ask.desc ≡ Some d) (applied : IsApplied f g before after ask server ticket entry desc) where
+    -- the bytes that it may have behind the request
+    abbrev left : List ℕ
+    left = (file_step f.file.content.bytes d ask.op).bytes
+
     -- excused or served
-    either : (P : Type 0) → (g ≡ f → after ≡ before → P) → (IsServedKept f g before after d ask.op entry.reply desc → P) → P
+    either : (P : Type 0) → (g ≡ f → after ≡ before → P) → (IsServedKept (whole_of f.file.content.bytes f) (whole_of left g) before after d ask.op entry.reply desc → IsContentOf g.file.content left → P) → P
     either P none some = by (is_excused entry.reply) refl
       where
         by : (b : Bool) → is_excused entry.reply ≡ b → P
         by true e = none (applied.kept e) (applied.pool e)
-        by false e = some (applied.served e d is)
+        by false e = some (applied.served e d is f.file.content.bytes (content_itself f.file.content)) (applied.goes_on e d is f.file.content.bytes (content_itself f.file.content))
 
     pub goes_apart : IsApart after (blocks_held g)
     goes_apart = either (IsApart after (blocks_held g)) (λ same pool. subst (λ (p : BlockSet). IsApart p (blocks_held g)) (sym pool) (subst (λ (x : DurableState). IsApart before (blocks_held x)) (sym same) apart))
-        (λ s. apart_behind (block_count (length g.file.content.bytes)) s.blocks)
+        (λ s goes. apart_behind (block_count (length left)) (own_blocks f.file.content.bytes left (block_count (length left)) s.blocks))
 
     pub goes_together : set.union after (set.from_list (blocks_held g)) ≡ set.union before (set.from_list (blocks_held f))
     goes_together = either (set.union after (set.from_list (blocks_held g)) ≡ set.union before (set.from_list (blocks_held f))) (λ same pool. λ i. set.union (pool i) (set.from_list (blocks_held (same i))))
-        (λ s. together_behind (block_count (length g.file.content.bytes)) s.blocks)
+        (λ s goes. together_behind (block_count (length left)) (own_blocks f.file.content.bytes left (block_count (length left)) s.blocks))
 
     pub goes_within : (q : ℕ) → set.contains after q ≡ true → set.contains before q ≡ true
-    goes_within q e = either (set.contains before q ≡ true) (λ same pool. sym (ap (λ (p : BlockSet). set.contains p q) pool) ∙ e) (λ s. within (block_count (length g.file.content.bytes)) s.blocks q e)
+    goes_within q e = either (set.contains before q ≡ true) (λ same pool. sym (ap (λ (p : BlockSet). set.contains p q) pool) ∙ e) (λ s goes. within (block_count (length left)) (own_blocks f.file.content.bytes left (block_count (length left)) s.blocks) q e)
 
     pub same_number : g.file.file ≡ f.file.file
-    same_number = either (g.file.file ≡ f.file.file) (λ same pool. ap (λ (x : DurableState). x.file.file) same) (λ s. s.same_file)
+    same_number = either (g.file.file ≡ f.file.file) (λ same pool. ap (λ (x : DurableState). x.file.file) same) (λ s goes. s.same_file)
 
     pub same_inode : g.file.inode ≡ f.file.inode
-    same_inode = either (g.file.inode ≡ f.file.inode) (λ same pool. ap (λ (x : DurableState). x.file.inode) same) (λ s. s.same_inode)
+    same_inode = either (g.file.inode ≡ f.file.inode) (λ same pool. ap (λ (x : DurableState). x.file.inode) same) (λ s goes. s.same_inode)
 
     pub same_committed : g.log.committed ≡ f.log.committed
-    same_committed = either (g.log.committed ≡ f.log.committed) (λ same pool. ap (λ (x : DurableState). x.log.committed) same) (λ s. ap (λ (l : FileLog). l.committed) s.logged)
+    same_committed = either (g.log.committed ≡ f.log.committed) (λ same pool. ap (λ (x : DurableState). x.log.committed) same) (λ s goes. ap (λ (l : FileLog). l.committed) s.logged)
 
     pub goes_noted : IsNoted g
-    goes_noted = either (IsNoted g) (λ same pool. subst IsNoted (sym same) noted) (λ s. record {
+    goes_noted = either (IsNoted g) (λ same pool. subst IsNoted (sym same) noted) (λ s goes. record {
       inode = ap (λ (l : FileLog). l.inode) s.logged ∙ noted.inode ∙ sym s.same_inode;
       runs = ap (λ (l : FileLog). l.noted.runs) s.logged;
-      size = ap (λ (l : FileLog). l.noted.size) s.logged;
+      size = ap (λ (l : FileLog). l.noted.size) s.logged ∙ goes.long;
       marks = applied.marks;
+      held = applied.held;
+      written = applied.written;
       apart = record {
         absent = λ b e. distinct_apart (blocks_of g.file.extents) (blocks_of g.dropped) goes_apart.once b e;
         once = distinct_front (blocks_of g.file.extents) (blocks_of g.dropped) goes_apart.once;

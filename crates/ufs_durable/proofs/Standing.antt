@@ -5,6 +5,7 @@ use Rattle.std.specs.List.{AllByRecursion, list_any, range_with_len, slice_get}
 use Rattle.std.proofs.lemmas.Bool.Decides.{nat_tests}
 use Rattle.std.proofs.lemmas.List.{map-append, take-map, get_or-replicate, length-drop, length-replicate, length-take-le, take-append-drop}
 use Rattle.std.proofs.Common.{length-append}
+use Rattle.std.proofs.lemmas.Option.{get_or_from_slice_get, slice_get_within}
 use Rattle.ufs_bitmap.proofs.TakingLemmas.{has-none}
 use Rattle.ufs_disk.specs.Disk.{Cell, possible}
 use Rattle.ufs_disk.specs.Moments.{reads}
@@ -264,11 +265,19 @@ shows_the_file l f noted stands same cleaned place byte under has =
 
 -- ---- what the type keeps
 
+none_marked : (n place : ℕ) → slice_get (replicate n false) place ≡ Some true → ⊥
+none_marked n place e =
+    let less = slice_get_within (replicate n false) place true e in
+    let both : false ≡ true = sym (get_or-replicate n place false false (omega (arith, less, length-replicate {A = Bool} n false))) ∙ get_or_from_slice_get (replicate n false) place true false e in
+    cc
+
 pub noted_committed : (f : DurableState) → IsNoted f → IsNoted (file_committed f)
 noted_committed f noted = record {
   inode = noted.inode;
   runs = noted.runs;
   size = noted.size;
   marks = length-replicate (length f.file.content.dirty) false ∙ noted.marks;
+  held = noted.held ∙ sym (length-replicate (length f.file.content.dirty) false);
+  written = λ place e. absurd (none_marked (length f.file.content.dirty) place e);
   apart = record { absent = λ b is. has-none b; once = noted.apart.once };
 }

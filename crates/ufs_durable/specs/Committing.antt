@@ -6,7 +6,7 @@ use Rattle.ufs_base.specs.declared.sizes.TheConstants.{BLOCK, MAX_EXTENTS}
 use Rattle.ufs_bitmap.specs.Blocks.{BlockSet}
 use Rattle.ufs_disk.specs.Moments.{Moments}
 use Rattle.ufs_extent.specs.Runs.{IsRun, blocks_of}
-use Rattle.ufs_file.specs.Hand.{FileState, IsFileOf}
+use Rattle.ufs_file.specs.Hand.{FileState}
 use Rattle.ufs_ilog.specs.Deltas.{IsDelta}
 use Rattle.ufs_image.specs.Changes.{IsTakenBlock}
 use Rattle.ufs_layout.specs.Superblock.{geometry_of}
@@ -16,6 +16,7 @@ use Rattle.ufs_ledger.specs.Kept.{Counts, IsLedgerKept}
 use Rattle.ufs_ledger.specs.Laws.{GoesOnBy, raised}
 use Rattle.ufs_ledger.specs.Ledger.{Ledger}
 use Rattle.ufs_model.specs.FileBytes.{bytes_of}
+use Rattle.ufs_model.specs.FileCalls.{IsFileIn}
 use Rattle.ufs_model.specs.History.{IsLegal, tree_after}
 use Rattle.ufs_model.specs.PosixTree.{IsTree, PosixTree}
 use Rattle.ufs_model.specs.declared.data.Desc.{Desc}
@@ -122,8 +123,8 @@ CountsGoOn = (f h : FileState) (start : PosixTree) (history : List Entry) (now :
 -- So is a file that is this part of the history's tree behind one more entry,
 abbrev pub GoesByEntries : Type 0
 GoesByEntries = (f g : FileState) (start : PosixTree) (history : List Entry) (entry : Entry) (k : Counts) → IsTree start → IsLegal start (history ++ entry ∷ []) → g.file ≡ f.file → g.inode ≡ f.inode
-    → IsFileOf g (tree_after start (history ++ entry ∷ [])) → IsFileBy f start history k → IsFileBy g start (history ++ entry ∷ []) k
+    → IsFileIn (tree_after start (history ++ entry ∷ [])) g.file g.content.bytes → IsFileBy f start history k → IsFileBy g start (history ++ entry ∷ []) k
 
 -- since the bytes that it has in the tree are those after all its changes.
 abbrev pub HasTreeBytes : Type 0
-HasTreeBytes = (f : FileState) (start : PosixTree) (history : List Entry) → IsTree start → IsLegal start history → IsFileOf f (tree_after start history) → f.content.bytes ≡ all_changed (bytes_of start.bytes f.file) (changes_of f.file start history)
+HasTreeBytes = (f : FileState) (start : PosixTree) (history : List Entry) → IsTree start → IsLegal start history → IsFileIn (tree_after start history) f.file f.content.bytes → f.content.bytes ≡ all_changed (bytes_of start.bytes f.file) (changes_of f.file start history)

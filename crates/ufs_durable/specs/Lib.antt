@@ -4,3 +4,4 @@ pub mod Standing
 pub mod Committing
 pub mod Others
 pub mod Serving
+pub mod Whole

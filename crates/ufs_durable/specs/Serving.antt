@@ -1,10 +1,11 @@
 -- Requests on a file with what is known of its commits.
-use Rattle.std.specs.Prelude.{ℕ, ◌≡◌, ◌-◌, ◌<◌, ◌≤◌, ◌++◌, length, Option, Some, false, true}
+use Rattle.std.specs.Prelude.{ℕ, ◌≡◌, ◌-◌, ◌<◌, ◌≤◌, ◌++◌, List, length, Option, Some, false, true}
+use Rattle.std.specs.List.{slice_get}
 use Rattle.ufs_base.specs.declared.sizes.TheConstants.{MAX_EXTENTS}
 use Rattle.ufs_bitmap.specs.Blocks.{BlockSet}
 use Rattle.ufs_extent.specs.Runs.{blocks_of, first_runs, last_runs}
-use Rattle.ufs_file.specs.Content.{Content, block_count}
-use Rattle.ufs_file.specs.Hand.{FileState, IsEntryOf, IsExcusedFor, IsFileOf, IsPosix, TakesBlocks, content_by}
+use Rattle.ufs_file.specs.Content.{Content, IsContentOf, block_count}
+use Rattle.ufs_file.specs.Hand.{FileState, IsEntryOf, IsExcusedFor, IsFileOf, IsPosix, TakesBlocks, content_by, whole_as}
 use Rattle.ufs_ilog.specs.Deltas.{FileLog}
 use Rattle.ufs_model.specs.Asks.{IsAsk}
 use Rattle.ufs_model.specs.Excuses.{ExcuseFits}
@@ -19,7 +20,7 @@ use Rattle.ufs_model.specs.declared.data.Excuse.{Excuse}
 use Rattle.ufs_model.specs.declared.data.Op.{Op}
 use Rattle.ufs_model.specs.declared.data.Reply.{Reply}
 use Rattle.ufs_model.specs.declared.data.Reply.TheVariants as reply
-use Rattle.ufs_durable.specs.State.{DurableState}
+use Rattle.ufs_durable.specs.State.{DurableState, whole_of}
 
 -- The file took so many blocks from the pool, and dropped none.
 pub record TakesOnly (f g : DurableState) (before after : BlockSet) (count : ℕ) : Type 0 where
@@ -57,15 +58,19 @@ pub record IsServedKept (f g : DurableState) (before after : BlockSet) (d : Desc
   pub blocks : TakesOrDrops f g before after (block_count (length g.file.content.bytes))
   pub logged : g.log ≡ noted_as g.file f.log
 
--- What a request comes to, all together.
+-- What a request comes to, all together, whatever bytes the blocks have that aren't in memory.
 pub record IsApplied (f g : DurableState) (before after : BlockSet) (ask : Ask) (server : Actor) (ticket : ℕ) (entry : Entry) (desc : Option Desc) : Type 0 where
   pub of_ask : IsEntryOf ask server ticket entry
-  pub served : is_excused entry.reply ≡ false → (d : Desc) → ask.desc ≡ Some d → IsServedKept f g before after d ask.op entry.reply desc
-  pub excused : (x : Excuse) → entry.reply ≡ reply.Excused x → (d : Desc) → ask.desc ≡ Some d → IsExcusedFor f.file d ask.op before x
+  pub served : is_excused entry.reply ≡ false → (d : Desc) → ask.desc ≡ Some d → (bytes : List ℕ) → IsContentOf f.file.content bytes
+      → IsServedKept (whole_of bytes f) (whole_of (file_step bytes d ask.op).bytes g) before after d ask.op entry.reply desc
+  pub goes_on : is_excused entry.reply ≡ false → (d : Desc) → ask.desc ≡ Some d → (bytes : List ℕ) → IsContentOf f.file.content bytes → IsContentOf g.file.content (file_step bytes d ask.op).bytes
+  pub excused : (x : Excuse) → entry.reply ≡ reply.Excused x → (d : Desc) → ask.desc ≡ Some d → (bytes : List ℕ) → IsContentOf f.file.content bytes → IsExcusedFor (whole_as bytes f.file) d ask.op before x
   pub posix : is_excused entry.reply ≡ false → (t : PosixTree) → IsFileOf f.file t → IsAsk t ask → IsPosix t ask g.file entry.reply desc
   pub fits : (x : Excuse) → entry.reply ≡ reply.Excused x → (t : PosixTree) → IsFileOf f.file t → IsAsk t ask → ExcuseFits t ask.client ask.op x
   pub few : length g.file.extents ≤ MAX_EXTENTS
   pub marks : length g.file.content.dirty ≡ length (blocks_of g.file.extents)
+  pub held : length g.file.content.there ≡ length g.file.content.dirty
+  pub written : (place : ℕ) → slice_get g.file.content.dirty place ≡ Some true → slice_get g.file.content.there place ≡ Some true
   pub kept : is_excused entry.reply ≡ true → g ≡ f
   pub pool : is_excused entry.reply ≡ true → after ≡ before
   pub same_desc : is_excused entry.reply ≡ true → desc ≡ ask.desc

@@ -52,6 +52,7 @@ impl FileCommits {
     {
         // For the prover alone.
         let _marks = hand.block_count();
+        let _written = hand.dirty_places();
         let log = InodeLog::make(alloc, hand.inode(), hand.extent_list(), hand.size())?;
         Ok(FileCommits {
             alloc,

@@ -2,6 +2,7 @@
 ghost use Rattle.ufs_durable.specs.Committing.{BarriersShowAll, CommitsShowAll, CountsGoOn, DoneIsKept, FilesMayCommitNext, FitsInode, GoesByEntries, HasTreeBytes, OwnsCommitted, OwnsServed, StagesAreKept, WritesAreKept};
 ghost use Rattle.ufs_durable.specs.Others.{OwnsBehindCommit, StandsBehindBarrier, StandsBehindCheckpoint, StandsBehindCommit, StandsBehindWrites, StandsOnceCommitted};
 ghost use Rattle.ufs_durable.specs.Standing.{DirtyMayBeWritten, ReadsServed, ShowsAsCommitted, ShowsTheFile, StandsCommitted, StandsServed, StandsSettled, StandsWhileWritten};
+ghost use Rattle.ufs_durable.specs.Whole.{NotedAsWhole, WritesAreWhole};
 
 use ufs_file::FileHand;
 use ufs_model::a_request_keeps_the_tree;
@@ -47,6 +48,12 @@ pub fn others_law()
     ensures commit { StandsBehindCommit }
     ensures own { OwnsBehindCommit }
     ensures itself { StandsOnceCommitted }
+{}
+
+/// A file of which not all is in memory, beside the one that it is with its bytes.
+pub fn whole_law()
+    ensures writes { WritesAreWhole }
+    ensures noted { NotedAsWhole }
 {}
 
 /// An inode has room for each file that a server holds.

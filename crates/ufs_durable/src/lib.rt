@@ -7,5 +7,5 @@ mod serving;
 mod writes;
 
 pub use durable::{FileCommits, fsync};
-pub use laws::{committing_law, fitting_law, others_law, standing_law};
+pub use laws::{committing_law, fitting_law, others_law, standing_law, whole_law};
 pub use serving::apply;

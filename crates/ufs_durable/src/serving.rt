@@ -1,24 +1,24 @@
 // Requests on a file whose commits are kept beside it.
-ghost use Rattle.std.specs.Prelude.{ℕ, ◌≡◌, ◌<◌, ◌≤◌, ◌-◌, ◌++◌, length, take, true, false, Some, IfOk, OnOk, OnErr, All, if◌then◌else◌};
+ghost use Rattle.std.specs.Prelude.{ℕ, List, ◌≡◌, ◌<◌, ◌≤◌, ◌-◌, ◌++◌, length, take, true, false, None, Some, IfOk, OnOk, OnErr, All, if◌then◌else◌, slice_get};
 ghost use Rattle.std.specs.FinSet as set;
 ghost use Rattle.ufs_base.specs.declared.sizes.TheConstants.{MAX_EXTENTS};
 ghost use Rattle.ufs_bitmap.specs.Blocks.{BlockSet};
 ghost use Rattle.ufs_bitmap.specs.Taking.{IsApart};
 ghost use Rattle.ufs_extent.specs.Runs.{IsRun, blocks_of, last_runs};
-ghost use Rattle.ufs_file.specs.Content.{block_count};
-ghost use Rattle.ufs_file.specs.Hand.{IsEntryOf, IsExcusedFor, IsFileOf, IsOf, IsPosix};
+ghost use Rattle.ufs_file.specs.Content.{IsContentOf, block_count};
+ghost use Rattle.ufs_file.specs.Hand.{HasNeeded, IsEntryOf, IsExcusedFor, IsFileOf, IsOf, IsPosix, whole_as};
 ghost use Rattle.ufs_file.specs.Table.{max_held};
 ghost use Rattle.ufs_model.specs.Asks.{IsAsk};
 ghost use Rattle.ufs_model.specs.Bounds.{IsBounded};
 ghost use Rattle.ufs_model.specs.Excuses.{ExcuseFits};
 ghost use Rattle.ufs_model.specs.FileBytes as file_bytes;
-ghost use Rattle.ufs_model.specs.FileCalls.{is_on_file};
+ghost use Rattle.ufs_model.specs.FileCalls.{file_refusal, file_step, is_on_file};
 ghost use Rattle.ufs_model.specs.History.{is_excused};
 ghost use Rattle.ufs_model.specs.PosixTree.{PosixTree};
 ghost use Rattle.ufs_model.specs.declared.data.Desc.{Desc};
 ghost use Rattle.ufs_model.specs.declared.data.Excuse.{Excuse};
 ghost use Rattle.ufs_model.specs.declared.data.Reply.TheVariants as reply;
-ghost use Rattle.ufs_durable.specs.State.{IsNoted, blocks_held, state_of};
+ghost use Rattle.ufs_durable.specs.State.{IsNoted, blocks_held, state_of, whole_of};
 ghost use Rattle.ufs_durable.specs.Serving.{IsApplied, IsServedKept, content_behind, noted_as};
 
 use crate::durable::FileCommits;
@@ -33,7 +33,8 @@ use ufs_model::{Actor, Ask, Bytes, Desc, Op, Reply};
 
 /// Serves a request on a descriptor of the file, as `FileHand::apply` does, and notes what changed. Blocks
 /// that the file has no use for are dropped: they are nobody's until the file's next commit, and the pool
-/// gets none. Where room is wanting the reply is the excuse for its cause, and nothing has changed.
+/// gets none. Where room is wanting the reply is the excuse for its cause, and nothing has changed. The caller
+/// has fetched the blocks that the request needs, unless it is refused; what is said here holds for whatever bytes the others have.
 pub fn apply(
     hand: &mut FileHand,
     commits: &mut FileCommits,
@@ -47,9 +48,12 @@ pub fn apply(
     requires named { IsOf ask.desc hand.old.file }
     requires noted { IsNoted (state_of hand.old commits.old) }
     requires apart { IsApart pool.old (blocks_held (state_of hand.old commits.old)) }
+    requires there { (d : Desc) → ask.desc ≡ Some d → file_refusal hand.old.content.bytes d ask.op ≡ None → HasNeeded hand.old.content d ask.op }
     ensures entry { IsEntryOf ask by ticket result.entry }
-    ensures served { is_excused result.entry.reply ≡ false → (d : Desc) → ask.desc ≡ Some d → IsServedKept (state_of hand.old commits.old) (state_of hand.new commits.new) pool.old pool.new d ask.op result.entry.reply result.desc }
-    ensures excused { (x : Excuse) → result.entry.reply ≡ reply.Excused x → (d : Desc) → ask.desc ≡ Some d → IsExcusedFor hand.old d ask.op pool.old x }
+    ensures served { is_excused result.entry.reply ≡ false → (d : Desc) → ask.desc ≡ Some d → (bytes : List ℕ) → IsContentOf hand.old.content bytes
+        → IsServedKept (whole_of bytes (state_of hand.old commits.old)) (whole_of (file_step bytes d ask.op).bytes (state_of hand.new commits.new)) pool.old pool.new d ask.op result.entry.reply result.desc }
+    ensures goes_on { is_excused result.entry.reply ≡ false → (d : Desc) → ask.desc ≡ Some d → (bytes : List ℕ) → IsContentOf hand.old.content bytes → IsContentOf hand.new.content (file_step bytes d ask.op).bytes }
+    ensures excused { (x : Excuse) → result.entry.reply ≡ reply.Excused x → (d : Desc) → ask.desc ≡ Some d → (bytes : List ℕ) → IsContentOf hand.old.content bytes → IsExcusedFor (whole_as bytes hand.old) d ask.op pool.old x }
     ensures posix { is_excused result.entry.reply ≡ false → (t : PosixTree) → IsFileOf hand.old t → IsAsk t ask → IsPosix t ask hand.new result.entry.reply result.desc }
     ensures fits { (x : Excuse) → result.entry.reply ≡ reply.Excused x → (t : PosixTree) → IsFileOf hand.old t → IsAsk t ask → ExcuseFits t ask.client ask.op x }
     ensures number { hand.new.file ≡ hand.old.file }
@@ -127,6 +131,7 @@ fn apply_growing(
     requires named { IsOf ask.desc hand.old.file }
     requires noted { IsNoted (state_of hand.old commits.old) }
     requires apart { IsApart pool.old (blocks_of hand.old.extents) }
+    requires there { (d : Desc) → ask.desc ≡ Some d → file_refusal hand.old.content.bytes d ask.op ≡ None → HasNeeded hand.old.content d ask.op }
     requires more { (d : Desc) → ask.desc ≡ Some d → length (blocks_of hand.old.extents) < block_count (length (content_behind hand.old d ask.op).bytes) }
     ensures { IsApplied (state_of hand.old commits.old) (state_of hand.new commits.new) pool.old pool.new ask by ticket result.entry result.desc }
 {
@@ -153,6 +158,7 @@ fn apply_in_place(
     requires named { IsOf ask.desc hand.old.file }
     requires noted { IsNoted (state_of hand.old commits.old) }
     requires apart { IsApart pool.old (blocks_of hand.old.extents) }
+    requires there { (d : Desc) → ask.desc ≡ Some d → file_refusal hand.old.content.bytes d ask.op ≡ None → HasNeeded hand.old.content d ask.op }
     requires same { (d : Desc) → ask.desc ≡ Some d → length (blocks_of hand.old.extents) ≡ block_count (length (content_behind hand.old d ask.op).bytes) }
     ensures { IsApplied (state_of hand.old commits.old) (state_of hand.new commits.new) pool.old pool.new ask by ticket result.entry result.desc }
 {
@@ -174,6 +180,7 @@ fn apply_cutting(
     requires bounded { IsBounded ask.op }
     requires named { IsOf ask.desc hand.old.file }
     requires noted { IsNoted (state_of hand.old commits.old) }
+    requires there { (d : Desc) → ask.desc ≡ Some d → file_refusal hand.old.content.bytes d ask.op ≡ None → HasNeeded hand.old.content d ask.op }
     requires fewer { blocks < length (blocks_of hand.old.extents) }
     requires kept { (d : Desc) → ask.desc ≡ Some d → blocks ≡ block_count (length (content_behind hand.old d ask.op).bytes) }
     ensures { (pool : BlockSet) → IsApplied (state_of hand.old commits.old) (state_of hand.new commits.new) pool pool ask by ticket result.entry result.desc }
@@ -230,6 +237,8 @@ impl FileCommits {
         requires { before.now ≡ self.old.log.noted.runs }
         ensures noted { self.new ≡ record self.old { log = noted_as hand.now self.old.log } }
         ensures marks { length hand.now.content.dirty ≡ length (blocks_of hand.now.extents) }
+        ensures held { length hand.now.content.there ≡ length hand.now.content.dirty }
+        ensures written { (place : ℕ) → slice_get hand.now.content.dirty place ≡ Some true → slice_get hand.now.content.there place ≡ Some true }
     {
         is_whole(hand);
         self.log.note(before, hand.extent_list(), hand.size());
@@ -258,9 +267,11 @@ impl FileCommits {
     }
 }
 
-// A file has the blocks for its size, a mark for each, and no more extents than an inode has room for.
+// A file has the blocks for its size, marks for each, and no more extents than an inode has room for.
 fn is_whole(hand: &FileHand)
     ensures marks { length hand.now.content.dirty ≡ length (blocks_of hand.now.extents) }
+    ensures held { length hand.now.content.there ≡ length hand.now.content.dirty }
+    ensures written { (place : ℕ) → slice_get hand.now.content.dirty place ≡ Some true → slice_get hand.now.content.there place ≡ Some true }
     ensures few { length hand.now.extents ≤ MAX_EXTENTS }
     ensures sized { length (blocks_of hand.now.extents) ≡ block_count (length hand.now.content.bytes) }
 {
@@ -268,4 +279,5 @@ fn is_whole(hand: &FileHand)
     let _marks = hand.block_count();
     let _few = hand.extents();
     let _blocks = hand.size();
+    let _written = hand.dirty_places();
 }

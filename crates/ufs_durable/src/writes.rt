@@ -66,6 +66,7 @@ fn write_one<D: Door>(hand: &FileHand, place: u32, door: &mut D) -> Result<(), S
     requires blocks { AreDataBlocks (geometry_of_store (D.store door.old)) (blocks_of hand.now.extents) }
     requires there { place < length (blocks_of hand.now.extents) }
     requires marked { place < length hand.now.content.dirty }
+    requires kept { slice_get hand.now.content.there place ≡ Some true }
     ensures crash { IsTrue D.visible → (l : Ledger) → HasLedger (D.store door.old) l → MayWriteAll l (write_of hand.now place ∷ [])
         → LeavesOnly D.keeps (IsLeftBy (D.store door.old).sectors (with_writes (write_of hand.now place ∷ []) l)) (D.store door.old).moments (D.store door.new).moments }
     ensures ok { IsTrue D.visible → OnOk result ((l : Ledger) → HasLedger (D.store door.old) l → MayWriteAll l (write_of hand.now place ∷ []) → HasLedger (D.store door.new) (with_writes (write_of hand.now place ∷ []) l)) }

@@ -102,3 +102,6 @@ pub returns-else-blocks-held-2-clause-apart : goal.returns-else-blocks-held-2-cl
 returns-else-blocks-held-2-clause-apart c =
     goes_apart (state_of c.args.hand.now c.args.commits.now) (state_of c.apply_in_place.new.hand c.apply_in_place.new.commits) c.args.pool.now c.apply_in_place.new.pool c.requires.noted c.requires.apart
     c.args.ask c.args.by c.args.ticket c.apply_in_place.result.entry c.apply_in_place.result.desc c.in-Some.desc c.in-Some.is c.apply_in_place.ensures
+
+pub returns-then-blocks-held-2-clause-goes_on : goal.returns-then-blocks-held-2-clause-goes_on
+returns-then-blocks-held-2-clause-goes_on c = (c.apply_cutting.ensures c.args.pool.now).goes_on

@@ -13,7 +13,7 @@ use Rattle.ufs_durable.proofs.serving.apply_cutting.Goals as goal
 pub returns-in_default : goal.returns-in_default
 returns-in_default c pool =
     applied_not (state_of c.args.hand.now c.args.commits.now) pool c.args.ask c.args.by c.args.ticket c.out_of_memory.result.entry c.out_of_memory.result.desc c.out_of_memory.ensures.entry
-    c.out_of_memory.ensures.reply c.out_of_memory.ensures.desc c.is_whole.ensures.marks c.is_whole.ensures.few
+    c.out_of_memory.ensures.reply c.out_of_memory.ensures.desc c.requires.noted c.is_whole.ensures.few
     (λ d is. allowed_where_changed c.args.hand.now d c.args.ask.op c.is_whole.ensures.sized (λ e. let fewer = c.requires.fewer in let kept = c.requires.kept d is in omega (arith, fewer, kept, e)))
 
 pub returns-in_default-drop_too : goal.returns-in_default-drop_too
@@ -21,7 +21,7 @@ returns-in_default-drop_too c pool =
     let f = state_of c.args.hand.now c.args.commits.now in
     let made = c.out_of_memory-in_default-drop_too in
     subst (λ (x : CommitState). IsApplied f (state_of c.args.hand.now x) pool pool c.args.ask c.args.by c.args.ticket made.result.entry made.result.desc) (sym c.in_default-drop_too.ensures.err)
-    (applied_not f pool c.args.ask c.args.by c.args.ticket made.result.entry made.result.desc made.ensures.entry made.ensures.reply made.ensures.desc c.is_whole.ensures.marks c.is_whole.ensures.few
+    (applied_not f pool c.args.ask c.args.by c.args.ticket made.result.entry made.result.desc made.ensures.entry made.ensures.reply made.ensures.desc c.requires.noted c.is_whole.ensures.few
     (λ d is. allowed_where_changed c.args.hand.now d c.args.ask.op c.is_whole.ensures.sized (λ e. let fewer = c.requires.fewer in let kept = c.requires.kept d is in omega (arith, fewer, kept, e))))
 
 pub apply-applied-requires-clause-apart : goal.apply-applied-requires-clause-apart
@@ -42,14 +42,17 @@ returns-in-Excused c pool =
     (record {
       of_ask = c.apply-applied.ensures.entry;
       served = c.apply-applied.ensures.served;
+      any = c.apply-applied.ensures.any;
+      goes_on = c.apply-applied.ensures.goes_on;
       excused = c.apply-applied.ensures.excused;
+      any_excused = c.apply-applied.ensures.any_excused;
       posix = c.apply-applied.ensures.posix;
       fits = c.apply-applied.ensures.fits;
       few = c.apply-applied.ensures.few;
       file = c.apply-applied.ensures.file;
       pool = c.apply-applied.ensures.pool;
       same_desc = c.apply-applied.ensures.desc;
-    }) c.is_whole-in-Excused.ensures.marks c.args.blocks c.requires.fewer c.requires.kept pool rest (ap is_excused c.in-Excused.is))
+    }) (record { marks = c.is_whole-in-Excused.ensures.marks; held = c.is_whole-in-Excused.ensures.held; written = c.is_whole-in-Excused.ensures.written }) c.args.blocks c.requires.fewer c.requires.kept pool c.is_whole.ensures.sized rest (ap is_excused c.in-Excused.is))
 
 pub returns : goal.returns
 returns c pool =
@@ -64,11 +67,14 @@ returns c pool =
     (record {
       of_ask = c.apply-applied.ensures.entry;
       served = c.apply-applied.ensures.served;
+      any = c.apply-applied.ensures.any;
+      goes_on = c.apply-applied.ensures.goes_on;
       excused = c.apply-applied.ensures.excused;
+      any_excused = c.apply-applied.ensures.any_excused;
       posix = c.apply-applied.ensures.posix;
       fits = c.apply-applied.ensures.fits;
       few = c.apply-applied.ensures.few;
       file = c.apply-applied.ensures.file;
       pool = c.apply-applied.ensures.pool;
       same_desc = c.apply-applied.ensures.desc;
-    }) c.note.ensures.marks c.args.blocks c.requires.fewer c.requires.kept pool (unexcused c.apply-applied.result.entry.reply c.in_default-reply.not-Excused))
+    }) (record { marks = c.note.ensures.marks; held = c.note.ensures.held; written = c.note.ensures.written }) c.args.blocks c.requires.fewer c.requires.kept pool (unexcused c.apply-applied.result.entry.reply c.in_default-reply.not-Excused))

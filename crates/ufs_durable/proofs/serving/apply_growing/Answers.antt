@@ -7,7 +7,7 @@ use Rattle.ufs_durable.proofs.serving.apply_growing.Goals as goal
 pub returns-in_default : goal.returns-in_default
 returns-in_default c =
     applied_not (state_of c.args.hand.now c.args.commits.now) c.args.pool.now c.args.ask c.args.by c.args.ticket c.out_of_memory.result.entry c.out_of_memory.result.desc c.out_of_memory.ensures.entry
-    c.out_of_memory.ensures.reply c.out_of_memory.ensures.desc c.is_whole.ensures.marks c.is_whole.ensures.few
+    c.out_of_memory.ensures.reply c.out_of_memory.ensures.desc c.requires.noted c.is_whole.ensures.few
     (λ d is. allowed_where_changed c.args.hand.now d c.args.ask.op c.is_whole.ensures.sized (λ e. let more = c.requires.more d is in omega (arith, more, e)))
 
 pub returns : goal.returns
@@ -19,11 +19,14 @@ returns c =
     (record {
       of_ask = c.apply-applied.ensures.entry;
       served = c.apply-applied.ensures.served;
+      any = c.apply-applied.ensures.any;
+      goes_on = c.apply-applied.ensures.goes_on;
       excused = c.apply-applied.ensures.excused;
+      any_excused = c.apply-applied.ensures.any_excused;
       posix = c.apply-applied.ensures.posix;
       fits = c.apply-applied.ensures.fits;
       few = c.apply-applied.ensures.few;
       file = c.apply-applied.ensures.file;
       pool = c.apply-applied.ensures.pool;
       same_desc = c.apply-applied.ensures.desc;
-    }) c.note.ensures.marks (λ d is. let more = c.requires.more d is in omega (arith, more)))
+    }) (record { marks = c.note.ensures.marks; held = c.note.ensures.held; written = c.note.ensures.written }) (λ d is. let more = c.requires.more d is in omega (arith, more)))

@@ -12,7 +12,10 @@ note-requires c =
     (record {
       of_ask = c.apply-applied.ensures.entry;
       served = c.apply-applied.ensures.served;
+      any = c.apply-applied.ensures.any;
+      goes_on = c.apply-applied.ensures.goes_on;
       excused = c.apply-applied.ensures.excused;
+      any_excused = c.apply-applied.ensures.any_excused;
       posix = c.apply-applied.ensures.posix;
       fits = c.apply-applied.ensures.fits;
       few = c.apply-applied.ensures.few;
@@ -31,11 +34,14 @@ returns c =
     (record {
       of_ask = c.apply-applied.ensures.entry;
       served = c.apply-applied.ensures.served;
+      any = c.apply-applied.ensures.any;
+      goes_on = c.apply-applied.ensures.goes_on;
       excused = c.apply-applied.ensures.excused;
+      any_excused = c.apply-applied.ensures.any_excused;
       posix = c.apply-applied.ensures.posix;
       fits = c.apply-applied.ensures.fits;
       few = c.apply-applied.ensures.few;
       file = c.apply-applied.ensures.file;
       pool = c.apply-applied.ensures.pool;
       same_desc = c.apply-applied.ensures.desc;
-    }) c.note.ensures.marks (λ d is. let same = c.requires.same d is in omega (arith, same)))
+    }) (record { marks = c.note.ensures.marks; held = c.note.ensures.held; written = c.note.ensures.written }) (λ d is. let same = c.requires.same d is in omega (arith, same)))
