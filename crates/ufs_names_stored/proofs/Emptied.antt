@@ -15,8 +15,8 @@ use Rattle.ufs_names_stored.specs.Requests.{emptied}
 use Rattle.ufs_names_stored.proofs.Blocks.{clash}
 
 module _ (d : DurableState) where
-  emptied_noted : IsNoted d → IsNoted (emptied d)
-  emptied_noted is = record { inode = is.inode; runs = refl; size = refl; marks = refl; apart = record { absent = λ b held. absurd (clash _ held (has-none b)); once = distinct-none } }
+  pub emptied_noted : IsNoted d → IsNoted (emptied d)
+  emptied_noted is = record { inode = is.inode; runs = refl; size = refl; marks = refl; apart = record { absent = λ b held. absurd (clash _ held (has-none b)); once = distinct-none }; held = refl; written = λ place on. on }
 
   emptied_once : IsDistinct nat_eq (blocks_held d) → IsDistinct nat_eq (blocks_held (emptied d))
   emptied_once once = distinct_back (blocks_of d.file.extents) (blocks_of d.dropped) once

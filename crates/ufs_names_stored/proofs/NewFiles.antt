@@ -28,7 +28,7 @@ module _ (t u : PosixTree) (p next : Parts) (lent left : BlockSet) (r : IsNamesR
 
   -- no byte,
   pub is_empty : s ≡ no_bytes f s.inode
-  is_empty = r.go_on.born f s none here
+  is_empty = (r.go_on.born f s none here).0
 
   -- nothing is known of its commits,
   pub is_unknown : map.get next.commits s.file ≡ None

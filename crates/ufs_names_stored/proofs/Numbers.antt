@@ -40,7 +40,7 @@ module _ (t u : PosixTree) (p next : Parts) (lent left : BlockSet) (r : IsNamesR
       dead = sym (r.before.names.told f) ∙ ap is_some none
 
       absent : ((s : FileState) × (map.get p.files f ≡ Some s)) ⊎ (map.get p.files f ≡ None) → map.get p.files f ≡ None
-      absent (inl at) = (let of = r.before.files f at.0 at.1 in let some : is_some (map.get t.bytes f) ≡ true = ap (λ (k : ℕ). is_some (map.get t.bytes k)) (sym of.0) ∙ ap is_some of.1 in let no = sym some ∙ dead in absurd cc)
+      absent (inl at) = (let of = r.before.files f at.0 at.1 in let some : is_some (map.get t.bytes f) ≡ true = ap (λ (k : ℕ). is_some (map.get t.bytes k)) (sym of.0) ∙ ap is_some of.1.has in let no = sym some ∙ dead in absurd cc)
       absent (inr off) = off
 
       by : (f ≡ t.next) ⊎ (f ≢ t.next) → f ≡ t.next
@@ -72,7 +72,7 @@ module _ (t u : PosixTree) (p next : Parts) (lent left : BlockSet) (r : IsNamesR
 
   module _ (f : ℕ) (s : FileState) (here : map.get next.files f ≡ Some s) where
     live : IsSome (map.get next.names.held f)
-    live = let of = r.files f s here in r.after.told f ∙ ap (λ (k : ℕ). is_some (map.get u.bytes k)) (sym of.0) ∙ ap is_some of.1
+    live = let of = r.files f s here in r.after.told f ∙ ap (λ (k : ℕ). is_some (map.get u.bytes k)) (sym of.0) ∙ ap is_some of.1.has
 
     -- its inode is one of the table's
     pub in_table : (1 ≤ s.inode) × (s.inode < length next.names.tree.dirs.dirs)

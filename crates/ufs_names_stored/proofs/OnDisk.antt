@@ -1,25 +1,27 @@
 -- A server is on its disk behind a request of the names.
 use Rattle.std.proofs.Common.{◌≡◌, ℕ, ◌+◌, ◌<◌, ◌≤◌, ◌⊎◌, inl, inr, List, [], ◌∷◌, ◌++◌, true, false, Some, None, length, ap, sym, refl, ◌∙◌, subst, arith}
+use Rattle.std.specs.Prelude.{unwrap_or}
 use Rattle.std.specs.FinMap as map
 use Rattle.std.specs.FinSet as set
 use Rattle.ufs_bitmap.specs.Blocks.{BlockSet}
 use Rattle.ufs_bitmap.specs.Taking.{has}
 use Rattle.ufs_durable.specs.Standing.{IsReadable}
-use Rattle.ufs_durable.specs.State.{DurableState, blocks_held}
-use Rattle.ufs_file.specs.Hand.{FileState}
+use Rattle.ufs_durable.specs.State.{IsNoted, whole_of}
+use Rattle.ufs_file.specs.Hand.{FileState, whole_as}
 use Rattle.ufs_image.specs.Catalog.{IsInode}
 use Rattle.ufs_layout.specs.Superblock.{geometry_of}
 use Rattle.ufs_layout.specs.declared.geometry.Geometry.{Geometry}
 use Rattle.ufs_ledger.specs.Kept.{Counts, IsLedgerKept}
 use Rattle.ufs_ledger.specs.Laws.{EntriesKeep}
 use Rattle.ufs_ledger.specs.Ledger.{Ledger}
+use Rattle.ufs_model.specs.FileBytes.{bytes_of}
 use Rattle.ufs_model.specs.History.{IsLegal, tree_after}
 use Rattle.ufs_model.specs.PosixTree.{IsTree, PosixTree}
 use Rattle.ufs_model.specs.declared.data.Entry.{Entry}
 use Rattle.ufs_model.proofs.Facts.Lookups.{there_or_not}
 use Rattle.ufs_name_log.specs.Names.{TablesNameSoundly}
 use Rattle.ufs_name_tree.specs.Notes.{GoesByNotes}
-use Rattle.ufs_names.specs.Calls.{no_bytes}
+use Rattle.ufs_names.specs.Calls.{HasNoByte, no_bytes}
 use Rattle.ufs_prefix.specs.Changes.{asks_commit}
 use Rattle.ufs_prefix.specs.StepLaws.{OthersAcknowledgeNothing}
 use Rattle.ufs_store.specs.State.{StoreState, geometry_of_store}
@@ -28,9 +30,10 @@ use Rattle.ufs_stored.specs.OnDisk.{AreReadable, HasStopped, IsGoing, IsOnDisk}
 use Rattle.ufs_stored.specs.Parts.{Parts, durable_in}
 use Rattle.ufs_stored.specs.Sound.{IsSoundServer}
 use Rattle.ufs_stored.specs.Stored.{AreNamesStored, IsFileWhole, IsStored}
+use Rattle.ufs_stored.proofs.Whole.{tree_has, tree_has_none}
 use Rattle.ufs_names_stored.specs.Laws.{RequestsAreOnDisk}
 use Rattle.ufs_names_stored.specs.Requests.{IsNamesRequest, StaysOrEmptied}
-use Rattle.ufs_names_stored.proofs.Emptied.{emptied_whole}
+use Rattle.ufs_names_stored.proofs.Emptied.{emptied_noted, emptied_whole}
 use Rattle.ufs_names_stored.proofs.Named.{sound_then}
 use Rattle.ufs_names_stored.proofs.NewFiles.{is_empty, is_next, is_unknown}
 use Rattle.ufs_names_stored.proofs.Numbers.{in_table, keeps_numbers, none_yet, parts_now}
@@ -45,6 +48,17 @@ module _ (g : Geometry) (keeps : EntriesKeep g) (others : OthersAcknowledgeNothi
   abbrev u : PosixTree
   u = tree_after start (history ++ entry ∷ [])
 
+  -- a file that is as it was has the bytes that it had
+  same_bytes : (f : ℕ) (o s : FileState) → map.get p.files f ≡ Some o → map.get next.files f ≡ Some s → s ≡ o → map.get u.bytes f ≡ map.get t.bytes f
+  same_bytes f o s was here same = by (r.go_on.stays f o s was here)
+    where
+      by : ((s ≡ o) × (map.get u.bytes f ≡ map.get t.bytes f)) ⊎ HasNoByte u f o.inode s → map.get u.bytes f ≡ map.get t.bytes f
+      by (inl both) = both.1
+      by (inr none) =
+          let of = r.before.files f o was in
+          let empty = tree_has_none t f o of (ap (λ (h : FileState). h.content.bytes) (sym same ∙ none.0)) in
+          none.1 ∙ sym (tree_has t f o of ∙ ap Some empty)
+
   module _ (l : Ledger) (k : Counts) (same : geometry_of l.superblock ≡ g) (st : IsStored l unassigned start history k p) where
     -- no file that is still to be born has an inode on the disk
     unborn : (f : ℕ) → t.next ≤ f → k.numbers.inode f ≡ None
@@ -58,12 +72,18 @@ module _ (g : Geometry) (keeps : EntriesKeep g) (others : OthersAcknowledgeNothi
         (λ s state was. sound_then g tables p.names.tree next.names.tree r.was_table r.table lent go sound.counted r.counted s state was)
         (keeps_numbers t u p next lent left r k.numbers unborn go) r.after.inodes st)
 
-    file_now : (f : ℕ) (s : FileState) → map.get next.files f ≡ Some s → ((o : FileState) × (map.get p.files f ≡ Some o)) ⊎ (map.get p.files f ≡ None) → StaysOrNew l k.numbers p next f s
+    file_now : (f : ℕ) (s : FileState) → map.get next.files f ≡ Some s → ((o : FileState) × (map.get p.files f ≡ Some o)) ⊎ (map.get p.files f ≡ None) → StaysOrNew t u l k.numbers p next f s
     file_now f s here (inl at) = by (r.stay f at.0 s at.1 here)
       where
-        by : StaysOrEmptied p next at.0 s → StaysOrNew l k.numbers p next f s
-        by (inl is) = inl (at.1 ∙ ap Some (sym is.0), is.1 ∙ ap (durable_in p.commits) (sym is.0))
-        by (inr cut) = inr (inr (subst (IsFileWhole l k.numbers) (sym cut.1) (emptied_whole (durable_in p.commits at.0) l k.numbers (st.each f at.0 at.1))))
+        none : s ≡ no_bytes at.0.file at.0.inode → bytes_of u.bytes f ≡ []
+        none is = tree_has_none u f s (r.files f s here) (ap (λ (h : FileState). h.content.bytes) is)
+
+        by : StaysOrEmptied p next at.0 s → StaysOrNew t u l k.numbers p next f s
+        by (inl is) = inl (at.1 ∙ ap Some (sym is.0), is.1 ∙ ap (durable_in p.commits) (sym is.0), same_bytes f at.0 s at.1 here is.0)
+        by (inr cut) = inr (inr (
+          subst IsNoted (sym cut.1) (emptied_noted (durable_in p.commits at.0) (st.noted f at.0 at.1)),
+          subst (IsFileWhole l k.numbers) (sym (λ i. whole_of (none cut.0 i) (cut.1 i))) (emptied_whole (whole_of (bytes_of t.bytes f) (durable_in p.commits at.0)) l k.numbers (st.each f at.0 at.1)),
+        ))
     file_now f s here (inr none) =
         let number = (r.files f s here).0 in
         let at = in_table t u p next lent left r f s here in
@@ -91,17 +111,17 @@ module _ (g : Geometry) (keeps : EntriesKeep g) (others : OthersAcknowledgeNothi
       }
 
   -- a file that stays without being emptied is read as before; one that is empty has nothing to read
-  readable_now : (l : Ledger) → AreReadable l p → AreReadable l next
+  readable_now : (l : Ledger) → AreReadable l t p → AreReadable l u next
   readable_now l reads f s here = by (there_or_not (map.get p.files f))
     where
-      empty : (h : FileState) → s ≡ no_bytes h.file h.inode → IsReadable l s
-      empty h is = subst (IsReadable l) (sym is) (record { blocks = λ place block at clean. (let none = at in absurd cc); clean = λ place block at clean. (let none = at in absurd cc) })
+      empty : (h : FileState) → s ≡ no_bytes h.file h.inode → IsReadable l (whole_as (bytes_of u.bytes f) s)
+      empty h is = subst (λ (x : FileState). IsReadable l (whole_as (bytes_of u.bytes f) x)) (sym is) (record { blocks = λ place block at clean. (let none = at in absurd cc); clean = λ place block at clean. (let none = at in absurd cc) })
 
-      stays : (o : FileState) → map.get p.files f ≡ Some o → StaysOrEmptied p next o s → IsReadable l s
-      stays o was (inl same) = subst (IsReadable l) (sym same.0) (reads f o was)
+      stays : (o : FileState) → map.get p.files f ≡ Some o → StaysOrEmptied p next o s → IsReadable l (whole_as (bytes_of u.bytes f) s)
+      stays o was (inl same) = subst (IsReadable l) (sym (λ i. whole_as (unwrap_or (same_bytes f o s was here same.0 i) []) (same.0 i))) (reads f o was)
       stays o was (inr cut) = empty o cut.0
 
-      by : ((o : FileState) × (map.get p.files f ≡ Some o)) ⊎ (map.get p.files f ≡ None) → IsReadable l s
+      by : ((o : FileState) × (map.get p.files f ≡ Some o)) ⊎ (map.get p.files f ≡ None) → IsReadable l (whole_as (bytes_of u.bytes f) s)
       by (inl at) = stays at.0 at.1 (r.stay f at.0 s at.1 here)
       by (inr none) = empty (no_bytes f s.inode) (is_empty t u p next lent left r f s none here)
 

@@ -22,8 +22,9 @@ use Rattle.ufs_model.specs.declared.data.Ask.{Ask}
 use Rattle.ufs_model.specs.declared.data.Desc.{Desc}
 use Rattle.ufs_model.specs.declared.data.Reply.{Reply}
 use Rattle.ufs_model.proofs.Facts.Lookups.{from_some, same_some, there_or_not}
-use Rattle.ufs_names.specs.Calls.{no_bytes}
+use Rattle.ufs_names.specs.Calls.{HasNoByte, no_bytes}
 use Rattle.ufs_names.specs.Space.{AreApart}
+use Rattle.ufs_names.proofs.WholeFiles.{whole_served}
 use Rattle.ufs_stored.specs.Parts.{Commits, FileOwns, NamesOwn, OneFile, Parts, TheNames, ThePool, committed_as, durable_in}
 use Rattle.ufs_stored.specs.Sound.{IsSoundServer}
 use Rattle.ufs_stored.specs.Stored.{ArePartsOf}
@@ -124,11 +125,11 @@ module _ (g : Geometry) (u : BlockSet) (t : PosixTree) (ask : Ask) (p next : Par
       cut_now cut =
           let told = h.settled.emptied f r c is here (ap (λ (o : FileState). o.extents) cut) (ap (λ (o : FileState). o.content.bytes) cut) known in
           let mine : r ≡ no_bytes s.file s.inode = cut ∙ ap (λ (n : ℕ). no_bytes n s.inode) (sym number) in
-          inr (mine, durable_is next.commits f r (emptied_commits c) (h.served.files f r here).0 told ∙ ap (λ (o : FileState). state_of o (emptied_commits c)) mine ∙ ap emptied (sym (durable_is p.commits f s c number known)))
+          inr (mine, durable_is next.commits f r (emptied_commits c) (h.served.files f r here).number told ∙ ap (λ (o : FileState). state_of o (emptied_commits c)) mine ∙ ap emptied (sym (durable_is p.commits f s c number known)))
 
-      touched_stays : (r ≡ s) ⊎ (r ≡ no_bytes f s.inode) → StaysOrEmptied p next s r
-      touched_stays (inl same) = same_still same s.extents s.content.bytes refl refl
-      touched_stays (inr cut) = cut_now cut
+      touched_stays : ((r ≡ s) × (map.get (posix t ask.client ask.op).0.bytes f ≡ map.get t.bytes f)) ⊎ HasNoByte (posix t ask.client ask.op).0 f s.inode r → StaysOrEmptied p next s r
+      touched_stays (inl same) = same_still same.0 s.extents s.content.bytes refl refl
+      touched_stays (inr cut) = cut_now cut.0
 
     stay : StaysOrEmptied p next s r
     stay = by (touched_or_not f)
@@ -198,7 +199,7 @@ module _ (g : Geometry) (u : BlockSet) (t : PosixTree) (ask : Ask) (p next : Par
   is_request = record {
     before = parts;
     after = h.served.goes_on;
-    files = h.served.files;
+    files = whole_served t ask next.names p.files next.files reply desc parts.files h.served;
     go_on = h.served.go_on;
     inodes = h.inodes parts.inodes;
     was_table = h.was_table;

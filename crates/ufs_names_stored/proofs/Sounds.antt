@@ -32,7 +32,7 @@ inode_number g inode count counted at =
 
 new_sound : (g : Geometry) (f inode : ℕ) → is_inode_number g inode ≡ true → IsFileSound g (state_of (no_bytes f inode) (committed_as (no_bytes f inode)))
 new_sound g f inode is = record {
-  noted = record { inode = refl; runs = refl; size = refl; marks = refl; apart = record { absent = λ b held. absurd (clash _ held (has-none b)); once = distinct-none } };
+  noted = record { inode = refl; runs = refl; size = refl; marks = refl; apart = record { absent = λ b held. absurd (clash _ held (has-none b)); once = distinct-none }; held = refl; written = λ place on. on };
   once = distinct-none;
   inode = is;
 }
