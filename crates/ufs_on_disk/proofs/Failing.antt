@@ -9,7 +9,7 @@ use Rattle.std.proofs.lemmas.List.{append-nil, get_or_past}
 use Rattle.ufs_disk.specs.Disk.{Cell, possible}
 use Rattle.ufs_disk.specs.Moments.{Moments, reads}
 use Rattle.ufs_extent.specs.Runs.{blocks_of}
-use Rattle.ufs_file.specs.Hand.{FileState}
+use Rattle.ufs_file.specs.Hand.{FileState, whole_as}
 use Rattle.ufs_files.proofs.MapLemmas.{one_or_apart}
 use Rattle.ufs_ilog.specs.Deltas.{IsDelta}
 use Rattle.ufs_image.specs.Images.{block_at}
@@ -21,13 +21,15 @@ use Rattle.ufs_ledger.specs.Kept.{Counts, IsLedgerKept}
 use Rattle.ufs_ledger.specs.Ledger.{HasByte, IsLedgerOf, IsMixOf, Ledger}
 use Rattle.ufs_ledger.proofs.Mixing.{has_byte_last}
 use Rattle.ufs_ledger.proofs.Promise.{fewer_kept}
+use Rattle.ufs_model.specs.FileBytes.{bytes_of}
+use Rattle.ufs_model.specs.History.{tree_after}
 use Rattle.ufs_model.specs.PosixTree.{PosixTree}
 use Rattle.ufs_model.specs.declared.data.Entry.{Entry}
 use Rattle.ufs_model.proofs.Facts.Lookups.{same_some}
 use Rattle.ufs_prefix.specs.FileChanges.{byte_at}
 use Rattle.ufs_durable.specs.Committing.{FilesMayCommitNext, FitsInode, HasToCommit, HasTreeBytes, IsFileBy, StagesAreKept, WritesAreKept}
 use Rattle.ufs_durable.specs.Standing.{DirtyMayBeWritten, HaveOnly, StandsFor}
-use Rattle.ufs_durable.specs.State.{DurableState}
+use Rattle.ufs_durable.specs.State.{DurableState, whole_of}
 use Rattle.ufs_durable.specs.Writes.{BlockWrite, HasTriedOne, MayWriteAll, at_moments, with_writes, writes_of}
 use Rattle.ufs_durable.proofs.Behind.{same_now, same_superblock, writes_append}
 use Rattle.ufs_durable.proofs.Cells.{IsElsewhere, clean_elsewhere, untouched}
@@ -44,7 +46,7 @@ use Rattle.ufs_stored.proofs.FileCommits.{other_file_is}
 use Rattle.ufs_stored.proofs.Reading.{begun_readable, home_readable, settled_readable, stored_readable}
 use Rattle.ufs_on_disk.specs.Syncs.{FailedSyncsGoOn, HasFailed}
 use Rattle.ufs_on_disk.proofs.Fronts.{delta_of, same_or_not}
-use Rattle.ufs_on_disk.proofs.Live.{file_by_history, file_on_disk, file_to_commit, whole_file}
+use Rattle.ufs_on_disk.proofs.Live.{file_by_history, file_on_disk, file_to_commit, same_writes, whole_file}
 
 -- what holds of one of them
 one_of : {X : Type 0} (P : X → Type 0) (xs ys : List X) (y : X) → AllByRecursion P (xs ++ y ∷ ys) → P y
@@ -114,6 +116,13 @@ module _ (old new : StoreState) (start : PosixTree) (history : List Entry) (p : 
   abbrev x : DurableState
   x = durable_in p.commits f
 
+  -- with the tree's bytes
+  abbrev w : DurableState
+  w = whole_of (bytes_of (tree_after start history).bytes f.file) (durable_in p.commits f)
+
+  same_write : writes_of w.file ≡ writes_of f
+  same_write = same_writes old start history p f at live names
+
   abbrev go : IsGoing old start history p
   go = names.going
 
@@ -123,19 +132,22 @@ module _ (old new : StoreState) (start : PosixTree) (history : List Entry) (p : 
   abbrev k : Counts
   k = names.going.counts
 
-  whole : IsFileWhole l k.numbers x
+  whole : IsFileWhole l k.numbers w
   whole = whole_file old start history p f at live names
 
-  on_disk : (k.numbers.inode f.file ≡ Some f.inode) × StandsFor l x
+  on_disk : (k.numbers.inode f.file ≡ Some f.inode) × StandsFor l w
   on_disk = file_on_disk old start history p f at live names
 
-  by_history : IsFileBy f start history k
+  by_history : IsFileBy w.file start history k
   by_history = file_by_history old start history p f at live names tree_bytes
 
   form : geometry_of l.superblock ≡ geometry_of_store new
   form = go.formed ∙ sym told.geometry
 
-  stops : (m : Ledger) (maybe : Counts) → geometry_of m.superblock ≡ geometry_of l.superblock → IsLedgerOf new.sectors new.moments.state m → IsLedgerKept m start history k maybe → AreReadable m p → HasStopped new start history p
+  abbrev tree : PosixTree
+  tree = tree_after start history
+
+  stops : (m : Ledger) (maybe : Counts) → geometry_of m.superblock ≡ geometry_of l.superblock → IsLedgerOf new.sectors new.moments.state m → IsLedgerKept m start history k maybe → AreReadable m tree p → HasStopped new start history p
   stops m maybe same has kept clean = record {
     stopped = told.stopped;
     ledger = m;
@@ -159,45 +171,45 @@ module _ (old new : StoreState) (start : PosixTree) (history : List Entry) (p : 
           let same : h ≡ f = same_some h f (sym here ∙ ap (map.get p.files) is ∙ at) in
           clean_elsewhere f whole.noted.apart.once whole.noted.marks place block (subst (λ (s : FileState). slice_get (blocks_of s.extents) place ≡ Some block) same has) l
           (subst (λ (s : FileState). slice_get s.content.dirty place ≡ Some false) same clean)
-      by (inr not) = off_all x (durable_in p.commits h) whole.noted (other_file_is l old.unassigned.free start history k p f at go.stored file h here not).blocks place block has
+      by (inr not) = off_all x (durable_in p.commits h) (go.stored.noted f.file f at) (other_file_is l old.unassigned.free start history k p f at go.stored file h here not).blocks place block has
 
-  written_readable : (before behind : List BlockWrite) → writes_of f ≡ before ++ behind → AreReadable (with_writes before l) p
+  written_readable : (before behind : List BlockWrite) → writes_of f ≡ before ++ behind → AreReadable (with_writes before l) tree p
   written_readable before behind split file h here =
-      readable_on l (with_writes before l) h (λ block was. same_block l (with_writes before l) block (ap geometry_of (same_superblock before l)) (same_now before l) was)
+      readable_on l (with_writes before l) (whole_as (bytes_of tree.bytes file) h) (λ block was. same_block l (with_writes before l) block (ap geometry_of (same_superblock before l)) (same_now before l) was)
       (λ place block has clean free bytes only. subst (λ (c : Cell). HaveOnly (possible c) bytes)
       (sym (untouched before l block (front_all (IsElsewhere block) before behind (subst (AllByRecursion (IsElsewhere block)) split (elsewhere file h here place block has clean))))) only)
       (stored_readable l old.unassigned.free start history k p go.stored file h here)
 
-  all_readable : AreReadable (with_writes (writes_of f) l) p
+  all_readable : AreReadable (with_writes (writes_of f) l) tree p
   all_readable = written_readable (writes_of f) [] (sym (append-nil (writes_of f)))
 
-  one_readable : (one : HasTriedOne new (writes_of f) l) → AreReadable (tried one.one.block one.one.bytes one.reads (with_writes one.before l)) p
+  one_readable : (one : HasTriedOne new (writes_of f) l) → AreReadable (tried one.one.block one.one.bytes one.reads (with_writes one.before l)) tree p
   one_readable one file h here =
-      readable_tried (with_writes one.before l) one.one.block one.one.bytes one.reads h
+      readable_tried (with_writes one.before l) one.one.block one.one.bytes one.reads (whole_as (bytes_of tree.bytes file) h)
       (λ place block has clean. one_of (IsElsewhere block) one.before one.behind one.one (subst (AllByRecursion (IsElsewhere block)) one.whole (elsewhere file h here place block has clean)))
       (written_readable one.before (one.one ∷ one.behind) one.whole file h here)
 
   behind_writes : (before behind : List BlockWrite) → writes_of f ≡ before ++ behind → IsLedgerKept (with_writes before l) start history k k
-  behind_writes before behind split = writes old l x before behind start history k k go.has whole.noted on_disk.1 whole.own by_history split go.stored.kept
+  behind_writes before behind split = writes old l w before behind start history k k go.has whole.noted on_disk.1 whole.own by_history (same_write ∙ split) go.stored.kept
 
   at_write : HasTriedOne new (writes_of f) l → HasStopped new start history p
   at_write one =
-      let ready : IsReady l one.one = one_of (IsReady l) one.before one.behind one.one (subst (AllByRecursion (IsReady l)) one.whole (writes_ready l x whole.noted on_disk.1)) in
+      let ready : IsReady l one.one = one_of (IsReady l) one.before one.behind one.one (subst (AllByRecursion (IsReady l)) (same_write ∙ one.whole) (writes_ready l w whole.noted on_disk.1)) in
       let split : writes_of f ≡ (one.before ++ one.one ∷ []) ++ one.behind = one.whole ∙ sym (append_assoc one.before (one.one ∷ []) one.behind) in
       let kept = subst (λ (m : Ledger). IsLedgerKept m start history k k) (writes_append one.before (one.one ∷ []) l) (behind_writes (one.before ++ one.one ∷ []) one.behind split) in
       stops (tried one.one.block one.one.bytes one.reads (with_writes one.before l)) k (ap geometry_of (same_superblock one.before l)) one.has
       (tried_kept (with_writes one.before l) one.one one.reads start history k ready.1 (one.mixed ready.0.unheld) kept) (one_readable one)
 
-  begun_read : (between : Moments) (w : Ledger) → AreReadable w p → AreReadable (beginning_next (at_moments between old) w) p
-  begun_read between w clean = begun_readable w (beginning_next (at_moments between old) w).maybe (block_at (home_of w (reads between))) p clean
+  begun_read : (between : Moments) (w : Ledger) → AreReadable w tree p → AreReadable (beginning_next (at_moments between old) w) tree p
+  begun_read between w clean = begun_readable w (beginning_next (at_moments between old) w).maybe (block_at (home_of w (reads between))) tree p clean
 
-  home_read : (between : Moments) (w : Ledger) → geometry_of (next_superblock (at_moments between old)) ≡ geometry_of w.superblock → AreReadable w p → AreReadable (checkpointed (at_moments between old) w) p
-  home_read between w same clean = home_readable w (next_superblock (at_moments between old)) (block_at (home_of w (reads between))) p same clean
+  home_read : (between : Moments) (w : Ledger) → geometry_of (next_superblock (at_moments between old)) ≡ geometry_of w.superblock → AreReadable w tree p → AreReadable (checkpointed (at_moments between old) w) tree p
+  home_read between w same clean = home_readable w (next_superblock (at_moments between old)) (block_at (home_of w (reads between))) tree p same clean
 
-  settled_read : (t : Committed) (w : Ledger) → AreReadable w p → AreReadable (committing t (settled w)) p
-  settled_read t w clean = settled_readable w (committing t (settled w)).maybe p clean
+  settled_read : (t : Committed) (w : Ledger) → AreReadable w tree p → AreReadable (committing t (settled w)) tree p
+  settled_read t w clean = settled_readable w (committing t (settled w)).maybe tree p clean
 
-  at_stage : (between : Moments) (records : List LogRecord) (b : Bool) → (w : Ledger) → geometry_of w.superblock ≡ geometry_of l.superblock → AreReadable w p → (t : Committed) → geometry_of (next_superblock (at_moments between old)) ≡ geometry_of l.superblock
+  at_stage : (between : Moments) (records : List LogRecord) (b : Bool) → (w : Ledger) → geometry_of w.superblock ≡ geometry_of l.superblock → AreReadable w tree p → (t : Committed) → geometry_of (next_superblock (at_moments between old)) ≡ geometry_of l.superblock
       → AllByRecursion (λ (m : Ledger). (maybe : Counts) × IsLedgerKept m start history k maybe) (if b then commit_stages t w else w ∷ beginning_next (at_moments between old) w ∷ commit_stages t (checkpointed (at_moments between old) w))
       → HasAny new (if b then commit_stages t w else w ∷ beginning_next (at_moments between old) w ∷ commit_stages t (checkpointed (at_moments between old) w)) → HasStopped new start history p
   at_stage between records true w same clean t next kept (inl is) = stops w kept.0.0 same is kept.0.1 clean
@@ -213,7 +225,7 @@ module _ (old new : StoreState) (start : PosixTree) (history : List Entry) (p : 
   failed = by (same_or_not x.log.noted x.log.committed)
     where
       can : MayWriteAll l (writes_of f)
-      can = dirty l x whole.noted on_disk.1
+      can = subst (MayWriteAll l) same_write (dirty l w whole.noted on_disk.1)
 
       by : (x.log.noted ≡ x.log.committed) ⊎ (x.log.noted ≢ x.log.committed) → HasStopped new start history p
       by (inl same) = empty (told.same same l go.has can)
@@ -222,9 +234,9 @@ module _ (old new : StoreState) (start : PosixTree) (history : List Entry) (p : 
           empty (inl one) = at_write one
           empty (inr is) = stops (with_writes (writes_of f) l) k (ap geometry_of (same_superblock (writes_of f) l)) is (behind_writes (writes_of f) [] (sym (append-nil (writes_of f)))) all_readable
       by (inr not) = full (told.changed (delta_of x.log.inode x.log.committed x.log.noted).0 (delta_of x.log.inode x.log.committed x.log.noted).1 not l go.has can
-          (may old (delta_of x.log.inode x.log.committed x.log.noted).0 l x [] (to_commit (delta_of x.log.inode x.log.committed x.log.noted).0 (delta_of x.log.inode x.log.committed x.log.noted).1)))
+          (may old (delta_of x.log.inode x.log.committed x.log.noted).0 l w [] (to_commit (delta_of x.log.inode x.log.committed x.log.noted).0 (delta_of x.log.inode x.log.committed x.log.noted).1)))
         where
-          to_commit : (records : List LogRecord) → IsDelta x.log.inode x.log.committed x.log.noted records → HasToCommit old records l x
+          to_commit : (records : List LogRecord) → IsDelta x.log.inode x.log.committed x.log.noted records → HasToCommit old records l w
           to_commit = file_to_commit old start history p f at live names fits
 
           full : HasTriedOne new (writes_of f) l ⊎ ((between : Moments) × HasAny new (stages (at_moments between old) (delta_of x.log.inode x.log.committed x.log.noted).0 (with_writes (writes_of f) l))) → HasStopped new start history p
@@ -232,7 +244,8 @@ module _ (old new : StoreState) (start : PosixTree) (history : List Entry) (p : 
           full (inr any) =
               let change = delta_of x.log.inode x.log.committed x.log.noted in
               at_stage any.0 change.0 (has_room (at_moments any.0 old) change.0) (with_writes (writes_of f) l) (ap geometry_of (same_superblock (writes_of f) l)) all_readable (next_commit (at_moments any.0 old) change.0) (ap geometry_of (sym go.has.superblock_is))
-              (staged old any.0 change.0 l x start history k (to_commit change.0 change.1) by_history go.stored.tree go.stored.legal go.stored.kept) any.1
+              (subst (λ (ws : List BlockWrite). AllByRecursion (λ (m : Ledger). (maybe : Counts) × IsLedgerKept m start history k maybe) (stages (at_moments any.0 old) change.0 (with_writes ws l))) same_write
+              (staged old any.0 change.0 l w start history k (to_commit change.0 change.1) by_history go.stored.tree go.stored.legal go.stored.kept)) any.1
 
 pub failed_syncs_go_on : WritesAreKept → StagesAreKept → FilesMayCommitNext → DirtyMayBeWritten → HasTreeBytes → FailedSyncsGoOn
 failed_syncs_go_on writes staged may dirty tree_bytes old new start history p f at live fits told names = failed old new start history p f at live fits told names writes staged may dirty tree_bytes

@@ -1,5 +1,5 @@
 -- What a crash leaves while a file is committed.
-use Rattle.std.proofs.Common.{◌≡◌, ◌≢◌, ◌⊎◌, inl, inr, Bool, true, false, List, [], ◌∷◌, Some, ap, sym, ◌∙◌}
+use Rattle.std.proofs.Common.{◌≡◌, ◌≢◌, ◌⊎◌, inl, inr, Bool, true, false, List, [], ◌∷◌, Some, ap, sym, ◌∙◌, subst}
 use Rattle.std.specs.Prelude.{IsSome, if◌then◌else◌}
 use Rattle.std.specs.List.{AllByRecursion}
 use Rattle.std.specs.FinMap as map
@@ -13,12 +13,14 @@ use Rattle.ufs_layout.specs.declared.records.LogRecord.{LogRecord}
 use Rattle.ufs_ledger.specs.Changes.{committing, settled}
 use Rattle.ufs_ledger.specs.Kept.{Counts, IsLedgerKept}
 use Rattle.ufs_ledger.specs.Ledger.{Ledger}
+use Rattle.ufs_model.specs.FileBytes.{bytes_of}
+use Rattle.ufs_model.specs.History.{tree_after}
 use Rattle.ufs_model.specs.PosixTree.{PosixTree}
 use Rattle.ufs_model.specs.declared.data.Entry.{Entry}
 use Rattle.ufs_durable.specs.Committing.{FilesMayCommitNext, FitsInode, HasToCommit, HasTreeBytes, IsFileBy, StagesAreKept, WritesAreKept}
 use Rattle.ufs_durable.specs.Standing.{DirtyMayBeWritten, StandsFor}
-use Rattle.ufs_durable.specs.State.{DurableState}
-use Rattle.ufs_durable.specs.Writes.{MayWriteAll, at_moments, with_writes, writes_of}
+use Rattle.ufs_durable.specs.State.{DurableState, whole_of}
+use Rattle.ufs_durable.specs.Writes.{BlockWrite, MayWriteAll, at_moments, with_writes, writes_of}
 use Rattle.ufs_durable.proofs.Behind.{same_superblock}
 use Rattle.ufs_store.specs.Ledgers.{beginning_next, checkpointed, commit_stages, stages}
 use Rattle.ufs_store.specs.State.{StoreState, geometry_of_store, has_room, next_commit, next_superblock}
@@ -28,7 +30,7 @@ use Rattle.ufs_stored.specs.Parts.{Parts, durable_in}
 use Rattle.ufs_stored.specs.Stored.{IsFileWhole}
 use Rattle.ufs_on_disk.specs.Syncs.{LeavesStages}
 use Rattle.ufs_on_disk.proofs.Fronts.{delta_of, same_or_not}
-use Rattle.ufs_on_disk.proofs.Live.{file_by_history, file_on_disk, file_to_commit, whole_file}
+use Rattle.ufs_on_disk.proofs.Live.{file_by_history, file_on_disk, file_to_commit, same_writes, whole_file}
 
 -- ---- each stage
 
@@ -51,6 +53,13 @@ module _ (g : Geometry) (keeps : Bool) (old new : StoreState) (start : PosixTree
   abbrev x : DurableState
   x = durable_in p.commits f
 
+  -- with the tree's bytes
+  abbrev w : DurableState
+  w = whole_of (bytes_of (tree_after start history).bytes f.file) (durable_in p.commits f)
+
+  same_write : writes_of w.file ≡ writes_of f
+  same_write = same_writes old start history p f at live names
+
   abbrev go : IsGoing old start history p
   go = names.going
 
@@ -60,26 +69,26 @@ module _ (g : Geometry) (keeps : Bool) (old new : StoreState) (start : PosixTree
   abbrev k : Counts
   k = names.going.counts
 
-  whole : IsFileWhole l k.numbers x
+  whole : IsFileWhole l k.numbers w
   whole = whole_file old start history p f at live names
 
-  on_disk : (k.numbers.inode f.file ≡ Some f.inode) × StandsFor l x
+  on_disk : (k.numbers.inode f.file ≡ Some f.inode) × StandsFor l w
   on_disk = file_on_disk old start history p f at live names
 
-  by_history : IsFileBy f start history k
+  by_history : IsFileBy w.file start history k
   by_history = file_by_history old start history p f at live names tree_bytes
 
   can : MayWriteAll l (writes_of f)
-  can = dirty l x whole.noted on_disk.1
+  can = subst (MayWriteAll l) same_write (dirty l w whole.noted on_disk.1)
 
   -- behind the writes
   formed : geometry_of (with_writes (writes_of f) l).superblock ≡ g
   formed = ap geometry_of (same_superblock (writes_of f) l) ∙ go.formed ∙ form
 
   kept : IsLedgerKept (with_writes (writes_of f) l) start history k k
-  kept = writes old l x (writes_of f) [] start history k k go.has whole.noted on_disk.1 whole.own by_history (sym (append-nil (writes_of f))) go.stored.kept
+  kept = writes old l w (writes_of f) [] start history k k go.has whole.noted on_disk.1 whole.own by_history (same_write ∙ sym (append-nil (writes_of f))) go.stored.kept
 
-  to_commit : (records : List LogRecord) → IsDelta x.log.inode x.log.committed x.log.noted records → HasToCommit old records l x
+  to_commit : (records : List LogRecord) → IsDelta x.log.inode x.log.committed x.log.noted records → HasToCommit old records l w
   to_commit = file_to_commit old start history p f at live names fits
 
   pub explained : IsExplainedBetween keeps old.sectors start history old.moments new.moments
@@ -90,8 +99,9 @@ module _ (g : Geometry) (keeps : Bool) (old new : StoreState) (start : PosixTree
           ledgers keeps old.sectors old.moments new.moments (with_writes (writes_of f) l) start history (record { now = k; maybe = k; formed = formed; kept = kept }) (told.same same l go.has can)
       by (inr not) =
           let change = delta_of x.log.inode x.log.committed x.log.noted in
-          let run = told.changed change.0 change.1 not l go.has can (may old change.0 l x [] (to_commit change.0 change.1)) in
+          let run = told.changed change.0 change.1 not l go.has can (may old change.0 l w [] (to_commit change.0 change.1)) in
           any keeps old.sectors old.moments new.moments (stages (at_moments run.0 old) change.0 (with_writes (writes_of f) l)) start history
           (each_stage g start history k (at_moments run.0 old) (next_commit (at_moments run.0 old) change.0) (with_writes (writes_of f) l) (has_room (at_moments run.0 old) change.0) formed
-          (ap geometry_of (sym go.has.superblock_is) ∙ go.formed ∙ form) (staged old run.0 change.0 l x start history k (to_commit change.0 change.1) by_history go.stored.tree go.stored.legal go.stored.kept))
+          (ap geometry_of (sym go.has.superblock_is) ∙ go.formed ∙ form) (subst (λ (ws : List BlockWrite). AllByRecursion (λ (m : Ledger). (maybe : Counts) × IsLedgerKept m start history k maybe) (stages (at_moments run.0 old) change.0 (with_writes ws l))) same_write
+          (staged old run.0 change.0 l w start history k (to_commit change.0 change.1) by_history go.stored.tree go.stored.legal go.stored.kept)))
           run.1

@@ -7,25 +7,30 @@ use Rattle.std.proofs.lemmas.Bool.Decides.{nat_tests}
 use Rattle.ufs_bitmap.specs.Blocks.{BlockSet}
 use Rattle.ufs_bitmap.specs.Taking.{has, set_of}
 use Rattle.ufs_bitmap.proofs.SetLemmas.{has-insert}
+use Rattle.ufs_file.specs.Content.{IsContentOf}
 use Rattle.ufs_file.specs.Hand.{FileState}
 use Rattle.ufs_ilog.specs.Deltas.{IsDelta}
 use Rattle.ufs_layout.specs.declared.records.LogRecord.{LogRecord}
 use Rattle.ufs_ledger.specs.Kept.{Counts}
 use Rattle.ufs_ledger.specs.Laws.{raised}
 use Rattle.ufs_ledger.specs.Ledger.{Ledger}
+use Rattle.ufs_model.specs.FileBytes.{bytes_of}
+use Rattle.ufs_model.specs.History.{tree_after}
 use Rattle.ufs_model.specs.PosixTree.{PosixTree}
 use Rattle.ufs_model.specs.declared.data.Entry.{Entry}
 use Rattle.ufs_prefix.specs.Changes.{changes_of}
 use Rattle.ufs_durable.specs.Committing.{FilesMayCommitNext, FitsInode, all_shown}
 use Rattle.ufs_durable.specs.Standing.{DirtyMayBeWritten, StandsFor}
-use Rattle.ufs_durable.specs.State.{DurableState, file_committed}
+use Rattle.ufs_durable.specs.State.{DurableState, file_committed, whole_of}
 use Rattle.ufs_durable.specs.Writes.{HasCommitted, MayWriteAll, with_writes, writes_of}
+use Rattle.ufs_durable.proofs.Wholes.{writes_are_whole}
 use Rattle.ufs_store.specs.Ledgers.{HasLedger}
 use Rattle.ufs_store.specs.State.{StoreState}
 use Rattle.ufs_stored.specs.Laws.{FilesAreCommitted, FilesAreSettled}
 use Rattle.ufs_stored.specs.OnDisk.{HasFiles, IsGoing}
 use Rattle.ufs_stored.specs.Parts.{Parts, durable_in, with_file}
 use Rattle.ufs_stored.specs.Stored.{IsFileStored, IsFileWhole, IsStored}
+use Rattle.ufs_stored.proofs.Whole.{fits_whole, tree_may}
 use Rattle.ufs_on_disk.specs.Syncs.{FileSyncsGoOn, HasSynced}
 use Rattle.ufs_on_disk.proofs.Fronts.{delta_of, same_or_not}
 
@@ -42,11 +47,18 @@ module _ (old new : StoreState) (start : PosixTree) (history : List Entry) (p : 
   abbrev x : DurableState
   x = durable_in p.commits f
 
+  -- with the tree's bytes
+  abbrev bytes : List ℕ
+  bytes = bytes_of (tree_after start history).bytes f.file
+
+  abbrev w : DurableState
+  w = whole_of (bytes_of (tree_after start history).bytes f.file) (durable_in p.commits f)
+
   abbrev q : Parts
   q = with_file (file_committed (durable_in p.commits f)) p.pool p
 
   -- the file stands where it has its inode
-  pub stands : (l : Ledger) (k : Counts) → IsSome (k.numbers.inode f.file) → IsFileStored l k.numbers x → StandsFor l x
+  pub stands : (l : Ledger) (k : Counts) → IsSome (k.numbers.inode f.file) → IsFileStored l k.numbers w → StandsFor l w
   stands l k there (inl both) = both.1
   stands l k there (inr both) = (let no : false ≡ true = ap is_some (sym both.0) ∙ there in absurd cc)
 
@@ -60,11 +72,18 @@ module _ (old new : StoreState) (start : PosixTree) (history : List Entry) (p : 
     there : IsSome (k.numbers.inode f.file)
     there = files.names.numbered f.file live
 
-    whole : IsFileWhole go.ledger k.numbers x
+    may : IsContentOf f.content bytes
+    may = tree_may (tree_after start history) f.file f (go.stored.parts.files f.file f at)
+
+    -- what is written is the same, since what is dirty is in memory
+    same_writes : writes_of w.file ≡ writes_of f
+    same_writes = writes_are_whole f bytes (go.stored.noted f.file f at).written may
+
+    whole : IsFileWhole go.ledger k.numbers w
     whole = go.stored.each f.file f at
 
     pub may_write : DirtyMayBeWritten → MayWriteAll go.ledger (writes_of f)
-    may_write may = may go.ledger x whole.noted (stands go.ledger k there whole.stored)
+    may_write dirty = subst (MayWriteAll go.ledger) same_writes (dirty go.ledger w whole.noted (stands go.ledger k there whole.stored))
 
     shown : (file : ℕ) → has (f.file ∷ done) file ≡ true → length (changes_of file start history) ≤ raised k.files f.file (length (changes_of f.file start history)) file
     shown file is = by (file == f.file) refl
@@ -93,14 +112,14 @@ module _ (old new : StoreState) (start : PosixTree) (history : List Entry) (p : 
     }
 
     pub synced : FilesAreCommitted → FilesAreSettled → DirtyMayBeWritten → FilesMayCommitNext → FitsInode f → HasSynced old new x → HasFiles new start history q (f.file ∷ done)
-    synced committed settled may next fits told = by (same_or_not x.log.noted x.log.committed)
+    synced committed settled dirty next fits told = by (same_or_not x.log.noted x.log.committed)
       where
         by : (x.log.noted ≡ x.log.committed) ⊎ (x.log.noted ≢ x.log.committed) → HasFiles new start history q (f.file ∷ done)
-        by (inl same) = with_ledger _ told.freed (told.same same go.ledger go.has (may_write may)) (settled old go.ledger old.unassigned.free start history k p f go.has at same there go.stored)
+        by (inl same) = with_ledger _ told.freed (told.same same go.ledger go.has (may_write dirty)) (settled old go.ledger old.unassigned.free start history k p f go.has at same there go.stored)
         by (inr not) =
             let change = delta_of x.log.inode x.log.committed x.log.noted in
-            let goes = next old change.0 go.ledger x [] (record { has = go.has; noted = whole.noted; stands = stands go.ledger k there whole.stored; own = whole.own; fits = fits; delta = change.1 }) in
-            let has_it = told.changed change.0 change.1 not go.ledger go.has (may_write may) goes in
+            let goes = next old change.0 go.ledger w [] (record { has = go.has; noted = whole.noted; stands = stands go.ledger k there whole.stored; own = whole.own; fits = fits_whole bytes f may fits; delta = change.1 }) in
+            let has_it = told.changed change.0 change.1 not go.ledger go.has (may_write dirty) goes in
             with_ledger _ told.freed has_it.has (committed old has_it.between change.0 go.ledger old.unassigned.free start history k p f go.has at change.1 fits there go.stored)
 
 pub file_syncs_go_on : FilesAreCommitted → FilesAreSettled → DirtyMayBeWritten → FilesMayCommitNext → FileSyncsGoOn

@@ -6,10 +6,12 @@ use Rattle.ufs_bitmap.specs.Taking.{has}
 use Rattle.ufs_file.specs.Hand.{FileState}
 use Rattle.ufs_ledger.specs.Kept.{Counts, Numbers}
 use Rattle.ufs_ledger.specs.Ledger.{Ledger}
+use Rattle.ufs_model.specs.FileBytes.{bytes_of}
+use Rattle.ufs_model.specs.History.{tree_after}
 use Rattle.ufs_model.specs.PosixTree.{PosixTree}
 use Rattle.ufs_model.specs.declared.data.Entry.{Entry}
 use Rattle.std.proofs.Common.{List}
-use Rattle.ufs_durable.specs.State.{DurableState, blocks_held}
+use Rattle.ufs_durable.specs.State.{DurableState, IsNoted, blocks_held, whole_of}
 use Rattle.ufs_store.specs.State.{StoreState}
 use Rattle.ufs_stored.specs.OnDisk.{HasNames, IsGoing, IsOnDisk}
 use Rattle.ufs_stored.specs.Parts.{Commits, FileOwns, NamesOwn, OneFile, Owner, Owns, Parts, TheNames, ThePool, Unassigned, durable_in}
@@ -54,7 +56,8 @@ module _ (p : Parts) (commits : Commits) (tells : TellsTheSame p commits) where
     parts = record { names = st.parts.names; files = st.parts.files; inodes = st.parts.inodes; here = st.parts.here };
     names = st.names;
     counted = st.counted;
-    each = λ file f here. subst (IsFileWhole l k.numbers) (sym (tells.each file f here)) (st.each file f here);
+    noted = λ file f here. subst IsNoted (sym (tells.each file f here)) (st.noted file f here);
+    each = λ file f here. subst (IsFileWhole l k.numbers) (sym (ap (whole_of (bytes_of (tree_after start history).bytes file)) (tells.each file f here))) (st.each file f here);
     spaced = spaced l u k.numbers st.spaced;
   }
 
