@@ -117,6 +117,7 @@ module _ (sectors : ℕ) (disk : Image) (superblock : Super) (n : NamesPart) (fi
     parts = parts;
     names = inr (names none);
     counted = counted;
+    noted = λ file f at. owned.file_noted sectors disk superblock n files free orphaned image b file f at;
     each = λ file f at. owned.file_whole sectors disk superblock n files free orphaned image b file f at whole;
     spaced = owned.spaced sectors disk superblock n files free orphaned image b;
   }

@@ -97,7 +97,7 @@ module _ (sectors : ℕ) (disk : Image) (superblock : Super) (n : NamesPart) (fi
   pub root_inside : IsInode g 1
   root_inside = root_in_range g c b.opened.standing.sound some
 
-  contents : HasImage t (from_entries (walked v))
+  pub contents : HasImage t (from_entries (walked v))
   contents path = start_has_contents (paths_of (from_entries (walked v))) path ∙ get-mapped path_total path_node_of (from_entries (walked v)) path
 
   pub named : IsNameTable n.tree

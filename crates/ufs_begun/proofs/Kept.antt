@@ -38,6 +38,7 @@ use Rattle.ufs_name_log.specs.Numbers.{NamesNumberPaths}
 use Rattle.ufs_name_tree.specs.NameTable.{file_at}
 use Rattle.ufs_names.specs.NamesPart.{NamesPart}
 use Rattle.ufs_names.specs.declared.holding.Holding.{Holding}
+use Rattle.ufs_names_image.proofs.Filed.{has_bytes}
 use Rattle.ufs_names_ledger.specs.Numbers.{PartsHaveNumbers, PartsTellPaths, UnbornHaveNone, numbers_of}
 use Rattle.ufs_prefix.specs.Changes.{changes_of, file_synced, name_changes, names_after, names_synced}
 use Rattle.ufs_prefix.specs.FileChanges.{byte_at}
@@ -82,6 +83,10 @@ module _ (sectors : ℕ) (disk : Image) (superblock : Super) (n : NamesPart) (fi
   hand_at inode file e =
       let at = some_is (map.get files file) (b.opened.here inode file e) in
       (at.0, at.1, (facts.named sectors disk superblock n files free orphaned image b).once at.0.inode inode file (b.opened.read file at.0 at.1).inode e)
+
+  -- the tree has what the file was read to have
+  pub tree_has : (file : ℕ) (s : FileState) → map.get files file ≡ Some s → map.get t.bytes file ≡ Some s.content.bytes
+  tree_has file s at = has_bytes sectors disk (record { superblock = superblock; geometry = g; image = image }) c t n files b.opened.standing (facts.contents sectors disk superblock n files free orphaned image b) b.opened.table b.opened.read file s at
 
   -- ---- blocks
 
@@ -166,9 +171,7 @@ module _ (sectors : ℕ) (disk : Image) (superblock : Super) (n : NamesPart) (fi
         (there.0.inode, b.opened.names.inodes.inode file there.0 there.1)
 
     pub bytes_are : (file : ℕ) (s : FileState) → map.get files file ≡ Some s → bytes_of t.bytes file ≡ file_bytes image (c.forms s.inode)
-    bytes_are file s at =
-        let part = b.opened.parts file s at in
-        ap (λ (o : Option (List ℕ)). unwrap_or o []) (ap (map.get t.bytes) (sym part.0) ∙ part.1) ∙ (b.opened.read file s at).bytes
+    bytes_are file s at = ap (λ (o : Option (List ℕ)). unwrap_or o []) (tree_has file s at) ∙ (b.opened.read file s at).bytes
 
     shown : (file : ℕ) → IsNamed t.paths file → AlwaysShows l.blocks (shape_of c (m.inode file)) (bytes_of t.bytes file) [] 0
     shown file at =

@@ -1,12 +1,13 @@
 -- Whose each block is as a server begins, and how each file stands on its disk.
-use Rattle.std.proofs.Common.{◌≡◌, ◌≢◌, ℕ, ◌⊎◌, inl, inr, List, [], ◌∷◌, Bool, true, false, length, Option, Some, None, ap, sym, refl, ◌∙◌, subst}
+use Rattle.std.proofs.Common.{◌≡◌, ◌≢◌, ℕ, ◌⊎◌, inl, inr, List, [], ◌∷◌, Bool, true, false, length, Option, Some, None, ap, sym, refl, ◌∙◌, subst, arith}
 use Rattle.std.specs.Prelude.{◌==◌, if◌then◌else◌, nat_eq, unwrap_or}
 use Rattle.std.specs.Ordering.{nat_cmp}
 use Rattle.std.specs.List.{IsDistinct, slice_get}
 use Rattle.std.specs.FinMap as map
 use Rattle.std.specs.FinSet as set
 use Rattle.std.specs.FinSet.{contains-from_list_nat}
-use Rattle.std.proofs.lemmas.List.{append-nil}
+use Rattle.std.proofs.lemmas.List.{append-nil, length-replicate}
+use Rattle.std.proofs.lemmas.Option.{slice_get_within}
 use Rattle.ufs_base.specs.Images.{Image}
 use Rattle.ufs_bitmap.specs.Blocks.{BlockSet}
 use Rattle.ufs_bitmap.specs.Taking.{has}
@@ -16,11 +17,13 @@ use Rattle.ufs_dir_image.proofs.Tables.{holds, place_of_block}
 use Rattle.ufs_dir_tree.specs.DirTable.{blocks_at}
 use Rattle.ufs_dirs.specs.Directory.{has_block}
 use Rattle.ufs_durable.specs.Standing.{HaveOnly, IsFileBlock, StandsFor}
-use Rattle.ufs_durable.specs.State.{CommitState, DurableState, IsNoted, blocks_held, state_of}
+use Rattle.ufs_durable.specs.State.{CommitState, DurableState, IsNoted, blocks_held, state_of, whole_of}
+use Rattle.ufs_durable.proofs.Wholes.{noted_as_whole}
 use Rattle.ufs_durable.proofs.Served.{has_at}
 use Rattle.ufs_extent.specs.Runs as runs
 use Rattle.ufs_file.specs.Content.{block_bytes}
 use Rattle.ufs_file.specs.Hand.{FileState}
+use Rattle.ufs_file.proofs.ThereLemmas.{all_there}
 use Rattle.ufs_files.specs.Files.{Files}
 use Rattle.ufs_files.proofs.MapLemmas.{blocks_there}
 use Rattle.ufs_image.specs.Catalog.{Catalog, HasBlock, catalog_at}
@@ -33,6 +36,8 @@ use Rattle.ufs_ledger.specs.Changes.{opening_ledger}
 use Rattle.ufs_ledger.specs.Kept.{Numbers}
 use Rattle.ufs_ledger.specs.Ledger.{IsDataBlock, Ledger}
 use Rattle.ufs_ledger.proofs.Mounting.{of_dir}
+use Rattle.ufs_model.specs.FileBytes.{bytes_of}
+use Rattle.ufs_model.specs.PosixTree.{PosixTree}
 use Rattle.ufs_name_tree.specs.NameTable.{file_at}
 use Rattle.ufs_names.specs.NamesPart.{NamesPart}
 use Rattle.ufs_names.specs.Notes.{with_notes}
@@ -42,6 +47,7 @@ use Rattle.ufs_store.specs.Mounting.{in_use}
 use Rattle.ufs_stored.specs.Parts.{FileOwns, NamesOwn, OneFile, Owner, Owns, Parts, TheNames, ThePool, Unassigned, committed_as, durable_in}
 use Rattle.ufs_stored.specs.Sound.{IsFileSound, IsSoundServer}
 use Rattle.ufs_stored.specs.Stored.{AreSpaced, FileHasIt, IsFileWhole, IsKnownBlock}
+use Rattle.ufs_begun.specs.Parts.{start_in}
 use Rattle.ufs_begun.proofs.Facts as facts
 use Rattle.ufs_begun.proofs.Facts.{Begins}
 use Rattle.ufs_begun.proofs.Kept as kept
@@ -59,6 +65,9 @@ module _ (sectors : ℕ) (disk : Image) (superblock : Super) (n : NamesPart) (fi
 
   abbrev c : Catalog
   c = catalog_at g image
+
+  abbrev t : PosixTree
+  t = start_in (record { superblock = superblock; geometry = g; image = image })
 
   abbrev pub p : Parts
   p = record { names = with_notes (Some []) n; files = files; commits = map.empty; pool = set.empty; fresh = []; dropped = orphaned }
@@ -215,7 +224,19 @@ module _ (sectors : ℕ) (disk : Image) (superblock : Super) (n : NamesPart) (fi
     blocks_once = subst (IsDistinct nat_eq) (blocks_there files file f at) (b.opened.apart.files.each file).once
 
     noted : IsNoted d
-    noted = record { inode = refl; runs = refl; size = refl; marks = (b.opened.laid file f at).marks; apart = record { absent = λ block there. has-none block; once = blocks_once } }
+    noted = let laid = b.opened.laid file f at in record {
+      inode = refl;
+      runs = refl;
+      size = refl;
+      marks = laid.marks;
+      held = ap (λ (ms : List Bool). length ms) laid.there ∙ length-replicate {A = Bool} (length f.content.dirty) true;
+      written = λ place on. ap (λ (ms : List Bool). slice_get ms place) laid.there
+          ∙ all_there (length f.content.dirty) 0 (length f.content.dirty) (omega arith) place (omega arith) (slice_get_within f.content.dirty place true on);
+      apart = record { absent = λ block there. has-none block; once = blocks_once };
+    }
+
+    pub file_noted : IsNoted (durable_in p.commits f)
+    file_noted = subst IsNoted (sym (unknown f)) noted
 
     held_once : IsDistinct nat_eq (blocks_held d)
     held_once = subst (IsDistinct nat_eq) (sym (append-nil (runs.blocks_of f.extents))) blocks_once
@@ -236,7 +257,15 @@ module _ (sectors : ℕ) (disk : Image) (superblock : Super) (n : NamesPart) (fi
       only block bytes same place byte under (inl e) = e ∙ ap (λ (xs : List ℕ). byte_at xs place) same
       only block bytes same place byte under (inr e) = absurd e
 
-      stands : StandsFor l d
+      -- the tree has the file's bytes
+      tree_bytes : bytes_of t.bytes file ≡ f.content.bytes
+      tree_bytes = ap (λ (o : Option (List ℕ)). unwrap_or o [])
+          (kept.tree_has sectors disk superblock n files free orphaned image b file f at)
+
+      abbrev d_whole : DurableState
+      d_whole = whole_of f.content.bytes d
+
+      stands : StandsFor l d_whole
       stands = record {
         in_range = facts.inside sectors disk superblock n files free orphaned image b f.inode file number;
         kind = facts.is_file sectors disk superblock n files free orphaned image b f.inode file number;
@@ -247,9 +276,9 @@ module _ (sectors : ℕ) (disk : Image) (superblock : Super) (n : NamesPart) (fi
         clean = λ place block there off. only block (block_bytes f.content.bytes place) ((b.opened.laid file f at).shown place block there off);
       }
 
-      pub file_whole : IsFileWhole l m (durable_in p.commits f)
-      file_whole = subst (IsFileWhole l m) (sym (unknown f)) (record {
-        noted = noted;
+      pub file_whole : IsFileWhole l m (whole_of (bytes_of t.bytes file) (durable_in p.commits f))
+      file_whole = subst (IsFileWhole l m) (sym (λ i. whole_of (tree_bytes i) (unknown f i))) (record {
+        noted = noted_as_whole d f.content.bytes noted (record { long = refl; same = λ place there. refl });
         once = held_once;
         own = λ place block there. inl there;
         stored = inl (ap m.inode (b.opened.read file f at).number ∙ kept.has_number sectors disk superblock n files free orphaned image b f.inode file number, stands);

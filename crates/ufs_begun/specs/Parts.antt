@@ -1,5 +1,5 @@
 -- What a server on a disk begins with.
-use Rattle.std.specs.Prelude.{ℕ, ◌≡◌, ◌==◌, ◌↔◌, [], true, false, length, slice_get, IsSome, Some, None}
+use Rattle.std.specs.Prelude.{ℕ, ◌≡◌, ◌==◌, ◌↔◌, [], true, false, length, replicate, slice_get, IsSome, Some, None}
 use Rattle.std.specs.FinMap as map
 use Rattle.std.specs.FinMap.{from_entries}
 use Rattle.std.specs.FinSet as set
@@ -40,11 +40,12 @@ catalog_of v = catalog_at v.geometry v.image
 abbrev pub start_in : Volume → PosixTree
 start_in v = image_start (from_entries (walked v))
 
--- A file lies where its inode says, and has a mark for each of its blocks. One that isn't marked has on the image just what the
--- file has there, with zeros behind the file's end.
+-- A file lies where its inode says, has a mark for each of its blocks, and is all in memory. A block that isn't marked has on the
+-- image just what the file has there, with zeros behind the file's end.
 pub record IsLaid (image : Image) (c : Catalog) (s : FileState) : Type 0 where
   pub extents : (c.forms s.inode).extents ≡ extents_of s.extents
   pub marks : length s.content.dirty ≡ length (blocks_of s.extents)
+  pub there : s.content.there ≡ replicate (length s.content.dirty) true
   pub shown : (place block : ℕ) → slice_get (blocks_of s.extents) place ≡ Some block → slice_get s.content.dirty place ≡ Some false → block_at image block ≡ block_bytes s.content.bytes place
 
 -- Names, files and free blocks are those of the image.
