@@ -97,6 +97,7 @@ module _ (keeps : KeepsTrees) (by : NamesGoByChanges) (s : StoreState) (start : 
         parts = st.parts;
         names = st.names;
         counted = record { born = st.counted.born; alone = st.counted.alone; made = λ file. omega arith };
+        noted = st.noted;
         each = st.each;
         spaced = st.spaced;
       };

@@ -8,10 +8,12 @@ use Rattle.ufs_ledger.specs.Changes.{with_dirs}
 use Rattle.ufs_ledger.specs.Kept.{Counts, IsLedgerKept}
 use Rattle.ufs_ledger.specs.Ledger.{CoversDirs, Ledger}
 use Rattle.ufs_ledger.proofs.Joining.{shrinks}
+use Rattle.ufs_model.specs.FileBytes.{bytes_of}
+use Rattle.ufs_model.specs.History.{tree_after}
 use Rattle.ufs_model.specs.PosixTree.{PosixTree}
 use Rattle.ufs_model.specs.declared.data.Entry.{Entry}
 use Rattle.ufs_durable.specs.Standing.{IsFileBlock, StandsFor}
-use Rattle.ufs_durable.specs.State.{DurableState}
+use Rattle.ufs_durable.specs.State.{DurableState, whole_of}
 use Rattle.ufs_store.specs.Ledgers.{HasLedger}
 use Rattle.ufs_store.specs.State.{StoreState}
 use Rattle.ufs_stored.specs.Parts.{Parts, durable_in}
@@ -105,7 +107,8 @@ module _ (l : Ledger) (dirs : ℕ → Bool) (less : (block : ℕ) → IsTrue (di
     parts = st.parts;
     names = names st.names;
     counted = st.counted;
-    each = λ file f here. whole (durable_in p.commits f) (st.each file f here);
+    noted = st.noted;
+    each = λ file f here. whole (whole_of (bytes_of (tree_after start history).bytes file) (durable_in p.commits f)) (st.each file f here);
     spaced = record {
       apart = st.spaced.apart;
       usable = λ owner block not owns. file_block l dirs less block (st.spaced.usable owner block not owns);

@@ -21,11 +21,13 @@ use Rattle.ufs_ledger.specs.Changes.{home_of, with_dirs}
 use Rattle.ufs_ledger.specs.Kept.{Counts}
 use Rattle.ufs_ledger.specs.Laws.{LedgersAreSound}
 use Rattle.ufs_ledger.specs.Ledger.{CoversDirs, IsDataBlock, Ledger, is_held}
+use Rattle.ufs_model.specs.FileBytes.{bytes_of}
+use Rattle.ufs_model.specs.History.{tree_after}
 use Rattle.ufs_model.specs.PosixTree.{PosixTree}
 use Rattle.ufs_model.specs.declared.data.Entry.{Entry}
 use Rattle.ufs_model.proofs.Facts.Lookups.{from_some, same_some}
 use Rattle.ufs_durable.specs.Standing.{IsFileBlock}
-use Rattle.ufs_durable.specs.State.{CommitState, DurableState}
+use Rattle.ufs_durable.specs.State.{CommitState, DurableState, whole_of}
 use Rattle.ufs_durable.proofs.Standing.{blocks_are}
 use Rattle.ufs_store.specs.Ledgers.{HasLedger, checkpointed}
 use Rattle.ufs_bitmap.specs.Space.{Space}
@@ -140,7 +142,7 @@ module _ (g : Geometry) (l : Ledger) (u : BlockSet) (start : PosixTree) (history
           runs : (durable_in p.commits s).log.committed.runs ≡ s.extents
           runs = ap (λ (o : Option CommitState). (unwrap_or o (committed_as s)).log.committed.runs) (ap (map.get p.commits) is ∙ nothing.files file live)
 
-          on : IsFileStored l k.numbers (durable_in p.commits s) → slice_get (blocks_of s.extents) place ≡ Some b
+          on : IsFileStored l k.numbers (whole_of (bytes_of (tree_after start history).bytes file) (durable_in p.commits s)) → slice_get (blocks_of s.extents) place ≡ Some b
           on (inl both) =
               let inode_is : inode ≡ s.inode = same_some inode s.inode (sym number ∙ ap k.numbers.inode (sym is) ∙ both.0) in
               let blocks : form_blocks (l.now.catalog.forms inode) ≡ blocks_of s.extents =
@@ -221,6 +223,7 @@ module _ (g : Geometry) (l : Ledger) (u : BlockSet) (start : PosixTree) (history
       parts = reclaimed_part p _ fewer_st.parts;
       names = fewer_st.names;
       counted = fewer_st.counted;
+      noted = fewer_st.noted;
       each = fewer_st.each;
       spaced = record {
         apart = apart_now u p nothing.fresh sound.apart sound.parted;

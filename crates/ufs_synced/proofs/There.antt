@@ -14,6 +14,7 @@ use Rattle.ufs_layout.specs.declared.records.LogRecord.{LogRecord}
 use Rattle.ufs_ledger.specs.Kept.{Counts, IsKeptBy, IsLedgerKept}
 use Rattle.ufs_ledger.specs.Laws.{CommitsKeep, StandsOn}
 use Rattle.ufs_ledger.specs.Ledger.{Ledger, with_one}
+use Rattle.ufs_model.specs.FileBytes.{bytes_of}
 use Rattle.ufs_model.specs.History.{tree_after}
 use Rattle.ufs_model.specs.PosixTree.{PosixTree}
 use Rattle.ufs_model.specs.declared.data.Entry.{Entry}
@@ -30,6 +31,7 @@ use Rattle.ufs_prefix.specs.Changes.{NameState, name_changes, names_after}
 use Rattle.ufs_prefix.specs.Laws.{NamesGoByChanges}
 use Rattle.ufs_prefix.specs.Stored.{IsNamed}
 use Rattle.ufs_durable.specs.Standing.{StandsFor}
+use Rattle.ufs_durable.specs.State.{DurableState, whole_of}
 use Rattle.ufs_store.specs.State.{StoreState, geometry_of_store}
 use Rattle.ufs_stored.specs.Laws.{all_named, with_names_committed}
 use Rattle.ufs_stored.specs.OnDisk.{HasNames, IsGoing}
@@ -145,7 +147,10 @@ module _ (l : Ledger) (u : BlockSet) (start : PosixTree) (history : List Entry) 
           by (inl same) = inr (inr (file.0, file.1, same.0 ∙ file.2))
           by (inr new) = (let clash = sym new.0 ∙ file.2 in absurd cc)
 
-  stored : (file : ℕ) (s : FileState) → map.get p.files file ≡ Some s → IsFileStored l k.numbers (durable_in p.commits s) → IsFileStored l (numbers_of p.names) (durable_in p.commits s)
+  abbrev whole_at : ℕ → FileState → DurableState
+  whole_at file s = whole_of (bytes_of (tree_after start history).bytes file) (durable_in p.commits s)
+
+  stored : (file : ℕ) (s : FileState) → map.get p.files file ≡ Some s → IsFileStored l k.numbers (whole_at file s) → IsFileStored l (numbers_of p.names) (whole_at file s)
   stored file s here was = inl (ap (numbers_of p.names).inode is ∙ mine.1, by was)
     where
       is : s.file ≡ file
@@ -154,7 +159,7 @@ module _ (l : Ledger) (u : BlockSet) (start : PosixTree) (history : List Entry) 
       mine : IsSome (map.get p.names.held file) × ((numbers_of p.names).inode file ≡ Some s.inode)
       mine = numbered l u start history k p st file s here
 
-      by : IsFileStored l k.numbers (durable_in p.commits s) → StandsFor l (durable_in p.commits s)
+      by : IsFileStored l k.numbers (whole_at file s) → StandsFor l (whole_at file s)
       by (inl both) = both.1
       by (inr both) = (let clash = sym both.0 ∙ ap k.numbers.inode is ∙ same_inode file s.inode mine.0 mine.1 in absurd cc)
 
@@ -183,6 +188,7 @@ module _ (l : Ledger) (u : BlockSet) (start : PosixTree) (history : List Entry) 
     parts = record { names = part_committed p tree st.parts.names; files = st.parts.files; inodes = st.parts.inodes; here = st.parts.here };
     names = inr noted;
     counted = record { born = born_now l u start history k p st by; alone = alone_now l u start history k p st; made = st.counted.made };
+    noted = st.noted;
     each = λ file s here. let w = st.each file s here in record { noted = w.noted; once = w.once; own = w.own; stored = stored file s here w.stored };
     spaced = record {
       apart = λ one other b a c. st.spaced.apart one other b (before p u one b a) (before p u other b c);
