@@ -15,3 +15,4 @@ pub mod Served
 pub mod Owned
 pub mod Histories
 pub mod Wholes
+pub mod Fetched

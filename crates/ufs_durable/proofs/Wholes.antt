@@ -8,7 +8,6 @@ use Rattle.ufs_extent.specs.Runs.{blocks_of}
 use Rattle.ufs_file.specs.Content.{IsContentOf}
 use Rattle.ufs_file.specs.Hand.{FileState, whole_as}
 use Rattle.ufs_file.proofs.ThereLemmas.{all_there}
-use Rattle.ufs_durable.specs.State.{DurableState, IsNoted, whole_of}
 use Rattle.ufs_durable.specs.Whole.{NotedAsWhole, WritesAreWhole}
 use Rattle.ufs_durable.specs.Writes.{BlockWrite, write_at, write_of}
 

@@ -5,3 +5,4 @@ pub mod Committing
 pub mod Others
 pub mod Serving
 pub mod Whole
+pub mod Fetching
