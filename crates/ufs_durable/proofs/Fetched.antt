@@ -24,6 +24,7 @@ use Rattle.ufs_store.specs.Ledgers.{HasLedger}
 use Rattle.ufs_store.specs.State.{StoreState}
 use Rattle.ufs_durable.specs.Fetching.{HasFetched}
 use Rattle.ufs_durable.specs.Standing.{HaveOnly, IsReadable}
+use Rattle.ufs_durable.specs.State.{CommitState, IsNoted, state_of}
 use Rattle.ufs_durable.proofs.Cells.{got_back, length_block}
 
 -- ---- one after the other
@@ -56,6 +57,18 @@ fetched_then visible keeps s t u f g h a b = record {
   ledger = λ v l has. b.ledger v l (a.ledger v l has);
   store = b.store ∙ ap (λ (x : StoreState). record x { moments = u.moments; faults = u.faults }) a.store;
 }
+
+-- The log notes it as before.
+pub noted_fetched : (visible keeps : Bool) (s t : StoreState) (f g : FileState) → HasFetched visible keeps s t f g → (c : CommitState) → IsNoted (state_of f c) → IsNoted (state_of g c)
+noted_fetched visible keeps s t f g h c noted = subst (λ (x : FileState). IsNoted (state_of x c)) (sym h.rest) (record {
+  inode = noted.inode;
+  runs = noted.runs;
+  size = noted.size ∙ sym h.still;
+  marks = noted.marks;
+  held = h.marks ∙ noted.held;
+  written = λ place e. h.kept place (noted.written place e);
+  apart = noted.apart;
+})
 
 -- ---- one block
 

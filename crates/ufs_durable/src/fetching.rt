@@ -10,6 +10,7 @@ ghost use Rattle.ufs_store.specs.Refusals.{IsTold, fault_in, is_own};
 ghost use Rattle.ufs_store.specs.State.{geometry_of_store};
 ghost use Rattle.ufs_durable.specs.Fetching.{HasFetched};
 ghost use Rattle.ufs_durable.specs.Standing.{IsReadable};
+ghost use Rattle.ufs_durable.specs.State.{CommitState, IsNoted, state_of};
 ghost use Rattle.ufs_durable.specs.Writes.{AreDataBlocks};
 
 use ufs_base::BLOCK;
@@ -30,6 +31,7 @@ pub fn fetch<D: Door>(
     ensures rest { hand.new ≡ record hand.old { content = record (hand.old.content) { bytes = hand.new.content.bytes; there = hand.new.content.there } } }
     ensures still { length hand.new.content.bytes ≡ length hand.old.content.bytes }
     ensures kept { (place : ℕ) → slice_get hand.old.content.there place ≡ Some true → slice_get hand.new.content.there place ≡ Some true }
+    ensures noted { (c : CommitState) → IsNoted (state_of hand.old c) → IsNoted (state_of hand.new c) }
     ensures fewer { (bytes : List ℕ) → IsContentOf hand.new.content bytes → IsContentOf hand.old.content bytes }
     ensures read { IsTrue D.visible → (l : Ledger) (bytes : List ℕ) → IsLedgerOf (D.store door.old).sectors (D.store door.old).moments.state l → IsReadable l (whole_as bytes hand.old) → IsContentOf hand.old.content bytes → IsContentOf hand.new.content bytes }
     ensures nothing { HasNeeded hand.old.content desc op.now → (hand.new ≡ hand.old) × (D.store door.new ≡ D.store door.old) × (result ≡ Ok tt) }

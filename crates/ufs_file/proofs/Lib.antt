@@ -10,3 +10,4 @@ pub mod ExcuseLemmas
 pub mod AllThere
 pub mod FilledLemmas
 pub mod UnreadLemmas
+pub mod AwayLemmas

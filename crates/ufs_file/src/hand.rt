@@ -141,7 +141,8 @@ impl FileHand {
     /// and the file goes on by it; blocks that it lacks come from the pool, and those that it has no use for go back.
     /// Where room is wanting the reply is the excuse for its cause, and nothing has changed. The caller gives the ticket, and
     /// has loaded each block of `needed_places`, unless the request is refused. What is served, and how the file goes on,
-    /// holds for whatever bytes the other blocks have on the disk.
+    /// holds for whatever bytes the other blocks have on the disk. A block that isn't in memory afterwards wasn't before, and
+    /// keeps its bytes.
     pub fn apply(&mut self, ask: Ask, by: Actor, ticket: u64, pool: &mut Pool) -> Applied
         requires kind { is_on_file ask.op ≡ true }
         requires bounded { IsBounded ask.op }
@@ -154,6 +155,8 @@ impl FileHand {
         ensures any { is_excused result.entry.reply ≡ false → (d : Desc) → ask.desc ≡ Some d → (bytes : List ℕ) → IsContentOf self.old.content bytes
             → IsServedByFile (whole_as bytes self.old) (whole_as (file_step bytes d ask.op).bytes self.new) pool.old pool.new d ask.op result.entry.reply result.desc }
         ensures goes_on { is_excused result.entry.reply ≡ false → (d : Desc) → ask.desc ≡ Some d → (bytes : List ℕ) → IsContentOf self.old.content bytes → IsContentOf self.new.content (file_step bytes d ask.op).bytes }
+        ensures away { is_excused result.entry.reply ≡ false → (d : Desc) → ask.desc ≡ Some d → (bytes : List ℕ) → IsContentOf self.old.content bytes → (place : ℕ) → slice_get self.new.content.there place ≡ Some false
+            → (slice_get self.old.content.there place ≡ Some false) × (block_bytes (file_step bytes d ask.op).bytes place ≡ block_bytes bytes place) }
         ensures any_excused { (x : Excuse) → result.entry.reply ≡ reply.Excused x → (d : Desc) → ask.desc ≡ Some d → (bytes : List ℕ) → IsContentOf self.old.content bytes → IsExcusedFor (whole_as bytes self.old) d ask.op pool.old x }
         ensures posix { is_excused result.entry.reply ≡ false → (t : PosixTree) → IsFileOf self.old t → IsAsk t ask → IsPosix t ask self.new result.entry.reply result.desc }
         ensures fits { (x : Excuse) → result.entry.reply ≡ reply.Excused x → (t : PosixTree) → IsFileOf self.old t → IsAsk t ask → ExcuseFits t ask.client ask.op x }

@@ -2,7 +2,7 @@ use Rattle.std.proofs.Common.{◌≡◌, ◌∙◌, ◌+◌, ◌≤◌, ◌<◌,
 use Rattle.std.specs.Prelude.{slice_get}
 use Rattle.std.proofs.lemmas.Bool.{cases_lt}
 use Rattle.ufs_file.specs.Hand.{FileState, needed_end, needed_from}
-use Rattle.ufs_durable.proofs.Fetched.{fetched_then}
+use Rattle.ufs_durable.proofs.Fetched.{fetched_then, noted_fetched}
 use Rattle.ufs_durable.proofs.fetching.fetch.Goals as goal
 
 pub returns-in_err-fetch_block-clause-read : goal.returns-in_err-fetch_block-clause-read
@@ -19,6 +19,16 @@ pub returns-in_err-fetch_block-clause-on_disk : goal.returns-in_err-fetch_block-
 returns-in_err-fetch_block-clause-on_disk g c =
     (fetched_then g.D.Door.visible g.D.Door.keeps (g.D.Door.store c.args.door.now) (g.D.Door.store c.loop-place.door) (g.D.Door.store c.fetch_block.new.door) c.args.hand.now c.loop-place.hand c.fetch_block.new.hand
     c.loop-place.invariant.fetched c.fetch_block.ensures.fetched).on_disk
+
+pub returns-in_err-fetch_block-clause-noted : goal.returns-in_err-fetch_block-clause-noted
+returns-in_err-fetch_block-clause-noted g c =
+    noted_fetched g.D.Door.visible g.D.Door.keeps (g.D.Door.store c.args.door.now) (g.D.Door.store c.fetch_block.new.door) c.args.hand.now c.fetch_block.new.hand
+    (fetched_then g.D.Door.visible g.D.Door.keeps (g.D.Door.store c.args.door.now) (g.D.Door.store c.loop-place.door) (g.D.Door.store c.fetch_block.new.door) c.args.hand.now c.loop-place.hand c.fetch_block.new.hand
+    c.loop-place.invariant.fetched c.fetch_block.ensures.fetched)
+
+pub returns-clause-noted : goal.returns-clause-noted
+returns-clause-noted g c =
+    noted_fetched g.D.Door.visible g.D.Door.keeps (g.D.Door.store c.args.door.now) (g.D.Door.store c.loop-place.door) c.args.hand.now c.loop-place.hand c.loop-place.invariant.fetched
 
 pub loop-place-preserved : goal.loop-place-preserved
 loop-place-preserved g c =
