@@ -156,6 +156,23 @@ module _ (s : StoreState) (f : DurableState) (pool : BlockSet) (ready : IsReady 
     from_free = subst (λ (x : Space). IsApart x.free (blocks_held f)) (sym free) ready.from_free;
   })
 
+  -- the file with the same blocks, and a store with the same ones unassigned
+  pub ready_read : (t : StoreState) (g : DurableState) → geometry_of_store t ≡ geometry_of_store s → t.unassigned ≡ s.unassigned → g.file.file ≡ 1 → g.file.inode ≡ 2 → blocks_held g ≡ blocks_held f → IsNoted g → IsReady t g pool
+  ready_read t g geometry free number inode same noted = record {
+    geometry = geometry ∙ ready.geometry;
+    first = ap (λ (x : Space). x.first) free ∙ ready.first;
+    blocks = ap (λ (x : Space). x.blocks) free ∙ ready.blocks;
+    number = number;
+    inode = inode;
+    noted = noted;
+    free_here = λ b there. ready.free_here b (sym (ap (λ (x : Space). set.contains x.free b) free) ∙ there);
+    pool_here = ready.pool_here;
+    held_here = λ b held. ready.held_here b (ap (λ (l : List ℕ). has l b) (sym same) ∙ held);
+    apart = λ b there. ap (λ (x : Space). set.contains x.free b) free ∙ ready.apart b there;
+    from_pool = subst (IsApart pool) (sym same) ready.from_pool;
+    from_free = subst (λ (x : Space). IsApart x.free (blocks_held g)) (sym free) (subst (IsApart s.unassigned.free) (sym same) ready.from_free);
+  }
+
   pub ready_kept : (t : StoreState) (same : BlockSet) → t ≡ s → same ≡ pool → IsReady t f same
   ready_kept t same e is = subst (λ (p : BlockSet). IsReady t f p) (sym is) (subst (λ (x : StoreState). IsReady x f pool) (sym e) ready)
 

@@ -6,6 +6,8 @@ mod asserts;
 #[cfg(test)]
 mod faults;
 #[cfg(test)]
+mod fetches;
+#[cfg(test)]
 mod files;
 #[cfg(test)]
 mod session;

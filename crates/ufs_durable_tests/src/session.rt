@@ -1,5 +1,6 @@
 // What the tests share: a store on an image of 256 blocks, a file on it, and a pool.
-ghost use Rattle.std.specs.Prelude.{◌≡◌, ◌≤◌, IfSome, IfOk, Some, length, true};
+ghost use Rattle.std.specs.Prelude.{◌≡◌, ◌≤◌, IfSome, IfOk, OnOk, Some, length, true};
+ghost use Rattle.ufs_file.specs.Hand.{HasNeeded};
 ghost use Rattle.ufs_durable.specs.State.{state_of};
 ghost use Rattle.ufs_model.specs.Bounds.{IsBounded};
 ghost use Rattle.ufs_model.specs.FileCalls.{is_on_file};
@@ -10,10 +11,11 @@ use std::alloc::Global;
 use ufs_base::{BLOCK, Memory};
 use ufs_bitmap::{Bitmap, Pool};
 use ufs_disk::Disk;
-use ufs_durable::{FileCommits, apply, fsync};
+use ufs_durable::{FileCommits, apply, fetch, fsync};
+use ufs_extent::Extents;
 use ufs_file::{Applied, FileHand};
 use ufs_layout::Super;
-use ufs_model::{Actor, Ask, Bytes, Desc, Entry, Op, Reply};
+use ufs_model::{Actor, Ask, Bytes, Desc, Entry, Excuse, Op, Reply};
 use ufs_store::{Door, Store, StoreFault};
 
 pub const SECTORS: u32 = 2_048;
@@ -26,6 +28,15 @@ const SUPERBLOCK: Super = Super {
     epoch: 1,
     next: 1,
     clean: true,
+};
+
+// With leave to read and write.
+const DESC: Desc = Desc {
+    file: Some(1),
+    at: 0,
+    read: true,
+    write: true,
+    append: false,
 };
 
 /// A store with a file on it.
@@ -87,6 +98,44 @@ impl<D: Disk> Session<D> {
         self.store.give_pool(&mut self.pool, missing)
     }
 
+    /// Fetches what a request on the descriptor needs.
+    pub fn fetch(&mut self, op: &Op) -> Result<(), StoreFault>
+        requires { IsReady (⟦<Store<D> as Door>⟧.store self.old.store) (state_of self.old.hand self.old.commits) self.old.pool }
+        ensures ready { IsReady (⟦<Store<D> as Door>⟧.store self.new.store) (state_of self.new.hand self.new.commits) self.new.pool }
+        ensures there { OnOk result (HasNeeded self.new.hand.content (record { file = Some 1; at = 0; read = true; write = true; append = false }) op.now) }
+    {
+        fetch(&mut self.store, &mut self.hand, op, DESC)
+    }
+
+    /// The file as one of which nothing was read, from now on.
+    pub fn forget(&mut self, alloc: Global) -> bool
+        requires ready { IsReady (⟦<Store<D> as Door>⟧.store self.old.store) (state_of self.old.hand self.old.commits) self.old.pool }
+        ensures { IsReady (⟦<Store<D> as Door>⟧.store self.new.store) (state_of self.new.hand self.new.commits) self.new.pool }
+    {
+        let Ok(extents) = Extents::from_runs(alloc, self.hand.extents()) else {
+            return false;
+        };
+        let Ok(unread) = FileHand::unread(alloc, 1, 2, extents, self.hand.size()) else {
+            return false;
+        };
+        // For the prover alone.
+        let _marks = unread.block_count();
+        let _written = unread.dirty_places();
+        self.hand = unread;
+        true
+    }
+
+    /// How many blocks of the file are in memory.
+    pub fn there_count(&self) -> u32 {
+        let mut count: u32 = 0;
+        for place in 0..self.hand.block_count() {
+            if self.hand.is_there(place as usize) == Some(true) {
+                count = count.saturating_add(1);
+            }
+        }
+        count
+    }
+
     /// The reply to a request on a descriptor with leave to read and write.
     pub fn serve(&mut self, op: Op) -> Reply
         requires ready { IsReady (⟦<Store<D> as Door>⟧.store self.old.store) (state_of self.old.hand self.old.commits) self.old.pool }
@@ -94,17 +143,14 @@ impl<D: Disk> Session<D> {
         requires bounded { IsBounded op }
         ensures { IsReady (⟦<Store<D> as Door>⟧.store self.new.store) (state_of self.new.hand self.new.commits) self.new.pool }
     {
+        if self.fetch(&op).is_err() {
+            return Reply::Excused(Excuse::Memory);
+        }
         let ask = Ask {
             client: 0,
             seq: 0,
             op,
-            desc: Some(Desc {
-                file: Some(1),
-                at: 0,
-                read: true,
-                write: true,
-                append: false,
-            }),
+            desc: Some(DESC),
             fd: 0,
             last: false,
         };

@@ -42,7 +42,7 @@ loop-place-preserved g c =
     let there_now : slice_get now.content.there k ≡ Some true = c.in_ok-fetch_block.ensures.there in
     let there : (place : ℕ) → needed_from (length f.content.bytes) c.args.desc c.args.op.now ≤ place → place < k + 1 → (place < k) ⊎ (k ≤ place) → slice_get now.content.there place ≡ Some true =
     λ place low less side. elim side [
-      inl before ↦ step.kept place (i.there place low before)
+      | inl before ↦ step.kept place (i.there place low before)
       | inr behind ↦ (let e : k ≡ place = omega (arith, less, behind) in subst (λ (p : ℕ). slice_get now.content.there p ≡ Some true) e there_now)
     ] in
     record {

@@ -1,0 +1,77 @@
+// A file of which nothing was read, and the blocks that requests need.
+ghost use Rattle.std.specs.Prelude.{IfSome};
+ghost use Rattle.ufs_durable.specs.State.{state_of};
+ghost use Rattle.ufs_durable_tests.specs.Ready.{IsReady};
+
+use crate::asserts::{holds, same};
+use crate::session::{SECTORS, Session, started};
+use std::alloc::Global;
+use ufs_disk::{Fuse, FuseDisk};
+use ufs_model::{Op, Reply};
+use ufs_store::{Door, Store, StoreFault};
+
+// A committed file of three blocks of which nothing is in memory, over a disk that serves so many calls behind it.
+fn forgotten(alloc: Global, passes: u64) -> Option<Session<FuseDisk>>
+    ensures { IfSome result (λ s. IsReady (⟦<Store<FuseDisk> as Door>⟧.store s.store) (state_of s.hand s.commits) s.pool) }
+{
+    let bytes = vec![in alloc; 0; 1_048_576].ok()?;
+    let fuse = Fuse {
+        passes: passes.saturating_add(10),
+    };
+    let disk = FuseDisk::new(alloc, SECTORS, bytes, fuse).ok()?;
+    let mut s = started(alloc, disk)?;
+    if s.fill(3).is_err()
+        || s.write(alloc, 7, 10_000) != Some(true)
+        || s.sync().is_err()
+        || !s.forget(alloc)
+    {
+        return None;
+    }
+    Some(s)
+}
+
+#[test]
+fn a_read_fetches_its_blocks_alone(rt: HostRuntime) {
+    let mut s = forgotten(rt.alloc(), 1).expect(&rt, "not started");
+    same(&rt, s.there_count(), 0);
+    let reply = s.serve(Op::Pread {
+        fd: 3,
+        n: 100,
+        at: 8_192,
+    });
+    holds(
+        &rt,
+        matches!(reply, Reply::Got(bytes) if bytes.as_slice().len() == 100 && bytes.as_slice().iter().all(|byte| *byte == 7)),
+    );
+    same(&rt, s.there_count(), 1);
+    // What is there makes no call.
+    same(
+        &rt,
+        s.fetch(&Op::Pread {
+            fd: 3,
+            n: 1,
+            at: 9_000,
+        }),
+        Ok(()),
+    );
+    same(
+        &rt,
+        s.fetch(&Op::Pread { fd: 3, n: 1, at: 0 }),
+        Err(StoreFault::Device { fault: 1 }),
+    );
+}
+
+#[test]
+fn a_read_that_fails_keeps_what_was_fetched(rt: HostRuntime) {
+    let mut s = forgotten(rt.alloc(), 2).expect(&rt, "not started");
+    same(
+        &rt,
+        s.fetch(&Op::Pread {
+            fd: 3,
+            n: 20_000,
+            at: 0,
+        }),
+        Err(StoreFault::Device { fault: 1 }),
+    );
+    same(&rt, s.there_count(), 2);
+}
