@@ -1,7 +1,6 @@
 -- Two states of a file have a delta, and are the same or not.
-use Rattle.std.proofs.Common.{◌≡◌, ◌≢◌, ℕ, suc, ◌<◌, ◌≤◌, ◌⊎◌, inl, inr, List, [], ◌∷◌, ◌++◌, Some, length, ap, refl, ◌∙◌, arith}
-use Rattle.std.specs.Prelude.{take, drop}
-use Rattle.std.specs.List.{slice_get}
+use Rattle.std.proofs.Common.{◌≡◌, ◌≢◌, ℕ, suc, ◌⊎◌, inl, inr, List, [], ◌∷◌, ◌++◌, ap, refl, ◌∙◌, arith}
+use Rattle.std.specs.Prelude.{drop}
 use Rattle.std.proofs.lemmas.List.{take-append-drop}
 use Rattle.ufs_extent.specs.declared.Run.{Run}
 use Rattle.ufs_files.proofs.MapLemmas.{one_or_apart}

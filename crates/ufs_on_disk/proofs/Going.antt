@@ -35,8 +35,7 @@ use Rattle.ufs_durable.proofs.Requests.{same_inode, same_number}
 use Rattle.ufs_durable.proofs.Wholes.{noted_as_whole}
 use Rattle.ufs_store.specs.Ledgers.{HasLedger}
 use Rattle.ufs_store.specs.State.{StoreState, geometry_of_store}
-use Rattle.ufs_stored.specs.Laws.{MovesBlocks}
-use Rattle.ufs_stored.specs.OnDisk.{AreReadable, HasStopped, IsGoing, IsOnDisk}
+use Rattle.ufs_stored.specs.OnDisk.{AreReadable, HasStopped, IsOnDisk}
 use Rattle.ufs_stored.specs.Parts.{Parts, durable_in, with_file}
 use Rattle.ufs_stored.specs.Sound.{IsFileSound, IsSoundServer}
 use Rattle.ufs_stored.specs.Stored.{ArePartsOf}

@@ -9,3 +9,4 @@ pub mod Writing
 pub mod Ready
 pub mod Forgetting
 mod Meanwhile
+mod Fetching

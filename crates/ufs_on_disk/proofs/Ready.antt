@@ -1,8 +1,7 @@
 -- A file that may be synced.
-use Rattle.std.proofs.Common.{◌≡◌, ℕ, ◌-◌, ◌<◌, ◌≤◌, List, [], ◌∷◌, ◌++◌, ◌||◌, Bool, true, false, Some, eqb, ap, sym, refl, ◌∙◌, arith}
+use Rattle.std.proofs.Common.{◌≡◌, ℕ, ◌-◌, List, [], ◌∷◌, ◌++◌, ◌||◌, Bool, true, false, eqb, ap, refl, ◌∙◌, arith}
 use Rattle.std.specs.Prelude.{All}
 use Rattle.std.specs.List.{AllByRecursion}
-use Rattle.std.specs.FinMap as map
 use Rattle.std.specs.FinSet as set
 use Rattle.std.proofs.lemmas.Bool.Decides.{nat_tests}
 use Rattle.std.proofs.lemmas.List.Elements.{All-cons, All-head, All-nil, All-tail}
@@ -12,13 +11,10 @@ use Rattle.ufs_bitmap.proofs.SetLemmas.{has-insert}
 use Rattle.ufs_bitmap.proofs.TakingLemmas.{distinct_back, has-append, in_run}
 use Rattle.ufs_extent.specs.declared.Run.{Run}
 use Rattle.ufs_extent.specs.Runs.{IsRun, blocks_in, blocks_of, end_of}
-use Rattle.ufs_file.specs.Hand.{FileState}
 use Rattle.ufs_layout.specs.declared.geometry.Geometry.{Geometry}
 use Rattle.ufs_ledger.specs.Ledger.{IsDataBlock}
-use Rattle.ufs_durable.specs.State.{DurableState}
-use Rattle.ufs_store.specs.State.{StoreState, geometry_of_store}
-use Rattle.ufs_stored.specs.Parts.{FileOwns, OneFile, Parts, Unassigned, durable_in}
-use Rattle.ufs_stored.specs.Sound.{IsSoundServer}
+use Rattle.ufs_store.specs.State.{geometry_of_store}
+use Rattle.ufs_stored.specs.Parts.{FileOwns, OneFile, Unassigned, durable_in}
 use Rattle.ufs_on_disk.specs.Syncs.{IsSpaceOf, SyncsMayBegin}
 
 or_true : (b : Bool) → (b || true) ≡ true

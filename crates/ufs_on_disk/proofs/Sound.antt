@@ -1,5 +1,5 @@
 -- What holds of a server whether its disk is visible or not, behind requests on its files and their commits.
-use Rattle.std.proofs.Common.{◌≡◌, ◌≢◌, ℕ, ◌⊎◌, inl, inr, Bool, true, false, Option, Some, None, ap, sym, refl, ◌∙◌, subst}
+use Rattle.std.proofs.Common.{◌≡◌, ◌≢◌, ℕ, ◌⊎◌, inl, inr, true, Some, None, ap, sym, refl, ◌∙◌, subst}
 use Rattle.std.specs.Prelude.{nat_eq}
 use Rattle.std.specs.List.{IsDistinct}
 use Rattle.std.specs.FinMap as map
@@ -14,21 +14,15 @@ use Rattle.ufs_files.proofs.MapLemmas.{one_or_apart}
 use Rattle.ufs_layout.specs.Areas.{is_inode_number}
 use Rattle.ufs_layout.specs.declared.geometry.Geometry.{Geometry}
 use Rattle.ufs_ledger.specs.Ledger.{IsDataBlock}
-use Rattle.ufs_model.specs.declared.data.Actor.{Actor}
-use Rattle.ufs_model.specs.declared.data.Ask.{Ask}
-use Rattle.ufs_model.specs.declared.data.Desc.{Desc}
-use Rattle.ufs_model.specs.declared.data.Entry.{Entry}
 use Rattle.std.specs.Cmp.{nat_cmp_total}
 use Rattle.std.specs.FinMap.{nat_cmp-IsAntisymmetric}
 use Rattle.ufs_model.proofs.Facts.Lookups as lookups
 use Rattle.ufs_names.specs.Calls.{HaveInodes}
-use Rattle.ufs_durable.specs.Serving.{IsApplied}
 use Rattle.ufs_durable.specs.State.{DurableState, blocks_held, file_committed}
 use Rattle.ufs_durable.proofs.Requests.{goes_apart, goes_noted, goes_together, goes_within, same_inode, same_number}
 use Rattle.ufs_durable.proofs.Standing.{noted_committed}
-use Rattle.ufs_stored.specs.Laws.{MovesBlocks}
-use Rattle.ufs_stored.specs.Parts.{FileOwns, NamesOwn, OneFile, Owner, Owns, Parts, TheNames, ThePool, Unassigned, durable_in, with_file}
-use Rattle.ufs_stored.specs.Sound.{IsFileSound, IsSoundServer}
+use Rattle.ufs_stored.specs.Parts.{OneFile, Owner, Owns, Parts, TheNames, ThePool, Unassigned, durable_in, with_file}
+use Rattle.ufs_stored.specs.Sound.{IsFileSound}
 use Rattle.ufs_stored.proofs.FileDone as done
 use Rattle.ufs_stored.proofs.Pools as pools
 use Rattle.ufs_stored.proofs.Puts.{durable_else, durable_here, either}

@@ -1,5 +1,5 @@
 -- A file is synced.
-use Rattle.std.proofs.Common.{◌≡◌, ◌≢◌, ℕ, ◌≤◌, ◌⊎◌, inl, inr, Bool, true, false, ◌||◌, List, [], ◌∷◌, Some, None, length, is_some, ap, sym, refl, ◌∙◌, subst, arith}
+use Rattle.std.proofs.Common.{◌≡◌, ◌≢◌, ℕ, ◌≤◌, ◌⊎◌, inl, inr, Bool, true, false, ◌||◌, List, [], ◌∷◌, Some, length, is_some, ap, sym, refl, ◌∙◌, subst, arith}
 use Rattle.std.specs.Prelude.{◌==◌, IsSome, if◌then◌else◌}
 use Rattle.std.specs.FinMap as map
 use Rattle.std.specs.FinSet as set
@@ -9,8 +9,6 @@ use Rattle.ufs_bitmap.specs.Taking.{has, set_of}
 use Rattle.ufs_bitmap.proofs.SetLemmas.{has-insert}
 use Rattle.ufs_file.specs.Content.{IsContentOf}
 use Rattle.ufs_file.specs.Hand.{FileState}
-use Rattle.ufs_ilog.specs.Deltas.{IsDelta}
-use Rattle.ufs_layout.specs.declared.records.LogRecord.{LogRecord}
 use Rattle.ufs_ledger.specs.Kept.{Counts}
 use Rattle.ufs_ledger.specs.Laws.{raised}
 use Rattle.ufs_ledger.specs.Ledger.{Ledger}
@@ -22,7 +20,7 @@ use Rattle.ufs_prefix.specs.Changes.{changes_of}
 use Rattle.ufs_durable.specs.Committing.{FilesMayCommitNext, FitsInode, all_shown}
 use Rattle.ufs_durable.specs.Standing.{DirtyMayBeWritten, StandsFor}
 use Rattle.ufs_durable.specs.State.{DurableState, file_committed, whole_of}
-use Rattle.ufs_durable.specs.Writes.{HasCommitted, MayWriteAll, with_writes, writes_of}
+use Rattle.ufs_durable.specs.Writes.{MayWriteAll, writes_of}
 use Rattle.ufs_durable.proofs.Wholes.{writes_are_whole}
 use Rattle.ufs_store.specs.Ledgers.{HasLedger}
 use Rattle.ufs_store.specs.State.{StoreState}

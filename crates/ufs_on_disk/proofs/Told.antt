@@ -1,9 +1,7 @@
 -- What is known of commits is told in other words.
-use Rattle.std.proofs.Common.{◌≡◌, ◌≢◌, ℕ, ◌⊎◌, inl, inr, Some, true, ap, sym, ◌∙◌, subst}
-use Rattle.std.specs.FinMap as map
+use Rattle.std.proofs.Common.{ℕ, ◌⊎◌, inl, inr, ap, sym, ◌∙◌, subst}
 use Rattle.ufs_bitmap.specs.Blocks.{BlockSet}
 use Rattle.ufs_bitmap.specs.Taking.{has}
-use Rattle.ufs_file.specs.Hand.{FileState}
 use Rattle.ufs_ledger.specs.Kept.{Counts, Numbers}
 use Rattle.ufs_ledger.specs.Ledger.{Ledger}
 use Rattle.ufs_model.specs.FileBytes.{bytes_of}
@@ -13,8 +11,8 @@ use Rattle.ufs_model.specs.declared.data.Entry.{Entry}
 use Rattle.std.proofs.Common.{List}
 use Rattle.ufs_durable.specs.State.{DurableState, IsNoted, blocks_held, whole_of}
 use Rattle.ufs_store.specs.State.{StoreState}
-use Rattle.ufs_stored.specs.OnDisk.{HasNames, IsGoing, IsOnDisk}
-use Rattle.ufs_stored.specs.Parts.{Commits, FileOwns, NamesOwn, OneFile, Owner, Owns, Parts, TheNames, ThePool, Unassigned, durable_in}
+use Rattle.ufs_stored.specs.OnDisk.{HasNames, IsGoing}
+use Rattle.ufs_stored.specs.Parts.{Commits, FileOwns, NamesOwn, OneFile, Owner, Owns, Parts, TheNames, ThePool, Unassigned}
 use Rattle.ufs_stored.specs.Sound.{IsFileSound}
 use Rattle.ufs_stored.specs.Stored.{AreSpaced, FileHasIt, IsFileWhole, IsStored}
 use Rattle.ufs_on_disk.specs.Syncs.{OnDiskAsTold, SoundAsTold, SyncedAsTold, TellsTheSame}

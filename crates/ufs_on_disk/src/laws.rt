@@ -1,5 +1,6 @@
 // Laws of the definitions, each the contract of a function that does nothing.
 ghost use Rattle.ufs_layout.specs.Areas.{IsGeometry};
+ghost use Rattle.ufs_on_disk.specs.Fetches.{FetchesAreExplained, FetchesGoOn, FetchesReadTheTree, PartsByFetches, SoundByFetches};
 ghost use Rattle.ufs_on_disk.specs.Requests.{FileRequestsGoOn, FreeBlocksGoOn, PartsByExcuses, PartsByFileRequests, SoundByFileRequests, SoundByFreeBlocks};
 ghost use Rattle.ufs_on_disk.specs.Syncs.{CommittedIsForgotten, FailedSyncsGoOn, FileSyncsAreExplained, FileSyncsGoOn, OnDiskAsTold, PutBackAsItWas, SoundAsTold, SoundByFileSyncs, SyncedAsTold, SyncsMayBegin, WrittenSyncsGoOn};
 
@@ -24,6 +25,18 @@ pub fn file_request_law()
     a_file_request_keeps_the_names();
     standing_law();
     committing_law();
+}
+
+/// Blocks of a file are read from the disk.
+pub fn fetch_law(geometry: &Geometry)
+    requires { IsGeometry geometry.now }
+    ensures tree { FetchesReadTheTree }
+    ensures on_disk { FetchesGoOn }
+    ensures moments { FetchesAreExplained geometry.now }
+    ensures parts { PartsByFetches }
+    ensures sound { SoundByFetches }
+{
+    always_law(geometry);
 }
 
 /// A file is committed.

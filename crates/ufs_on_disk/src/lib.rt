@@ -4,5 +4,6 @@
 mod laws;
 
 pub use laws::{
-    file_failure_law, file_memory_law, file_moments_law, file_request_law, file_sync_law, told_law,
+    fetch_law, file_failure_law, file_memory_law, file_moments_law, file_request_law,
+    file_sync_law, told_law,
 };
