@@ -28,6 +28,7 @@ use Rattle.ufs_stored.specs.Sound.{IsSoundServer}
 use Rattle.ufs_stored.specs.Stored.{ArePartsOf}
 use Rattle.ufs_stored.proofs.FileEntries.{parts_now}
 use Rattle.ufs_stored.proofs.Puts.{here, other_file}
+use Rattle.ufs_stored.proofs.Whole.{cleaned_stays}
 use Rattle.ufs_server.proofs.FileServing.{IsOut, at, same_pool}
 
 error_or : {T X : Type 0} → X → Result T X → X
@@ -139,7 +140,7 @@ module _ {s0 : StoreState} {p0 p2 : Parts} {file : ℕ} {hand : FileState} {know
 
       pub parts_done : (t : PosixTree) → ArePartsOf p0 t → ArePartsOf (record v { commits = left }) t
       parts_done t parts =
-          let now = parts_now p0 hand (file_committed x) p0.pool is_at refl refl t t parts parts.names (parts.files hand.file hand is_at).1 (λ n not. refl) in
+          let now = parts_now p0 hand (file_committed x) p0.pool is_at refl refl t t parts parts.names (cleaned_stays hand t (parts.files hand.file hand is_at).1) (λ n not. refl) in
           subst (λ (p : Parts). ArePartsOf p t) (sym at_last) (record { names = now.names; files = now.files; inodes = now.inodes; here = now.here })
 
       pub here_done : (other : ℕ) → IsSome (map.get p0.files other) → IsSome (map.get v.files other)

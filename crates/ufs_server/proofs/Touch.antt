@@ -9,6 +9,7 @@ use Rattle.ufs_durable.specs.State.{CommitState, IsNoted, state_of}
 use Rattle.ufs_file.specs.Hand.{FileState}
 use Rattle.ufs_files.specs.Files.{AreNumbered}
 use Rattle.ufs_files.proofs.MapLemmas.{one_or_apart}
+use Rattle.ufs_files.proofs.SizeLemmas.{files_are_sized}
 use Rattle.ufs_model.specs.Asks.{IsAsk}
 use Rattle.ufs_model.specs.PosixTree.{PosixTree}
 use Rattle.ufs_model.specs.declared.data.Ask.{Ask}
@@ -28,7 +29,7 @@ module _ (p : Parts) (t : PosixTree) (parts : ArePartsOf p t) where
 
   -- and a file that is here is live
   pub here_live : (f : ℕ) → IsSome (map.get p.files f) → IsSome (map.get t.bytes f)
-  here_live f is = let at = from_some (map.get p.files f) is in let of = parts.files f at.0 at.1 in ap (λ (k : ℕ). is_some (map.get t.bytes k)) (sym of.0) ∙ ap is_some of.1
+  here_live f is = let at = from_some (map.get p.files f) is in let of = parts.files f at.0 at.1 in ap (λ (k : ℕ). is_some (map.get t.bytes k)) (sym of.0) ∙ ap is_some of.1.has
 
 -- ---- its commits
 
@@ -65,7 +66,7 @@ module _ (p : Parts) (file : ℕ) (s : FileState) (at : map.get p.files file ≡
 -- ---- what a request asks
 
 pub asked_here : (p : Parts) (t : PosixTree) (ask : Ask) → ArePartsOf p t → IsAsk t ask → IsAsked t p.names ask p.files
-asked_here p t ask parts asked = record { part = parts.names; asked = asked; files = parts.files; gathered = λ f at live. live_here p t parts f live }
+asked_here p t ask parts asked = record { part = parts.names; asked = asked; files = files_are_sized p.files t parts.files; gathered = λ f at live. live_here p t parts f live }
 
 -- ---- the first of one at most
 

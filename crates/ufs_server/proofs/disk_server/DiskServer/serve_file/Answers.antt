@@ -4,6 +4,8 @@ use Rattle.ufs_client.proofs.FaultLemmas.{file_faultless, plain_faultless}
 use Rattle.ufs_client.proofs.Replies.{desc_there}
 use Rattle.ufs_bitmap.specs.Blocks.{BlockSet}
 use Rattle.ufs_bitmap.specs.Taking.{IsApart}
+use Rattle.ufs_file.specs.Hand.{whole_as}
+use Rattle.ufs_file.proofs.UnreadLemmas.{content_itself}
 use Rattle.ufs_files.specs.Files.{AreNumbered}
 use Rattle.ufs_model.specs.History.{is_excused}
 use Rattle.ufs_durable.specs.Serving.{IsApplied}
@@ -83,11 +85,14 @@ returns g c =
     let applied : IsApplied (state_of hand known) y p2.pool pool ask by ticket entry desc = subst (λ (b : BlockSet). IsApplied (state_of hand known) y b pool ask by ticket entry desc) (ap (λ (p : Parts). p.pool) view) (record {
       of_ask = done.entry;
       served = done.served;
+      goes_on = done.goes_on;
       excused = done.excused;
       posix = done.posix;
       fits = done.fits;
       few = done.few;
       marks = done.noted.marks;
+      held = done.noted.held;
+      written = done.noted.written;
       kept = done.kept;
       pool = done.pool;
       same_desc = done.desc;
@@ -119,6 +124,6 @@ returns g c =
         on_disk = λ start history on. excused_on_disk out back c.told_law.ensures.back c.told_law.ensures.on_disk numbered e start history (kept.on_disk start history on);
         moments = kept.moments;
       };
-      calm = plain_faultless entry.reply (λ x is. ap tells_fault is ∙ file_faultless hand there.0 ask.op _ x (done.excused x is there.0 there.1));
+      calm = plain_faultless entry.reply (λ x is. ap tells_fault is ∙ file_faultless (whole_as hand.content.bytes hand) there.0 ask.op _ x (done.excused x is there.0 there.1 hand.content.bytes (content_itself hand.content)));
       store = moved.store;
     }
