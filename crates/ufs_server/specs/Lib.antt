@@ -1,4 +1,5 @@
 pub mod Server
 pub mod Answered
 pub mod Touching
+pub mod Fetched
 pub mod Served

@@ -21,7 +21,8 @@ use ufs_store::{Door, StoreFault};
 use ufs_stored::{always_law, on_disk_law};
 
 impl DiskServer {
-    /// Serves a request on a descriptor of this file that asks for no commit.
+    /// Serves a request on a descriptor of this file that asks for no commit. Where blocks that it needs aren't in memory,
+    /// nothing is read, and memory is wanting.
     pub(crate) fn serve_file<D: Door>(
         &mut self,
         door: &mut D,
@@ -48,6 +49,9 @@ impl DiskServer {
         let geometry = door.geometry();
         always_law(&geometry);
         on_disk_law(&geometry);
+        if !self.is_ready(&ask) {
+            return out_of_memory(ask, by, ticket);
+        }
         self.files.are_numbered();
         self.gather(door);
         let Ok(mut held) = self.take_out(file) else {

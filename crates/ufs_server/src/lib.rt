@@ -3,6 +3,7 @@
 
 mod commit_table;
 mod disk_server;
+mod fetching;
 mod file_requests;
 mod file_syncs;
 mod held_file;

@@ -1,13 +1,14 @@
-use Rattle.std.proofs.Common.{ap, refl, sym, ◌∙◌, subst}
+use Rattle.std.proofs.Common.{◌≡◌, Option, true, ap, refl, rules, sym, ◌∙◌, subst}
+use Rattle.std.specs.FinMap as map
 use Rattle.ufs_client.specs.Played.{tells_fault}
 use Rattle.ufs_client.proofs.FaultLemmas.{file_faultless, plain_faultless}
 use Rattle.ufs_client.proofs.Replies.{desc_there}
 use Rattle.ufs_bitmap.specs.Blocks.{BlockSet}
 use Rattle.ufs_bitmap.specs.Taking.{IsApart}
-use Rattle.ufs_file.specs.Hand.{whole_as}
-use Rattle.ufs_file.proofs.UnreadLemmas.{content_itself}
+use Rattle.ufs_file.specs.Hand.{IsOf, whole_as}
 use Rattle.ufs_files.specs.Files.{AreNumbered}
 use Rattle.ufs_model.specs.History.{is_excused}
+use Rattle.ufs_model.specs.declared.data.Desc.{Desc}
 use Rattle.ufs_durable.specs.Serving.{IsApplied}
 use Rattle.ufs_durable.specs.State.{DurableState, blocks_held, state_of}
 use Rattle.ufs_store.specs.State.{geometry_of_store}
@@ -27,7 +28,7 @@ returns-in_default g c =
     let law = c.file_request_law.ensures in
     let form = sym c.geometry-geometry.ensures.is in
     let same = sym c.in_default.ensures.err in
-    let memory = c.out_of_memory.ensures in
+    let memory = c.out_of_memory-in_default.ensures in
     let excused = ap is_excused memory.reply in
     let stays = subst (λ (p : Parts). Stays p0 p s0 s1) same (stays_gathered (rests p0 s0 c.requires.sound) law.free_sound moved.moved moved.rest moved.store) in
     let kept = subst (λ (p : Parts). StaysOnDisk p0 p s0 s1 g.D.Door.keeps) same
@@ -39,6 +40,16 @@ returns-in_default g c =
       calm = ap tells_fault memory.reply;
       store = moved.store;
     }
+
+-- where blocks that it needs aren't in memory nothing has changed
+pub returns-then-not-is_ready-clause-promise : goal.returns-then-not-is_ready-clause-promise
+returns-then-not-is_ready-clause-promise g c visible =
+    let form = sym c.geometry-geometry.ensures.is in
+    excused_promise (rests_on_disk c.geometry-geometry.result c.always_law.ensures.rest g.D.Door.keeps c.args.self.now (g.D.Door.store c.args.door.now) form) c.geometry-geometry.result c.on_disk_law.ensures.excused form
+    (ap is_excused c.out_of_memory.ensures.reply)
+
+pub returns-then-not-is_ready-clause-excused : goal.returns-then-not-is_ready-clause-excused
+returns-then-not-is_ready-clause-excused g c visible e = rests_on_disk c.geometry-geometry.result c.always_law.ensures.rest g.D.Door.keeps c.args.self.now (g.D.Door.store c.args.door.now) (sym c.geometry-geometry.ensures.is)
 
 out_before : (g : Given.Over) (c : goal.After-apply-arg-3-1 g) → IsOut (g.D.Door.store c.gather.new.door) c.gather.new.self c.take_out.new.self c.args.file c.in-Ok.held.hand c.in-Ok.held.commits
 out_before g c =
@@ -57,6 +68,12 @@ apply-applied-requires-clause-noted g c = (whole (out_before g c)).noted
 
 pub apply-applied-requires-clause-apart : goal.apply-applied-requires-clause-apart
 apply-applied-requires-clause-apart g c = subst (λ (b : BlockSet). IsApart b (blocks_held (state_of c.in-Ok.held.hand c.in-Ok.held.commits))) (sym (ap (λ (p : Parts). p.pool) c.self-2.view_is)) (apart (out_before g c))
+
+pub apply-applied-requires-clause-there : goal.apply-applied-requires-clause-there
+apply-applied-requires-clause-there g c d is allowed =
+    let yes : c.is_ready.result ≡ true = search rules in
+    (c.is_ready.ensures.yes yes).needed d c.args.file c.in-Ok.held.hand c.requires.kind is (subst (λ (o : Option Desc). IsOf o c.args.file) is c.requires.named)
+    (ap (λ (p : Parts). map.get p.files c.args.file) (sym c.gather.ensures.rest) ∙ c.in-Ok.ensures.there) allowed
 
 pub returns : goal.returns
 returns g c =
@@ -124,6 +141,6 @@ returns g c =
         on_disk = λ start history on. excused_on_disk out back c.told_law.ensures.back c.told_law.ensures.on_disk numbered e start history (kept.on_disk start history on);
         moments = kept.moments;
       };
-      calm = plain_faultless entry.reply (λ x is. ap tells_fault is ∙ file_faultless (whole_as hand.content.bytes hand) there.0 ask.op _ x (done.excused x is there.0 there.1 hand.content.bytes (content_itself hand.content)));
+      calm = plain_faultless entry.reply (λ x is. ap tells_fault is ∙ file_faultless (whole_as hand.content.bytes hand) there.0 ask.op _ x (done.excused x is there.0 there.1 hand.content.bytes (record { long = refl; same = λ place at. refl })));
       store = moved.store;
     }
