@@ -1,9 +1,9 @@
 -- What is told again has the same requests in the same order, and is the history again from its own tree.
-use Rattle.std.proofs.Common.{◌≡◌, ℕ, List, [], ◌∷◌, Bool, true, false, cond, eqb, map, length, take, ap, sym, refl, ◌∙◌, ◌⊎◌, inl, inr, ◌+◌}
+use Rattle.std.proofs.Common.{◌≡◌, ℕ, List, [], ◌∷◌, Bool, true, false, cond, eqb, map, length, take, ap, sym, refl, ◌∙◌, ◌⊎◌, inl, inr, ◌+◌, suc}
 use Rattle.std.proofs.lemmas.List.{length-map}
 use Rattle.std.specs.List.{range_with_len}
 use Rattle.ufs_model.specs.PosixTree.{PosixTree}
-use Rattle.ufs_model.specs.History.{goes_on, IsReplyTo, IsExcused, entries_of, requests_of}
+use Rattle.ufs_model.specs.History.{goes_on, IsReplyTo, IsExcused, IsLegalFrom, entries_of, requests_of}
 use Rattle.ufs_model.specs.Posix.{posix}
 use Rattle.ufs_model.specs.declared.data.Entry.{Entry}
 use Rattle.ufs_model.specs.declared.data.Reply.{Reply}
@@ -35,7 +35,7 @@ module _ (u : PosixTree) (history : List Entry) (client : ℕ) where
   ops : map (λ e. e.op) (entries_of client again) ≡ map (λ e. e.op) (entries_of client history)
   ops = keeps (λ e. e.op) (λ u e. refl) client u history
 
-  count : length (entries_of client again) ≡ length (entries_of client history)
+  pub count : length (entries_of client again) ≡ length (entries_of client history)
   count = sym (length-map (entries_of client again) (λ e. e.op)) ∙ ap length ops ∙ length-map (entries_of client history) (λ e. e.op)
 
 pub order : OrderIsKept
@@ -46,6 +46,10 @@ order u clients history is = record {
 
 pub complete : AllIsAnswered
 complete u clients history is client = count u history client ∙ is client
+
+pub long : (u : PosixTree) (history : List Entry) → length (redrawn_all u history) ≡ length history
+long u [] = refl
+long u (entry ∷ history) = ap suc (long (goes_on u (redrawn u entry)) history)
 
 -- ---- from its own tree
 
@@ -67,6 +71,25 @@ module _ (t u : PosixTree) (entry : Entry) where
 
   same_entry : IsReplyTo t entry → redrawn t (redrawn u entry) ≡ entry
   same_entry so = λ i. record entry { reply = same_reply entry.reply so i }
+
+-- a tree gives its own entry
+module _ (t : PosixTree) (entry : Entry) where
+  own_reply : (r : Reply) → Gives t t entry r → redrawn_reply t entry.client entry.op r ≡ r
+  own_reply = by_reply (λ r. Gives t t entry r → redrawn_reply t entry.client entry.op r ≡ r) (λ x so. refl) plain_own
+    where
+      plain_own : (r : Reply) → IsPlain r → Gives t t entry r → redrawn_reply t entry.client entry.op r ≡ r
+      plain_own r plain (inl e) = plain_redrawn t entry.client entry.op r plain ∙ sym e
+      plain_own r plain (inr so) = absurd (unexcused t entry.client entry.op r plain so)
+
+  pub own_entry : IsReplyTo t entry → redrawn t entry ≡ entry
+  own_entry so = λ i. record entry { reply = own_reply entry.reply so i }
+
+-- and its own history
+pub own_history : (ticket : ℕ) (t : PosixTree) (history : List Entry) → IsLegalFrom ticket t history → redrawn_all t history ≡ history
+own_history ticket t [] so = refl
+own_history ticket t (entry ∷ history) so =
+    let first : redrawn t entry ≡ entry = own_entry t entry so.0.replied in
+    (λ i. first i ∷ redrawn_all (goes_on t (first i)) history) ∙ ap (λ h. entry ∷ h) (own_history (ticket + 1) (goes_on t entry) history so.1)
 
 pub back : RetellsBack
 back ticket t u [] so = refl
