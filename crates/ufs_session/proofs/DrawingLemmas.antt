@@ -27,6 +27,9 @@ ok_done : (r : Reply) → is_ok r ≡ true → r ≡ reply.Done
 ok_done reply.Done e = refl
 ok_done _ e = cc
 
+pub acked_done : (e : Entry) → acknowledges e ≡ true → e.reply ≡ reply.Done
+acked_done e acks = ok_done e.reply (both (is_ok e.reply) (asks_commit e.op) acks).0
+
 pub is_acked : (k : Start) (history : List Entry) (e : Entry) (fds : Descs) (v : View) (cells : Cells) → IsServedIn (tree_after k.tree history) history e fds → HasSession k history (Some (e.client, e.op)) v → IsCoveredIn k (history ++ e ∷ []) v → state_in v ≡ cells
     → (IsDiskVisible k → ExplainsImages k.tree (history ++ e ∷ []) cells) → acknowledges e ≡ true → IsAcknowledged k history (tree_after k.tree history) e v
 is_acked k history e fds v cells served session covered state explained acks =

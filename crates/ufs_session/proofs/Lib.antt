@@ -4,4 +4,5 @@ pub mod ClientsLemmas
 pub mod ThroughoutLemmas
 pub mod OwnLemmas
 pub mod SeenLemmas
+pub mod HadLemmas
 pub mod DrawingLemmas

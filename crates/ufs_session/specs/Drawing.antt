@@ -1,9 +1,10 @@
 -- What is asked of a request that was served, so that its entry may be drawn.
 use Rattle.std.specs.Prelude.{ℕ, ◌≡◌, ◌≢◌, ◌<◌, ◌&&◌, ◌+◌, Bool, IsTrue, List, [], ◌∷◌, ◌++◌, length, map, drop, if◌then◌else◌, Option, Some, None}
+use Rattle.ufs_alike.specs.Redrawn.{redrawn, redrawn_all}
 use Rattle.ufs_base.specs.declared.limits.TheConstants.{MAX_CLIENTS}
 use Rattle.ufs_fds.specs.Descriptors.{AreOf, Descs}
 use Rattle.ufs_model.specs.Asks.{fd_told}
-use Rattle.ufs_model.specs.History.{IsReplyTo, entries_of, goes_on}
+use Rattle.ufs_model.specs.History.{IsReplyTo, entries_of, goes_on, tree_after}
 use Rattle.ufs_model.specs.PosixTree.{PosixTree, desc_at}
 use Rattle.ufs_model.specs.declared.data.Entry.{Entry}
 use Rattle.ufs_model.specs.declared.data.Excuse.TheVariants as excuse
@@ -22,6 +23,22 @@ use Rattle.ufs_store.specs.State.{StoreState}
 use Rattle.ufs_store_steps.specs.Cells.{cells_of}
 use Rattle.ufs_stored.specs.OnDisk.{IsOnDisk}
 use Rattle.ufs_stored.specs.Parts.{Parts}
+
+-- ---- what the hand has of what was told
+
+-- the history, told again from the tree with which the session starts
+abbrev pub had_as : Start → List Entry → List Entry
+had_as k told = redrawn_all k.tree told
+
+-- the tree after it
+abbrev pub tree_had : Start → List Entry → PosixTree
+tree_had k told = tree_after k.tree (had_as k told)
+
+-- an entry behind what was told
+abbrev pub entry_had : Start → List Entry → Entry → Entry
+entry_had k told entry = redrawn (tree_had k told) entry
+
+-- ---- a request was served
 
 -- The entry goes on from this history, which leads to this tree; and the client has these descriptors behind it.
 pub record IsServedIn (t : PosixTree) (history : List Entry) (entry : Entry) (fds : Descs) : Type 0 where

@@ -1,6 +1,7 @@
 -- What a session from a tree has told its clients.
 use Rattle.std.specs.Prelude.{ℕ, ◌≡◌, ◌+◌, ◌*◌, ◌^◌, ◌≤◌, List, Result, Ok, None, length}
 use Rattle.std.specs.FinMap as map
+use Rattle.ufs_alike.specs.Alike.{AreAlike}
 use Rattle.ufs_base.specs.declared.limits.TheConstants.{MAX_CLIENTS, MAX_REQUESTS}
 use Rattle.ufs_model.specs.PosixTree.{PosixTree}
 use Rattle.ufs_model.specs.History.{IsLegal, IsInOrder, IsComplete}
@@ -9,6 +10,8 @@ use Rattle.ufs_model.specs.declared.data.Entry.{Entry}
 use Rattle.ufs_client.specs.Own.{AreServedFrom}
 use Rattle.ufs_client.specs.Played.{IsMerged}
 use Rattle.ufs_client.specs.declared.played.EndFault.{EndFault}
+use Rattle.ufs_sound.specs.Parts.{Start}
+use Rattle.ufs_sound.specs.Visible.{IsDiskVisible}
 use Rattle.ufs_stored.specs.Parts.{Parts}
 use Rattle.ufs_stored.specs.Stored.{ArePartsOf}
 
@@ -17,6 +20,17 @@ pub record MayBegin (p : Parts) (start : PosixTree) : Type 0 where
   pub parts : ArePartsOf p start
   pub closed : (client fd : ℕ) → map.get start.fds (client, fd) ≡ None
   pub numbers : start.next + MAX_CLIENTS * MAX_REQUESTS ≤ 2 ^ 31
+
+-- The tree is the start's. Over a disk that the start doesn't see, its files may have other bytes, and as many.
+pub record IsLikeStart (k : Start) (tree : PosixTree) : Type 0 where
+  pub alike : AreAlike tree k.tree
+  pub seen : IsDiskVisible k → tree ≡ k.tree
+
+-- The parts are those of such a tree, with which a session may begin.
+pub record BeginsAs (k : Start) (p : Parts) : Type 0 where
+  pub tree : PosixTree
+  pub like : IsLikeStart k tree
+  pub begins : MayBegin p tree
 
 -- The transcripts are those of one history, in which a tree that begins as this one, and is served by one thread, gives
 -- each reply, or the reply is an excuse that fits and leaves the tree; no two excuses tell one fault. The history has

@@ -1,13 +1,13 @@
 // The entry of a request is drawn by the hand with all parts.
 ghost use Rattle.std.specs.Prelude.{ℕ, ◌+◌, ◌≡◌, ◌⊎◌, ◌≤◌, ◌++◌, ◌∷◌, [], List, None, Option, Some, length, true};
-ghost use Rattle.ufs_model.specs.History.{joined, tree_after};
+ghost use Rattle.ufs_model.specs.History.{joined};
 ghost use Rattle.ufs_model.specs.declared.data.Entry.{Entry};
 ghost use Rattle.ufs_model.specs.declared.data.Op.{Op};
 ghost use Rattle.ufs_model.specs.declared.data.Reply.TheVariants as reply;
-ghost use Rattle.ufs_one_hand.specs.Drawn.{HasCauses, IsAcknowledged, MayPass};
+ghost use Rattle.ufs_one_hand.specs.Drawn.{HasCauses, IsAcknowledged, IsReplyAlike, MayPass};
 ghost use Rattle.ufs_one_hand.specs.OneHand.{HasSession, IsCoveredIn, IsStampedIn, KnowsSynced, passed_in, stamp_in, state_in};
 ghost use Rattle.ufs_prefix.specs.Changes.{asks_commit};
-ghost use Rattle.ufs_session.specs.Drawing.{IsServedIn, IsShownWith, IsUnfailed, StopsBy, acknowledges, disk_state, short_in, states_behind};
+ghost use Rattle.ufs_session.specs.Drawing.{IsServedIn, IsShownWith, IsUnfailed, StopsBy, acknowledges, disk_state, entry_had, had_as, short_in, states_behind, tree_had};
 ghost use Rattle.ufs_sound.specs.Covers.{step_in};
 ghost use Rattle.ufs_sound.specs.Owned.{Has, times};
 ghost use Rattle.ufs_sound.specs.Parts.{Cells};
@@ -57,7 +57,7 @@ pub(crate) fn stamp_disk<N: Naming, D: Door, P: Passing>(hand: &mut OneHand<N>, 
 }
 
 // Draws the entry of a request that was served: the disk was called for it, and what it acknowledges is committed, as the
-// disk shows.
+// disk shows. The hand has the entry as its own history tells it.
 pub(crate) fn draw<N: Naming, D: Door, F: Since>(
     hand: &mut OneHand<N>,
     door: &D,
@@ -66,16 +66,17 @@ pub(crate) fn draw<N: Naming, D: Door, F: Since>(
     fds: &FdTable,
     entry: Entry,
 ) -> Entry
-    requires served { IsServedIn (tree_after N.start.tree (joined earlier.now.items ++ told.now.items)) (joined earlier.now.items ++ told.now.items) entry fds.now }
-    requires session { HasSession N.start (joined earlier.now.items ++ told.now.items) (Some (entry.client, entry.op)) hand.old }
-    requires fresh { stamp_in hand.old ≡ length (joined earlier.now.items ++ told.now.items) }
-    requires covered { IsCoveredIn N.start (joined earlier.now.items ++ told.now.items) hand.old }
-    requires shown { IsDiskVisible N.start → IsShownWith N.start (joined earlier.now.items ++ told.now.items) entry (states_behind D.keeps (F.count + passed_in hand.old) (D.store door.now)) (disk_state (D.store door.now)) }
+    requires served { IsServedIn (tree_had N.start (joined earlier.now.items ++ told.now.items)) (had_as N.start (joined earlier.now.items ++ told.now.items)) (entry_had N.start (joined earlier.now.items ++ told.now.items) entry) fds.now }
+    requires alike { IsReplyAlike N.start (entry_had N.start (joined earlier.now.items ++ told.now.items) entry).reply entry.reply }
+    requires session { HasSession N.start (had_as N.start (joined earlier.now.items ++ told.now.items)) (Some (entry.client, entry.op)) hand.old }
+    requires fresh { stamp_in hand.old ≡ length (had_as N.start (joined earlier.now.items ++ told.now.items)) }
+    requires covered { IsCoveredIn N.start (had_as N.start (joined earlier.now.items ++ told.now.items)) hand.old }
+    requires shown { IsDiskVisible N.start → IsShownWith N.start (had_as N.start (joined earlier.now.items ++ told.now.items)) (entry_had N.start (joined earlier.now.items ++ told.now.items) entry) (states_behind D.keeps (F.count + passed_in hand.old) (D.store door.now)) (disk_state (D.store door.now)) }
     requires stops { StopsBy hand.old.stop (D.store door.now).stop entry.reply }
     requires unfailed { IsUnfailed hand.old }
     ensures same { result ≡ entry }
-    ensures session { HasSession N.start ((joined earlier.now.items ++ told.now.items) ++ entry ∷ []) None hand.new }
-    ensures covered { IsCoveredIn N.start ((joined earlier.now.items ++ told.now.items) ++ entry ∷ []) hand.new }
+    ensures session { HasSession N.start (had_as N.start ((joined earlier.now.items ++ told.now.items) ++ entry ∷ [])) None hand.new }
+    ensures covered { IsCoveredIn N.start (had_as N.start ((joined earlier.now.items ++ told.now.items) ++ entry ∷ [])) hand.new }
     ensures stamped { (x : Cells) → IsStampedIn hand.old.store x ⊎ Has x (states_behind D.keeps (F.count + passed_in hand.old) (D.store door.now)) → IsStampedIn hand.new.store x }
     ensures passed { passed_in hand.new ≡ passed_in hand.old + length (states_behind D.keeps (F.count + passed_in hand.old) (D.store door.now)) }
     ensures stop { hand.new.stop ≡ (D.store door.now).stop }
@@ -118,11 +119,11 @@ fn keep<N: Naming, A: Answering>(
     told: &Vec<Entry>,
     entry: &Entry,
 )
-    requires before { A.before ≡ tree_after N.start.tree (joined earlier.now.items ++ told.now.items) }
-    requires acknowledged { IsAcknowledged N.start (joined earlier.now.items ++ told.now.items) (tree_after N.start.tree (joined earlier.now.items ++ told.now.items)) entry.now hand.old }
-    ensures session { HasSession N.start (joined earlier.now.items ++ told.now.items) (Some (entry.now.client, entry.now.op)) hand.new }
-    ensures covered { IsCoveredIn N.start ((joined earlier.now.items ++ told.now.items) ++ entry.now ∷ []) hand.new }
-    ensures known { KnowsSynced (step_in (tree_after N.start.tree (joined earlier.now.items ++ told.now.items)) entry.now) hand.new }
+    requires before { A.before ≡ tree_had N.start (joined earlier.now.items ++ told.now.items) }
+    requires acknowledged { IsAcknowledged N.start (had_as N.start (joined earlier.now.items ++ told.now.items)) (tree_had N.start (joined earlier.now.items ++ told.now.items)) entry.now hand.old }
+    ensures session { HasSession N.start (had_as N.start (joined earlier.now.items ++ told.now.items)) (Some (entry.now.client, entry.now.op)) hand.new }
+    ensures covered { IsCoveredIn N.start (had_as N.start (joined earlier.now.items ++ told.now.items) ++ entry.now ∷ []) hand.new }
+    ensures known { KnowsSynced (step_in (tree_had N.start (joined earlier.now.items ++ told.now.items)) entry.now) hand.new }
     ensures stamped { (x : Cells) → IsStampedIn hand.old.store x → IsStampedIn hand.new.store x }
     ensures passed { passed_in hand.new ≡ passed_in hand.old }
     ensures causes { HasCauses entry.now.reply hand.old → HasCauses entry.now.reply hand.new }
@@ -151,17 +152,18 @@ fn draw_entry<N: Naming, A: Answering>(
     fds: &FdTable,
     entry: Entry,
 ) -> Entry
-    requires before { A.before ≡ tree_after N.start.tree (joined earlier.now.items ++ told.now.items) }
+    requires before { A.before ≡ tree_had N.start (joined earlier.now.items ++ told.now.items) }
     requires fds { A.fds ≡ fds.now }
-    requires reply { A.reply ≡ entry.reply }
-    requires served { IsServedIn (tree_after N.start.tree (joined earlier.now.items ++ told.now.items)) (joined earlier.now.items ++ told.now.items) entry fds.now }
-    requires session { HasSession N.start (joined earlier.now.items ++ told.now.items) (Some (entry.client, entry.op)) hand.old }
-    requires covered { IsCoveredIn N.start ((joined earlier.now.items ++ told.now.items) ++ entry ∷ []) hand.old }
-    requires known { entry.reply ≡ reply.Done → asks_commit entry.op ≡ true → KnowsSynced (step_in (tree_after N.start.tree (joined earlier.now.items ++ told.now.items)) entry) hand.old }
-    requires causes { HasCauses entry.reply hand.old }
+    requires reply { A.reply ≡ (entry_had N.start (joined earlier.now.items ++ told.now.items) entry).reply }
+    requires served { IsServedIn (tree_had N.start (joined earlier.now.items ++ told.now.items)) (had_as N.start (joined earlier.now.items ++ told.now.items)) (entry_had N.start (joined earlier.now.items ++ told.now.items) entry) fds.now }
+    requires alike { IsReplyAlike N.start (entry_had N.start (joined earlier.now.items ++ told.now.items) entry).reply entry.reply }
+    requires session { HasSession N.start (had_as N.start (joined earlier.now.items ++ told.now.items)) (Some (entry.client, entry.op)) hand.old }
+    requires covered { IsCoveredIn N.start (had_as N.start ((joined earlier.now.items ++ told.now.items) ++ entry ∷ [])) hand.old }
+    requires known { (entry_had N.start (joined earlier.now.items ++ told.now.items) entry).reply ≡ reply.Done → asks_commit entry.op ≡ true → KnowsSynced (step_in (tree_had N.start (joined earlier.now.items ++ told.now.items)) (entry_had N.start (joined earlier.now.items ++ told.now.items) entry)) hand.old }
+    requires causes { HasCauses (entry_had N.start (joined earlier.now.items ++ told.now.items) entry).reply hand.old }
     ensures same { result ≡ entry }
-    ensures session { HasSession N.start ((joined earlier.now.items ++ told.now.items) ++ entry ∷ []) None hand.new }
-    ensures covered { IsCoveredIn N.start ((joined earlier.now.items ++ told.now.items) ++ entry ∷ []) hand.new }
+    ensures session { HasSession N.start (had_as N.start ((joined earlier.now.items ++ told.now.items) ++ entry ∷ [])) None hand.new }
+    ensures covered { IsCoveredIn N.start (had_as N.start ((joined earlier.now.items ++ told.now.items) ++ entry ∷ [])) hand.new }
     ensures stamped { (x : Cells) → IsStampedIn hand.old.store x → IsStampedIn hand.new.store x }
     ensures passed { passed_in hand.new ≡ passed_in hand.old }
     ensures stop { hand.new.stop ≡ hand.old.stop }

@@ -17,9 +17,9 @@ ghost use Rattle.ufs_stored.specs.OnDisk.{IsExplainedBetween, IsOnDisk};
 ghost use Rattle.ufs_stored.specs.Sound.{IsSoundServer};
 ghost use Rattle.ufs_stored.specs.Stored.{ArePartsOf};
 ghost use Rattle.ufs_one_hand.specs.OneHand.{HasSession, IsCoveredIn, IsStart, state_in};
-ghost use Rattle.ufs_session.specs.Drawing.{IsUnfailed, SeesDisk, Stamps, disk_state};
+ghost use Rattle.ufs_session.specs.Drawing.{IsUnfailed, SeesDisk, Stamps, disk_state, had_as};
 ghost use Rattle.ufs_session.specs.Told.{AreFaultsTold};
-ghost use Rattle.ufs_session.specs.Played.{IsPlayedFrom, MayBegin};
+ghost use Rattle.ufs_session.specs.Played.{BeginsAs, IsLikeStart, IsPlayedFrom, MayBegin};
 ghost use Rattle.ufs_session.specs.Served.{AreServed};
 ghost use Rattle.ufs_session.specs.Serving.{GoesOn, IsDone, IsReached, IsReady};
 ghost use Rattle.ufs_session.specs.Throughout.{AreMomentsStamped, IsExplainedThroughout};
@@ -100,9 +100,9 @@ fn serve_client<N: Naming, D: Door, F: Since>(
     requires client { client < MAX_CLIENTS }
     requires few { length (joined earlier.now.items) ≤ (MAX_CLIENTS - 1) * MAX_REQUESTS }
     requires first { first ≡ length (joined earlier.now.items) }
-    requires ready { IsReady N.start.tree (joined earlier.now.items) server.old client }
-    requires session { HasSession N.start (joined earlier.now.items) None hand.old }
-    requires covered { IsCoveredIn N.start (joined earlier.now.items) hand.old }
+    requires ready { (start : PosixTree) × IsLikeStart N.start start × IsReady start (joined earlier.now.items) server.old client }
+    requires session { HasSession N.start (had_as N.start (joined earlier.now.items)) None hand.old }
+    requires covered { IsCoveredIn N.start (had_as N.start (joined earlier.now.items)) hand.old }
     requires sees { SeesDisk N.start D.visible (D.store door.old) (joined earlier.now.items) server.old }
     requires stamps { Stamps N.start D.keeps F.count (D.store door.old) hand.old }
     requires stop { hand.old.stop ≡ (D.store door.old).stop }
@@ -121,8 +121,8 @@ fn serve_client<N: Naming, D: Door, F: Since>(
         → IsExplainedThroughout D.keeps (D.store door.old).sectors start (joined earlier.now.items) told.new.items (D.store door.old).moments (D.store door.new).moments }
     ensures faults { AreFaultsTold (D.store door.old) (D.store door.new) told.new.items }
     ensures sound { IsSoundServer (geometry_of_store (D.store door.new)) (D.store door.new).unassigned.free server.new }
-    ensures session { HasSession N.start (joined earlier.now.items ++ told.new.items) None hand.new }
-    ensures covered { IsCoveredIn N.start (joined earlier.now.items ++ told.new.items) hand.new }
+    ensures session { HasSession N.start (had_as N.start (joined earlier.now.items ++ told.new.items)) None hand.new }
+    ensures covered { IsCoveredIn N.start (had_as N.start (joined earlier.now.items ++ told.new.items)) hand.new }
     ensures stamps { Stamps N.start D.keeps F.count (D.store door.new) hand.new }
     ensures stop { hand.new.stop ≡ (D.store door.new).stop }
     ensures state { state_in hand.new ≡ disk_state (D.store door.new) }
@@ -158,7 +158,7 @@ fn serve_clients<N: Naming, D: Door, F: Since>(
     clients: OpLists,
     told: &mut Vec<EntryList>,
 ) -> Result<(), EndFault>
-    requires start { MayBegin server.old N.start.tree }
+    requires start { BeginsAs N.start server.old }
     requires session { HasSession N.start [] None hand.old }
     requires covered { IsCoveredIn N.start [] hand.old }
     requires sees { SeesDisk N.start D.visible (D.store door.old) [] server.old }
@@ -169,8 +169,8 @@ fn serve_clients<N: Naming, D: Door, F: Since>(
     requires sound { IsSoundServer (geometry_of_store (D.store door.old)) (D.store door.old).unassigned.free server.old }
     requires none { told.old.items ≡ [] }
     ensures served { AreServed D.visible D.keeps (D.store door.old) (D.store door.new) server.old server.new clients told.new.items result }
-    ensures session { HasSession N.start (joined told.new.items) None hand.new }
-    ensures covered { IsCoveredIn N.start (joined told.new.items) hand.new }
+    ensures session { HasSession N.start (had_as N.start (joined told.new.items)) None hand.new }
+    ensures covered { IsCoveredIn N.start (had_as N.start (joined told.new.items)) hand.new }
     ensures stamps { Stamps N.start D.keeps F.count (D.store door.new) hand.new }
     ensures stop { hand.new.stop ≡ (D.store door.new).stop }
     ensures state { state_in hand.new ≡ disk_state (D.store door.new) }
@@ -215,7 +215,7 @@ pub fn serve<D: Door>(
     clients: OpLists,
 ) -> Session
     requires opened { IsStart opened.start }
-    requires start { MayBegin server.old opened.start.tree }
+    requires start { BeginsAs opened.start server.old }
     requires sees { SeesDisk opened.start D.visible (D.store door.old) [] server.old }
     requires going { (D.store door.old).stop ≡ None }
     requires sound { IsSoundServer (geometry_of_store (D.store door.old)) (D.store door.old).unassigned.free server.old }
@@ -248,7 +248,7 @@ fn serve_in<N: Naming, D: Door, F: Since>(
 ) -> (Session, u64)
     requires name { (opened.table ≡ N.table) × (opened.start ≡ N.start) }
     requires opened { IsStart N.start }
-    requires start { MayBegin server.old N.start.tree }
+    requires start { BeginsAs N.start server.old }
     requires since { F.count ≡ length (all (D.store door.old).moments) }
     requires sees { SeesDisk N.start D.visible (D.store door.old) [] server.old }
     requires going { (D.store door.old).stop ≡ None }

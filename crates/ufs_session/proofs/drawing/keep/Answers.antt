@@ -6,16 +6,17 @@ use Rattle.ufs_one_hand.specs.Drawn.{IsAcknowledged}
 use Rattle.ufs_one_hand.specs.OneHand.{KnowsSynced}
 use Rattle.ufs_sound.specs.Covers.{step_in}
 use Rattle.ufs_sound.specs.Owned.{Has, times}
+use Rattle.ufs_session.specs.Drawing.{had_as}
 use Rattle.ufs_session.proofs.drawing.keep.Goals as goal
 
 pub keep-requires : goal.keep-requires
 keep-requires g c = record {
-  answer = (joined c.args.earlier.now.items ++ c.args.told.now.items, subst (λ (t : PosixTree). IsAcknowledged g.N.Naming.start (joined c.args.earlier.now.items ++ c.args.told.now.items) t c.args.entry.now c.args.hand.now) (sym c.requires.before) c.requires.acknowledged);
+  answer = (had_as g.N.Naming.start (joined c.args.earlier.now.items ++ c.args.told.now.items), subst (λ (t : PosixTree). IsAcknowledged g.N.Naming.start (had_as g.N.Naming.start (joined c.args.earlier.now.items ++ c.args.told.now.items)) t c.args.entry.now c.args.hand.now) (sym c.requires.before) c.requires.acknowledged);
 }
 
 pub returns : goal.returns
 returns g c =
-    let before = joined c.args.earlier.now.items ++ c.args.told.now.items in
+    let before = had_as g.N.Naming.start (joined c.args.earlier.now.items ++ c.args.told.now.items) in
     let e = c.args.entry.now in
     let acked = subst (λ (t : PosixTree). IsAcknowledged g.N.Naming.start before t e c.args.hand.now) (sym c.requires.before) c.requires.acknowledged in record {
       session = c.keep.ensures.session before acked;

@@ -5,8 +5,8 @@ use Rattle.ufs_session.proofs.session.serve.Goals as goal
 
 pub returns-clause-once : goal.returns-clause-once
 returns-clause-once g c =
-    let start = c.args.opened.start.tree in
-    once_rising _ (rising_from 0 start _ (c.serve_in-session.ensures.served.played start c.requires.start).legal.entries)
+    let s = c.requires.start in
+    once_rising _ (rising_from 0 s.tree _ (c.serve_in-session.ensures.served.played s.tree s.begins).legal.entries)
 
 pub returns-clause-calm : goal.returns-clause-calm
 returns-clause-calm g c none =

@@ -6,7 +6,7 @@ use Rattle.ufs_one_hand.specs.OneHand.{HasSession, IsCoveredIn, state_in}
 use Rattle.ufs_store.specs.State.{geometry_of_store}
 use Rattle.ufs_stored.specs.OnDisk.{IsOnDisk}
 use Rattle.ufs_stored.specs.Sound.{IsSoundServer}
-use Rattle.ufs_session.specs.Drawing.{IsUnfailed, Stamps, disk_state}
+use Rattle.ufs_session.specs.Drawing.{IsUnfailed, Stamps, disk_state, had_as}
 use Rattle.ufs_session.specs.Serving.{IsReady}
 use Rattle.ufs_session.specs.Throughout.{IsExplainedThroughout}
 use Rattle.ufs_session.specs.Told.{AreFaultsTold}
@@ -23,8 +23,8 @@ invariant-loop-op g l =
       on_disk : IsTrue g.D.Door.visible → (start : PosixTree) → IsReady start before l.fn.server l.fn.client → IsOnDisk first start before l.fn.server → IsOnDisk now start (before ++ l.told.items) l.server;
       moments : IsTrue g.D.Door.visible → (start : PosixTree) → IsReady start before l.fn.server l.fn.client → IsOnDisk first start before l.fn.server
           → IsExplainedThroughout g.D.Door.keeps first.sectors start before l.told.items first.moments now.moments;
-      session : HasSession g.N.Naming.start (before ++ l.told.items) None l.hand;
-      covered : IsCoveredIn g.N.Naming.start (before ++ l.told.items) l.hand;
+      session : HasSession g.N.Naming.start (had_as g.N.Naming.start (before ++ l.told.items)) None l.hand;
+      covered : IsCoveredIn g.N.Naming.start (had_as g.N.Naming.start (before ++ l.told.items)) l.hand;
       stamps : Stamps g.N.Naming.start g.D.Door.keeps g.F.Since.count now l.hand;
       stop : l.hand.stop ≡ now.stop;
       state : state_in l.hand ≡ disk_state now;

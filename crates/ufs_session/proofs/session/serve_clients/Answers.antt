@@ -11,6 +11,8 @@ use Rattle.ufs_session.specs.Played.{IsPlayedFrom, MayBegin}
 use Rattle.ufs_session.specs.Served.{AreServed, GoesAlong}
 use Rattle.ufs_session.specs.Serving.{IsReady}
 use Rattle.ufs_session.proofs.ClientsLemmas.{AreServing, few, goes_along, low, none_served, one_client_more, played_here, played_more, reached_more, ready}
+use Rattle.ufs_session.specs.Drawing.{had_as}
+use Rattle.ufs_session.proofs.HadLemmas.{begins_seen}
 use Rattle.ufs_session.proofs.ToldLemmas.{none_told, once_told}
 use Rattle.ufs_session.proofs.session.serve_clients.Given.{Over}
 use Rattle.ufs_session.proofs.session.serve_clients.Goals as goal
@@ -32,8 +34,8 @@ loop-requests-init g c =
         geometry = refl;
         sectors = refl;
       });
-      session = subst (λ (told : List (List Entry)). HasSession g.N.Naming.start (joined told) None c.args.hand.now) (sym c.requires.none) c.requires.session;
-      covered = subst (λ (told : List (List Entry)). IsCoveredIn g.N.Naming.start (joined told) c.args.hand.now) (sym c.requires.none) c.requires.covered;
+      session = subst (λ (told : List (List Entry)). HasSession g.N.Naming.start (had_as g.N.Naming.start (joined told)) None c.args.hand.now) (sym c.requires.none) c.requires.session;
+      covered = subst (λ (told : List (List Entry)). IsCoveredIn g.N.Naming.start (had_as g.N.Naming.start (joined told)) c.args.hand.now) (sym c.requires.none) c.requires.covered;
       stamps = c.requires.stamps;
       stop = c.requires.stop;
       state = c.requires.state;
@@ -57,11 +59,11 @@ returns-then-is_err-clause-served g c =
 
 pub returns-then-is_err-clause-session : goal.returns-then-is_err-clause-session
 returns-then-is_err-clause-session g c =
-    subst (λ (told : List (List Entry)). HasSession g.N.Naming.start (joined told) None c.loop-requests.hand) (sym c.reserve.ensures.items) c.loop-requests.invariant.session
+    subst (λ (told : List (List Entry)). HasSession g.N.Naming.start (had_as g.N.Naming.start (joined told)) None c.loop-requests.hand) (sym c.reserve.ensures.items) c.loop-requests.invariant.session
 
 pub returns-then-is_err-clause-covered : goal.returns-then-is_err-clause-covered
 returns-then-is_err-clause-covered g c =
-    subst (λ (told : List (List Entry)). IsCoveredIn g.N.Naming.start (joined told) c.loop-requests.hand) (sym c.reserve.ensures.items) c.loop-requests.invariant.covered
+    subst (λ (told : List (List Entry)). IsCoveredIn g.N.Naming.start (had_as g.N.Naming.start (joined told)) c.loop-requests.hand) (sym c.reserve.ensures.items) c.loop-requests.invariant.covered
 
 -- ---- before a client is served
 
@@ -83,24 +85,26 @@ module _ (g : Over) (c : After-new-mine g) where
       (sym c.reserve.ensures.items) c.loop-requests.invariant.disk
 
 pub serve_client-ended-requires-clause-ready : goal.serve_client-ended-requires-clause-ready
-serve_client-ended-requires-clause-ready g c = here g (goal.at.serve_client-ended-requires-clause-ready g c).After-new-mine g.N.Naming.start.tree c.requires.start
+serve_client-ended-requires-clause-ready g c =
+    let s = c.requires.start in
+    (s.tree, s.like, here g (goal.at.serve_client-ended-requires-clause-ready g c).After-new-mine s.tree s.begins)
 
 pub serve_client-ended-requires-clause-faults : goal.serve_client-ended-requires-clause-faults
 serve_client-ended-requires-clause-faults g c = (g.D.Door.store c.args.door.now, (along g (goal.at.serve_client-ended-requires-clause-faults g c).After-new-mine).faults)
 
 pub serve_client-ended-requires-clause-first : goal.serve_client-ended-requires-clause-first
-serve_client-ended-requires-clause-first g c = (so_far g (goal.at.serve_client-ended-requires-clause-first g c).After-new-mine g.N.Naming.start.tree c.requires.start).first_is
+serve_client-ended-requires-clause-first g c = (so_far g (goal.at.serve_client-ended-requires-clause-first g c).After-new-mine c.requires.start.tree c.requires.start.begins).first_is
 
 pub serve_client-ended-requires-clause-sees : goal.serve_client-ended-requires-clause-sees
-serve_client-ended-requires-clause-sees g c = λ visible. let there = c.requires.sees visible in (there.0, (along g (goal.at.serve_client-ended-requires-clause-sees g c).After-new-mine).on_disk there.0 g.N.Naming.start.tree c.requires.start there.1)
+serve_client-ended-requires-clause-sees g c = λ visible. let there = c.requires.sees visible in (there.0, (along g (goal.at.serve_client-ended-requires-clause-sees g c).After-new-mine).on_disk there.0 g.N.Naming.start.tree (begins_seen g.N.Naming.start c.args.server.now c.requires.start visible) there.1)
 
 pub serve_client-ended-requires-clause-session : goal.serve_client-ended-requires-clause-session
 serve_client-ended-requires-clause-session g c =
-    subst (λ (told : List (List Entry)). HasSession g.N.Naming.start (joined told) None c.loop-requests.hand) (sym c.reserve.ensures.items) c.loop-requests.invariant.session
+    subst (λ (told : List (List Entry)). HasSession g.N.Naming.start (had_as g.N.Naming.start (joined told)) None c.loop-requests.hand) (sym c.reserve.ensures.items) c.loop-requests.invariant.session
 
 pub serve_client-ended-requires-clause-covered : goal.serve_client-ended-requires-clause-covered
 serve_client-ended-requires-clause-covered g c =
-    subst (λ (told : List (List Entry)). IsCoveredIn g.N.Naming.start (joined told) c.loop-requests.hand) (sym c.reserve.ensures.items) c.loop-requests.invariant.covered
+    subst (λ (told : List (List Entry)). IsCoveredIn g.N.Naming.start (had_as g.N.Naming.start (joined told)) c.loop-requests.hand) (sym c.reserve.ensures.items) c.loop-requests.invariant.covered
 
 -- ---- behind it
 
@@ -148,11 +152,11 @@ returns-in_err-ended-clause-served g c =
 
 pub returns-in_err-ended-clause-session : goal.returns-in_err-ended-clause-session
 returns-in_err-ended-clause-session g c =
-    subst (λ (h : List Entry). HasSession g.N.Naming.start h None c.serve_client-ended.new.hand) (sym (both g (goal.at.returns-in_err-ended-clause-session g c).After-unwrap)) c.serve_client-ended.ensures.session
+    subst (λ (h : List Entry). HasSession g.N.Naming.start (had_as g.N.Naming.start h) None c.serve_client-ended.new.hand) (sym (both g (goal.at.returns-in_err-ended-clause-session g c).After-unwrap)) c.serve_client-ended.ensures.session
 
 pub returns-in_err-ended-clause-covered : goal.returns-in_err-ended-clause-covered
 returns-in_err-ended-clause-covered g c =
-    subst (λ (h : List Entry). IsCoveredIn g.N.Naming.start h c.serve_client-ended.new.hand) (sym (both g (goal.at.returns-in_err-ended-clause-covered g c).After-unwrap)) c.serve_client-ended.ensures.covered
+    subst (λ (h : List Entry). IsCoveredIn g.N.Naming.start (had_as g.N.Naming.start h) c.serve_client-ended.new.hand) (sym (both g (goal.at.returns-in_err-ended-clause-covered g c).After-unwrap)) c.serve_client-ended.ensures.covered
 
 pub loop-requests-preserved : goal.loop-requests-preserved
 loop-requests-preserved g c =
@@ -169,8 +173,8 @@ loop-requests-preserved g c =
           (subst (λ (told : List (List Entry)). AreServing start c.args.clients told s.new.server (l.client + 1) (l.first + length mine) (l.yielded ++ c.in-Some.requests ∷ []) rest) (sym (pushed g at.After-unwrap))
           (one_client_more start c.args.clients earlier l.server l.client l.first l.yielded c.in-Some.requests rest (so_far g before start may) mine s.ensures.goes_on s.new.server (s.ensures.left start (here g before start may)) (c.in_ok-ended.ensures.done start (here g before start may))));
       disk = along_behind g at.After-unwrap (along g before) (here g before);
-      session = subst (λ (h : List Entry). HasSession g.N.Naming.start h None s.new.hand) (sym (both g at.After-unwrap)) s.ensures.session;
-      covered = subst (λ (h : List Entry). IsCoveredIn g.N.Naming.start h s.new.hand) (sym (both g at.After-unwrap)) s.ensures.covered;
+      session = subst (λ (h : List Entry). HasSession g.N.Naming.start (had_as g.N.Naming.start h) None s.new.hand) (sym (both g at.After-unwrap)) s.ensures.session;
+      covered = subst (λ (h : List Entry). IsCoveredIn g.N.Naming.start (had_as g.N.Naming.start h) s.new.hand) (sym (both g at.After-unwrap)) s.ensures.covered;
       stamps = s.ensures.stamps;
       stop = s.ensures.stop;
       state = s.ensures.state;
@@ -180,8 +184,8 @@ loop-requests-preserved g c =
 pub overflow_add-first : goal.overflow_add-first
 overflow_add-first g c =
     let l = c.loop-requests in
-    let start = g.N.Naming.start.tree in
-    let serving = so_far g (goal.at.overflow_add-first g c).After-new-mine start c.requires.start in
+    let start = c.requires.start.tree in
+    let serving = so_far g (goal.at.overflow_add-first g c).After-new-mine start c.requires.start.begins in
     let short = few start c.args.clients c.reserve.new.self.items l.server l.client l.first l.yielded c.in-Some.requests c.next.new.self.rest.items serving in
     let count = c.len.ensures ∙ c.serve_client-ended.new.told.ok.0 in
     omega (arith, short, serving.first_is, count, c.serve_client-ended.ensures.goes_on.few)
@@ -189,7 +193,7 @@ overflow_add-first g c =
 pub overflow_add-client : goal.overflow_add-client
 overflow_add-client g c =
     let l = c.loop-requests in
-    let less = low g.N.Naming.start.tree c.args.clients c.reserve.new.self.items l.server l.client l.first l.yielded c.in-Some.requests c.next.new.self.rest.items (so_far g (goal.at.overflow_add-client g c).After-new-mine g.N.Naming.start.tree c.requires.start) in
+    let less = low c.requires.start.tree c.args.clients c.reserve.new.self.items l.server l.client l.first l.yielded c.in-Some.requests c.next.new.self.rest.items (so_far g (goal.at.overflow_add-client g c).After-new-mine c.requires.start.tree c.requires.start.begins) in
     omega (arith, less)
 
 -- ---- each is served

@@ -2,7 +2,7 @@ use Rattle.std.proofs.Common.{◌≡◌, None}
 use Rattle.ufs_model.specs.History.{joined}
 use Rattle.ufs_model.specs.PosixTree.{PosixTree}
 use Rattle.ufs_one_hand.specs.OneHand.{HasSession, IsCoveredIn, state_in}
-use Rattle.ufs_session.specs.Drawing.{IsUnfailed, Stamps, disk_state}
+use Rattle.ufs_session.specs.Drawing.{IsUnfailed, Stamps, disk_state, had_as}
 use Rattle.ufs_session.specs.Played.{MayBegin}
 use Rattle.ufs_session.specs.Served.{GoesAlong}
 use Rattle.ufs_session.proofs.ClientsLemmas.{AreServing}
@@ -15,8 +15,8 @@ invariant-loop-requests g l =
     record {
       serving : (start : PosixTree) → MayBegin l.fn.server start → AreServing start l.fn.clients l.told.items l.server l.client l.first l.yielded l.requests-iterator.rest.items;
       disk : GoesAlong g.D.Door.visible g.D.Door.keeps first now l.fn.server l.server (joined l.told.items);
-      session : HasSession g.N.Naming.start (joined l.told.items) None l.hand;
-      covered : IsCoveredIn g.N.Naming.start (joined l.told.items) l.hand;
+      session : HasSession g.N.Naming.start (had_as g.N.Naming.start (joined l.told.items)) None l.hand;
+      covered : IsCoveredIn g.N.Naming.start (had_as g.N.Naming.start (joined l.told.items)) l.hand;
       stamps : Stamps g.N.Naming.start g.D.Door.keeps g.F.Since.count now l.hand;
       stop : l.hand.stop ≡ now.stop;
       state : state_in l.hand ≡ disk_state now;

@@ -8,6 +8,8 @@ use Rattle.ufs_store_steps.specs.Cells.{cells_of}
 use Rattle.ufs_model.specs.History.{joined}
 use Rattle.ufs_model.specs.declared.data.Entry.{Entry}
 use Rattle.ufs_session.specs.Served.{AreServed}
+use Rattle.ufs_session.specs.Drawing.{had_as}
+use Rattle.ufs_session.proofs.HadLemmas.{had_length, told_seen}
 use Rattle.ufs_session.proofs.SeenLemmas.{drop_all, explained_cells}
 use Rattle.ufs_session.proofs.session.serve_in.Goals as goal
 
@@ -19,8 +21,9 @@ returns-clause-served g c =
 
 pub returns-clause-entries : goal.returns-clause-entries
 returns-clause-entries g c =
+    let told = joined c.serve_clients-ended.new.told.items in
     subst (λ (lists : List (List Entry)). c.close-drawn.result ≡ length (joined lists)) (sym c.from_vec.ensures)
-    (c.close-drawn.ensures.tickets _ c.serve_clients-ended.ensures.session)
+    (c.close-drawn.ensures.tickets (had_as g.N.Naming.start told) c.serve_clients-ended.ensures.session ∙ had_length g.N.Naming.start told)
 
 pub close-drawn-requires : goal.close-drawn-requires
 close-drawn-requires g c = record { session = (_, c.serve_clients-ended.ensures.session) }
@@ -48,11 +51,16 @@ serve_clients-ended-requires-clause-stamps g c = λ sees keeps.
 
 pub returns-clause-stamped : goal.returns-clause-stamped
 returns-clause-stamped g c sees keeps x has =
+    let k = g.N.Naming.start in
     let s = c.serve_clients-ended in
+    let told = joined s.new.told.items in
     let later = g.D.Door.store s.new.door in
     let stamps = s.ensures.stamps sees keeps in
-    subst (λ (lists : List (List Entry)). IsExplainedAtStamps g.N.Naming.start.tree (joined lists) x) (sym c.from_vec.ensures)
-    (c.close-drawn.ensures.explained sees _ s.ensures.session x (stamps.stamped x (subst (λ (n : ℕ). Has x (map (cells_of later.sectors) (drop n (all later.moments)))) (sym c.requires.since) has)))
+    let began = c.requires.start in
+    let seen = told_seen k began.tree began.like told (s.ensures.served.played began.tree began.begins).legal.entries sees in
+    subst (λ (lists : List (List Entry)). IsExplainedAtStamps k.tree (joined lists) x) (sym c.from_vec.ensures)
+    (subst (λ (h : List Entry). IsExplainedAtStamps k.tree h x) seen
+    (c.close-drawn.ensures.explained sees _ s.ensures.session x (stamps.stamped x (subst (λ (n : ℕ). Has x (map (cells_of later.sectors) (drop n (all later.moments)))) (sym c.requires.since) has))))
 
 pub stamp_disk-requires-clause-unfailed : goal.stamp_disk-requires-clause-unfailed
 stamp_disk-requires-clause-unfailed g c = λ none. c.begin-hand.ensures.answered
