@@ -1,15 +1,16 @@
 -- What was told, as the session's hand has it.
-use Rattle.std.proofs.Common.{◌≡◌, ◌⊎◌, inl, inr, ◌++◌, ◌∷◌, [], ℕ, List, Option, Some, length, ap, sym, refl, ◌∙◌, subst}
+use Rattle.std.proofs.Common.{◌≡◌, ◌⊎◌, inl, inr, ◌++◌, ◌∷◌, [], ℕ, List, length, ap, sym, refl, ◌∙◌, subst}
 use Rattle.std.specs.FinMap as map
-use Rattle.ufs_alike.specs.Alike.{AreAlike, AreRepliesAlike}
+use Rattle.ufs_alike.specs.Alike.{AreAlike}
 use Rattle.ufs_alike.specs.Laws.{GiveAsMany}
 use Rattle.ufs_alike.proofs.EntryLemmas.{blanked_same, goes_on_alike, replied}
 use Rattle.ufs_alike.proofs.HistoryLemmas.{ends_alike}
 use Rattle.ufs_alike.proofs.ReplyLemmas.{replies}
+use Rattle.ufs_alike.proofs.TreeLemmas.{itself}
 use Rattle.ufs_alike.proofs.RetellingLemmas.{count, in_turn, long, own_entry, own_history}
 use Rattle.ufs_fds.specs.Descriptors.{AreOf, Descs}
 use Rattle.ufs_model.specs.Asks.{fd_told}
-use Rattle.ufs_model.specs.History.{IsLegalFrom, IsReplyTo, entries_of, goes_on, tree_after}
+use Rattle.ufs_model.specs.History.{IsLegalFrom, IsReplyTo, entries_of, tree_after}
 use Rattle.ufs_model.specs.PosixTree.{PosixTree, Fds}
 use Rattle.ufs_model.specs.declared.data.Entry.{Entry}
 use Rattle.ufs_model.specs.declared.data.Op.{Op}
@@ -127,6 +128,12 @@ module _ (k : Start) (start : PosixTree) (like : IsLikeStart k start) (told : Li
 
       pub shown_had : IsDiskVisible k → (states : List Cells) (cells : Cells) → IsShownWith k told entry states cells → IsShownWith k (had_as k told) (entry_had k told entry) states cells
       shown_had visible states cells = subst (λ (p : List Entry × Entry). IsShownWith k p.0 p.1 states cells) (λ i. (sym (told_seen visible) i, sym (entry_seen visible) i))
+
+-- ---- what a session begins with
+
+-- the start's tree is like itself
+pub begins_itself : (k : Start) (p : Parts) → MayBegin p k.tree → BeginsAs k p
+begins_itself k p may = record { tree = k.tree; like = record { alike = itself k.tree; seen = λ visible. refl }; begins = may }
 
 -- where the disk is seen a session begins with the start's tree
 pub begins_seen : (k : Start) (p : Parts) (is : BeginsAs k p) → IsDiskVisible k → MayBegin p k.tree

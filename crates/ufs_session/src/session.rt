@@ -203,7 +203,8 @@ fn serve_clients<N: Naming, D: Door, F: Since>(
 /// a transcript. Whatever ends it, the server is the tree after what was told, and the disk keeps its promise for it.
 ///
 /// The session's first hand has every part. It draws each entry, and its ticket with it, on the parts that the request
-/// touches, and ends the session with every part at hand.
+/// touches, and ends the session with every part at hand. Where its start doesn't see the disk, the parts may be those of
+/// a tree whose files have other bytes than the start's, and as many.
 ///
 /// A store that meets a fault of its disk stops there: so a session meets one fault at most, and whoever is told that the
 /// store stopped is told that one, or the one at which it had stopped before.

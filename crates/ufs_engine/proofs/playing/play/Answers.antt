@@ -13,6 +13,7 @@ use Rattle.ufs_engine.specs.Plays.{AreFaultsOf, IsEndFault, IsStampedThroughout,
 use Rattle.ufs_recovery.specs.Recovered.{IsCleanDisk}
 use Rattle.ufs_session.specs.Played.{IsPlayedFrom, MayBegin}
 use Rattle.ufs_session.specs.Throughout.{AreMomentsStamped, IsExplainedThroughout}
+use Rattle.ufs_session.proofs.HadLemmas.{begins_itself}
 use Rattle.ufs_session.proofs.ThroughoutLemmas.{throughout_after, throughout_before}
 use Rattle.ufs_store.specs.State.{StoreState}
 use Rattle.ufs_store.specs.Tables.{state_of}
@@ -57,6 +58,9 @@ module _ (g : Over) (c : After-drop-script g) where
     closed : IsExplainedBetween g.D.Disk.keeps (g.D.Disk.size c.args.disk) start told (g.D.Disk.moments c.serve-session.new.door.disk) (g.D.Disk.moments c.close-closed.result.disk)
     closed = subst (λ (n : ℕ). IsExplainedBetween g.D.Disk.keeps n start told (g.D.Disk.moments c.serve-session.new.door.disk) (g.D.Disk.moments c.close-closed.result.disk)) sized
         (c.close-closed.ensures.moments may.is_visible start told served_on_disk)
+
+pub serve-session-requires-clause-start : goal.serve-session-requires-clause-start
+serve-session-requires-clause-start g c = begins_itself c.in-Ok.begun.opened.start c.in-Ok.begun.server c.in-Ok.ensures.may
 
 pub returns-in-Ok-clause-legal : goal.returns-in-Ok-clause-legal
 returns-in-Ok-clause-legal g c =
