@@ -3,7 +3,6 @@ mod NumberLemmas
 mod Joined
 mod Named
 mod DirLemmas
-mod Paddings
 mod Copied
 mod Alike
 mod Ends

@@ -3,8 +3,6 @@ pub mod Starts
 pub mod Extents
 pub mod Refused
 pub mod Begun
-pub mod Padded
-pub mod Fronts
 pub mod Copies
 pub mod Ends
 pub mod Files

@@ -12,14 +12,14 @@ ghost use Rattle.ufs_image.specs.Volume.{Refusal, superblock_of, superblock_refu
 ghost use Rattle.ufs_layout.specs.Areas.{IsGeometry, sector_count};
 ghost use Rattle.ufs_layout.specs.Superblock.{geometry_of};
 ghost use Rattle.ufs_start.specs.Copies.{IsCopyOf, IsUsed, sectors_taken};
-ghost use Rattle.ufs_start.specs.Fronts.{bytes_of};
+ghost use Rattle.ufs_front.specs.Fronts.{bytes_of};
 
-use crate::front::FrontDisk;
 use crate::used::end_of_used;
 use std::alloc::{AllocError, Global};
 use ufs_base::{BLOCK, SECTOR};
 use ufs_catalog::RecoverFault;
 use ufs_disk::{Disk, Fault};
+use ufs_front::FrontDisk;
 use ufs_layout::{Geometry, get_super};
 
 // The sectors of a call.

@@ -6,12 +6,12 @@ ghost use Rattle.ufs_layout.specs.Areas.{IsGeometry, first_of_data, sector_count
 ghost use Rattle.ufs_layout.specs.Superblock.{geometry_of};
 ghost use Rattle.ufs_start.specs.Copies.{IsOfInode};
 ghost use Rattle.ufs_start.specs.Ends.{IsOfImage, end_of_extents, end_of_form, end_of_forms};
-ghost use Rattle.ufs_start.specs.Fronts.{bytes_of};
+ghost use Rattle.ufs_front.specs.Fronts.{bytes_of};
 
-use crate::front::FrontDisk;
 use std::alloc::Global;
 use ufs_base::Memory;
 use ufs_catalog::{RecoverFault, read_findings};
+use ufs_front::FrontDisk;
 use ufs_layout::{Extent, Geometry, Inode};
 use ufs_volume::read_volume;
 

@@ -4,7 +4,8 @@ use std::alloc::Global;
 use std::test::Fail;
 use ufs_base::SECTOR;
 use ufs_disk::{Disk, PlainDisk};
-use ufs_start::{FrontDisk, copy_of};
+use ufs_front::FrontDisk;
+use ufs_start::copy_of;
 
 fn copied(alloc: Global, disk: &mut PlainDisk) -> Option<FrontDisk> {
     match copy_of(alloc, disk) {

@@ -2,7 +2,7 @@ use Rattle.std.proofs.Common.{◌+◌, ◌*◌, ap, ◌∙◌, arith}
 use Rattle.ufs_base.specs.Images.{Image}
 use Rattle.ufs_disk.specs.Bytes.{image_of}
 use Rattle.ufs_disk.specs.Moments.{reads}
-use Rattle.ufs_start.specs.Fronts.{bytes_of}
+use Rattle.ufs_front.specs.Fronts.{bytes_of}
 use Rattle.ufs_start.proofs.Copied.{block_there, put_before, sector_there}
 use Rattle.ufs_start.proofs.copy.copy_block.Goals as goal
 

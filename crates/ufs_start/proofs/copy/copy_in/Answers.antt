@@ -5,7 +5,7 @@ use Rattle.ufs_disk.specs.Bytes.{image_of}
 use Rattle.ufs_disk.specs.Moments.{reads}
 use Rattle.ufs_image.specs.Volume.{superblock_of, volume}
 use Rattle.ufs_layout.specs.Superblock.{geometry_of}
-use Rattle.ufs_start.specs.Fronts.{bytes_of}
+use Rattle.ufs_front.specs.Fronts.{bytes_of}
 use Rattle.ufs_start.proofs.UsedThere.{used_there}
 use Rattle.ufs_start.proofs.copy.copy_in.Goals as goal
 

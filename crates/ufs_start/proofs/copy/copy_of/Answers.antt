@@ -7,8 +7,8 @@ use Rattle.ufs_catalog.proofs.Quiet.{read_more}
 use Rattle.ufs_layout.specs.Areas.{sector_count}
 use Rattle.ufs_layout.specs.declared.geometry.Geometry.{Geometry}
 use Rattle.ufs_start.specs.Copies.{IsUsed}
-use Rattle.ufs_start.specs.Fronts.{bytes_of}
-use Rattle.ufs_start.specs.Padded.{padded_sized, padded_small}
+use Rattle.ufs_front.specs.Fronts.{bytes_of}
+use Rattle.ufs_front.specs.Padded.{padded_sized, padded_small}
 use Rattle.ufs_start.proofs.Copied.{lengths_there, within}
 use Rattle.ufs_start.proofs.FirstSector.{own_count, refused_count}
 use Rattle.ufs_start.proofs.copy.copy_of.Goals as goal

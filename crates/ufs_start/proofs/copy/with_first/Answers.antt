@@ -1,7 +1,7 @@
 use Rattle.std.proofs.Common.{◌≡◌, ◌+◌, ◌/◌, length, ap, ◌∙◌, arith}
 use Rattle.ufs_base.specs.Images.{Image}
 use Rattle.ufs_disk.specs.Bytes.{image_of}
-use Rattle.ufs_start.specs.Fronts.{bytes_of}
+use Rattle.ufs_front.specs.Fronts.{bytes_of}
 use Rattle.ufs_start.proofs.Copied.{put_there}
 use Rattle.ufs_start.proofs.copy.with_first.Goals as goal
 

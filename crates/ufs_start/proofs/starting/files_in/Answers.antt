@@ -9,7 +9,7 @@ use Rattle.ufs_start.specs.Begun.{image_under}
 use Rattle.ufs_start.specs.Files.{HasNumbers}
 use Rattle.ufs_start.specs.Starts.{IsUndamaged}
 use Rattle.ufs_start.proofs.Beginning.{number_there}
-use Rattle.ufs_start.specs.Fronts.{bytes_of}
+use Rattle.ufs_front.specs.Fronts.{bytes_of}
 use Rattle.ufs_start.proofs.starting.files_in.Goals as goal
 
 pub numbers_of-requires-clause-sound : goal.numbers_of-requires-clause-sound

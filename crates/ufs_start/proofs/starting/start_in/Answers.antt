@@ -22,8 +22,8 @@ use Rattle.ufs_start.specs.Files.{AreLaid, AreLoaded}
 use Rattle.ufs_start.specs.Refused.{IsRefusedFile}
 use Rattle.ufs_start.specs.Starts.{AreStartNames, IsLoaded, IsUndamaged}
 use Rattle.ufs_start.proofs.Beginning.{calm_names, few_files, is_loaded, refused_file, refused_names, sized_there, untaken}
-use Rattle.ufs_start.specs.Fronts.{bytes_of}
-use Rattle.ufs_start.specs.Padded.{padded_sized, padded_small}
+use Rattle.ufs_front.specs.Fronts.{bytes_of}
+use Rattle.ufs_front.specs.Padded.{padded_sized, padded_small}
 use Rattle.ufs_start.proofs.starting.start_in.Goals as goal
 
 pub names_in-requires-clause-loaded : goal.names_in-requires-clause-loaded

@@ -4,7 +4,7 @@ use Rattle.ufs_start.specs.Begun.{IsBegun}
 use Rattle.ufs_start.specs.declared.parts.Start.{Start}
 use Rattle.ufs_walk.proofs.Maps.{if_ok}
 use Rattle.ufs_start.proofs.Copies.{none_there, part_there, some_image}
-use Rattle.ufs_start.specs.Fronts.{bytes_of}
+use Rattle.ufs_front.specs.Fronts.{bytes_of}
 use Rattle.ufs_start.proofs.starting.start_of.Goals as goal
 
 pub returns-clause-standing : goal.returns-clause-standing

@@ -9,7 +9,7 @@ use Rattle.ufs_volume.proofs.Folds.{is_folded}
 use Rattle.ufs_start.specs.Copies.{IsOfInode}
 use Rattle.ufs_start.specs.Ends.{end_of_forms}
 use Rattle.ufs_start.proofs.Ends.{used_before}
-use Rattle.ufs_start.specs.Fronts.{bytes_of}
+use Rattle.ufs_front.specs.Fronts.{bytes_of}
 use Rattle.ufs_start.proofs.used.end_of_used.Goals as goal
 
 same_volume : (v w : Volume) → ◌≡◌ {A = Result Volume Refusal} (Ok v) (Ok w) → v ≡ w

@@ -1,8 +1,7 @@
 use Rattle.std.proofs.Common.{◌-◌, ◌++◌, take, replicate, sym, ◌∙◌, arith}
 use Rattle.std.specs.Vec.{vec_len}
-use Rattle.ufs_dirs.proofs.KeptLemmas.{left_by_ok}
-use Rattle.ufs_start.proofs.Paddings.{padded_enough, resized}
-use Rattle.ufs_start.proofs.ranges.pad.Goals as goal
+use Rattle.ufs_front.proofs.Paddings.{left_by_ok, padded_enough, resized}
+use Rattle.ufs_front.proofs.ranges.pad.Goals as goal
 
 pub returns-then-len-count-clause-items : goal.returns-then-len-count-clause-items
 returns-then-len-count-clause-items c =

@@ -1,6 +1,6 @@
 use Rattle.std.proofs.Common.{ℕ, ◌+◌, length, ap, arith}
-use Rattle.ufs_start.specs.Padded.{padded_length}
-use Rattle.ufs_start.proofs.ranges.put_at.Goals as goal
+use Rattle.ufs_front.specs.Padded.{padded_length}
+use Rattle.ufs_front.proofs.ranges.put_at.Goals as goal
 
 pub overwrite-requires : goal.overwrite-requires
 overwrite-requires c =

@@ -3,8 +3,8 @@ use Rattle.ufs_disk.specs.Disk.{put_all, sectors_of}
 use Rattle.ufs_disk.specs.Bytes.{image_of, settled_on}
 use Rattle.ufs_disk.specs.Props.{untrue}
 use Rattle.ufs_disk.proofs.Images.{mixes_all, only_image, seen_is_image, unmixed}
-use Rattle.ufs_start.specs.Fronts.{bytes_of}
-use Rattle.ufs_start.proofs.front.FrontDiskDisk.write.Goals as goal
+use Rattle.ufs_front.specs.Fronts.{bytes_of}
+use Rattle.ufs_front.proofs.front.FrontDiskDisk.write.Goals as goal
 
 pub returns-clause-content : goal.returns-clause-content
 returns-clause-content c visible = mixes_all _ _ _ c.put.ensures.image

@@ -1,7 +1,7 @@
 use Rattle.std.proofs.Common.{ℕ, ◌*◌, List, length, take, drop, ap, ◌∙◌}
-use Rattle.ufs_start.specs.Padded.{padded}
-use Rattle.ufs_start.proofs.Paddings.{read_sectors}
-use Rattle.ufs_start.proofs.front.FrontDiskDisk.read.Goals as goal
+use Rattle.ufs_front.specs.Padded.{padded}
+use Rattle.ufs_front.proofs.Paddings.{read_sectors}
+use Rattle.ufs_front.proofs.front.FrontDiskDisk.read.Goals as goal
 
 pub returns-clause-bytes : goal.returns-clause-bytes
 returns-clause-bytes c visible =

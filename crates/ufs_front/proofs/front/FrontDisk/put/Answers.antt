@@ -1,7 +1,7 @@
 use Rattle.std.proofs.Common.{◌*◌, arith}
 use Rattle.ufs_base.specs.Images.{IsBytes}
-use Rattle.ufs_start.proofs.Paddings.{put_length, put_sectors, put_small}
-use Rattle.ufs_start.proofs.front.FrontDisk.put.Goals as goal
+use Rattle.ufs_front.proofs.Paddings.{put_length, put_sectors, put_small}
+use Rattle.ufs_front.proofs.front.FrontDisk.put.Goals as goal
 
 pub put_at-requires : goal.put_at-requires
 put_at-requires c =

@@ -1,5 +1,4 @@
-// A disk in memory that has only its first bytes, so that many zeros behind them cost nothing.
-ghost use Rattle.std.specs.Prelude.{◌≡◌, ◌≤◌, ◌<◌, ◌+◌, ◌*◌, ◌^◌, ◌++◌, length, take, drop, true, false};
+ghost use Rattle.std.specs.Prelude.{◌≡◌, ◌≤◌, ◌<◌, ◌*◌, ◌^◌, length, true, false};
 ghost use Rattle.std.specs.Vec.{vec_capacity};
 ghost use Rattle.ufs_base.specs.Images.{IsBytes};
 
@@ -24,10 +23,10 @@ impl FrontDisk {
     ghost use Rattle.std.specs.Prelude.{[], IfOk};
     ghost use Rattle.ufs_disk.specs.Bytes.{image_of};
     ghost use Rattle.ufs_disk.specs.Disk.{IsRange, overwritten};
-    ghost use Rattle.ufs_start.specs.Fronts.{bytes_of};
+    ghost use Rattle.ufs_front.specs.Fronts.{bytes_of};
 
     /// A disk of zeros.
-    pub(crate) fn zeros(alloc: Global, sectors: u32) -> Result<FrontDisk, AllocError>
+    pub fn zeros(alloc: Global, sectors: u32) -> Result<FrontDisk, AllocError>
         ensures sectors { IfOk result (λ d. d.sectors ≡ sectors) }
         ensures held { IfOk result (λ d. d.held.items ≡ []) }
     {
@@ -36,7 +35,7 @@ impl FrontDisk {
     }
 
     /// Writes the sectors from `sector` on.
-    pub(crate) fn put(&mut self, sector: u32, bytes: &[u8])
+    pub fn put(&mut self, sector: u32, bytes: &[u8])
         requires { IsRange self.old.sectors sector (length bytes.now) }
         ensures image { image_of (bytes_of self.new) ≡ overwritten sector bytes.now (image_of (bytes_of self.old)) }
         ensures sectors { self.new.sectors ≡ self.old.sectors }
@@ -48,8 +47,8 @@ impl FrontDisk {
 impl Disk for FrontDisk {
     ghost use Rattle.ufs_disk.specs.Bytes.{begun};
     ghost use Rattle.ufs_disk.specs.Whole.{begun_whole};
-    ghost use Rattle.ufs_start.specs.Fronts.{bytes_of};
-    ghost use Rattle.ufs_start.specs.Padded.{padded_sized, padded_small};
+    ghost use Rattle.ufs_front.specs.Fronts.{bytes_of};
+    ghost use Rattle.ufs_front.specs.Padded.{padded_sized, padded_small};
 
     ghost visible = { true };
 

@@ -1,6 +1,6 @@
 use Rattle.std.proofs.Common.{ℕ, List, ◌-◌, ◌++◌, length, take, drop, replicate, ◌∙◌, arith}
-use Rattle.ufs_start.proofs.Paddings.{copied_out, left_is}
-use Rattle.ufs_start.proofs.ranges.copy_out.Goals as goal
+use Rattle.ufs_front.proofs.Paddings.{copied_out, left_is}
+use Rattle.ufs_front.proofs.ranges.copy_out.Goals as goal
 
 pub returns : goal.returns
 returns c =

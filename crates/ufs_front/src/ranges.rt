@@ -1,7 +1,7 @@
-// Parts of bytes with zeros behind them.
+// Parts of bytes that have zeros behind them.
 ghost use Rattle.std.specs.Prelude.{◌≡◌, ◌≤◌, ◌+◌, ◌-◌, ◌++◌, length, replicate, take, drop};
 ghost use Rattle.std.specs.Vec.{vec_capacity};
-ghost use Rattle.ufs_start.specs.Padded.{padded};
+ghost use Rattle.ufs_front.specs.Padded.{padded};
 
 // Puts bytes in the place of as many.
 fn overwrite(all: &mut [u8], at: usize, bytes: &[u8])

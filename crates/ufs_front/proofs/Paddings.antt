@@ -1,5 +1,5 @@
 -- Parts of bytes with zeros behind them.
-use Rattle.std.proofs.Common.{◌≡◌, ℕ, ◌+◌, ◌-◌, ◌*◌, ◌/◌, ◌%◌, ◌<◌, ◌≤◌, inl, inr, min, List, [], ◌++◌, length, take, drop, replicate, ap, sym, refl, ◌∙◌, subst, arith, append_assoc, length-append, length-drop}
+use Rattle.std.proofs.Common.{◌≡◌, ℕ, ◌+◌, ◌-◌, ◌*◌, ◌/◌, ◌%◌, ◌<◌, ◌≤◌, inl, inr, min, Bool, cond, Result, Ok, is_ok, List, [], ◌++◌, length, take, drop, replicate, ap, sym, refl, ◌∙◌, subst, arith, append_assoc, length-append, length-drop}
 use Rattle.std.proofs.lemmas.Bool.{cases_lt}
 use Rattle.std.proofs.lemmas.List.{append-nil, drop-append-le, drop-replicate, drop_all, length-replicate, length-take-le, replicate-append-replicate, take-append-le, take-replicate, take_all, take_at}
 use Rattle.std.proofs.Math.Seq.{drop-append-add, take-append-add}
@@ -8,7 +8,7 @@ use Rattle.ufs_disk.specs.Disk.{bytes_from, overwritten}
 use Rattle.ufs_disk.proofs.Flat.{image_overwritten, read_flat}
 use Rattle.ufs_base.specs.Images.{IsBytes}
 use Rattle.ufs_disk.specs.Whole.{drop_small, take_small}
-use Rattle.ufs_start.specs.Padded.{padded, padded_length, padded_sized, padded_small, small_before}
+use Rattle.ufs_front.specs.Padded.{padded, padded_length, padded_sized, padded_small, small_before}
 
 padded_is : (count : ℕ) (bytes : List ℕ) → padded count bytes ≡ bytes ++ replicate (count - length bytes) 0
 unfolding padded
@@ -157,6 +157,10 @@ read_sectors sectors sector m held whole inside =
     ∙ sym (read_flat (padded (512 * sectors) held) n sector)
 
 -- ---- zeros that come in
+
+-- what a call left that succeeded
+pub left_by_ok : {A E : Type 0} (r : Result A E) (a : A) (now ok err : List ℕ) → now ≡ cond (is_ok r) ok err → r ≡ Ok a → now ≡ ok
+left_by_ok r a now ok err is was = is ∙ ap (λ (b : Bool). cond b ok err) (ap is_ok was)
 
 pub resized : (count len : ℕ) (bytes : List ℕ) → len ≡ length bytes → len < count → take count bytes ++ replicate (count - len) 0 ≡ padded count bytes
 resized count len bytes long less = (λ i. take_all count bytes (omega (arith, long, less)) i ++ replicate (count - long i) 0) ∙ sym (padded_is count bytes)
