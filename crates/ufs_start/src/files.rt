@@ -1,5 +1,5 @@
 // The files of an image, with their bytes. What no sound image has counts as want of memory here.
-ghost use Rattle.std.specs.Prelude.{ℕ, ◌≡◌, ◌≤◌, ◌<◌, ◌+◌, ◌-◌, ◌*◌, ◌++◌, true, if◌then◌else◌, length, map as mapped, flat_map, None, Some, IsSome, slice_index_or, IsTrue, IfOk, IfErr, OnOk};
+ghost use Rattle.std.specs.Prelude.{ℕ, ◌≡◌, ◌≤◌, ◌<◌, ◌+◌, ◌-◌, ◌*◌, ◌++◌, true, if◌then◌else◌, length, map as mapped, flat_map, None, Some, IsSome, slice_get, slice_index_or, IsTrue, IfOk, IfErr, OnOk};
 ghost use Rattle.std.specs.FinMap as map;
 ghost use Rattle.ufs_base.specs.Images.{Image};
 ghost use Rattle.ufs_base.specs.declared.sizes.TheConstants.{BLOCK};
@@ -143,7 +143,8 @@ fn is_followed(bytes: &[u8], size: usize) -> bool
 // The last block of a file is to be written where the disk has other bytes behind the file's end: they would show once
 // the file grows.
 fn mark_end(hand: &mut FileHand, rest: bool)
-    requires { rest ≡ true → 1 ≤ length hand.old.content.dirty }
+    requires some { rest ≡ true → 1 ≤ length hand.old.content.dirty }
+    requires there { (place : ℕ) → place < length hand.old.content.dirty → slice_get hand.old.content.there place ≡ Some true }
     ensures content { hand.new.content ≡ (if rest then marked hand.old.content (length hand.old.content.dirty - 1) else hand.old.content) }
     ensures else_kept { hand.new ≡ record hand.old { content = hand.new.content } }
 {
