@@ -44,7 +44,7 @@ pub fn filled<R: Abort + AllocGlobal>(rt: &R, byte: u8, count: usize) -> Bytes
     Bytes::from_vec(vec![in rt.alloc(); byte; count].expect(rt, "memory"))
 }
 
-/// What the request, on a descriptor, is answered.
+/// What the request, on a descriptor, is answered: where a block that it needs isn't in memory, that memory ran out.
 pub fn applied(file: &mut FileHand, pool: &mut Pool, op: Op, desc: Desc) -> Reply
     requires kind { is_on_file op ≡ true }
     requires bounded { IsBounded op }
@@ -54,6 +54,10 @@ pub fn applied(file: &mut FileHand, pool: &mut Pool, op: Op, desc: Desc) -> Repl
     ensures apart { IsApart pool.new (blocks_of file.new.extents) }
     ensures together { set.union pool.new (set_of file.new.extents) ≡ set.union pool.old (set_of file.old.extents) }
 {
+    if !file.is_ready(&op, desc) {
+        drop(op);
+        return Reply::Excused(Excuse::Memory);
+    }
     let ask = Ask {
         client: 0,
         seq: 0,

@@ -9,3 +9,5 @@ mod calls;
 mod rows;
 #[cfg(test)]
 mod two_files;
+#[cfg(test)]
+mod unread;
