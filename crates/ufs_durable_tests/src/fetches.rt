@@ -30,6 +30,17 @@ fn forgotten(alloc: Global, passes: u64) -> Option<Session<FuseDisk>>
     Some(s)
 }
 
+// So many bytes, each of which is 7.
+fn is_sevens(reply: &Reply, count: usize) -> bool {
+    match reply {
+        Reply::Got(bytes) => {
+            let bytes = bytes.as_slice();
+            bytes.len() == count && bytes.iter().all(|byte| *byte == 7)
+        }
+        _ => false,
+    }
+}
+
 #[test]
 fn a_read_fetches_its_blocks_alone(rt: HostRuntime) {
     let mut s = forgotten(rt.alloc(), 1).expect(&rt, "not started");
@@ -39,10 +50,7 @@ fn a_read_fetches_its_blocks_alone(rt: HostRuntime) {
         n: 100,
         at: 8_192,
     });
-    holds(
-        &rt,
-        matches!(reply, Reply::Got(bytes) if bytes.as_slice().len() == 100 && bytes.as_slice().iter().all(|byte| *byte == 7)),
-    );
+    holds(&rt, is_sevens(&reply, 100));
     same(&rt, s.there_count(), 1);
     // What is there makes no call.
     same(

@@ -1,5 +1,5 @@
 // What the tests share: a store on an image of 256 blocks, a file on it, and a pool.
-ghost use Rattle.std.specs.Prelude.{◌≡◌, ◌≤◌, IfSome, IfOk, OnOk, Some, length, true};
+ghost use Rattle.std.specs.Prelude.{◌≡◌, ◌≤◌, IfSome, IfOk, OnOk, Some, length, false, true};
 ghost use Rattle.ufs_file.specs.Hand.{HasNeeded};
 ghost use Rattle.ufs_durable.specs.State.{state_of};
 ghost use Rattle.ufs_model.specs.Bounds.{IsBounded};
@@ -112,7 +112,7 @@ impl<D: Disk> Session<D> {
         requires ready { IsReady (⟦<Store<D> as Door>⟧.store self.old.store) (state_of self.old.hand self.old.commits) self.old.pool }
         ensures { IsReady (⟦<Store<D> as Door>⟧.store self.new.store) (state_of self.new.hand self.new.commits) self.new.pool }
     {
-        let Ok(extents) = Extents::from_runs(alloc, self.hand.extents()) else {
+        let Ok(extents) = Extents::from_runs(alloc, self.hand.extent_list().as_slice()) else {
             return false;
         };
         let Ok(unread) = FileHand::unread(alloc, 1, 2, extents, self.hand.size()) else {
@@ -143,9 +143,9 @@ impl<D: Disk> Session<D> {
         requires bounded { IsBounded op }
         ensures { IsReady (⟦<Store<D> as Door>⟧.store self.new.store) (state_of self.new.hand self.new.commits) self.new.pool }
     {
-        if self.fetch(&op).is_err() {
+        let Ok(()) = self.fetch(&op) else {
             return Reply::Excused(Excuse::Memory);
-        }
+        };
         let ask = Ask {
             client: 0,
             seq: 0,
