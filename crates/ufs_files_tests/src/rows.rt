@@ -1,10 +1,11 @@
 // A file that is made, written, emptied and removed.
 ghost use Rattle.std.specs.Prelude.{◌≡◌, ◌+◌, ◌≤◌, IfOk, Some, IsSome, length, true};
 ghost use Rattle.std.specs.FinMap as map;
-ghost use Rattle.ufs_bitmap.specs.Blocks.{BlockSet};
 ghost use Rattle.ufs_bitmap.specs.Taking.{IsApart};
+ghost use Rattle.ufs_extent.specs.Runs.{blocks_of};
 ghost use Rattle.ufs_files.specs.Files.{blocks_at};
 ghost use Rattle.ufs_model.specs.Bounds.{IsBounded};
+ghost use Rattle.ufs_model.specs.FileCalls.{is_on_file};
 
 use std::alloc::Global;
 use ufs_base::Memory;
@@ -24,26 +25,53 @@ fn pool_of(alloc: Global, length: u32) -> Result<Pool, Memory>
     Ok(pool)
 }
 
-// One file, of inode 3, with so many bytes.
+// Serves a request on a descriptor of the file.
+fn serve(hand: &mut FileHand, pool: &mut Pool, op: Op, desc: Desc)
+    requires kind { is_on_file op ≡ true }
+    requires bounded { IsBounded op }
+    requires named { desc.file ≡ Some hand.old.file }
+    requires apart { IsApart pool.old (blocks_of hand.old.extents) }
+    ensures number { hand.new.file ≡ hand.old.file }
+    ensures apart { IsApart pool.new (blocks_of hand.new.extents) }
+{
+    if !hand.is_ready(&op, desc) {
+        return;
+    }
+    let ask = Ask {
+        client: 0,
+        seq: 0,
+        op,
+        desc: Some(desc),
+        fd: 0,
+        last: false,
+    };
+    let _done = hand.apply(ask, Actor::Primary, 0, pool);
+}
+
+// A file of number 7 and inode 3, with so many bytes.
+fn written(alloc: Global, pool: &mut Pool, count: usize) -> Result<FileHand, Memory>
+    requires few { count ≤ 5000 }
+    ensures number { IfOk result (λ hand. hand.file ≡ 7) }
+    ensures apart { IfOk result (λ hand. IsApart pool.new (blocks_of hand.extents)) }
+{
+    let mut hand = FileHand::make(alloc, 7, 3)?;
+    let bytes = filled(alloc, count)?;
+    let op = Op::Pwrite {
+        fd: 3,
+        bytes,
+        at: 0,
+    };
+    serve(&mut hand, pool, op, open_on(7));
+    Ok(hand)
+}
+
+// The files are that one.
 fn one_file(alloc: Global, pool: &mut Pool, count: usize) -> Result<FileHands, Memory>
     requires few { count ≤ 5000 }
     ensures here { IfOk result (λ files. IsSome (map.get files 7)) }
     ensures apart { IfOk result (λ files. IsApart pool.new (blocks_at files 7)) }
 {
-    let mut hand = FileHand::make(alloc, 7, 3)?;
-    let ask = Ask {
-        client: 0,
-        seq: 0,
-        op: Op::Pwrite {
-            fd: 3,
-            bytes: filled(alloc, count)?,
-            at: 0,
-        },
-        desc: Some(open_on(7)),
-        fd: 0,
-        last: false,
-    };
-    let _done = hand.apply(ask, Actor::Primary, 0, pool);
+    let hand = written(alloc, pool, count)?;
     let mut files = FileHands::new(alloc);
     files.insert(hand)?;
     Ok(files)
