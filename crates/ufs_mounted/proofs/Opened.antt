@@ -1,5 +1,5 @@
 -- A server's start is what its image has.
-use Rattle.std.proofs.Common.{◌≡◌, ℕ, zero, suc, ◌+◌, ◌*◌, ◌<◌, ◌≤◌, List, [], ◌∷◌, true, false, length, map as mapped, Some, ap, sym, refl, ◌∙◌, arith, length-append}
+use Rattle.std.proofs.Common.{◌≡◌, ℕ, zero, suc, ◌+◌, ◌*◌, ◌<◌, ◌≤◌, List, [], ◌∷◌, true, false, length, replicate, map as mapped, Some, ap, sym, refl, ◌∙◌, arith, length-append}
 use Rattle.std.specs.Prelude.{◌&&◌, flat_map, not, slice_get}
 use Rattle.std.specs.FinMap as map
 use Rattle.std.specs.List.{range_with_len}
@@ -30,7 +30,7 @@ use Rattle.ufs_start.specs.Begun.{IsBegun, catalog_under, image_under, volume_un
 use Rattle.ufs_start.specs.Extents.{run_of}
 use Rattle.ufs_start.specs.declared.parts.Start.{Start}
 use Rattle.ufs_mounted.specs.Laws.{StartsAreOpened}
-use Rattle.ufs_mounted.proofs.Shown.{shown_there}
+use Rattle.ufs_mounted.proofs.Shown.{all_there, shown_there}
 
 -- the extents of an inode's runs are the inode's
 extents_back : (es : List Extent) → es ≡ extents_of (mapped run_of es)
@@ -80,6 +80,9 @@ module _ (sectors : ℕ) (disk : Image) (s : Start) (is : IsBegun sectors disk s
       record {
         extents = extents_back (c.forms f.inode).extents ∙ ap extents_of (sym l.extents);
         marks = l.marks;
+        there = ap (λ (x : Content). x.there) content
+            ∙ all_there (block_at image) (nodes.blocks_of (c.forms f.inode)) (long f.inode inside) (c.forms f.inode).size (sym l.count ∙ ap (λ (xs : List ℕ). length xs) r.blocks)
+            ∙ ap (λ (n : ℕ). replicate n true) (sym (l.marks ∙ ap (λ (xs : List ℕ). length xs) r.blocks));
         shown = λ place block there off.
             shown_there (block_at image) (nodes.blocks_of (c.forms f.inode)) (long f.inode inside) (c.forms f.inode).size
             (sym l.count ∙ ap (λ (xs : List ℕ). length xs) r.blocks)

@@ -56,6 +56,14 @@ module _ (pick : ℕ → List ℕ) (blocks : List ℕ) (long : (b : ℕ) → IsI
       by true = refl
       by false = refl
 
+  -- all of it is in memory
+  pub all_there : (loaded flat size).there ≡ replicate (length blocks) true
+  all_there = by (has_rest flat size) ∙ ap (λ (n : ℕ). replicate n true) (ap block_count (length-take-le size flat fits) ∙ count)
+    where
+      by : (b : Bool) → (if b then marked (as_read (take size flat)) (block_count size - 1) else as_read (take size flat)).there ≡ replicate (block_count (length (take size flat))) true
+      by true = refl
+      by false = refl
+
   -- no other byte than 0 stands behind the end
   zero_behind : has_rest flat size ≡ false → (at : ℕ) → size ≤ at → at < length flat → byte_at flat at ≡ 0
   zero_behind none at from under = by (byte_at flat at == 0) refl
