@@ -30,6 +30,7 @@ use Rattle.ufs_store.specs.State.{StoreState}
 use Rattle.ufs_stored.specs.OnDisk.{IsOnDisk}
 use Rattle.ufs_stored.specs.Parts.{Parts}
 use Rattle.ufs_stored.specs.Stored.{ArePartsOf}
+use Rattle.ufs_stored.proofs.Whole.{file_stays}
 
 pub no_stop : (r : Reply) → is_excused r ≡ false → stopped_in r ≡ None
 no_stop (reply.Excused x) e = cc
@@ -69,7 +70,7 @@ module _ (p : Parts) (t : PosixTree) (ask : Ask) (answer : Reply) (desc : Option
   pub parts_stay : ArePartsOf p t → ArePartsOf p after
   parts_stay parts = record {
     names = names refused_or_seek;
-    files = λ f s here. let was = parts.files f s here in (was.0, ap (λ bytes. map.get bytes s.file) same_bytes ∙ was.1);
+    files = λ f s here. let was = parts.files f s here in (was.0, file_stays s t after (ap (λ bytes. map.get bytes s.file) same_bytes) was.1);
     inodes = parts.inodes;
     here = parts.here;
   }
@@ -102,3 +103,13 @@ parts_behind p start history entry ask desc client asked_is plain asked own is p
     let goes : tree_after start (history ++ entry ∷ []) ≡ (posix t ask.client ask.op).0 =
     tree_after-push start history entry ∙ by_reply t entry.client entry.op entry.reply plain ∙ (λ i. (posix t (client i) (asked_is i)).0) in
     subst (ArePartsOf p) (sym goes) (parts_stay p t ask entry.reply desc asked own is parts)
+
+-- and its files have the bytes that they had
+pub bytes_behind : (start : PosixTree) (history : List Entry) (p : Parts) (entry : Entry) (ask : Ask) (desc : Option Desc) → entry.client ≡ ask.client → entry.op ≡ ask.op → is_excused entry.reply ≡ false
+    → IsAsk (tree_after start history) ask → is_own (tree_after start history) ask.client ask.op ≡ true → IsOwnAnswer (tree_after start history) ask.client ask.op entry.reply desc
+    → (tree_after start (history ++ entry ∷ [])).bytes ≡ (tree_after start history).bytes
+bytes_behind start history p entry ask desc client asked_is plain asked own is =
+    let t = tree_after start history in
+    let goes : tree_after start (history ++ entry ∷ []) ≡ (posix t ask.client ask.op).0 =
+    tree_after-push start history entry ∙ by_reply t entry.client entry.op entry.reply plain ∙ (λ i. (posix t (client i) (asked_is i)).0) in
+    ap (λ (u : PosixTree). u.bytes) goes ∙ same_bytes p t ask entry.reply desc asked own is

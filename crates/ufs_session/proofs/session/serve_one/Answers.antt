@@ -2,7 +2,7 @@ use Rattle.std.proofs.Common.{◌∷◌, ◌++◌, [], ℕ, sym, refl, subst, �
 use Rattle.ufs_client.proofs.Replies.{plain_calm}
 use Rattle.ufs_server.proofs.Beside.{calm_told}
 use Rattle.ufs_stored.specs.OnDisk.{IsExplainedBetween}
-use Rattle.ufs_session.proofs.OwnLemmas.{nothing, own_answered, parts_behind, parts_on_disk}
+use Rattle.ufs_session.proofs.OwnLemmas.{bytes_behind, nothing, own_answered, parts_behind, parts_on_disk}
 use Rattle.ufs_session.proofs.ThroughoutLemmas.{throughout_one}
 use Rattle.ufs_session.proofs.session.serve_one.Goals as goal
 
@@ -34,7 +34,8 @@ returns-clause-on_disk g c visible start history asked legal is =
     let own = sym (answer.own _ asked) in
     c.on_disk_law.ensures.beside s start history _ p (sym c.geometry-geometry.ensures.is) legal
     (nothing p _ c.args.ask c.in-Some.answer.reply c.in-Some.answer.desc asked own (answer.posix _ asked))
-    (parts_behind p start history _ c.args.ask c.in-Some.answer.desc refl refl answer.plain asked own (answer.posix _ asked) (parts_on_disk s start history p is)) is
+    (parts_behind p start history _ c.args.ask c.in-Some.answer.desc refl refl answer.plain asked own (answer.posix _ asked) (parts_on_disk s start history p is))
+    (bytes_behind start history p _ c.args.ask c.in-Some.answer.desc refl refl answer.plain asked own (answer.posix _ asked)) is
 
 pub returns-clause-moments : goal.returns-clause-moments
 returns-clause-moments g c visible start history asked legal is =
@@ -45,7 +46,8 @@ returns-clause-moments g c visible start history asked legal is =
     let same = sym c.geometry-geometry.ensures.is in
     let next = c.on_disk_law.ensures.beside s start history _ p same legal
     (nothing p _ c.args.ask c.in-Some.answer.reply c.in-Some.answer.desc asked own (answer.posix _ asked))
-    (parts_behind p start history _ c.args.ask c.in-Some.answer.desc refl refl answer.plain asked own (answer.posix _ asked) (parts_on_disk s start history p is)) is in
+    (parts_behind p start history _ c.args.ask c.in-Some.answer.desc refl refl answer.plain asked own (answer.posix _ asked) (parts_on_disk s start history p is))
+    (bytes_behind start history p _ c.args.ask c.in-Some.answer.desc refl refl answer.plain asked own (answer.posix _ asked)) is in
     throughout_one g.D.Door.keeps s.sectors start history _ s.moments s.moments (c.always_law.ensures.rest g.D.Door.keeps s start history p same is)
     (c.always_law.ensures.rest g.D.Door.keeps s start (history ++ _ ∷ []) p same next)
 
