@@ -16,6 +16,6 @@ returns-clause-here c =
 
 pub returns-clause-apart : goal.returns-clause-apart
 returns-clause-apart c =
-    subst (IsApart c.written-hand.new.pool)
+    subst (IsApart c.written.new.pool)
     (sym (blocks_there _ 7 _ (ap (λ (m : Files). map.get m 7) c.in_ok-insert.ensures.ok ∙ ap (λ (k : ℕ). map.get (map.insert c.new-files.result k c.in_ok-hand.hand) 7) c.in_ok-hand.ensures.number ∙ put_here _ 7 _)))
     c.in_ok-hand.ensures.apart
