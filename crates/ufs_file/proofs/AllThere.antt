@@ -1,5 +1,5 @@
 -- A file that is wholly in memory, behind a request.
-use Rattle.std.proofs.Common.{◌≡◌, ℕ, ◌+◌, ◌-◌, ◌/◌, ◌≤◌, eqb, ltb, Bool, true, false, cond, List, ◌++◌, length, take, replicate, refl, sym, ap, ◌∙◌, arith, length-append}
+use Rattle.std.proofs.Common.{◌≡◌, ℕ, ◌+◌, ◌-◌, ◌/◌, ◌≤◌, eqb, ltb, Bool, true, false, cond, List, ◌++◌, length, take, replicate, refl, sym, ap, ◌∙◌, arith}
 use Rattle.std.proofs.lemmas.Bool.{ltb-true, ltb-false}
 use Rattle.std.proofs.lemmas.List.{ext_get_or, get_or-replicate, length-replicate, replicate-append-replicate, take-replicate}
 use Rattle.std.proofs.lemmas.Option.{get_or_from_slice_get}
@@ -25,28 +25,28 @@ all_marked ms there = ext_get_or false ms (replicate (length ms) true) (sym (len
 pub whole_itself : (f : FileState) → IsAllThere f.content → whole_as f.content.bytes f ≡ f
 whole_itself f all = λ i. record f { content = record (f.content) { there = sym all i } }
 
-all_grown : (c : Content) (size : ℕ) → IsAllThere c → IsAllThere (grown c size)
-all_grown c size all =
+all_grown : (c : Content) (size : ℕ) → length c.dirty ≡ block_count (length c.bytes) → length c.bytes ≤ size → IsAllThere c → IsAllThere (grown c size)
+all_grown c size counted longer all =
     let n : ℕ = block_count size in
     let same : length c.there ≡ length c.dirty = ap length all ∙ length-replicate (length c.dirty) true in
-    let more : List Bool = replicate (n - length c.dirty) true in
+    let sum : length c.dirty + (n - length c.dirty) ≡ n = omega (arith, counted, longer) in
     (λ i. all i ++ replicate (n - same i) true)
     ∙ replicate-append-replicate (length c.dirty) (n - length c.dirty) true
-    ∙ ap (λ (k : ℕ). replicate k true) (sym (length-append c.dirty more ∙ ap (λ (k : ℕ). length c.dirty + k) (length-replicate (n - length c.dirty) true)))
+    ∙ ap (λ (k : ℕ). replicate k true) (sum ∙ sym (dirty-grown c size counted longer))
 
 module _ (c : Content) (marked : length c.dirty ≡ block_count (length c.bytes)) (all : IsAllThere c) where
   all_long : (size : ℕ) → IsAllThere (lengthened c size)
-  all_long size = by (ltb (length c.bytes) size)
+  all_long size = by (ltb (length c.bytes) size) refl
     where
-      by : (b : Bool) → IsAllThere (cond b (grown c size) c)
-      by true = all_grown c size all
-      by false = all
+      by : (b : Bool) → ltb (length c.bytes) size ≡ b → IsAllThere (cond b (grown c size) c)
+      by true e = (let less = ltb-true (length c.bytes) size e in all_grown c size marked (omega (arith, less)) all)
+      by false e = all
 
   room_long : (size : ℕ) → block_count size ≤ length (lengthened c size).dirty
   room_long size = by (ltb (length c.bytes) size) refl
     where
       by : (b : Bool) → ltb (length c.bytes) size ≡ b → block_count size ≤ length (cond {A = Content} b (grown c size) c).dirty
-      by true e = (let less = ltb-true (length c.bytes) size e in omega (arith, dirty-grown c size (omega (arith, less, marked))))
+      by true e = (let less = ltb-true (length c.bytes) size e in omega (arith, dirty-grown c size marked (omega (arith, less))))
       by false e = (let le = ltb-false (length c.bytes) size e in omega (arith, le, marked))
 
   all_put : (at : ℕ) (fresh : List ℕ) → IsAllThere (content_put c at fresh)

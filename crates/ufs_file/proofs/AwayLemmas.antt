@@ -1,5 +1,5 @@
 -- A block that isn't in memory behind a request wasn't before, and has the bytes that it had.
-use Rattle.std.proofs.Common.{◌≡◌, ℕ, ◌+◌, ◌-◌, ◌*◌, ◌/◌, ◌≤◌, ◌<◌, ◌⊎◌, inl, inr, eqb, ltb, Bool, true, false, cond, Option, Some, None, List, ◌++◌, length, min, replicate, take, get_or, ap, sym, refl, ◌∙◌, arith, subst}
+use Rattle.std.proofs.Common.{◌≡◌, ℕ, ◌+◌, ◌-◌, ◌*◌, ◌/◌, ◌≤◌, ◌<◌, ◌⊎◌, inl, inr, eqb, ltb, Bool, true, false, cond, Option, Some, None, List, ◌++◌, length, max, min, replicate, take, get_or, ap, sym, refl, ◌∙◌, arith, subst}
 use Rattle.std.specs.Prelude.{slice_get}
 use Rattle.std.proofs.lemmas.Bool.{cases_lt, eqb-false, ltb-true, ltb-false}
 use Rattle.std.proofs.lemmas.List.{get_or-append_right, get_or-replicate, get_or-take, get_or_append_left, length-replicate, length-take}
@@ -12,12 +12,13 @@ use Rattle.ufs_model.specs.declared.data.Errno.{Errno}
 use Rattle.ufs_model.specs.declared.data.Op.{Op}
 use Rattle.ufs_model.specs.declared.data.Op.TheVariants as op
 use Rattle.ufs_file.specs.Lists.{over}
-use Rattle.ufs_file.specs.Content.{AreThere, Content, block_bytes, block_count, grown, shortened, written_over}
+use Rattle.ufs_file.specs.Content.{AreThere, Content, block_count, own_bytes, grown, shortened, written_over}
 use Rattle.ufs_file.specs.Hand.{HasNeeded, content_after, content_by, content_put, content_sized, lengthened, write_end, write_from}
-use Rattle.ufs_file.proofs.ByteLemmas.{block_agrees, byte_padded, byte_resized, length-resized, past_end}
+use Rattle.ufs_file.proofs.ByteLemmas.{own_agrees, byte_padded, byte_resized, length-resized}
 use Rattle.ufs_file.proofs.FilledLemmas.{same_refusal}
 use Rattle.ufs_file.proofs.HandLemmas.{length-lengthened, long_bytes, put_bytes}
-use Rattle.ufs_file.proofs.NeededLemmas.{there_put}
+use Rattle.ufs_file.proofs.NeededLemmas.{there_end, there_put}
+use Rattle.ufs_file.proofs.OverLemmas.{length-over}
 use Rattle.ufs_file.proofs.SpanLemmas.{over-before, over-past}
 
 -- a mark that says no
@@ -52,7 +53,7 @@ module _ (c : Content) (size place : ℕ) where
 
 -- the block wasn't in memory either, and has the same bytes
 abbrev pub WasAway : Content → List ℕ → List ℕ → ℕ → Type 0
-WasAway c bytes after place = (slice_get c.there place ≡ Some false) × (block_bytes after place ≡ block_bytes bytes place)
+WasAway c bytes after place = (slice_get c.there place ≡ Some false) × (own_bytes after place ≡ own_bytes bytes place)
 
 module _ (c : Content) (bytes : List ℕ) (long : length bytes ≡ length c.bytes) (count : length c.there ≡ block_count (length c.bytes)) (place : ℕ) where
   abbrev other : Content
@@ -61,13 +62,38 @@ module _ (c : Content) (bytes : List ℕ) (long : length bytes ≡ length c.byte
   long_same : (size k : ℕ) → get_or (lengthened other size).bytes k 0 ≡ get_or bytes k 0
   long_same size k = ap (λ (l : List ℕ). get_or l k 0) (long_bytes other size) ∙ byte_padded bytes (size - length bytes) k
 
+  -- A block that isn't in memory lies before that in which the file ends, where this one is.
+  whole_block : AreThere c.there (length c.bytes / 4096) (block_count (length c.bytes)) → slice_get c.there place ≡ Some false → 4096 * place + 4096 ≤ length c.bytes
+  whole_block ending was = by (cases_lt place (length c.bytes / 4096))
+    where
+      by : (place < length c.bytes / 4096) ⊎ (length c.bytes / 4096 ≤ place) → 4096 * place + 4096 ≤ length c.bytes
+      by (inl less) = omega (arith, less)
+      by (inr from) = absurd (not_there c.there place (ending place from (omega (arith, count, slice_get_within c.there place false was))) was)
+
   module _ (at : ℕ) (fresh : List ℕ) where
     fits : at + length fresh ≤ length (lengthened other (at + length fresh)).bytes
     fits = omega (arith, length-lengthened other (at + length fresh))
 
+    length-put : length (over (lengthened other (at + length fresh)).bytes at fresh) ≡ max (length bytes) (at + length fresh)
+    length-put = length-over (lengthened other (at + length fresh)).bytes at fresh fits ∙ length-lengthened other (at + length fresh)
+
+    -- a block that isn't in memory ends where it did
+    put_ends : 0 < length fresh → AreThere c.there (write_from (length c.bytes) at) (write_end (length c.bytes) at (length fresh)) → slice_get c.there place ≡ Some false
+        → min (length (over (lengthened other (at + length fresh)).bytes at fresh)) (4096 * place + 4096) ≡ min (length bytes) (4096 * place + 4096)
+    put_ends some needed was = by (cases_lt (length c.bytes) (at + length fresh))
+      where
+        by : (length c.bytes < at + length fresh) ⊎ (at + length fresh ≤ length c.bytes)
+            → min (length (over (lengthened other (at + length fresh)).bytes at fresh)) (4096 * place + 4096) ≡ min (length bytes) (4096 * place + 4096)
+        by (inl longer) =
+            let inside = whole_block (there_end c at fresh some longer needed) was in
+            omega (arith, length-put, long, inside)
+        by (inr within) = omega (arith, length-put, long, within)
+
     -- a block beside those that are written
-    beside : (place < at / 4096) ⊎ (block_count (at + length fresh) ≤ place) → block_bytes (put_at bytes at fresh) place ≡ block_bytes bytes place
-    beside side = ap (λ (l : List ℕ). block_bytes l place) (sym (put_bytes other at fresh)) ∙ block_agrees (over (lengthened other (at + length fresh)).bytes at fresh) bytes place (λ k low high. each k low high side)
+    beside : min (length (over (lengthened other (at + length fresh)).bytes at fresh)) (4096 * place + 4096) ≡ min (length bytes) (4096 * place + 4096)
+        → (place < at / 4096) ⊎ (block_count (at + length fresh) ≤ place) → own_bytes (put_at bytes at fresh) place ≡ own_bytes bytes place
+    beside ends side =
+        ap (λ (l : List ℕ). own_bytes l place) (sym (put_bytes other at fresh)) ∙ own_agrees (over (lengthened other (at + length fresh)).bytes at fresh) bytes place ends (λ k low high. each k low high side)
       where
         each : (k : ℕ) → 4096 * place ≤ k → k < 4096 * place + 4096 → (place < at / 4096) ⊎ (block_count (at + length fresh) ≤ place)
             → get_or (over (lengthened other (at + length fresh)).bytes at fresh) k 0 ≡ get_or bytes k 0
@@ -86,7 +112,8 @@ module _ (c : Content) (bytes : List ℕ) (long : length bytes ≡ length c.byte
         by false e is =
             (let some : length fresh ≡ 0 → ⊥ = eqb-false (length fresh) 0 e in
             let there = there_put c at fresh count (omega (arith, some)) needed in
-            (away_long c (at + length fresh) place is, beside (side there is (cases_lt place (at / 4096)) (cases_lt place (block_count (at + length fresh))))))
+            let was = away_long c (at + length fresh) place is in
+            (was, beside (put_ends (omega (arith, some)) needed was) (side there is (cases_lt place (at / 4096)) (cases_lt place (block_count (at + length fresh))))))
           where
             side : AreThere (lengthened c (at + length fresh)).there (at / 4096) (block_count (at + length fresh)) → slice_get (lengthened c (at + length fresh)).there place ≡ Some false
                 → (place < at / 4096) ⊎ (at / 4096 ≤ place) → (place < block_count (at + length fresh)) ⊎ (block_count (at + length fresh) ≤ place)
@@ -98,7 +125,9 @@ module _ (c : Content) (bytes : List ℕ) (long : length bytes ≡ length c.byte
   module _ (size : ℕ) where
     cut_away : size < length c.bytes → AreThere c.there (min size (length c.bytes) / 4096) (block_count (min size (length c.bytes))) → slice_get (take (block_count size) c.there) place ≡ Some false
         → WasAway c bytes (resized bytes size) place
-    cut_away shorter needed is = (was, block_agrees (resized bytes size) bytes place (λ k low high. byte_resized bytes size k (let below = under (cases_lt place (size / 4096)) in omega (arith, below, high))))
+    cut_away shorter needed is =
+        (let below = under (cases_lt place (size / 4096)) in
+        (was, own_agrees (resized bytes size) bytes place (omega (arith, below, length-resized bytes size, long, shorter)) (λ k low high. byte_resized bytes size k (omega (arith, below, high)))))
       where
         less : place < block_count size
         less = omega (arith, slice_get_within (take (block_count size) c.there) place false is, length-take (block_count size) c.there)
@@ -111,19 +140,20 @@ module _ (c : Content) (bytes : List ℕ) (long : length bytes ≡ length c.byte
         under (inl less) = less
         under (inr from) = absurd (not_there c.there place (needed place (omega (arith, from, shorter)) (omega (arith, less, shorter))) was)
 
-    longer_away : length c.bytes ≤ size → slice_get (lengthened c size).there place ≡ Some false → WasAway c bytes (resized bytes size) place
-    longer_away longer is = (away_long c size place is, block_agrees (resized bytes size) bytes place (λ k low high. each k (cases_lt k size)))
-      where
-        each : (k : ℕ) → (k < size) ⊎ (size ≤ k) → get_or (resized bytes size) k 0 ≡ get_or bytes k 0
-        each k (inl less) = byte_resized bytes size k less
-        each k (inr past) = past_end (resized bytes size) k 0 (omega (arith, past, length-resized bytes size)) ∙ sym (past_end bytes k 0 (omega (arith, past, longer, long)))
+    longer_away : length c.bytes ≤ size → AreThere c.there (min size (length c.bytes) / 4096) (block_count (min size (length c.bytes))) → slice_get (lengthened c size).there place ≡ Some false
+        → WasAway c bytes (resized bytes size) place
+    longer_away longer needed is =
+        (let was = away_long c size place is in
+        let same : min size (length c.bytes) ≡ length c.bytes = omega (arith, longer) in
+        let inside = whole_block (subst (λ (n : ℕ). AreThere c.there (n / 4096) (block_count n)) same needed) was in
+        (was, own_agrees (resized bytes size) bytes place (omega (arith, inside, length-resized bytes size, long, longer)) (λ k low high. byte_resized bytes size k (omega (arith, high, inside, longer)))))
 
     sized_away : AreThere c.there (min size (length c.bytes) / 4096) (block_count (min size (length c.bytes))) → slice_get (content_sized c size).there place ≡ Some false → WasAway c bytes (resized bytes size) place
     sized_away needed = by (ltb size (length c.bytes)) refl
       where
         by : (b : Bool) → ltb size (length c.bytes) ≡ b → slice_get (cond b (shortened c size) (lengthened c size)).there place ≡ Some false → WasAway c bytes (resized bytes size) place
         by true e is = cut_away (ltb-true size (length c.bytes) e) needed is
-        by false e is = longer_away (ltb-false size (length c.bytes) e) is
+        by false e is = longer_away (ltb-false size (length c.bytes) e) needed is
 
   after_away : (d : Desc) (request : Op) → HasNeeded c d request → slice_get (content_after c d request).there place ≡ Some false → WasAway c bytes (bytes_after bytes d request) place
   after_away d (op.Write fd fresh) needed is =

@@ -1,9 +1,9 @@
 -- The bytes of a file, place by place, and of its blocks.
-use Rattle.std.proofs.Common.{◌≡◌, ℕ, zero, suc, ◌+◌, ◌-◌, ◌*◌, ◌≤◌, ◌<◌, ◌⊎◌, inl, inr, List, [], ◌∷◌, ◌++◌, length, drop, replicate, get_or, ap, sym, refl, ◌∙◌, arith, length-append}
+use Rattle.std.proofs.Common.{◌≡◌, ℕ, zero, suc, ◌+◌, ◌-◌, ◌*◌, ◌≤◌, ◌<◌, ◌⊎◌, inl, inr, List, [], ◌∷◌, ◌++◌, length, min, drop, replicate, get_or, ap, sym, refl, ◌∙◌, arith, length-append}
 use Rattle.std.proofs.lemmas.Bool.{cases_lt}
 use Rattle.std.proofs.lemmas.List.{ext_get_or, get_or-append_right, get_or-drop, get_or-replicate, get_or-take, get_or_append_left, length-drop, length-replicate, length-take, length-take-le}
 use Rattle.ufs_model.specs.FileBytes.{part, resized}
-use Rattle.ufs_file.specs.Content.{block_bytes}
+use Rattle.ufs_file.specs.Content.{block_bytes, own_bytes}
 
 pub past_end : {X : Type 0} (xs : List X) (i : ℕ) (d : X) → length xs ≤ i → get_or xs i d ≡ d
 past_end [] i d le = refl
@@ -52,6 +52,20 @@ agrees_in_block xs ys place k is low high =
     let less : i < 4096 = omega (arith, low, high) in
     let e : 4096 * place + i ≡ k = omega (arith, low) in
     ap (λ j. get_or xs j 0) (sym e) ∙ sym (block_byte xs place i less) ∙ ap (λ (l : List ℕ). get_or l i 0) is ∙ block_byte ys place i less ∙ ap (λ j. get_or ys j 0) e
+
+-- what the file has of a block, where it ends alike in it
+pub own_agrees : (xs ys : List ℕ) (place : ℕ) → min (length xs) (4096 * place + 4096) ≡ min (length ys) (4096 * place + 4096)
+    → ((k : ℕ) → 4096 * place ≤ k → k < 4096 * place + 4096 → get_or xs k 0 ≡ get_or ys k 0) → own_bytes xs place ≡ own_bytes ys place
+own_agrees xs ys place ends h = ext_get_or 0 (own_bytes xs place) (own_bytes ys place) same each
+  where
+    same : length (own_bytes xs place) ≡ length (own_bytes ys place)
+    same = omega (arith, ends, length-take 4096 (drop (4096 * place) xs), length-take 4096 (drop (4096 * place) ys), length-drop (4096 * place) xs, length-drop (4096 * place) ys)
+
+    each : (i : ℕ) → i < length (own_bytes xs place) → get_or (own_bytes xs place) i 0 ≡ get_or (own_bytes ys place) i 0
+    each i less =
+        let low : i < 4096 = omega (arith, less, length-take 4096 (drop (4096 * place) xs)) in
+        get_or-take 4096 (drop (4096 * place) xs) i 0 low ∙ get_or-drop (4096 * place) xs i 0 ∙ h (4096 * place + i) (omega arith) (omega (arith, low))
+        ∙ sym (get_or-drop (4096 * place) ys i 0) ∙ sym (get_or-take 4096 (drop (4096 * place) ys) i 0 low)
 
 -- ---- parts
 

@@ -120,7 +120,7 @@ module _ (c : Content) (bytes : List ℕ) (e : length bytes ≡ length c.bytes) 
   marks_long size = ap (λ (n : ℕ). (cond (ltb n size) (grown c' size) c').dirty) e ∙ by (ltb (length c.bytes) size)
     where
       by : (b : Bool) → (cond b (grown c' size) c').dirty ≡ (cond b (grown c size) c).dirty
-      by true = refl
+      by true = ap (λ (n : ℕ). take (n / 4096) c.dirty ++ replicate (block_count size - n / 4096) true) e
       by false = refl
 
   marks_put : (at : ℕ) (fresh : List ℕ) → (content_put c' at fresh).dirty ≡ (content_put c at fresh).dirty

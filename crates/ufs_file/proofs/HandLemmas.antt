@@ -100,9 +100,11 @@ has_kept old before count le = record {
 pub length-grown : (c : Content) (size : ℕ) → length c.bytes ≤ size → length (grown c size).bytes ≡ size
 length-grown c size le = omega (arith, le, length-append c.bytes (replicate (size - length c.bytes) 0), length-replicate {A = ℕ} (size - length c.bytes) 0)
 
-pub dirty-grown : (c : Content) (size : ℕ) → length c.dirty ≤ block_count size → length (grown c size).dirty ≡ block_count size
-dirty-grown c size le =
-    omega (arith, le, length-append c.dirty (replicate (block_count size - length c.dirty) true), length-replicate {A = Bool} (block_count size - length c.dirty) true)
+pub dirty-grown : (c : Content) (size : ℕ) → length c.dirty ≡ block_count (length c.bytes) → length c.bytes ≤ size → length (grown c size).dirty ≡ block_count size
+dirty-grown c size counted longer =
+    let front : length (take (length c.bytes / 4096) c.dirty) ≡ length c.bytes / 4096 = length-take-le (length c.bytes / 4096) c.dirty (omega (arith, counted)) in
+    let more : List Bool = replicate (block_count size - length c.bytes / 4096) true in
+    omega (arith, longer, front, length-append (take (length c.bytes / 4096) c.dirty) more, length-replicate {A = Bool} (block_count size - length c.bytes / 4096) true)
 
 pub length-marks_cut : (dirty : List Bool) (size : ℕ) → block_count size ≤ length dirty → length (marks_cut dirty size) ≡ block_count size
 length-marks_cut dirty size le = by (eqb (size % 4096) 0) refl

@@ -26,3 +26,11 @@ there_put c at fresh count some h place low less = by (ltb (length c.bytes) (at 
         there_append c.there (block_count (at + length fresh) - length c.there) place (omega (arith, less))
         (λ front. needed (omega (arith, low)) (omega (arith, front, count, longer)))
     by false e = (let inside = ltb-false (length c.bytes) (at + length fresh) e in needed (omega (arith, low)) (omega (arith, less, inside)))
+
+-- a write behind the end needs the block in which the file ends
+pub there_end : (c : Content) (at : ℕ) (fresh : List ℕ) → 0 < length fresh → length c.bytes < at + length fresh
+    → AreThere c.there (write_from (length c.bytes) at) (write_end (length c.bytes) at (length fresh)) → AreThere c.there (length c.bytes / 4096) (block_count (length c.bytes))
+there_end c at fresh some longer h place low less = h place (omega (arith, low)) (subst (λ (n : ℕ). place < n) (sym end) (omega (arith, less, longer)))
+  where
+    end : write_end (length c.bytes) at (length fresh) ≡ end_within (length c.bytes) at (length fresh)
+    end = cond-false (eqb (length fresh) 0) (write_from (length c.bytes) at) (end_within (length c.bytes) at (length fresh)) (ne_eqb (length fresh) 0 (λ e. omega (arith, e, some)))

@@ -51,12 +51,16 @@ over_mark old new at to k fits end is = by (cases_lt k at) (cases_lt k to)
     by (inr from) (inl less) = inr (from, less)
     by (inr from) (inr past) = inl (moved (over old at new) old k (over-past old new at k false fits (omega (arith, past, end))) is)
 
-append_mark : (old new : List Bool) (from to k : ℕ) → from ≡ length old → to ≡ length old + length new → slice_get (old ++ new) k ≡ Some true → (slice_get old k ≡ Some true) ⊎ ((from ≤ k) × (k < to))
-append_mark old new from to k start end is = by (cases_lt k from)
+-- a mark of what is longer from a place on is one that was there, or lies behind that place
+longer_mark : (old more : List Bool) (from to k : ℕ) → from ≤ length old → to ≡ from + length more → slice_get (take from old ++ more) k ≡ Some true → (slice_get old k ≡ Some true) ⊎ ((from ≤ k) × (k < to))
+longer_mark old more from to k inside end is = by (cases_lt k from)
   where
+    front : length (take from old) ≡ from
+    front = length-take-le from old inside
+
     by : (k < from) ⊎ (from ≤ k) → (slice_get old k ≡ Some true) ⊎ ((from ≤ k) × (k < to))
-    by (inl less) = inl (moved (old ++ new) old k (get_or_append_left old new false k (omega (arith, less, start))) is)
-    by (inr here) = inr (here, omega (arith, slice_get_within (old ++ new) k true is, length-append old new, end))
+    by (inl less) = inl (moved (take from old ++ more) old k (get_or_append_left (take from old) more false k (omega (arith, less, front)) ∙ get_or-take from old k false less) is)
+    by (inr here) = inr (here, omega (arith, slice_get_within (take from old ++ more) k true is, length-append (take from old) more, front, end))
 
 -- a mark of what a cut leaves is one that was there, or that of the block that it goes through
 cut_mark : (ms : List Bool) (size n k : ℕ) → n ≡ size / 4096 → n ≤ length ms → slice_get (marks_cut ms size) k ≡ Some true → k < length (marks_cut ms size)
@@ -94,11 +98,12 @@ over_within s t old fresh new at to were is fits end both =
     let same : length (over old at fresh) ≡ length old = length-over old at fresh fits in
     subst (AreWithin t) (sym is) (more_within s t at to old (over old at fresh) were both (omega arith) (omega arith) (λ k is. over_mark old fresh at to k fits end is))
 
--- longer
-pub append_within : (s t : Span) (old more new : List Bool) (from to : ℕ) → AreWithin s old → new ≡ old ++ more → from ≡ length old → to ≡ length old + length more → HasBoth s from to t → AreWithin t new
-append_within s t old more new from to were is start end both =
-    let size : length (old ++ more) ≡ length old + length more = length-append old more in
-    subst (AreWithin t) (sym is) (more_within s t from to old (old ++ more) were both (omega arith) (omega arith) (λ k is. append_mark old more from to k start end is))
+-- longer, from a place on
+pub longer_within : (s t : Span) (old more new : List Bool) (from to : ℕ) → AreWithin s old → new ≡ take from old ++ more → from ≤ length old → to ≡ from + length more → length old ≤ to → HasBoth s from to t
+    → AreWithin t new
+longer_within s t old more new from to were is inside end longer both =
+    let size : length (take from old ++ more) ≡ from + length more = length-append (take from old) more ∙ ap (λ n. n + length more) (length-take-le from old inside) in
+    subst (AreWithin t) (sym is) (more_within s t from to old (take from old ++ more) were both (omega (arith, size, end, longer)) (omega (arith, size, end)) (λ k is. longer_mark old more from to k inside end is))
 
 -- cut
 pub cut_within : (s u t : Span) (ms new : List Bool) (size n count : ℕ) → AreWithin s ms → new ≡ marks_cut ms size → n ≡ size / 4096 → n ≤ length ms → length new ≡ count

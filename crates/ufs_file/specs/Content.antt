@@ -2,7 +2,7 @@
 use Rattle.std.specs.Prelude.{ℕ, ◌≡◌, ◌+◌, ◌*◌, ◌/◌, ◌%◌, ◌-◌, ◌≤◌, ◌<◌, ◌==◌, List, [], ◌∷◌, ◌++◌, Bool, true, false, Some, take, drop, replicate, length, slice_get, if◌then◌else◌}
 use Rattle.ufs_base.specs.declared.sizes.TheConstants.{BLOCK}
 use Rattle.ufs_model.specs.Excuses as excuses
-use Rattle.ufs_model.specs.FileBytes.{resized}
+use Rattle.ufs_model.specs.FileBytes.{part, resized}
 use Rattle.ufs_file.specs.Lists.{over}
 
 -- A file's bytes; and by their places which of its blocks were written since they were read or made, and which are in
@@ -20,11 +20,12 @@ no_content = record { bytes = []; dirty = []; there = [] }
 abbrev pub block_count : ℕ → ℕ
 block_count size = excuses.blocks_of size
 
--- lengthened with zeros, in new blocks where the last one has no room
+-- lengthened with zeros, in new blocks where the last one has no room. The block in which it ended is written: behind the
+-- end the disk may have what isn't the file's
 abbrev pub grown : Content → ℕ → Content
 grown c size = record {
   bytes = c.bytes ++ replicate (size - length c.bytes) 0;
-  dirty = c.dirty ++ replicate (block_count size - length c.dirty) true;
+  dirty = take (length c.bytes / BLOCK) c.dirty ++ replicate (block_count size - length c.bytes / BLOCK) true;
   there = c.there ++ replicate (block_count size - length c.there) true;
 }
 
@@ -47,13 +48,13 @@ shortened c size = record { bytes = take size c.bytes; dirty = marks_cut c.dirty
 abbrev pub block_bytes : List ℕ → ℕ → List ℕ
 block_bytes bytes place = resized (drop (BLOCK * place) bytes) BLOCK
 
+-- what the file has of the block at a place: fewer bytes where it ends in it
+abbrev pub own_bytes : List ℕ → ℕ → List ℕ
+own_bytes bytes place = part bytes (BLOCK * place) BLOCK
+
 -- no block marked
 abbrev pub cleaned : Content → Content
 cleaned c = record c { dirty = replicate (length c.dirty) false }
-
--- one block marked
-abbrev pub marked : Content → ℕ → Content
-marked c place = record c { dirty = over c.dirty place (true ∷ []) }
 
 -- bytes that were read, in as many blocks as they need
 abbrev pub as_read : List ℕ → Content

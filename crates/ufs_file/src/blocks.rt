@@ -210,8 +210,8 @@ fn clear_at(table: &mut Vec<Block>, k: usize, from: usize)
     clear_behind(block, from);
 }
 
-/// Marks the block at place k as written, or as not.
-pub(crate) fn mark_at(table: &mut Vec<Block>, k: usize, dirty: bool)
+// Marks the block at place k as written, or as not.
+fn mark_at(table: &mut Vec<Block>, k: usize, dirty: bool)
     requires whole { All IsWhole table.old.items }
     requires place { k < length table.old.items }
     requires there { dirty ≡ true → slice_get (there_of table.old.items) k ≡ Some true }
@@ -223,6 +223,23 @@ pub(crate) fn mark_at(table: &mut Vec<Block>, k: usize, dirty: bool)
 {
     let block = &mut table[k];
     block.dirty = dirty;
+}
+
+/// Marks the blocks from place k on, below another, as written: one at most.
+pub(crate) fn mark_rest(table: &mut Vec<Block>, k: usize, end: usize)
+    requires whole { All IsWhole table.old.items }
+    requires one { end ≤ k + 1 }
+    requires place { end ≤ length table.old.items }
+    requires there { AreThere (there_of table.old.items) k end }
+    ensures whole { All IsWhole table.new.items }
+    ensures length { length table.new.items ≡ length table.old.items }
+    ensures bytes { bytes_in table.new.items ≡ bytes_in table.old.items }
+    ensures marks { marks_of table.new.items ≡ over (marks_of table.old.items) k (replicate (end - k) true) }
+    ensures there { there_of table.new.items ≡ there_of table.old.items }
+{
+    if k < end {
+        mark_at(table, k, true);
+    }
 }
 
 /// Marks every block as not written; those that were written lie in the span.

@@ -2,7 +2,7 @@ ghost use Rattle.std.specs.Prelude.{◌≡◌, ◌+◌, ◌-◌, ◌≤◌, ◌<
 ghost use Rattle.ufs_file.specs.Content.{Content, no_content, grown, written_over, shortened};
 
 use crate::blocks::{
-    Block, absent_blocks, clean_all, cut_over, fill_at, mark_at, piece, put_over, read_over,
+    Block, absent_blocks, clean_all, cut_over, fill_at, mark_rest, piece, put_over, read_over,
     zero_blocks,
 };
 use crate::span::Span;
@@ -41,7 +41,7 @@ impl Model for Blocks {
 impl Blocks {
     ghost use Rattle.std.specs.Prelude.{ℕ, ◌≡◌, ◌+◌, ◌-◌, ◌*◌, ◌/◌, ◌≤◌, ◌<◌, ◌++◌, length, max, min, take, replicate, slice_get, IfOk, OnOk, OnErr, IfSome, IfNone, Some, true, false};
     ghost use Rattle.ufs_model.specs.FileBytes.{part};
-    ghost use Rattle.ufs_file.specs.Content.{AreThere, Content, no_content, as_read, block_bytes, block_count, cleaned, grown, loaded, marked, written_over, shortened, unread};
+    ghost use Rattle.ufs_file.specs.Content.{AreThere, Content, no_content, as_read, block_bytes, block_count, cleaned, grown, loaded, written_over, shortened, unread};
     ghost use Rattle.ufs_file.specs.Hand.{end_within, read_from};
     ghost use Rattle.ufs_file.specs.Table.{max_held};
 
@@ -132,19 +132,23 @@ impl Blocks {
         Ok(got)
     }
 
-    /// Lengthens the file with zeros. No byte that is there moves.
+    /// Lengthens the file with zeros. No byte that is there moves. The block in which the file ended is written: the disk may
+    /// have other bytes behind the end.
     pub fn grow(&mut self, size: u64) -> Result<(), Memory>
         requires longer { length self.old.bytes ≤ size }
         requires small { size ≤ max_held }
+        requires there { AreThere self.old.there (length self.old.bytes / BLOCK) (block_count (length self.old.bytes)) }
         ensures ok { OnOk result (self.new ≡ grown self.old size) }
         ensures err { OnErr result (self.new ≡ self.old) }
     {
         let size = size as usize;
+        let first = self.size / BLOCK;
         let held = self.table.len();
         let count = size.div_ceil(BLOCK) - held;
         let mut more = zero_blocks(self.alloc, count)?;
         self.table.append(&mut more)?;
-        self.span = self.span.widened(held, held + count);
+        mark_rest(&mut self.table, first, held);
+        self.span = self.span.widened(first, held + count);
         self.size = size;
         Ok(())
     }
@@ -239,15 +243,6 @@ impl Blocks {
     {
         clean_all(&mut self.table, self.span);
         self.span = Span::EMPTY;
-    }
-
-    /// The block at this place is to be written: the disk has other bytes behind the file's end. Takes no memory.
-    pub fn mark(&mut self, place: usize)
-        requires { slice_get self.old.there place ≡ Some true }
-        ensures { self.new ≡ marked self.old place }
-    {
-        mark_at(&mut self.table, place, true);
-        self.span = self.span.widened(place, place + 1);
     }
 }
 

@@ -65,7 +65,7 @@ impl FileHand {
     ghost use Rattle.ufs_model.specs.declared.data.Reply.TheVariants.{Got};
     ghost use Rattle.ufs_model.specs.declared.data.Excuse.TheVariants as excuse;
     ghost use Rattle.ufs_extent.specs.Runs.{IsRun, blocks_of, appended_all};
-    ghost use Rattle.ufs_file.specs.Content.{AreThere, IsContentOf, as_read, no_content, block_bytes, block_count, cleaned, loaded, marked, shortened, unread, written_over};
+    ghost use Rattle.ufs_file.specs.Content.{AreThere, IsContentOf, as_read, no_content, block_bytes, block_count, cleaned, loaded, own_bytes, shortened, unread, written_over};
     ghost use Rattle.ufs_bitmap.specs.Taking.{IsApart, Takes, set_of};
     ghost use Rattle.ufs_model.specs.FileCalls.{is_on_file, place_refusal, file_refusal, file_answer, file_step, desc_after};
     ghost use Rattle.ufs_file.specs.Table.{max_held};
@@ -156,7 +156,7 @@ impl FileHand {
             → IsServedByFile (whole_as bytes self.old) (whole_as (file_step bytes d ask.op).bytes self.new) pool.old pool.new d ask.op result.entry.reply result.desc }
         ensures goes_on { is_excused result.entry.reply ≡ false → (d : Desc) → ask.desc ≡ Some d → (bytes : List ℕ) → IsContentOf self.old.content bytes → IsContentOf self.new.content (file_step bytes d ask.op).bytes }
         ensures away { is_excused result.entry.reply ≡ false → (d : Desc) → ask.desc ≡ Some d → (bytes : List ℕ) → IsContentOf self.old.content bytes → (place : ℕ) → slice_get self.new.content.there place ≡ Some false
-            → (slice_get self.old.content.there place ≡ Some false) × (block_bytes (file_step bytes d ask.op).bytes place ≡ block_bytes bytes place) }
+            → (slice_get self.old.content.there place ≡ Some false) × (own_bytes (file_step bytes d ask.op).bytes place ≡ own_bytes bytes place) }
         ensures any_excused { (x : Excuse) → result.entry.reply ≡ reply.Excused x → (d : Desc) → ask.desc ≡ Some d → (bytes : List ℕ) → IsContentOf self.old.content bytes → IsExcusedFor (whole_as bytes self.old) d ask.op pool.old x }
         ensures posix { is_excused result.entry.reply ≡ false → (t : PosixTree) → IsFileOf self.old t → IsAsk t ask → IsPosix t ask self.new result.entry.reply result.desc }
         ensures fits { (x : Excuse) → result.entry.reply ≡ reply.Excused x → (t : PosixTree) → IsFileOf self.old t → IsAsk t ask → ExcuseFits t ask.client ask.op x }
@@ -351,16 +351,6 @@ impl FileHand {
         self.blocks.clean();
     }
 
-    /// The block at this place is to be written: the disk has other bytes there, behind the file's end. Takes no memory.
-    pub fn mark(&mut self, place: usize)
-        requires { slice_get self.old.content.there place ≡ Some true }
-        ensures { self.new ≡ record self.old { content = marked self.old.content place } }
-    {
-        // For the prover alone.
-        let _size = self.blocks.size();
-        self.blocks.mark(place);
-    }
-
     /// All its blocks; the file is no more. Takes no memory.
     pub fn drop_blocks(self) -> Extents
         ensures { result ≡ self.extents }
@@ -546,6 +536,7 @@ impl FileHand {
     fn lengthen(&mut self, size: u64, pool: &mut Pool) -> Result<(), Excuse>
         requires small { size ≤ max_size }
         requires apart { IsApart pool.old (blocks_of self.old.extents) }
+        requires there { length self.old.content.bytes < size → AreThere self.old.content.there (length self.old.content.bytes / BLOCK) (block_count (length self.old.content.bytes)) }
         ensures ok { OnOk result (IsChanged self.old self.new pool.old pool.new (lengthened self.old.content size)) }
         ensures apart { OnOk result (IsApart pool.new (blocks_of self.new.extents)) }
         ensures cause { IfErr result (λ x. IsCause self.old.extents (block_count (length (lengthened self.old.content size).bytes) - length (blocks_of self.old.extents)) pool.old x) }

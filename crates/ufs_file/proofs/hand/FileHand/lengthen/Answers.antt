@@ -1,8 +1,8 @@
-use Rattle.std.proofs.Common.{◌≡◌, ◌+◌, ◌-◌, ◌≤◌, ◌<◌, ap, sym, ◌∙◌, arith, ℕ, List, subst, length, length-append}
+use Rattle.std.proofs.Common.{◌≡◌, ◌+◌, ◌-◌, ◌/◌, ◌≤◌, ◌<◌, ap, sym, ◌∙◌, arith, ℕ, List, subst, length, length-append}
 use Rattle.std.specs.FinSet as set
 use Rattle.ufs_extent.specs.declared.Run.{Run}
 use Rattle.ufs_extent.specs.Runs.{blocks_of, appended_all}
-use Rattle.ufs_file.specs.Content.{Content, block_count, grown}
+use Rattle.ufs_file.specs.Content.{AreThere, Content, block_count, grown}
 use Rattle.ufs_bitmap.specs.Taking.{IsApart, set_of}
 use Rattle.ufs_file.specs.Hand.{FileState, IsCause, lengthened}
 use Rattle.ufs_bitmap.proofs.TakingLemmas.{takes_apart, takes_blocks, takes_undone}
@@ -47,10 +47,16 @@ invariant_of-self-2 c =
     let grew : c.grow.new.self ≡ grown c.self.inside.blocks c.args.size = c.in-Ok-grow.ensures.ok in
     let had : length (blocks_of xs) ≡ length c.self.inside.blocks.dirty = c.self.invariant in
     let is : c.div_ceil.result ≡ block_count c.args.size = c.div_ceil.ensures ∙ ceil_is c.args.size in
-    let le : length c.self.inside.blocks.dirty ≤ block_count c.args.size = omega (arith, c.size.ensures.blocks, c.size.ensures.size, c.if-size.false) in
-    blocks ∙ omega (arith, taken, had, is, c.block_count.ensures, dirty-grown c.self.inside.blocks c.args.size le, le) ∙ ap (λ (v : Content). length v.dirty) (sym grew)
+    let longer : length c.self.inside.blocks.bytes ≤ c.args.size = omega (arith, c.size.ensures.size, c.if-size.false) in
+    let counted : length c.self.inside.blocks.dirty ≡ block_count (length c.self.inside.blocks.bytes) = c.size.ensures.blocks in
+    blocks ∙ omega (arith, taken, had, is, c.block_count.ensures, dirty-grown c.self.inside.blocks c.args.size counted longer, counted, longer) ∙ ap (λ (v : Content). length v.dirty) (sym grew)
 
 pub returns-in_default-clause-pool : goal.returns-in_default-clause-pool
 returns-in_default-clause-pool c =
     c.give_runs.ensures ∙ ap (λ (l : List Run). set.union c.take.new.pool (set_of l)) c.as_slice.ensures.value
     ∙ takes_undone c.args.pool.now (c.div_ceil.result - c.block_count.result) c.in-Ok.runs.items c.take.new.pool 0 c.in-Ok.ensures.taken
+
+pub grow-requires-clause-there : goal.grow-requires-clause-there
+grow-requires-clause-there c =
+    let needed = c.requires.there (omega (arith, ap (λ (f : FileState). length f.content.bytes) c.self.view_is, c.size.ensures.size, c.if-size.false)) in
+    subst (λ (f : FileState). AreThere f.content.there (length f.content.bytes / 4096) (block_count (length f.content.bytes))) (sym c.self.view_is) needed
