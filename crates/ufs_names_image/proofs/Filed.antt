@@ -1,5 +1,5 @@
 -- The files of an image are parts of the tree that it opens to.
-use Rattle.std.proofs.Common.{◌≡◌, ℕ, ◌≤◌, List, Bool, true, false, Option, Some, None, ap, sym, refl, ◌∙◌}
+use Rattle.std.proofs.Common.{◌≡◌, ℕ, ◌≤◌, List, Bool, true, false, Option, Some, None, ap, sym, ◌∙◌}
 use Rattle.std.specs.Prelude.{◌==◌, if◌then◌else◌}
 use Rattle.std.specs.Option.{option_map}
 use Rattle.std.specs.FinMap as map
@@ -45,14 +45,14 @@ module _ (sectors : ℕ) (image : Image) (v : Volume) (c : Catalog) (t : PosixTr
       (sym (ap (content_of t.bytes) at.stands) ∙ has (cat.path_text at.names)
       ∙ ap (option_map path_node_of) (stands v.geometry v.image c is.catalog is.sound some at.names pieces ∙ ap (option_map (cat.node_of v.image c)) at.met))
 
-  -- the tree has the bytes that were read
-  pub has_bytes : (f : ℕ) (s : FileState) → map.get files f ≡ Some s → map.get t.bytes f ≡ Some s.content.bytes
-  has_bytes f s e = let r = read f s e in bytes_at s.inode f (of.numbers.only s.inode f r.inode) ∙ ap Some (sym r.bytes)
+  -- the tree has the bytes that the image has
+  pub has_bytes : (f : ℕ) (s : FileState) → map.get files f ≡ Some s → map.get t.bytes f ≡ Some (file_bytes v.image (c.forms s.inode))
+  has_bytes f s e = bytes_at s.inode f (of.numbers.only s.inode f (read f s e).inode)
 
   pub are_files : AreFilesOf files t
   are_files f s e =
-      let number = (read f s e).number in
-      (number, record { bytes = s.content.bytes; has = ap (map.get t.bytes) number ∙ has_bytes f s e; may = record { long = refl; same = λ place there. refl } })
+      let r = read f s e in
+      (r.number, record { bytes = file_bytes v.image (c.forms s.inode); has = ap (map.get t.bytes) r.number ∙ has_bytes f s e; may = r.may })
 
   pub have_inodes : HaveInodes n.held files
   have_inodes f s h e held =

@@ -13,6 +13,7 @@ use Rattle.ufs_image.specs.Volume.{Volume}
 use Rattle.ufs_bitmap.specs.Blocks.{BlockSet}
 use Rattle.ufs_extent.specs.Runs.{blocks_of}
 use Rattle.ufs_layout.specs.declared.geometry.Geometry.{Geometry}
+use Rattle.ufs_file.specs.Content.{IsContentOf}
 use Rattle.ufs_file.specs.Hand.{FileState}
 use Rattle.ufs_files.specs.Files.{Files, AreFilesOf}
 use Rattle.ufs_model.specs.PosixTree.{PosixTree, IsTree}
@@ -23,11 +24,11 @@ use Rattle.ufs_names.specs.Space.{AreApart}
 use Rattle.ufs_names_image.specs.Numbered.{HasImage}
 use Rattle.ufs_names_image.specs.Parts.{IsNamesOf}
 
--- It is the file with this number, and has the bytes and the blocks that the image has at its inode.
+-- It is the file with this number, and may have the bytes that the image has at its inode, and has its blocks there.
 pub record IsRead (image : Image) (c : Catalog) (n : NamesPart) (file : ℕ) (s : FileState) : Type 0 where
   pub number : s.file ≡ file
   pub inode : file_at n.tree s.inode ≡ Some file
-  pub bytes : s.content.bytes ≡ file_bytes image (c.forms s.inode)
+  pub may : IsContentOf s.content (file_bytes image (c.forms s.inode))
   pub blocks : blocks_of s.extents ≡ image_nodes.blocks_of (c.forms s.inode)
 
 abbrev pub AreRead : Image → Catalog → NamesPart → Files → Type 0

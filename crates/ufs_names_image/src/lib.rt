@@ -29,7 +29,7 @@ pub fn image_start_law(sectors: usize)
     let _sectors = sectors;
 }
 
-/// Files with an image's bytes are parts of that tree, and no block is in two places.
+/// Files that may have an image's bytes are parts of that tree, and no block is in two places.
 pub fn files_part_law(sectors: usize)
     ensures parts { FilesAreParts sectors }
     ensures apart { BlocksAreApart sectors }
