@@ -8,7 +8,7 @@ use Rattle.ufs_disk.specs.Disk.{Cell, possible}
 use Rattle.ufs_disk.specs.Moments.{Moments, reads}
 use Rattle.ufs_disk.proofs.Runs.{all_append}
 use Rattle.ufs_extent.specs.Runs.{blocks_of}
-use Rattle.ufs_file.specs.Content.{block_bytes}
+use Rattle.ufs_file.specs.Content.{block_bytes, own_bytes}
 use Rattle.ufs_ilog.specs.Deltas.{IsDelta, extents_of}
 use Rattle.ufs_image.specs.Images.{block_at}
 use Rattle.ufs_image.specs.Nodes.{blocks_of as form_blocks}
@@ -40,7 +40,7 @@ use Rattle.ufs_durable.proofs.Behind.{same_superblock, same_maybe, same_now}
 use Rattle.ufs_durable.proofs.Cells.{got_back}
 use Rattle.ufs_durable.proofs.Fitting.{blocks_here, covers, form, may_form, next_is, own_at, sound}
 use Rattle.ufs_durable.proofs.Still.{byte_of_block}
-use Rattle.ufs_durable.proofs.Standing.{all_home, all_settled, byte_in_block}
+use Rattle.ufs_durable.proofs.Standing.{all_home, all_settled, byte_in_own}
 
 -- ---- its writes
 
@@ -111,7 +111,7 @@ module _ (s : StoreState) (l : Ledger) (f : DurableState) (has : HasLedger s l) 
 
   -- over other cells and another log
   module _ (blocks : ℕ → Cell) (log : List Committed) (less : (block : ℕ) → is_held l.now.log block ≡ false → is_held log block ≡ false)
-      (have : (place block : ℕ) → slice_get (blocks_of f.file.extents) place ≡ Some block → HaveOnly (possible (blocks block)) (block_bytes f.file.content.bytes place))
+      (have : (place block : ℕ) → slice_get (blocks_of f.file.extents) place ≡ Some block → HaveOnly (possible (blocks block)) (own_bytes f.file.content.bytes place))
       (kept : IsStandKept (geometry_of l.superblock) blocks (record (l.now) { log = log }) start history now.names now.files now.numbers) where
     same_blocks : form_blocks (form s l f has noted stands own fits delta.keep delta.given delta.front.in_one delta.whole) ≡ blocks_of f.file.extents
     same_blocks = blocks_here s l f has noted stands own fits delta.keep delta.given delta.front.in_one delta.whole
@@ -141,8 +141,9 @@ module _ (s : StoreState) (l : Ledger) (f : DurableState) (has : HasLedger s l) 
           unheld = λ place block at. less block (stands.blocks place block (at_file place block at)).unheld;
           sized = noted.size ∙ ap length by_history.bytes;
           now = λ place byte under may_have.
-              have (place / 4096) may_have.block (at_file (place / 4096) may_have.block may_have.there) (place % 4096) byte (omega arith) may_have.has
-              ∙ byte_in_block f.file.content.bytes place (let same = noted.size in omega (arith, under, same)) ∙ ap (λ bs. byte_at bs place) by_history.bytes;
+              let own = byte_in_own f.file.content.bytes place (let same = noted.size in omega (arith, under, same)) in
+              have (place / 4096) may_have.block (at_file (place / 4096) may_have.block may_have.there) (place % 4096) byte own.0 may_have.has
+              ∙ own.1 ∙ ap (λ bs. byte_at bs place) by_history.bytes;
         }
 
     pub on_log : IsOn blocks (record (l.now) { log = log })

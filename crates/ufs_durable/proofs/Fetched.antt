@@ -9,7 +9,7 @@ use Rattle.ufs_disk.specs.Disk.{Cell, possible}
 use Rattle.ufs_disk.specs.Moments.{LeavesOnly}
 use Rattle.ufs_disk.proofs.Runs.{joined, started}
 use Rattle.ufs_extent.specs.Runs.{blocks_of}
-use Rattle.ufs_file.specs.Content.{Content, block_bytes, block_count, loaded}
+use Rattle.ufs_file.specs.Content.{Content, block_bytes, block_count, loaded, own_bytes}
 use Rattle.ufs_file.specs.Hand.{FileState, whole_as}
 use Rattle.ufs_file.specs.Lists.{over}
 use Rattle.ufs_file.proofs.ByteLemmas.{block_byte, byte_resized, length-resized, past_end}
@@ -26,6 +26,7 @@ use Rattle.ufs_durable.specs.Fetching.{HasFetched}
 use Rattle.ufs_durable.specs.Standing.{HaveOnly, IsReadable}
 use Rattle.ufs_durable.specs.State.{CommitState, IsNoted, state_of}
 use Rattle.ufs_durable.proofs.Cells.{got_back, length_block}
+use Rattle.ufs_durable.proofs.Still.{inside_own, own_in_block}
 
 -- ---- one after the other
 
@@ -77,24 +78,26 @@ has_last : (older : List (List ℕ)) (last : List ℕ) (i : ℕ) → HasByte (ol
 has_last [] last i = inl refl
 has_last (x ∷ xs) last i = inr (has_last xs last i)
 
-seen_is : (cell : Cell) (bytes : List ℕ) → HaveOnly (possible cell) bytes → length bytes ≡ 4096 → length cell.seen ≡ 4096 → cell.seen ≡ bytes
-seen_is cell bytes only long size =
-    ext_get_or 0 cell.seen bytes (size ∙ sym long) (λ i less. only i (byte_at cell.seen i) (omega (arith, less, size)) (has_last cell.older cell.seen i))
+-- The block of a file is what was read, up to the file's end.
+module _ (cell : Cell) (bytes : List ℕ) (place n : ℕ) (only : HaveOnly (possible cell) (own_bytes bytes place)) (long : length bytes ≡ n) where
+  byte_seen : (i : ℕ) → i < 4096 → 4096 * place + i < length bytes → get_or cell.seen i 0 ≡ get_or (block_bytes bytes place) i 0
+  byte_seen i low under =
+      let own = inside_own bytes place i low under in
+      only i (byte_at cell.seen i) own (has_last cell.older cell.seen i) ∙ sym (own_in_block bytes place i own)
 
--- a block up to the file's end is the block
-block_itself : (bytes : List ℕ) (place n : ℕ) → length bytes ≡ n → block_bytes bytes place ≡ resized (take (n - 4096 * place) (block_bytes bytes place)) 4096
-block_itself bytes place n long =
-    let xs : List ℕ = block_bytes bytes place in
-    let ys : List ℕ = take (n - 4096 * place) (block_bytes bytes place) in
-    ext_get_or 0 xs (resized ys 4096) (length_block bytes place ∙ sym (length-resized ys 4096)) (λ i less.
-    let low : i < 4096 = omega (arith, less, length_block bytes place) in
-    each i low (cases_lt i (n - 4096 * place)) ∙ sym (byte_resized ys 4096 i low))
-  where
-    each : (i : ℕ) → i < 4096 → (i < n - 4096 * place) ⊎ (n - 4096 * place ≤ i) → get_or (block_bytes bytes place) i 0 ≡ get_or (take (n - 4096 * place) (block_bytes bytes place)) i 0
-    each i low (inl less) = sym (get_or-take (n - 4096 * place) (block_bytes bytes place) i 0 less)
-    each i low (inr past) =
-        block_byte bytes place i low ∙ past_end bytes (4096 * place + i) 0 (omega (arith, past, long))
-        ∙ sym (past_end (take (n - 4096 * place) (block_bytes bytes place)) i 0 (omega (arith, past, length-take (n - 4096 * place) (block_bytes bytes place))))
+  pub block_seen : block_bytes bytes place ≡ resized (take (n - 4096 * place) cell.seen) 4096
+  block_seen =
+      let xs : List ℕ = block_bytes bytes place in
+      let ys : List ℕ = take (n - 4096 * place) cell.seen in
+      ext_get_or 0 xs (resized ys 4096) (length_block bytes place ∙ sym (length-resized ys 4096)) (λ i less.
+      let low : i < 4096 = omega (arith, less, length_block bytes place) in
+      each i low (cases_lt i (n - 4096 * place)) ∙ sym (byte_resized ys 4096 i low))
+    where
+      each : (i : ℕ) → i < 4096 → (i < n - 4096 * place) ⊎ (n - 4096 * place ≤ i) → get_or (block_bytes bytes place) i 0 ≡ get_or (take (n - 4096 * place) cell.seen) i 0
+      each i low (inl less) = sym (byte_seen i low (omega (arith, less, long))) ∙ sym (get_or-take (n - 4096 * place) cell.seen i 0 less)
+      each i low (inr past) =
+          block_byte bytes place i low ∙ past_end bytes (4096 * place + i) 0 (omega (arith, past, long))
+          ∙ sym (past_end (take (n - 4096 * place) cell.seen) i 0 (omega (arith, past, length-take (n - 4096 * place) cell.seen)))
 
 -- a block that isn't in memory isn't dirty
 pub clean_there : (c : Content) (place : ℕ) → slice_get c.there place ≡ Some false → length c.there ≡ length c.dirty
@@ -154,11 +157,13 @@ module _ (visible keeps : Bool) (s t : StoreState) (f : FileState) (moved : t �
             let both : Some true ≡ Some false = sym e ∙ ap (slice_get f.content.there) (sym same) ∙ absent in
             cc
 
-    given : (l : Ledger) (bytes : List ℕ) → IsTrue visible → IsLedgerOf s.sectors s.moments.state l → IsReadable l (whole_as bytes f) → buf ≡ block_bytes bytes place
-    given l bytes v is readable =
+    given : (l : Ledger) (bytes : List ℕ) → IsTrue visible → IsLedgerOf s.sectors s.moments.state l → IsReadable l (whole_as bytes f) → length bytes ≡ length f.content.bytes
+        → block_bytes bytes place ≡ resized (take (length f.content.bytes - 4096 * place) buf) 4096
+    given l bytes v is readable long =
         let its = readable.blocks place block here clean in
         let same : buf ≡ (l.blocks block).seen = told v l is its.data_block its.unheld in
-        same ∙ seen_is (l.blocks block) (block_bytes bytes place) (readable.clean place block here clean) (length_block bytes place) (ap length (sym same) ∙ size)
+        block_seen (l.blocks block) bytes place (length f.content.bytes) (readable.clean place block here clean) long
+        ∙ ap (λ (xs : List ℕ). resized (take (length f.content.bytes - 4096 * place) xs) 4096) (sym same)
 
     pub fetched_one : HasFetched visible keeps s t f (record f { content = loaded f.content place buf })
     fetched_one = record {
@@ -167,10 +172,7 @@ module _ (visible keeps : Bool) (s t : StoreState) (f : FileState) (moved : t �
       marks = length-over f.content.there place (true ∷ []) marks_fit;
       kept = still_there;
       fewer = loaded_might f.content place buf absent count size;
-      read = λ v l bytes is readable may.
-          let same = given l bytes v is readable in
-          loaded_may f.content place buf absent count size bytes may
-          (block_itself bytes place (length f.content.bytes) may.long ∙ ap (λ (xs : List ℕ). resized (take (length f.content.bytes - 4096 * place) xs) 4096) (sym same));
+      read = λ v l bytes is readable may. loaded_may f.content place buf absent count size bytes may (given l bytes v is readable may.long);
       crash = crash;
       on_disk = on_disk;
       ledger = ledger;

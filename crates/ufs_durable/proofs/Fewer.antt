@@ -4,7 +4,7 @@ use Rattle.std.specs.Prelude.{◌==◌, if◌then◌else◌}
 use Rattle.std.specs.List.{slice_get}
 use Rattle.ufs_disk.specs.Disk.{Cell, possible}
 use Rattle.ufs_extent.specs.Runs.{blocks_of}
-use Rattle.ufs_file.specs.Content.{block_bytes}
+use Rattle.ufs_file.specs.Content.{own_bytes}
 use Rattle.ufs_file.specs.Hand.{FileState}
 use Rattle.ufs_layout.specs.Superblock.{geometry_of}
 use Rattle.ufs_layout.specs.declared.geometry.Geometry.{Geometry}
@@ -33,7 +33,7 @@ pub readable_on : (l m : Ledger) (f : FileState) → ((block : ℕ) → IsFileBl
     → ((place block : ℕ) → slice_get (blocks_of f.extents) place ≡ Some block → slice_get f.content.dirty place ≡ Some false → is_held l.now.log block ≡ false → IsNoMore (l.blocks block) (m.blocks block)) → IsReadable l f → IsReadable m f
 readable_on l m f goes less readable = record {
   blocks = λ place block at clean. goes block (readable.blocks place block at clean);
-  clean = λ place block at clean. less place block at clean (readable.blocks place block at clean).unheld (block_bytes f.content.bytes place) (readable.clean place block at clean);
+  clean = λ place block at clean. less place block at clean (readable.blocks place block at clean).unheld (own_bytes f.content.bytes place) (readable.clean place block at clean);
 }
 
 -- a barrier, and a commit behind it of which it isn't known whether it passed

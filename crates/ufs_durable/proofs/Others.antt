@@ -8,7 +8,7 @@ use Rattle.ufs_disk.specs.Disk.{Cell, possible}
 use Rattle.ufs_disk.specs.Moments.{Moments, reads}
 use Rattle.ufs_disk.proofs.Runs.{all_append}
 use Rattle.ufs_extent.specs.Runs.{blocks_of}
-use Rattle.ufs_file.specs.Content.{block_bytes}
+use Rattle.ufs_file.specs.Content.{own_bytes}
 use Rattle.ufs_ilog.specs.Deltas.{IsDelta, extents_of}
 use Rattle.ufs_image.specs.Catalog.{Catalog, IsInode}
 use Rattle.ufs_image.specs.Changes.{IsTakenBlock}
@@ -59,7 +59,7 @@ stands_still l m h superblock form dirs unheld less stands = record {
     no_dir = subst (λ (d : ℕ → Bool). IsTrue (d block) → ⊥) (sym dirs) was.no_dir;
     unheld = unheld block was.unheld;
   };
-  clean = λ place block at is. less place block (block_bytes h.file.content.bytes place) at (stands.blocks place block at).unheld (stands.clean place block at is);
+  clean = λ place block at is. less place block (own_bytes h.file.content.bytes place) at (stands.blocks place block at).unheld (stands.clean place block at is);
 }
 
 pub behind_barrier : StandsBehindBarrier

@@ -14,7 +14,7 @@ use Rattle.ufs_extent.specs.declared.Run.{Run}
 use Rattle.ufs_extent.specs.Runs.{appended_all, blocks_of, last_runs}
 use Rattle.ufs_extent.proofs.PlaceLemmas.{blocks_of-first_runs, blocks_of-last_runs}
 use Rattle.ufs_extent.proofs.RunLemmas.{blocks_of-append}
-use Rattle.ufs_file.specs.Content.{Content, IsContentOf, block_count}
+use Rattle.ufs_file.specs.Content.{Content, IsContentOf, block_count, own_bytes}
 use Rattle.ufs_file.specs.Hand.{FileState, IsCause, IsEntryOf, IsExcusedFor, IsFileOf, IsOf, IsPosix, IsServedByFile, LacksExtents, content_after, content_by, missing, whole_as}
 use Rattle.ufs_file.proofs.FilledLemmas.{excused_any, same_refusal}
 use Rattle.ufs_file.proofs.HandLemmas.{apart_taken, blocks_of-all}
@@ -90,6 +90,8 @@ pub record IsAlone (old new : FileState) (before after : BlockSet) (ask : Ask) (
   pub any_excused : (x : Excuse) → entry.reply ≡ reply.Excused x → (d : Desc) → ask.desc ≡ Some d → (bytes : List ℕ) → IsContentOf old.content bytes → IsExcusedFor (whole_as bytes old) d ask.op before x
   pub posix : is_excused entry.reply ≡ false → (t : PosixTree) → IsFileOf old t → IsAsk t ask → IsPosix t ask new entry.reply desc
   pub fits : (x : Excuse) → entry.reply ≡ reply.Excused x → (t : PosixTree) → IsFileOf old t → IsAsk t ask → ExcuseFits t ask.client ask.op x
+  pub away : is_excused entry.reply ≡ false → (d : Desc) → ask.desc ≡ Some d → (bytes : List ℕ) → IsContentOf old.content bytes → (place : ℕ) → slice_get new.content.there place ≡ Some false
+      → (slice_get old.content.there place ≡ Some false) × (own_bytes (file_step bytes d ask.op).bytes place ≡ own_bytes bytes place)
   pub few : length new.extents ≤ MAX_EXTENTS
   pub file : is_excused entry.reply ≡ true → new ≡ old
   pub pool : is_excused entry.reply ≡ true → after ≡ before
@@ -159,6 +161,7 @@ applied_not f pool ask server ticket entry desc of_ask told same noted few allow
       marks = noted.marks;
       held = noted.held;
       written = noted.written;
+      away = λ off. absurd (not_both entry.reply off on);
       kept = λ e. refl;
       pool = λ e. refl;
       same_desc = λ e. same;
@@ -193,6 +196,7 @@ module _ (f : DurableState) (new : FileState) (before after : BlockSet) (ask : A
     marks = marks.marks;
     held = marks.held;
     written = marks.written;
+    away = alone.away;
     kept = λ e. λ i. record { file = alone.file e i; log = (ap (λ (x : FileState). noted_as x f.log) (alone.file e) ∙ logged_already f noted) i; dropped = f.dropped };
     pool = alone.pool;
     same_desc = alone.same_desc;
@@ -258,6 +262,7 @@ module _ (f : DurableState) (new : FileState) (own left : BlockSet) (ask : Ask) 
     marks = marks.marks;
     held = marks.held;
     written = marks.written;
+    away = alone.away;
     kept = λ e. absurd (not_both entry.reply off e);
     pool = λ e. refl;
     same_desc = alone.same_desc;
@@ -285,6 +290,7 @@ module _ (f : DurableState) (new : FileState) (own left : BlockSet) (ask : Ask) 
     marks = marks.marks;
     held = marks.held;
     written = marks.written;
+    away = λ off. absurd (not_both entry.reply off on);
     kept = λ e. λ i. record { file = alone.file e i; log = f.log; dropped = take_at f.dropped rest (length f.dropped) refl i };
     pool = λ e. refl;
     same_desc = alone.same_desc;

@@ -9,9 +9,10 @@ use Rattle.ufs_bitmap.specs.Blocks.{BlockSet}
 use Rattle.ufs_bitmap.specs.Taking.{has}
 use Rattle.ufs_bitmap.proofs.SetLemmas.{has-insert}
 use Rattle.ufs_bitmap.proofs.TakingLemmas.{takes_all}
+use Rattle.ufs_disk.specs.Disk.{possible}
 use Rattle.ufs_extent.specs.Runs.{blocks_of}
 use Rattle.ufs_extent.proofs.PlaceLemmas.{blocks_of-first_runs}
-use Rattle.ufs_file.specs.Content.{Content, block_bytes, block_count}
+use Rattle.ufs_file.specs.Content.{Content, block_count}
 use Rattle.ufs_file.proofs.HandLemmas.{blocks_of-all}
 use Rattle.ufs_ilog.specs.Deltas.{FileLog, extents_of}
 use Rattle.ufs_image.specs.Catalog.{IsInode}
@@ -22,9 +23,9 @@ use Rattle.ufs_model.specs.declared.data.Desc.{Desc}
 use Rattle.ufs_model.specs.declared.data.Op.{Op}
 use Rattle.ufs_model.specs.declared.data.Reply.{Reply}
 use Rattle.ufs_durable.specs.Serving.{IsServedKept, TakesOnly}
-use Rattle.ufs_durable.specs.Standing.{IsFileBlock, IsReadable, ReadsAs, ReadsServed, StandsFor, StandsServed}
+use Rattle.ufs_durable.specs.Standing.{HaveOnly, IsFileBlock, IsReadable, ReadsAs, ReadsServed, StandsFor, StandsServed}
 use Rattle.ufs_durable.specs.State.{DurableState, IsNoted}
-use Rattle.ufs_durable.proofs.Still.{IsStill, byte_of_block, still_by}
+use Rattle.ufs_durable.proofs.Still.{IsStill, still_by}
 
 -- ---- places of lists
 
@@ -110,11 +111,8 @@ module _ (f g : DurableState) (before after : BlockSet) (d : Desc) (request : Op
         was (inr (le, is)) = absurd (let low = inside in let marks = noted.marks in omega (arith, low, marks, le))
 
     pub reads_still : (l : Ledger) → ReadsAs l f.file → ReadsAs l g.file
-    reads_still l reads place block at off i byte less has_byte =
-        let was = was_clean place block at off in reads place block was.0 was.1 i byte less has_byte ∙ same_bytes
-      where
-        same_bytes : get_or (block_bytes f.file.content.bytes place) i 0 ≡ get_or (block_bytes g.file.content.bytes place) i 0
-        same_bytes = byte_of_block f.file.content.bytes place i less ∙ sym ((still place off).bytes i less) ∙ sym (byte_of_block g.file.content.bytes place i less)
+    reads_still l reads place block at off =
+        let was = was_clean place block at off in subst (HaveOnly (possible (l.blocks block))) (sym (still place off).own) (reads place block was.0 was.1)
 
     pub readable_still : (l : Ledger) → IsReadable l f.file → IsReadable l g.file
     readable_still l readable = record {

@@ -1,10 +1,9 @@
 -- How a file goes on standing on its ledger.
-use Rattle.std.proofs.Common.{◌≡◌, ℕ, zero, suc, ◌+◌, ◌-◌, ◌<◌, ◌≤◌, ◌⊎◌, inl, inr, List, [], ◌∷◌, ◌++◌, Bool, true, false, Some, Option, length, take, replicate, get_or, unwrap_or, ap, sym, refl, ◌∙◌, subst, arith}
-use Rattle.std.specs.Prelude.{◌==◌, ◌*◌, ◌/◌, ◌%◌, drop, flat_map, if◌then◌else◌, IsTrue}
+use Rattle.std.proofs.Common.{◌≡◌, ℕ, zero, suc, ◌+◌, ◌<◌, ◌≤◌, ◌⊎◌, inl, inr, List, [], ◌∷◌, ◌++◌, Bool, true, false, Some, Option, length, take, replicate, get_or, unwrap_or, ap, sym, refl, ◌∙◌, subst, arith}
+use Rattle.std.specs.Prelude.{◌==◌, ◌*◌, ◌/◌, ◌%◌, flat_map, if◌then◌else◌, IsTrue}
 use Rattle.std.specs.List.{AllByRecursion, list_any, range_with_len, slice_get}
 use Rattle.std.proofs.lemmas.Bool.Decides.{nat_tests}
-use Rattle.std.proofs.lemmas.List.{map-append, take-map, get_or-replicate, length-drop, length-replicate, length-take-le, take-append-drop}
-use Rattle.std.proofs.Common.{length-append}
+use Rattle.std.proofs.lemmas.List.{map-append, take-map, get_or-replicate, length-replicate}
 use Rattle.std.proofs.lemmas.Option.{get_or_from_slice_get, slice_get_within}
 use Rattle.ufs_bitmap.proofs.TakingLemmas.{has-none}
 use Rattle.ufs_disk.specs.Disk.{Cell, possible}
@@ -12,7 +11,7 @@ use Rattle.ufs_disk.specs.Moments.{reads}
 use Rattle.ufs_disk.proofs.Runs.{all_append, all_map}
 use Rattle.ufs_extent.specs.declared.Run.{Run}
 use Rattle.ufs_extent.specs.Runs.{blocks_from, blocks_of}
-use Rattle.ufs_file.specs.Content.{block_bytes}
+use Rattle.ufs_file.specs.Content.{block_bytes, own_bytes}
 use Rattle.ufs_ilog.specs.Deltas.{FileState as Noted, IsDelta, extents_of}
 use Rattle.ufs_image.specs.Catalog.{IsInode}
 use Rattle.ufs_image.specs.Fold.{after_delta}
@@ -32,7 +31,7 @@ use Rattle.ufs_ledger.specs.Laws.{MayWrite}
 use Rattle.ufs_ledger.specs.Ledger.{IsDataBlock, Ledger, Stand, is_held, is_set_in}
 use Rattle.ufs_ledger.proofs.Alike.{in_range}
 use Rattle.ufs_ledger.proofs.Held.{held_after}
-use Rattle.ufs_ledger.proofs.Mixing.{byte_back, byte_front, byte_taken, has_byte_last}
+use Rattle.ufs_ledger.proofs.Mixing.{has_byte_last}
 use Rattle.ufs_prefix.specs.FileChanges.{byte_at}
 use Rattle.ufs_durable.specs.State.{DurableState, IsNoted, file_committed}
 use Rattle.ufs_store.specs.Ledgers.{checkpointed}
@@ -41,6 +40,7 @@ use Rattle.ufs_durable.specs.Standing.{DirtyMayBeWritten, HaveOnly, IsFileBlock,
 use Rattle.ufs_durable.specs.Writes.{BlockWrite, with_writes, write_at, write_of, writes_of}
 use Rattle.ufs_durable.proofs.Behind.{same_superblock, same_now}
 use Rattle.ufs_durable.proofs.Cells.{clean_cell, dirty_cell, got, got_back, length_block}
+use Rattle.ufs_durable.proofs.Still.{byte_of_own, inside_own, own_in_block}
 
 -- ---- its dirty blocks may be written
 
@@ -87,15 +87,15 @@ same_block l m block superblock now is = record {
 -- ---- what its blocks have once all is settled
 
 abbrev HaveAll : Ledger → DurableState → Type 0
-HaveAll l f = (place block : ℕ) → slice_get (blocks_of f.file.extents) place ≡ Some block → HaveOnly (possible (l.blocks block)) (block_bytes f.file.content.bytes place)
+HaveAll l f = (place block : ℕ) → slice_get (blocks_of f.file.extents) place ≡ Some block → HaveOnly (possible (l.blocks block)) (own_bytes f.file.content.bytes place)
 
 pub settled_has : (cell : Cell) (bytes : List ℕ) → HaveOnly (possible cell) bytes → HaveOnly (possible (settled_cell cell)) bytes
 settled_has cell bytes only at byte under (inl e) = only at byte under (has_byte_last cell.older cell.seen at byte e)
 settled_has cell bytes only at byte under (inr none) = absurd none
 
-seen_has : (cell : Cell) (bytes : List ℕ) → cell.seen ≡ bytes → HaveOnly (possible (settled_cell cell)) bytes
-seen_has cell bytes e at byte under (inl is) = is ∙ ap (λ b. byte_at b at) e
-seen_has cell bytes e at byte under (inr none) = absurd none
+seen_has : (cell : Cell) (bytes : List ℕ) (place : ℕ) → cell.seen ≡ block_bytes bytes place → HaveOnly (possible (settled_cell cell)) (own_bytes bytes place)
+seen_has cell bytes place e at byte under (inl is) = is ∙ ap (λ b. byte_at b at) e ∙ own_in_block bytes place at under
+seen_has cell bytes place e at byte under (inr none) = absurd none
 
 module _ (l : Ledger) (f : DurableState) (noted : IsNoted f) (stands : StandsFor l f) where
   marked : (place block : ℕ) → slice_get (blocks_of f.file.extents) place ≡ Some block → (slice_get f.file.content.dirty place ≡ Some true) ⊎ (slice_get f.file.content.dirty place ≡ Some false)
@@ -108,11 +108,11 @@ module _ (l : Ledger) (f : DurableState) (noted : IsNoted f) (stands : StandsFor
   pub all_settled : HaveAll (settled (with_writes (writes_of f.file) l)) f
   all_settled place block at = by (marked place block at)
     where
-      by : (slice_get f.file.content.dirty place ≡ Some true) ⊎ (slice_get f.file.content.dirty place ≡ Some false) → HaveOnly (possible (settled_cell ((with_writes (writes_of f.file) l).blocks block))) (block_bytes f.file.content.bytes place)
-      by (inl dirty) = seen_has ((with_writes (writes_of f.file) l).blocks block) (block_bytes f.file.content.bytes place) (dirty_cell f.file noted.apart.once noted.marks place block at l dirty)
+      by : (slice_get f.file.content.dirty place ≡ Some true) ⊎ (slice_get f.file.content.dirty place ≡ Some false) → HaveOnly (possible (settled_cell ((with_writes (writes_of f.file) l).blocks block))) (own_bytes f.file.content.bytes place)
+      by (inl dirty) = seen_has ((with_writes (writes_of f.file) l).blocks block) f.file.content.bytes place (dirty_cell f.file noted.apart.once noted.marks place block at l dirty)
       by (inr clean) =
-          settled_has ((with_writes (writes_of f.file) l).blocks block) (block_bytes f.file.content.bytes place)
-          (subst (λ (c : Cell). HaveOnly (possible c) (block_bytes f.file.content.bytes place)) (sym (clean_cell f.file noted.apart.once noted.marks place block at l clean)) (stands.clean place block at clean))
+          settled_has ((with_writes (writes_of f.file) l).blocks block) (own_bytes f.file.content.bytes place)
+          (subst (λ (c : Cell). HaveOnly (possible c) (own_bytes f.file.content.bytes place)) (sym (clean_cell f.file noted.apart.once noted.marks place block at l clean)) (stands.clean place block at clean))
 
   pub while_written : StandsFor (with_writes (writes_of f.file) l) f
   while_written =
@@ -123,7 +123,7 @@ module _ (l : Ledger) (f : DurableState) (noted : IsNoted f) (stands : StandsFor
         size = subst (λ (s : Stand). (s.catalog.forms f.file.inode).size ≡ f.log.committed.size) (sym now) stands.size;
         extents = subst (λ (s : Stand). (s.catalog.forms f.file.inode).extents ≡ extents_of f.log.committed.runs) (sym now) stands.extents;
         blocks = λ place block at. same_block l (with_writes (writes_of f.file) l) block (ap geometry_of (same_superblock (writes_of f.file) l)) now (stands.blocks place block at);
-        clean = λ place block at is. subst (λ (c : Cell). HaveOnly (possible c) (block_bytes f.file.content.bytes place)) (sym (clean_cell f.file noted.apart.once noted.marks place block at l is)) (stands.clean place block at is);
+        clean = λ place block at is. subst (λ (c : Cell). HaveOnly (possible c) (own_bytes f.file.content.bytes place)) (sym (clean_cell f.file noted.apart.once noted.marks place block at l is)) (stands.clean place block at is);
       }
 
   pub once_settled : f.log.noted ≡ f.log.committed → StandsFor (settled (with_writes (writes_of f.file) l)) (file_committed f)
@@ -193,7 +193,7 @@ module _ (l : Ledger) (f : DurableState) (noted : IsNoted f) (stands : StandsFor
   pub all_home : HaveAll (settled (emptied superblock home (with_writes (writes_of f.file) l))) f
   all_home place block at =
       let free = subst (λ (s : Stand). is_held s.log block ≡ false) (sym (same_now (writes_of f.file) l)) (stands.blocks place block at).unheld in
-      subst (λ (c : Cell). HaveOnly (possible c) (block_bytes f.file.content.bytes place)) (sym (settled_twice block free)) (all_settled l f noted stands place block at)
+      subst (λ (c : Cell). HaveOnly (possible c) (own_bytes f.file.content.bytes place)) (sym (settled_twice block free)) (all_settled l f noted stands place block at)
 
 pub stands_committed : StandsCommitted
 stands_committed s records l f noted stands delta newer = by (has_room s records)
@@ -227,21 +227,13 @@ pub blocks_are : (runs : List Run) → flat_map (λ (e : Extent). range_with_len
 blocks_are [] = refl
 blocks_are (r ∷ rs) = λ i. range_is r.start r.length i ++ blocks_are rs i
 
-pub byte_in_block : (bytes : List ℕ) (place : ℕ) → place < length bytes → byte_at (block_bytes bytes (place / 4096)) (place % 4096) ≡ byte_at bytes place
-byte_in_block bytes place under =
-    let k = place / 4096 in
-    let p = 4096 * k in
-    let r = place % 4096 in
-    let xs = drop p bytes in
-    let zs = replicate {A = ℕ} (4096 - length xs) 0 in
-    let low : p ≤ length bytes = omega (arith, under) in
-    let rest : length xs ≡ length bytes - p = length-drop p bytes in
-    let small : r < 4096 = omega arith in
-    let whole : 4096 ≤ length (xs ++ zs) = omega (arith, length-append xs zs, length-replicate {A = ℕ} (4096 - length xs) 0) in
-    let inside : r < length xs = omega (arith, rest, under, low) in
-    let at : place - p ≡ r = omega arith in
-    sym (byte_taken (xs ++ zs) 4096 r whole small) ∙ byte_front xs zs r inside
-    ∙ sym (ap (λ l. byte_at l place) (sym (take-append-drop p bytes)) ∙ byte_back (take p bytes) (drop p bytes) p place (length-take-le p bytes low) (omega arith) ∙ ap (byte_at xs) at)
+-- the byte at a place, in the block in which it lies
+pub byte_in_own : (bytes : List ℕ) (place : ℕ) → place < length bytes → (place % 4096 < length (own_bytes bytes (place / 4096))) × (byte_at (own_bytes bytes (place / 4096)) (place % 4096) ≡ byte_at bytes place)
+byte_in_own bytes place under =
+    let e : 4096 * (place / 4096) + place % 4096 ≡ place = omega arith in (
+      inside_own bytes (place / 4096) (place % 4096) (omega arith) (omega (arith, under)),
+      byte_of_own bytes (place / 4096) (place % 4096) (omega arith) ∙ ap (byte_at bytes) e,
+    )
 
 pub shows_as_committed : ShowsAsCommitted
 shows_as_committed l f number keep given noted stands whole place byte under has =
@@ -250,7 +242,8 @@ shows_as_committed l f number keep given noted stands whole place byte under has
     let blocks : flat_map (λ (e : Extent). range_with_len e.start e.length) (take keep (l.now.catalog.forms f.file.inode).extents ++ extents_of given) ≡ blocks_of f.file.extents =
     ap (flat_map (λ (e : Extent). range_with_len e.start e.length)) all ∙ blocks_are f.log.noted.runs ∙ ap blocks_of noted.runs in
     let at : slice_get (blocks_of f.file.extents) (place / 4096) ≡ Some has.block = subst (λ bs. slice_get bs (place / 4096) ≡ Some has.block) blocks has.there in
-    all_settled l f noted stands (place / 4096) has.block at (place % 4096) byte (omega arith) has.has ∙ byte_in_block f.file.content.bytes place (let same = noted.size in omega (arith, under, same))
+    let own = byte_in_own f.file.content.bytes place (let same = noted.size in omega (arith, under, same)) in
+    all_settled l f noted stands (place / 4096) has.block at (place % 4096) byte own.0 has.has ∙ own.1
 
 pub shows_the_file : ShowsTheFile
 shows_the_file l f noted stands same cleaned place byte under has =
@@ -261,7 +254,8 @@ shows_the_file l f noted stands same cleaned place byte under has =
     let inside : place / 4096 < length f.file.content.dirty = (let low = (got (blocks_of f.file.extents) (place / 4096) has.block at).0 in let marks = noted.marks in omega (arith, low, marks)) in
     let off : slice_get f.file.content.dirty (place / 4096) ≡ Some false =
     got_back f.file.content.dirty false (place / 4096) inside ∙ ap Some (ap (λ (ds : List Bool). get_or ds (place / 4096) false) cleaned ∙ get_or-replicate (length f.file.content.dirty) (place / 4096) false false inside) in
-    stands.clean (place / 4096) has.block at off (place % 4096) byte (omega arith) has.has ∙ byte_in_block f.file.content.bytes place under
+    let own = byte_in_own f.file.content.bytes place under in
+    stands.clean (place / 4096) has.block at off (place % 4096) byte own.0 has.has ∙ own.1
 
 -- ---- what the type keeps
 

@@ -1,13 +1,15 @@
 -- What a request leaves of a file's bytes and marks: a block that isn't marked afterwards wasn't before, and has the bytes that
--- it had.
-use Rattle.std.proofs.Common.{◌≡◌, ℕ, zero, suc, ◌+◌, ◌-◌, ◌<◌, ◌≤◌, ◌⊎◌, inl, inr, List, [], ◌∷◌, ◌++◌, Bool, true, false, Option, Some, None, length, take, replicate, get_or, ap, sym, refl, ◌∙◌, arith, append_assoc}
+-- the file had there, as many.
+use Rattle.std.proofs.Common.{◌≡◌, ℕ, zero, suc, ◌+◌, ◌-◌, ◌<◌, ◌≤◌, ◌⊎◌, inl, inr, List, [], ◌∷◌, ◌++◌, Bool, true, false, Option, Some, None, length, min, take, replicate, get_or, ap, sym, refl, ◌∙◌, arith, append_assoc, length-append}
 use Rattle.std.specs.Prelude.{◌==◌, ◌*◌, ◌/◌, ◌%◌, drop, nat_lt, if◌then◌else◌}
 use Rattle.std.proofs.lemmas.Bool.{cases_lt}
-use Rattle.std.proofs.lemmas.List.{get_or-append_right, get_or-drop, get_or-replicate, get_or-take, get_or_append_left, length-replicate, length-take-le, take_all}
-use Rattle.ufs_file.specs.Content.{Content, block_bytes, block_count, grown, shortened, written_over}
+use Rattle.std.proofs.lemmas.List.{get_or-append_right, get_or-drop, get_or-replicate, get_or-take, get_or_append_left, length-drop, length-replicate, length-take, length-take-le, take_all}
+use Rattle.ufs_file.specs.Content.{Content, block_bytes, block_count, grown, own_bytes, shortened, written_over}
 use Rattle.ufs_file.specs.Hand.{content_after, content_by, content_put, content_sized, lengthened}
 use Rattle.ufs_file.specs.Lists.{over}
+use Rattle.ufs_file.proofs.ByteLemmas.{own_agrees}
 use Rattle.ufs_file.proofs.HandLemmas.{length-lengthened}
+use Rattle.ufs_file.proofs.OverLemmas.{length-over}
 use Rattle.ufs_model.specs.FileBytes.{place_of}
 use Rattle.ufs_model.specs.declared.data.Desc.{Desc}
 use Rattle.ufs_model.specs.declared.data.Errno.{Errno}
@@ -102,24 +104,42 @@ aside old a new k fits (inr more) =
     ap (λ (l : List ℕ). get_or l k 0) (append_assoc (take a old) new (drop (a + length new) old)) ∙ get_or-append_right (take a old) (new ++ drop (a + length new) old) a k 0 size (omega (arith, more)) ∙ get_or-append_right new (drop (a + length new) old) (length new) (k - a) 0 refl (omega (arith, more))
     ∙ get_or-drop (a + length new) old (k - a - length new) 0 ∙ ap (λ (j : ℕ). get_or old j 0) same
 
+-- what isn't set of the first marks is one of them
+of_first : (marks : List Bool) (k place : ℕ) → get_or (take k marks) place true ≡ false → (place < k) × (get_or marks place true ≡ false)
+of_first marks k place is = at (cases_lt place k)
+  where
+    at : (place < k) ⊎ (k ≤ place) → (place < k) × (get_or marks place true ≡ false)
+    at (inl less) = (less, sym (get_or-take k marks place true less) ∙ is)
+    at (inr le) = clash (get_or (take k marks) place true) (past_end (take k marks) place true (let most = (front_taken marks k).0 in omega (arith, most, le))) is
+
 -- ---- content
 
--- The block at the place isn't marked, and has the bytes that it has in another content.
+-- The block at the place isn't marked, and the file has there the bytes that it has in another content.
 pub record IsStill (c new : Content) (place : ℕ) : Type 0 where
   pub mark : get_or c.dirty place true ≡ false
-  pub bytes : (i : ℕ) → i < 4096 → get_or new.bytes (4096 * place + i) 0 ≡ get_or c.bytes (4096 * place + i) 0
+  pub own : own_bytes new.bytes place ≡ own_bytes c.bytes place
 
 still_same : (c : Content) (place : ℕ) → get_or c.dirty place true ≡ false → IsStill c c place
-still_same c place off = record { mark = off; bytes = λ i less. refl }
+still_same c place off = record { mark = off; own = refl }
 
+-- The block in which it ended is marked: so one that isn't is whole.
 still_lengthened : (c : Content) (size place : ℕ) → get_or (lengthened c size).dirty place true ≡ false → IsStill c (lengthened c size) place
 still_lengthened c size place = by (nat_lt (length c.bytes) size)
   where
+    k : ℕ
+    k = length c.bytes / 4096
+
+    more : List ℕ
+    more = replicate (size - length c.bytes) 0
+
     by : (b : Bool) → get_or (if b then grown c size else c).dirty place true ≡ false → IsStill c (if b then grown c size else c) place
-    by true off = record {
-      mark = sym (padded c.dirty (block_count size - length c.dirty) place true) ∙ off;
-      bytes = λ i less. padded c.bytes (size - length c.bytes) (4096 * place + i) 0;
-    }
+    by true off =
+        let was = of_first c.dirty k place (sym (padded (take k c.dirty) (block_count size - k) place true) ∙ off) in
+        let whole = was.0 in
+        record {
+          mark = was.1;
+          own = own_agrees (c.bytes ++ more) c.bytes place (omega (arith, whole, length-append c.bytes more)) (λ i _ _. padded c.bytes (size - length c.bytes) i 0);
+        }
     by false off = still_same c place off
 
 still_put : (c : Content) (at : ℕ) (fresh : List ℕ) (place : ℕ) → get_or (content_put c at fresh).dirty place true ≡ false → IsStill c (content_put c at fresh) place
@@ -136,11 +156,15 @@ still_put c at fresh place = by (length fresh == 0)
     by false off =
         let mark = unmarked long.dirty (at / 4096) (block_count (at + length fresh) - at / 4096) place off in
         let before = still_lengthened c (at + length fresh) place mark.0 in
-        record { mark = before.mark; bytes = λ i less. aside long.bytes at fresh (4096 * place + i) fits (off_place i less mark.1) ∙ before.bytes i less }
+        record {
+          mark = before.mark;
+          own = own_agrees (over long.bytes at fresh) long.bytes place (ap (λ (n : ℕ). min n (4096 * place + 4096)) (length-over long.bytes at fresh fits)) (λ i from under. aside long.bytes at fresh i fits (off_place i from under mark.1))
+              ∙ before.own;
+        }
       where
-        off_place : (i : ℕ) → i < 4096 → (place < at / 4096) ⊎ (at / 4096 + (block_count (at + length fresh) - at / 4096) ≤ place) → (4096 * place + i < at) ⊎ (at + length fresh ≤ 4096 * place + i)
-        off_place i less (inl low) = inl (omega (arith, low, less))
-        off_place i less (inr high) = inr (omega (arith, high))
+        off_place : (i : ℕ) → 4096 * place ≤ i → i < 4096 * place + 4096 → (place < at / 4096) ⊎ (at / 4096 + (block_count (at + length fresh) - at / 4096) ≤ place) → (i < at) ⊎ (at + length fresh ≤ i)
+        off_place i from under (inl low) = inl (omega (arith, low, under))
+        off_place i from under (inr high) = inr (omega (arith, high, from))
 
 still_cut : (c : Content) (size place : ℕ) → get_or (shortened c size).dirty place true ≡ false → IsStill c (shortened c size) place
 still_cut c size place off = by (size % 4096 == 0) off
@@ -149,11 +173,10 @@ still_cut c size place off = by (size % 4096 == 0) off
     k = size / 4096
 
     kept : get_or (take k c.dirty) place true ≡ false → IsStill c (shortened c size) place
-    kept is = at (cases_lt place k)
-      where
-        at : (place < k) ⊎ (k ≤ place) → IsStill c (shortened c size) place
-        at (inl less) = record { mark = sym (get_or-take k c.dirty place true less) ∙ is; bytes = λ i low. get_or-take size c.bytes (4096 * place + i) 0 (omega (arith, less, low)) }
-        at (inr le) = clash (get_or (take k c.dirty) place true) (past_end (take k c.dirty) place true (let most = (front_taken c.dirty k).0 in omega (arith, most, le))) is
+    kept is =
+        let was = of_first c.dirty k place is in
+        let whole = was.0 in
+        record { mark = was.1; own = own_agrees (take size c.bytes) c.bytes place (omega (arith, whole, length-take size c.bytes)) (λ i from under. get_or-take size c.bytes i 0 (omega (arith, whole, under))) }
 
     by : (b : Bool) → get_or (if b then take k c.dirty else take k c.dirty ++ true ∷ []) place true ≡ false → IsStill c (shortened c size) place
     by true is = kept is
@@ -188,8 +211,28 @@ pub still_by : (c : Content) (d : Desc) (request : Op) (o : Option Errno) (place
 still_by c d request (Some e) place off = still_same c place off
 still_by c d request None place off = still_after c d request place off
 
--- the bytes of a block, one by one
+-- ---- the bytes of a block, one by one
+
 pub byte_of_block : (bytes : List ℕ) (place i : ℕ) → i < 4096 → get_or (block_bytes bytes place) i 0 ≡ get_or bytes (4096 * place + i) 0
 byte_of_block bytes place i less =
     let xs = drop (4096 * place) bytes in
     get_or-take 4096 (xs ++ replicate (4096 - length xs) 0) i 0 less ∙ padded xs (4096 - length xs) i 0 ∙ get_or-drop (4096 * place) bytes i 0
+
+-- The file has as many of them as it has behind the block's start, at most a block.
+pub own_inside : (bytes : List ℕ) (place i : ℕ) → i < length (own_bytes bytes place) → (i < 4096) × (4096 * place + i < length bytes)
+own_inside bytes place i less =
+    let most = length-take 4096 (drop (4096 * place) bytes) in
+    let rest = length-drop (4096 * place) bytes in (
+      omega (arith, less, most),
+      omega (arith, less, most, rest),
+    )
+
+pub inside_own : (bytes : List ℕ) (place i : ℕ) → i < 4096 → 4096 * place + i < length bytes → i < length (own_bytes bytes place)
+inside_own bytes place i less under = omega (arith, less, under, length-take 4096 (drop (4096 * place) bytes), length-drop (4096 * place) bytes)
+
+pub byte_of_own : (bytes : List ℕ) (place i : ℕ) → i < 4096 → get_or (own_bytes bytes place) i 0 ≡ get_or bytes (4096 * place + i) 0
+byte_of_own bytes place i less = get_or-take 4096 (drop (4096 * place) bytes) i 0 less ∙ get_or-drop (4096 * place) bytes i 0
+
+-- The whole block begins with them.
+pub own_in_block : (bytes : List ℕ) (place i : ℕ) → i < length (own_bytes bytes place) → get_or (block_bytes bytes place) i 0 ≡ get_or (own_bytes bytes place) i 0
+own_in_block bytes place i less = let low = (own_inside bytes place i less).0 in byte_of_block bytes place i low ∙ sym (byte_of_own bytes place i low)

@@ -4,7 +4,7 @@ use Rattle.std.specs.List.{slice_get}
 use Rattle.ufs_base.specs.declared.sizes.TheConstants.{MAX_EXTENTS}
 use Rattle.ufs_bitmap.specs.Blocks.{BlockSet}
 use Rattle.ufs_extent.specs.Runs.{blocks_of, first_runs, last_runs}
-use Rattle.ufs_file.specs.Content.{Content, IsContentOf, block_count}
+use Rattle.ufs_file.specs.Content.{Content, IsContentOf, block_count, own_bytes}
 use Rattle.ufs_file.specs.Hand.{FileState, IsEntryOf, IsExcusedFor, IsFileOf, IsPosix, TakesBlocks, content_by, whole_as}
 use Rattle.ufs_ilog.specs.Deltas.{FileLog}
 use Rattle.ufs_model.specs.Asks.{IsAsk}
@@ -71,6 +71,9 @@ pub record IsApplied (f g : DurableState) (before after : BlockSet) (ask : Ask) 
   pub marks : length g.file.content.dirty ≡ length (blocks_of g.file.extents)
   pub held : length g.file.content.there ≡ length g.file.content.dirty
   pub written : (place : ℕ) → slice_get g.file.content.dirty place ≡ Some true → slice_get g.file.content.there place ≡ Some true
+  -- a block that isn't in memory wasn't before, and keeps its bytes
+  pub away : is_excused entry.reply ≡ false → (d : Desc) → ask.desc ≡ Some d → (bytes : List ℕ) → IsContentOf f.file.content bytes → (place : ℕ) → slice_get g.file.content.there place ≡ Some false
+      → (slice_get f.file.content.there place ≡ Some false) × (own_bytes (file_step bytes d ask.op).bytes place ≡ own_bytes bytes place)
   pub kept : is_excused entry.reply ≡ true → g ≡ f
   pub pool : is_excused entry.reply ≡ true → after ≡ before
   pub same_desc : is_excused entry.reply ≡ true → desc ≡ ask.desc

@@ -2,12 +2,11 @@
 use Rattle.std.specs.Prelude.{ℕ, ◌≡◌, ◌<◌, ◌++◌, List, length, take, true, false, replicate, IsTrue, Option, Some}
 use Rattle.std.specs.List.{slice_get}
 use Rattle.std.specs.FinSet as set
-use Rattle.ufs_base.specs.declared.sizes.TheConstants.{BLOCK}
 use Rattle.ufs_bitmap.specs.Blocks.{BlockSet}
 use Rattle.ufs_disk.specs.Disk.{possible}
 use Rattle.ufs_extent.specs.declared.Run.{Run}
 use Rattle.ufs_extent.specs.Runs.{blocks_of}
-use Rattle.ufs_file.specs.Content.{block_bytes}
+use Rattle.ufs_file.specs.Content.{own_bytes}
 use Rattle.ufs_file.specs.Hand.{FileState}
 use Rattle.ufs_ilog.specs.Deltas.{IsDelta, extents_of}
 use Rattle.ufs_image.specs.Catalog.{IsInode}
@@ -28,9 +27,9 @@ use Rattle.ufs_durable.specs.Serving.{IsServedKept}
 use Rattle.ufs_durable.specs.State.{DurableState, IsNoted, file_committed}
 use Rattle.ufs_durable.specs.Writes.{MayWriteAll, with_writes, writes_of}
 
--- Whichever of the contents a crash mixes, the block has these bytes.
+-- Whichever of the contents a crash mixes, the block has these bytes first; nothing is said of what is behind them.
 abbrev pub HaveOnly : List (List ℕ) → List ℕ → Type 0
-HaveOnly contents bytes = (at byte : ℕ) → at < BLOCK → HasByte contents at byte → byte ≡ byte_at bytes at
+HaveOnly contents bytes = (at byte : ℕ) → at < length bytes → HasByte contents at byte → byte ≡ byte_at bytes at
 
 -- A file may have the block: it is of the data area, and no dentries are spelled or set in it.
 pub record IsFileBlock (l : Ledger) (block : ℕ) : Type 0 where
@@ -40,7 +39,7 @@ pub record IsFileBlock (l : Ledger) (block : ℕ) : Type 0 where
 
 -- Each block of the file that isn't dirty has the file's bytes, whatever a crash leaves.
 abbrev pub ReadsAs : Ledger → FileState → Type 0
-ReadsAs l f = (place block : ℕ) → slice_get (blocks_of f.extents) place ≡ Some block → slice_get f.content.dirty place ≡ Some false → HaveOnly (possible (l.blocks block)) (block_bytes f.content.bytes place)
+ReadsAs l f = (place block : ℕ) → slice_get (blocks_of f.extents) place ≡ Some block → slice_get f.content.dirty place ≡ Some false → HaveOnly (possible (l.blocks block)) (own_bytes f.content.bytes place)
 
 -- Such a block may be a file's besides: nothing is folded in it, and a read gives the file's bytes.
 pub record IsReadable (l : Ledger) (f : FileState) : Type 0 where

@@ -5,7 +5,7 @@ ghost use Rattle.ufs_base.specs.declared.sizes.TheConstants.{MAX_EXTENTS};
 ghost use Rattle.ufs_bitmap.specs.Blocks.{BlockSet};
 ghost use Rattle.ufs_bitmap.specs.Taking.{IsApart};
 ghost use Rattle.ufs_extent.specs.Runs.{IsRun, blocks_of, last_runs};
-ghost use Rattle.ufs_file.specs.Content.{IsContentOf, block_count};
+ghost use Rattle.ufs_file.specs.Content.{IsContentOf, block_count, own_bytes};
 ghost use Rattle.ufs_file.specs.Hand.{HasNeeded, IsEntryOf, IsExcusedFor, IsFileOf, IsOf, IsPosix, whole_as};
 ghost use Rattle.ufs_file.specs.Table.{max_held};
 ghost use Rattle.ufs_model.specs.Asks.{IsAsk};
@@ -35,6 +35,7 @@ use ufs_model::{Actor, Ask, Bytes, Desc, Op, Reply};
 /// that the file has no use for are dropped: they are nobody's until the file's next commit, and the pool
 /// gets none. Where room is wanting the reply is the excuse for its cause, and nothing has changed. The caller
 /// has fetched the blocks that the request needs, unless it is refused; what is said here holds for whatever bytes the others have.
+/// A block that isn't in memory afterwards wasn't before, and keeps its bytes.
 pub fn apply(
     hand: &mut FileHand,
     commits: &mut FileCommits,
@@ -64,6 +65,8 @@ pub fn apply(
     ensures together { set.union pool.new (set.from_list (blocks_held (state_of hand.new commits.new))) ≡ set.union pool.old (set.from_list (blocks_held (state_of hand.old commits.old))) }
     ensures taken { (block : ℕ) → set.contains pool.new block ≡ true → set.contains pool.old block ≡ true }
     ensures apart { IsApart pool.new (blocks_held (state_of hand.new commits.new)) }
+    ensures away { is_excused result.entry.reply ≡ false → (d : Desc) → ask.desc ≡ Some d → (bytes : List ℕ) → IsContentOf hand.old.content bytes → (place : ℕ) → slice_get hand.new.content.there place ≡ Some false
+        → (slice_get hand.old.content.there place ≡ Some false) × (own_bytes (file_step bytes d ask.op).bytes place ≡ own_bytes bytes place) }
     ensures kept { is_excused result.entry.reply ≡ true → state_of hand.new commits.new ≡ state_of hand.old commits.old }
     ensures pool { is_excused result.entry.reply ≡ true → pool.new ≡ pool.old }
     ensures desc { is_excused result.entry.reply ≡ true → result.desc ≡ ask.desc }

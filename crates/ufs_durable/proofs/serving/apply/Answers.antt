@@ -105,3 +105,6 @@ returns-else-blocks-held-2-clause-apart c =
 
 pub returns-then-blocks-held-2-clause-goes_on : goal.returns-then-blocks-held-2-clause-goes_on
 returns-then-blocks-held-2-clause-goes_on c = (c.apply_cutting.ensures c.args.pool.now).goes_on
+
+pub returns-then-blocks-held-2-clause-away : goal.returns-then-blocks-held-2-clause-away
+returns-then-blocks-held-2-clause-away c = (c.apply_cutting.ensures c.args.pool.now).away

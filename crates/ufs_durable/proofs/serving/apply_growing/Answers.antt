@@ -25,6 +25,7 @@ returns c =
       any_excused = c.apply-applied.ensures.any_excused;
       posix = c.apply-applied.ensures.posix;
       fits = c.apply-applied.ensures.fits;
+      away = c.apply-applied.ensures.away;
       few = c.apply-applied.ensures.few;
       file = c.apply-applied.ensures.file;
       pool = c.apply-applied.ensures.pool;
