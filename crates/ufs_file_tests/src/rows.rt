@@ -11,7 +11,8 @@ use crate::asserts::{holds, same};
 use crate::calls::{
     applied, filled, gave, is_at, is_count, is_done, is_excused, is_refused, open_on, pool_of,
 };
-use std::alloc::Global;
+use std::alloc::{AllocGlobal, Global};
+use std::process::Abort;
 use ufs_base::{MAX_EXTENTS, Memory};
 use ufs_bitmap::{Pool, take_runs};
 use ufs_extent::Extents;
@@ -134,6 +135,39 @@ fn dirty_blocks_lie_in_a_range_that_a_clean_empties(rt: HostRuntime) {
     same(&rt, play.file.dirty_places(), 2..8);
     play.clean();
     holds(&rt, play.file.dirty_places().is_empty());
+}
+
+// A file that had so many bytes, all on a disk, and has been lengthened.
+fn lengthened<R: Abort + AllocGlobal>(rt: &R, from: u64, to: u64) -> Play {
+    let mut play = Play::start(rt.alloc(), 10).expect(rt, "memory");
+    let reply = play.applied(Op::Trunc { fd: 3, size: from });
+    holds(rt, is_done(reply));
+    play.clean();
+    let reply = play.applied(Op::Trunc { fd: 3, size: to });
+    holds(rt, is_done(reply));
+    play
+}
+
+#[test]
+fn the_block_in_which_a_file_ended_is_dirty_once_it_grows(rt: HostRuntime) {
+    let play = lengthened(&rt, 10_000, 10_001);
+    same(&rt, play.file.is_dirty(0), Some(false));
+    same(&rt, play.file.is_dirty(1), Some(false));
+    same(&rt, play.file.is_dirty(2), Some(true));
+    same(&rt, play.file.dirty_places(), 2..3);
+    let play = lengthened(&rt, 10_000, 12_289);
+    same(&rt, play.file.is_dirty(1), Some(false));
+    same(&rt, play.file.is_dirty(2), Some(true));
+    same(&rt, play.file.is_dirty(3), Some(true));
+    same(&rt, play.file.dirty_places(), 2..4);
+}
+
+#[test]
+fn a_full_last_block_is_as_it_was_once_the_file_grows(rt: HostRuntime) {
+    let play = lengthened(&rt, 8_192, 8_193);
+    same(&rt, play.file.is_dirty(1), Some(false));
+    same(&rt, play.file.is_dirty(2), Some(true));
+    same(&rt, play.file.dirty_places(), 2..3);
 }
 
 #[test]
