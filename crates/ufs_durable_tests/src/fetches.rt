@@ -30,12 +30,12 @@ fn forgotten(alloc: Global, passes: u64) -> Option<Session<FuseDisk>>
     Some(s)
 }
 
-// So many bytes, each of which is 7.
-fn is_sevens(reply: &Reply, count: usize) -> bool {
+// So many bytes that are all this one.
+fn is_all(reply: &Reply, told: u8, count: usize) -> bool {
     match reply {
         Reply::Got(bytes) => {
             let bytes = bytes.as_slice();
-            bytes.len() == count && bytes.iter().all(|byte| *byte == 7)
+            bytes.len() == count && bytes.iter().all(|byte| *byte == told)
         }
         _ => false,
     }
@@ -50,7 +50,7 @@ fn a_read_fetches_its_blocks_alone(rt: HostRuntime) {
         n: 100,
         at: 8_192,
     });
-    holds(&rt, is_sevens(&reply, 100));
+    holds(&rt, is_all(&reply, 7, 100));
     same(&rt, s.there_count(), 1);
     // What is there makes no call.
     same(
@@ -82,4 +82,31 @@ fn a_read_that_fails_keeps_what_was_fetched(rt: HostRuntime) {
         Err(StoreFault::Device { fault: 1 }),
     );
     same(&rt, s.there_count(), 2);
+}
+
+#[test]
+fn what_the_disk_has_behind_the_end_is_no_byte_of_the_file(rt: HostRuntime) {
+    let mut s = forgotten(rt.alloc(), 20).expect(&rt, "not started");
+    // The file has the first 1,808 bytes of its last block.
+    holds(&rt, s.overwrite(2, 7));
+    holds(&rt, s.cut(12_000));
+    same(&rt, s.there_count(), 1);
+    same(&rt, s.dirty_count(), 1);
+    let before = s.serve(Op::Pread {
+        fd: 3,
+        n: 1_808,
+        at: 8_192,
+    });
+    holds(&rt, is_all(&before, 7, 1_808));
+    let behind = s.serve(Op::Pread {
+        fd: 3,
+        n: 2_000,
+        at: 10_000,
+    });
+    holds(&rt, is_all(&behind, 0, 2_000));
+    same(&rt, s.sync(), Ok(2));
+    let last = s.read(2).expect(&rt, "not read");
+    same(&rt, last[1_807], 7);
+    same(&rt, last[1_808], 0);
+    same(&rt, last[4_095], 0);
 }

@@ -214,6 +214,17 @@ impl<D: Disk> Session<D> {
         }
     }
 
+    /// Lets the disk have this byte all over the block at a place of the file, and answers whether it has.
+    pub fn overwrite(&mut self, place: u32, byte: u8) -> bool
+        requires { IsReady (⟦<Store<D> as Door>⟧.store self.old.store) (state_of self.old.hand self.old.commits) self.old.pool }
+        ensures { IsReady (⟦<Store<D> as Door>⟧.store self.new.store) (state_of self.new.hand self.new.commits) self.new.pool }
+    {
+        let Some(block) = self.hand.block_number(place) else {
+            return false;
+        };
+        self.store.write_block(block, &[byte; BLOCK]).is_ok()
+    }
+
     /// How many blocks of the file are dirty.
     pub fn dirty_count(&self) -> u32 {
         let mut count: u32 = 0;
