@@ -1,6 +1,7 @@
 mod Asked
 mod Committed
 mod FileCommitting
+mod FileFetching
 mod FileServing
 mod Filed
 mod Gathering

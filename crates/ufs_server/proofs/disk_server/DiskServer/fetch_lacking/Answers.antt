@@ -1,0 +1,71 @@
+use Rattle.std.proofs.Common.{◌∙◌, Option, ap, sym, subst}
+use Rattle.std.specs.Prelude.{All}
+use Rattle.std.proofs.lemmas.Result.{on_ok_weaker}
+use Rattle.ufs_extent.specs.Runs.{IsRun}
+use Rattle.ufs_file.specs.Hand.{IsOf}
+use Rattle.ufs_files.specs.Files.{AreNumbered}
+use Rattle.ufs_layout.specs.Areas.{first_of_data}
+use Rattle.ufs_layout.specs.declared.geometry.Geometry.{Geometry}
+use Rattle.ufs_model.specs.declared.data.Desc.{Desc}
+use Rattle.ufs_on_disk.specs.Syncs.{IsSpaceOf}
+use Rattle.ufs_store.specs.State.{geometry_of_store}
+use Rattle.ufs_stored.specs.Parts.{Parts}
+use Rattle.ufs_server.specs.Served.{StaysOnDisk}
+use Rattle.ufs_server.proofs.FileCommitting.{may_blocks}
+use Rattle.ufs_server.proofs.FileFetching.{IsReadBack, further_at_last, ready_at_last, sound_read, stays_at_last}
+use Rattle.ufs_server.proofs.FileServing.{IsOut}
+use Rattle.ufs_server.proofs.Staying.{rests_on_disk}
+use Rattle.ufs_server.proofs.disk_server.DiskServer.fetch_lacking.Given
+use Rattle.ufs_server.proofs.disk_server.DiskServer.fetch_lacking.Goals as goal
+
+-- memory is wanting
+pub returns-in_default-clause-on_disk : goal.returns-in_default-clause-on_disk
+returns-in_default-clause-on_disk g c visible =
+    let s = g.D.Door.store c.args.door.now in
+    subst (λ (p : Parts). StaysOnDisk c.args.self.now p s s g.D.Door.keeps) (sym c.in_default.ensures.err)
+    (rests_on_disk c.geometry-geometry.result c.always_law.ensures.rest g.D.Door.keeps c.args.self.now s (sym c.geometry-geometry.ensures.is))
+
+-- ---- the file is out
+
+pub fetch-read-requires : goal.fetch-read-requires
+fetch-read-requires g c =
+    let s = g.D.Door.store c.args.door.now in
+    let took = c.in-Ok.ensures in
+    let out : IsOut s c.args.self.now c.take_out.new.self c.args.file c.in-Ok.held.hand c.in-Ok.held.commits = record { sound = c.requires.sound; held = took.held; there = took.there; number = took.number; others = took.others } in
+    let numbered : AreNumbered c.args.self.now.files = subst AreNumbered (ap (λ (p : Parts). p.files) c.self.view_is) c.are_numbered.ensures in
+    let space : IsSpaceOf (geometry_of_store s) s.unassigned = record { first = c.geometry-geometry.ensures.first ∙ ap first_of_data c.geometry-geometry.ensures.is; blocks = c.geometry-geometry.ensures.blocks ∙ ap (λ (k : Geometry). k.blocks) c.geometry-geometry.ensures.is } in
+    let valid : All IsRun c.in-Ok.held.commits.dropped = subst (All IsRun) (c.as_slice-runs.ensures.items ∙ c.dropped.ensures) c.as_slice-runs.ensures.runs in
+    record { blocks = may_blocks out numbered c.file_sync_law.ensures.may space valid }
+
+-- ---- it stands in its place again
+
+out : (g : Given.Over) (c : goal.After-put_back g) → IsOut (g.D.Door.store c.args.door.now) c.args.self.now c.take_out.new.self c.args.file c.in-Ok.held.hand c.in-Ok.held.commits
+out g c = record { sound = c.requires.sound; held = c.in-Ok.ensures.held; there = c.in-Ok.ensures.there; number = c.in-Ok.ensures.number; others = c.in-Ok.ensures.others }
+
+numbered : (g : Given.Over) (c : goal.After-put_back g) → AreNumbered c.args.self.now.files
+numbered g c = subst AreNumbered (ap (λ (p : Parts). p.files) c.self.view_is) c.are_numbered.ensures
+
+done : (g : Given.Over) (c : goal.After-put_back g)
+    → IsReadBack g.D.Door.visible g.D.Door.keeps (g.D.Door.store c.args.door.now) (g.D.Door.store c.fetch-read.new.door) c.args.self.now c.take_out.new.self c.args.file c.in-Ok.held.hand c.in-Ok.held.commits c.fetch-read.new.hand c.put_back.new.self
+done g c =
+    let read = c.fetch-read.ensures in
+    record {
+      fetched = record { rest = read.rest; noted = read.noted; read = read.read; crash = read.crash; on_disk = read.on_disk; ledger = read.ledger; store = read.store };
+      still = read.still;
+      kept = read.kept;
+      fewer = read.fewer;
+      back = c.in-Ok.ensures.back;
+      put = c.put_back.ensures;
+    }
+
+pub returns-clause-ready : goal.returns-clause-ready
+returns-clause-ready g c = on_ok_weaker c.fetch-read.result (ready_at_last (out g c) (done g c) (numbered g c) c.args.ask.now c.args.desc c.requires.lacks.desc c.requires.lacks.named) c.fetch-read.ensures.there
+
+pub returns-clause-further : goal.returns-clause-further
+returns-clause-further g c = further_at_last (out g c) (done g c) (numbered g c) c.args.ask.now (subst (λ (o : Option Desc). IsOf o c.args.file) (sym c.requires.lacks.desc) c.requires.lacks.named)
+
+pub returns-clause-on_disk : goal.returns-clause-on_disk
+returns-clause-on_disk g c = stays_at_last (out g c) (done g c) (numbered g c) c.geometry-geometry.result c.fetch_law.ensures.on_disk c.fetch_law.ensures.moments (sym c.geometry-geometry.ensures.is)
+
+pub returns-clause-sound : goal.returns-clause-sound
+returns-clause-sound g c = sound_read (out g c) (done g c) (numbered g c) c.fetch_law.ensures.sound
