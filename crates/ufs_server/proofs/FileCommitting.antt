@@ -29,6 +29,8 @@ use Rattle.ufs_stored.specs.Stored.{ArePartsOf}
 use Rattle.ufs_stored.proofs.FileEntries.{parts_now}
 use Rattle.ufs_stored.proofs.Puts.{here, other_file}
 use Rattle.ufs_stored.proofs.Whole.{cleaned_stays}
+use Rattle.ufs_server.specs.Away.{ForgetsNothing}
+use Rattle.ufs_server.proofs.Away.{forgets_none, forgets_put}
 use Rattle.ufs_server.proofs.FileServing.{IsOut, at, same_pool}
 
 error_or : {T X : Type 0} → X → Result T X → X
@@ -110,6 +112,9 @@ module _ {s0 : StoreState} {p0 p2 : Parts} {file : ℕ} {hand : FileState} {know
       pub parts_failed : (t : PosixTree) → ArePartsOf p0 t → ArePartsOf p4 t
       parts_failed t parts = subst (λ (p : Parts). ArePartsOf p t) (sym as_before) (record { names = parts.names; files = parts.files; inodes = parts.inodes; here = parts.here })
 
+      pub forgets_failed : ForgetsNothing p0 p4
+      forgets_failed = forgets_none p0 p4 (ap (λ (p : Parts). p.files) as_before)
+
       pub here_failed : (other : ℕ) → IsSome (map.get p0.files other) → IsSome (map.get p4.files other)
       here_failed other some = subst (λ (p : Parts). IsSome (map.get p.files other)) (sym as_before) some
 
@@ -142,6 +147,10 @@ module _ {s0 : StoreState} {p0 p2 : Parts} {file : ℕ} {hand : FileState} {know
       parts_done t parts =
           let now = parts_now p0 hand (file_committed x) p0.pool is_at refl refl t t parts parts.names (cleaned_stays hand t (parts.files hand.file hand is_at).1) (λ n not. refl) in
           subst (λ (p : Parts). ArePartsOf p t) (sym at_last) (record { names = now.names; files = now.files; inodes = now.inodes; here = now.here })
+
+      pub forgets_done : ForgetsNothing p0 (record v { commits = left })
+      forgets_done file place away =
+          forgets_put p0 (file_committed x) p0.pool hand is_at (λ n absent. absent) file place (forgets_none q (record v { commits = left }) (ap (λ (p : Parts). p.files) at_last) file place away)
 
       pub here_done : (other : ℕ) → IsSome (map.get p0.files other) → IsSome (map.get v.files other)
       here_done other some = subst (λ (p : Parts). IsSome (map.get p.files other)) (sym is_q) (by (one_or_apart other hand.file))

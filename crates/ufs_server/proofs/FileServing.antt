@@ -1,12 +1,17 @@
 -- A request on a file of a server: its pool gets what the store has, the file is taken out, served, and put back.
-use Rattle.std.proofs.Common.{◌≡◌, ℕ, true, false, Option, Some, None, List, [], ◌∷◌, ◌++◌, ap, sym, refl, ◌∙◌, subst}
+use Rattle.std.proofs.Common.{◌≡◌, ℕ, Bool, true, false, Option, Some, None, List, [], ◌∷◌, ◌++◌, ap, sym, refl, ◌∙◌, subst}
 use Rattle.std.specs.FinMap as map
+use Rattle.std.specs.List.{slice_get}
+use Rattle.std.specs.Prelude.{unwrap_or}
 use Rattle.ufs_bitmap.specs.Blocks.{BlockSet}
 use Rattle.ufs_bitmap.specs.Taking.{IsApart}
-use Rattle.ufs_file.specs.Hand.{FileState, IsOf}
+use Rattle.ufs_file.specs.Content.{own_bytes}
+use Rattle.ufs_file.specs.Hand.{FileState, IsFileOf, IsOf, IsPosix}
+use Rattle.ufs_file.proofs.UnreadLemmas.{content_itself}
 use Rattle.ufs_files.specs.Files.{AreNumbered}
 use Rattle.ufs_model.specs.Asks.{IsAsk, IsDescAfter, fd_named, fd_told}
-use Rattle.ufs_model.specs.FileCalls.{is_on_file}
+use Rattle.ufs_model.specs.FileBytes.{bytes_of}
+use Rattle.ufs_model.specs.FileCalls.{IsFileIn, is_on_file}
 use Rattle.ufs_model.specs.History.{IsLegal, is_excused, tree_after}
 use Rattle.ufs_model.specs.Posix.{posix}
 use Rattle.ufs_model.specs.PosixTree.{PosixTree}
@@ -29,6 +34,8 @@ use Rattle.ufs_stored.specs.Sound.{IsFileSound, IsSoundServer}
 use Rattle.ufs_stored.specs.Stored.{ArePartsOf}
 use Rattle.ufs_stored.proofs.Spaced.{pool_apart}
 use Rattle.ufs_server.specs.Answered.{IsAnswered}
+use Rattle.ufs_server.specs.Away.{AwayStays, ForgetsNothing}
+use Rattle.ufs_server.proofs.Away.{away_put, forgets_put}
 
 told_named : (request : Op) (r : Reply) → is_on_file request ≡ true → fd_told request r ≡ fd_named request
 told_named (op.OpenFile path read write creat excl trunc append) r e = absurd cc
@@ -101,6 +108,9 @@ module _ {s1 : StoreState} {p1 p2 : Parts} {file : ℕ} {hand : FileState} {know
     of_hand : (desc_of ask.desc file served.named).0.file ≡ Some hand.file
     of_hand = told.2 ∙ ap Some (sym out.number)
 
+    back_at : map.get p1.files y.file.file ≡ Some hand
+    back_at = ap (map.get p1.files) served.same_number ∙ at
+
     pub on_disk_at_last : FileRequestsGoOn → (start : PosixTree) (history : List Entry) → IsLegal start (history ++ entry ∷ []) → asks_commit ask.op ≡ false → IsAsk (tree_after start history) ask → IsOnDisk s1 start history p1
         → IsOnDisk s1 start (history ++ entry ∷ []) p4
     on_disk_at_last law start history legal no_commit asked on = subst (IsOnDisk s1 start (history ++ entry ∷ [])) (sym final)
@@ -119,6 +129,36 @@ module _ {s1 : StoreState} {p1 p2 : Parts} {file : ℕ} {hand : FileState} {know
               (law (geometry_of_store s1) s1.unassigned.free t entry p1 hand y pool ask server ticket desc told.0 at served.kind asked told.1 of_hand applied_there out.sound unexcused parts);
           told = subst (λ (fd : Option ℕ). IsDescAfter t.fds (posix t ask.client ask.op).0.fds ask.client fd desc) (sym (told_named ask.op entry.reply served.kind)) stepped.told;
         }
+
+    -- What isn't in memory wasn't before,
+    pub forgets_at_last : ForgetsNothing p1 p4
+    forgets_at_last = subst (ForgetsNothing p1) (sym final) (forgets_put p1 y pool hand back_at (of (is_excused entry.reply) refl))
+      where
+        of : (b : Bool) → is_excused entry.reply ≡ b → (place : ℕ) → slice_get y.file.content.there place ≡ Some false → slice_get hand.content.there place ≡ Some false
+        of true e place absent = ap (λ (x : DurableState). slice_get x.file.content.there place) (sym (served.applied.kept e)) ∙ absent
+        of false e place absent = (served.applied.away e told.0 told.1 hand.content.bytes (content_itself hand.content) place absent).0
+
+    -- and keeps its bytes.
+    pub away_at_last : (t : PosixTree) → is_excused entry.reply ≡ false → IsAsk t ask → ArePartsOf p1 t → AwayStays p4 t (posix t ask.client ask.op).0
+    away_at_last t plain asked parts = subst (λ (p : Parts). AwayStays p t u) (sym final) (away_put p1 y pool hand back_at t u own stepped.others)
+      where
+        u : PosixTree
+        u = (posix t ask.client ask.op).0
+
+        of : IsFileOf hand t
+        of = (parts.files hand.file hand at).1
+
+        stepped : IsPosix t ask y.file entry.reply desc
+        stepped = served.applied.posix plain t of asked
+
+        was : IsFileIn t y.file.file of.bytes
+        was = ap (map.get t.bytes) served.same_number ∙ of.has
+
+        own : (place : ℕ) → slice_get y.file.content.there place ≡ Some false → own_bytes (bytes_of u.bytes y.file.file) place ≡ own_bytes (bytes_of t.bytes y.file.file) place
+        own place absent =
+            ap (λ (o : Option (List ℕ)). own_bytes (unwrap_or o []) place) (stepped.step told.0 of.bytes told.1 was)
+            ∙ (served.applied.away plain told.0 told.1 of.bytes of.may place absent).1
+            ∙ ap (λ (o : Option (List ℕ)). own_bytes (unwrap_or o []) place) (sym was)
 
     pub excused_on_disk : PutBackAsItWas → OnDiskAsTold → AreNumbered p1.files → is_excused entry.reply ≡ true → (start : PosixTree) (history : List Entry) → IsOnDisk s1 start history p1 → IsOnDisk s1 start history p4
     excused_on_disk as_it_was told_as numbered e start history on =

@@ -1,4 +1,5 @@
 mod Asked
+mod Away
 mod Committed
 mod FileCommitting
 mod FileFetching

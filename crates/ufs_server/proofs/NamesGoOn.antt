@@ -26,8 +26,10 @@ use Rattle.ufs_stored.specs.OnDiskLaws.{OnDiskIsExcused}
 use Rattle.ufs_stored.specs.Parts.{Parts}
 use Rattle.ufs_stored.specs.Sound.{IsSoundServer}
 use Rattle.ufs_stored.specs.Stored.{ArePartsOf}
+use Rattle.ufs_server.specs.Away.{ForgetsNothing}
 use Rattle.ufs_server.specs.Served.{IsServedOn, KeepsPromise, StaysOnDisk}
 use Rattle.ufs_server.specs.Touching.{IsServedByNames}
+use Rattle.ufs_server.proofs.Away.{away_named, forgets_named, forgets_none}
 use Rattle.ufs_server.proofs.Staying.{promise_at}
 
 -- The parts of which less is told are those of the same trees.
@@ -84,8 +86,14 @@ module _ {by : Actor} {ticket : ℕ} {p : Parts} {ask : Ask} {next : Parts} {app
     sound = of (is_excused applied.entry.reply) refl;
     geometry = refl;
     sectors = refl;
+    forgets = forgets_of (is_excused applied.entry.reply) refl;
+    away = λ plain t parts at. away_named t (posix t ask.client ask.op).0 p next (d.served plain t parts at).request.go_on;
   }
     where
+      forgets_of : (b : Bool) → is_excused applied.entry.reply ≡ b → ForgetsNothing p next
+      forgets_of true e = forgets_none p next (ap (λ (x : Parts). x.files) (d.unchanged e))
+      forgets_of false e = forgets_named asked.0 (posix asked.0 ask.client ask.op).0 p next (d.served e asked.0 asked.1 asked.2).request.go_on
+
       of : (b : Bool) → is_excused applied.entry.reply ≡ b → IsSoundServer (geometry_of_store s) s.unassigned.free next
       of true e = subst (IsSoundServer (geometry_of_store s) s.unassigned.free) (sym (d.unchanged e)) sound
       of false e = let r = d.served e asked.0 asked.1 asked.2 in law (geometry_of_store s) s.unassigned.free asked.0 (posix asked.0 ask.client ask.op).0 p next r.lent r.left r.request sound

@@ -28,19 +28,20 @@ use Rattle.ufs_stored.specs.Stored.{ArePartsOf}
 use Rattle.ufs_stored.proofs.Stretches.{explained_joined}
 use Rattle.ufs_server.specs.Answered.{IsUntold, device_told}
 use Rattle.ufs_server.specs.Served.{CommitEnds, IsServedOn, KeepsPromise, Stays, StaysOnDisk}
+use Rattle.ufs_server.proofs.Away.{forgets_none}
 use Rattle.ufs_server.proofs.Beside.{stop_stays, untold_joined}
 
 -- ---- no call
 
 pub rests : (p : Parts) (s : StoreState) → IsSoundServer (geometry_of_store s) s.unassigned.free p → Stays p p s s
-rests p s sound = record { same = λ t parts. parts; sound = sound; geometry = refl; sectors = refl; untold = inl (record { faults = refl; stop = refl }) }
+rests p s sound = record { same = λ t parts. parts; sound = sound; geometry = refl; sectors = refl; untold = inl (record { faults = refl; stop = refl }); forgets = λ file place away. away }
 
 pub rests_on_disk : (g : Geometry) → RestIsExplained g → (keeps : Bool) (p : Parts) (s : StoreState) → geometry_of_store s ≡ g → StaysOnDisk p p s s keeps
 rests_on_disk g law keeps p s form = record { on_disk = λ start history on. on; moments = λ start history on. law keeps s start history p form on }
 
 -- an excuse
 pub excused_stays : {old new : Parts} {s t : StoreState} {ask : Ask} {by : Actor} {ticket : ℕ} {applied : Applied} → IsServedOn old new s t ask by ticket applied → is_excused applied.entry.reply ≡ true → IsUntold s t → Stays old new s t
-excused_stays is e untold = record { same = is.unchanged e; sound = is.sound; geometry = is.geometry; sectors = is.sectors; untold = untold }
+excused_stays is e untold = record { same = is.unchanged e; sound = is.sound; geometry = is.geometry; sectors = is.sectors; untold = untold; forgets = is.forgets }
 
 -- the names were committed, or weren't
 pub named_or_not : {T E : Type 0} {old new : Parts} {s t : StoreState} (r : Result T E) → OnOk r ((start : PosixTree) (history : List Entry) → IsOnDisk s start history old → HasNames t start history new)
@@ -58,6 +59,7 @@ module _ {old mid new : Parts} {s t u : StoreState} (first : Stays old mid s t) 
     geometry = then.geometry ∙ first.geometry;
     sectors = then.sectors ∙ first.sectors;
     untold = untold_joined s t u first.untold then.untold;
+    forgets = λ file place away. first.forgets file place (then.forgets file place away);
   }
 
   pub on_disk_joined : {keeps : Bool} → StaysOnDisk old mid s t keeps → StaysOnDisk mid new t u keeps → StaysOnDisk old new s u keeps
@@ -76,6 +78,8 @@ module _ {old mid new : Parts} {s t u : StoreState} (first : Stays old mid s t) 
     sound = is.sound;
     geometry = is.geometry ∙ first.geometry;
     sectors = is.sectors ∙ first.sectors;
+    forgets = λ file place away. first.forgets file place (is.forgets file place away);
+    away = λ plain w parts. is.away plain w (first.same w parts);
   }
 
   pub promise_behind : {keeps : Bool} {ask : Ask} {entry : Entry} → StaysOnDisk old mid s t keeps → KeepsPromise mid new t u keeps ask entry → KeepsPromise old new s u keeps ask entry
@@ -92,7 +96,7 @@ promise_at front goes = record { on_disk = λ start history asked legal on. goes
 -- ---- commits, one behind the other
 
 pub none_ends : {x : Unit {0}} (p : Parts) (s : StoreState) → IsSoundServer (geometry_of_store s) s.unassigned.free p → CommitEnds p p s s (Ok x)
-none_ends p s sound = record { same = λ t parts. parts; sound = sound; geometry = refl; sectors = refl; excused = search rules; stopped = λ fault is. absurd cc; cause = refl; stop = sym (stop_stays s.stop) }
+none_ends p s sound = record { same = λ t parts. parts; sound = sound; geometry = refl; sectors = refl; excused = search rules; stopped = λ fault is. absurd cc; cause = refl; stop = sym (stop_stays s.stop); forgets = λ file place away. away }
 
 pub ends_joined : {x : Unit {0}} {old mid new : Parts} {s t u : StoreState} {r : Result (Unit {0}) Excuse} → CommitEnds old mid s t (Ok x) → CommitEnds mid new t u r → CommitEnds old new s u r
 ends_joined {s = s} {u = u} {r = r} first then =
@@ -106,6 +110,7 @@ ends_joined {s = s} {u = u} {r = r} first then =
       stopped = λ fault is. sym going ∙ then.stopped fault is;
       cause = subst (λ (n : ℕ). IsTold n u.faults (device_told r)) first.cause then.cause;
       stop = then.stop ∙ ap (λ (o : Option ℕ). stop_after o (device_told r)) going;
+      forgets = λ file place away. first.forgets file place (then.forgets file place away);
     }
 
 -- ---- the pool gets what the store has
@@ -119,6 +124,7 @@ module _ {old mid new : Parts} {s t u : StoreState} where
     geometry = ap geometry_of_store stored ∙ first.geometry;
     sectors = ap (λ (x : StoreState). x.sectors) stored ∙ first.sectors;
     untold = untold_joined s t u first.untold (inl (record { faults = ap (λ (x : StoreState). x.faults) stored; stop = ap (λ (x : StoreState). x.stop) stored }));
+    forgets = λ file place away. first.forgets file place (forgets_none mid new (ap (λ (p : Parts). p.files) pooled) file place away);
   }
 
   pub on_disk_gathered : {keeps : Bool} → StaysOnDisk old mid s t keeps → FreeBlocksGoOn → MovesBlocks mid.pool t.unassigned.free new.pool u.unassigned.free → new ≡ record mid { pool = new.pool } → u ≡ with_free u.unassigned.free t → StaysOnDisk old new s u keeps
@@ -138,6 +144,7 @@ module _ {old mid new : Parts} {s t : StoreState} where
     geometry = first.geometry;
     sectors = first.sectors;
     untold = first.untold;
+    forgets = λ file place away. first.forgets file place (forgets_none mid new (ap (λ (p : Parts). p.files) known) file place away);
   }
 
   pub on_disk_told : {keeps : Bool} → StaysOnDisk old mid s t keeps → OnDiskAsTold → new ≡ record mid { commits = new.commits } → TellsTheSame mid new.commits → StaysOnDisk old new s t keeps
@@ -159,6 +166,8 @@ module _ {old new : Parts} {s t : StoreState} {ask : Ask} where
     sound = stays.sound;
     geometry = stays.geometry;
     sectors = stays.sectors;
+    forgets = stays.forgets;
+    away = λ plain. (let clash = sym plain ∙ ap is_excused is in absurd cc);
   }
 
   pub excused_promise : {keeps : Bool} {entry : Entry} → StaysOnDisk old new s t keeps → (g : Geometry) → OnDiskIsExcused g → geometry_of_store t ≡ g → is_excused entry.reply ≡ true → KeepsPromise old new s t keeps ask entry

@@ -2,4 +2,5 @@ pub mod Server
 pub mod Answered
 pub mod Touching
 pub mod Fetched
+pub mod Away
 pub mod Served

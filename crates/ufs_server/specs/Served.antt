@@ -6,6 +6,7 @@ use Rattle.ufs_file.specs.declared.hand.Applied.{Applied}
 use Rattle.ufs_model.specs.Asks.{IsAsk}
 use Rattle.ufs_model.specs.Excuses.{ExcuseFits}
 use Rattle.ufs_model.specs.History.{IsLegal, is_excused, tree_after}
+use Rattle.ufs_model.specs.Posix.{posix}
 use Rattle.ufs_model.specs.PosixTree.{PosixTree}
 use Rattle.ufs_model.specs.declared.data.Actor.{Actor}
 use Rattle.ufs_model.specs.declared.data.Ask.{Ask}
@@ -21,6 +22,7 @@ use Rattle.ufs_stored.specs.Parts.{Parts}
 use Rattle.ufs_stored.specs.Sound.{IsSoundServer}
 use Rattle.ufs_stored.specs.Stored.{ArePartsOf}
 use Rattle.ufs_server.specs.Answered.{IsAnswered, IsUntold, device_told, is_of_store}
+use Rattle.ufs_server.specs.Away.{AwayStays, ForgetsNothing}
 
 -- A request that asks for no commit may be served.
 pub record MayServe (old : Parts) (s : StoreState) (ask : Ask) : Type 0 where
@@ -38,6 +40,7 @@ module _ (old new : Parts) (s s' : StoreState) where
     pub geometry : geometry_of_store s' ≡ geometry_of_store s
     pub sectors : s'.sectors ≡ s.sectors
     pub untold : IsUntold s s'
+    pub forgets : ForgetsNothing old new
 
   -- Over a visible disk it stays on that, for each history.
   pub record StaysOnDisk (keeps : Bool) : Type 0 where
@@ -54,6 +57,7 @@ module _ (old new : Parts) (s s' : StoreState) where
     pub stopped : (fault : ℕ) → result ≡ Err (excuse.Stopped fault) → s.stop ≡ Some fault
     pub cause : IsTold s.faults s'.faults (device_told result)
     pub stop : s'.stop ≡ stop_after s.stop (device_told result)
+    pub forgets : ForgetsNothing old new
 
   -- The request is answered, and the server goes on.
   pub record IsServedOn (ask : Ask) (by : Actor) (ticket : ℕ) (applied : Applied) : Type 0 where
@@ -65,6 +69,8 @@ module _ (old new : Parts) (s s' : StoreState) where
     pub sound : IsSoundServer (geometry_of_store s') s'.unassigned.free new
     pub geometry : geometry_of_store s' ≡ geometry_of_store s
     pub sectors : s'.sectors ≡ s.sectors
+    pub forgets : ForgetsNothing old new
+    pub away : is_excused applied.entry.reply ≡ false → (t : PosixTree) → ArePartsOf old t → IsAsk t ask → AwayStays new t (posix t ask.client ask.op).0
 
   -- Over a visible disk it is on that for the history with the new entry, and meanwhile for the one without it.
   pub record KeepsPromise (keeps : Bool) (ask : Ask) (entry : Entry) : Type 0 where

@@ -4,6 +4,7 @@ ghost use Rattle.ufs_model.specs.Asks.{IsAsk};
 ghost use Rattle.ufs_model.specs.Bounds.{IsBounded};
 ghost use Rattle.ufs_model.specs.Excuses.{ExcuseFits};
 ghost use Rattle.ufs_model.specs.History.{IsLegal, is_excused, tree_after};
+ghost use Rattle.ufs_model.specs.Posix.{posix};
 ghost use Rattle.ufs_model.specs.PosixTree.{PosixTree};
 ghost use Rattle.ufs_model.specs.declared.data.Entry.{Entry};
 ghost use Rattle.ufs_model.specs.declared.data.Excuse.{Excuse};
@@ -14,6 +15,7 @@ ghost use Rattle.ufs_stored.specs.OnDisk.{IsExplainedBetween, IsOnDisk};
 ghost use Rattle.ufs_stored.specs.Sound.{IsSoundServer};
 ghost use Rattle.ufs_stored.specs.Stored.{ArePartsOf};
 ghost use Rattle.ufs_server.specs.Answered.{IsAnswered, TellsFaults, device_in, stopped_in};
+ghost use Rattle.ufs_server.specs.Away.{AwayStays, ForgetsNothing};
 
 use crate::disk_server::DiskServer;
 use ufs_file::Applied;
@@ -26,7 +28,8 @@ impl DiskServer {
     /// wanting, or the disk fails, the reply is the excuse for it, and the tree is as it was. File numbers stay below
     /// 2^31. The caller gives the ticket, and says who serves. Names may be committed before a request of names, to
     /// make room for its notes, and everything where a request lacks blocks and some are dropped. Where the disk fails
-    /// in that the request is served all the same: the store has stopped, and later replies tell it.
+    /// in that the request is served all the same: the store has stopped, and later replies tell it. A block that isn't
+    /// in memory afterwards wasn't before, and has the same bytes in the tree.
     pub fn apply<D: Door>(&mut self, door: &mut D, ask: Ask, by: Actor, ticket: u64) -> Applied
         requires client { ask.client < 16 }
         requires bounded { IsBounded ask.op }
@@ -45,6 +48,8 @@ impl DiskServer {
         ensures sound { IsSoundServer (geometry_of_store (D.store door.new)) (D.store door.new).unassigned.free self.new }
         ensures geometry { geometry_of_store (D.store door.new) ≡ geometry_of_store (D.store door.old) }
         ensures sectors { (D.store door.new).sectors ≡ (D.store door.old).sectors }
+        ensures forgets { ForgetsNothing self.old self.new }
+        ensures away { is_excused result.entry.reply ≡ false → (t : PosixTree) → ArePartsOf self.old t → IsAsk t ask → AwayStays self.new t (posix t ask.client ask.op).0 }
         ensures stopped { (fault : ℕ) → stopped_in result.entry.reply ≡ Some fault → (D.store door.old).stop ≡ Some fault }
         ensures told { TellsFaults (D.store door.old) (D.store door.new) result.entry.reply }
         ensures still { (fault : ℕ) → (D.store door.old).stop ≡ Some fault → device_in result.entry.reply ≡ None }

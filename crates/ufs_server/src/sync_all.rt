@@ -11,6 +11,7 @@ ghost use Rattle.ufs_stored.specs.Sound.{IsSoundServer};
 ghost use Rattle.ufs_stored.specs.Stored.{ArePartsOf};
 ghost use Rattle.ufs_synced.specs.Laws.{HasNothingNoted};
 ghost use Rattle.ufs_server.specs.Answered.{device_told, is_of_store};
+ghost use Rattle.ufs_server.specs.Away.{ForgetsNothing};
 ghost use Rattle.ufs_server.specs.Served.{CommitEnds};
 
 use crate::disk_server::DiskServer;
@@ -33,6 +34,7 @@ impl DiskServer {
         ensures sound { IsSoundServer (geometry_of_store (D.store door.new)) (D.store door.new).unassigned.free self.new }
         ensures geometry { geometry_of_store (D.store door.new) ≡ geometry_of_store (D.store door.old) }
         ensures sectors { (D.store door.new).sectors ≡ (D.store door.old).sectors }
+        ensures forgets { ForgetsNothing self.old self.new }
         ensures excused { IfErr result (λ x. is_of_store x ≡ true) }
         ensures stopped { (fault : ℕ) → (result ≡ Err (excuse.Stopped fault)) → ((D.store door.old).stop ≡ Some fault) }
         ensures refused { (fault : ℕ) → (D.store door.old).stop ≡ Some fault → result ≡ Err (excuse.Stopped fault) }

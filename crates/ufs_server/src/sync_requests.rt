@@ -13,6 +13,7 @@ ghost use Rattle.ufs_stored.specs.OnDisk.{IsExplainedBetween, IsOnDisk};
 ghost use Rattle.ufs_stored.specs.Sound.{IsSoundServer};
 ghost use Rattle.ufs_stored.specs.Stored.{ArePartsOf};
 ghost use Rattle.ufs_server.specs.Answered.{IsSyncReply, TellsItsOwn, device_in, reply_to, stopped_in};
+ghost use Rattle.ufs_server.specs.Away.{ForgetsNothing};
 ghost use Rattle.ufs_server.specs.Served.{IsServedOn, KeepsPromise};
 
 use crate::disk_server::DiskServer;
@@ -58,6 +59,7 @@ impl DiskServer {
         requires sound { IsSoundServer (geometry_of_store (D.store door.old)) (D.store door.old).unassigned.free self.old }
         ensures answered { IsSyncReply result }
         ensures same { (t : PosixTree) → ArePartsOf self.old t → ArePartsOf self.new t }
+        ensures forgets { ForgetsNothing self.old self.new }
         ensures on_disk { IsTrue D.visible → (start : PosixTree) (history : List Entry) (entry : Entry) → entry.client ≡ ask.now.client → entry.op ≡ ask.now.op → entry.reply ≡ result
             → IsAsk (tree_after start history) ask.now → own_refusal (tree_after start history) ask.now.client ask.now.op ≡ None → IsLegal start (history ++ entry ∷ [])
             → IsOnDisk (D.store door.old) start history self.old → IsOnDisk (D.store door.new) start (history ++ entry ∷ []) self.new }

@@ -10,7 +10,7 @@ use Rattle.ufs_on_disk.specs.Syncs.{IsSpaceOf}
 use Rattle.ufs_store.specs.State.{geometry_of_store}
 use Rattle.ufs_stored.specs.Parts.{Parts}
 use Rattle.ufs_server.proofs.FileServing.{IsOut, whole}
-use Rattle.ufs_server.proofs.FileCommitting.{IsBack, IsForgotten, forgotten_done, here_done, here_failed, may_blocks, may_dropped, meanwhile, on_disk_failed, parts_done, parts_failed, sound_done, sound_failed, synced_done}
+use Rattle.ufs_server.proofs.FileCommitting.{IsBack, IsForgotten, forgets_done, forgets_failed, forgotten_done, here_done, here_failed, may_blocks, may_dropped, meanwhile, on_disk_failed, parts_done, parts_failed, sound_done, sound_failed, synced_done}
 use Rattle.ufs_server.proofs.disk_server.DiskServer.commit_file.Given
 use Rattle.ufs_server.proofs.disk_server.DiskServer.commit_file.Goals as goal
 
@@ -64,6 +64,7 @@ returns-in_err-told-clause-ends g c =
     search (
       rules,
       parts_failed (out_failed g c) (numbered_failed g c) (back_failed g c) c.in_err-told.ensures.kept c.told_law.ensures.back,
+      forgets_failed (out_failed g c) (numbered_failed g c) (back_failed g c) c.in_err-told.ensures.kept c.told_law.ensures.back,
       sound_failed (out_failed g c) (numbered_failed g c) (back_failed g c) c.in_err-told.ensures.kept c.told_law.ensures.back (g.D.Door.store c.sync_held-told.new.door) c.told_law.ensures.sound c.in_err-told.ensures.unfreed c.sync_held-told.ensures.geometry,
     )
 
@@ -105,6 +106,7 @@ returns-clause-ends g c =
     search (
       rules,
       parts_done (out g c) (numbered g c) (back g c) (done_with g c) c.told_law.ensures.forgotten,
+      forgets_done (out g c) (numbered g c) (back g c) (done_with g c) c.told_law.ensures.forgotten,
       sound_done (out g c) (numbered g c) (back g c) (done_with g c) c.told_law.ensures.forgotten (g.D.Door.store c.sync_held-told.new.door) c.file_sync_law.ensures.sound c.told_law.ensures.sound c.in_ok-told.ensures.freed c.sync_held-told.ensures.geometry,
     )
 

@@ -14,6 +14,7 @@ returns-in-Ok g c =
       geometry = synced.geometry;
       sectors = synced.sectors;
       untold = told_untold _ _ (device_told c.sync_all-synced.result) synced.cause (λ fault stopped. ap device_told (synced.refused fault stopped)) synced.stop;
+      forgets = synced.forgets;
     } in
     record {
       stays = stays_joined front c.take_dropped.ensures.stays;
@@ -31,6 +32,7 @@ returns-in-Err g c =
         geometry = synced.geometry;
         sectors = synced.sectors;
         untold = told_untold _ _ (device_told c.sync_all-synced.result) synced.cause (λ fault stopped. ap device_told (synced.refused fault stopped)) synced.stop;
+        forgets = synced.forgets;
       };
       promise = λ visible. record { on_disk = c.in-Err.ensures.err visible; moments = synced.moments visible };
     }

@@ -14,7 +14,7 @@ use Rattle.ufs_durable.specs.State.{DurableState, blocks_held, state_of}
 use Rattle.ufs_store.specs.State.{geometry_of_store}
 use Rattle.ufs_stored.specs.Parts.{Parts, with_file}
 use Rattle.ufs_server.specs.Served.{Stays, StaysOnDisk}
-use Rattle.ufs_server.proofs.FileServing.{IsOut, IsServedBack, answered_at_last, apart, excused_on_disk, on_disk_at_last, parts_at_last, sound_at_last, whole}
+use Rattle.ufs_server.proofs.FileServing.{IsOut, IsServedBack, answered_at_last, apart, away_at_last, excused_on_disk, forgets_at_last, on_disk_at_last, parts_at_last, sound_at_last, whole}
 use Rattle.ufs_server.proofs.Staying.{excused_promise, memory_served, on_disk_gathered, promise_at, rests, rests_on_disk, served_behind, stays_gathered}
 use Rattle.ufs_server.proofs.disk_server.DiskServer.serve_file.Given
 use Rattle.ufs_server.proofs.disk_server.DiskServer.serve_file.Goals as goal
@@ -110,6 +110,7 @@ returns g c =
       marks = done.noted.marks;
       held = done.noted.held;
       written = done.noted.written;
+      away = done.away;
       kept = done.kept;
       pool = done.pool;
       same_desc = done.desc;
@@ -135,6 +136,8 @@ returns g c =
         sound = sound_at_last out back law.request_sound numbered;
         geometry = refl;
         sectors = refl;
+        forgets = forgets_at_last out back;
+        away = λ plain t parts asked. away_at_last out back t plain asked parts;
       });
       promise = λ visible. promise_at kept (λ start history asked legal. on_disk_at_last out back law.request start history legal c.requires.unsynced asked);
       excused = λ visible e. record {

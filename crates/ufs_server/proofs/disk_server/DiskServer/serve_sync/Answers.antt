@@ -1,12 +1,15 @@
 use Rattle.std.proofs.Common.{◌≡◌, None, ap, refl, sym, subst, ◌∙◌}
 use Rattle.ufs_model.specs.Asks.{IsAsk}
 use Rattle.ufs_model.specs.History.{tree_after}
+use Rattle.ufs_model.specs.Posix.{posix}
 use Rattle.ufs_model.specs.PosixTree.{PosixTree}
 use Rattle.ufs_model.specs.Refusals.{own_refusal}
+use Rattle.ufs_model.specs.declared.data.Reply.{Reply}
 use Rattle.ufs_model.specs.declared.data.Reply.TheVariants as reply
 use Rattle.ufs_prefix.specs.Steps.{is_ok}
 use Rattle.ufs_stored.specs.Laws.{leaves_tree}
 use Rattle.ufs_server.specs.Answered.{IsSyncReply}
+use Rattle.ufs_server.proofs.Away.{away_still}
 use Rattle.ufs_server.proofs.Replied.{done_reply, excuse_kind}
 use Rattle.ufs_server.proofs.Syncs.{answered_so, fits_store, leaves, posix_done, posix_refused}
 use Rattle.ufs_server.proofs.disk_server.DiskServer.serve_sync.Goals as goal
@@ -26,6 +29,9 @@ returns-in-Some-clause-served g c =
       sound = c.requires.sound;
       geometry = refl;
       sectors = refl;
+      forgets = λ file place away. away;
+      away = λ plain t parts asked.
+          away_still c.args.self.now t (posix t ask.client ask.op).0 (ap (λ (x : PosixTree × Reply). x.0) (posix_refused t ask.client ask.op c.in-Some.errno (sym (c.own_refusal.ensures t ask.client asked.desc asked.fd) ∙ c.in-Some.is)));
     }
 
 pub returns-in-Some-clause-promise : goal.returns-in-Some-clause-promise
@@ -61,6 +67,8 @@ returns-clause-served g c =
       sound = synced.sound;
       geometry = synced.geometry;
       sectors = synced.sectors;
+      forgets = synced.forgets;
+      away = λ plain t parts asked. away_still c.sync_asked-reply.new.self t (posix t ask.client ask.op).0 (ap (λ (x : PosixTree × Reply). x.0) (posix_done t ask.client ask.op c.requires.kind (own t asked)));
     }
 
 pub returns-clause-promise : goal.returns-clause-promise

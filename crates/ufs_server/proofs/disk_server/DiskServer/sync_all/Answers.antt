@@ -60,3 +60,6 @@ returns-in-Some-clause-moments g c visible start history on =
 pub returns-in_default-live-clause-moments : goal.returns-in_default-live-clause-moments
 returns-in_default-live-clause-moments g c visible start history on =
     c.always_law.ensures.rest g.D.Door.keeps (g.D.Door.store c.args.door.now) start history c.args.self.now (sym c.geometry-geometry.ensures.is) on
+
+pub returns-clause-forgets : goal.returns-clause-forgets
+returns-clause-forgets g c file place away = c.sync_names.ensures.ends.forgets file place (c.commit_files.ensures.ends.forgets file place away)

@@ -23,6 +23,7 @@ returns-in_default g c =
     record {
       answered = subst IsSyncReply (sym told_reply) (reply_kind r c.sync_all.ensures.excused);
       same = c.sync_all.ensures.same;
+      forgets = c.sync_all.ensures.forgets;
       on_disk = λ visible start history entry client asked replied ask own legal on.
           synced_entry r entry _ _ _ (replied ∙ told_reply) (c.sync_all.ensures.ok visible) (c.sync_all.ensures.err visible)
           (λ ok. c.on_disk_law.ensures.all_synced s1 start history entry p1 form legal (asked ∙ is_sync) (ok start history on))

@@ -1,4 +1,4 @@
-use Rattle.std.proofs.Common.{◌≡◌, ◌∙◌, ℕ, Some, List, [], ap, inl, rules, subst, sym}
+use Rattle.std.proofs.Common.{◌≡◌, ◌∙◌, ℕ, Some, List, [], ap, inl, refl, rules, subst, sym}
 use Rattle.std.specs.Prelude.{IsTrue}
 use Rattle.ufs_bitmap.specs.Space.{Space}
 use Rattle.ufs_bitmap.specs.Taking.{has}
@@ -16,6 +16,8 @@ use Rattle.ufs_stored.specs.OnDisk.{HasNames}
 use Rattle.ufs_stored.specs.Parts.{Parts, TheNames}
 use Rattle.ufs_stored.specs.Sound.{IsSoundServer}
 use Rattle.ufs_stored.specs.Stored.{ArePartsOf}
+use Rattle.ufs_server.specs.Away.{ForgetsNothing}
+use Rattle.ufs_server.proofs.Away.{forgets_none}
 use Rattle.ufs_server.proofs.Committed.{is_going, parts_committed, sound_committed}
 use Rattle.ufs_server.proofs.disk_server.DiskServer.sync_names.Goals as goal
 
@@ -51,6 +53,7 @@ returns-in-Ok-clause-ends g c =
     search (
       rules,
       subst (λ (q : Parts). (t : PosixTree) → ArePartsOf p t → ArePartsOf q t) (sym made) (parts_committed p),
+      subst (λ (q : Parts). ForgetsNothing p q) (sym made) (forgets_none p (with_names_committed p) refl),
       subst (λ (q : Parts). IsSoundServer (geometry_of_store new) new.unassigned.free q) (sym made) (sound_committed (geometry_of_store new) new.unassigned.free p sound),
     )
 
@@ -69,6 +72,7 @@ returns-in-Err-clause-ends g c =
       sound = subst (λ (q : Parts). IsSoundServer (geometry_of_store new) new.unassigned.free q) (sym same) sound;
       geometry = c.commit_notes-committed.ensures.geometry;
       sectors = c.commit_notes-committed.ensures.sectors;
+      forgets = forgets_none p _ (ap (λ (q : Parts). q.files) same);
       excused = search rules;
       stopped = λ fault e.
           let is : c.excuse_of.result ≡ excuse.Stopped fault = cc in

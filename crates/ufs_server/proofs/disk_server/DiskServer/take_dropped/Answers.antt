@@ -8,6 +8,7 @@ use Rattle.ufs_stored.specs.Sound.{IsSoundServer}
 use Rattle.ufs_stored.specs.Stored.{ArePartsOf}
 use Rattle.ufs_stored.specs.OnDisk.{IsOnDisk}
 use Rattle.ufs_synced.specs.Laws.{IsBeside, with_reclaimed}
+use Rattle.ufs_server.proofs.Away.{forgets_none}
 use Rattle.ufs_server.proofs.Beside.{told_untold}
 use Rattle.ufs_server.proofs.Checkpoints.{checkpoint_err, checkpoint_moments, checkpoint_ok, none_passed, none_told}
 use Rattle.ufs_server.proofs.disk_server.DiskServer.take_dropped.Goals as goal
@@ -31,6 +32,7 @@ returns-in-Ok g c =
         geometry = passed.geometry;
         sectors = passed.sectors;
         untold = told_untold old new None c.in-Ok.ensures.cause (λ n stopped. none_passed n ((c.in-Ok.ensures.stopped n).1 stopped)) c.in-Ok.ensures.stop;
+        forgets = forgets_none p _ (ap (λ (q : Parts). q.files) made);
       };
       promise = λ visible. record {
         on_disk = λ start history on. subst (IsOnDisk new start history) (sym made)
@@ -56,6 +58,7 @@ returns-in-Err g c =
         geometry = passed.geometry;
         sectors = passed.sectors;
         untold = told_untold old new _ failed.cause (λ n stopped. none_told _ n ((failed.stopped n).1 stopped)) failed.stop;
+        forgets = λ file place away. away;
       };
       promise = λ visible. record {
         on_disk = λ start history. checkpoint_err c.geometry-geometry.result c.reclaim_law.ensures.fails old new start history p _ (record { old_form = form; new_form = passed.geometry ∙ form; unassigned = passed.blocks })
