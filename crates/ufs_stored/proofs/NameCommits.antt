@@ -9,7 +9,7 @@ use Rattle.ufs_bitmap.specs.Taking.{has}
 use Rattle.ufs_dir_tree.specs.DirTable.{DirTable, blocks_at}
 use Rattle.ufs_disk.specs.Disk.{possible}
 use Rattle.ufs_extent.specs.Runs as runs
-use Rattle.ufs_file.specs.Content.{block_bytes}
+use Rattle.ufs_file.specs.Content.{own_bytes}
 use Rattle.ufs_file.specs.Hand.{FileState}
 use Rattle.ufs_image.specs.Catalog.{Catalog, HasBlock, IsDirBlock, IsInode}
 use Rattle.ufs_image.specs.Changes.{IsTakenBlock}
@@ -220,7 +220,7 @@ module _ (l : Ledger) (u : BlockSet) (start : PosixTree) (history : List Entry) 
           let was = stood.blocks place b at in
           file_block (OneFile file) b (λ e. cc) (record { hand = s; here = here; held = held_at (durable_in p.commits s) place b at })
           (record { data_block = subst (λ h. IsDataBlock (geometry_of h) b) superblock was.data_block; no_dir = subst (λ (x : ℕ → Bool). IsTrue (x b) → ⊥) dirs was.no_dir; unheld = subst (λ x. is_held x b ≡ false) log was.unheld });
-      clean = λ place b at off. settled_has (l.blocks b) (block_bytes (bytes_of (tree_after start history).bytes file) place) (subst (λ x. HaveOnly (possible (x b)) (block_bytes (bytes_of (tree_after start history).bytes file) place)) cells (stood.clean place b at off));
+      clean = λ place b at off. settled_has (l.blocks b) (own_bytes (bytes_of (tree_after start history).bytes file) place) (subst (λ x. HaveOnly (possible (x b)) (own_bytes (bytes_of (tree_after start history).bytes file) place)) cells (stood.clean place b at off));
     }
 
     stored : (file : ℕ) (s : FileState) → map.get p.files file ≡ Some s → IsFileStored l k.numbers (whole_at file s) → IsFileStored m (numbers_of p.names) (whole_at file s)

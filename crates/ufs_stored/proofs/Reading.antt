@@ -1,13 +1,14 @@
 -- What is read of the files of a server on its disk, also where a call of the disk failed.
-use Rattle.std.proofs.Common.{◌≡◌, ℕ, inl, inr, Bool, true, false, List, Option, Some, ap, refl, sym, ◌∙◌, arith}
-use Rattle.std.specs.Prelude.{◌==◌}
+use Rattle.std.proofs.Common.{◌≡◌, ℕ, ◌-◌, ◌*◌, ◌<◌, inl, inr, Bool, true, false, List, Option, Some, length, take, ap, refl, sym, ◌∙◌, arith}
+use Rattle.std.specs.Prelude.{◌==◌, drop}
 use Rattle.std.specs.List.{slice_get}
 use Rattle.std.specs.FinMap as map
 use Rattle.std.proofs.lemmas.Grind.{same_number_lists}
+use Rattle.std.proofs.lemmas.List.{get_or-take, length-drop, length-take}
 use Rattle.ufs_bitmap.specs.Blocks.{BlockSet}
 use Rattle.ufs_bitmap.specs.Taking.{has}
 use Rattle.ufs_extent.specs.Runs.{blocks_of}
-use Rattle.ufs_file.specs.Content.{block_bytes}
+use Rattle.ufs_file.specs.Content.{own_bytes}
 use Rattle.ufs_file.specs.Hand.{FileState, whole_as}
 use Rattle.ufs_image.proofs.Empty.{apart_false}
 use Rattle.ufs_layout.specs.Superblock.{geometry_of}
@@ -23,7 +24,6 @@ use Rattle.ufs_model.specs.declared.data.Entry.{Entry}
 use Rattle.ufs_prefix.specs.FileChanges.{byte_at}
 use Rattle.ufs_durable.specs.Standing.{IsReadable}
 use Rattle.ufs_durable.specs.State.{whole_of}
-use Rattle.ufs_durable.proofs.Cells.{length_block}
 use Rattle.ufs_durable.proofs.Fewer.{readable_begun, readable_home, readable_settled, readable_tried}
 use Rattle.ufs_stored.specs.OnDisk.{AreReadable, IsOnDisk}
 use Rattle.ufs_stored.specs.OnDiskLaws.{OnDiskReads}
@@ -76,14 +76,25 @@ module _ (l : Ledger) (u : BlockSet) (start : PosixTree) (history : List Entry) 
 pub on_disk_reads : OnDiskReads
 on_disk_reads s start history p file f place block bytes on told size here at clean = by on
   where
-    read : (l : Ledger) → IsLedgerOf s.sectors s.moments.state l → AreReadable l (tree_after start history) p → bytes ≡ block_bytes (bytes_of (tree_after start history).bytes file) place
-    read l is readable =
-        same_number_lists bytes (block_bytes (bytes_of (tree_after start history).bytes file) place) (size ∙ sym (length_block (bytes_of (tree_after start history).bytes file) place))
-        (λ k less. (readable file f here).clean place block at clean k (byte_at bytes k) (omega (arith, size, less)) (has_byte_last (l.blocks block).older (l.blocks block).seen k (byte_at bytes k) (ap (λ (b : List ℕ). byte_at b k) seen)))
+    whole : List ℕ
+    whole = bytes_of (tree_after start history).bytes file
+
+    rest : ℕ
+    rest = length whole - 4096 * place
+
+    own_length : length (own_bytes whole place) ≡ length (take rest bytes)
+    own_length = omega (arith, size, length-take rest bytes, length-take 4096 (drop (4096 * place) whole), length-drop (4096 * place) whole)
+
+    read : (l : Ledger) → IsLedgerOf s.sectors s.moments.state l → AreReadable l (tree_after start history) p → take rest bytes ≡ own_bytes whole place
+    read l is readable = same_number_lists (take rest bytes) (own_bytes whole place) (sym own_length)
+        (λ k less.
+        let under : k < rest = omega (arith, less, length-take rest bytes) in
+        get_or-take rest bytes k 0 under
+        ∙ (readable file f here).clean place block at clean k (byte_at bytes k) (omega (arith, less, own_length)) (has_byte_last (l.blocks block).older (l.blocks block).seen k (byte_at bytes k) (ap (λ (b : List ℕ). byte_at b k) seen)))
       where
         seen : bytes ≡ (l.blocks block).seen
         seen = let is_block = (readable file f here).blocks place block at clean in told l is is_block.data_block is_block.unheld
 
-    by : IsOnDisk s start history p → bytes ≡ block_bytes (bytes_of (tree_after start history).bytes file) place
+    by : IsOnDisk s start history p → take rest bytes ≡ own_bytes whole place
     by (inl go) = read go.ledger go.has.by.is (stored_readable go.ledger s.unassigned.free start history go.counts p go.stored)
     by (inr st) = read st.ledger st.has st.clean

@@ -9,7 +9,7 @@ use Rattle.ufs_bitmap.specs.Blocks.{BlockSet}
 use Rattle.ufs_bitmap.specs.Taking.{has}
 use Rattle.ufs_disk.specs.Disk.{Cell, possible}
 use Rattle.ufs_extent.specs.Runs.{blocks_of}
-use Rattle.ufs_file.specs.Content.{block_bytes}
+use Rattle.ufs_file.specs.Content.{own_bytes}
 use Rattle.ufs_file.specs.Hand.{FileState}
 use Rattle.ufs_files.proofs.MapLemmas.{one_or_apart}
 use Rattle.ufs_image.specs.Catalog.{IsInode}
@@ -104,7 +104,7 @@ module _ (l : Ledger) (u : BlockSet) (start : PosixTree) (history : List Entry) 
     size = ap (λ (x : InodeForm). x.size) form ∙ stood.size;
     extents = ap (λ (x : InodeForm). x.extents) form ∙ stood.extents;
     blocks = λ place other at. goes place other at (stood.blocks place other at);
-    clean = λ place other at off. subst (λ (c : ℕ → Cell). HaveOnly (possible (c other)) (block_bytes h.file.content.bytes place)) cells (stood.clean place other at off);
+    clean = λ place other at off. subst (λ (c : ℕ → Cell). HaveOnly (possible (c other)) (own_bytes h.file.content.bytes place)) cells (stood.clean place other at off);
   }
 
   goes : (file : ℕ) (s : FileState) → map.get p.files file ≡ Some s → (place other : ℕ) → slice_get (blocks_of s.extents) place ≡ Some other → other ≢ block

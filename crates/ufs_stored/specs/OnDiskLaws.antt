@@ -1,12 +1,12 @@
 -- What keeps a server on its disk, also once its store has stopped.
-use Rattle.std.specs.Prelude.{ℕ, ◌≡◌, ◌⊎◌, List, [], ◌∷◌, ◌++◌, IsSome, length, true, false, Some, None}
+use Rattle.std.specs.Prelude.{ℕ, ◌≡◌, ◌-◌, ◌*◌, ◌⊎◌, List, [], ◌∷◌, ◌++◌, IsSome, length, take, true, false, Some, None}
 use Rattle.std.specs.List.{slice_get}
 use Rattle.std.specs.FinMap as map
 use Rattle.ufs_base.specs.declared.sizes.TheConstants.{BLOCK}
 use Rattle.ufs_bitmap.specs.Taking.{has}
 use Rattle.ufs_disk.specs.Disk.{Leaves}
 use Rattle.ufs_extent.specs.Runs.{blocks_of}
-use Rattle.ufs_file.specs.Content.{block_bytes}
+use Rattle.ufs_file.specs.Content.{own_bytes}
 use Rattle.ufs_file.specs.Hand.{FileState}
 use Rattle.ufs_image.specs.Proper.{IsProperImage}
 use Rattle.ufs_layout.specs.Superblock.{geometry_of}
@@ -42,13 +42,13 @@ OnDiskIsProper g = (s : StoreState) (start : PosixTree) (history : List Entry) (
 
 -- ---- what a read gives
 
--- Of a block of a file that isn't dirty it gives the bytes that the tree has for the file, also once the store has stopped: the
--- words of the second premise are those in which a store's read tells what it read.
+-- Of a block of a file that isn't dirty it gives first the bytes that the tree has for the file there, also once the store has
+-- stopped: the words of the second premise are those in which a store's read tells what it read.
 abbrev pub OnDiskReads : Type 0
 OnDiskReads = (s : StoreState) (start : PosixTree) (history : List Entry) (p : Parts) (file : ℕ) (f : FileState) (place block : ℕ) (bytes : List ℕ) → IsOnDisk s start history p
     → ((l : Ledger) → IsLedgerOf s.sectors s.moments.state l → IsDataBlock (geometry_of l.superblock) block → is_held l.now.log block ≡ false → bytes ≡ (l.blocks block).seen) → length bytes ≡ BLOCK
     → map.get p.files file ≡ Some f → slice_get (blocks_of f.extents) place ≡ Some block → slice_get f.content.dirty place ≡ Some false
-    → bytes ≡ block_bytes (bytes_of (tree_after start history).bytes file) place
+    → take (length (bytes_of (tree_after start history).bytes file) - BLOCK * place) bytes ≡ own_bytes (bytes_of (tree_after start history).bytes file) place
 
 -- ---- an entry is drawn
 

@@ -125,7 +125,7 @@ pub fn on_disk_law(geometry: &Geometry)
     an_entry_keeps_what_is_shown();
 }
 
-/// What is read of a block of a file that isn't dirty is what the file has there, also once the store has stopped.
+/// What is read of a block of a file that isn't dirty begins with what the file has there, also once the store has stopped.
 pub fn read_law()
     ensures { OnDiskReads }
 {}
