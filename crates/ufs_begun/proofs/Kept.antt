@@ -84,9 +84,10 @@ module _ (sectors : ℕ) (disk : Image) (superblock : Super) (n : NamesPart) (fi
       let at = some_is (map.get files file) (b.opened.here inode file e) in
       (at.0, at.1, (facts.named sectors disk superblock n files free orphaned image b).once at.0.inode inode file (b.opened.read file at.0 at.1).inode e)
 
-  -- the tree has what the file was read to have
-  pub tree_has : (file : ℕ) (s : FileState) → map.get files file ≡ Some s → map.get t.bytes file ≡ Some s.content.bytes
-  tree_has file s at = has_bytes sectors disk (record { superblock = superblock; geometry = g; image = image }) c t n files b.opened.standing (facts.contents sectors disk superblock n files free orphaned image b) b.opened.table b.opened.read file s at
+  -- the tree has what the image has for a file
+  pub bytes_are : (file : ℕ) (s : FileState) → map.get files file ≡ Some s → bytes_of t.bytes file ≡ file_bytes image (c.forms s.inode)
+  bytes_are file s at = ap (λ (o : Option (List ℕ)). unwrap_or o [])
+      (has_bytes sectors disk (record { superblock = superblock; geometry = g; image = image }) c t n files b.opened.standing (facts.contents sectors disk superblock n files free orphaned image b) b.opened.table b.opened.read file s at)
 
   -- ---- blocks
 
@@ -169,9 +170,6 @@ module _ (sectors : ℕ) (disk : Image) (superblock : Super) (n : NamesPart) (fi
     inode_of_named file at =
         let there = some_is (map.get n.held file) (b.opened.names.told file ∙ held_has t b.opened.names.tree file (inl at)) in
         (there.0.inode, b.opened.names.inodes.inode file there.0 there.1)
-
-    pub bytes_are : (file : ℕ) (s : FileState) → map.get files file ≡ Some s → bytes_of t.bytes file ≡ file_bytes image (c.forms s.inode)
-    bytes_are file s at = ap (λ (o : Option (List ℕ)). unwrap_or o []) (tree_has file s at) ∙ (b.opened.read file s at).bytes
 
     shown : (file : ℕ) → IsNamed t.paths file → AlwaysShows l.blocks (shape_of c (m.inode file)) (bytes_of t.bytes file) [] 0
     shown file at =

@@ -1,13 +1,12 @@
 -- Whose each block is as a server begins, and how each file stands on its disk.
-use Rattle.std.proofs.Common.{◌≡◌, ◌≢◌, ℕ, ◌⊎◌, inl, inr, List, [], ◌∷◌, Bool, true, false, length, Option, Some, None, ap, sym, refl, ◌∙◌, subst, arith}
+use Rattle.std.proofs.Common.{◌≡◌, ◌≢◌, ℕ, ◌-◌, ◌*◌, ◌<◌, ◌⊎◌, inl, inr, List, [], ◌∷◌, Bool, true, false, length, take, Option, Some, None, ap, sym, refl, ◌∙◌, subst, arith}
 use Rattle.std.specs.Prelude.{◌==◌, if◌then◌else◌, nat_eq, unwrap_or}
 use Rattle.std.specs.Ordering.{nat_cmp}
 use Rattle.std.specs.List.{IsDistinct, slice_get}
 use Rattle.std.specs.FinMap as map
 use Rattle.std.specs.FinSet as set
 use Rattle.std.specs.FinSet.{contains-from_list_nat}
-use Rattle.std.proofs.lemmas.List.{append-nil, length-replicate}
-use Rattle.std.proofs.lemmas.Option.{slice_get_within}
+use Rattle.std.proofs.lemmas.List.{append-nil, get_or-take, length-take}
 use Rattle.ufs_base.specs.Images.{Image}
 use Rattle.ufs_bitmap.specs.Blocks.{BlockSet}
 use Rattle.ufs_bitmap.specs.Taking.{has}
@@ -21,14 +20,15 @@ use Rattle.ufs_durable.specs.State.{CommitState, DurableState, IsNoted, blocks_h
 use Rattle.ufs_durable.proofs.Wholes.{noted_as_whole}
 use Rattle.ufs_durable.proofs.Served.{has_at}
 use Rattle.ufs_extent.specs.Runs as runs
-use Rattle.ufs_file.specs.Content.{block_bytes}
+use Rattle.ufs_file.specs.Content.{own_bytes}
 use Rattle.ufs_file.specs.Hand.{FileState}
-use Rattle.ufs_file.proofs.ThereLemmas.{all_there}
 use Rattle.ufs_files.specs.Files.{Files}
 use Rattle.ufs_files.proofs.MapLemmas.{blocks_there}
-use Rattle.ufs_image.specs.Catalog.{Catalog, HasBlock, catalog_at}
+use Rattle.ufs_image.specs.Catalog.{Catalog, HasBlock, IsInode, catalog_at}
 use Rattle.ufs_image.specs.Images.{IsImageOf, block_at}
 use Rattle.ufs_image.specs.Nodes as nodes
+use Rattle.ufs_image.specs.Opens.{file_bytes}
+use Rattle.ufs_image.proofs.FilePlaces.{block_bytes_of}
 use Rattle.ufs_layout.specs.Superblock.{geometry_of}
 use Rattle.ufs_layout.specs.declared.geometry.Geometry.{Geometry}
 use Rattle.ufs_layout.specs.declared.superblock.Super.{Super}
@@ -229,9 +229,8 @@ module _ (sectors : ℕ) (disk : Image) (superblock : Super) (n : NamesPart) (fi
       runs = refl;
       size = refl;
       marks = laid.marks;
-      held = ap (λ (ms : List Bool). length ms) laid.there ∙ length-replicate {A = Bool} (length f.content.dirty) true;
-      written = λ place on. ap (λ (ms : List Bool). slice_get ms place) laid.there
-          ∙ all_there (length f.content.dirty) 0 (length f.content.dirty) (omega arith) place (omega arith) (slice_get_within f.content.dirty place true on);
+      held = laid.held;
+      written = laid.written;
       apart = record { absent = λ block there. has-none block; once = blocks_once };
     }
 
@@ -253,32 +252,46 @@ module _ (sectors : ℕ) (disk : Image) (superblock : Super) (n : NamesPart) (fi
         usable (OneFile file) block (λ e. cc) (record { hand = f; here = at; held = ap (λ (xs : List ℕ). has xs block) (held_is f) ∙ has_at (runs.blocks_of f.extents) place block there })
 
     module _ (whole : IsImageOf sectors image) where
-      only : (block : ℕ) (bytes : List ℕ) → block_at image block ≡ bytes → HaveOnly (block_at image block ∷ []) bytes
-      only block bytes same place byte under (inl e) = e ∙ ap (λ (xs : List ℕ). byte_at xs place) same
-      only block bytes same place byte under (inr e) = absurd e
+      -- the bytes that the image has for the file
+      abbrev bytes : List ℕ
+      bytes = file_bytes image (c.forms f.inode)
 
-      -- the tree has the file's bytes
-      tree_bytes : bytes_of t.bytes file ≡ f.content.bytes
-      tree_bytes = ap (λ (o : Option (List ℕ)). unwrap_or o [])
-          (kept.tree_has sectors disk superblock n files free orphaned image b file f at)
+      in_range : IsInode g f.inode
+      in_range = facts.inside sectors disk superblock n files free orphaned image b f.inode file number
+
+      -- Each of its blocks has on the image the file's own bytes there first.
+      own_shown : (place block : ℕ) → slice_get (runs.blocks_of f.extents) place ≡ Some block → HaveOnly (block_at image block ∷ []) (own_bytes bytes place)
+      own_shown place block there = only
+        where
+          rest : ℕ
+          rest = (c.forms f.inode).size - 4096 * place
+
+          same : own_bytes bytes place ≡ take rest (block_at image block)
+          same = block_bytes_of sectors image g c f.inode place block whole (facts.formed sectors disk superblock n files free orphaned image b).1 b.opened.standing.sound
+              (record { in_range = in_range; there = ap (λ (xs : List ℕ). slice_get xs place) (sym (b.opened.read file f at).blocks) ∙ there })
+
+          only : HaveOnly (block_at image block ∷ []) (own_bytes bytes place)
+          only i byte under (inl e) =
+              let low : i < rest = (let most = ap length same in omega (arith, under, most, length-take rest (block_at image block))) in
+              e ∙ sym (get_or-take rest (block_at image block) i 0 low) ∙ ap (λ (xs : List ℕ). byte_at xs i) (sym same)
+          only i byte under (inr e) = absurd e
 
       abbrev d_whole : DurableState
-      d_whole = whole_of f.content.bytes d
+      d_whole = whole_of bytes d
 
       stands : StandsFor l d_whole
       stands = record {
-        in_range = facts.inside sectors disk superblock n files free orphaned image b f.inode file number;
+        in_range = in_range;
         kind = facts.is_file sectors disk superblock n files free orphaned image b f.inode file number;
-        size = sym (kept.size_is sectors disk superblock n files free orphaned image b whole f.inode (facts.inside sectors disk superblock n files free orphaned image b f.inode file number))
-            ∙ ap (λ (xs : List ℕ). length xs) (sym (b.opened.read file f at).bytes);
+        size = sym (kept.size_is sectors disk superblock n files free orphaned image b whole f.inode in_range) ∙ (b.opened.read file f at).may.long;
         extents = (b.opened.laid file f at).extents;
         blocks = block_there;
-        clean = λ place block there off. only block (block_bytes f.content.bytes place) ((b.opened.laid file f at).shown place block there off);
+        clean = λ place block there off. own_shown place block there;
       }
 
       pub file_whole : IsFileWhole l m (whole_of (bytes_of t.bytes file) (durable_in p.commits f))
-      file_whole = subst (IsFileWhole l m) (sym (λ i. whole_of (tree_bytes i) (unknown f i))) (record {
-        noted = noted_as_whole d f.content.bytes noted (record { long = refl; same = λ place there. refl });
+      file_whole = subst (IsFileWhole l m) (sym (λ i. whole_of (kept.bytes_are sectors disk superblock n files free orphaned image b file f at i) (unknown f i))) (record {
+        noted = noted_as_whole d bytes noted (b.opened.read file f at).may;
         once = held_once;
         own = λ place block there. inl there;
         stored = inl (ap m.inode (b.opened.read file f at).number ∙ kept.has_number sectors disk superblock n files free orphaned image b f.inode file number, stands);

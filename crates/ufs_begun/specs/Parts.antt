@@ -1,5 +1,5 @@
 -- What a server on a disk begins with.
-use Rattle.std.specs.Prelude.{ℕ, ◌≡◌, ◌==◌, ◌↔◌, [], true, false, length, replicate, slice_get, IsSome, Some, None}
+use Rattle.std.specs.Prelude.{ℕ, ◌≡◌, ◌==◌, ◌↔◌, [], true, false, length, slice_get, IsSome, Some, None}
 use Rattle.std.specs.FinMap as map
 use Rattle.std.specs.FinMap.{from_entries}
 use Rattle.std.specs.FinSet as set
@@ -7,13 +7,11 @@ use Rattle.ufs_base.specs.Images.{Image}
 use Rattle.ufs_bitmap.specs.Blocks.{BlockSet}
 use Rattle.ufs_dir_tree.specs.DirTable.{IsReached}
 use Rattle.ufs_extent.specs.Runs.{blocks_of}
-use Rattle.ufs_file.specs.Content.{block_bytes}
 use Rattle.ufs_file.specs.Hand.{FileState}
 use Rattle.ufs_files.specs.Files.{AreFilesOf, Files}
 use Rattle.ufs_ilog.specs.Deltas.{extents_of}
 use Rattle.ufs_image.specs.Catalog.{Catalog, HasBlock, IsInode, catalog_at}
 use Rattle.ufs_image.specs.Changes.{IsTakenBlock}
-use Rattle.ufs_image.specs.Images.{block_at}
 use Rattle.ufs_image.specs.Opens.{walked}
 use Rattle.ufs_image.specs.Standing.{IsVolumeOf}
 use Rattle.ufs_image.specs.Volume.{Volume}
@@ -40,13 +38,13 @@ catalog_of v = catalog_at v.geometry v.image
 abbrev pub start_in : Volume → PosixTree
 start_in v = image_start (from_entries (walked v))
 
--- A file lies where its inode says, has a mark for each of its blocks, and is all in memory. A block that isn't marked has on the
--- image just what the file has there, with zeros behind the file's end.
-pub record IsLaid (image : Image) (c : Catalog) (s : FileState) : Type 0 where
+-- A file lies where its inode says, and has a mark for each of its blocks, and one that tells whether it is in memory, as what was
+-- written is.
+pub record IsLaid (c : Catalog) (s : FileState) : Type 0 where
   pub extents : (c.forms s.inode).extents ≡ extents_of s.extents
   pub marks : length s.content.dirty ≡ length (blocks_of s.extents)
-  pub there : s.content.there ≡ replicate (length s.content.dirty) true
-  pub shown : (place block : ℕ) → slice_get (blocks_of s.extents) place ≡ Some block → slice_get s.content.dirty place ≡ Some false → block_at image block ≡ block_bytes s.content.bytes place
+  pub held : length s.content.there ≡ length s.content.dirty
+  pub written : (place : ℕ) → slice_get s.content.dirty place ≡ Some true → slice_get s.content.there place ≡ Some true
 
 -- Names, files and free blocks are those of the image.
 pub record IsOpened (sectors : ℕ) (disk : Image) (v : Volume) (n : NamesPart) (files : Files) (free : BlockSet) : Type 0 where
@@ -59,7 +57,7 @@ pub record IsOpened (sectors : ℕ) (disk : Image) (v : Volume) (n : NamesPart) 
   pub parts : AreFilesOf files (start_in v)
   pub inodes : HaveInodes n.held files
   pub here : (inode file : ℕ) → file_at n.tree inode ≡ Some file → IsSome (map.get files file)
-  pub laid : (file : ℕ) (s : FileState) → map.get files file ≡ Some s → IsLaid v.image (catalog_of v) s
+  pub laid : (file : ℕ) (s : FileState) → map.get files file ≡ Some s → IsLaid (catalog_of v) s
   pub untaken : (block : ℕ) → set.contains free block ≡ true → IsDataBlock v.geometry block × (IsTakenBlock v.geometry (catalog_of v) block → ⊥)
   pub apart : AreApart n.tree.dirs files free
 
