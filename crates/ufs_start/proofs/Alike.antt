@@ -118,7 +118,7 @@ module _ (g : Geometry) (geometry : IsGeometry g) (one other : Image) (agree : A
     slots_there : slots_of one (form_at g one inode) ≡ slots_of other (form_at g one inode)
     slots_there = ap (enumerate_from 0) (flat_map-same (read_block one) (read_block other) (blocks_of (form_at g one inode)) read_there)
 
-    pub bytes_there : flat_map (block_at one) (blocks_of (form_at g one inode)) ≡ flat_map (block_at other) (blocks_of (form_at g one inode))
+    bytes_there : flat_map (block_at one) (blocks_of (form_at g one inode)) ≡ flat_map (block_at other) (blocks_of (form_at g one inode))
     bytes_there = flat_map-same (block_at one) (block_at other) (blocks_of (form_at g one inode)) (λ block is. block_same one other block (sectors_same block is))
 
   node_slots : (n : Node) → IsIn n (sound_nodes g one) → slots_of one n.1 ≡ slots_of other n.1

@@ -34,7 +34,7 @@ use Rattle.ufs_start.specs.declared.fault.StartFault.{StartFault}
 use Rattle.ufs_start.specs.declared.fault.StartFault.TheVariants.{Image, Unreached, Unnamed, ExtraBlocks}
 use Rattle.ufs_start.specs.declared.parts.Start.{Start}
 use Rattle.ufs_start.proofs.Alike.{IsUsedHere, form_same, metadata_here}
-use Rattle.ufs_start.proofs.Counterparts.{cut_off_there, free_there, laid_there, loaded_there, named_there, names_there, read_there, unnamed_there}
+use Rattle.ufs_start.proofs.Counterparts.{cut_off_there, free_there, laid_there, named_there, names_there, read_there, unnamed_there, unread_there}
 use Rattle.ufs_start.proofs.Lengths.{folded_alike}
 use Rattle.ufs_start.proofs.Volumes.{IsThere, all_copied, home_there, opens_there, standing_there, volume_sized}
 
@@ -106,7 +106,7 @@ module _ (copied sectors : ℕ) (copy image : images.Image) (is : IsCopyOf copie
           files = subst (λ (t : ImageTree). AreFilesOf s.files (image_start t)) tree begun.files;
           inodes = begun.inodes;
           here = begun.here;
-          loaded = loaded_there g limits one other agree sound s.names paths numbers s.files begun.read begun.loaded;
+          unread = unread_there g limits one other agree sound s.names paths numbers s.files begun.read begun.unread;
           laid = laid_there g limits one other agree sound s.names paths numbers s.files begun.read begun.laid;
           first = begun.first;
           blocks = begun.blocks;

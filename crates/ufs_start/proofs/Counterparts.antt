@@ -1,19 +1,19 @@
 -- What is said of names and files over an image's catalog is true over that of an image that agrees with it.
-use Rattle.std.proofs.Common.{◌≡◌, ℕ, List, [], Bool, true, false, Some, map, ap, sym, refl, ◌∙◌}
-use Rattle.std.specs.Prelude.{flat_map, ◌==◌, ◌&&◌, not, if◌then◌else◌, IsSome}
+use Rattle.std.proofs.Common.{◌≡◌, ℕ, List, [], Bool, true, false, Some, map, ap, sym, refl, ◌∙◌, subst}
+use Rattle.std.specs.Prelude.{◌==◌, ◌&&◌, not, if◌then◌else◌, IsSome}
 use Rattle.std.specs.FinMap as fin
 use Rattle.std.specs.List.{slice_get}
 use Rattle.ufs_base.specs.Images.{Image}
 use Rattle.ufs_bitmap.specs.Space.{is_between}
 use Rattle.ufs_dir_image.specs.Tables.{IsTableOf, is_free_inode}
 use Rattle.ufs_dir_tree.specs.DirTable.{DirTable}
-use Rattle.ufs_file.specs.Content.{block_count}
+use Rattle.ufs_file.specs.Content.{IsContentOf, block_count, unread}
 use Rattle.ufs_file.specs.Hand.{FileState}
 use Rattle.ufs_files.specs.Files.{Files}
 use Rattle.ufs_image.specs.Agree.{AgreeOn}
 use Rattle.ufs_image.specs.Catalog.{IsInode, catalog_at}
 use Rattle.ufs_image.specs.Changes.{IsUnreached}
-use Rattle.ufs_image.specs.Images.{block_at, form_at}
+use Rattle.ufs_image.specs.Images.{form_at}
 use Rattle.ufs_image.specs.Nodes as nodes
 use Rattle.ufs_image.specs.Sound.{IsSoundCatalog}
 use Rattle.ufs_image.specs.Nodes.{Node}
@@ -30,9 +30,9 @@ use Rattle.ufs_names_image.specs.Loaded.{AreRead}
 use Rattle.ufs_names_image.specs.Numbered.{IsNumberedAs}
 use Rattle.ufs_names_image.specs.Parts.{IsNamesOf}
 use Rattle.ufs_start.specs.Extents.{run_of}
-use Rattle.ufs_start.specs.Files.{AreLaid, AreLoaded, loaded}
+use Rattle.ufs_start.specs.Files.{AreLaid, AreUnread}
 use Rattle.ufs_start.specs.Refused.{IsCutOff, IsUnnamedFile}
-use Rattle.ufs_start.proofs.Alike.{IsUsedHere, bytes_there, file_there, form_same, met_same, nodes_same, number_is, slots_in_same}
+use Rattle.ufs_start.proofs.Alike.{IsUsedHere, file_there, form_same, met_same, nodes_same, number_is, slots_in_same}
 
 no_right : (b : Bool) → (b && false) ≡ false
 no_right true = refl
@@ -108,15 +108,12 @@ module _ (g : Geometry) (geometry : IsGeometry g) (one other : Image) (agree : A
       read_there file s got = let this = are file s got in record {
         number = this.number;
         inode = this.inode;
-        bytes = this.bytes ∙ file_there g geometry one other agree sound s.inode (of_file file s got);
+        may = subst (IsContentOf s.content) (file_there g geometry one other agree sound s.inode (of_file file s got)) this.may;
         blocks = this.blocks ∙ ap nodes.blocks_of (form_of file s got);
       }
 
-      pub loaded_there : AreLoaded one (catalog_at g one) files → AreLoaded other (catalog_at g other) files
-      loaded_there have file s got =
-          let form = form_of file s got in
-          let bytes = bytes_there g geometry one other agree s.inode (of_file file s got) (sound.in_data s.inode (of_file file s got)) ∙ ap (λ (f : InodeForm). flat_map (block_at other) (nodes.blocks_of f)) form in
-          have file s got ∙ (λ i. loaded (bytes i) (form i).size)
+      pub unread_there : AreUnread (catalog_at g one) files → AreUnread (catalog_at g other) files
+      unread_there have file s got = have file s got ∙ ap (λ (f : InodeForm). unread f.size) (form_of file s got)
 
       pub laid_there : AreLaid (catalog_at g one) files → AreLaid (catalog_at g other) files
       laid_there have file s got =

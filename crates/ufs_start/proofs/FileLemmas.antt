@@ -1,22 +1,23 @@
 -- Files that come to others, and the forms that were read.
-use Rattle.std.proofs.Common.{◌≡◌, ◌≢◌, ℕ, zero, suc, ◌+◌, ◌<◌, ◌≤◌, ◌⊎◌, inl, inr, List, [], ◌∷◌, Option, None, Some, length, get_or, slice_index_or, ap, sym, ◌∙◌, subst, arith}
-use Rattle.std.specs.Prelude.{IsSome, flat_map, unwrap_or}
+use Rattle.std.proofs.Common.{◌≡◌, ◌≢◌, ℕ, zero, suc, ◌+◌, ◌<◌, ◌≤◌, ◌⊎◌, inl, inr, List, [], ◌∷◌, Bool, true, false, Option, None, Some, length, replicate, get_or, slice_index_or, ap, sym, ◌∙◌, subst, arith}
+use Rattle.std.specs.Prelude.{IsSome, slice_get, unwrap_or}
 use Rattle.std.specs.Ordering.{nat_cmp}
 use Rattle.std.specs.FinMap as fin
+use Rattle.std.proofs.lemmas.List.{length-replicate}
 use Rattle.std.proofs.lemmas.List.FromFn.{get_or-map-range_with_len, length-map-range_with_len}
 use Rattle.ufs_base.specs.Images as images
+use Rattle.ufs_file.specs.Content.{Content, IsContentOf, block_count, unread}
 use Rattle.ufs_file.specs.Hand.{FileState}
 use Rattle.ufs_files.specs.Files.{Files}
 use Rattle.ufs_files.proofs.MapLemmas.{one_or_apart, put_here, put_else, is_here}
 use Rattle.ufs_image.specs.Catalog.{Catalog, IsInode}
-use Rattle.ufs_image.specs.Images.{block_at, inode_at, form_at}
-use Rattle.ufs_image.specs.Nodes as nodes
+use Rattle.ufs_image.specs.Images.{inode_at, form_at}
 use Rattle.ufs_layout.specs.InodeForm.{InodeForm, free_inode}
 use Rattle.ufs_layout.specs.declared.geometry.Geometry.{Geometry}
 use Rattle.ufs_model.proofs.Facts.Lookups.{same_some}
 use Rattle.ufs_names.specs.NamesPart.{NamesPart}
 use Rattle.ufs_names_image.specs.Loaded.{IsRead, AreRead}
-use Rattle.ufs_start.specs.Files.{AreFormsOf, AreLaid, AreLoaded, IsLaid, loaded}
+use Rattle.ufs_start.specs.Files.{AreFormsOf, AreLaid, AreUnread, IsLaid}
 use Rattle.ufs_start.specs.Refused.{NamesFile}
 use Rattle.ufs_start.specs.declared.fault.StartFault.{StartFault}
 use Rattle.ufs_start.specs.declared.fault.StartFault.TheVariants.{Image, Unreached, Unnamed, ExtraBlocks}
@@ -32,18 +33,38 @@ module _ (g : Geometry) (image : images.Image) (forms : List (Option InodeForm))
   pub form_there : (form : InodeForm) → Some form ≡ get_or forms at (Some form) → form_at g image inode ≡ form
   form_there form is = ap (λ (o : Option InodeForm). unwrap_or o (free_inode 0)) (inode_there (Some form) is)
 
+pub inode_within : (g : Geometry) (image : images.Image) (forms : List (Option InodeForm)) → AreFormsOf g image forms → (inode : ℕ) → 1 ≤ inode → inode ≤ length forms → IsInode g inode
+inode_within g image forms are inode from within = let count : length forms ≡ g.inodes = ap length are ∙ length-map-range_with_len (inode_at g image) 1 g.inodes in record { from_one = from; within = omega (arith, within, count) }
+
 -- the inode of the form at this place is one of the image's
 pub names_inode : (g : Geometry) (image : images.Image) (forms : List (Option InodeForm)) → AreFormsOf g image forms → (place : ℕ) → place < length forms → (fault : StartFault) → NamesFile (λ i. i ≡ place + 1) fault → NamesFile (IsInode g) fault
 names_inode g image forms are place within fault named = by fault named
   where
     there : (inode : ℕ) → inode ≡ place + 1 → IsInode g inode
-    there inode at = let count : length forms ≡ g.inodes = ap length are ∙ length-map-range_with_len (inode_at g image) 1 g.inodes in record { from_one = omega (arith, at); within = omega (arith, at, within, count) }
+    there inode at = inode_within g image forms are inode (omega (arith, at)) (omega (arith, at, within))
 
     by : (fault : StartFault) → NamesFile (λ i. i ≡ place + 1) fault → NamesFile (IsInode g) fault
     by (Image why) named = tt
     by (Unreached inode) named = tt
     by (Unnamed inode) named = tt
     by (ExtraBlocks inode) named = there inode named
+
+-- ---- a file of which nothing was read
+
+no_mark : (n k : ℕ) → slice_get (replicate n false) k ≡ Some true → ⊥
+no_mark zero k e = let no = e in cc
+no_mark (suc n) zero e = let no = e in cc
+no_mark (suc n) (suc k) e = no_mark n k e
+
+-- it may have any bytes of its size
+pub may_be : (c : Content) (size : ℕ) (bytes : List ℕ) → c ≡ unread size → length bytes ≡ size → IsContentOf c bytes
+may_be c size bytes is long = record {
+  long = long ∙ sym (ap (λ (x : Content). length x.bytes) is ∙ length-replicate {A = ℕ} size 0);
+  same = λ place there. absurd (no_mark (block_count size) place (sym (ap (λ (x : Content). slice_get x.there place) is) ∙ there));
+}
+
+pub marks_of : (c : Content) (size : ℕ) → c ≡ unread size → length c.dirty ≡ block_count size
+marks_of c size is = ap (λ (x : Content). length x.dirty) is ∙ length-replicate {A = Bool} (block_count size) false
 
 -- ---- one file more
 
@@ -62,9 +83,9 @@ module _ (files : Files) (file : ℕ) (s : FileState) where
     | inr old ↦ are other r old
   ]
 
-  pub loaded_with : (image : images.Image) (c : Catalog) → AreLoaded image c files → s.content ≡ loaded (flat_map (block_at image) (nodes.blocks_of (c.forms s.inode))) (c.forms s.inode).size → AreLoaded image c (fin.insert files file s)
-  loaded_with image c are is other r there = elim (met other r there) [
-    | inl new ↦ subst (λ (x : FileState). x.content ≡ loaded (flat_map (block_at image) (nodes.blocks_of (c.forms x.inode))) (c.forms x.inode).size) (sym new.1) is
+  pub unread_with : (c : Catalog) → AreUnread c files → s.content ≡ unread (c.forms s.inode).size → AreUnread c (fin.insert files file s)
+  unread_with c are is other r there = elim (met other r there) [
+    | inl new ↦ subst (λ (x : FileState). x.content ≡ unread (c.forms x.inode).size) (sym new.1) is
     | inr old ↦ are other r old
   ]
 
@@ -88,8 +109,8 @@ module _ (files : Files) (file : ℕ) (s : FileState) where
 pub none_read : (image : images.Image) (c : Catalog) (n : NamesPart) (files : Files) → files ≡ fin.empty → AreRead image c n files
 none_read image c n files none file s there = let empty = fin.get-empty {X = FileState} nat_cmp file in let was = ap (λ (fs : Files). fin.get fs file) none in cc
 
-pub none_loaded : (image : images.Image) (c : Catalog) (files : Files) → files ≡ fin.empty → AreLoaded image c files
-none_loaded image c files none file s there = let empty = fin.get-empty {X = FileState} nat_cmp file in let was = ap (λ (fs : Files). fin.get fs file) none in cc
+pub none_unread : (c : Catalog) (files : Files) → files ≡ fin.empty → AreUnread c files
+none_unread c files none file s there = let empty = fin.get-empty {X = FileState} nat_cmp file in let was = ap (λ (fs : Files). fin.get fs file) none in cc
 
 pub none_laid : (c : Catalog) (files : Files) → files ≡ fin.empty → AreLaid c files
 none_laid c files none file s there = let empty = fin.get-empty {X = FileState} nat_cmp file in let was = ap (λ (fs : Files). fin.get fs file) none in cc

@@ -24,7 +24,7 @@ use Rattle.ufs_names_image.specs.Parts.{IsNamesOf}
 use Rattle.ufs_names_image.specs.Starts.{image_start}
 use Rattle.ufs_one_hand.specs.OneHand.{IsStart, start_with}
 use Rattle.ufs_sound.specs.Parts as sound
-use Rattle.ufs_start.specs.Files.{AreLaid, AreLoaded}
+use Rattle.ufs_start.specs.Files.{AreLaid, AreUnread}
 use Rattle.ufs_start.specs.Starts.{tree_in}
 use Rattle.ufs_start.specs.declared.parts.Start.{Start}
 
@@ -66,7 +66,7 @@ pub record IsBegun (sectors : ℕ) (disk : Image) (s : Start) : Type 0 where
   pub files : AreFilesOf s.files (image_start (tree_under s.superblock disk))
   pub inodes : HaveInodes s.names.held s.files
   pub here : (inode file : ℕ) → file_at s.names.tree inode ≡ Some file → IsSome (map.get s.files file)
-  pub loaded : AreLoaded (image_under s.superblock disk) (catalog_under s.superblock disk) s.files
+  pub unread : AreUnread (catalog_under s.superblock disk) s.files
   pub laid : AreLaid (catalog_under s.superblock disk) s.files
   pub first : s.free.first ≡ first_of_data s.superblock.geometry
   pub blocks : s.free.blocks ≡ s.superblock.geometry.blocks

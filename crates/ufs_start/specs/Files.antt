@@ -1,16 +1,15 @@
--- The files of an image, as they are read.
-use Rattle.std.specs.Prelude.{ℕ, ◌≡◌, ◌-◌, not, List, map, flat_map, drop, take, length, Bool, if◌then◌else◌, Option, Some, None, slice_index_or}
+-- The files of an image, of which nothing was read.
+use Rattle.std.specs.Prelude.{ℕ, ◌≡◌, List, map, length, Option, Some, None, slice_index_or}
 use Rattle.std.specs.FinMap as fin
 use Rattle.ufs_base.specs.Images.{Image}
 use Rattle.ufs_extent.specs.Runs.{blocks_of}
-use Rattle.ufs_file.specs.Content.{Content, as_read, block_count, marked}
+use Rattle.ufs_file.specs.Content.{block_count, unread}
 use Rattle.ufs_file.specs.Hand.{FileState}
 use Rattle.ufs_files.specs.Files.{Files}
-use Rattle.ufs_image.specs.Catalog.{Catalog}
-use Rattle.ufs_image.specs.Images.{block_at, inode_at}
-use Rattle.ufs_image.specs.Nodes as nodes
+use Rattle.ufs_image.specs.Catalog.{Catalog, IsInode}
+use Rattle.ufs_image.specs.Images.{form_at, inode_at}
+use Rattle.ufs_image.specs.Opens.{file_bytes}
 use Rattle.ufs_layout.specs.Areas.{all_inodes}
-use Rattle.ufs_layout.specs.Words.{is_zeros}
 use Rattle.ufs_layout.specs.InodeForm.{InodeForm}
 use Rattle.ufs_layout.specs.declared.geometry.Geometry.{Geometry}
 use Rattle.ufs_name_tree.specs.NameTable.{NameTable, file_at}
@@ -26,18 +25,13 @@ HasNumbers t numbers = (inode file : ℕ) → slice_index_or numbers inode None 
 abbrev pub AreFormsOf : Geometry → Image → List (Option InodeForm) → Type 0
 AreFormsOf g image forms = forms ≡ map (inode_at g image) (all_inodes g)
 
--- other bytes than zeros stand behind the first so many
-abbrev pub has_rest : List ℕ → ℕ → Bool
-has_rest bytes size = not (is_zeros (drop size bytes))
+-- Each file has as many bytes on the image as its inode tells: its extents have room for them.
+abbrev pub AreSized : Geometry → Image → Type 0
+AreSized g image = (inode : ℕ) → IsInode g inode → (form_at g image inode).kind ≡ 1 → length (file_bytes image (form_at g image inode)) ≡ (form_at g image inode).size
 
--- What a file of so many bytes has of its blocks' bytes. Where other bytes than zeros stand behind its end, its last block is
--- to be written.
-abbrev pub loaded : List ℕ → ℕ → Content
-loaded bytes size = if has_rest bytes size then marked (as_read (take size bytes)) (block_count size - 1) else as_read (take size bytes)
-
--- Each file has what the image has in its inode's blocks.
-abbrev pub AreLoaded : Image → Catalog → Files → Type 0
-AreLoaded image c files = (file : ℕ) (s : FileState) → fin.get files file ≡ Some s → s.content ≡ loaded (flat_map (block_at image) (nodes.blocks_of (c.forms s.inode))) (c.forms s.inode).size
+-- Of no file anything was read: each has the size that its inode tells.
+abbrev pub AreUnread : Catalog → Files → Type 0
+AreUnread c files = (file : ℕ) (s : FileState) → fin.get files file ≡ Some s → s.content ≡ unread (c.forms s.inode).size
 
 -- A file lies where its inode says, in as many blocks as its size wants, and has a mark for each.
 pub record IsLaid (c : Catalog) (s : FileState) : Type 0 where

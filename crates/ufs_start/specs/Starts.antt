@@ -64,6 +64,10 @@ pub record AreStartNames (sectors : ℕ) (disk : Image) (g : Geometry) (image : 
   pub names : IsNamesOf g (catalog_at g image) (image_start (tree_in g image)) n
   pub part : IsNamesPart n (image_start (tree_in g image))
 
+-- And so they are of some image of which this was read.
+abbrev pub AreNamesOfSome : Geometry → CatalogRead → NamesPart → Type 0
+AreNamesOfSome g f n = (sectors : ℕ) × (disk : Image) × (superblock : Super) × (image : Image) × IsLoaded g f sectors disk superblock image × AreStartNames sectors disk g image n
+
 -- ---- laws
 
 -- Files that were read of the image are parts of its start, each with the inode that the names tell of it.

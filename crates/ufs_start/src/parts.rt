@@ -4,8 +4,8 @@ use ufs_files::FileHands;
 use ufs_hand::Parts;
 use ufs_names::Names;
 
-/// What a server begins with: the superblock, the namespace, the files with their bytes, and the free blocks of the
-/// data area.
+/// What a server begins with: the superblock, the namespace, the files, of which nothing is read, and the free blocks of
+/// the data area.
 #[derive(Drop)]
 pub struct Start {
     pub superblock: ImageSuperblock,

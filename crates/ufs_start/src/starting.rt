@@ -6,12 +6,14 @@ ghost use Rattle.ufs_base.specs.Images.{Image};
 ghost use Rattle.ufs_disk.specs.Bytes.{image_of};
 ghost use Rattle.ufs_disk.specs.Moments.{reads};
 ghost use Rattle.ufs_catalog.specs.Reading.{IsReadOnly};
+ghost use Rattle.ufs_damage.specs.Findings.{AreFindingsOf};
 ghost use Rattle.ufs_files.specs.Files.{AreFilesOf};
-ghost use Rattle.ufs_image.specs.Catalog.{IsInode};
+ghost use Rattle.ufs_image.specs.Catalog.{IsInode, catalog_at};
 ghost use Rattle.ufs_image.specs.Images.{form_at};
 ghost use Rattle.ufs_image.specs.Opens.{opens};
 ghost use Rattle.ufs_image.specs.Standing.{IsVolumeOf};
-ghost use Rattle.ufs_layout.specs.Areas.{first_of_data};
+ghost use Rattle.ufs_layout.specs.Areas.{IsGeometry, first_of_data};
+ghost use Rattle.ufs_layout.specs.declared.superblock.Super.{Super};
 ghost use Rattle.ufs_load_image.specs.Loaded.{is_free_block};
 ghost use Rattle.ufs_name_tree.specs.NameTable.{file_at};
 ghost use Rattle.ufs_names.specs.Calls.{HaveInodes};
@@ -20,13 +22,11 @@ ghost use Rattle.ufs_names.specs.Space.{AreApart};
 ghost use Rattle.ufs_names_image.specs.Loaded.{AreRead};
 ghost use Rattle.ufs_names_image.specs.Parts.{IsNamesOf};
 ghost use Rattle.ufs_names_image.specs.Starts.{image_start};
-ghost use Rattle.ufs_overlay.specs.Seen.{HasAdded};
-ghost use Rattle.ufs_volume.specs.Volumes.{committed_in};
 ghost use Rattle.ufs_start.specs.Begun.{IsBegun, catalog_under, image_under, session_start, tree_under, volume_under};
-ghost use Rattle.ufs_start.specs.Files.{AreLaid, AreLoaded};
+ghost use Rattle.ufs_start.specs.Files.{AreLaid, AreSized, AreUnread};
 ghost use Rattle.ufs_front.specs.Fronts.{bytes_of};
 ghost use Rattle.ufs_start.specs.Refused.{HasStartCause, IsRefusedFile, NamesFile, TellsNoStart};
-ghost use Rattle.ufs_start.specs.Starts.{AreStartNames, IsLoaded};
+ghost use Rattle.ufs_start.specs.Starts.{AreNamesOfSome, AreStartNames, IsLoaded};
 
 use crate::copy::copy_of;
 use crate::fault::StartFault;
@@ -43,35 +43,33 @@ use ufs_files::FileHands;
 use ufs_front::FrontDisk;
 use ufs_hand::{Opening, Parts};
 use ufs_image::damage_law;
+use ufs_layout::Geometry;
 use ufs_load_image::load;
 use ufs_names::Names;
 use ufs_names_image::{files_part_law, image_start_law};
-use ufs_volume::FoldedVolume;
 
-// The files of a volume in memory, by the numbers that its names tell.
+// The files of an image, by the numbers that its names tell.
 fn files_in(
     alloc: Global,
-    copy: &mut FrontDisk,
-    volume: &FoldedVolume,
+    geometry: &Geometry,
     findings: &Findings,
     names: &Names,
 ) -> Result<FileHands, StartFault>
-    requires added { HasAdded volume.now.overlay (committed_in volume.now (image_of (bytes_of copy.old))) }
-    requires loaded { IsLoaded volume.now.superblock.geometry findings.now copy.old.sectors (image_of (bytes_of copy.old)) volume.now.superblock.superblock (image_under volume.now.superblock (image_of (bytes_of copy.old))) }
-    requires names { AreStartNames copy.old.sectors (image_of (bytes_of copy.old)) volume.now.superblock.geometry (image_under volume.now.superblock (image_of (bytes_of copy.old))) names.now }
-    ensures read { IfOk result (AreRead (image_under volume.now.superblock (image_of (bytes_of copy.old))) (catalog_under volume.now.superblock (image_of (bytes_of copy.old))) names.now) }
+    requires geometry { IsGeometry geometry.now }
+    requires begun { AreNamesOfSome geometry.now findings.now names.now }
+    ensures read { (sectors : ℕ) (disk : Image) (superblock : Super) (image : Image) → IsLoaded geometry.now findings.now sectors disk superblock image → AreStartNames sectors disk geometry.now image names.now → AreSized geometry.now image
+        → IfOk result (AreRead image (catalog_at geometry.now image) names.now) }
     ensures here { (inode file : ℕ) → file_at names.now.tree inode ≡ Some file → IfOk result (λ files. IsSome (map.get files file)) }
-    ensures loaded { IfOk result (AreLoaded (image_under volume.now.superblock (image_of (bytes_of copy.old))) (catalog_under volume.now.superblock (image_of (bytes_of copy.old)))) }
-    ensures laid { IfOk result (AreLaid (catalog_under volume.now.superblock (image_of (bytes_of copy.old)))) }
-    ensures refused { IfErr result (IsRefusedFile (form_at volume.now.superblock.geometry (image_under volume.now.superblock (image_of (bytes_of copy.old))))) }
-    ensures named { IfErr result (NamesFile (IsInode volume.now.superblock.geometry)) }
+    ensures unread { (image : Image) → AreFindingsOf geometry.now image findings.now → IfOk result (AreUnread (catalog_at geometry.now image)) }
+    ensures laid { (image : Image) → AreFindingsOf geometry.now image findings.now → IfOk result (AreLaid (catalog_at geometry.now image)) }
     ensures calm { IfErr result (λ f. (count : ℕ) → HasStartCause count count f) }
+    ensures refused { (image : Image) → AreFindingsOf geometry.now image findings.now → IfErr result (IsRefusedFile (form_at geometry.now image)) }
+    ensures named { IfErr result (NamesFile (IsInode geometry.now)) }
 {
-    let geometry = &volume.superblock.geometry;
     damage_law(geometry);
     start_numbers_law();
     let numbers = numbers_of(alloc, geometry, findings)?;
-    files_of(alloc, copy, &volume.overlay, findings, &numbers.files)
+    files_of(alloc, findings, &numbers.files)
 }
 
 // What a session over the disk starts from, for contracts alone.
@@ -97,7 +95,7 @@ fn start_in(alloc: Global, copy: &mut FrontDisk) -> Result<Start, StartFault>
     let volume = &loaded.volume;
     damage_law(&volume.superblock.geometry);
     let names = names_in(alloc, &volume.superblock.geometry, &loaded.findings)?;
-    let files = files_in(alloc, copy, volume, &loaded.findings, &names)?;
+    let files = files_in(alloc, &volume.superblock.geometry, &loaded.findings, &names)?;
     Ok(Start {
         superblock: loaded.volume.superblock,
         names,
@@ -109,8 +107,8 @@ fn start_in(alloc: Global, copy: &mut FrontDisk) -> Result<Start, StartFault>
 
 /// Makes what a server begins with, over a copy of the image in memory. Refuses a disk that opens to no tree, and one
 /// with a file that a server can't hold or that no path names, or with a directory that has names and that no path leads
-/// to. Reads each sector up to the last block in use once, in calls of 4,096 bytes at most, and none behind it; writes
-/// nothing.
+/// to. Reads nothing of files beyond that copy, and has none of their bytes: where they lie and how long they are is known.
+/// Reads each sector up to the last block in use once, in calls of 4,096 bytes at most, and none behind it; writes nothing.
 pub fn start_of<D: Disk>(alloc: Global, disk: &mut D) -> Result<Start, StartFault>
     ensures standing { IsTrue D.visible → IfOk result (λ s. IsVolumeOf (D.size disk.old) (reads (D.moments disk.old)) (volume_under s.superblock (reads (D.moments disk.old))) (catalog_under s.superblock (reads (D.moments disk.old)))) }
     ensures opened { IsTrue D.visible → IfOk result (λ s. opens (D.size disk.old) (reads (D.moments disk.old)) ≡ Ok (tree_under s.superblock (reads (D.moments disk.old)))) }
@@ -122,7 +120,7 @@ pub fn start_of<D: Disk>(alloc: Global, disk: &mut D) -> Result<Start, StartFaul
     ensures begun { IfOk result (λ s. (image : Image) × IsBegun (D.size disk.old) image s × (IsTrue D.visible → image ≡ reads (D.moments disk.old))) }
     ensures inodes { IfOk result (λ s. HaveInodes s.names.held s.files) }
     ensures here { IfOk result (λ s. (inode file : ℕ) → file_at s.names.tree inode ≡ Some file → IsSome (map.get s.files file)) }
-    ensures loaded { IsTrue D.visible → IfOk result (λ s. AreLoaded (image_under s.superblock (reads (D.moments disk.old))) (catalog_under s.superblock (reads (D.moments disk.old))) s.files) }
+    ensures unread { IsTrue D.visible → IfOk result (λ s. AreUnread (catalog_under s.superblock (reads (D.moments disk.old))) s.files) }
     ensures first { IfOk result (λ s. s.free.first ≡ first_of_data s.superblock.geometry) }
     ensures blocks { IfOk result (λ s. s.free.blocks ≡ s.superblock.geometry.blocks) }
     ensures apart { IfOk result (λ s. AreApart s.names.tree.dirs s.files s.free.free) }

@@ -1,11 +1,11 @@
-use Rattle.std.proofs.Common.{◌≡◌, ◌+◌, ◌-◌, ℕ, Option, None, Some, get_or, slice_index_or, refl, rules, ap, sym, ◌∙◌, subst, arith}
-use Rattle.std.specs.Prelude.{IsSome, flat_map, map as list_map}
+use Rattle.std.proofs.Common.{◌≡◌, ◌+◌, ◌-◌, ℕ, Option, None, Some, get_or, length, slice_index_or, refl, rules, ap, sym, ◌∙◌, subst, arith}
+use Rattle.std.specs.Prelude.{IsSome, map as list_map}
 use Rattle.std.specs.FinMap as map
 use Rattle.std.proofs.lemmas.Result.{err_from_is_err_and}
-use Rattle.ufs_file.specs.Content.{block_count}
+use Rattle.ufs_file.specs.Content.{block_count, unread}
 use Rattle.ufs_files.specs.Files.{Files}
 use Rattle.ufs_image.specs.Catalog.{catalog_at}
-use Rattle.ufs_image.specs.Images.{block_at, form_at}
+use Rattle.ufs_image.specs.Images.{form_at}
 use Rattle.ufs_image.specs.Nodes as nodes
 use Rattle.ufs_image.specs.Opens.{file_bytes}
 use Rattle.ufs_layout.specs.InodeForm.{InodeForm}
@@ -13,12 +13,12 @@ use Rattle.ufs_model.proofs.Facts.Lookups.{same_some}
 use Rattle.ufs_name_tree.specs.NameTable.{file_at}
 use Rattle.ufs_names_image.specs.Loaded.{AreRead}
 use Rattle.ufs_start.specs.Extents.{run_of}
-use Rattle.ufs_start.specs.Files.{AreLaid, AreLoaded, loaded}
-use Rattle.ufs_start.proofs.FileLemmas.{form_there, here_with, kept_with, laid_with, loaded_with, read_with}
+use Rattle.ufs_start.specs.Files.{AreLaid, AreUnread}
+use Rattle.ufs_start.proofs.FileLemmas.{form_there, here_with, inode_within, kept_with, laid_with, marks_of, may_be, read_with, unread_with}
 use Rattle.ufs_start.proofs.files.add_file.Goals as goal
 
 pub returns-in_err-hand-clause-refused : goal.returns-in_err-hand-clause-refused
-returns-in_err-hand-clause-refused g c geometry image are =
+returns-in_err-hand-clause-refused c geometry image are =
     let inode = c.args.inode in
     let at : inode - 1 + 1 ≡ inode = let from = c.requires.from_one in omega (arith, from) in
     let p = err_from_is_err_and c.from_residual.result c.from_residual.ensures.1 in
@@ -27,13 +27,13 @@ returns-in_err-hand-clause-refused g c geometry image are =
     (sym c.in-Some-forms.is ∙ c.index-forms-inode.is ∙ ap (λ (o : Option InodeForm). get_or c.args.forms.now (inode - 1) o) c.in-Some-forms.is)))
 
 pub returns-clause-kept : goal.returns-clause-kept
-returns-clause-kept g c file was =
+returns-clause-kept c file was =
     let files : Files = c.args.files.now in
     let h = c.in_ok-hand.hand in
     subst (λ (fs : Files). IsSome (map.get fs file)) (sym c.in_ok-insert.ensures.ok) (kept_with files h.file h file was)
 
 pub returns-clause-here : goal.returns-clause-here
-returns-clause-here g c file number =
+returns-clause-here c file number =
     let files : Files = c.args.files.now in
     let h = c.in_ok-hand.hand in
     let given : slice_index_or c.args.numbers.now c.args.inode None ≡ Some c.in-Some.file = search (rules, c.in-Some.is) in
@@ -42,7 +42,7 @@ returns-clause-here g c file number =
     (subst (λ f. IsSome (map.get (map.insert files h.file h) f)) (c.in_ok-hand.ensures.file ∙ sym same) (here_with files h.file h))
 
 pub returns-clause-read : goal.returns-clause-read
-returns-clause-read g c visible geometry image n is are numbered before =
+returns-clause-read c geometry image n are numbered sized before =
     let files : Files = c.args.files.now in
     let inode = c.args.inode in
     let h = c.in_ok-hand.hand in
@@ -52,16 +52,18 @@ returns-clause-read g c visible geometry image n is are numbered before =
     let form : form_at geometry image inode ≡ c.in-Some-forms.form = form_there geometry image c.args.forms.now are inode (inode - 1) at c.requires.form c.in-Some-forms.form
     (sym c.in-Some-forms.is ∙ c.index-forms-inode.is ∙ ap (λ (o : Option InodeForm). get_or c.args.forms.now (inode - 1) o) c.in-Some-forms.is) in
     let here : c.in-Some-forms.form ≡ form_at geometry image h.inode = sym form ∙ ap (form_at geometry image) (sym e.inode) in
+    let long = sized inode (inode_within geometry image c.args.forms.now are inode c.requires.from_one c.requires.form) (ap (λ (f : InodeForm). f.kind) form ∙ e.kind) in
     subst (λ (fs : Files). AreRead image (catalog_at geometry image) n fs) (sym c.in_ok-insert.ensures.ok)
     (read_with files h.file h image (catalog_at geometry image) n before (record {
       number = refl;
       inode = ap (file_at n.tree) e.inode ∙ numbered inode c.in-Some.file given ∙ ap {B = Option ℕ} Some (sym e.file);
-      bytes = e.bytes visible image is ∙ ap (file_bytes image) here;
+      may = may_be h.content c.in-Some-forms.form.size (file_bytes image (form_at geometry image h.inode)) e.content
+          (ap (λ (f : InodeForm). length (file_bytes image f)) (sym here ∙ sym form) ∙ long ∙ ap (λ (f : InodeForm). f.size) form);
       blocks = e.blocks ∙ ap nodes.blocks_of here;
     }))
 
-pub returns-clause-loaded : goal.returns-clause-loaded
-returns-clause-loaded g c visible geometry image is are before =
+pub returns-clause-unread : goal.returns-clause-unread
+returns-clause-unread c geometry image are before =
     let inode = c.args.inode in
     let h = c.in_ok-hand.hand in
     let e = c.in_ok-hand.ensures in
@@ -69,12 +71,11 @@ returns-clause-loaded g c visible geometry image is are before =
     let form : form_at geometry image inode ≡ c.in-Some-forms.form = form_there geometry image c.args.forms.now are inode (inode - 1) at c.requires.form c.in-Some-forms.form
     (sym c.in-Some-forms.is ∙ c.index-forms-inode.is ∙ ap (λ (o : Option InodeForm). get_or c.args.forms.now (inode - 1) o) c.in-Some-forms.is) in
     let here : c.in-Some-forms.form ≡ form_at geometry image h.inode = sym form ∙ ap (form_at geometry image) (sym e.inode) in
-    subst (AreLoaded image (catalog_at geometry image)) (sym c.in_ok-insert.ensures.ok)
-    (loaded_with c.args.files.now h.file h image (catalog_at geometry image) before
-    (e.loaded visible image is ∙ ap (λ (f : InodeForm). loaded (flat_map (block_at image) (nodes.blocks_of f)) f.size) here))
+    subst (AreUnread (catalog_at geometry image)) (sym c.in_ok-insert.ensures.ok)
+    (unread_with c.args.files.now h.file h (catalog_at geometry image) before (e.content ∙ ap (λ (f : InodeForm). unread f.size) here))
 
 pub returns-clause-laid : goal.returns-clause-laid
-returns-clause-laid g c geometry image are before =
+returns-clause-laid c geometry image are before =
     let inode = c.args.inode in
     let h = c.in_ok-hand.hand in
     let e = c.in_ok-hand.ensures in
@@ -86,5 +87,5 @@ returns-clause-laid g c geometry image are before =
     (laid_with c.args.files.now h.file h (catalog_at geometry image) before (record {
       extents = e.runs ∙ ap (λ (f : InodeForm). list_map run_of f.extents) here;
       count = e.count ∙ ap (λ (f : InodeForm). block_count f.size) here;
-      marks = e.marks;
+      marks = marks_of h.content c.in-Some-forms.form.size e.content ∙ sym e.count;
     }))

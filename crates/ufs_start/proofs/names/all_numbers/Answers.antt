@@ -1,4 +1,4 @@
-use Rattle.std.proofs.Common.{◌≡◌, ℕ, ◌≤◌, List, Option, length, ap, sym, ◌∙◌, subst, arith}
+use Rattle.std.proofs.Common.{◌≡◌, ◌≤◌, List, Option, length, ap, sym, ◌∙◌, subst, arith}
 use Rattle.ufs_image.specs.Catalog.{catalog_at}
 use Rattle.ufs_layout.specs.InodeForm.{InodeForm}
 use Rattle.ufs_start.specs.Numbers.{is_unnamed_in}

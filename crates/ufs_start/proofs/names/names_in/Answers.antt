@@ -1,4 +1,4 @@
-use Rattle.std.proofs.Common.{◌≡◌, ℕ, Option, None, List, get_or, ap, sym, ◌∙◌, subst}
+use Rattle.std.proofs.Common.{ℕ, Option, None, List, sym, subst}
 use Rattle.std.specs.Prelude.{IsSome, slice_index_or}
 use Rattle.ufs_image.specs.Catalog.{catalog_at}
 use Rattle.ufs_start.proofs.names.names_in.Goals as goal

@@ -1,4 +1,4 @@
-use Rattle.std.proofs.Common.{◌≡◌, ℕ, ◌*◌, [], false, ap, refl, sym, ◌∙◌, subst, arith}
+use Rattle.std.proofs.Common.{◌≡◌, ℕ, ◌*◌, [], true, false, length, ap, refl, ◌∙◌, arith}
 use Rattle.std.specs.Prelude.{Result}
 use Rattle.std.specs.FinSet as set
 use Rattle.std.proofs.lemmas.Result.{err_from_is_err_and}
@@ -6,20 +6,17 @@ use Rattle.ufs_base.specs.Images.{Image}
 use Rattle.ufs_bitmap.specs.Space.{is_between}
 use Rattle.ufs_disk.specs.Bytes.{image_of}
 use Rattle.ufs_disk.specs.Whole.{sector_within}
-use Rattle.ufs_image.specs.Images.{form_at}
 use Rattle.ufs_image.specs.Nodes.{is_taken, sound_nodes}
 use Rattle.ufs_image.specs.Opens.{ImageTree}
 use Rattle.ufs_image.specs.Volume.{Refusal}
-use Rattle.ufs_layout.specs.Areas.{first_of_data}
+use Rattle.ufs_layout.specs.Areas.{first_of_data, is_data_sector}
 use Rattle.ufs_ledger.specs.Kept.{paths_of}
+use Rattle.ufs_opening.proofs.Lengths.{file_sized}
 use Rattle.ufs_one_hand.specs.OneHand.{start_with}
-use Rattle.ufs_overlay.specs.Seen.{HasAdded}
-use Rattle.ufs_volume.specs.Volumes.{committed_in}
 use Rattle.ufs_names_image.specs.Loaded.{AreRead, IsUntaken}
 use Rattle.ufs_names_image.specs.Starts.{image_start}
 use Rattle.ufs_start.specs.Begun.{catalog_under, image_under, tree_or, tree_under, volume_under}
-use Rattle.ufs_start.specs.Files.{AreLaid, AreLoaded}
-use Rattle.ufs_start.specs.Refused.{IsRefusedFile}
+use Rattle.ufs_start.specs.Files.{AreSized}
 use Rattle.ufs_start.specs.Starts.{AreStartNames, IsLoaded, IsUndamaged}
 use Rattle.ufs_start.proofs.Beginning.{calm_names, few_files, is_loaded, refused_file, refused_names, sized_there, untaken}
 use Rattle.ufs_front.specs.Fronts.{bytes_of}
@@ -33,27 +30,15 @@ names_in-requires-clause-loaded c =
     let disk : Image = image_of (bytes_of c.args.copy.now) in
     (c.args.copy.now.sectors, disk, l.volume.superblock.superblock, image_under l.volume.superblock disk, is_loaded l.volume l.findings c.args.copy.now.sectors disk (e.taken refl) (e.catalog refl) (e.sound refl) (e.found refl))
 
-pub files_in-requires-clause-added : goal.files_in-requires-clause-added
-files_in-requires-clause-added c =
-    let v = c.in_ok-loaded.loaded.volume in
-    subst (λ (d : Image). HasAdded v.overlay (committed_in v d)) (sym (c.load.ensures.read_only refl).content) (c.in_ok-loaded.ensures.added refl)
-
-pub files_in-requires-clause-loaded : goal.files_in-requires-clause-loaded
-files_in-requires-clause-loaded c =
+pub files_in-requires-clause-begun : goal.files_in-requires-clause-begun
+files_in-requires-clause-begun c =
     let l = c.in_ok-loaded.loaded in
     let e = c.in_ok-loaded.ensures in
     let h = l.volume.superblock in
     let disk : Image = image_of (bytes_of c.args.copy.now) in
-    subst (λ (d : Image). IsLoaded h.geometry l.findings c.load.new.disk.sectors d h.superblock (image_under h d)) (sym (c.load.ensures.read_only refl).content)
-    (subst (λ (n : ℕ). IsLoaded h.geometry l.findings n disk h.superblock (image_under h disk)) (sym c.load.ensures.size)
-    (is_loaded l.volume l.findings c.args.copy.now.sectors disk (e.taken refl) (e.catalog refl) (e.sound refl) (e.found refl)))
-
-pub files_in-requires-clause-names : goal.files_in-requires-clause-names
-files_in-requires-clause-names c =
-    let l = c.in_ok-loaded.loaded in
-    let h = l.volume.superblock in
-    let disk : Image = image_of (bytes_of c.load.new.disk) in
-    c.in_ok-names.ensures.names c.load.new.disk.sectors disk h.superblock (image_under h disk) (files_in-requires-clause-loaded c)
+    let loaded : IsLoaded h.geometry l.findings c.args.copy.now.sectors disk h.superblock (image_under h disk) =
+    is_loaded l.volume l.findings c.args.copy.now.sectors disk (e.taken refl) (e.catalog refl) (e.sound refl) (e.found refl) in
+    (c.args.copy.now.sectors, disk, h.superblock, image_under h disk, loaded, c.in_ok-names.ensures.names c.args.copy.now.sectors disk h.superblock (image_under h disk) loaded)
 
 pub returns-clause-begun : goal.returns-clause-begun
 returns-clause-begun c =
@@ -69,9 +54,10 @@ returns-clause-begun c =
     let loaded : IsLoaded h.geometry l.findings sectors disk h.superblock image = is_loaded v l.findings sectors disk (e.taken refl) (e.catalog refl) (e.sound refl) (e.found refl) in
     let undamaged : IsUndamaged h.geometry image l.findings = record { found = loaded.found; whole = (c.damage_law.ensures.whole image (catalog_under h disk) loaded.standing.catalog loaded.standing.sound).1 } in
     let start : AreStartNames sectors disk h.geometry image n = c.in_ok-names.ensures.names sectors disk h.superblock image loaded in
-    let read : AreRead image (catalog_under h disk) n files = subst (λ (d : Image). AreRead (image_under h d) (catalog_under h d) n files) (c.load.ensures.read_only refl).content c.in_ok-files.ensures.read in
-    let laid : AreLaid (catalog_under h disk) files = subst (λ (d : Image). AreLaid (catalog_under h d) files) (c.load.ensures.read_only refl).content c.in_ok-files.ensures.laid in
-    let contents : AreLoaded image (catalog_under h disk) files = subst (λ (d : Image). AreLoaded (image_under h d) (catalog_under h d) files) (c.load.ensures.read_only refl).content c.in_ok-files.ensures.loaded in
+    let long : (sector : ℕ) → is_data_sector h.geometry sector ≡ true → length (image sector) ≡ 512 = λ sector within. sized_there v sectors disk (e.taken refl) e.large
+    (λ k less. (sector_within (bytes_of c.args.copy.now) k (padded_small (512 * c.args.copy.now.sectors) c.args.copy.now.held.items c.args.copy.now.small_bytes) (let long = padded_sized (512 * c.args.copy.now.sectors) c.args.copy.now.held.items c.args.copy.now.within in omega (arith, long, less))).sized) sector within in
+    let sized : AreSized h.geometry image = λ inode inside file. file_sized h.geometry image long loaded.standing.sound inode inside in
+    let read : AreRead image (catalog_under h disk) n files = c.in_ok-files.ensures.read sectors disk h.superblock image loaded start sized in
     let parts = c.start_files_law.ensures.parts h.geometry l.findings sectors disk h.superblock image n files loaded start read in
     let free : IsUntaken h.geometry (catalog_under h disk) l.free.free =
     c.files_part_law.ensures.free disk (volume_under h disk) (catalog_under h disk) l.free.free loaded.standing
@@ -79,8 +65,7 @@ returns-clause-begun c =
     let session : c.session_parts-parts.result.start ≡ start_with (paths_of (tree_under h disk)) = c.session_parts-parts.ensures ∙ ap (λ (r : Result ImageTree Refusal). start_with (paths_of (tree_or r))) start.opened in
     record {
       standing = loaded.standing;
-      sized = λ sector within. sized_there v sectors disk (e.taken refl) e.large
-          (λ k less. (sector_within (bytes_of c.args.copy.now) k (padded_small (512 * c.args.copy.now.sectors) c.args.copy.now.held.items c.args.copy.now.small_bytes) (let long = padded_sized (512 * c.args.copy.now.sectors) c.args.copy.now.held.items c.args.copy.now.within in omega (arith, long, less))).sized) sector within;
+      sized = long;
       opened = start.opened;
       table = start.names;
       names = start.part;
@@ -91,8 +76,8 @@ returns-clause-begun c =
       files = parts.0;
       inodes = parts.1;
       here = c.in_ok-files.ensures.here;
-      loaded = contents;
-      laid = laid;
+      unread = c.in_ok-files.ensures.unread image loaded.found;
+      laid = c.in_ok-files.ensures.laid image loaded.found;
       first = e.first;
       blocks = e.blocks;
       free = e.free refl;
@@ -108,10 +93,9 @@ returns-in_err-files-clause-refused c =
     let e = c.in_ok-loaded.ensures in
     let v = l.volume in
     let disk : Image = image_of (bytes_of c.args.copy.now) in
-    let standing = (is_loaded v l.findings c.args.copy.now.sectors disk (e.taken refl) (e.catalog refl) (e.sound refl) (e.found refl)).standing in
-    rw (p.1, p.2) (refused_file v c.args.copy.now.sectors disk standing c.in_err-files.field-0.0
-    (subst (λ (d : Image). IsRefusedFile (form_at v.superblock.geometry (image_under v.superblock d)) c.in_err-files.field-0.0) (c.load.ensures.read_only refl).content c.in_err-files.ensures.refused)
-    c.in_err-files.ensures.named)
+    let loaded = is_loaded v l.findings c.args.copy.now.sectors disk (e.taken refl) (e.catalog refl) (e.sound refl) (e.found refl) in
+    rw (p.1, p.2) (refused_file v c.args.copy.now.sectors disk loaded.standing c.in_err-files.field-0.0
+    (c.in_err-files.ensures.refused (image_under v.superblock disk) loaded.found) c.in_err-files.ensures.named)
 
 pub returns-in_err-names-clause-refused : goal.returns-in_err-names-clause-refused
 returns-in_err-names-clause-refused c =

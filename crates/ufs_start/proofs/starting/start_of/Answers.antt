@@ -28,8 +28,8 @@ returns-clause-files g c visible = part_there _ _ _ _ (c.in_ok-copy.ensures.copi
 pub returns-clause-free : goal.returns-clause-free
 returns-clause-free g c visible = part_there _ _ _ _ (c.in_ok-copy.ensures.copied visible) c.start_in.result c.start_in.ensures.begun _ (λ (s : Start) begun. begun.free)
 
-pub returns-clause-loaded : goal.returns-clause-loaded
-returns-clause-loaded g c visible = part_there _ _ _ _ (c.in_ok-copy.ensures.copied visible) c.start_in.result c.start_in.ensures.begun _ (λ (s : Start) begun. begun.loaded)
+pub returns-clause-unread : goal.returns-clause-unread
+returns-clause-unread g c visible = part_there _ _ _ _ (c.in_ok-copy.ensures.copied visible) c.start_in.result c.start_in.ensures.begun _ (λ (s : Start) begun. begun.unread)
 
 pub returns-clause-begun : goal.returns-clause-begun
 returns-clause-begun g c =
