@@ -11,8 +11,8 @@ use ufs_layout::Super;
 use ufs_path::read_path;
 use ufs_start::{Start, start_of};
 
-// The inode, the size and the first byte of a file.
-type Told = (u32, u64, u8);
+// The inode and the size of a file, and whether its first block is in memory.
+type Told = (u32, u64, bool);
 
 fn counted(disk: PlainDisk) -> CountedDisk {
     CountedDisk {
@@ -40,11 +40,7 @@ fn start_on(alloc: Global, disk: &mut CountedDisk) -> Option<Start> {
 
 fn told(files: &FileHands, file: u32) -> Option<Told> {
     let hand = files.get(file)?;
-    let block = hand.block(0)?;
-    if block.is_empty() {
-        return None;
-    }
-    Some((hand.inode(), hand.size(), block[0]))
+    Some((hand.inode(), hand.size(), hand.is_there(0)?))
 }
 
 // The superblock and the number of free blocks of a start on a disk of so many sectors.
@@ -103,7 +99,7 @@ fn a_start_on_a_larger_disk_is_the_same(rt: HostRuntime) -> Result<(), Fail> {
     let alloc = rt.alloc();
     assert!(rt; heads(alloc, 1024).is_some());
     assert!(rt; heads(alloc, 1024) == heads(alloc, 512));
-    assert!(rt; file_told(alloc, 1024, 0) == Some((4, 5000, 7)));
+    assert!(rt; file_told(alloc, 1024, 0) == Some((4, 5000, false)));
     assert!(rt; file_told(alloc, 1024, 0) == file_told(alloc, 512, 0));
     assert!(rt; file_told(alloc, 1024, 1) == file_told(alloc, 512, 1));
     assert!(rt; found(alloc, 1024, b"/d/g") == found(alloc, 512, b"/d/g"));

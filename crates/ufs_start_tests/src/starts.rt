@@ -26,15 +26,11 @@ fn found(alloc: Global, path: &[u8]) -> Option<Found> {
     }
 }
 
-// The inode, the size and the first byte of a file.
-fn kept(alloc: Global, number: u32) -> Option<(u32, u64, u8)> {
+// The inode and the size of a file, and whether its first block is in memory.
+fn kept(alloc: Global, number: u32) -> Option<(u32, u64, bool)> {
     let start = started(alloc)?;
     let hand = start.files.get(number)?;
-    let block = hand.block(0)?;
-    if block.is_empty() {
-        return None;
-    }
-    Some((hand.inode(), hand.size(), block[0]))
+    Some((hand.inode(), hand.size(), hand.is_there(0)?))
 }
 
 fn free_count(alloc: Global) -> Option<u32> {
@@ -89,8 +85,8 @@ fn paths_stand_for_their_inodes(rt: HostRuntime) -> Result<(), Fail> {
 // They have numbers by rising path. Of the 52 blocks for data two are of directories and three of files.
 #[test]
 fn files_are_here_and_what_nobody_has_is_free(rt: HostRuntime) -> Result<(), Fail> {
-    assert!(rt; kept(rt.alloc(), 0) == Some((4, 5000, 7)));
-    assert!(rt; kept(rt.alloc(), 1) == Some((3, 5, 0)));
+    assert!(rt; kept(rt.alloc(), 0) == Some((4, 5000, false)));
+    assert!(rt; kept(rt.alloc(), 1) == Some((3, 5, false)));
     assert!(rt; kept(rt.alloc(), 2) == None);
     assert!(rt; free_count(rt.alloc()) == Some(47));
     Ok(())
