@@ -1,5 +1,5 @@
--- Images that agree on what one of them uses have the same inodes, directories and damage.
-use Rattle.std.proofs.Common.{◌≡◌, ℕ, ◌<◌, inl, inr, List, [], ◌∷◌, ◌++◌, Bool, true, false, Option, map, unwrap_or, take, ap, sym, refl, ◌∙◌, subst, arith}
+-- Images that agree on what the names of one of them use have the same inodes, directories and damage.
+use Rattle.std.proofs.Common.{◌≡◌, ℕ, ◌<◌, inl, inr, List, [], ◌∷◌, ◌++◌, Bool, true, false, Option, map, unwrap_or, ap, sym, refl, ◌∙◌, subst, arith}
 use Rattle.std.specs.Prelude.{flat_map, filter, ◌==◌, ◌&&◌, ◌||◌, not, nat_le, if◌then◌else◌}
 use Rattle.std.specs.List.{filter_map, cons_option, list_any, enumerate_from, AllByRecursion}
 use Rattle.std.proofs.lemmas.Bool.{and_parts}
@@ -12,14 +12,13 @@ use Rattle.ufs_layout.specs.DentryForm.{DentryForm, free_slot}
 use Rattle.ufs_layout.specs.declared.geometry.Geometry.{Geometry}
 use Rattle.ufs_layout.proofs.Spelled.{some_if-some}
 use Rattle.ufs_image.specs.Agree.{AgreeOn, IsMetadata, IsOfBlock}
-use Rattle.ufs_image.specs.Catalog.{IsInode, catalog_at, slots_in}
+use Rattle.ufs_image.specs.Catalog.{IsDirBlock, IsInode, catalog_at, slots_in}
 use Rattle.ufs_image.specs.Damage.{Damage, BadInode, BadExtent, BadDentry, FreeInode, NameTwice, TwoNames, bad_tree, block_damage, has_two_names, inode_damage, is_bad_dentry, is_name_twice, lowest_blamed, name_damage, names_no_inode, tree_damage}
-use Rattle.ufs_image.specs.Images.{block_at, form_at, inode_at}
+use Rattle.ufs_image.specs.Images.{form_at, inode_at}
 use Rattle.ufs_image.specs.Nodes.{Dir, NamedSlot, Node, ReadSlot, blocks_of, dirs_of, is_bad_extent, is_bad_form, is_bad_inode, kind_at, leaves_data, names_of, read_block, slots_of, sound_node, sound_nodes}
-use Rattle.ufs_image.specs.Opens.{file_bytes}
 use Rattle.ufs_image.specs.Sound.{IsInData, IsSoundCatalog}
 use Rattle.ufs_image.specs.Walks.{inode_of as met_at}
-use Rattle.ufs_image.proofs.Blocks.{block_same, read_same}
+use Rattle.ufs_image.proofs.Blocks.{read_same}
 use Rattle.ufs_image.proofs.Changed.{walks_same}
 use Rattle.ufs_image.proofs.Depth.{has_root, root_in_range}
 use Rattle.ufs_image.proofs.Found.{reached}
@@ -42,6 +41,9 @@ number_is g inode e =
     let low = parts.0 in
     let high = parts.1 in
     record { from_one = grind (arith, nat_tests, low); within = grind (arith, nat_tests, high) }
+
+two : (kind : ℕ) → (kind == 2) ≡ true → kind ≡ 2
+two kind e = grind (arith, nat_tests, e)
 
 -- of a sound node
 none_leave : (bad leave used : Bool) → (not bad && (not (not bad && leave) && used)) ≡ true → leave ≡ false
@@ -69,7 +71,7 @@ dentries image block = map (λ o. unwrap_or o free_slot) (read_block image block
 abbrev slots_by : Image → InodeForm → List DentryForm
 slots_by image form = if form.kind == 2 then flat_map (dentries image) (blocks_of form) else []
 
--- of the sectors of the geometry, those that the image uses
+-- of the sectors of the geometry, those that the image's names use
 abbrev pub IsUsedHere : Geometry → Image → ℕ → Type 0
 IsUsedHere g image sector = (sector < sector_count g) × IsUsedIn g image sector
 
@@ -103,14 +105,15 @@ module _ (g : Geometry) (geometry : IsGeometry g) (one other : Image) (agree : A
 
   -- ---- blocks
 
-  module _ (inode : ℕ) (in_range : IsInode g inode) (stay : AllByRecursion (IsInData g) (form_at g one inode).extents) where
+  module _ (inode : ℕ) (in_range : IsInode g inode) (stay : AllByRecursion (IsInData g) (form_at g one inode).extents) (dir : (form_at g one inode).kind ≡ 2) where
     sectors_same : (block : ℕ) → IsIn block (blocks_of (form_at g one inode)) → AgreeOn (IsOfBlock block) one other
     sectors_same block is sector of =
         let within = (block_in_data g (form_at g one inode).extents block stay is).1 in
         let slot = of.in_block in
         let at = of.same in
         let place = place_of_in block (blocks_of (form_at g one inode)) is in
-        agree sector (omega (arith, slot, at, within), inr (record { inode = inode; in_range = in_range; of_form = record { place = place.0; block = block; there = place.1; of_block = of } }))
+        let has : IsDirBlock g (catalog_at g one) block = record { inode = inode; place = place.0; has = record { in_range = in_range; there = place.1 }; dir = dir } in
+        agree sector (omega (arith, slot, at, within), inr (record { block = block; dir_block = has; of_block = of }))
 
     pub read_there : (block : ℕ) → IsIn block (blocks_of (form_at g one inode)) → read_block one block ≡ read_block other block
     read_there block is = read_same one other block (sectors_same block is)
@@ -118,22 +121,20 @@ module _ (g : Geometry) (geometry : IsGeometry g) (one other : Image) (agree : A
     slots_there : slots_of one (form_at g one inode) ≡ slots_of other (form_at g one inode)
     slots_there = ap (enumerate_from 0) (flat_map-same (read_block one) (read_block other) (blocks_of (form_at g one inode)) read_there)
 
-    bytes_there : flat_map (block_at one) (blocks_of (form_at g one inode)) ≡ flat_map (block_at other) (blocks_of (form_at g one inode))
-    bytes_there = flat_map-same (block_at one) (block_at other) (blocks_of (form_at g one inode)) (λ block is. block_same one other block (sectors_same block is))
-
-  node_slots : (n : Node) → IsIn n (sound_nodes g one) → slots_of one n.1 ≡ slots_of other n.1
-  node_slots n is =
+  node_slots : (n : Node) → IsIn n (sound_nodes g one) → (n.1.kind == 2) ≡ true → slots_of one n.1 ≡ slots_of other n.1
+  node_slots n is dir =
       let from = from_filter_map (sound_node g one) (all_inodes g) n is in
       let both = some_if-some (not (is_bad_inode g one from.0) && (not (is_bad_extent g one from.0) && is_used (form_at g one from.0))) (from.0, form_at g one from.0) n from.2 in
       let stay = all_stay g (form_at g one from.0).extents (none_leave (is_bad_inode g one from.0) (list_any (leaves_data g) (form_at g one from.0).extents) (is_used (form_at g one from.0)) both.0) in
-      subst (λ (m : Node). slots_of one m.1 ≡ slots_of other m.1) both.1 (slots_there from.0 (inode_in g from.0 from.1) stay)
+      let kind = two (form_at g one from.0).kind (ap (λ (m : Node). m.1.kind == 2) both.1 ∙ dir) in
+      subst (λ (m : Node). slots_of one m.1 ≡ slots_of other m.1) both.1 (slots_there from.0 (inode_in g from.0 from.1) stay kind)
 
   -- ---- damage
 
   dirs_same : dirs_of one (sound_nodes g one) ≡ dirs_of other (sound_nodes g other)
   dirs_same =
       map-same (λ (n : Node). dir_in one n) (λ (n : Node). dir_in other n) (filter (λ (n : Node). n.1.kind == 2) (sound_nodes g one))
-      (λ n is. ap (λ (slots : List ReadSlot). dir_with n.0 slots) (node_slots n (from_filter (λ (n : Node). n.1.kind == 2) (sound_nodes g one) n is).0))
+      (λ n is. let from = from_filter (λ (n : Node). n.1.kind == 2) (sound_nodes g one) n is in ap (λ (slots : List ReadSlot). dir_with n.0 slots) (node_slots n from.0 from.1))
       ∙ ap (dirs_of other) nodes_same
 
   kind_same : (inode : ℕ) → kind_at g one inode ≡ kind_at g other inode
@@ -169,14 +170,14 @@ module _ (g : Geometry) (geometry : IsGeometry g) (one other : Image) (agree : A
 
   module _ (sound : IsSoundCatalog g (catalog_at g one)) where
     pub slots_in_same : (inode : ℕ) → IsInode g inode → slots_in (catalog_at g other) inode ≡ slots_in (catalog_at g one) inode
-    slots_in_same inode in_range =
-        ap (λ (f : InodeForm). slots_by other f) (sym (form_same inode in_range))
-        ∙ sym (ap (λ (slots : List DentryForm). if (form_at g one inode).kind == 2 then slots else [])
-        (flat_map-same (dentries one) (dentries other) (blocks_of (form_at g one inode)) (λ b is. ap (map (λ o. unwrap_or o free_slot)) (read_there inode in_range (sound.in_data inode in_range) b is))))
+    slots_in_same inode in_range = ap (λ (f : InodeForm). slots_by other f) (sym (form_same inode in_range)) ∙ sym (by ((form_at g one inode).kind == 2) refl)
+      where
+        blocks : List ℕ
+        blocks = blocks_of (form_at g one inode)
+
+        by : (b : Bool) → ((form_at g one inode).kind == 2) ≡ b → (if b then flat_map (dentries one) blocks else []) ≡ (if b then flat_map (dentries other) blocks else [])
+        by true e = flat_map-same (dentries one) (dentries other) blocks (λ b is. ap (map (λ o. unwrap_or o free_slot)) (read_there inode in_range (sound.in_data inode in_range) (two (form_at g one inode).kind e) b is))
+        by false e = refl
 
     pub met_same : (names : List (List ℕ)) → met_at (catalog_at g other) names ≡ met_at (catalog_at g one) names
     met_same = walks_same (catalog_at g one) (catalog_at g other) (λ k is. slots_in_same k (reached g (catalog_at g one) sound 1 is.names k (root_in_range g (catalog_at g one) sound (has_root g geometry)) is.met).0)
-
-    pub file_there : (inode : ℕ) → IsInode g inode → file_bytes one (form_at g one inode) ≡ file_bytes other (form_at g other inode)
-    file_there inode in_range =
-        ap (take (form_at g one inode).size) (bytes_there inode in_range (sound.in_data inode in_range)) ∙ ap (file_bytes other) (form_same inode in_range)

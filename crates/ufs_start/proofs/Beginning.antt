@@ -1,6 +1,6 @@
 -- What a server begins with on a disk, of what was loaded.
 use Rattle.std.proofs.Common.{◌≡◌, ℕ, ◌<◌, ◌≤◌, length, arith, ◌&&◌, not, List, Bool, true, false, Option, Some, None, slice_index_or, refl, sym, ◌∙◌, subst}
-use Rattle.std.specs.Prelude.{◌^◌, Ok}
+use Rattle.std.specs.Prelude.{◌^◌, IfErr, Result, Ok, Err}
 use Rattle.std.proofs.lemmas.Bool.{and_parts, ltb-true}
 use Rattle.ufs_base.specs.Images as images
 use Rattle.ufs_catalog.specs.Faults.{HasFaultCause, IsOutside}
@@ -84,6 +84,11 @@ calm_names g f (Image fault) is count = subst (HasFaultCause count count) (sym i
 calm_names g f (Unreached inode) is count = refl
 calm_names g f (Unnamed inode) is count = refl
 calm_names g f (ExtraBlocks inode) is count = refl
+
+-- no call of a disk failed
+pub of_calm : {X : Type 0} (r : Result X StartFault) (before now : ℕ) → now ≡ before → IfErr r (λ f. (count : ℕ) → HasStartCause count count f) → IfErr r (HasStartCause before now)
+of_calm (Ok x) before now same calm = tt
+of_calm (Err fault) before now same calm = subst (λ n. HasStartCause before n fault) (sym same) (calm before)
 
 -- ---- free blocks
 

@@ -1,5 +1,5 @@
 -- What is said of names and files over an image's catalog is true over that of an image that agrees with it.
-use Rattle.std.proofs.Common.{◌≡◌, ℕ, List, [], Bool, true, false, Some, map, ap, sym, refl, ◌∙◌, subst}
+use Rattle.std.proofs.Common.{◌≡◌, ℕ, List, [], Bool, true, false, Some, length, map, ap, sym, refl, ◌∙◌}
 use Rattle.std.specs.Prelude.{◌==◌, ◌&&◌, not, if◌then◌else◌, IsSome}
 use Rattle.std.specs.FinMap as fin
 use Rattle.std.specs.List.{slice_get}
@@ -7,7 +7,7 @@ use Rattle.ufs_base.specs.Images.{Image}
 use Rattle.ufs_bitmap.specs.Space.{is_between}
 use Rattle.ufs_dir_image.specs.Tables.{IsTableOf, is_free_inode}
 use Rattle.ufs_dir_tree.specs.DirTable.{DirTable}
-use Rattle.ufs_file.specs.Content.{IsContentOf, block_count, unread}
+use Rattle.ufs_file.specs.Content.{block_count, unread}
 use Rattle.ufs_file.specs.Hand.{FileState}
 use Rattle.ufs_files.specs.Files.{Files}
 use Rattle.ufs_image.specs.Agree.{AgreeOn}
@@ -15,6 +15,7 @@ use Rattle.ufs_image.specs.Catalog.{IsInode, catalog_at}
 use Rattle.ufs_image.specs.Changes.{IsUnreached}
 use Rattle.ufs_image.specs.Images.{form_at}
 use Rattle.ufs_image.specs.Nodes as nodes
+use Rattle.ufs_image.specs.Opens.{file_bytes}
 use Rattle.ufs_image.specs.Sound.{IsSoundCatalog}
 use Rattle.ufs_image.specs.Nodes.{Node}
 use Rattle.ufs_image.proofs.Depth.{has_root, root_in_range}
@@ -32,7 +33,8 @@ use Rattle.ufs_names_image.specs.Parts.{IsNamesOf}
 use Rattle.ufs_start.specs.Extents.{run_of}
 use Rattle.ufs_start.specs.Files.{AreLaid, AreUnread}
 use Rattle.ufs_start.specs.Refused.{IsCutOff, IsUnnamedFile}
-use Rattle.ufs_start.proofs.Alike.{IsUsedHere, file_there, form_same, met_same, nodes_same, number_is, slots_in_same}
+use Rattle.ufs_start.proofs.Alike.{IsUsedHere, form_same, met_same, nodes_same, number_is, slots_in_same}
+use Rattle.ufs_start.proofs.FileLemmas.{may_be}
 
 no_right : (b : Bool) → (b && false) ≡ false
 no_right true = refl
@@ -104,16 +106,17 @@ module _ (g : Geometry) (geometry : IsGeometry g) (one other : Image) (agree : A
       form_of : (file : ℕ) (s : FileState) → fin.get files file ≡ Some s → form_at g one s.inode ≡ form_at g other s.inode
       form_of file s got = form_same g geometry one other agree s.inode (of_file file s got)
 
-      pub read_there : AreRead other (catalog_at g other) n files
-      read_there file s got = let this = are file s got in record {
-        number = this.number;
-        inode = this.inode;
-        may = subst (IsContentOf s.content) (file_there g geometry one other agree sound s.inode (of_file file s got)) this.may;
-        blocks = this.blocks ∙ ap nodes.blocks_of (form_of file s got);
-      }
-
       pub unread_there : AreUnread (catalog_at g one) files → AreUnread (catalog_at g other) files
       unread_there have file s got = have file s got ∙ ap (λ (f : InodeForm). unread f.size) (form_of file s got)
+
+      -- of which nothing was read
+      pub read_there : AreUnread (catalog_at g one) files → ((inode : ℕ) → IsInode g inode → length (file_bytes other (form_at g other inode)) ≡ (form_at g other inode).size) → AreRead other (catalog_at g other) n files
+      read_there have sized file s got = let this = are file s got in record {
+        number = this.number;
+        inode = this.inode;
+        may = may_be s.content (form_at g other s.inode).size (file_bytes other (form_at g other s.inode)) (unread_there have file s got) (sized s.inode (of_file file s got));
+        blocks = this.blocks ∙ ap nodes.blocks_of (form_of file s got);
+      }
 
       pub laid_there : AreLaid (catalog_at g one) files → AreLaid (catalog_at g other) files
       laid_there have file s got =

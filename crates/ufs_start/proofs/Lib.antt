@@ -19,3 +19,4 @@ mod TableLemmas
 mod Tabled
 mod Reaching
 mod Unnumbered
+mod Trees

@@ -1,30 +1,33 @@
--- A copy of what an image uses has the image's volume, and opens as the image does.
+-- A copy of what the names of an image use has the image's volume, and opens as the image does.
 use Rattle.std.proofs.Common.{◌≡◌, ℕ, List, Option, Some, None, inl, ap, sym, refl, ◌∙◌, subst, arith}
+use Rattle.std.specs.FinMap.{from_entries}
 use Rattle.std.specs.Prelude.{Result, Ok, Err, ◌==◌, if◌then◌else◌}
 use Rattle.ufs_base.specs.Images.{Image}
 use Rattle.ufs_image.specs.Agree.{AgreeOn, IsMetadata}
 use Rattle.ufs_image.specs.BadSectors.{bad_sector}
 use Rattle.ufs_image.specs.Catalog.{catalog_at}
 use Rattle.ufs_image.specs.Damage.{bad_tree}
-use Rattle.ufs_image.specs.Opens.{by_damage, entries_of, opens, tree_from}
+use Rattle.ufs_image.specs.Images.{form_at}
+use Rattle.ufs_image.specs.Opens.{ImageTree, by_damage, entries_of, file_bytes, opens, tree_from, walked}
 use Rattle.ufs_image.specs.Standing.{IsVolumeOf}
-use Rattle.ufs_image.specs.Volume.{Refusal, Volume, by_journal, by_superblock, superblock_of, superblock_refusal, volume, volume_of}
+use Rattle.ufs_image.specs.Volume.{BadTree, Refusal, Volume, by_journal, by_superblock, superblock_of, superblock_refusal, volume, volume_of}
 use Rattle.ufs_image.specs.Walks as walks
 use Rattle.ufs_image.proofs.Blamed.{not_bad, undamaged}
 use Rattle.ufs_image.proofs.Depth.{has_root, root_in_range}
 use Rattle.ufs_image.proofs.Found.{reached}
 use Rattle.ufs_image.proofs.Journals.{bad_sector_agrees, first_metadata, taken, taken_alike}
-use Rattle.ufs_image.proofs.OneTree.{alike_tree}
-use Rattle.ufs_image.proofs.Opening.{has_geometry}
+use Rattle.ufs_image.proofs.Opening.{has_geometry, opens_to}
 use Rattle.ufs_image.proofs.Read.{catalog_there}
 use Rattle.ufs_image.proofs.Whole.{sound_whole, spelled_all, whole_read, whole_sound}
 use Rattle.ufs_layout.specs.Areas.{IsGeometry, sector_count}
+use Rattle.ufs_layout.specs.InodeForm.{InodeForm}
 use Rattle.ufs_layout.specs.Superblock.{geometry_of}
 use Rattle.ufs_layout.specs.declared.geometry.Geometry.{Geometry}
 use Rattle.ufs_layout.specs.declared.superblock.Super.{Super}
-use Rattle.ufs_start.specs.Copies.{IsCopyOf, IsUsedBy, IsUsedIn}
-use Rattle.ufs_start.proofs.Alike.{IsUsedHere, bad_same, file_there, form_same, met_same, metadata_here}
+use Rattle.ufs_start.specs.Copies.{AreOpenedAlike, IsCopyOf, IsUsedBy, IsUsedIn, is_file}
+use Rattle.ufs_start.proofs.Alike.{IsUsedHere, bad_same, form_same, met_same, metadata_here}
 use Rattle.ufs_start.proofs.Refusals.{own_sectors, refused_same, refusal_there, taken_here}
+use Rattle.ufs_start.proofs.Trees.{alike_walks, file_or_dir, refused_alike}
 
 -- an image that is taken and of whose tree nothing is damaged
 stands : (sectors : ℕ) (image : Image) (v : Volume) → volume sectors image ≡ Ok v → bad_tree v.geometry v.image ≡ None → IsVolumeOf sectors image v (catalog_at v.geometry v.image)
@@ -112,34 +115,40 @@ module _ (copied sectors : ℕ) (copy image : Image) (is : IsCopyOf copied copy 
     bad_there : bad_tree v.geometry v.image ≡ bad_tree v.geometry other
     bad_there = bad_same v.geometry there.geometry v.image other there.agree
 
-    one_tree : bad_tree v.geometry v.image ≡ None → opens sectors image ≡ opens sectors copy
-    one_tree good =
-        alike_tree sectors copy image v (record v { image = other }) (catalog_at v.geometry v.image) (catalog_at v.geometry other) here
-        (stands sectors image (record v { image = other }) there.taken (sym bad_there ∙ good))
-        (met_same v.geometry there.geometry v.image other there.agree here.sound) nodes
+    trees_there : bad_tree v.geometry v.image ≡ None → AreOpenedAlike (opens sectors copy) (opens sectors image)
+    trees_there good =
+        subst (λ (r : Result ImageTree Refusal). AreOpenedAlike r (opens sectors image)) (sym (opens_to sectors copy v (catalog_at v.geometry v.image) here))
+        (subst (AreOpenedAlike (Ok (from_entries (walked v)))) (sym (opens_to sectors image (record v { image = other }) (catalog_at v.geometry other) at))
+        (alike_walks sectors sectors copy image v (record v { image = other }) (catalog_at v.geometry v.image) (catalog_at v.geometry other) here at
+        (met_same v.geometry there.geometry v.image other there.agree here.sound) nodes))
       where
         here : IsVolumeOf sectors copy v (catalog_at v.geometry v.image)
         here = stands sectors copy v e good
 
-        nodes : (names : List (List ℕ)) (inode : ℕ) → walks.inode_of (catalog_at v.geometry v.image) names ≡ Some inode → walks.node_of v.image (catalog_at v.geometry v.image) inode ≡ walks.node_of other (catalog_at v.geometry other) inode
+        at : IsVolumeOf sectors image (record v { image = other }) (catalog_at v.geometry other)
+        at = stands sectors image (record v { image = other }) there.taken (sym bad_there ∙ good)
+
+        nodes : (names : List (List ℕ)) (inode : ℕ) → walks.inode_of (catalog_at v.geometry v.image) names ≡ Some inode
+            → is_file (walks.node_of v.image (catalog_at v.geometry v.image) inode) ≡ is_file (walks.node_of other (catalog_at v.geometry other) inode)
         nodes names inode met =
             let root = root_in_range v.geometry (catalog_at v.geometry v.image) here.sound (has_root v.geometry there.geometry) in
             let in_range = (reached v.geometry (catalog_at v.geometry v.image) here.sound 1 names inode root met).0 in
             let form = form_same v.geometry there.geometry v.image other there.agree inode in_range in
-            let bytes = file_there v.geometry there.geometry v.image other there.agree here.sound inode in_range in
-            λ i. if (form i).kind == 2 then None else Some (bytes i)
+            file_or_dir ((form_at v.geometry v.image inode).kind == 2) (file_bytes v.image (form_at v.geometry v.image inode)) (file_bytes other (form_at v.geometry other inode))
+            ∙ ap (λ (f : InodeForm). is_file (if f.kind == 2 then None else Some (file_bytes other (form_at v.geometry other inode)))) form
 
-    tree_there : (b : Option ℕ) → bad_tree v.geometry v.image ≡ b → opens sectors copy ≡ opens sectors image
-    tree_there None good = sym (one_tree good)
+    tree_there : (b : Option ℕ) → bad_tree v.geometry v.image ≡ b → AreOpenedAlike (opens sectors copy) (opens sectors image)
+    tree_there None good = trees_there good
     tree_there (Some inode) bad =
-        ap (λ r. tree_from (entries_of r)) e ∙ ap (λ b. tree_from (by_damage v b)) bad
-        ∙ sym (ap (λ r. tree_from (entries_of r)) there.taken ∙ ap (λ b. tree_from (by_damage (record v { image = other }) b)) (sym bad_there ∙ bad))
+        let one : opens sectors copy ≡ Err (BadTree inode) = ap (λ r. tree_from (entries_of r)) e ∙ ap (λ b. tree_from (by_damage v b)) bad in
+        let two : opens sectors image ≡ Err (BadTree inode) = ap (λ r. tree_from (entries_of r)) there.taken ∙ ap (λ b. tree_from (by_damage (record v { image = other }) b)) (sym bad_there ∙ bad) in
+        refused_alike (BadTree inode) (opens sectors copy) (opens sectors image) one two
 
-  pub opens_there : opens copied copy ≡ opens sectors image
-  opens_there = ap (λ r. tree_from (entries_of r)) volume_sized ∙ by (volume sectors copy) refl
+  pub opens_there : AreOpenedAlike (opens copied copy) (opens sectors image)
+  opens_there = subst (λ (r : Result ImageTree Refusal). AreOpenedAlike r (opens sectors image)) (sym (ap (λ r. tree_from (entries_of r)) volume_sized)) (by (volume sectors copy) refl)
     where
-      by : (r : Result Volume Refusal) → volume sectors copy ≡ r → opens sectors copy ≡ opens sectors image
-      by (Err refusal) e = ap (λ r. tree_from (entries_of r)) (e ∙ sym (volume_refused refusal e))
+      by : (r : Result Volume Refusal) → volume sectors copy ≡ r → AreOpenedAlike (opens sectors copy) (opens sectors image)
+      by (Err refusal) e = refused_alike refusal (opens sectors copy) (opens sectors image) (ap (λ r. tree_from (entries_of r)) e) (ap (λ r. tree_from (entries_of r)) (volume_refused refusal e))
       by (Ok v) e = let there = volume_there v e in tree_there v e there.0 there.1 (bad_tree v.geometry v.image) refl
 
   -- ---- where it stands for a tree

@@ -1,5 +1,5 @@
--- Where the blocks of inodes end.
-use Rattle.std.specs.Prelude.{ℕ, ◌+◌, ◌-◌, ◌^◌, min, max, List, Option, Some, None}
+-- Where the blocks of directories end.
+use Rattle.std.specs.Prelude.{ℕ, ◌+◌, ◌-◌, ◌^◌, ◌==◌, min, max, List, Option, Some, None, if◌then◌else◌}
 use Rattle.std.specs.List.{fold}
 use Rattle.ufs_catalog.specs.declared.fault.RecoverFault.{RecoverFault}
 use Rattle.ufs_catalog.specs.declared.fault.RecoverFault.TheVariants as fault
@@ -14,9 +14,10 @@ end_of_extent e = min (e.start + e.length) (2 ^ 32 - 1)
 abbrev pub end_of_extents : List Extent → ℕ
 end_of_extents extents = fold (λ end (e : Extent). max end (end_of_extent e)) 0 extents
 
+-- of a directory; 0 of a file
 abbrev pub end_of_form : Option InodeForm → ℕ
 end_of_form None = 0
-end_of_form (Some form) = end_of_extents form.extents
+end_of_form (Some form) = if form.kind == 2 then end_of_extents form.extents else 0
 
 abbrev pub end_of_forms : List (Option InodeForm) → ℕ
 end_of_forms forms = fold (λ end (form : Option InodeForm). max end (end_of_form form)) 0 forms

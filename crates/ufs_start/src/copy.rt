@@ -1,4 +1,4 @@
-// A copy in memory of what an image uses.
+// A copy in memory of what the names of an image use.
 ghost use Rattle.std.specs.Prelude.{ℕ, ◌≡◌, ◌≤◌, ◌<◌, ◌+◌, ◌*◌, length, None, Some, IsTrue, IfOk, IfErr, IfSome, IfNone, OnOk};
 ghost use Rattle.ufs_base.specs.declared.sizes.TheConstants.{MAX_BLOCKS, SECTOR};
 ghost use Rattle.ufs_base.specs.Faults.{RoseTo};
@@ -190,9 +190,9 @@ fn copy_in<D: Disk>(
     Ok(copy)
 }
 
-/// What the image on a disk uses, in a disk in memory of as many sectors as the image takes by its superblock: what lies
-/// before the data area, and the data blocks up to the last one that an inode names. What lies behind is zeros, and isn't
-/// read. Where the superblock is refused it is the first block. Reads each of these sectors once, in calls of 4,096
+/// What the names of the image on a disk use, in a disk in memory of as many sectors as the image takes by its superblock:
+/// what lies before the data area, and the data blocks up to the last one of a directory. What lies behind is zeros, and
+/// isn't read. Where the superblock is refused it is the first block. Reads each of these sectors once, in calls of 4,096
 /// bytes at most; writes nothing.
 pub fn copy_of<D: Disk>(alloc: Global, disk: &mut D) -> Result<FrontDisk, RecoverFault>
     ensures taken { IfOk result (λ c. c.sectors ≡ sectors_taken (D.size disk.old) (image_of (bytes_of c))) }

@@ -15,7 +15,7 @@ pub fn start_numbers_law()
     ensures { StartsTellNumbers }
 {}
 
-/// What an image uses says all that a server begins with.
+/// What the names of an image use says all that a server begins with.
 pub fn copy_law()
     ensures opens { OpensAsCopied }
     ensures begins { BeginsAsCopied }

@@ -25,6 +25,8 @@ ghost use Rattle.ufs_names_image.specs.Starts.{image_start};
 ghost use Rattle.ufs_start.specs.Begun.{IsBegun, catalog_under, image_under, session_start, tree_under, volume_under};
 ghost use Rattle.ufs_start.specs.Files.{AreLaid, AreSized, AreUnread};
 ghost use Rattle.ufs_front.specs.Fronts.{bytes_of};
+ghost use Rattle.ufs_hand.specs.declared.rule.Parts.{Parts as SessionParts};
+ghost use Rattle.ufs_start.specs.Copies.{image_seen};
 ghost use Rattle.ufs_start.specs.Refused.{HasStartCause, IsRefusedFile, NamesFile, TellsNoStart};
 ghost use Rattle.ufs_start.specs.Starts.{AreNamesOfSome, AreStartNames, IsLoaded};
 
@@ -72,25 +74,26 @@ fn files_in(
     files_of(alloc, findings, &numbers.files)
 }
 
-// What a session over the disk starts from, for contracts alone.
-fn session_parts<P: Opening>(copy: &FrontDisk) -> Parts
-    requires { P.opened ≡ session_start copy.now.sectors (image_of (bytes_of copy.now)) }
-    ensures { result.start ≡ session_start copy.now.sectors (image_of (bytes_of copy.now)) }
+// What a session over a disk starts from, for contracts alone: where they don't see the disk, its copy says what it has.
+fn session_parts<P: Opening, D: Disk>(disk: &D, copy: &FrontDisk) -> Parts
+    requires { P.opened ≡ session_start (D.size disk.now) (image_seen D.visible (reads (D.moments disk.now)) (image_of (bytes_of copy.now))) }
+    ensures { result.start ≡ session_start (D.size disk.now) (image_seen D.visible (reads (D.moments disk.now)) (image_of (bytes_of copy.now))) }
 {
+    let _disk = disk;
     let _copy = copy;
     Parts::picked::<P>()
 }
 
-// What a server begins with, made of a disk in memory.
-fn start_in(alloc: Global, copy: &mut FrontDisk) -> Result<Start, StartFault>
-    ensures begun { IfOk result (IsBegun copy.old.sectors (image_of (bytes_of copy.old))) }
+// What a server begins with, made of a disk in memory, for a session that starts from these parts.
+fn start_in(alloc: Global, copy: &mut FrontDisk, parts: Parts) -> Result<Start, StartFault>
+    ensures parts { IfOk result (λ s. s.parts ≡ parts) }
+    ensures begun { (p : SessionParts) → p.start ≡ session_start copy.old.sectors (image_of (bytes_of copy.old)) → IfOk result (λ s. IsBegun copy.old.sectors (image_of (bytes_of copy.old)) (record s { parts = p })) }
     ensures refused { IfErr result (TellsNoStart copy.old.sectors (image_of (bytes_of copy.old))) }
     ensures calm { IfErr result (λ f. (count : ℕ) → HasStartCause count count f) }
 {
     start_files_law();
     files_part_law(copy.sectors as usize);
     image_start_law(copy.sectors as usize);
-    let parts = session_parts::<Brand>(copy);
     let loaded = load(alloc, copy)?;
     let volume = &loaded.volume;
     damage_law(&volume.superblock.geometry);
@@ -107,8 +110,8 @@ fn start_in(alloc: Global, copy: &mut FrontDisk) -> Result<Start, StartFault>
 
 /// Makes what a server begins with, over a copy of the image in memory. Refuses a disk that opens to no tree, and one
 /// with a file that a server can't hold or that no path names, or with a directory that has names and that no path leads
-/// to. Reads nothing of files beyond that copy, and has none of their bytes: where they lie and how long they are is known.
-/// Reads each sector up to the last block in use once, in calls of 4,096 bytes at most, and none behind it; writes nothing.
+/// to. Of files it knows where they lie and how long they are, and none of their bytes. Reads each sector up to the last block
+/// of a directory once, in calls of 4,096 bytes at most, and none behind it; writes nothing.
 pub fn start_of<D: Disk>(alloc: Global, disk: &mut D) -> Result<Start, StartFault>
     ensures standing { IsTrue D.visible → IfOk result (λ s. IsVolumeOf (D.size disk.old) (reads (D.moments disk.old)) (volume_under s.superblock (reads (D.moments disk.old))) (catalog_under s.superblock (reads (D.moments disk.old)))) }
     ensures opened { IsTrue D.visible → IfOk result (λ s. opens (D.size disk.old) (reads (D.moments disk.old)) ≡ Ok (tree_under s.superblock (reads (D.moments disk.old)))) }
@@ -132,5 +135,6 @@ pub fn start_of<D: Disk>(alloc: Global, disk: &mut D) -> Result<Start, StartFaul
 {
     copy_law();
     let mut copy = copy_of(alloc, disk)?;
-    start_in(alloc, &mut copy)
+    let parts = session_parts::<Brand, D>(disk, &copy);
+    start_in(alloc, &mut copy, parts)
 }

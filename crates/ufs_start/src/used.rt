@@ -1,10 +1,11 @@
-// How far an image uses its data area.
+// How far the directories of an image use its data area.
 ghost use Rattle.std.specs.Prelude.{ℕ, ◌≡◌, ◌≤◌, ◌<◌, ◌*◌, Ok, IfOk, OnOk};
 ghost use Rattle.ufs_disk.specs.Bytes.{image_of};
+ghost use Rattle.ufs_image.specs.Agree.{IsOfDir};
+ghost use Rattle.ufs_image.specs.Catalog.{catalog_at};
 ghost use Rattle.ufs_image.specs.Volume.{Volume, superblock_of, volume};
 ghost use Rattle.ufs_layout.specs.Areas.{IsGeometry, first_of_data, sector_count};
 ghost use Rattle.ufs_layout.specs.Superblock.{geometry_of};
-ghost use Rattle.ufs_start.specs.Copies.{IsOfInode};
 ghost use Rattle.ufs_start.specs.Ends.{IsOfImage, end_of_extents, end_of_form, end_of_forms};
 ghost use Rattle.ufs_front.specs.Fronts.{bytes_of};
 
@@ -14,6 +15,8 @@ use ufs_catalog::{RecoverFault, read_findings};
 use ufs_front::FrontDisk;
 use ufs_layout::{Extent, Geometry, Inode};
 use ufs_volume::read_volume;
+
+const DIRECTORY: u8 = 2;
 
 // The block behind the last one of these extents, as far as numbers go.
 fn end_of_extents(extents: &[Extent]) -> u32
@@ -30,7 +33,12 @@ fn end_of_form(form: &Option<Inode>) -> u32
     ensures { result ≡ end_of_form form.now }
 {
     match form {
-        Some(form) => end_of_extents(form.used_extents()),
+        Some(form) => {
+            if form.kind != DIRECTORY {
+                return 0;
+            }
+            end_of_extents(form.used_extents())
+        }
         None => 0,
     }
 }
@@ -58,8 +66,8 @@ fn end_without(geometry: &Geometry, fault: RecoverFault) -> Result<u32, Memory>
     }
 }
 
-/// The block behind the last one that an inode names, by the metadata of an image of this geometry; the first data block
-/// where none names one, or where the journal is refused. Fails only for want of memory.
+/// The block behind the last one of a directory, by the metadata of an image of this geometry; the first data block where
+/// no directory has one, or where the journal is refused. Fails only for want of memory.
 pub(crate) fn end_of_used(
     alloc: Global,
     geometry: &Geometry,
@@ -70,7 +78,7 @@ pub(crate) fn end_of_used(
     requires fields { geometry.now ≡ geometry_of (superblock_of (image_of (bytes_of copy.old))) }
     ensures least { IfOk result (λ end. first_of_data geometry.now ≤ end) }
     ensures most { IfOk result (λ end. end ≤ geometry.now.blocks) }
-    ensures behind { IfOk result (λ end. (v : Volume) → volume copy.old.sectors (image_of (bytes_of copy.old)) ≡ Ok v → (sector : ℕ) → sector < sector_count geometry.now → IsOfInode geometry.now v.image sector → sector < 8 * end) }
+    ensures behind { IfOk result (λ end. (v : Volume) → volume copy.old.sectors (image_of (bytes_of copy.old)) ≡ Ok v → (sector : ℕ) → sector < sector_count geometry.now → IsOfDir geometry.now (catalog_at geometry.now v.image) sector → sector < 8 * end) }
     ensures image { image_of (bytes_of copy.new) ≡ image_of (bytes_of copy.old) }
     ensures sectors { copy.new.sectors ≡ copy.old.sectors }
 {

@@ -41,7 +41,7 @@ files_in-requires-clause-begun c =
     (c.args.copy.now.sectors, disk, h.superblock, image_under h disk, loaded, c.in_ok-names.ensures.names c.args.copy.now.sectors disk h.superblock (image_under h disk) loaded)
 
 pub returns-clause-begun : goal.returns-clause-begun
-returns-clause-begun c =
+returns-clause-begun c p starts =
     let l = c.in_ok-loaded.loaded in
     let e = c.in_ok-loaded.ensures in
     let v = l.volume in
@@ -62,7 +62,7 @@ returns-clause-begun c =
     let free : IsUntaken h.geometry (catalog_under h disk) l.free.free =
     c.files_part_law.ensures.free disk (volume_under h disk) (catalog_under h disk) l.free.free loaded.standing
     (λ b is. untaken (is_between (first_of_data h.geometry) h.geometry.blocks b) (is_taken h.geometry (sound_nodes h.geometry image) b) (set.contains l.free.free b) (e.free refl b) is) in
-    let session : c.session_parts-parts.result.start ≡ start_with (paths_of (tree_under h disk)) = c.session_parts-parts.ensures ∙ ap (λ (r : Result ImageTree Refusal). start_with (paths_of (tree_or r))) start.opened in
+    let session : p.start ≡ start_with (paths_of (tree_under h disk)) = starts ∙ ap (λ (r : Result ImageTree Refusal). start_with (paths_of (tree_or r))) start.opened in
     record {
       standing = loaded.standing;
       sized = long;
@@ -85,6 +85,11 @@ returns-clause-begun c =
       session = session;
       can = record { nodes = paths_of (tree_under h disk); cells = []; is_visible = false; paths = c.image_start_law.ensures.paths disk (tree_under h disk) start.opened; few = few_files n (image_start (tree_under h disk)) start.names.next c.in_ok-names.ensures.few; is = session };
     }
+
+pub returns-in_err-files-clause-begun : goal.returns-in_err-files-clause-begun
+returns-in_err-files-clause-begun c p starts =
+    let q = err_from_is_err_and c.from_residual-in_err-files.result c.from_residual-in_err-files.ensures.1 in
+    rw q.1 tt
 
 pub returns-in_err-files-clause-refused : goal.returns-in_err-files-clause-refused
 returns-in_err-files-clause-refused c =

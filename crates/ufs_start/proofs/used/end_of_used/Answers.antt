@@ -3,10 +3,11 @@ use Rattle.std.specs.Prelude.{Result, min}
 use Rattle.ufs_base.specs.Images.{Image}
 use Rattle.ufs_catalog.specs.Folded.{IsFolded}
 use Rattle.ufs_disk.specs.Bytes.{image_of}
+use Rattle.ufs_image.specs.Agree.{IsOfDir}
+use Rattle.ufs_image.specs.Catalog.{catalog_at}
 use Rattle.ufs_image.specs.Volume.{Refusal, Volume}
 use Rattle.ufs_volume.specs.Volumes.{folded_image, volume_in}
 use Rattle.ufs_volume.proofs.Folds.{is_folded}
-use Rattle.ufs_start.specs.Copies.{IsOfInode}
 use Rattle.ufs_start.specs.Ends.{end_of_forms}
 use Rattle.ufs_start.proofs.Ends.{used_before}
 use Rattle.ufs_front.specs.Fronts.{bytes_of}
@@ -36,4 +37,4 @@ returns-clause-behind c v e sector less of =
     let least = c.min-end.ensures in
     let most = c.max.ensures in
     let reached : min (end_of_forms c.forms.result.now) g.blocks ≤ c.max.result = omega (arith, high, least, most) in
-    used_before g c.requires.limits image c.forms.result.now c.max.result (c.forms.ensures ∙ found.forms) reached sector less (subst (λ (u : Volume). IsOfInode g u.image sector) same of)
+    used_before g c.requires.limits image c.forms.result.now c.max.result (c.forms.ensures ∙ found.forms) reached sector less (subst (λ (u : Volume). IsOfDir g (catalog_at g u.image) sector) same of)
