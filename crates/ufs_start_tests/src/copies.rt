@@ -1,5 +1,5 @@
-// A copy has what the image uses, and zeros in the place of the rest.
-use crate::images::{DATA, SECTORS, new_disk_of, set_sector};
+// A copy has what the names of the image use, and zeros in the place of the rest.
+use crate::images::{DATA, SECTORS, new_disk_of, set_sector, tree_disk};
 use std::alloc::Global;
 use std::test::Fail;
 use ufs_base::SECTOR;
@@ -27,7 +27,7 @@ fn is_full_of(disk: &mut FrontDisk, sector: u32, byte: u8) -> Option<bool> {
 }
 
 // Whether a copy of a new image on a larger disk has this byte all over a sector. The image has other bytes in its first
-// block, in the last sector before its data, in the first one of it, which no inode names, and behind its end.
+// block, in the last sector before its data, in the first one of it, which no directory has, and behind its end.
 fn copy_has(alloc: Global, sector: u32, byte: u8) -> Option<bool> {
     let mut disk = new_disk_of(alloc, SECTORS + 8)?;
     let set = set_sector(&mut disk, 7, &[3; SECTOR])
@@ -48,6 +48,14 @@ fn held_of_new(alloc: Global, sectors: u32) -> Option<usize> {
     Some(copy.held.len())
 }
 
+// How many bytes a copy holds of the image with a directory and two files, and whether a sector of it has this byte all over.
+fn held_of_tree(alloc: Global, sector: u32, byte: u8) -> Option<(usize, bool)> {
+    let mut disk = tree_disk(alloc, SECTORS)?;
+    let mut copy = copied(alloc, &mut disk)?;
+    let held = copy.held.len();
+    Some((held, is_full_of(&mut copy, sector, byte)?))
+}
+
 // How many sectors a copy of a disk of so many has, all of zeros.
 fn sectors_of_zeros(alloc: Global, sectors: u32) -> Option<u32> {
     let Ok(mut disk) = PlainDisk::zeros(alloc, sectors) else {
@@ -58,7 +66,7 @@ fn sectors_of_zeros(alloc: Global, sectors: u32) -> Option<u32> {
 }
 
 #[test]
-fn a_copy_has_what_the_image_uses(rt: HostRuntime) -> Result<(), Fail> {
+fn a_copy_has_what_the_names_of_the_image_use(rt: HostRuntime) -> Result<(), Fail> {
     assert!(rt; copy_has(rt.alloc(), 7, 3) == Some(true));
     assert!(rt; copy_has(rt.alloc(), DATA - 1, 4) == Some(true));
     assert!(rt; copy_has(rt.alloc(), DATA, 0) == Some(true));
@@ -71,6 +79,13 @@ fn a_copy_has_what_the_image_uses(rt: HostRuntime) -> Result<(), Fail> {
 fn a_copy_holds_what_was_read(rt: HostRuntime) -> Result<(), Fail> {
     assert!(rt; held_of_new(rt.alloc(), SECTORS) == Some(SECTOR * DATA as usize));
     assert!(rt; held_of_new(rt.alloc(), SECTORS + 8) == Some(SECTOR * DATA as usize));
+    Ok(())
+}
+
+// The directories end with block 30. Block 41, a file's, begins with 7 on the disk.
+#[test]
+fn a_copy_ends_with_the_last_directory(rt: HostRuntime) -> Result<(), Fail> {
+    assert!(rt; held_of_tree(rt.alloc(), 328, 0) == Some((SECTOR * 248, true)));
     Ok(())
 }
 

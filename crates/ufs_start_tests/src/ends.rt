@@ -1,4 +1,4 @@
-// How far a start reads an image: each sector once, up to the last block in use.
+// How far a start reads an image: each sector once, up to the last block of a directory.
 use crate::counted::CountedDisk;
 use crate::images::{ROOT, file, inode, name, new_image_of, set_sector};
 use std::alloc::Global;
@@ -37,19 +37,27 @@ fn read(alloc: Global, blocks: u32, root: u8, data: u8) -> Option<(usize, usize,
 }
 
 #[test]
-fn a_large_data_area_is_read_as_far_as_it_is_used(rt: HostRuntime) -> Result<(), Fail> {
-    assert!(rt; read(rt.alloc(), 1024, 12, 13) == Some((112, 112, false)));
+fn a_large_data_area_is_read_as_far_as_directories_use_it(rt: HostRuntime) -> Result<(), Fail> {
+    assert!(rt; read(rt.alloc(), 1024, 12, 13) == Some((104, 104, false)));
     Ok(())
 }
 
 #[test]
-fn the_last_block_may_be_of_a_directory(rt: HostRuntime) -> Result<(), Fail> {
+fn blocks_of_files_before_the_last_one_of_a_directory_are_read_with_it(
+    rt: HostRuntime,
+) -> Result<(), Fail> {
     assert!(rt; read(rt.alloc(), 64, 50, 20) == Some((408, 408, false)));
     Ok(())
 }
 
 #[test]
+fn blocks_of_files_behind_it_are_not_read(rt: HostRuntime) -> Result<(), Fail> {
+    assert!(rt; read(rt.alloc(), 64, 20, 63) == Some((168, 168, false)));
+    Ok(())
+}
+
+#[test]
 fn the_last_block_may_be_the_last_of_the_data_area(rt: HostRuntime) -> Result<(), Fail> {
-    assert!(rt; read(rt.alloc(), 64, 20, 63) == Some((512, 512, false)));
+    assert!(rt; read(rt.alloc(), 64, 63, 20) == Some((512, 512, false)));
     Ok(())
 }

@@ -87,9 +87,11 @@ fn reads_of_zeros(alloc: Global, sectors: u32) -> Option<(usize, usize)> {
 }
 
 #[test]
-fn a_start_reads_no_sector_beyond_the_last_block_in_use(rt: HostRuntime) -> Result<(), Fail> {
-    assert!(rt; reads(rt.alloc(), 512) == Some((344, 344)));
-    assert!(rt; reads(rt.alloc(), 1024) == Some((344, 344)));
+fn a_start_reads_no_sector_beyond_the_last_block_of_a_directory(
+    rt: HostRuntime,
+) -> Result<(), Fail> {
+    assert!(rt; reads(rt.alloc(), 512) == Some((248, 248)));
+    assert!(rt; reads(rt.alloc(), 1024) == Some((248, 248)));
     assert!(rt; reads_of_zeros(rt.alloc(), 1024) == Some((8, 8)));
     Ok(())
 }
