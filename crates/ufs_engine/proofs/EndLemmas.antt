@@ -1,29 +1,25 @@
 -- What is told at a session's end.
-use Rattle.std.proofs.Common.{◌≡◌, ℕ, ◌⊎◌, List, [], ◌∷◌, Option, Some, None, Result, Ok, Err, IsOk, ap, sym, refl, subst, ◌∙◌, true, false, inl, inr}
+use Rattle.std.proofs.Common.{◌≡◌, ℕ, ◌+◌, ◌-◌, ◌^◌, ◌<◌, ◌≤◌, min, ◌⊎◌, List, [], Option, Some, None, Result, Ok, Err, IsOk, ap, sym, refl, subst, ◌∙◌, Bool, true, false, nat_eq, inl, inr, arith}
 use Rattle.std.specs.Prelude.{OnOk, ◌↔◌}
-use Rattle.std.specs.List.{AllByRecursion}
-use Rattle.ufs_base.specs.Faults.{RoseTo, raised}
-use Rattle.ufs_client.specs.Played.{tells_fault}
+use Rattle.std.specs.Prelude.{nat_le}
+use Rattle.std.specs.List.{IsDistinct}
+use Rattle.std.proofs.lemmas.Bool.Decides.{nat_tests}
+use Rattle.ufs_base.specs.Faults.{RoseTo}
 use Rattle.ufs_client.specs.declared.played.EndFault.{EndFault}
 use Rattle.ufs_client.specs.declared.played.EndFault.TheVariants as session
 use Rattle.ufs_engine.specs.Closes.{closing_fault}
 use Rattle.ufs_engine.specs.declared.closing.CloseFault.{CloseFault}
 use Rattle.ufs_engine.specs.declared.closing.CloseFault.TheVariants as cause
-use Rattle.ufs_disk.proofs.Runs.{all_map}
 use Rattle.ufs_model.specs.PosixTree.{PosixTree}
 use Rattle.ufs_model.specs.declared.data.Entry.{Entry}
-use Rattle.ufs_model.specs.declared.data.Excuse.TheVariants as excuse
 use Rattle.ufs_model.specs.declared.data.Op.{Op}
-use Rattle.ufs_model.specs.declared.data.Reply.{Reply}
-use Rattle.ufs_model.specs.declared.data.Reply.TheVariants as reply
 use Rattle.ufs_model.proofs.Facts.Histories.{order_none}
-use Rattle.ufs_engine.specs.Plays.{AreFaultless, AreFaultsOf, IsEndFault, served_end}
+use Rattle.ufs_engine.specs.Plays.{AreFaultsOf, IsClosingFault, IsEndFault, IsStopOf, IsUnstopped, served_end}
 use Rattle.ufs_engine.specs.declared.playing.PlayFault.{PlayFault}
 use Rattle.ufs_engine.specs.declared.playing.PlayFault.TheVariants as ending
-use Rattle.ufs_server.specs.Answered.{device_in, stopped_in}
 use Rattle.ufs_session.specs.Played.{IsPlayedFrom}
-use Rattle.ufs_session.specs.Told.{AreFaultsTold, AreToldStop, HadNoFault, HadOneFault, devices_in}
-use Rattle.ufs_session.proofs.ToldLemmas.{no_devices}
+use Rattle.ufs_session.specs.Told.{AreToldStop}
+use Rattle.ufs_engine.specs.StandIn.{AreFaultsTold, HasRisen, IsCountStill, IsReadFault, IsStopFault}
 use Rattle.ufs_start.specs.declared.fault.StartFault.{StartFault}
 use Rattle.ufs_store.specs.Refusals.{IsTold}
 use Rattle.ufs_store.specs.State.{StoreState}
@@ -64,9 +60,6 @@ not_served end fault (inr is) = ap (λ (e : PlayFault). served_end (Err e)) is.0
 
 -- ---- faults
 
-pub no_faults : (before : ℕ) → AreFaultsOf before []
-no_faults before = record { devices = inl refl; stops = tt }
-
 -- where each stop is ruled out
 goes_on : (stop : Option ℕ) → ((fault : ℕ) → stop ≡ Some fault → ⊥) → stop ≡ None
 goes_on None never = refl
@@ -77,55 +70,27 @@ both_ok (Ok x) (Ok y) leads done on = leads on
 both_ok (Ok x) (Err fault) leads done on = let no : false ≡ true = done in cc
 both_ok (Err fault) closed leads done on = tt
 
-calm_reply : (r : Reply) → device_in r ≡ None → ((fault : ℕ) → stopped_in r ≡ Some fault → ⊥) → tells_fault r ≡ false
-calm_reply (reply.Excused (excuse.Device fault)) none calm = cc
-calm_reply (reply.Excused (excuse.Stopped fault)) none calm = absurd (calm fault refl)
-calm_reply _ none calm = refl
+pub none_twice : IsDistinct nat_eq []
+unfolding IsDistinct
+none_twice = tt
 
-calm_replies : (history : List Entry) → AllByRecursion (λ (e : Entry). device_in e.reply ≡ None) history → AreToldStop None history → AreFaultless history
-calm_replies [] none stops = tt
-calm_replies (e ∷ history) none stops = (calm_reply e.reply none.0 (λ fault is. let no : None ≡ Some fault = stops.0 fault is in cc), calm_replies history none.1 stops.1)
+-- a call that raises a count which fell nowhere raises it past the first one, or to its end
+pub rose_past : (before count now fault : ℕ) → min before (2 ^ 64 - 1) ≤ count → RoseTo count now fault → HasRisen before now fault
+rose_past before count now fault low rose = record { risen = by (nat_le (2 ^ 64 - 1) (count + 1)) refl; counted = omega (arith, number) }
+  where
+    number : fault ≡ now
+    number = rose.number
 
--- a session over a store that goes on as it begins
-module _ (old new : StoreState) (going : old.stop ≡ None) (history : List Entry) (told : AreFaultsTold old new history) where
-  -- the store stops at the first fault
-  stop_is : (fault : ℕ) → HadNoFault old new history ⊎ HadOneFault old new history → new.stop ≡ Some fault → RoseTo old.faults new.faults fault
-  stop_is fault (inl none) stop = let no : None ≡ Some fault = sym going ∙ sym none.quiet.stop ∙ stop in cc
-  stop_is fault (inr one) stop = let same : one.fault ≡ fault = some_is (sym one.stops.stop ∙ stop) in subst (RoseTo old.faults new.faults) same one.stops.rose
-    where
-      some_is : {a b : ℕ} → Some a ≡ Some b → a ≡ b
-      some_is e = cc
+    is : now ≡ min (count + 1) (2 ^ 64 - 1)
+    is = rose.rose
 
-  first_is : (fault : ℕ) → RoseTo old.faults new.faults fault → fault ≡ raised old.faults
-  first_is fault rose = rose.number ∙ rose.rose
+    by : (b : Bool) → nat_le (2 ^ 64 - 1) (count + 1) ≡ b → (before < fault) ⊎ (fault ≡ 2 ^ 64 - 1)
+    by true e = let high : 2 ^ 64 - 1 ≤ count + 1 = grind (arith, nat_tests, e) in inr (omega (arith, high, number, is))
+    by false e = let under : count + 1 < 2 ^ 64 - 1 = grind (arith, nat_tests, e) in inl (omega (arith, low, under, number, is))
 
-  pub faults_of : AreFaultsOf old.faults history
-  faults_of = record {
-    devices = by told.faults;
-    stops = all_map (λ (e : Entry). (fault : ℕ) → stopped_in e.reply ≡ Some fault → new.stop ≡ Some fault) (λ (e : Entry). (fault : ℕ) → stopped_in e.reply ≡ Some fault → Some (raised old.faults) ≡ Some fault)
-        (λ e stop fault is. ap Some (sym (first_is fault (stop_is fault told.faults (stop fault is))))) history told.stops;
-  }
-    where
-      by : HadNoFault old new history ⊎ HadOneFault old new history → (devices_in history ≡ []) ⊎ (devices_in history ≡ raised old.faults ∷ [])
-      by (inl none) = inl none.devices
-      by (inr one) = of one.devices
-        where
-          of : (devices_in history ≡ []) ⊎ (devices_in history ≡ one.fault ∷ []) → (devices_in history ≡ []) ⊎ (devices_in history ≡ raised old.faults ∷ [])
-          of (inl is) = inl is
-          of (inr is) = inr (is ∙ ap (λ (n : ℕ). n ∷ []) (first_is one.fault one.stops.rose))
-
-  -- nothing is told of a fault by a store that goes on
-  calm_history : new.stop ≡ None → AreFaultless history
-  calm_history none = calm_replies history (no_devices history (by told.faults)) (subst (λ (o : Option ℕ). AreToldStop o history) none told.stops)
-    where
-      by : HadNoFault old new history ⊎ HadOneFault old new history → devices_in history ≡ []
-      by (inl calm) = calm.devices
-      by (inr one) = let no : None ≡ Some one.fault = sym none ∙ one.stops.stop in cc
-
--- ..and how its closing ended
-module _ (old new : StoreState) (now : ℕ) (closed : Result (Unit {0}) CloseFault)
-    (calm : new.stop ≡ None → (new.faults ≡ old.faults) × (old.stop ≡ None)) (told_now : IsTold new.faults now (closing_fault closed))
-    (stopped : (fault : ℕ) → (closed ≡ Err (cause.Stopped fault)) ↔ (new.stop ≡ Some fault)) where
+-- a session over a store that goes on as it begins, and how its closing ended
+module _ (old new : StoreState) (going : old.stop ≡ None) (history : List Entry) (told : AreFaultsTold old new history) (now : ℕ) (closed : Result (Unit {0}) CloseFault)
+    (told_now : IsTold new.faults now (closing_fault closed)) (stopped : (fault : ℕ) → (closed ≡ Err (cause.Stopped fault)) ↔ (new.stop ≡ Some fault)) where
   told_as : (r : Result (Unit {0}) CloseFault) → closed ≡ r → IsTold new.faults now (closing_fault r)
   told_as r is = subst (λ (c : Result (Unit {0}) CloseFault). IsTold new.faults now (closing_fault c)) is told_now
 
@@ -136,26 +101,85 @@ module _ (old new : StoreState) (now : ℕ) (closed : Result (Unit {0}) CloseFau
   going_ok : closed ≡ Ok tt → new.stop ≡ None
   going_ok ok = going_on (λ fault is. let no : Ok tt ≡ Err (cause.Stopped fault) = sym ok ∙ is in cc)
 
+  -- a store that has stopped meets no call of the closing
+  stop_risen : (fault : ℕ) → new.stop ≡ Some fault → HasRisen old.faults now fault
+  stop_risen fault stop = subst (λ (n : ℕ). HasRisen old.faults n fault) (sym (told_as (Err (cause.Stopped fault)) ((stopped fault).1 stop))) (told.stopped fault going stop)
+
+  -- the closing raises the count by one at most
+  read_risen : (fault : ℕ) → IsReadFault old new fault → HasRisen old.faults now fault
+  read_risen fault read = record { risen = inl read.risen; counted = by (closing_fault closed) told_now }
+    where
+      by : (o : Option ℕ) → IsTold new.faults now o → fault ≤ now
+      by None same = let counted = read.counted in let is : now ≡ new.faults = same in omega (arith, counted, is)
+      by (Some other) rose = let counted = read.counted in let below = read.below in let is : now ≡ min (new.faults + 1) (2 ^ 64 - 1) = rose.rose in omega (arith, counted, below, is)
+
+  pub faults_of : AreFaultsOf old.faults now history
+  faults_of = record {
+    each = λ fault has. elim (told.each fault has) [ inl read ↦ read_risen fault read | inr stop ↦ stop_risen fault stop.stop ];
+    once = told.once;
+    stop = new.stop;
+    stops = told.stops;
+    of_session = stop_risen;
+  }
+
+  stops_none : new.stop ≡ None → AreToldStop None history
+  stops_none none = subst (λ (o : Option ℕ). AreToldStop o history) none told.stops
+
   is_ok : (r : Result (Unit {0}) CloseFault) → IsOk r → r ≡ Ok tt
   is_ok (Ok x) done = refl
   is_ok (Err fault) done = let no : false ≡ true = done in cc
 
-  pub calm_end : (ended : Result (Unit {0}) PlayFault) → OnOk ended (IsOk closed) → OnOk ended (now ≡ old.faults)
-  calm_end (Ok x) done = let ok = is_ok closed done in told_as (Ok tt) ok ∙ (calm (going_ok ok)).0
-  calm_end (Err fault) done = tt
+  unstopped : closed ≡ Ok tt → IsUnstopped old.faults now history
+  unstopped ok = record {
+    stops = stops_none (going_ok ok);
+    quiet = λ none. subst (IsCountStill old.faults) (sym (told_as (Ok tt) ok)) (told.quiet none (going_ok ok));
+  }
+
+  -- a fault of the closing
+  module _ (fault : ℕ) (is : closed ≡ Err (cause.Device fault)) where
+    rose : RoseTo new.faults now fault
+    rose = told_as (Err (cause.Device fault)) is
+
+    going_there : new.stop ≡ None
+    going_there = going_on (λ other stop. let no : Err (cause.Device fault) ≡ Err (cause.Stopped other) = sym is ∙ stop in cc)
+
+    -- a fault that a reply tells came before it
+    none_untold : IsReadFault old new fault ⊎ IsStopFault old new fault → ⊥
+    none_untold (inl read) =
+        let counted = read.counted in
+        let below = read.below in
+        let up : now ≡ min (new.faults + 1) (2 ^ 64 - 1) = rose.rose in
+        let number = rose.number in
+        omega (arith, counted, below, up, number)
+    none_untold (inr stop) = let no : None ≡ Some fault = sym going_there ∙ stop.stop in cc
+
+    first : IsCountStill old.faults new.faults → RoseTo old.faults now fault ⊎ (fault ≡ 2 ^ 64 - 1)
+    first (inl same) = inl (subst (λ (n : ℕ). RoseTo n now fault) same rose)
+    first (inr end) =
+        let up : now ≡ min (new.faults + 1) (2 ^ 64 - 1) = rose.rose in
+        let number = rose.number in
+        inr (omega (arith, end, up, number))
+
+    closing_of : IsClosingFault old.faults now history fault
+    closing_of = record {
+      stops = stops_none going_there;
+      risen = rose_past old.faults new.faults now fault told.count rose;
+      last = sym rose.number;
+      untold = λ has. none_untold (told.each fault has);
+      alone = λ none. first (told.quiet none going_there);
+    }
+
+  stop_of : (fault : ℕ) → closed ≡ Err (cause.Stopped fault) → IsStopOf old.faults now history fault
+  stop_of fault is = let stop = (stopped fault).0 is in record { stops = subst (λ (o : Option ℕ). AreToldStop o history) stop told.stops; risen = stop_risen fault stop }
 
   pub end_fault : (ended : Result (Unit {0}) PlayFault) → OnOk ended (IsOk closed) → ((fault : ℕ) → ended ≡ Err (ending.Device fault) → closed ≡ Err (cause.Device fault))
-      → ((fault : ℕ) → ended ≡ Err (ending.Stopped fault) → closed ≡ Err (cause.Stopped fault)) → (history : List Entry) → AreFaultsTold old new history → old.stop ≡ None
-      → IsEndFault old.faults now history ended
-  end_fault (Ok x) done device at history told begun =
-      let ok = is_ok closed done in
-      (calm_history old new begun history told (going_ok ok), told_as (Ok tt) ok ∙ (calm (going_ok ok)).0)
-  end_fault (Err (ending.Device fault)) done device at history told begun =
-      let is = device fault refl in
-      let none = going_on (λ other stop. let no : Err (cause.Device fault) ≡ Err (cause.Stopped other) = sym is ∙ stop in cc) in
-      (calm_history old new begun history told none, subst (λ (n : ℕ). RoseTo n now fault) (calm none).0 (told_as (Err (cause.Device fault)) is))
-  end_fault (Err (ending.Stopped fault)) done device at history told begun =
-      let is = at fault refl in
-      subst (λ (n : ℕ). RoseTo old.faults n fault) (sym (told_as (Err (cause.Stopped fault)) is)) (stop_is old new begun history told fault told.faults ((stopped fault).0 is))
-  end_fault (Err (ending.Image fault)) done device at history told begun = tt
-  end_fault (Err ending.Memory) done device at history told begun = tt
+      → ((fault : ℕ) → ended ≡ Err (ending.Stopped fault) → closed ≡ Err (cause.Stopped fault)) → IsEndFault old.faults now history ended
+  end_fault (Ok x) done device at = unstopped (is_ok closed done)
+  end_fault (Err (ending.Device fault)) done device at = closing_of fault (device fault refl)
+  end_fault (Err (ending.Stopped fault)) done device at = stop_of fault (at fault refl)
+  end_fault (Err (ending.Image fault)) done device at = tt
+  end_fault (Err ending.Memory) done device at = tt
+
+-- where nobody is told anything
+pub no_faults : (before now : ℕ) → AreFaultsOf before now []
+no_faults before now = record { each = λ fault has. absurd has; once = none_twice; stop = None; stops = tt; of_session = λ fault is. absurd cc }

@@ -6,3 +6,4 @@ mod Seen
 pub mod Ended
 pub mod EndLemmas
 pub mod StampedLemmas
+mod StandInLemmas

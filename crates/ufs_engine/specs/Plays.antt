@@ -1,10 +1,9 @@
 -- What a session over a disk has told, and what it leaves.
-use Rattle.std.specs.Prelude.{ℕ, ◌≡◌, ◌⊎◌, ◌∷◌, ◌++◌, Bool, false, IsTrue, List, [], Result, Ok, Err, Some}
-use Rattle.std.specs.List.{AllByRecursion}
-use Rattle.ufs_base.specs.Faults.{RoseTo, raised}
+use Rattle.std.specs.Prelude.{ℕ, ◌≡◌, ◌⊎◌, ◌-◌, ◌^◌, ◌++◌, Bool, IsTrue, List, [], Option, Some, None, Result, Ok, Err, nat_eq}
+use Rattle.std.specs.List.{IsDistinct}
+use Rattle.ufs_base.specs.Faults.{RoseTo}
 use Rattle.ufs_disk.specs.Disk.{State}
 use Rattle.ufs_disk.specs.Moments.{Moments, all}
-use Rattle.ufs_client.specs.Played.{tells_fault}
 use Rattle.ufs_client.specs.declared.played.EndFault.{EndFault}
 use Rattle.ufs_client.specs.declared.played.EndFault.TheVariants as session
 use Rattle.ufs_model.specs.History.{joined}
@@ -17,6 +16,8 @@ use Rattle.ufs_recovery.specs.Recovered.{IsProperDisk}
 use Rattle.ufs_session.specs.Played.{IsPlayedFrom}
 use Rattle.ufs_session.specs.Throughout.{AreMomentsStamped}
 use Rattle.ufs_session.specs.Told.{AreToldStop, devices_in}
+use Rattle.ufs_engine.specs.StandIn.{HasRisen, IsCountStill}
+use Rattle.ufs_sound.specs.Owned.{Has}
 use Rattle.ufs_stored.specs.OnDisk.{IsExplainedBetween}
 
 -- what the promise asks of the disk as the session begins: it is visible, and is proper
@@ -34,21 +35,39 @@ served_end (Err Memory) = Err session.Memory
 
 -- ---- faults
 
--- The replies tell one fault of the disk at most, the first to which its count rises; and whoever is told where the store
--- stopped is told that one.
-pub record AreFaultsOf (before : ℕ) (history : List Entry) : Type 0 where
-  pub devices : (devices_in history ≡ []) ⊎ (devices_in history ≡ raised before ∷ [])
-  pub stops : AreToldStop (Some (raised before)) history
+-- Each fault of the disk that a reply tells is one of the session's, and no two replies tell one; whoever is told where the store
+-- stopped is told one fault, of the session too. Reads that fail stop nothing, so there may be several.
+pub record AreFaultsOf (before now : ℕ) (history : List Entry) : Type 0 where
+  pub each : (fault : ℕ) → Has fault (devices_in history) → HasRisen before now fault
+  pub once : IsDistinct nat_eq (devices_in history)
+  pub stop : Option ℕ
+  pub stops : AreToldStop stop history
+  pub of_session : (fault : ℕ) → stop ≡ Some fault → HasRisen before now fault
 
--- no reply tells a fault of the disk, or that the store stopped for one
-abbrev pub AreFaultless : List Entry → Type 0
-AreFaultless history = AllByRecursion (λ entry. tells_fault entry.reply ≡ false) history
+-- The store never stopped: no reply tells so, and where none tells a fault no call of the disk failed.
+pub record IsUnstopped (before now : ℕ) (history : List Entry) : Type 0 where
+  pub stops : AreToldStop None history
+  pub quiet : devices_in history ≡ [] → IsCountStill before now
 
--- What the end tells: that no call of the disk failed, that one failed in the closing, or the one at which the store stopped.
+-- A call of the closing failed, and no reply tells that.
+pub record IsClosingFault (before now : ℕ) (history : List Entry) (fault : ℕ) : Type 0 where
+  pub stops : AreToldStop None history
+  pub risen : HasRisen before now fault
+  pub last : now ≡ fault
+  pub untold : Has fault (devices_in history) → ⊥
+  -- where no reply tells a fault it is the first
+  pub alone : devices_in history ≡ [] → RoseTo before now fault ⊎ (fault ≡ 2 ^ 64 - 1)
+
+-- The store stopped at this fault, which replies may tell.
+pub record IsStopOf (before now : ℕ) (history : List Entry) (fault : ℕ) : Type 0 where
+  pub stops : AreToldStop (Some fault) history
+  pub risen : HasRisen before now fault
+
+-- What the end tells: that the store never stopped, that a call failed in the closing, or the fault at which the store stopped.
 abbrev pub IsEndFault : (before now : ℕ) → List Entry → Result (Unit {0}) PlayFault → Type 0
-IsEndFault before now history (Ok x) = AreFaultless history × (now ≡ before)
-IsEndFault before now history (Err (Device fault)) = AreFaultless history × RoseTo before now fault
-IsEndFault before now history (Err (Stopped fault)) = RoseTo before now fault
+IsEndFault before now history (Ok x) = IsUnstopped before now history
+IsEndFault before now history (Err (Device fault)) = IsClosingFault before now history fault
+IsEndFault before now history (Err (Stopped fault)) = IsStopOf before now history fault
 IsEndFault before now history (Err _) = Unit {0}
 
 -- ---- transcripts

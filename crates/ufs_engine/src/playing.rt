@@ -25,12 +25,12 @@ ghost use Rattle.ufs_start.specs.declared.fault.StartFault.TheVariants as start;
 
 use crate::beginning::{Begun, begin};
 use crate::closing::{CloseFault, close};
+use crate::stand_in::serve;
 use std::alloc::Global;
 use ufs_catalog::RecoverFault;
 use ufs_client::{EndFault, ToldLists};
 use ufs_disk::Disk;
 use ufs_script::Script;
-use ufs_session::serve;
 use ufs_start::StartFault;
 
 /// Why a session isn't whole: no image to begin with, a fault of the closing, or want of memory.
@@ -68,11 +68,10 @@ pub fn play<D: Disk>(alloc: Global, script: Script, _lease: u32, disk: D) -> Pla
     ensures refused { (fault : StartFault) → result.ended ≡ Err (ending.Image fault) → result.told ≡ [] }
     ensures outside { result.ended ≢ Err (ending.Image (start.Image image.Memory)) }
     ensures opening { (fault : StartFault) → result.ended ≡ Err (ending.Image fault) → HasStartCause (D.faults disk) (D.faults result.disk) fault }
-    ensures faults { AreFaultsOf (D.faults disk) (joined result.told) }
+    ensures faults { AreFaultsOf (D.faults disk) (D.faults result.disk) (joined result.told) }
     ensures unopened { IsTrue D.visible → (refusal : Refusal) → opens (D.size disk) (reads (D.moments disk)) ≡ Err refusal
         → (result.ended ≡ Err ending.Memory) ⊎ ((fault : RecoverFault) × (result.ended ≡ Err (ending.Image (start.Image fault))) × TellsWhy (D.size disk) (reads (D.moments disk)) fault) }
     ensures closing { IsEndFault (D.faults disk) (D.faults result.disk) (joined result.told) result.ended }
-    ensures calm { OnOk result.ended (D.faults result.disk ≡ D.faults disk) }
     ensures size { D.size result.disk ≡ D.size disk }
     // over a proper visible disk: the tree that its image stands for gives them
     ensures played { MayPlay D.visible (D.size disk) (D.moments disk).state → (start : PosixTree) → BeginsWith (D.size disk) (reads (D.moments disk)) start

@@ -1,4 +1,4 @@
-use Rattle.std.proofs.Common.{◌≡◌, ℕ, List, [], Result, Err, OnOk, sym, subst, ◌∙◌}
+use Rattle.std.proofs.Common.{◌≡◌, ℕ, List, [], Result, Err, sym, subst, ◌∙◌}
 use Rattle.ufs_disk.specs.Disk.{Leaves}
 use Rattle.ufs_disk.specs.Moments.{reads}
 use Rattle.ufs_client.proofs.Lists.{once_rising}
@@ -18,7 +18,7 @@ use Rattle.ufs_session.proofs.ThroughoutLemmas.{throughout_after, throughout_bef
 use Rattle.ufs_store.specs.State.{StoreState}
 use Rattle.ufs_store.specs.Tables.{state_of}
 use Rattle.ufs_stored.specs.OnDisk.{IsExplainedBetween, IsOnDisk}
-use Rattle.ufs_engine.proofs.EndLemmas.{both_ok, calm_end, end_fault, faults_of, no_faults, none_played, not_served, played_as}
+use Rattle.ufs_engine.proofs.EndLemmas.{both_ok, end_fault, faults_of, no_faults, none_played, not_served, played_as}
 use Rattle.ufs_engine.proofs.StampedLemmas.{none_stamped, passed_throughout}
 use Rattle.ufs_engine.proofs.playing.play.Given.{Over}
 use Rattle.ufs_engine.proofs.playing.play.Goals.{After-drop-script}
@@ -66,30 +66,26 @@ pub returns-in-Ok-clause-legal : goal.returns-in-Ok-clause-legal
 returns-in-Ok-clause-legal g c =
     let s = c.serve-session in
     let end = c.whole_end in
-    let start = c.in-Ok.begun.opened.start.tree in
-    (start, played_as start c.args.script.clients s.result.told s.result.ended (served_end end.result) (told g c) end.ensures.served (s.ensures.played start c.in-Ok.ensures.may))
+    let from = s.ensures.played in
+    (from.tree, played_as from.tree c.args.script.clients s.result.told s.result.ended (served_end end.result) (told g c) end.ensures.served from.played)
 
 pub returns-in-Ok-clause-faults : goal.returns-in-Ok-clause-faults
 returns-in-Ok-clause-faults g c =
     let b = c.in-Ok.ensures in
-    subst (λ (n : ℕ). AreFaultsOf n (told g c)) b.passed (faults_of (first g c) (last g c) b.going (told g c) c.serve-session.ensures.faults)
-
-pub returns-in-Ok-clause-calm : goal.returns-in-Ok-clause-calm
-returns-in-Ok-clause-calm g c =
     let closing = c.close-closed in
     let now = g.D.Disk.faults closing.result.disk in
-    subst (λ (n : ℕ). OnOk c.whole_end.result (now ≡ n)) c.in-Ok.ensures.passed
-    (calm_end (first g c) (last g c) now closing.result.ended c.serve-session.ensures.calm closing.ensures.cause closing.ensures.stopped c.whole_end.result c.whole_end.ensures.closed)
+    subst (λ (n : ℕ). AreFaultsOf n now (told g c)) b.passed
+    (faults_of (first g c) (last g c) b.going (told g c) c.serve-session.ensures.faults now closing.result.ended closing.ensures.cause closing.ensures.stopped)
 
 pub returns-in-Ok-clause-closing : goal.returns-in-Ok-clause-closing
 returns-in-Ok-clause-closing g c =
-    let s = c.serve-session in
+    let b = c.in-Ok.ensures in
     let closing = c.close-closed in
     let now = g.D.Disk.faults closing.result.disk in
     let end = c.whole_end in
-    subst (λ (n : ℕ). IsEndFault n now (told g c) end.result) c.in-Ok.ensures.passed
-    (end_fault (first g c) (last g c) now closing.result.ended s.ensures.calm closing.ensures.cause closing.ensures.stopped
-    end.result end.ensures.closed end.ensures.device end.ensures.stopped (told g c) s.ensures.faults c.in-Ok.ensures.going)
+    subst (λ (n : ℕ). IsEndFault n now (told g c) end.result) b.passed
+    (end_fault (first g c) (last g c) b.going (told g c) c.serve-session.ensures.faults now closing.result.ended closing.ensures.cause closing.ensures.stopped
+    end.result end.ensures.closed end.ensures.device end.ensures.stopped)
 
 pub returns-in-Ok-clause-size : goal.returns-in-Ok-clause-size
 returns-in-Ok-clause-size g c = c.close-closed.ensures.size ∙ sized g c
@@ -98,7 +94,8 @@ pub returns-in-Ok-clause-played : goal.returns-in-Ok-clause-played
 returns-in-Ok-clause-played g c may start begins =
     let s = c.serve-session in
     let end = c.whole_end in
-    played_as start c.args.script.clients s.result.told s.result.ended (served_end end.result) (told g c) end.ensures.served (s.ensures.played start (may_begin g c may start begins))
+    played_as start c.args.script.clients s.result.told s.result.ended (served_end end.result) (told g c) end.ensures.served
+    (s.ensures.seen may.is_visible start (may_begin g c may start begins) (begun_on_disk g c may start begins))
 
 pub returns-in-Ok-clause-opened : goal.returns-in-Ok-clause-opened
 returns-in-Ok-clause-opened g c may = c.begin.ensures.opened may.is_visible may.proper
@@ -171,7 +168,8 @@ returns-in-Err-clause-once g c = subst (λ (told : List (List Entry)). AreTicket
 pub returns-in-Err-clause-faults : goal.returns-in-Err-clause-faults
 returns-in-Err-clause-faults g c =
     let before = g.D.Disk.faults c.args.disk in
-    subst (λ (told : List (List Entry)). AreFaultsOf before (joined told)) (sym (c.from_vec.ensures ∙ c.new.ensures.items)) (no_faults before)
+    let now = g.D.Disk.faults c.in-Err.unbegun.disk in
+    subst (λ (told : List (List Entry)). AreFaultsOf before now (joined told)) (sym (c.from_vec.ensures ∙ c.new.ensures.items)) (no_faults before now)
 
 pub returns-in-Err-clause-opened : goal.returns-in-Err-clause-opened
 returns-in-Err-clause-opened g c may = c.begin.ensures.opened may.is_visible may.proper
