@@ -1,9 +1,13 @@
 -- What `play` leaves of the disk, by its status.
-use Rattle.std.proofs.Common.{◌≡◌, ◌⊎◌, inl, inr, ℕ, List, Result, Ok, Err, ap, sym, subst, refl, ◌∙◌, arith}
+use Rattle.std.proofs.Common.{◌≡◌, ◌⊎◌, inl, inr, ℕ, List, [], Result, Ok, Err, ap, sym, subst, refl, ◌∙◌, arith}
 use Rattle.std.specs.Prelude.{OnOk}
 use Rattle.ufs_catalog.specs.declared.fault.RecoverFault.TheVariants as recover
+use Rattle.ufs_engine.specs.Plays.{IsEndFault}
+use Rattle.ufs_engine.specs.StandIn.{IsCountStill}
 use Rattle.ufs_engine.specs.declared.playing.PlayFault.{PlayFault}
 use Rattle.ufs_engine.specs.declared.playing.PlayFault.TheVariants as ended
+use Rattle.ufs_model.specs.declared.data.Entry.{Entry}
+use Rattle.ufs_session.specs.Told.{devices_in}
 use Rattle.ufs_start.specs.Refused.{HasStartCause}
 use Rattle.ufs_start.specs.declared.fault.StartFault.{StartFault}
 use Rattle.ufs_start.specs.declared.fault.StartFault.TheVariants as start
@@ -76,13 +80,13 @@ unbegun_calm before now (start.Unreached inode) cause other = cause
 unbegun_calm before now (start.Unnamed inode) cause other = cause
 unbegun_calm before now (start.ExtraBlocks inode) cause other = cause
 
-calm_end : (before now : ℕ) (result : Result (Unit {0}) PlayFault) → OnOk result (now ≡ before) → ((fault : StartFault) → result ≡ Err (ended.Image fault) → HasStartCause before now fault)
-    → (lines : List ℕ) (ending : Ending) (text : List ℕ) → EndsPlayed result lines ending text → (status_of ending ≡ 4 → ⊥) → (status_of ending ≡ 5 → ⊥) → now ≡ before
-calm_end before now (Ok x) calm cause lines ending text e four five = calm
-calm_end before now (Err (ended.Image fault)) calm cause lines ending text e four five = unbegun_calm before now fault (cause fault refl) (λ is. four (ap status_of e.0 ∙ is))
-calm_end before now (Err (ended.Device fault)) calm cause lines ending text e four five = absurd (elim (behind_short lines fault ending text e) [ inl is ↦ four is | inr is ↦ five is ])
-calm_end before now (Err (ended.Stopped fault)) calm cause lines ending text e four five = absurd (elim (behind_short lines fault ending text e) [ inl is ↦ four is | inr is ↦ five is ])
-calm_end before now (Err ended.Memory) calm cause lines ending text e four five = absurd (five (ap status_of e.0))
+still_end : (before now : ℕ) (history : List Entry) (result : Result (Unit {0}) PlayFault) → IsEndFault before now history result → ((fault : StartFault) → result ≡ Err (ended.Image fault) → HasStartCause before now fault)
+    → (lines : List ℕ) (ending : Ending) (text : List ℕ) → EndsPlayed result lines ending text → (status_of ending ≡ 4 → ⊥) → (status_of ending ≡ 5 → ⊥) → devices_in history ≡ [] → IsCountStill before now
+still_end before now history (Ok x) closing cause lines ending text e four five silent = closing.quiet silent
+still_end before now history (Err (ended.Image fault)) closing cause lines ending text e four five silent = inl (unbegun_calm before now fault (cause fault refl) (λ is. four (ap status_of e.0 ∙ is)))
+still_end before now history (Err (ended.Device fault)) closing cause lines ending text e four five silent = absurd (elim (behind_short lines fault ending text e) [ inl is ↦ four is | inr is ↦ five is ])
+still_end before now history (Err (ended.Stopped fault)) closing cause lines ending text e four five silent = absurd (elim (behind_short lines fault ending text e) [ inl is ↦ four is | inr is ↦ five is ])
+still_end before now history (Err ended.Memory) closing cause lines ending text e four five silent = absurd (five (ap status_of e.0))
 
 -- ---- of an answer
 
@@ -118,12 +122,12 @@ module _ (result : Result (Unit {0}) PlayFault) (lines : List ℕ) (w : Writing)
       of (inr six) (inr (inr (inl four))) = omega (arith, six, four)
       of (inr six) (inr (inr (inr five))) = omega (arith, six, five)
 
-  -- any status but 4, 5 and 7 leaves the disk's count
-  pub left_calm : (before now : ℕ) → OnOk result (now ≡ before) → ((fault : StartFault) → result ≡ Err (ended.Image fault) → HasStartCause before now fault)
-      → (status ≡ 4 → ⊥) → (status ≡ 7 → ⊥) → (status ≡ 5 → ⊥) → now ≡ before
-  left_calm before now calm cause four seven five =
+  -- any status but 4, 5 and 7 leaves the disk's count, where no reply tells a fault
+  pub left_still : (before now : ℕ) (history : List Entry) → IsEndFault before now history result → ((fault : StartFault) → result ≡ Err (ended.Image fault) → HasStartCause before now fault)
+      → (status ≡ 4 → ⊥) → (status ≡ 7 → ⊥) → (status ≡ 5 → ⊥) → devices_in history ≡ [] → IsCountStill before now
+  left_still before now history closing cause four seven five =
       let x = a.whole seven in
-      calm_end before now result calm cause lines x.0 x.1 x.3 (λ is. four (x.2 ∙ is)) (λ is. five (x.2 ∙ is))
+      still_end before now history result closing cause lines x.0 x.1 x.3 (λ is. four (x.2 ∙ is)) (λ is. five (x.2 ∙ is))
 
   -- a fact of a whole session
   pub on_whole : (P : Type 0) → OnOk result P → status ≡ 0 → P

@@ -1,5 +1,5 @@
 -- What commands leave, by the command that the words are.
-use Rattle.std.proofs.Common.{◌≡◌, ◌∙◌, inl, inr, ℕ, List, [], Option, Some, ap, sym, subst, refl, arith}
+use Rattle.std.proofs.Common.{◌≡◌, ◌∙◌, inl, inr, ℕ, List, [], true, false, Option, Some, ap, sym, subst, refl, arith}
 use Rattle.std.specs.Prelude.{◌≢◌, Bool}
 use Rattle.ufs_disk.specs.Disk.{Leaves}
 use Rattle.ufs_disk.specs.Moments.{Moments}
@@ -10,10 +10,13 @@ use Rattle.ufs_model.specs.History.{joined}
 use Rattle.ufs_model.specs.PosixTree.{PosixTree}
 use Rattle.ufs_model.specs.declared.data.Entry.{Entry}
 use Rattle.ufs_engine.specs.Plays.{AreFaultsOf, IsStampedThroughout}
+use Rattle.ufs_engine.specs.StandIn.{IsCountStill}
+use Rattle.ufs_engine.proofs.EndLemmas.{no_faults}
 use Rattle.ufs_engine.proofs.StampedLemmas.{none_stamped}
 use Rattle.ufs_recovery.specs.Recovered.{IsProperDisk}
 use Rattle.ufs_script.specs.declared.fault.ScriptFault.{ScriptFault}
 use Rattle.ufs_session.specs.Throughout.{IsExplainedThroughout}
+use Rattle.ufs_session.specs.Told.{devices_in}
 use Rattle.ufs_stored.specs.OnDisk.{IsExplainedBetween, IsExplainedImage}
 use Rattle.ufs_quiet.specs.declared.ending.Ending.{Ending}
 use Rattle.ufs_quiet.specs.declared.words.Command.{Command}
@@ -26,11 +29,21 @@ use Rattle.ufs_quiet.specs.Left.{ActsOn, LeavesDisk, LeavesSource, Plays}
 
 -- of the command that the words are
 pub disk_left : {D : Type 0} (words own : Option Command) (is : words ≡ own) (lists : List (List Entry)) (status : ℕ) (c : Course D) → ActsOn own lists status c → c.sectors_now ≡ c.sectors → (status ≢ 4 → status ≢ 7 → c.now ≡ c.before) → LeavesDisk words lists status c
-disk_left words own is lists status c acts size told = record { acts = subst (λ (o : Option Command). ActsOn o lists status c) (sym is) acts; size = size; told = λ four seven other. told four seven }
+disk_left words own is lists status c acts size told = record {
+  acts = subst (λ (o : Option Command). ActsOn o lists status c) (sym is) acts;
+  size = size;
+  told = λ other. told;
+  played = λ play four seven five silent. inl (told four seven);
+}
 
 -- of `play`
-pub played_left : {D : Type 0} (words : Option Command) (trace : Bool) (is : words ≡ Some (command.Play trace)) (lists : List (List Entry)) (status : ℕ) (c : Course D) → Plays lists status c → c.sectors_now ≡ c.sectors → (status ≢ 4 → status ≢ 7 → status ≢ 5 → c.now ≡ c.before) → LeavesDisk words lists status c
-played_left words trace is lists status c acts size told = record { acts = subst (λ (o : Option Command). ActsOn o lists status c) (sym is) acts; size = size; told = λ four seven other. told four seven (other (ap is_play is)) }
+pub played_left : {D : Type 0} (words : Option Command) (trace : Bool) (is : words ≡ Some (command.Play trace)) (lists : List (List Entry)) (status : ℕ) (c : Course D) → Plays lists status c → c.sectors_now ≡ c.sectors → (status ≢ 4 → status ≢ 7 → status ≢ 5 → devices_in (joined lists) ≡ [] → IsCountStill c.before c.now) → LeavesDisk words lists status c
+played_left words trace is lists status c acts size told = record {
+  acts = subst (λ (o : Option Command). ActsOn o lists status c) (sym is) acts;
+  size = size;
+  told = λ other. absurd (let played : true ≡ false = sym (ap is_play is) ∙ other in cc);
+  played = λ play. told;
+}
 
 -- a source that isn't read
 pub source_left : (words : Option Command) (status : ℕ) (left : Option (List ℕ)) (count : ℕ) → LeavesSource words status (record { left = left; rest = left; before = count; now = count })
@@ -38,8 +51,8 @@ source_left words status left count = record { told = λ a b. refl; unread = λ 
 
 -- ---- where nobody is served
 
-pub none_faults : (before : ℕ) (told : List (List Entry)) → told ≡ [] → AreFaultsOf before (joined told)
-none_faults before told none = subst (λ (l : List (List Entry)). AreFaultsOf before (joined l)) (sym none) (record { devices = inl refl; stops = tt })
+pub none_faults : (before now : ℕ) (told : List (List Entry)) → told ≡ [] → AreFaultsOf before now (joined told)
+none_faults before now told none = subst (λ (l : List (List Entry)). AreFaultsOf before now (joined l)) (sym none) (no_faults before now)
 
 -- what isn't served hasn't status 0
 unread_status : (f : ScriptFault) (ending : Ending) (text : List ℕ) → TellsFault f ending text → status_of ending ≡ 0 → ⊥

@@ -1,6 +1,6 @@
 -- What the endings of `play` tell.
 use Rattle.std.specs.Prelude.{Bool}
-use Rattle.std.proofs.Common.{◌≡◌, ℕ, ◌<◌, List, [], ◌++◌, length, Option, Some, None, Ok, Err, ◌⊎◌, inl, inr, ap, sym, subst, ◌∙◌, arith}
+use Rattle.std.proofs.Common.{◌≡◌, ℕ, ◌<◌, List, [], ◌++◌, length, Option, Some, None, Ok, Err, ◌⊎◌, inl, inr, ap, refl, sym, subst, ◌∙◌, arith}
 use Rattle.std.proofs.lemmas.List.{append-nil}
 use Rattle.std.specs.Io.KnownBytes.{Appends}
 use Rattle.ufs_base.specs.Faults.{raised}
@@ -9,6 +9,8 @@ use Rattle.ufs_model.specs.declared.data.Entry.{Entry}
 use Rattle.ufs_catalog.specs.declared.fault.RecoverFault.TheVariants as recover
 use Rattle.ufs_engine.specs.Begins.{TellsNoSession}
 use Rattle.ufs_engine.specs.Plays.{AreFaultsOf}
+use Rattle.ufs_engine.specs.StandIn.{HasRisen}
+use Rattle.ufs_engine.proofs.EndLemmas.{rose_past}
 use Rattle.ufs_image.specs.Proper.{IsProperImage}
 use Rattle.ufs_image.specs.Volume as image
 use Rattle.ufs_script.specs.Reading.{HasRead, LongerIsAlike, ReadsBreak, ReadsScript}
@@ -126,14 +128,18 @@ module _ (trace : Bool) (r : Reading) (d : Formatting) (told : List (List Entry)
 
 -- ---- a count that stays
 
--- a session that tells a fault has raised the disk's count
-end_rose : (d : Formatting) (told : List (List Entry)) (fault : ℕ) → TellsEnd d told fault → d.now ≡ raised d.before
-end_rose d told fault (inl e) = e.1.rose
-end_rose d told fault (inr e) = e.rose
+-- a count that is raised has risen
+raised_risen : (before now : ℕ) → now ≡ raised before → HasRisen before now now
+raised_risen before now rose = rose_past before before now now (omega arith) (record { rose = rose; number = refl })
 
-stopped_rose : (trace : Bool) (r : Reading) (d : Formatting) (told : List (List Entry)) (text : List ℕ) → IsStopped trace r d told text → d.now ≡ raised d.before
-stopped_rose trace r d told text (inl e) = e.1
-stopped_rose trace r d told text (inr e) = end_rose d told e.3 e.4
+-- a session that tells a fault has raised the disk's count
+end_risen : (d : Formatting) (told : List (List Entry)) (fault : ℕ) → TellsEnd d told fault → HasRisen d.before d.now fault
+end_risen d told fault (inl e) = e.risen
+end_risen d told fault (inr e) = e.risen
+
+never_stopped : (trace : Bool) (r : Reading) (d : Formatting) (told : List (List Entry)) (text : List ℕ) → ((fault : ℕ) → HasRisen d.before d.now fault → ⊥) → IsStopped trace r d told text → ⊥
+never_stopped trace r d told text quiet (inl e) = quiet d.now (raised_risen d.before d.now e.1)
+never_stopped trace r d told text quiet (inr e) = quiet e.3 (end_risen d told e.3 e.4)
 
 -- ---- of a visible source
 
@@ -148,10 +154,10 @@ module _ (trace : Bool) (alike : LongerIsAlike) (text : List ℕ) (r : Reading) 
   not_read f is e = let both : Ok e.0 ≡ Err f = sym e.1.2 ∙ alike_read e.1.0 e.1.1 ∙ is in cc
 
   -- a script is served, or no session begins, or memory runs out
-  complete_by : (script : Script) → script_of text ≡ Ok script → (d.now ≡ raised d.before → ⊥) → (out : List ℕ) → ByStatus trace r d told status out → (status ≡ 0) ⊎ ((status ≡ 3) ⊎ (status ≡ 5))
+  complete_by : (script : Script) → script_of text ≡ Ok script → ((fault : ℕ) → HasRisen d.before d.now fault → ⊥) → (out : List ℕ) → ByStatus trace r d told status out → (status ≡ 0) ⊎ ((status ≡ 3) ⊎ (status ≡ 5))
   complete_by script is quiet out (whole at e) = inl at
   complete_by script is quiet out (unbegun at read none e) = inr (inl at)
-  complete_by script is quiet out (stopped at read e) = absurd (quiet (stopped_rose trace r d told out e))
+  complete_by script is quiet out (stopped at read e) = absurd (never_stopped trace r d told out quiet e)
   complete_by script is quiet out (starved at) = inr (inr at)
   complete_by script is quiet out (broken at none e) = absurd (not_broken script out is e)
   complete_by script is quiet out (unread at e) = absurd (calm e)
@@ -196,7 +202,7 @@ module _ (trace : Bool) (r : Reading) (d : Formatting) (told : List (List Entry)
   stopped_got text got (inl e) = inl (e.0, e.1, subst (Appends w.held w.holds) e.2 got)
   stopped_got text got (inr e) = inr (e.0, e.1, e.2, e.3, e.4, subst (Appends w.held w.holds) (e.5 ∙ ap (λ (l : List ℕ). (l ++ trace_part trace (joined told)) ++ device_line e.3) e.2.lines) got)
 
-  pub play_told : LongerIsAlike → AreFaultsOf d.before (joined told) → TellsPlay trace r d told w status
+  pub play_told : LongerIsAlike → AreFaultsOf d.before d.now (joined told) → TellsPlay trace r d told w status
   play_told alike faults = record {
     done = λ zero.
         let x = seen (λ e. cc) in

@@ -15,7 +15,7 @@ use Rattle.ufs_quiet.proofs.TreeLemmas.{tree_told}
 use Rattle.ufs_quiet.proofs.CheckLemmas.{check_told}
 use Rattle.ufs_quiet.proofs.RecoveryLemmas.{recovery_told}
 
-pub tells : LongerIsAlike → (words : Option Command) (r : Reading) (d : Formatting) (told : List (List Entry)) (w : Writing) (status : ℕ) → AreFaultsOf d.before (joined told) → IsAnswer (Ends words r d told) w status → Tells words r d told w status
+pub tells : LongerIsAlike → (words : Option Command) (r : Reading) (d : Formatting) (told : List (List Entry)) (w : Writing) (status : ℕ) → AreFaultsOf d.before d.now (joined told) → IsAnswer (Ends words r d told) w status → Tells words r d told w status
 tells alike None r d told w status faults a = tt
 tells alike (Some command.NotBuilt) r d told w status faults a = tt
 tells alike (Some (command.Play trace)) r d told w status faults a = play_told trace r d told w status a alike faults

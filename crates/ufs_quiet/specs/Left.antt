@@ -19,6 +19,8 @@ use Rattle.ufs_recover.specs.Stopped.{IsNewDisk, IsStopped}
 use Rattle.ufs_recovery.specs.Home.{KeepsTree}
 use Rattle.ufs_recovery.specs.Recovered.{IsCleanDisk, IsProperDisk, IsRecovered}
 use Rattle.ufs_session.specs.Throughout.{IsExplainedThroughout}
+use Rattle.ufs_session.specs.Told.{devices_in}
+use Rattle.ufs_engine.specs.StandIn.{IsCountStill}
 use Rattle.ufs_quiet.specs.declared.words.Command.{Command}
 use Rattle.ufs_quiet.specs.declared.words.Command.TheVariants as command
 use Rattle.ufs_quiet.specs.Commands.{is_play}
@@ -82,8 +84,10 @@ pub record LeavesDisk {D : Type 0} (words : Option Command) (lists : List (List 
   pub acts : ActsOn words lists status c
   -- It has as many sectors.
   pub size : c.sectors_now ≡ c.sectors
-  -- Any status but 4 and 7, and for `play` but 5, leaves its count.
-  pub told : status ≢ 4 → status ≢ 7 → (is_play words ≡ true → status ≢ 5) → c.now ≡ c.before
+  -- Of every command but `play` any status but 4 and 7 leaves its count.
+  pub told : is_play words ≡ false → status ≢ 4 → status ≢ 7 → c.now ≡ c.before
+  -- Of `play` any status but 4, 5 and 7 does where no reply tells a fault; a count at its type's end tells none.
+  pub played : is_play words ≡ true → status ≢ 4 → status ≢ 7 → status ≢ 5 → devices_in (joined lists) ≡ [] → IsCountStill c.before c.now
 
 -- ---- sources
 

@@ -76,6 +76,6 @@ pub record IsSessionOf (d : Formatting) (script : Script) (told : List (List Ent
 abbrev pub EndsSession : Formatting → List (List Entry) → Result (Unit {0}) PlayFault → Type 0
 EndsSession d told result = IsEndFault d.before d.now (joined told) result
 
--- The session's end tells this fault: one of the closing, or the first that the replies tell, where the store stopped.
+-- The session's end tells this fault: one of the closing, or the one at which the store stopped.
 abbrev pub TellsEnd : Formatting → List (List Entry) → ℕ → Type 0
 TellsEnd d told fault = EndsSession d told (Err (ended.Device fault)) ⊎ EndsSession d told (Err (ended.Stopped fault))

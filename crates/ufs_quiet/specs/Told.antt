@@ -12,6 +12,7 @@ use Rattle.ufs_layout.specs.declared.geometry.Geometry.{Geometry}
 use Rattle.ufs_model.specs.History.{joined}
 use Rattle.ufs_model.specs.declared.data.Entry.{Entry}
 use Rattle.ufs_engine.specs.Plays.{AreFaultsOf, MayPlay}
+use Rattle.ufs_engine.specs.StandIn.{HasRisen}
 use Rattle.ufs_recovery.specs.Recovered.{log_of}
 use Rattle.ufs_script.specs.Reading.{ReadsScript}
 use Rattle.ufs_script.specs.Script.{script_of}
@@ -31,29 +32,36 @@ pub record AreCalm (d : Formatting) (w : Writing) : Type 0 where
   pub disk : d.now ≢ raised d.before
   pub sink : w.now ≢ raised w.before
 
+-- No call of the disk failed, and the count of the sink didn't rise.
+pub record AreCalmThroughout (d : Formatting) (w : Writing) : Type 0 where
+  pub disk : (fault : ℕ) → HasRisen d.before d.now fault → ⊥
+  pub sink : w.now ≢ raised w.before
+
 -- `play`, with a trace or without, of which the transcripts are these
 pub record TellsPlay (trace : Bool) (r : Reading) (d : Formatting) (told : List (List Entry)) (w : Writing) (status : ℕ) : Type 0 where
   -- Status 0: the source was read to its end, and its bytes are a script. There is one history, in which one POSIX tree,
   -- that begins as the tree of the disk's image, gives every reply or the reply is an excuse that fits, and which holds
   -- each request of the script once in its client's order. The sink got the lines of that history's replies, behind them,
-  -- where a trace is asked for, those of that history's entries by their tickets, 0, 1, 2 and so on, and nothing else. No
-  -- reply tells a fault of the disk.
+  -- where a trace is asked for, those of that history's entries by their tickets, 0, 1, 2 and so on, and nothing else. Replies
+  -- may tell reads of the disk that failed, and none tells that the store stopped; where none tells a fault, no call of the
+  -- disk failed.
   pub done : status ≡ 0 → (script : Script) × ReadsScript r.left r.rest script × IsSessionOf d script told × EndsSession d told (Ok tt) × Appends w.held w.holds (session_text trace script (joined told))
   -- Status 3: no session begins with the image, and the sink got the line of the cause, and nothing else.
   pub no_start : status ≡ 3 → (told ≡ []) × ((text : List ℕ) × TellsNoStart d text × Appends w.held w.holds text)
   -- The image of a visible disk that is proper is never refused.
   pub proper : MayPlay d.visible d.sectors d.state → status ≢ 3
   -- Status 4: a call of the disk failed as the session began, and the sink got the line of the fault; or each request was
-  -- answered, and it got the same lines as with status 0, and behind them that of the fault of the closing, or of the first
-  -- that a reply tells.
+  -- answered, and it got the same lines as with status 0, and behind them that of the fault of the closing, or of the one
+  -- at which the store stopped. The fault of the closing is the disk's last, and no reply tells it.
   pub closing : status ≡ 4 → ((told ≡ []) × (d.now ≡ raised d.before) × Appends w.held w.holds (device_line d.now))
       ⊎ ((script : Script) × ReadsScript r.left r.rest script × IsSessionOf d script told × (fault : ℕ) × TellsEnd d told fault × Appends w.held w.holds (session_text trace script (joined told) ++ device_line fault))
-  -- The replies tell one fault of the disk at most, the first to which its count rose, and a reply that tells where the store
-  -- stopped tells that one.
-  pub faults : AreFaultsOf d.before (joined told)
+  -- Each fault of the disk that a reply tells is one to which its count rose in this call, and no two replies tell one. There
+  -- may be several, as a read that fails stops nothing. The replies that tell where the store stopped all tell one fault, of this
+  -- call too.
+  pub faults : AreFaultsOf d.before d.now (joined told)
   -- Over a visible source, a script is served, unless memory runs out, a count of faults rises, or no session
   -- begins with the image.
-  pub complete : (text : List ℕ) (script : Script) → r.left ≡ Some text → script_of text ≡ Ok script → r.now ≢ raised r.before → AreCalm d w
+  pub complete : (text : List ℕ) (script : Script) → r.left ≡ Some text → script_of text ≡ Ok script → r.now ≢ raised r.before → AreCalmThroughout d w
       → (status ≡ 0) ⊎ ((status ≡ 3) ⊎ (status ≡ 5))
   -- A text that is no script is told with the line and the cause of its first break.
   pub broken : (text : List ℕ) (fault : ScriptFault) → r.left ≡ Some text → script_of text ≡ Err fault → r.now ≢ raised r.before → w.now ≢ raised w.before

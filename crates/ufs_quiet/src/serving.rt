@@ -2,6 +2,8 @@
 ghost use Rattle.std.specs.Prelude.{◌≡◌, ◌≢◌, []};
 ghost use Rattle.ufs_model.specs.History.{joined};
 ghost use Rattle.ufs_engine.specs.Plays.{AreFaultsOf};
+ghost use Rattle.ufs_engine.specs.StandIn.{IsCountStill};
+ghost use Rattle.ufs_session.specs.Told.{devices_in};
 ghost use Rattle.ufs_quiet.specs.Seen.{course, formatting, reading, writing};
 ghost use Rattle.ufs_quiet.specs.Endings.{EndsBehind, EndsPlay, EndsPlayed, EndsPrinting, EndsServing, IsAnswer, TellsFault};
 ghost use Rattle.ufs_quiet.specs.Left.{Plays};
@@ -77,10 +79,10 @@ fn serve_script<K: Sink, D: Disk>(
     disk: D,
 ) -> Outcome<D>
     ensures answer { IsAnswer (EndsServing trace (formatting D.visible D.size D.moments D.faults disk result.disk) script result.told) (writing K.held K.faults sink.old sink.new) result.status }
-    ensures faults { AreFaultsOf (D.faults disk) (joined result.told) }
+    ensures faults { AreFaultsOf (D.faults disk) (D.faults result.disk) (joined result.told) }
     ensures acts { Plays result.told result.status (course D.visible D.keeps D.size D.moments D.faults disk result.disk) }
     ensures size { D.size result.disk ≡ D.size disk }
-    ensures disk_told { result.status ≢ 4 → result.status ≢ 7 → result.status ≢ 5 → D.faults result.disk ≡ D.faults disk }
+    ensures disk_told { result.status ≢ 4 → result.status ≢ 7 → result.status ≢ 5 → devices_in (joined result.told) ≡ [] → IsCountStill (D.faults disk) (D.faults result.disk) }
 {
     let played = play(alloc, script, 0, disk);
     Outcome {
@@ -122,10 +124,10 @@ pub fn read_and_serve<S: Source, K: Sink, D: Disk>(
 ) -> Outcome<D>
     ensures answer { IsAnswer (EndsPlay trace (reading S.left S.faults source.old source.new) (formatting D.visible D.size D.moments D.faults disk result.disk) result.told)
         (writing K.held K.faults sink.old sink.new) result.status }
-    ensures faults { AreFaultsOf (D.faults disk) (joined result.told) }
+    ensures faults { AreFaultsOf (D.faults disk) (D.faults result.disk) (joined result.told) }
     ensures acts { Plays result.told result.status (course D.visible D.keeps D.size D.moments D.faults disk result.disk) }
     ensures size { D.size result.disk ≡ D.size disk }
-    ensures disk_told { result.status ≢ 4 → result.status ≢ 7 → result.status ≢ 5 → D.faults result.disk ≡ D.faults disk }
+    ensures disk_told { result.status ≢ 4 → result.status ≢ 7 → result.status ≢ 5 → devices_in (joined result.told) ≡ [] → IsCountStill (D.faults disk) (D.faults result.disk) }
     ensures source_told { result.status ≢ 6 → result.status ≢ 7 → S.faults source.new ≡ S.faults source.old }
 {
     match read_script(alloc, source) {

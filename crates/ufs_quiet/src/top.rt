@@ -61,7 +61,7 @@ fn answer<S: Source, K: Sink, D: Disk>(
         (writing K.held K.faults sink.old sink.new) result.status }
     ensures disk { LeavesDisk (asked words.now.items) result.told result.status (course D.visible D.keeps D.size D.moments D.faults disk result.disk) }
     ensures source { LeavesSource (asked words.now.items) result.status (reading S.left S.faults source.old source.new) }
-    ensures faults { AreFaultsOf (D.faults disk) (joined result.told) }
+    ensures faults { AreFaultsOf (D.faults disk) (D.faults result.disk) (joined result.told) }
     ensures served { is_play (asked words.now.items) ≡ false → result.told ≡ [] }
 {
     let Some(which) = read_command(words.as_slice()) else {
@@ -103,7 +103,7 @@ pub fn quiet<S: Source, K: Sink, D: Disk>(
         (writing K.held K.faults sink.old sink.new) result.status }
     // The disk: `play` leaves what its history explains, and clean with status 0, `mkfs` formats it, `recover` makes its
     // image clean, `tree` and `check` only read it, each of these safe at any moment; all else leaves it. A fault of the
-    // disk is told by status 4 or 7, or in a reply of a `play` that ends with 5.
+    // disk is told by status 4 or 7, or in a reply of a `play`; one that ends with 5 may leave it untold.
     ensures disk { LeavesDisk (asked words.now.items) result.told result.status (course D.visible D.keeps D.size D.moments D.faults disk result.disk) }
     // The source: only `play` reads it, and its fault is told by status 6 or 7.
     ensures source { LeavesSource (asked words.now.items) result.status (reading S.left S.faults source.old source.new) }

@@ -25,4 +25,7 @@ returns-in-Err-clause-answer g c =
     c.leave_unread.ensures.answer
 
 pub returns-in-Err-clause-faults : goal.returns-in-Err-clause-faults
-returns-in-Err-clause-faults g c = none_faults (g.D.Disk.faults c.args.disk) c.leave_unread.result.told c.leave_unread.ensures.told
+returns-in-Err-clause-faults g c = none_faults (g.D.Disk.faults c.args.disk) (g.D.Disk.faults c.leave_unread.result.disk) c.leave_unread.result.told c.leave_unread.ensures.told
+
+pub returns-in-Err-clause-disk_told : goal.returns-in-Err-clause-disk_told
+returns-in-Err-clause-disk_told g c four seven five silent = inl (ap g.D.Disk.faults c.leave_unread.ensures.untouched)

@@ -7,7 +7,7 @@ use Rattle.ufs_quiet.specs.Seen.{formatting, writing}
 use Rattle.ufs_quiet.specs.Served.{session_lines}
 use Rattle.ufs_quiet.specs.Endings.{EndsPlayed, EndsServing}
 use Rattle.ufs_quiet.proofs.AnswerLemmas.{answer_map}
-use Rattle.ufs_quiet.proofs.LeavingLemmas.{left_calm, never_unread, on_whole}
+use Rattle.ufs_quiet.proofs.LeavingLemmas.{left_still, never_unread, on_whole}
 use Rattle.ufs_quiet.proofs.ServingLemmas.{HasPlayed, played_ends}
 use Rattle.ufs_quiet.proofs.serving.serve_script.Goals as goal
 
@@ -46,5 +46,5 @@ pub returns-clause-disk_told : goal.returns-clause-disk_told
 returns-clause-disk_told g c four seven five =
     let told = c.play-played.result.told in
     let w = writing g.K.Sink.held g.K.Sink.faults c.args.sink.now c.tell_played.new.sink in
-    left_calm c.play-played.result.ended (session_lines c.args.trace (joined told)) w c.tell_played.result c.tell_played.ensures (g.D.Disk.faults c.args.disk) (g.D.Disk.faults c.play-played.result.disk)
-    c.play-played.ensures.calm c.play-played.ensures.opening four seven five
+    left_still c.play-played.result.ended (session_lines c.args.trace (joined told)) w c.tell_played.result c.tell_played.ensures (g.D.Disk.faults c.args.disk) (g.D.Disk.faults c.play-played.result.disk)
+    (joined told) c.play-played.ensures.closing c.play-played.ensures.opening four seven five

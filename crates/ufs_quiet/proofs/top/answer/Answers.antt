@@ -28,10 +28,10 @@ returns-in-Play-clause-source g c =
     record { told = c.read_and_serve.ensures.source_told; unread = λ other. absurd (let played : true ≡ false = sym (ap is_play is) ∙ other in cc) }
 
 pub returns-in_default-clause-faults : goal.returns-in_default-clause-faults
-returns-in_default-clause-faults g c = none_faults (g.D.Disk.faults c.args.disk) c.nothing_told.result c.nothing_told.ensures
+returns-in_default-clause-faults g c = none_faults (g.D.Disk.faults c.args.disk) (g.D.Disk.faults c.args.disk) c.nothing_told.result c.nothing_told.ensures
 
 pub returns-clause-faults : goal.returns-clause-faults
-returns-clause-faults g c = none_faults (g.D.Disk.faults c.args.disk) c.nothing_told-2.result c.nothing_told-2.ensures
+returns-clause-faults g c = none_faults (g.D.Disk.faults c.args.disk) (g.D.Disk.faults c.act-status.new.disk) c.nothing_told-2.result c.nothing_told-2.ensures
 
 pub returns-clause-answer : goal.returns-clause-answer
 returns-clause-answer g c =
