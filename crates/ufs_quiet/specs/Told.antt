@@ -32,7 +32,7 @@ pub record AreCalm (d : Formatting) (w : Writing) : Type 0 where
   pub disk : d.now ≢ raised d.before
   pub sink : w.now ≢ raised w.before
 
--- No call of the disk failed, and the count of the sink didn't rise.
+-- No call of the disk failed, as its count tells, and the count of the sink didn't rise.
 pub record AreCalmThroughout (d : Formatting) (w : Writing) : Type 0 where
   pub disk : (fault : ℕ) → HasRisen d.before d.now fault → ⊥
   pub sink : w.now ≢ raised w.before
@@ -43,8 +43,8 @@ pub record TellsPlay (trace : Bool) (r : Reading) (d : Formatting) (told : List 
   -- that begins as the tree of the disk's image, gives every reply or the reply is an excuse that fits, and which holds
   -- each request of the script once in its client's order. The sink got the lines of that history's replies, behind them,
   -- where a trace is asked for, those of that history's entries by their tickets, 0, 1, 2 and so on, and nothing else. Replies
-  -- may tell reads of the disk that failed, and none tells that the store stopped; where none tells a fault, no call of the
-  -- disk failed.
+  -- may tell reads of the disk that failed, and none tells that the store stopped; where none tells a fault, the disk's
+  -- count of faults is as it was, or stands at its type's end.
   pub done : status ≡ 0 → (script : Script) × ReadsScript r.left r.rest script × IsSessionOf d script told × EndsSession d told (Ok tt) × Appends w.held w.holds (session_text trace script (joined told))
   -- Status 3: no session begins with the image, and the sink got the line of the cause, and nothing else.
   pub no_start : status ≡ 3 → (told ≡ []) × ((text : List ℕ) × TellsNoStart d text × Appends w.held w.holds text)
