@@ -18,8 +18,7 @@ use Rattle.ufs_engine.specs.Plays.{AreFaultsOf, IsClosingFault, IsEndFault, IsSt
 use Rattle.ufs_engine.specs.declared.playing.PlayFault.{PlayFault}
 use Rattle.ufs_engine.specs.declared.playing.PlayFault.TheVariants as ending
 use Rattle.ufs_session.specs.Played.{IsPlayedFrom}
-use Rattle.ufs_session.specs.Told.{AreToldStop}
-use Rattle.ufs_engine.specs.StandIn.{AreFaultsTold, HasRisen, IsCountStill, IsReadFault, IsStopFault}
+use Rattle.ufs_session.specs.Told.{AreFaultsTold, AreToldStop, HasRisen, IsCountStill, IsReadFault, IsStopFault}
 use Rattle.ufs_start.specs.declared.fault.StartFault.{StartFault}
 use Rattle.ufs_store.specs.Refusals.{IsTold}
 use Rattle.ufs_store.specs.State.{StoreState}

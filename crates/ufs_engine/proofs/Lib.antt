@@ -6,4 +6,3 @@ mod Seen
 pub mod Ended
 pub mod EndLemmas
 pub mod StampedLemmas
-mod StandInLemmas

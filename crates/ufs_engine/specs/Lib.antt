@@ -2,4 +2,3 @@ pub mod Begins
 pub mod Laws
 pub mod Closes
 pub mod Plays
-pub mod StandIn

@@ -15,8 +15,7 @@ use Rattle.ufs_engine.specs.declared.playing.PlayFault.TheVariants.{Image, Devic
 use Rattle.ufs_recovery.specs.Recovered.{IsProperDisk}
 use Rattle.ufs_session.specs.Played.{IsPlayedFrom}
 use Rattle.ufs_session.specs.Throughout.{AreMomentsStamped}
-use Rattle.ufs_session.specs.Told.{AreToldStop, devices_in}
-use Rattle.ufs_engine.specs.StandIn.{HasRisen, IsCountStill}
+use Rattle.ufs_session.specs.Told.{AreToldStop, HasRisen, IsCountStill, devices_in}
 use Rattle.ufs_sound.specs.Owned.{Has}
 use Rattle.ufs_stored.specs.OnDisk.{IsExplainedBetween}
 

@@ -5,7 +5,6 @@ mod beginning;
 mod closing;
 mod laws;
 mod playing;
-mod stand_in;
 mod starting;
 
 pub use beginning::{Begun, Unbegun, begin};

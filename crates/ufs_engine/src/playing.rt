@@ -25,12 +25,12 @@ ghost use Rattle.ufs_start.specs.declared.fault.StartFault.TheVariants as start;
 
 use crate::beginning::{Begun, begin};
 use crate::closing::{CloseFault, close};
-use crate::stand_in::serve;
 use std::alloc::Global;
 use ufs_catalog::RecoverFault;
 use ufs_client::{EndFault, ToldLists};
 use ufs_disk::Disk;
 use ufs_script::Script;
+use ufs_session::serve;
 use ufs_start::StartFault;
 
 /// Why a session isn't whole: no image to begin with, a fault of the closing, or want of memory.

@@ -10,13 +10,12 @@ use Rattle.ufs_model.specs.History.{joined}
 use Rattle.ufs_model.specs.PosixTree.{PosixTree}
 use Rattle.ufs_model.specs.declared.data.Entry.{Entry}
 use Rattle.ufs_engine.specs.Plays.{AreFaultsOf, IsStampedThroughout}
-use Rattle.ufs_engine.specs.StandIn.{IsCountStill}
 use Rattle.ufs_engine.proofs.EndLemmas.{no_faults}
 use Rattle.ufs_engine.proofs.StampedLemmas.{none_stamped}
 use Rattle.ufs_recovery.specs.Recovered.{IsProperDisk}
 use Rattle.ufs_script.specs.declared.fault.ScriptFault.{ScriptFault}
 use Rattle.ufs_session.specs.Throughout.{IsExplainedThroughout}
-use Rattle.ufs_session.specs.Told.{devices_in}
+use Rattle.ufs_session.specs.Told.{IsCountStill, devices_in}
 use Rattle.ufs_stored.specs.OnDisk.{IsExplainedBetween, IsExplainedImage}
 use Rattle.ufs_quiet.specs.declared.ending.Ending.{Ending}
 use Rattle.ufs_quiet.specs.declared.words.Command.{Command}

@@ -19,8 +19,7 @@ use Rattle.ufs_recover.specs.Stopped.{IsNewDisk, IsStopped}
 use Rattle.ufs_recovery.specs.Home.{KeepsTree}
 use Rattle.ufs_recovery.specs.Recovered.{IsCleanDisk, IsProperDisk, IsRecovered}
 use Rattle.ufs_session.specs.Throughout.{IsExplainedThroughout}
-use Rattle.ufs_session.specs.Told.{devices_in}
-use Rattle.ufs_engine.specs.StandIn.{IsCountStill}
+use Rattle.ufs_session.specs.Told.{IsCountStill, devices_in}
 use Rattle.ufs_quiet.specs.declared.words.Command.{Command}
 use Rattle.ufs_quiet.specs.declared.words.Command.TheVariants as command
 use Rattle.ufs_quiet.specs.Commands.{is_play}

@@ -12,7 +12,7 @@ use Rattle.ufs_layout.specs.declared.geometry.Geometry.{Geometry}
 use Rattle.ufs_model.specs.History.{joined}
 use Rattle.ufs_model.specs.declared.data.Entry.{Entry}
 use Rattle.ufs_engine.specs.Plays.{AreFaultsOf, MayPlay}
-use Rattle.ufs_engine.specs.StandIn.{HasRisen}
+use Rattle.ufs_session.specs.Told.{HasRisen}
 use Rattle.ufs_recovery.specs.Recovered.{log_of}
 use Rattle.ufs_script.specs.Reading.{ReadsScript}
 use Rattle.ufs_script.specs.Script.{script_of}

@@ -2,8 +2,7 @@
 ghost use Rattle.std.specs.Prelude.{◌≡◌, ◌≢◌, []};
 ghost use Rattle.ufs_model.specs.History.{joined};
 ghost use Rattle.ufs_engine.specs.Plays.{AreFaultsOf};
-ghost use Rattle.ufs_engine.specs.StandIn.{IsCountStill};
-ghost use Rattle.ufs_session.specs.Told.{devices_in};
+ghost use Rattle.ufs_session.specs.Told.{IsCountStill, devices_in};
 ghost use Rattle.ufs_quiet.specs.Seen.{course, formatting, reading, writing};
 ghost use Rattle.ufs_quiet.specs.Endings.{EndsBehind, EndsPlay, EndsPlayed, EndsPrinting, EndsServing, IsAnswer, TellsFault};
 ghost use Rattle.ufs_quiet.specs.Left.{Plays};
