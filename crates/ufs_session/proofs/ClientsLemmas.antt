@@ -12,17 +12,20 @@ use Rattle.ufs_model.specs.declared.data.Op.{Op}
 use Rattle.ufs_client.specs.declared.played.EndFault.{EndFault}
 use Rattle.ufs_client.specs.Played.{transcript, IsMerged}
 use Rattle.ufs_client.proofs.Lists.{get_before, get_here, get_past, joined-push, not_ok, rising_from}
+use Rattle.ufs_sound.specs.Parts.{Start}
 use Rattle.ufs_store.specs.State.{StoreState, geometry_of_store}
-use Rattle.ufs_stored.specs.OnDisk.{IsOnDisk}
+use Rattle.ufs_stored.specs.OnDisk.{IsExplainedBetween, IsOnDisk}
 use Rattle.ufs_stored.specs.Parts.{Parts}
 use Rattle.ufs_stored.specs.Sound.{IsSoundServer}
-use Rattle.ufs_session.specs.Played.{IsPlayedFrom, MayBegin}
-use Rattle.ufs_session.specs.Served.{GoesAlong}
+use Rattle.ufs_session.specs.Drawing.{SeesDisk}
+use Rattle.ufs_session.specs.Picked.{MayHaveBegun}
+use Rattle.ufs_session.specs.Played.{BeginsAs, IsPlayedFrom, MayBegin}
+use Rattle.ufs_session.specs.Reading.{HasReadOn, IsNewTo}
+use Rattle.ufs_session.specs.Served.{AreServed, GoesAlong}
 use Rattle.ufs_session.specs.Serving.{IsReached, IsReady, GoesOn, IsDone}
-use Rattle.ufs_session.specs.Throughout.{IsExplainedThroughout}
 use Rattle.ufs_session.specs.Told.{AreFaultsTold}
-use Rattle.ufs_session.proofs.ThroughoutLemmas.{throughout_joined}
-use Rattle.ufs_session.proofs.ToldLemmas.{told_on}
+use Rattle.ufs_session.proofs.Picked.{picks_begin}
+use Rattle.ufs_session.proofs.ReadOnLemmas.{joined_on, none_on, sees_on}
 
 pub record AreServing (start : PosixTree) (clients : List (List Op)) (told : List (List Entry)) (p : Parts) (count first : ℕ) (done rest : List (List Op)) : Type 0 where
   pub whole : done ++ rest ≡ clients
@@ -173,19 +176,69 @@ module _ (start : PosixTree) (clients : List (List Op)) (told : List (List Entry
             ∙ isdone.fds c fd (λ e. absurd (omega (arith, high, e))) ∙ is.fresh c fd (omega (arith, high));
       }
 
--- the disk goes along with one client more
-module _ (visible keeps : Bool) (old now new : StoreState) (was here after : Parts) (earlier mine : List Entry) (client : ℕ) (along : GoesAlong visible keeps old now was here earlier)
-    (ready_here : (start : PosixTree) → MayBegin was start → IsReady start earlier here client) where
-  pub goes_along : (IsTrue visible → (start : PosixTree) → IsReady start earlier here client → IsOnDisk now start earlier here → IsOnDisk new start (earlier ++ mine) after)
-      → (IsTrue visible → (start : PosixTree) → IsReady start earlier here client → IsOnDisk now start earlier here → IsExplainedThroughout keeps now.sectors start earlier mine now.moments new.moments)
-      → AreFaultsTold now new mine → IsSoundServer (geometry_of_store new) new.unassigned.free after → geometry_of_store new ≡ geometry_of_store now → new.sectors ≡ now.sectors → GoesAlong visible keeps old new was after (earlier ++ mine)
-  goes_along on_disk moments faults sound geometry sectors = record {
-    on_disk = λ sees start may is. on_disk sees start (ready_here start may) (along.on_disk sees start may is);
-    moments = λ sees start may is.
-        throughout_joined keeps old.sectors start [] earlier mine old.moments now.moments new.moments (along.moments sees start may is)
-        (subst (λ (n : ℕ). IsExplainedThroughout keeps n start earlier mine now.moments new.moments) along.sectors (moments sees start (ready_here start may) (along.on_disk sees start may is)));
-    faults = told_on old now new earlier mine along.faults faults;
-    sound = sound;
-    geometry = geometry ∙ along.geometry;
-    sectors = sectors ∙ along.sectors;
+-- ---- as far as was read
+
+-- The session has read on since its beginning, and this holds of each tree with which it may have begun.
+pub record HasReadWith (k : Start) (visible keeps : Bool) (begun : Parts) (first now : StoreState) (p : Parts) (history : List Entry) (Each : PosixTree → Type 0) : Type 0 where
+  pub on : HasReadOn k visible keeps begun [] first now begun p [] history
+  pub each : (start : PosixTree) → MayHaveBegun begun on.more start → Each start
+
+module _ (k : Start) (visible keeps : Bool) (begun : Parts) where
+  began_none : (start : PosixTree) → MayBegin begun start → MayHaveBegun begun [] start
+  began_none start may = record { begins = may; picked = λ pick none. absurd none }
+
+  -- nothing is told yet
+  pub with_none : (Each : PosixTree → Type 0) (s : StoreState) → BeginsAs k begun → ((start : PosixTree) → IsOnDisk s start [] begun → IsExplainedBetween keeps s.sectors start [] s.moments s.moments)
+      → ((start : PosixTree) → MayBegin begun start → Each start) → HasReadWith k visible keeps begun s s begun [] Each
+  with_none Each s begins rest each = record {
+    on = none_on k visible keeps begun [] s begun [] (picks_begin k begun begins) rest;
+    each = λ start may. each start may.begins;
   }
+
+  module _ (first now : StoreState) (p : Parts) where
+    pub with_sees : (history : List Entry) (Each : PosixTree → Type 0) → HasReadWith k visible keeps begun first now p history Each → BeginsAs k begun → SeesDisk k visible first [] begun → SeesDisk k visible now history p
+    with_sees history Each read begins = sees_on k visible keeps begun [] first now begun p [] history (picks_begin k begun begins) read.on
+
+    -- a client comes new to it
+    pub with_new : (history : List Entry) (Each : PosixTree → Type 0) (client : ℕ) (read : HasReadWith k visible keeps begun first now p history Each) → ((start : PosixTree) → Each start → IsReady start history p client) → IsNewTo k begun read.on.more p history client
+    with_new history Each client read ready = record { read = read.on.read; ready = λ start may. ready start (read.each start may) }
+
+    -- one client more
+    pub with_more : (new : StoreState) (after : Parts) (earlier mine : List Entry) (Each : PosixTree → Type 0) (read : HasReadWith k visible keeps begun first now p earlier Each) (More : PosixTree → Type 0)
+        → (more : HasReadOn k visible keeps begun read.on.more now new p after earlier mine) → now.sectors ≡ first.sectors
+        → ((start : PosixTree) → Each start → MayHaveBegun begun more.more start → IsReached start (earlier ++ mine) after → More start) → HasReadWith k visible keeps begun first new after (earlier ++ mine) More
+    with_more new after earlier mine Each read More more sectors goes = record {
+      on = joined_on k visible keeps begun [] first now new begun p after [] earlier mine read.on more sectors;
+      each = λ start may. goes start (read.each start (record { begins = may.begins; picked = more.narrower start may.picked })) may (more.read.reached start may);
+    }
+
+    -- the disk goes along
+    along : (history : List Entry) → HasReadOn k visible keeps begun [] first now begun p [] history → AreFaultsTold first now history → IsSoundServer (geometry_of_store now) now.unassigned.free p → geometry_of_store now ≡ geometry_of_store first → now.sectors ≡ first.sectors
+        → GoesAlong visible keeps first now begun p history
+    along history on faults sound geometry sectors = record {
+      on_disk = λ sees start may is. (on.seen sees start (began_none start may) is).on_disk;
+      moments = λ sees start may is. (on.seen sees start (began_none start may) is).moments;
+      faults = faults;
+      sound = sound;
+      geometry = geometry;
+      sectors = sectors;
+    }
+
+    -- a session that ends here
+    pub served_all : (clients : List (List Op)) (told : List (List Entry)) (r : Result (Unit {0}) EndFault) → HasReadWith k visible keeps begun first now p (joined told) (λ start. IsPlayedFrom start clients told r (joined told))
+        → AreFaultsTold first now (joined told) → IsSoundServer (geometry_of_store now) now.unassigned.free p → geometry_of_store now ≡ geometry_of_store first → now.sectors ≡ first.sectors → AreServed k visible keeps first now begun p clients told r
+    served_all clients told r read faults sound geometry sectors = record {
+      played = record {
+        tree = read.on.read.tree;
+        like = read.on.read.like;
+        begins = read.on.read.may.begins;
+        played = read.each read.on.read.tree read.on.read.may;
+        left = (read.on.read.reached read.on.read.tree read.on.read.may).parts;
+      };
+      seen = λ sees start may is. read.each start (picked sees start may is);
+      left = λ sees start may is. (read.on.read.reached start (picked sees start may is)).parts;
+      disk = along (joined told) read.on faults sound geometry sectors;
+    }
+      where
+        picked : IsTrue visible → (start : PosixTree) → MayBegin begun start → IsOnDisk first start [] begun → MayHaveBegun begun read.on.more start
+        picked sees start may is = record { begins = may; picked = (read.on.seen sees start (began_none start may) is).picked }

@@ -1,5 +1,5 @@
 -- An entry that was served, as the hand is to draw it, and one that acknowledges changes, as it is to keep it.
-use Rattle.std.proofs.Common.{◌≡◌, ◌++◌, ◌∷◌, [], ◌&&◌, ℕ, Bool, true, false, List, Option, None, Some, sym, refl, ◌∙◌, subst}
+use Rattle.std.proofs.Common.{◌≡◌, ◌++◌, ◌∷◌, [], ◌&&◌, Bool, true, false, List, Some, sym, refl, ◌∙◌, subst}
 use Rattle.std.specs.FinMap as fin
 use Rattle.ufs_fds.specs.Descriptors.{Descs}
 use Rattle.ufs_model.specs.History.{IsReplyTo, goes_on, tree_after}
@@ -7,7 +7,7 @@ use Rattle.ufs_model.specs.PosixTree.{PosixTree, desc_at}
 use Rattle.ufs_model.specs.declared.data.Entry.{Entry}
 use Rattle.ufs_model.specs.declared.data.Reply.{Reply}
 use Rattle.ufs_model.specs.declared.data.Reply.TheVariants as reply
-use Rattle.ufs_one_hand.specs.Drawn.{HasCauses, IsAcknowledged, IsAnswer, faults_met}
+use Rattle.ufs_one_hand.specs.Drawn.{HasCauses, IsAcknowledged, IsAnswer}
 use Rattle.ufs_one_hand.specs.OneHand.{HasSession, IsCoveredIn, KnowsSynced, state_in}
 use Rattle.ufs_prefix.specs.Changes.{asks_commit}
 use Rattle.ufs_prefix.specs.Steps.{is_ok}
@@ -66,10 +66,3 @@ is_answer k history t e left fds v before same served session known causes = rec
   known = λ done asks. let knows = subst (λ (u : PosixTree). KnowsSynced (step_in u e) v) (sym before) (known done asks) in record { files = knows.files; born = knows.born; names = knows.names };
   causes = causes;
 }
-
--- a store that meets no read that fails, and doesn't stop, met no fault then either
-pub still_unfailed : (read before stop : Option ℕ) (old new : List ℕ) → read ≡ None → ((n : ℕ) → before ≡ Some n → stop ≡ Some n) → (before ≡ None → old ≡ []) → new ≡ faults_met read before stop ++ old → stop ≡ None → new ≡ []
-still_unfailed None None None old new unread kept unfailed is none = is ∙ unfailed refl
-still_unfailed None None (Some m) old new unread kept unfailed is none = cc
-still_unfailed None (Some a) stop old new unread kept unfailed is none = let both : None ≡ Some a = sym none ∙ kept a refl in cc
-still_unfailed (Some m) before stop old new unread kept unfailed is none = cc

@@ -6,3 +6,10 @@ pub mod OwnLemmas
 pub mod SeenLemmas
 pub mod HadLemmas
 pub mod DrawingLemmas
+pub mod MetLemmas
+pub mod BlockLemmas
+pub mod MergedLemmas
+pub mod FurtherLemmas
+pub mod Picked
+pub mod ReadingLemmas
+pub mod ReadOnLemmas

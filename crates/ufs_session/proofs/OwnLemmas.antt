@@ -64,7 +64,7 @@ module _ (p : Parts) (t : PosixTree) (ask : Ask) (answer : Reply) (desc : Option
       by (Some e) refused = inl (e, ap (λ (o : Option Errno). served t ask.client ask.op (first_of o (tree_refusal t ask.client ask.op))) refused)
       by None none = inr (sym (ap (λ (o : Option Errno). is_some o || is_own_seek ask.op) none) ∙ own, none)
 
-  same_bytes : after.bytes ≡ t.bytes
+  pub same_bytes : after.bytes ≡ t.bytes
   same_bytes = ap (λ (u : PosixTree). u.bytes) is.tree
 
   pub parts_stay : ArePartsOf p t → ArePartsOf p after

@@ -30,7 +30,12 @@ use Rattle.ufs_server.specs.Answered.{IsAnswered}
 use Rattle.ufs_stored.specs.Parts.{Parts}
 use Rattle.ufs_stored.specs.Stored.{ArePartsOf}
 use Rattle.ufs_session.specs.Drawing.{IsServedIn}
+use Rattle.ufs_session.specs.Picked.{MayHaveBegun, Pick}
+use Rattle.ufs_session.specs.Reading.{HasReadOn}
 use Rattle.ufs_session.specs.Serving.{IsReached, IsReady, GoesOn, IsDone}
+use Rattle.ufs_sound.specs.Parts.{Start}
+use Rattle.ufs_store.specs.State.{StoreState}
+use Rattle.ufs_server.specs.Away.{AwayStays}
 
 -- ---- one entry more
 
@@ -73,6 +78,33 @@ pub record IsServing (start : PosixTree) (client : ℕ) (requests : List Op) (be
   pub fds : (c fd : ℕ) → c ≢ client → map.get (tree_after start (before ++ told)).fds (c, fd) ≡ map.get (tree_after start before).fds (c, fd)
   pub table_is : AreOf (tree_after start (before ++ told)).fds client table
   pub ranged : AreRanged (tree_after start (before ++ told)).fds client
+
+-- the same with other parts of the tree
+pub serving_at : (start : PosixTree) (client : ℕ) (requests : List Op) (before : List Entry) (p q : Parts) (table : Descs) (told : List Entry) (seq : ℕ) (done rest : List Op)
+    → IsServing start client requests before p table told seq done rest → ArePartsOf q (tree_after start (before ++ told)) → IsServing start client requests before q table told seq done rest
+serving_at start client requests before p q table told seq done rest is parts = record {
+  whole = is.whole;
+  short = is.short;
+  counted = is.counted;
+  long = is.long;
+  goes = is.goes;
+  reached = record { entries = is.reached.entries; servers = is.reached.servers; parts = parts; next = is.reached.next; numbers = is.reached.numbers };
+  fds = is.fds;
+  table_is = is.table_is;
+  ranged = is.ranged;
+}
+
+-- whichever tree the session began with
+pub record IsReading (k : Start) (visible keeps : Bool) (begun : Parts) (picks : List Pick) (first now : StoreState) (was p : Parts) (client : ℕ) (requests : List Op) (before : List Entry) (table : Descs) (told : List Entry) (seq : ℕ) (done rest : List Op) : Type 0 where
+  pub on : HasReadOn k visible keeps begun picks first now was p before told
+  pub serving : (start : PosixTree) → MayHaveBegun begun on.more start → IsServing start client requests before p table told seq done rest
+
+-- with one of the trees
+pub one_serving : {k : Start} {visible keeps : Bool} {begun : Parts} {picks : List Pick} {first now : StoreState} {was p : Parts} {client : ℕ} {requests : List Op} {before : List Entry} {table : Descs} {told : List Entry} {seq : ℕ} {done rest left : List Op}
+    → IsReading k visible keeps begun picks first now was p client requests before table told seq done rest → rest ≡ left → (start : PosixTree) × IsServing start client requests before p table told seq done left
+one_serving {p = p} {client = client} {requests = requests} {before = before} {table = table} {told = told} {seq = seq} {done = done} reading same =
+    let tree = reading.on.read.tree in
+    (tree, subst (λ (r : List Op). IsServing tree client requests before p table told seq done r) same (reading.serving tree reading.on.read.may))
 
 module _ (start : PosixTree) (client : ℕ) (requests : List Op) (before : List Entry) (p : Parts) where
   pub begins : (table : Descs) (told : List Entry) → table ≡ map.empty → told ≡ [] → length requests ≤ 65536 → IsReady start before p client
@@ -250,6 +282,17 @@ module _ (start : PosixTree) (client : ℕ) (requests : List Op) (before : List 
             by : (b : Bool) → is_excused entry.reply ≡ b → IsServing start client requests before new new_table (told ++ entry ∷ []) (seq + 1) (done ++ request ∷ []) rest
             by false e = one_more e (served e) one_file
             by true e = let x = the_excuse entry.reply e in one_excused x.0 x.1 (fits x.0 x.1) (same e) (desc_is e)
+
+        pub reached_more : IsServing start client requests before new new_table (told ++ entry ∷ []) (seq + 1) (done ++ request ∷ []) rest → IsReached start (now ++ entry ∷ []) new
+        reached_more more = subst (λ (h : List Entry). IsReached start h new) (one_list before client requests told entry) more.reached
+
+        -- what isn't in memory stays
+        pub away_more : (is_excused entry.reply ≡ false → AwayStays new tree (posix tree ask.client ask.op).0) → AwayStays new tree (tree_after start (now ++ entry ∷ []))
+        away_more away = subst (AwayStays new tree) (sym (tree_after-push start now entry)) (by (is_excused entry.reply) refl)
+          where
+            by : (b : Bool) → is_excused entry.reply ≡ b → AwayStays new tree (tree_with tree entry.client entry.op entry.reply)
+            by false e = subst (AwayStays new tree) (sym (goes_plain e (served e))) (away e)
+            by true e = let x = the_excuse entry.reply e in subst (AwayStays new tree) (sym (ap (tree_with tree entry.client entry.op) x.1)) (λ file place away. refl)
 
         pub served_in : (is_excused entry.reply ≡ true → desc ≡ ask.desc) → entry.client < 16 → IsServedIn tree now entry new_table
         served_in desc_is low = by (is_excused entry.reply) refl

@@ -1,28 +1,33 @@
--- A history tells one fault of the disk at most.
-use Rattle.std.proofs.Common.{◌≡◌, ℕ, ◌⊎◌, inl, inr, List, [], ◌∷◌, ◌++◌, Option, Some, None, false, ap, sym, refl, subst, ◌∙◌}
-use Rattle.std.specs.List.{AllByRecursion, cons_option}
-use Rattle.std.proofs.lemmas.List.{append-nil}
+-- A history tells each fault of the disk once.
+use Rattle.std.proofs.Common.{◌≡◌, ◌≢◌, ◌-◌, ◌^◌, ◌≤◌, ◌<◌, ℕ, ◌⊎◌, inl, inr, List, [], ◌∷◌, ◌++◌, Option, Some, None, false, nat_eq, ap, sym, refl, subst, ◌∙◌, ne_eqb, arith}
+use Rattle.std.specs.Prelude.{min}
+use Rattle.std.specs.List.{AllByRecursion, IsDistinct, cons_option}
 use Rattle.std.proofs.lemmas.List.Elements.{filter_map-append}
 use Rattle.ufs_base.specs.Faults.{RoseTo}
 use Rattle.ufs_disk.proofs.Runs.{all_append, all_map}
-use Rattle.ufs_model.specs.History.{AreFaultsOnce, IsLegal, IsLegalFrom, share_fault}
+use Rattle.ufs_model.specs.History.{AreFaultsOnce, IsLegal, IsLegalFrom, is_excused, share_fault}
 use Rattle.ufs_model.specs.PosixTree.{PosixTree}
 use Rattle.ufs_model.specs.declared.data.Entry.{Entry}
 use Rattle.ufs_model.specs.declared.data.Excuse.TheVariants as excuse
 use Rattle.ufs_model.specs.declared.data.Reply.{Reply}
 use Rattle.ufs_model.specs.declared.data.Reply.TheVariants as reply
 use Rattle.ufs_server.specs.Answered.{TellsFaults, device_in, stopped_in}
+use Rattle.ufs_server.proofs.Beside.{stop_stays}
+use Rattle.ufs_sound.proofs.Owning.{has_append}
+use Rattle.ufs_sound.specs.Owned.{Has}
 use Rattle.ufs_store.specs.Refusals.{IsTold, stop_after}
 use Rattle.ufs_store.specs.State.{StoreState}
 use Rattle.ufs_session.specs.Drawing.{StopsBy}
-use Rattle.ufs_session.specs.Told.{AreFaultsTold, HadNoFault, HadOneFault, devices_in}
+use Rattle.ufs_session.specs.Told.{AreFaultsTold, HasRead, HasRisen, IsCountStill, IsReadFault, IsStopFault, TellsRequest, devices_in}
+
+some_is : {a b : ℕ} → Some a ≡ Some b → a ≡ b
+some_is e = cc
 
 -- ---- no two entries tell one fault
 
-apart : (a b : Reply) → (device_in a ≡ None) ⊎ (device_in b ≡ None) → share_fault a b ≡ false
-apart (reply.Excused (excuse.Device f)) (reply.Excused (excuse.Device g)) (inl none) = cc
-apart (reply.Excused (excuse.Device f)) (reply.Excused (excuse.Device g)) (inr none) = cc
-apart _ _ none = refl
+differ : (a b : Reply) → ((m n : ℕ) → device_in a ≡ Some m → device_in b ≡ Some n → nat_eq m n ≡ false) → share_fault a b ≡ false
+differ (reply.Excused (excuse.Device m)) (reply.Excused (excuse.Device n)) apart = apart m n refl refl
+differ _ _ apart = refl
 
 each_entry : (P : Entry → Type 0) → ((e : Entry) → P e) → (history : List Entry) → AllByRecursion P history
 each_entry P holds [] = tt
@@ -37,81 +42,251 @@ no_devices (e ∷ history) is = by (device_in e.reply) refl (no_devices history)
     by None none rest is = (none, rest is)
     by (Some k) some rest is = cc
 
-abbrev AtMostOne : List ℕ → Type 0
-AtMostOne numbers = (numbers ≡ []) ⊎ ((fault : ℕ) × (numbers ≡ fault ∷ []))
-
-once : (history : List Entry) → AtMostOne (devices_in history) → AreFaultsOnce history
-once [] is = tt
-once (e ∷ history) is = by (device_in e.reply) refl (once history) is
+-- an entry tells a fault that none of those tells
+tells_other : (fault : ℕ) (e : Entry) → device_in e.reply ≡ Some fault → (history : List Entry) → AllByRecursion (λ (n : ℕ). nat_eq fault n ≡ false) (devices_in history)
+    → AllByRecursion (λ (later : Entry). share_fault e.reply later.reply ≡ false) history
+tells_other fault e is [] apart = tt
+tells_other fault e is (x ∷ history) apart = by (device_in x.reply) refl (tells_other fault e is history) apart
   where
-    Later : Type 0
-    Later = AllByRecursion (λ (later : Entry). share_fault e.reply later.reply ≡ false) history × AreFaultsOnce history
+    by : (o : Option ℕ) → device_in x.reply ≡ o → (AllByRecursion (λ (n : ℕ). nat_eq fault n ≡ false) (devices_in history) → AllByRecursion (λ (later : Entry). share_fault e.reply later.reply ≡ false) history)
+        → AllByRecursion (λ (n : ℕ). nat_eq fault n ≡ false) (cons_option o (devices_in history)) → AllByRecursion (λ (later : Entry). share_fault e.reply later.reply ≡ false) (x ∷ history)
+    by None none rest apart = (differ e.reply x.reply (λ m n own other. let no : None ≡ Some n = sym none ∙ other in cc), rest apart)
+    by (Some k) some rest apart = (
+      differ e.reply x.reply (λ m n own other. subst (λ (p : ℕ × ℕ). nat_eq p.0 p.1 ≡ false) (λ i. (some_is (sym is ∙ own) i, some_is (sym some ∙ other) i)) apart.0),
+      rest apart.1,
+    )
 
-    by : (o : Option ℕ) → device_in e.reply ≡ o → (AtMostOne (devices_in history) → AreFaultsOnce history) → AtMostOne (cons_option o (devices_in history)) → Later
-    by None none rest is = (each_entry (λ (later : Entry). share_fault e.reply later.reply ≡ false) (λ later. apart e.reply later.reply (inl none)) history, rest is)
-    by (Some k) some rest (inl is) = cc
-    by (Some k) some rest (inr is) =
-        let fault = is.0 in
-        let alone : k ∷ devices_in history ≡ fault ∷ [] = is.1 in
-        let none : devices_in history ≡ [] = cc in (
-          all_map (λ (later : Entry). device_in later.reply ≡ None) (λ (later : Entry). share_fault e.reply later.reply ≡ false) (λ later none. apart e.reply later.reply (inr none)) history (no_devices history none),
-          rest (inl none),
-        )
+once_by : (e : Entry) (history : List Entry) (o : Option ℕ) → device_in e.reply ≡ o → (IsDistinct nat_eq (devices_in history) → AreFaultsOnce history) → IsDistinct nat_eq (cons_option o (devices_in history))
+    → AllByRecursion (λ (later : Entry). share_fault e.reply later.reply ≡ false) history × AreFaultsOnce history
+unfolding IsDistinct
+once_by e history None none rest distinct =
+    (each_entry (λ (later : Entry). share_fault e.reply later.reply ≡ false) (λ later. differ e.reply later.reply (λ m n own other. let no : None ≡ Some m = sym none ∙ own in cc)) history, rest distinct)
+once_by e history (Some k) some rest distinct = (tells_other k e some history distinct.0, rest distinct.1)
+
+once_each : (history : List Entry) → IsDistinct nat_eq (devices_in history) → AreFaultsOnce history
+once_each [] distinct = tt
+once_each (e ∷ history) distinct = once_by e history (device_in e.reply) refl (once_each history) distinct
 
 pub once_told : (old new : StoreState) (history : List Entry) → AreFaultsTold old new history → AreFaultsOnce history
-once_told old new history told = once history (by told.faults)
-  where
-    by : HadNoFault old new history ⊎ HadOneFault old new history → AtMostOne (devices_in history)
-    by (inl none) = inl none.devices
-    by (inr one) = of one.devices
-      where
-        of : (devices_in history ≡ []) ⊎ (devices_in history ≡ one.fault ∷ []) → AtMostOne (devices_in history)
-        of (inl none) = inl none
-        of (inr this) = inr (one.fault, this)
+once_told old new history told = once_each history told.once
 
 pub legal_told : (old new : StoreState) (start : PosixTree) (history : List Entry) → AreFaultsTold old new history → IsLegalFrom 0 start history → IsLegal start history
 legal_told old new start history told entries = record { entries = entries; faults = once_told old new history told }
 
--- ---- one entry
+-- ---- lists of numbers
 
-pub none_told : (s : StoreState) → AreFaultsTold s s []
-none_told s = record { faults = inl (record { quiet = record { faults = refl; stop = refl }; devices = refl }); stops = tt }
+no_number : IsDistinct nat_eq []
+unfolding IsDistinct
+no_number = tt
 
--- what has stopped stays so
-stays : (old new : StoreState) (history : List Entry) (fault : ℕ) → HadNoFault old new history ⊎ HadOneFault old new history → old.stop ≡ Some fault → new.stop ≡ Some fault
-stays old new history fault (inl none) stopped = none.quiet.stop ∙ stopped
-stays old new history fault (inr one) stopped = let no : None ≡ Some fault = sym one.stops.going ∙ stopped in cc
+one_number : (o : Option ℕ) → IsDistinct nat_eq (cons_option o [])
+unfolding IsDistinct
+one_number None = tt
+one_number (Some n) = (tt, tt)
+
+has_one : (fault : ℕ) (o : Option ℕ) → Has fault (cons_option o []) → o ≡ Some fault
+has_one fault None has = absurd has
+has_one fault (Some n) (inl e) = ap Some (sym e)
+has_one fault (Some n) (inr has) = absurd has
+
+apart_from : (n : ℕ) (xs : List ℕ) → ((m : ℕ) → Has m xs → n ≢ m) → AllByRecursion (λ (m : ℕ). nat_eq n m ≡ false) xs
+apart_from n [] apart = tt
+apart_from n (x ∷ xs) apart = (ne_eqb n x (apart x (inl refl)), apart_from n xs (λ m has. apart m (inr has)))
+
+distinct_on : (xs ys : List ℕ) → IsDistinct nat_eq xs → IsDistinct nat_eq ys → ((m n : ℕ) → Has m xs → Has n ys → m ≢ n) → IsDistinct nat_eq (xs ++ ys)
+unfolding IsDistinct
+distinct_on [] ys front back apart = back
+distinct_on (x ∷ xs) ys front back apart = (
+  all_append (λ (m : ℕ). nat_eq x m ≡ false) xs ys front.0 (apart_from x ys (λ m has. apart x m (inl refl) has)),
+  distinct_on xs ys front.1 back (λ m n has other. apart m n (inr has) other),
+)
+
+-- two lists of nothing
+nothing_on : (xs ys : List ℕ) → xs ++ ys ≡ [] → (xs ≡ []) × (ys ≡ [])
+nothing_on [] ys e = (refl, e)
+nothing_on (x ∷ xs) ys e = cc
+
+-- ---- a count goes on
+
+-- behind it
+risen_on : (old mid new fault : ℕ) → HasRisen old mid fault → min mid (2 ^ 64 - 1) ≤ new → HasRisen old new fault
+risen_on old mid new fault is goes = record { risen = is.risen; counted = omega (arith, is.counted, is.within, goes); within = is.within }
+
+-- before it
+risen_from : (old mid new fault : ℕ) → min old (2 ^ 64 - 1) ≤ mid → HasRisen mid new fault → HasRisen old new fault
+risen_from old mid new fault goes is = record { risen = by is.risen; counted = is.counted; within = is.within }
+  where
+    by : (mid < fault) ⊎ (fault ≡ 2 ^ 64 - 1) → (old < fault) ⊎ (fault ≡ 2 ^ 64 - 1)
+    by (inl less) = inl (omega (arith, goes, less, is.within))
+    by (inr end) = inr end
+
+still_on : (old mid new : ℕ) → IsCountStill old mid → IsCountStill mid new → IsCountStill old new
+still_on old mid new first (inr end) = inr end
+still_on old mid new (inl same) (inl still) = inl (still ∙ same)
+still_on old mid new (inr end) (inl still) = inr (still ∙ end)
+
+-- a call that failed raised it
+rose_risen : (old now fault : ℕ) → RoseTo old now fault → HasRisen old now fault
+rose_risen old now fault is = record { risen = by; counted = omega (arith, is.number); within = omega (arith, is.number, is.rose) }
+  where
+    by : (old < fault) ⊎ (fault ≡ 2 ^ 64 - 1)
+    by = grind (arith, is.number, is.rose)
+
+-- ---- one request
+
+-- What a request did to the store's count and stop, and what its reply tells of it.
+pub record Meets (old new : StoreState) (r : Reply) : Type 0 where
+  pub kept : (fault : ℕ) → old.stop ≡ Some fault → new.stop ≡ Some fault
+  pub device : (fault : ℕ) → device_in r ≡ Some fault → (IsReadFault old new fault × (new.stop ≡ old.stop)) ⊎ IsStopFault old new fault
+  pub stopped : (fault : ℕ) → old.stop ≡ None → new.stop ≡ Some fault → HasRisen old.faults new.faults fault
+  pub earlier : (fault : ℕ) → stopped_in r ≡ Some fault → old.stop ≡ Some fault
+  pub count : min old.faults (2 ^ 64 - 1) ≤ new.faults
+  pub quiet : device_in r ≡ None → new.stop ≡ None → IsCountStill old.faults new.faults
+
+-- nothing was read for it
+pub none_read : (s : StoreState) → HasRead s s None
+none_read s = record { stop = refl; told = λ fault is. cc; untold = λ none. inl refl }
+
+pub served_told : (old new : StoreState) (r : Reply) → TellsFaults old new r → ((fault : ℕ) → stopped_in r ≡ Some fault → old.stop ≡ Some fault) → ((fault : ℕ) → old.stop ≡ Some fault → device_in r ≡ None) → TellsRequest old new r
+served_told old new r told stopped still = record { read = old; failed = None; before = none_read old; ends = inr (refl, told, stopped, still) }
+
+-- a reply that is no excuse tells no stop
+pub plain_going : (r : Reply) → is_excused r ≡ false → stopped_in r ≡ None
+plain_going (reply.Excused x) e = cc
+plain_going _ e = refl
 
 -- where each stop is ruled out
 goes_on : (stop : Option ℕ) → ((fault : ℕ) → stop ≡ Some fault → ⊥) → stop ≡ None
 goes_on None never = refl
 goes_on (Some fault) never = absurd (never fault refl)
 
-module _ (old new : StoreState) (entry : Entry) (told : TellsFaults old new entry.reply) (still : (fault : ℕ) → old.stop ≡ Some fault → device_in entry.reply ≡ None) where
-  -- the reply tells all
-  by_reply : IsTold old.faults new.faults (device_in entry.reply) → new.stop ≡ stop_after old.stop (device_in entry.reply) → HadNoFault old new (entry ∷ []) ⊎ HadOneFault old new (entry ∷ [])
-  by_reply told stop = by (device_in entry.reply) refl told stop
+-- a read, and its reply
+module _ (old new : StoreState) (r : Reply) (failed : Option ℕ) (before : HasRead old new failed) (told : device_in r ≡ failed) (plain : stopped_in r ≡ None) where
+  read_still : failed ≡ None → IsCountStill old.faults new.faults
+  read_still none = by (before.untold none)
     where
-      same : (o : Option ℕ) → stop_after o None ≡ o
-      same None = refl
-      same (Some fault) = refl
+      by : (new.faults ≡ old.faults) ⊎ RoseTo old.faults new.faults (2 ^ 64 - 1) → IsCountStill old.faults new.faults
+      by (inl same) = inl same
+      by (inr rose) = inr (sym rose.number)
 
-      by : (o : Option ℕ) → device_in entry.reply ≡ o → IsTold old.faults new.faults o → new.stop ≡ stop_after old.stop o → HadNoFault old new (entry ∷ []) ⊎ HadOneFault old new (entry ∷ [])
-      by None is count stop = inl (record { quiet = record { faults = count; stop = stop ∙ same old.stop }; devices = ap (λ (o : Option ℕ). cons_option o []) is })
-      by (Some fault) is rose stop =
-          let going = goes_on old.stop (λ at stopped. let no : None ≡ Some fault = sym (still at stopped) ∙ is in cc) in
-          inr (record {
-            fault = fault;
-            stops = record { going = going; rose = rose; stop = stop ∙ ap (λ (o : Option ℕ). stop_after o (Some fault)) going };
-            devices = inr (ap (λ (o : Option ℕ). cons_option o []) is);
-          })
-
-  pub one_told : ((fault : ℕ) → stopped_in entry.reply ≡ Some fault → old.stop ≡ Some fault) → AreFaultsTold old new (entry ∷ [])
-  one_told stopped = record { faults = by told; stops = ((λ fault is. stays old new (entry ∷ []) fault (by told) (stopped fault is)), tt) }
+  read_count : (o : Option ℕ) → failed ≡ o → min old.faults (2 ^ 64 - 1) ≤ new.faults
+  read_count None none = by (read_still none)
     where
-      by : TellsFaults old new entry.reply → HadNoFault old new (entry ∷ []) ⊎ HadOneFault old new (entry ∷ [])
-      by (inl all) = by_reply all.told all.stop
-      by (inr hidden) = inr (record { fault = hidden.fault; stops = hidden.beside; devices = inl (ap (λ (o : Option ℕ). cons_option o []) hidden.none) })
+      by : IsCountStill old.faults new.faults → min old.faults (2 ^ 64 - 1) ≤ new.faults
+      by (inl same) = omega (arith, same)
+      by (inr end) = omega (arith, end)
+  read_count (Some fault) some = let is = before.told fault some in omega (arith, is.0, is.1)
+
+  read_device : (fault : ℕ) → device_in r ≡ Some fault → IsReadFault old new fault
+  read_device fault is = let at = before.told fault (sym told ∙ is) in record { risen = omega (arith, at.0); counted = omega (arith, at.1); below = at.2 }
+
+  read_meets : Meets old new r
+  read_meets = record {
+    kept = λ fault is. before.stop ∙ is;
+    device = λ fault is. inl (read_device fault is, before.stop);
+    stopped = λ fault going stop. let no : None ≡ Some fault = sym going ∙ sym before.stop ∙ stop in cc;
+    earlier = λ fault is. let no : None ≡ Some fault = sym plain ∙ is in cc;
+    count = read_count failed refl;
+    quiet = λ none going. read_still (sym told ∙ none);
+  }
+
+-- the server's own
+module _ (old read new : StoreState) (r : Reply) (before : HasRead old read None)
+    (stopped : (fault : ℕ) → stopped_in r ≡ Some fault → read.stop ≡ Some fault) (still : (fault : ℕ) → read.stop ≡ Some fault → device_in r ≡ None) where
+  first_still : IsCountStill old.faults read.faults
+  first_still = read_still old read reply.Done None before refl refl refl
+
+  first_count : min old.faults (2 ^ 64 - 1) ≤ read.faults
+  first_count = read_count old read reply.Done None before refl refl None refl
+
+  -- where it stops
+  module _ (fault : ℕ) (rose : RoseTo read.faults new.faults fault) where
+    stop_risen : HasRisen old.faults new.faults fault
+    stop_risen = risen_from old.faults read.faults new.faults fault first_count (rose_risen read.faults new.faults fault rose)
+
+    stop_count : min old.faults (2 ^ 64 - 1) ≤ new.faults
+    stop_count = omega (arith, first_count, rose.rose)
+
+    -- the reply tells so, or none does
+    stop_meets : read.stop ≡ None → new.stop ≡ Some fault → ((n : ℕ) → device_in r ≡ Some n → n ≡ fault) → Meets old new r
+    stop_meets going stop own = record {
+      kept = λ n is. let no : None ≡ Some n = sym going ∙ before.stop ∙ is in cc;
+      device = λ n is. inr (record { going = sym before.stop ∙ going; stop = stop ∙ ap Some (sym (own n is)); risen = subst (HasRisen old.faults new.faults) (sym (own n is)) stop_risen });
+      stopped = λ n begun is. subst (HasRisen old.faults new.faults) (some_is (sym stop ∙ is)) stop_risen;
+      earlier = λ n is. sym before.stop ∙ stopped n is;
+      count = stop_count;
+      quiet = λ none on. let no : None ≡ Some fault = sym on ∙ stop in cc;
+    }
+
+  -- where no call failed
+  calm_meets : new.faults ≡ read.faults → new.stop ≡ read.stop → device_in r ≡ None → Meets old new r
+  calm_meets faults stop none = record {
+    kept = λ n is. stop ∙ before.stop ∙ is;
+    device = λ n is. let no : None ≡ Some n = sym none ∙ is in cc;
+    stopped = λ n going is. let no : None ≡ Some n = sym going ∙ sym before.stop ∙ sym stop ∙ is in cc;
+    earlier = λ n is. sym before.stop ∙ stopped n is;
+    count = omega (arith, first_count, faults);
+    quiet = λ own on. subst (IsCountStill old.faults) (sym faults) first_still;
+  }
+
+  served_meets : TellsFaults read new r → Meets old new r
+  served_meets (inr hidden) = stop_meets hidden.fault hidden.beside.rose hidden.beside.going hidden.beside.stop (λ n is. let no : None ≡ Some n = sym hidden.none ∙ is in cc)
+  served_meets (inl own) = by (device_in r) refl own.told own.stop
+    where
+      by : (o : Option ℕ) → device_in r ≡ o → IsTold read.faults new.faults o → new.stop ≡ stop_after read.stop o → Meets old new r
+      by None none same stop = calm_meets same (stop ∙ stop_stays read.stop) none
+      by (Some fault) some rose stop =
+          let going = goes_on read.stop (λ at is. let no : None ≡ Some fault = sym (still at is) ∙ some in cc) in
+          stop_meets fault rose going (stop ∙ ap (λ (o : Option ℕ). stop_after o (Some fault)) going) (λ n is. some_is (sym is ∙ some))
+
+pub meets : (old new : StoreState) (r : Reply) → TellsRequest old new r → Meets old new r
+meets old new r told = by told.ends
+  where
+    by : ((device_in r ≡ told.failed) × (stopped_in r ≡ None) × (new ≡ told.read))
+        ⊎ ((told.failed ≡ None) × TellsFaults told.read new r × ((fault : ℕ) → stopped_in r ≡ Some fault → told.read.stop ≡ Some fault) × ((fault : ℕ) → told.read.stop ≡ Some fault → device_in r ≡ None)) → Meets old new r
+    by (inl read) = read_meets old new r told.failed (subst (λ (s : StoreState). HasRead old s told.failed) (sym read.2) told.before) read.0 read.1
+    by (inr served) = served_meets old told.read new r (subst (HasRead old told.read) served.0 told.before) served.2 served.3 served.1
+
+pub stops_by : (old new : StoreState) (r : Reply) → TellsRequest old new r → StopsBy old.stop new.stop r
+stops_by old new r told = record { kept = m.kept; device = λ fault is. by fault (m.device fault is); stopped = m.earlier }
+  where
+    m : Meets old new r
+    m = meets old new r told
+
+    by : (fault : ℕ) → (IsReadFault old new fault × (new.stop ≡ old.stop)) ⊎ IsStopFault old new fault → ((old.stop ≡ None) × (new.stop ≡ Some fault)) ⊎ (new.stop ≡ old.stop)
+    by fault (inl read) = inr read.1
+    by fault (inr stop) = inl (stop.going, stop.stop)
+
+-- ---- its entry
+
+pub none_told : (s : StoreState) → AreFaultsTold s s []
+none_told s = record {
+  each = λ fault has. absurd has;
+  once = no_number;
+  kept = λ fault is. is;
+  stopped = λ fault going is. let no : None ≡ Some fault = sym going ∙ is in cc;
+  stops = tt;
+  count = omega arith;
+  quiet = λ none going. inl refl;
+}
+
+pub one_told : (old new : StoreState) (entry : Entry) → TellsRequest old new entry.reply → AreFaultsTold old new (entry ∷ [])
+one_told old new entry told = record {
+  each = λ fault has. by fault (m.device fault (has_one fault (device_in entry.reply) has));
+  once = one_number (device_in entry.reply);
+  kept = m.kept;
+  stopped = m.stopped;
+  stops = ((λ fault is. m.kept fault (m.earlier fault is)), tt);
+  count = m.count;
+  quiet = λ none going. m.quiet (no_devices (entry ∷ []) none).0 going;
+}
+  where
+    m : Meets old new entry.reply
+    m = meets old new entry.reply told
+
+    by : (fault : ℕ) → (IsReadFault old new fault × (new.stop ≡ old.stop)) ⊎ IsStopFault old new fault → IsReadFault old new fault ⊎ IsStopFault old new fault
+    by fault (inl read) = inl read.0
+    by fault (inr stop) = inr stop
 
 -- ---- one history behind another
 
@@ -119,78 +294,59 @@ module _ (old mid new : StoreState) (front back : List Entry) (first : AreFaults
   devices : devices_in (front ++ back) ≡ devices_in front ++ devices_in back
   devices = filter_map-append (λ (e : Entry). device_in e.reply) front back
 
-  behind_none : (xs : List ℕ) → devices_in front ≡ [] → devices_in back ≡ xs → devices_in (front ++ back) ≡ xs
-  behind_none xs none is = devices ∙ ap (λ (l : List ℕ). l ++ devices_in back) none ∙ is
+  -- what the front tells
+  front_on : (fault : ℕ) → IsReadFault old mid fault ⊎ IsStopFault old mid fault → IsReadFault old new fault ⊎ IsStopFault old new fault
+  front_on fault (inl read) = inl (record { risen = read.risen; counted = omega (arith, read.counted, read.below, second.count); below = read.below })
+  front_on fault (inr stop) = inr (record { going = stop.going; stop = second.kept fault stop.stop; risen = risen_on old.faults mid.faults new.faults fault stop.risen second.count })
 
-  before_none : (xs : List ℕ) → devices_in front ≡ xs → devices_in back ≡ [] → devices_in (front ++ back) ≡ xs
-  before_none xs is none = devices ∙ ap (λ (l : List ℕ). devices_in front ++ l) none ∙ append-nil (devices_in front) ∙ is
+  -- what goes on behind the front went on before it
+  begun : mid.stop ≡ None → old.stop ≡ None
+  begun going = goes_on old.stop (λ fault is. let no : None ≡ Some fault = sym going ∙ first.kept fault is in cc)
 
-  -- a store that has stopped meets no fault
-  only_one : HadOneFault old mid front → HadOneFault mid new back → ⊥
-  only_one one other = let no : None ≡ Some one.fault = sym other.stops.going ∙ one.stops.stop in cc
+  back_on : (fault : ℕ) → IsReadFault mid new fault ⊎ IsStopFault mid new fault → IsReadFault old new fault ⊎ IsStopFault old new fault
+  back_on fault (inl read) = inl (record { risen = omega (arith, first.count, read.risen, read.below); counted = read.counted; below = read.below })
+  back_on fault (inr stop) = inr (record { going = begun stop.going; stop = stop.stop; risen = risen_from old.faults mid.faults new.faults fault first.count stop.risen })
 
-  both : HadNoFault old mid front ⊎ HadOneFault old mid front → HadNoFault mid new back ⊎ HadOneFault mid new back → HadNoFault old new (front ++ back) ⊎ HadOneFault old new (front ++ back)
-  both (inl none) (inl still) = inl (record { quiet = record { faults = still.quiet.faults ∙ none.quiet.faults; stop = still.quiet.stop ∙ none.quiet.stop }; devices = behind_none [] none.devices still.devices })
-  both (inl none) (inr one) = inr (record {
-    fault = one.fault;
-    stops = record {
-      going = sym none.quiet.stop ∙ one.stops.going;
-      rose = subst (λ (n : ℕ). RoseTo n new.faults one.fault) none.quiet.faults one.stops.rose;
-      stop = one.stops.stop;
-    };
-    devices = by one.devices;
-  })
+  each_on : (fault : ℕ) → Has fault (devices_in front ++ devices_in back) → IsReadFault old new fault ⊎ IsStopFault old new fault
+  each_on fault has = by (has_append fault (devices_in front) (devices_in back) has)
     where
-      by : (devices_in back ≡ []) ⊎ (devices_in back ≡ one.fault ∷ []) → (devices_in (front ++ back) ≡ []) ⊎ (devices_in (front ++ back) ≡ one.fault ∷ [])
-      by (inl is) = inl (behind_none [] none.devices is)
-      by (inr is) = inr (behind_none (one.fault ∷ []) none.devices is)
-  both (inr one) (inl still) = inr (record {
-    fault = one.fault;
-    stops = record {
-      going = one.stops.going;
-      rose = subst (λ (n : ℕ). RoseTo old.faults n one.fault) (sym still.quiet.faults) one.stops.rose;
-      stop = still.quiet.stop ∙ one.stops.stop;
-    };
-    devices = by one.devices;
-  })
+      by : Has fault (devices_in front) ⊎ Has fault (devices_in back) → IsReadFault old new fault ⊎ IsStopFault old new fault
+      by (inl has) = front_on fault (first.each fault has)
+      by (inr has) = back_on fault (second.each fault has)
+
+  -- the back's numbers are above the front's, or the store stops at the end of the count
+  apart : (m n : ℕ) → IsReadFault old mid m ⊎ IsStopFault old mid m → IsReadFault mid new n ⊎ IsStopFault mid new n → m ≢ n
+  apart m n (inl one) (inl other) = λ same. omega (arith, one.counted, other.risen, same)
+  apart m n (inr one) (inl other) = λ same. omega (arith, one.risen.counted, other.risen, same)
+  apart m n (inr one) (inr other) = λ same. let no : None ≡ Some m = sym other.going ∙ one.stop in cc
+  apart m n (inl one) (inr other) = by other.risen.risen
     where
-      by : (devices_in front ≡ []) ⊎ (devices_in front ≡ one.fault ∷ []) → (devices_in (front ++ back) ≡ []) ⊎ (devices_in (front ++ back) ≡ one.fault ∷ [])
-      by (inl is) = inl (before_none [] is still.devices)
-      by (inr is) = inr (before_none (one.fault ∷ []) is still.devices)
-  both (inr one) (inr other) = absurd (only_one one other)
+      by : (mid.faults < n) ⊎ (n ≡ 2 ^ 64 - 1) → m ≢ n
+      by (inl less) = λ same. omega (arith, one.counted, less, same)
+      by (inr end) = λ same. omega (arith, one.below, end, same)
+
+  stopped_on : (fault : ℕ) → old.stop ≡ None → new.stop ≡ Some fault → (o : Option ℕ) → mid.stop ≡ o → HasRisen old.faults new.faults fault
+  stopped_on fault going stop None none = risen_from old.faults mid.faults new.faults fault first.count (second.stopped fault none stop)
+  stopped_on fault going stop (Some n) some =
+      let same : n ≡ fault = some_is (sym (second.kept n some) ∙ stop) in
+      subst (HasRisen old.faults new.faults) same (risen_on old.faults mid.faults new.faults n (first.stopped n going some) second.count)
+
+  quiet_on : devices_in front ++ devices_in back ≡ [] → new.stop ≡ None → IsCountStill old.faults new.faults
+  quiet_on none going =
+      let nothing = nothing_on (devices_in front) (devices_in back) none in
+      let on = goes_on mid.stop (λ fault is. let no : None ≡ Some fault = sym going ∙ second.kept fault is in cc) in
+      still_on old.faults mid.faults new.faults (first.quiet nothing.0 on) (second.quiet nothing.1 going)
 
   pub told_on : AreFaultsTold old new (front ++ back)
   told_on = record {
-    faults = both first.faults second.faults;
+    each = λ fault has. each_on fault (subst (Has fault) devices has);
+    once = subst (IsDistinct nat_eq) (sym devices) (distinct_on (devices_in front) (devices_in back) first.once second.once (λ m n one other. apart m n (first.each m one) (second.each n other)));
+    kept = λ fault is. second.kept fault (first.kept fault is);
+    stopped = λ fault going stop. stopped_on fault going stop mid.stop refl;
     stops = all_append (λ (e : Entry). (fault : ℕ) → stopped_in e.reply ≡ Some fault → new.stop ≡ Some fault) front back
         (all_map (λ (e : Entry). (fault : ℕ) → stopped_in e.reply ≡ Some fault → mid.stop ≡ Some fault) (λ (e : Entry). (fault : ℕ) → stopped_in e.reply ≡ Some fault → new.stop ≡ Some fault)
-        (λ e told fault is. stays mid new back fault second.faults (told fault is)) front first.stops)
+        (λ e told fault is. second.kept fault (told fault is)) front first.stops)
         second.stops;
+    count = omega (arith, first.count, second.count);
+    quiet = λ none going. quiet_on (sym devices ∙ none) going;
   }
-
--- ---- a store that goes on
-
-pub calm_told : (old new : StoreState) (history : List Entry) → AreFaultsTold old new history → new.stop ≡ None → (new.faults ≡ old.faults) × (old.stop ≡ None)
-calm_told old new history told none = by told.faults
-  where
-    by : HadNoFault old new history ⊎ HadOneFault old new history → (new.faults ≡ old.faults) × (old.stop ≡ None)
-    by (inl calm) = (calm.quiet.faults, sym calm.quiet.stop ∙ none)
-    by (inr one) = let no : None ≡ Some one.fault = sym none ∙ one.stops.stop in cc
-
--- ---- where the store has stopped
-
-module _ (old new : StoreState) (r : Reply) (still : (fault : ℕ) → old.stop ≡ Some fault → device_in r ≡ None) where
-  stop_kept : TellsFaults old new r → (fault : ℕ) → old.stop ≡ Some fault → new.stop ≡ Some fault
-  stop_kept (inl own) fault is = own.stop ∙ ap (λ (o : Option ℕ). stop_after o (device_in r)) is
-  stop_kept (inr none) fault is = let no : None ≡ Some fault = sym none.beside.going ∙ is in cc
-
-  stop_told : TellsFaults old new r → (fault : ℕ) → device_in r ≡ Some fault → (old.stop ≡ None) × (new.stop ≡ Some fault)
-  stop_told (inr none) fault is = let no : None ≡ Some fault = sym none.none ∙ is in cc
-  stop_told (inl own) fault is = by old.stop refl
-    where
-      by : (o : Option ℕ) → old.stop ≡ o → (old.stop ≡ None) × (new.stop ≡ Some fault)
-      by None none = (none, own.stop ∙ ap (λ (o : Option ℕ). stop_after o (device_in r)) none ∙ is)
-      by (Some f) some = let no : None ≡ Some fault = sym (still f some) ∙ is in cc
-
-  pub stops_by : TellsFaults old new r → ((fault : ℕ) → stopped_in r ≡ Some fault → old.stop ≡ Some fault) → StopsBy old.stop new.stop r
-  stops_by told stopped = record { kept = stop_kept told; device = stop_told told; stopped = stopped }

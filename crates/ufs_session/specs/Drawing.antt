@@ -1,5 +1,5 @@
 -- What is asked of a request that was served, so that its entry may be drawn.
-use Rattle.std.specs.Prelude.{ℕ, ◌≡◌, ◌≢◌, ◌<◌, ◌&&◌, ◌+◌, Bool, IsTrue, List, [], ◌∷◌, ◌++◌, length, map, drop, if◌then◌else◌, Option, Some, None}
+use Rattle.std.specs.Prelude.{ℕ, ◌≡◌, ◌≢◌, ◌<◌, ◌≤◌, ◌&&◌, ◌⊎◌, ◌+◌, ◌-◌, ◌^◌, Bool, IsTrue, List, [], ◌∷◌, ◌++◌, length, map, drop, if◌then◌else◌, Option, Some, None}
 use Rattle.ufs_alike.specs.Redrawn.{redrawn, redrawn_all}
 use Rattle.ufs_base.specs.declared.limits.TheConstants.{MAX_CLIENTS}
 use Rattle.ufs_fds.specs.Descriptors.{AreOf, Descs}
@@ -15,7 +15,7 @@ use Rattle.ufs_prefix.specs.Steps.{is_ok}
 use Rattle.ufs_server.specs.Answered.{device_in, stopped_in}
 use Rattle.ufs_disk.specs.Moments.{all}
 use Rattle.ufs_one_hand.specs.OneHand.{IsStampedIn, faults_in, passed_in}
-use Rattle.ufs_sound.specs.Owned.{Has}
+use Rattle.ufs_sound.specs.Owned.{Has, times}
 use Rattle.ufs_sound.specs.Parts.{Cells, Shortage, Start, View}
 use Rattle.ufs_sound.specs.Shown.{ExplainsImages}
 use Rattle.ufs_sound.specs.Visible.{IsDiskVisible}
@@ -49,20 +49,47 @@ pub record IsServedIn (t : PosixTree) (history : List Entry) (entry : Entry) (fd
   pub fds_are : AreOf (goes_on t entry).fds entry.client fds
   pub others : (fd : ℕ) → fd_told entry.op entry.reply ≢ Some fd → desc_at (goes_on t entry) entry.client fd ≡ desc_at t entry.client fd
 
--- Where a store had stopped, and where it has: it stays there, and a reply tells the one or the other.
+-- Where a store had stopped, and where it has: it stays there. A fault that a reply tells is the one at which it stopped, or a
+-- read's, and the stop is as it was; a stop that it tells is the earlier one.
 pub record StopsBy (old new : Option ℕ) (reply : Reply) : Type 0 where
   pub kept : (fault : ℕ) → old ≡ Some fault → new ≡ Some fault
-  pub device : (fault : ℕ) → device_in reply ≡ Some fault → (old ≡ None) × (new ≡ Some fault)
+  pub device : (fault : ℕ) → device_in reply ≡ Some fault → ((old ≡ None) × (new ≡ Some fault)) ⊎ (new ≡ old)
   pub stopped : (fault : ℕ) → stopped_in reply ≡ Some fault → old ≡ Some fault
-
--- Where the store hasn't stopped, no call of the disk failed.
-abbrev pub IsUnfailed : View → Type 0
-IsUnfailed v = v.stop ≡ None → faults_in v ≡ []
 
 -- the blocks that were short, where a reply tells so
 abbrev pub short_in : Reply → List Shortage
 short_in (reply.Excused (excuse.Blocks need had)) = record { need = need; had = had; pool = 0 } ∷ []
 short_in _ = []
+
+-- ---- the numbers of faults
+
+-- the read that failed, where the reply tells it: where the store stopped meanwhile none did
+abbrev pub read_failed : (old new : Option ℕ) → Reply → Option ℕ
+read_failed None (Some fault) reply = None
+read_failed _ _ reply = device_in reply
+
+-- The store's count has risen to this number. Where the count stands still the number is that of the stop.
+pub record IsCounted (s : StoreState) (fault : ℕ) : Type 0 where
+  pub counted : fault ≤ s.faults
+  pub within : fault ≤ 2 ^ 64 - 1
+  pub last : fault ≡ 2 ^ 64 - 1 → s.stop ≡ Some fault
+
+-- The hand has only numbers of faults to which the store's count has risen.
+abbrev pub HasCounted : StoreState → View → Type 0
+HasCounted s v = (fault : ℕ) → 1 ≤ times fault (faults_in v) → IsCounted s fault
+
+-- The store's count has risen to this number, which the hand hasn't yet.
+pub record IsNewFault (s : StoreState) (v : View) (fault : ℕ) : Type 0 where
+  pub counted : IsCounted s fault
+  pub fresh : times fault (faults_in v) ≡ 0
+
+-- A request with this reply was served: the store counts what the hand has, and what failed meanwhile is new to the hand.
+pub record HasMet (s : StoreState) (reply : Reply) (v : View) : Type 0 where
+  pub had : HasCounted s v
+  pub read : (fault : ℕ) → read_failed v.stop s.stop reply ≡ Some fault → IsNewFault s v fault
+  pub stop : (fault : ℕ) → v.stop ≡ None → s.stop ≡ Some fault → IsNewFault s v fault
+
+-- ---- what the disk shows
 
 -- the reply acknowledges that something is on the disk for good
 abbrev pub acknowledges : Entry → Bool

@@ -4,3 +4,5 @@ pub mod Serving
 pub mod Served
 pub mod Throughout
 pub mod Drawing
+pub mod Picked
+pub mod Reading

@@ -4,7 +4,7 @@ use Rattle.std.specs.FinMap as map
 use Rattle.ufs_alike.specs.Alike.{AreAlike}
 use Rattle.ufs_base.specs.declared.limits.TheConstants.{MAX_CLIENTS, MAX_REQUESTS}
 use Rattle.ufs_model.specs.PosixTree.{PosixTree}
-use Rattle.ufs_model.specs.History.{IsLegal, IsInOrder, IsComplete}
+use Rattle.ufs_model.specs.History.{IsLegal, IsInOrder, IsComplete, joined, tree_after}
 use Rattle.ufs_model.specs.declared.data.Op.{Op}
 use Rattle.ufs_model.specs.declared.data.Entry.{Entry}
 use Rattle.ufs_client.specs.Own.{AreServedFrom}
@@ -44,3 +44,12 @@ pub record IsPlayedFrom (start : PosixTree) (clients : List (List Op)) (told : L
   pub servers : AreServedFrom start history
   pub ordered : IsInOrder clients history
   pub complete : ended ≡ Ok tt → IsComplete clients history
+
+-- The session was played from a tree like its start, with which the parts may begin, and the parts are now those of the tree
+-- behind it.
+pub record IsPlayedLike (k : Start) (before after : Parts) (clients : List (List Op)) (told : List (List Entry)) (ended : Result (Unit {0}) EndFault) : Type 0 where
+  pub tree : PosixTree
+  pub like : IsLikeStart k tree
+  pub begins : MayBegin before tree
+  pub played : IsPlayedFrom tree clients told ended (joined told)
+  pub left : ArePartsOf after (tree_after tree (joined told))

@@ -5,9 +5,10 @@ use Rattle.ufs_model.specs.History.{joined, tree_after}
 use Rattle.ufs_model.specs.PosixTree.{PosixTree}
 use Rattle.ufs_model.specs.declared.data.Entry.{Entry}
 use Rattle.ufs_model.specs.declared.data.Op.{Op}
-use Rattle.ufs_session.specs.Played.{IsPlayedFrom, MayBegin}
+use Rattle.ufs_session.specs.Played.{IsPlayedFrom, IsPlayedLike, MayBegin}
 use Rattle.ufs_session.specs.Throughout.{IsExplainedThroughout}
 use Rattle.ufs_session.specs.Told.{AreFaultsTold}
+use Rattle.ufs_sound.specs.Parts.{Start}
 use Rattle.ufs_store.specs.State.{StoreState, geometry_of_store}
 use Rattle.ufs_stored.specs.OnDisk.{IsOnDisk}
 use Rattle.ufs_stored.specs.Parts.{Parts}
@@ -25,8 +26,10 @@ pub record GoesAlong (visible keeps : Bool) (old new : StoreState) (before after
   pub geometry : geometry_of_store new ≡ geometry_of_store old
   pub sectors : new.sectors ≡ old.sectors
 
--- Clients were served from these parts and this store, to those: these are their transcripts.
-pub record AreServed (visible keeps : Bool) (old new : StoreState) (before after : Parts) (clients : List (List Op)) (told : List (List Entry)) (ended : Result (Unit {0}) EndFault) : Type 0 where
-  pub played : (start : PosixTree) → MayBegin before start → IsPlayedFrom start clients told ended (joined told)
-  pub left : (start : PosixTree) → MayBegin before start → ArePartsOf after (tree_after start (joined told))
+-- Clients were served from these parts and this store, to those: these are their transcripts. Over a visible disk they are played
+-- from each tree for which the disk keeps its promise.
+pub record AreServed (k : Start) (visible keeps : Bool) (old new : StoreState) (before after : Parts) (clients : List (List Op)) (told : List (List Entry)) (ended : Result (Unit {0}) EndFault) : Type 0 where
+  pub played : IsPlayedLike k before after clients told ended
+  pub seen : IsTrue visible → (start : PosixTree) → MayBegin before start → IsOnDisk old start [] before → IsPlayedFrom start clients told ended (joined told)
+  pub left : IsTrue visible → (start : PosixTree) → MayBegin before start → IsOnDisk old start [] before → ArePartsOf after (tree_after start (joined told))
   pub disk : GoesAlong visible keeps old new before after (joined told)

@@ -1,14 +1,39 @@
 -- How far the serving of clients has come.
-use Rattle.std.specs.Prelude.{ℕ, ◌≡◌, ◌≢◌, ◌+◌, ◌*◌, ◌^◌, ◌≤◌, List, [], ◌++◌, None, length}
+use Rattle.std.specs.Prelude.{ℕ, ◌≡◌, ◌≢◌, ◌+◌, ◌*◌, ◌^◌, ◌≤◌, Bool, IsTrue, true, false, List, [], ◌++◌, Option, None, length}
 use Rattle.std.specs.FinMap as map
 use Rattle.ufs_base.specs.declared.limits.TheConstants.{MAX_CLIENTS, MAX_REQUESTS}
+use Rattle.ufs_model.specs.Asks.{IsAsk}
+use Rattle.ufs_model.specs.Excuses.{ExcuseFits}
+use Rattle.ufs_model.specs.Posix.{posix}
 use Rattle.ufs_model.specs.PosixTree.{PosixTree}
-use Rattle.ufs_model.specs.History.{IsLegalFrom, IsInOrder, tree_after, entries_of, requests_of}
+use Rattle.ufs_model.specs.History.{IsLegalFrom, IsInOrder, is_excused, tree_after, entries_of, requests_of}
+use Rattle.ufs_model.specs.declared.data.Ask.{Ask}
+use Rattle.ufs_model.specs.declared.data.Desc.{Desc}
 use Rattle.ufs_model.specs.declared.data.Op.{Op}
 use Rattle.ufs_model.specs.declared.data.Entry.{Entry}
+use Rattle.ufs_model.specs.declared.data.Excuse.{Excuse}
+use Rattle.ufs_model.specs.declared.data.Reply.{Reply}
+use Rattle.ufs_model.specs.declared.data.Reply.TheVariants.{Excused}
 use Rattle.ufs_client.specs.Own.{AreServedFrom}
+use Rattle.ufs_server.specs.Answered.{IsAnswered}
+use Rattle.ufs_store.specs.State.{StoreState}
+use Rattle.ufs_stored.specs.OnDisk.{IsOnDisk}
 use Rattle.ufs_stored.specs.Parts.{Parts}
 use Rattle.ufs_stored.specs.Stored.{ArePartsOf}
+use Rattle.ufs_server.specs.Fetched.{HasReadFurther}
+use Rattle.ufs_server.specs.Away.{AwayStays, ForgetsNothing}
+
+-- A request was served: the blocks that it needs were read first, and it was answered with the parts as they were then.
+pub record IsServedReading (visible : Bool) (s : StoreState) (old new : Parts) (ask : Ask) (reply : Reply) (desc : Option Desc) : Type 0 where
+  pub read : Parts
+  pub further : HasReadFurther ask old read
+  -- over a visible disk that keeps its promise it was the tree's bytes that were read
+  pub seen : IsTrue visible → (start : PosixTree) (history : List Entry) → IsOnDisk s start history old → ArePartsOf read (tree_after start history)
+  pub served : is_excused reply ≡ false → (t : PosixTree) → ArePartsOf read t → IsAsk t ask → IsAnswered t ask new reply desc
+  pub fits : (x : Excuse) → reply ≡ Excused x → (t : PosixTree) → ArePartsOf read t → IsAsk t ask → ExcuseFits t ask.client ask.op x
+  pub unchanged : is_excused reply ≡ true → (t : PosixTree) → ArePartsOf read t → ArePartsOf new t
+  pub forgets : ForgetsNothing read new
+  pub away : is_excused reply ≡ false → (t : PosixTree) → ArePartsOf read t → IsAsk t ask → AwayStays new t (posix t ask.client ask.op).0
 
 -- A history that is served: the parts are those of the tree after it, and no more files were made than requests served.
 pub record IsReached (start : PosixTree) (history : List Entry) (p : Parts) : Type 0 where

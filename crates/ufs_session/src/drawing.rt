@@ -5,9 +5,9 @@ ghost use Rattle.ufs_model.specs.declared.data.Entry.{Entry};
 ghost use Rattle.ufs_model.specs.declared.data.Op.{Op};
 ghost use Rattle.ufs_model.specs.declared.data.Reply.TheVariants as reply;
 ghost use Rattle.ufs_one_hand.specs.Drawn.{HasCauses, IsAcknowledged, IsReplyAlike, MayPass};
-ghost use Rattle.ufs_one_hand.specs.OneHand.{HasSession, IsCoveredIn, IsStampedIn, KnowsSynced, passed_in, stamp_in, state_in};
+ghost use Rattle.ufs_one_hand.specs.OneHand.{HasSession, IsCoveredIn, IsStampedIn, KnowsSynced, faults_in, passed_in, stamp_in, state_in};
 ghost use Rattle.ufs_prefix.specs.Changes.{asks_commit};
-ghost use Rattle.ufs_session.specs.Drawing.{IsServedIn, IsShownWith, IsUnfailed, StopsBy, acknowledges, disk_state, entry_had, had_as, short_in, states_behind, tree_had};
+ghost use Rattle.ufs_session.specs.Drawing.{HasCounted, HasMet, IsServedIn, IsShownWith, StopsBy, acknowledges, disk_state, entry_had, had_as, read_failed, short_in, states_behind, tree_had};
 ghost use Rattle.ufs_sound.specs.Covers.{step_in};
 ghost use Rattle.ufs_sound.specs.Owned.{Has, times};
 ghost use Rattle.ufs_sound.specs.Parts.{Cells};
@@ -45,12 +45,12 @@ pub(crate) fn stamp_disk<N: Naming, D: Door, P: Passing>(hand: &mut OneHand<N>, 
     requires covered { IsCoveredIn N.start [] hand.old }
     requires explained { IsDiskVisible N.start → ExplainsImages N.start.tree [] (disk_state (D.store door.now)) }
     requires still { hand.old.stop ≡ (D.store door.now).stop }
-    requires unfailed { IsUnfailed hand.old }
+    requires counted { HasCounted (D.store door.now) hand.old }
     ensures session { HasSession N.start [] None hand.new }
     ensures covered { IsCoveredIn N.start [] hand.new }
     ensures passed { passed_in hand.new ≡ passed_in hand.old }
     ensures stop { hand.new.stop ≡ (D.store door.now).stop }
-    ensures unfailed { IsUnfailed hand.new }
+    ensures counted { HasCounted (D.store door.now) hand.new }
     ensures state { state_in hand.new ≡ disk_state (D.store door.now) }
 {
     hand.pass::<P>();
@@ -73,7 +73,7 @@ pub(crate) fn draw<N: Naming, D: Door, F: Since>(
     requires covered { IsCoveredIn N.start (had_as N.start (joined earlier.now.items ++ told.now.items)) hand.old }
     requires shown { IsDiskVisible N.start → IsShownWith N.start (had_as N.start (joined earlier.now.items ++ told.now.items)) (entry_had N.start (joined earlier.now.items ++ told.now.items) entry) (states_behind D.keeps (F.count + passed_in hand.old) (D.store door.now)) (disk_state (D.store door.now)) }
     requires stops { StopsBy hand.old.stop (D.store door.now).stop entry.reply }
-    requires unfailed { IsUnfailed hand.old }
+    requires met { HasMet (D.store door.now) entry.reply hand.old }
     ensures same { result ≡ entry }
     ensures session { HasSession N.start (had_as N.start ((joined earlier.now.items ++ told.now.items) ++ entry ∷ [])) None hand.new }
     ensures covered { IsCoveredIn N.start (had_as N.start ((joined earlier.now.items ++ told.now.items) ++ entry ∷ [])) hand.new }
@@ -81,7 +81,7 @@ pub(crate) fn draw<N: Naming, D: Door, F: Since>(
     ensures passed { passed_in hand.new ≡ passed_in hand.old + length (states_behind D.keeps (F.count + passed_in hand.old) (D.store door.now)) }
     ensures stop { hand.new.stop ≡ (D.store door.now).stop }
     ensures state { state_in hand.new ≡ disk_state (D.store door.now) }
-    ensures unfailed { IsUnfailed hand.new }
+    ensures counted { HasCounted (D.store door.now) hand.new }
 {
     pass::<N, D, F, Brand>(hand, door, &entry);
     if is_acknowledged(&entry) {
@@ -92,14 +92,14 @@ pub(crate) fn draw<N: Naming, D: Door, F: Since>(
 
 // The disk was called for the request.
 fn pass<N: Naming, D: Door, F: Since, P: Passing>(hand: &mut OneHand<N>, door: &D, entry: &Entry)
-    requires failed { P.failed ≡ None }
+    requires failed { P.failed ≡ read_failed hand.old.stop (D.store door.now).stop entry.now.reply }
     requires stop { P.stop ≡ (D.store door.now).stop }
     requires states { P.states ≡ states_behind D.keeps (F.count + passed_in hand.old) (D.store door.now) }
     requires state { P.state ≡ disk_state (D.store door.now) }
     requires short { P.shortages ≡ short_in entry.now.reply }
     requires session { (history : List Entry) × (asked : Option (ℕ × Op)) × MayPass N.start history asked (states_behind D.keeps (F.count + passed_in hand.old) (D.store door.now)) (disk_state (D.store door.now)) hand.old }
     requires stops { StopsBy hand.old.stop (D.store door.now).stop entry.now.reply }
-    requires unfailed { IsUnfailed hand.old }
+    requires met { HasMet (D.store door.now) entry.now.reply hand.old }
     ensures session { (history : List Entry) (asked : Option (ℕ × Op)) → HasSession N.start history asked hand.old → HasSession N.start history asked hand.new }
     ensures covered { (history : List Entry) → IsCoveredIn N.start history hand.old → IsCoveredIn N.start history hand.new }
     ensures stamped { (x : Cells) → IsStampedIn hand.old.store x ⊎ Has x (states_behind D.keeps (F.count + passed_in hand.old) (D.store door.now)) → IsStampedIn hand.new.store x }
@@ -107,7 +107,7 @@ fn pass<N: Naming, D: Door, F: Since, P: Passing>(hand: &mut OneHand<N>, door: &
     ensures causes { HasCauses entry.now.reply hand.new }
     ensures stop { hand.new.stop ≡ (D.store door.now).stop }
     ensures state { state_in hand.new ≡ disk_state (D.store door.now) }
-    ensures unfailed { IsUnfailed hand.new }
+    ensures counted { HasCounted (D.store door.now) hand.new }
 {
     hand.pass::<P>();
 }
@@ -129,7 +129,7 @@ fn keep<N: Naming, A: Answering>(
     ensures causes { HasCauses entry.now.reply hand.old → HasCauses entry.now.reply hand.new }
     ensures stop { hand.new.stop ≡ hand.old.stop }
     ensures state { state_in hand.new ≡ state_in hand.old }
-    ensures unfailed { IsUnfailed hand.old → IsUnfailed hand.new }
+    ensures answered { faults_in hand.new ≡ faults_in hand.old }
 {
     hand.keep::<A>(entry);
 }
@@ -168,7 +168,7 @@ fn draw_entry<N: Naming, A: Answering>(
     ensures passed { passed_in hand.new ≡ passed_in hand.old }
     ensures stop { hand.new.stop ≡ hand.old.stop }
     ensures state { state_in hand.new ≡ state_in hand.old }
-    ensures unfailed { IsUnfailed hand.old → IsUnfailed hand.new }
+    ensures answered { faults_in hand.new ≡ faults_in hand.old }
 {
     let Entry {
         ticket: _,

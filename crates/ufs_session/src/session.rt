@@ -1,27 +1,28 @@
-ghost use Rattle.std.specs.Prelude.{◌-◌, ◌+◌, ◌^◌, ◌≡◌, ◌≤◌, ◌<◌, ◌*◌, ◌++◌, ◌∷◌, [], ℕ, List, None, Some, OnOk, IsTrue, length, true, false};
+ghost use Rattle.std.specs.Prelude.{◌-◌, ◌+◌, ◌^◌, ◌≡◌, ◌≤◌, ◌<◌, ◌*◌, ◌++◌, ◌∷◌, [], ℕ, List, None, IsTrue, length, true};
 ghost use Rattle.ufs_client.specs.Own.{server_of};
 ghost use Rattle.ufs_disk.specs.Moments.{all};
 ghost use Rattle.ufs_file.specs.Hand.{IsEntryOf};
 ghost use Rattle.ufs_sound.specs.Visible.{IsDiskVisible};
 ghost use Rattle.ufs_model.specs.Asks.{IsAsk};
 ghost use Rattle.ufs_model.specs.Bounds.{IsBounded};
-ghost use Rattle.ufs_model.specs.Excuses.{ExcuseFits};
 ghost use Rattle.ufs_model.specs.PosixTree.{PosixTree};
 ghost use Rattle.ufs_model.specs.History.{AreTicketsOnce, IsLegal, is_excused, joined, tree_after};
+ghost use Rattle.ufs_model.specs.declared.data.Actor.TheVariants as actor;
 ghost use Rattle.ufs_model.specs.declared.data.Entry.{Entry};
-ghost use Rattle.ufs_model.specs.declared.data.Excuse.{Excuse};
 ghost use Rattle.ufs_model.specs.declared.data.Reply.TheVariants as reply;
-ghost use Rattle.ufs_server.specs.Answered.{IsAnswered, TellsFaults, device_in, stopped_in};
 ghost use Rattle.ufs_store.specs.State.{StoreState, geometry_of_store};
 ghost use Rattle.ufs_stored.specs.OnDisk.{IsExplainedBetween, IsOnDisk};
+ghost use Rattle.ufs_stored.specs.Parts.{Parts};
 ghost use Rattle.ufs_stored.specs.Sound.{IsSoundServer};
 ghost use Rattle.ufs_stored.specs.Stored.{ArePartsOf};
 ghost use Rattle.ufs_one_hand.specs.OneHand.{HasSession, IsCoveredIn, IsStart, state_in};
-ghost use Rattle.ufs_session.specs.Drawing.{IsUnfailed, SeesDisk, Stamps, disk_state, had_as};
-ghost use Rattle.ufs_session.specs.Told.{AreFaultsTold};
-ghost use Rattle.ufs_session.specs.Played.{BeginsAs, IsLikeStart, IsPlayedFrom, MayBegin};
+ghost use Rattle.ufs_session.specs.Drawing.{HasCounted, SeesDisk, Stamps, disk_state, had_as};
+ghost use Rattle.ufs_session.specs.Told.{AreFaultsTold, TellsRequest};
+ghost use Rattle.ufs_session.specs.Picked.{Pick};
+ghost use Rattle.ufs_session.specs.Played.{BeginsAs, IsPlayedFrom, IsPlayedLike, MayBegin};
+ghost use Rattle.ufs_session.specs.Reading.{HasServedOn, IsNewTo};
 ghost use Rattle.ufs_session.specs.Served.{AreServed};
-ghost use Rattle.ufs_session.specs.Serving.{GoesOn, IsDone, IsReached, IsReady};
+ghost use Rattle.ufs_session.specs.Serving.{GoesOn, IsServedReading};
 ghost use Rattle.ufs_session.specs.Throughout.{AreMomentsStamped, IsExplainedThroughout};
 
 use crate::drawing::{Since, draw, stamp_disk};
@@ -30,16 +31,17 @@ use std::marker::Brand;
 use ufs_base::{MAX_CLIENTS, MAX_REQUESTS, Memory};
 use ufs_client::{EndFault, Session, ToldLists, answer_own, ask, keep};
 use ufs_fds::FdTable;
-use ufs_file::Applied;
+use ufs_file::{Applied, answered};
 use ufs_hand::{Naming, Opened};
-use ufs_model::{Actor, Ask, Entry, EntryList, a_request_makes_one_file_at_most};
+use ufs_model::{Actor, Ask, Entry, EntryList, Excuse, Reply, a_request_makes_one_file_at_most};
 use ufs_one_hand::OneHand;
 use ufs_script::{OpList, OpLists};
 use ufs_server::DiskServer;
 use ufs_store::Door;
 use ufs_stored::{always_law, on_disk_law};
 
-// Serves a request: the client does where its descriptors tell the answer, and the server otherwise.
+// Serves a request: the client does where its descriptors tell the answer, and the server otherwise, once the blocks
+// that the request needs are in memory.
 fn serve_one<D: Door>(server: &mut DiskServer, door: &mut D, ask: Ask, ticket: u64) -> Applied
     requires client { ask.client < MAX_CLIENTS }
     requires bounded { IsBounded ask.op }
@@ -48,9 +50,7 @@ fn serve_one<D: Door>(server: &mut DiskServer, door: &mut D, ask: Ask, ticket: u
     requires sound { IsSoundServer (geometry_of_store (D.store door.old)) (D.store door.old).unassigned.free server.old }
     ensures entry { IsEntryOf ask result.entry.by ticket result.entry }
     ensures by { (t : PosixTree) → IsAsk t ask → result.entry.by ≡ server_of t ask.client ask.op }
-    ensures served { is_excused result.entry.reply ≡ false → (t : PosixTree) → ArePartsOf server.old t → IsAsk t ask → IsAnswered t ask server.new result.entry.reply result.desc }
-    ensures fits { (x : Excuse) → result.entry.reply ≡ reply.Excused x → (t : PosixTree) → ArePartsOf server.old t → IsAsk t ask → ExcuseFits t ask.client ask.op x }
-    ensures unchanged { is_excused result.entry.reply ≡ true → (t : PosixTree) → ArePartsOf server.old t → ArePartsOf server.new t }
+    ensures reading { IsServedReading D.visible (D.store door.old) server.old server.new ask result.entry.reply result.desc }
     ensures desc { is_excused result.entry.reply ≡ true → result.desc ≡ ask.desc }
     ensures on_disk { IsTrue D.visible → (start : PosixTree) (history : List Entry) → IsAsk (tree_after start history) ask → IsLegal start (history ++ result.entry ∷ [])
         → IsOnDisk (D.store door.old) start history server.old → IsOnDisk (D.store door.new) start (history ++ result.entry ∷ []) server.new }
@@ -62,15 +62,16 @@ fn serve_one<D: Door>(server: &mut DiskServer, door: &mut D, ask: Ask, ticket: u
     ensures sound { IsSoundServer (geometry_of_store (D.store door.new)) (D.store door.new).unassigned.free server.new }
     ensures geometry { geometry_of_store (D.store door.new) ≡ geometry_of_store (D.store door.old) }
     ensures sectors { (D.store door.new).sectors ≡ (D.store door.old).sectors }
-    ensures stopped { (fault : ℕ) → stopped_in result.entry.reply ≡ Some fault → (D.store door.old).stop ≡ Some fault }
-    ensures told { TellsFaults (D.store door.old) (D.store door.new) result.entry.reply }
-    ensures still { (fault : ℕ) → (D.store door.old).stop ≡ Some fault → device_in result.entry.reply ≡ None }
+    ensures told { TellsRequest (D.store door.old) (D.store door.new) result.entry.reply }
 {
     let geometry = door.geometry();
     on_disk_law(&geometry);
     always_law(&geometry);
     let Some(answer) = answer_own(&ask) else {
-        return server.apply(door, ask, Actor::Primary, ticket);
+        return match server.fetch(door, &ask) {
+            Ok(()) => server.apply(door, ask, Actor::Primary, ticket),
+            Err(excuse) => unread(ask, ticket, excuse),
+        };
     };
     Applied {
         entry: Entry {
@@ -83,6 +84,16 @@ fn serve_one<D: Door>(server: &mut DiskServer, door: &mut D, ask: Ask, ticket: u
         },
         desc: answer.desc,
     }
+}
+
+// The answer to a request whose blocks couldn't be read. Its descriptor stays.
+fn unread(ask: Ask, ticket: u64, excuse: Excuse) -> Applied
+    ensures entry { IsEntryOf ask actor.Primary ticket result.entry }
+    ensures reply { result.entry.reply ≡ reply.Excused excuse }
+    ensures desc { result.desc ≡ ask.desc }
+{
+    let desc = ask.desc;
+    answered(ask, Actor::Primary, ticket, Reply::Excused(excuse), desc)
 }
 
 // Serves a client's requests one by one, and adds the entries to its transcript; an excuse is a reply like others.
@@ -100,25 +111,20 @@ fn serve_client<N: Naming, D: Door, F: Since>(
     requires client { client < MAX_CLIENTS }
     requires few { length (joined earlier.now.items) ≤ (MAX_CLIENTS - 1) * MAX_REQUESTS }
     requires first { first ≡ length (joined earlier.now.items) }
-    requires ready { (start : PosixTree) × IsLikeStart N.start start × IsReady start (joined earlier.now.items) server.old client }
+    requires ready { (begun : Parts) × (picks : List Pick) × IsNewTo N.start begun picks server.old (joined earlier.now.items) client }
     requires session { HasSession N.start (had_as N.start (joined earlier.now.items)) None hand.old }
     requires covered { IsCoveredIn N.start (had_as N.start (joined earlier.now.items)) hand.old }
     requires sees { SeesDisk N.start D.visible (D.store door.old) (joined earlier.now.items) server.old }
     requires stamps { Stamps N.start D.keeps F.count (D.store door.old) hand.old }
     requires stop { hand.old.stop ≡ (D.store door.old).stop }
     requires state { state_in hand.old ≡ disk_state (D.store door.old) }
-    requires unfailed { IsUnfailed hand.old }
+    requires counted { HasCounted (D.store door.old) hand.old }
     requires faults { (begun : StoreState) × AreFaultsTold begun (D.store door.old) (joined earlier.now.items) }
     requires sound { IsSoundServer (geometry_of_store (D.store door.old)) (D.store door.old).unassigned.free server.old }
     requires none { told.old.items ≡ [] }
     ensures goes_on { GoesOn (joined earlier.now.items) client requests told.new.items }
-    ensures left { (start : PosixTree) → IsReady start (joined earlier.now.items) server.old client → IsReached start (joined earlier.now.items ++ told.new.items) server.new }
-    ensures done { OnOk result ((start : PosixTree) → IsReady start (joined earlier.now.items) server.old client → IsDone start (joined earlier.now.items) client requests told.new.items) }
-    ensures on_disk { IsTrue D.visible → (start : PosixTree) → IsReady start (joined earlier.now.items) server.old client
-        → IsOnDisk (D.store door.old) start (joined earlier.now.items) server.old → IsOnDisk (D.store door.new) start (joined earlier.now.items ++ told.new.items) server.new }
-    ensures moments { IsTrue D.visible → (start : PosixTree) → IsReady start (joined earlier.now.items) server.old client
-        → IsOnDisk (D.store door.old) start (joined earlier.now.items) server.old
-        → IsExplainedThroughout D.keeps (D.store door.old).sectors start (joined earlier.now.items) told.new.items (D.store door.old).moments (D.store door.new).moments }
+    ensures served { (begun : Parts) (picks : List Pick) → IsNewTo N.start begun picks server.old (joined earlier.now.items) client
+        → HasServedOn N.start D.visible D.keeps begun picks (D.store door.old) (D.store door.new) server.old server.new (joined earlier.now.items) told.new.items client requests result }
     ensures faults { AreFaultsTold (D.store door.old) (D.store door.new) told.new.items }
     ensures sound { IsSoundServer (geometry_of_store (D.store door.new)) (D.store door.new).unassigned.free server.new }
     ensures session { HasSession N.start (had_as N.start (joined earlier.now.items ++ told.new.items)) None hand.new }
@@ -126,7 +132,7 @@ fn serve_client<N: Naming, D: Door, F: Since>(
     ensures stamps { Stamps N.start D.keeps F.count (D.store door.new) hand.new }
     ensures stop { hand.new.stop ≡ (D.store door.new).stop }
     ensures state { state_in hand.new ≡ disk_state (D.store door.new) }
-    ensures unfailed { IsUnfailed hand.new }
+    ensures counted { HasCounted (D.store door.new) hand.new }
     ensures geometry { geometry_of_store (D.store door.new) ≡ geometry_of_store (D.store door.old) }
     ensures sectors { (D.store door.new).sectors ≡ (D.store door.old).sectors }
 {
@@ -165,16 +171,16 @@ fn serve_clients<N: Naming, D: Door, F: Since>(
     requires stamps { Stamps N.start D.keeps F.count (D.store door.old) hand.old }
     requires stop { hand.old.stop ≡ (D.store door.old).stop }
     requires state { state_in hand.old ≡ disk_state (D.store door.old) }
-    requires unfailed { IsUnfailed hand.old }
+    requires counted { HasCounted (D.store door.old) hand.old }
     requires sound { IsSoundServer (geometry_of_store (D.store door.old)) (D.store door.old).unassigned.free server.old }
     requires none { told.old.items ≡ [] }
-    ensures served { AreServed D.visible D.keeps (D.store door.old) (D.store door.new) server.old server.new clients told.new.items result }
+    ensures served { AreServed N.start D.visible D.keeps (D.store door.old) (D.store door.new) server.old server.new clients told.new.items result }
     ensures session { HasSession N.start (had_as N.start (joined told.new.items)) None hand.new }
     ensures covered { IsCoveredIn N.start (had_as N.start (joined told.new.items)) hand.new }
     ensures stamps { Stamps N.start D.keeps F.count (D.store door.new) hand.new }
     ensures stop { hand.new.stop ≡ (D.store door.new).stop }
     ensures state { state_in hand.new ≡ disk_state (D.store door.new) }
-    ensures unfailed { IsUnfailed hand.new }
+    ensures counted { HasCounted (D.store door.new) hand.new }
 {
     let geometry = door.geometry();
     always_law(&geometry);
@@ -206,8 +212,9 @@ fn serve_clients<N: Naming, D: Door, F: Since>(
 /// touches, and ends the session with every part at hand. Where its start doesn't see the disk, the parts may be those of
 /// a tree whose files have other bytes than the start's, and as many.
 ///
-/// A store that meets a fault of its disk stops there: so a session meets one fault at most, and whoever is told that the
-/// store stopped is told that one, or the one at which it had stopped before.
+/// A read of the disk that fails stops nothing, and the reply tells it unless the disk's count of faults is at its end. At
+/// another call that fails the store stops: so a session meets one such call at most, and whoever is told that the store
+/// stopped is told that one. No two replies tell one fault.
 pub fn serve<D: Door>(
     alloc: Global,
     opened: Opened,
@@ -220,8 +227,9 @@ pub fn serve<D: Door>(
     requires sees { SeesDisk opened.start D.visible (D.store door.old) [] server.old }
     requires going { (D.store door.old).stop ≡ None }
     requires sound { IsSoundServer (geometry_of_store (D.store door.old)) (D.store door.old).unassigned.free server.old }
-    ensures played { (start : PosixTree) → MayBegin server.old start → IsPlayedFrom start clients result.told result.ended (joined result.told) }
-    ensures left { (start : PosixTree) → MayBegin server.old start → ArePartsOf server.new (tree_after start (joined result.told)) }
+    ensures played { IsPlayedLike opened.start server.old server.new clients result.told result.ended }
+    ensures seen { IsTrue D.visible → (start : PosixTree) → MayBegin server.old start → IsOnDisk (D.store door.old) start [] server.old → IsPlayedFrom start clients result.told result.ended (joined result.told) }
+    ensures left { IsTrue D.visible → (start : PosixTree) → MayBegin server.old start → IsOnDisk (D.store door.old) start [] server.old → ArePartsOf server.new (tree_after start (joined result.told)) }
     ensures on_disk { IsTrue D.visible → (start : PosixTree) → MayBegin server.old start
         → IsOnDisk (D.store door.old) start [] server.old → IsOnDisk (D.store door.new) start (joined result.told) server.new }
     ensures moments { IsTrue D.visible → (start : PosixTree) → MayBegin server.old start → IsOnDisk (D.store door.old) start [] server.old
@@ -229,7 +237,6 @@ pub fn serve<D: Door>(
     ensures stamped { IsDiskVisible opened.start → IsTrue D.keeps → AreMomentsStamped opened.start.tree (joined result.told) (D.store door.new).sectors (D.store door.old).moments (D.store door.new).moments }
     ensures once { AreTicketsOnce (joined result.told) }
     ensures faults { AreFaultsTold (D.store door.old) (D.store door.new) (joined result.told) }
-    ensures calm { (D.store door.new).stop ≡ None → ((D.store door.new).faults ≡ (D.store door.old).faults) × ((D.store door.old).stop ≡ None) }
     ensures sound { IsSoundServer (geometry_of_store (D.store door.new)) (D.store door.new).unassigned.free server.new }
     ensures geometry { geometry_of_store (D.store door.new) ≡ geometry_of_store (D.store door.old) }
     ensures sectors { (D.store door.new).sectors ≡ (D.store door.old).sectors }
@@ -254,7 +261,7 @@ fn serve_in<N: Naming, D: Door, F: Since>(
     requires sees { SeesDisk N.start D.visible (D.store door.old) [] server.old }
     requires going { (D.store door.old).stop ≡ None }
     requires sound { IsSoundServer (geometry_of_store (D.store door.old)) (D.store door.old).unassigned.free server.old }
-    ensures served { AreServed D.visible D.keeps (D.store door.old) (D.store door.new) server.old server.new clients result.0.told result.0.ended }
+    ensures served { AreServed N.start D.visible D.keeps (D.store door.old) (D.store door.new) server.old server.new clients result.0.told result.0.ended }
     ensures stamped { IsDiskVisible N.start → IsTrue D.keeps → AreMomentsStamped N.start.tree (joined result.0.told) (D.store door.new).sectors (D.store door.old).moments (D.store door.new).moments }
     ensures entries { result.1 ≡ length (joined result.0.told) }
 {

@@ -3,13 +3,14 @@ use Rattle.ufs_model.specs.History.{joined}
 use Rattle.ufs_model.specs.declared.data.Entry.{Entry}
 use Rattle.ufs_model.specs.declared.data.Op.{Op}
 use Rattle.ufs_one_hand.specs.Drawn.{HasCauses, IsReplyAlike}
-use Rattle.ufs_one_hand.specs.OneHand.{HasSession, IsCoveredIn, IsStampedIn, KnowsSynced, passed_in}
+use Rattle.ufs_one_hand.specs.OneHand.{HasSession, IsCoveredIn, IsStampedIn, KnowsSynced, faults_in, passed_in}
 use Rattle.ufs_one_hand.proofs.Showing.{covered_in_push}
 use Rattle.ufs_sound.specs.Covers.{step_in}
 use Rattle.ufs_sound.specs.Parts.{Start, View}
 use Rattle.ufs_sound.specs.Shown.{ExplainsImages}
-use Rattle.ufs_session.specs.Drawing.{IsServedIn, IsUnfailed, acknowledges, disk_state, entry_had, had_as, tree_had}
+use Rattle.ufs_session.specs.Drawing.{IsServedIn, acknowledges, disk_state, entry_had, had_as, tree_had}
 use Rattle.ufs_session.proofs.DrawingLemmas.{acked_done, is_acked, no_ack}
+use Rattle.ufs_session.proofs.MetLemmas.{counted_same}
 use Rattle.ufs_session.proofs.HadLemmas.{given_done, had_causes, had_done, had_push, same_had}
 use Rattle.ufs_session.proofs.drawing.draw.Goals as goal
 use Rattle.ufs_session.proofs.drawing.draw.Goals.{then-is_acknowledged, else-is_acknowledged}
@@ -110,9 +111,10 @@ returns-clause-passed g c =
       | else-is_acknowledged w ↦ ap passed_in w.hand-is ∙ c.pass.ensures.passed
     ]
 
-pub returns-clause-unfailed : goal.returns-clause-unfailed
-returns-clause-unfailed g c =
-    c.draw_entry.ensures.unfailed (elim c.if-is_acknowledged.branch [
-      | then-is_acknowledged w ↦ subst IsUnfailed (sym w.hand-is) (w.keep.ensures.unfailed c.pass.ensures.unfailed)
-      | else-is_acknowledged w ↦ subst IsUnfailed (sym w.hand-is) c.pass.ensures.unfailed
-    ])
+pub returns-clause-counted : goal.returns-clause-counted
+returns-clause-counted g c =
+    let same = c.draw_entry.ensures.answered ∙ elim c.if-is_acknowledged.branch [
+      | then-is_acknowledged w ↦ ap faults_in w.hand-is ∙ w.keep.ensures.answered
+      | else-is_acknowledged w ↦ ap faults_in w.hand-is
+    ] in
+    counted_same (g.D.Door.store c.args.door.now) c.pass.new.hand c.draw_entry.new.hand same c.pass.ensures.counted

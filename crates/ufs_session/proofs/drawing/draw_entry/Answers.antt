@@ -42,5 +42,5 @@ returns g c =
       passed = ap (in_store 0 (λ s. weigh (λ x. length x.states - 2) s.past)) c.draw-ticket.ensures.store;
       stop = c.draw-ticket.ensures.stop;
       state = c.draw-ticket.ensures.state;
-      unfailed = λ unfailed none. c.draw-ticket.ensures.answered ∙ unfailed (sym c.draw-ticket.ensures.stop ∙ none);
+      answered = c.draw-ticket.ensures.answered;
     }

@@ -31,5 +31,5 @@ returns g c =
       passed = c.keep.ensures.passed;
       stop = c.keep.ensures.stop;
       state = c.keep.ensures.state;
-      unfailed = λ unfailed none. c.keep.ensures.answered ∙ unfailed (sym c.keep.ensures.stop ∙ none);
+      answered = c.keep.ensures.answered;
     }

@@ -1,9 +1,8 @@
 use Rattle.std.proofs.Common.{◌≡◌, [], List, length, None, Some, ap, ◌∙◌, sym, subst, arith}
-use Rattle.ufs_sound.specs.Owned.{Has, times}
+use Rattle.ufs_sound.specs.Owned.{Has}
 use Rattle.ufs_sound.specs.Parts.{Cells}
 use Rattle.ufs_sound.specs.Shown.{ExplainsImages}
-use Rattle.ufs_one_hand.specs.OneHand.{faults_in}
-use Rattle.ufs_session.proofs.DrawingLemmas.{still_unfailed}
+use Rattle.ufs_session.proofs.MetLemmas.{counted_met}
 use Rattle.ufs_session.proofs.drawing.stamp_disk.Goals as goal
 
 pub pass-requires-clause-session : goal.pass-requires-clause-session
@@ -29,7 +28,7 @@ pub returns-clause-passed : goal.returns-clause-passed
 returns-clause-passed g c = c.pass.ensures.passed ∙ (let n = ap (λ (l : List Cells). length l) c.requires.states in omega arith)
 
 pub pass-requires-clause-stopped : goal.pass-requires-clause-stopped
-pass-requires-clause-stopped g c = λ n going stops. ap (times n) (c.requires.unfailed going)
+pass-requires-clause-stopped g c = λ n going stops. let no : None ≡ Some n = sym going ∙ c.requires.still ∙ sym c.requires.stop ∙ stops in cc
 
 pub pass-requires-clause-failed : goal.pass-requires-clause-failed
 pass-requires-clause-failed g c = λ n is. let no : None ≡ Some n = sym c.requires.failed ∙ is in cc
@@ -37,6 +36,7 @@ pass-requires-clause-failed g c = λ n is. let no : None ≡ Some n = sym c.requ
 pub pass-requires-clause-apart : goal.pass-requires-clause-apart
 pass-requires-clause-apart g c = λ n is. let no : None ≡ Some n = sym c.requires.failed ∙ is in cc
 
-pub returns-clause-unfailed : goal.returns-clause-unfailed
-returns-clause-unfailed g c = λ none.
-    still_unfailed g.P.Passing.failed c.args.hand.now.stop g.P.Passing.stop (faults_in c.args.hand.now) (faults_in c.pass.new.self) c.requires.failed (λ n is. c.requires.stop ∙ sym c.requires.still ∙ is) c.requires.unfailed c.pass.ensures.answered (sym c.pass.ensures.stop ∙ none)
+pub returns-clause-counted : goal.returns-clause-counted
+returns-clause-counted g c =
+    counted_met (g.D.Door.store c.args.door.now) g.P.Passing.failed c.args.hand.now.stop g.P.Passing.stop c.args.hand.now c.pass.new.self
+    (λ n is. let no : None ≡ Some n = sym c.requires.failed ∙ is in cc) (λ n going is. let no : None ≡ Some n = sym going ∙ c.requires.still ∙ sym c.requires.stop ∙ is in cc) c.requires.counted c.pass.ensures.answered

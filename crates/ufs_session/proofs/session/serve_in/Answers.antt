@@ -3,7 +3,7 @@ use Rattle.std.specs.Prelude.{drop}
 use Rattle.ufs_disk.specs.Disk.{State}
 use Rattle.ufs_disk.specs.Moments.{all}
 use Rattle.ufs_one_hand.specs.Drawn.{IsExplainedAtStamps}
-use Rattle.ufs_sound.specs.Owned.{Has}
+use Rattle.ufs_sound.specs.Owned.{Has, times}
 use Rattle.ufs_store_steps.specs.Cells.{cells_of}
 use Rattle.ufs_model.specs.History.{joined}
 use Rattle.ufs_model.specs.declared.data.Entry.{Entry}
@@ -16,7 +16,7 @@ use Rattle.ufs_session.proofs.session.serve_in.Goals as goal
 pub returns-clause-served : goal.returns-clause-served
 returns-clause-served g c =
     let s = c.serve_clients-ended in
-    subst (λ (lists : List (List Entry)). AreServed g.D.Door.visible g.D.Door.keeps (g.D.Door.store c.args.door.now) (g.D.Door.store s.new.door) c.args.server.now s.new.server c.args.clients lists s.result)
+    subst (λ (lists : List (List Entry)). AreServed g.N.Naming.start g.D.Door.visible g.D.Door.keeps (g.D.Door.store c.args.door.now) (g.D.Door.store s.new.door) c.args.server.now s.new.server c.args.clients lists s.result)
     (sym c.from_vec.ensures) s.ensures.served
 
 pub returns-clause-entries : goal.returns-clause-entries
@@ -56,11 +56,11 @@ returns-clause-stamped g c sees keeps x has =
     let told = joined s.new.told.items in
     let later = g.D.Door.store s.new.door in
     let stamps = s.ensures.stamps sees keeps in
-    let began = c.requires.start in
-    let seen = told_seen k began.tree began.like told (s.ensures.served.played began.tree began.begins).legal.entries sees in
+    let played = s.ensures.served.played in
+    let seen = told_seen k played.tree played.like told played.played.legal.entries sees in
     subst (λ (lists : List (List Entry)). IsExplainedAtStamps k.tree (joined lists) x) (sym c.from_vec.ensures)
     (subst (λ (h : List Entry). IsExplainedAtStamps k.tree h x) seen
     (c.close-drawn.ensures.explained sees _ s.ensures.session x (stamps.stamped x (subst (λ (n : ℕ). Has x (map (cells_of later.sectors) (drop n (all later.moments)))) (sym c.requires.since) has))))
 
-pub stamp_disk-requires-clause-unfailed : goal.stamp_disk-requires-clause-unfailed
-stamp_disk-requires-clause-unfailed g c = λ none. c.begin-hand.ensures.answered
+pub stamp_disk-requires-clause-counted : goal.stamp_disk-requires-clause-counted
+stamp_disk-requires-clause-counted g c = λ n there. let none = ap (times n) c.begin-hand.ensures.answered in absurd (omega (arith, none, there))

@@ -1,30 +1,146 @@
-use Rattle.std.proofs.Common.{◌∷◌, ◌++◌, [], ℕ, sym, refl, subst, ◌∙◌}
+use Rattle.std.proofs.Common.{◌≡◌, ◌∷◌, ◌++◌, [], ℕ, List, None, Some, Err, true, false, ap, sym, refl, subst, ◌∙◌}
+use Rattle.std.specs.Prelude.{IsTrue}
+use Rattle.ufs_alike.proofs.StepLemmas.{asks}
+use Rattle.ufs_alike.proofs.TreeLemmas.{either_way}
 use Rattle.ufs_client.proofs.Replies.{plain_calm}
-use Rattle.ufs_server.proofs.Beside.{calm_told}
-use Rattle.ufs_stored.specs.OnDisk.{IsExplainedBetween}
-use Rattle.ufs_session.proofs.OwnLemmas.{bytes_behind, nothing, own_answered, parts_behind, parts_on_disk}
-use Rattle.ufs_session.proofs.ThroughoutLemmas.{throughout_one}
+use Rattle.ufs_model.specs.FileBytes.{bytes_of}
+use Rattle.ufs_model.specs.History.{is_excused}
+use Rattle.ufs_model.specs.PosixTree.{Files, PosixTree}
+use Rattle.ufs_model.specs.declared.data.Entry.{Entry}
+use Rattle.ufs_server.proofs.Beside.{calm_told, no_device}
+use Rattle.ufs_server.specs.Answered.{device_told}
+use Rattle.ufs_stored.specs.OnDisk.{IsExplainedBetween, IsOnDisk}
+use Rattle.ufs_session.proofs.FurtherLemmas.{tree_read}
+use Rattle.ufs_session.proofs.OwnLemmas.{bytes_behind, nothing, own_answered, parts_behind, parts_on_disk, same_bytes}
+use Rattle.ufs_session.proofs.ReadingLemmas.{nothing_forgotten, nothing_read, parts_before, read_failed, read_served, same_excuse}
+use Rattle.ufs_session.proofs.ThroughoutLemmas.{between_joined, throughout_one}
+use Rattle.ufs_session.proofs.ToldLemmas.{plain_going, served_told}
+use Rattle.ufs_session.proofs.session.serve_one.Given.{Over}
 use Rattle.ufs_session.proofs.session.serve_one.Goals as goal
+use Rattle.ufs_session.proofs.session.serve_one.Goals.{After-apply}
+use Rattle.ufs_file.specs.Content.{own_bytes}
 
-pub returns-in_default-clause-moments : goal.returns-in_default-clause-moments
-returns-in_default-clause-moments g c visible start history asked legal is =
+pub apply-requires-clause-asked : goal.apply-requires-clause-asked
+apply-requires-clause-asked g c =
+    let was = c.requires.asked in
+    let read = tree_read c.args.ask c.args.server.now c.fetch.new.self was.0 c.fetch.ensures.further was.1 in
+    (read.0, read.2, asks was.0 read.0 c.args.ask (either_way read.0 was.0 read.1) was.2)
+
+-- ---- the blocks were read, and the server answered
+
+pub returns-in-Ok-clause-reading : goal.returns-in-Ok-clause-reading
+returns-in-Ok-clause-reading g c =
+    let f = c.fetch.ensures in
+    let a = c.apply.ensures in
+    let mid = c.fetch.new.self in
+    record {
+      read = mid;
+      further = f.further;
+      seen = λ visible start history is. parts_on_disk (g.D.Door.store c.fetch.new.door) start history mid (f.on_disk visible start history is);
+      served = a.served;
+      fits = a.fits;
+      unchanged = a.unchanged;
+      forgets = a.forgets;
+      away = a.away;
+    }
+
+pub returns-in-Ok-clause-on_disk : goal.returns-in-Ok-clause-on_disk
+returns-in-Ok-clause-on_disk g c visible start history asked legal is = c.apply.ensures.on_disk visible start history asked legal (c.fetch.ensures.on_disk visible start history is)
+
+module _ (g : Over) (c : After-apply g) where
+  through : IsTrue g.D.Door.visible → (start : PosixTree) (history : List Entry) → IsOnDisk (g.D.Door.store c.args.door.now) start history c.args.server.now
+      → IsExplainedBetween g.D.Door.keeps (g.D.Door.store c.args.door.now).sectors start history (g.D.Door.store c.args.door.now).moments (g.D.Door.store c.apply.new.door).moments
+  through visible start history is =
+      let old = g.D.Door.store c.args.door.now in
+      let mid = g.D.Door.store c.fetch.new.door in
+      let new = g.D.Door.store c.apply.new.door in
+      let f = c.fetch.ensures in
+      between_joined g.D.Door.keeps old.sectors start history old.moments mid.moments new.moments (f.moments visible start history is)
+      (subst (λ (n : ℕ). IsExplainedBetween g.D.Door.keeps n start history mid.moments new.moments) f.sectors (c.apply.ensures.moments visible start history (f.on_disk visible start history is)))
+
+pub returns-in-Ok-clause-during : goal.returns-in-Ok-clause-during
+returns-in-Ok-clause-during g c = through g (goal.at.returns-in-Ok-clause-during g c).After-apply
+
+pub returns-in-Ok-clause-moments : goal.returns-in-Ok-clause-moments
+returns-in-Ok-clause-moments g c visible start history asked legal is =
     let old = g.D.Door.store c.args.door.now in
     let new = g.D.Door.store c.apply.new.door in
+    let f = c.fetch.ensures in
     let a = c.apply.ensures in
     let entry = c.apply.result.entry in
-    let end = c.always_law.ensures.rest g.D.Door.keeps new start (history ++ entry ∷ []) c.apply.new.self (a.geometry ∙ sym c.geometry-geometry.ensures.is) (a.on_disk visible start history asked legal is) in
-    throughout_one g.D.Door.keeps old.sectors start history entry old.moments new.moments (a.moments visible start history is)
-    (subst (λ (n : ℕ). IsExplainedBetween g.D.Door.keeps n start (history ++ entry ∷ []) new.moments new.moments) a.sectors end)
+    let end = c.always_law.ensures.rest g.D.Door.keeps new start (history ++ entry ∷ []) c.apply.new.self (a.geometry ∙ f.geometry ∙ sym c.geometry-geometry.ensures.is)
+    (a.on_disk visible start history asked legal (f.on_disk visible start history is)) in
+    throughout_one g.D.Door.keeps old.sectors start history entry old.moments new.moments (through g (goal.at.returns-in-Ok-clause-moments g c).After-apply visible start history is)
+    (subst (λ (n : ℕ). IsExplainedBetween g.D.Door.keeps n start (history ++ entry ∷ []) new.moments new.moments) (a.sectors ∙ f.sectors) end)
 
-pub returns-in_default-clause-during : goal.returns-in_default-clause-during
-returns-in_default-clause-during g c visible start history is = c.apply.ensures.moments visible start history is
+pub returns-in-Ok-clause-told : goal.returns-in-Ok-clause-told
+returns-in-Ok-clause-told g c =
+    let f = c.fetch.ensures in
+    let a = c.apply.ensures in
+    read_served (g.D.Door.store c.args.door.now) (g.D.Door.store c.fetch.new.door) (g.D.Door.store c.apply.new.door) c.apply.result.entry.reply f.stop c.in-Ok.ensures.passed a.told a.stopped a.still
+
+-- ---- they couldn't be read
+
+pub returns-in-Err-clause-reading : goal.returns-in-Err-clause-reading
+returns-in-Err-clause-reading g c =
+    let f = c.fetch.ensures in
+    let mid = c.fetch.new.self in
+    let ask = c.args.ask in
+    let is = c.unread.ensures.reply in
+    record {
+      read = mid;
+      further = f.further;
+      seen = λ visible start history there. parts_on_disk (g.D.Door.store c.fetch.new.door) start history mid (f.on_disk visible start history there);
+      served = λ plain. let no : false ≡ true = sym plain ∙ ap is_excused is in cc;
+      fits = λ x other t parts asked. f.fits x (c.in-Err.is ∙ ap Err (same_excuse c.in-Err.excuse x (sym is ∙ other))) t (parts_before ask c.args.server.now mid t f.further parts) asked;
+      unchanged = λ excused t parts. parts;
+      forgets = nothing_forgotten mid;
+      away = λ plain. let no : false ≡ true = sym plain ∙ ap is_excused is in cc;
+    }
+
+pub returns-in-Err-clause-on_disk : goal.returns-in-Err-clause-on_disk
+returns-in-Err-clause-on_disk g c visible start history asked legal is =
+    let f = c.fetch.ensures in
+    c.on_disk_law.ensures.excused (g.D.Door.store c.fetch.new.door) start history _ c.fetch.new.self (f.geometry ∙ sym c.geometry-geometry.ensures.is) legal (ap is_excused c.unread.ensures.reply) (f.on_disk visible start history is)
+
+pub returns-in-Err-clause-moments : goal.returns-in-Err-clause-moments
+returns-in-Err-clause-moments g c visible start history asked legal is =
+    let old = g.D.Door.store c.args.door.now in
+    let mid = g.D.Door.store c.fetch.new.door in
+    let f = c.fetch.ensures in
+    let entry = c.unread.result.entry in
+    let same = f.geometry ∙ sym c.geometry-geometry.ensures.is in
+    let next = c.on_disk_law.ensures.excused mid start history entry c.fetch.new.self same legal (ap is_excused c.unread.ensures.reply) (f.on_disk visible start history is) in
+    throughout_one g.D.Door.keeps old.sectors start history entry old.moments mid.moments (f.moments visible start history is)
+    (subst (λ (n : ℕ). IsExplainedBetween g.D.Door.keeps n start (history ++ entry ∷ []) mid.moments mid.moments) f.sectors (c.always_law.ensures.rest g.D.Door.keeps mid start (history ++ entry ∷ []) c.fetch.new.self same next))
+
+pub returns-in-Err-clause-told : goal.returns-in-Err-clause-told
+returns-in-Err-clause-told g c =
+    let f = c.fetch.ensures in
+    read_failed (g.D.Door.store c.args.door.now) (g.D.Door.store c.fetch.new.door) c.in-Err.excuse c.in-Err.ensures.excused f.stop
+    (λ fault device. f.told fault (c.in-Err.is ∙ ap Err device)) (λ none. f.untold (ap device_told c.in-Err.is ∙ none)) c.unread.result.entry.reply c.unread.ensures.reply
+
+-- ---- the client answered
 
 pub returns-clause-during : goal.returns-clause-during
 returns-clause-during g c visible start history is = c.always_law.ensures.rest g.D.Door.keeps (g.D.Door.store c.args.door.now) start history c.args.server.now (sym c.geometry-geometry.ensures.is) is
 
-pub returns-clause-served : goal.returns-clause-served
-returns-clause-served g c plain t parts asked =
-    own_answered c.args.server.now t c.args.ask c.in-Some.answer.reply c.in-Some.answer.desc asked (sym (c.in-Some.ensures.own t asked)) (c.in-Some.ensures.posix t asked) parts
+pub returns-clause-reading : goal.returns-clause-reading
+returns-clause-reading g c =
+    let p = c.args.server.now in
+    let ask = c.args.ask in
+    let answer = c.in-Some.answer in
+    let is = c.in-Some.ensures in
+    record {
+      read = p;
+      further = nothing_read (g.D.Door.store c.args.door.now) ask p c.requires.sound;
+      seen = λ visible start history there. parts_on_disk (g.D.Door.store c.args.door.now) start history p there;
+      served = λ plain t parts asked. own_answered p t ask answer.reply answer.desc asked (sym (is.own t asked)) (is.posix t asked) parts;
+      fits = λ x excused. let no : true ≡ false = ap is_excused (sym excused) ∙ is.plain in cc;
+      unchanged = λ excused t parts. parts;
+      forgets = nothing_forgotten p;
+      away = λ plain t parts asked file place away. ap (λ (bytes : Files). own_bytes (bytes_of bytes file) place) (same_bytes p t ask answer.reply answer.desc asked (sym (is.own t asked)) (is.posix t asked));
+    }
 
 pub returns-clause-on_disk : goal.returns-clause-on_disk
 returns-clause-on_disk g c visible start history asked legal is =
@@ -54,4 +170,6 @@ returns-clause-moments g c visible start history asked legal is =
 pub returns-clause-told : goal.returns-clause-told
 returns-clause-told g c =
     let s = g.D.Door.store c.args.door.now in
-    calm_told s s c.in-Some.answer.reply (plain_calm c.in-Some.answer.reply c.in-Some.ensures.plain) refl refl
+    let r = c.in-Some.answer.reply in
+    let calm = plain_calm r c.in-Some.ensures.plain in
+    served_told s s r (calm_told s s r calm refl refl) (λ fault is. let clash : None ≡ Some fault = sym (plain_going r c.in-Some.ensures.plain) ∙ is in cc) (λ fault is. no_device r calm)
