@@ -75,7 +75,7 @@ none_twice = tt
 
 -- a call that raises a count which fell nowhere raises it past the first one, or to its end
 pub rose_past : (before count now fault : ℕ) → min before (2 ^ 64 - 1) ≤ count → RoseTo count now fault → HasRisen before now fault
-rose_past before count now fault low rose = record { risen = by (nat_le (2 ^ 64 - 1) (count + 1)) refl; counted = omega (arith, number) }
+rose_past before count now fault low rose = record { risen = by (nat_le (2 ^ 64 - 1) (count + 1)) refl; counted = omega (arith, number); within = omega (arith, number, is) }
   where
     number : fault ≡ now
     number = rose.number
@@ -106,7 +106,7 @@ module _ (old new : StoreState) (going : old.stop ≡ None) (history : List Entr
 
   -- the closing raises the count by one at most
   read_risen : (fault : ℕ) → IsReadFault old new fault → HasRisen old.faults now fault
-  read_risen fault read = record { risen = inl read.risen; counted = by (closing_fault closed) told_now }
+  read_risen fault read = record { risen = inl read.risen; counted = by (closing_fault closed) told_now; within = (let below = read.below in omega (arith, below)) }
     where
       by : (o : Option ℕ) → IsTold new.faults now o → fault ≤ now
       by None same = let counted = read.counted in let is : now ≡ new.faults = same in omega (arith, counted, is)
