@@ -21,11 +21,11 @@ use Rattle.ufs_names.specs.NamesPart.{IsNamesPart, NamesPart}
 use Rattle.ufs_stored.specs.Parts.{Parts}
 use Rattle.ufs_stored.specs.Stored.{ArePartsOf}
 use Rattle.ufs_stored.proofs.Whole.{tree_has, tree_may}
-use Rattle.ufs_session.proofs.BlockLemmas.{content_of_own, own_of_content}
-use Rattle.ufs_session.proofs.MergedLemmas.{AreAsMany, length-merged, many_as_long, merged, merged_else, merged_marked, merged_same, newly, newly_from, newly_to}
 use Rattle.ufs_file.specs.Content.{own_bytes}
 use Rattle.ufs_server.specs.Away.{IsAway}
 use Rattle.ufs_server.specs.Fetched.{HasReadFurther, IsReadFurther}
+use Rattle.ufs_session.proofs.BlockLemmas.{content_of_own, own_of_content}
+use Rattle.ufs_session.proofs.MergedLemmas.{AreAsMany, length-merged, many_as_long, merged, merged_else, merged_marked, merged_same, newly, newly_from, newly_to}
 
 -- one of two numbers, or another
 same_number : (f g : ℕ) → (f ≡ g) ⊎ (f ≡ g → ⊥)

@@ -4,8 +4,8 @@ use Rattle.std.specs.Prelude.{slice_get, if◌then◌else◌}
 use Rattle.std.proofs.lemmas.Bool.{cases_lt}
 use Rattle.std.proofs.lemmas.List.{append-nil, drop_at, length-drop, length-take, nil_from_length, take_all, take_at}
 use Rattle.ufs_base.specs.declared.sizes.TheConstants.{BLOCK}
-use Rattle.ufs_session.proofs.BlockLemmas.{length-own, own_determine, own_next, own_past}
 use Rattle.ufs_file.specs.Content.{own_bytes}
+use Rattle.ufs_session.proofs.BlockLemmas.{length-own, own_determine, own_next, own_past}
 
 -- the blocks with a mark are the fresh bytes', the others the old ones
 abbrev pub merged : List Bool → (fresh old : List ℕ) → List ℕ

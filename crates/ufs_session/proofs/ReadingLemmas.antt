@@ -1,5 +1,5 @@
 -- A request whose blocks were read, or couldn't be.
-use Rattle.std.proofs.Common.{◌≡◌, ◌⊎◌, inl, inr, ℕ, ◌+◌, ◌-◌, ◌^◌, ◌<◌, true, false, Option, Some, None, is_some, ap, sym, refl, ◌∙◌, subst}
+use Rattle.std.proofs.Common.{◌≡◌, ◌⊎◌, inl, inr, ℕ, ◌+◌, ◌-◌, ◌^◌, ◌<◌, true, Some, None, is_some, ap, sym, refl, ◌∙◌, subst}
 use Rattle.std.specs.FinMap as map
 use Rattle.ufs_base.specs.Faults.{RoseTo}
 use Rattle.ufs_file.specs.Hand.{FileState, IsFileOf}
@@ -17,19 +17,19 @@ use Rattle.ufs_store.specs.State.{StoreState, geometry_of_store}
 use Rattle.ufs_stored.specs.Parts.{Parts}
 use Rattle.ufs_stored.specs.Sound.{IsSoundServer}
 use Rattle.ufs_stored.specs.Stored.{ArePartsOf}
-use Rattle.ufs_session.specs.Told.{HasRead, TellsRequest}
-use Rattle.ufs_server.specs.Fetched.{HasReadFurther, IsReadFurther, is_of_read}
 use Rattle.ufs_server.specs.Away.{ForgetsNothing}
+use Rattle.ufs_server.specs.Fetched.{HasReadFurther, IsReadFurther, is_of_read}
+use Rattle.ufs_session.specs.Told.{TellsRequest}
 
 -- ---- nothing was read
 
 no_further : (r s : FileState) → r ≡ s → IsReadFurther r s
 no_further r s same = subst (IsReadFurther r) same (record { rest = refl; size = refl; marks = refl; kept = λ place is. is; fewer = λ bytes may. may })
 
-pub nothing_read : (s : StoreState) (ask : Ask) (p : Parts) → IsSoundServer (geometry_of_store s) s.unassigned.free p → HasReadFurther ask p p
-nothing_read s ask p sound = record {
+pub nothing_read : (ask : Ask) (s : StoreState) (p : Parts) → IsSoundServer (geometry_of_store s) s.unassigned.free p → HasReadFurther ask p p
+nothing_read ask s p sound = record {
   rest = refl;
-  commits = record { each = λ file f there. refl; known = sound.known };
+  commits = record { each = λ file state there. refl; known = sound.known };
   files = λ file r s was is. no_further r s (same_some r s (sym was ∙ is));
   here = λ file. refl;
   others = λ file apart. refl;

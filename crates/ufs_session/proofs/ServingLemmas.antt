@@ -29,13 +29,13 @@ use Rattle.ufs_client.proofs.Replies.{by_reply, excused_named, the_excuse}
 use Rattle.ufs_server.specs.Answered.{IsAnswered}
 use Rattle.ufs_stored.specs.Parts.{Parts}
 use Rattle.ufs_stored.specs.Stored.{ArePartsOf}
+use Rattle.ufs_server.specs.Away.{AwayStays}
 use Rattle.ufs_session.specs.Drawing.{IsServedIn}
 use Rattle.ufs_session.specs.Picked.{MayHaveBegun, Pick}
 use Rattle.ufs_session.specs.Reading.{HasReadOn}
 use Rattle.ufs_session.specs.Serving.{IsReached, IsReady, GoesOn, IsDone}
 use Rattle.ufs_sound.specs.Parts.{Start}
 use Rattle.ufs_store.specs.State.{StoreState}
-use Rattle.ufs_server.specs.Away.{AwayStays}
 
 -- ---- one entry more
 

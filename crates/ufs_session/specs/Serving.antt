@@ -20,8 +20,8 @@ use Rattle.ufs_store.specs.State.{StoreState}
 use Rattle.ufs_stored.specs.OnDisk.{IsOnDisk}
 use Rattle.ufs_stored.specs.Parts.{Parts}
 use Rattle.ufs_stored.specs.Stored.{ArePartsOf}
-use Rattle.ufs_server.specs.Fetched.{HasReadFurther}
 use Rattle.ufs_server.specs.Away.{AwayStays, ForgetsNothing}
+use Rattle.ufs_server.specs.Fetched.{HasReadFurther}
 
 -- A request was served: the blocks that it needs were read first, and it was answered with the parts as they were then.
 pub record IsServedReading (visible : Bool) (s : StoreState) (old new : Parts) (ask : Ask) (reply : Reply) (desc : Option Desc) : Type 0 where

@@ -212,6 +212,10 @@ fn serve_clients<N: Naming, D: Door, F: Since>(
 /// touches, and ends the session with every part at hand. Where its start doesn't see the disk, the parts may be those of
 /// a tree whose files have other bytes than the start's, and as many.
 ///
+/// Blocks of files that aren't in memory are read as requests need them. Over a disk that contracts don't see, what a
+/// read gives isn't told: then all is played from one tree like the start's. Over a visible one it is played from each
+/// tree for which the disk keeps its promise.
+///
 /// A read of the disk that fails stops nothing, and the reply tells it unless the disk's count of faults is at its end. At
 /// another call that fails the store stops: so a session meets one such call at most, and whoever is told that the store
 /// stopped is told that one. No two replies tell one fault.

@@ -11,6 +11,7 @@ use Rattle.ufs_one_hand.specs.Drawn.{IsReplyAlike}
 use Rattle.ufs_one_hand.specs.OneHand.{HasSession, IsCoveredIn, passed_in}
 use Rattle.ufs_stored.specs.OnDisk.{IsExplainedBetween, IsExplainedImage}
 use Rattle.ufs_stored.specs.Parts.{Parts}
+use Rattle.ufs_server.specs.Away.{AwayStays}
 use Rattle.ufs_session.specs.Drawing.{IsServedIn, IsShownWith, SeesDisk, StopsBy, disk_state, entry_had, had_as, states_behind, tree_had}
 use Rattle.ufs_session.specs.Picked.{HasReadOf, MayHaveBegun, Pick}
 use Rattle.ufs_session.specs.Reading.{HasReadOn, HasServedOn, IsNewTo}
@@ -25,7 +26,6 @@ use Rattle.ufs_session.proofs.ToldLemmas.{legal_told, none_told, one_told, stops
 use Rattle.ufs_session.proofs.session.serve_client.Given.{Over}
 use Rattle.ufs_session.proofs.session.serve_client.Goals as goal
 use Rattle.ufs_session.proofs.session.serve_client.Goals.{After-keep}
-use Rattle.ufs_server.specs.Away.{AwayStays}
 
 pub loop-op-init : goal.loop-op-init
 loop-op-init g c =

@@ -1,5 +1,5 @@
-use Rattle.std.proofs.Common.{◌≡◌, ◌++◌, ◌∷◌, [], List, ap, arith, sym, refl, ◌∙◌, subst, length, ◌+◌, ℕ, Err, None}
-use Rattle.ufs_model.specs.History.{AreFaultsOnce, joined, tree_after}
+use Rattle.std.proofs.Common.{◌≡◌, ◌++◌, ◌∷◌, [], List, ap, arith, sym, refl, ◌∙◌, subst, ◌+◌, ℕ, Err, None}
+use Rattle.ufs_model.specs.History.{AreFaultsOnce, joined}
 use Rattle.ufs_model.specs.PosixTree.{PosixTree}
 use Rattle.ufs_model.specs.declared.data.Op.{Op}
 use Rattle.ufs_model.specs.declared.data.Entry.{Entry}

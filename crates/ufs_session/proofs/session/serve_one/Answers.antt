@@ -10,6 +10,7 @@ use Rattle.ufs_model.specs.declared.data.Entry.{Entry}
 use Rattle.ufs_server.proofs.Beside.{calm_told, no_device}
 use Rattle.ufs_server.specs.Answered.{device_told}
 use Rattle.ufs_stored.specs.OnDisk.{IsExplainedBetween, IsOnDisk}
+use Rattle.ufs_file.specs.Content.{own_bytes}
 use Rattle.ufs_session.proofs.FurtherLemmas.{tree_read}
 use Rattle.ufs_session.proofs.OwnLemmas.{bytes_behind, nothing, own_answered, parts_behind, parts_on_disk, same_bytes}
 use Rattle.ufs_session.proofs.ReadingLemmas.{nothing_forgotten, nothing_read, parts_before, read_failed, read_served, same_excuse}
@@ -18,7 +19,6 @@ use Rattle.ufs_session.proofs.ToldLemmas.{plain_going, served_told}
 use Rattle.ufs_session.proofs.session.serve_one.Given.{Over}
 use Rattle.ufs_session.proofs.session.serve_one.Goals as goal
 use Rattle.ufs_session.proofs.session.serve_one.Goals.{After-apply}
-use Rattle.ufs_file.specs.Content.{own_bytes}
 
 pub apply-requires-clause-asked : goal.apply-requires-clause-asked
 apply-requires-clause-asked g c =
@@ -133,7 +133,7 @@ returns-clause-reading g c =
     let is = c.in-Some.ensures in
     record {
       read = p;
-      further = nothing_read (g.D.Door.store c.args.door.now) ask p c.requires.sound;
+      further = nothing_read ask (g.D.Door.store c.args.door.now) p c.requires.sound;
       seen = λ visible start history there. parts_on_disk (g.D.Door.store c.args.door.now) start history p there;
       served = λ plain t parts asked. own_answered p t ask answer.reply answer.desc asked (sym (is.own t asked)) (is.posix t asked) parts;
       fits = λ x excused. let no : true ≡ false = ap is_excused (sym excused) ∙ is.plain in cc;
