@@ -1,9 +1,9 @@
-// One call over a script in memory.
-use crate::trees::making;
-use std::alloc::{AllocError, Global};
+// Calls over scripts in memory.
+use crate::asserts::holds;
+use std::alloc::AllocGlobal;
 use std::process::Abort;
-use std::test::Fail;
-use ufs_disk::{Disk, PlainDisk};
+use ufs_base::SECTOR;
+use ufs_disk::{Disk, MemoryDisk, PlainDisk};
 use ufs_io::{MemorySink, MemorySource};
 use ufs_quiet::quiet;
 
@@ -19,59 +19,71 @@ pub struct Call<'a> {
     pub text: &'a str,
 }
 
-pub fn words(alloc: Global, line: &[&str]) -> Result<Vec<String>, AllocError> {
-    let mut list = Vec::new(alloc);
+pub fn words<R: Abort + AllocGlobal>(rt: &R, line: &[&str]) -> Vec<String> {
+    let mut list = Vec::new(rt.alloc());
     for word in line {
-        list.push(String::from_str(alloc, word)?)?;
+        let word = String::from_str(rt.alloc(), word).expect(rt, "memory");
+        list.push(word).expect(rt, "memory");
     }
-    Ok(list)
+    list
+}
+
+pub fn bytes<R: Abort + AllocGlobal>(rt: &R, text: &str) -> Vec<u8> {
+    text.as_bytes().to_vec(rt.alloc()).expect(rt, "memory")
+}
+
+fn numbers<R: Abort + AllocGlobal>(rt: &R, list: &[u64]) -> Vec<u64> {
+    list.to_vec(rt.alloc()).expect(rt, "memory")
+}
+
+// Tells status and text where one of them is another.
+fn answers(rt: &impl Abort, status: u8, text: &[u8], call: &Call) {
+    assert_eq!(rt; (status, text), (call.status, call.text.as_bytes()));
 }
 
 /// Makes the call over a disk, and gives the disk back.
-pub fn check_over<R: Abort + AllocGlobal, D: Disk + Drop>(
-    rt: &R,
-    call: &Call,
-    disk: D,
-) -> Result<D, Fail> {
-    let alloc = rt.alloc();
-    let mut source = MemorySource::new(
-        call.script.as_bytes().to_vec(alloc)?,
-        call.reads.to_vec(alloc)?,
-    );
-    let mut sink = MemorySink::new(alloc, call.writes.to_vec(alloc)?);
-    let words = words(alloc, call.words)?;
-    let outcome = quiet(alloc, &words, &mut source, &mut sink, disk);
-    assert_eq!(rt;
-        (outcome.status, sink.bytes()),
-        (call.status, call.text.as_bytes())
-    );
-    Ok(outcome.disk)
+pub fn check_over<R: Abort + AllocGlobal, D: Disk + Drop>(rt: &R, call: &Call, disk: D) -> D {
+    let script = bytes(rt, call.script);
+    let mut source = MemorySource::new(script, numbers(rt, call.reads));
+    let mut sink = MemorySink::new(rt.alloc(), numbers(rt, call.writes));
+    let words = words(rt, call.words);
+    let outcome = quiet(rt.alloc(), &words, &mut source, &mut sink, disk);
+    answers(rt, outcome.status, sink.bytes(), call);
+    outcome.disk
 }
 
-/// Makes the call over a disk of 256 blocks.
-pub fn check<R: Abort + AllocGlobal>(rt: &R, call: &Call) -> Result<(), Fail> {
-    let disk = PlainDisk::zeros(rt.alloc(), 2048)?;
-    check_over(rt, call, disk)?;
-    Ok(())
+/// Makes one call after another over a disk, and gives the disk back.
+pub fn check_calls<R: Abort + AllocGlobal, D: Disk + Drop>(rt: &R, calls: &[Call], disk: D) -> D {
+    let mut disk = disk;
+    for call in calls {
+        disk = check_over(rt, call, disk);
+    }
+    disk
 }
 
-/// Makes the call over a new image, which is made by such a call on a disk of so many sectors.
-pub fn check_made<R: Abort + AllocGlobal>(
+/// Makes them over a disk of zeros of so many sectors.
+pub fn check_new<R: Abort + AllocGlobal>(rt: &R, sectors: u32, calls: &[Call]) -> PlainDisk {
+    let disk = PlainDisk::zeros(rt.alloc(), sectors).expect(rt, "memory");
+    check_calls(rt, calls, disk)
+}
+
+/// A disk with these bytes, of whose calls those of these numbers fail.
+pub fn memory_disk<R: Abort + AllocGlobal>(
     rt: &R,
     sectors: u32,
-    making: &Call,
-    call: &Call,
-) -> Result<PlainDisk, Fail> {
-    let disk = PlainDisk::zeros(rt.alloc(), sectors)?;
-    let disk = check_over(rt, making, disk)?;
-    check_over(rt, call, disk)
+    image: &[u8],
+    fails: &[u64],
+) -> MemoryDisk {
+    let bytes = image.to_vec(rt.alloc()).expect(rt, "memory");
+    holds(rt, bytes.len() == SECTOR * sectors as usize);
+    MemoryDisk::new(rt.alloc(), sectors, bytes, numbers(rt, fails)).expect(rt, "memory")
 }
 
-/// A script that is played in calm.
-pub fn playing<'a>(script: &'a str, status: u8, text: &'a str) -> Call<'a> {
+/// A command without a script, in calm.
+pub fn calm<'a>(words: &'a [&'a str], status: u8, text: &'a str) -> Call<'a> {
     Call {
-        words: &["play"],
-        script,
+        words,
+        script: "",
         reads: &[],
         writes: &[],
         status,
@@ -79,13 +91,18 @@ pub fn playing<'a>(script: &'a str, status: u8, text: &'a str) -> Call<'a> {
     }
 }
 
-/// Plays a script over a new image of 256 blocks.
-pub fn check_play<R: Abort + AllocGlobal>(
-    rt: &R,
-    script: &str,
-    status: u8,
-    text: &str,
-) -> Result<(), Fail> {
-    check_made(rt, 2_048, &making(), &playing(script, status, text))?;
-    Ok(())
+/// A script that is played in calm.
+pub fn playing<'a>(script: &'a str, status: u8, text: &'a str) -> Call<'a> {
+    Call {
+        script,
+        ..calm(&["play"], status, text)
+    }
+}
+
+/// The same with its trace.
+pub fn tracing<'a>(script: &'a str, status: u8, text: &'a str) -> Call<'a> {
+    Call {
+        script,
+        ..calm(&["play", "--trace"], status, text)
+    }
 }

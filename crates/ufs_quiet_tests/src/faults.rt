@@ -1,15 +1,10 @@
 // Sessions over a disk of which one call fails.
-use crate::calls::words;
-use crate::rows::{lines_of, script_of};
-use crate::stops::image;
-use crate::trees::making_small;
-use std::alloc::{AllocError, Global};
+use crate::asserts::holds_in;
+use crate::calls::memory_disk;
+use crate::rows::{lines_of, push};
+use crate::stops::{Stage, answer_over};
+use std::alloc::AllocGlobal;
 use std::process::Abort;
-use std::test::Fail;
-use ufs_base::SECTOR;
-use ufs_disk::MemoryDisk;
-use ufs_io::{MemorySink, PlainSource};
-use ufs_quiet::quiet;
 
 const REQUESTS: &str = "open /f rw creat;write 3 61;fsync 3;fsync 3;pread 3 1 0";
 
@@ -27,56 +22,52 @@ const OUTCOMES: [(u8, &str, bool); 4] = [
     (0, "fd 3/n 1/ok/ok/data 61", false),
 ];
 
-fn text_of(alloc: Global, replies: &str, fails: bool) -> Result<String, AllocError> {
+fn text_of<R: Abort + AllocGlobal>(rt: &R, replies: &str, fails: bool) -> String {
     let mut text = if replies.is_empty() {
-        String::new(alloc)
+        String::new(rt.alloc())
     } else {
-        lines_of(alloc, replies)?
+        lines_of(rt, replies)
     };
     if fails {
-        text.push_str(FAULT)?;
+        push(rt, &mut text, FAULT);
     }
-    Ok(text)
+    text
+}
+
+// Which of the outcomes it is.
+fn place_of<R: Abort + AllocGlobal>(rt: &R, found: u8, text: &[u8]) -> Option<usize> {
+    for (place, (status, replies, fails)) in OUTCOMES.iter().enumerate() {
+        if found == *status && text == text_of(rt, replies, *fails).as_bytes() {
+            return Some(place);
+        }
+    }
+    None
 }
 
 // Which of the outcomes a session has where this call fails.
-fn outcome_of<R: Abort + AllocGlobal>(
-    rt: &R,
-    script: &str,
-    image: &[u8],
-    fails: u64,
-) -> Result<Option<usize>, Fail> {
-    let alloc = rt.alloc();
-    let bytes = image.to_vec(alloc)?;
-    assert!(rt; bytes.len() == SECTOR * 512);
-    let disk = MemoryDisk::new(alloc, 512, bytes, vec![in alloc; fails]?)?;
-    let words = words(alloc, &["play"])?;
-    let mut source = PlainSource::new(script.as_bytes().to_vec(alloc)?);
-    let mut sink = MemorySink::new(alloc, Vec::new(alloc));
-    let outcome = quiet(alloc, &words, &mut source, &mut sink, disk);
-    for (place, (status, replies, told)) in OUTCOMES.iter().enumerate() {
-        let text = text_of(alloc, replies, *told)?;
-        if outcome.status == *status && sink.bytes() == text.as_bytes() {
-            return Ok(Some(place));
-        }
-    }
-    Ok(None)
+fn outcome_of<R: Abort + AllocGlobal>(rt: &R, stage: &Stage, fails: u64) -> Option<usize> {
+    let disk = memory_disk(rt, 512, stage.image.as_slice(), &[fails]);
+    let (status, text, _disk) = answer_over(rt, &["play"], stage.script.as_str(), disk);
+    place_of(rt, status, text.as_slice())
 }
 
 #[test]
-fn one_failed_call_is_told(rt: HostRuntime) -> Result<(), Fail> {
-    let image = image(&rt, 512, &making_small())?;
-    let script = script_of(rt.alloc(), REQUESTS)?;
+fn one_failed_call_is_told(rt: HostRuntime) {
+    let stage = Stage::new(&rt, REQUESTS);
     let mut before = 0;
     for fails in 0..8_192 {
-        let Some(now) = outcome_of(&rt, script.as_str(), image.as_slice(), fails)? else {
-            panic!(&rt; "{fails}");
-        };
-        assert!(rt; before <= now, "{fails}");
+        let outcome = outcome_of(&rt, &stage, fails);
+        holds_in(&rt, outcome.is_some(), fails);
+        let now = outcome.unwrap_or(0);
+        holds_in(&rt, before <= now, fails);
         before = now;
         if now == 3 {
-            return Ok(());
+            return;
         }
     }
-    panic!(&rt; "always told")
+    always_told(&rt);
+}
+
+fn always_told(rt: &impl Abort) {
+    panic!(rt; "always told")
 }

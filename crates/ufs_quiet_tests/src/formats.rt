@@ -1,10 +1,14 @@
 // What no clause says: that calls succeed, that the bytes are the format's, and how many calls there are.
+ghost use Rattle.std.specs.Prelude.{◌≡◌, ◌*◌, length};
 ghost use Rattle.ufs_layout.specs.Areas.{IsGeometry};
 
-use std::alloc::{AllocError, Global};
-use std::test::Fail;
+use crate::asserts::{holds, holds_in, same};
+use crate::calls::memory_disk;
+use crate::stops::fuse_disk;
+use std::alloc::AllocGlobal;
+use std::process::Abort;
 use ufs_base::SECTOR;
-use ufs_disk::{Disk, Fuse, FuseDisk, MemoryDisk, PlainDisk};
+use ufs_disk::{Disk, PlainDisk};
 use ufs_layout::Geometry;
 use ufs_recover::{FormatFault, format};
 
@@ -92,24 +96,25 @@ fn look(row: &Row, image: &[u8]) -> Left {
     }
 }
 
-// Formats a disk of 64 blocks that passes so many calls, and says what it answered and what a crash left.
-fn stopped(
-    alloc: Global,
-    geometry: Geometry,
-    passes: u64,
-    pick: u64,
-) -> Result<(Result<(), FormatFault>, Left), AllocError>
-    requires { IsGeometry geometry }
+fn geometry(rt: &impl Abort, blocks: u32, inodes: u32) -> Geometry
+    ensures { IsGeometry result }
 {
-    let mut disk = FuseDisk::new(
-        alloc,
-        512,
-        vec![in alloc; OLD; 512 * SECTOR]?,
-        Fuse { passes },
-    )?;
-    let answer = format(&mut disk, &geometry);
-    let image = disk.crash(pick)?;
-    Ok((answer, look(&SMALL, image.as_slice())))
+    Geometry::make(blocks, inodes, 64).expect(rt, "no geometry")
+}
+
+// So many sectors, filled with what stands everywhere at first.
+fn old<R: Abort + AllocGlobal>(rt: &R, sectors: u32) -> Vec<u8>
+    ensures { length result.items ≡ 512 * sectors }
+{
+    vec![in rt.alloc(); OLD; SECTOR * sectors as usize].expect(rt, "memory")
+}
+
+// Formats a disk of 64 blocks that passes so many calls, and says whether all passed and what a crash left.
+fn stopped<R: Abort + AllocGlobal>(rt: &R, passes: u64, pick: u64) -> (bool, Left) {
+    let mut disk = fuse_disk(rt, old(rt, 512).as_slice(), passes);
+    let whole = format(&mut disk, &geometry(rt, 64, 16)).is_ok();
+    let image = disk.crash(pick).expect(rt, "memory");
+    (whole, look(&SMALL, image.as_slice()))
 }
 
 // The calls are a write and a barrier, eleven writes and a barrier, a write and a barrier.
@@ -121,55 +126,68 @@ fn expected(passes: u64, pick: u64) -> Left {
     }
 }
 
+// Asserts what a stop left, and tells its numbers where it left another.
+fn is_left(rt: &impl Abort, found: Left, passes: u64, pick: u64) {
+    assert_eq!(rt; found, expected(passes, pick), "{passes} {pick}");
+}
+
 #[test]
-fn a_stop_leaves_what_was_no_superblock_or_a_new_image(rt: HostRuntime) -> Result<(), Fail> {
-    let Ok(geometry) = Geometry::make(64, 16, 64) else {
-        panic!(&rt; "no geometry");
-    };
+fn a_stop_leaves_what_was_no_superblock_or_a_new_image(rt: HostRuntime) {
     for passes in 0..17 {
         for pick in 0..4 {
-            let (answer, found) = stopped(rt.alloc(), geometry, passes, pick)?;
-            assert_eq!(rt; found, expected(passes, pick), "{passes} {pick}");
-            assert_eq!(rt; answer.is_ok(), passes == 16, "{passes}");
+            let (whole, found) = stopped(&rt, passes, pick);
+            is_left(&rt, found, passes, pick);
+            holds_in(&rt, whole == (passes == 16), passes);
         }
     }
-    Ok(())
+}
+
+// The sectors of a disk, the numbers of its calls that fail, what the format answers, and how many calls it makes.
+type Format = (u32, &'static [u64], Result<(), FormatFault>, usize);
+
+const FORMATS: [Format; 5] = [
+    (2_048, &[], Ok(()), 18),
+    (2_049, &[], Ok(()), 18),
+    (2_047, &[], Err(FormatFault::TooSmall), 0),
+    (2_048, &[0], Err(FormatFault::Device { fault: 1 }), 1),
+    (2_048, &[17], Err(FormatFault::Device { fault: 1 }), 18),
+];
+
+fn answers(
+    rt: &impl Abort,
+    found: Result<(), FormatFault>,
+    wanted: Result<(), FormatFault>,
+    sectors: u32,
+) {
+    assert_eq!(rt; found, wanted, "{sectors}");
+}
+
+fn check_format<R: Abort + AllocGlobal>(rt: &R, row: &Format) {
+    let (sectors, fails, wanted, calls) = row;
+    let image = old(rt, *sectors);
+    let mut disk = memory_disk(rt, *sectors, image.as_slice(), fails);
+    let answer = format(&mut disk, &geometry(rt, 256, 32));
+    answers(rt, answer, *wanted, *sectors);
+    holds_in(rt, disk.medium.calls.len() == *calls, u64::from(*sectors));
+    if answer.is_ok() {
+        let left = disk.crash(0).expect(rt, "memory");
+        holds_in(rt, is_new(&LARGER, left.as_slice()), u64::from(*sectors));
+    }
 }
 
 #[test]
-fn a_new_image_has_the_bytes_of_the_format(rt: HostRuntime) -> Result<(), Fail> {
-    let Ok(geometry) = Geometry::make(256, 32, 64) else {
-        panic!(&rt; "no geometry");
-    };
-    let rows: [(u32, &[u64], Result<(), FormatFault>, usize); 5] = [
-        (2_048, &[], Ok(()), 18),
-        (2_049, &[], Ok(()), 18),
-        (2_047, &[], Err(FormatFault::TooSmall), 0),
-        (2_048, &[0], Err(FormatFault::Device { fault: 1 }), 1),
-        (2_048, &[17], Err(FormatFault::Device { fault: 1 }), 18),
-    ];
-    for (sectors, fails, want, calls) in &rows {
-        let bytes = vec![in rt.alloc(); OLD; SECTOR * *sectors as usize]?;
-        let mut disk = MemoryDisk::new(rt.alloc(), *sectors, bytes, fails.to_vec(rt.alloc())?)?;
-        let answer = format(&mut disk, &geometry);
-        assert_eq!(rt; answer, *want, "{sectors}");
-        assert_eq!(rt; disk.medium.calls.len(), *calls, "{sectors}");
-        if answer.is_ok() {
-            assert!(rt; is_new(&LARGER, disk.crash(0)?.as_slice()), "{sectors}");
-        }
+fn a_new_image_has_the_bytes_of_the_format(rt: HostRuntime) {
+    for row in &FORMATS {
+        check_format(&rt, row);
     }
-    Ok(())
 }
 
 #[test]
-fn a_plain_disk_is_formatted(rt: HostRuntime) -> Result<(), Fail> {
-    let Ok(geometry) = Geometry::make(64, 16, 64) else {
-        panic!(&rt; "no geometry");
-    };
-    let mut disk = PlainDisk::new(512, vec![in rt.alloc(); OLD; 512 * SECTOR]?);
-    assert_eq!(rt; format(&mut disk, &geometry), Ok(()));
+fn a_plain_disk_is_formatted(rt: HostRuntime) {
+    let mut disk = PlainDisk::new(512, old(&rt, 512));
+    same(&rt, format(&mut disk, &geometry(&rt, 64, 16)), Ok(()));
     let mut block = [0; 8 * SECTOR];
-    assert!(rt; disk.sectors() > 8 && disk.read(0, &mut block).is_ok());
-    assert!(rt; is_new(&SMALL, &block));
-    Ok(())
+    holds(&rt, disk.sectors() > 8);
+    holds(&rt, disk.read(0, &mut block).is_ok());
+    holds(&rt, is_new(&SMALL, &block));
 }

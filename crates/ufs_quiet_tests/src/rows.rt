@@ -1,8 +1,8 @@
 // The worked rows of the file calls, each a client's requests and their replies.
-use crate::calls::check_play;
-use std::alloc::{AllocError, Global};
+use crate::calls::{Call, check_new, playing};
+use crate::trees::making;
+use std::alloc::AllocGlobal;
 use std::process::Abort;
-use std::test::Fail;
 
 // Requests between semicolons, and replies between slashes.
 const ROWS: [(&str, &str); 9] = [
@@ -60,95 +60,136 @@ const BROKEN: [(&str, &str); 9] = [
     ("", "ufs: line 0: NoEnd\n"),
 ];
 
+pub fn push(rt: &impl Abort, all: &mut String, text: &str) {
+    all.push_str(text).expect(rt, "memory");
+}
+
 /// A script of one client, from its requests.
-pub fn script_of(alloc: Global, requests: &str) -> Result<String, AllocError> {
-    let mut script = String::from_str(alloc, "client 0\n")?;
+pub fn script_of<R: Abort + AllocGlobal>(rt: &R, requests: &str) -> String {
+    let mut script = repeated(rt, &[("client 0\n", 1)]);
     for request in requests.split(';') {
-        script.push_str(request)?;
-        script.push_str("\n")?;
+        push(rt, &mut script, request);
+        push(rt, &mut script, "\n");
     }
-    script.push_str("end\n")?;
-    Ok(script)
+    push(rt, &mut script, "end\n");
+    script
 }
 
 /// Its reply lines.
-pub fn lines_of(alloc: Global, replies: &str) -> Result<String, AllocError> {
-    let mut lines = String::new(alloc);
+pub fn lines_of<R: Abort + AllocGlobal>(rt: &R, replies: &str) -> String {
+    let mut lines = String::new(rt.alloc());
     for (number, reply) in replies.split('/').enumerate() {
-        let line = format!(in alloc; "0.{number} {reply}\n")?;
-        lines.push_str(line.as_str())?;
+        let line = format!(in rt.alloc(); "0.{number} {reply}\n").expect(rt, "memory");
+        push(rt, &mut lines, line.as_str());
     }
-    Ok(lines)
+    lines
 }
 
-fn check_row<R: Abort + AllocGlobal>(rt: &R, requests: &str, replies: &str) -> Result<(), Fail> {
-    let script = script_of(rt.alloc(), requests)?;
-    let lines = lines_of(rt.alloc(), replies)?;
-    check_play(rt, script.as_str(), 0, lines.as_str())
-}
-
-/// A text, so many times.
-pub fn push_times(all: &mut String, text: &str, times: u32) -> Result<(), AllocError> {
+fn push_times(rt: &impl Abort, all: &mut String, text: &str, times: u32) {
     for _time in 0..times {
-        all.push_str(text)?;
+        push(rt, all, text);
     }
-    Ok(())
+}
+
+/// The texts one after another, each so many times.
+pub fn repeated<R: Abort + AllocGlobal>(rt: &R, texts: &[(&str, u32)]) -> String {
+    let mut all = String::new(rt.alloc());
+    for (text, times) in texts {
+        push_times(rt, &mut all, text, *times);
+    }
+    all
+}
+
+// Plays a script over a new image of 256 blocks.
+fn check_play<R: Abort + AllocGlobal>(rt: &R, script: &str, status: u8, text: &str) {
+    check_new(rt, 2_048, &[making(), playing(script, status, text)]);
+}
+
+/// Plays requests over a new image, which is made so on a disk of so many sectors.
+pub fn check_on<R: Abort + AllocGlobal>(
+    rt: &R,
+    sectors: u32,
+    making: Call,
+    requests: &str,
+    replies: &str,
+) {
+    let script = script_of(rt, requests);
+    let lines = lines_of(rt, replies);
+    let call = playing(script.as_str(), 0, lines.as_str());
+    check_new(rt, sectors, &[making, call]);
+}
+
+/// Plays them over a new image of 256 blocks.
+pub fn check_row<R: Abort + AllocGlobal>(rt: &R, requests: &str, replies: &str) {
+    check_on(rt, 2_048, making(), requests, replies);
 }
 
 #[test]
-fn requests_are_answered(rt: HostRuntime) -> Result<(), Fail> {
+fn requests_are_answered(rt: HostRuntime) {
     for (requests, replies) in &ROWS {
-        check_row(&rt, requests, replies)?;
+        check_row(&rt, requests, replies);
     }
-    Ok(())
 }
 
 #[test]
-fn broken_scripts_are_told_with_their_line(rt: HostRuntime) -> Result<(), Fail> {
+fn broken_scripts_are_told_with_their_line(rt: HostRuntime) {
     for (script, line) in &BROKEN {
-        check_play(&rt, script, 2, line)?;
+        check_play(&rt, script, 2, line);
     }
-    Ok(())
 }
 
 #[test]
-fn clients_are_served_one_after_another(rt: HostRuntime) -> Result<(), Fail> {
+fn clients_are_served_one_after_another(rt: HostRuntime) {
     check_play(
         &rt,
         "client 0\nopen /a rw creat\n# a note\nwrite 3 6f6c64\nclient 1\n\topen  /a r\r\nread 3 9\nend",
         0,
         "0.0 fd 3\n0.1 n 3\n1.0 fd 3\n1.1 data 6f6c64\n",
-    )
+    );
 }
 
+// A component of 58 bytes, one of 59, a path of 1,024 bytes, and four more.
+const PATHS: [(&str, u32); 7] = [
+    ("mkdir /", 1),
+    ("a", 58),
+    (";mkdir /", 1),
+    ("a", 59),
+    (";mkdir ", 1),
+    ("/a", 512),
+    (";mkdir /a/;mkdir a;mkdir \"\";mkdir //", 1),
+];
+
 #[test]
-fn texts_of_paths_are_refused(rt: HostRuntime) -> Result<(), Fail> {
-    let mut requests = String::from_str(rt.alloc(), "mkdir /")?;
-    push_times(&mut requests, "a", 58)?;
-    requests.push_str(";mkdir /")?;
-    push_times(&mut requests, "a", 59)?;
-    requests.push_str(";mkdir ")?;
-    push_times(&mut requests, "/a", 512)?;
-    requests.push_str(";mkdir /a/;mkdir a;mkdir \"\";mkdir //")?;
+fn texts_of_paths_are_refused(rt: HostRuntime) {
+    let requests = repeated(&rt, &PATHS);
     check_row(
         &rt,
         requests.as_str(),
         "ok/err ENAMETOOLONG/err ENAMETOOLONG/err EINVAL/err EINVAL/err ENOENT/err EEXIST",
-    )
+    );
+}
+
+// No descriptor is told before the path's text, which is looked at later.
+const OPENING: [(&str, u32); 3] = [
+    ("open /f rw creat", 1),
+    (";open /f r", 63),
+    (";open f r;open /f r excl;close 10;open /f r", 1),
+];
+
+// The replies: each descriptor from 3 to 66, and then no more of them.
+fn opened<R: Abort + AllocGlobal>(rt: &R) -> String {
+    let mut replies = repeated(rt, &[("fd 3", 1)]);
+    for fd in 4..67u32 {
+        let reply = format!(in rt.alloc(); "/fd {fd}").expect(rt, "memory");
+        push(rt, &mut replies, reply.as_str());
+    }
+    push(rt, &mut replies, "/err EMFILE/err EINVAL/ok/fd 10");
+    replies
 }
 
 #[test]
-fn descriptors_run_out_and_come_back(rt: HostRuntime) -> Result<(), Fail> {
-    let alloc = rt.alloc();
-    let mut requests = String::from_str(alloc, "open /f rw creat")?;
-    let mut replies = String::from_str(alloc, "fd 3")?;
-    push_times(&mut requests, ";open /f r", 63)?;
-    for fd in 4..67u32 {
-        let reply = format!(in alloc; "/fd {fd}")?;
-        replies.push_str(reply.as_str())?;
-    }
-    // No descriptor is told before the path's text, which is looked at later.
-    requests.push_str(";open f r;open /f r excl;close 10;open /f r")?;
-    replies.push_str("/err EMFILE/err EINVAL/ok/fd 10")?;
-    check_row(&rt, requests.as_str(), replies.as_str())
+fn descriptors_run_out_and_come_back(rt: HostRuntime) {
+    let requests = repeated(&rt, &OPENING);
+    let replies = opened(&rt);
+    check_row(&rt, requests.as_str(), replies.as_str());
 }

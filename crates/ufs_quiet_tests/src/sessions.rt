@@ -1,10 +1,10 @@
 // Sessions over an image: what is answered, what the image stands for behind them, and how they end.
-use crate::calls::{Call, check_over, playing};
-use crate::rows::{lines_of, push_times, script_of};
-use crate::trees::{calm, check, making, tree};
+use crate::calls::{check_calls, check_new, playing};
+use crate::rows::{lines_of, repeated, script_of};
+use crate::trees::{check, making, tree};
+use std::alloc::AllocGlobal;
 use std::process::Abort;
-use std::test::Fail;
-use ufs_disk::{Disk, PlainDisk};
+use ufs_disk::PlainDisk;
 
 // A session of one client: requests between semicolons, replies between slashes, and the tree behind it.
 type Row<'a> = (&'a str, &'a str, &'a str);
@@ -40,61 +40,51 @@ const SESSIONS: [Row<'static>; 7] = [
 ];
 
 // Plays a row over the disk, and looks at what it leaves.
-fn check_session<R: Abort + AllocGlobal, D: Disk + Drop>(
-    rt: &R,
-    row: &Row,
-    disk: D,
-) -> Result<D, Fail> {
-    let script = script_of(rt.alloc(), row.0)?;
-    let lines = lines_of(rt.alloc(), row.1)?;
-    let disk = check_over(rt, &playing(script.as_str(), 0, lines.as_str()), disk)?;
-    let disk = check_over(rt, &check(0, "clean\n"), disk)?;
-    let shown = Call {
-        text: row.2,
-        ..calm(&["tree"], 0, "")
-    };
-    check_over(rt, &shown, disk)
+fn check_session<R: Abort + AllocGlobal>(rt: &R, row: &Row, disk: PlainDisk) -> PlainDisk {
+    let script = script_of(rt, row.0);
+    let lines = lines_of(rt, row.1);
+    let calls = [
+        playing(script.as_str(), 0, lines.as_str()),
+        check(0, "clean\n"),
+        tree(0, row.2),
+    ];
+    check_calls(rt, &calls, disk)
 }
 
 #[test]
-fn sessions_follow_one_another(rt: HostRuntime) -> Result<(), Fail> {
-    let disk = PlainDisk::zeros(rt.alloc(), 2_048)?;
-    let mut disk = check_over(&rt, &making(), disk)?;
+fn sessions_follow_one_another(rt: HostRuntime) {
+    let mut disk = check_new(&rt, 2_048, &[making()]);
     for row in &SESSIONS {
-        disk = check_session(&rt, row, disk)?;
+        disk = check_session(&rt, row, disk);
     }
-    Ok(())
+}
+
+// Plays a row over a new image.
+fn check_one<R: Abort + AllocGlobal>(rt: &R, row: &Row) {
+    check_session(rt, row, check_new(rt, 2_048, &[making()]));
 }
 
 // The notes of what is made and removed again fill the journal many times over.
 #[test]
-fn what_comes_and_goes_fills_no_journal(rt: HostRuntime) -> Result<(), Fail> {
-    let alloc = rt.alloc();
-    let mut requests = String::from_str(alloc, "mkdir /a;rmdir /a")?;
-    push_times(&mut requests, ";mkdir /a;rmdir /a", 299)?;
-    let mut replies = String::from_str(alloc, "ok/ok")?;
-    push_times(&mut replies, "/ok/ok", 299)?;
-    let row = (requests.as_str(), replies.as_str(), "dir /\n");
-    let disk = PlainDisk::zeros(alloc, 2_048)?;
-    let disk = check_over(&rt, &making(), disk)?;
-    check_session(&rt, &row, disk)?;
-    Ok(())
+fn what_comes_and_goes_fills_no_journal(rt: HostRuntime) {
+    let requests = repeated(
+        &rt,
+        &[("mkdir /a;rmdir /a", 1), (";mkdir /a;rmdir /a", 299)],
+    );
+    let replies = repeated(&rt, &[("ok/ok", 1), ("/ok/ok", 299)]);
+    check_one(&rt, &(requests.as_str(), replies.as_str(), "dir /\n"));
 }
 
 // Of 242 blocks the root has one. What a removed file had is wanted by the next one, and so is what a directory had.
 #[test]
-fn blocks_of_what_is_removed_come_back_in_the_session(rt: HostRuntime) -> Result<(), Fail> {
-    let alloc = rt.alloc();
+fn blocks_of_what_is_removed_come_back_in_the_session(rt: HostRuntime) {
     let requests =
         "open /f rw creat;write 3 987136*61;unlink /f;open /g rw creat;write 4 4096*62;close 3;write 4 983040*62;mkdir /d;open /d/x rw creat;close 4;unlink /g;write 3 983040*63;unlink /d/x;close 3;rmdir /d;open /h rw creat;write 3 987136*64";
     let replies =
         "fd 3/n 987136/ok/fd 4/err ENOSPC/ok/n 983040/ok/fd 3/ok/ok/n 983040/ok/ok/ok/fd 3/n 987136";
-    let mut shown = String::from_str(alloc, "dir /\nfile /h 987136 ")?;
-    push_times(&mut shown, "64", 64)?;
-    shown.push_str("+\n")?;
-    let row = (requests, replies, shown.as_str());
-    let disk = PlainDisk::zeros(alloc, 2_048)?;
-    let disk = check_over(&rt, &making(), disk)?;
-    check_session(&rt, &row, disk)?;
-    Ok(())
+    let shown = repeated(
+        &rt,
+        &[("dir /\nfile /h 987136 ", 1), ("64", 64), ("+\n", 1)],
+    );
+    check_one(&rt, &(requests, replies, shown.as_str()));
 }

@@ -1,10 +1,13 @@
 // One call, or a session, over a disk that passes so many calls and then fails each: what it answers, and what a crash
 // leaves of it.
-use crate::calls::{Call, check_over, words};
+use crate::asserts::{are_bytes, holds, holds_in, same};
+use crate::calls::{Call, bytes, check_new, words};
+use crate::rows::script_of;
+use crate::trees::making_small;
+use std::alloc::AllocGlobal;
 use std::process::Abort;
-use std::test::Fail;
 use ufs_base::SECTOR;
-use ufs_disk::{Disk, Fuse, FuseDisk, PlainDisk};
+use ufs_disk::{Disk, Fuse, FuseDisk};
 use ufs_io::{MemorySink, PlainSource};
 use ufs_quiet::quiet;
 
@@ -16,6 +19,26 @@ pub struct Answer {
     pub left: Vec<u8>,
 }
 
+/// The bytes of an image that is made so on a disk of so many sectors.
+pub fn image<R: Abort + AllocGlobal>(rt: &R, sectors: u32, making: Call) -> Vec<u8> {
+    check_new(rt, sectors, &[making]).bytes
+}
+
+/// The status and the text that a call gets over a disk, and the disk.
+pub fn answer_over<R: Abort + AllocGlobal, D: Disk + Drop>(
+    rt: &R,
+    line: &[&str],
+    script: &str,
+    disk: D,
+) -> (u8, Vec<u8>, D) {
+    let words = words(rt, line);
+    let mut source = PlainSource::new(bytes(rt, script));
+    let mut sink = MemorySink::new(rt.alloc(), Vec::new(rt.alloc()));
+    let outcome = quiet(rt.alloc(), &words, &mut source, &mut sink, disk);
+    let text = sink.bytes().to_vec(rt.alloc()).expect(rt, "memory");
+    (outcome.status, text, outcome.disk)
+}
+
 // The sectors of an image of 64 blocks, or of one of 256.
 fn sectors_of(image: &[u8]) -> u32 {
     if image.len() < 2_048 * SECTOR {
@@ -25,20 +48,15 @@ fn sectors_of(image: &[u8]) -> u32 {
     }
 }
 
-/// The bytes of an image that is made so on a disk of so many sectors.
-pub fn image<R: Abort + AllocGlobal>(rt: &R, sectors: u32, making: &Call) -> Result<Vec<u8>, Fail> {
-    let disk = PlainDisk::zeros(rt.alloc(), sectors)?;
-    let mut disk = check_over(rt, making, disk)?;
-    let mut bytes = Vec::new(rt.alloc());
-    for at in 0..sectors {
-        let mut sector = [0; SECTOR];
-        assert!(rt; at < disk.sectors() && disk.read(at, &mut sector).is_ok());
-        bytes.extend_from_slice(&sector)?;
-    }
-    Ok(bytes)
+/// A disk with these bytes that passes so many calls.
+pub fn fuse_disk<R: Abort + AllocGlobal>(rt: &R, image: &[u8], passes: u64) -> FuseDisk {
+    let bytes = image.to_vec(rt.alloc()).expect(rt, "memory");
+    let sectors = sectors_of(image);
+    holds(rt, bytes.len() == SECTOR * sectors as usize);
+    FuseDisk::new(rt.alloc(), sectors, bytes, Fuse { passes }).expect(rt, "memory")
 }
 
-/// A call over a disk with these bytes that passes so many calls. `pick` says which crash.
+/// A call over such a disk. `pick` says which crash.
 pub fn make_call<R: Abort + AllocGlobal>(
     rt: &R,
     line: &[&str],
@@ -46,36 +64,14 @@ pub fn make_call<R: Abort + AllocGlobal>(
     image: &[u8],
     passes: u64,
     pick: u64,
-) -> Result<Answer, Fail> {
-    let alloc = rt.alloc();
-    let bytes = image.to_vec(alloc)?;
-    let sectors = sectors_of(image);
-    assert!(rt; bytes.len() == SECTOR * sectors as usize);
-    let disk = FuseDisk::new(alloc, sectors, bytes, Fuse { passes })?;
-    let words = words(alloc, line)?;
-    let mut source = PlainSource::new(script.as_bytes().to_vec(alloc)?);
-    let mut sink = MemorySink::new(alloc, Vec::new(alloc));
-    let outcome = quiet(alloc, &words, &mut source, &mut sink, disk);
-    Ok(Answer {
-        status: outcome.status,
-        text: sink.bytes().to_vec(alloc)?,
-        left: outcome.disk.crash(pick)?,
-    })
-}
-
-/// A session so.
-pub fn play<R: Abort + AllocGlobal>(
-    rt: &R,
-    script: &str,
-    image: &[u8],
-    passes: u64,
-    pick: u64,
-) -> Result<Answer, Fail> {
-    make_call(rt, &["play"], script, image, passes, pick)
+) -> Answer {
+    let (status, text, disk) = answer_over(rt, line, script, fuse_disk(rt, image, passes));
+    let left = disk.crash(pick).expect(rt, "memory");
+    Answer { status, text, left }
 }
 
 /// A call that passes.
-pub fn calmly<R: Abort + AllocGlobal>(rt: &R, line: &[&str], image: &[u8]) -> Result<Answer, Fail> {
+pub fn calmly<R: Abort + AllocGlobal>(rt: &R, line: &[&str], image: &[u8]) -> Answer {
     make_call(rt, line, "", image, u64::MAX, 0)
 }
 
@@ -89,36 +85,74 @@ pub fn has(text: &[u8], wanted: &[u8]) -> bool {
     false
 }
 
-/// The least number of calls that a disk passes where the session's text has these bytes.
-pub fn least<R: Abort + AllocGlobal>(
-    rt: &R,
-    script: &str,
-    image: &[u8],
-    wanted: &[u8],
-) -> Result<u64, Fail> {
-    let mut from = 0;
-    let mut to = 8_192;
-    for _halving in 0..13 {
-        assert!(rt; from <= to && to <= 8_192);
-        let middle = (from + to) / 2;
-        let answer = play(rt, script, image, middle, 0)?;
-        if has(answer.text.as_slice(), wanted) {
-            to = middle;
-        } else {
-            from = middle + 1;
+/// Whether a call ended well where so many calls passed; else the disk stopped it.
+pub fn is_whole(rt: &impl Abort, status: u8, passes: u64) -> bool {
+    holds_in(rt, status == 0 || status == 4, passes);
+    status == 0
+}
+
+pub fn always_stopped(rt: &impl Abort) {
+    panic!(rt; "always stopped")
+}
+
+/// A script of one client, and a new image of 64 blocks.
+#[derive(Drop)]
+pub struct Stage {
+    pub script: String,
+    pub image: Vec<u8>,
+}
+
+impl Stage {
+    pub fn new<R: Abort + AllocGlobal>(rt: &R, requests: &str) -> Stage {
+        Stage {
+            script: script_of(rt, requests),
+            image: image(rt, 512, making_small()),
         }
     }
-    assert!(rt; from == to);
-    Ok(to)
+
+    /// The session over a disk that passes so many calls. `pick` says which crash.
+    pub fn play<R: Abort + AllocGlobal>(&self, rt: &R, passes: u64, pick: u64) -> Answer {
+        let image = self.image.as_slice();
+        make_call(rt, &["play"], self.script.as_str(), image, passes, pick)
+    }
+
+    // Whether the session's text has these bytes where so many calls pass.
+    fn tells<R: Abort + AllocGlobal>(&self, rt: &R, passes: u64, wanted: &[u8]) -> bool {
+        has(self.play(rt, passes, 0).text.as_slice(), wanted)
+    }
+
+    /// The least number of calls that a disk passes where the session's text has these bytes.
+    pub fn least<R: Abort + AllocGlobal>(&self, rt: &R, wanted: &[u8]) -> u64 {
+        let mut from = 0;
+        let mut to = 8_192;
+        for _halving in 0..13 {
+            holds(rt, from <= to && to <= 8_192);
+            let middle = (from + to) / 2;
+            if self.tells(rt, middle, wanted) {
+                to = middle;
+            } else {
+                from = middle + 1;
+            }
+        }
+        holds(rt, from == to);
+        to
+    }
 }
 
 /// The lines of the tree that a crash's image stands for, once it is recovered.
-pub fn tree_left<R: Abort + AllocGlobal>(rt: &R, left: &[u8]) -> Result<Vec<u8>, Fail> {
-    let recovered = calmly(rt, &["recover"], left)?;
-    assert_eq!(rt; recovered.status, 0);
-    let checked = calmly(rt, &["check"], recovered.left.as_slice())?;
-    assert_eq!(rt; checked.text.as_slice(), b"clean\n".as_slice());
-    let shown = calmly(rt, &["tree"], recovered.left.as_slice())?;
-    assert_eq!(rt; shown.status, 0);
-    Ok(shown.text)
+pub fn tree_left<R: Abort + AllocGlobal>(rt: &R, left: &[u8]) -> Vec<u8> {
+    let recovered = calmly(rt, &["recover"], left);
+    same(rt, recovered.status, 0);
+    is_clean(rt, recovered.left.as_slice());
+    let shown = calmly(rt, &["tree"], recovered.left.as_slice());
+    same(rt, shown.status, 0);
+    shown.text
+}
+
+fn is_clean<R: Abort + AllocGlobal>(rt: &R, image: &[u8]) {
+    are_bytes(
+        rt,
+        calmly(rt, &["check"], image).text.as_slice(),
+        b"clean\n",
+    );
 }

@@ -1,10 +1,10 @@
 // The words, the images, and sources, sinks and disks that fail.
-use crate::calls::{Call, check, check_made, check_over, words};
-use std::alloc::{AllocError, Global};
+use crate::asserts::{holds, same};
+use crate::calls::{Call, bytes, calm, check_new, check_over, memory_disk, words};
+use std::alloc::AllocGlobal;
 use std::process::Abort;
-use std::test::Fail;
 use ufs_base::SECTOR;
-use ufs_disk::{Disk, FILE_SECTORS, FileDisk, MemoryDisk, PlainDisk};
+use ufs_disk::{Disk, FILE_SECTORS, FileDisk};
 use ufs_io::{MemorySink, PlainSource};
 use ufs_quiet::{WordsFault, image_of, respond};
 
@@ -91,23 +91,19 @@ const UNTOUCHED: [(&[&str], u8); 4] = [
 ];
 
 #[test]
-fn words_are_read_by_their_grammar(rt: HostRuntime) -> Result<(), Fail> {
+fn words_are_read_by_their_grammar(rt: HostRuntime) {
     for (words, status, text) in &UNREAD {
         let call = Call {
-            words: *words,
             script: FIRST,
             reads: &[0],
-            writes: &[],
-            status: *status,
-            text: *text,
+            ..calm(words, *status, text)
         };
-        check(&rt, &call)?;
+        check_new(&rt, 2_048, &[call]);
     }
-    Ok(())
 }
 
 #[test]
-fn faults_are_answered(rt: HostRuntime) -> Result<(), Fail> {
+fn faults_are_answered(rt: HostRuntime) {
     for (words, reads, writes, status, text) in &FAULTS {
         let call = Call {
             words: *words,
@@ -117,13 +113,17 @@ fn faults_are_answered(rt: HostRuntime) -> Result<(), Fail> {
             status: *status,
             text: *text,
         };
-        check_made(&rt, 2_048, &making(0, MADE), &call)?;
+        check_new(&rt, 2_048, &[making(0, MADE), call]);
     }
-    Ok(())
+}
+
+// Asserts which word names the image.
+fn names(rt: &impl Abort, words: &Vec<String>, wanted: Option<&str>) {
+    assert_eq!(rt; image_of(words), wanted);
 }
 
 #[test]
-fn the_image_is_the_word_behind_its_option(rt: HostRuntime) -> Result<(), Fail> {
+fn the_image_is_the_word_behind_its_option(rt: HostRuntime) {
     let rows: [(&[&str], Option<&str>); 5] = [
         (&[], None),
         (&["--image"], None),
@@ -131,28 +131,25 @@ fn the_image_is_the_word_behind_its_option(rt: HostRuntime) -> Result<(), Fail> 
         (&["--image", "a", "--image", "b"], Some("a")),
         (&["play", "--image", "--image"], Some("--image")),
     ];
-    for (line, want) in &rows {
-        let list = words(rt.alloc(), line)?;
-        assert_eq!(rt; image_of(&list), *want);
+    for (line, wanted) in &rows {
+        names(&rt, &words(&rt, line), *wanted);
     }
-    Ok(())
 }
 
 // `mkfs 256 32 64` in calm.
-fn making(status: u8, text: &'static str) -> Call<'static> {
-    Call {
-        words: MKFS,
-        script: "",
-        reads: &[],
-        writes: &[],
-        status,
-        text,
-    }
+fn making(status: u8, text: &str) -> Call<'_> {
+    calm(MKFS, status, text)
+}
+
+// Makes it over a disk of zeros, of whose calls those of these numbers fail.
+fn check_making<R: Abort + AllocGlobal>(rt: &R, fails: &[u64], status: u8, text: &str) {
+    let zeros = check_new(rt, 2_048, &[]);
+    let disk = memory_disk(rt, 2_048, zeros.bytes.as_slice(), fails);
+    check_over(rt, &making(status, text), disk);
 }
 
 #[test]
-fn a_fault_of_the_disk_is_told(rt: HostRuntime) -> Result<(), Fail> {
-    let alloc = rt.alloc();
+fn a_fault_of_the_disk_is_told(rt: HostRuntime) {
     let rows: [(&[u64], u8, &str); 5] = [
         (&[], 0, MADE),
         (&[0], 4, "ufs: device fault 1\n"),
@@ -161,26 +158,23 @@ fn a_fault_of_the_disk_is_told(rt: HostRuntime) -> Result<(), Fail> {
         (&[15], 4, "ufs: device fault 1\n"),
     ];
     for (fails, status, text) in rows {
-        let zeros = vec![in alloc; 0u8; 2048 * SECTOR]?;
-        let disk = MemoryDisk::new(alloc, 2048, zeros, fails.to_vec(alloc)?)?;
-        check_over(&rt, &making(status, text), disk)?;
+        check_making(&rt, fails, status, text);
     }
-    let small = PlainDisk::zeros(alloc, 2047)?;
-    check_over(&rt, &making(3, TOO_SMALL), small)?;
-    Ok(())
+    check_new(&rt, 2_047, &[making(3, TOO_SMALL)]);
+}
+
+// What a disk has in a sector.
+fn sector<D: Disk>(rt: &impl Abort, disk: &mut D, at: u32) -> [u8; SECTOR] {
+    let mut sector = [0; SECTOR];
+    holds(rt, at < disk.sectors());
+    holds(rt, disk.read(at, &mut sector).is_ok());
+    sector
 }
 
 // Whether two disks have the same first sectors.
-fn are_alike<R: Abort, C: Disk, D: Disk>(rt: &R, one: &mut C, other: &mut D, count: u32) -> bool {
-    assert!(rt; count <= one.sectors() && count <= other.sectors());
-    let mut had = [0; SECTOR];
-    let mut has = [0; SECTOR];
-    for sector in 0..count {
-        assert!(rt; sector < one.sectors() && sector < other.sectors());
-        if one.read(sector, &mut had).is_err() || other.read(sector, &mut has).is_err() {
-            return false;
-        }
-        if had != has {
+fn are_alike<C: Disk, D: Disk>(rt: &impl Abort, one: &mut C, other: &mut D, count: u32) -> bool {
+    for at in 0..count {
+        if sector(rt, one, at) != sector(rt, other, at) {
             return false;
         }
     }
@@ -188,30 +182,24 @@ fn are_alike<R: Abort, C: Disk, D: Disk>(rt: &R, one: &mut C, other: &mut D, cou
 }
 
 #[test]
-fn an_image_in_a_file_is_the_one_in_memory(rt: HostRuntime) -> Result<(), Fail> {
+fn an_image_in_a_file_is_the_one_in_memory(rt: HostRuntime) {
     let path = "ufs_quiet_made.img";
-    let mut file = check_over(&rt, &making(0, MADE), FileDisk::new(&rt, path))?;
-    let plain = PlainDisk::zeros(rt.alloc(), FILE_SECTORS)?;
-    let mut plain = check_over(&rt, &making(0, MADE), plain)?;
-    assert!(rt; are_alike(&rt, &mut file, &mut plain, 2048));
-    std::fs::remove_file(&rt, path)?;
-    let mut sector = [0; SECTOR];
-    assert!(rt; plain.sectors() > 0 && plain.read(0, &mut sector).is_ok());
-    assert!(rt; sector.starts_with(&SUPERBLOCK));
-    Ok(())
+    let mut file = check_over(&rt, &making(0, MADE), FileDisk::new(&rt, path));
+    let mut plain = check_new(&rt, FILE_SECTORS, &[making(0, MADE)]);
+    holds(&rt, are_alike(&rt, &mut file, &mut plain, 2_048));
+    std::fs::remove_file(&rt, path).expect(&rt, "not removed");
+    holds(&rt, sector(&rt, &mut plain, 0).starts_with(&SUPERBLOCK));
 }
 
 #[test]
-fn no_file_is_made_where_none_is_touched(rt: HostRuntime) -> Result<(), Fail> {
-    let alloc = rt.alloc();
+fn no_file_is_made_where_none_is_touched(rt: HostRuntime) {
     for (line, status) in &UNTOUCHED {
-        let words: Result<Vec<String>, WordsFault> = Ok(words(alloc, line)?);
-        let mut source = PlainSource::new(b"frob".to_vec(alloc)?);
-        let mut sink = MemorySink::new(alloc, Vec::new(alloc));
+        let words: Result<Vec<String>, WordsFault> = Ok(words(&rt, line));
+        let mut source = PlainSource::new(bytes(&rt, "frob"));
+        let mut sink = MemorySink::new(rt.alloc(), Vec::new(rt.alloc()));
         let disk = FileDisk::new(&rt, NO_FILE);
-        let outcome = respond(alloc, &words, &mut source, &mut sink, disk);
-        assert_eq!(rt; outcome.status, *status);
-        assert!(rt; std::fs::metadata(&rt, NO_FILE).is_err());
+        let outcome = respond(rt.alloc(), &words, &mut source, &mut sink, disk);
+        same(&rt, outcome.status, *status);
+        holds(&rt, std::fs::metadata(&rt, NO_FILE).is_err());
     }
-    Ok(())
 }

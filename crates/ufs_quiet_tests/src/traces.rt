@@ -1,86 +1,80 @@
 // Sessions with their traces: the replies, and behind them each entry by its ticket, with its excuse.
-use crate::calls::{Call, check_over, playing};
-use crate::rows::{lines_of, push_times, script_of};
+use crate::calls::{check_over, memory_disk, playing, tracing};
+use crate::rooms::{GROWING, GROWN};
+use crate::rows::{lines_of, push, repeated, script_of};
 use crate::stops::image;
 use crate::trees::{making, making_small};
-use std::alloc::{AllocError, Global};
+use std::alloc::AllocGlobal;
 use std::process::Abort;
-use std::test::Fail;
-use ufs_base::SECTOR;
-use ufs_disk::{Call as DiskCall, MemoryDisk, Request};
+use ufs_disk::{Call as DiskCall, Request};
 
 const FAULT: &str = "ufs: device fault 1\n";
 
-// Excuses, each with the number of its request.
-type Excuses<'a> = &'a [(usize, &'a str)];
+/// Excuses, each with the number of its request.
+pub type Excuses<'a> = &'a [(usize, &'a str)];
+
+fn push_excuse<R: Abort + AllocGlobal>(rt: &R, text: &mut String, number: usize, excuses: Excuses) {
+    for (excused, excuse) in excuses {
+        if *excused == number {
+            push(rt, text, " excuse ");
+            push(rt, text, excuse);
+        }
+    }
+}
 
 // What the trace of one client's requests is, so many, served in their order.
-fn trace_of(alloc: Global, count: usize, excuses: Excuses) -> Result<String, AllocError> {
-    let mut text = String::new(alloc);
+fn push_trace<R: Abort + AllocGlobal>(rt: &R, text: &mut String, count: usize, excuses: Excuses) {
     for number in 0..count {
-        let line = format!(in alloc; "# {number} 0.{number} by p")?;
-        text.push_str(line.as_str())?;
-        for (excused, excuse) in excuses {
-            if *excused == number {
-                text.push_str(" excuse ")?;
-                text.push_str(excuse)?;
-            }
-        }
-        text.push_str("\n")?;
+        let line = format!(in rt.alloc(); "# {number} 0.{number} by p").expect(rt, "memory");
+        push(rt, text, line.as_str());
+        push_excuse(rt, text, number, excuses);
+        push(rt, text, "\n");
     }
-    Ok(text)
 }
 
-// Requests between semicolons, and replies between slashes.
+/// Requests between semicolons, and replies between slashes.
 #[derive(Clone, Copy)]
-struct Row<'a> {
-    requests: &'a str,
-    replies: &'a str,
-    excuses: Excuses<'a>,
-    status: u8,
+pub struct Row<'a> {
+    pub requests: &'a str,
+    pub replies: &'a str,
+    pub excuses: Excuses<'a>,
+    pub status: u8,
     // The last line of the session.
-    last: &'a str,
+    pub last: &'a str,
 }
 
-// Plays a row with its trace over the bytes of an image, of which one call may fail.
-fn check_trace<R: Abort + AllocGlobal>(
+// What the row prints.
+fn text_of<R: Abort + AllocGlobal>(rt: &R, row: &Row) -> String {
+    let mut text = lines_of(rt, row.replies);
+    let count = row.requests.split(';').count();
+    push_trace(rt, &mut text, count, row.excuses);
+    push(rt, &mut text, row.last);
+    text
+}
+
+/// Plays a row with its trace over the bytes of an image, of which one call may fail.
+pub fn check_trace<R: Abort + AllocGlobal>(
     rt: &R,
     row: &Row,
     sectors: u32,
     image: &[u8],
     fails: &[u64],
-) -> Result<(), Fail> {
-    let alloc = rt.alloc();
-    let script = script_of(alloc, row.requests)?;
-    let count = row.requests.split(';').count();
-    let mut text = lines_of(alloc, row.replies)?;
-    let trace = trace_of(alloc, count, row.excuses)?;
-    text.push_str(trace.as_str())?;
-    text.push_str(row.last)?;
-    let bytes = image.to_vec(alloc)?;
-    assert!(rt; bytes.len() == SECTOR * sectors as usize);
-    let disk = MemoryDisk::new(alloc, sectors, bytes, fails.to_vec(alloc)?)?;
-    let call = Call {
-        words: &["play", "--trace"],
-        script: script.as_str(),
-        reads: &[],
-        writes: &[],
-        status: row.status,
-        text: text.as_str(),
-    };
-    check_over(rt, &call, disk)?;
-    Ok(())
+) {
+    let script = script_of(rt, row.requests);
+    let text = text_of(rt, row);
+    let call = tracing(script.as_str(), row.status, text.as_str());
+    check_over(rt, &call, memory_disk(rt, sectors, image, fails));
 }
 
-// A row in calm, over a new image that is made so.
+// A row in calm.
 fn check_calm<R: Abort + AllocGlobal>(
     rt: &R,
     sectors: u32,
-    making: &Call,
+    image: &[u8],
     requests: &str,
     replies: &str,
     excuses: Excuses,
-) -> Result<(), Fail> {
+) {
     let row = Row {
         requests,
         replies,
@@ -88,54 +82,51 @@ fn check_calm<R: Abort + AllocGlobal>(
         status: 0,
         last: "",
     };
-    let image = image(rt, sectors, making)?;
-    check_trace(rt, &row, sectors, image.as_slice(), &[])
+    check_trace(rt, &row, sectors, image, &[]);
 }
 
 #[test]
-fn blocks_that_ran_out_are_told(rt: HostRuntime) -> Result<(), Fail> {
+fn blocks_that_ran_out_are_told(rt: HostRuntime) {
     check_calm(
         &rt,
         2_048,
-        &making(),
+        image(&rt, 2_048, making()).as_slice(),
         "open /f rw creat;write 3 987136*61;write 3 61;trunc 3 0;pwrite 3 61 0;fsync 3;pwrite 3 61 0",
         "fd 3/n 987136/err ENOSPC/ok/err ENOSPC/ok/n 1",
         &[(2, "blocks 1 0"), (4, "blocks 1 0")],
-    )
+    );
 }
 
 #[test]
-fn inodes_that_ran_out_are_told(rt: HostRuntime) -> Result<(), Fail> {
+fn inodes_that_ran_out_are_told(rt: HostRuntime) {
     check_calm(
         &rt,
         512,
-        &making_small(),
+        image(&rt, 512, making_small()).as_slice(),
         "mkdir /00;mkdir /01;mkdir /02;mkdir /03;mkdir /04;mkdir /05;mkdir /06;mkdir /07;mkdir /08;mkdir /09;mkdir /10;mkdir /11;mkdir /12;mkdir /13;mkdir /14;mkdir /15;rmdir /00;mkdir /15",
         "ok/ok/ok/ok/ok/ok/ok/ok/ok/ok/ok/ok/ok/ok/ok/err ENOSPC/ok/ok",
         &[(15, "inodes 1 0")],
-    )
+    );
 }
 
 #[test]
-fn extents_that_ran_out_are_told(rt: HostRuntime) -> Result<(), Fail> {
-    let alloc = rt.alloc();
-    let mut requests = String::from_str(alloc, "open /f rw creat;open /g rw creat")?;
-    push_times(&mut requests, ";write 3 4096*61;write 4 4096*62", 57)?;
-    let mut replies = String::from_str(alloc, "fd 3/fd 4")?;
-    push_times(&mut replies, "/n 4096", 112)?;
-    replies.push_str("/err ENOSPC/n 4096")?;
+fn extents_that_ran_out_are_told(rt: HostRuntime) {
     check_calm(
         &rt,
         2_048,
-        &making(),
-        requests.as_str(),
-        replies.as_str(),
+        image(&rt, 2_048, making()).as_slice(),
+        repeated(&rt, &GROWING).as_str(),
+        repeated(&rt, &GROWN).as_str(),
         &[(114, "extents 57 56")],
-    )
+    );
+}
+
+fn no_barrier(rt: &impl Abort) {
+    panic!(rt; "no barrier")
 }
 
 // The number of the second barrier of these calls. The first is the last call of a session's opening.
-fn second_barrier<R: Abort>(rt: &R, calls: &[DiskCall]) -> u64 {
+fn second_barrier(rt: &impl Abort, calls: &[DiskCall]) -> u64 {
     let mut opened = false;
     for (number, call) in calls.iter().enumerate() {
         if let Request::Barrier = call.request {
@@ -145,49 +136,44 @@ fn second_barrier<R: Abort>(rt: &R, calls: &[DiskCall]) -> u64 {
             opened = true;
         }
     }
-    panic!(rt; "no barrier")
+    no_barrier(rt);
+    0
+}
+
+const SYNCS: &str = "open /f rw creat;write 3 61;fsync 3;fsync 3;pread 3 1 0";
+
+// The number of the second barrier of a session over the image in which each call passes.
+fn barrier_of<R: Abort + AllocGlobal>(rt: &R, image: &[u8]) -> u64 {
+    let script = script_of(rt, SYNCS);
+    let lines = lines_of(rt, "fd 3/n 1/ok/ok/data 61");
+    let call = playing(script.as_str(), 0, lines.as_str());
+    let disk = check_over(rt, &call, memory_disk(rt, 2_048, image, &[]));
+    second_barrier(rt, disk.medium.calls.as_slice())
 }
 
 // The call that fails is the first barrier behind the opening. The read behind it goes on in memory.
 #[test]
-fn a_fault_of_the_disk_is_told(rt: HostRuntime) -> Result<(), Fail> {
-    let alloc = rt.alloc();
+fn a_fault_of_the_disk_is_told(rt: HostRuntime) {
     let row = Row {
-        requests: "open /f rw creat;write 3 61;fsync 3;fsync 3;pread 3 1 0",
+        requests: SYNCS,
         replies: "fd 3/n 1/err EIO/err EIO/data 61",
         excuses: &[(2, "device 1"), (3, "stopped 1")],
         status: 4,
         last: FAULT,
     };
-    let image = image(&rt, 2_048, &making())?;
-    let script = script_of(alloc, row.requests)?;
-    let lines = lines_of(alloc, "fd 3/n 1/ok/ok/data 61")?;
-    let bytes = image.to_vec(alloc)?;
-    assert!(rt; bytes.len() == SECTOR * 2_048);
-    let disk = MemoryDisk::new(alloc, 2_048, bytes, Vec::new(alloc))?;
-    let calm = check_over(&rt, &playing(script.as_str(), 0, lines.as_str()), disk)?;
-    let fails = second_barrier(&rt, calm.medium.calls.as_slice());
-    check_trace(&rt, &row, 2_048, image.as_slice(), &[fails])
+    let image = image(&rt, 2_048, making());
+    let fails = barrier_of(&rt, image.as_slice());
+    check_trace(&rt, &row, 2_048, image.as_slice(), &[fails]);
 }
 
 // What a client answers itself: a descriptor that isn't open, flags, a path's text, and a `seek` that needs no size.
 #[test]
-fn a_clients_own_answers_name_it(rt: HostRuntime) -> Result<(), Fail> {
+fn a_clients_own_answers_name_it(rt: HostRuntime) {
     let script =
         "client 0\nopen /f rw creat\nseek 3 set 5\nseek 3 cur -2\nseek 3 end 0\nread 9 1\nopen /f r trunc\nmkdir a\nmkdir /f\nclient 1\nseek 3 set 0\nend\n";
     let text =
         "0.0 fd 3\n0.1 at 5\n0.2 at 3\n0.3 at 0\n0.4 err EBADF\n0.5 err EINVAL\n0.6 err EINVAL\n0.7 err EEXIST\n1.0 err EBADF\n# 0 0.0 by p\n# 1 0.1 by c0\n# 2 0.2 by c0\n# 3 0.3 by p\n# 4 0.4 by c0\n# 5 0.5 by c0\n# 6 0.6 by c0\n# 7 0.7 by p\n# 8 1.0 by c1\n";
-    let bytes = image(&rt, 2_048, &making())?;
-    assert!(rt; bytes.len() == SECTOR * 2_048);
-    let disk = MemoryDisk::new(rt.alloc(), 2_048, bytes, Vec::new(rt.alloc()))?;
-    let call = Call {
-        words: &["play", "--trace"],
-        script,
-        reads: &[],
-        writes: &[],
-        status: 0,
-        text,
-    };
-    check_over(&rt, &call, disk)?;
-    Ok(())
+    let image = image(&rt, 2_048, making());
+    let disk = memory_disk(&rt, 2_048, image.as_slice(), &[]);
+    check_over(&rt, &tracing(script, 0, text), disk);
 }

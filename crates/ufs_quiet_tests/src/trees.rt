@@ -1,10 +1,10 @@
 // The trees and the damage of images: none, a new one, one with files, and disks that fail.
-use crate::calls::{Call, check_over};
-use std::alloc::Global;
+use crate::asserts::holds;
+use crate::calls::{Call, calm, check_calls, check_new, memory_disk};
+use std::alloc::AllocGlobal;
 use std::process::Abort;
-use std::test::Fail;
 use ufs_base::SECTOR;
-use ufs_disk::{Disk, MemoryDisk, PlainDisk};
+use ufs_disk::{Disk, PlainDisk};
 
 const MADE: &str = "made 256 32 64 242\n";
 
@@ -25,18 +25,6 @@ pub const INODES: u32 = 16;
 // The first block of the data area.
 const DATA: u8 = 14;
 
-// A command without words behind it, in calm.
-pub fn calm(words: &'static [&'static str], status: u8, text: &'static str) -> Call<'static> {
-    Call {
-        words,
-        script: "",
-        reads: &[],
-        writes: &[],
-        status,
-        text,
-    }
-}
-
 pub fn making() -> Call<'static> {
     calm(&["mkfs", "256", "32", "64"], 0, MADE)
 }
@@ -51,16 +39,24 @@ pub fn making_large() -> Call<'static> {
     calm(&["mkfs", "8192", "64", "256"], 0, "made 8192 64 256 8150\n")
 }
 
-pub fn tree(status: u8, text: &'static str) -> Call<'static> {
+pub fn tree<'a>(status: u8, text: &'a str) -> Call<'a> {
     calm(&["tree"], status, text)
 }
 
-pub fn check(status: u8, text: &'static str) -> Call<'static> {
+pub fn check<'a>(status: u8, text: &'a str) -> Call<'a> {
     calm(&["check"], status, text)
 }
 
-pub fn put_sector<R: Abort>(rt: &R, disk: &mut PlainDisk, at: u32, sector: &[u8; SECTOR]) {
-    assert!(rt; at < disk.sectors() && disk.write(at, sector).is_ok());
+pub fn put_sector(rt: &impl Abort, disk: &mut PlainDisk, at: u32, sector: &[u8; SECTOR]) {
+    holds(rt, at < disk.sectors());
+    holds(rt, disk.write(at, sector).is_ok());
+}
+
+pub fn read_sector(rt: &impl Abort, disk: &mut PlainDisk, at: u32) -> [u8; SECTOR] {
+    let mut sector = [0; SECTOR];
+    holds(rt, at < disk.sectors());
+    holds(rt, disk.read(at, &mut sector).is_ok());
+    sector
 }
 
 // A sector with these bytes at these places, and zeros elsewhere.
@@ -96,7 +92,7 @@ const NAMES: [(usize, u8); 8] = [
 ];
 
 // Puts them into a new image whose data area begins with this block.
-pub fn put_files<R: Abort>(rt: &R, disk: &mut PlainDisk, data: u8) {
+pub fn put_files(rt: &impl Abort, disk: &mut PlainDisk, data: u8) {
     let mut root = sector_of(&ROOT);
     root[BLOCK] = data;
     let mut file = sector_of(&FILE);
@@ -109,47 +105,45 @@ pub fn put_files<R: Abort>(rt: &R, disk: &mut PlainDisk, data: u8) {
 }
 
 #[test]
-fn a_new_image_has_the_root_alone(rt: HostRuntime) -> Result<(), Fail> {
-    let disk = PlainDisk::zeros(rt.alloc(), 2_048)?;
-    let disk = check_over(&rt, &tree(3, NO_SUPERBLOCK), disk)?;
-    let disk = check_over(&rt, &making(), disk)?;
-    let disk = check_over(&rt, &tree(0, "dir /\n"), disk)?;
-    check_over(&rt, &check(0, "clean\n"), disk)?;
-    Ok(())
+fn a_new_image_has_the_root_alone(rt: HostRuntime) {
+    let calls = [
+        tree(3, NO_SUPERBLOCK),
+        making(),
+        tree(0, "dir /\n"),
+        check(0, "clean\n"),
+    ];
+    check_new(&rt, 2_048, &calls);
 }
 
 #[test]
-fn files_are_shown(rt: HostRuntime) -> Result<(), Fail> {
-    let disk = PlainDisk::zeros(rt.alloc(), 2_048)?;
-    let mut disk = check_over(&rt, &making(), disk)?;
+fn files_are_shown(rt: HostRuntime) {
+    let mut disk = check_new(&rt, 2_048, &[making()]);
     put_files(&rt, &mut disk, DATA);
-    let disk = check_over(&rt, &tree(0, FILES), disk)?;
-    check_over(&rt, &check(8, UNMARKED), disk)?;
-    Ok(())
+    check_calls(&rt, &[tree(0, FILES), check(8, UNMARKED)], disk);
+}
+
+// A disk of one sector, the superblock of a new image.
+fn alone<R: Abort + AllocGlobal>(rt: &R) -> PlainDisk {
+    let mut disk = check_new(rt, 2_048, &[making()]);
+    let sector = read_sector(rt, &mut disk, 0);
+    PlainDisk::new(1, sector.to_vec(rt.alloc()).expect(rt, "memory"))
 }
 
 #[test]
-fn the_superblock_alone_is_too_small(rt: HostRuntime) -> Result<(), Fail> {
-    let disk = PlainDisk::zeros(rt.alloc(), 2_048)?;
-    let mut disk = check_over(&rt, &making(), disk)?;
-    let mut sector = [0; SECTOR];
-    assert!(rt; disk.sectors() > 0 && disk.read(0, &mut sector).is_ok());
-    let alone = PlainDisk::new(1, sector.to_vec(rt.alloc())?);
-    let alone = check_over(&rt, &tree(3, TOO_SMALL), alone)?;
-    check_over(&rt, &check(3, TOO_SMALL), alone)?;
-    Ok(())
+fn the_superblock_alone_is_too_small(rt: HostRuntime) {
+    let calls = [tree(3, TOO_SMALL), check(3, TOO_SMALL)];
+    check_calls(&rt, &calls, alone(&rt));
 }
 
-fn failing(alloc: Global, fails: &[u64]) -> Result<MemoryDisk, Fail> {
-    let zeros = vec![in alloc; 0u8; 2_048 * SECTOR]?;
-    Ok(MemoryDisk::new(alloc, 2_048, zeros, fails.to_vec(alloc)?)?)
+// Makes the call over a disk of zeros whose first call fails.
+fn check_failing<R: Abort + AllocGlobal>(rt: &R, call: Call) {
+    let zeros = check_new(rt, 2_048, &[]);
+    let disk = memory_disk(rt, 2_048, zeros.bytes.as_slice(), &[0]);
+    check_calls(rt, &[call], disk);
 }
 
 #[test]
-fn a_fault_of_the_disk_is_told(rt: HostRuntime) -> Result<(), Fail> {
-    let disk = failing(rt.alloc(), &[0])?;
-    check_over(&rt, &tree(4, "ufs: device fault 1\n"), disk)?;
-    let disk = failing(rt.alloc(), &[0])?;
-    check_over(&rt, &check(4, "ufs: device fault 1\n"), disk)?;
-    Ok(())
+fn a_fault_of_the_disk_is_told(rt: HostRuntime) {
+    check_failing(&rt, tree(4, "ufs: device fault 1\n"));
+    check_failing(&rt, check(4, "ufs: device fault 1\n"));
 }

@@ -1,9 +1,8 @@
 // Sessions over clean images in which inodes are used that no path names, or a file has a block too many: they are served, and
 // have these blocks.
-use crate::calls::{Call, check_over, playing};
+use crate::calls::{Call, check_calls, check_new, playing};
 use crate::trees::{INODES, check, making_small, put_sector, sector_of, tree};
 use std::process::Abort;
-use std::test::Fail;
 use ufs_disk::PlainDisk;
 
 // The bitmap: the twelve blocks before the data area, and blocks 50, 51 and 52.
@@ -26,7 +25,7 @@ const FILLED: &str =
     "dir /\nfile /f 208896 61616161616161616161616161616161616161616161616161616161616161616161616161616161616161616161616161616161616161616161616161616161+\n";
 
 // Puts them into a new image of 64 blocks.
-fn put_unnamed<R: Abort>(rt: &R, disk: &mut PlainDisk) {
+fn put_unnamed(rt: &impl Abort, disk: &mut PlainDisk) {
     put_sector(rt, disk, 8, &sector_of(&BITS));
     put_sector(rt, disk, INODES + 1, &sector_of(&FILE));
     put_sector(rt, disk, INODES + 2, &sector_of(&DIRECTORY));
@@ -57,7 +56,7 @@ const FILLED_MORE: &str =
     "dir /\nfile /f 5 0000000000\nfile /g 204800 61616161616161616161616161616161616161616161616161616161616161616161616161616161616161616161616161616161616161616161616161616161+\n";
 
 // Puts it into a new image of 64 blocks.
-fn put_long<R: Abort>(rt: &R, disk: &mut PlainDisk) {
+fn put_long(rt: &impl Abort, disk: &mut PlainDisk) {
     put_sector(rt, disk, 8, &sector_of(&BITS));
     put_sector(rt, disk, INODES, &sector_of(&ROOT));
     put_sector(rt, disk, INODES + 1, &sector_of(&LONG));
@@ -73,33 +72,16 @@ fn long_calls() -> [Call<'static>; 4] {
     ]
 }
 
-fn new_image<R: Abort + AllocGlobal>(rt: &R) -> Result<PlainDisk, Fail> {
-    let disk = PlainDisk::zeros(rt.alloc(), 512)?;
-    check_over(rt, &making_small(), disk)
-}
-
-fn check_calls<R: Abort + AllocGlobal>(
-    rt: &R,
-    image: PlainDisk,
-    calls: &[Call<'static>],
-) -> Result<(), Fail> {
-    let mut disk = image;
-    for call in calls {
-        disk = check_over(rt, call, disk)?;
-    }
-    Ok(())
-}
-
 #[test]
-fn what_no_path_names_is_freed_for_a_session(rt: HostRuntime) -> Result<(), Fail> {
-    let mut disk = new_image(&rt)?;
+fn what_no_path_names_is_freed_for_a_session(rt: HostRuntime) {
+    let mut disk = check_new(&rt, 512, &[making_small()]);
     put_unnamed(&rt, &mut disk);
-    check_calls(&rt, disk, &unnamed_calls())
+    check_calls(&rt, &unnamed_calls(), disk);
 }
 
 #[test]
-fn a_block_too_many_is_freed_for_a_session(rt: HostRuntime) -> Result<(), Fail> {
-    let mut disk = new_image(&rt)?;
+fn a_block_too_many_is_freed_for_a_session(rt: HostRuntime) {
+    let mut disk = check_new(&rt, 512, &[making_small()]);
     put_long(&rt, &mut disk);
-    check_calls(&rt, disk, &long_calls())
+    check_calls(&rt, &long_calls(), disk);
 }
