@@ -13,9 +13,8 @@ FILE = TOP / "crates/ufs_quiet_tests/src/examples.rt"
 HEAD = """\
 // The scripts of `examples/`, each with the words that play it, its status, and what it prints over a new image.
 // `tools/examples.py` writes this file.
-use crate::calls::{Call, check_made, playing};
+use crate::calls::{Call, check_new, playing};
 use crate::trees::making_large;
-use std::test::Fail;
 
 const EXAMPLES: [(&[&str], &str, u8, &str); {count}] = [
 """
@@ -23,15 +22,14 @@ TAIL = """\
 ];
 
 #[test]
-fn the_examples_print_what_stands_beside_them(rt: HostRuntime) -> Result<(), Fail> {
+fn the_examples_print_what_stands_beside_them(rt: HostRuntime) {
     for (words, script, status, text) in &EXAMPLES {
         let call = Call {
             words: *words,
             ..playing(script, *status, text)
         };
-        check_made(&rt, 65_536, &making_large(), &call)?;
+        check_new(&rt, 65_536, &[making_large(), call]);
     }
-    Ok(())
 }
 """
 
