@@ -14,6 +14,8 @@ mod faults;
 #[cfg(test)]
 mod formats;
 #[cfg(test)]
+mod reads;
+#[cfg(test)]
 mod recoveries;
 #[cfg(test)]
 mod rooms;

@@ -6,7 +6,7 @@ use crate::stops::image;
 use crate::trees::{making, making_small};
 use std::alloc::AllocGlobal;
 use std::process::Abort;
-use ufs_disk::{Call as DiskCall, Request};
+use ufs_disk::{Call as DiskCall, MemoryDisk, Request};
 
 const FAULT: &str = "ufs: device fault 1\n";
 
@@ -121,6 +121,19 @@ fn extents_that_ran_out_are_told(rt: HostRuntime) {
     );
 }
 
+/// The disk behind a session over these bytes in which each call passes. It has a list of them.
+pub fn played<R: Abort + AllocGlobal>(
+    rt: &R,
+    image: &[u8],
+    requests: &str,
+    replies: &str,
+) -> MemoryDisk {
+    let script = script_of(rt, requests);
+    let lines = lines_of(rt, replies);
+    let call = playing(script.as_str(), 0, lines.as_str());
+    check_over(rt, &call, memory_disk(rt, 2_048, image, &[]))
+}
+
 fn no_barrier(rt: &impl Abort) {
     panic!(rt; "no barrier")
 }
@@ -142,12 +155,9 @@ fn second_barrier(rt: &impl Abort, calls: &[DiskCall]) -> u64 {
 
 const SYNCS: &str = "open /f rw creat;write 3 61;fsync 3;fsync 3;pread 3 1 0";
 
-// The number of the second barrier of a session over the image in which each call passes.
-fn barrier_of<R: Abort + AllocGlobal>(rt: &R, image: &[u8]) -> u64 {
-    let script = script_of(rt, SYNCS);
-    let lines = lines_of(rt, "fd 3/n 1/ok/ok/data 61");
-    let call = playing(script.as_str(), 0, lines.as_str());
-    let disk = check_over(rt, &call, memory_disk(rt, 2_048, image, &[]));
+// The number of that barrier in calm.
+fn failing_barrier<R: Abort + AllocGlobal>(rt: &R, image: &[u8]) -> u64 {
+    let disk = played(rt, image, SYNCS, "fd 3/n 1/ok/ok/data 61");
     second_barrier(rt, disk.medium.calls.as_slice())
 }
 
@@ -162,7 +172,7 @@ fn a_fault_of_the_disk_is_told(rt: HostRuntime) {
         last: FAULT,
     };
     let image = image(&rt, 2_048, making());
-    let fails = barrier_of(&rt, image.as_slice());
+    let fails = failing_barrier(&rt, image.as_slice());
     check_trace(&rt, &row, 2_048, image.as_slice(), &[fails]);
 }
 
