@@ -1,14 +1,17 @@
 use Rattle.std.proofs.Common.{◌≡◌, ◌∙◌}
+use Rattle.std.specs.Prelude.{IfOk, IsTrue}
 use Rattle.ufs_base.specs.Images.{Image}
 use Rattle.ufs_disk.specs.Bytes.{image_of}
 use Rattle.ufs_disk.specs.Moments.{reads}
 use Rattle.ufs_front.specs.Fronts.{bytes_of}
-use Rattle.ufs_start.specs.Begun.{session_start}
+use Rattle.ufs_start.specs.Begun.{IsBegun, session_start}
 use Rattle.ufs_start.specs.Copies.{image_seen}
 use Rattle.ufs_start.specs.declared.parts.Start.{Start}
 use Rattle.ufs_walk.proofs.Maps.{if_ok}
 use Rattle.ufs_start.proofs.Beginning.{of_calm}
 use Rattle.ufs_start.proofs.Copies.{none_there, part_there, seen_is, seen_same, some_there}
+use Rattle.ufs_start.proofs.starting.start_of.Given.{Over}
+use Rattle.ufs_start.proofs.starting.start_of.Goals.{After-drop-copy}
 use Rattle.ufs_start.proofs.starting.start_of.Goals as goal
 
 pub returns-clause-begun : goal.returns-clause-begun
@@ -21,93 +24,44 @@ returns-clause-begun g c =
     let starts : c.session_parts-parts.result.start ≡ session_start (disk.size c.args.disk.now) (image_seen disk.visible (reads (disk.moments c.args.disk.now)) image) = c.session_parts-parts.ensures ∙ (λ i. session_start (size i) (seen i)) in
     some_there disk.visible copy.sectors (disk.size c.args.disk.now) image (reads (disk.moments c.args.disk.now)) c.in_ok-copy.ensures.taken c.in_ok-copy.ensures.copied c.start_in.result c.session_parts-parts.result c.start_in.ensures.parts c.start_in.ensures.begun starts
 
+-- ---- over a visible disk
+
+module _ (g : Over) (c : After-drop-copy g) (visible : IsTrue g.D.Disk.visible) where
+  -- what a server's beginning on the copy tells of the start is told of it on the disk
+  there : (P : Start → Type 0) → ((s : Start) → IsBegun (g.D.Disk.size c.args.disk.now) (reads (g.D.Disk.moments c.args.disk.now)) s → P s) → IfOk c.start_in.result P
+  there P =
+      let disk = g.D.Disk in
+      let copy = c.in_ok-copy.copy in
+      let image : Image = image_of (bytes_of copy) in
+      let size = c.copy_of.ensures.size in
+      let content = (c.copy_of.ensures.read_only visible).content in
+      let seen = seen_is disk.visible (reads (disk.moments c.copy_of.new.disk)) image visible ∙ content in
+      let starts : c.session_parts-parts.result.start ≡ session_start (disk.size c.args.disk.now) (reads (disk.moments c.args.disk.now)) = c.session_parts-parts.ensures ∙ (λ i. session_start (size i) (seen i)) in
+      part_there _ _ _ _ (c.in_ok-copy.ensures.copied visible) c.start_in.result c.session_parts-parts.result c.start_in.ensures.parts c.start_in.ensures.begun starts P
+
 pub returns-clause-standing : goal.returns-clause-standing
-returns-clause-standing g c visible =
-    let disk = g.D.Disk in
-    let copy = c.in_ok-copy.copy in
-    let image : Image = image_of (bytes_of copy) in
-    let size = c.copy_of.ensures.size in
-    let content = (c.copy_of.ensures.read_only visible).content in
-    let seen = seen_is disk.visible (reads (disk.moments c.copy_of.new.disk)) image visible ∙ content in
-    let starts : c.session_parts-parts.result.start ≡ session_start (disk.size c.args.disk.now) (reads (disk.moments c.args.disk.now)) = c.session_parts-parts.ensures ∙ (λ i. session_start (size i) (seen i)) in
-    part_there _ _ _ _ (c.in_ok-copy.ensures.copied visible) c.start_in.result c.session_parts-parts.result c.start_in.ensures.parts c.start_in.ensures.begun starts _ (λ (s : Start) begun. begun.standing)
+returns-clause-standing g c visible = there g c visible _ (λ (s : Start) begun. begun.standing)
 
 pub returns-clause-opened : goal.returns-clause-opened
-returns-clause-opened g c visible =
-    let disk = g.D.Disk in
-    let copy = c.in_ok-copy.copy in
-    let image : Image = image_of (bytes_of copy) in
-    let size = c.copy_of.ensures.size in
-    let content = (c.copy_of.ensures.read_only visible).content in
-    let seen = seen_is disk.visible (reads (disk.moments c.copy_of.new.disk)) image visible ∙ content in
-    let starts : c.session_parts-parts.result.start ≡ session_start (disk.size c.args.disk.now) (reads (disk.moments c.args.disk.now)) = c.session_parts-parts.ensures ∙ (λ i. session_start (size i) (seen i)) in
-    part_there _ _ _ _ (c.in_ok-copy.ensures.copied visible) c.start_in.result c.session_parts-parts.result c.start_in.ensures.parts c.start_in.ensures.begun starts _ (λ (s : Start) begun. begun.opened)
+returns-clause-opened g c visible = there g c visible _ (λ (s : Start) begun. begun.opened)
 
 pub returns-clause-table : goal.returns-clause-table
-returns-clause-table g c visible =
-    let disk = g.D.Disk in
-    let copy = c.in_ok-copy.copy in
-    let image : Image = image_of (bytes_of copy) in
-    let size = c.copy_of.ensures.size in
-    let content = (c.copy_of.ensures.read_only visible).content in
-    let seen = seen_is disk.visible (reads (disk.moments c.copy_of.new.disk)) image visible ∙ content in
-    let starts : c.session_parts-parts.result.start ≡ session_start (disk.size c.args.disk.now) (reads (disk.moments c.args.disk.now)) = c.session_parts-parts.ensures ∙ (λ i. session_start (size i) (seen i)) in
-    part_there _ _ _ _ (c.in_ok-copy.ensures.copied visible) c.start_in.result c.session_parts-parts.result c.start_in.ensures.parts c.start_in.ensures.begun starts _ (λ (s : Start) begun. begun.table)
+returns-clause-table g c visible = there g c visible _ (λ (s : Start) begun. begun.table)
 
 pub returns-clause-names : goal.returns-clause-names
-returns-clause-names g c visible =
-    let disk = g.D.Disk in
-    let copy = c.in_ok-copy.copy in
-    let image : Image = image_of (bytes_of copy) in
-    let size = c.copy_of.ensures.size in
-    let content = (c.copy_of.ensures.read_only visible).content in
-    let seen = seen_is disk.visible (reads (disk.moments c.copy_of.new.disk)) image visible ∙ content in
-    let starts : c.session_parts-parts.result.start ≡ session_start (disk.size c.args.disk.now) (reads (disk.moments c.args.disk.now)) = c.session_parts-parts.ensures ∙ (λ i. session_start (size i) (seen i)) in
-    part_there _ _ _ _ (c.in_ok-copy.ensures.copied visible) c.start_in.result c.session_parts-parts.result c.start_in.ensures.parts c.start_in.ensures.begun starts _ (λ (s : Start) begun. begun.names)
+returns-clause-names g c visible = there g c visible _ (λ (s : Start) begun. begun.names)
 
 pub returns-clause-read : goal.returns-clause-read
-returns-clause-read g c visible =
-    let disk = g.D.Disk in
-    let copy = c.in_ok-copy.copy in
-    let image : Image = image_of (bytes_of copy) in
-    let size = c.copy_of.ensures.size in
-    let content = (c.copy_of.ensures.read_only visible).content in
-    let seen = seen_is disk.visible (reads (disk.moments c.copy_of.new.disk)) image visible ∙ content in
-    let starts : c.session_parts-parts.result.start ≡ session_start (disk.size c.args.disk.now) (reads (disk.moments c.args.disk.now)) = c.session_parts-parts.ensures ∙ (λ i. session_start (size i) (seen i)) in
-    part_there _ _ _ _ (c.in_ok-copy.ensures.copied visible) c.start_in.result c.session_parts-parts.result c.start_in.ensures.parts c.start_in.ensures.begun starts _ (λ (s : Start) begun. begun.read)
+returns-clause-read g c visible = there g c visible _ (λ (s : Start) begun. begun.read)
 
 pub returns-clause-files : goal.returns-clause-files
-returns-clause-files g c visible =
-    let disk = g.D.Disk in
-    let copy = c.in_ok-copy.copy in
-    let image : Image = image_of (bytes_of copy) in
-    let size = c.copy_of.ensures.size in
-    let content = (c.copy_of.ensures.read_only visible).content in
-    let seen = seen_is disk.visible (reads (disk.moments c.copy_of.new.disk)) image visible ∙ content in
-    let starts : c.session_parts-parts.result.start ≡ session_start (disk.size c.args.disk.now) (reads (disk.moments c.args.disk.now)) = c.session_parts-parts.ensures ∙ (λ i. session_start (size i) (seen i)) in
-    part_there _ _ _ _ (c.in_ok-copy.ensures.copied visible) c.start_in.result c.session_parts-parts.result c.start_in.ensures.parts c.start_in.ensures.begun starts _ (λ (s : Start) begun. begun.files)
+returns-clause-files g c visible = there g c visible _ (λ (s : Start) begun. begun.files)
 
 pub returns-clause-free : goal.returns-clause-free
-returns-clause-free g c visible =
-    let disk = g.D.Disk in
-    let copy = c.in_ok-copy.copy in
-    let image : Image = image_of (bytes_of copy) in
-    let size = c.copy_of.ensures.size in
-    let content = (c.copy_of.ensures.read_only visible).content in
-    let seen = seen_is disk.visible (reads (disk.moments c.copy_of.new.disk)) image visible ∙ content in
-    let starts : c.session_parts-parts.result.start ≡ session_start (disk.size c.args.disk.now) (reads (disk.moments c.args.disk.now)) = c.session_parts-parts.ensures ∙ (λ i. session_start (size i) (seen i)) in
-    part_there _ _ _ _ (c.in_ok-copy.ensures.copied visible) c.start_in.result c.session_parts-parts.result c.start_in.ensures.parts c.start_in.ensures.begun starts _ (λ (s : Start) begun. begun.free)
+returns-clause-free g c visible = there g c visible _ (λ (s : Start) begun. begun.free)
 
 pub returns-clause-unread : goal.returns-clause-unread
-returns-clause-unread g c visible =
-    let disk = g.D.Disk in
-    let copy = c.in_ok-copy.copy in
-    let image : Image = image_of (bytes_of copy) in
-    let size = c.copy_of.ensures.size in
-    let content = (c.copy_of.ensures.read_only visible).content in
-    let seen = seen_is disk.visible (reads (disk.moments c.copy_of.new.disk)) image visible ∙ content in
-    let starts : c.session_parts-parts.result.start ≡ session_start (disk.size c.args.disk.now) (reads (disk.moments c.args.disk.now)) = c.session_parts-parts.ensures ∙ (λ i. session_start (size i) (seen i)) in
-    part_there _ _ _ _ (c.in_ok-copy.ensures.copied visible) c.start_in.result c.session_parts-parts.result c.start_in.ensures.parts c.start_in.ensures.begun starts _ (λ (s : Start) begun. begun.unread)
+returns-clause-unread g c visible = there g c visible _ (λ (s : Start) begun. begun.unread)
 
 pub returns-clause-inodes : goal.returns-clause-inodes
 returns-clause-inodes g c = if_ok c.start_in.result _ _ (λ (s : Start) some. some.1.inodes) (returns-clause-begun g c)
