@@ -2,7 +2,7 @@
 use crate::asserts::{holds, same};
 use crate::calls::{check_calls, playing};
 use crate::spoiled::left_by;
-use crate::traces::{Row, check_trace, played};
+use crate::traces::{FAULT, Row, check_trace, played, second_barrier};
 use crate::trees::put_sector;
 use std::alloc::AllocGlobal;
 use std::process::Abort;
@@ -52,6 +52,25 @@ fn a_read_that_fails_stops_nothing(rt: HostRuntime) {
     };
     let image = one_byte(&rt);
     let fails = failing_read(&rt, image.as_slice());
+    check_trace(&rt, &row, 2_048, image.as_slice(), &[fails]);
+}
+
+const STOPS: &str = "open /f r;open /g rw;write 4 62;fsync 4;pread 3 1 0";
+
+// The `fsync` fails at its first barrier. A block that no request has needed before is read all the same.
+#[test]
+fn reads_go_on_once_the_store_has_stopped(rt: HostRuntime) {
+    let row = Row {
+        requests: STOPS,
+        replies: "fd 3/fd 4/n 1/err EIO/data 61",
+        excuses: &[(3, "device 1")],
+        status: 4,
+        last: FAULT,
+    };
+    let made = "open /f rw creat;write 3 61;open /g rw creat;write 4 61;sync";
+    let image = left_by(&rt, made, "fd 3/n 1/fd 4/n 1/ok").bytes;
+    let calm = played(&rt, image.as_slice(), STOPS, "fd 3/fd 4/n 1/ok/data 61");
+    let fails = second_barrier(&rt, calm.medium.calls.as_slice());
     check_trace(&rt, &row, 2_048, image.as_slice(), &[fails]);
 }
 

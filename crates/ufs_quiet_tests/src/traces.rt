@@ -8,7 +8,8 @@ use std::alloc::AllocGlobal;
 use std::process::Abort;
 use ufs_disk::{Call as DiskCall, MemoryDisk, Request};
 
-const FAULT: &str = "ufs: device fault 1\n";
+/// The line of the first fault.
+pub const FAULT: &str = "ufs: device fault 1\n";
 
 /// Excuses, each with the number of its request.
 pub type Excuses<'a> = &'a [(usize, &'a str)];
@@ -138,8 +139,8 @@ fn no_barrier(rt: &impl Abort) {
     panic!(rt; "no barrier")
 }
 
-// The number of the second barrier of these calls. The first is the last call of a session's opening.
-fn second_barrier(rt: &impl Abort, calls: &[DiskCall]) -> u64 {
+/// The number of the second barrier of these calls. The first is the last call of a session's opening.
+pub fn second_barrier(rt: &impl Abort, calls: &[DiskCall]) -> u64 {
     let mut opened = false;
     for (number, call) in calls.iter().enumerate() {
         if let Request::Barrier = call.request {
