@@ -9,6 +9,9 @@ use Rattle.ufs_model.specs.declared.data.Op.{Op}
 use Rattle.ufs_model.specs.declared.data.Op.TheVariants as op
 use Rattle.ufs_file.specs.Content.{AreThere, Content, block_count, grown, shortened, written_over}
 use Rattle.ufs_file.specs.Hand.{FileState, content_after, content_put, content_sized, lengthened, whole_as}
+use Rattle.ufs_file.specs.Lists.{over}
+use Rattle.ufs_file.proofs.CoverLemmas.{marked_same}
+use Rattle.ufs_file.proofs.ThereLemmas.{all_there}
 use Rattle.ufs_file.proofs.HandLemmas.{dirty-grown, length-marks_cut}
 use Rattle.ufs_file.proofs.OverLemmas.{length-over}
 
@@ -64,7 +67,9 @@ module _ (c : Content) (marked : length c.dirty ≡ block_count (length c.bytes)
       by : (b : Bool) → IsAllThere (cond b c (written_over (lengthened c (at + length fresh)) at fresh))
       by true = all
       by false =
-          all_long (at + length fresh)
+          ap (λ (l : List Bool). over l (at / 4096) (replicate (block_count (at + length fresh) - at / 4096) true)) (all_long (at + length fresh))
+          ∙ marked_same (replicate (length (lengthened c (at + length fresh)).dirty) true) (at / 4096) (block_count (at + length fresh)) (omega (arith, room, length-replicate {A = Bool} (length (lengthened c (at + length fresh)).dirty) true))
+          (all_there (length (lengthened c (at + length fresh)).dirty) (at / 4096) (block_count (at + length fresh)) room)
           ∙ ap (λ (k : ℕ). replicate k true)
           (sym (length-over (lengthened c (at + length fresh)).dirty (at / 4096) (replicate (block_count (at + length fresh) - at / 4096) true) (omega (arith, room, long))))
 

@@ -13,11 +13,12 @@ use Rattle.ufs_model.specs.declared.data.Op.{Op}
 use Rattle.ufs_model.specs.declared.data.Op.TheVariants as op
 use Rattle.ufs_file.specs.Lists.{over}
 use Rattle.ufs_file.specs.Content.{AreThere, Content, block_count, own_bytes, grown, shortened, written_over}
-use Rattle.ufs_file.specs.Hand.{HasNeeded, content_after, content_by, content_put, content_sized, lengthened, write_end, write_from}
+use Rattle.ufs_file.specs.Hand.{HasForWrite, HasNeeded, content_after, content_by, content_put, content_sized, lengthened}
 use Rattle.ufs_file.proofs.ByteLemmas.{own_agrees, byte_padded, byte_resized, length-resized}
 use Rattle.ufs_file.proofs.FilledLemmas.{same_refusal}
 use Rattle.ufs_file.proofs.HandLemmas.{length-lengthened, long_bytes, put_bytes}
-use Rattle.ufs_file.proofs.NeededLemmas.{there_end, there_put}
+use Rattle.ufs_file.proofs.CoverLemmas.{length-marked, marked_out, marked_there}
+use Rattle.ufs_file.proofs.NeededLemmas.{cut_there, long_there}
 use Rattle.ufs_file.proofs.OverLemmas.{length-over}
 use Rattle.ufs_file.proofs.SpanLemmas.{over-before, over-past}
 
@@ -78,14 +79,25 @@ module _ (c : Content) (bytes : List ℕ) (long : length bytes ≡ length c.byte
     length-put = length-over (lengthened other (at + length fresh)).bytes at fresh fits ∙ length-lengthened other (at + length fresh)
 
     -- a block that isn't in memory ends where it did
-    put_ends : 0 < length fresh → AreThere c.there (write_from (length c.bytes) at) (write_end (length c.bytes) at (length fresh)) → slice_get c.there place ≡ Some false
+    put_ends : 0 < length fresh → HasForWrite c at (length fresh) → slice_get c.there place ≡ Some false → (place < at / 4096) ⊎ (block_count (at + length fresh) ≤ place)
         → min (length (over (lengthened other (at + length fresh)).bytes at fresh)) (4096 * place + 4096) ≡ min (length bytes) (4096 * place + 4096)
-    put_ends some needed was = by (cases_lt (length c.bytes) (at + length fresh))
+    put_ends some needed was side = by (cases_lt (length c.bytes) (at + length fresh))
       where
+        under : place < block_count (length c.bytes)
+        under = omega (arith, count, slice_get_within c.there place false was)
+
+        -- the block in which the file ends is cut, if it lies before those that are written
+        whole : length c.bytes < at + length fresh → (place < at / 4096) ⊎ (block_count (at + length fresh) ≤ place) → (place < length c.bytes / 4096) ⊎ (length c.bytes / 4096 ≤ place)
+            → 4096 * place + 4096 ≤ length c.bytes
+        whole longer _ (inl less) = omega (arith, less)
+        whole longer (inl below) (inr from) =
+            absurd (not_there c.there place (cut_there c at (length fresh) some needed place (omega (arith, from)) (omega (arith, under, longer)) (inl (omega (arith, below, under)))) was)
+        whole longer (inr past) (inr from) = absurd (omega (arith, past, under, longer))
+
         by : (length c.bytes < at + length fresh) ⊎ (at + length fresh ≤ length c.bytes)
             → min (length (over (lengthened other (at + length fresh)).bytes at fresh)) (4096 * place + 4096) ≡ min (length bytes) (4096 * place + 4096)
         by (inl longer) =
-            let inside = whole_block (there_end c at fresh some longer needed) was in
+            let inside = whole longer side (cases_lt place (length c.bytes / 4096)) in
             omega (arith, length-put, long, inside)
         by (inr within) = omega (arith, length-put, long, within)
 
@@ -102,7 +114,7 @@ module _ (c : Content) (bytes : List ℕ) (long : length bytes ≡ length c.byte
         each k low high (inr past) =
             over-past (lengthened other (at + length fresh)).bytes fresh at k 0 fits (omega (arith, low, past)) ∙ long_same (at + length fresh) k
 
-    put_away : AreThere c.there (write_from (length c.bytes) at) (write_end (length c.bytes) at (length fresh)) → slice_get (content_put c at fresh).there place ≡ Some false
+    put_away : HasForWrite c at (length fresh) → slice_get (content_put c at fresh).there place ≡ Some false
         → WasAway c bytes (cond (eqb (length fresh) 0) bytes (put_at bytes at fresh)) place
     put_away needed = by (eqb (length fresh) 0) refl
       where
@@ -111,16 +123,32 @@ module _ (c : Content) (bytes : List ℕ) (long : length bytes ≡ length c.byte
         by true e is = (is, refl)
         by false e is =
             (let some : length fresh ≡ 0 → ⊥ = eqb-false (length fresh) 0 e in
-            let there = there_put c at fresh count (omega (arith, some)) needed in
-            let was = away_long c (at + length fresh) place is in
-            (was, beside (put_ends (omega (arith, some)) needed was) (side there is (cases_lt place (at / 4096)) (cases_lt place (block_count (at + length fresh))))))
+            let out = side is (cases_lt place (at / 4096)) (cases_lt place (block_count (at + length fresh))) in
+            let was = away_long c (at + length fresh) place (old is out) in
+            (was, beside (put_ends (omega (arith, some)) needed was out) out))
           where
-            side : AreThere (lengthened c (at + length fresh)).there (at / 4096) (block_count (at + length fresh)) → slice_get (lengthened c (at + length fresh)).there place ≡ Some false
-                → (place < at / 4096) ⊎ (at / 4096 ≤ place) → (place < block_count (at + length fresh)) ⊎ (block_count (at + length fresh) ≤ place)
-                → (place < at / 4096) ⊎ (block_count (at + length fresh) ≤ place)
-            side there is (inl less) _ = inl less
-            side there is (inr from) (inl less) = absurd (not_there (lengthened c (at + length fresh)).there place (there place from less) is)
-            side there is (inr from) (inr past) = inr past
+            ms : List Bool
+            ms = (lengthened c (at + length fresh)).there
+
+            from : ℕ
+            from = at / 4096
+
+            to : ℕ
+            to = block_count (at + length fresh)
+
+            room : block_count (at + length fresh) ≤ length (lengthened c (at + length fresh)).there
+            room = long_there c (at + length fresh) count
+
+            side : slice_get (over ms from (replicate (to - from) true)) place ≡ Some false → (place < at / 4096) ⊎ (at / 4096 ≤ place)
+                → (place < block_count (at + length fresh)) ⊎ (block_count (at + length fresh) ≤ place) → (place < at / 4096) ⊎ (block_count (at + length fresh) ≤ place)
+            side is (inl less) _ = inl less
+            side is (inr low) (inl less) = absurd (not_there (over ms from (replicate (to - from) true)) place (marked_there ms from to room place low less) is)
+            side is (inr low) (inr past) = inr past
+
+            old : slice_get (over ms from (replicate (to - from) true)) place ≡ Some false → (place < at / 4096) ⊎ (block_count (at + length fresh) ≤ place) → slice_get ms place ≡ Some false
+            old is out = no_mark ms place
+                (omega (arith, slice_get_within (over ms from (replicate (to - from) true)) place false is, length-marked ms from to room))
+                (sym (marked_out ms from to room place true out) ∙ get_or_from_slice_get (over ms from (replicate (to - from) true)) place false true is)
 
   module _ (size : ℕ) where
     cut_away : size < length c.bytes → AreThere c.there (min size (length c.bytes) / 4096) (block_count (min size (length c.bytes))) → slice_get (take (block_count size) c.there) place ≡ Some false
@@ -157,9 +185,9 @@ module _ (c : Content) (bytes : List ℕ) (long : length bytes ≡ length c.byte
 
   after_away : (d : Desc) (request : Op) → HasNeeded c d request → slice_get (content_after c d request).there place ≡ Some false → WasAway c bytes (bytes_after bytes d request) place
   after_away d (op.Write fd fresh) needed is =
-      subst (λ (n : ℕ). WasAway c bytes (cond (eqb (length fresh) 0) bytes (put_at bytes (cond d.append n d.at) fresh)) place) (sym long) (put_away (place_of d c.bytes) fresh needed is)
-  after_away d (op.Pwrite fd fresh at) needed is = put_away at fresh needed is
-  after_away d (op.Trunc fd size) needed is = sized_away size needed is
+      subst (λ (n : ℕ). WasAway c bytes (cond (eqb (length fresh) 0) bytes (put_at bytes (cond d.append n d.at) fresh)) place) (sym long) (put_away (place_of d c.bytes) fresh (λ p low less cut. needed p (record { from = low; below = less; used = cut })) is)
+  after_away d (op.Pwrite fd fresh at) needed is = put_away at fresh (λ p low less cut. needed p (record { from = low; below = less; used = cut })) is
+  after_away d (op.Trunc fd size) needed is = sized_away size (λ p low less. needed p (record { from = low; below = less; used = tt })) is
   after_away d (op.Read fd n) needed is = (is, refl)
   after_away d (op.Pread fd n at) needed is = (is, refl)
   after_away d (op.Seek fd from by) needed is = (is, refl)

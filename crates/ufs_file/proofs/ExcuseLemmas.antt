@@ -27,7 +27,7 @@ use Rattle.ufs_file.proofs.HandLemmas.{length-lengthened, most_extents}
 
 -- ---- sizes
 
-size_put : (c : Content) (at : ℕ) (fresh : List ℕ) → size_after (length c.bytes) at (length fresh) ≡ length (content_put c at fresh).bytes
+pub size_put : (c : Content) (at : ℕ) (fresh : List ℕ) → size_after (length c.bytes) at (length fresh) ≡ length (content_put c at fresh).bytes
 size_put c at fresh = by (eqb (length fresh) 0)
   where
     end : ℕ
@@ -44,7 +44,7 @@ size_put c at fresh = by (eqb (length fresh) 0)
         (let long = length-lengthened c (at + length fresh) in
         more (ltb (length c.bytes) (at + length fresh)) refl ∙ sym long ∙ sym (length-over (lengthened c (at + length fresh)).bytes at fresh (omega (arith, long))))
 
-size_sized : (c : Content) (size : ℕ) → size ≡ length (content_sized c size).bytes
+pub size_sized : (c : Content) (size : ℕ) → size ≡ length (content_sized c size).bytes
 size_sized c size = by (ltb size (length c.bytes)) refl
   where
     by : (b : Bool) → ltb size (length c.bytes) ≡ b → size ≡ length (cond {A = Content} b (shortened c size) (lengthened c size)).bytes

@@ -11,7 +11,7 @@ use Rattle.ufs_extent.proofs.PlaceLemmas.{first_runs-all, last_runs-all, blocks_
 use Rattle.ufs_bitmap.specs.Blocks.{BlockSet}
 use Rattle.ufs_bitmap.proofs.SetLemmas.{has-union, same_blocks}
 use Rattle.ufs_file.specs.Lists.{over}
-use Rattle.ufs_file.specs.Content.{Content, IsContentOf, block_count, grown, written_over, marks_cut, shortened}
+use Rattle.ufs_file.specs.Content.{Content, IsContentOf, block_count, covered, grown, written_over, marks_cut, shortened}
 use Rattle.ufs_bitmap.specs.Taking.{Takes, IsApart, set_of, has}
 use Rattle.ufs_file.specs.Hand.{FileState, HasBlocks, IsChanged, IsServedByFile, lengthened, content_put, content_after, content_by, IsOf, IsPosix, whole_as}
 use Rattle.ufs_model.specs.FileCalls.{IsFileIn, Step, StepsArePosix, is_on_file, file_refusal, file_answer, file_step, step_by, desc_after, bytes_after}
@@ -152,14 +152,30 @@ put_size c at fresh some =
     let long = lengthened c (at + length fresh) in
     ap (λ (v : Content). length v.bytes) (put_some c at fresh some) ∙ length-over long.bytes at fresh (omega (arith, length-lengthened c (at + length fresh)))
 
-pub put_changed : (old mid new : FileState) (before after : BlockSet) (at : ℕ) (fresh : List ℕ) → 0 < length fresh → IsChanged old mid before after (lengthened old.content (at + length fresh))
+pub long_bytes : (c : Content) (size : ℕ) → (lengthened c size).bytes ≡ c.bytes ++ replicate (size - length c.bytes) 0
+long_bytes c size = by (ltb (length c.bytes) size) refl
+  where
+    by : (b : Bool) → ltb (length c.bytes) size ≡ b → (cond {A = Content} b (grown c size) c).bytes ≡ c.bytes ++ replicate (size - length c.bytes) 0
+    by true e = refl
+    by false e =
+        (let le = ltb-false (length c.bytes) size e in
+        let none : 0 ≡ size - length c.bytes = omega (arith, le) in
+        sym (append-nil c.bytes) ∙ ap (λ k. c.bytes ++ replicate k 0) none)
+
+-- which blocks are in memory doesn't tell in the bytes
+pub covered_bytes : (c : Content) (from to size : ℕ) → (lengthened (covered c from to) size).bytes ≡ (lengthened c size).bytes
+covered_bytes c from to size = long_bytes (covered c from to) size ∙ sym (long_bytes c size)
+
+pub put_changed : (old mid new : FileState) (before after : BlockSet) (at from to : ℕ) (fresh : List ℕ) → 0 < length fresh → IsChanged old mid before after (lengthened (covered old.content from to) (at + length fresh))
+    → written_over (lengthened (covered old.content from to) (at + length fresh)) at fresh ≡ written_over (lengthened old.content (at + length fresh)) at fresh
     → new ≡ record mid { content = written_over mid.content at fresh } → IsChanged old new before after (content_put old.content at fresh)
-put_changed old mid new before after at fresh some h is =
-    let size : length (content_put old.content at fresh).bytes ≡ length (lengthened old.content (at + length fresh)).bytes = put_size old.content at fresh some in
+put_changed old mid new before after at from to fresh some h same is =
+    let size : length (content_put old.content at fresh).bytes ≡ length (lengthened (covered old.content from to) (at + length fresh)).bytes =
+    put_size old.content at fresh some ∙ ap length (sym (covered_bytes old.content from to (at + length fresh))) in
     record {
       same_file = ap (λ (f : FileState). f.file) is ∙ h.same_file;
       same_inode = ap (λ (f : FileState). f.inode) is ∙ h.same_inode;
-      content_is = ap (λ (f : FileState). f.content) is ∙ ap (λ (v : Content). written_over v at fresh) h.content_is ∙ sym (put_some old.content at fresh some);
+      content_is = ap (λ (f : FileState). f.content) is ∙ ap (λ (v : Content). written_over v at fresh) h.content_is ∙ same ∙ sym (put_some old.content at fresh some);
       blocks = subst (λ (e : List Run). HasBlocks old.extents e before after (block_count (length (content_put old.content at fresh).bytes))) (sym (ap (λ (f : FileState). f.extents) is))
           (subst (λ (n : ℕ). HasBlocks old.extents mid.extents before after (block_count n)) (sym size) h.blocks);
     }
@@ -179,17 +195,7 @@ cut_changed old new before after size n rest is le inside f i e r p v =
           (subst (λ (l : List Run). HasBlocks old.extents l before (set.union before (set_of (last_runs old.extents n))) n) (sym e) (has_kept old.extents before n le)));
     }
 
--- ---- the bytes
-
-pub long_bytes : (c : Content) (size : ℕ) → (lengthened c size).bytes ≡ c.bytes ++ replicate (size - length c.bytes) 0
-long_bytes c size = by (ltb (length c.bytes) size) refl
-  where
-    by : (b : Bool) → ltb (length c.bytes) size ≡ b → (cond {A = Content} b (grown c size) c).bytes ≡ c.bytes ++ replicate (size - length c.bytes) 0
-    by true e = refl
-    by false e =
-        (let le = ltb-false (length c.bytes) size e in
-        let none : 0 ≡ size - length c.bytes = omega (arith, le) in
-        sym (append-nil c.bytes) ∙ ap (λ k. c.bytes ++ replicate k 0) none)
+-- ---- the bytes that a request leaves
 
 pub put_bytes : (c : Content) (at : ℕ) (fresh : List ℕ) → over (lengthened c (at + length fresh)).bytes at fresh ≡ put_at c.bytes at fresh
 put_bytes c at fresh =

@@ -1,6 +1,7 @@
 pub mod OverLemmas
 pub mod SpanLemmas
 pub mod TableLemmas
+pub mod CoverLemmas
 pub mod ThereLemmas
 pub mod ContentLemmas
 pub mod ByteLemmas

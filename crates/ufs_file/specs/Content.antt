@@ -29,12 +29,16 @@ grown c size = record {
   there = c.there ++ replicate (block_count size - length c.there) true;
 }
 
--- bytes over those that are there
+-- The blocks from one place on, below another, are in memory: zeros stand in those that weren't.
+abbrev pub covered : Content → ℕ → ℕ → Content
+covered c from to = record c { there = over c.there from (replicate (to - from) true) }
+
+-- bytes over those that are there; the blocks in which they lie are in memory, and written
 abbrev pub written_over : Content → ℕ → List ℕ → Content
 written_over c at fresh = record {
   bytes = over c.bytes at fresh;
   dirty = over c.dirty (at / BLOCK) (replicate (block_count (at + length fresh) - at / BLOCK) true);
-  there = c.there;
+  there = over c.there (at / BLOCK) (replicate (block_count (at + length fresh) - at / BLOCK) true);
 }
 
 -- the marks of what a cut leaves: the block that it goes through is written

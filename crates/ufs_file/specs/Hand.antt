@@ -1,5 +1,5 @@
 -- One file, as a server holds it.
-use Rattle.std.specs.Prelude.{ℕ, ◌+◌, ◌-◌, ◌/◌, ◌≡◌, ◌<◌, ◌≤◌, ⊤, true, min, List, length, replicate, Option, Some, None, ◌==◌, nat_lt, if◌then◌else◌}
+use Rattle.std.specs.Prelude.{ℕ, ◌+◌, ◌-◌, ◌*◌, ◌/◌, ◌≡◌, ◌<◌, ◌≤◌, ◌⊎◌, ⊤, true, min, List, length, replicate, slice_get, Option, Some, None, ◌==◌, nat_lt, if◌then◌else◌}
 use Rattle.std.specs.FinSet as set
 use Rattle.std.specs.FinMap as map
 use Rattle.ufs_base.specs.declared.sizes.TheConstants.{BLOCK, MAX_EXTENTS}
@@ -20,7 +20,7 @@ use Rattle.ufs_model.specs.declared.data.Excuse.TheVariants as excuse
 use Rattle.ufs_extent.specs.declared.Run.{Run}
 use Rattle.ufs_extent.specs.Runs.{blocks_of, appended_all, first_runs, last_runs}
 use Rattle.ufs_bitmap.specs.Blocks.{BlockSet}
-use Rattle.ufs_file.specs.Content.{Content, AreThere, IsContentOf, block_count, grown, written_over, shortened}
+use Rattle.ufs_file.specs.Content.{Content, IsContentOf, block_count, grown, written_over, shortened}
 use Rattle.ufs_bitmap.specs.Taking.{Takes, set_of}
 use Rattle.ufs_model.specs.FileCalls.{IsFileIn, file_refusal, file_step}
 
@@ -36,7 +36,7 @@ pub record FileState : Type 0 where
 abbrev pub whole_as : List ℕ → FileState → FileState
 whole_as bytes f = record f { content = record { bytes = bytes; dirty = f.content.dirty; there = replicate (length f.content.dirty) true } }
 
--- ---- which blocks a request needs in memory, by the file's size: those from one place on, below another
+-- ---- which blocks a request needs in memory, by the file's size: of those from one place on, below another
 
 -- that in which a read begins; behind the last block it needs none
 abbrev pub read_from : ℕ → ℕ → ℕ
@@ -50,7 +50,7 @@ end_within size at count = block_count (min (at + count) size)
 abbrev pub write_place : Desc → ℕ → ℕ
 write_place d size = if d.append then size else d.at
 
--- A write needs the blocks of the file in which it lies, and one behind the end the block in which that lies.
+-- A write needs blocks of the file in which it lies, and one behind the end the block in which that lies.
 abbrev pub write_from : ℕ → ℕ → ℕ
 write_from size at = min at size / BLOCK
 
@@ -74,9 +74,30 @@ needed_end size d (op.Pwrite fd fresh at) = write_end size at (length fresh)
 needed_end size d (op.Trunc fd size') = block_count (min size' size)
 needed_end size d _ = 0
 
+-- Of the block at this place some byte of the file stays beside what is written: one before it, or one behind it.
+abbrev pub IsCutBy : ℕ → ℕ → ℕ → ℕ → Type 0
+IsCutBy size at count place = (BLOCK * place < min at size) ⊎ (at + count < min size (BLOCK * (place + 1)))
+
+-- The request has a use for what the block has: a write for that of one that it cuts, another for that of each.
+abbrev pub IsUsed : ℕ → Desc → Op → ℕ → Type 0
+IsUsed size d (op.Write fd fresh) place = IsCutBy size (write_place d size) (length fresh) place
+IsUsed size d (op.Pwrite fd fresh at) place = IsCutBy size at (length fresh) place
+IsUsed size d _ place = ⊤
+
+-- The request needs the block at this place in memory.
+pub record IsNeeded (size : ℕ) (d : Desc) (request : Op) (place : ℕ) : Type 0 where
+  pub from : needed_from size d request ≤ place
+  pub below : place < needed_end size d request
+  pub used : IsUsed size d request place
+
 -- The blocks that a request needs are in memory.
 abbrev pub HasNeeded : Content → Desc → Op → Type 0
-HasNeeded c d request = AreThere c.there (needed_from (length c.bytes) d request) (needed_end (length c.bytes) d request)
+HasNeeded c d request = (place : ℕ) → IsNeeded (length c.bytes) d request place → slice_get c.there place ≡ Some true
+
+-- those that a write of so many bytes needs
+abbrev pub HasForWrite : Content → ℕ → ℕ → Type 0
+HasForWrite c at count = (place : ℕ) → write_from (length c.bytes) at ≤ place → place < write_end (length c.bytes) at count → IsCutBy (length c.bytes) at count place
+    → slice_get c.there place ≡ Some true
 
 -- ---- what a request leaves in memory
 

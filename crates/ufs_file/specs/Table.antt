@@ -1,5 +1,7 @@
 -- What a file's blocks in memory stand for.
-use Rattle.std.specs.Prelude.{◌≡◌, ℕ, ◌+◌, ◌*◌, ◌-◌, ◌<◌, ◌≤◌, List, [], ◌∷◌, ◌++◌, map, drop, replicate, length, All, Bool, true, if◌then◌else◌}
+use Rattle.std.specs.Prelude.{◌≡◌, ℕ, suc, ◌+◌, ◌*◌, ◌-◌, ◌<◌, ◌≤◌, List, [], ◌∷◌, ◌++◌, map, take, drop, replicate, length, All, Bool, true, if◌then◌else◌}
+use Rattle.std.specs.declared.alloc.Global.{Global}
+use Rattle.std.specs.declared.vec.Vec.{Vec}
 use Rattle.ufs_base.specs.declared.sizes.TheConstants.{BLOCK}
 use Rattle.ufs_file.specs.Span.{AreWithin}
 use Rattle.ufs_file.specs.declared.blocks.Block.{Block}
@@ -26,6 +28,19 @@ marks_of bs = map (λ (b : Block). b.dirty) bs
 -- which blocks are in memory
 abbrev pub there_of : List Block → List Bool
 there_of bs = map (λ (b : Block). b.there) bs
+
+-- how many of them aren't
+abbrev pub absent : List Bool → ℕ
+absent [] = 0
+absent (there ∷ rest) = if there then absent rest else suc (absent rest)
+
+-- of those from one place on, below another
+abbrev pub absent_within : List Bool → ℕ → ℕ → ℕ
+absent_within there from to = absent (take (to - from) (drop from there))
+
+-- the bytes of a block of zeros
+abbrev pub IsZeros : Vec ℕ Global → Type 0
+IsZeros v = v.items ≡ replicate BLOCK 0
 
 -- A block that is in memory is there whole, and no other one was written.
 pub record IsWhole (b : Block) : Type 0 where

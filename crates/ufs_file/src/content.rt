@@ -5,6 +5,7 @@ use crate::blocks::{
     Block, absent_blocks, clean_all, cut_over, fill_at, mark_rest, piece, put_over, read_over,
     zero_blocks,
 };
+use crate::cover::{cover_all, spare_for};
 use crate::span::Span;
 use std::alloc::Global;
 use std::marker::Model;
@@ -41,7 +42,7 @@ impl Model for Blocks {
 impl Blocks {
     ghost use Rattle.std.specs.Prelude.{ℕ, ◌≡◌, ◌+◌, ◌-◌, ◌*◌, ◌/◌, ◌≤◌, ◌<◌, ◌++◌, length, max, min, take, replicate, slice_get, IfOk, OnOk, OnErr, IfSome, IfNone, Some, true, false};
     ghost use Rattle.ufs_model.specs.FileBytes.{part};
-    ghost use Rattle.ufs_file.specs.Content.{AreThere, Content, no_content, as_read, block_bytes, block_count, cleaned, grown, loaded, written_over, shortened, unread};
+    ghost use Rattle.ufs_file.specs.Content.{AreThere, Content, no_content, as_read, block_bytes, block_count, cleaned, covered, grown, loaded, written_over, shortened, unread};
     ghost use Rattle.ufs_file.specs.Hand.{end_within, read_from};
     ghost use Rattle.ufs_file.specs.Table.{max_held};
 
@@ -63,7 +64,7 @@ impl Blocks {
         ensures { IfOk result (λ b. b ≡ as_read bytes.now) }
     {
         let mut blocks = Blocks::new(alloc);
-        blocks.grow(bytes.len() as u64)?;
+        blocks.grow(bytes.len() as u64, 0, 0)?;
         blocks.fill(bytes);
         blocks.clean();
         Ok(blocks)
@@ -132,21 +133,35 @@ impl Blocks {
         Ok(got)
     }
 
-    /// Lengthens the file with zeros. No byte that is there moves. The block in which the file ended is written: the disk may
-    /// have other bytes behind the end.
-    pub fn grow(&mut self, size: u64) -> Result<(), Memory>
+    /// The blocks from one place on, below another, are in memory: zeros stand in those that weren't. For these it takes memory.
+    pub fn cover(&mut self, from: usize, to: usize) -> Result<(), Memory>
+        requires { to ≤ length self.old.there }
+        ensures ok { OnOk result (self.new ≡ covered self.old from to) }
+        ensures err { OnErr result (self.new ≡ self.old) }
+    {
+        let spare = spare_for(self.alloc, self.table.as_slice(), from, to)?;
+        cover_all(&mut self.table, from, to, spare);
+        Ok(())
+    }
+
+    /// Lengthens the file with zeros, where it also has the blocks from one place on, below another, in memory. No byte that is
+    /// there moves. The block in which the file ended is written: the disk may have other bytes behind the end.
+    pub fn grow(&mut self, size: u64, from: usize, to: usize) -> Result<(), Memory>
         requires longer { length self.old.bytes ≤ size }
         requires small { size ≤ max_held }
-        requires there { AreThere self.old.there (length self.old.bytes / BLOCK) (block_count (length self.old.bytes)) }
-        ensures ok { OnOk result (self.new ≡ grown self.old size) }
+        requires inside { to ≤ length self.old.there }
+        requires there { AreThere (covered self.old from to).there (length self.old.bytes / BLOCK) (block_count (length self.old.bytes)) }
+        ensures ok { OnOk result (self.new ≡ grown (covered self.old from to) size) }
         ensures err { OnErr result (self.new ≡ self.old) }
     {
         let size = size as usize;
         let first = self.size / BLOCK;
         let held = self.table.len();
         let count = size.div_ceil(BLOCK) - held;
+        let spare = spare_for(self.alloc, self.table.as_slice(), from, to)?;
         let mut more = zero_blocks(self.alloc, count)?;
         self.table.append(&mut more)?;
+        cover_all(&mut self.table, from, to, spare);
         mark_rest(&mut self.table, first, held);
         self.span = self.span.widened(first, held + count);
         self.size = size;

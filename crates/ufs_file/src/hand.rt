@@ -6,7 +6,7 @@ ghost use Rattle.ufs_file.specs.Hand.{IsEntryOf};
 
 use crate::answers::answered;
 use crate::content::Blocks;
-use crate::needed::{cut_places, read_places, write_places};
+use crate::needed::{cut_places, is_cut_by, read_places, write_places};
 use std::alloc::Global;
 use std::marker::Model;
 use std::ops::Range;
@@ -65,11 +65,11 @@ impl FileHand {
     ghost use Rattle.ufs_model.specs.declared.data.Reply.TheVariants.{Got};
     ghost use Rattle.ufs_model.specs.declared.data.Excuse.TheVariants as excuse;
     ghost use Rattle.ufs_extent.specs.Runs.{IsRun, blocks_of, appended_all};
-    ghost use Rattle.ufs_file.specs.Content.{AreThere, IsContentOf, as_read, no_content, block_bytes, block_count, cleaned, loaded, own_bytes, shortened, unread, written_over};
+    ghost use Rattle.ufs_file.specs.Content.{AreThere, IsContentOf, as_read, no_content, block_bytes, block_count, cleaned, covered, loaded, own_bytes, shortened, unread, written_over};
     ghost use Rattle.ufs_bitmap.specs.Taking.{IsApart, Takes, set_of};
     ghost use Rattle.ufs_model.specs.FileCalls.{is_on_file, place_refusal, file_refusal, file_answer, file_step, desc_after};
     ghost use Rattle.ufs_file.specs.Table.{max_held};
-    ghost use Rattle.ufs_file.specs.Hand.{FileState, HasNeeded, needed_from, needed_end, end_within, read_from, write_from, write_end, IsCause, IsChanged, lengthened, content_put, content_sized, content_after, missing, IsServedByFile, IsExcusedFor, IsEntryOf, IsOf, IsFileOf, IsPosix, whole_as};
+    ghost use Rattle.ufs_file.specs.Hand.{FileState, HasForWrite, HasNeeded, IsNeeded, IsUsed, needed_from, needed_end, end_within, read_from, write_from, write_end, IsCause, IsChanged, lengthened, content_put, content_sized, content_after, missing, IsServedByFile, IsExcusedFor, IsEntryOf, IsOf, IsFileOf, IsPosix, whole_as};
     ghost use Rattle.ufs_model.specs.PosixTree.{PosixTree};
     ghost use Rattle.ufs_model.specs.Asks.{IsAsk};
     ghost use Rattle.ufs_model.specs.Excuses.{ExcuseFits};
@@ -140,7 +140,7 @@ impl FileHand {
     /// Serves a request on a descriptor of the file: the reply and the descriptor are those of the step of its bytes,
     /// and the file goes on by it; blocks that it lacks come from the pool, and those that it has no use for go back.
     /// Where room is wanting the reply is the excuse for its cause, and nothing has changed. The caller gives the ticket, and
-    /// has loaded each block of `needed_places`, unless the request is refused. What is served, and how the file goes on,
+    /// has loaded each block that the request `needs`, unless it is refused. What is served, and how the file goes on,
     /// holds for whatever bytes the other blocks have on the disk. A block that isn't in memory afterwards wasn't before, and
     /// keeps its bytes.
     pub fn apply(&mut self, ask: Ask, by: Actor, ticket: u64, pool: &mut Pool) -> Applied
@@ -236,7 +236,7 @@ impl FileHand {
         self.blocks.is_there(place)
     }
 
-    /// The places of the blocks that a request on a descriptor of the file needs in memory.
+    /// The places among which are those of the blocks that a request on a descriptor of the file needs in memory.
     pub fn needed_places(&self, op: &Op, desc: Desc) -> Range<u32>
         ensures from { result.start ≡ needed_from (length self.now.content.bytes) desc op.now }
         ensures end { result.end ≡ needed_end (length self.now.content.bytes) desc op.now }
@@ -256,6 +256,39 @@ impl FileHand {
         }
     }
 
+    /// Whether a request on a descriptor of the file needs the block at this place in memory. A write doesn't need one that it
+    /// covers, as far as the file has it.
+    pub fn needs(&self, op: &Op, desc: Desc, place: u32) -> bool
+        ensures yes { result ≡ true → IsNeeded (length self.now.content.bytes) desc op.now place }
+        ensures no { result ≡ false → IsNeeded (length self.now.content.bytes) desc op.now place → ⊥ }
+    {
+        let places = self.needed_places(op, desc);
+        if place < places.start || place >= places.end {
+            return false;
+        }
+        self.uses(op, desc, place)
+    }
+
+    // Whether a request has a use for what the block at this place has.
+    fn uses(&self, op: &Op, desc: Desc, place: u32) -> bool
+        ensures yes { result ≡ true → IsUsed (length self.now.content.bytes) desc op.now place }
+        ensures no { result ≡ false → IsUsed (length self.now.content.bytes) desc op.now place → ⊥ }
+    {
+        let held = self.size();
+        match op {
+            Op::Write { bytes, .. } => is_cut_by(
+                held,
+                self.place(desc),
+                bytes.as_slice().len() as u64,
+                place,
+            ),
+            Op::Pwrite { bytes, at, .. } => {
+                is_cut_by(held, *at, bytes.as_slice().len() as u64, place)
+            }
+            _ => true,
+        }
+    }
+
     /// Whether a request on a descriptor of the file may be applied: it is refused, or the blocks that it needs are in memory.
     pub fn is_ready(&self, op: &Op, desc: Desc) -> bool
         requires { is_on_file op.now ≡ true }
@@ -266,21 +299,32 @@ impl FileHand {
         if self.refusal(op, desc).is_some() {
             return true;
         }
-        let places = self.needed_places(op, desc);
-        self.are_there(places.start, places.end)
+        self.has_needed(op, desc)
     }
 
-    // Whether the blocks from one place on, below another, are in memory.
-    fn are_there(&self, from: u32, end: u32) -> bool
-        ensures yes { result ≡ true → AreThere self.now.content.there from end }
-        ensures no { result ≡ false → AreThere self.now.content.there from end → ⊥ }
+    // Whether the blocks that a request needs are in memory.
+    fn has_needed(&self, op: &Op, desc: Desc) -> bool
+        ensures yes { result ≡ true → HasNeeded self.now.content desc op.now }
+        ensures no { result ≡ false → HasNeeded self.now.content desc op.now → ⊥ }
     {
-        for place in from..end {
-            if !self.has_block(place as usize) {
+        let places = self.needed_places(op, desc);
+        for place in places.start..places.end {
+            if self.lacks(op, desc, place) {
                 return false;
             }
         }
         true
+    }
+
+    // Whether the block at this place isn't in memory, and a request needs it.
+    fn lacks(&self, op: &Op, desc: Desc, place: u32) -> bool
+        ensures yes { result ≡ false → IsNeeded (length self.now.content.bytes) desc op.now place → slice_get self.now.content.there place ≡ Some true }
+        ensures no { result ≡ true → HasNeeded self.now.content desc op.now → ⊥ }
+    {
+        if self.has_block(place as usize) {
+            return false;
+        }
+        self.needs(op, desc, place)
     }
 
     // Whether the block at this place is in memory.
@@ -532,31 +576,48 @@ impl FileHand {
         Ok(runs)
     }
 
-    // Lengthens the file, where it is shorter, with zeros in new blocks.
-    fn lengthen(&mut self, size: u64, pool: &mut Pool) -> Result<(), Excuse>
+    // Lengthens the file, where it is shorter, with zeros in new blocks. The blocks from one place on, below another, are in
+    // memory: zeros stand in those that weren't.
+    fn lengthen(&mut self, size: u64, from: usize, to: usize, pool: &mut Pool) -> Result<(), Excuse>
         requires small { size ≤ max_size }
         requires apart { IsApart pool.old (blocks_of self.old.extents) }
-        requires there { length self.old.content.bytes < size → AreThere self.old.content.there (length self.old.content.bytes / BLOCK) (block_count (length self.old.content.bytes)) }
-        ensures ok { OnOk result (IsChanged self.old self.new pool.old pool.new (lengthened self.old.content size)) }
+        requires inside { to ≤ length self.old.content.there }
+        requires there { length self.old.content.bytes < size → AreThere (covered self.old.content from to).there (length self.old.content.bytes / BLOCK) (block_count (length self.old.content.bytes)) }
+        ensures ok { OnOk result (IsChanged self.old self.new pool.old pool.new (lengthened (covered self.old.content from to) size)) }
         ensures apart { OnOk result (IsApart pool.new (blocks_of self.new.extents)) }
         ensures cause { IfErr result (λ x. IsCause self.old.extents (block_count (length (lengthened self.old.content size).bytes) - length (blocks_of self.old.extents)) pool.old x) }
         ensures err { OnErr result (self.new ≡ self.old) }
         ensures pool { OnErr result (pool.new ≡ pool.old) }
     {
         if size <= self.blocks.size() {
-            return Ok(());
+            return self.cover(from, to);
         }
         let need = size.div_ceil(BLOCK as u64) as u32 - self.extents.block_count();
         let runs = match self.take(need, pool) {
             Ok(runs) => runs,
             Err(excuse) => return Err(excuse),
         };
-        let Ok(()) = self.blocks.grow(size) else {
+        let Ok(()) = self.blocks.grow(size, from, to) else {
             give_runs(pool, runs.as_slice());
             return Err(Excuse::Memory);
         };
         append_all(&mut self.extents, runs.as_slice());
         Ok(())
+    }
+
+    // The blocks from one place on, below another, are in memory: zeros stand in those that weren't.
+    fn cover(&mut self, from: usize, to: usize) -> Result<(), Excuse>
+        requires { to ≤ length self.old.content.there }
+        ensures ok { OnOk result (self.new ≡ record self.old { content = covered self.old.content from to }) }
+        ensures whole { length (blocks_of self.old.extents) ≡ block_count (length self.old.content.bytes) }
+        ensures cause { IfErr result (λ x. x ≡ excuse.Memory) }
+        ensures err { OnErr result (self.new ≡ self.old) }
+    {
+        self.stays();
+        match self.blocks.cover(from, to) {
+            Ok(()) => Ok(()),
+            Err(_) => Err(Excuse::Memory),
+        }
     }
 
     // Cuts the file; the blocks that it has no use for are the pool's.
@@ -595,7 +656,7 @@ impl FileHand {
         if size < held {
             self.shorten(size, pool)
         } else {
-            self.lengthen(size, pool)
+            self.lengthen(size, 0, 0, pool)
         }
     }
 
@@ -654,7 +715,7 @@ impl FileHand {
     fn put(&mut self, at: u64, fresh: &[u8], pool: &mut Pool) -> Result<(), Excuse>
         requires place { file_bytes.is_past at fresh.now ≡ false }
         requires apart { IsApart pool.old (blocks_of self.old.extents) }
-        requires there { AreThere self.old.content.there (write_from (length self.old.content.bytes) at) (write_end (length self.old.content.bytes) at (length fresh.now)) }
+        requires there { HasForWrite self.old.content at (length fresh.now) }
         ensures ok { OnOk result (IsChanged self.old self.new pool.old pool.new (content_put self.old.content at fresh.now)) }
         ensures apart { OnOk result (IsApart pool.new (blocks_of self.new.extents)) }
         ensures cause { IfErr result (λ x. IsCause self.old.extents (block_count (length (content_put self.old.content at fresh.now).bytes) - length (blocks_of self.old.extents)) pool.old x) }
@@ -666,7 +727,10 @@ impl FileHand {
             return Ok(());
         }
         self.is_counted();
-        match self.lengthen(at + fresh.len() as u64, pool) {
+        let end = at + fresh.len() as u64;
+        let from = (at / BLOCK as u64) as usize;
+        let to = (end.div_ceil(BLOCK as u64) as usize).min(self.block_count() as usize);
+        match self.lengthen(end, from, to, pool) {
             Ok(()) => {
                 self.overwrite(at, fresh);
                 Ok(())

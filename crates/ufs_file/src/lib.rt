@@ -4,6 +4,7 @@
 mod answers;
 mod blocks;
 mod content;
+mod cover;
 mod hand;
 mod needed;
 mod span;

@@ -1,7 +1,7 @@
 // Which blocks of a file a request needs in memory.
-ghost use Rattle.std.specs.Prelude.{◌≡◌, ◌+◌, ◌/◌, ◌≤◌, ◌<◌, min};
+ghost use Rattle.std.specs.Prelude.{◌≡◌, ◌+◌, ◌/◌, ◌≤◌, ◌<◌, min, true, false};
 ghost use Rattle.ufs_file.specs.Content.{block_count};
-ghost use Rattle.ufs_file.specs.Hand.{end_within, read_from, write_end, write_from};
+ghost use Rattle.ufs_file.specs.Hand.{IsCutBy, end_within, read_from, write_end, write_from};
 ghost use Rattle.ufs_file.specs.Table.{max_held};
 
 use std::ops::Range;
@@ -37,7 +37,7 @@ pub(crate) fn read_places(size: u64, at: u64, count: u64) -> Range<u32>
     first as u32..blocks_of(end_of(size, at, count))
 }
 
-/// Those that a write of so many bytes needs.
+/// Those of which a write of so many bytes needs the ones that it cuts.
 pub(crate) fn write_places(size: u64, at: u64, count: u64) -> Range<u32>
     requires { size ≤ max_held }
     ensures from { result.start ≡ write_from size at }
@@ -50,6 +50,19 @@ pub(crate) fn write_places(size: u64, at: u64, count: u64) -> Range<u32>
         return first..first;
     }
     first..blocks_of(end_of(size, at, count))
+}
+
+/// Whether of the block at this place some byte of the file stays beside so many bytes that are written from a place on.
+pub(crate) fn is_cut_by(size: u64, at: u64, count: u64, place: u32) -> bool
+    requires { size ≤ max_held }
+    ensures yes { result ≡ true → IsCutBy size at count place }
+    ensures no { result ≡ false → IsCutBy size at count place → ⊥ }
+{
+    let begins = BLOCK as u64 * place as u64;
+    if begins < at.min(size) {
+        return true;
+    }
+    end_of(size, at, count) < size.min(begins + BLOCK as u64)
 }
 
 /// That through which a cut goes.

@@ -2,7 +2,7 @@ use Rattle.std.proofs.Common.{◌≡◌, ◌+◌, ◌-◌, ◌/◌, ◌≤◌, �
 use Rattle.std.specs.FinSet as set
 use Rattle.ufs_extent.specs.declared.Run.{Run}
 use Rattle.ufs_extent.specs.Runs.{blocks_of, appended_all}
-use Rattle.ufs_file.specs.Content.{AreThere, Content, block_count, grown}
+use Rattle.ufs_file.specs.Content.{AreThere, Content, block_count, covered, grown}
 use Rattle.ufs_bitmap.specs.Taking.{IsApart, set_of}
 use Rattle.ufs_file.specs.Hand.{FileState, IsCause, lengthened}
 use Rattle.ufs_bitmap.proofs.TakingLemmas.{takes_apart, takes_blocks, takes_undone}
@@ -44,7 +44,7 @@ invariant_of-self-2 c =
     let blocks : length (blocks_of c.append_all.new.extents) ≡ length (blocks_of xs) + length (blocks_of rs) =
     ap (λ (l : List Run). length (blocks_of l)) e ∙ ap length (blocks_of-all xs rs) ∙ length-append (blocks_of xs) (blocks_of rs) in
     let taken : length (blocks_of rs) + 0 ≡ need = takes_blocks c.args.pool.now need rs c.take.new.pool 0 c.in-Ok.ensures.taken in
-    let grew : c.grow.new.self ≡ grown c.self.inside.blocks c.args.size = c.in-Ok-grow.ensures.ok in
+    let grew : c.grow.new.self ≡ grown (covered c.self.inside.blocks c.args.from c.args.to) c.args.size = c.in-Ok-grow.ensures.ok in
     let had : length (blocks_of xs) ≡ length c.self.inside.blocks.dirty = c.self.invariant in
     let is : c.div_ceil.result ≡ block_count c.args.size = c.div_ceil.ensures ∙ ceil_is c.args.size in
     let longer : length c.self.inside.blocks.bytes ≤ c.args.size = omega (arith, c.size.ensures.size, c.if-size.false) in
@@ -59,4 +59,4 @@ returns-in_default-clause-pool c =
 pub grow-requires-clause-there : goal.grow-requires-clause-there
 grow-requires-clause-there c =
     let needed = c.requires.there (omega (arith, ap (λ (f : FileState). length f.content.bytes) c.self.view_is, c.size.ensures.size, c.if-size.false)) in
-    subst (λ (f : FileState). AreThere f.content.there (length f.content.bytes / 4096) (block_count (length f.content.bytes))) (sym c.self.view_is) needed
+    subst (λ (f : FileState). AreThere (covered f.content c.args.from c.args.to).there (length f.content.bytes / 4096) (block_count (length f.content.bytes))) (sym c.self.view_is) needed
