@@ -3,7 +3,7 @@ ghost use Rattle.std.specs.Prelude.{ℕ, List, ◌≡◌, ◌≤◌, ◌<◌, le
 ghost use Rattle.ufs_disk.specs.Moments.{LeavesOnly};
 ghost use Rattle.ufs_extent.specs.Runs.{blocks_of};
 ghost use Rattle.ufs_file.specs.Content.{IsContentOf};
-ghost use Rattle.ufs_file.specs.Hand.{HasNeeded, whole_as};
+ghost use Rattle.ufs_file.specs.Hand.{HasNeeded, IsNeeded, whole_as};
 ghost use Rattle.ufs_ledger.specs.Ledger.{IsLedgerOf, IsLeftBy, Ledger};
 ghost use Rattle.ufs_store.specs.Ledgers.{HasLedger};
 ghost use Rattle.ufs_store.specs.Refusals.{IsTold, fault_in, is_own};
@@ -44,9 +44,31 @@ pub fn fetch<D: Door>(
 {
     let places = hand.needed_places(op, desc);
     for place in places.start..places.end {
-        fetch_block(door, hand, place)?;
+        fetch_needed(door, hand, op, desc, place)?;
     }
     Ok(())
+}
+
+// Reads the block at this place, if the request needs it and it isn't in memory.
+fn fetch_needed<D: Door>(
+    door: &mut D,
+    hand: &mut FileHand,
+    op: &Op,
+    desc: Desc,
+    place: u32,
+) -> Result<(), StoreFault>
+    requires blocks { AreDataBlocks (geometry_of_store (D.store door.old)) (blocks_of hand.old.extents) }
+    requires inside { place < length hand.old.content.there }
+    ensures fetched { HasFetched D.visible D.keeps (D.store door.old) (D.store door.new) hand.old hand.new }
+    ensures there { OnOk result (IsNeeded (length hand.old.content.bytes) desc op.now place → slice_get hand.new.content.there place ≡ Some true) }
+    ensures nothing { (IsNeeded (length hand.old.content.bytes) desc op.now place → slice_get hand.old.content.there place ≡ Some true) → (hand.new ≡ hand.old) × (D.store door.new ≡ D.store door.old) × (result ≡ Ok tt) }
+    ensures cause { IsTold (D.store door.old).faults (D.store door.new).faults (fault_in result) }
+    ensures refused { IfErr result (λ fault. IsTrue (is_own fault)) }
+{
+    if !hand.needs(op, desc, place) {
+        return Ok(());
+    }
+    fetch_block(door, hand, place)
 }
 
 // Reads the block at this place, if it isn't in memory.
