@@ -4,7 +4,7 @@ ghost use Rattle.ufs_durable.specs.State.{state_of};
 ghost use Rattle.ufs_durable_tests.specs.Ready.{IsReady};
 
 use crate::asserts::{holds, same};
-use crate::session::{SECTORS, Session, started};
+use crate::session::{SECTORS, Session, filled, started};
 use std::alloc::Global;
 use ufs_disk::{Fuse, FuseDisk};
 use ufs_model::{Op, Reply};
@@ -82,6 +82,41 @@ fn a_read_that_fails_keeps_what_was_fetched(rt: HostRuntime) {
         Err(StoreFault::Device { fault: 1 }),
     );
     same(&rt, s.there_count(), 2);
+}
+
+#[test]
+fn a_write_fetches_no_block_that_it_covers(rt: HostRuntime) {
+    let mut s = forgotten(rt.alloc(), 2).expect(&rt, "not started");
+    let bytes = filled(rt.alloc(), 9, 8_192).expect(&rt, "memory");
+    let op = Op::Pwrite {
+        fd: 3,
+        bytes,
+        at: 1_000,
+    };
+    same(&rt, s.fetch(&op), Ok(()));
+    same(&rt, s.there_count(), 2);
+    same(&rt, s.hand.is_there(1), Some(false));
+    holds(&rt, matches!(s.serve(op), Reply::Count(8_192)));
+    same(&rt, s.there_count(), 3);
+    same(&rt, s.dirty_count(), 3);
+    let before = s.serve(Op::Pread {
+        fd: 3,
+        n: 1_000,
+        at: 0,
+    });
+    holds(&rt, is_all(&before, 7, 1_000));
+    let written = s.serve(Op::Pread {
+        fd: 3,
+        n: 8_192,
+        at: 1_000,
+    });
+    holds(&rt, is_all(&written, 9, 8_192));
+    let behind = s.serve(Op::Pread {
+        fd: 3,
+        n: 1_000,
+        at: 9_192,
+    });
+    holds(&rt, is_all(&behind, 7, 808));
 }
 
 #[test]

@@ -114,7 +114,7 @@ fn a_read_needs_the_blocks_that_it_reads(rt: HostRuntime) {
 }
 
 #[test]
-fn a_write_needs_the_blocks_that_it_writes_and_the_end(rt: HostRuntime) {
+fn a_write_needs_some_of_the_blocks_that_it_writes_and_the_end(rt: HostRuntime) {
     let partly = start(&rt);
     let rows = [
         (4_096, 4_096, 1, 2),
@@ -189,6 +189,70 @@ fn loaded_blocks_are_written_over(rt: HostRuntime) {
     same(&rt, partly.file.dirty_places(), 0..2);
     let reply = partly.applied(pread(1, 8_192));
     holds(&rt, is_excused(reply, Excuse::Memory));
+}
+
+fn pwrite<R: Abort + AllocGlobal>(rt: &R, count: usize, at: u64) -> Op
+    requires { count ≤ max_transfer }
+    ensures kind { is_on_file result ≡ true }
+    ensures bounded { IsBounded result }
+{
+    let bytes = filled(rt, 99, count);
+    Op::Pwrite { fd: 3, bytes, at }
+}
+
+#[test]
+fn a_write_needs_no_block_that_it_covers(rt: HostRuntime) {
+    let mut partly = start(&rt);
+    let op = pwrite(&rt, 4_096, 4_096);
+    holds(&rt, !partly.file.needs(&op, open_on(7), 1));
+    holds(&rt, partly.file.is_ready(&op, open_on(7)));
+    let reply = partly.applied(op);
+    holds(&rt, is_count(reply, 4_096));
+    same(&rt, partly.file.is_there(0), Some(false));
+    same(&rt, partly.file.is_there(1), Some(true));
+    same(&rt, partly.file.dirty_places(), 1..2);
+    same(&rt, partly.byte(1, 0), Some(99));
+    same(&rt, partly.byte(1, 4_095), Some(99));
+}
+
+#[test]
+fn a_write_needs_a_block_of_which_it_leaves_a_byte(rt: HostRuntime) {
+    let mut partly = start(&rt);
+    let rows = [
+        (4_096, 4_095, 1),
+        (4_097, 4_095, 1),
+        (8_192, 1_807, 2),
+        (8_193, 1_807, 2),
+        (10_000, 4_096, 2),
+    ];
+    for (at, count, place) in rows {
+        let op = pwrite(&rt, count, at);
+        holds(&rt, partly.file.needs(&op, open_on(7), place));
+        holds(&rt, !partly.file.is_ready(&op, open_on(7)));
+        let reply = partly.applied(op);
+        holds(&rt, is_excused(reply, Excuse::Memory));
+    }
+    same(&rt, partly.file.is_there(1), Some(false));
+    same(&rt, partly.file.is_there(2), Some(false));
+}
+
+#[test]
+fn a_write_covers_the_block_in_which_the_file_ends(rt: HostRuntime) {
+    let mut partly = start(&rt);
+    let reply = partly.applied(pwrite(&rt, 1_808, 8_192));
+    holds(&rt, is_count(reply, 1_808));
+    same(&rt, partly.file.size(), 10_000);
+    same(&rt, partly.byte(2, 1_807), Some(99));
+    same(&rt, partly.byte(2, 1_808), Some(0));
+    let mut longer = start(&rt);
+    let reply = longer.applied(pwrite(&rt, 5_000, 8_192));
+    holds(&rt, is_count(reply, 5_000));
+    same(&rt, longer.file.size(), 13_192);
+    same(&rt, longer.file.dirty_places(), 2..4);
+    same(&rt, longer.file.is_there(1), Some(false));
+    same(&rt, longer.byte(2, 4_095), Some(99));
+    same(&rt, longer.byte(3, 903), Some(99));
+    same(&rt, longer.byte(3, 904), Some(0));
 }
 
 #[test]
