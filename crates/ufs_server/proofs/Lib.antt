@@ -2,7 +2,6 @@ mod Asked
 mod Away
 mod Committed
 mod FileCommitting
-mod FileFetching
 mod FileServing
 mod Filed
 mod Gathering
@@ -16,4 +15,5 @@ mod Syncs
 mod Touch
 mod Touching
 pub mod Beside
+pub mod FileFetching
 mod Checkpoints

@@ -10,30 +10,17 @@ use Rattle.ufs_model.specs.declared.data.Excuse.{Excuse}
 use Rattle.ufs_model.specs.declared.data.Excuse.TheVariants as excuse
 use Rattle.ufs_model.specs.declared.data.Reply.{Reply}
 use Rattle.ufs_model.specs.declared.data.Reply.TheVariants as reply
-use Rattle.ufs_model.proofs.Facts.Lookups.{from_some, same_some}
+use Rattle.ufs_model.proofs.Facts.Lookups.{from_some}
 use Rattle.ufs_names.specs.NamesPart.{IsNamesPart, NamesPart}
 use Rattle.ufs_server.specs.Answered.{TellsFaults, device_in, device_of, stopped_in, stopped_of}
-use Rattle.ufs_store.specs.State.{StoreState, geometry_of_store}
+use Rattle.ufs_store.specs.State.{StoreState}
 use Rattle.ufs_stored.specs.Parts.{Parts}
-use Rattle.ufs_stored.specs.Sound.{IsSoundServer}
 use Rattle.ufs_stored.specs.Stored.{ArePartsOf}
 use Rattle.ufs_server.specs.Away.{ForgetsNothing}
 use Rattle.ufs_server.specs.Fetched.{HasReadFurther, IsReadFurther, is_of_read}
 use Rattle.ufs_session.specs.Told.{TellsRequest}
 
 -- ---- nothing was read
-
-no_further : (r s : FileState) → r ≡ s → IsReadFurther r s
-no_further r s same = subst (IsReadFurther r) same (record { rest = refl; size = refl; marks = refl; kept = λ place is. is; fewer = λ bytes may. may })
-
-pub nothing_read : (ask : Ask) (s : StoreState) (p : Parts) → IsSoundServer (geometry_of_store s) s.unassigned.free p → HasReadFurther ask p p
-nothing_read ask s p sound = record {
-  rest = refl;
-  commits = record { each = λ file state there. refl; known = sound.known };
-  files = λ file r s was is. no_further r s (same_some r s (sym was ∙ is));
-  here = λ file. refl;
-  others = λ file apart. refl;
-}
 
 pub nothing_forgotten : (p : Parts) → ForgetsNothing p p
 nothing_forgotten p file place away = away

@@ -8,12 +8,14 @@ use Rattle.ufs_model.specs.History.{is_excused}
 use Rattle.ufs_model.specs.PosixTree.{Files, PosixTree}
 use Rattle.ufs_model.specs.declared.data.Entry.{Entry}
 use Rattle.ufs_server.proofs.Beside.{calm_told, no_device}
+use Rattle.ufs_server.proofs.FileFetching.{none_read}
 use Rattle.ufs_server.specs.Answered.{device_told}
+use Rattle.ufs_store.specs.State.{geometry_of_store}
 use Rattle.ufs_stored.specs.OnDisk.{IsExplainedBetween, IsOnDisk}
 use Rattle.ufs_file.specs.Content.{own_bytes}
 use Rattle.ufs_session.proofs.FurtherLemmas.{tree_read}
 use Rattle.ufs_session.proofs.OwnLemmas.{bytes_behind, nothing, own_answered, parts_behind, parts_on_disk, same_bytes}
-use Rattle.ufs_session.proofs.ReadingLemmas.{nothing_forgotten, nothing_read, parts_before, read_failed, read_served, same_excuse}
+use Rattle.ufs_session.proofs.ReadingLemmas.{nothing_forgotten, parts_before, read_failed, read_served, same_excuse}
 use Rattle.ufs_session.proofs.ThroughoutLemmas.{between_joined, throughout_one}
 use Rattle.ufs_session.proofs.ToldLemmas.{plain_going, served_told}
 use Rattle.ufs_session.proofs.session.serve_one.Given.{Over}
@@ -133,7 +135,7 @@ returns-clause-reading g c =
     let is = c.in-Some.ensures in
     record {
       read = p;
-      further = nothing_read ask (g.D.Door.store c.args.door.now) p c.requires.sound;
+      further = none_read (geometry_of_store (g.D.Door.store c.args.door.now)) (g.D.Door.store c.args.door.now).unassigned.free ask p c.requires.sound;
       seen = λ visible start history there. parts_on_disk (g.D.Door.store c.args.door.now) start history p there;
       served = λ plain t parts asked. own_answered p t ask answer.reply answer.desc asked (sym (is.own t asked)) (is.posix t asked) parts;
       fits = λ x excused. let no : true ≡ false = ap is_excused (sym excused) ∙ is.plain in cc;

@@ -4,6 +4,7 @@ use Rattle.ufs_bitmap.specs.Space.{Space}
 use Rattle.ufs_bitmap.specs.Taking.{has}
 use Rattle.ufs_layout.specs.declared.geometry.Geometry.{Geometry}
 use Rattle.ufs_model.specs.PosixTree.{PosixTree}
+use Rattle.ufs_model.specs.declared.data.Entry.{Entry}
 use Rattle.ufs_model.specs.declared.data.Excuse.TheVariants as excuse
 use Rattle.ufs_name_tree.specs.NameTable.{IsNameTable}
 use Rattle.ufs_names.specs.NamesPart.{NamesPart}
@@ -12,13 +13,15 @@ use Rattle.ufs_store.specs.Refusals.{is_own}
 use Rattle.ufs_store.specs.State.{geometry_of_store}
 use Rattle.ufs_store.specs.declared.fault.StoreFault.{StoreFault}
 use Rattle.ufs_stored.specs.Laws.{with_names_committed}
-use Rattle.ufs_stored.specs.OnDisk.{HasNames}
+use Rattle.ufs_stored.specs.OnDisk.{HasNames, IsExplainedBetween, IsOnDisk}
 use Rattle.ufs_stored.specs.Parts.{Parts, TheNames}
 use Rattle.ufs_stored.specs.Sound.{IsSoundServer}
 use Rattle.ufs_stored.specs.Stored.{ArePartsOf}
 use Rattle.ufs_server.specs.Away.{ForgetsNothing}
 use Rattle.ufs_server.proofs.Away.{forgets_none}
 use Rattle.ufs_server.proofs.Committed.{is_going, parts_committed, sound_committed}
+use Rattle.ufs_server.proofs.disk_server.DiskServer.sync_names.Given.{Over}
+use Rattle.ufs_server.proofs.disk_server.DiskServer.sync_names.Goals.{After-commit_notes-committed}
 use Rattle.ufs_server.proofs.disk_server.DiskServer.sync_names.Goals as goal
 
 pub commit_notes-committed-requires-clause-there : goal.commit_notes-committed-requires-clause-there
@@ -87,8 +90,10 @@ pub returns-in-Some-clause-moments : goal.returns-in-Some-clause-moments
 returns-in-Some-clause-moments g c visible start history on_disk =
     c.always_law.ensures.rest g.D.Door.keeps (g.D.Door.store c.args.door.now) start history c.args.self.now (sym c.geometry-geometry.ensures.is) on_disk
 
-pub returns-in-Ok-clause-moments : goal.returns-in-Ok-clause-moments
-returns-in-Ok-clause-moments g c visible start history on_disk =
+-- while the names are committed
+meanwhile : (g : Over) (c : After-commit_notes-committed g) → IsTrue g.D.Door.visible → (start : PosixTree) (history : List Entry) → IsOnDisk (g.D.Door.store c.args.door.now) start history c.args.self.now
+    → IsExplainedBetween g.D.Door.keeps (g.D.Door.store c.args.door.now).sectors start history (g.D.Door.store c.args.door.now).moments (g.D.Door.store c.commit_notes-committed.new.door).moments
+meanwhile g c visible start history on_disk =
     let p = c.args.self.now in
     let old = g.D.Door.store c.args.door.now in
     let fresh = sym (c.as_slice.ensures.value ∙ ap (λ (x : Parts). x.fresh) c.self.view_is) in
@@ -97,12 +102,8 @@ returns-in-Ok-clause-moments g c visible start history on_disk =
     let go = is_going old start history p (sym c.stopped.ensures ∙ c.in_default.is) on_disk in
     c.commit_notes-committed.ensures.moments visible start history p fresh noted table go
 
+pub returns-in-Ok-clause-moments : goal.returns-in-Ok-clause-moments
+returns-in-Ok-clause-moments g c visible start history on_disk = meanwhile g (goal.at.returns-in-Ok-clause-moments g c).After-commit_notes-committed visible start history on_disk
+
 pub returns-in-Err-clause-moments : goal.returns-in-Err-clause-moments
-returns-in-Err-clause-moments g c visible start history on_disk =
-    let p = c.args.self.now in
-    let old = g.D.Door.store c.args.door.now in
-    let fresh = sym (c.as_slice.ensures.value ∙ ap (λ (x : Parts). x.fresh) c.self.view_is) in
-    let noted = sym (c.take_notes-notes.ensures.notes ∙ ap (λ (x : Parts). x.names.tree.noted) c.self.view_is) in
-    let table = subst (λ (x : Parts). IsNameTable x.names.tree) c.self.view_is c.is_table.ensures in
-    let go = is_going old start history p (sym c.stopped.ensures ∙ c.in_default.is) on_disk in
-    c.commit_notes-committed.ensures.moments visible start history p fresh noted table go
+returns-in-Err-clause-moments g c visible start history on_disk = meanwhile g (goal.at.returns-in-Err-clause-moments g c).After-commit_notes-committed visible start history on_disk
