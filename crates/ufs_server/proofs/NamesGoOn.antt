@@ -5,7 +5,7 @@ use Rattle.ufs_file.specs.declared.hand.Applied.{Applied}
 use Rattle.ufs_layout.specs.declared.geometry.Geometry.{Geometry}
 use Rattle.ufs_model.specs.Asks.{IsAsk}
 use Rattle.ufs_model.specs.Excuses.{ExcuseFits}
-use Rattle.ufs_model.specs.History.{IsLegal, is_excused, tree_after, tree_with}
+use Rattle.ufs_model.specs.History.{IsLegal, is_excused, tree_after}
 use Rattle.ufs_model.specs.Posix.{posix}
 use Rattle.ufs_model.specs.PosixTree.{PosixTree}
 use Rattle.ufs_model.specs.declared.data.Actor.{Actor}
@@ -14,7 +14,6 @@ use Rattle.ufs_model.specs.declared.data.Desc.{Desc}
 use Rattle.ufs_model.specs.declared.data.Entry.{Entry}
 use Rattle.ufs_model.specs.declared.data.Excuse.{Excuse}
 use Rattle.ufs_model.specs.declared.data.Op.{Op}
-use Rattle.ufs_model.specs.declared.data.Reply.{Reply}
 use Rattle.ufs_model.specs.declared.data.Reply.TheVariants as reply
 use Rattle.ufs_names_stored.specs.Laws.{RequestsAreOnDisk, RequestsAreSound}
 use Rattle.ufs_names_stored.specs.Requests.{IsNamesRequest}
@@ -26,6 +25,7 @@ use Rattle.ufs_stored.specs.OnDiskLaws.{OnDiskIsExcused}
 use Rattle.ufs_stored.specs.Parts.{Parts}
 use Rattle.ufs_stored.specs.Sound.{IsSoundServer}
 use Rattle.ufs_stored.specs.Stored.{ArePartsOf}
+use Rattle.ufs_stored.proofs.FileEntries.{served_goes}
 use Rattle.ufs_server.specs.Away.{ForgetsNothing}
 use Rattle.ufs_server.specs.Served.{IsServedOn, KeepsPromise, StaysOnDisk}
 use Rattle.ufs_server.specs.Touching.{IsServedByNames}
@@ -41,18 +41,6 @@ back_parts one two known u is = of (subst (λ (x : Parts). ArePartsOf x u) known
 
 -- ---- the request
 
-served_tree : (t : PosixTree) (client : ℕ) (request : Op) (r : Reply) → is_excused r ≡ false → tree_with t client request r ≡ (posix t client request).0
-served_tree t client request (reply.Excused x) e = absurd cc
-served_tree t client request reply.Done e = refl
-served_tree t client request (reply.Fd fd) e = refl
-served_tree t client request (reply.Count n) e = refl
-served_tree t client request (reply.At n) e = refl
-served_tree t client request (reply.Got bytes) e = refl
-served_tree t client request (reply.IsFile size) e = refl
-served_tree t client request (reply.IsDir entries) e = refl
-served_tree t client request (reply.Names names) e = refl
-served_tree t client request (reply.Refused x) e = refl
-
 module _ (g : Geometry) (law : RequestsAreOnDisk g) (s : StoreState) (p next : Parts) (ask : Ask) (by : Actor) (ticket : ℕ) (entry : Entry) (desc : Option Desc) (form : geometry_of_store s ≡ g)
     (is : IsEntryOf ask by ticket entry) (unsynced : asks_commit ask.op ≡ false) (plain : is_excused entry.reply ≡ false)
     (served : (t : PosixTree) → ArePartsOf p t → IsAsk t ask → IsServedByNames t ask p next entry.reply desc) (sound : IsSoundServer (geometry_of_store s) s.unassigned.free p) where
@@ -62,7 +50,7 @@ module _ (g : Geometry) (law : RequestsAreOnDisk g) (s : StoreState) (p next : P
       let parts : ArePartsOf p t = elim on [ inl going ↦ going.stored.parts | inr stopped ↦ stopped.parts ] in
       let of = served t parts asked in
       let goes : (posix t ask.client ask.op).0 ≡ tree_after start (history ++ entry ∷ []) =
-      (λ i. (posix t (sym is.client i) (sym is.asked i)).0) ∙ sym (tree_after-append start history (entry ∷ []) ∙ served_tree t entry.client entry.op entry.reply plain) in
+      (λ i. (posix t (sym is.client i) (sym is.asked i)).0) ∙ sym (tree_after-append start history (entry ∷ []) ∙ served_goes t entry.client entry.op entry.reply plain) in
       law s start history entry p next of.lent of.left form legal (ap asks_commit is.asked ∙ unsynced) (subst (λ (u : PosixTree). IsNamesRequest t u p next of.lent of.left) goes of.request) (subst (λ (h : Geometry). IsSoundServer h s.unassigned.free p) form sound) on
 
 -- ---- what comes of it

@@ -46,7 +46,8 @@ use Rattle.ufs_stored.proofs.Puts.{durable_else, durable_here, either, other_fil
 use Rattle.ufs_stored.proofs.Spaced.{pool_apart, spaced_now}
 use Rattle.ufs_stored.proofs.Whole.{file_stays, tree_has, tree_may}
 
-served_goes : (t : PosixTree) (client : ℕ) (request : Op) (r : Reply) → is_excused r ≡ false → tree_with t client request r ≡ (posix t client request).0
+-- a reply that is no excuse lets the tree go on
+pub served_goes : (t : PosixTree) (client : ℕ) (request : Op) (r : Reply) → is_excused r ≡ false → tree_with t client request r ≡ (posix t client request).0
 served_goes t client request (reply.Excused x) e = absurd cc
 served_goes t client request reply.Done e = refl
 served_goes t client request (reply.Fd fd) e = refl
