@@ -1,6 +1,8 @@
 // A file of which nothing was read, and the blocks that requests need.
 ghost use Rattle.std.specs.Prelude.{IfSome};
 ghost use Rattle.ufs_durable.specs.State.{state_of};
+ghost use Rattle.ufs_model.specs.Bounds.{IsBounded};
+ghost use Rattle.ufs_model.specs.declared.data.Op.TheVariants as op;
 ghost use Rattle.ufs_durable_tests.specs.Ready.{IsReady};
 
 use crate::asserts::{holds, same};
@@ -41,16 +43,21 @@ fn is_all(reply: &Reply, told: u8, count: usize) -> bool {
     }
 }
 
+// Whether a read of n bytes from a place on gives so many, all of which are this one.
+fn shows(s: &mut Session<FuseDisk>, at: u64, n: u32, told: u8, count: usize) -> bool
+    requires ready { IsReady (⟦<Store<FuseDisk> as Door>⟧.store s.old.store) (state_of s.old.hand s.old.commits) s.old.pool }
+    requires bounded { IsBounded (op.Pread 3 n at) }
+    ensures { IsReady (⟦<Store<FuseDisk> as Door>⟧.store s.new.store) (state_of s.new.hand s.new.commits) s.new.pool }
+{
+    let reply = s.serve(Op::Pread { fd: 3, n, at });
+    is_all(&reply, told, count)
+}
+
 #[test]
 fn a_read_fetches_its_blocks_alone(rt: HostRuntime) {
     let mut s = forgotten(rt.alloc(), 1).expect(&rt, "not started");
     same(&rt, s.there_count(), 0);
-    let reply = s.serve(Op::Pread {
-        fd: 3,
-        n: 100,
-        at: 8_192,
-    });
-    holds(&rt, is_all(&reply, 7, 100));
+    holds(&rt, shows(&mut s, 8_192, 100, 7, 100));
     same(&rt, s.there_count(), 1);
     // What is there makes no call.
     same(
@@ -99,24 +106,9 @@ fn a_write_fetches_no_block_that_it_covers(rt: HostRuntime) {
     holds(&rt, matches!(s.serve(op), Reply::Count(8_192)));
     same(&rt, s.there_count(), 3);
     same(&rt, s.dirty_count(), 3);
-    let before = s.serve(Op::Pread {
-        fd: 3,
-        n: 1_000,
-        at: 0,
-    });
-    holds(&rt, is_all(&before, 7, 1_000));
-    let written = s.serve(Op::Pread {
-        fd: 3,
-        n: 8_192,
-        at: 1_000,
-    });
-    holds(&rt, is_all(&written, 9, 8_192));
-    let behind = s.serve(Op::Pread {
-        fd: 3,
-        n: 1_000,
-        at: 9_192,
-    });
-    holds(&rt, is_all(&behind, 7, 808));
+    holds(&rt, shows(&mut s, 0, 1_000, 7, 1_000));
+    holds(&rt, shows(&mut s, 1_000, 8_192, 9, 8_192));
+    holds(&rt, shows(&mut s, 9_192, 1_000, 7, 808));
 }
 
 #[test]
@@ -127,18 +119,8 @@ fn what_the_disk_has_behind_the_end_is_no_byte_of_the_file(rt: HostRuntime) {
     holds(&rt, s.cut(12_000));
     same(&rt, s.there_count(), 1);
     same(&rt, s.dirty_count(), 1);
-    let before = s.serve(Op::Pread {
-        fd: 3,
-        n: 1_808,
-        at: 8_192,
-    });
-    holds(&rt, is_all(&before, 7, 1_808));
-    let behind = s.serve(Op::Pread {
-        fd: 3,
-        n: 2_000,
-        at: 10_000,
-    });
-    holds(&rt, is_all(&behind, 0, 2_000));
+    holds(&rt, shows(&mut s, 8_192, 1_808, 7, 1_808));
+    holds(&rt, shows(&mut s, 10_000, 2_000, 0, 2_000));
     same(&rt, s.sync(), Ok(2));
     let last = s.read(2).expect(&rt, "not read");
     same(&rt, last[1_807], 7);
