@@ -82,13 +82,17 @@ left_by_more sectors [] l image left = left
 left_by_more sectors (w ∷ ws) l image left = left_by_more sectors ws (written w.block w.bytes l) image (left_by_one sectors w l image left)
 
 -- So the ledger behind all writes has what is left at each moment of one of them.
+pub left_within : (sectors : ℕ) (all xs ys zs : List BlockWrite) (l : Ledger) (image : Image) → all ≡ xs ++ (ys ++ zs)
+    → IsLeftBy sectors (with_writes ys (with_writes xs l)) image → IsLeftBy sectors (with_writes all l) image
+left_within sectors all xs ys zs l image whole left =
+    let same : with_writes all l ≡ with_writes zs (with_writes ys (with_writes xs l)) =
+    ap (λ ws. with_writes ws l) whole ∙ writes_append xs (ys ++ zs) l ∙ writes_append ys zs (with_writes xs l) in
+    subst (λ m. IsLeftBy sectors m image) (sym same) (left_by_more sectors zs (with_writes ys (with_writes xs l)) image left)
+
 pub run_within : (sectors : ℕ) (keeps : Bool) (all xs ys zs : List BlockWrite) (l : Ledger) (old new : Moments) → all ≡ xs ++ (ys ++ zs)
     → LeavesOnly keeps (IsLeftBy sectors (with_writes ys (with_writes xs l))) old new → LeavesOnly keeps (IsLeftBy sectors (with_writes all l)) old new
 run_within sectors keeps all xs ys zs l old new whole run =
-    let same : with_writes all l ≡ with_writes zs (with_writes ys (with_writes xs l)) =
-    ap (λ ws. with_writes ws l) whole ∙ writes_append xs (ys ++ zs) l ∙ writes_append ys zs (with_writes xs l) in
-    weaker keeps (IsLeftBy sectors (with_writes ys (with_writes xs l))) (IsLeftBy sectors (with_writes all l))
-    (λ image left. subst (λ m. IsLeftBy sectors m image) (sym same) (left_by_more sectors zs (with_writes ys (with_writes xs l)) image left)) old new run
+    weaker keeps (IsLeftBy sectors (with_writes ys (with_writes xs l))) (IsLeftBy sectors (with_writes all l)) (λ image left. left_within sectors all xs ys zs l image whole left) old new run
 
 -- ---- a write that failed
 

@@ -2,6 +2,7 @@ pub mod Places
 pub mod Behind
 pub mod Turns
 pub mod Stages
+pub mod Stamping
 pub mod Cells
 pub mod Standing
 pub mod Fewer

@@ -1,5 +1,6 @@
 -- One place more of a file whose dirty blocks are written.
 use Rattle.std.proofs.Common.{◌≡◌, ℕ, ◌+◌, ◌<◌, List, [], ◌∷◌, ◌++◌, Bool, ap, sym, refl, ◌∙◌, subst, length}
+use Rattle.ufs_base.specs.Images.{Image}
 use Rattle.ufs_disk.specs.Moments.{LeavesOnly, Moments}
 use Rattle.ufs_disk.proofs.Runs.{joined}
 use Rattle.ufs_file.specs.Hand.{FileState}
@@ -7,7 +8,7 @@ use Rattle.ufs_ledger.specs.Ledger.{IsLeftBy, Ledger}
 use Rattle.ufs_store.specs.Ledgers.{HasLedger}
 use Rattle.ufs_store.specs.State.{StoreState}
 use Rattle.ufs_durable.specs.Writes.{BlockWrite, HasTriedOne, MayWriteAll, with_writes, write_at, writes_before, writes_of}
-use Rattle.ufs_durable.proofs.Behind.{may_within, run_within, tried_within, writes_append}
+use Rattle.ufs_durable.proofs.Behind.{left_within, may_within, run_within, tried_within, writes_append}
 use Rattle.ufs_durable.proofs.Places.{before_next, writes_behind, writes_split}
 
 pub both_none : (xs ys : List BlockWrite) → xs ++ ys ≡ [] → (xs ≡ []) × (ys ≡ [])
@@ -26,6 +27,9 @@ module _ (f : FileState) (k : ℕ) (less : k < length f.content.dirty) where
   module _ (l : Ledger) where
     pub may_here : MayWriteAll l (writes_of f) → MayWriteAll (with_writes (writes_before f k) l) (write_at f k)
     may_here may = may_within l (writes_before f k) (write_at f k) (writes_behind f k (length f.content.dirty)) (subst (MayWriteAll l) split may)
+
+    pub left_here : (sectors : ℕ) (image : Image) → IsLeftBy sectors (with_writes (write_at f k) (with_writes (writes_before f k) l)) image → IsLeftBy sectors (with_writes (writes_of f) l) image
+    left_here sectors image left = left_within sectors (writes_of f) (writes_before f k) (write_at f k) (writes_behind f k (length f.content.dirty)) l image split left
 
     pub run_here : (keeps : Bool) (s0 s1 : StoreState) (m2 : Moments) → s1.sectors ≡ s0.sectors → LeavesOnly keeps (IsLeftBy s0.sectors (with_writes (writes_of f) l)) s0.moments s1.moments
         → LeavesOnly keeps (IsLeftBy s1.sectors (with_writes (write_at f k) (with_writes (writes_before f k) l))) s1.moments m2 → LeavesOnly keeps (IsLeftBy s0.sectors (with_writes (writes_of f) l)) s0.moments m2

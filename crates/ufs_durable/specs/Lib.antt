@@ -1,5 +1,6 @@
 pub mod State
 pub mod Writes
+pub mod Stamping
 pub mod Standing
 pub mod Committing
 pub mod Others

@@ -14,6 +14,7 @@ ghost use Rattle.ufs_store.specs.Ledgers.{HasAny, HasLedger, IsLeftByAny, MayCom
 ghost use Rattle.ufs_store.specs.Refusals.{IsTold, fault_in, is_no_space, stop_after};
 ghost use Rattle.ufs_store.specs.State.{geometry_of_store, last_commit};
 ghost use Rattle.ufs_store.specs.declared.fault.StoreFault.TheVariants as refusal;
+ghost use Rattle.ufs_durable.specs.Stamping.{MayLeaveSynced};
 ghost use Rattle.ufs_durable.specs.State.{IsNoted, file_committed, state_of};
 ghost use Rattle.ufs_durable.specs.Writes.{AreDataBlocks, HasCommitted, HasTriedOne, MayWriteAll, at_moments, with_writes, writes_of};
 
@@ -91,6 +92,7 @@ pub fn fsync<D: Door>(
     requires inode { is_inode_number (geometry_of_store (D.store door.old)) hand.old.inode ≡ true }
     requires blocks { AreDataBlocks (geometry_of_store (D.store door.old)) (blocks_of hand.old.extents) }
     requires dropped { MayReturn (D.store door.old).unassigned commits.old.dropped }
+    requires stamped { D.stamps → (D.store door.old).stop ≡ None → MayLeaveSynced D.allows (D.store door.old) (state_of hand.old commits.old) }
     ensures crash { IsTrue D.visible → (records : List LogRecord) → IsDelta commits.old.log.inode commits.old.log.committed commits.old.log.noted records → commits.old.log.noted ≢ commits.old.log.committed
         → (l : Ledger) → HasLedger (D.store door.old) l → MayWriteAll l (writes_of hand.old) → MayCommitNext (D.store door.old) records l
         → (between : Moments) × LeavesOnly D.keeps (IsLeftByAny (D.store door.old).sectors (stages (at_moments between (D.store door.old)) records (with_writes (writes_of hand.old) l))) (D.store door.old).moments (D.store door.new).moments }

@@ -1,5 +1,5 @@
 // The dirty blocks of a file go to a store.
-ghost use Rattle.std.specs.Prelude.{ℕ, ◌≡◌, ◌<◌, ◌∷◌, [], length, IsTrue, Some, Err, OnOk, OnErr, IfErr, slice_get, true};
+ghost use Rattle.std.specs.Prelude.{ℕ, ◌≡◌, ◌<◌, ◌∷◌, [], length, IsTrue, None, Some, Err, OnOk, OnErr, IfErr, slice_get, true};
 ghost use Rattle.ufs_disk.specs.Moments.{LeavesOnly};
 ghost use Rattle.ufs_extent.specs.Runs.{blocks_of};
 ghost use Rattle.ufs_ledger.specs.Ledger.{IsDataBlock, IsLeftBy, Ledger};
@@ -7,6 +7,7 @@ ghost use Rattle.ufs_store.specs.Ledgers.{HasLedger};
 ghost use Rattle.ufs_store.specs.Refusals.{IsTold, fault_in, is_of_disk, stop_after};
 ghost use Rattle.ufs_store.specs.State.{geometry_of_store};
 ghost use Rattle.ufs_store.specs.declared.fault.StoreFault.TheVariants as refusal;
+ghost use Rattle.ufs_durable.specs.Stamping.{MayLeaveWrites};
 ghost use Rattle.ufs_durable.specs.Writes.{AreDataBlocks, HasTriedOne, MayWriteAll, with_writes, write_at, write_of, writes_of};
 
 use ufs_file::FileHand;
@@ -15,6 +16,7 @@ use ufs_store::{Door, StoreFault};
 /// Writes each dirty block, in the order of the file, up to the first write that fails.
 pub(crate) fn write_dirty<D: Door>(hand: &FileHand, door: &mut D) -> Result<(), StoreFault>
     requires blocks { AreDataBlocks (geometry_of_store (D.store door.old)) (blocks_of hand.now.extents) }
+    requires stamped { D.stamps → (D.store door.old).stop ≡ None → MayLeaveWrites D.allows (D.store door.old) (writes_of hand.now) }
     ensures crash { IsTrue D.visible → (l : Ledger) → HasLedger (D.store door.old) l → MayWriteAll l (writes_of hand.now)
         → LeavesOnly D.keeps (IsLeftBy (D.store door.old).sectors (with_writes (writes_of hand.now) l)) (D.store door.old).moments (D.store door.new).moments }
     ensures ok { IsTrue D.visible → OnOk result ((l : Ledger) → HasLedger (D.store door.old) l → MayWriteAll l (writes_of hand.now) → HasLedger (D.store door.new) (with_writes (writes_of hand.now) l)) }
@@ -41,6 +43,7 @@ fn write_place<D: Door>(hand: &FileHand, place: u32, door: &mut D) -> Result<(),
     requires blocks { AreDataBlocks (geometry_of_store (D.store door.old)) (blocks_of hand.now.extents) }
     requires there { place < length (blocks_of hand.now.extents) }
     requires marked { place < length hand.now.content.dirty }
+    requires stamped { D.stamps → (D.store door.old).stop ≡ None → MayLeaveWrites D.allows (D.store door.old) (write_at hand.now place) }
     ensures crash { IsTrue D.visible → (l : Ledger) → HasLedger (D.store door.old) l → MayWriteAll l (write_at hand.now place)
         → LeavesOnly D.keeps (IsLeftBy (D.store door.old).sectors (with_writes (write_at hand.now place) l)) (D.store door.old).moments (D.store door.new).moments }
     ensures ok { IsTrue D.visible → OnOk result ((l : Ledger) → HasLedger (D.store door.old) l → MayWriteAll l (write_at hand.now place) → HasLedger (D.store door.new) (with_writes (write_at hand.now place) l)) }
@@ -67,6 +70,7 @@ fn write_one<D: Door>(hand: &FileHand, place: u32, door: &mut D) -> Result<(), S
     requires there { place < length (blocks_of hand.now.extents) }
     requires marked { place < length hand.now.content.dirty }
     requires kept { slice_get hand.now.content.there place ≡ Some true }
+    requires stamped { D.stamps → (D.store door.old).stop ≡ None → MayLeaveWrites D.allows (D.store door.old) (write_of hand.now place ∷ []) }
     ensures crash { IsTrue D.visible → (l : Ledger) → HasLedger (D.store door.old) l → MayWriteAll l (write_of hand.now place ∷ [])
         → LeavesOnly D.keeps (IsLeftBy (D.store door.old).sectors (with_writes (write_of hand.now place ∷ []) l)) (D.store door.old).moments (D.store door.new).moments }
     ensures ok { IsTrue D.visible → OnOk result ((l : Ledger) → HasLedger (D.store door.old) l → MayWriteAll l (write_of hand.now place ∷ []) → HasLedger (D.store door.new) (with_writes (write_of hand.now place ∷ []) l)) }

@@ -1,7 +1,8 @@
 -- Two states of a file have one delta.
-use Rattle.std.proofs.Common.{◌≡◌, ◌∙◌, ◌⊎◌, inl, inr, ◌<◌, ◌≤◌, ◌+◌, zero, suc, ℕ, List, [], ◌∷◌, ◌++◌, Bool, true, false, length, take, ap, refl, sym, subst, arith}
-use Rattle.std.specs.Prelude.{nat_lt, slice_get}
-use Rattle.std.proofs.lemmas.List.{append_cancel_left}
+use Rattle.std.proofs.Common.{◌≡◌, ◌≢◌, ◌∙◌, ◌⊎◌, inl, inr, ◌<◌, ◌≤◌, ◌+◌, zero, suc, ℕ, List, [], ◌∷◌, ◌++◌, Bool, true, false, length, take, ap, refl, sym, subst, arith}
+use Rattle.std.specs.Prelude.{◌==◌, Some, drop, nat_lt, slice_get}
+use Rattle.std.proofs.lemmas.Bool.Decides.{nat_tests}
+use Rattle.std.proofs.lemmas.List.{append_cancel_left, take-append-drop}
 use Rattle.ufs_extent.specs.declared.Run.{Run}
 use Rattle.ufs_layout.specs.declared.records.LogRecord.{LogRecord}
 use Rattle.ufs_layout.specs.declared.records.LogRecord.TheVariants.{Delta}
@@ -34,3 +35,53 @@ one_delta inode before after records others a b =
     let keep = one_front before.runs after.runs a.keep b.keep a.front b.front in
     let given = append_cancel_left (take a.keep before.runs) a.given b.given (a.whole ∙ sym b.whole ∙ ap (λ n. take n before.runs ++ b.given) (sym keep)) in
     a.is ∙ (λ i. Delta inode 1 after.size (keep i) (extents_of (given i)) ∷ []) ∙ sym b.is
+
+-- ---- there is one
+
+same_number : (x y : ℕ) → (x ≡ y) ⊎ (x ≢ y)
+same_number x y = by (x == y) refl
+  where
+    by : (b : Bool) → (x == y) ≡ b → (x ≡ y) ⊎ (x ≢ y)
+    by true e = inl (grind (arith, nat_tests, e))
+    by false e = inr (λ same. grind (arith, nat_tests, e, same))
+
+same_run : (x y : Run) → (x ≡ y) ⊎ (x ≢ y)
+same_run x y = by (same_number x.start y.start) (same_number x.length y.length)
+  where
+    by : (x.start ≡ y.start) ⊎ (x.start ≢ y.start) → (x.length ≡ y.length) ⊎ (x.length ≢ y.length) → (x ≡ y) ⊎ (x ≢ y)
+    by (inl a) (inl b) = inl (λ i. record { start = a i; length = b i })
+    by (inl a) (inr not) = inr (λ e. not (ap (λ (r : Run). r.length) e))
+    by (inr not) b = inr (λ e. not (ap (λ (r : Run). r.start) e))
+
+same_some : (x y : Run) → Some x ≡ Some y → x ≡ y
+same_some x y e = cc
+
+-- the longest front that two lists share
+front : (xs ys : List Run) → (n : ℕ) × IsSharedFront xs ys n
+front [] ys = (0, record { in_one = omega arith; in_other = omega arith; same = refl; longest = λ less more e. absurd (omega (arith, less)) })
+front (x ∷ xs) [] = (0, record { in_one = omega arith; in_other = omega arith; same = refl; longest = λ less more e. absurd (omega (arith, more)) })
+front (x ∷ xs) (y ∷ ys) = by (same_run x y) (front xs ys)
+  where
+    by : (x ≡ y) ⊎ (x ≢ y) → (n : ℕ) × IsSharedFront xs ys n → (n : ℕ) × IsSharedFront (x ∷ xs) (y ∷ ys) n
+    by (inl e) rest = (
+      suc rest.0,
+      (let one = rest.1.in_one in let other = rest.1.in_other in record {
+        in_one = omega (arith, one);
+        in_other = omega (arith, other);
+        same = λ i. e i ∷ rest.1.same i;
+        longest = λ less more. rest.1.longest (omega (arith, less)) (omega (arith, more));
+      }),
+    )
+    by (inr not) rest = (0, record { in_one = omega arith; in_other = omega arith; same = refl; longest = λ less more e. not (same_some x y e) })
+
+pub delta_of : (inode : ℕ) (before after : FileState) → (records : List LogRecord) × IsDelta inode before after records
+delta_of inode before after = let shared = front before.runs after.runs in (
+  Delta inode 1 after.size shared.0 (extents_of (drop shared.0 after.runs)) ∷ [],
+  record {
+    keep = shared.0;
+    given = drop shared.0 after.runs;
+    front = shared.1;
+    whole = ap (λ (rs : List Run). rs ++ drop shared.0 after.runs) shared.1.same ∙ take-append-drop shared.0 after.runs;
+    is = refl;
+  },
+)

@@ -6,3 +6,4 @@ pub mod Deltas
 pub mod Marking
 pub mod Numbers
 pub mod Cleaned
+pub mod Stamping

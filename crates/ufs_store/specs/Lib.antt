@@ -5,3 +5,4 @@ pub mod Ledgers
 pub mod Mounting
 pub mod Tables
 pub mod Laws
+pub mod Stamping

@@ -17,6 +17,10 @@ impl<'a, D: Disk> Door for Direct<'a, D> {
 
     ghost keeps = { D.keeps };
 
+    ghost stamps = { ⊥ };
+
+    ghost allows = { λ image. ⊥ };
+
     ghost store = { λ d. ⟦<Store<D> as Door>⟧.store d.store.now };
 
     fn geometry(&self) -> Geometry {
@@ -60,4 +64,6 @@ impl<'a, D: Disk> Door for Direct<'a, D> {
     }
 
     ghost whole = { λ visible d. D.whole visible d.store.now.disk };
+
+    ghost sees = { λ stamped. absurd stamped };
 }

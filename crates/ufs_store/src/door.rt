@@ -2,9 +2,10 @@ ghost use Rattle.std.specs.Prelude.{ℕ, Bool, ◌≡◌, ◌≢◌, ◌↔◌, 
 ghost use Rattle.std.specs.List.{list_all};
 ghost use Rattle.std.specs.FinSet as set;
 ghost use Rattle.ufs_base.specs.Faults.{HasCause};
+ghost use Rattle.ufs_base.specs.Images.{Image};
 ghost use Rattle.ufs_base.specs.declared.sizes.TheConstants.{BLOCK};
 ghost use Rattle.ufs_bitmap.specs.Taking.{set_of};
-ghost use Rattle.ufs_disk.specs.Disk.{IsWhole};
+ghost use Rattle.ufs_disk.specs.Disk.{IsImage, IsWhole};
 ghost use Rattle.ufs_disk.specs.Moments.{LeavesOnly, reads};
 ghost use Rattle.ufs_ilog.specs.Deltas.{IsDelta};
 ghost use Rattle.ufs_image.specs.Fold.{is_in_range};
@@ -19,6 +20,7 @@ ghost use Rattle.ufs_ledger.specs.Ledger.{IsDataBlock, IsLedgerOf, IsLeftBy, Led
 ghost use Rattle.ufs_store.specs.Blocks.{AreApart, AreInside, MayReturn, MovesLowest};
 ghost use Rattle.ufs_store.specs.Ledgers.{AnyOf, HasAny, HasLedger, IsLeftByAny, MayCommitNext, after_commit, beginning_next, checkpointed, stages};
 ghost use Rattle.ufs_store.specs.Refusals.{IsTold, answer_of, fault_in, is_no_space, is_of_disk, stop_after};
+ghost use Rattle.ufs_store.specs.Stamping.{MayLeaveDelta, MayLeaveHome, MayLeaveStages, MayLeaveWritten};
 ghost use Rattle.ufs_store.specs.State.{StoreState, geometry_of_store, last_commit};
 ghost use Rattle.ufs_store.specs.declared.fault.StoreFault.TheVariants as refusal;
 
@@ -38,6 +40,12 @@ pub trait Door {
 
     /// Whether they see each moment.
     ghost keeps: { Bool };
+
+    /// Whether each call that writes stamps what a crash may leave meanwhile: its caller tells so before it.
+    ghost stamps: { Type 0 };
+
+    /// The images that a crash may leave then.
+    ghost allows: { Image → Type 0 };
 
     /// The store.
     ghost store: { Self → StoreState };
@@ -62,6 +70,9 @@ pub trait Door {
             → buf.new ≡ (l.blocks block).seen) }
         ensures crash { IsTrue visible → (l : Ledger) → IsLedgerOf (store self.old).sectors (store self.old).moments.state l
             → LeavesOnly keeps (IsLeftBy (store self.old).sectors l) (store self.old).moments (store self.new).moments }
+
+        // At no moment of the call a crash leaves what it might not have left before.
+        ensures images { IsTrue visible → LeavesOnly keeps (IsImage (store self.old).moments.state) (store self.old).moments (store self.new).moments }
         ensures on_disk { IsTrue visible → (l : Ledger) → IsLedgerOf (store self.old).sectors (store self.old).moments.state l → IsLedgerOf (store self.new).sectors (store self.new).moments.state l }
         ensures ledger { IsTrue visible → (l : Ledger) → HasLedger (store self.old) l → HasLedger (store self.new) l }
         ensures rest { store self.new ≡ record (store self.old) { moments = (store self.new).moments; faults = (store self.new).faults } }
@@ -73,6 +84,7 @@ pub trait Door {
     fn write_block(&mut self, block: u32, bytes: &[u8]) -> Result<(), StoreFault>
         requires there { IsDataBlock (geometry_of_store (store self.old)) block }
         requires sized { length bytes.now ≡ BLOCK }
+        requires stamped { stamps → (store self.old).stop ≡ None → MayLeaveWritten allows (store self.old) block bytes.now }
         ensures crash { IsTrue visible → (l : Ledger) → HasLedger (store self.old) l → MayWrite l block bytes.now
             → LeavesOnly keeps (IsLeftBy (store self.old).sectors (written block bytes.now l)) (store self.old).moments (store self.new).moments }
         ensures ok { IsTrue visible → OnOk result ((l : Ledger) → HasLedger (store self.old) l → MayWrite l block bytes.now → HasLedger (store self.new) (written block bytes.now l)) }
@@ -90,6 +102,7 @@ pub trait Door {
     fn settle(&mut self) -> Result<(), StoreFault>
         ensures crash { IsTrue visible → (l : Ledger) → HasLedger (store self.old) l
             → LeavesOnly keeps (IsLeftBy (store self.old).sectors l) (store self.old).moments (store self.new).moments }
+        ensures images { IsTrue visible → LeavesOnly keeps (IsImage (store self.old).moments.state) (store self.old).moments (store self.new).moments }
         ensures ok { IsTrue visible → OnOk result ((l : Ledger) → HasLedger (store self.old) l → HasLedger (store self.new) (settled l)) }
         ensures err { IsTrue visible → OnErr result ((l : Ledger) → HasLedger (store self.old) l → IsLedgerOf (store self.new).sectors (store self.new).moments.state l) }
         ensures nothing { (store self.old).unsettled ≡ false → store self.new ≡ store self.old }
@@ -106,6 +119,7 @@ pub trait Door {
     fn commit_names(&mut self, log: &mut NamesLog) -> Result<u64, StoreFault>
         requires in_range { IsTrue (list_all (is_in_range (geometry_of_store (store self.old))) log.old) }
         requires short { sector_count_of log.old < (geometry_of_store (store self.old)).journal }
+        requires stamped { stamps → (store self.old).stop ≡ None → log.old ≢ [] → MayLeaveStages allows (store self.old) log.old }
         ensures crash { IsTrue visible → log.old ≢ [] → (l : Ledger) → HasLedger (store self.old) l → MayCommitNext (store self.old) log.old l
             → LeavesOnly keeps (IsLeftByAny (store self.old).sectors (stages (store self.old) log.old l)) (store self.old).moments (store self.new).moments }
         ensures ok { IsTrue visible → log.old ≢ [] → OnOk result ((l : Ledger) → HasLedger (store self.old) l → MayCommitNext (store self.old) log.old l → HasLedger (store self.new) (after_commit (store self.old) log.old l)) }
@@ -133,6 +147,7 @@ pub trait Door {
     fn commit_file(&mut self, log: &mut InodeLog, freed: Runs) -> Result<u64, Uncommitted>
         requires inode { is_inode_number (geometry_of_store (store self.old)) log.old.inode ≡ true }
         requires apart { MayReturn (store self.old).unassigned freed }
+        requires stamped { stamps → (store self.old).stop ≡ None → log.old.noted ≢ log.old.committed → MayLeaveDelta allows (store self.old) log.old }
         ensures crash { IsTrue visible → (records : List LogRecord) → IsDelta log.old.inode log.old.committed log.old.noted records → log.old.noted ≢ log.old.committed → (l : Ledger) → HasLedger (store self.old) l → MayCommitNext (store self.old) records l
             → LeavesOnly keeps (IsLeftByAny (store self.old).sectors (stages (store self.old) records l)) (store self.old).moments (store self.new).moments }
         ensures ok { IsTrue visible → (records : List LogRecord) → IsDelta log.old.inode log.old.committed log.old.noted records → log.old.noted ≢ log.old.committed
@@ -144,6 +159,7 @@ pub trait Door {
         // With nothing to commit.
         ensures empty_crash { IsTrue visible → log.old.noted ≡ log.old.committed → (l : Ledger) → HasLedger (store self.old) l
             → LeavesOnly keeps (IsLeftBy (store self.old).sectors l) (store self.old).moments (store self.new).moments }
+        ensures empty_images { IsTrue visible → log.old.noted ≡ log.old.committed → LeavesOnly keeps (IsImage (store self.old).moments.state) (store self.old).moments (store self.new).moments }
         ensures empty_ok { IsTrue visible → log.old.noted ≡ log.old.committed → OnOk result ((l : Ledger) → HasLedger (store self.old) l → HasLedger (store self.new) (settled l)) }
         ensures empty_device { IsTrue visible → log.old.noted ≡ log.old.committed → OnErr result ((l : Ledger) → HasLedger (store self.old) l → IsLedgerOf (store self.new).sectors (store self.new).moments.state l) }
         ensures nothing { log.old.noted ≡ log.old.committed → (store self.old).unsettled ≡ false → ((store self.new).moments ≡ (store self.old).moments) × ((store self.new).faults ≡ (store self.old).faults) }
@@ -182,6 +198,7 @@ pub trait Door {
 
     /// Writes home all that is committed, and begins the next epoch with the whole journal.
     fn checkpoint(&mut self) -> Result<(), StoreFault>
+        requires stamped { stamps → (store self.old).stop ≡ None → MayLeaveHome allows (store self.old) }
         ensures crash { IsTrue visible → (l : Ledger) → HasLedger (store self.old) l
             → LeavesOnly keeps (IsLeftByAny (store self.old).sectors (l ∷ beginning_next (store self.old) l ∷ [])) (store self.old).moments (store self.new).moments }
         ensures ok { IsTrue visible → OnOk result ((l : Ledger) → HasLedger (store self.old) l → HasLedger (store self.new) (checkpointed (store self.old) l)) }
@@ -200,4 +217,7 @@ pub trait Door {
 
     /// Whatever a crash leaves in a sector is 512 bytes.
     ghost whole: { IsTrue visible → (door : Self) → IsWhole (store door).sectors (store door).moments.state };
+
+    /// Only a door whose contracts see what the disk holds stamps its calls.
+    ghost sees: { stamps → IsTrue visible };
 }

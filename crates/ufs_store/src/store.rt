@@ -1,4 +1,5 @@
 ghost use Rattle.std.specs.Prelude.{ℕ, List, ◌≡◌, ◌≢◌, ◌≤◌, ◌<◌, ◌+◌, ◌-◌, ◌⊎◌, ◌↔◌, IsTrue, true, false, None, Some, Ok, Err, OnOk, OnErr, IfErr, IfOk};
+ghost use Rattle.ufs_disk.specs.Disk.{IsImage};
 ghost use Rattle.ufs_disk.specs.Moments.{LeavesOnly, reads};
 ghost use Rattle.ufs_ilog.specs.Deltas.{IsDelta};
 ghost use Rattle.ufs_layout.specs.Areas.{IsGeometry, first_of_data, is_inode_number, sector_count};
@@ -115,6 +116,7 @@ fn check_stop(tables: &Tables) -> Result<(), StoreFault>
 fn pass_barrier<D: Disk>(tables: &mut Tables, disk: &mut D) -> Result<(), StoreFault>
     requires going { tables.old.stop ≡ None }
     ensures crash { IsTrue D.visible → (l : Ledger) → HasLedger (state_of (D.size disk.old) (D.moments disk.old) (D.faults disk.old) tables.old) l → LeavesOnly D.keeps (IsLeftBy (D.size disk.old) l) (D.moments disk.old) (D.moments disk.new) }
+    ensures images { IsTrue D.visible → LeavesOnly D.keeps (IsImage (D.moments disk.old).state) (D.moments disk.old) (D.moments disk.new) }
     ensures ok { IsTrue D.visible → OnOk result ((l : Ledger) → HasLedger (state_of (D.size disk.old) (D.moments disk.old) (D.faults disk.old) tables.old) l → HasLedger (state_of (D.size disk.new) (D.moments disk.new) (D.faults disk.new) tables.new) (settled l)) }
     ensures err { IsTrue D.visible → OnErr result ((l : Ledger) → HasLedger (state_of (D.size disk.old) (D.moments disk.old) (D.faults disk.old) tables.old) l → IsLedgerOf (D.size disk.new) (D.moments disk.new).state l) }
     ensures nothing { tables.old.unsettled ≡ false → (D.moments disk.new ≡ D.moments disk.old) × (D.faults disk.new ≡ D.faults disk.old) }
@@ -156,6 +158,7 @@ fn commit_delta<D: Disk>(
         → (fault : ℕ) → result ≡ Err (refusal.Device fault) → (l : Ledger) → HasLedger (state_of (D.size disk.old) (D.moments disk.old) (D.faults disk.old) tables.old) l → MayCommitNext (state_of (D.size disk.old) (D.moments disk.old) (D.faults disk.old) tables.old) records l → HasAny (state_of (D.size disk.new) (D.moments disk.new) (D.faults disk.new) tables.new) (stages (state_of (D.size disk.old) (D.moments disk.old) (D.faults disk.old) tables.old) records l) }
     ensures memory { IsTrue D.visible → result ≡ Err refusal.Memory → (l : Ledger) → HasLedger (state_of (D.size disk.old) (D.moments disk.old) (D.faults disk.old) tables.old) l → HasLedger (state_of (D.size disk.new) (D.moments disk.new) (D.faults disk.new) tables.new) l ⊎ HasLedger (state_of (D.size disk.new) (D.moments disk.new) (D.faults disk.new) tables.new) (checkpointed (state_of (D.size disk.old) (D.moments disk.old) (D.faults disk.old) tables.old) l) }
     ensures empty_crash { IsTrue D.visible → log.old.noted ≡ log.old.committed → (l : Ledger) → HasLedger (state_of (D.size disk.old) (D.moments disk.old) (D.faults disk.old) tables.old) l → LeavesOnly D.keeps (IsLeftBy (D.size disk.old) l) (D.moments disk.old) (D.moments disk.new) }
+    ensures empty_images { IsTrue D.visible → log.old.noted ≡ log.old.committed → LeavesOnly D.keeps (IsImage (D.moments disk.old).state) (D.moments disk.old) (D.moments disk.new) }
     ensures empty_ok { IsTrue D.visible → log.old.noted ≡ log.old.committed → OnOk result ((l : Ledger) → HasLedger (state_of (D.size disk.old) (D.moments disk.old) (D.faults disk.old) tables.old) l → HasLedger (state_of (D.size disk.new) (D.moments disk.new) (D.faults disk.new) tables.new) (settled l)) }
     ensures empty_err { IsTrue D.visible → log.old.noted ≡ log.old.committed → OnErr result ((l : Ledger) → HasLedger (state_of (D.size disk.old) (D.moments disk.old) (D.faults disk.old) tables.old) l → IsLedgerOf (D.size disk.new) (D.moments disk.new).state l) }
     ensures nothing { log.old.noted ≡ log.old.committed → tables.old.unsettled ≡ false → (D.moments disk.new ≡ D.moments disk.old) × (D.faults disk.new ≡ D.faults disk.old) }
@@ -193,6 +196,10 @@ impl<D: Disk> Door for Store<D> {
     ghost visible = { D.visible };
 
     ghost keeps = { D.keeps };
+
+    ghost stamps = { ⊥ };
+
+    ghost allows = { λ image. ⊥ };
 
     ghost store = { λ s. state_of (D.size s.disk) (D.moments s.disk) (D.faults s.disk) s.tables };
 
@@ -269,4 +276,6 @@ impl<D: Disk> Door for Store<D> {
     }
 
     ghost whole = { λ visible s. D.whole visible s.disk };
+
+    ghost sees = { λ stamped. absurd stamped };
 }

@@ -6,6 +6,7 @@ use Rattle.ufs_store.specs.State.{StoreState}
 use Rattle.ufs_durable.specs.State.{CommitState, IsNoted, state_of}
 use Rattle.ufs_durable.specs.Writes.{with_writes, writes_of}
 use Rattle.ufs_durable.proofs.Stages.{commit_whole, crash_early, crash_whole, device_whole, empty_whole, may_between, memory_whole}
+use Rattle.ufs_durable.proofs.Stamping.{synced_delta, synced_writes}
 use Rattle.ufs_durable.proofs.Standing.{noted_committed}
 use Rattle.ufs_durable.proofs.durable.fsync.Goals as goal
 
@@ -135,3 +136,16 @@ returns-in-Err-commit_file-clause-memory g c visible e l has may =
     let held = c.in_default.ensures.ok visible l has may in
     memory_whole s mid c.in_default.ensures.passed new (with_writes (writes_of now) l)
     (c.commit_file.ensures.memory visible (ap answer_of c.in-Err-commit_file.is ∙ e) (with_writes (writes_of now) l) held)
+
+pub write_dirty-requires-clause-stamped : goal.write_dirty-requires-clause-stamped
+write_dirty-requires-clause-stamped g c stamped going =
+    synced_writes g.D.Door.allows (g.D.Door.store c.args.door.now) (state_of c.args.hand.now c.args.commits.now) (c.requires.stamped stamped going)
+
+pub commit_file-requires-clause-stamped : goal.commit_file-requires-clause-stamped
+commit_file-requires-clause-stamped g c stamped going some =
+    let s = g.D.Door.store c.args.door.now in
+    let mid = g.D.Door.store c.write_dirty.new.door in
+    let passed = c.in_default.ensures.passed in
+    let leaves = c.requires.stamped stamped (sym (ap (λ (t : StoreState). t.stop) passed) ∙ going) in
+    let log : c.args.commits.now.log ≡ c.commits.inside.log = sym (ap (λ (v : CommitState). v.log) c.commits.view_is) in
+    synced_delta g.D.Door.allows s mid passed (state_of c.args.hand.now c.args.commits.now) c.commits.inside.log log some leaves (c.in_default.ensures.ok (g.met.D.Door.sees stamped) leaves.ledger leaves.knows leaves.may)

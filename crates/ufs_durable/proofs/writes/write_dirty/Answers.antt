@@ -7,6 +7,7 @@ use Rattle.ufs_store.specs.State.{StoreState}
 use Rattle.ufs_durable.specs.Writes.{BlockWrite, HasTriedOne, MayWriteAll, with_writes, write_at, writes_before, writes_of}
 use Rattle.ufs_durable.proofs.Behind.{run_begins}
 use Rattle.ufs_durable.proofs.Places.{all_by_end, before_next, none_before}
+use Rattle.ufs_durable.proofs.Stamping.{writes_here}
 use Rattle.ufs_durable.proofs.Turns.{both_none, may_here, next_here, none_here, run_here, tried_here}
 use Rattle.ufs_durable.proofs.writes.write_dirty.Goals as goal
 
@@ -91,3 +92,14 @@ returns-clause-nothing g c none =
     let end : c.loop-place.place ≡ dirty.result.end = omega (arith, c.loop-place-test.false, c.loop-place.auto.place-end, dirty.ensures.ordered) in
     let whole : writes_before f c.loop-place.place ≡ writes_of f = ap (writes_before f) end ∙ all_by_end f dirty.result.start dirty.result.end dirty.ensures.dirty dirty.ensures.marks in
     c.loop-place.invariant.nothing (whole ∙ none)
+
+pub write_place-requires-clause-stamped : goal.write_place-requires-clause-stamped
+write_place-requires-clause-stamped g c stamped going =
+    let f = c.args.hand.now in
+    let k : ℕ = c.loop-place.place in
+    let i = c.loop-place.invariant in
+    let s0 = g.D.Door.store c.args.door.now in
+    let s1 = g.D.Door.store c.loop-place.door in
+    let less : k < length f.content.dirty = omega (arith, c.loop-place-test.true, c.dirty_places-dirty.ensures.marks) in
+    let leaves = c.requires.stamped stamped (sym (ap (λ (s : StoreState). s.stop) i.passed) ∙ going) in
+    writes_here g.D.Door.allows f k less s0 s1 (ap (λ (s : StoreState). s.sectors) i.passed) leaves (i.has (g.met.D.Door.sees stamped) leaves.ledger leaves.knows leaves.may)

@@ -6,6 +6,7 @@ use Rattle.ufs_disk.specs.Disk.{seen}
 use Rattle.ufs_disk.proofs.Images.{seen_is_image}
 use Rattle.ufs_durable.proofs.Behind.{mixed_then, one_tried}
 use Rattle.ufs_durable.proofs.Cells.{length_block}
+use Rattle.ufs_durable.proofs.Stamping.{one_written}
 use Rattle.ufs_durable.proofs.writes.write_one.Goals as goal
 
 pub write_block-requires-clause-sized : goal.write_block-requires-clause-sized
@@ -26,3 +27,9 @@ returns-clause-stopped g c fault is = (c.write_block.ensures.stopped fault).1 is
 
 pub returns-clause-earlier : goal.returns-clause-earlier
 returns-clause-earlier g c fault is = (c.write_block.ensures.stopped fault).0 is
+
+pub write_block-requires-clause-stamped : goal.write_block-requires-clause-stamped
+write_block-requires-clause-stamped g c stamped going =
+    let w = write_of c.args.hand.now c.args.place in
+    let block : w.block ≡ c.in-Some.block = ap (λ (o : Option ℕ). unwrap_or o 0) (sym c.block_number.ensures ∙ c.in-Some.is) in
+    one_written g.D.Door.allows (g.D.Door.store c.args.door.now) w c.in-Some.block c.in-Some-block.bytes.now block (sym c.in-Some-block.ensures.bytes) (c.requires.stamped stamped going)
