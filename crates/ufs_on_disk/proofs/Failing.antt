@@ -39,13 +39,14 @@ use Rattle.ufs_durable.proofs.Others.{off_all}
 use Rattle.ufs_durable.proofs.Standing.{IsReady, same_block, writes_ready}
 use Rattle.ufs_store.specs.Ledgers.{HasAny, beginning_next, checkpointed, commit_stages, stages}
 use Rattle.ufs_store.specs.State.{StoreState, geometry_of_store, has_room, next_commit, next_superblock}
+use Rattle.ufs_store.proofs.Deltas.{delta_of}
 use Rattle.ufs_stored.specs.OnDisk.{AreReadable, HasNames, HasStopped, IsGoing}
 use Rattle.ufs_stored.specs.Parts.{Parts, durable_in}
 use Rattle.ufs_stored.specs.Stored.{IsFileWhole}
 use Rattle.ufs_stored.proofs.FileCommits.{other_file_is}
 use Rattle.ufs_stored.proofs.Reading.{begun_readable, home_readable, settled_readable, stored_readable}
 use Rattle.ufs_on_disk.specs.Syncs.{FailedSyncsGoOn, HasFailed}
-use Rattle.ufs_on_disk.proofs.Fronts.{delta_of, same_or_not}
+use Rattle.ufs_on_disk.proofs.SameStates.{same_or_not}
 use Rattle.ufs_on_disk.proofs.Live.{file_by_history, file_on_disk, file_to_commit, same_writes, whole_file}
 
 -- what holds of one of them

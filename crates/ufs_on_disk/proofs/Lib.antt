@@ -1,7 +1,7 @@
 pub mod Going
 pub mod Sound
 pub mod Told
-pub mod Fronts
+pub mod SameStates
 pub mod Syncing
 mod Live
 pub mod Failing

@@ -24,13 +24,14 @@ use Rattle.ufs_durable.specs.Writes.{MayWriteAll, writes_of}
 use Rattle.ufs_durable.proofs.Wholes.{writes_are_whole}
 use Rattle.ufs_store.specs.Ledgers.{HasLedger}
 use Rattle.ufs_store.specs.State.{StoreState}
+use Rattle.ufs_store.proofs.Deltas.{delta_of}
 use Rattle.ufs_stored.specs.Laws.{FilesAreCommitted, FilesAreSettled}
 use Rattle.ufs_stored.specs.OnDisk.{HasFiles, IsGoing}
 use Rattle.ufs_stored.specs.Parts.{Parts, durable_in, with_file}
 use Rattle.ufs_stored.specs.Stored.{IsFileStored, IsFileWhole, IsStored}
 use Rattle.ufs_stored.proofs.Whole.{fits_whole, tree_may}
 use Rattle.ufs_on_disk.specs.Syncs.{FileSyncsGoOn, HasSynced}
-use Rattle.ufs_on_disk.proofs.Fronts.{delta_of, same_or_not}
+use Rattle.ufs_on_disk.proofs.SameStates.{same_or_not}
 
 -- ---- which files are done
 

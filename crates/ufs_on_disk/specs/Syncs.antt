@@ -18,12 +18,13 @@ use Rattle.ufs_ledger.specs.Ledger.{IsLedgerOf, IsLeftBy, Ledger}
 use Rattle.ufs_model.specs.PosixTree.{PosixTree}
 use Rattle.ufs_model.specs.declared.data.Entry.{Entry}
 use Rattle.ufs_durable.specs.Committing.{FitsInode}
+use Rattle.ufs_durable.specs.Stamping.{MayLeaveSynced}
 use Rattle.ufs_durable.specs.State.{DurableState, file_committed}
 use Rattle.ufs_durable.specs.Writes.{AreDataBlocks, HasCommitted, HasTriedOne, MayWriteAll, at_moments, with_writes, writes_of}
 use Rattle.ufs_store.specs.Blocks.{MayReturn}
 use Rattle.ufs_store.specs.Ledgers.{HasAny, HasLedger, IsLeftByAny, MayCommitNext, checkpointed, stages}
 use Rattle.ufs_store.specs.State.{StoreState, geometry_of_store}
-use Rattle.ufs_stored.specs.OnDisk.{HasFiles, HasNames, HasStopped, IsExplainedBetween, IsGoing, IsOnDisk}
+use Rattle.ufs_stored.specs.OnDisk.{HasFiles, HasNames, HasStopped, IsExplainedBetween, IsExplainedImage, IsGoing, IsOnDisk}
 use Rattle.ufs_stored.specs.Parts.{Commits, Parts, durable_in, with_file}
 use Rattle.ufs_stored.specs.Sound.{IsSoundServer}
 
@@ -98,7 +99,12 @@ abbrev pub WrittenSyncsGoOn : Geometry → Type 0
 WrittenSyncsGoOn g = (old new : StoreState) (start : PosixTree) (history : List Entry) (p : Parts) (f : FileState) → geometry_of_store old ≡ g → map.get p.files f.file ≡ Some f → IsSome (map.get p.names.held f.file)
     → HasWritten old new (durable_in p.commits f) → HasNames old start history p → IsGoing new start history p
 
--- At each moment the history explains whatever a crash leaves.
+-- While a file is committed a crash leaves only what the history explains,
+abbrev pub FileSyncsMayLeave : Geometry → Type 0
+FileSyncsMayLeave g = (s : StoreState) (start : PosixTree) (history : List Entry) (p : Parts) (f : FileState) → geometry_of_store s ≡ g → map.get p.files f.file ≡ Some f → IsSome (map.get p.names.held f.file)
+    → FitsInode f → HasNames s start history p → MayLeaveSynced (IsExplainedImage s.sectors start history) s (durable_in p.commits f)
+
+-- so at each moment of the commit.
 abbrev pub FileSyncsAreExplained : Geometry → Type 0
 FileSyncsAreExplained g = (keeps : Bool) (old new : StoreState) (start : PosixTree) (history : List Entry) (p : Parts) (f : FileState) → geometry_of_store old ≡ g → map.get p.files f.file ≡ Some f → IsSome (map.get p.names.held f.file)
     → FitsInode f → LeavesStages keeps old new (durable_in p.commits f) → HasNames old start history p → IsExplainedBetween keeps old.sectors start history old.moments new.moments

@@ -2,7 +2,7 @@
 ghost use Rattle.ufs_layout.specs.Areas.{IsGeometry};
 ghost use Rattle.ufs_on_disk.specs.Fetches.{FetchesAreExplained, FetchesGoOn, FetchesReadTheTree, PartsByFetches, SoundByFetches};
 ghost use Rattle.ufs_on_disk.specs.Requests.{FileRequestsGoOn, FreeBlocksGoOn, PartsByExcuses, PartsByFileRequests, SoundByFileRequests, SoundByFreeBlocks};
-ghost use Rattle.ufs_on_disk.specs.Syncs.{CommittedIsForgotten, FailedSyncsGoOn, FileSyncsAreExplained, FileSyncsGoOn, OnDiskAsTold, PutBackAsItWas, SoundAsTold, SoundByFileSyncs, SyncedAsTold, SyncsMayBegin, WrittenSyncsGoOn};
+ghost use Rattle.ufs_on_disk.specs.Syncs.{CommittedIsForgotten, FailedSyncsGoOn, FileSyncsAreExplained, FileSyncsGoOn, FileSyncsMayLeave, OnDiskAsTold, PutBackAsItWas, SoundAsTold, SoundByFileSyncs, SyncedAsTold, SyncsMayBegin, WrittenSyncsGoOn};
 
 use ufs_durable::{committing_law, others_law, standing_law};
 use ufs_layout::Geometry;
@@ -72,7 +72,8 @@ pub fn file_memory_law(geometry: &Geometry)
 /// At each moment of the commit of a file, whatever a crash leaves is explained and proper.
 pub fn file_moments_law(geometry: &Geometry)
     requires { IsGeometry geometry.now }
-    ensures { FileSyncsAreExplained geometry.now }
+    ensures allowed { FileSyncsMayLeave geometry.now }
+    ensures moments { FileSyncsAreExplained geometry.now }
 {
     always_law(geometry);
     committing_law();

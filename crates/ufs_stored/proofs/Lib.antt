@@ -25,5 +25,6 @@ mod NotesLaw
 pub mod Pools
 mod OnDisk
 mod Stopping
-mod Always
+pub mod Always
+pub mod Stamping
 pub mod Stretches

@@ -1,6 +1,7 @@
 -- What a crash leaves at each moment of a store's calls.
 use Rattle.std.specs.Prelude.{ℕ, ◌≡◌, Bool, List, [], ◌∷◌}
 use Rattle.std.specs.List.{AllByRecursion}
+use Rattle.ufs_base.specs.Images.{Image}
 use Rattle.ufs_disk.specs.Moments.{LeavesOnly, Moments}
 use Rattle.ufs_layout.specs.Superblock.{geometry_of}
 use Rattle.ufs_layout.specs.declared.geometry.Geometry.{Geometry}
@@ -12,7 +13,7 @@ use Rattle.ufs_model.specs.PosixTree.{PosixTree}
 use Rattle.ufs_model.specs.declared.data.Entry.{Entry}
 use Rattle.ufs_store.specs.Ledgers.{IsLeftByAny, beginning_next, stages, with_room}
 use Rattle.ufs_store.specs.State.{StoreState, geometry_of_store, next_commit}
-use Rattle.ufs_stored.specs.OnDisk.{IsExplainedBetween, IsOnDisk}
+use Rattle.ufs_stored.specs.OnDisk.{IsExplainedBetween, IsExplainedImage, IsOnDisk}
 use Rattle.ufs_stored.specs.Parts.{Parts}
 
 -- A ledger of this form, of which the history explains whatever a crash leaves.
@@ -21,6 +22,26 @@ pub record IsKeptLedger (g : Geometry) (start : PosixTree) (history : List Entry
   pub maybe : Counts
   pub formed : geometry_of l.superblock ≡ g
   pub kept : IsLedgerKept l start history now maybe
+
+-- ---- one image
+
+-- The history explains each image that such a ledger leaves.
+abbrev pub ImagesAreExplained : Geometry → Type 0
+ImagesAreExplained g = (sectors : ℕ) (image : Image) (l : Ledger) (start : PosixTree) (history : List Entry)
+    → IsKeptLedger g start history l → IsLeftBy sectors l image → IsExplainedImage sectors start history image
+
+-- So it is in a checkpoint,
+abbrev pub CheckpointImagesAreExplained : Geometry → Type 0
+CheckpointImagesAreExplained g = (s : StoreState) (image : Image) (l : Ledger) (start : PosixTree) (history : List Entry) (counts : Counts) → geometry_of l.superblock ≡ g → l.superblock ≡ s.superblock
+    → IsLedgerKept l start history counts counts → IsLeftByAny s.sectors (l ∷ beginning_next s l ∷ []) image → IsExplainedImage s.sectors start history image
+
+-- and in a commit, where it keeps the promise by these counts.
+abbrev pub CommitImagesAreExplained : Geometry → Type 0
+CommitImagesAreExplained g = (s : StoreState) (records : List LogRecord) (image : Image) (l : Ledger) (start : PosixTree) (history : List Entry) (counts next : Counts) → geometry_of l.superblock ≡ g → l.superblock ≡ s.superblock
+    → IsLedgerKept l start history counts counts → IsLedgerKept (committing (next_commit s records) (settled (with_room s records l))) start history counts next
+    → IsLeftByAny s.sectors (stages s records l) image → IsExplainedImage s.sectors start history image
+
+-- ---- each moment of calls
 
 -- Calls leave what such a ledger has,
 abbrev pub LedgersAreExplained : Geometry → Type 0

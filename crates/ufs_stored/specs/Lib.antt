@@ -5,3 +5,4 @@ pub mod Sound
 pub mod OnDisk
 pub mod OnDiskLaws
 pub mod AlwaysLaws
+pub mod Stamping

@@ -1,6 +1,6 @@
 // Laws of the definitions, each the contract of a function that does nothing.
 ghost use Rattle.ufs_layout.specs.Areas.{IsGeometry};
-ghost use Rattle.ufs_stored.specs.AlwaysLaws.{CheckpointsAreExplained, CommitsAreExplained, LedgersAreExplained, RestIsExplained, StagesAreExplained};
+ghost use Rattle.ufs_stored.specs.AlwaysLaws.{CheckpointImagesAreExplained, CheckpointsAreExplained, CommitImagesAreExplained, CommitsAreExplained, ImagesAreExplained, LedgersAreExplained, RestIsExplained, StagesAreExplained};
 ghost use Rattle.ufs_stored.specs.OnDiskLaws.{AllIsSynced, BarriersStop, CheckpointsStop, CommitsStop, FileIsSynced, NamesAreSynced, OnDiskIsExcused, OnDiskIsExplained, OnDiskIsProper, OnDiskIsRefused, OnDiskReads, OnDiskStaysBeside, OnDiskStaysStill, WritesStop};
 ghost use Rattle.ufs_stored.specs.Laws.{BlocksMove, CallsAreExplained, DirFsyncsKeep, EmptiedIsStored, ExcusesKeep, FileEntriesKeep, FilesAreCommitted, FilesAreSettled, FsyncsKeep, NameEntriesKeep, NamesAreCommitted, NamesAreCommitting, NamesMayCommit, NotesGoOn, QuietEntriesKeep, SettledIsStored, SpelledIsStored, StillEntriesKeep, StoredIsExplained, SyncsKeep, WrittenIsStored};
 
@@ -144,6 +144,9 @@ pub fn stopping_law(geometry: &Geometry)
 /// At each moment of calls of a store, whatever a crash leaves is explained and proper.
 pub fn always_law(geometry: &Geometry)
     requires { IsGeometry geometry.now }
+    ensures image { ImagesAreExplained geometry.now }
+    ensures checkpoint_image { CheckpointImagesAreExplained geometry.now }
+    ensures commit_image { CommitImagesAreExplained geometry.now }
     ensures ledger { LedgersAreExplained geometry.now }
     ensures stages { StagesAreExplained geometry.now }
     ensures checkpoint { CheckpointsAreExplained geometry.now }

@@ -1,28 +1,22 @@
 -- Whichever ledger a store knows, it knows one on which no dentry may be set yet in the blocks that directories took.
-use Rattle.std.proofs.Common.{◌≡◌, ◌≢◌, ℕ, ◌⊎◌, inl, inr, Bool, true, false, List, [], None, ap, sym, refl, ◌∙◌}
+use Rattle.std.proofs.Common.{◌≡◌, ℕ, ◌⊎◌, inl, inr, Bool, true, false, List, [], ap, sym, refl, ◌∙◌}
 use Rattle.std.specs.Prelude.{IsTrue, if◌then◌else◌}
-use Rattle.std.specs.FinMap as map
 use Rattle.ufs_bitmap.specs.Blocks.{BlockSet}
 use Rattle.ufs_bitmap.specs.Taking.{has}
 use Rattle.ufs_bitmap.proofs.TakingLemmas.{has-none}
-use Rattle.ufs_disk.specs.Disk.{Cell}
-use Rattle.ufs_image.specs.Catalog.{IsDirBlock}
 use Rattle.ufs_layout.specs.Superblock.{geometry_of}
-use Rattle.ufs_layout.specs.declared.geometry.Geometry.{Geometry}
 use Rattle.ufs_ledger.specs.Changes.{with_dirs}
-use Rattle.ufs_ledger.specs.Kept.{Counts, IsLedgerKept}
+use Rattle.ufs_ledger.specs.Kept.{Counts}
 use Rattle.ufs_ledger.specs.Laws.{LedgersAreSound}
 use Rattle.ufs_ledger.specs.Ledger.{CoversDirs, Ledger}
-use Rattle.ufs_ledger.proofs.Joining.{shrinks}
 use Rattle.ufs_model.specs.PosixTree.{PosixTree}
 use Rattle.ufs_model.specs.declared.data.Entry.{Entry}
-use Rattle.ufs_durable.specs.Standing.{IsFileBlock, StandsFor}
-use Rattle.ufs_durable.specs.State.{DurableState}
+use Rattle.ufs_durable.specs.Standing.{IsFileBlock}
 use Rattle.ufs_store.specs.Ledgers.{HasLedger}
 use Rattle.ufs_store.specs.State.{StoreState}
 use Rattle.ufs_stored.specs.OnDisk.{IsGoing}
-use Rattle.ufs_stored.specs.Parts.{Parts, TheNames, durable_in}
-use Rattle.ufs_stored.specs.Stored.{AreNamesNoted, AreNamesStored, IsFileStored, IsFileWhole, IsSpelled, IsStored, with_born}
+use Rattle.ufs_stored.specs.Parts.{Parts}
+use Rattle.ufs_stored.specs.Stored.{IsSpelled, IsStored}
 use Rattle.ufs_synced.specs.Ready.{HasZeros}
 use Rattle.ufs_synced.proofs.Fewer.{fewer_known, fewer_stored, file_block}
 

@@ -3,7 +3,8 @@ use Rattle.std.proofs.Common.{◌≡◌, ℕ, ◌⊎◌, inl, inr, Bool, true, f
 use Rattle.std.specs.Prelude.{IsSome, if◌then◌else◌}
 use Rattle.ufs_bitmap.specs.Space.{Space}
 use Rattle.ufs_bitmap.specs.Taking.{has}
-use Rattle.ufs_disk.specs.Moments.{LeavesOnly, Moments, reads}
+use Rattle.ufs_disk.specs.Moments.{reads}
+use Rattle.ufs_disk.proofs.Runs.{weaker}
 use Rattle.ufs_image.specs.Catalog.{IsInode}
 use Rattle.ufs_image.specs.Images.{block_at}
 use Rattle.ufs_layout.specs.Superblock.{geometry_of}
@@ -18,15 +19,15 @@ use Rattle.ufs_model.specs.declared.data.Entry.{Entry}
 use Rattle.ufs_name_log.specs.Laws.{AreOlder}
 use Rattle.ufs_name_tree.specs.NameTable.{IsNameTable}
 use Rattle.ufs_store.specs.Ledgers.{HasAny, HasLedger, IsLeftByAny, MayCommitNext, after_commit, checkpointed, stages, with_room}
-use Rattle.ufs_store.specs.State.{StoreState, geometry_of_store, has_room, next_commit, next_superblock}
-use Rattle.ufs_stored.specs.AlwaysLaws.{CommitsAreExplained}
+use Rattle.ufs_store.specs.State.{StoreState, has_room, next_commit, next_superblock}
+use Rattle.ufs_stored.specs.AlwaysLaws.{CommitImagesAreExplained}
 use Rattle.ufs_stored.specs.Laws.{EmptiedIsStored, HasNamesToCommit, NamesAreCommitted, NamesAreCommitting, NamesMayCommit, all_named, with_names_committed}
-use Rattle.ufs_stored.specs.OnDisk.{HasNames, HasStopped, IsExplainedBetween, IsGoing}
+use Rattle.ufs_stored.specs.OnDisk.{HasNames, HasStopped, IsExplainedImage, IsGoing}
 use Rattle.ufs_stored.specs.OnDiskLaws.{CommitsStop}
 use Rattle.ufs_stored.specs.Parts.{Parts}
 use Rattle.ufs_stored.specs.Stored.{IsSpelled, IsStored}
 use Rattle.ufs_stored.proofs.Numbered.{has_inode}
-use Rattle.ufs_synced.specs.Laws.{IsBeside}
+use Rattle.ufs_synced.specs.Laws.{IsBeside, NamesAreExplained, NamesMayLeave}
 use Rattle.ufs_synced.specs.Ready.{HasSpelled}
 
 module _ (g : Geometry) (old new : StoreState) (start : PosixTree) (history : List Entry) (p : Parts) (beside : IsBeside g old new) (h : HasSpelled old start history p) where
@@ -118,13 +119,21 @@ module _ (g : Geometry) (old new : StoreState) (start : PosixTree) (history : Li
           stop old new records l start history k (all_named start history p.names k) p beside.new_form formed stopped led (leaves l led may)
           (meanwhile (with_room old records l) old.unassigned.free start history k p old.journal.number records room_to_commit (room_stored empties records)) (moved l k p h.stored)
 
--- at each moment of the commit
-pub names_explained : (g : Geometry) → LedgersAreSound → NamesMayCommit g → EmptiedIsStored g → NamesAreCommitting g → CommitsAreExplained g → (keeps : Bool) (s : StoreState) (new : Moments) (start : PosixTree) (history : List Entry) (p : Parts)
-    (records : List LogRecord) → geometry_of_store s ≡ g → p.names.tree.noted ≡ Some records → IsNameTable p.names.tree
-    → ((m : Ledger) → HasLedger s m → MayCommitNext s records m → LeavesOnly keeps (IsLeftByAny s.sectors (stages s records m)) s.moments new) → HasSpelled s start history p → IsExplainedBetween keeps s.sectors start history s.moments new
-names_explained g sound mays empties meanwhile explained keeps s new start history p records same noted table run h =
+-- ---- meanwhile
+
+pub names_may_leave : (g : Geometry) → LedgersAreSound → NamesMayCommit g → EmptiedIsStored g → NamesAreCommitting g → CommitImagesAreExplained g → NamesMayLeave g
+names_may_leave g sound mays empties meanwhile each s start history p records same noted table h =
     let beside : IsBeside g s s = record { old_form = same; new_form = same; unassigned = refl } in
-    explained keeps s records s.moments new h.ledger start history h.counts (all_named start history p.names h.counts) (h.formed ∙ same) h.knows.superblock_is h.stored.kept
-    (meanwhile (with_room s records h.ledger) s.unassigned.free start history h.counts p s.journal.number records (room_to_commit g s s start history p beside h records noted table)
-    (room_stored g s s start history p beside h empties records))
-    (run h.ledger h.knows (may g s s start history p beside h records noted table sound mays))
+    record {
+      ledger = h.ledger;
+      knows = h.knows;
+      may = may g s s start history p beside h records noted table sound mays;
+      allowed = λ image. each s records image h.ledger start history h.counts (all_named start history p.names h.counts) (h.formed ∙ same) h.knows.superblock_is h.stored.kept
+          (meanwhile (with_room s records h.ledger) s.unassigned.free start history h.counts p s.journal.number records (room_to_commit g s s start history p beside h records noted table)
+          (room_stored g s s start history p beside h empties records));
+    }
+
+pub names_explained : (g : Geometry) → NamesMayLeave g → NamesAreExplained g
+names_explained g leaves keeps s new start history p records same noted table run h =
+    let told = leaves s start history p records same noted table h in
+    weaker keeps (IsLeftByAny s.sectors (stages s records told.ledger)) (IsExplainedImage s.sectors start history) told.allowed s.moments new (run told.ledger told.knows told.may)

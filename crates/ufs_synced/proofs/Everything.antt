@@ -1,11 +1,10 @@
 -- Where all changes of names and of each live file stand on the disk everything does.
-use Rattle.std.proofs.Common.{◌≡◌, ℕ, ◌+◌, ◌≤◌, ◌⊎◌, inl, inr, true, None, List, [], ◌∷◌, ◌++◌, length, ap, sym, refl, ◌∙◌, subst, arith}
+use Rattle.std.proofs.Common.{◌≡◌, ℕ, ◌+◌, ◌≤◌, inl, true, List, [], ◌∷◌, ◌++◌, length, ap, sym, refl, ◌∙◌, subst, arith}
 use Rattle.std.specs.Prelude.{IsSome}
 use Rattle.std.specs.FinMap as map
 use Rattle.ufs_bitmap.specs.Taking.{has}
 use Rattle.ufs_layout.specs.Superblock.{geometry_of}
-use Rattle.ufs_layout.specs.declared.geometry.Geometry.{Geometry}
-use Rattle.ufs_ledger.specs.Kept.{Counts, IsLedgerKept}
+use Rattle.ufs_ledger.specs.Kept.{Counts}
 use Rattle.ufs_ledger.specs.Laws.{CommitsKeep, StandsOn}
 use Rattle.ufs_ledger.specs.Ledger.{Ledger}
 use Rattle.ufs_model.specs.History.{IsLegalFrom, goes_on, tree_after}
@@ -19,7 +18,7 @@ use Rattle.ufs_prefix.specs.declared.data.FileChange.{FileChange}
 use Rattle.ufs_prefix.proofs.Facts.Contents.{unborn_still}
 use Rattle.ufs_prefix.proofs.Facts.Entries.{next_rises}
 use Rattle.ufs_prefix.proofs.Facts.Sessions.{next_after, tree_goes_on}
-use Rattle.ufs_store.specs.State.{StoreState, geometry_of_store}
+use Rattle.ufs_store.specs.State.{StoreState}
 use Rattle.ufs_stored.specs.OnDisk.{HasAll, HasFiles, IsGoing}
 use Rattle.ufs_stored.specs.Parts.{Parts}
 use Rattle.ufs_stored.specs.Stored.{IsStored}

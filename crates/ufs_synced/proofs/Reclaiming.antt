@@ -1,5 +1,5 @@
 -- What is dropped comes back behind a checkpoint.
-use Rattle.std.proofs.Common.{◌≡◌, ◌≢◌, ℕ, ◌⊎◌, inl, inr, ◌||◌, ◌∷◌, Bool, true, false, List, [], Option, Some, None, ap, sym, refl, ◌∙◌, subst}
+use Rattle.std.proofs.Common.{◌≡◌, ◌≢◌, ℕ, ◌⊎◌, inl, inr, ◌||◌, Bool, true, false, List, [], Option, Some, ap, sym, refl, ◌∙◌, subst}
 use Rattle.std.specs.Prelude.{IsSome, IsTrue, flat_map, if◌then◌else◌, unwrap_or}
 use Rattle.std.specs.List.{range_with_len, slice_get}
 use Rattle.std.specs.FinMap as map
@@ -27,20 +27,21 @@ use Rattle.ufs_model.specs.PosixTree.{PosixTree}
 use Rattle.ufs_model.specs.declared.data.Entry.{Entry}
 use Rattle.ufs_model.proofs.Facts.Lookups.{from_some, same_some}
 use Rattle.ufs_durable.specs.Standing.{IsFileBlock}
-use Rattle.ufs_durable.specs.State.{CommitState, DurableState, whole_of}
+use Rattle.ufs_durable.specs.State.{CommitState, whole_of}
 use Rattle.ufs_durable.proofs.Standing.{blocks_are}
 use Rattle.ufs_store.specs.Ledgers.{HasLedger, checkpointed}
 use Rattle.ufs_bitmap.specs.Space.{Space}
-use Rattle.ufs_store.specs.State.{StoreState, geometry_of_store, next_superblock}
+use Rattle.ufs_store.specs.State.{StoreState, next_superblock}
+use Rattle.ufs_stored.specs.AlwaysLaws.{CheckpointImagesAreExplained}
 use Rattle.ufs_stored.specs.Laws.{EmptiedIsStored}
 use Rattle.ufs_stored.specs.OnDisk.{IsGoing}
 use Rattle.ufs_stored.specs.OnDiskLaws.{CheckpointsStop}
 use Rattle.ufs_stored.specs.Parts.{FileOwns, NamesOwn, OneFile, Owner, Owns, Parts, TheNames, ThePool, Unassigned, committed_as, durable_in}
 use Rattle.ufs_stored.specs.Sound.{IsSoundServer}
-use Rattle.ufs_stored.specs.Stored.{AreNamesNoted, AreNamesStored, AreSpaced, FileHasIt, IsFileStored, IsKnownBlock, IsStored, with_fresh}
+use Rattle.ufs_stored.specs.Stored.{AreNamesStored, FileHasIt, IsFileStored, IsKnownBlock, IsStored, with_fresh}
 use Rattle.ufs_stored.proofs.Places.{held_at}
 use Rattle.ufs_stored.proofs.Unfresh.{never}
-use Rattle.ufs_synced.specs.Laws.{CheckpointsFail, DroppedIsReclaimed, HasNothingNoted, IsBeside, ReclaimedIsPart, ReclaimedIsSound, with_reclaimed}
+use Rattle.ufs_synced.specs.Laws.{CheckpointsFail, CheckpointsMayLeave, DroppedIsReclaimed, HasNothingNoted, IsBeside, ReclaimedIsPart, ReclaimedIsSound, with_reclaimed}
 use Rattle.ufs_synced.proofs.Fewer.{fewer, fewer_known, fewer_stored}
 use Rattle.ufs_synced.proofs.There.{no_steps}
 
@@ -269,3 +270,10 @@ pub checkpoint_fails : (g : Geometry) → CheckpointsStop g → CheckpointsFail 
 checkpoint_fails g stops old new start history p beside stopped leaves go =
     stops old new go.ledger start history go.counts p beside.new_form (go.formed ∙ beside.old_form) stopped go.has (leaves go.ledger go.has)
     (subst (λ (a : Space). IsStored go.ledger a.free start history go.counts p) (sym beside.unassigned) go.stored)
+
+pub checkpoint_may_leave : (g : Geometry) → CheckpointImagesAreExplained g → CheckpointsMayLeave g
+checkpoint_may_leave g each s start history p same go = record {
+  ledger = go.ledger;
+  knows = go.has;
+  allowed = λ image. each s image go.ledger start history go.counts (go.formed ∙ same) go.has.superblock_is go.stored.kept;
+}

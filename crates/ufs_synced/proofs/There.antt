@@ -1,17 +1,15 @@
 -- Where nothing is noted all changes of names stand on the disk.
-use Rattle.std.proofs.Common.{◌≡◌, ℕ, ◌≤◌, ◌⊎◌, inl, inr, true, false, List, [], ◌∷◌, Option, Some, None, length, ap, sym, refl, ◌∙◌, subst, arith}
+use Rattle.std.proofs.Common.{◌≡◌, ℕ, ◌≤◌, ◌⊎◌, inl, inr, false, List, [], ◌∷◌, Some, None, length, ap, sym, refl, ◌∙◌, subst, arith}
 use Rattle.std.specs.Prelude.{IsSome}
 use Rattle.std.specs.FinMap as map
 use Rattle.ufs_bitmap.specs.Blocks.{BlockSet}
 use Rattle.ufs_bitmap.specs.Taking.{has}
-use Rattle.ufs_dir_tree.specs.DirTable.{DirTable}
 use Rattle.ufs_dir_tree.specs.Steps.{DirState, Step, after_all}
 use Rattle.ufs_file.specs.Hand.{FileState}
 use Rattle.ufs_image.specs.Catalog.{HasBlock}
 use Rattle.ufs_layout.specs.Superblock.{geometry_of}
 use Rattle.ufs_layout.specs.declared.geometry.Geometry.{Geometry}
-use Rattle.ufs_layout.specs.declared.records.LogRecord.{LogRecord}
-use Rattle.ufs_ledger.specs.Kept.{Counts, IsKeptBy, IsLedgerKept}
+use Rattle.ufs_ledger.specs.Kept.{Counts, IsLedgerKept}
 use Rattle.ufs_ledger.specs.Laws.{CommitsKeep, StandsOn}
 use Rattle.ufs_ledger.specs.Ledger.{Ledger, with_one}
 use Rattle.ufs_model.specs.FileBytes.{bytes_of}
@@ -36,7 +34,7 @@ use Rattle.ufs_store.specs.State.{StoreState, geometry_of_store}
 use Rattle.ufs_stored.specs.Laws.{all_named, with_names_committed}
 use Rattle.ufs_stored.specs.OnDisk.{HasNames, IsGoing}
 use Rattle.ufs_stored.specs.Parts.{NamesOwn, Parts, durable_in}
-use Rattle.ufs_stored.specs.Stored.{AreNamesNoted, AreNamesStored, FileHasIt, IsFileStored, IsFileWhole, IsKnownBlock, IsStored, with_fresh, with_none}
+use Rattle.ufs_stored.specs.Stored.{AreNamesNoted, AreNamesStored, FileHasIt, IsFileStored, IsKnownBlock, IsStored, with_fresh, with_none}
 use Rattle.ufs_stored.proofs.Numbered.{alone_now, born_now, has_inode, live, names_now, numbered}
 use Rattle.ufs_stored.proofs.Unfresh.{before, never, part_committed, sound_zeroed}
 

@@ -9,8 +9,7 @@ use Rattle.ufs_bitmap.specs.Taking.{has}
 use Rattle.ufs_bitmap.proofs.SetLemmas.{has-insert}
 use Rattle.ufs_bitmap.proofs.TakingLemmas.{has-append, has-none}
 use Rattle.ufs_disk.specs.Disk.{possible}
-use Rattle.ufs_disk.specs.Moments.{LeavesOnly, Moments}
-use Rattle.ufs_disk.proofs.Runs.{started}
+use Rattle.ufs_disk.proofs.Runs.{started, weaker}
 use Rattle.ufs_layout.specs.declared.geometry.Geometry.{Geometry}
 use Rattle.ufs_ledger.specs.Changes.{tried, written}
 use Rattle.ufs_ledger.specs.Laws.{MayWrite}
@@ -18,14 +17,14 @@ use Rattle.ufs_ledger.specs.Ledger.{IsLedgerOf, IsLeftBy, Ledger}
 use Rattle.ufs_model.specs.PosixTree.{PosixTree}
 use Rattle.ufs_model.specs.declared.data.Entry.{Entry}
 use Rattle.ufs_store.specs.Ledgers.{HasLedger}
-use Rattle.ufs_store.specs.State.{StoreState, geometry_of_store}
-use Rattle.ufs_stored.specs.AlwaysLaws.{IsKeptLedger, LedgersAreExplained}
+use Rattle.ufs_store.specs.State.{StoreState}
+use Rattle.ufs_stored.specs.AlwaysLaws.{ImagesAreExplained, LedgersAreExplained}
 use Rattle.ufs_stored.specs.Laws.{WrittenIsStored}
-use Rattle.ufs_stored.specs.OnDisk.{HasStopped, IsExplainedBetween}
+use Rattle.ufs_stored.specs.OnDisk.{HasStopped, IsExplainedImage}
 use Rattle.ufs_stored.specs.OnDiskLaws.{BarriersStop, WritesStop}
 use Rattle.ufs_stored.specs.Parts.{Parts}
 use Rattle.ufs_stored.specs.Stored.{IsStored}
-use Rattle.ufs_synced.specs.Laws.{IsBeside}
+use Rattle.ufs_synced.specs.Laws.{BarriersAreExplained, IsBeside, ZerosAreExplained, ZerosMayLeave, ZerosStay}
 use Rattle.ufs_synced.specs.Ready.{HasZeros, zeros}
 
 alone : (b : Bool) → b ≡ (b || false)
@@ -73,24 +72,27 @@ module _ (g : Geometry) (old new : StoreState) (start : PosixTree) (history : Li
   pub barrier_fails : BarriersStop g → IsSome new.stop → ((m : Ledger) → HasLedger old m → IsLedgerOf new.sectors new.moments.state m) → HasStopped new start history p
   barrier_fails stops stop leaves = stops new l start history z.counts p beside.new_form (z.formed ∙ beside.old_form) stop (leaves l z.knows) (moved l z.stored)
 
--- ---- each moment
+-- ---- meanwhile
 
-module _ (g : Geometry) (s : StoreState) (start : PosixTree) (history : List Entry) (p : Parts) (done : List ℕ) (same : geometry_of_store s ≡ g) (z : HasZeros s start history p done) (explained : LedgersAreExplained g) (keeps : Bool) (new : Moments) where
-  here : IsKeptLedger g start history z.ledger
-  here = record { now = z.counts; maybe = z.counts; formed = z.formed ∙ same; kept = z.stored.kept }
+pub zeros_may_leave : (g : Geometry) → ImagesAreExplained g → WrittenIsStored g → ZerosMayLeave g
+zeros_may_leave g each stored s start history p done block same fresh z =
+    let next = stored z.ledger s.unassigned.free start history z.counts p block zeros (z.formed ∙ same) z.knows.by.none fresh z.stored in
+    record {
+      ledger = z.ledger;
+      knows = z.knows;
+      may = may_write g s s start history p done (record { old_form = same; new_form = same; unassigned = refl }) z block fresh;
+      allowed = λ image. each s.sectors image (written block zeros z.ledger) start history (record { now = z.counts; maybe = z.counts; formed = z.formed ∙ same; kept = next.kept });
+    }
 
-  pub zeros_explained : WrittenIsStored g → (block : ℕ) → has p.fresh block ≡ true → ((l : Ledger) → HasLedger s l → MayWrite l block zeros → LeavesOnly keeps (IsLeftBy s.sectors (written block zeros l)) s.moments new)
-      → IsExplainedBetween keeps s.sectors start history s.moments new
-  zeros_explained stored block fresh run =
-      let free = z.free block fresh in
-      let next = stored z.ledger s.unassigned.free start history z.counts p block zeros (z.formed ∙ same) z.knows.by.none fresh z.stored in
-      explained keeps s.sectors s.moments new (written block zeros z.ledger) start history (record { now = z.counts; maybe = z.counts; formed = z.formed ∙ same; kept = next.kept })
-      (run z.ledger z.knows (record { data_block = free.data_block; no_dir = free.no_dir; size = length-replicate {A = ℕ} BLOCK 0 }))
+pub zeros_explained : (g : Geometry) → ZerosMayLeave g → ZerosAreExplained g
+zeros_explained g may keeps s new start history p done block same fresh run z =
+    let told = may s start history p done block same fresh z in
+    weaker keeps (IsLeftBy s.sectors (written block zeros told.ledger)) (IsExplainedImage s.sectors start history) told.allowed s.moments new (run told.ledger told.knows told.may)
 
-  pub barrier_explained : ((l : Ledger) → HasLedger s l → LeavesOnly keeps (IsLeftBy s.sectors l) s.moments new) → IsExplainedBetween keeps s.sectors start history s.moments new
-  barrier_explained run = explained keeps s.sectors s.moments new z.ledger start history here (run z.ledger z.knows)
+pub barrier_explained : (g : Geometry) → LedgersAreExplained g → BarriersAreExplained g
+barrier_explained g explained keeps s new start history p done same run z =
+    explained keeps s.sectors s.moments new z.ledger start history (record { now = z.counts; maybe = z.counts; formed = z.formed ∙ same; kept = z.stored.kept }) (run z.ledger z.knows)
 
-pub zeros_stay : (g : Geometry) (keeps : Bool) (s : StoreState) (start : PosixTree) (history : List Entry) (p : Parts) (done : List ℕ) → geometry_of_store s ≡ g → HasZeros s start history p done → LedgersAreExplained g
-    → IsExplainedBetween keeps s.sectors start history s.moments s.moments
-zeros_stay g keeps s start history p done same z explained =
-    barrier_explained g s start history p done same z explained keeps s.moments (λ l knows. started keeps (IsLeftBy s.sectors l) s.moments knows.by.is.images)
+pub zeros_stay : (g : Geometry) → LedgersAreExplained g → ZerosStay g
+zeros_stay g explained keeps s start history p done same z =
+    barrier_explained g explained keeps s s.moments start history p done same (λ l knows. started keeps (IsLeftBy s.sectors l) s.moments knows.by.is.images) z

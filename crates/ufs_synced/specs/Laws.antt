@@ -15,9 +15,10 @@ use Rattle.ufs_model.specs.PosixTree.{PosixTree}
 use Rattle.ufs_model.specs.declared.data.Entry.{Entry}
 use Rattle.ufs_name_tree.specs.NameTable.{IsNameTable}
 use Rattle.ufs_store.specs.Ledgers.{HasAny, HasLedger, IsLeftByAny, MayCommitNext, after_commit, beginning_next, checkpointed, stages}
+use Rattle.ufs_store.specs.Stamping.{MayLeaveHome, MayLeaveStages, MayLeaveWritten}
 use Rattle.ufs_store.specs.State.{StoreState, geometry_of_store}
 use Rattle.ufs_stored.specs.Laws.{with_names_committed}
-use Rattle.ufs_stored.specs.OnDisk.{HasAll, HasFiles, HasNames, HasStopped, IsExplainedBetween, IsGoing}
+use Rattle.ufs_stored.specs.OnDisk.{HasAll, HasFiles, HasNames, HasStopped, IsExplainedBetween, IsExplainedImage, IsGoing}
 use Rattle.ufs_stored.specs.Parts.{Parts}
 use Rattle.ufs_stored.specs.Sound.{IsSoundServer}
 use Rattle.ufs_stored.specs.Stored.{ArePartsOf}
@@ -55,12 +56,17 @@ abbrev pub BarriersFail : Geometry → Type 0
 BarriersFail g = (old new : StoreState) (start : PosixTree) (history : List Entry) (p : Parts) (done : List ℕ) → IsBeside g old new → IsSome new.stop
     → ((l : Ledger) → HasLedger old l → IsLedgerOf new.sectors new.moments.state l) → HasZeros old start history p done → HasStopped new start history p
 
--- At each moment of a write of zeros the history explains whatever a crash leaves,
+-- While zeros are written a crash leaves only what the history explains,
+abbrev pub ZerosMayLeave : Geometry → Type 0
+ZerosMayLeave g = (s : StoreState) (start : PosixTree) (history : List Entry) (p : Parts) (done : List ℕ) (block : ℕ) → geometry_of_store s ≡ g → has p.fresh block ≡ true
+    → HasZeros s start history p done → MayLeaveWritten (IsExplainedImage s.sectors start history) s block zeros
+
+-- so at each moment of the write,
 abbrev pub ZerosAreExplained : Geometry → Type 0
 ZerosAreExplained g = (keeps : Bool) (s : StoreState) (new : Moments) (start : PosixTree) (history : List Entry) (p : Parts) (done : List ℕ) (block : ℕ) → geometry_of_store s ≡ g → has p.fresh block ≡ true
     → ((l : Ledger) → HasLedger s l → MayWrite l block zeros → LeavesOnly keeps (IsLeftBy s.sectors (written block zeros l)) s.moments new) → HasZeros s start history p done → IsExplainedBetween keeps s.sectors start history s.moments new
 
--- so of the barrier behind them,
+-- at each moment of the barrier behind them,
 abbrev pub BarriersAreExplained : Geometry → Type 0
 BarriersAreExplained g = (keeps : Bool) (s : StoreState) (new : Moments) (start : PosixTree) (history : List Entry) (p : Parts) (done : List ℕ) → geometry_of_store s ≡ g
     → ((l : Ledger) → HasLedger s l → LeavesOnly keeps (IsLeftBy s.sectors l) s.moments new) → HasZeros s start history p done → IsExplainedBetween keeps s.sectors start history s.moments new
@@ -86,7 +92,12 @@ abbrev pub NamesWait : Geometry → Type 0
 NamesWait g = (old new : StoreState) (start : PosixTree) (history : List Entry) (p : Parts) → IsBeside g old new
     → ((l : Ledger) → HasLedger old l → HasLedger new l ⊎ HasLedger new (checkpointed old l)) → HasSpelled old start history p → IsGoing new start history p
 
--- At each of its moments the history explains whatever a crash leaves.
+-- While they are committed a crash leaves only what the history explains,
+abbrev pub NamesMayLeave : Geometry → Type 0
+NamesMayLeave g = (s : StoreState) (start : PosixTree) (history : List Entry) (p : Parts) (records : List LogRecord) → geometry_of_store s ≡ g → p.names.tree.noted ≡ Some records → IsNameTable p.names.tree
+    → HasSpelled s start history p → MayLeaveStages (IsExplainedImage s.sectors start history) s records
+
+-- so at each moment of the commit.
 abbrev pub NamesAreExplained : Geometry → Type 0
 NamesAreExplained g = (keeps : Bool) (s : StoreState) (new : Moments) (start : PosixTree) (history : List Entry) (p : Parts) (records : List LogRecord) → geometry_of_store s ≡ g → p.names.tree.noted ≡ Some records → IsNameTable p.names.tree
     → ((l : Ledger) → HasLedger s l → MayCommitNext s records l → LeavesOnly keeps (IsLeftByAny s.sectors (stages s records l)) s.moments new) → HasSpelled s start history p → IsExplainedBetween keeps s.sectors start history s.moments new
@@ -116,6 +127,10 @@ with_reclaimed p = record p { pool = set.union p.pool p.dropped; dropped = set.e
 abbrev pub DroppedIsReclaimed : Geometry → Type 0
 DroppedIsReclaimed g = (old new : StoreState) (start : PosixTree) (history : List Entry) (p : Parts) → IsBeside g old new → HasNothingNoted p → IsSoundServer g old.unassigned.free p
     → ((l : Ledger) → HasLedger old l → HasLedger new (checkpointed old l)) → IsGoing old start history p → IsGoing new start history (with_reclaimed p)
+
+-- While it is made a crash leaves only what the history explains.
+abbrev pub CheckpointsMayLeave : Geometry → Type 0
+CheckpointsMayLeave g = (s : StoreState) (start : PosixTree) (history : List Entry) (p : Parts) → geometry_of_store s ≡ g → IsGoing s start history p → MayLeaveHome (IsExplainedImage s.sectors start history) s
 
 -- The disk failed in the checkpoint.
 abbrev pub CheckpointsFail : Geometry → Type 0

@@ -1,6 +1,7 @@
 -- A server whose names are about to be committed.
 use Rattle.std.specs.Prelude.{ℕ, ◌≡◌, List, true, replicate}
 use Rattle.ufs_base.specs.declared.sizes.TheConstants.{BLOCK}
+use Rattle.ufs_base.specs.Images.{Image}
 use Rattle.ufs_bitmap.specs.Taking.{has}
 use Rattle.ufs_layout.specs.Superblock.{geometry_of}
 use Rattle.ufs_ledger.specs.Kept.{Counts}
@@ -10,6 +11,7 @@ use Rattle.ufs_model.specs.declared.data.Entry.{Entry}
 use Rattle.ufs_durable.specs.Standing.{IsFileBlock}
 use Rattle.ufs_store.specs.Ledgers.{HasLedger}
 use Rattle.ufs_store.specs.State.{StoreState, geometry_of_store}
+use Rattle.ufs_stored.specs.OnDisk.{IsExplainedImage}
 use Rattle.ufs_stored.specs.Parts.{Parts}
 use Rattle.ufs_stored.specs.Stored.{IsSpelled, IsStored}
 
@@ -27,7 +29,14 @@ pub record HasZeros (s : StoreState) (start : PosixTree) (history : List Entry) 
   pub free : (block : ℕ) → has p.fresh block ≡ true → IsFileBlock ledger block
   pub zero : (block : ℕ) → has done block ≡ true → (ledger.blocks block).seen ≡ zeros
 
--- It knows one on which dentries may be set in each of these blocks.
+-- Some history, for which these blocks read as zeros, explains no image but allowed ones.
+pub record ExplainsZeroed (allows : Image → Type 0) (s : StoreState) (p : Parts) (done : List ℕ) : Type 0 where
+  pub start : PosixTree
+  pub history : List Entry
+  pub zeroed : HasZeros s start history p done
+  pub allowed : (image : Image) → IsExplainedImage s.sectors start history image → allows image
+
+-- The store knows a ledger on which the server is stored, and on which dentries may be set in each of these blocks.
 pub record HasSpelled (s : StoreState) (start : PosixTree) (history : List Entry) (p : Parts) : Type 0 where
   pub ledger : Ledger
   pub counts : Counts

@@ -11,6 +11,7 @@ ghost use Rattle.ufs_store.specs.declared.fault.StoreFault.TheVariants as refusa
 ghost use Rattle.ufs_stored.specs.Laws.{with_names_committed};
 ghost use Rattle.ufs_stored.specs.OnDisk.{HasNames, IsExplainedBetween, IsGoing, IsOnDisk};
 ghost use Rattle.ufs_stored.specs.Parts.{Parts};
+ghost use Rattle.ufs_stored.specs.Stamping.{ExplainsAllowed};
 
 use crate::fitting::fits;
 use crate::laws::names_law;
@@ -23,6 +24,7 @@ use ufs_stored::always_law;
 fn commit_log<D: Door>(door: &mut D, log: &mut NamesLog, fresh: &[u32]) -> Result<(), StoreFault>
     requires going { (D.store door.old).stop ≡ None }
     requires there { (block : ℕ) → has fresh.now block ≡ true → IsDataBlock (geometry_of_store (D.store door.old)) block }
+    requires stamped { D.stamps → (p : Parts) × (p.fresh ≡ fresh.now) × (p.names.tree.noted ≡ Some log.old) × IsNameTable p.names.tree × ExplainsAllowed D.allows (D.store door.old) p }
     ensures ok { IsTrue D.visible → OnOk result ((start : PosixTree) (history : List Entry) (p : Parts) → p.fresh ≡ fresh.now → p.names.tree.noted ≡ Some log.old → IsNameTable p.names.tree
         → IsGoing (D.store door.old) start history p → HasNames (D.store door.new) start history (with_names_committed p)) }
     ensures err { IsTrue D.visible → OnErr result ((start : PosixTree) (history : List Entry) (p : Parts) → p.fresh ≡ fresh.now → p.names.tree.noted ≡ Some log.old → IsNameTable p.names.tree
@@ -63,6 +65,7 @@ pub fn commit_notes<D: Door>(
 ) -> Result<(), StoreFault>
     requires going { (D.store door.old).stop ≡ None }
     requires there { (block : ℕ) → has fresh.now block ≡ true → IsDataBlock (geometry_of_store (D.store door.old)) block }
+    requires stamped { D.stamps → (p : Parts) × (p.fresh ≡ fresh.now) × (p.names.tree.noted ≡ notes.old) × IsNameTable p.names.tree × ExplainsAllowed D.allows (D.store door.old) p }
     ensures ok { IsTrue D.visible → OnOk result ((start : PosixTree) (history : List Entry) (p : Parts) → p.fresh ≡ fresh.now → p.names.tree.noted ≡ notes.old → IsNameTable p.names.tree
         → IsGoing (D.store door.old) start history p → HasNames (D.store door.new) start history (with_names_committed p)) }
     ensures err { IsTrue D.visible → OnErr result ((start : PosixTree) (history : List Entry) (p : Parts) → p.fresh ≡ fresh.now → p.names.tree.noted ≡ notes.old → IsNameTable p.names.tree

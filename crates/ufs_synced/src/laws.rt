@@ -1,6 +1,6 @@
 // Laws of the definitions, each the contract of a function that does nothing.
 ghost use Rattle.ufs_layout.specs.Areas.{IsGeometry};
-ghost use Rattle.ufs_synced.specs.Laws.{AllAreThere, BarriersAreExplained, BarriersFail, CheckpointsFail, DroppedIsReclaimed, NamesAreExplained, NamesAreThere, NamesCommit, NamesStop, NamesWait, ReclaimedIsPart, ReclaimedIsSound, ZerosAreExplained, ZerosBegin, ZerosGoOn, ZerosSettle, ZerosStay, ZerosStop};
+ghost use Rattle.ufs_synced.specs.Laws.{AllAreThere, BarriersAreExplained, BarriersFail, CheckpointsFail, CheckpointsMayLeave, DroppedIsReclaimed, NamesAreExplained, NamesAreThere, NamesCommit, NamesMayLeave, NamesStop, NamesWait, ReclaimedIsPart, ReclaimedIsSound, ZerosAreExplained, ZerosBegin, ZerosGoOn, ZerosMayLeave, ZerosSettle, ZerosStay, ZerosStop};
 
 use ufs_layout::Geometry;
 use ufs_ledger::{form_law, promise_law};
@@ -18,6 +18,7 @@ pub fn zeros_law(geometry: &Geometry)
     ensures write_fails { ZerosStop geometry.now }
     ensures barrier { ZerosSettle geometry.now }
     ensures barrier_fails { BarriersFail geometry.now }
+    ensures write_may_leave { ZerosMayLeave geometry.now }
     ensures write_moments { ZerosAreExplained geometry.now }
     ensures barrier_moments { BarriersAreExplained geometry.now }
     ensures rest { ZerosStay geometry.now }
@@ -35,6 +36,7 @@ pub fn names_law(geometry: &Geometry)
     ensures stop { NamesStop geometry.now }
     ensures memory { NamesWait geometry.now }
     ensures nothing { NamesAreThere geometry.now }
+    ensures may_leave { NamesMayLeave geometry.now }
     ensures moments { NamesAreExplained geometry.now }
 {
     form_law();
@@ -62,11 +64,13 @@ pub fn all_law(geometry: &Geometry)
 pub fn reclaim_law(geometry: &Geometry)
     requires { IsGeometry geometry.now }
     ensures reclaimed { DroppedIsReclaimed geometry.now }
+    ensures may_leave { CheckpointsMayLeave geometry.now }
     ensures fails { CheckpointsFail geometry.now }
     ensures sound { ReclaimedIsSound }
     ensures parts { ReclaimedIsPart }
 {
     form_law();
+    always_law(geometry);
     ready_law(geometry);
     stopping_law(geometry);
 }

@@ -9,7 +9,8 @@ ghost use Rattle.ufs_store.specs.State.{geometry_of_store};
 ghost use Rattle.ufs_store.specs.declared.fault.StoreFault.TheVariants as refusal;
 ghost use Rattle.ufs_stored.specs.OnDisk.{HasStopped, IsExplainedBetween, IsGoing};
 ghost use Rattle.ufs_stored.specs.Parts.{Parts};
-ghost use Rattle.ufs_synced.specs.Ready.{HasSpelled, HasZeros};
+ghost use Rattle.ufs_stored.specs.Stamping.{ExplainsAllowed};
+ghost use Rattle.ufs_synced.specs.Ready.{ExplainsZeroed, HasSpelled, HasZeros};
 
 use crate::laws::zeros_law;
 use ufs_base::BLOCK;
@@ -19,6 +20,7 @@ use ufs_store::{Door, StoreFault};
 fn write_zero<D: Door>(door: &mut D, block: u32) -> Result<(), StoreFault>
     requires going { (D.store door.old).stop ≡ None }
     requires there { IsDataBlock (geometry_of_store (D.store door.old)) block }
+    requires stamped { D.stamps → (p : Parts) × (done : List ℕ) × (has p.fresh block ≡ true) × ExplainsZeroed D.allows (D.store door.old) p done }
     ensures ok { IsTrue D.visible → OnOk result ((start : PosixTree) (history : List Entry) (p : Parts) (done : List ℕ) → has p.fresh block ≡ true
         → HasZeros (D.store door.old) start history p done → HasZeros (D.store door.new) start history p (done ++ block ∷ [])) }
     ensures err { IsTrue D.visible → OnErr result ((start : PosixTree) (history : List Entry) (p : Parts) (done : List ℕ) → has p.fresh block ≡ true
@@ -41,6 +43,7 @@ fn write_zero<D: Door>(door: &mut D, block: u32) -> Result<(), StoreFault>
 fn write_zeros<D: Door>(door: &mut D, fresh: &[u32]) -> Result<(), StoreFault>
     requires going { (D.store door.old).stop ≡ None }
     requires there { (block : ℕ) → has fresh.now block ≡ true → IsDataBlock (geometry_of_store (D.store door.old)) block }
+    requires stamped { D.stamps → (p : Parts) × (p.fresh ≡ fresh.now) × ExplainsZeroed D.allows (D.store door.old) p [] }
     ensures ok { IsTrue D.visible → OnOk result ((start : PosixTree) (history : List Entry) (p : Parts) → p.fresh ≡ fresh.now → HasZeros (D.store door.old) start history p [] → HasZeros (D.store door.new) start history p p.fresh) }
     ensures err { IsTrue D.visible → OnErr result ((start : PosixTree) (history : List Entry) (p : Parts) → p.fresh ≡ fresh.now → HasZeros (D.store door.old) start history p [] → HasStopped (D.store door.new) start history p) }
     ensures moments { IsTrue D.visible → (start : PosixTree) (history : List Entry) (p : Parts) → p.fresh ≡ fresh.now → HasZeros (D.store door.old) start history p []
@@ -63,6 +66,7 @@ fn write_zeros<D: Door>(door: &mut D, fresh: &[u32]) -> Result<(), StoreFault>
 pub(crate) fn make_ready<D: Door>(door: &mut D, fresh: &[u32]) -> Result<(), StoreFault>
     requires going { (D.store door.old).stop ≡ None }
     requires there { (block : ℕ) → has fresh.now block ≡ true → IsDataBlock (geometry_of_store (D.store door.old)) block }
+    requires stamped { D.stamps → (p : Parts) × (p.fresh ≡ fresh.now) × ExplainsAllowed D.allows (D.store door.old) p }
     ensures ok { IsTrue D.visible → OnOk result ((start : PosixTree) (history : List Entry) (p : Parts) → p.fresh ≡ fresh.now → IsGoing (D.store door.old) start history p → HasSpelled (D.store door.new) start history p) }
     ensures err { IsTrue D.visible → OnErr result ((start : PosixTree) (history : List Entry) (p : Parts) → p.fresh ≡ fresh.now → IsGoing (D.store door.old) start history p → HasStopped (D.store door.new) start history p) }
     ensures moments { IsTrue D.visible → (start : PosixTree) (history : List Entry) (p : Parts) → p.fresh ≡ fresh.now → IsGoing (D.store door.old) start history p

@@ -8,8 +8,10 @@ use Rattle.ufs_model.specs.declared.data.Entry.{Entry}
 use Rattle.ufs_name_tree.specs.NameTable.{IsNameTable}
 use Rattle.ufs_store.specs.Refusals.{fault_in, is_no_space, is_own}
 use Rattle.ufs_store.specs.State.{StoreState, geometry_of_store}
-use Rattle.ufs_stored.specs.OnDisk.{IsGoing, IsOnDisk}
+use Rattle.ufs_store.proofs.Stamping.{stages_more}
+use Rattle.ufs_stored.specs.OnDisk.{IsExplainedImage, IsGoing, IsOnDisk}
 use Rattle.ufs_stored.specs.Parts.{Parts}
+use Rattle.ufs_stored.proofs.Stamping.{allowed_on, is_going}
 use Rattle.ufs_stored.proofs.Stretches.{explained_joined}
 use Rattle.ufs_synced.specs.Laws.{IsBeside}
 use Rattle.ufs_synced.proofs.Stops.{commit_err, from_err, own_alone, stop_is}
@@ -33,6 +35,24 @@ returns-clause-ok g c visible start history p same noted table go =
     let off : (length c.args.log.now == 0) ≡ false = ap (λ (xs : List LogRecord). length xs == 0) (sym is) ∙ sym c.is_empty.ensures ∙ c.if-is_empty.false in
     let clash = sym on ∙ off in cc in
     c.names_law.ensures.commit mid new start history p c.args.log.now beside noted table (c.in_ok-commit_names.ensures.ok visible some) (c.in_ok-make_ready.ensures.ok visible start history p same go)
+
+pub make_ready-requires-clause-stamped : goal.make_ready-requires-clause-stamped
+make_ready-requires-clause-stamped g c stamps =
+    let told = c.requires.stamped stamps in
+    (told.0, told.1, told.4)
+
+pub commit_names-requires-clause-stamped : goal.commit_names-requires-clause-stamped
+commit_names-requires-clause-stamped g c stamps going some =
+    let old = g.D.Door.store c.args.door.now in
+    let mid = g.D.Door.store c.make_ready.new.door in
+    let told = c.requires.stamped stamps in
+    let p = told.0 in
+    let e = told.4 in
+    let go = is_going old e.start e.history p c.requires.going e.on_disk in
+    stages_more (IsExplainedImage mid.sectors e.start e.history) g.D.Door.allows mid c.args.log.now
+    (c.names_law.ensures.may_leave mid e.start e.history p c.args.log.now (ap geometry_of_store c.make_ready.ensures.rest ∙ sym c.geometry-geometry.ensures.is) told.2 told.3
+    (c.in_ok-make_ready.ensures.ok (g.met.D.Door.sees stamps) e.start e.history p told.1 go))
+    (allowed_on g.D.Door.allows e.start e.history old.sectors mid.sectors (ap (λ (s : StoreState). s.sectors) c.make_ready.ensures.rest) e.allowed)
 
 pub returns-in_err-commit_names-clause-err : goal.returns-in_err-commit_names-clause-err
 returns-in_err-commit_names-clause-err g c visible =

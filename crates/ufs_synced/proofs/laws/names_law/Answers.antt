@@ -1,4 +1,4 @@
-use Rattle.ufs_synced.proofs.Committing.{commits, names_explained, stops, waits}
+use Rattle.ufs_synced.proofs.Committing.{commits, names_explained, names_may_leave, stops, waits}
 use Rattle.ufs_synced.proofs.There.{there}
 use Rattle.ufs_synced.proofs.laws.names_law.Goals as goal
 
@@ -18,7 +18,9 @@ pub returns-clause-nothing : goal.returns-clause-nothing
 returns-clause-nothing c s start history p same none table go =
     there c.args.geometry.now c.a_history_goes_by_its_changes.ensures.names c.names_go_on_law.ensures c.files_law.ensures.stands c.promise_law.ensures.commit s start history p same none table go
 
+pub returns-clause-may_leave : goal.returns-clause-may_leave
+returns-clause-may_leave c =
+    names_may_leave c.args.geometry.now c.form_law.ensures.sound c.names_commit_law.ensures.may c.ready_law.ensures.checkpoint c.names_commit_law.ensures.committing c.always_law.ensures.commit_image
+
 pub returns-clause-moments : goal.returns-clause-moments
-returns-clause-moments c keeps s new start history p records same noted table run h =
-    names_explained c.args.geometry.now c.form_law.ensures.sound c.names_commit_law.ensures.may c.ready_law.ensures.checkpoint c.names_commit_law.ensures.committing c.always_law.ensures.commit
-    keeps s new start history p records same noted table run h
+returns-clause-moments c = names_explained c.args.geometry.now (returns-clause-may_leave c)

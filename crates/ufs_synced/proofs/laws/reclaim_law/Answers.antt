@@ -1,8 +1,11 @@
-use Rattle.ufs_synced.proofs.Reclaiming.{checkpoint_fails, reclaimed, reclaimed_part, reclaimed_sound}
+use Rattle.ufs_synced.proofs.Reclaiming.{checkpoint_fails, checkpoint_may_leave, reclaimed, reclaimed_part, reclaimed_sound}
 use Rattle.ufs_synced.proofs.laws.reclaim_law.Goals as goal
 
 pub returns-clause-reclaimed : goal.returns-clause-reclaimed
 returns-clause-reclaimed c = reclaimed c.args.geometry.now c.ready_law.ensures.checkpoint c.form_law.ensures.sound
+
+pub returns-clause-may_leave : goal.returns-clause-may_leave
+returns-clause-may_leave c = checkpoint_may_leave c.args.geometry.now c.always_law.ensures.checkpoint_image
 
 pub returns-clause-fails : goal.returns-clause-fails
 returns-clause-fails c = checkpoint_fails c.args.geometry.now c.stopping_law.ensures.checkpoint

@@ -1,6 +1,6 @@
 use Rattle.ufs_synced.proofs.Beginning.{zeros_begin}
 use Rattle.ufs_synced.proofs.Joining.{zeros_settle}
-use Rattle.ufs_synced.proofs.Writing.{barrier_explained, barrier_fails, zeros_explained, zeros_go_on, zeros_stay, zeros_stop}
+use Rattle.ufs_synced.proofs.Writing.{barrier_explained, barrier_fails, zeros_explained, zeros_go_on, zeros_may_leave, zeros_stay, zeros_stop}
 use Rattle.ufs_synced.proofs.laws.zeros_law.Goals as goal
 
 pub returns-clause-begin : goal.returns-clause-begin
@@ -20,12 +20,14 @@ returns-clause-barrier c old new start history p beside whole barrier z =
 pub returns-clause-barrier_fails : goal.returns-clause-barrier_fails
 returns-clause-barrier_fails c old new start history p done beside stop leaves z = barrier_fails c.args.geometry.now old new start history p done beside z c.stopping_law.ensures.barrier stop leaves
 
+pub returns-clause-write_may_leave : goal.returns-clause-write_may_leave
+returns-clause-write_may_leave c = zeros_may_leave c.args.geometry.now c.always_law.ensures.image c.ready_law.ensures.write
+
 pub returns-clause-write_moments : goal.returns-clause-write_moments
-returns-clause-write_moments c keeps s new start history p done block same fresh run z =
-    zeros_explained c.args.geometry.now s start history p done same z c.always_law.ensures.ledger keeps new c.ready_law.ensures.write block fresh run
+returns-clause-write_moments c = zeros_explained c.args.geometry.now (returns-clause-write_may_leave c)
 
 pub returns-clause-barrier_moments : goal.returns-clause-barrier_moments
-returns-clause-barrier_moments c keeps s new start history p done same run z = barrier_explained c.args.geometry.now s start history p done same z c.always_law.ensures.ledger keeps new run
+returns-clause-barrier_moments c = barrier_explained c.args.geometry.now c.always_law.ensures.ledger
 
 pub returns-clause-rest : goal.returns-clause-rest
-returns-clause-rest c keeps s start history p done same z = zeros_stay c.args.geometry.now keeps s start history p done same z c.always_law.ensures.ledger
+returns-clause-rest c = zeros_stay c.args.geometry.now c.always_law.ensures.ledger

@@ -8,10 +8,26 @@ use Rattle.ufs_store.specs.Ledgers.{HasLedger}
 use Rattle.ufs_store.specs.State.{StoreState, geometry_of_store}
 use Rattle.ufs_stored.specs.OnDisk.{HasStopped, IsGoing}
 use Rattle.ufs_stored.specs.Parts.{Parts}
+use Rattle.ufs_stored.proofs.Stamping.{is_going}
 use Rattle.ufs_stored.proofs.Stretches.{explained_joined}
 use Rattle.ufs_synced.specs.Laws.{IsBeside}
 use Rattle.ufs_synced.proofs.Stops.{device_alone, has_stopped, on_err_cases, passed_ok, stop_is}
 use Rattle.ufs_synced.proofs.zeros.make_ready.Goals as goal
+
+pub write_zeros-requires-clause-stamped : goal.write_zeros-requires-clause-stamped
+write_zeros-requires-clause-stamped g c stamps =
+    let old = g.D.Door.store c.args.door.now in
+    let told = c.requires.stamped stamps in
+    let e = told.2 in (
+      told.0,
+      told.1,
+      record {
+        start = e.start;
+        history = e.history;
+        zeroed = c.zeros_law.ensures.begin old e.start e.history told.0 (is_going old e.start e.history told.0 c.requires.going e.on_disk);
+        allowed = e.allowed;
+      },
+    )
 
 pub returns-in_err-write_zeros-clause-err : goal.returns-in_err-write_zeros-clause-err
 returns-in_err-write_zeros-clause-err g c visible =

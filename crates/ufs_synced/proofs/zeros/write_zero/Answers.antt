@@ -8,6 +8,8 @@ use Rattle.ufs_ledger.specs.Laws.{MayWrite}
 use Rattle.ufs_ledger.specs.Ledger.{IsLedgerOf, Ledger}
 use Rattle.ufs_store.specs.Ledgers.{HasLedger}
 use Rattle.ufs_store.specs.State.{StoreState, geometry_of_store}
+use Rattle.ufs_store.proofs.Stamping.{written_more}
+use Rattle.ufs_stored.specs.OnDisk.{IsExplainedImage}
 use Rattle.ufs_synced.specs.Laws.{IsBeside}
 use Rattle.ufs_synced.specs.Ready.{zeros}
 use Rattle.ufs_synced.proofs.Stops.{device_alone, has_stopped, on_err_cases, passed_ok, stop_is}
@@ -53,3 +55,11 @@ pub returns-clause-moments : goal.returns-clause-moments
 returns-clause-moments g c visible start history p done fresh z =
     c.zeros_law.ensures.write_moments g.D.Door.keeps (g.D.Door.store c.args.door.now) (g.D.Door.store c.write_block.new.self).moments start history p done c.args.block (sym c.geometry-geometry.ensures.is) fresh
     (c.write_block.ensures.crash visible) z
+
+pub write_block-requires-clause-stamped : goal.write_block-requires-clause-stamped
+write_block-requires-clause-stamped g c stamps going =
+    let s = g.D.Door.store c.args.door.now in
+    let told = c.requires.stamped stamps in
+    let e = told.3 in
+    written_more (IsExplainedImage s.sectors e.start e.history) g.D.Door.allows s c.args.block zeros
+    (c.zeros_law.ensures.write_may_leave s e.start e.history told.0 told.1 c.args.block (sym c.geometry-geometry.ensures.is) told.2 e.zeroed) e.allowed

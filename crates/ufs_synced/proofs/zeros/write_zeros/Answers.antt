@@ -12,6 +12,7 @@ use Rattle.ufs_model.proofs.Facts.Histories.{take-push}
 use Rattle.ufs_store.specs.State.{StoreState, geometry_of_store}
 use Rattle.ufs_stored.specs.OnDisk.{HasStopped}
 use Rattle.ufs_stored.specs.Parts.{Parts}
+use Rattle.ufs_stored.proofs.Stamping.{allowed_on}
 use Rattle.ufs_stored.proofs.Stretches.{explained_joined}
 use Rattle.ufs_synced.specs.Ready.{HasZeros}
 use Rattle.ufs_synced.proofs.zeros.write_zeros.Goals as goal
@@ -30,6 +31,27 @@ write_zero-requires-clause-there g c =
     let less : k < length fresh = omega (arith, c.loop-place-test.true) in
     let block : ℕ = slice_index_or fresh k 0 in
     subst (λ (h : Geometry). IsDataBlock h block) (sym (ap geometry_of_store c.loop-place.invariant.passed)) (c.requires.there block (has_at fresh k block (slice_get-get_or fresh k 0 less)))
+
+pub write_zero-requires-clause-stamped : goal.write_zero-requires-clause-stamped
+write_zero-requires-clause-stamped g c stamps =
+    let fresh = c.args.fresh.now in
+    let k : ℕ = c.loop-place.place in
+    let i = c.loop-place.invariant in
+    let less : k < length fresh = omega (arith, c.loop-place-test.true) in
+    let block : ℕ = slice_index_or fresh k 0 in
+    let at : slice_get fresh k ≡ Some block = slice_get-get_or fresh k 0 less in
+    let told = c.requires.stamped stamps in
+    let e = told.2 in (
+      told.0,
+      take k fresh,
+      ap (λ (xs : List ℕ). has xs block) told.1 ∙ has_at fresh k block at,
+      record {
+        start = e.start;
+        history = e.history;
+        zeroed = i.zero (g.met.D.Door.sees stamps) e.start e.history told.0 told.1 e.zeroed;
+        allowed = allowed_on g.D.Door.allows e.start e.history (g.D.Door.store c.args.door.now).sectors (g.D.Door.store c.loop-place.door).sectors (ap (λ (s : StoreState). s.sectors) i.passed) e.allowed;
+      },
+    )
 
 pub returns-in_err-write_zero-clause-err : goal.returns-in_err-write_zero-clause-err
 returns-in_err-write_zero-clause-err g c visible =
