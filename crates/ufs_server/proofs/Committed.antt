@@ -1,13 +1,8 @@
 -- A server whose names are committed has the same tree.
-use Rattle.std.proofs.Common.{◌≡◌, inl, inr, List, None, subst}
-use Rattle.std.specs.Prelude.{IsSome}
 use Rattle.ufs_bitmap.specs.Blocks.{BlockSet}
 use Rattle.ufs_layout.specs.declared.geometry.Geometry.{Geometry}
 use Rattle.ufs_model.specs.PosixTree.{PosixTree}
-use Rattle.ufs_model.specs.declared.data.Entry.{Entry}
-use Rattle.ufs_store.specs.State.{StoreState}
 use Rattle.ufs_stored.specs.Laws.{with_names_committed}
-use Rattle.ufs_stored.specs.OnDisk.{IsGoing, IsOnDisk}
 use Rattle.ufs_stored.specs.Parts.{Parts}
 use Rattle.ufs_stored.specs.Sound.{IsSoundServer}
 use Rattle.ufs_stored.specs.Stored.{ArePartsOf}
@@ -26,8 +21,3 @@ sound_committed g u p s = record {
   counted = s.counted;
   parted = s.parted;
 }
-
--- A store that hasn't stopped goes on.
-pub is_going : (s : StoreState) (start : PosixTree) (history : List Entry) (p : Parts) → s.stop ≡ None → IsOnDisk s start history p → IsGoing s start history p
-is_going s start history p none (inl go) = go
-is_going s start history p none (inr st) = (let off = subst IsSome none st.stopped in absurd cc)

@@ -5,6 +5,7 @@ use Rattle.std.specs.Cmp.{nat_cmp_total}
 use Rattle.std.specs.FinMap as map
 use Rattle.std.specs.FinMap.{nat_cmp-IsAntisymmetric}
 use Rattle.std.specs.FinSet as set
+use Rattle.ufs_base.specs.Images.{Image}
 use Rattle.ufs_bitmap.specs.Blocks.{BlockSet}
 use Rattle.ufs_bitmap.specs.Space.{Space}
 use Rattle.ufs_bitmap.specs.Taking.{set_of}
@@ -17,14 +18,17 @@ use Rattle.ufs_model.specs.PosixTree.{PosixTree}
 use Rattle.ufs_model.specs.declared.data.Entry.{Entry}
 use Rattle.ufs_model.proofs.Facts.Lookups as lookups
 use Rattle.ufs_durable.specs.Committing.{FitsInode}
+use Rattle.ufs_durable.specs.Stamping.{MayLeaveSynced}
 use Rattle.ufs_durable.specs.State.{CommitState, DurableState, file_committed, state_of}
 use Rattle.ufs_durable.specs.Writes.{AreDataBlocks}
-use Rattle.ufs_on_disk.specs.Syncs.{CommittedIsForgotten, FailedSyncsGoOn, FileSyncsAreExplained, FileSyncsGoOn, HasFailed, HasSynced, HasWritten, IsSpaceOf, LeavesStages, OnDiskAsTold, PutBackAsItWas, SoundAsTold, SoundByFileSyncs, SyncedAsTold, SyncsMayBegin, WrittenSyncsGoOn}
+use Rattle.ufs_durable.proofs.Stamping.{synced_more}
+use Rattle.ufs_on_disk.specs.Syncs.{CommittedIsForgotten, FailedSyncsGoOn, FileSyncsAreExplained, FileSyncsGoOn, FileSyncsMayLeave, HasFailed, HasSynced, HasWritten, IsSpaceOf, LeavesStages, OnDiskAsTold, PutBackAsItWas, SoundAsTold, SoundByFileSyncs, SyncedAsTold, SyncsMayBegin, WrittenSyncsGoOn}
 use Rattle.ufs_store.specs.Blocks.{MayReturn}
 use Rattle.ufs_store.specs.State.{StoreState, geometry_of_store}
 use Rattle.ufs_stored.specs.OnDisk.{HasFiles, HasNames, IsExplainedBetween, IsOnDisk}
 use Rattle.ufs_stored.specs.Parts.{Commits, Parts, durable_in, with_file}
 use Rattle.ufs_stored.specs.Sound.{IsSoundServer}
+use Rattle.ufs_stored.specs.Stamping.{ExplainsNamed}
 use Rattle.ufs_stored.specs.Stored.{ArePartsOf}
 use Rattle.ufs_stored.proofs.FileEntries.{parts_now}
 use Rattle.ufs_stored.proofs.Puts.{here, other_file}
@@ -81,6 +85,10 @@ module _ {s0 : StoreState} {p0 p2 : Parts} {file : ℕ} {hand : FileState} {know
     may_dropped = subst (MayReturn s0.unassigned) dropped_is (may s0 p0 hand space is_at (subst (All IsRun) (sym dropped_is) valid) out.sound).dropped
 
   -- ---- meanwhile
+
+  -- what a crash may leave, where some history explains no image but allowed ones
+  pub may_leave : (allows : Image → Type 0) (g : Geometry) → FileSyncsMayLeave g → geometry_of_store s0 ≡ g → IsSome (map.get p0.names.held file) → FitsInode hand → ExplainsNamed allows s0 p0 → MayLeaveSynced allows s0 (state_of hand known)
+  may_leave allows g law form live fits e = subst (MayLeaveSynced allows s0) (sym is_held) (synced_more _ allows s0 x (law s0 e.start e.history p0 hand form is_at (live_at live) fits e.named) e.allowed)
 
   pub meanwhile : (keeps : Bool) (g : Geometry) (s1 : StoreState) → FileSyncsAreExplained g → geometry_of_store s0 ≡ g → IsSome (map.get p0.names.held file) → FitsInode hand → LeavesStages keeps s0 s1 (state_of hand known)
       → (start : PosixTree) (history : List Entry) → HasNames s0 start history p0 → IsExplainedBetween keeps s0.sectors start history s0.moments s1.moments

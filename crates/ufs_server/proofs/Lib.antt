@@ -4,6 +4,7 @@ mod Committed
 mod FileCommitting
 mod FileServing
 mod Filed
+mod FilesAsked
 mod Gathering
 mod Holding
 mod Known

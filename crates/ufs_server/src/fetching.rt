@@ -122,8 +122,8 @@ impl DiskServer {
     }
 }
 
-// Whether the request is on a descriptor, and touches no more than a file and its client.
-fn is_file_request(op: &Op) -> bool
+/// Whether the request is on a descriptor, and touches no more than a file and its client.
+pub(crate) fn is_file_request(op: &Op) -> bool
     ensures { result ≡ is_on_file op.now }
 {
     matches!(

@@ -9,6 +9,7 @@ ghost use Rattle.ufs_model.specs.PosixTree.{PosixTree};
 ghost use Rattle.ufs_model.specs.declared.data.Entry.{Entry};
 ghost use Rattle.ufs_model.specs.declared.data.Excuse.TheVariants as excuse;
 ghost use Rattle.ufs_durable.specs.Committing.{FitsInode};
+ghost use Rattle.ufs_durable.specs.Stamping.{MayLeaveSynced};
 ghost use Rattle.ufs_durable.specs.State.{IsNoted, file_committed, state_of};
 ghost use Rattle.ufs_durable.specs.Writes.{AreDataBlocks};
 ghost use Rattle.ufs_on_disk.specs.Syncs.{HasFailed, HasSynced, HasWritten, LeavesStages};
@@ -17,6 +18,7 @@ ghost use Rattle.ufs_store.specs.Refusals.{IsTold, stop_after};
 ghost use Rattle.ufs_store.specs.State.{geometry_of_store};
 ghost use Rattle.ufs_stored.specs.OnDisk.{HasFiles, HasNames, IsExplainedBetween, IsOnDisk};
 ghost use Rattle.ufs_stored.specs.Sound.{IsSoundServer};
+ghost use Rattle.ufs_stored.specs.Stamping.{ExplainsNamed};
 ghost use Rattle.ufs_server.specs.Answered.{device_told, is_of_store};
 ghost use Rattle.ufs_server.specs.Served.{CommitEnds};
 
@@ -35,6 +37,7 @@ impl DiskServer {
         requires here { IsSome (map.get self.old.files file) }
         requires held { IsSome (map.get self.old.names.held file) }
         requires sound { IsSoundServer (geometry_of_store (D.store door.old)) (D.store door.old).unassigned.free self.old }
+        requires stamped { D.stamps → ExplainsNamed D.allows (D.store door.old) self.old }
         ensures ok { IsTrue D.visible → OnOk result ((start : PosixTree) (history : List Entry) (done : List ℕ) → HasFiles (D.store door.old) start history self.old done → HasFiles (D.store door.new) start history self.new (file ∷ done)) }
         ensures err { IsTrue D.visible → OnErr result ((start : PosixTree) (history : List Entry) → HasNames (D.store door.old) start history self.old → IsOnDisk (D.store door.new) start history self.new) }
         ensures moments { IsTrue D.visible → (start : PosixTree) (history : List Entry) → HasNames (D.store door.old) start history self.old
@@ -62,6 +65,7 @@ impl DiskServer {
         };
         // For the prover alone.
         let _runs = held.commits.dropped().as_slice();
+        fitting_law(&held.hand);
         let told = sync_held(door, &mut held);
         self.put_back(held);
         told?;
@@ -77,6 +81,7 @@ fn sync_held<D: Door>(door: &mut D, held: &mut HeldFile) -> Result<(), Excuse>
     requires inode { is_inode_number (geometry_of_store (D.store door.old)) held.old.hand.inode ≡ true }
     requires blocks { AreDataBlocks (geometry_of_store (D.store door.old)) (blocks_of held.old.hand.extents) }
     requires dropped { MayReturn (D.store door.old).unassigned held.old.commits.dropped }
+    requires stamped { D.stamps → MayLeaveSynced D.allows (D.store door.old) (state_of held.old.hand held.old.commits) }
     ensures ok { IsTrue D.visible → OnOk result (HasSynced (D.store door.old) (D.store door.new) (state_of held.old.hand held.old.commits)) }
     ensures err { IsTrue D.visible → OnErr result (HasWritten (D.store door.old) (D.store door.new) (state_of held.old.hand held.old.commits) ⊎ HasFailed (D.store door.old) (D.store door.new) (state_of held.old.hand held.old.commits)) }
     ensures moments { IsTrue D.visible → LeavesStages D.keeps (D.store door.old) (D.store door.new) (state_of held.old.hand held.old.commits) }

@@ -8,6 +8,7 @@ mod file_requests;
 mod file_syncs;
 mod held_file;
 mod name_requests;
+mod needed;
 mod requests;
 mod room;
 mod space;

@@ -16,6 +16,7 @@ ghost use Rattle.ufs_model.specs.declared.data.Reply.TheVariants as reply;
 ghost use Rattle.ufs_names.specs.Calls.{IsOfNames, IsTouched};
 ghost use Rattle.ufs_pouring.specs.Lent.{listed};
 ghost use Rattle.ufs_stored.specs.Sound.{IsSoundServer};
+ghost use Rattle.ufs_stored.specs.Stamping.{ExplainsAllowed};
 ghost use Rattle.ufs_stored.specs.Stored.{ArePartsOf};
 ghost use Rattle.ufs_server.specs.Answered.{IsUntold};
 ghost use Rattle.ufs_server.specs.Served.{IsServedOn, KeepsPromise, MayServe, StaysOnDisk};
@@ -42,6 +43,7 @@ impl DiskServer {
     ) -> Applied
         requires may { MayServe self.old (D.store door.old) ask }
         requires kind { IsOfNames ask }
+        requires stamped { D.stamps → ExplainsAllowed D.allows (D.store door.old) self.old }
         ensures served { IsServedOn self.old self.new (D.store door.old) (D.store door.new) ask by ticket result }
         ensures promise { IsTrue D.visible → KeepsPromise self.old self.new (D.store door.old) (D.store door.new) D.keeps ask result.entry }
         ensures excused { IsTrue D.visible → is_excused result.entry.reply ≡ true → StaysOnDisk self.old self.new (D.store door.old) (D.store door.new) D.keeps }

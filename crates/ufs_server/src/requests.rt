@@ -13,6 +13,7 @@ ghost use Rattle.ufs_prefix.specs.Changes.{asks_commit};
 ghost use Rattle.ufs_store.specs.State.{geometry_of_store};
 ghost use Rattle.ufs_stored.specs.OnDisk.{IsExplainedBetween, IsOnDisk};
 ghost use Rattle.ufs_stored.specs.Sound.{IsSoundServer};
+ghost use Rattle.ufs_stored.specs.Stamping.{ExplainsAllowed};
 ghost use Rattle.ufs_stored.specs.Stored.{ArePartsOf};
 ghost use Rattle.ufs_server.specs.Answered.{IsAnswered, TellsFaults, device_in, stopped_in};
 ghost use Rattle.ufs_server.specs.Away.{AwayStays, ForgetsNothing};
@@ -36,6 +37,7 @@ impl DiskServer {
         requires numbers { self.old.names.next < 2 ^ 31 }
         requires asked { (t : PosixTree) × ArePartsOf self.old t × IsAsk t ask }
         requires sound { IsSoundServer (geometry_of_store (D.store door.old)) (D.store door.old).unassigned.free self.old }
+        requires stamped { D.stamps → ExplainsAllowed D.allows (D.store door.old) self.old }
         ensures entry { IsEntryOf ask by ticket result.entry }
         ensures served { is_excused result.entry.reply ≡ false → (t : PosixTree) → ArePartsOf self.old t → IsAsk t ask → IsAnswered t ask self.new result.entry.reply result.desc }
         ensures fits { (x : Excuse) → result.entry.reply ≡ reply.Excused x → (t : PosixTree) → ArePartsOf self.old t → IsAsk t ask → ExcuseFits t ask.client ask.op x }

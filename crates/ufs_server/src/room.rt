@@ -2,6 +2,7 @@ ghost use Rattle.std.specs.Prelude.{◌≡◌, ◌<◌, ◌≤◌, ◌↔◌, �
 ghost use Rattle.ufs_ilog.specs.Notes.{sectors_noted};
 ghost use Rattle.ufs_store.specs.State.{geometry_of_store};
 ghost use Rattle.ufs_stored.specs.Sound.{IsSoundServer};
+ghost use Rattle.ufs_stored.specs.Stamping.{ExplainsAllowed};
 ghost use Rattle.ufs_server.specs.Served.{Stays, StaysOnDisk};
 
 use crate::disk_server::DiskServer;
@@ -13,6 +14,7 @@ impl DiskServer {
     /// commit is asked for. That memory is wanting, or that the disk fails, is told by no answer.
     pub(crate) fn make_room<D: Door>(&mut self, door: &mut D)
         requires sound { IsSoundServer (geometry_of_store (D.store door.old)) (D.store door.old).unassigned.free self.old }
+        requires stamped { D.stamps → ExplainsAllowed D.allows (D.store door.old) self.old }
         ensures stays { Stays self.old self.new (D.store door.old) (D.store door.new) }
         ensures promise { IsTrue D.visible → StaysOnDisk self.old self.new (D.store door.old) (D.store door.new) D.keeps }
         ensures names { self.new.names.next ≡ self.old.names.next }

@@ -1,21 +1,19 @@
-ghost use Rattle.std.specs.Prelude.{◌≡◌, IfSome, IfNone, IsTrue, true, false};
+ghost use Rattle.std.specs.Prelude.{◌≡◌, IsTrue, true, false};
 ghost use Rattle.ufs_client.specs.Played.{tells_fault};
-ghost use Rattle.ufs_file.specs.Hand.{IsOf};
 ghost use Rattle.ufs_model.specs.Bounds.{IsBounded};
-ghost use Rattle.ufs_model.specs.FileCalls.{is_on_file};
 ghost use Rattle.ufs_model.specs.History.{is_excused};
-ghost use Rattle.ufs_names.specs.Calls.{IsOfNames};
-ghost use Rattle.ufs_prefix.specs.Changes.{asks_commit};
 ghost use Rattle.ufs_store.specs.State.{geometry_of_store};
 ghost use Rattle.ufs_stored.specs.Sound.{IsSoundServer};
+ghost use Rattle.ufs_stored.specs.Stamping.{ExplainsAllowed};
 ghost use Rattle.ufs_synced.specs.Laws.{HasNothingNoted};
 ghost use Rattle.ufs_server.specs.Answered.{IsUntold};
 ghost use Rattle.ufs_server.specs.Served.{IsServedOn, KeepsPromise, MayServe, Stays, StaysOnDisk};
 
 use crate::disk_server::DiskServer;
 use crate::name_requests::{again, lacks_block};
+use crate::needed::file_asked;
 use ufs_file::Applied;
-use ufs_model::{Actor, Ask, Op};
+use ufs_model::{Actor, Ask};
 use ufs_pouring::pour;
 use ufs_store::Door;
 use ufs_stored::always_law;
@@ -33,6 +31,7 @@ impl DiskServer {
     ) -> Applied
         requires may { MayServe self.old (D.store door.old) ask }
         requires bounded { IsBounded ask.op }
+        requires stamped { D.stamps → ExplainsAllowed D.allows (D.store door.old) self.old }
         ensures served { IsServedOn self.old self.new (D.store door.old) (D.store door.new) ask by ticket result }
         ensures promise { IsTrue D.visible → KeepsPromise self.old self.new (D.store door.old) (D.store door.new) D.keeps ask result.entry }
         ensures calm { tells_fault result.entry.reply ≡ false }
@@ -54,6 +53,7 @@ impl DiskServer {
     fn serve_once<D: Door>(&mut self, door: &mut D, ask: Ask, by: Actor, ticket: u64) -> Applied
         requires may { MayServe self.old (D.store door.old) ask }
         requires bounded { IsBounded ask.op }
+        requires stamped { D.stamps → ExplainsAllowed D.allows (D.store door.old) self.old }
         ensures served { IsServedOn self.old self.new (D.store door.old) (D.store door.new) ask by ticket result }
         ensures promise { IsTrue D.visible → KeepsPromise self.old self.new (D.store door.old) (D.store door.new) D.keeps ask result.entry }
         ensures excused { IsTrue D.visible → is_excused result.entry.reply ≡ true → StaysOnDisk self.old self.new (D.store door.old) (D.store door.new) D.keeps }
@@ -70,6 +70,7 @@ impl DiskServer {
     // wanting, or that the disk fails, is told by no answer, and nothing comes back then.
     fn reclaim<D: Door>(&mut self, door: &mut D)
         requires sound { IsSoundServer (geometry_of_store (D.store door.old)) (D.store door.old).unassigned.free self.old }
+        requires stamped { D.stamps → ExplainsAllowed D.allows (D.store door.old) self.old }
         ensures stays { Stays self.old self.new (D.store door.old) (D.store door.new) }
         ensures promise { IsTrue D.visible → StaysOnDisk self.old self.new (D.store door.old) (D.store door.new) D.keeps }
     {
@@ -84,6 +85,7 @@ impl DiskServer {
     fn take_dropped<D: Door>(&mut self, door: &mut D)
         requires nothing { HasNothingNoted self.old }
         requires sound { IsSoundServer (geometry_of_store (D.store door.old)) (D.store door.old).unassigned.free self.old }
+        requires stamped { D.stamps → ExplainsAllowed D.allows (D.store door.old) self.old }
         ensures stays { Stays self.old self.new (D.store door.old) (D.store door.new) }
         ensures promise { IsTrue D.visible → StaysOnDisk self.old self.new (D.store door.old) (D.store door.new) D.keeps }
     {
@@ -95,27 +97,5 @@ impl DiskServer {
             Ok(()) => pour(&mut self.dropped, &mut self.pool),
             Err(_fault) => {}
         }
-    }
-}
-
-// The file of a request that asks for no commit, where it is on a file's descriptor and touches that file and its
-// client alone.
-fn file_asked(ask: &Ask) -> Option<u32>
-    requires { asks_commit ask.now.op ≡ false }
-    ensures kind { IfSome result (λ file. is_on_file ask.now.op ≡ true) }
-    ensures file { IfSome result (λ file. IsOf ask.now.desc file) }
-    ensures names { IfNone result (IsOfNames ask.now) }
-{
-    match &ask.op {
-        Op::Read { .. }
-        | Op::Write { .. }
-        | Op::Pread { .. }
-        | Op::Pwrite { .. }
-        | Op::Seek { .. }
-        | Op::Trunc { .. } => match ask.desc {
-            Some(desc) => desc.file,
-            None => None,
-        },
-        _ => None,
     }
 }

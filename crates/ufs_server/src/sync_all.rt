@@ -8,6 +8,7 @@ ghost use Rattle.ufs_store.specs.Refusals.{IsTold, stop_after};
 ghost use Rattle.ufs_store.specs.State.{geometry_of_store};
 ghost use Rattle.ufs_stored.specs.OnDisk.{HasAll, HasFiles, HasNames, IsExplainedBetween, IsOnDisk};
 ghost use Rattle.ufs_stored.specs.Sound.{IsSoundServer};
+ghost use Rattle.ufs_stored.specs.Stamping.{ExplainsAllowed, ExplainsNamed};
 ghost use Rattle.ufs_stored.specs.Stored.{ArePartsOf};
 ghost use Rattle.ufs_synced.specs.Laws.{HasNothingNoted};
 ghost use Rattle.ufs_server.specs.Answered.{device_told, is_of_store};
@@ -25,6 +26,7 @@ impl DiskServer {
     /// was written since its last commit.
     pub fn sync_all<D: Door>(&mut self, door: &mut D) -> Result<(), Excuse>
         requires sound { IsSoundServer (geometry_of_store (D.store door.old)) (D.store door.old).unassigned.free self.old }
+        requires stamped { D.stamps → ExplainsAllowed D.allows (D.store door.old) self.old }
         ensures ok { IsTrue D.visible → OnOk result ((start : PosixTree) (history : List Entry) → IsOnDisk (D.store door.old) start history self.old → HasAll (D.store door.new) start history self.new) }
         ensures err { IsTrue D.visible → OnErr result ((start : PosixTree) (history : List Entry) → IsOnDisk (D.store door.old) start history self.old → IsOnDisk (D.store door.new) start history self.new) }
         ensures nothing { OnOk result (HasNothingNoted self.new) }
@@ -58,6 +60,7 @@ impl DiskServer {
     fn commit_files<D: Door>(&mut self, door: &mut D, files: &[u32]) -> Result<(), Excuse>
         requires held { (file : ℕ) → has files.now file ≡ true → IsSome (map.get self.old.names.held file) }
         requires sound { IsSoundServer (geometry_of_store (D.store door.old)) (D.store door.old).unassigned.free self.old }
+        requires stamped { D.stamps → ExplainsNamed D.allows (D.store door.old) self.old }
         ensures ok { IsTrue D.visible → OnOk result ((start : PosixTree) (history : List Entry) → HasNames (D.store door.old) start history self.old → HasFiles (D.store door.new) start history self.new files.now) }
         ensures err { IsTrue D.visible → OnErr result ((start : PosixTree) (history : List Entry) → HasNames (D.store door.old) start history self.old → IsOnDisk (D.store door.new) start history self.new) }
         ensures moments { IsTrue D.visible → (start : PosixTree) (history : List Entry) → HasNames (D.store door.old) start history self.old
@@ -79,6 +82,7 @@ impl DiskServer {
     fn commit_here<D: Door>(&mut self, door: &mut D, file: u32) -> Result<(), Excuse>
         requires held { IsSome (map.get self.old.names.held file) }
         requires sound { IsSoundServer (geometry_of_store (D.store door.old)) (D.store door.old).unassigned.free self.old }
+        requires stamped { D.stamps → ExplainsNamed D.allows (D.store door.old) self.old }
         ensures ok { IsTrue D.visible → OnOk result ((start : PosixTree) (history : List Entry) (done : List ℕ) → HasFiles (D.store door.old) start history self.old done → HasFiles (D.store door.new) start history self.new (file ∷ done)) }
         ensures err { IsTrue D.visible → OnErr result ((start : PosixTree) (history : List Entry) → HasNames (D.store door.old) start history self.old → IsOnDisk (D.store door.new) start history self.new) }
         ensures moments { IsTrue D.visible → (start : PosixTree) (history : List Entry) → HasNames (D.store door.old) start history self.old

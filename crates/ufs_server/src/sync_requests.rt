@@ -11,6 +11,7 @@ ghost use Rattle.ufs_prefix.specs.Changes.{asks_commit};
 ghost use Rattle.ufs_store.specs.State.{geometry_of_store};
 ghost use Rattle.ufs_stored.specs.OnDisk.{IsExplainedBetween, IsOnDisk};
 ghost use Rattle.ufs_stored.specs.Sound.{IsSoundServer};
+ghost use Rattle.ufs_stored.specs.Stamping.{ExplainsAllowed};
 ghost use Rattle.ufs_stored.specs.Stored.{ArePartsOf};
 ghost use Rattle.ufs_server.specs.Answered.{IsSyncReply, TellsItsOwn, device_in, reply_to, stopped_in};
 ghost use Rattle.ufs_server.specs.Away.{ForgetsNothing};
@@ -35,6 +36,7 @@ impl DiskServer {
         requires kind { asks_commit ask.op ≡ true }
         requires asked { (t : PosixTree) × ArePartsOf self.old t × IsAsk t ask }
         requires sound { IsSoundServer (geometry_of_store (D.store door.old)) (D.store door.old).unassigned.free self.old }
+        requires stamped { D.stamps → ExplainsAllowed D.allows (D.store door.old) self.old }
         ensures served { IsServedOn self.old self.new (D.store door.old) (D.store door.new) ask by ticket result }
         ensures promise { IsTrue D.visible → KeepsPromise self.old self.new (D.store door.old) (D.store door.new) D.keeps ask result.entry }
         ensures stopped { (fault : ℕ) → stopped_in result.entry.reply ≡ Some fault → (D.store door.old).stop ≡ Some fault }
@@ -57,6 +59,7 @@ impl DiskServer {
         requires kind { asks_commit ask.now.op ≡ true }
         requires asked { (t : PosixTree) × ArePartsOf self.old t × IsAsk t ask.now × (own_refusal t ask.now.client ask.now.op ≡ None) }
         requires sound { IsSoundServer (geometry_of_store (D.store door.old)) (D.store door.old).unassigned.free self.old }
+        requires stamped { D.stamps → ExplainsAllowed D.allows (D.store door.old) self.old }
         ensures answered { IsSyncReply result }
         ensures same { (t : PosixTree) → ArePartsOf self.old t → ArePartsOf self.new t }
         ensures forgets { ForgetsNothing self.old self.new }

@@ -10,6 +10,7 @@ ghost use Rattle.ufs_store.specs.State.{geometry_of_store};
 ghost use Rattle.ufs_store.specs.declared.fault.StoreFault.TheVariants as refusal;
 ghost use Rattle.ufs_stored.specs.OnDisk.{HasFile, HasFiles, HasNames, IsExplainedBetween, IsOnDisk};
 ghost use Rattle.ufs_stored.specs.Sound.{IsSoundServer};
+ghost use Rattle.ufs_stored.specs.Stamping.{ExplainsAllowed};
 ghost use Rattle.ufs_server.specs.Answered.{device_of, is_of_store};
 ghost use Rattle.ufs_server.specs.Served.{CommitEnds};
 
@@ -23,6 +24,7 @@ impl DiskServer {
     /// Commits the names, where they changed since their last commit. Directories' fresh blocks are zeros before.
     pub(crate) fn sync_names<D: Door>(&mut self, door: &mut D) -> Result<(), Excuse>
         requires sound { IsSoundServer (geometry_of_store (D.store door.old)) (D.store door.old).unassigned.free self.old }
+        requires stamped { D.stamps → ExplainsAllowed D.allows (D.store door.old) self.old }
         ensures ok { IsTrue D.visible → OnOk result ((start : PosixTree) (history : List Entry) → IsOnDisk (D.store door.old) start history self.old → HasNames (D.store door.new) start history self.new) }
         ensures err { IsTrue D.visible → OnErr result ((start : PosixTree) (history : List Entry) → IsOnDisk (D.store door.old) start history self.old → IsOnDisk (D.store door.new) start history self.new) }
         ensures moments { IsTrue D.visible → (start : PosixTree) (history : List Entry) → IsOnDisk (D.store door.old) start history self.old
@@ -57,6 +59,7 @@ impl DiskServer {
         requires here { IsSome (map.get self.old.files file) }
         requires held { IsSome (map.get self.old.names.held file) }
         requires sound { IsSoundServer (geometry_of_store (D.store door.old)) (D.store door.old).unassigned.free self.old }
+        requires stamped { D.stamps → ExplainsAllowed D.allows (D.store door.old) self.old }
         ensures ok { IsTrue D.visible → OnOk result ((start : PosixTree) (history : List Entry) → IsOnDisk (D.store door.old) start history self.old → HasFile (D.store door.new) start history self.new file) }
         ensures err { IsTrue D.visible → OnErr result ((start : PosixTree) (history : List Entry) → IsOnDisk (D.store door.old) start history self.old → IsOnDisk (D.store door.new) start history self.new) }
         ensures moments { IsTrue D.visible → (start : PosixTree) (history : List Entry) → IsOnDisk (D.store door.old) start history self.old

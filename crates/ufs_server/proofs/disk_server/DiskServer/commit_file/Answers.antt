@@ -10,7 +10,7 @@ use Rattle.ufs_on_disk.specs.Syncs.{IsSpaceOf}
 use Rattle.ufs_store.specs.State.{geometry_of_store}
 use Rattle.ufs_stored.specs.Parts.{Parts}
 use Rattle.ufs_server.proofs.FileServing.{IsOut, whole}
-use Rattle.ufs_server.proofs.FileCommitting.{IsBack, IsForgotten, forgets_done, forgets_failed, forgotten_done, here_done, here_failed, may_blocks, may_dropped, meanwhile, on_disk_failed, parts_done, parts_failed, sound_done, sound_failed, synced_done}
+use Rattle.ufs_server.proofs.FileCommitting.{IsBack, IsForgotten, forgets_done, forgets_failed, forgotten_done, here_done, here_failed, may_blocks, may_dropped, may_leave, meanwhile, on_disk_failed, parts_done, parts_failed, sound_done, sound_failed, synced_done}
 use Rattle.ufs_server.proofs.disk_server.DiskServer.commit_file.Given
 use Rattle.ufs_server.proofs.disk_server.DiskServer.commit_file.Goals as goal
 
@@ -39,6 +39,10 @@ sync_held-told-requires-clause-blocks g c = may_blocks (out_before g c) (numbere
 
 pub sync_held-told-requires-clause-dropped : goal.sync_held-told-requires-clause-dropped
 sync_held-told-requires-clause-dropped g c = may_dropped (out_before g c) (numbered_before g c) c.file_sync_law.ensures.may (space g c) (valid g c)
+
+pub sync_held-told-requires-clause-stamped : goal.sync_held-told-requires-clause-stamped
+sync_held-told-requires-clause-stamped g c stamps =
+    may_leave (out_before g c) (numbered_before g c) g.D.Door.allows c.geometry-geometry.result c.file_moments_law.ensures.allowed (sym c.geometry-geometry.ensures.is) c.requires.held c.fitting_law.ensures (c.requires.stamped stamps)
 
 -- ---- it couldn't be committed
 
@@ -70,7 +74,7 @@ returns-in_err-told-clause-ends g c =
 
 pub returns-in_err-told-clause-moments : goal.returns-in_err-told-clause-moments
 returns-in_err-told-clause-moments g c visible start history names =
-    meanwhile (out_failed g c) (numbered_failed g c) g.D.Door.keeps c.geometry-geometry.result (g.D.Door.store c.sync_held-told.new.door) c.file_moments_law.ensures (sym c.geometry-geometry.ensures.is) c.requires.held c.sync_held-told.ensures.fits (c.sync_held-told.ensures.moments visible)
+    meanwhile (out_failed g c) (numbered_failed g c) g.D.Door.keeps c.geometry-geometry.result (g.D.Door.store c.sync_held-told.new.door) c.file_moments_law.ensures.moments (sym c.geometry-geometry.ensures.is) c.requires.held c.sync_held-told.ensures.fits (c.sync_held-told.ensures.moments visible)
     start history names
 
 -- ---- it is committed
@@ -112,7 +116,7 @@ returns-clause-ends g c =
 
 pub returns-clause-moments : goal.returns-clause-moments
 returns-clause-moments g c visible start history names =
-    meanwhile (out g c) (numbered g c) g.D.Door.keeps c.geometry-geometry.result (g.D.Door.store c.sync_held-told.new.door) c.file_moments_law.ensures (sym c.geometry-geometry.ensures.is) c.requires.held c.sync_held-told.ensures.fits (c.sync_held-told.ensures.moments visible) start history names
+    meanwhile (out g c) (numbered g c) g.D.Door.keeps c.geometry-geometry.result (g.D.Door.store c.sync_held-told.new.door) c.file_moments_law.ensures.moments (sym c.geometry-geometry.ensures.is) c.requires.held c.sync_held-told.ensures.fits (c.sync_held-told.ensures.moments visible) start history names
 
 -- ---- where no memory is left
 

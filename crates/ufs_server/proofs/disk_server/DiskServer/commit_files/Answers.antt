@@ -11,6 +11,7 @@ use Rattle.ufs_durable.proofs.Served.{has_at}
 use Rattle.ufs_model.proofs.Facts.Histories.{take-push}
 use Rattle.ufs_names.specs.NamesPart.{NamesPart}
 use Rattle.ufs_stored.specs.OnDisk.{HasFiles}
+use Rattle.ufs_stored.proofs.Stamping.{named_go_on}
 use Rattle.ufs_server.proofs.Filed.{forgotten_more, none_yet, one_more}
 use Rattle.ufs_stored.proofs.Stretches.{explained_joined}
 use Rattle.ufs_server.specs.Served.{CommitEnds}
@@ -90,3 +91,9 @@ pub returns-in_err-commit_here-clause-ends : goal.returns-in_err-commit_here-cla
 returns-in_err-commit_here-clause-ends g c =
     let p = err_from_is_err_and c.from_residual.result c.from_residual.ensures.1 in
     subst (CommitEnds c.args.self.now c.commit_here.new.self (g.D.Door.store c.args.door.now) (g.D.Door.store c.commit_here.new.door)) (sym (p.1 ∙ ap Err p.2)) (ends_joined c.loop-place.invariant.ends c.in_err-commit_here.ensures.ends)
+
+pub commit_here-requires-clause-stamped : goal.commit_here-requires-clause-stamped
+commit_here-requires-clause-stamped g c stamps =
+    let i = c.loop-place.invariant in
+    let e = c.requires.stamped stamps in
+    named_go_on _ _ _ _ _ i.ends.sectors e (i.files (g.met.D.Door.sees stamps) e.start e.history e.named).names

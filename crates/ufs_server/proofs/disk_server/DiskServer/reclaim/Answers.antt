@@ -1,4 +1,5 @@
 use Rattle.std.proofs.Common.{inl, ap}
+use Rattle.ufs_stored.proofs.Stamping.{go_on}
 use Rattle.ufs_server.specs.Answered.{device_told}
 use Rattle.ufs_server.specs.Served.{Stays}
 use Rattle.ufs_server.proofs.Beside.{told_untold}
@@ -36,3 +37,8 @@ returns-in-Err g c =
       };
       promise = λ visible. record { on_disk = c.in-Err.ensures.err visible; moments = synced.moments visible };
     }
+
+pub take_dropped-requires-clause-stamped : goal.take_dropped-requires-clause-stamped
+take_dropped-requires-clause-stamped g c stamps =
+    let e = c.requires.stamped stamps in
+    go_on _ _ _ _ _ c.sync_all-synced.ensures.sectors e (inl (c.in-Ok.ensures.ok (g.met.D.Door.sees stamps) e.start e.history e.on_disk).going)

@@ -2,6 +2,7 @@ use Rattle.std.proofs.Common.{◌≡◌, refl, subst, sym, true, arith}
 use Rattle.ufs_model.specs.Bounds.{IsBounded}
 use Rattle.ufs_model.specs.History.{is_excused}
 use Rattle.ufs_model.specs.declared.data.Ask.{Ask}
+use Rattle.ufs_stored.proofs.Stamping.{go_on}
 use Rattle.ufs_server.specs.Served.{IsServedOn, KeepsPromise, MayServe}
 use Rattle.ufs_server.proofs.Beside.{untold_joined}
 use Rattle.ufs_server.proofs.Staying.{excused_stays, on_disk_joined, promise_behind, served_behind, stays_joined}
@@ -49,3 +50,19 @@ returns g c =
       calm = c.serve_once.ensures.calm;
       untold = untold_joined _ back new stays.untold c.serve_once.ensures.untold;
     }
+
+-- ---- what a crash may leave meanwhile
+
+pub reclaim-requires-clause-stamped : goal.reclaim-requires-clause-stamped
+reclaim-requires-clause-stamped g c stamps =
+    let first = c.serve_once-first.ensures in
+    let e = c.requires.stamped stamps in
+    go_on _ _ _ _ _ first.served.sectors e ((first.excused (g.met.D.Door.sees stamps) (c.lacks_block.ensures c.if-not-lacks_block.false)).on_disk e.start e.history e.on_disk)
+
+pub serve_once-requires-clause-stamped : goal.serve_once-requires-clause-stamped
+serve_once-requires-clause-stamped g c stamps =
+    let first = c.serve_once-first.ensures in
+    let then = c.reclaim.ensures in
+    let e = c.requires.stamped stamps in
+    let mid = go_on _ _ _ _ _ first.served.sectors e ((first.excused (g.met.D.Door.sees stamps) (excused g c)).on_disk e.start e.history e.on_disk) in
+    go_on _ _ _ _ _ then.stays.sectors mid ((then.promise (g.met.D.Door.sees stamps)).on_disk mid.start mid.history mid.on_disk)

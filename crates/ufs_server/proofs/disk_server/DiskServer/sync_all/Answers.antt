@@ -6,6 +6,7 @@ use Rattle.ufs_bitmap.specs.Taking.{has}
 use Rattle.ufs_names.specs.NamesPart.{Holdings, NamesPart}
 use Rattle.ufs_stored.specs.Parts.{Parts}
 use Rattle.ufs_stored.proofs.Stretches.{explained_joined}
+use Rattle.ufs_stored.proofs.Stamping.{go_on_named}
 use Rattle.ufs_server.proofs.Filed.{keys_are}
 use Rattle.ufs_server.proofs.disk_server.DiskServer.sync_all.Goals as goal
 
@@ -63,3 +64,8 @@ returns-in_default-live-clause-moments g c visible start history on =
 
 pub returns-clause-forgets : goal.returns-clause-forgets
 returns-clause-forgets g c file place away = c.sync_names.ensures.ends.forgets file place (c.commit_files.ensures.ends.forgets file place away)
+
+pub commit_files-requires-clause-stamped : goal.commit_files-requires-clause-stamped
+commit_files-requires-clause-stamped g c stamps =
+    let e = c.requires.stamped stamps in
+    go_on_named _ _ _ _ _ c.sync_names.ensures.ends.sectors e (c.in_ok-sync_names.ensures.ok (g.met.D.Door.sees stamps) e.start e.history e.on_disk)

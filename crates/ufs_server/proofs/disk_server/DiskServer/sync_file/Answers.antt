@@ -5,6 +5,7 @@ use Rattle.std.proofs.lemmas.Result.{on_err_weaker, on_ok_weaker}
 use Rattle.ufs_names.specs.NamesPart.{NamesPart}
 use Rattle.ufs_stored.specs.Parts.{Parts}
 use Rattle.ufs_stored.proofs.Stretches.{explained_joined}
+use Rattle.ufs_stored.proofs.Stamping.{go_on_named}
 use Rattle.ufs_server.proofs.Filed.{has_file, none_yet}
 use Rattle.ufs_server.proofs.Staying.{ends_joined}
 use Rattle.ufs_server.proofs.disk_server.DiskServer.sync_file.Goals as goal
@@ -33,3 +34,8 @@ returns-clause-moments g c visible start history on =
 
 pub returns-clause-ends : goal.returns-clause-ends
 returns-clause-ends g c = ends_joined c.in_ok-sync_names.ensures.ends c.commit_file.ensures.ends
+
+pub commit_file-requires-clause-stamped : goal.commit_file-requires-clause-stamped
+commit_file-requires-clause-stamped g c stamps =
+    let e = c.requires.stamped stamps in
+    go_on_named _ _ _ _ _ c.sync_names.ensures.ends.sectors e (c.in_ok-sync_names.ensures.ok (g.met.D.Door.sees stamps) e.start e.history e.on_disk)

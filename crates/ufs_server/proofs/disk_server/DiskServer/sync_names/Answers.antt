@@ -17,9 +17,10 @@ use Rattle.ufs_stored.specs.OnDisk.{HasNames, IsExplainedBetween, IsOnDisk}
 use Rattle.ufs_stored.specs.Parts.{Parts, TheNames}
 use Rattle.ufs_stored.specs.Sound.{IsSoundServer}
 use Rattle.ufs_stored.specs.Stored.{ArePartsOf}
+use Rattle.ufs_stored.proofs.Stamping.{is_going}
 use Rattle.ufs_server.specs.Away.{ForgetsNothing}
 use Rattle.ufs_server.proofs.Away.{forgets_none}
-use Rattle.ufs_server.proofs.Committed.{is_going, parts_committed, sound_committed}
+use Rattle.ufs_server.proofs.Committed.{parts_committed, sound_committed}
 use Rattle.ufs_server.proofs.disk_server.DiskServer.sync_names.Given.{Over}
 use Rattle.ufs_server.proofs.disk_server.DiskServer.sync_names.Goals.{After-commit_notes-committed}
 use Rattle.ufs_server.proofs.disk_server.DiskServer.sync_names.Goals as goal
@@ -107,3 +108,10 @@ returns-in-Ok-clause-moments g c visible start history on_disk = meanwhile g (go
 
 pub returns-in-Err-clause-moments : goal.returns-in-Err-clause-moments
 returns-in-Err-clause-moments g c visible start history on_disk = meanwhile g (goal.at.returns-in-Err-clause-moments g c).After-commit_notes-committed visible start history on_disk
+
+pub commit_notes-committed-requires-clause-stamped : goal.commit_notes-committed-requires-clause-stamped
+commit_notes-committed-requires-clause-stamped g c stamps =
+    let fresh = sym (c.as_slice.ensures.value ∙ ap (λ (x : Parts). x.fresh) c.self.view_is) in
+    let noted = sym (c.take_notes-notes.ensures.notes ∙ ap (λ (x : Parts). x.names.tree.noted) c.self.view_is) in
+    let table = subst (λ (x : Parts). IsNameTable x.names.tree) c.self.view_is c.is_table.ensures in
+    (c.args.self.now, fresh, noted, table, c.requires.stamped stamps)

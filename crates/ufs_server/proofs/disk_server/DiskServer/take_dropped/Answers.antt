@@ -3,10 +3,12 @@ use Rattle.ufs_bitmap.specs.Blocks.{BlockSet}
 use Rattle.ufs_bitmap.specs.Space.{Space}
 use Rattle.ufs_layout.specs.declared.geometry.Geometry.{Geometry}
 use Rattle.ufs_store.specs.State.{geometry_of_store}
+use Rattle.ufs_store.proofs.Stamping.{home_more}
 use Rattle.ufs_stored.specs.Parts.{Parts}
 use Rattle.ufs_stored.specs.Sound.{IsSoundServer}
 use Rattle.ufs_stored.specs.Stored.{ArePartsOf}
 use Rattle.ufs_stored.specs.OnDisk.{IsOnDisk}
+use Rattle.ufs_stored.proofs.Stamping.{is_going}
 use Rattle.ufs_synced.specs.Laws.{IsBeside, with_reclaimed}
 use Rattle.ufs_server.proofs.Away.{forgets_none}
 use Rattle.ufs_server.proofs.Beside.{told_untold}
@@ -66,3 +68,12 @@ returns-in-Err g c =
         moments = λ start history. checkpoint_moments c.geometry-geometry.result c.always_law.ensures.checkpoint c.always_law.ensures.rest g.D.Door.keeps old new start history p form (passed.crash visible) passed.still;
       };
     }
+
+pub checkpoint-passed-requires : goal.checkpoint-passed-requires
+checkpoint-passed-requires g c = record {
+  stamped = λ stamps going.
+      let p = c.args.self.now in
+      let s = g.D.Door.store c.args.door.now in
+      let e = c.requires.stamped stamps in
+      home_more _ _ s (c.reclaim_law.ensures.may_leave s e.start e.history p (sym c.geometry-geometry.ensures.is) (is_going s e.start e.history p going e.on_disk)) e.allowed;
+}

@@ -1,0 +1,82 @@
+// Which files are there, and which of them a request touches.
+ghost use Rattle.std.specs.Prelude.{◌≡◌, IfNone, IfSome, true};
+ghost use Rattle.ufs_file.specs.Hand.{IsOf};
+ghost use Rattle.ufs_model.specs.FileCalls.{is_on_file};
+ghost use Rattle.ufs_names.specs.Calls.{IsOfNames};
+
+use crate::disk_server::DiskServer;
+use crate::fetching::is_file_request;
+use ufs_base::Memory;
+use ufs_client::answer_own;
+use ufs_model::Ask;
+use ufs_names::FileList;
+
+impl DiskServer {
+    ghost use Rattle.std.specs.Prelude.{ℕ, ◌≡◌, ◌≢◌, ◌<◌, true, Some, IfOk, IfSome, is_some};
+    ghost use Rattle.std.specs.FinMap as map;
+    ghost use Rattle.ufs_model.specs.Asks.{IsAsk};
+    ghost use Rattle.ufs_model.specs.PosixTree.{PosixTree};
+    ghost use Rattle.ufs_model.specs.declared.data.Op.TheVariants as op;
+    ghost use Rattle.ufs_names.specs.Calls.{IsOfNames, IsTouched};
+    ghost use Rattle.ufs_stored.specs.Stored.{ArePartsOf};
+
+    /// The one file that a request touches, of those that are there. One that its client answers itself touches none,
+    /// and the file that an `open` makes isn't there yet. A `sync` touches all files, and isn't asked for here.
+    pub fn touched(&self, ask: &Ask) -> Result<Option<u32>, Memory>
+        requires client { ask.now.client < 16 }
+        requires one { ask.now.op ≢ op.Sync }
+        ensures all { IfOk result (λ touched. (t : PosixTree) → ArePartsOf self.now t → IsAsk t ask.now → (f : ℕ) → IsTouched t ask.now f → is_some (map.get t.bytes f) ≡ true → touched ≡ Some f) }
+        ensures there { IfOk result (λ touched. IfSome touched (λ f. (t : PosixTree) → ArePartsOf self.now t → IsAsk t ask.now → is_some (map.get t.bytes f) ≡ true)) }
+        ensures only { IfOk result (λ touched. IfSome touched (λ f. (t : PosixTree) → ArePartsOf self.now t → IsAsk t ask.now → IsTouched t ask.now f)) }
+    {
+        if answer_own(ask).is_some() {
+            return Ok(None);
+        }
+        match file_asked(ask) {
+            Some(file) => Ok(Some(file)),
+            None => self.touched_by_name(ask),
+        }
+    }
+
+    // Of a request of the names.
+    fn touched_by_name(&self, ask: &Ask) -> Result<Option<u32>, Memory>
+        requires client { ask.now.client < 16 }
+        requires one { ask.now.op ≢ op.Sync }
+        requires kind { IsOfNames ask.now }
+        ensures all { IfOk result (λ touched. (t : PosixTree) → ArePartsOf self.now t → IsAsk t ask.now → (f : ℕ) → IsTouched t ask.now f → is_some (map.get t.bytes f) ≡ true → touched ≡ Some f) }
+        ensures there { IfOk result (λ touched. IfSome touched (λ f. (t : PosixTree) → ArePartsOf self.now t → IsAsk t ask.now → is_some (map.get t.bytes f) ≡ true)) }
+        ensures only { IfOk result (λ touched. IfSome touched (λ f. (t : PosixTree) → ArePartsOf self.now t → IsAsk t ask.now → IsTouched t ask.now f)) }
+    {
+        let needed = self.names.needs(ask)?;
+        Ok(needed.as_slice().first().copied())
+    }
+
+    /// Whether a file of this number is there.
+    pub fn has(&self, file: u32) -> bool
+        ensures { (t : PosixTree) → ArePartsOf self.now t → result ≡ is_some (map.get t.bytes file) }
+    {
+        self.files.get(file).is_some()
+    }
+
+    /// The files that are there, by rising number.
+    pub fn live(&self) -> Result<FileList, Memory>
+        ensures { IfOk result (λ files. files ≡ map.keys self.now.names.held) }
+    {
+        self.names.live()
+    }
+}
+
+/// The file of a request on a file's descriptor that touches no more than that file and its client.
+pub(crate) fn file_asked(ask: &Ask) -> Option<u32>
+    ensures kind { IfSome result (λ file. is_on_file ask.now.op ≡ true) }
+    ensures file { IfSome result (λ file. IsOf ask.now.desc file) }
+    ensures names { IfNone result (IsOfNames ask.now) }
+{
+    if !is_file_request(&ask.op) {
+        return None;
+    }
+    match ask.desc {
+        Some(desc) => desc.file,
+        None => None,
+    }
+}
