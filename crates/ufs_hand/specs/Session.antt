@@ -1,5 +1,5 @@
 -- What a session starts from, and what its last hand knows.
-use Rattle.std.specs.Prelude.{ℕ, ◌/◌, ◌%◌, ◌≤◌, ◌<◌, ◌≡◌, ◌≢◌, ◌⊎◌, false, [], ◌∷◌}
+use Rattle.std.specs.Prelude.{ℕ, ◌/◌, ◌%◌, ◌≤◌, ◌<◌, ◌≡◌, ◌≢◌, ◌⊎◌, eqb, false, [], ◌∷◌}
 use Rattle.std.specs.FinMap as fin
 use Rattle.atomic_table.specs.Seated.{TableId}
 use Rattle.ufs_model.specs.PosixTree.{root_alone}
@@ -8,6 +8,7 @@ use Rattle.ufs_model.specs.declared.data.Lease.{Lease}
 use Rattle.ufs_model.specs.declared.data.Op.{Op}
 use Rattle.ufs_model.specs.declared.data.Op.TheVariants.{Sync}
 use Rattle.ufs_model.specs.declared.data.PartName.{PartName}
+use Rattle.ufs_model.specs.declared.data.PartName.TheVariants as part
 use Rattle.ufs_model.specs.declared.data.Reply.TheVariants.{Done}
 use Rattle.ufs_sound.specs.declared.fresh.Fresh.{Fresh}
 use Rattle.ufs_sound.specs.ByImages.{by_images}
@@ -20,6 +21,7 @@ use Rattle.ufs_sound.specs.Durable.{IsDurable}
 use Rattle.ufs_sound.specs.Parts.{NamesPart, StorePart, Start, View, Word, spent}
 use Rattle.ufs_sound.specs.Leasing.{MayGrant, granting, MayGiveBack, giving_back}
 use Rattle.ufs_sound.specs.Marks.{MayAsk, asking, MayRemake}
+use Rattle.ufs_sound.specs.Owned.{count}
 use Rattle.ufs_sound.specs.Visible.{IsDiskVisible}
 use Rattle.ufs_sound.specs.Whole.{CanOpen, IsWhole}
 
@@ -37,6 +39,11 @@ pub record CanBegin (k : Start) : Type 0 where
   pub names : NamesPart
   pub store : StorePart
   pub can : CanOpen by_images k names store
+
+-- The hand has the pool of this name. A pool's part is named like a file's.
+abbrev pub HoldsPool : PartName → View → Type 0
+HoldsPool (part.File pool) v = 1 ≤ count eqb pool v.pools
+HoldsPool _ v = ⊥
 
 abbrev pub word_of : ℕ → ℕ → Word
 word_of tickets clock = record { tickets = tickets; clock = clock }

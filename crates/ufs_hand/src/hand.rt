@@ -1,11 +1,11 @@
 // The hands of one session, and the table that they share.
-ghost use Rattle.std.specs.Prelude.{◌≡◌, ◌≢◌, ◌≤◌, ◌<◌, ◌/◌, ◌%◌, [], ◌∷◌, IfOk};
+ghost use Rattle.std.specs.Prelude.{◌≡◌, ◌≢◌, ◌≤◌, ◌<◌, ◌⊎◌, ◌/◌, ◌%◌, [], ◌∷◌, IfOk};
 ghost use Rattle.ufs_sound.specs.Rule.{clock_step, word_at, IsSeenBy, KnowsTickets, MayTick};
 ghost use Rattle.ufs_sound.specs.Clock.{looked, ticked};
 ghost use Rattle.ufs_sound.specs.Parts.{NamesPart, HoldsPart, kept_of, given_of, both_of};
 ghost use Rattle.ufs_sound.specs.Draws.{MayDraw, drawn};
 ghost use Rattle.ufs_sound.specs.Whole.{HoldsAll};
-ghost use Rattle.ufs_hand.specs.Session.{first_view, word_of, CanBegin, DrewLocal, IsEvent, KnowsAll};
+ghost use Rattle.ufs_hand.specs.Session.{first_view, word_of, CanBegin, DrewLocal, HoldsPool, IsEvent, KnowsAll};
 
 use crate::rule::{
     Board, Cut, Drawing, Draws, DrawsAt, Event, Glue, Leaving, Looks, Marks, Naming, Parts, Picked,
@@ -157,7 +157,7 @@ impl Opened {
 impl<N: Naming> Hand<N> {
     /// A new hand with just this part, which this hand has no more.
     pub fn split(&mut self, table: &HandTable<N>, part: PartName) -> Hand<N>
-        requires { HoldsPart part self.old }
+        requires { HoldsPart part self.old ⊎ HoldsPool part self.old }
         ensures kept { self.new ≡ kept_of part self.old }
         ensures given { result ≡ given_of part self.old }
     {

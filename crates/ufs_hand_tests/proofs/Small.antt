@@ -7,7 +7,7 @@ use Rattle.std.specs.FinMap as fin
 use Rattle.ufs_model.specs.PosixTree.{PosixTree, IsTree, root_alone, is_node_of}
 use Rattle.ufs_model.specs.declared.data.Actor.TheVariants.{Primary}
 use Rattle.ufs_model.specs.declared.data.Op.TheVariants.{Sync}
-use Rattle.ufs_model.specs.declared.data.PartName.TheVariants.{Client}
+use Rattle.ufs_model.specs.declared.data.PartName.TheVariants.{Client, File}
 use Rattle.ufs_model.specs.declared.data.Reply.TheVariants.{Excused}
 use Rattle.ufs_model.specs.declared.data.Excuse.TheVariants.{Memory}
 use Rattle.ufs_sound.specs.declared.fresh.Fresh.{Fresh}
@@ -19,10 +19,10 @@ use Rattle.ufs_sound.specs.Clock.{looked, at_clock, ticked}
 use Rattle.ufs_sound.specs.Marks.{IsSingle}
 use Rattle.ufs_sound.specs.Rule.{MayTick}
 use Rattle.ufs_sound.specs.Whole.{CanOpen, HoldsAll, idle_client, idle_asked}
-use Rattle.ufs_sound.specs.First.{new_names, new_store}
+use Rattle.ufs_sound.specs.First.{new_names, new_store, primary_pool}
 use Rattle.ufs_sound.proofs.First.{blind_opens}
 use Rattle.ufs_sound.proofs.Drawable.{memory_may_draw}
-use Rattle.ufs_hand.specs.Session.{first_view, CanBegin, IsEvent}
+use Rattle.ufs_hand.specs.Session.{first_view, CanBegin, HoldsPool, IsEvent}
 use Rattle.ufs_hand_tests.specs.Small.{least, small, asked}
 
 abbrev can : CanOpen by_images small new_names (new_store least [])
@@ -34,8 +34,15 @@ begins = record { names = new_names; store = new_store least []; can = can }
 pub asks : IsEvent small (first_view small) asked
 asks = inl (record { client = 0; request = Sync; may = record { self = idle_client; client = inl refl; before = idle_asked; asked = inl refl; idle = refl; room = omega arith; copies = []; kept = λ l h. h }; is = refl })
 
+-- the client was split off and joined again, and then the pool
+abbrev pub with_client : ℕ → View
+with_client n = both_of (kept_of (Client 0) (asked n)) (given_of (Client 0) (asked n))
+
 abbrev pub joined : ℕ → View
-joined n = both_of (kept_of (Client 0) (asked n)) (given_of (Client 0) (asked n))
+joined n = both_of (kept_of (File primary_pool) (with_client n)) (given_of (File primary_pool) (with_client n))
+
+pub has_pool : (n : ℕ) → HoldsPool (File primary_pool) (with_client n)
+has_pool n = omega arith
 
 abbrev asking : ClientPart
 asking = record idle_client { asked = Some Sync }

@@ -23,6 +23,8 @@ fn session<N: Naming>(opened: Opened) -> Whole
     hand.mark::<Brand>(&table);
     let client = hand.split(&table, PartName::Client(0));
     hand.join(&table, client);
+    let pool = hand.split(&table, PartName::File(u32::MAX));
+    hand.join(&table, pool);
     let fresh = Fresh {
         client: 0,
         seq: 0,

@@ -122,7 +122,7 @@ module _ (k : Start) (history : List Entry) (t : PosixTree) (e : Entry) (v : Vie
   born : (g : ℕ) (x : FilePart) → Has (g, x) v.files → g < now.next
   born g x has =
       let c = count_has eqb itself alike g x v.files has in
-      let n = h.all_files g in
+      let n = h.one_file g in
       h.tree.numbered g (there (is_some (fin.get now.bytes g)) (omega (arith, c, n)))
     where
       there : (b : Bool) → 1 ≤ one b → b ≡ true
@@ -213,7 +213,7 @@ module _ (k : Start) (history : List Entry) (t : PosixTree) (e : Entry) (v : Vie
   synced_file g x has syncs = by kind
     where
       there : is_some (fin.get now.bytes g) ≡ true
-      there = at (is_some (fin.get now.bytes g)) (let c = count_has eqb itself alike g x v.files has in let n = h.all_files g in omega arith)
+      there = at (is_some (fin.get now.bytes g)) (let c = count_has eqb itself alike g x v.files has in let n = h.one_file g in omega arith)
         where
           at : (b : Bool) → 1 ≤ one b → b ≡ true
           at true l = refl

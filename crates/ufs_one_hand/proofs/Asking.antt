@@ -61,7 +61,7 @@ module _ (k : Start) (history : List Entry) (client : ℕ) (low : client < MAX_C
             let x = has_each (asking_client client request []) c p v.clients a in
             subst (IsClientAt (tree_after k.tree history) history (Some (client, request)) c) x.2 (client_asked c x.0 (h.clients c x.0 x.1));
         theirs = λ e a. subst (λ n. 1 ≤ n) (sym (same e.client)) (h.theirs e a);
-        all_files = h.all_files;
+        one_file = h.one_file;
         files = h.files;
         changes = h.changes;
         pools = h.pools;

@@ -1,5 +1,5 @@
 -- A session that begins has every part of its tree in one hand.
-use Rattle.std.proofs.Common.{◌≡◌, ℕ, ◌≤◌, Bool, List, [], Option, None, unwrap_or, sym, refl, ap, ◌∙◌, subst, arith}
+use Rattle.std.proofs.Common.{◌≡◌, ℕ, ◌≤◌, Bool, true, false, eqb, List, [], Option, None, is_some, unwrap_or, sym, refl, ap, ◌∙◌, subst, arith}
 use Rattle.std.specs.Prelude.{slice_get}
 use Rattle.std.specs.Ordering.{nat_cmp}
 use Rattle.std.specs.FinMap as fin
@@ -7,11 +7,14 @@ use Rattle.ufs_model.specs.Order.{fd_cmp}
 use Rattle.ufs_model.specs.Start.{PathNodes, IsPathTree, start_of}
 use Rattle.ufs_sound.specs.ByImages.{by_images}
 use Rattle.ufs_sound.specs.Opened.{OpenedDisk, opened_file, opened_names, opened_store, opened_view, CanBeOpened, OpenedDisksServe}
-use Rattle.ufs_sound.specs.Parts.{Cells, FilePart, Start}
+use Rattle.ufs_sound.specs.Owned.{one}
+use Rattle.ufs_sound.specs.Parts.{Cells, FilePart, Start, View}
 use Rattle.ufs_sound.specs.Whole.{CanOpen, idle_client}
 use Rattle.ufs_sound.proofs.Owning.{none_some}
 use Rattle.ufs_sound.proofs.First.{all_are}
 use Rattle.ufs_hand.specs.Session.{CanBegin, first_view}
+use Rattle.ufs_one_hand.specs.declared.pools.TheConstants.{PRIMARY_POOL}
+use Rattle.ufs_one_hand.specs.Apart.{HasEachFile}
 use Rattle.ufs_one_hand.specs.OneHand.{disk_with, start_seeing, IsCovered, IsCoveredIn, IsStart, StartsCanBegin, HasSession, IsClientAt, faults_in, passed_in, stamp_in}
 use Rattle.ufs_one_hand.proofs.Bare.{no_blocks, uses_none}
 use Rattle.ufs_one_hand.proofs.Passage.{one_part}
@@ -24,11 +27,15 @@ module _ (nodes : PathNodes) (cells : Cells) (is_visible : Bool) where
   can_be_opened paths few = record {
     paths = paths;
     small = few;
-    pools = λ n. omega arith;
+    pools = λ n. let p = one_pool (eqb n PRIMARY_POOL) in omega (arith, p);
     extents = λ f bs e. absurd (none_some bs (sym (fin.get-empty nat_cmp f) ∙ e));
     once = λ b. let i = uses_none nodes cells is_visible b in omega (arith, i);
     on_disk = λ visible f low place b at out. absurd (none_some b (ap (λ (bs : List ℕ). slice_get bs place) (sym (no_blocks nodes cells is_visible f)) ∙ at));
   }
+    where
+      one_pool : (b : Bool) → one b ≤ 1
+      one_pool true = omega arith
+      one_pool false = omega arith
 
   client_idle : (c : ℕ) → IsClientAt (start_of nodes) [] None c idle_client
   client_idle c = record { entries = refl; fds = λ fd. fin.get-empty nat_cmp fd ∙ sym (fin.get-empty fd_cmp (c, fd)); copies = refl; asked = refl }
@@ -42,7 +49,7 @@ module _ (nodes : PathNodes) (cells : Cells) (is_visible : Bool) where
     all_asked = λ c. refl;
     clients = λ c p h. subst (IsClientAt (start_of nodes) [] None c) (sym (can.clients c p h)) (client_idle c);
     theirs = λ e h. absurd h;
-    all_files = can.one_file;
+    one_file = λ f. let e = can.one_file f in omega (arith, e);
     files = λ f p h.
         let is = all_are (opened_file d) (start_of nodes).next 0 f p h in
         let bytes = (can.files f p h).2 in
@@ -74,6 +81,13 @@ module _ (nodes : PathNodes) (cells : Cells) (is_visible : Bool) where
     store_at = record { extents = refl; dirs = refl; unassigned = refl; stop = refl; single = λ n. omega arith };
   }
 
+  -- no file is apart
+  pub each_begun : CanOpen by_images (start_seeing nodes cells is_visible) (opened_names d) (opened_store d) → HasEachFile (start_seeing nodes cells is_visible) [] (opened_view d) fin.empty
+  each_begun can = record {
+    here = λ f. let e = can.one_file f in let z : one (is_some (fin.get fin.empty f)) ≡ 0 = ap (λ (x : Option View). one (is_some x)) (fin.get-empty nat_cmp f) in omega (arith, e, z);
+    apart = λ f u at. absurd (none_some u (sym (fin.get-empty nat_cmp f) ∙ at));
+  }
+
 pub starts_begin : OpenedDisksServe → StartsCanBegin
 starts_begin serves k s = subst CanBegin (sym s.is) (record {
   names = opened_names (disk_with s.nodes s.cells s.is_visible);
@@ -83,6 +97,9 @@ starts_begin serves k s = subst CanBegin (sym s.is) (record {
 
 pub start_begun : OpenedDisksServe → (k : Start) → IsStart k → HasSession k [] None (first_view k)
 start_begun serves k s = subst (λ (z : Start). HasSession z [] None (first_view z)) (sym s.is) (begun s.nodes s.cells s.is_visible s.paths s.few (serves (disk_with s.nodes s.cells s.is_visible) (can_be_opened s.nodes s.cells s.is_visible s.paths s.few)))
+
+pub start_each : OpenedDisksServe → (k : Start) → IsStart k → HasEachFile k [] (first_view k) fin.empty
+start_each serves k s = subst (λ (z : Start). HasEachFile z [] (first_view z) fin.empty) (sym s.is) (each_begun s.nodes s.cells s.is_visible (serves (disk_with s.nodes s.cells s.is_visible) (can_be_opened s.nodes s.cells s.is_visible s.paths s.few)))
 
 -- nothing is committed yet
 pub start_covered : (k : Start) → IsStart k → IsCoveredIn k [] (first_view k)

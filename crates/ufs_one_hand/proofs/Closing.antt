@@ -1,7 +1,8 @@
--- The hand with all parts ends the session, and knows how many entries there are.
-use Rattle.std.proofs.Common.{◌≡◌, ℕ, ◌≤◌, ◌||◌, true, eqb, List, [], ◌∷◌, length, None, is_some, sym, refl, ap, ◌∙◌, subst, inl, inr, ⊎_elim, arith}
+-- The hand ends the session, where no file is apart, and knows how many entries there are.
+use Rattle.std.proofs.Common.{◌≡◌, ℕ, ◌≤◌, ◌||◌, true, eqb, List, [], ◌∷◌, length, Option, None, is_some, sym, refl, ap, ◌∙◌, subst, inl, inr, ⊎_elim, arith}
 use native.Mathlib.Decide.{dec_le}
 use Rattle.std.specs.List.{list_any}
+use Rattle.std.specs.Ordering.{nat_cmp}
 use Rattle.std.specs.FinMap as fin
 use Rattle.ufs_model.specs.PosixTree.{PosixTree, IsTree, is_node_of}
 use Rattle.ufs_model.specs.History.{tree_after, entries_of}
@@ -17,6 +18,7 @@ use Rattle.ufs_sound.specs.Durable.{IsDurable, IsExplainedThroughout}
 use Rattle.ufs_sound.specs.Explained.{AreJoined}
 use Rattle.ufs_sound.specs.Visible.{IsDiskVisible}
 use Rattle.ufs_hand.specs.Session.{KnowsAll, word_of}
+use Rattle.ufs_one_hand.specs.Apart.{HasEachFile}
 use Rattle.ufs_one_hand.specs.OneHand.{HasSession, IsStampedIn}
 use Rattle.ufs_one_hand.specs.Drawn.{IsExplainedAtStamps}
 use Rattle.ufs_one_hand.proofs.Counting.{none_of, numbered, one_list, same_length_all}
@@ -33,17 +35,17 @@ module _ (k : Start) (history : List Entry) (v : View) (h : HasSession k history
         ∙ (λ j. list_any (is_node_of f) (fin.values ((sym (within.paths tt h.names has_names) ∙ h.names_at.paths) j)) || open_by t.fds (tree_after k.tree history).fds f (λ c. sym (within.holds tt h.names has_names c f) ∙ h.names_at.holds c f) j)
         ∙ sym (h.tree.live f)
 
-    files_here : (f : ℕ) → is_some (fin.get t.bytes f) ≡ true → 1 ≤ count eqb f v.files
-    files_here f there = let n = h.all_files f in let o : one (is_some (fin.get (tree_after k.tree history).bytes f)) ≡ 1 = ap one (sym (same_live f) ∙ there) in omega (arith, n, o)
+    files_here : HasEachFile k history v fin.empty → (f : ℕ) → is_some (fin.get t.bytes f) ≡ true → 1 ≤ count eqb f v.files
+    files_here each f there = let n = each.here f in let z : one (is_some (fin.get fin.empty f)) ≡ 0 = ap (λ (x : Option View). one (is_some x)) (fin.get-empty nat_cmp f) in let o : one (is_some (fin.get (tree_after k.tree history).bytes f)) ≡ 1 = ap one (sym (same_live f) ∙ there) in omega (arith, n, z, o)
 
-  pub holds_all : HoldsAll k v
-  holds_all = record {
+  pub holds_all : HasEachFile k history v fin.empty → HoldsAll k v
+  holds_all each = record {
     clients = λ c. let e = h.all_clients c in omega (arith, e);
     names = h.names;
     has_names = h.has_names;
     store = h.store;
     has_store = h.has_store;
-    files = files_here;
+    files = λ t is within. files_here t is within each;
   }
 
   -- a history that has each client's entries as the hand has them is this one

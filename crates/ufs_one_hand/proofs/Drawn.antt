@@ -1,5 +1,5 @@
--- A hand with all parts of a session has them after the entry that it drew.
-use Rattle.std.proofs.Common.{◌≡◌, ℕ, ◌≤◌, ◌≢◌, Bool, true, cond, eqb, eq-eqb, ne_eqb, List, [], ◌∷◌, ◌++◌, length, Some, None, is_some, refl, ap, sym, ◌∙◌, subst, ⊎_elim, arith}
+-- The hand of a session has its parts after the entry that it drew, and the files that were apart are as they were.
+use Rattle.std.proofs.Common.{◌≡◌, ℕ, ◌+◌, ◌≤◌, ◌≢◌, Bool, true, false, cond, eqb, eq-eqb, ne_eqb, List, [], ◌∷◌, ◌++◌, length, Option, Some, None, is_some, refl, ap, sym, ◌∙◌, subst, inl, inr, ⊎_elim, arith, append-nil}
 use Rattle.std.specs.FinMap as fin
 use native.Mathlib.Decide.{ℕ_discrete}
 use Rattle.ufs_model.specs.History.{entries_of, goes_on, tree_after}
@@ -23,10 +23,11 @@ use Rattle.ufs_sound.specs.declared.fresh.Fresh.{Fresh}
 use Rattle.ufs_sound.proofs.Covering.{excused_or, tree_served, tree_stays}
 use Rattle.ufs_sound.proofs.Drawing.{touches_own}
 use Rattle.ufs_sound.proofs.Owning.{weigh_each, has_append, has_each}
+use Rattle.ufs_one_hand.specs.Apart.{FileViews, HasEachFile, IsHandOfFile}
 use Rattle.ufs_one_hand.specs.OneHand.{HasSession, IsClientAt, IsFileAt, AreNamesAt}
 use Rattle.ufs_one_hand.specs.Drawn.{IsAnswer, file_drawn, leaves_after}
-use Rattle.ufs_one_hand.proofs.Alike.{AreAlike, agree_touched}
-use Rattle.ufs_one_hand.proofs.Draws.{bare_file, dropped_bare, later_count, later_names, later_names_are}
+use Rattle.ufs_one_hand.proofs.Alike.{IsMine, same_self, untouched}
+use Rattle.ufs_one_hand.proofs.Draws.{bare_file, dropped_bare, later_count, later_most, later_names, later_names_are, later_other}
 use Rattle.ufs_one_hand.proofs.Files.{bytes_after, file_after, stays}
 use Rattle.ufs_one_hand.proofs.Holding.{listed_hold}
 use Rattle.ufs_one_hand.proofs.Started.{one_client, start_tree}
@@ -61,13 +62,10 @@ module _ (keeps : KeepsTrees) (local : Locality) (k : Start) (h : List Entry) (f
 
   -- ---- clients
 
-  self_alike : AreAlike f.client now now
-  self_alike = record { paths = refl; next = refl; bytes = λ f. refl; fds = λ fd. refl; holds = λ c f. refl }
-
   descs_stay : (c : ℕ) → c ≢ f.client → (fd : ℕ) → desc_at now c fd ≡ desc_at after c fd
   descs_stay c ne fd = ⊎_elim
       (λ x. ap (λ (t : PosixTree). desc_at t c fd) (sym (tree_stays now f.client f.op f.reply x)))
-      (λ x. (local now now f.client f.op s.tree s.tree (agree_touched f.client now now self_alike f.op)).others (part.Client c) (λ y. ne (touches_own now f.client f.op c y)) fd
+      (λ x. (local now now f.client f.op s.tree s.tree (λ q _. same_self q now)).others (part.Client c) (λ y. ne (touches_own now f.client f.op c y)) fd
       ∙ ap (λ (t : PosixTree). desc_at t c fd) (sym (tree_served now f.client f.op f.reply x)))
       (excused_or f.reply)
 
@@ -164,7 +162,7 @@ module _ (keeps : KeepsTrees) (local : Locality) (k : Start) (h : List Entry) (f
     all_asked = s.all_asked;
     clients = client_at;
     theirs = their_part;
-    all_files = λ g. later_count local k h f own_fds v a g ∙ ap (λ (t : PosixTree). one (is_some (fin.get t.bytes g))) then';
+    one_file = λ g. subst (λ (t : PosixTree). count eqb g l.files ≤ one (is_some (fin.get t.bytes g))) then' (later_most local k h f own_fds v a g);
     files = file_at;
     pools = s.pools;
     names = names;
@@ -175,9 +173,77 @@ module _ (keeps : KeepsTrees) (local : Locality) (k : Start) (h : List Entry) (f
     store_at = s.store_at;
   }
 
+  -- ---- files that are apart
+
+  module _ (files : FileViews) (each : HasEachFile k h v files) where
+    -- one that is apart is there, and the hand hasn't it
+    away : (g : ℕ) (u : View) → fin.get files g ≡ Some u → (count eqb g v.files ≡ 0) × (is_some (fin.get now.bytes g) ≡ true)
+    away g u at = by (is_some (fin.get now.bytes g)) refl
+      where
+        by : (b : Bool) → is_some (fin.get now.bytes g) ≡ b → (count eqb g v.files ≡ 0) × (b ≡ true)
+        by true there = let n = each.here g in let o = ap one there in let c : one (is_some (fin.get files g)) ≡ 1 = ap (λ (x : Option View). one (is_some x)) at in (omega arith, refl)
+        by false none = let n = each.here g in let o = ap one none in let c : one (is_some (fin.get files g)) ≡ 1 = ap (λ (x : Option View). one (is_some x)) at in absurd (omega arith)
+
+    -- so the entry doesn't touch it
+    stays_away : (g : ℕ) (u : View) → fin.get files g ≡ Some u → (fin.get now.bytes g ≡ fin.get after.bytes g) × (change_of g (step_in now e) ≡ [])
+    stays_away g u at = untouched local now e s.tree a.replied g (λ other x. let w = away g u at in let z = w.0 in let c = a.touched other g x w.1 in absurd (omega arith))
+
+    here_after : (g : ℕ) → count eqb g l.files + one (is_some (fin.get files g)) ≡ one (stays now e g)
+    here_after g = by (fin.get files g) refl
+      where
+        mine : (b : Bool) → is_some (fin.get now.bytes g) ≡ b → fin.get files g ≡ None → IsMine now v g
+        mine true there at = let n = each.here g in let o = ap one there in let c : one (is_some (fin.get files g)) ≡ 0 = ap (λ (x : Option View). one (is_some x)) at in inl (omega arith)
+        mine false none at = inr none
+
+        by : (o : Option View) → fin.get files g ≡ o → count eqb g l.files + one (is_some o) ≡ one (stays now e g)
+        by None at = let c = later_count local k h f own_fds v a g (mine (is_some (fin.get now.bytes g)) refl at) in omega arith
+        by (Some u) at =
+            let w = away g u at in
+            let c = later_other local k h f own_fds v a g w.0 w.1 in
+            let o : one (stays now e g) ≡ 1 = ap one (ap is_some (sym (stays_away g u at).0) ∙ w.1) in
+            omega arith
+
+    hand_after : (g : ℕ) (u : View) → fin.get files g ≡ Some u → IsHandOfFile k longer w.stop g u
+    hand_after g u at =
+        let old = each.apart g u at in
+        let still = stays_away g u at in
+        record {
+          part = old.part;
+          files = old.files;
+          at = record {
+            bytes = ap (λ (t : PosixTree). fin.get t.bytes g) (sym then') ∙ sym still.0 ∙ old.at.bytes;
+            leases = old.at.leases;
+            blocks = old.at.blocks;
+            quarantine = old.at.quarantine;
+            spare = old.at.spare;
+            loaded = old.at.loaded;
+          };
+          changes = old.changes ∙ sym (changes_of-push g k.tree h last ∙ ap (λ (l : List FileChange). changes_of g k.tree h ++ l) still.1 ∙ append-nil (changes_of g k.tree h));
+          clients = old.clients;
+          asked = old.asked;
+          pools = old.pools;
+          names = old.names;
+          store = old.store;
+          faults = old.faults;
+          shortages = old.shortages;
+          stop = old.stop;
+        }
+
+    pub each_after : HasEachFile k longer w files
+    each_after = record {
+      here = λ g. here_after g ∙ ap (λ (t : PosixTree). one (is_some (fin.get t.bytes g))) then';
+      apart = hand_after;
+    }
+
 -- So in the tree that its caller names.
 pub session_after_in : KeepsTrees → Locality → (k : Start) (h : List Entry) (t : PosixTree) (f : Fresh) (own_fds : OwnFds) (v : View) (ticket : ℕ) → ticket ≡ length h → IsAnswer k h t f own_fds v
     → HasSession k (h ++ entry_of ticket f ∷ []) None (drawn ticket f (leaves_after t (entry_of 0 f) own_fds v) v)
 session_after_in keeps local k h t f own_fds v ticket is_next a =
     subst (λ (u : PosixTree). HasSession k (h ++ entry_of ticket f ∷ []) None (drawn ticket f (leaves_after u (entry_of 0 f) own_fds v) v)) (sym a.tree_is)
     (session_after keeps local k h f own_fds v (subst (λ (u : PosixTree). IsAnswer k h u f own_fds v) a.tree_is a) ticket is_next)
+
+pub each_after_in : KeepsTrees → Locality → (k : Start) (h : List Entry) (t : PosixTree) (f : Fresh) (own_fds : OwnFds) (v : View) (ticket : ℕ) → ticket ≡ length h → IsAnswer k h t f own_fds v
+    → (files : FileViews) → HasEachFile k h v files → HasEachFile k (h ++ entry_of ticket f ∷ []) (drawn ticket f (leaves_after t (entry_of 0 f) own_fds v) v) files
+each_after_in keeps local k h t f own_fds v ticket is_next a files each =
+    subst (λ (u : PosixTree). HasEachFile k (h ++ entry_of ticket f ∷ []) (drawn ticket f (leaves_after u (entry_of 0 f) own_fds v) v) files) (sym a.tree_is)
+    (each_after keeps local k h f own_fds v (subst (λ (u : PosixTree). IsAnswer k h u f own_fds v) a.tree_is a) ticket is_next files each)

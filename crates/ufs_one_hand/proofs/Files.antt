@@ -1,4 +1,4 @@
--- The files that a hand with all of them has after an entry are those of the tree.
+-- The files that a hand has after an entry: those that it had and that are there still, and the one that is made.
 use Rattle.std.proofs.Common.{◌≡◌, ℕ, ◌+◌, ◌⊎◌, Bool, true, false, cond, ◌&&◌, eqb, eqb-true, List, [], ◌∷◌, ◌++◌, Option, Some, is_some, unwrap_or, refl, ap, sym, ◌∙◌, inl, inr, ⊎_elim, arith}
 use Rattle.std.specs.FinMap as fin
 use Rattle.ufs_model.specs.FileBytes.{bytes_of}
@@ -118,31 +118,38 @@ module _ (t : PosixTree) (e : Entry) where
         there : (f : ℕ) → stays f ≡ true → fin.get (goes_on t e).bytes f ≡ Some (bytes_of (goes_on t e).bytes f)
         there f yes' = let x = from_some (fin.get (goes_on t e).bytes f) yes' in x.1 ∙ ap Some (sym (ap (λ (o : Option (List ℕ)). unwrap_or o []) x.1))
 
-    pub count_after : ((g : ℕ) → count eqb g fs ≡ one (is_some (fin.get t.bytes g))) → (g : ℕ) → count eqb g (files_left t e fs ++ files_made t e) ≡ one (stays g)
-    count_after all g = let sum = weigh_append (named eqb g) (files_left t e fs) (files_made t e) in sum ∙ by (stays g) refl
+    -- as many of one that was there and is there still as before,
+    pub still_count : (g : ℕ) → stays g ≡ true → is_some (fin.get t.bytes g) ≡ true → count eqb g (files_left t e fs ++ files_made t e) ≡ count eqb g fs
+    still_count g here there =
+        let sum = weigh_append (named eqb g) (files_left t e fs) (files_made t e) in
+        let l = left_here g here fs in let m = made_count g in let z = old (eqb g t.next) refl in omega arith
       where
-        gone_made : stays g ≡ false → (b : Bool) → eqb g t.next ≡ b → one (b && stays t.next) ≡ 0
-        gone_made gone true same = ap one (ap stays (sym (eqb-true g t.next same)) ∙ gone)
-        gone_made gone false same = refl
+        old : (b : Bool) → eqb g t.next ≡ b → one (b && stays t.next) ≡ 0
+        old true same = let l = is.numbered g there in let s = eqb-true g t.next same in absurd (omega arith)
+        old false same = refl
 
-        old : is_some (fin.get t.bytes g) ≡ true → (b : Bool) → eqb g t.next ≡ b → one (b && stays t.next) ≡ 0
-        old there true same = let l = is.numbered g there in let s = eqb-true g t.next same in absurd (omega arith)
-        old there false same = refl
+    -- one of the one that is made,
+    pub new_count : (g : ℕ) → stays g ≡ true → is_some (fin.get t.bytes g) ≡ false → count eqb g fs ≡ 0 → count eqb g (files_left t e fs ++ files_made t e) ≡ 1
+    new_count g here none zero =
+        let sum = weigh_append (named eqb g) (files_left t e fs) (files_made t e) in
+        let l = left_here g here fs in let m = made_count g in let o = made_one (made (bytes_go_on t is e replied g here).0) in omega arith
+      where
+        made : HasBytes t.bytes g ⊎ (g ≡ t.next) → g ≡ t.next
+        made (inl has) = let no : false ≡ true = sym none ∙ has in cc
+        made (inr same) = same
 
-        new : g ≡ t.next → (b : Bool) → is_some (fin.get t.bytes g) ≡ b → one (is_some (fin.get t.bytes g)) ≡ 0
-        new same true there = let l = is.numbered g there in absurd (omega arith)
-        new same false there = ap one there
-
-        made_one : g ≡ t.next → stays g ≡ true → one (eqb g t.next && stays t.next) ≡ 1
-        made_one same here =
+        made_one : g ≡ t.next → one (eqb g t.next && stays t.next) ≡ 1
+        made_one same =
             let a : eqb g t.next ≡ true = ap (eqb g) (sym same) ∙ itself g in
             let b : stays t.next ≡ true = ap stays (sym same) ∙ here in
             λ i. one (a i && b i)
 
-        by : (b : Bool) → stays g ≡ b → count eqb g (files_left t e fs) + count eqb g (files_made t e) ≡ one b
-        by false gone = let l = left_gone g gone fs in let m = made_count g in let z = gone_made gone (eqb g t.next) refl in omega arith
-        by true here =
-            let l = left_here g here fs in let m = made_count g in let a = all g in
-            ⊎_elim (λ (has : HasBytes t.bytes g). let o : one (is_some (fin.get t.bytes g)) ≡ 1 = ap one has in let z = old has (eqb g t.next) refl in omega arith)
-            (λ same. let z = new same (is_some (fin.get t.bytes g)) refl in let o = made_one same here in omega arith)
-            (bytes_go_on t is e replied g here).0
+    -- and none of one that isn't there
+    pub gone_count : (g : ℕ) → stays g ≡ false → count eqb g (files_left t e fs ++ files_made t e) ≡ 0
+    gone_count g gone =
+        let sum = weigh_append (named eqb g) (files_left t e fs) (files_made t e) in
+        let l = left_gone g gone fs in let m = made_count g in let z = none (eqb g t.next) refl in omega arith
+      where
+        none : (b : Bool) → eqb g t.next ≡ b → one (b && stays t.next) ≡ 0
+        none true same = ap one (ap stays (sym (eqb-true g t.next same)) ∙ gone)
+        none false same = refl

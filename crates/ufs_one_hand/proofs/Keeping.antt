@@ -392,7 +392,7 @@ module _ (k : Start) (history : List Entry) (t : PosixTree) (e : Entry) (v : Vie
         by : Dec (1 ≤ count eqb g v.files) → committed t3 g ≤ file_synced g k.tree (history ++ e ∷ [])
         by (yes l) =
             let x = has_count eqb itself alike g v.files l in
-            let once : count eqb g v.files ≤ 1 = (let c = h.all_files g in let m = at_most (is_some (fin.get (tree_after k.tree history).bytes g)) in omega arith) in
+            let once : count eqb g v.files ≤ 1 = (let c = h.one_file g in let m = at_most (is_some (fin.get (tree_after k.tree history).bytes g)) in omega arith) in
             let n = ap (λ (o : Option ℕ). unwrap_or o 0) (counts_here t e v.files h.store.files g x.0 once x.1) in
             let low = here x.0 x.1 (syncs_file g (step_in t e)) refl in
             omega arith
@@ -538,6 +538,12 @@ module _ (k : Start) (history : List Entry) (t : PosixTree) (e : Entry) (v : Vie
           where
             nothing : (m : ℕ) → 0 + (0 + m) ≡ m
             nothing m = omega arith
+
+        -- it has the same files
+        pub same_counts : (f : ℕ) → count eqb f v3.files ≡ count eqb f v.files
+        same_counts f =
+            weigh_each (λ f p. record p { known = cond (syncs_file f (step_in t e)) (length p.changes) p.known }) (λ m. one (eqb f m)) v2.files
+            ∙ weigh_each (λ f p. record p { born = syncs_file f (step_in t e) || p.born }) (λ m. one (eqb f m)) v.files
 
         pub all_session : HasSession k history (Some (e.client, e.op)) v3
         all_session = kept_session k history t e v2 acked_2 c

@@ -11,7 +11,9 @@ pub mod Files
 pub mod Holding
 pub mod Keeping
 pub mod Kept
+pub mod Parting
 pub mod Passage
+pub mod Reached
 pub mod Showing
 pub mod Started
 pub mod Tickets

@@ -101,7 +101,7 @@ with_parts k history asked v h files counts files_at names p has_names names_at 
   all_asked = h.all_asked;
   clients = h.clients;
   theirs = h.theirs;
-  all_files = λ f. counts f ∙ h.all_files f;
+  one_file = λ f. let c = counts f in let o = h.one_file f in omega (arith, c, o);
   files = λ f q has. (files_at f q has).0;
   changes = λ f q has. (files_at f q has).1;
   pools = h.pools;
@@ -263,6 +263,9 @@ module _ (k : Start) (history : List Entry) (asked : Option (ℕ × Op)) (v : Vi
       ap passed_in (sym is_passed)
       ∙ (let l = length-append states (state ∷ []) in let w : ℕ = weigh (λ (x : Stretch). length x.states - 2) h.store.past in omega (arith, l))
       ∙ ap (λ (m : ℕ). m + length states) (sym (ap (in_store 0 (λ s. weigh (λ x. length x.states - 2) s.past)) h.has_store))
+
+  pub passed_stamp : stamp_in (passed_view failed stop states state shortages v n) ≡ n
+  passed_stamp = ap stamp_in (sym is_passed)
 
   pub passed_faults : faults_in (passed_view failed stop states state shortages v n) ≡ faults_met failed v.stop stop ++ faults_in v
   passed_faults = ap faults_in (sym is_passed) ∙ ap (λ (fs : List ℕ). faults_met failed v.stop stop ++ fs) (sym faults_there)

@@ -1,4 +1,4 @@
--- A hand with all parts of a session knows which history it has.
+-- The hand of a session, which has all clients, knows which history it has.
 use Rattle.std.proofs.Common.{◌≡◌, ℕ, zero, suc, ◌<◌, ◌≤◌, eqb, List, [], ◌∷◌, length, Option, refl, ap, sym, ◌∙◌, subst, arith}
 use Rattle.std.specs.Prelude.{take}
 use native.Mathlib.Decide.{dec_le}

@@ -24,6 +24,7 @@ use Rattle.ufs_sound.specs.Shown.{ExplainsImages}
 use Rattle.ufs_sound.specs.Visible.{IsDiskVisible}
 use Rattle.ufs_sound.specs.declared.fresh.Fresh.{Fresh}
 use Rattle.ufs_one_hand.specs.OneHand.{HasSession, IsCoveredIn, KnowsSynced, client_in, stamp_in, state_in}
+use Rattle.ufs_one_hand.specs.Apart.{HasTouched}
 
 -- ---- a client asks
 
@@ -117,7 +118,8 @@ pub record HasCauses (given : Reply) (v : View) : Type 0 where
   pub stopped : (n : ℕ) → given ≡ reply.Excused (excuse.Stopped n) → v.stop ≡ Some n
   pub short : (need had : ℕ) → given ≡ reply.Excused (excuse.Blocks need had) → (x : Shortage) × Has x v.shortages × (had ≡ x.had + x.pool)
 
--- It answers what is asked after this history, in this tree, and leaves the client these descriptors.
+-- It answers what is asked after this history, in this tree, and leaves the client these descriptors. The hand has the files
+-- that the request touches, but where want of memory excuses it.
 pub record IsAnswer (k : Start) (history : List Entry) (t : PosixTree) (f : Fresh) (left : OwnFds) (v : View) : Type 0 where
   pub tree_is : t ≡ tree_after k.tree history
   pub session : HasSession k history (Some (f.client, f.op)) v
@@ -127,6 +129,7 @@ pub record IsAnswer (k : Start) (history : List Entry) (t : PosixTree) (f : Fres
   pub fds : (fd : ℕ) → fin.get left fd ≡ desc_at (goes_on t (entry_of 0 f)) f.client fd
   pub others : (fd : ℕ) → fd_told f.op f.reply ≢ Some fd → desc_at (goes_on t (entry_of 0 f)) f.client fd ≡ desc_at t f.client fd
   pub known : f.reply ≡ reply.Done → asks_commit f.op ≡ true → KnowsSynced (step_in t (entry_of 0 f)) v
+  pub touched : (f.reply ≡ reply.Excused excuse.Memory → ⊥) → HasTouched t f.client f.op v
   pub causes : HasCauses f.reply v
 
 -- who holds which file

@@ -1,2 +1,3 @@
 pub mod OneHand
+pub mod Apart
 pub mod Drawn

@@ -17,12 +17,17 @@ use Rattle.ufs_sound.specs.Owned.{one, Has, count, each, find, times, weigh}
 use Rattle.ufs_sound.specs.Parts.{Cells, ClientPart, FilePart, NamesPart, StorePart, Stretch, View, Start, committed, is_holder}
 use Rattle.ufs_sound.specs.Whole.{idle_client}
 use Rattle.ufs_hand.specs.Session.{CanBegin}
+use Rattle.ufs_one_hand.specs.declared.pools.TheConstants.{PRIMARY_POOL}
 
 -- ---- what it starts from
 
+-- the pools of its server: one, with no block
+abbrev pub first_pools : List (ℕ × List ℕ)
+first_pools = (PRIMARY_POOL, []) ∷ []
+
 -- the most clients, and a disk in this state, which is visible or not
 abbrev pub disk_with : PathNodes → Cells → Bool → OpenedDisk
-disk_with nodes cells is_visible = record { nodes = nodes; cells = cells; extents = fin.empty; dirs = []; unassigned = []; pools = []; clients = MAX_CLIENTS; is_visible = is_visible }
+disk_with nodes cells is_visible = record { nodes = nodes; cells = cells; extents = fin.empty; dirs = []; unassigned = []; pools = first_pools; clients = MAX_CLIENTS; is_visible = is_visible }
 
 abbrev pub start_seeing : PathNodes → Cells → Bool → Start
 start_seeing nodes cells is_visible = opened_start (disk_with nodes cells is_visible)
@@ -91,7 +96,8 @@ pub record IsStoreAt (stopped : Option ℕ) (p : StorePart) : Type 0 where
 
 -- ---- the whole
 
--- The hand has each part of the session after this history, in which this is asked; and nothing else.
+-- The hand has each part of the session after this history, in which this is asked, but for files that are apart; and
+-- nothing else.
 pub record HasSession (k : Start) (history : List Entry) (asked : Option (ℕ × Op)) (v : View) : Type 0 where
   pub start : IsStart k
   pub tree : IsTree (tree_after k.tree history)
@@ -100,10 +106,10 @@ pub record HasSession (k : Start) (history : List Entry) (asked : Option (ℕ ×
   pub all_asked : (c : ℕ) → count eqb c v.asked ≡ count eqb c k.view.asked
   pub clients : (c : ℕ) (p : ClientPart) → Has (c, p) v.clients → IsClientAt (tree_after k.tree history) history asked c p
   pub theirs : (e : Entry) → Has e history → 1 ≤ count eqb e.client v.clients
-  pub all_files : (f : ℕ) → count eqb f v.files ≡ one (is_some (fin.get (tree_after k.tree history).bytes f))
+  pub one_file : (f : ℕ) → count eqb f v.files ≤ one (is_some (fin.get (tree_after k.tree history).bytes f))
   pub files : (f : ℕ) (p : FilePart) → Has (f, p) v.files → IsFileAt (tree_after k.tree history) f p
   pub changes : (f : ℕ) (p : FilePart) → Has (f, p) v.files → p.changes ≡ changes_of f k.tree history
-  pub pools : v.pools ≡ []
+  pub pools : v.pools ≡ first_pools
   pub names : NamesPart
   pub has_names : v.names ≡ (tt, names) ∷ []
   pub names_at : AreNamesAt k.tree history (tree_after k.tree history) names

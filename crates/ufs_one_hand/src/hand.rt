@@ -1,12 +1,14 @@
-// The hand with all parts of a session.
+// The hand of a session: with all its parts, but for files that are apart.
+ghost use Rattle.std.specs.FinMap as fin;
 ghost use Rattle.std.specs.Prelude.{ℕ, ◌+◌, ◌≡◌, ◌≤◌, ◌<◌, ◌⊎◌, ◌++◌, ◌∷◌, [], List, None, Option, Some, length};
 ghost use Rattle.ufs_model.specs.History.{entries_of};
 ghost use Rattle.ufs_model.specs.declared.data.Entry.{Entry};
 ghost use Rattle.ufs_model.specs.declared.data.Op.{Op};
 ghost use Rattle.ufs_sound.specs.Draws.{entry_of, left_faults};
 ghost use Rattle.ufs_sound.specs.Owned.{Has, times};
-ghost use Rattle.ufs_sound.specs.Parts.{Cells};
-ghost use Rattle.ufs_hand.specs.Session.{IsEvent, KnowsAll};
+ghost use Rattle.ufs_sound.specs.Parts.{Cells, HoldsPart, both_of, given_of, kept_of};
+ghost use Rattle.ufs_hand.specs.Session.{HoldsPool, IsEvent, KnowsAll};
+ghost use Rattle.ufs_one_hand.specs.Apart.{FileViews, HasEachFile};
 ghost use Rattle.ufs_one_hand.specs.Drawn.{IsAcknowledged, IsAnswer, IsExplainedAtStamps, IsReplyAlike, MayPass, asked_view, fault_met, faults_met, told_as};
 ghost use Rattle.ufs_one_hand.specs.OneHand.{HasSession, IsCoveredIn, IsStampedIn, IsStart, KnowsSynced, StartsCanBegin, faults_in, passed_in, stamp_in, state_in};
 ghost use Rattle.ufs_sound.specs.Covers.{step_in};
@@ -17,14 +19,15 @@ use std::marker::{Brand, Model};
 use ufs_base::{MAX_CLIENTS, MAX_REQUESTS};
 use ufs_hand::{Begun, Event, Hand, HandTable, Naming, Opened};
 use ufs_model::{
-    Entry, Op, a_request_is_local, a_request_keeps_the_tree, a_request_makes_one_file_at_most,
+    Entry, Op, PartName, a_request_is_local, a_request_keeps_the_tree,
+    a_request_makes_one_file_at_most,
 };
 use ufs_sound::{
     Fresh, a_disk_with_files_can_be_opened, acknowledged_numbers, explained_images_show,
 };
 
-/// The right to every part of a session, and the table that gives its tickets. Contracts see which parts, with what
-/// stands in them.
+/// The right to parts of a session, and the table that gives its tickets. It begins with every part; what is split off is apart
+/// until it is joined again. Contracts see which parts it has, with what stands in them.
 pub struct OneHand<N: Naming> {
     table: HandTable<N>,
     hand: Hand<N>,
@@ -79,6 +82,7 @@ impl<N: Naming> OneHand<N> {
         requires name { (opened.table ≡ N.table) × (opened.start ≡ N.start) }
         requires start { IsStart N.start }
         ensures session { HasSession N.start [] None result }
+        ensures each { HasEachFile N.start [] result fin.empty }
         ensures stop { result.stop ≡ None }
         ensures covered { IsCoveredIn N.start [] result }
         ensures fresh { stamp_in result ≡ 0 }
@@ -98,6 +102,7 @@ impl<N: Naming> OneHand<N> {
         requires client { client < MAX_CLIENTS }
         requires idle { (history : List Entry) × HasSession N.start history None self.old × (length (entries_of client history) < MAX_REQUESTS) }
         ensures session { (history : List Entry) → HasSession N.start history None self.old → HasSession N.start history (Some (client, op.now)) self.new }
+        ensures apart { (history : List Entry) (files : FileViews) → HasEachFile N.start history self.old files → HasEachFile N.start history self.new files }
         ensures fresh { (history : List Entry) → HasSession N.start history None self.old → stamp_in self.new ≡ length history }
         ensures covered { (history : List Entry) → IsCoveredIn N.start history self.old → IsCoveredIn N.start history self.new }
         ensures stamped { (x : Cells) → IsStampedIn self.old.store x → IsStampedIn self.new.store x }
@@ -117,6 +122,7 @@ impl<N: Naming> OneHand<N> {
         requires leaves { E.leaves ≡ asked_view client op.now self.old }
         requires idle { (history : List Entry) × HasSession N.start history None self.old × (length (entries_of client history) < MAX_REQUESTS) }
         ensures session { (history : List Entry) → HasSession N.start history None self.old → HasSession N.start history (Some (client, op.now)) self.new }
+        ensures apart { (history : List Entry) (files : FileViews) → HasEachFile N.start history self.old files → HasEachFile N.start history self.new files }
         ensures store { self.new.store ≡ self.old.store }
         ensures stop { self.new.stop ≡ self.old.stop }
         ensures faults { self.new.faults ≡ self.old.faults }
@@ -125,10 +131,11 @@ impl<N: Naming> OneHand<N> {
         self.hand.mark::<E>(&self.table);
     }
 
-    // The disk is stamped as it is.
-    fn turn(&mut self)
+    /// A turn of the disk begins: it is stamped as it is.
+    pub fn turn(&mut self)
         requires session { (history : List Entry) × (asked : Option (ℕ × Op)) × HasSession N.start history asked self.old }
         ensures session { (history : List Entry) (asked : Option (ℕ × Op)) → HasSession N.start history asked self.old → HasSession N.start history asked self.new }
+        ensures apart { (history : List Entry) (files : FileViews) → HasEachFile N.start history self.old files → HasEachFile N.start history self.new files }
         ensures fresh { (history : List Entry) (asked : Option (ℕ × Op)) → HasSession N.start history asked self.old → stamp_in self.new ≡ length history }
         ensures covered { (history : List Entry) → IsCoveredIn N.start history self.old → IsCoveredIn N.start history self.new }
         ensures stamped { (x : Cells) → IsStampedIn self.old.store x → IsStampedIn self.new.store x }
@@ -151,6 +158,8 @@ impl<N: Naming> OneHand<N> {
         requires failed { (n : ℕ) → P.failed ≡ Some n → times n (faults_in self.old) ≡ 0 }
         requires apart { (n : ℕ) → P.failed ≡ Some n → times n (fault_met self.old.stop P.stop) ≡ 0 }
         ensures session { (history : List Entry) (asked : Option (ℕ × Op)) → HasSession N.start history asked self.old → HasSession N.start history asked self.new }
+        ensures apart { (history : List Entry) (files : FileViews) → HasEachFile N.start history self.old files → HasEachFile N.start history self.new files }
+        ensures fresh { (history : List Entry) (asked : Option (ℕ × Op)) → HasSession N.start history asked self.old → stamp_in self.new ≡ length history }
         ensures covered { (history : List Entry) → IsCoveredIn N.start history self.old → IsCoveredIn N.start history self.new }
         ensures stamped { (x : Cells) → IsStampedIn self.old.store x ⊎ (Has x P.states ⊎ (x ≡ P.state)) → IsStampedIn self.new.store x }
         ensures passed { passed_in self.new ≡ passed_in self.old + length P.states }
@@ -172,6 +181,7 @@ impl<N: Naming> OneHand<N> {
     pub fn keep<A: Answering>(&mut self, entry: &Entry)
         requires answer { (history : List Entry) × IsAcknowledged N.start history A.before entry.now self.old }
         ensures session { (history : List Entry) → IsAcknowledged N.start history A.before entry.now self.old → HasSession N.start history (Some (entry.now.client, entry.now.op)) self.new }
+        ensures apart { (history : List Entry) (files : FileViews) → HasEachFile N.start history self.old files → HasEachFile N.start history self.new files }
         ensures covered { (history : List Entry) → IsAcknowledged N.start history A.before entry.now self.old → IsCoveredIn N.start (history ++ entry.now ∷ []) self.new }
         ensures known { KnowsSynced (step_in A.before entry.now) self.new }
         ensures stamped { (x : Cells) → IsStampedIn self.old.store x → IsStampedIn self.new.store x }
@@ -201,14 +211,17 @@ impl<N: Naming> OneHand<N> {
         self.hand.mark::<E>(&self.table);
     }
 
-    /// The next ticket, for the entry that answers what is asked: the number of entries before it. The history has it with
-    /// the reply that the caller picks, which over a disk that isn't visible may have other bytes of a file than the code's.
+    /// The next ticket, for the entry that answers what is asked: the number of entries before it. The hand needs the files
+    /// that the request touches; others may be apart. The history has the entry with the reply that the caller picks, which
+    /// over a disk that isn't visible may have other bytes of a file than the code's.
     pub fn draw<A: Answering>(&mut self, fresh: &Fresh) -> u64
         requires answer { (history : List Entry) × IsAnswer N.start history A.before (told_as A.reply fresh.now) A.fds self.old }
         requires alike { IsReplyAlike N.start A.reply fresh.now.reply }
         ensures ticket { (history : List Entry) → HasSession N.start history (Some (fresh.now.client, fresh.now.op)) self.old → result ≡ length history }
         ensures session { (history : List Entry) → IsAnswer N.start history A.before (told_as A.reply fresh.now) A.fds self.old
             → HasSession N.start (history ++ entry_of result (told_as A.reply fresh.now) ∷ []) None self.new }
+        ensures apart { (history : List Entry) (files : FileViews) → IsAnswer N.start history A.before (told_as A.reply fresh.now) A.fds self.old
+            → HasEachFile N.start history self.old files → HasEachFile N.start (history ++ entry_of result (told_as A.reply fresh.now) ∷ []) self.new files }
         ensures stop { self.new.stop ≡ self.old.stop }
         ensures state { state_in self.new ≡ state_in self.old }
         ensures store { self.new.store ≡ self.old.store }
@@ -222,10 +235,26 @@ impl<N: Naming> OneHand<N> {
         self.hand.draw_as::<Brand, Brand>(&self.table, fresh)
     }
 
-    /// The end of the session. Answers how many entries were drawn. The hand knows one whole history, and each state of a
-    /// visible disk that it stamped is explained by it.
+    /// A new hand with just this part, which this one has no more. A pool's part is named like a file's.
+    pub fn split(&mut self, part: PartName) -> Hand<N>
+        requires { HoldsPart part self.old ⊎ HoldsPool part self.old }
+        ensures kept { self.new ≡ kept_of part self.old }
+        ensures given { result ≡ given_of part self.old }
+    {
+        self.hand.split(&self.table, part)
+    }
+
+    /// This hand has the parts of both, and the other is no more.
+    pub fn join(&mut self, other: Hand<N>)
+        ensures { self.new ≡ both_of self.old other }
+    {
+        self.hand.join(&self.table, other);
+    }
+
+    /// The end of the session, when no file is apart. Answers how many entries were drawn. The hand knows one whole history,
+    /// and each state of a visible disk that it stamped is explained by it.
     pub fn close(self) -> u64
-        requires session { (history : List Entry) × HasSession N.start history None self }
+        requires session { (history : List Entry) × HasSession N.start history None self × HasEachFile N.start history self fin.empty }
         ensures tickets { (history : List Entry) → HasSession N.start history None self → result ≡ length history }
         ensures whole { (clock : ℕ) × KnowsAll N.start result clock self }
         ensures explained { IsDiskVisible N.start → (history : List Entry) → HasSession N.start history None self → (x : Cells) → IsStampedIn self.store x → IsExplainedAtStamps N.start.tree history x }

@@ -12,8 +12,10 @@ use Rattle.ufs_model.specs.declared.data.Excuse.TheVariants.{Memory, Device}
 use Rattle.ufs_model.specs.declared.data.Op.TheVariants.{Sync}
 use Rattle.ufs_model.specs.declared.data.Reply.TheVariants.{Done, Excused}
 use Rattle.ufs_model.proofs.Facts.Starts.{root_is_tree, start_of-root}
+use Rattle.ufs_one_hand.specs.Apart.{HasEachFile, HasTouched}
 use Rattle.ufs_one_hand.specs.Drawn.{HasCauses, IsAcknowledged, IsAnswer, MayPass, faults_met}
 use Rattle.ufs_one_hand.specs.OneHand.{HasSession, IsCoveredIn, IsStart, KnowsSynced, stamp_in}
+use Rattle.ufs_one_hand.proofs.Parting.{all_touched}
 use Rattle.ufs_prefix.specs.Changes.{asks_commit, file_synced, name_changes}
 use Rattle.ufs_sound.specs.Covers.{step_in}
 use Rattle.ufs_sound.specs.Draws.{entry_of}
@@ -52,9 +54,9 @@ module _ (k : Start) (history : List Entry) (f : Fresh) (v : View) (h : HasSessi
   none_open : (fd : ℕ) → desc_at k.tree f.client fd ≡ None
   none_open fd = ap (λ (z : Start). desc_at z.tree f.client fd) h.start.is ∙ fin.get-empty fd_cmp (f.client, fd)
 
-  pub answers : f.client < MAX_CLIENTS → f.seq ≡ length (entries_of f.client history) → IsReplyTo k.tree (entry_of 0 f) → (f.reply ≡ Done → asks_commit f.op ≡ true → KnowsSynced (step_in k.tree (entry_of 0 f)) v) → HasCauses f.reply v
+  pub answers : f.client < MAX_CLIENTS → f.seq ≡ length (entries_of f.client history) → IsReplyTo k.tree (entry_of 0 f) → HasEachFile k history v fin.empty → (f.reply ≡ Done → asks_commit f.op ≡ true → KnowsSynced (step_in k.tree (entry_of 0 f)) v) → HasCauses f.reply v
       → IsAnswer k history k.tree f fin.empty v
-  answers low seq replied known causes = record {
+  answers low seq replied each known causes = record {
     tree_is = sym same;
     session = h;
     low = low;
@@ -63,6 +65,7 @@ module _ (k : Start) (history : List Entry) (f : Fresh) (v : View) (h : HasSessi
     fds = λ fd. fin.get-empty nat_cmp fd ∙ sym (ap (λ (t : PosixTree). desc_at t f.client fd) stays ∙ none_open fd);
     others = λ fd apart. ap (λ (t : PosixTree). desc_at t f.client fd) stays;
     known = known;
+    touched = λ other. subst (λ (t : PosixTree). HasTouched t f.client f.op v) same (all_touched k history v each f.client f.op);
     causes = causes;
   }
 
@@ -83,8 +86,8 @@ device_causes v fault met = record {
 
 -- ---- the four answers
 
-pub excused_answers : (k : Start) (v : View) → HasSession k [] (Some (0, Sync)) v → IsAnswer k [] k.tree excused_sync fin.empty v
-excused_answers k v h = answers k [] excused_sync v h refl refl (omega arith) refl (inr (record { due = λ e. refl; told = tt })) (λ e asks. absurd cc) (memory_causes v)
+pub excused_answers : (k : Start) (v : View) → HasSession k [] (Some (0, Sync)) v → HasEachFile k [] v fin.empty → IsAnswer k [] k.tree excused_sync fin.empty v
+excused_answers k v h each = answers k [] excused_sync v h refl refl (omega arith) refl (inr (record { due = λ e. refl; told = tt })) each (λ e asks. absurd cc) (memory_causes v)
 
 module _ (k : Start) (first : ℕ) (v : View) (h : HasSession k (entry_of first excused_sync ∷ []) (Some (1, Sync)) v) where
   pub done_acknowledged : k ≡ bare → IsCoveredIn k (entry_of first excused_sync ∷ []) v → IsAcknowledged k (entry_of first excused_sync ∷ []) k.tree (entry_of 1 done_sync) v
@@ -100,24 +103,24 @@ module _ (k : Start) (first : ℕ) (v : View) (h : HasSession k (entry_of first 
   }
 
   -- the step goes by the request and its reply, and not by the ticket
-  pub done_answers : KnowsSynced (step_in k.tree (entry_of 1 done_sync)) v → IsAnswer k (entry_of first excused_sync ∷ []) k.tree done_sync fin.empty v
-  done_answers known = answers k (entry_of first excused_sync ∷ []) done_sync v h refl refl (omega arith) refl (inl refl) (λ e asks. record { files = known.files; born = known.born; names = known.names }) (done_causes v)
+  pub done_answers : HasEachFile k (entry_of first excused_sync ∷ []) v fin.empty → KnowsSynced (step_in k.tree (entry_of 1 done_sync)) v → IsAnswer k (entry_of first excused_sync ∷ []) k.tree done_sync fin.empty v
+  done_answers each known = answers k (entry_of first excused_sync ∷ []) done_sync v h refl refl (omega arith) refl (inl refl) each (λ e asks. record { files = known.files; born = known.born; names = known.names }) (done_causes v)
 
 module _ (k : Start) (first second : ℕ) (v : View) (h : HasSession k (entry_of first excused_sync ∷ entry_of second done_sync ∷ []) (Some (1, Sync)) v) where
   pub unread_may_pass : k ≡ bare → IsCoveredIn k (entry_of first excused_sync ∷ entry_of second done_sync ∷ []) v → stamp_in v ≡ 2 → (cells : Cells)
       → MayPass k (entry_of first excused_sync ∷ entry_of second done_sync ∷ []) (Some (1, Sync)) [] cells v
   unread_may_pass is covered fresh cells = record { session = h; fresh = fresh; covered = covered; passed = λ visible. absurd (unseen k is visible); explained = λ visible. absurd (unseen k is visible) }
 
-  pub unread_answers : 1 ≤ times 5 v.faults → IsAnswer k (entry_of first excused_sync ∷ entry_of second done_sync ∷ []) k.tree unread_sync fin.empty v
-  unread_answers met = answers k (entry_of first excused_sync ∷ entry_of second done_sync ∷ []) unread_sync v h refl refl (omega arith) refl (inr (record { due = λ e. refl; told = tt })) (λ e asks. absurd cc) (device_causes v 5 met)
+  pub unread_answers : HasEachFile k (entry_of first excused_sync ∷ entry_of second done_sync ∷ []) v fin.empty → 1 ≤ times 5 v.faults → IsAnswer k (entry_of first excused_sync ∷ entry_of second done_sync ∷ []) k.tree unread_sync fin.empty v
+  unread_answers each met = answers k (entry_of first excused_sync ∷ entry_of second done_sync ∷ []) unread_sync v h refl refl (omega arith) refl (inr (record { due = λ e. refl; told = tt })) each (λ e asks. absurd cc) (device_causes v 5 met)
 
 module _ (k : Start) (first second third : ℕ) (v : View) (h : HasSession k (entry_of first excused_sync ∷ entry_of second done_sync ∷ entry_of third unread_sync ∷ []) (Some (0, Sync)) v) where
   pub failed_may_pass : k ≡ bare → IsCoveredIn k (entry_of first excused_sync ∷ entry_of second done_sync ∷ entry_of third unread_sync ∷ []) v → stamp_in v ≡ 3 → (cells : Cells)
       → MayPass k (entry_of first excused_sync ∷ entry_of second done_sync ∷ entry_of third unread_sync ∷ []) (Some (0, Sync)) [] cells v
   failed_may_pass is covered fresh cells = record { session = h; fresh = fresh; covered = covered; passed = λ visible. absurd (unseen k is visible); explained = λ visible. absurd (unseen k is visible) }
 
-  pub failed_answers : 1 ≤ times 7 v.faults → IsAnswer k (entry_of first excused_sync ∷ entry_of second done_sync ∷ entry_of third unread_sync ∷ []) k.tree failed_sync fin.empty v
-  failed_answers met = answers k (entry_of first excused_sync ∷ entry_of second done_sync ∷ entry_of third unread_sync ∷ []) failed_sync v h refl refl (omega arith) refl (inr (record { due = λ e. refl; told = tt })) (λ e asks. absurd cc) (device_causes v 7 met)
+  pub failed_answers : HasEachFile k (entry_of first excused_sync ∷ entry_of second done_sync ∷ entry_of third unread_sync ∷ []) v fin.empty → 1 ≤ times 7 v.faults → IsAnswer k (entry_of first excused_sync ∷ entry_of second done_sync ∷ entry_of third unread_sync ∷ []) k.tree failed_sync fin.empty v
+  failed_answers each met = answers k (entry_of first excused_sync ∷ entry_of second done_sync ∷ entry_of third unread_sync ∷ []) failed_sync v h refl refl (omega arith) refl (inr (record { due = λ e. refl; told = tt })) each (λ e asks. absurd cc) (device_causes v 7 met)
 
 -- ---- the read's number is another than that of the call at which the store stops
 

@@ -1,9 +1,9 @@
-//! Short sessions by the hand with every part: each of its calls once.
+//! Short sessions by one hand: each of its calls once.
 #![tactic(auto)]
 
 #[cfg(test)]
 mod asserts;
 #[cfg(test)]
-mod session;
+mod reading;
 #[cfg(test)]
-mod unseen;
+mod session;

@@ -2,6 +2,8 @@
 // second done, the third excused by a read that failed, at which the store doesn't stop, and the fourth by a call of the disk
 // that failed, at which it does.
 ghost use Rattle.std.specs.Prelude.{◌≡◌, ◌∷◌, [], None};
+ghost use Rattle.std.specs.FinMap as map;
+ghost use Rattle.ufs_one_hand.specs.Apart.{HasEachFile};
 ghost use Rattle.ufs_one_hand.specs.OneHand.{HasSession, IsCoveredIn, faults_in};
 ghost use Rattle.ufs_one_hand_tests.specs.Small.{bare, done_sync, excused_sync, failed_sync, unread_sync};
 ghost use Rattle.ufs_sound.specs.Draws.{entry_of};
@@ -55,11 +57,13 @@ fn session<N: Naming>(opened: Opened) -> ([u64; 4], u64)
 
 fn excused<N: Naming>(hand: &mut OneHand<N>) -> u64
     requires session { HasSession N.start [] None hand.old }
+    requires each { HasEachFile N.start [] hand.old map.empty }
     requires covered { IsCoveredIn N.start [] hand.old }
     requires going { hand.old.stop ≡ None }
     requires none { faults_in hand.old ≡ [] }
     ensures ticket { result ≡ 0 }
     ensures session { HasSession N.start (entry_of result excused_sync ∷ []) None hand.new }
+    ensures each { HasEachFile N.start (entry_of result excused_sync ∷ []) hand.new map.empty }
     ensures covered { IsCoveredIn N.start (entry_of result excused_sync ∷ []) hand.new }
     ensures going { hand.new.stop ≡ None }
     ensures none { faults_in hand.new ≡ [] }
@@ -78,11 +82,13 @@ fn excused<N: Naming>(hand: &mut OneHand<N>) -> u64
 fn done<N: Naming>(hand: &mut OneHand<N>, first: u64) -> u64
     requires start { N.start ≡ bare }
     requires session { HasSession N.start (entry_of first excused_sync ∷ []) None hand.old }
+    requires each { HasEachFile N.start (entry_of first excused_sync ∷ []) hand.old map.empty }
     requires covered { IsCoveredIn N.start (entry_of first excused_sync ∷ []) hand.old }
     requires going { hand.old.stop ≡ None }
     requires none { faults_in hand.old ≡ [] }
     ensures ticket { result ≡ 1 }
     ensures session { HasSession N.start (entry_of first excused_sync ∷ entry_of result done_sync ∷ []) None hand.new }
+    ensures each { HasEachFile N.start (entry_of first excused_sync ∷ entry_of result done_sync ∷ []) hand.new map.empty }
     ensures covered { IsCoveredIn N.start (entry_of first excused_sync ∷ entry_of result done_sync ∷ []) hand.new }
     ensures going { hand.new.stop ≡ None }
     ensures none { faults_in hand.new ≡ [] }
@@ -110,11 +116,13 @@ fn done<N: Naming>(hand: &mut OneHand<N>, first: u64) -> u64
 fn unread<N: Naming>(hand: &mut OneHand<N>, first: u64, second: u64) -> u64
     requires start { N.start ≡ bare }
     requires session { HasSession N.start (entry_of first excused_sync ∷ entry_of second done_sync ∷ []) None hand.old }
+    requires each { HasEachFile N.start (entry_of first excused_sync ∷ entry_of second done_sync ∷ []) hand.old map.empty }
     requires covered { IsCoveredIn N.start (entry_of first excused_sync ∷ entry_of second done_sync ∷ []) hand.old }
     requires going { hand.old.stop ≡ None }
     requires none { faults_in hand.old ≡ [] }
     ensures ticket { result ≡ 2 }
     ensures session { HasSession N.start (entry_of first excused_sync ∷ entry_of second done_sync ∷ entry_of result unread_sync ∷ []) None hand.new }
+    ensures each { HasEachFile N.start (entry_of first excused_sync ∷ entry_of second done_sync ∷ entry_of result unread_sync ∷ []) hand.new map.empty }
     ensures covered { IsCoveredIn N.start (entry_of first excused_sync ∷ entry_of second done_sync ∷ entry_of result unread_sync ∷ []) hand.new }
     ensures going { hand.new.stop ≡ None }
     ensures met { faults_in hand.new ≡ 5 ∷ [] }
@@ -134,11 +142,13 @@ fn unread<N: Naming>(hand: &mut OneHand<N>, first: u64, second: u64) -> u64
 fn failed<N: Naming>(hand: &mut OneHand<N>, first: u64, second: u64, third: u64) -> u64
     requires start { N.start ≡ bare }
     requires session { HasSession N.start (entry_of first excused_sync ∷ entry_of second done_sync ∷ entry_of third unread_sync ∷ []) None hand.old }
+    requires each { HasEachFile N.start (entry_of first excused_sync ∷ entry_of second done_sync ∷ entry_of third unread_sync ∷ []) hand.old map.empty }
     requires covered { IsCoveredIn N.start (entry_of first excused_sync ∷ entry_of second done_sync ∷ entry_of third unread_sync ∷ []) hand.old }
     requires going { hand.old.stop ≡ None }
     requires met { faults_in hand.old ≡ 5 ∷ [] }
     ensures ticket { result ≡ 3 }
     ensures session { HasSession N.start (entry_of first excused_sync ∷ entry_of second done_sync ∷ entry_of third unread_sync ∷ entry_of result failed_sync ∷ []) None hand.new }
+    ensures each { HasEachFile N.start (entry_of first excused_sync ∷ entry_of second done_sync ∷ entry_of third unread_sync ∷ entry_of result failed_sync ∷ []) hand.new map.empty }
 {
     let fresh = Fresh {
         client: 0,

@@ -12,7 +12,7 @@ keep-requires g c = record {
 pub draw-requires : goal.draw-requires
 draw-requires g c =
     let acked = done_acknowledged g.N.Naming.start c.args.first c.ask.new.self (c.ask.ensures.session _ c.requires.session) c.requires.start (c.ask.ensures.covered _ c.requires.covered) in record {
-      answer = (_, done_answers g.N.Naming.start c.args.first c.keep.new.self (c.keep.ensures.session _ acked) c.keep.ensures.known);
+      answer = (_, done_answers g.N.Naming.start c.args.first c.keep.new.self (c.keep.ensures.session _ acked) (c.keep.ensures.apart _ _ (c.ask.ensures.apart _ _ c.requires.each)) c.keep.ensures.known);
       alike = record { alike = inl refl; seen = λ visible. refl };
     }
 
@@ -21,10 +21,16 @@ returns-clause-ticket g c =
     let acked = done_acknowledged g.N.Naming.start c.args.first c.ask.new.self (c.ask.ensures.session _ c.requires.session) c.requires.start (c.ask.ensures.covered _ c.requires.covered) in
     c.draw.ensures.ticket _ (c.keep.ensures.session _ acked)
 
+pub returns-clause-each : goal.returns-clause-each
+returns-clause-each g c =
+    let acked = done_acknowledged g.N.Naming.start c.args.first c.ask.new.self (c.ask.ensures.session _ c.requires.session) c.requires.start (c.ask.ensures.covered _ c.requires.covered) in
+    let each = c.keep.ensures.apart _ _ (c.ask.ensures.apart _ _ c.requires.each) in
+    c.draw.ensures.apart _ _ (done_answers g.N.Naming.start c.args.first c.keep.new.self (c.keep.ensures.session _ acked) each c.keep.ensures.known) each
+
 pub returns-clause-session : goal.returns-clause-session
 returns-clause-session g c =
     let acked = done_acknowledged g.N.Naming.start c.args.first c.ask.new.self (c.ask.ensures.session _ c.requires.session) c.requires.start (c.ask.ensures.covered _ c.requires.covered) in
-    c.draw.ensures.session _ (done_answers g.N.Naming.start c.args.first c.keep.new.self (c.keep.ensures.session _ acked) c.keep.ensures.known)
+    c.draw.ensures.session _ (done_answers g.N.Naming.start c.args.first c.keep.new.self (c.keep.ensures.session _ acked) (c.keep.ensures.apart _ _ (c.ask.ensures.apart _ _ c.requires.each)) c.keep.ensures.known)
 
 pub returns-clause-covered : goal.returns-clause-covered
 returns-clause-covered g c =

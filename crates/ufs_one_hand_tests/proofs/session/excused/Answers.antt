@@ -5,13 +5,18 @@ use Rattle.ufs_one_hand_tests.proofs.Small.{excused_answers, still_covered}
 use Rattle.ufs_one_hand_tests.proofs.session.excused.Goals as goal
 
 pub draw-requires : goal.draw-requires
-draw-requires g c = record { answer = ([], excused_answers g.N.Naming.start c.ask.new.self (c.ask.ensures.session [] c.requires.session)); alike = record { alike = inl refl; seen = λ visible. refl } }
+draw-requires g c = record { answer = ([], excused_answers g.N.Naming.start c.ask.new.self (c.ask.ensures.session [] c.requires.session) (c.ask.ensures.apart _ _ c.requires.each)); alike = record { alike = inl refl; seen = λ visible. refl } }
 
 pub returns-clause-ticket : goal.returns-clause-ticket
 returns-clause-ticket g c = c.draw.ensures.ticket [] (c.ask.ensures.session [] c.requires.session)
 
+pub returns-clause-each : goal.returns-clause-each
+returns-clause-each g c =
+    let each = c.ask.ensures.apart _ _ c.requires.each in
+    c.draw.ensures.apart _ _ (excused_answers g.N.Naming.start c.ask.new.self (c.ask.ensures.session [] c.requires.session) each) each
+
 pub returns-clause-session : goal.returns-clause-session
-returns-clause-session g c = c.draw.ensures.session [] (excused_answers g.N.Naming.start c.ask.new.self (c.ask.ensures.session [] c.requires.session))
+returns-clause-session g c = c.draw.ensures.session [] (excused_answers g.N.Naming.start c.ask.new.self (c.ask.ensures.session [] c.requires.session) (c.ask.ensures.apart _ _ c.requires.each))
 
 pub returns-clause-covered : goal.returns-clause-covered
 returns-clause-covered g c =

@@ -8,3 +8,6 @@ begin-hand-requires-clause-start g c = subst IsStart (sym c.requires.start) star
 
 pub returns-clause-entries : goal.returns-clause-entries
 returns-clause-entries g c = c.close.ensures.tickets _ c.failed-fourth.ensures.session
+
+pub close-requires : goal.close-requires
+close-requires g c = record { session = (_, c.failed-fourth.ensures.session, c.failed-fourth.ensures.each) }

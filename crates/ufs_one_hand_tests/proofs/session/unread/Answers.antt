@@ -18,16 +18,21 @@ pass-requires-clause-apart g c = λ n is. ap (λ (stop : Option ℕ). times n (f
 
 pub draw-requires : goal.draw-requires
 draw-requires g c = record {
-  answer = (_, unread_answers g.N.Naming.start c.args.first c.args.second c.pass.new.self (c.pass.ensures.session _ _ (c.ask.ensures.session _ c.requires.session)) (c.pass.ensures.failed 5 refl));
+  answer = (_, unread_answers g.N.Naming.start c.args.first c.args.second c.pass.new.self (c.pass.ensures.session _ _ (c.ask.ensures.session _ c.requires.session)) (c.pass.ensures.apart _ _ (c.ask.ensures.apart _ _ c.requires.each)) (c.pass.ensures.failed 5 refl));
   alike = record { alike = inl refl; seen = λ visible. refl };
 }
 
 pub returns-clause-ticket : goal.returns-clause-ticket
 returns-clause-ticket g c = c.draw.ensures.ticket _ (c.pass.ensures.session _ _ (c.ask.ensures.session _ c.requires.session))
 
+pub returns-clause-each : goal.returns-clause-each
+returns-clause-each g c =
+    let each = c.pass.ensures.apart _ _ (c.ask.ensures.apart _ _ c.requires.each) in
+    c.draw.ensures.apart _ _ (unread_answers g.N.Naming.start c.args.first c.args.second c.pass.new.self (c.pass.ensures.session _ _ (c.ask.ensures.session _ c.requires.session)) each (c.pass.ensures.failed 5 refl)) each
+
 pub returns-clause-session : goal.returns-clause-session
 returns-clause-session g c =
-    c.draw.ensures.session _ (unread_answers g.N.Naming.start c.args.first c.args.second c.pass.new.self (c.pass.ensures.session _ _ (c.ask.ensures.session _ c.requires.session)) (c.pass.ensures.failed 5 refl))
+    c.draw.ensures.session _ (unread_answers g.N.Naming.start c.args.first c.args.second c.pass.new.self (c.pass.ensures.session _ _ (c.ask.ensures.session _ c.requires.session)) (c.pass.ensures.apart _ _ (c.ask.ensures.apart _ _ c.requires.each)) (c.pass.ensures.failed 5 refl))
 
 pub returns-clause-covered : goal.returns-clause-covered
 returns-clause-covered g c =

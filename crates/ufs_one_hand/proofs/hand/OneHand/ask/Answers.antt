@@ -11,6 +11,7 @@ turn-requires g c = let idle = c.requires.idle in record { session = (idle.0, So
 pub returns : goal.returns
 returns g c = record {
   session = λ history h. c.turn.ensures.session history (Some (c.args.client, c.args.op.now)) (c.ask_as.ensures.session history h);
+  apart = λ history files each. c.turn.ensures.apart history files (c.ask_as.ensures.apart history files each);
   fresh = λ history h. c.turn.ensures.fresh history (Some (c.args.client, c.args.op.now)) (c.ask_as.ensures.session history h);
   covered = λ history covered. c.turn.ensures.covered history (λ s has. covered s (subst (Has (tt, s)) c.ask_as.ensures.store has));
   stamped = λ x is. c.turn.ensures.stamped x (subst (λ (ss : List (Unit {0} × StorePart)). IsStampedIn ss x) (sym c.ask_as.ensures.store) is);

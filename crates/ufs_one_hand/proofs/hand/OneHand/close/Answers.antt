@@ -8,7 +8,7 @@ use Rattle.ufs_one_hand.proofs.hand.OneHand.close.Goals as goal
 pub close-requires : goal.close-requires
 close-requires g c =
     let s = c.requires.session in
-    subst (λ (v : View). HoldsAll g.N.Naming.start v) (sym c.self.view_is) (holds_all g.N.Naming.start s.0 c.args.self s.1)
+    subst (λ (v : View). HoldsAll g.N.Naming.start v) (sym c.self.view_is) (holds_all g.N.Naming.start s.0 c.args.self s.1 s.2)
 
 pub returns : goal.returns
 returns g c =

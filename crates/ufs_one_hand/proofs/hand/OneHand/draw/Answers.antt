@@ -2,8 +2,9 @@ use Rattle.std.proofs.Common.{◌++◌, ◌∷◌, ◌∙◌, [], None, Some, ap
 use Rattle.ufs_sound.specs.Draws.{entry_of, left_faults}
 use Rattle.ufs_sound.specs.Parts.{View}
 use Rattle.ufs_one_hand.specs.Drawn.{IsAnswer, told_as}
+use Rattle.ufs_one_hand.specs.Apart.{HasEachFile}
 use Rattle.ufs_one_hand.specs.OneHand.{HasSession}
-use Rattle.ufs_one_hand.proofs.Drawn.{session_after_in}
+use Rattle.ufs_one_hand.proofs.Drawn.{each_after_in, session_after_in}
 use Rattle.ufs_one_hand.proofs.Draws.{may_draw_in}
 use Rattle.ufs_one_hand.proofs.Tickets.{tickets_are}
 use Rattle.ufs_one_hand.proofs.Told.{alike_faults}
@@ -29,6 +30,15 @@ returns-clause-session g c = λ history a.
     subst (HasSession k (history ++ entry_of c.draw_as.result f ∷ []) None) (sym c.draw_as.ensures.parts)
     (session_after_in c.a_request_keeps_the_tree.ensures c.a_request_is_local.ensures k history g.A.Answering.before f g.A.Answering.fds c.self.inside.hand c.draw_as.result
     (tickets_are k history (Some (f.client, f.op)) c.self.inside.hand c.draw_as.result b.session c.draw_as.ensures.history) b)
+
+pub returns-clause-apart : goal.returns-clause-apart
+returns-clause-apart g c = λ history files a each.
+    let k = g.N.Naming.start in
+    let f = told_as g.A.Answering.reply c.args.fresh.now in
+    let b = subst (IsAnswer k history g.A.Answering.before f g.A.Answering.fds) (sym c.self.view_is) a in
+    subst (λ (v : View). HasEachFile k (history ++ entry_of c.draw_as.result f ∷ []) v files) (sym c.draw_as.ensures.parts)
+    (each_after_in c.a_request_keeps_the_tree.ensures c.a_request_is_local.ensures k history g.A.Answering.before f g.A.Answering.fds c.self.inside.hand c.draw_as.result
+    (tickets_are k history (Some (f.client, f.op)) c.self.inside.hand c.draw_as.result b.session c.draw_as.ensures.history) b files (subst (λ (v : View). HasEachFile k history v files) (sym c.self.view_is) each))
 
 pub returns-clause-faults : goal.returns-clause-faults
 returns-clause-faults g c =

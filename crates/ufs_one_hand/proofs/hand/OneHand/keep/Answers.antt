@@ -2,9 +2,11 @@ use Rattle.std.proofs.Common.{◌≡◌, ◌∙◌, ◌++◌, ◌∷◌, [], Som
 use Rattle.ufs_sound.specs.Covers.{step_in}
 use Rattle.ufs_sound.specs.Parts.{View}
 use Rattle.ufs_hand.specs.Session.{IsEvent}
+use Rattle.ufs_one_hand.specs.Apart.{HasEachFile}
 use Rattle.ufs_one_hand.specs.OneHand.{HasSession, IsCoveredIn, IsStampedIn, KnowsSynced, faults_in, passed_in, state_in}
-use Rattle.ufs_one_hand.proofs.Keeping.{all_covered, all_session, all_stamped, first_learned, knows, last_learned, next_learned, same_faults, same_passed, same_rest}
+use Rattle.ufs_one_hand.proofs.Keeping.{all_covered, all_session, all_stamped, first_learned, knows, last_learned, next_learned, same_counts, same_faults, same_passed, same_rest}
 use Rattle.ufs_one_hand.proofs.Kept.{births_kept, files_kept, names_kept}
+use Rattle.ufs_one_hand.proofs.Parting.{each_stays}
 use Rattle.ufs_one_hand.proofs.hand.OneHand.keep.Goals as goal
 
 pub learn-requires : goal.learn-requires
@@ -49,6 +51,8 @@ returns g c =
     let is : c.learn-3.new.self ≡ files_kept t e (births_kept t e (names_kept t e v one.0) two.0) three.0 =
     three.1 ∙ ap (λ (v : View). files_kept t e v three.0) (two.1 ∙ ap (λ (v : View). births_kept t e v two.0) one.1) in record {
       session = λ history acked. subst (HasSession k history (Some (e.client, e.op))) (sym is) (all_session k history t e v acked law.names law.births one.0 two.0 three.0);
+      apart = λ history files each. subst (λ (v : View). HasEachFile k history v files) (sym is)
+          (each_stays k history v (files_kept t e (births_kept t e (names_kept t e v one.0) two.0) three.0) (same_counts k s.0 t e v s.1 law.names law.births one.0 two.0 three.0) (λ m e. e) files each);
       covered = λ history acked. subst (IsCoveredIn k (history ++ e ∷ [])) (sym is) (all_covered k history t e v acked law.names law.births one.0 two.0 three.0 law.files);
       known = subst (KnowsSynced (step_in t e)) (sym is) (knows k s.0 t e v s.1 law.names law.births one.0 two.0 three.0);
       stamped = λ x m. subst (λ (v : View). IsStampedIn v.store x) (sym is) (all_stamped k s.0 t e v s.1 law.names law.births one.0 two.0 three.0 x m);

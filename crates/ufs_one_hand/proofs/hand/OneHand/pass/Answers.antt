@@ -1,12 +1,15 @@
-use Rattle.std.proofs.Common.{◌≡◌, ◌∙◌, sym, subst, ap}
+use Rattle.std.proofs.Common.{◌≡◌, ◌∙◌, refl, sym, subst, ap}
 use Rattle.std.specs.Prelude.{◌%◌, ◌≤◌}
 use Rattle.ufs_sound.specs.Owned.{times}
 use Rattle.ufs_sound.specs.Parts.{View}
-use Rattle.ufs_sound.specs.Rule.{clock_step}
+use Rattle.ufs_sound.specs.Rule.{KnowsTickets, clock_step}
 use Rattle.ufs_hand.specs.Session.{IsEvent}
+use Rattle.ufs_one_hand.specs.Apart.{HasEachFile}
 use Rattle.ufs_one_hand.specs.Drawn.{passed_view}
-use Rattle.ufs_one_hand.specs.OneHand.{HasSession, IsCoveredIn, IsStampedIn, faults_in, passed_in, state_in}
-use Rattle.ufs_one_hand.proofs.Passage.{AreNewFaults, fault_told, may_pass, passed_covered, passed_faults, passed_more, passed_session, passed_stamped, read_told, state_passed}
+use Rattle.ufs_one_hand.specs.OneHand.{HasSession, IsCoveredIn, IsStampedIn, faults_in, passed_in, stamp_in, state_in}
+use Rattle.ufs_one_hand.proofs.Parting.{each_stays}
+use Rattle.ufs_one_hand.proofs.Passage.{AreNewFaults, fault_told, may_pass, passed_covered, passed_faults, passed_more, passed_session, passed_stamp, passed_stamped, read_told, state_passed}
+use Rattle.ufs_one_hand.proofs.Tickets.{tickets_are}
 use Rattle.ufs_one_hand.proofs.hand.OneHand.pass.Goals as goal
 
 pub mark-requires : goal.mark-requires
@@ -29,8 +32,11 @@ returns g c =
     let short = g.P.Passing.shortages in
     let new : AreNewFaults failed v.stop stop (faults_in v) = record { kept = c.requires.stop; stopped = c.requires.stopped; failed = c.requires.failed; apart = c.requires.apart } in
     let is : c.mark.new.self ≡ passed_view failed stop states state short v n = c.mark.ensures.parts ∙ ap (λ (v : View). passed_view failed stop states state short v n) c.self.view_is in
+    let knows : KnowsTickets k v n = subst (λ (v : View). KnowsTickets k v n) c.self.view_is c.mark.ensures.history in
     let s = c.requires.session in record {
       session = λ history asked h. subst (HasSession k history asked) (sym is) (passed_session k history asked v h failed stop states state short new n);
+      apart = λ history files each. subst (λ (v : View). HasEachFile k history v files) (sym is) (each_stays k history v (passed_view failed stop states state short v n) (λ f. refl) c.requires.stop files each);
+      fresh = λ history asked h. ap stamp_in is ∙ passed_stamp k history asked v h failed stop states state short new n ∙ tickets_are k history asked v n h knows;
       covered = λ history covered. subst (IsCoveredIn k history) (sym is) (passed_covered k s.0 s.1 v s.2.session failed stop states state short new n history covered);
       stamped = λ x m. subst (λ (v : View). IsStampedIn v.store x) (sym is) (passed_stamped k s.0 s.1 v s.2.session failed stop states state short new n x m);
       passed = ap passed_in is ∙ passed_more k s.0 s.1 v s.2.session failed stop states state short new n;

@@ -1,11 +1,13 @@
-use Rattle.std.proofs.Common.{◌≡◌, ◌∙◌, sym, subst, ap}
+use Rattle.std.proofs.Common.{◌≡◌, ◌∙◌, refl, sym, subst, ap}
 use Rattle.std.specs.Prelude.{◌%◌}
 use Rattle.ufs_sound.specs.Parts.{View}
 use Rattle.ufs_sound.specs.Rule.{KnowsTickets, clock_step}
 use Rattle.ufs_hand.specs.Session.{IsEvent}
+use Rattle.ufs_one_hand.specs.Apart.{HasEachFile}
 use Rattle.ufs_one_hand.specs.Drawn.{turned_view}
 use Rattle.ufs_one_hand.specs.OneHand.{HasSession, IsCoveredIn, IsStampedIn, faults_in, passed_in, stamp_in, state_in}
 use Rattle.ufs_one_hand.proofs.Passage.{may_turn, turned_covered, turned_faults, turned_passed, turned_session, turned_stamp, turned_stamped, turned_state}
+use Rattle.ufs_one_hand.proofs.Parting.{each_stays}
 use Rattle.ufs_one_hand.proofs.Tickets.{tickets_are}
 use Rattle.ufs_one_hand.proofs.hand.OneHand.turn.Goals as goal
 
@@ -22,6 +24,7 @@ returns g c =
     let knows : KnowsTickets k c.args.self.now n = subst (λ (v : View). KnowsTickets k v n) c.self.view_is c.mark.ensures.history in
     let s = c.requires.session in record {
       session = λ history asked h. subst (HasSession k history asked) (sym is) (turned_session k history asked c.args.self.now h n);
+      apart = λ history files each. subst (λ (v : View). HasEachFile k history v files) (sym is) (each_stays k history c.args.self.now (turned_view c.args.self.now n) (λ f. refl) (λ m e. e) files each);
       fresh = λ history asked h. ap stamp_in is ∙ turned_stamp k history asked c.args.self.now h n ∙ tickets_are k history asked c.args.self.now n h knows;
       covered = λ history covered. subst (IsCoveredIn k history) (sym is) (turned_covered k s.0 s.1 c.args.self.now s.2 n history covered);
       stamped = λ x m. subst (λ (v : View). IsStampedIn v.store x) (sym is) (turned_stamped k s.0 s.1 c.args.self.now s.2 n x m);

@@ -1,4 +1,4 @@
--- A session that starts from a file of one byte, which a client opens and reads, over a disk that isn't visible.
+-- A session that starts from two files of one byte each. A client opens the first and reads it, over a disk that isn't visible.
 use Rattle.std.specs.Prelude.{ℕ, true, false, List, [], ◌∷◌}
 use Rattle.std.specs.FinMap as map
 use Rattle.ufs_model.specs.PosixTree.{root}
@@ -15,11 +15,15 @@ use Rattle.ufs_sound.specs.declared.fresh.Fresh.{Fresh}
 abbrev pub file_path : List ℕ
 file_path = 47 ∷ 102 ∷ []
 
-abbrev pub file_nodes : PathNodes
-file_nodes = map.from_entries ((root, Dir) ∷ (file_path, File (97 ∷ [])) ∷ [])
+-- `/g`
+abbrev pub other_path : List ℕ
+other_path = 47 ∷ 103 ∷ []
 
-abbrev pub with_file : Start
-with_file = start_with file_nodes
+abbrev pub file_nodes : PathNodes
+file_nodes = map.from_entries ((root, Dir) ∷ (file_path, File (97 ∷ [])) ∷ (other_path, File (98 ∷ [])) ∷ [])
+
+abbrev pub two_files : Start
+two_files = start_with file_nodes
 
 abbrev pub opens : Fresh
 opens = record { client = 0; seq = 0; by = Primary; op = OpenFile file_path true false false false false false; reply = Fd 3 }

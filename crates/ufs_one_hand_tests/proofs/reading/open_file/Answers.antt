@@ -2,12 +2,13 @@ use Rattle.std.proofs.Common.{[], ◌∷◌, ℕ, List, true, false, None, Some,
 use Rattle.ufs_model.specs.declared.data.Actor.TheVariants.{Primary}
 use Rattle.ufs_model.specs.declared.data.Op.TheVariants.{OpenFile}
 use Rattle.ufs_model.specs.declared.data.Reply.TheVariants.{Fd}
+use Rattle.ufs_one_hand.specs.Apart.{HasEachFile}
 use Rattle.ufs_one_hand.specs.Drawn.{IsAnswer}
 use Rattle.ufs_one_hand.specs.OneHand.{HasSession}
 use Rattle.ufs_sound.specs.Draws.{entry_of}
 use Rattle.ufs_sound.specs.declared.fresh.Fresh.{Fresh}
-use Rattle.ufs_one_hand_tests.proofs.OneFile.{left, opens_answers}
-use Rattle.ufs_one_hand_tests.proofs.unseen.open_file.Goals as goal
+use Rattle.ufs_one_hand_tests.proofs.TwoFiles.{left, opens_answers}
+use Rattle.ufs_one_hand_tests.proofs.reading.open_file.Goals as goal
 
 -- the entry of such an `open`
 abbrev opens_at : List ℕ → Fresh
@@ -26,4 +27,7 @@ returns g c =
     let k = g.N.Naming.start in
     let asked = subst (λ (p : List ℕ). HasSession k [] (Some (0, (opens_at p).op)) c.ask.new.self) c.requires.path (c.ask.ensures.session [] c.requires.session) in
     let answer = subst (λ (p : List ℕ). IsAnswer k [] k.tree (opens_at p) left c.ask.new.self) (sym c.requires.path) (opens_answers k c.requires.start c.ask.new.self asked) in
-    record { session = subst (λ (p : List ℕ). HasSession k (entry_of c.draw.result (opens_at p) ∷ []) None c.draw.new.self) c.requires.path (c.draw.ensures.session [] answer) }
+    record {
+      session = subst (λ (p : List ℕ). HasSession k (entry_of c.draw.result (opens_at p) ∷ []) None c.draw.new.self) c.requires.path (c.draw.ensures.session [] answer);
+      apart = λ files each. subst (λ (p : List ℕ). HasEachFile k (entry_of c.draw.result (opens_at p) ∷ []) c.draw.new.self files) c.requires.path (c.draw.ensures.apart [] files answer (c.ask.ensures.apart [] files each));
+    }
