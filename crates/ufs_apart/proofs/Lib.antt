@@ -1,0 +1,10 @@
+pub mod Alike
+pub mod Cuts
+pub mod Views
+pub mod Beside
+pub mod Sessions
+pub mod Files
+pub mod Splitting
+pub mod Joining
+pub mod Places
+pub mod Whole

@@ -1,0 +1,4 @@
+pub mod Shown
+pub mod Counted
+pub mod Logs
+pub mod Steps
