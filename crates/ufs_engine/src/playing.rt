@@ -30,7 +30,7 @@ use ufs_catalog::RecoverFault;
 use ufs_client::{EndFault, ToldLists};
 use ufs_disk::Disk;
 use ufs_script::Script;
-use ufs_session::serve;
+use ufs_session::{Served, serve};
 use ufs_start::StartFault;
 
 /// Why a session isn't whole: no image to begin with, a fault of the closing, or want of memory.
@@ -93,11 +93,11 @@ pub fn play<D: Disk>(alloc: Global, script: Script, _lease: u32, disk: D) -> Pla
         Ok(begun) => {
             let Begun {
                 mut server,
-                mut store,
+                store,
                 opened,
             } = begun;
-            let session = serve(alloc, opened, &mut server, &mut store, script.clients);
-            let closed = close(alloc, server, store);
+            let Served { session, door } = serve(alloc, opened, &mut server, store, script.clients);
+            let closed = close(alloc, server, door);
             Played {
                 told: session.told,
                 ended: whole_end(session.ended, closed.ended),

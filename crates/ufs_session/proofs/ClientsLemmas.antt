@@ -1,5 +1,5 @@
 -- The clients are served one after another, from any tree.
-use Rattle.std.proofs.Common.{◌≡◌, ℕ, ◌+◌, ◌*◌, ◌≤◌, ◌<◌, List, [], ◌∷◌, ◌++◌, None, ap, sym, refl, subst, ◌∙◌, length, arith, zero, suc, ◌⊎◌, inl, inr, unwrap_or, Result, Ok, IsErr}
+use Rattle.std.proofs.Common.{◌≡◌, ℕ, ◌+◌, ◌*◌, ◌≤◌, ◌<◌, List, [], ◌∷◌, ◌++◌, None, ap, sym, refl, subst, ◌∙◌, length, arith, zero, suc, ◌⊎◌, inl, inr, unwrap_or, Result, Ok, Err, IsErr}
 use Rattle.std.specs.Prelude.{Bool, IsTrue, slice_get}
 use Rattle.std.specs.FinMap as map
 use Rattle.std.proofs.lemmas.Bool.{cases_eq}
@@ -24,6 +24,7 @@ use Rattle.ufs_session.specs.Reading.{HasReadOn, IsNewTo}
 use Rattle.ufs_session.specs.Served.{AreServed, GoesAlong}
 use Rattle.ufs_session.specs.Serving.{IsReached, IsReady, GoesOn, IsDone}
 use Rattle.ufs_session.specs.Told.{AreFaultsTold}
+use Rattle.ufs_session.proofs.ToldLemmas.{none_told}
 use Rattle.ufs_session.proofs.Picked.{picks_begin}
 use Rattle.ufs_session.proofs.ReadOnLemmas.{joined_on, none_on, sees_on}
 
@@ -242,3 +243,21 @@ module _ (k : Start) (visible keeps : Bool) (begun : Parts) where
       where
         picked : IsTrue visible → (start : PosixTree) → MayBegin begun start → IsOnDisk first start [] begun → MayHaveBegun begun read.on.more start
         picked sees start may is = record { begins = may; picked = (read.on.seen sees start (began_none start may) is).picked }
+
+-- ---- a session that ends before its first client
+
+none_played : (start : PosixTree) (clients : List (List Op)) (fault : EndFault) → IsPlayedFrom start clients [] (Err fault) []
+none_played start clients fault = record {
+  merged = record { rising = tt; each = λ client. refl };
+  each = λ ok. cc;
+  legal = record { entries = tt; faults = tt };
+  servers = tt;
+  ordered = order_none clients;
+  complete = λ ok. cc;
+}
+
+pub ended_at_once : (k : Start) (visible keeps : Bool) (begun : Parts) (s : StoreState) (clients : List (List Op)) (told : List (List Entry)) (fault : EndFault) → told ≡ [] → BeginsAs k begun
+    → ((start : PosixTree) → IsOnDisk s start [] begun → IsExplainedBetween keeps s.sectors start [] s.moments s.moments) → IsSoundServer (geometry_of_store s) s.unassigned.free begun → AreServed k visible keeps s s begun begun clients told (Err fault)
+ended_at_once k visible keeps begun s clients told fault none begins rest sound =
+    subst (λ (told : List (List Entry)). AreServed k visible keeps s s begun begun clients told (Err fault)) (sym none)
+    (served_all k visible keeps begun s s begun clients [] (Err fault) (with_none k visible keeps begun (λ start. IsPlayedFrom start clients [] (Err fault) []) s begins rest (λ start may. none_played start clients fault)) (none_told s) sound refl refl)

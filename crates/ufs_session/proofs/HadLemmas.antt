@@ -18,10 +18,10 @@ use Rattle.ufs_model.specs.declared.data.Op.TheVariants as op
 use Rattle.ufs_model.specs.declared.data.Reply.{Reply}
 use Rattle.ufs_model.specs.declared.data.Reply.TheVariants as reply
 use Rattle.ufs_one_hand.specs.Drawn.{AreBothRead, HasCauses, IsReplyAlike}
-use Rattle.ufs_sound.specs.Parts.{Cells, Start, View}
+use Rattle.ufs_sound.specs.Parts.{Start, View}
 use Rattle.ufs_sound.specs.Visible.{IsDiskVisible}
 use Rattle.ufs_stored.specs.Parts.{Parts}
-use Rattle.ufs_session.specs.Drawing.{IsServedIn, IsShownWith, entry_had, had_as, tree_had}
+use Rattle.ufs_session.specs.Drawing.{IsServedIn, entry_had, had_as, tree_had}
 use Rattle.ufs_session.specs.Played.{BeginsAs, IsLikeStart, MayBegin}
 
 -- ---- of any history
@@ -90,7 +90,7 @@ same_told request a b (inr is) = ap (fd_told request) is.is_left ∙ read_told r
 -- ---- told by a server that began with such a tree
 
 module _ (k : Start) (start : PosixTree) (like : IsLikeStart k start) (told : List Entry) where
-  had_alike : AreAlike (tree_after start told) (tree_had k told)
+  pub had_alike : AreAlike (tree_after start told) (tree_had k told)
   had_alike = ends_alike start k.tree told like.alike
 
   module _ (entry : Entry) (so : IsReplyTo (tree_after start told) entry) where
@@ -125,9 +125,6 @@ module _ (k : Start) (start : PosixTree) (like : IsLikeStart k start) (told : Li
         alike = both_read entry.reply (entry_had k told entry).reply (had_reply entry so);
         seen = λ visible. ap (λ (e : Entry). e.reply) (entry_seen visible);
       }
-
-      pub shown_had : IsDiskVisible k → (states : List Cells) (cells : Cells) → IsShownWith k told entry states cells → IsShownWith k (had_as k told) (entry_had k told entry) states cells
-      shown_had visible states cells = subst (λ (p : List Entry × Entry). IsShownWith k p.0 p.1 states cells) (λ i. (sym (told_seen visible) i, sym (entry_seen visible) i))
 
 -- ---- what a session begins with
 

@@ -6,10 +6,12 @@ pub mod OwnLemmas
 pub mod SeenLemmas
 pub mod HadLemmas
 pub mod DrawingLemmas
-pub mod MetLemmas
 pub mod BlockLemmas
 pub mod MergedLemmas
 pub mod FurtherLemmas
 pub mod Picked
 pub mod ReadingLemmas
 pub mod ReadOnLemmas
+pub mod AskingLemmas
+pub mod GatheredLemmas
+pub mod RestingLemmas

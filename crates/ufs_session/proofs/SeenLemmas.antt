@@ -1,11 +1,7 @@
 -- What a crash leaves of a store's disk is shown by its cells.
-use Rattle.std.proofs.Common.{◌≡◌, ◌⊎◌, ℕ, zero, suc, ◌+◌, ◌≤◌, ◌++◌, ◌∷◌, [], Bool, true, false, List, length, map, None, Some, sym, refl, ap, ◌∙◌, subst, inl, inr, ⊎_elim, arith}
-use Rattle.std.specs.Prelude.{IsTrue, drop}
-use Rattle.std.specs.List.{AllByRecursion}
-use Rattle.std.proofs.lemmas.List.{length-append, length-map, map-append}
-use Rattle.ufs_base.specs.Images.{Image}
+use Rattle.std.proofs.Common.{◌≡◌, ℕ, ◌∷◌, [], List, length, None, Some, refl, ap, ◌∙◌, subst}
+use Rattle.std.specs.Prelude.{drop}
 use Rattle.ufs_disk.specs.Disk.{Leaves, State}
-use Rattle.ufs_disk.specs.Moments.{LeavesOnly, Moments, Passes, all}
 use Rattle.ufs_image.specs.Catalog.{catalog_at}
 use Rattle.ufs_image.proofs.Opening.{opened}
 use Rattle.ufs_image.specs.Opens.{NodeBytes, ImageTree, opens}
@@ -16,17 +12,11 @@ use Rattle.ufs_model.specs.declared.data.Entry.{Entry}
 use Rattle.ufs_model.specs.declared.data.PathNode.{PathNode}
 use Rattle.ufs_prefix.specs.Explained.{IsExplained}
 use Rattle.ufs_prefix.specs.Mapped.{mapped}
-use Rattle.ufs_one_hand.specs.OneHand.{IsStampedIn, passed_in}
-use Rattle.ufs_sound.specs.Owned.{Has}
-use Rattle.ufs_sound.specs.Parts.{Cells, View}
-use Rattle.ufs_sound.proofs.Owning.{has_append}
 use Rattle.ufs_sound.specs.Shown.{ExplainsImages, node_of, nodes_of}
 use Rattle.ufs_store_steps.specs.Cells.{cells_of}
 use Rattle.ufs_store_steps.proofs.Cells.{cells_are_there, whole, whole_left, whole_same}
 use Rattle.ufs_store_steps.proofs.Within.{opens_within}
-use Rattle.ufs_store.specs.State.{StoreState}
 use Rattle.ufs_stored.specs.OnDisk.{IsExplainedImage}
-use Rattle.ufs_session.specs.Drawing.{HasStamped, states_behind}
 
 same_node : (node : NodeBytes) → path_node_of node ≡ node_of node
 same_node None = refl
@@ -47,61 +37,8 @@ explained_cells sectors state start history leaves image left =
       subst (λ (nodes : PathNodes). IsExplained nodes start history) (same_nodes x.tree) x.explained,
     )
 
--- ---- the states on the way
-
-drop_behind : {A : Type 0} (xs ys : List A) → drop (length xs) (xs ++ ys) ≡ ys
-drop_behind [] ys = refl
-drop_behind (x ∷ xs) ys = drop_behind xs ys
+-- ---- lists
 
 pub drop_all : {A : Type 0} (xs : List A) → drop (length xs) xs ≡ []
 drop_all [] = refl
 drop_all (x ∷ xs) = drop_all xs
-
-drop_within : {A : Type 0} (n : ℕ) (xs ys : List A) → n ≤ length xs → drop n (xs ++ ys) ≡ drop n xs ++ ys
-drop_within zero xs ys low = refl
-drop_within (suc n) [] ys low = absurd (omega arith)
-drop_within (suc n) (x ∷ xs) ys low = drop_within n xs ys (omega arith)
-
-each_of : (sectors : ℕ) (start : PosixTree) (history : List Entry) (states : List State) → AllByRecursion (Leaves (IsExplainedImage sectors start history)) states → (x : Cells) → Has x (map (cells_of sectors) states) → ExplainsImages start history x
-each_of sectors start history [] all x has = absurd has
-each_of sectors start history (s ∷ states) all x (inl is) = subst (ExplainsImages start history) (sym is) (explained_cells sectors s start history all.0)
-each_of sectors start history (s ∷ states) all x (inr has) = each_of sectors start history states all.1 x has
-
--- each of them is explained
-pub passed_explained : (keeps : Bool) (count : ℕ) (old : Moments) (s : StoreState) (start : PosixTree) (history : List Entry) → (IsTrue keeps → count ≡ length (all old)) → LeavesOnly keeps (IsExplainedImage s.sectors start history) old s.moments
-    → (x : Cells) → Has x (states_behind keeps count s) → ExplainsImages start history x
-passed_explained true count old s start history is only x has =
-    let b = only.between refl in
-    let behind : drop count (all s.moments) ≡ b.inside = (λ i. drop (is refl i) (b.whole i)) ∙ drop_behind (all old) b.inside in
-    each_of s.sectors start history b.inside b.each x (subst (λ (l : List State). Has x (map (cells_of s.sectors) l)) behind has)
-passed_explained false count old s start history is only x has = absurd has
-
--- and stamped, as the ones before them
-pub stamps_go : (keeps : Bool) (first : ℕ) (old new : StoreState) (P : Image → Type 0) (v asked w : View) → IsTrue keeps → HasStamped first old v → new.sectors ≡ old.sectors → LeavesOnly keeps P old.moments new.moments
-    → passed_in asked ≡ passed_in v → ((x : Cells) → IsStampedIn v.store x → IsStampedIn asked.store x) → passed_in w ≡ passed_in asked + length (states_behind keeps (first + passed_in asked) new)
-    → ((x : Cells) → IsStampedIn asked.store x ⊎ Has x (states_behind keeps (first + passed_in asked) new) → IsStampedIn w.store x) → HasStamped first new w
-stamps_go false first old new P v asked w kept has sectors only same stays more stamped = let no : false ≡ true = kept in absurd cc
-stamps_go true first old new P v asked w kept has sectors only same stays more stamped = record {
-  count = (let c = has.count in omega (arith, c, same, more, long, counted));
-  stamped = λ x here. ⊎_elim (λ a. stamped x (inl (stays x (has.stamped x a)))) (λ a. stamped x (inr (subst (λ (l : List Cells). Has x l) (sym is) a))) (has_append x (map (cells_of old.sectors) (drop first (all old.moments))) (map (cells_of old.sectors) b.inside) (parts x here));
-}
-  where
-    b : Passes (Leaves P) old.moments new.moments
-    b = only.between refl
-
-    behind : drop (first + passed_in asked) (all new.moments) ≡ b.inside
-    behind = (λ i. drop ((let c = has.count in let e : first + passed_in asked ≡ length (all old.moments) = omega (arith, c, same) in e) i) (b.whole i)) ∙ drop_behind (all old.moments) b.inside
-
-    is : states_behind true (first + passed_in asked) new ≡ map (cells_of old.sectors) b.inside
-    is = λ i. map (cells_of (sectors i)) (behind i)
-
-    long : length (states_behind true (first + passed_in asked) new) ≡ length b.inside
-    long = ap length is ∙ length-map b.inside (cells_of old.sectors)
-
-    counted : length (all new.moments) ≡ length (all old.moments) + length b.inside
-    counted = ap length b.whole ∙ length-append (all old.moments) b.inside
-
-    parts : (x : Cells) → Has x (map (cells_of new.sectors) (drop first (all new.moments))) → Has x (map (cells_of old.sectors) (drop first (all old.moments)) ++ map (cells_of old.sectors) b.inside)
-    parts x here = subst (Has x)
-        ((λ i. map (cells_of (sectors i)) (drop first (b.whole i))) ∙ ap (map (cells_of old.sectors)) (drop_within first (all old.moments) b.inside (let c = has.count in omega (arith, c))) ∙ map-append (cells_of old.sectors) (drop first (all old.moments)) b.inside)
-        here

@@ -1,36 +1,23 @@
 -- A client's requests are served one by one, from any tree.
-use Rattle.std.proofs.Common.{◌≡◌, ◌≢◌, ℕ, ◌+◌, ◌≤◌, ◌<◌, List, [], ◌∷◌, ◌++◌, Bool, true, false, Option, Some, ap, sym, refl, subst, ◌∙◌, length, arith, inl, inr, is_some}
+use Rattle.std.proofs.Common.{◌≡◌, ◌≢◌, ℕ, ◌+◌, ◌≤◌, ◌<◌, List, [], ◌∷◌, ◌++◌, Bool, true, false, Some, ap, sym, refl, subst, ◌∙◌, length, arith, is_some}
 use Rattle.std.specs.Prelude.{slice_get}
 use Rattle.std.specs.FinMap as map
 use Rattle.std.specs.FinMap.{get-empty}
 use Rattle.std.specs.Ordering.{nat_cmp}
 use Rattle.std.proofs.lemmas.List.{length-append, append-nil, append_assoc}
-use Rattle.ufs_model.specs.Asks.{IsAsk, IsDescAfter, desc_of_fd, fd_named, fd_asked, fd_told, is_last}
-use Rattle.ufs_model.specs.History.{IsLegalFrom, IsLegalEntry, IsExcused, IsInOrder, IsNext, goes_on, is_excused, tree_after, tree_with, entries_of, requests_of}
-use Rattle.ufs_model.specs.Excuses.{ExcuseFits}
-use Rattle.ufs_model.specs.Posix.{posix}
+use Rattle.ufs_model.specs.Asks.{IsAsk, desc_of_fd, fd_named, fd_asked, is_last}
+use Rattle.ufs_model.specs.History.{IsInOrder, IsNext, tree_after, entries_of, requests_of}
 use Rattle.ufs_model.specs.PosixTree.{PosixTree, Fds}
 use Rattle.ufs_model.specs.declared.data.Ask.{Ask}
-use Rattle.ufs_model.specs.declared.data.Desc.{Desc}
 use Rattle.ufs_model.specs.declared.data.Entry.{Entry}
-use Rattle.ufs_model.specs.declared.data.Excuse.{Excuse}
 use Rattle.ufs_model.specs.declared.data.Op.{Op}
-use Rattle.ufs_model.specs.declared.data.Reply.{Reply}
-use Rattle.ufs_model.specs.declared.data.Reply.TheVariants as reply
-use Rattle.ufs_model.proofs.Facts.Histories.{tree_after-push, legal_from_push, own-push, others-push, order-push}
+use Rattle.ufs_model.proofs.Facts.Histories.{own-push, others-push, order-push}
 use Rattle.ufs_fds.specs.Descriptors.{Descs, AreOf}
 use Rattle.ufs_file.specs.Hand.{IsEntryOf}
 use Rattle.ufs_client.specs.Clients.{AreRanged}
-use Rattle.ufs_client.specs.Own.{AreServedFrom, server_of}
-use Rattle.ufs_client.proofs.RangeLemmas.{ranged_after}
 use Rattle.ufs_client.proofs.Lists.{get_here}
-use Rattle.ufs_client.proofs.OwnLemmas.{served-push}
-use Rattle.ufs_client.proofs.Replies.{by_reply, excused_named, the_excuse}
-use Rattle.ufs_server.specs.Answered.{IsAnswered}
 use Rattle.ufs_stored.specs.Parts.{Parts}
-use Rattle.ufs_stored.specs.Stored.{ArePartsOf}
-use Rattle.ufs_server.specs.Away.{AwayStays}
-use Rattle.ufs_session.specs.Drawing.{IsServedIn}
+use Rattle.ufs_session.specs.Asking.{HasAnswered, IsAsking}
 use Rattle.ufs_session.specs.Picked.{MayHaveBegun, Pick}
 use Rattle.ufs_session.specs.Reading.{HasReadOn}
 use Rattle.ufs_session.specs.Serving.{IsReached, IsReady, GoesOn, IsDone}
@@ -78,21 +65,6 @@ pub record IsServing (start : PosixTree) (client : ℕ) (requests : List Op) (be
   pub fds : (c fd : ℕ) → c ≢ client → map.get (tree_after start (before ++ told)).fds (c, fd) ≡ map.get (tree_after start before).fds (c, fd)
   pub table_is : AreOf (tree_after start (before ++ told)).fds client table
   pub ranged : AreRanged (tree_after start (before ++ told)).fds client
-
--- the same with other parts of the tree
-pub serving_at : (start : PosixTree) (client : ℕ) (requests : List Op) (before : List Entry) (p q : Parts) (table : Descs) (told : List Entry) (seq : ℕ) (done rest : List Op)
-    → IsServing start client requests before p table told seq done rest → ArePartsOf q (tree_after start (before ++ told)) → IsServing start client requests before q table told seq done rest
-serving_at start client requests before p q table told seq done rest is parts = record {
-  whole = is.whole;
-  short = is.short;
-  counted = is.counted;
-  long = is.long;
-  goes = is.goes;
-  reached = record { entries = is.reached.entries; servers = is.reached.servers; parts = parts; next = is.reached.next; numbers = is.reached.numbers };
-  fds = is.fds;
-  table_is = is.table_is;
-  ranged = is.ranged;
-}
 
 -- whichever tree the session began with
 pub record IsReading (k : Start) (visible keeps : Bool) (begun : Parts) (picks : List Pick) (first now : StoreState) (was p : Parts) (client : ℕ) (requests : List Op) (before : List Entry) (table : Descs) (told : List Entry) (seq : ℕ) (done rest : List Op) : Type 0 where
@@ -173,133 +145,33 @@ module _ (start : PosixTree) (client : ℕ) (requests : List Op) (before : List 
       last = last tree.fds client is.table_is ∙ (λ i. is_last tree.fds (sym client_is i) (sym op_is i));
     }
 
-    module _ (ask : Ask) (entry : Entry) (ticket : ℕ) (of : IsEntryOf ask entry.by ticket entry) (by_is : entry.by ≡ server_of (tree_after start now) ask.client ask.op) (ticket_is : ticket ≡ length before + seq)
-        (client_is : ask.client ≡ client) (seq_is : ask.seq ≡ seq) (op_is : ask.op ≡ request) (asked : IsAsk (tree_after start now) ask)
-        (new : Parts) (new_table : Descs) (desc : Option Desc)
-        (kept : (old new : Fds) (c : ℕ) → AreOf old c table → IsDescAfter old new c (fd_told entry.op entry.reply) desc → AreRanged old c → AreRanged new c → AreOf new c new_table) where
-      numbered : entry.ticket ≡ length now
-      numbered = of.ticket_is ∙ ticket_is ∙ ap (λ (n : ℕ). length before + n) (sym is.long) ∙ sym (length-append before told)
+    -- the client asks it
+    pub is_asking : (ask : Ask) → ask.client ≡ client → ask.seq ≡ seq → ask.op ≡ request
+        → ((all : Fds) (c : ℕ) → AreOf all c table → ask.desc ≡ desc_of_fd all c (fd_named request))
+        → ((all : Fds) (c : ℕ) → AreOf all c table → ask.fd ≡ fd_asked all c request)
+        → ((all : Fds) (c : ℕ) → AreOf all c table → ask.last ≡ is_last all c request) → IsAsking start now p table ask
+    is_asking ask client_is seq_is op_is desc fd last = record {
+      reached = is.reached;
+      seq = seq_is ∙ sym is.long ∙ ap (λ (l : List Entry). length l) (sym is.goes.own) ∙ ap (λ (c : ℕ). length (entries_of c now)) (sym client_is);
+      asked = is_ask ask client_is op_is desc fd last;
+      has = record { same = subst (λ (c : ℕ). AreOf tree.fds c table) (sym client_is) is.table_is; ranged = subst (AreRanged tree.fds) (sym client_is) is.ranged };
+    }
 
-      range_is : AreRanged tree.fds ask.client
-      range_is = subst (AreRanged tree.fds) (sym client_is) is.ranged
-
-      legal_now : IsLegalEntry (length now) tree entry → IsLegalFrom 0 start (now ++ entry ∷ [])
-      legal_now fits = legal_from_push 0 start now entry is.reached.entries (subst (λ (n : ℕ). IsLegalEntry n tree entry) (omega arith) fits)
-
-      -- whatever the reply: its entry may be drawn
-      module _ (after : PosixTree) (fits : IsLegalEntry (length now) tree entry) (goes : goes_on tree entry ≡ after)
-          (fds_after : IsDescAfter tree.fds after.fds ask.client (fd_told ask.op entry.reply) desc) (ranged : AreRanged after.fds ask.client) where
-        served_here : entry.client < 16 → IsServedIn tree now entry new_table
-        served_here low = record {
-          low = low;
-          ticket = fits.numbered;
-          seq = of.seq ∙ seq_is ∙ sym is.long ∙ ap (λ (l : List Entry). length l) (sym is.goes.own) ∙ ap (λ (c : ℕ). length (entries_of c now)) (sym (of.client ∙ client_is));
-          replied = fits.replied;
-          fds_are = subst (λ (u : PosixTree). AreOf u.fds entry.client new_table) (sym goes) (subst (λ (c : ℕ). AreOf after.fds c new_table) (sym of.client)
-              (kept tree.fds after.fds ask.client (subst (λ (c : ℕ). AreOf tree.fds c table) (sym client_is) is.table_is)
-              (subst (λ (o : Op). IsDescAfter tree.fds after.fds ask.client (fd_told o entry.reply) desc) (sym of.asked) fds_after) range_is ranged));
-          others = λ fd apart. (λ i. map.get (goes i).fds (of.client i, fd))
-              ∙ fds_after.others ask.client fd (inr (λ e. apart (ap (λ (o : Op). fd_told o entry.reply) of.asked ∙ e)))
-              ∙ (λ i. map.get tree.fds (sym of.client i, fd));
-        }
-
-      -- whatever the reply: the parts are those of the tree that follows
-      module _ (after : PosixTree) (fits : IsLegalEntry (length now) tree entry) (goes_to : tree_after start (before ++ (told ++ entry ∷ [])) ≡ after) (reached : ArePartsOf new after)
-          (fds_after : IsDescAfter tree.fds after.fds ask.client (fd_told ask.op entry.reply) desc) (ranged : AreRanged after.fds ask.client) (one_file : after.next ≤ tree.next + 1) where
-        pub step_more : IsServing start client requests before new new_table (told ++ entry ∷ []) (seq + 1) (done ++ request ∷ []) rest
-        step_more = record {
+    -- and is answered
+    pub serving_more : (ask : Ask) (entry : Entry) (ticket : ℕ) → IsEntryOf ask entry.by ticket entry → ask.client ≡ client → ask.seq ≡ seq → ask.op ≡ request → (new : Parts) (new_table : Descs) → HasAnswered start now new new_table ask entry
+        → IsServing start client requests before new new_table (told ++ entry ∷ []) (seq + 1) (done ++ request ∷ []) rest
+    serving_more ask entry ticket of client_is seq_is op_is new new_table more =
+        let whole = sym (one_list before client requests told entry) in record {
           whole = append_assoc done (request ∷ []) rest ∙ is.whole;
           short = is.short;
           counted = length-append done (request ∷ []) ∙ ap (λ (n : ℕ). n + 1) is.counted;
           long = longer entry;
-          goes = goes_more before client requests told entry is.goes (of.client ∙ client_is) (of.seq ∙ seq_is ∙ sym is.long)
-              (asked_here ∙ ap Some (sym (of.asked ∙ op_is))) (few_more entry);
-          reached = record {
-            entries = subst (IsLegalFrom 0 start) (sym (one_list before client requests told entry)) (legal_now fits);
-            servers = subst (AreServedFrom start) (sym (one_list before client requests told entry)) (served-push start now entry is.reached.servers
-                (by_is ∙ (λ i. server_of tree (sym of.client i) (sym of.asked i))));
-            parts = subst (ArePartsOf new) (sym goes_to) reached;
-            next = let count = length-append before (told ++ entry ∷ []) in let old = length-append before told in
-                let same = ap (λ (t : PosixTree). t.next) goes_to in omega (arith, count, old, longer entry, is.long, one_file, is.reached.next, same);
-            numbers = is.reached.numbers;
-          };
-          fds = λ c fd apart. ap (λ (t : PosixTree). map.get t.fds (c, fd)) goes_to
-              ∙ fds_after.others c fd (inl (λ e. apart (e ∙ client_is))) ∙ is.fds c fd apart;
-          table_is = subst (λ (t : PosixTree). AreOf t.fds client new_table) (sym goes_to) (subst (λ (c : ℕ). AreOf after.fds c new_table) client_is
-              (kept tree.fds after.fds ask.client (subst (λ (c : ℕ). AreOf tree.fds c table) (sym client_is) is.table_is)
-              (subst (λ (o : Op). IsDescAfter tree.fds after.fds ask.client (fd_told o entry.reply) desc) (sym of.asked) fds_after) range_is ranged));
-          ranged = subst (λ (t : PosixTree). AreRanged t.fds client) (sym goes_to) (subst (AreRanged after.fds) client_is ranged);
+          goes = goes_more before client requests told entry is.goes (of.client ∙ client_is) (of.seq ∙ seq_is ∙ sym is.long) (asked_here ∙ ap Some (sym (of.asked ∙ op_is))) (few_more entry);
+          reached = subst (λ (h : List Entry). IsReached start h new) whole more.reached;
+          fds = λ c fd apart. ap (λ (h : List Entry). map.get (tree_after start h).fds (c, fd)) (sym whole) ∙ more.others c fd (λ e. apart (e ∙ client_is)) ∙ is.fds c fd apart;
+          table_is = subst (λ (h : List Entry). AreOf (tree_after start h).fds client new_table) whole (subst (λ (c : ℕ). AreOf (tree_after start (now ++ entry ∷ [])).fds c new_table) client_is more.has.same);
+          ranged = subst (λ (h : List Entry). AreRanged (tree_after start h).fds client) whole (subst (AreRanged (tree_after start (now ++ entry ∷ [])).fds) client_is more.has.ranged);
         }
-
-      tree_more : tree_after start (before ++ (told ++ entry ∷ [])) ≡ tree_with tree entry.client entry.op entry.reply
-      tree_more = ap (tree_after start) (one_list before client requests told entry) ∙ tree_after-push start now entry
-
-      -- POSIX's reply
-      module _ (plain : is_excused entry.reply ≡ false) (served : IsAnswered tree ask new entry.reply desc) where
-        fits_plain : IsLegalEntry (length now) tree entry
-        fits_plain = record { numbered = numbered; replied = inl (served.replied ∙ (λ i. (posix tree (sym of.client i) (sym of.asked i)).1)) }
-
-        goes_plain : tree_with tree entry.client entry.op entry.reply ≡ (posix tree ask.client ask.op).0
-        goes_plain = by_reply tree entry.client entry.op entry.reply plain ∙ (λ i. (posix tree (of.client i) (of.asked i)).0)
-
-        ranged_plain : AreRanged (posix tree ask.client ask.op).0.fds ask.client
-        ranged_plain = ranged_after tree ask.client ask.op desc
-            (subst (λ (r : Reply). IsDescAfter tree.fds (posix tree ask.client ask.op).0.fds ask.client (fd_told ask.op r) desc) served.replied served.told) range_is
-
-        served_plain : entry.client < 16 → IsServedIn tree now entry new_table
-        served_plain low = served_here (posix tree ask.client ask.op).0 fits_plain goes_plain served.told ranged_plain low
-
-        pub one_more : (posix tree ask.client ask.op).0.next ≤ tree.next + 1 → IsServing start client requests before new new_table (told ++ entry ∷ []) (seq + 1) (done ++ request ∷ []) rest
-        one_more one_file = step_more (posix tree ask.client ask.op).0 fits_plain (tree_more ∙ goes_plain) served.goes_on served.told ranged_plain one_file
-
-      -- an excuse, which leaves the tree
-      module _ (x : Excuse) (excused : entry.reply ≡ reply.Excused x) (fits : ExcuseFits tree ask.client ask.op x) where
-        fits_excused : IsLegalEntry (length now) tree entry
-        fits_excused = record {
-          numbered = numbered;
-          replied = inr (subst (λ (r : Reply). IsExcused tree entry.client entry.op r) (sym excused)
-              (subst (λ (o : Op). ExcuseFits tree entry.client o x) (sym of.asked) (subst (λ (c : ℕ). ExcuseFits tree c ask.op x) (sym of.client) fits)));
-        }
-
-        told_excused : desc ≡ ask.desc → IsDescAfter tree.fds tree.fds ask.client (fd_told ask.op entry.reply) desc
-        told_excused desc_is = record {
-          this = desc_is ∙ asked.desc ∙ ap (desc_of_fd tree.fds ask.client) (sym (excused_named ask.op x) ∙ ap (fd_told ask.op) (sym excused));
-          others = λ c n apart. refl;
-        }
-
-        served_excused : desc ≡ ask.desc → entry.client < 16 → IsServedIn tree now entry new_table
-        served_excused desc_is low = served_here tree fits_excused (ap (tree_with tree entry.client entry.op) excused) (told_excused desc_is) range_is low
-
-        pub one_excused : ArePartsOf new tree → desc ≡ ask.desc → IsServing start client requests before new new_table (told ++ entry ∷ []) (seq + 1) (done ++ request ∷ []) rest
-        one_excused same desc_is = step_more tree fits_excused (tree_more ∙ ap (tree_with tree entry.client entry.op) excused) same (told_excused desc_is) range_is (omega arith)
-
-      module _ (served : is_excused entry.reply ≡ false → IsAnswered tree ask new entry.reply desc) (fits : (x : Excuse) → entry.reply ≡ reply.Excused x → ExcuseFits tree ask.client ask.op x) where
-        pub any_more : (is_excused entry.reply ≡ true → ArePartsOf new tree) → (is_excused entry.reply ≡ true → desc ≡ ask.desc)
-            → (posix tree ask.client ask.op).0.next ≤ tree.next + 1
-            → IsServing start client requests before new new_table (told ++ entry ∷ []) (seq + 1) (done ++ request ∷ []) rest
-        any_more same desc_is one_file = by (is_excused entry.reply) refl
-          where
-            by : (b : Bool) → is_excused entry.reply ≡ b → IsServing start client requests before new new_table (told ++ entry ∷ []) (seq + 1) (done ++ request ∷ []) rest
-            by false e = one_more e (served e) one_file
-            by true e = let x = the_excuse entry.reply e in one_excused x.0 x.1 (fits x.0 x.1) (same e) (desc_is e)
-
-        pub reached_more : IsServing start client requests before new new_table (told ++ entry ∷ []) (seq + 1) (done ++ request ∷ []) rest → IsReached start (now ++ entry ∷ []) new
-        reached_more more = subst (λ (h : List Entry). IsReached start h new) (one_list before client requests told entry) more.reached
-
-        -- what isn't in memory stays
-        pub away_more : (is_excused entry.reply ≡ false → AwayStays new tree (posix tree ask.client ask.op).0) → AwayStays new tree (tree_after start (now ++ entry ∷ []))
-        away_more away = subst (AwayStays new tree) (sym (tree_after-push start now entry)) (by (is_excused entry.reply) refl)
-          where
-            by : (b : Bool) → is_excused entry.reply ≡ b → AwayStays new tree (tree_with tree entry.client entry.op entry.reply)
-            by false e = subst (AwayStays new tree) (sym (goes_plain e (served e))) (away e)
-            by true e = let x = the_excuse entry.reply e in subst (AwayStays new tree) (sym (ap (tree_with tree entry.client entry.op) x.1)) (λ file place away. refl)
-
-        pub served_in : (is_excused entry.reply ≡ true → desc ≡ ask.desc) → entry.client < 16 → IsServedIn tree now entry new_table
-        served_in desc_is low = by (is_excused entry.reply) refl
-          where
-            by : (b : Bool) → is_excused entry.reply ≡ b → IsServedIn tree now entry new_table
-            by false e = served_plain e (served e) low
-            by true e = let x = the_excuse entry.reply e in served_excused x.0 x.1 (fits x.0 x.1) (desc_is e) low
 
   pub is_done : (table : Descs) (told : List Entry) (seq : ℕ) (done rest : List Op) → rest ≡ [] → IsServing start client requests before p table told seq done rest → IsDone start before client requests told
   is_done table told seq done rest none is = record {

@@ -17,7 +17,6 @@ use Rattle.ufs_sound.proofs.Owning.{has_append}
 use Rattle.ufs_sound.specs.Owned.{Has}
 use Rattle.ufs_store.specs.Refusals.{IsTold, stop_after}
 use Rattle.ufs_store.specs.State.{StoreState}
-use Rattle.ufs_session.specs.Drawing.{StopsBy}
 use Rattle.ufs_session.specs.Told.{AreFaultsTold, HasRead, HasRisen, IsCountStill, IsReadFault, IsStopFault, TellsRequest, devices_in}
 
 some_is : {a b : ℕ} → Some a ≡ Some b → a ≡ b
@@ -246,16 +245,6 @@ meets old new r told = by told.ends
         ⊎ ((told.failed ≡ None) × TellsFaults told.read new r × ((fault : ℕ) → stopped_in r ≡ Some fault → told.read.stop ≡ Some fault) × ((fault : ℕ) → told.read.stop ≡ Some fault → device_in r ≡ None)) → Meets old new r
     by (inl read) = read_meets old new r told.failed (subst (λ (s : StoreState). HasRead old s told.failed) (sym read.2) told.before) read.0 read.1
     by (inr served) = served_meets old told.read new r (subst (HasRead old told.read) served.0 told.before) served.2 served.3 served.1
-
-pub stops_by : (old new : StoreState) (r : Reply) → TellsRequest old new r → StopsBy old.stop new.stop r
-stops_by old new r told = record { kept = m.kept; device = λ fault is. by fault (m.device fault is); stopped = m.earlier }
-  where
-    m : Meets old new r
-    m = meets old new r told
-
-    by : (fault : ℕ) → (IsReadFault old new fault × (new.stop ≡ old.stop)) ⊎ IsStopFault old new fault → ((old.stop ≡ None) × (new.stop ≡ Some fault)) ⊎ (new.stop ≡ old.stop)
-    by fault (inl read) = inr read.1
-    by fault (inr stop) = inl (stop.going, stop.stop)
 
 -- ---- its entry
 

@@ -1,26 +1,27 @@
 -- What is asked of a request that was served, so that its entry may be drawn.
-use Rattle.std.specs.Prelude.{ℕ, ◌≡◌, ◌≢◌, ◌<◌, ◌≤◌, ◌&&◌, ◌⊎◌, ◌+◌, ◌-◌, ◌^◌, Bool, IsTrue, List, [], ◌∷◌, ◌++◌, length, map, drop, if◌then◌else◌, Option, Some, None}
+use Rattle.std.specs.Prelude.{ℕ, ◌≡◌, ◌≢◌, ◌<◌, ◌≤◌, ◌&&◌, Bool, IsTrue, true, List, [], ◌∷◌, length, None, Some, is_some}
+use Rattle.std.specs.FinMap as fin
 use Rattle.ufs_alike.specs.Redrawn.{redrawn, redrawn_all}
 use Rattle.ufs_base.specs.declared.limits.TheConstants.{MAX_CLIENTS}
 use Rattle.ufs_fds.specs.Descriptors.{AreOf, Descs}
 use Rattle.ufs_model.specs.Asks.{fd_told}
 use Rattle.ufs_model.specs.History.{IsReplyTo, entries_of, goes_on, tree_after}
 use Rattle.ufs_model.specs.PosixTree.{PosixTree, desc_at}
+use Rattle.ufs_model.specs.Touched.{IsPartOf, touched_parts}
 use Rattle.ufs_model.specs.declared.data.Entry.{Entry}
 use Rattle.ufs_model.specs.declared.data.Excuse.TheVariants as excuse
+use Rattle.ufs_model.specs.declared.data.Op.{Op}
+use Rattle.ufs_model.specs.declared.data.PartName.TheVariants as part
 use Rattle.ufs_model.specs.declared.data.Reply.{Reply}
 use Rattle.ufs_model.specs.declared.data.Reply.TheVariants as reply
 use Rattle.ufs_prefix.specs.Changes.{asks_commit}
 use Rattle.ufs_prefix.specs.Steps.{is_ok}
+use Rattle.ufs_one_hand.specs.Apart.{FileViews, HasEachFile}
 use Rattle.ufs_server.specs.Answered.{device_in, stopped_in}
-use Rattle.ufs_disk.specs.Moments.{all}
-use Rattle.ufs_one_hand.specs.OneHand.{IsStampedIn, faults_in, passed_in}
-use Rattle.ufs_sound.specs.Owned.{Has, times}
-use Rattle.ufs_sound.specs.Parts.{Cells, Shortage, Start, View}
-use Rattle.ufs_sound.specs.Shown.{ExplainsImages}
+use Rattle.ufs_sound.specs.Owned.{times}
+use Rattle.ufs_sound.specs.Parts.{Shortage, Start, View}
 use Rattle.ufs_sound.specs.Visible.{IsDiskVisible}
 use Rattle.ufs_store.specs.State.{StoreState}
-use Rattle.ufs_store_steps.specs.Cells.{cells_of}
 use Rattle.ufs_stored.specs.OnDisk.{IsOnDisk}
 use Rattle.ufs_stored.specs.Parts.{Parts}
 
@@ -49,45 +50,21 @@ pub record IsServedIn (t : PosixTree) (history : List Entry) (entry : Entry) (fd
   pub fds_are : AreOf (goes_on t entry).fds entry.client fds
   pub others : (fd : ℕ) → fd_told entry.op entry.reply ≢ Some fd → desc_at (goes_on t entry) entry.client fd ≡ desc_at t entry.client fd
 
--- Where a store had stopped, and where it has: it stays there. A fault that a reply tells is the one at which it stopped, or a
--- read's, and the stop is as it was; a stop that it tells is the earlier one.
-pub record StopsBy (old new : Option ℕ) (reply : Reply) : Type 0 where
-  pub kept : (fault : ℕ) → old ≡ Some fault → new ≡ Some fault
-  pub device : (fault : ℕ) → device_in reply ≡ Some fault → ((old ≡ None) × (new ≡ Some fault)) ⊎ (new ≡ old)
-  pub stopped : (fault : ℕ) → stopped_in reply ≡ Some fault → old ≡ Some fault
+-- The hand has the fault that a reply tells, and the stop.
+pub record KnowsFaults (given : Reply) (v : View) : Type 0 where
+  pub device : (fault : ℕ) → device_in given ≡ Some fault → 1 ≤ times fault v.faults
+  pub stopped : (fault : ℕ) → stopped_in given ≡ Some fault → v.stop ≡ Some fault
+
+-- Some files are apart from the hand, and none of those that the request touches.
+pub record HasFilesOf (k : Start) (history : List Entry) (t : PosixTree) (client : ℕ) (request : Op) (v : View) : Type 0 where
+  pub files : FileViews
+  pub each : HasEachFile k history v files
+  pub touched : (f : ℕ) → IsPartOf (touched_parts t client request) (part.File f) → is_some (fin.get t.bytes f) ≡ true → fin.get files f ≡ None
 
 -- the blocks that were short, where a reply tells so
 abbrev pub short_in : Reply → List Shortage
 short_in (reply.Excused (excuse.Blocks need had)) = record { need = need; had = had; pool = 0 } ∷ []
 short_in _ = []
-
--- ---- the numbers of faults
-
--- the read that failed, where the reply tells it: where the store stopped meanwhile none did
-abbrev pub read_failed : (old new : Option ℕ) → Reply → Option ℕ
-read_failed None (Some fault) reply = None
-read_failed _ _ reply = device_in reply
-
--- The store's count has risen to this number. Where the count stands still the number is that of the stop.
-pub record IsCounted (s : StoreState) (fault : ℕ) : Type 0 where
-  pub counted : fault ≤ s.faults
-  pub within : fault ≤ 2 ^ 64 - 1
-  pub last : fault ≡ 2 ^ 64 - 1 → s.stop ≡ Some fault
-
--- The hand has only numbers of faults to which the store's count has risen.
-abbrev pub HasCounted : StoreState → View → Type 0
-HasCounted s v = (fault : ℕ) → 1 ≤ times fault (faults_in v) → IsCounted s fault
-
--- The store's count has risen to this number, which the hand hasn't yet.
-pub record IsNewFault (s : StoreState) (v : View) (fault : ℕ) : Type 0 where
-  pub counted : IsCounted s fault
-  pub fresh : times fault (faults_in v) ≡ 0
-
--- A request with this reply was served: the store counts what the hand has, and what failed meanwhile is new to the hand.
-pub record HasMet (s : StoreState) (reply : Reply) (v : View) : Type 0 where
-  pub had : HasCounted s v
-  pub read : (fault : ℕ) → read_failed v.stop s.stop reply ≡ Some fault → IsNewFault s v fault
-  pub stop : (fault : ℕ) → v.stop ≡ None → s.stop ≡ Some fault → IsNewFault s v fault
 
 -- ---- what the disk shows
 
@@ -95,29 +72,6 @@ pub record HasMet (s : StoreState) (reply : Reply) (v : View) : Type 0 where
 abbrev pub acknowledges : Entry → Bool
 acknowledges entry = is_ok entry.reply && asks_commit entry.op
 
--- the state of a store's disk, sector by sector
-abbrev pub disk_state : StoreState → Cells
-disk_state s = cells_of s.sectors s.moments.state
-
 -- Where the session sees its disk, contracts do, and it keeps its promise for the server after this history.
 abbrev pub SeesDisk : Start → Bool → StoreState → List Entry → Parts → Type 0
 SeesDisk k visible s history p = IsDiskVisible k → IsTrue visible × IsOnDisk s k.tree history p
-
--- the states that a store's disk was in behind the first so many, where it keeps them
-abbrev pub states_behind : Bool → ℕ → StoreState → List Cells
-states_behind keeps count s = if keeps then map (cells_of s.sectors) (drop count (all s.moments)) else []
-
--- Whatever a crash leaves in these states is explained by the history; in the last one, by the history with the entry too.
-pub record IsShownWith (k : Start) (history : List Entry) (entry : Entry) (states : List Cells) (cells : Cells) : Type 0 where
-  pub passed : (x : Cells) → Has x states → ExplainsImages k.tree history x
-  pub before : ExplainsImages k.tree history cells
-  pub after : ExplainsImages k.tree (history ++ entry ∷ []) cells
-
--- The hand has stamped each state that the store's disk was in behind the first so many, and counts them.
-pub record HasStamped (first : ℕ) (s : StoreState) (v : View) : Type 0 where
-  pub count : first + passed_in v ≡ length (all s.moments)
-  pub stamped : (x : Cells) → Has x (map (cells_of s.sectors) (drop first (all s.moments))) → IsStampedIn v.store x
-
--- What a session's first hand counts from: how many states the disk had been in.
-abbrev pub Stamps : Start → Bool → ℕ → StoreState → View → Type 0
-Stamps k keeps first s v = IsDiskVisible k → IsTrue keeps → HasStamped first s v

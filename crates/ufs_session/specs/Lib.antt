@@ -6,3 +6,6 @@ pub mod Throughout
 pub mod Drawing
 pub mod Picked
 pub mod Reading
+pub mod Asking
+pub mod Resting
+pub mod Gathered

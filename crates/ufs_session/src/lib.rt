@@ -2,6 +2,9 @@
 #![tactic(auto)]
 
 mod drawing;
+mod parting;
+mod picks;
+mod request;
 mod session;
 
-pub use session::serve;
+pub use session::{Served, serve};

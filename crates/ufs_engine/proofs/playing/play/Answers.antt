@@ -28,16 +28,16 @@ use Rattle.ufs_engine.proofs.playing.play.Goals as goal
 
 module _ (g : Over) (c : After-drop-script g) where
   abbrev told : List Entry
-  told = joined c.serve-session.result.told
+  told = joined c.serve-session.result.session.told
 
   -- the store as the session began, and as it was served
   abbrev first : StoreState
   first = let at = c.in-Ok.begun.store in state_of (g.D.Disk.size at.disk) (g.D.Disk.moments at.disk) (g.D.Disk.faults at.disk) at.tables
 
   abbrev last : StoreState
-  last = let at = c.serve-session.new.door in state_of (g.D.Disk.size at.disk) (g.D.Disk.moments at.disk) (g.D.Disk.faults at.disk) at.tables
+  last = let at = c.serve-session.result.door in state_of (g.D.Disk.size at.disk) (g.D.Disk.moments at.disk) (g.D.Disk.faults at.disk) at.tables
 
-  sized : g.D.Disk.size c.serve-session.new.door.disk ≡ g.D.Disk.size c.args.disk
+  sized : g.D.Disk.size c.serve-session.result.door.disk ≡ g.D.Disk.size c.args.disk
   sized = c.serve-session.ensures.sectors ∙ c.in-Ok.ensures.size
 
   module _ (may : MayPlay g.D.Disk.visible (g.D.Disk.size c.args.disk) (g.D.Disk.moments c.args.disk).state) (start : PosixTree) (begins : BeginsWith (g.D.Disk.size c.args.disk) (reads (g.D.Disk.moments c.args.disk)) start) where
@@ -51,12 +51,12 @@ module _ (g : Over) (c : After-drop-script g) where
     served_on_disk = c.serve-session.ensures.on_disk may.is_visible start may_begin begun_on_disk
 
     -- while it was served, and while it was closed
-    served : IsExplainedThroughout g.D.Disk.keeps (g.D.Disk.size c.args.disk) start [] told (g.D.Disk.moments c.in-Ok.begun.store.disk) (g.D.Disk.moments c.serve-session.new.door.disk)
-    served = subst (λ (n : ℕ). IsExplainedThroughout g.D.Disk.keeps n start [] told (g.D.Disk.moments c.in-Ok.begun.store.disk) (g.D.Disk.moments c.serve-session.new.door.disk)) c.in-Ok.ensures.size
+    served : IsExplainedThroughout g.D.Disk.keeps (g.D.Disk.size c.args.disk) start [] told (g.D.Disk.moments c.in-Ok.begun.store.disk) (g.D.Disk.moments c.serve-session.result.door.disk)
+    served = subst (λ (n : ℕ). IsExplainedThroughout g.D.Disk.keeps n start [] told (g.D.Disk.moments c.in-Ok.begun.store.disk) (g.D.Disk.moments c.serve-session.result.door.disk)) c.in-Ok.ensures.size
         (c.serve-session.ensures.moments may.is_visible start may_begin begun_on_disk)
 
-    closed : IsExplainedBetween g.D.Disk.keeps (g.D.Disk.size c.args.disk) start told (g.D.Disk.moments c.serve-session.new.door.disk) (g.D.Disk.moments c.close-closed.result.disk)
-    closed = subst (λ (n : ℕ). IsExplainedBetween g.D.Disk.keeps n start told (g.D.Disk.moments c.serve-session.new.door.disk) (g.D.Disk.moments c.close-closed.result.disk)) sized
+    closed : IsExplainedBetween g.D.Disk.keeps (g.D.Disk.size c.args.disk) start told (g.D.Disk.moments c.serve-session.result.door.disk) (g.D.Disk.moments c.close-closed.result.disk)
+    closed = subst (λ (n : ℕ). IsExplainedBetween g.D.Disk.keeps n start told (g.D.Disk.moments c.serve-session.result.door.disk) (g.D.Disk.moments c.close-closed.result.disk)) sized
         (c.close-closed.ensures.moments may.is_visible start told served_on_disk)
 
 pub serve-session-requires-clause-start : goal.serve-session-requires-clause-start
@@ -67,7 +67,7 @@ returns-in-Ok-clause-legal g c =
     let s = c.serve-session in
     let end = c.whole_end in
     let from = s.ensures.played in
-    (from.tree, played_as from.tree c.args.script.clients s.result.told s.result.ended (served_end end.result) (told g c) end.ensures.served from.played)
+    (from.tree, played_as from.tree c.args.script.clients s.result.session.told s.result.session.ended (served_end end.result) (told g c) end.ensures.served from.played)
 
 pub returns-in-Ok-clause-faults : goal.returns-in-Ok-clause-faults
 returns-in-Ok-clause-faults g c =
@@ -94,7 +94,7 @@ pub returns-in-Ok-clause-played : goal.returns-in-Ok-clause-played
 returns-in-Ok-clause-played g c may start begins =
     let s = c.serve-session in
     let end = c.whole_end in
-    played_as start c.args.script.clients s.result.told s.result.ended (served_end end.result) (told g c) end.ensures.served
+    played_as start c.args.script.clients s.result.session.told s.result.session.ended (served_end end.result) (told g c) end.ensures.served
     (s.ensures.seen may.is_visible start (may_begin g c may start begins) (begun_on_disk g c may start begins))
 
 pub returns-in-Ok-clause-opened : goal.returns-in-Ok-clause-opened
@@ -114,21 +114,21 @@ returns-in-Ok-clause-moments g c may start begins =
     let begun = g.D.Disk.moments c.in-Ok.begun.store.disk in
     let new = g.D.Disk.moments c.close-closed.result.disk in
     throughout_after g.D.Disk.keeps size start [] (told g c) (g.D.Disk.moments c.args.disk) begun new (c.in-Ok.ensures.moments may.is_visible may.proper start begins)
-    (throughout_before g.D.Disk.keeps size start [] (told g c) begun (g.D.Disk.moments c.serve-session.new.door.disk) new (served g c may start begins) (closed g c may start begins))
+    (throughout_before g.D.Disk.keeps size start [] (told g c) begun (g.D.Disk.moments c.serve-session.result.door.disk) new (served g c may start begins) (closed g c may start begins))
 
 pub returns-in-Ok-clause-stamped : goal.returns-in-Ok-clause-stamped
 returns-in-Ok-clause-stamped g c kept may start begins =
     let b = c.in-Ok.ensures in
     let s = c.serve-session in
     let begun = g.D.Disk.moments c.in-Ok.begun.store.disk in
-    let over = g.D.Disk.moments s.new.door.disk in
+    let over = g.D.Disk.moments s.result.door.disk in
     record {
       from = begun;
       to = over;
       before = b.moments may.is_visible may.proper start begins;
       passed = passed_throughout g.D.Disk.keeps (g.D.Disk.size c.args.disk) start kept [] (told g c) begun over (served g c may start begins);
       stamped = subst (λ (n : ℕ). AreMomentsStamped start (told g c) n begun over) (sized g c)
-          (subst (λ (t : PosixTree). AreMomentsStamped t (told g c) (g.D.Disk.size s.new.door.disk) begun over) (b.parts may.is_visible may.proper start begins)
+          (subst (λ (t : PosixTree). AreMomentsStamped t (told g c) (g.D.Disk.size s.result.door.disk) begun over) (b.parts may.is_visible may.proper start begins)
           (s.ensures.stamped (b.visible may.is_visible may.proper) kept));
       behind = closed g c may start begins;
     }

@@ -1,6 +1,5 @@
-use Rattle.std.proofs.Common.{◌++◌, ◌∙◌, sym, subst}
+use Rattle.std.proofs.Common.{◌∙◌, sym, subst}
 use Rattle.std.specs.Prelude.{◌≤◌, List, ℕ}
-use Rattle.ufs_model.specs.History.{joined}
 use Rattle.ufs_model.specs.PosixTree.{PosixTree}
 use Rattle.ufs_one_hand.specs.Drawn.{IsAcknowledged}
 use Rattle.ufs_one_hand.specs.OneHand.{KnowsSynced}
@@ -11,15 +10,16 @@ use Rattle.ufs_session.proofs.drawing.keep.Goals as goal
 
 pub keep-requires : goal.keep-requires
 keep-requires g c = record {
-  answer = (had_as g.N.Naming.start (joined c.args.earlier.now.items ++ c.args.told.now.items), subst (λ (t : PosixTree). IsAcknowledged g.N.Naming.start (had_as g.N.Naming.start (joined c.args.earlier.now.items ++ c.args.told.now.items)) t c.args.entry.now c.args.hand.now) (sym c.requires.before) c.requires.acknowledged);
+  answer = (had_as g.N.Naming.start g.T.Telling.history, subst (λ (t : PosixTree). IsAcknowledged g.N.Naming.start (had_as g.N.Naming.start g.T.Telling.history) t c.args.entry.now c.args.hand.now) (sym c.requires.before) c.requires.acknowledged);
 }
 
 pub returns : goal.returns
 returns g c =
-    let before = had_as g.N.Naming.start (joined c.args.earlier.now.items ++ c.args.told.now.items) in
+    let before = had_as g.N.Naming.start g.T.Telling.history in
     let e = c.args.entry.now in
     let acked = subst (λ (t : PosixTree). IsAcknowledged g.N.Naming.start before t e c.args.hand.now) (sym c.requires.before) c.requires.acknowledged in record {
       session = c.keep.ensures.session before acked;
+      apart = c.keep.ensures.apart;
       covered = c.keep.ensures.covered before acked;
       known = subst (λ (t : PosixTree). KnowsSynced (step_in t e) c.keep.new.self) c.requires.before c.keep.ensures.known;
       causes = λ has. record {

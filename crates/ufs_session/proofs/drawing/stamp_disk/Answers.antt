@@ -1,8 +1,9 @@
-use Rattle.std.proofs.Common.{◌≡◌, [], List, length, None, Some, ap, ◌∙◌, sym, subst, arith}
+use Rattle.std.proofs.Common.{ℕ, ◌++◌, ◌≡◌, [], List, length, None, Some, ap, ◌∙◌, sym, subst, arith}
+use Rattle.ufs_one_hand.specs.OneHand.{faults_in}
 use Rattle.ufs_sound.specs.Owned.{Has}
 use Rattle.ufs_sound.specs.Parts.{Cells}
 use Rattle.ufs_sound.specs.Shown.{ExplainsImages}
-use Rattle.ufs_session.proofs.MetLemmas.{counted_met}
+use Rattle.ufs_session.proofs.DrawingLemmas.{none_met}
 use Rattle.ufs_session.proofs.drawing.stamp_disk.Goals as goal
 
 pub pass-requires-clause-session : goal.pass-requires-clause-session
@@ -36,7 +37,6 @@ pass-requires-clause-failed g c = λ n is. let no : None ≡ Some n = sym c.requ
 pub pass-requires-clause-apart : goal.pass-requires-clause-apart
 pass-requires-clause-apart g c = λ n is. let no : None ≡ Some n = sym c.requires.failed ∙ is in cc
 
-pub returns-clause-counted : goal.returns-clause-counted
-returns-clause-counted g c =
-    counted_met (g.D.Door.store c.args.door.now) g.P.Passing.failed c.args.hand.now.stop g.P.Passing.stop c.args.hand.now c.pass.new.self
-    (λ n is. let no : None ≡ Some n = sym c.requires.failed ∙ is in cc) (λ n going is. let no : None ≡ Some n = sym going ∙ c.requires.still ∙ sym c.requires.stop ∙ is in cc) c.requires.counted c.pass.ensures.answered
+pub returns-clause-none : goal.returns-clause-none
+returns-clause-none g c =
+    c.pass.ensures.answered ∙ ap (λ (l : List ℕ). l ++ faults_in c.args.hand.now) (none_met g.P.Passing.failed c.args.hand.now.stop g.P.Passing.stop c.requires.failed (c.requires.stop ∙ sym c.requires.still)) ∙ c.requires.none

@@ -1,17 +1,19 @@
-use Rattle.std.proofs.Common.{◌≡◌, ◌++◌, ◌∷◌, [], List, ap, arith, sym, refl, ◌∙◌, subst, ◌+◌, ℕ, Err, None}
+use Rattle.std.proofs.Common.{◌≡◌, ◌++◌, ◌∷◌, [], List, ap, arith, sym, refl, ◌∙◌, subst, ◌+◌, ℕ, Err, Result}
+use Rattle.std.specs.Prelude.{OnOk}
+use Rattle.ufs_base.specs.declared.Memory.{Memory}
 use Rattle.ufs_model.specs.History.{AreFaultsOnce, joined}
 use Rattle.ufs_model.specs.PosixTree.{PosixTree}
 use Rattle.ufs_model.specs.declared.data.Op.{Op}
 use Rattle.ufs_model.specs.declared.data.Entry.{Entry}
 use Rattle.ufs_client.specs.declared.played.EndFault.TheVariants as fault
 use Rattle.ufs_client.proofs.Lists.{joined-push, no_items, pushed_on}
-use Rattle.ufs_one_hand.specs.OneHand.{HasSession, IsCoveredIn}
 use Rattle.ufs_session.specs.Drawing.{had_as}
 use Rattle.ufs_session.specs.Picked.{MayHaveBegun}
 use Rattle.ufs_session.specs.Played.{IsPlayedFrom}
 use Rattle.ufs_session.specs.Reading.{HasReadOn, IsNewTo}
+use Rattle.ufs_session.specs.Resting.{IsResting}
 use Rattle.ufs_session.specs.Served.{AreServed}
-use Rattle.ufs_session.specs.Serving.{IsReached}
+use Rattle.ufs_session.specs.Serving.{IsDone, IsReached}
 use Rattle.ufs_session.specs.Told.{AreFaultsTold}
 use Rattle.ufs_session.proofs.ClientsLemmas.{AreServing, HasReadWith, few, low, none_served, one_client_more, played_here, played_more, ready, served_all, with_more, with_new, with_none, with_sees}
 use Rattle.ufs_session.proofs.ToldLemmas.{none_told, once_told, told_on}
@@ -21,7 +23,7 @@ use Rattle.ufs_session.proofs.session.serve_clients.Goals.{After-new-mine, After
 
 pub loop-requests-init : goal.loop-requests-init
 loop-requests-init g c =
-    let s = g.D.Door.store c.args.door.now in
+    let s = g.D.Door.store c.args.running.door in
     let p = c.args.server.now in
     let items = c.into_iter-requests-iterator.ensures.into_iter_gives.0 ∙ c.into_vec-requests-items.ensures.value in
     record {
@@ -33,12 +35,7 @@ loop-requests-init g c =
       sound = c.requires.sound;
       geometry = refl;
       sectors = refl;
-      session = subst (λ (told : List (List Entry)). HasSession g.N.Naming.start (had_as g.N.Naming.start (joined told)) None c.args.hand.now) (sym c.requires.none) c.requires.session;
-      covered = subst (λ (told : List (List Entry)). IsCoveredIn g.N.Naming.start (had_as g.N.Naming.start (joined told)) c.args.hand.now) (sym c.requires.none) c.requires.covered;
-      stamps = c.requires.stamps;
-      stop = c.requires.stop;
-      state = c.requires.state;
-      counted = c.requires.counted;
+      resting = subst (λ (told : List (List Entry)). IsResting g.N.Naming.start g.D.Door.keeps g.F.Since.count (had_as g.N.Naming.start (joined told)) s c.args.running.hand c.args.running.apart) (sym c.requires.none) c.requires.resting;
     }
 
 -- ---- where no room is left
@@ -46,8 +43,8 @@ loop-requests-init g c =
 pub returns-then-is_err-clause-served : goal.returns-then-is_err-clause-served
 returns-then-is_err-clause-served g c =
     let l = c.loop-requests in
-    let first = g.D.Door.store c.args.door.now in
-    let now = g.D.Door.store l.door in
+    let first = g.D.Door.store c.args.running.door in
+    let now = g.D.Door.store l.running.door in
     let k = g.N.Naming.start in
     let inv = l.invariant in
     subst (λ (told : List (List Entry)). AreServed k g.D.Door.visible g.D.Door.keeps first now c.args.server.now l.server c.args.clients told (Err fault.Memory)) (sym c.reserve.ensures.items)
@@ -57,13 +54,10 @@ returns-then-is_err-clause-served g c =
           played_here start c.args.clients l.told.items l.server l.client l.first l.yielded _ (inv.reading.each start may) (once_told first now (joined l.told.items) inv.faults) (Err fault.Memory) (λ ok. cc);
     }) inv.faults inv.sound inv.geometry inv.sectors)
 
-pub returns-then-is_err-clause-session : goal.returns-then-is_err-clause-session
-returns-then-is_err-clause-session g c =
-    subst (λ (told : List (List Entry)). HasSession g.N.Naming.start (had_as g.N.Naming.start (joined told)) None c.loop-requests.hand) (sym c.reserve.ensures.items) c.loop-requests.invariant.session
-
-pub returns-then-is_err-clause-covered : goal.returns-then-is_err-clause-covered
-returns-then-is_err-clause-covered g c =
-    subst (λ (told : List (List Entry)). IsCoveredIn g.N.Naming.start (had_as g.N.Naming.start (joined told)) c.loop-requests.hand) (sym c.reserve.ensures.items) c.loop-requests.invariant.covered
+pub returns-then-is_err-clause-resting : goal.returns-then-is_err-clause-resting
+returns-then-is_err-clause-resting g c =
+    subst (λ (told : List (List Entry)). IsResting g.N.Naming.start g.D.Door.keeps g.F.Since.count (had_as g.N.Naming.start (joined told)) (g.D.Door.store c.loop-requests.running.door) c.loop-requests.running.hand c.loop-requests.running.apart) (sym c.reserve.ensures.items)
+    c.loop-requests.invariant.resting
 
 -- ---- before a client is served
 
@@ -74,11 +68,11 @@ module _ (g : Over) (c : After-new-mine g) where
   abbrev IsSoFar : PosixTree → Type 0
   IsSoFar start = AreServing start c.args.clients earlier c.loop-requests.server c.loop-requests.client c.loop-requests.first c.loop-requests.yielded (c.in-Some.requests ∷ c.next.new.self.rest.items)
 
-  so_far : HasReadWith g.N.Naming.start g.D.Door.visible g.D.Door.keeps c.args.server.now (g.D.Door.store c.args.door.now) (g.D.Door.store c.loop-requests.door) c.loop-requests.server (joined earlier) IsSoFar
+  so_far : HasReadWith g.N.Naming.start g.D.Door.visible g.D.Door.keeps c.args.server.now (g.D.Door.store c.args.running.door) (g.D.Door.store c.loop-requests.running.door) c.loop-requests.server (joined earlier) IsSoFar
   so_far =
       let l = c.loop-requests in
-      let first = g.D.Door.store c.args.door.now in
-      let now = g.D.Door.store l.door in
+      let first = g.D.Door.store c.args.running.door in
+      let now = g.D.Door.store l.running.door in
       subst (λ (told : List (List Entry)). HasReadWith g.N.Naming.start g.D.Door.visible g.D.Door.keeps c.args.server.now first now l.server (joined told)
       (λ start. AreServing start c.args.clients told l.server l.client l.first l.yielded (c.in-Some.requests ∷ c.next.new.self.rest.items))) (sym c.reserve.ensures.items)
       (subst (λ (r : List (List Op)). HasReadWith g.N.Naming.start g.D.Door.visible g.D.Door.keeps c.args.server.now first now l.server (joined l.told.items)
@@ -91,136 +85,125 @@ module _ (g : Over) (c : After-new-mine g) where
   new_here : IsNewTo g.N.Naming.start c.args.server.now so_far.on.more c.loop-requests.server (joined earlier) c.loop-requests.client
   new_here =
       let l = c.loop-requests in
-      with_new g.N.Naming.start g.D.Door.visible g.D.Door.keeps c.args.server.now (g.D.Door.store c.args.door.now) (g.D.Door.store l.door) l.server (joined earlier) IsSoFar l.client so_far
+      with_new g.N.Naming.start g.D.Door.visible g.D.Door.keeps c.args.server.now (g.D.Door.store c.args.running.door) (g.D.Door.store l.running.door) l.server (joined earlier) IsSoFar l.client so_far
       (λ start is. ready start c.args.clients earlier l.server l.client l.first l.yielded c.in-Some.requests c.next.new.self.rest.items is)
 
-  faults_here : AreFaultsTold (g.D.Door.store c.args.door.now) (g.D.Door.store c.loop-requests.door) (joined earlier)
-  faults_here = subst (λ (told : List (List Entry)). AreFaultsTold (g.D.Door.store c.args.door.now) (g.D.Door.store c.loop-requests.door) (joined told)) (sym c.reserve.ensures.items) c.loop-requests.invariant.faults
+  faults_here : AreFaultsTold (g.D.Door.store c.args.running.door) (g.D.Door.store c.loop-requests.running.door) (joined earlier)
+  faults_here = subst (λ (told : List (List Entry)). AreFaultsTold (g.D.Door.store c.args.running.door) (g.D.Door.store c.loop-requests.running.door) (joined told)) (sym c.reserve.ensures.items) c.loop-requests.invariant.faults
 
-pub serve_client-ended-requires-clause-ready : goal.serve_client-ended-requires-clause-ready
-serve_client-ended-requires-clause-ready g c =
-    let at = (goal.at.serve_client-ended-requires-clause-ready g c).After-new-mine in
+pub serve_client-next-requires-clause-ready : goal.serve_client-next-requires-clause-ready
+serve_client-next-requires-clause-ready g c =
+    let at = (goal.at.serve_client-next-requires-clause-ready g c).After-new-mine in
     (c.args.server.now, (so_far g at).on.more, new_here g at)
 
-pub serve_client-ended-requires-clause-faults : goal.serve_client-ended-requires-clause-faults
-serve_client-ended-requires-clause-faults g c = (g.D.Door.store c.args.door.now, faults_here g (goal.at.serve_client-ended-requires-clause-faults g c).After-new-mine)
+pub serve_client-next-requires-clause-faults : goal.serve_client-next-requires-clause-faults
+serve_client-next-requires-clause-faults g c = (g.D.Door.store c.args.running.door, faults_here g (goal.at.serve_client-next-requires-clause-faults g c).After-new-mine)
 
-pub serve_client-ended-requires-clause-first : goal.serve_client-ended-requires-clause-first
-serve_client-ended-requires-clause-first g c = (one g (goal.at.serve_client-ended-requires-clause-first g c).After-new-mine).1.first_is
+pub serve_client-next-requires-clause-first : goal.serve_client-next-requires-clause-first
+serve_client-next-requires-clause-first g c = (one g (goal.at.serve_client-next-requires-clause-first g c).After-new-mine).1.first_is
 
-pub serve_client-ended-requires-clause-few : goal.serve_client-ended-requires-clause-few
-serve_client-ended-requires-clause-few g c =
+pub serve_client-next-requires-clause-few : goal.serve_client-next-requires-clause-few
+serve_client-next-requires-clause-few g c =
     let l = c.loop-requests in
-    let so = one g (goal.at.serve_client-ended-requires-clause-few g c).After-new-mine in
+    let so = one g (goal.at.serve_client-next-requires-clause-few g c).After-new-mine in
     few so.0 c.args.clients c.reserve.new.self.items l.server l.client l.first l.yielded c.in-Some.requests c.next.new.self.rest.items so.1
 
-pub serve_client-ended-requires-clause-client : goal.serve_client-ended-requires-clause-client
-serve_client-ended-requires-clause-client g c =
+pub serve_client-next-requires-clause-client : goal.serve_client-next-requires-clause-client
+serve_client-next-requires-clause-client g c =
     let l = c.loop-requests in
-    let so = one g (goal.at.serve_client-ended-requires-clause-client g c).After-new-mine in
+    let so = one g (goal.at.serve_client-next-requires-clause-client g c).After-new-mine in
     low so.0 c.args.clients c.reserve.new.self.items l.server l.client l.first l.yielded c.in-Some.requests c.next.new.self.rest.items so.1
 
-pub serve_client-ended-requires-clause-sees : goal.serve_client-ended-requires-clause-sees
-serve_client-ended-requires-clause-sees g c =
+pub serve_client-next-requires-clause-sees : goal.serve_client-next-requires-clause-sees
+serve_client-next-requires-clause-sees g c =
     let l = c.loop-requests in
-    let at = (goal.at.serve_client-ended-requires-clause-sees g c).After-new-mine in
-    with_sees g.N.Naming.start g.D.Door.visible g.D.Door.keeps c.args.server.now (g.D.Door.store c.args.door.now) (g.D.Door.store l.door) l.server (joined c.reserve.new.self.items) (IsSoFar g at) (so_far g at) c.requires.start c.requires.sees
+    let at = (goal.at.serve_client-next-requires-clause-sees g c).After-new-mine in
+    with_sees g.N.Naming.start g.D.Door.visible g.D.Door.keeps c.args.server.now (g.D.Door.store c.args.running.door) (g.D.Door.store l.running.door) l.server (joined c.reserve.new.self.items) (IsSoFar g at) (so_far g at) c.requires.start c.requires.sees
 
-pub serve_client-ended-requires-clause-session : goal.serve_client-ended-requires-clause-session
-serve_client-ended-requires-clause-session g c =
-    subst (λ (told : List (List Entry)). HasSession g.N.Naming.start (had_as g.N.Naming.start (joined told)) None c.loop-requests.hand) (sym c.reserve.ensures.items) c.loop-requests.invariant.session
-
-pub serve_client-ended-requires-clause-covered : goal.serve_client-ended-requires-clause-covered
-serve_client-ended-requires-clause-covered g c =
-    subst (λ (told : List (List Entry)). IsCoveredIn g.N.Naming.start (had_as g.N.Naming.start (joined told)) c.loop-requests.hand) (sym c.reserve.ensures.items) c.loop-requests.invariant.covered
+pub serve_client-next-requires-clause-resting : goal.serve_client-next-requires-clause-resting
+serve_client-next-requires-clause-resting g c =
+    subst (λ (told : List (List Entry)). IsResting g.N.Naming.start g.D.Door.keeps g.F.Since.count (had_as g.N.Naming.start (joined told)) (g.D.Door.store c.loop-requests.running.door) c.loop-requests.running.hand c.loop-requests.running.apart) (sym c.reserve.ensures.items)
+    c.loop-requests.invariant.resting
 
 -- ---- behind it
 
 module _ (g : Over) (c : After-unwrap g) where
-  pushed : c.push.new.self.items ≡ c.reserve.new.self.items ++ c.serve_client-ended.new.told.items ∷ []
+  pushed : c.push.new.self.items ≡ c.reserve.new.self.items ++ c.serve_client-next.new.told.items ∷ []
   pushed = pushed_on c.push.result _ _ c.reserve.new.self.items _ _ c.unwrap.ensures refl c.push.ensures.items ∙ ap (λ (m : List Entry). c.reserve.new.self.items ++ m ∷ []) c.from_vec.ensures
 
-  both : joined c.push.new.self.items ≡ joined c.reserve.new.self.items ++ c.serve_client-ended.new.told.items
-  both = ap joined pushed ∙ joined-push c.reserve.new.self.items c.serve_client-ended.new.told.items
+  both : joined c.push.new.self.items ≡ joined c.reserve.new.self.items ++ c.serve_client-next.new.told.items
+  both = ap joined pushed ∙ joined-push c.reserve.new.self.items c.serve_client-next.new.told.items
 
-  faults_behind : AreFaultsTold (g.D.Door.store c.args.door.now) (g.D.Door.store c.loop-requests.door) (joined c.reserve.new.self.items) → AreFaultsTold (g.D.Door.store c.args.door.now) (g.D.Door.store c.serve_client-ended.new.door) (joined c.push.new.self.items)
+  faults_behind : AreFaultsTold (g.D.Door.store c.args.running.door) (g.D.Door.store c.loop-requests.running.door) (joined c.reserve.new.self.items) → AreFaultsTold (g.D.Door.store c.args.running.door) (g.D.Door.store c.serve_client-next.result.0.door) (joined c.push.new.self.items)
   faults_behind before =
-      let s = c.serve_client-ended in
-      let first = g.D.Door.store c.args.door.now in
-      let later = g.D.Door.store s.new.door in
-      subst (AreFaultsTold first later) (sym both) (told_on first (g.D.Door.store c.loop-requests.door) later (joined c.reserve.new.self.items) s.new.told.items before s.ensures.faults)
+      let s = c.serve_client-next in
+      let first = g.D.Door.store c.args.running.door in
+      let later = g.D.Door.store s.result.0.door in
+      subst (AreFaultsTold first later) (sym both) (told_on first (g.D.Door.store c.loop-requests.running.door) later (joined c.reserve.new.self.items) s.new.told.items before s.ensures.faults)
 
   -- what holds of each tree with the client's transcript
-  read_behind : (Each : PosixTree → Type 0) (read : HasReadWith g.N.Naming.start g.D.Door.visible g.D.Door.keeps c.args.server.now (g.D.Door.store c.args.door.now) (g.D.Door.store c.loop-requests.door) c.loop-requests.server (joined c.reserve.new.self.items) Each)
+  read_behind : (Each : PosixTree → Type 0) (read : HasReadWith g.N.Naming.start g.D.Door.visible g.D.Door.keeps c.args.server.now (g.D.Door.store c.args.running.door) (g.D.Door.store c.loop-requests.running.door) c.loop-requests.server (joined c.reserve.new.self.items) Each)
       (More : List (List Entry) → PosixTree → Type 0)
-      (more : HasReadOn g.N.Naming.start g.D.Door.visible g.D.Door.keeps c.args.server.now read.on.more (g.D.Door.store c.loop-requests.door) (g.D.Door.store c.serve_client-ended.new.door) c.loop-requests.server c.serve_client-ended.new.server
-      (joined c.reserve.new.self.items) c.serve_client-ended.new.told.items)
-      → ((start : PosixTree) → Each start → MayHaveBegun c.args.server.now more.more start → IsReached start (joined c.reserve.new.self.items ++ c.serve_client-ended.new.told.items) c.serve_client-ended.new.server
-      → More (c.reserve.new.self.items ++ c.serve_client-ended.new.told.items ∷ []) start)
-      → HasReadWith g.N.Naming.start g.D.Door.visible g.D.Door.keeps c.args.server.now (g.D.Door.store c.args.door.now) (g.D.Door.store c.serve_client-ended.new.door) c.serve_client-ended.new.server (joined c.push.new.self.items) (More c.push.new.self.items)
+      (more : HasReadOn g.N.Naming.start g.D.Door.visible g.D.Door.keeps c.args.server.now read.on.more (g.D.Door.store c.loop-requests.running.door) (g.D.Door.store c.serve_client-next.result.0.door) c.loop-requests.server c.serve_client-next.new.server
+      (joined c.reserve.new.self.items) c.serve_client-next.new.told.items)
+      → ((start : PosixTree) → Each start → MayHaveBegun c.args.server.now more.more start → IsReached start (joined c.reserve.new.self.items ++ c.serve_client-next.new.told.items) c.serve_client-next.new.server
+      → More (c.reserve.new.self.items ++ c.serve_client-next.new.told.items ∷ []) start)
+      → HasReadWith g.N.Naming.start g.D.Door.visible g.D.Door.keeps c.args.server.now (g.D.Door.store c.args.running.door) (g.D.Door.store c.serve_client-next.result.0.door) c.serve_client-next.new.server (joined c.push.new.self.items) (More c.push.new.self.items)
   read_behind Each read More more goes =
-      let s = c.serve_client-ended in
+      let s = c.serve_client-next in
       let earlier = c.reserve.new.self.items in
       let mine = s.new.told.items in
-      subst (λ (told : List (List Entry)). HasReadWith g.N.Naming.start g.D.Door.visible g.D.Door.keeps c.args.server.now (g.D.Door.store c.args.door.now) (g.D.Door.store s.new.door) s.new.server (joined told) (More told)) (sym pushed)
-      (subst (λ (h : List Entry). HasReadWith g.N.Naming.start g.D.Door.visible g.D.Door.keeps c.args.server.now (g.D.Door.store c.args.door.now) (g.D.Door.store s.new.door) s.new.server h (More (earlier ++ mine ∷ []))) (sym (joined-push earlier mine))
-      (with_more g.N.Naming.start g.D.Door.visible g.D.Door.keeps c.args.server.now (g.D.Door.store c.args.door.now) (g.D.Door.store c.loop-requests.door) c.loop-requests.server (g.D.Door.store s.new.door) s.new.server
+      subst (λ (told : List (List Entry)). HasReadWith g.N.Naming.start g.D.Door.visible g.D.Door.keeps c.args.server.now (g.D.Door.store c.args.running.door) (g.D.Door.store s.result.0.door) s.new.server (joined told) (More told)) (sym pushed)
+      (subst (λ (h : List Entry). HasReadWith g.N.Naming.start g.D.Door.visible g.D.Door.keeps c.args.server.now (g.D.Door.store c.args.running.door) (g.D.Door.store s.result.0.door) s.new.server h (More (earlier ++ mine ∷ []))) (sym (joined-push earlier mine))
+      (with_more g.N.Naming.start g.D.Door.visible g.D.Door.keeps c.args.server.now (g.D.Door.store c.args.running.door) (g.D.Door.store c.loop-requests.running.door) c.loop-requests.server (g.D.Door.store s.result.0.door) s.new.server
       (joined earlier) mine Each read (More (earlier ++ mine ∷ [])) more c.loop-requests.invariant.sectors goes))
 
-pub returns-in_err-ended-clause-served : goal.returns-in_err-ended-clause-served
-returns-in_err-ended-clause-served g c =
-    let at = goal.at.returns-in_err-ended-clause-served g c in
+pub returns-in-Err-clause-served : goal.returns-in-Err-clause-served
+returns-in-Err-clause-served g c =
+    let at = goal.at.returns-in-Err-clause-served g c in
     let before = at.After-new-mine in
     let l = c.loop-requests in
-    let s = c.serve_client-ended in
-    let first = g.D.Door.store c.args.door.now in
-    let later = g.D.Door.store s.new.door in
+    let s = c.serve_client-next in
+    let first = g.D.Door.store c.args.running.door in
+    let later = g.D.Door.store s.result.0.door in
     let earlier = c.reserve.new.self.items in
     let mine = s.new.told.items in
     let faults = faults_behind g at.After-unwrap (faults_here g before) in
     let once = subst (λ (told : List (List Entry)). AreFaultsOnce (joined told)) (pushed g at.After-unwrap) (once_told first later (joined c.push.new.self.items) faults) in
     let read = so_far g before in
     let more = (s.ensures.served c.args.server.now read.on.more (new_here g before)).on in
-    served_all g.N.Naming.start g.D.Door.visible g.D.Door.keeps c.args.server.now first later s.new.server c.args.clients c.push.new.self.items c.from_residual.result
-    (read_behind g at.After-unwrap (IsSoFar g before) read (λ told start. IsPlayedFrom start c.args.clients told c.from_residual.result (joined told)) more
+    served_all g.N.Naming.start g.D.Door.visible g.D.Door.keeps c.args.server.now first later s.new.server c.args.clients c.push.new.self.items (Err fault.Memory)
+    (read_behind g at.After-unwrap (IsSoFar g before) read (λ told start. IsPlayedFrom start c.args.clients told (Err fault.Memory) (joined told)) more
     (λ start is may left.
-    played_more start c.args.clients earlier l.server l.client l.first l.yielded c.in-Some.requests c.next.new.self.rest.items is mine s.ensures.goes_on s.new.server left once c.from_residual.result c.from_residual.ensures.0))
+    played_more start c.args.clients earlier l.server l.client l.first l.yielded c.in-Some.requests c.next.new.self.rest.items is mine s.ensures.goes_on s.new.server left once (Err fault.Memory) refl))
     faults s.ensures.sound (s.ensures.geometry ∙ l.invariant.geometry) (s.ensures.sectors ∙ l.invariant.sectors)
 
-pub returns-in_err-ended-clause-session : goal.returns-in_err-ended-clause-session
-returns-in_err-ended-clause-session g c =
-    subst (λ (h : List Entry). HasSession g.N.Naming.start (had_as g.N.Naming.start h) None c.serve_client-ended.new.hand) (sym (both g (goal.at.returns-in_err-ended-clause-session g c).After-unwrap)) c.serve_client-ended.ensures.session
-
-pub returns-in_err-ended-clause-covered : goal.returns-in_err-ended-clause-covered
-returns-in_err-ended-clause-covered g c =
-    subst (λ (h : List Entry). IsCoveredIn g.N.Naming.start (had_as g.N.Naming.start h) c.serve_client-ended.new.hand) (sym (both g (goal.at.returns-in_err-ended-clause-covered g c).After-unwrap)) c.serve_client-ended.ensures.covered
+pub returns-in-Err-clause-resting : goal.returns-in-Err-clause-resting
+returns-in-Err-clause-resting g c =
+    let s = c.serve_client-next in
+    subst (λ (h : List Entry). IsResting g.N.Naming.start g.D.Door.keeps g.F.Since.count (had_as g.N.Naming.start h) (g.D.Door.store s.result.0.door) s.result.0.hand s.result.0.apart) (sym (both g (goal.at.returns-in-Err-clause-resting g c).After-unwrap)) s.ensures.resting
 
 pub loop-requests-preserved : goal.loop-requests-preserved
 loop-requests-preserved g c =
     let at = goal.at.loop-requests-preserved g c in
     let before = at.After-new-mine in
     let l = c.loop-requests in
-    let s = c.serve_client-ended in
+    let s = c.serve_client-next in
     let earlier = c.reserve.new.self.items in
     let mine = s.new.told.items in
     let rest = c.next.new.self.rest.items in
     let read = so_far g before in
-    let client = c.in_ok-ended.ensures.served c.args.server.now read.on.more (new_here g before) in
+    let client = s.ensures.served c.args.server.now read.on.more (new_here g before) in
     record {
       reading = read_behind g at.After-unwrap (IsSoFar g before) read (λ told start. AreServing start c.args.clients told s.new.server (l.client + 1) (l.first + c.len.result) (l.yielded ++ c.in-Some.requests ∷ []) rest) client.on
           (λ start is may left.
           subst (λ (n : ℕ). AreServing start c.args.clients (earlier ++ mine ∷ []) s.new.server (l.client + 1) (l.first + n) (l.yielded ++ c.in-Some.requests ∷ []) rest) (sym (c.len.ensures ∙ s.new.told.ok.0))
-          (one_client_more start c.args.clients earlier l.server l.client l.first l.yielded c.in-Some.requests rest is mine s.ensures.goes_on s.new.server left (client.done start may)));
+          (one_client_more start c.args.clients earlier l.server l.client l.first l.yielded c.in-Some.requests rest is mine s.ensures.goes_on s.new.server left (subst (λ (r : Result (Unit {0}) Memory). OnOk r ((t : PosixTree) → MayHaveBegun c.args.server.now client.on.more t → IsDone t (joined earlier) l.client c.in-Some.requests mine)) c.in-Ok.is client.done start may)));
       faults = faults_behind g at.After-unwrap (faults_here g before);
       sound = s.ensures.sound;
       geometry = s.ensures.geometry ∙ l.invariant.geometry;
       sectors = s.ensures.sectors ∙ l.invariant.sectors;
-      session = subst (λ (h : List Entry). HasSession g.N.Naming.start (had_as g.N.Naming.start h) None s.new.hand) (sym (both g at.After-unwrap)) s.ensures.session;
-      covered = subst (λ (h : List Entry). IsCoveredIn g.N.Naming.start (had_as g.N.Naming.start h) s.new.hand) (sym (both g at.After-unwrap)) s.ensures.covered;
-      stamps = s.ensures.stamps;
-      stop = s.ensures.stop;
-      state = s.ensures.state;
-      counted = s.ensures.counted;
+      resting = subst (λ (h : List Entry). IsResting g.N.Naming.start g.D.Door.keeps g.F.Since.count (had_as g.N.Naming.start h) (g.D.Door.store s.result.0.door) s.result.0.hand s.result.0.apart) (sym (both g at.After-unwrap)) s.ensures.resting;
     }
 
 pub overflow_add-first : goal.overflow_add-first
@@ -228,8 +211,8 @@ overflow_add-first g c =
     let l = c.loop-requests in
     let so = one g (goal.at.overflow_add-first g c).After-new-mine in
     let short = few so.0 c.args.clients c.reserve.new.self.items l.server l.client l.first l.yielded c.in-Some.requests c.next.new.self.rest.items so.1 in
-    let count = c.len.ensures ∙ c.serve_client-ended.new.told.ok.0 in
-    omega (arith, short, so.1.first_is, count, c.serve_client-ended.ensures.goes_on.few)
+    let count = c.len.ensures ∙ c.serve_client-next.new.told.ok.0 in
+    omega (arith, short, so.1.first_is, count, c.serve_client-next.ensures.goes_on.few)
 
 pub overflow_add-client : goal.overflow_add-client
 overflow_add-client g c =
@@ -244,8 +227,8 @@ pub returns-clause-served : goal.returns-clause-served
 returns-clause-served g c =
     let l = c.loop-requests in
     let inv = l.invariant in
-    let first = g.D.Door.store c.args.door.now in
-    let now = g.D.Door.store l.door in
+    let first = g.D.Door.store c.args.running.door in
+    let now = g.D.Door.store l.running.door in
     let rest = l.requests-iterator.rest in
     served_all g.N.Naming.start g.D.Door.visible g.D.Door.keeps c.args.server.now first now l.server c.args.clients l.told.items _ (record {
       on = inv.reading.on;

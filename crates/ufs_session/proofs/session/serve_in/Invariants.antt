@@ -1,5 +1,5 @@
 use Rattle.std.specs.Prelude.{[], None}
-use Rattle.ufs_session.specs.Drawing.{disk_state}
+use Rattle.ufs_stamped.specs.Stamped.{disk_state}
 use Rattle.ufs_session.proofs.session.serve_in.Given as goal
 
 abbrev pub ghosts-stamp_disk : goal.ghosts-stamp_disk

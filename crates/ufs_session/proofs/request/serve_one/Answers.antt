@@ -12,21 +12,27 @@ use Rattle.ufs_server.proofs.FileFetching.{none_read}
 use Rattle.ufs_server.specs.Answered.{device_told}
 use Rattle.ufs_store.specs.State.{geometry_of_store}
 use Rattle.ufs_stored.specs.OnDisk.{IsExplainedBetween, IsOnDisk}
+use Rattle.ufs_stored.proofs.Stamping.{go_on}
 use Rattle.ufs_file.specs.Content.{own_bytes}
 use Rattle.ufs_session.proofs.FurtherLemmas.{tree_read}
 use Rattle.ufs_session.proofs.OwnLemmas.{bytes_behind, nothing, own_answered, parts_behind, parts_on_disk, same_bytes}
 use Rattle.ufs_session.proofs.ReadingLemmas.{nothing_forgotten, parts_before, read_failed, read_served, same_excuse}
 use Rattle.ufs_session.proofs.ThroughoutLemmas.{between_joined, throughout_one}
 use Rattle.ufs_session.proofs.ToldLemmas.{plain_going, served_told}
-use Rattle.ufs_session.proofs.session.serve_one.Given.{Over}
-use Rattle.ufs_session.proofs.session.serve_one.Goals as goal
-use Rattle.ufs_session.proofs.session.serve_one.Goals.{After-apply}
+use Rattle.ufs_session.proofs.request.serve_one.Given.{Over}
+use Rattle.ufs_session.proofs.request.serve_one.Goals as goal
+use Rattle.ufs_session.proofs.request.serve_one.Goals.{After-apply}
 
 pub apply-requires-clause-asked : goal.apply-requires-clause-asked
 apply-requires-clause-asked g c =
     let was = c.requires.asked in
     let read = tree_read c.args.ask c.args.server.now c.fetch.new.self was.0 c.fetch.ensures.further was.1 in
     (read.0, read.2, asks was.0 read.0 c.args.ask (either_way read.0 was.0 read.1) was.2)
+
+pub apply-requires-clause-stamped : goal.apply-requires-clause-stamped
+apply-requires-clause-stamped g c = λ stamped.
+    let e = c.requires.stamped stamped in
+    go_on g.D.Door.allows (g.D.Door.store c.args.door.now) c.args.server.now (g.D.Door.store c.fetch.new.door) c.fetch.new.self c.fetch.ensures.sectors e (c.fetch.ensures.on_disk (g.met.D.Door.sees stamped) e.start e.history e.on_disk)
 
 -- ---- the blocks were read, and the server answered
 
@@ -59,9 +65,6 @@ module _ (g : Over) (c : After-apply g) where
       let f = c.fetch.ensures in
       between_joined g.D.Door.keeps old.sectors start history old.moments mid.moments new.moments (f.moments visible start history is)
       (subst (λ (n : ℕ). IsExplainedBetween g.D.Door.keeps n start history mid.moments new.moments) f.sectors (c.apply.ensures.moments visible start history (f.on_disk visible start history is)))
-
-pub returns-in-Ok-clause-during : goal.returns-in-Ok-clause-during
-returns-in-Ok-clause-during g c = through g (goal.at.returns-in-Ok-clause-during g c).After-apply
 
 pub returns-in-Ok-clause-moments : goal.returns-in-Ok-clause-moments
 returns-in-Ok-clause-moments g c visible start history asked legal is =
@@ -123,9 +126,6 @@ returns-in-Err-clause-told g c =
     (λ fault device. f.told fault (c.in-Err.is ∙ ap Err device)) (λ none. f.untold (ap device_told c.in-Err.is ∙ none)) c.unread.result.entry.reply c.unread.ensures.reply
 
 -- ---- the client answered
-
-pub returns-clause-during : goal.returns-clause-during
-returns-clause-during g c visible start history is = c.always_law.ensures.rest g.D.Door.keeps (g.D.Door.store c.args.door.now) start history c.args.server.now (sym c.geometry-geometry.ensures.is) is
 
 pub returns-clause-reading : goal.returns-clause-reading
 returns-clause-reading g c =

@@ -1,0 +1,48 @@
+-- The hands of a session come together, and go apart.
+use Rattle.std.specs.Prelude.{ℕ, ◌≡◌, ⊤, List, [], None, true, is_some}
+use Rattle.std.specs.FinMap as fin
+use Rattle.ufs_alike.specs.Alike.{AreAlike}
+use Rattle.ufs_apart.specs.Apart.{ApartState, AreApart, given_all, kept_all, part_names}
+use Rattle.ufs_model.specs.History.{tree_after}
+use Rattle.ufs_model.specs.PosixTree.{PosixTree}
+use Rattle.ufs_model.specs.Touched.{IsPartOf, touched_parts}
+use Rattle.ufs_model.specs.declared.data.Entry.{Entry}
+use Rattle.ufs_model.specs.declared.data.Op.{Op}
+use Rattle.ufs_model.specs.declared.data.PartName.TheVariants as part
+use Rattle.ufs_one_hand.specs.Apart.{HasEachFile}
+use Rattle.ufs_one_hand.specs.OneHand.{HasSession}
+use Rattle.ufs_session.specs.declared.parting.Gathered.{Gathered}
+use Rattle.ufs_session.specs.declared.parting.Gathered.TheVariants as files
+use Rattle.ufs_sound.specs.Parts.{Start, View}
+use Rattle.ufs_stored.specs.Parts.{Parts}
+use Rattle.ufs_stored.specs.Stored.{ArePartsOf}
+
+-- The hand of this file comes together with the session's.
+abbrev pub IsGathered : Gathered → ℕ → Type 0
+IsGathered files.Nothing f = ⊥
+IsGathered (files.One file) f = f ≡ file
+IsGathered files.Every f = ⊤
+
+-- So does that of each file that the request touches, of those that are there.
+abbrev pub HasGathered : PosixTree → (client : ℕ) → Op → Gathered → Type 0
+HasGathered t client request gathered = (f : ℕ) → IsPartOf (touched_parts t client request) (part.File f) → is_some (fin.get t.bytes f) ≡ true → IsGathered gathered f
+
+-- The hand has the session behind this history, in which nothing is asked, but for files that are apart.
+pub record IsTogether (k : Start) (history : List Entry) (v : View) (a : ApartState) : Type 0 where
+  pub none : a.parts ≡ []
+  pub session : HasSession k history None v
+  pub each : HasEachFile k history v a.files
+
+-- Each part that every request joins has gone from one that has them all into a hand of its own: each client's, what it last asked, the
+-- pool, the names and the store. With those and the files that are apart it has the session.
+pub record AreParted (k : Start) (history : List Entry) (v : View) (a : ApartState) : Type 0 where
+  pub session : AreApart k history None v a
+  pub whole : View
+  pub kept : v ≡ kept_all (part_names a.clients) whole
+  pub given : a.parts ≡ given_all (part_names a.clients) whole
+
+-- The server has the files of the tree behind this history.
+pub record HasFilesAt (k : Start) (history : List Entry) (p : Parts) : Type 0 where
+  pub tree : PosixTree
+  pub parts : ArePartsOf p tree
+  pub alike : AreAlike tree (tree_after k.tree history)
