@@ -46,7 +46,7 @@ use Rattle.ufs_stored.specs.Stored.{IsFileWhole}
 use Rattle.ufs_stored.proofs.FileCommits.{other_file_is}
 use Rattle.ufs_stored.proofs.Reading.{begun_readable, home_readable, settled_readable, stored_readable}
 use Rattle.ufs_on_disk.specs.Syncs.{FailedSyncsGoOn, HasFailed}
-use Rattle.ufs_on_disk.proofs.SameStates.{same_or_not}
+use Rattle.ufs_store.proofs.SameStates.{same_or_other}
 use Rattle.ufs_on_disk.proofs.Live.{file_by_history, file_on_disk, file_to_commit, same_writes, whole_file}
 
 -- what holds of one of them
@@ -223,7 +223,7 @@ module _ (old new : StoreState) (start : PosixTree) (history : List Entry) (p : 
   at_stage between records false w same clean t next kept (inr (inr (inr (inr none)))) = absurd none
 
   pub failed : HasStopped new start history p
-  failed = by (same_or_not x.log.noted x.log.committed)
+  failed = by (same_or_other x.log.noted x.log.committed)
     where
       can : MayWriteAll l (writes_of f)
       can = subst (MayWriteAll l) same_write (dirty l w whole.noted on_disk.1)

@@ -1,7 +1,6 @@
 pub mod Going
 pub mod Sound
 pub mod Told
-pub mod SameStates
 pub mod Syncing
 mod Live
 pub mod Failing

@@ -34,7 +34,7 @@ use Rattle.ufs_stored.specs.Parts.{Parts, durable_in}
 use Rattle.ufs_stored.specs.Stored.{IsFileWhole}
 use Rattle.ufs_stored.proofs.Always.{any_explained}
 use Rattle.ufs_on_disk.specs.Syncs.{FileSyncsAreExplained, FileSyncsMayLeave}
-use Rattle.ufs_on_disk.proofs.SameStates.{same_or_not}
+use Rattle.ufs_store.proofs.SameStates.{same_or_other}
 use Rattle.ufs_on_disk.proofs.Live.{file_by_history, file_on_disk, file_to_commit, same_writes, whole_file}
 
 -- ---- each stage
@@ -115,7 +115,7 @@ module _ (g : Geometry) (s : StoreState) (start : PosixTree) (history : List Ent
 -- ---- each moment
 
 pub syncs_explained : (g : Geometry) → FileSyncsMayLeave g → FileSyncsAreExplained g
-syncs_explained g leaves keeps old new start history p f form at live fits told names = by (same_or_not (durable_in p.commits f).log.noted (durable_in p.commits f).log.committed)
+syncs_explained g leaves keeps old new start history p f form at live fits told names = by (same_or_other (durable_in p.commits f).log.noted (durable_in p.commits f).log.committed)
   where
     may : MayLeaveSynced (IsExplainedImage old.sectors start history) old (durable_in p.commits f)
     may = leaves old start history p f form at live fits names

@@ -31,7 +31,7 @@ use Rattle.ufs_stored.specs.Parts.{Parts, durable_in, with_file}
 use Rattle.ufs_stored.specs.Stored.{IsFileStored, IsFileWhole, IsStored}
 use Rattle.ufs_stored.proofs.Whole.{fits_whole, tree_may}
 use Rattle.ufs_on_disk.specs.Syncs.{FileSyncsGoOn, HasSynced}
-use Rattle.ufs_on_disk.proofs.SameStates.{same_or_not}
+use Rattle.ufs_store.proofs.SameStates.{same_or_other}
 
 -- ---- which files are done
 
@@ -111,7 +111,7 @@ module _ (old new : StoreState) (start : PosixTree) (history : List Entry) (p : 
     }
 
     pub synced : FilesAreCommitted → FilesAreSettled → DirtyMayBeWritten → FilesMayCommitNext → FitsInode f → HasSynced old new x → HasFiles new start history q (f.file ∷ done)
-    synced committed settled dirty next fits told = by (same_or_not x.log.noted x.log.committed)
+    synced committed settled dirty next fits told = by (same_or_other x.log.noted x.log.committed)
       where
         by : (x.log.noted ≡ x.log.committed) ⊎ (x.log.noted ≢ x.log.committed) → HasFiles new start history q (f.file ∷ done)
         by (inl same) = with_ledger _ told.freed (told.same same go.ledger go.has (may_write dirty)) (settled old go.ledger old.unassigned.free start history k p f go.has at same there go.stored)

@@ -1,5 +1,5 @@
 -- A clean disk may be mounted.
-use Rattle.std.proofs.Common.{◌≡◌, ◌≢◌, ◌<◌, ◌≤◌, ◌+◌, ◌*◌, ◌∙◌, ℕ, inl, inr, List, [], ◌∷◌, Bool, true, None, ap, refl, sym, subst, arith}
+use Rattle.std.proofs.Common.{◌≡◌, ◌<◌, ◌+◌, ◌*◌, ◌∙◌, ℕ, inl, inr, List, [], ◌∷◌, Bool, true, ap, refl, subst, arith}
 use Rattle.std.specs.Prelude.{◌==◌, IsTrue, MatchResult, Result, Ok, Err, nat_lt, not}
 use Rattle.std.specs.List.{list_all}
 use Rattle.std.proofs.lemmas.Bool.{and_parts}
@@ -7,7 +7,6 @@ use Rattle.std.proofs.lemmas.Bool.Decides.{nat_tests}
 use Rattle.ufs_base.specs.Images.{Image}
 use Rattle.ufs_disk.specs.Disk.{seen}
 use Rattle.ufs_layout.specs.Areas.{all_inodes, first_of_journal, journal_sectors}
-use Rattle.ufs_layout.specs.Superblock.{geometry_of}
 use Rattle.ufs_image.specs.Catalog.{IsInode}
 use Rattle.ufs_image.specs.Images.{form_at}
 use Rattle.ufs_image.specs.Journal.{epoch_in}
@@ -17,7 +16,6 @@ use Rattle.ufs_image.proofs.Empty.{in_range}
 use Rattle.ufs_image.proofs.Holders.{in_inodes}
 use Rattle.ufs_image.proofs.Journals.{taken}
 use Rattle.ufs_image.proofs.Lists.{IsIn}
-use Rattle.ufs_journal.specs.Kept.{HasEarlier}
 use Rattle.ufs_store.specs.Laws.{CleanDisksMount}
 
 -- its volume

@@ -1,12 +1,12 @@
 -- Two states of a file have one delta.
-use Rattle.std.proofs.Common.{◌≡◌, ◌≢◌, ◌∙◌, ◌⊎◌, inl, inr, ◌<◌, ◌≤◌, ◌+◌, zero, suc, ℕ, List, [], ◌∷◌, ◌++◌, Bool, true, false, length, take, ap, refl, sym, subst, arith}
-use Rattle.std.specs.Prelude.{◌==◌, Some, drop, nat_lt, slice_get}
-use Rattle.std.proofs.lemmas.Bool.Decides.{nat_tests}
+use Rattle.std.proofs.Common.{◌≡◌, ◌≢◌, ◌∙◌, ◌⊎◌, inl, inr, ◌<◌, zero, suc, ℕ, List, [], ◌∷◌, ◌++◌, Bool, true, false, take, ap, refl, sym, arith}
+use Rattle.std.specs.Prelude.{Some, drop, nat_lt, slice_get}
 use Rattle.std.proofs.lemmas.List.{append_cancel_left, take-append-drop}
 use Rattle.ufs_extent.specs.declared.Run.{Run}
 use Rattle.ufs_layout.specs.declared.records.LogRecord.{LogRecord}
 use Rattle.ufs_layout.specs.declared.records.LogRecord.TheVariants.{Delta}
 use Rattle.ufs_ilog.specs.Deltas.{FileState, IsDelta, IsSharedFront, extents_of}
+use Rattle.ufs_store.proofs.SameStates.{same_run}
 
 get_of_take : (xs : List Run) (k n : ℕ) → k < n → slice_get (take n xs) k ≡ slice_get xs k
 get_of_take [] k zero less = refl
@@ -37,21 +37,6 @@ one_delta inode before after records others a b =
     a.is ∙ (λ i. Delta inode 1 after.size (keep i) (extents_of (given i)) ∷ []) ∙ sym b.is
 
 -- ---- there is one
-
-same_number : (x y : ℕ) → (x ≡ y) ⊎ (x ≢ y)
-same_number x y = by (x == y) refl
-  where
-    by : (b : Bool) → (x == y) ≡ b → (x ≡ y) ⊎ (x ≢ y)
-    by true e = inl (grind (arith, nat_tests, e))
-    by false e = inr (λ same. grind (arith, nat_tests, e, same))
-
-same_run : (x y : Run) → (x ≡ y) ⊎ (x ≢ y)
-same_run x y = by (same_number x.start y.start) (same_number x.length y.length)
-  where
-    by : (x.start ≡ y.start) ⊎ (x.start ≢ y.start) → (x.length ≡ y.length) ⊎ (x.length ≢ y.length) → (x ≡ y) ⊎ (x ≢ y)
-    by (inl a) (inl b) = inl (λ i. record { start = a i; length = b i })
-    by (inl a) (inr not) = inr (λ e. not (ap (λ (r : Run). r.length) e))
-    by (inr not) b = inr (λ e. not (ap (λ (r : Run). r.start) e))
 
 same_some : (x y : Run) → Some x ≡ Some y → x ≡ y
 same_some x y e = cc

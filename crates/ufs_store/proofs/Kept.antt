@@ -1,5 +1,5 @@
 -- What a store keeps true from call to call.
-use Rattle.std.proofs.Common.{◌≡◌, ◌≤◌, ◌<◌, ◌+◌, ◌∙◌, ℕ, List, [], ◌∷◌, ◌++◌, Bool, true, false, ap, refl, sym, subst, arith}
+use Rattle.std.proofs.Common.{◌≡◌, ◌≤◌, ◌<◌, ◌+◌, ℕ, List, [], ◌∷◌, ◌++◌, Bool, true, false, ap, refl, sym, subst, arith}
 use Rattle.std.specs.Prelude.{if◌then◌else◌, IsTrue, nat_lt, nat_le, ◌&&◌, ◌==◌}
 use Rattle.ufs_store.specs.declared.tables.Tables.{Tables}
 use Rattle.std.specs.List.{list_all, list_any}

@@ -2,6 +2,7 @@ pub mod Stages
 pub mod Kept
 pub mod Rooms
 pub mod Moves
+pub mod SameStates
 pub mod Deltas
 pub mod Marking
 pub mod Numbers

@@ -1,15 +1,14 @@
 -- An image is marked in use.
-use Rattle.std.proofs.Common.{◌≡◌, ◌∙◌, ◌⊎◌, ◌<◌, ◌≤◌, ℕ, List, Bool, inl, inr, None, Some, false, length, ap, refl, sym, subst, arith}
-use Rattle.std.specs.Prelude.{◌==◌, if◌then◌else◌, IsTrue, Ok}
+use Rattle.std.proofs.Common.{◌≡◌, ◌∙◌, ◌⊎◌, ◌<◌, ◌≤◌, ℕ, List, Bool, inl, inr, Some, false, length, ap, refl, sym, subst, arith}
+use Rattle.std.specs.Prelude.{◌==◌, if◌then◌else◌, IsTrue}
 use Rattle.std.proofs.lemmas.Bool.Decides.{nat_tests}
 use Rattle.ufs_base.specs.Images.{Image}
-use Rattle.ufs_disk.specs.Disk.{IsImage, IsPartlyWritten, IsSettled, Leaves, Mixes, overwritten, put, seen}
+use Rattle.ufs_disk.specs.Disk.{IsImage, IsPartlyWritten, IsSettled, Leaves, Mixes, overwritten, put}
 use Rattle.ufs_disk.specs.Moments.{LeavesOnly, Moments, reads}
 use Rattle.ufs_disk.proofs.Images.{mixes_one, put_one, seen_is_image}
 use Rattle.ufs_disk.proofs.Runs.{joined, weaker}
 use Rattle.ufs_layout.specs.Areas.{first_of_data}
 use Rattle.ufs_layout.specs.Superblock.{geometry_of, super_of}
-use Rattle.ufs_layout.specs.declared.geometry.Geometry.{Geometry}
 use Rattle.ufs_layout.specs.declared.superblock.Super.{Super}
 use Rattle.ufs_image.specs.Images.{IsImageOf, block_at}
 use Rattle.ufs_image.specs.Journal.{epoch_in}

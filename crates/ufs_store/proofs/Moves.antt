@@ -1,6 +1,6 @@
 -- Blocks that go from one set to another by runs.
-use Rattle.std.proofs.Common.{◌≡◌, ◌∙◌, ◌⊎◌, inl, inr, ◌+◌, ◌-◌, ◌<◌, ◌≤◌, ℕ, Bool, true, false, ap, refl, sym, subst, arith}
-use Rattle.std.specs.Prelude.{◌&&◌, ◌||◌, not, min, nat_lt, nat_le}
+use Rattle.std.proofs.Common.{◌≡◌, ◌∙◌, ◌⊎◌, inl, inr, ◌+◌, ◌-◌, ◌<◌, ◌≤◌, ℕ, Bool, true, false, ap, refl, sym, arith}
+use Rattle.std.specs.Prelude.{◌&&◌, ◌||◌, not, min, nat_lt}
 use Rattle.std.specs.Ordering.{nat_cmp}
 use Rattle.std.specs.FinSet as set
 use Rattle.ufs_extent.specs.declared.Run.{Run}

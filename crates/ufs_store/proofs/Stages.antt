@@ -1,7 +1,5 @@
 -- One of several ledgers.
-use Rattle.std.proofs.Common.{◌≡◌, ◌⊎◌, inl, inr, ℕ, List, [], ◌∷◌, Bool, true, false}
-use Rattle.std.specs.Prelude.{if◌then◌else◌}
-use Rattle.ufs_base.specs.Images.{Image}
+use Rattle.std.proofs.Common.{◌⊎◌, inl, inr, ℕ, [], ◌∷◌, Bool}
 use Rattle.ufs_disk.specs.Moments.{Moments, LeavesOnly}
 use Rattle.ufs_disk.proofs.Runs.{weaker}
 use Rattle.ufs_ledger.specs.Ledger.{Ledger, IsLeftBy}

@@ -2,6 +2,7 @@
 #![tactic(auto)]
 
 mod blocks;
+mod boxed;
 mod commits;
 mod direct;
 mod door;

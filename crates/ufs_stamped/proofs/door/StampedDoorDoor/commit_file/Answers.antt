@@ -7,7 +7,7 @@ use Rattle.ufs_store.specs.Ledgers.{IsLeftByAny, stages}
 use Rattle.ufs_store.specs.Refusals.{answer_of, fault_in}
 use Rattle.ufs_store.specs.Stamping.{MayLeaveDelta}
 use Rattle.ufs_store.proofs.Deltas.{delta_of}
-use Rattle.ufs_stamped.proofs.Logs.{same_or_other}
+use Rattle.ufs_store.proofs.SameStates.{same_or_other}
 use Rattle.ufs_stamped.proofs.Steps.{called, quiet_leaves}
 use Rattle.ufs_stamped.proofs.door.StampedDoorDoor.commit_file.Goals as goal
 
