@@ -23,7 +23,7 @@ impl Names {
     ghost use Rattle.ufs_model.specs.declared.data.Op.TheVariants as op;
     ghost use Rattle.ufs_names.specs.Calls.{IsOfNames, AreGathered};
     ghost use Rattle.ufs_names.specs.NamesPart.{IsNamesPart, holding_of};
-    ghost use Rattle.ufs_names.specs.Needs.{AreFilesIn, AreHere, IsFileIn, needed_found, unkept_closed, unkept_unnamed};
+    ghost use Rattle.ufs_names.specs.Needs.{AreFilesIn, AreHere, IsFileIn, listed, needed_found, unkept_closed, unkept_unnamed};
     ghost use Rattle.ufs_names.specs.PathCalls.{path_asked};
 
     /// The live files that a request touches, by rising number: those of which `apply` wants the hands. The file that
@@ -37,13 +37,25 @@ impl Names {
         // all for a `sync`, and else one at most
         ensures few { ask.now.op ≢ op.Sync → IfOk result (λ files. length files ≤ 1) }
     {
-        if own_refusal(&ask.op, ask.desc, ask.fd).is_some() {
-            return FileList::of(self.alloc, None);
-        }
         match &ask.op {
             Op::Sync => self.held.files(self.alloc),
-            _ => FileList::of(self.alloc, self.need(ask)?),
+            _ => FileList::of(self.alloc, self.needs_one(ask)?),
         }
+    }
+
+    /// The one live file that a request touches, if it does one: of which `apply` wants the hand. A `sync` touches all,
+    /// and isn't asked for here. The file that an `open` makes has none yet.
+    pub fn needs_one(&self, ask: &Ask) -> Result<Option<u32>, Memory>
+        requires client { ask.now.client < 16 }
+        requires kind { IsOfNames ask.now }
+        requires one { ask.now.op ≢ op.Sync }
+        ensures needed { IfOk result (λ file. (t : PosixTree) → IsNamesPart self.now t → IsAsk t ask.now → AreFilesIn t (touched_parts t ask.now.client ask.now.op) (listed file)) }
+        ensures gathered { IfOk result (λ file. (t : PosixTree) (fs : Files) → IsNamesPart self.now t → IsAsk t ask.now → AreHere (listed file) fs → AreGathered t ask.now fs) }
+    {
+        if own_refusal(&ask.op, ask.desc, ask.fd).is_some() {
+            return Ok(None);
+        }
+        self.need(ask)
     }
 
     // The one live file that a request touches, which its client doesn't refuse: any but `sync`.

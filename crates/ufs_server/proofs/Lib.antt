@@ -4,7 +4,7 @@ mod Committed
 mod FileCommitting
 mod FileServing
 mod Filed
-mod FilesAsked
+pub mod FilesAsked
 mod Gathering
 mod Holding
 mod Known

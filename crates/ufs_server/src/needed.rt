@@ -7,31 +7,29 @@ ghost use Rattle.ufs_names.specs.Calls.{IsOfNames};
 use crate::disk_server::DiskServer;
 use crate::fetching::is_file_request;
 use ufs_base::Memory;
-use ufs_client::answer_own;
 use ufs_model::Ask;
 use ufs_names::FileList;
 
 impl DiskServer {
-    ghost use Rattle.std.specs.Prelude.{ℕ, ◌≡◌, ◌≢◌, ◌<◌, true, Some, IfOk, IfSome, is_some};
+    ghost use Rattle.std.specs.Prelude.{ℕ, ◌≡◌, ◌≢◌, ◌<◌, true, false, Some, IfOk, IfSome, is_some};
     ghost use Rattle.std.specs.FinMap as map;
+    ghost use Rattle.ufs_client.specs.Own.{is_own};
     ghost use Rattle.ufs_model.specs.Asks.{IsAsk};
     ghost use Rattle.ufs_model.specs.PosixTree.{PosixTree};
     ghost use Rattle.ufs_model.specs.declared.data.Op.TheVariants as op;
     ghost use Rattle.ufs_names.specs.Calls.{IsOfNames, IsTouched};
     ghost use Rattle.ufs_stored.specs.Stored.{ArePartsOf};
 
-    /// The one file that a request touches, of those that are there. One that its client answers itself touches none,
-    /// and the file that an `open` makes isn't there yet. A `sync` touches all files, and isn't asked for here.
+    /// The one file that a request touches, of those that are there. The file that an `open` makes isn't there yet. One
+    /// that its client answers itself touches none, and a `sync` touches all: neither is asked for here.
     pub fn touched(&self, ask: &Ask) -> Result<Option<u32>, Memory>
         requires client { ask.now.client < 16 }
         requires one { ask.now.op ≢ op.Sync }
+        requires served { (t : PosixTree) → IsAsk t ask.now → is_own t ask.now.client ask.now.op ≡ false }
         ensures all { IfOk result (λ touched. (t : PosixTree) → ArePartsOf self.now t → IsAsk t ask.now → (f : ℕ) → IsTouched t ask.now f → is_some (map.get t.bytes f) ≡ true → touched ≡ Some f) }
         ensures there { IfOk result (λ touched. IfSome touched (λ f. (t : PosixTree) → ArePartsOf self.now t → IsAsk t ask.now → is_some (map.get t.bytes f) ≡ true)) }
         ensures only { IfOk result (λ touched. IfSome touched (λ f. (t : PosixTree) → ArePartsOf self.now t → IsAsk t ask.now → IsTouched t ask.now f)) }
     {
-        if answer_own(ask).is_some() {
-            return Ok(None);
-        }
         match file_asked(ask) {
             Some(file) => Ok(Some(file)),
             None => self.touched_by_name(ask),
@@ -47,8 +45,7 @@ impl DiskServer {
         ensures there { IfOk result (λ touched. IfSome touched (λ f. (t : PosixTree) → ArePartsOf self.now t → IsAsk t ask.now → is_some (map.get t.bytes f) ≡ true)) }
         ensures only { IfOk result (λ touched. IfSome touched (λ f. (t : PosixTree) → ArePartsOf self.now t → IsAsk t ask.now → IsTouched t ask.now f)) }
     {
-        let needed = self.names.needs(ask)?;
-        Ok(needed.as_slice().first().copied())
+        self.names.needs_one(ask)
     }
 
     /// Whether a file of this number is there.

@@ -52,11 +52,9 @@ impl DiskServer {
         ensures readied { IfOk result (AreReadied self.new.commits) }
         ensures alone { IfOk result (λ touched. (t : PosixTree) → ArePartsOf self.old t → IsAsk t ask.now → (f : ℕ) → IsTouched t ask.now f → IsSome (map.get self.old.files f) → file_touched touched ≡ Some f) }
     {
-        let needed = self.names.needs(ask)?;
-        let Some(file) = needed.as_slice().first() else {
+        let Some(file) = self.names.needs_one(ask)? else {
             return Ok(None);
         };
-        let file = *file;
         self.files.are_numbered();
         let Some(hand) = self.files.get(file) else {
             unreachable!()
