@@ -309,10 +309,9 @@ listed_is t parts (Some g) is f = (λ h. (is f).0 (there h), λ h. one ((is f).1
 
 -- what a request touches that its client doesn't refuse
 pub one_needed : (t : PosixTree) (client : ℕ) (request : Op) → is_some (own_refusal t client request) ≡ false → (file : Option ℕ) → (own_refusal t client request ≡ None → IsFileIn t (reached t client request) file)
-    → (files : List ℕ) → files ≡ listed file → AreFilesIn t (touched_parts t client request) files
-one_needed t client request free file needs files is =
-    subst (AreFilesIn t (touched_parts t client request)) (sym is)
-    (listed_is t (touched_parts t client request) file (all_needed t client request free file (needs (no_refusal (own_refusal t client request) free))))
+    → AreFilesIn t (touched_parts t client request) (listed file)
+one_needed t client request free file needs =
+    listed_is t (touched_parts t client request) file (all_needed t client request free file (needs (no_refusal (own_refusal t client request) free)))
 
 pub listed_rises : (file : Option ℕ) → IsStrictlyIncreasing (listed file)
 listed_rises None k less = absurd (omega (arith, less))

@@ -8,7 +8,7 @@ use Rattle.ufs_model.specs.PosixTree.{PosixTree}
 use Rattle.ufs_dir_tree.specs.DirTable.{found_at}
 use Rattle.ufs_dir_tree.specs.declared.found.Found.{Found}
 use Rattle.ufs_dir_tree.specs.declared.found.Found.TheVariants.{Dir, File}
-use Rattle.ufs_name_tree.specs.NameTable.{NameTable, IsNameTable, node_of, node_at, file_at}
+use Rattle.ufs_name_tree.specs.NameTable.{NameTable, node_of, node_at, file_at}
 use Rattle.ufs_name_tree.proofs.EditNotes.{renoted}
 use Rattle.ufs_name_tree.proofs.NoteChains.{HasOneInode, GivesNoInode}
 use Rattle.ufs_names.specs.NamesPart.{NamesPart, Holdings, IsNamesPart, AreInodesOf, holding_of, is_kept, without_name}

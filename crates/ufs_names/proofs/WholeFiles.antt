@@ -1,5 +1,5 @@
 -- Files that may be a tree's may be the next tree's, too.
-use Rattle.std.proofs.Common.{◌≡◌, ℕ, ◌⊎◌, inl, inr, List, [], Option, Some, None, refl, sym, ap, ◌∙◌, subst}
+use Rattle.std.proofs.Common.{◌≡◌, ℕ, ◌⊎◌, inl, inr, [], Option, Some, None, refl, sym, ap, ◌∙◌, subst}
 use Rattle.std.specs.FinMap as map
 use Rattle.ufs_file.specs.Hand.{FileState, IsFileOf}
 use Rattle.ufs_files.specs.Files.{Files, AreFilesOf}
