@@ -1,7 +1,6 @@
 -- The file that a request touches, and what is known of its commits.
-use Rattle.std.proofs.Common.{◌≡◌, ◌≢◌, ℕ, ◌≤◌, ◌⊎◌, inl, inr, List, [], ◌∷◌, Option, Some, None, is_some, length, ap, sym, ◌∙◌, arith}
+use Rattle.std.proofs.Common.{◌≡◌, ◌≢◌, ℕ, ◌⊎◌, inl, inr, [], ◌∷◌, Option, Some, None, is_some, ap, refl, sym, ◌∙◌, arith}
 use Rattle.std.specs.Prelude.{Contains, IsSome, slice_index_or, unwrap_or}
-use Rattle.std.specs.List.{slice_get}
 use Rattle.std.specs.Cmp.{nat_cmp_total}
 use Rattle.std.specs.FinMap as map
 use Rattle.std.specs.FinMap.{nat_cmp-IsAntisymmetric}
@@ -15,6 +14,7 @@ use Rattle.ufs_model.specs.PosixTree.{PosixTree}
 use Rattle.ufs_model.specs.declared.data.Ask.{Ask}
 use Rattle.ufs_model.proofs.Facts.Lookups.{from_some, inserted_else, inserted_here, same_some}
 use Rattle.ufs_names.specs.Calls.{IsAsked}
+use Rattle.ufs_names.specs.Needs.{listed}
 use Rattle.ufs_on_disk.specs.Syncs.{TellsTheSame}
 use Rattle.ufs_stored.specs.Parts.{Commits, Parts, committed_as, durable_in}
 use Rattle.ufs_stored.specs.Stored.{ArePartsOf}
@@ -68,21 +68,14 @@ module _ (p : Parts) (file : ℕ) (s : FileState) (at : map.get p.files file ≡
 pub asked_here : (p : Parts) (t : PosixTree) (ask : Ask) → ArePartsOf p t → IsAsk t ask → IsAsked t p.names ask p.files
 asked_here p t ask parts asked = record { part = parts.names; asked = asked; files = files_are_sized p.files t parts.files; gathered = λ f at live. live_here p t parts f live }
 
--- ---- the first of one at most
+-- ---- the file of a list of one at most
 
-pub only_one : (files : List ℕ) (file f : ℕ) → length files ≤ 1 → slice_get files 0 ≡ Some file → Contains files f → file ≡ f
-only_one [] file f few first has = let clash = first in absurd cc
-only_one (x ∷ []) file f few first has =
+pub listed_alone : (file : Option ℕ) (f : ℕ) → Contains (listed file) f → file ≡ Some f
+listed_alone None f has = let within = has.1 in absurd (omega (arith, within))
+listed_alone (Some g) f has =
     let within = has.1 in
-    let none : has.0 ≡ 0 = omega (arith, within) in
-    let here : x ≡ file = cc in
-    sym here ∙ sym (ap (λ (k : ℕ). slice_index_or (x ∷ []) k f) none) ∙ has.2
-only_one (x ∷ y ∷ files) file f few first has = absurd (omega (arith, few))
+    let first : has.0 ≡ 0 = omega (arith, within) in
+    ap Some (sym (ap (λ (k : ℕ). slice_index_or (g ∷ []) k f) first) ∙ has.2)
 
-pub first_is_in : (files : List ℕ) (file : ℕ) → slice_get files 0 ≡ Some file → Contains files file
-first_is_in [] file first = let clash = first in absurd cc
-first_is_in (x ∷ files) file first = (0, omega arith, cc)
-
-pub none_in : (files : List ℕ) (f : ℕ) → slice_get files 0 ≡ None → Contains files f → ⊥
-none_in [] f none has = let within = has.1 in omega (arith, within)
-none_in (x ∷ files) f none has = let clash = none in cc
+pub is_listed : (file : ℕ) → Contains (listed (Some file)) file
+is_listed file = (0, omega arith, refl)
