@@ -1,5 +1,5 @@
 -- The file that a request touches, and what is known of its commits.
-use Rattle.std.proofs.Common.{◌≡◌, ◌≢◌, ℕ, ◌⊎◌, inl, inr, [], ◌∷◌, Option, Some, None, is_some, ap, refl, sym, ◌∙◌, arith}
+use Rattle.std.proofs.Common.{◌≡◌, ◌≢◌, ℕ, ◌⊎◌, inl, inr, [], ◌∷◌, Option, Some, None, is_some, ap, sym, ◌∙◌, arith}
 use Rattle.std.specs.Prelude.{Contains, IsSome, slice_index_or, unwrap_or}
 use Rattle.std.specs.Cmp.{nat_cmp_total}
 use Rattle.std.specs.FinMap as map
@@ -76,6 +76,3 @@ listed_alone (Some g) f has =
     let within = has.1 in
     let first : has.0 ≡ 0 = omega (arith, within) in
     ap Some (sym (ap (λ (k : ℕ). slice_index_or (g ∷ []) k f) first) ∙ has.2)
-
-pub is_listed : (file : ℕ) → Contains (listed (Some file)) file
-is_listed file = (0, omega arith, refl)
