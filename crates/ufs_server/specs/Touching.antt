@@ -1,19 +1,27 @@
 -- The file that a request of names may empty or drop.
-use Rattle.std.specs.Prelude.{ℕ, ◌≡◌, ◌⊎◌, ◌↔◌, [], true, Option, None, Some, IsSome}
+use Rattle.std.specs.Prelude.{ℕ, ◌≡◌, ◌⊎◌, ◌↔◌, [], true, Option, None, Some, IsSome, IfSome, is_some}
 use Rattle.std.specs.FinMap as map
 use Rattle.std.specs.FinSet as set
 use Rattle.ufs_bitmap.specs.Blocks.{BlockSet}
 use Rattle.ufs_durable.specs.State.{CommitState}
+use Rattle.ufs_model.specs.Asks.{IsAsk}
 use Rattle.ufs_model.specs.PosixTree.{PosixTree}
 use Rattle.ufs_model.specs.Posix.{posix}
 use Rattle.ufs_model.specs.declared.data.Ask.{Ask}
 use Rattle.ufs_model.specs.declared.data.Desc.{Desc}
 use Rattle.ufs_model.specs.declared.data.Reply.{Reply}
+use Rattle.ufs_names.specs.Calls.{IsTouched}
 use Rattle.ufs_names_stored.specs.Requests.{IsNamesRequest}
 use Rattle.ufs_names_stored.specs.Serving.{HasLeft, HasSettled}
 use Rattle.ufs_stored.specs.Parts.{Commits, Parts}
+use Rattle.ufs_stored.specs.Stored.{ArePartsOf}
 use Rattle.ufs_server.specs.Answered.{IsAnswered}
 use Rattle.ufs_server.specs.declared.touched.Touched.{Touched}
+
+-- the file that a request of names touches, of those that are there, if it does one
+pub record IsFileTouched (p : Parts) (ask : Ask) (touched : Option ℕ) : Type 0 where
+  pub all : (t : PosixTree) → ArePartsOf p t → IsAsk t ask → (f : ℕ) → IsTouched t ask f → is_some (map.get t.bytes f) ≡ true → touched ≡ Some f
+  pub there : IfSome touched (λ f. (t : PosixTree) → ArePartsOf p t → IsAsk t ask → is_some (map.get t.bytes f) ≡ true)
 
 -- its number, if there is one
 abbrev pub file_touched : Option Touched → Option ℕ

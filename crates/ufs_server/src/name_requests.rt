@@ -20,7 +20,7 @@ ghost use Rattle.ufs_stored.specs.Stamping.{ExplainsAllowed};
 ghost use Rattle.ufs_stored.specs.Stored.{ArePartsOf};
 ghost use Rattle.ufs_server.specs.Answered.{IsUntold};
 ghost use Rattle.ufs_server.specs.Served.{IsServedOn, KeepsPromise, MayServe, StaysOnDisk};
-ghost use Rattle.ufs_server.specs.Touching.{AreReadied, IsServedByNames, file_touched};
+ghost use Rattle.ufs_server.specs.Touching.{AreReadied, IsFileTouched, IsServedByNames, file_touched};
 
 use crate::disk_server::DiskServer;
 use crate::touched::Touched;
@@ -38,11 +38,13 @@ impl DiskServer {
         &mut self,
         door: &mut D,
         ask: Ask,
+        touched: Option<u32>,
         by: Actor,
         ticket: u64,
     ) -> Applied
         requires may { MayServe self.old (D.store door.old) ask }
         requires kind { IsOfNames ask }
+        requires touched { IsFileTouched self.old ask touched }
         requires stamped { D.stamps → ExplainsAllowed D.allows (D.store door.old) self.old }
         ensures served { IsServedOn self.old self.new (D.store door.old) (D.store door.new) ask by ticket result }
         ensures promise { IsTrue D.visible → KeepsPromise self.old self.new (D.store door.old) (D.store door.new) D.keeps ask result.entry }
@@ -50,15 +52,17 @@ impl DiskServer {
         ensures calm { tells_fault result.entry.reply ≡ false }
         ensures untold { IsUntold (D.store door.old) (D.store door.new) }
     {
-        self.make_room(door);
+        let geometry = door.geometry();
+        on_disk_law(&geometry);
+        let Ok(touched) = self.make_room(door, &ask, touched) else {
+            return out_of_memory(ask, by, ticket);
+        };
         file_request_law();
         told_law();
         served_names_law();
-        let geometry = door.geometry();
-        on_disk_law(&geometry);
         names_request_law(&geometry);
         self.gather(door);
-        let Ok(touched) = self.touch(&ask) else {
+        let Ok(touched) = self.touch(touched) else {
             return out_of_memory(ask, by, ticket);
         };
         let (fd, last) = (ask.fd, ask.last);

@@ -37,7 +37,7 @@ impl DiskServer {
     }
 
     // Of a request of the names.
-    fn touched_by_name(&self, ask: &Ask) -> Result<Option<u32>, Memory>
+    pub(crate) fn touched_by_name(&self, ask: &Ask) -> Result<Option<u32>, Memory>
         requires client { ask.now.client < 16 }
         requires one { ask.now.op ≢ op.Sync }
         requires kind { IsOfNames ask.now }

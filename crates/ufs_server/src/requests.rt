@@ -1,4 +1,4 @@
-ghost use Rattle.std.specs.Prelude.{ℕ, ◌≡◌, ◌<◌, ◌^◌, ◌++◌, ◌∷◌, [], List, Some, None, IsTrue, true, false};
+ghost use Rattle.std.specs.Prelude.{ℕ, ◌≡◌, ◌≢◌, ◌<◌, ◌^◌, ◌++◌, ◌∷◌, [], List, Some, None, IsTrue, true, false};
 ghost use Rattle.ufs_file.specs.Hand.{IsEntryOf};
 ghost use Rattle.ufs_model.specs.Asks.{IsAsk};
 ghost use Rattle.ufs_model.specs.Bounds.{IsBounded};
@@ -8,7 +8,9 @@ ghost use Rattle.ufs_model.specs.Posix.{posix};
 ghost use Rattle.ufs_model.specs.PosixTree.{PosixTree};
 ghost use Rattle.ufs_model.specs.declared.data.Entry.{Entry};
 ghost use Rattle.ufs_model.specs.declared.data.Excuse.{Excuse};
+ghost use Rattle.ufs_model.specs.declared.data.Op.TheVariants as op;
 ghost use Rattle.ufs_model.specs.declared.data.Reply.TheVariants as reply;
+ghost use Rattle.ufs_names.specs.Calls.{IsOfNames};
 ghost use Rattle.ufs_prefix.specs.Changes.{asks_commit};
 ghost use Rattle.ufs_store.specs.State.{geometry_of_store};
 ghost use Rattle.ufs_stored.specs.OnDisk.{IsExplainedBetween, IsOnDisk};
@@ -17,6 +19,7 @@ ghost use Rattle.ufs_stored.specs.Stamping.{ExplainsAllowed};
 ghost use Rattle.ufs_stored.specs.Stored.{ArePartsOf};
 ghost use Rattle.ufs_server.specs.Answered.{IsAnswered, TellsFaults, device_in, stopped_in};
 ghost use Rattle.ufs_server.specs.Away.{AwayStays, ForgetsNothing};
+ghost use Rattle.ufs_server.specs.Touching.{IsFileTouched};
 
 use crate::disk_server::DiskServer;
 use ufs_file::Applied;
@@ -30,13 +33,22 @@ impl DiskServer {
     /// 2^31. The caller gives the ticket, and says who serves. Names may be committed before a request of names, to
     /// make room for its notes, and everything where a request lacks blocks and some are dropped. Where the disk fails
     /// in that the request is served all the same: the store has stopped, and later replies tell it. A block that isn't
-    /// in memory afterwards wasn't before, and has the same bytes in the tree.
-    pub fn apply<D: Door>(&mut self, door: &mut D, ask: Ask, by: Actor, ticket: u64) -> Applied
+    /// in memory afterwards wasn't before, and has the same bytes in the tree. The caller tells which file a request of
+    /// the names touches, as `touched` does.
+    pub fn apply<D: Door>(
+        &mut self,
+        door: &mut D,
+        ask: Ask,
+        touched: Option<u32>,
+        by: Actor,
+        ticket: u64,
+    ) -> Applied
         requires client { ask.client < 16 }
         requires bounded { IsBounded ask.op }
         requires numbers { self.old.names.next < 2 ^ 31 }
         requires asked { (t : PosixTree) × ArePartsOf self.old t × IsAsk t ask }
         requires sound { IsSoundServer (geometry_of_store (D.store door.old)) (D.store door.old).unassigned.free self.old }
+        requires touched { IsOfNames ask → ask.op ≢ op.Sync → IsFileTouched self.old ask touched }
         requires stamped { D.stamps → ExplainsAllowed D.allows (D.store door.old) self.old }
         ensures entry { IsEntryOf ask by ticket result.entry }
         ensures served { is_excused result.entry.reply ≡ false → (t : PosixTree) → ArePartsOf self.old t → IsAsk t ask → IsAnswered t ask self.new result.entry.reply result.desc }
@@ -59,7 +71,7 @@ impl DiskServer {
         if is_sync(&ask.op) {
             return self.serve_sync(door, ask, by, ticket);
         }
-        self.serve_in_space(door, ask, by, ticket)
+        self.serve_in_space(door, ask, touched, by, ticket)
     }
 }
 

@@ -1,22 +1,26 @@
-ghost use Rattle.std.specs.Prelude.{◌≡◌, IsTrue, true, false};
+ghost use Rattle.std.specs.Prelude.{◌≡◌, ◌≢◌, ◌<◌, IfOk, IsTrue, true, false};
 ghost use Rattle.ufs_client.specs.Played.{tells_fault};
 ghost use Rattle.ufs_model.specs.Bounds.{IsBounded};
 ghost use Rattle.ufs_model.specs.History.{is_excused};
+ghost use Rattle.ufs_model.specs.declared.data.Op.TheVariants as op;
+ghost use Rattle.ufs_names.specs.Calls.{IsOfNames};
 ghost use Rattle.ufs_store.specs.State.{geometry_of_store};
 ghost use Rattle.ufs_stored.specs.Sound.{IsSoundServer};
 ghost use Rattle.ufs_stored.specs.Stamping.{ExplainsAllowed};
 ghost use Rattle.ufs_synced.specs.Laws.{HasNothingNoted};
 ghost use Rattle.ufs_server.specs.Answered.{IsUntold};
 ghost use Rattle.ufs_server.specs.Served.{IsServedOn, KeepsPromise, MayServe, Stays, StaysOnDisk};
+ghost use Rattle.ufs_server.specs.Touching.{IsFileTouched};
 
 use crate::disk_server::DiskServer;
 use crate::name_requests::{again, lacks_block};
 use crate::needed::file_asked;
-use ufs_file::Applied;
+use ufs_base::Memory;
+use ufs_file::{Applied, out_of_memory};
 use ufs_model::{Actor, Ask};
 use ufs_pouring::pour;
 use ufs_store::Door;
-use ufs_stored::always_law;
+use ufs_stored::{always_law, on_disk_law};
 use ufs_synced::reclaim_law;
 
 impl DiskServer {
@@ -26,10 +30,12 @@ impl DiskServer {
         &mut self,
         door: &mut D,
         ask: Ask,
+        touched: Option<u32>,
         by: Actor,
         ticket: u64,
     ) -> Applied
         requires may { MayServe self.old (D.store door.old) ask }
+        requires touched { IsOfNames ask → IsFileTouched self.old ask touched }
         requires bounded { IsBounded ask.op }
         requires stamped { D.stamps → ExplainsAllowed D.allows (D.store door.old) self.old }
         ensures served { IsServedOn self.old self.new (D.store door.old) (D.store door.new) ask by ticket result }
@@ -38,7 +44,7 @@ impl DiskServer {
         ensures untold { IsUntold (D.store door.old) (D.store door.new) }
     {
         let (fd, last) = (ask.fd, ask.last);
-        let first = self.serve_once(door, ask, by, ticket);
+        let first = self.serve_once(door, ask, touched, by, ticket);
         if !lacks_block(&first.entry.reply) {
             return first;
         }
@@ -46,12 +52,51 @@ impl DiskServer {
             return first;
         }
         self.reclaim(door);
-        self.serve_once(door, again(first, fd, last), by, ticket)
+        self.serve_again(door, again(first, fd, last), by, ticket)
+    }
+
+    // Serves it behind a call that changed the server: the file that it touches is looked up anew.
+    fn serve_again<D: Door>(&mut self, door: &mut D, ask: Ask, by: Actor, ticket: u64) -> Applied
+        requires may { MayServe self.old (D.store door.old) ask }
+        requires bounded { IsBounded ask.op }
+        requires stamped { D.stamps → ExplainsAllowed D.allows (D.store door.old) self.old }
+        ensures served { IsServedOn self.old self.new (D.store door.old) (D.store door.new) ask by ticket result }
+        ensures promise { IsTrue D.visible → KeepsPromise self.old self.new (D.store door.old) (D.store door.new) D.keeps ask result.entry }
+        ensures calm { tells_fault result.entry.reply ≡ false }
+        ensures untold { IsUntold (D.store door.old) (D.store door.new) }
+    {
+        let geometry = door.geometry();
+        on_disk_law(&geometry);
+        always_law(&geometry);
+        match self.file_named(&ask) {
+            Ok(touched) => self.serve_once(door, ask, touched, by, ticket),
+            Err(Memory) => out_of_memory(ask, by, ticket),
+        }
+    }
+
+    // The file that it touches, where it is one of the names.
+    fn file_named(&self, ask: &Ask) -> Result<Option<u32>, Memory>
+        requires client { ask.now.client < 16 }
+        requires one { ask.now.op ≢ op.Sync }
+        ensures { IfOk result (λ touched. IsOfNames ask.now → IsFileTouched self.now ask.now touched) }
+    {
+        match file_asked(ask) {
+            Some(_file) => Ok(None),
+            None => self.touched_by_name(ask),
+        }
     }
 
     // Serves it with the blocks that are free.
-    fn serve_once<D: Door>(&mut self, door: &mut D, ask: Ask, by: Actor, ticket: u64) -> Applied
+    fn serve_once<D: Door>(
+        &mut self,
+        door: &mut D,
+        ask: Ask,
+        touched: Option<u32>,
+        by: Actor,
+        ticket: u64,
+    ) -> Applied
         requires may { MayServe self.old (D.store door.old) ask }
+        requires touched { IsOfNames ask → IsFileTouched self.old ask touched }
         requires bounded { IsBounded ask.op }
         requires stamped { D.stamps → ExplainsAllowed D.allows (D.store door.old) self.old }
         ensures served { IsServedOn self.old self.new (D.store door.old) (D.store door.new) ask by ticket result }
@@ -62,7 +107,7 @@ impl DiskServer {
     {
         match file_asked(&ask) {
             Some(file) => self.serve_file(door, file, ask, by, ticket),
-            None => self.serve_names(door, ask, by, ticket),
+            None => self.serve_names(door, ask, touched, by, ticket),
         }
     }
 

@@ -8,7 +8,6 @@ use crate::commit_table::CommitTable;
 use crate::disk_server::DiskServer;
 use ufs_base::Memory;
 use ufs_extent::Extents;
-use ufs_model::Ask;
 use ufs_pouring::add_runs;
 
 /// A file that a request touches, with what is needed to note that the request emptied it.
@@ -22,7 +21,7 @@ pub(crate) struct Touched {
 }
 
 impl DiskServer {
-    ghost use Rattle.std.specs.Prelude.{ℕ, ◌≡◌, ◌<◌, [], false, Some, None, IsSome, IfOk};
+    ghost use Rattle.std.specs.Prelude.{ℕ, ◌≡◌, [], Some, None, IsSome, IfOk, IfSome};
     ghost use Rattle.std.specs.FinMap as map;
     ghost use Rattle.std.specs.FinSet as set;
     ghost use Rattle.ufs_bitmap.specs.Blocks.{BlockSet};
@@ -30,29 +29,21 @@ impl DiskServer {
     ghost use Rattle.ufs_durable.specs.State.{CommitState};
     ghost use Rattle.ufs_file.specs.Hand.{FileState};
     ghost use Rattle.ufs_layout.specs.declared.geometry.Geometry.{Geometry};
-    ghost use Rattle.ufs_model.specs.Asks.{IsAsk};
-    ghost use Rattle.ufs_model.specs.PosixTree.{PosixTree};
-    ghost use Rattle.ufs_names.specs.Calls.{IsOfNames, IsTouched};
     ghost use Rattle.ufs_names_stored.specs.Serving.{emptied_commits};
     ghost use Rattle.ufs_on_disk.specs.Syncs.{TellsTheSame};
-    ghost use Rattle.ufs_prefix.specs.Changes.{asks_commit};
     ghost use Rattle.ufs_stored.specs.Sound.{IsSoundServer};
-    ghost use Rattle.ufs_stored.specs.Stored.{ArePartsOf};
     ghost use Rattle.ufs_server.specs.Touching.{AreReadied, IsReadied, IsSettled, file_touched};
 
-    /// The live file that the request touches, if it does one. Of its commits something is known from now on.
-    pub(crate) fn touch(&mut self, ask: &Ask) -> Result<Option<Touched>, Memory>
-        requires client { ask.now.client < 16 }
-        requires kind { IsOfNames ask.now }
-        requires unsynced { asks_commit ask.now.op ≡ false }
-        requires asked { (t : PosixTree) × ArePartsOf self.old t × IsAsk t ask.now }
+    /// The file that a request touches, if it does one: of its commits something is known from now on.
+    pub(crate) fn touch(&mut self, touched: Option<u32>) -> Result<Option<Touched>, Memory>
+        requires here { IfSome touched (λ file. IsSome (map.get self.old.files file)) }
         requires sound { (g : Geometry) × (free : BlockSet) × IsSoundServer g free self.old }
         ensures rest { self.new ≡ record self.old { commits = self.new.commits } }
         ensures same { TellsTheSame self.old self.new.commits }
         ensures readied { IfOk result (AreReadied self.new.commits) }
-        ensures alone { IfOk result (λ touched. (t : PosixTree) → ArePartsOf self.old t → IsAsk t ask.now → (f : ℕ) → IsTouched t ask.now f → IsSome (map.get self.old.files f) → file_touched touched ≡ Some f) }
+        ensures file { IfOk result (λ ready. file_touched ready ≡ touched) }
     {
-        let Some(file) = self.names.needs_one(ask)? else {
+        let Some(file) = touched else {
             return Ok(None);
         };
         self.files.are_numbered();
