@@ -1,5 +1,7 @@
 -- A server on a disk goes on by a request of the names.
-use Rattle.std.proofs.Common.{◌≡◌, ℕ, inl, inr, List, [], ◌∷◌, ◌++◌, Bool, true, false, Option, ap, sym, refl, ◌∙◌, subst}
+use Rattle.std.proofs.Common.{◌≡◌, ℕ, inl, inr, List, [], ◌∷◌, ◌++◌, Bool, true, false, Option, None, Some, Result, Ok, Err, is_some, ap, sym, refl, ◌∙◌, subst}
+use Rattle.std.specs.Prelude.{IfOk, IfSome, IsSome}
+use Rattle.std.specs.FinMap as map
 use Rattle.ufs_file.specs.Hand.{IsEntryOf}
 use Rattle.ufs_file.specs.declared.hand.Applied.{Applied}
 use Rattle.ufs_layout.specs.declared.geometry.Geometry.{Geometry}
@@ -14,6 +16,7 @@ use Rattle.ufs_model.specs.declared.data.Desc.{Desc}
 use Rattle.ufs_model.specs.declared.data.Entry.{Entry}
 use Rattle.ufs_model.specs.declared.data.Excuse.{Excuse}
 use Rattle.ufs_model.specs.declared.data.Reply.TheVariants as reply
+use Rattle.ufs_names.specs.Calls.{IsTouched}
 use Rattle.ufs_names_stored.specs.Laws.{RequestsAreOnDisk, RequestsAreSound}
 use Rattle.ufs_names_stored.specs.Requests.{IsNamesRequest}
 use Rattle.ufs_prefix.specs.Changes.{asks_commit}
@@ -27,9 +30,10 @@ use Rattle.ufs_stored.specs.Stored.{ArePartsOf}
 use Rattle.ufs_stored.proofs.FileEntries.{served_goes}
 use Rattle.ufs_server.specs.Away.{ForgetsNothing}
 use Rattle.ufs_server.specs.Served.{IsServedOn, KeepsPromise, StaysOnDisk}
-use Rattle.ufs_server.specs.Touching.{IsServedByNames}
+use Rattle.ufs_server.specs.Touching.{IsFileTouched, IsServedByNames}
 use Rattle.ufs_server.proofs.Away.{away_named, forgets_named, forgets_none}
 use Rattle.ufs_server.proofs.Staying.{promise_at}
+use Rattle.ufs_server.proofs.Touch.{here_live, live_here}
 
 -- The parts of which less is told are those of the same trees.
 pub back_parts : (one two : Parts) → two ≡ record one { commits = two.commits } → (u : PosixTree) → ArePartsOf two u → ArePartsOf one u
@@ -37,6 +41,37 @@ back_parts one two known u is = of (subst (λ (x : Parts). ArePartsOf x u) known
   where
     of : ArePartsOf (record one { commits = two.commits }) u → ArePartsOf one u
     of a = record { names = a.names; files = a.files; inodes = a.inodes; here = a.here }
+
+-- So are those that have another pool.
+pub back_pool : (one two : Parts) → two ≡ record one { pool = two.pool } → (u : PosixTree) → ArePartsOf two u → ArePartsOf one u
+back_pool one two pooled u is = of (subst (λ (x : Parts). ArePartsOf x u) pooled is)
+  where
+    of : ArePartsOf (record one { pool = two.pool }) u → ArePartsOf one u
+    of a = record { names = a.names; files = a.files; inodes = a.inodes; here = a.here }
+
+-- ---- the file that it touches
+
+pub told_of : {E : Type 0} (p : Parts) (ask : Ask) (r : Result (Option ℕ) E)
+    → IfOk r (λ touched. (t : PosixTree) → ArePartsOf p t → IsAsk t ask → (f : ℕ) → IsTouched t ask f → is_some (map.get t.bytes f) ≡ true → touched ≡ Some f)
+    → IfOk r (λ touched. IfSome touched (λ f. (t : PosixTree) → ArePartsOf p t → IsAsk t ask → is_some (map.get t.bytes f) ≡ true)) → IfOk r (IsFileTouched p ask)
+told_of p ask (Ok touched) all there = record { all = all; there = there }
+told_of p ask (Err e) all there = all
+
+module _ (p mid : Parts) (ask : Ask) (touched : Option ℕ) (told : IsFileTouched p ask touched) (pooled : mid ≡ record p { pool = mid.pool }) where
+  -- it is here, whatever is in the pool
+  pub touched_here : (t : PosixTree) → ArePartsOf p t → IsAsk t ask → IfSome touched (λ f. IsSome (map.get mid.files f))
+  touched_here t parts asked = by touched told.there
+    where
+      by : (o : Option ℕ) → IfSome o (λ f. (t : PosixTree) → ArePartsOf p t → IsAsk t ask → is_some (map.get t.bytes f) ≡ true) → IfSome o (λ f. IsSome (map.get mid.files f))
+      by None there = there
+      by (Some f) there = ap (λ (q : Parts). is_some (map.get q.files f)) pooled ∙ live_here p t parts f (there t parts asked)
+
+  -- and it is the one of those here, whatever is known of commits
+  pub touched_alone : (new : Parts) → new ≡ record mid { commits = new.commits } → (t : PosixTree) → ArePartsOf new t → IsAsk t ask → (f : ℕ) → IsTouched t ask f → IsSome (map.get new.files f) → touched ≡ Some f
+  touched_alone new known t parts asked f is here =
+      let was = back_pool p mid pooled t (back_parts mid new known t parts) in
+      let there : is_some (map.get p.files f) ≡ true = sym (ap (λ (q : Parts). is_some (map.get q.files f)) (known ∙ (λ i. record (pooled i) { commits = new.commits }))) ∙ here in
+      told.all t was asked f is (here_live p t was f there)
 
 -- ---- the request
 

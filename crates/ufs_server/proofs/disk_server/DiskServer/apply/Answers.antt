@@ -1,3 +1,7 @@
+use Rattle.std.proofs.Common.{◌≡◌, ◌≢◌, true, false, ap, sym, ◌∙◌}
+use Rattle.ufs_model.specs.declared.data.Op.{Op}
+use Rattle.ufs_model.specs.declared.data.Op.TheVariants as op
+use Rattle.ufs_prefix.specs.Changes.{asks_commit}
 use Rattle.ufs_server.proofs.Beside.{beside_told, no_device}
 use Rattle.ufs_server.proofs.disk_server.DiskServer.apply.Goals as goal
 
@@ -16,3 +20,11 @@ returns-clause-told g c =
 
 pub returns-clause-still : goal.returns-clause-still
 returns-clause-still g c fault is = no_device c.serve_in_space.result.entry.reply c.serve_in_space.ensures.calm
+
+-- ---- the file that is told
+
+no_sync : (request : Op) → asks_commit request ≡ false → request ≢ op.Sync
+no_sync request unsynced is = let clash : true ≡ false = sym (ap asks_commit is) ∙ unsynced in cc
+
+pub serve_in_space-requires-clause-touched : goal.serve_in_space-requires-clause-touched
+serve_in_space-requires-clause-touched g c kind = c.requires.touched kind (no_sync c.args.ask.op (sym c.is_sync.ensures ∙ c.if-is_sync.false))

@@ -2,6 +2,7 @@ use Rattle.std.proofs.Common.{subst, sym, arith}
 use Rattle.std.proofs.lemmas.Grind.{common_steps}
 use Rattle.ufs_stored.specs.Parts.{Parts}
 use Rattle.ufs_server.specs.Served.{StaysOnDisk}
+use Rattle.ufs_server.proofs.NamesGoOn.{told_of}
 use Rattle.ufs_server.proofs.Staying.{named_or_not}
 use Rattle.ufs_stored.specs.Stamping.{ExplainsAllowed}
 use Rattle.ufs_server.proofs.disk_server.DiskServer.make_room.Goals as goal
@@ -20,3 +21,8 @@ returns-clause-promise g c visible =
 
 pub sync_names-told-requires-clause-stamped : goal.sync_names-told-requires-clause-stamped
 sync_names-told-requires-clause-stamped g c stamps = subst (ExplainsAllowed g.D.Door.allows (g.D.Door.store c.args.door.now)) (sym c.is_crowded.ensures.same) (c.requires.stamped stamps)
+
+pub returns-clause-touched : goal.returns-clause-touched
+returns-clause-touched g c =
+    let by = c.touched_by_name.ensures in
+    told_of c.sync_names-told.new.self c.args.ask.now c.touched_by_name.result by.all by.there

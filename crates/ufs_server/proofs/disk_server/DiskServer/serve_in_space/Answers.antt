@@ -19,8 +19,8 @@ excused g c = c.lacks_block.ensures c.if-not-lacks_block.false
 same : (g : Over) (c : After-again g) → c.again.result ≡ c.args.ask
 same g c = c.again.ensures c.args.ask c.args.by c.args.ticket c.serve_once-first.ensures.served.entry (c.serve_once-first.ensures.served.desc (excused g c)) refl refl
 
-pub serve_once-requires-clause-may : goal.serve_once-requires-clause-may
-serve_once-requires-clause-may g c =
+pub serve_again-requires-clause-may : goal.serve_again-requires-clause-may
+serve_again-requires-clause-may g c =
     let may = c.requires.may in
     let a = may.asked in
     let parts = c.reclaim.ensures.stays.same a.0 (c.serve_once-first.ensures.served.unchanged (excused g c) a.0 a.1) in
@@ -29,26 +29,26 @@ serve_once-requires-clause-may g c =
     subst (MayServe c.reclaim.new.self (g.D.Door.store c.reclaim.new.door)) (sym (same g c))
     (record { client = may.client; numbers = omega (arith, may.numbers, was, now); unsynced = may.unsynced; asked = (a.0, parts, a.2); sound = c.reclaim.ensures.stays.sound })
 
-pub serve_once-requires-clause-bounded : goal.serve_once-requires-clause-bounded
-serve_once-requires-clause-bounded g c = subst (λ (a : Ask). IsBounded a.op) (sym (same g c)) c.requires.bounded
+pub serve_again-requires-clause-bounded : goal.serve_again-requires-clause-bounded
+serve_again-requires-clause-bounded g c = subst (λ (a : Ask). IsBounded a.op) (sym (same g c)) c.requires.bounded
 
 pub returns : goal.returns
 returns g c =
     let back = g.D.Door.store c.reclaim.new.door in
-    let new = g.D.Door.store c.serve_once.new.door in
-    let out = c.serve_once.result in
+    let new = g.D.Door.store c.serve_again.new.door in
+    let out = c.serve_again.result in
     let first = c.serve_once-first.ensures in
     let e = c.lacks_block.ensures c.if-not-lacks_block.false in
     let ask : c.again.result ≡ c.args.ask = c.again.ensures c.args.ask c.args.by c.args.ticket first.served.entry (first.served.desc e) refl refl in
     let front = excused_stays first.served e first.untold in
     let stays = stays_joined front c.reclaim.ensures.stays in
     record {
-      served = served_behind stays (subst (λ (a : Ask). IsServedOn c.reclaim.new.self c.serve_once.new.self back new a c.args.by c.args.ticket out) ask c.serve_once.ensures.served);
+      served = served_behind stays (subst (λ (a : Ask). IsServedOn c.reclaim.new.self c.serve_again.new.self back new a c.args.by c.args.ticket out) ask c.serve_again.ensures.served);
       promise = λ visible.
           promise_behind stays (on_disk_joined front (first.excused visible e) (c.reclaim.ensures.promise visible))
-          (subst (λ (a : Ask). KeepsPromise c.reclaim.new.self c.serve_once.new.self back new g.D.Door.keeps a out.entry) ask (c.serve_once.ensures.promise visible));
-      calm = c.serve_once.ensures.calm;
-      untold = untold_joined _ back new stays.untold c.serve_once.ensures.untold;
+          (subst (λ (a : Ask). KeepsPromise c.reclaim.new.self c.serve_again.new.self back new g.D.Door.keeps a out.entry) ask (c.serve_again.ensures.promise visible));
+      calm = c.serve_again.ensures.calm;
+      untold = untold_joined _ back new stays.untold c.serve_again.ensures.untold;
     }
 
 -- ---- what a crash may leave meanwhile
@@ -59,8 +59,8 @@ reclaim-requires-clause-stamped g c stamps =
     let e = c.requires.stamped stamps in
     go_on _ _ _ _ _ first.served.sectors e ((first.excused (g.met.D.Door.sees stamps) (c.lacks_block.ensures c.if-not-lacks_block.false)).on_disk e.start e.history e.on_disk)
 
-pub serve_once-requires-clause-stamped : goal.serve_once-requires-clause-stamped
-serve_once-requires-clause-stamped g c stamps =
+pub serve_again-requires-clause-stamped : goal.serve_again-requires-clause-stamped
+serve_again-requires-clause-stamped g c stamps =
     let first = c.serve_once-first.ensures in
     let then = c.reclaim.ensures in
     let e = c.requires.stamped stamps in

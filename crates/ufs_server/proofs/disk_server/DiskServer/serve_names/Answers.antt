@@ -10,7 +10,7 @@ use Rattle.ufs_store.specs.State.{geometry_of_store}
 use Rattle.ufs_stored.specs.Parts.{Parts}
 use Rattle.ufs_stored.specs.Sound.{IsSoundServer}
 use Rattle.ufs_stored.specs.Stored.{ArePartsOf}
-use Rattle.ufs_server.proofs.NamesGoOn.{DidApply, back_parts, did_promise, did_serve, did_stay}
+use Rattle.ufs_server.proofs.NamesGoOn.{DidApply, did_promise, did_serve, did_stay, touched_alone, touched_here}
 use Rattle.ufs_server.proofs.Staying.{excused_promise, memory_served, on_disk_gathered, on_disk_told, served_behind, stays_gathered, stays_told}
 use Rattle.ufs_server.proofs.disk_server.DiskServer.serve_names.Goals as goal
 use Rattle.ufs_server.proofs.disk_server.DiskServer.serve_names.Goals.{After-touched-3-1}
@@ -18,11 +18,10 @@ use Rattle.ufs_server.proofs.disk_server.DiskServer.serve_names.Given.{Over}
 
 -- ---- the file that is touched
 
-pub touch-requires-clause-asked : goal.touch-requires-clause-asked
-touch-requires-clause-asked g c =
+pub touch-requires-clause-here : goal.touch-requires-clause-here
+touch-requires-clause-here g c =
     let a = c.requires.may.asked in
-    let moved = c.gather.ensures in
-    (a.0, (stays_gathered c.make_room.ensures.stays c.file_request_law.ensures.free_sound moved.moved moved.rest moved.store).same a.0 a.1, a.2)
+    touched_here c.make_room.new.self c.gather.new.self c.args.ask c.in-Ok.touched c.in-Ok.ensures.touched c.gather.ensures.rest a.0 (c.make_room.ensures.stays.same a.0 a.1) a.2
 
 pub touch-requires-clause-sound : goal.touch-requires-clause-sound
 touch-requires-clause-sound g c =
@@ -33,16 +32,28 @@ touch-requires-clause-sound g c =
 
 pub returns-in_default : goal.returns-in_default
 returns-in_default g c =
+    let room = c.make_room.ensures in
+    let memory = c.out_of_memory.ensures in
+    record {
+      served = memory_served room.stays memory.entry memory.reply memory.desc;
+      promise = λ visible. excused_promise (room.promise visible) c.geometry-geometry.result c.on_disk_law.ensures.excused (room.stays.geometry ∙ sym c.geometry-geometry.ensures.is) (ap is_excused memory.reply);
+      excused = λ visible e. room.promise visible;
+      calm = ap tells_fault memory.reply;
+      untold = room.stays.untold;
+    }
+
+pub returns-in_default-touch : goal.returns-in_default-touch
+returns-in_default-touch g c =
     let moved = c.gather.ensures in
     let more = c.touch.ensures in
     let law = c.file_request_law.ensures in
-    let memory = c.out_of_memory.ensures in
+    let memory = c.out_of_memory-in_default-touch.ensures in
     let stays = stays_told (stays_gathered c.make_room.ensures.stays law.free_sound moved.moved moved.rest moved.store) c.told_law.ensures.sound more.rest more.same in
     record {
       served = memory_served stays memory.entry memory.reply memory.desc;
       promise = λ visible.
           excused_promise (on_disk_told (on_disk_gathered (c.make_room.ensures.promise visible) law.free moved.moved moved.rest moved.store) c.told_law.ensures.on_disk more.rest more.same)
-          c.geometry-geometry.result c.on_disk_law.ensures.excused (ap geometry_of_store moved.store ∙ sym c.geometry-geometry.ensures.is) (ap is_excused memory.reply);
+          c.geometry-geometry.result c.on_disk_law.ensures.excused (stays.geometry ∙ sym c.geometry-geometry.ensures.is) (ap is_excused memory.reply);
       excused = λ visible e. on_disk_told (on_disk_gathered (c.make_room.ensures.promise visible) law.free moved.moved moved.rest moved.store) c.told_law.ensures.on_disk more.rest more.same;
       calm = ap tells_fault memory.reply;
       untold = stays.untold;
@@ -65,7 +76,8 @@ apply_names-first-requires-clause-sound g c =
 
 pub apply_names-first-requires-clause-alone : goal.apply_names-first-requires-clause-alone
 apply_names-first-requires-clause-alone g c t parts asked f is here =
-    c.in-Ok.ensures.alone t (back_parts c.gather.new.self c.touch.new.self c.touch.ensures.rest t parts) asked f is (ap (λ (p : Parts). is_some (map.get p.files f)) (sym c.touch.ensures.rest) ∙ here)
+    c.in-Ok-touch.ensures.file
+    ∙ touched_alone c.make_room.new.self c.gather.new.self c.args.ask c.in-Ok.touched c.in-Ok.ensures.touched c.gather.ensures.rest c.touch.new.self c.touch.ensures.rest t parts asked f is here
 
 pub returns-then-not-lacks_block : goal.returns-then-not-lacks_block
 returns-then-not-lacks_block g c =
@@ -80,7 +92,7 @@ returns-then-not-lacks_block g c =
     record { entry_is = out.entry; served = out.served; fits = out.fits; unchanged = out.unchanged; desc_is = out.desc } in
     record {
       served = served_behind stays (did_serve did s1 stays.sound c.served_names_law.ensures.sound (c.requires.may.asked.0, stays.same c.requires.may.asked.0 c.requires.may.asked.1, c.requires.may.asked.2));
-      promise = λ visible. did_promise did s1 stays.sound (kept visible) c.names_request_law.ensures c.on_disk_law.ensures.excused (ap geometry_of_store moved.store ∙ sym c.geometry-geometry.ensures.is) c.requires.may.unsynced;
+      promise = λ visible. did_promise did s1 stays.sound (kept visible) c.names_request_law.ensures c.on_disk_law.ensures.excused (stays.geometry ∙ sym c.geometry-geometry.ensures.is) c.requires.may.unsynced;
       excused = λ visible. did_stay did s1 stays.sound (kept visible);
       calm = out.calm;
       untold = stays.untold;
@@ -122,10 +134,11 @@ apply_names-requires-clause-sound g c =
 
 pub apply_names-requires-clause-alone : goal.apply_names-requires-clause-alone
 apply_names-requires-clause-alone g c t parts asked f is here =
-    let before = back_parts c.gather.new.self c.touch.new.self c.touch.ensures.rest t (subst (λ (p : Parts). ArePartsOf p t) (same_parts g c) parts) in
+    let then : ArePartsOf c.touch.new.self t = subst (λ (p : Parts). ArePartsOf p t) (same_parts g c) parts in
     let touches : IsTouched t c.args.ask f = subst (λ (a : Ask). IsTouched t a f) (same_ask g c) is in
-    let there : IsSome (map.get c.gather.new.self.files f) = ap (λ (p : Parts). is_some (map.get p.files f)) (sym (same_parts g c ∙ c.touch.ensures.rest)) ∙ here in
-    c.in-Ok.ensures.alone t before (subst (IsAsk t) (same_ask g c) asked) f touches there
+    let there : IsSome (map.get c.touch.new.self.files f) = ap (λ (p : Parts). is_some (map.get p.files f)) (sym (same_parts g c)) ∙ here in
+    c.in-Ok-touch.ensures.file
+    ∙ touched_alone c.make_room.new.self c.gather.new.self c.args.ask c.in-Ok.touched c.in-Ok.ensures.touched c.gather.ensures.rest c.touch.new.self c.touch.ensures.rest t then (subst (IsAsk t) (same_ask g c) asked) f touches there
 
 pub returns : goal.returns
 returns g c =
@@ -144,7 +157,7 @@ returns g c =
     (record { entry_is = out.entry; served = out.served; fits = out.fits; unchanged = out.unchanged; desc_is = out.desc }) in
     record {
       served = served_behind stays (did_serve did s1 stays.sound c.served_names_law.ensures.sound (c.requires.may.asked.0, stays.same c.requires.may.asked.0 c.requires.may.asked.1, c.requires.may.asked.2));
-      promise = λ visible. did_promise did s1 stays.sound (kept visible) c.names_request_law.ensures c.on_disk_law.ensures.excused (ap geometry_of_store moved.store ∙ sym c.geometry-geometry.ensures.is) c.requires.may.unsynced;
+      promise = λ visible. did_promise did s1 stays.sound (kept visible) c.names_request_law.ensures c.on_disk_law.ensures.excused (stays.geometry ∙ sym c.geometry-geometry.ensures.is) c.requires.may.unsynced;
       excused = λ visible. did_stay did s1 stays.sound (kept visible);
       calm = out.calm;
       untold = stays.untold;

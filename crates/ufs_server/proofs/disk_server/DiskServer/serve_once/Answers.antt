@@ -8,3 +8,6 @@ serve_file-requires-clause-here g c = let a = c.requires.may.asked in asked_here
 
 pub returns-in-Some-clause-untold : goal.returns-in-Some-clause-untold
 returns-in-Some-clause-untold g c = inl (record { faults = ap (λ (s : StoreState). s.faults) c.serve_file.ensures.store; stop = ap (λ (s : StoreState). s.stop) c.serve_file.ensures.store })
+
+pub serve_names-requires-clause-touched : goal.serve_names-requires-clause-touched
+serve_names-requires-clause-touched g c = c.requires.touched c.in-None.ensures.names
