@@ -26,4 +26,3 @@ pub returns-in-None : goal.returns-in-None
 returns-in-None c =
     let by = c.touched_by_name.ensures in
     weaker c.args.self.now c.args.ask.now c.touched_by_name.result (told_of c.args.self.now c.args.ask.now c.touched_by_name.result by.all by.there)
-
