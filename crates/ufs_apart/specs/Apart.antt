@@ -1,5 +1,5 @@
 -- The hands of a session that are apart from the one that draws, and the hand that they make when they come together.
-use Rattle.std.specs.Prelude.{ℕ, zero, suc, ◌≡◌, List, [], ◌∷◌, ◌++◌, Option, refl}
+use Rattle.std.specs.Prelude.{ℕ, zero, suc, ◌+◌, ◌≡◌, List, [], ◌∷◌, ◌++◌, Option, Some, None, refl}
 use Rattle.std.specs.Coded.{Coded, code_by, coded×, coded_ℕ, coded_list}
 use Rattle.std.specs.FinMap as fin
 use Rattle.ufs_model.specs.declared.data.Entry.{Entry}
@@ -14,14 +14,14 @@ use Rattle.ufs_one_hand.specs.declared.pools.TheConstants.{PRIMARY_POOL}
 
 -- ---- the parts that every request joins
 
--- so many clients, each with what it last asked
-abbrev pub client_names : ℕ → List PartName
-client_names zero = []
-client_names (suc n) = client_names n ++ part.Client n ∷ part.Asked n ∷ []
+-- of so many clients from the first on, each one's and what it last asked
+abbrev pub client_names : (first many : ℕ) → List PartName
+client_names first zero = []
+client_names first (suc n) = client_names first n ++ part.Client (first + n) ∷ part.Asked (first + n) ∷ []
 
 -- those, the pool, the names and the store
-abbrev pub part_names : ℕ → List PartName
-part_names clients = client_names clients ++ part.File PRIMARY_POOL ∷ part.Names ∷ part.Store ∷ []
+abbrev pub part_names : (first many : ℕ) → List PartName
+part_names first many = client_names first many ++ part.File PRIMARY_POOL ∷ part.Names ∷ part.Store ∷ []
 
 -- ---- splits and joins, one after another
 
@@ -42,15 +42,23 @@ joined v (u ∷ us) = both_of (joined v us) u
 
 -- ---- what is apart
 
--- for so many clients: the hands of the parts that every request joins, and those of files
+-- the hands of the parts that every request joins, and those of files
 pub record ApartState : Type 0 where
-  pub clients : ℕ
   pub parts : List View
   pub files : FileViews
 
 abbrev pub apart_code : Coded ApartState
-apart_code = code_by (ℕ × (List View × FileViews)) (coded× coded_ℕ (coded× (coded_list view_code) (fin.code coded_ℕ view_code)))
-    (λ a. (a.clients, (a.parts, a.files))) (λ p. record { clients = p.0; parts = p.1.0; files = p.1.1 }) (λ _. refl)
+apart_code = code_by (List View × FileViews) (coded× (coded_list view_code) (fin.code coded_ℕ view_code)) (λ a. (a.parts, a.files)) (λ p. record { parts = p.0; files = p.1 }) (λ _. refl)
+
+-- a file's place has this hand, or none
+abbrev pub placed : FileViews → (file : ℕ) → Option View → FileViews
+placed files file None = fin.remove files file
+placed files file (Some u) = fin.insert files file u
+
+-- the hands that are in their places
+abbrev pub filled : List (ℕ × Option View) → FileViews
+filled [] = fin.empty
+filled (e ∷ es) = placed (filled es) e.0 e.1
 
 -- The file's part went from the hand into one of its own.
 pub record IsSplit (file : ℕ) (v w : View) (a b : ApartState) : Type 0 where

@@ -9,7 +9,7 @@ ghost use Rattle.ufs_sound.specs.Owned.{count};
 ghost use Rattle.ufs_sound.specs.Parts.{HoldsPart, View, both_of, given_of, kept_of};
 ghost use Rattle.ufs_hand.specs.Session.{HoldsPool};
 ghost use Rattle.ufs_one_hand.specs.OneHand.{HasSession};
-ghost use Rattle.ufs_apart.specs.Apart.{AreApart, IsBeside, IsSplit, given_all, joined, kept_all, part_names};
+ghost use Rattle.ufs_apart.specs.Apart.{AreApart, IsBeside, IsSplit, filled, given_all, joined, kept_all, part_names};
 
 use std::alloc::Global;
 use std::collections::BTreeMap;
@@ -24,55 +24,52 @@ use ufs_one_hand::{OneHand, PRIMARY_POOL};
 /// of files, by the files' numbers.
 #[derive(Drop)]
 pub struct Apart<N: Naming> {
-    clients: u8,
     parts: Vec<Hand<N>>,
-    files: BTreeMap<u32, Hand<N>>,
+    // The hand of each file that is apart; a place stays while its hand is with the one that draws.
+    files: BTreeMap<u32, Option<Hand<N>>>,
 }
 
 impl<N: Naming> Model for Apart<N> {
     ghost use Rattle.std.specs.Prelude.{◌+◌, ◌*◌, ◌≤◌};
-    ghost use Rattle.std.specs.Ordering.{nat_cmp};
     ghost use Rattle.std.specs.Vec.{vec_capacity};
     ghost use Rattle.ufs_base.specs.declared.limits.TheConstants.{MAX_CLIENTS};
-    ghost use Rattle.ufs_calls.specs.Seen.{seen};
-    ghost use Rattle.ufs_apart.specs.Apart.{ApartState, apart_code};
+    ghost use Rattle.ufs_apart.specs.Apart.{ApartState, apart_code, filled};
 
     ghost Value = { ApartState };
 
     ghost coded = { apart_code };
 
-    ghost view = { λ a. record { clients = a.clients; parts = a.parts.items; files = seen nat_cmp (λ k. k) a.files } };
+    ghost view = { λ a. record { parts = a.parts.items; files = filled a.files.entries } };
 
-    ghost invariant = { λ a. (a.clients ≤ MAX_CLIENTS) × (2 * a.clients + 3 ≤ vec_capacity a.parts) };
+    ghost invariant = { λ a. 2 * MAX_CLIENTS + 3 ≤ vec_capacity a.parts };
 }
 
 impl<N: Naming> Apart<N> {
-    /// Nothing is apart, and there is memory for the parts of so many clients.
-    pub fn new(alloc: Global, clients: u8) -> Result<Apart<N>, Memory>
-        requires { clients ≤ MAX_CLIENTS }
-        ensures clients { IfOk result (λ a. a.clients ≡ clients) }
+    /// Nothing is apart.
+    pub fn new(alloc: Global) -> Result<Apart<N>, Memory>
         ensures parts { IfOk result (λ a. a.parts ≡ []) }
         ensures files { IfOk result (λ a. a.files ≡ fin.empty) }
     {
-        let parts = Vec::with_capacity(alloc, 2 * clients as usize + 3)?;
+        let parts = Vec::with_capacity(alloc, 2 * MAX_CLIENTS + 3)?;
         Ok(Apart {
-            clients,
             parts,
             files: BTreeMap::new(alloc),
         })
     }
 
-    /// Splits off the parts that every request joins. Takes no memory.
-    pub fn part(&mut self, hand: &mut OneHand<N>)
+    /// Splits off the parts that every request joins: of so many clients from the first on, each one's and what it last asked;
+    /// the pool, the names and the store. Takes no memory.
+    pub fn part(&mut self, hand: &mut OneHand<N>, first: u8, many: u8)
         requires none { self.old.parts ≡ [] }
+        requires clients { first + many ≤ MAX_CLIENTS }
         requires session { (history : List Entry) × (asked : Option (ℕ × Op)) × HasSession N.start history asked hand.old }
-        ensures kept { hand.new ≡ kept_all (part_names self.old.clients) hand.old }
-        ensures given { self.new ≡ record self.old { parts = given_all (part_names self.old.clients) hand.old } }
+        ensures kept { hand.new ≡ kept_all (part_names first many) hand.old }
+        ensures given { self.new ≡ record self.old { parts = given_all (part_names first many) hand.old } }
         ensures apart { (history : List Entry) (asked : Option (ℕ × Op)) → AreApart N.start history asked hand.old self.old → AreApart N.start history asked hand.new self.new }
         ensures beside { IsBeside (joined hand.old self.old.parts) (joined hand.new self.new.parts) }
     {
-        for client in 0..self.clients {
-            self.split_client(hand, client);
+        for k in 0..many {
+            self.split_client(hand, first + k);
         }
         self.split(hand, PartName::File(PRIMARY_POOL));
         self.split(hand, PartName::Names);
@@ -112,23 +109,13 @@ impl<N: Naming> Apart<N> {
         ensures beside { (history : List Entry) (asked : Option (ℕ × Op)) → AreApart N.start history asked hand.old self.old → IsBeside (joined hand.old self.old.parts) (joined hand.new self.new.parts) }
         ensures held { (history : List Entry) (asked : Option (ℕ × Op)) → AreApart N.start history asked hand.old self.old → (file : ℕ) → is_some (fin.get (tree_after N.start.tree history).bytes file) ≡ true → 1 ≤ count eqb file (joined hand.new self.new.parts).files }
     {
-        while let Some(file) = self.first_file() {
-            self.join_file(hand, file);
-        }
-    }
-
-    /// Whether the file is apart.
-    pub fn has_file(&self, file: u32) -> bool
-        ensures { result ≡ is_some (fin.get self.now.files file) }
-    {
-        self.files.contains_key(&file)
+        join_places(&mut self.files, hand);
     }
 
     /// Splits off a file that the hand has. It stays with the hand where memory is wanting, and where it has the number of a
-    /// pool.
+    /// pool. A file that is apart stays so.
     pub fn split_file(&mut self, hand: &mut OneHand<N>, file: u32)
-        requires here { 1 ≤ count eqb file hand.old.files }
-        requires apart { fin.get self.old.files file ≡ None }
+        requires here { fin.get self.old.files file ≡ None → 1 ≤ count eqb file hand.old.files }
         ensures ends { IsSplit file hand.old hand.new self.old self.new ⊎ (hand.new ≡ hand.old) × (self.new ≡ self.old) }
         ensures apart { (history : List Entry) (asked : Option (ℕ × Op)) → AreApart N.start history asked hand.old self.old → AreApart N.start history asked hand.new self.new }
         ensures beside { (history : List Entry) (asked : Option (ℕ × Op)) → AreApart N.start history asked hand.old self.old → IsBeside (joined hand.old self.old.parts) (joined hand.new self.new.parts) }
@@ -139,9 +126,18 @@ impl<N: Naming> Apart<N> {
         self.place_file(hand, file);
     }
 
+    /// Frees the place of a file that is no more, if its hand isn't in it.
+    pub fn forget(&mut self, file: u32)
+        ensures { self.new ≡ self.old }
+    {
+        if let Some(None) = self.files.get(&file) {
+            self.files.remove(&file);
+        }
+    }
+
     // The client, and what it last asked.
     fn split_client(&mut self, hand: &mut OneHand<N>, client: u8)
-        requires room { length self.old.parts + 2 ≤ 2 * self.old.clients + 3 }
+        requires room { length self.old.parts + 2 ≤ 2 * MAX_CLIENTS + 3 }
         requires client { 1 ≤ count eqb client hand.old.clients }
         requires asked { 1 ≤ count eqb client hand.old.asked }
         ensures kept { hand.new ≡ kept_all (part.Client client ∷ part.Asked client ∷ []) hand.old }
@@ -153,7 +149,7 @@ impl<N: Naming> Apart<N> {
 
     // One part goes into a hand of its own.
     fn split(&mut self, hand: &mut OneHand<N>, part: PartName)
-        requires room { length self.old.parts < 2 * self.old.clients + 3 }
+        requires room { length self.old.parts < 2 * MAX_CLIENTS + 3 }
         requires held { HoldsPart part hand.old ⊎ HoldsPool part hand.old }
         ensures kept { hand.new ≡ kept_of part hand.old }
         ensures given { self.new ≡ record self.old { parts = self.old.parts ++ given_of part hand.old ∷ [] } }
@@ -162,18 +158,23 @@ impl<N: Naming> Apart<N> {
         self.parts.push_reserved(other);
     }
 
-    // The room is made before the file is split off.
+    // A file that has no place yet gets one; the room is made before it is split off.
     fn place_file(&mut self, hand: &mut OneHand<N>, file: u32)
-        requires here { 1 ≤ count eqb file hand.old.files }
-        requires apart { fin.get self.old.files file ≡ None }
+        requires here { fin.get self.old.files file ≡ None → 1 ≤ count eqb file hand.old.files }
         ensures { IsSplit file hand.old hand.new self.old self.new ⊎ (hand.new ≡ hand.old) × (self.new ≡ self.old) }
     {
+        if let Some(place) = self.files.get_mut(&file) {
+            if place.is_none() {
+                *place = Some(hand.split(PartName::File(file)));
+            }
+            return;
+        }
         let place = match self.files.entry(file) {
             Ok(Place::Vacant(place)) => place,
             Ok(Place::Occupied(_)) => unreachable!(),
             Err(_) => return,
         };
-        place.insert(hand.split(PartName::File(file)));
+        place.insert(Some(hand.split(PartName::File(file))));
     }
 
     // The last of the parts that every request joins.
@@ -190,19 +191,19 @@ impl<N: Naming> Apart<N> {
         ensures value { result ≡ fin.get self.old.files file }
         ensures gone { self.new ≡ record self.old { files = fin.remove self.old.files file } }
     {
-        // For the prover alone.
-        let _count = self.files.len();
-        self.files.remove(&file)
+        self.files.get_mut(&file)?.take()
     }
+}
 
-    // The lowest number of a file that is apart.
-    fn first_file(&self) -> Option<u32>
-        ensures some { IfSome result (λ f. is_some (fin.get self.now.files f) ≡ true) }
-        ensures none { IfNone result (self.now.files ≡ fin.empty) }
-    {
-        match self.files.first_key_value() {
-            Some((file, _)) => Some(*file),
-            None => None,
+// The hands that are in their places join the one that draws; the places are empty then.
+fn join_places<N: Naming>(files: &mut BTreeMap<u32, Option<Hand<N>>>, hand: &mut OneHand<N>)
+    ensures ordered { IsOrdered nat_cmp files.old }
+    ensures joined { hand.new ≡ joined_places hand.old files.old.entries }
+    ensures empty { filled files.new.entries ≡ fin.empty }
+{
+    for place in files.values_mut() {
+        if let Some(other) = place.take() {
+            hand.join(other);
         }
     }
 }
