@@ -30,23 +30,23 @@ split_more ps qs v w x a b d h kept given = record {
 pub split_next : (ps : List PartName) (p : PartName) (v w x : View) (a b d : ApartState) → HasSplit ps v w a b → x ≡ kept_of p w → d ≡ record b { parts = b.parts ++ given_of p w ∷ [] } → HasSplit (ps ++ p ∷ []) v x a d
 split_next ps p v w x a b d h kept given = split_more ps (p ∷ []) v w x a b d h kept given
 
-pub client_next : (n : ℕ) (v w x : View) (a b d : ApartState) → HasSplit (client_names n) v w a b → x ≡ kept_all (part.Client n ∷ part.Asked n ∷ []) w → d ≡ record b { parts = b.parts ++ given_all (part.Client n ∷ part.Asked n ∷ []) w }
-    → HasSplit (client_names (n + 1)) v x a d
-client_next n v w x a b d h kept given =
-    subst (λ m. HasSplit (client_names m) v x a d) (sym (add-one n)) (split_more (client_names n) (part.Client n ∷ part.Asked n ∷ []) v w x a b d h kept given)
+pub client_next : (s n : ℕ) (v w x : View) (a b d : ApartState) → HasSplit (client_names s n) v w a b → x ≡ kept_all (part.Client (s + n) ∷ part.Asked (s + n) ∷ []) w
+    → d ≡ record b { parts = b.parts ++ given_all (part.Client (s + n) ∷ part.Asked (s + n) ∷ []) w } → HasSplit (client_names s (n + 1)) v x a d
+client_next s n v w x a b d h kept given =
+    subst (λ m. HasSplit (client_names s m) v x a d) (sym (add-one n)) (split_more (client_names s n) (part.Client (s + n) ∷ part.Asked (s + n) ∷ []) v w x a b d h kept given)
 
 -- the pool, the names and the store after the clients
-pub all_split : (n m : ℕ) (v w x y z : View) (a b c d e : ApartState) → n ≡ m → HasSplit (client_names n) v w a b
+pub all_split : (s n m : ℕ) (v w x y z : View) (a b c d e : ApartState) → n ≡ m → HasSplit (client_names s n) v w a b
     → x ≡ kept_of (part.File PRIMARY_POOL) w → c ≡ record b { parts = b.parts ++ given_of (part.File PRIMARY_POOL) w ∷ [] }
     → y ≡ kept_of part.Names x → d ≡ record c { parts = c.parts ++ given_of part.Names x ∷ [] }
     → z ≡ kept_of part.Store y → e ≡ record d { parts = d.parts ++ given_of part.Store y ∷ [] }
-    → HasSplit (part_names m) v z a e
-all_split n m v w x y z a b c d e is h kept given kept' given' kept'' given'' =
-    let pool = split_next (client_names n) (part.File PRIMARY_POOL) v w x a b c h kept given in
-    let names = split_next (client_names n ++ part.File PRIMARY_POOL ∷ []) part.Names v x y a c d pool kept' given' in
-    let store = split_next ((client_names n ++ part.File PRIMARY_POOL ∷ []) ++ part.Names ∷ []) part.Store v y z a d e names kept'' given'' in
+    → HasSplit (part_names s m) v z a e
+all_split s n m v w x y z a b c d e is h kept given kept' given' kept'' given'' =
+    let pool = split_next (client_names s n) (part.File PRIMARY_POOL) v w x a b c h kept given in
+    let names = split_next (client_names s n ++ part.File PRIMARY_POOL ∷ []) part.Names v x y a c d pool kept' given' in
+    let store = split_next ((client_names s n ++ part.File PRIMARY_POOL ∷ []) ++ part.Names ∷ []) part.Store v y z a d e names kept'' given'' in
     subst (λ names. HasSplit names v z a e)
-    (append_assoc (client_names n ++ part.File PRIMARY_POOL ∷ []) (part.Names ∷ []) (part.Store ∷ []) ∙ append_assoc (client_names n) (part.File PRIMARY_POOL ∷ []) (part.Names ∷ part.Store ∷ []) ∙ ap part_names is)
+    (append_assoc (client_names s n ++ part.File PRIMARY_POOL ∷ []) (part.Names ∷ []) (part.Store ∷ []) ∙ append_assoc (client_names s n) (part.File PRIMARY_POOL ∷ []) (part.Names ∷ part.Store ∷ []) ∙ ap (part_names s) is)
     store
 
 -- ---- how many
@@ -55,63 +55,62 @@ pub given_length : (ps : List PartName) (v : View) → length (given_all ps v) �
 given_length [] v = refl
 given_length (p ∷ ps) v = ap suc (given_length ps (kept_of p v))
 
-pub names_length : (n : ℕ) → length (client_names n) ≡ 2 * n
-names_length zero = refl
-names_length (suc n) = let i = names_length n in let a = length-append (client_names n) (part.Client n ∷ part.Asked n ∷ []) in omega arith
+pub names_length : (s n : ℕ) → length (client_names s n) ≡ 2 * n
+names_length s zero = refl
+names_length s (suc n) = let i = names_length s n in let a = length-append (client_names s n) (part.Client (s + n) ∷ part.Asked (s + n) ∷ []) in omega arith
 
 -- so many are apart then
-pub split_length : (ps : List PartName) (v w : View) (a b : ApartState) → HasSplit ps v w a b → (length b.parts ≡ length ps) × (b.clients ≡ a.clients)
-split_length ps v w a b h = (ap (λ (x : ApartState). length x.parts) h.given ∙ given_length ps v, ap (λ (x : ApartState). x.clients) h.given)
+pub split_length : (ps : List PartName) (v w : View) (a b : ApartState) → HasSplit ps v w a b → length b.parts ≡ length ps
+split_length ps v w a b h = ap (λ (x : ApartState). length x.parts) h.given ∙ given_length ps v
 
 -- and there is room for one more
-pub split_room : (n : ℕ) (v w : View) (a b : ApartState) → n ≤ a.clients → HasSplit (client_names n) v w a b → length b.parts + 2 < 2 * b.clients + 3
-split_room n v w a b less h = let l = split_length (client_names n) v w a b h in let m = names_length n in omega (arith, l.0, l.1)
+pub split_room : (s n : ℕ) (v w : View) (a b : ApartState) → n ≤ MAX_CLIENTS → HasSplit (client_names s n) v w a b → length b.parts + 2 < 2 * MAX_CLIENTS + 3
+split_room s n v w a b less h = let l = split_length (client_names s n) v w a b h in let m = names_length s n in omega arith
 
-pub next_room : (p : PartName) (w : View) (b d : ApartState) (more : ℕ) → d ≡ record b { parts = b.parts ++ given_of p w ∷ [] } → length b.parts + suc more < 2 * b.clients + 3 → length d.parts + more < 2 * d.clients + 3
+pub next_room : (p : PartName) (w : View) (b d : ApartState) (more : ℕ) → d ≡ record b { parts = b.parts ++ given_of p w ∷ [] } → length b.parts + suc more < 2 * MAX_CLIENTS + 3 → length d.parts + more < 2 * MAX_CLIENTS + 3
 next_room p w b d more given room =
     let l : length d.parts ≡ length (b.parts ++ given_of p w ∷ []) = ap (λ (x : ApartState). length x.parts) given in
     let k = length-append b.parts (given_of p w ∷ []) in
-    let c : d.clients ≡ b.clients = ap (λ (x : ApartState). x.clients) given in
     omega arith
 
 -- ---- what stays with the hand
 
--- The second has what the first has but clients below n.
-pub record HasRest (n : ℕ) (v w : View) : Type 0 where
-  pub clients : (c : ℕ) → n ≤ c → count eqb c w.clients ≡ count eqb c v.clients
-  pub asked : (c : ℕ) → n ≤ c → count eqb c w.asked ≡ count eqb c v.asked
+-- The second has what the first has but clients from s on, below s + n.
+pub record HasRest (s n : ℕ) (v w : View) : Type 0 where
+  pub clients : (c : ℕ) → s + n ≤ c → count eqb c w.clients ≡ count eqb c v.clients
+  pub asked : (c : ℕ) → s + n ≤ c → count eqb c w.asked ≡ count eqb c v.asked
   pub pools : w.pools ≡ v.pools
   pub names : w.names ≡ v.names
   pub store : w.store ≡ v.store
 
-pub rest_of : (n : ℕ) (v : View) → HasRest n v (kept_all (client_names n) v)
-rest_of zero v = record { clients = λ c l. refl; asked = λ c l. refl; pools = refl; names = refl; store = refl }
-rest_of (suc n) v = subst (HasRest (suc n) v) (sym (kept_more (client_names n) (part.Client n ∷ part.Asked n ∷ []) v)) (more (kept_all (client_names n) v) (rest_of n v))
+pub rest_of : (s n : ℕ) (v : View) → HasRest s n v (kept_all (client_names s n) v)
+rest_of s zero v = record { clients = λ c l. refl; asked = λ c l. refl; pools = refl; names = refl; store = refl }
+rest_of s (suc n) v = subst (HasRest s (suc n) v) (sym (kept_more (client_names s n) (part.Client (s + n) ∷ part.Asked (s + n) ∷ []) v)) (more (kept_all (client_names s n) v) (rest_of s n v))
   where
-    more : (w : View) → HasRest n v w → HasRest (suc n) v (kept_of (part.Asked n) (kept_of (part.Client n) w))
+    more : (w : View) → HasRest s n v w → HasRest s (suc n) v (kept_of (part.Asked (s + n)) (kept_of (part.Client (s + n)) w))
     more w r = record {
-      clients = λ c l. let not : c ≢ n = λ e. absurd (omega arith) in ap (count eqb c) (without_none (kept_of (part.Client n) w).clients) ∙ left_else n c not w.clients ∙ r.clients c (omega arith);
-      asked = λ c l. let not : c ≢ n = λ e. absurd (omega arith) in left_else n c not (kept_of (part.Client n) w).asked ∙ ap (count eqb c) (without_none w.asked) ∙ r.asked c (omega arith);
-      pools = without_none (kept_of (part.Client n) w).pools ∙ without_none w.pools ∙ r.pools;
-      names = without_none (kept_of (part.Client n) w).names ∙ without_none w.names ∙ r.names;
-      store = without_none (kept_of (part.Client n) w).store ∙ without_none w.store ∙ r.store;
+      clients = λ c l. let not : c ≢ s + n = λ e. absurd (omega arith) in ap (count eqb c) (without_none (kept_of (part.Client (s + n)) w).clients) ∙ left_else (s + n) c not w.clients ∙ r.clients c (omega arith);
+      asked = λ c l. let not : c ≢ s + n = λ e. absurd (omega arith) in left_else (s + n) c not (kept_of (part.Client (s + n)) w).asked ∙ ap (count eqb c) (without_none w.asked) ∙ r.asked c (omega arith);
+      pools = without_none (kept_of (part.Client (s + n)) w).pools ∙ without_none w.pools ∙ r.pools;
+      names = without_none (kept_of (part.Client (s + n)) w).names ∙ without_none w.names ∙ r.names;
+      store = without_none (kept_of (part.Client (s + n)) w).store ∙ without_none w.store ∙ r.store;
     }
 
 -- ---- each split is of a part that is there
 
-module _ (k : Start) (history : List Entry) (asked : Option (ℕ × Op)) (v : View) (s : HasSession k history asked v) where
-  pub client_there : (n : ℕ) → n < MAX_CLIENTS → (w : View) → w ≡ kept_all (client_names n) v → (1 ≤ count eqb n w.clients) × (1 ≤ count eqb n w.asked)
+module _ (k : Start) (history : List Entry) (asked : Option (ℕ × Op)) (v : View) (s : HasSession k history asked v) (first : ℕ) where
+  pub client_there : (n : ℕ) → first + n < MAX_CLIENTS → (w : View) → w ≡ kept_all (client_names first n) v → (1 ≤ count eqb (first + n) w.clients) × (1 ≤ count eqb (first + n) w.asked)
   client_there n low w e =
-      let r = subst (HasRest n v) (sym e) (rest_of n v) in
-      let a = r.clients n (omega arith) in
-      let b = r.asked n (omega arith) in
-      let c = one_client k history asked v s n low in
-      let d = one_asked k history asked v s n low in
+      let r = subst (HasRest first n v) (sym e) (rest_of first n v) in
+      let a = r.clients (first + n) (omega arith) in
+      let b = r.asked (first + n) (omega arith) in
+      let c = one_client k history asked v s (first + n) low in
+      let d = one_asked k history asked v s (first + n) low in
       (omega arith, omega arith)
 
-  module _ (n : ℕ) (w : View) (e : w ≡ kept_all (client_names n) v) where
-    rest : HasRest n v w
-    rest = subst (HasRest n v) (sym e) (rest_of n v)
+  module _ (n : ℕ) (w : View) (e : w ≡ kept_all (client_names first n) v) where
+    rest : HasRest first n v w
+    rest = subst (HasRest first n v) (sym e) (rest_of first n v)
 
     pub pool_there : 1 ≤ count eqb PRIMARY_POOL w.pools
     pool_there = let c : count eqb PRIMARY_POOL w.pools ≡ count eqb PRIMARY_POOL first_pools = ap (count eqb PRIMARY_POOL) (rest.pools ∙ s.pools) in omega arith
@@ -128,8 +127,9 @@ module _ (k : Start) (history : List Entry) (asked : Option (ℕ × Op)) (v : Vi
         ∙ ap (count only_one tt) (without_none (kept_of (part.File PRIMARY_POOL) w).store ∙ without_none w.store ∙ rest.store ∙ s.has_store) in
         omega arith
 
-  -- ---- the whole
+-- ---- the whole
 
+module _ (k : Start) (history : List Entry) (asked : Option (ℕ × Op)) (v : View) (s : HasSession k history asked v) where
   few_pools : length v.pools ≤ 1
   few_pools = let e : length v.pools ≡ length first_pools = ap length s.pools in omega arith
 

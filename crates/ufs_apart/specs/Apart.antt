@@ -60,6 +60,16 @@ abbrev pub filled : List (ℕ × Option View) → FileViews
 filled [] = fin.empty
 filled (e ∷ es) = placed (filled es) e.0 e.1
 
+-- the hand that joins what is in a place
+abbrev pub joined_place : View → Option View → View
+joined_place v None = v
+joined_place v (Some u) = both_of v u
+
+-- the hand that joins those that are in these places
+abbrev pub joined_places : View → List (ℕ × Option View) → View
+joined_places v [] = v
+joined_places v (e ∷ es) = joined_places (joined_place v e.1) es
+
 -- The file's part went from the hand into one of its own.
 pub record IsSplit (file : ℕ) (v w : View) (a b : ApartState) : Type 0 where
   pub kept : w ≡ kept_of (part.File file) v

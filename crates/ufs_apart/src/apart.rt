@@ -1,5 +1,7 @@
 ghost use Rattle.std.specs.Prelude.{ℕ, ◌+◌, ◌*◌, ◌<◌, ◌≤◌, ◌≡◌, ◌⊎◌, [], ◌∷◌, ◌++◌, List, Option, Some, None, true, is_some, length, eqb, IfOk, IfSome, IfNone};
 ghost use Rattle.std.specs.FinMap as fin;
+ghost use Rattle.std.specs.BTreeMap.{IsOrdered};
+ghost use Rattle.std.specs.Ordering.{nat_cmp};
 ghost use Rattle.ufs_base.specs.declared.limits.TheConstants.{MAX_CLIENTS};
 ghost use Rattle.ufs_model.specs.History.{tree_after};
 ghost use Rattle.ufs_model.specs.declared.data.Entry.{Entry};
@@ -9,13 +11,13 @@ ghost use Rattle.ufs_sound.specs.Owned.{count};
 ghost use Rattle.ufs_sound.specs.Parts.{HoldsPart, View, both_of, given_of, kept_of};
 ghost use Rattle.ufs_hand.specs.Session.{HoldsPool};
 ghost use Rattle.ufs_one_hand.specs.OneHand.{HasSession};
-ghost use Rattle.ufs_apart.specs.Apart.{AreApart, IsBeside, IsSplit, filled, given_all, joined, kept_all, part_names};
+ghost use Rattle.ufs_apart.specs.Apart.{AreApart, IsBeside, IsSplit, given_all, joined, joined_places, kept_all, part_names};
 
 use std::alloc::Global;
 use std::collections::BTreeMap;
 use std::collections::btree_map::Entry as Place;
 use std::marker::Model;
-use ufs_base::Memory;
+use ufs_base::{MAX_CLIENTS, Memory};
 use ufs_hand::{Hand, Naming};
 use ufs_model::PartName;
 use ufs_one_hand::{OneHand, PRIMARY_POOL};
@@ -195,14 +197,16 @@ impl<N: Naming> Apart<N> {
     }
 }
 
-// The hands that are in their places join the one that draws; the places are empty then.
+// The hands that are in their places join the one that draws, and no place is left.
 fn join_places<N: Naming>(files: &mut BTreeMap<u32, Option<Hand<N>>>, hand: &mut OneHand<N>)
     ensures ordered { IsOrdered nat_cmp files.old }
     ensures joined { hand.new ≡ joined_places hand.old files.old.entries }
-    ensures empty { filled files.new.entries ≡ fin.empty }
+    ensures empty { files.new.entries ≡ [] }
 {
-    for place in files.values_mut() {
-        if let Some(other) = place.take() {
+    // For the prover alone.
+    let _count = files.len();
+    while let Some((_, place)) = files.pop_first() {
+        if let Some(other) = place {
             hand.join(other);
         }
     }
