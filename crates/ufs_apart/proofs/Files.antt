@@ -26,7 +26,7 @@ use Rattle.ufs_apart.proofs.Views.{gathered, joined_early, joined_of, joined_sam
 
 -- ---- the table
 
-one_or_other : (f g : ℕ) → (g ≡ f) ⊎ (g ≢ f)
+pub one_or_other : (f g : ℕ) → (g ≡ f) ⊎ (g ≢ f)
 one_or_other f g = lookups.one_or_apart nat_cmp_total nat_cmp-IsAntisymmetric g f
 
 apart_eqb : (f g : ℕ) → g ≢ f → one (eqb g f) ≡ 0
@@ -36,10 +36,10 @@ apart_eqb f g not = by (eqb g f) refl
     by true e = absurd (not (eqb-true g f e))
     by false e = refl
 
-put_here : (files : FileViews) (f : ℕ) (u : View) → fin.get (fin.insert files f u) f ≡ Some u
+pub put_here : (files : FileViews) (f : ℕ) (u : View) → fin.get (fin.insert files f u) f ≡ Some u
 put_here files f u = lookups.inserted_here nat_cmp_total nat_cmp-IsAntisymmetric files f u
 
-put_else : (files : FileViews) (f : ℕ) (u : View) (g : ℕ) → g ≢ f → fin.get (fin.insert files f u) g ≡ fin.get files g
+pub put_else : (files : FileViews) (f : ℕ) (u : View) (g : ℕ) → g ≢ f → fin.get (fin.insert files f u) g ≡ fin.get files g
 put_else files f u g not = lookups.inserted_else nat_cmp_total nat_cmp-IsAntisymmetric files f u g not
 
 pub gone_here : (files : FileViews) (f : ℕ) → fin.get (fin.remove files f) f ≡ None
@@ -49,12 +49,20 @@ gone_else : (files : FileViews) (f g : ℕ) → g ≢ f → fin.get (fin.remove 
 gone_else files f g not = lookups.removed_else nat_cmp_total nat_cmp-IsAntisymmetric files f g not
 
 -- where none was, none goes
-absent_stays : (files : FileViews) (f : ℕ) → fin.get files f ≡ None → fin.remove files f ≡ files
+pub absent_stays : (files : FileViews) (f : ℕ) → fin.get files f ≡ None → fin.remove files f ≡ files
 absent_stays files f none = fin.same_map nat_cmp_total nat_cmp-IsAntisymmetric _ _ (λ g. by g (one_or_other f g))
   where
     by : (g : ℕ) → (g ≡ f) ⊎ (g ≢ f) → fin.get (fin.remove files f) g ≡ fin.get files g
     by g (inl e) = ap (fin.get (fin.remove files f)) e ∙ gone_here files f ∙ sym none ∙ ap (fin.get files) (sym e)
     by g (inr not) = gone_else files f g not
+
+-- a place that is filled and emptied again
+pub put_away : (files : FileViews) (f : ℕ) (u : View) → fin.get files f ≡ None → fin.remove (fin.insert files f u) f ≡ files
+put_away files f u none = fin.same_map nat_cmp_total nat_cmp-IsAntisymmetric _ _ (λ g. by g (one_or_other f g))
+  where
+    by : (g : ℕ) → (g ≡ f) ⊎ (g ≢ f) → fin.get (fin.remove (fin.insert files f u) f) g ≡ fin.get files g
+    by g (inl e) = ap (fin.get (fin.remove (fin.insert files f u) f)) e ∙ gone_here (fin.insert files f u) f ∙ sym none ∙ ap (fin.get files) (sym e)
+    by g (inr not) = gone_else (fin.insert files f u) f g not ∙ put_else files f u g not
 
 -- ---- what the joined hand has, kind by kind
 
@@ -282,16 +290,20 @@ module _ (k : Start) (history : List Entry) (asked : Option (ℕ × Op)) (v : Vi
       by n x at (inr not) = hand_same k history whole left n x split_beside.stop (h.each.apart n x (sym (put_else a.files f given n not) ∙ at))
 
 -- a file was split off, or nothing was done
-pub ends_apart : (k : Start) (history : List Entry) (asked : Option (ℕ × Op)) (v w : View) (a b : ApartState) (f : ℕ) → 1 ≤ count eqb f v.files → f ≢ PRIMARY_POOL
-    → IsSplit f v w a b ⊎ (w ≡ v) × (b ≡ a) → AreApart k history asked v a → AreApart k history asked w b
+pub ends_apart : (k : Start) (history : List Entry) (asked : Option (ℕ × Op)) (v w : View) (a b : ApartState) (f : ℕ) → (fin.get a.files f ≡ None → 1 ≤ count eqb f v.files) → f ≢ PRIMARY_POOL
+    → (fin.get a.files f ≡ None) × IsSplit f v w a b ⊎ (w ≡ v) × (b ≡ a) → AreApart k history asked v a → AreApart k history asked w b
 ends_apart k history asked v w a b f there number (inl is) h =
-    subst (λ (y : View × ApartState). AreApart k history asked y.0 y.1) (λ i. (sym is.kept i, sym is.given i)) (split_apart k history asked v a f there number h)
+    subst (λ (y : View × ApartState). AreApart k history asked y.0 y.1) (λ i. (sym is.1.kept i, sym is.1.given i)) (split_apart k history asked v a f (there is.0) number h)
 ends_apart k history asked v w a b f there number (inr same) h =
     subst (λ (y : View × ApartState). AreApart k history asked y.0 y.1) (λ i. (sym same.0 i, sym same.1 i)) h
 
-pub ends_beside : (k : Start) (history : List Entry) (asked : Option (ℕ × Op)) (v w : View) (a b : ApartState) (f : ℕ) → 1 ≤ count eqb f v.files → f ≢ PRIMARY_POOL
-    → IsSplit f v w a b ⊎ (w ≡ v) × (b ≡ a) → AreApart k history asked v a → IsBeside (joined v a.parts) (joined w b.parts)
+pub ends_beside : (k : Start) (history : List Entry) (asked : Option (ℕ × Op)) (v w : View) (a b : ApartState) (f : ℕ) → (fin.get a.files f ≡ None → 1 ≤ count eqb f v.files) → f ≢ PRIMARY_POOL
+    → (fin.get a.files f ≡ None) × IsSplit f v w a b ⊎ (w ≡ v) × (b ≡ a) → AreApart k history asked v a → IsBeside (joined v a.parts) (joined w b.parts)
 ends_beside k history asked v w a b f there number (inl is) h =
-    subst (λ (y : View × ApartState). IsBeside (joined v a.parts) (joined y.0 y.1.parts)) (λ i. (sym is.kept i, sym is.given i)) (split_beside k history asked v a f there number h)
+    subst (λ (y : View × ApartState). IsBeside (joined v a.parts) (joined y.0 y.1.parts)) (λ i. (sym is.1.kept i, sym is.1.given i)) (split_beside k history asked v a f (there is.0) number h)
 ends_beside k history asked v w a b f there number (inr same) h =
     subst (λ (y : View × ApartState). IsBeside (joined v a.parts) (joined y.0 y.1.parts)) (λ i. (sym same.0 i, sym same.1 i)) (beside_self (joined v a.parts))
+
+pub ends : (v w : View) (a b : ApartState) (f : ℕ) → (fin.get a.files f ≡ None) × IsSplit f v w a b ⊎ (w ≡ v) × (b ≡ a) → IsSplit f v w a b ⊎ (w ≡ v) × (b ≡ a)
+ends v w a b f (inl is) = inl is.1
+ends v w a b f (inr same) = inr same

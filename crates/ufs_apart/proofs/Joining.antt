@@ -1,7 +1,8 @@
 -- The hands that are apart join the one that draws, one after another.
-use Rattle.std.proofs.Common.{◌≡◌, ℕ, zero, suc, ◌-◌, ◌<◌, ◌≤◌, cond, true, false, eqb, List, [], ◌∷◌, ◌++◌, Option, Some, None, is_some, refl, sym, ap, ◌∙◌, subst, arith}
-use Rattle.std.specs.Cmp.{nat_cmp_total}
+use Rattle.std.proofs.Common.{◌≡◌, ℕ, ◌≤◌, true, eqb, List, [], ◌∷◌, ◌++◌, Option, Some, None, is_some, refl, sym, ap, ◌∙◌, subst, arith}
 use Rattle.std.specs.FinMap as fin
+use Rattle.std.specs.List.Sorted.{IsStrictlySortedBy}
+use Rattle.std.specs.Map.{keys_of}
 use Rattle.std.specs.Ordering.{nat_cmp}
 use Rattle.ufs_model.specs.History.{tree_after}
 use Rattle.ufs_model.specs.declared.data.Entry.{Entry}
@@ -9,9 +10,10 @@ use Rattle.ufs_model.specs.declared.data.Op.{Op}
 use Rattle.ufs_sound.specs.Owned.{one, count}
 use Rattle.ufs_sound.specs.Parts.{Start, View, both_of}
 use Rattle.ufs_one_hand.specs.Apart.{FileViews, HasEachFile}
-use Rattle.ufs_apart.specs.Apart.{AreApart, ApartState, IsBeside, joined}
+use Rattle.ufs_apart.specs.Apart.{AreApart, ApartState, IsBeside, filled, joined, joined_place, joined_places, placed}
 use Rattle.ufs_apart.proofs.Beside.{beside_self, beside_then}
-use Rattle.ufs_apart.proofs.Files.{absent_apart, gone_here, joined_apart, joined_beside}
+use Rattle.ufs_apart.proofs.Files.{absent_apart, absent_stays, gone_here, joined_apart, joined_beside, put_away, put_here}
+use Rattle.ufs_apart.proofs.Places.{Places, alone, fewer}
 use Rattle.ufs_apart.proofs.Views.{joined_last}
 
 -- a file that isn't apart is with the hand, if it is there
@@ -83,14 +85,26 @@ pub empty_held : (k : Start) (history : List Entry) (asked : Option (ℕ × Op))
 empty_held k history asked w b none h f there =
     each_held k history (joined w b.parts) b.files f h.each (ap (λ (m : FileViews). fin.get m f) none ∙ fin.get-empty nat_cmp f) there
 
--- one less is apart
-pub fewer_apart : (a b : ApartState) (f : ℕ) → is_some (fin.get a.files f) ≡ true → b ≡ record a { files = fin.remove a.files f } → fin.len b.files < fin.len a.files
-fewer_apart a b f there taken =
-    let less : fin.len b.files ≡ fin.len a.files - 1 = ap (λ (z : ApartState). fin.len z.files) taken ∙ fin.len-remove nat_cmp_total a.files f ∙ ap (λ c. cond c (fin.len a.files - 1) (fin.len a.files)) there in
-    by (fin.len a.files) refl less
-  where
-    by : (n : ℕ) → fin.len a.files ≡ n → fin.len b.files ≡ fin.len a.files - 1 → fin.len b.files < fin.len a.files
-    by zero none less =
-        let no : is_some (fin.get a.files f) ≡ false = ap (λ (m : FileViews). is_some (fin.get m f)) (fin.empty_of_len a.files none) ∙ ap is_some (fin.get-empty {X = View} nat_cmp f) in
-        cc
-    by (suc n) some less = omega arith
+-- ---- all places
+
+-- what is in the first place joins
+first_joined : (k : Start) (v : View) (parts : List View) (f : ℕ) (o : Option View) (files : FileViews) → fin.get files f ≡ None
+    → HasJoined k v (joined_place v o) (record { parts = parts; files = placed files f o }) (record { parts = parts; files = files })
+first_joined k v parts f None files none =
+    subst (λ (m : FileViews). HasJoined k v v (record { parts = parts; files = fin.remove files f }) (record { parts = parts; files = m })) (absent_stays files f none)
+    (file_absent k v (record { parts = parts; files = fin.remove files f }) _ f (gone_here files f) (ap (λ (m : FileViews). record { parts = parts; files = m }) (sym (absent_stays (fin.remove files f) f (gone_here files f)))))
+first_joined k v parts f (Some u) files none =
+    file_joined k v (both_of v u) (record { parts = parts; files = fin.insert files f u }) (record { parts = parts; files = files }) f u (put_here files f u) refl
+    (ap (λ (m : FileViews). record { parts = parts; files = m }) (sym (put_away files f u none)))
+
+-- and so does what is in each
+pub places_joined : (k : Start) (v : View) (parts : List View) (es : Places) → IsStrictlySortedBy nat_cmp (keys_of es) → HasJoined k v (joined_places v es) (record { parts = parts; files = filled es }) (record { parts = parts; files = fin.empty })
+places_joined k v parts [] sorted = record { rest = refl; apart = λ history asked h. h; beside = λ history asked h. beside_self (joined v parts) }
+places_joined k v parts (e ∷ es) sorted =
+    joined_then k v (joined_place v e.1) (joined_places (joined_place v e.1) es) (record { parts = parts; files = placed (filled es) e.0 e.1 }) (record { parts = parts; files = filled es }) (record { parts = parts; files = fin.empty })
+    (first_joined k v parts e.0 e.1 (filled es) (alone e.0 e.1 es sorted)) (places_joined k (joined_place v e.1) parts es (fewer e.0 e.1 es sorted))
+
+pub all_joined : (k : Start) (v w : View) (a : ApartState) (parts : List View) (es fs : Places) → record { parts = parts; files = filled es } ≡ a → IsStrictlySortedBy nat_cmp (keys_of es) → w ≡ joined_places v es → fs ≡ []
+    → HasJoined k v w a (record { parts = parts; files = filled fs })
+all_joined k v w a parts es fs is sorted hand none =
+    subst (λ (y : ApartState × View × Places). HasJoined k v y.1 y.0 (record { parts = parts; files = filled y.2 })) (λ i. (is i, sym hand i, sym none i)) (places_joined k v parts es sorted)

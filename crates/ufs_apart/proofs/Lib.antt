@@ -5,6 +5,6 @@ pub mod Beside
 pub mod Sessions
 pub mod Files
 pub mod Splitting
-pub mod Joining
 pub mod Places
+pub mod Joining
 pub mod Whole

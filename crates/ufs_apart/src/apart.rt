@@ -11,7 +11,7 @@ ghost use Rattle.ufs_sound.specs.Owned.{count};
 ghost use Rattle.ufs_sound.specs.Parts.{HoldsPart, View, both_of, given_of, kept_of};
 ghost use Rattle.ufs_hand.specs.Session.{HoldsPool};
 ghost use Rattle.ufs_one_hand.specs.OneHand.{HasSession};
-ghost use Rattle.ufs_apart.specs.Apart.{AreApart, IsBeside, IsSplit, given_all, joined, joined_places, kept_all, part_names};
+ghost use Rattle.ufs_apart.specs.Apart.{AreApart, IsBeside, IsSplit, given_all, joined, joined_place, joined_places, kept_all, part_names};
 
 use std::alloc::Global;
 use std::collections::BTreeMap;
@@ -132,6 +132,8 @@ impl<N: Naming> Apart<N> {
     pub fn forget(&mut self, file: u32)
         ensures { self.new ≡ self.old }
     {
+        // For the prover alone.
+        let _count = self.files.len();
         if let Some(None) = self.files.get(&file) {
             self.files.remove(&file);
         }
@@ -163,12 +165,10 @@ impl<N: Naming> Apart<N> {
     // A file that has no place yet gets one; the room is made before it is split off.
     fn place_file(&mut self, hand: &mut OneHand<N>, file: u32)
         requires here { fin.get self.old.files file ≡ None → 1 ≤ count eqb file hand.old.files }
-        ensures { IsSplit file hand.old hand.new self.old self.new ⊎ (hand.new ≡ hand.old) × (self.new ≡ self.old) }
+        ensures { (fin.get self.old.files file ≡ None) × IsSplit file hand.old hand.new self.old self.new ⊎ (hand.new ≡ hand.old) × (self.new ≡ self.old) }
     {
         if let Some(place) = self.files.get_mut(&file) {
-            if place.is_none() {
-                *place = Some(hand.split(PartName::File(file)));
-            }
+            fill(place, hand, file);
             return;
         }
         let place = match self.files.entry(file) {
@@ -206,8 +206,24 @@ fn join_places<N: Naming>(files: &mut BTreeMap<u32, Option<Hand<N>>>, hand: &mut
     // For the prover alone.
     let _count = files.len();
     while let Some((_, place)) = files.pop_first() {
-        if let Some(other) = place {
-            hand.join(other);
-        }
+        join_place(hand, place);
+    }
+}
+
+fn join_place<N: Naming>(hand: &mut OneHand<N>, place: Option<Hand<N>>)
+    ensures { hand.new ≡ joined_place hand.old place }
+{
+    if let Some(other) = place {
+        hand.join(other);
+    }
+}
+
+// A file goes into its place, where that is empty.
+fn fill<N: Naming>(place: &mut Option<Hand<N>>, hand: &mut OneHand<N>, file: u32)
+    requires here { place.old ≡ None → 1 ≤ count eqb file hand.old.files }
+    ensures { (place.old ≡ None) × (place.new ≡ Some (given_of (part.File file) hand.old)) × (hand.new ≡ kept_of (part.File file) hand.old) ⊎ (place.new ≡ place.old) × (hand.new ≡ hand.old) }
+{
+    if place.is_none() {
+        *place = Some(hand.split(PartName::File(file)));
     }
 }

@@ -1,21 +1,28 @@
-use Rattle.std.proofs.Common.{ap, arith, inl, sym, ◌∙◌}
-use Rattle.std.specs.FinMap as fin
-use Rattle.std.specs.FinMap.{nat_cmp-IsAntisymmetric}
-use Rattle.std.specs.Ordering.{nat_cmp}
-use Rattle.std.specs.Cmp.{nat_cmp_total}
+use Rattle.std.proofs.Common.{Some, ap, arith, inl, sym, ◌∙◌}
 use Rattle.std.proofs.lemmas.Grind.{common_steps}
-use Rattle.ufs_calls.proofs.Facts.Maps.{get-seen}
 use Rattle.ufs_model.specs.declared.data.PartName.TheVariants as part
 use Rattle.ufs_sound.specs.Parts.{given_of}
-use Rattle.ufs_apart.specs.Apart.{ApartState}
-use Rattle.ufs_apart.proofs.Places.{more_table}
+use Rattle.ufs_apart.proofs.Places.{flat, made, splits, told}
 use Rattle.ufs_apart.proofs.apart.Apart.place_file.Goals as goal
 
-pub unreachable-requires : goal.unreachable-requires
-unreachable-requires g c =
-    let at = c.args.file in
-    let none = sym (get-seen nat_cmp (λ k. k) nat_cmp_total nat_cmp-IsAntisymmetric c.self.inside.files at) ∙ ap (λ (m : ApartState). fin.get m.files at) c.self.view_is ∙ c.requires.apart in
-    grind (arith, common_steps)
+pub fill-requires : goal.fill-requires
+fill-requires g c =
+    record { here = λ none. c.requires.here (told c.args.self.now c.self.inside.parts.items c.self.inside.files c.self.view_is c.args.file ∙ ap flat (sym c.in-Some.ensures.value) ∙ none) }
+
+pub returns-in-Some : goal.returns-in-Some
+returns-in-Some g c =
+    splits c.args.self.now c.self.inside.parts.items c.self.inside.files c.self.view_is c.args.file (c.get_mut.follows.lender c.fill.new.place).entries c.in-Some.place.now c.fill.new.place c.args.hand.now c.fill.new.hand c.in-Some.ensures.value
+    (c.get_mut.follows.holds c.fill.new.place).0 c.fill.ensures
+
+pub split-requires : goal.split-requires
+split-requires g c =
+    inl (c.requires.here (told c.args.self.now c.self.inside.parts.items c.self.inside.files c.self.view_is c.args.file ∙ ap flat (sym c.in_default.ensures.value)))
 
 pub returns : goal.returns
-returns g c = inl (record { kept = c.split.ensures.kept; given = more_table c.args.self.now c.self.inside.clients c.self.inside.parts.items c.self.inside.files _ c.self.view_is c.args.file (given_of (part.File c.args.file) c.args.hand.now) (grind (arith, common_steps)) })
+returns g c = inl (
+      told c.args.self.now c.self.inside.parts.items c.self.inside.files c.self.view_is c.args.file ∙ ap flat (sym c.in_default.ensures.value),
+      record {
+        kept = c.split.ensures.kept;
+        given = made c.args.self.now c.self.inside.parts.items c.self.inside.files c.self.view_is c.args.file _ (Some (given_of (part.File c.args.file) c.args.hand.now)) (grind (arith, common_steps));
+      },
+    )
