@@ -20,9 +20,9 @@ split-requires g c =
 
 pub returns : goal.returns
 returns g c = inl (
-      told c.args.self.now c.self.inside.parts.items c.self.inside.files c.self.view_is c.args.file ∙ ap flat (sym c.in_default.ensures.value),
-      record {
-        kept = c.split.ensures.kept;
-        given = made c.args.self.now c.self.inside.parts.items c.self.inside.files c.self.view_is c.args.file _ (Some (given_of (part.File c.args.file) c.args.hand.now)) (grind (arith, common_steps));
-      },
-    )
+  told c.args.self.now c.self.inside.parts.items c.self.inside.files c.self.view_is c.args.file ∙ ap flat (sym c.in_default.ensures.value),
+  record {
+    kept = c.split.ensures.kept;
+    given = made c.args.self.now c.self.inside.parts.items c.self.inside.files c.self.view_is c.args.file _ (Some (given_of (part.File c.args.file) c.args.hand.now)) (grind (arith, common_steps));
+  },
+)

@@ -1,6 +1,5 @@
 use Rattle.std.proofs.Common.{None, ap, sym, ◌∙◌}
 use Rattle.std.specs.BTreeMap as tree
-use Rattle.std.specs.BTreeMap.{BTreeMap}
 use Rattle.std.specs.Map.{set_value}
 use Rattle.std.specs.Ordering.{nat_cmp}
 use Rattle.ufs_apart.proofs.Places.{absent, flat, told, written}
