@@ -1,6 +1,7 @@
-// A file is split off and joined, by itself and with all files; between that all parts are apart once.
-ghost use Rattle.std.specs.Prelude.{◌≡◌, [], None};
+// A file is split off and joined, by itself and with all files; between that the parts of all clients go apart, and those of one.
+ghost use Rattle.std.specs.Prelude.{◌+◌, ◌≤◌, ◌≡◌, [], None};
 ghost use Rattle.std.specs.FinMap as fin;
+ghost use Rattle.ufs_base.specs.declared.limits.TheConstants.{MAX_CLIENTS};
 ghost use Rattle.ufs_apart.specs.Apart.{AreApart};
 ghost use Rattle.ufs_apart_tests.specs.OneFile.{with_file};
 
@@ -17,8 +18,7 @@ use ufs_one_hand::{OneHand, starts_can_begin};
 #[test]
 fn parts_come_together(rt: HostRuntime) {
     let opened = open(&rt);
-    let (apart, tickets) = session::<Brand, HostRuntime>(&rt, opened);
-    same(&rt, apart, [true, true, false, true, false]);
+    let tickets = session::<Brand, HostRuntime>(&rt, opened);
     same(&rt, tickets, 0);
 }
 
@@ -30,42 +30,62 @@ fn open<R: Abort + AllocGlobal>(rt: &R) -> Opened
     Opened::open(rt.alloc(), parts).expect(rt, "memory")
 }
 
-// Whether the file was apart then, and how many entries there are at the end.
-fn session<N: Naming, R: Abort + AllocGlobal>(rt: &R, opened: Opened) -> ([bool; 5], u64)
+// How many entries there are at the end.
+fn session<N: Naming, R: Abort + AllocGlobal>(rt: &R, opened: Opened) -> u64
     requires name { (opened.table ≡ N.table) × (opened.start ≡ N.start) }
     requires start { N.start ≡ with_file }
-    ensures entries { result.1 ≡ 0 }
+    ensures { result ≡ 0 }
 {
     let mut hand = OneHand::<N>::begin(opened);
     let mut apart = nothing::<N, R>(rt);
-    let split = goes(&mut hand, &mut apart);
-    apart.part(&mut hand);
-    let kept = apart.has_file(0);
-    apart.join(&mut hand);
-    apart.join_file(&mut hand, 0);
-    let joined = apart.has_file(0);
-    let again = goes(&mut hand, &mut apart);
+    goes(&mut hand, &mut apart);
+    parted(&mut hand, &mut apart, 0, MAX_CLIENTS as u8);
+    comes(&mut hand, &mut apart);
+    goes(&mut hand, &mut apart);
+    parted(&mut hand, &mut apart, 3, 1);
+    comes(&mut hand, &mut apart);
+    apart.forget(0);
+    goes(&mut hand, &mut apart);
     apart.join_files(&mut hand);
-    let left = apart.has_file(0);
-    ([split, kept, joined, again, left], hand.close())
+    hand.close()
 }
 
 fn nothing<N: Naming, R: Abort + AllocGlobal>(rt: &R) -> Apart<N>
     ensures parts { result.parts ≡ [] }
     ensures files { result.files ≡ fin.empty }
 {
-    Apart::new(rt.alloc(), MAX_CLIENTS as u8).expect(rt, "memory")
+    Apart::new(rt.alloc()).expect(rt, "memory")
 }
 
-// The file is split off. Whether it is apart then.
-fn goes<N: Naming>(hand: &mut OneHand<N>, apart: &mut Apart<N>) -> bool
+// The file is split off.
+fn goes<N: Naming>(hand: &mut OneHand<N>, apart: &mut Apart<N>)
     requires start { N.start ≡ with_file }
     requires apart { AreApart N.start [] None hand.old apart.old }
     requires parts { apart.old.parts ≡ [] }
-    requires absent { fin.get apart.old.files 0 ≡ None }
     ensures apart { AreApart N.start [] None hand.new apart.new }
     ensures parts { apart.new.parts ≡ [] }
 {
     apart.split_file(hand, 0);
-    apart.has_file(0)
+}
+
+// It is with the hand again.
+fn comes<N: Naming>(hand: &mut OneHand<N>, apart: &mut Apart<N>)
+    requires apart { AreApart N.start [] None hand.old apart.old }
+    requires parts { apart.old.parts ≡ [] }
+    ensures apart { AreApart N.start [] None hand.new apart.new }
+    ensures parts { apart.new.parts ≡ [] }
+{
+    apart.join_file(hand, 0);
+}
+
+// The parts of some clients go apart, and are joined again.
+fn parted<N: Naming>(hand: &mut OneHand<N>, apart: &mut Apart<N>, first: u8, many: u8)
+    requires clients { first + many ≤ MAX_CLIENTS }
+    requires apart { AreApart N.start [] None hand.old apart.old }
+    requires parts { apart.old.parts ≡ [] }
+    ensures apart { AreApart N.start [] None hand.new apart.new }
+    ensures parts { apart.new.parts ≡ [] }
+{
+    apart.part(hand, first, many);
+    apart.join(hand);
 }
