@@ -213,8 +213,8 @@ fn join_places<N: Naming>(files: &mut BTreeMap<u32, Option<Hand<N>>>, hand: &mut
 fn join_place<N: Naming>(hand: &mut OneHand<N>, place: Option<Hand<N>>)
     ensures { hand.new ≡ joined_place hand.old place }
 {
-    if let Some(other) = place {
-        hand.join(other);
+    if let Some(file) = place {
+        hand.join(file);
     }
 }
 
