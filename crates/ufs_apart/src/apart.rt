@@ -27,7 +27,7 @@ use ufs_one_hand::{OneHand, PRIMARY_POOL};
 #[derive(Drop)]
 pub struct Apart<N: Naming> {
     parts: Vec<Hand<N>>,
-    // The hand of each file that is apart; a place stays while its hand is with the one that draws.
+    // The hand of each file that is apart. A place stays while its hand is with the one that draws, until all join.
     files: BTreeMap<u32, Option<Hand<N>>>,
 }
 
