@@ -139,6 +139,16 @@ impl<N: Naming> Apart<N> {
         }
     }
 
+    /// Whether the file is apart.
+    pub fn has_file(&self, file: u32) -> bool
+        ensures { result ≡ is_some (fin.get self.now.files file) }
+    {
+        match self.files.get(&file) {
+            Some(place) => place.is_some(),
+            None => false,
+        }
+    }
+
     // The client, and what it last asked.
     fn split_client(&mut self, hand: &mut OneHand<N>, client: u8)
         requires room { length self.old.parts + 2 ≤ 2 * MAX_CLIENTS + 3 }

@@ -18,7 +18,8 @@ use ufs_one_hand::{OneHand, starts_can_begin};
 #[test]
 fn parts_come_together(rt: HostRuntime) {
     let opened = open(&rt);
-    let tickets = session::<Brand, HostRuntime>(&rt, opened);
+    let (apart, tickets) = session::<Brand, HostRuntime>(&rt, opened);
+    same(&rt, apart, [true, false, true, false]);
     same(&rt, tickets, 0);
 }
 
@@ -30,24 +31,28 @@ fn open<R: Abort + AllocGlobal>(rt: &R) -> Opened
     Opened::open(rt.alloc(), parts).expect(rt, "memory")
 }
 
-// How many entries there are at the end.
-fn session<N: Naming, R: Abort + AllocGlobal>(rt: &R, opened: Opened) -> u64
+// Whether the file was apart then, and how many entries there are at the end.
+fn session<N: Naming, R: Abort + AllocGlobal>(rt: &R, opened: Opened) -> ([bool; 4], u64)
     requires name { (opened.table ≡ N.table) × (opened.start ≡ N.start) }
     requires start { N.start ≡ with_file }
-    ensures { result ≡ 0 }
+    ensures entries { result.1 ≡ 0 }
 {
     let mut hand = OneHand::<N>::begin(opened);
     let mut apart = nothing::<N, R>(rt);
     goes(&mut hand, &mut apart);
     parted(&mut hand, &mut apart, 0, MAX_CLIENTS as u8);
+    let kept = apart.has_file(0);
     comes(&mut hand, &mut apart);
+    let joined = apart.has_file(0);
     goes(&mut hand, &mut apart);
     parted(&mut hand, &mut apart, 3, 1);
     comes(&mut hand, &mut apart);
     apart.forget(0);
     goes(&mut hand, &mut apart);
+    let again = apart.has_file(0);
     apart.join_files(&mut hand);
-    hand.close()
+    let left = apart.has_file(0);
+    ([kept, joined, again, left], hand.close())
 }
 
 fn nothing<N: Naming, R: Abort + AllocGlobal>(rt: &R) -> Apart<N>

@@ -33,4 +33,4 @@ pub returns : goal.returns
 returns g c =
     let a = c.join_files.new.self in
     let none : a.parts ≡ [] = ap (λ (b : ApartState). b.parts) c.join_files.ensures.empty ∙ c.goes-3.ensures.parts in
-    c.close.ensures.tickets [] (has_session g.N.Naming.start [] None c.join_files.new.hand a none (c.join_files.ensures.apart [] None c.goes-3.ensures.apart))
+    record { entries = c.close.ensures.tickets [] (has_session g.N.Naming.start [] None c.join_files.new.hand a none (c.join_files.ensures.apart [] None c.goes-3.ensures.apart)) }
