@@ -1,10 +1,12 @@
 -- A client asks, and is answered, whichever tree the session began with.
-use Rattle.std.specs.Prelude.{ℕ, ◌≡◌, ◌≢◌, Bool, List, [], ◌∷◌, ◌++◌, length}
+use Rattle.std.specs.Prelude.{ℕ, ◌≡◌, ◌≢◌, Bool, false, List, [], ◌∷◌, ◌++◌, length, Option, IfSome, is_some}
 use Rattle.std.specs.FinMap as map
 use Rattle.ufs_client.specs.Clients.{AreRanged}
+use Rattle.ufs_client.specs.Own.{IsOwnAnswer, is_own}
+use Rattle.ufs_client.specs.declared.own.OwnAnswer.{OwnAnswer}
 use Rattle.ufs_fds.specs.Descriptors.{AreOf, Descs}
 use Rattle.ufs_model.specs.Asks.{IsAsk}
-use Rattle.ufs_model.specs.History.{entries_of, tree_after}
+use Rattle.ufs_model.specs.History.{entries_of, is_excused, tree_after}
 use Rattle.ufs_model.specs.PosixTree.{PosixTree}
 use Rattle.ufs_model.specs.declared.data.Ask.{Ask}
 use Rattle.ufs_model.specs.declared.data.Entry.{Entry}
@@ -19,6 +21,12 @@ use Rattle.ufs_stored.specs.Parts.{Parts}
 pub record HasTable (t : PosixTree) (client : ℕ) (table : Descs) : Type 0 where
   pub same : AreOf t.fds client table
   pub ranged : AreRanged t.fds client
+
+-- This is what the client answers itself of the request, if it does.
+pub record IsOwnTold (ask : Ask) (own : Option OwnAnswer) : Type 0 where
+  pub own : (t : PosixTree) → IsAsk t ask → is_some own ≡ is_own t ask.client ask.op
+  pub posix : IfSome own (λ answer. (t : PosixTree) → IsAsk t ask → IsOwnAnswer t ask.client ask.op answer.reply answer.desc)
+  pub plain : IfSome own (λ answer. is_excused answer.reply ≡ false)
 
 -- The client of the request asks it behind this history, as its next one.
 pub record IsAsking (start : PosixTree) (history : List Entry) (p : Parts) (table : Descs) (ask : Ask) : Type 0 where

@@ -20,6 +20,7 @@ use Rattle.ufs_stored.specs.Stored.{ArePartsOf}
 -- The hand of this file comes together with the session's.
 abbrev pub IsGathered : Gathered → ℕ → Type 0
 IsGathered files.Nothing f = ⊥
+IsGathered files.Made f = ⊥
 IsGathered (files.One file) f = f ≡ file
 IsGathered files.Every f = ⊤
 
@@ -33,13 +34,13 @@ pub record IsTogether (k : Start) (history : List Entry) (v : View) (a : ApartSt
   pub session : HasSession k history None v
   pub each : HasEachFile k history v a.files
 
--- Each part that every request joins has gone from one that has them all into a hand of its own: each client's, what it last asked, the
--- pool, the names and the store. With those and the files that are apart it has the session.
-pub record AreParted (k : Start) (history : List Entry) (v : View) (a : ApartState) : Type 0 where
+-- Each part that every request joins has gone from one that has them all into a hand of its own: of so many clients from the first on
+-- each one's, and what it last asked; the pool, the names and the store. With those and the files that are apart it has the session.
+pub record AreParted (k : Start) (history : List Entry) (first many : ℕ) (v : View) (a : ApartState) : Type 0 where
   pub session : AreApart k history None v a
   pub whole : View
-  pub kept : v ≡ kept_all (part_names a.clients) whole
-  pub given : a.parts ≡ given_all (part_names a.clients) whole
+  pub kept : v ≡ kept_all (part_names first many) whole
+  pub given : a.parts ≡ given_all (part_names first many) whole
 
 -- The server has the files of the tree behind this history.
 pub record HasFilesAt (k : Start) (history : List Entry) (p : Parts) : Type 0 where

@@ -1,7 +1,8 @@
 // The hands of a session come together for a request, and go apart again behind it.
-ghost use Rattle.std.specs.Prelude.{ℕ, ◌≡◌, ◌<◌, List, None};
+ghost use Rattle.std.specs.Prelude.{ℕ, ◌+◌, ◌≡◌, ◌<◌, ◌≤◌, List, None};
 ghost use Rattle.std.specs.FinMap as fin;
 ghost use Rattle.ufs_apart.specs.Apart.{IsBeside, joined};
+ghost use Rattle.ufs_client.specs.Own.{is_own};
 ghost use Rattle.ufs_model.specs.Asks.{IsAsk};
 ghost use Rattle.ufs_model.specs.PosixTree.{PosixTree};
 ghost use Rattle.ufs_model.specs.declared.data.Entry.{Entry};
@@ -18,35 +19,54 @@ use ufs_server::DiskServer;
 // Which files' hands come together with the session's.
 #[derive(Clone, Copy)]
 pub(crate) enum Gathered {
+    // None is touched.
     Nothing,
+    // None that is there; the request may make one.
+    Made,
     One(u32),
     Every,
 }
 
-// Those of the files that a request touches. Where memory is wanting to tell, each may be one.
-pub(crate) fn files_of(server: &DiskServer, asked: &Ask) -> Gathered
+// Those of the files that a request touches, of which is told whether its client answers it. Where memory is wanting to tell, each
+// may be one.
+pub(crate) fn files_of(server: &DiskServer, asked: &Ask, own: bool) -> Gathered
     requires client { asked.now.client < MAX_CLIENTS }
+    requires own { (t : PosixTree) → IsAsk t asked.now → own ≡ is_own t asked.now.client asked.now.op }
     ensures { (t : PosixTree) → ArePartsOf server.now t → IsAsk t asked.now → HasGathered t asked.now.client asked.now.op result }
 {
+    if own {
+        return Gathered::Nothing;
+    }
     match asked.op {
         Op::Sync => Gathered::Every,
         _ => match server.touched(asked) {
             Ok(Some(file)) => Gathered::One(file),
-            Ok(None) => Gathered::Nothing,
+            Ok(None) => Gathered::Made,
             Err(Memory) => Gathered::Every,
         },
     }
 }
 
+// The parts that every request joins come together, and those of so many clients from the first on go apart.
+pub(crate) fn regroup<N: Naming>(hand: &mut OneHand<N>, apart: &mut Apart<N>, first: u8, many: u8)
+    requires clients { first + many ≤ MAX_CLIENTS }
+    requires parted { (history : List Entry) × ((from : ℕ) × ((was : ℕ) × AreParted N.start history from was hand.old apart.old)) }
+    ensures parted { (history : List Entry) (from was : ℕ) → AreParted N.start history from was hand.old apart.old → AreParted N.start history first many hand.new apart.new }
+    ensures beside { (history : List Entry) (from was : ℕ) → AreParted N.start history from was hand.old apart.old → IsBeside (joined hand.old apart.old.parts) (joined hand.new apart.new.parts) }
+{
+    apart.join(hand);
+    apart.part(hand, first, many);
+}
+
 // The parts that every request joins come together, and the files with them.
 pub(crate) fn gather<N: Naming>(hand: &mut OneHand<N>, apart: &mut Apart<N>, gathered: Gathered)
-    ensures together { (history : List Entry) → AreParted N.start history hand.old apart.old → IsTogether N.start history hand.new apart.new }
-    ensures beside { (history : List Entry) → AreParted N.start history hand.old apart.old → IsBeside (joined hand.old apart.old.parts) hand.new }
+    ensures together { (history : List Entry) (first many : ℕ) → AreParted N.start history first many hand.old apart.old → IsTogether N.start history hand.new apart.new }
+    ensures beside { (history : List Entry) (first many : ℕ) → AreParted N.start history first many hand.old apart.old → IsBeside (joined hand.old apart.old.parts) hand.new }
     ensures files { (file : ℕ) → IsGathered gathered file → fin.get apart.new.files file ≡ None }
 {
     apart.join(hand);
     match gathered {
-        Gathered::Nothing => {}
+        Gathered::Nothing | Gathered::Made => {}
         Gathered::One(file) => apart.join_file(hand, file),
         Gathered::Every => apart.join_files(hand),
     }
@@ -54,17 +74,36 @@ pub(crate) fn gather<N: Naming>(hand: &mut OneHand<N>, apart: &mut Apart<N>, gat
 
 // The hands of all parts come together.
 pub(crate) fn gather_all<N: Naming>(hand: &mut OneHand<N>, apart: &mut Apart<N>)
-    ensures together { (history : List Entry) → AreParted N.start history hand.old apart.old → IsTogether N.start history hand.new apart.new }
-    ensures beside { (history : List Entry) → AreParted N.start history hand.old apart.old → IsBeside (joined hand.old apart.old.parts) hand.new }
+    ensures together { (history : List Entry) (first many : ℕ) → AreParted N.start history first many hand.old apart.old → IsTogether N.start history hand.new apart.new }
+    ensures beside { (history : List Entry) (first many : ℕ) → AreParted N.start history first many hand.old apart.old → IsBeside (joined hand.old apart.old.parts) hand.new }
     ensures none { apart.new.files ≡ fin.empty }
 {
     apart.join(hand);
     apart.join_files(hand);
 }
 
-// Each part goes into a hand of its own again: the files that came together, the one of the request's descriptor, which the
-// request may have made, and the parts that every request joins.
+// The files that came together, or the one of the request's descriptor, where the request may have made it, go into hands of their own
+// again, and so do the parts of so many clients from the first on, the pool, the names and the store.
 pub(crate) fn scatter<N: Naming>(
+    hand: &mut OneHand<N>,
+    apart: &mut Apart<N>,
+    server: &DiskServer,
+    gathered: Gathered,
+    desc: Option<Desc>,
+    first: u8,
+    many: u8,
+)
+    requires clients { first + many ≤ MAX_CLIENTS }
+    requires together { (history : List Entry) × IsTogether N.start history hand.old apart.old × HasFilesAt N.start history server.now }
+    ensures parted { (history : List Entry) → IsTogether N.start history hand.old apart.old → AreParted N.start history first many hand.new apart.new }
+    ensures beside { (history : List Entry) → IsTogether N.start history hand.old apart.old → IsBeside hand.old (joined hand.new apart.new.parts) }
+{
+    put_gathered_away(hand, apart, server, gathered, desc);
+    apart.part(hand, first, many);
+}
+
+// The files that came together go apart again, or the one that the request may have made.
+fn put_gathered_away<N: Naming>(
     hand: &mut OneHand<N>,
     apart: &mut Apart<N>,
     server: &DiskServer,
@@ -72,27 +111,12 @@ pub(crate) fn scatter<N: Naming>(
     desc: Option<Desc>,
 )
     requires { (history : List Entry) × IsTogether N.start history hand.old apart.old × HasFilesAt N.start history server.now }
-    ensures parted { (history : List Entry) → IsTogether N.start history hand.old apart.old → AreParted N.start history hand.new apart.new }
-    ensures beside { (history : List Entry) → IsTogether N.start history hand.old apart.old → IsBeside hand.old (joined hand.new apart.new.parts) }
-{
-    put_gathered_away(hand, apart, server, gathered);
-    put_named_away(hand, apart, server, desc);
-    apart.part(hand);
-}
-
-// The files that came together go apart again.
-fn put_gathered_away<N: Naming>(
-    hand: &mut OneHand<N>,
-    apart: &mut Apart<N>,
-    server: &DiskServer,
-    gathered: Gathered,
-)
-    requires { (history : List Entry) × IsTogether N.start history hand.old apart.old × HasFilesAt N.start history server.now }
     ensures together { (history : List Entry) → IsTogether N.start history hand.old apart.old → IsTogether N.start history hand.new apart.new }
     ensures beside { (history : List Entry) → IsTogether N.start history hand.old apart.old → IsBeside hand.old hand.new }
 {
     match gathered {
         Gathered::Nothing => {}
+        Gathered::Made => put_named_away(hand, apart, server, desc),
         Gathered::One(file) => put_away(hand, apart, server, file),
         Gathered::Every => put_all_away(hand, apart, server),
     }
@@ -134,16 +158,15 @@ fn put_all_away<N: Naming>(hand: &mut OneHand<N>, apart: &mut Apart<N>, server: 
     }
 }
 
-// A file goes into a hand of its own, if it is there and isn't apart. Where memory is wanting it stays with the session's.
+// A file goes into a hand of its own, if it is there and isn't apart. Where memory is wanting it stays with the session's. The place of
+// one that is no more is freed.
 fn put_away<N: Naming>(hand: &mut OneHand<N>, apart: &mut Apart<N>, server: &DiskServer, file: u32)
     requires { (history : List Entry) × IsTogether N.start history hand.old apart.old × HasFilesAt N.start history server.now }
     ensures together { (history : List Entry) → IsTogether N.start history hand.old apart.old → IsTogether N.start history hand.new apart.new }
     ensures beside { (history : List Entry) → IsTogether N.start history hand.old apart.old → IsBeside hand.old hand.new }
 {
     if !server.has(file) {
-        return;
-    }
-    if apart.has_file(file) {
+        apart.forget(file);
         return;
     }
     apart.split_file(hand, file);

@@ -9,7 +9,7 @@ ghost use Rattle.ufs_model.specs.PosixTree.{PosixTree};
 ghost use Rattle.ufs_model.specs.declared.data.Actor.TheVariants as actor;
 ghost use Rattle.ufs_model.specs.declared.data.Entry.{Entry};
 ghost use Rattle.ufs_model.specs.declared.data.Reply.TheVariants as reply;
-ghost use Rattle.ufs_session.specs.Asking.{AsksOf, HasAnsweredOn};
+ghost use Rattle.ufs_session.specs.Asking.{AsksOf, HasAnsweredOn, IsOwnTold};
 ghost use Rattle.ufs_session.specs.Drawing.{SeesDisk, had_as};
 ghost use Rattle.ufs_session.specs.Picked.{Pick};
 ghost use Rattle.ufs_session.specs.Resting.{IsResting};
@@ -30,7 +30,7 @@ use crate::picks::{Since, Telling};
 use std::marker::Brand;
 use ufs_apart::Apart;
 use ufs_base::{MAX_CLIENTS, MAX_REQUESTS};
-use ufs_client::{answer_own, keep};
+use ufs_client::{OwnAnswer, answer_own, keep};
 use ufs_fds::FdTable;
 use ufs_file::{Applied, answered};
 use ufs_hand::Naming;
@@ -49,7 +49,7 @@ pub(crate) struct Running<N: Naming, D: Door> {
 }
 
 // Serves a client's next request: the parts that it touches come together, it is asked, served, and its entry drawn; then they
-// go apart again.
+// go apart again. Its client's hands go apart, and those of the other clients stay with the one that draws.
 pub(crate) fn serve_request<N: Naming, D: Door, F: Since, T: Telling>(
     running: Running<N, D>,
     server: &mut DiskServer,
@@ -67,14 +67,14 @@ pub(crate) fn serve_request<N: Naming, D: Door, F: Since, T: Telling>(
     requires ticket { ticket ≡ length T.history }
     requires numbers { server.old.names.next < 2 ^ 31 }
     requires asks { (begun : Parts) × (picks : List Pick) × AsksOf N.start begun picks server.old T.history fds.old asked }
-    requires resting { IsResting N.start D.keeps F.count (had_as N.start T.history) (D.store running.door) running.hand running.apart }
+    requires resting { IsResting N.start D.keeps F.count asked.client 1 (had_as N.start T.history) (D.store running.door) running.hand running.apart }
     requires sees { SeesDisk N.start D.visible (D.store running.door) T.history server.old }
     requires faults { (begun : StoreState) × AreFaultsTold begun (D.store running.door) T.history }
     requires sound { IsSoundServer (geometry_of_store (D.store running.door)) (D.store running.door).unassigned.free server.old }
     ensures entry { IsEntryOf asked result.1.by ticket result.1 }
     ensures answered { (begun : Parts) (picks : List Pick) → AsksOf N.start begun picks server.old T.history fds.old asked
         → HasAnsweredOn N.start D.visible D.keeps begun picks (D.store running.door) (D.store result.0.door) server.old server.new T.history fds.new asked result.1 }
-    ensures resting { IsResting N.start D.keeps F.count (had_as N.start (T.history ++ result.1 ∷ [])) (D.store result.0.door) result.0.hand result.0.apart }
+    ensures resting { IsResting N.start D.keeps F.count asked.client 1 (had_as N.start (T.history ++ result.1 ∷ [])) (D.store result.0.door) result.0.hand result.0.apart }
     ensures faults { AreFaultsTold (D.store running.door) (D.store result.0.door) (result.1 ∷ []) }
     ensures sound { IsSoundServer (geometry_of_store (D.store result.0.door)) (D.store result.0.door).unassigned.free server.new }
     ensures geometry { geometry_of_store (D.store result.0.door) ≡ geometry_of_store (D.store running.door) }
@@ -91,16 +91,18 @@ pub(crate) fn serve_request<N: Naming, D: Door, F: Since, T: Telling>(
         mut apart,
         door,
     } = running;
-    let gathered = files_of(server, &asked);
+    let client = asked.client;
+    let own = answer_own(&asked);
+    let gathered = files_of(server, &asked, own.is_some());
     gather(&mut hand, &mut apart, gathered);
     hand.ask(asked.client, &asked.op);
     let (mut hand, door, applied) = serve_stamped::<N, D, Brand>(
-        hand, &apart, door, server, asked, ticket,
+        hand, &apart, door, server, asked, own, ticket,
     );
     let desc = applied.desc;
     keep(fds, &applied.entry, desc);
     let entry = draw::<N, T>(&mut hand, fds, applied.entry);
-    scatter(&mut hand, &mut apart, server, gathered, desc);
+    scatter(&mut hand, &mut apart, server, gathered, desc, client, 1);
     (Running { hand, apart, door }, entry)
 }
 
@@ -111,6 +113,7 @@ fn serve_stamped<N: Naming, D: Door, S: Stamping>(
     door: D,
     server: &mut DiskServer,
     asked: Ask,
+    own: Option<OwnAnswer>,
     ticket: u64,
 ) -> (OneHand<N>, D, Applied)
     requires before { S.before ≡ before_of (D.store door) }
@@ -120,6 +123,7 @@ fn serve_stamped<N: Naming, D: Door, S: Stamping>(
     requires bounded { IsBounded asked.op }
     requires numbers { server.old.names.next < 2 ^ 31 }
     requires asked { (t : PosixTree) × ArePartsOf server.old t × IsAsk t asked }
+    requires own { IsOwnTold asked own }
     requires sees { SeesDisk N.start D.visible (D.store door) S.history server.old }
     requires sound { IsSoundServer (geometry_of_store (D.store door)) (D.store door).unassigned.free server.old }
     ensures stamping { IsStamping N.start S.history S.asked S.files S.first D.visible D.keeps S.before (D.store result.1) result.0 }
@@ -140,18 +144,25 @@ fn serve_stamped<N: Naming, D: Door, S: Stamping>(
     // For the prover alone.
     let _ = apart;
     let mut stamped = StampedDoor::<N, D, S>::begin(door, hand);
-    let applied = serve_one(server, &mut stamped, asked, ticket);
+    let applied = serve_one(server, &mut stamped, asked, own, ticket);
     let (door, hand) = stamped.end();
     (hand, door, applied)
 }
 
 // Serves a request: the client does where its descriptors tell the answer, and the server otherwise, once the blocks
 // that the request needs are in memory.
-fn serve_one<D: Door>(server: &mut DiskServer, door: &mut D, ask: Ask, ticket: u64) -> Applied
+fn serve_one<D: Door>(
+    server: &mut DiskServer,
+    door: &mut D,
+    ask: Ask,
+    own: Option<OwnAnswer>,
+    ticket: u64,
+) -> Applied
     requires client { ask.client < MAX_CLIENTS }
     requires bounded { IsBounded ask.op }
     requires numbers { server.old.names.next < 2 ^ 31 }
     requires asked { (t : PosixTree) × ArePartsOf server.old t × IsAsk t ask }
+    requires own { IsOwnTold ask own }
     requires sound { IsSoundServer (geometry_of_store (D.store door.old)) (D.store door.old).unassigned.free server.old }
     requires stamped { D.stamps → ExplainsAllowed D.allows (D.store door.old) server.old }
     ensures entry { IsEntryOf ask result.entry.by ticket result.entry }
@@ -171,7 +182,7 @@ fn serve_one<D: Door>(server: &mut DiskServer, door: &mut D, ask: Ask, ticket: u
     let geometry = door.geometry();
     on_disk_law(&geometry);
     always_law(&geometry);
-    let Some(answer) = answer_own(&ask) else {
+    let Some(answer) = own else {
         return match server.fetch(door, &ask) {
             Ok(()) => server.apply(door, ask, Actor::Primary, ticket),
             Err(excuse) => unread(ask, ticket, excuse),

@@ -1,4 +1,4 @@
-ghost use Rattle.std.specs.Prelude.{◌-◌, ◌≡◌, ◌≤◌, ◌<◌, ◌*◌, ◌++◌, [], ℕ, List, None, IsTrue, length};
+ghost use Rattle.std.specs.Prelude.{◌-◌, ◌≡◌, ◌≤◌, ◌<◌, ◌*◌, ◌++◌, [], ℕ, List, None, Err, IsTrue, length};
 ghost use Rattle.ufs_disk.specs.Moments.{all};
 ghost use Rattle.ufs_sound.specs.Visible.{IsDiskVisible};
 ghost use Rattle.ufs_model.specs.PosixTree.{PosixTree};
@@ -8,6 +8,7 @@ ghost use Rattle.ufs_stored.specs.OnDisk.{IsOnDisk};
 ghost use Rattle.ufs_stored.specs.Parts.{Parts};
 ghost use Rattle.ufs_stored.specs.Sound.{IsSoundServer};
 ghost use Rattle.ufs_stored.specs.Stored.{ArePartsOf};
+ghost use Rattle.ufs_client.specs.declared.played.EndFault.TheVariants as fault;
 ghost use Rattle.ufs_one_hand.specs.OneHand.{IsStart};
 ghost use Rattle.ufs_session.specs.Drawing.{SeesDisk, had_as};
 ghost use Rattle.ufs_session.specs.Told.{AreFaultsTold};
@@ -21,7 +22,7 @@ ghost use Rattle.ufs_session.specs.Serving.{GoesOn};
 ghost use Rattle.ufs_session.specs.Throughout.{AreMomentsStamped, IsExplainedThroughout};
 
 use crate::drawing::stamp_disk;
-use crate::parting::{Gathered, gather_all, scatter};
+use crate::parting::{Gathered, gather_all, regroup, scatter};
 use crate::picks::{Since, Telling};
 use crate::request::{Running, serve_request};
 use std::alloc::Global;
@@ -32,7 +33,7 @@ use ufs_client::{EndFault, Session, ToldLists, ask};
 use ufs_fds::FdTable;
 use ufs_hand::{Naming, Opened};
 use ufs_model::{Ask, Entry, EntryList};
-use ufs_one_hand::OneHand;
+use ufs_one_hand::{OneHand, abandon};
 use ufs_script::{OpList, OpLists};
 use ufs_server::DiskServer;
 use ufs_store::Door;
@@ -87,9 +88,38 @@ pub fn serve<D: Door>(
     ensures geometry { geometry_of_store (D.store result.door) ≡ geometry_of_store (D.store door) }
     ensures sectors { (D.store result.door).sectors ≡ (D.store door).sectors }
 {
-    // As many entries were drawn as are told (`entries`).
-    let (served, _drawn) = serve_in::<Brand, D, Brand>(alloc, opened, server, door, clients);
-    served
+    let geometry = door.geometry();
+    always_law(&geometry);
+    // In a box the store is handed on as a pointer.
+    match Box::new(alloc, door) {
+        Ok(door) => {
+            // As many entries were drawn as are told (`entries`).
+            let (served, _drawn) = serve_in::<Brand, Box<D>, Brand>(alloc, opened, server, door, clients);
+            let Served { session, door } = served;
+            Served {
+                session,
+                door: Box::into_inner(door),
+            }
+        }
+        Err(failed) => {
+            abandon(opened);
+            Served {
+                session: unbegun(alloc),
+                door: failed.value,
+            }
+        }
+    }
+}
+
+// A session that ends at once for want of memory.
+fn unbegun(alloc: Global) -> Session
+    ensures told { result.told ≡ [] }
+    ensures ended { result.ended ≡ Err fault.Memory }
+{
+    Session {
+        told: ToldLists::from_vec(Vec::new(alloc)),
+        ended: Err(EndFault::Memory),
+    }
 }
 
 // The same, of a session that has a name. Its first hand has every part, and the last one ends it.
@@ -116,15 +146,11 @@ fn serve_in<N: Naming, D: Door, F: Since>(
     always_law(&geometry);
     let mut hand = OneHand::<N>::begin(opened);
     stamp_disk::<N, D, Brand>(&mut hand, &door);
-    let count = clients.as_slice().len() as u8;
-    match Apart::new(alloc, count) {
+    match Apart::new(alloc) {
         Ok(apart) => serve_apart::<N, D, F>(alloc, Running { hand, apart, door }, server, clients),
         Err(Memory) => {
             let drawn = hand.close();
-            let session = Session {
-                told: ToldLists::from_vec(Vec::new(alloc)),
-                ended: Err(EndFault::Memory),
-            };
+            let session = unbegun(alloc);
             (Served { session, door }, drawn)
         }
     }
@@ -154,7 +180,8 @@ fn serve_apart<N: Naming, D: Door, F: Since>(
         mut apart,
         door,
     } = running;
-    scatter(&mut hand, &mut apart, server, Gathered::Every, None);
+    let count = clients.as_slice().len() as u8;
+    scatter(&mut hand, &mut apart, server, Gathered::Every, None, 0, count);
     let mut told = Vec::new(alloc);
     let begun = Running { hand, apart, door };
     let (running, ended) = serve_clients::<N, D, F>(alloc, begun, server, clients, &mut told);
@@ -172,7 +199,7 @@ fn serve_apart<N: Naming, D: Door, F: Since>(
     (Served { session, door }, drawn)
 }
 
-// Serves the clients, one after another.
+// Serves the clients, one after another. Between two of them each client's hands are apart, and while one is served its own alone.
 fn serve_clients<N: Naming, D: Door, F: Since>(
     alloc: Global,
     running: Running<N, D>,
@@ -182,16 +209,17 @@ fn serve_clients<N: Naming, D: Door, F: Since>(
 ) -> (Running<N, D>, Result<(), EndFault>)
     requires plain { D.stamps → ⊥ }
     requires start { BeginsAs N.start server.old }
-    requires resting { IsResting N.start D.keeps F.count [] (D.store running.door) running.hand running.apart }
+    requires resting { IsResting N.start D.keeps F.count 0 (length clients) [] (D.store running.door) running.hand running.apart }
     requires sees { SeesDisk N.start D.visible (D.store running.door) [] server.old }
     requires sound { IsSoundServer (geometry_of_store (D.store running.door)) (D.store running.door).unassigned.free server.old }
     requires none { told.old.items ≡ [] }
     ensures served { AreServed N.start D.visible D.keeps (D.store running.door) (D.store result.0.door) server.old server.new clients told.new.items result.1 }
-    ensures resting { IsResting N.start D.keeps F.count (had_as N.start (joined told.new.items)) (D.store result.0.door) result.0.hand result.0.apart }
+    ensures resting { IsResting N.start D.keeps F.count 0 (length clients) (had_as N.start (joined told.new.items)) (D.store result.0.door) result.0.hand result.0.apart }
 {
     let geometry = running.door.geometry();
     always_law(&geometry);
     let mut running = running;
+    let count = clients.as_slice().len() as u8;
     let mut client = 0u8;
     let mut first = 0u64;
     for requests in clients.into_vec() {
@@ -200,10 +228,12 @@ fn serve_clients<N: Naming, D: Door, F: Since>(
             return (running, Err(EndFault::Memory));
         }
         let mut mine = Vec::new(alloc);
+        regroup(&mut running.hand, &mut running.apart, client, 1);
         let (next, ended) = serve_client::<N, D, F>(
             running, server, told, client, first, requests, &mut mine,
         );
         running = next;
+        regroup(&mut running.hand, &mut running.apart, 0, count);
         first += mine.len() as u64;
         told.push(EntryList::from_vec(mine)).unwrap();
         match ended {
@@ -230,7 +260,7 @@ fn serve_client<N: Naming, D: Door, F: Since>(
     requires few { length (joined earlier.now.items) ≤ (MAX_CLIENTS - 1) * MAX_REQUESTS }
     requires first { first ≡ length (joined earlier.now.items) }
     requires ready { (begun : Parts) × (picks : List Pick) × IsNewTo N.start begun picks server.old (joined earlier.now.items) client }
-    requires resting { IsResting N.start D.keeps F.count (had_as N.start (joined earlier.now.items)) (D.store running.door) running.hand running.apart }
+    requires resting { IsResting N.start D.keeps F.count client 1 (had_as N.start (joined earlier.now.items)) (D.store running.door) running.hand running.apart }
     requires sees { SeesDisk N.start D.visible (D.store running.door) (joined earlier.now.items) server.old }
     requires faults { (begun : StoreState) × AreFaultsTold begun (D.store running.door) (joined earlier.now.items) }
     requires sound { IsSoundServer (geometry_of_store (D.store running.door)) (D.store running.door).unassigned.free server.old }
@@ -239,7 +269,7 @@ fn serve_client<N: Naming, D: Door, F: Since>(
     ensures served { (begun : Parts) (picks : List Pick) → IsNewTo N.start begun picks server.old (joined earlier.now.items) client
         → HasServedOn N.start D.visible D.keeps begun picks (D.store running.door) (D.store result.0.door) server.old server.new (joined earlier.now.items) told.new.items client requests result.1 }
     ensures faults { AreFaultsTold (D.store running.door) (D.store result.0.door) told.new.items }
-    ensures resting { IsResting N.start D.keeps F.count (had_as N.start (joined earlier.now.items ++ told.new.items)) (D.store result.0.door) result.0.hand result.0.apart }
+    ensures resting { IsResting N.start D.keeps F.count client 1 (had_as N.start (joined earlier.now.items ++ told.new.items)) (D.store result.0.door) result.0.hand result.0.apart }
     ensures sound { IsSoundServer (geometry_of_store (D.store result.0.door)) (D.store result.0.door).unassigned.free server.new }
     ensures geometry { geometry_of_store (D.store result.0.door) ≡ geometry_of_store (D.store running.door) }
     ensures sectors { (D.store result.0.door).sectors ≡ (D.store running.door).sectors }
