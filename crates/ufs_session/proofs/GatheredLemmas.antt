@@ -1,10 +1,10 @@
 -- The hands of a session come together, and go apart.
-use Rattle.std.proofs.Common.{◌≡◌, ◌⊎◌, inl, inr, ℕ, false, List, [], None, Some, Option, is_some, ap, sym, refl, ◌∙◌, subst}
+use Rattle.std.proofs.Common.{◌≡◌, ◌⊎◌, inl, inr, ℕ, List, [], None, Option, is_some, ap, sym, ◌∙◌, subst}
 use Rattle.std.specs.FinMap as fin
 use Rattle.ufs_alike.specs.Alike.{AreAlike}
 use Rattle.ufs_alike.proofs.PartLemmas.{touched}
 use Rattle.ufs_alike.proofs.SizeLemmas.{both_some}
-use Rattle.ufs_apart.specs.Apart.{ApartState, AreApart, IsBeside, IsSplit, joined}
+use Rattle.ufs_apart.specs.Apart.{ApartState, AreApart, IsBeside, IsSplit, given_all, joined, kept_all, part_names}
 use Rattle.ufs_apart.proofs.Whole.{are_apart, has_each, has_session}
 use Rattle.ufs_model.specs.PosixTree.{PosixTree}
 use Rattle.ufs_model.specs.Touched.{IsPartOf}
@@ -15,7 +15,7 @@ use Rattle.ufs_model.specs.declared.data.PartName.TheVariants as part
 use Rattle.ufs_one_hand.specs.Apart.{FileViews, HasEachFile}
 use Rattle.ufs_sound.specs.Parts.{Start, View}
 use Rattle.ufs_session.specs.Drawing.{HasFilesOf}
-use Rattle.ufs_session.specs.Gathered.{HasGathered, IsGathered, IsTogether}
+use Rattle.ufs_session.specs.Gathered.{AreParted, HasGathered, IsGathered, IsTogether}
 use Rattle.ufs_session.specs.declared.parting.Gathered.{Gathered}
 
 -- ---- together and apart
@@ -26,6 +26,16 @@ module _ (k : Start) (history : List Entry) (v : View) (a : ApartState) where
 
   pub apart_of : IsTogether k history v a → AreApart k history None v a
   apart_of is = are_apart k history None v a is.none is.session is.each
+
+-- the parts that every request joins go apart
+pub parted_of : (k : Start) (history : List Entry) (first many : ℕ) (v : View) (a : ApartState) (w : View) (b : ApartState) → IsTogether k history v a → w ≡ kept_all (part_names first many) v → b ≡ record a { parts = given_all (part_names first many) v }
+    → ((history : List Entry) (asked : Option (ℕ × Op)) → AreApart k history asked v a → AreApart k history asked w b) → AreParted k history first many w b
+parted_of k history first many v a w b is kept given apart = record {
+  session = apart history None (apart_of k history v a is);
+  whole = v;
+  kept = kept;
+  given = ap (λ (x : ApartState). x.parts) given;
+}
 
 -- ---- the same of the disk
 
@@ -40,10 +50,6 @@ split_parts file v w a b (inl split) = ap (λ (x : ApartState). x.parts) split.g
 split_parts file v w a b (inr same) = ap (λ (x : ApartState). x.parts) same.1
 
 -- ---- which files are there
-
-pub none_there : {A : Type 0} (o : Option A) → is_some o ≡ false → o ≡ None
-none_there None not = refl
-none_there (Some x) not = absurd cc
 
 -- in the server's tree, and in the hand's
 pub there_alike : (t u : PosixTree) → AreAlike t u → (f : ℕ) → is_some (fin.get t.bytes f) ≡ is_some (fin.get u.bytes f)

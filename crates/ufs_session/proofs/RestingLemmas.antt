@@ -1,7 +1,7 @@
 -- What the hands know of the disk, from one step to another.
 use Rattle.std.proofs.Common.{◌≡◌, ◌≤◌, ◌+◌, ◌⊎◌, inl, inr, ℕ, Bool, [], List, Option, Some, None, length, ap, sym, refl, ◌∙◌, subst, arith}
 use Rattle.std.specs.Prelude.{IsTrue}
-use Rattle.ufs_apart.specs.Apart.{IsBeside}
+use Rattle.ufs_apart.specs.Apart.{ApartState, IsBeside, joined}
 use Rattle.ufs_apart.proofs.Beside.{beside_covered, beside_faults, beside_passed, beside_stamped, beside_state}
 use Rattle.ufs_model.specs.declared.data.Entry.{Entry}
 use Rattle.ufs_model.specs.declared.data.Op.{Op}
@@ -15,7 +15,8 @@ use Rattle.ufs_sound.specs.Visible.{IsDiskVisible}
 use Rattle.ufs_stamped.specs.Stamped.{HasCounted, HasStamped, IsStamping, before_of, disk_state}
 use Rattle.ufs_store.specs.State.{StoreState}
 use Rattle.ufs_session.specs.Drawing.{KnowsFaults}
-use Rattle.ufs_session.specs.Resting.{KnowsDisk}
+use Rattle.ufs_session.specs.Gathered.{AreParted}
+use Rattle.ufs_session.specs.Resting.{IsResting, KnowsDisk}
 use Rattle.ufs_session.specs.Told.{IsReadFault, IsStopFault, TellsRequest}
 use Rattle.ufs_session.proofs.ToldLemmas.{Meets, meets}
 
@@ -44,6 +45,11 @@ module _ (k : Start) (keeps : Bool) (first : ℕ) (history : List Entry) (s : St
   pub knows_beside : IsBeside v w → KnowsDisk k keeps first history s w
   knows_beside beside =
       knows_on history (beside_covered v w beside k history knows.covered) (beside_passed v w beside) (beside_stamped v w beside) beside.stop (beside_state v w beside) (beside_faults v w beside) (beside.shortages ∙ knows.shortages)
+
+-- Other hands are apart.
+pub regrouped : (k : Start) (keeps : Bool) (since from was first many : ℕ) (history : List Entry) (s : StoreState) (v : View) (a : ApartState) (w : View) (b : ApartState) → IsResting k keeps since from was history s v a → AreParted k history first many w b → IsBeside (joined v a.parts) (joined w b.parts)
+    → IsResting k keeps since first many history s w b
+regrouped k keeps since from was first many history s v a w b is parted beside = record { parted = parted; knows = knows_beside k keeps since history s (joined v a.parts) is.knows (joined w b.parts) beside }
 
 -- A request begins to be stamped by such a hand.
 pub stamping_begins : (k : Start) (keeps : Bool) (first : ℕ) (history : List Entry) (s : StoreState) (v : View) → KnowsDisk k keeps first history s v → (asked : Option (ℕ × Op)) (files : FileViews) (visible : Bool) → HasSession k history asked v → HasEachFile k history v files → stamp_in v ≡ length history → (IsDiskVisible k → IsTrue visible) → (IsDiskVisible k → ExplainsImages k.tree history (disk_state s))

@@ -23,10 +23,10 @@ pub record HasTable (t : PosixTree) (client : ℕ) (table : Descs) : Type 0 wher
   pub ranged : AreRanged t.fds client
 
 -- This is what the client answers itself of the request, if it does.
-pub record IsOwnTold (ask : Ask) (own : Option OwnAnswer) : Type 0 where
-  pub own : (t : PosixTree) → IsAsk t ask → is_some own ≡ is_own t ask.client ask.op
-  pub posix : IfSome own (λ answer. (t : PosixTree) → IsAsk t ask → IsOwnAnswer t ask.client ask.op answer.reply answer.desc)
-  pub plain : IfSome own (λ answer. is_excused answer.reply ≡ false)
+pub record IsOwnTold (ask : Ask) (told : Option OwnAnswer) : Type 0 where
+  pub own : (t : PosixTree) → IsAsk t ask → is_some told ≡ is_own t ask.client ask.op
+  pub posix : IfSome told (λ answer. (t : PosixTree) → IsAsk t ask → IsOwnAnswer t ask.client ask.op answer.reply answer.desc)
+  pub plain : IfSome told (λ answer. is_excused answer.reply ≡ false)
 
 -- The client of the request asks it behind this history, as its next one.
 pub record IsAsking (start : PosixTree) (history : List Entry) (p : Parts) (table : Descs) (ask : Ask) : Type 0 where

@@ -111,6 +111,14 @@ pub fn serve<D: Door>(
     }
 }
 
+// How many clients these are.
+fn count_of(clients: &OpLists) -> u8
+    ensures count { result ≡ length clients.now }
+    ensures few { result ≤ MAX_CLIENTS }
+{
+    clients.as_slice().len() as u8
+}
+
 // A session that ends at once for want of memory.
 fn unbegun(alloc: Global) -> Session
     ensures told { result.told ≡ [] }
@@ -180,7 +188,7 @@ fn serve_apart<N: Naming, D: Door, F: Since>(
         mut apart,
         door,
     } = running;
-    let count = clients.as_slice().len() as u8;
+    let count = count_of(&clients);
     scatter(&mut hand, &mut apart, server, Gathered::Every, None, 0, count);
     let mut told = Vec::new(alloc);
     let begun = Running { hand, apart, door };
@@ -219,7 +227,7 @@ fn serve_clients<N: Naming, D: Door, F: Since>(
     let geometry = running.door.geometry();
     always_law(&geometry);
     let mut running = running;
-    let count = clients.as_slice().len() as u8;
+    let count = count_of(&clients);
     let mut client = 0u8;
     let mut first = 0u64;
     for requests in clients.into_vec() {

@@ -11,21 +11,13 @@ use Rattle.ufs_apart.proofs.Beside.{beside_then}
 use Rattle.ufs_session.proofs.GatheredLemmas.{beside_right, together_of}
 use Rattle.ufs_session.proofs.parting.gather.Goals as goal
 
-pub returns-in-Nothing : goal.returns-in-Nothing
-returns-in-Nothing g c =
-    let none = ap (λ (a : ApartState). a.parts) c.join.ensures.none in record {
-      together = λ history is. together_of g.N.Naming.start history c.join.new.hand c.join.new.self (c.join.ensures.apart history None is.session) none;
-      beside = λ history is. beside_right (joined c.args.hand.now c.args.apart.now.parts) c.join.new.hand c.join.new.self.parts none c.join.ensures.beside;
-      files = λ file gathered. absurd (subst (λ (x : Gathered). IsGathered x file) c.in-Nothing.is gathered);
-    }
-
 pub returns-in-One : goal.returns-in-One
 returns-in-One g c =
     let k = g.N.Naming.start in
     let f = c.join_file.ensures in
     let none = ap (λ (a : ApartState). a.parts) f.taken ∙ ap (λ (a : ApartState). a.parts) c.join.ensures.none in record {
-      together = λ history is. together_of k history c.join_file.new.hand c.join_file.new.self (f.apart history None (c.join.ensures.apart history None is.session)) none;
-      beside = λ history is.
+      together = λ history first many is. together_of k history c.join_file.new.hand c.join_file.new.self (f.apart history None (c.join.ensures.apart history None is.session)) none;
+      beside = λ history first many is.
           beside_right (joined c.args.hand.now c.args.apart.now.parts) c.join_file.new.hand c.join_file.new.self.parts none
           (beside_then (joined c.args.hand.now c.args.apart.now.parts) (joined c.join.new.hand c.join.new.self.parts) (joined c.join_file.new.hand c.join_file.new.self.parts) c.join.ensures.beside
           (f.beside history None (c.join.ensures.apart history None is.session)));
@@ -39,8 +31,8 @@ returns-in-Every g c =
     let k = g.N.Naming.start in
     let f = c.join_files.ensures in
     let none = ap (λ (a : ApartState). a.parts) f.empty ∙ ap (λ (a : ApartState). a.parts) c.join.ensures.none in record {
-      together = λ history is. together_of k history c.join_files.new.hand c.join_files.new.self (f.apart history None (c.join.ensures.apart history None is.session)) none;
-      beside = λ history is.
+      together = λ history first many is. together_of k history c.join_files.new.hand c.join_files.new.self (f.apart history None (c.join.ensures.apart history None is.session)) none;
+      beside = λ history first many is.
           beside_right (joined c.args.hand.now c.args.apart.now.parts) c.join_files.new.hand c.join_files.new.self.parts none
           (beside_then (joined c.args.hand.now c.args.apart.now.parts) (joined c.join.new.hand c.join.new.self.parts) (joined c.join_files.new.hand c.join_files.new.self.parts) c.join.ensures.beside
           (f.beside history None (c.join.ensures.apart history None is.session)));

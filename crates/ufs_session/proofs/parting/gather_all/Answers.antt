@@ -9,8 +9,8 @@ returns g c =
     let k = g.N.Naming.start in
     let f = c.join_files.ensures in
     let none = ap (λ (a : ApartState). a.parts) f.empty ∙ ap (λ (a : ApartState). a.parts) c.join.ensures.none in record {
-      together = λ history is. together_of k history c.join_files.new.hand c.join_files.new.self (f.apart history None (c.join.ensures.apart history None is.session)) none;
-      beside = λ history is.
+      together = λ history first many is. together_of k history c.join_files.new.hand c.join_files.new.self (f.apart history None (c.join.ensures.apart history None is.session)) none;
+      beside = λ history first many is.
           beside_right (joined c.args.hand.now c.args.apart.now.parts) c.join_files.new.hand c.join_files.new.self.parts none
           (beside_then (joined c.args.hand.now c.args.apart.now.parts) (joined c.join.new.hand c.join.new.self.parts) (joined c.join_files.new.hand c.join_files.new.self.parts) c.join.ensures.beside
           (f.beside history None (c.join.ensures.apart history None is.session)));

@@ -1,16 +1,14 @@
-use Rattle.std.proofs.Common.{sym, ◌∙◌, None}
+use Rattle.std.proofs.Common.{sym, ◌∙◌, None, subst}
 use Rattle.std.specs.FinMap as fin
 use Rattle.ufs_model.specs.History.{tree_after}
+use Rattle.ufs_session.specs.Gathered.{IsTogether}
 use Rattle.ufs_apart.proofs.Beside.{beside_self}
 use Rattle.ufs_apart.proofs.Whole.{beside_whole, has_file}
-use Rattle.ufs_session.proofs.GatheredLemmas.{apart_of, none_there, split_parts, there_alike, together_of}
+use Rattle.ufs_session.proofs.GatheredLemmas.{apart_of, split_parts, there_alike, together_of}
 use Rattle.ufs_session.proofs.parting.put_away.Goals as goal
 
 pub returns-then-not-has : goal.returns-then-not-has
-returns-then-not-has g c = record { together = λ history is. is; beside = λ history is. beside_self c.args.hand.now }
-
-pub returns-then-has_file : goal.returns-then-has_file
-returns-then-has_file g c = record { together = λ history is. is; beside = λ history is. beside_self c.args.hand.now }
+returns-then-not-has g c = record { together = λ history is. subst (IsTogether g.N.Naming.start history c.args.hand.now) (sym c.forget.ensures) is; beside = λ history is. beside_self c.args.hand.now }
 
 pub split_file-requires-clause-here : goal.split_file-requires-clause-here
 split_file-requires-clause-here g c =
@@ -18,11 +16,8 @@ split_file-requires-clause-here g c =
     let r = c.requires in
     let a = c.args.apart.now in
     let tree = tree_after k.tree r.0 in
-    has_file k r.0 None c.args.hand.now a r.1.none (apart_of k r.0 c.args.hand.now a r.1) c.args.file (none_there (fin.get a.files c.args.file) (sym c.has_file.ensures ∙ c.if-has_file.false))
+    λ absent. has_file k r.0 None c.args.hand.now a r.1.none (apart_of k r.0 c.args.hand.now a r.1) c.args.file absent
     (sym (there_alike r.2.tree tree r.2.alike c.args.file) ∙ sym (c.has.ensures r.2.tree r.2.parts) ∙ c.if-not-has.false)
-
-pub split_file-requires-clause-apart : goal.split_file-requires-clause-apart
-split_file-requires-clause-apart g c = none_there (fin.get c.args.apart.now.files c.args.file) (sym c.has_file.ensures ∙ c.if-has_file.false)
 
 pub returns : goal.returns
 returns g c =

@@ -14,6 +14,7 @@ use Rattle.ufs_store.specs.State.{geometry_of_store}
 use Rattle.ufs_stored.specs.OnDisk.{IsExplainedBetween, IsOnDisk}
 use Rattle.ufs_stored.proofs.Stamping.{go_on}
 use Rattle.ufs_file.specs.Content.{own_bytes}
+use Rattle.ufs_session.specs.Asking.{IsOwnTold}
 use Rattle.ufs_session.proofs.FurtherLemmas.{tree_read}
 use Rattle.ufs_session.proofs.OwnLemmas.{bytes_behind, nothing, own_answered, parts_behind, parts_on_disk, same_bytes}
 use Rattle.ufs_session.proofs.ReadingLemmas.{nothing_forgotten, parts_before, read_failed, read_served, same_excuse}
@@ -21,7 +22,7 @@ use Rattle.ufs_session.proofs.ThroughoutLemmas.{between_joined, throughout_one}
 use Rattle.ufs_session.proofs.ToldLemmas.{plain_going, served_told}
 use Rattle.ufs_session.proofs.request.serve_one.Given.{Over}
 use Rattle.ufs_session.proofs.request.serve_one.Goals as goal
-use Rattle.ufs_session.proofs.request.serve_one.Goals.{After-apply}
+use Rattle.ufs_session.proofs.request.serve_one.Goals.{After-apply, In-Some}
 
 pub apply-requires-clause-asked : goal.apply-requires-clause-asked
 apply-requires-clause-asked g c =
@@ -127,12 +128,16 @@ returns-in-Err-clause-told g c =
 
 -- ---- the client answered
 
+module _ (g : Over) (c : In-Some g) where
+  told : IsOwnTold c.args.ask (Some c.in-Some.answer)
+  told = subst (IsOwnTold c.args.ask) c.in-Some.is c.requires.own
+
 pub returns-clause-reading : goal.returns-clause-reading
 returns-clause-reading g c =
     let p = c.args.server.now in
     let ask = c.args.ask in
     let answer = c.in-Some.answer in
-    let is = c.in-Some.ensures in
+    let is = told g (goal.at.returns-clause-reading g c).In-Some in
     record {
       read = p;
       further = none_read (geometry_of_store (g.D.Door.store c.args.door.now)) (g.D.Door.store c.args.door.now).unassigned.free ask p c.requires.sound;
@@ -148,7 +153,7 @@ pub returns-clause-on_disk : goal.returns-clause-on_disk
 returns-clause-on_disk g c visible start history asked legal is =
     let s = g.D.Door.store c.args.door.now in
     let p = c.args.server.now in
-    let answer = c.in-Some.ensures in
+    let answer = told g (goal.at.returns-clause-on_disk g c).In-Some in
     let own = sym (answer.own _ asked) in
     c.on_disk_law.ensures.beside s start history _ p (sym c.geometry-geometry.ensures.is) legal
     (nothing p _ c.args.ask c.in-Some.answer.reply c.in-Some.answer.desc asked own (answer.posix _ asked))
@@ -159,7 +164,7 @@ pub returns-clause-moments : goal.returns-clause-moments
 returns-clause-moments g c visible start history asked legal is =
     let s = g.D.Door.store c.args.door.now in
     let p = c.args.server.now in
-    let answer = c.in-Some.ensures in
+    let answer = told g (goal.at.returns-clause-moments g c).In-Some in
     let own = sym (answer.own _ asked) in
     let same = sym c.geometry-geometry.ensures.is in
     let next = c.on_disk_law.ensures.beside s start history _ p same legal
@@ -173,5 +178,6 @@ pub returns-clause-told : goal.returns-clause-told
 returns-clause-told g c =
     let s = g.D.Door.store c.args.door.now in
     let r = c.in-Some.answer.reply in
-    let calm = plain_calm r c.in-Some.ensures.plain in
-    served_told s s r (calm_told s s r calm refl refl) (λ fault is. let clash : None ≡ Some fault = sym (plain_going r c.in-Some.ensures.plain) ∙ is in cc) (λ fault is. no_device r calm)
+    let plain = (told g (goal.at.returns-clause-told g c).In-Some).plain in
+    let calm = plain_calm r plain in
+    served_told s s r (calm_told s s r calm refl refl) (λ fault is. let clash : None ≡ Some fault = sym (plain_going r plain) ∙ is in cc) (λ fault is. no_device r calm)

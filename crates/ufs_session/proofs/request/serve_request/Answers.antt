@@ -39,11 +39,11 @@ module _ (g : Over) (c : After-gather g) where
   had = had_as g.N.Naming.start g.T.Telling.history
 
   together : IsTogether g.N.Naming.start had c.gather.new.hand c.gather.new.apart
-  together = c.gather.ensures.together had c.requires.resting.parted
+  together = c.gather.ensures.together had c.args.asked.client 1 c.requires.resting.parted
 
   knows : KnowsDisk g.N.Naming.start g.D.Door.keeps g.F.Since.count had (g.D.Door.store c.args.running.door) c.gather.new.hand
   knows = knows_beside g.N.Naming.start g.D.Door.keeps g.F.Since.count had (g.D.Door.store c.args.running.door) (joined c.args.running.hand c.args.running.apart.parts) c.requires.resting.knows c.gather.new.hand
-      (c.gather.ensures.beside had c.requires.resting.parted)
+      (c.gather.ensures.beside had c.args.asked.client 1 c.requires.resting.parted)
 
 -- the history that the hand has is the one that was told, where the disk is seen
 module _ (g : Over) (c : After-gather g) where
@@ -56,6 +56,9 @@ module _ (g : Over) (c : After-gather g) where
   sees_had sees =
       let there = c.requires.sees sees in
       (there.0, subst (λ (h : List Entry). IsOnDisk (g.D.Door.store c.args.running.door) g.N.Naming.start.tree h c.args.server.now) (sym (had_is sees)) there.1)
+
+pub files_of-gathered-requires-clause-own : goal.files_of-gathered-requires-clause-own
+files_of-gathered-requires-clause-own g c = λ t asked. c.is_some.ensures ∙ c.answer_own-own.ensures.own t asked
 
 pub ask-requires-clause-idle : goal.ask-requires-clause-idle
 ask-requires-clause-idle g c =
@@ -71,6 +74,9 @@ serve_stamped-hand-requires-clause-asked g c =
     let asks = c.requires.asks in
     let one = asks.2.asking asks.2.read.tree asks.2.read.may in
     (tree_after asks.2.read.tree g.T.Telling.history, one.reached.parts, one.asked)
+
+pub serve_stamped-hand-requires-clause-own : goal.serve_stamped-hand-requires-clause-own
+serve_stamped-hand-requires-clause-own g c = let own = c.answer_own-own.ensures in record { own = own.own; posix = own.posix; plain = own.plain }
 
 pub serve_stamped-hand-requires-clause-sees : goal.serve_stamped-hand-requires-clause-sees
 serve_stamped-hand-requires-clause-sees g c = sees_had g (goal.at.serve_stamped-hand-requires-clause-sees g c).After-gather
@@ -249,7 +255,7 @@ module _ (g : Over) (c : After-draw-entry g) where
 
   drawn : IsTogether g.N.Naming.start (had_as g.N.Naming.start more) c.draw-entry.new.hand c.gather.new.apart
   drawn = record {
-    none = (c.gather.ensures.together (had_as g.N.Naming.start g.T.Telling.history) c.requires.resting.parted).none;
+    none = (c.gather.ensures.together (had_as g.N.Naming.start g.T.Telling.history) c.args.asked.client 1 c.requires.resting.parted).none;
     session = c.draw-entry.ensures.session;
     each = c.draw-entry.ensures.apart c.gather.new.apart.files c.serve_stamped-hand.ensures.stamping.each;
   }
@@ -263,9 +269,9 @@ module _ (g : Over) (c : After-draw-entry g) where
       let was = stamping_knows k before (Some (c.args.asked.client, c.args.asked.op)) c.gather.new.apart.files g.F.Since.count g.D.Door.visible g.D.Door.keeps (g.D.Door.store c.args.running.door) next c.serve_stamped-hand.result.0 c.serve_stamped-hand.ensures.stamping in
       knows_on k g.D.Door.keeps g.F.Since.count before next c.serve_stamped-hand.result.0 was c.draw-entry.new.hand (had_as k more) d.covered d.passed d.stamped d.stop d.state d.answered d.shortages
 
-pub scatter-requires : goal.scatter-requires
-scatter-requires g c =
-    let at = goal.at.scatter-requires g c in
+pub scatter-requires-clause-together : goal.scatter-requires-clause-together
+scatter-requires-clause-together g c =
+    let at = goal.at.scatter-requires-clause-together g c in
     let kept = at.After-keep in
     let k = g.N.Naming.start in
     let asks = c.requires.asks in
@@ -294,7 +300,7 @@ returns-clause-resting g c =
     let k = g.N.Naming.start in
     let next = g.D.Door.store c.serve_stamped-hand.result.1 in
     let before = had_as k (more g at) in
-    subst (λ (e : Entry). IsResting k g.D.Door.keeps g.F.Since.count (had_as k (g.T.Telling.history ++ e ∷ [])) next c.scatter.new.hand c.scatter.new.apart) (sym c.draw-entry.ensures.same) (record {
+    subst (λ (e : Entry). IsResting k g.D.Door.keeps g.F.Since.count c.args.asked.client 1 (had_as k (g.T.Telling.history ++ e ∷ [])) next c.scatter.new.hand c.scatter.new.apart) (sym c.draw-entry.ensures.same) (record {
       parted = c.scatter.ensures.parted before (drawn g at);
       knows = knows_beside k g.D.Door.keeps g.F.Since.count before next c.draw-entry.new.hand (knows_drawn g at) (joined c.scatter.new.hand c.scatter.new.apart.parts) (c.scatter.ensures.beside before (drawn g at));
     })

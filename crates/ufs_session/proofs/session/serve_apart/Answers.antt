@@ -9,7 +9,7 @@ use Rattle.ufs_one_hand.specs.Apart.{HasEachFile}
 use Rattle.ufs_sound.specs.Owned.{Has}
 use Rattle.ufs_store_steps.specs.Cells.{cells_of}
 use Rattle.ufs_session.specs.Drawing.{had_as}
-use Rattle.ufs_session.specs.Gathered.{IsTogether}
+use Rattle.ufs_session.specs.Gathered.{AreParted, IsTogether}
 use Rattle.ufs_session.specs.Resting.{KnowsDisk}
 use Rattle.ufs_session.proofs.HadLemmas.{had_length, told_seen}
 use Rattle.ufs_session.proofs.RestingLemmas.{knows_beside}
@@ -17,14 +17,14 @@ use Rattle.ufs_session.proofs.session.serve_apart.Given.{Over}
 use Rattle.ufs_session.proofs.session.serve_apart.Goals as goal
 use Rattle.ufs_session.proofs.session.serve_apart.Goals.{After-gather_all}
 
-pub scatter-requires : goal.scatter-requires
-scatter-requires g c = let from = c.requires.start in ([], c.requires.together, record { tree = from.tree; parts = from.begins.parts; alike = from.like.alike })
+pub scatter-requires-clause-together : goal.scatter-requires-clause-together
+scatter-requires-clause-together g c = let from = c.requires.start in ([], c.requires.together, record { tree = from.tree; parts = from.begins.parts; alike = from.like.alike })
 
 pub serve_clients-running-requires-clause-resting : goal.serve_clients-running-requires-clause-resting
 serve_clients-running-requires-clause-resting g c =
     let s = g.D.Door.store c.args.running.door in
     record {
-      parted = c.scatter.ensures.parted [] c.requires.together;
+      parted = subst (λ (n : ℕ). AreParted g.N.Naming.start [] 0 n c.scatter.new.hand c.scatter.new.apart) c.count_of-count.ensures.count (c.scatter.ensures.parted [] c.requires.together);
       knows = knows_beside g.N.Naming.start g.D.Door.keeps g.F.Since.count [] s c.args.running.hand c.requires.knows (joined c.scatter.new.hand c.scatter.new.apart.parts) (c.scatter.ensures.beside [] c.requires.together);
     }
 
@@ -35,12 +35,12 @@ module _ (g : Over) (c : After-gather_all g) where
   had = had_as g.N.Naming.start (History.joined c.serve_clients-running.new.told.items)
 
   ended : IsTogether g.N.Naming.start had c.gather_all.new.hand c.gather_all.new.apart
-  ended = c.gather_all.ensures.together had c.serve_clients-running.ensures.resting.parted
+  ended = c.gather_all.ensures.together had 0 (length c.args.clients) c.serve_clients-running.ensures.resting.parted
 
   knows_ended : KnowsDisk g.N.Naming.start g.D.Door.keeps g.F.Since.count had (g.D.Door.store c.serve_clients-running.result.0.door) c.gather_all.new.hand
   knows_ended =
       let s = c.serve_clients-running in
-      knows_beside g.N.Naming.start g.D.Door.keeps g.F.Since.count had (g.D.Door.store s.result.0.door) (joined s.result.0.hand s.result.0.apart.parts) s.ensures.resting.knows c.gather_all.new.hand (c.gather_all.ensures.beside had s.ensures.resting.parted)
+      knows_beside g.N.Naming.start g.D.Door.keeps g.F.Since.count had (g.D.Door.store s.result.0.door) (joined s.result.0.hand s.result.0.apart.parts) s.ensures.resting.knows c.gather_all.new.hand (c.gather_all.ensures.beside had 0 (length c.args.clients) s.ensures.resting.parted)
 
 pub close-drawn-requires : goal.close-drawn-requires
 close-drawn-requires g c =

@@ -1,4 +1,4 @@
-use Rattle.std.proofs.Common.{◌≡◌, ◌++◌, ◌∷◌, [], List, ap, refl, sym, ◌∙◌, subst, ◌+◌, ◌<◌, Err, arith}
+use Rattle.std.proofs.Common.{◌≡◌, ◌++◌, ◌∷◌, [], List, ap, refl, sym, ◌∙◌, subst, ℕ, ◌+◌, ◌<◌, Err, arith}
 use Rattle.std.proofs.lemmas.List.{append-nil, append_assoc, length-append}
 use Rattle.ufs_model.specs.History.{joined}
 use Rattle.ufs_model.specs.PosixTree.{PosixTree}
@@ -37,7 +37,7 @@ loop-op-init g c =
                 subst (λ (r : List Op). IsServing start c.args.client c.args.requests before c.args.server.now c.new-fds.result [] 0 [] r) (sym items)
                 (begins start c.args.client c.args.requests before c.args.server.now c.new-fds.result [] c.new-fds.ensures refl c.into_vec-op-items.ensures.few (new_to.ready start may));
           });
-      resting = subst (λ (h : List Entry). IsResting k g.D.Door.keeps g.F.Since.count (had_as k h) s c.args.running.hand c.args.running.apart) whole c.requires.resting;
+      resting = subst (λ (h : List Entry). IsResting k g.D.Door.keeps g.F.Since.count c.args.client 1 (had_as k h) s c.args.running.hand c.args.running.apart) whole c.requires.resting;
       faults = subst (AreFaultsTold s s) (sym c.requires.none) (none_told s);
       sound = c.requires.sound;
       geometry = refl;
@@ -94,8 +94,8 @@ module _ (g : Over) (c : After-ask-asked g) where
   faults_here : AreFaultsTold first now told
   faults_here = subst (AreFaultsTold first now) (sym same_told) c.loop-op.invariant.faults
 
-  resting_here : IsResting g.N.Naming.start g.D.Door.keeps g.F.Since.count (had_as g.N.Naming.start (before ++ told)) now c.loop-op.running.hand c.loop-op.running.apart
-  resting_here = subst (λ (t : List Entry). IsResting g.N.Naming.start g.D.Door.keeps g.F.Since.count (had_as g.N.Naming.start (before ++ t)) now c.loop-op.running.hand c.loop-op.running.apart) (sym same_told) c.loop-op.invariant.resting
+  resting_here : IsResting g.N.Naming.start g.D.Door.keeps g.F.Since.count c.args.client 1 (had_as g.N.Naming.start (before ++ told)) now c.loop-op.running.hand c.loop-op.running.apart
+  resting_here = subst (λ (t : List Entry). IsResting g.N.Naming.start g.D.Door.keeps g.F.Since.count c.args.client 1 (had_as g.N.Naming.start (before ++ t)) now c.loop-op.running.hand c.loop-op.running.apart) (sym same_told) c.loop-op.invariant.resting
 
   few_here : c.loop-op.seq < 65536
   few_here =
@@ -128,7 +128,10 @@ serve_request-next-requires-clause-asks g c =
     (ready.0, (reading g at ready.0 ready.1 ready.2).on.more, asks_of g at ready.0 ready.1 ready.2)
 
 pub serve_request-next-requires-clause-resting : goal.serve_request-next-requires-clause-resting
-serve_request-next-requires-clause-resting g c = resting_here g (goal.at.serve_request-next-requires-clause-resting g c).After-ask-asked
+serve_request-next-requires-clause-resting g c =
+    let at = (goal.at.serve_request-next-requires-clause-resting g c).After-ask-asked in
+    let l = c.loop-op in
+    subst (λ (n : ℕ). IsResting g.N.Naming.start g.D.Door.keeps g.F.Since.count n 1 (had_as g.N.Naming.start (before g at ++ told g at)) (now g at) l.running.hand l.running.apart) (sym c.ask-asked.ensures.client) (resting_here g at)
 
 pub serve_request-next-requires-clause-sees : goal.serve_request-next-requires-clause-sees
 serve_request-next-requires-clause-sees g c = sees_now g (goal.at.serve_request-next-requires-clause-sees g c).After-ask-asked
@@ -162,8 +165,8 @@ loop-op-preserved g c =
                 serving_more start c.args.client c.args.requests (before g at) l.server l.fds (told g at) l.seq l.yielded c.in-Some.op rest
                 (so_far.serving start (record { begins = may.begins; picked = more.on.narrower start may.picked })) c.ask-asked.result entry _ s.entry e.client e.seq e.asked new c.serve_request-next.new.fds (more.answered start may);
           });
-      resting = subst (λ (h : List Entry). IsResting k g.D.Door.keeps g.F.Since.count (had_as k h) next c.serve_request-next.result.0.hand c.serve_request-next.result.0.apart)
-          (append_assoc (before g at) (told g at) (entry ∷ []) ∙ ap (λ (t : List Entry). before g at ++ t) (sym pushed)) s.resting;
+      resting = subst (λ (x : ℕ × List Entry). IsResting k g.D.Door.keeps g.F.Since.count x.0 1 (had_as k x.1) next c.serve_request-next.result.0.hand c.serve_request-next.result.0.apart)
+          (λ i. (e.client i, (append_assoc (before g at) (told g at) (entry ∷ []) ∙ ap (λ (t : List Entry). before g at ++ t) (sym pushed)) i)) s.resting;
       faults = subst (AreFaultsTold (first g at) next) (sym pushed) (told_on (first g at) (now g at) next (told g at) (entry ∷ []) (faults_here g at) s.faults);
       sound = s.sound;
       geometry = s.geometry ∙ l.invariant.geometry;
@@ -179,7 +182,7 @@ overflow_add-seq g c =
 
 pub returns-then-is_err-clause-resting : goal.returns-then-is_err-clause-resting
 returns-then-is_err-clause-resting g c =
-    subst (λ (told : List Entry). IsResting g.N.Naming.start g.D.Door.keeps g.F.Since.count (had_as g.N.Naming.start (joined c.args.earlier.now.items ++ told)) (g.D.Door.store c.loop-op.running.door) c.loop-op.running.hand c.loop-op.running.apart) (sym c.reserve.ensures.items)
+    subst (λ (told : List Entry). IsResting g.N.Naming.start g.D.Door.keeps g.F.Since.count c.args.client 1 (had_as g.N.Naming.start (joined c.args.earlier.now.items ++ told)) (g.D.Door.store c.loop-op.running.door) c.loop-op.running.hand c.loop-op.running.apart) (sym c.reserve.ensures.items)
     c.loop-op.invariant.resting
 
 pub returns-then-is_err-clause-goes_on : goal.returns-then-is_err-clause-goes_on

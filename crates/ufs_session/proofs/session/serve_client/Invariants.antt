@@ -20,7 +20,7 @@ invariant-loop-op g l =
     record {
       reading : (begun : Parts) (picks : List Pick) → IsNewTo g.N.Naming.start begun picks l.fn.server before l.fn.client
           → IsReading g.N.Naming.start g.D.Door.visible g.D.Door.keeps begun picks first now l.fn.server l.server l.fn.client l.fn.requests before l.fds l.told.items l.seq l.yielded l.op-iterator.rest.items;
-      resting : IsResting g.N.Naming.start g.D.Door.keeps g.F.Since.count (had_as g.N.Naming.start (before ++ l.told.items)) now l.running.hand l.running.apart;
+      resting : IsResting g.N.Naming.start g.D.Door.keeps g.F.Since.count l.fn.client 1 (had_as g.N.Naming.start (before ++ l.told.items)) now l.running.hand l.running.apart;
       faults : AreFaultsTold first now l.told.items;
       sound : IsSoundServer (geometry_of_store now) now.unassigned.free l.server;
       geometry : geometry_of_store now ≡ geometry_of_store first;

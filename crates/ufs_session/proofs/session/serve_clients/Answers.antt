@@ -1,4 +1,4 @@
-use Rattle.std.proofs.Common.{◌≡◌, ◌++◌, ◌∷◌, [], List, ap, arith, sym, refl, ◌∙◌, subst, ◌+◌, ℕ, Err, Result}
+use Rattle.std.proofs.Common.{◌≡◌, ◌++◌, ◌∷◌, [], List, ap, arith, length, sym, refl, ◌∙◌, subst, ◌+◌, ℕ, Err, Result}
 use Rattle.std.specs.Prelude.{OnOk}
 use Rattle.ufs_base.specs.declared.Memory.{Memory}
 use Rattle.ufs_model.specs.History.{AreFaultsOnce, joined}
@@ -16,6 +16,7 @@ use Rattle.ufs_session.specs.Served.{AreServed}
 use Rattle.ufs_session.specs.Serving.{IsDone, IsReached}
 use Rattle.ufs_session.specs.Told.{AreFaultsTold}
 use Rattle.ufs_session.proofs.ClientsLemmas.{AreServing, HasReadWith, few, low, none_served, one_client_more, played_here, played_more, ready, served_all, with_more, with_new, with_none, with_sees}
+use Rattle.ufs_session.proofs.RestingLemmas.{regrouped}
 use Rattle.ufs_session.proofs.ToldLemmas.{none_told, once_told, told_on}
 use Rattle.ufs_session.proofs.session.serve_clients.Given.{Over}
 use Rattle.ufs_session.proofs.session.serve_clients.Goals as goal
@@ -35,7 +36,7 @@ loop-requests-init g c =
       sound = c.requires.sound;
       geometry = refl;
       sectors = refl;
-      resting = subst (λ (told : List (List Entry)). IsResting g.N.Naming.start g.D.Door.keeps g.F.Since.count (had_as g.N.Naming.start (joined told)) s c.args.running.hand c.args.running.apart) (sym c.requires.none) c.requires.resting;
+      resting = subst (λ (told : List (List Entry)). IsResting g.N.Naming.start g.D.Door.keeps g.F.Since.count 0 (length c.args.clients) (had_as g.N.Naming.start (joined told)) s c.args.running.hand c.args.running.apart) (sym c.requires.none) c.requires.resting;
     }
 
 -- ---- where no room is left
@@ -56,7 +57,7 @@ returns-then-is_err-clause-served g c =
 
 pub returns-then-is_err-clause-resting : goal.returns-then-is_err-clause-resting
 returns-then-is_err-clause-resting g c =
-    subst (λ (told : List (List Entry)). IsResting g.N.Naming.start g.D.Door.keeps g.F.Since.count (had_as g.N.Naming.start (joined told)) (g.D.Door.store c.loop-requests.running.door) c.loop-requests.running.hand c.loop-requests.running.apart) (sym c.reserve.ensures.items)
+    subst (λ (told : List (List Entry)). IsResting g.N.Naming.start g.D.Door.keeps g.F.Since.count 0 (length c.args.clients) (had_as g.N.Naming.start (joined told)) (g.D.Door.store c.loop-requests.running.door) c.loop-requests.running.hand c.loop-requests.running.apart) (sym c.reserve.ensures.items)
     c.loop-requests.invariant.resting
 
 -- ---- before a client is served
@@ -87,6 +88,14 @@ module _ (g : Over) (c : After-new-mine g) where
       let l = c.loop-requests in
       with_new g.N.Naming.start g.D.Door.visible g.D.Door.keeps c.args.server.now (g.D.Door.store c.args.running.door) (g.D.Door.store l.running.door) l.server (joined earlier) IsSoFar l.client so_far
       (λ start is. ready start c.args.clients earlier l.server l.client l.first l.yielded c.in-Some.requests c.next.new.self.rest.items is)
+
+  abbrev had : List Entry
+  had = had_as g.N.Naming.start (joined earlier)
+
+  resting_here : IsResting g.N.Naming.start g.D.Door.keeps g.F.Since.count 0 (length c.args.clients) had (g.D.Door.store c.loop-requests.running.door) c.loop-requests.running.hand c.loop-requests.running.apart
+  resting_here =
+      let l = c.loop-requests in
+      subst (λ (told : List (List Entry)). IsResting g.N.Naming.start g.D.Door.keeps g.F.Since.count 0 (length c.args.clients) (had_as g.N.Naming.start (joined told)) (g.D.Door.store l.running.door) l.running.hand l.running.apart) (sym c.reserve.ensures.items) l.invariant.resting
 
   faults_here : AreFaultsTold (g.D.Door.store c.args.running.door) (g.D.Door.store c.loop-requests.running.door) (joined earlier)
   faults_here = subst (λ (told : List (List Entry)). AreFaultsTold (g.D.Door.store c.args.running.door) (g.D.Door.store c.loop-requests.running.door) (joined told)) (sym c.reserve.ensures.items) c.loop-requests.invariant.faults
@@ -120,12 +129,27 @@ serve_client-next-requires-clause-sees g c =
     let at = (goal.at.serve_client-next-requires-clause-sees g c).After-new-mine in
     with_sees g.N.Naming.start g.D.Door.visible g.D.Door.keeps c.args.server.now (g.D.Door.store c.args.running.door) (g.D.Door.store l.running.door) l.server (joined c.reserve.new.self.items) (IsSoFar g at) (so_far g at) c.requires.start c.requires.sees
 
+pub regroup-requires-clause-parted : goal.regroup-requires-clause-parted
+regroup-requires-clause-parted g c =
+    let at = (goal.at.regroup-requires-clause-parted g c).After-new-mine in
+    (had g at, (0, (length c.args.clients, (resting_here g at).parted)))
+
 pub serve_client-next-requires-clause-resting : goal.serve_client-next-requires-clause-resting
 serve_client-next-requires-clause-resting g c =
-    subst (λ (told : List (List Entry)). IsResting g.N.Naming.start g.D.Door.keeps g.F.Since.count (had_as g.N.Naming.start (joined told)) (g.D.Door.store c.loop-requests.running.door) c.loop-requests.running.hand c.loop-requests.running.apart) (sym c.reserve.ensures.items)
-    c.loop-requests.invariant.resting
+    let at = (goal.at.serve_client-next-requires-clause-resting g c).After-new-mine in
+    let l = c.loop-requests in
+    let all = length c.args.clients in
+    let is = resting_here g at in
+    let r = c.regroup.ensures in
+    regrouped g.N.Naming.start g.D.Door.keeps g.F.Since.count 0 all l.client 1 (had g at) (g.D.Door.store l.running.door) l.running.hand l.running.apart c.regroup.new.hand c.regroup.new.apart is (r.parted (had g at) 0 all is.parted)
+    (r.beside (had g at) 0 all is.parted)
 
 -- ---- behind it
+
+pub regroup-requires-in-loop-requests-clause-parted : goal.regroup-requires-in-loop-requests-clause-parted
+regroup-requires-in-loop-requests-clause-parted g c =
+    let s = c.serve_client-next in
+    (had_as g.N.Naming.start (joined c.reserve.new.self.items ++ s.new.told.items), (c.loop-requests.client, (1, s.ensures.resting.parted)))
 
 module _ (g : Over) (c : After-unwrap g) where
   pushed : c.push.new.self.items ≡ c.reserve.new.self.items ++ c.serve_client-next.new.told.items ∷ []
@@ -133,6 +157,18 @@ module _ (g : Over) (c : After-unwrap g) where
 
   both : joined c.push.new.self.items ≡ joined c.reserve.new.self.items ++ c.serve_client-next.new.told.items
   both = ap joined pushed ∙ joined-push c.reserve.new.self.items c.serve_client-next.new.told.items
+
+  resting_behind : IsResting g.N.Naming.start g.D.Door.keeps g.F.Since.count 0 (length c.args.clients) (had_as g.N.Naming.start (joined c.push.new.self.items)) (g.D.Door.store c.serve_client-next.result.0.door) c.regroup-in-loop-requests.new.hand c.regroup-in-loop-requests.new.apart
+  resting_behind =
+      let k = g.N.Naming.start in
+      let s = c.serve_client-next in
+      let later = g.D.Door.store s.result.0.door in
+      let had = had_as k (joined c.reserve.new.self.items ++ s.new.told.items) in
+      let r = c.regroup-in-loop-requests in
+      let client = c.loop-requests.client in
+      subst (λ (x : ℕ × List Entry). IsResting k g.D.Door.keeps g.F.Since.count 0 x.0 (had_as k x.1) later r.new.hand r.new.apart) (λ i. (c.count_of-count.ensures.count i, sym both i))
+      (regrouped k g.D.Door.keeps g.F.Since.count client 1 0 c.count_of-count.result had later s.result.0.hand s.result.0.apart r.new.hand r.new.apart s.ensures.resting (r.ensures.parted had client 1 s.ensures.resting.parted)
+      (r.ensures.beside had client 1 s.ensures.resting.parted))
 
   faults_behind : AreFaultsTold (g.D.Door.store c.args.running.door) (g.D.Door.store c.loop-requests.running.door) (joined c.reserve.new.self.items) → AreFaultsTold (g.D.Door.store c.args.running.door) (g.D.Door.store c.serve_client-next.result.0.door) (joined c.push.new.self.items)
   faults_behind before =
@@ -179,9 +215,7 @@ returns-in-Err-clause-served g c =
     faults s.ensures.sound (s.ensures.geometry ∙ l.invariant.geometry) (s.ensures.sectors ∙ l.invariant.sectors)
 
 pub returns-in-Err-clause-resting : goal.returns-in-Err-clause-resting
-returns-in-Err-clause-resting g c =
-    let s = c.serve_client-next in
-    subst (λ (h : List Entry). IsResting g.N.Naming.start g.D.Door.keeps g.F.Since.count (had_as g.N.Naming.start h) (g.D.Door.store s.result.0.door) s.result.0.hand s.result.0.apart) (sym (both g (goal.at.returns-in-Err-clause-resting g c).After-unwrap)) s.ensures.resting
+returns-in-Err-clause-resting g c = resting_behind g (goal.at.returns-in-Err-clause-resting g c).After-unwrap
 
 pub loop-requests-preserved : goal.loop-requests-preserved
 loop-requests-preserved g c =
@@ -203,7 +237,7 @@ loop-requests-preserved g c =
       sound = s.ensures.sound;
       geometry = s.ensures.geometry ∙ l.invariant.geometry;
       sectors = s.ensures.sectors ∙ l.invariant.sectors;
-      resting = subst (λ (h : List Entry). IsResting g.N.Naming.start g.D.Door.keeps g.F.Since.count (had_as g.N.Naming.start h) (g.D.Door.store s.result.0.door) s.result.0.hand s.result.0.apart) (sym (both g at.After-unwrap)) s.ensures.resting;
+      resting = resting_behind g at.After-unwrap;
     }
 
 pub overflow_add-first : goal.overflow_add-first

@@ -1,4 +1,4 @@
-use Rattle.std.proofs.Common.{◌≡◌}
+use Rattle.std.proofs.Common.{◌≡◌, length}
 use Rattle.ufs_model.specs.History.{joined}
 use Rattle.ufs_store.specs.State.{geometry_of_store}
 use Rattle.ufs_stored.specs.Sound.{IsSoundServer}
@@ -18,5 +18,5 @@ invariant-loop-requests g l =
       sound : IsSoundServer (geometry_of_store now) now.unassigned.free l.server;
       geometry : geometry_of_store now ≡ geometry_of_store first;
       sectors : now.sectors ≡ first.sectors;
-      resting : IsResting g.N.Naming.start g.D.Door.keeps g.F.Since.count (had_as g.N.Naming.start (joined l.told.items)) now l.running.hand l.running.apart;
+      resting : IsResting g.N.Naming.start g.D.Door.keeps g.F.Since.count 0 (length l.fn.clients) (had_as g.N.Naming.start (joined l.told.items)) now l.running.hand l.running.apart;
     }

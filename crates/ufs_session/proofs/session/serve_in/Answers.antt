@@ -1,6 +1,7 @@
-use Rattle.std.proofs.Common.{ℕ, List, [], map, ap, ◌∙◌, sym, subst, arith}
+use Rattle.std.proofs.Common.{ℕ, List, [], Result, map, ap, ◌∙◌, sym, subst, arith}
 use Rattle.std.specs.Prelude.{drop}
 use Rattle.std.specs.FinMap as fin
+use Rattle.ufs_client.specs.declared.played.EndFault.{EndFault}
 use Rattle.ufs_client.specs.declared.played.EndFault.TheVariants as fault
 use Rattle.ufs_disk.specs.Disk.{State}
 use Rattle.ufs_disk.specs.Moments.{all}
@@ -8,6 +9,7 @@ use Rattle.ufs_one_hand.specs.Apart.{HasEachFile}
 use Rattle.ufs_sound.specs.Owned.{Has, times}
 use Rattle.ufs_store_steps.specs.Cells.{cells_of}
 use Rattle.ufs_session.specs.Resting.{KnowsDisk}
+use Rattle.ufs_session.specs.Served.{AreServed}
 use Rattle.ufs_session.proofs.ClientsLemmas.{ended_at_once}
 use Rattle.ufs_session.proofs.SeenLemmas.{drop_all, explained_cells}
 use Rattle.ufs_session.proofs.session.serve_in.Given.{Over}
@@ -54,5 +56,7 @@ serve_apart-requires-clause-knows g c = knows g (goal.at.serve_apart-requires-cl
 pub returns-in-Err-clause-served : goal.returns-in-Err-clause-served
 returns-in-Err-clause-served g c =
     let s = g.D.Door.store c.args.door in
-    ended_at_once g.N.Naming.start g.D.Door.visible g.D.Door.keeps c.args.server.now s c.args.clients c.from_vec.result fault.Memory (c.from_vec.ensures ∙ c.new-in-Err.ensures.items) c.requires.start
-    (λ start is. c.always_law.ensures.rest g.D.Door.keeps s start [] c.args.server.now (sym c.geometry-geometry.ensures.is) is) c.requires.sound
+    let none = c.unbegun-session in
+    subst (λ (ended : Result (Unit {0}) EndFault). AreServed g.N.Naming.start g.D.Door.visible g.D.Door.keeps s s c.args.server.now c.args.server.now c.args.clients none.result.told ended) (sym none.ensures.ended)
+    (ended_at_once g.N.Naming.start g.D.Door.visible g.D.Door.keeps c.args.server.now s c.args.clients none.result.told fault.Memory none.ensures.told c.requires.start
+    (λ start is. c.always_law.ensures.rest g.D.Door.keeps s start [] c.args.server.now (sym c.geometry-geometry.ensures.is) is) c.requires.sound)
