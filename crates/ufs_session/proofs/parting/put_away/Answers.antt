@@ -10,14 +10,16 @@ use Rattle.ufs_session.proofs.parting.put_away.Goals as goal
 pub returns-then-not-has : goal.returns-then-not-has
 returns-then-not-has g c = record { together = λ history is. subst (IsTogether g.N.Naming.start history c.args.hand.now) (sym c.forget.ensures) is; beside = λ history is. beside_self c.args.hand.now }
 
-pub split_file-requires-clause-here : goal.split_file-requires-clause-here
-split_file-requires-clause-here g c =
+pub split_file-requires : goal.split_file-requires
+split_file-requires g c =
     let k = g.N.Naming.start in
     let r = c.requires in
     let a = c.args.apart.now in
     let tree = tree_after k.tree r.0 in
-    λ absent. has_file k r.0 None c.args.hand.now a r.1.none (apart_of k r.0 c.args.hand.now a r.1) c.args.file absent
-    (sym (there_alike r.2.tree tree r.2.alike c.args.file) ∙ sym (c.has.ensures r.2.tree r.2.parts) ∙ c.if-not-has.false)
+    record {
+      here = λ absent. has_file k r.0 None c.args.hand.now a r.1.none (apart_of k r.0 c.args.hand.now a r.1) c.args.file absent
+    (sym (there_alike r.2.tree tree r.2.alike c.args.file) ∙ sym (c.has.ensures r.2.tree r.2.parts) ∙ c.if-not-has.false);
+    }
 
 pub returns : goal.returns
 returns g c =

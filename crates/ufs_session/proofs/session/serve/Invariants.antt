@@ -6,4 +6,4 @@ abbrev pub ghosts-serve_in-N-Naming : goal.ghosts-serve_in-N-Naming
 ghosts-serve_in-N-Naming g a = record { table = a.opened.table; start = a.opened.start }
 
 abbrev pub ghosts-serve_in-F-Since : goal.ghosts-serve_in-F-Since
-ghosts-serve_in-F-Since g a = record { count = length (all (g.D.Door.store a.door).moments) }
+ghosts-serve_in-F-Since g a = record { count = length (all (g.D.Door.store a.door.value).moments) }
